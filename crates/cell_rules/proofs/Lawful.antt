@@ -1,0 +1,80 @@
+-- What soundness says of one zone, as one test.
+use Rattle.std.proofs.Common.{◌≡◌, ◌≤◌, Bool, true, false, ◌&&◌, not, is_none, refl, sym, ◌∙◌}
+use Rattle.std.specs.Bool.{beq}
+use Rattle.cell_types.specs.declared.zone.Zone.{Zone}
+use Rattle.cell_types.specs.declared.zone.Zone.TheVariants.{Z3}
+use Rattle.cell_types.specs.declared.place.Place.TheVariants.{PressIn, PressOut}
+use Rattle.cell_types.specs.declared.posture.Posture.{Posture}
+use Rattle.cell_types.specs.declared.posture.Posture.TheVariants.{Closed, Moving, OpenIn, OpenOut}
+use Rattle.cell_types.specs.Tables.{transfer_of}
+use Rattle.cell_types.specs.Same.{same_posture}
+use Rattle.cell_rules.specs.declared.zones.ZoneState.{ZoneState}
+use Rattle.cell_rules.specs.PlaceSet.{PlaceSet, has}
+use Rattle.cell_rules.specs.ModelState.{ModelState, zone_at}
+use Rattle.cell_rules.specs.Sound.{IsSound, implies, has_lawful_owner, is_onto_full, is_lawful_plate, is_open_to_guest, moves_by_host, is_of_some_pose}
+use Rattle.cell_rules.proofs.Puts.{each_zone}
+use Rattle.cell_rules.proofs.Tables.{and_both, all_zones, from_zones, all_postures, from_postures}
+
+-- each host opens a zone inward only, or outward only, but the press does both: the postures that poses give, without the poses
+abbrev pub can_be_in : Zone → Posture → Bool
+can_be_in z Closed = true
+can_be_in z Moving = true
+can_be_in z OpenIn = not (is_none (transfer_of z OpenIn))
+can_be_in z OpenOut = not (is_none (transfer_of z OpenOut))
+
+pub beq_same : (a b : Bool) → beq a b ≡ true → a ≡ b
+beq_same true true e = refl
+beq_same true false e = cc
+beq_same false true e = cc
+beq_same false false e = refl
+
+can_table : all_zones (λ z. all_postures (λ q. beq (is_of_some_pose z q) (can_be_in z q))) ≡ true
+can_table = refl
+
+pub of_some_pose : (z : Zone) (q : Posture) → is_of_some_pose z q ≡ can_be_in z q
+of_some_pose z q =
+    beq_same (is_of_some_pose z q) (can_be_in z q)
+    (from_postures (λ q. beq (is_of_some_pose z q) (can_be_in z q)) (from_zones (λ z. all_postures (λ q. beq (is_of_some_pose z q) (can_be_in z q))) can_table z) q)
+
+abbrev pub press_is_lawful : Bool → Bool → Zone → ZoneState → Bool
+press_is_lawful in_full out_full Z3 v = not (in_full && out_full) && implies (same_posture v.posture OpenIn) (not out_full)
+press_is_lawful in_full out_full _ v = true
+
+-- onto: whether the place that its plate would come to is full; then the two places of the press
+abbrev pub is_lawful : Bool → Bool → Bool → Zone → ZoneState → Bool
+is_lawful onto in_full out_full z v =
+    has_lawful_owner z v && (is_lawful_plate onto z v && (is_open_to_guest z v && (moves_by_host z v && (can_be_in z v.posture && press_is_lawful in_full out_full z v))))
+
+abbrev pub lawful_in : PlaceSet → Zone → ZoneState → Bool
+lawful_in full z v = is_lawful (is_onto_full full (transfer_of z v.posture)) (has full PressIn) (has full PressOut) z v
+
+and_six : (a b c d e f : Bool) → a ≡ true → b ≡ true → c ≡ true → d ≡ true → e ≡ true → f ≡ true → (a && (b && (c && (d && (e && f))))) ≡ true
+and_six a b c d e f ha hb hc hd he hf = and_both a _ ha (and_both b _ hb (and_both c _ hc (and_both d _ hd (and_both e f he hf))))
+
+six : (a b c d e f : Bool) → (a && (b && (c && (d && (e && f))))) ≡ true → (a ≡ true) × (b ≡ true) × (c ≡ true) × (d ≡ true) × (e ≡ true) × (f ≡ true)
+six true true true true true true h = (refl, refl, refl, refl, refl, refl)
+six false b c d e f h = cc
+six true false c d e f h = cc
+six true true false d e f h = cc
+six true true true false e f h = cc
+six true true true true false f h = cc
+six true true true true true false h = cc
+
+pub lawful_from : (s : ModelState) → IsSound s → (z : Zone) → lawful_in s.full z (zone_at s z) ≡ true
+lawful_from s h =
+    let At : Zone → Type 0 = λ z. press_is_lawful (has s.full PressIn) (has s.full PressOut) z (zone_at s z) ≡ true in
+    let press : (z : Zone) → At z = each_zone At refl refl h.press_holds_one_plate refl refl refl in
+    λ z. and_six _ _ _ _ _ _ (h.owner_is_party z) (h.flag_has_transfer z) (h.guest_only_while_open z) (h.moving_belongs_to_host z) (sym (of_some_pose z (zone_at s z).posture) ∙ h.posture_of_some_pose z) (press z)
+
+pub sound_from : (s : ModelState) → s.stamp ≤ 1048575 → ((z : Zone) → lawful_in s.full z (zone_at s z) ≡ true) → IsSound s
+sound_from s small h =
+    let parts = λ (z : Zone). six _ _ _ _ _ _ (h z) in
+    record {
+      stamp_in_range = small;
+      owner_is_party = λ z. (parts z).0;
+      flag_has_transfer = λ z. (parts z).1;
+      guest_only_while_open = λ z. (parts z).2;
+      moving_belongs_to_host = λ z. (parts z).3;
+      posture_of_some_pose = λ z. of_some_pose z (zone_at s z).posture ∙ (parts z).4;
+      press_holds_one_plate = (parts Z3).5;
+    }

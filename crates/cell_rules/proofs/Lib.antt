@@ -1,0 +1,10 @@
+pub mod Tables
+pub mod Puts
+pub mod Lawful
+pub mod Done
+pub mod Kept
+pub mod Plates
+pub mod Moves
+pub mod Soundness
+pub mod Held
+pub mod Tested

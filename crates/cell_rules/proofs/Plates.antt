@@ -1,0 +1,218 @@
+-- A call that moves a plate keeps a sound state sound.
+use Rattle.std.proofs.Common.{◌≡◌, ◌+◌, ◌≤◌, Bool, true, false, ◌&&◌, ◌||◌, not, cond, Option, Some, None, is_some, if◌then◌else◌, refl, sym, ap, ◌∙◌, subst, arith}
+use Rattle.cell_types.specs.declared.machine.Machine.{Machine}
+use Rattle.cell_types.specs.declared.zone.Zone.{Zone}
+use Rattle.cell_types.specs.declared.place.Place.{Place}
+use Rattle.cell_types.specs.declared.place.Place.TheVariants.{PressIn, PressOut}
+use Rattle.cell_types.specs.declared.zone.Transfer.{Transfer}
+use Rattle.cell_types.specs.declared.posture.Posture.{Posture}
+use Rattle.cell_types.specs.declared.answer.Refusal.TheVariants.{PlaceFull}
+use Rattle.cell_types.specs.declared.call.Call.TheVariants.{Give, Take}
+use Rattle.cell_types.specs.Tables.{transfer_of}
+use Rattle.cell_types.specs.Same.{same_place, same_zone, same_machine}
+use Rattle.cell_rules.specs.declared.zones.ZoneState.{ZoneState}
+use Rattle.cell_rules.specs.PlaceSet.{PlaceSet, has}
+use Rattle.cell_rules.specs.ModelState.{ModelState, zone_at}
+use Rattle.cell_rules.specs.Sound.{IsSound, implies, is_onto_full, is_party, is_owned_by}
+use Rattle.cell_rules.specs.Refusals.{give_refusal, take_refusal, gift, given_by, no_room}
+use Rattle.cell_rules.specs.Reply.{changed, other_party, emptied, filled}
+use Rattle.cell_rules.proofs.Tables.{all_bools, from_bools, all_zones, from_zones, all_states, from_states, all_postures, from_postures, implied, and_both}
+use Rattle.cell_rules.proofs.Puts.{zone_in-kept, put_cases, has-put}
+use Rattle.cell_rules.proofs.Lawful.{is_lawful, lawful_in, lawful_from, sound_from}
+use Rattle.cell_rules.proofs.Done.{may_give, may_take, give_done, take_done, none_then, not_true}
+use Rattle.cell_rules.proofs.Kept.{All, from_all}
+
+-- ---- fewer full places keep a zone lawful
+
+-- b says at most what c says
+abbrev pub fewer : Bool → Bool → Bool
+fewer b c = implies b c
+
+abbrev less_test : Bool → Bool → Bool → Bool → Bool → Bool → Zone → ZoneState → Bool
+less_test b c i j o p z v = implies (fewer b c && (fewer i j && (fewer o p && is_lawful c j p z v))) (is_lawful b i o z v)
+
+less_table : all_zones (λ z. all_states (λ v. all_bools (λ b. all_bools (λ c. all_bools (λ i. all_bools (λ j. all_bools (λ o. all_bools (λ p. less_test b c i j o p z v)))))))) ≡ true
+less_table = refl
+
+pub lawful_less : (b c i j o p : Bool) (z : Zone) (v : ZoneState) → fewer b c ≡ true → fewer i j ≡ true → fewer o p ≡ true → is_lawful c j p z v ≡ true → is_lawful b i o z v ≡ true
+lawful_less b c i j o p z v hb hi ho h =
+    implied (fewer b c && (fewer i j && (fewer o p && is_lawful c j p z v))) (is_lawful b i o z v)
+    (from_bools (λ p. less_test b c i j o p z v)
+    (from_bools (λ o. all_bools (λ p. less_test b c i j o p z v))
+    (from_bools (λ j. all_bools (λ o. all_bools (λ p. less_test b c i j o p z v)))
+    (from_bools (λ i. all_bools (λ j. all_bools (λ o. all_bools (λ p. less_test b c i j o p z v))))
+    (from_bools (λ c. all_bools (λ i. all_bools (λ j. all_bools (λ o. all_bools (λ p. less_test b c i j o p z v)))))
+    (from_bools (λ b. all_bools (λ c. all_bools (λ i. all_bools (λ j. all_bools (λ o. all_bools (λ p. less_test b c i j o p z v))))))
+    (from_states (λ v. all_bools (λ b. all_bools (λ c. all_bools (λ i. all_bools (λ j. all_bools (λ o. all_bools (λ p. less_test b c i j o p z v)))))))
+    (from_zones (λ z. all_states (λ v. all_bools (λ b. all_bools (λ c. all_bools (λ i. all_bools (λ j. all_bools (λ o. all_bools (λ p. less_test b c i j o p z v)))))))) less_table z) v) b) c) i) j) o) p)
+    (and_both (fewer b c) (fewer i j && (fewer o p && is_lawful c j p z v)) hb (and_both (fewer i j) (fewer o p && is_lawful c j p z v) hi (and_both (fewer o p) (is_lawful c j p z v) ho h)))
+
+fewer_same : (b c : Bool) → b ≡ c → fewer b c ≡ true
+fewer_same true c e = sym e
+fewer_same false c e = refl
+
+-- ---- emptied
+
+fewer_cond : (t b : Bool) → fewer (cond t false b) b ≡ true
+fewer_cond true b = refl
+fewer_cond false true = refl
+fewer_cond false false = refl
+
+pub emptied_fewer : (full : PlaceSet) (row : Option Transfer) (p : Place) → fewer (has (emptied full row) p) (has full p) ≡ true
+emptied_fewer full None p = fewer_same (has full p) (has full p) refl
+emptied_fewer full (Some row) p =
+    let F : Bool → Type 0 = λ b. fewer b (has full p) ≡ true in
+    subst F (sym (has-put full false row.from p)) (fewer_cond (same_place row.from p) (has full p))
+
+onto_emptied : (full : PlaceSet) (row t : Option Transfer) → fewer (is_onto_full (emptied full row) t) (is_onto_full full t) ≡ true
+onto_emptied full row None = refl
+onto_emptied full row (Some t) = emptied_fewer full row t.to
+
+-- ---- give
+
+abbrev pub given : ZoneState → Machine → Zone → ZoneState
+given v m z = record v { owner = Some (other_party m z); flag = true }
+
+abbrev give_test : Bool → Bool → Bool → Machine → Zone → ZoneState → Bool
+give_test b i o m z v = implies (is_lawful b i o z v && (may_give v m z && not b)) (is_lawful b i o z (given v m z))
+
+give_table : All give_test ≡ true
+give_table = refl
+
+false_by : (t b : Bool) → b ≡ false → cond t false b ≡ false
+false_by true b e = refl
+false_by false b e = e
+
+-- a row that its giver may use leads to a place with room
+room_if : (s : ModelState) (t : Transfer) (b : Bool) → is_some (if b then Some t else None) ≡ true → no_room s (if b then Some t else None) ≡ None
+    → is_onto_full (emptied s.full (if b then Some t else None)) (Some t) ≡ false
+room_if s t true k e = has-put s.full false t.from t.to ∙ false_by (same_place t.from t.to) (has s.full t.to) (none_then (has s.full t.to) PlaceFull e)
+room_if s t false k e = cc
+
+room_of : (s : ModelState) (m : Machine) (t : Option Transfer) → is_some (given_by m t) ≡ true → no_room s (given_by m t) ≡ None → is_onto_full (emptied s.full (given_by m t)) t ≡ false
+room_of s m None k e = cc
+room_of s m (Some t) k e = room_if s t (same_machine t.giver m) k e
+
+not_from : (a b : Bool) → a ≡ false → (a || not b) ≡ true → b ≡ false
+not_from true b e f = cc
+not_from false true e f = cc
+not_from false false e f = refl
+
+pub fourth : (a b c d : Bool) → (a && (b && (c && d))) ≡ true → d ≡ true
+fourth true true true d e = e
+fourth false b c d e = cc
+fourth true false c d e = cc
+fourth true true false d e = cc
+
+pub give_keeps : (s : ModelState) (m : Machine) (z : Zone) → IsSound s → give_refusal s m z ≡ None → IsSound (changed s m (Give z))
+give_keeps s m z h e =
+    let may = give_done s m z e in
+    let small : s.stamp + 1 ≤ 1048575 = omega arith in
+    let v = zone_at s z in
+    let row = gift s m z in
+    let full = emptied s.full row in
+    let after : (y : Zone) → lawful_in full y (zone_at s y) ≡ true = λ y.
+    lawful_less (is_onto_full full (transfer_of y (zone_at s y).posture)) (is_onto_full s.full (transfer_of y (zone_at s y).posture)) (has full PressIn) (has s.full PressIn) (has full PressOut) (has s.full PressOut) y (zone_at s y)
+    (onto_emptied s.full row (transfer_of y (zone_at s y).posture)) (emptied_fewer s.full row PressIn) (emptied_fewer s.full row PressOut) (lawful_from s h y) in
+    let b = is_onto_full full (transfer_of z v.posture) in
+    let i = has full PressIn in
+    let o = has full PressOut in
+    let some : is_some row ≡ true = fourth (is_party m z) (is_owned_by v.owner m) (not v.flag) (is_some row) may.0 in
+    let room : not b ≡ true = not_true b (room_of s m (transfer_of z v.posture) some may.1) in
+    sound_from (changed s m (Give z)) small (zone_in-kept (λ y v. lawful_in full y v ≡ true) s.zones (given v m z) after z
+    (implied (is_lawful b i o z v && (may_give v m z && not b)) (is_lawful b i o z (given v m z)) (from_all give_test give_table b i o m z v) (and_both (is_lawful b i o z v) (may_give v m z && not b) (after z) (and_both (may_give v m z) (not b) may.0 room))))
+
+-- ---- take
+
+abbrev same_to : Option Transfer → Option Transfer → Bool
+same_to None t = false
+same_to (Some r) None = false
+same_to (Some r) (Some t) = same_place r.to t.to
+
+abbrev leads_to : Option Transfer → Place → Bool
+leads_to None p = false
+leads_to (Some r) p = same_place r.to p
+
+has-filled : (full : PlaceSet) (row : Option Transfer) (p : Place) → has (filled full row) p ≡ cond (leads_to row p) true (has full p)
+has-filled full None p = refl
+has-filled full (Some row) p = has-put full true row.to p
+
+onto-filled : (full : PlaceSet) (row t : Option Transfer) → same_to row t ≡ false → is_onto_full (filled full row) t ≡ is_onto_full full t
+onto-filled full None t e = refl
+onto-filled full (Some row) None e = refl
+onto-filled full (Some row) (Some t) e = has-put full true row.to t.to ∙ ap (λ b. cond b true (has full t.to)) e
+
+-- no two zones lead to one place
+abbrev apart_test : Zone → Posture → Zone → Posture → Bool
+apart_test z p y q = same_zone z y || not (same_to (transfer_of z p) (transfer_of y q))
+
+apart_table : all_zones (λ z. all_postures (λ p. all_zones (λ y. all_postures (λ q. apart_test z p y q)))) ≡ true
+apart_table = refl
+
+apart : (z : Zone) (p : Posture) (y : Zone) (q : Posture) → same_zone z y ≡ false → same_to (transfer_of z p) (transfer_of y q) ≡ false
+apart z p y q e =
+    not_from (same_zone z y) (same_to (transfer_of z p) (transfer_of y q)) e
+    (from_postures (λ q. apart_test z p y q) (from_zones (λ y. all_postures (λ q. apart_test z p y q))
+    (from_postures (λ p. all_zones (λ y. all_postures (λ q. apart_test z p y q)))
+    (from_zones (λ z. all_postures (λ p. all_zones (λ y. all_postures (λ q. apart_test z p y q)))) apart_table z) p) y) q)
+
+-- a take at its own zone
+abbrev pub taken : ZoneState → Machine → Zone → ZoneState
+taken v m z = record v { flag = false }
+
+abbrev take_test : Bool → Bool → Bool → Bool → Machine → Zone → ZoneState → Bool
+take_test c b i o m z v =
+    implies (is_lawful b i o z v && may_take v m z) (is_lawful c (cond (leads_to (transfer_of z v.posture) PressIn) true i) (cond (leads_to (transfer_of z v.posture) PressOut) true o) z (taken v m z))
+
+take_table : all_bools (λ c. All (take_test c)) ≡ true
+take_table = refl
+
+take_here : (c b i o : Bool) (m : Machine) (z : Zone) (v : ZoneState) → is_lawful b i o z v ≡ true → may_take v m z ≡ true
+    → is_lawful c (cond (leads_to (transfer_of z v.posture) PressIn) true i) (cond (leads_to (transfer_of z v.posture) PressOut) true o) z (taken v m z) ≡ true
+take_here c b i o m z v h k =
+    implied (is_lawful b i o z v && may_take v m z) (is_lawful c (cond (leads_to (transfer_of z v.posture) PressIn) true i) (cond (leads_to (transfer_of z v.posture) PressOut) true o) z (taken v m z))
+    (from_all (take_test c) (from_bools (λ c. All (take_test c)) take_table c) b i o m z v) (and_both (is_lawful b i o z v) (may_take v m z) h k)
+
+-- at another zone: the press is filled through z3 alone
+abbrev else_test : Zone → Posture → Zone → ZoneState → Bool → Bool → Bool → Bool
+else_test z p y u b i o =
+    implies (is_lawful b i o y u && not (same_zone z y)) (is_lawful b (cond (leads_to (transfer_of z p) PressIn) true i) (cond (leads_to (transfer_of z p) PressOut) true o) y u)
+
+else_table : all_zones (λ z. all_postures (λ p. all_zones (λ y. all_states (λ u. all_bools (λ b. all_bools (λ i. all_bools (λ o. else_test z p y u b i o))))))) ≡ true
+else_table = refl
+
+take_else : (z : Zone) (p : Posture) (y : Zone) (u : ZoneState) (b i o : Bool) → same_zone z y ≡ false → is_lawful b i o y u ≡ true
+    → is_lawful b (cond (leads_to (transfer_of z p) PressIn) true i) (cond (leads_to (transfer_of z p) PressOut) true o) y u ≡ true
+take_else z p y u b i o e h =
+    implied (is_lawful b i o y u && not (same_zone z y)) (is_lawful b (cond (leads_to (transfer_of z p) PressIn) true i) (cond (leads_to (transfer_of z p) PressOut) true o) y u)
+    (from_bools (λ o. else_test z p y u b i o)
+    (from_bools (λ i. all_bools (λ o. else_test z p y u b i o))
+    (from_bools (λ b. all_bools (λ i. all_bools (λ o. else_test z p y u b i o)))
+    (from_states (λ u. all_bools (λ b. all_bools (λ i. all_bools (λ o. else_test z p y u b i o))))
+    (from_zones (λ y. all_states (λ u. all_bools (λ b. all_bools (λ i. all_bools (λ o. else_test z p y u b i o)))))
+    (from_postures (λ p. all_zones (λ y. all_states (λ u. all_bools (λ b. all_bools (λ i. all_bools (λ o. else_test z p y u b i o))))))
+    (from_zones (λ z. all_postures (λ p. all_zones (λ y. all_states (λ u. all_bools (λ b. all_bools (λ i. all_bools (λ o. else_test z p y u b i o))))))) else_table z) p) y) u) b) i) o)
+    (and_both (is_lawful b i o y u) (not (same_zone z y)) h (not_true (same_zone z y) e))
+
+pub take_keeps : (s : ModelState) (m : Machine) (z : Zone) → IsSound s → take_refusal s m z ≡ None → IsSound (changed s m (Take z))
+take_keeps s m z h e =
+    let may = take_done s m z e in
+    let small : s.stamp + 1 ≤ 1048575 = omega arith in
+    let v = zone_at s z in
+    let row = transfer_of z v.posture in
+    let full = filled s.full row in
+    let with_press : (b : Bool) (y : Zone) (u : ZoneState) → is_lawful b (cond (leads_to row PressIn) true (has s.full PressIn)) (cond (leads_to row PressOut) true (has s.full PressOut)) y u ≡ true
+    → is_lawful b (has full PressIn) (has full PressOut) y u ≡ true = λ b y u k.
+    let F : Bool → Type 0 = λ i. is_lawful b i (has full PressOut) y u ≡ true in
+    let G : Bool → Type 0 = λ o. is_lawful b (cond (leads_to row PressIn) true (has s.full PressIn)) o y u ≡ true in
+    subst F (sym (has-filled s.full row PressIn)) (subst G (sym (has-filled s.full row PressOut)) k) in
+    let own : lawful_in full z (taken v m z) ≡ true =
+    with_press (is_onto_full full row) z (taken v m z)
+    (take_here (is_onto_full full row) (is_onto_full s.full row) (has s.full PressIn) (has s.full PressOut) m z v (lawful_from s h z) may.0) in
+    let others : (y : Zone) → same_zone z y ≡ false → lawful_in full y (zone_at s y) ≡ true = λ y apart_from.
+    let u = zone_at s y in
+    let t = transfer_of y u.posture in
+    let H : Bool → Type 0 = λ b. is_lawful b (has full PressIn) (has full PressOut) y u ≡ true in
+    subst H (sym (onto-filled s.full row t (apart z v.posture y u.posture apart_from)))
+    (with_press (is_onto_full s.full t) y u (take_else z v.posture y u (is_onto_full s.full t) (has s.full PressIn) (has s.full PressOut) apart_from (lawful_from s h y))) in
+    sound_from (changed s m (Take z)) small (put_cases (λ y u. lawful_in full y u ≡ true) s.zones (taken v m z) z own others)

@@ -1,0 +1,131 @@
+-- A test of all values of a type, and what it says of each.
+use Rattle.std.proofs.Common.{◌≡◌, Bool, true, false, ◌&&◌, Option, Some, None, List, [], ◌∷◌, refl}
+use Rattle.std.specs.List.{list_all}
+use Rattle.cell_types.specs.declared.machine.Machine.{Machine}
+use Rattle.cell_types.specs.declared.machine.Machine.TheVariants.{Feed, Table, Robot, Press, Deposit, Crane, Watch}
+use Rattle.cell_types.specs.declared.zone.Zone.{Zone}
+use Rattle.cell_types.specs.declared.zone.Zone.TheVariants.{Z1, Z2, Z3, Z4, Z5, Z6}
+use Rattle.cell_types.specs.declared.posture.Posture.{Posture}
+use Rattle.cell_types.specs.declared.posture.Posture.TheVariants.{Closed, Moving, OpenIn, OpenOut}
+use Rattle.cell_types.specs.declared.pose.Pose.{Pose}
+use Rattle.cell_types.specs.declared.pose.Pose.TheVariants.{Turning, Loading, Unloading, Travelling, Middle, Low, Top, Running, Landing, Halted, Offering, Standing}
+use Rattle.cell_types.specs.declared.place.Place.{Place}
+use Rattle.cell_types.specs.declared.place.Place.TheVariants.{FeedEntry, FeedEnd, Table as TablePlace, Arm1, PressIn, PressOut, Arm2, DepEntry, DepEnd, Crane as CranePlace}
+use Rattle.cell_types.specs.Everything as everything
+use Rattle.cell_rules.specs.declared.zones.ZoneState.{ZoneState}
+use Rattle.cell_rules.specs.Sound.{implies}
+
+pub and_left : (a b : Bool) → (a && b) ≡ true → a ≡ true
+and_left true b e = refl
+and_left false b e = e
+
+pub and_right : (a b : Bool) → (a && b) ≡ true → b ≡ true
+and_right true b e = e
+and_right false b e = cc
+
+pub and_both : (a b : Bool) → a ≡ true → b ≡ true → (a && b) ≡ true
+and_both true b e f = f
+and_both false b e f = e
+
+pub implied : (a b : Bool) → implies a b ≡ true → a ≡ true → b ≡ true
+implied true b e f = e
+implied false b e f = cc
+
+abbrev pub all_bools : (Bool → Bool) → Bool
+all_bools P = P false && P true
+
+pub from_bools : (P : Bool → Bool) → all_bools P ≡ true → (b : Bool) → P b ≡ true
+from_bools P e false = and_left (P false) (P true) e
+from_bools P e true = and_right (P false) (P true) e
+
+-- a test holds of each member of a list
+abbrev pub Passed : {X : Type 0} → (X → Bool) → List X → Type 0
+Passed P [] = Unit {0}
+Passed P (x ∷ xs) = (P x ≡ true) × Passed P xs
+
+pub passed : {X : Type 0} → (P : X → Bool) (xs : List X) → list_all P xs ≡ true → Passed P xs
+passed P [] e = tt
+passed P (x ∷ xs) e = (and_left (P x) (list_all P xs) e, passed P xs (and_right (P x) (list_all P xs) e))
+
+abbrev pub all_machines : (Machine → Bool) → Bool
+all_machines P = list_all P everything.all_machines
+
+pub from_machines : (P : Machine → Bool) → all_machines P ≡ true → (m : Machine) → P m ≡ true
+from_machines P e Feed = (passed P everything.all_machines e).0
+from_machines P e Table = (passed P everything.all_machines e).1.0
+from_machines P e Robot = (passed P everything.all_machines e).1.1.0
+from_machines P e Press = (passed P everything.all_machines e).1.1.1.0
+from_machines P e Deposit = (passed P everything.all_machines e).1.1.1.1.0
+from_machines P e Crane = (passed P everything.all_machines e).1.1.1.1.1.0
+from_machines P e Watch = (passed P everything.all_machines e).1.1.1.1.1.1.0
+
+abbrev pub all_zones : (Zone → Bool) → Bool
+all_zones P = list_all P everything.all_zones
+
+pub from_zones : (P : Zone → Bool) → all_zones P ≡ true → (z : Zone) → P z ≡ true
+from_zones P e Z1 = (passed P everything.all_zones e).0
+from_zones P e Z2 = (passed P everything.all_zones e).1.0
+from_zones P e Z3 = (passed P everything.all_zones e).1.1.0
+from_zones P e Z4 = (passed P everything.all_zones e).1.1.1.0
+from_zones P e Z5 = (passed P everything.all_zones e).1.1.1.1.0
+from_zones P e Z6 = (passed P everything.all_zones e).1.1.1.1.1.0
+
+abbrev pub all_postures : (Posture → Bool) → Bool
+all_postures P = list_all P everything.all_postures
+
+pub from_postures : (P : Posture → Bool) → all_postures P ≡ true → (p : Posture) → P p ≡ true
+from_postures P e Closed = (passed P everything.all_postures e).0
+from_postures P e Moving = (passed P everything.all_postures e).1.0
+from_postures P e OpenIn = (passed P everything.all_postures e).1.1.0
+from_postures P e OpenOut = (passed P everything.all_postures e).1.1.1.0
+
+abbrev pub all_poses : (Pose → Bool) → Bool
+all_poses P = list_all P everything.all_poses
+
+pub from_poses : (P : Pose → Bool) → all_poses P ≡ true → (p : Pose) → P p ≡ true
+from_poses P e Turning = (passed P everything.all_poses e).0
+from_poses P e Loading = (passed P everything.all_poses e).1.0
+from_poses P e Unloading = (passed P everything.all_poses e).1.1.0
+from_poses P e Travelling = (passed P everything.all_poses e).1.1.1.0
+from_poses P e Middle = (passed P everything.all_poses e).1.1.1.1.0
+from_poses P e Low = (passed P everything.all_poses e).1.1.1.1.1.0
+from_poses P e Top = (passed P everything.all_poses e).1.1.1.1.1.1.0
+from_poses P e Running = (passed P everything.all_poses e).1.1.1.1.1.1.1.0
+from_poses P e Landing = (passed P everything.all_poses e).1.1.1.1.1.1.1.1.0
+from_poses P e Halted = (passed P everything.all_poses e).1.1.1.1.1.1.1.1.1.0
+from_poses P e Offering = (passed P everything.all_poses e).1.1.1.1.1.1.1.1.1.1.0
+from_poses P e Standing = (passed P everything.all_poses e).1.1.1.1.1.1.1.1.1.1.1.0
+
+abbrev pub all_places : (Place → Bool) → Bool
+all_places P = list_all P everything.all_places
+
+pub from_places : (P : Place → Bool) → all_places P ≡ true → (p : Place) → P p ≡ true
+from_places P e FeedEntry = (passed P everything.all_places e).0
+from_places P e FeedEnd = (passed P everything.all_places e).1.0
+from_places P e TablePlace = (passed P everything.all_places e).1.1.0
+from_places P e Arm1 = (passed P everything.all_places e).1.1.1.0
+from_places P e PressIn = (passed P everything.all_places e).1.1.1.1.0
+from_places P e PressOut = (passed P everything.all_places e).1.1.1.1.1.0
+from_places P e Arm2 = (passed P everything.all_places e).1.1.1.1.1.1.0
+from_places P e DepEntry = (passed P everything.all_places e).1.1.1.1.1.1.1.0
+from_places P e DepEnd = (passed P everything.all_places e).1.1.1.1.1.1.1.1.0
+from_places P e CranePlace = (passed P everything.all_places e).1.1.1.1.1.1.1.1.1.0
+
+abbrev pub all_owners : (Option Machine → Bool) → Bool
+all_owners P = P None && all_machines (λ m. P (Some m))
+
+pub from_owners : (P : Option Machine → Bool) → all_owners P ≡ true → (o : Option Machine) → P o ≡ true
+from_owners P e None = and_left (P None) (all_machines (λ m. P (Some m))) e
+from_owners P e (Some m) = from_machines (λ m. P (Some m)) (and_right (P None) (all_machines (λ m. P (Some m))) e) m
+
+abbrev pub zone_state : Option Machine → Bool → Posture → ZoneState
+zone_state o f p = record { owner = o; flag = f; posture = p }
+
+abbrev pub all_states : (ZoneState → Bool) → Bool
+all_states P = all_owners (λ o. all_bools (λ f. all_postures (λ p. P (zone_state o f p))))
+
+pub from_states : (P : ZoneState → Bool) → all_states P ≡ true → (v : ZoneState) → P v ≡ true
+from_states P e v =
+    from_postures (λ p. P (zone_state v.owner v.flag p))
+    (from_bools (λ f. all_postures (λ p. P (zone_state v.owner f p)))
+    (from_owners (λ o. all_bools (λ f. all_postures (λ p. P (zone_state o f p)))) e v.owner) v.flag) v.posture

@@ -1,0 +1,107 @@
+-- What is so on every legal history from a sound opening: the statements.
+use Rattle.std.specs.Prelude.{◌≡◌, ◌≢◌, ◌+◌, pos, false, not, List, [], ◌∷◌, ◌++◌, Some, IsTrue, ◌↔◌}
+use Rattle.cell_types.specs.declared.place.Place.{Place}
+use Rattle.cell_types.specs.declared.place.Place.TheVariants.{FeedEnd, PressIn, PressOut, DepEnd}
+use Rattle.cell_types.specs.declared.machine.Machine.{Machine}
+use Rattle.cell_types.specs.declared.machine.Machine.TheVariants.{Feed, Robot, Press}
+use Rattle.cell_types.specs.declared.zone.Zone.{Zone}
+use Rattle.cell_types.specs.declared.zone.Zone.TheVariants.{Z1, Z3, Z4, Z5, Z6}
+use Rattle.cell_types.specs.declared.zone.Transfer.{Transfer}
+use Rattle.cell_types.specs.declared.posture.Posture.TheVariants.{Closed, Moving, OpenIn}
+use Rattle.cell_types.specs.declared.pose.Pose.{Pose}
+use Rattle.cell_types.specs.declared.call.Call.{Call}
+use Rattle.cell_types.specs.declared.call.Call.TheVariants.{SetPose, Advance}
+use Rattle.cell_types.specs.declared.answer.Answer.TheVariants.{Done}
+use Rattle.cell_types.specs.declared.answer.Event.{Event}
+use Rattle.cell_types.specs.Tables.{host_of, guest_of, transfer_of, posture_of}
+use Rattle.cell_rules.specs.ModelState.{ModelState, zone_at, is_full, plates_of, one_if}
+use Rattle.cell_rules.specs.Sound.{IsSound, is_party, is_open}
+use Rattle.cell_rules.specs.Refusals.{owns, posture_at, is_moving_pose, passes_through_moving}
+use Rattle.cell_rules.specs.History.{after, IsLegal, own_events, done_count, Holds, Moves, posture_by_events, plates_at, plates_in_transfer, keeper_of}
+
+-- a law holds of each beginning of a history
+abbrev pub Throughout : (List Event → Type 0) → List Event → Type 0
+Throughout Law h = (before more : List Event) → h ≡ before ++ more → Law before
+
+-- no two machines hold one zone, a holder is a party of it, and it is the owner in the state after
+pub record OneHolder (s : ModelState) (h : List Event) : Type 0 where
+  pub alone : (m n : Machine) (z : Zone) → Holds s h m z → Holds s h n z → m ≡ n
+  pub party : (m : Machine) (z : Zone) → Holds s h m z → IsTrue (is_party m z)
+  pub owner : (m : Machine) (z : Zone) → Holds s h m z ↔ IsTrue (owns (after s h) m z)
+
+-- where a zone moves its host holds it; so while the press moves the robot doesn't hold its interior
+pub record MoverIsHost (s : ModelState) (h : List Event) : Type 0 where
+  pub host : (z : Zone) → Moves s h z → Holds s h (host_of z) z
+  pub press : Moves s h Z3 → ¬ Holds s h Robot Z3
+
+-- a guest holds a zone only while its posture is open
+abbrev pub GuestOnlyWhileOpen : ModelState → List Event → Type 0
+GuestOnlyWhileOpen s h = (z : Zone) → Holds s h (guest_of z) z → IsTrue (is_open (posture_by_events s h z))
+
+-- by the events each place and each zone has one plate or none, as the state after has, and there are as many plates as in the opening
+pub record PlatesAreKept (s : ModelState) (h : List Event) : Type 0 where
+  pub at_place : (p : Place) → plates_at s h p ≡ pos (one_if (is_full (after s h) p))
+  pub in_transfer : (z : Zone) → plates_in_transfer s h z ≡ pos (one_if (zone_at (after s h) z).flag)
+  pub total : plates_of (after s h) ≡ plates_of s
+
+-- the stamp counts the Done events
+abbrev pub StampCountsChanges : ModelState → List Event → Type 0
+StampCountsChanges s h = (after s h).stamp ≡ s.stamp + done_count h
+
+-- the feed belt runs with a plate at its end only while feed owns the table's zone, the deposit belt only while its end is empty
+pub record RunsClear (s : ModelState) : Type 0 where
+  pub feed : posture_at s Z6 ≡ Moving → IsTrue (is_full s FeedEnd) → IsTrue (owns s Feed Z1)
+  pub entry : posture_at s Z4 ≡ Moving → is_full s DepEnd ≡ false
+  pub end : posture_at s Z5 ≡ Moving → is_full s DepEnd ≡ false
+
+-- the same by the events, and it lasts
+pub record BeltsRunClear (s : ModelState) (h : List Event) : Type 0 where
+  pub feed : Moves s h Z6 → plates_at s h FeedEnd ≡ pos 1 → Holds s h Feed Z1
+  pub entry : Moves s h Z4 → plates_at s h DepEnd ≡ pos 0
+  pub end : Moves s h Z5 → plates_at s h DepEnd ≡ pos 0
+  pub state : RunsClear (after s h)
+
+-- what a machine holds stays held, with its posture and flag, while others make the events; and so do the machine's own places
+pub record RightLasts (s : ModelState) (before more : List Event) : Type 0 where
+  pub held : (m : Machine) (z : Zone) → own_events more m ≡ [] → Holds s before m z → Holds s (before ++ more) m z
+  pub zone : (m : Machine) (z : Zone) → own_events more m ≡ [] → Holds s before m z → zone_at (after s (before ++ more)) z ≡ zone_at (after s before) z
+  pub places : (p : Place) → own_events more (keeper_of p) ≡ [] → is_full (after s (before ++ more)) p ≡ is_full (after s before) p
+
+-- the posture by the events is that of the state after
+abbrev pub PostureByEvents : ModelState → List Event → Type 0
+PostureByEvents s h = (z : Zone) → posture_by_events s h z ≡ posture_at (after s h) z
+
+abbrev pub StaysSound : ModelState → List Event → Type 0
+StaysSound s h = IsSound (after s h)
+
+abbrev pub done : Machine → Call → Event
+done m c = record { machine = m; call = c; answer = Done }
+
+-- what the state before a Done event has to be, where nothing else shows it
+pub record EventsFit (s : ModelState) (h : List Event) : Type 0 where
+  -- table and press take a pose that isn't moving only while all their zones move
+  pub no_jump : (before rest : List Event) (m : Machine) (p : Pose) → h ≡ before ++ done m (SetPose p) ∷ rest → IsTrue (passes_through_moving m) → IsTrue (not (is_moving_pose p)) → (z : Zone) → host_of z ≡ m → posture_at (after s before) z ≡ Moving
+  -- a zone becomes open inward only while the place that a plate would come to is empty
+  pub opens_onto_empty : (before rest : List Event) (m : Machine) (p : Pose) → h ≡ before ++ done m (SetPose p) ∷ rest → (z : Zone) (row : Transfer) → posture_of m p z ≡ Some OpenIn → posture_at (after s before) z ≢ OpenIn → transfer_of z OpenIn ≡ Some row → is_full (after s before) row.to ≡ false
+  -- the press only while both its places are
+  pub press_opens_empty : (before rest : List Event) (m : Machine) (p : Pose) → h ≡ before ++ done m (SetPose p) ∷ rest → posture_of m p Z3 ≡ Some OpenIn → posture_at (after s before) Z3 ≢ OpenIn → (is_full (after s before) PressIn ≡ false) × (is_full (after s before) PressOut ≡ false)
+  -- the press forges only while it holds its interior and is Closed
+  pub press_works_closed : (before rest : List Event) → h ≡ before ++ done Press Advance ∷ rest → Holds s before Press Z3 × (posture_at (after s before) Z3 ≡ Closed)
+
+-- every law of a legal history
+pub record Lawful (s : ModelState) (h : List Event) : Type 0 where
+  pub legal : IsLegal s h
+  pub one_holder : OneHolder s h
+  pub mover_is_host : MoverIsHost s h
+  pub guest_only_while_open : GuestOnlyWhileOpen s h
+  pub plates_are_kept : PlatesAreKept s h
+  pub stamp_counts_changes : StampCountsChanges s h
+  pub belts_run_clear : RunsClear s → BeltsRunClear s h
+  pub right_lasts : (before more : List Event) → h ≡ before ++ more → RightLasts s before more
+  pub posture_by_events : PostureByEvents s h
+  pub stays_sound : StaysSound s h
+  pub events_fit : EventsFit s h
+
+-- every law, of each beginning of a history
+abbrev pub LawfulThroughout : ModelState → List Event → Type 0
+LawfulThroughout s h = Throughout (Lawful s) h

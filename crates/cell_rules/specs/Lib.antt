@@ -1,0 +1,10 @@
+pub mod ZoneMap
+pub mod PlaceSet
+pub mod ModelState
+pub mod Sound
+pub mod SoundTest
+pub mod Refusals
+pub mod Reply
+pub mod History
+pub mod Laws
+pub mod Start

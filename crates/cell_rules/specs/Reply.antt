@@ -1,0 +1,101 @@
+-- The reply to a call, and the state that it leaves.
+use Rattle.std.specs.Prelude.{◌+◌, Bool, true, false, Option, Some, None, unwrap_or, if◌then◌else◌}
+use Rattle.cell_types.specs.declared.machine.Machine.{Machine}
+use Rattle.cell_types.specs.declared.machine.Machine.TheVariants.{Feed, Deposit}
+use Rattle.cell_types.specs.declared.zone.Zone.{Zone}
+use Rattle.cell_types.specs.declared.place.Place.{Place}
+use Rattle.cell_types.specs.declared.zone.Transfer.{Transfer}
+use Rattle.cell_types.specs.declared.posture.Posture.TheVariants.{Closed}
+use Rattle.cell_types.specs.declared.pose.Pose.{Pose}
+use Rattle.cell_types.specs.declared.call.Call.{Call}
+use Rattle.cell_types.specs.declared.call.Call.TheVariants.{Claim, Give, Yield, Take, Release, SetPose, Advance, Inquire}
+use Rattle.cell_types.specs.declared.answer.Refusal.{Refusal}
+use Rattle.cell_types.specs.declared.answer.Answer.{Answer}
+use Rattle.cell_types.specs.declared.answer.Answer.TheVariants.{Done, Shown, Refused}
+use Rattle.cell_types.specs.Tables.{host_of, guest_of, transfer_of, posture_of}
+use Rattle.cell_types.specs.Same.{same_machine}
+use Rattle.cell_rules.specs.declared.zones.ZoneState.{ZoneState}
+use Rattle.cell_rules.specs.ZoneMap.{ZoneMap, put_zone, map_zones}
+use Rattle.cell_rules.specs.PlaceSet.{PlaceSet, put_place}
+use Rattle.cell_rules.specs.ModelState.{ModelState, zone_at}
+use Rattle.cell_rules.specs.Refusals.{claim_refusal, give_refusal, yield_refusal, take_refusal, release_refusal, pose_refusal, advance_refusal, gift, work_of, posture_at}
+
+-- the first refusal of a call
+abbrev pub refusal : ModelState → Machine → Call → Option Refusal
+refusal s m (Claim z) = claim_refusal s m z
+refusal s m (Give z) = give_refusal s m z
+refusal s m (Yield z) = yield_refusal s m z
+refusal s m (Take z) = take_refusal s m z
+refusal s m (Release z) = release_refusal s m z
+refusal s m (SetPose p) = pose_refusal s m p
+refusal s m Advance = advance_refusal s m
+refusal s m (Inquire z) = None
+
+abbrev pub done_unless : Option Refusal → Answer
+done_unless None = Done
+done_unless (Some r) = Refused r
+
+-- the answer to a call: to an inquiry what stands there, else Done unless it is refused
+abbrev pub reply : ModelState → Machine → Call → Answer
+reply s m (Inquire z) = Shown (zone_at s z).owner (zone_at s z).flag (zone_at s z).posture
+reply s m c = done_unless (refusal s m c)
+
+-- the other party of a zone
+abbrev pub other_party : Machine → Zone → Machine
+other_party m z = if same_machine m (host_of z) then guest_of z else host_of z
+
+-- the set with one place full or empty; a plate that moves from one place to another
+abbrev pub emptied : PlaceSet → Option Transfer → PlaceSet
+emptied full None = full
+emptied full (Some row) = put_place full row.from false
+
+abbrev pub filled : PlaceSet → Option Transfer → PlaceSet
+filled full None = full
+filled full (Some row) = put_place full row.to true
+
+abbrev pub worked : PlaceSet → Option (Place × Place) → PlaceSet
+worked full None = full
+worked full (Some way) = put_place (put_place full way.0 false) way.1 true
+
+-- a zone in the posture of a pose, or as it was
+abbrev pub posed : Machine → Pose → Zone → ZoneState → ZoneState
+posed m p z v = record v { posture = unwrap_or (posture_of m p z) v.posture }
+
+-- a belt's zones are Closed once a plate has come to its end
+abbrev pub is_belt_of : Machine → Zone → Bool
+is_belt_of Feed z = same_machine (host_of z) Feed
+is_belt_of Deposit z = same_machine (host_of z) Deposit
+is_belt_of _ z = false
+
+abbrev pub halted : Machine → Zone → ZoneState → ZoneState
+halted m z v = if is_belt_of m z then record v { posture = Closed } else v
+
+-- what a call that is Done makes of the zones, and of the full places
+abbrev pub zones_after : ModelState → Machine → Call → ZoneMap
+zones_after s m (Claim z) = put_zone s.zones z (record (zone_at s z) { owner = Some m })
+zones_after s m (Give z) = put_zone s.zones z (record (zone_at s z) { owner = Some (other_party m z); flag = true })
+zones_after s m (Yield z) = put_zone s.zones z (record (zone_at s z) { owner = Some (other_party m z) })
+zones_after s m (Take z) = put_zone s.zones z (record (zone_at s z) { flag = false })
+zones_after s m (Release z) = put_zone s.zones z (record (zone_at s z) { owner = None })
+zones_after s m (SetPose p) = map_zones (posed m p) s.zones
+zones_after s m Advance = map_zones (halted m) s.zones
+zones_after s m (Inquire z) = s.zones
+
+abbrev pub places_after : ModelState → Machine → Call → PlaceSet
+places_after s m (Give z) = emptied s.full (gift s m z)
+places_after s m (Take z) = filled s.full (transfer_of z (posture_at s z))
+places_after s m Advance = worked s.full (work_of m)
+places_after s m _ = s.full
+
+-- the state after a call that is Done
+abbrev pub changed : ModelState → Machine → Call → ModelState
+changed s m c = record { zones = zones_after s m c; full = places_after s m c; stamp = s.stamp + 1 }
+
+-- the state that a call leaves, by its answer
+abbrev pub next_by : Answer → ModelState → Machine → Call → ModelState
+next_by Done s m c = changed s m c
+next_by (Refused _) s m c = s
+next_by (Shown _ _ _) s m c = s
+
+abbrev pub next : ModelState → Machine → Call → ModelState
+next s m c = next_by (reply s m c) s m c

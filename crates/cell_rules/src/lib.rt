@@ -1,0 +1,16 @@
+//! The sequential interlock.
+#![tactic(auto)]
+
+mod answers;
+mod changes;
+pub mod places;
+mod poses;
+mod refusals;
+mod sound;
+pub mod state;
+pub mod zones;
+
+pub use answers::{answer, apply};
+pub use places::Places;
+pub use state::{StartFault, State};
+pub use zones::{ZoneState, Zones};

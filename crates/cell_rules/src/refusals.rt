@@ -1,0 +1,185 @@
+//! Why a call is refused: each condition by itself, and for each call the order of its conditions.
+ghost use Rattle.std.specs.Prelude.{◌≡◌};
+ghost use Rattle.cell_rules.specs.Sound.{is_party as is_party_of, is_open as opens_way};
+ghost use Rattle.cell_rules.specs.Refusals as refusals;
+
+use crate::state::State;
+use cell_types::{
+    Machine, Place, Pose, Posture, Refusal, Transfer, Zone, guest, host, posture_in, transfer,
+};
+
+const LAST_STAMP: u32 = 1_048_575;
+
+/// Whether a machine is the host or the guest of a zone.
+pub fn is_party(machine: Machine, zone: Zone) -> bool
+    ensures { result ≡ is_party_of machine zone }
+{
+    machine == host(zone) || machine == guest(zone)
+}
+
+/// Whether a zone is open, inward or outward.
+pub fn is_open(posture: Posture) -> bool
+    ensures { result ≡ opens_way posture }
+{
+    matches!(posture, Posture::OpenIn | Posture::OpenOut)
+}
+
+fn not_party(machine: Machine, zone: Zone) -> Option<Refusal>
+    ensures { result ≡ refusals.not_party machine zone }
+{
+    (!is_party(machine, zone)).then_some(Refusal::NotParty)
+}
+
+impl State {
+    /// Whether a machine owns a zone.
+    pub fn owns(&self, machine: Machine, zone: Zone) -> bool
+        ensures { result ≡ refusals.owns self.now machine zone }
+    {
+        self.owner(zone) == Some(machine)
+    }
+
+    fn already_mine(&self, machine: Machine, zone: Zone) -> Option<Refusal>
+        ensures { result ≡ refusals.already_mine self.now machine zone }
+    {
+        self.owns(machine, zone).then_some(Refusal::AlreadyMine)
+    }
+
+    fn held(&self, machine: Machine, zone: Zone) -> Option<Refusal>
+        ensures { result ≡ refusals.held self.now machine zone }
+    {
+        match self.owner(zone) {
+            Some(owner) if owner != machine => Some(Refusal::Held(owner)),
+            _ => None,
+        }
+    }
+
+    fn shut_to_guest(&self, machine: Machine, zone: Zone) -> Option<Refusal>
+        ensures { result ≡ refusals.shut_to_guest self.now machine zone }
+    {
+        let posture = self.posture(zone);
+        (machine == guest(zone) && !is_open(posture)).then_some(Refusal::Shut(posture))
+    }
+
+    pub(crate) fn worn(&self) -> Option<Refusal>
+        ensures { result ≡ refusals.worn self.now }
+    {
+        (!(self.stamp() < LAST_STAMP)).then_some(Refusal::Worn)
+    }
+
+    fn not_owner(&self, machine: Machine, zone: Zone) -> Option<Refusal>
+        ensures { result ≡ refusals.not_owner self.now machine zone }
+    {
+        (!self.owns(machine, zone)).then_some(Refusal::NotOwner(self.owner(zone)))
+    }
+
+    fn plate_in_zone(&self, zone: Zone) -> Option<Refusal>
+        ensures { result ≡ refusals.plate_in_zone self.now zone }
+    {
+        self.flag(zone).then_some(Refusal::PlateInZone(zone))
+    }
+
+    fn shut_while_moving(&self, zone: Zone) -> Option<Refusal>
+        ensures { result ≡ refusals.shut_while_moving self.now zone }
+    {
+        (self.posture(zone) == Posture::Moving).then_some(Refusal::Shut(Posture::Moving))
+    }
+
+    fn in_use(&self, machine: Machine, zone: Zone) -> Option<Refusal>
+        ensures { result ≡ refusals.in_use self.now machine zone }
+    {
+        let in_use = machine == Machine::Feed
+            && zone == Zone::Z1
+            && self.posture(Zone::Z6) == Posture::Moving
+            && self.is_full(Place::FeedEnd);
+        in_use.then_some(Refusal::InUse)
+    }
+
+    fn shut(&self, zone: Zone) -> Option<Refusal>
+        ensures { result ≡ refusals.shut self.now zone }
+    {
+        let posture = self.posture(zone);
+        (!is_open(posture)).then_some(Refusal::Shut(posture))
+    }
+
+    /// The way of a plate that a machine can give.
+    pub fn gift(&self, machine: Machine, zone: Zone) -> Option<Transfer>
+        ensures { result ≡ refusals.gift self.now machine zone }
+    {
+        match transfer(zone, self.posture(zone)) {
+            Some(row) if row.giver == machine => Some(row),
+            _ => None,
+        }
+    }
+
+    fn nothing_to_give(&self, row: Option<Transfer>) -> Option<Refusal>
+        ensures { result ≡ refusals.nothing_to_give self.now row }
+    {
+        (!self.is_full(row?.from)).then_some(Refusal::NoPlate)
+    }
+
+    pub(crate) fn no_room(&self, row: Option<Transfer>) -> Option<Refusal>
+        ensures { result ≡ refusals.no_room self.now row }
+    {
+        self.is_full(row?.to).then_some(Refusal::PlaceFull)
+    }
+
+    fn no_plate_in_zone(&self, zone: Zone) -> Option<Refusal>
+        ensures { result ≡ refusals.no_plate_in_zone self.now zone }
+    {
+        (!self.flag(zone)).then_some(Refusal::NoPlate)
+    }
+
+    pub fn claim_refusal(&self, machine: Machine, zone: Zone) -> Option<Refusal>
+        ensures { result ≡ refusals.claim_refusal self.now machine zone }
+    {
+        not_party(machine, zone)
+            .or(self.already_mine(machine, zone))
+            .or(self.held(machine, zone))
+            .or(self.shut_to_guest(machine, zone))
+            .or(self.worn())
+    }
+
+    pub fn give_refusal(&self, machine: Machine, zone: Zone) -> Option<Refusal>
+        ensures { result ≡ refusals.give_refusal self.now machine zone }
+    {
+        let row = self.gift(machine, zone);
+        not_party(machine, zone)
+            .or(self.not_owner(machine, zone))
+            .or(self.plate_in_zone(zone))
+            .or(row.is_none().then_some(Refusal::WrongWay))
+            .or(self.nothing_to_give(row))
+            .or(self.no_room(row))
+            .or(self.worn())
+    }
+
+    pub fn yield_refusal(&self, machine: Machine, zone: Zone) -> Option<Refusal>
+        ensures { result ≡ refusals.yield_refusal self.now machine zone }
+    {
+        not_party(machine, zone)
+            .or(self.not_owner(machine, zone))
+            .or(self.plate_in_zone(zone))
+            .or(self.shut(zone))
+            .or(self.in_use(machine, zone))
+            .or(self.worn())
+    }
+
+    pub fn take_refusal(&self, machine: Machine, zone: Zone) -> Option<Refusal>
+        ensures { result ≡ refusals.take_refusal self.now machine zone }
+    {
+        not_party(machine, zone)
+            .or(self.not_owner(machine, zone))
+            .or(self.no_plate_in_zone(zone))
+            .or(self.worn())
+    }
+
+    pub fn release_refusal(&self, machine: Machine, zone: Zone) -> Option<Refusal>
+        ensures { result ≡ refusals.release_refusal self.now machine zone }
+    {
+        not_party(machine, zone)
+            .or(self.not_owner(machine, zone))
+            .or(self.plate_in_zone(zone))
+            .or(self.shut_while_moving(zone))
+            .or(self.in_use(machine, zone))
+            .or(self.worn())
+    }
+}

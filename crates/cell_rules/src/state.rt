@@ -1,0 +1,211 @@
+ghost use Rattle.std.specs.Prelude.{◌≡◌, ◌≤◌, ◌↔◌, IsSome, IfSome, IsOk, IfOk};
+ghost use Rattle.cell_rules.specs.Start.{places_of, IsStart, start_state};
+ghost use Rattle.cell_rules.specs.Sound.{IsSound};
+ghost use Rattle.cell_types.specs.declared.answer.Answer.TheVariants.{Done};
+ghost use Rattle.cell_rules.specs.ModelState.{zone_at, is_full, model_state, plates_of};
+ghost use Rattle.cell_rules.specs.Refusals.{owner_of, posture_at};
+ghost use Rattle.cell_rules.specs.Reply as replies;
+
+use crate::changes::other_party;
+use crate::places::Places;
+use crate::poses::work;
+use crate::sound::is_sound;
+use crate::zones::{ZoneState, Zones};
+use cell_types::{Call, Machine, Place, Posture, Zone, transfer};
+use std::marker::Model;
+
+/// A state of the interlock.
+#[derive(Clone, Copy, Debug, PartialEq, Eq)]
+pub struct State {
+    pub(crate) stamp: u32,
+    zones: Zones,
+    full: Places,
+}
+
+impl Model for State {
+    ghost use Rattle.cell_rules.specs.ModelState.{ModelState, model_state};
+    ghost use Rattle.cell_rules.specs.Sound.{IsSound};
+
+    ghost Value = { ModelState };
+
+    ghost view = { λ a. model_state a.zones a.full a.stamp };
+
+    ghost invariant = { λ a. IsSound (model_state a.zones a.full a.stamp) };
+
+    ghost inverse = { λ s. record { zones = s.zones; full = s.full; stamp = s.stamp } };
+}
+
+/// Why a start is refused.
+#[derive(Clone, Copy, Debug, PartialEq, Eq)]
+pub enum StartFault {
+    BadStart,
+}
+
+impl State {
+    /// The start with these places and this stamp.
+    pub fn start(places: [bool; 10], stamp: u32) -> Result<State, StartFault>
+        ensures ok { IsOk result ↔ IsStart (places_of places) stamp }
+        ensures value { IfOk result (λ s. s ≡ start_state (places_of places) stamp) }
+    {
+        let full = Places::from_flags(places);
+        if full.len() <= 6
+            && !(full.contains(Place::PressIn) && full.contains(Place::PressOut))
+            && stamp <= 1_048_575
+        {
+            Ok(State {
+                stamp,
+                zones: Zones::free(),
+                full,
+            })
+        } else {
+            Err(StartFault::BadStart)
+        }
+    }
+
+    /// The state of these zones, places and stamp, if they are sound.
+    pub fn checked(zones: Zones, full: Places, stamp: u32) -> Option<State>
+        ensures some { IsSome result ↔ IsSound (model_state zones full stamp) }
+        ensures value { IfSome result (λ s. s ≡ model_state zones full stamp) }
+    {
+        if is_sound(&zones, &full, stamp) {
+            Some(State { stamp, zones, full })
+        } else {
+            None
+        }
+    }
+
+    /// What stands at each zone.
+    pub fn zones(&self) -> Zones
+        ensures { result ≡ self.now.zones }
+    {
+        self.zones
+    }
+
+    /// The full places.
+    pub fn full(&self) -> Places
+        ensures { result ≡ self.now.full }
+    {
+        self.full
+    }
+
+    /// What stands at a zone.
+    pub fn zone(&self, zone: Zone) -> ZoneState
+        ensures { result ≡ zone_at self.now zone }
+    {
+        self.zones.get(zone)
+    }
+
+    /// Who owns a zone.
+    pub fn owner(&self, zone: Zone) -> Option<Machine>
+        ensures { result ≡ owner_of self.now zone }
+    {
+        self.zone(zone).owner
+    }
+
+    /// Whether a plate is in a zone.
+    pub fn flag(&self, zone: Zone) -> bool
+        ensures { result ≡ (zone_at self.now zone).flag }
+    {
+        self.zone(zone).flag
+    }
+
+    /// What its host has made of a zone.
+    pub fn posture(&self, zone: Zone) -> Posture
+        ensures { result ≡ posture_at self.now zone }
+    {
+        self.zone(zone).posture
+    }
+
+    /// The number of plates: the full places, and those in a zone.
+    pub fn plates(&self) -> u32
+        ensures { result ≡ plates_of self.now }
+    {
+        self.full.len() + self.zones.flags()
+    }
+
+    /// Whether a place has a plate.
+    pub fn is_full(&self, place: Place) -> bool
+        ensures { result ≡ is_full self.now place }
+    {
+        self.full.contains(place)
+    }
+
+    /// The number of calls that were Done, and the first stamp.
+    pub fn stamp(&self) -> u32
+        ensures stamp { result ≡ self.now.stamp }
+        ensures small { result ≤ 1048575 }
+    {
+        self.stamp
+    }
+
+    fn zones_after(&self, machine: Machine, call: Call) -> Zones
+        ensures { result ≡ replies.zones_after self.now machine call }
+    {
+        let mut zones = self.zones;
+        match call {
+            Call::Claim(zone) => zones.set(
+                zone,
+                ZoneState {
+                    owner: Some(machine),
+                    ..self.zone(zone)
+                },
+            ),
+            Call::Give(zone) => zones.set(
+                zone,
+                ZoneState {
+                    owner: Some(other_party(machine, zone)),
+                    flag: true,
+                    ..self.zone(zone)
+                },
+            ),
+            Call::Yield(zone) => zones.set(
+                zone,
+                ZoneState {
+                    owner: Some(other_party(machine, zone)),
+                    ..self.zone(zone)
+                },
+            ),
+            Call::Take(zone) => zones.set(
+                zone,
+                ZoneState {
+                    flag: false,
+                    ..self.zone(zone)
+                },
+            ),
+            Call::Release(zone) => zones.set(
+                zone,
+                ZoneState {
+                    owner: None,
+                    ..self.zone(zone)
+                },
+            ),
+            Call::SetPose(pose) => zones = zones.posed(machine, pose),
+            Call::Advance => zones = zones.halted(machine),
+            Call::Inquire(_) => {}
+        }
+        zones
+    }
+
+    fn places_after(&self, machine: Machine, call: Call) -> Places
+        ensures { result ≡ replies.places_after self.now machine call }
+    {
+        match call {
+            Call::Give(zone) => self.full.emptied(self.gift(machine, zone)),
+            Call::Take(zone) => self.full.filled(transfer(zone, self.zone(zone).posture)),
+            Call::Advance => self.full.worked(work(machine)),
+            _ => self.full,
+        }
+    }
+
+    /// The state after a call that is Done.
+    pub fn changed(&self, machine: Machine, call: Call) -> State
+        requires { replies.reply self.now machine call ≡ Done }
+        ensures { result ≡ replies.changed self.now machine call }
+    {
+        State {
+            stamp: self.stamp + 1,
+            zones: self.zones_after(machine, call),
+            full: self.places_after(machine, call),
+        }
+    }
+}

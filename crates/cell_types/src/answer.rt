@@ -1,0 +1,238 @@
+ghost use Rattle.std.specs.Prelude.{◌≡◌, ◌↔◌, Some};
+ghost use Rattle.cell_types.specs.Refusals.{number_of};
+ghost use Rattle.cell_types.specs.Answers.{answer_text, owner_word, refusal_word};
+
+use crate::call::Call;
+use crate::machine::Machine;
+use crate::posture::Posture;
+use crate::zone::Zone;
+use std::fmt;
+
+/// Why a call is refused.
+#[derive(Clone, Copy, Debug, PartialEq, Eq)]
+pub enum Refusal {
+    /// The caller is neither host nor guest of the zone.
+    NotParty,
+    /// Another machine owns the zone.
+    Held(Machine),
+    /// The caller owns the zone already.
+    AlreadyMine,
+    /// The posture forbids the call.
+    Shut(Posture),
+    /// A zone that the call needs isn't the caller's: its owner, or nobody.
+    NotOwner(Option<Machine>),
+    /// A plate is in the zone.
+    PlateInZone(Zone),
+    /// There is no plate to give, to take or to move on.
+    NoPlate,
+    /// A place that has to be empty is full.
+    PlaceFull,
+    /// No plate goes this way while the zone has this posture.
+    WrongWay,
+    /// Table or press would change its pose without having moved.
+    Jump,
+    /// The machine isn't at work.
+    NotAtWork,
+    /// The machine hasn't this pose, or can't move a plate on.
+    NoPose,
+    /// All else would be Done, but the stamp has reached its last value.
+    Worn,
+    /// The feed belt runs with a plate at its end, and so may not leave the table's zone.
+    InUse,
+}
+
+impl Refusal {
+    /// The number of the refusal.
+    pub fn number(&self) -> u8
+        ensures { result ≡ number_of self.now }
+    {
+        match self {
+            Refusal::NotParty => 1,
+            Refusal::Held(_) => 2,
+            Refusal::AlreadyMine => 3,
+            Refusal::Shut(_) => 4,
+            Refusal::NotOwner(_) => 5,
+            Refusal::PlateInZone(_) => 6,
+            Refusal::NoPlate => 7,
+            Refusal::PlaceFull => 8,
+            Refusal::WrongWay => 9,
+            Refusal::Jump => 10,
+            Refusal::NotAtWork => 11,
+            Refusal::NoPose => 12,
+            Refusal::Worn => 13,
+            Refusal::InUse => 16,
+        }
+    }
+
+    /// The text of scripts and reports, with what the refusal names.
+    pub fn word(self) -> &'static str
+        ensures { result.now ≡ refusal_word self }
+    {
+        match self {
+            Refusal::NotParty => "notparty",
+            Refusal::Held(machine) => held_word(machine),
+            Refusal::AlreadyMine => "already",
+            Refusal::Shut(posture) => shut_word(posture),
+            Refusal::NotOwner(owner) => not_owner_word(owner),
+            Refusal::PlateInZone(zone) => plate_word(zone),
+            Refusal::NoPlate => "noplate",
+            Refusal::PlaceFull => "placefull",
+            Refusal::WrongWay => "wrongway",
+            Refusal::Jump => "jump",
+            Refusal::NotAtWork => "notatwork",
+            Refusal::NoPose => "nopose",
+            Refusal::Worn => "worn",
+            Refusal::InUse => "inuse",
+        }
+    }
+
+    /// The refusal of a text, or `None` for any other bytes.
+    pub fn read(word: &[u8]) -> Option<Refusal>
+        ensures { (refusal : Refusal) → (result ≡ Some refusal) ↔ (word.now ≡ refusal_word refusal) }
+    {
+        match word {
+            b"notparty" => Some(Refusal::NotParty),
+            b"held feed" => Some(Refusal::Held(Machine::Feed)),
+            b"held table" => Some(Refusal::Held(Machine::Table)),
+            b"held robot" => Some(Refusal::Held(Machine::Robot)),
+            b"held press" => Some(Refusal::Held(Machine::Press)),
+            b"held deposit" => Some(Refusal::Held(Machine::Deposit)),
+            b"held crane" => Some(Refusal::Held(Machine::Crane)),
+            b"held watch" => Some(Refusal::Held(Machine::Watch)),
+            b"already" => Some(Refusal::AlreadyMine),
+            b"shut closed" => Some(Refusal::Shut(Posture::Closed)),
+            b"shut moving" => Some(Refusal::Shut(Posture::Moving)),
+            b"shut openin" => Some(Refusal::Shut(Posture::OpenIn)),
+            b"shut openout" => Some(Refusal::Shut(Posture::OpenOut)),
+            b"notowner free" => Some(Refusal::NotOwner(None)),
+            b"notowner feed" => Some(Refusal::NotOwner(Some(Machine::Feed))),
+            b"notowner table" => Some(Refusal::NotOwner(Some(Machine::Table))),
+            b"notowner robot" => Some(Refusal::NotOwner(Some(Machine::Robot))),
+            b"notowner press" => Some(Refusal::NotOwner(Some(Machine::Press))),
+            b"notowner deposit" => Some(Refusal::NotOwner(Some(Machine::Deposit))),
+            b"notowner crane" => Some(Refusal::NotOwner(Some(Machine::Crane))),
+            b"notowner watch" => Some(Refusal::NotOwner(Some(Machine::Watch))),
+            b"platein z1" => Some(Refusal::PlateInZone(Zone::Z1)),
+            b"platein z2" => Some(Refusal::PlateInZone(Zone::Z2)),
+            b"platein z3" => Some(Refusal::PlateInZone(Zone::Z3)),
+            b"platein z4" => Some(Refusal::PlateInZone(Zone::Z4)),
+            b"platein z5" => Some(Refusal::PlateInZone(Zone::Z5)),
+            b"platein z6" => Some(Refusal::PlateInZone(Zone::Z6)),
+            b"noplate" => Some(Refusal::NoPlate),
+            b"placefull" => Some(Refusal::PlaceFull),
+            b"wrongway" => Some(Refusal::WrongWay),
+            b"jump" => Some(Refusal::Jump),
+            b"notatwork" => Some(Refusal::NotAtWork),
+            b"nopose" => Some(Refusal::NoPose),
+            b"worn" => Some(Refusal::Worn),
+            b"inuse" => Some(Refusal::InUse),
+            _ => None,
+        }
+    }
+}
+
+fn held_word(machine: Machine) -> &'static str
+    ensures { result.now ≡ refusal_word (Refusal.Held machine) }
+{
+    match machine {
+        Machine::Feed => "held feed",
+        Machine::Table => "held table",
+        Machine::Robot => "held robot",
+        Machine::Press => "held press",
+        Machine::Deposit => "held deposit",
+        Machine::Crane => "held crane",
+        Machine::Watch => "held watch",
+    }
+}
+
+fn shut_word(posture: Posture) -> &'static str
+    ensures { result.now ≡ refusal_word (Refusal.Shut posture) }
+{
+    match posture {
+        Posture::Closed => "shut closed",
+        Posture::Moving => "shut moving",
+        Posture::OpenIn => "shut openin",
+        Posture::OpenOut => "shut openout",
+    }
+}
+
+fn not_owner_word(owner: Option<Machine>) -> &'static str
+    ensures { result.now ≡ refusal_word (Refusal.NotOwner owner) }
+{
+    match owner {
+        None => "notowner free",
+        Some(Machine::Feed) => "notowner feed",
+        Some(Machine::Table) => "notowner table",
+        Some(Machine::Robot) => "notowner robot",
+        Some(Machine::Press) => "notowner press",
+        Some(Machine::Deposit) => "notowner deposit",
+        Some(Machine::Crane) => "notowner crane",
+        Some(Machine::Watch) => "notowner watch",
+    }
+}
+
+fn plate_word(zone: Zone) -> &'static str
+    ensures { result.now ≡ refusal_word (Refusal.PlateInZone zone) }
+{
+    match zone {
+        Zone::Z1 => "platein z1",
+        Zone::Z2 => "platein z2",
+        Zone::Z3 => "platein z3",
+        Zone::Z4 => "platein z4",
+        Zone::Z5 => "platein z5",
+        Zone::Z6 => "platein z6",
+    }
+}
+
+/// What the interlock answers to a call.
+#[derive(Clone, Copy, Debug, PartialEq, Eq)]
+pub enum Answer {
+    /// The call was made, and the stamp is one higher.
+    Done,
+    /// What stands at the zone of an inquiry.
+    Shown {
+        owner: Option<Machine>,
+        flag: bool,
+        posture: Posture,
+    },
+    /// The call was refused, and nothing has changed.
+    Refused(Refusal),
+}
+
+/// A call of a machine, with its answer.
+#[derive(Clone, Copy, Debug, PartialEq, Eq)]
+pub struct Event {
+    pub machine: Machine,
+    pub call: Call,
+    pub answer: Answer,
+}
+
+impl fmt::Display for Answer {
+    ghost output = { λ answer. Some (answer_text answer) };
+
+    fn fmt<W: fmt::Write>(&self, f: &mut fmt::Formatter<W>) -> fmt::Result {
+        match self {
+            Answer::Done => f.write_str("done"),
+            Answer::Shown {
+                owner,
+                flag,
+                posture,
+            } => {
+                let owner = owner_word_of(*owner);
+                let flag = if *flag { "1" } else { "0" };
+                let posture = posture.word();
+                write!(f, "zone {owner} {flag} {posture}")
+            }
+            Answer::Refused(refusal) => f.write_str(refusal.word()),
+        }
+    }
+}
+
+fn owner_word_of(owner: Option<Machine>) -> &'static str
+    ensures { result.now ≡ owner_word owner }
+{
+    match owner {
+        None => "free",
+        Some(machine) => machine.word(),
+    }
+}

@@ -1,0 +1,73 @@
+ghost use Rattle.std.specs.Prelude.{◌≡◌, ◌↔◌, ◌∷◌, [], Some, option_map};
+ghost use Rattle.cell_types.specs.CallWords.{call_fields, verb_of, with_object};
+
+use crate::pose::Pose;
+use crate::zone::Zone;
+
+/// What a machine asks of the interlock.
+#[derive(Clone, Copy, Debug, PartialEq, Eq)]
+pub enum Call {
+    /// To own a zone.
+    Claim(Zone),
+    /// To hand a zone over to its other party, with a plate.
+    Give(Zone),
+    /// To hand a zone over to its other party, without a plate.
+    Yield(Zone),
+    /// To take the plate that came with a zone.
+    Take(Zone),
+    /// To leave a zone.
+    Release(Zone),
+    /// To give the zones that the caller hosts the postures of a pose.
+    SetPose(Pose),
+    /// To move the plate on: along a belt, or from loaded to forged.
+    Advance,
+    /// To be shown a zone.
+    Inquire(Zone),
+}
+
+impl Call {
+    /// The verb of scripts.
+    pub fn verb(self) -> &'static str
+        ensures { result.now ≡ verb_of self }
+    {
+        match self {
+            Call::Claim(_) => "claim",
+            Call::Give(_) => "give",
+            Call::Yield(_) => "yield",
+            Call::Take(_) => "take",
+            Call::Release(_) => "release",
+            Call::SetPose(_) => "pose",
+            Call::Advance => "advance",
+            Call::Inquire(_) => "inquire",
+        }
+    }
+
+    /// The call that a verb and the field behind it write.
+    pub fn read(verb: &[u8], object: Option<&[u8]>) -> Option<Call>
+        ensures { (call : Call) → (result ≡ Some call) ↔ (with_object verb.now (option_map (λ s. s.now) object.entry) ≡ call_fields call) }
+    {
+        match object {
+            None if verb == b"advance".as_slice() => Some(Call::Advance),
+            None => None,
+            Some(object) => read_with(verb, object),
+        }
+    }
+}
+
+fn read_with(verb: &[u8], object: &[u8]) -> Option<Call>
+    ensures { (call : Call) → (result ≡ Some call) ↔ (verb.now ∷ object.now ∷ [] ≡ call_fields call) }
+{
+    if verb == b"pose".as_slice() {
+        return Pose::read(object).map(Call::SetPose);
+    }
+    let zone = Zone::read(object)?;
+    match verb {
+        b"claim" => Some(Call::Claim(zone)),
+        b"give" => Some(Call::Give(zone)),
+        b"yield" => Some(Call::Yield(zone)),
+        b"take" => Some(Call::Take(zone)),
+        b"release" => Some(Call::Release(zone)),
+        b"inquire" => Some(Call::Inquire(zone)),
+        _ => None,
+    }
+}

@@ -1,0 +1,24 @@
+//! The names of the production cell and its tables: machines, the zones that they share, the places
+//! of plates, postures and poses, the calls of the interlock and their answers.
+#![tactic(auto)]
+
+pub mod answer;
+pub mod call;
+pub mod machine;
+pub mod place;
+pub mod pose;
+pub mod posture;
+pub mod tables;
+pub mod zone;
+
+pub use answer::{Answer, Event, Refusal};
+pub use call::Call;
+pub use machine::Machine;
+pub use place::Place;
+pub use pose::Pose;
+pub use posture::Posture;
+pub use tables::{guest, host, posture_in, transfer};
+pub use zone::{Transfer, Zone};
+
+#[cfg(test)]
+mod tests;

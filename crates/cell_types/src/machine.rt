@@ -1,0 +1,65 @@
+ghost use Rattle.std.specs.Prelude.{◌≡◌, ◌↔◌};
+ghost use Rattle.cell_types.specs.Words.{machine_word};
+
+/// A machine of the production cell (LNCS 891). The watch is an observer: it only inquires.
+#[derive(Clone, Copy, Debug, PartialEq, Eq, PartialOrd, Ord)]
+pub enum Machine {
+    /// The feed belt.
+    Feed,
+    /// The elevating rotary table.
+    Table,
+    /// The robot with its two arms.
+    Robot,
+    /// The press.
+    Press,
+    /// The deposit belt.
+    Deposit,
+    /// The travelling crane.
+    Crane,
+    /// Whoever only looks on.
+    Watch,
+}
+
+impl Machine {
+    /// The machines, in the order of reports.
+    pub const ALL: [Machine; 7] = [
+        Machine::Feed,
+        Machine::Table,
+        Machine::Robot,
+        Machine::Press,
+        Machine::Deposit,
+        Machine::Crane,
+        Machine::Watch,
+    ];
+
+    /// The word of scripts and reports.
+    pub fn word(self) -> &'static str
+        ensures { result.now ≡ machine_word self }
+    {
+        match self {
+            Machine::Feed => "feed",
+            Machine::Table => "table",
+            Machine::Robot => "robot",
+            Machine::Press => "press",
+            Machine::Deposit => "deposit",
+            Machine::Crane => "crane",
+            Machine::Watch => "watch",
+        }
+    }
+
+    /// The machine that a word names, or `None` for any other bytes.
+    pub fn read(word: &[u8]) -> Option<Machine>
+        ensures { (machine : Machine) → (result ≡ Some machine) ↔ (word.now ≡ machine_word machine) }
+    {
+        match word {
+            b"feed" => Some(Machine::Feed),
+            b"table" => Some(Machine::Table),
+            b"robot" => Some(Machine::Robot),
+            b"press" => Some(Machine::Press),
+            b"deposit" => Some(Machine::Deposit),
+            b"crane" => Some(Machine::Crane),
+            b"watch" => Some(Machine::Watch),
+            _ => None,
+        }
+    }
+}

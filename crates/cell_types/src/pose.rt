@@ -1,0 +1,90 @@
+ghost use Rattle.std.specs.Prelude.{◌≡◌, ◌↔◌};
+ghost use Rattle.cell_types.specs.Words.{pose_word};
+
+/// A pose of a machine, which gives the zones that it hosts their postures.
+#[derive(Clone, Copy, Debug, PartialEq, Eq)]
+pub enum Pose {
+    /// The table moves.
+    Turning,
+    /// The table takes a plate from the feed belt.
+    Loading,
+    /// The table offers its plate to the first arm.
+    Unloading,
+    /// The press moves.
+    Travelling,
+    /// The press takes a plate from the first arm.
+    Middle,
+    /// The press offers its plate to the second arm.
+    Low,
+    /// The press is shut, and forges.
+    Top,
+    /// A belt runs.
+    Running,
+    /// A belt stands, open for a plate at its entry.
+    Landing,
+    /// A belt stands.
+    Halted,
+    /// The deposit belt stands and offers the plate at its end.
+    Offering,
+    /// The deposit belt stands, open at both ends.
+    Standing,
+}
+
+impl Pose {
+    /// The poses of all machines.
+    pub const ALL: [Pose; 12] = [
+        Pose::Turning,
+        Pose::Loading,
+        Pose::Unloading,
+        Pose::Travelling,
+        Pose::Middle,
+        Pose::Low,
+        Pose::Top,
+        Pose::Running,
+        Pose::Landing,
+        Pose::Halted,
+        Pose::Offering,
+        Pose::Standing,
+    ];
+
+    /// The word of scripts.
+    pub fn word(self) -> &'static str
+        ensures { result.now ≡ pose_word self }
+    {
+        match self {
+            Pose::Turning => "turning",
+            Pose::Loading => "loading",
+            Pose::Unloading => "unloading",
+            Pose::Travelling => "travelling",
+            Pose::Middle => "middle",
+            Pose::Low => "low",
+            Pose::Top => "top",
+            Pose::Running => "running",
+            Pose::Landing => "landing",
+            Pose::Halted => "halted",
+            Pose::Offering => "offering",
+            Pose::Standing => "standing",
+        }
+    }
+
+    /// The pose that a word names, or `None` for any other bytes.
+    pub fn read(word: &[u8]) -> Option<Pose>
+        ensures { (pose : Pose) → (result ≡ Some pose) ↔ (word.now ≡ pose_word pose) }
+    {
+        match word {
+            b"turning" => Some(Pose::Turning),
+            b"loading" => Some(Pose::Loading),
+            b"unloading" => Some(Pose::Unloading),
+            b"travelling" => Some(Pose::Travelling),
+            b"middle" => Some(Pose::Middle),
+            b"low" => Some(Pose::Low),
+            b"top" => Some(Pose::Top),
+            b"running" => Some(Pose::Running),
+            b"landing" => Some(Pose::Landing),
+            b"halted" => Some(Pose::Halted),
+            b"offering" => Some(Pose::Offering),
+            b"standing" => Some(Pose::Standing),
+            _ => None,
+        }
+    }
+}

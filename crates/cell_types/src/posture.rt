@@ -1,0 +1,50 @@
+ghost use Rattle.std.specs.Prelude.{◌≡◌, ◌↔◌};
+ghost use Rattle.cell_types.specs.Words.{posture_word};
+
+/// What the host of a zone has made of it.
+#[derive(Clone, Copy, Debug, PartialEq, Eq)]
+pub enum Posture {
+    /// The guest may not enter, and nothing moves.
+    Closed,
+    /// The host moves in it.
+    Moving,
+    /// Open for a plate of the guest.
+    OpenIn,
+    /// Open for a plate of the host.
+    OpenOut,
+}
+
+impl Posture {
+    /// The postures, in order.
+    pub const ALL: [Posture; 4] = [
+        Posture::Closed,
+        Posture::Moving,
+        Posture::OpenIn,
+        Posture::OpenOut,
+    ];
+
+    /// The word of scripts and reports.
+    pub fn word(self) -> &'static str
+        ensures { result.now ≡ posture_word self }
+    {
+        match self {
+            Posture::Closed => "closed",
+            Posture::Moving => "moving",
+            Posture::OpenIn => "openin",
+            Posture::OpenOut => "openout",
+        }
+    }
+
+    /// The posture that a word names, or `None` for any other bytes.
+    pub fn read(word: &[u8]) -> Option<Posture>
+        ensures { (posture : Posture) → (result ≡ Some posture) ↔ (word.now ≡ posture_word posture) }
+    {
+        match word {
+            b"closed" => Some(Posture::Closed),
+            b"moving" => Some(Posture::Moving),
+            b"openin" => Some(Posture::OpenIn),
+            b"openout" => Some(Posture::OpenOut),
+            _ => None,
+        }
+    }
+}

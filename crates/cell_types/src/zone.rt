@@ -1,0 +1,72 @@
+ghost use Rattle.std.specs.Prelude.{◌≡◌, ◌↔◌};
+ghost use Rattle.cell_types.specs.Words.{zone_word};
+
+use crate::machine::Machine;
+use crate::place::Place;
+
+/// A space that two machines share: at any time one of them at most may be in it.
+#[derive(Clone, Copy, Debug, PartialEq, Eq, PartialOrd, Ord)]
+pub enum Zone {
+    /// From the feed belt to the table.
+    Z1,
+    /// From the table to the first arm.
+    Z2,
+    /// The interior of the press.
+    Z3,
+    /// From the second arm to the deposit belt.
+    Z4,
+    /// From the deposit belt to the crane.
+    Z5,
+    /// From the crane to the feed belt.
+    Z6,
+}
+
+impl Zone {
+    /// The zones, in order.
+    pub const ALL: [Zone; 6] = [
+        Zone::Z1,
+        Zone::Z2,
+        Zone::Z3,
+        Zone::Z4,
+        Zone::Z5,
+        Zone::Z6,
+    ];
+
+    /// The word of scripts and reports.
+    pub fn word(self) -> &'static str
+        ensures { result.now ≡ zone_word self }
+    {
+        match self {
+            Zone::Z1 => "z1",
+            Zone::Z2 => "z2",
+            Zone::Z3 => "z3",
+            Zone::Z4 => "z4",
+            Zone::Z5 => "z5",
+            Zone::Z6 => "z6",
+        }
+    }
+
+    /// The zone that a word names, or `None` for any other bytes.
+    pub fn read(word: &[u8]) -> Option<Zone>
+        ensures { (zone : Zone) → (result ≡ Some zone) ↔ (word.now ≡ zone_word zone) }
+    {
+        match word {
+            b"z1" => Some(Zone::Z1),
+            b"z2" => Some(Zone::Z2),
+            b"z3" => Some(Zone::Z3),
+            b"z4" => Some(Zone::Z4),
+            b"z5" => Some(Zone::Z5),
+            b"z6" => Some(Zone::Z6),
+            _ => None,
+        }
+    }
+}
+
+/// How a plate passes through a zone: who gives it, who receives it, and from which place to which.
+#[derive(Clone, Copy, Debug, PartialEq, Eq)]
+pub struct Transfer {
+    pub giver: Machine,
+    pub receiver: Machine,
+    pub from: Place,
+    pub to: Place,
+}
