@@ -42,6 +42,45 @@ pub enum Refusal {
 }
 
 impl Refusal {
+    /// The refusals, each with whatever it may name, in the order of their numbers.
+    pub const ALL: [Refusal; 35] = [
+        Refusal::NotParty,
+        Refusal::Held(Machine::Feed),
+        Refusal::Held(Machine::Table),
+        Refusal::Held(Machine::Robot),
+        Refusal::Held(Machine::Press),
+        Refusal::Held(Machine::Deposit),
+        Refusal::Held(Machine::Crane),
+        Refusal::Held(Machine::Watch),
+        Refusal::AlreadyMine,
+        Refusal::Shut(Posture::Closed),
+        Refusal::Shut(Posture::Moving),
+        Refusal::Shut(Posture::OpenIn),
+        Refusal::Shut(Posture::OpenOut),
+        Refusal::NotOwner(None),
+        Refusal::NotOwner(Some(Machine::Feed)),
+        Refusal::NotOwner(Some(Machine::Table)),
+        Refusal::NotOwner(Some(Machine::Robot)),
+        Refusal::NotOwner(Some(Machine::Press)),
+        Refusal::NotOwner(Some(Machine::Deposit)),
+        Refusal::NotOwner(Some(Machine::Crane)),
+        Refusal::NotOwner(Some(Machine::Watch)),
+        Refusal::PlateInZone(Zone::Z1),
+        Refusal::PlateInZone(Zone::Z2),
+        Refusal::PlateInZone(Zone::Z3),
+        Refusal::PlateInZone(Zone::Z4),
+        Refusal::PlateInZone(Zone::Z5),
+        Refusal::PlateInZone(Zone::Z6),
+        Refusal::NoPlate,
+        Refusal::PlaceFull,
+        Refusal::WrongWay,
+        Refusal::Jump,
+        Refusal::NotAtWork,
+        Refusal::NoPose,
+        Refusal::Worn,
+        Refusal::InUse,
+    ];
+
     /// The number of the refusal.
     pub fn number(&self) -> u8
         ensures { result ≡ number_of self.now }
@@ -90,44 +129,10 @@ impl Refusal {
     pub fn read(word: &[u8]) -> Option<Refusal>
         ensures { (refusal : Refusal) → (result ≡ Some refusal) ↔ (word.now ≡ refusal_word refusal) }
     {
-        match word {
-            b"notparty" => Some(Refusal::NotParty),
-            b"held feed" => Some(Refusal::Held(Machine::Feed)),
-            b"held table" => Some(Refusal::Held(Machine::Table)),
-            b"held robot" => Some(Refusal::Held(Machine::Robot)),
-            b"held press" => Some(Refusal::Held(Machine::Press)),
-            b"held deposit" => Some(Refusal::Held(Machine::Deposit)),
-            b"held crane" => Some(Refusal::Held(Machine::Crane)),
-            b"held watch" => Some(Refusal::Held(Machine::Watch)),
-            b"already" => Some(Refusal::AlreadyMine),
-            b"shut closed" => Some(Refusal::Shut(Posture::Closed)),
-            b"shut moving" => Some(Refusal::Shut(Posture::Moving)),
-            b"shut openin" => Some(Refusal::Shut(Posture::OpenIn)),
-            b"shut openout" => Some(Refusal::Shut(Posture::OpenOut)),
-            b"notowner free" => Some(Refusal::NotOwner(None)),
-            b"notowner feed" => Some(Refusal::NotOwner(Some(Machine::Feed))),
-            b"notowner table" => Some(Refusal::NotOwner(Some(Machine::Table))),
-            b"notowner robot" => Some(Refusal::NotOwner(Some(Machine::Robot))),
-            b"notowner press" => Some(Refusal::NotOwner(Some(Machine::Press))),
-            b"notowner deposit" => Some(Refusal::NotOwner(Some(Machine::Deposit))),
-            b"notowner crane" => Some(Refusal::NotOwner(Some(Machine::Crane))),
-            b"notowner watch" => Some(Refusal::NotOwner(Some(Machine::Watch))),
-            b"platein z1" => Some(Refusal::PlateInZone(Zone::Z1)),
-            b"platein z2" => Some(Refusal::PlateInZone(Zone::Z2)),
-            b"platein z3" => Some(Refusal::PlateInZone(Zone::Z3)),
-            b"platein z4" => Some(Refusal::PlateInZone(Zone::Z4)),
-            b"platein z5" => Some(Refusal::PlateInZone(Zone::Z5)),
-            b"platein z6" => Some(Refusal::PlateInZone(Zone::Z6)),
-            b"noplate" => Some(Refusal::NoPlate),
-            b"placefull" => Some(Refusal::PlaceFull),
-            b"wrongway" => Some(Refusal::WrongWay),
-            b"jump" => Some(Refusal::Jump),
-            b"notatwork" => Some(Refusal::NotAtWork),
-            b"nopose" => Some(Refusal::NoPose),
-            b"worn" => Some(Refusal::Worn),
-            b"inuse" => Some(Refusal::InUse),
-            _ => None,
-        }
+        Refusal::ALL
+            .iter()
+            .copied()
+            .find(|refusal| refusal.word().as_bytes() == word)
     }
 }
 

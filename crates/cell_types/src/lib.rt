@@ -4,6 +4,7 @@
 
 pub mod answer;
 pub mod call;
+pub mod laws;
 pub mod machine;
 pub mod place;
 pub mod pose;
@@ -17,7 +18,7 @@ pub use machine::Machine;
 pub use place::Place;
 pub use pose::Pose;
 pub use posture::Posture;
-pub use tables::{guest, host, posture_in, transfer};
+pub use tables::{guest, host, posture_in, transfer, work};
 pub use zone::{Transfer, Zone};
 
 #[cfg(test)]

@@ -2,6 +2,7 @@
 
 ghost use Rattle.std.specs.Prelude.{◌≡◌};
 ghost use Rattle.cell_types.specs.Tables.{host_of, guest_of, transfer_of, posture_of};
+ghost use Rattle.cell_types.specs.Ways.{work_of};
 
 use crate::machine::Machine;
 use crate::place::Place;
@@ -81,6 +82,18 @@ pub fn posture_in(machine: Machine, pose: Pose, zone: Zone) -> Option<Posture>
         (Machine::Deposit, Pose::Landing, Zone::Z5) => Some(Posture::Closed),
         (Machine::Deposit, Pose::Offering, Zone::Z4) => Some(Posture::Closed),
         (Machine::Deposit, Pose::Halted, Zone::Z4 | Zone::Z5) => Some(Posture::Closed),
+        _ => None,
+    }
+}
+
+/// The way of a plate by a machine's own work: along a belt, or in the press from loaded to forged.
+pub fn work(machine: Machine) -> Option<(Place, Place)>
+    ensures { result ≡ work_of machine }
+{
+    match machine {
+        Machine::Feed => Some((Place::FeedEntry, Place::FeedEnd)),
+        Machine::Deposit => Some((Place::DepEntry, Place::DepEnd)),
+        Machine::Press => Some((Place::PressIn, Place::PressOut)),
         _ => None,
     }
 }

@@ -23,14 +23,7 @@ pub enum Zone {
 
 impl Zone {
     /// The zones, in order.
-    pub const ALL: [Zone; 6] = [
-        Zone::Z1,
-        Zone::Z2,
-        Zone::Z3,
-        Zone::Z4,
-        Zone::Z5,
-        Zone::Z6,
-    ];
+    pub const ALL: [Zone; 6] = [Zone::Z1, Zone::Z2, Zone::Z3, Zone::Z4, Zone::Z5, Zone::Z6];
 
     /// The word of scripts and reports.
     pub fn word(self) -> &'static str

@@ -1,4 +1,4 @@
-use Rattle.std.proofs.Common.{List, ℕ, ◌≡◌, ◌∷◌, [], Some, codes, ap₂, arith, rules}
+use Rattle.std.proofs.Common.{◌≡◌, ◌∷◌, [], codes, ap₂, rules}
 use Rattle.std.proofs.lemmas.Slice.Eq.{text_from_reads}
 use Rattle.cell_types.specs.Words.{zone_word}
 use Rattle.cell_types.proofs.CallLemmas.{call_read}
@@ -27,4 +27,3 @@ returns-in-inquire c =
     let verb : c.args.verb.now ≡ codes "inquire" = text_from_reads c.args.verb.now (codes "inquire") (search rules) (search rules) in
     let zone : c.args.object.now ≡ zone_word c.in_ok-zone.zone = search rules in
     call_read _ _ (ap₂ (λ v o. v ∷ o ∷ []) verb zone)
-

@@ -1,0 +1,3 @@
+pub mod Line
+pub mod Scale
+pub mod Sensors

@@ -1,0 +1,19 @@
+use Rattle.std.specs.Prelude.{ℕ, ◌<◌, ℤ, pos, ◌+ℤ◌, ◌≤ℤ◌, ◌<ℤ◌}
+
+-- the two points of a sensor's line, and how far a reading may be off it
+pub record Scale : Type 0 where
+  pub raw_lo : ℕ
+  pub raw_hi : ℕ
+  pub at_lo : ℤ
+  pub at_hi : ℤ
+  pub tol : ℤ
+
+-- the limits that every scale keeps
+pub record IsScale (s : Scale) : Type 0 where
+  pub raws_rise : s.raw_lo < s.raw_hi
+  pub raws_fit : s.raw_hi < 65536
+  pub ats_rise : s.at_lo <ℤ s.at_hi
+  pub lowest : pos 0 ≤ℤ (s.at_lo +ℤ pos 100000)
+  pub highest : s.at_hi ≤ℤ pos 100000
+  pub finest : pos 1 ≤ℤ s.tol
+  pub coarsest : s.tol ≤ℤ pos 10

@@ -1,0 +1,43 @@
+use Rattle.std.specs.Prelude.{IsTrue, ◌⊎◌}
+use Rattle.cell_calib.specs.declared.sense.TableSense.{TableSense}
+use Rattle.cell_calib.specs.declared.sense.PressSense.{PressSense}
+use Rattle.cell_calib.specs.declared.sense.CraneSense.{CraneSense}
+use Rattle.cell_calib.specs.declared.sense.FeedSense.{FeedSense}
+use Rattle.cell_calib.specs.declared.sense.RobotSense.{RobotSense}
+use Rattle.cell_calib.specs.declared.sense.DepositSense.{DepositSense}
+use Rattle.cell_calib.specs.declared.sense.SensorVector.{SensorVector}
+
+-- both ends of the table's height are on
+abbrev pub TableClashes : TableSense → Type 0
+TableClashes s = IsTrue s.bottom × IsTrue s.top
+
+-- two positions of the press are on
+abbrev pub PressClashes : PressSense → Type 0
+PressClashes s = ((IsTrue s.bottom × IsTrue s.middle) ⊎ (IsTrue s.bottom × IsTrue s.top)) ⊎ (IsTrue s.middle × IsTrue s.top)
+
+-- both ends of the crane's travel are on
+abbrev pub CraneClashes : CraneSense → Type 0
+CraneClashes s = IsTrue s.deposit × IsTrue s.feed
+
+-- the parts of the sensors, by machine
+abbrev pub feed_part : SensorVector → FeedSense
+feed_part v = record { barrier = v.feed_barrier }
+
+abbrev pub table_part : SensorVector → TableSense
+table_part v = record { bottom = v.table_bottom; top = v.table_top; turn = v.table_turn }
+
+abbrev pub robot_part : SensorVector → RobotSense
+robot_part v = record { arm1 = v.arm1; arm2 = v.arm2; rotation = v.rotation }
+
+abbrev pub press_part : SensorVector → PressSense
+press_part v = record { bottom = v.press_bottom; middle = v.press_middle; top = v.press_top }
+
+abbrev pub deposit_part : SensorVector → DepositSense
+deposit_part v = record { barrier = v.deposit_barrier }
+
+abbrev pub crane_part : SensorVector → CraneSense
+crane_part v = record { deposit = v.crane_deposit; feed = v.crane_feed; gripper = v.gripper }
+
+-- some machine has two switches on that can't both be
+abbrev pub SwitchesClash : SensorVector → Type 0
+SwitchesClash v = (PressClashes (press_part v) ⊎ TableClashes (table_part v)) ⊎ CraneClashes (crane_part v)

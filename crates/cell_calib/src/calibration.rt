@@ -1,0 +1,88 @@
+ghost use Rattle.std.specs.Prelude.{◌≡◌, ◌≤◌, ◌<◌, ◌↔◌, IsOk, IfOk};
+ghost use Rattle.cell_calib.specs.Scale.{IsScale};
+ghost use Rattle.cell_calib.specs.Line.{IsReading, IsLineRoundedDown};
+
+use crate::gauge::Gauge;
+use crate::line::line_at;
+use crate::points::Points;
+use crate::sense::SensorFault;
+
+/// A potentiometer's calibration: a closure from raw values to positions, and the line that it is
+/// known to stay near.
+///
+/// From `raw_lo` to `raw_hi` the closure may be called, and answers a position within the tolerance
+/// of the exact line and within `at_lo` to `at_hi`. That fact is kept beside the two fields, so
+/// whoever puts them together, or changes one, has to prove it.
+#[derive(Drop)]
+pub struct Calibration<F: Gauge> {
+    pub gauge: F,
+    pub points: Points,
+    pub ghost near: { ∥ F.keeps gauge points ∥₁ },
+}
+
+impl<F: Gauge> Calibration<F> {
+    /// Keeps a closure that is near the points' line.
+    pub fn new(gauge: F, points: Points) -> Calibration<F>
+        requires near { F.keeps gauge points }
+        ensures gauge { result.gauge ≡ gauge }
+        ensures points { result.points ≡ points }
+    {
+        Calibration { gauge, points }
+    }
+
+    /// The points of its line.
+    pub fn points(&self) -> Points
+        ensures { result ≡ self.now.points }
+    {
+        self.points
+    }
+
+    /// The tolerance of its readings.
+    pub fn tol(&self) -> i32
+        ensures value { result ≡ self.now.points.tol }
+        ensures limits { IsScale self.now.points }
+    {
+        self.points.tol()
+    }
+
+    /// The position at a raw value, as the closure gives it: `Low` below `raw_lo`, `High` above
+    /// `raw_hi`.
+    pub fn read(&self, raw: u16) -> Result<i32, SensorFault>
+        ensures ok { IsOk result ↔ ((self.now.points.raw_lo ≤ raw) × (raw ≤ self.now.points.raw_hi)) }
+        ensures low { (result ≡ Err SensorFault.Low) ↔ (raw < self.now.points.raw_lo) }
+        ensures high { (result ≡ Err SensorFault.High) ↔ (self.now.points.raw_hi < raw) }
+        ensures reading { IfOk result (λ v. IsReading self.now.points raw v) }
+        ensures gives { IfOk result (λ v. F.gives self.now.gauge raw v) }
+    {
+        if raw < self.points.raw_lo() {
+            Err(SensorFault::Low)
+        } else if raw > self.points.raw_hi() {
+            Err(SensorFault::High)
+        } else {
+            Ok(self.gauge.position(self.points, raw))
+        }
+    }
+}
+
+/// What a calibration over the line itself reads at a raw value: the line rounded down, with `Low`
+/// and `High` as ever.
+pub fn line_reading(points: Points, raw: u16) -> Result<i32, SensorFault>
+    ensures ok { IsOk result ↔ ((points.raw_lo ≤ raw) × (raw ≤ points.raw_hi)) }
+    ensures low { (result ≡ Err SensorFault.Low) ↔ (raw < points.raw_lo) }
+    ensures high { (result ≡ Err SensorFault.High) ↔ (points.raw_hi < raw) }
+    ensures floor { IfOk result (λ v. IsLineRoundedDown points raw v) }
+{
+    reading(move |raw: u16| line_at(&points, raw), points, raw)
+}
+
+// Keeps a closure and reads by it once. A calibration is named only where the closure's type is a
+// parameter.
+fn reading<F: Gauge>(gauge: F, points: Points, raw: u16) -> Result<i32, SensorFault>
+    requires { F.keeps gauge points }
+    ensures ok { IsOk result ↔ ((points.raw_lo ≤ raw) × (raw ≤ points.raw_hi)) }
+    ensures low { (result ≡ Err SensorFault.Low) ↔ (raw < points.raw_lo) }
+    ensures high { (result ≡ Err SensorFault.High) ↔ (points.raw_hi < raw) }
+    ensures gives { IfOk result (λ v. F.gives gauge raw v) }
+{
+    Calibration::new(gauge, points).read(raw)
+}

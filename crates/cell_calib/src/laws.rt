@@ -1,0 +1,18 @@
+//! Laws of calibrated readings, each the contract of a function that does nothing.
+
+ghost use Rattle.std.specs.Prelude.{ℕ, ℤ, pos, ◌-ℤ◌, ◌≤ℤ◌};
+ghost use Rattle.cell_calib.specs.Scale.{Scale, IsScale};
+ghost use Rattle.cell_calib.specs.Line.{raw_width, IsLineNear, IsWithinTolerance, IsNear, IsReading, IsRawAt};
+
+/// A reading that is within a window less the tolerance puts the exact line within the window.
+pub fn line_in_window()
+    ensures { (s : Scale) (raw : ℕ) (v target half : ℤ) → IsScale s
+        → IsWithinTolerance s raw v → IsNear v target (half -ℤ s.tol) → IsLineNear s raw target half }
+{}
+
+/// Where the raw values are at least as many as the positions, a reading of the raw value that an
+/// ideal sensor gives at a position, rounded down, is within the tolerance of that position.
+pub fn near_position()
+    ensures { (s : Scale) (position v : ℤ) (raw : ℕ) → IsScale s → (s.at_hi -ℤ s.at_lo) ≤ℤ raw_width s
+        → IsRawAt s position raw → IsWithinTolerance s raw v → IsNear v position s.tol }
+{}

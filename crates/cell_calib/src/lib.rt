@@ -1,0 +1,22 @@
+//! Calibrated sensors of the production cell: what a raw value says of a position, by a closure
+//! that is kept beside the line it stays near, and the fourteen sensors by machine.
+#![tactic(auto)]
+
+pub mod calibration;
+pub mod gauge;
+pub mod laws;
+pub mod line;
+pub mod points;
+pub mod sense;
+
+pub use calibration::{Calibration, line_reading};
+pub use gauge::Gauge;
+pub use line::line_at;
+pub use points::{Points, PointsFault};
+pub use sense::{
+    CraneSense, DepositSense, FeedSense, PressSense, RobotSense, SensorFault, SensorVector,
+    TableSense, switches_agree,
+};
+
+#[cfg(test)]
+mod tests;

@@ -1,0 +1,218 @@
+ghost use Rattle.std.specs.Prelude.{◌≡◌, ◌↔◌, IsOk};
+ghost use Rattle.cell_calib.specs.Sensors.{TableClashes, PressClashes, CraneClashes, SwitchesClash, feed_part, table_part, robot_part, press_part, deposit_part, crane_part};
+
+/// Why a machine's sensors can't be used.
+#[derive(Clone, Copy, Debug, PartialEq, Eq)]
+pub enum SensorFault {
+    /// A raw value is below its calibration's least.
+    Low,
+    /// A raw value is above its calibration's greatest.
+    High,
+    /// Two switches are on that can't both be.
+    Clash,
+}
+
+/// The feed belt's sensors.
+#[derive(Clone, Copy, Debug, PartialEq, Eq, Default)]
+pub struct FeedSense {
+    /// A plate is in the light barrier at the belt's end.
+    pub barrier: bool,
+}
+
+/// The table's sensors.
+#[derive(Clone, Copy, Debug, PartialEq, Eq, Default)]
+pub struct TableSense {
+    /// The switch at the bottom.
+    pub bottom: bool,
+    /// The switch at the top.
+    pub top: bool,
+    /// The raw value of the rotation.
+    pub turn: u16,
+}
+
+/// The robot's sensors, all raw values.
+#[derive(Clone, Copy, Debug, PartialEq, Eq, Default)]
+pub struct RobotSense {
+    /// The extension of the first arm.
+    pub arm1: u16,
+    /// The extension of the second arm.
+    pub arm2: u16,
+    /// The rotation.
+    pub rotation: u16,
+}
+
+/// The press's sensors, all switches.
+#[derive(Clone, Copy, Debug, PartialEq, Eq, Default)]
+pub struct PressSense {
+    /// At the bottom, where the second arm unloads.
+    pub bottom: bool,
+    /// At the middle, where the first arm loads.
+    pub middle: bool,
+    /// At the top, where it forges.
+    pub top: bool,
+}
+
+/// The deposit belt's sensors.
+#[derive(Clone, Copy, Debug, PartialEq, Eq, Default)]
+pub struct DepositSense {
+    /// A plate is in the light barrier at the belt's end.
+    pub barrier: bool,
+}
+
+/// The crane's sensors.
+#[derive(Clone, Copy, Debug, PartialEq, Eq, Default)]
+pub struct CraneSense {
+    /// The switch over the deposit belt.
+    pub deposit: bool,
+    /// The switch over the feed belt.
+    pub feed: bool,
+    /// The raw value of the gripper's height.
+    pub gripper: u16,
+}
+
+impl TableSense {
+    /// Whether the switches can be on together: `Clash` exactly where both ends are.
+    pub fn agree(&self) -> Result<(), SensorFault>
+        ensures ok { IsOk result ↔ ¬ (TableClashes self.now) }
+        ensures clash { (result ≡ Err SensorFault.Clash) ↔ TableClashes self.now }
+    {
+        if self.bottom && self.top {
+            return Err(SensorFault::Clash);
+        }
+        Ok(())
+    }
+}
+
+impl PressSense {
+    /// Whether the switches can be on together: `Clash` exactly where two positions are.
+    pub fn agree(&self) -> Result<(), SensorFault>
+        ensures ok { IsOk result ↔ ¬ (PressClashes self.now) }
+        ensures clash { (result ≡ Err SensorFault.Clash) ↔ PressClashes self.now }
+    {
+        if (self.bottom && self.middle) || (self.bottom && self.top) || (self.middle && self.top) {
+            return Err(SensorFault::Clash);
+        }
+        Ok(())
+    }
+}
+
+impl CraneSense {
+    /// Whether the switches can be on together: `Clash` exactly where both ends are.
+    pub fn agree(&self) -> Result<(), SensorFault>
+        ensures ok { IsOk result ↔ ¬ (CraneClashes self.now) }
+        ensures clash { (result ≡ Err SensorFault.Clash) ↔ CraneClashes self.now }
+    {
+        if self.deposit && self.feed {
+            return Err(SensorFault::Clash);
+        }
+        Ok(())
+    }
+}
+
+/// The fourteen sensors of the cell.
+#[derive(Clone, Copy, Debug, PartialEq, Eq, Default)]
+pub struct SensorVector {
+    /// The press at its bottom.
+    pub press_bottom: bool,
+    /// The press at its middle.
+    pub press_middle: bool,
+    /// The press at its top.
+    pub press_top: bool,
+    /// The raw value of the first arm's extension.
+    pub arm1: u16,
+    /// The raw value of the second arm's extension.
+    pub arm2: u16,
+    /// The raw value of the robot's rotation.
+    pub rotation: u16,
+    /// The table at its bottom.
+    pub table_bottom: bool,
+    /// The table at its top.
+    pub table_top: bool,
+    /// The raw value of the table's rotation.
+    pub table_turn: u16,
+    /// The crane over the deposit belt.
+    pub crane_deposit: bool,
+    /// The crane over the feed belt.
+    pub crane_feed: bool,
+    /// The raw value of the gripper's height.
+    pub gripper: u16,
+    /// A plate in the light barrier at the end of the deposit belt.
+    pub deposit_barrier: bool,
+    /// A plate in the light barrier at the end of the feed belt.
+    pub feed_barrier: bool,
+}
+
+impl SensorVector {
+    /// The feed belt's part.
+    pub fn feed(&self) -> FeedSense
+        ensures { result ≡ feed_part self.now }
+    {
+        FeedSense {
+            barrier: self.feed_barrier,
+        }
+    }
+
+    /// The table's part.
+    pub fn table(&self) -> TableSense
+        ensures { result ≡ table_part self.now }
+    {
+        TableSense {
+            bottom: self.table_bottom,
+            top: self.table_top,
+            turn: self.table_turn,
+        }
+    }
+
+    /// The robot's part.
+    pub fn robot(&self) -> RobotSense
+        ensures { result ≡ robot_part self.now }
+    {
+        RobotSense {
+            arm1: self.arm1,
+            arm2: self.arm2,
+            rotation: self.rotation,
+        }
+    }
+
+    /// The press's part.
+    pub fn press(&self) -> PressSense
+        ensures { result ≡ press_part self.now }
+    {
+        PressSense {
+            bottom: self.press_bottom,
+            middle: self.press_middle,
+            top: self.press_top,
+        }
+    }
+
+    /// The deposit belt's part.
+    pub fn deposit(&self) -> DepositSense
+        ensures { result ≡ deposit_part self.now }
+    {
+        DepositSense {
+            barrier: self.deposit_barrier,
+        }
+    }
+
+    /// The crane's part.
+    pub fn crane(&self) -> CraneSense
+        ensures { result ≡ crane_part self.now }
+    {
+        CraneSense {
+            deposit: self.crane_deposit,
+            feed: self.crane_feed,
+            gripper: self.gripper,
+        }
+    }
+}
+
+/// Whether the switches of the whole cell can be on together: `Clash` exactly where those of the
+/// press, the table or the crane can't.
+pub fn switches_agree(sensors: &SensorVector) -> Result<(), SensorFault>
+    ensures ok { IsOk result ↔ ¬ (SwitchesClash sensors.now) }
+    ensures clash { (result ≡ Err SensorFault.Clash) ↔ SwitchesClash sensors.now }
+{
+    sensors.press().agree()?;
+    sensors.table().agree()?;
+    sensors.crane().agree()
+}

@@ -1,0 +1,38 @@
+ghost use Rattle.std.specs.Prelude.{◌≡◌, ◌↔◌, pos, ◌+ℤ◌, ◌-ℤ◌, ◌*ℤ◌, ◌≤ℤ◌, ◌<ℤ◌};
+ghost use Rattle.cell_calib.specs.Line.{IsNear};
+ghost use Rattle.cell_devices.specs.Drives.{MovesLine};
+
+use crate::motor::Motor;
+use crate::stops::Stop;
+
+/// Drives towards a stop by a reading: off within half less the tolerance of the target, else plus
+/// below it and minus above it.
+///
+/// So where the reading is within the tolerance of the exact line, the motor is off only where the
+/// line is within half of the target, plus only where it is below, minus only where it is above.
+pub fn drive(stop: Stop, tol: i32, read: i32) -> Motor
+    requires { (pos 2 *ℤ tol) ≤ℤ pos stop.half }
+    ensures off { (result ≡ Motor.Off) ↔ IsNear read stop.target (pos stop.half -ℤ tol) }
+    ensures plus { (result ≡ Motor.Plus) ↔ (read <ℤ (stop.target -ℤ (pos stop.half -ℤ tol))) }
+    ensures minus { (result ≡ Motor.Minus) ↔ ((stop.target +ℤ (pos stop.half -ℤ tol)) <ℤ read) }
+    ensures line { MovesLine stop.target (pos stop.half) tol read result }
+{
+    let above = i64::from(read) - i64::from(stop.target);
+    towards(above, i64::from(stop.half) - i64::from(tol))
+}
+
+// Off within a window round 0, else plus below it and minus above it.
+fn towards(above: i64, window: i64) -> Motor
+    requires { pos 0 ≤ℤ window }
+    ensures off { (result ≡ Motor.Off) ↔ IsNear above (pos 0) window }
+    ensures plus { (result ≡ Motor.Plus) ↔ ((above +ℤ window) <ℤ pos 0) }
+    ensures minus { (result ≡ Motor.Minus) ↔ (window <ℤ above) }
+{
+    if above < -window {
+        Motor::Plus
+    } else if above > window {
+        Motor::Minus
+    } else {
+        Motor::Off
+    }
+}
