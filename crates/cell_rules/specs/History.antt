@@ -18,7 +18,8 @@ use Rattle.cell_rules.specs.ModelState.{ModelState, zone_at, is_full, one_if}
 use Rattle.cell_types.specs.declared.posture.Posture.{Posture}
 use Rattle.cell_types.specs.declared.posture.Posture.TheVariants.{Closed, Moving, OpenIn, OpenOut}
 use Rattle.cell_types.specs.Tables.{posture_of, transfer_of}
-use Rattle.cell_rules.specs.Refusals.{owns, posture_at, work_of}
+use Rattle.cell_rules.specs.Refusals.{owns, posture_at}
+use Rattle.cell_types.specs.Ways.{work_of}
 use Rattle.cell_rules.specs.Reply.{reply, next, other_party, is_belt_of}
 
 -- the state after a history
@@ -160,19 +161,6 @@ is_taken_from z e = is_done e && takes e.call z
 
 abbrev pub plates_in_transfer : ModelState → List Event → Zone → ℤ
 plates_in_transfer s history z = pos (one_if (zone_at s z).flag + count_by (is_given_into z) history) -ℤ pos (count_by (is_taken_from z) history)
-
--- the machine that a place belongs to: its Take, Give or Advance changes it
-abbrev pub keeper_of : Place → Machine
-keeper_of FeedEntry = Feed
-keeper_of FeedEnd = Feed
-keeper_of Table = TableMachine
-keeper_of Arm1 = Robot
-keeper_of Arm2 = Robot
-keeper_of PressIn = Press
-keeper_of PressOut = Press
-keeper_of DepEntry = Deposit
-keeper_of DepEnd = Deposit
-keeper_of Crane = CraneMachine
 
 -- a zone moves
 abbrev pub Moves : ModelState → List Event → Zone → Type 0

@@ -14,10 +14,11 @@ use Rattle.cell_types.specs.declared.call.Call.TheVariants.{SetPose, Advance}
 use Rattle.cell_types.specs.declared.answer.Answer.TheVariants.{Done}
 use Rattle.cell_types.specs.declared.answer.Event.{Event}
 use Rattle.cell_types.specs.Tables.{host_of, guest_of, transfer_of, posture_of}
+use Rattle.cell_types.specs.Ways.{keeper_of}
 use Rattle.cell_rules.specs.ModelState.{ModelState, zone_at, is_full, plates_of, one_if}
 use Rattle.cell_rules.specs.Sound.{IsSound, is_party, is_open}
 use Rattle.cell_rules.specs.Refusals.{owns, posture_at, is_moving_pose, passes_through_moving}
-use Rattle.cell_rules.specs.History.{after, IsLegal, own_events, done_count, Holds, Moves, posture_by_events, plates_at, plates_in_transfer, keeper_of}
+use Rattle.cell_rules.specs.History.{after, IsLegal, own_events, done_count, Holds, Moves, posture_by_events, plates_at, plates_in_transfer}
 
 -- a law holds of each beginning of a history
 abbrev pub Throughout : (List Event → Type 0) → List Event → Type 0

@@ -1,5 +1,6 @@
 pub mod ZoneMap
 pub mod PlaceSet
+pub mod MapLaws
 pub mod ModelState
 pub mod Sound
 pub mod SoundTest

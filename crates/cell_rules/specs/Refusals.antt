@@ -18,6 +18,7 @@ use Rattle.cell_types.specs.declared.answer.Refusal.{Refusal}
 use Rattle.cell_types.specs.declared.answer.Refusal.TheVariants.{NotParty, Held, AlreadyMine, Shut, NotOwner, PlateInZone, NoPlate, PlaceFull, WrongWay, Jump, NotAtWork, NoPose, Worn, InUse}
 use Rattle.cell_types.specs.Everything.{all_zones}
 use Rattle.cell_types.specs.Tables.{host_of, guest_of, transfer_of, posture_of}
+use Rattle.cell_types.specs.Ways.{work_of}
 use Rattle.cell_types.specs.Same.{same_machine, same_posture, same_zone, same_pose}
 use Rattle.cell_rules.specs.ModelState.{ModelState, zone_at, is_full, last_stamp}
 use Rattle.cell_rules.specs.Sound.{is_open, is_owned_by, is_party}
@@ -165,13 +166,6 @@ opens_onto_plate s m p z = then_some (opens s m p z && is_blocked s z) PlaceFull
 abbrev pub runs_onto_plate : ModelState → Machine → Pose → Option Refusal
 runs_onto_plate s m p =
     then_some (same_pose p Running && ((same_machine m Deposit && is_full s DepEnd) || (same_machine m Feed && is_full s FeedEnd && not (owns s Feed Z1)))) PlaceFull
-
--- the way of a plate along a belt, or from loaded to forged
-abbrev pub work_of : Machine → Option (Place × Place)
-work_of Feed = Some (FeedEntry, FeedEnd)
-work_of Deposit = Some (DepEntry, DepEnd)
-work_of Press = Some (PressIn, PressOut)
-work_of _ = None
 
 abbrev pub has_no_work : Machine → Option Refusal
 has_no_work m = then_some (is_none (work_of m)) NoPose

@@ -14,11 +14,12 @@ use Rattle.cell_types.specs.declared.answer.Answer.{Answer}
 use Rattle.cell_types.specs.declared.answer.Answer.TheVariants.{Done, Shown, Refused}
 use Rattle.cell_types.specs.Tables.{host_of, guest_of, transfer_of, posture_of}
 use Rattle.cell_types.specs.Same.{same_machine}
+use Rattle.cell_types.specs.Ways.{work_of}
 use Rattle.cell_rules.specs.declared.zones.ZoneState.{ZoneState}
 use Rattle.cell_rules.specs.ZoneMap.{ZoneMap, put_zone, map_zones}
 use Rattle.cell_rules.specs.PlaceSet.{PlaceSet, put_place}
 use Rattle.cell_rules.specs.ModelState.{ModelState, zone_at}
-use Rattle.cell_rules.specs.Refusals.{claim_refusal, give_refusal, yield_refusal, take_refusal, release_refusal, pose_refusal, advance_refusal, gift, work_of, posture_at}
+use Rattle.cell_rules.specs.Refusals.{claim_refusal, give_refusal, yield_refusal, take_refusal, release_refusal, pose_refusal, advance_refusal, gift, posture_at}
 
 -- the first refusal of a call
 abbrev pub refusal : ModelState → Machine → Call → Option Refusal

@@ -3,6 +3,8 @@
 
 mod answers;
 mod changes;
+pub mod laws;
+pub mod maps;
 pub mod places;
 mod poses;
 mod refusals;
@@ -14,3 +16,6 @@ pub use answers::{answer, apply};
 pub use places::Places;
 pub use state::{StartFault, State};
 pub use zones::{ZoneState, Zones};
+
+#[cfg(test)]
+mod tests;

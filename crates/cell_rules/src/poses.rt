@@ -3,7 +3,7 @@ ghost use Rattle.std.specs.Prelude.{◌≡◌};
 ghost use Rattle.cell_rules.specs.Refusals as refusals;
 
 use crate::state::State;
-use cell_types::{Machine, Place, Pose, Posture, Refusal, Zone, host, posture_in, transfer};
+use cell_types::{Machine, Place, Pose, Posture, Refusal, Zone, host, posture_in, transfer, work};
 
 /// Whether a pose gives a zone of a machine a posture.
 fn has_pose(machine: Machine, pose: Pose) -> bool
@@ -24,18 +24,6 @@ fn passes_through_moving(machine: Machine) -> bool
     ensures { result ≡ refusals.passes_through_moving machine }
 {
     machine == Machine::Table || machine == Machine::Press
-}
-
-/// The way of a plate along a belt, or from loaded to forged.
-pub fn work(machine: Machine) -> Option<(Place, Place)>
-    ensures { result ≡ refusals.work_of machine }
-{
-    match machine {
-        Machine::Feed => Some((Place::FeedEntry, Place::FeedEnd)),
-        Machine::Deposit => Some((Place::DepEntry, Place::DepEnd)),
-        Machine::Press => Some((Place::PressIn, Place::PressOut)),
-        _ => None,
-    }
 }
 
 fn has_no_work(machine: Machine) -> Option<Refusal>

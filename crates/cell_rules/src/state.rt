@@ -8,10 +8,9 @@ ghost use Rattle.cell_rules.specs.Reply as replies;
 
 use crate::changes::other_party;
 use crate::places::Places;
-use crate::poses::work;
 use crate::sound::is_sound;
 use crate::zones::{ZoneState, Zones};
-use cell_types::{Call, Machine, Place, Posture, Zone, transfer};
+use cell_types::{Call, Machine, Place, Posture, Zone, transfer, work};
 use std::marker::Model;
 
 /// A state of the interlock.
@@ -191,7 +190,7 @@ impl State {
     {
         match call {
             Call::Give(zone) => self.full.emptied(self.gift(machine, zone)),
-            Call::Take(zone) => self.full.filled(transfer(zone, self.zone(zone).posture)),
+            Call::Take(zone) => self.full.filled(transfer(zone, self.posture(zone))),
             Call::Advance => self.full.worked(work(machine)),
             _ => self.full,
         }

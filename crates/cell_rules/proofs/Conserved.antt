@@ -1,0 +1,87 @@
+-- The number of plates never changes, and the events tell where they are.
+use Rattle.std.proofs.Common.{◌≡◌, ℕ, ◌+◌, pos, ◌-ℤ◌, Bool, true, false, List, refl, sym, ap, ◌∙◌, arith}
+use Rattle.std.proofs.lemmas.Int.{ints}
+use Rattle.cell_types.specs.declared.machine.Machine.{Machine}
+use Rattle.cell_types.specs.declared.zone.Zone.{Zone}
+use Rattle.cell_types.specs.declared.zone.Zone.TheVariants.{Z1, Z2, Z3, Z4, Z5, Z6}
+use Rattle.cell_types.specs.declared.place.Place.{Place}
+use Rattle.cell_types.specs.declared.call.Call.{Call}
+use Rattle.cell_types.specs.declared.call.Call.TheVariants.{Claim, Give, Yield, Take, Release, SetPose, Advance, Inquire}
+use Rattle.cell_types.specs.declared.answer.Answer.TheVariants.{Done}
+use Rattle.cell_types.specs.declared.answer.Event.{Event}
+use Rattle.cell_rules.specs.declared.zones.ZoneState.{ZoneState}
+use Rattle.cell_rules.specs.ZoneMap.{ZoneMap, zone_in, put_zone, map_zones}
+use Rattle.cell_rules.specs.PlaceSet.{PlaceSet, has, put_place}
+use Rattle.cell_rules.specs.ModelState.{ModelState, zone_at, size_of, flags_of, plates_of, one_if}
+use Rattle.cell_rules.specs.Sound.{IsSound}
+use Rattle.cell_rules.specs.Refusals.{give_refusal, take_refusal, advance_refusal}
+use Rattle.cell_rules.specs.Reply.{reply, changed, emptied, filled, worked, halted, is_belt_of}
+use Rattle.cell_rules.specs.History.{IsLegal}
+use Rattle.cell_rules.specs.Laws.{PlatesAreKept}
+use Rattle.cell_rules.proofs.Puts.{each_zone, each_place}
+use Rattle.cell_rules.proofs.Kept.{claimed, yielded, released}
+use Rattle.cell_rules.proofs.Plates.{given, taken}
+use Rattle.cell_rules.proofs.Transfers.{give_finds, take_finds, advance_finds}
+use Rattle.cell_rules.proofs.Counted.{Balanced, counted, places-counted, room-left}
+use Rattle.cell_rules.proofs.Flags.{halted-flag, flags-counted}
+use Rattle.cell_rules.proofs.Soundness.{done_none}
+
+size-put : (full : PlaceSet) (b : Bool) (p : Place) → size_of (put_place full p b) + one_if (has full p) ≡ size_of full + one_if b
+size-put full b =
+    each_place (λ p. size_of (put_place full p b) + one_if (has full p) ≡ size_of full + one_if b)
+    (omega arith) (omega arith) (omega arith) (omega arith) (omega arith) (omega arith) (omega arith) (omega arith) (omega arith) (omega arith)
+
+flags-put : (m : ZoneMap) (v : ZoneState) (z : Zone) → flags_of (put_zone m z v) + one_if (zone_in m z).flag ≡ flags_of m + one_if v.flag
+flags-put m v =
+    each_zone (λ z. flags_of (put_zone m z v) + one_if (zone_in m z).flag ≡ flags_of m + one_if v.flag)
+    (omega arith) (omega arith) (omega arith) (omega arith) (omega arith) (omega arith)
+
+flags-halted : (s : ModelState) (n : Machine) → flags_of (map_zones (halted n) s.zones) ≡ flags_of s.zones
+flags-halted s n =
+    let same = λ (z : Zone). ap one_if (halted-flag (is_belt_of n z) (zone_at s z)) in
+    omega (arith, same Z1, same Z2, same Z3, same Z4, same Z5, same Z6)
+
+-- a plate less where a full place is emptied, one more where an empty one is filled, and as many where one goes from place to place
+size-emptied : (full : PlaceSet) (p : Place) → has full p ≡ true → size_of (put_place full p false) + 1 ≡ size_of full
+size-emptied full p there = omega (arith, size-put full false p, ap one_if there)
+
+size-filled : (full : PlaceSet) (p : Place) → has full p ≡ false → size_of (put_place full p true) ≡ size_of full + 1
+size-filled full p room = omega (arith, size-put full true p, ap one_if room)
+
+size-worked : (full : PlaceSet) (way : Place × Place) → has full way.0 ≡ true → has full way.1 ≡ false → size_of (put_place (put_place full way.0 false) way.1 true) ≡ size_of full
+size-worked full way there room = size-filled (put_place full way.0 false) way.1 (room-left full way.0 way.1 room) ∙ size-emptied full way.0 there
+
+plates-changed : (s : ModelState) (n : Machine) (c : Call) → IsSound s → reply s n c ≡ Done → plates_of (changed s n c) ≡ plates_of s
+plates-changed s n (Claim y) h e = omega (arith, flags-put s.zones (claimed (zone_at s y) n y) y)
+plates-changed s n (Give y) h e =
+    let found = give_finds s n y (done_none (give_refusal s n y) e) in
+    let way = ap (λ t. size_of (emptied s.full t)) found.way in
+    omega (arith, way, size-emptied s.full found.row.from found.there, flags-put s.zones (given (zone_at s y) n y) y, ap one_if found.clear)
+plates-changed s n (Yield y) h e = omega (arith, flags-put s.zones (yielded (zone_at s y) n y) y)
+plates-changed s n (Take y) h e =
+    let found = take_finds s n y h (done_none (take_refusal s n y) e) in
+    let way = ap (λ t. size_of (filled s.full t)) found.way in
+    omega (arith, way, size-filled s.full found.row.to found.room, flags-put s.zones (taken (zone_at s y) n y) y, ap one_if found.set)
+plates-changed s n (Release y) h e = omega (arith, flags-put s.zones (released (zone_at s y) n y) y)
+plates-changed s n (SetPose p) h e = refl
+plates-changed s n Advance h e =
+    let found = advance_finds s n (done_none (advance_refusal s n) e) in
+    let way = ap (λ w. size_of (worked s.full w)) found.work in
+    omega (arith, way, flags-halted s n, size-worked s.full found.way found.there found.room)
+plates-changed s n (Inquire y) h e = cc
+
+abbrev never : Machine → Call → Bool
+never n c = false
+
+balanced : (s : ModelState) (n : Machine) (c : Call) → IsSound s → reply s n c ≡ Done → Balanced plates_of never never s n c
+balanced s n c h e = ap (λ k. k + 0) (sym (plates-changed s n c h e))
+
+difference : (a b c : ℕ) → a ≡ c + b → pos a -ℤ pos b ≡ pos c
+difference a b c e = omega (arith, ints)
+
+pub plates-kept : (s : ModelState) (h : List Event) → IsSound s → IsLegal s h → PlatesAreKept s h
+plates-kept s h k l = record {
+  at_place = λ p. difference _ _ _ (places-counted s h p k l);
+  in_transfer = λ z. difference _ _ _ (flags-counted s h z k l);
+  total = let same = counted plates_of never never balanced s h k l in omega (arith, same);
+}

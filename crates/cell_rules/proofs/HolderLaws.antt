@@ -1,0 +1,45 @@
+-- Whose a zone is: the laws, of one legal history from a sound opening.
+use Rattle.std.proofs.Common.{◌≡◌, true, ◌||◌, is_none, List, sym, ap, ◌∙◌, ◌↔◌, IsTrue, subst}
+use Rattle.cell_types.specs.declared.machine.Machine.{Machine}
+use Rattle.cell_types.specs.declared.machine.Machine.TheVariants.{Robot, Press}
+use Rattle.cell_types.specs.declared.zone.Zone.{Zone}
+use Rattle.cell_types.specs.declared.zone.Zone.TheVariants.{Z3}
+use Rattle.cell_types.specs.declared.posture.Posture.TheVariants.{Moving}
+use Rattle.cell_types.specs.declared.answer.Event.{Event}
+use Rattle.cell_types.specs.Tables.{host_of, guest_of}
+use Rattle.cell_types.specs.Same.{same_posture}
+use Rattle.cell_rules.specs.ModelState.{ModelState}
+use Rattle.cell_rules.specs.Sound.{IsSound, is_owned_by, is_open}
+use Rattle.cell_rules.specs.Refusals.{owns, owner_of, posture_at}
+use Rattle.cell_rules.specs.History.{after, IsLegal, Holds, Moves}
+use Rattle.cell_rules.specs.Laws.{OneHolder, MoverIsHost, GuestOnlyWhileOpen}
+use Rattle.cell_rules.proofs.Tables.{implied}
+use Rattle.cell_rules.proofs.Histories.{sound-after}
+use Rattle.cell_rules.proofs.Holders.{owner_is}
+use Rattle.cell_rules.proofs.HoldsLemmas.{holds_iff_owns}
+use Rattle.cell_rules.proofs.Postures.{posture-after}
+
+pub one_holder : (s : ModelState) → IsSound s → (h : List Event) → IsLegal s h → OneHolder s h
+one_holder s k h l =
+    let owner : (m : Machine) (z : Zone) → Holds s h m z ↔ IsTrue (owns (after s h) m z) = λ m z. holds_iff_owns s h m z l in
+    let is = λ (m : Machine) (z : Zone) (held : Holds s h m z). owner_is (owner_of (after s h) z) m ((owner m z).0 held) in
+    record {
+      alone = λ m n z held also. let one = is m z held in let other = is n z also in cc;
+      party = λ m z held. subst (λ o. (is_none o || is_owned_by o (host_of z) || is_owned_by o (guest_of z)) ≡ true) (is m z held) ((sound-after s h k).owner_is_party z);
+      owner = owner;
+    }
+
+pub mover_is_host : (s : ModelState) → IsSound s → (h : List Event) → IsLegal s h → MoverIsHost s h
+mover_is_host s k h l =
+    let hosts : (z : Zone) → Moves s h z → Holds s h (host_of z) z = λ z moves.
+    (holds_iff_owns s h (host_of z) z l).1
+    (implied (same_posture (posture_at (after s h) z) Moving) (owns (after s h) (host_of z) z) ((sound-after s h k).moving_belongs_to_host z) (ap (λ p. same_posture p Moving) (posture-after s h z l ∙ moves))) in
+    record {
+      host = hosts;
+      press = λ moves held. let one : Press ≡ Robot = (one_holder s k h l).alone Press Robot Z3 (hosts Z3 moves) held in cc;
+    }
+
+pub guest_only_while_open : (s : ModelState) → IsSound s → (h : List Event) → IsLegal s h → GuestOnlyWhileOpen s h
+guest_only_while_open s k h l z held =
+    ap is_open (sym (posture-after s h z l))
+    ∙ implied (owns (after s h) (guest_of z) z) (is_open (posture_at (after s h) z)) ((sound-after s h k).guest_only_while_open z) ((holds_iff_owns s h (guest_of z) z l).0 held)

@@ -1,0 +1,49 @@
+-- The posture by the events is that of the state after.
+use Rattle.std.proofs.Common.{◌≡◌, Bool, true, false, List, [], ◌∷◌, refl, sym, ap, ◌∙◌, subst, if◌then◌else◌}
+use Rattle.cell_types.specs.declared.machine.Machine.{Machine}
+use Rattle.cell_types.specs.declared.zone.Zone.{Zone}
+use Rattle.cell_types.specs.declared.posture.Posture.TheVariants.{Closed}
+use Rattle.cell_types.specs.declared.call.Call.{Call}
+use Rattle.cell_types.specs.declared.call.Call.TheVariants.{Claim, Give, Yield, Take, Release, SetPose, Advance, Inquire}
+use Rattle.cell_types.specs.declared.answer.Answer.{Answer}
+use Rattle.cell_types.specs.declared.answer.Answer.TheVariants.{Done, Shown, Refused}
+use Rattle.cell_types.specs.declared.answer.Event.{Event}
+use Rattle.cell_rules.specs.declared.zones.ZoneState.{ZoneState}
+use Rattle.cell_rules.specs.ZoneMap.{zone_in, put_zone}
+use Rattle.cell_rules.specs.ModelState.{ModelState, zone_at}
+use Rattle.cell_rules.specs.Refusals.{posture_at}
+use Rattle.cell_rules.specs.Reply.{reply, next, next_by, changed, posed, halted, is_belt_of}
+use Rattle.cell_rules.specs.History.{after, IsLegal, is_done_answer, posture_given, posture_since, posture_by_events}
+use Rattle.cell_rules.proofs.Puts.{zone_in-map, zone_in-kept}
+use Rattle.cell_rules.proofs.Kept.{claimed, yielded, released}
+use Rattle.cell_rules.proofs.Plates.{given, taken}
+
+-- a zone that is put with its posture
+put_kept : (s : ModelState) (y : Zone) (v : ZoneState) → v.posture ≡ posture_at s y → (z : Zone) → (zone_in (put_zone s.zones y v) z).posture ≡ posture_at s z
+put_kept s y v e z = zone_in-kept (λ x u. u.posture ≡ posture_at s x) s.zones v (λ x. refl) y e z
+
+posture-halted : (t : Bool) (v : ZoneState) → (if t then record v { posture = Closed } else v).posture ≡ (if t then Closed else v.posture)
+posture-halted true v = refl
+posture-halted false v = refl
+
+pub posture-changed : (s : ModelState) (n : Machine) (c : Call) (z : Zone) → posture_at (changed s n c) z ≡ posture_given n c z (posture_at s z)
+posture-changed s n (Claim y) z = put_kept s y (claimed (zone_at s y) n y) refl z
+posture-changed s n (Give y) z = put_kept s y (given (zone_at s y) n y) refl z
+posture-changed s n (Yield y) z = put_kept s y (yielded (zone_at s y) n y) refl z
+posture-changed s n (Take y) z = put_kept s y (taken (zone_at s y) n y) refl z
+posture-changed s n (Release y) z = put_kept s y (released (zone_at s y) n y) refl z
+posture-changed s n (SetPose p) z = ap (λ (v : ZoneState). v.posture) (zone_in-map (posed n p) s.zones z)
+posture-changed s n Advance z = ap (λ (v : ZoneState). v.posture) (zone_in-map (halted n) s.zones z) ∙ posture-halted (is_belt_of n z) (zone_at s z)
+posture-changed s n (Inquire y) z = refl
+
+posture_by : (a : Answer) (s : ModelState) (n : Machine) (c : Call) (z : Zone) → posture_at (next_by a s n c) z ≡ (if is_done_answer a then posture_given n c z (posture_at s z) else posture_at s z)
+posture_by Done s n c z = posture-changed s n c z
+posture_by (Shown o f p) s n c z = refl
+posture_by (Refused r) s n c z = refl
+
+pub posture-after : (s : ModelState) (h : List Event) (z : Zone) → IsLegal s h → posture_at (after s h) z ≡ posture_by_events s h z
+posture-after s [] z l = refl
+posture-after s (e ∷ h) z l =
+    let A : Answer → Type 0 = λ a. posture_at (next s e.machine e.call) z ≡ (if is_done_answer a then posture_given e.machine e.call z (posture_at s z) else posture_at s z) in
+    let here = subst A (sym l.0) (posture_by (reply s e.machine e.call) s e.machine e.call z) in
+    posture-after (next s e.machine e.call) h z l.1 ∙ ap (λ p. posture_since p h z) here

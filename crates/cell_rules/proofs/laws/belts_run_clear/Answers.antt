@@ -1,0 +1,11 @@
+use Rattle.std.proofs.Common.{subst}
+use Rattle.cell_rules.specs.Sound.{IsSound}
+use Rattle.cell_rules.specs.Laws.{BeltsRunClear}
+use Rattle.cell_rules.proofs.Histories.{throughout}
+use Rattle.cell_rules.proofs.Assembly.{belts_run_clear}
+use Rattle.cell_rules.proofs.laws.belts_run_clear.Goals as goal
+
+pub returns : goal.returns
+returns c =
+    let s = c.args.opening.now in
+    throughout s (BeltsRunClear s) (belts_run_clear s (subst IsSound c.opening.view_is c.opening.invariant) c.requires.clear) c.args.history.now c.requires.legal

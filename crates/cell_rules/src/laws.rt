@@ -1,0 +1,104 @@
+//! What is so on every legal history from a sound opening, and on each beginning of it: laws, in
+//! functions that do nothing. A history is the list of the events since the opening, oldest first.
+ghost use Rattle.std.specs.Prelude.{◌++◌};
+ghost use Rattle.cell_rules.specs.History.{IsLegal};
+ghost use Rattle.cell_rules.specs.Laws as law;
+ghost use Rattle.cell_rules.specs.Laws.{Throughout, RunsClear};
+ghost use Rattle.cell_rules.specs.Start.{IsOpening};
+
+use crate::state::State;
+use cell_types::Event;
+
+/// No two machines hold one zone, a holder is a party of it, and it is the zone's owner in the
+/// state after the history.
+pub fn one_holder(opening: &State, history: &[Event])
+    requires { IsLegal opening.now history.now }
+    ensures { Throughout (law.OneHolder opening.now) history.now }
+{
+    let _ = &opening.stamp;
+}
+
+/// Where a zone moves its host holds it. So while the press moves the robot doesn't hold its interior.
+pub fn mover_is_host(opening: &State, history: &[Event])
+    requires { IsLegal opening.now history.now }
+    ensures { Throughout (law.MoverIsHost opening.now) history.now }
+{
+    let _ = &opening.stamp;
+}
+
+/// A guest holds a zone only while its posture is open.
+pub fn guest_only_while_open(opening: &State, history: &[Event])
+    requires { IsLegal opening.now history.now }
+    ensures { Throughout (law.GuestOnlyWhileOpen opening.now) history.now }
+{
+    let _ = &opening.stamp;
+}
+
+/// By the events each place and each zone has one plate or none, as the state after the history has,
+/// and the number of plates never changes.
+pub fn plates_are_kept(opening: &State, history: &[Event])
+    requires { IsLegal opening.now history.now }
+    ensures { Throughout (law.PlatesAreKept opening.now) history.now }
+{
+    let _ = &opening.stamp;
+}
+
+/// The stamp counts the Done events.
+pub fn stamp_counts_changes(opening: &State, history: &[Event])
+    requires { IsLegal opening.now history.now }
+    ensures { Throughout (law.StampCountsChanges opening.now) history.now }
+{}
+
+/// The feed belt runs with a plate at its end only while feed holds the table's zone, and the deposit
+/// belt only while its end is empty, where the opening keeps this.
+pub fn belts_run_clear(opening: &State, history: &[Event])
+    requires legal { IsLegal opening.now history.now }
+    requires clear { RunsClear opening.now }
+    ensures { Throughout (law.BeltsRunClear opening.now) history.now }
+{
+    let _ = &opening.stamp;
+}
+
+/// Every start keeps that.
+pub fn starts_run_clear(opening: &State)
+    requires { IsOpening opening.now }
+    ensures { RunsClear opening.now }
+{}
+
+/// What a machine holds stays held, with its posture and its flag, while other machines make the
+/// events; and so do the machine's own places.
+pub fn right_lasts(opening: &State, before: &[Event], more: &[Event])
+    requires { IsLegal opening.now (before.now ++ more.now) }
+    ensures { law.RightLasts opening.now before.now more.now }
+{
+    let _ = &opening.stamp;
+}
+
+/// The posture by the events is that of the state after.
+pub fn posture_by_events(opening: &State, history: &[Event])
+    requires { IsLegal opening.now history.now }
+    ensures { Throughout (law.PostureByEvents opening.now) history.now }
+{}
+
+/// The state after is sound.
+pub fn stays_sound(opening: &State, history: &[Event])
+    requires { IsLegal opening.now history.now }
+    ensures { Throughout (law.StaysSound opening.now) history.now }
+{
+    let _ = &opening.stamp;
+}
+
+/// Table and press don't jump to a pose, a zone opens inward onto an empty place only, and the press
+/// forges only while it holds its interior and is Closed.
+pub fn events_fit(opening: &State, history: &[Event])
+    requires { IsLegal opening.now history.now }
+    ensures { law.EventsFit opening.now history.now }
+{}
+
+/// All of these, of each beginning of the history.
+pub fn lawful_throughout(opening: &State, history: &[Event])
+    requires { IsLegal opening.now history.now }
+    ensures { law.LawfulThroughout opening.now history.now }
+{
+    let _ = &opening.stamp;
+}

@@ -1,0 +1,25 @@
+//! That the map of the zones is a map and the set of the places a set: laws, in functions that do nothing.
+ghost use Rattle.cell_rules.specs.MapLaws as law;
+
+/// Look-up after an update, at that zone and at another; two maps that agree at each zone are equal;
+/// and what each zone has where a function is mapped over them, or one value put everywhere.
+pub fn zones_are_a_map()
+    ensures { law.ZonesAreAMap }
+{}
+
+/// Membership after an insertion and a removal, at that place and at another; two sets with the same
+/// members are equal; and the empty set has none.
+pub fn places_are_a_set()
+    ensures { law.PlacesAreASet }
+{}
+
+/// The map of the zones has the look-ups and the updates of std's finite map.
+pub fn zones_are_std_map()
+    ensures { law.ZonesAreStdMap }
+{}
+
+/// The set of the places has the membership, the insertions and the removals of std's finite set, and
+/// its empty set.
+pub fn places_are_std_set()
+    ensures { law.PlacesAreStdSet }
+{}
