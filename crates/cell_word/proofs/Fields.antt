@@ -1,0 +1,82 @@
+-- Fields that stand side by side read back from their word.
+use Rattle.std.proofs.Common.{◌≡◌, ℕ, ◌+◌, ◌*◌, ◌/◌, ◌<◌, ◌^◌, List, [], ◌∷◌, sym, ap, ◌∙◌, subst, arith}
+use Rattle.std.specs.List.{All}
+use Rattle.std.proofs.Math.Nat.{add-mul, add_assoc, mul_assoc, mul_comm}
+use Rattle.std.proofs.lemmas.Nat.{pow-add, mul-add-lt, shr_high, mod_low}
+use Rattle.std.proofs.lemmas.List.Sums.{sum_by-cons}
+use Rattle.std.proofs.lemmas.List.Elements.{All-nil, All-cons, All-head, All-tail}
+use Rattle.cell_word.specs.Layout.{Field, term_of, word_of}
+use Rattle.cell_word.specs.Reading.{bits_of}
+use Rattle.cell_word.specs.Laws.{Fits, SideBySide, ReadsBack}
+
+-- the fields as one number, from their lowest bit on
+abbrev pub stacked : List Field → ℕ
+stacked [] = 0
+stacked (f ∷ fs) = stacked fs * 2 ^ f.width + f.value
+
+arranged : (s w t v : ℕ) → v * t + s * (t * w) ≡ (s * w + v) * t
+arranged s w t v =
+    let over : (s * w + v) * t ≡ s * w * t + v * t = add-mul (s * w) v t in
+    let assoc : s * w * t ≡ s * (w * t) = mul_assoc s w t in
+    let turned : s * (t * w) ≡ s * (w * t) = ap (λ n. s * n) (mul_comm t w) in
+    omega arith
+
+word-cons : (start : ℕ) (f : Field) (fs : List Field) → f.lowest ≡ start → word_of (f ∷ fs) ≡ f.value * 2 ^ start + word_of fs
+word-cons start f fs e = sum_by-cons term_of f fs ∙ ap (λ n. f.value * 2 ^ n + word_of fs) e
+
+-- what the fields add to a word is that number, at their lowest bit
+pub word-stacked : (start end : ℕ) (fs : List Field) → SideBySide start end fs → word_of fs ≡ stacked fs * 2 ^ start
+word-stacked start end [] side = omega arith
+word-stacked start end (f ∷ fs) side =
+    let upper : word_of fs ≡ stacked fs * 2 ^ (start + f.width) = word-stacked (start + f.width) end fs side.1 in
+    word-cons start f fs side.0
+    ∙ ap (λ n. f.value * 2 ^ start + n) (upper ∙ ap (λ n. stacked fs * n) (pow-add 2 start f.width))
+    ∙ arranged (stacked fs) (2 ^ f.width) (2 ^ start) f.value
+
+-- a field over lower bits keeps them below the next field
+pub next_bound : (low v start width : ℕ) → low < 2 ^ start → v < 2 ^ width → low + v * 2 ^ start < 2 ^ (start + width)
+next_bound low v start width below fits =
+    let power : 2 ^ (start + width) ≡ 2 ^ start * 2 ^ width = pow-add 2 start width in
+    let lower : v * 2 ^ start + low < 2 ^ start * 2 ^ width = mul-add-lt v (2 ^ start) low (2 ^ width) fits below in
+    rw power (omega (arith, lower))
+
+same_word : (low start : ℕ) (f : Field) (fs : List Field) → f.lowest ≡ start → low + f.value * 2 ^ start + word_of fs ≡ low + word_of (f ∷ fs)
+same_word low start f fs e = add_assoc low (f.value * 2 ^ start) (word_of fs) ∙ ap (λ n. low + n) (sym (word-cons start f fs e))
+
+-- over lower bits the fields end where the last of them does
+pub word_below : (start end low : ℕ) (fs : List Field) → SideBySide start end fs → All Fits fs → low < 2 ^ start → low + word_of fs < 2 ^ end
+word_below start end low [] side fits below = subst (λ n. low + 0 < 2 ^ n) side (omega arith)
+word_below start end low (f ∷ fs) side fits below =
+    let more : low + f.value * 2 ^ start < 2 ^ (start + f.width) = next_bound low f.value start f.width below (All-head Fits f fs fits) in
+    let upper = word_below (start + f.width) end (low + f.value * 2 ^ start) fs side.1 (All-tail Fits f fs fits) more in
+    subst (λ w. w < 2 ^ end) (same_word low start f fs side.0) upper
+
+-- the lowest field reads back
+pub lowest_back : (start width low v upper : ℕ) → low < 2 ^ start → v < 2 ^ width → bits_of (low + (upper * 2 ^ width + v) * 2 ^ start) start width ≡ v
+lowest_back start width low v upper below fits =
+    let high : ((upper * 2 ^ width + v) * 2 ^ start + low) / 2 ^ start ≡ upper * 2 ^ width + v = shr_high (upper * 2 ^ width + v) start low below in
+    let turned : low + (upper * 2 ^ width + v) * 2 ^ start ≡ (upper * 2 ^ width + v) * 2 ^ start + low = omega arith in
+    rw turned (rw high (mod_low upper width v fits))
+
+-- and so does each
+pub all_back : (start end low : ℕ) (fs : List Field) → SideBySide start end fs → All Fits fs → low < 2 ^ start → All (ReadsBack (low + word_of fs)) fs
+all_back start end low [] side fits below = All-nil (ReadsBack (low + word_of []))
+all_back start end low (f ∷ fs) side fits below =
+    let Back = ReadsBack (low + word_of (f ∷ fs)) in
+    let more : low + f.value * 2 ^ start < 2 ^ (start + f.width) = next_bound low f.value start f.width below (All-head Fits f fs fits) in
+    let upper = all_back (start + f.width) end (low + f.value * 2 ^ start) fs side.1 (All-tail Fits f fs fits) more in
+    let whole : word_of (f ∷ fs) ≡ (stacked fs * 2 ^ f.width + f.value) * 2 ^ start = word-stacked start end (f ∷ fs) side in
+    let first : Back f =
+    ap (λ n. bits_of (low + n) f.lowest f.width) whole
+    ∙ ap (λ n. bits_of (low + (stacked fs * 2 ^ f.width + f.value) * 2 ^ start) n f.width) side.0
+    ∙ lowest_back start f.width low f.value (stacked fs) below (All-head Fits f fs fits) in
+    All-cons Back f fs first (subst (λ w. All (ReadsBack w) fs) (same_word low start f fs side.0) upper)
+
+-- fields that begin at bit 0
+pub whole_word_below : (end : ℕ) (fs : List Field) → SideBySide 0 end fs → All Fits fs → word_of fs < 2 ^ end
+whole_word_below end fs side fits = let below = word_below 0 end 0 fs side fits (omega arith) in omega arith
+
+pub whole_word_back : (end : ℕ) (fs : List Field) → SideBySide 0 end fs → All Fits fs → All (ReadsBack (word_of fs)) fs
+whole_word_back end fs side fits =
+    let same : 0 + word_of fs ≡ word_of fs = omega arith in
+    subst (λ w. All (ReadsBack w) fs) same (all_back 0 end 0 fs side fits (omega arith))

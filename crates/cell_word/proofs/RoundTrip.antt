@@ -1,0 +1,161 @@
+-- The word of a sound state tells that state.
+use Rattle.std.proofs.Common.{◌≡◌, ℕ, ◌+◌, ◌<◌, ◌≤◌, Bool, true, false, ◌||◌, if◌then◌else◌, nat_eq, Option, Some, None, is_none, List, [], ◌∷◌, ◌++◌, map, get_or, refl, sym, ap, ◌∙◌, subst, arith, rules, ◌↔◌}
+use Rattle.std.specs.List.{All, flat_map}
+use Rattle.std.proofs.lemmas.List.Elements.{All-nil, All-cons, All-append, All-map}
+use Rattle.cell_types.specs.declared.machine.Machine.{Machine}
+use Rattle.cell_types.specs.declared.zone.Zone.{Zone}
+use Rattle.cell_types.specs.declared.zone.Zone.TheVariants.{Z1, Z2, Z3, Z4, Z5, Z6}
+use Rattle.cell_types.specs.declared.place.Place.{Place}
+use Rattle.cell_types.specs.declared.place.Place.TheVariants.{FeedEntry, FeedEnd, Table, Arm1, PressIn, PressOut, Arm2, DepEntry, DepEnd, Crane}
+use Rattle.cell_types.specs.declared.posture.Posture.{Posture}
+use Rattle.cell_types.specs.declared.posture.Posture.TheVariants.{Closed, Moving, OpenIn, OpenOut}
+use Rattle.cell_types.specs.Tables.{host_of, guest_of}
+use Rattle.cell_types.specs.Same.{same_machine, one_machine}
+use Rattle.cell_types.specs.Everything.{all_zones, all_places}
+use Rattle.cell_rules.specs.declared.zones.ZoneState.{ZoneState}
+use Rattle.cell_rules.specs.ModelState.{ModelState, zone_at, is_full, one_if, last_stamp}
+use Rattle.cell_rules.specs.Sound.{IsSound, has_lawful_owner, is_owned_by}
+use Rattle.cell_word.specs.Layout.{Field, field, zone_bit, stamp_bit, owner_code, posture_code, zone_fields, fields_at, place_field, fields_of, packed}
+use Rattle.cell_word.specs.Reading.{bits_of, owner_of_code, posture_of_code, is_bit_set, is_told_full, zone_told, state_told}
+use Rattle.cell_word.specs.Laws.{Fits, SideBySide, ReadsBack, IsLaidOut}
+use Rattle.cell_word.proofs.Fields.{whole_word_below, whole_word_back}
+
+-- ---- each field fits
+owner_fits : (z : Zone) (o : Option Machine) → owner_code z o < 4
+owner_fits z None = omega arith
+owner_fits z (Some m) = elim (same_machine m (host_of z)) as (λ b. (if b then 1 else 2) < 4) [ true ↦ omega arith | false ↦ omega arith ]
+
+flag_fits : (b : Bool) → one_if b < 2
+flag_fits true = omega arith
+flag_fits false = omega arith
+
+posture_fits : (p : Posture) → posture_code p < 4
+posture_fits Closed = omega arith
+posture_fits Moving = omega arith
+posture_fits OpenIn = omega arith
+posture_fits OpenOut = omega arith
+
+All-flat_map : {X A : Type 0} (P : A → Type 0) (f : X → List A) (xs : List X) → ((x : X) → All P (f x)) → All P (flat_map f xs)
+All-flat_map P f [] h = All-nil P
+All-flat_map P f (x ∷ xs) h = All-append P (f x) (flat_map f xs) (h x) (All-flat_map P f xs h)
+
+all_three : (P : Field → Type 0) (a b c : Field) → P a → P b → P c → All P (a ∷ b ∷ c ∷ [])
+all_three P a b c ha hb hc = All-cons P a (b ∷ c ∷ []) ha (All-cons P b (c ∷ []) hb (All-cons P c [] hc (All-nil P)))
+
+zone_fits : (z : Zone) (v : ZoneState) → All Fits (zone_fields z v)
+zone_fits z v =
+    all_three Fits (field (zone_bit z) 2 (owner_code z v.owner)) (field (zone_bit z + 2) 1 (one_if v.flag)) (field (zone_bit z + 3) 2 (posture_code v.posture))
+    (owner_fits z v.owner) (flag_fits v.flag) (posture_fits v.posture)
+
+fields_fit : (s : ModelState) → s.stamp ≤ last_stamp → All Fits (fields_of s)
+fields_fit s small =
+    let zones : All Fits (flat_map (fields_at s) all_zones) = All-flat_map Fits (fields_at s) all_zones (λ z. zone_fits z (zone_at s z)) in
+    let places : All Fits (map (place_field s) all_places) = All-map Fits (place_field s) all_places (λ k d inside. flag_fits (is_full s (get_or all_places k d))) in
+    let stamp : All Fits (field stamp_bit 20 s.stamp ∷ []) = All-cons Fits (field stamp_bit 20 s.stamp) [] (omega arith) (All-nil Fits) in
+    All-append Fits (flat_map (fields_at s) all_zones ++ map (place_field s) all_places) (field stamp_bit 20 s.stamp ∷ [])
+    (All-append Fits (flat_map (fields_at s) all_zones) (map (place_field s) all_places) zones places) stamp
+
+side_by_side : (s : ModelState) → SideBySide 0 60 (fields_of s)
+side_by_side s = search rules
+
+pub laid_out : (s : ModelState) → IsSound s → IsLaidOut s
+unfolding packed
+laid_out s sound =
+    let fit = fields_fit s sound.stamp_in_range in
+    record {
+      fits = fit;
+      side_by_side = side_by_side s;
+      reads_back = whole_word_back 60 (fields_of s) (side_by_side s) fit;
+      bound = whole_word_below 60 (fields_of s) (side_by_side s) fit;
+    }
+
+-- ---- the codes
+some_owner : (z : Zone) (m : Machine) (b c : Bool) → same_machine m (host_of z) ≡ b → same_machine m (guest_of z) ≡ c → (b || c) ≡ true
+    → owner_of_code z (if b then 1 else 2) ≡ Some m
+some_owner z m true c e f h = ap Some (sym (one_machine m (host_of z) e))
+some_owner z m false true e f h = ap Some (sym (one_machine m (guest_of z) f))
+some_owner z m false false e f h = cc
+
+owner_back : (z : Zone) (o : Option Machine) → (is_none o || is_owned_by o (host_of z) || is_owned_by o (guest_of z)) ≡ true → owner_of_code z (owner_code z o) ≡ o
+owner_back z None h = refl
+owner_back z (Some m) h = some_owner z m (same_machine m (host_of z)) (same_machine m (guest_of z)) refl refl h
+
+flag_back : (b : Bool) → nat_eq (one_if b) 1 ≡ b
+flag_back true = refl
+flag_back false = refl
+
+posture_back : (p : Posture) → posture_of_code (posture_code p) ≡ p
+posture_back Closed = refl
+posture_back Moving = refl
+posture_back OpenIn = refl
+posture_back OpenOut = refl
+
+-- ---- a zone, and a state
+zone_back : (w : ℕ) (z : Zone) (v : ZoneState) → has_lawful_owner z v ≡ true → bits_of w (zone_bit z) 2 ≡ owner_code z v.owner → bits_of w (zone_bit z + 2) 1 ≡ one_if v.flag
+    → bits_of w (zone_bit z + 3) 2 ≡ posture_code v.posture → zone_told w z ≡ v
+zone_back w z v h by_owner by_flag by_posture =
+    let owner : (zone_told w z).owner ≡ v.owner = ap (owner_of_code z) by_owner ∙ owner_back z v.owner h in
+    let flag : (zone_told w z).flag ≡ v.flag = ap (λ n. nat_eq n 1) by_flag ∙ flag_back v.flag in
+    let posture : (zone_told w z).posture ≡ v.posture = ap posture_of_code by_posture ∙ posture_back v.posture in
+    λ i. record { owner = owner i; flag = flag i; posture = posture i }
+
+place_back : (w bit : ℕ) (b : Bool) → bits_of w bit 1 ≡ one_if b → is_bit_set w bit ≡ b
+place_back w bit b e = ap (λ n. nat_eq n 1) e ∙ flag_back b
+
+-- the field at an index reads back
+read : (s : ModelState) → IsSound s → (k : ℕ) → k < 29 → ReadsBack (packed s) (get_or (fields_of s) k (field 0 0 0))
+read s sound k inside = (laid_out s sound).reads_back k (field 0 0 0) inside
+
+zone_read : (s : ModelState) → IsSound s → (z : Zone) → zone_told (packed s) z ≡ zone_at s z
+zone_read s sound Z1 = zone_back (packed s) Z1 (zone_at s Z1) (sound.owner_is_party Z1) (read s sound 0 (omega arith)) (read s sound 1 (omega arith)) (read s sound 2 (omega arith))
+zone_read s sound Z2 = zone_back (packed s) Z2 (zone_at s Z2) (sound.owner_is_party Z2) (read s sound 3 (omega arith)) (read s sound 4 (omega arith)) (read s sound 5 (omega arith))
+zone_read s sound Z3 = zone_back (packed s) Z3 (zone_at s Z3) (sound.owner_is_party Z3) (read s sound 6 (omega arith)) (read s sound 7 (omega arith)) (read s sound 8 (omega arith))
+zone_read s sound Z4 = zone_back (packed s) Z4 (zone_at s Z4) (sound.owner_is_party Z4) (read s sound 9 (omega arith)) (read s sound 10 (omega arith)) (read s sound 11 (omega arith))
+zone_read s sound Z5 = zone_back (packed s) Z5 (zone_at s Z5) (sound.owner_is_party Z5) (read s sound 12 (omega arith)) (read s sound 13 (omega arith)) (read s sound 14 (omega arith))
+zone_read s sound Z6 = zone_back (packed s) Z6 (zone_at s Z6) (sound.owner_is_party Z6) (read s sound 15 (omega arith)) (read s sound 16 (omega arith)) (read s sound 17 (omega arith))
+
+place_read : (s : ModelState) → IsSound s → (p : Place) → is_told_full (packed s) p ≡ is_full s p
+place_read s sound FeedEntry = place_back (packed s) 30 s.full.feed_entry (read s sound 18 (omega arith))
+place_read s sound FeedEnd = place_back (packed s) 31 s.full.feed_end (read s sound 19 (omega arith))
+place_read s sound Table = place_back (packed s) 32 s.full.table (read s sound 20 (omega arith))
+place_read s sound Arm1 = place_back (packed s) 33 s.full.arm1 (read s sound 21 (omega arith))
+place_read s sound PressIn = place_back (packed s) 34 s.full.press_in (read s sound 22 (omega arith))
+place_read s sound PressOut = place_back (packed s) 35 s.full.press_out (read s sound 23 (omega arith))
+place_read s sound Arm2 = place_back (packed s) 36 s.full.arm2 (read s sound 24 (omega arith))
+place_read s sound DepEntry = place_back (packed s) 37 s.full.dep_entry (read s sound 25 (omega arith))
+place_read s sound DepEnd = place_back (packed s) 38 s.full.dep_end (read s sound 26 (omega arith))
+place_read s sound Crane = place_back (packed s) 39 s.full.crane (read s sound 27 (omega arith))
+
+pub told_back : (s : ModelState) → IsSound s → state_told (packed s) ≡ s
+told_back s sound =
+    let zone = zone_read s sound in
+    let place = place_read s sound in
+    let stamp : bits_of (packed s) stamp_bit 20 ≡ s.stamp = read s sound 28 (omega arith) in
+    λ i. record {
+      zones = record { at_z1 = zone Z1 i; at_z2 = zone Z2 i; at_z3 = zone Z3 i; at_z4 = zone Z4 i; at_z5 = zone Z5 i; at_z6 = zone Z6 i };
+      full = record {
+        feed_entry = place FeedEntry i;
+        feed_end = place FeedEnd i;
+        table = place Table i;
+        arm1 = place Arm1 i;
+        press_in = place PressIn i;
+        press_out = place PressOut i;
+        arm2 = place Arm2 i;
+        dep_entry = place DepEntry i;
+        dep_end = place DepEnd i;
+        crane = place Crane i;
+      };
+      stamp = stamp i;
+    }
+
+pub one_state : (s t : ModelState) → IsSound s → IsSound t → packed s ≡ packed t → s ≡ t
+one_state s t h k e = sym (told_back s h) ∙ ap state_told e ∙ told_back t k
+
+-- ---- what unpack answers
+pub told_some : (w : ℕ) → IsSound (state_told w) → packed (state_told w) ≡ w → (s : ModelState) → (Some (state_told w) ≡ Some s) ↔ (IsSound s × (packed s ≡ w))
+told_some w h e s =
+    (λ k. let same : state_told w ≡ s = cc in (subst IsSound same h, ap packed (sym same) ∙ e), λ k. ap Some (ap state_told (sym k.1) ∙ told_back s k.0))
+
+pub told_none : (w : ℕ) → (IsSound (state_told w) → packed (state_told w) ≡ w → ⊥) → (s : ModelState) → ◌≡◌ {A = Option ModelState} None (Some s) ↔ (IsSound s × (packed s ≡ w))
+told_none w h s =
+    (λ k. cc, λ k. let same : s ≡ state_told w = sym (told_back s k.0) ∙ ap state_told k.1 in absurd (h (subst IsSound same k.0) (ap packed (sym same) ∙ k.1)))

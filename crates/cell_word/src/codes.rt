@@ -1,0 +1,89 @@
+//! The number of an owner, of a posture, and the bits where each thing stands.
+
+ghost use Rattle.std.specs.Prelude.{◌≡◌, ◌<◌, ◌≤◌};
+ghost use Rattle.cell_word.specs.Layout as layout;
+ghost use Rattle.cell_word.specs.Reading as reading;
+
+use cell_types::{Machine, Place, Posture, Zone, guest, host};
+
+/// The lowest bit of the stamp.
+pub const STAMP_BIT: u32 = 40;
+
+/// The lowest of the five bits of a zone.
+pub fn zone_bit(zone: Zone) -> u32
+    ensures place { result ≡ layout.zone_bit zone }
+    ensures below_places { result ≤ 25 }
+{
+    match zone {
+        Zone::Z1 => 0,
+        Zone::Z2 => 5,
+        Zone::Z3 => 10,
+        Zone::Z4 => 15,
+        Zone::Z5 => 20,
+        Zone::Z6 => 25,
+    }
+}
+
+/// The bit of a place.
+pub fn place_bit(place: Place) -> u32
+    ensures place { result ≡ layout.place_bit place }
+    ensures below_stamp { result < 40 }
+{
+    match place {
+        Place::FeedEntry => 30,
+        Place::FeedEnd => 31,
+        Place::Table => 32,
+        Place::Arm1 => 33,
+        Place::PressIn => 34,
+        Place::PressOut => 35,
+        Place::Arm2 => 36,
+        Place::DepEntry => 37,
+        Place::DepEnd => 38,
+        Place::Crane => 39,
+    }
+}
+
+pub fn owner_code(zone: Zone, owner: Option<Machine>) -> u64
+    ensures code { result ≡ layout.owner_code zone owner }
+    ensures fits { result < 4 }
+{
+    match owner {
+        None => 0,
+        Some(machine) if machine == host(zone) => 1,
+        Some(_) => 2,
+    }
+}
+
+/// The owner of a code; the spare code 3 means none other than 2 does.
+pub fn owner_of_code(zone: Zone, code: u64) -> Option<Machine>
+    ensures { result ≡ reading.owner_of_code zone code }
+{
+    match code {
+        0 => None,
+        1 => Some(host(zone)),
+        _ => Some(guest(zone)),
+    }
+}
+
+pub fn posture_code(posture: Posture) -> u64
+    ensures code { result ≡ layout.posture_code posture }
+    ensures fits { result < 4 }
+{
+    match posture {
+        Posture::Closed => 0,
+        Posture::Moving => 1,
+        Posture::OpenIn => 2,
+        Posture::OpenOut => 3,
+    }
+}
+
+pub fn posture_of_code(code: u64) -> Posture
+    ensures { result ≡ reading.posture_of_code code }
+{
+    match code {
+        0 => Posture::Closed,
+        1 => Posture::Moving,
+        2 => Posture::OpenIn,
+        _ => Posture::OpenOut,
+    }
+}
