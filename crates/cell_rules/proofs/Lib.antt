@@ -26,3 +26,4 @@ pub mod Accepted
 pub mod Clear
 pub mod Fitting
 pub mod Assembly
+pub mod Notes

@@ -9,3 +9,4 @@ pub mod Reply
 pub mod History
 pub mod Laws
 pub mod Start
+pub mod Journal

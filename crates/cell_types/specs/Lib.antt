@@ -6,3 +6,4 @@ pub mod Refusals
 pub mod Answers
 pub mod Same
 pub mod CallWords
+pub mod Journals

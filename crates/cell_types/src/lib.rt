@@ -4,6 +4,7 @@
 
 pub mod answer;
 pub mod call;
+pub mod journal;
 pub mod laws;
 pub mod machine;
 pub mod place;
@@ -14,6 +15,7 @@ pub mod zone;
 
 pub use answer::{Answer, Event, Refusal};
 pub use call::Call;
+pub use journal::{Entry, Journals};
 pub use machine::Machine;
 pub use place::Place;
 pub use pose::Pose;

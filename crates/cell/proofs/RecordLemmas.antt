@@ -1,0 +1,128 @@
+-- The records of a text, from those that were read in turn.
+use Rattle.std.proofs.Common.{ℕ, zero, suc, ◌≡◌, ◌+◌, ◌-◌, ◌<◌, ◌≤◌, Bool, true, false, cond, List, [], ◌∷◌, length, take, Some, None, refl, sym, ◌∙◌, arith, ◌==◌, ◌&&◌, ◌⊎◌, inl, inr}
+use Rattle.std.proofs.lemmas.Bool.{false≢true}
+use Rattle.std.proofs.lemmas.List.{take_all}
+use Rattle.std.proofs.lemmas.Option.{same_Some}
+use Rattle.csv.specs.Machine.{Read, after_end, ends_at_end, ends_with, fields_after, field_after, in_field, is_byte, is_end, next_record, start_field, start_record, step}
+use Rattle.csv.specs.Reading.{Reached, default_config, records, records_from}
+use Rattle.csv.specs.declared.parser.Config.{Config}
+use Rattle.csv.specs.declared.parser.Terminator.{Terminator}
+use Rattle.csv.specs.declared.parser.Terminator.TheVariants as term
+use Rattle.csv.specs.declared.parser.State.{State}
+use Rattle.csv.specs.declared.parser.State.TheVariants as st
+use Rattle.csv.specs.declared.parser.Action.{Action}
+use Rattle.csv.specs.declared.parser.Action.TheVariants as act
+
+-- a step that ends a record leaves the machine between records
+abbrev EndsBetween : State × Action → Type 0
+EndsBetween p = is_end p.1 ≡ true → ends_at_end p.0 ≡ false
+
+either : (b : Bool) (x y : State × Action) → EndsBetween x → EndsBetween y → EndsBetween (cond b x y)
+either true x y hx hy = hx
+either false x y hx hy = hy
+
+no_end : (s : State) (a : Action) → is_end a ≡ false → EndsBetween (s, a)
+no_end s a goes ends = let bad : false ≡ true = sym goes ∙ ends in absurd (false≢true bad)
+
+after_end-between : (t : Terminator) (c : ℕ) → ends_at_end (after_end t c) ≡ false
+after_end-between term.CRLF c = between_either (c == 13)
+  where
+    between_either : (b : Bool) → ends_at_end (cond b st.AfterCr st.StartRecord) ≡ false
+    between_either true = refl
+    between_either false = refl
+after_end-between (term.Any t) c = refl
+
+in_field-between : (cfg : Config) (c : ℕ) → EndsBetween (in_field cfg c)
+in_field-between cfg c =
+    either (c == cfg.delimiter) _ _ (no_end st.StartField act.EndField refl)
+    (either (ends_with cfg.terminator c) _ _ (λ e. after_end-between cfg.terminator c) (no_end st.InField act.Copy refl))
+
+start_field-between : (cfg : Config) (c : ℕ) → EndsBetween (start_field cfg c)
+start_field-between cfg c = either (cfg.quoting && (c == cfg.quote)) _ _ (no_end st.InQuoted act.Skip refl) (in_field-between cfg c)
+
+start_record-between : (cfg : Config) (c : ℕ) → EndsBetween (start_record cfg c)
+start_record-between cfg c =
+    either (ends_with cfg.terminator c) _ _ (no_end st.StartRecord act.Skip refl)
+    (either (is_byte cfg.comment c) _ _ (no_end st.InComment act.Skip refl) (start_field-between cfg c))
+
+step-between : (cfg : Config) (s : State) (c : ℕ) → EndsBetween (step cfg s c)
+step-between cfg st.StartRecord c = start_record-between cfg c
+step-between cfg st.StartField c = start_field-between cfg c
+step-between cfg st.InField c = in_field-between cfg c
+step-between cfg st.InQuoted c =
+    either (cfg.quoting && (c == cfg.quote)) _ _ (no_end st.AfterQuote act.Skip refl)
+    (either (cfg.quoting && is_byte cfg.escape c) _ _ (no_end st.InEscape act.Skip refl) (no_end st.InQuoted act.Copy refl))
+step-between cfg st.InEscape c = no_end st.InQuoted act.Copy refl
+step-between cfg st.AfterQuote c = either ((cfg.quoting && cfg.double_quote) && (c == cfg.quote)) _ _ (no_end st.InQuoted act.Copy refl) (in_field-between cfg c)
+step-between cfg st.InComment c = either (c == 10) _ _ (no_end st.StartRecord act.Skip refl) (no_end st.InComment act.Skip refl)
+step-between cfg st.AfterCr c = either (c == 10) _ _ (no_end st.StartRecord act.Skip refl) (start_record-between cfg c)
+
+-- which way a test went, where the result is known
+chosen : {A : Type 0} (b : Bool) (x y z : A) → cond b x y ≡ z → ((b ≡ true) × (x ≡ z)) ⊎ ((b ≡ false) × (y ≡ z))
+chosen true x y z e = inl (refl, e)
+chosen false x y z e = inr (refl, e)
+
+-- a record leaves the machine between records, and takes a byte if there is one
+next_record-takes : (cfg : Config) (s : State) (fields : List (List ℕ)) (field xs : List ℕ) (p : Read) → next_record cfg s fields field xs ≡ Some p
+    → (length p.2 ≤ length xs - 1) × (ends_at_end p.1 ≡ false)
+unfolding next_record
+next_record-takes cfg s fields field [] p e =
+    elim (chosen (ends_at_end s) _ _ _ e) [
+      | inl h ↦ let same = same_Some _ p h.1 in (rw (← same) (omega arith), rw (← same) refl)
+      | inr h ↦ absurd (cc)
+    ]
+next_record-takes cfg s fields field (c ∷ rest) p e =
+    elim (chosen (is_end (step cfg s c).1) _ _ _ e) [
+      | inl h ↦ let same = same_Some _ p h.1 in (rw (← same) (omega arith), rw (← same) (step-between cfg s c h.0))
+      | inr h ↦
+          let more = next_record-takes cfg (step cfg s c).0 (fields_after (step cfg s c).1 fields field) (field_after (step cfg s c).1 c field) rest p h.1 in
+          (omega (arith, more.0), more.1)
+    ]
+
+-- between records there is none at the end of the text
+next_record-shorter : (cfg : Config) (s : State) (xs : List ℕ) (p : Read) → ends_at_end s ≡ false → next_record cfg s [] [] xs ≡ Some p → length p.2 + 1 ≤ length xs
+unfolding next_record
+next_record-shorter cfg s [] p between e = let none : None ≡ Some p = rw between at e in absurd (cc)
+next_record-shorter cfg s (c ∷ rest) p between e = let takes = next_record-takes cfg s [] [] (c ∷ rest) p e in omega (arith, takes.0)
+
+-- each record takes a byte
+pub length-reached : (cfg : Config) (s s2 : State) (xs ys : List ℕ) (rows : List (List (List ℕ))) → ends_at_end s ≡ false → Reached cfg s xs rows s2 ys → length rows + length ys ≤ length xs
+unfolding Reached
+length-reached cfg s s2 xs ys [] between h = rw h.1 (omega arith)
+length-reached cfg s s2 xs ys (r ∷ rows) between h =
+    let shorter = next_record-shorter cfg s xs h.0 between h.1 in
+    let after = (next_record-takes cfg s [] [] xs h.0 h.1).1 in
+    let rest = length-reached cfg h.0.1 s2 h.0.2 ys rows after h.3 in
+    omega (arith, shorter, rest)
+
+-- the records that were read are the first of the text
+pub records_from-front : (cfg : Config) (n : ℕ) (s s2 : State) (xs ys : List ℕ) (rows : List (List (List ℕ))) → length rows ≤ n → Reached cfg s xs rows s2 ys → take (length rows) (records_from cfg n s xs) ≡ rows
+unfolding Reached records_from
+records_from-front cfg n s s2 xs ys [] le h = refl
+records_from-front cfg zero s s2 xs ys (r ∷ rows) le h = absurd (omega arith)
+records_from-front cfg (suc n) s s2 xs ys (r ∷ rows) le h =
+    let rest = records_from-front cfg n h.0.1 s2 h.0.2 ys rows (omega arith) h.3 in
+    rw (h.1, rest, ← h.2) refl
+
+-- they are all of them, where no more is found
+pub records_from-all : (cfg : Config) (n : ℕ) (s s2 : State) (xs ys : List ℕ) (rows : List (List (List ℕ))) → length rows < n → Reached cfg s xs rows s2 ys → next_record cfg s2 [] [] ys ≡ None → records_from cfg n s xs ≡ rows
+unfolding Reached records_from
+records_from-all cfg zero s s2 xs ys rows lt h e = absurd (omega arith)
+records_from-all cfg (suc n) s s2 xs ys [] lt h e = rw (h.0, h.1, e) refl
+records_from-all cfg (suc n) s s2 xs ys (r ∷ rows) lt h e =
+    let rest = records_from-all cfg n h.0.1 s2 h.0.2 ys rows (omega arith) h.3 e in
+    rw (h.1, rest, ← h.2) refl
+
+-- as many records as are wanted
+pub records-front : (xs ys : List ℕ) (s2 : State) (rows : List (List (List ℕ))) (most : ℕ) → most ≡ length rows → Reached default_config st.StartRecord xs rows s2 ys → rows ≡ take most (records default_config xs)
+records-front xs ys s2 rows most full h =
+    let fits = length-reached default_config st.StartRecord s2 xs ys rows refl h in
+    rw full (sym (records_from-front default_config (length xs + 1) st.StartRecord s2 xs ys rows (omega (arith, fits)) h))
+
+-- all records there are
+pub records-all : (xs ys : List ℕ) (s2 : State) (rows : List (List (List ℕ))) (most : ℕ) → length rows ≤ most → Reached default_config st.StartRecord xs rows s2 ys → next_record default_config s2 [] [] ys ≡ None
+    → rows ≡ take most (records default_config xs)
+records-all xs ys s2 rows most le h e =
+    let fits = length-reached default_config st.StartRecord s2 xs ys rows refl h in
+    let all = records_from-all default_config (length xs + 1) st.StartRecord s2 xs ys rows (omega (arith, fits)) h e in
+    rw all (sym (take_all most rows le))

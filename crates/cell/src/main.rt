@@ -1,0 +1,30 @@
+//! The program of the production cell: it replays scripts of calls to the interlock.
+#![tactic(auto)]
+
+pub mod serve;
+pub mod words;
+
+use std::process::ExitCode;
+use std::{env, io};
+
+fn main(rt: HostRuntime) -> ExitCode {
+    let status = match run(&rt) {
+        Ok(status) => status,
+        Err(_) => serve::fail(&mut rt.stdout(), "memory"),
+    };
+    ExitCode::from(status)
+}
+
+/// Serves the words of the program, its input and its output.
+fn run(rt: &HostRuntime) -> io::Result<u8> {
+    let alloc = rt.alloc();
+    let words: Vec<String> = env::args(rt)?.collect(alloc)?;
+    let mut texts = Vec::new(alloc);
+    for word in &words {
+        texts.push(word.as_str())?;
+    }
+    Ok(serve::serve(alloc, texts.as_slice(), &mut rt.stdin(), &mut rt.stdout()))
+}
+
+#[cfg(test)]
+mod tests;

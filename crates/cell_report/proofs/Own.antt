@@ -1,0 +1,58 @@
+-- The entries of one machine among all.
+use Rattle.std.proofs.Common.{◌≡◌, Bool, true, false, cond, List, [], ◌∷◌, ◌++◌, map, filter, refl, sym, ap, subst, append-nil}
+use Rattle.std.proofs.lemmas.List.Elements.{filter-append}
+use Rattle.cell_types.specs.declared.machine.Machine.{Machine}
+use Rattle.cell_types.specs.declared.machine.Machine.TheVariants.{Feed, Table, Robot, Press, Deposit, Crane, Watch}
+use Rattle.cell_types.specs.declared.journal.Entry.{Entry}
+use Rattle.cell_types.specs.Same.{same_machine, one_machine}
+use Rattle.cell_report.specs.declared.ordered.Noted.{Noted}
+use Rattle.cell_report.specs.Order.{noted_behind, noted_from, all_noted}
+
+abbrev pub is_of : Machine → Noted → Bool
+is_of m x = same_machine x.machine m
+
+abbrev pub entry_in : Noted → Entry
+entry_in x = x.entry
+
+pub same_itself : (m : Machine) → same_machine m m ≡ true
+same_itself Feed = refl
+same_itself Table = refl
+same_itself Robot = refl
+same_itself Press = refl
+same_itself Deposit = refl
+same_itself Crane = refl
+same_itself Watch = refl
+
+pub entries_of : (m : Machine) (earlier es : List Entry) → map entry_in (noted_from m earlier es) ≡ es
+entries_of m earlier [] = refl
+entries_of m earlier (e ∷ es) = ap (λ l. e ∷ l) (entries_of m (earlier ++ e ∷ []) es)
+
+own_kept : (m : Machine) (earlier es : List Entry) → filter (is_of m) (noted_from m earlier es) ≡ noted_from m earlier es
+own_kept m earlier [] = refl
+own_kept m earlier (e ∷ es) = rw (same_itself m) (ap (λ l. noted_behind m earlier e ∷ l) (own_kept m (earlier ++ e ∷ []) es))
+
+other_dropped : (m n : Machine) (earlier es : List Entry) → same_machine n m ≡ false → filter (is_of m) (noted_from n earlier es) ≡ []
+other_dropped m n earlier [] e = refl
+other_dropped m n earlier (f ∷ es) e = rw e (other_dropped m n (earlier ++ f ∷ []) es e)
+
+part_by : (m n : Machine) (es : List Entry) (b : Bool) → same_machine n m ≡ b → filter (is_of m) (noted_from n [] es) ≡ cond b (noted_from n [] es) []
+part_by m n es true e = subst (λ k. filter (is_of m) (noted_from k [] es) ≡ noted_from k [] es) (sym (one_machine n m e)) (own_kept m [] es)
+part_by m n es false e = other_dropped m n [] es e
+
+part : (m n : Machine) (es : List Entry) → filter (is_of m) (noted_from n [] es) ≡ cond (same_machine n m) (noted_from n [] es) []
+part m n es = part_by m n es (same_machine n m) refl
+
+abbrev kept_of : (Machine → List Entry) → Machine → Machine → List Noted
+kept_of j m n = cond (same_machine n m) (noted_from n [] (j n)) []
+
+collapse : (j : Machine → List Entry) (m : Machine) → kept_of j m Feed ++ kept_of j m Table ++ kept_of j m Robot ++ kept_of j m Press ++ kept_of j m Deposit ++ kept_of j m Crane ++ kept_of j m Watch ≡ noted_from m [] (j m)
+collapse j Feed = simp append-nil
+collapse j Table = simp append-nil
+collapse j Robot = simp append-nil
+collapse j Press = simp append-nil
+collapse j Deposit = simp append-nil
+collapse j Crane = simp append-nil
+collapse j Watch = refl
+
+pub own_entries : (j : Machine → List Entry) (m : Machine) → filter (is_of m) (all_noted j) ≡ noted_from m [] (j m)
+own_entries j m = simp (filter-append, part) (collapse j m)

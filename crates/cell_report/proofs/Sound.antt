@@ -1,0 +1,85 @@
+-- Entries of which each fits are a legal history, of which each machine noted its own.
+use Rattle.std.proofs.Common.{◌≡◌, max, Option, Some, None, option_map, ℕ, Bool, true, false, cond, inl, inr, List, [], ◌∷◌, map, filter, refl, sym, ap, ◌∙◌, subst}
+use Rattle.cell_types.specs.declared.machine.Machine.{Machine}
+use Rattle.cell_types.specs.declared.answer.Event.{Event}
+use Rattle.cell_types.specs.declared.journal.Entry.{Entry}
+use Rattle.cell_types.specs.Same.{same_machine}
+use Rattle.cell_rules.specs.ModelState.{ModelState}
+use Rattle.cell_rules.specs.Reply.{next}
+use Rattle.cell_rules.specs.History.{after, IsLegal}
+use Rattle.cell_rules.specs.Journal.{noted, entry_of, event_by}
+use Rattle.cell_rules.proofs.Notes.{events_of_noted}
+use Rattle.cell_report.specs.declared.ordered.Noted.{Noted}
+use Rattle.cell_report.specs.Audited.{IsAudited, EndsIn}
+use Rattle.cell_report.specs.Order.{noted_from, all_noted, event_of, greatest, key_at, InOrder}
+use Rattle.cell_report.specs.AuditFaults.{AllFit, HasStamps, MissesEnd}
+use Rattle.cell_report.specs.Retraced.{Retraced}
+use Rattle.cell_report.proofs.Members.{In, in_permutation, from_filter}
+use Rattle.cell_report.proofs.Own.{is_of, entry_in, entries_of, own_entries}
+use Rattle.cell_report.proofs.Rising.{Rises, rises_from}
+use Rattle.cell_report.proofs.Turns.{rises_in_turn}
+use Rattle.cell_report.proofs.Classes.{same_classes, filter_swap, rises_filter, ties_with}
+use Rattle.cell_report.proofs.Points.{AllFitAt, all_fit_at, stamped, reached_first}
+
+fit_legal : (s : ModelState) (xs : List Noted) → AllFitAt s xs → IsLegal s (map event_of xs)
+fit_legal s [] fit = tt
+fit_legal s (x ∷ xs) fit = (fit.0.answer, fit_legal (next s x.machine x.entry.call) xs fit.1)
+
+join : (b : Bool) (e : Entry) (x : Noted) (es : List Entry) (xs : List Noted) → e ≡ x.entry → es ≡ map entry_in xs → cond b (e ∷ es) es ≡ map entry_in (cond b (x ∷ xs) xs)
+join true e x es xs p q = cc
+join false e x es xs p q = q
+
+fit_noted : (s : ModelState) (xs : List Noted) (m : Machine) → AllFitAt s xs → noted s (map event_of xs) m ≡ map entry_in (filter (is_of m) xs)
+fit_noted s [] m fit = refl
+fit_noted s (x ∷ xs) m fit =
+    join (same_machine x.machine m) (entry_of s (event_of x)) x (noted (next s x.machine x.entry.call) (map event_of xs) m) (filter (is_of m) xs)
+    (let f : ℕ → Entry = λ t. record { call = x.entry.call; answer = x.entry.answer; stamp = t } in ap f (sym fit.0.stamp))
+    (fit_noted (next s x.machine x.entry.call) xs m fit.1)
+
+turn_of_fit : (s r : ModelState) (xs : List Noted) (x : Noted) → AllFit s r xs → In x xs → x.in_turn ≡ true
+turn_of_fit s r [] x fit i = absurd i
+turn_of_fit s r (y ∷ ys) x fit (inl q) = subst (λ (w : Noted). w.in_turn ≡ true) q fit.0.in_turn
+turn_of_fit s r (y ∷ ys) x fit (inr i) = turn_of_fit s (next r y.machine y.entry.call) ys x fit.1 i
+
+-- the entries of one machine, in the order, are those of its journal
+own_in_order : (j : Machine → List Entry) (ordered : List Noted) (m : Machine) → InOrder (all_noted j) ordered → Rises (noted_from m [] (j m)) → filter (is_of m) ordered ≡ noted_from m [] (j m)
+own_in_order j ordered m o up =
+    same_classes (filter (is_of m) ordered) (noted_from m [] (j m)) (rises_filter (is_of m) ordered (rises_from key_at ordered o.rising)) up
+    (λ z. filter_swap (ties_with z) (is_of m) ordered ∙ (ap (filter (is_of m)) (o.stable z) ∙ (filter_swap (is_of m) (ties_with z) (all_noted j) ∙ ap (filter (ties_with z)) (own_entries j m))))
+
+fit_own : (s : ModelState) (j : Machine → List Entry) (ordered : List Noted) (m : Machine) → InOrder (all_noted j) ordered → AllFit s s ordered → filter (is_of m) ordered ≡ noted_from m [] (j m)
+fit_own s j ordered m o fit =
+    own_in_order j ordered m o
+    (rises_in_turn m [] (j m)
+    (λ z i. turn_of_fit s s ordered z fit (in_permutation (all_noted j) ordered z o.same (from_filter (is_of m) (all_noted j) z (subst (In z) (sym (own_entries j m)) i)).0)))
+
+pub audited : (s : ModelState) (j : Machine → List Entry) (end : Option ModelState) (t : ℕ) (ordered now : List Noted) (history : List Event) (reached : ModelState) → HasStamps s.stamp (greatest t (all_noted j)) (all_noted j) ordered → now ≡ ordered → Retraced s now history reached → EndsIn reached end → IsAudited s j end history
+audited s j end t ordered now history reached k e r ends =
+    let fit : AllFit s s ordered = subst (AllFit s s) e r.fit in
+    let at : AllFitAt s ordered = all_fit_at s ordered [] ordered s refl (stamped s.stamp t (all_noted j) ordered k) (reached_first s) fit in
+    let is : map event_of ordered ≡ history = ap (map event_of) (sym e) ∙ sym r.events in
+    let own : (m : Machine) → noted s history m ≡ j m = λ m. subst (λ h. noted s h m ≡ j m) is (fit_noted s ordered m at ∙ (ap (map entry_in) (fit_own s j ordered m k.order fit) ∙ entries_of m [] (j m))) in
+    record {
+      legal = subst (IsLegal s) is (fit_legal s ordered at);
+      own = λ m. sym (events_of_noted s history m) ∙ ap (map (event_by m)) (own m);
+      noted = own;
+      ends = subst (λ u. EndsIn u end) (r.reached ∙ ap (after s) (sym r.events)) ends;
+    }
+
+pub misses_end : (s : ModelState) (end : Option ModelState) (ordered now : List Noted) (history : List Event) (reached : ModelState) → now ≡ ordered → Retraced s now history reached → ¬ EndsIn reached end → MissesEnd s ordered end
+misses_end s end ordered now history reached e r not = subst (λ l. MissesEnd s l end) e (record {
+  fit = r.fit;
+  misses = λ h. not (subst (λ t. EndsIn t end) (sym r.reached) h);
+})
+
+pub ends_some : {X : Type 0} (f : X → ModelState) (o : Option X) (x : X) (reached : ModelState) → o ≡ Some x → reached ≡ f x → EndsIn reached (option_map f o)
+ends_some f o x reached e h = subst (λ p. EndsIn reached (option_map f p)) (sym e) h
+
+pub ends_none : {X : Type 0} (f : X → ModelState) (o : Option X) (reached : ModelState) → o ≡ None → EndsIn reached (option_map f o)
+ends_none f o reached e = subst (λ p. EndsIn reached (option_map f p)) (sym e) tt
+
+pub from_ends : {X : Type 0} (f : X → ModelState) (o : Option X) (x : X) (reached : ModelState) → o ≡ Some x → EndsIn reached (option_map f o) → reached ≡ f x
+from_ends f o x reached e h = subst (λ p. EndsIn reached (option_map f p)) e h
+
+pub stamps_are : (a s e t : ℕ) (all ordered : List Noted) → a ≡ s → e ≡ t → HasStamps a (greatest (max a e) all) all ordered → HasStamps s (greatest (max s t) all) all ordered
+stamps_are a s e t all ordered p q h = subst (λ n. HasStamps s (greatest (max s n) all) all ordered) q (subst (λ n. HasStamps n (greatest (max n e) all) all ordered) p h)

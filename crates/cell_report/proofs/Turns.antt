@@ -1,0 +1,53 @@
+-- Which entries of a journal are in turn.
+use Rattle.std.proofs.Common.{◌≡◌, ℕ, ◌≤◌, nat_le, true, inl, inr, List, [], ◌∷◌, ◌++◌, refl, sym, ap, ◌∙◌, arith}
+use Rattle.std.specs.List.{list_all}
+use Rattle.std.proofs.lemmas.Bool.{and_parts, and_from, leb-true, le-leb}
+use Rattle.cell_types.specs.declared.machine.Machine.{Machine}
+use Rattle.cell_types.specs.declared.journal.Entry.{Entry}
+use Rattle.cell_report.specs.declared.ordered.Noted.{Noted}
+use Rattle.cell_report.specs.Order.{key_of, key_at, noted_behind, noted_from}
+use Rattle.cell_report.proofs.Members.{In, in_append_left, in_append_right, in_append_cases}
+use Rattle.cell_report.proofs.Rising.{Rises}
+
+low_of : (d : Entry) (earlier : List Entry) (k : ℕ) → In d earlier → list_all (λ e. nat_le (key_of e) k) earlier ≡ true → key_of d ≤ k
+low_of d [] k h t = absurd h
+low_of d (e ∷ es) k (inl q) t =
+    let a = and_parts (nat_le (key_of e) k) (list_all (λ f. nat_le (key_of f) k) es) t in
+    let p = ap key_of q in
+    omega (arith, leb-true (key_of e) k a.0, p)
+low_of d (e ∷ es) k (inr h) t = low_of d es k h (and_parts (nat_le (key_of e) k) (list_all (λ f. nat_le (key_of f) k) es) t).1
+
+all_low : (earlier : List Entry) (k : ℕ) → ((d : Entry) → In d earlier → key_of d ≤ k) → list_all (λ e. nat_le (key_of e) k) earlier ≡ true
+all_low [] k f = refl
+all_low (e ∷ es) k f = and_from (nat_le (key_of e) k) (list_all (λ d. nat_le (key_of d) k) es) (le-leb (key_of e) k (f e (inl refl))) (all_low es k (λ d h. f d (inr h)))
+
+later_than : (m : Machine) (earlier es : List Entry) (z : Noted) (d : Entry) → In z (noted_from m earlier es) → In d earlier → z.in_turn ≡ true → key_of d ≤ key_at z
+later_than m earlier [] z d h i t = absurd h
+later_than m earlier (e ∷ es) z d (inl q) i t =
+    let k = ap key_at q in
+    omega (arith, low_of d earlier (key_of e) i (ap (λ (w : Noted). w.in_turn) q ∙ t), k)
+later_than m earlier (e ∷ es) z d (inr h) i t = later_than m (earlier ++ e ∷ []) es z d h (in_append_left earlier (e ∷ []) d i) t
+
+-- where all are in turn, the journal rises
+pub rises_in_turn : (m : Machine) (earlier es : List Entry) → ((z : Noted) → In z (noted_from m earlier es) → z.in_turn ≡ true) → Rises (noted_from m earlier es)
+rises_in_turn m earlier [] f = tt
+rises_in_turn m earlier (e ∷ es) f = (
+  λ z h. later_than m (earlier ++ e ∷ []) es z e h (in_append_right earlier (e ∷ []) e (inl refl)) (f z (inr h)),
+  rises_in_turn m (earlier ++ e ∷ []) es (λ z h. f z (inr h)),
+)
+
+in_turn_behind : (m : Machine) (earlier es : List Entry) → ((d : Entry) → In d earlier → (z : Noted) → In z (noted_from m earlier es) → key_of d ≤ key_at z) → Rises (noted_from m earlier es) → (z : Noted) → In z (noted_from m earlier es) → z.in_turn ≡ true
+in_turn_behind m earlier [] f r z h = absurd h
+in_turn_behind m earlier (e ∷ es) f r z (inl q) =
+    ap (λ (w : Noted). w.in_turn) (sym q) ∙ all_low earlier (key_of e) (λ d i. f d i (noted_behind m earlier e) (inl refl))
+in_turn_behind m earlier (e ∷ es) f r z (inr h) =
+    in_turn_behind m (earlier ++ e ∷ []) es
+    (λ d i w k. elim (in_append_cases earlier (e ∷ []) d i) [
+      | inl b ↦ f d b w (inr k)
+      | inr b ↦ elim b [ inl q ↦ let p = ap key_of q in omega (arith, r.0 w k, p) | inr n ↦ absurd n ]
+    ])
+    r.1 z h
+
+-- and the other way round
+pub in_turn_from_rises : (m : Machine) (es : List Entry) → Rises (noted_from m [] es) → (z : Noted) → In z (noted_from m [] es) → z.in_turn ≡ true
+in_turn_from_rises m es r z h = in_turn_behind m [] es (λ d i. absurd i) r z h

@@ -1,0 +1,11 @@
+use Rattle.cell_report.proofs.Scripts.{length-script_lines, lines-bad_row, lines-clean}
+use Rattle.cell_report.proofs.laws.lines_are_counted.Goals as goal
+
+pub returns-clause-most : goal.returns-clause-most
+returns-clause-most c = length-script_lines c.args.script.now
+
+pub returns-clause-bad_row : goal.returns-clause-bad_row
+returns-clause-bad_row c = lines-bad_row c.args.script.now
+
+pub returns-clause-clean : goal.returns-clause-clean
+returns-clause-clean c = lines-clean c.args.script.now

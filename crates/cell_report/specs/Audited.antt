@@ -1,0 +1,24 @@
+-- What an audit says yes to: journals that the machines noted of one legal history.
+use Rattle.std.specs.Prelude.{◌≡◌, List, map, Option, Some, None, ⊤}
+use Rattle.cell_types.specs.declared.machine.Machine.{Machine}
+use Rattle.cell_types.specs.declared.answer.Event.{Event}
+use Rattle.cell_types.specs.declared.journal.Entry.{Entry}
+use Rattle.cell_rules.specs.ModelState.{ModelState}
+use Rattle.cell_rules.specs.History.{after, IsLegal, own_events}
+use Rattle.cell_rules.specs.Journal.{noted, event_by}
+
+-- a state is the end that is given, if one is
+abbrev pub EndsIn : ModelState → Option ModelState → Type 0
+EndsIn reached None = ⊤
+EndsIn reached (Some end) = reached ≡ end
+
+-- a legal history, in which each machine's own events are its journal's, each entry has the stamp of the state at its point, and which comes to the end
+pub record IsAudited (start : ModelState) (journals : Machine → List Entry) (end : Option ModelState) (history : List Event) : Type 0 where
+  pub legal : IsLegal start history
+  pub own : (m : Machine) → own_events history m ≡ map (event_by m) (journals m)
+  pub noted : (m : Machine) → noted start history m ≡ journals m
+  pub ends : EndsIn (after start history) end
+
+-- no history is such
+abbrev pub HasNoHistory : ModelState → (Machine → List Entry) → Option ModelState → Type 0
+HasNoHistory start journals end = (history : List Event) → ¬ IsAudited start journals end history

@@ -1,0 +1,37 @@
+ghost use Rattle.std.specs.Prelude.{◌≡◌};
+ghost use Rattle.cell_report.specs.declared.audit_faults.AuditFault.TheVariants.{Memory};
+
+use std::alloc::{AllocError, AllocFailed};
+
+/// Why an audit refuses journals.
+#[derive(Clone, Copy, Debug, PartialEq, Eq)]
+pub enum AuditFault {
+    /// Two Done entries have this stamp: the least such.
+    Twice(u32),
+    /// No Done entry has this stamp, though the entries or the end go on to it: the least such behind
+    /// the start's.
+    Gap(u32),
+    /// The stamp of the first entry that isn't in turn, is too early for the start, or isn't what the
+    /// interlock answers at that point.
+    Differs(u32),
+    /// The end that is given isn't the state reached.
+    End,
+    /// Memory ran out, which says nothing of the journals.
+    Memory,
+}
+
+impl From<AllocError> for AuditFault {
+    ghost from_gives = { λ _ e. e ≡ Memory };
+
+    fn from(_e: AllocError) -> AuditFault {
+        AuditFault::Memory
+    }
+}
+
+impl<T: Drop> From<AllocFailed<T>> for AuditFault {
+    ghost from_gives = { λ _ e. e ≡ Memory };
+
+    fn from(_e: AllocFailed<T>) -> AuditFault {
+        AuditFault::Memory
+    }
+}

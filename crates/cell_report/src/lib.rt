@@ -1,0 +1,25 @@
+//! What is told of runs: `replay`, from the bytes of a script to the bytes of its answers, and `audit`,
+//! which finds the one history that the journals of the machines tell.
+#![tactic(auto)]
+
+pub mod audit_faults;
+pub mod audits;
+pub mod input;
+pub mod laws;
+mod ordered;
+mod output;
+mod records;
+pub mod replay;
+mod request;
+mod retraced;
+mod same;
+pub mod script;
+mod stamps;
+mod start;
+mod tell;
+
+pub use audit_faults::AuditFault;
+pub use audits::audit;
+
+#[cfg(test)]
+mod tests;

@@ -1,0 +1,104 @@
+//! The entries of all journals, in the order of an audit.
+ghost use Rattle.std.specs.Prelude.{◌≡◌, ◌++◌, ◌↔◌, IfOk, [], IsTrue};
+ghost use Rattle.cell_types.specs.Journals.{journal_of};
+ghost use Rattle.cell_report.specs.Order as order;
+ghost use Rattle.cell_report.specs.AuditFaults.{IsTooEarly};
+
+use cell_types::{Answer, Entry, Event, Journals, Machine};
+use std::alloc::{AllocError, Global};
+
+/// What the order goes by: the stamp, and at one stamp the Done entry before the others.
+fn key(entry: &Entry) -> u64
+    ensures { result ≡ order.key_of entry.now }
+{
+    let rank = match entry.answer {
+        Answer::Done => 0,
+        _ => 1,
+    };
+    2 * u64::from(entry.stamp) + rank
+}
+
+/// An entry of a machine, and whether it is in turn: later in the order than all that stand before
+/// it in its journal.
+#[derive(Clone, Copy, Debug)]
+pub struct Noted {
+    pub machine: Machine,
+    pub entry: Entry,
+    pub in_turn: bool,
+}
+
+impl Noted {
+    fn key(&self) -> u64
+        ensures { result ≡ order.key_at self.now }
+    {
+        key(&self.entry)
+    }
+
+    /// Whether the call was Done.
+    pub fn is_done(&self) -> bool
+        ensures { result ≡ order.is_done_noted self.now }
+    {
+        matches!(self.entry.answer, Answer::Done)
+    }
+
+    /// Whether the stamp is one that no entry has behind a start with this one.
+    pub fn is_too_early(&self, start: u32) -> bool
+        ensures { IsTrue result ↔ IsTooEarly start self.now }
+    {
+        if self.is_done() {
+            self.entry.stamp <= start
+        } else {
+            self.entry.stamp < start
+        }
+    }
+
+    /// The event that the machine noted.
+    pub fn event(&self) -> Event
+        ensures { result ≡ order.event_of self.now }
+    {
+        Event {
+            machine: self.machine,
+            call: self.entry.call,
+            answer: self.entry.answer,
+        }
+    }
+}
+
+fn push_journal(all: &mut Vec<Noted>, machine: Machine, journal: &[Entry]) -> Result<(), AllocError>
+    ensures { IfOk result (λ _. all.new.items ≡ all.old.items ++ order.noted_from machine [] journal.now) }
+{
+    let mut latest = 0;
+    for entry in journal {
+        let key = key(entry);
+        all.push(Noted {
+            machine,
+            entry: *entry,
+            in_turn: latest <= key,
+        })?;
+        latest = latest.max(key);
+    }
+    Ok(())
+}
+
+fn all_noted(alloc: Global, journals: &Journals) -> Result<Vec<Noted>, AllocError>
+    ensures { IfOk result (λ all. all.items ≡ order.all_noted (journal_of journals.now)) }
+{
+    let mut all = Vec::new(alloc);
+    push_journal(&mut all, Machine::Feed, &journals.feed)?;
+    push_journal(&mut all, Machine::Table, &journals.table)?;
+    push_journal(&mut all, Machine::Robot, &journals.robot)?;
+    push_journal(&mut all, Machine::Press, &journals.press)?;
+    push_journal(&mut all, Machine::Deposit, &journals.deposit)?;
+    push_journal(&mut all, Machine::Crane, &journals.crane)?;
+    push_journal(&mut all, Machine::Watch, &journals.watch)?;
+    Ok(all)
+}
+
+/// All entries in the order of an audit. It costs about n log n for n entries.
+pub fn in_order(alloc: Global, journals: &Journals) -> Result<Vec<Noted>, AllocError>
+    ensures { IfOk result (λ ordered. order.InOrder (order.all_noted (journal_of journals.now)) ordered.items) }
+{
+    let mut ordered = all_noted(alloc, journals)?;
+    ordered.sort_by_key(|noted| noted.key())?;
+    Ok(ordered)
+}

@@ -1,0 +1,39 @@
+//! Writes a text, and says how much of it was written.
+
+ghost use Rattle.std.specs.Prelude.{◌≡◌, OnOk, OnErr};
+ghost use Rattle.std.specs.Io.KnownBytes.{Appends};
+ghost use Rattle.cell_report.specs.Faults.{WroteFront};
+
+use std::io::{ErrorKind, Write};
+
+/// The writer failed, or took none of the bytes that were left.
+#[derive(Clone, Copy, PartialEq, Eq, Debug)]
+pub struct Unwritten;
+
+/// Writes the whole text. With an `Err` a front of it was written.
+pub fn write_text<W: Write>(writer: &mut W, text: &[u8]) -> Result<(), Unwritten>
+    ensures ok { OnOk result (Appends (W.contents writer.old) (W.contents writer.new) text.now) }
+    ensures err { OnErr result (WroteFront (W.contents writer.old) (W.contents writer.new) text.now) }
+{
+    let mut rest = text;
+    'parts: for _ in 0..u64::MAX {
+        if rest.is_empty() {
+            return match writer.flush() {
+                Ok(()) => Ok(()),
+                Err(_) => Err(Unwritten),
+            };
+        }
+        let count = match writer.write(rest) {
+            Ok(0) => return Err(Unwritten),
+            Ok(count) => count,
+            Err(error) => {
+                if error.kind() != ErrorKind::Interrupted {
+                    return Err(Unwritten);
+                }
+                0
+            }
+        };
+        rest = &rest[count..];
+    }
+    Err(Unwritten)
+}

@@ -1,0 +1,43 @@
+//! Whether two values are the same.
+ghost use Rattle.std.specs.Prelude.{◌≡◌, ◌↔◌, IsTrue, All};
+ghost use Rattle.cell_types.specs.Everything.{all_zones, all_places};
+ghost use Rattle.cell_rules.specs.ModelState.{zone_at, is_full};
+
+use cell_rules::{State, ZoneState};
+use cell_types::{Answer, Place, Zone};
+
+/// Whether two answers are the same.
+pub fn is_same_answer(a: &Answer, b: &Answer) -> bool
+    ensures { IsTrue result ↔ (a.now ≡ b.now) }
+{
+    a == b
+}
+
+fn is_same_zone(a: &ZoneState, b: &ZoneState) -> bool
+    ensures { IsTrue result ↔ (a.now ≡ b.now) }
+{
+    a == b
+}
+
+fn has_same_zones(a: &State, b: &State) -> bool
+    ensures { IsTrue result ↔ All (λ zone. zone_at a.now zone ≡ zone_at b.now zone) all_zones }
+{
+    Zone::ALL
+        .iter()
+        .all(|zone| is_same_zone(&a.zone(*zone), &b.zone(*zone)))
+}
+
+fn has_same_places(a: &State, b: &State) -> bool
+    ensures { IsTrue result ↔ All (λ place. is_full a.now place ≡ is_full b.now place) all_places }
+{
+    Place::ALL
+        .iter()
+        .all(|place| a.is_full(*place) == b.is_full(*place))
+}
+
+/// Whether two states are the same: their zones, their full places and their stamps.
+pub fn is_same_state(a: &State, b: &State) -> bool
+    ensures { IsTrue result ↔ (a.now ≡ b.now) }
+{
+    has_same_zones(a, b) && has_same_places(a, b) && a.stamp() == b.stamp()
+}

@@ -1,0 +1,46 @@
+//! What each machine notes of the calls that were settled.
+ghost use Rattle.std.specs.Prelude.{◌≡◌, []};
+ghost use Rattle.cell_types.specs.declared.machine.Machine.{Machine};
+ghost use Rattle.cell_types.specs.Journals.{journal_of};
+
+use crate::answer::Answer;
+use crate::call::Call;
+use std::alloc::Global;
+
+/// A machine's note of a call that was settled: the call, its answer, and the stamp of the state at
+/// the call's point, which is the one after it where the answer is Done.
+#[derive(Clone, Copy, Debug, PartialEq, Eq)]
+pub struct Entry {
+    pub call: Call,
+    pub answer: Answer,
+    pub stamp: u32,
+}
+
+/// The journal of each machine, its oldest entry first.
+#[derive(Debug, Drop)]
+pub struct Journals {
+    pub feed: Vec<Entry>,
+    pub table: Vec<Entry>,
+    pub robot: Vec<Entry>,
+    pub press: Vec<Entry>,
+    pub deposit: Vec<Entry>,
+    pub crane: Vec<Entry>,
+    pub watch: Vec<Entry>,
+}
+
+impl Journals {
+    /// Seven empty journals. It takes no memory: each journal keeps the allocator for its entries.
+    pub fn new(alloc: Global) -> Journals
+        ensures { (machine : Machine) → journal_of result machine ≡ [] }
+    {
+        Journals {
+            feed: Vec::new(alloc),
+            table: Vec::new(alloc),
+            robot: Vec::new(alloc),
+            press: Vec::new(alloc),
+            deposit: Vec::new(alloc),
+            crane: Vec::new(alloc),
+            watch: Vec::new(alloc),
+        }
+    }
+}
