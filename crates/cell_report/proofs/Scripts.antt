@@ -11,7 +11,7 @@ use Rattle.cell_types.specs.declared.place.Place.TheVariants.{PressIn, PressOut}
 use Rattle.cell_rules.specs.ModelState.{ModelState, last_stamp, size_of}
 use Rattle.cell_rules.specs.PlaceSet.{PlaceSet, has}
 use Rattle.cell_rules.specs.History.{IsLegal}
-use Rattle.cell_rules.specs.Start.{IsOpening, IsStart, places_of, start_state}
+use Rattle.cell_rules.specs.Start.{IsStartState, IsStart, places_of, start_state}
 use Rattle.cell_report.specs.Requests.{Row}
 use Rattle.cell_report.specs.Script.{end_of, event_line, event_lines, events_from, history_of, is_cut_of, is_start, lines_from, most_records, most_rows, number_in, outcome_from, places_in, requests_in, rows_lines, rows_outcome, rows_start, script_events, script_lines, script_outcome, script_rows, script_start, start_line, start_fields, start_in, start_of, used, without_last}
 use Rattle.cell_report.specs.declared.script.ScriptFault.{ScriptFault}
@@ -58,7 +58,7 @@ abbrev pub IsEarly : ScriptFault → Type 0
 IsEarly fault = (number : ℕ) → fault ≡ BadRow number → ⊥
 
 abbrev pub IsRecord0 : Result ModelState ScriptFault → Type 0
-IsRecord0 start = MatchResult start IsOpening IsEarly
+IsRecord0 start = MatchResult start IsStartState IsEarly
 
 bad_start : IsEarly BadStart
 bad_start number e = absurd (cc)
@@ -101,11 +101,11 @@ rows_start-record0 : (is_cut : Bool) (rows : List Row) → IsRecord0 (rows_start
 rows_start-record0 is_cut [] = no_records is_cut
 rows_start-record0 is_cut (row ∷ rows) = start_in-record0 row
 
-given : (start : Result ModelState ScriptFault) → IsRecord0 start → IfOk start IsOpening
+given : (start : Result ModelState ScriptFault) → IsRecord0 start → IfOk start IsStartState
 given (Ok s) h = h
 given (Err fault) h = tt
 
-pub given-script_start : (bytes : List ℕ) → IfOk (script_start bytes) IsOpening
+pub given-script_start : (bytes : List ℕ) → IfOk (script_start bytes) IsStartState
 unfolding script_start
 given-script_start bytes = given _ (rows_start-record0 (is_cut_of bytes) (script_rows bytes))
 

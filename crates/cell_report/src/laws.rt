@@ -2,7 +2,7 @@
 
 ghost use Rattle.std.specs.Prelude.{◌≡◌, ◌≤◌, ℕ, length, IfOk};
 ghost use Rattle.cell_rules.specs.History.{IsLegal};
-ghost use Rattle.cell_rules.specs.Start.{IsOpening};
+ghost use Rattle.cell_rules.specs.Start.{IsStartState};
 ghost use Rattle.cell_report.specs.Script.{script_events, script_lines, script_outcome, script_rows, script_start};
 
 use crate::script::{Outcome, ScriptFault};
@@ -10,7 +10,7 @@ use crate::script::{Outcome, ScriptFault};
 /// The events of a script are a legal history from the start that record 0 gives, and a start it is.
 pub fn events_are_legal(script: &[u8])
     ensures legal { IfOk (script_start script.now) (λ s. IsLegal s (script_events script.now)) }
-    ensures opening { IfOk (script_start script.now) IsOpening }
+    ensures start { IfOk (script_start script.now) IsStartState }
 {}
 
 /// A script has a line for record 0 and one for each event. Where a record is refused by its number,

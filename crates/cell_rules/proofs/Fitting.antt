@@ -1,11 +1,10 @@
 -- The state before an event that is Done suits it.
-use Rattle.std.proofs.Common.{◌≡◌, ◌≢◌, Bool, true, false, ◌&&◌, not, Option, Some, None, is_some, unwrap_or, List, [], ◌∷◌, ◌++◌, refl, sym, ap, ◌∙◌, subst, IsTrue}
-use Rattle.std.specs.Bool.{then_some}
-use Rattle.std.proofs.lemmas.Bool.{not-false, false_from_ne_true, and_parts, or_parts}
+use Rattle.std.proofs.Common.{◌≡◌, ◌≢◌, Bool, true, false, ◌&&◌, not, Option, Some, None, unwrap_or, List, [], ◌∷◌, ◌++◌, sym, ap, ◌∙◌, subst, IsTrue}
+use Rattle.std.proofs.lemmas.Bool.{not-false, false_from_ne_true, and_parts, or_parts, or_right}
 use Rattle.cell_types.specs.declared.machine.Machine.{Machine}
-use Rattle.cell_types.specs.declared.machine.Machine.TheVariants.{Press}
+use Rattle.cell_types.specs.declared.machine.Machine.TheVariants.{Feed, Press, Deposit}
 use Rattle.cell_types.specs.declared.zone.Zone.{Zone}
-use Rattle.cell_types.specs.declared.zone.Zone.TheVariants.{Z1, Z2, Z3, Z4, Z5, Z6}
+use Rattle.cell_types.specs.declared.zone.Zone.TheVariants.{Z3, Z4, Z5, Z6}
 use Rattle.cell_types.specs.declared.zone.Transfer.{Transfer}
 use Rattle.cell_types.specs.declared.place.Place.TheVariants.{PressIn, PressOut}
 use Rattle.cell_types.specs.declared.posture.Posture.{Posture}
@@ -15,21 +14,21 @@ use Rattle.cell_types.specs.declared.call.Call.{Call}
 use Rattle.cell_types.specs.declared.call.Call.TheVariants.{SetPose, Advance}
 use Rattle.cell_types.specs.declared.answer.Answer.TheVariants.{Done}
 use Rattle.cell_types.specs.declared.answer.Event.{Event}
-use Rattle.cell_types.specs.declared.answer.Refusal.{Refusal}
 use Rattle.cell_types.specs.declared.answer.Refusal.TheVariants.{Jump, PlaceFull, NotOwner}
 use Rattle.cell_types.specs.Tables.{host_of, transfer_of, posture_of}
 use Rattle.cell_types.specs.Same.{same_machine, same_posture, one_posture}
 use Rattle.cell_rules.specs.ModelState.{ModelState, is_full}
 use Rattle.cell_rules.specs.Sound.{is_onto_full}
-use Rattle.cell_rules.specs.Refusals.{owns, owner_of, posture_at, is_moving_pose, passes_through_moving, all_move, moves_at, is_blocked, opens_onto_plate, no_room, pose_refusal, advance_refusal}
+use Rattle.cell_rules.specs.Refusals.{owns, owner_of, posture_at, is_moving_pose, passes_through_moving, all_move, moves_at, is_blocked, opens_onto_plate, pose_refusal, advance_refusal}
 use Rattle.cell_rules.specs.Refusals as refusals
 use Rattle.cell_rules.specs.Reply.{reply, next}
 use Rattle.cell_rules.specs.History.{after, IsLegal, Holds}
 use Rattle.cell_rules.specs.Laws.{Throughout, EventsFit, done}
-use Rattle.cell_rules.proofs.Tables.{and_both, implied, from_machines}
-use Rattle.cell_rules.proofs.Puts.{each_zone}
+use Rattle.cell_rules.proofs.Tables.{and_both, implied, from_zones}
 use Rattle.cell_rules.proofs.Done.{none_then, no_zone, not_true, advance_done}
+use Rattle.cell_rules.proofs.Moves.{concerns_posture, pose_owned}
 use Rattle.cell_rules.proofs.Soundness.{done_none}
+use Rattle.cell_rules.proofs.Holders.{same_machine-self}
 use Rattle.cell_rules.proofs.Accepted.{pose_fits}
 
 -- ---- an event's answer is the reply at the state before it
@@ -51,22 +50,12 @@ differs : (p q : Posture) → p ≢ q → same_posture p q ≡ false
 differs p q ne = false_from_ne_true (same_posture p q) (λ e. ne (one_posture p q e))
 
 all_of_host : (s : ModelState) (m : Machine) → all_move s m ≡ true → (z : Zone) → moves_at s m z ≡ true
-all_of_host s m e =
-    let a : Zone → Bool = moves_at s m in
-    let p6 = and_parts (a Z1 && a Z2 && a Z3 && a Z4 && a Z5) (a Z6) e in
-    let p5 = and_parts (a Z1 && a Z2 && a Z3 && a Z4) (a Z5) p6.0 in
-    let p4 = and_parts (a Z1 && a Z2 && a Z3) (a Z4) p5.0 in
-    let p3 = and_parts (a Z1 && a Z2) (a Z3) p4.0 in
-    let p2 = and_parts (a Z1) (a Z2) p3.0 in
-    each_zone (λ z. a z ≡ true) p2.0 p2.1 p3.1 p4.1 p5.1 p6.1
-
-itself : (m : Machine) → same_machine m m ≡ true
-itself = from_machines (λ m. same_machine m m) refl
+all_of_host s m = from_zones (moves_at s m)
 
 pub no_jump : (s : ModelState) (m : Machine) (p : Pose) → pose_refusal s m p ≡ None → passes_through_moving m ≡ true → not (is_moving_pose p) ≡ true → (z : Zone) → host_of z ≡ m → posture_at s z ≡ Moving
 no_jump s m p e passes still z host =
     let moves = not-false (all_move s m) (unless_false (passes_through_moving m && not (is_moving_pose p)) (not (all_move s m)) (none_then _ Jump (pose_fits s m p e).0) (and_both _ _ passes still)) in
-    let hosts : same_machine (host_of z) m ≡ true = ap (same_machine (host_of z)) (sym host) ∙ itself (host_of z) in
+    let hosts : same_machine (host_of z) m ≡ true = ap (same_machine (host_of z)) (sym host) ∙ same_machine-self (host_of z) in
     one_posture (posture_at s z) Moving (implied (same_machine (host_of z) m) (same_posture (posture_at s z) Moving) (all_of_host s m moves z) hosts)
 
 -- where a zone opens inward, it's not blocked
@@ -76,15 +65,26 @@ unblocked s m p e z opens shut =
     let opened : refusals.opens s m p z ≡ true = and_both _ _ to (not_true _ (differs (posture_at s z) OpenIn shut)) in
     unless_false (refusals.opens s m p z) (is_blocked s z) (none_then _ PlaceFull (no_zone (opens_onto_plate s m p) (pose_fits s m p e).1 z)) opened
 
-not_some : (b : Bool) (r : Refusal) → is_some (then_some b r) ≡ false → b ≡ false
-not_some true r e = cc
-not_some false r e = refl
-
 onto_empty : (s : ModelState) (z : Zone) (row : Transfer) → is_blocked s z ≡ false → transfer_of z OpenIn ≡ Some row → is_full s row.to ≡ false
 onto_empty s Z3 row e way = sym (ap (is_onto_full s.full) way) ∙ (or_parts (is_full s PressIn) (is_full s PressOut) e).0
-onto_empty s z row e way = not_some (is_full s row.to) PlaceFull (subst (λ (w : Option Transfer). is_some (no_room s w) ≡ false) way e)
+onto_empty s z row e way = sym (ap (is_onto_full s.full) way) ∙ e
+
+-- a pose changes only what its machine owns
+changed_owned : (s : ModelState) (m : Machine) (p : Pose) → pose_refusal s m p ≡ None → (z : Zone) (q : Posture) → posture_of m p z ≡ Some q → posture_at s z ≢ q → owns s m z ≡ true
+changed_owned s m p e z q gives differ =
+    let other : not (same_posture q (posture_at s z)) ≡ true = not_true _ (differs q (posture_at s z) (λ same. differ (sym same))) in
+    let concern : concerns_posture (posture_of m p z) (posture_at s z) ≡ true = ap (λ (o : Option Posture). concerns_posture o (posture_at s z)) gives ∙ or_right (same_posture q Moving) _ other in
+    not-false (owns s m z) (unless_false _ (not (owns s m z)) (pose_owned s m p z e) concern)
 
 -- ---- an advance
+
+feed_works : (s : ModelState) → advance_refusal s Feed ≡ None → posture_at s Z6 ≡ Moving
+feed_works s e = one_posture (posture_at s Z6) Moving (advance_done s Feed e).2
+
+deposit_works : (s : ModelState) → advance_refusal s Deposit ≡ None → (posture_at s Z4 ≡ Moving) × (posture_at s Z5 ≡ Moving)
+deposit_works s e =
+    let both = and_parts (same_posture (posture_at s Z4) Moving) (same_posture (posture_at s Z5) Moving) (advance_done s Deposit e).2 in
+    (one_posture (posture_at s Z4) Moving both.0, one_posture (posture_at s Z5) Moving both.1)
 
 pub press_works : (s : ModelState) → advance_refusal s Press ≡ None → (owns s Press Z3 ≡ true) × (posture_at s Z3 ≡ Closed)
 press_works s e =
@@ -100,6 +100,10 @@ fits s h holders l = record {
   no_jump = λ before rest m p split. no_jump (after s before) m p (done_none _ (replies_done s h before m (SetPose p) rest l split));
   opens_onto_empty = λ before rest m p split z row opens shut. onto_empty (after s before) z row (unblocked (after s before) m p (done_none _ (replies_done s h before m (SetPose p) rest l split)) z opens shut);
   press_opens_empty = λ before rest m p split opens shut. or_parts _ _ (unblocked (after s before) m p (done_none _ (replies_done s h before m (SetPose p) rest l split)) Z3 opens shut);
+  pose_by_holder = λ before rest m p split z q gives differ.
+      holders before (done m (SetPose p) ∷ rest) split m z (changed_owned (after s before) m p (done_none _ (replies_done s h before m (SetPose p) rest l split)) z q gives differ);
+  feed_works_running = λ before rest split. feed_works (after s before) (done_none _ (replies_done s h before Feed Advance rest l split));
+  deposit_works_running = λ before rest split. deposit_works (after s before) (done_none _ (replies_done s h before Deposit Advance rest l split));
   press_works_closed = λ before rest split.
       let works = press_works (after s before) (done_none _ (replies_done s h before Press Advance rest l split)) in
       (holders before (done Press Advance ∷ rest) split Press Z3 works.0, works.1);

@@ -16,7 +16,7 @@ use Rattle.cell_rules.specs.Sound.{IsSound}
 use Rattle.cell_rules.specs.Refusals.{give_refusal, take_refusal}
 use Rattle.cell_rules.specs.Reply.{reply, posed, halted, is_belt_of}
 use Rattle.cell_rules.specs.History.{after, IsLegal, gives, takes, is_given_into, is_taken_from}
-use Rattle.cell_rules.proofs.Puts.{each_zone, zone_in-map, put_cases}
+use Rattle.cell_rules.proofs.Puts.{zone_in-map, put_cases}
 use Rattle.cell_rules.proofs.Kept.{claimed, yielded, released}
 use Rattle.cell_rules.proofs.Plates.{given, taken}
 use Rattle.cell_rules.proofs.Transfers.{give_finds, take_finds}

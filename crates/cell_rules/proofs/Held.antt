@@ -1,12 +1,11 @@
 -- Who holds a zone by the events, computed event by event.
-use Rattle.std.proofs.Common.{◌≡◌, Bool, true, false, ◌&&◌, ◌||◌, not, List, [], ◌∷◌, ◌++◌, ◌⊎◌, inl, inr, refl, sym, ap, ◌∙◌, ◌↔◌}
-use Rattle.std.specs.List.{list_any}
+use Rattle.std.proofs.Common.{Bool, ◌&&◌, ◌||◌, not, List, [], ◌∷◌}
 use Rattle.cell_types.specs.declared.machine.Machine.{Machine}
 use Rattle.cell_types.specs.declared.zone.Zone.{Zone}
 use Rattle.cell_types.specs.declared.answer.Event.{Event}
 use Rattle.cell_rules.specs.ModelState.{ModelState}
 use Rattle.cell_rules.specs.Refusals.{owns}
-use Rattle.cell_rules.specs.History.{is_gain, is_loss, LosesNothing, GainsAndKeeps, Holds}
+use Rattle.cell_rules.specs.History.{is_gain, is_loss}
 
 -- a machine that held a zone before a history, or not, holds it after: it gained it and lost it no more since
 abbrev pub holds_since : Bool → List Event → Machine → Zone → Bool

@@ -13,11 +13,11 @@ use Rattle.cell_types.specs.Same.{same_machine, same_zone, one_machine}
 use Rattle.cell_rules.specs.declared.zones.ZoneState.{ZoneState}
 use Rattle.cell_rules.specs.ZoneMap.{zone_in, put_zone}
 use Rattle.cell_rules.specs.ModelState.{ModelState, zone_at}
-use Rattle.cell_rules.specs.Sound.{is_owned_by}
+use Rattle.cell_rules.specs.Sound.{is_owned_by, is_party}
 use Rattle.cell_rules.specs.Refusals.{owns, owner_of, claim_refusal, give_refusal, yield_refusal, take_refusal, release_refusal}
-use Rattle.cell_rules.specs.Reply.{reply, next, next_by, changed, posed, halted, is_belt_of}
+use Rattle.cell_rules.specs.Reply.{reply, next, next_by, changed, other_party, posed, halted, is_belt_of}
 use Rattle.cell_rules.specs.History.{after, IsLegal, is_done_answer, gains, loses, is_gain, is_loss}
-use Rattle.cell_rules.proofs.Tables.{and_left, and_right}
+use Rattle.cell_rules.proofs.Tables.{and_left, and_right, from_machines}
 use Rattle.cell_rules.proofs.Puts.{each_zone, zone_in-map, zone_in-kept, put_cases}
 use Rattle.cell_rules.proofs.Done.{claim_done, give_done, yield_done, take_done, release_done}
 use Rattle.cell_rules.proofs.Kept.{claimed, yielded, released}
@@ -50,6 +50,13 @@ claim_unowned s n y e m = unowned (owner_of s y) m (second _ _ _ (claim_done s n
 pub give_owned : (s : ModelState) (n : Machine) (y : Zone) → reply s n (Give y) ≡ Done → owns s n y ≡ true
 give_owned s n y e = second _ _ _ (give_done s n y (done_none (give_refusal s n y) e)).0
 
+-- a handover is a party's
+give_by_party : (s : ModelState) (n : Machine) (y : Zone) → reply s n (Give y) ≡ Done → is_party n y ≡ true
+give_by_party s n y e = and_left _ _ (give_done s n y (done_none (give_refusal s n y) e)).0
+
+yield_by_party : (s : ModelState) (n : Machine) (y : Zone) → reply s n (Yield y) ≡ Done → is_party n y ≡ true
+yield_by_party s n y e = and_left _ _ (yield_done s n y (done_none (yield_refusal s n y) e)).0
+
 pub yield_owned : (s : ModelState) (n : Machine) (y : Zone) → reply s n (Yield y) ≡ Done → owns s n y ≡ true
 yield_owned s n y e = second _ _ _ (yield_done s n y (done_none (yield_refusal s n y) e)).0
 
@@ -72,6 +79,9 @@ elsewhere : (here gain loss own : Bool) → here ≡ false → own ≡ ((here &&
 elsewhere true gain loss own e = cc
 elsewhere false gain loss own e = sym (and-true own)
 
+pub same_machine-self : (m : Machine) → same_machine m m ≡ true
+same_machine-self = from_machines (λ m. same_machine m m) refl
+
 pub same_zone-self : (z : Zone) → same_zone z z ≡ true
 same_zone-self = each_zone (λ z. same_zone z z ≡ true) refl refl refl refl refl refl
 
@@ -88,12 +98,20 @@ owner-halted : (t : Bool) (v : ZoneState) → (if t then record v { posture = Cl
 owner-halted true v = refl
 owner-halted false v = refl
 
+-- a handover of a party is one from the other party
+from_party : (s : ModelState) (n : Machine) (y : Zone) (m : Machine) (z : Zone) → is_party n y ≡ true
+    → ((same_zone y z && same_machine (other_party n y) m) || (owns s m z && not (same_zone y z && same_machine n m)))
+    ≡ ((same_zone y z && (is_party n y && same_machine (other_party n y) m)) || (owns s m z && not (same_zone y z && same_machine n m)))
+from_party s n y m z party = ap (λ b. (same_zone y z && (b && same_machine (other_party n y) m)) || (owns s m z && not (same_zone y z && same_machine n m))) (sym party)
+
 owns-changed : (s : ModelState) (n : Machine) (c : Call) (m : Machine) (z : Zone) → reply s n c ≡ Done → owns (changed s n c) m z ≡ (gains n c m z || (owns s m z && not (loses n c m z)))
 owns-changed s n (Claim y) m z e =
     owned-put s y (claimed (zone_at s y) n y) m false (claim_unowned s n y e m) z
     ∙ ap (λ l. (same_zone y z && same_machine n m) || (owns s m z && not l)) (and-false (same_zone y z))
-owns-changed s n (Give y) m z e = owned-put s y (given (zone_at s y) n y) m (same_machine n m) (owned_as (owner_of s y) n m (give_owned s n y e)) z
-owns-changed s n (Yield y) m z e = owned-put s y (yielded (zone_at s y) n y) m (same_machine n m) (owned_as (owner_of s y) n m (yield_owned s n y e)) z
+owns-changed s n (Give y) m z e =
+    owned-put s y (given (zone_at s y) n y) m (same_machine n m) (owned_as (owner_of s y) n m (give_owned s n y e)) z ∙ from_party s n y m z (give_by_party s n y e)
+owns-changed s n (Yield y) m z e =
+    owned-put s y (yielded (zone_at s y) n y) m (same_machine n m) (owned_as (owner_of s y) n m (yield_owned s n y e)) z ∙ from_party s n y m z (yield_by_party s n y e)
 owns-changed s n (Take y) m z e =
     zone_in-kept (λ x v. is_owned_by v.owner m ≡ (owns s m x && true)) s.zones (taken (zone_at s y) n y) (λ x. sym (and-true (owns s m x))) y (sym (and-true (owns s m y))) z
 owns-changed s n (Release y) m z e =

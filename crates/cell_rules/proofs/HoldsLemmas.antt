@@ -1,13 +1,13 @@
 -- A machine holds a zone by the events exactly where the test that goes event by event says so, and where it is the owner in the state after.
 use Rattle.std.proofs.Common.{◌≡◌, Bool, true, false, ◌&&◌, ◌||◌, not, List, [], ◌∷◌, ◌++◌, ◌⊎◌, inl, inr, refl, sym, ap, ◌∙◌, ◌↔◌, IsTrue}
-use Rattle.std.specs.List.{list_any}
-use Rattle.std.proofs.lemmas.Bool.{or_left, or_right, or_parts, or_from}
+use Rattle.std.proofs.lemmas.Bool.{or_left, or_right, false_from_ne_true}
+use Rattle.std.proofs.lemmas.List.Elements.{All-nil, All-cons, All-head, All-tail}
 use Rattle.cell_types.specs.declared.machine.Machine.{Machine}
 use Rattle.cell_types.specs.declared.zone.Zone.{Zone}
 use Rattle.cell_types.specs.declared.answer.Event.{Event}
 use Rattle.cell_rules.specs.ModelState.{ModelState}
 use Rattle.cell_rules.specs.Refusals.{owns}
-use Rattle.cell_rules.specs.History.{after, IsLegal, is_gain, is_loss, LosesNothing, GainsAndKeeps, Holds}
+use Rattle.cell_rules.specs.History.{after, IsLegal, is_gain, is_loss, IsLoss, LosesNothing, GainsAndKeeps, Holds}
 use Rattle.cell_rules.proofs.Done.{not_true}
 use Rattle.cell_rules.proofs.Held.{holds_since, holds}
 use Rattle.cell_rules.proofs.Holders.{owns-after}
@@ -20,8 +20,8 @@ holds_since-append b (e ∷ x) y m z = holds_since-append (is_gain e m z || (b &
 holds_since-kept : (h : List Event) (m : Machine) (z : Zone) → LosesNothing h m z → holds_since true h m z ≡ true
 holds_since-kept [] m z k = refl
 holds_since-kept (e ∷ h) m z k =
-    let parts = or_parts (is_loss e m z) (list_any (λ x. is_loss x m z) h) k in
-    ap (λ b. holds_since b h m z) (or_right (is_gain e m z) (true && not (is_loss e m z)) (not_true (is_loss e m z) parts.0)) ∙ holds_since-kept h m z parts.1
+    let here = false_from_ne_true (is_loss e m z) (All-head (λ x. ¬ IsLoss x m z) e h k) in
+    ap (λ b. holds_since b h m z) (or_right (is_gain e m z) (true && not (is_loss e m z)) (not_true (is_loss e m z) here)) ∙ holds_since-kept h m z (All-tail (λ x. ¬ IsLoss x m z) e h k)
 
 holds_since-gained : (b : Bool) (h : List Event) (m : Machine) (z : Zone) → GainsAndKeeps h m z → holds_since b h m z ≡ true
 holds_since-gained b h m z g =
@@ -37,12 +37,12 @@ gained_or_kept false false l e = cc
 
 -- what is held at the end was gained last, or held at the start, and not lost since
 held_by_events : (b : Bool) (h : List Event) (m : Machine) (z : Zone) → holds_since b h m z ≡ true → ((b ≡ true) × LosesNothing h m z) ⊎ GainsAndKeeps h m z
-held_by_events b [] m z e = inl (e, refl)
+held_by_events b [] m z e = inl (e, All-nil (λ x. ¬ IsLoss x m z))
 held_by_events b (x ∷ h) m z e =
     elim (held_by_events (is_gain x m z || (b && not (is_loss x m z))) h m z e) [
       | inl k ↦ elim (gained_or_kept (is_gain x m z) b (is_loss x m z) k.0) [
         | inl g ↦ inr (record { before = []; gain = x; since = h; split = refl; gained = g; kept = k.1 })
-        | inr o ↦ inl (o.0, or_from (is_loss x m z) (list_any (λ y. is_loss y m z) h) o.1 k.1)
+        | inr o ↦ inl (o.0, All-cons (λ y. ¬ IsLoss y m z) x h (λ lost. cc) k.1)
       ]
       | inr g ↦ inr (record { before = x ∷ g.before; gain = g.gain; since = g.since; split = ap (λ t. x ∷ t) g.split; gained = g.gained; kept = g.kept })
     ]

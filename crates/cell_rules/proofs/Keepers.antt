@@ -21,6 +21,7 @@ use Rattle.cell_rules.proofs.Counted.{place-changed}
 use Rattle.cell_rules.proofs.Histories.{after-append, sound-after}
 use Rattle.cell_rules.proofs.Soundness.{next_keeps}
 use Rattle.cell_rules.proofs.Lasting.{right_lasts_held, right_lasts_zone, own_head}
+use Rattle.cell_rules.proofs.Unposed.{right_lasts_posture}
 
 -- who fills or empties a place keeps it
 abbrev changes : Machine → Call → Place → Bool
@@ -74,10 +75,11 @@ pub right_lasts_places : (s : ModelState) (before more : List Event) → IsSound
 right_lasts_places s before more k p none =
     ap (λ (x : ModelState). is_full x p) (after-append s before more) ∙ full-after (after s before) more p (sound-after s before k) none
 
--- what a machine holds, and its own places, last while others make the events
+-- what a machine holds, its own places and the postures that it gives last while others make the events
 pub right_lasts : (s : ModelState) (before more : List Event) → IsSound s → IsLegal s (before ++ more) → RightLasts s before more
 right_lasts s before more k l = record {
   held = right_lasts_held s before more k l;
   zone = right_lasts_zone s before more k l;
   places = right_lasts_places s before more k;
+  posture = right_lasts_posture s before more;
 }

@@ -11,22 +11,21 @@ use Rattle.cell_types.specs.declared.call.Call.TheVariants.{Claim, Give, Yield, 
 use Rattle.cell_types.specs.declared.answer.Answer.{Answer}
 use Rattle.cell_types.specs.declared.answer.Answer.TheVariants.{Done, Shown, Refused}
 use Rattle.cell_types.specs.declared.answer.Event.{Event}
-use Rattle.cell_types.specs.declared.answer.Refusal.TheVariants.{NotOwner}
 use Rattle.cell_types.specs.Tables.{host_of, posture_of}
 use Rattle.cell_types.specs.Same.{same_machine, same_posture, one_machine}
 use Rattle.cell_rules.specs.declared.zones.ZoneState.{ZoneState}
 use Rattle.cell_rules.specs.ZoneMap.{zone_in, put_zone}
 use Rattle.cell_rules.specs.ModelState.{ModelState, zone_at}
 use Rattle.cell_rules.specs.Sound.{IsSound, is_owned_by}
-use Rattle.cell_rules.specs.Refusals.{owns, owner_of, is_concerned, unowned_by_pose, pose_refusal, advance_refusal}
+use Rattle.cell_rules.specs.Refusals.{owns, owner_of, pose_refusal, advance_refusal}
 use Rattle.cell_rules.specs.Reply.{reply, next, next_by, changed, posed, halted, is_belt_of}
 use Rattle.cell_rules.specs.History.{after, IsLegal, Holds, own_events}
 use Rattle.cell_rules.proofs.Tables.{implied}
 use Rattle.cell_rules.proofs.Puts.{zone_in-map, put_cases}
-use Rattle.cell_rules.proofs.Done.{none_then, no_zone, pose_done, advance_done}
+use Rattle.cell_rules.proofs.Done.{advance_done}
 use Rattle.cell_rules.proofs.Kept.{claimed, yielded, released}
 use Rattle.cell_rules.proofs.Plates.{given, taken}
-use Rattle.cell_rules.proofs.Moves.{belts_move, concerns_posture, concerned, unconcerned}
+use Rattle.cell_rules.proofs.Moves.{belts_move, concerns_posture, pose_owned}
 use Rattle.cell_rules.proofs.Soundness.{next_keeps, done_none}
 use Rattle.cell_rules.proofs.Histories.{after-append, legal-left, sound-after}
 use Rattle.cell_rules.proofs.Holders.{owned_as, claim_unowned, give_owned, yield_owned, take_owned, release_owned}
@@ -54,7 +53,7 @@ stays (Some OpenIn) OpenIn e = refl
 stays (Some OpenOut) OpenOut e = refl
 stays (Some _) _ e = cc
 
-belt_host : (n : Machine) (z : Zone) → is_belt_of n z ≡ true → host_of z ≡ n
+pub belt_host : (n : Machine) (z : Zone) → is_belt_of n z ≡ true → host_of z ≡ n
 belt_host Feed z e = one_machine (host_of z) Feed e
 belt_host Deposit z e = one_machine (host_of z) Deposit e
 belt_host _ z e = cc
@@ -72,9 +71,7 @@ zone_at-changed s n (Release y) m z k d o e = put_other s m y (released (zone_at
 zone_at-changed s n (SetPose p) m z k d o e =
     let v = zone_at s z in
     let q = posture_of n p z in
-    let allowed : (is_concerned s n p z && not (owns s n z)) ≡ false = none_then _ (NotOwner v.owner) (no_zone (unowned_by_pose s n p) (pose_done s n p (done_none (pose_refusal s n p) e)).0 z) in
-    let owned : (concerns_posture q v.posture && not (owns s n z)) ≡ false = unconcerned (concerns_posture q v.posture) (is_concerned s n p z) (not (owns s n z)) (concerned s n p z) allowed in
-    let same = stays q v.posture (unless_owned (concerns_posture q v.posture) (owns s n z) owned (owned_apart v.owner n m o d)) in
+    let same = stays q v.posture (unless_owned (concerns_posture q v.posture) (owns s n z) (pose_owned s n p z (done_none (pose_refusal s n p) e)) (owned_apart v.owner n m o d)) in
     zone_in-map (posed n p) s.zones z ∙ ap (λ (x : Posture). record v { posture = x }) same
 zone_at-changed s n Advance m z k d o e =
     let v = zone_at s z in

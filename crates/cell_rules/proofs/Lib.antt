@@ -15,6 +15,7 @@ pub mod HoldsLemmas
 pub mod Holders
 pub mod Postures
 pub mod Lasting
+pub mod Unposed
 pub mod HolderLaws
 pub mod Transfers
 pub mod Counted

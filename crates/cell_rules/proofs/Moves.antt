@@ -20,7 +20,7 @@ use Rattle.cell_rules.specs.ZoneMap.{zone_in, map_zones}
 use Rattle.cell_rules.specs.PlaceSet.{PlaceSet, has, put_place}
 use Rattle.cell_rules.specs.ModelState.{ModelState, zone_at}
 use Rattle.cell_rules.specs.Sound.{IsSound, implies, is_onto_full, is_owned_by}
-use Rattle.cell_rules.specs.Refusals.{pose_refusal, advance_refusal, posture_at, is_concerned, is_moving_pose, is_blocked, unowned_by_pose, plate_under_pose, opens_onto_plate, is_at_work}
+use Rattle.cell_rules.specs.Refusals.{pose_refusal, advance_refusal, owner_of, owns, posture_at, is_concerned, is_moving_pose, is_blocked, unowned_by_pose, plate_under_pose, opens_onto_plate, is_at_work}
 use Rattle.cell_rules.specs.Refusals as refusals
 use Rattle.cell_rules.specs.Reply.{changed, is_belt_of, halted, posed}
 use Rattle.cell_rules.proofs.Tables.{all_bools, from_bools, all_machines, from_machines, all_zones, from_zones, all_postures, from_postures, all_poses, from_poses, implied, and_both, and_left, and_right}
@@ -33,7 +33,7 @@ use Rattle.cell_rules.proofs.Plates.{fewer}
 -- ---- a pose
 
 -- the posture that a pose of m gives a zone, if it gives one, suits the zone, and m is the zone's host
-abbrev suits : Machine → Zone → Option Posture → Bool
+abbrev pub suits : Machine → Zone → Option Posture → Bool
 suits m z None = true
 suits m z (Some r) = same_machine m (host_of z) && can_be_in z r
 
@@ -55,16 +55,22 @@ concern_test m p z now = implies (concerns_posture (posture_of m p z) now) (same
 concern_table : all_machines (λ m. all_poses (λ p. all_zones (λ z. all_postures (concern_test m p z)))) ≡ true
 concern_table = refl
 
-pub concerned : (s : ModelState) (m : Machine) (p : Pose) (z : Zone) → implies (concerns_posture (posture_of m p z) (posture_at s z)) (is_concerned s m p z) ≡ true
+concerned : (s : ModelState) (m : Machine) (p : Pose) (z : Zone) → implies (concerns_posture (posture_of m p z) (posture_at s z)) (is_concerned s m p z) ≡ true
 concerned s m p z =
     from_postures (concern_test m p z) (from_zones (λ z. all_postures (concern_test m p z)) (from_poses (λ p. all_zones (λ z. all_postures (concern_test m p z)))
     (from_machines (λ m. all_poses (λ p. all_zones (λ z. all_postures (concern_test m p z)))) concern_table m) p) z) (posture_at s z)
 
 -- what no zone of concern has, no zone has that gets another posture
-pub unconcerned : (a b c : Bool) → implies a b ≡ true → (b && c) ≡ false → (a && c) ≡ false
+unconcerned : (a b c : Bool) → implies a b ≡ true → (b && c) ≡ false → (a && c) ≡ false
 unconcerned false b c i e = refl
 unconcerned true true c i e = e
 unconcerned true false c i e = cc
+
+-- where a pose concerns a zone, its machine owns it
+pub pose_owned : (s : ModelState) (m : Machine) (p : Pose) (z : Zone) → pose_refusal s m p ≡ None → (concerns_posture (posture_of m p z) (posture_at s z) && not (owns s m z)) ≡ false
+pose_owned s m p z e =
+    unconcerned (concerns_posture (posture_of m p z) (posture_at s z)) (is_concerned s m p z) (not (owns s m z)) (concerned s m p z)
+    (none_then (is_concerned s m p z && not (owns s m z)) (NotOwner (owner_of s z)) (no_zone (unowned_by_pose s m p) (pose_done s m p e).0 z))
 
 -- a zone becomes open inward
 abbrev opens : Option Posture → Posture → Bool
@@ -141,7 +147,7 @@ pose_keeps s m p h e =
     let q = posture_of m p z in
     let b = is_onto_full s.full (transfer_of z v.posture) in
     let c = is_onto_full s.full (transfer_of z (unwrap_or q v.posture)) in
-    let k1 : not (concerns_posture q v.posture && not (is_owned_by v.owner m)) ≡ true = not_true (concerns_posture q v.posture && not (is_owned_by v.owner m)) (unconcerned (concerns_posture q v.posture) (is_concerned s m p z) (not (is_owned_by v.owner m)) (concerned s m p z) (none_then (is_concerned s m p z && not (is_owned_by v.owner m)) (NotOwner v.owner) (no_zone (unowned_by_pose s m p) may.0 z))) in
+    let k1 : not (concerns_posture q v.posture && not (is_owned_by v.owner m)) ≡ true = not_true (concerns_posture q v.posture && not (is_owned_by v.owner m)) (pose_owned s m p z e) in
     let k2 : not (concerns_posture q v.posture && v.flag) ≡ true = not_true (concerns_posture q v.posture && v.flag) (unconcerned (concerns_posture q v.posture) (is_concerned s m p z) v.flag (concerned s m p z) (none_then (is_concerned s m p z && v.flag) (PlateInZone z) (no_zone (plate_under_pose s m p) may.1 z))) in
     let k5 : (concerns_posture q v.posture || beq b c) ≡ true = same_after (λ x. is_onto_full s.full (transfer_of z x)) q v.posture in
     let ks : may_pose q c b i o m z v ≡ true =

@@ -1,12 +1,12 @@
 -- What a give, a take and an advance find where they are Done: the way of the plate, its start full or its end empty.
-use Rattle.std.proofs.Common.{◌≡◌, Bool, true, false, ◌&&◌, not, Option, Some, None, is_some, refl, ap, subst}
+use Rattle.std.proofs.Common.{◌≡◌, Bool, true, false, ◌&&◌, not, Option, Some, None, is_some, refl, subst}
 use Rattle.cell_types.specs.declared.machine.Machine.{Machine}
 use Rattle.cell_types.specs.declared.zone.Zone.{Zone}
 use Rattle.cell_types.specs.declared.zone.Transfer.{Transfer}
 use Rattle.cell_types.specs.declared.place.Place.{Place}
 use Rattle.cell_types.specs.declared.answer.Refusal.TheVariants.{NoPlate, PlaceFull, PlateInZone}
 use Rattle.cell_types.specs.Tables.{transfer_of}
-use Rattle.cell_types.specs.Same.{same_machine, one_machine}
+use Rattle.cell_types.specs.Same.{same_machine}
 use Rattle.cell_types.specs.Ways.{work_of}
 use Rattle.cell_rules.specs.ModelState.{ModelState, zone_at, is_full}
 use Rattle.cell_rules.specs.Sound.{IsSound, is_party, is_owned_by, is_received_by, is_onto_full}

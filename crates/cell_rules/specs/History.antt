@@ -1,13 +1,11 @@
 -- Histories: lists of events, the oldest first. Each definition over a history takes the opening, the state that it begins with.
-use Rattle.std.specs.Prelude.{◌≡◌, ℕ, ◌+◌, ℤ, pos, ◌-ℤ◌, Bool, true, false, ◌&&◌, not, ◌⊎◌, List, [], ◌∷◌, ◌++◌, filter, count_by, unwrap_or, if◌then◌else◌, Option, Some, None, option_map, IsTrue, ⊤}
+use Rattle.std.specs.Prelude.{◌≡◌, ℕ, ◌+◌, ℤ, pos, ◌-ℤ◌, Bool, true, false, ◌&&◌, not, ◌⊎◌, List, [], ◌∷◌, ◌++◌, filter, count_by, All, unwrap_or, if◌then◌else◌, Option, Some, None, option_map, IsTrue, ⊤}
 use Rattle.std.specs.Option.{option_or}
-use Rattle.std.specs.List.{list_any}
 use Rattle.cell_types.specs.declared.place.Place.{Place}
-use Rattle.cell_types.specs.declared.place.Place.TheVariants.{FeedEntry, FeedEnd, Table, Arm1, PressIn, PressOut, Arm2, DepEntry, DepEnd, Crane}
 use Rattle.cell_types.specs.declared.zone.Transfer.{Transfer}
 use Rattle.cell_types.specs.declared.machine.Machine.{Machine}
-use Rattle.cell_types.specs.declared.machine.Machine.TheVariants.{Feed, Robot, Press, Deposit, Table as TableMachine, Crane as CraneMachine}
 use Rattle.cell_types.specs.declared.zone.Zone.{Zone}
+use Rattle.cell_types.specs.declared.zone.Zone.TheVariants.{Z3}
 use Rattle.cell_types.specs.declared.call.Call.{Call}
 use Rattle.cell_types.specs.declared.call.Call.TheVariants.{Claim, Give, Yield, Take, Release, SetPose, Advance}
 use Rattle.cell_types.specs.declared.answer.Answer.{Answer}
@@ -18,6 +16,7 @@ use Rattle.cell_rules.specs.ModelState.{ModelState, zone_at, is_full, one_if}
 use Rattle.cell_types.specs.declared.posture.Posture.{Posture}
 use Rattle.cell_types.specs.declared.posture.Posture.TheVariants.{Closed, Moving, OpenIn, OpenOut}
 use Rattle.cell_types.specs.Tables.{posture_of, transfer_of}
+use Rattle.cell_rules.specs.Sound.{is_party}
 use Rattle.cell_rules.specs.Refusals.{owns, posture_at}
 use Rattle.cell_types.specs.Ways.{work_of}
 use Rattle.cell_rules.specs.Reply.{reply, next, other_party, is_belt_of}
@@ -27,7 +26,7 @@ abbrev pub after : ModelState → List Event → ModelState
 after s [] = s
 after s (e ∷ history) = after (next s e.machine e.call) history
 
--- each event has the reply at the state after the events before it
+-- every event answers what the reply is in the state that it finds
 abbrev pub IsLegal : ModelState → List Event → Type 0
 IsLegal s [] = ⊤
 IsLegal s (e ∷ history) = (e.answer ≡ reply s e.machine e.call) × IsLegal (next s e.machine e.call) history
@@ -51,11 +50,11 @@ done_count history = count_by is_done history
 abbrev pub changes_by_others : List Event → Machine → ℕ
 changes_by_others history m = count_by (λ e. is_done e && not (same_machine e.machine m)) history
 
--- a machine gains a zone by its own claim, and by a handover of the other party
+-- a machine gains a zone by its own claim, and by a handover from the zone's other party
 abbrev pub gains : Machine → Call → Machine → Zone → Bool
 gains n (Claim y) m z = same_zone y z && same_machine n m
-gains n (Give y) m z = same_zone y z && same_machine (other_party n y) m
-gains n (Yield y) m z = same_zone y z && same_machine (other_party n y) m
+gains n (Give y) m z = same_zone y z && (is_party n y && same_machine (other_party n y) m)
+gains n (Yield y) m z = same_zone y z && (is_party n y && same_machine (other_party n y) m)
 gains n _ m z = false
 
 -- it loses a zone by its own handover or release
@@ -74,9 +73,12 @@ is_loss e m z = is_done e && loses e.machine e.call m z
 abbrev pub IsGain : Event → Machine → Zone → Type 0
 IsGain e m z = IsTrue (is_gain e m z)
 
+abbrev pub IsLoss : Event → Machine → Zone → Type 0
+IsLoss e m z = IsTrue (is_loss e m z)
+
 -- no event of a history is a loss
 abbrev pub LosesNothing : List Event → Machine → Zone → Type 0
-LosesNothing history m z = list_any (λ e. is_loss e m z) history ≡ false
+LosesNothing history m z = All (λ e. ¬ IsLoss e m z) history
 
 -- a history in which a machine gains a zone, and doesn't lose it after that
 pub record GainsAndKeeps (history : List Event) (m : Machine) (z : Zone) : Type 0 where
@@ -91,7 +93,7 @@ pub record GainsAndKeeps (history : List Event) (m : Machine) (z : Zone) : Type 
 abbrev pub Holds : ModelState → List Event → Machine → Zone → Type 0
 Holds s history m z = (IsTrue (owns s m z) × LosesNothing history m z) ⊎ GainsAndKeeps history m z
 
--- the posture that the last pose of its host gave a zone; Closed once the host, a belt, has advanced; at first the opening's
+-- the posture that one Done event leaves
 abbrev pub posture_given : Machine → Call → Zone → Posture → Posture
 posture_given n (SetPose p) z now = unwrap_or (posture_of n p z) now
 posture_given n Advance z now = if is_belt_of n z then Closed else now
@@ -101,6 +103,7 @@ abbrev pub posture_since : Posture → List Event → Zone → Posture
 posture_since now [] z = now
 posture_since now (e ∷ history) z = posture_since (if is_done e then posture_given e.machine e.call z now else now) history z
 
+-- the posture that the last pose of its host gave a zone; Closed once the host, a belt, has advanced; at first the opening's
 abbrev pub posture_by_events : ModelState → List Event → Zone → Posture
 posture_by_events s history z = posture_since (posture_at s z) history z
 
@@ -144,7 +147,7 @@ is_emptied_by p e = is_done e && empties e.machine e.call p
 abbrev pub plates_at : ModelState → List Event → Place → ℤ
 plates_at s history p = pos (one_if (is_full s p) + count_by (is_filled_by p) history) -ℤ pos (count_by (is_emptied_by p) history)
 
--- how many plates are in a zone by the events: 1 if its flag was set in the opening, more the gives, less the takes
+-- a plate is given into a zone, and taken from it
 abbrev pub gives : Call → Zone → Bool
 gives (Give y) z = same_zone y z
 gives _ z = false
@@ -159,9 +162,14 @@ is_given_into z e = is_done e && gives e.call z
 abbrev pub is_taken_from : Zone → Event → Bool
 is_taken_from z e = is_done e && takes e.call z
 
+-- how many plates are in a zone by the events: 1 if its flag was set in the opening, more the gives, less the takes
 abbrev pub plates_in_transfer : ModelState → List Event → Zone → ℤ
 plates_in_transfer s history z = pos (one_if (zone_at s z).flag + count_by (is_given_into z) history) -ℤ pos (count_by (is_taken_from z) history)
 
--- a zone moves
+-- a zone moves, by the events
 abbrev pub Moves : ModelState → List Event → Zone → Type 0
 Moves s history z = posture_by_events s history z ≡ Moving
+
+-- the press moves where its interior, z3, does: that is the pose travelling
+abbrev pub PressMoves : ModelState → List Event → Type 0
+PressMoves s history = Moves s history Z3

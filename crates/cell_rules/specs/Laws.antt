@@ -3,10 +3,11 @@ use Rattle.std.specs.Prelude.{◌≡◌, ◌≢◌, ◌+◌, pos, false, not, Li
 use Rattle.cell_types.specs.declared.place.Place.{Place}
 use Rattle.cell_types.specs.declared.place.Place.TheVariants.{FeedEnd, PressIn, PressOut, DepEnd}
 use Rattle.cell_types.specs.declared.machine.Machine.{Machine}
-use Rattle.cell_types.specs.declared.machine.Machine.TheVariants.{Feed, Robot, Press}
+use Rattle.cell_types.specs.declared.machine.Machine.TheVariants.{Feed, Robot, Press, Deposit}
 use Rattle.cell_types.specs.declared.zone.Zone.{Zone}
 use Rattle.cell_types.specs.declared.zone.Zone.TheVariants.{Z1, Z3, Z4, Z5, Z6}
 use Rattle.cell_types.specs.declared.zone.Transfer.{Transfer}
+use Rattle.cell_types.specs.declared.posture.Posture.{Posture}
 use Rattle.cell_types.specs.declared.posture.Posture.TheVariants.{Closed, Moving, OpenIn}
 use Rattle.cell_types.specs.declared.pose.Pose.{Pose}
 use Rattle.cell_types.specs.declared.call.Call.{Call}
@@ -18,24 +19,24 @@ use Rattle.cell_types.specs.Ways.{keeper_of}
 use Rattle.cell_rules.specs.ModelState.{ModelState, zone_at, is_full, plates_of, one_if}
 use Rattle.cell_rules.specs.Sound.{IsSound, is_party, is_open}
 use Rattle.cell_rules.specs.Refusals.{owns, posture_at, is_moving_pose, passes_through_moving}
-use Rattle.cell_rules.specs.History.{after, IsLegal, own_events, done_count, Holds, Moves, posture_by_events, plates_at, plates_in_transfer}
+use Rattle.cell_rules.specs.History.{after, IsLegal, own_events, done_count, Holds, Moves, PressMoves, posture_by_events, plates_at, plates_in_transfer}
 
 -- a law holds of each beginning of a history
 abbrev pub Throughout : (List Event → Type 0) → List Event → Type 0
 Throughout Law h = (before more : List Event) → h ≡ before ++ more → Law before
 
--- no two machines hold one zone, a holder is a party of it, and it is the owner in the state after
+-- two machines never hold the same zone; who holds one is its host or its guest, and owns it in the state after, as only a holder does
 pub record OneHolder (s : ModelState) (h : List Event) : Type 0 where
   pub alone : (m n : Machine) (z : Zone) → Holds s h m z → Holds s h n z → m ≡ n
   pub party : (m : Machine) (z : Zone) → Holds s h m z → IsTrue (is_party m z)
   pub owner : (m : Machine) (z : Zone) → Holds s h m z ↔ IsTrue (owns (after s h) m z)
 
--- where a zone moves its host holds it; so while the press moves the robot doesn't hold its interior
+-- a moving zone is held by its host, so the robot never holds the interior of a press that moves
 pub record MoverIsHost (s : ModelState) (h : List Event) : Type 0 where
   pub host : (z : Zone) → Moves s h z → Holds s h (host_of z) z
-  pub press : Moves s h Z3 → ¬ Holds s h Robot Z3
+  pub press : PressMoves s h → ¬ Holds s h Robot Z3
 
--- a guest holds a zone only while its posture is open
+-- a zone that its guest holds is open by the events
 abbrev pub GuestOnlyWhileOpen : ModelState → List Event → Type 0
 GuestOnlyWhileOpen s h = (z : Zone) → Holds s h (guest_of z) z → IsTrue (is_open (posture_by_events s h z))
 
@@ -49,24 +50,26 @@ pub record PlatesAreKept (s : ModelState) (h : List Event) : Type 0 where
 abbrev pub StampCountsChanges : ModelState → List Event → Type 0
 StampCountsChanges s h = (after s h).stamp ≡ s.stamp + done_count h
 
--- the feed belt runs with a plate at its end only while feed owns the table's zone, the deposit belt only while its end is empty
+-- the feed belt runs with a plate at its end only while feed owns z1, the deposit belt only while its end is empty
 pub record RunsClear (s : ModelState) : Type 0 where
   pub feed : posture_at s Z6 ≡ Moving → IsTrue (is_full s FeedEnd) → IsTrue (owns s Feed Z1)
   pub entry : posture_at s Z4 ≡ Moving → is_full s DepEnd ≡ false
   pub end : posture_at s Z5 ≡ Moving → is_full s DepEnd ≡ false
 
--- the same by the events, and it lasts
+-- the same by the events and in the state after
 pub record BeltsRunClear (s : ModelState) (h : List Event) : Type 0 where
   pub feed : Moves s h Z6 → plates_at s h FeedEnd ≡ pos 1 → Holds s h Feed Z1
   pub entry : Moves s h Z4 → plates_at s h DepEnd ≡ pos 0
   pub end : Moves s h Z5 → plates_at s h DepEnd ≡ pos 0
   pub state : RunsClear (after s h)
 
--- what a machine holds stays held, with its posture and flag, while others make the events; and so do the machine's own places
+-- what a machine holds stays held, with its posture and flag, while others make the events; so do the machine's own places,
+-- and the postures of the zones that it hosts, held or not
 pub record RightLasts (s : ModelState) (before more : List Event) : Type 0 where
   pub held : (m : Machine) (z : Zone) → own_events more m ≡ [] → Holds s before m z → Holds s (before ++ more) m z
   pub zone : (m : Machine) (z : Zone) → own_events more m ≡ [] → Holds s before m z → zone_at (after s (before ++ more)) z ≡ zone_at (after s before) z
   pub places : (p : Place) → own_events more (keeper_of p) ≡ [] → is_full (after s (before ++ more)) p ≡ is_full (after s before) p
+  pub posture : (z : Zone) → own_events more (host_of z) ≡ [] → posture_by_events s (before ++ more) z ≡ posture_by_events s before z
 
 -- the posture by the events is that of the state after
 abbrev pub PostureByEvents : ModelState → List Event → Type 0
@@ -78,14 +81,19 @@ StaysSound s h = IsSound (after s h)
 abbrev pub done : Machine → Call → Event
 done m c = record { machine = m; call = c; answer = Done }
 
--- what the state before a Done event has to be, where nothing else shows it
+-- what a Done event finds in the state before it
 pub record EventsFit (s : ModelState) (h : List Event) : Type 0 where
   -- table and press take a pose that isn't moving only while all their zones move
   pub no_jump : (before rest : List Event) (m : Machine) (p : Pose) → h ≡ before ++ done m (SetPose p) ∷ rest → IsTrue (passes_through_moving m) → IsTrue (not (is_moving_pose p)) → (z : Zone) → host_of z ≡ m → posture_at (after s before) z ≡ Moving
   -- a zone becomes open inward only while the place that a plate would come to is empty
   pub opens_onto_empty : (before rest : List Event) (m : Machine) (p : Pose) → h ≡ before ++ done m (SetPose p) ∷ rest → (z : Zone) (row : Transfer) → posture_of m p z ≡ Some OpenIn → posture_at (after s before) z ≢ OpenIn → transfer_of z OpenIn ≡ Some row → is_full (after s before) row.to ≡ false
-  -- the press only while both its places are
+  -- the press only while both its places are empty
   pub press_opens_empty : (before rest : List Event) (m : Machine) (p : Pose) → h ≡ before ++ done m (SetPose p) ∷ rest → posture_of m p Z3 ≡ Some OpenIn → posture_at (after s before) Z3 ≢ OpenIn → (is_full (after s before) PressIn ≡ false) × (is_full (after s before) PressOut ≡ false)
+  -- a machine changes the posture of a zone only while it holds it
+  pub pose_by_holder : (before rest : List Event) (m : Machine) (p : Pose) → h ≡ before ++ done m (SetPose p) ∷ rest → (z : Zone) (q : Posture) → posture_of m p z ≡ Some q → posture_at (after s before) z ≢ q → Holds s before m z
+  -- a plate comes to a belt's end only while the belt runs
+  pub feed_works_running : (before rest : List Event) → h ≡ before ++ done Feed Advance ∷ rest → posture_at (after s before) Z6 ≡ Moving
+  pub deposit_works_running : (before rest : List Event) → h ≡ before ++ done Deposit Advance ∷ rest → (posture_at (after s before) Z4 ≡ Moving) × (posture_at (after s before) Z5 ≡ Moving)
   -- the press forges only while it holds its interior and is Closed
   pub press_works_closed : (before rest : List Event) → h ≡ before ++ done Press Advance ∷ rest → Holds s before Press Z3 × (posture_at (after s before) Z3 ≡ Closed)
 

@@ -2,13 +2,13 @@
 use Rattle.std.specs.Prelude.{Bool, false, ◌||◌, ◌&&◌, not, nat_lt, Option, Some, None, is_none, is_some, unwrap_or, if◌then◌else◌}
 use Rattle.std.specs.Option.{option_or}
 use Rattle.std.specs.Bool.{then_some}
-use Rattle.std.specs.List.{list_any}
+use Rattle.std.specs.List.{list_any, list_all}
 use Rattle.cell_types.specs.declared.machine.Machine.{Machine}
 use Rattle.cell_types.specs.declared.machine.Machine.TheVariants.{Feed, Press, Deposit, Table as TableMachine}
 use Rattle.cell_types.specs.declared.zone.Zone.{Zone}
 use Rattle.cell_types.specs.declared.zone.Zone.TheVariants.{Z1, Z2, Z3, Z4, Z5, Z6}
 use Rattle.cell_types.specs.declared.place.Place.{Place}
-use Rattle.cell_types.specs.declared.place.Place.TheVariants.{FeedEntry, FeedEnd, PressIn, PressOut, DepEntry, DepEnd}
+use Rattle.cell_types.specs.declared.place.Place.TheVariants.{FeedEnd, PressIn, PressOut, DepEnd}
 use Rattle.cell_types.specs.declared.zone.Transfer.{Transfer}
 use Rattle.cell_types.specs.declared.posture.Posture.{Posture}
 use Rattle.cell_types.specs.declared.posture.Posture.TheVariants.{Closed, Moving, OpenIn}
@@ -21,7 +21,7 @@ use Rattle.cell_types.specs.Tables.{host_of, guest_of, transfer_of, posture_of}
 use Rattle.cell_types.specs.Ways.{work_of}
 use Rattle.cell_types.specs.Same.{same_machine, same_posture, same_zone, same_pose}
 use Rattle.cell_rules.specs.ModelState.{ModelState, zone_at, is_full, last_stamp}
-use Rattle.cell_rules.specs.Sound.{is_open, is_owned_by, is_party}
+use Rattle.cell_rules.specs.Sound.{is_open, is_owned_by, is_party, is_onto_full}
 
 -- the first of two refusals
 infixl 5 ◌or◌
@@ -37,11 +37,11 @@ posture_at s z = (zone_at s z).posture
 abbrev pub owns : ModelState → Machine → Zone → Bool
 owns s m z = is_owned_by (owner_of s z) m
 
--- the caller is neither host nor guest
+-- the caller is no party of the zone
 abbrev pub not_party : Machine → Zone → Option Refusal
 not_party m z = then_some (not (is_party m z)) NotParty
 
--- the caller owns the zone
+-- the zone is the caller's already
 abbrev pub already_mine : ModelState → Machine → Zone → Option Refusal
 already_mine s m z = then_some (owns s m z) AlreadyMine
 
@@ -61,7 +61,7 @@ shut_to_guest s m z = then_some (same_machine m (guest_of z) && not (is_open (po
 abbrev pub worn : ModelState → Option Refusal
 worn s = then_some (not (nat_lt s.stamp last_stamp)) Worn
 
--- a zone that the call needs is not the caller's
+-- the call is about a zone that the caller doesn't own; the refusal names the owner
 abbrev pub not_owner : ModelState → Machine → Zone → Option Refusal
 not_owner s m z = then_some (not (owns s m z)) (NotOwner (owner_of s z))
 
@@ -89,7 +89,7 @@ given_by m (Some row) = if same_machine row.giver m then Some row else None
 abbrev pub gift : ModelState → Machine → Zone → Option Transfer
 gift s m z = given_by m (transfer_of z (posture_at s z))
 
--- no plate goes this way
+-- no row has this caller as giver in this posture
 abbrev pub wrong_way : Option Transfer → Option Refusal
 wrong_way row = then_some (is_none row) WrongWay
 
@@ -125,7 +125,7 @@ is_moving_pose p = same_pose p Turning || same_pose p Travelling || same_pose p 
 abbrev pub posture_with : ModelState → Machine → Pose → Zone → Posture
 posture_with s m p z = unwrap_or (posture_of m p z) (posture_at s z)
 
--- a pose concerns the host zones whose posture it changes, and a moving pose all host zones
+-- the host zones that a machine must own, and clear of plates, to take a pose: those that get another posture, and to move, all of them
 abbrev pub is_concerned : ModelState → Machine → Pose → Zone → Bool
 is_concerned s m p z = same_machine (host_of z) m && (is_moving_pose p || not (same_posture (posture_with s m p z) (posture_at s z)))
 
@@ -135,12 +135,13 @@ unowned_by_pose s m p z = then_some (is_concerned s m p z && not (owns s m z)) (
 abbrev pub plate_under_pose : ModelState → Machine → Pose → Zone → Option Refusal
 plate_under_pose s m p z = then_some (is_concerned s m p z && (zone_at s z).flag) (PlateInZone z)
 
--- each zone of a host moves
+-- a zone moves, or another machine hosts it
 abbrev pub moves_at : ModelState → Machine → Zone → Bool
 moves_at s m z = not (same_machine (host_of z) m) || same_posture (posture_at s z) Moving
 
+-- each zone that a machine hosts moves
 abbrev pub all_move : ModelState → Machine → Bool
-all_move s m = moves_at s m Z1 && moves_at s m Z2 && moves_at s m Z3 && moves_at s m Z4 && moves_at s m Z5 && moves_at s m Z6
+all_move s m = list_all (moves_at s m) all_zones
 
 -- table and press come to a pose by moving, and not at once
 abbrev pub passes_through_moving : Machine → Bool
@@ -152,7 +153,7 @@ jump s m p = then_some (passes_through_moving m && not (is_moving_pose p) && not
 -- the place that an inward plate would come to is full; the press has room for one plate only
 abbrev pub is_blocked : ModelState → Zone → Bool
 is_blocked s Z3 = is_full s PressIn || is_full s PressOut
-is_blocked s z = is_some (no_room s (transfer_of z OpenIn))
+is_blocked s z = is_onto_full s.full (transfer_of z OpenIn)
 
 -- a zone becomes open inward, and was not
 abbrev pub opens : ModelState → Machine → Pose → Zone → Bool
@@ -162,7 +163,7 @@ opens s m p z = same_posture (posture_with s m p z) OpenIn && not (same_posture 
 abbrev pub opens_onto_plate : ModelState → Machine → Pose → Zone → Option Refusal
 opens_onto_plate s m p z = then_some (opens s m p z && is_blocked s z) PlaceFull
 
--- a belt would run with a plate at its end
+-- a belt would run with a plate at its end; feed may where it owns z1
 abbrev pub runs_onto_plate : ModelState → Machine → Pose → Option Refusal
 runs_onto_plate s m p =
     then_some (same_pose p Running && ((same_machine m Deposit && is_full s DepEnd) || (same_machine m Feed && is_full s FeedEnd && not (owns s Feed Z1)))) PlaceFull
@@ -220,6 +221,7 @@ yield_refusal s m z =
     or in_use s m z
     or worn s
 
+-- the receiving place need not be asked for: soundness keeps it empty while the zone's flag is set
 abbrev pub take_refusal : ModelState → Machine → Zone → Option Refusal
 take_refusal s m z =
     not_party m z

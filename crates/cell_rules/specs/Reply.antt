@@ -17,7 +17,7 @@ use Rattle.cell_types.specs.Same.{same_machine}
 use Rattle.cell_types.specs.Ways.{work_of}
 use Rattle.cell_rules.specs.declared.zones.ZoneState.{ZoneState}
 use Rattle.cell_rules.specs.ZoneMap.{ZoneMap, put_zone, map_zones}
-use Rattle.cell_rules.specs.PlaceSet.{PlaceSet, put_place}
+use Rattle.cell_rules.specs.PlaceSet.{PlaceSet, insert_place, remove_place}
 use Rattle.cell_rules.specs.ModelState.{ModelState, zone_at}
 use Rattle.cell_rules.specs.Refusals.{claim_refusal, give_refusal, yield_refusal, take_refusal, release_refusal, pose_refusal, advance_refusal, gift, posture_at}
 
@@ -45,29 +45,32 @@ reply s m c = done_unless (refusal s m c)
 abbrev pub other_party : Machine → Zone → Machine
 other_party m z = if same_machine m (host_of z) then guest_of z else host_of z
 
--- the set with one place full or empty; a plate that moves from one place to another
+-- the places after a plate has left the giving place of its way
 abbrev pub emptied : PlaceSet → Option Transfer → PlaceSet
 emptied full None = full
-emptied full (Some row) = put_place full row.from false
+emptied full (Some row) = remove_place full row.from
 
+-- after one has come to the receiving place
 abbrev pub filled : PlaceSet → Option Transfer → PlaceSet
 filled full None = full
-filled full (Some row) = put_place full row.to true
+filled full (Some row) = insert_place full row.to
 
+-- after a machine has moved one of its own from place to place
 abbrev pub worked : PlaceSet → Option (Place × Place) → PlaceSet
 worked full None = full
-worked full (Some way) = put_place (put_place full way.0 false) way.1 true
+worked full (Some way) = insert_place (remove_place full way.0) way.1
 
 -- a zone in the posture of a pose, or as it was
 abbrev pub posed : Machine → Pose → Zone → ZoneState → ZoneState
 posed m p z v = record v { posture = unwrap_or (posture_of m p z) v.posture }
 
--- a belt's zones are Closed once a plate has come to its end
+-- the zones that a belt hosts
 abbrev pub is_belt_of : Machine → Zone → Bool
 is_belt_of Feed z = same_machine (host_of z) Feed
 is_belt_of Deposit z = same_machine (host_of z) Deposit
 is_belt_of _ z = false
 
+-- a belt's zones are Closed once a plate has come to its end
 abbrev pub halted : Machine → Zone → ZoneState → ZoneState
 halted m z v = if is_belt_of m z then record v { posture = Closed } else v
 

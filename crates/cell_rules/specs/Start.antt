@@ -1,4 +1,4 @@
--- The states that a history may begin with.
+-- A start: its places, its stamp, and the state they give.
 use Rattle.std.specs.Prelude.{◌≡◌, ℕ, ◌≤◌, Bool, false, ◌&&◌, List, slice_index_or, IsFalse}
 use Rattle.cell_types.specs.declared.place.Place.TheVariants.{PressIn, PressOut}
 use Rattle.cell_rules.specs.ZoneMap.{free_zone, everywhere}
@@ -22,6 +22,6 @@ abbrev pub start_state : PlaceSet → ℕ → ModelState
 start_state full stamp = model_state (everywhere free_zone) full stamp
 
 -- a state that is the start of its places and its stamp
-pub record IsOpening (s : ModelState) : Type 0 where
+pub record IsStartState (s : ModelState) : Type 0 where
   pub start : IsStart s.full s.stamp
   pub same : s ≡ start_state s.full s.stamp

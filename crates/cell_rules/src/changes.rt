@@ -42,7 +42,7 @@ fn halted(machine: Machine, zone: Zone, at: ZoneState) -> ZoneState
 }
 
 impl Zones {
-    pub fn posed(&self, machine: Machine, pose: Pose) -> Zones
+    pub(crate) fn posed(&self, machine: Machine, pose: Pose) -> Zones
         ensures { result ≡ map_zones (replies.posed machine pose) self.now }
     {
         Zones {
@@ -55,7 +55,7 @@ impl Zones {
         }
     }
 
-    pub fn halted(&self, machine: Machine) -> Zones
+    pub(crate) fn halted(&self, machine: Machine) -> Zones
         ensures { result ≡ map_zones (replies.halted machine) self.now }
     {
         Zones {
@@ -71,7 +71,7 @@ impl Zones {
 
 impl Places {
     /// The set after a plate has gone from its giving place.
-    pub fn emptied(mut self, row: Option<Transfer>) -> Places
+    pub(crate) fn emptied(mut self, row: Option<Transfer>) -> Places
         ensures { result ≡ replies.emptied self row }
     {
         if let Some(row) = row {
@@ -81,7 +81,7 @@ impl Places {
     }
 
     /// The set after a plate has come to its receiving place.
-    pub fn filled(mut self, row: Option<Transfer>) -> Places
+    pub(crate) fn filled(mut self, row: Option<Transfer>) -> Places
         ensures { result ≡ replies.filled self row }
     {
         if let Some(row) = row {
@@ -91,7 +91,7 @@ impl Places {
     }
 
     /// The set after a machine has moved its plate.
-    pub fn worked(mut self, way: Option<(Place, Place)>) -> Places
+    pub(crate) fn worked(mut self, way: Option<(Place, Place)>) -> Places
         ensures { result ≡ replies.worked self way }
     {
         if let Some((from, to)) = way {

@@ -4,13 +4,13 @@ ghost use Rattle.std.specs.Prelude.{◌++◌};
 ghost use Rattle.cell_rules.specs.History.{IsLegal};
 ghost use Rattle.cell_rules.specs.Laws as law;
 ghost use Rattle.cell_rules.specs.Laws.{Throughout, RunsClear};
-ghost use Rattle.cell_rules.specs.Start.{IsOpening};
+ghost use Rattle.cell_rules.specs.Start.{IsStartState};
 
 use crate::state::State;
 use cell_types::Event;
 
-/// No two machines hold one zone, a holder is a party of it, and it is the zone's owner in the
-/// state after the history.
+/// Two machines never hold the same zone. Who holds one is its host or its guest, and owns it in the
+/// state after the history, as only a holder does.
 pub fn one_holder(opening: &State, history: &[Event])
     requires { IsLegal opening.now history.now }
     ensures { Throughout (law.OneHolder opening.now) history.now }
@@ -18,7 +18,7 @@ pub fn one_holder(opening: &State, history: &[Event])
     let _ = &opening.stamp;
 }
 
-/// Where a zone moves its host holds it. So while the press moves the robot doesn't hold its interior.
+/// A moving zone is held by its host, so the robot never holds the interior of a press that moves.
 pub fn mover_is_host(opening: &State, history: &[Event])
     requires { IsLegal opening.now history.now }
     ensures { Throughout (law.MoverIsHost opening.now) history.now }
@@ -26,7 +26,7 @@ pub fn mover_is_host(opening: &State, history: &[Event])
     let _ = &opening.stamp;
 }
 
-/// A guest holds a zone only while its posture is open.
+/// A zone that its guest holds is open by the events.
 pub fn guest_only_while_open(opening: &State, history: &[Event])
     requires { IsLegal opening.now history.now }
     ensures { Throughout (law.GuestOnlyWhileOpen opening.now) history.now }
@@ -49,8 +49,8 @@ pub fn stamp_counts_changes(opening: &State, history: &[Event])
     ensures { Throughout (law.StampCountsChanges opening.now) history.now }
 {}
 
-/// The feed belt runs with a plate at its end only while feed holds the table's zone, and the deposit
-/// belt only while its end is empty, where the opening keeps this.
+/// The feed belt runs with a plate at its end only while feed holds z1, and the deposit belt only
+/// while its end is empty, where the opening keeps this.
 pub fn belts_run_clear(opening: &State, history: &[Event])
     requires legal { IsLegal opening.now history.now }
     requires clear { RunsClear opening.now }
@@ -59,14 +59,14 @@ pub fn belts_run_clear(opening: &State, history: &[Event])
     let _ = &opening.stamp;
 }
 
-/// Every start keeps that.
+/// Every start keeps what `belts_run_clear` asks of its opening.
 pub fn starts_run_clear(opening: &State)
-    requires { IsOpening opening.now }
+    requires { IsStartState opening.now }
     ensures { RunsClear opening.now }
 {}
 
 /// What a machine holds stays held, with its posture and its flag, while other machines make the
-/// events; and so do the machine's own places.
+/// events; so do the machine's own places, and the postures of the zones that it hosts.
 pub fn right_lasts(opening: &State, before: &[Event], more: &[Event])
     requires { IsLegal opening.now (before.now ++ more.now) }
     ensures { law.RightLasts opening.now before.now more.now }
@@ -88,7 +88,8 @@ pub fn stays_sound(opening: &State, history: &[Event])
     let _ = &opening.stamp;
 }
 
-/// Table and press don't jump to a pose, a zone opens inward onto an empty place only, and the press
+/// Table and press don't jump to a pose, a zone opens inward onto an empty place only, a pose changes
+/// only what its machine holds, a plate comes to a belt's end only while the belt runs, and the press
 /// forges only while it holds its interior and is Closed.
 pub fn events_fit(opening: &State, history: &[Event])
     requires { IsLegal opening.now history.now }

@@ -2,6 +2,7 @@
 ghost use Rattle.std.specs.Prelude.{◌≡◌};
 ghost use Rattle.cell_rules.specs.Refusals as refusals;
 
+use crate::sound::is_onto_full;
 use crate::state::State;
 use cell_types::{Machine, Place, Pose, Posture, Refusal, Zone, host, posture_in, transfer, work};
 
@@ -94,12 +95,7 @@ impl State {
     fn all_move(&self, machine: Machine) -> bool
         ensures { result ≡ refusals.all_move self.now machine }
     {
-        self.moves_at(machine, Zone::Z1)
-            && self.moves_at(machine, Zone::Z2)
-            && self.moves_at(machine, Zone::Z3)
-            && self.moves_at(machine, Zone::Z4)
-            && self.moves_at(machine, Zone::Z5)
-            && self.moves_at(machine, Zone::Z6)
+        Zone::ALL.iter().all(|zone| self.moves_at(machine, *zone))
     }
 
     fn jump(&self, machine: Machine, pose: Pose) -> Option<Refusal>
@@ -115,7 +111,7 @@ impl State {
     {
         match zone {
             Zone::Z3 => self.is_full(Place::PressIn) || self.is_full(Place::PressOut),
-            _ => self.no_room(transfer(zone, Posture::OpenIn)).is_some(),
+            _ => is_onto_full(&self.full(), transfer(zone, Posture::OpenIn)),
         }
     }
 
@@ -148,7 +144,7 @@ impl State {
         (pose == Pose::Running && (is_deposit_full || is_feed_full)).then_some(Refusal::PlaceFull)
     }
 
-    pub fn pose_refusal(&self, machine: Machine, pose: Pose) -> Option<Refusal>
+    pub(crate) fn pose_refusal(&self, machine: Machine, pose: Pose) -> Option<Refusal>
         ensures { result ≡ refusals.pose_refusal self.now machine pose }
     {
         (!has_pose(machine, pose))
@@ -201,7 +197,7 @@ impl State {
         (!self.is_at_work(machine)).then_some(Refusal::NotAtWork)
     }
 
-    pub fn advance_refusal(&self, machine: Machine) -> Option<Refusal>
+    pub(crate) fn advance_refusal(&self, machine: Machine) -> Option<Refusal>
         ensures { result ≡ refusals.advance_refusal self.now machine }
     {
         has_no_work(machine)

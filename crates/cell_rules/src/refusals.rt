@@ -32,7 +32,7 @@ fn not_party(machine: Machine, zone: Zone) -> Option<Refusal>
 
 impl State {
     /// Whether a machine owns a zone.
-    pub fn owns(&self, machine: Machine, zone: Zone) -> bool
+    pub(crate) fn owns(&self, machine: Machine, zone: Zone) -> bool
         ensures { result ≡ refusals.owns self.now machine zone }
     {
         self.owner(zone) == Some(machine)
@@ -102,7 +102,7 @@ impl State {
     }
 
     /// The way of a plate that a machine can give.
-    pub fn gift(&self, machine: Machine, zone: Zone) -> Option<Transfer>
+    pub(crate) fn gift(&self, machine: Machine, zone: Zone) -> Option<Transfer>
         ensures { result ≡ refusals.gift self.now machine zone }
     {
         match transfer(zone, self.posture(zone)) {
@@ -117,7 +117,7 @@ impl State {
         (!self.is_full(row?.from)).then_some(Refusal::NoPlate)
     }
 
-    pub(crate) fn no_room(&self, row: Option<Transfer>) -> Option<Refusal>
+    fn no_room(&self, row: Option<Transfer>) -> Option<Refusal>
         ensures { result ≡ refusals.no_room self.now row }
     {
         self.is_full(row?.to).then_some(Refusal::PlaceFull)
@@ -129,7 +129,7 @@ impl State {
         (!self.flag(zone)).then_some(Refusal::NoPlate)
     }
 
-    pub fn claim_refusal(&self, machine: Machine, zone: Zone) -> Option<Refusal>
+    pub(crate) fn claim_refusal(&self, machine: Machine, zone: Zone) -> Option<Refusal>
         ensures { result ≡ refusals.claim_refusal self.now machine zone }
     {
         not_party(machine, zone)
@@ -139,7 +139,7 @@ impl State {
             .or(self.worn())
     }
 
-    pub fn give_refusal(&self, machine: Machine, zone: Zone) -> Option<Refusal>
+    pub(crate) fn give_refusal(&self, machine: Machine, zone: Zone) -> Option<Refusal>
         ensures { result ≡ refusals.give_refusal self.now machine zone }
     {
         let row = self.gift(machine, zone);
@@ -152,7 +152,7 @@ impl State {
             .or(self.worn())
     }
 
-    pub fn yield_refusal(&self, machine: Machine, zone: Zone) -> Option<Refusal>
+    pub(crate) fn yield_refusal(&self, machine: Machine, zone: Zone) -> Option<Refusal>
         ensures { result ≡ refusals.yield_refusal self.now machine zone }
     {
         not_party(machine, zone)
@@ -163,7 +163,7 @@ impl State {
             .or(self.worn())
     }
 
-    pub fn take_refusal(&self, machine: Machine, zone: Zone) -> Option<Refusal>
+    pub(crate) fn take_refusal(&self, machine: Machine, zone: Zone) -> Option<Refusal>
         ensures { result ≡ refusals.take_refusal self.now machine zone }
     {
         not_party(machine, zone)
@@ -172,7 +172,7 @@ impl State {
             .or(self.worn())
     }
 
-    pub fn release_refusal(&self, machine: Machine, zone: Zone) -> Option<Refusal>
+    pub(crate) fn release_refusal(&self, machine: Machine, zone: Zone) -> Option<Refusal>
         ensures { result ≡ refusals.release_refusal self.now machine zone }
     {
         not_party(machine, zone)

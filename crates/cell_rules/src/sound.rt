@@ -25,7 +25,7 @@ fn has_lawful_owner(zone: Zone, at: ZoneState) -> bool
     at.owner.is_none() || is_owned_by(at.owner, host(zone)) || is_owned_by(at.owner, guest(zone))
 }
 
-fn is_onto_full(full: &Places, row: Option<Transfer>) -> bool
+pub(crate) fn is_onto_full(full: &Places, row: Option<Transfer>) -> bool
     ensures { result ≡ sound.is_onto_full full.now row }
 {
     match row {
@@ -100,16 +100,17 @@ fn is_lawful(full: &Places, zone: Zone, at: ZoneState) -> bool
         && is_of_some_pose(zone, at.posture)
 }
 
-/// Whether they are sound.
+fn all_lawful(full: &Places, zones: &Zones) -> bool
+    ensures { result ≡ tests.all_lawful full.now zones.now }
+{
+    Zone::ALL
+        .iter()
+        .all(|zone| is_lawful(full, *zone, zones.get(*zone)))
+}
+
+/// Whether zones, places and a stamp make a sound state.
 pub fn is_sound(zones: &Zones, full: &Places, stamp: u32) -> bool
     ensures { result ≡ tests.is_sound (model_state zones.now full.now stamp) }
 {
-    stamp <= 1_048_575
-        && is_lawful(full, Zone::Z1, zones.get(Zone::Z1))
-        && is_lawful(full, Zone::Z2, zones.get(Zone::Z2))
-        && is_lawful(full, Zone::Z3, zones.get(Zone::Z3))
-        && is_lawful(full, Zone::Z4, zones.get(Zone::Z4))
-        && is_lawful(full, Zone::Z5, zones.get(Zone::Z5))
-        && is_lawful(full, Zone::Z6, zones.get(Zone::Z6))
-        && has_one_plate(full, zones.get(Zone::Z3))
+    stamp <= 1_048_575 && all_lawful(full, zones) && has_one_plate(full, zones.get(Zone::Z3))
 }

@@ -129,7 +129,7 @@ impl State {
         self.full.contains(place)
     }
 
-    /// The number of calls that were Done, and the first stamp.
+    /// The first stamp plus the number of Done calls.
     pub fn stamp(&self) -> u32
         ensures stamp { result ≡ self.now.stamp }
         ensures small { result ≤ 1048575 }
@@ -197,7 +197,7 @@ impl State {
     }
 
     /// The state after a call that is Done.
-    pub fn changed(&self, machine: Machine, call: Call) -> State
+    pub(crate) fn changed(&self, machine: Machine, call: Call) -> State
         requires { replies.reply self.now machine call ≡ Done }
         ensures { result ≡ replies.changed self.now machine call }
     {

@@ -30,20 +30,6 @@ impl Read for FailingReader<'_> {
     }
 }
 
-/// Gives line feeds without end, and counts them.
-#[derive(Drop)]
-pub struct EndlessReader {
-    pub given: u64,
-}
-
-impl Read for EndlessReader {
-    fn read(&mut self, buf: &mut [u8]) -> io::Result<usize> {
-        buf.fill(b'\n');
-        self.given = self.given.saturating_add(buf.len() as u64);
-        Ok(buf.len())
-    }
-}
-
 /// Takes so many bytes, at most three at a time, and then fails, or takes none.
 #[derive(Drop)]
 pub struct FailingWriter {

@@ -3,7 +3,9 @@ ghost use Rattle.std.specs.Prelude.{◌<◌};
 use crate::audit_faults::AuditFault;
 use crate::audits::audit;
 use cell_rules::{State, apply};
-use cell_types::{Answer, Call, Entry, Event, Journals, Machine, Pose, Refusal, Zone};
+use cell_types::{
+    Answer, Call, Entry, Event, Journals, Machine, Place, Pose, Posture, Refusal, Zone,
+};
 use std::alloc::AllocError;
 use std::process::Abort;
 use std::test::Fail;
@@ -102,7 +104,7 @@ fn compares_the_end_whole(rt: HostRuntime) -> Result<(), Fail> {
     );
     let end = end_of_three_calls(&start);
     let mut full = end.full();
-    full.set(cell_types::Place::Crane, true);
+    full.set(Place::Crane, true);
     let fuller = State::checked(end.zones(), full, 3).expect(&rt, "one plate more");
     assert_eq!(rt;
         fault_of(&rt, &journals, &start, Some(&fuller)),
@@ -192,7 +194,7 @@ fn keeps_each_journals_order(rt: HostRuntime) -> Result<(), Fail> {
     let shown = Answer::Shown {
         owner: Some(Machine::Press),
         flag: false,
-        posture: cell_types::Posture::Closed,
+        posture: Posture::Closed,
     };
     let inquiry = |stamp| Entry {
         call: Call::Inquire(Zone::Z3),

@@ -1,0 +1,12 @@
+#!/usr/bin/env bash
+# Times the audit of 125,000 to 1,000,000 entries: a line for each, so that the growth shows.
+# The program of bench/audit is run in a copy of the repository, of which it is no part.
+set -euo pipefail
+top=$(cd "$(dirname "$0")/.." && pwd)
+work=$(mktemp -d)
+trap 'rm -rf "$work"' EXIT
+cp -r "$top/crates" "$top/crates.txt" "$top/HANDLES" "$work"
+cp -r "$top/bench/audit" "$work/crates/bench_audit"
+echo 'bench_audit: cell_report cell_rules cell_types' >> "$work/crates.txt"
+cd "$work/crates/bench_audit"
+"${RT:-rt}" run

@@ -1,8 +1,0 @@
-pub mod Digits
-pub mod Known
-pub mod Lines
-pub mod RecordLemmas
-pub mod Requests
-pub mod Starts
-pub mod Scripts
-pub mod Written
