@@ -28,3 +28,4 @@ pub mod Clear
 pub mod Fitting
 pub mod Assembly
 pub mod Notes
+pub mod SeenLemmas

@@ -10,3 +10,7 @@ pub mod History
 pub mod Laws
 pub mod Start
 pub mod Journal
+pub mod Seen
+pub mod Stored
+pub mod Benches
+pub mod BenchView

@@ -2,8 +2,11 @@
 #![tactic(auto)]
 
 mod answers;
+pub mod bench;
 mod changes;
+pub mod heard;
 pub mod laws;
+pub mod line;
 pub mod maps;
 pub mod places;
 mod poses;
@@ -13,9 +16,14 @@ pub mod state;
 pub mod zones;
 
 pub use answers::{answer, apply};
+pub use bench::Bench;
+pub use heard::{Answered, Heard, LineFault};
+pub use line::Line;
 pub use places::Places;
 pub use state::{StartFault, State};
 pub use zones::{ZoneState, Zones};
 
+#[cfg(test)]
+mod bench_tests;
 #[cfg(test)]
 mod tests;

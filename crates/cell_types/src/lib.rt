@@ -10,6 +10,7 @@ pub mod machine;
 pub mod place;
 pub mod pose;
 pub mod posture;
+pub mod reply;
 pub mod tables;
 pub mod zone;
 
@@ -20,6 +21,7 @@ pub use machine::Machine;
 pub use place::Place;
 pub use pose::Pose;
 pub use posture::Posture;
+pub use reply::Reply;
 pub use tables::{guest, host, posture_in, transfer, work};
 pub use zone::{Transfer, Zone};
 

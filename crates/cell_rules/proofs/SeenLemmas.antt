@@ -1,0 +1,99 @@
+-- What a call adds to a history, and to what its caller has seen.
+use Rattle.std.proofs.Common.{◌≡◌, cond, true, List, [], ◌∷◌, ◌++◌, refl, sym, ap, ◌∙◌, subst, append-nil}
+use Rattle.std.proofs.Props.{props}
+use Rattle.std.proofs.Math.Logic.{∥∥₁_elim}
+use Rattle.std.proofs.lemmas.List.{append_cancel_left, append_cancel_right}
+use Rattle.std.proofs.lemmas.List.Elements.{filter-append}
+use Rattle.cell_types.specs.declared.machine.Machine.{Machine}
+use Rattle.cell_types.specs.declared.call.Call.{Call}
+use Rattle.cell_types.specs.declared.answer.Answer.{Answer}
+use Rattle.cell_types.specs.declared.answer.Event.{Event}
+use Rattle.cell_types.specs.Same.{same_machine}
+use Rattle.cell_rules.specs.ModelState.{ModelState}
+use Rattle.cell_rules.specs.Reply.{reply, next}
+use Rattle.cell_rules.specs.History.{after, IsLegal, own_events}
+use Rattle.cell_rules.specs.Seen.{event, BeginsWith, Settles, Waits}
+use Rattle.cell_rules.specs.Stored.{IsHistory}
+use Rattle.cell_rules.proofs.Tables.{from_machines}
+use Rattle.cell_rules.proofs.Histories.{after-append}
+
+pub after-push : (s : ModelState) (h : List Event) (e : Event) → after s (h ++ e ∷ []) ≡ next (after s h) e.machine e.call
+after-push s h e = after-append s h (e ∷ [])
+
+pub legal-append : (s : ModelState) (a b : List Event) → IsLegal s a → IsLegal (after s a) b → IsLegal s (a ++ b)
+legal-append s [] b l r = r
+legal-append s (e ∷ a) b l r = (l.0, legal-append (next s e.machine e.call) a b l.1 r)
+
+pub legal-right : (s : ModelState) (a b : List Event) → IsLegal s (a ++ b) → IsLegal (after s a) b
+legal-right s [] b l = l
+legal-right s (e ∷ a) b l = legal-right (next s e.machine e.call) a b l.1
+
+pub own-append : (a b : List Event) (m : Machine) → own_events (a ++ b) m ≡ own_events a m ++ own_events b m
+own-append a b m = filter-append (λ e. same_machine e.machine m) a b
+
+pub same_as_itself : (m : Machine) → same_machine m m ≡ true
+same_as_itself = from_machines (λ m. same_machine m m) refl
+
+-- an event of the machine itself
+pub own-event : (m : Machine) (c : Call) (a : Answer) → own_events (event m c a ∷ []) m ≡ event m c a ∷ []
+own-event m c a = ap (λ t. cond t (event m c a ∷ []) []) (same_as_itself m)
+
+pub own-push : (h : List Event) (m : Machine) (c : Call) (a : Answer) → own_events (h ++ event m c a ∷ []) m ≡ own_events h m ++ event m c a ∷ []
+own-push h m c a = own-append h (event m c a ∷ []) m ∙ ap (λ own. own_events h m ++ own) (own-event m c a)
+
+-- a stored history with one more call
+pub history-push : (o s t : ModelState) (h : List Event) (m : Machine) (c : Call) (a : Answer) → IsHistory o s h → a ≡ reply s m c → t ≡ next s m c → IsHistory o t (h ++ event m c a ∷ [])
+history-push o s t h m c a k e n =
+    record {
+      sound = k.sound;
+      legal = legal-append o h (event m c a ∷ []) k.legal (e ∙ ap (λ x. reply x m c) k.reached, tt);
+      reached = n ∙ ap (λ x. next x m c) k.reached ∙ sym (after-push o h (event m c a));
+    }
+
+pub settles-push : (m : Machine) (c : Call) (a : Answer) (h : List Event) → Settles m c a h (h ++ event m c a ∷ [])
+settles-push m c a h = record { point = h; begins = ([], sym (append-nil h)); ends = refl; own = own-push h m c a }
+
+state_prop : (a b : ModelState) → IsProp (a ≡ b)
+state_prop a b = hlevel props
+
+pub state_reached : (o s : ModelState) (h : List Event) → ∥ IsHistory o s h ∥₁ → s ≡ after o h
+state_reached o s h t = ∥∥₁_elim t (state_prop s (after o h)) (λ k. k.reached)
+
+-- what came between what was seen before and the machine's next event is of others
+foreign_between : (m : Machine) (before more : List Event) → own_events (before ++ more) m ≡ own_events before m → own_events more m ≡ []
+foreign_between m before more e =
+    append_cancel_left (own_events before m) (own_events more m) [] (sym (own-append before more m) ∙ e ∙ sym (append-nil (own_events before m)))
+
+pub waits-foreign : (m : Machine) (before now : List Event) (w : Waits m before now) → own_events w.begins.0 m ≡ []
+waits-foreign m before now w = foreign_between m before w.begins.0 (ap (λ h. own_events h m) (sym w.begins.1) ∙ w.own)
+
+pub settles-foreign : (m : Machine) (c : Call) (a : Answer) (before now : List Event) (t : Settles m c a before now) → own_events t.begins.0 m ≡ []
+settles-foreign m c a before now t =
+    let own : own_events t.point m ++ event m c a ∷ [] ≡ own_events before m ++ event m c a ∷ [] = sym (own-push t.point m c a) ∙ ap (λ h. own_events h m) (sym t.ends) ∙ t.own in
+    let same = append_cancel_right (own_events t.point m) (own_events before m) (event m c a ∷ []) own in
+    foreign_between m before t.begins.0 (ap (λ h. own_events h m) (sym t.begins.1) ∙ same)
+
+-- an answered call at its point: the state there, which events of others have led to from what was seen before, the answer that it gives, and the state after
+pub record Found (s : ModelState) (m : Machine) (c : Call) (a : Answer) (before now : List Event) : Type 0 where
+  pub state : ModelState
+  pub others : List Event
+  pub reached : state ≡ after (after s before) others
+  pub foreign : own_events others m ≡ []
+  pub answer : a ≡ reply state m c
+  pub next_state : after s now ≡ next state m c
+
+pub found : (s : ModelState) (m : Machine) (c : Call) (a : Answer) (before now : List Event) → Settles m c a before now → IsLegal s now → Found s m c a before now
+found s m c a before now t l =
+    let legal : IsLegal s (t.point ++ event m c a ∷ []) = subst (λ h. IsLegal s h) t.ends l in
+    record {
+      state = after s t.point;
+      others = t.begins.0;
+      reached = ap (after s) t.begins.1 ∙ after-append s before t.begins.0;
+      foreign = settles-foreign m c a before now t;
+      answer = (legal-right s t.point (event m c a ∷ []) legal).0;
+      next_state = ap (after s) t.ends ∙ after-push s t.point (event m c a);
+    }
+
+-- a call that was not made, and the state after it
+pub waited : (s : ModelState) (m : Machine) (before now : List Event) (w : Waits m before now) → after s now ≡ after (after s before) w.begins.0
+waited s m before now w = ap (after s) w.begins.1 ∙ after-append s before w.begins.0

@@ -1,0 +1,15 @@
+use Rattle.std.proofs.Common.{List, ap, subst, sym}
+use Rattle.std.proofs.Math.Logic.{∥∥₁_elim}
+use Rattle.cell_types.specs.declared.answer.Event.{Event}
+use Rattle.cell_rules.specs.Laws.{Lawful, LawfulThroughout}
+use Rattle.cell_rules.specs.Stored.{IsSound-prop, IsLegal-prop}
+use Rattle.cell_rules.proofs.Histories.{throughout}
+use Rattle.cell_rules.proofs.Assembly.{lawful}
+use Rattle.cell_rules.proofs.bench.Bench.history.Goals as goal
+
+pub returns-clause-lawful : goal.returns-clause-lawful
+returns-clause-lawful c =
+    let bench = c.args.self.now in
+    let sound = ∥∥₁_elim bench.kept (IsSound-prop bench.opening) (λ k. k.sound) in
+    let legal = ∥∥₁_elim bench.kept (IsLegal-prop bench.opening bench.history.items) (λ k. k.legal) in
+    rw c.deref.ensures.value (throughout bench.opening (Lawful bench.opening) (lawful bench.opening sound) bench.history.items legal)

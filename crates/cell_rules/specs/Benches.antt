@@ -1,0 +1,29 @@
+-- What a bench is to its caller, and what a call of it does.
+use Rattle.std.specs.Prelude.{◌≡◌, Bool, true, false, List, [], ◌∷◌, ◌++◌, Result, Ok, Err}
+use Rattle.cell_types.specs.declared.machine.Machine.{Machine}
+use Rattle.cell_types.specs.declared.call.Call.{Call}
+use Rattle.cell_types.specs.declared.answer.Event.{Event}
+use Rattle.cell_types.specs.declared.reply.Reply.{Reply}
+use Rattle.cell_types.specs.declared.reply.Reply.TheVariants.{Settled, Busy}
+use Rattle.cell_rules.specs.declared.heard.LineFault.{LineFault}
+use Rattle.cell_rules.specs.ModelState.{ModelState}
+use Rattle.cell_rules.specs.Reply.{reply, next}
+use Rattle.cell_rules.specs.Seen.{event}
+
+-- the opening, the state, the history between them, who is seated, and whether that caller finds the bench busy
+pub record Desk : Type 0 where
+  pub opening : ModelState
+  pub state : ModelState
+  pub history : List Event
+  pub machine : Machine
+  pub busy : Bool
+
+-- a caller that finds the bench busy is told so, and nothing changes; else the call is answered by the state, changes it, and its event ends the history; want of memory changes nothing
+abbrev pub BenchAsks : Desk → Call → Result Reply LineFault → Desk → Type 0
+BenchAsks b c (Ok (Busy lost stamp)) d = (b.busy ≡ true) × (lost ≡ 1) × (stamp ≡ b.state.stamp) × (d ≡ b)
+BenchAsks b c (Ok (Settled a stamp)) d =
+    (b.busy ≡ false)
+    × (a ≡ reply b.state b.machine c)
+    × (stamp ≡ d.state.stamp)
+    × (d ≡ record b { state = next b.state b.machine c; history = b.history ++ event b.machine c a ∷ [] })
+BenchAsks b c (Err fault) d = (b.busy ≡ false) × (d ≡ b)

@@ -1,0 +1,44 @@
+-- What a caller has seen of the history after a call, and what its line has heard.
+use Rattle.std.specs.Prelude.{◌≡◌, ◌+◌, ◌%◌, ◌^◌, List, [], ◌∷◌, ◌++◌, Some, None, Result, Ok, Err}
+use Rattle.cell_types.specs.declared.machine.Machine.{Machine}
+use Rattle.cell_types.specs.declared.call.Call.{Call}
+use Rattle.cell_types.specs.declared.answer.Answer.{Answer}
+use Rattle.cell_types.specs.declared.answer.Event.{Event}
+use Rattle.cell_types.specs.declared.reply.Reply.{Reply}
+use Rattle.cell_types.specs.declared.reply.Reply.TheVariants.{Settled, Busy}
+use Rattle.cell_rules.specs.declared.heard.LineFault.{LineFault}
+use Rattle.cell_rules.specs.declared.heard.Heard.{Heard}
+use Rattle.cell_rules.specs.ModelState.{ModelState}
+use Rattle.cell_rules.specs.History.{after, own_events}
+
+abbrev pub event : Machine → Call → Answer → Event
+event m c a = record { machine = m; call = c; answer = a }
+
+-- what is seen now begins with what was seen before
+abbrev pub BeginsWith : List Event → List Event → Type 0
+BeginsWith now before = (more : List Event) × (now ≡ before ++ more)
+
+-- a call was answered: what is seen begins with what was seen before, ends with the call's event, and the machine's own events have grown by that one
+pub record Settles (m : Machine) (c : Call) (a : Answer) (before now : List Event) : Type 0 where
+  pub point : List Event
+  pub begins : BeginsWith point before
+  pub ends : now ≡ point ++ event m c a ∷ []
+  pub own : own_events now m ≡ own_events before m ++ event m c a ∷ []
+
+-- a call was not made: what is seen begins with what was seen before, and the machine's own events are the same
+pub record Waits (m : Machine) (before now : List Event) : Type 0 where
+  pub begins : BeginsWith now before
+  pub own : own_events now m ≡ own_events before m
+
+-- what a caller has seen after a call, by what came back; the stamp is that of the state at the end of it
+abbrev pub SeenAfter : Machine → Call → Result Reply LineFault → ModelState → List Event → List Event → Type 0
+SeenAfter m c (Ok (Settled a stamp)) s before now = Settles m c a before now × (stamp ≡ (after s now).stamp)
+SeenAfter m c (Ok (Busy lost stamp)) s before now = Waits m before now × (stamp ≡ (after s now).stamp)
+SeenAfter m c (Err fault) s before now = now ≡ before
+
+-- what a line hears: each call, and what came back last
+abbrev pub heard_nothing : Heard
+heard_nothing = record { asks = 0; last = None }
+
+abbrev pub heard_after : Heard → Call → Result Reply LineFault → Heard
+heard_after h c r = record { asks = (h.asks + 1) % 2 ^ 64; last = Some (c, r) }
