@@ -6,7 +6,9 @@ top=$(cd "$(dirname "$0")/.." && pwd)
 work=$(mktemp -d)
 trap 'rm -rf "$work"' EXIT
 cp -r "$top/crates" "$top/crates.txt" "$top/HANDLES" "$work"
-cp -r "$top/bench/audit" "$work/crates/bench_audit"
+mkdir -p "$work/crates/bench_audit/src"
+# it has another name here, since the gate wants each source file in a crate
+cp "$top/bench/audit/main.txt" "$work/crates/bench_audit/src/main.rt"
 echo 'bench_audit: cell_report cell_rules cell_types' >> "$work/crates.txt"
 cd "$work/crates/bench_audit"
 "${RT:-rt}" run
