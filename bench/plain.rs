@@ -1,5 +1,5 @@
 //! The same replay of scripts, written by hand in plain Rust and proved by nobody: what the proved
-//! program is measured beside. It knows no quotes and no bare carriage returns.
+//! program is measured beside. It knows no quotes, no bare carriage returns and no byte order mark.
 
 use std::fmt::Write as _;
 use std::io::{Read, Write};

@@ -4,13 +4,19 @@
 pub mod serve;
 pub mod words;
 
+use std::io::ErrorKind;
 use std::process::ExitCode;
 use std::{env, io};
 
 fn main(rt: HostRuntime) -> ExitCode {
     let status = match run(&rt) {
         Ok(status) => status,
-        Err(_) => serve::fail(&mut rt.stdout(), "memory"),
+        Err(error) if error.kind() == ErrorKind::OutOfMemory => serve::fail(
+            &mut rt.stdout(),
+            "memory",
+        ),
+        // Words that aren't text are refused before `clap` sees them.
+        Err(_) => serve::refuse_bytes(&mut rt.stdout()),
     };
     ExitCode::from(status)
 }

@@ -8,8 +8,7 @@ ghost use Rattle.cell.specs.Served.{WasReplayed};
 ghost use Rattle.cell.specs.Words.{AreTaken, AskForHelp, AskForReplay};
 
 use crate::words::{Mode, read_words};
-use cell_report::replay::replay;
-use cell_report::script::{Outcome, ReplayFault};
+use cell_report::{Outcome, ReplayFault, replay};
 use clap::error::ErrorKind;
 use std::alloc::Global;
 use std::io::{Read, Write};
@@ -72,6 +71,15 @@ pub fn fail<W: Write>(writer: &mut W, fault: &str) -> u8
     let _ = writeln!(writer, "fault {fault}");
     let _ = writer.flush();
     FAILED
+}
+
+/// Prints that the program's words aren't text, and answers the exit status.
+pub fn refuse_bytes<W: Write>(writer: &mut W) -> u8
+    ensures { result ≡ 2 }
+{
+    let _ = writeln!(writer, "error: a word isn't UTF-8");
+    let _ = writer.flush();
+    REFUSED
 }
 
 /// Prints why the words were refused, or help, and answers the exit status.

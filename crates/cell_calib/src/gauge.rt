@@ -36,7 +36,7 @@ impl<F: Fn(u16) -> i32> Gauge for F {
     }
 }
 
-// A fact that is known to have a proof is as good as one: no value that is computed depends on which.
+// That a fact has some proof is enough here: nothing that is computed depends on which one.
 fn reveal<F: Fn(u16) -> i32>(f: &F, points: Points)
     requires { ∥ KeepsCalibration (F.pre f.now) (F.post f.now) points ∥₁ }
     ensures { KeepsCalibration (F.pre f.now) (F.post f.now) points }

@@ -9,7 +9,7 @@ pub mod laws;
 mod ordered;
 mod output;
 mod records;
-pub mod replay;
+pub mod replays;
 mod request;
 mod retraced;
 mod same;
@@ -20,6 +20,8 @@ mod tell;
 
 pub use audit_faults::AuditFault;
 pub use audits::audit;
+pub use replays::replay;
+pub use script::{Outcome, ReplayFault, ScriptFault};
 
 #[cfg(test)]
 mod tests;

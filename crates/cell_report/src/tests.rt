@@ -1,7 +1,7 @@
 //! Scripts with the text that they are answered, readers and writers that fail, and refused memory.
 //! Each text was worked out by hand from the rules of the cell.
 
-use crate::replay::replay;
+use crate::replays::replay;
 use crate::script::{Outcome, ReplayFault, ScriptFault};
 use doubles::{EndlessReader, FailingReader, FailingWriter};
 use std::alloc::Global;
@@ -95,7 +95,6 @@ fn runs_out_of_memory(rt: HostRuntime) {
     }
 }
 
-// The same for a run of the program.
 #[test]
 fn stops_reading(rt: HostRuntime) -> Result<(), Fail> {
     let alloc = rt.alloc();
@@ -107,5 +106,3 @@ fn stops_reading(rt: HostRuntime) -> Result<(), Fail> {
     assert_eq!(rt; written.as_slice(), b"fault long\n".as_slice());
     Ok(())
 }
-
-// The text of help and of refused words is that of `clap`, and no script is read for them.

@@ -114,3 +114,7 @@ pub record Lawful (s : ModelState) (h : List Event) : Type 0 where
 -- every law, of each beginning of a history
 abbrev pub LawfulThroughout : ModelState → List Event → Type 0
 LawfulThroughout s h = Throughout (Lawful s) h
+
+-- the same of all legal histories
+abbrev pub EveryLegalHistoryIsLawful : Type 0
+EveryLegalHistoryIsLawful = (s : ModelState) (h : List Event) → IsSound s → IsLegal s h → LawfulThroughout s h

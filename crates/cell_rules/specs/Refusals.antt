@@ -111,7 +111,7 @@ no_plate_in_zone s z = then_some (not (zone_at s z).flag) NoPlate
 abbrev pub first_zone : (Zone → Option Refusal) → Option Refusal
 first_zone f = f Z1 or f Z2 or f Z3 or f Z4 or f Z5 or f Z6
 
--- a machine has a pose where the table of poses gives one of its zones a posture
+-- a machine has the poses that give a posture to some zone
 abbrev pub has_pose : Machine → Pose → Bool
 has_pose m p = list_any (λ z. is_some (posture_of m p z)) all_zones
 

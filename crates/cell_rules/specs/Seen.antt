@@ -18,14 +18,14 @@ event m c a = record { machine = m; call = c; answer = a }
 abbrev pub BeginsWith : List Event → List Event → Type 0
 BeginsWith now before = (more : List Event) × (now ≡ before ++ more)
 
--- a call was answered: what is seen begins with what was seen before, ends with the call's event, and the machine's own events have grown by that one
+-- a call was answered: the caller sees at least what it saw, then this call's event, the only new one of its own
 pub record Settles (m : Machine) (c : Call) (a : Answer) (before now : List Event) : Type 0 where
   pub point : List Event
   pub begins : BeginsWith point before
   pub ends : now ≡ point ++ event m c a ∷ []
   pub own : own_events now m ≡ own_events before m ++ event m c a ∷ []
 
--- a call was not made: what is seen begins with what was seen before, and the machine's own events are the same
+-- a call was not made: the caller sees at least what it saw, and nothing new of its own
 pub record Waits (m : Machine) (before now : List Event) : Type 0 where
   pub begins : BeginsWith now before
   pub own : own_events now m ≡ own_events before m

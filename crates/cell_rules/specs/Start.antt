@@ -21,7 +21,7 @@ pub record IsStart (full : PlaceSet) (stamp : ℕ) : Type 0 where
 abbrev pub start_state : PlaceSet → ℕ → ModelState
 start_state full stamp = model_state (everywhere free_zone) full stamp
 
--- a state that is the start of its places and its stamp
+-- a state that a start gives: that of its own places and stamp
 pub record IsStartState (s : ModelState) : Type 0 where
   pub start : IsStart s.full s.stamp
   pub same : s ≡ start_state s.full s.stamp

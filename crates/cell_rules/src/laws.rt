@@ -1,5 +1,6 @@
 //! What is so on every legal history from a sound opening, and on each beginning of it: laws, in
 //! functions that do nothing. A history is the list of the events since the opening, oldest first.
+//! `let _ = &opening.stamp;` looks at the opening, so that it is known to be sound.
 ghost use Rattle.std.specs.Prelude.{◌++◌};
 ghost use Rattle.cell_rules.specs.History.{IsLegal};
 ghost use Rattle.cell_rules.specs.Laws as law;
@@ -18,7 +19,7 @@ pub fn one_holder(opening: &State, history: &[Event])
     let _ = &opening.stamp;
 }
 
-/// A moving zone is held by its host, so the robot never holds the interior of a press that moves.
+/// A moving zone is held by its host: while the press moves the robot doesn't hold its interior.
 pub fn mover_is_host(opening: &State, history: &[Event])
     requires { IsLegal opening.now history.now }
     ensures { Throughout (law.MoverIsHost opening.now) history.now }
@@ -88,12 +89,17 @@ pub fn stays_sound(opening: &State, history: &[Event])
     let _ = &opening.stamp;
 }
 
-/// Table and press don't jump to a pose, a zone opens inward onto an empty place only, a pose changes
+/// Table and press don't jump to a pose, a zone opens inward only onto an empty place, a pose changes
 /// only what its machine holds, a plate comes to a belt's end only while the belt runs, and the press
 /// forges only while it holds its interior and is Closed.
 pub fn events_fit(opening: &State, history: &[Event])
     requires { IsLegal opening.now history.now }
     ensures { law.EventsFit opening.now history.now }
+{}
+
+/// All of these of every legal history from any sound opening, also of one that no program stores.
+pub fn lawful_histories()
+    ensures { law.EveryLegalHistoryIsLawful }
 {}
 
 /// All of these, of each beginning of the history.

@@ -105,7 +105,8 @@ impl State {
     pub fn flag(&self, zone: Zone) -> bool
         ensures { result ≡ (zone_at self.now zone).flag }
     {
-        self.zone(zone).flag
+        let at = self.zone(zone);
+        at.flag
     }
 
     /// What its host has made of a zone.
@@ -142,42 +143,17 @@ impl State {
     {
         let mut zones = self.zones;
         match call {
-            Call::Claim(zone) => zones.set(
-                zone,
-                ZoneState {
-                    owner: Some(machine),
-                    ..self.zone(zone)
-                },
-            ),
-            Call::Give(zone) => zones.set(
-                zone,
-                ZoneState {
-                    owner: Some(other_party(machine, zone)),
-                    flag: true,
-                    ..self.zone(zone)
-                },
-            ),
-            Call::Yield(zone) => zones.set(
-                zone,
-                ZoneState {
-                    owner: Some(other_party(machine, zone)),
-                    ..self.zone(zone)
-                },
-            ),
-            Call::Take(zone) => zones.set(
-                zone,
-                ZoneState {
-                    flag: false,
-                    ..self.zone(zone)
-                },
-            ),
-            Call::Release(zone) => zones.set(
-                zone,
-                ZoneState {
-                    owner: None,
-                    ..self.zone(zone)
-                },
-            ),
+            Call::Claim(zone) => zones.set(zone, self.zone(zone).owned_by(Some(machine))),
+            Call::Give(zone) => {
+                let given = self.zone(zone).flagged(true);
+                zones.set(zone, given.owned_by(Some(other_party(machine, zone))));
+            }
+            Call::Yield(zone) => {
+                let other = Some(other_party(machine, zone));
+                zones.set(zone, self.zone(zone).owned_by(other));
+            }
+            Call::Take(zone) => zones.set(zone, self.zone(zone).flagged(false)),
+            Call::Release(zone) => zones.set(zone, self.zone(zone).owned_by(None)),
             Call::SetPose(pose) => zones = zones.posed(machine, pose),
             Call::Advance => zones = zones.halted(machine),
             Call::Inquire(_) => {}

@@ -13,6 +13,22 @@ pub struct ZoneState {
     pub posture: Posture,
 }
 
+impl ZoneState {
+    /// The same with this owner.
+    pub(crate) fn owned_by(self, owner: Option<Machine>) -> ZoneState
+        ensures { result ≡ record self { owner = owner } }
+    {
+        ZoneState { owner, ..self }
+    }
+
+    /// The same with this flag.
+    pub(crate) fn flagged(self, flag: bool) -> ZoneState
+        ensures { result ≡ record self { flag = flag } }
+    {
+        ZoneState { flag, ..self }
+    }
+}
+
 /// What stands at each zone: a map from the zones.
 #[derive(Clone, Copy, Debug, PartialEq, Eq)]
 pub struct Zones {

@@ -11,7 +11,7 @@ use std::fmt;
 /// Why a call is refused.
 #[derive(Clone, Copy, Debug, PartialEq, Eq)]
 pub enum Refusal {
-    /// The caller is neither host nor guest of the zone.
+    /// The caller is no party of the zone.
     NotParty,
     /// Another machine owns the zone.
     Held(Machine),
@@ -19,7 +19,7 @@ pub enum Refusal {
     AlreadyMine,
     /// The posture forbids the call.
     Shut(Posture),
-    /// A zone that the call needs isn't the caller's: its owner, or nobody.
+    /// The call needs a zone that somebody else owns, or nobody.
     NotOwner(Option<Machine>),
     /// A plate is in the zone.
     PlateInZone(Zone),

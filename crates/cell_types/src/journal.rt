@@ -7,8 +7,8 @@ use crate::answer::Answer;
 use crate::call::Call;
 use std::alloc::Global;
 
-/// A machine's note of a call that was settled: the call, its answer, and the stamp of the state at
-/// the call's point, which is the one after it where the answer is Done.
+/// A machine's note of a call that was settled: the call, its answer, and the stamp that the state has
+/// after it.
 #[derive(Clone, Copy, Debug, PartialEq, Eq)]
 pub struct Entry {
     pub call: Call,

@@ -1,7 +1,7 @@
 //! What is so of the tables: laws, in functions that do nothing.
 ghost use Rattle.cell_types.specs.Ways.{GoesRound, JoinsKeepers, OneRowEach};
 
-/// A giver has at most one transfer row in a zone, and so has a receiver.
+/// Nobody gives in two rows of one zone, and nobody receives in two.
 pub fn one_row_each()
     ensures { OneRowEach }
 {}

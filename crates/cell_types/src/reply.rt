@@ -7,9 +7,9 @@ use crate::answer::Answer;
 pub enum Reply {
     /// The call was answered. After `Answer::Done` the stamp counts this change too.
     Settled(Answer, u32),
-    /// The call was not made: other machines were faster, and nothing of this one has changed.
+    /// The call was not made, and nothing of this machine has changed.
     Busy {
-        /// How often another machine was faster.
+        /// How many tries count as lost; at a bench always 1.
         lost: u8,
         /// The stamp of the state last found.
         stamp: u32,

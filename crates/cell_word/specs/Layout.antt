@@ -1,5 +1,5 @@
--- The word of a state: fields of bits side by side, the lowest first. Zone i stands in the bits 5 (i - 1) to 5 (i - 1) + 4,
--- the places in order in the bits 30 to 39, the stamp in the bits 40 to 59, and the bits above are zero.
+-- The word of a state: fields of bits side by side, from the lowest bit up. Five bits for each zone, one for each place, both in
+-- their order, then twenty for the stamp, and nothing above.
 use Rattle.std.specs.Prelude.{ℕ, ◌+◌, ◌*◌, ◌^◌, List, [], ◌∷◌, ◌++◌, map, sum_by, Option, Some, None, if◌then◌else◌}
 use Rattle.std.specs.List.{flat_map}
 use Rattle.cell_types.specs.declared.machine.Machine.{Machine}

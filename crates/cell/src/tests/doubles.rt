@@ -1,4 +1,4 @@
-//! Readers and a writer that fail, or never end.
+//! A reader and a writer that fail.
 
 use std::io;
 use std::io::{ErrorKind, Read, Write};

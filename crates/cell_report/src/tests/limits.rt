@@ -1,7 +1,7 @@
 //! Scripts that are longer than is used.
 
 use super::expect;
-use crate::replay::replay;
+use crate::replays::replay;
 use crate::script::{Outcome, ScriptFault};
 use std::alloc::Global;
 use std::test::Fail;

@@ -2,8 +2,8 @@ use Rattle.std.proofs.Common.{◌≡◌, ◌-◌, ◌∙◌, sym, take, length, 
 use Rattle.std.proofs.lemmas.List.{length-map, take-map}
 use Rattle.csv.specs.Records.{fields_of}
 use Rattle.cell_report.specs.Script.{without_last}
-use Rattle.cell_report.proofs.replay.used_rows.Goals as goal
-use Rattle.cell_report.proofs.replay.used_rows.Goals.{then-script, else-script}
+use Rattle.cell_report.proofs.replays.used_rows.Goals as goal
+use Rattle.cell_report.proofs.replays.used_rows.Goals.{then-script, else-script}
 
 pub returns : goal.returns
 returns c =

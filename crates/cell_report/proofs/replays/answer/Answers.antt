@@ -7,7 +7,7 @@ use Rattle.cell_report.specs.Requests.{Row}
 use Rattle.cell_report.specs.Script.{byte_limit, end_text, is_cut_of, most_rows, rows_lines, rows_outcome, script_lines, script_outcome, script_text, used}
 use Rattle.cell_report.proofs.Known.{if_some-both}
 use Rattle.cell_report.proofs.Scripts.{rows_lines-used, rows_outcome-used}
-use Rattle.cell_report.proofs.replay.answer.Goals as goal
+use Rattle.cell_report.proofs.replays.answer.Goals as goal
 
 -- what is told of the records that are looked at is told of the script
 outcome_told : (bytes read : List ℕ) (is_cut : Bool) (rows : List Row) (o : Outcome) → read ≡ take byte_limit bytes → is_cut ≡ is_cut_of bytes

@@ -2,7 +2,7 @@ use Rattle.std.proofs.Common.{◌≡◌, ◌∙◌, take, length, nat_lt, ap, li
 use Rattle.std.proofs.lemmas.List.{take-take}
 use Rattle.cell_report.specs.Script.{byte_limit, is_cut_of}
 use Rattle.cell_report.proofs.Known.{cut-same, if_some-map}
-use Rattle.cell_report.proofs.replay.read_script.Goals as goal
+use Rattle.cell_report.proofs.replays.read_script.Goals as goal
 
 pub returns-clause-bytes : goal.returns-clause-bytes
 returns-clause-bytes g c =
