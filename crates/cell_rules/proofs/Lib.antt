@@ -29,3 +29,5 @@ pub mod Fitting
 pub mod Assembly
 pub mod Notes
 pub mod SeenLemmas
+pub mod OwnSide
+pub mod ProgramLemmas

@@ -14,3 +14,4 @@ pub mod Seen
 pub mod Stored
 pub mod Benches
 pub mod BenchView
+pub mod Programs

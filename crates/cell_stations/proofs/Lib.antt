@@ -1,0 +1,4 @@
+pub mod PressLemmas
+pub mod PressFacts
+pub mod TableLemmas
+pub mod TableFacts

@@ -1,0 +1,148 @@
+-- The press's program, row by row.
+use Rattle.std.specs.Prelude.{◌≡◌, Bool, true, false, ◌&&◌, ◌||◌, if◌then◌else◌, Option, Some, None, Result, Ok, Err}
+use Rattle.cell_types.specs.declared.machine.Machine.TheVariants.{Press}
+use Rattle.cell_types.specs.declared.zone.Zone.TheVariants.{Z3}
+use Rattle.cell_types.specs.declared.place.Place.TheVariants.{PressIn, PressOut}
+use Rattle.cell_types.specs.declared.pose.Pose.TheVariants.{Travelling, Middle, Low, Top}
+use Rattle.cell_types.specs.declared.call.Call.{Call}
+use Rattle.cell_types.specs.declared.call.Call.TheVariants.{Claim, Give, Take, Release, SetPose, Advance}
+use Rattle.cell_types.specs.declared.answer.Refusal.{Refusal}
+use Rattle.cell_types.specs.declared.answer.Refusal.TheVariants.{Held, NotOwner, PlaceFull}
+use Rattle.cell_types.specs.declared.answer.Answer.{Answer}
+use Rattle.cell_types.specs.declared.answer.Answer.TheVariants.{Done, Shown, Refused}
+use Rattle.cell_types.specs.declared.reply.Reply.{Reply}
+use Rattle.cell_types.specs.declared.reply.Reply.TheVariants.{Settled, Busy}
+use Rattle.cell_calib.specs.declared.sense.PressSense.{PressSense}
+use Rattle.cell_devices.specs.declared.motor.Direction.{Direction}
+use Rattle.cell_devices.specs.declared.motor.Direction.TheVariants.{Minus as Downward}
+use Rattle.cell_devices.specs.declared.motor.Motor.{Motor}
+use Rattle.cell_devices.specs.declared.motor.Motor.TheVariants.{Off, Plus, Minus}
+use Rattle.cell_devices.specs.Motors.{motor_of, latest}
+use Rattle.cell_rules.specs.declared.heard.LineFault.{LineFault}
+use Rattle.cell_rules.specs.ModelState.{ModelState, is_full}
+use Rattle.cell_rules.specs.Programs.{Program}
+use Rattle.cell_stations.specs.declared.fault.CtlFault.{CtlFault}
+use Rattle.cell_stations.specs.declared.fault.CtlFault.TheVariants.{Memory}
+use Rattle.cell_stations.specs.declared.press_step.PressStep.{PressStep}
+use Rattle.cell_stations.specs.declared.press_step.PressStep.TheVariants.{ClaimFirst, LeaveForMiddle, MoveToMiddle, PoseMiddle, ReleaseInterior, TakePlate, LeaveForTop, MoveToTop, PoseTop, Forge, LeaveForBottom, MoveToBottom, PoseLow, GivePlate, ClaimBack}
+use Rattle.cell_stations.specs.declared.press_step.PressProgress.{PressProgress}
+use Rattle.cell_stations.specs.Faults.{fault_of}
+
+-- what each step asks; a step that asks nothing drives
+abbrev pub call_of : PressStep → Option Call
+call_of ClaimFirst = Some (Claim Z3)
+call_of LeaveForMiddle = Some (SetPose Travelling)
+call_of MoveToMiddle = None
+call_of PoseMiddle = Some (SetPose Middle)
+call_of ReleaseInterior = Some (Release Z3)
+call_of TakePlate = Some (Take Z3)
+call_of LeaveForTop = Some (SetPose Travelling)
+call_of MoveToTop = None
+call_of PoseTop = Some (SetPose Top)
+call_of Forge = Some Advance
+call_of LeaveForBottom = Some (SetPose Travelling)
+call_of MoveToBottom = None
+call_of PoseLow = Some (SetPose Low)
+call_of GivePlate = Some (Give Z3)
+call_of ClaimBack = Some (Claim Z3)
+
+-- the refusals on which a step stays
+abbrev pub stays_on : PressStep → Refusal → Bool
+stays_on TakePlate (NotOwner _) = true
+stays_on GivePlate PlaceFull = true
+stays_on ClaimBack (Held _) = true
+stays_on _ _ = false
+
+-- the step after each that is done, by whether the press has a plate that isn't forged, and one that is
+abbrev pub step_after : PressStep → Bool → Bool → PressStep
+step_after ClaimFirst loaded forged = if forged then LeaveForBottom else (if loaded then LeaveForTop else LeaveForMiddle)
+step_after LeaveForMiddle _ _ = MoveToMiddle
+step_after MoveToMiddle _ _ = PoseMiddle
+step_after PoseMiddle _ _ = ReleaseInterior
+step_after ReleaseInterior _ _ = TakePlate
+step_after TakePlate _ _ = LeaveForTop
+step_after LeaveForTop _ _ = MoveToTop
+step_after MoveToTop _ _ = PoseTop
+step_after PoseTop _ _ = Forge
+step_after Forge _ _ = LeaveForBottom
+step_after LeaveForBottom _ _ = MoveToBottom
+step_after MoveToBottom _ _ = PoseLow
+step_after PoseLow _ _ = GivePlate
+step_after GivePlate _ _ = ClaimBack
+step_after ClaimBack _ _ = LeaveForMiddle
+
+-- what the step does to the two notes
+abbrev pub loaded_after : PressStep → Bool → Bool
+loaded_after TakePlate _ = true
+loaded_after Forge _ = false
+loaded_after _ loaded = loaded
+
+abbrev pub forged_after : PressStep → Bool → Bool
+forged_after Forge _ = true
+forged_after GivePlate _ = false
+forged_after _ forged = forged
+
+abbrev pub done_of : PressProgress → PressProgress
+done_of p =
+    record p {
+      step = step_after p.step p.loaded p.forged;
+      loaded = loaded_after p.step p.loaded;
+      forged = forged_after p.step p.forged;
+    }
+
+-- at the start the places are noted
+abbrev pub press_start : ModelState → PressProgress
+press_start s = record { step = ClaimFirst; loaded = is_full s PressIn; forged = is_full s PressOut; direction = Downward }
+
+-- where an answer leads: on where the call was done; nowhere on a refusal that the step stays on
+abbrev pub refused : PressProgress → Refusal → Result PressProgress CtlFault
+refused p r = if stays_on p.step r then Ok p else Err (fault_of r)
+
+abbrev pub told : PressProgress → Answer → Result PressProgress CtlFault
+told p Done = Ok (done_of p)
+told p (Refused r) = refused p r
+told p (Shown _ _ _) = Ok p
+
+abbrev pub outcome : PressProgress → Result Reply LineFault → Result PressProgress CtlFault
+outcome p (Ok (Settled a stamp)) = told p a
+outcome p (Ok (Busy lost stamp)) = Ok p
+outcome p (Err fault) = Err Memory
+
+-- the drives by switch: off at the switch, else towards it; to the middle from between two switches in the last direction
+abbrev pub to_middle : Direction → PressSense → Motor
+to_middle last s = if s.middle then Off else (if s.bottom then Plus else (if s.top then Minus else motor_of last))
+
+abbrev pub to_top : PressSense → Motor
+to_top s = if s.top then Off else Plus
+
+abbrev pub to_bottom : PressSense → Motor
+to_bottom s = if s.bottom then Off else Minus
+
+abbrev pub step_motor : PressStep → Direction → PressSense → Motor
+step_motor MoveToMiddle last s = to_middle last s
+step_motor MoveToTop last s = to_top s
+step_motor MoveToBottom last s = to_bottom s
+step_motor _ last s = Off
+
+abbrev pub motor_for : PressProgress → PressSense → Motor
+motor_for p s = step_motor p.step p.direction s
+
+-- the drive is done in the turn in which its motor is off
+abbrev pub driven : PressProgress → Motor → PressProgress
+driven p Off = done_of p
+driven p Plus = record p { direction = latest p.direction Plus }
+driven p Minus = record p { direction = latest p.direction Minus }
+
+-- two switches are on that can't both be
+abbrev pub clashes : PressSense → Bool
+clashes s = (s.bottom && s.middle) || (s.bottom && s.top) || (s.middle && s.top)
+
+-- a turn that asks nothing drives, by switches that don't clash
+pub record Drives (p q : PressProgress) : Type 0 where
+  pub asks_nothing : call_of p.step ≡ None
+  pub sense : PressSense
+  pub agree : clashes sense ≡ false
+  pub is : q ≡ driven p (motor_for p sense)
+
+abbrev pub press_program : Program PressProgress
+press_program = record { machine = Press; call = λ p. call_of p.step; leads = λ p a q. told p a ≡ Ok q; moves = Drives }
