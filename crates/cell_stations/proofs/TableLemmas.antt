@@ -1,5 +1,5 @@
--- Turns of the table's controller: what a call leads to, and what a turn hears.
-use Rattle.std.proofs.Common.{◌≡◌, ◌↔◌, ℕ, ℤ, pos, ◌+ℤ◌, ◌-ℤ◌, ◌<ℤ◌, Some, None, List, Result, Ok, Err, refl, sym, subst}
+-- Turns of the table's controller: what a call leads to, and what the rotation is told.
+use Rattle.std.proofs.Common.{◌≡◌, ◌↔◌, ℕ, ℤ, pos, ◌+ℤ◌, ◌-ℤ◌, ◌<ℤ◌, Some, None, List, Result, Ok, Err, refl, subst}
 use Rattle.cell_types.specs.declared.machine.Machine.TheVariants.{Table as TableMachine}
 use Rattle.cell_types.specs.declared.call.Call.{Call}
 use Rattle.cell_types.specs.declared.answer.Event.{Event}
@@ -12,15 +12,13 @@ use Rattle.cell_devices.specs.declared.motor.Motor.{Motor}
 use Rattle.cell_devices.specs.declared.motor.Motor.TheVariants.{Off, Plus, Minus}
 use Rattle.cell_devices.specs.declared.act.TableAct.{TableAct}
 use Rattle.cell_rules.specs.declared.heard.LineFault.{LineFault}
-use Rattle.cell_rules.specs.declared.heard.Heard.{Heard}
 use Rattle.cell_rules.specs.ModelState.{ModelState}
 use Rattle.cell_rules.specs.History.{own_events}
-use Rattle.cell_rules.specs.Seen.{SeenAfter, heard_after}
-use Rattle.cell_rules.specs.Programs.{Hears}
+use Rattle.cell_rules.specs.Seen.{SeenAfter}
 use Rattle.cell_rules.proofs.ProgramLemmas.{reached-settles, reached-waits, reached-moves}
 use Rattle.cell_stations.specs.declared.table_step.TableProgress.{TableProgress}
 use Rattle.cell_stations.specs.TableProgram.{call_of, outcome, driven, Senses, Acts, TurnsTo, table_start, table_program}
-use Rattle.cell_stations.specs.TableTurns.{TableReached, at_rest, Performed, PerformsBy, Performs, HearsOnce}
+use Rattle.cell_stations.specs.TableTurns.{TableReached}
 
 -- a turn that asks keeps the table reached
 pub reached_ask : (points : Scale) (p q : TableProgress) (c : Call) (r : Result Reply LineFault) (o : ModelState) (before now : List Event)
@@ -36,28 +34,6 @@ pub reached_drive : (points : Scale) (p : TableProgress) (s : TableSense) (read 
     → call_of p.step ≡ None → Senses points s (Ok read) → Acts points p.step s read act → TableReached points o seen p → TableReached points o seen (driven p act)
 reached_drive points p s read act o seen e senses acts k =
     reached-moves (table_program points) (table_start o) p (driven p act) (own_events seen TableMachine) k (record { asks_nothing = e; sense = s; read = read; senses = senses; act = act; acts = acts; is = refl })
-
--- the row of a turn, by what its sensors give and what it asks
-pub asked_row : (same : Type 0) (asks : Call → Result Reply LineFault → Type 0) (points : Scale) (p : TableProgress) (s : TableSense) (read : ℤ) (c : Call) (answered : Result Reply LineFault) (r : Performed)
-    → Senses points s (Ok read) → call_of p.step ≡ Some c → asks c answered → r ≡ at_rest (outcome p answered) → Performs same asks points p s r
-asked_row same asks points p s read c answered r senses e k is =
-    record { sensed = Ok read; senses = senses; performs = subst (λ o. PerformsBy o same asks points p s read r) (sym e) (answered, k, is) }
-
-pub driven_row : (same : Type 0) (asks : Call → Result Reply LineFault → Type 0) (points : Scale) (p : TableProgress) (s : TableSense) (read : ℤ) (act : TableAct) (r : Performed)
-    → Senses points s (Ok read) → call_of p.step ≡ None → same → Acts points p.step s read act → r ≡ Ok (driven p act, act) → Performs same asks points p s r
-driven_row same asks points p s read act r senses e k acts is =
-    record { sensed = Ok read; senses = senses; performs = subst (λ o. PerformsBy o same asks points p s read r) (sym e) (k, (act, acts, is)) }
-
--- what the line hears
-pub asked_heard : (points : Scale) (p : TableProgress) (s : TableSense) (read : ℤ) (c : Call) (answered : Result Reply LineFault) (before now : Heard)
-    → Senses points s (Ok read) → call_of p.step ≡ Some c → now ≡ heard_after before c answered → HearsOnce points p s before now
-asked_heard points p s read c answered before now senses e is =
-    record { sensed = Ok read; senses = senses; hears = subst (λ o. Hears o before now) (sym e) (answered, is) }
-
-pub driven_heard : (points : Scale) (p : TableProgress) (s : TableSense) (read : ℤ) (before now : Heard)
-    → Senses points s (Ok read) → call_of p.step ≡ None → now ≡ before → HearsOnce points p s before now
-driven_heard points p s read before now senses e is =
-    record { sensed = Ok read; senses = senses; hears = subst (λ o. Hears o before now) (sym e) is }
 
 -- what `drive` answers, at values that are equal to those of the step
 abbrev DrivesBy : Motor → ℤ → ℕ → ℤ → ℤ → Type 0

@@ -12,7 +12,7 @@ use Rattle.cell_devices.specs.declared.motor.Motor.TheVariants.{Off}
 use Rattle.cell_devices.specs.declared.act.PressAct.{PressAct}
 use Rattle.cell_rules.specs.declared.heard.LineFault.{LineFault}
 use Rattle.cell_rules.specs.ModelState.{ModelState}
-use Rattle.cell_rules.specs.History.{Holds, Moves, own_events}
+use Rattle.cell_rules.specs.History.{Holds, PressMoves, own_events}
 use Rattle.cell_rules.specs.Programs.{Reached}
 use Rattle.cell_stations.specs.declared.fault.CtlFault.{CtlFault}
 use Rattle.cell_stations.specs.declared.fault.CtlFault.TheVariants.{Sensor, Stopped}
@@ -69,4 +69,4 @@ PressReached opening seen p = Reached press_program (press_start opening) (own_e
 
 -- while the press's motor is on, the press holds its interior and is travelling
 abbrev pub PressDemands : ModelState → List Event → PressAct → Type 0
-PressDemands opening seen act = act.press ≢ Off → Holds opening seen Press Z3 × Moves opening seen Z3
+PressDemands opening seen act = act.press ≢ Off → Holds opening seen Press Z3 × PressMoves opening seen

@@ -1,5 +1,5 @@
 -- The table's program, row by row.
-use Rattle.std.specs.Prelude.{◌≡◌, ◌<◌, ℤ, pos, ◌+ℤ◌, ◌-ℤ◌, ◌<ℤ◌, Bool, true, false, ◌&&◌, ◌↔◌, if◌then◌else◌, Option, Some, None, Result, Ok, Err}
+use Rattle.std.specs.Prelude.{◌≡◌, ◌<◌, ◌≤◌, ℤ, pos, ◌+ℤ◌, ◌-ℤ◌, ◌<ℤ◌, Bool, true, false, ◌&&◌, ◌↔◌, if◌then◌else◌, Option, Some, None, Result, Ok, Err}
 use Rattle.cell_types.specs.declared.machine.Machine.TheVariants.{Table as TableMachine}
 use Rattle.cell_types.specs.declared.zone.Zone.TheVariants.{Z1, Z2}
 use Rattle.cell_types.specs.declared.place.Place.TheVariants.{Table as OnTable}
@@ -100,7 +100,7 @@ abbrev pub Senses : Scale → TableSense → Result ℤ SensorFault → Type 0
 Senses points s (Err Clash) = TableClashes s
 Senses points s (Err Low) = ¬ TableClashes s × (s.turn < points.raw_lo)
 Senses points s (Err High) = ¬ TableClashes s × (points.raw_hi < s.turn)
-Senses points s (Ok read) = ¬ TableClashes s × IsReading points s.turn read
+Senses points s (Ok read) = ¬ TableClashes s × (points.raw_lo ≤ s.turn) × (s.turn ≤ points.raw_hi) × IsReading points s.turn read
 
 -- the height is driven by its switches: off there, else towards it
 abbrev pub height_for : TableStep → TableSense → Motor

@@ -5,7 +5,7 @@ ghost use Rattle.cell_stations.specs.TableTurns.{Performs, Turns, HearsTurn, Hea
 
 use crate::fault::CtlFault;
 use crate::table_step::{TableProgress, TableStep};
-use cell_calib::{Calibration, Gauge, SensorFault, TableSense};
+use cell_calib::{Calibration, Gauge, Points, SensorFault, TableSense};
 use cell_devices::{Motor, TableAct, drive};
 use cell_rules::{Line, State};
 
@@ -29,6 +29,13 @@ impl<F: Gauge> TableCtl<F> {
             stopped: false,
             turn,
         }
+    }
+
+    /// The points of its rotation's calibration.
+    pub fn points(&self) -> Points
+        ensures { result ≡ self.now.turn.points }
+    {
+        self.turn.points()
     }
 
     /// One turn of the table's program: its sensors are checked, and the step at which it stands is
