@@ -165,6 +165,16 @@ impl State {
         Ok(())
     }
 
+    fn can_move(&self, from: usize, to: usize) -> Refused {
+        if !self.full[from] {
+            return refuse("noplate");
+        }
+        if self.full[to] {
+            return refuse("placefull");
+        }
+        self.not_worn()
+    }
+
     fn give(&mut self, machine: usize, zone: usize) -> Refused {
         self.party(machine, zone)?;
         self.owns(machine, zone)?;
@@ -174,13 +184,7 @@ impl State {
         let Some((from, to)) = way(zone, posture).filter(|_| giver == machine) else {
             return refuse("wrongway");
         };
-        if !self.full[from] {
-            return refuse("noplate");
-        }
-        if self.full[to] {
-            return refuse("placefull");
-        }
-        self.not_worn()?;
+        self.can_move(from, to)?;
         self.full[from] = false;
         self.zones[zone].flag = true;
         self.zones[zone].owner = Some(self.other(machine, zone));
@@ -287,13 +291,7 @@ impl State {
         if zones.iter().any(|&zone| self.zones[zone].posture != at_work) {
             return refuse("notatwork");
         }
-        if !self.full[from] {
-            return refuse("noplate");
-        }
-        if self.full[to] {
-            return refuse("placefull");
-        }
-        self.not_worn()?;
+        self.can_move(from, to)?;
         self.full[from] = false;
         self.full[to] = true;
         for &zone in zones {
