@@ -1,6 +1,7 @@
 ghost use Rattle.std.specs.Prelude.{◌≡◌, false, IfOk, Result, Ok, Err};
 ghost use Rattle.cell_types.specs.declared.machine.Machine.TheVariants.{Press};
 ghost use Rattle.cell_rules.specs.Programs.{Hears};
+ghost use Rattle.cell_rules.specs.Seen.{heard_after};
 ghost use Rattle.cell_stations.specs.PressProgram.{press_start, call_of};
 ghost use Rattle.cell_stations.specs.PressTurns.{Performs, Turns, asked_by, PressReached, PressDemands};
 
@@ -35,7 +36,7 @@ impl PressCtl {
     pub fn turn<L: Line>(&mut self, line: &mut L, sense: &PressSense) -> Result<PressAct, CtlFault>
         requires own { self.old.stopped ≡ false → L.machine line.old ≡ Press }
         requires reached { self.old.stopped ≡ false → PressReached (L.opening line.old) (L.seen line.old) self.old.progress }
-        ensures row { Turns (line.new ≡ line.old) (λ c r. L.asks line.old c r line.new) self.old.stopped self.old.progress sense.now
+        ensures row { Turns (line.new ≡ line.old) (λ c r. L.asks line.old c r line.new × (L.heard line.new ≡ heard_after (L.heard line.old) c r)) self.old.stopped self.old.progress sense.now
             (record { result = result; progress = self.new.progress; stopped = self.new.stopped }) }
         ensures heard { Hears (asked_by self.old.stopped self.old.progress sense.now) (L.heard line.old) (L.heard line.new) }
         ensures own { L.machine line.new ≡ L.machine line.old }
@@ -67,7 +68,7 @@ fn perform<L: Line>(
 ) -> Result<(PressProgress, PressAct), CtlFault>
     requires own { L.machine line.old ≡ Press }
     requires reached { PressReached (L.opening line.old) (L.seen line.old) progress }
-    ensures row { Performs (line.new ≡ line.old) (λ c r. L.asks line.old c r line.new) progress sense.now result }
+    ensures row { Performs (line.new ≡ line.old) (λ c r. L.asks line.old c r line.new × (L.heard line.new ≡ heard_after (L.heard line.old) c r)) progress sense.now result }
     ensures heard { Hears (asked_by false progress sense.now) (L.heard line.old) (L.heard line.new) }
     ensures own { L.machine line.new ≡ L.machine line.old }
     ensures opening { L.opening line.new ≡ L.opening line.old }

@@ -1,5 +1,6 @@
 ghost use Rattle.std.specs.Prelude.{◌≡◌, false, IfOk, MatchResult, Result, Ok, Err};
 ghost use Rattle.cell_types.specs.declared.machine.Machine.TheVariants.{Table as TableMachine};
+ghost use Rattle.cell_rules.specs.Seen.{heard_after};
 ghost use Rattle.cell_stations.specs.TableProgram.{table_start, Senses, Acts};
 ghost use Rattle.cell_stations.specs.TableTurns.{Performs, Turns, HearsTurn, HearsOnce, TableReached, TableDemands};
 
@@ -45,7 +46,7 @@ impl<F: Gauge> TableCtl<F> {
     pub fn turn<L: Line>(&mut self, line: &mut L, sense: &TableSense) -> Result<TableAct, CtlFault>
         requires own { self.old.stopped ≡ false → L.machine line.old ≡ TableMachine }
         requires reached { self.old.stopped ≡ false → TableReached self.old.turn.points (L.opening line.old) (L.seen line.old) self.old.progress }
-        ensures row { Turns (line.new ≡ line.old) (λ c r. L.asks line.old c r line.new) self.old.turn.points self.old.stopped self.old.progress sense.now
+        ensures row { Turns (line.new ≡ line.old) (λ c r. L.asks line.old c r line.new × (L.heard line.new ≡ heard_after (L.heard line.old) c r)) self.old.turn.points self.old.stopped self.old.progress sense.now
             (record { result = result; progress = self.new.progress; stopped = self.new.stopped }) }
         ensures heard { HearsTurn self.old.stopped self.old.turn.points self.old.progress sense.now (L.heard line.old) (L.heard line.new) }
         ensures own { L.machine line.new ≡ L.machine line.old }
@@ -89,7 +90,7 @@ fn perform<F: Gauge, L: Line>(
 ) -> Result<(TableProgress, TableAct), CtlFault>
     requires own { L.machine line.old ≡ TableMachine }
     requires reached { TableReached turn.now.points (L.opening line.old) (L.seen line.old) progress }
-    ensures row { Performs (line.new ≡ line.old) (λ c r. L.asks line.old c r line.new) turn.now.points progress sense.now result }
+    ensures row { Performs (line.new ≡ line.old) (λ c r. L.asks line.old c r line.new × (L.heard line.new ≡ heard_after (L.heard line.old) c r)) turn.now.points progress sense.now result }
     ensures heard { HearsOnce turn.now.points progress sense.now (L.heard line.old) (L.heard line.new) }
     ensures own { L.machine line.new ≡ L.machine line.old }
     ensures opening { L.opening line.new ≡ L.opening line.old }

@@ -1,6 +1,7 @@
 use Rattle.std.proofs.Common.{◌≡◌, sym, ap, ◌∙◌, refl, Ok, Err}
 use Rattle.cell_stations.proofs.PressLemmas.{clash_ok, reached_ask, reached_drive, asked_row, asked_heard}
 use Rattle.cell_stations.specs.PressTurns.{at_rest}
+use Rattle.cell_rules.specs.Seen.{heard_after}
 use Rattle.cell_stations.proofs.PressFacts.{drives-held}
 use Rattle.cell_stations.proofs.press.perform.Goals as goal
 
@@ -26,8 +27,8 @@ returns-in-None-clause-demands g c =
 
 pub returns-in-Err-told-clause-row : goal.returns-in-Err-told-clause-row
 returns-in-Err-told-clause-row g c =
-    asked_row (c.ask.new.self ≡ c.args.line.now) (λ call r. g.L.Line.asks c.args.line.now call r c.ask.new.self) c.args.progress c.args.sense.now c.in-Some.call c.ask.result (Err c.in-Err-told.fault)
-    (clash_ok c.args.sense.now (Ok c.in_default.field-0) refl c.in_default.ensures.ok) (sym c.call.ensures ∙ c.in-Some.is) c.ask.ensures.asks
+    asked_row (c.ask.new.self ≡ c.args.line.now) (λ call r. g.L.Line.asks c.args.line.now call r c.ask.new.self × (g.L.Line.heard c.ask.new.self ≡ heard_after (g.L.Line.heard c.args.line.now) call r)) c.args.progress c.args.sense.now c.in-Some.call c.ask.result (Err c.in-Err-told.fault)
+    (clash_ok c.args.sense.now (Ok c.in_default.field-0) refl c.in_default.ensures.ok) (sym c.call.ensures ∙ c.in-Some.is) (c.ask.ensures.asks, c.ask.ensures.heard)
     (sym (ap at_rest (sym c.told.ensures ∙ c.in-Err-told.is)))
 
 pub returns-in-Err-told-clause-heard : goal.returns-in-Err-told-clause-heard
