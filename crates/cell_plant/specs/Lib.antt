@@ -1,2 +1,11 @@
 pub mod Axes
+pub mod CellStates
+pub mod Collisions
+pub mod Demands
+pub mod Plant
+pub mod Records
+pub mod Runs
+pub mod Safety
+pub mod Shows
 pub mod Statuses
+pub mod Works
