@@ -8,7 +8,7 @@ use Rattle.cell_stations.specs.declared.fault.CtlFault.TheVariants as fault
 use Rattle.cell_stations.specs.PressProgram.{press_start}
 use Rattle.cell_stations.specs.TableProgram.{table_start}
 use Rattle.cell_plant.specs.declared.record.Status.{Status}
-use Rattle.cell_plant.specs.declared.record.Status.TheVariants.{Fine, Worn, Sensor, Refused, Memory, GateLimit}
+use Rattle.cell_plant.specs.declared.record.Status.TheVariants.{Fine, Worn, Sensor, Refused, Memory}
 use Rattle.cell_plant.specs.Plant.{PlantState, plant_at_start}
 
 pub record TableSide : Type 0 where

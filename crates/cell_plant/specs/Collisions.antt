@@ -4,7 +4,6 @@ use Rattle.cell_types.specs.declared.machine.Machine.{Machine}
 use Rattle.cell_types.specs.declared.machine.Machine.TheVariants.{Feed, Table, Robot, Press, Deposit, Crane, Watch}
 use Rattle.cell_devices.specs.declared.motor.Motor.TheVariants.{Off, Plus, Minus}
 use Rattle.cell_plant.specs.declared.axis.Axis.{Axis}
-use Rattle.cell_plant.specs.declared.belt.Belt.{Belt}
 use Rattle.cell_plant.specs.Axes.{press_end, arm_end, rotation_end, lift_end, turn_end, crane_end, gripper_end}
 use Rattle.cell_plant.specs.Plant.{TablePlant, RobotPlant, CranePlant, PlantState}
 use Rattle.cell_plant.specs.Shows.{IsPressBottom, IsPressMiddle, IsTableBottom}

@@ -1,5 +1,5 @@
 -- What the positions of the plant demand of the interlock, in every state of a run.
-use Rattle.std.specs.Prelude.{◌≡◌, ℤ, pos, ◌≤ℤ◌, true, ◌⊎◌, ◌↔◌, IsSome, IsTrue}
+use Rattle.std.specs.Prelude.{◌≡◌, pos, ◌≤ℤ◌, true, ◌⊎◌, ◌↔◌, IsSome, IsTrue}
 use Rattle.cell_types.specs.declared.machine.Machine.{Machine}
 use Rattle.cell_types.specs.declared.machine.Machine.TheVariants.{Robot, Crane}
 use Rattle.cell_types.specs.declared.zone.Zone.{Zone}

@@ -1,7 +1,10 @@
 pub mod Axes
 pub mod CellStates
+pub mod Cells
 pub mod Collisions
 pub mod Demands
+pub mod Logs
+pub mod Moments
 pub mod Plant
 pub mod Records
 pub mod Runs

@@ -1,7 +1,6 @@
 -- The plant: where its axes and plates stand, and what its motors, belts and magnets were last told.
-use Rattle.std.specs.Prelude.{ℤ, pos, ◌+ℤ◌, ◌-ℤ◌, Bool, true, false, ◌&&◌, if◌then◌else◌, Option, Some, None, option_map}
+use Rattle.std.specs.Prelude.{ℤ, pos, ◌+ℤ◌, ◌-ℤ◌, Bool, false, ◌&&◌, if◌then◌else◌, Option, Some, None, option_map}
 use Rattle.std.specs.Int.{int_min, int_max}
-use Rattle.cell_types.specs.declared.machine.Machine.{Machine}
 use Rattle.cell_types.specs.declared.machine.Machine.TheVariants.{Feed, Deposit}
 use Rattle.cell_types.specs.declared.zone.Zone.TheVariants.{Z1, Z4, Z5, Z6}
 use Rattle.cell_types.specs.declared.place.Place.TheVariants.{FeedEntry, FeedEnd, Arm1, Arm2, DepEntry, DepEnd, Crane}

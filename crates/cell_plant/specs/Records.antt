@@ -1,9 +1,8 @@
 -- What is kept of a run.
-use Rattle.std.specs.Prelude.{◌≡◌, ℤ, Bool, true, false, ◌&&◌, List, [], ◌∷◌, ◌++◌, map, count_by, Option, Some, None, Result, Ok, Err}
+use Rattle.std.specs.Prelude.{◌≡◌, ℤ, Bool, true, false, ◌&&◌, List, [], ◌∷◌, ◌++◌, map, count_by, Some, None, Result, Ok, Err}
 use Rattle.cell_types.specs.declared.machine.Machine.{Machine}
-use Rattle.cell_types.specs.declared.machine.Machine.TheVariants.{Feed, Table, Robot, Press, Deposit, Crane, Watch}
+use Rattle.cell_types.specs.declared.machine.Machine.TheVariants.{Table, Press}
 use Rattle.cell_types.specs.declared.call.Call.{Call}
-use Rattle.cell_types.specs.declared.answer.Answer.{Answer}
 use Rattle.cell_types.specs.declared.answer.Answer.TheVariants.{Done, Shown, Refused}
 use Rattle.cell_types.specs.declared.answer.Event.{Event}
 use Rattle.cell_types.specs.declared.reply.Reply.{Reply}
@@ -15,16 +14,14 @@ use Rattle.cell_rules.specs.declared.heard.LineFault.{LineFault}
 use Rattle.cell_rules.specs.ModelState.{ModelState}
 use Rattle.cell_rules.specs.Journal.{noted}
 use Rattle.cell_rules.specs.Seen.{event}
-use Rattle.cell_plant.specs.declared.schedule.Turn.{Turn}
 use Rattle.cell_plant.specs.declared.record.Counts.{Counts}
 use Rattle.cell_plant.specs.declared.record.Status.{Status}
 use Rattle.cell_plant.specs.declared.record.Status.TheVariants.{Fine}
 use Rattle.cell_plant.specs.declared.record.RunRecord.{RunRecord}
-use Rattle.cell_plant.specs.Axes.{CellScales}
 use Rattle.cell_plant.specs.Plant.{PlantState}
 use Rattle.cell_plant.specs.CellStates.{CellState, cell_at_start}
 use Rattle.cell_plant.specs.Works.{Asked}
-use Rattle.cell_plant.specs.Runs.{Step, IsRun, end_of}
+use Rattle.cell_plant.specs.Runs.{Step, end_of}
 
 -- what came back in a step, by kind
 abbrev pub is_done_reply : Result Reply LineFault → Bool

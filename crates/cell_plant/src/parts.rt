@@ -16,7 +16,9 @@ use cell_types::{Event, Place};
 use std::marker::Model;
 
 const PRESS_END: i32 = 1000;
+
 const LIFT_END: i32 = 600;
+
 const TURN_END: i32 = 500;
 
 /// The press: an axis from 0 to 1000, with a switch at its bottom, its middle and its top.

@@ -1,4 +1,4 @@
-ghost use Rattle.std.specs.Prelude.{◌≡◌, ◌*◌, ◌/◌, ◌≤◌, ◌<◌, ◌≤ℤ◌};
+ghost use Rattle.std.specs.Prelude.{◌≡◌, ◌*◌, ◌/◌, ◌≤◌, ◌<◌, ◌≤ℤ◌, pos, ◌+ℤ◌, ◌-ℤ◌};
 ghost use Rattle.cell_calib.specs.Line.{IsRawAt};
 
 use cell_calib::Points;
@@ -8,12 +8,35 @@ use cell_calib::Points;
 pub(crate) fn raw_at(points: &Points, position: i32) -> u16
     ensures { points.now.at_lo ≤ℤ position → position ≤ℤ points.now.at_hi → IsRawAt points.now position result }
 {
+    let raw_lo = points.raw_lo();
+    let length = distance(points.at_lo(), points.at_hi());
+    raw_lo + part_of(along(points, position), points.raw_hi() - raw_lo, length)
+}
+
+// How far a position is above that of the first point; beyond the points, as far as the nearer one.
+fn along(points: &Points, position: i32) -> u32
+    ensures is { points.now.at_lo ≤ℤ position → position ≤ℤ points.now.at_hi → position -ℤ points.now.at_lo ≡ pos result }
+    ensures within { pos result ≤ℤ (points.now.at_hi -ℤ points.now.at_lo) }
+{
     let at_lo = points.at_lo();
     let at_hi = points.at_hi();
-    let raw_lo = points.raw_lo();
-    let along = (position.max(at_lo).min(at_hi) - at_lo) as u32;
-    let length = (at_hi - at_lo) as u32;
-    raw_lo + part_of(along, points.raw_hi() - raw_lo, length)
+    if position < at_lo {
+        0
+    } else if position > at_hi {
+        distance(at_lo, at_hi)
+    } else {
+        distance(at_lo, position)
+    }
+}
+
+// How far a position is above another.
+fn distance(from: i32, to: i32) -> u32
+    requires rises { from ≤ℤ to }
+    requires low { pos 0 ≤ℤ (from +ℤ pos 100000) }
+    requires high { to ≤ℤ pos 100000 }
+    ensures { to -ℤ from ≡ pos result }
+{
+    (to - from) as u32
 }
 
 // The same part of a width as `along` is of a length, rounded down.
