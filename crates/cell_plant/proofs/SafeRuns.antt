@@ -1,6 +1,6 @@
 -- Every state of a run is safe.
-use Rattle.std.proofs.Common.{◌≡◌, ℕ, ℤ, pos, Bool, true, false, ◌&&◌, not, ◌⊎◌, inl, inr, Option, Some, None, IsSome, IsTrue, ◌↔◌, Result, Ok, Err, List, [], ◌∷◌, refl, sym, ap, ◌∙◌, subst, arith}
-use Rattle.std.proofs.lemmas.Int.{ints}
+use Rattle.std.proofs.Common.{◌≡◌, ℕ, ℤ, pos, ◌≤ℤ◌, Bool, true, false, ◌&&◌, not, ◌⊎◌, inl, inr, Option, Some, None, IsSome, IsTrue, ◌↔◌, Result, Ok, Err, List, [], ◌∷◌, refl, sym, ap, ◌∙◌, subst, arith}
+use Rattle.std.proofs.lemmas.Int.{ints, clamps}
 use Rattle.cell_types.specs.declared.machine.Machine.{Machine}
 use Rattle.cell_types.specs.declared.machine.Machine.TheVariants.{Feed, Table, Robot, Press, Deposit, Crane, Watch}
 use Rattle.cell_types.specs.declared.place.Place.TheVariants.{FeedEnd, DepEnd}
@@ -28,16 +28,18 @@ use Rattle.cell_stations.specs.PressProgram as press_program
 use Rattle.cell_stations.specs.PressTurns as press_turns
 use Rattle.cell_stations.specs.TableProgram as table_program
 use Rattle.cell_stations.specs.TableTurns as table_turns
+use Rattle.cell_devices.specs.declared.motor.Motor.{Motor}
+use Rattle.cell_devices.specs.declared.motor.Motor.TheVariants.{Off, Plus, Minus}
 use Rattle.cell_plant.specs.declared.schedule.Turn.{Turn}
 use Rattle.cell_plant.specs.declared.axis.Axis.{Axis}
-use Rattle.cell_plant.specs.Axes.{turn_end, IsAxisScale, CellScales, AreCellScales}
-use Rattle.cell_plant.specs.Plant.{TablePlant, PlantState, plate_if, feed_at_start, deposit_at_start, robot_at_start, crane_at_start, set_press, moved_press, set_table, moved_table}
+use Rattle.cell_plant.specs.Axes.{press_end, arm_end, rotation_end, lift_end, turn_end, crane_end, gripper_end, IsWithin, IsAxisScale, CellScales, AreCellScales}
+use Rattle.cell_plant.specs.Plant.{TablePlant, PlantState, plant_at_start, moved_to, moved_axis, plate_if, feed_at_start, deposit_at_start, robot_at_start, crane_at_start, set_press, moved_press, set_table, moved_table}
 use Rattle.cell_plant.specs.Works.{Asked, press_told, table_told}
 use Rattle.cell_plant.specs.CellStates.{CellState, cell_at_start, is_fine}
 use Rattle.cell_plant.specs.Collisions.{IsOut, IsGripperDown, ArmHitsPress, PlateFalls, DrivesPastEnd, NothingCollides}
 use Rattle.cell_plant.specs.Demands.{MeetsDemands}
 use Rattle.cell_plant.specs.Runs.{Step, Answers, AsksNothing, AsksOnce, with_press, with_table, press_moved, table_moved, PressTakes, TableTakes, Rests, IfFine, Leads, IsRun}
-use Rattle.cell_plant.specs.Safety.{IsSafeState, IsSafelySet, IsSafeRun, EveryRunIsSafe}
+use Rattle.cell_plant.specs.Safety.{StaysWithin, IsSafeState, IsSafelySet, IsSafeRun, EveryRunIsSafe}
 use Rattle.cell_plant.proofs.PressRun.{PressInv, press-start, press-foreign, press-own, press-moved, press-ends}
 use Rattle.cell_plant.proofs.TableRun.{TableInv, table-start, table-foreign, table-own, table-moved, table-ends}
 
@@ -58,8 +60,18 @@ pub record FullAsAtStart (o z : ModelState) : Type 0 where
 pub record CellInv (o : ModelState) (w : CellState) : Type 0 where
   pub full : FullAsAtStart o w.interlock
   pub stands : StandsAsAtStart o w.plant
+  pub within : StaysWithin w.plant
   pub press : PressInv w.interlock w.press.progress w.plant.press
   pub table : TableInv w.interlock w.table w.plant.table
+
+-- an axis that moves stays within its ends
+moved_by : (end p : ℤ) (motor : Motor) → pos 0 ≤ℤ end → IsWithin end p → IsWithin end (moved_to end p motor)
+moved_by end p Off some k = k
+moved_by end p Plus some k = record { first = omega (arith, ints, clamps); last = omega (arith, ints, clamps) }
+moved_by end p Minus some k = record { first = omega (arith, ints, clamps); last = omega (arith, ints, clamps) }
+
+moved_within : (end : ℤ) (a : Axis) → pos 0 ≤ℤ end → IsWithin end a.position → IsWithin end (moved_axis end a).position
+moved_within end a some k = moved_by end a.position a.motor some k
 
 -- a start is sound, for its zones are free
 one_place_empty : (b : Bool) → b ≡ false → (not b && true) ≡ true
@@ -74,10 +86,33 @@ sound_free full stamp k =
 sound_start : (s : ModelState) → IsStartState s → IsSound s
 sound_start s k = subst IsSound (sym k.same) (sound_free s.full s.stamp k.start)
 
+between : (end p : ℤ) → pos 0 ≤ℤ p → p ≤ℤ end → IsWithin end p
+between end p a b = record { first = a; last = b }
+
+within_start : (o : ModelState) → StaysWithin (plant_at_start o)
+within_start o = record {
+  press = between press_end (pos 1000) (omega (arith, ints)) (omega (arith, ints));
+  arm1 = between arm_end (pos 0) (omega (arith, ints)) (omega (arith, ints));
+  arm2 = between arm_end (pos 0) (omega (arith, ints)) (omega (arith, ints));
+  rotation = between rotation_end (pos 300) (omega (arith, ints)) (omega (arith, ints));
+  lift = between lift_end (pos 0) (omega (arith, ints)) (omega (arith, ints));
+  turn = between turn_end (pos 0) (omega (arith, ints)) (omega (arith, ints));
+  travel = between crane_end (pos 0) (omega (arith, ints)) (omega (arith, ints));
+  gripper = between gripper_end (pos 900) (omega (arith, ints)) (omega (arith, ints));
+}
+
+-- another press or table that stands within its ends
+within_with_press : (p : PlantState) (press : Axis) → IsWithin press_end press.position → StaysWithin p → StaysWithin (with_press p press)
+within_with_press p press k w = record { press = k; arm1 = w.arm1; arm2 = w.arm2; rotation = w.rotation; lift = w.lift; turn = w.turn; travel = w.travel; gripper = w.gripper }
+
+within_with_table : (p : PlantState) (table : TablePlant) → IsWithin lift_end table.lift.position → IsWithin turn_end table.turn.position → StaysWithin p → StaysWithin (with_table p table)
+within_with_table p table k l w = record { press = w.press; arm1 = w.arm1; arm2 = w.arm2; rotation = w.rotation; lift = k; turn = l; travel = w.travel; gripper = w.gripper }
+
 cell_start : (o : ModelState) → IsStartState o → CellInv o (cell_at_start o)
 cell_start o k = record {
   full = record { sound = sound_start o k; feed_end = refl; deposit_end = refl };
   stands = record { feed = refl; robot = refl; deposit = refl; crane = refl };
+  within = within_start o;
   press = press-start o k;
   table = table-start o k;
 }
@@ -142,7 +177,7 @@ meets_demands o w i = record {
 }
 
 is_safe : (o : ModelState) (w : CellState) → CellInv o w → IsSafeState w
-is_safe o w i = record { clear = nothing_collides o w.plant i.stands; demands = meets_demands o w i }
+is_safe o w i = record { clear = nothing_collides o w.plant i.stands; within = i.within; demands = meets_demands o w i }
 
 safely_set : (o : ModelState) (m : Machine) (w : CellState) (s : Step) → CellInv o w → CellInv o s.set → s.machine ≡ m → ¬ DrivesPastEnd m s.set.plant → IsSafelySet w s
 safely_set o m w s i j e ends = record {
@@ -225,6 +260,7 @@ press_sets o busy w s k i =
     record {
       full = full_kept o z Press t refl refl by i.full;
       stands = subst (λ (x : CellState). StandsAsAtStart o x.plant) (sym k.set) (stands_with_press o w.plant (set_press w.plant.press (press_told k.turned.result)) i.stands);
+      within = subst (λ (x : CellState). StaysWithin x.plant) (sym k.set) (within_with_press w.plant (set_press w.plant.press (press_told k.turned.result)) i.within.press i.within);
       press = press-own busy w s i.full.sound k i.press;
       table = subst (λ (x : CellState). TableInv t x.table x.plant.table) (sym k.set) table;
     }
@@ -233,6 +269,7 @@ press_moves : (o : ModelState) (w : CellState) → CellInv o w → CellInv o (pr
 press_moves o w i = record {
   full = i.full;
   stands = stands_with_press o w.plant (moved_press w.plant.press) i.stands;
+  within = within_with_press w.plant (moved_press w.plant.press) (moved_within press_end w.plant.press (omega (arith, ints)) i.within.press) i.within;
   press = press-moved w.interlock w.press.progress w.plant.press i.press;
   table = i.table;
 }
@@ -256,6 +293,7 @@ table_sets o points busy w s scale fine k i =
     record {
       full = full_kept o z Table t refl refl by i.full;
       stands = subst (λ (x : CellState). StandsAsAtStart o x.plant) (sym k.set) (stands_with_table o w.plant (set_table w.plant.table (table_told k.turned.result)) i.stands);
+      within = subst (λ (x : CellState). StaysWithin x.plant) (sym k.set) (within_with_table w.plant (set_table w.plant.table (table_told k.turned.result)) i.within.lift i.within.turn i.within);
       press = subst (λ (x : CellState). PressInv t x.press.progress x.plant.press) (sym k.set) press;
       table = table-own points busy w s scale i.full.sound fine k i.table;
     }
@@ -264,6 +302,7 @@ table_moves : (o : ModelState) (w : CellState) → CellInv o w → CellInv o (ta
 table_moves o w i = record {
   full = i.full;
   stands = stands_with_table o w.plant (moved_table w.plant.table) i.stands;
+  within = within_with_table w.plant (moved_table w.plant.table) (moved_within lift_end w.plant.table.lift (omega (arith, ints)) i.within.lift) (moved_within turn_end w.plant.table.turn (omega (arith, ints)) i.within.turn) i.within;
   press = i.press;
   table = table-moved w.interlock w.table w.plant.table i.table;
 }

@@ -1,7 +1,12 @@
 -- Turns of a machine, by its controller with its part: what its sensors show, a row of its program, and where that leaves its part.
 use Rattle.std.specs.Prelude.{◌≡◌, Bool, Option, Some, None, Result, Ok, Err}
 use Rattle.cell_types.specs.declared.call.Call.{Call}
+use Rattle.cell_types.specs.declared.machine.Machine.{Machine}
+use Rattle.cell_types.specs.declared.answer.Answer.TheVariants.{Done}
+use Rattle.cell_types.specs.declared.answer.Event.{Event}
 use Rattle.cell_types.specs.declared.reply.Reply.{Reply}
+use Rattle.cell_types.specs.declared.reply.Reply.TheVariants.{Settled}
+use Rattle.cell_rules.specs.Seen.{event}
 use Rattle.cell_calib.specs.Scale.{Scale}
 use Rattle.cell_calib.specs.declared.sense.PressSense.{PressSense}
 use Rattle.cell_calib.specs.declared.sense.TableSense.{TableSense}
@@ -23,6 +28,15 @@ use Rattle.cell_plant.specs.CellStates.{stop_of}
 -- what was asked in a turn, and what came back
 abbrev pub Asked : Type 0
 Asked = Option (Call × Result Reply LineFault)
+
+-- the event of what a machine asked, if that was done: its part notes it
+abbrev pub done_by : Machine → Call → Result Reply LineFault → Option Event
+done_by m c (Ok (Settled Done stamp)) = Some (event m c Done)
+done_by m c _ = None
+
+abbrev pub done_in : Machine → Asked → Option Event
+done_in m None = None
+done_in m (Some call) = done_by m call.0 call.1
 
 -- what the motors are told: after a fault, to be off
 abbrev pub press_told : Result PressAct CtlFault → PressAct

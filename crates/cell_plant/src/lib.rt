@@ -24,3 +24,6 @@ pub use schedule::Turn;
 pub use simulation::simulate;
 pub use units::{CraneUnit, DepositUnit, FeedUnit, PressUnit, RobotUnit, TableUnit};
 pub use worked::{Asked, Worked};
+
+#[cfg(test)]
+mod tests;

@@ -7,15 +7,17 @@ ghost use Rattle.cell_stations.specs.PressTurns.{PressReached};
 ghost use Rattle.cell_stations.specs.TableTurns.{TableReached};
 ghost use Rattle.cell_plant.specs.Axes.{IsAxisScale, turn_end};
 ghost use Rattle.cell_plant.specs.CellStates.{stop_by, stop_of};
+ghost use Rattle.cell_plant.specs.Plant.{press_tick, table_tick};
 ghost use Rattle.cell_plant.specs.Works.{PressWorks, TableWorks, press_told, table_told};
 
 use crate::parts::{CranePart, DepositPart, FeedPart, PressPart, RobotPart, TablePart};
 use crate::record::Status;
-use crate::worked::{Worked, asked_between};
+use crate::worked::{Worked, asked_between, done_event};
 use cell_calib::{Calibration, Gauge};
 use cell_devices::{Motor, PressAct, TableAct};
 use cell_rules::Line;
 use cell_stations::{CtlFault, PressCtl, TableCtl};
+use cell_types::{Event, Machine};
 
 /// The feed belt. It has no controller yet.
 #[derive(Clone, Copy, Debug)]
@@ -73,8 +75,8 @@ fn stop_of_fault(fault: CtlFault) -> Option<Status>
 }
 
 impl PressUnit {
-    /// One turn: its controller's, by what its sensors show, and then a tick of its part. After an error
-    /// of the controller its motor is off.
+    /// One turn: its controller's, by what its sensors show; then its part notes the call, if that was
+    /// done, and moves for a tick. After an error of the controller its motor is off.
     pub fn turn<L: Line>(&mut self, line: &mut L) -> Worked
         requires own { self.old.controller.stopped ≡ false → L.machine line.old ≡ Press }
         requires reached { self.old.controller.stopped ≡ false → PressReached (L.opening line.old) (L.seen line.old) self.old.controller.progress }
@@ -88,11 +90,9 @@ impl PressUnit {
         let before = line.heard();
         let turned = self.controller.turn(line, &self.part.sensors());
         let (act, stop) = press_act_of(turned);
-        self.part.tick(&act);
-        Worked {
-            asked: asked_between(before, line.heard()),
-            stop,
-        }
+        let asked = asked_between(before, line.heard());
+        note_and_tick_press(&mut self.part, done_event(Machine::Press, asked), &act);
+        Worked { asked, stop }
     }
 }
 
@@ -107,9 +107,19 @@ fn press_act_of(turned: Result<PressAct, CtlFault>) -> (PressAct, Option<Status>
     }
 }
 
+// The press notes a call that was done, and moves for a tick.
+fn note_and_tick_press(part: &mut PressPart, event: Option<Event>, act: &PressAct)
+    ensures { part.new ≡ press_tick part.old act.now }
+{
+    if let Some(event) = event {
+        part.note(&event);
+    }
+    part.tick(act);
+}
+
 impl<F: Gauge> TableUnit<F> {
-    /// One turn: its controller's, by what its sensors show, and then a tick of its part. After an error
-    /// of the controller its motors are off.
+    /// One turn: its controller's, by what its sensors show; then its part notes the call, if that was
+    /// done, and moves for a tick. After an error of the controller its motors are off.
     pub fn turn<L: Line>(&mut self, line: &mut L) -> Worked
         requires scale { self.old.part.scale ≡ self.old.controller.turn.points }
         requires axis { IsAxisScale turn_end self.old.part.scale }
@@ -127,11 +137,9 @@ impl<F: Gauge> TableUnit<F> {
         let before = line.heard();
         let turned = self.controller.turn(line, &self.part.sensors());
         let (act, stop) = table_act_of(turned);
-        self.part.tick(&act);
-        Worked {
-            asked: asked_between(before, line.heard()),
-            stop,
-        }
+        let asked = asked_between(before, line.heard());
+        note_and_tick_table(&mut self.part, done_event(Machine::Table, asked), &act);
+        Worked { asked, stop }
     }
 }
 
@@ -150,4 +158,15 @@ fn table_act_of(turned: Result<TableAct, CtlFault>) -> (TableAct, Option<Status>
             stop_of_fault(fault),
         ),
     }
+}
+
+// The table notes a call that was done, and moves for a tick.
+fn note_and_tick_table(part: &mut TablePart, event: Option<Event>, act: &TableAct)
+    ensures plant { part.new.plant ≡ table_tick part.old.plant act.now }
+    ensures scale { part.new.scale ≡ part.old.scale }
+{
+    if let Some(event) = event {
+        part.note(&event);
+    }
+    part.tick(act);
 }
