@@ -96,10 +96,7 @@ fn turns_of(alloc: Global, machine: Machine, busy: bool, count: usize) -> Result
 #[test]
 fn the_press_comes_to_its_middle(rt: HostRuntime) -> Result<(), Fail> {
     let turns = turns_of(rt.alloc(), Machine::Press, false, 31)?;
-    let record = match run(rt.alloc(), EMPTY, 0, turns.as_slice())? {
-        Ok(record) => record,
-        Err(SimFault::Memory) => return Ok(()),
-    };
+    let record = run(rt.alloc(), EMPTY, 0, turns.as_slice())??;
     let counts = Counts {
         turns: 31,
         done: 4,
@@ -118,5 +115,139 @@ fn the_press_comes_to_its_middle(rt: HostRuntime) -> Result<(), Fail> {
         (end.owner(Zone::Z3), end.stamp(), end.plates()),
         (None, 4, 0)
     );
+    Ok(())
+}
+
+#[test]
+fn a_busy_turn_is_counted_and_changes_nothing(rt: HostRuntime) -> Result<(), Fail> {
+    let turns = turns_of(rt.alloc(), Machine::Press, true, 1)?;
+    let record = run(rt.alloc(), EMPTY, 0, turns.as_slice())??;
+    let counts = Counts {
+        turns: 1,
+        busy: 1,
+        ..Counts::default()
+    };
+    assert_eq!(rt; record.counts[3], counts);
+    assert_eq!(rt; record.axes, [1000, 0, 0, 300, 0, 0, 0, 900]);
+    assert!(rt; record.journals.press.is_empty());
+    let end = record.end.ok_or(SimFault::Memory)?;
+    assert_eq!(rt; (end.posture(Zone::Z3), end.stamp()), (Posture::Closed, 0));
+    Ok(())
+}
+
+#[test]
+fn the_table_waits_for_a_plate(rt: HostRuntime) -> Result<(), Fail> {
+    let turns = turns_of(rt.alloc(), Machine::Table, false, 7)?;
+    let record = run(rt.alloc(), EMPTY, 0, turns.as_slice())??;
+    let counts = Counts {
+        turns: 7,
+        done: 5,
+        refused: 1,
+        ..Counts::default()
+    };
+    assert_eq!(rt; record.counts[1], counts);
+    let end = record.end.ok_or(SimFault::Memory)?;
+    assert_eq!(rt;
+        (end.owner(Zone::Z1), end.posture(Zone::Z1)),
+        (None, Posture::OpenIn)
+    );
+    assert_eq!(rt;
+        (end.owner(Zone::Z2), end.posture(Zone::Z2)),
+        (Some(Machine::Table), Posture::Closed)
+    );
+    assert_eq!(rt; (end.stamp(), end.plates()), (5, 0));
+    Ok(())
+}
+
+#[test]
+fn the_table_hands_its_plate_over(rt: HostRuntime) -> Result<(), Fail> {
+    let turns = turns_of(rt.alloc(), Machine::Table, false, 37)?;
+    let record = run(rt.alloc(), ON_TABLE, 0, turns.as_slice())??;
+    let counts = Counts {
+        turns: 37,
+        done: 5,
+        refused: 1,
+        ..Counts::default()
+    };
+    assert_eq!(rt; record.counts[1], counts);
+    assert_eq!(rt; record.axes, [1000, 0, 0, 300, 600, 500, 0, 900]);
+    let end = record.end.ok_or(SimFault::Memory)?;
+    assert_eq!(rt;
+        (end.owner(Zone::Z1), end.posture(Zone::Z1)),
+        (Some(Machine::Table), Posture::Closed)
+    );
+    assert_eq!(rt;
+        (end.owner(Zone::Z2), end.posture(Zone::Z2)),
+        (Some(Machine::Robot), Posture::OpenOut)
+    );
+    assert_eq!(rt;
+        (end.flag(Zone::Z2), end.stamp(), end.plates()),
+        (true, 5, 1)
+    );
+    Ok(())
+}
+
+#[test]
+fn a_machine_that_is_worn_stops(rt: HostRuntime) -> Result<(), Fail> {
+    let mut turns = turns_of(rt.alloc(), Machine::Table, false, 3)?;
+    let press = Turn {
+        machine: Machine::Press,
+        busy: true,
+    };
+    turns.push(press)?;
+    let record = run(rt.alloc(), EMPTY, 1_048_575, turns.as_slice())??;
+    let counts = Counts {
+        turns: 1,
+        refused: 1,
+        ..Counts::default()
+    };
+    assert_eq!(rt; record.counts[1], counts);
+    assert_eq!(rt; record.status[1], Status::Worn);
+    assert_eq!(rt;
+        (record.counts[3].turns, record.status[3]),
+        (1, Status::Fine)
+    );
+    Ok(())
+}
+
+#[test]
+fn turns_of_other_machines_do_nothing(rt: HostRuntime) -> Result<(), Fail> {
+    let mut turns = Vec::new(rt.alloc());
+    for machine in [
+        Machine::Feed,
+        Machine::Robot,
+        Machine::Deposit,
+        Machine::Crane,
+        Machine::Watch,
+    ] {
+        turns.push(Turn {
+            machine,
+            busy: false,
+        })?;
+    }
+    let record = run(rt.alloc(), ON_TABLE, 3, turns.as_slice())??;
+    assert_eq!(rt; record.counts, [Counts::default(); 7]);
+    assert_eq!(rt; record.start, State::start(ON_TABLE, 3)?);
+    assert_eq!(rt; record.end, Some(record.start));
+    Ok(())
+}
+
+// Whatever growth is refused, a run is told or the fault says why not.
+#[test]
+fn a_run_without_memory(rt: HostRuntime) -> Result<(), Fail> {
+    let turn = Turn {
+        machine: Machine::Press,
+        busy: false,
+    };
+    if let Ok(record) = run(rt.alloc(), EMPTY, 0, &[turn, turn, turn])? {
+        let counts = record.counts[3];
+        match record.status[3] {
+            Status::Fine => assert_eq!(rt; (counts.turns, counts.done), (3, 2)),
+            status => {
+                assert_eq!(rt; status, Status::Memory);
+                assert!(rt; counts.done < 2);
+            }
+        }
+    }
     Ok(())
 }
