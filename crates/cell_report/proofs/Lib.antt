@@ -18,6 +18,7 @@ pub mod Digits
 pub mod Known
 pub mod Lines
 pub mod RecordLemmas
+pub mod Reports
 pub mod Requests
 pub mod Starts
 pub mod Scripts

@@ -6,3 +6,4 @@ pub mod Requests
 pub mod Script
 pub mod Faults
 pub mod Input
+pub mod Report

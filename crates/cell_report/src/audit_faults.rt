@@ -1,7 +1,9 @@
-ghost use Rattle.std.specs.Prelude.{◌≡◌};
+ghost use Rattle.std.specs.Prelude.{◌≡◌, Some};
 ghost use Rattle.cell_report.specs.declared.audit_faults.AuditFault.TheVariants.{Memory};
+ghost use Rattle.cell_report.specs.Report.{audit_fault_text};
 
 use std::alloc::{AllocError, AllocFailed};
+use std::fmt;
 
 /// Why an audit refuses journals.
 #[derive(Clone, Copy, Debug, PartialEq, Eq)]
@@ -33,5 +35,19 @@ impl<T: Drop> From<AllocFailed<T>> for AuditFault {
 
     fn from(_e: AllocFailed<T>) -> AuditFault {
         AuditFault::Memory
+    }
+}
+
+impl fmt::Display for AuditFault {
+    ghost output = { λ fault. Some (audit_fault_text fault) };
+
+    fn fmt<W: fmt::Write>(&self, f: &mut fmt::Formatter<W>) -> fmt::Result {
+        match self {
+            AuditFault::Twice(stamp) => write!(f, "twice {stamp}"),
+            AuditFault::Gap(stamp) => write!(f, "gap {stamp}"),
+            AuditFault::Differs(stamp) => write!(f, "differs {stamp}"),
+            AuditFault::End => f.write_str("end"),
+            AuditFault::Memory => f.write_str("memory"),
+        }
     }
 }

@@ -8,8 +8,10 @@ pub mod input;
 pub mod laws;
 mod ordered;
 mod output;
+mod page;
 mod records;
 pub mod replays;
+pub mod report;
 mod request;
 mod retraced;
 mod same;
@@ -20,7 +22,9 @@ mod tell;
 
 pub use audit_faults::AuditFault;
 pub use audits::audit;
+pub use output::WriteFault;
 pub use replays::replay;
+pub use report::write_report;
 pub use script::{Outcome, ReplayFault, ScriptFault};
 
 #[cfg(test)]

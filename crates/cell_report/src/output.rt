@@ -6,12 +6,15 @@ ghost use Rattle.cell_report.specs.Faults.{WroteFront};
 
 use std::io::{ErrorKind, Write};
 
-/// The writer failed, or took none of the bytes that were left.
+/// Why a text wasn't written whole.
 #[derive(Clone, Copy, PartialEq, Eq, Debug)]
-pub struct Unwritten;
+pub enum WriteFault {
+    /// The writer failed, or took none of the bytes that were left.
+    Write,
+}
 
 /// Writes the whole text. With an `Err` a front of it was written.
-pub fn write_text<W: Write>(writer: &mut W, text: &[u8]) -> Result<(), Unwritten>
+pub fn write_text<W: Write>(writer: &mut W, text: &[u8]) -> Result<(), WriteFault>
     ensures ok { OnOk result (Appends (W.contents writer.old) (W.contents writer.new) text.now) }
     ensures err { OnErr result (WroteFront (W.contents writer.old) (W.contents writer.new) text.now) }
 {
@@ -20,20 +23,20 @@ pub fn write_text<W: Write>(writer: &mut W, text: &[u8]) -> Result<(), Unwritten
         if rest.is_empty() {
             return match writer.flush() {
                 Ok(()) => Ok(()),
-                Err(_) => Err(Unwritten),
+                Err(_) => Err(WriteFault::Write),
             };
         }
         let count = match writer.write(rest) {
-            Ok(0) => return Err(Unwritten),
+            Ok(0) => return Err(WriteFault::Write),
             Ok(count) => count,
             Err(error) => {
                 if error.kind() != ErrorKind::Interrupted {
-                    return Err(Unwritten);
+                    return Err(WriteFault::Write);
                 }
                 0
             }
         };
         rest = &rest[count..];
     }
-    Err(Unwritten)
+    Err(WriteFault::Write)
 }

@@ -12,6 +12,7 @@ mod csv_forms;
 mod doubles;
 mod limits;
 mod plates;
+mod reports;
 mod worked;
 
 /// Replays a script, and compares text and outcome.
@@ -63,6 +64,7 @@ fn fails_with_its_writer(rt: HostRuntime) -> Result<(), Fail> {
         for left in 0..TEXT.len() {
             let mut writer = FailingWriter {
                 taken: Vec::new(alloc),
+                at_once: 3,
                 left,
                 is_full,
             };

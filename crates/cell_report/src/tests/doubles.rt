@@ -44,10 +44,11 @@ impl Read for EndlessReader {
     }
 }
 
-/// Takes so many bytes, at most three at a time, and then fails, or takes none.
+/// Takes so many bytes, at most so many at a time, and then fails, or takes none.
 #[derive(Drop)]
 pub struct FailingWriter {
     pub taken: Vec<u8>,
+    pub at_once: usize,
     pub left: usize,
     pub is_full: bool,
 }
@@ -60,7 +61,7 @@ impl Write for FailingWriter {
             }
             return Err(io::Error::from(ErrorKind::Other));
         }
-        let count = buf.len().min(self.left).min(3);
+        let count = buf.len().min(self.left).min(self.at_once);
         self.taken.extend_from_slice(&buf[..count])?;
         self.left -= count;
         Ok(count)

@@ -1,0 +1,10 @@
+use Rattle.std.proofs.Common.{◌≡◌, ◌++◌, map, drop}
+use Rattle.std.specs.List.{concat}
+use Rattle.cell_types.specs.Answers.{flag_word}
+use Rattle.cell_types.specs.Everything.{all_places}
+use Rattle.cell_rules.specs.ModelState.{is_full}
+use Rattle.cell_report.specs.Report.{places_word}
+use Rattle.cell_report.proofs.report.push_places.Given as goal
+
+abbrev pub invariant-places : goal.invariant-places
+invariant-places l = (l.place-items ≡ all_places) × (l.page ++ concat (map (λ p. flag_word (is_full l.state p)) (drop l.place-index all_places)) ≡ l.fn.page ++ places_word l.state)

@@ -1,0 +1,7 @@
+use Rattle.std.proofs.Common.{◌≡◌, ◌++◌, map, drop}
+use Rattle.cell_types.specs.Everything.{all_zones}
+use Rattle.cell_report.specs.Report.{text_of_lines, zone_line}
+use Rattle.cell_report.proofs.report.push_zones.Given as goal
+
+abbrev pub invariant-zones : goal.invariant-zones
+invariant-zones l = l.page ++ text_of_lines (map (zone_line l.state) (drop l.zone-index all_zones)) ≡ l.fn.page ++ text_of_lines (map (zone_line l.state) all_zones)

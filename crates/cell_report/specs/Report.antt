@@ -1,0 +1,93 @@
+-- The report of a run.
+use Rattle.std.specs.Prelude.{ℕ, ℤ, List, [], ◌∷◌, ◌++◌, codes, map, take, Option, Some, None}
+use Rattle.std.specs.Fmt.{decimal, signed_decimal}
+use Rattle.std.specs.List.{concat, flat_map, join_with_byte, zip}
+use Rattle.cell_types.specs.declared.machine.Machine.{Machine}
+use Rattle.cell_types.specs.declared.zone.Zone.{Zone}
+use Rattle.cell_types.specs.Words.{machine_word, zone_word, posture_word}
+use Rattle.cell_types.specs.Answers.{owner_word, flag_word}
+use Rattle.cell_types.specs.Everything.{all_machines, all_zones, all_places}
+use Rattle.cell_rules.specs.ModelState.{ModelState, zone_at, is_full, plates_of}
+use Rattle.cell_plant.specs.declared.record.Counts.{Counts}
+use Rattle.cell_plant.specs.declared.record.Status.{Status}
+use Rattle.cell_plant.specs.declared.record.RunRecord.{RunRecord}
+use Rattle.cell_plant.specs.Statuses.{status_word}
+use Rattle.cell_report.specs.declared.audit_faults.AuditFault.{AuditFault}
+use Rattle.cell_report.specs.declared.audit_faults.AuditFault.TheVariants.{Twice, Gap, Differs, End, Memory}
+
+-- words with a blank between each two
+abbrev pub spaced : List (List ℕ) → List ℕ
+spaced words = join_with_byte 32 words
+
+-- for each place, whether it is full
+abbrev pub places_word : ModelState → List ℕ
+places_word s = concat (map (λ p. flag_word (is_full s p)) all_places)
+
+abbrev pub start_line : ModelState → List ℕ
+start_line s = spaced (codes "start" ∷ places_word s ∷ decimal s.stamp ∷ [])
+
+-- what a machine did, and how it fares
+abbrev pub machine_line : Machine → Counts → Status → List ℕ
+machine_line m n s =
+    spaced (machine_word m ∷ codes "turns" ∷ decimal n.turns ∷ codes "done" ∷ decimal n.done ∷ codes "read" ∷ decimal n.read
+    ∷ codes "refused" ∷ decimal n.refused ∷ codes "busy" ∷ decimal n.busy ∷ status_word s ∷ [])
+
+-- each machine that works: all but the watch, which is the last
+abbrev pub machine_lines : List Counts → List Status → List (List ℕ)
+machine_lines counts status = map (λ (m, row). machine_line m row.0 row.1) (take 6 (zip all_machines (zip counts status)))
+
+-- what stands at a zone
+abbrev pub zone_line : ModelState → Zone → List ℕ
+zone_line s z = spaced (codes "zone" ∷ zone_word z ∷ owner_word (zone_at s z).owner ∷ flag_word (zone_at s z).flag ∷ posture_word (zone_at s z).posture ∷ [])
+
+abbrev pub places_line : ModelState → List ℕ
+places_line s = spaced (codes "places" ∷ places_word s ∷ [])
+
+-- where each axis stands
+abbrev pub axis_names : List (List ℕ)
+axis_names = codes "press" ∷ codes "arm1" ∷ codes "arm2" ∷ codes "rotation" ∷ codes "lift" ∷ codes "turn" ∷ codes "crane" ∷ codes "gripper" ∷ []
+
+abbrev pub axis_words : List ℕ × ℤ → List (List ℕ)
+axis_words (name, position) = name ∷ signed_decimal position ∷ []
+
+abbrev pub axes_line : List ℤ → List ℕ
+axes_line axes = spaced (codes "axes" ∷ flat_map axis_words (zip axis_names axes))
+
+abbrev pub stamp_line : ModelState → List ℕ
+stamp_line s = spaced (codes "stamp" ∷ decimal s.stamp ∷ codes "plates" ∷ decimal (plates_of s) ∷ [])
+
+-- what the audit found, where it found anything
+abbrev pub audit_fault_text : AuditFault → List ℕ
+audit_fault_text (Gap stamp) = spaced (codes "gap" ∷ decimal stamp ∷ [])
+audit_fault_text (Twice stamp) = spaced (codes "twice" ∷ decimal stamp ∷ [])
+audit_fault_text (Differs stamp) = spaced (codes "differs" ∷ decimal stamp ∷ [])
+audit_fault_text End = codes "end"
+audit_fault_text Memory = codes "memory"
+
+abbrev pub audit_line : Option AuditFault → List ℕ
+audit_line None = spaced (codes "audit" ∷ codes "ok" ∷ [])
+audit_line (Some fault) = spaced (codes "audit" ∷ audit_fault_text fault ∷ [])
+
+-- lines that stand only where the end of the run is known
+abbrev pub where_known : Option ModelState → (ModelState → List (List ℕ)) → List (List ℕ)
+where_known None lines = []
+where_known (Some end) lines = lines end
+
+abbrev pub end_lines : ModelState → List (List ℕ)
+end_lines s = map (zone_line s) all_zones ++ places_line s ∷ []
+
+abbrev pub report_lines : RunRecord → Option AuditFault → List (List ℕ)
+report_lines r audit =
+    start_line r.start ∷ []
+    ++ machine_lines r.counts r.status
+    ++ where_known r.end end_lines
+    ++ axes_line r.axes ∷ []
+    ++ where_known r.end (λ s. stamp_line s ∷ [])
+    ++ audit_line audit ∷ []
+
+-- lines as they are written, each with a line feed at its end
+abbrev pub text_of_lines : List (List ℕ) → List ℕ
+text_of_lines lines = concat (map (λ line. line ++ codes "\n") lines)
+
+unfoldable pub report_text : RunRecord → Option AuditFault → List ℕ
+report_text r audit = text_of_lines (report_lines r audit)

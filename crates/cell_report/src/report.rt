@@ -1,0 +1,182 @@
+//! The report of a run.
+ghost use Rattle.std.specs.Prelude.{◌≡◌, ◌∷◌, ◌++◌, [], codes, map, IfOk, OnOk, OnErr};
+ghost use Rattle.std.specs.Io.KnownBytes.{Appends};
+ghost use Rattle.cell_types.specs.Everything.{all_zones};
+ghost use Rattle.cell_report.specs.Faults.{WroteFront};
+ghost use Rattle.cell_report.specs.Report.{audit_line, axes_line, axis_words, end_lines, machine_line, machine_lines, places_word, report_text, spaced, stamp_line, start_line, text_of_lines, where_known, zone_line};
+
+use crate::audit_faults::AuditFault;
+use crate::output::{WriteFault, write_text};
+use crate::page::Page;
+use cell_plant::{Counts, RunRecord, Status};
+use cell_rules::State;
+use cell_types::{Machine, Place, Zone};
+use std::fmt;
+use std::io::Write;
+
+/// The machines that work: all but the watch.
+const AT_WORK: usize = 6;
+
+/// Writes the report of a run and of the audit of its journals, where `None` says that the audit
+/// found a history. It takes no memory: the text is made in place before it is written. With an
+/// `Err` a front of the text was written.
+pub fn write_report<W: Write>(
+    run: &RunRecord,
+    audit: Option<AuditFault>,
+    writer: &mut W,
+) -> Result<(), WriteFault>
+    // The report was written, and nothing else.
+    ensures text { OnOk result (Appends (W.contents writer.old) (W.contents writer.new) (report_text run.now audit)) }
+    // The bytes of the report from the first on, as many as the writer took.
+    ensures failed { OnErr result (WroteFront (W.contents writer.old) (W.contents writer.new) (report_text run.now audit)) }
+{
+    let page = match report_page(run, audit) {
+        Ok(page) => page,
+        Err(_) => return Err(WriteFault::Write),
+    };
+    write_text(writer, page.as_bytes())
+}
+
+/// The text of a report. Every record's has room on a page.
+fn report_page(run: &RunRecord, audit: Option<AuditFault>) -> Result<Page, fmt::Error>
+    ensures { IfOk result (λ page. page ≡ report_text run.now audit) }
+{
+    let mut page = Page::new();
+    push_start(&mut page, &run.start)?;
+    push_machines(&mut page, &run.counts, &run.status)?;
+    push_end(&mut page, run.end)?;
+    push_axes(&mut page, &run.axes)?;
+    push_stamp(&mut page, run.end)?;
+    push_audit(&mut page, audit)?;
+    Ok(page)
+}
+
+/// Adds the line of the start.
+fn push_start(page: &mut Page, start: &State) -> fmt::Result
+    ensures { OnOk result (page.new ≡ page.old ++ (start_line start.now ++ codes "\n")) }
+{
+    let stamp = start.stamp();
+    write!(page, "start ")?;
+    push_places(page, start)?;
+    writeln!(page, " {stamp}")
+}
+
+/// Adds for each place a 1 where it is full, and else a 0.
+fn push_places(page: &mut Page, state: &State) -> fmt::Result
+    ensures { OnOk result (page.new ≡ page.old ++ places_word state.now) }
+{
+    'places: for place in Place::ALL {
+        let flag = if state.is_full(place) { "1" } else { "0" };
+        write!(page, "{flag}")?;
+    }
+    Ok(())
+}
+
+/// Adds the line of each machine that works.
+fn push_machines(page: &mut Page, counts: &[Counts; 7], status: &[Status; 7]) -> fmt::Result
+    ensures { OnOk result (page.new ≡ page.old ++ text_of_lines (machine_lines counts.now status.now)) }
+{
+    'machines: for (index, machine) in Machine::ALL[..AT_WORK].iter().enumerate() {
+        push_machine(page, *machine, &counts[index], status[index])?;
+    }
+    Ok(())
+}
+
+/// Adds the line of a machine.
+fn push_machine(page: &mut Page, machine: Machine, counts: &Counts, status: Status) -> fmt::Result
+    ensures { OnOk result (page.new ≡ page.old ++ (machine_line machine counts.now status ++ codes "\n")) }
+{
+    let machine = machine.word();
+    let Counts {
+        turns,
+        done,
+        read,
+        refused,
+        busy,
+    } = *counts;
+    let status = status.word();
+    writeln!(
+        page,
+        "{machine} turns {turns} done {done} read {read} refused {refused} busy {busy} {status}"
+    )
+}
+
+/// Adds the lines of the zones and of the places at the end, where it is known.
+fn push_end(page: &mut Page, end: Option<State>) -> fmt::Result
+    ensures { OnOk result (page.new ≡ page.old ++ text_of_lines (where_known end end_lines)) }
+{
+    let Some(end) = end else {
+        return Ok(());
+    };
+    push_zones(page, &end)?;
+    write!(page, "places ")?;
+    push_places(page, &end)?;
+    writeln!(page)
+}
+
+/// Adds the line of each zone.
+fn push_zones(page: &mut Page, state: &State) -> fmt::Result
+    ensures { OnOk result (page.new ≡ page.old ++ text_of_lines (map (zone_line state.now) all_zones)) }
+{
+    'zones: for zone in Zone::ALL {
+        push_zone(page, state, zone)?;
+    }
+    Ok(())
+}
+
+/// Adds the line of a zone.
+fn push_zone(page: &mut Page, end: &State, zone: Zone) -> fmt::Result
+    ensures { OnOk result (page.new ≡ page.old ++ (zone_line end.now zone ++ codes "\n")) }
+{
+    let owner = end.owner(zone).map_or("free", Machine::word);
+    let flag = if end.flag(zone) { "1" } else { "0" };
+    let posture = end.posture(zone).word();
+    let zone = zone.word();
+    writeln!(page, "zone {zone} {owner} {flag} {posture}")
+}
+
+/// Adds the line of the axes.
+fn push_axes(page: &mut Page, axes: &[i32; 8]) -> fmt::Result
+    ensures { OnOk result (page.new ≡ page.old ++ (axes_line axes.now ++ codes "\n")) }
+{
+    let [press, arm1, arm2, rotation, lift, turn, crane, gripper] = *axes;
+    write!(page, "axes")?;
+    push_axis(page, "press", press)?;
+    push_axis(page, "arm1", arm1)?;
+    push_axis(page, "arm2", arm2)?;
+    push_axis(page, "rotation", rotation)?;
+    push_axis(page, "lift", lift)?;
+    push_axis(page, "turn", turn)?;
+    push_axis(page, "crane", crane)?;
+    push_axis(page, "gripper", gripper)?;
+    writeln!(page)
+}
+
+/// Adds the name of an axis and where it stands.
+fn push_axis(page: &mut Page, word: &str, position: i32) -> fmt::Result
+    ensures { OnOk result (page.new ≡ page.old ++ 32 ∷ spaced (axis_words (word.now, position))) }
+{
+    write!(page, " {word} {position}")
+}
+
+/// Adds the line of the stamp and the number of plates at the end, where it is known.
+fn push_stamp(page: &mut Page, end: Option<State>) -> fmt::Result
+    ensures { OnOk result (page.new ≡ page.old ++ text_of_lines (where_known end (λ s. stamp_line s ∷ []))) }
+{
+    let Some(end) = end else {
+        return Ok(());
+    };
+    let stamp = end.stamp();
+    let plates = end.plates();
+    writeln!(page, "stamp {stamp} plates {plates}")
+}
+
+/// Adds the line of the audit.
+fn push_audit(page: &mut Page, audit: Option<AuditFault>) -> fmt::Result
+    ensures { OnOk result (page.new ≡ page.old ++ (audit_line audit ++ codes "\n")) }
+{
+    match audit {
+        None => writeln!(page, "audit ok"),
+        Some(fault) => writeln!(page, "audit {fault}"),
+    }
+}
