@@ -4,11 +4,11 @@ ghost use Rattle.std.specs.Prelude.{◌≡◌, map, take, IfOk};
 ghost use Rattle.csv.specs.Reading.{default_config, records, strip_bom};
 ghost use Rattle.csv.specs.Records.{fields_of};
 
-use csv::{ByteRecord, ReaderBuilder};
+use csv::{ByteRecord, ErrorKind, ReaderBuilder};
 use std::alloc::{AllocError, Global};
 
-/// The first records of a text with no header row, at most this many. Reading from bytes at hand
-/// fails for want of memory alone.
+/// The first records of a text with no header row, at most this many. Each record may have any
+/// number of fields, so what can fail is memory alone: bytes at hand are always read.
 pub fn first_rows(alloc: Global, text: &[u8], most: usize) -> Result<Vec<ByteRecord>, AllocError>
     ensures { IfOk result (λ v. map fields_of v.items ≡ take most (records default_config (strip_bom text.now))) }
 {
@@ -23,7 +23,14 @@ pub fn first_rows(alloc: Global, text: &[u8], most: usize) -> Result<Vec<ByteRec
         }
         match row {
             Ok(row) => rows.push(row)?,
-            Err(_) => return Err(AllocError),
+            Err(error) => match error.kind() {
+                ErrorKind::OutOfMemory | ErrorKind::Io(_) => return Err(AllocError),
+                // Records may be of any length, they are no text, and no type is read or written.
+                ErrorKind::UnequalLengths { .. }
+                | ErrorKind::Utf8 { .. }
+                | ErrorKind::Serialize(_)
+                | ErrorKind::Deserialize { .. } => unreachable!(),
+            },
         }
     }
     Ok(rows)

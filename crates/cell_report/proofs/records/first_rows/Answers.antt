@@ -25,18 +25,21 @@ rows-init c =
       made.source,
       (sym made.state, refl),
       omega arith,
+      rw f at made.flexible,
     )
 
 pub rows-preserved : goal.rows-preserved
 rows-preserved c =
     let inv = c.rows.invariant in
-    let s = rw (c.in-Some.is, c.in-Ok.is) at ((c.next.ensures.steps inv.2 inv.0).0 inv.1) in
+    let step = c.next.ensures.steps inv.2 inv.0 in
+    let s = rw (c.in-Some.is, c.in-Ok.is) at (step.0 inv.1) in
+    let flexible = rw (c.in-Some.is, c.in-Ok.is) at step.3 in
     let items = c.in_ok-push-in-Ok.ensures.items in
     let m = rows-more (λ (s : Bor (List ℕ)). Some s.now) c.rows.row-iterator.rdr c.next.new.self.rdr (fields_of c.in-Ok.row) default_config st.StartRecord (strip_bom c.args.text.now) inv.4 (map fields_of c.rows.rows.items) inv.3 inv.5 inv.6 s.0 in
     let before : length c.rows.rows.items ≤ c.args.most = inv.7 in
     let count : length c.push.new.self.items ≡ length c.rows.rows.items + 1 = rw items (length-append c.rows.rows.items (c.in-Ok.row ∷ [])) in
     let within : length c.push.new.self.items ≤ c.args.most = omega (arith, c.rows.rows.ok.0) in
-    (s.0.3 ∙ inv.0, inl s.1, s.2, s.0.2 ∙ inv.3, m.0, m.1, rw (items, map-append fields_of c.rows.rows.items (c.in-Ok.row ∷ [])) m.2, within)
+    (s.0.3 ∙ inv.0, inl s.1, s.2, s.0.2 ∙ inv.3, m.0, m.1, rw (items, map-append fields_of c.rows.rows.items (c.in-Ok.row ∷ [])) m.2, within, flexible ∙ inv.8)
 
 pub returns-then-len-most : goal.returns-then-len-most
 returns-then-len-most c =
