@@ -1,6 +1,7 @@
 //! The program of the production cell: it replays scripts of calls to the interlock.
 #![tactic(auto)]
 
+pub mod configuration;
 pub mod serve;
 pub mod words;
 

@@ -6,6 +6,7 @@ use crate::words::{Mode, read_words};
 use doubles::{FailingReader, FailingWriter};
 use std::test::Fail;
 
+mod configurations;
 mod doubles;
 
 const SCRIPT: &str =
