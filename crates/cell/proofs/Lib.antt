@@ -1,2 +1,6 @@
 pub mod LetterLemmas
 pub mod SettingsLemmas
+mod ReportLemmas
+mod FrontLemmas
+mod SimLemmas
+mod WordLemmas

@@ -5,3 +5,5 @@ pub mod Letters
 pub mod Keys
 pub mod Settings
 pub mod Configured
+pub mod ConfigWords
+pub mod Simulated

@@ -1,8 +1,12 @@
-//! The program of the production cell: it replays scripts of calls to the interlock.
+//! The program of the production cell: it replays scripts of calls to the interlock, and simulates the
+//! cell.
 #![tactic(auto)]
 
 pub mod configuration;
+pub mod faults;
+pub mod replaying;
 pub mod serve;
+pub mod simulating;
 pub mod words;
 
 use std::io::ErrorKind;
@@ -12,7 +16,7 @@ use std::{env, io};
 fn main(rt: HostRuntime) -> ExitCode {
     let status = match run(&rt) {
         Ok(status) => status,
-        Err(error) if error.kind() == ErrorKind::OutOfMemory => serve::fail(
+        Err(error) if error.kind() == ErrorKind::OutOfMemory => faults::fail(
             &mut rt.stdout(),
             "memory",
         ),

@@ -1,14 +1,17 @@
 //! Serves one run of the program.
 
-ghost use Rattle.std.specs.Prelude.{◌≡◌, ◌≤◌, ◌<◌, ◌⊎◌, map};
+ghost use Rattle.std.specs.Prelude.{◌≡◌, ◌≤◌, ◌<◌, ◌⊎◌, codes, map, IfSome};
 ghost use Rattle.clap.specs.Words.{kind_of};
+ghost use Rattle.cell_report.specs.Faults.{WroteFront};
 ghost use Rattle.cell_report.specs.Input.{TakesAtMost};
 ghost use Rattle.cell_report.specs.Script.{most_bytes_read};
-ghost use Rattle.cell.specs.Served.{WasReplayed};
-ghost use Rattle.cell.specs.Words.{AreTaken, AskForHelp, AskForReplay};
+ghost use Rattle.cell.specs.Served.{ReplayFails, SimFails, WasReplayed, WasSimulated, fault_line};
+ghost use Rattle.cell.specs.Words.{AreTaken, AskForHelp, AskForReplay, AskForSim};
 
+use crate::faults::{FAILED, fail};
+use crate::replaying::serve_replay;
+use crate::simulating::serve_sim;
 use crate::words::{Mode, read_words};
-use cell_report::{Outcome, ReplayFault, replay};
 use clap::error::ErrorKind;
 use std::alloc::Global;
 use std::io::{Read, Write};
@@ -16,23 +19,30 @@ use std::io::{Read, Write};
 /// All went well, or help was asked for.
 const WELL: u8 = 0;
 
-/// An input was refused, a read or a write failed, or memory ran out.
-const FAILED: u8 = 1;
-
 /// The words were refused.
 const REFUSED: u8 = 2;
 
 /// Does what the words ask for, of which the first is the program's name, and answers the exit status:
-/// 0 where all went well and for help, 1 for a refused script, a failed read or write and want of
-/// memory, 2 for words that `clap` refuses.
+/// 0 where all went well and for help; 1 for a refused input, a machine that was stopped, a refused
+/// audit, a failed read or write and want of memory; 2 for words that `clap` refuses.
 pub fn serve<R: Read, W: Write>(alloc: Global, words: &[&str], reader: &mut R, writer: &mut W) -> u8
     ensures status { result ≤ 2 }
 
-    // With the program's name alone, or with the word `replay` behind it, status 0 says that the script
-    // was clean and its text was written, and 2 doesn't come.
-    ensures well { AskForReplay (map (λ w. w.now) words.now) → result ≡ 0 →
+    // With the program's name alone, or with the word `replay` behind it, 2 doesn't come. Status 0 says
+    // that the script was clean and its text was written, status 1 what was written of it.
+    ensures replay { AskForReplay (map (λ w. w.now) words.now) → result < 2 }
+    ensures replayed { AskForReplay (map (λ w. w.now) words.now) → result ≡ 0 →
         WasReplayed (R.remaining reader.old) (W.contents writer.old) (W.contents writer.new) }
-    ensures asked { AskForReplay (map (λ w. w.now) words.now) → result < 2 }
+    ensures replay_fails { AskForReplay (map (λ w. w.now) words.now) → result ≡ 1 →
+        IfSome (R.remaining reader.old) (λ bytes. ReplayFails bytes (W.contents writer.old) (W.contents writer.new)) }
+
+    // With the word `sim` behind the name, 2 doesn't come. Status 0 says that the run was simulated and
+    // audited, that no machine was stopped and that the report was written, status 1 what was written.
+    ensures sim { AskForSim (map (λ w. w.now) words.now) → result < 2 }
+    ensures simulated { AskForSim (map (λ w. w.now) words.now) → result ≡ 0 →
+        WasSimulated (R.remaining reader.old) (W.contents writer.old) (W.contents writer.new) }
+    ensures sim_fails { AskForSim (map (λ w. w.now) words.now) → result ≡ 1 →
+        IfSome (R.remaining reader.old) (λ bytes. SimFails bytes (W.contents writer.old) (W.contents writer.new)) }
 
     // Status 0 comes for no words but those that `clap` takes and those that ask for help, and status 2
     // for none that it takes.
@@ -45,32 +55,9 @@ pub fn serve<R: Read, W: Write>(alloc: Global, words: &[&str], reader: &mut R, w
 {
     match read_words(alloc, words) {
         Ok(Mode::Replay) => serve_replay(alloc, reader, writer),
+        Ok(Mode::Sim) => serve_sim(alloc, reader, writer),
         Err(error) => refuse(error, writer),
     }
-}
-
-/// Replays, and prints a fault other than that of the script.
-fn serve_replay<R: Read, W: Write>(alloc: Global, reader: &mut R, writer: &mut W) -> u8
-    ensures status { result < 2 }
-    ensures well { result ≡ 0 →
-        WasReplayed (R.remaining reader.old) (W.contents writer.old) (W.contents writer.new) }
-    ensures read { TakesAtMost (R.remaining reader.old) (R.remaining reader.new) most_bytes_read }
-{
-    match replay(alloc, reader, writer) {
-        Ok(Outcome::Clean) => WELL,
-        Ok(Outcome::Refused(_)) | Err(ReplayFault::Write) => FAILED,
-        Err(ReplayFault::Read) => fail(writer, "read"),
-        Err(ReplayFault::Memory) => fail(writer, "memory"),
-    }
-}
-
-/// Prints a fault, and answers the exit status.
-pub fn fail<W: Write>(writer: &mut W, fault: &str) -> u8
-    ensures { result ≡ 1 }
-{
-    let _ = writeln!(writer, "fault {fault}");
-    let _ = writer.flush();
-    FAILED
 }
 
 /// Prints that the program's words aren't text, and answers the exit status.
@@ -87,6 +74,7 @@ fn refuse<W: Write>(error: clap::Error, writer: &mut W) -> u8
     ensures status { result ≤ 2 }
     ensures help { result ≡ 0 → kind_of error ≡ ErrorKind.DisplayHelp }
     ensures memory { kind_of error ≡ ErrorKind.OutOfMemory → result ≡ 1 }
+    ensures line { kind_of error ≡ ErrorKind.OutOfMemory → WroteFront (W.contents writer.old) (W.contents writer.new) (fault_line (codes "memory")) }
 {
     let status = match error.kind() {
         ErrorKind::OutOfMemory => return fail(writer, "memory"),

@@ -1,36 +1,66 @@
 //! The program's words.
 
-ghost use Rattle.std.specs.Prelude.{◌≡◌, [], ◌∷◌, ℕ, List, map, codes, IfErr, OnOk};
-ghost use Rattle.clap.specs.Words.{fault_of, kind_of, HasKind};
-ghost use Rattle.cell.specs.Words.{AreTaken, program};
+ghost use Rattle.std.specs.Prelude.{◌≡◌, [], ◌∷◌, ℕ, List, map, codes, option_map, IfErr, IfOk, OnOk};
+ghost use Rattle.clap.specs.Words.{app_of, fault_of, kind_of, HasKind};
+ghost use Rattle.cell.specs.Words as words;
+ghost use Rattle.cell.specs.Words.{AreTaken, mode_of, program};
 
 use clap::error::ErrorKind;
 use clap::{Command, Error};
-use std::alloc::Global;
+use std::alloc::{AllocError, Global};
 
 /// What the program does.
 #[derive(Clone, Copy, PartialEq, Eq, Debug)]
 pub enum Mode {
     /// It replays a script.
     Replay,
+    /// It simulates the cell.
+    Sim,
 }
 
 /// What the words ask for, of which the first is the program's name: a replay, with the word
-/// `replay` and without. Other words are an error of `clap`, and so are those that ask for help.
+/// `replay` and without, or with the word `sim` a simulation. Other words are an error of `clap`, and
+/// so are those that ask for help.
 pub fn read_words(alloc: Global, words: &[&str]) -> Result<Mode, Error>
+    // The mode is that of the word behind the name, as `clap` finds it.
+    ensures mode { IfOk result (λ mode. mode ≡ mode_of (map (λ w. w.now) words.now)) }
     // `clap` has nothing against the words.
     ensures taken { OnOk result (AreTaken (map (λ w. w.now) words.now)) }
     // It has this against the words, or memory ran out.
     ensures refused { IfErr result (HasKind (fault_of program (map (λ w. w.now) words.now))) }
 
-    // With the program's name alone, or with the word `replay` behind it, only memory can be wanting.
+    // With the program's name alone, or with one of the words behind it, only memory can be wanting.
     ensures plain { (name : List ℕ) → map (λ w. w.now) words.now ≡ name ∷ [] →
         IfErr result (λ e. kind_of e ≡ ErrorKind.OutOfMemory) }
     ensures replay { (name : List ℕ) → map (λ w. w.now) words.now ≡ name ∷ codes "replay" ∷ [] →
         IfErr result (λ e. kind_of e ≡ ErrorKind.OutOfMemory) }
+    ensures sim { (name : List ℕ) → map (λ w. w.now) words.now ≡ name ∷ codes "sim" ∷ [] →
+        IfErr result (λ e. kind_of e ≡ ErrorKind.OutOfMemory) }
+{
+    let command = command(alloc)?;
+    match command.try_get_matches_from(words) {
+        Ok(matches) => Ok(mode_named(matches.subcommand_name())),
+        Err(error) => Err(error),
+    }
+}
+
+/// The program's words, as `clap` is told of them.
+fn command<'a>(alloc: Global) -> Result<Command<'a>, AllocError>
+    ensures { IfOk result (λ command. app_of command ≡ program) }
 {
     let replay = Command::new(alloc, "replay");
-    let command = Command::new(alloc, "cell").subcommand(replay)?;
-    let _matches = command.try_get_matches_from(words)?;
-    Ok(Mode::Replay)
+    let sim = Command::new(alloc, "sim");
+    Command::new(alloc, "cell")
+        .subcommand(replay)?
+        .subcommand(sim)
+}
+
+/// What the word behind the program's name asks for.
+fn mode_named(word: Option<&str>) -> Mode
+    ensures { result ≡ words.mode_named (option_map (λ w. w.now) word.entry) }
+{
+    match word {
+        Some("sim") => Mode::Sim,
+        _ => Mode::Replay,
+    }
 }

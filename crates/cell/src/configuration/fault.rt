@@ -1,6 +1,7 @@
 //! Why a configuration is refused.
 
 ghost use Rattle.std.specs.Prelude.{◌≡◌};
+ghost use Rattle.cell.specs.ConfigWords.{config_fault_text};
 ghost use Rattle.cell.specs.declared.configuration.fault.ConfigFault.TheVariants.{Memory};
 
 use std::alloc::{AllocError, AllocFailed};
@@ -9,37 +10,48 @@ use thiserror::Error;
 /// Why a configuration is refused, in the order in which faults are looked for, `Memory` apart. The text
 /// is that of the program's fault line, behind the word `fault`.
 #[derive(Clone, Copy, PartialEq, Eq, Debug, Error)]
+#[error("{}", self.text())]
 pub enum ConfigFault {
     /// The reader failed.
-    #[error("read")]
     Read,
     /// There are more than 2,097,152 bytes.
-    #[error("config long")]
     Long,
     /// The bytes aren't UTF-8, or no TOML.
-    #[error("config text")]
     Text,
     /// A key isn't known, at the top or in a section.
-    #[error("config unknown")]
     Unknown,
     /// There is no start.
-    #[error("config missing")]
     Missing,
     /// A value is of another kind than its key wants.
-    #[error("config kind")]
     Kind,
     /// The start isn't ten digits 0 or 1, or no state starts so.
-    #[error("config start")]
     Start,
     /// A number is out of its range, the raw values are too near, or the schedule is too long.
-    #[error("config range")]
     Range,
     /// A character of the schedule is no letter of a machine.
-    #[error("config letter")]
     Letter,
     /// A growth was refused, which may be told wherever memory is asked for.
-    #[error("memory")]
     Memory,
+}
+
+impl ConfigFault {
+    /// What the program's fault line says behind the word `fault`.
+    pub fn text(&self) -> &'static str
+        ensures { result.now ≡ config_fault_text self.now }
+    {
+        match self {
+            ConfigFault::Read => "read",
+            ConfigFault::Long => "config long",
+            ConfigFault::Text => "config text",
+            ConfigFault::Unknown => "config unknown",
+            ConfigFault::Missing => "config missing",
+            ConfigFault::Kind => "config kind",
+            ConfigFault::Start => "config start",
+            ConfigFault::Range => "config range",
+            ConfigFault::Letter => "config letter",
+            ConfigFault::Memory => "memory",
+        }
+    }
 }
 
 impl From<AllocError> for ConfigFault {
