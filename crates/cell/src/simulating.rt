@@ -22,12 +22,12 @@ use std::io::{Read, Write};
 
 /// The lines of the five potentiometers.
 #[derive(Clone, Copy)]
-struct Lines {
-    arm1: Points,
-    arm2: Points,
-    rotation: Points,
-    turn: Points,
-    gripper: Points,
+pub(crate) struct Lines {
+    pub arm1: Points,
+    pub arm2: Points,
+    pub rotation: Points,
+    pub turn: Points,
+    pub gripper: Points,
 }
 
 /// Simulates the cell by the configuration that is read, audits what its machines noted, and writes
@@ -82,7 +82,7 @@ pub fn simulated(alloc: Global, config: &Config) -> Result<RunRecord, SimFault>
 
 /// The run of a schedule, with these closures. A calibration is named only where the closure's type
 /// is a parameter.
-fn simulate_by<F1: Gauge, F2: Gauge, F3: Gauge, F4: Gauge, F5: Gauge>(
+pub(crate) fn simulate_by<F1: Gauge, F2: Gauge, F3: Gauge, F4: Gauge, F5: Gauge>(
     alloc: Global,
     gauges: (F1, F2, F3, F4, F5),
     lines: Lines,

@@ -8,6 +8,7 @@ use std::test::Fail;
 
 mod configurations;
 mod doubles;
+mod simulations;
 
 const SCRIPT: &str =
     "start,0000000000\npress,claim,z3\nrobot,claim,z3\npress,release,z3\nrobot,claim,z3\nwatch,inquire,z3\n";
@@ -58,7 +59,8 @@ fn serves_other_words(rt: HostRuntime) -> Result<(), Fail> {
         (["cell", "--help"].as_slice(), 0),
         (["cell", "replay", "--help"].as_slice(), 0),
         (["cell", "go"].as_slice(), 2),
-        (["cell", "sim"].as_slice(), 2),
+        (["cell", "sim", "--help"].as_slice(), 0),
+        (["cell", "sim", "sim"].as_slice(), 2),
         (["cell", "run"].as_slice(), 2),
         (["cell", "replay", "replay"].as_slice(), 2),
         (["cell", "--turns", "3"].as_slice(), 2),
@@ -101,8 +103,9 @@ fn reads_words(rt: HostRuntime) -> Result<(), Fail> {
     let alloc = rt.alloc();
     assert_eq!(rt; read_words(alloc, &["cell"])?, Mode::Replay);
     assert_eq!(rt; read_words(alloc, &["cell", "replay"])?, Mode::Replay);
+    assert_eq!(rt; read_words(alloc, &["cell", "sim"])?, Mode::Sim);
     for words in [
-        ["cell", "sim"],
+        ["cell", "simulate"],
         ["cell", "run"],
         ["cell", "Replay"],
         ["cell", ""],
