@@ -203,11 +203,11 @@ impl State {
         }
         self.not_worn()?;
         self.at_mut(zone).flag = false;
-        self.full[if zone == TABLE_ENTRY {
-            ON_TABLE
-        } else {
-            PRESS_IN
-        }] = true;
+        let to = match zone {
+            TABLE_ENTRY => ON_TABLE,
+            _ => PRESS_IN,
+        };
+        self.full[to] = true;
         Ok(())
     }
 

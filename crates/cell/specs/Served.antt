@@ -46,7 +46,7 @@ pub record TellsRunOf (bytes : List ℕ) (r : RunRecord) : Type 0 where
 abbrev pub AreFine : List Status → Type 0
 AreFine status = All (λ s. s ≡ Fine) status
 
--- the cell was simulated, no machine was stopped, the audit found a history, and the report was written
+-- the cell was simulated, no machine was stopped, and the report was written, with the line that the audit found a history
 abbrev pub WasSimulated : Option (List ℕ) → Option (List ℕ) → Option (List ℕ) → Type 0
 WasSimulated remaining old new = IfSome remaining (λ bytes. (r : RunRecord) × (TellsRunOf bytes r × (AreFine r.status × Appends old new (report_text r None))))
 

@@ -41,7 +41,7 @@ places_at ms = required (get_member (codes "start") ms) Missing (λ value. of_ki
 abbrev pub stamp_at : Members → Result ℕ ConfigFault
 stamp_at = at_key (codes "stamp") as_integer 0 (number_within 0 1048575)
 
--- the start with these places and this stamp
+-- the start that places and a stamp make
 abbrev pub start_of : List Bool → ℕ → Result ModelState ConfigFault
 start_of places stamp = if is_start (places_of places) stamp then Ok (start_state (places_of places) stamp) else Err Start
 
@@ -53,7 +53,7 @@ abbrev pub pair_of : Data → Option (ℤ × ℤ)
 pair_of (array (item (integer low) (item (integer high) no_items))) = Some (low, high)
 pair_of _ = None
 
--- an axis begins at 0, and the default raw values are as far apart as its ends
+-- an axis begins at 0, and the default raw values are at least as far apart as its ends
 abbrev pub IsAxisEnd : ℤ → Type 0
 IsAxisEnd end = (pos 0 <ℤ end) × (end ≤ℤ pos 4000)
 

@@ -13,8 +13,8 @@ use Rattle.cell.specs.Served.{AreFine, IsAuditOf}
 abbrev pub scales_of : Lines → CellScales
 scales_of lines = record { arm1 = lines.arm1; arm2 = lines.arm2; rotation = lines.rotation; turn = lines.turn; gripper = lines.gripper }
 
--- With status 0 the audit found a history, no machine was stopped, and the report was written. Else the audit had no memory
--- or a machine was stopped, and the report was written, or a front of it was.
+-- With status 0 no machine was stopped, and the report was written, with the line that the audit found a history. Else a
+-- machine was stopped or the audit had no memory, and the report was written, or a front of it was.
 abbrev pub ReportTold : ℕ → RunRecord → Option (List ℕ) → Option (List ℕ) → Type 0
 ReportTold zero r old new = AreFine r.status × Appends old new (report_text r None)
 ReportTold (suc n) r old new =

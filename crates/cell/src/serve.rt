@@ -6,6 +6,7 @@ ghost use Rattle.cell_report.specs.Faults.{WroteFront};
 ghost use Rattle.cell_report.specs.Input.{TakesAtMost};
 ghost use Rattle.cell_report.specs.Script.{most_bytes_read};
 ghost use Rattle.cell.specs.Served.{ReplayFails, SimFails, WasReplayed, WasSimulated, fault_line};
+ghost use Rattle.cell.specs.Settings as settings;
 ghost use Rattle.cell.specs.Words.{AreTaken, AskForHelp, AskForReplay, AskForSim};
 
 use crate::faults::{FAILED, fail};
@@ -50,8 +51,11 @@ pub fn serve<R: Read, W: Write>(alloc: Global, words: &[&str], reader: &mut R, w
         AreTaken (map (λ w. w.now) words.now) ⊎ AskForHelp (map (λ w. w.now) words.now) }
     ensures refused { AreTaken (map (λ w. w.now) words.now) → result < 2 }
 
-    // No more is taken from the input than a script may have, and one byte.
+    // No more is taken from the input than a script may have, and one byte; for a simulation, than a
+    // configuration may have, and one byte.
     ensures read { TakesAtMost (R.remaining reader.old) (R.remaining reader.new) most_bytes_read }
+    ensures read_sim { AskForSim (map (λ w. w.now) words.now) →
+        TakesAtMost (R.remaining reader.old) (R.remaining reader.new) settings.most_bytes_read }
 {
     match read_words(alloc, words) {
         Ok(Mode::Replay) => serve_replay(alloc, reader, writer),

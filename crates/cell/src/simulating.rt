@@ -82,7 +82,7 @@ pub fn simulated(alloc: Global, config: &Config) -> Result<RunRecord, SimFault>
 
 /// The run of a schedule, with these closures. A calibration is named only where the closure's type
 /// is a parameter.
-pub(crate) fn simulate_by<F1: Gauge, F2: Gauge, F3: Gauge, F4: Gauge, F5: Gauge>(
+fn simulate_by<F1: Gauge, F2: Gauge, F3: Gauge, F4: Gauge, F5: Gauge>(
     alloc: Global,
     gauges: (F1, F2, F3, F4, F5),
     lines: Lines,

@@ -36,7 +36,7 @@ use Rattle.cell_plant.specs.CellStates.{CellState, cell_at_start, is_fine}
 use Rattle.cell_plant.specs.Logs.{tally_of, first_tally, entries_in, HasRoom}
 use Rattle.cell_plant.specs.Moments.{Moment, moment, counted, HasNoController, StepsOn}
 use Rattle.cell_plant.specs.Records.{counts_in, status_in, positions_in, is_turn_of, is_told, is_done_reply, is_read_reply, is_refused_reply, is_busy_reply, settled_in, events_in}
-use Rattle.cell_plant.specs.Runs.{Step, IsRun, Leads, Rests, IfFine, PressTakes, TableTakes, Answers, AsksNothing, AsksOnce, end_of}
+use Rattle.cell_plant.specs.Runs.{Step, IsRun, Leads, IsPassedOver, IfFine, PressTakes, TableTakes, Answers, AsksNothing, AsksOnce, end_of}
 use Rattle.cell_plant.specs.Works.{Asked}
 use Rattle.cell_plant.proofs.TurnMaps.{press-told, table-told}
 
@@ -117,7 +117,7 @@ answered_by s m busy c (Err fault) t k = record { legal = tt; reached = k.1; ent
 answered_once : (s : ModelState) (m : Machine) (busy : Bool) (asked : Asked) (t : ModelState) (c : Call) (r : Result Reply LineFault) → AsksOnce s m busy asked t c r → IsAnswered s m asked t
 answered_once s m busy asked t c r k = subst (λ a. IsAnswered s m a t) (sym k.1) (answered_by s m busy c r t k.0)
 
-rests_answered : (m : Machine) (w : CellState) (s : Step) → Rests w s → IsAnswered w.interlock m s.asked s.moved.interlock
+rests_answered : (m : Machine) (w : CellState) (s : Step) → IsPassedOver w s → IsAnswered w.interlock m s.asked s.moved.interlock
 rests_answered m w s r = answered_none w.interlock m s.asked s.moved.interlock (ap (λ x. x.interlock) r.moved, r.asked)
 
 press_answered : (busy : Bool) (w : CellState) (s : Step) → PressTakes busy w s → IsAnswered w.interlock Press s.asked s.moved.interlock

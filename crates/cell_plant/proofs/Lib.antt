@@ -1,4 +1,5 @@
 mod Goings
+mod Noting
 mod PressRun
 mod RawLemmas
 mod Readiness

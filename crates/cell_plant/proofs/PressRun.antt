@@ -43,6 +43,7 @@ use Rattle.cell_plant.specs.Shows.{PressShows}
 use Rattle.cell_plant.specs.Works.{Asked, press_told}
 use Rattle.cell_plant.specs.CellStates.{CellState}
 use Rattle.cell_plant.specs.Collisions.{RestsAtMiddle, RestsAtBottom, DrivesPast}
+use Rattle.cell_plant.proofs.Noting.{press-is-set}
 use Rattle.cell_plant.specs.Runs.{Step, Answers, AsksNothing, AsksOnce, PressTakes}
 
 -- what its controller knows of the interlock; it rests where an open posture says, and at a switch once it is driven there
@@ -274,7 +275,7 @@ module _ (z t : ModelState) (busy : Bool) (asked : Asked) (p : PressProgress) (a
 -- a turn of the press
 pub press-own : (busy : Bool) (w : CellState) (s : Step) → IsSound w.interlock → PressTakes busy w s → PressInv w.interlock w.press.progress w.plant.press → PressInv s.set.interlock s.set.press.progress s.set.plant.press
 press-own busy w s sound k i =
-    subst (λ (y : CellState). PressInv s.set.interlock y.press.progress y.plant.press) (sym k.set)
+    subst (λ (y : CellState). PressInv s.set.interlock y.press.progress y.plant.press) (sym (press-is-set busy w s k))
     (turns w.interlock s.set.interlock busy s.asked w.press.progress w.plant.press k.sense k.shows sound i k.turned k.row)
 
 -- at an end of the axis its switch is on, and the motor isn't told to go on
@@ -362,5 +363,5 @@ module _ (a : Axis) (x : PressSense) (shows : PressShows a x) where
 
 pub press-ends : (busy : Bool) (w : CellState) (s : Step) → PressTakes busy w s → ¬ DrivesPast press_end s.set.plant.press
 press-ends busy w s k =
-    subst (λ (y : CellState). ¬ DrivesPast press_end y.plant.press) (sym k.set)
+    subst (λ (y : CellState). ¬ DrivesPast press_end y.plant.press) (sym (press-is-set busy w s k))
     (turned_stays w.plant.press k.sense k.shows (AsksNothing w.interlock s.asked s.set.interlock) (AsksOnce w.interlock Press busy s.asked s.set.interlock) w.press.progress k.turned k.row)

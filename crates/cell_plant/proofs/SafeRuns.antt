@@ -38,7 +38,8 @@ use Rattle.cell_plant.specs.Works.{Asked, press_told, table_told}
 use Rattle.cell_plant.specs.CellStates.{CellState, cell_at_start, is_fine}
 use Rattle.cell_plant.specs.Collisions.{IsOut, IsGripperDown, ArmHitsPress, PlateFalls, DrivesPastEnd, NothingCollides}
 use Rattle.cell_plant.specs.Demands.{MeetsDemands}
-use Rattle.cell_plant.specs.Runs.{Step, Answers, AsksNothing, AsksOnce, with_press, with_table, press_moved, table_moved, PressTakes, TableTakes, Rests, IfFine, Leads, IsRun}
+use Rattle.cell_plant.proofs.Noting.{press-is-set, table-is-set}
+use Rattle.cell_plant.specs.Runs.{Step, Answers, AsksNothing, AsksOnce, with_press, with_table, press_moved, table_moved, PressTakes, TableTakes, IsPassedOver, IfFine, Leads, IsRun}
 use Rattle.cell_plant.specs.Safety.{StaysWithin, IsSafeState, IsSafelySet, IsSafeRun, EveryRunIsSafe}
 use Rattle.cell_plant.proofs.PressRun.{PressInv, press-start, press-foreign, press-own, press-moved, press-ends}
 use Rattle.cell_plant.proofs.TableRun.{TableInv, table-start, table-foreign, table-own, table-moved, table-ends}
@@ -259,10 +260,10 @@ press_sets o busy w s k i =
     let table : TableInv t w.table w.plant.table = by_call (λ x. TableInv x w.table w.plant.table) z Press t by i.table (λ c. table-foreign z Press c w.table w.plant.table refl i.full.sound i.table) in
     record {
       full = full_kept o z Press t refl refl by i.full;
-      stands = subst (λ (x : CellState). StandsAsAtStart o x.plant) (sym k.set) (stands_with_press o w.plant (set_press w.plant.press (press_told k.turned.result)) i.stands);
-      within = subst (λ (x : CellState). StaysWithin x.plant) (sym k.set) (within_with_press w.plant (set_press w.plant.press (press_told k.turned.result)) i.within.press i.within);
+      stands = subst (λ (x : CellState). StandsAsAtStart o x.plant) (sym (press-is-set busy w s k)) (stands_with_press o w.plant (set_press w.plant.press (press_told k.turned.result)) i.stands);
+      within = subst (λ (x : CellState). StaysWithin x.plant) (sym (press-is-set busy w s k)) (within_with_press w.plant (set_press w.plant.press (press_told k.turned.result)) i.within.press i.within);
       press = press-own busy w s i.full.sound k i.press;
-      table = subst (λ (x : CellState). TableInv t x.table x.plant.table) (sym k.set) table;
+      table = subst (λ (x : CellState). TableInv t x.table x.plant.table) (sym (press-is-set busy w s k)) table;
     }
 
 press_moves : (o : ModelState) (w : CellState) → CellInv o w → CellInv o (press_moved w)
@@ -292,9 +293,9 @@ table_sets o points busy w s scale fine k i =
     let press : PressInv t w.press.progress w.plant.press = by_call (λ x. PressInv x w.press.progress w.plant.press) z Table t by i.press (λ c. press-foreign z Table c w.press.progress w.plant.press refl i.full.sound i.press) in
     record {
       full = full_kept o z Table t refl refl by i.full;
-      stands = subst (λ (x : CellState). StandsAsAtStart o x.plant) (sym k.set) (stands_with_table o w.plant (set_table w.plant.table (table_told k.turned.result)) i.stands);
-      within = subst (λ (x : CellState). StaysWithin x.plant) (sym k.set) (within_with_table w.plant (set_table w.plant.table (table_told k.turned.result)) i.within.lift i.within.turn i.within);
-      press = subst (λ (x : CellState). PressInv t x.press.progress x.plant.press) (sym k.set) press;
+      stands = subst (λ (x : CellState). StandsAsAtStart o x.plant) (sym (table-is-set points busy w s k)) (stands_with_table o w.plant (set_table w.plant.table (table_told k.turned.result)) i.stands);
+      within = subst (λ (x : CellState). StaysWithin x.plant) (sym (table-is-set points busy w s k)) (within_with_table w.plant (set_table w.plant.table (table_told k.turned.result)) i.within.lift i.within.turn i.within);
+      press = subst (λ (x : CellState). PressInv t x.press.progress x.plant.press) (sym (table-is-set points busy w s k)) press;
       table = table-own points busy w s scale i.full.sound fine k i.table;
     }
 
@@ -320,7 +321,7 @@ table_turn o points busy w s scale fine e k i =
 not_taken : (b : Bool) → b ≡ false → b ≡ true → ⊥
 not_taken b e f = cc
 
-rest_turn : (o : ModelState) (w : CellState) (s : Step) → Rests w s → CellInv o w → Kept o w s
+rest_turn : (o : ModelState) (w : CellState) (s : Step) → IsPassedOver w s → CellInv o w → Kept o w s
 rest_turn o w s k i = record {
   safe = record { clear = λ taken. absurd (not_taken s.taken k.not_taken taken); state = subst IsSafeState (sym k.set) (is_safe o w i) };
   after = subst (CellInv o) (sym k.moved) i;

@@ -37,7 +37,8 @@ use Rattle.cell_plant.specs.Cells.{cell_now}
 use Rattle.cell_plant.specs.Logs.{tally_of, first_tally, tally_more, entries_in}
 use Rattle.cell_plant.specs.Moments.{Moment, moment, HasNoController, StepsOn, AreReady}
 use Rattle.cell_plant.specs.Records.{came_back, is_done_reply, is_read_reply, is_refused_reply, is_busy_reply, settled_in, settled_by}
-use Rattle.cell_plant.specs.Runs.{Step, Answers, AsksNothing, AsksOnce, PressTakes, TableTakes, Rests, IfFine, Leads, with_press, with_table, press_set, press_moved, table_set, table_moved}
+use Rattle.cell_plant.proofs.Noting.{press-noting, table-noting}
+use Rattle.cell_plant.specs.Runs.{Step, Answers, AsksNothing, AsksOnce, PressTakes, TableTakes, IsPassedOver, IfFine, Leads, with_press, with_table, press_set, press_moved, table_set, table_moved}
 use Rattle.cell_plant.specs.Works.{Asked, PressUnitState, TableUnitState, PressWorks, TableWorks, press_told, table_told}
 use Rattle.cell_plant.proofs.TurnMaps.{press-turn-map, table-turn-map, press-told, table-told}
 use Rattle.cell_plant.proofs.Readiness.{press-fine, table-fine, own-foreign}
@@ -52,7 +53,7 @@ no_more c = rw (add_zero c.turns, add_zero c.done, add_zero c.read, add_zero c.r
 abbrev pub rest_step : Machine → CellState → Step
 rest_step m w = record { machine = m; taken = false; asked = None; set = w; moved = w }
 
-pub rest_rests : (m : Machine) (w : CellState) → Rests w (rest_step m w)
+pub rest_rests : (m : Machine) (w : CellState) → IsPassedOver w (rest_step m w)
 rest_rests m w = record { not_taken = refl; asked = refl; set = refl; moved = refl }
 
 nothing_noted : (b : Bool) (es : List Entry) → es ≡ (if b then es ++ [] else es)
@@ -171,7 +172,7 @@ press-steps c busy plant tp pp t t' j j' old seated new now worked fine is_seate
     let step : Step = record { machine = Press; taken = true; asked = worked.asked; set = set; moved = press_moved set } in
     let row = press-turn-map ((new ≡ seated) × (worked.asked ≡ None)) (AsksNothing old.state worked.asked new.state) (λ q r. BenchAsks seated q r new × (worked.asked ≡ Some (q, r))) (AsksOnce old.state Press busy worked.asked new.state)
     (not_asked Press busy old seated new worked t t' j j' is_seated tallied noted) (asked_once Press busy old seated new worked t t' j j' is_seated tallied noted) false pp works.sense works.turned works.row in
-    let takes : PressTakes busy w step = record { sense = works.sense; shows = works.shows; turned = works.turned; row = row; set = refl; moved = refl } in
+    let takes : PressTakes busy w step = record { sense = works.sense; shows = works.shows; turned = works.turned; row = row; set = ap (λ x. press_set x new.state works.turned) (sym (press-noting w worked.asked)); moved = refl } in
     let history = press-told ((new ≡ seated) × (worked.asked ≡ None)) (λ q r. BenchAsks seated q r new × (worked.asked ≡ Some (q, r))) (new.history ≡ old.history ++ settled_in Press worked.asked)
     (quiet Press busy old seated new worked t t' j j' is_seated tallied noted) (told Press busy old seated new worked t t' j j' is_seated tallied noted) false pp works.sense works.turned works.row in
     taken-on Press busy old seated new worked t t' j j' is_seated tallied noted c w (cell_now new.state (with_press plant now.part) tp now.progress t') set (press_moved set) (idle_by Press (λ n k. by_idle_press n k) t t' worked tallied) history
@@ -199,7 +200,7 @@ table-steps c busy plant tp pp t t' j j' old seated new now worked fine is_seate
     let step : Step = record { machine = Table; taken = true; asked = worked.asked; set = set; moved = table_moved set } in
     let row = table-turn-map ((new ≡ seated) × (worked.asked ≡ None)) (AsksNothing old.state worked.asked new.state) (λ q r. BenchAsks seated q r new × (worked.asked ≡ Some (q, r))) (AsksOnce old.state Table busy worked.asked new.state)
     (not_asked Table busy old seated new worked t t' j j' is_seated tallied noted) (asked_once Table busy old seated new worked t t' j j' is_seated tallied noted) c.turn false tp works.sense works.turned works.row in
-    let takes : TableTakes c.turn busy w step = record { sense = works.sense; shows = works.shows; turned = works.turned; row = row; set = refl; moved = refl } in
+    let takes : TableTakes c.turn busy w step = record { sense = works.sense; shows = works.shows; turned = works.turned; row = row; set = ap (λ x. table_set x new.state works.turned) (sym (table-noting w worked.asked)); moved = refl } in
     let history = table-told ((new ≡ seated) × (worked.asked ≡ None)) (λ q r. BenchAsks seated q r new × (worked.asked ≡ Some (q, r))) (new.history ≡ old.history ++ settled_in Table worked.asked)
     (quiet Table busy old seated new worked t t' j j' is_seated tallied noted) (told Table busy old seated new worked t t' j j' is_seated tallied noted) c.turn false tp works.sense works.turned works.row in
     taken-on Table busy old seated new worked t t' j j' is_seated tallied noted c w (cell_now new.state (with_table plant now.part) now.progress pp t') set (table_moved set) (idle_by Table (λ n k. by_idle_table n k) t t' worked tallied) history

@@ -44,6 +44,7 @@ use Rattle.cell_plant.specs.Plant.{TablePlant, table_at_start, set_axis, set_tab
 use Rattle.cell_plant.specs.Shows.{TableSwitches, TableShows}
 use Rattle.cell_plant.specs.Works.{Asked, table_told}
 use Rattle.cell_plant.specs.CellStates.{CellState, TableSide, is_fine, status_after}
+use Rattle.cell_plant.proofs.Noting.{table-is-set}
 use Rattle.cell_plant.specs.Runs.{Step, AsksNothing, AsksOnce, TableTakes}
 use Rattle.cell_plant.specs.Collisions.{DrivesPast}
 use Rattle.cell_plant.specs.Demands.{RestsAtLoading}
@@ -242,7 +243,7 @@ table-own points busy w s k sound fine takes i =
     let after = turns_row points w.interlock s.set.interlock w.table.progress w.plant.table sound before busy s.asked takes.sense takes.turned k takes.shows takes.row in
     let side : TableSide = record { progress = takes.turned.progress; status = status_after w.table.status takes.turned.result } in
     let kept : TableInv s.set.interlock side (set_table w.plant.table (table_told takes.turned.result)) = record { knows = λ f. after.knows; open_in = after.open_in; settled = λ f. after.settled } in
-    subst (λ (x : CellState). TableInv s.set.interlock x.table x.plant.table) (sym takes.set) kept
+    subst (λ (x : CellState). TableInv s.set.interlock x.table x.plant.table) (sym (table-is-set points busy w s takes)) kept
 
 -- No turn of the table drives it past an end: by its switches, and by its reading, which is within the tolerance.
 abbrev DrivesOut : TablePlant → Type 0
@@ -334,4 +335,4 @@ pub table-ends : (points : Scale) (busy : Bool) (w : CellState) (s : Step) → I
 table-ends points busy w s k takes =
     let same = AsksNothing w.interlock s.asked s.set.interlock in
     let asks = AsksOnce w.interlock TableMachine busy s.asked s.set.interlock in
-    subst (λ (x : CellState). DrivesOut x.plant.table → ⊥) (sym takes.set) (row_within points same asks w.plant.table w.table.progress takes.sense k takes.shows takes.turned takes.row)
+    subst (λ (x : CellState). DrivesOut x.plant.table → ⊥) (sym (table-is-set points busy w s takes)) (row_within points same asks w.plant.table w.table.progress takes.sense k takes.shows takes.turned takes.row)

@@ -59,12 +59,12 @@ ArmHitsPress p =
 abbrev pub TableHitsArm : PlantState → Type 0
 TableHitsArm p = TableMoves p.table × IsOut p.robot.arm1 × IsArm1AtTable p.robot
 
--- The deposit belt runs while the second arm is out over it, the gripper is down over it, or a plate stands at its end.
+-- The deposit belt runs under the second arm or under the lowered gripper, or with a plate at its end.
 abbrev pub DepositBeltPulls : PlantState → Type 0
 DepositBeltPulls p =
     IsTrue p.deposit.runs × ((IsOut p.robot.arm2 × IsArm2AtDeposit p.robot) ⊎ ((IsGripperDown p.crane × IsOverDeposit p.crane) ⊎ IsSome p.deposit.last))
 
--- The feed belt runs while the gripper is down over it.
+-- The feed belt runs under the lowered gripper.
 abbrev pub FeedBeltPulls : PlantState → Type 0
 FeedBeltPulls p = IsTrue p.feed.runs × IsGripperDown p.crane × IsOverFeed p.crane
 
@@ -100,7 +100,7 @@ PlateFalls before p =
     (LetsGo before.robot.magnet1 p.robot.magnet1 × (¬ Arm1MayLetGo p.robot))
     ⊎ ((LetsGo before.robot.magnet2 p.robot.magnet2 × (¬ Arm2MayLetGo p.robot)) ⊎ (LetsGo before.crane.magnet p.crane.magnet × (¬ CraneMayLetGo p.crane)))
 
--- An axis of the machine whose turn it is stands at one of its ends and is driven towards that end.
+-- The machine whose turn it is drives one of its axes past an end: the axis is there already, and its motor goes that way.
 abbrev pub DrivesPast : ℤ → Axis → Type 0
 DrivesPast end a = ((a.position ≡ pos 0) × (a.motor ≡ Minus)) ⊎ ((a.position ≡ end) × (a.motor ≡ Plus))
 

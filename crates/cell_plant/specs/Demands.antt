@@ -33,12 +33,12 @@ abbrev pub Arm2Demands : ModelState → PlantState → Type 0
 Arm2Demands s p = IsOut p.robot.arm2 → (IsArm2InPress p.robot × HoldsOpen s Robot Z3 OpenOut) ⊎ (IsArm2AtDeposit p.robot × HoldsOpen s Robot Z4 OpenIn)
 
 -- an open press rests where its posture says
-abbrev pub PressDemands : ModelState → PlantState → Type 0
-PressDemands s p = (posture_at s Z3 ≡ OpenIn → RestsAtMiddle p.press) × (posture_at s Z3 ≡ OpenOut → RestsAtBottom p.press)
+abbrev pub PressStands : ModelState → PlantState → Type 0
+PressStands s p = (posture_at s Z3 ≡ OpenIn → RestsAtMiddle p.press) × (posture_at s Z3 ≡ OpenOut → RestsAtBottom p.press)
 
 -- a table that is open to the feed belt stands ready to load
-abbrev pub TableDemands : ModelState → PlantState → Type 0
-TableDemands s p = posture_at s Z1 ≡ OpenIn → RestsAtLoading p.table
+abbrev pub TableStands : ModelState → PlantState → Type 0
+TableStands s p = posture_at s Z1 ≡ OpenIn → RestsAtLoading p.table
 
 -- a gripper that is down is over one of the belts, and the crane holds that zone, open for it
 abbrev pub GripperDemands : ModelState → PlantState → Type 0
@@ -51,7 +51,7 @@ BeltDemands s p = (IsSome p.feed.last ↔ IsTrue (is_full s FeedEnd)) × (IsSome
 pub record MeetsDemands (s : ModelState) (p : PlantState) : Type 0 where
   pub arm1 : Arm1Demands s p
   pub arm2 : Arm2Demands s p
-  pub press : PressDemands s p
-  pub table : TableDemands s p
+  pub press : PressStands s p
+  pub table : TableStands s p
   pub gripper : GripperDemands s p
   pub belts : BeltDemands s p

@@ -1,4 +1,4 @@
--- What is noted in a run of each turn that is taken.
+-- For the contracts of private functions: what is noted in a run of each turn that is taken.
 use Rattle.std.specs.Prelude.{◌+◌, ◌<◌, List, [], ◌∷◌, Some, None, Result, Ok, Err, unwrap_or}
 use Rattle.cell_types.specs.declared.machine.Machine.{Machine}
 use Rattle.cell_types.specs.declared.machine.Machine.TheVariants.{Feed, Table, Robot, Press, Deposit, Crane, Watch}

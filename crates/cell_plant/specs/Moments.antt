@@ -1,4 +1,4 @@
--- One turn of a simulation: the step by which it leads on, and what is noted of it.
+-- For the contracts of private functions: one turn of a simulation, by the step by which it leads on and what is noted of it.
 use Rattle.std.specs.Prelude.{◌≡◌, ◌+◌, ◌⊎◌, Bool, true, false, List, ◌++◌, if◌then◌else◌}
 use Rattle.cell_types.specs.declared.machine.Machine.{Machine}
 use Rattle.cell_types.specs.declared.answer.Event.{Event}

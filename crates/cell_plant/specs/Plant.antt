@@ -54,7 +54,7 @@ pub record PlantState : Type 0 where
   pub deposit : Belt
   pub crane : CranePlant
 
--- At the start: all motors and belts are off, plates stand where the full places say, and the magnets of a loaded arm or crane are on.
+-- At the start: every motor and belt is off, plates stand where the full places say, and an arm or a crane that has a plate holds it by its magnet.
 abbrev pub standing : ℤ → Axis
 standing p = record { position = p; motor = Off }
 
@@ -163,8 +163,8 @@ feed_tick b act = moved_belt (set_belt b act.belt)
 abbrev pub deposit_tick : Belt → DepositAct → Belt
 deposit_tick b act = moved_belt (set_belt b act.belt)
 
--- What a belt notes of a Done call of its own machine: a plate that is taken is put on at its entry, an advance makes the
--- entry plate the end plate where it stands, a give takes the end plate off.
+-- What a belt notes of a Done call of its own machine: by a take a plate comes on at its entry, by an advance that plate
+-- counts as the one at the end without being moved, by a give that one is gone.
 abbrev pub advanced : Belt → Belt
 advanced b = record { entry = None; last = b.entry; runs = b.runs }
 

@@ -94,7 +94,7 @@ positions_in p =
     ∷ p.crane.gripper.position
     ∷ []
 
--- a record of a run: its start, counts, statuses, journals, end and axes are those of the run
+-- a record tells a run: where it began and ended, what each machine did and noted, how each fares, and where the axes stand
 pub record IsRecordOf (opening : ModelState) (steps : List Step) (r : RunRecord) : Type 0 where
   pub start : r.start ≡ opening
   pub counts : r.counts ≡ map (counts_in steps) all_machines

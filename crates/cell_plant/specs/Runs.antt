@@ -1,5 +1,5 @@
 -- Runs of the cell: what each turn of a schedule leads to.
-use Rattle.std.specs.Prelude.{◌≡◌, Bool, true, false, List, [], ◌∷◌, Some, None, Result, Ok, Err, ⊤}
+use Rattle.std.specs.Prelude.{◌≡◌, Bool, true, false, List, [], ◌∷◌, Option, Some, None, Result, Ok, Err, ⊤}
 use Rattle.cell_types.specs.declared.machine.Machine.{Machine}
 use Rattle.cell_types.specs.declared.machine.Machine.TheVariants.{Feed, Table, Robot, Press, Deposit, Crane, Watch}
 use Rattle.cell_types.specs.declared.call.Call.{Call}
@@ -16,9 +16,10 @@ use Rattle.cell_stations.specs.TableTurns as table_turns
 use Rattle.cell_plant.specs.declared.schedule.Turn.{Turn}
 use Rattle.cell_plant.specs.declared.axis.Axis.{Axis}
 use Rattle.cell_plant.specs.Axes.{CellScales}
-use Rattle.cell_plant.specs.Plant.{PlantState, TablePlant, set_press, moved_press, set_table, moved_table}
+use Rattle.cell_types.specs.declared.answer.Event.{Event}
+use Rattle.cell_plant.specs.Plant.{PlantState, note_of, TablePlant, set_press, moved_press, set_table, moved_table}
 use Rattle.cell_plant.specs.Shows.{PressShows, TableShows}
-use Rattle.cell_plant.specs.Works.{Asked, press_told, table_told}
+use Rattle.cell_plant.specs.Works.{Asked, done_in, press_told, table_told}
 use Rattle.cell_plant.specs.CellStates.{CellState, is_fine, status_after}
 
 -- a step of a run: whose turn it was, whether it was taken, and what was asked; the state once the motors were set, and that once the part has moved
@@ -50,6 +51,14 @@ with_press p press = record { feed = p.feed; table = p.table; robot = p.robot; p
 abbrev pub with_table : PlantState → TablePlant → PlantState
 with_table p table = record { feed = p.feed; table = table; robot = p.robot; press = p.press; deposit = p.deposit; crane = p.crane }
 
+-- the cell once the plant has noted what a machine asked, if that was done
+abbrev pub plant_noting : PlantState → Option Event → PlantState
+plant_noting p None = p
+plant_noting p (Some e) = note_of p e
+
+abbrev pub noting : CellState → Machine → Asked → CellState
+noting w m asked = record { interlock = w.interlock; plant = plant_noting w.plant (done_in m asked); table = w.table; press = w.press }
+
 -- the cell once a turn of the press has led its controller so far, with this state of the interlock
 abbrev pub press_set : CellState → ModelState → press_turns.Turned → CellState
 press_set w s turned =
@@ -75,13 +84,13 @@ table_set w s turned =
 abbrev pub table_moved : CellState → CellState
 table_moved w = record { interlock = w.interlock; plant = with_table w.plant (moved_table w.plant.table); table = w.table; press = w.press }
 
--- a turn of the press: its switches are read, a row of its program is performed, its motor is set and its part moves
+-- a turn of the press: its switches are read, a row of its program is performed, the plant notes what was done, its motor is set and its part moves
 pub record PressTakes (busy : Bool) (w : CellState) (s : Step) : Type 0 where
   pub sense : PressSense
   pub shows : PressShows w.plant.press sense
   pub turned : press_turns.Turned
   pub row : press_turns.Turns (AsksNothing w.interlock s.asked s.set.interlock) (AsksOnce w.interlock Press busy s.asked s.set.interlock) false w.press.progress sense turned
-  pub set : s.set ≡ press_set w s.set.interlock turned
+  pub set : s.set ≡ press_set (noting w Press s.asked) s.set.interlock turned
   pub moved : s.moved ≡ press_moved s.set
 
 pub record TableTakes (scale : Scale) (busy : Bool) (w : CellState) (s : Step) : Type 0 where
@@ -89,11 +98,11 @@ pub record TableTakes (scale : Scale) (busy : Bool) (w : CellState) (s : Step) :
   pub shows : TableShows scale w.plant.table sense
   pub turned : table_turns.Turned
   pub row : table_turns.Turns (AsksNothing w.interlock s.asked s.set.interlock) (AsksOnce w.interlock Table busy s.asked s.set.interlock) scale false w.table.progress sense turned
-  pub set : s.set ≡ table_set w s.set.interlock turned
+  pub set : s.set ≡ table_set (noting w Table s.asked) s.set.interlock turned
   pub moved : s.moved ≡ table_moved s.set
 
 -- a turn that isn't taken leaves all as it is
-pub record Rests (w : CellState) (s : Step) : Type 0 where
+pub record IsPassedOver (w : CellState) (s : Step) : Type 0 where
   pub not_taken : s.taken ≡ false
   pub asked : s.asked ≡ None
   pub set : s.set ≡ w
@@ -101,18 +110,18 @@ pub record Rests (w : CellState) (s : Step) : Type 0 where
 
 abbrev pub IfFine : Bool → Step → Type 0 → CellState → Type 0
 IfFine true s takes w = (s.taken ≡ true) × takes
-IfFine false s takes w = Rests w s
+IfFine false s takes w = IsPassedOver w s
 
 -- A turn leads on by a step: one of a machine that fares well is taken, one of a machine that has stopped or of the watch
 -- isn't, and for now no turn of feed belt, robot, deposit belt and crane is.
 abbrev pub Leads : CellScales → Machine → Bool → CellState → Step → Type 0
 Leads c Table busy w s = IfFine (is_fine w.table.status) s (TableTakes c.turn busy w s) w
 Leads c Press busy w s = IfFine (is_fine w.press.status) s (PressTakes busy w s) w
-Leads c Feed busy w s = Rests w s
-Leads c Robot busy w s = Rests w s
-Leads c Deposit busy w s = Rests w s
-Leads c Crane busy w s = Rests w s
-Leads c Watch busy w s = Rests w s
+Leads c Feed busy w s = IsPassedOver w s
+Leads c Robot busy w s = IsPassedOver w s
+Leads c Deposit busy w s = IsPassedOver w s
+Leads c Crane busy w s = IsPassedOver w s
+Leads c Watch busy w s = IsPassedOver w s
 
 -- a run of a schedule from a state, a step for each of its turns
 abbrev pub IsRun : CellScales → CellState → List Turn → List Step → Type 0

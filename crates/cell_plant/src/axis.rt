@@ -13,7 +13,7 @@ pub struct Axis {
     pub motor: Motor,
 }
 
-/// How far an axis goes in a tick.
+/// How far an axis goes in a tick, in tenths of a millimetre or of a degree.
 const SPEED: i32 = 20;
 
 impl Axis {

@@ -17,14 +17,14 @@ pub struct Belt {
 }
 
 impl Belt {
-    /// The feed belt at the start.
+    /// The feed belt at the start: the plate of its end stands in the light barrier, at 900.
     pub fn feed(state: &State) -> Belt
         ensures { result ≡ feed_at_start state.now }
     {
         Belt::at_rest(state, Place::FeedEntry, Place::FeedEnd, 900)
     }
 
-    /// The deposit belt at the start.
+    /// The deposit belt at the start: the plate of its end stands behind the light barrier, at 1000.
     pub fn deposit(state: &State) -> Belt
         ensures { result ≡ deposit_at_start state.now }
     {

@@ -13,11 +13,17 @@ use cell_stations::{PressCtl, TableCtl};
 /// The six machines of the cell, each with its controller and its part.
 #[derive(Drop)]
 pub struct Cell<F1: Gauge, F2: Gauge, F3: Gauge, F4: Gauge, F5: Gauge> {
+    /// The feed belt.
     pub feed: FeedUnit,
+    /// The table, with the calibration of its rotation.
     pub table: TableUnit<F4>,
+    /// The robot, with the calibrations of its first arm, its second arm and its rotation.
     pub robot: RobotUnit<F1, F2, F3>,
+    /// The press.
     pub press: PressUnit,
+    /// The deposit belt.
     pub deposit: DepositUnit,
+    /// The crane, with the calibration of its gripper's height.
     pub crane: CraneUnit<F5>,
 }
 

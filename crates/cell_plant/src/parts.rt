@@ -1,4 +1,5 @@
-//! The parts of the plant: what a machine's controller moves, and what its sensors show.
+//! The parts of the plant: what a machine's controller moves, and what its sensors show. Lengths are
+//! tenths of a millimetre, angles tenths of a degree.
 
 ghost use Rattle.std.specs.Prelude.{◌≡◌};
 ghost use Rattle.cell_calib.specs.Line.{IsRawAt};
@@ -280,11 +281,13 @@ impl CranePart {
 /// The feed belt.
 #[derive(Clone, Copy, Debug)]
 pub struct FeedPart {
+    /// The belt with its plates.
     pub belt: Belt,
 }
 
 /// The deposit belt.
 #[derive(Clone, Copy, Debug)]
 pub struct DepositPart {
+    /// The belt with its plates.
     pub belt: Belt,
 }

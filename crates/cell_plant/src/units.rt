@@ -22,42 +22,54 @@ use cell_types::{Event, Machine};
 /// The feed belt. It has no controller yet.
 #[derive(Clone, Copy, Debug)]
 pub struct FeedUnit {
+    /// What it moves, and what its sensors show.
     pub part: FeedPart,
 }
 
 /// The table.
 #[derive(Drop)]
 pub struct TableUnit<F: Gauge> {
+    /// How far it has come in its program.
     pub controller: TableCtl<F>,
+    /// What it moves, and what its sensors show.
     pub part: TablePart,
 }
 
 /// The robot, with the calibrations of its arms and its rotation. It has no controller yet.
 #[derive(Drop)]
 pub struct RobotUnit<F1: Gauge, F2: Gauge, F3: Gauge> {
+    /// Of the first arm's extension.
     pub arm1: Calibration<F1>,
+    /// Of the second arm's extension.
     pub arm2: Calibration<F2>,
+    /// Of the robot's rotation.
     pub rotation: Calibration<F3>,
+    /// What it moves, and what its sensors show.
     pub part: RobotPart,
 }
 
 /// The press.
 #[derive(Clone, Copy, Debug)]
 pub struct PressUnit {
+    /// How far it has come in its program.
     pub controller: PressCtl,
+    /// What it moves, and what its sensors show.
     pub part: PressPart,
 }
 
 /// The deposit belt. It has no controller yet.
 #[derive(Clone, Copy, Debug)]
 pub struct DepositUnit {
+    /// What it moves, and what its sensors show.
     pub part: DepositPart,
 }
 
 /// The crane, with the calibration of its gripper's height. It has no controller yet.
 #[derive(Drop)]
 pub struct CraneUnit<F: Gauge> {
+    /// Of the gripper's height.
     pub gripper: Calibration<F>,
+    /// What it moves, and what its sensors show.
     pub part: CranePart,
 }
 

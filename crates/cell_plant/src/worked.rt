@@ -16,6 +16,7 @@ pub type Asked = Option<(Call, Answered)>;
 /// What came of a turn of one machine.
 #[derive(Clone, Copy, Debug, PartialEq, Eq)]
 pub struct Worked {
+    /// What was asked, and what came back.
     pub asked: Asked,
     /// What the turn has stopped the machine with, if it has.
     pub stop: Option<Status>,

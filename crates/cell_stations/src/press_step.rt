@@ -51,7 +51,7 @@ pub struct PressProgress {
     pub loaded: bool,
     /// Whether a forged plate is in it.
     pub forged: bool,
-    /// The last direction that a drive of the press gave.
+    /// The way in which its motor last went.
     pub direction: Direction,
 }
 

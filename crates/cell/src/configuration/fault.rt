@@ -18,7 +18,7 @@ pub enum ConfigFault {
     Long,
     /// The bytes aren't UTF-8, or no TOML.
     Text,
-    /// A key isn't known, at the top or in a section.
+    /// The text or one of its sections has a key of another name.
     Unknown,
     /// There is no start.
     Missing,

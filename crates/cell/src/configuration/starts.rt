@@ -55,7 +55,7 @@ pub fn places_at(table: &Table) -> Result<[bool; PLACES], ConfigFault>
     places_of(text.as_bytes()).ok_or(ConfigFault::Start)
 }
 
-/// The start with these places and this stamp; `Start` where there is none.
+/// The start that places and a stamp make; `Start` where there is none.
 pub fn start_of(places: [bool; PLACES], stamp: u32) -> Result<State, ConfigFault>
     ensures value { result ≡ settings.start_of places stamp }
     ensures start { IfOk result IsStartState }

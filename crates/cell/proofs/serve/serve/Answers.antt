@@ -17,3 +17,6 @@ returns-in-Ok-Sim-clause-replay_fails g c = λ k e. not_for_replay _ c.in-Ok-Sim
 
 pub returns-in-Err-clause-replay_fails : goal.returns-in-Err-clause-replay_fails
 returns-in-Err-clause-replay_fails g c = λ k e. told_before _ _ _ (c.refuse.ensures.line (either_way _ k c.in-Err.ensures.plain c.in-Err.ensures.replay))
+
+pub returns-in-Ok-Replay-clause-read_sim : goal.returns-in-Ok-Replay-clause-read_sim
+returns-in-Ok-Replay-clause-read_sim g c = λ k. not_for_sim _ c.in-Ok-Replay.field-0 c.in-Ok-Replay.field-0-is c.in-Ok-Replay.ensures.mode k
