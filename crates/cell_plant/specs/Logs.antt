@@ -1,9 +1,10 @@
 -- For the contracts of private functions: what is noted in a run of each turn that is taken.
-use Rattle.std.specs.Prelude.{◌+◌, ◌<◌, List, [], ◌∷◌, Some, None, Result, Ok, Err, unwrap_or}
+use Rattle.std.specs.Prelude.{◌+◌, ◌<◌, vec_len, vec_capacity, List, [], ◌∷◌, Some, None, Result, Ok, Err, unwrap_or}
 use Rattle.cell_types.specs.declared.machine.Machine.{Machine}
 use Rattle.cell_types.specs.declared.machine.Machine.TheVariants.{Feed, Table, Robot, Press, Deposit, Crane, Watch}
 use Rattle.cell_types.specs.declared.call.Call.{Call}
 use Rattle.cell_types.specs.declared.journal.Entry.{Entry}
+use Rattle.cell_types.specs.declared.journal.Journals.{Journals}
 use Rattle.cell_types.specs.declared.reply.Reply.{Reply}
 use Rattle.cell_types.specs.declared.reply.Reply.TheVariants.{Settled, Busy}
 use Rattle.cell_rules.specs.declared.heard.LineFault.{LineFault}
@@ -62,3 +63,13 @@ entries_by c (Err fault) = []
 abbrev pub entries_in : Asked → List Entry
 entries_in None = []
 entries_in (Some call) = entries_by call.0 call.1
+
+-- there is room for one more entry in a machine's journal
+abbrev pub HasSpare : Journals → Machine → Type 0
+HasSpare journals Feed = vec_len journals.feed < vec_capacity journals.feed
+HasSpare journals Table = vec_len journals.table < vec_capacity journals.table
+HasSpare journals Robot = vec_len journals.robot < vec_capacity journals.robot
+HasSpare journals Press = vec_len journals.press < vec_capacity journals.press
+HasSpare journals Deposit = vec_len journals.deposit < vec_capacity journals.deposit
+HasSpare journals Crane = vec_len journals.crane < vec_capacity journals.crane
+HasSpare journals Watch = vec_len journals.watch < vec_capacity journals.watch

@@ -1,11 +1,11 @@
 //! What is noted of each turn that is taken: the machine's tally, and in its journal the call that was settled.
-ghost use Rattle.std.specs.Prelude.{◌≡◌, [], ◌∷◌, ◌++◌, IfOk, if◌then◌else◌};
+ghost use Rattle.std.specs.Prelude.{◌≡◌, [], ◌∷◌, ◌++◌, IfOk, OnOk, IsOk, if◌then◌else◌};
 ghost use Rattle.cell_types.specs.declared.machine.Machine.{Machine};
 ghost use Rattle.cell_types.specs.Same.{same_machine};
 ghost use Rattle.cell_types.specs.Journals.{journal_of};
 ghost use Rattle.std.specs.Option.{option_to_list};
 ghost use Rattle.cell_plant.specs.CellStates.{is_fine};
-ghost use Rattle.cell_plant.specs.Logs.{tally_of, first_tally, tally_more, entries_in, HasRoom};
+ghost use Rattle.cell_plant.specs.Logs.{tally_of, first_tally, tally_more, entries_in, HasRoom, HasSpare};
 
 use crate::record::{SimFault, Status};
 use crate::tally::Tallies;
@@ -43,6 +43,8 @@ impl Log {
     pub fn make_room(&mut self, machine: Machine) -> Result<(), SimFault>
         ensures tallies { self.new.tallies ≡ self.old.tallies }
         ensures journals { (m : Machine) → journal_of self.new.journals m ≡ journal_of self.old.journals m }
+        ensures room { OnOk result (HasSpare self.new.journals machine) }
+        ensures succeeds { HasSpare self.old.journals machine → IsOk result }
     {
         let made = match machine {
             Machine::Feed => self.journals.feed.reserve(1),
@@ -64,6 +66,7 @@ impl Log {
         requires { HasRoom (tally_of self.old.tallies machine).counts }
         ensures tallies { IfOk result (λ _. (m : Machine) → tally_of self.new.tallies m ≡ (if same_machine machine m then tally_more (tally_of self.old.tallies m) worked else tally_of self.old.tallies m)) }
         ensures journals { IfOk result (λ _. (m : Machine) → journal_of self.new.journals m ≡ (if same_machine machine m then journal_of self.old.journals m ++ entries_in worked.asked else journal_of self.old.journals m)) }
+        ensures succeeds { HasSpare self.old.journals machine → IsOk result }
     {
         let tally = self.tallies.get(machine).more(worked);
         self.tallies.set(machine, tally);
@@ -90,7 +93,8 @@ fn entry_of(asked: Asked) -> Option<Entry>
 
 // Ends a machine's journal with an entry.
 fn push_entry(journals: &mut Journals, machine: Machine, entry: Entry) -> Result<(), SimFault>
-    ensures { IfOk result (λ _. (m : Machine) → journal_of journals.new m ≡ (if same_machine machine m then journal_of journals.old m ++ entry ∷ [] else journal_of journals.old m)) }
+    ensures journals { IfOk result (λ _. (m : Machine) → journal_of journals.new m ≡ (if same_machine machine m then journal_of journals.old m ++ entry ∷ [] else journal_of journals.old m)) }
+    ensures succeeds { HasSpare journals.old machine → IsOk result }
 {
     let pushed = match machine {
         Machine::Feed => journals.feed.push(entry),
