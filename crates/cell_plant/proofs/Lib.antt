@@ -1,3 +1,4 @@
+mod Bounds
 mod Goings
 mod Noting
 mod PressRun

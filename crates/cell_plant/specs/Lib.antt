@@ -3,6 +3,7 @@ pub mod CellStates
 pub mod Cells
 pub mod Collisions
 pub mod Demands
+pub mod Examples
 pub mod Logs
 pub mod Moments
 pub mod Plant
