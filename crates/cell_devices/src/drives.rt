@@ -5,11 +5,11 @@ ghost use Rattle.cell_devices.specs.Drives.{MovesLine};
 use crate::motor::Motor;
 use crate::stops::Stop;
 
-/// Drives towards a stop by a reading: off within half less the tolerance of the target, else plus
-/// below it and minus above it.
+/// Drives towards a stop by a reading. The motor is off where the reading is no farther from the
+/// target than `half` less the tolerance; elsewhere it goes plus from below and minus from above.
 ///
-/// So where the reading is within the tolerance of the exact line, the motor is off only where the
-/// line is within half of the target, plus only where it is below, minus only where it is above.
+/// So for a reading that is within the tolerance of the exact line: a motor that is off leaves the
+/// line no farther than `half` from the target, and one that is on finds it on the side it leaves.
 pub fn drive(stop: Stop, tol: i32, read: i32) -> Motor
     requires { (pos 2 *ℤ tol) ≤ℤ pos stop.half }
     ensures off { (result ≡ Motor.Off) ↔ IsNear read stop.target (pos stop.half -ℤ tol) }

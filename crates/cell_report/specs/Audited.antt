@@ -12,7 +12,7 @@ abbrev pub EndsIn : ModelState → Option ModelState → Type 0
 EndsIn reached None = ⊤
 EndsIn reached (Some end) = reached ≡ end
 
--- a legal history, in which each machine's own events are its journal's, each entry has the stamp of the state at its point, and which comes to the end
+-- a history that is legal and comes to the end; each machine's journal has that machine's events, with the stamps that the states had there
 pub record IsAudited (start : ModelState) (journals : Machine → List Entry) (end : Option ModelState) (history : List Event) : Type 0 where
   pub legal : IsLegal start history
   pub own : (m : Machine) → own_events history m ≡ map (event_by m) (journals m)

@@ -16,7 +16,7 @@ use toml::Table;
 /// The most letters of a schedule.
 const MOST_LETTERS: usize = 1_000_000;
 
-/// The turn that a letter stands for: a capital marks one whose ask, if it makes one, is Busy.
+/// The turn that a letter stands for: in that of a capital a call finds the interlock busy.
 fn turn_of(letter: char) -> Option<Turn>
     ensures { result ≡ letters.turn_of letter }
 {
