@@ -1,0 +1,67 @@
+-- What a turn keeps, whatever the program: that its step is reached, and what its steps know of the state.
+use Rattle.std.proofs.Common.{◌≡◌, Bool, true, false, if◌then◌else◌, List, Option, Some, None, Result, Ok, Err, refl, sym, subst}
+use Rattle.cell_types.specs.declared.machine.Machine.{Machine}
+use Rattle.cell_types.specs.declared.posture.Posture.{Posture}
+use Rattle.cell_types.specs.declared.call.Call.{Call}
+use Rattle.cell_types.specs.declared.answer.Answer.{Answer}
+use Rattle.cell_types.specs.declared.answer.Answer.TheVariants.{Done, Shown, Refused}
+use Rattle.cell_types.specs.declared.answer.Event.{Event}
+use Rattle.cell_types.specs.declared.reply.Reply.{Reply}
+use Rattle.cell_types.specs.declared.reply.Reply.TheVariants.{Settled, Busy}
+use Rattle.cell_types.specs.Same.{same_machine}
+use Rattle.cell_rules.specs.declared.heard.LineFault.{LineFault}
+use Rattle.cell_rules.specs.ModelState.{ModelState}
+use Rattle.cell_rules.specs.Sound.{IsSound}
+use Rattle.cell_rules.specs.Reply.{reply, next, next_by, changed}
+use Rattle.cell_rules.specs.History.{after, IsLegal, own_events}
+use Rattle.cell_rules.specs.Seen.{SeenAfter}
+use Rattle.cell_rules.proofs.ProgramLemmas.{Keeps, reached-settles, reached-waits, reached-moves, reached-knows}
+use Rattle.cell_control.specs.declared.fault.CtlFault.{CtlFault}
+use Rattle.cell_control.specs.Faults.{fault_of}
+use Rattle.cell_control.specs.Steps.{Steps, Drives, after_answer, outcome, program_of, IsReached}
+
+-- a turn that asks
+pub reached_ask : {S Sense Reading Act : Type 0} → (t : Steps S Sense Reading Act) (p q : S) (c : Call) (r : Result Reply LineFault) (o : ModelState) (before now : List Event)
+    → t.call p ≡ Some c → SeenAfter t.machine c r o before now → IsReached t o before p → outcome t p r ≡ Ok q → IsReached t o now q
+reached_ask t p q c (Ok (Settled a stamp)) o before now e seen k l = reached-settles (program_of t) (t.start o) p q t.machine c a before now seen.0 k e l
+reached_ask t p q c (Ok (Busy lost stamp)) o before now e seen k l =
+    let same : p ≡ q = cc in
+    subst (λ x. IsReached t o now x) same (reached-waits (program_of t) (t.start o) p t.machine before now seen.0 k)
+reached_ask t p q c (Err fault) o before now e seen k l = cc
+
+-- a turn that drives
+pub reached_drive : {S Sense Reading Act : Type 0} → (t : Steps S Sense Reading Act) (p q : S) (o : ModelState) (seen : List Event) → Drives t p q → IsReached t o seen p → IsReached t o seen q
+reached_drive t p q o seen d k = reached-moves (program_of t) (t.start o) p q (own_events seen t.machine) k d
+
+-- what the steps know of the state is kept while others act, through drives, and by the program's own calls that are done or show something
+pub record Knowing {S Sense Reading Act : Type 0} (t : Steps S Sense Reading Act) (Knows : S → ModelState → Type 0) : Type 0 where
+  pub foreign : (p : S) (z : ModelState) (n : Machine) (c : Call) → same_machine n t.machine ≡ false → IsSound z → Knows p z → Knows p (next z n c)
+  pub after_drive : (p : S) (reading : _) (act : _) (z : ModelState) → t.call p ≡ None → t.drives p reading act → Knows p z → Knows (t.after_drive p reading act) z
+  pub after_done : (p : S) (z : ModelState) (c : Call) → t.call p ≡ Some c → reply z t.machine c ≡ Done → IsSound z → Knows p z → Knows (t.after_done p) (changed z t.machine c)
+  pub after_inquiry : (p : S) (z : ModelState) (c : Call) (owner : Option Machine) (flag : Bool) (posture : Posture) → t.call p ≡ Some c → reply z t.machine c ≡ Shown owner flag posture → IsSound z → Knows p z → Knows (t.after_inquiry p owner flag posture) z
+
+ok_same : {S : Type 0} → (b : Bool) (p q : S) (f : CtlFault) → (if b then Ok p else Err f) ≡ Ok q → p ≡ q
+ok_same true p q f e = cc
+ok_same false p q f e = cc
+
+own_answer : {S Sense Reading Act : Type 0} → (t : Steps S Sense Reading Act) (Knows : S → ModelState → Type 0) → Knowing t Knows → (a : Answer) (p q : S) (z : ModelState) (c : Call)
+    → t.call p ≡ Some c → after_answer t p a ≡ Ok q → reply z t.machine c ≡ a → IsSound z → Knows p z → Knows q (next_by a z t.machine c)
+own_answer t Knows k Done p q z c e l d sound h =
+    let same : t.after_done p ≡ q = cc in
+    subst (λ x. Knows x (changed z t.machine c)) same (k.after_done p z c e d sound h)
+own_answer t Knows k (Refused r) p q z c e l d sound h = subst (λ x. Knows x z) (ok_same (t.stays_on p r) p q (fault_of r) l) h
+own_answer t Knows k (Shown o f x) p q z c e l d sound h =
+    let same : t.after_inquiry p o f x ≡ q = cc in
+    subst (λ y. Knows y z) same (k.after_inquiry p z c o f x e d sound h)
+
+pub keeps_by : {S Sense Reading Act : Type 0} → (t : Steps S Sense Reading Act) (Knows : S → ModelState → Type 0) → Knowing t Knows → Keeps (program_of t) Knows
+keeps_by t Knows k = record {
+  foreign = k.foreign;
+  moved = λ p q z d h. subst (λ x. Knows x z) (sym d.is) (k.after_drive p d.reading d.act z d.asks_nothing d.drives h);
+  own = λ p q z c e l sound h. own_answer t Knows k (reply z t.machine c) p q z c e l refl sound h;
+}
+
+-- what a step that is reached knows of the state after what was seen
+pub reached_knows : {S Sense Reading Act : Type 0} → (t : Steps S Sense Reading Act) (Knows : S → ModelState → Type 0) → Knowing t Knows → (opening : ModelState) (seen : List Event) (p : S)
+    → Knows (t.start opening) opening → IsSound opening → IsLegal opening seen → IsReached t opening seen p → Knows p (after opening seen)
+reached_knows t Knows k opening seen p begins sound legal r = reached-knows (program_of t) Knows (keeps_by t Knows k) (t.start opening) p opening seen sound legal begins r

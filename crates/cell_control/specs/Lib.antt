@@ -1,0 +1,5 @@
+pub mod Demands
+pub mod Faults
+pub mod Rigs
+pub mod Steps
+pub mod Turns

@@ -1,0 +1,70 @@
+-- A machine's program, as a table of its steps.
+use Rattle.std.specs.Prelude.{◌≡◌, Bool, if◌then◌else◌, List, Option, None, Result, Ok, Err}
+use Rattle.cell_types.specs.declared.machine.Machine.{Machine}
+use Rattle.cell_types.specs.declared.posture.Posture.{Posture}
+use Rattle.cell_types.specs.declared.call.Call.{Call}
+use Rattle.cell_types.specs.declared.answer.Refusal.{Refusal}
+use Rattle.cell_types.specs.declared.answer.Answer.{Answer}
+use Rattle.cell_types.specs.declared.answer.Answer.TheVariants.{Done, Shown, Refused}
+use Rattle.cell_types.specs.declared.answer.Event.{Event}
+use Rattle.cell_types.specs.declared.reply.Reply.{Reply}
+use Rattle.cell_types.specs.declared.reply.Reply.TheVariants.{Settled, Busy}
+use Rattle.cell_calib.specs.declared.sense.SensorFault.{SensorFault}
+use Rattle.cell_rules.specs.declared.heard.LineFault.{LineFault}
+use Rattle.cell_rules.specs.ModelState.{ModelState}
+use Rattle.cell_rules.specs.History.{own_events}
+use Rattle.cell_rules.specs.Programs.{Program, Reached}
+use Rattle.cell_control.specs.declared.fault.CtlFault.{CtlFault}
+use Rattle.cell_control.specs.declared.fault.CtlFault.TheVariants.{Memory}
+use Rattle.cell_control.specs.Faults.{fault_of}
+
+-- over the steps S with their notes, what the sensors show and what they say once checked, and what the actuators are told
+pub record Steps (S Sense Reading Act : Type 0) : Type 1 where
+  -- whose program it is, and where it begins, by the places that are full
+  pub machine : Machine
+  pub start : ModelState → S
+  -- what a step asks; a step that asks nothing drives
+  pub call : S → Option Call
+  -- where a step leads once it is done; where one leads whose inquiry showed this; the refusals on which a step stays
+  pub after_done : S → S
+  pub after_inquiry : S → Option Machine → Bool → Posture → S
+  pub stays_on : S → Refusal → Bool
+  -- the sensors are checked: what they say, or why they can't be used
+  pub senses : Sense → Result Reading SensorFault → Type 0
+  -- what a step that drives tells the actuators, and where that leads; what a step tells them that asks
+  pub drives : S → Reading → Act → Type 0
+  pub after_drive : S → Reading → Act → S
+  pub rest : S → Act
+  -- while a step tells the actuators so, what must hold of what was seen
+  pub motor_demands : S → Act → ModelState → List Event → Type 0
+
+-- where an answer leads: on where the call was done; nowhere on a refusal that the step stays on
+abbrev pub after_refusal : {S Sense Reading Act : Type 0} → Steps S Sense Reading Act → S → Refusal → Result S CtlFault
+after_refusal t p r = if t.stays_on p r then Ok p else Err (fault_of r)
+
+abbrev pub after_answer : {S Sense Reading Act : Type 0} → Steps S Sense Reading Act → S → Answer → Result S CtlFault
+after_answer t p Done = Ok (t.after_done p)
+after_answer t p (Refused r) = after_refusal t p r
+after_answer t p (Shown owner flag posture) = Ok (t.after_inquiry p owner flag posture)
+
+abbrev pub outcome : {S Sense Reading Act : Type 0} → Steps S Sense Reading Act → S → Result Reply LineFault → Result S CtlFault
+outcome t p (Ok (Settled a stamp)) = after_answer t p a
+outcome t p (Ok (Busy lost stamp)) = Ok p
+outcome t p (Err fault) = Err Memory
+
+-- a turn that asks nothing drives, by sensors that can be used
+pub record Drives {S Sense Reading Act : Type 0} (t : Steps S Sense Reading Act) (p q : S) : Type 0 where
+  pub asks_nothing : t.call p ≡ None
+  pub sense : Sense
+  pub reading : Reading
+  pub senses : t.senses sense (Ok reading)
+  pub act : Act
+  pub drives : t.drives p reading act
+  pub is : q ≡ t.after_drive p reading act
+
+abbrev pub program_of : {S Sense Reading Act : Type 0} → Steps S Sense Reading Act → Program S
+program_of t = record { machine = t.machine; call = t.call; leads = λ p a q. after_answer t p a ≡ Ok q; moves = Drives t }
+
+-- the machine has come so far by its events in a history
+abbrev pub IsReached : {S Sense Reading Act : Type 0} → Steps S Sense Reading Act → ModelState → List Event → S → Type 0
+IsReached t opening seen p = Reached (program_of t) (t.start opening) (own_events seen t.machine) p

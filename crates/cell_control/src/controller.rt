@@ -1,0 +1,153 @@
+ghost use Rattle.std.specs.Prelude.{◌≡◌, Some, None, IfOk};
+ghost use Rattle.cell_rules.specs.Seen.{heard_after};
+ghost use Rattle.cell_control.specs.Steps.{IsReached, outcome, after_refusal as refused_at};
+ghost use Rattle.cell_control.specs.Turns.{Performs, Turns, HearsTurn, HearsOnce};
+
+use crate::fault::CtlFault;
+use crate::program::Program;
+use cell_rules::{Answered, Line, State};
+use cell_types::{Answer, Refusal, Reply};
+
+/// A machine's controller: its program, how far it has come in it, and what has stopped it.
+#[derive(Drop)]
+pub struct Controller<P: Program> {
+    program: P,
+    progress: P::Progress,
+    stopped: Option<CtlFault>,
+}
+
+impl<P: Program> Controller<P> {
+    /// The controller at the start, which notes the machine's places.
+    pub fn new(state: &State, program: P) -> Controller<P>
+        ensures program { result.program ≡ program }
+        ensures progress { result.progress ≡ (P.steps program).start state.now }
+        ensures running { result.stopped ≡ None }
+    {
+        let progress = program.start(state);
+        Controller {
+            program,
+            progress,
+            stopped: None,
+        }
+    }
+
+    /// What has stopped it; `None` while it runs.
+    pub fn stopped(&self) -> Option<CtlFault>
+        ensures { result ≡ self.now.stopped }
+    {
+        self.stopped
+    }
+
+    /// What its step tells the actuators if it asks, or can't go on: all motors are off.
+    pub fn rest(&self) -> P::Act
+        ensures { result ≡ (P.steps self.now.program).rest self.now.progress }
+    {
+        self.program.rest(self.progress)
+    }
+
+    /// One turn of the program: the sensors are checked, and the step at which it stands is
+    /// performed, which asks once or drives.
+    ///
+    /// After any error the controller has stopped, and keeps what has stopped it. The motors are then
+    /// to be set off. Each later turn asks nothing and answers `Stopped`.
+    pub fn turn<L: Line>(&mut self, line: &mut L, sense: &P::Sense) -> Result<P::Act, CtlFault>
+        requires own { self.old.stopped ≡ None → L.machine line.old ≡ (P.steps self.old.program).machine }
+        requires reached { self.old.stopped ≡ None → IsReached (P.steps self.old.program) (L.opening line.old) (L.seen line.old) self.old.progress }
+        ensures row { Turns (P.steps self.old.program) (line.new ≡ line.old) (λ c r. L.asks line.old c r line.new × (L.heard line.new ≡ heard_after (L.heard line.old) c r)) self.old.stopped self.old.progress sense.now
+            (record { result = result; progress = self.new.progress; stopped = self.new.stopped }) }
+        ensures heard { HearsTurn (P.steps self.old.program) self.old.stopped self.old.progress sense.now (L.heard line.old) (L.heard line.new) }
+        ensures own { L.machine line.new ≡ L.machine line.old }
+        ensures opening { L.opening line.new ≡ L.opening line.old }
+        ensures program { self.new.program ≡ self.old.program }
+        ensures reached { self.new.stopped ≡ None → IsReached (P.steps self.new.program) (L.opening line.new) (L.seen line.new) self.new.progress }
+        ensures motor_demands { IfOk result (λ act. (P.steps self.old.program).motor_demands self.old.progress act (L.opening line.new) (L.seen line.new)) }
+    {
+        if self.stopped.is_some() {
+            return Err(CtlFault::Stopped);
+        }
+        match perform(&self.program, self.progress, line, sense) {
+            Ok((progress, act)) => {
+                self.progress = progress;
+                Ok(act)
+            }
+            Err(fault) => {
+                self.stopped = Some(fault);
+                Err(fault)
+            }
+        }
+    }
+}
+
+// Performs the step: where it leads, and what it tells the actuators.
+fn perform<P: Program, L: Line>(
+    program: &P,
+    progress: P::Progress,
+    line: &mut L,
+    sense: &P::Sense,
+) -> Result<(P::Progress, P::Act), CtlFault>
+    requires own { L.machine line.old ≡ (P.steps program.now).machine }
+    requires reached { IsReached (P.steps program.now) (L.opening line.old) (L.seen line.old) progress }
+    ensures row { Performs (P.steps program.now) (line.new ≡ line.old) (λ c r. L.asks line.old c r line.new × (L.heard line.new ≡ heard_after (L.heard line.old) c r)) progress sense.now result }
+    ensures heard { HearsOnce (P.steps program.now) progress sense.now (L.heard line.old) (L.heard line.new) }
+    ensures own { L.machine line.new ≡ L.machine line.old }
+    ensures opening { L.opening line.new ≡ L.opening line.old }
+    ensures reached { IfOk result (λ led. IsReached (P.steps program.now) (L.opening line.new) (L.seen line.new) led.0) }
+    ensures motor_demands { IfOk result (λ led. (P.steps program.now).motor_demands progress led.1 (L.opening line.new) (L.seen line.new)) }
+{
+    let reading = match program.check(sense) {
+        Ok(reading) => reading,
+        Err(fault) => return Err(CtlFault::Sensor(fault)),
+    };
+    match program.call(progress) {
+        Some(call) => match after_call(program, progress, line.ask(call)) {
+            Ok(led) => Ok((led, program.rest(progress))),
+            Err(fault) => Err(fault),
+        },
+        None => {
+            let act = program.drive(progress, reading);
+            Ok((program.after_drive(progress, reading, act), act))
+        }
+    }
+}
+
+// Where a step leads once its call has come back.
+fn after_call<P: Program>(
+    program: &P,
+    progress: P::Progress,
+    answered: Answered,
+) -> Result<P::Progress, CtlFault>
+    ensures { result ≡ outcome (P.steps program.now) progress answered }
+{
+    match answered {
+        Ok(Reply::Settled(Answer::Done, _)) => Ok(program.after_done(progress)),
+        Ok(
+            Reply::Settled(
+                Answer::Shown {
+                    owner,
+                    flag,
+                    posture,
+                },
+                _,
+            ),
+        ) => Ok(program.after_inquiry(progress, owner, flag, posture)),
+        Ok(Reply::Settled(Answer::Refused(refusal), _)) => {
+            after_refusal(program, progress, refusal)
+        }
+        Ok(Reply::Busy { .. }) => Ok(progress),
+        Err(_) => Err(CtlFault::Memory),
+    }
+}
+
+fn after_refusal<P: Program>(
+    program: &P,
+    progress: P::Progress,
+    refusal: Refusal,
+) -> Result<P::Progress, CtlFault>
+    ensures { result ≡ refused_at (P.steps program.now) progress refusal }
+{
+    if program.stays_on(progress, refusal) {
+        Ok(progress)
+    } else {
+        Err(CtlFault::from(refusal))
+    }
+}
