@@ -1,0 +1,2 @@
+mod Bounds
+pub mod RawLemmas

@@ -1,0 +1,196 @@
+-- The plant: where its axes and plates stand, and what its motors, belts and magnets were last told.
+use Rattle.std.specs.Prelude.{ℤ, pos, ◌+ℤ◌, ◌-ℤ◌, Bool, false, ◌&&◌, if◌then◌else◌, Option, Some, None, option_map}
+use Rattle.std.specs.Int.{int_min, int_max}
+use Rattle.cell_types.specs.declared.machine.Machine.TheVariants.{Feed, Deposit}
+use Rattle.cell_types.specs.declared.zone.Zone.TheVariants.{Z1, Z4, Z5, Z6}
+use Rattle.cell_types.specs.declared.place.Place.TheVariants.{FeedEntry, FeedEnd, Arm1, Arm2, DepEntry, DepEnd, Crane}
+use Rattle.cell_types.specs.declared.call.Call.{Call}
+use Rattle.cell_types.specs.declared.call.Call.TheVariants.{Give, Take, Advance}
+use Rattle.cell_types.specs.declared.answer.Event.{Event}
+use Rattle.cell_types.specs.Same.{same_machine}
+use Rattle.cell_devices.specs.declared.motor.Motor.{Motor}
+use Rattle.cell_devices.specs.declared.motor.Motor.TheVariants.{Off, Plus, Minus}
+use Rattle.cell_devices.specs.declared.act.FeedAct.{FeedAct}
+use Rattle.cell_devices.specs.declared.act.TableAct.{TableAct}
+use Rattle.cell_devices.specs.declared.act.RobotAct.{RobotAct}
+use Rattle.cell_devices.specs.declared.act.PressAct.{PressAct}
+use Rattle.cell_devices.specs.declared.act.DepositAct.{DepositAct}
+use Rattle.cell_devices.specs.declared.act.CraneAct.{CraneAct}
+use Rattle.cell_rules.specs.ModelState.{ModelState, is_full}
+use Rattle.cell_rules.specs.History.{is_done}
+use Rattle.cell_parts.specs.declared.axis.Axis.{Axis}
+use Rattle.cell_parts.specs.declared.belt.Belt.{Belt}
+use Rattle.cell_parts.specs.Axes.{press_end, arm_end, rotation_end, lift_end, turn_end, crane_end, gripper_end, speed, rotation_start, gripper_start, belt_end, feed_plate_start, deposit_plate_start}
+
+-- the table: its height and its rotation
+pub record TablePlant : Type 0 where
+  pub lift : Axis
+  pub turn : Axis
+
+pub record RobotPlant : Type 0 where
+  pub arm1 : Axis
+  pub arm2 : Axis
+  pub rotation : Axis
+  pub magnet1 : Bool
+  pub magnet2 : Bool
+
+-- the crane: its travel and the height of its gripper
+pub record CranePlant : Type 0 where
+  pub travel : Axis
+  pub gripper : Axis
+  pub magnet : Bool
+
+-- a machine's share of the plant, with the scales of its potentiometers
+pub record Scaled (Plant Scales : Type 0) : Type 0 where
+  pub plant : Plant
+  pub scale : Scales
+
+pub record PlantState : Type 0 where
+  pub feed : Belt
+  pub table : TablePlant
+  pub robot : RobotPlant
+  pub press : Axis
+  pub deposit : Belt
+  pub crane : CranePlant
+
+-- At the start: every motor and belt is off, plates stand where the full places say, and an arm or a crane that has a plate holds it by its magnet.
+abbrev pub standing : ℤ → Axis
+standing p = record { position = p; motor = Off }
+
+abbrev pub plate_if : Bool → ℤ → Option ℤ
+plate_if full p = if full then Some p else None
+
+abbrev pub feed_at_start : ModelState → Belt
+feed_at_start s = record { entry = plate_if (is_full s FeedEntry) (pos 0); last = plate_if (is_full s FeedEnd) feed_plate_start; runs = false }
+
+abbrev pub deposit_at_start : ModelState → Belt
+deposit_at_start s = record { entry = plate_if (is_full s DepEntry) (pos 0); last = plate_if (is_full s DepEnd) deposit_plate_start; runs = false }
+
+abbrev pub table_at_start : TablePlant
+table_at_start = record { lift = standing (pos 0); turn = standing (pos 0) }
+
+abbrev pub robot_at_start : ModelState → RobotPlant
+robot_at_start s =
+    record { arm1 = standing (pos 0); arm2 = standing (pos 0); rotation = standing rotation_start; magnet1 = is_full s Arm1; magnet2 = is_full s Arm2 }
+
+abbrev pub press_at_start : Axis
+press_at_start = standing press_end
+
+abbrev pub crane_at_start : ModelState → CranePlant
+crane_at_start s = record { travel = standing (pos 0); gripper = standing gripper_start; magnet = is_full s Crane }
+
+abbrev pub plant_at_start : ModelState → PlantState
+plant_at_start s =
+    record {
+      feed = feed_at_start s;
+      table = table_at_start;
+      robot = robot_at_start s;
+      press = press_at_start;
+      deposit = deposit_at_start s;
+      crane = crane_at_start s;
+    }
+
+-- A part is set: its motors, belt and magnets are as they were told.
+abbrev pub set_axis : Axis → Motor → Axis
+set_axis a motor = record { position = a.position; motor = motor }
+
+abbrev pub set_belt : Belt → Bool → Belt
+set_belt b runs = record { entry = b.entry; last = b.last; runs = runs }
+
+abbrev pub set_table : TablePlant → TableAct → TablePlant
+set_table t act = record { lift = set_axis t.lift act.height; turn = set_axis t.turn act.rotation }
+
+abbrev pub set_robot : RobotPlant → RobotAct → RobotPlant
+set_robot r act =
+    record {
+      arm1 = set_axis r.arm1 act.arm1;
+      arm2 = set_axis r.arm2 act.arm2;
+      rotation = set_axis r.rotation act.rotation;
+      magnet1 = act.magnet1;
+      magnet2 = act.magnet2;
+    }
+
+abbrev pub set_press : Axis → PressAct → Axis
+set_press a act = set_axis a act.press
+
+abbrev pub set_crane : CranePlant → CraneAct → CranePlant
+set_crane c act = record { travel = set_axis c.travel act.travel; gripper = set_axis c.gripper act.height; magnet = act.magnet }
+
+-- A part moves: each axis whose motor is on goes on by its speed, to its end at most; each plate of a belt that runs does, to the belt's end at most.
+abbrev pub moved_to : ℤ → ℤ → Motor → ℤ
+moved_to end p Off = p
+moved_to end p Plus = int_min (p +ℤ speed) end
+moved_to end p Minus = int_max (p -ℤ speed) (pos 0)
+
+abbrev pub moved_axis : ℤ → Axis → Axis
+moved_axis end a = record { position = moved_to end a.position a.motor; motor = a.motor }
+
+abbrev pub moved_plate : Option ℤ → Option ℤ
+moved_plate plate = option_map (λ p. int_min (p +ℤ speed) belt_end) plate
+
+abbrev pub moved_belt : Belt → Belt
+moved_belt b = if b.runs then record { entry = moved_plate b.entry; last = moved_plate b.last; runs = b.runs } else b
+
+abbrev pub moved_table : TablePlant → TablePlant
+moved_table t = record { lift = moved_axis lift_end t.lift; turn = moved_axis turn_end t.turn }
+
+abbrev pub moved_robot : RobotPlant → RobotPlant
+moved_robot r = record r { arm1 = moved_axis arm_end r.arm1; arm2 = moved_axis arm_end r.arm2; rotation = moved_axis rotation_end r.rotation }
+
+abbrev pub moved_press : Axis → Axis
+moved_press a = moved_axis press_end a
+
+abbrev pub moved_crane : CranePlant → CranePlant
+moved_crane c = record c { travel = moved_axis crane_end c.travel; gripper = moved_axis gripper_end c.gripper }
+
+-- A tick: a part is set, and moves.
+abbrev pub table_tick : TablePlant → TableAct → TablePlant
+table_tick t act = moved_table (set_table t act)
+
+abbrev pub press_tick : Axis → PressAct → Axis
+press_tick a act = moved_press (set_press a act)
+
+abbrev pub robot_tick : RobotPlant → RobotAct → RobotPlant
+robot_tick r act = moved_robot (set_robot r act)
+
+abbrev pub crane_tick : CranePlant → CraneAct → CranePlant
+crane_tick c act = moved_crane (set_crane c act)
+
+abbrev pub feed_tick : Belt → FeedAct → Belt
+feed_tick b act = moved_belt (set_belt b act.belt)
+
+abbrev pub deposit_tick : Belt → DepositAct → Belt
+deposit_tick b act = moved_belt (set_belt b act.belt)
+
+-- What a belt notes of a Done call of its own machine: by a take a plate comes on at its entry, by an advance that plate
+-- counts as the one at the end without being moved, by a give that one is gone.
+abbrev pub advanced : Belt → Belt
+advanced b = record { entry = None; last = b.entry; runs = b.runs }
+
+abbrev pub loaded_belt : Belt → Belt
+loaded_belt b = record { entry = Some (pos 0); last = b.last; runs = b.runs }
+
+abbrev pub unloaded_belt : Belt → Belt
+unloaded_belt b = record { entry = b.entry; last = None; runs = b.runs }
+
+abbrev pub feed_called : Belt → Call → Belt
+feed_called b (Take Z6) = loaded_belt b
+feed_called b Advance = advanced b
+feed_called b (Give Z1) = unloaded_belt b
+feed_called b _ = b
+
+abbrev pub deposit_called : Belt → Call → Belt
+deposit_called b (Take Z4) = loaded_belt b
+deposit_called b Advance = advanced b
+deposit_called b (Give Z5) = unloaded_belt b
+deposit_called b _ = b
+
+abbrev pub noted_by_feed : Belt → Event → Belt
+noted_by_feed b e = if is_done e && same_machine e.machine Feed then feed_called b e.call else b
+
+abbrev pub noted_by_deposit : Belt → Event → Belt
+noted_by_deposit b e = if is_done e && same_machine e.machine Deposit then deposit_called b e.call else b
+
+-- what the plant notes of an event: table, robot, press and crane have nothing to note
+abbrev pub note_of : PlantState → Event → PlantState
+note_of p e = record p { feed = noted_by_feed p.feed e; deposit = noted_by_deposit p.deposit e }

@@ -1,0 +1,13 @@
+//! The parts of the plant: axes, belts, motors, magnets and sensors of the production cell, what collides
+//! in it, and what its positions and motors demand of the interlock.
+#![tactic(auto)]
+
+pub mod axis;
+pub mod belt;
+pub mod laws;
+pub mod parts;
+mod potentiometer;
+
+pub use axis::Axis;
+pub use belt::Belt;
+pub use parts::{CranePart, DepositPart, FeedPart, PressPart, RobotPart, RobotPoints, TablePart};

@@ -1,0 +1,16 @@
+//! The parts of the plant: what a machine's controller moves, and what its sensors show. Lengths are
+//! tenths of a millimetre, angles tenths of a degree.
+
+pub mod crane;
+pub mod deposit;
+pub mod feed;
+pub mod press;
+pub mod robot;
+pub mod table;
+
+pub use crane::CranePart;
+pub use deposit::DepositPart;
+pub use feed::FeedPart;
+pub use press::PressPart;
+pub use robot::{RobotPart, RobotPoints};
+pub use table::TablePart;

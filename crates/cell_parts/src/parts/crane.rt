@@ -1,0 +1,110 @@
+ghost use Rattle.std.specs.Prelude.{◌≡◌};
+ghost use Rattle.cell_parts.specs.Axes.{IsWithin, crane_end, gripper_end};
+ghost use Rattle.cell_parts.specs.Plant.{crane_at_start, crane_tick};
+ghost use Rattle.cell_parts.specs.Shows.{CraneShows};
+
+use crate::axis::Axis;
+use crate::potentiometer::raw_at;
+use cell_calib::{CraneSense, Points};
+use cell_devices::CraneAct;
+use cell_rules::State;
+use cell_types::{Event, Place};
+use std::marker::Model;
+
+/// How far the crane travels, from over the deposit belt to over the feed belt.
+pub const CRANE_END: i32 = 2000;
+
+/// The gripper's greatest height; the least is 0.
+pub const GRIPPER_END: i32 = 1000;
+
+/// The gripper's height at the start.
+pub const GRIPPER_START: i32 = 900;
+
+/// The farthest from the deposit belt at which the switch there is on.
+pub const CRANE_DEPOSIT_TO: i32 = 10;
+
+/// From where on the switch at the feed belt is on.
+pub const CRANE_FEED_FROM: i32 = 1990;
+
+/// The crane: its travel from 0 over the deposit belt to 2000 over the feed belt, with a switch at each
+/// end, its gripper's height from 0 to 1000, with a potentiometer, and the gripper's magnet.
+#[derive(Clone, Copy, Debug)]
+pub struct CranePart {
+    travel: Axis,
+    gripper: Axis,
+    magnet: bool,
+    points: Points,
+}
+
+impl Model for CranePart {
+    ghost use Rattle.cell_calib.specs.Scale.{Scale};
+    ghost use Rattle.cell_parts.specs.Axes.{IsWithin, crane_end, gripper_end};
+    ghost use Rattle.cell_parts.specs.Plant.{CranePlant, Scaled};
+
+    ghost Value = { Scaled CranePlant Scale };
+
+    ghost view = { λ c. record { plant = record { travel = c.travel; gripper = c.gripper; magnet = c.magnet }; scale = c.points } };
+
+    ghost invariant = { λ c. IsWithin crane_end c.travel.position × IsWithin gripper_end c.gripper.position };
+
+    ghost inverse = { λ v. record { travel = v.plant.travel; gripper = v.plant.gripper; magnet = v.plant.magnet; points = v.scale } };
+}
+
+impl CranePart {
+    /// At the start: over the deposit belt with its gripper high, the magnet on where it is loaded. Its
+    /// potentiometer gives the raw values of these points.
+    pub fn start(state: &State, points: Points) -> CranePart
+        ensures plant { result.plant ≡ crane_at_start state.now }
+        ensures scale { result.scale ≡ points }
+    {
+        CranePart {
+            travel: Axis::standing(0),
+            gripper: Axis::standing(GRIPPER_START),
+            magnet: state.is_full(Place::Crane),
+            points,
+        }
+    }
+
+    /// How far it is from the deposit belt, in tenths of a millimetre.
+    pub fn travel(&self) -> i32
+        ensures value { result ≡ self.now.plant.travel.position }
+        ensures within { IsWithin crane_end result }
+    {
+        self.travel.position
+    }
+
+    /// How high its gripper is, in tenths of a millimetre.
+    pub fn gripper(&self) -> i32
+        ensures value { result ≡ self.now.plant.gripper.position }
+        ensures within { IsWithin gripper_end result }
+    {
+        self.gripper.position
+    }
+
+    /// What its switches and its potentiometer show.
+    pub fn sensors(&self) -> CraneSense
+        ensures { CraneShows self.now.scale self.now.plant result }
+    {
+        let travel = self.travel.position;
+        CraneSense {
+            deposit: travel <= CRANE_DEPOSIT_TO,
+            feed: CRANE_FEED_FROM <= travel,
+            gripper: raw_at(&self.points, self.gripper.position),
+        }
+    }
+
+    /// The crane has nothing to note of an event.
+    pub fn note(&mut self, _event: &Event)
+        ensures { self.new ≡ self.old }
+    {}
+
+    /// Its motors and its magnet are told so, and it moves for a tick.
+    pub fn tick(&mut self, act: &CraneAct)
+        ensures plant { self.new.plant ≡ crane_tick self.old.plant act.now }
+        ensures scale { self.new.scale ≡ self.old.scale }
+    {
+        self.travel = self.travel.set(act.travel).moved(CRANE_END);
+        self.gripper = self.gripper.set(act.height).moved(GRIPPER_END);
+        self.magnet = act.magnet;
+    }
+}

@@ -1,0 +1,87 @@
+ghost use Rattle.std.specs.Prelude.{◌≡◌};
+ghost use Rattle.cell_parts.specs.Axes.{IsWithin, press_end};
+ghost use Rattle.cell_parts.specs.Plant.{press_at_start, press_tick};
+ghost use Rattle.cell_parts.specs.Shows.{PressShows};
+
+use crate::axis::Axis;
+use cell_calib::PressSense;
+use cell_devices::PressAct;
+use cell_types::Event;
+use std::marker::Model;
+
+/// The press's top; its bottom is 0.
+pub const PRESS_END: i32 = 1000;
+
+/// The highest position at which the switch at the bottom is on.
+pub const PRESS_BOTTOM_TO: i32 = 10;
+
+/// The lowest position at which the switch at the middle is on.
+pub const PRESS_MIDDLE_FIRST: i32 = 490;
+
+/// The highest position at which the switch at the middle is on.
+pub const PRESS_MIDDLE_LAST: i32 = 510;
+
+/// The lowest position at which the switch at the top is on.
+pub const PRESS_TOP_FROM: i32 = 990;
+
+/// The press: an axis from 0 to 1000, with a switch at its bottom, its middle and its top.
+#[derive(Clone, Copy, Debug)]
+pub struct PressPart {
+    axis: Axis,
+}
+
+impl Model for PressPart {
+    ghost use Rattle.cell_parts.specs.declared.axis.Axis.{Axis};
+    ghost use Rattle.cell_parts.specs.Axes.{IsWithin, press_end};
+
+    ghost Value = { Axis };
+
+    ghost view = { λ p. p.axis };
+
+    ghost invariant = { λ p. IsWithin press_end p.axis.position };
+
+    ghost inverse = { λ a. record { axis = a } };
+}
+
+impl PressPart {
+    /// At the start: at its top.
+    pub fn start() -> PressPart
+        ensures { result ≡ press_at_start }
+    {
+        PressPart {
+            axis: Axis::standing(PRESS_END),
+        }
+    }
+
+    /// Where it stands, in tenths of a millimetre.
+    pub fn position(&self) -> i32
+        ensures value { result ≡ self.now.position }
+        ensures within { IsWithin press_end result }
+    {
+        self.axis.position
+    }
+
+    /// What its switches show.
+    pub fn sensors(&self) -> PressSense
+        ensures { PressShows self.now result }
+    {
+        let position = self.axis.position;
+        PressSense {
+            bottom: position <= PRESS_BOTTOM_TO,
+            middle: PRESS_MIDDLE_FIRST <= position && position <= PRESS_MIDDLE_LAST,
+            top: PRESS_TOP_FROM <= position,
+        }
+    }
+
+    /// The press has nothing to note of an event.
+    pub fn note(&mut self, _event: &Event)
+        ensures { self.new ≡ self.old }
+    {}
+
+    /// Its motor is told so, and it moves for a tick.
+    pub fn tick(&mut self, act: &PressAct)
+        ensures { self.new ≡ press_tick self.old act.now }
+    {
+        self.axis = self.axis.set(act.press).moved(PRESS_END);
+    }
+}

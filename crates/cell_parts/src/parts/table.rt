@@ -1,0 +1,103 @@
+ghost use Rattle.std.specs.Prelude.{◌≡◌};
+ghost use Rattle.cell_parts.specs.Axes.{IsWithin, lift_end, turn_end};
+ghost use Rattle.cell_parts.specs.Plant.{table_at_start, table_tick};
+ghost use Rattle.cell_parts.specs.Shows.{TableShows};
+
+use crate::axis::Axis;
+use crate::potentiometer::raw_at;
+use cell_calib::{Points, TableSense};
+use cell_devices::TableAct;
+use cell_types::Event;
+use std::marker::Model;
+
+/// The greatest height; the least is 0.
+pub const LIFT_END: i32 = 600;
+
+/// The greatest rotation; the least is 0.
+pub const TURN_END: i32 = 500;
+
+/// The greatest height at which the switch at the bottom is on.
+pub const TABLE_BOTTOM_TO: i32 = 10;
+
+/// The least height at which the switch at the top is on.
+pub const TABLE_TOP_FROM: i32 = 590;
+
+/// The table: its height from 0 to 600, with a switch at each end, and its rotation from 0 to 500,
+/// with a potentiometer.
+#[derive(Clone, Copy, Debug)]
+pub struct TablePart {
+    lift: Axis,
+    turn: Axis,
+    points: Points,
+}
+
+impl Model for TablePart {
+    ghost use Rattle.cell_calib.specs.Scale.{Scale};
+    ghost use Rattle.cell_parts.specs.Axes.{IsWithin, lift_end, turn_end};
+    ghost use Rattle.cell_parts.specs.Plant.{TablePlant, Scaled};
+
+    ghost Value = { Scaled TablePlant Scale };
+
+    ghost view = { λ t. record { plant = record { lift = t.lift; turn = t.turn }; scale = t.points } };
+
+    ghost invariant = { λ t. IsWithin lift_end t.lift.position × IsWithin turn_end t.turn.position };
+
+    ghost inverse = { λ r. record { lift = r.plant.lift; turn = r.plant.turn; points = r.scale } };
+}
+
+impl TablePart {
+    /// At the start: at its bottom, turned to where it loads. Its potentiometer gives the raw values of
+    /// these points.
+    pub fn start(points: Points) -> TablePart
+        ensures plant { result.plant ≡ table_at_start }
+        ensures scale { result.scale ≡ points }
+    {
+        TablePart {
+            lift: Axis::standing(0),
+            turn: Axis::standing(0),
+            points,
+        }
+    }
+
+    /// How high it stands, in tenths of a millimetre.
+    pub fn lift(&self) -> i32
+        ensures value { result ≡ self.now.plant.lift.position }
+        ensures within { IsWithin lift_end result }
+    {
+        self.lift.position
+    }
+
+    /// How far it is turned, in tenths of a degree.
+    pub fn turn(&self) -> i32
+        ensures value { result ≡ self.now.plant.turn.position }
+        ensures within { IsWithin turn_end result }
+    {
+        self.turn.position
+    }
+
+    /// What its switches and its potentiometer show.
+    pub fn sensors(&self) -> TableSense
+        ensures { TableShows self.now.scale self.now.plant result }
+    {
+        let height = self.lift.position;
+        TableSense {
+            bottom: height <= TABLE_BOTTOM_TO,
+            top: TABLE_TOP_FROM <= height,
+            turn: raw_at(&self.points, self.turn.position),
+        }
+    }
+
+    /// The table has nothing to note of an event.
+    pub fn note(&mut self, _event: &Event)
+        ensures { self.new ≡ self.old }
+    {}
+
+    /// Its motors are told so, and it moves for a tick.
+    pub fn tick(&mut self, act: &TableAct)
+        ensures plant { self.new.plant ≡ table_tick self.old.plant act.now }
+        ensures scale { self.new.scale ≡ self.old.scale }
+    {
+        self.lift = self.lift.set(act.height).moved(LIFT_END);
+        self.turn = self.turn.set(act.rotation).moved(TURN_END);
+    }
+}

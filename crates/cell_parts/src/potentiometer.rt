@@ -1,0 +1,52 @@
+ghost use Rattle.std.specs.Prelude.{◌≡◌, ◌*◌, ◌/◌, ◌≤◌, ◌<◌, ◌≤ℤ◌, pos, ◌<ℤ◌, ◌+ℤ◌, ◌-ℤ◌};
+ghost use Rattle.cell_parts.specs.Shows.{ShowsRaw};
+
+use cell_calib::Points;
+
+/// The raw value that an ideal sensor gives at a position between the points, rounded down. Beyond
+/// them it is that of the nearer point.
+pub(crate) fn raw_at(points: &Points, position: i32) -> u16
+    ensures { ShowsRaw points.now position result }
+{
+    let raw_lo = points.raw_lo();
+    let length = distance(points.at_lo(), points.at_hi());
+    raw_lo + part_of(along(points, position), points.raw_hi() - raw_lo, length)
+}
+
+// How far a position is above that of the first point; beyond the points, as far as the nearer one.
+fn along(points: &Points, position: i32) -> u32
+    ensures is { points.now.at_lo ≤ℤ position → position ≤ℤ points.now.at_hi → position -ℤ points.now.at_lo ≡ pos result }
+    ensures within { pos result ≤ℤ (points.now.at_hi -ℤ points.now.at_lo) }
+    ensures below { position <ℤ points.now.at_lo → result ≡ 0 }
+    ensures above { points.now.at_hi <ℤ position → pos result ≡ (points.now.at_hi -ℤ points.now.at_lo) }
+{
+    let at_lo = points.at_lo();
+    let at_hi = points.at_hi();
+    if position < at_lo {
+        0
+    } else if position > at_hi {
+        distance(at_lo, at_hi)
+    } else {
+        distance(at_lo, position)
+    }
+}
+
+// How far a position is above another.
+fn distance(from: i32, to: i32) -> u32
+    requires rises { from ≤ℤ to }
+    requires low { pos 0 ≤ℤ (from +ℤ pos 100000) }
+    requires high { to ≤ℤ pos 100000 }
+    ensures { to -ℤ from ≡ pos result }
+{
+    (to - from) as u32
+}
+
+// The same part of a width as `along` is of a length, rounded down.
+fn part_of(along: u32, width: u16, length: u32) -> u16
+    requires some { 0 < length }
+    requires part { along ≤ length }
+    ensures value { result ≡ along * width / length }
+    ensures within { result ≤ width }
+{
+    (u64::from(along) * u64::from(width) / u64::from(length)) as u16
+}
