@@ -1,6 +1,6 @@
-ghost use Rattle.std.specs.Prelude.{◌≡◌, ◌↔◌, pos, ◌+ℤ◌, ◌-ℤ◌, ◌*ℤ◌, ◌≤ℤ◌, ◌<ℤ◌};
+ghost use Rattle.std.specs.Prelude.{◌≡◌, ◌↔◌, pos, ◌+ℤ◌, ◌-ℤ◌, ◌*ℤ◌, ◌≤ℤ◌, ◌<ℤ◌, ◌≤◌, IfSome};
 ghost use Rattle.cell_calib.specs.Line.{IsNear};
-ghost use Rattle.cell_devices.specs.Drives.{MovesLine};
+ghost use Rattle.cell_devices.specs.Drives.{MovesLine, DrivesTo, narrowest_half, coarsest_tol};
 
 use crate::motor::Motor;
 use crate::stops::Stop;
@@ -34,5 +34,17 @@ fn towards(above: i64, window: i64) -> Motor
         Motor::Minus
     } else {
         Motor::Off
+    }
+}
+
+/// Drives towards the stop that a step names, by a reading; off where it names none.
+pub fn drive_to(stop: Option<Stop>, tol: i32, read: i32) -> Motor
+    requires half { IfSome stop (λ s. narrowest_half ≤ s.half) }
+    requires coarsest { tol ≤ℤ coarsest_tol }
+    ensures { DrivesTo stop tol read result }
+{
+    match stop {
+        Some(stop) => drive(stop, tol, read),
+        None => Motor::Off,
     }
 }
