@@ -376,7 +376,7 @@ demands = record {
     press = (λ e. absurd (closed_in e), λ e. absurd (closed_out e));
     table = λ e. absurd (closed_in e);
     gripper = λ down. absurd down.lt;
-    belts = (none false_true false_true, none false_true false_true);
+    plates = (none false_true false_true, none false_true false_true);
   };
 }
 

@@ -24,7 +24,7 @@ use Rattle.cell_parts.specs.declared.belt.Belt.{Belt}
 use Rattle.cell_parts.specs.Plant.{TablePlant, RobotPlant, CranePlant, PlantState, plant_at_start, moved_belt, moved_table, moved_robot, moved_press, moved_crane, noted_by_feed, noted_by_deposit}
 use Rattle.cell_parts.specs.Shows.{IsPressBottom, IsPressMiddle, IsPressTop, IsTableBottom, IsTableTop, IsCraneAtDeposit, IsCraneAtFeed, IsInBarrier}
 use Rattle.cell_parts.specs.Collisions.{ArmHitsPress, TableHitsArm, DepositBeltPulls, FeedBeltPulls, CraneTravelsLow, RobotTurnsWithArmOut, PlateMissesTable, PlateFalls, DrivesPastEnd, NothingCollides}
-use Rattle.cell_parts.specs.Demands.{RestsAtLoading, Arm1Demands, Arm2Demands, PressStands, TableStands, GripperDemands, BeltDemands, PositionDemands}
+use Rattle.cell_parts.specs.PositionDemands.{RestsAtLoading, Arm1OutDemands, Arm2OutDemands, PressStands, TableStands, GripperDownDemands, EndPlatesStand, PositionDemands}
 
 -- the cell at the start: with no plate, and with one at a place
 abbrev pub empty_cell : PlantState
@@ -279,29 +279,29 @@ abbrev pub crane_over : ℕ → ℕ → PlantState
 crane_over travel gripper = record empty_cell { crane = crane_at (at travel) (at gripper) }
 
 pub record ArmDemandBounds : Type 0 where
-  pub arm1_in : Arm1Demands all_free (arm1_out 50 300)
-  pub arm1_at_no_zone : ¬ Arm1Demands all_free (arm1_out 51 300)
-  pub arm1_at_table_first : Arm1Demands (held_by Robot Z2 OpenOut) (arm1_out 51 200)
-  pub arm1_at_table_last : Arm1Demands (held_by Robot Z2 OpenOut) (arm1_out 51 400)
-  pub arm1_before_table : ¬ Arm1Demands (held_by Robot Z2 OpenOut) (arm1_out 51 199)
-  pub arm1_behind_table : ¬ Arm1Demands (held_by Robot Z2 OpenOut) (arm1_out 51 401)
-  pub arm1_at_table_of_table : ¬ Arm1Demands (held_by Table Z2 OpenOut) (arm1_out 51 300)
-  pub arm1_in_press_first : Arm1Demands (held_by Robot Z3 OpenIn) (arm1_out 51 1400)
-  pub arm1_in_press_last : Arm1Demands (held_by Robot Z3 OpenIn) (arm1_out 51 1600)
-  pub arm1_before_press : ¬ Arm1Demands (held_by Robot Z3 OpenIn) (arm1_out 51 1399)
-  pub arm1_behind_press : ¬ Arm1Demands (held_by Robot Z3 OpenIn) (arm1_out 51 1601)
-  pub arm1_in_press_that_gives : ¬ Arm1Demands (held_by Robot Z3 OpenOut) (arm1_out 51 1500)
-  pub arm2_in : Arm2Demands all_free (arm2_out 50 600)
-  pub arm2_at_no_zone : ¬ Arm2Demands all_free (arm2_out 51 600)
-  pub arm2_in_press_first : Arm2Demands (held_by Robot Z3 OpenOut) (arm2_out 51 500)
-  pub arm2_in_press_last : Arm2Demands (held_by Robot Z3 OpenOut) (arm2_out 51 700)
-  pub arm2_before_press : ¬ Arm2Demands (held_by Robot Z3 OpenOut) (arm2_out 51 499)
-  pub arm2_behind_press : ¬ Arm2Demands (held_by Robot Z3 OpenOut) (arm2_out 51 701)
-  pub arm2_in_press_that_takes : ¬ Arm2Demands (held_by Robot Z3 OpenIn) (arm2_out 51 600)
-  pub arm2_at_deposit_first : Arm2Demands (held_by Robot Z4 OpenIn) (arm2_out 51 1700)
-  pub arm2_at_deposit_last : Arm2Demands (held_by Robot Z4 OpenIn) (arm2_out 51 1900)
-  pub arm2_before_deposit : ¬ Arm2Demands (held_by Robot Z4 OpenIn) (arm2_out 51 1699)
-  pub arm2_behind_deposit : ¬ Arm2Demands (held_by Robot Z4 OpenIn) (arm2_out 51 1901)
+  pub arm1_in : Arm1OutDemands all_free (arm1_out 50 300)
+  pub arm1_at_no_zone : ¬ Arm1OutDemands all_free (arm1_out 51 300)
+  pub arm1_at_table_first : Arm1OutDemands (held_by Robot Z2 OpenOut) (arm1_out 51 200)
+  pub arm1_at_table_last : Arm1OutDemands (held_by Robot Z2 OpenOut) (arm1_out 51 400)
+  pub arm1_before_table : ¬ Arm1OutDemands (held_by Robot Z2 OpenOut) (arm1_out 51 199)
+  pub arm1_behind_table : ¬ Arm1OutDemands (held_by Robot Z2 OpenOut) (arm1_out 51 401)
+  pub arm1_at_table_of_table : ¬ Arm1OutDemands (held_by Table Z2 OpenOut) (arm1_out 51 300)
+  pub arm1_in_press_first : Arm1OutDemands (held_by Robot Z3 OpenIn) (arm1_out 51 1400)
+  pub arm1_in_press_last : Arm1OutDemands (held_by Robot Z3 OpenIn) (arm1_out 51 1600)
+  pub arm1_before_press : ¬ Arm1OutDemands (held_by Robot Z3 OpenIn) (arm1_out 51 1399)
+  pub arm1_behind_press : ¬ Arm1OutDemands (held_by Robot Z3 OpenIn) (arm1_out 51 1601)
+  pub arm1_in_press_that_gives : ¬ Arm1OutDemands (held_by Robot Z3 OpenOut) (arm1_out 51 1500)
+  pub arm2_in : Arm2OutDemands all_free (arm2_out 50 600)
+  pub arm2_at_no_zone : ¬ Arm2OutDemands all_free (arm2_out 51 600)
+  pub arm2_in_press_first : Arm2OutDemands (held_by Robot Z3 OpenOut) (arm2_out 51 500)
+  pub arm2_in_press_last : Arm2OutDemands (held_by Robot Z3 OpenOut) (arm2_out 51 700)
+  pub arm2_before_press : ¬ Arm2OutDemands (held_by Robot Z3 OpenOut) (arm2_out 51 499)
+  pub arm2_behind_press : ¬ Arm2OutDemands (held_by Robot Z3 OpenOut) (arm2_out 51 701)
+  pub arm2_in_press_that_takes : ¬ Arm2OutDemands (held_by Robot Z3 OpenIn) (arm2_out 51 600)
+  pub arm2_at_deposit_first : Arm2OutDemands (held_by Robot Z4 OpenIn) (arm2_out 51 1700)
+  pub arm2_at_deposit_last : Arm2OutDemands (held_by Robot Z4 OpenIn) (arm2_out 51 1900)
+  pub arm2_before_deposit : ¬ Arm2OutDemands (held_by Robot Z4 OpenIn) (arm2_out 51 1699)
+  pub arm2_behind_deposit : ¬ Arm2OutDemands (held_by Robot Z4 OpenIn) (arm2_out 51 1901)
 
 pub record DemandBounds : Type 0 where
   pub press_open_for_arm1 : PressStands (held_by Press Z3 OpenIn) (with_press (at 490))
@@ -315,20 +315,20 @@ pub record DemandBounds : Type 0 where
   pub table_open_too_high : ¬ TableStands (held_by Table Z1 OpenIn) (record empty_cell { table = table_at (at 11) (at 20) })
   pub table_open_turned_away : ¬ TableStands (held_by Table Z1 OpenIn) (record empty_cell { table = table_at (at 10) (at 21) })
   pub table_closed : TableStands all_free (record empty_cell { table = table_at (driven_at 300 Plus) (at 500) })
-  pub gripper_up : GripperDemands all_free (crane_over 1000 800)
-  pub gripper_down_at_no_zone : ¬ GripperDemands all_free (crane_over 0 799)
-  pub gripper_over_deposit : GripperDemands (held_by Crane Z5 OpenOut) (crane_over 200 799)
-  pub gripper_off_deposit : ¬ GripperDemands (held_by Crane Z5 OpenOut) (crane_over 201 799)
-  pub gripper_over_deposit_of_belt : ¬ GripperDemands (held_by Deposit Z5 OpenOut) (crane_over 200 799)
-  pub gripper_over_feed : GripperDemands (held_by Crane Z6 OpenIn) (crane_over 1800 799)
-  pub gripper_off_feed : ¬ GripperDemands (held_by Crane Z6 OpenIn) (crane_over 1799 799)
-  pub no_plates : BeltDemands all_free empty_cell
-  pub feed_plate : BeltDemands (start_state (insert_place empty place.FeedEnd) 0) (cell_with_plate_at place.FeedEnd)
-  pub feed_plate_missing : ¬ BeltDemands (start_state (insert_place empty place.FeedEnd) 0) empty_cell
-  pub feed_plate_untold : ¬ BeltDemands all_free (cell_with_plate_at place.FeedEnd)
-  pub deposit_plate : BeltDemands (start_state (insert_place empty place.DepEnd) 0) (cell_with_plate_at place.DepEnd)
-  pub deposit_plate_missing : ¬ BeltDemands (start_state (insert_place empty place.DepEnd) 0) empty_cell
-  pub deposit_plate_untold : ¬ BeltDemands all_free (cell_with_plate_at place.DepEnd)
+  pub gripper_up : GripperDownDemands all_free (crane_over 1000 800)
+  pub gripper_down_at_no_zone : ¬ GripperDownDemands all_free (crane_over 0 799)
+  pub gripper_over_deposit : GripperDownDemands (held_by Crane Z5 OpenOut) (crane_over 200 799)
+  pub gripper_off_deposit : ¬ GripperDownDemands (held_by Crane Z5 OpenOut) (crane_over 201 799)
+  pub gripper_over_deposit_of_belt : ¬ GripperDownDemands (held_by Deposit Z5 OpenOut) (crane_over 200 799)
+  pub gripper_over_feed : GripperDownDemands (held_by Crane Z6 OpenIn) (crane_over 1800 799)
+  pub gripper_off_feed : ¬ GripperDownDemands (held_by Crane Z6 OpenIn) (crane_over 1799 799)
+  pub no_plates : EndPlatesStand all_free empty_cell
+  pub feed_plate : EndPlatesStand (start_state (insert_place empty place.FeedEnd) 0) (cell_with_plate_at place.FeedEnd)
+  pub feed_plate_missing : ¬ EndPlatesStand (start_state (insert_place empty place.FeedEnd) 0) empty_cell
+  pub feed_plate_untold : ¬ EndPlatesStand all_free (cell_with_plate_at place.FeedEnd)
+  pub deposit_plate : EndPlatesStand (start_state (insert_place empty place.DepEnd) 0) (cell_with_plate_at place.DepEnd)
+  pub deposit_plate_missing : ¬ EndPlatesStand (start_state (insert_place empty place.DepEnd) 0) empty_cell
+  pub deposit_plate_untold : ¬ EndPlatesStand all_free (cell_with_plate_at place.DepEnd)
   pub at_start : PositionDemands all_free empty_cell
 
 -- ---- what moves: 20 a tick, to the end at most

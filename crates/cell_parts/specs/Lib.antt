@@ -1,6 +1,10 @@
+pub mod AtWork
 pub mod Axes
 pub mod Collisions
-pub mod Demands
 pub mod Examples
+pub mod Laws
+pub mod MotorDemands
 pub mod Plant
+pub mod PositionDemands
+pub mod Rigs
 pub mod Shows

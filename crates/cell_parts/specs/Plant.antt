@@ -97,6 +97,12 @@ set_axis a motor = record { position = a.position; motor = motor }
 abbrev pub set_belt : Belt → Bool → Belt
 set_belt b runs = record { entry = b.entry; last = b.last; runs = runs }
 
+abbrev pub set_feed : Belt → FeedAct → Belt
+set_feed b act = set_belt b act.belt
+
+abbrev pub set_deposit : Belt → DepositAct → Belt
+set_deposit b act = set_belt b act.belt
+
 abbrev pub set_table : TablePlant → TableAct → TablePlant
 set_table t act = record { lift = set_axis t.lift act.height; turn = set_axis t.turn act.rotation }
 
@@ -142,25 +148,6 @@ moved_press a = moved_axis press_end a
 
 abbrev pub moved_crane : CranePlant → CranePlant
 moved_crane c = record c { travel = moved_axis crane_end c.travel; gripper = moved_axis gripper_end c.gripper }
-
--- A tick: a part is set, and moves.
-abbrev pub table_tick : TablePlant → TableAct → TablePlant
-table_tick t act = moved_table (set_table t act)
-
-abbrev pub press_tick : Axis → PressAct → Axis
-press_tick a act = moved_press (set_press a act)
-
-abbrev pub robot_tick : RobotPlant → RobotAct → RobotPlant
-robot_tick r act = moved_robot (set_robot r act)
-
-abbrev pub crane_tick : CranePlant → CraneAct → CranePlant
-crane_tick c act = moved_crane (set_crane c act)
-
-abbrev pub feed_tick : Belt → FeedAct → Belt
-feed_tick b act = moved_belt (set_belt b act.belt)
-
-abbrev pub deposit_tick : Belt → DepositAct → Belt
-deposit_tick b act = moved_belt (set_belt b act.belt)
 
 -- What a belt notes of a Done call of its own machine: by a take a plate comes on at its entry, by an advance that plate
 -- counts as the one at the end without being moved, by a give that one is gone.

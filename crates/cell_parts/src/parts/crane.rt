@@ -1,11 +1,11 @@
 ghost use Rattle.std.specs.Prelude.{◌≡◌};
 ghost use Rattle.cell_parts.specs.Axes.{IsWithin, crane_end, gripper_end};
-ghost use Rattle.cell_parts.specs.Plant.{crane_at_start, crane_tick};
-ghost use Rattle.cell_parts.specs.Shows.{CraneShows};
+ghost use Rattle.cell_parts.specs.Plant.{crane_at_start};
 
 use crate::axis::Axis;
 use crate::potentiometer::raw_at;
 use cell_calib::{CraneSense, Points};
+use cell_control::Part;
 use cell_devices::CraneAct;
 use cell_rules::State;
 use cell_types::{Event, Place};
@@ -80,11 +80,28 @@ impl CranePart {
     {
         self.gripper.position
     }
+}
 
-    /// What its switches and its potentiometer show.
-    pub fn sensors(&self) -> CraneSense
-        ensures { CraneShows self.now.scale self.now.plant result }
-    {
+impl Part for CranePart {
+    ghost use Rattle.cell_calib.specs.Scale.{Scale};
+    ghost use Rattle.cell_parts.specs.Plant.{CranePlant};
+    ghost use Rattle.cell_parts.specs.Rigs.{crane_rig};
+
+    type Sense = CraneSense;
+
+    type Act = CraneAct;
+
+    ghost State = { CranePlant };
+
+    ghost Make = { Scale };
+
+    ghost rig = { crane_rig };
+
+    ghost make = { λ p. p.scale };
+
+    ghost state = { λ p. p.plant };
+
+    fn sensors(&self) -> CraneSense {
         let travel = self.travel.position;
         CraneSense {
             deposit: travel <= CRANE_DEPOSIT_TO,
@@ -93,16 +110,9 @@ impl CranePart {
         }
     }
 
-    /// The crane has nothing to note of an event.
-    pub fn note(&mut self, _event: &Event)
-        ensures { self.new ≡ self.old }
-    {}
+    fn note(&mut self, _event: &Event) {}
 
-    /// Its motors and its magnet are told so, and it moves for a tick.
-    pub fn tick(&mut self, act: &CraneAct)
-        ensures plant { self.new.plant ≡ crane_tick self.old.plant act.now }
-        ensures scale { self.new.scale ≡ self.old.scale }
-    {
+    fn tick(&mut self, act: &CraneAct) {
         self.travel = self.travel.set(act.travel).moved(CRANE_END);
         self.gripper = self.gripper.set(act.height).moved(GRIPPER_END);
         self.magnet = act.magnet;

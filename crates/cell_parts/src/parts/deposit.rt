@@ -1,9 +1,9 @@
 ghost use Rattle.std.specs.Prelude.{◌≡◌};
-ghost use Rattle.cell_parts.specs.Plant.{deposit_at_start, deposit_tick, noted_by_deposit, deposit_called};
-ghost use Rattle.cell_parts.specs.Shows.{DepositShows};
+ghost use Rattle.cell_parts.specs.Plant.{deposit_at_start, deposit_called};
 
 use crate::belt::Belt;
 use cell_calib::DepositSense;
+use cell_control::Part;
 use cell_devices::DepositAct;
 use cell_rules::State;
 use cell_types::{Answer, Call, Event, Machine, Zone};
@@ -24,29 +24,40 @@ impl DepositPart {
             belt: Belt::deposit(state),
         }
     }
+}
 
-    /// What its light barrier shows.
-    pub fn sensors(&self) -> DepositSense
-        ensures { DepositShows self.now.belt result }
-    {
+impl Part for DepositPart {
+    ghost use Rattle.cell_parts.specs.declared.belt.Belt.{Belt};
+    ghost use Rattle.cell_parts.specs.Rigs.{deposit_rig};
+
+    type Sense = DepositSense;
+
+    type Act = DepositAct;
+
+    ghost State = { Belt };
+
+    ghost Make = { Unit {0} };
+
+    ghost rig = { λ _. deposit_rig };
+
+    ghost make = { λ _. tt };
+
+    ghost state = { λ p. p.belt };
+
+    fn sensors(&self) -> DepositSense {
         DepositSense {
             barrier: self.belt.is_seen(),
         }
     }
 
-    /// Notes a call of its own that was done: a plate that it took, moved on or gave.
-    pub fn note(&mut self, event: &Event)
-        ensures { self.new.belt ≡ noted_by_deposit self.old.belt event.now }
-    {
+    // It notes a call of its own that was done: a plate that it took, moved on or gave.
+    fn note(&mut self, event: &Event) {
         if event.answer == Answer::Done && event.machine == Machine::Deposit {
             self.belt = called(self.belt, event.call);
         }
     }
 
-    /// It is told to run or to stand, and moves for a tick.
-    pub fn tick(&mut self, act: &DepositAct)
-        ensures { self.new.belt ≡ deposit_tick self.old.belt act.now }
-    {
+    fn tick(&mut self, act: &DepositAct) {
         self.belt = self.belt.set(act.belt).moved();
     }
 }

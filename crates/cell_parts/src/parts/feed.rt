@@ -1,9 +1,9 @@
 ghost use Rattle.std.specs.Prelude.{◌≡◌};
-ghost use Rattle.cell_parts.specs.Plant.{feed_at_start, feed_tick, noted_by_feed, feed_called};
-ghost use Rattle.cell_parts.specs.Shows.{FeedShows};
+ghost use Rattle.cell_parts.specs.Plant.{feed_at_start, feed_called};
 
 use crate::belt::Belt;
 use cell_calib::FeedSense;
+use cell_control::Part;
 use cell_devices::FeedAct;
 use cell_rules::State;
 use cell_types::{Answer, Call, Event, Machine, Zone};
@@ -24,29 +24,40 @@ impl FeedPart {
             belt: Belt::feed(state),
         }
     }
+}
 
-    /// What its light barrier shows.
-    pub fn sensors(&self) -> FeedSense
-        ensures { FeedShows self.now.belt result }
-    {
+impl Part for FeedPart {
+    ghost use Rattle.cell_parts.specs.declared.belt.Belt.{Belt};
+    ghost use Rattle.cell_parts.specs.Rigs.{feed_rig};
+
+    type Sense = FeedSense;
+
+    type Act = FeedAct;
+
+    ghost State = { Belt };
+
+    ghost Make = { Unit {0} };
+
+    ghost rig = { λ _. feed_rig };
+
+    ghost make = { λ _. tt };
+
+    ghost state = { λ p. p.belt };
+
+    fn sensors(&self) -> FeedSense {
         FeedSense {
             barrier: self.belt.is_seen(),
         }
     }
 
-    /// Notes a call of its own that was done: a plate that it took, moved on or gave.
-    pub fn note(&mut self, event: &Event)
-        ensures { self.new.belt ≡ noted_by_feed self.old.belt event.now }
-    {
+    // It notes a call of its own that was done: a plate that it took, moved on or gave.
+    fn note(&mut self, event: &Event) {
         if event.answer == Answer::Done && event.machine == Machine::Feed {
             self.belt = called(self.belt, event.call);
         }
     }
 
-    /// It is told to run or to stand, and moves for a tick.
-    pub fn tick(&mut self, act: &FeedAct)
-        ensures { self.new.belt ≡ feed_tick self.old.belt act.now }
-    {
+    fn tick(&mut self, act: &FeedAct) {
         self.belt = self.belt.set(act.belt).moved();
     }
 }

@@ -1,10 +1,10 @@
 ghost use Rattle.std.specs.Prelude.{◌≡◌};
 ghost use Rattle.cell_parts.specs.Axes.{IsWithin, press_end};
-ghost use Rattle.cell_parts.specs.Plant.{press_at_start, press_tick};
-ghost use Rattle.cell_parts.specs.Shows.{PressShows};
+ghost use Rattle.cell_parts.specs.Plant.{press_at_start};
 
 use crate::axis::Axis;
 use cell_calib::PressSense;
+use cell_control::Part;
 use cell_devices::PressAct;
 use cell_types::Event;
 use std::marker::Model;
@@ -60,11 +60,27 @@ impl PressPart {
     {
         self.axis.position
     }
+}
 
-    /// What its switches show.
-    pub fn sensors(&self) -> PressSense
-        ensures { PressShows self.now result }
-    {
+impl Part for PressPart {
+    ghost use Rattle.cell_parts.specs.declared.axis.Axis.{Axis};
+    ghost use Rattle.cell_parts.specs.Rigs.{press_rig};
+
+    type Sense = PressSense;
+
+    type Act = PressAct;
+
+    ghost State = { Axis };
+
+    ghost Make = { Unit {0} };
+
+    ghost rig = { λ _. press_rig };
+
+    ghost make = { λ _. tt };
+
+    ghost state = { λ p. p };
+
+    fn sensors(&self) -> PressSense {
         let position = self.axis.position;
         PressSense {
             bottom: position <= PRESS_BOTTOM_TO,
@@ -73,15 +89,9 @@ impl PressPart {
         }
     }
 
-    /// The press has nothing to note of an event.
-    pub fn note(&mut self, _event: &Event)
-        ensures { self.new ≡ self.old }
-    {}
+    fn note(&mut self, _event: &Event) {}
 
-    /// Its motor is told so, and it moves for a tick.
-    pub fn tick(&mut self, act: &PressAct)
-        ensures { self.new ≡ press_tick self.old act.now }
-    {
+    fn tick(&mut self, act: &PressAct) {
         self.axis = self.axis.set(act.press).moved(PRESS_END);
     }
 }

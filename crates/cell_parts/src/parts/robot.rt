@@ -1,11 +1,11 @@
 ghost use Rattle.std.specs.Prelude.{◌≡◌};
 ghost use Rattle.cell_parts.specs.Axes.{IsWithin, arm_end, rotation_end};
-ghost use Rattle.cell_parts.specs.Plant.{robot_at_start, robot_tick};
-ghost use Rattle.cell_parts.specs.Shows.{RobotShows};
+ghost use Rattle.cell_parts.specs.Plant.{robot_at_start};
 
 use crate::axis::Axis;
 use crate::potentiometer::raw_at;
 use cell_calib::{Points, RobotSense};
+use cell_control::Part;
 use cell_devices::RobotAct;
 use cell_rules::State;
 use cell_types::{Event, Place};
@@ -106,11 +106,28 @@ impl RobotPart {
     {
         self.rotation.position
     }
+}
 
-    /// What its potentiometers show.
-    pub fn sensors(&self) -> RobotSense
-        ensures { RobotShows self.now.scale self.now.plant result }
-    {
+impl Part for RobotPart {
+    ghost use Rattle.cell_parts.specs.Axes.{RobotScales};
+    ghost use Rattle.cell_parts.specs.Plant.{RobotPlant};
+    ghost use Rattle.cell_parts.specs.Rigs.{robot_rig};
+
+    type Sense = RobotSense;
+
+    type Act = RobotAct;
+
+    ghost State = { RobotPlant };
+
+    ghost Make = { RobotScales };
+
+    ghost rig = { robot_rig };
+
+    ghost make = { λ p. p.scale };
+
+    ghost state = { λ p. p.plant };
+
+    fn sensors(&self) -> RobotSense {
         RobotSense {
             arm1: raw_at(&self.points.arm1, self.arm1.position),
             arm2: raw_at(&self.points.arm2, self.arm2.position),
@@ -118,16 +135,9 @@ impl RobotPart {
         }
     }
 
-    /// The robot has nothing to note of an event.
-    pub fn note(&mut self, _event: &Event)
-        ensures { self.new ≡ self.old }
-    {}
+    fn note(&mut self, _event: &Event) {}
 
-    /// Its motors and magnets are told so, and it moves for a tick.
-    pub fn tick(&mut self, act: &RobotAct)
-        ensures plant { self.new.plant ≡ robot_tick self.old.plant act.now }
-        ensures scale { self.new.scale ≡ self.old.scale }
-    {
+    fn tick(&mut self, act: &RobotAct) {
         self.arm1 = self.arm1.set(act.arm1).moved(ARM_END);
         self.arm2 = self.arm2.set(act.arm2).moved(ARM_END);
         self.rotation = self.rotation.set(act.rotation).moved(ROTATION_END);

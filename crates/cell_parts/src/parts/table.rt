@@ -1,11 +1,11 @@
 ghost use Rattle.std.specs.Prelude.{◌≡◌};
 ghost use Rattle.cell_parts.specs.Axes.{IsWithin, lift_end, turn_end};
-ghost use Rattle.cell_parts.specs.Plant.{table_at_start, table_tick};
-ghost use Rattle.cell_parts.specs.Shows.{TableShows};
+ghost use Rattle.cell_parts.specs.Plant.{table_at_start};
 
 use crate::axis::Axis;
 use crate::potentiometer::raw_at;
 use cell_calib::{Points, TableSense};
+use cell_control::Part;
 use cell_devices::TableAct;
 use cell_types::Event;
 use std::marker::Model;
@@ -74,11 +74,28 @@ impl TablePart {
     {
         self.turn.position
     }
+}
 
-    /// What its switches and its potentiometer show.
-    pub fn sensors(&self) -> TableSense
-        ensures { TableShows self.now.scale self.now.plant result }
-    {
+impl Part for TablePart {
+    ghost use Rattle.cell_calib.specs.Scale.{Scale};
+    ghost use Rattle.cell_parts.specs.Plant.{TablePlant};
+    ghost use Rattle.cell_parts.specs.Rigs.{table_rig};
+
+    type Sense = TableSense;
+
+    type Act = TableAct;
+
+    ghost State = { TablePlant };
+
+    ghost Make = { Scale };
+
+    ghost rig = { table_rig };
+
+    ghost make = { λ p. p.scale };
+
+    ghost state = { λ p. p.plant };
+
+    fn sensors(&self) -> TableSense {
         let height = self.lift.position;
         TableSense {
             bottom: height <= TABLE_BOTTOM_TO,
@@ -87,16 +104,9 @@ impl TablePart {
         }
     }
 
-    /// The table has nothing to note of an event.
-    pub fn note(&mut self, _event: &Event)
-        ensures { self.new ≡ self.old }
-    {}
+    fn note(&mut self, _event: &Event) {}
 
-    /// Its motors are told so, and it moves for a tick.
-    pub fn tick(&mut self, act: &TableAct)
-        ensures plant { self.new.plant ≡ table_tick self.old.plant act.now }
-        ensures scale { self.new.scale ≡ self.old.scale }
-    {
+    fn tick(&mut self, act: &TableAct) {
         self.lift = self.lift.set(act.height).moved(LIFT_END);
         self.turn = self.turn.set(act.rotation).moved(TURN_END);
     }

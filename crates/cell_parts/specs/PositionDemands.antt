@@ -14,9 +14,29 @@ use Rattle.cell_parts.specs.Plant.{TablePlant, PlantState}
 use Rattle.cell_parts.specs.Shows.{IsTableBottom}
 use Rattle.cell_parts.specs.Collisions.{IsOut, IsArm1AtTable, IsArm2InPress, IsArm1InPress, IsArm2AtDeposit, IsGripperDown, IsOverDeposit, IsOverFeed, RestsAtMiddle, RestsAtBottom, loads_to}
 
--- a machine holds a zone, which has this posture
-abbrev pub HoldsOpen : ModelState → Machine → Zone → Posture → Type 0
-HoldsOpen s m z q = (owns s m z ≡ true) × (posture_at s z ≡ q)
+-- a machine has a zone, in this posture
+abbrev pub HoldsIn : Posture → ModelState → Machine → Zone → Type 0
+HoldsIn q s m z = (owns s m z ≡ true) × (posture_at s z ≡ q)
+
+-- where an arm may be: over the table, in the press or over the deposit belt, while the robot has that zone, open for it
+abbrev pub Arm1HasTable : ModelState → PlantState → Type 0
+Arm1HasTable s p = IsArm1AtTable p.robot × HoldsIn OpenOut s Robot Z2
+
+abbrev pub Arm1HasPress : ModelState → PlantState → Type 0
+Arm1HasPress s p = IsArm1InPress p.robot × HoldsIn OpenIn s Robot Z3
+
+abbrev pub Arm2HasPress : ModelState → PlantState → Type 0
+Arm2HasPress s p = IsArm2InPress p.robot × HoldsIn OpenOut s Robot Z3
+
+abbrev pub Arm2HasDeposit : ModelState → PlantState → Type 0
+Arm2HasDeposit s p = IsArm2AtDeposit p.robot × HoldsIn OpenIn s Robot Z4
+
+-- the belt's zone that the crane has while its gripper works there, open for it
+abbrev pub CraneHasDeposit : ModelState → Type 0
+CraneHasDeposit s = HoldsIn OpenOut s Crane Z5
+
+abbrev pub CraneHasFeed : ModelState → Type 0
+CraneHasFeed s = HoldsIn OpenIn s Crane Z6
 
 -- the table stands ready to load: its motors are off, it is at the bottom, and turned towards the feed belt
 pub record RestsAtLoading (t : TablePlant) : Type 0 where
@@ -25,12 +45,12 @@ pub record RestsAtLoading (t : TablePlant) : Type 0 where
   pub bottom : IsTableBottom t.lift.position
   pub turned : t.turn.position ≤ℤ loads_to
 
--- an arm that is out is over the table or in the press, over the press or the deposit belt, and the robot holds that zone, open for it
-abbrev pub Arm1Demands : ModelState → PlantState → Type 0
-Arm1Demands s p = IsOut p.robot.arm1 → (IsArm1AtTable p.robot × HoldsOpen s Robot Z2 OpenOut) ⊎ (IsArm1InPress p.robot × HoldsOpen s Robot Z3 OpenIn)
+-- an arm is out only where it may be
+abbrev pub Arm1OutDemands : ModelState → PlantState → Type 0
+Arm1OutDemands s p = IsOut p.robot.arm1 → Arm1HasTable s p ⊎ Arm1HasPress s p
 
-abbrev pub Arm2Demands : ModelState → PlantState → Type 0
-Arm2Demands s p = IsOut p.robot.arm2 → (IsArm2InPress p.robot × HoldsOpen s Robot Z3 OpenOut) ⊎ (IsArm2AtDeposit p.robot × HoldsOpen s Robot Z4 OpenIn)
+abbrev pub Arm2OutDemands : ModelState → PlantState → Type 0
+Arm2OutDemands s p = IsOut p.robot.arm2 → Arm2HasPress s p ⊎ Arm2HasDeposit s p
 
 -- an open press rests where its posture says
 abbrev pub PressStands : ModelState → PlantState → Type 0
@@ -40,18 +60,18 @@ PressStands s p = (posture_at s Z3 ≡ OpenIn → RestsAtMiddle p.press) × (pos
 abbrev pub TableStands : ModelState → PlantState → Type 0
 TableStands s p = posture_at s Z1 ≡ OpenIn → RestsAtLoading p.table
 
--- a gripper that is down is over one of the belts, and the crane holds that zone, open for it
-abbrev pub GripperDemands : ModelState → PlantState → Type 0
-GripperDemands s p = IsGripperDown p.crane → (IsOverDeposit p.crane × HoldsOpen s Crane Z5 OpenOut) ⊎ (IsOverFeed p.crane × HoldsOpen s Crane Z6 OpenIn)
+-- a gripper that is down is over one of the belts, and the crane has that zone
+abbrev pub GripperDownDemands : ModelState → PlantState → Type 0
+GripperDownDemands s p = IsGripperDown p.crane → (IsOverDeposit p.crane × CraneHasDeposit s) ⊎ (IsOverFeed p.crane × CraneHasFeed s)
 
 -- a plate stands at a belt's end just where that place is full
-abbrev pub BeltDemands : ModelState → PlantState → Type 0
-BeltDemands s p = (IsSome p.feed.last ↔ IsTrue (is_full s FeedEnd)) × (IsSome p.deposit.last ↔ IsTrue (is_full s DepEnd))
+abbrev pub EndPlatesStand : ModelState → PlantState → Type 0
+EndPlatesStand s p = (IsSome p.feed.last ↔ IsTrue (is_full s FeedEnd)) × (IsSome p.deposit.last ↔ IsTrue (is_full s DepEnd))
 
 pub record PositionDemands (s : ModelState) (p : PlantState) : Type 0 where
-  pub arm1 : Arm1Demands s p
-  pub arm2 : Arm2Demands s p
+  pub arm1 : Arm1OutDemands s p
+  pub arm2 : Arm2OutDemands s p
   pub press : PressStands s p
   pub table : TableStands s p
-  pub gripper : GripperDemands s p
-  pub belts : BeltDemands s p
+  pub gripper : GripperDownDemands s p
+  pub plates : EndPlatesStand s p

@@ -1,5 +1,5 @@
 use Rattle.std.proofs.Common.{rules}
-use Rattle.cell_parts.proofs.parts.crane.CranePart.sensors.Goals as goal
+use Rattle.cell_parts.proofs.parts.crane.CranePartPart.sensors.Goals as goal
 
 pub returns : goal.returns
 returns c = record { deposit = search rules; feed = search rules; raw = search rules }

@@ -1,0 +1,5 @@
+use Rattle.cell_parts.proofs.NoCollision.{keep_apart}
+use Rattle.cell_parts.proofs.laws.machines_keep_apart.Goals as goal
+
+pub returns : goal.returns
+returns c = keep_apart

@@ -1,0 +1,55 @@
+-- Two states in which all demands are met while much is driven at once.
+use Rattle.std.specs.Prelude.{true, false, Some, None}
+use Rattle.cell_types.specs.declared.machine.Machine.{Machine}
+use Rattle.cell_types.specs.declared.machine.Machine.TheVariants.{Feed, Table, Robot, Deposit, Crane, Press}
+use Rattle.cell_types.specs.declared.posture.Posture.{Posture}
+use Rattle.cell_types.specs.declared.posture.Posture.TheVariants.{Closed, Moving, OpenIn, OpenOut}
+use Rattle.cell_types.specs.declared.place.Place.TheVariants as place
+use Rattle.cell_devices.specs.declared.motor.Motor.TheVariants.{Plus, Minus}
+use Rattle.cell_rules.specs.declared.zones.ZoneState.{ZoneState}
+use Rattle.cell_rules.specs.PlaceSet.{empty, insert_place}
+use Rattle.cell_rules.specs.ZoneMap.{zone_map}
+use Rattle.cell_rules.specs.ModelState.{ModelState, model_state}
+use Rattle.cell_parts.specs.Plant.{PlantState}
+use Rattle.cell_parts.specs.MotorDemands.{ForTravel, AtDeposit}
+use Rattle.cell_parts.specs.Laws.{AllDemandsMet}
+use Rattle.cell_parts.specs.Examples.{at, driven_at, robot_at, table_at, crane_at, belt_with}
+
+abbrev pub zone_of : Machine → Posture → ZoneState
+zone_of m q = record { owner = Some m; flag = false; posture = q }
+
+-- each zone moves, held by its host
+abbrev pub all_moving : ModelState
+all_moving = model_state (zone_map (zone_of Table Moving) (zone_of Table Moving) (zone_of Press Moving) (zone_of Deposit Moving) (zone_of Deposit Moving) (zone_of Feed Moving)) empty 0
+
+-- both belts run, table and press move, the robot turns, and the crane travels and sets its height for travel
+abbrev pub all_driven : PlantState
+all_driven = record {
+  feed = belt_with None true;
+  table = table_at (driven_at 300 Plus) (driven_at 250 Minus);
+  robot = robot_at (at 0) (at 0) (driven_at 1000 Plus);
+  press = driven_at 300 Minus;
+  deposit = belt_with None true;
+  crane = crane_at (driven_at 1000 Plus) (driven_at 900 Plus);
+}
+
+-- z1 is open for a plate of feed, z3 for the second arm and z5 for the crane, and each of these holds it
+abbrev pub guests_inside : ModelState
+guests_inside =
+    model_state (zone_map (zone_of Feed OpenIn) (zone_of Table Closed) (zone_of Robot OpenOut) (zone_of Deposit Closed) (zone_of Crane OpenOut) (zone_of Feed Moving))
+    (insert_place (insert_place empty place.FeedEnd) place.DepEnd) 0
+
+-- the feed belt runs with a plate at its end, the second arm goes into the press and the gripper down to the deposit belt
+abbrev pub guests_driven : PlantState
+guests_driven = record {
+  feed = belt_with (Some 950) true;
+  table = table_at (at 0) (at 0);
+  robot = robot_at (at 0) (driven_at 300 Plus) (at 600);
+  press = at 0;
+  deposit = belt_with (Some 1000) false;
+  crane = crane_at (at 0) (driven_at 300 Minus);
+}
+
+pub record DemandsCanBeMet : Type 0 where
+  pub all_move : AllDemandsMet ForTravel all_moving all_driven
+  pub guests_move : AllDemandsMet AtDeposit guests_inside guests_driven

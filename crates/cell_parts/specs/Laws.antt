@@ -1,0 +1,36 @@
+-- Laws over one state of interlock and plant, wherever it came from.
+use Rattle.std.specs.Prelude.{◌≡◌, IsTrue}
+use Rattle.cell_types.specs.declared.machine.Machine.{Machine}
+use Rattle.cell_types.specs.declared.zone.Zone.{Zone}
+use Rattle.cell_types.specs.Tables.{host_of}
+use Rattle.cell_rules.specs.ModelState.{ModelState}
+use Rattle.cell_rules.specs.Sound.{IsSound, is_open}
+use Rattle.cell_rules.specs.Refusals.{owns, posture_at}
+use Rattle.cell_rules.specs.Laws.{RunsClear}
+use Rattle.cell_parts.specs.Plant.{PlantState}
+use Rattle.cell_parts.specs.Collisions.{NothingCollides}
+use Rattle.cell_parts.specs.PositionDemands.{EndPlatesStand, PositionDemands}
+use Rattle.cell_parts.specs.MotorDemands.{GripperErrand, MotorDemands, TravelsHigh, RotatesRetracted, DrivesIn, Rests}
+
+-- the interlock is sound and its belts run clear, positions and motors have what they demand, the crane travels high and the robot rotates with its arms in
+pub record AllDemandsMet (errand : GripperErrand) (s : ModelState) (p : PlantState) : Type 0 where
+  pub sound : IsSound s
+  pub clear : RunsClear s
+  pub positions : PositionDemands s p
+  pub motors : MotorDemands errand s p
+  pub travel : TravelsHigh p.crane
+  pub rotation : RotatesRetracted p.robot
+
+-- nothing collides where all demands are met
+abbrev pub DemandsPreventCollisions : Type 0
+DemandsPreventCollisions = (errand : GripperErrand) (s : ModelState) (p : PlantState) → AllDemandsMet errand s p → NothingCollides p
+
+-- a machine rests while a zone of its own is open, who drives in a zone has it, and so two machines never drive in one zone
+pub record KeepApart (errand : GripperErrand) (s : ModelState) (p : PlantState) : Type 0 where
+  pub host_rests : (z : Zone) → IsTrue (is_open (posture_at s z)) → Rests p (host_of z)
+  pub driver_holds : (m : Machine) (z : Zone) → DrivesIn errand p m z → IsTrue (owns s m z)
+  pub one_drives : (m n : Machine) (z : Zone) → DrivesIn errand p m z → DrivesIn errand p n z → m ≡ n
+
+-- machines keep apart where motors have what they demand, and plates stand at the belts' ends where those are full
+abbrev pub MotorDemandsKeepApart : Type 0
+MotorDemandsKeepApart = (errand : GripperErrand) (s : ModelState) (p : PlantState) → EndPlatesStand s p → MotorDemands errand s p → KeepApart errand s p
