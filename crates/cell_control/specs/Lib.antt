@@ -1,5 +1,6 @@
 pub mod Demands
 pub mod Faults
 pub mod Rigs
+pub mod Rows
 pub mod Steps
 pub mod Turns

@@ -68,3 +68,7 @@ program_of t = record { machine = t.machine; call = t.call; leads = λ p a q. af
 -- the machine has come so far by its events in a history
 abbrev pub IsReached : {S Sense Reading Act : Type 0} → Steps S Sense Reading Act → ModelState → List Event → S → Type 0
 IsReached t opening seen p = Reached (program_of t) (t.start opening) (own_events seen t.machine) p
+
+-- the same program, by sensors of which something else is known
+abbrev pub with_senses : {S Sense Reading Act : Type 0} → Steps S Sense Reading Act → (Sense → Result Reading SensorFault → Type 0) → Steps S Sense Reading Act
+with_senses t senses = record t { senses = senses }

@@ -1,0 +1,47 @@
+-- Rows of a program, to be stated with literal steps, calls, refusals, readings and notes: a table that has other rows is refused.
+use Rattle.std.specs.Prelude.{◌≡◌, Bool, true, false, ◌||◌, List, [], ◌∷◌, Option, Some, None}
+use Rattle.cell_types.specs.declared.machine.Machine.{Machine}
+use Rattle.cell_types.specs.declared.zone.Zone.{Zone}
+use Rattle.cell_types.specs.declared.posture.Posture.{Posture}
+use Rattle.cell_types.specs.declared.call.Call.{Call}
+use Rattle.cell_types.specs.declared.call.Call.TheVariants.{Inquire}
+use Rattle.cell_types.specs.declared.answer.Refusal.{Refusal}
+use Rattle.cell_types.specs.declared.answer.Refusal.TheVariants.{Held, NotOwner, PlaceFull, Shut}
+use Rattle.cell_control.specs.Steps.{Steps}
+
+-- what a step may wait for, by the refusal on which it stays
+pub data Wait : Type 0 where
+  UntilFree : Wait
+  UntilOwner : Wait
+  UntilRoom : Wait
+  UntilOpen : Wait
+
+abbrev pub is_waited_out : Wait → Refusal → Bool
+is_waited_out UntilFree (Held _) = true
+is_waited_out UntilOwner (NotOwner _) = true
+is_waited_out UntilRoom PlaceFull = true
+is_waited_out UntilOpen (Shut _) = true
+is_waited_out _ _ = false
+
+abbrev pub stays_by : List Wait → Refusal → Bool
+stays_by [] r = false
+stays_by (w ∷ ws) r = is_waited_out w r || stays_by ws r
+
+-- a step asks this, stays on these refusals and on no other, and leads there once the call is done
+pub record AskRow {S Sense Reading Act : Type 0} (t : Steps S Sense Reading Act) (p : S) (call : Call) (waits : List Wait) (next : S) : Type 0 where
+  pub asks : t.call p ≡ Some call
+  pub stays : (r : Refusal) → t.stays_on p r ≡ stays_by waits r
+  pub leads : t.after_done p ≡ next
+
+-- a step inquires a zone, stays on no refusal, and leads on by the zone's owner, its flag and its posture
+pub record InquiryRow {S Sense Reading Act : Type 0} (t : Steps S Sense Reading Act) (p : S) (zone : Zone) (next : Option Machine → Bool → Posture → S) : Type 0 where
+  pub asks : t.call p ≡ Some (Inquire zone)
+  pub stays : (r : Refusal) → t.stays_on p r ≡ false
+  pub leads : (owner : Option Machine) (flag : Bool) (posture : Posture) → t.after_inquiry p owner flag posture ≡ next owner flag posture
+
+-- a step asks nothing; by this reading it tells the actuators this and nothing else, and leads there
+pub record DriveRow {S Sense Reading Act : Type 0} (t : Steps S Sense Reading Act) (p : S) (reading : Reading) (act : Act) (next : S) : Type 0 where
+  pub asks_nothing : t.call p ≡ None
+  pub drives : t.drives p reading act
+  pub drives_only : (other : Act) → t.drives p reading other → other ≡ act
+  pub leads : t.after_drive p reading act ≡ next
