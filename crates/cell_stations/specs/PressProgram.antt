@@ -1,5 +1,5 @@
 -- The press's program, row by row.
-use Rattle.std.specs.Prelude.{◌≡◌, Bool, true, false, ◌&&◌, ◌||◌, if◌then◌else◌, Option, Some, None, Result, Ok, Err}
+use Rattle.std.specs.Prelude.{◌≡◌, ◌≢◌, Bool, true, false, ◌&&◌, ◌||◌, if◌then◌else◌, List, Option, Some, None, Result, Ok, Err}
 use Rattle.cell_types.specs.declared.machine.Machine.TheVariants.{Press}
 use Rattle.cell_types.specs.declared.zone.Zone.TheVariants.{Z3}
 use Rattle.cell_types.specs.declared.place.Place.TheVariants.{PressIn, PressOut}
@@ -8,25 +8,22 @@ use Rattle.cell_types.specs.declared.call.Call.{Call}
 use Rattle.cell_types.specs.declared.call.Call.TheVariants.{Claim, Give, Take, Release, SetPose, Advance}
 use Rattle.cell_types.specs.declared.answer.Refusal.{Refusal}
 use Rattle.cell_types.specs.declared.answer.Refusal.TheVariants.{Held, NotOwner, PlaceFull}
-use Rattle.cell_types.specs.declared.answer.Answer.{Answer}
-use Rattle.cell_types.specs.declared.answer.Answer.TheVariants.{Done, Shown, Refused}
-use Rattle.cell_types.specs.declared.reply.Reply.{Reply}
-use Rattle.cell_types.specs.declared.reply.Reply.TheVariants.{Settled, Busy}
+use Rattle.cell_types.specs.declared.answer.Event.{Event}
 use Rattle.cell_calib.specs.declared.sense.PressSense.{PressSense}
+use Rattle.cell_calib.specs.declared.sense.SensorFault.{SensorFault}
+use Rattle.cell_calib.specs.declared.sense.SensorFault.TheVariants.{Clash}
 use Rattle.cell_devices.specs.declared.motor.Direction.{Direction}
 use Rattle.cell_devices.specs.declared.motor.Direction.TheVariants.{Minus as Downward}
 use Rattle.cell_devices.specs.declared.motor.Motor.{Motor}
 use Rattle.cell_devices.specs.declared.motor.Motor.TheVariants.{Off, Plus, Minus}
+use Rattle.cell_devices.specs.declared.act.PressAct.{PressAct}
 use Rattle.cell_devices.specs.Motors.{motor_of, latest}
-use Rattle.cell_rules.specs.declared.heard.LineFault.{LineFault}
 use Rattle.cell_rules.specs.ModelState.{ModelState, is_full}
-use Rattle.cell_rules.specs.Programs.{Program}
-use Rattle.cell_stations.specs.declared.fault.CtlFault.{CtlFault}
-use Rattle.cell_stations.specs.declared.fault.CtlFault.TheVariants.{Memory}
+use Rattle.cell_rules.specs.History.{Holds, PressMoves}
+use Rattle.cell_control.specs.Steps.{Steps}
 use Rattle.cell_stations.specs.declared.press_step.PressStep.{PressStep}
 use Rattle.cell_stations.specs.declared.press_step.PressStep.TheVariants.{ClaimFirst, LeaveForMiddle, MoveToMiddle, PoseMiddle, ReleaseInterior, TakePlate, LeaveForTop, MoveToTop, PoseTop, Forge, LeaveForBottom, MoveToBottom, PoseLow, GivePlate, ClaimBack}
 use Rattle.cell_stations.specs.declared.press_step.PressProgress.{PressProgress}
-use Rattle.cell_stations.specs.Faults.{fault_of}
 
 -- what each step asks; a step that asks nothing drives
 abbrev pub call_of : PressStep → Option Call
@@ -82,8 +79,8 @@ forged_after Forge _ = true
 forged_after GivePlate _ = false
 forged_after _ forged = forged
 
-abbrev pub done_of : PressProgress → PressProgress
-done_of p =
+abbrev pub after_done : PressProgress → PressProgress
+after_done p =
     record p {
       step = step_after p.step p.loaded p.forged;
       loaded = loaded_after p.step p.loaded;
@@ -93,20 +90,6 @@ done_of p =
 -- at the start the places are noted
 abbrev pub press_start : ModelState → PressProgress
 press_start s = record { step = ClaimFirst; loaded = is_full s PressIn; forged = is_full s PressOut; direction = Downward }
-
--- where an answer leads: on where the call was done; nowhere on a refusal that the step stays on
-abbrev pub refused : PressProgress → Refusal → Result PressProgress CtlFault
-refused p r = if stays_on p.step r then Ok p else Err (fault_of r)
-
-abbrev pub told : PressProgress → Answer → Result PressProgress CtlFault
-told p Done = Ok (done_of p)
-told p (Refused r) = refused p r
-told p (Shown _ _ _) = Ok p
-
-abbrev pub outcome : PressProgress → Result Reply LineFault → Result PressProgress CtlFault
-outcome p (Ok (Settled a stamp)) = told p a
-outcome p (Ok (Busy lost stamp)) = Ok p
-outcome p (Err fault) = Err Memory
 
 -- the drives by switch: off at the switch, else towards it; to the middle from between two switches in the last direction
 abbrev pub to_middle : Direction → PressSense → Motor
@@ -124,25 +107,38 @@ step_motor MoveToTop last s = to_top s
 step_motor MoveToBottom last s = to_bottom s
 step_motor _ last s = Off
 
-abbrev pub motor_for : PressProgress → PressSense → Motor
-motor_for p s = step_motor p.step p.direction s
+abbrev pub act_for : PressProgress → PressSense → PressAct
+act_for p s = record { press = step_motor p.step p.direction s }
 
 -- the drive is done in the turn in which its motor is off
-abbrev pub driven : PressProgress → Motor → PressProgress
-driven p Off = done_of p
-driven p Plus = record p { direction = latest p.direction Plus }
-driven p Minus = record p { direction = latest p.direction Minus }
+abbrev pub after_motor : PressProgress → Motor → PressProgress
+after_motor p Off = after_done p
+after_motor p Plus = record p { direction = latest p.direction Plus }
+after_motor p Minus = record p { direction = latest p.direction Minus }
 
 -- two switches are on that can't both be
 abbrev pub clashes : PressSense → Bool
 clashes s = (s.bottom && s.middle) || (s.bottom && s.top) || (s.middle && s.top)
 
--- a turn that asks nothing drives, by switches that don't clash
-pub record Drives (p q : PressProgress) : Type 0 where
-  pub asks_nothing : call_of p.step ≡ None
-  pub sense : PressSense
-  pub agree : clashes sense ≡ false
-  pub is : q ≡ driven p (motor_for p sense)
+abbrev pub checked : PressSense → Result PressSense SensorFault
+checked s = if clashes s then Err Clash else Ok s
 
-abbrev pub press_program : Program PressProgress
-press_program = record { machine = Press; call = λ p. call_of p.step; leads = λ p a q. told p a ≡ Ok q; moves = Drives }
+-- while its motor is on, the press holds its interior and is travelling
+abbrev pub PressDemands : PressAct → ModelState → List Event → Type 0
+PressDemands act opening seen = act.press ≢ Off → Holds opening seen Press Z3 × PressMoves opening seen
+
+abbrev pub press_steps : Steps PressProgress PressSense PressSense PressAct
+press_steps =
+    record {
+      machine = Press;
+      start = press_start;
+      call = λ p. call_of p.step;
+      after_done = after_done;
+      after_inquiry = λ p owner flag posture. p;
+      stays_on = λ p r. stays_on p.step r;
+      senses = λ s r. r ≡ checked s;
+      drives = λ p s act. act ≡ act_for p s;
+      after_drive = λ p r act. after_motor p act.press;
+      rest = λ p. record { press = Off };
+      motor_demands = λ p act opening seen. PressDemands act opening seen;
+    }

@@ -1,5 +1,5 @@
 -- The table's program, row by row.
-use Rattle.std.specs.Prelude.{◌≡◌, ◌<◌, ◌≤◌, ℤ, pos, ◌+ℤ◌, ◌-ℤ◌, ◌<ℤ◌, Bool, true, false, ◌&&◌, ◌↔◌, if◌then◌else◌, Option, Some, None, Result, Ok, Err}
+use Rattle.std.specs.Prelude.{◌≡◌, ◌≢◌, ◌⊎◌, ◌<◌, ◌≤◌, ℕ, ℤ, pos, Bool, true, false, ◌&&◌, if◌then◌else◌, List, Option, Some, None, Result, Ok, Err}
 use Rattle.cell_types.specs.declared.machine.Machine.TheVariants.{Table as TableMachine}
 use Rattle.cell_types.specs.declared.zone.Zone.TheVariants.{Z1, Z2}
 use Rattle.cell_types.specs.declared.place.Place.TheVariants.{Table as OnTable}
@@ -8,28 +8,25 @@ use Rattle.cell_types.specs.declared.call.Call.{Call}
 use Rattle.cell_types.specs.declared.call.Call.TheVariants.{Claim, Give, Take, Release, SetPose}
 use Rattle.cell_types.specs.declared.answer.Refusal.{Refusal}
 use Rattle.cell_types.specs.declared.answer.Refusal.TheVariants.{Held, NotOwner, PlaceFull}
-use Rattle.cell_types.specs.declared.answer.Answer.{Answer}
-use Rattle.cell_types.specs.declared.answer.Answer.TheVariants.{Done, Shown, Refused}
-use Rattle.cell_types.specs.declared.reply.Reply.{Reply}
-use Rattle.cell_types.specs.declared.reply.Reply.TheVariants.{Settled, Busy}
+use Rattle.cell_types.specs.declared.answer.Event.{Event}
 use Rattle.cell_calib.specs.Scale.{Scale}
-use Rattle.cell_calib.specs.Line.{IsReading, IsNear}
+use Rattle.cell_calib.specs.Line.{IsReading}
 use Rattle.cell_calib.specs.Sensors.{TableClashes}
 use Rattle.cell_calib.specs.declared.sense.TableSense.{TableSense}
 use Rattle.cell_calib.specs.declared.sense.SensorFault.{SensorFault}
 use Rattle.cell_calib.specs.declared.sense.SensorFault.TheVariants.{Low, High, Clash}
 use Rattle.cell_devices.specs.declared.motor.Motor.{Motor}
 use Rattle.cell_devices.specs.declared.motor.Motor.TheVariants.{Off, Plus, Minus}
+use Rattle.cell_devices.specs.declared.stops.Stop.{Stop}
 use Rattle.cell_devices.specs.declared.act.TableAct.{TableAct}
-use Rattle.cell_rules.specs.declared.heard.LineFault.{LineFault}
+use Rattle.cell_devices.specs.Drives.{DrivesTo}
 use Rattle.cell_rules.specs.ModelState.{ModelState, is_full}
-use Rattle.cell_rules.specs.Programs.{Program}
-use Rattle.cell_stations.specs.declared.fault.CtlFault.{CtlFault}
-use Rattle.cell_stations.specs.declared.fault.CtlFault.TheVariants.{Memory}
+use Rattle.cell_rules.specs.History.{Holds, Moves}
+use Rattle.cell_control.specs.Steps.{Steps}
 use Rattle.cell_stations.specs.declared.table_step.TableStep.{TableStep}
 use Rattle.cell_stations.specs.declared.table_step.TableStep.TheVariants.{ClaimEntry, ClaimExit, LeaveForLoading, MoveToLoading, PoseLoading, ReleaseEntry, TakePlate, LeaveForUnloading, MoveToUnloading, PoseUnloading, GivePlate, ClaimBack}
 use Rattle.cell_stations.specs.declared.table_step.TableProgress.{TableProgress}
-use Rattle.cell_stations.specs.Faults.{fault_of}
+use Rattle.cell_stations.specs.declared.table_step.TableReading.{TableReading}
 
 -- what each step asks; a step that asks nothing drives
 abbrev pub call_of : TableStep → Option Call
@@ -74,33 +71,28 @@ loaded_after TakePlate _ = true
 loaded_after GivePlate _ = false
 loaded_after _ loaded = loaded
 
-abbrev pub done_of : TableProgress → TableProgress
-done_of p = record { step = step_after p.step p.loaded; loaded = loaded_after p.step p.loaded }
+abbrev pub after_done : TableProgress → TableProgress
+after_done p = record { step = step_after p.step p.loaded; loaded = loaded_after p.step p.loaded }
 
 -- at the start the place is noted
 abbrev pub table_start : ModelState → TableProgress
 table_start s = record { step = ClaimEntry; loaded = is_full s OnTable }
 
--- where an answer leads: on where the call was done; nowhere on a refusal that the step stays on
-abbrev pub refused : TableProgress → Refusal → Result TableProgress CtlFault
-refused p r = if stays_on p.step r then Ok p else Err (fault_of r)
+-- what the sensors say that can be used: the switches don't clash, the raw value is one of the calibration's, and the rotation is what the gauge gives there, near the line
+pub record Reads (points : Scale) (gives : ℕ → ℤ → Type 0) (s : TableSense) (r : TableReading) : Type 0 where
+  pub no_clash : ¬ TableClashes s
+  pub first : points.raw_lo ≤ s.turn
+  pub last : s.turn ≤ points.raw_hi
+  pub near : IsReading points s.turn r.turn
+  pub given : gives s.turn r.turn
+  pub switches : r.sense ≡ s
 
-abbrev pub told : TableProgress → Answer → Result TableProgress CtlFault
-told p Done = Ok (done_of p)
-told p (Refused r) = refused p r
-told p (Shown _ _ _) = Ok p
-
-abbrev pub outcome : TableProgress → Result Reply LineFault → Result TableProgress CtlFault
-outcome p (Ok (Settled a stamp)) = told p a
-outcome p (Ok (Busy lost stamp)) = Ok p
-outcome p (Err fault) = Err Memory
-
--- the sensors are checked: the switches first, then whether the raw value is one of the calibration's; then it reads some position near the line
-abbrev pub Senses : Scale → TableSense → Result ℤ SensorFault → Type 0
-Senses points s (Err Clash) = TableClashes s
-Senses points s (Err Low) = ¬ TableClashes s × (s.turn < points.raw_lo)
-Senses points s (Err High) = ¬ TableClashes s × (points.raw_hi < s.turn)
-Senses points s (Ok read) = ¬ TableClashes s × (points.raw_lo ≤ s.turn) × (s.turn ≤ points.raw_hi) × IsReading points s.turn read
+-- the sensors are checked: the switches first, then whether the raw value is one of the calibration's
+abbrev pub Senses : Scale → (ℕ → ℤ → Type 0) → TableSense → Result TableReading SensorFault → Type 0
+Senses points gives s (Err Clash) = TableClashes s
+Senses points gives s (Err Low) = ¬ TableClashes s × (s.turn < points.raw_lo)
+Senses points gives s (Err High) = ¬ TableClashes s × (points.raw_hi < s.turn)
+Senses points gives s (Ok r) = Reads points gives s r
 
 -- the height is driven by its switches: off there, else towards it
 abbrev pub height_for : TableStep → TableSense → Motor
@@ -108,38 +100,43 @@ height_for MoveToLoading s = if s.bottom then Off else Minus
 height_for MoveToUnloading s = if s.top then Off else Plus
 height_for _ s = Off
 
--- the rotation is driven to these positions: off within 20 less the tolerance by the reading, else plus below and minus above
-abbrev pub target_of : TableStep → ℤ
-target_of MoveToUnloading = pos 500
-target_of _ = pos 0
-
-pub record TurnsTo (target tol read : ℤ) (motor : Motor) : Type 0 where
-  pub off : (motor ≡ Off) ↔ IsNear read target (pos 20 -ℤ tol)
-  pub plus : (motor ≡ Plus) ↔ (read <ℤ (target -ℤ (pos 20 -ℤ tol)))
-  pub minus : (motor ≡ Minus) ↔ ((target +ℤ (pos 20 -ℤ tol)) <ℤ read)
+-- where a step turns to
+abbrev pub rotation_stop : TableStep → Option Stop
+rotation_stop MoveToLoading = Some (record { target = pos 0; half = 20 })
+rotation_stop MoveToUnloading = Some (record { target = pos 500; half = 20 })
+rotation_stop _ = None
 
 -- what a step that drives tells the two motors
-pub record Acts (points : Scale) (step : TableStep) (s : TableSense) (read : ℤ) (act : TableAct) : Type 0 where
-  pub height : act.height ≡ height_for step s
-  pub rotation : TurnsTo (target_of step) points.tol read act.rotation
+pub record Acts (points : Scale) (step : TableStep) (r : TableReading) (act : TableAct) : Type 0 where
+  pub height : act.height ≡ height_for step r.sense
+  pub rotation : DrivesTo (rotation_stop step) points.tol r.turn act.rotation
 
 abbrev pub is_off : Motor → Bool
 is_off Off = true
 is_off _ = false
 
 -- the drives are done in the turn in which both motors are off
-abbrev pub driven : TableProgress → TableAct → TableProgress
-driven p act = if is_off act.height && is_off act.rotation then done_of p else p
+abbrev pub after_act : TableProgress → TableAct → TableProgress
+after_act p act = if is_off act.height && is_off act.rotation then after_done p else p
 
--- a turn that asks nothing drives, by sensors that can be used
-pub record Drives (points : Scale) (p q : TableProgress) : Type 0 where
-  pub asks_nothing : call_of p.step ≡ None
-  pub sense : TableSense
-  pub read : ℤ
-  pub senses : Senses points sense (Ok read)
-  pub act : TableAct
-  pub acts : Acts points p.step sense read act
-  pub is : q ≡ driven p act
+-- while a motor of the table is on, the table holds both its zones and is turning
+abbrev pub TableDemands : TableAct → ModelState → List Event → Type 0
+TableDemands act opening seen =
+    (act.height ≢ Off) ⊎ (act.rotation ≢ Off) → (Holds opening seen TableMachine Z1 × Holds opening seen TableMachine Z2) × (Moves opening seen Z1 × Moves opening seen Z2)
 
-abbrev pub table_program : Scale → Program TableProgress
-table_program points = record { machine = TableMachine; call = λ p. call_of p.step; leads = λ p a q. told p a ≡ Ok q; moves = Drives points }
+-- by the points of the rotation's calibration, and what its gauge may give at a raw value
+abbrev pub table_steps : Scale → (ℕ → ℤ → Type 0) → Steps TableProgress TableSense TableReading TableAct
+table_steps points gives =
+    record {
+      machine = TableMachine;
+      start = table_start;
+      call = λ p. call_of p.step;
+      after_done = after_done;
+      after_inquiry = λ p owner flag posture. p;
+      stays_on = λ p r. stays_on p.step r;
+      senses = Senses points gives;
+      drives = λ p r act. Acts points p.step r act;
+      after_drive = λ p r act. after_act p act;
+      rest = λ p. record { height = Off; rotation = Off };
+      motor_demands = λ p act opening seen. TableDemands act opening seen;
+    }

@@ -1,91 +1,132 @@
-ghost use Rattle.std.specs.Prelude.{◌≡◌, false, IfOk, Result, Ok, Err};
-ghost use Rattle.cell_types.specs.declared.machine.Machine.TheVariants.{Press};
-ghost use Rattle.cell_rules.specs.Programs.{Hears};
-ghost use Rattle.cell_rules.specs.Seen.{heard_after};
-ghost use Rattle.cell_stations.specs.PressProgram.{press_start, call_of};
-ghost use Rattle.cell_stations.specs.PressTurns.{Performs, Turns, asked_by, PressReached, PressDemands};
+ghost use Rattle.std.specs.Prelude.{◌≡◌};
+ghost use Rattle.cell_stations.specs.PressProgram.{press_steps, step_motor};
 
-use crate::fault::CtlFault;
-use crate::press_step::PressProgress;
-use cell_calib::PressSense;
-use cell_devices::{Motor, PressAct};
-use cell_rules::{Line, State};
+use crate::press_step::{PressProgress, PressStep};
+use cell_calib::{PressSense, SensorFault};
+use cell_control::{Controller, Program};
+use cell_devices::{Direction, Motor, PressAct, press_to_bottom, press_to_middle, press_to_top};
+use cell_rules::State;
+use cell_types::{Call, Machine, Place, Pose, Posture, Refusal, Zone};
+
+/// The press's program.
+#[derive(Clone, Copy, Debug, PartialEq, Eq)]
+pub struct PressProgram;
 
 /// The press's controller.
-#[derive(Clone, Copy, Debug, PartialEq, Eq)]
-pub struct PressCtl {
-    progress: PressProgress,
-    stopped: bool,
-}
+pub type PressCtl = Controller<PressProgram>;
 
-impl PressCtl {
-    /// The controller at the start, which notes where the press has a plate.
-    pub fn new(state: &State) -> PressCtl
-        ensures { result ≡ record { progress = press_start state.now; stopped = false } }
-    {
-        PressCtl {
-            progress: PressProgress::start(state),
-            stopped: false,
+impl Program for PressProgram {
+    type Progress = PressProgress;
+
+    type Sense = PressSense;
+
+    type Reading = PressSense;
+
+    type Act = PressAct;
+
+    ghost steps = { λ _. press_steps };
+
+    fn start(&self, state: &State) -> PressProgress {
+        PressProgress {
+            step: PressStep::ClaimFirst,
+            loaded: state.is_full(Place::PressIn),
+            forged: state.is_full(Place::PressOut),
+            direction: Direction::Minus,
         }
     }
 
-    /// One turn of the press's program: its sensors are checked, and the step at which it stands is
-    /// performed, which asks once or drives.
-    ///
-    /// After any error the controller has stopped. The motor is then to be set off.
-    pub fn turn<L: Line>(&mut self, line: &mut L, sense: &PressSense) -> Result<PressAct, CtlFault>
-        requires own { self.old.stopped ≡ false → L.machine line.old ≡ Press }
-        requires reached { self.old.stopped ≡ false → PressReached (L.opening line.old) (L.seen line.old) self.old.progress }
-        ensures row { Turns (line.new ≡ line.old) (λ c r. L.asks line.old c r line.new × (L.heard line.new ≡ heard_after (L.heard line.old) c r)) self.old.stopped self.old.progress sense.now
-            (record { result = result; progress = self.new.progress; stopped = self.new.stopped }) }
-        ensures heard { Hears (asked_by self.old.stopped self.old.progress sense.now) (L.heard line.old) (L.heard line.new) }
-        ensures own { L.machine line.new ≡ L.machine line.old }
-        ensures opening { L.opening line.new ≡ L.opening line.old }
-        ensures reached { self.new.stopped ≡ false → PressReached (L.opening line.new) (L.seen line.new) self.new.progress }
-        ensures demands { IfOk result (λ act. PressDemands (L.opening line.new) (L.seen line.new) act) }
-    {
-        if self.stopped {
-            return Err(CtlFault::Stopped);
-        }
-        match perform(self.progress, line, sense) {
-            Ok((progress, act)) => {
-                self.progress = progress;
-                Ok(act)
+    fn call(&self, progress: PressProgress) -> Option<Call> {
+        match progress.step {
+            PressStep::ClaimFirst | PressStep::ClaimBack => Some(Call::Claim(Zone::Z3)),
+            PressStep::LeaveForMiddle | PressStep::LeaveForTop | PressStep::LeaveForBottom => {
+                Some(Call::SetPose(Pose::Travelling))
             }
-            Err(fault) => {
-                self.stopped = true;
-                Err(fault)
-            }
+            PressStep::MoveToMiddle | PressStep::MoveToTop | PressStep::MoveToBottom => None,
+            PressStep::PoseMiddle => Some(Call::SetPose(Pose::Middle)),
+            PressStep::ReleaseInterior => Some(Call::Release(Zone::Z3)),
+            PressStep::TakePlate => Some(Call::Take(Zone::Z3)),
+            PressStep::PoseTop => Some(Call::SetPose(Pose::Top)),
+            PressStep::Forge => Some(Call::Advance),
+            PressStep::PoseLow => Some(Call::SetPose(Pose::Low)),
+            PressStep::GivePlate => Some(Call::Give(Zone::Z3)),
         }
     }
-}
 
-// Performs the step: where it leads, and what it tells the motor.
-fn perform<L: Line>(
-    progress: PressProgress,
-    line: &mut L,
-    sense: &PressSense,
-) -> Result<(PressProgress, PressAct), CtlFault>
-    requires own { L.machine line.old ≡ Press }
-    requires reached { PressReached (L.opening line.old) (L.seen line.old) progress }
-    ensures row { Performs (line.new ≡ line.old) (λ c r. L.asks line.old c r line.new × (L.heard line.new ≡ heard_after (L.heard line.old) c r)) progress sense.now result }
-    ensures heard { Hears (asked_by false progress sense.now) (L.heard line.old) (L.heard line.new) }
-    ensures own { L.machine line.new ≡ L.machine line.old }
-    ensures opening { L.opening line.new ≡ L.opening line.old }
-    ensures reached { IfOk result (λ led. PressReached (L.opening line.new) (L.seen line.new) led.0) }
-    ensures demands { IfOk result (λ led. PressDemands (L.opening line.new) (L.seen line.new) led.1) }
-{
-    if let Err(fault) = sense.agree() {
-        return Err(CtlFault::Sensor(fault));
+    fn after_done(&self, progress: PressProgress) -> PressProgress {
+        let PressProgress {
+            step,
+            loaded,
+            forged,
+            direction,
+        } = progress;
+        PressProgress {
+            step: step.next(loaded, forged),
+            loaded: step.loaded_after(loaded),
+            forged: step.forged_after(forged),
+            direction,
+        }
     }
-    match progress.step.call() {
-        Some(call) => match progress.told(line.ask(call)) {
-            Ok(led) => Ok((led, PressAct { press: Motor::Off })),
+
+    fn after_inquiry(
+        &self,
+        progress: PressProgress,
+        _owner: Option<Machine>,
+        _flag: bool,
+        _posture: Posture,
+    ) -> PressProgress {
+        progress
+    }
+
+    fn stays_on(&self, progress: PressProgress, refusal: Refusal) -> bool {
+        matches!(
+            (progress.step, refusal),
+            (PressStep::TakePlate, Refusal::NotOwner(_))
+                | (PressStep::GivePlate, Refusal::PlaceFull)
+                | (PressStep::ClaimBack, Refusal::Held(_))
+        )
+    }
+
+    fn check(&self, sense: &PressSense) -> Result<PressSense, SensorFault> {
+        match sense.agree() {
+            Ok(()) => Ok(*sense),
             Err(fault) => Err(fault),
-        },
-        None => {
-            let motor = progress.motor(sense);
-            Ok((progress.driven(motor), PressAct { press: motor }))
         }
+    }
+
+    fn drive(&self, progress: PressProgress, reading: PressSense) -> PressAct {
+        PressAct {
+            press: motor(progress, reading),
+        }
+    }
+
+    fn after_drive(
+        &self,
+        progress: PressProgress,
+        _reading: PressSense,
+        act: PressAct,
+    ) -> PressProgress {
+        match act.press {
+            Motor::Off => self.after_done(progress),
+            motor => PressProgress {
+                direction: progress.direction.after(motor),
+                ..progress
+            },
+        }
+    }
+
+    fn rest(&self, _progress: PressProgress) -> PressAct {
+        PressAct { press: Motor::Off }
+    }
+}
+
+// What a step tells the motor.
+fn motor(progress: PressProgress, press: PressSense) -> Motor
+    ensures { result ≡ step_motor progress.step progress.direction press }
+{
+    match progress.step {
+        PressStep::MoveToMiddle => press_to_middle(&press, progress.direction),
+        PressStep::MoveToTop => press_to_top(&press),
+        PressStep::MoveToBottom => press_to_bottom(&press),
+        _ => Motor::Off,
     }
 }
