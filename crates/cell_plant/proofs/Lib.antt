@@ -1,10 +1,9 @@
-mod Bounds
-mod Goings
-mod Noting
-mod PressRun
-mod RawLemmas
-mod Readiness
-mod SafeRuns
-mod Stepping
-mod TableRun
-mod TurnMaps
+pub mod WithinLemmas
+pub mod PressKeeps
+pub mod TableKeeps
+pub mod RestingKeeps
+pub mod KeptRuns
+pub mod CellKeeps
+pub mod SafeRuns
+pub mod RunSoFar
+pub mod Stepping

@@ -1,56 +1,66 @@
--- A state of the whole cell: that of the interlock, that of the plant, and of each controller how far it has come and how its machine fares.
-use Rattle.std.specs.Prelude.{Bool, true, false, Result, Ok, Err, Option, Some, None, unwrap_or}
+-- A state of the whole cell: that of the interlock, and of each machine how far it has come, what has stopped it, and its part.
+use Rattle.std.specs.Prelude.{None}
+use Rattle.cell_types.specs.declared.machine.Machine.{Machine}
+use Rattle.cell_types.specs.declared.machine.Machine.TheVariants.{Feed, Table, Robot, Press, Deposit, Crane, Watch}
 use Rattle.cell_rules.specs.ModelState.{ModelState}
 use Rattle.cell_stations.specs.declared.press_step.PressProgress.{PressProgress}
 use Rattle.cell_stations.specs.declared.table_step.TableProgress.{TableProgress}
-use Rattle.cell_stations.specs.declared.fault.CtlFault.{CtlFault}
-use Rattle.cell_stations.specs.declared.fault.CtlFault.TheVariants as fault
 use Rattle.cell_stations.specs.PressProgram.{press_start}
 use Rattle.cell_stations.specs.TableProgram.{table_start}
-use Rattle.cell_plant.specs.declared.record.Status.{Status}
-use Rattle.cell_plant.specs.declared.record.Status.TheVariants.{Fine, Worn, Sensor, Refused, Memory}
-use Rattle.cell_plant.specs.Plant.{PlantState, plant_at_start}
+use Rattle.cell_parts.specs.declared.axis.Axis.{Axis}
+use Rattle.cell_parts.specs.declared.belt.Belt.{Belt}
+use Rattle.cell_parts.specs.Plant.{TablePlant, RobotPlant, CranePlant, PlantState, feed_at_start, table_at_start, robot_at_start, press_at_start, deposit_at_start, crane_at_start}
+use Rattle.cell_seat.specs.Sides.{Side, side_of}
+use Rattle.cell_plant.specs.Machines.{ProgressOf, PartOf}
 
-pub record TableSide : Type 0 where
-  pub progress : TableProgress
-  pub status : Status
-
-pub record PressSide : Type 0 where
-  pub progress : PressProgress
-  pub status : Status
+abbrev pub SideOf : Machine → Type 0
+SideOf m = Side (ProgressOf m) (PartOf m)
 
 pub record CellState : Type 0 where
   pub interlock : ModelState
-  pub plant : PlantState
-  pub table : TableSide
-  pub press : PressSide
+  pub side : (m : Machine) → SideOf m
 
--- the cell at the start
-abbrev pub cell_at_start : ModelState → CellState
-cell_at_start s =
+-- the six parts of the machines
+abbrev pub plant_of : CellState → PlantState
+plant_of w =
     record {
-      interlock = s;
-      plant = plant_at_start s;
-      table = record { progress = table_start s; status = Fine };
-      press = record { progress = press_start s; status = Fine };
+      feed = (w.side Feed).part;
+      table = (w.side Table).part;
+      robot = (w.side Robot).part;
+      press = (w.side Press).part;
+      deposit = (w.side Deposit).part;
+      crane = (w.side Crane).part;
     }
 
-abbrev pub is_fine : Status → Bool
-is_fine Fine = true
-is_fine _ = false
+-- what is known of the six machines, and the side of each
+pub record Sides : Type 0 where
+  pub feed : Belt
+  pub table : Side TableProgress TablePlant
+  pub robot : RobotPlant
+  pub press : Side PressProgress Axis
+  pub deposit : Belt
+  pub crane : CranePlant
 
--- what a fault of a controller stops its machine with; one that had stopped before stops it with nothing more
-abbrev pub stop_by : CtlFault → Option Status
-stop_by (fault.Sensor _) = Some Sensor
-stop_by (fault.Refused _) = Some Refused
-stop_by fault.Worn = Some Worn
-stop_by fault.Memory = Some Memory
-stop_by fault.Stopped = None
+abbrev pub side_in : Sides → (m : Machine) → SideOf m
+side_in s Feed = side_of tt None s.feed
+side_in s Table = s.table
+side_in s Robot = side_of tt None s.robot
+side_in s Press = s.press
+side_in s Deposit = side_of tt None s.deposit
+side_in s Crane = side_of tt None s.crane
+side_in s Watch = side_of tt None tt
 
-abbrev pub stop_of : {A : Type 0} → Result A CtlFault → Option Status
-stop_of (Ok act) = None
-stop_of (Err f) = stop_by f
+-- the cell at the start: each controller at the beginning of its program, and each part where it begins
+abbrev pub sides_at_start : ModelState → Sides
+sides_at_start s =
+    record {
+      feed = feed_at_start s;
+      table = side_of (table_start s) None table_at_start;
+      robot = robot_at_start s;
+      press = side_of (press_start s) None press_at_start;
+      deposit = deposit_at_start s;
+      crane = crane_at_start s;
+    }
 
--- how a machine fares after a turn
-abbrev pub status_after : {A : Type 0} → Status → Result A CtlFault → Status
-status_after s turned = unwrap_or (stop_of turned) s
+abbrev pub cell_at_start : ModelState → CellState
+cell_at_start s = record { interlock = s; side = side_in (sides_at_start s) }

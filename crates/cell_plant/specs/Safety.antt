@@ -2,12 +2,13 @@
 use Rattle.std.specs.Prelude.{◌≡◌, true, List, [], ◌∷◌}
 use Rattle.cell_rules.specs.ModelState.{ModelState}
 use Rattle.cell_rules.specs.Start.{IsStartState}
+use Rattle.cell_parts.specs.Axes.{CellScales, AreCellScales, IsWithin, press_end, arm_end, rotation_end, lift_end, turn_end, crane_end, gripper_end}
+use Rattle.cell_parts.specs.Collisions.{NothingCollides, NothingCollidesWhenSet}
+use Rattle.cell_parts.specs.Plant.{PlantState}
+use Rattle.cell_parts.specs.PositionDemands.{PositionDemands}
+use Rattle.cell_parts.specs.MotorDemands.{GripperErrand, MotorDemands}
 use Rattle.cell_plant.specs.declared.schedule.Turn.{Turn}
-use Rattle.cell_plant.specs.Axes.{CellScales, AreCellScales, IsWithin, press_end, arm_end, rotation_end, lift_end, turn_end, crane_end, gripper_end}
-use Rattle.cell_plant.specs.Plant.{PlantState}
-use Rattle.cell_plant.specs.Collisions.{NothingCollides, NothingCollidesWhenSet}
-use Rattle.cell_plant.specs.Demands.{MeetsDemands}
-use Rattle.cell_plant.specs.CellStates.{CellState, cell_at_start}
+use Rattle.cell_plant.specs.CellStates.{CellState, plant_of, cell_at_start}
 use Rattle.cell_plant.specs.Runs.{Step, IsRun}
 
 -- each axis stands within its ends
@@ -21,15 +22,17 @@ pub record StaysWithin (p : PlantState) : Type 0 where
   pub travel : IsWithin crane_end p.crane.travel.position
   pub gripper : IsWithin gripper_end p.crane.gripper.position
 
--- in a state nothing collides, each axis is within its ends, and the interlock is as the positions demand
+-- In a state nothing collides, each axis is within its ends, and the interlock is as the positions and the motors demand, those
+-- too that were left on by an earlier turn. For now the crane rests, so its motor demands nothing, whatever its errand.
 pub record IsSafeState (w : CellState) : Type 0 where
-  pub clear : NothingCollides w.plant
-  pub within : StaysWithin w.plant
-  pub demands : MeetsDemands w.interlock w.plant
+  pub clear : NothingCollides (plant_of w)
+  pub within : StaysWithin (plant_of w)
+  pub positions : PositionDemands w.interlock (plant_of w)
+  pub motors : (errand : GripperErrand) → MotorDemands errand w.interlock (plant_of w)
 
 -- the same once the motors of a turn are set
 pub record IsSafelySet (w : CellState) (s : Step) : Type 0 where
-  pub clear : s.taken ≡ true → NothingCollidesWhenSet s.machine w.plant s.set.plant
+  pub clear : s.taken ≡ true → NothingCollidesWhenSet s.machine (plant_of w) (plant_of s.set)
   pub state : IsSafeState s.set
 
 -- each state of a run is safe

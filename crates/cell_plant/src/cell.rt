@@ -1,30 +1,72 @@
 //! The whole cell: its six machines.
 
 ghost use Rattle.std.specs.Prelude.{◌≡◌};
-ghost use Rattle.cell_plant.specs.Cells.{IsMadeFor, plant_of};
+ghost use Rattle.cell_plant.specs.Cells.{IsMadeFor, scales_of};
 
-use crate::belt::Belt;
-use crate::parts::{CranePart, DepositPart, FeedPart, PressPart, RobotPart, TablePart};
-use crate::units::{CraneUnit, DepositUnit, FeedUnit, PressUnit, RobotUnit, TableUnit};
 use cell_calib::{Calibration, Gauge};
+use cell_control::Controller;
+use cell_parts::{CranePart, DepositPart, FeedPart, PressPart, RobotPart, RobotPoints, TablePart};
 use cell_rules::State;
-use cell_stations::{PressCtl, TableCtl};
+use cell_seat::Seat;
+use cell_stations::{PressProgram, TableProgram};
+
+/// The feed belt. It has no controller yet.
+#[derive(Drop)]
+pub struct FeedSeat {
+    /// What it moves, and what its sensors show.
+    pub part: FeedPart,
+}
+
+/// The table.
+pub type TableSeat<F> = Seat<TableProgram<F>, TablePart>;
+
+/// The robot, with the calibrations of its arms and its rotation. It has no controller yet.
+#[derive(Drop)]
+pub struct RobotSeat<F1: Gauge, F2: Gauge, F3: Gauge> {
+    /// Of the first arm's extension.
+    pub arm1: Calibration<F1>,
+    /// Of the second arm's extension.
+    pub arm2: Calibration<F2>,
+    /// Of the robot's rotation.
+    pub rotation: Calibration<F3>,
+    /// What it moves, and what its sensors show.
+    pub part: RobotPart,
+}
+
+/// The press.
+pub type PressSeat = Seat<PressProgram, PressPart>;
+
+/// The deposit belt. It has no controller yet.
+#[derive(Drop)]
+pub struct DepositSeat {
+    /// What it moves, and what its sensors show.
+    pub part: DepositPart,
+}
+
+/// The crane, with the calibration of its gripper's height. It has no controller yet.
+#[derive(Drop)]
+pub struct CraneSeat<F: Gauge> {
+    /// Of the gripper's height.
+    pub gripper: Calibration<F>,
+    /// What it moves, and what its sensors show.
+    pub part: CranePart,
+}
 
 /// The six machines of the cell, each with its controller and its part.
 #[derive(Drop)]
 pub struct Cell<F1: Gauge, F2: Gauge, F3: Gauge, F4: Gauge, F5: Gauge> {
     /// The feed belt.
-    pub feed: FeedUnit,
+    pub feed: FeedSeat,
     /// The table, with the calibration of its rotation.
-    pub table: TableUnit<F4>,
+    pub table: TableSeat<F4>,
     /// The robot, with the calibrations of its first arm, its second arm and its rotation.
-    pub robot: RobotUnit<F1, F2, F3>,
+    pub robot: RobotSeat<F1, F2, F3>,
     /// The press.
-    pub press: PressUnit,
+    pub press: PressSeat,
     /// The deposit belt.
-    pub deposit: DepositUnit,
+    pub deposit: DepositSeat,
     /// The crane, with the calibration of its gripper's height.
-    pub crane: CraneUnit<F5>,
+    pub crane: CraneSeat<F5>,
 }
 
 impl<F1: Gauge, F2: Gauge, F3: Gauge, F4: Gauge, F5: Gauge> Cell<F1, F2, F3, F4, F5> {
@@ -38,45 +80,45 @@ impl<F1: Gauge, F2: Gauge, F3: Gauge, F4: Gauge, F5: Gauge> Cell<F1, F2, F3, F4,
         turn: Calibration<F4>,
         gripper: Calibration<F5>,
     ) -> Cell<F1, F2, F3, F4, F5>
-        ensures made { IsMadeFor state.now
-            (plant_of result.feed.part.belt result.table.part.plant result.robot.part result.press.part result.deposit.part.belt result.crane.part)
-            result.table.controller.progress result.table.controller.stopped result.press.controller }
-        ensures scale { result.table.part.scale ≡ turn.points }
+        ensures made { IsMadeFor state.now result }
+        ensures scales { scales_of result ≡ record { arm1 = arm1.points; arm2 = arm2.points; rotation = rotation.points; turn = turn.points; gripper = gripper.points } }
         ensures arm1 { result.robot.arm1 ≡ arm1 }
         ensures arm2 { result.robot.arm2 ≡ arm2 }
         ensures rotation { result.robot.rotation ≡ rotation }
-        ensures turn { result.table.controller.turn ≡ turn }
+        ensures turn { result.table.controller.program.turn ≡ turn }
         ensures gripper { result.crane.gripper ≡ gripper }
     {
-        let part = TablePart::start(turn.points());
+        let table = TablePart::start(turn.points());
+        let crane = CranePart::start(state, gripper.points());
+        let points = RobotPoints {
+            arm1: arm1.points(),
+            arm2: arm2.points(),
+            rotation: rotation.points(),
+        };
         Cell {
-            feed: FeedUnit {
-                part: FeedPart {
-                    belt: Belt::feed(state),
-                },
+            feed: FeedSeat {
+                part: FeedPart::start(state),
             },
-            table: TableUnit {
-                controller: TableCtl::new(state, turn),
-                part,
+            table: Seat {
+                controller: Controller::new(state, TableProgram::new(turn)),
+                part: table,
             },
-            robot: RobotUnit {
+            robot: RobotSeat {
                 arm1,
                 arm2,
                 rotation,
-                part: RobotPart::start(state),
+                part: RobotPart::start(state, points),
             },
-            press: PressUnit {
-                controller: PressCtl::new(state),
+            press: Seat {
+                controller: Controller::new(state, PressProgram),
                 part: PressPart::start(),
             },
-            deposit: DepositUnit {
-                part: DepositPart {
-                    belt: Belt::deposit(state),
-                },
+            deposit: DepositSeat {
+                part: DepositPart::start(state),
             },
-            crane: CraneUnit {
+            crane: CraneSeat {
                 gripper,
-                part: CranePart::start(state),
+                part: crane,
             },
         }
     }

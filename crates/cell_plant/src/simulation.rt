@@ -1,24 +1,27 @@
 //! Runs a schedule on a cell over a bench.
 
-ghost use Rattle.std.specs.Prelude.{◌≡◌, Some, map, IfOk};
+ghost use Rattle.std.specs.Prelude.{◌≡◌, map, IfOk};
 ghost use Rattle.cell_types.specs.declared.machine.Machine.{Machine};
-ghost use Rattle.cell_types.specs.declared.machine.Machine.TheVariants.{Press, Table as TableMachine};
-ghost use Rattle.cell_rules.specs.Start.{IsStartState};
-ghost use Rattle.cell_plant.specs.Axes.{CellScales, AreCellScales, IsAxisScale, turn_end};
-ghost use Rattle.cell_plant.specs.Cells.{IsMadeFor, TellsRun, plant_of};
-ghost use Rattle.cell_plant.specs.Logs.{tally_of, HasRoom};
 ghost use Rattle.cell_types.specs.Everything.{all_machines};
-ghost use Rattle.cell_plant.specs.Moments.{StepsOn, AreReady, moment_of};
+ghost use Rattle.cell_rules.specs.Start.{IsStartState};
+ghost use Rattle.cell_seat.specs.Fares.{status_of as status_by};
+ghost use Rattle.cell_notes.specs.Notes.{HasRoom};
+ghost use Rattle.cell_parts.specs.Axes.{AreCellScales};
+ghost use Rattle.cell_plant.specs.Cells.{IsMadeFor, TellsRun, scales_of};
+ghost use Rattle.cell_plant.specs.CellStates.{side_in, plant_of};
+ghost use Rattle.cell_plant.specs.Moments.{StepsOn, Keeps, first_moment, notes_in, state_at};
 ghost use Rattle.cell_plant.specs.Records.{positions_in};
 
 use crate::cell::Cell;
-use crate::log::Log;
-use crate::record::{RunRecord, SimFault};
+use crate::notebooks::Notebooks;
 use crate::schedule::Turn;
 use cell_calib::Gauge;
+use cell_notes::{RunRecord, Status};
 use cell_rules::{Bench, State};
+use cell_seat::{SimFault, seat_turn, status_of};
 use cell_types::Machine;
 use std::alloc::Global;
+use std::marker::Model;
 
 /// Runs a schedule on a cell that was made for a start, over a bench that opens with it: turn by turn
 /// that machine's controller, and then a tick of its part; the other parts stand still.
@@ -34,17 +37,11 @@ pub fn simulate<F1: Gauge, F2: Gauge, F3: Gauge, F4: Gauge, F5: Gauge>(
     turns: &[Turn],
 ) -> Result<RunRecord, SimFault>
     requires start { IsStartState opening }
-    requires made { IsMadeFor opening (plant_of cell.feed.part.belt cell.table.part.plant cell.robot.part cell.press.part cell.deposit.part.belt cell.crane.part)
-        cell.table.controller.progress cell.table.controller.stopped cell.press.controller }
-    requires fitted { cell.table.part.scale ≡ cell.table.controller.turn.points }
-    requires scales { AreCellScales (record { arm1 = cell.robot.arm1.points; arm2 = cell.robot.arm2.points; rotation = cell.robot.rotation.points; turn = cell.table.part.scale; gripper = cell.crane.gripper.points }) }
-    ensures run { IfOk result (TellsRun (record { arm1 = cell.robot.arm1.points; arm2 = cell.robot.arm2.points; rotation = cell.robot.rotation.points; turn = cell.table.part.scale; gripper = cell.crane.gripper.points }) opening turns.now) }
+    requires made { IsMadeFor opening cell }
+    requires scales { AreCellScales (scales_of cell) }
+    ensures run { IfOk result (TellsRun (scales_of cell) opening turns.now) }
 {
-    let mut simulation = Simulation {
-        cell,
-        bench: Bench::new(alloc, opening),
-        log: Log::new(alloc),
-    };
+    let mut simulation = Simulation::new(alloc, cell, opening);
     'turns: for turn in turns {
         if let Err(fault) = simulation.turn(*turn) {
             return Err(fault);
@@ -53,127 +50,110 @@ pub fn simulate<F1: Gauge, F2: Gauge, F3: Gauge, F4: Gauge, F5: Gauge>(
     Ok(simulation.into_record(opening))
 }
 
-// A cell that runs over a bench.
+// A cell that runs over a bench, and what its machines note. As a value it is a moment of a run; its controllers have come so
+// far by their events.
 #[derive(Drop)]
 struct Simulation<F1: Gauge, F2: Gauge, F3: Gauge, F4: Gauge, F5: Gauge> {
     cell: Cell<F1, F2, F3, F4, F5>,
     bench: Bench,
-    log: Log,
+    notebooks: Notebooks,
+}
+
+impl<F1: Gauge, F2: Gauge, F3: Gauge, F4: Gauge, F5: Gauge> Model
+    for Simulation<F1, F2, F3, F4, F5> {
+    ghost use Rattle.cell_plant.specs.Moments.{Moment};
+
+    ghost Value = { Moment };
+
+    ghost use Rattle.cell_plant.specs.Simulations.{moment_of, AreReady};
+
+    ghost view = { λ s. moment_of s };
+
+    ghost invariant = { λ s. AreReady F4.gives s };
 }
 
 impl<F1: Gauge, F2: Gauge, F3: Gauge, F4: Gauge, F5: Gauge> Simulation<F1, F2, F3, F4, F5> {
+    // Before the first turn. It takes no memory.
+    fn new(alloc: Global, cell: Cell<F1, F2, F3, F4, F5>, opening: State) -> Self
+        requires made { IsMadeFor opening cell }
+        ensures { result ≡ first_moment (scales_of cell) opening }
+    {
+        Simulation {
+            cell,
+            bench: Bench::new(alloc, opening),
+            notebooks: Notebooks::new(alloc),
+        }
+    }
+
     // One turn of the schedule.
     fn turn(&mut self, turn: Turn) -> Result<(), SimFault>
-        requires axis { IsAxisScale turn_end self.old.cell.table.part.scale }
-        requires fitted { self.old.cell.table.part.scale ≡ self.old.cell.table.controller.turn.points }
-        requires ready { AreReady self.old.bench self.old.log.tallies self.old.cell.table.part.scale self.old.cell.table.controller.progress self.old.cell.table.controller.stopped self.old.cell.press.controller }
-        requires room { (m : Machine) → HasRoom (tally_of self.old.log.tallies m).counts }
-        ensures step { IfOk result (λ _. (c : CellScales) → c.turn ≡ self.old.cell.table.part.scale → StepsOn c turn
-            (moment_of self.old.bench self.old.log (plant_of self.old.cell.feed.part.belt self.old.cell.table.part.plant self.old.cell.robot.part self.old.cell.press.part self.old.cell.deposit.part.belt self.old.cell.crane.part) self.old.cell.table.controller.progress self.old.cell.press.controller.progress)
-            (moment_of self.new.bench self.new.log (plant_of self.new.cell.feed.part.belt self.new.cell.table.part.plant self.new.cell.robot.part self.new.cell.press.part self.new.cell.deposit.part.belt self.new.cell.crane.part) self.new.cell.table.controller.progress self.new.cell.press.controller.progress)) }
-        ensures ready { IfOk result (λ _. AreReady self.new.bench self.new.log.tallies self.new.cell.table.part.scale self.new.cell.table.controller.progress self.new.cell.table.controller.stopped self.new.cell.press.controller) }
-        ensures scale { self.new.cell.table.part.scale ≡ self.old.cell.table.part.scale }
-        ensures turn { self.new.cell.table.controller.turn ≡ self.old.cell.table.controller.turn }
-        ensures opening { self.new.bench.opening ≡ self.old.bench.opening }
+        requires room { (m : Machine) → HasRoom (notes_in self.old.notes m).counts }
+        ensures { IfOk result (λ _. StepsOn turn self.old self.new) }
     {
+        let bench = &mut self.bench;
+        let notebooks = &mut self.notebooks;
         match turn.machine {
-            Machine::Table => self.table_turn(turn.busy),
-            Machine::Press => self.press_turn(turn.busy),
+            Machine::Table => {
+                seat_turn(
+                    bench,
+                    &mut notebooks.table,
+                    &mut self.cell.table,
+                    turn.machine,
+                    turn.busy,
+                )
+            }
+            Machine::Press => {
+                seat_turn(
+                    bench,
+                    &mut notebooks.press,
+                    &mut self.cell.press,
+                    turn.machine,
+                    turn.busy,
+                )
+            }
             Machine::Feed | Machine::Robot | Machine::Deposit | Machine::Crane | Machine::Watch =>
                 Ok(()),
         }
     }
 
-    fn table_turn(&mut self, busy: bool) -> Result<(), SimFault>
-        requires axis { IsAxisScale turn_end self.old.cell.table.part.scale }
-        requires fitted { self.old.cell.table.part.scale ≡ self.old.cell.table.controller.turn.points }
-        requires ready { AreReady self.old.bench self.old.log.tallies self.old.cell.table.part.scale self.old.cell.table.controller.progress self.old.cell.table.controller.stopped self.old.cell.press.controller }
-        requires room { (m : Machine) → HasRoom (tally_of self.old.log.tallies m).counts }
-        ensures step { IfOk result (λ _. (c : CellScales) → c.turn ≡ self.old.cell.table.part.scale → StepsOn c (record { machine = TableMachine; busy = busy })
-            (moment_of self.old.bench self.old.log (plant_of self.old.cell.feed.part.belt self.old.cell.table.part.plant self.old.cell.robot.part self.old.cell.press.part self.old.cell.deposit.part.belt self.old.cell.crane.part) self.old.cell.table.controller.progress self.old.cell.press.controller.progress)
-            (moment_of self.new.bench self.new.log (plant_of self.new.cell.feed.part.belt self.new.cell.table.part.plant self.new.cell.robot.part self.new.cell.press.part self.new.cell.deposit.part.belt self.new.cell.crane.part) self.new.cell.table.controller.progress self.new.cell.press.controller.progress)) }
-        ensures ready { IfOk result (λ _. AreReady self.new.bench self.new.log.tallies self.new.cell.table.part.scale self.new.cell.table.controller.progress self.new.cell.table.controller.stopped self.new.cell.press.controller) }
-        ensures scale { self.new.cell.table.part.scale ≡ self.old.cell.table.part.scale }
-        ensures turn { self.new.cell.table.controller.turn ≡ self.old.cell.table.controller.turn }
-        ensures opening { self.new.bench.opening ≡ self.old.bench.opening }
-    {
-        if !self.log.is_running(Machine::Table) {
-            return Ok(());
-        }
-        if let Err(fault) = self.log.make_room(Machine::Table) {
-            return Err(fault);
-        }
-        self.bench.seat(Machine::Table, busy);
-        let worked = self.cell.table.turn(&mut self.bench);
-        self.log.note(Machine::Table, worked)
-    }
-
-    fn press_turn(&mut self, busy: bool) -> Result<(), SimFault>
-        requires axis { IsAxisScale turn_end self.old.cell.table.part.scale }
-        requires fitted { self.old.cell.table.part.scale ≡ self.old.cell.table.controller.turn.points }
-        requires ready { AreReady self.old.bench self.old.log.tallies self.old.cell.table.part.scale self.old.cell.table.controller.progress self.old.cell.table.controller.stopped self.old.cell.press.controller }
-        requires room { (m : Machine) → HasRoom (tally_of self.old.log.tallies m).counts }
-        ensures step { IfOk result (λ _. (c : CellScales) → c.turn ≡ self.old.cell.table.part.scale → StepsOn c (record { machine = Press; busy = busy })
-            (moment_of self.old.bench self.old.log (plant_of self.old.cell.feed.part.belt self.old.cell.table.part.plant self.old.cell.robot.part self.old.cell.press.part self.old.cell.deposit.part.belt self.old.cell.crane.part) self.old.cell.table.controller.progress self.old.cell.press.controller.progress)
-            (moment_of self.new.bench self.new.log (plant_of self.new.cell.feed.part.belt self.new.cell.table.part.plant self.new.cell.robot.part self.new.cell.press.part self.new.cell.deposit.part.belt self.new.cell.crane.part) self.new.cell.table.controller.progress self.new.cell.press.controller.progress)) }
-        ensures ready { IfOk result (λ _. AreReady self.new.bench self.new.log.tallies self.new.cell.table.part.scale self.new.cell.table.controller.progress self.new.cell.table.controller.stopped self.new.cell.press.controller) }
-        ensures scale { self.new.cell.table.part.scale ≡ self.old.cell.table.part.scale }
-        ensures turn { self.new.cell.table.controller.turn ≡ self.old.cell.table.controller.turn }
-        ensures opening { self.new.bench.opening ≡ self.old.bench.opening }
-    {
-        if !self.log.is_running(Machine::Press) {
-            return Ok(());
-        }
-        if let Err(fault) = self.log.make_room(Machine::Press) {
-            return Err(fault);
-        }
-        self.bench.seat(Machine::Press, busy);
-        let worked = self.cell.press.turn(&mut self.bench);
-        self.log.note(Machine::Press, worked)
-    }
-
     // What is kept of the run.
     fn into_record(self, start: State) -> RunRecord
-        ensures start { result.start ≡ start }
-        ensures counts { result.counts ≡ map (λ m. (tally_of self.log.tallies m).counts) all_machines }
-        ensures status { result.status ≡ map (λ m. (tally_of self.log.tallies m).status) all_machines }
-        ensures journals { result.journals ≡ self.log.journals }
-        ensures end { result.end ≡ Some self.bench.state }
-        ensures axes { result.axes ≡ positions_in (plant_of self.cell.feed.part.belt self.cell.table.part.plant self.cell.robot.part self.cell.press.part self.cell.deposit.part.belt self.cell.crane.part) }
+        ensures { Keeps self start result }
     {
+        let status = self.status();
         let axes = self.axes();
-        let tallies = &self.log.tallies;
-        let counts = [
-            tallies.feed.counts,
-            tallies.table.counts,
-            tallies.robot.counts,
-            tallies.press.counts,
-            tallies.deposit.counts,
-            tallies.crane.counts,
-            tallies.watch.counts,
-        ];
-        let status = [
-            tallies.feed.status,
-            tallies.table.status,
-            tallies.robot.status,
-            tallies.press.status,
-            tallies.deposit.status,
-            tallies.crane.status,
-            tallies.watch.status,
-        ];
+        let counts = self.notebooks.counts();
         RunRecord {
             start,
             counts,
             status,
             end: Some(self.bench.state()),
             axes,
-            journals: self.log.journals,
+            journals: self.notebooks.into_journals(),
         }
+    }
+}
+
+impl<F1: Gauge, F2: Gauge, F3: Gauge, F4: Gauge, F5: Gauge> Simulation<F1, F2, F3, F4, F5> {
+    // How each machine fares, in the order of `Machine::ALL`.
+    fn status(&self) -> [Status; 7]
+        ensures { result ≡ map (λ m. status_by (side_in self.now.sides m).stopped) all_machines }
+    {
+        let idle = status_of(None);
+        [
+            idle,
+            status_of(self.cell.table.controller.stopped()),
+            idle,
+            status_of(self.cell.press.controller.stopped()),
+            idle,
+            idle,
+            idle,
+        ]
     }
 
     // Where the axes stand, in the order of reports.
     fn axes(&self) -> [i32; 8]
-        ensures { result ≡ positions_in (plant_of self.now.cell.feed.part.belt self.now.cell.table.part.plant self.now.cell.robot.part self.now.cell.press.part self.now.cell.deposit.part.belt self.now.cell.crane.part) }
+        ensures { result ≡ positions_in (plant_of (state_at self.now)) }
     {
         let cell = &self.cell;
         [

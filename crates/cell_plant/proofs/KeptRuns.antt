@@ -1,0 +1,107 @@
+-- What each machine keeps of its own side holds of every side in every state of a run.
+use Rattle.std.proofs.Common.{◌≡◌, Bool, true, false, ◌&&◌, None, is_none, List, [], ◌∷◌, refl, sym, ap, ◌∙◌, subst}
+use Rattle.cell_types.specs.declared.machine.Machine.{Machine}
+use Rattle.cell_types.specs.declared.machine.Machine.TheVariants.{Feed, Table, Robot, Press, Deposit, Crane, Watch}
+use Rattle.cell_types.specs.Same.{same_machine, one_machine}
+use Rattle.cell_rules.specs.ModelState.{ModelState}
+use Rattle.cell_rules.specs.Sound.{IsSound}
+use Rattle.cell_rules.specs.Laws.{RunsClear}
+use Rattle.cell_rules.proofs.Clear.{clear_next}
+use Rattle.cell_rules.proofs.Soundness.{next_keeps}
+use Rattle.cell_seat.proofs.Fares.{none_runs}
+use Rattle.cell_seat.proofs.Keeping.{Keeping, Changes, takes_keeps, takes_changes, others_keep, by_call}
+use Rattle.cell_parts.specs.Axes.{CellScales}
+use Rattle.cell_plant.specs.declared.schedule.Turn.{Turn}
+use Rattle.cell_plant.specs.Machines.{ProgressOf, PartOf, steps_of, rig_of, has_controller}
+use Rattle.cell_plant.specs.CellStates.{SideOf, CellState}
+use Rattle.cell_plant.specs.Runs.{Step, TakesTurn, LeadsIf, goes_on, IsRun}
+
+-- each program is its machine's
+pub own_program : (c : CellScales) (m : Machine) → (steps_of c m).machine ≡ m
+own_program c Feed = refl
+own_program c Table = refl
+own_program c Robot = refl
+own_program c Press = refl
+own_program c Deposit = refl
+own_program c Crane = refl
+own_program c Watch = refl
+
+second_true : (a b : Bool) → (a && b) ≡ true → b ≡ true
+second_true true b e = e
+second_true false b e = cc
+
+module _ (c : CellScales) (InvOf ToldOf : (m : Machine) → ModelState → ProgressOf m → PartOf m → Type 0) (keeping : (m : Machine) → Keeping (steps_of c m) (rig_of c m) (InvOf m) (ToldOf m)) where
+  abbrev Holds : (n : Machine) → ModelState → SideOf n → Type 0
+  Holds n z side = InvOf n z side.progress side.part
+
+  -- the interlock is sound and its belts run clear, and each machine has what it keeps
+  pub record CellInv (w : CellState) : Type 0 where
+    pub sound : IsSound w.interlock
+    pub clear : RunsClear w.interlock
+    pub each : (n : Machine) → Holds n w.interlock (w.side n)
+
+  changes : (m : Machine) (busy : Bool) (w : CellState) (s : Step) → TakesTurn c m busy w s → Changes w.interlock m s.set.interlock
+  changes m busy w s k =
+      subst (λ x. Changes w.interlock x s.set.interlock) (own_program c m)
+      (takes_changes (steps_of c m) (rig_of c m) busy w.interlock s.set.interlock (w.side m) (s.set.side m) s.asked k.takes)
+
+  -- once the actuators are set: the machine's own side, and those of the others
+  own_told : (m : Machine) (busy : Bool) (w : CellState) (s : Step) → TakesTurn c m busy w s → (w.side m).stopped ≡ None → CellInv w → ToldOf m s.set.interlock (s.set.side m).progress (s.set.side m).part
+  own_told m busy w s k runs i = takes_keeps (steps_of c m) (rig_of c m) (InvOf m) (ToldOf m) (keeping m) busy w.interlock s.set.interlock (w.side m) (s.set.side m) s.asked k.takes runs i.sound (i.each m)
+
+  own_side : (m n : Machine) (busy : Bool) (w : CellState) (s : Step) → m ≡ n → TakesTurn c m busy w s → (w.side m).stopped ≡ None → CellInv w → Holds n s.set.interlock (s.set.side n)
+  own_side m n busy w s e k runs i = subst (λ x. Holds x s.set.interlock (s.set.side x)) e ((keeping m).told s.set.interlock (s.set.side m).progress (s.set.side m).part (own_told m busy w s k runs i))
+
+  other_side : (m n : Machine) (busy : Bool) (w : CellState) (s : Step) → same_machine m n ≡ false → TakesTurn c m busy w s → CellInv w → Holds n s.set.interlock (s.set.side n)
+  other_side m n busy w s apart k i =
+      subst (λ x. Holds n s.set.interlock x) (sym (k.others_set n apart))
+      (others_keep (steps_of c n) (rig_of c n) (InvOf n) (ToldOf n) (keeping n) w.interlock s.set.interlock m (w.side n).progress (w.side n).part (ap (same_machine m) (own_program c n) ∙ apart) (changes m busy w s k) i.sound (i.each n))
+
+  by_machine : (b : Bool) (m n : Machine) (busy : Bool) (w : CellState) (s : Step) → same_machine m n ≡ b → TakesTurn c m busy w s → (w.side m).stopped ≡ None → CellInv w → Holds n s.set.interlock (s.set.side n)
+  by_machine true m n busy w s e k runs i = own_side m n busy w s (one_machine m n e) k runs i
+  by_machine false m n busy w s e k runs i = other_side m n busy w s e k i
+
+  pub set_keeps : (m : Machine) (busy : Bool) (w : CellState) (s : Step) → TakesTurn c m busy w s → (w.side m).stopped ≡ None → CellInv w → CellInv s.set
+  set_keeps m busy w s k runs i = record {
+    sound = by_call IsSound w.interlock m s.set.interlock (changes m busy w s k) i.sound (λ call. next_keeps w.interlock m call i.sound);
+    clear = by_call RunsClear w.interlock m s.set.interlock (changes m busy w s k) i.clear (λ call. clear_next w.interlock m call i.clear);
+    each = λ n. by_machine (same_machine m n) m n busy w s refl k runs i;
+  }
+
+  -- once the part has moved
+  own_moved : (m n : Machine) (busy : Bool) (w : CellState) (s : Step) → m ≡ n → TakesTurn c m busy w s → (w.side m).stopped ≡ None → CellInv w → Holds n s.set.interlock (s.moved.side n)
+  own_moved m n busy w s e k runs i =
+      subst (λ x. Holds x s.set.interlock (s.moved.side x)) e
+      (subst (λ x. Holds m s.set.interlock x) (sym k.moved) ((keeping m).moves s.set.interlock (s.set.side m).progress (s.set.side m).part (own_told m busy w s k runs i)))
+
+  moved_by : (b : Bool) (m n : Machine) (busy : Bool) (w : CellState) (s : Step) → same_machine m n ≡ b → TakesTurn c m busy w s → (w.side m).stopped ≡ None → CellInv w → CellInv s.set → Holds n s.set.interlock (s.moved.side n)
+  moved_by true m n busy w s e k runs i set = own_moved m n busy w s (one_machine m n e) k runs i
+  moved_by false m n busy w s e k runs i set = subst (λ x. Holds n s.set.interlock x) (sym (k.others_moved n e)) (set.each n)
+
+  pub moved_keeps : (m : Machine) (busy : Bool) (w : CellState) (s : Step) → TakesTurn c m busy w s → (w.side m).stopped ≡ None → CellInv w → CellInv s.set → CellInv s.moved
+  moved_keeps m busy w s k runs i set = record {
+    sound = subst IsSound (sym k.interlock) set.sound;
+    clear = subst RunsClear (sym k.interlock) set.clear;
+    each = λ n. subst (λ z. Holds n z (s.moved.side n)) (sym k.interlock) (moved_by (same_machine m n) m n busy w s refl k runs i set);
+  }
+
+  -- a step keeps what holds, in both of its states
+  pub step_keeps : (b : Bool) (m : Machine) (busy : Bool) (w : CellState) (s : Step) → goes_on w m ≡ b → LeadsIf b c m busy w s → CellInv w → CellInv s.set × CellInv s.moved
+  step_keeps true m busy w s e k i =
+      let runs = none_runs (w.side m).stopped (second_true (has_controller m) (is_none (w.side m).stopped) e) in
+      let set = set_keeps m busy w s k runs i in
+      (set, moved_keeps m busy w s k runs i set)
+  step_keeps false m busy w s e k i = (subst CellInv (sym k.set) i, subst CellInv (sym k.moved) i)
+
+  -- and so it holds in every state of a run
+  abbrev pub Throughout : CellState → List Step → Type 0
+  Throughout w [] = CellInv w
+  Throughout w (s ∷ ss) = CellInv w × (CellInv s.set × Throughout s.moved ss)
+
+  pub run_keeps : (w : CellState) (turns : List Turn) (steps : List Step) → CellInv w → IsRun c w turns steps → Throughout w steps
+  run_keeps w [] [] i r = i
+  run_keeps w (t ∷ ts) (s ∷ ss) i r =
+      let kept = step_keeps (goes_on w t.machine) t.machine t.busy w s refl r.1.0 i in
+      (i, (kept.0, run_keeps s.moved ts ss kept.1 r.1.1))
+  run_keeps w [] (s ∷ ss) i r = absurd r
+  run_keeps w (t ∷ ts) [] i r = absurd r

@@ -1,0 +1,264 @@
+-- How far a simulation has come: the run so far, and what was noted of it.
+use Rattle.std.proofs.Common.{◌≡◌, ℕ, suc, ◌+◌, ◌<◌, ◌≤◌, Bool, true, false, ◌&&◌, cond, List, [], ◌∷◌, ◌++◌, append-nil, append_assoc, length, take, map, count_by, add-zero, Some, None, Result, Ok, Err, refl, sym, ap, ◌∙◌, subst, if◌then◌else◌, arith}
+use Rattle.std.proofs.lemmas.List.{length-take-le}
+use Rattle.std.proofs.lemmas.List.Sums.{sum_by-append, sum_by-cons, count_by-le-length}
+use Rattle.cell_types.specs.declared.machine.Machine.{Machine}
+use Rattle.cell_types.specs.declared.machine.Machine.TheVariants.{Feed, Table, Robot, Press, Deposit, Crane, Watch}
+use Rattle.cell_types.specs.declared.call.Call.{Call}
+use Rattle.cell_types.specs.declared.answer.Answer.{Answer}
+use Rattle.cell_types.specs.declared.answer.Event.{Event}
+use Rattle.cell_types.specs.declared.journal.Entry.{Entry}
+use Rattle.cell_types.specs.declared.reply.Reply.{Reply}
+use Rattle.cell_types.specs.declared.reply.Reply.TheVariants.{Settled, Busy}
+use Rattle.cell_types.specs.Everything.{all_machines}
+use Rattle.cell_types.specs.Journals.{journal_of}
+use Rattle.cell_types.specs.Same.{same_machine}
+use Rattle.cell_rules.specs.declared.heard.LineFault.{LineFault}
+use Rattle.cell_rules.specs.ModelState.{ModelState, one_if}
+use Rattle.cell_rules.specs.Journal.{noted, entry_of, state_left}
+use Rattle.cell_rules.specs.History.{after, IsLegal}
+use Rattle.cell_rules.specs.Start.{IsStartState}
+use Rattle.cell_rules.proofs.Histories.{after-append}
+use Rattle.cell_rules.proofs.SeenLemmas.{legal-append}
+use Rattle.cell_control.proofs.TurnMaps.{turn_either}
+use Rattle.cell_notes.specs.declared.counts.Counts.{Counts}
+use Rattle.cell_notes.specs.declared.run_record.RunRecord.{RunRecord}
+use Rattle.cell_notes.specs.Asks.{Asked, is_done_reply, is_read_reply, is_refused_reply, is_busy_reply, came_back, settled_in, entries_in}
+use Rattle.cell_notes.specs.Notes.{Notes, HasRoom, counts_with, notes_with}
+use Rattle.cell_seat.specs.Fares.{status_of}
+use Rattle.cell_seat.specs.SeatTurns.{Answers}
+use Rattle.cell_parts.specs.Axes.{CellScales, AreCellScales}
+use Rattle.cell_plant.specs.declared.schedule.Turn.{Turn}
+use Rattle.cell_plant.specs.Machines.{steps_of, rig_of}
+use Rattle.cell_plant.specs.CellStates.{CellState, plant_of, side_in, cell_at_start}
+use Rattle.cell_plant.specs.Runs.{Step, TakesTurn, IsPassedOver, LeadsIf, Leads, goes_on, IsRun, end_of}
+use Rattle.cell_plant.specs.Records.{is_turn_of, is_told, counts_in, events_in, positions_in}
+use Rattle.cell_plant.specs.Cells.{TellsRun}
+use Rattle.cell_plant.specs.Moments.{Moment, StepsOn, Keeps, first_moment, state_at, notes_in}
+use Rattle.cell_plant.proofs.KeptRuns.{own_program}
+use Rattle.cell_plant.proofs.SafeRuns.{every_run}
+
+-- a run goes on by a turn
+pub run-push : (c : CellScales) (w : CellState) (ts : List Turn) (ss : List Step) (t : Turn) (s : Step) → IsRun c w ts ss → s.machine ≡ t.machine → Leads c t.machine t.busy (end_of w ss) s → IsRun c w (ts ++ t ∷ []) (ss ++ s ∷ [])
+run-push c w [] [] t s r e l = (e, (l, tt))
+run-push c w (u ∷ ts) (x ∷ ss) t s r e l = (r.0, (r.1.0, run-push c x.moved ts ss t s r.1.1 e l))
+run-push c w [] (x ∷ ss) t s r e l = absurd r
+run-push c w (u ∷ ts) [] t s r e l = absurd r
+
+pub end-push : (w : CellState) (ss : List Step) (s : Step) → end_of w (ss ++ s ∷ []) ≡ s.moved
+end-push w [] s = refl
+end-push w (x ∷ ss) s = end-push x.moved ss s
+
+pub run-length : (c : CellScales) (w : CellState) (ts : List Turn) (ss : List Step) → IsRun c w ts ss → length ss ≡ length ts
+run-length c w [] [] r = refl
+run-length c w (t ∷ ts) (s ∷ ss) r = ap (λ n. suc n) (run-length c s.moved ts ss r.1.1)
+run-length c w [] (s ∷ ss) r = absurd r
+run-length c w (t ∷ ts) [] r = absurd r
+
+events-push : (ss : List Step) (s : Step) → events_in (ss ++ s ∷ []) ≡ events_in ss ++ settled_in s.machine s.asked
+events-push [] s = append-nil (settled_in s.machine s.asked)
+events-push (x ∷ ss) s = ap (λ h. settled_in x.machine x.asked ++ h) (events-push ss s) ∙ sym (append_assoc (settled_in x.machine x.asked) (events_in ss) (settled_in s.machine s.asked))
+
+-- counts over one step more
+one_counted : (b : Bool) → cond b 1 0 + 0 ≡ one_if b
+one_counted true = refl
+one_counted false = refl
+
+count-push : (p : Step → Bool) (ss : List Step) (s : Step) → count_by p (ss ++ s ∷ []) ≡ count_by p ss + one_if (p s)
+count-push p ss s = sum_by-append (λ x. cond (p x) 1 0) ss (s ∷ []) ∙ ap (λ n. count_by p ss + n) (sum_by-cons (λ x. cond (p x) 1 0) s [] ∙ one_counted (p s))
+
+abbrev counted : Counts → Bool → Asked → Counts
+counted c own asked =
+    record {
+      turns = c.turns + one_if own;
+      done = c.done + one_if (own && came_back is_done_reply asked);
+      read = c.read + one_if (own && came_back is_read_reply asked);
+      refused = c.refused + one_if (own && came_back is_refused_reply asked);
+      busy = c.busy + one_if (own && came_back is_busy_reply asked);
+    }
+
+counted_by : (c : Counts) (own : Bool) (asked : Asked) → counted c own asked ≡ (if own then counts_with c asked else c)
+counted_by c true asked = refl
+counted_by c false asked = rw (add-zero c.turns, add-zero c.done, add-zero c.read, add-zero c.refused, add-zero c.busy) refl
+
+counts-push : (ss : List Step) (s : Step) (m : Machine) → counts_in (ss ++ s ∷ []) m ≡ (if is_turn_of m s then counts_with (counts_in ss m) s.asked else counts_in ss m)
+counts-push ss s m =
+    rw (count-push (is_turn_of m) ss s, count-push (is_told is_done_reply m) ss s, count-push (is_told is_read_reply m) ss s, count-push (is_told is_refused_reply m) ss s, count-push (is_told is_busy_reply m) ss s)
+    (counted_by (counts_in ss m) (is_turn_of m s) s.asked)
+
+-- what a machine notes of a history and of what follows it
+noted_by : (b : Bool) (s : ModelState) (e : Event) (xs ys zs : List Entry) → xs ≡ ys ++ zs → cond b (entry_of s e ∷ xs) xs ≡ cond b (entry_of s e ∷ ys) ys ++ zs
+noted_by true s e xs ys zs k = ap (λ l. entry_of s e ∷ l) k
+noted_by false s e xs ys zs k = k
+
+pub noted-append : (s : ModelState) (h k : List Event) (m : Machine) → noted s (h ++ k) m ≡ noted s h m ++ noted (after s h) k m
+noted-append s [] k m = refl
+noted-append s (e ∷ h) k m = noted_by (same_machine e.machine m) s e (noted (state_left s e) (h ++ k) m) (noted (state_left s e) h m) (noted (after s (e ∷ h)) k m) (noted-append (state_left s e) h k m)
+
+-- what the interlock was told in a step
+pub record IsAnswered (s : ModelState) (m : Machine) (asked : Asked) (t : ModelState) : Type 0 where
+  pub legal : IsLegal s (settled_in m asked)
+  pub reached : t ≡ after s (settled_in m asked)
+  pub entries : (n : Machine) → noted s (settled_in m asked) n ≡ (if same_machine m n then entries_in asked else [])
+
+none_noted : (b : Bool) (es : List Entry) → es ≡ [] → es ≡ (if b then es else [])
+none_noted true es e = refl
+none_noted false es e = e
+
+abbrev entry_at : Call → Answer → ℕ → Entry
+entry_at c a n = record { call = c; answer = a; stamp = n }
+
+answered_none : (s : ModelState) (m : Machine) (asked : Asked) (t : ModelState) → (t ≡ s) × (asked ≡ None) → IsAnswered s m asked t
+answered_none s m asked t k = subst (λ a. IsAnswered s m a t) (sym k.1) (record { legal = tt; reached = k.0; entries = λ n. none_noted (same_machine m n) [] refl })
+
+one_noted : (b : Bool) (s : ModelState) (e : Event) (x : Entry) → entry_of s e ≡ x → cond b (entry_of s e ∷ []) [] ≡ (if b then x ∷ [] else [])
+one_noted true s e x k = ap (λ y. y ∷ []) k
+one_noted false s e x k = refl
+
+answered_by : (s : ModelState) (m : Machine) (busy : Bool) (c : Call) (r : Result Reply LineFault) (t : ModelState) → Answers s m busy c r t → IsAnswered s m (Some (c, r)) t
+answered_by s m busy c (Ok (Settled a stamp)) t k =
+    let e : Event = record { machine = m; call = c; answer = a } in
+    record {
+      legal = (k.1, tt);
+      reached = k.3;
+      entries = λ n. one_noted (same_machine m n) s e (record { call = c; answer = a; stamp = stamp }) (ap (λ z. entry_at c a z) (ap (λ x. x.stamp) (sym k.3) ∙ sym k.2));
+    }
+answered_by s m busy c (Ok (Busy lost stamp)) t k = record { legal = tt; reached = k.3; entries = λ n. none_noted (same_machine m n) [] refl }
+answered_by s m busy c (Err fault) t k = record { legal = tt; reached = k.1; entries = λ n. none_noted (same_machine m n) [] refl }
+
+answered_once : (s : ModelState) (m : Machine) (busy : Bool) (asked : Asked) (t : ModelState) (c : Call) (r : Result Reply LineFault) → Answers s m busy c r t × (asked ≡ Some (c, r)) → IsAnswered s m asked t
+answered_once s m busy asked t c r k = subst (λ a. IsAnswered s m a t) (sym k.1) (answered_by s m busy c r t k.0)
+
+answered_taken : (c : CellScales) (m : Machine) (busy : Bool) (w : CellState) (s : Step) → TakesTurn c m busy w s → IsAnswered w.interlock m s.asked s.moved.interlock
+answered_taken c m busy w s k =
+    let t = steps_of c m in
+    let z = w.interlock in
+    let y = s.set.interlock in
+    subst (λ x. IsAnswered z m s.asked x) (sym k.interlock)
+    (subst (λ x. IsAnswered z x s.asked y) (own_program c m)
+    (turn_either t ((y ≡ z) × (s.asked ≡ None)) (λ q r. Answers z t.machine busy q r y × (s.asked ≡ Some (q, r))) (IsAnswered z t.machine s.asked y) (answered_none z t.machine s.asked y) (answered_once z t.machine busy s.asked y) (w.side m).stopped (w.side m).progress
+    k.takes.sense k.takes.turned k.takes.row))
+
+answered_if : (b : Bool) (c : CellScales) (m : Machine) (busy : Bool) (w : CellState) (s : Step) → LeadsIf b c m busy w s → IsAnswered w.interlock m s.asked s.moved.interlock
+answered_if true c m busy w s k = answered_taken c m busy w s k
+answered_if false c m busy w s k = answered_none w.interlock m s.asked s.moved.interlock (ap (λ x. x.interlock) k.moved, k.asked)
+
+-- in a turn that isn't taken nothing is asked
+none_asked : (b : Bool) (c : CellScales) (m : Machine) (busy : Bool) (w : CellState) (s : Step) → LeadsIf b c m busy w s → s.taken ≡ false → entries_in s.asked ≡ []
+none_asked true c m busy w s k e = let f : true ≡ false = sym k.taken ∙ e in cc
+none_asked false c m busy w s k e = ap entries_in k.asked
+
+-- the run of the turns so far, and what was noted of it
+pub record RunSoFar (turns : List Turn) (m : Moment) : Type 0 where
+  pub steps : List Step
+  pub run : IsRun m.scales (cell_at_start m.opening) turns steps
+  pub is_end : state_at m ≡ end_of (cell_at_start m.opening) steps
+  pub history : m.history ≡ events_in steps
+  pub legal : IsLegal m.opening m.history
+  pub reached : m.interlock ≡ after m.opening m.history
+  pub counts : (n : Machine) → (notes_in m.notes n).counts ≡ counts_in steps n
+  pub journals : (n : Machine) → (notes_in m.notes n).journal ≡ noted m.opening m.history n
+
+pub at_start : (c : CellScales) (opening : ModelState) → RunSoFar [] (first_moment c opening)
+at_start c opening = record { steps = []; run = tt; is_end = refl; history = refl; legal = tt; reached = refl; counts = λ n. refl; journals = λ n. refl }
+
+journal_more : (b : Bool) (n : Notes) (asked : Asked) → (if b then notes_with n asked else n).journal ≡ n.journal ++ (if b then entries_in asked else [])
+journal_more true n asked = refl
+journal_more false n asked = sym (append-nil n.journal)
+
+counts_more : (b : Bool) (n : Notes) (asked : Asked) → (if b then notes_with n asked else n).counts ≡ (if b then counts_with n.counts asked else n.counts)
+counts_more true n asked = refl
+counts_more false n asked = refl
+
+entries_if : (taken own : Bool) (es : List Entry) → (taken ≡ false → es ≡ []) → (if taken && own then es else []) ≡ (if own then es else [])
+entries_if true own es k = refl
+entries_if false true es k = sym (k refl)
+entries_if false false es k = refl
+
+module _ (turns : List Turn) (t : Turn) (before now : Moment) (g : RunSoFar turns before) (o : StepsOn t before now) where
+  abbrev s : Step
+  s = o.step
+
+  abbrev start : CellState
+  start = cell_at_start before.opening
+
+  answered : IsAnswered before.interlock t.machine s.asked s.moved.interlock
+  answered = answered_if (goes_on (state_at before) t.machine) before.scales t.machine t.busy (state_at before) s o.leads
+
+  count_next : (n : Machine) → (notes_in now.notes n).counts ≡ counts_in (g.steps ++ s ∷ []) n
+  count_next n =
+      ap (λ (x : Notes). x.counts) (o.notes n)
+      ∙ counts_more (s.taken && same_machine t.machine n) (notes_in before.notes n) s.asked
+      ∙ ap (λ (x : Counts). if s.taken && same_machine t.machine n then counts_with x s.asked else x) (g.counts n)
+      ∙ ap (λ (x : Machine). if s.taken && same_machine x n then counts_with (counts_in g.steps n) s.asked else counts_in g.steps n) (sym o.machine)
+      ∙ sym (counts-push g.steps s n)
+
+  journal_next : (n : Machine) → (notes_in now.notes n).journal ≡ noted before.opening (before.history ++ settled_in t.machine s.asked) n
+  journal_next n =
+      ap (λ (x : Notes). x.journal) (o.notes n)
+      ∙ journal_more (s.taken && same_machine t.machine n) (notes_in before.notes n) s.asked
+      ∙ ap (λ es. (notes_in before.notes n).journal ++ es) (entries_if s.taken (same_machine t.machine n) (entries_in s.asked) (none_asked (goes_on (state_at before) t.machine) before.scales t.machine t.busy (state_at before) s o.leads) ∙ sym (answered.entries n))
+      ∙ ap (λ es. es ++ noted before.interlock (settled_in t.machine s.asked) n) (g.journals n)
+      ∙ ap (λ z. noted before.opening before.history n ++ noted z (settled_in t.machine s.asked) n) g.reached
+      ∙ sym (noted-append before.opening before.history (settled_in t.machine s.asked) n)
+
+  -- the same by the opening and the scales that it began with
+  pub next_by : RunSoFar (turns ++ t ∷ []) (record now { scales = before.scales; opening = before.opening })
+  next_by =
+      record {
+        steps = g.steps ++ s ∷ [];
+        run = run-push before.scales start turns g.steps t s g.run o.machine (subst (λ w. Leads before.scales t.machine t.busy w s) g.is_end o.leads);
+        is_end = o.state ∙ sym (end-push start g.steps s);
+        history = o.history ∙ ap (λ x. x ++ settled_in t.machine s.asked) g.history ∙ ap (λ m. events_in g.steps ++ settled_in m s.asked) (sym o.machine) ∙ sym (events-push g.steps s);
+        legal = subst (IsLegal before.opening) (sym o.history) (legal-append before.opening before.history (settled_in t.machine s.asked) g.legal (subst (λ x. IsLegal x (settled_in t.machine s.asked)) g.reached answered.legal));
+        reached =
+            ap (λ w. w.interlock) o.state
+            ∙ answered.reached
+            ∙ ap (λ x. after x (settled_in t.machine s.asked)) g.reached
+            ∙ sym (after-append before.opening before.history (settled_in t.machine s.asked))
+            ∙ ap (after before.opening) (sym o.history);
+        counts = count_next;
+        journals = λ n. journal_next n ∙ ap (λ h. noted before.opening h n) (sym o.history);
+      }
+
+  abbrev by_scales : CellScales → ModelState → Moment
+  by_scales c z = record now { scales = c; opening = z }
+
+  pub next : RunSoFar (turns ++ t ∷ []) now
+  next = subst (λ z. RunSoFar (turns ++ t ∷ []) (by_scales now.scales z)) (sym o.opening) (subst (λ c. RunSoFar (turns ++ t ∷ []) (by_scales c before.opening)) (sym o.scales) next_by)
+
+-- there is room for one more turn
+below : (a b i : ℕ) → a ≤ b → b ≡ i → i < 18446744073709551615 → a < 18446744073709551615
+below a b i h e l = omega arith
+
+pub room_left : (turns : List Turn) (m : Moment) (i : ℕ) → RunSoFar turns m → length turns ≡ i → i < 18446744073709551615 → (n : Machine) → HasRoom (notes_in m.notes n).counts
+room_left turns m i g e l n =
+    let long = run-length m.scales (cell_at_start m.opening) turns g.steps g.run ∙ e in
+    let some = λ (p : Step → Bool). below (count_by p g.steps) (length g.steps) i (count_by-le-length p g.steps) long l in
+    subst HasRoom (sym (g.counts n))
+    (record { turns = some (is_turn_of n); done = some (is_told is_done_reply n); read = some (is_told is_read_reply n); refused = some (is_told is_refused_reply n); busy = some (is_told is_busy_reply n) })
+
+pub taken-length : (i : ℕ) (ts : List Turn) → i < length ts → length (take i ts) ≡ i
+taken-length i ts h = length-take-le i ts (omega arith)
+
+-- the record of a run
+by_machine : {A : Type 0} → (f g : Machine → A) → ((n : Machine) → f n ≡ g n) → map f all_machines ≡ map g all_machines
+by_machine f g e = rw (e Feed, e Table, e Robot, e Press, e Deposit, e Crane, e Watch) refl
+
+pub tells : (turns : List Turn) (m : Moment) (r : RunRecord) → AreCellScales m.scales → IsStartState m.opening → RunSoFar turns m → Keeps m m.opening r → TellsRun m.scales m.opening turns r
+tells turns m r scales start g k =
+    record {
+      steps = g.steps;
+      run = g.run;
+      told = record {
+        start = k.start;
+        counts = k.counts ∙ by_machine (λ n. (notes_in m.notes n).counts) (counts_in g.steps) g.counts;
+        status = k.status ∙ ap (λ (w : CellState). map (λ n. status_of (w.side n).stopped) all_machines) g.is_end;
+        journals = λ n. k.journals n ∙ g.journals n ∙ ap (λ x. noted m.opening x n) g.history;
+        end = k.end ∙ ap (λ (w : CellState). Some w.interlock) g.is_end;
+        axes = k.axes ∙ ap (λ (w : CellState). positions_in (plant_of w)) g.is_end;
+      };
+      safe = every_run m.scales m.opening turns g.steps scales start g.run;
+      legal = subst (IsLegal m.opening) g.history g.legal;
+      reached = ap (λ (w : CellState). w.interlock) (sym g.is_end) ∙ g.reached ∙ ap (after m.opening) g.history;
+    }

@@ -1,0 +1,279 @@
+-- What the table keeps of its side, in every state of a run.
+use Rattle.std.proofs.Common.{◌≡◌, ℤ, pos, ◌+ℤ◌, ◌-ℤ◌, ◌<ℤ◌, ◌≤ℤ◌, Bool, true, false, ◌&&◌, ◌⊎◌, inl, inr, List, [], ◌∷◌, Option, Some, None, Result, Ok, refl, sym, ap, ◌∙◌, subst, if◌then◌else◌, arith}
+use Rattle.std.proofs.lemmas.Int.{ints}
+use Rattle.cell_types.specs.declared.machine.Machine.TheVariants.{Table as TableMachine}
+use Rattle.cell_types.specs.declared.zone.Zone.TheVariants.{Z1, Z2}
+use Rattle.cell_types.specs.declared.posture.Posture.{Posture}
+use Rattle.cell_types.specs.declared.posture.Posture.TheVariants.{Moving, OpenIn}
+use Rattle.cell_types.specs.declared.pose.Pose.TheVariants.{Turning, Loading, Unloading}
+use Rattle.cell_types.specs.declared.call.Call.{Call}
+use Rattle.cell_types.specs.declared.call.Call.TheVariants.{Claim, Give, Take, Release, SetPose}
+use Rattle.cell_types.specs.declared.answer.Answer.TheVariants.{Done}
+use Rattle.cell_types.specs.declared.reply.Reply.{Reply}
+use Rattle.cell_calib.specs.Scale.{Scale, IsScale}
+use Rattle.cell_calib.specs.Line.{raw_width, IsNear, IsReading}
+use Rattle.cell_calib.specs.declared.sense.TableSense.{TableSense}
+use Rattle.cell_calib.proofs.LineLemmas.{near_position_lem}
+use Rattle.cell_devices.specs.declared.motor.Motor.{Motor}
+use Rattle.cell_devices.specs.declared.motor.Motor.TheVariants.{Off, Plus, Minus}
+use Rattle.cell_devices.specs.declared.act.TableAct.{TableAct}
+use Rattle.cell_rules.specs.declared.heard.LineFault.{LineFault}
+use Rattle.cell_rules.specs.ModelState.{ModelState}
+use Rattle.cell_rules.specs.Start.{IsStartState}
+use Rattle.cell_rules.specs.Sound.{IsSound}
+use Rattle.cell_rules.specs.Refusals.{posture_at}
+use Rattle.cell_rules.specs.Reply.{reply, changed}
+use Rattle.cell_rules.specs.History.{posture_given}
+use Rattle.cell_rules.proofs.OwnSide.{posture-foreign}
+use Rattle.cell_rules.proofs.Postures.{posture-changed}
+use Rattle.cell_stations.specs.declared.table_step.TableStep.{TableStep}
+use Rattle.cell_stations.specs.declared.table_step.TableStep.TheVariants.{ClaimEntry, ClaimExit, LeaveForLoading, MoveToLoading, PoseLoading, ReleaseEntry, TakePlate, LeaveForUnloading, MoveToUnloading, PoseUnloading, GivePlate, ClaimBack}
+use Rattle.cell_stations.specs.declared.table_step.TableProgress.{TableProgress}
+use Rattle.cell_parts.specs.Axes.{IsAxisScale, IsWithin, lift_end, turn_end}
+use Rattle.cell_parts.specs.Plant.{TablePlant, table_at_start, set_axis, set_table, moved_table}
+use Rattle.cell_parts.specs.declared.axis.Axis.{Axis}
+use Rattle.cell_control.specs.declared.fault.CtlFault.{CtlFault}
+use Rattle.cell_control.specs.Turns.{Turned, Turns}
+use Rattle.cell_stations.specs.declared.table_step.TableReading.{TableReading}
+use Rattle.cell_devices.specs.Drives.{StopsAt, DrivesTo}
+use Rattle.cell_stations.specs.TableProgram.{call_of, step_after, after_done, is_off, after_act, height_for, rotation_stop, Senses, Acts, table_start, table_steps}
+use Rattle.cell_control.proofs.Facts.{Finds, are_foreign}
+use Rattle.cell_stations.proofs.TableFacts.{TableKnows, table-knowing, drives_at}
+use Rattle.cell_seat.specs.Sides.{act_or_rest}
+use Rattle.cell_seat.proofs.Keeping.{Keeping, turn_tells}
+use Rattle.cell_parts.specs.Shows.{TableSwitches, TableShows}
+use Rattle.cell_parts.specs.Collisions.{IsOn, TableMoves, DrivesPast}
+use Rattle.cell_parts.specs.PositionDemands.{HoldsIn, RestsAtLoading}
+use Rattle.cell_parts.specs.Rigs.{table_rig}
+use Rattle.cell_plant.proofs.WithinLemmas.{between, moved_within}
+
+abbrev at_rest_act : TableAct
+at_rest_act = record { height = Off; rotation = Off }
+
+-- what its step knows of the interlock; it stands within its ends, and moves only while it holds both its zones, which move; it stands ready to load where it is open to the feed belt, and before it opens
+pub record TableInv (z : ModelState) (p : TableProgress) (t : TablePlant) : Type 0 where
+  pub knows : TableKnows p z
+  pub lift_within : IsWithin lift_end t.lift.position
+  pub turn_within : IsWithin turn_end t.turn.position
+  pub moving : TableMoves t → HoldsIn Moving z TableMachine Z1 × HoldsIn Moving z TableMachine Z2
+  pub open_in : posture_at z Z1 ≡ OpenIn → RestsAtLoading t
+  pub settled : p.step ≡ PoseLoading → RestsAtLoading t
+
+off_stands : (t : TablePlant) → t.lift.motor ≡ Off → t.turn.motor ≡ Off → ¬ TableMoves t
+off_stands t a b (inl on) = on a
+off_stands t a b (inr on) = on b
+
+pub table-start : (s : ModelState) → IsStartState s → TableInv s (table_start s) table_at_start
+table-start s k =
+    let rests : RestsAtLoading table_at_start = record { lift_off = refl; turn_off = refl; bottom = omega (arith, ints); turned = omega (arith, ints) } in
+    record {
+      knows = tt;
+      lift_within = between lift_end (pos 0) (omega (arith, ints)) (omega (arith, ints));
+      turn_within = between turn_end (pos 0) (omega (arith, ints)) (omega (arith, ints));
+      moving = λ on. absurd (off_stands table_at_start refl refl on);
+      open_in = λ o. rests;
+      settled = λ e. rests;
+    }
+
+-- with its motors off it stays where it is
+rests-off : (t : TablePlant) → RestsAtLoading t → RestsAtLoading (set_table t at_rest_act)
+rests-off t r = record { lift_off = refl; turn_off = refl; bottom = r.bottom; turned = r.turned }
+
+-- its part moves: at rest it stays
+rests-moved : (t : TablePlant) → RestsAtLoading t → RestsAtLoading (moved_table t)
+rests-moved t r =
+    record {
+      lift_off = r.lift_off;
+      turn_off = r.turn_off;
+      bottom = rw r.lift_off r.bottom;
+      turned = rw r.turn_off r.turned;
+    }
+
+-- of the calls of its steps only the one at the loading place opens the table to the feed belt
+opened : (s : TableStep) (c : Call) (q : Posture) (R : Type 0) → call_of s ≡ Some c → (q ≡ OpenIn → R) → (s ≡ PoseLoading → R) → posture_given TableMachine c Z1 q ≡ OpenIn → R
+opened ClaimEntry (Claim Z1) q R e f g o = f o
+opened ClaimExit (Claim Z2) q R e f g o = f o
+opened LeaveForLoading (SetPose Turning) q R e f g o = cc
+opened PoseLoading (SetPose Loading) q R e f g o = g refl
+opened ReleaseEntry (Release Z1) q R e f g o = f o
+opened TakePlate (Take Z1) q R e f g o = f o
+opened LeaveForUnloading (SetPose Turning) q R e f g o = cc
+opened PoseUnloading (SetPose Unloading) q R e f g o = cc
+opened GivePlate (Give Z2) q R e f g o = f o
+opened ClaimBack (Claim Z2) q R e f g o = f o
+opened s c q R e f g o = cc
+
+-- and none of them leads to that step
+choice_elsewhere : (loaded : Bool) → step_after ClaimExit loaded ≡ PoseLoading → ⊥
+choice_elsewhere true q = cc
+choice_elsewhere false q = cc
+
+led_elsewhere : (s : TableStep) (loaded : Bool) (c : Call) → call_of s ≡ Some c → step_after s loaded ≡ PoseLoading → ⊥
+led_elsewhere ClaimExit loaded c e q = choice_elsewhere loaded q
+led_elsewhere s loaded c e q = cc
+
+-- the reading is within the tolerance of where the table is turned to
+turn_near : (points : Scale) (t : TablePlant) (s : TableSense) (r : TableReading) → IsAxisScale turn_end points → TableShows points t s → Senses points (IsReading points) s (Ok r) → IsNear r.turn t.turn.position points.tol
+turn_near points t s r k shows senses =
+    let scale = k.scale in
+    let wide : (points.at_hi -ℤ points.at_lo) ≤ℤ raw_width points = rw (k.from, k.to) k.wide in
+    near_position_lem points t.turn.position r.turn s.turn scale wide (shows.raw k) senses.near.near
+
+near_loading : (position read tol : ℤ) → IsNear read position tol → IsNear read (pos 0) (pos 20 -ℤ tol) → position ≤ℤ pos 20
+near_loading position read tol a b = omega (arith, ints)
+
+off_at_bottom : (b : Bool) → (if b then Off else Minus) ≡ Off → b ≡ true
+off_at_bottom true e = refl
+off_at_bottom false e = cc
+
+both_off : (a b : Motor) → (is_off a && is_off b) ≡ true → (a ≡ Off) × (b ≡ Off)
+both_off Off Off e = (refl, refl)
+both_off a b e = cc
+
+-- a table whose motors go off as it moves to the feed belt stands ready to load there
+rests-loading : (points : Scale) (t : TablePlant) (s : TableSense) (r : TableReading) (act : TableAct) → IsAxisScale turn_end points → TableShows points t s → Senses points (IsReading points) s (Ok r) → Acts points MoveToLoading r act
+    → (act.height ≡ Off) × (act.rotation ≡ Off) → RestsAtLoading (set_table t act)
+rests-loading points t s r act k shows senses acts off =
+    record {
+      lift_off = off.0;
+      turn_off = off.1;
+      bottom = shows.switches.bottom.0 (off_at_bottom s.bottom (ap (λ x. height_for MoveToLoading x) (sym senses.switches) ∙ sym acts.height ∙ off.0));
+      turned = near_loading t.turn.position r.turn points.tol (turn_near points t s r k shows senses) (acts.rotation.off.0 off.1);
+    }
+
+led_by : (b : Bool) (s : TableStep) (loaded : Bool) → call_of s ≡ None → (if b then after_done (record { step = s; loaded = loaded }) else record { step = s; loaded = loaded }).step ≡ PoseLoading → (b ≡ true) × (s ≡ MoveToLoading)
+led_by true MoveToLoading loaded e q = (refl, refl)
+led_by b s loaded e q = cc
+
+moving_open : (q : Posture) → q ≡ Moving → q ≡ OpenIn → ⊥
+moving_open q a b = cc
+
+at_rest : (z : ModelState) (p : TableProgress) (t : TablePlant) → TableInv z p t → TableInv z p (set_table t at_rest_act)
+at_rest z p t i = record {
+  knows = i.knows;
+  lift_within = i.lift_within;
+  turn_within = i.turn_within;
+  moving = λ on. absurd (off_stands (set_table t at_rest_act) refl refl on);
+  open_in = λ o. rests-off t (i.open_in o);
+  settled = λ e. rests-off t (i.settled e);
+}
+
+module _ (points : Scale) (axis : IsAxisScale turn_end points) where
+  done : (z : ModelState) (p : TableProgress) (t : TablePlant) (c : Call) → call_of p.step ≡ Some c → reply z TableMachine c ≡ Done → IsSound z → TableInv z p t → TableInv (changed z TableMachine c) (after_done p) (set_table t at_rest_act)
+  done z p t c e d sound i = record {
+    knows = (table-knowing points (IsReading points)).after_done p z c e d sound i.knows;
+    lift_within = i.lift_within;
+    turn_within = i.turn_within;
+    moving = λ on. absurd (off_stands (set_table t at_rest_act) refl refl on);
+    open_in = λ o. rests-off t (opened p.step c (posture_at z Z1) (RestsAtLoading t) e i.open_in i.settled (sym (posture-changed z TableMachine c Z1) ∙ o));
+    settled = λ q. absurd (led_elsewhere p.step p.loaded c e q);
+  }
+
+  drive : (z : ModelState) (p : TableProgress) (t : TablePlant) (s : TableSense) (r : TableReading) (act : TableAct) → call_of p.step ≡ None → TableShows points t s → Senses points (IsReading points) s (Ok r) → Acts points p.step r act → TableInv z p t
+      → TableInv z (after_act p act) (set_table t act)
+  drive z p t s r act e shows senses acts i = record {
+    knows = (table-knowing points (IsReading points)).after_drive p r act z e acts i.knows;
+    lift_within = i.lift_within;
+    turn_within = i.turn_within;
+    moving = λ on. let at = drives_at p.step z e i.knows in ((at.0.0, at.1.0), (at.0.1, at.1.1));
+    open_in = λ o. absurd (moving_open (posture_at z Z1) (drives_at p.step z e i.knows).1.0 o);
+    settled = λ q.
+        let led = led_by (is_off act.height && is_off act.rotation) p.step p.loaded e q in
+        rests-loading points t s r act axis shows senses (subst (λ x. Acts points x r act) led.1 acts) (both_off act.height act.rotation led.0);
+  }
+
+  pub table-keeping : Keeping (table_steps points (IsReading points)) (table_rig points) TableInv TableInv
+  table-keeping = record {
+    foreign = λ z p b n c apart sound i.
+        record i {
+          knows = (table-knowing points (IsReading points)).foreign p z n c apart sound i.knows;
+          moving = λ on. let at = i.moving on in let kept = are_foreign TableMachine n c z (Finds Z1 Moving ∷ Finds Z2 Moving ∷ []) apart sound (at.0, (at.1, tt)) in (kept.0, kept.1.0);
+          open_in = λ o. i.open_in (sym (posture-foreign z n c Z1 apart) ∙ o);
+        };
+    rests = λ z p b i. at_rest z p b i;
+    after_done = λ z p b c e d sound i. done z p b c e d sound i;
+    after_inquiry = λ z p b c owner flag posture e d sound i. at_rest z p b i;
+    after_drive = λ z p b s r act e shows senses drives i. drive z p b s r act e shows senses drives i;
+    told = λ z p b i. i;
+    moves = λ z p b i. record {
+      knows = i.knows;
+      lift_within = moved_within lift_end b.lift (omega (arith, ints)) i.lift_within;
+      turn_within = moved_within turn_end b.turn (omega (arith, ints)) i.turn_within;
+      moving = i.moving;
+      open_in = λ o. rests-moved b (i.open_in o);
+      settled = λ e. rests-moved b (i.settled e);
+    };
+  }
+
+-- No turn of the table drives it past an end: by its switches, and by its reading, which is within the tolerance.
+abbrev DrivesOut : TablePlant → Type 0
+DrivesOut t = DrivesPast lift_end t.lift ⊎ DrivesPast turn_end t.turn
+
+off_within : (end : ℤ) (a : Axis) → a.motor ≡ Off → DrivesPast end a → ⊥
+off_within end a e (inl past) = let minus = past.1 in cc
+off_within end a e (inr past) = let plus = past.1 in cc
+
+table_off_within : (t : TablePlant) → DrivesOut (set_table t at_rest_act) → ⊥
+table_off_within t (inl past) = off_within lift_end (set_table t at_rest_act).lift refl past
+table_off_within t (inr past) = off_within turn_end (set_table t at_rest_act).turn refl past
+
+minus_unless : (b : Bool) → (if b then Off else Minus) ≡ Minus → b ≡ true → ⊥
+minus_unless true e b = cc
+minus_unless false e b = cc
+
+not_minus : (b : Bool) → (if b then Off else Plus) ≡ Minus → ⊥
+not_minus true e = cc
+not_minus false e = cc
+
+plus_unless : (b : Bool) → (if b then Off else Plus) ≡ Plus → b ≡ true → ⊥
+plus_unless true e b = cc
+plus_unless false e b = cc
+
+not_plus : (b : Bool) → (if b then Off else Minus) ≡ Plus → ⊥
+not_plus true e = cc
+not_plus false e = cc
+
+-- the height goes down only off the bottom, and up only off the top
+lowered : (s : TableStep) (x : TableSense) → height_for s x ≡ Minus → x.bottom ≡ true → ⊥
+lowered MoveToLoading x e b = absurd (minus_unless x.bottom e b)
+lowered MoveToUnloading x e b = absurd (not_minus x.top e)
+lowered s x e b = cc
+
+raised : (s : TableStep) (x : TableSense) → height_for s x ≡ Plus → x.top ≡ true → ⊥
+raised MoveToLoading x e b = absurd (not_plus x.bottom e)
+raised MoveToUnloading x e b = absurd (plus_unless x.top e b)
+raised s x e b = cc
+
+lift_within : (t : TablePlant) (s : TableStep) (x : TableSense) (m : Motor) → TableSwitches t x → m ≡ height_for s x → DrivesPast lift_end (set_axis t.lift m) → ⊥
+lift_within t s x m shows e (inl past) =
+    let low : t.lift.position ≡ pos 0 = past.0 in
+    lowered s x (sym e ∙ past.1) (shows.bottom.1 (omega (arith, ints)))
+lift_within t s x m shows e (inr past) =
+    let high : t.lift.position ≡ pos 600 = past.0 in
+    raised s x (sym e ∙ past.1) (shows.top.1 (omega (arith, ints)))
+
+below_first : (position target tol read : ℤ) → pos 0 ≤ℤ target → tol ≤ℤ pos 10 → IsNear read position tol → (target +ℤ (pos 20 -ℤ tol)) <ℤ read → position ≡ pos 0 → ⊥
+below_first position target tol read a b near over e = absurd (omega (arith, ints))
+
+above_last : (position target tol read : ℤ) → target ≤ℤ pos 500 → tol ≤ℤ pos 10 → IsNear read position tol → read <ℤ (target -ℤ (pos 20 -ℤ tol)) → position ≡ pos 500 → ⊥
+above_last position target tol read a b near under e = absurd (omega (arith, ints))
+
+-- the rotation is turned to a place between its ends
+stop_within : (points : Scale) (t : TablePlant) (target read : ℤ) (m : Motor) → pos 0 ≤ℤ target → target ≤ℤ turn_end → IsScale points → IsNear read t.turn.position points.tol → StopsAt (record { target = target; half = 20 }) points.tol read m → DrivesPast turn_end (set_axis t.turn m) → ⊥
+stop_within points t target read m first last k near turns (inl past) = below_first t.turn.position target points.tol read first k.coarsest near (turns.minus.0 past.1) past.0
+stop_within points t target read m first last k near turns (inr past) = above_last t.turn.position target points.tol read last k.coarsest near (turns.plus.0 past.1) past.0
+
+turn_within : (points : Scale) (t : TablePlant) (s : TableStep) (read : ℤ) (m : Motor) → IsScale points → IsNear read t.turn.position points.tol → DrivesTo (rotation_stop s) points.tol read m → DrivesPast turn_end (set_axis t.turn m) → ⊥
+turn_within points t MoveToLoading read m k near turns past = stop_within points t (pos 0) read m (omega (arith, ints)) (omega (arith, ints)) k near turns past
+turn_within points t MoveToUnloading read m k near turns past = stop_within points t (pos 500) read m (omega (arith, ints)) (omega (arith, ints)) k near turns past
+turn_within points t s read m k near turns past = off_within turn_end (set_axis t.turn m) turns past
+
+module _ (points : Scale) (axis : IsAxisScale turn_end points) (t : TablePlant) (s : TableSense) (shows : TableShows points t s) where
+  acts_within : (p : TableProgress) (r : TableReading) (act : TableAct) → Senses points (IsReading points) s (Ok r) → Acts points p.step r act → DrivesOut (set_table t act) → ⊥
+  acts_within p r act senses acts (inl past) = lift_within t p.step s act.height shows.switches (acts.height ∙ ap (λ x. height_for p.step x) senses.switches) past
+  acts_within p r act senses acts (inr past) = turn_within points t p.step r.turn act.rotation axis.scale (turn_near points t s r axis shows senses) acts.rotation past
+
+  -- so in no turn it is driven on past an end
+  pub table-ends : (same : Type 0) (asks : Call → Result Reply LineFault → Type 0) (stopped : Option CtlFault) (p : TableProgress) (w : Turned TableProgress TableAct) → Turns (table_steps points (IsReading points)) same asks stopped p s w
+      → ¬ DrivesOut (set_table t (act_or_rest at_rest_act w.result))
+  table-ends same asks stopped p w k = turn_tells (table_steps points (IsReading points)) same asks p s (λ act. ¬ DrivesOut (set_table t act)) (table_off_within t) (λ r act e senses drives. acts_within p r act senses drives) stopped w k

@@ -1,5 +1,0 @@
-use Rattle.cell_plant.proofs.Bounds.{bounds_are_met}
-use Rattle.cell_plant.proofs.laws.bounds_are_met.Goals as goal
-
-pub returns : goal.returns
-returns c = bounds_are_met

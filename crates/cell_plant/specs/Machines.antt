@@ -1,0 +1,99 @@
+-- The machines of the cell, looked up by name: what each is given by.
+-- The watch has no part, and for now feed belt, robot, deposit belt and crane have a part and no controller.
+use Rattle.std.specs.Prelude.{Bool, true, false, None, ⊤}
+use Rattle.cell_types.specs.declared.machine.Machine.{Machine}
+use Rattle.cell_types.specs.declared.machine.Machine.TheVariants.{Feed, Table, Robot, Press, Deposit, Crane, Watch}
+use Rattle.cell_calib.specs.declared.sense.PressSense.{PressSense}
+use Rattle.cell_calib.specs.declared.sense.TableSense.{TableSense}
+use Rattle.cell_devices.specs.declared.act.PressAct.{PressAct}
+use Rattle.cell_devices.specs.declared.act.TableAct.{TableAct}
+use Rattle.cell_calib.specs.Line.{IsReading}
+use Rattle.cell_control.specs.Rigs.{Rig}
+use Rattle.cell_control.specs.Steps.{Steps}
+use Rattle.cell_stations.specs.declared.press_step.PressProgress.{PressProgress}
+use Rattle.cell_stations.specs.declared.table_step.TableProgress.{TableProgress}
+use Rattle.cell_stations.specs.declared.table_step.TableReading.{TableReading}
+use Rattle.cell_stations.specs.PressProgram.{press_steps}
+use Rattle.cell_stations.specs.TableProgram.{table_steps}
+use Rattle.cell_parts.specs.declared.axis.Axis.{Axis}
+use Rattle.cell_parts.specs.declared.belt.Belt.{Belt}
+use Rattle.cell_parts.specs.Axes.{CellScales}
+use Rattle.cell_parts.specs.Plant.{TablePlant, RobotPlant, CranePlant}
+use Rattle.cell_parts.specs.Rigs.{press_rig, table_rig}
+
+-- its steps with their notes
+abbrev pub ProgressOf : Machine → Type 0
+ProgressOf Table = TableProgress
+ProgressOf Press = PressProgress
+ProgressOf _ = Unit {0}
+
+-- what its sensors show, and what they say once checked
+abbrev pub SenseOf : Machine → Type 0
+SenseOf Table = TableSense
+SenseOf Press = PressSense
+SenseOf _ = Unit {0}
+
+abbrev pub ReadingOf : Machine → Type 0
+ReadingOf Table = TableReading
+ReadingOf Press = PressSense
+ReadingOf _ = Unit {0}
+
+-- what its actuators are told
+abbrev pub ActOf : Machine → Type 0
+ActOf Table = TableAct
+ActOf Press = PressAct
+ActOf _ = Unit {0}
+
+-- its part of the plant
+abbrev pub PartOf : Machine → Type 0
+PartOf Feed = Belt
+PartOf Table = TablePlant
+PartOf Robot = RobotPlant
+PartOf Press = Axis
+PartOf Deposit = Belt
+PartOf Crane = CranePlant
+PartOf Watch = Unit {0}
+
+-- a machine that has no controller, and a part that nothing tells anything
+abbrev pub no_steps : Machine → Steps (Unit {0}) (Unit {0}) (Unit {0}) (Unit {0})
+no_steps m =
+    record {
+      machine = m;
+      start = λ s. tt;
+      call = λ p. None;
+      after_done = λ p. p;
+      after_inquiry = λ p owner flag posture. p;
+      stays_on = λ p r. false;
+      senses = λ s r. ⊤;
+      drives = λ p r act. ⊤;
+      after_drive = λ p r act. p;
+      rest = λ p. tt;
+      motor_demands = λ p act opening seen. ⊤;
+    }
+
+abbrev pub no_rig : {State : Type 0} → Rig State (Unit {0}) (Unit {0})
+no_rig = record { shows = λ a s. ⊤; notes = λ a e. a; set = λ a act. a; moves = λ a. a }
+
+abbrev pub has_controller : Machine → Bool
+has_controller Table = true
+has_controller Press = true
+has_controller _ = false
+
+-- its program, and how its part behaves, by the scales of the cell: a reading is any that a calibration over its scale may give
+abbrev pub steps_of : CellScales → (m : Machine) → Steps (ProgressOf m) (SenseOf m) (ReadingOf m) (ActOf m)
+steps_of c Feed = no_steps Feed
+steps_of c Table = table_steps c.turn (IsReading c.turn)
+steps_of c Robot = no_steps Robot
+steps_of c Press = press_steps
+steps_of c Deposit = no_steps Deposit
+steps_of c Crane = no_steps Crane
+steps_of c Watch = no_steps Watch
+
+abbrev pub rig_of : CellScales → (m : Machine) → Rig (PartOf m) (SenseOf m) (ActOf m)
+rig_of c Feed = no_rig
+rig_of c Table = table_rig c.turn
+rig_of c Robot = no_rig
+rig_of c Press = press_rig
+rig_of c Deposit = no_rig
+rig_of c Crane = no_rig
+rig_of c Watch = no_rig

@@ -1,0 +1,26 @@
+-- A simulation as a value: a moment of a run, whose controllers have come so far by their events.
+use Rattle.std.specs.Prelude.{◌≡◌, ℕ, ℤ}
+use Rattle.cell_stations.specs.PressProgram.{press_steps}
+use Rattle.cell_stations.specs.TableProgram.{table_steps}
+use Rattle.cell_seat.specs.Sides.{IsReady}
+use Rattle.cell_plant.specs.declared.simulation.Simulation.TheInside.{Inside}
+use Rattle.cell_plant.specs.Cells.{scales_of, sides_of, IsFitted}
+use Rattle.cell_plant.specs.Moments.{Moment}
+use Rattle.cell_plant.specs.Notebooks.{all_notes}
+
+abbrev pub moment_of : {F1 F2 F3 F4 F5 : Type 0} → Inside F1 F2 F3 F4 F5 → Moment
+moment_of s =
+    record {
+      scales = scales_of s.cell;
+      opening = s.bench.opening;
+      interlock = s.bench.state;
+      sides = sides_of s.cell;
+      history = s.bench.history.items;
+      notes = all_notes s.notebooks;
+    }
+
+-- `gives` is what the table's gauge may give at a raw value
+pub record AreReady {F1 F2 F3 F4 F5 : Type 0} (gives : F4 → ℕ → ℤ → Type 0) (s : Inside F1 F2 F3 F4 F5) : Type 0 where
+  pub fitted : IsFitted s.cell
+  pub table : IsReady (table_steps s.cell.table.controller.program.turn.points (gives s.cell.table.controller.program.turn.gauge)) s.bench.opening s.bench.history.items s.cell.table.controller.stopped s.cell.table.controller.progress
+  pub press : IsReady press_steps s.bench.opening s.bench.history.items s.cell.press.controller.stopped s.cell.press.controller.progress
