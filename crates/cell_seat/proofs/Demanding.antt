@@ -1,0 +1,41 @@
+-- What the motors demand holds in every state of a run, also for motors that an earlier turn has left on.
+use Rattle.std.proofs.Common.{◌≡◌, false, None, Ok}
+use Rattle.cell_types.specs.declared.machine.Machine.{Machine}
+use Rattle.cell_types.specs.declared.call.Call.{Call}
+use Rattle.cell_types.specs.Same.{same_machine}
+use Rattle.cell_rules.specs.ModelState.{ModelState}
+use Rattle.cell_rules.specs.Sound.{IsSound}
+use Rattle.cell_rules.specs.Reply.{next}
+use Rattle.cell_control.specs.Rigs.{Rig}
+use Rattle.cell_control.specs.Steps.{Steps}
+use Rattle.cell_seat.proofs.Keeping.{Keeping}
+
+-- What a machine proves of its motors' demands, which are a fact about the interlock, the step at which it stands and its
+-- part. Inv and Told are what it keeps of its side besides.
+pub record Demanding {S Sense Reading Act State : Type 0} (t : Steps S Sense Reading Act) (rig : Rig State Sense Act) (Inv Told Demands : ModelState → S → State → Type 0) : Type 0 where
+  -- while others act, its motors may be left on
+  pub foreign : (z : ModelState) (p : S) (b : State) (n : Machine) (c : Call) → same_machine n t.machine ≡ false → IsSound z → Inv z p b → Demands z p b → Demands (next z n c) p b
+  -- with its actuators at rest nothing is demanded, wherever the step leads
+  pub rests : (z : ModelState) (p q : S) (b : State) → Demands z q (rig.set b (t.rest p))
+  -- a drive meets the demands of what it tells
+  pub after_drive : (z : ModelState) (p : S) (b : State) (s : Sense) (reading : Reading) (act : Act) → t.call p ≡ None → rig.shows b s → t.senses s (Ok reading) → t.drives p reading act → Inv z p b
+      → Demands z (t.after_drive p reading act) (rig.set b act)
+  -- and its part may move
+  pub moves : (z : ModelState) (p : S) (b : State) → Told z p b → Demands z p b → Demands z p (rig.moves b)
+
+-- so they are kept with what else it keeps
+abbrev pub With : {S State : Type 0} → (ModelState → S → State → Type 0) → (ModelState → S → State → Type 0) → ModelState → S → State → Type 0
+With Inv Demands z p b = Inv z p b × Demands z p b
+
+pub demands_kept : {S Sense Reading Act State : Type 0} → (t : Steps S Sense Reading Act) (rig : Rig State Sense Act) (Inv Told Demands : ModelState → S → State → Type 0)
+    → Keeping t rig Inv Told → Demanding t rig Inv Told Demands → Keeping t rig (With Inv Demands) (With Told Demands)
+demands_kept t rig Inv Told Demands k d =
+    record {
+      foreign = λ z p b n c apart sound i. (k.foreign z p b n c apart sound i.0, d.foreign z p b n c apart sound i.0 i.1);
+      rests = λ z p b i. (k.rests z p b i.0, d.rests z p p b);
+      after_done = λ z p b c e done sound i. (k.after_done z p b c e done sound i.0, d.rests _ p (t.after_done p) _);
+      after_inquiry = λ z p b c owner flag posture e shown sound i. (k.after_inquiry z p b c owner flag posture e shown sound i.0, d.rests z p (t.after_inquiry p owner flag posture) b);
+      after_drive = λ z p b s reading act e shows senses drives i. (k.after_drive z p b s reading act e shows senses drives i.0, d.after_drive z p b s reading act e shows senses drives i.0);
+      told = λ z p b i. (k.told z p b i.0, i.1);
+      moves = λ z p b i. (k.moves z p b i.0, d.moves z p b i.0 i.1);
+    }

@@ -1,0 +1,22 @@
+use Rattle.std.proofs.Common.{◌∙◌, sym, ap, refl}
+use Rattle.cell_control.proofs.TurnMaps.{turn_map}
+use Rattle.cell_seat.proofs.seat.Seat.turn.Goals as goal
+
+pub returns-clause-row : goal.returns-clause-row
+returns-clause-row g c =
+    let now = c.heard.ensures in
+    let before = c.heard-before.ensures in
+    record {
+      set = _;
+      acts = record {
+        sense = c.sensors.result;
+        shows = c.sensors.ensures;
+        turned = record { result = c.turn-turned.result; progress = c.turn-turned.new.self.progress; stopped = c.turn-turned.new.self.stopped };
+        row = turn_map (g.P.Program.steps c.args.self.now.controller.program) _ _ _ _
+            (λ same. (same, c.asked_between-asked.ensures.nothing (now ∙ ap g.L.Line.heard same ∙ sym before)))
+            (λ call r asked. (asked.0, c.asked_between-asked.ensures.once call r (now ∙ rw before asked.1)))
+            _ _ _ _ c.turn-turned.ensures.row;
+        is = refl;
+      };
+      moved = rw (c.note_and_tick.ensures.state, c.done_event.ensures, c.machine-machine.ensures, c.requires.own, c.act_of-act.ensures, c.rest-rest.ensures) refl;
+    }

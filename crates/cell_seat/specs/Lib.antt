@@ -1,0 +1,3 @@
+pub mod Fares
+pub mod Sides
+pub mod SeatTurns
