@@ -1,4 +1,4 @@
 mod AtWork
 mod Bounds
-mod NoCollision
+pub mod NoCollision
 pub mod RawLemmas

@@ -223,11 +223,14 @@ pub press-keeping : Keeping press_steps press_rig PressInv PressInv
 press-keeping = record {
   foreign = λ z p b n c apart sound i.
       let same = posture-foreign z n c Z3 apart in
-      record i {
+      record {
         knows = press-knowing.foreign p z n c apart sound i.knows;
+        within = i.within;
         moving = λ on. (are_foreign Press n c z (Finds Z3 Moving ∷ []) apart sound (i.moving on, tt)).0;
         open_in = λ o. i.open_in (sym same ∙ o);
         open_out = λ o. i.open_out (sym same ∙ o);
+        at_middle = i.at_middle;
+        at_bottom = i.at_bottom;
       };
   rests = λ z p b i. off z p b i;
   after_done = λ z p b c e d sound i. done z p b i c e d sound;

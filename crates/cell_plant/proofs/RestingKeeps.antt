@@ -1,5 +1,5 @@
 -- What is kept of the machines that have no controller yet: they rest, and plates stand at the belts' ends where those are full.
-use Rattle.std.proofs.Common.{◌≡◌, pos, Bool, true, false, IsSome, IsTrue, ◌↔◌, Option, None, refl, sym, ap, ◌∙◌, subst, arith}
+use Rattle.std.proofs.Common.{◌≡◌, pos, Bool, true, false, IsSome, IsTrue, ◌↔◌, Option, Some, None, refl, sym, ap, ◌∙◌, subst, arith}
 use Rattle.cell_types.specs.declared.machine.Machine.{Machine}
 use Rattle.cell_types.specs.declared.machine.Machine.TheVariants.{Feed, Deposit}
 use Rattle.cell_types.specs.declared.place.Place.TheVariants.{FeedEnd, DepEnd}
@@ -50,16 +50,16 @@ pub crane-start : (s : ModelState) → CraneRests (crane_at_start s)
 crane-start s = record { travel = refl; gripper = refl }
 
 -- a machine without a controller keeps what others leave
-none_asked : (c : Call) (P : Type 0) → None {A = Call} ≡ Some c → P
-none_asked c P e = cc
+none_asked : (o : Option Call) (c : Call) (P : Type 0) → o ≡ None → o ≡ Some c → P
+none_asked o c P e k = cc
 
 rest_keeping : {State : Type 0} → (m : Machine) (Inv : ModelState → State → Type 0) → ((z : ModelState) (b : State) (n : Machine) (c : Call) → same_machine n m ≡ false → IsSound z → Inv z b → Inv (next z n c) b)
     → Keeping (no_steps m) no_rig (λ z p b. Inv z b) (λ z p b. Inv z b)
 rest_keeping m Inv foreign = record {
   foreign = λ z p b n c apart sound i. foreign z b n c apart sound i;
   rests = λ z p b i. i;
-  after_done = λ z p b c e d sound i. none_asked c _ e;
-  after_inquiry = λ z p b c owner flag posture e d sound i. none_asked c _ e;
+  after_done = λ z p b c e d sound i. none_asked None c _ refl e;
+  after_inquiry = λ z p b c owner flag posture e d sound i. none_asked None c _ refl e;
   after_drive = λ z p b s reading act e shows senses drives i. i;
   told = λ z p b i. i;
   moves = λ z p b i. i;

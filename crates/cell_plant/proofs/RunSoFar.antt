@@ -24,7 +24,7 @@ use Rattle.cell_control.proofs.TurnMaps.{turn_either}
 use Rattle.cell_notes.specs.declared.counts.Counts.{Counts}
 use Rattle.cell_notes.specs.declared.run_record.RunRecord.{RunRecord}
 use Rattle.cell_notes.specs.Asks.{Asked, is_done_reply, is_read_reply, is_refused_reply, is_busy_reply, came_back, settled_in, entries_in}
-use Rattle.cell_notes.specs.Notes.{Notes, HasRoom, counts_with, notes_with}
+use Rattle.cell_notes.specs.Notes.{Notes, no_notes, HasRoom, counts_with, notes_with}
 use Rattle.cell_seat.specs.Fares.{status_of}
 use Rattle.cell_seat.specs.SeatTurns.{Answers}
 use Rattle.cell_parts.specs.Axes.{CellScales, AreCellScales}
@@ -159,8 +159,17 @@ pub record RunSoFar (turns : List Turn) (m : Moment) : Type 0 where
   pub counts : (n : Machine) → (notes_in m.notes n).counts ≡ counts_in steps n
   pub journals : (n : Machine) → (notes_in m.notes n).journal ≡ noted m.opening m.history n
 
+no_notes_yet : (c : CellScales) (opening : ModelState) (n : Machine) → notes_in (first_moment c opening).notes n ≡ no_notes
+no_notes_yet c opening Feed = refl
+no_notes_yet c opening Table = refl
+no_notes_yet c opening Robot = refl
+no_notes_yet c opening Press = refl
+no_notes_yet c opening Deposit = refl
+no_notes_yet c opening Crane = refl
+no_notes_yet c opening Watch = refl
+
 pub at_start : (c : CellScales) (opening : ModelState) → RunSoFar [] (first_moment c opening)
-at_start c opening = record { steps = []; run = tt; is_end = refl; history = refl; legal = tt; reached = refl; counts = λ n. refl; journals = λ n. refl }
+at_start c opening = record { steps = []; run = tt; is_end = refl; history = refl; legal = tt; reached = refl; counts = λ n. ap (λ (x : Notes). x.counts) (no_notes_yet c opening n); journals = λ n. ap (λ (x : Notes). x.journal) (no_notes_yet c opening n) }
 
 journal_more : (b : Bool) (n : Notes) (asked : Asked) → (if b then notes_with n asked else n).journal ≡ n.journal ++ (if b then entries_in asked else [])
 journal_more true n asked = refl
@@ -227,6 +236,9 @@ module _ (turns : List Turn) (t : Turn) (before now : Moment) (g : RunSoFar turn
   pub next : RunSoFar (turns ++ t ∷ []) now
   next = subst (λ z. RunSoFar (turns ++ t ∷ []) (by_scales now.scales z)) (sym o.opening) (subst (λ c. RunSoFar (turns ++ t ∷ []) (by_scales c before.opening)) (sym o.scales) next_by)
 
+pub next_more : (turns more : List Turn) (t : Turn) (before now : Moment) → more ≡ turns ++ t ∷ [] → RunSoFar turns before → StepsOn t before now → RunSoFar more now
+next_more turns more t before now e g o = subst (λ ts. RunSoFar ts now) (sym e) (next turns t before now g o)
+
 -- there is room for one more turn
 below : (a b i : ℕ) → a ≤ b → b ≡ i → i < 18446744073709551615 → a < 18446744073709551615
 below a b i h e l = omega arith
@@ -262,3 +274,10 @@ tells turns m r scales start g k =
       legal = subst (IsLegal m.opening) g.history g.legal;
       reached = ap (λ (w : CellState). w.interlock) (sym g.is_end) ∙ g.reached ∙ ap (after m.opening) g.history;
     }
+
+pub tells_all : (c : CellScales) (opening : ModelState) (turns all : List Turn) (m : Moment) (r : RunRecord) → turns ≡ all → m.scales ≡ c → m.opening ≡ opening → AreCellScales c → IsStartState opening → RunSoFar turns m → Keeps m opening r
+    → TellsRun c opening all r
+tells_all c opening turns all m r e f o scales start g k =
+    subst (λ ts. TellsRun c opening ts r) e
+    (subst (λ z. TellsRun c z turns r) o
+    (subst (λ x. TellsRun x m.opening turns r) f (tells turns m r (subst AreCellScales (sym f) scales) (subst IsStartState (sym o) start) g (subst (λ z. Keeps m z r) (sym o) k))))

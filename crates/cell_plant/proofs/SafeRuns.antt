@@ -1,5 +1,5 @@
 -- Every state of a run is safe: the facts of the six machines together meet all demands, and so nothing collides.
-use Rattle.std.proofs.Common.{◌≡◌, ℤ, pos, ◌≤ℤ◌, Bool, true, false, ◌&&◌, not, inl, inr, is_none, List, [], ◌∷◌, refl, sym, ap, ◌∙◌, subst, arith}
+use Rattle.std.proofs.Common.{◌≡◌, ℤ, pos, ◌≤ℤ◌, Bool, true, false, ◌&&◌, not, inl, inr, Option, Some, None, is_none, List, [], ◌∷◌, refl, sym, ap, ◌∙◌, subst, arith}
 use Rattle.std.proofs.lemmas.Int.{ints}
 use Rattle.cell_types.specs.declared.machine.Machine.{Machine}
 use Rattle.cell_types.specs.declared.machine.Machine.TheVariants.{Feed, Table, Robot, Press, Deposit, Crane, Watch}
@@ -11,6 +11,16 @@ use Rattle.cell_rules.specs.Laws.{RunsClear}
 use Rattle.cell_rules.specs.Start.{IsStart, IsStartState, start_state}
 use Rattle.cell_rules.proofs.Puts.{each_zone}
 use Rattle.cell_rules.proofs.Lawful.{lawful_in, sound_from}
+use Rattle.cell_types.specs.declared.answer.Event.{Event}
+use Rattle.cell_calib.specs.Line.{IsReading}
+use Rattle.cell_control.specs.Rigs.{Rig}
+use Rattle.cell_control.specs.Steps.{Steps}
+use Rattle.cell_control.specs.Turns.{Turned}
+use Rattle.cell_stations.specs.PressProgram.{press_steps}
+use Rattle.cell_stations.specs.TableProgram.{table_steps}
+use Rattle.cell_notes.specs.Asks.{Asked, done_in}
+use Rattle.cell_seat.specs.Sides.{Side, noting, act_or_rest, side_set}
+use Rattle.cell_parts.specs.Rigs.{press_rig, table_rig}
 use Rattle.cell_parts.specs.Axes.{press_end, arm_end, rotation_end, lift_end, turn_end, crane_end, gripper_end, IsWithin, CellScales, AreCellScales}
 use Rattle.cell_parts.specs.Collisions.{IsOut, IsGripperDown, PlateFalls, DrivesPastEnd}
 use Rattle.cell_parts.specs.PositionDemands.{PositionDemands}
@@ -56,6 +66,15 @@ takes_alone w Deposit e = cc
 takes_alone w Crane e = cc
 takes_alone w Watch e = cc
 
+-- a part that has nothing to note of an event is only set
+unnoted : {State Sense Act : Type 0} → (rig : Rig State Sense Act) → ((b : State) (e : Event) → rig.notes b e ≡ b) → (b : State) (o : Option Event) → noting rig b o ≡ b
+unnoted rig k b None = refl
+unnoted rig k b (Some e) = k b e
+
+set_unnoted : {S Sense Reading Act State : Type 0} → (t : Steps S Sense Reading Act) (rig : Rig State Sense Act) → ((b : State) (e : Event) → rig.notes b e ≡ b) → (before : Side S State) (asked : Asked) (turned : Turned S Act) (set : Side S State)
+    → set ≡ side_set t rig before asked turned → set.part ≡ rig.set before.part (act_or_rest (t.rest before.progress) turned.result)
+set_unnoted t rig k before asked turned set e = ap (λ x. x.part) e ∙ ap (λ b. rig.set b (act_or_rest (t.rest before.progress) turned.result)) (unnoted rig k before.part (done_in t.machine asked))
+
 module _ (c : CellScales) (scales : AreCellScales c) where
   abbrev Kept : CellState → Type 0
   Kept w = CellInv c InvOf ToldOf (keeping_of c scales) w
@@ -82,8 +101,8 @@ module _ (c : CellScales) (scales : AreCellScales c) where
 
     motors : (errand : GripperErrand) → MotorDemands errand w.interlock (plant_of w)
     motors errand = record {
-      press = (i.each Press).driven;
-      table = (i.each Table).driven;
+      press = (i.each Press).moving;
+      table = (i.each Table).moving;
       feed = λ runs. let stands = (i.each Feed).stands in cc;
       deposit = λ runs. let stands = (i.each Deposit).stands in cc;
       arm1 = λ on. absurd (on (ap (λ a. a.motor) (i.each Robot).arm1));
@@ -126,34 +145,38 @@ module _ (c : CellScales) (scales : AreCellScales c) where
   no_plate_falls m busy w s e k (inr (inr h)) = let same = ap (λ x. x.part.magnet) (k.others_set Crane (takes_alone w m e).1) in cc
 
   -- nor is an axis driven on past an end
-  not_past : (m : Machine) (busy : Bool) (w : CellState) (s : Step) → goes_on w m ≡ true → TakesTurn c m busy w s → ¬ DrivesPastEnd m (plant_of s.set)
-  not_past Table busy w s e k past = table-ends c.turn scales.turn (w.side Table).part k.takes.sense k.takes.shows _ _ (w.side Table).stopped (w.side Table).progress k.takes.turned k.takes.row (subst (λ x. DrivesPastEnd Table (record (plant_of s.set) { table = x.part })) k.takes.is past)
-  not_past Press busy w s e k past = press-ends (w.side Press).part k.takes.sense k.takes.shows _ _ (w.side Press).stopped (w.side Press).progress k.takes.turned k.takes.row (subst (λ x. DrivesPastEnd Press (record (plant_of s.set) { press = x.part })) k.takes.is past)
-  not_past Feed busy w s e k past = past
-  not_past Robot busy w s e k past = cc
-  not_past Deposit busy w s e k past = past
-  not_past Crane busy w s e k past = cc
-  not_past Watch busy w s e k past = past
+  not_past : (m : Machine) (busy : Bool) (w : CellState) (s : Step) → Kept w → goes_on w m ≡ true → TakesTurn c m busy w s → ¬ DrivesPastEnd m (plant_of s.set)
+  not_past Table busy w s i e k past =
+      table-ends c.turn scales.turn (w.side Table).part (i.each Table).turn_within k.takes.sense k.takes.shows _ _ (w.side Table).stopped (w.side Table).progress k.takes.turned k.takes.row
+      (subst (λ t. DrivesPastEnd Table (record (plant_of s.set) { table = t })) (set_unnoted (table_steps c.turn (IsReading c.turn)) (table_rig c.turn) (λ b x. refl) (w.side Table) s.asked k.takes.turned (s.set.side Table) k.takes.is) past)
+  not_past Press busy w s i e k past =
+      press-ends (w.side Press).part k.takes.sense k.takes.shows _ _ (w.side Press).stopped (w.side Press).progress k.takes.turned k.takes.row
+      (subst (λ a. DrivesPastEnd Press (record (plant_of s.set) { press = a })) (set_unnoted press_steps press_rig (λ b x. refl) (w.side Press) s.asked k.takes.turned (s.set.side Press) k.takes.is) past)
+  not_past Feed busy w s i e k past = past
+  not_past Robot busy w s i e k past = cc
+  not_past Deposit busy w s i e k past = past
+  not_past Crane busy w s i e k past = cc
+  not_past Watch busy w s i e k past = past
 
   not_taken : (b : Bool) → b ≡ false → b ≡ true → ⊥
   not_taken b e f = cc
 
-  safely_set : (b : Bool) (m : Machine) (busy : Bool) (w : CellState) (s : Step) → goes_on w m ≡ b → s.machine ≡ m → LeadsIf b c m busy w s → Kept s.set → IsSafelySet w s
-  safely_set true m busy w s e own k set = record {
+  safely_set : (b : Bool) (m : Machine) (busy : Bool) (w : CellState) (s : Step) → goes_on w m ≡ b → s.machine ≡ m → LeadsIf b c m busy w s → Kept w → Kept s.set → IsSafelySet w s
+  safely_set true m busy w s e own k i set = record {
     clear = λ taken. record {
       plain = (is_safe s.set set).clear;
       magnets = no_plate_falls m busy w s e k;
-      ends = subst (λ x. ¬ DrivesPastEnd x (plant_of s.set)) (sym own) (not_past m busy w s e k);
+      ends = subst (λ x. ¬ DrivesPastEnd x (plant_of s.set)) (sym own) (not_past m busy w s i e k);
     };
     state = is_safe s.set set;
   }
-  safely_set false m busy w s e own k set = record { clear = λ taken. absurd (not_taken s.taken k.not_taken taken); state = is_safe s.set set }
+  safely_set false m busy w s e own k i set = record { clear = λ taken. absurd (not_taken s.taken k.not_taken taken); state = is_safe s.set set }
 
   run_is_safe : (w : CellState) (turns : List Turn) (steps : List Step) → Kept w → IsRun c w turns steps → IsSafeRun w steps
   run_is_safe w [] [] i r = is_safe w i
   run_is_safe w (t ∷ ts) (s ∷ ss) i r =
       let kept = step_keeps c InvOf ToldOf (keeping_of c scales) (goes_on w t.machine) t.machine t.busy w s refl r.1.0 i in
-      (is_safe w i, (safely_set (goes_on w t.machine) t.machine t.busy w s refl r.0 r.1.0 kept.0, run_is_safe s.moved ts ss kept.1 r.1.1))
+      (is_safe w i, (safely_set (goes_on w t.machine) t.machine t.busy w s refl r.0 r.1.0 i kept.0, run_is_safe s.moved ts ss kept.1 r.1.1))
   run_is_safe w [] (s ∷ ss) i r = absurd r
   run_is_safe w (t ∷ ts) [] i r = absurd r
 

@@ -1,5 +1,5 @@
 -- One turn of a simulation, as a step of a run.
-use Rattle.std.proofs.Common.{◌≡◌, ℕ, ℤ, Bool, true, false, ◌&&◌, is_none, List, ◌++◌, append-nil, Option, Some, None, Result, Ok, Err, refl, sym, ap, ◌∙◌, subst, if◌then◌else◌}
+use Rattle.std.proofs.Common.{◌≡◌, ℕ, ℤ, OnOk, OnErr, IfOk, Bool, true, false, ◌&&◌, ◌⊎◌, inl, inr, is_none, List, [], ◌++◌, append-nil, Option, Some, None, Result, Ok, Err, refl, sym, ap, ◌∙◌, subst, if◌then◌else◌}
 use Rattle.cell_types.specs.declared.machine.Machine.{Machine}
 use Rattle.cell_types.specs.declared.machine.Machine.TheVariants.{Feed, Table, Robot, Press, Deposit, Crane, Watch}
 use Rattle.cell_types.specs.Same.{same_machine, one_machine}
@@ -9,22 +9,31 @@ use Rattle.cell_calib.specs.declared.sense.SensorFault.{SensorFault}
 use Rattle.cell_calib.specs.declared.sense.SensorFault.TheVariants.{Low, High, Clash}
 use Rattle.cell_calib.specs.declared.sense.TableSense.{TableSense}
 use Rattle.cell_devices.specs.declared.act.TableAct.{TableAct}
+use Rattle.cell_types.specs.declared.answer.Event.{Event}
 use Rattle.cell_rules.specs.ModelState.{ModelState}
+use Rattle.cell_rules.specs.Benches.{Desk}
+use Rattle.cell_control.specs.Steps.{Steps}
 use Rattle.cell_control.specs.Rigs.{Rig}
 use Rattle.cell_control.proofs.Senses.{turns_still}
 use Rattle.cell_stations.specs.declared.table_step.TableProgress.{TableProgress}
 use Rattle.cell_stations.specs.declared.table_step.TableReading.{TableReading}
+use Rattle.cell_stations.specs.declared.press_step.PressProgress.{PressProgress}
+use Rattle.cell_stations.specs.PressProgram.{press_steps}
 use Rattle.cell_stations.specs.TableProgram.{Senses, table_steps}
 use Rattle.cell_notes.specs.Asks.{Asked, settled_in}
 use Rattle.cell_notes.specs.Notes.{Notes, notes_with}
+use Rattle.cell_parts.specs.declared.axis.Axis.{Axis}
+use Rattle.cell_parts.specs.Axes.{CellScales}
 use Rattle.cell_parts.specs.Plant.{TablePlant}
+use Rattle.cell_parts.specs.Rigs.{press_rig, table_rig}
 use Rattle.cell_seat.specs.Sides.{Side}
-use Rattle.cell_seat.specs.SeatTurns.{Answers, Leads as LeadsAlone}
+use Rattle.cell_seat.specs.declared.fault.SimFault.{SimFault}
+use Rattle.cell_seat.specs.SeatTurns.{SeatTurn, Untouched, Leads as LeadsAlone}
 use Rattle.cell_plant.specs.declared.schedule.Turn.{Turn}
 use Rattle.cell_plant.specs.Machines.{steps_of, rig_of, has_controller}
-use Rattle.cell_plant.specs.CellStates.{SideOf, CellState, side_in}
+use Rattle.cell_plant.specs.CellStates.{SideOf, CellState, Sides, side_in, sides_at_start}
 use Rattle.cell_plant.specs.Runs.{Step, LeadsIf}
-use Rattle.cell_plant.specs.Moments.{Moment, StepsOn, state_at, notes_in}
+use Rattle.cell_plant.specs.Moments.{Moment, AllNotes, StepsOn, state_at, notes_in, first_notes, first_moment}
 
 -- two states are the same that have the same interlock and the same side of each machine
 same_state : (w v : CellState) → w.interlock ≡ v.interlock → ((n : Machine) → w.side n ≡ v.side n) → w ≡ v
@@ -174,3 +183,77 @@ table_leads true points gives rig busy z before asked y now k =
       moved = k.moved;
     }
 table_leads false points gives rig busy z before asked y now k = k
+
+-- the table's turn and the press's, which leave the others
+module _ (before now : Moment) (busy : Bool) (asked : Asked) (scales : now.scales ≡ before.scales) (opening : now.opening ≡ before.opening) where
+  table_others : now ≡ record now { sides = record before.sides { table = now.sides.table }; notes = record before.notes { table = now.notes.table } }
+      → (n : Machine) → same_machine Table n ≡ false → (side_in now.sides n ≡ side_in before.sides n) × (notes_in now.notes n ≡ notes_in before.notes n)
+  table_others e Feed apart = (ap (λ (m : Moment). side_in m.sides Feed) e, ap (λ (m : Moment). m.notes.feed) e)
+  table_others e Table apart = cc
+  table_others e Robot apart = (ap (λ (m : Moment). side_in m.sides Robot) e, ap (λ (m : Moment). m.notes.robot) e)
+  table_others e Press apart = (ap (λ (m : Moment). m.sides.press) e, ap (λ (m : Moment). m.notes.press) e)
+  table_others e Deposit apart = (ap (λ (m : Moment). side_in m.sides Deposit) e, ap (λ (m : Moment). m.notes.deposit) e)
+  table_others e Crane apart = (ap (λ (m : Moment). side_in m.sides Crane) e, ap (λ (m : Moment). m.notes.crane) e)
+  table_others e Watch apart = (refl, ap (λ (m : Moment). m.notes.watch) e)
+
+  pub table_on : (points : Scale) (gives : ℕ → ℤ → Type 0)
+      → LeadsAlone (is_none before.sides.table.stopped) (table_steps points gives) (table_rig before.scales.turn) busy before.interlock before.sides.table asked now.interlock now.sides.table
+      → before.scales.turn ≡ points → now.history ≡ before.history ++ settled_in Table asked
+      → now.notes.table ≡ (if is_none before.sides.table.stopped then notes_with before.notes.table asked else before.notes.table)
+      → now ≡ record now { sides = record before.sides { table = now.sides.table }; notes = record before.notes { table = now.notes.table } }
+      → StepsOn (record { machine = Table; busy = busy }) before now
+  table_on points gives leads fits history noted rest =
+      let near = table_leads (is_none before.sides.table.stopped) points gives (table_rig before.scales.turn) busy before.interlock before.sides.table asked now.interlock now.sides.table leads in
+      let led = subst (λ (s : Scale). LeadsAlone (is_none before.sides.table.stopped) (table_steps s (IsReading s)) (table_rig before.scales.turn) busy before.interlock before.sides.table asked now.interlock now.sides.table) (sym fits) near in
+      steps_on Table busy before now asked refl led history noted (table_others rest) scales opening
+
+  press_others : now ≡ record now { sides = record before.sides { press = now.sides.press }; notes = record before.notes { press = now.notes.press } }
+      → (n : Machine) → same_machine Press n ≡ false → (side_in now.sides n ≡ side_in before.sides n) × (notes_in now.notes n ≡ notes_in before.notes n)
+  press_others e Feed apart = (ap (λ (m : Moment). side_in m.sides Feed) e, ap (λ (m : Moment). m.notes.feed) e)
+  press_others e Table apart = (ap (λ (m : Moment). m.sides.table) e, ap (λ (m : Moment). m.notes.table) e)
+  press_others e Robot apart = (ap (λ (m : Moment). side_in m.sides Robot) e, ap (λ (m : Moment). m.notes.robot) e)
+  press_others e Press apart = cc
+  press_others e Deposit apart = (ap (λ (m : Moment). side_in m.sides Deposit) e, ap (λ (m : Moment). m.notes.deposit) e)
+  press_others e Crane apart = (ap (λ (m : Moment). side_in m.sides Crane) e, ap (λ (m : Moment). m.notes.crane) e)
+  press_others e Watch apart = (refl, ap (λ (m : Moment). m.notes.watch) e)
+
+  pub press_on : LeadsAlone (is_none before.sides.press.stopped) press_steps press_rig busy before.interlock before.sides.press asked now.interlock now.sides.press
+      → now.history ≡ before.history ++ settled_in Press asked
+      → now.notes.press ≡ (if is_none before.sides.press.stopped then notes_with before.notes.press asked else before.notes.press)
+      → now ≡ record now { sides = record before.sides { press = now.sides.press }; notes = record before.notes { press = now.notes.press } }
+      → StepsOn (record { machine = Press; busy = busy }) before now
+  press_on leads history noted rest = steps_on Press busy before now asked refl leads history noted (press_others rest) scales opening
+
+-- machines without a controller
+pub none_controlled : (m : Machine) → (m ≡ Feed) ⊎ ((m ≡ Robot) ⊎ ((m ≡ Deposit) ⊎ ((m ≡ Crane) ⊎ (m ≡ Watch)))) → has_controller m ≡ false
+none_controlled m (inl e) = ap has_controller e
+none_controlled m (inr (inl e)) = ap has_controller e
+none_controlled m (inr (inr (inl e))) = ap has_controller e
+none_controlled m (inr (inr (inr (inl e)))) = ap has_controller e
+none_controlled m (inr (inr (inr (inr e)))) = ap has_controller e
+
+-- what holds where a turn was Ok
+pub on_ok : {A E : Type 0} → (r : Result A E) (P Q : Type 0) → OnOk r P → (P → Q) → IfOk r (λ x. Q)
+on_ok (Ok x) P Q p f = f p
+on_ok (Err e) P Q p f = tt
+
+-- whatever came of a turn, the bench keeps its opening, and its history grows by what was asked
+pub record Grows (m : Machine) (old new : Desk) : Type 0 where
+  pub asked : Asked
+  pub opening : new.opening ≡ old.opening
+  pub history : new.history ≡ old.history ++ settled_in m asked
+
+pub grows : {E S Sense Reading Act State : Type 0} → (r : Result Unit E) (t : Steps S Sense Reading Act) (rig : Rig State Sense Act) (busy : Bool) (old new : Desk) (before now : Side S State) (notes notes' : Notes)
+    → OnOk r (SeatTurn t rig busy old new before now notes notes') → OnErr r (Untouched old new before now notes notes') → Grows t.machine old new
+grows (Ok x) t rig busy old new before now notes notes' k u = record { asked = k.asked; opening = k.opening; history = k.history }
+grows (Err e) t rig busy old new before now notes notes' k u = record { asked = None; opening = ap (λ (d : Desk). d.opening) u.desk; history = ap (λ (d : Desk). d.history) u.desk ∙ sym (append-nil old.history) }
+
+-- another scale of the table's rotation
+abbrev pub with_turn : CellScales → Scale → CellScales
+with_turn c s = record c { turn = s }
+
+-- a simulation before its first turn
+pub first_is : (c : CellScales) (s opening interlock : ModelState) (sides : Sides) (history : List Event) (notes : AllNotes)
+    → opening ≡ s → interlock ≡ s → sides ≡ sides_at_start s → history ≡ [] → notes ≡ first_notes
+    → record { scales = c; opening = opening; interlock = interlock; sides = sides; history = history; notes = notes } ≡ first_moment c s
+first_is c s opening interlock sides history notes a b d e f = λ i. record { scales = c; opening = a i; interlock = b i; sides = d i; history = e i; notes = f i }

@@ -41,7 +41,7 @@ use Rattle.cell_control.proofs.Facts.{Finds, are_foreign}
 use Rattle.cell_stations.proofs.TableFacts.{TableKnows, table-knowing, drives_at}
 use Rattle.cell_seat.specs.Sides.{act_or_rest}
 use Rattle.cell_seat.proofs.Keeping.{Keeping, turn_tells}
-use Rattle.cell_parts.specs.Shows.{TableSwitches, TableShows}
+use Rattle.cell_parts.specs.Shows.{TableShows}
 use Rattle.cell_parts.specs.Collisions.{IsOn, TableMoves, DrivesPast}
 use Rattle.cell_parts.specs.PositionDemands.{HoldsIn, RestsAtLoading}
 use Rattle.cell_parts.specs.Rigs.{table_rig}
@@ -113,11 +113,11 @@ led_elsewhere ClaimExit loaded c e q = choice_elsewhere loaded q
 led_elsewhere s loaded c e q = cc
 
 -- the reading is within the tolerance of where the table is turned to
-turn_near : (points : Scale) (t : TablePlant) (s : TableSense) (r : TableReading) → IsAxisScale turn_end points → TableShows points t s → Senses points (IsReading points) s (Ok r) → IsNear r.turn t.turn.position points.tol
-turn_near points t s r k shows senses =
+turn_near : (points : Scale) (t : TablePlant) (s : TableSense) (r : TableReading) → IsAxisScale turn_end points → IsWithin turn_end t.turn.position → TableShows points t s → Senses points (IsReading points) s (Ok r) → IsNear r.turn t.turn.position points.tol
+turn_near points t s r k within shows senses =
     let scale = k.scale in
     let wide : (points.at_hi -ℤ points.at_lo) ≤ℤ raw_width points = rw (k.from, k.to) k.wide in
-    near_position_lem points t.turn.position r.turn s.turn scale wide (shows.raw k) senses.near.near
+    near_position_lem points t.turn.position r.turn s.turn scale wide (shows.raw.between (rw k.from within.first) (rw k.to within.last)) senses.near.near
 
 near_loading : (position read tol : ℤ) → IsNear read position tol → IsNear read (pos 0) (pos 20 -ℤ tol) → position ≤ℤ pos 20
 near_loading position read tol a b = omega (arith, ints)
@@ -131,14 +131,14 @@ both_off Off Off e = (refl, refl)
 both_off a b e = cc
 
 -- a table whose motors go off as it moves to the feed belt stands ready to load there
-rests-loading : (points : Scale) (t : TablePlant) (s : TableSense) (r : TableReading) (act : TableAct) → IsAxisScale turn_end points → TableShows points t s → Senses points (IsReading points) s (Ok r) → Acts points MoveToLoading r act
+rests-loading : (points : Scale) (t : TablePlant) (s : TableSense) (r : TableReading) (act : TableAct) → IsAxisScale turn_end points → IsWithin turn_end t.turn.position → TableShows points t s → Senses points (IsReading points) s (Ok r) → Acts points MoveToLoading r act
     → (act.height ≡ Off) × (act.rotation ≡ Off) → RestsAtLoading (set_table t act)
-rests-loading points t s r act k shows senses acts off =
+rests-loading points t s r act k within shows senses acts off =
     record {
       lift_off = off.0;
       turn_off = off.1;
-      bottom = shows.switches.bottom.0 (off_at_bottom s.bottom (ap (λ x. height_for MoveToLoading x) (sym senses.switches) ∙ sym acts.height ∙ off.0));
-      turned = near_loading t.turn.position r.turn points.tol (turn_near points t s r k shows senses) (acts.rotation.off.0 off.1);
+      bottom = shows.bottom.0 (off_at_bottom s.bottom (ap (λ x. height_for MoveToLoading x) (sym senses.switches) ∙ sym acts.height ∙ off.0));
+      turned = near_loading t.turn.position r.turn points.tol (turn_near points t s r k within shows senses) (acts.rotation.off.0 off.1);
     }
 
 led_by : (b : Bool) (s : TableStep) (loaded : Bool) → call_of s ≡ None → (if b then after_done (record { step = s; loaded = loaded }) else record { step = s; loaded = loaded }).step ≡ PoseLoading → (b ≡ true) × (s ≡ MoveToLoading)
@@ -179,16 +179,19 @@ module _ (points : Scale) (axis : IsAxisScale turn_end points) where
     open_in = λ o. absurd (moving_open (posture_at z Z1) (drives_at p.step z e i.knows).1.0 o);
     settled = λ q.
         let led = led_by (is_off act.height && is_off act.rotation) p.step p.loaded e q in
-        rests-loading points t s r act axis shows senses (subst (λ x. Acts points x r act) led.1 acts) (both_off act.height act.rotation led.0);
+        rests-loading points t s r act axis i.turn_within shows senses (subst (λ x. Acts points x r act) led.1 acts) (both_off act.height act.rotation led.0);
   }
 
   pub table-keeping : Keeping (table_steps points (IsReading points)) (table_rig points) TableInv TableInv
   table-keeping = record {
     foreign = λ z p b n c apart sound i.
-        record i {
+        record {
           knows = (table-knowing points (IsReading points)).foreign p z n c apart sound i.knows;
+          lift_within = i.lift_within;
+          turn_within = i.turn_within;
           moving = λ on. let at = i.moving on in let kept = are_foreign TableMachine n c z (Finds Z1 Moving ∷ Finds Z2 Moving ∷ []) apart sound (at.0, (at.1, tt)) in (kept.0, kept.1.0);
           open_in = λ o. i.open_in (sym (posture-foreign z n c Z1 apart) ∙ o);
+          settled = i.settled;
         };
     rests = λ z p b i. at_rest z p b i;
     after_done = λ z p b c e d sound i. done z p b c e d sound i;
@@ -244,11 +247,11 @@ raised MoveToLoading x e b = absurd (not_plus x.bottom e)
 raised MoveToUnloading x e b = absurd (plus_unless x.top e b)
 raised s x e b = cc
 
-lift_within : (t : TablePlant) (s : TableStep) (x : TableSense) (m : Motor) → TableSwitches t x → m ≡ height_for s x → DrivesPast lift_end (set_axis t.lift m) → ⊥
-lift_within t s x m shows e (inl past) =
+lift_stays : (points : Scale) (t : TablePlant) (s : TableStep) (x : TableSense) (m : Motor) → TableShows points t x → m ≡ height_for s x → DrivesPast lift_end (set_axis t.lift m) → ⊥
+lift_stays points t s x m shows e (inl past) =
     let low : t.lift.position ≡ pos 0 = past.0 in
     lowered s x (sym e ∙ past.1) (shows.bottom.1 (omega (arith, ints)))
-lift_within t s x m shows e (inr past) =
+lift_stays points t s x m shows e (inr past) =
     let high : t.lift.position ≡ pos 600 = past.0 in
     raised s x (sym e ∙ past.1) (shows.top.1 (omega (arith, ints)))
 
@@ -268,10 +271,10 @@ turn_within points t MoveToLoading read m k near turns past = stop_within points
 turn_within points t MoveToUnloading read m k near turns past = stop_within points t (pos 500) read m (omega (arith, ints)) (omega (arith, ints)) k near turns past
 turn_within points t s read m k near turns past = off_within turn_end (set_axis t.turn m) turns past
 
-module _ (points : Scale) (axis : IsAxisScale turn_end points) (t : TablePlant) (s : TableSense) (shows : TableShows points t s) where
+module _ (points : Scale) (axis : IsAxisScale turn_end points) (t : TablePlant) (within : IsWithin turn_end t.turn.position) (s : TableSense) (shows : TableShows points t s) where
   acts_within : (p : TableProgress) (r : TableReading) (act : TableAct) → Senses points (IsReading points) s (Ok r) → Acts points p.step r act → DrivesOut (set_table t act) → ⊥
-  acts_within p r act senses acts (inl past) = lift_within t p.step s act.height shows.switches (acts.height ∙ ap (λ x. height_for p.step x) senses.switches) past
-  acts_within p r act senses acts (inr past) = turn_within points t p.step r.turn act.rotation axis.scale (turn_near points t s r axis shows senses) acts.rotation past
+  acts_within p r act senses acts (inl past) = lift_stays points t p.step s act.height shows (acts.height ∙ ap (λ x. height_for p.step x) senses.switches) past
+  acts_within p r act senses acts (inr past) = turn_within points t p.step r.turn act.rotation axis.scale (turn_near points t s r axis within shows senses) acts.rotation past
 
   -- so in no turn it is driven on past an end
   pub table-ends : (same : Type 0) (asks : Call → Result Reply LineFault → Type 0) (stopped : Option CtlFault) (p : TableProgress) (w : Turned TableProgress TableAct) → Turns (table_steps points (IsReading points)) same asks stopped p s w

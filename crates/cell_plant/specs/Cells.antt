@@ -1,5 +1,6 @@
 -- The cell, by its machines.
 use Rattle.std.specs.Prelude.{◌≡◌, List}
+use Rattle.cell_calib.specs.declared.gauge.Gauge.{Ghosts}
 use Rattle.cell_rules.specs.ModelState.{ModelState}
 use Rattle.cell_rules.specs.History.{IsLegal, after}
 use Rattle.cell_notes.specs.declared.run_record.RunRecord.{RunRecord}
@@ -13,7 +14,7 @@ use Rattle.cell_plant.specs.Runs.{Step, IsRun, end_of}
 use Rattle.cell_plant.specs.Safety.{IsSafeRun}
 
 -- the points of its five potentiometers
-abbrev pub scales_of : {F1 F2 F3 F4 F5 : Type 0} → Cell F1 F2 F3 F4 F5 → CellScales
+abbrev pub scales_of : {F1 F2 F3 F4 F5 : Type 0} {g1 : Ghosts F1} {g2 : Ghosts F2} {g3 : Ghosts F3} {g4 : Ghosts F4} {g5 : Ghosts F5} → Cell F1 F2 F3 F4 F5 g1 g2 g3 g4 g5 → CellScales
 scales_of cell =
     record {
       arm1 = cell.robot.part.scale.arm1;
@@ -24,7 +25,7 @@ scales_of cell =
     }
 
 -- its six machines
-abbrev pub sides_of : {F1 F2 F3 F4 F5 : Type 0} → Cell F1 F2 F3 F4 F5 → Sides
+abbrev pub sides_of : {F1 F2 F3 F4 F5 : Type 0} {g1 : Ghosts F1} {g2 : Ghosts F2} {g3 : Ghosts F3} {g4 : Ghosts F4} {g5 : Ghosts F5} → Cell F1 F2 F3 F4 F5 g1 g2 g3 g4 g5 → Sides
 sides_of cell =
     record {
       feed = cell.feed.part.belt;
@@ -36,7 +37,7 @@ sides_of cell =
     }
 
 -- each potentiometer has the points of the calibration by which it is read
-pub record IsFitted {F1 F2 F3 F4 F5 : Type 0} (cell : Cell F1 F2 F3 F4 F5) : Type 0 where
+pub record IsFitted {F1 F2 F3 F4 F5 : Type 0} {g1 : Ghosts F1} {g2 : Ghosts F2} {g3 : Ghosts F3} {g4 : Ghosts F4} {g5 : Ghosts F5} (cell : Cell F1 F2 F3 F4 F5 g1 g2 g3 g4 g5) : Type 0 where
   pub arm1 : cell.robot.part.scale.arm1 ≡ cell.robot.arm1.points
   pub arm2 : cell.robot.part.scale.arm2 ≡ cell.robot.arm2.points
   pub rotation : cell.robot.part.scale.rotation ≡ cell.robot.rotation.points
@@ -44,7 +45,7 @@ pub record IsFitted {F1 F2 F3 F4 F5 : Type 0} (cell : Cell F1 F2 F3 F4 F5) : Typ
   pub gripper : cell.crane.part.scale ≡ cell.crane.gripper.points
 
 -- a cell as it is made for a state: each controller is at the beginning of its program, and each part where it begins
-pub record IsMadeFor {F1 F2 F3 F4 F5 : Type 0} (s : ModelState) (cell : Cell F1 F2 F3 F4 F5) : Type 0 where
+pub record IsMadeFor {F1 F2 F3 F4 F5 : Type 0} {g1 : Ghosts F1} {g2 : Ghosts F2} {g3 : Ghosts F3} {g4 : Ghosts F4} {g5 : Ghosts F5} (s : ModelState) (cell : Cell F1 F2 F3 F4 F5 g1 g2 g3 g4 g5) : Type 0 where
   pub begins : sides_of cell ≡ sides_at_start s
   pub fitted : IsFitted cell
 

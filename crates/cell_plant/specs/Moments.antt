@@ -48,6 +48,10 @@ pub record Moment : Type 0 where
 abbrev pub state_at : Moment → CellState
 state_at m = record { interlock = m.interlock; side = side_in m.sides }
 
+-- before the first turn
+abbrev pub first_notes : AllNotes
+first_notes = record { feed = no_notes; table = no_notes; robot = no_notes; press = no_notes; deposit = no_notes; crane = no_notes; watch = no_notes }
+
 abbrev pub first_moment : CellScales → ModelState → Moment
 first_moment c s =
     record {
@@ -56,7 +60,7 @@ first_moment c s =
       interlock = s;
       sides = sides_at_start s;
       history = [];
-      notes = record { feed = no_notes; table = no_notes; robot = no_notes; press = no_notes; deposit = no_notes; crane = no_notes; watch = no_notes };
+      notes = first_notes;
     }
 
 -- a turn leads on by a step, and what was asked in it is noted
@@ -71,8 +75,8 @@ pub record StepsOn (t : Turn) (before now : Moment) : Type 0 where
   pub opening : now.opening ≡ before.opening
 
 -- what is kept of a run that has come so far
-pub record Keeps (m : Moment) (start : ModelState) (r : RunRecord) : Type 0 where
-  pub start : r.start ≡ start
+pub record Keeps (m : Moment) (opening : ModelState) (r : RunRecord) : Type 0 where
+  pub start : r.start ≡ opening
   pub counts : r.counts ≡ map (λ n. (notes_in m.notes n).counts) all_machines
   pub status : r.status ≡ map (λ n. status_of (side_in m.sides n).stopped) all_machines
   pub journals : (n : Machine) → journal_of r.journals n ≡ (notes_in m.notes n).journal

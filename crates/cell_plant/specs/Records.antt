@@ -53,10 +53,10 @@ positions_in p =
     ∷ []
 
 -- a record tells a run from an opening: where it began and ended, what each machine did and noted, how each fares, and where the axes stand
-pub record IsRecordOf (opening : ModelState) (steps : List Step) (end : CellState) (r : RunRecord) : Type 0 where
+pub record IsRecordOf (opening : ModelState) (steps : List Step) (last : CellState) (r : RunRecord) : Type 0 where
   pub start : r.start ≡ opening
   pub counts : r.counts ≡ map (counts_in steps) all_machines
-  pub status : r.status ≡ map (λ m. status_of (end.side m).stopped) all_machines
+  pub status : r.status ≡ map (λ m. status_of (last.side m).stopped) all_machines
   pub journals : (m : Machine) → journal_of r.journals m ≡ noted opening (events_in steps) m
-  pub end : r.end ≡ Some end.interlock
-  pub axes : r.axes ≡ positions_in (plant_of end)
+  pub end : r.end ≡ Some last.interlock
+  pub axes : r.axes ≡ positions_in (plant_of last)

@@ -3,8 +3,7 @@ ghost use Rattle.std.specs.Prelude.{◌≡◌, map};
 ghost use Rattle.cell_types.specs.declared.machine.Machine.{Machine};
 ghost use Rattle.cell_types.specs.Everything.{all_machines};
 ghost use Rattle.cell_types.specs.Journals.{journal_of};
-ghost use Rattle.cell_notes.specs.Notes.{no_notes};
-ghost use Rattle.cell_plant.specs.Moments.{notes_in};
+ghost use Rattle.cell_plant.specs.Moments.{notes_in, first_notes};
 ghost use Rattle.cell_plant.specs.Notebooks.{all_notes};
 
 use cell_notes::{Counts, Notebook};
@@ -26,7 +25,7 @@ pub(crate) struct Notebooks {
 impl Notebooks {
     /// Before the first turn. It takes no memory.
     pub(crate) fn new(alloc: Global) -> Notebooks
-        ensures { (m : Machine) → notes_in (all_notes result) m ≡ no_notes }
+        ensures { all_notes result ≡ first_notes }
     {
         Notebooks {
             feed: Notebook::new(alloc),
