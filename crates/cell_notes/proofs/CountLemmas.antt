@@ -22,6 +22,9 @@ below_with n c asked k =
       busy = one_more (came_back is_busy_reply asked) c.busy n k.busy;
     }
 
+pub below_later : (n k : ℕ) (c : Counts) → n ≤ k → AreBelow n c → AreBelow k c
+below_later n k c e b = record { turns = omega (arith, e, b.turns); done = omega (arith, e, b.done); read = omega (arith, e, b.read); refused = omega (arith, e, b.refused); busy = omega (arith, e, b.busy) }
+
 -- so there is room for one more while there were fewer turns than the last value
 pub room_below : (n : ℕ) (c : Counts) → n ≤ last_count → AreBelow n c → HasRoom c
 room_below n c e k = record { turns = omega (arith, e, k.turns); done = omega (arith, e, k.done); read = omega (arith, e, k.read); refused = omega (arith, e, k.refused); busy = omega (arith, e, k.busy) }

@@ -1,22 +1,16 @@
 -- Two states in which all demands are met while much is driven at once.
 use Rattle.std.specs.Prelude.{true, false, Some, None}
-use Rattle.cell_types.specs.declared.machine.Machine.{Machine}
 use Rattle.cell_types.specs.declared.machine.Machine.TheVariants.{Feed, Table, Robot, Deposit, Crane, Press}
-use Rattle.cell_types.specs.declared.posture.Posture.{Posture}
 use Rattle.cell_types.specs.declared.posture.Posture.TheVariants.{Closed, Moving, OpenIn, OpenOut}
 use Rattle.cell_types.specs.declared.place.Place.TheVariants as place
 use Rattle.cell_devices.specs.declared.motor.Motor.TheVariants.{Plus, Minus}
-use Rattle.cell_rules.specs.declared.zones.ZoneState.{ZoneState}
 use Rattle.cell_rules.specs.PlaceSet.{empty, insert_place}
 use Rattle.cell_rules.specs.ZoneMap.{zone_map}
 use Rattle.cell_rules.specs.ModelState.{ModelState, model_state}
 use Rattle.cell_parts.specs.Plant.{PlantState}
 use Rattle.cell_parts.specs.MotorDemands.{ForTravel, AtDeposit}
 use Rattle.cell_parts.specs.Laws.{AllDemandsMet}
-use Rattle.cell_parts.specs.Examples.{at, driven_at, robot_at, table_at, crane_at, belt_with}
-
-abbrev pub zone_of : Machine → Posture → ZoneState
-zone_of m q = record { owner = Some m; flag = false; posture = q }
+use Rattle.cell_parts.specs.Examples.{zone_of, at, driven_at, robot_at, table_at, crane_at, belt_with}
 
 -- each zone moves, held by its host
 abbrev pub all_moving : ModelState

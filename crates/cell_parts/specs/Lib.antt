@@ -1,9 +1,13 @@
 pub mod AtWork
 pub mod Axes
+pub mod Bounds
+pub mod CollisionExamples
 pub mod Collisions
+pub mod DemandExamples
 pub mod Examples
 pub mod Laws
 pub mod MotorDemands
+pub mod PartExamples
 pub mod Plant
 pub mod PositionDemands
 pub mod Rigs

@@ -20,7 +20,7 @@ use Rattle.cell_rules.specs.ModelState.{ModelState, is_full}
 use Rattle.cell_rules.specs.History.{is_done}
 use Rattle.cell_parts.specs.declared.axis.Axis.{Axis}
 use Rattle.cell_parts.specs.declared.belt.Belt.{Belt}
-use Rattle.cell_parts.specs.Axes.{press_end, arm_end, rotation_end, lift_end, turn_end, crane_end, gripper_end, speed, rotation_start, gripper_start, belt_end, feed_plate_start, deposit_plate_start}
+use Rattle.cell_parts.specs.Axes.{press_end, arm_end, rotation_end, lift_end, turn_end, crane_end, gripper_end, speed, rotation_start, gripper_start, belt_end, feed_plate_start, deposit_plate_start, IsWithin}
 
 -- the table: its height and its rotation
 pub record TablePlant : Type 0 where
@@ -178,6 +178,13 @@ noted_by_feed b e = if is_done e && same_machine e.machine Feed then feed_called
 abbrev pub noted_by_deposit : Belt → Event → Belt
 noted_by_deposit b e = if is_done e && same_machine e.machine Deposit then deposit_called b e.call else b
 
--- what the plant notes of an event: table, robot, press and crane have nothing to note
-abbrev pub note_of : PlantState → Event → PlantState
-note_of p e = record p { feed = noted_by_feed p.feed e; deposit = noted_by_deposit p.deposit e }
+-- each axis stands within its ends
+pub record StaysWithin (p : PlantState) : Type 0 where
+  pub press : IsWithin press_end p.press.position
+  pub arm1 : IsWithin arm_end p.robot.arm1.position
+  pub arm2 : IsWithin arm_end p.robot.arm2.position
+  pub rotation : IsWithin rotation_end p.robot.rotation.position
+  pub lift : IsWithin lift_end p.table.lift.position
+  pub turn : IsWithin turn_end p.table.turn.position
+  pub travel : IsWithin crane_end p.crane.travel.position
+  pub gripper : IsWithin gripper_end p.crane.gripper.position

@@ -89,8 +89,12 @@ pub record CraneShows (scale : Scale) (c : CranePlant) (s : CraneSense) : Type 0
   pub feed : IsTrue s.feed ↔ IsCraneAtFeed c.travel.position
   pub raw : ShowsRaw scale c.gripper.position s.gripper
 
+-- it sees either plate of its belt
+abbrev pub SeesPlate : Belt → Type 0
+SeesPlate b = IsInBarrier b.entry ⊎ IsInBarrier b.last
+
 pub record FeedShows (b : Belt) (s : FeedSense) : Type 0 where
-  pub barrier : IsTrue s.barrier ↔ (IsInBarrier b.entry ⊎ IsInBarrier b.last)
+  pub barrier : IsTrue s.barrier ↔ SeesPlate b
 
 pub record DepositShows (b : Belt) (s : DepositSense) : Type 0 where
-  pub barrier : IsTrue s.barrier ↔ (IsInBarrier b.entry ⊎ IsInBarrier b.last)
+  pub barrier : IsTrue s.barrier ↔ SeesPlate b

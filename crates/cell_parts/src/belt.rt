@@ -1,7 +1,7 @@
-ghost use Rattle.std.specs.Prelude.{◌≡◌, ◌↔◌, ◌⊎◌, IsTrue, pos, false};
+ghost use Rattle.std.specs.Prelude.{◌≡◌, ◌↔◌, IsTrue, pos, false};
 ghost use Rattle.cell_rules.specs.ModelState.{is_full};
 ghost use Rattle.cell_parts.specs.Plant.{feed_at_start, deposit_at_start, plate_if, set_belt, moved_plate, moved_belt, loaded_belt, advanced, unloaded_belt};
-ghost use Rattle.cell_parts.specs.Shows.{IsInBarrier};
+ghost use Rattle.cell_parts.specs.Shows.{IsInBarrier, SeesPlate};
 
 use crate::axis::SPEED;
 use cell_rules::State;
@@ -61,7 +61,7 @@ impl Belt {
 
     /// Whether a plate is in the light barrier.
     pub(crate) fn is_seen(&self) -> bool
-        ensures { IsTrue result ↔ (IsInBarrier self.now.entry ⊎ IsInBarrier self.now.last) }
+        ensures { IsTrue result ↔ SeesPlate self.now }
     {
         is_in_barrier(self.entry) || is_in_barrier(self.last)
     }

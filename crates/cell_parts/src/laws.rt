@@ -1,6 +1,6 @@
 //! What is so of the plant, in each of its states: laws, in functions that do nothing.
 ghost use Rattle.cell_parts.specs.AtWork.{DemandsCanBeMet};
-ghost use Rattle.cell_parts.specs.Examples.{BoundsAreMet};
+ghost use Rattle.cell_parts.specs.Bounds.{BoundsAreMet};
 ghost use Rattle.cell_parts.specs.Laws.{DemandsPreventCollisions, MotorDemandsKeepApart};
 
 /// In one state of interlock and plant, wherever it came from, nothing collides, for all machines: where
@@ -22,9 +22,10 @@ pub fn demands_can_be_met()
     ensures { DemandsCanBeMet }
 {}
 
-/// The bounds of the plant, by examples at each bound and just past it: of the collisions and of what the
-/// positions demand, of the switches and of the light barrier, and of the axes. So are the speeds, what a
-/// belt notes, and where everything stands at the start.
+/// Examples of the plant at each bound and just past it: of the collisions, of what positions and motors
+/// demand, of the switches, the light barrier and the axes. So are whose zone is demanded and in which
+/// posture, what each part is set to, how it moves, what it shows and what it notes, and where everything
+/// stands at the start.
 pub fn bounds_are_met()
     ensures { BoundsAreMet }
 {}

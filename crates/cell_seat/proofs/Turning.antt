@@ -14,7 +14,8 @@ use Rattle.cell_control.proofs.TurnMaps.{turn_map, turn_either}
 use Rattle.cell_control.proofs.Senses.{turns_still}
 use Rattle.cell_notes.specs.Asks.{Asked, settled_by, settled_in}
 use Rattle.cell_notes.specs.Notes.{Notes, notes_with}
-use Rattle.cell_seat.specs.Sides.{Side, Acts, ActsAndMoves}
+use Rattle.cell_seat.specs.Sides.{Side, Acts, ActsAndMoves, TellsByDemands}
+use Rattle.cell_seat.proofs.Running.{some_stopped}
 use Rattle.cell_seat.specs.SeatTurns.{Answers, Leads, SeatTurn}
 
 -- a turn, told of its line in other words
@@ -39,6 +40,7 @@ passed_over t rig busy desk side notes stopped =
       leads = subst (λ b. Leads b t rig busy desk.state side None desk.state side) (sym stopped) (record { asked_nothing = refl; same = refl; stays = refl });
       opening = refl;
       history = sym (append-nil desk.history);
+      motor_demands = λ e. absurd (some_stopped side.stopped stopped e);
       noted = subst (λ b. notes ≡ (if b then notes_with notes None else notes)) (sym stopped) refl;
     }
 
@@ -72,8 +74,9 @@ module _ {S Sense Reading Act State : Type 0} (t : Steps S Sense Reading Act) (r
   grown = turn_either t ((new ≡ seated) × (asked ≡ None)) (λ q r. BenchAsks seated q r new × (asked ≡ Some (q, r))) (new.history ≡ old.history ++ settled_in t.machine asked) quiet told before.stopped before.progress acts.acts.sense acts.acts.turned acts.acts.row
 
   -- a turn that is taken
-  pub taken_on : (notes notes' : Notes) → new.opening ≡ old.opening → notes' ≡ notes_with notes asked → SeatTurn t rig busy old new before now notes notes'
-  taken_on notes notes' opening noted =
+  pub taken_on : (notes notes' : Notes) → new.opening ≡ old.opening → (now.stopped ≡ None → TellsByDemands t rig before.progress before.part asked now.part new.opening new.history) → notes' ≡ notes_with notes asked
+      → SeatTurn t rig busy old new before now notes notes'
+  taken_on notes notes' opening motor_demands noted =
       record {
         asked = asked;
         leads = subst (λ b. Leads b t rig busy old.state before asked new.state now) (sym runs)
@@ -85,6 +88,7 @@ module _ {S Sense Reading Act State : Type 0} (t : Steps S Sense Reading Act) (r
             });
         opening = opening;
         history = grown;
+        motor_demands = motor_demands;
         noted = subst (λ b. notes' ≡ (if b then notes_with notes asked else notes)) (sym runs) noted;
       }
 
@@ -111,5 +115,6 @@ module _ {S Sense Reading Act State : Type 0} (t : Steps S Sense Reading Act) (r
         leads = leads_still (is_none before.stopped) busy old.state new.state before now k.asked k.leads;
         opening = k.opening;
         history = k.history;
+        motor_demands = λ e. let tells = k.motor_demands e in record { act = tells.act; told = tells.told; motor_demands = tells.motor_demands };
         noted = k.noted;
       }

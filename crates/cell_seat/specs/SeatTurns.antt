@@ -13,7 +13,7 @@ use Rattle.cell_control.specs.Rigs.{Rig}
 use Rattle.cell_control.specs.Steps.{Steps}
 use Rattle.cell_notes.specs.Asks.{Asked, settled_in}
 use Rattle.cell_notes.specs.Notes.{Notes, notes_with}
-use Rattle.cell_seat.specs.Sides.{Side, Acts, ActsAndMoves}
+use Rattle.cell_seat.specs.Sides.{Side, Acts, ActsAndMoves, TellsByDemands}
 
 -- A call is answered by the state, and changes it. In a turn that finds the interlock busy it is answered so, and where the
 -- room for it was refused it isn't made: then nothing changes.
@@ -40,12 +40,13 @@ abbrev pub Leads : {S Sense Reading Act State : Type 0} → Bool → Steps S Sen
 Leads true t rig busy z before asked y now = Taken t rig busy z before asked y now
 Leads false t rig busy z before asked y now = PassedOver z before asked y now
 
--- over a bench: what was asked is in the history, and a turn that is taken is in the notebook
+-- over a bench: what was asked is in the history, a turn that is taken is in the notebook, and what motors are told holds of the history
 pub record SeatTurn {S Sense Reading Act State : Type 0} (t : Steps S Sense Reading Act) (rig : Rig State Sense Act) (busy : Bool) (old new : Desk) (before now : Side S State) (notes notes' : Notes) : Type 0 where
   pub asked : Asked
   pub leads : Leads (is_none before.stopped) t rig busy old.state before asked new.state now
   pub opening : new.opening ≡ old.opening
   pub history : new.history ≡ old.history ++ settled_in t.machine asked
+  pub motor_demands : now.stopped ≡ None → TellsByDemands t rig before.progress before.part asked now.part new.opening new.history
   pub noted : notes' ≡ (if is_none before.stopped then notes_with notes asked else notes)
 
 -- nothing has changed

@@ -18,4 +18,4 @@ returns-clause-turn g c =
       acts = acts_map (g.P.Program.steps seat.controller.program) (g.B.Part.rig (g.B.Part.make seat.part)) _ _ _ _ (λ same. ap desk_of same) (λ q r k. k) _ row.set asked row.acts;
       moved = row.moved;
     })
-    _ _ (c.turn-asked.ensures.opening ∙ ap (λ d. d.opening) c.seat.ensures.desk) (c.in_ok-note.ensures.noted ∙ ap (λ n. notes_with n asked) c.make_room.ensures.same)
+    _ _ (c.turn-asked.ensures.opening ∙ ap (λ d. d.opening) c.seat.ensures.desk) c.turn-asked.ensures.motor_demands (c.in_ok-note.ensures.noted ∙ ap (λ n. notes_with n asked) c.make_room.ensures.same)

@@ -1,0 +1,217 @@
+//! A machine that claims the press's interior, and once that is done lights a lamp.
+use crate::{Seat, seat_turn, status_of};
+use cell_calib::SensorFault;
+use cell_control::{Controller, CtlFault, Part, Program};
+use cell_notes::{Counts, Notebook, Status};
+use cell_rules::{Bench, State};
+use cell_types::{Call, Event, Machine, Posture, Refusal, Zone};
+use std::alloc::Global;
+use std::test::Fail;
+
+const EMPTY: [bool; 10] = [false; 10];
+
+// The last stamp of the interlock.
+const LAST: u32 = 1_048_575;
+
+// Its step is whether it has claimed.
+#[derive(Drop)]
+struct ClaimThenLight;
+
+impl Program for ClaimThenLight {
+    ghost use Rattle.std.specs.Prelude.{◌≡◌, ⊤, true, false, if◌then◌else◌, Some, None, Ok};
+    ghost use Rattle.cell_types.specs.declared.machine.Machine.TheVariants.{Press};
+    ghost use Rattle.cell_types.specs.declared.zone.Zone.TheVariants.{Z3};
+    ghost use Rattle.cell_types.specs.declared.call.Call.TheVariants.{Claim};
+
+    type Progress = bool;
+
+    type Sense = bool;
+
+    type Reading = bool;
+
+    type Act = bool;
+
+    ghost steps = { λ _. record {
+      machine = Press;
+      start = λ state. false;
+      call = λ claimed. if claimed then None else Some (Claim Z3);
+      after_done = λ claimed. true;
+      after_inquiry = λ claimed owner flag posture. claimed;
+      stays_on = λ claimed refusal. false;
+      senses = λ sense reading. reading ≡ Ok sense;
+      drives = λ claimed reading act. act ≡ true;
+      after_drive = λ claimed reading act. claimed;
+      rest = λ claimed. false;
+      motor_demands = λ claimed act opening seen. ⊤;
+    } };
+
+    fn start(&self, _state: &State) -> bool {
+        false
+    }
+
+    fn call(&self, claimed: bool) -> Option<Call> {
+        if claimed {
+            None
+        } else {
+            Some(Call::Claim(Zone::Z3))
+        }
+    }
+
+    fn after_done(&self, _claimed: bool) -> bool {
+        true
+    }
+
+    fn after_inquiry(
+        &self,
+        claimed: bool,
+        _owner: Option<Machine>,
+        _flag: bool,
+        _posture: Posture,
+    ) -> bool {
+        claimed
+    }
+
+    fn stays_on(&self, _claimed: bool, _refusal: Refusal) -> bool {
+        false
+    }
+
+    fn check(&self, sense: &bool) -> Result<bool, SensorFault> {
+        Ok(*sense)
+    }
+
+    fn drive(&self, _claimed: bool, _reading: bool) -> bool {
+        true
+    }
+
+    fn after_drive(&self, claimed: bool, _reading: bool, _act: bool) -> bool {
+        claimed
+    }
+
+    fn rest(&self, _claimed: bool) -> bool {
+        false
+    }
+}
+
+// A lamp, which notes that something was done.
+#[derive(Drop)]
+struct Lamp {
+    lit: bool,
+    noted: bool,
+}
+
+impl Part for Lamp {
+    ghost use Rattle.std.specs.Prelude.{◌≡◌, ⊤, Bool, true};
+
+    type Sense = bool;
+
+    type Act = bool;
+
+    ghost State = { Bool × Bool };
+
+    ghost Make = { ⊤ };
+
+    ghost rig = { λ _. record {
+      shows = λ lamp sense. sense ≡ lamp.0;
+      notes = λ lamp event. (lamp.0, true);
+      set = λ lamp act. (act, lamp.1);
+      moves = λ lamp. lamp;
+    } };
+
+    ghost make = { λ _. tt };
+
+    ghost state = { λ lamp. (lamp.lit, lamp.noted) };
+
+    fn sensors(&self) -> bool {
+        self.lit
+    }
+
+    fn note(&mut self, _event: &Event) {
+        self.noted = true;
+    }
+
+    fn tick(&mut self, act: &bool) {
+        self.lit = *act;
+    }
+}
+
+// The end of a run of it alone.
+#[derive(Clone, Copy)]
+struct Run {
+    state: State,
+    counts: Counts,
+    entries: usize,
+    stopped: Option<CtlFault>,
+    lamp: (bool, bool),
+}
+
+fn run_turns(alloc: Global, stamp: u32, turns: &[bool]) -> Result<Run, Fail> {
+    let start = State::start(EMPTY, stamp)?;
+    let mut bench = Bench::new(alloc, start);
+    let mut notebook = Notebook::new(alloc);
+    let mut seat = Seat {
+        controller: Controller::new(&start, ClaimThenLight),
+        part: Lamp {
+            lit: false,
+            noted: false,
+        },
+    };
+    'turns: for busy in turns {
+        seat_turn(&mut bench, &mut notebook, &mut seat, Machine::Press, *busy)?;
+    }
+    Ok(Run {
+        state: bench.state(),
+        counts: notebook.counts,
+        entries: notebook.journal.len(),
+        stopped: seat.controller.stopped(),
+        lamp: (seat.part.lit, seat.part.noted),
+    })
+}
+
+#[test]
+fn a_seat_asks_and_then_drives(rt: HostRuntime) -> Result<(), Fail> {
+    let run = run_turns(rt.alloc(), 0, &[true, false, false])?;
+    let counts = Counts {
+        turns: 3,
+        done: 1,
+        read: 0,
+        refused: 0,
+        busy: 1,
+    };
+    assert_eq!(rt; run.counts, counts);
+    assert_eq!(rt; run.entries, 1);
+    assert_eq!(rt; run.stopped, None);
+    assert_eq!(rt; run.lamp, (true, true));
+    assert_eq!(rt; run.state.owner(Zone::Z3), Some(Machine::Press));
+    Ok(())
+}
+
+#[test]
+fn a_seat_that_has_stopped_is_passed_over(rt: HostRuntime) -> Result<(), Fail> {
+    let run = run_turns(rt.alloc(), LAST, &[false, false])?;
+    let counts = Counts {
+        turns: 1,
+        done: 0,
+        read: 0,
+        refused: 1,
+        busy: 0,
+    };
+    assert_eq!(rt; run.counts, counts);
+    assert_eq!(rt; run.entries, 1);
+    assert_eq!(rt; run.stopped, Some(CtlFault::Worn));
+    assert_eq!(rt; run.lamp, (false, false));
+    Ok(())
+}
+
+#[test]
+fn statuses_follow_from_faults(rt: HostRuntime) {
+    let rows: [(Option<CtlFault>, Status); 5] = [
+        (None, Status::Fine),
+        (Some(CtlFault::Sensor(SensorFault::Clash)), Status::Sensor),
+        (Some(CtlFault::Refused(Refusal::Jump)), Status::Refused),
+        (Some(CtlFault::Worn), Status::Worn),
+        (Some(CtlFault::Memory), Status::Memory),
+    ];
+    for (stopped, status) in rows.iter() {
+        assert_eq!(rt; status_of(*stopped), *status);
+    }
+}
