@@ -132,9 +132,7 @@ impl<F1: Gauge, F2: Gauge, F3: Gauge, F4: Gauge, F5: Gauge> Simulation<F1, F2, F
             journals: self.notebooks.into_journals(),
         }
     }
-}
 
-impl<F1: Gauge, F2: Gauge, F3: Gauge, F4: Gauge, F5: Gauge> Simulation<F1, F2, F3, F4, F5> {
     // How each machine fares, in the order of `Machine::ALL`.
     fn status(&self) -> [Status; 7]
         ensures { result ≡ map (λ m. status_by (side_in self.now.sides m).stopped) all_machines }

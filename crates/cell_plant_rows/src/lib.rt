@@ -1,0 +1,5 @@
+//! Tests of runs, by public calls alone: they stand apart, so that the plant isn't proved once more with them.
+#![tactic(auto)]
+
+#[cfg(test)]
+mod runs;
