@@ -11,6 +11,7 @@ import tempfile
 import time
 
 ROOT = os.path.dirname(os.path.dirname(os.path.realpath(__file__)))
+PROGRAM = "cell"
 # What of a crate's folder no check reads, or is made by checks.
 BESIDE = ("out", "must-fail", "attacks")
 STOPS = (signal.SIGINT, signal.SIGTERM, signal.SIGHUP)
@@ -67,15 +68,25 @@ def at_once():
     return max(1, min(processors() // PROCESSORS, memory() // MEMORY))
 
 
+def above_rooms():
+    """Where temporary folders go: on the disk of the repository, so that files get there by links."""
+    usual, out = tempfile.gettempdir(), f"{ROOT}/crates/{PROGRAM}/out"
+    if os.stat(usual).st_dev == os.stat(ROOT).st_dev:
+        return usual
+    # (rt looks for no crates in there)
+    os.makedirs(out, exist_ok=True)
+    return out
+
+
 @contextlib.contextmanager
 def room():
-    """A folder outside the repository that is gone at the end, also where a signal ends this script."""
+    """A temporary folder that is gone at the end, also where a signal ends this script."""
     def end(number, _):
         sys.exit(128 + number)
 
     for it in STOPS:
         signal.signal(it, end)
-    folder = tempfile.mkdtemp(prefix="cell-")
+    folder = tempfile.mkdtemp(prefix="cell-", dir=above_rooms())
     try:
         yield folder
     finally:
@@ -236,7 +247,7 @@ def prove(root, names, folder, limit=None, tell=lambda number, of, name: None, w
                 jobs = ["--jobs", str(max(1, processors() // side_by_side))] if side_by_side > 1 else []
                 words, behind = words_of(name)
                 running.start(name, [*words, *jobs, *behind], places[name].crate, f"{folder}/{name}/log")
-                begun[name] = time.monotonic()
+                begun[name] = len(order) - len(left), time.monotonic()
             for name, status in running.ended(1).items():
                 places.pop(name).leave()
                 begun.pop(name, None)
@@ -244,7 +255,6 @@ def prove(root, names, folder, limit=None, tell=lambda number, of, name: None, w
                     return name, f"{folder}/{name}/log"
                 shutil.rmtree(f"{folder}/{name}")
                 done.add(name)
-            for name in [it for it, since in begun.items() if time.monotonic() - since > 2]:
-                del begun[name]
-                tell(order.index(name) + 1, len(order), name)
+            for name in [it for it, (_, since) in begun.items() if time.monotonic() - since > 2]:
+                tell(begun.pop(name)[0], len(order), name)
     return None
