@@ -12,6 +12,7 @@ import time
 
 ROOT = os.path.dirname(os.path.dirname(os.path.realpath(__file__)))
 PROGRAM = "cell"
+ROOMS = "rooms"
 # What of a crate's folder no check reads, or is made by checks.
 BESIDE = ("out", "must-fail", "attacks")
 STOPS = (signal.SIGINT, signal.SIGTERM, signal.SIGHUP)
@@ -70,12 +71,12 @@ def at_once():
 
 def above_rooms():
     """Where temporary folders go: on the disk of the repository, so that files get there by links."""
-    usual, out = tempfile.gettempdir(), f"{ROOT}/crates/{PROGRAM}/out"
+    usual, own = tempfile.gettempdir(), f"{ROOT}/crates/{PROGRAM}/out/{ROOMS}"
     if os.stat(usual).st_dev == os.stat(ROOT).st_dev:
         return usual
-    # (rt looks for no crates in there)
-    os.makedirs(out, exist_ok=True)
-    return out
+    # (rt looks for no crates in an out/)
+    os.makedirs(own, exist_ok=True)
+    return own
 
 
 @contextlib.contextmanager
@@ -98,6 +99,9 @@ def room():
             if not os.path.exists(folder):
                 break
             time.sleep(0.1)
+        if os.path.basename(os.path.dirname(folder)) == ROOMS:
+            with contextlib.suppress(OSError):
+                os.rmdir(os.path.dirname(folder))
 
 
 @contextlib.contextmanager
@@ -175,11 +179,11 @@ def copy_library(source, to):
 
 
 @contextlib.contextmanager
-def alone(folder):
-    """Keeps rt out of a crate's folder, as rt itself does."""
+def alone(folder, waits=True):
+    """Keeps rt out of a crate's folder, as rt itself does. Where rt is in there, waits for it or raises BlockingIOError."""
     held = os.open(folder, os.O_RDONLY)
     try:
-        fcntl.flock(held, fcntl.LOCK_EX)
+        fcntl.flock(held, fcntl.LOCK_EX | (0 if waits else fcntl.LOCK_NB))
         yield
     finally:
         os.close(held)
@@ -195,19 +199,27 @@ class Place:
         self.held = contextlib.ExitStack()
 
     def enter(self):
-        os.makedirs(f"{self.folder}/crates")
-        with open(f"{self.folder}/crates.txt", "w", encoding="utf-8") as to, open(f"{self.root}/crates.txt", encoding="utf-8") as lines:
-            wanted = {self.name, *self.libraries}
-            to.writelines(it for it in lines if {*it.partition(":")[0].split()[:1]} & wanted)
-        copy(f"{self.root}/HANDLES", f"{self.folder}/HANDLES")
-        for it in self.libraries:
-            with alone(f"{self.root}/crates/{it}"):
+        """Answers whether it could: not where rt is at work in one of the crates."""
+        with contextlib.ExitStack() as while_copied:
+            try:
+                self.held.enter_context(alone(self.home, False))
+                for it in self.libraries:
+                    while_copied.enter_context(alone(f"{self.root}/crates/{it}", False))
+            except BlockingIOError:
+                self.held.close()
+                return False
+            os.makedirs(f"{self.folder}/crates")
+            with open(f"{self.folder}/crates.txt", "w", encoding="utf-8") as to, open(f"{self.root}/crates.txt", encoding="utf-8") as lines:
+                wanted = {self.name, *self.libraries}
+                to.writelines(it for it in lines if {*it.partition(":")[0].split()[:1]} & wanted)
+            copy(f"{self.root}/HANDLES", f"{self.folder}/HANDLES")
+            for it in self.libraries:
                 copy_library(f"{self.root}/crates/{it}", f"{self.folder}/crates/{it}")
-        self.held.enter_context(alone(self.home))
-        copy_crate(self.home, self.crate)
+            copy_crate(self.home, self.crate)
         with whole():
             self.moved = True
             self.move(self.home, self.crate)
+        return True
 
     def leave(self):
         with whole():
@@ -220,7 +232,7 @@ class Place:
     def move(source, to):
         for folder in (source, to):
             os.makedirs(f"{folder}/out", exist_ok=True)
-        for it in os.listdir(f"{source}/out"):
+        for it in {*os.listdir(f"{source}/out")} - {ROOMS}:
             shutil.move(f"{source}/out/{it}", f"{to}/out/{it}")
 
 
@@ -231,7 +243,8 @@ def prove(root, names, folder, limit=None, tell=lambda number, of, name: None, w
     for name in names:
         order += [it for it in [*below(crates, name), name] if it not in order]
     above = {it: sum(it in below(crates, other) for other in order) for it in order}
-    left, done, places, begun, running = sorted(order, key=lambda it: -above[it]), set(), {}, {}, Running()
+    left, done, waits = sorted(order, key=lambda it: -above[it]), set(), False
+    places, begun, running = {}, {}, Running()
     with contextlib.ExitStack() as ends:
         ends.callback(lambda: [it.leave() for it in places.values()])
         ends.callback(running.stop)
@@ -240,9 +253,14 @@ def prove(root, names, folder, limit=None, tell=lambda number, of, name: None, w
             starting = [it for it in left if done >= {*crates[it]}][:free]
             side_by_side = len(places) + len(starting)
             for name in starting:
-                left.remove(name)
                 places[name] = Place(root, crates, name, f"{folder}/{name}")
-                places[name].enter()
+                if not places[name].enter():
+                    del places[name]
+                    if not waits:
+                        print(f"{PROGRAM}: waiting for another rt, which is at work in {name} or in a crate below it", file=sys.stderr, flush=True)
+                    waits = True
+                    continue
+                left.remove(name)
                 # a crate that runs alone gets the jobs that rt chooses
                 jobs = ["--jobs", str(max(1, processors() // side_by_side))] if side_by_side > 1 else []
                 words, behind = words_of(name)
