@@ -13,6 +13,7 @@ import time
 ROOT = os.path.dirname(os.path.dirname(os.path.realpath(__file__)))
 PROGRAM = "cell"
 ROOMS = "rooms"
+KEPT = "incremental"
 # What of a crate's folder no check reads, or is made by checks.
 BESIDE = ("out", "must-fail", "attacks")
 STOPS = (signal.SIGINT, signal.SIGTERM, signal.SIGHUP)
@@ -191,11 +192,11 @@ def alone(folder, waits=True):
 
 class Place:
     """A crate with those below it, in a folder of its own, so that rt, which locks all of them, can work at two crates at once.
-    The crate's own out/ moves there and back, so that what rt keeps from run to run is kept here too."""
+    What rt keeps of the crate from run to run moves there and back; its library or program comes back once that is proved."""
 
     def __init__(self, root, crates, name, folder):
         self.root, self.folder, self.libraries, self.name = root, folder, below(crates, name), name
-        self.home, self.crate, self.moved = f"{root}/crates/{name}", f"{folder}/crates/{name}", False
+        self.home, self.crate, self.entered = f"{root}/crates/{name}", f"{folder}/crates/{name}", False
         self.held = contextlib.ExitStack()
 
     def enter(self):
@@ -216,24 +217,30 @@ class Place:
             for it in self.libraries:
                 copy_library(f"{self.root}/crates/{it}", f"{self.folder}/crates/{it}")
             copy_crate(self.home, self.crate)
+        for folder in (self.home, self.crate):
+            os.makedirs(f"{folder}/out", exist_ok=True)
+        for it in {*os.listdir(f"{self.home}/out")} - {KEPT, ROOMS}:
+            # (rt writes a program's files again in place)
+            how = copy if os.path.isdir(f"{self.home}/out/{it}") else shutil.copy2
+            how(f"{self.home}/out/{it}", f"{self.crate}/out/{it}")
         with whole():
-            self.moved = True
-            self.move(self.home, self.crate)
+            self.entered = True
+            self.move(KEPT, self.home, self.crate)
         return True
 
-    def leave(self):
+    def leave(self, proved=False):
         with whole():
-            if self.moved:
-                self.move(self.crate, self.home)
-                self.moved = False
+            if self.entered:
+                for it in os.listdir(f"{self.crate}/out") if proved else [KEPT]:
+                    self.move(it, self.crate, self.home)
+                self.entered = False
         self.held.close()
 
     @staticmethod
-    def move(source, to):
-        for folder in (source, to):
-            os.makedirs(f"{folder}/out", exist_ok=True)
-        for it in {*os.listdir(f"{source}/out")} - {ROOMS}:
-            shutil.move(f"{source}/out/{it}", f"{to}/out/{it}")
+    def move(name, source, to):
+        if os.path.exists(f"{source}/out/{name}"):
+            shutil.rmtree(f"{to}/out/{name}", ignore_errors=True)
+            shutil.move(f"{source}/out/{name}", f"{to}/out/{name}")
 
 
 def prove(root, names, folder, limit=None, tell=lambda number, of, name: None, words_of=lambda name: (["rt", "lib"], [])):
@@ -267,7 +274,7 @@ def prove(root, names, folder, limit=None, tell=lambda number, of, name: None, w
                 running.start(name, [*words, *jobs, *behind], places[name].crate, f"{folder}/{name}/log")
                 begun[name] = len(order) - len(left), time.monotonic()
             for name, status in running.ended(1).items():
-                places.pop(name).leave()
+                places.pop(name).leave(status == 0)
                 begun.pop(name, None)
                 if status:
                     return name, f"{folder}/{name}/log"
