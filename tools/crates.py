@@ -1,0 +1,285 @@
+"""What the scripts of this folder share: the crates of crates.txt, and proving them in the order that they stand on one another."""
+
+import contextlib
+import fcntl
+import os
+import shutil
+import signal
+import subprocess
+import sys
+import tempfile
+import time
+
+ROOT = os.path.dirname(os.path.dirname(os.path.realpath(__file__)))
+PROGRAM = "cell"
+ROOMS = "rooms"
+KEPT = "incremental"
+# What of a crate's folder no check reads, or is made by checks.
+BESIDE = ("out", "must-fail", "attacks")
+STOPS = (signal.SIGINT, signal.SIGTERM, signal.SIGHUP)
+# The most memory that the check of a crate takes, in bytes, and the processors that it is given at least where there are several.
+MEMORY = 7_000_000_000
+PROCESSORS = 2
+
+
+def listed(root):
+    """The crates of crates.txt by name, each with the crates of the repository that it stands on."""
+    found = {}
+    with open(f"{root}/crates.txt", encoding="utf-8") as lines:
+        for line in lines:
+            head, colon, libraries = line.partition("#")[0].partition(":")
+            if colon:
+                found[head.split()[0]] = libraries.split()
+    return {name: [it for it in libraries if it in found] for name, libraries in found.items()}
+
+
+def below(crates, name):
+    """All that a crate stands on, lowest first."""
+    found = []
+    for library in crates[name]:
+        found += [it for it in [*below(crates, library), library] if it not in found]
+    return found
+
+
+def is_program(root, name):
+    return os.path.isfile(f"{root}/crates/{name}/src/main.rt")
+
+
+def processors():
+    """The processors that there are to use: those of this process, or fewer by the quota of its control group."""
+    found = len(os.sched_getaffinity(0))
+    with contextlib.suppress(OSError, ValueError):
+        with open("/sys/fs/cgroup/cpu.max", encoding="ascii") as it:
+            quota, period = map(int, it.read().split())
+        found = min(found, max(quota // period, 1))
+    return found
+
+
+def memory():
+    """The free memory in bytes, under the limit of the control group too."""
+    with open("/proc/meminfo", encoding="ascii") as it:
+        found = next(1024 * int(line.split()[1]) for line in it if line.startswith("MemAvailable"))
+    with contextlib.suppress(OSError, ValueError):
+        with open("/sys/fs/cgroup/memory.max", encoding="ascii") as limit, open("/sys/fs/cgroup/memory.current", encoding="ascii") as held:
+            found = min(found, int(limit.read()) - int(held.read()))
+    return found
+
+
+def at_once():
+    """How many crates may be checked side by side here."""
+    return max(1, min(processors() // PROCESSORS, memory() // MEMORY))
+
+
+def above_rooms():
+    """Where temporary folders go: on the disk of the repository, so that files get there by links."""
+    usual, own = tempfile.gettempdir(), f"{ROOT}/crates/{PROGRAM}/out/{ROOMS}"
+    if os.stat(usual).st_dev == os.stat(ROOT).st_dev:
+        return usual
+    # (rt looks for no crates in an out/)
+    os.makedirs(own, exist_ok=True)
+    return own
+
+
+@contextlib.contextmanager
+def room():
+    """A temporary folder that is gone at the end, also where a signal ends this script."""
+    def end(number, _):
+        sys.exit(128 + number)
+
+    for it in STOPS:
+        signal.signal(it, end)
+    folder = tempfile.mkdtemp(prefix="cell-", dir=above_rooms())
+    try:
+        yield folder
+    finally:
+        for it in STOPS:
+            signal.signal(it, signal.SIG_IGN)
+        # what was killed a moment ago may still write
+        for _ in range(50):
+            shutil.rmtree(folder, ignore_errors=True)
+            if not os.path.exists(folder):
+                break
+            time.sleep(0.1)
+        if os.path.basename(os.path.dirname(folder)) == ROOMS:
+            with contextlib.suppress(OSError):
+                os.rmdir(os.path.dirname(folder))
+
+
+@contextlib.contextmanager
+def whole():
+    """Keeps signals waiting until what is done here is done."""
+    signal.pthread_sigmask(signal.SIG_BLOCK, STOPS)
+    try:
+        yield
+    finally:
+        signal.pthread_sigmask(signal.SIG_UNBLOCK, STOPS)
+
+
+class Running:
+    """Commands that run side by side, each in a session of its own, and of which none outlives this script."""
+
+    def __init__(self):
+        self.commands = {}
+
+    def start(self, key, words, folder, log):
+        """Starts a command in this folder. What it says goes into the log, and its temporary files beside that."""
+        scratch = f"{os.path.dirname(log)}/scratch"
+        os.makedirs(scratch, exist_ok=True)
+        with open(log, "wb") as to, whole():
+            # (a command begins with no signal held back)
+            how = {"preexec_fn": lambda: signal.pthread_sigmask(signal.SIG_UNBLOCK, STOPS), "start_new_session": True}
+            how |= {"cwd": folder, "stdin": subprocess.DEVNULL, "stdout": to, "stderr": to, "env": {**os.environ, "TMPDIR": scratch}}
+            self.commands[key] = subprocess.Popen(words, **how)
+
+    def ended(self, seconds):
+        """The statuses of the commands that have ended, by their keys; none where none has ended within so many seconds."""
+        until = time.monotonic() + seconds
+        while True:
+            found = {key: it.returncode for key, it in self.commands.items() if it.poll() is not None}
+            if found or time.monotonic() > until:
+                break
+            time.sleep(0.1)
+        for key in found:
+            del self.commands[key]
+        return found
+
+    def stop(self):
+        for it in self.commands.values():
+            with contextlib.suppress(ProcessLookupError):
+                os.killpg(it.pid, signal.SIGKILL)
+        for it in self.commands.values():
+            it.wait()
+
+
+def copy(source, to):
+    """Copies a file or a folder, by links to the files where that can be done, since nobody writes into them."""
+    def link(file, at):
+        try:
+            os.link(file, at)
+        except OSError:
+            shutil.copy2(file, at)
+
+    if os.path.isdir(source):
+        shutil.copytree(source, to, copy_function=link)
+    elif os.path.isfile(source):
+        link(source, to)
+
+
+def copy_crate(source, to):
+    """Copies what a check of the crate reads."""
+    os.makedirs(to)
+    for it in os.listdir(source):
+        if it not in BESIDE:
+            copy(f"{source}/{it}", f"{to}/{it}")
+
+
+def copy_library(source, to):
+    """Copies a crate and what the crates above it read of its check."""
+    copy_crate(source, to)
+    copy(f"{source}/out/rlib", f"{to}/out/rlib")
+
+
+@contextlib.contextmanager
+def alone(folder, waits=True):
+    """Keeps rt out of a crate's folder, as rt itself does. Where rt is in there, waits for it or raises BlockingIOError."""
+    held = os.open(folder, os.O_RDONLY)
+    try:
+        fcntl.flock(held, fcntl.LOCK_EX | (0 if waits else fcntl.LOCK_NB))
+        yield
+    finally:
+        os.close(held)
+
+
+class Place:
+    """A crate with those below it, in a folder of its own, so that rt, which locks all of them, can work at two crates at once.
+    What rt keeps of the crate from run to run moves there and back; its library or program comes back once that is proved."""
+
+    def __init__(self, root, crates, name, folder):
+        self.root, self.folder, self.libraries, self.name = root, folder, below(crates, name), name
+        self.home, self.crate, self.entered = f"{root}/crates/{name}", f"{folder}/crates/{name}", False
+        self.held = contextlib.ExitStack()
+
+    def enter(self):
+        """Answers whether it could: not where rt is at work in one of the crates."""
+        with contextlib.ExitStack() as while_copied:
+            try:
+                self.held.enter_context(alone(self.home, False))
+                for it in self.libraries:
+                    while_copied.enter_context(alone(f"{self.root}/crates/{it}", False))
+            except BlockingIOError:
+                self.held.close()
+                return False
+            os.makedirs(f"{self.folder}/crates")
+            with open(f"{self.folder}/crates.txt", "w", encoding="utf-8") as to, open(f"{self.root}/crates.txt", encoding="utf-8") as lines:
+                wanted = {self.name, *self.libraries}
+                to.writelines(it for it in lines if {*it.partition(":")[0].split()[:1]} & wanted)
+            copy(f"{self.root}/HANDLES", f"{self.folder}/HANDLES")
+            for it in self.libraries:
+                copy_library(f"{self.root}/crates/{it}", f"{self.folder}/crates/{it}")
+            copy_crate(self.home, self.crate)
+        for folder in (self.home, self.crate):
+            os.makedirs(f"{folder}/out", exist_ok=True)
+        for it in {*os.listdir(f"{self.home}/out")} - {KEPT, ROOMS}:
+            # (rt writes a program's files again in place)
+            how = copy if os.path.isdir(f"{self.home}/out/{it}") else shutil.copy2
+            how(f"{self.home}/out/{it}", f"{self.crate}/out/{it}")
+        with whole():
+            self.entered = True
+            self.move(KEPT, self.home, self.crate)
+        return True
+
+    def leave(self, proved=False):
+        with whole():
+            if self.entered:
+                for it in os.listdir(f"{self.crate}/out") if proved else [KEPT]:
+                    self.move(it, self.crate, self.home)
+                self.entered = False
+        self.held.close()
+
+    @staticmethod
+    def move(name, source, to):
+        if os.path.exists(f"{source}/out/{name}"):
+            shutil.rmtree(f"{to}/out/{name}", ignore_errors=True)
+            shutil.move(f"{source}/out/{name}", f"{to}/out/{name}")
+
+
+def prove(root, names, folder, limit=None, tell=lambda number, of, name: None, words_of=lambda name: (["rt", "lib"], [])):
+    """Proves these crates and all below them, and answers None, or the crate that failed and the file of what rt said of it.
+    Where cores and memory allow, or at most by the limit, crates are worked at side by side. What is proved already costs a second."""
+    crates, order = listed(root), []
+    for name in names:
+        order += [it for it in [*below(crates, name), name] if it not in order]
+    above = {it: sum(it in below(crates, other) for other in order) for it in order}
+    left, done, waits = sorted(order, key=lambda it: -above[it]), set(), False
+    places, begun, running = {}, {}, Running()
+    with contextlib.ExitStack() as ends:
+        ends.callback(lambda: [it.leave() for it in places.values()])
+        ends.callback(running.stop)
+        while left or places:
+            free = max((limit or at_once()) - len(places), 0 if places else 1)
+            starting = [it for it in left if done >= {*crates[it]}][:free]
+            side_by_side = len(places) + len(starting)
+            for name in starting:
+                places[name] = Place(root, crates, name, f"{folder}/{name}")
+                if not places[name].enter():
+                    del places[name]
+                    if not waits:
+                        print(f"{PROGRAM}: waiting for another rt, which is at work in {name} or in a crate below it", file=sys.stderr, flush=True)
+                    waits = True
+                    continue
+                left.remove(name)
+                # a crate that runs alone gets the jobs that rt chooses
+                jobs = ["--jobs", str(max(1, processors() // side_by_side))] if side_by_side > 1 else []
+                words, behind = words_of(name)
+                running.start(name, [*words, *jobs, *behind], places[name].crate, f"{folder}/{name}/log")
+                begun[name] = len(order) - len(left), time.monotonic()
+            for name, status in running.ended(1).items():
+                places.pop(name).leave(status == 0)
+                begun.pop(name, None)
+                if status:
+                    return name, f"{folder}/{name}/log"
+                shutil.rmtree(f"{folder}/{name}")
+                done.add(name)
+            for name in [it for it, (_, since) in begun.items() if time.monotonic() - since > 2]:
+                tell(begun.pop(name)[0], len(order), name)
+    return None
