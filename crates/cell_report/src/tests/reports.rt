@@ -2,10 +2,10 @@
 
 use super::doubles::FailingWriter;
 use crate::audit_faults::AuditFault;
-use crate::output::WriteFault;
 use crate::report::write_report;
 use cell_plant::{Counts, RunRecord, Status};
 use cell_rules::{State, apply};
+use cell_text::WriteFault;
 use cell_types::{Answer, Call, Entry, Journals, Machine, Pose, Refusal, Zone};
 use std::alloc::Global;
 use std::process::Abort;

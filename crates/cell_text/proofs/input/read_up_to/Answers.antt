@@ -1,8 +1,8 @@
 use Rattle.std.proofs.Common.{List, ℕ, ◌≡◌, ◌≤◌, ◌++◌, length, take, arith, length-append, min, ◌-◌, ◌∙◌, ap, drop}
 use Rattle.std.proofs.lemmas.List.{length-take, take-append-le}
 use Rattle.std.proofs.KnownBytes.{Consumes-kept, Consumes-trans}
-use Rattle.cell_report.proofs.input.read_up_to.Goals as goal
-use Rattle.cell_report.proofs.input.read_up_to.Goals.{in-Ok+in_ok-extend_from_slice-in-Ok, in-Err+else-ne}
+use Rattle.cell_text.proofs.input.read_up_to.Goals as goal
+use Rattle.cell_text.proofs.input.read_up_to.Goals.{in-Ok+in_ok-extend_from_slice-in-Ok, in-Err+else-ne}
 
 -- one part more within the limit
 within : (bytes block buf : List ℕ) (count room free most : ℕ) → length buf ≡ length (take room block) → count ≤ length buf → room ≡ min 8192 free → free ≡ most - length bytes → length bytes ≤ most → length (bytes ++ take count buf) ≤ most

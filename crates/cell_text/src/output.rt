@@ -1,8 +1,8 @@
 //! Writes a text, and says how much of it was written.
 
 ghost use Rattle.std.specs.Prelude.{◌≡◌, OnOk, OnErr};
-ghost use Rattle.std.specs.Io.KnownBytes.{Appends};
-ghost use Rattle.cell_report.specs.Faults.{WroteFront};
+ghost use Rattle.std.specs.Io.KnownBytes.{Appends, Keeps};
+ghost use Rattle.cell_text.specs.Output.{WroteFront};
 
 use std::io::{ErrorKind, Write};
 
@@ -13,7 +13,8 @@ pub enum WriteFault {
     Write,
 }
 
-/// Writes the whole text. With an `Err` a front of it was written.
+/// Writes the whole text and flushes the writer. With an `Err` a front of the text was written. An
+/// interrupted write or flush is made again.
 pub fn write_text<W: Write>(writer: &mut W, text: &[u8]) -> Result<(), WriteFault>
     ensures ok { OnOk result (Appends (W.contents writer.old) (W.contents writer.new) text.now) }
     ensures err { OnErr result (WroteFront (W.contents writer.old) (W.contents writer.new) text.now) }
@@ -21,10 +22,7 @@ pub fn write_text<W: Write>(writer: &mut W, text: &[u8]) -> Result<(), WriteFaul
     let mut rest = text;
     'parts: for _ in 0..u64::MAX {
         if rest.is_empty() {
-            return match writer.flush() {
-                Ok(()) => Ok(()),
-                Err(_) => Err(WriteFault::Write),
-            };
+            return flush(writer);
         }
         let count = match writer.write(rest) {
             Ok(0) => return Err(WriteFault::Write),
@@ -37,6 +35,23 @@ pub fn write_text<W: Write>(writer: &mut W, text: &[u8]) -> Result<(), WriteFaul
             }
         };
         rest = &rest[count..];
+    }
+    Err(WriteFault::Write)
+}
+
+/// Flushes a writer.
+fn flush<W: Write>(writer: &mut W) -> Result<(), WriteFault>
+    ensures { Keeps (W.contents writer.old) (W.contents writer.new) }
+{
+    'tries: for _ in 0..u64::MAX {
+        match writer.flush() {
+            Ok(()) => return Ok(()),
+            Err(error) => {
+                if error.kind() != ErrorKind::Interrupted {
+                    return Err(WriteFault::Write);
+                }
+            }
+        }
     }
     Err(WriteFault::Write)
 }

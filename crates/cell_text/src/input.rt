@@ -1,8 +1,8 @@
 //! Reads at most so many bytes.
 
 ghost use Rattle.std.specs.Prelude.{◌≡◌, take, IfOk, IfSome};
-ghost use Rattle.cell_report.specs.Input.{TakesAtMost};
-ghost use Rattle.cell_report.specs.declared.input.InputFault.TheVariants.{Memory};
+ghost use Rattle.cell_text.specs.Input.{TakesAtMost};
+ghost use Rattle.cell_text.specs.declared.input.InputFault.TheVariants.{Memory};
 
 use std::alloc::{AllocError, Global};
 use std::io::{ErrorKind, Read};
