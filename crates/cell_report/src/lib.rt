@@ -23,6 +23,3 @@ pub use cell_text::{Page, WriteFault, input, write_text};
 pub use replays::replay;
 pub use report::write_report;
 pub use script::{Outcome, ReplayFault, ScriptFault};
-
-#[cfg(test)]
-mod tests;
