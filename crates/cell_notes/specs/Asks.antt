@@ -1,0 +1,65 @@
+-- What was asked in a turn, and what came of it.
+use Rattle.std.specs.Prelude.{Bool, true, false, List, [], ◌∷◌, Option, Some, None, Result, Ok, Err}
+use Rattle.cell_types.specs.declared.call.Call.{Call}
+use Rattle.cell_types.specs.declared.machine.Machine.{Machine}
+use Rattle.cell_types.specs.declared.answer.Answer.TheVariants.{Done, Shown, Refused}
+use Rattle.cell_types.specs.declared.answer.Event.{Event}
+use Rattle.cell_types.specs.declared.journal.Entry.{Entry}
+use Rattle.cell_types.specs.declared.reply.Reply.{Reply}
+use Rattle.cell_types.specs.declared.reply.Reply.TheVariants.{Settled, Busy}
+use Rattle.cell_rules.specs.declared.heard.LineFault.{LineFault}
+use Rattle.cell_rules.specs.Seen.{event}
+
+-- what was asked in a turn, and what came back
+abbrev pub Asked : Type 0
+Asked = Option (Call × Result Reply LineFault)
+
+-- the event of what a machine asked, if that was done: its part notes it
+abbrev pub done_by : Machine → Call → Result Reply LineFault → Option Event
+done_by m c (Ok (Settled Done stamp)) = Some (event m c Done)
+done_by m c _ = None
+
+abbrev pub done_in : Machine → Asked → Option Event
+done_in m None = None
+done_in m (Some call) = done_by m call.0 call.1
+
+-- what came back, by kind
+abbrev pub is_done_reply : Result Reply LineFault → Bool
+is_done_reply (Ok (Settled Done stamp)) = true
+is_done_reply _ = false
+
+abbrev pub is_read_reply : Result Reply LineFault → Bool
+is_read_reply (Ok (Settled (Shown owner flag posture) stamp)) = true
+is_read_reply _ = false
+
+abbrev pub is_refused_reply : Result Reply LineFault → Bool
+is_refused_reply (Ok (Settled (Refused refusal) stamp)) = true
+is_refused_reply _ = false
+
+abbrev pub is_busy_reply : Result Reply LineFault → Bool
+is_busy_reply (Ok (Busy lost stamp)) = true
+is_busy_reply _ = false
+
+abbrev pub came_back : (Result Reply LineFault → Bool) → Asked → Bool
+came_back test None = false
+came_back test (Some call) = test call.1
+
+-- the events of a run: its calls that were settled
+abbrev pub settled_by : Machine → Call → Result Reply LineFault → List Event
+settled_by m c (Ok (Settled a stamp)) = event m c a ∷ []
+settled_by m c (Ok (Busy lost stamp)) = []
+settled_by m c (Err fault) = []
+
+abbrev pub settled_in : Machine → Asked → List Event
+settled_in m None = []
+settled_in m (Some call) = settled_by m call.0 call.1
+
+-- the entries of a call: one where it was settled
+abbrev pub entries_by : Call → Result Reply LineFault → List Entry
+entries_by c (Ok (Settled a stamp)) = record { call = c; answer = a; stamp = stamp } ∷ []
+entries_by c (Ok (Busy lost stamp)) = []
+entries_by c (Err fault) = []
+
+abbrev pub entries_in : Asked → List Entry
+entries_in None = []
+entries_in (Some call) = entries_by call.0 call.1

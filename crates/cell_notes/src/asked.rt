@@ -1,0 +1,81 @@
+//! What a machine asked in a turn.
+ghost use Rattle.std.specs.Prelude.{◌≡◌, None, Some, Result};
+ghost use Rattle.cell_types.specs.declared.call.Call.{Call};
+ghost use Rattle.cell_types.specs.declared.reply.Reply.{Reply};
+ghost use Rattle.cell_rules.specs.declared.heard.LineFault.{LineFault};
+ghost use Rattle.cell_rules.specs.Seen.{heard_after};
+ghost use Rattle.std.specs.Option.{option_to_list};
+ghost use Rattle.cell_notes.specs.Asks.{done_in, entries_in, came_back, is_done_reply, is_read_reply, is_refused_reply, is_busy_reply};
+
+use cell_rules::{Answered, Heard};
+use cell_types::{Answer, Call, Entry, Event, Machine, Reply};
+
+/// What a machine asked in a turn, and what came back; `None` where it asked nothing.
+pub type Asked = Option<(Call, Answered)>;
+
+/// What was asked between these two times, where that was nothing or one call.
+pub fn asked_between(before: Heard, now: Heard) -> Asked
+    ensures nothing { now ≡ before → result ≡ None }
+    ensures once { (c : Call) (r : Result Reply LineFault) → now ≡ heard_after before c r → result ≡ Some (c, r) }
+{
+    if now.asks == before.asks {
+        None
+    } else {
+        now.last
+    }
+}
+
+/// The event of what a machine asked, if that was done.
+pub fn done_event(machine: Machine, asked: Asked) -> Option<Event>
+    ensures { result ≡ done_in machine asked }
+{
+    match asked {
+        Some((call, Ok(Reply::Settled(Answer::Done, _)))) => Some(Event {
+            machine,
+            call,
+            answer: Answer::Done,
+        }),
+        _ => None,
+    }
+}
+
+// The entry of a call that was settled.
+pub(crate) fn entry_of(asked: Asked) -> Option<Entry>
+    ensures { option_to_list result ≡ entries_in asked }
+{
+    match asked {
+        Some((call, Ok(Reply::Settled(answer, stamp)))) => Some(Entry {
+            call,
+            answer,
+            stamp,
+        }),
+        Some((_, Ok(Reply::Busy { .. }))) | Some((_, Err(_))) | None => None,
+    }
+}
+
+pub(crate) fn is_done(asked: Asked) -> bool
+    ensures { result ≡ came_back is_done_reply asked }
+{
+    matches!(asked, Some((_, Ok(Reply::Settled(Answer::Done, _)))))
+}
+
+pub(crate) fn is_read(asked: Asked) -> bool
+    ensures { result ≡ came_back is_read_reply asked }
+{
+    matches!(
+        asked,
+        Some((_, Ok(Reply::Settled(Answer::Shown { .. }, _))))
+    )
+}
+
+pub(crate) fn is_refused(asked: Asked) -> bool
+    ensures { result ≡ came_back is_refused_reply asked }
+{
+    matches!(asked, Some((_, Ok(Reply::Settled(Answer::Refused(_), _)))))
+}
+
+pub(crate) fn is_busy(asked: Asked) -> bool
+    ensures { result ≡ came_back is_busy_reply asked }
+{
+    matches!(asked, Some((_, Ok(Reply::Busy { .. }))))
+}

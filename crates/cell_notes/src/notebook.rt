@@ -1,0 +1,51 @@
+ghost use Rattle.std.specs.Prelude.{◌≡◌, IsOk, OnOk, OnErr};
+ghost use Rattle.cell_notes.specs.Notes.{HasRoom, HasSpare, no_notes, notes_of, notes_with};
+
+use crate::asked::{Asked, entry_of};
+use crate::counts::Counts;
+use cell_types::Entry;
+use std::alloc::{AllocError, Global};
+
+/// What a machine keeps of its turns: how often it did what, and its calls that were settled.
+#[derive(Debug, Drop)]
+pub struct Notebook {
+    pub counts: Counts,
+    /// The oldest entry stands first.
+    pub journal: Vec<Entry>,
+}
+
+impl Notebook {
+    /// The notebook before the first turn. It takes no memory.
+    pub fn new(alloc: Global) -> Notebook
+        ensures { notes_of result ≡ no_notes }
+    {
+        Notebook {
+            counts: Counts::none(),
+            journal: Vec::new(alloc),
+        }
+    }
+
+    /// Makes room for one entry, where there is none. What stands in the notebook stays.
+    pub fn make_room(&mut self) -> Result<(), AllocError>
+        ensures same { notes_of self.new ≡ notes_of self.old }
+        ensures room { OnOk result (HasSpare self.new) }
+        ensures succeeds { HasSpare self.old → IsOk result }
+    {
+        self.journal.reserve(1)
+    }
+
+    /// Notes a turn of its machine, in which this was asked. The turn is counted, and a call that was
+    /// settled ends the journal; where the room for its entry is refused, nothing is noted.
+    pub fn note(&mut self, asked: Asked) -> Result<(), AllocError>
+        requires { HasRoom self.old.counts }
+        ensures noted { OnOk result (notes_of self.new ≡ notes_with (notes_of self.old) asked) }
+        ensures failed { OnErr result (notes_of self.new ≡ notes_of self.old) }
+        ensures succeeds { HasSpare self.old → IsOk result }
+    {
+        if let Some(entry) = entry_of(asked) {
+            self.journal.push(entry)?;
+        }
+        self.counts = self.counts.with(asked);
+        Ok(())
+    }
+}
