@@ -1,7 +1,7 @@
 //! Reports of runs, each with the record of the run made by hand.
 
 use crate::doubles::{Failure, InterruptedWriter};
-use cell_plant::{Counts, RunRecord, Status};
+use cell_notes::{Counts, RunRecord, Status};
 use cell_report::{AuditFault, WriteFault, write_report};
 use cell_rules::{State, apply};
 use cell_types::{Call, Journals, Machine, Pose, Zone};
