@@ -6,6 +6,7 @@ use cell_report::{AuditFault, audit};
 use cell_rules::{State, apply};
 use cell_types::{Answer, Call, Entry, Event, Journals, Machine, Pose, Refusal, Zone};
 use std::alloc::{AllocError, Global};
+use std::process::Abort;
 use std::test::Fail;
 
 /// Numbers that look random, from a seed.
@@ -150,7 +151,7 @@ fn audited_changed(
     end: &State,
 ) -> Verdict {
     let machine = numbers.machine();
-    let place = numbers.below(3_000);
+    let place = numbers.below(1_000);
     let Some(entry) = journal_mut(journals, machine).get(place).copied() else {
         return Verdict::Explained;
     };
@@ -170,18 +171,28 @@ const PLACES: [bool; 10] = [
     true, true, false, true, false, false, true, true, true, false,
 ];
 
+fn start(rt: &impl Abort) -> State {
+    State::start(PLACES, 100).expect(rt, "a start")
+}
+
 #[test]
 fn audits_twenty_thousand_entries(rt: HostRuntime) -> Result<(), Fail> {
-    let alloc = rt.alloc();
-    let mut numbers = Numbers(1995);
-    let start = State::start(PLACES, 100).expect(&rt, "a start");
-    let (mut journals, end) = run(alloc, &mut numbers, &start, 20_000)?;
-    let events = audit(alloc, &journals, &start, Some(&end)).expect(&rt, "a history");
+    let start = start(&rt);
+    let (mut journals, end) = run(rt.alloc(), &mut Numbers(1995), &start, 20_000)?;
+    let events = audit(rt.alloc(), &journals, &start, Some(&end)).expect(&rt, "a history");
     assert!(rt; events.len() == 20_000);
     assert!(rt; is_explained(&mut journals, &start, &events));
+    Ok(())
+}
+
+#[test]
+fn audits_changed_entries(rt: HostRuntime) -> Result<(), Fail> {
+    let mut numbers = Numbers(1995);
+    let start = start(&rt);
+    let (mut journals, end) = run(rt.alloc(), &mut numbers, &start, 10_000)?;
     let mut refusals = 0u32;
     for _ in 0..200 {
-        let got = audited_changed(alloc, &mut numbers, &mut journals, &start, &end);
+        let got = audited_changed(rt.alloc(), &mut numbers, &mut journals, &start, &end);
         assert!(rt; got != Verdict::Wrong);
         if got == Verdict::Refused {
             refusals = refusals.saturating_add(1);
