@@ -22,4 +22,3 @@ pub mod Reports
 pub mod Requests
 pub mod Starts
 pub mod Scripts
-pub mod Written

@@ -8,8 +8,8 @@ use Rattle.std.specs.List.{flat_map, zip}
 use Rattle.std.specs.Fmt.{signed_decimal}
 use Rattle.cell_types.specs.declared.machine.Machine.{Machine}
 use Rattle.cell_types.specs.declared.machine.Machine.TheVariants.{Feed, Table, Robot, Press, Deposit, Crane}
-use Rattle.cell_plant.specs.declared.record.Counts.{Counts}
-use Rattle.cell_plant.specs.declared.record.Status.{Status}
+use Rattle.cell_notes.specs.declared.counts.Counts.{Counts}
+use Rattle.cell_notes.specs.declared.status.Status.{Status}
 use Rattle.cell_report.specs.Report.{axes_line, axis_names, axis_words, end_lines, machine_line, places_line, places_word, spaced, text_of_lines, zone_line}
 
 pub text_of_lines-append : (a b : List (List ℕ)) → text_of_lines (a ++ b) ≡ text_of_lines a ++ text_of_lines b

@@ -1,5 +1,6 @@
 -- What is so of every script.
-use Rattle.std.proofs.Common.{append_assoc, ◌++◌, ℕ, zero, suc, ◌≡◌, ◌<◌, ◌≤◌, ◌+◌, ◌-◌, Bool, true, false, cond, List, [], ◌∷◌, Result, Ok, Err, IfOk, length, map, take, drop, min, nat_lt, nat_le, refl, sym, ◌∙◌, ap, ap₂, arith, Option, Some, None, ◌==◌, ◌&&◌, not, codes, MatchResult}
+use Rattle.std.proofs.Common.{append_assoc, ◌++◌, ℕ, zero, suc, ◌≡◌, ◌<◌, ◌≤◌, ◌+◌, ◌-◌, Bool, true, false, cond, List, [], ◌∷◌, Result, Ok, Err, IfOk, length, map, take, drop, min, nat_lt, nat_le, refl, sym, ◌∙◌, ap, ap₂, arith, Option, Some, None, ◌==◌, ◌&&◌, not, codes, MatchResult, ◌⊎◌, inl, inr}
+use Rattle.std.specs.Prelude.{⊤}
 use Rattle.std.specs.List.{concat, enumerate_from}
 use Rattle.std.specs.Str.{bytes_eq}
 use Rattle.std.proofs.lemmas.Bool.Decides.{nat_tests}
@@ -53,61 +54,55 @@ start_tested full stamp e =
       stamp_in_range = le_true stamp last_stamp all.1;
     }
 
--- a start that was tested is one, and a fault of record 0 names no later record
-abbrev pub IsEarly : ScriptFault → Type 0
-IsEarly fault = (number : ℕ) → fault ≡ BadRow number → ⊥
+-- a start that was tested is one, and a fault of record 0 names no later record; that there are too many bytes is one where no record is left
+abbrev pub IsEarly : Bool → ScriptFault → Type 0
+IsEarly is_cut NoStart = ⊤
+IsEarly is_cut BadStart = ⊤
+IsEarly is_cut (BadRow number) = ⊥
+IsEarly is_cut Long = is_cut ≡ true
 
-abbrev pub IsRecord0 : Result ModelState ScriptFault → Type 0
-IsRecord0 start = MatchResult start IsStartState IsEarly
+abbrev pub IsRecord0 : Bool → Result ModelState ScriptFault → Type 0
+IsRecord0 is_cut start = MatchResult start IsStartState (IsEarly is_cut)
 
-bad_start : IsEarly BadStart
-bad_start number e = absurd (cc)
+start_tested_at : (is_cut : Bool) (full : PlaceSet) (stamp : ℕ) (b : Bool) → is_start full stamp ≡ b → IsRecord0 is_cut (cond b (Ok (start_state full stamp)) (Err BadStart))
+start_tested_at is_cut full stamp true e = record { start = start_tested full stamp e; same = refl }
+start_tested_at is_cut full stamp false e = tt
 
-no_start : IsEarly NoStart
-no_start number e = absurd (cc)
+start_of-record0 : (is_cut : Bool) (flags : Option (List Bool)) (stamp : Option ℕ) → IsRecord0 is_cut (start_of flags stamp)
+start_of-record0 is_cut (Some flags) (Some stamp) = start_tested_at is_cut (places_of flags) stamp (is_start (places_of flags) stamp) refl
+start_of-record0 is_cut (Some flags) None = tt
+start_of-record0 is_cut None stamp = tt
 
-too_long : IsEarly Long
-too_long number e = absurd (cc)
+start_fields-record0 : (is_cut : Bool) (fields : Row) → IsRecord0 is_cut (start_fields fields)
+start_fields-record0 is_cut [] = tt
+start_fields-record0 is_cut (places ∷ []) = start_of-record0 is_cut (places_in places) (Some 0)
+start_fields-record0 is_cut (places ∷ stamp ∷ []) = start_of-record0 is_cut (places_in places) (number_in stamp)
+start_fields-record0 is_cut (places ∷ stamp ∷ more ∷ rest) = tt
 
-start_tested_at : (full : PlaceSet) (stamp : ℕ) (b : Bool) → is_start full stamp ≡ b → IsRecord0 (cond b (Ok (start_state full stamp)) (Err BadStart))
-start_tested_at full stamp true e = record { start = start_tested full stamp e; same = refl }
-start_tested_at full stamp false e = bad_start
+by_word : (is_cut b : Bool) (start : Result ModelState ScriptFault) → IsRecord0 is_cut start → IsRecord0 is_cut (cond b start (Err NoStart))
+by_word is_cut true start h = h
+by_word is_cut false start h = tt
 
-start_of-record0 : (flags : Option (List Bool)) (stamp : Option ℕ) → IsRecord0 (start_of flags stamp)
-start_of-record0 (Some flags) (Some stamp) = start_tested_at (places_of flags) stamp (is_start (places_of flags) stamp) refl
-start_of-record0 (Some flags) None = bad_start
-start_of-record0 None stamp = bad_start
-
-start_fields-record0 : (fields : Row) → IsRecord0 (start_fields fields)
-start_fields-record0 [] = bad_start
-start_fields-record0 (places ∷ []) = start_of-record0 (places_in places) (Some 0)
-start_fields-record0 (places ∷ stamp ∷ []) = start_of-record0 (places_in places) (number_in stamp)
-start_fields-record0 (places ∷ stamp ∷ more ∷ rest) = bad_start
-
-by_word : (b : Bool) (start : Result ModelState ScriptFault) → IsRecord0 start → IsRecord0 (cond b start (Err NoStart))
-by_word true start h = h
-by_word false start h = no_start
-
-start_in-record0 : (row : Row) → IsRecord0 (start_in row)
+start_in-record0 : (is_cut : Bool) (row : Row) → IsRecord0 is_cut (start_in row)
 unfolding start_in
-start_in-record0 [] = no_start
-start_in-record0 (word ∷ fields) = by_word (bytes_eq word (codes "start")) (start_fields fields) (start_fields-record0 fields)
+start_in-record0 is_cut [] = tt
+start_in-record0 is_cut (word ∷ fields) = by_word is_cut (bytes_eq word (codes "start")) (start_fields fields) (start_fields-record0 is_cut fields)
 
-no_records : (is_cut : Bool) → IsEarly (cond is_cut Long NoStart)
-no_records true = too_long
-no_records false = no_start
+no_records : (is_cut : Bool) → IsEarly is_cut (cond is_cut Long NoStart)
+no_records true = refl
+no_records false = tt
 
-rows_start-record0 : (is_cut : Bool) (rows : List Row) → IsRecord0 (rows_start is_cut rows)
+rows_start-record0 : (is_cut : Bool) (rows : List Row) → IsRecord0 is_cut (rows_start is_cut rows)
 rows_start-record0 is_cut [] = no_records is_cut
-rows_start-record0 is_cut (row ∷ rows) = start_in-record0 row
+rows_start-record0 is_cut (row ∷ rows) = start_in-record0 is_cut row
 
-given : (start : Result ModelState ScriptFault) → IsRecord0 start → IfOk start IsStartState
-given (Ok s) h = h
-given (Err fault) h = tt
+given : (is_cut : Bool) (start : Result ModelState ScriptFault) → IsRecord0 is_cut start → IfOk start IsStartState
+given is_cut (Ok s) h = h
+given is_cut (Err fault) h = tt
 
 pub given-script_start : (bytes : List ℕ) → IfOk (script_start bytes) IsStartState
 unfolding script_start
-given-script_start bytes = given _ (rows_start-record0 (is_cut_of bytes) (script_rows bytes))
+given-script_start bytes = given _ _ (rows_start-record0 (is_cut_of bytes) (script_rows bytes))
 
 -- The lines.
 
@@ -138,13 +133,16 @@ bad_end is_cut true false answered number e = cc
 bad_end true false full answered number e = absurd (cc)
 bad_end false false full answered number e = absurd (cc)
 
-lines_at_bad_row : (is_cut : Bool) (start : Result ModelState ScriptFault) (rows : List Row) (number : ℕ) → IsRecord0 start
+lines_at_bad_row : (is_cut : Bool) (start : Result ModelState ScriptFault) (rows : List Row) (number : ℕ) → IsRecord0 is_cut start
     → outcome_from is_cut start (length (events_from start rows)) (length rows) ≡ Refused (BadRow number) → length (lines_from start (events_from start rows)) ≡ number
 lines_at_bad_row is_cut (Ok s) rows number h e =
     let answered = length (events_from (Ok s) rows) in
     let is : number ≡ answered + 1 = bad_end is_cut (nat_lt answered (length rows)) (answered == most_records) answered number e in
     omega (arith, is, length-event_lines s (events_from (Ok s) rows))
-lines_at_bad_row is_cut (Err fault) rows number h e = let same : fault ≡ BadRow number = cc in absurd (h number same)
+lines_at_bad_row is_cut (Err NoStart) rows number h e = absurd (cc)
+lines_at_bad_row is_cut (Err BadStart) rows number h e = absurd (cc)
+lines_at_bad_row is_cut (Err (BadRow other)) rows number h e = absurd h
+lines_at_bad_row is_cut (Err Long) rows number h e = absurd (cc)
 
 pub lines-bad_row : (bytes : List ℕ) (number : ℕ) → script_outcome bytes ≡ Refused (BadRow number) → length (script_lines bytes) ≡ number
 unfolding script_outcome script_lines
@@ -175,6 +173,64 @@ rows_of_clean is_cut (row ∷ rows) e = (let lines : length (rows_lines is_cut (
 pub lines-clean : (bytes : List ℕ) → script_outcome bytes ≡ Clean → length (script_lines bytes) ≡ length (script_rows bytes)
 unfolding script_outcome script_lines
 lines-clean bytes e = rows_of_clean (is_cut_of bytes) (script_rows bytes) e
+
+-- a long script has a line for each record that is used, as far as records are answered
+long_end : (is_cut few full : Bool) (answered : ℕ) → cond few (Refused (cond full Long (BadRow (answered + 1)))) (cond is_cut (Refused Long) Clean) ≡ Refused Long
+    → ((few ≡ true) × (full ≡ true)) ⊎ ((few ≡ false) × (is_cut ≡ true))
+long_end is_cut true true answered e = inl (refl, refl)
+long_end is_cut true false answered e = absurd (cc)
+long_end true false full answered e = inr (refl, refl)
+long_end false false full answered e = absurd (cc)
+
+fewer : (a b : ℕ) → nat_lt a b ≡ true → a < b
+fewer a b e = grind (arith, nat_tests)
+
+same_number : (a b : ℕ) → (a == b) ≡ true → a ≡ b
+same_number a b e = grind (arith, nat_tests)
+
+lines_of_long : (is_cut : Bool) (start : Result ModelState ScriptFault) (rows : List Row) → IsRecord0 false start
+    → outcome_from is_cut start (length (events_from start rows)) (length rows) ≡ Refused Long
+    → (length (lines_from start (events_from start rows)) ≡ min 65537 (length rows + 1)) × ((is_cut ≡ true) ⊎ (65537 ≤ length rows))
+lines_of_long is_cut (Ok s) rows h e =
+    let answered = length (events_from (Ok s) rows) in
+    let few = length-events_from (Ok s) rows in
+    let lines = length-event_lines s (events_from (Ok s) rows) in
+    elim (long_end is_cut (nat_lt answered (length rows)) (answered == most_records) answered e) [
+      | inl more ↦
+          let lt : answered < length rows = fewer answered (length rows) more.0 in
+          let all : answered ≡ most_records = same_number answered most_records more.1 in
+          (omega (arith, lt, all, lines), inr (omega (arith, lt, all)))
+      | inr cut ↦ let each : length rows ≤ answered = not_fewer answered (length rows) cut.0 in (omega (arith, each, few.0, few.1, lines), inl cut.1)
+    ]
+lines_of_long is_cut (Err NoStart) rows h e = absurd (cc)
+lines_of_long is_cut (Err BadStart) rows h e = absurd (cc)
+lines_of_long is_cut (Err (BadRow number)) rows h e = absurd h
+lines_of_long is_cut (Err Long) rows h e = absurd (cc)
+
+rows_of_long : (is_cut : Bool) (rows : List Row) → rows_outcome is_cut rows ≡ Refused Long → length (rows_lines is_cut rows) ≡ min 65537 (length rows)
+rows_of_long is_cut [] e = omega arith
+rows_of_long is_cut (row ∷ rows) e = (let lines = (lines_of_long is_cut (start_in row) rows (start_in-record0 false row) e).0 in omega (arith, lines))
+
+rows_of_long_whole : (is_cut : Bool) (rows : List Row) → is_cut ≡ false → rows_outcome is_cut rows ≡ Refused Long → length (rows_lines is_cut rows) ≡ 65537
+rows_of_long_whole true rows whole e = absurd (cc)
+rows_of_long_whole false [] whole e = absurd (cc)
+rows_of_long_whole false (row ∷ rows) whole e =
+    let lines = lines_of_long false (start_in row) rows (start_in-record0 false row) e in
+    elim lines.1 [
+      | inl cut ↦ absurd (cc)
+      | inr many ↦ omega (arith, lines.0, many)
+    ]
+
+pub lines-cut : (bytes : List ℕ) → script_outcome bytes ≡ Refused Long → length (script_lines bytes) ≡ min 65537 (length (script_rows bytes))
+unfolding script_outcome script_lines
+lines-cut bytes e = rows_of_long (is_cut_of bytes) (script_rows bytes) e
+
+not_cut : (bytes : List ℕ) → length bytes ≤ 4194304 → is_cut_of bytes ≡ false
+not_cut bytes few = grind (arith, nat_tests)
+
+pub lines-long : (bytes : List ℕ) → script_outcome bytes ≡ Refused Long → length bytes ≤ 4194304 → length (script_lines bytes) ≡ 65537
+unfolding script_outcome script_lines
+lines-long bytes e few = rows_of_long_whole (is_cut_of bytes) (script_rows bytes) (not_cut bytes few) e
 
 -- Records that are too many change nothing.
 

@@ -2,15 +2,12 @@
 use Rattle.std.specs.Prelude.{ℕ, List, take, Option}
 use Rattle.std.specs.List.{concat}
 use Rattle.std.specs.Io.KnownBytes.{Appends}
+pub use Rattle.cell_text.specs.Output.{WroteFront}
 use Rattle.cell_report.specs.Script.{script_lines, script_text}
-use Rattle.cell_report.specs.declared.input.InputFault.{InputFault}
-use Rattle.cell_report.specs.declared.input.InputFault.TheVariants as input
+use Rattle.cell_text.specs.declared.input.InputFault.{InputFault}
+use Rattle.cell_text.specs.declared.input.InputFault.TheVariants as input
 use Rattle.cell_report.specs.declared.script.ReplayFault.{ReplayFault}
 use Rattle.cell_report.specs.declared.script.ReplayFault.TheVariants.{Read, Write, Memory}
-
--- a front of these bytes was written
-abbrev pub WroteFront : Option (List ℕ) → Option (List ℕ) → List ℕ → Type 0
-WroteFront old new text = (n : ℕ) × Appends old new (take n text)
 
 -- whole lines were written, those of the first records
 abbrev pub WroteLines : Option (List ℕ) → Option (List ℕ) → List (List ℕ) → Type 0

@@ -8,10 +8,10 @@ use Rattle.cell_types.specs.Words.{machine_word, zone_word, posture_word}
 use Rattle.cell_types.specs.Answers.{owner_word, flag_word}
 use Rattle.cell_types.specs.Everything.{all_machines, all_zones, all_places}
 use Rattle.cell_rules.specs.ModelState.{ModelState, zone_at, is_full, plates_of}
-use Rattle.cell_plant.specs.declared.record.Counts.{Counts}
-use Rattle.cell_plant.specs.declared.record.Status.{Status}
-use Rattle.cell_plant.specs.declared.record.RunRecord.{RunRecord}
-use Rattle.cell_plant.specs.Statuses.{status_word}
+use Rattle.cell_notes.specs.declared.counts.Counts.{Counts}
+use Rattle.cell_notes.specs.declared.status.Status.{Status}
+use Rattle.cell_notes.specs.declared.run_record.RunRecord.{RunRecord}
+use Rattle.cell_notes.specs.Statuses.{status_word}
 use Rattle.cell_report.specs.declared.audit_faults.AuditFault.{AuditFault}
 use Rattle.cell_report.specs.declared.audit_faults.AuditFault.TheVariants.{Twice, Gap, Differs, End, Memory}
 

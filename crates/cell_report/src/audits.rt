@@ -18,9 +18,6 @@ use cell_rules::laws::lawful_throughout;
 use cell_types::{Event, Journals};
 use std::alloc::Global;
 
-#[cfg(test)]
-mod tests;
-
 fn stamp_of_end(end: Option<&State>) -> u32
     ensures { result ≡ end_stamp (option_copied end.entry) }
 {

@@ -4,11 +4,8 @@
 
 pub mod audit_faults;
 pub mod audits;
-pub mod input;
 pub mod laws;
 mod ordered;
-pub mod output;
-pub mod page;
 mod records;
 pub mod replays;
 pub mod report;
@@ -22,11 +19,7 @@ mod tell;
 
 pub use audit_faults::AuditFault;
 pub use audits::audit;
-pub use output::{WriteFault, write_text};
-pub use page::Page;
+pub use cell_text::{Page, WriteFault, input, write_text};
 pub use replays::replay;
 pub use report::write_report;
 pub use script::{Outcome, ReplayFault, ScriptFault};
-
-#[cfg(test)]
-mod tests;

@@ -5,14 +5,13 @@ ghost use Rattle.std.specs.Io.KnownBytes.{Appends};
 ghost use Rattle.csv.specs.Reading.{default_config, records, strip_bom};
 ghost use Rattle.csv.specs.Records.{fields_of};
 ghost use Rattle.cell_report.specs.Faults.{Leaves};
-ghost use Rattle.cell_report.specs.Input.{TakesAtMost};
+ghost use Rattle.cell_text.specs.Input.{TakesAtMost};
 ghost use Rattle.cell_report.specs.Script.{byte_limit, is_cut_of, most_bytes_read, most_rows, script_outcome, script_text, used};
 
-use crate::input::{InputFault, read_up_to};
-use crate::output::write_text;
 use crate::records::first_rows;
 use crate::script::{Outcome, ReplayFault};
 use crate::tell::tell;
+use cell_text::{InputFault, read_up_to, write_text};
 use csv::ByteRecord;
 use std::alloc::{AllocError, Global};
 use std::io::{Read, Write};

@@ -2,14 +2,13 @@
 ghost use Rattle.std.specs.Prelude.{◌≡◌, ◌∷◌, ◌++◌, [], codes, map, IfOk, OnOk, OnErr};
 ghost use Rattle.std.specs.Io.KnownBytes.{Appends};
 ghost use Rattle.cell_types.specs.Everything.{all_zones};
-ghost use Rattle.cell_report.specs.Faults.{WroteFront};
+ghost use Rattle.cell_text.specs.Output.{WroteFront};
 ghost use Rattle.cell_report.specs.Report.{audit_line, axes_line, axis_words, end_lines, machine_line, machine_lines, places_word, report_text, spaced, stamp_line, start_line, text_of_lines, where_known, zone_line};
 
 use crate::audit_faults::AuditFault;
-use crate::output::{WriteFault, write_text};
-use crate::page::Page;
-use cell_plant::{Counts, RunRecord, Status};
+use cell_notes::{Counts, RunRecord, Status};
 use cell_rules::State;
+use cell_text::{Page, WriteFault, write_text};
 use cell_types::{Machine, Place, Zone};
 use std::fmt;
 use std::io::Write;

@@ -4,7 +4,7 @@ ghost use Rattle.std.specs.Prelude.{◌≡◌, Some};
 ghost use Rattle.cell_report.specs.Script.{fault_text};
 ghost use Rattle.cell_report.specs.Faults.{replay_fault_of};
 
-use crate::input::InputFault;
+use cell_text::InputFault;
 use std::fmt;
 
 /// Why a script was refused.

@@ -1,4 +1,4 @@
-use Rattle.cell_report.proofs.Scripts.{length-script_lines, lines-bad_row, lines-clean}
+use Rattle.cell_report.proofs.Scripts.{length-script_lines, lines-bad_row, lines-clean, lines-cut, lines-long}
 use Rattle.cell_report.proofs.laws.lines_are_counted.Goals as goal
 
 pub returns-clause-most : goal.returns-clause-most
@@ -9,3 +9,9 @@ returns-clause-bad_row c = lines-bad_row c.args.script.now
 
 pub returns-clause-clean : goal.returns-clause-clean
 returns-clause-clean c = lines-clean c.args.script.now
+
+pub returns-clause-long : goal.returns-clause-long
+returns-clause-long c = lines-long c.args.script.now
+
+pub returns-clause-cut : goal.returns-clause-cut
+returns-clause-cut c = lines-cut c.args.script.now

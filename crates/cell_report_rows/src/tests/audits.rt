@@ -1,0 +1,296 @@
+//! Audits of a few entries, each journal made by hand.
+
+use cell_report::{AuditFault, audit};
+use cell_rules::{State, apply};
+use cell_types::{
+    Answer, Call, Entry, Event, Journals, Machine, Place, Pose, Posture, Refusal, Zone,
+};
+use std::alloc::{AllocError, Global};
+use std::process::Abort;
+use std::test::Fail;
+
+/// A machine's note of a call: the call, its answer and the stamp after it.
+type Note = (Machine, Call, Answer, u32);
+
+const DONE: Answer = Answer::Done;
+
+const PRESS_CLAIMS: Note = (Machine::Press, Call::Claim(Zone::Z3), DONE, 1);
+
+const TABLE_CLAIMS: Note = (Machine::Table, Call::Claim(Zone::Z1), DONE, 2);
+
+const PRESS_RELEASES: Note = (Machine::Press, Call::Release(Zone::Z3), DONE, 3);
+
+const MOVES: Call = Call::SetPose(Pose::Travelling);
+
+/// The press lets the robot in.
+const LETS_IN: [Note; 5] = [
+    PRESS_CLAIMS,
+    (Machine::Press, MOVES, DONE, 2),
+    (Machine::Press, Call::SetPose(Pose::Middle), DONE, 3),
+    (Machine::Press, Call::Release(Zone::Z3), DONE, 4),
+    (Machine::Robot, Call::Claim(Zone::Z3), DONE, 5),
+];
+
+const ROBOTS: Answer = Answer::Refused(Refusal::NotOwner(Some(Machine::Robot)));
+
+const ALREADY: Note = (
+    Machine::Press,
+    Call::Claim(Zone::Z3),
+    Answer::Refused(Refusal::AlreadyMine),
+    1,
+);
+
+const SHOWN: Answer = Answer::Shown {
+    owner: Some(Machine::Press),
+    flag: false,
+    posture: Posture::Closed,
+};
+
+const INQUIRY: Note = (Machine::Press, Call::Inquire(Zone::Z3), SHOWN, 1);
+
+const CRANE_ASKS: Note = (
+    Machine::Crane,
+    Call::Claim(Zone::Z3),
+    Answer::Refused(Refusal::NotParty),
+    7,
+);
+
+/// The stamp of the start, notes in two parts, and why the audit refuses them.
+type Row = (u32, &'static [Note], &'static [Note], Option<AuditFault>);
+
+const ROWS: &[Row] = &[
+    (0, &THREE, &[], None),
+    // Two Done entries have the stamp.
+    (
+        0,
+        &THREE,
+        &[(Machine::Table, Call::Claim(Zone::Z2), DONE, 3)],
+        Some(AuditFault::Twice(3)),
+    ),
+    // Two below the start's stamp count too, and a gap is looked for later.
+    (
+        0,
+        &THREE,
+        &[
+            (Machine::Table, Call::Claim(Zone::Z2), DONE, 3),
+            (Machine::Feed, Call::Claim(Zone::Z6), DONE, 0),
+            (Machine::Crane, Call::Claim(Zone::Z5), DONE, 0),
+            (Machine::Watch, Call::Claim(Zone::Z1), DONE, 9),
+        ],
+        Some(AuditFault::Twice(0)),
+    ),
+    (
+        0,
+        &[PRESS_CLAIMS, PRESS_RELEASES],
+        &[],
+        Some(AuditFault::Gap(2)),
+    ),
+    // A refused entry's stamp has to be reached as well.
+    (
+        0,
+        &THREE,
+        &[(
+            Machine::Robot,
+            Call::Claim(Zone::Z3),
+            Answer::Refused(Refusal::Held(Machine::Press)),
+            5,
+        )],
+        Some(AuditFault::Gap(4)),
+    ),
+    // While the robot is in, the press would move.
+    (0, &LETS_IN, &[(Machine::Press, MOVES, ROBOTS, 5)], None),
+    (
+        0,
+        &LETS_IN,
+        &[(Machine::Press, MOVES, DONE, 6)],
+        Some(AuditFault::Differs(6)),
+    ),
+    (
+        0,
+        &LETS_IN,
+        &[(
+            Machine::Press,
+            MOVES,
+            Answer::Refused(Refusal::PlaceFull),
+            5,
+        )],
+        Some(AuditFault::Differs(5)),
+    ),
+    // It was refused as it is while the robot is in, but noted at a stamp before that.
+    (
+        0,
+        &LETS_IN,
+        &[(Machine::Press, MOVES, ROBOTS, 4)],
+        Some(AuditFault::Differs(4)),
+    ),
+    // Entries of one stamp that aren't Done may stand either way, but not before the Done one.
+    (
+        0,
+        &[PRESS_CLAIMS, ALREADY, INQUIRY, ALREADY],
+        &[(Machine::Press, Call::Release(Zone::Z3), DONE, 2)],
+        None,
+    ),
+    (
+        0,
+        &[INQUIRY, PRESS_CLAIMS, ALREADY],
+        &[(Machine::Press, Call::Release(Zone::Z3), DONE, 2)],
+        Some(AuditFault::Differs(1)),
+    ),
+    // The first entry in the order of stamps stands behind a later one in its journal.
+    (
+        0,
+        &[(Machine::Press, Call::Release(Zone::Z3), DONE, 2)],
+        &[PRESS_CLAIMS],
+        Some(AuditFault::Differs(1)),
+    ),
+    // Nothing is before the start.
+    (7, &[CRANE_ASKS], &[], None),
+    (
+        7,
+        &[CRANE_ASKS],
+        &[(
+            Machine::Crane,
+            Call::Claim(Zone::Z3),
+            Answer::Refused(Refusal::NotParty),
+            6,
+        )],
+        Some(AuditFault::Differs(6)),
+    ),
+    (
+        7,
+        &[(Machine::Press, Call::Claim(Zone::Z3), DONE, 7)],
+        &[],
+        Some(AuditFault::Differs(7)),
+    ),
+];
+
+/// The press claims its zone and releases it, and the table claims its own in between.
+const THREE: [Note; 3] = [PRESS_CLAIMS, PRESS_RELEASES, TABLE_CLAIMS];
+
+/// The journal of a machine.
+pub fn journal_mut(journals: &mut Journals, machine: Machine) -> &mut Vec<Entry> {
+    match machine {
+        Machine::Feed => &mut journals.feed,
+        Machine::Table => &mut journals.table,
+        Machine::Robot => &mut journals.robot,
+        Machine::Press => &mut journals.press,
+        Machine::Deposit => &mut journals.deposit,
+        Machine::Crane => &mut journals.crane,
+        Machine::Watch => &mut journals.watch,
+    }
+}
+
+fn note(journals: &mut Journals, notes: &[Note]) -> Result<(), AllocError> {
+    for (machine, call, answer, stamp) in notes {
+        let entry = Entry {
+            call: *call,
+            answer: *answer,
+            stamp: *stamp,
+        };
+        journal_mut(journals, *machine).push(entry)?;
+    }
+    Ok(())
+}
+
+fn journals_of(alloc: Global, notes: &[Note], more: &[Note]) -> Result<Journals, AllocError> {
+    let mut journals = Journals::new(alloc);
+    note(&mut journals, notes)?;
+    note(&mut journals, more)?;
+    Ok(journals)
+}
+
+/// A start without plates.
+fn empty_start(rt: &impl Abort, stamp: u32) -> State {
+    State::start([false; 10], stamp).expect(rt, "a start without plates")
+}
+
+#[test]
+fn refuses_what_no_history_wrote(rt: HostRuntime) -> Result<(), Fail> {
+    for (stamp, notes, more, fault) in ROWS {
+        let journals = journals_of(rt.alloc(), notes, more)?;
+        let got = audit(rt.alloc(), &journals, &empty_start(&rt, *stamp), None);
+        assert!(rt; got.err() == *fault, "{fault:?}");
+    }
+    Ok(())
+}
+
+fn end_of_three_calls(start: &State) -> State {
+    let mut end = *start;
+    apply(&mut end, Machine::Press, Call::Claim(Zone::Z3));
+    apply(&mut end, Machine::Table, Call::Claim(Zone::Z1));
+    apply(&mut end, Machine::Press, Call::Release(Zone::Z3));
+    end
+}
+
+fn event(note: Note) -> Event {
+    let (machine, call, answer, _) = note;
+    Event {
+        machine,
+        call,
+        answer,
+    }
+}
+
+#[test]
+fn accepts_what_was_noted(rt: HostRuntime) -> Result<(), Fail> {
+    let start = empty_start(&rt, 0);
+    let journals = journals_of(rt.alloc(), &THREE, &[])?;
+    let end = end_of_three_calls(&start);
+    let events = audit(rt.alloc(), &journals, &start, Some(&end)).expect(&rt, "a history");
+    let wanted = [
+        event(PRESS_CLAIMS),
+        event(TABLE_CLAIMS),
+        event(PRESS_RELEASES),
+    ];
+    assert!(rt; events.as_slice() == wanted.as_slice());
+    let none = Journals::new(rt.alloc());
+    let events = audit(rt.alloc(), &none, &start, Some(&start)).expect(&rt, "no history");
+    assert!(rt; events.is_empty());
+    let late = empty_start(&rt, 7);
+    let journals = journals_of(rt.alloc(), &[CRANE_ASKS], &[])?;
+    let events = audit(rt.alloc(), &journals, &late, Some(&late)).expect(&rt, "a refused call");
+    assert!(rt; events.len() == 1);
+    Ok(())
+}
+
+/// Why the journals of the three calls are refused with this end.
+fn fault_with(alloc: Global, start: &State, end: &State) -> Result<Option<AuditFault>, AllocError> {
+    let journals = journals_of(alloc, &THREE, &[])?;
+    Ok(audit(alloc, &journals, start, Some(end)).err())
+}
+
+#[test]
+fn compares_the_end_whole(rt: HostRuntime) -> Result<(), Fail> {
+    let start = empty_start(&rt, 0);
+    let end = end_of_three_calls(&start);
+    let mut full = end.full();
+    full.set(Place::Crane, true);
+    let late = State::checked(start.zones(), start.full(), 3).expect(&rt, "the start's zones");
+    let later = State::checked(start.zones(), start.full(), 5).expect(&rt, "a later one");
+    let fuller = State::checked(end.zones(), full, 3).expect(&rt, "one plate more");
+    for (end, fault) in [
+        (&end, None),
+        (&late, Some(AuditFault::End)),
+        (&start, Some(AuditFault::End)),
+        (&later, Some(AuditFault::Gap(4))),
+        (&fuller, Some(AuditFault::End)),
+    ] {
+        assert!(rt; fault_with(rt.alloc(), &start, end)? == fault, "{fault:?}");
+    }
+    Ok(())
+}
+
+// Where memory runs out, a journal can't be written or the audit says so; else the answer is as ever.
+#[test]
+fn wants_memory_or_answers(rt: HostRuntime) {
+    let start = empty_start(&rt, 0);
+    let end = end_of_three_calls(&start);
+    let Ok(journals) = journals_of(rt.alloc(), &THREE, &[]) else {
+        return;
+    };
+    let is_right = match audit(rt.alloc(), &journals, &start, Some(&end)) {
+        Ok(events) => events.len() == 3,
+        Err(fault) => fault == AuditFault::Memory,
+    };
+    assert!(rt; is_right);
+}

@@ -1,0 +1,91 @@
+//! Readers and writers that are interrupted or fail, and refused memory.
+
+use crate::doubles::{EndlessReader, Failure, InterruptedReader, InterruptedWriter};
+use cell_report::{Outcome, ReplayFault, ScriptFault, replay};
+use std::alloc::Global;
+
+const SCRIPT: &str =
+    "start,0000000000\npress,claim,z3\nrobot,claim,z3\npress,release,z3\nrobot,claim,z3\nwatch,inquire,z3\n";
+
+const TEXT: &str =
+    "0 0 start 0\n1 1 done\n2 1 held press\n3 2 done\n4 2 shut closed\n5 2 zone free 0 closed\n";
+
+/// Whether a text is some of the lines of `TEXT`, from the first on.
+fn is_whole_lines(written: &[u8]) -> bool {
+    TEXT.as_bytes().starts_with(written) && (written.is_empty() || written.ends_with(b"\n"))
+}
+
+/// Whether the replay of the script, of which a reader gives so many bytes before it fails, fails
+/// with it and has written whole lines.
+fn fails_to_read(alloc: Global, left: usize) -> bool {
+    let mut reader = InterruptedReader::new(SCRIPT.as_bytes(), left);
+    let mut written = Vec::new(alloc);
+    let got = replay(alloc, &mut reader, &mut written);
+    got == Err(ReplayFault::Read) && is_whole_lines(written.as_slice())
+}
+
+/// Whether the replay ends so with a writer that has room for so many bytes, and has written as many
+/// of its text, or all.
+fn is_written(
+    alloc: Global,
+    room: usize,
+    failure: Failure,
+    wanted: Result<Outcome, ReplayFault>,
+) -> bool {
+    let mut reader = InterruptedReader::new(SCRIPT.as_bytes(), usize::MAX);
+    let mut writer = InterruptedWriter::new(alloc, room, 3, failure);
+    let got = replay(alloc, &mut reader, &mut writer);
+    got == wanted
+        && writer.taken.len() == room.min(TEXT.len())
+        && TEXT.as_bytes().starts_with(writer.taken.as_slice())
+}
+
+#[test]
+fn fails_with_its_reader(rt: HostRuntime) {
+    for left in 0..=SCRIPT.len() {
+        assert!(rt; fails_to_read(rt.alloc(), left), "{left}");
+    }
+}
+
+// A failure is told, and an interruption isn't one.
+#[test]
+fn fails_with_its_writer(rt: HostRuntime) {
+    let failed = Err(ReplayFault::Write);
+    for room in 0..TEXT.len() {
+        assert!(rt;
+            is_written(rt.alloc(), room, Failure::Write, failed),
+            "{room}"
+        );
+        assert!(rt;
+            is_written(rt.alloc(), room, Failure::Full, failed),
+            "{room}"
+        );
+    }
+    assert!(rt; is_written(rt.alloc(), usize::MAX, Failure::Flush, failed));
+    assert!(rt; is_written(rt.alloc(), usize::MAX, Failure::Write, Ok(Outcome::Clean)));
+}
+
+// The run chooses which request for memory is refused. The writer takes no memory.
+#[test]
+fn runs_out_of_memory(rt: HostRuntime) {
+    let mut room = [0u8; 200];
+    let mut writer = &mut room[..];
+    let got = replay(rt.alloc(), &mut SCRIPT.as_bytes(), &mut writer);
+    let left = writer.len();
+    let written = &room[..200usize.saturating_sub(left)];
+    let is_right = match got {
+        Ok(outcome) => outcome == Outcome::Clean && written == TEXT.as_bytes(),
+        Err(fault) => fault == ReplayFault::Memory && is_whole_lines(written),
+    };
+    assert!(rt; is_right);
+}
+
+#[test]
+fn stops_reading(rt: HostRuntime) {
+    let mut reader = EndlessReader { given: 0 };
+    let mut written = Vec::new(rt.alloc());
+    let got = replay(rt.alloc(), &mut reader, &mut written);
+    assert!(rt; got == Ok(Outcome::Refused(ScriptFault::Long)));
+    assert!(rt; reader.given == 4_194_305);
+    assert!(rt; written.as_slice() == b"fault long\n".as_slice());
+}

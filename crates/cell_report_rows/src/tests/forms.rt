@@ -1,0 +1,116 @@
+//! How the records are parted, quoted and spelled.
+
+use super::is_answered;
+use cell_report::{Outcome, ScriptFault};
+
+/// Record 0 and one that asks for the press's zone, with other ends, quotes and a byte order mark.
+const FORMS: &[&str] = &[
+    "start,0000000000\npress,claim,z3\n",
+    "start,0000000000\npress,claim,z3",
+    "start,0000000000\r\npress,claim,z3\r\n",
+    "start,0000000000\rpress,claim,z3\r",
+    "\n\r\n\nstart,0000000000\n\n\rpress,claim,z3\n\n",
+    "\u{feff}start,0000000000\npress,claim,z3\n",
+    "\"start\",\"0000000000\"\n\"press\",claim,\"z3\"\n",
+    "start,0000000000\n\"pre\"ss,claim,z3\n",
+    "start,0000000000\npress,claim,\"z3",
+    "start,0000000000,0\npress,claim,z3\n",
+];
+
+const NO_REQUESTS: &[&str] = &[
+    "start,0000000000\npress,cla",
+    "start,0000000000\npress,claim,z3,\n",
+    "start,0000000000\npress,claim\n",
+    "start,0000000000\npress\n",
+    "start,0000000000\npress,advance,\n",
+    "start,0000000000\npress,pose,z3\n",
+    "start,0000000000\npress,claim,middle\n",
+    "start,0000000000\npress,Claim,z3\n",
+    "start,0000000000\n press,claim,z3\n",
+    "start,0000000000\npress,claim,z0\n",
+    "start,0000000000\npr\"ess,claim,z3\n",
+    "start,0000000000\npress,claim,\"z\"\"3\"\n",
+    "start,0000000000\npress,claim,\"z3\npress,claim,z3\n",
+    "start,0000000000\n\u{feff}press,claim,z3\n",
+    "start,0000000000\nstart,0000000000\n",
+];
+
+/// A request with a byte behind it that is no text.
+const NO_TEXT: &[u8] = b"start,0000000000\npress,claim,z3\xff\n";
+
+const NO_STARTS: &[&str] = &[
+    "\n\n",
+    "\u{feff}",
+    "press,claim,z3\n",
+    "Start,0000000000\n",
+    "start \n",
+    ",0000000000\n",
+    "start2,0000000000\n",
+    // A quote is no part of a field, and a field is compared whole.
+    "\"start,0000000000\"\n",
+    "\"start\"2,0000000000\n",
+];
+
+const BAD_STARTS: &[&str] = &[
+    "start\n",
+    "start,\n",
+    "start,000000000\n",
+    "start,00000000000\n",
+    "start,0000000002\n",
+    "start,000000000 \n",
+    "start,0000110000\n",
+    "start,0000000000,\n",
+    "start,0000000000,1048576\n",
+    "start,0000000000,01048575\n",
+    "start,0000000000,-1\n",
+    "start,0000000000,5,\n",
+    "\"start\"\n",
+];
+
+const STAMPS: &[(&str, &str)] = &[
+    ("start,0000000000,0000005\n", "0 5 start 0\n"),
+    ("start,0000010001,1048575\n", "0 1048575 start 2\n"),
+];
+
+/// Scripts that are answered alike.
+const GROUPS: &[(&[&str], &str, Outcome)] = &[
+    (FORMS, "0 0 start 0\n1 1 done\n", Outcome::Clean),
+    (
+        NO_REQUESTS,
+        "0 0 start 0\nfault badrow 1\n",
+        Outcome::Refused(ScriptFault::BadRow(1)),
+    ),
+    (
+        NO_STARTS,
+        "fault nostart\n",
+        Outcome::Refused(ScriptFault::NoStart),
+    ),
+    (
+        BAD_STARTS,
+        "fault badstart\n",
+        Outcome::Refused(ScriptFault::BadStart),
+    ),
+];
+
+#[test]
+fn reads_records(rt: HostRuntime) {
+    for (scripts, text, outcome) in GROUPS {
+        for script in *scripts {
+            let is_right = is_answered(rt.alloc(), script.as_bytes(), text, *outcome);
+            assert!(rt; is_right, "{script:?}");
+        }
+    }
+    for (script, text) in STAMPS {
+        let is_right = is_answered(rt.alloc(), script.as_bytes(), text, Outcome::Clean);
+        assert!(rt; is_right, "{script:?}");
+    }
+    let bad_row = Outcome::Refused(ScriptFault::BadRow(1));
+    assert!(rt;
+        is_answered(
+            rt.alloc(),
+            NO_TEXT,
+            "0 0 start 0\nfault badrow 1\n",
+            bad_row
+        )
+    );
+}

@@ -1,0 +1,235 @@
+//! Reports of runs, each with the record of the run made by hand.
+
+use crate::doubles::{Failure, InterruptedWriter};
+use cell_notes::{Counts, RunRecord, Status};
+use cell_report::{AuditFault, WriteFault, write_report};
+use cell_rules::{State, apply};
+use cell_types::{Call, Journals, Machine, Pose, Zone};
+use std::alloc::Global;
+use std::process::Abort;
+
+const NONE: Counts = Counts {
+    turns: 0,
+    done: 0,
+    read: 0,
+    refused: 0,
+    busy: 0,
+};
+
+/// The press's counts after 31 turns, in which it went to its middle and waited for a plate.
+const PRESS: Counts = Counts {
+    turns: 31,
+    done: 4,
+    read: 0,
+    refused: 1,
+    busy: 0,
+};
+
+const TO_MIDDLE: &[Call] = &[
+    Call::Claim(Zone::Z3),
+    Call::SetPose(Pose::Travelling),
+    Call::SetPose(Pose::Middle),
+    Call::Release(Zone::Z3),
+];
+
+/// An empty cell in which the press alone had turns.
+fn press_alone(rt: &impl Abort, alloc: Global) -> RunRecord {
+    let start = State::start([false; 10], 0).expect(rt, "a start without plates");
+    let mut end = start;
+    for call in TO_MIDDLE {
+        apply(&mut end, Machine::Press, *call);
+    }
+    RunRecord {
+        start,
+        counts: [NONE, NONE, NONE, PRESS, NONE, NONE, NONE],
+        status: [Status::Fine; 7],
+        journals: Journals::new(alloc),
+        end: Some(end),
+        axes: [500, 0, 0, 300, 0, 0, 0, 900],
+    }
+}
+
+const PRESS_ALONE: &str = "start 0000000000 0
+feed turns 0 done 0 read 0 refused 0 busy 0 ok
+table turns 0 done 0 read 0 refused 0 busy 0 ok
+robot turns 0 done 0 read 0 refused 0 busy 0 ok
+press turns 31 done 4 read 0 refused 1 busy 0 ok
+deposit turns 0 done 0 read 0 refused 0 busy 0 ok
+crane turns 0 done 0 read 0 refused 0 busy 0 ok
+zone z1 free 0 closed
+zone z2 free 0 closed
+zone z3 free 0 openin
+zone z4 free 0 closed
+zone z5 free 0 closed
+zone z6 free 0 closed
+places 0000000000
+axes press 500 arm1 0 arm2 0 rotation 300 lift 0 turn 0 crane 0 gripper 900
+stamp 4 plates 0
+audit ok
+";
+
+const PLACES: [bool; 10] = [
+    true, false, true, false, false, true, false, true, false, true,
+];
+
+fn counts(turns: u64) -> Counts {
+    Counts {
+        turns,
+        done: 2,
+        read: 3,
+        refused: 4,
+        busy: 5,
+    }
+}
+
+const STATUS: [Status; 7] = [
+    Status::Worn,
+    Status::Sensor,
+    Status::Refused,
+    Status::Memory,
+    Status::GateLimit,
+    Status::Fine,
+    Status::Worn,
+];
+
+/// A run that tells each machine from the others, and each axis, and each of a machine's numbers. Its
+/// end isn't known, so that no line of it stands in the report.
+fn mixed(rt: &impl Abort, alloc: Global) -> RunRecord {
+    RunRecord {
+        start: State::start(PLACES, 1_048_575).expect(rt, "a start with five plates"),
+        counts: [
+            counts(10),
+            counts(20),
+            counts(30),
+            counts(40),
+            counts(50),
+            counts(60),
+            counts(70),
+        ],
+        status: STATUS,
+        journals: Journals::new(alloc),
+        end: None,
+        axes: [1, 2, 3, 4, 5, 6, 7, 8],
+    }
+}
+
+const MIXED: &str = "start 1010010101 1048575
+feed turns 10 done 2 read 3 refused 4 busy 5 worn
+table turns 20 done 2 read 3 refused 4 busy 5 sensor
+robot turns 30 done 2 read 3 refused 4 busy 5 refused
+press turns 40 done 2 read 3 refused 4 busy 5 memory
+deposit turns 50 done 2 read 3 refused 4 busy 5 gatelimit
+crane turns 60 done 2 read 3 refused 4 busy 5 ok
+axes press 1 arm1 2 arm2 3 rotation 4 lift 5 turn 6 crane 7 gripper 8
+audit gap 17
+";
+
+/// The last line, for what was found.
+const AUDITS: &[(Option<AuditFault>, &str)] = &[
+    (None, "\naudit ok\n"),
+    (Some(AuditFault::Gap(0)), "\naudit gap 0\n"),
+    (
+        Some(AuditFault::Twice(1_048_575)),
+        "\naudit twice 1048575\n",
+    ),
+    (Some(AuditFault::Differs(12)), "\naudit differs 12\n"),
+    (Some(AuditFault::End), "\naudit end\n"),
+    (Some(AuditFault::Memory), "\naudit memory\n"),
+];
+
+/// The report of a run. A writer that doesn't fail takes it.
+fn reported(alloc: Global, run: &RunRecord, audit: Option<AuditFault>) -> Option<Vec<u8>> {
+    let mut written = Vec::new(alloc);
+    match write_report(run, audit, &mut written) {
+        Ok(()) => Some(written),
+        Err(_) => None,
+    }
+}
+
+#[test]
+fn tells_runs(rt: HostRuntime) {
+    let text = reported(rt.alloc(), &press_alone(&rt, rt.alloc()), None);
+    assert!(rt; text.expect(&rt, "a report").as_slice() == PRESS_ALONE.as_bytes());
+    let run = mixed(&rt, rt.alloc());
+    let text = reported(rt.alloc(), &run, Some(AuditFault::Gap(17)));
+    assert!(rt; text.expect(&rt, "a report").as_slice() == MIXED.as_bytes());
+    for (audit, line) in AUDITS {
+        let text = reported(rt.alloc(), &run, *audit).expect(&rt, "a report");
+        assert!(rt; text.as_slice().ends_with(line.as_bytes()), "{line}");
+    }
+}
+
+const MOST: Counts = Counts {
+    turns: u64::MAX,
+    done: u64::MAX,
+    read: u64::MAX,
+    refused: u64::MAX,
+    busy: u64::MAX,
+};
+
+const LARGEST: &[&str] = &[
+    "\ndeposit turns 18446744073709551615 done 18446744073709551615 read 18446744073709551615 refused 18446744073709551615 busy 18446744073709551615 gatelimit\n",
+    "\naxes press -2147483648 arm1 -2147483648 arm2 -2147483648 rotation -2147483648 lift -2147483648 turn -2147483648 crane -2147483648 gripper -2147483648\n",
+    "\naudit differs 4294967295\n",
+];
+
+// The longest numbers and words have room.
+#[test]
+fn tells_largest_numbers(rt: HostRuntime) {
+    let mut run = press_alone(&rt, rt.alloc());
+    run.counts = [MOST; 7];
+    run.status = [Status::GateLimit; 7];
+    run.axes = [i32::MIN; 8];
+    let differs = Some(AuditFault::Differs(u32::MAX));
+    let text = reported(rt.alloc(), &run, differs).expect(&rt, "a report");
+    for line in LARGEST {
+        let is_there = text
+            .as_slice()
+            .windows(line.len())
+            .any(|part| part == line.as_bytes());
+        assert!(rt; is_there, "{line}");
+    }
+}
+
+/// Whether the report of the run of the press comes to this with a writer that has room for so many
+/// bytes, and has written as many of its text, or all.
+fn is_written(
+    alloc: Global,
+    run: &RunRecord,
+    room: usize,
+    failure: Failure,
+    wanted: Result<(), WriteFault>,
+) -> bool {
+    let mut writer = InterruptedWriter::new(alloc, room, 100, failure);
+    let got = write_report(run, None, &mut writer);
+    got == wanted
+        && writer.taken.len() == room.min(PRESS_ALONE.len())
+        && PRESS_ALONE.as_bytes().starts_with(writer.taken.as_slice())
+}
+
+// A failure is told, and an interruption isn't one.
+#[test]
+fn fails_with_its_writer(rt: HostRuntime) {
+    let run = press_alone(&rt, rt.alloc());
+    let failed = Err(WriteFault::Write);
+    for room in 0..PRESS_ALONE.len() {
+        assert!(rt;
+            is_written(rt.alloc(), &run, room, Failure::Write, failed),
+            "{room}"
+        );
+        assert!(rt;
+            is_written(rt.alloc(), &run, room, Failure::Full, failed),
+            "{room}"
+        );
+    }
+    assert!(rt; is_written(rt.alloc(), &run, usize::MAX, Failure::Flush, failed));
+    assert!(rt; is_written(rt.alloc(), &run, usize::MAX, Failure::Write, Ok(())));
+}
+
+#[test]
+fn is_taken_byte_by_byte(rt: HostRuntime) {
+    let run = press_alone(&rt, rt.alloc());
+    let mut writer = InterruptedWriter::new(rt.alloc(), PRESS_ALONE.len(), 1, Failure::Full);
+    assert!(rt; write_report(&run, None, &mut writer) == Ok(()));
+    assert!(rt; writer.taken.as_slice() == PRESS_ALONE.as_bytes());
+}

@@ -1,0 +1,57 @@
+//! Writes a text, and says how much of it was written.
+
+ghost use Rattle.std.specs.Prelude.{◌≡◌, OnOk, OnErr};
+ghost use Rattle.std.specs.Io.KnownBytes.{Appends, Keeps};
+ghost use Rattle.cell_text.specs.Output.{WroteFront};
+
+use std::io::{ErrorKind, Write};
+
+/// Why a text wasn't written whole.
+#[derive(Clone, Copy, PartialEq, Eq, Debug)]
+pub enum WriteFault {
+    /// The writer failed, or took none of the bytes that were left.
+    Write,
+}
+
+/// Writes the whole text and flushes the writer. With an `Err` a front of the text was written. An
+/// interrupted write or flush is made again.
+pub fn write_text<W: Write>(writer: &mut W, text: &[u8]) -> Result<(), WriteFault>
+    ensures ok { OnOk result (Appends (W.contents writer.old) (W.contents writer.new) text.now) }
+    ensures err { OnErr result (WroteFront (W.contents writer.old) (W.contents writer.new) text.now) }
+{
+    let mut rest = text;
+    'parts: for _ in 0..u64::MAX {
+        if rest.is_empty() {
+            return flush(writer);
+        }
+        let count = match writer.write(rest) {
+            Ok(0) => return Err(WriteFault::Write),
+            Ok(count) => count,
+            Err(error) => {
+                if error.kind() != ErrorKind::Interrupted {
+                    return Err(WriteFault::Write);
+                }
+                0
+            }
+        };
+        rest = &rest[count..];
+    }
+    Err(WriteFault::Write)
+}
+
+/// Flushes a writer.
+fn flush<W: Write>(writer: &mut W) -> Result<(), WriteFault>
+    ensures { Keeps (W.contents writer.old) (W.contents writer.new) }
+{
+    'tries: for _ in 0..u64::MAX {
+        match writer.flush() {
+            Ok(()) => return Ok(()),
+            Err(error) => {
+                if error.kind() != ErrorKind::Interrupted {
+                    return Err(WriteFault::Write);
+                }
+            }
+        }
+    }
+    Err(WriteFault::Write)
+}
