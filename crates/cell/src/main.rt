@@ -2,16 +2,12 @@
 //! cell.
 #![tactic(auto)]
 
-pub mod configuration;
-pub mod faults;
-pub mod replaying;
-pub mod serve;
-pub mod simulating;
-pub mod words;
-
+use cell_program::arguments::words_of;
+use cell_program::faults;
+use cell_program::serve::{refuse_bytes, serve};
+use std::io;
 use std::io::ErrorKind;
 use std::process::ExitCode;
-use std::{env, io};
 
 fn main(rt: HostRuntime) -> ExitCode {
     let status = match run(&rt) {
@@ -21,7 +17,7 @@ fn main(rt: HostRuntime) -> ExitCode {
             "memory",
         ),
         // Words that aren't text are refused before `clap` sees them.
-        Err(_) => serve::refuse_bytes(&mut rt.stdout()),
+        Err(_) => refuse_bytes(&mut rt.stdout()),
     };
     ExitCode::from(status)
 }
@@ -29,13 +25,10 @@ fn main(rt: HostRuntime) -> ExitCode {
 /// Serves the words of the program, its input and its output.
 fn run(rt: &HostRuntime) -> io::Result<u8> {
     let alloc = rt.alloc();
-    let words: Vec<String> = env::args(rt)?.collect(alloc)?;
+    let words = words_of(alloc, rt)?;
     let mut texts = Vec::new(alloc);
     for word in &words {
         texts.push(word.as_str())?;
     }
-    Ok(serve::serve(alloc, texts.as_slice(), &mut rt.stdin(), &mut rt.stdout()))
+    Ok(serve(alloc, texts.as_slice(), &mut rt.stdin(), &mut rt.stdout()))
 }
-
-#[cfg(test)]
-mod tests;

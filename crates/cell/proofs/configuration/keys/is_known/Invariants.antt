@@ -1,9 +1,0 @@
-use Rattle.std.proofs.Common.{◌≡◌}
-use Rattle.toml.specs.View.{members_view, table_view}
-use Rattle.cell.specs.Keys.{is_known}
-use Rattle.cell.proofs.configuration.keys.is_known.Given as goal
-
-abbrev pub invariant-entries : goal.invariant-entries
-invariant-entries l =
-    (goal.iterator-entries).can_next l.key-iterator × (goal.iterator-entries).is_finite l.key-iterator
-    × (is_known (members_view l.key-iterator) ≡ is_known (table_view l.table))

@@ -1,0 +1,2 @@
+mod LetterLemmas
+mod SettingsLemmas

@@ -1,0 +1,57 @@
+-- The settings that bytes spell, by how many bytes there are and what TOML makes of them.
+use Rattle.std.proofs.Common.{ℕ, ◌≡◌, ◌≢◌, ◌<◌, ◌≤◌, ◌∙◌, ◌+◌, List, length, take, Bool, true, false, Some, None, Result, Ok, Err, MatchResult, IsUtf8, sym, ap, refl, arith, le-leb, inl, inr}
+use Rattle.std.proofs.lemmas.Bool.{cases_lt, lt-leb}
+use Rattle.std.specs.Option.{ok_or}
+use Rattle.std.specs.Str.{is_utf8}
+use Rattle.std.proofs.lemmas.List.{length-take, take_all}
+use Rattle.std.proofs.lemmas.Str.{IsUtf8-from_is_utf8, is_utf8-from_IsUtf8}
+use Rattle.toml.specs.Data.{Members}
+use Rattle.toml.specs.Parse.{parse_document}
+use Rattle.cell_config.specs.Steps.{◌>>=◌, demand}
+use Rattle.cell_config.specs.Settings.{Settings, byte_limit, settings_in, settings_of}
+use Rattle.cell_config.specs.Configured.{Refuses, Says, shown}
+use Rattle.cell_config.specs.declared.configuration.Config.{Config}
+use Rattle.cell_config.specs.declared.fault.ConfigFault.{ConfigFault}
+use Rattle.cell_config.specs.declared.fault.ConfigFault.TheVariants.{Read, Long, Text, Unknown, Missing, Kind, Start, Range, Letter, Memory}
+
+pub settings_of-long : (bytes : List ℕ) → byte_limit < length bytes → settings_of bytes ≡ Err Long
+unfolding settings_of
+settings_of-long bytes long = rw (lt-leb (length bytes) byte_limit long) refl
+
+pub settings_of-table : (bytes : List ℕ) (ms : Members) → length bytes ≤ byte_limit → IsUtf8 bytes → parse_document bytes ≡ Some ms → settings_of bytes ≡ settings_in ms
+unfolding settings_of
+settings_of-table bytes ms short text parsed = rw (le-leb (length bytes) byte_limit short, is_utf8-from_IsUtf8 bytes text, parsed) refl
+
+pub settings_of-no_text : (bytes : List ℕ) → length bytes ≤ byte_limit → (IsUtf8 bytes → parse_document bytes ≡ None) → settings_of bytes ≡ Err Text
+unfolding settings_of
+settings_of-no_text bytes short refused = rw (le-leb (length bytes) byte_limit short) (by_text (is_utf8 bytes) refl)
+  where
+    by_text : (b : Bool) → is_utf8 bytes ≡ b → (demand b Text >>= (λ _. ok_or (parse_document bytes) Text >>= settings_in)) ≡ Err Text
+    by_text true e = rw (refused (IsUtf8-from_is_utf8 bytes e)) refl
+    by_text false e = refl
+
+-- one byte more than the limit tells whether there are more
+pub settings_of-front : (bytes : List ℕ) → settings_of (take (byte_limit + 1) bytes) ≡ settings_of bytes
+settings_of-front bytes =
+    elim (cases_lt byte_limit (length bytes)) [
+      | inl long ↦ settings_of-long (take (byte_limit + 1) bytes) (omega (arith, length-take (byte_limit + 1) bytes)) ∙ sym (settings_of-long bytes long)
+      | inr short ↦ ap settings_of (take_all (byte_limit + 1) bytes (omega arith))
+    ]
+
+-- an answer by cases says what the bytes say
+pub says_from : (bytes : List ℕ) (given : Result Settings ConfigFault) (r : Result Config ConfigFault) → given ≡ settings_of bytes
+    → MatchResult r (λ config. given ≡ Ok (shown config)) (λ fault. fault ≢ Memory → given ≡ Err fault) → Says bytes r
+says_from bytes given (Ok config) same h = sym same ∙ h
+says_from bytes given (Err fault) same h = refusal fault (λ other. sym same ∙ h other)
+  where
+    refusal : (fault : ConfigFault) → (fault ≢ Memory → settings_of bytes ≡ Err fault) → Refuses bytes fault
+    refusal Read h = tt
+    refusal Memory h = tt
+    refusal Long h = h (λ e. absurd (cc))
+    refusal Text h = h (λ e. absurd (cc))
+    refusal Unknown h = h (λ e. absurd (cc))
+    refusal Missing h = h (λ e. absurd (cc))
+    refusal Kind h = h (λ e. absurd (cc))
+    refusal Start h = h (λ e. absurd (cc))
+    refusal Range h = h (λ e. absurd (cc))
+    refusal Letter h = h (λ e. absurd (cc))

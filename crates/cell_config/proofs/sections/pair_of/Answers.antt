@@ -1,0 +1,65 @@
+use Rattle.std.proofs.Common.{List, [], ◌∷◌, ◌≡◌, ◌<◌, ◌≤◌, ◌∙◌, Option, Some, None, ℤ, length, refl, sym, ap, arith}
+use Rattle.toml.specs.Data.{Data, Items, string, integer, float, boolean, datetime, array, table, item, no_items, as_array}
+use Rattle.toml.specs.View.{items_view, view}
+use Rattle.toml.specs.declared.value.Value.{Value}
+use Rattle.cell_config.specs.Settings.{pair_of}
+use Rattle.cell_config.proofs.sections.pair_of.Goals as goal
+
+-- a value with items is an array of them
+array_is : (value : Data) (items : Items) → Some items ≡ as_array value → value ≡ array items
+array_is (array items) found e = cc
+array_is (string s) items e = absurd (cc)
+array_is (integer z) items e = absurd (cc)
+array_is (float x) items e = absurd (cc)
+array_is (boolean b) items e = absurd (cc)
+array_is (datetime d) items e = absurd (cc)
+array_is (table ms) items e = absurd (cc)
+
+-- one item is no pair, nor are three and more
+one_is_none : (x : Data) → ◌≡◌ {A = Option (ℤ × ℤ)} None (pair_of (array (item x no_items)))
+one_is_none (string s) = refl
+one_is_none (integer z) = refl
+one_is_none (float x) = refl
+one_is_none (boolean b) = refl
+one_is_none (datetime d) = refl
+one_is_none (array items) = refl
+one_is_none (table ms) = refl
+
+after_number : (z : ℤ) (y third : Data) (more : Items) → ◌≡◌ {A = Option (ℤ × ℤ)} None (pair_of (array (item (integer z) (item y (item third more)))))
+after_number z (string s) third more = refl
+after_number z (integer n) third more = refl
+after_number z (float x) third more = refl
+after_number z (boolean b) third more = refl
+after_number z (datetime d) third more = refl
+after_number z (array items) third more = refl
+after_number z (table ms) third more = refl
+
+three_are_none : (x y third : Data) (more : Items) → ◌≡◌ {A = Option (ℤ × ℤ)} None (pair_of (array (item x (item y (item third more)))))
+three_are_none (integer z) y third more = after_number z y third more
+three_are_none (string s) y third more = refl
+three_are_none (float x) y third more = refl
+three_are_none (boolean b) y third more = refl
+three_are_none (datetime d) y third more = refl
+three_are_none (array items) y third more = refl
+three_are_none (table ms) y third more = refl
+
+few : (vs : List Value) → length vs < 2 → ◌≡◌ {A = Option (ℤ × ℤ)} None (pair_of (array (items_view vs)))
+few [] h = refl
+few (x ∷ []) h = one_is_none (view x)
+few (x ∷ y ∷ more) h = absurd (omega arith)
+
+many : (vs : List Value) → 3 ≤ length vs → ◌≡◌ {A = Option (ℤ × ℤ)} None (pair_of (array (items_view vs)))
+many [] h = absurd (omega arith)
+many (x ∷ []) h = absurd (omega arith)
+many (x ∷ y ∷ []) h = absurd (omega arith)
+many (x ∷ y ∷ z ∷ more) h = three_are_none (view x) (view y) (view z) (items_view more)
+
+pub returns-in_default : goal.returns-in_default
+returns-in_default c =
+    let short : length c.in_ok-items.items.now.items < 2 = rw c.as_slice.ensures.value at c.in_default.len_below in
+    few c.in_ok-items.items.now.items short ∙ ap pair_of (sym (array_is _ _ c.in_ok-items.ensures))
+
+pub returns-in_default-2 : goal.returns-in_default-2
+returns-in_default-2 c =
+    let long : 3 ≤ length c.in_ok-items.items.now.items = rw c.as_slice.ensures.value at c.in_default.len_at_least in
+    many c.in_ok-items.items.now.items long ∙ ap pair_of (sym (array_is _ _ c.in_ok-items.ensures))

@@ -1,0 +1,21 @@
+use Rattle.std.proofs.Common.{refl}
+use Rattle.cell_config.proofs.sections.points_at.Goals as goal
+
+pub returns-clause-axes : goal.returns-clause-axes
+returns-clause-axes c = (
+  record {
+    arm1 = c.in_ok-arm1.arm1;
+    arm2 = c.in_ok-arm2.arm2;
+    rotation = c.in_ok-rotation.rotation;
+    turn = c.in_ok-turn.turn;
+    gripper = c.in_ok-gripper.gripper;
+  },
+  refl,
+  record {
+    arm1 = c.in_ok-arm1.ensures.axis;
+    arm2 = c.in_ok-arm2.ensures.axis;
+    rotation = c.in_ok-rotation.ensures.axis;
+    turn = c.in_ok-turn.ensures.axis;
+    gripper = c.in_ok-gripper.ensures.axis;
+  },
+)

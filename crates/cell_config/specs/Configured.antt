@@ -1,0 +1,31 @@
+-- What reading a configuration answers.
+use Rattle.std.specs.Prelude.{◌≡◌, ℕ, List, [], ◌∷◌, Result, Ok, Err, ⊤}
+use Rattle.cell_calib.specs.Scale.{Scale}
+use Rattle.cell_plant.specs.Axes.{AreCellScales, CellScales}
+use Rattle.cell_config.specs.Settings.{Settings, settings_of}
+use Rattle.cell_config.specs.declared.configuration.Config.{Config}
+use Rattle.cell_config.specs.declared.fault.ConfigFault.{ConfigFault}
+use Rattle.cell_config.specs.declared.fault.ConfigFault.TheVariants.{Read, Memory}
+
+-- the settings that a configuration holds
+abbrev pub shown : Config → Settings
+shown config = record { start = config.start; schedule = config.schedule.items; points = config.points }
+
+-- A refusal is the fault that the bytes have first, but for a failed read and want of memory.
+abbrev pub Refuses : List ℕ → ConfigFault → Type 0
+Refuses bytes Read = ⊤
+Refuses bytes Memory = ⊤
+Refuses bytes fault = settings_of bytes ≡ Err fault
+
+-- The answer is what the bytes say.
+abbrev pub Says : List ℕ → Result Config ConfigFault → Type 0
+Says bytes (Ok config) = settings_of bytes ≡ Ok (shown config)
+Says bytes (Err fault) = Refuses bytes fault
+
+-- the scales of a cell, in the order of their keys
+abbrev pub in_order : CellScales → List Scale
+in_order cell = cell.arm1 ∷ cell.arm2 ∷ cell.rotation ∷ cell.turn ∷ cell.gripper ∷ []
+
+-- the five scales fit the axes of a cell
+abbrev pub AreAxisScales : List Scale → Type 0
+AreAxisScales points = (cell : CellScales) × (points ≡ in_order cell) × AreCellScales cell

@@ -1,0 +1,35 @@
+-- The letters of schedules.
+use Rattle.std.specs.Prelude.{ℕ, ◌==◌, List, [], ◌∷◌, ◌++◌, length, map, find, chars, codes, nat_lt, Bool, true, false, is_some, Option, option_map, Result, Ok, Err, if◌then◌else◌}
+use Rattle.std.specs.List.{filter_map, list_all, zip}
+use Rattle.cell_types.specs.declared.machine.Machine.{Machine}
+use Rattle.cell_types.specs.declared.machine.Machine.TheVariants.{Feed, Table, Robot, Press, Deposit, Crane}
+use Rattle.cell_plant.specs.declared.schedule.Turn.{Turn}
+use Rattle.cell_config.specs.declared.fault.ConfigFault.{ConfigFault}
+use Rattle.cell_config.specs.declared.fault.ConfigFault.TheVariants.{Range, Letter}
+
+abbrev pub most_letters : ℕ
+most_letters = 1000000
+
+abbrev pub turn : Bool → Machine → Turn
+turn busy machine = record { machine = machine; busy = busy }
+
+-- the machines that have letters
+abbrev pub lettered : List Machine
+lettered = Feed ∷ Table ∷ Robot ∷ Press ∷ Deposit ∷ Crane ∷ []
+
+-- each letter with its turn: a capital marks one whose ask is Busy
+abbrev pub letters : List (ℕ × Turn)
+letters = zip (codes "ftrpdcFTRPDC") (map (turn false) lettered ++ map (turn true) lettered)
+
+-- the turn of a letter
+abbrev pub turn_of : ℕ → Option Turn
+turn_of letter = option_map (λ row. row.1) (find (λ row. row.0 == letter) letters)
+
+abbrev pub is_letter : ℕ → Bool
+is_letter letter = is_some (turn_of letter)
+
+-- the turns of a text of letters
+abbrev pub turns_of : List ℕ → Result (List Turn) ConfigFault
+turns_of text =
+    if nat_lt most_letters (length (chars text)) then Err Range
+    else if list_all is_letter (chars text) then Ok (filter_map turn_of (chars text)) else Err Letter

@@ -1,0 +1,6 @@
+pub mod Steps
+pub mod Letters
+pub mod Keys
+pub mod Settings
+pub mod Configured
+pub mod ConfigWords

@@ -1,0 +1,111 @@
+-- What a configuration says, or its first fault.
+use Rattle.std.specs.Prelude.{ℕ, ℤ, pos, negsuc, ◌-ℤ◌, ◌<ℤ◌, ◌≤ℤ◌, Bool, List, [], ◌∷◌, length, codes, nat_le, int_lt, ◌&&◌, Option, Some, None, Result, Ok, Err, if◌then◌else◌}
+use Rattle.std.specs.Option.{ok_or}
+use Rattle.std.specs.Str.{is_utf8}
+use Rattle.toml.specs.Data.{Data, Members, array, integer, item, no_items, as_integer, as_str, as_table, get_member}
+use Rattle.toml.specs.Parse.{parse_document}
+use Rattle.cell_rules.specs.ModelState.{ModelState, last_stamp}
+use Rattle.cell_rules.specs.Start.{places_of, start_state}
+use Rattle.cell_calib.specs.Scale.{Scale}
+use Rattle.cell_plant.specs.Axes.{arm_end, rotation_end, turn_end, gripper_end}
+use Rattle.cell_plant.specs.declared.schedule.Turn.{Turn}
+use Rattle.cell_report.specs.Script.{is_start, places_in}
+use Rattle.cell_config.specs.Steps.{◌>>=◌, at_key, demand, of_kind, required}
+use Rattle.cell_config.specs.Keys.{is_known}
+use Rattle.cell_config.specs.Letters.{turns_of}
+use Rattle.cell_config.specs.declared.fault.ConfigFault.{ConfigFault}
+use Rattle.cell_config.specs.declared.fault.ConfigFault.TheVariants.{Long, Text, Unknown, Missing, Start, Range}
+
+abbrev pub byte_limit : ℕ
+byte_limit = 2097152
+
+-- one byte more tells whether there are more than a configuration may have
+abbrev pub most_bytes_read : ℕ
+most_bytes_read = 2097153
+
+-- what a configuration gives: a start, a schedule, and the scales of arm1, arm2, rotation, turn and gripper
+pub record Settings : Type 0 where
+  pub start : ModelState
+  pub schedule : List Turn
+  pub points : List Scale
+
+-- a whole number within limits
+abbrev pub number_within : ℕ → ℕ → ℤ → Result ℕ ConfigFault
+number_within least most (pos n) = if nat_le least n && nat_le n most then Ok n else Err Range
+number_within least most (negsuc n) = Err Range
+
+-- ten digits 0 or 1: for each place whether it is full
+abbrev pub places_at : Members → Result (List Bool) ConfigFault
+places_at ms = required (get_member (codes "start") ms) Missing (λ value. of_kind (as_str value) (λ text. ok_or (places_in text) Start))
+
+abbrev pub stamp_at : Members → Result ℕ ConfigFault
+stamp_at = at_key (codes "stamp") as_integer 0 (number_within 0 last_stamp)
+
+-- the start that places and a stamp make
+abbrev pub start_of : List Bool → ℕ → Result ModelState ConfigFault
+start_of places stamp = if is_start (places_of places) stamp then Ok (start_state (places_of places) stamp) else Err Start
+
+-- both keys, and then the start that they make
+abbrev pub start_at : Members → Result ModelState ConfigFault
+start_at ms = places_at ms >>= (λ places. stamp_at ms >>= (λ stamp. start_of places stamp))
+
+abbrev pub schedule_at : Members → Result (List Turn) ConfigFault
+schedule_at = at_key (codes "schedule") as_str [] turns_of
+
+-- two whole numbers, and nothing else
+abbrev pub pair_of : Data → Option (ℤ × ℤ)
+pair_of (array (item (integer low) (item (integer high) no_items))) = Some (low, high)
+pair_of _ = None
+
+-- an axis begins at 0, and the default raw values are at least as far apart as its ends
+abbrev pub IsAxisEnd : ℤ → Type 0
+IsAxisEnd end = (pos 0 <ℤ end) × (end ≤ℤ pos 4000)
+
+-- raw values at least as far apart as the ends of the axis
+abbrev pub wide_enough : ℤ → ℕ → ℕ → Result (ℕ × ℕ) ConfigFault
+wide_enough end low high = if int_lt (pos high -ℤ pos low) end then Err Range else Ok (low, high)
+
+abbrev pub raw_within : ℤ → ℤ × ℤ → Result (ℕ × ℕ) ConfigFault
+raw_within end (first, last) = number_within 0 65535 first >>= (λ low. number_within 0 65535 last >>= (λ high. wide_enough end low high))
+
+abbrev pub raw_at : ℤ → Members → Result (ℕ × ℕ) ConfigFault
+raw_at end = at_key (codes "raw") pair_of (0, 4000) (raw_within end)
+
+abbrev pub tol_at : Members → Result ℕ ConfigFault
+tol_at = at_key (codes "tol") as_integer 5 (number_within 1 10)
+
+-- the scale of an axis from 0 to its end
+abbrev pub axis_scale : ℤ → ℕ × ℕ → ℕ → Scale
+axis_scale end raw tol = record { raw_lo = raw.0; raw_hi = raw.1; at_lo = pos 0; at_hi = end; tol = pos tol }
+
+abbrev pub section_of : ℤ → Members → Result Scale ConfigFault
+section_of end section = raw_at end section >>= (λ raw. tol_at section >>= (λ tol. Ok (axis_scale end raw tol)))
+
+abbrev pub section_at : List ℕ → ℤ → Members → Result Scale ConfigFault
+section_at key end = at_key key as_table (axis_scale end (0, 4000) 5) (section_of end)
+
+-- the five scales, in the order of their keys
+abbrev pub points_at : Members → Result (List Scale) ConfigFault
+points_at ms =
+    section_at (codes "arm1") arm_end ms >>= (λ arm1.
+    section_at (codes "arm2") arm_end ms >>= (λ arm2.
+    section_at (codes "rotation") rotation_end ms >>= (λ rotation.
+    section_at (codes "turn") turn_end ms >>= (λ turn.
+    section_at (codes "gripper") gripper_end ms >>= (λ gripper.
+    Ok (arm1 ∷ arm2 ∷ rotation ∷ turn ∷ gripper ∷ []))))))
+
+-- The settings in a table, or its first fault.
+abbrev pub settings_in : Members → Result Settings ConfigFault
+settings_in ms =
+    demand (is_known ms) Unknown >>= (λ _.
+    start_at ms >>= (λ start.
+    schedule_at ms >>= (λ schedule.
+    points_at ms >>= (λ points.
+    Ok (record { start = start; schedule = schedule; points = points })))))
+
+-- The settings that bytes spell, or their first fault.
+unfoldable pub settings_of : List ℕ → Result Settings ConfigFault
+settings_of bytes =
+    demand (nat_le (length bytes) byte_limit) Long >>= (λ _.
+    demand (is_utf8 bytes) Text >>= (λ _.
+    ok_or (parse_document bytes) Text >>= settings_in))

@@ -1,0 +1,96 @@
+//! Reads configurations: texts in TOML with the start of a run, its schedule, and how the five
+//! potentiometers are calibrated.
+
+ghost use Rattle.std.specs.Prelude.{◌≡◌, ◌≢◌, ◌≤◌, Ok, Err, length, IfOk, IfSome, MatchResult};
+ghost use Rattle.toml.specs.View.{table_view};
+ghost use Rattle.cell_report.specs.Input.{TakesAtMost};
+ghost use Rattle.cell_rules.specs.Start.{IsStartState};
+ghost use Rattle.cell_config.specs.Configured.{AreAxisScales, Says, shown};
+ghost use Rattle.cell_config.specs.Settings.{most_bytes_read, settings_in, settings_of};
+ghost use Rattle.cell_config.specs.declared.fault.ConfigFault.TheVariants.{Memory};
+
+use crate::fault::ConfigFault;
+use crate::keys::is_known;
+use crate::schedules::schedule_at;
+use crate::sections::points_at;
+use crate::starts::start_at;
+use cell_calib::Points;
+use cell_plant::Turn;
+use cell_report::input::{InputFault, read_up_to};
+use cell_rules::State;
+use std::alloc::Global;
+use std::io::Read;
+use toml::Table;
+
+/// The most bytes of a configuration.
+const MOST_BYTES: usize = 2_097_152;
+
+/// What a run begins with.
+#[derive(Debug, PartialEq, Eq, Drop)]
+pub struct Config {
+    /// The state of the interlock at the start.
+    pub start: State,
+    /// Whose turns are taken one after another.
+    pub schedule: Vec<Turn>,
+    /// The lines of the potentiometers arm1, arm2, rotation, turn and gripper. Each goes from 0 to the
+    /// end of its axis, and has at least as many raw values as the axis has positions.
+    pub points: [Points; 5],
+}
+
+/// The configuration in the bytes that the reader has left; `docs/CONFIGURATIONS.md` has the format.
+///
+/// A refusal is the first fault in the order of `ConfigFault`, where from `Kind` to `Letter` the keys
+/// are gone through one by one. `Read` comes where the reader fails, and `Memory` may come wherever
+/// memory is asked for. Whatever the answer, no more than 2,097,153 bytes are taken from the reader.
+pub fn read_config<R: Read>(alloc: Global, reader: &mut R) -> Result<Config, ConfigFault>
+    ensures says { IfSome (R.remaining reader.old) (λ bytes. Says bytes result) }
+    ensures start { IfOk result (λ config. IsStartState config.start) }
+    ensures points { IfOk result (λ config. AreAxisScales config.points) }
+    ensures taken { TakesAtMost (R.remaining reader.old) (R.remaining reader.new) most_bytes_read }
+{
+    let bytes = match read_up_to(alloc, reader, MOST_BYTES + 1) {
+        Ok(bytes) => bytes,
+        Err(InputFault::Read) => return Err(ConfigFault::Read),
+        Err(InputFault::Memory) => return Err(ConfigFault::Memory),
+    };
+    config_of(alloc, bytes.as_slice())
+}
+
+/// The configuration that bytes spell, or their first fault.
+fn config_of(alloc: Global, bytes: &[u8]) -> Result<Config, ConfigFault>
+    ensures says { MatchResult result
+        (λ config. settings_of bytes.now ≡ Ok (shown config))
+        (λ fault. fault ≢ Memory → settings_of bytes.now ≡ Err fault) }
+    ensures start { IfOk result (λ config. IsStartState config.start) }
+    ensures points { IfOk result (λ config. AreAxisScales config.points) }
+{
+    if bytes.len() > MOST_BYTES {
+        return Err(ConfigFault::Long);
+    }
+    match toml::table_from_slice(alloc, bytes) {
+        Ok(table) => config_in(alloc, &table),
+        Err(error) if error.is_memory() => Err(ConfigFault::Memory),
+        Err(_) => Err(ConfigFault::Text),
+    }
+}
+
+/// The configuration in a table, or its first fault.
+fn config_in(alloc: Global, table: &Table) -> Result<Config, ConfigFault>
+    ensures says { MatchResult result
+        (λ config. settings_in (table_view table.now) ≡ Ok (shown config))
+        (λ fault. fault ≢ Memory → settings_in (table_view table.now) ≡ Err fault) }
+    ensures start { IfOk result (λ config. IsStartState config.start) }
+    ensures points { IfOk result (λ config. AreAxisScales config.points) }
+{
+    if !is_known(table) {
+        return Err(ConfigFault::Unknown);
+    }
+    let start = start_at(table)?;
+    let schedule = schedule_at(alloc, table)?;
+    let points = points_at(table)?;
+    Ok(Config {
+        start,
+        schedule,
+        points,
+    })
+}

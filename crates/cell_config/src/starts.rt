@@ -1,0 +1,52 @@
+//! The start: which places are full, and the first stamp.
+
+ghost use Rattle.std.specs.Prelude.{◌≡◌, IfOk};
+ghost use Rattle.toml.specs.View.{table_view};
+ghost use Rattle.cell_rules.specs.Start.{IsStartState};
+ghost use Rattle.cell_config.specs.Settings as settings;
+
+use crate::fault::ConfigFault;
+use crate::places::{PLACES, read_places};
+use crate::values::{number_at, value_at};
+use cell_rules::State;
+use toml::Table;
+
+/// The last stamp.
+const LAST_STAMP: u32 = 1_048_575;
+
+/// Which places are full, by the key `start`.
+///
+/// `Missing` where the key is absent, `Kind` where its value is no text, `Start` where the text isn't
+/// ten digits 0 or 1.
+fn places_at(table: &Table) -> Result<[bool; PLACES], ConfigFault>
+    ensures { result ≡ settings.places_at (table_view table.now) }
+{
+    let Some(value) = value_at(table, "start") else {
+        return Err(ConfigFault::Missing);
+    };
+    let Some(text) = value.as_str() else {
+        return Err(ConfigFault::Kind);
+    };
+    read_places(text.as_bytes()).ok_or(ConfigFault::Start)
+}
+
+/// The start that places and a stamp make; `Start` where there is none.
+fn start_of(places: [bool; PLACES], stamp: u32) -> Result<State, ConfigFault>
+    ensures value { result ≡ settings.start_of places stamp }
+    ensures start { IfOk result IsStartState }
+{
+    State::start(places, stamp).map_err(|_| ConfigFault::Start)
+}
+
+/// The start that a table gives by its keys `start` and `stamp`.
+///
+/// `Missing` where there is no `start`, `Kind` and `Start` where it isn't ten digits 0 or 1, then `Kind`
+/// and `Range` of `stamp`, and `Start` where no state starts so.
+pub fn start_at(table: &Table) -> Result<State, ConfigFault>
+    ensures value { result ≡ settings.start_at (table_view table.now) }
+    ensures start { IfOk result IsStartState }
+{
+    let places = places_at(table)?;
+    let stamp = number_at(table, "stamp", 0, LAST_STAMP, 0)?;
+    start_of(places, stamp)
+}

@@ -1,0 +1,4 @@
+mod ReportLemmas
+mod FrontLemmas
+mod SimLemmas
+mod WordLemmas

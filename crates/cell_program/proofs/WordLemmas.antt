@@ -1,0 +1,38 @@
+-- Which mode words ask for.
+use Rattle.std.proofs.Common.{◌≡◌, ◌⊎◌, inl, inr, ℕ, List, [], ◌∷◌, codes, refl, sym, ap, ◌∙◌}
+use Rattle.clap.specs.Words.{Text}
+use Rattle.clap.proofs.OnLiterals.{clap_on_literals}
+use Rattle.cell_program.specs.Words.{AskForReplay, AskForSim, mode_of, program}
+use Rattle.cell_program.specs.declared.words.Mode.{Mode}
+use Rattle.cell_program.specs.declared.words.Mode.TheVariants.{Replay, Sim}
+
+plain_mode : (name : Text) → mode_of (name ∷ []) ≡ Replay
+unfolding clap_on_literals
+plain_mode name = refl
+
+replay_mode : (name : Text) → mode_of (name ∷ codes "replay" ∷ []) ≡ Replay
+unfolding clap_on_literals
+replay_mode name = refl
+
+sim_mode : (name : Text) → mode_of (name ∷ codes "sim" ∷ []) ≡ Sim
+unfolding clap_on_literals
+sim_mode name = refl
+
+pub replay_asked : (words : List Text) → AskForReplay words → mode_of words ≡ Replay
+replay_asked words (name, inl e) = ap mode_of e ∙ plain_mode name
+replay_asked words (name, inr e) = ap mode_of e ∙ replay_mode name
+
+pub sim_asked : (words : List Text) → AskForSim words → mode_of words ≡ Sim
+sim_asked words k = ap mode_of k.1 ∙ sim_mode k.0
+
+-- words that ask for one mode don't ask for the other
+pub not_for_sim : {P : Type 0} → (words : List Text) (m : Mode) → m ≡ Replay → m ≡ mode_of words → AskForSim words → P
+not_for_sim words m e f k = let other = sim_asked words k in cc
+
+pub not_for_replay : {P : Type 0} → (words : List Text) (m : Mode) → m ≡ Sim → m ≡ mode_of words → AskForReplay words → P
+not_for_replay words m e f k = let other = replay_asked words k in cc
+
+-- what is so of both words that ask for a replay
+pub either_way : {K : Type 0} → (words : List Text) → AskForReplay words → ((name : List ℕ) → words ≡ name ∷ [] → K) → ((name : List ℕ) → words ≡ name ∷ codes "replay" ∷ [] → K) → K
+either_way words (name, inl e) f g = f name e
+either_way words (name, inr e) f g = g name e

@@ -1,0 +1,65 @@
+-- What a run of the program has done.
+use Rattle.std.specs.Prelude.{◌≡◌, ℕ, List, [], ◌∷◌, ◌++◌, codes, ◌⊎◌, All, Option, Some, None, Ok, Err, IfSome}
+use Rattle.std.specs.Io.KnownBytes.{Appends}
+use Rattle.cell_report.specs.Faults.{WroteFront, WroteLines}
+use Rattle.cell_report.specs.Script.{script_lines, script_outcome, script_text}
+use Rattle.cell_report.specs.Report.{report_text}
+use Rattle.cell_report.specs.declared.script.Outcome.TheVariants.{Clean, Refused}
+use Rattle.cell_report.specs.declared.script.ScriptFault.{ScriptFault}
+use Rattle.cell_report.specs.declared.audit_faults.AuditFault.{AuditFault}
+use Rattle.cell_report.specs.declared.audit_faults.AuditFault.TheVariants.{Memory as AuditMemory}
+use Rattle.cell_plant.specs.Axes.{CellScales}
+use Rattle.cell_plant.specs.Cells.{TellsRun}
+use Rattle.cell_plant.specs.declared.record.RunRecord.{RunRecord}
+use Rattle.cell_plant.specs.declared.record.Status.{Status}
+use Rattle.cell_plant.specs.declared.record.Status.TheVariants.{Fine}
+use Rattle.cell_config.specs.Configured.{Says, in_order}
+use Rattle.cell_config.specs.Settings.{Settings, settings_of}
+use Rattle.cell_config.specs.ConfigWords.{config_fault_text}
+use Rattle.cell_config.specs.declared.fault.ConfigFault.{ConfigFault}
+
+-- the line of a fault
+abbrev pub fault_line : List ℕ → List ℕ
+fault_line text = codes "fault " ++ (text ++ codes "\n")
+
+-- the script that was left to read is clean, and its text was written
+abbrev pub WasReplayed : Option (List ℕ) → Option (List ℕ) → Option (List ℕ) → Type 0
+WasReplayed remaining old new = IfSome remaining (λ bytes. Appends old new (script_text bytes) × (script_outcome bytes ≡ Clean))
+
+-- The replay failed: the script was refused, as its text says, which was written whole; or a front of the text was written;
+-- or some of its lines, each whole, and then a front of the line of a failed read or of want of memory.
+abbrev pub ReplayFails : List ℕ → Option (List ℕ) → Option (List ℕ) → Type 0
+ReplayFails bytes old new =
+    (Appends old new (script_text bytes) × ((fault : ScriptFault) × (script_outcome bytes ≡ Refused fault)))
+    ⊎ (WroteFront old new (script_text bytes)
+    ⊎ ((between : Option (List ℕ)) × (WroteLines old between (script_lines bytes) × (WroteFront between new (fault_line (codes "read")) ⊎ WroteFront between new (fault_line (codes "memory"))))))
+
+-- a record tells the run of the configuration that bytes give
+pub record TellsRunOf (bytes : List ℕ) (r : RunRecord) : Type 0 where
+  pub settings : Settings
+  pub said : settings_of bytes ≡ Ok settings
+  pub scales : CellScales
+  pub points : settings.points ≡ in_order scales
+  pub run : TellsRun scales settings.start settings.schedule r
+
+-- no machine was stopped
+abbrev pub AreFine : List Status → Type 0
+AreFine status = All (λ s. s ≡ Fine) status
+
+-- the cell was simulated, no machine was stopped, and the report was written, with the line that the audit found a history
+abbrev pub WasSimulated : Option (List ℕ) → Option (List ℕ) → Option (List ℕ) → Type 0
+WasSimulated remaining old new = IfSome remaining (λ bytes. (r : RunRecord) × (TellsRunOf bytes r × (AreFine r.status × Appends old new (report_text r None))))
+
+-- the audit refuses nothing but for want of memory
+abbrev pub IsAuditOf : Option AuditFault → Type 0
+IsAuditOf None = Unit
+IsAuditOf (Some fault) = fault ≡ AuditMemory
+
+-- The simulation failed: the configuration was refused, or memory ran out, and a front of that fault's line was written; or
+-- a machine was stopped or the audit had no memory, and the report was written; or a front of the report was.
+abbrev pub SimFails : List ℕ → Option (List ℕ) → Option (List ℕ) → Type 0
+SimFails bytes old new =
+    ((fault : ConfigFault) × (Says bytes (Err fault) × WroteFront old new (fault_line (config_fault_text fault))))
+    ⊎ (WroteFront old new (fault_line (codes "memory"))
+    ⊎ ((r : RunRecord) × (audit : Option AuditFault) × (TellsRunOf bytes r × (IsAuditOf audit
+    × ((Appends old new (report_text r audit) × ((¬ AreFine r.status) ⊎ (audit ≡ Some AuditMemory))) ⊎ WroteFront old new (report_text r audit))))))

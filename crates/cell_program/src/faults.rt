@@ -1,0 +1,44 @@
+//! The program's fault lines.
+
+ghost use Rattle.std.specs.Prelude.{◌≡◌, IfOk, IfSome};
+ghost use Rattle.cell_report.specs.Faults.{WroteFront};
+ghost use Rattle.cell_program.specs.Served.{fault_line};
+
+use cell_report::{Page, write_text};
+use std::fmt;
+use std::fmt::Display;
+use std::io::Write;
+
+/// An input was refused, a machine stopped, an audit refused, a read or a write failed, or memory
+/// ran out.
+pub const FAILED: u8 = 1;
+
+/// Prints the line of a fault, as far as the writer takes it, and answers the exit status.
+pub fn fail<W: Write, D: Display + Drop>(writer: &mut W, fault: D) -> u8
+    ensures status { result ≡ 1 }
+    ensures line { IfSome (D.output fault) (λ text. WroteFront (W.contents writer.old) (W.contents writer.new) (fault_line text)) }
+{
+    match fault_page(fault) {
+        Ok(page) => {
+            write_front(writer, page.as_bytes());
+            FAILED
+        }
+        Err(_) => FAILED,
+    }
+}
+
+/// The line of a fault. Every fault's has room on a page.
+fn fault_page<D: Display + Drop>(fault: D) -> Result<Page, fmt::Error>
+    ensures { IfOk result (λ page. IfSome (D.output fault) (λ text. page ≡ fault_line text)) }
+{
+    let mut page = Page::new();
+    writeln!(page, "fault {fault}")?;
+    Ok(page)
+}
+
+/// Writes a text as far as the writer takes it.
+fn write_front<W: Write>(writer: &mut W, text: &[u8])
+    ensures { WroteFront (W.contents writer.old) (W.contents writer.new) text.now }
+{
+    let _ = write_text(writer, text);
+}

@@ -1,0 +1,44 @@
+//! What the program's help says beside its usage: of each command a line before it, and behind it what
+//! is read, what is written, where the formats are described, and an example.
+
+/// Of the program.
+pub const CELL: &str =
+    "Replays scripts of calls to the interlock of the production cell, and simulates the cell.";
+
+pub const OF_CELL: &str = "\
+Without a command a script is replayed. All input is standard input, all output
+standard output. The exit status is 0 where all went well, and for help; 1 for a
+refused input, a machine that was stopped, a refused audit, a failed read or write
+and want of memory; 2 for words that aren't a command's.
+
+docs/SCRIPTS.md describes scripts, their answers and the exit statuses,
+docs/CONFIGURATIONS.md what a simulation reads, docs/REPORTS.md what it writes.
+
+Examples:
+  cell replay < examples/interior.csv
+  cell sim < examples/press.toml";
+
+/// Of `replay`.
+pub const REPLAY: &str = "Replays a script of calls, and writes how the interlock answers each.";
+
+pub const OF_REPLAY: &str = "\
+Reads a script: CSV, of which record 0 gives the start, and each later record the
+call of a machine. Writes a line for each record: its number, the stamp behind it,
+and the answer; a script that is refused ends with a line that begins with `fault`.
+docs/SCRIPTS.md describes both.
+
+Example:
+  cell replay < examples/interior.csv";
+
+/// Of `sim`.
+pub const SIM: &str = "Simulates the cell, and writes a report of the run.";
+
+pub const OF_SIM: &str = "\
+Reads a configuration: TOML with the start, the schedule of turns, and how the
+potentiometers are calibrated. Writes a report: what each machine did, how the cell
+stands at the end, and what an audit finds in the machines' journals; or a line that
+begins with `fault`. docs/CONFIGURATIONS.md describes what is read, docs/REPORTS.md
+what is written.
+
+Example:
+  cell sim < examples/press.toml";

@@ -1,0 +1,29 @@
+//! Replays a script for the program.
+
+ghost use Rattle.std.specs.Prelude.{◌≡◌, ◌<◌, IfSome};
+ghost use Rattle.cell_report.specs.Input.{TakesAtMost};
+ghost use Rattle.cell_report.specs.Script.{most_bytes_read};
+ghost use Rattle.cell_program.specs.Served.{ReplayFails, WasReplayed};
+
+use crate::faults::{FAILED, fail};
+use cell_report::{Outcome, ReplayFault, replay};
+use std::alloc::Global;
+use std::io::{Read, Write};
+
+/// Replays, and prints a fault other than that of the script. Answers the exit status: 0 where all went
+/// well, else 1.
+pub fn serve_replay<R: Read, W: Write>(alloc: Global, reader: &mut R, writer: &mut W) -> u8
+    ensures status { result < 2 }
+    ensures well { result ≡ 0 →
+        WasReplayed (R.remaining reader.old) (W.contents writer.old) (W.contents writer.new) }
+    ensures failed { result ≡ 1 →
+        IfSome (R.remaining reader.old) (λ bytes. ReplayFails bytes (W.contents writer.old) (W.contents writer.new)) }
+    ensures read { TakesAtMost (R.remaining reader.old) (R.remaining reader.new) most_bytes_read }
+{
+    match replay(alloc, reader, writer) {
+        Ok(Outcome::Clean) => 0,
+        Ok(Outcome::Refused(_)) | Err(ReplayFault::Write) => FAILED,
+        Err(ReplayFault::Read) => fail(writer, "read"),
+        Err(ReplayFault::Memory) => fail(writer, "memory"),
+    }
+}

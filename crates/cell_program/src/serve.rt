@@ -1,0 +1,92 @@
+//! Serves one run of the program.
+
+ghost use Rattle.std.specs.Prelude.{◌≡◌, ◌≤◌, ◌<◌, ◌⊎◌, codes, map, IfSome};
+ghost use Rattle.clap.specs.Words.{kind_of};
+ghost use Rattle.cell_report.specs.Faults.{WroteFront};
+ghost use Rattle.cell_report.specs.Input.{TakesAtMost};
+ghost use Rattle.cell_report.specs.Script.{most_bytes_read};
+ghost use Rattle.cell_program.specs.Served.{ReplayFails, SimFails, WasReplayed, WasSimulated, fault_line};
+ghost use Rattle.cell_config.specs.Settings as settings;
+ghost use Rattle.cell_program.specs.Words.{AreTaken, AskForHelp, AskForReplay, AskForSim};
+
+use crate::faults::{FAILED, fail};
+use crate::replaying::serve_replay;
+use crate::simulating::serve_sim;
+use crate::words::{Mode, read_words};
+use clap::error::ErrorKind;
+use std::alloc::Global;
+use std::io::{Read, Write};
+
+/// All went well, or help was asked for.
+const WELL: u8 = 0;
+
+/// The words were refused.
+const REFUSED: u8 = 2;
+
+/// Does what the words ask for, of which the first is the program's name, and answers the exit status:
+/// 0 where all went well and for help; 1 for a refused input, a machine that was stopped, a refused
+/// audit, a failed read or write and want of memory; 2 for words that `clap` refuses.
+pub fn serve<R: Read, W: Write>(alloc: Global, words: &[&str], reader: &mut R, writer: &mut W) -> u8
+    ensures status { result ≤ 2 }
+
+    // With the program's name alone, or with the word `replay` behind it, 2 doesn't come. Status 0 says
+    // that the script was clean and its text was written, status 1 what was written of it.
+    ensures replay { AskForReplay (map (λ w. w.now) words.now) → result < 2 }
+    ensures replayed { AskForReplay (map (λ w. w.now) words.now) → result ≡ 0 →
+        WasReplayed (R.remaining reader.old) (W.contents writer.old) (W.contents writer.new) }
+    ensures replay_fails { AskForReplay (map (λ w. w.now) words.now) → result ≡ 1 →
+        IfSome (R.remaining reader.old) (λ bytes. ReplayFails bytes (W.contents writer.old) (W.contents writer.new)) }
+
+    // With the word `sim` behind the name, 2 doesn't come. Status 0 says that the run was simulated and
+    // audited, that no machine was stopped and that the report was written, status 1 what was written.
+    ensures sim { AskForSim (map (λ w. w.now) words.now) → result < 2 }
+    ensures simulated { AskForSim (map (λ w. w.now) words.now) → result ≡ 0 →
+        WasSimulated (R.remaining reader.old) (W.contents writer.old) (W.contents writer.new) }
+    ensures sim_fails { AskForSim (map (λ w. w.now) words.now) → result ≡ 1 →
+        IfSome (R.remaining reader.old) (λ bytes. SimFails bytes (W.contents writer.old) (W.contents writer.new)) }
+
+    // Status 0 comes for no words but those that `clap` takes and those that ask for help, and status 2
+    // for none that it takes.
+    ensures taken { result ≡ 0 →
+        AreTaken (map (λ w. w.now) words.now) ⊎ AskForHelp (map (λ w. w.now) words.now) }
+    ensures refused { AreTaken (map (λ w. w.now) words.now) → result < 2 }
+
+    // No more is taken from the input than a script may have, and one byte; for a simulation, than a
+    // configuration may have, and one byte.
+    ensures read { TakesAtMost (R.remaining reader.old) (R.remaining reader.new) most_bytes_read }
+    ensures read_sim { AskForSim (map (λ w. w.now) words.now) →
+        TakesAtMost (R.remaining reader.old) (R.remaining reader.new) settings.most_bytes_read }
+{
+    match read_words(alloc, words) {
+        Ok(Mode::Replay) => serve_replay(alloc, reader, writer),
+        Ok(Mode::Sim) => serve_sim(alloc, reader, writer),
+        Err(error) => refuse(error, writer),
+    }
+}
+
+/// Prints that the program's words aren't text, and answers the exit status.
+pub fn refuse_bytes<W: Write>(writer: &mut W) -> u8
+    ensures { result ≡ 2 }
+{
+    let _ = writeln!(writer, "error: a word isn't UTF-8");
+    let _ = writer.flush();
+    REFUSED
+}
+
+/// Prints why the words were refused, or help, and answers the exit status.
+fn refuse<W: Write>(error: clap::Error, writer: &mut W) -> u8
+    ensures status { result ≤ 2 }
+    ensures help { result ≡ 0 → kind_of error ≡ ErrorKind.DisplayHelp }
+    ensures memory { kind_of error ≡ ErrorKind.OutOfMemory → result ≡ 1 }
+    ensures line { kind_of error ≡ ErrorKind.OutOfMemory → WroteFront (W.contents writer.old) (W.contents writer.new) (fault_line (codes "memory")) }
+{
+    let status = match error.kind() {
+        ErrorKind::OutOfMemory => return fail(writer, "memory"),
+        ErrorKind::DisplayHelp => WELL,
+        _ => REFUSED,
+    };
+    if write!(writer, "{error}").is_err() || writer.flush().is_err() {
+        return FAILED;
+    }
+    status
+}

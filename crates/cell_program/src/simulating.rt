@@ -1,0 +1,145 @@
+//! Simulates the cell for the program.
+
+ghost use Rattle.std.specs.Prelude.{◌≡◌, ◌<◌, ◌↔◌, IsTrue, IfOk, IfSome, List, None, if◌then◌else◌};
+ghost use Rattle.cell_rules.specs.Start.{IsStartState};
+ghost use Rattle.cell_plant.specs.Axes.{AreCellScales, CellScales};
+ghost use Rattle.cell_plant.specs.Cells.{TellsRun};
+ghost use Rattle.cell_plant.specs.declared.schedule.Turn.{Turn as TurnOf};
+ghost use Rattle.cell_report.specs.Input.{TakesAtMost};
+ghost use Rattle.cell_config.specs.Configured.{AreAxisScales, in_order};
+ghost use Rattle.cell_program.specs.Served.{AreFine, SimFails, WasSimulated};
+ghost use Rattle.cell_config.specs.Settings.{most_bytes_read};
+ghost use Rattle.cell_program.specs.Simulated.{ReportTold, scales_of};
+
+use crate::faults::{FAILED, fail};
+use cell_calib::{Calibration, Gauge, Points, line_at};
+use cell_config::{Config, read_config};
+use cell_plant::{Cell, RunRecord, SimFault, Status, Turn, simulate};
+use cell_report::{AuditFault, audit, write_report};
+use cell_rules::State;
+use std::alloc::Global;
+use std::io::{Read, Write};
+
+/// The lines of the five potentiometers.
+#[derive(Clone, Copy)]
+pub struct Lines {
+    pub arm1: Points,
+    pub arm2: Points,
+    pub rotation: Points,
+    pub turn: Points,
+    pub gripper: Points,
+}
+
+/// Simulates the cell by the configuration that is read, audits what its machines noted, and writes
+/// the report, or prints a fault. Answers the exit status: 0 where all went well, else 1.
+pub fn serve_sim<R: Read, W: Write>(alloc: Global, reader: &mut R, writer: &mut W) -> u8
+    ensures status { result < 2 }
+    ensures well { result ≡ 0 →
+        WasSimulated (R.remaining reader.old) (W.contents writer.old) (W.contents writer.new) }
+    ensures failed { result ≡ 1 →
+        IfSome (R.remaining reader.old) (λ bytes. SimFails bytes (W.contents writer.old) (W.contents writer.new)) }
+    ensures read { TakesAtMost (R.remaining reader.old) (R.remaining reader.new) most_bytes_read }
+{
+    let config = match read_config(alloc, reader) {
+        Ok(config) => config,
+        Err(fault) => return fail(writer, fault.text()),
+    };
+    match simulated(alloc, &config) {
+        Ok(run) => report(alloc, &run, writer),
+        Err(SimFault::Memory) => fail(writer, "memory"),
+    }
+}
+
+/// The run of a configuration, with each closure over its line.
+pub fn simulated(alloc: Global, config: &Config) -> Result<RunRecord, SimFault>
+    requires start { IsStartState config.now.start }
+    requires points { AreAxisScales config.now.points }
+    ensures run { IfOk result (λ r. (c : CellScales) × (config.now.points ≡ in_order c) × TellsRun c config.now.start config.now.schedule.items r) }
+{
+    let [arm1, arm2, rotation, turn, gripper] = config.points;
+    let gauges = (
+        move |raw: u16| line_at(&arm1, raw),
+        move |raw: u16| line_at(&arm2, raw),
+        move |raw: u16| line_at(&rotation, raw),
+        move |raw: u16| line_at(&turn, raw),
+        move |raw: u16| line_at(&gripper, raw),
+    );
+    let lines = Lines {
+        arm1,
+        arm2,
+        rotation,
+        turn,
+        gripper,
+    };
+    simulate_by(
+        alloc,
+        gauges,
+        lines,
+        config.start,
+        config.schedule.as_slice(),
+    )
+}
+
+/// The run of a schedule, with these closures. A calibration is named only where the closure's type
+/// is a parameter.
+fn simulate_by<F1: Gauge, F2: Gauge, F3: Gauge, F4: Gauge, F5: Gauge>(
+    alloc: Global,
+    gauges: (F1, F2, F3, F4, F5),
+    lines: Lines,
+    start: State,
+    schedule: &[Turn],
+) -> Result<RunRecord, SimFault>
+    requires start { IsStartState start }
+    requires arm1 { F1.keeps gauges.0 lines.arm1 }
+    requires arm2 { F2.keeps gauges.1 lines.arm2 }
+    requires rotation { F3.keeps gauges.2 lines.rotation }
+    requires turn { F4.keeps gauges.3 lines.turn }
+    requires gripper { F5.keeps gauges.4 lines.gripper }
+    requires scales { AreCellScales (scales_of lines) }
+    ensures run { IfOk result (TellsRun (scales_of lines) start schedule.now) }
+{
+    let (arm1, arm2, rotation, turn, gripper) = gauges;
+    let cell = Cell::new(
+        &start,
+        Calibration::new(arm1, lines.arm1),
+        Calibration::new(arm2, lines.arm2),
+        Calibration::new(rotation, lines.rotation),
+        Calibration::new(turn, lines.turn),
+        Calibration::new(gripper, lines.gripper),
+    );
+    simulate(alloc, cell, start, schedule)
+}
+
+/// Whether no machine was stopped.
+fn are_fine(status: &[Status]) -> bool
+    ensures { IsTrue result ↔ AreFine status.now }
+{
+    status.iter().all(|status| matches!(status, Status::Fine))
+}
+
+/// Audits what the machines noted in a run, and writes its report. Answers the exit status.
+fn report<W: Write>(alloc: Global, run: &RunRecord, writer: &mut W) -> u8
+    requires { (c : CellScales) × (turns : List TurnOf) × TellsRun c run.now.start turns run.now }
+    ensures status { result < 2 }
+    ensures told { ReportTold result run.now (W.contents writer.old) (W.contents writer.new) }
+{
+    let audited = audit(alloc, &run.journals, &run.start, run.end.as_ref()).err();
+    match write_report(run, audited, writer) {
+        Ok(()) => status_of(is_well(run, audited)),
+        Err(_) => FAILED,
+    }
+}
+
+/// Whether no machine was stopped, and the audit found a history.
+fn is_well(run: &RunRecord, audited: Option<AuditFault>) -> bool
+    ensures { IsTrue result ↔ ((audited ≡ None) × AreFine run.now.status) }
+{
+    audited.is_none() && are_fine(&run.status)
+}
+
+/// The exit status, by whether all went well.
+fn status_of(well: bool) -> u8
+    ensures { result ≡ (if well then 0 else 1) }
+{
+    if well { 0 } else { FAILED }
+}

@@ -1,0 +1,55 @@
+//! Which words the program was started with.
+
+use super::doubles::Given;
+use cell_program::arguments::words_of;
+use std::alloc::Global;
+use std::io::ErrorKind;
+
+/// Arguments, of which the first is the program's own name, and the words that they are. Whatever the
+/// name is, `cell` stands for it.
+const WORDS: &[(&[&[u8]], &[&str])] = &[
+    (&[b"./cell", b"sim"], &["cell", "sim"]),
+    (&[b"bad\xff", b"sim"], &["cell", "sim"]),
+    (&[b"", b"sim"], &["cell", "sim"]),
+    (&[b"replay", b"sim"], &["cell", "sim"]),
+    (&[b"\xff"], &["cell"]),
+    (&[], &["cell"]),
+    (&[b"cell", b"", b"\xc3\xa9"], &["cell", "", "\u{e9}"]),
+];
+
+/// Arguments with a word behind the name that isn't UTF-8.
+const NO_TEXT: &[&[&[u8]]] = &[
+    &[b"cell", b"\xff", b"sim"],
+    &[b"cell", b"sim", b"bad\xff"],
+    &[b"cell", b"\xed\xa0\x80"],
+];
+
+/// Whether arguments are read as these words.
+fn is_read_as(alloc: Global, arguments: &[&[u8]], wanted: &[&str]) -> bool {
+    match words_of(alloc, &Given { arguments }) {
+        Ok(words) => words.iter().map(String::as_str).eq(wanted.iter().copied()),
+        Err(_) => false,
+    }
+}
+
+#[test]
+fn reads_the_words_behind_the_name(rt: HostRuntime) {
+    for (arguments, wanted) in WORDS {
+        assert!(rt; is_read_as(rt.alloc(), arguments, wanted), "{wanted:?}");
+    }
+}
+
+/// Whether arguments are refused since one of them is no text.
+fn is_refused(alloc: Global, arguments: &[&[u8]]) -> bool {
+    match words_of(alloc, &Given { arguments }) {
+        Ok(_) => false,
+        Err(error) => error.kind() == ErrorKind::InvalidData,
+    }
+}
+
+#[test]
+fn refuses_words_that_are_no_text(rt: HostRuntime) {
+    for arguments in NO_TEXT {
+        assert!(rt; is_refused(rt.alloc(), arguments), "{arguments:?}");
+    }
+}

@@ -1,0 +1,403 @@
+//! Configurations: what they give, and why they are refused.
+
+use super::doubles::read;
+use cell_calib::Points;
+use cell_config::{Config, ConfigFault};
+use cell_plant::Turn;
+use cell_rules::State;
+use cell_types::Machine;
+use std::alloc::{AllocError, Global};
+use std::process::Abort;
+use std::test::Fail;
+
+/// The points of an axis from 0 to `end`.
+fn axis(raw_lo: u16, raw_hi: u16, end: i32, tol: i32) -> Result<Points, Fail> {
+    Ok(Points::new(raw_lo, raw_hi, 0, end, tol)?)
+}
+
+/// What the fault line says of a text behind `fault`, or `well`.
+fn judged(alloc: Global, bytes: &[u8]) -> &'static str {
+    let mut reader = bytes;
+    match read(alloc, &mut reader) {
+        Ok(_) => "well",
+        Err(fault) => fault.text(),
+    }
+}
+
+/// Each text is judged so.
+fn are_judged(rt: &impl Abort, alloc: Global, rows: &[(&str, &str)]) {
+    for (text, wanted) in rows {
+        assert!(rt; judged(alloc, text.as_bytes()) == *wanted, "{text}");
+    }
+}
+
+/// Each text is judged so behind a good start.
+fn are_judged_beside_start(
+    rt: &impl Abort,
+    alloc: Global,
+    rows: &[(&str, &str)],
+) -> Result<(), AllocError> {
+    for (more, wanted) in rows {
+        let mut text = String::from_str(alloc, "start = \"0000000000\"\n")?;
+        text.push_str(more)?;
+        assert!(rt; judged(alloc, text.as_bytes()) == *wanted, "{more}");
+    }
+    Ok(())
+}
+
+const TEXTS: &[(&str, &str)] = &[
+    ("", "config missing"),
+    ("stamp = -1", "config missing"),
+    ("colour = 1", "config unknown"),
+    ("Start = \"0000000000\"", "config unknown"),
+    ("start = 5\ncolour = 1", "config unknown"),
+    ("start = 5\narm1.colour = 1", "config unknown"),
+    ("start = \"00", "config text"),
+    (
+        "start = \"0000000000\"\nstart = \"0000000000\"",
+        "config text",
+    ),
+    ("start = 5", "config kind"),
+    ("start = 5\nstamp = -1", "config kind"),
+    ("start = \"000\"", "config start"),
+    ("start = \"00000000000\"", "config start"),
+    ("start = \"000000000 \"", "config start"),
+    ("start = \"0000000002\"", "config start"),
+    ("start = \"0000110000\"", "config start"),
+    ("start = \"1111100110\"", "config start"),
+    ("start = \"000\"\nstamp = \"0\"", "config start"),
+    ("start = \"000\"\narm1 = 3", "config start"),
+    ("start = \"0000110000\"\nstamp = -1", "config range"),
+    ("start = \"0000110000\"\nstamp = \"0\"", "config kind"),
+    ("schedule = 5\nstart = \"0000110000\"", "config start"),
+];
+
+#[test]
+fn refuses_texts(rt: HostRuntime) {
+    are_judged(&rt, rt.alloc(), TEXTS);
+    assert!(rt; judged(rt.alloc(), b"\xff") == "config text");
+}
+
+const LEVELS: &[(&str, &str)] = &[
+    ("tol = 3", "config unknown"),
+    ("raw = [0, 4000]", "config unknown"),
+    ("arm1.start = \"0000000000\"", "config unknown"),
+    ("arm1.points = [[0, 0], [4000, 1000]]", "config unknown"),
+    ("gripper.tol = 11\ngripper.stamp = 1", "config unknown"),
+    ("[lift]\ntol = 5", "config unknown"),
+    ("[arm1.arm2]\ntol = 5", "config unknown"),
+    ("arm1 = 3\ntol = 3", "config unknown"),
+];
+
+#[test]
+fn refuses_keys_at_wrong_levels(rt: HostRuntime) -> Result<(), Fail> {
+    Ok(are_judged_beside_start(&rt, rt.alloc(), LEVELS)?)
+}
+
+const VALUES: &[(&str, &str)] = &[
+    ("stamp = 9223372036854775808", "config text"),
+    ("stamp = 1e400", "config text"),
+    ("stamp = 1.0", "config kind"),
+    ("stamp = true", "config kind"),
+    ("stamp = -1", "config range"),
+    ("stamp = 1048576", "config range"),
+    ("schedule = 5", "config kind"),
+    ("schedule = [\"p\"]", "config kind"),
+    ("schedule = \"x\"", "config letter"),
+    ("schedule = \"w\"", "config letter"),
+    ("schedule = \"pW\"", "config letter"),
+    ("schedule = \"p p\"", "config letter"),
+    ("schedule = \"pé\"", "config letter"),
+    ("arm1 = 3", "config kind"),
+    ("arm1 = [0, 4000]", "config kind"),
+    ("[[arm2]]\ntol = 5", "config kind"),
+    ("arm1.raw = 4000", "config kind"),
+    ("arm1.raw = []", "config kind"),
+    ("arm1.raw = [0]", "config kind"),
+    ("arm1.raw = [0, 2000, 4000]", "config kind"),
+    ("arm1.raw = [0, 4000.0]", "config kind"),
+    ("arm1.raw = [\"0\", 4000]", "config kind"),
+    ("arm1.raw = [[0, 4000]]", "config kind"),
+    ("arm1.raw = [-1, \"4000\"]", "config kind"),
+    ("arm1.raw = [0, 999]", "config range"),
+    ("arm2.raw = [3000, 3999]", "config range"),
+    ("rotation.raw = [0, 1999]", "config range"),
+    ("turn.raw = [0, 499]", "config range"),
+    ("gripper.raw = [0, 999]", "config range"),
+    ("arm1.raw = [4000, 0]", "config range"),
+    ("arm1.raw = [-1, 4000]", "config range"),
+    ("arm1.raw = [0, 65536]", "config range"),
+    (
+        "arm1.raw = [-9223372036854775808, 9223372036854775807]",
+        "config range",
+    ),
+    ("turn.tol = 11", "config range"),
+    ("turn.tol = 0", "config range"),
+    ("turn.tol = 5.0", "config kind"),
+];
+
+#[test]
+fn refuses_values(rt: HostRuntime) -> Result<(), Fail> {
+    Ok(are_judged_beside_start(&rt, rt.alloc(), VALUES)?)
+}
+
+const FIRST: &[(&str, &str)] = &[
+    ("schedule = \"x\"\nstamp = -1", "config range"),
+    ("arm1 = 3\nschedule = \"x\"", "config letter"),
+    ("arm2 = 3\narm1.tol = 11", "config range"),
+    ("arm2.tol = 11\nrotation = 3", "config range"),
+    ("rotation.tol = \"5\"\nturn.tol = 11", "config kind"),
+    ("gripper = 3\nturn.tol = 11", "config range"),
+    ("gripper.tol = 11\nturn = 3", "config kind"),
+    ("arm1.tol = \"5\"\narm1.raw = [0, 999]", "config range"),
+    ("arm1.tol = 11\narm1.raw = [0]", "config kind"),
+];
+
+#[test]
+fn names_the_first_fault(rt: HostRuntime) -> Result<(), Fail> {
+    Ok(are_judged_beside_start(&rt, rt.alloc(), FIRST)?)
+}
+
+const LIMITS: &[(&str, &str)] = &[
+    ("", "well"),
+    ("stamp = 1048575", "well"),
+    ("schedule = \"\"", "well"),
+    ("turn.raw = [0, 500]", "well"),
+    ("arm1.raw = [0, 1000]", "well"),
+    ("arm2.raw = [64535, 65535]", "well"),
+    ("rotation = { raw = [1, 2001], tol = 1 }", "well"),
+    ("[gripper]\ntol = 10", "well"),
+    ("[gripper]", "well"),
+];
+
+#[test]
+fn accepts_limits(rt: HostRuntime) -> Result<(), Fail> {
+    Ok(are_judged_beside_start(&rt, rt.alloc(), LIMITS)?)
+}
+
+// The forms of TOML 1.1, and where it ends.
+const FORMS: &[(&str, &str)] = &[
+    ("stamp = 0x_7", "config text"),
+    ("stamp = 0xF_F", "well"),
+    ("stamp = 0o17", "well"),
+    ("stamp = 0b1", "well"),
+    ("stamp = +1_000", "well"),
+    ("stamp = 01", "config text"),
+    ("\"stamp\" = 1", "well"),
+    ("'stamp' = 1", "well"),
+    ("stamp = 1\r\nschedule = 'p'", "well"),
+    ("schedule = 'ftrpdc'", "well"),
+    ("schedule = \"\"\"\nft\\\n  rp\"\"\"", "well"),
+    ("schedule = '''\nft'''", "well"),
+    ("schedule = '''f\nt'''", "config letter"),
+    ("schedule = \"\\u0070\\x70\"", "well"),
+    ("schedule = \"\\p\"", "config text"),
+    (
+        "arm1 = { raw = [\n  0, # at the near end\n  4000,\n], tol = 5 }",
+        "well",
+    ),
+    ("arm1 = {\n  raw = [0, 4000],\n  tol = 5,\n}", "well"),
+    ("arm1.raw = [0, 4000]\narm1.tol = 5", "well"),
+    ("[ arm1 ]\nraw = [0, 4000]\n[ 'arm2' ]\ntol = 5", "well"),
+    ("[arm1]\ntol = 5\n[arm1]\nraw = [0, 4000]", "config text"),
+    ("arm1 = {}\narm1.tol = 5", "config text"),
+    ("stamp = 1 schedule = \"p\"", "config text"),
+    ("stamp = 2026-11-22", "config kind"),
+    ("stamp = inf", "config kind"),
+    ("arm1.raw = [[[[0]]]]", "config kind"),
+    ("# only a comment", "well"),
+];
+
+#[test]
+fn reads_the_forms_of_toml(rt: HostRuntime) -> Result<(), Fail> {
+    Ok(are_judged_beside_start(&rt, rt.alloc(), FORMS)?)
+}
+
+/// How a value of so many arrays, one in another, is judged.
+fn judged_nested(alloc: Global, depth: usize) -> Result<&'static str, AllocError> {
+    let mut text = String::from_str(alloc, "start = \"0000000000\"\narm1.raw = ")?;
+    for _ in 0..depth {
+        text.push('[')?;
+    }
+    for _ in 0..depth {
+        text.push(']')?;
+    }
+    Ok(judged(alloc, text.as_bytes()))
+}
+
+#[test]
+fn reads_values_that_are_not_too_deep(rt: HostRuntime) -> Result<(), Fail> {
+    assert!(rt; judged_nested(rt.alloc(), 80)? == "config kind");
+    assert!(rt; judged_nested(rt.alloc(), 81)? == "config text");
+    Ok(())
+}
+
+/// Whether a text gives this configuration.
+fn is_read_as(alloc: Global, text: &str, wanted: &Config) -> bool {
+    match read(alloc, &mut text.as_bytes()) {
+        Ok(config) => config == *wanted,
+        Err(_) => false,
+    }
+}
+
+#[test]
+fn gives_defaults(rt: HostRuntime) -> Result<(), Fail> {
+    let alloc = rt.alloc();
+    let wanted = Config {
+        start: State::start([false; 10], 0)?,
+        schedule: Vec::new(alloc),
+        points: [
+            axis(0, 4000, 1000, 5)?,
+            axis(0, 4000, 1000, 5)?,
+            axis(0, 4000, 2000, 5)?,
+            axis(0, 4000, 500, 5)?,
+            axis(0, 4000, 1000, 5)?,
+        ],
+    };
+    assert!(rt; is_read_as(alloc, "start = \"0000000000\"", &wanted));
+    // A byte order mark at the head is dropped.
+    assert!(rt; is_read_as(alloc, "\u{feff}start = \"0000000000\"\n", &wanted));
+    Ok(())
+}
+
+/// The turn of a machine.
+fn turn(machine: Machine, busy: bool) -> Turn {
+    Turn { machine, busy }
+}
+
+#[test]
+fn gives_what_is_written(rt: HostRuntime) -> Result<(), Fail> {
+    let alloc = rt.alloc();
+    let text = "gripper.tol = 9\nschedule = \"pTf\"\nstamp = 7\nstart = \"0100000001\"\n\
+        [arm1]\nraw = [10, 1010]\n[arm2]\ntol = 2\n[rotation]\nraw = [0, 65535]\ntol = 3\n\
+        [turn]\ntol = 4\nraw = [100, 600]\n";
+    let full = [
+        false, true, false, false, false, false, false, false, false, true,
+    ];
+    let turns = [
+        turn(Machine::Press, false),
+        turn(Machine::Table, true),
+        turn(Machine::Feed, false),
+    ];
+    let wanted = Config {
+        start: State::start(full, 7)?,
+        schedule: turns.to_vec(alloc)?,
+        points: [
+            axis(10, 1010, 1000, 5)?,
+            axis(0, 4000, 1000, 2)?,
+            axis(0, 65535, 2000, 3)?,
+            axis(100, 600, 500, 4)?,
+            axis(0, 4000, 1000, 9)?,
+        ],
+    };
+    assert!(rt; is_read_as(alloc, text, &wanted));
+    Ok(())
+}
+
+/// The machines whose letters stand in `ftrpdc`.
+const LETTERED: &[Machine] = &[
+    Machine::Feed,
+    Machine::Table,
+    Machine::Robot,
+    Machine::Press,
+    Machine::Deposit,
+    Machine::Crane,
+];
+
+#[test]
+fn reads_letters(rt: HostRuntime) -> Result<(), Fail> {
+    let text = "start = \"0000000000\"\nschedule = \"ftrpdcFTRPDC\"";
+    let config = read(rt.alloc(), &mut text.as_bytes())?;
+    assert!(rt; config.schedule.len() == 12);
+    for (number, turn) in config.schedule.iter().enumerate() {
+        let wanted = LETTERED.get(number % 6).copied();
+        assert!(rt; Some(turn.machine) == wanted, "letter {number}");
+        assert!(rt; turn.busy == (number >= 6), "letter {number}");
+    }
+    Ok(())
+}
+
+/// How many turns a schedule of so many times the same letter gives, or its fault.
+fn count_turns(
+    alloc: Global,
+    letter: &str,
+    count: usize,
+) -> Result<Result<usize, ConfigFault>, AllocError> {
+    let mut text = String::from_str(alloc, "start = \"0000000000\"\nschedule = \"")?;
+    for _ in 0..count {
+        text.push_str(letter)?;
+    }
+    text.push('"')?;
+    match read(alloc, &mut text.as_bytes()) {
+        Ok(config) => Ok(Ok(config.schedule.len())),
+        Err(fault) => Ok(Err(fault)),
+    }
+}
+
+#[test]
+fn counts_letters(rt: HostRuntime) -> Result<(), Fail> {
+    let alloc = rt.alloc();
+    assert!(rt; count_turns(alloc, "p", 1_000_000)? == Ok(1_000_000));
+    assert!(rt; count_turns(alloc, "p", 1_000_001)? == Err(ConfigFault::Range));
+    assert!(rt; count_turns(alloc, "x", 1_000_001)? == Err(ConfigFault::Range));
+    // Characters of two bytes each.
+    assert!(rt; count_turns(alloc, "é", 1_000_000)? == Err(ConfigFault::Letter));
+    assert!(rt; count_turns(alloc, "é", 1_000_001)? == Err(ConfigFault::Range));
+    Ok(())
+}
+
+#[test]
+fn reads_no_more_than_it_may(rt: HostRuntime) -> Result<(), Fail> {
+    let alloc = rt.alloc();
+    let mut text = String::from_str(alloc, "start = \"0000000000\"\n")?;
+    for _ in 0..2_097_131u32 {
+        text.push(' ')?;
+    }
+    assert!(rt; text.len() == 2_097_152);
+    assert!(rt; judged(alloc, text.as_bytes()) == "well");
+    text.push(' ')?;
+    assert!(rt; judged(alloc, text.as_bytes()) == "config long");
+    text.push_str("behind")?;
+    let mut reader = text.as_bytes();
+    let fault = read(alloc, &mut reader).err();
+    assert!(rt; fault == Some(ConfigFault::Long));
+    assert!(rt; reader == b"behind".as_slice());
+    Ok(())
+}
+
+#[test]
+fn reads_without_memory(rt: HostRuntime) {
+    let text = "start = \"0100000000\"\nstamp = 3\nschedule = \"pP\"\narm1.tol = 2\n";
+    match read(rt.alloc(), &mut text.as_bytes()) {
+        Ok(config) => {
+            assert!(rt; config.start.stamp() == 3);
+            assert!(rt; config.start.plates() == 1);
+            assert!(rt; config.schedule.len() == 2);
+            assert!(rt; config.points[0].tol() == 2);
+        }
+        Err(fault) => assert!(rt; fault == ConfigFault::Memory),
+    }
+    let other = judged(rt.alloc(), b"start = \"0100000000\"\nschedule = \"pPx\"\n");
+    assert!(rt; other == "config letter" || other == "memory");
+}
+
+const FAULTS: &[(ConfigFault, &str)] = &[
+    (ConfigFault::Read, "read"),
+    (ConfigFault::Long, "config long"),
+    (ConfigFault::Text, "config text"),
+    (ConfigFault::Unknown, "config unknown"),
+    (ConfigFault::Missing, "config missing"),
+    (ConfigFault::Kind, "config kind"),
+    (ConfigFault::Start, "config start"),
+    (ConfigFault::Range, "config range"),
+    (ConfigFault::Letter, "config letter"),
+    (ConfigFault::Memory, "memory"),
+];
+
+#[test]
+fn prints_faults(rt: HostRuntime) -> Result<(), Fail> {
+    for (fault, text) in FAULTS {
+        assert!(rt; fault.to_string(rt.alloc())?.as_str() == *text);
+    }
+    Ok(())
+}

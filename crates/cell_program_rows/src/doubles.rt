@@ -1,0 +1,168 @@
+//! The calls of the rows, and what they are made with: readers and writers that fail or are interrupted,
+//! and an environment with given arguments.
+
+use cell_config::{Config, ConfigFault, read_config};
+use cell_program::serve::serve;
+use std::alloc::Global;
+use std::env::{Env, FillError};
+use std::io;
+use std::io::{ErrorKind, Read, Write};
+
+/// The exit status of a run of the program. It has no clauses, so that no row carries those of `serve`.
+pub fn run<R: Read, W: Write>(alloc: Global, words: &[&str], reader: &mut R, writer: &mut W) -> u8 {
+    serve(alloc, words, reader, writer)
+}
+
+/// Whether the program answers these words and this input with this status and this text.
+pub fn is_served(alloc: Global, words: &[&str], input: &str, status: u8, text: &str) -> bool {
+    let mut written = Vec::new(alloc);
+    let answered = run(alloc, words, &mut input.as_bytes(), &mut written);
+    answered == status && written.as_slice() == text.as_bytes()
+}
+
+/// The configuration that a reader gives, or its first fault, likewise without clauses.
+pub fn read<R: Read>(alloc: Global, reader: &mut R) -> Result<Config, ConfigFault> {
+    read_config(alloc, reader)
+}
+
+/// Gives so many bytes of a text, one at a time, and then fails.
+#[derive(Drop)]
+pub struct FailingReader<'a> {
+    pub bytes: &'a [u8],
+    pub left: usize,
+}
+
+impl Read for FailingReader<'_> {
+    fn read(&mut self, buf: &mut [u8]) -> io::Result<usize> {
+        if self.left == 0 {
+            return Err(io::Error::from(ErrorKind::Other));
+        }
+        if buf.is_empty() {
+            return Ok(0);
+        }
+        match self.bytes.split_first() {
+            None => Ok(0),
+            Some((first, rest)) => {
+                buf[0] = *first;
+                self.bytes = rest;
+                self.left -= 1;
+                Ok(1)
+            }
+        }
+    }
+}
+
+/// Gives a text, at most seven bytes at a time, and is interrupted before each part and before the end.
+#[derive(Drop)]
+pub struct InterruptedReader<'a> {
+    pub bytes: &'a [u8],
+    pub is_ready: bool,
+}
+
+impl Read for InterruptedReader<'_> {
+    fn read(&mut self, buf: &mut [u8]) -> io::Result<usize> {
+        self.is_ready = !self.is_ready;
+        if self.is_ready {
+            return Err(io::Error::from(ErrorKind::Interrupted));
+        }
+        let count = buf.len().min(self.bytes.len()).min(7);
+        let (part, rest) = self.bytes.split_at(count);
+        buf[..count].copy_from_slice(part);
+        self.bytes = rest;
+        Ok(count)
+    }
+}
+
+/// Takes so many bytes, at most three at a time, and then fails, or takes none.
+#[derive(Drop)]
+pub struct FailingWriter {
+    pub taken: Vec<u8>,
+    pub left: usize,
+    pub is_full: bool,
+}
+
+impl Write for FailingWriter {
+    fn write(&mut self, buf: &[u8]) -> io::Result<usize> {
+        if self.left == 0 {
+            if self.is_full {
+                return Ok(0);
+            }
+            return Err(io::Error::from(ErrorKind::Other));
+        }
+        let count = buf.len().min(self.left).min(3);
+        self.taken.extend_from_slice(&buf[..count])?;
+        self.left -= count;
+        Ok(count)
+    }
+
+    fn flush(&mut self) -> io::Result<()> {
+        Ok(())
+    }
+}
+
+/// Takes all bytes, at most seven at a time, and is interrupted before each part.
+#[derive(Drop)]
+pub struct InterruptedWriter {
+    pub taken: Vec<u8>,
+    pub is_ready: bool,
+}
+
+impl Write for InterruptedWriter {
+    fn write(&mut self, buf: &[u8]) -> io::Result<usize> {
+        self.is_ready = !self.is_ready;
+        if self.is_ready {
+            return Err(io::Error::from(ErrorKind::Interrupted));
+        }
+        let count = buf.len().min(7);
+        self.taken.extend_from_slice(&buf[..count])?;
+        Ok(count)
+    }
+
+    fn flush(&mut self) -> io::Result<()> {
+        Ok(())
+    }
+}
+
+/// Takes all bytes, and fails when it is to hand them on.
+#[derive(Drop)]
+pub struct UnflushedWriter {
+    pub taken: Vec<u8>,
+}
+
+impl Write for UnflushedWriter {
+    fn write(&mut self, buf: &[u8]) -> io::Result<usize> {
+        self.taken.extend_from_slice(buf)?;
+        Ok(buf.len())
+    }
+
+    fn flush(&mut self) -> io::Result<()> {
+        Err(io::Error::from(ErrorKind::Other))
+    }
+}
+
+/// An environment with these arguments, of which the first is the program's own name.
+#[derive(Clone, Copy)]
+pub struct Given<'a> {
+    pub arguments: &'a [&'a [u8]],
+}
+
+impl Env for Given<'_> {
+    fn arg(&self, i: usize, buf: &mut [u8]) -> Result<usize, FillError> {
+        let Some(argument) = self.arguments.get(i) else {
+            return Err(FillError::NotPresent);
+        };
+        if argument.len() > buf.len() {
+            return Err(FillError::TooLong);
+        }
+        buf[..argument.len()].copy_from_slice(argument);
+        Ok(argument.len())
+    }
+
+    fn var(&self, _name: &str, _buf: &mut [u8]) -> Result<usize, FillError> {
+        Err(FillError::NotPresent)
+    }
+
+    fn var_at(&self, _i: usize, _buf: &mut [u8]) -> Result<usize, FillError> {
+        Err(FillError::NotPresent)
+    }
+}

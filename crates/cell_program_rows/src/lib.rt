@@ -1,0 +1,18 @@
+//! Rows of the program: what it answers and writes, with expectations that were worked out by hand from
+//! the rules of the cell and from its formats. They use public calls alone.
+#![tactic(auto)]
+
+#[cfg(test)]
+mod arguments;
+#[cfg(test)]
+mod configurations;
+#[cfg(test)]
+mod doubles;
+#[cfg(test)]
+mod reports;
+#[cfg(test)]
+mod served;
+#[cfg(test)]
+mod simulations;
+#[cfg(test)]
+mod streams;
