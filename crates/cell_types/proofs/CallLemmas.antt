@@ -1,63 +1,41 @@
--- A call's words are those of no other call.
-use Rattle.std.proofs.Common.{ℕ, ◌≡◌, List, [], ◌∷◌, ◌++◌, map, Option, Some, refl, sym, ◌∙◌, ap, ◌↔◌}
-use Rattle.std.specs.List.{find}
+-- The calls that name a zone are told apart by their verbs.
+use Rattle.std.proofs.Common.{ℕ, ◌≡◌, List, [], ◌∷◌, Option, Some, refl, sym, ◌∙◌, ap, ◌↔◌, codes}
 use Rattle.std.specs.Str.{bytes_eq}
-use Rattle.std.proofs.lemmas.Option.{same_Some}
-use Rattle.std.specs.Cmp.Lexicographic.{pointwise}
+use Rattle.std.specs.List.{find}
 use Rattle.cell_types.specs.declared.zone.Zone.{Zone}
-use Rattle.cell_types.specs.declared.zone.Zone.TheVariants.{Z1, Z2, Z3, Z4, Z5, Z6}
-use Rattle.cell_types.specs.declared.pose.Pose.{Pose}
-use Rattle.cell_types.specs.declared.pose.Pose.TheVariants.{Turning, Loading, Unloading, Travelling, Middle, Low, Top, Running, Landing, Halted, Offering, Standing}
 use Rattle.cell_types.specs.declared.call.Call.{Call}
 use Rattle.cell_types.specs.declared.call.Call.TheVariants.{Claim, Give, Yield, Take, Release, SetPose, Advance, Inquire}
-use Rattle.cell_types.specs.CallWords.{call_fields}
-use Rattle.cell_types.specs.Everything.{all_poses, all_zones}
+use Rattle.cell_types.specs.CallWords.{call_fields, verb_of}
+use Rattle.cell_types.specs.Words.{zone_word}
+use Rattle.cell_types.proofs.WordLemmas.{has_word, holds_of_found, named, same_zone}
 
-calls : List Call
-calls = map Claim all_zones ++ map Give all_zones ++ map Yield all_zones ++ map Take all_zones ++ map Release all_zones ++ map SetPose all_poses ++ map Inquire all_zones ++ Advance ∷ []
+-- the calls that name this zone
+abbrev pub zone_calls : Zone → List Call
+zone_calls z = Claim z ∷ Give z ∷ Yield z ∷ Take z ∷ Release z ∷ Inquire z ∷ []
 
--- the call of these words
-call_of : List (List ℕ) → Option Call
-call_of fields = find (λ call. pointwise bytes_eq (call_fields call) fields) calls
+told : (zone : Zone) (verb : List ℕ) (call : Call) → named verb_of (zone_calls zone) verb ≡ Some call → verb ∷ zone_word zone ∷ [] ≡ call_fields call
+told zone verb call e =
+    let fields : call_fields call ≡ verb_of call ∷ zone_word zone ∷ [] =
+    holds_of_found (λ c. call_fields c ≡ verb_of c ∷ zone_word zone ∷ []) (λ c. bytes_eq (verb_of c) verb) (zone_calls zone) (refl, (refl, (refl, (refl, (refl, (refl, tt)))))) call e in
+    ap (λ v. v ∷ zone_word zone ∷ []) (has_word verb_of (zone_calls zone) verb call e) ∙ sym fields
 
-found_at : (make : Zone → Call) → call_of (call_fields (make Z1)) ≡ Some (make Z1) → call_of (call_fields (make Z2)) ≡ Some (make Z2) → call_of (call_fields (make Z3)) ≡ Some (make Z3)
-    → call_of (call_fields (make Z4)) ≡ Some (make Z4) → call_of (call_fields (make Z5)) ≡ Some (make Z5) → call_of (call_fields (make Z6)) ≡ Some (make Z6) → (z : Zone) → call_of (call_fields (make z)) ≡ Some (make z)
-found_at make a b c d e f Z1 = a
-found_at make a b c d e f Z2 = b
-found_at make a b c d e f Z3 = c
-found_at make a b c d e f Z4 = d
-found_at make a b c d e f Z5 = e
-found_at make a b c d e f Z6 = f
+found : (make : Zone → Call) (zone z : Zone) (verb : List ℕ) → named verb_of (zone_calls zone) (verb_of (make zone)) ≡ Some (make zone) → verb ∷ zone_word zone ∷ [] ≡ verb_of (make zone) ∷ zone_word z ∷ []
+    → named verb_of (zone_calls zone) verb ≡ Some (make z)
+found make zone z verb each e =
+    let is : verb ≡ verb_of (make zone) = cc in
+    let word : zone_word zone ≡ zone_word z = cc in
+    ap (named verb_of (zone_calls zone)) is ∙ each ∙ ap (λ a. Some (make a)) (same_zone zone z word)
 
-posed : (p : Pose) → call_of (call_fields (SetPose p)) ≡ Some (SetPose p)
-unfolding call_of calls
-posed Turning = refl
-posed Loading = refl
-posed Unloading = refl
-posed Travelling = refl
-posed Middle = refl
-posed Low = refl
-posed Top = refl
-posed Running = refl
-posed Landing = refl
-posed Halted = refl
-posed Offering = refl
-posed Standing = refl
+written : (zone : Zone) (verb : List ℕ) → (verb ≡ codes "pose" → ⊥) → (call : Call) → verb ∷ zone_word zone ∷ [] ≡ call_fields call → named verb_of (zone_calls zone) verb ≡ Some call
+written zone verb other (Claim z) e = found Claim zone z verb refl e
+written zone verb other (Give z) e = found Give zone z verb refl e
+written zone verb other (Yield z) e = found Yield zone z verb refl e
+written zone verb other (Take z) e = found Take zone z verb refl e
+written zone verb other (Release z) e = found Release zone z verb refl e
+written zone verb other (SetPose p) e = let pose : verb ≡ codes "pose" = cc in absurd (other pose)
+written zone verb other Advance e = cc
+written zone verb other (Inquire z) e = found Inquire zone z verb refl e
 
-found : (call : Call) → call_of (call_fields call) ≡ Some call
-unfolding call_of calls
-found (Claim z) = found_at Claim refl refl refl refl refl refl z
-found (Give z) = found_at Give refl refl refl refl refl refl z
-found (Yield z) = found_at Yield refl refl refl refl refl refl z
-found (Take z) = found_at Take refl refl refl refl refl refl z
-found (Release z) = found_at Release refl refl refl refl refl refl z
-found (SetPose p) = posed p
-found Advance = refl
-found (Inquire z) = found_at Inquire refl refl refl refl refl refl z
-
-pub same_call : (a b : Call) → call_fields a ≡ call_fields b → a ≡ b
-same_call a b e = same_Some a b (sym (found a) ∙ ap call_of e ∙ found b)
-
--- words of a call are read as it
-pub call_read : (fields : List (List ℕ)) (a : Call) → fields ≡ call_fields a → (b : Call) → (Some a ≡ Some b) ↔ (fields ≡ call_fields b)
-call_read fields a is b = (λ e. is ∙ ap call_fields (same_Some a b e), λ e. ap Some (same_call a b (sym is ∙ e)))
+-- among the calls of a zone, verbs and calls belong together
+pub zone_call_read : (zone : Zone) (verb : List ℕ) → (verb ≡ codes "pose" → ⊥) → (call : Call) → (named verb_of (zone_calls zone) verb ≡ Some call) ↔ (verb ∷ zone_word zone ∷ [] ≡ call_fields call)
+zone_call_read zone verb other call = (told zone verb call, written zone verb other call)

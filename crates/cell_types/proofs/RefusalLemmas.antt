@@ -1,9 +1,5 @@
 -- A refusal's word is that of no other refusal.
-use Rattle.std.proofs.Common.{ℕ, ◌≡◌, Bool, true, false, cond, List, [], ◌∷◌, ◌++◌, map, Option, Some, None, refl, sym, ◌∙◌, ap, ◌↔◌}
-use Rattle.std.specs.List.{find}
-use Rattle.std.specs.Str.{bytes_eq}
-use Rattle.std.proofs.lemmas.Option.{same_Some}
-use Rattle.std.proofs.lemmas.Slice.Eq.{bytes_eq-Decides}
+use Rattle.std.proofs.Common.{ℕ, ◌≡◌, List, [], ◌∷◌, ◌++◌, map, Some, None, refl, ◌↔◌}
 use Rattle.cell_types.specs.declared.machine.Machine.TheVariants.{Feed, Table as TableMachine, Robot, Press, Deposit, Crane as CraneMachine, Watch}
 use Rattle.cell_types.specs.declared.posture.Posture.TheVariants.{Closed, Moving, OpenIn, OpenOut}
 use Rattle.cell_types.specs.declared.zone.Zone.TheVariants.{Z1, Z2, Z3, Z4, Z5, Z6}
@@ -11,17 +7,14 @@ use Rattle.cell_types.specs.declared.answer.Refusal.{Refusal}
 use Rattle.cell_types.specs.declared.answer.Refusal.TheVariants.{NotParty, Held, AlreadyMine, Shut, NotOwner, PlateInZone, NoPlate, PlaceFull, WrongWay, Jump, NotAtWork, NoPose, Worn, InUse}
 use Rattle.cell_types.specs.Answers.{refusal_word}
 use Rattle.cell_types.specs.Everything.{all_machines, all_postures, all_zones}
+use Rattle.cell_types.proofs.WordLemmas.{named, read_by}
 
 abbrev pub refusals : List Refusal
 refusals =
     NotParty ∷ map Held all_machines ++ AlreadyMine ∷ map Shut all_postures ++ NotOwner None ∷ map (λ m. NotOwner (Some m)) all_machines
     ++ map PlateInZone all_zones ++ NoPlate ∷ PlaceFull ∷ WrongWay ∷ Jump ∷ NotAtWork ∷ NoPose ∷ Worn ∷ InUse ∷ []
 
--- the refusal of a text
-abbrev pub refusal_of : List ℕ → Option Refusal
-refusal_of word = find (λ refusal. bytes_eq (refusal_word refusal) word) refusals
-
-found : (r : Refusal) → refusal_of (refusal_word r) ≡ Some r
+found : (r : Refusal) → named refusal_word refusals (refusal_word r) ≡ Some r
 found NotParty = refl
 found (Held Feed) = refl
 found (Held TableMachine) = refl
@@ -58,16 +51,5 @@ found NoPose = refl
 found Worn = refl
 found InUse = refl
 
-passes : {X : Type 0} (p : X → Bool) (xs : List X) (x : X) → find p xs ≡ Some x → p x ≡ true
-passes p [] x e = cc
-passes p (y ∷ ys) x e =
-    elim (p y) as (λ b. p y ≡ b → cond b (Some y) (find p ys) ≡ Some x → p x ≡ true) [
-      | true ↦ λ here is. let same : y ≡ x = same_Some y x is in cc
-      | false ↦ λ _ is. passes p ys x is
-    ] refl e
-
-pub refusal_read : (word : List ℕ) (r : Refusal) → (refusal_of word ≡ Some r) ↔ (word ≡ refusal_word r)
-refusal_read word r = (
-  λ e. sym ((bytes_eq-Decides (refusal_word r) word).0 (passes (λ refusal. bytes_eq (refusal_word refusal) word) refusals r e)),
-  λ e. ap refusal_of e ∙ found r,
-)
+pub refusal_read : (word : List ℕ) (r : Refusal) → (named refusal_word refusals word ≡ Some r) ↔ (word ≡ refusal_word r)
+refusal_read = read_by refusal_word refusals found

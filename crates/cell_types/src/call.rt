@@ -61,13 +61,16 @@ fn read_with(verb: &[u8], object: &[u8]) -> Option<Call>
         return Pose::read(object).map(Call::SetPose);
     }
     let zone = Zone::read(object)?;
-    match verb {
-        b"claim" => Some(Call::Claim(zone)),
-        b"give" => Some(Call::Give(zone)),
-        b"yield" => Some(Call::Yield(zone)),
-        b"take" => Some(Call::Take(zone)),
-        b"release" => Some(Call::Release(zone)),
-        b"inquire" => Some(Call::Inquire(zone)),
-        _ => None,
-    }
+    let calls = [
+        Call::Claim(zone),
+        Call::Give(zone),
+        Call::Yield(zone),
+        Call::Take(zone),
+        Call::Release(zone),
+        Call::Inquire(zone),
+    ];
+    calls
+        .iter()
+        .copied()
+        .find(|call| call.verb().as_bytes() == verb)
 }

@@ -51,15 +51,9 @@ impl Machine {
     pub fn read(word: &[u8]) -> Option<Machine>
         ensures { (machine : Machine) → (result ≡ Some machine) ↔ (word.now ≡ machine_word machine) }
     {
-        match word {
-            b"feed" => Some(Machine::Feed),
-            b"table" => Some(Machine::Table),
-            b"robot" => Some(Machine::Robot),
-            b"press" => Some(Machine::Press),
-            b"deposit" => Some(Machine::Deposit),
-            b"crane" => Some(Machine::Crane),
-            b"watch" => Some(Machine::Watch),
-            _ => None,
-        }
+        Machine::ALL
+            .iter()
+            .copied()
+            .find(|machine| machine.word().as_bytes() == word)
     }
 }

@@ -63,18 +63,9 @@ impl Place {
     pub fn read(word: &[u8]) -> Option<Place>
         ensures { (place : Place) → (result ≡ Some place) ↔ (word.now ≡ place_word place) }
     {
-        match word {
-            b"p1" => Some(Place::FeedEntry),
-            b"p2" => Some(Place::FeedEnd),
-            b"p3" => Some(Place::Table),
-            b"p4" => Some(Place::Arm1),
-            b"p5" => Some(Place::PressIn),
-            b"p6" => Some(Place::PressOut),
-            b"p7" => Some(Place::Arm2),
-            b"p8" => Some(Place::DepEntry),
-            b"p9" => Some(Place::DepEnd),
-            b"p10" => Some(Place::Crane),
-            _ => None,
-        }
+        Place::ALL
+            .iter()
+            .copied()
+            .find(|place| place.word().as_bytes() == word)
     }
 }

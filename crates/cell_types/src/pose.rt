@@ -71,20 +71,9 @@ impl Pose {
     pub fn read(word: &[u8]) -> Option<Pose>
         ensures { (pose : Pose) → (result ≡ Some pose) ↔ (word.now ≡ pose_word pose) }
     {
-        match word {
-            b"turning" => Some(Pose::Turning),
-            b"loading" => Some(Pose::Loading),
-            b"unloading" => Some(Pose::Unloading),
-            b"travelling" => Some(Pose::Travelling),
-            b"middle" => Some(Pose::Middle),
-            b"low" => Some(Pose::Low),
-            b"top" => Some(Pose::Top),
-            b"running" => Some(Pose::Running),
-            b"landing" => Some(Pose::Landing),
-            b"halted" => Some(Pose::Halted),
-            b"offering" => Some(Pose::Offering),
-            b"standing" => Some(Pose::Standing),
-            _ => None,
-        }
+        Pose::ALL
+            .iter()
+            .copied()
+            .find(|pose| pose.word().as_bytes() == word)
     }
 }

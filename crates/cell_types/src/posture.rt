@@ -39,12 +39,9 @@ impl Posture {
     pub fn read(word: &[u8]) -> Option<Posture>
         ensures { (posture : Posture) → (result ≡ Some posture) ↔ (word.now ≡ posture_word posture) }
     {
-        match word {
-            b"closed" => Some(Posture::Closed),
-            b"moving" => Some(Posture::Moving),
-            b"openin" => Some(Posture::OpenIn),
-            b"openout" => Some(Posture::OpenOut),
-            _ => None,
-        }
+        Posture::ALL
+            .iter()
+            .copied()
+            .find(|posture| posture.word().as_bytes() == word)
     }
 }

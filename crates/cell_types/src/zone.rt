@@ -43,15 +43,10 @@ impl Zone {
     pub fn read(word: &[u8]) -> Option<Zone>
         ensures { (zone : Zone) → (result ≡ Some zone) ↔ (word.now ≡ zone_word zone) }
     {
-        match word {
-            b"z1" => Some(Zone::Z1),
-            b"z2" => Some(Zone::Z2),
-            b"z3" => Some(Zone::Z3),
-            b"z4" => Some(Zone::Z4),
-            b"z5" => Some(Zone::Z5),
-            b"z6" => Some(Zone::Z6),
-            _ => None,
-        }
+        Zone::ALL
+            .iter()
+            .copied()
+            .find(|zone| zone.word().as_bytes() == word)
     }
 }
 
