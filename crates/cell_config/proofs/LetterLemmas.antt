@@ -4,7 +4,7 @@ use Rattle.std.specs.List.{filter_map, list_all, cons_option}
 use Rattle.std.specs.Str.{chars}
 use Rattle.std.proofs.lemmas.List.Elements.{filter_map-append}
 use Rattle.std.proofs.lemmas.List.Folds.{list_all-append, list_all_at}
-use Rattle.cell_plant.specs.declared.schedule.Turn.{Turn}
+use Rattle.cell_notes.specs.declared.schedule.Turn.{Turn}
 use Rattle.cell_config.specs.Letters.{is_letter, most_letters, turn_of, turns_of}
 use Rattle.cell_config.specs.declared.fault.ConfigFault.TheVariants.{Range, Letter}
 

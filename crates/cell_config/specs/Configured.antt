@@ -1,7 +1,7 @@
 -- What reading a configuration answers.
 use Rattle.std.specs.Prelude.{◌≡◌, ℕ, List, [], ◌∷◌, Result, Ok, Err, ⊤}
 use Rattle.cell_calib.specs.Scale.{Scale}
-use Rattle.cell_plant.specs.Axes.{AreCellScales, CellScales}
+use Rattle.cell_parts.specs.Axes.{AreCellScales, CellScales}
 use Rattle.cell_config.specs.Settings.{Settings, settings_of}
 use Rattle.cell_config.specs.declared.configuration.Config.{Config}
 use Rattle.cell_config.specs.declared.fault.ConfigFault.{ConfigFault}

@@ -7,9 +7,9 @@ use Rattle.toml.specs.Parse.{parse_document}
 use Rattle.cell_rules.specs.ModelState.{ModelState, last_stamp}
 use Rattle.cell_rules.specs.Start.{places_of, start_state}
 use Rattle.cell_calib.specs.Scale.{Scale}
-use Rattle.cell_plant.specs.Axes.{arm_end, rotation_end, turn_end, gripper_end}
-use Rattle.cell_plant.specs.declared.schedule.Turn.{Turn}
-use Rattle.cell_report.specs.Script.{is_start, places_in}
+use Rattle.cell_parts.specs.Axes.{arm_end, rotation_end, turn_end, gripper_end}
+use Rattle.cell_notes.specs.declared.schedule.Turn.{Turn}
+use Rattle.cell_rules.specs.StartDigits.{is_start, places_in}
 use Rattle.cell_config.specs.Steps.{◌>>=◌, at_key, demand, of_kind, required}
 use Rattle.cell_config.specs.Keys.{is_known}
 use Rattle.cell_config.specs.Letters.{turns_of}

@@ -3,7 +3,7 @@
 
 ghost use Rattle.std.specs.Prelude.{◌≡◌, ◌≢◌, ◌≤◌, Ok, Err, length, IfOk, IfSome, MatchResult};
 ghost use Rattle.toml.specs.View.{table_view};
-ghost use Rattle.cell_report.specs.Input.{TakesAtMost};
+ghost use Rattle.cell_text.specs.Input.{TakesAtMost};
 ghost use Rattle.cell_rules.specs.Start.{IsStartState};
 ghost use Rattle.cell_config.specs.Configured.{AreAxisScales, Says, shown};
 ghost use Rattle.cell_config.specs.Settings.{most_bytes_read, settings_in, settings_of};
@@ -15,9 +15,9 @@ use crate::schedules::schedule_at;
 use crate::sections::points_at;
 use crate::starts::start_at;
 use cell_calib::Points;
-use cell_plant::Turn;
-use cell_report::input::{InputFault, read_up_to};
+use cell_notes::Turn;
 use cell_rules::State;
+use cell_text::{InputFault, read_up_to};
 use std::alloc::Global;
 use std::io::Read;
 use toml::Table;

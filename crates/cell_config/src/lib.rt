@@ -5,7 +5,6 @@
 pub mod configuration;
 pub mod fault;
 mod keys;
-mod places;
 mod schedules;
 mod sections;
 mod starts;

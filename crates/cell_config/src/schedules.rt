@@ -8,7 +8,7 @@ ghost use Rattle.cell_config.specs.declared.fault.ConfigFault.TheVariants.{Memor
 
 use crate::fault::ConfigFault;
 use crate::values::value_at;
-use cell_plant::Turn;
+use cell_notes::Turn;
 use cell_types::Machine;
 use std::alloc::Global;
 use toml::Table;

@@ -2,7 +2,7 @@
 
 ghost use Rattle.std.specs.Prelude.{◌≡◌, ◌≤◌, pos, ◌-ℤ◌, ◌≤ℤ◌, IfOk};
 ghost use Rattle.toml.specs.View.{table_view, view};
-ghost use Rattle.cell_plant.specs.Axes.{IsAxisScale};
+ghost use Rattle.cell_parts.specs.Axes.{IsAxisScale};
 ghost use Rattle.cell_config.specs.Configured.{AreAxisScales};
 ghost use Rattle.cell_config.specs.Settings as settings;
 

@@ -6,9 +6,8 @@ ghost use Rattle.cell_rules.specs.Start.{IsStartState};
 ghost use Rattle.cell_config.specs.Settings as settings;
 
 use crate::fault::ConfigFault;
-use crate::places::{PLACES, read_places};
 use crate::values::{number_at, value_at};
-use cell_rules::State;
+use cell_rules::{PLACES, State, read_places};
 use toml::Table;
 
 /// The last stamp.

@@ -1,16 +1,19 @@
-//! What is kept of a run: each machine's counts and journal, and how the machines fare at its end.
+//! What goes into a run and what is kept of it: the turns of a schedule, each machine's counts and journal, and how
+//! the machines fare at its end.
 #![tactic(auto)]
 
 pub mod asked;
 pub mod counts;
 pub mod notebook;
 pub mod run_record;
+pub mod schedule;
 pub mod status;
 
 pub use asked::{Asked, asked_between, done_event};
 pub use counts::Counts;
 pub use notebook::Notebook;
 pub use run_record::RunRecord;
+pub use schedule::Turn;
 pub use status::Status;
 
 #[cfg(test)]

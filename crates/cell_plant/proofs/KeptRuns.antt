@@ -11,7 +11,7 @@ use Rattle.cell_rules.proofs.Soundness.{next_keeps}
 use Rattle.cell_seat.proofs.Running.{none_runs}
 use Rattle.cell_seat.proofs.Keeping.{Keeping, Changes, takes_keeps, takes_changes, others_keep, by_call}
 use Rattle.cell_parts.specs.Axes.{CellScales}
-use Rattle.cell_plant.specs.declared.schedule.Turn.{Turn}
+use Rattle.cell_notes.specs.declared.schedule.Turn.{Turn}
 use Rattle.cell_plant.specs.Machines.{ProgressOf, PartOf, steps_of, rig_of, has_controller}
 use Rattle.cell_plant.specs.CellStates.{SideOf, CellState}
 use Rattle.cell_plant.specs.Runs.{Step, TakesTurn, LeadsIf, goes_on, IsRun}

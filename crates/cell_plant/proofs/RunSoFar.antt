@@ -28,7 +28,7 @@ use Rattle.cell_notes.specs.Notes.{Notes, no_notes, HasRoom, counts_with, notes_
 use Rattle.cell_seat.specs.Fares.{status_of}
 use Rattle.cell_seat.specs.SeatTurns.{Answers}
 use Rattle.cell_parts.specs.Axes.{CellScales, AreCellScales}
-use Rattle.cell_plant.specs.declared.schedule.Turn.{Turn}
+use Rattle.cell_notes.specs.declared.schedule.Turn.{Turn}
 use Rattle.cell_plant.specs.Machines.{steps_of, rig_of}
 use Rattle.cell_plant.specs.CellStates.{CellState, plant_of, side_in, cell_at_start}
 use Rattle.cell_plant.specs.Runs.{Step, TakesTurn, IsPassedOver, LeadsIf, Leads, goes_on, IsRun, end_of}

@@ -27,7 +27,7 @@ use Rattle.cell_parts.specs.PositionDemands.{PositionDemands}
 use Rattle.cell_parts.specs.MotorDemands.{GripperErrand, ForTravel, MotorDemands}
 use Rattle.cell_parts.specs.Laws.{AllDemandsMet}
 use Rattle.cell_parts.proofs.NoCollision.{nothing_collides}
-use Rattle.cell_plant.specs.declared.schedule.Turn.{Turn}
+use Rattle.cell_notes.specs.declared.schedule.Turn.{Turn}
 use Rattle.cell_plant.specs.Machines.{steps_of, rig_of}
 use Rattle.cell_plant.specs.CellStates.{CellState, plant_of, cell_at_start}
 use Rattle.cell_plant.specs.Runs.{Step, TakesTurn, IsPassedOver, LeadsIf, Leads, goes_on, IsRun}

@@ -29,7 +29,7 @@ use Rattle.cell_parts.specs.Rigs.{press_rig, table_rig}
 use Rattle.cell_seat.specs.Sides.{Side}
 use Rattle.cell_seat.specs.declared.fault.SimFault.{SimFault}
 use Rattle.cell_seat.specs.SeatTurns.{SeatTurn, Untouched, Leads as LeadsAlone}
-use Rattle.cell_plant.specs.declared.schedule.Turn.{Turn}
+use Rattle.cell_notes.specs.declared.schedule.Turn.{Turn}
 use Rattle.cell_plant.specs.Machines.{steps_of, rig_of, has_controller}
 use Rattle.cell_plant.specs.CellStates.{SideOf, CellState, Sides, side_in, sides_at_start}
 use Rattle.cell_plant.specs.Runs.{Step, LeadsIf}

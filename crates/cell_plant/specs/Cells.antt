@@ -7,7 +7,7 @@ use Rattle.cell_notes.specs.declared.run_record.RunRecord.{RunRecord}
 use Rattle.cell_seat.specs.Sides.{side_of}
 use Rattle.cell_parts.specs.Axes.{CellScales}
 use Rattle.cell_plant.specs.declared.cell.Cell.{Cell}
-use Rattle.cell_plant.specs.declared.schedule.Turn.{Turn}
+use Rattle.cell_notes.specs.declared.schedule.Turn.{Turn}
 use Rattle.cell_plant.specs.CellStates.{Sides, sides_at_start, cell_at_start}
 use Rattle.cell_plant.specs.Records.{IsRecordOf, events_in}
 use Rattle.cell_plant.specs.Runs.{Step, IsRun, end_of}

@@ -12,7 +12,7 @@ use Rattle.cell_notes.specs.Asks.{settled_in}
 use Rattle.cell_notes.specs.Notes.{Notes, no_notes, notes_with}
 use Rattle.cell_seat.specs.Fares.{status_of}
 use Rattle.cell_parts.specs.Axes.{CellScales}
-use Rattle.cell_plant.specs.declared.schedule.Turn.{Turn}
+use Rattle.cell_notes.specs.declared.schedule.Turn.{Turn}
 use Rattle.cell_plant.specs.CellStates.{CellState, Sides, side_in, sides_at_start, plant_of}
 use Rattle.cell_plant.specs.Records.{positions_in}
 use Rattle.cell_plant.specs.Runs.{Step, Leads}

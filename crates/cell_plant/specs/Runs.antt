@@ -6,7 +6,7 @@ use Rattle.cell_notes.specs.Asks.{Asked}
 use Rattle.cell_seat.specs.Sides.{side_moved}
 use Rattle.cell_seat.specs.SeatTurns.{Takes}
 use Rattle.cell_parts.specs.Axes.{CellScales}
-use Rattle.cell_plant.specs.declared.schedule.Turn.{Turn}
+use Rattle.cell_notes.specs.declared.schedule.Turn.{Turn}
 use Rattle.cell_plant.specs.Machines.{steps_of, rig_of, has_controller}
 use Rattle.cell_plant.specs.CellStates.{CellState}
 

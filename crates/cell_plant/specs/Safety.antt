@@ -7,7 +7,7 @@ use Rattle.cell_parts.specs.Collisions.{NothingCollides, NothingCollidesWhenSet}
 use Rattle.cell_parts.specs.Plant.{PlantState}
 use Rattle.cell_parts.specs.PositionDemands.{PositionDemands}
 use Rattle.cell_parts.specs.MotorDemands.{GripperErrand, MotorDemands}
-use Rattle.cell_plant.specs.declared.schedule.Turn.{Turn}
+use Rattle.cell_notes.specs.declared.schedule.Turn.{Turn}
 use Rattle.cell_plant.specs.CellStates.{CellState, plant_of, cell_at_start}
 use Rattle.cell_plant.specs.Runs.{Step, IsRun}
 

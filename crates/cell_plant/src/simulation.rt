@@ -14,9 +14,8 @@ ghost use Rattle.cell_plant.specs.Records.{positions_in};
 
 use crate::cell::Cell;
 use crate::notebooks::Notebooks;
-use crate::schedule::Turn;
 use cell_calib::Gauge;
-use cell_notes::{RunRecord, Status};
+use cell_notes::{RunRecord, Status, Turn};
 use cell_rules::{Bench, State};
 use cell_seat::{SimFault, seat_turn, status_of};
 use cell_types::Machine;

@@ -10,13 +10,13 @@ use Rattle.cell_rules.specs.ModelState.{ModelState}
 use Rattle.cell_rules.specs.Journal.{event_by}
 use Rattle.cell_rules.proofs.Notes.{events_of_noted}
 use Rattle.cell_report.specs.Audited.{EndsIn, IsAudited, HasNoHistory}
-use Rattle.cell_report.specs.Faults.{WroteFront}
+use Rattle.cell_text.specs.Output.{WroteFront}
 use Rattle.cell_report.specs.Report.{report_text}
 use Rattle.cell_report.specs.declared.audit_faults.AuditFault.{AuditFault}
 use Rattle.cell_report.specs.declared.audit_faults.AuditFault.TheVariants.{Twice, Gap, Differs, End, Memory}
-use Rattle.cell_plant.specs.declared.schedule.Turn.{Turn}
-use Rattle.cell_plant.specs.declared.record.RunRecord.{RunRecord}
-use Rattle.cell_plant.specs.Axes.{CellScales}
+use Rattle.cell_notes.specs.declared.schedule.Turn.{Turn}
+use Rattle.cell_notes.specs.declared.run_record.RunRecord.{RunRecord}
+use Rattle.cell_parts.specs.Axes.{CellScales}
 use Rattle.cell_plant.specs.Cells.{TellsRun}
 use Rattle.cell_plant.specs.Records.{events_in}
 use Rattle.cell_program.specs.Served.{AreFine, IsAuditOf}

@@ -1,9 +1,9 @@
 -- What is told of a simulation.
 use Rattle.std.proofs.Common.{◌≡◌, ◌⊎◌, inl, inr, codes, List, ℕ, Option, Some, None, Result, Ok, Err, IfSome, refl, sym, ap, ◌∙◌, subst}
-use Rattle.cell_report.specs.Faults.{WroteFront}
-use Rattle.cell_plant.specs.Axes.{CellScales}
+use Rattle.cell_text.specs.Output.{WroteFront}
+use Rattle.cell_parts.specs.Axes.{CellScales}
 use Rattle.cell_plant.specs.Cells.{TellsRun}
-use Rattle.cell_plant.specs.declared.record.RunRecord.{RunRecord}
+use Rattle.cell_notes.specs.declared.run_record.RunRecord.{RunRecord}
 use Rattle.cell_config.specs.Configured.{Says, in_order, shown}
 use Rattle.cell_config.specs.Settings.{settings_of}
 use Rattle.cell_config.specs.ConfigWords.{config_fault_text}

@@ -8,11 +8,11 @@ use Rattle.cell_report.specs.declared.script.Outcome.TheVariants.{Clean, Refused
 use Rattle.cell_report.specs.declared.script.ScriptFault.{ScriptFault}
 use Rattle.cell_report.specs.declared.audit_faults.AuditFault.{AuditFault}
 use Rattle.cell_report.specs.declared.audit_faults.AuditFault.TheVariants.{Memory as AuditMemory}
-use Rattle.cell_plant.specs.Axes.{CellScales}
+use Rattle.cell_parts.specs.Axes.{CellScales}
 use Rattle.cell_plant.specs.Cells.{TellsRun}
-use Rattle.cell_plant.specs.declared.record.RunRecord.{RunRecord}
-use Rattle.cell_plant.specs.declared.record.Status.{Status}
-use Rattle.cell_plant.specs.declared.record.Status.TheVariants.{Fine}
+use Rattle.cell_notes.specs.declared.run_record.RunRecord.{RunRecord}
+use Rattle.cell_notes.specs.declared.status.Status.{Status}
+use Rattle.cell_notes.specs.declared.status.Status.TheVariants.{Fine}
 use Rattle.cell_config.specs.Configured.{Says, in_order}
 use Rattle.cell_config.specs.Settings.{Settings, settings_of}
 use Rattle.cell_config.specs.ConfigWords.{config_fault_text}

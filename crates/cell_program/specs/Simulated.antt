@@ -1,12 +1,12 @@
 -- What is told of a run that was simulated.
 use Rattle.std.specs.Prelude.{◌≡◌, ℕ, zero, suc, List, ◌⊎◌, Option, Some, None}
 use Rattle.std.specs.Io.KnownBytes.{Appends}
-use Rattle.cell_report.specs.Faults.{WroteFront}
+use Rattle.cell_text.specs.Output.{WroteFront}
 use Rattle.cell_report.specs.Report.{report_text}
 use Rattle.cell_report.specs.declared.audit_faults.AuditFault.{AuditFault}
 use Rattle.cell_report.specs.declared.audit_faults.AuditFault.TheVariants.{Memory as AuditMemory}
-use Rattle.cell_plant.specs.Axes.{CellScales}
-use Rattle.cell_plant.specs.declared.record.RunRecord.{RunRecord}
+use Rattle.cell_parts.specs.Axes.{CellScales}
+use Rattle.cell_notes.specs.declared.run_record.RunRecord.{RunRecord}
 use Rattle.cell_program.specs.declared.simulating.Lines.{Lines}
 use Rattle.cell_program.specs.Served.{AreFine, IsAuditOf}
 

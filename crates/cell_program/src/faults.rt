@@ -1,10 +1,10 @@
 //! The program's fault lines.
 
 ghost use Rattle.std.specs.Prelude.{◌≡◌, IfOk, IfSome};
-ghost use Rattle.cell_report.specs.Faults.{WroteFront};
+ghost use Rattle.cell_text.specs.Output.{WroteFront};
 ghost use Rattle.cell_program.specs.Served.{fault_line};
 
-use cell_report::{Page, write_text};
+use cell_text::{Page, write_text};
 use std::fmt;
 use std::fmt::Display;
 use std::io::Write;

@@ -1,7 +1,7 @@
 //! Replays a script for the program.
 
 ghost use Rattle.std.specs.Prelude.{◌≡◌, ◌<◌, IfSome};
-ghost use Rattle.cell_report.specs.Input.{TakesAtMost};
+ghost use Rattle.cell_text.specs.Input.{TakesAtMost};
 ghost use Rattle.cell_report.specs.Script.{most_bytes_read};
 ghost use Rattle.cell_program.specs.Served.{ReplayFails, WasReplayed};
 

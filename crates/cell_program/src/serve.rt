@@ -2,8 +2,8 @@
 
 ghost use Rattle.std.specs.Prelude.{◌≡◌, ◌≤◌, ◌<◌, ◌⊎◌, codes, map, IfSome};
 ghost use Rattle.clap.specs.Words.{kind_of};
-ghost use Rattle.cell_report.specs.Faults.{WroteFront};
-ghost use Rattle.cell_report.specs.Input.{TakesAtMost};
+ghost use Rattle.cell_text.specs.Output.{WroteFront};
+ghost use Rattle.cell_text.specs.Input.{TakesAtMost};
 ghost use Rattle.cell_report.specs.Script.{most_bytes_read};
 ghost use Rattle.cell_program.specs.Served.{ReplayFails, SimFails, WasReplayed, WasSimulated, fault_line};
 ghost use Rattle.cell_config.specs.Settings as settings;

@@ -2,10 +2,10 @@
 
 ghost use Rattle.std.specs.Prelude.{◌≡◌, ◌<◌, ◌↔◌, IsTrue, IfOk, IfSome, List, None, if◌then◌else◌};
 ghost use Rattle.cell_rules.specs.Start.{IsStartState};
-ghost use Rattle.cell_plant.specs.Axes.{AreCellScales, CellScales};
+ghost use Rattle.cell_parts.specs.Axes.{AreCellScales, CellScales};
 ghost use Rattle.cell_plant.specs.Cells.{TellsRun};
-ghost use Rattle.cell_plant.specs.declared.schedule.Turn.{Turn as TurnOf};
-ghost use Rattle.cell_report.specs.Input.{TakesAtMost};
+ghost use Rattle.cell_notes.specs.declared.schedule.Turn.{Turn as TurnOf};
+ghost use Rattle.cell_text.specs.Input.{TakesAtMost};
 ghost use Rattle.cell_config.specs.Configured.{AreAxisScales, in_order};
 ghost use Rattle.cell_program.specs.Served.{AreFine, SimFails, WasSimulated};
 ghost use Rattle.cell_config.specs.Settings.{most_bytes_read};

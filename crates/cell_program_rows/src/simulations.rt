@@ -1,6 +1,6 @@
 //! Simulations: configurations, the reports of their runs, and exit statuses.
 
-ghost use Rattle.cell_plant.specs.Axes.{AreCellScales};
+ghost use Rattle.cell_parts.specs.Axes.{AreCellScales};
 ghost use Rattle.cell_program.specs.Simulated.{scales_of};
 ghost use Rattle.cell_rules.specs.Start.{IsStartState};
 

@@ -14,7 +14,8 @@ use Rattle.cell_rules.specs.PlaceSet.{PlaceSet, has}
 use Rattle.cell_rules.specs.History.{IsLegal}
 use Rattle.cell_rules.specs.Start.{IsStartState, IsStart, places_of, start_state}
 use Rattle.cell_report.specs.Requests.{Row}
-use Rattle.cell_report.specs.Script.{end_of, event_line, event_lines, events_from, history_of, is_cut_of, is_start, lines_from, most_records, most_rows, number_in, outcome_from, places_in, requests_in, rows_lines, rows_outcome, rows_start, script_events, script_lines, script_outcome, script_rows, script_start, start_line, start_fields, start_in, start_of, used, without_last}
+use Rattle.cell_rules.specs.StartDigits.{is_start, places_in}
+use Rattle.cell_report.specs.Script.{end_of, event_line, event_lines, events_from, history_of, is_cut_of, lines_from, most_records, most_rows, number_in, outcome_from, requests_in, rows_lines, rows_outcome, rows_start, script_events, script_lines, script_outcome, script_rows, script_start, start_line, start_fields, start_in, start_of, used, without_last}
 use Rattle.cell_report.specs.declared.script.ScriptFault.{ScriptFault}
 use Rattle.cell_report.specs.declared.script.ScriptFault.TheVariants.{NoStart, BadStart, BadRow, Long}
 use Rattle.cell_report.specs.declared.script.Outcome.{Outcome}

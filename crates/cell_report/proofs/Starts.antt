@@ -3,7 +3,8 @@ use Rattle.std.proofs.Common.{ℕ, ◌≡◌, ◌<◌, ◌≤◌, List, [], ◌�
 use Rattle.std.proofs.lemmas.Option.{same_Some}
 use Rattle.std.specs.Str.{bytes_eq}
 use Rattle.csv.specs.Records.{field_at}
-use Rattle.cell_report.specs.Script.{number_in, places_in, start_in, start_of}
+use Rattle.cell_rules.specs.StartDigits.{places_in}
+use Rattle.cell_report.specs.Script.{number_in, start_in, start_of}
 use Rattle.cell_report.specs.declared.script.ScriptFault.TheVariants.{NoStart, BadStart}
 
 pub start_in-none : (fs : List (List ℕ)) → field_at fs 0 ≡ None → start_in fs ≡ Err NoStart

@@ -6,12 +6,12 @@ use Rattle.std.specs.List.{concat, enumerate_from, list_all}
 use Rattle.std.specs.Option.{option_map_or}
 use Rattle.std.specs.Str.{bytes_eq}
 use Rattle.csv.specs.Reading.{default_config, records, strip_bom}
-use Rattle.cell_types.specs.declared.place.Place.TheVariants.{PressIn, PressOut}
 use Rattle.cell_types.specs.declared.answer.Event.{Event}
 use Rattle.cell_types.specs.Answers.{answer_text}
-use Rattle.cell_rules.specs.ModelState.{ModelState, plates_of, size_of, last_stamp}
-use Rattle.cell_rules.specs.PlaceSet.{PlaceSet, has}
+use Rattle.cell_rules.specs.ModelState.{ModelState, plates_of}
+use Rattle.cell_rules.specs.PlaceSet.{PlaceSet}
 use Rattle.cell_rules.specs.Start.{places_of, start_state}
+use Rattle.cell_rules.specs.StartDigits.{places_in, is_start}
 use Rattle.cell_rules.specs.Reply.{next, reply}
 use Rattle.cell_rules.specs.History.{after}
 use Rattle.cell_report.specs.Requests.{Row, request_of}
@@ -36,16 +36,6 @@ most_bytes_read = 4194305
 abbrev pub most_rows : ℕ
 most_rows = 65539
 
--- ten digits, each 0 or 1: for each place in order whether it is full
-abbrev pub is_flag : ℕ → Bool
-is_flag digit = (digit == 48) || (digit == 49)
-
-abbrev pub flag_in : ℕ → Option Bool
-flag_in digit = if is_flag digit then Some (digit == 49) else None
-
-abbrev pub places_in : List ℕ → Option (List Bool)
-places_in field = if (length field == 10) && list_all is_flag field then Some (map (λ digit. digit == 49) field) else None
-
 -- the number that digits write, after those of a number
 abbrev pub read_on : ℕ → List ℕ → ℕ
 read_on number [] = number
@@ -57,10 +47,6 @@ is_number field = nat_lt 0 (length field) && nat_le (length field) 7 && list_all
 
 abbrev pub number_in : List ℕ → Option ℕ
 number_in field = if is_number field then Some (read_on 0 field) else None
-
--- at most six plates, not both places of the press, and a stamp that a state may have
-abbrev pub is_start : PlaceSet → ℕ → Bool
-is_start full stamp = nat_le (size_of full) 6 && not (has full PressIn && has full PressOut) && nat_le stamp last_stamp
 
 abbrev pub start_at : PlaceSet → ℕ → Result ModelState ScriptFault
 start_at full stamp = if is_start full stamp then Ok (start_state full stamp) else Err BadStart

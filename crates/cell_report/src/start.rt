@@ -5,39 +5,11 @@ ghost use Rattle.csv.specs.Records.{fields_of};
 ghost use Rattle.cell_report.specs.Script as script;
 
 use crate::script::ScriptFault;
-use cell_rules::State;
+use cell_rules::{PLACES, State, read_places};
 use csv::ByteRecord;
-
-/// How many places there are.
-const PLACES: usize = 10;
 
 /// The most digits that a stamp may have.
 const MOST_DIGITS: usize = 7;
-
-/// Whether a place is full, by the digit 0 or 1.
-fn read_flag(digit: u8) -> Option<bool>
-    ensures { result ≡ script.flag_in digit }
-{
-    match digit {
-        b'0' => Some(false),
-        b'1' => Some(true),
-        _ => None,
-    }
-}
-
-/// Which places are full, by ten digits 0 or 1.
-fn read_places(field: &[u8]) -> Option<[bool; PLACES]>
-    ensures { result ≡ script.places_in field.now }
-{
-    if field.len() != PLACES {
-        return None;
-    }
-    let mut places = [false; PLACES];
-    'digits: for (place, digit) in field.iter().enumerate() {
-        places[place] = read_flag(*digit)?;
-    }
-    Some(places)
-}
 
 /// The number of one to seven digits.
 fn read_number(field: &[u8]) -> Option<u32>

@@ -9,6 +9,7 @@ pub mod Reply
 pub mod History
 pub mod Laws
 pub mod Start
+pub mod StartDigits
 pub mod Journal
 pub mod Seen
 pub mod Stored

@@ -12,6 +12,7 @@ pub mod places;
 mod poses;
 mod refusals;
 mod sound;
+pub mod start_digits;
 pub mod state;
 pub mod zones;
 
@@ -20,6 +21,7 @@ pub use bench::Bench;
 pub use heard::{Answered, Heard, LineFault};
 pub use line::Line;
 pub use places::Places;
+pub use start_digits::{PLACES, read_places};
 pub use state::{StartFault, State};
 pub use zones::{ZoneState, Zones};
 

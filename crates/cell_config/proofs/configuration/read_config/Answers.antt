@@ -1,5 +1,5 @@
 use Rattle.std.proofs.Common.{◌≡◌, ◌∙◌, take, ap}
-use Rattle.cell_report.proofs.Known.{if_some-map}
+use Rattle.std.proofs.lemmas.Option.{IfSome_then}
 use Rattle.cell_config.specs.Configured.{Says}
 use Rattle.cell_config.specs.Settings.{settings_of}
 use Rattle.cell_config.proofs.SettingsLemmas.{says_from, settings_of-front}
@@ -9,5 +9,5 @@ pub returns-clause-says : goal.returns-clause-says
 returns-clause-says g c =
     let bytes = c.in-Ok.bytes.items in
     let answer = c.config_of.result in
-    if_some-map (g.R.Read.remaining c.args.reader.now) (λ read. bytes ≡ take 2097153 read) (λ read. Says read answer)
-    (λ read is. says_from read (settings_of bytes) answer (ap settings_of is ∙ settings_of-front read) (rw c.as_slice.ensures.value at c.config_of.ensures.says)) c.in-Ok.ensures.bytes
+    IfSome_then (g.R.Read.remaining c.args.reader.now) c.in-Ok.ensures.bytes
+    (λ read is. says_from read (settings_of bytes) answer (ap settings_of is ∙ settings_of-front read) (rw c.as_slice.ensures.value at c.config_of.ensures.says))

@@ -2,8 +2,8 @@ use Rattle.std.proofs.Common.{List, ℕ, Bool, true, ◌≡◌, ◌<◌, ◌≤�
 use Rattle.std.specs.List.{list_all}
 use Rattle.std.proofs.lemmas.List.{drop_all, drop_more, map-append, take_all, take_more, take_more_set}
 use Rattle.std.proofs.lemmas.Option.{cond_some}
-use Rattle.cell_report.specs.Script.{flag_in, is_flag, places_in}
-use Rattle.cell_config.proofs.places.read_places.Goals as goal
+use Rattle.cell_rules.specs.StartDigits.{flag_in, is_flag, places_in}
+use Rattle.cell_rules.proofs.start_digits.read_places.Goals as goal
 
 -- a digit more that is a flag
 flags_more : (field : List ℕ) (i : ℕ) → i < length field → is_flag (get_or field i 0) ≡ true → list_all is_flag (drop (i + 1) field) ≡ list_all is_flag (drop i field)

@@ -1,7 +1,7 @@
 use Rattle.std.proofs.Common.{◌≡◌, ◌==◌, drop, length, map, take}
 use Rattle.std.specs.List.{list_all}
-use Rattle.cell_report.specs.Script.{is_flag}
-use Rattle.cell_config.proofs.places.read_places.Given as goal
+use Rattle.cell_rules.specs.StartDigits.{is_flag}
+use Rattle.cell_rules.proofs.start_digits.read_places.Given as goal
 
 abbrev pub invariant-digits : goal.invariant-digits
 invariant-digits l = record {

@@ -1,7 +1,7 @@
-//! Which places are full, as digits.
+//! Which places are full, as scripts and configurations write it: a digit for each place.
 
 ghost use Rattle.std.specs.Prelude.{◌≡◌};
-ghost use Rattle.cell_report.specs.Script.{flag_in, places_in};
+ghost use Rattle.cell_rules.specs.StartDigits.{flag_in, places_in};
 
 /// How many places there are.
 pub const PLACES: usize = 10;
@@ -17,7 +17,7 @@ fn read_flag(digit: u8) -> Option<bool>
     }
 }
 
-/// Which places are full, by ten digits 0 or 1.
+/// Which places are full, by ten digits 0 or 1 in the order of the places; `None` for other bytes.
 pub fn read_places(digits: &[u8]) -> Option<[bool; PLACES]>
     ensures { result ≡ places_in digits.now }
 {
