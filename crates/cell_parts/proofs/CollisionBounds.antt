@@ -9,7 +9,7 @@ use Rattle.cell_parts.specs.declared.axis.Axis.{Axis}
 use Rattle.cell_parts.specs.Plant.{PlantState}
 use Rattle.cell_parts.specs.Collisions.{DrivesPast, DrivesPastEnd, LetsGo}
 use Rattle.cell_parts.specs.Examples.{with_press, with_arm1, with_arm2, with_rotation, with_lift, with_turn, with_travel, with_gripper}
-use Rattle.cell_parts.specs.CollisionExamples.{ArmAndPressBounds, TableAndArmBounds, DepositBeltBounds, FeedBeltBounds, TravelBounds, LoadingBounds, MagnetBounds, EndsAt, EndBounds}
+use Rattle.cell_parts.specs.CollisionExamples.{ArmAndPressBounds, TableAndArmBounds, DepositBeltBounds, FeedBeltBounds, TravelBounds, LoadingBounds, MagnetBounds, EndsAt, EndBounds, EachCollision}
 use Rattle.cell_parts.proofs.Contrasts.{neither, plus_on, minus_on, false_true, true_false}
 
 pub arm_and_press : ArmAndPressBounds
@@ -188,4 +188,18 @@ all_ends = record {
   travel = ends Crane with_travel 1999 2000 (λ a k. inl k) (λ a no. neither no (at_rest _ _)) (lt_z_yes tt) (lt_z_yes tt);
   gripper = ends Crane with_gripper 999 1000 (λ a k. inr k) (λ a no. neither (at_rest _ _) no) (lt_z_yes tt) (lt_z_yes tt);
   turn_of_another = neither (at_rest _ _) (at_rest _ _);
+}
+
+pub each_collision : EachCollision
+each_collision = record {
+  arm_and_press = λ k. k.arm_and_press arm_and_press.arm1_hits_low_press;
+  table_and_arm = λ k. k.table_and_arm table_and_arm.table_rises;
+  deposit_belt = λ k. k.deposit_belt deposit_belt.plate_at_its_end;
+  feed_belt = λ k. k.feed_belt feed_belt.gripper_down;
+  crane = λ k. k.crane travel.crane_to_feed;
+  robot = λ k. k.robot travel.robot_with_arm1_out;
+  plate_and_table = λ k. k.plate_and_table loading.table_too_high;
+  when_set = λ k. k.plain.crane travel.crane_to_feed;
+  magnet = λ k. k.magnets magnets.arm1_turned_short;
+  end = λ k. k.ends all_ends.press.past_last;
 }

@@ -3,6 +3,7 @@ use Rattle.std.proofs.Common.{◌≡◌, ◌≢◌, ◌∙◌, sym, ap, cond, fa
 use Rattle.std.proofs.lemmas.Bool.{false_from_ne_true}
 use Rattle.std.specs.Int.Signed.{le_z_yes, lt_z_yes}
 use Rattle.cell_types.specs.declared.machine.Machine.{Machine}
+use Rattle.cell_types.specs.declared.machine.Machine.TheVariants.{Feed, Table, Robot, Press, Deposit, Crane, Watch}
 use Rattle.cell_types.specs.declared.zone.Zone.{Zone}
 use Rattle.cell_types.specs.declared.posture.Posture.{Posture}
 use Rattle.cell_types.specs.declared.posture.Posture.TheVariants.{Closed, OpenIn, OpenOut}
@@ -14,9 +15,10 @@ use Rattle.cell_rules.specs.Refusals.{owns, owner_of}
 use Rattle.cell_rules.proofs.Puts.{each_zone, zone_in-put}
 use Rattle.cell_rules.proofs.Holders.{owner_is}
 use Rattle.cell_parts.specs.PositionDemands.{HoldsIn}
-use Rattle.cell_parts.specs.Examples.{zone_of, with_zone}
-use Rattle.cell_parts.specs.DemandExamples.{ArmDemandBounds, PositionDemandBounds, AsksFor, PositionsAsk, MotorsAsk, MotorDemandBounds}
-use Rattle.cell_parts.proofs.Contrasts.{neither, plus_on, minus_on, false_true}
+use Rattle.cell_parts.specs.MotorDemands.{Rests}
+use Rattle.cell_parts.specs.Examples.{empty_cell, zone_of, with_zone}
+use Rattle.cell_parts.specs.DemandExamples.{ArmDemandBounds, PositionDemandBounds, AsksFor, PositionsAsk, MotorsAsk, MotorDemandBounds, DrivingExamples, EachDemand}
+use Rattle.cell_parts.proofs.Contrasts.{neither, plus_on, minus_on, false_true, true_false}
 
 closed_in : ¬ (Closed ≡ OpenIn)
 closed_in e = cc
@@ -178,4 +180,60 @@ motor_demands = record {
   rotates_with_arm1 = λ d. d.arm1 plus_on (lt_z_yes tt);
   rotates_with_arm2 = λ d. d.arm2 minus_on (lt_z_yes tt);
   rests_with_arms_out = record { arm1 = λ on. absurd (on refl); arm2 = λ on. absurd (on refl) };
+}
+
+all_rest : (m : Machine) → Rests empty_cell m
+all_rest Feed = refl
+all_rest Table = (refl, refl)
+all_rest Robot = (refl, refl, refl)
+all_rest Press = refl
+all_rest Deposit = refl
+all_rest Crane = (refl, refl)
+all_rest Watch = tt
+
+pub driving : DrivingExamples
+driving = record {
+  press = plus_on;
+  height_in_z1 = inl plus_on;
+  height_in_z2 = inl minus_on;
+  rotation_in_z1 = inr minus_on;
+  rotation_in_z2 = inr plus_on;
+  feed_in_z6 = refl;
+  feed_in_z1 = (refl, refl);
+  deposit_in_z4 = refl;
+  deposit_in_z5 = refl;
+  arm1_in_z2 = (plus_on, (le_z_yes tt, le_z_yes tt));
+  arm1_in_z3 = inl (minus_on, (le_z_yes tt, le_z_yes tt));
+  arm2_in_z3 = inr (minus_on, (le_z_yes tt, le_z_yes tt));
+  arm2_in_z4 = (plus_on, (le_z_yes tt, le_z_yes tt));
+  gripper_in_z5 = minus_on;
+  gripper_in_z6 = plus_on;
+  all_rest = all_rest;
+  press_works = plus_on;
+  height_works = λ r. plus_on r.0;
+  rotation_works = λ r. plus_on r.1;
+  feed_works = true_false;
+  deposit_works = true_false;
+  arm1_works = λ r. plus_on r.0;
+  arm2_works = λ r. plus_on r.1;
+  robot_rotates = λ r. plus_on r.2;
+  crane_travels = λ r. plus_on r.0;
+  gripper_works = λ r. plus_on r.1;
+}
+
+pub each_demand : EachDemand
+each_demand = record {
+  arm1_out = λ k. arm_demands.arm1_at_no_zone k.arm1;
+  arm2_out = λ k. arm_demands.arm2_at_no_zone k.arm2;
+  press_stands = λ k. position_demands.press_open_too_low k.press;
+  table_stands = λ k. (k.table refl).bottom.le;
+  gripper_down = λ k. position_demands.gripper_down_at_no_zone k.gripper;
+  end_plate = λ k. position_demands.feed_plate_untold k.plates;
+  press_on = λ k. false_true (k.press plus_on).0;
+  table_on = λ k. false_true (k.table (inl plus_on)).0.0;
+  feed_on = λ k. false_true (k.feed refl).0.0;
+  deposit_on = λ k. false_true (k.deposit refl).0.0;
+  arm1_on = λ k. neither (λ h. false_true h.1.0) (λ h. false_true h.1.0) (k.arm1 plus_on);
+  arm2_on = λ k. neither (λ h. false_true h.1.0) (λ h. false_true h.1.0) (k.arm2 plus_on);
+  gripper_on = λ k. false_true (k.gripper plus_on).0;
 }

@@ -6,7 +6,7 @@ use Rattle.cell_devices.specs.declared.motor.Motor.{Motor}
 use Rattle.cell_devices.specs.declared.motor.Motor.TheVariants.{Off, Plus, Minus}
 use Rattle.cell_parts.specs.declared.axis.Axis.{Axis}
 use Rattle.cell_parts.specs.Plant.{PlantState}
-use Rattle.cell_parts.specs.Collisions.{ArmHitsPress, TableHitsArm, DepositBeltPulls, FeedBeltPulls, CraneTravelsLow, RobotTurnsWithArmOut, PlateMissesTable, PlateFalls, DrivesPastEnd}
+use Rattle.cell_parts.specs.Collisions.{ArmHitsPress, TableHitsArm, DepositBeltPulls, FeedBeltPulls, CraneTravelsLow, RobotTurnsWithArmOut, PlateMissesTable, PlateFalls, DrivesPastEnd, NothingCollides, NothingCollidesWhenSet}
 use Rattle.cell_parts.specs.PositionDemands.{RestsAtLoading}
 use Rattle.cell_parts.specs.Examples.{empty_cell, driven_at, at, robot_with, robot_at, table_at, crane_with, crane_at, belt_with, with_press, with_arm1, with_arm2, with_rotation, with_lift, with_turn, with_travel, with_gripper}
 
@@ -188,3 +188,17 @@ pub record EndBounds : Type 0 where
   pub travel : EndsAt Crane with_travel 1999 2000
   pub gripper : EndsAt Crane with_gripper 999 1000
   pub turn_of_another : ¬ DrivesPastEnd Table (with_press (driven_at 0 Minus))
+
+-- ---- each collision of its own
+
+pub record EachCollision : Type 0 where
+  pub arm_and_press : ¬ NothingCollides (arm1_and_press 51 1400 (at 0))
+  pub table_and_arm : ¬ NothingCollides (table_and_arm1 Plus Off 51 200)
+  pub deposit_belt : ¬ NothingCollides (deposit_with (Some 1000) true)
+  pub feed_belt : ¬ NothingCollides (feed_and_crane true 1800 799)
+  pub crane : ¬ NothingCollides (crane_halfway Plus 799)
+  pub robot : ¬ NothingCollides (robot_halfway Plus 51 0)
+  pub plate_and_table : ¬ NothingCollides (feed_and_table (Some 980) true (at 11) (at 20))
+  pub when_set : ¬ NothingCollidesWhenSet Crane (crane_halfway Plus 799) (crane_halfway Plus 799)
+  pub magnet : ¬ NothingCollidesWhenSet Robot (with_magnet1 1459 800 true) (with_magnet1 1459 800 false)
+  pub end : ¬ NothingCollidesWhenSet Press (with_press (at 1000)) (with_press (driven_at 1000 Plus))

@@ -1,5 +1,5 @@
 -- Examples of what positions and motors demand: at their bounds and just past them, by machine, zone and posture.
-use Rattle.std.specs.Prelude.{◌≢◌, ℕ, true, None}
+use Rattle.std.specs.Prelude.{◌≢◌, ℕ, true, Some, None}
 use Rattle.cell_types.specs.declared.machine.Machine.{Machine}
 use Rattle.cell_types.specs.declared.machine.Machine.TheVariants.{Feed, Table, Robot, Press, Deposit, Crane}
 use Rattle.cell_types.specs.declared.zone.Zone.{Zone}
@@ -14,8 +14,8 @@ use Rattle.cell_rules.specs.ModelState.{ModelState}
 use Rattle.cell_rules.specs.Start.{start_state}
 use Rattle.cell_parts.specs.Plant.{PlantState}
 use Rattle.cell_parts.specs.PositionDemands.{Arm1OutDemands, Arm2OutDemands, PressStands, TableStands, GripperDownDemands, EndPlatesStand, PositionDemands}
-use Rattle.cell_parts.specs.MotorDemands.{PressMotorDemands, TableMotorDemands, FeedMotorDemands, DepositMotorDemands, Arm1MotorDemands, Arm2MotorDemands, GripperErrand, ForTravel, AtDeposit, AtFeed, GripperMotorDemands, MotorDemands, TravelsHigh, RotatesRetracted}
-use Rattle.cell_parts.specs.Examples.{empty_cell, cell_with_plate_at, driven_at, at, robot_at, table_at, crane_at, belt_with, with_press, with_lift, with_turn, with_gripper, all_free, with_zone, held_by}
+use Rattle.cell_parts.specs.MotorDemands.{PressMotorDemands, TableMotorDemands, FeedMotorDemands, DepositMotorDemands, Arm1MotorDemands, Arm2MotorDemands, GripperErrand, ForTravel, AtDeposit, AtFeed, GripperMotorDemands, MotorDemands, TravelsHigh, RotatesRetracted, DrivesIn, Rests}
+use Rattle.cell_parts.specs.Examples.{empty_cell, cell_with_plate_at, driven_at, at, robot_at, table_at, crane_at, belt_with, with_press, with_rotation, with_lift, with_turn, with_travel, with_gripper, all_free, with_zone, held_by}
 
 -- ---- bounds
 
@@ -146,3 +146,50 @@ pub record MotorDemandBounds : Type 0 where
   pub rotates_with_arm1 : ¬ RotatesRetracted (robot_at (at 51) (at 0) (driven_at 1000 Plus))
   pub rotates_with_arm2 : ¬ RotatesRetracted (robot_at (at 0) (at 51) (driven_at 1000 Minus))
   pub rests_with_arms_out : RotatesRetracted (robot_at (at 600) (at 600) (at 300))
+
+-- ---- who drives in a zone, and who rests
+
+pub record DrivingExamples : Type 0 where
+  pub press : DrivesIn ForTravel (with_press (driven_at 500 Plus)) Press Z3
+  pub height_in_z1 : DrivesIn ForTravel (with_lift (driven_at 300 Plus)) Table Z1
+  pub height_in_z2 : DrivesIn ForTravel (with_lift (driven_at 300 Minus)) Table Z2
+  pub rotation_in_z1 : DrivesIn ForTravel (with_turn (driven_at 250 Minus)) Table Z1
+  pub rotation_in_z2 : DrivesIn ForTravel (with_turn (driven_at 250 Plus)) Table Z2
+  pub feed_in_z6 : DrivesIn ForTravel feed_runs Feed Z6
+  pub feed_in_z1 : DrivesIn ForTravel (record empty_cell { feed = belt_with (Some 950) true }) Feed Z1
+  pub deposit_in_z4 : DrivesIn ForTravel deposit_runs Deposit Z4
+  pub deposit_in_z5 : DrivesIn ForTravel deposit_runs Deposit Z5
+  pub arm1_in_z2 : DrivesIn ForTravel (arm1_driven Plus 300) Robot Z2
+  pub arm1_in_z3 : DrivesIn ForTravel (arm1_driven Minus 1500) Robot Z3
+  pub arm2_in_z3 : DrivesIn ForTravel (arm2_driven Minus 600) Robot Z3
+  pub arm2_in_z4 : DrivesIn ForTravel (arm2_driven Plus 1800) Robot Z4
+  pub gripper_in_z5 : DrivesIn AtDeposit (with_gripper (driven_at 500 Minus)) Crane Z5
+  pub gripper_in_z6 : DrivesIn AtFeed (with_gripper (driven_at 500 Plus)) Crane Z6
+  pub all_rest : (m : Machine) → Rests empty_cell m
+  pub press_works : ¬ Rests (with_press (driven_at 500 Plus)) Press
+  pub height_works : ¬ Rests (with_lift (driven_at 300 Plus)) Table
+  pub rotation_works : ¬ Rests (with_turn (driven_at 250 Plus)) Table
+  pub feed_works : ¬ Rests feed_runs Feed
+  pub deposit_works : ¬ Rests deposit_runs Deposit
+  pub arm1_works : ¬ Rests (arm1_driven Plus 300) Robot
+  pub arm2_works : ¬ Rests (arm2_driven Plus 600) Robot
+  pub robot_rotates : ¬ Rests (with_rotation (driven_at 1000 Plus)) Robot
+  pub crane_travels : ¬ Rests (with_travel (driven_at 1000 Plus)) Crane
+  pub gripper_works : ¬ Rests (with_gripper (driven_at 500 Plus)) Crane
+
+-- ---- all that is demanded: each demand of its own
+
+pub record EachDemand : Type 0 where
+  pub arm1_out : ¬ PositionDemands all_free (arm1_out 51 300)
+  pub arm2_out : ¬ PositionDemands all_free (arm2_out 51 600)
+  pub press_stands : ¬ PositionDemands (held_by Press Z3 OpenIn) (with_press (at 489))
+  pub table_stands : ¬ PositionDemands (held_by Table Z1 OpenIn) (with_lift (at 11))
+  pub gripper_down : ¬ PositionDemands all_free (crane_over 0 799)
+  pub end_plate : ¬ PositionDemands all_free (cell_with_plate_at place.FeedEnd)
+  pub press_on : ¬ MotorDemands ForTravel all_free (with_press (driven_at 500 Plus))
+  pub table_on : ¬ MotorDemands ForTravel all_free (with_lift (driven_at 300 Plus))
+  pub feed_on : ¬ MotorDemands ForTravel all_free feed_runs
+  pub deposit_on : ¬ MotorDemands ForTravel all_free deposit_runs
+  pub arm1_on : ¬ MotorDemands ForTravel all_free (arm1_driven Plus 300)
+  pub arm2_on : ¬ MotorDemands ForTravel all_free (arm2_driven Plus 600)
+  pub gripper_on : ¬ MotorDemands AtFeed all_free (with_gripper (driven_at 500 Plus))

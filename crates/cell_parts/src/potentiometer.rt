@@ -1,4 +1,4 @@
-ghost use Rattle.std.specs.Prelude.{◌≡◌, ◌*◌, ◌/◌, ◌≤◌, ◌<◌, ◌≤ℤ◌, pos, ◌<ℤ◌, ◌+ℤ◌, ◌-ℤ◌};
+ghost use Rattle.std.specs.Prelude.{◌≡◌, ◌*◌, ◌/◌, ◌≤◌, ◌<◌, ◌≤ℤ◌, pos, ◌<ℤ◌, ◌-ℤ◌};
 ghost use Rattle.cell_parts.specs.Shows.{ShowsRaw};
 
 use cell_calib::Points;
@@ -33,12 +33,10 @@ fn along(points: &Points, position: i32) -> u32
 
 // How far a position is above another.
 fn distance(from: i32, to: i32) -> u32
-    requires rises { from ≤ℤ to }
-    requires low { pos 0 ≤ℤ (from +ℤ pos 100000) }
-    requires high { to ≤ℤ pos 100000 }
+    requires { from ≤ℤ to }
     ensures { to -ℤ from ≡ pos result }
 {
-    (to - from) as u32
+    (i64::from(to) - i64::from(from)) as u32
 }
 
 // The same part of a width as `along` is of a length, rounded down.

@@ -1,11 +1,20 @@
 -- What the motors demand holds in every state of a run, also for motors that an earlier turn has left on.
-use Rattle.std.proofs.Common.{◌≡◌, false, None, Ok}
+use Rattle.std.proofs.Common.{List, [], ◌++◌, Option, sym, ap, ◌∙◌, ◌≡◌, false, Some, None, Ok}
 use Rattle.cell_types.specs.declared.machine.Machine.{Machine}
 use Rattle.cell_types.specs.declared.call.Call.{Call}
 use Rattle.cell_types.specs.Same.{same_machine}
 use Rattle.cell_rules.specs.ModelState.{ModelState}
 use Rattle.cell_rules.specs.Sound.{IsSound}
 use Rattle.cell_rules.specs.Reply.{next}
+use Rattle.cell_types.specs.declared.zone.Zone.{Zone}
+use Rattle.cell_types.specs.declared.posture.Posture.{Posture}
+use Rattle.cell_types.specs.declared.answer.Event.{Event}
+use Rattle.cell_rules.specs.History.{IsLegal, own_events}
+use Rattle.cell_rules.proofs.Histories.{legal-left}
+use Rattle.cell_rules.proofs.Lasting.{right_lasts_zone, right_lasts_held}
+use Rattle.cell_rules.proofs.Postures.{posture-after}
+use Rattle.cell_control.specs.Demands.{HoldsIn}
+use Rattle.cell_control.proofs.Facts.{Fact, AreSo, are_foreign}
 use Rattle.cell_control.specs.Rigs.{Rig}
 use Rattle.cell_control.specs.Steps.{Steps}
 use Rattle.cell_seat.proofs.Keeping.{Keeping}
@@ -39,3 +48,34 @@ demands_kept t rig Inv Told Demands k d =
       told = λ z p b i. (k.told z p b i.0, i.1);
       moves = λ z p b i. (k.moves z p b i.0, d.moves z p b i.0 i.1);
     }
+
+-- The demands of most motors: while one is on, these facts about the interlock hold, by the step at which its machine stands.
+abbrev pub WhileOn : {S State : Type 0} → Machine → (State → Type 0) → (S → List Fact) → ModelState → S → State → Type 0
+WhileOn m on facts z p b = on b → AreSo m z (facts p)
+
+-- then no other machine changes them, and it is enough that a rest turns the motor off, a drive finds them and a tick turns nothing on
+pub demanding_while_on : {S Sense Reading Act State : Type 0} → (t : Steps S Sense Reading Act) (rig : Rig State Sense Act) (Inv Told : ModelState → S → State → Type 0) (on : State → Type 0) (facts : S → List Fact)
+    → ((p : S) (b : State) → on (rig.set b (t.rest p)) → ⊥)
+    → ((z : ModelState) (p : S) (b : State) (s : Sense) (reading : Reading) (act : Act) → t.call p ≡ None → rig.shows b s → t.senses s (Ok reading) → t.drives p reading act → Inv z p b
+    → on (rig.set b act) → AreSo t.machine z (facts (t.after_drive p reading act)))
+    → ((b : State) → on (rig.moves b) → on b)
+    → Demanding t rig Inv Told (WhileOn t.machine on facts)
+demanding_while_on t rig Inv Told on facts off drives ticks =
+    record {
+      foreign = λ z p b n c apart sound i k. λ is_on. are_foreign t.machine n c z (facts p) apart sound (k is_on);
+      rests = λ z p q b. λ is_on. absurd (off p b is_on);
+      after_drive = drives;
+      moves = λ z p b told k. λ is_on. k (ticks b is_on);
+    }
+
+-- And by events, as a program states its demands: what a machine holds in a posture lasts while only others act.
+pub held_lasts : (m : Machine) (opening : ModelState) (seen more : List Event) (entered : Option (Zone × Posture)) → IsSound opening → IsLegal opening (seen ++ more) → own_events more m ≡ []
+    → HoldsIn m opening seen entered → HoldsIn m opening (seen ++ more) entered
+held_lasts m opening seen more None sound legal none k = tt
+held_lasts m opening seen more (Some entered) sound legal none k = (
+  right_lasts_held opening seen more sound legal m entered.0 none k.0,
+  sym (posture-after opening (seen ++ more) entered.0 legal)
+      ∙ ap (λ v. v.posture) (right_lasts_zone opening seen more sound legal m entered.0 none k.0)
+      ∙ posture-after opening seen entered.0 (legal-left opening seen more legal)
+      ∙ k.1,
+)

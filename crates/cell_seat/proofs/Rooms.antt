@@ -1,5 +1,5 @@
 -- After so many turns of a machine there is still room in its counts.
-use Rattle.std.proofs.Common.{◌≡◌, ℕ, ◌+◌, Bool, true, false, if◌then◌else◌, subst, sym, arith}
+use Rattle.std.proofs.Common.{ℕ, ◌+◌, Bool, true, false, if◌then◌else◌, subst, sym, arith}
 use Rattle.std.specs.Option.{is_none}
 use Rattle.cell_rules.specs.Benches.{Desk}
 use Rattle.cell_control.specs.Rigs.{Rig}

@@ -1,0 +1,29 @@
+-- What another machine asks of a bench is no event of one's own, so one stands where one stood.
+use Rattle.std.proofs.Common.{◌≡◌, Bool, false, cond, List, [], ◌∷◌, ◌++◌, Result, Ok, Err, refl, sym, ap, ◌∙◌, subst, append-nil}
+use Rattle.cell_types.specs.declared.machine.Machine.{Machine}
+use Rattle.cell_types.specs.declared.call.Call.{Call}
+use Rattle.cell_types.specs.declared.answer.Answer.{Answer}
+use Rattle.cell_types.specs.declared.answer.Event.{Event}
+use Rattle.cell_types.specs.declared.reply.Reply.{Reply}
+use Rattle.cell_types.specs.declared.reply.Reply.TheVariants.{Settled, Busy}
+use Rattle.cell_types.specs.Same.{same_machine}
+use Rattle.cell_rules.specs.declared.heard.LineFault.{LineFault}
+use Rattle.cell_rules.specs.ModelState.{ModelState}
+use Rattle.cell_rules.specs.History.{own_events}
+use Rattle.cell_rules.specs.Programs.{Reached}
+use Rattle.cell_rules.specs.Seen.{event}
+use Rattle.cell_rules.specs.Benches.{Desk, BenchAsks}
+use Rattle.cell_rules.proofs.SeenLemmas.{own-append}
+use Rattle.cell_control.specs.Steps.{Steps, program_of, IsReached}
+
+none_own : (n m : Machine) (c : Call) (a : Answer) → same_machine n m ≡ false → own_events (event n c a ∷ []) m ≡ []
+none_own n m c a apart = ap (λ b. cond b (event n c a ∷ []) []) apart
+
+pub asks_others : (b d : Desk) (c : Call) (r : Result Reply LineFault) (m : Machine) → BenchAsks b c r d → same_machine b.machine m ≡ false → own_events d.history m ≡ own_events b.history m
+asks_others b d c (Ok (Settled a stamp)) m h apart =
+    ap (λ x. own_events x.history m) h.3 ∙ own-append b.history (event b.machine c a ∷ []) m ∙ ap (λ l. own_events b.history m ++ l) (none_own b.machine m c a apart) ∙ append-nil (own_events b.history m)
+asks_others b d c (Ok (Busy lost stamp)) m h apart = ap (λ x. own_events x.history m) h.3
+asks_others b d c (Err fault) m h apart = ap (λ x. own_events x.history m) h.1
+
+pub reached_others : {S Sense Reading Act : Type 0} → (t : Steps S Sense Reading Act) (o : ModelState) (before now : List Event) (p : S) → own_events now t.machine ≡ own_events before t.machine → IsReached t o before p → IsReached t o now p
+reached_others t o before now p same k = subst (λ h. Reached (program_of t) (t.start o) h p) (sym same) k

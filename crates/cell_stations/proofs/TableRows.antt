@@ -1,0 +1,106 @@
+-- The rows of the table's program are as the examples have them.
+use Rattle.std.proofs.Common.{◌≡◌, ◌∙◌, sym, ap, rules, None, pos, Bool, [], ◌∷◌, refl}
+use Rattle.std.specs.Int.Signed.{le_z_yes, lt_z_yes}
+use Rattle.cell_types.specs.declared.place.Place.{Place}
+use Rattle.cell_types.specs.declared.place.Place.TheVariants.{Table as OnTable}
+use Rattle.cell_types.specs.declared.answer.Refusal.{Refusal}
+use Rattle.cell_types.specs.declared.answer.Refusal.TheVariants.{Held, NotOwner, PlaceFull}
+use Rattle.cell_calib.specs.Scale.{Scale}
+use Rattle.cell_devices.specs.declared.motor.Motor.{Motor}
+use Rattle.cell_devices.specs.declared.motor.Motor.TheVariants.{Off, Plus, Minus}
+use Rattle.cell_devices.specs.declared.stops.Stop.{Stop}
+use Rattle.cell_devices.specs.declared.act.TableAct.{TableAct}
+use Rattle.cell_devices.proofs.DriveLemmas.{drives_one, stops_there, goes_plus, goes_minus}
+use Rattle.cell_rules.specs.PlaceSet.{empty, insert_place}
+use Rattle.cell_rules.specs.Start.{start_state}
+use Rattle.cell_control.specs.Rows.{stays_by, DriveRow, UntilFree, UntilOwner, UntilRoom}
+use Rattle.cell_stations.specs.declared.table_step.TableStep.{TableStep}
+use Rattle.cell_stations.specs.declared.table_step.TableStep.TheVariants.{MoveToLoading, MoveToUnloading, TakePlate, GivePlate, ClaimBack}
+use Rattle.cell_stations.specs.declared.table_step.TableReading.{TableReading}
+use Rattle.cell_stations.specs.declared.table_step.TableProgress.{TableProgress}
+use Rattle.cell_stations.specs.TableProgram.{call_of, stays_on, rotation_stop, Acts, after_act}
+use Rattle.cell_stations.specs.TableExamples.{begins_with, rows_by, scale, at, told, TableAsks, TableDrives, TableChecks, TableRowsAreMet}
+
+begins : (points : Scale) (p : Place) → (rows_by points).start (start_state (insert_place empty p) 0) ≡ begins_with p
+begins points OnTable = refl
+begins points _ = refl
+
+stays_taking : (r : Refusal) → stays_on TakePlate r ≡ stays_by (UntilOwner ∷ []) r
+stays_taking (NotOwner _) = refl
+stays_taking _ = refl
+
+stays_giving : (r : Refusal) → stays_on GivePlate r ≡ stays_by (UntilRoom ∷ []) r
+stays_giving PlaceFull = refl
+stays_giving _ = refl
+
+stays_claiming : (r : Refusal) → stays_on ClaimBack r ≡ stays_by (UntilFree ∷ []) r
+stays_claiming (Held _) = refl
+stays_claiming _ = refl
+
+asks : (points : Scale) (loaded : Bool) → TableAsks points loaded
+asks points loaded = record {
+  claims_entry = record { asks = refl; stays = λ r. refl; leads = refl };
+  claims_exit = record { asks = refl; stays = λ r. refl; leads = refl };
+  claims_exit_loaded = record { asks = refl; stays = λ r. refl; leads = refl };
+  leaves_for_loading = record { asks = refl; stays = λ r. refl; leads = refl };
+  poses_loading = record { asks = refl; stays = λ r. refl; leads = refl };
+  releases_entry = record { asks = refl; stays = λ r. refl; leads = refl };
+  takes = record { asks = refl; stays = stays_taking; leads = refl };
+  leaves_for_unloading = record { asks = refl; stays = λ r. refl; leads = refl };
+  poses_unloading = record { asks = refl; stays = λ r. refl; leads = refl };
+  gives = record { asks = refl; stays = stays_giving; leads = refl };
+  claims_back = record { asks = refl; stays = stays_claiming; leads = refl };
+}
+
+-- what a step tells its two motors is one thing
+acts_one : (points : Scale) (step : TableStep) (r : TableReading) (a b : TableAct) → Acts points step r a → Acts points step r b → b ≡ a
+acts_one points step r a b at_a at_b =
+    let height : b.height ≡ a.height = at_b.height ∙ sym at_a.height in
+    let rotation : b.rotation ≡ a.rotation = drives_one (rotation_stop step) points.tol r.turn a.rotation b.rotation at_a.rotation at_b.rotation in
+    ap (λ h. told h b.rotation) height ∙ ap (λ m. told a.height m) rotation
+
+drive_row : (loaded : Bool) (step : TableStep) (r : TableReading) (act : TableAct) (next : TableProgress) → call_of step ≡ None → Acts scale step r act → after_act (at step loaded) act ≡ next → DriveRow (rows_by scale) (at step loaded) r act next
+drive_row loaded step r act next asks_nothing acts leads = record { asks_nothing = asks_nothing; drives = acts; drives_only = λ other d. acts_one scale step r act other acts d; leads = leads }
+
+abbrev loading : Stop
+loading = record { target = pos 0; half = 20 }
+
+abbrev unloading : Stop
+unloading = record { target = pos 500; half = 20 }
+
+drives : (loaded : Bool) → TableDrives loaded
+drives loaded = record {
+  to_loading = drive_row loaded MoveToLoading _ _ _ refl (record { height = refl; rotation = goes_minus loading (pos 5) (pos 16) (le_z_yes tt) (lt_z_yes tt) }) refl;
+  to_loading_at_top = drive_row loaded MoveToLoading _ _ _ refl (record { height = refl; rotation = goes_minus loading (pos 5) (pos 500) (le_z_yes tt) (lt_z_yes tt) }) refl;
+  to_loading_turned = drive_row loaded MoveToLoading _ _ _ refl (record { height = refl; rotation = stops_there loading (pos 5) (pos 15) (record { not_below = le_z_yes tt; not_above = le_z_yes tt }) }) refl;
+  to_loading_lowered = drive_row loaded MoveToLoading _ _ _ refl (record { height = refl; rotation = goes_minus loading (pos 5) (pos 16) (le_z_yes tt) (lt_z_yes tt) }) refl;
+  to_loading_there = drive_row loaded MoveToLoading _ _ _ refl (record { height = refl; rotation = stops_there loading (pos 5) (pos 15) (record { not_below = le_z_yes tt; not_above = le_z_yes tt }) }) refl;
+  to_unloading = drive_row loaded MoveToUnloading _ _ _ refl (record { height = refl; rotation = goes_plus unloading (pos 5) (pos 484) (le_z_yes tt) (lt_z_yes tt) }) refl;
+  to_unloading_at_bottom = drive_row loaded MoveToUnloading _ _ _ refl (record { height = refl; rotation = goes_plus unloading (pos 5) (pos 0) (le_z_yes tt) (lt_z_yes tt) }) refl;
+  to_unloading_turned = drive_row loaded MoveToUnloading _ _ _ refl (record { height = refl; rotation = stops_there unloading (pos 5) (pos 485) (record { not_below = le_z_yes tt; not_above = le_z_yes tt }) }) refl;
+  to_unloading_lifted = drive_row loaded MoveToUnloading _ _ _ refl (record { height = refl; rotation = goes_plus unloading (pos 5) (pos 484) (le_z_yes tt) (lt_z_yes tt) }) refl;
+  to_unloading_too_far = drive_row loaded MoveToUnloading _ _ _ refl (record { height = refl; rotation = goes_minus unloading (pos 5) (pos 516) (le_z_yes tt) (lt_z_yes tt) }) refl;
+  to_unloading_there_first = drive_row loaded MoveToUnloading _ _ _ refl (record { height = refl; rotation = stops_there unloading (pos 5) (pos 485) (record { not_below = le_z_yes tt; not_above = le_z_yes tt }) }) refl;
+  to_unloading_there_last = drive_row loaded MoveToUnloading _ _ _ refl (record { height = refl; rotation = stops_there unloading (pos 5) (pos 515) (record { not_below = le_z_yes tt; not_above = le_z_yes tt }) }) refl;
+}
+
+checks : TableChecks
+checks = record {
+  clash = (search rules);
+  clash_before_raw_value = λ k. search rules;
+  too_low = search rules;
+  not_too_low = λ k. search rules;
+  too_high = search rules;
+  not_too_high = λ k. search rules;
+  by_gauge = search rules;
+  not_by_line = λ k. search rules;
+}
+
+pub table-rows : TableRowsAreMet
+table-rows = record {
+  starts = λ points. record { whose = refl; empty_cell = refl; one_plate = begins points };
+  asks = asks;
+  drives = drives;
+  checks = checks;
+  rests = λ points p. refl;
+}

@@ -1,0 +1,104 @@
+-- Examples of the press's program: each row of it, with each state of its notes.
+use Rattle.std.specs.Prelude.{◌≡◌, Bool, true, false, List, [], ◌∷◌, Ok, Err}
+use Rattle.cell_types.specs.declared.machine.Machine.TheVariants.{Press}
+use Rattle.cell_types.specs.declared.zone.Zone.TheVariants.{Z3}
+use Rattle.cell_types.specs.declared.place.Place.{Place}
+use Rattle.cell_types.specs.declared.place.Place.TheVariants.{PressIn, PressOut}
+use Rattle.cell_types.specs.declared.pose.Pose.TheVariants.{Travelling, Middle, Low, Top}
+use Rattle.cell_types.specs.declared.call.Call.TheVariants.{Claim, Give, Take, Release, SetPose, Advance}
+use Rattle.cell_calib.specs.declared.sense.PressSense.{PressSense}
+use Rattle.cell_calib.specs.declared.sense.SensorFault.TheVariants.{Clash}
+use Rattle.cell_devices.specs.declared.motor.Direction.{Direction}
+use Rattle.cell_devices.specs.declared.motor.Direction.TheVariants.{Plus as Upward, Minus as Downward}
+use Rattle.cell_devices.specs.declared.motor.Motor.{Motor}
+use Rattle.cell_devices.specs.declared.motor.Motor.TheVariants.{Off, Plus, Minus}
+use Rattle.cell_devices.specs.declared.act.PressAct.{PressAct}
+use Rattle.cell_rules.specs.PlaceSet.{empty, insert_place}
+use Rattle.cell_rules.specs.Start.{start_state}
+use Rattle.cell_control.specs.Rows.{AskRow, DriveRow, UntilFree, UntilOwner, UntilRoom}
+use Rattle.cell_stations.specs.declared.press_step.PressStep.{PressStep}
+use Rattle.cell_stations.specs.declared.press_step.PressStep.TheVariants.{ClaimFirst, LeaveForMiddle, MoveToMiddle, PoseMiddle, ReleaseInterior, TakePlate, LeaveForTop, MoveToTop, PoseTop, Forge, LeaveForBottom, MoveToBottom, PoseLow, GivePlate, ClaimBack}
+use Rattle.cell_stations.specs.declared.press_step.PressProgress.{PressProgress}
+use Rattle.cell_stations.specs.PressProgram.{press_steps}
+
+abbrev pub at : PressStep → Bool → Bool → Direction → PressProgress
+at step loaded forged direction = record { step = step; loaded = loaded; forged = forged; direction = direction }
+
+-- the motor of a step, and the switches
+abbrev pub told : Motor → PressAct
+told motor = record { press = motor }
+
+abbrev pub switches : Bool → Bool → Bool → PressSense
+switches bottom middle top = record { bottom = bottom; middle = middle; top = top }
+
+abbrev pub at_bottom : PressSense
+at_bottom = switches true false false
+
+abbrev pub at_middle : PressSense
+at_middle = switches false true false
+
+abbrev pub at_top : PressSense
+at_top = switches false false true
+
+abbrev pub between : PressSense
+between = switches false false false
+
+-- where the program begins, by the one place that is full
+abbrev pub begins_with : Place → PressProgress
+begins_with PressIn = at ClaimFirst true false Downward
+begins_with PressOut = at ClaimFirst false true Downward
+begins_with _ = at ClaimFirst false false Downward
+
+pub record PressStarts : Type 0 where
+  pub whose : press_steps.machine ≡ Press
+  pub empty_cell : press_steps.start (start_state empty 0) ≡ at ClaimFirst false false Downward
+  pub one_plate : (p : Place) → press_steps.start (start_state (insert_place empty p) 0) ≡ begins_with p
+
+pub record PressAsks (loaded forged : Bool) (d : Direction) : Type 0 where
+  pub claims : AskRow press_steps (at ClaimFirst false false d) (Claim Z3) [] (at LeaveForMiddle false false d)
+  pub claims_loaded : AskRow press_steps (at ClaimFirst true false d) (Claim Z3) [] (at LeaveForTop true false d)
+  pub claims_forged : AskRow press_steps (at ClaimFirst loaded true d) (Claim Z3) [] (at LeaveForBottom loaded true d)
+  pub leaves_for_middle : AskRow press_steps (at LeaveForMiddle loaded forged d) (SetPose Travelling) [] (at MoveToMiddle loaded forged d)
+  pub poses_middle : AskRow press_steps (at PoseMiddle loaded forged d) (SetPose Middle) [] (at ReleaseInterior loaded forged d)
+  pub releases : AskRow press_steps (at ReleaseInterior loaded forged d) (Release Z3) [] (at TakePlate loaded forged d)
+  pub takes : AskRow press_steps (at TakePlate loaded forged d) (Take Z3) (UntilOwner ∷ []) (at LeaveForTop true forged d)
+  pub leaves_for_top : AskRow press_steps (at LeaveForTop loaded forged d) (SetPose Travelling) [] (at MoveToTop loaded forged d)
+  pub poses_top : AskRow press_steps (at PoseTop loaded forged d) (SetPose Top) [] (at Forge loaded forged d)
+  pub forges : AskRow press_steps (at Forge loaded forged d) Advance [] (at LeaveForBottom false true d)
+  pub leaves_for_bottom : AskRow press_steps (at LeaveForBottom loaded forged d) (SetPose Travelling) [] (at MoveToBottom loaded forged d)
+  pub poses_low : AskRow press_steps (at PoseLow loaded forged d) (SetPose Low) [] (at GivePlate loaded forged d)
+  pub gives : AskRow press_steps (at GivePlate loaded forged d) (Give Z3) (UntilRoom ∷ []) (at ClaimBack loaded false d)
+  pub claims_back : AskRow press_steps (at ClaimBack loaded forged d) (Claim Z3) (UntilFree ∷ []) (at LeaveForMiddle loaded forged d)
+
+pub record PressDrives (loaded forged : Bool) (d : Direction) : Type 0 where
+  pub to_middle_at_bottom : DriveRow press_steps (at MoveToMiddle loaded forged d) at_bottom (told Plus) (at MoveToMiddle loaded forged Upward)
+  pub to_middle_at_top : DriveRow press_steps (at MoveToMiddle loaded forged d) at_top (told Minus) (at MoveToMiddle loaded forged Downward)
+  pub to_middle_on_its_way_up : DriveRow press_steps (at MoveToMiddle loaded forged Upward) between (told Plus) (at MoveToMiddle loaded forged Upward)
+  pub to_middle_on_its_way_down : DriveRow press_steps (at MoveToMiddle loaded forged Downward) between (told Minus) (at MoveToMiddle loaded forged Downward)
+  pub to_middle_there : DriveRow press_steps (at MoveToMiddle loaded forged d) at_middle (told Off) (at PoseMiddle loaded forged d)
+  pub to_top_at_bottom : DriveRow press_steps (at MoveToTop loaded forged d) at_bottom (told Plus) (at MoveToTop loaded forged Upward)
+  pub to_top_at_middle : DriveRow press_steps (at MoveToTop loaded forged d) at_middle (told Plus) (at MoveToTop loaded forged Upward)
+  pub to_top_on_its_way : DriveRow press_steps (at MoveToTop loaded forged d) between (told Plus) (at MoveToTop loaded forged Upward)
+  pub to_top_there : DriveRow press_steps (at MoveToTop loaded forged d) at_top (told Off) (at PoseTop loaded forged d)
+  pub to_bottom_at_top : DriveRow press_steps (at MoveToBottom loaded forged d) at_top (told Minus) (at MoveToBottom loaded forged Downward)
+  pub to_bottom_at_middle : DriveRow press_steps (at MoveToBottom loaded forged d) at_middle (told Minus) (at MoveToBottom loaded forged Downward)
+  pub to_bottom_on_its_way : DriveRow press_steps (at MoveToBottom loaded forged d) between (told Minus) (at MoveToBottom loaded forged Downward)
+  pub to_bottom_there : DriveRow press_steps (at MoveToBottom loaded forged d) at_bottom (told Off) (at PoseLow loaded forged d)
+
+pub record PressChecks : Type 0 where
+  pub bottom : press_steps.senses at_bottom (Ok at_bottom)
+  pub middle : press_steps.senses at_middle (Ok at_middle)
+  pub top : press_steps.senses at_top (Ok at_top)
+  pub none : press_steps.senses between (Ok between)
+  pub bottom_and_middle : press_steps.senses (switches true true false) (Err Clash)
+  pub bottom_and_top : press_steps.senses (switches true false true) (Err Clash)
+  pub middle_and_top : press_steps.senses (switches false true true) (Err Clash)
+  pub all_three : press_steps.senses (switches true true true) (Err Clash)
+
+-- all of them; at a step that asks, the motor is off
+pub record PressRowsAreMet : Type 0 where
+  pub starts : PressStarts
+  pub asks : (loaded forged : Bool) (d : Direction) → PressAsks loaded forged d
+  pub drives : (loaded forged : Bool) (d : Direction) → PressDrives loaded forged d
+  pub checks : PressChecks
+  pub rests : (p : PressProgress) → press_steps.rest p ≡ told Off

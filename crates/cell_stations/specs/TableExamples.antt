@@ -1,0 +1,104 @@
+-- Examples of the table's program: each row of it, with each state of its note.
+use Rattle.std.specs.Prelude.{◌≡◌, ℕ, ℤ, pos, Bool, true, false, List, [], ◌∷◌, Ok, Err}
+use Rattle.cell_types.specs.declared.machine.Machine.TheVariants.{Table as TableMachine}
+use Rattle.cell_types.specs.declared.zone.Zone.TheVariants.{Z1, Z2}
+use Rattle.cell_types.specs.declared.place.Place.{Place}
+use Rattle.cell_types.specs.declared.place.Place.TheVariants.{Table as OnTable}
+use Rattle.cell_types.specs.declared.pose.Pose.TheVariants.{Turning, Loading, Unloading}
+use Rattle.cell_types.specs.declared.call.Call.TheVariants.{Claim, Give, Take, Release, SetPose}
+use Rattle.cell_calib.specs.Scale.{Scale}
+use Rattle.cell_calib.specs.Line.{IsReading}
+use Rattle.cell_calib.specs.declared.sense.TableSense.{TableSense}
+use Rattle.cell_calib.specs.declared.sense.SensorFault.TheVariants.{Low, High, Clash}
+use Rattle.cell_devices.specs.declared.motor.Motor.{Motor}
+use Rattle.cell_devices.specs.declared.motor.Motor.TheVariants.{Off, Plus, Minus}
+use Rattle.cell_devices.specs.declared.act.TableAct.{TableAct}
+use Rattle.cell_rules.specs.PlaceSet.{empty, insert_place}
+use Rattle.cell_rules.specs.Start.{start_state}
+use Rattle.cell_control.specs.Steps.{Steps}
+use Rattle.cell_control.specs.Rows.{AskRow, DriveRow, UntilFree, UntilOwner, UntilRoom}
+use Rattle.cell_stations.specs.declared.table_step.TableStep.{TableStep}
+use Rattle.cell_stations.specs.declared.table_step.TableStep.TheVariants.{ClaimEntry, ClaimExit, LeaveForLoading, MoveToLoading, PoseLoading, ReleaseEntry, TakePlate, LeaveForUnloading, MoveToUnloading, PoseUnloading, GivePlate, ClaimBack}
+use Rattle.cell_stations.specs.declared.table_step.TableProgress.{TableProgress}
+use Rattle.cell_stations.specs.declared.table_step.TableReading.{TableReading}
+use Rattle.cell_stations.specs.TableProgram.{table_steps}
+
+abbrev pub at : TableStep → Bool → TableProgress
+at step loaded = record { step = step; loaded = loaded }
+
+abbrev pub told : Motor → Motor → TableAct
+told height rotation = record { height = height; rotation = rotation }
+
+abbrev pub shown : Bool → Bool → ℕ → TableSense
+shown bottom top turn = record { bottom = bottom; top = top; turn = turn }
+
+-- what the sensors say, by the switches and the position of the rotation
+abbrev pub reads : Bool → Bool → ℕ → TableReading
+reads bottom top turn = record { sense = shown bottom top 0; turn = pos turn }
+
+-- with a gauge that may give whatever is near the line
+abbrev pub rows_by : Scale → Steps TableProgress TableSense TableReading TableAct
+rows_by points = table_steps points (IsReading points)
+
+-- where the program begins, by the one place that is full
+abbrev pub begins_with : Place → TableProgress
+begins_with OnTable = at ClaimEntry true
+begins_with _ = at ClaimEntry false
+
+pub record TableStarts (points : Scale) : Type 0 where
+  pub whose : (rows_by points).machine ≡ TableMachine
+  pub empty_cell : (rows_by points).start (start_state empty 0) ≡ at ClaimEntry false
+  pub one_plate : (p : Place) → (rows_by points).start (start_state (insert_place empty p) 0) ≡ begins_with p
+
+pub record TableAsks (points : Scale) (loaded : Bool) : Type 0 where
+  pub claims_entry : AskRow (rows_by points) (at ClaimEntry loaded) (Claim Z1) [] (at ClaimExit loaded)
+  pub claims_exit : AskRow (rows_by points) (at ClaimExit false) (Claim Z2) [] (at LeaveForLoading false)
+  pub claims_exit_loaded : AskRow (rows_by points) (at ClaimExit true) (Claim Z2) [] (at LeaveForUnloading true)
+  pub leaves_for_loading : AskRow (rows_by points) (at LeaveForLoading loaded) (SetPose Turning) [] (at MoveToLoading loaded)
+  pub poses_loading : AskRow (rows_by points) (at PoseLoading loaded) (SetPose Loading) [] (at ReleaseEntry loaded)
+  pub releases_entry : AskRow (rows_by points) (at ReleaseEntry loaded) (Release Z1) [] (at TakePlate loaded)
+  pub takes : AskRow (rows_by points) (at TakePlate loaded) (Take Z1) (UntilOwner ∷ []) (at LeaveForUnloading true)
+  pub leaves_for_unloading : AskRow (rows_by points) (at LeaveForUnloading loaded) (SetPose Turning) [] (at MoveToUnloading loaded)
+  pub poses_unloading : AskRow (rows_by points) (at PoseUnloading loaded) (SetPose Unloading) [] (at GivePlate loaded)
+  pub gives : AskRow (rows_by points) (at GivePlate loaded) (Give Z2) (UntilRoom ∷ []) (at ClaimBack false)
+  pub claims_back : AskRow (rows_by points) (at ClaimBack loaded) (Claim Z2) (UntilFree ∷ []) (at LeaveForLoading loaded)
+
+-- raw values from 100 to 4100, with a tolerance of 5: so the rotation's motor is off within 15 of its target
+abbrev pub scale : Scale
+scale = record { raw_lo = 100; raw_hi = 4100; at_lo = pos 0; at_hi = pos 500; tol = pos 5 }
+
+pub record TableDrives (loaded : Bool) : Type 0 where
+  pub to_loading : DriveRow (rows_by scale) (at MoveToLoading loaded) (reads false false 16) (told Minus Minus) (at MoveToLoading loaded)
+  pub to_loading_at_top : DriveRow (rows_by scale) (at MoveToLoading loaded) (reads false true 500) (told Minus Minus) (at MoveToLoading loaded)
+  pub to_loading_turned : DriveRow (rows_by scale) (at MoveToLoading loaded) (reads false false 15) (told Minus Off) (at MoveToLoading loaded)
+  pub to_loading_lowered : DriveRow (rows_by scale) (at MoveToLoading loaded) (reads true false 16) (told Off Minus) (at MoveToLoading loaded)
+  pub to_loading_there : DriveRow (rows_by scale) (at MoveToLoading loaded) (reads true false 15) (told Off Off) (at PoseLoading loaded)
+  pub to_unloading : DriveRow (rows_by scale) (at MoveToUnloading loaded) (reads false false 484) (told Plus Plus) (at MoveToUnloading loaded)
+  pub to_unloading_at_bottom : DriveRow (rows_by scale) (at MoveToUnloading loaded) (reads true false 0) (told Plus Plus) (at MoveToUnloading loaded)
+  pub to_unloading_turned : DriveRow (rows_by scale) (at MoveToUnloading loaded) (reads false false 485) (told Plus Off) (at MoveToUnloading loaded)
+  pub to_unloading_lifted : DriveRow (rows_by scale) (at MoveToUnloading loaded) (reads false true 484) (told Off Plus) (at MoveToUnloading loaded)
+  pub to_unloading_too_far : DriveRow (rows_by scale) (at MoveToUnloading loaded) (reads false true 516) (told Off Minus) (at MoveToUnloading loaded)
+  pub to_unloading_there_first : DriveRow (rows_by scale) (at MoveToUnloading loaded) (reads false true 485) (told Off Off) (at PoseUnloading loaded)
+  pub to_unloading_there_last : DriveRow (rows_by scale) (at MoveToUnloading loaded) (reads false true 515) (told Off Off) (at PoseUnloading loaded)
+
+-- a gauge that gives 3 at any raw value, which is near the line at 100
+abbrev pub three : ℕ → ℤ → Type 0
+three raw v = v ≡ pos 3
+
+pub record TableChecks : Type 0 where
+  pub clash : (rows_by scale).senses (shown true true 100) (Err Clash)
+  pub clash_before_raw_value : ¬ (rows_by scale).senses (shown true true 99) (Err Low)
+  pub too_low : (rows_by scale).senses (shown false false 99) (Err Low)
+  pub not_too_low : ¬ (rows_by scale).senses (shown false false 100) (Err Low)
+  pub too_high : (rows_by scale).senses (shown true false 4101) (Err High)
+  pub not_too_high : ¬ (rows_by scale).senses (shown true false 4100) (Err High)
+  pub by_gauge : (table_steps scale three).senses (shown false true 100) (Ok (record { sense = shown false true 100; turn = pos 3 }))
+  pub not_by_line : ¬ (table_steps scale three).senses (shown false true 100) (Ok (record { sense = shown false true 100; turn = pos 0 }))
+
+-- all of them; at a step that asks, both motors are off
+pub record TableRowsAreMet : Type 0 where
+  pub starts : (points : Scale) → TableStarts points
+  pub asks : (points : Scale) (loaded : Bool) → TableAsks points loaded
+  pub drives : (loaded : Bool) → TableDrives loaded
+  pub checks : TableChecks
+  pub rests : (points : Scale) (p : TableProgress) → (rows_by points).rest p ≡ told Off Off
