@@ -1,3 +1,4 @@
 pub mod CallLemmas
 pub mod WayLemmas
 pub mod RefusalLemmas
+pub mod NumberLemmas
