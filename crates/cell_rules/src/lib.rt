@@ -22,8 +22,3 @@ pub use line::Line;
 pub use places::Places;
 pub use state::{StartFault, State};
 pub use zones::{ZoneState, Zones};
-
-#[cfg(test)]
-mod bench_tests;
-#[cfg(test)]
-mod tests;
