@@ -15,52 +15,52 @@ fn posture_of_letter(letter: u8) -> Option<Posture> {
 }
 
 // For each machine a row for each pose, and in it a letter for each zone.
-const POSTURES: [(Machine, [&str; 12]); 7] = [
+const POSTURES: &[(Machine, &[&str])] = &[
     (
         Machine::Feed,
-        [
+        &[
             "......", "......", "......", "......", "......", "......", "......", ".....m",
             ".....i", ".....c", "......", "......",
         ],
     ),
     (
         Machine::Table,
-        [
+        &[
             "mm....", "ic....", "co....", "......", "......", "......", "......", "......",
             "......", "......", "......", "......",
         ],
     ),
     (
         Machine::Robot,
-        [
+        &[
             "......", "......", "......", "......", "......", "......", "......", "......",
             "......", "......", "......", "......",
         ],
     ),
     (
         Machine::Press,
-        [
+        &[
             "......", "......", "......", "..m...", "..i...", "..o...", "..c...", "......",
             "......", "......", "......", "......",
         ],
     ),
     (
         Machine::Deposit,
-        [
+        &[
             "......", "......", "......", "......", "......", "......", "......", "...mm.",
             "...ic.", "...cc.", "...co.", "...io.",
         ],
     ),
     (
         Machine::Crane,
-        [
+        &[
             "......", "......", "......", "......", "......", "......", "......", "......",
             "......", "......", "......", "......",
         ],
     ),
     (
         Machine::Watch,
-        [
+        &[
             "......", "......", "......", "......", "......", "......", "......", "......",
             "......", "......", "......", "......",
         ],
@@ -81,7 +81,7 @@ fn agreeing(machine: Machine, pose: Pose, row: &str) -> u32 {
 #[test]
 fn postures_of_poses(rt: HostRuntime) {
     let mut cells = 0u32;
-    for (machine, rows) in POSTURES.iter() {
+    for (machine, rows) in POSTURES {
         for (pose, row) in Pose::ALL.iter().zip(rows.iter()) {
             let right = agreeing(*machine, *pose, row);
             assert!(rt; right == 6, "{machine:?} {pose:?}");
