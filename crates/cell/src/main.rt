@@ -2,9 +2,12 @@
 //! cell.
 #![tactic(auto)]
 
+pub use cell_config::{Config, ConfigFault, read_config};
 use cell_program::arguments::words_of;
 use cell_program::faults;
-use cell_program::serve::{refuse_bytes, serve};
+use cell_program::serve::refuse_bytes;
+pub use cell_program::serve::serve;
+pub use cell_program::words::{Mode, read_words};
 use std::io;
 use std::io::ErrorKind;
 use std::process::ExitCode;
