@@ -8,6 +8,7 @@ mod faults;
 mod forms;
 mod limits;
 mod long_audits;
+mod order;
 mod reports;
 mod scripts;
 
