@@ -32,24 +32,23 @@ use Rattle.cell_stations.specs.declared.press_step.PressStep.{PressStep}
 use Rattle.cell_stations.specs.declared.press_step.PressStep.TheVariants.{ClaimFirst, LeaveForMiddle, MoveToMiddle, PoseMiddle, ReleaseInterior, TakePlate, LeaveForTop, MoveToTop, PoseTop, Forge, LeaveForBottom, MoveToBottom, PoseLow, GivePlate, ClaimBack}
 use Rattle.cell_stations.specs.declared.press_step.PressProgress.{PressProgress}
 use Rattle.cell_stations.specs.PressProgram.{call_of, step_after, after_done, step_motor, act_for, after_motor, clashes, press_start, press_steps}
-use Rattle.cell_control.proofs.Facts.{Finds, are_foreign}
+use Rattle.cell_control.proofs.Facts.{Finds}
 use Rattle.cell_stations.proofs.PressFacts.{PressKnows, press-knowing, drives_at}
 use Rattle.cell_seat.specs.Sides.{act_or_rest}
 use Rattle.cell_seat.proofs.Keeping.{Keeping, turn_tells}
+use Rattle.cell_seat.proofs.Demanding.{Demanding, WhileOn, demanding_while_on}
 use Rattle.cell_parts.specs.declared.axis.Axis.{Axis}
 use Rattle.cell_parts.specs.Axes.{press_end, IsWithin}
 use Rattle.cell_parts.specs.Plant.{set_axis, set_press, moved_press, press_at_start}
 use Rattle.cell_parts.specs.Shows.{PressShows}
 use Rattle.cell_parts.specs.Collisions.{IsOn, RestsAtMiddle, RestsAtBottom, DrivesPast}
-use Rattle.cell_parts.specs.PositionDemands.{HoldsIn}
 use Rattle.cell_parts.specs.Rigs.{press_rig}
 use Rattle.cell_plant.proofs.WithinLemmas.{between, moved_within}
 
--- what its controller knows of the interlock; it stands within its ends, and its motor is on only while it holds its interior, which moves; it rests where an open posture says, and at a switch once it is driven there
+-- what its controller knows of the interlock; it stands within its ends, and rests where an open posture says, and at a switch once it is driven there
 pub record PressInv (z : ModelState) (p : PressProgress) (a : Axis) : Type 0 where
   pub knows : PressKnows p z
   pub within : IsWithin press_end a.position
-  pub moving : IsOn a → HoldsIn Moving z Press Z3
   pub open_in : posture_at z Z3 ≡ OpenIn → RestsAtMiddle a
   pub open_out : posture_at z Z3 ≡ OpenOut → RestsAtBottom a
   pub at_middle : p.step ≡ PoseMiddle → RestsAtMiddle a
@@ -65,7 +64,6 @@ press-start s k =
     record {
       knows = tt;
       within = between press_end (pos 1000) (omega (arith, ints)) (omega (arith, ints));
-      moving = λ on. absurd (on refl);
       open_in = λ o. absurd ((not_closed _ shut).0 o);
       open_out = λ o. absurd ((not_closed _ shut).1 o);
       at_middle = λ e. cc;
@@ -156,7 +154,6 @@ module _ (z : ModelState) (p : PressProgress) (a : Axis) (i : PressInv z p a) wh
   off = record {
     knows = i.knows;
     within = i.within;
-    moving = λ on. absurd (on refl);
     open_in = λ o. (refl, (i.open_in o).1);
     open_out = λ o. (refl, (i.open_out o).1);
     at_middle = λ e. (refl, (i.at_middle e).1);
@@ -178,7 +175,6 @@ module _ (z : ModelState) (p : PressProgress) (a : Axis) (i : PressInv z p a) wh
       record {
         knows = press-knowing.after_done p z c e d sound i.knows;
         within = i.within;
-        moving = λ on. absurd (on refl);
         open_in = λ o. rests_middle (opened_in p.step c z e o);
         open_out = λ o. rests_bottom (opened_out p.step c z e o);
         at_middle = λ q. absurd (leads.0 q);
@@ -187,11 +183,8 @@ module _ (z : ModelState) (p : PressProgress) (a : Axis) (i : PressInv z p a) wh
 
   -- it was driven
   module _ (x : PressSense) (shows : PressShows a x) (drives : call_of p.step ≡ None) where
-    held_moving : HoldsIn Moving z Press Z3
-    held_moving = drives_at p.step z drives i.knows
-
     is_moving : posture_at z Z3 ≡ Moving
-    is_moving = held_moving.1
+    is_moving = (drives_at p.step z drives i.knows).1
 
     driven_middle : (m : Motor) → step_motor p.step p.direction x ≡ m → (after_motor p m).step ≡ PoseMiddle → RestsAtMiddle (set_axis a m)
     driven_middle Off e q = (refl, shows.middle.0 (driven_to_middle p.step p.loaded p.forged p.direction x drives e q))
@@ -207,7 +200,6 @@ module _ (z : ModelState) (p : PressProgress) (a : Axis) (i : PressInv z p a) wh
     drive = record {
       knows = press-knowing.after_drive p x (act_for p x) z drives refl i.knows;
       within = i.within;
-      moving = λ on. held_moving;
       open_in = λ o. absurd ((not_moving _ is_moving).0 o);
       open_out = λ o. absurd ((not_moving _ is_moving).1 o);
       at_middle = driven_middle (act_for p x).press refl;
@@ -226,7 +218,6 @@ press-keeping = record {
       record {
         knows = press-knowing.foreign p z n c apart sound i.knows;
         within = i.within;
-        moving = λ on. (are_foreign Press n c z (Finds Z3 Moving ∷ []) apart sound (i.moving on, tt)).0;
         open_in = λ o. i.open_in (sym same ∙ o);
         open_out = λ o. i.open_out (sym same ∙ o);
         at_middle = i.at_middle;
@@ -242,13 +233,20 @@ press-keeping = record {
   moves = λ z p b i. record {
     knows = i.knows;
     within = moved_within press_end b (omega (arith, ints)) i.within;
-    moving = i.moving;
     open_in = λ o. middle_moved b (i.open_in o);
     open_out = λ o. bottom_moved b (i.open_out o);
     at_middle = λ e. middle_moved b (i.at_middle e);
     at_bottom = λ e. bottom_moved b (i.at_bottom e);
   };
 }
+
+-- and while its motor is on it holds its interior, which moves
+abbrev pub PressMoves : ModelState → PressProgress → Axis → Type 0
+PressMoves = WhileOn Press IsOn (λ p. Finds Z3 Moving ∷ [])
+
+pub press-demanding : Demanding press_steps press_rig PressInv PressInv PressMoves
+press-demanding =
+    demanding_while_on press_steps press_rig PressInv PressInv IsOn (λ p. Finds Z3 Moving ∷ []) (λ p b on. on refl) (λ z p b x r act e shows senses drives i on. (drives_at p.step z e i.knows, tt)) (λ b on. on)
 
 -- at an end of the axis its switch is on, and the motor isn't told to go on
 down_to_middle : (last : Direction) (b m t : Bool) → b ≡ true → m ≡ false → (if m then Off else (if b then Plus else (if t then Minus else motor_of last))) ≡ Minus → ⊥

@@ -93,16 +93,16 @@ module _ (c : CellScales) (scales : AreCellScales c) where
     positions = record {
       arm1 = λ out. absurd (arm1_in out);
       arm2 = λ out. absurd (arm2_in out);
-      press = ((i.each Press).open_in, (i.each Press).open_out);
-      table = (i.each Table).open_in;
+      press = ((i.each Press).0.open_in, (i.each Press).0.open_out);
+      table = (i.each Table).0.open_in;
       gripper = λ down. absurd (gripper_high down);
       plates = ((i.each Feed).end, (i.each Deposit).end);
     }
 
     motors : (errand : GripperErrand) → MotorDemands errand w.interlock (plant_of w)
     motors errand = record {
-      press = (i.each Press).moving;
-      table = (i.each Table).moving;
+      press = λ on. ((i.each Press).1 on).0;
+      table = λ on. let k = (i.each Table).1 on in (k.0, k.1.0);
       feed = λ runs. let stands = (i.each Feed).stands in cc;
       deposit = λ runs. let stands = (i.each Deposit).stands in cc;
       arm1 = λ on. absurd (on (ap (λ a. a.motor) (i.each Robot).arm1));
@@ -125,12 +125,12 @@ module _ (c : CellScales) (scales : AreCellScales c) where
 
     within : StaysWithin (plant_of w)
     within = record {
-      press = (i.each Press).within;
+      press = (i.each Press).0.within;
       arm1 = standing_within arm_end _ (pos 0) (ap (λ a. a.position) (i.each Robot).arm1) (omega (arith, ints)) (omega (arith, ints));
       arm2 = standing_within arm_end _ (pos 0) (ap (λ a. a.position) (i.each Robot).arm2) (omega (arith, ints)) (omega (arith, ints));
       rotation = standing_within rotation_end _ (pos 300) (ap (λ a. a.position) (i.each Robot).rotation) (omega (arith, ints)) (omega (arith, ints));
-      lift = (i.each Table).lift_within;
-      turn = (i.each Table).turn_within;
+      lift = (i.each Table).0.lift_within;
+      turn = (i.each Table).0.turn_within;
       travel = standing_within crane_end _ (pos 0) (ap (λ a. a.position) (i.each Crane).travel) (omega (arith, ints)) (omega (arith, ints));
       gripper = standing_within gripper_end _ (pos 900) (ap (λ a. a.position) (i.each Crane).gripper) (omega (arith, ints)) (omega (arith, ints));
     }
@@ -147,7 +147,7 @@ module _ (c : CellScales) (scales : AreCellScales c) where
   -- nor is an axis driven on past an end
   not_past : (m : Machine) (busy : Bool) (w : CellState) (s : Step) → Kept w → goes_on w m ≡ true → TakesTurn c m busy w s → ¬ DrivesPastEnd m (plant_of s.set)
   not_past Table busy w s i e k past =
-      table-ends c.turn scales.turn (w.side Table).part (i.each Table).turn_within k.takes.sense k.takes.shows _ _ (w.side Table).stopped (w.side Table).progress k.takes.turned k.takes.row
+      table-ends c.turn scales.turn (w.side Table).part (i.each Table).0.turn_within k.takes.sense k.takes.shows _ _ (w.side Table).stopped (w.side Table).progress k.takes.turned k.takes.row
       (subst (λ t. DrivesPastEnd Table (record (plant_of s.set) { table = t })) (set_unnoted (table_steps c.turn (IsReading c.turn)) (table_rig c.turn) (λ b x. refl) (w.side Table) s.asked k.takes.turned (s.set.side Table) k.takes.is) past)
   not_past Press busy w s i e k past =
       press-ends (w.side Press).part k.takes.sense k.takes.shows _ _ (w.side Press).stopped (w.side Press).progress k.takes.turned k.takes.row

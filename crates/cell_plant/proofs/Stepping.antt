@@ -13,11 +13,10 @@ use Rattle.cell_rules.specs.Benches.{Desk}
 use Rattle.cell_control.specs.Steps.{Steps}
 use Rattle.cell_control.specs.Rigs.{Rig}
 use Rattle.cell_stations.specs.declared.table_step.TableProgress.{TableProgress}
-use Rattle.cell_stations.specs.declared.table_step.TableReading.{TableReading}
 use Rattle.cell_stations.specs.declared.press_step.PressProgress.{PressProgress}
 use Rattle.cell_stations.specs.PressProgram.{press_steps}
-use Rattle.cell_stations.specs.TableProgram.{table_steps}
-use Rattle.cell_stations.proofs.TableSenses.{turns_near}
+use Rattle.cell_stations.specs.TableProgram.{Senses, table_steps}
+use Rattle.cell_stations.proofs.TableSenses.{senses_near}
 use Rattle.cell_notes.specs.Asks.{Asked, settled_in}
 use Rattle.cell_notes.specs.Notes.{Notes, notes_with}
 use Rattle.cell_parts.specs.declared.axis.Axis.{Axis}
@@ -25,6 +24,7 @@ use Rattle.cell_parts.specs.Axes.{CellScales}
 use Rattle.cell_parts.specs.Plant.{TablePlant}
 use Rattle.cell_parts.specs.Rigs.{press_rig, table_rig}
 use Rattle.cell_seat.specs.Sides.{Side}
+use Rattle.cell_seat.proofs.Turning.{seat_turn_still}
 use Rattle.cell_seat.specs.declared.fault.SimFault.{SimFault}
 use Rattle.cell_seat.specs.SeatTurns.{SeatTurn, Untouched, Leads as LeadsAlone}
 use Rattle.cell_notes.specs.declared.schedule.Turn.{Turn}
@@ -160,21 +160,9 @@ pub by_turn : (t u : Turn) (before now : Moment) → t ≡ u → StepsOn t befor
 by_turn t u before now e k = subst (λ x. StepsOn x before now) e k
 
 -- the table's turn: its readings are such as a calibration over its scale may give
-pub table_leads : (b : Bool) (points : Scale) (gives : ℕ → ℤ → Type 0) (rig : Rig TablePlant TableSense TableAct) (busy : Bool) (z : ModelState) (before : Side TableProgress TablePlant) (asked : Asked) (y : ModelState) (now : Side TableProgress TablePlant)
-    → LeadsAlone b (table_steps points gives) rig busy z before asked y now → LeadsAlone b (table_steps points (IsReading points)) rig busy z before asked y now
-table_leads true points gives rig busy z before asked y now k =
-    record {
-      set = k.set;
-      acts = record {
-        sense = k.acts.sense;
-        shows = k.acts.shows;
-        turned = k.acts.turned;
-        row = turns_near points gives _ _ before.stopped before.progress k.acts.sense k.acts.turned k.acts.row;
-        is = k.acts.is;
-      };
-      moved = k.moved;
-    }
-table_leads false points gives rig busy z before asked y now k = k
+pub table_near : (points : Scale) (gives : ℕ → ℤ → Type 0) (rig : Rig TablePlant TableSense TableAct) (busy : Bool) (old new : Desk) (before now : Side TableProgress TablePlant) (notes notes' : Notes)
+    → SeatTurn (table_steps points gives) rig busy old new before now notes notes' → SeatTurn (table_steps points (IsReading points)) rig busy old new before now notes notes'
+table_near points gives rig busy old new before now notes notes' k = seat_turn_still (table_steps points gives) rig (Senses points (IsReading points)) (senses_near points gives) busy old new before now notes notes' k
 
 -- the table's turn and the press's, which leave the others
 module _ (before now : Moment) (busy : Bool) (asked : Asked) (scales : now.scales ≡ before.scales) (opening : now.opening ≡ before.opening) where
@@ -188,15 +176,13 @@ module _ (before now : Moment) (busy : Bool) (asked : Asked) (scales : now.scale
   table_others e Crane apart = (ap (λ (m : Moment). side_in m.sides Crane) e, ap (λ (m : Moment). m.notes.crane) e)
   table_others e Watch apart = (refl, ap (λ (m : Moment). m.notes.watch) e)
 
-  pub table_on : (points : Scale) (gives : ℕ → ℤ → Type 0)
-      → LeadsAlone (is_none before.sides.table.stopped) (table_steps points gives) (table_rig before.scales.turn) busy before.interlock before.sides.table asked now.interlock now.sides.table
+  pub table_on : (points : Scale) → LeadsAlone (is_none before.sides.table.stopped) (table_steps points (IsReading points)) (table_rig before.scales.turn) busy before.interlock before.sides.table asked now.interlock now.sides.table
       → before.scales.turn ≡ points → now.history ≡ before.history ++ settled_in Table asked
       → now.notes.table ≡ (if is_none before.sides.table.stopped then notes_with before.notes.table asked else before.notes.table)
       → now ≡ record now { sides = record before.sides { table = now.sides.table }; notes = record before.notes { table = now.notes.table } }
       → StepsOn (record { machine = Table; busy = busy }) before now
-  table_on points gives leads fits history noted rest =
-      let near = table_leads (is_none before.sides.table.stopped) points gives (table_rig before.scales.turn) busy before.interlock before.sides.table asked now.interlock now.sides.table leads in
-      let led = subst (λ (s : Scale). LeadsAlone (is_none before.sides.table.stopped) (table_steps s (IsReading s)) (table_rig before.scales.turn) busy before.interlock before.sides.table asked now.interlock now.sides.table) (sym fits) near in
+  table_on points leads fits history noted rest =
+      let led = subst (λ (s : Scale). LeadsAlone (is_none before.sides.table.stopped) (table_steps s (IsReading s)) (table_rig before.scales.turn) busy before.interlock before.sides.table asked now.interlock now.sides.table) (sym fits) leads in
       steps_on Table busy before now asked refl led history noted (table_others rest) scales opening
 
   press_others : now ≡ record now { sides = record before.sides { press = now.sides.press }; notes = record before.notes { press = now.notes.press } }

@@ -37,29 +37,29 @@ use Rattle.cell_control.specs.Turns.{Turned, Turns}
 use Rattle.cell_stations.specs.declared.table_step.TableReading.{TableReading}
 use Rattle.cell_devices.specs.Drives.{StopsAt, DrivesTo}
 use Rattle.cell_stations.specs.TableProgram.{call_of, step_after, after_done, is_off, after_act, height_for, rotation_stop, Senses, Acts, table_start, table_steps}
-use Rattle.cell_control.proofs.Facts.{Finds, are_foreign}
+use Rattle.cell_control.proofs.Facts.{Finds}
 use Rattle.cell_stations.proofs.TableFacts.{TableKnows, table-knowing, drives_at}
 use Rattle.cell_seat.specs.Sides.{act_or_rest}
 use Rattle.cell_seat.proofs.Keeping.{Keeping, turn_tells}
+use Rattle.cell_seat.proofs.Demanding.{Demanding, WhileOn, demanding_while_on}
 use Rattle.cell_parts.specs.Shows.{TableShows}
 use Rattle.cell_parts.specs.Collisions.{IsOn, TableMoves, DrivesPast}
-use Rattle.cell_parts.specs.PositionDemands.{HoldsIn, RestsAtLoading}
+use Rattle.cell_parts.specs.PositionDemands.{RestsAtLoading}
 use Rattle.cell_parts.specs.Rigs.{table_rig}
 use Rattle.cell_plant.proofs.WithinLemmas.{between, moved_within}
 
 abbrev at_rest_act : TableAct
 at_rest_act = record { height = Off; rotation = Off }
 
--- what its step knows of the interlock; it stands within its ends, and moves only while it holds both its zones, which move; it stands ready to load where it is open to the feed belt, and before it opens
+-- what its step knows of the interlock; it stands within its ends, and ready to load where it is open to the feed belt, and before it opens
 pub record TableInv (z : ModelState) (p : TableProgress) (t : TablePlant) : Type 0 where
   pub knows : TableKnows p z
   pub lift_within : IsWithin lift_end t.lift.position
   pub turn_within : IsWithin turn_end t.turn.position
-  pub moving : TableMoves t → HoldsIn Moving z TableMachine Z1 × HoldsIn Moving z TableMachine Z2
   pub open_in : posture_at z Z1 ≡ OpenIn → RestsAtLoading t
   pub settled : p.step ≡ PoseLoading → RestsAtLoading t
 
-off_stands : (t : TablePlant) → t.lift.motor ≡ Off → t.turn.motor ≡ Off → ¬ TableMoves t
+pub off_stands : (t : TablePlant) → t.lift.motor ≡ Off → t.turn.motor ≡ Off → ¬ TableMoves t
 off_stands t a b (inl on) = on a
 off_stands t a b (inr on) = on b
 
@@ -70,7 +70,6 @@ table-start s k =
       knows = tt;
       lift_within = between lift_end (pos 0) (omega (arith, ints)) (omega (arith, ints));
       turn_within = between turn_end (pos 0) (omega (arith, ints)) (omega (arith, ints));
-      moving = λ on. absurd (off_stands table_at_start refl refl on);
       open_in = λ o. rests;
       settled = λ e. rests;
     }
@@ -153,7 +152,6 @@ at_rest z p t i = record {
   knows = i.knows;
   lift_within = i.lift_within;
   turn_within = i.turn_within;
-  moving = λ on. absurd (off_stands (set_table t at_rest_act) refl refl on);
   open_in = λ o. rests-off t (i.open_in o);
   settled = λ e. rests-off t (i.settled e);
 }
@@ -164,7 +162,6 @@ module _ (points : Scale) (axis : IsAxisScale turn_end points) where
     knows = (table-knowing points (IsReading points)).after_done p z c e d sound i.knows;
     lift_within = i.lift_within;
     turn_within = i.turn_within;
-    moving = λ on. absurd (off_stands (set_table t at_rest_act) refl refl on);
     open_in = λ o. rests-off t (opened p.step c (posture_at z Z1) (RestsAtLoading t) e i.open_in i.settled (sym (posture-changed z TableMachine c Z1) ∙ o));
     settled = λ q. absurd (led_elsewhere p.step p.loaded c e q);
   }
@@ -175,7 +172,6 @@ module _ (points : Scale) (axis : IsAxisScale turn_end points) where
     knows = (table-knowing points (IsReading points)).after_drive p r act z e acts i.knows;
     lift_within = i.lift_within;
     turn_within = i.turn_within;
-    moving = λ on. let at = drives_at p.step z e i.knows in ((at.0.0, at.1.0), (at.0.1, at.1.1));
     open_in = λ o. absurd (moving_open (posture_at z Z1) (drives_at p.step z e i.knows).1.0 o);
     settled = λ q.
         let led = led_by (is_off act.height && is_off act.rotation) p.step p.loaded e q in
@@ -189,7 +185,6 @@ module _ (points : Scale) (axis : IsAxisScale turn_end points) where
           knows = (table-knowing points (IsReading points)).foreign p z n c apart sound i.knows;
           lift_within = i.lift_within;
           turn_within = i.turn_within;
-          moving = λ on. let at = i.moving on in let kept = are_foreign TableMachine n c z (Finds Z1 Moving ∷ Finds Z2 Moving ∷ []) apart sound (at.0, (at.1, tt)) in (kept.0, kept.1.0);
           open_in = λ o. i.open_in (sym (posture-foreign z n c Z1 apart) ∙ o);
           settled = i.settled;
         };
@@ -202,11 +197,19 @@ module _ (points : Scale) (axis : IsAxisScale turn_end points) where
       knows = i.knows;
       lift_within = moved_within lift_end b.lift (omega (arith, ints)) i.lift_within;
       turn_within = moved_within turn_end b.turn (omega (arith, ints)) i.turn_within;
-      moving = i.moving;
       open_in = λ o. rests-moved b (i.open_in o);
       settled = λ e. rests-moved b (i.settled e);
     };
   }
+
+-- and while it moves it holds both its zones, which move
+abbrev pub TableDrives : ModelState → TableProgress → TablePlant → Type 0
+TableDrives = WhileOn TableMachine TableMoves (λ p. Finds Z1 Moving ∷ Finds Z2 Moving ∷ [])
+
+pub table-demanding : (points : Scale) → Demanding (table_steps points (IsReading points)) (table_rig points) TableInv TableInv TableDrives
+table-demanding points =
+    demanding_while_on (table_steps points (IsReading points)) (table_rig points) TableInv TableInv TableMoves (λ p. Finds Z1 Moving ∷ Finds Z2 Moving ∷ []) (λ p b on. off_stands (set_table b at_rest_act) refl refl on)
+    (λ z p b s r act e shows senses drives i on. let at = drives_at p.step z e i.knows in ((at.0.0, at.1.0), ((at.0.1, at.1.1), tt))) (λ b on. on)
 
 -- No turn of the table drives it past an end: by its switches, and by its reading, which is within the tolerance.
 abbrev DrivesOut : TablePlant → Type 0

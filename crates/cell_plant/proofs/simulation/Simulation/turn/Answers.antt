@@ -3,10 +3,11 @@ use Rattle.cell_types.specs.declared.machine.Machine.TheVariants.{Press, Table}
 use Rattle.cell_notes.specs.Notes.{HasRoom}
 use Rattle.cell_stations.specs.PressProgram.{press_steps}
 use Rattle.cell_stations.specs.TableProgram.{table_steps}
+use Rattle.cell_parts.specs.Rigs.{table_rig}
 use Rattle.cell_seat.proofs.Others.{others_ready}
 use Rattle.cell_plant.specs.Cells.{scales_of}
 use Rattle.cell_plant.specs.Moments.{Moment, notes_in}
-use Rattle.cell_plant.proofs.Stepping.{table_on, press_on, idle_on, none_controlled, on_ok, grows, with_turn, turn_is, by_turn}
+use Rattle.cell_plant.proofs.Stepping.{table_near, table_on, press_on, idle_on, none_controlled, on_ok, grows, with_turn, turn_is, by_turn}
 use Rattle.cell_plant.proofs.simulation.Simulation.turn.Goals as goal
 
 pub seat_turn-requires-clause-room : goal.seat_turn-requires-clause-room
@@ -48,8 +49,11 @@ returns-in-Table g c =
     let done = c.seat_turn.ensures in
     rw (sym c.self.view_is)
     (on_ok c.seat_turn.result _ _ done.turn (λ turned.
+    let points = c.self.inside.cell.table.controller.program.turn.points in
+    let gives = g.F4.Gauge.gives c.self.inside.cell.table.controller.program.turn.gauge in
+    let near = table_near points gives (table_rig c.self.inside.cell.table.part.scale) _ _ _ _ _ _ _ turned in
     by_turn _ c.args.turn _ _ (turn_is c.args.turn Table c.in-Table.is)
-    (table_on _ _ c.args.turn.busy turned.asked (ap (with_turn (scales_of c.self.inside.cell)) done.make) turned.opening _ _ turned.leads c.self.invariant.fitted.turn turned.history turned.noted refl)))
+    (table_on _ _ c.args.turn.busy near.asked (ap (with_turn (scales_of c.self.inside.cell)) done.make) near.opening points near.leads c.self.invariant.fitted.turn near.history near.noted refl)))
 
 pub returns-in-Press : goal.returns-in-Press
 returns-in-Press g c =
