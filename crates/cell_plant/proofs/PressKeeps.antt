@@ -1,5 +1,5 @@
 -- What the press keeps of its side, in every state of a run.
-use Rattle.std.proofs.Common.{◌≡◌, pos, ◌≤ℤ◌, Bool, true, false, ◌⊎◌, inl, inr, List, [], ◌∷◌, Option, Some, None, Result, Ok, Err, refl, sym, ap, ◌∙◌, subst, if◌then◌else◌, arith}
+use Rattle.std.proofs.Common.{◌≡◌, pos, ◌≤ℤ◌, Bool, true, false, ◌⊎◌, inl, inr, [], ◌∷◌, Option, Some, None, Result, Ok, Err, refl, sym, ap, ◌∙◌, subst, if◌then◌else◌, arith}
 use Rattle.std.proofs.lemmas.Int.{ints}
 use Rattle.std.proofs.lemmas.Bool.{false_from_ne_true}
 use Rattle.cell_types.specs.declared.machine.Machine.TheVariants.{Press}

@@ -1,5 +1,5 @@
 -- What is kept of the machines that have no controller yet: they rest, and plates stand at the belts' ends where those are full.
-use Rattle.std.proofs.Common.{◌≡◌, pos, Bool, true, false, IsSome, IsTrue, ◌↔◌, Option, Some, None, refl, sym, ap, ◌∙◌, subst, arith}
+use Rattle.std.proofs.Common.{◌≡◌, pos, Bool, true, false, IsSome, IsTrue, ◌↔◌, Option, Some, None, refl, sym, subst}
 use Rattle.cell_types.specs.declared.machine.Machine.{Machine}
 use Rattle.cell_types.specs.declared.machine.Machine.TheVariants.{Feed, Deposit}
 use Rattle.cell_types.specs.declared.place.Place.TheVariants.{FeedEnd, DepEnd}

@@ -11,7 +11,6 @@ use Rattle.cell_types.specs.declared.journal.Entry.{Entry}
 use Rattle.cell_types.specs.declared.reply.Reply.{Reply}
 use Rattle.cell_types.specs.declared.reply.Reply.TheVariants.{Settled, Busy}
 use Rattle.cell_types.specs.Everything.{all_machines}
-use Rattle.cell_types.specs.Journals.{journal_of}
 use Rattle.cell_types.specs.Same.{same_machine}
 use Rattle.cell_rules.specs.declared.heard.LineFault.{LineFault}
 use Rattle.cell_rules.specs.ModelState.{ModelState, one_if}
@@ -29,9 +28,9 @@ use Rattle.cell_seat.specs.Fares.{status_of}
 use Rattle.cell_seat.specs.SeatTurns.{Answers}
 use Rattle.cell_parts.specs.Axes.{CellScales, AreCellScales}
 use Rattle.cell_notes.specs.declared.schedule.Turn.{Turn}
-use Rattle.cell_plant.specs.Machines.{steps_of, rig_of}
-use Rattle.cell_plant.specs.CellStates.{CellState, plant_of, side_in, cell_at_start}
-use Rattle.cell_plant.specs.Runs.{Step, TakesTurn, IsPassedOver, LeadsIf, Leads, goes_on, IsRun, end_of}
+use Rattle.cell_plant.specs.Machines.{steps_of}
+use Rattle.cell_plant.specs.CellStates.{CellState, plant_of, cell_at_start}
+use Rattle.cell_plant.specs.Runs.{Step, TakesTurn, LeadsIf, Leads, goes_on, IsRun, end_of}
 use Rattle.cell_plant.specs.Records.{is_turn_of, is_told, counts_in, events_in, positions_in}
 use Rattle.cell_plant.specs.Cells.{TellsRun}
 use Rattle.cell_plant.specs.Moments.{Moment, StepsOn, Keeps, first_moment, state_at, notes_in}

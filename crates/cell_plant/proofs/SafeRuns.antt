@@ -1,5 +1,5 @@
 -- Every state of a run is safe: the facts of the six machines together meet all demands, and so nothing collides.
-use Rattle.std.proofs.Common.{◌≡◌, ℤ, pos, ◌≤ℤ◌, Bool, true, false, ◌&&◌, not, inl, inr, Option, Some, None, is_none, List, [], ◌∷◌, refl, sym, ap, ◌∙◌, subst, arith}
+use Rattle.std.proofs.Common.{◌≡◌, ℤ, pos, ◌≤ℤ◌, Bool, true, false, ◌&&◌, not, inl, inr, Option, Some, None, List, [], ◌∷◌, refl, sym, ap, ◌∙◌, subst, arith}
 use Rattle.std.proofs.lemmas.Int.{ints}
 use Rattle.cell_types.specs.declared.machine.Machine.{Machine}
 use Rattle.cell_types.specs.declared.machine.Machine.TheVariants.{Feed, Table, Robot, Press, Deposit, Crane, Watch}
@@ -21,18 +21,17 @@ use Rattle.cell_stations.specs.TableProgram.{table_steps}
 use Rattle.cell_notes.specs.Asks.{Asked, done_in}
 use Rattle.cell_seat.specs.Sides.{Side, noting, act_or_rest, side_set}
 use Rattle.cell_parts.specs.Rigs.{press_rig, table_rig}
-use Rattle.cell_parts.specs.Axes.{press_end, arm_end, rotation_end, lift_end, turn_end, crane_end, gripper_end, IsWithin, CellScales, AreCellScales}
+use Rattle.cell_parts.specs.Axes.{arm_end, rotation_end, crane_end, gripper_end, IsWithin, CellScales, AreCellScales}
 use Rattle.cell_parts.specs.Collisions.{IsOut, IsGripperDown, PlateFalls, DrivesPastEnd}
 use Rattle.cell_parts.specs.PositionDemands.{PositionDemands}
 use Rattle.cell_parts.specs.MotorDemands.{GripperErrand, ForTravel, MotorDemands}
 use Rattle.cell_parts.specs.Laws.{AllDemandsMet}
 use Rattle.cell_parts.proofs.NoCollision.{nothing_collides}
 use Rattle.cell_notes.specs.declared.schedule.Turn.{Turn}
-use Rattle.cell_plant.specs.Machines.{steps_of, rig_of}
 use Rattle.cell_plant.specs.CellStates.{CellState, plant_of, cell_at_start}
-use Rattle.cell_plant.specs.Runs.{Step, TakesTurn, IsPassedOver, LeadsIf, Leads, goes_on, IsRun}
+use Rattle.cell_plant.specs.Runs.{Step, TakesTurn, LeadsIf, goes_on, IsRun}
 use Rattle.cell_plant.specs.Safety.{StaysWithin, IsSafeState, IsSafelySet, IsSafeRun, EveryRunIsSafe}
-use Rattle.cell_plant.proofs.KeptRuns.{CellInv, Throughout, step_keeps}
+use Rattle.cell_plant.proofs.KeptRuns.{CellInv, step_keeps}
 use Rattle.cell_plant.proofs.CellKeeps.{InvOf, ToldOf, keeping_of, starts}
 use Rattle.cell_plant.proofs.PressKeeps.{press-ends}
 use Rattle.cell_plant.proofs.TableKeeps.{table-ends}

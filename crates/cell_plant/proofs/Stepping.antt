@@ -1,5 +1,5 @@
 -- One turn of a simulation, as a step of a run.
-use Rattle.std.proofs.Common.{◌≡◌, ℕ, ℤ, OnOk, OnErr, IfOk, Bool, true, false, ◌&&◌, ◌⊎◌, inl, inr, is_none, List, [], ◌++◌, append-nil, Option, Some, None, Result, Ok, Err, refl, sym, ap, ◌∙◌, subst, if◌then◌else◌}
+use Rattle.std.proofs.Common.{◌≡◌, ℕ, ℤ, OnOk, OnErr, IfOk, Bool, true, false, ◌&&◌, ◌⊎◌, inl, inr, is_none, List, [], ◌++◌, append-nil, None, Result, Ok, Err, refl, sym, ap, ◌∙◌, subst, if◌then◌else◌}
 use Rattle.cell_types.specs.declared.machine.Machine.{Machine}
 use Rattle.cell_types.specs.declared.machine.Machine.TheVariants.{Feed, Table, Robot, Press, Deposit, Crane, Watch}
 use Rattle.cell_types.specs.Same.{same_machine, one_machine}
@@ -13,19 +13,16 @@ use Rattle.cell_rules.specs.Benches.{Desk}
 use Rattle.cell_control.specs.Steps.{Steps}
 use Rattle.cell_control.specs.Rigs.{Rig}
 use Rattle.cell_stations.specs.declared.table_step.TableProgress.{TableProgress}
-use Rattle.cell_stations.specs.declared.press_step.PressProgress.{PressProgress}
 use Rattle.cell_stations.specs.PressProgram.{press_steps}
 use Rattle.cell_stations.specs.TableProgram.{Senses, table_steps}
 use Rattle.cell_stations.proofs.TableSenses.{senses_near}
 use Rattle.cell_notes.specs.Asks.{Asked, settled_in}
 use Rattle.cell_notes.specs.Notes.{Notes, notes_with}
-use Rattle.cell_parts.specs.declared.axis.Axis.{Axis}
 use Rattle.cell_parts.specs.Axes.{CellScales}
 use Rattle.cell_parts.specs.Plant.{TablePlant}
 use Rattle.cell_parts.specs.Rigs.{press_rig, table_rig}
 use Rattle.cell_seat.specs.Sides.{Side}
 use Rattle.cell_seat.proofs.Turning.{seat_turn_still}
-use Rattle.cell_seat.specs.declared.fault.SimFault.{SimFault}
 use Rattle.cell_seat.specs.SeatTurns.{SeatTurn, Untouched, Leads as LeadsAlone}
 use Rattle.cell_notes.specs.declared.schedule.Turn.{Turn}
 use Rattle.cell_plant.specs.Machines.{steps_of, rig_of, has_controller}

@@ -1,5 +1,5 @@
 -- What the table keeps of its side, in every state of a run.
-use Rattle.std.proofs.Common.{◌≡◌, ℤ, pos, ◌+ℤ◌, ◌-ℤ◌, ◌<ℤ◌, ◌≤ℤ◌, Bool, true, false, ◌&&◌, ◌⊎◌, inl, inr, List, [], ◌∷◌, Option, Some, None, Result, Ok, refl, sym, ap, ◌∙◌, subst, if◌then◌else◌, arith}
+use Rattle.std.proofs.Common.{◌≡◌, ℤ, pos, ◌+ℤ◌, ◌-ℤ◌, ◌<ℤ◌, ◌≤ℤ◌, Bool, true, false, ◌&&◌, ◌⊎◌, inl, inr, [], ◌∷◌, Option, Some, None, Result, Ok, refl, sym, ap, ◌∙◌, subst, if◌then◌else◌, arith}
 use Rattle.std.proofs.lemmas.Int.{ints}
 use Rattle.cell_types.specs.declared.machine.Machine.TheVariants.{Table as TableMachine}
 use Rattle.cell_types.specs.declared.zone.Zone.TheVariants.{Z1, Z2}
@@ -43,7 +43,7 @@ use Rattle.cell_seat.specs.Sides.{act_or_rest}
 use Rattle.cell_seat.proofs.Keeping.{Keeping, turn_tells}
 use Rattle.cell_seat.proofs.Demanding.{Demanding, WhileOn, demanding_while_on}
 use Rattle.cell_parts.specs.Shows.{TableShows}
-use Rattle.cell_parts.specs.Collisions.{IsOn, TableMoves, DrivesPast}
+use Rattle.cell_parts.specs.Collisions.{TableMoves, DrivesPast}
 use Rattle.cell_parts.specs.PositionDemands.{RestsAtLoading}
 use Rattle.cell_parts.specs.Rigs.{table_rig}
 use Rattle.cell_plant.proofs.WithinLemmas.{between, moved_within}

@@ -1,5 +1,5 @@
 -- A simulation as a value: a moment of a run, whose controllers have come so far by their events.
-use Rattle.std.specs.Prelude.{◌≡◌, ℕ, ℤ}
+use Rattle.std.specs.Prelude.{ℕ, ℤ}
 use Rattle.cell_calib.specs.declared.gauge.Gauge.{Ghosts}
 use Rattle.cell_stations.specs.PressProgram.{press_steps}
 use Rattle.cell_stations.specs.TableProgram.{table_steps}

@@ -1,9 +1,7 @@
-use Rattle.std.proofs.Common.{◌≡◌, ◌∙◌, ◌<◌, ◌+◌, [], take, refl, sym, ap, subst, arith}
+use Rattle.std.proofs.Common.{◌∙◌, ◌<◌, ◌+◌, [], take, sym, ap, subst, arith}
 use Rattle.std.proofs.lemmas.List.{take_all, take_more}
-use Rattle.cell_parts.specs.Axes.{AreCellScales}
-use Rattle.cell_rules.specs.Start.{IsStartState}
-use Rattle.cell_plant.specs.Cells.{scales_of, TellsRun}
-use Rattle.cell_plant.specs.Moments.{Moment, Keeps}
+use Rattle.cell_plant.specs.Cells.{scales_of}
+use Rattle.cell_plant.specs.Moments.{Moment}
 use Rattle.cell_plant.proofs.RunSoFar.{RunSoFar, at_start, next_more, room_left, tells_all, taken-length}
 use Rattle.cell_plant.proofs.simulation.simulate.Goals as goal
 
