@@ -17,6 +17,3 @@ pub use sense::{
     CraneSense, DepositSense, FeedSense, PressSense, RobotSense, SensorFault, SensorVector,
     TableSense, switches_agree,
 };
-
-#[cfg(test)]
-mod tests;

@@ -8,4 +8,5 @@ mod help;
 pub mod replaying;
 pub mod serve;
 pub mod simulating;
+pub mod start;
 pub mod words;

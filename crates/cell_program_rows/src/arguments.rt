@@ -1,7 +1,10 @@
 //! Which words the program was started with.
 
 use super::doubles::Given;
+use super::reports::{PRESS, PRESS_REPORT};
+use super::served::{SCRIPT, TEXT};
 use cell_program::arguments::words_of;
+use cell_program::start::start;
 use std::alloc::Global;
 use std::io::ErrorKind;
 
@@ -52,4 +55,22 @@ fn refuses_words_that_are_no_text(rt: HostRuntime) {
     for arguments in NO_TEXT {
         assert!(rt; is_refused(rt.alloc(), arguments), "{arguments:?}");
     }
+}
+
+/// Whether the program, started with these arguments, answers this input with this status and this text.
+fn is_started(alloc: Global, arguments: &[&[u8]], input: &str, status: u8, text: &str) -> bool {
+    let mut written = Vec::new(alloc);
+    let env = Given { arguments };
+    let answered = start(alloc, &env, &mut input.as_bytes(), &mut written);
+    answered == status && written.as_slice() == text.as_bytes()
+}
+
+#[test]
+fn starts(rt: HostRuntime) {
+    let alloc = rt.alloc();
+    let other = "error: a word isn't UTF-8\n";
+    assert!(rt; is_started(alloc, &[b"bad\xff"], SCRIPT, 0, TEXT));
+    assert!(rt; is_started(alloc, &[b"cell", b"replay"], SCRIPT, 0, TEXT));
+    assert!(rt; is_started(alloc, &[b"bad\xff", b"sim"], PRESS, 0, PRESS_REPORT));
+    assert!(rt; is_started(alloc, &[b"cell", b"\xff"], SCRIPT, 2, other));
 }

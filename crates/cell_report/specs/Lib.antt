@@ -5,5 +5,4 @@ pub mod Retraced
 pub mod Requests
 pub mod Script
 pub mod Faults
-pub mod Input
 pub mod Report

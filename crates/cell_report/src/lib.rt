@@ -19,7 +19,7 @@ mod tell;
 
 pub use audit_faults::AuditFault;
 pub use audits::audit;
-pub use cell_text::{Page, WriteFault, input, write_text};
+pub use cell_text::WriteFault;
 pub use replays::replay;
 pub use report::write_report;
 pub use script::{Outcome, ReplayFault, ScriptFault};

@@ -1,11 +1,14 @@
 use cell_report::{Outcome, replay};
+use cell_rules::State;
 use std::alloc::Global;
+use std::process::Abort;
 
 mod audits;
 mod faults;
 mod forms;
 mod limits;
 mod long_audits;
+mod order;
 mod reports;
 mod scripts;
 
@@ -15,3 +18,11 @@ fn is_answered(alloc: Global, script: &[u8], text: &str, outcome: Outcome) -> bo
     let got = replay(alloc, &mut &*script, &mut written);
     got == Ok(outcome) && written.as_slice() == text.as_bytes()
 }
+
+/// The start with these places and this stamp.
+fn start_at(rt: &impl Abort, places: [bool; 10], stamp: u32) -> State {
+    State::start(places, stamp).expect(rt, "a start")
+}
+
+/// No place is full.
+const EMPTY: [bool; 10] = [false; 10];

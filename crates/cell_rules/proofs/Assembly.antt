@@ -4,7 +4,7 @@ use Rattle.cell_types.specs.declared.answer.Event.{Event}
 use Rattle.cell_rules.specs.ModelState.{ModelState}
 use Rattle.cell_rules.specs.Sound.{IsSound}
 use Rattle.cell_rules.specs.History.{IsLegal}
-use Rattle.cell_rules.specs.Laws.{RunsClear, BeltsRunClear, PostureByEvents, EventsFit, Lawful}
+use Rattle.cell_rules.specs.Laws.{RunsClear, BeltsRunClear, PostureByEvents, EventsFit, HandoverByHolder, Lawful}
 use Rattle.cell_rules.proofs.Histories.{throughout, sound-after}
 use Rattle.cell_rules.proofs.HoldsLemmas.{holds_iff_owns}
 use Rattle.cell_rules.proofs.HolderLaws.{one_holder, mover_is_host, guest_only_while_open}
@@ -14,6 +14,7 @@ use Rattle.cell_rules.proofs.Conserved.{plates-kept}
 use Rattle.cell_rules.proofs.Stamps.{stamp-after}
 use Rattle.cell_rules.proofs.Clear.{clear-after, belts_by_events}
 use Rattle.cell_rules.proofs.Fitting.{OwnersHold, fits}
+use Rattle.cell_rules.proofs.Handing.{no_jump_along, handover_along, refusals_along, changes_counted}
 
 pub posture_by_events : (s : ModelState) (h : List Event) → IsLegal s h → PostureByEvents s h
 posture_by_events s h l z = sym (posture-after s h z l)
@@ -23,6 +24,9 @@ belts_run_clear s k r h l = belts_by_events s h (posture_by_events s h l) (plate
 
 pub events_fit : (s : ModelState) (h : List Event) → IsLegal s h → EventsFit s h
 events_fit s h l = fits s h (throughout s (OwnersHold s) (λ before legal m z. (holds_iff_owns s before m z legal).1) h l) l
+
+pub handover_by_holder : (s : ModelState) (h : List Event) → IsLegal s h → HandoverByHolder s h
+handover_by_holder s h l = handover_along s h (throughout s (OwnersHold s) (λ before legal m z. (holds_iff_owns s before m z legal).1) h l) l
 
 pub lawful : (s : ModelState) → IsSound s → (h : List Event) → IsLegal s h → Lawful s h
 lawful s k h l = record {
@@ -37,4 +41,8 @@ lawful s k h l = record {
   posture_by_events = posture_by_events s h l;
   stays_sound = sound-after s h k;
   events_fit = events_fit s h l;
+  no_jump = no_jump_along s h l;
+  handover_by_holder = handover_by_holder s h l;
+  changes_are_counted = changes_counted h;
+  refusals_tell = refusals_along s h k l;
 }

@@ -33,11 +33,11 @@ use Rattle.cell_rules.proofs.Accepted.{pose_fits}
 
 -- ---- an event's answer is the reply at the state before it
 
-legal_at : (s : ModelState) (before : List Event) (e : Event) (rest : List Event) → IsLegal s (before ++ e ∷ rest) → e.answer ≡ reply (after s before) e.machine e.call
+pub legal_at : (s : ModelState) (before : List Event) (e : Event) (rest : List Event) → IsLegal s (before ++ e ∷ rest) → e.answer ≡ reply (after s before) e.machine e.call
 legal_at s [] e rest l = l.0
 legal_at s (x ∷ before) e rest l = legal_at (next s x.machine x.call) before e rest l.1
 
-replies_done : (s : ModelState) (h before : List Event) (m : Machine) (c : Call) (rest : List Event) → IsLegal s h → h ≡ before ++ done m c ∷ rest → reply (after s before) m c ≡ Done
+pub replies_done : (s : ModelState) (h before : List Event) (m : Machine) (c : Call) (rest : List Event) → IsLegal s h → h ≡ before ++ done m c ∷ rest → reply (after s before) m c ≡ Done
 replies_done s h before m c rest l e = sym (legal_at s before (done m c) rest (subst (IsLegal s) e l))
 
 -- ---- a pose

@@ -24,8 +24,15 @@ pub mod Conserved
 pub mod Stamps
 pub mod Keepers
 pub mod Accepted
+pub mod Chains
+pub mod Tellings
+pub mod Causing
+pub mod Posing
+pub mod Refusing
 pub mod Clear
 pub mod Fitting
+pub mod TablesHold
+pub mod Handing
 pub mod Assembly
 pub mod Notes
 pub mod SeenLemmas

@@ -12,7 +12,7 @@ use Rattle.cell_types.specs.Same.{same_machine}
 use Rattle.cell_rules.specs.ModelState.{ModelState}
 use Rattle.cell_rules.specs.Reply.{reply, next}
 use Rattle.cell_rules.specs.History.{after, IsLegal, own_events}
-use Rattle.cell_rules.specs.Seen.{event, BeginsWith, Settles, Waits}
+use Rattle.cell_rules.specs.Seen.{event, Settles, Waits}
 use Rattle.cell_rules.specs.Stored.{IsHistory}
 use Rattle.cell_rules.proofs.Tables.{from_machines}
 use Rattle.cell_rules.proofs.Histories.{after-append}

@@ -3,15 +3,16 @@ use Rattle.std.specs.Prelude.{◌≡◌, ◌≢◌, ◌+◌, pos, false, not, Li
 use Rattle.cell_types.specs.declared.place.Place.{Place}
 use Rattle.cell_types.specs.declared.place.Place.TheVariants.{FeedEnd, PressIn, PressOut, DepEnd}
 use Rattle.cell_types.specs.declared.machine.Machine.{Machine}
-use Rattle.cell_types.specs.declared.machine.Machine.TheVariants.{Feed, Robot, Press, Deposit}
+use Rattle.cell_types.specs.declared.machine.Machine.TheVariants.{Feed, Robot, Press, Deposit, Table as TableMachine}
 use Rattle.cell_types.specs.declared.zone.Zone.{Zone}
-use Rattle.cell_types.specs.declared.zone.Zone.TheVariants.{Z1, Z3, Z4, Z5, Z6}
+use Rattle.cell_types.specs.declared.zone.Zone.TheVariants.{Z1, Z2, Z3, Z4, Z5, Z6}
 use Rattle.cell_types.specs.declared.zone.Transfer.{Transfer}
 use Rattle.cell_types.specs.declared.posture.Posture.{Posture}
 use Rattle.cell_types.specs.declared.posture.Posture.TheVariants.{Closed, Moving, OpenIn}
 use Rattle.cell_types.specs.declared.pose.Pose.{Pose}
+use Rattle.cell_types.specs.declared.pose.Pose.TheVariants.{Turning, Travelling}
 use Rattle.cell_types.specs.declared.call.Call.{Call}
-use Rattle.cell_types.specs.declared.call.Call.TheVariants.{SetPose, Advance}
+use Rattle.cell_types.specs.declared.call.Call.TheVariants.{Give, Yield, Take, Release, SetPose, Advance}
 use Rattle.cell_types.specs.declared.answer.Answer.TheVariants.{Done}
 use Rattle.cell_types.specs.declared.answer.Event.{Event}
 use Rattle.cell_types.specs.Tables.{host_of, guest_of, transfer_of, posture_of}
@@ -19,7 +20,8 @@ use Rattle.cell_types.specs.Ways.{keeper_of}
 use Rattle.cell_rules.specs.ModelState.{ModelState, zone_at, is_full, plates_of, one_if}
 use Rattle.cell_rules.specs.Sound.{IsSound, is_party, is_open}
 use Rattle.cell_rules.specs.Refusals.{owns, posture_at, is_moving_pose, passes_through_moving}
-use Rattle.cell_rules.specs.History.{after, IsLegal, own_events, done_count, Holds, Moves, PressMoves, posture_by_events, plates_at, plates_in_transfer}
+use Rattle.cell_rules.specs.History.{after, IsLegal, own_events, done_count, changes_by_others, Holds, Moves, PressMoves, posture_by_events, plates_at, plates_in_transfer}
+use Rattle.cell_rules.specs.RefusalLaws.{RefusalsTellAlong}
 
 -- a law holds of each beginning of a history
 abbrev pub Throughout : (List Event → Type 0) → List Event → Type 0
@@ -97,6 +99,26 @@ pub record EventsFit (s : ModelState) (h : List Event) : Type 0 where
   -- the press forges only while it holds its interior and is Closed
   pub press_works_closed : (before rest : List Event) → h ≡ before ++ done Press Advance ∷ rest → Holds s before Press Z3 × (posture_at (after s before) Z3 ≡ Closed)
 
+-- the table takes any pose but turning, and the press any but travelling, only while all its zones move
+pub record NoJump (s : ModelState) (h : List Event) : Type 0 where
+  pub table : (before rest : List Event) (p : Pose) → h ≡ before ++ done TableMachine (SetPose p) ∷ rest → p ≢ Turning → ((zone_at (after s before) Z1).posture ≡ Moving) × ((zone_at (after s before) Z2).posture ≡ Moving)
+  pub press : (before rest : List Event) (p : Pose) → h ≡ before ++ done Press (SetPose p) ∷ rest → p ≢ Travelling → (zone_at (after s before) Z3).posture ≡ Moving
+
+-- a machine holds a zone by its events, and owns it in the state after them
+abbrev pub HasZone : ModelState → List Event → Machine → Zone → Type 0
+HasZone s before m z = Holds s before m z × ((zone_at (after s before) z).owner ≡ Some m)
+
+-- who hands a zone over, takes a plate from it or leaves it, has it
+pub record HandoverByHolder (s : ModelState) (h : List Event) : Type 0 where
+  pub give : (before rest : List Event) (m : Machine) (z : Zone) → h ≡ before ++ done m (Give z) ∷ rest → HasZone s before m z
+  pub yield : (before rest : List Event) (m : Machine) (z : Zone) → h ≡ before ++ done m (Yield z) ∷ rest → HasZone s before m z
+  pub take : (before rest : List Event) (m : Machine) (z : Zone) → h ≡ before ++ done m (Take z) ∷ rest → HasZone s before m z
+  pub release : (before rest : List Event) (m : Machine) (z : Zone) → h ≡ before ++ done m (Release z) ∷ rest → HasZone s before m z
+
+-- the Done events are a machine's own and those of the others
+abbrev pub ChangesAreCounted : List Event → Type 0
+ChangesAreCounted h = (m : Machine) → done_count (own_events h m) + changes_by_others h m ≡ done_count h
+
 -- every law of a legal history
 pub record Lawful (s : ModelState) (h : List Event) : Type 0 where
   pub legal : IsLegal s h
@@ -110,6 +132,10 @@ pub record Lawful (s : ModelState) (h : List Event) : Type 0 where
   pub posture_by_events : PostureByEvents s h
   pub stays_sound : StaysSound s h
   pub events_fit : EventsFit s h
+  pub no_jump : NoJump s h
+  pub handover_by_holder : HandoverByHolder s h
+  pub changes_are_counted : ChangesAreCounted h
+  pub refusals_tell : RefusalsTellAlong s h
 
 -- every law, of each beginning of a history
 abbrev pub LawfulThroughout : ModelState → List Event → Type 0

@@ -8,8 +8,11 @@ pub mod Refusals
 pub mod Reply
 pub mod History
 pub mod Laws
+pub mod Causes
+pub mod RefusalLaws
 pub mod Start
 pub mod StartDigits
+pub mod TableLaws
 pub mod Journal
 pub mod Seen
 pub mod Stored

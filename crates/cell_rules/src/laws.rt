@@ -4,6 +4,8 @@
 ghost use Rattle.std.specs.Prelude.{◌++◌};
 ghost use Rattle.cell_rules.specs.History.{IsLegal};
 ghost use Rattle.cell_rules.specs.Laws as law;
+ghost use Rattle.cell_rules.specs.RefusalLaws.{RefusalsTell, RefusalsTellAlong};
+ghost use Rattle.cell_rules.specs.TableLaws.{PosesThatMove, DigitsArePlaces};
 ghost use Rattle.cell_rules.specs.Laws.{Throughout, RunsClear};
 ghost use Rattle.cell_rules.specs.Start.{IsStartState};
 
@@ -95,6 +97,49 @@ pub fn stays_sound(opening: &State, history: &[Event])
 pub fn events_fit(opening: &State, history: &[Event])
     requires { IsLegal opening.now history.now }
     ensures { law.EventsFit opening.now history.now }
+{}
+
+/// The table takes any pose but turning only while z1 and z2 move, and the press any but travelling only
+/// while z3 moves.
+pub fn no_jump(opening: &State, history: &[Event])
+    requires { IsLegal opening.now history.now }
+    ensures { law.NoJump opening.now history.now }
+{}
+
+/// Who gives in a zone, yields it, takes from it or releases it, holds it.
+pub fn handover_by_holder(opening: &State, history: &[Event])
+    requires { IsLegal opening.now history.now }
+    ensures { law.HandoverByHolder opening.now history.now }
+{}
+
+/// The Done events of a history are a machine's own and those of the others, and none is counted twice.
+pub fn changes_are_counted(history: &[Event])
+    ensures { law.ChangesAreCounted history.now }
+{}
+
+/// The causes of the refusals in a history are there when they are answered.
+pub fn refusals_tell_along(opening: &State, history: &[Event])
+    requires { IsLegal opening.now history.now }
+    ensures { RefusalsTellAlong opening.now history.now }
+{
+    let _ = &opening.stamp;
+}
+
+/// On every sound state each refusal tells its cause, with whatever it names: what its line of the table of
+/// refusals says holds of the state. And where a cause is there, the call isn't Done: it is refused
+/// for this cause or for one that stands before it in the call's order.
+pub fn refusals_tell_causes()
+    ensures { RefusalsTell }
+{}
+
+/// The poses that move are turning, travelling and running: just those that give some zone Moving.
+pub fn poses_that_move()
+    ensures { PosesThatMove }
+{}
+
+/// The digits of a start are the places in their order.
+pub fn digits_are_places()
+    ensures { DigitsArePlaces }
 {}
 
 /// All of these of every legal history from any sound opening, also of one that no program stores.

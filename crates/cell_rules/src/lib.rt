@@ -24,8 +24,3 @@ pub use places::Places;
 pub use start_digits::{PLACES, read_places};
 pub use state::{StartFault, State};
 pub use zones::{ZoneState, Zones};
-
-#[cfg(test)]
-mod bench_tests;
-#[cfg(test)]
-mod tests;

@@ -1,5 +1,5 @@
 -- Whatever the gauge of the table's rotation may give, it is near the line; so a turn is also one of the program that knows no more.
-use Rattle.std.proofs.Common.{◌≡◌, ℕ, ℤ, Option, Result, Ok, Err, List}
+use Rattle.std.proofs.Common.{ℕ, ℤ, Option, Result, Ok, Err, List}
 use Rattle.cell_types.specs.declared.call.Call.{Call}
 use Rattle.cell_types.specs.declared.answer.Event.{Event}
 use Rattle.cell_types.specs.declared.reply.Reply.{Reply}

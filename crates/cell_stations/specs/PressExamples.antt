@@ -1,5 +1,5 @@
 -- Examples of the press's program: each row of it, with each state of its notes.
-use Rattle.std.specs.Prelude.{◌≡◌, Bool, true, false, List, [], ◌∷◌, Ok, Err}
+use Rattle.std.specs.Prelude.{◌≡◌, Bool, true, false, [], ◌∷◌, Ok, Err}
 use Rattle.cell_types.specs.declared.machine.Machine.TheVariants.{Press}
 use Rattle.cell_types.specs.declared.zone.Zone.TheVariants.{Z3}
 use Rattle.cell_types.specs.declared.place.Place.{Place}

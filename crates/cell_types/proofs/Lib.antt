@@ -2,3 +2,4 @@ pub mod CallLemmas
 pub mod WayLemmas
 pub mod WordLemmas
 pub mod RefusalLemmas
+pub mod NumberLemmas

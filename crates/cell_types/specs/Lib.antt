@@ -3,6 +3,7 @@ pub mod Everything
 pub mod Tables
 pub mod Ways
 pub mod Refusals
+pub mod Numbers
 pub mod Answers
 pub mod Same
 pub mod CallWords

@@ -1,4 +1,5 @@
 //! What is so of the tables: laws, in functions that do nothing.
+ghost use Rattle.cell_types.specs.Numbers.{NumbersOfRefusals};
 ghost use Rattle.cell_types.specs.Ways.{GoesRound, JoinsKeepers, OneRowEach};
 
 /// Nobody gives in two rows of one zone, and nobody receives in two.
@@ -15,4 +16,10 @@ pub fn rows_join_keepers()
 /// Plates go round: each place is left by one way, through a zone or by work, and entered by one.
 pub fn plates_go_round()
     ensures { GoesRound }
+{}
+
+/// The numbers of the refusals are 1 to 13 and 16, as the table has them, and no two refusals share one,
+/// but those that differ only in what they name.
+pub fn numbers_of_refusals()
+    ensures { NumbersOfRefusals }
 {}

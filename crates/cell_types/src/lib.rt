@@ -24,6 +24,3 @@ pub use posture::Posture;
 pub use reply::Reply;
 pub use tables::{guest, host, posture_in, transfer, work};
 pub use zone::{Transfer, Zone};
-
-#[cfg(test)]
-mod tests;

@@ -9,6 +9,3 @@ mod word;
 
 pub use step::step_word;
 pub use word::{pack, unpack};
-
-#[cfg(test)]
-mod tests;

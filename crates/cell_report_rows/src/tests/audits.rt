@@ -1,12 +1,12 @@
 //! Audits of a few entries, each journal made by hand.
 
+use super::{EMPTY, start_at};
 use cell_report::{AuditFault, audit};
 use cell_rules::{State, apply};
 use cell_types::{
     Answer, Call, Entry, Event, Journals, Machine, Place, Pose, Posture, Refusal, Zone,
 };
 use std::alloc::{AllocError, Global};
-use std::process::Abort;
 use std::test::Fail;
 
 /// A machine's note of a call: the call, its answer and the stamp after it.
@@ -199,17 +199,24 @@ fn journals_of(alloc: Global, notes: &[Note], more: &[Note]) -> Result<Journals,
     Ok(journals)
 }
 
-/// A start without plates.
-fn empty_start(rt: &impl Abort, stamp: u32) -> State {
-    State::start([false; 10], stamp).expect(rt, "a start without plates")
+/// Why an audit refuses the notes.
+fn fault_of(
+    alloc: Global,
+    notes: &[Note],
+    more: &[Note],
+    start: &State,
+    end: Option<&State>,
+) -> Result<Option<AuditFault>, AllocError> {
+    let journals = journals_of(alloc, notes, more)?;
+    Ok(audit(alloc, &journals, start, end).err())
 }
 
 #[test]
 fn refuses_what_no_history_wrote(rt: HostRuntime) -> Result<(), Fail> {
     for (stamp, notes, more, fault) in ROWS {
-        let journals = journals_of(rt.alloc(), notes, more)?;
-        let got = audit(rt.alloc(), &journals, &empty_start(&rt, *stamp), None);
-        assert!(rt; got.err() == *fault, "{fault:?}");
+        let start = start_at(&rt, EMPTY, *stamp);
+        let got = fault_of(rt.alloc(), notes, more, &start, None)?;
+        assert!(rt; got == *fault, "{fault:?}");
     }
     Ok(())
 }
@@ -233,7 +240,7 @@ fn event(note: Note) -> Event {
 
 #[test]
 fn accepts_what_was_noted(rt: HostRuntime) -> Result<(), Fail> {
-    let start = empty_start(&rt, 0);
+    let start = start_at(&rt, EMPTY, 0);
     let journals = journals_of(rt.alloc(), &THREE, &[])?;
     let end = end_of_three_calls(&start);
     let events = audit(rt.alloc(), &journals, &start, Some(&end)).expect(&rt, "a history");
@@ -246,22 +253,16 @@ fn accepts_what_was_noted(rt: HostRuntime) -> Result<(), Fail> {
     let none = Journals::new(rt.alloc());
     let events = audit(rt.alloc(), &none, &start, Some(&start)).expect(&rt, "no history");
     assert!(rt; events.is_empty());
-    let late = empty_start(&rt, 7);
+    let late = start_at(&rt, EMPTY, 7);
     let journals = journals_of(rt.alloc(), &[CRANE_ASKS], &[])?;
     let events = audit(rt.alloc(), &journals, &late, Some(&late)).expect(&rt, "a refused call");
     assert!(rt; events.len() == 1);
     Ok(())
 }
 
-/// Why the journals of the three calls are refused with this end.
-fn fault_with(alloc: Global, start: &State, end: &State) -> Result<Option<AuditFault>, AllocError> {
-    let journals = journals_of(alloc, &THREE, &[])?;
-    Ok(audit(alloc, &journals, start, Some(end)).err())
-}
-
 #[test]
 fn compares_the_end_whole(rt: HostRuntime) -> Result<(), Fail> {
-    let start = empty_start(&rt, 0);
+    let start = start_at(&rt, EMPTY, 0);
     let end = end_of_three_calls(&start);
     let mut full = end.full();
     full.set(Place::Crane, true);
@@ -275,7 +276,8 @@ fn compares_the_end_whole(rt: HostRuntime) -> Result<(), Fail> {
         (&later, Some(AuditFault::Gap(4))),
         (&fuller, Some(AuditFault::End)),
     ] {
-        assert!(rt; fault_with(rt.alloc(), &start, end)? == fault, "{fault:?}");
+        let got = fault_of(rt.alloc(), &THREE, &[], &start, Some(end))?;
+        assert!(rt; got == fault, "{fault:?}");
     }
     Ok(())
 }
@@ -283,7 +285,7 @@ fn compares_the_end_whole(rt: HostRuntime) -> Result<(), Fail> {
 // Where memory runs out, a journal can't be written or the audit says so; else the answer is as ever.
 #[test]
 fn wants_memory_or_answers(rt: HostRuntime) {
-    let start = empty_start(&rt, 0);
+    let start = start_at(&rt, EMPTY, 0);
     let end = end_of_three_calls(&start);
     let Ok(journals) = journals_of(rt.alloc(), &THREE, &[]) else {
         return;

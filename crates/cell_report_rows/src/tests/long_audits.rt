@@ -2,11 +2,11 @@
 ghost use Rattle.std.specs.Prelude.{◌<◌};
 
 use super::audits::journal_mut;
+use super::start_at;
 use cell_report::{AuditFault, audit};
 use cell_rules::{State, apply};
 use cell_types::{Answer, Call, Entry, Event, Journals, Machine, Pose, Refusal, Zone};
 use std::alloc::{AllocError, Global};
-use std::process::Abort;
 use std::test::Fail;
 
 /// Numbers that look random, from a seed.
@@ -171,13 +171,9 @@ const PLACES: [bool; 10] = [
     true, true, false, true, false, false, true, true, true, false,
 ];
 
-fn start(rt: &impl Abort) -> State {
-    State::start(PLACES, 100).expect(rt, "a start")
-}
-
 #[test]
 fn audits_twenty_thousand_entries(rt: HostRuntime) -> Result<(), Fail> {
-    let start = start(&rt);
+    let start = start_at(&rt, PLACES, 100);
     let (mut journals, end) = run(rt.alloc(), &mut Numbers(1995), &start, 20_000)?;
     let events = audit(rt.alloc(), &journals, &start, Some(&end)).expect(&rt, "a history");
     assert!(rt; events.len() == 20_000);
@@ -188,7 +184,7 @@ fn audits_twenty_thousand_entries(rt: HostRuntime) -> Result<(), Fail> {
 #[test]
 fn audits_changed_entries(rt: HostRuntime) -> Result<(), Fail> {
     let mut numbers = Numbers(1995);
-    let start = start(&rt);
+    let start = start_at(&rt, PLACES, 100);
     let (mut journals, end) = run(rt.alloc(), &mut numbers, &start, 10_000)?;
     let mut refusals = 0u32;
     for _ in 0..200 {

@@ -1,9 +1,10 @@
 //! Reports of runs, each with the record of the run made by hand.
 
+use super::{EMPTY, start_at};
 use crate::doubles::{Failure, InterruptedWriter};
 use cell_notes::{Counts, RunRecord, Status};
 use cell_report::{AuditFault, WriteFault, write_report};
-use cell_rules::{State, apply};
+use cell_rules::apply;
 use cell_types::{Call, Journals, Machine, Pose, Zone};
 use std::alloc::Global;
 use std::process::Abort;
@@ -34,7 +35,7 @@ const TO_MIDDLE: &[Call] = &[
 
 /// An empty cell in which the press alone had turns.
 fn press_alone(rt: &impl Abort, alloc: Global) -> RunRecord {
-    let start = State::start([false; 10], 0).expect(rt, "a start without plates");
+    let start = start_at(rt, EMPTY, 0);
     let mut end = start;
     for call in TO_MIDDLE {
         apply(&mut end, Machine::Press, *call);
@@ -96,7 +97,7 @@ const STATUS: [Status; 7] = [
 /// end isn't known, so that no line of it stands in the report.
 fn mixed(rt: &impl Abort, alloc: Global) -> RunRecord {
     RunRecord {
-        start: State::start(PLACES, 1_048_575).expect(rt, "a start with five plates"),
+        start: start_at(rt, PLACES, 1_048_575),
         counts: [
             counts(10),
             counts(20),
@@ -113,6 +114,7 @@ fn mixed(rt: &impl Abort, alloc: Global) -> RunRecord {
     }
 }
 
+/// Its report but for the line of the audit.
 const MIXED: &str = "start 1010010101 1048575
 feed turns 10 done 2 read 3 refused 4 busy 5 worn
 table turns 20 done 2 read 3 refused 4 busy 5 sensor
@@ -121,43 +123,18 @@ press turns 40 done 2 read 3 refused 4 busy 5 memory
 deposit turns 50 done 2 read 3 refused 4 busy 5 gatelimit
 crane turns 60 done 2 read 3 refused 4 busy 5 ok
 axes press 1 arm1 2 arm2 3 rotation 4 lift 5 turn 6 crane 7 gripper 8
-audit gap 17
 ";
 
-/// The last line, for what was found.
+/// The line of the audit, by what was found.
 const AUDITS: &[(Option<AuditFault>, &str)] = &[
-    (None, "\naudit ok\n"),
-    (Some(AuditFault::Gap(0)), "\naudit gap 0\n"),
-    (
-        Some(AuditFault::Twice(1_048_575)),
-        "\naudit twice 1048575\n",
-    ),
-    (Some(AuditFault::Differs(12)), "\naudit differs 12\n"),
-    (Some(AuditFault::End), "\naudit end\n"),
-    (Some(AuditFault::Memory), "\naudit memory\n"),
+    (Some(AuditFault::Gap(17)), "audit gap 17\n"),
+    (None, "audit ok\n"),
+    (Some(AuditFault::Gap(0)), "audit gap 0\n"),
+    (Some(AuditFault::Twice(1_048_575)), "audit twice 1048575\n"),
+    (Some(AuditFault::Differs(12)), "audit differs 12\n"),
+    (Some(AuditFault::End), "audit end\n"),
+    (Some(AuditFault::Memory), "audit memory\n"),
 ];
-
-/// The report of a run. A writer that doesn't fail takes it.
-fn reported(alloc: Global, run: &RunRecord, audit: Option<AuditFault>) -> Option<Vec<u8>> {
-    let mut written = Vec::new(alloc);
-    match write_report(run, audit, &mut written) {
-        Ok(()) => Some(written),
-        Err(_) => None,
-    }
-}
-
-#[test]
-fn tells_runs(rt: HostRuntime) {
-    let text = reported(rt.alloc(), &press_alone(&rt, rt.alloc()), None);
-    assert!(rt; text.expect(&rt, "a report").as_slice() == PRESS_ALONE.as_bytes());
-    let run = mixed(&rt, rt.alloc());
-    let text = reported(rt.alloc(), &run, Some(AuditFault::Gap(17)));
-    assert!(rt; text.expect(&rt, "a report").as_slice() == MIXED.as_bytes());
-    for (audit, line) in AUDITS {
-        let text = reported(rt.alloc(), &run, *audit).expect(&rt, "a report");
-        assert!(rt; text.as_slice().ends_with(line.as_bytes()), "{line}");
-    }
-}
 
 const MOST: Counts = Counts {
     turns: u64::MAX,
@@ -167,40 +144,74 @@ const MOST: Counts = Counts {
     busy: u64::MAX,
 };
 
-const LARGEST: &[&str] = &[
-    "\ndeposit turns 18446744073709551615 done 18446744073709551615 read 18446744073709551615 refused 18446744073709551615 busy 18446744073709551615 gatelimit\n",
-    "\naxes press -2147483648 arm1 -2147483648 arm2 -2147483648 rotation -2147483648 lift -2147483648 turn -2147483648 crane -2147483648 gripper -2147483648\n",
-    "\naudit differs 4294967295\n",
-];
-
-// The longest numbers and words have room.
-#[test]
-fn tells_largest_numbers(rt: HostRuntime) {
-    let mut run = press_alone(&rt, rt.alloc());
+/// The run of the press with the longest numbers and words, for which there is room.
+fn largest(rt: &impl Abort, alloc: Global) -> RunRecord {
+    let mut run = press_alone(rt, alloc);
     run.counts = [MOST; 7];
     run.status = [Status::GateLimit; 7];
     run.axes = [i32::MIN; 8];
-    let differs = Some(AuditFault::Differs(u32::MAX));
-    let text = reported(rt.alloc(), &run, differs).expect(&rt, "a report");
-    for line in LARGEST {
-        let is_there = text
-            .as_slice()
-            .windows(line.len())
-            .any(|part| part == line.as_bytes());
-        assert!(rt; is_there, "{line}");
+    run
+}
+
+/// Its report but for the line of the audit.
+const LARGEST: &str = "start 0000000000 0
+feed turns 18446744073709551615 done 18446744073709551615 read 18446744073709551615 refused 18446744073709551615 busy 18446744073709551615 gatelimit
+table turns 18446744073709551615 done 18446744073709551615 read 18446744073709551615 refused 18446744073709551615 busy 18446744073709551615 gatelimit
+robot turns 18446744073709551615 done 18446744073709551615 read 18446744073709551615 refused 18446744073709551615 busy 18446744073709551615 gatelimit
+press turns 18446744073709551615 done 18446744073709551615 read 18446744073709551615 refused 18446744073709551615 busy 18446744073709551615 gatelimit
+deposit turns 18446744073709551615 done 18446744073709551615 read 18446744073709551615 refused 18446744073709551615 busy 18446744073709551615 gatelimit
+crane turns 18446744073709551615 done 18446744073709551615 read 18446744073709551615 refused 18446744073709551615 busy 18446744073709551615 gatelimit
+zone z1 free 0 closed
+zone z2 free 0 closed
+zone z3 free 0 openin
+zone z4 free 0 closed
+zone z5 free 0 closed
+zone z6 free 0 closed
+places 0000000000
+axes press -2147483648 arm1 -2147483648 arm2 -2147483648 rotation -2147483648 lift -2147483648 turn -2147483648 crane -2147483648 gripper -2147483648
+stamp 4 plates 0
+";
+
+/// Whether the report of a run and an audit is this text, with this line at its end.
+fn is_reported(
+    alloc: Global,
+    run: &RunRecord,
+    audit: Option<AuditFault>,
+    text: &str,
+    line: &str,
+) -> bool {
+    let mut written = Vec::new(alloc);
+    let got = write_report(run, audit, &mut written);
+    got == Ok(())
+        && written.len() == text.len().saturating_add(line.len())
+        && written.as_slice().starts_with(text.as_bytes())
+        && written.as_slice().ends_with(line.as_bytes())
+}
+
+#[test]
+fn tells_runs(rt: HostRuntime) {
+    let alloc = rt.alloc();
+    assert!(rt; is_reported(alloc, &press_alone(&rt, alloc), None, PRESS_ALONE, ""));
+    let run = mixed(&rt, alloc);
+    for (audit, line) in AUDITS {
+        assert!(rt; is_reported(alloc, &run, *audit, MIXED, line), "{line}");
     }
+    let differs = Some(AuditFault::Differs(u32::MAX));
+    let line = "audit differs 4294967295\n";
+    assert!(rt; is_reported(alloc, &largest(&rt, alloc), differs, LARGEST, line));
 }
 
 /// Whether the report of the run of the press comes to this with a writer that has room for so many
-/// bytes, and has written as many of its text, or all.
+/// bytes and takes so many at a time, and has written as many of its text, or all.
 fn is_written(
     alloc: Global,
     run: &RunRecord,
     room: usize,
+    at_once: usize,
     failure: Failure,
     wanted: Result<(), WriteFault>,
 ) -> bool {
-    let mut writer = InterruptedWriter::new(alloc, room, 100, failure);
+    let mut writer = InterruptedWriter::new(alloc, room, at_once, failure);
     let got = write_report(run, None, &mut writer);
     got == wanted
         && writer.taken.len() == room.min(PRESS_ALONE.len())
@@ -210,26 +221,21 @@ fn is_written(
 // A failure is told, and an interruption isn't one.
 #[test]
 fn fails_with_its_writer(rt: HostRuntime) {
-    let run = press_alone(&rt, rt.alloc());
+    let alloc = rt.alloc();
+    let run = press_alone(&rt, alloc);
     let failed = Err(WriteFault::Write);
     for room in 0..PRESS_ALONE.len() {
         assert!(rt;
-            is_written(rt.alloc(), &run, room, Failure::Write, failed),
+            is_written(alloc, &run, room, 100, Failure::Write, failed),
             "{room}"
         );
         assert!(rt;
-            is_written(rt.alloc(), &run, room, Failure::Full, failed),
+            is_written(alloc, &run, room, 100, Failure::Full, failed),
             "{room}"
         );
     }
-    assert!(rt; is_written(rt.alloc(), &run, usize::MAX, Failure::Flush, failed));
-    assert!(rt; is_written(rt.alloc(), &run, usize::MAX, Failure::Write, Ok(())));
-}
-
-#[test]
-fn is_taken_byte_by_byte(rt: HostRuntime) {
-    let run = press_alone(&rt, rt.alloc());
-    let mut writer = InterruptedWriter::new(rt.alloc(), PRESS_ALONE.len(), 1, Failure::Full);
-    assert!(rt; write_report(&run, None, &mut writer) == Ok(()));
-    assert!(rt; writer.taken.as_slice() == PRESS_ALONE.as_bytes());
+    assert!(rt; is_written(alloc, &run, usize::MAX, 100, Failure::Flush, failed));
+    assert!(rt; is_written(alloc, &run, usize::MAX, 100, Failure::Write, Ok(())));
+    // It is taken byte by byte.
+    assert!(rt; is_written(alloc, &run, PRESS_ALONE.len(), 1, Failure::Full, Ok(())));
 }

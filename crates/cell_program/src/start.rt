@@ -1,0 +1,45 @@
+//! Starts the program: from its arguments to its exit status.
+
+ghost use Rattle.std.specs.Prelude.{◌≤◌, IfOk};
+
+use crate::arguments::words_of;
+use crate::faults::fail;
+use crate::serve::{refuse_bytes, serve};
+use std::alloc::Global;
+use std::env::Env;
+use std::io;
+use std::io::{ErrorKind, Read, Write};
+
+/// Serves the words that the program was started with, its input and its output, and answers the exit
+/// status. Words that aren't text are refused before `clap` sees them.
+pub fn start<E: Env, R: Read, W: Write>(
+    alloc: Global,
+    env: &E,
+    reader: &mut R,
+    writer: &mut W,
+) -> u8
+    ensures { result ≤ 2 }
+{
+    match serve_words(alloc, env, reader, writer) {
+        Ok(status) => status,
+        Err(error) if error.kind() == ErrorKind::OutOfMemory => fail(writer, "memory"),
+        Err(_) => refuse_bytes(writer),
+    }
+}
+
+/// Serves words that are text.
+fn serve_words<E: Env, R: Read, W: Write>(
+    alloc: Global,
+    env: &E,
+    reader: &mut R,
+    writer: &mut W,
+) -> io::Result<u8>
+    ensures { IfOk result (λ status. status ≤ 2) }
+{
+    let words = words_of(alloc, env)?;
+    let mut texts = Vec::new(alloc);
+    for word in &words {
+        texts.push(word.as_str())?;
+    }
+    Ok(serve(alloc, texts.as_slice(), reader, writer))
+}

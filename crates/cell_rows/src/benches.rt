@@ -1,0 +1,103 @@
+//! A bench, which serves who is seated at it.
+
+use cell_rules::{Answered, Bench, Heard, Line, LineFault, State};
+use cell_types::{Answer, Call, Event, Machine, Posture, Refusal, Reply, Zone};
+
+const EMPTY: [bool; 10] = [false; 10];
+
+const CLAIM: Call = Call::Claim(Zone::Z3);
+
+const INQUIRY: Call = Call::Inquire(Zone::Z3);
+
+const SHOWN: Answer = Answer::Shown {
+    owner: None,
+    flag: false,
+    posture: Posture::Closed,
+};
+
+const HELD: Answer = Answer::Refused(Refusal::Held(Machine::Press));
+
+// Who is seated, whether it is to be told Busy, and the reply to its claim.
+const SEATED: &[(Machine, bool, Answered)] = &[
+    (Machine::Press, true, Ok(Reply::Busy { lost: 1, stamp: 7 })),
+    (Machine::Press, false, Ok(Reply::Settled(Answer::Done, 8))),
+    (Machine::Robot, false, Ok(Reply::Settled(HELD, 8))),
+];
+
+const EVENTS: &[Event] = &[
+    Event {
+        machine: Machine::Watch,
+        call: INQUIRY,
+        answer: SHOWN,
+    },
+    Event {
+        machine: Machine::Press,
+        call: CLAIM,
+        answer: Answer::Done,
+    },
+    Event {
+        machine: Machine::Robot,
+        call: CLAIM,
+        answer: HELD,
+    },
+];
+
+fn is_opened(bench: &Bench, start: State) -> bool {
+    bench.machine() == Machine::Watch
+        && bench.heard() == Heard::nothing()
+        && bench.state() == start
+        && bench.history().is_empty()
+}
+
+/// Whether a machine that is seated is replied so to its claim of the press's zone.
+fn is_served(bench: &mut Bench, machine: Machine, is_busy: bool, reply: Answered) -> bool {
+    bench.seat(machine, is_busy);
+    bench.machine() == machine && bench.ask(CLAIM) == reply
+}
+
+/// Whether four calls were heard, the last refused, and the press has claimed its zone.
+fn is_served_out(bench: &Bench) -> bool {
+    let heard = bench.heard();
+    heard.asks == 4
+        && heard.last == Some((CLAIM, Ok(Reply::Settled(HELD, 8))))
+        && bench.state().owner(Zone::Z3) == Some(Machine::Press)
+        && bench.state().stamp() == 8
+        && bench.history() == EVENTS
+}
+
+#[test]
+fn a_bench_serves_who_is_seated(rt: HostRuntime) {
+    let start = State::start(EMPTY, 7).expect(&rt, "a start without plates");
+    let mut bench = Bench::new(rt.alloc(), start);
+    assert!(rt; is_opened(&bench, start));
+    assert!(rt; bench.ask(INQUIRY) == Ok(Reply::Settled(SHOWN, 7)));
+    for (machine, is_busy, reply) in SEATED {
+        assert!(rt;
+            is_served(&mut bench, *machine, *is_busy, *reply),
+            "{machine:?}"
+        );
+    }
+    assert!(rt; is_served_out(&bench));
+}
+
+/// Whether the bench, whose second call was answered so, has what that answer says.
+fn is_kept(bench: &Bench, start: State, answered: Answered) -> bool {
+    let heard = bench.heard();
+    let is_right = match answered {
+        Ok(reply) => reply == Reply::Settled(Answer::Done, 1) && bench.history().len() == 1,
+        Err(LineFault::Memory) => bench.state() == start && bench.history().is_empty(),
+    };
+    is_right && heard.asks == 2 && heard.last == Some((CLAIM, answered))
+}
+
+// With memory this is an answered call. Run with its allocation refused, it is the other arm.
+#[test]
+fn want_of_memory_leaves_state_and_history(rt: HostRuntime) {
+    let start = State::start(EMPTY, 0).expect(&rt, "a start without plates");
+    let mut bench = Bench::new(rt.alloc(), start);
+    let busy = Ok(Reply::Busy { lost: 1, stamp: 0 });
+    assert!(rt; is_served(&mut bench, Machine::Press, true, busy));
+    bench.seat(Machine::Press, false);
+    let answered = bench.ask(CLAIM);
+    assert!(rt; is_kept(&bench, start, answered));
+}

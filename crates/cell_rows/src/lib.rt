@@ -1,0 +1,18 @@
+//! Worked rows of the names, the interlock, its word and the calibrations, by public calls alone. What
+//! each row has to come to was worked out from the rules of the cell, and never by the program.
+#![tactic(auto)]
+
+#[cfg(test)]
+mod benches;
+#[cfg(test)]
+mod codes;
+#[cfg(test)]
+mod names;
+#[cfg(test)]
+mod readings;
+#[cfg(test)]
+mod states;
+#[cfg(test)]
+mod tables;
+#[cfg(test)]
+mod words;

@@ -1,0 +1,58 @@
+-- Each refusal tells its cause, on every sound state.
+use Rattle.std.proofs.Common.{◌≡◌, Option, Some, None, ap}
+use Rattle.cell_types.specs.declared.machine.Machine.{Machine}
+use Rattle.cell_types.specs.declared.call.Call.{Call}
+use Rattle.cell_types.specs.declared.call.Call.TheVariants.{Claim, Give, Yield, Take, Release, SetPose, Advance, Inquire}
+use Rattle.cell_types.specs.declared.answer.Refusal.{Refusal}
+use Rattle.cell_types.specs.declared.answer.Answer.TheVariants.{Refused}
+use Rattle.cell_rules.specs.ModelState.{ModelState}
+use Rattle.cell_rules.specs.Sound.{IsSound}
+use Rattle.cell_rules.specs.Refusals.{claim_refusal, give_refusal, yield_refusal, take_refusal, release_refusal, pose_refusal, advance_refusal}
+use Rattle.cell_rules.specs.Reply.{reply, refusal, done_unless}
+use Rattle.cell_rules.specs.Causes.{is_cause, order_of}
+use Rattle.cell_rules.specs.RefusalLaws.{RefusalsTell}
+use Rattle.cell_rules.proofs.Causing.{TellsRight, claim_tells, give_tells, yield_tells, take_tells, release_tells}
+use Rattle.cell_rules.proofs.Posing.{pose_tells, advance_tells}
+
+call_tells : (s : ModelState) (m : Machine) (c : Call) → IsSound s → TellsRight (is_cause s m c) (order_of c) (refusal s m c)
+call_tells s m (Claim z) h = claim_tells s m z h.stamp_in_range
+call_tells s m (Give z) h = give_tells s m z h.stamp_in_range
+call_tells s m (Yield z) h = yield_tells s m z h.stamp_in_range
+call_tells s m (Take z) h = take_tells s m z h.stamp_in_range
+call_tells s m (Release z) h = release_tells s m z h.stamp_in_range
+call_tells s m (SetPose p) h = pose_tells s m p h.stamp_in_range
+call_tells s m Advance h = advance_tells s m h.stamp_in_range
+call_tells s m (Inquire z) h = record { cause = λ r e. cc; first = λ r k. cc }
+
+refused_some : (o : Option Refusal) (r : Refusal) → done_unless o ≡ Refused r → o ≡ Some r
+refused_some None r e = cc
+refused_some (Some q) r e = cc
+
+some_refused : (o : Option Refusal) (r : Refusal) → o ≡ Some r → done_unless o ≡ Refused r
+some_refused o r e = ap done_unless e
+
+refusal_of_reply : (s : ModelState) (m : Machine) (c : Call) (r : Refusal) → reply s m c ≡ Refused r → refusal s m c ≡ Some r
+refusal_of_reply s m (Claim z) r e = refused_some (claim_refusal s m z) r e
+refusal_of_reply s m (Give z) r e = refused_some (give_refusal s m z) r e
+refusal_of_reply s m (Yield z) r e = refused_some (yield_refusal s m z) r e
+refusal_of_reply s m (Take z) r e = refused_some (take_refusal s m z) r e
+refusal_of_reply s m (Release z) r e = refused_some (release_refusal s m z) r e
+refusal_of_reply s m (SetPose p) r e = refused_some (pose_refusal s m p) r e
+refusal_of_reply s m Advance r e = refused_some (advance_refusal s m) r e
+refusal_of_reply s m (Inquire z) r e = cc
+
+reply_of_refusal : (s : ModelState) (m : Machine) (c : Call) (r : Refusal) → refusal s m c ≡ Some r → reply s m c ≡ Refused r
+reply_of_refusal s m (Claim z) r e = some_refused (claim_refusal s m z) r e
+reply_of_refusal s m (Give z) r e = some_refused (give_refusal s m z) r e
+reply_of_refusal s m (Yield z) r e = some_refused (yield_refusal s m z) r e
+reply_of_refusal s m (Take z) r e = some_refused (take_refusal s m z) r e
+reply_of_refusal s m (Release z) r e = some_refused (release_refusal s m z) r e
+reply_of_refusal s m (SetPose p) r e = some_refused (pose_refusal s m p) r e
+reply_of_refusal s m Advance r e = some_refused (advance_refusal s m) r e
+reply_of_refusal s m (Inquire z) r e = cc
+
+pub refusals_tell : RefusalsTell
+refusals_tell = record {
+  cause = λ s m c r h e. (call_tells s m c h).cause r (refusal_of_reply s m c r e);
+  first = λ s m c r h k. let f = (call_tells s m c h).first r k in record { answered = f.answered; answer = reply_of_refusal s m c f.answered f.is; order = f.stands };
+}

@@ -1,0 +1,152 @@
+-- For each condition of a call the cause that it tells.
+use Rattle.std.proofs.Common.{◌≡◌, ◌≤◌, ℕ, Bool, true, false, ◌&&◌, not, nat_eq, nat_lt, Option, Some, None, is_some, refl, sym, ap, ◌∙◌, arith}
+use Rattle.std.specs.Bool.{then_some}
+use Rattle.std.specs.Option.{option_eq}
+use Rattle.std.proofs.lemmas.Option.{same_Some}
+use Rattle.cell_types.specs.declared.machine.Machine.{Machine}
+use Rattle.cell_types.specs.declared.zone.Zone.{Zone}
+use Rattle.cell_types.specs.declared.posture.Posture.{Posture}
+use Rattle.cell_types.specs.declared.posture.Posture.TheVariants.{Closed, Moving, OpenIn, OpenOut}
+use Rattle.cell_types.specs.declared.answer.Refusal.{Refusal}
+use Rattle.cell_types.specs.declared.answer.Refusal.TheVariants.{NotParty, Held, AlreadyMine, Shut, NotOwner, PlateInZone, NoPlate, PlaceFull, WrongWay, Jump, NotAtWork, NoPose, Worn, InUse}
+use Rattle.cell_types.specs.Refusals.{number_of}
+use Rattle.cell_types.specs.Same.{same_machine, same_zone, same_posture, one_machine, one_posture}
+use Rattle.cell_rules.specs.Sound.{is_open}
+use Rattle.cell_rules.specs.Refusals.{held_by}
+use Rattle.cell_rules.specs.Causes.{is_shut}
+use Rattle.cell_rules.proofs.Tables.{and_left, and_right, and_both}
+use Rattle.cell_rules.proofs.Holders.{same_machine-self, same_zone-self}
+use Rattle.cell_rules.proofs.Chains.{Tells}
+
+-- a test that is passed refuses
+pub passed_then : (b : Bool) (r q : Refusal) → then_some b r ≡ Some q → (b ≡ true) × (r ≡ q)
+passed_then true r q e = (refl, same_Some r q e)
+passed_then false r q e = cc
+
+pub some_then : (b : Bool) (r : Refusal) → b ≡ true → is_some (then_some b r) ≡ true
+some_then b r e = ap (λ x. is_some (then_some x r)) e
+
+-- ---- a refusal that names nothing: its number is its own
+
+abbrev pub is_plain : Refusal → Bool
+is_plain (Held _) = false
+is_plain (Shut _) = false
+is_plain (NotOwner _) = false
+is_plain (PlateInZone _) = false
+is_plain _ = true
+
+alone : (a b : Refusal) → is_plain a ≡ true → number_of b ≡ number_of a → a ≡ b
+alone NotParty NotParty p e = refl
+alone AlreadyMine AlreadyMine p e = refl
+alone NoPlate NoPlate p e = refl
+alone PlaceFull PlaceFull p e = refl
+alone WrongWay WrongWay p e = refl
+alone Jump Jump p e = refl
+alone NotAtWork NotAtWork p e = refl
+alone NoPose NoPose p e = refl
+alone Worn Worn p e = refl
+alone InUse InUse p e = refl
+alone _ _ p e = cc
+
+pub plain : (cause : Refusal → Bool) (a : Refusal) (b : Bool) → is_plain a ≡ true → cause a ≡ b → Tells cause (number_of a, then_some b a)
+plain cause a b p same = record {
+  told = λ r e. let h = passed_then b a r e in (ap number_of (sym h.1), ap cause (sym h.1) ∙ same ∙ h.0);
+  found = λ r n k. some_then b a (sym same ∙ ap cause (alone a r p n) ∙ k);
+}
+
+-- ---- refusals that name something
+
+option_same : (o : Option Machine) → option_eq same_machine o o ≡ true
+option_same None = refl
+option_same (Some m) = same_machine-self m
+
+abbrev is_mine : Option Machine → Machine → Bool
+is_mine o m = option_eq same_machine o (Some m)
+
+found_owner : (cause : Refusal → Bool) (own : Option Machine) (b : Bool) → ((o : Option Machine) → cause (NotOwner o) ≡ (b && option_eq same_machine own o)) → (r : Refusal) → number_of r ≡ 5 → cause r ≡ true → b ≡ true
+found_owner cause own b same (NotOwner o) n k = and_left b (option_eq same_machine own o) (sym (same o) ∙ k)
+found_owner cause own b same _ n k = cc
+
+pub names_owner : (cause : Refusal → Bool) (own : Option Machine) (b : Bool) → ((o : Option Machine) → cause (NotOwner o) ≡ (b && option_eq same_machine own o)) → Tells cause (5, then_some b (NotOwner own))
+names_owner cause own b same = record {
+  told = λ r e. let h = passed_then b (NotOwner own) r e in (ap number_of (sym h.1), ap cause (sym h.1) ∙ same own ∙ and_both b (option_eq same_machine own own) h.0 (option_same own));
+  found = λ r n k. some_then b (NotOwner own) (found_owner cause own b same r n k);
+}
+
+found_plate : (cause : Refusal → Bool) (z : Zone) (b : Bool) → ((y : Zone) → cause (PlateInZone y) ≡ (same_zone y z && b)) → (r : Refusal) → number_of r ≡ 6 → cause r ≡ true → b ≡ true
+found_plate cause z b same (PlateInZone y) n k = and_right (same_zone y z) b (sym (same y) ∙ k)
+found_plate cause z b same _ n k = cc
+
+pub names_zone : (cause : Refusal → Bool) (z : Zone) (b : Bool) → ((y : Zone) → cause (PlateInZone y) ≡ (same_zone y z && b)) → Tells cause (6, then_some b (PlateInZone z))
+names_zone cause z b same = record {
+  told = λ r e. let h = passed_then b (PlateInZone z) r e in (ap number_of (sym h.1), ap cause (sym h.1) ∙ same z ∙ and_both (same_zone z z) b (same_zone-self z) h.0);
+  found = λ r n k. some_then b (PlateInZone z) (found_plate cause z b same r n k);
+}
+
+told_held : (cause : Refusal → Bool) (own : Option Machine) (m : Machine) → ((o : Machine) → cause (Held o) ≡ (is_mine own o && not (same_machine o m))) → (r : Refusal) → held_by own m ≡ Some r → (number_of r ≡ 2) × (cause r ≡ true)
+told_held cause None m same r e = cc
+told_held cause (Some o) m same r e =
+    let h = passed_then (not (same_machine o m)) (Held o) r e in
+    (ap number_of (sym h.1), ap cause (sym h.1) ∙ same o ∙ and_both (same_machine o o) (not (same_machine o m)) (same_machine-self o) h.0)
+
+held_other : (own : Option Machine) (o m : Machine) → is_mine own o ≡ true → not (same_machine o m) ≡ true → is_some (held_by own m) ≡ true
+held_other None o m e f = cc
+held_other (Some n) o m e f = some_then (not (same_machine n m)) (Held n) (ap (λ x. not (same_machine x m)) (one_machine n o e) ∙ f)
+
+found_held : (cause : Refusal → Bool) (own : Option Machine) (m : Machine) → ((o : Machine) → cause (Held o) ≡ (is_mine own o && not (same_machine o m))) → (r : Refusal) → number_of r ≡ 2 → cause r ≡ true → is_some (held_by own m) ≡ true
+found_held cause own m same (Held o) n k =
+    let both = sym (same o) ∙ k in
+    held_other own o m (and_left (is_mine own o) (not (same_machine o m)) both) (and_right (is_mine own o) (not (same_machine o m)) both)
+found_held cause own m same _ n k = cc
+
+pub names_holder : (cause : Refusal → Bool) (own : Option Machine) (m : Machine) → ((o : Machine) → cause (Held o) ≡ (is_mine own o && not (same_machine o m))) → Tells cause (2, held_by own m)
+names_holder cause own m same = record { told = told_held cause own m same; found = found_held cause own m same }
+
+same_posture-self : (q : Posture) → same_posture q q ≡ true
+same_posture-self Closed = refl
+same_posture-self Moving = refl
+same_posture-self OpenIn = refl
+same_posture-self OpenOut = refl
+
+shut_is : (q : Posture) → is_shut q ≡ not (is_open q)
+shut_is Closed = refl
+shut_is Moving = refl
+shut_is OpenIn = refl
+shut_is OpenOut = refl
+
+found_shut : (cause : Refusal → Bool) (q : Posture) (b : Bool) → ((p : Posture) → cause (Shut p) ≡ (b && same_posture q p && is_shut p)) → (r : Refusal) → number_of r ≡ 4 → cause r ≡ true → (b && not (is_open q)) ≡ true
+found_shut cause q b same (Shut p) n k =
+    let all = sym (same p) ∙ k in
+    let front = and_left (b && same_posture q p) (is_shut p) all in
+    and_both b (not (is_open q)) (and_left b (same_posture q p) front)
+    (ap (λ x. not (is_open x)) (one_posture q p (and_right b (same_posture q p) front)) ∙ sym (shut_is p) ∙ and_right (b && same_posture q p) (is_shut p) all)
+found_shut cause q b same _ n k = cc
+
+pub names_posture : (cause : Refusal → Bool) (q : Posture) (b : Bool) → ((p : Posture) → cause (Shut p) ≡ (b && same_posture q p && is_shut p)) → Tells cause (4, then_some (b && not (is_open q)) (Shut q))
+names_posture cause q b same = record {
+  told = λ r e.
+      let h = passed_then (b && not (is_open q)) (Shut q) r e in (
+        ap number_of (sym h.1),
+        ap cause (sym h.1) ∙ same q ∙ and_both (b && same_posture q q) (is_shut q) (and_both b (same_posture q q) (and_left b (not (is_open q)) h.0) (same_posture-self q)) (shut_is q ∙ and_right b (not (is_open q)) h.0),
+      );
+  found = λ r n k. some_then (b && not (is_open q)) (Shut q) (found_shut cause q b same r n k);
+}
+
+-- only a zone that moves
+found_moving : (cause : Refusal → Bool) (b : Bool) → cause (Shut Moving) ≡ b → (cause (Shut Closed) ≡ false) × (cause (Shut OpenIn) ≡ false) × (cause (Shut OpenOut) ≡ false) → (r : Refusal) → number_of r ≡ 4 → cause r ≡ true → b ≡ true
+found_moving cause b same never (Shut Moving) n k = sym same ∙ k
+found_moving cause b same never (Shut Closed) n k = cc
+found_moving cause b same never (Shut OpenIn) n k = cc
+found_moving cause b same never (Shut OpenOut) n k = cc
+found_moving cause b same never _ n k = cc
+
+pub names_moving : (cause : Refusal → Bool) (b : Bool) → cause (Shut Moving) ≡ b → (cause (Shut Closed) ≡ false) × (cause (Shut OpenIn) ≡ false) × (cause (Shut OpenOut) ≡ false) → Tells cause (4, then_some b (Shut Moving))
+names_moving cause b same never = record {
+  told = λ r e. let h = passed_then b (Shut Moving) r e in (ap number_of (sym h.1), ap cause (sym h.1) ∙ same ∙ h.0);
+  found = λ r n k. some_then b (Shut Moving) (found_moving cause b same never r n k);
+}
+
+-- ---- the last stamp
+
+pub worn_at : (n : ℕ) → n ≤ 1048575 → nat_eq n 1048575 ≡ not (nat_lt n 1048575)
+worn_at n small = grind arith

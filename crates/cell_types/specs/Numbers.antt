@@ -1,0 +1,44 @@
+-- The fourteen numbers of the refusals, written out, and that they differ.
+use Rattle.std.specs.Prelude.{◌≡◌, Bool, true, false, Option, IsTrue}
+use Rattle.cell_types.specs.declared.machine.Machine.{Machine}
+use Rattle.cell_types.specs.declared.zone.Zone.{Zone}
+use Rattle.cell_types.specs.declared.posture.Posture.{Posture}
+use Rattle.cell_types.specs.declared.answer.Refusal.{Refusal}
+use Rattle.cell_types.specs.declared.answer.Refusal.TheVariants.{NotParty, Held, AlreadyMine, Shut, NotOwner, PlateInZone, NoPlate, PlaceFull, WrongWay, Jump, NotAtWork, NoPose, Worn, InUse}
+use Rattle.cell_types.specs.Refusals.{number_of}
+
+-- two refusals are the same, but perhaps for what they name
+abbrev pub is_same_but : Refusal → Refusal → Bool
+is_same_but NotParty NotParty = true
+is_same_but (Held _) (Held _) = true
+is_same_but AlreadyMine AlreadyMine = true
+is_same_but (Shut _) (Shut _) = true
+is_same_but (NotOwner _) (NotOwner _) = true
+is_same_but (PlateInZone _) (PlateInZone _) = true
+is_same_but NoPlate NoPlate = true
+is_same_but PlaceFull PlaceFull = true
+is_same_but WrongWay WrongWay = true
+is_same_but Jump Jump = true
+is_same_but NotAtWork NotAtWork = true
+is_same_but NoPose NoPose = true
+is_same_but Worn Worn = true
+is_same_but InUse InUse = true
+is_same_but _ _ = false
+
+-- whatever a refusal names, its number is that of the table, and no other refusal's
+pub record NumbersOfRefusals : Type 0 where
+  pub not_party : number_of NotParty ≡ 1
+  pub held : (m : Machine) → number_of (Held m) ≡ 2
+  pub already_mine : number_of AlreadyMine ≡ 3
+  pub shut : (q : Posture) → number_of (Shut q) ≡ 4
+  pub not_owner : (o : Option Machine) → number_of (NotOwner o) ≡ 5
+  pub plate_in_zone : (z : Zone) → number_of (PlateInZone z) ≡ 6
+  pub no_plate : number_of NoPlate ≡ 7
+  pub place_full : number_of PlaceFull ≡ 8
+  pub wrong_way : number_of WrongWay ≡ 9
+  pub jump : number_of Jump ≡ 10
+  pub not_at_work : number_of NotAtWork ≡ 11
+  pub no_pose : number_of NoPose ≡ 12
+  pub worn : number_of Worn ≡ 13
+  pub in_use : number_of InUse ≡ 16
+  pub differ : (a b : Refusal) → number_of a ≡ number_of b → IsTrue (is_same_but a b)
