@@ -9,19 +9,10 @@ ghost use Rattle.cell_config.specs.Settings as settings;
 use crate::fault::ConfigFault;
 use crate::values::{number_at, value_at};
 use cell_calib::Points;
+use cell_parts::parts::crane::GRIPPER_END;
+use cell_parts::parts::robot::{ARM_END, ROTATION_END};
+use cell_parts::parts::table::TURN_END;
 use toml::{Table, Value};
-
-/// The end of an arm's axis, in tenths of a millimetre.
-const ARM_END: i32 = 1000;
-
-/// The end of the robot's rotation, in tenths of a degree.
-const ROTATION_END: i32 = 2000;
-
-/// The end of the table's rotation, in tenths of a degree.
-const TURN_END: i32 = 500;
-
-/// The end of the gripper's height, in tenths of a millimetre.
-const GRIPPER_END: i32 = 1000;
 
 /// The raw values where none are given, in sensor counts.
 const RAW: (u16, u16) = (0, 4000);

@@ -7,11 +7,8 @@ ghost use Rattle.cell_config.specs.Settings as settings;
 
 use crate::fault::ConfigFault;
 use crate::values::{number_at, value_at};
-use cell_rules::{PLACES, State, read_places};
+use cell_rules::{LAST_STAMP, PLACES, State, read_places};
 use toml::Table;
-
-/// The last stamp.
-const LAST_STAMP: u32 = 1_048_575;
 
 /// Which places are full, by the key `start`.
 ///

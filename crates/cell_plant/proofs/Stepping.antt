@@ -5,8 +5,6 @@ use Rattle.cell_types.specs.declared.machine.Machine.TheVariants.{Feed, Table, R
 use Rattle.cell_types.specs.Same.{same_machine, one_machine}
 use Rattle.cell_calib.specs.Scale.{Scale}
 use Rattle.cell_calib.specs.Line.{IsReading}
-use Rattle.cell_calib.specs.declared.sense.SensorFault.{SensorFault}
-use Rattle.cell_calib.specs.declared.sense.SensorFault.TheVariants.{Low, High, Clash}
 use Rattle.cell_calib.specs.declared.sense.TableSense.{TableSense}
 use Rattle.cell_devices.specs.declared.act.TableAct.{TableAct}
 use Rattle.cell_types.specs.declared.answer.Event.{Event}
@@ -14,12 +12,12 @@ use Rattle.cell_rules.specs.ModelState.{ModelState}
 use Rattle.cell_rules.specs.Benches.{Desk}
 use Rattle.cell_control.specs.Steps.{Steps}
 use Rattle.cell_control.specs.Rigs.{Rig}
-use Rattle.cell_control.proofs.Senses.{turns_still}
 use Rattle.cell_stations.specs.declared.table_step.TableProgress.{TableProgress}
 use Rattle.cell_stations.specs.declared.table_step.TableReading.{TableReading}
 use Rattle.cell_stations.specs.declared.press_step.PressProgress.{PressProgress}
 use Rattle.cell_stations.specs.PressProgram.{press_steps}
-use Rattle.cell_stations.specs.TableProgram.{Senses, table_steps}
+use Rattle.cell_stations.specs.TableProgram.{table_steps}
+use Rattle.cell_stations.proofs.TableSenses.{turns_near}
 use Rattle.cell_notes.specs.Asks.{Asked, settled_in}
 use Rattle.cell_notes.specs.Notes.{Notes, notes_with}
 use Rattle.cell_parts.specs.declared.axis.Axis.{Axis}
@@ -162,12 +160,6 @@ pub by_turn : (t u : Turn) (before now : Moment) → t ≡ u → StepsOn t befor
 by_turn t u before now e k = subst (λ x. StepsOn x before now) e k
 
 -- the table's turn: its readings are such as a calibration over its scale may give
-near_anyway : (points : Scale) (gives : ℕ → ℤ → Type 0) (s : TableSense) (r : Result TableReading SensorFault) → Senses points gives s r → Senses points (IsReading points) s r
-near_anyway points gives s (Err Clash) k = k
-near_anyway points gives s (Err Low) k = k
-near_anyway points gives s (Err High) k = k
-near_anyway points gives s (Ok r) k = record { no_clash = k.no_clash; first = k.first; last = k.last; near = k.near; given = k.near; switches = k.switches }
-
 pub table_leads : (b : Bool) (points : Scale) (gives : ℕ → ℤ → Type 0) (rig : Rig TablePlant TableSense TableAct) (busy : Bool) (z : ModelState) (before : Side TableProgress TablePlant) (asked : Asked) (y : ModelState) (now : Side TableProgress TablePlant)
     → LeadsAlone b (table_steps points gives) rig busy z before asked y now → LeadsAlone b (table_steps points (IsReading points)) rig busy z before asked y now
 table_leads true points gives rig busy z before asked y now k =
@@ -177,7 +169,7 @@ table_leads true points gives rig busy z before asked y now k =
         sense = k.acts.sense;
         shows = k.acts.shows;
         turned = k.acts.turned;
-        row = turns_still (table_steps points gives) (Senses points (IsReading points)) (near_anyway points gives) _ _ before.stopped before.progress k.acts.sense k.acts.turned k.acts.row;
+        row = turns_near points gives _ _ before.stopped before.progress k.acts.sense k.acts.turned k.acts.row;
         is = k.acts.is;
       };
       moved = k.moved;

@@ -3,12 +3,11 @@ ghost use Rattle.std.specs.Prelude.{◌≡◌};
 ghost use Rattle.cell_rules.specs.Sound.{is_party as is_party_of, is_open as opens_way};
 ghost use Rattle.cell_rules.specs.Refusals as refusals;
 
+use crate::stamp::LAST_STAMP;
 use crate::state::State;
 use cell_types::{
     Machine, Place, Pose, Posture, Refusal, Transfer, Zone, guest, host, posture_in, transfer,
 };
-
-const LAST_STAMP: u32 = 1_048_575;
 
 /// Whether a machine is the host or the guest of a zone.
 pub fn is_party(machine: Machine, zone: Zone) -> bool

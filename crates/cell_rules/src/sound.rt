@@ -8,6 +8,7 @@ ghost use Rattle.cell_rules.specs.ModelState.{model_state};
 
 use crate::places::Places;
 use crate::refusals::is_open;
+use crate::stamp::LAST_STAMP;
 use crate::zones::{ZoneState, Zones};
 use cell_types::{
     Machine, Place, Pose, Posture, Transfer, Zone, guest, host, posture_in, transfer,
@@ -112,5 +113,5 @@ fn all_lawful(full: &Places, zones: &Zones) -> bool
 pub fn is_sound(zones: &Zones, full: &Places, stamp: u32) -> bool
     ensures { result ≡ tests.is_sound (model_state zones.now full.now stamp) }
 {
-    stamp <= 1_048_575 && all_lawful(full, zones) && has_one_plate(full, zones.get(Zone::Z3))
+    stamp <= LAST_STAMP && all_lawful(full, zones) && has_one_plate(full, zones.get(Zone::Z3))
 }

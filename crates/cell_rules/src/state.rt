@@ -9,6 +9,7 @@ ghost use Rattle.cell_rules.specs.Reply as replies;
 use crate::changes::other_party;
 use crate::places::Places;
 use crate::sound::is_sound;
+use crate::stamp::LAST_STAMP;
 use crate::zones::{ZoneState, Zones};
 use cell_types::{Call, Machine, Place, Posture, Zone, transfer, work};
 use std::marker::Model;
@@ -49,7 +50,7 @@ impl State {
         let full = Places::from_flags(places);
         if full.len() <= 6
             && !(full.contains(Place::PressIn) && full.contains(Place::PressOut))
-            && stamp <= 1_048_575
+            && stamp <= LAST_STAMP
         {
             Ok(State {
                 stamp,

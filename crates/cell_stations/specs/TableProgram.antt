@@ -16,6 +16,7 @@ use Rattle.cell_calib.specs.declared.sense.TableSense.{TableSense}
 use Rattle.cell_calib.specs.declared.sense.SensorFault.{SensorFault}
 use Rattle.cell_calib.specs.declared.sense.SensorFault.TheVariants.{Low, High, Clash}
 use Rattle.cell_devices.specs.declared.motor.Motor.{Motor}
+use Rattle.cell_devices.specs.declared.stops.TheConstants.{TURN_LOADING, TURN_UNLOADING}
 use Rattle.cell_devices.specs.declared.motor.Motor.TheVariants.{Off, Plus, Minus}
 use Rattle.cell_devices.specs.declared.stops.Stop.{Stop}
 use Rattle.cell_devices.specs.declared.act.TableAct.{TableAct}
@@ -102,8 +103,8 @@ height_for _ s = Off
 
 -- where a step turns to
 abbrev pub rotation_stop : TableStep → Option Stop
-rotation_stop MoveToLoading = Some (record { target = pos 0; half = 20 })
-rotation_stop MoveToUnloading = Some (record { target = pos 500; half = 20 })
+rotation_stop MoveToLoading = Some TURN_LOADING
+rotation_stop MoveToUnloading = Some TURN_UNLOADING
 rotation_stop _ = None
 
 -- what a step that drives tells the two motors
