@@ -1,6 +1,6 @@
 ghost use Rattle.cell_rules.specs.Stored.{IsHistory};
 
-use crate::answers::{answer, apply};
+use crate::answers::{answer, settle};
 use crate::heard::{Heard, LineFault};
 use crate::line::Line;
 use crate::state::State;
@@ -93,7 +93,7 @@ impl Bench {
         };
         match self.history.push(event) {
             Ok(()) => {
-                apply(&mut self.state, machine, call);
+                settle(&mut self.state, machine, call, answer);
                 Ok(Reply::Settled(answer, self.state.stamp()))
             }
             Err(_) => Err(LineFault::Memory),
