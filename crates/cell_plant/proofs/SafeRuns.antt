@@ -23,6 +23,7 @@ use Rattle.cell_seat.specs.Sides.{Side, noting, act_or_rest, side_set}
 use Rattle.cell_parts.specs.Rigs.{press_rig, table_rig}
 use Rattle.cell_parts.specs.Axes.{arm_end, rotation_end, crane_end, gripper_end, IsWithin, CellScales, AreCellScales}
 use Rattle.cell_parts.specs.Collisions.{IsOut, IsGripperDown, PlateFalls, DrivesPastEnd}
+use Rattle.cell_parts.specs.Plant.{StaysWithin}
 use Rattle.cell_parts.specs.PositionDemands.{PositionDemands}
 use Rattle.cell_parts.specs.MotorDemands.{GripperErrand, ForTravel, MotorDemands}
 use Rattle.cell_parts.specs.Laws.{AllDemandsMet}
@@ -30,7 +31,7 @@ use Rattle.cell_parts.proofs.NoCollision.{nothing_collides}
 use Rattle.cell_notes.specs.declared.schedule.Turn.{Turn}
 use Rattle.cell_plant.specs.CellStates.{CellState, plant_of, cell_at_start}
 use Rattle.cell_plant.specs.Runs.{Step, TakesTurn, LeadsIf, goes_on, IsRun}
-use Rattle.cell_plant.specs.Safety.{StaysWithin, IsSafeState, IsSafelySet, IsSafeRun, EveryRunIsSafe}
+use Rattle.cell_plant.specs.Safety.{IsSafeState, IsSafelySet, IsSafeRun, EveryRunIsSafe}
 use Rattle.cell_plant.proofs.KeptRuns.{CellInv, step_keeps}
 use Rattle.cell_plant.proofs.CellKeeps.{InvOf, ToldOf, keeping_of, starts}
 use Rattle.cell_plant.proofs.PressKeeps.{press-ends}

@@ -2,25 +2,14 @@
 use Rattle.std.specs.Prelude.{◌≡◌, true, List, [], ◌∷◌}
 use Rattle.cell_rules.specs.ModelState.{ModelState}
 use Rattle.cell_rules.specs.Start.{IsStartState}
-use Rattle.cell_parts.specs.Axes.{CellScales, AreCellScales, IsWithin, press_end, arm_end, rotation_end, lift_end, turn_end, crane_end, gripper_end}
+use Rattle.cell_parts.specs.Axes.{CellScales, AreCellScales}
 use Rattle.cell_parts.specs.Collisions.{NothingCollides, NothingCollidesWhenSet}
-use Rattle.cell_parts.specs.Plant.{PlantState}
+use Rattle.cell_parts.specs.Plant.{StaysWithin}
 use Rattle.cell_parts.specs.PositionDemands.{PositionDemands}
 use Rattle.cell_parts.specs.MotorDemands.{GripperErrand, MotorDemands}
 use Rattle.cell_notes.specs.declared.schedule.Turn.{Turn}
 use Rattle.cell_plant.specs.CellStates.{CellState, plant_of, cell_at_start}
 use Rattle.cell_plant.specs.Runs.{Step, IsRun}
-
--- each axis stands within its ends
-pub record StaysWithin (p : PlantState) : Type 0 where
-  pub press : IsWithin press_end p.press.position
-  pub arm1 : IsWithin arm_end p.robot.arm1.position
-  pub arm2 : IsWithin arm_end p.robot.arm2.position
-  pub rotation : IsWithin rotation_end p.robot.rotation.position
-  pub lift : IsWithin lift_end p.table.lift.position
-  pub turn : IsWithin turn_end p.table.turn.position
-  pub travel : IsWithin crane_end p.crane.travel.position
-  pub gripper : IsWithin gripper_end p.crane.gripper.position
 
 -- In a state nothing collides, each axis is within its ends, and the interlock is as the positions and the motors demand, those
 -- too that were left on by an earlier turn. For now the crane rests, so its motor demands nothing, whatever its errand.

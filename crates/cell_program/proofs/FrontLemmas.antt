@@ -1,7 +1,7 @@
 -- Fronts of texts that are written.
-use Rattle.std.proofs.Common.{◌≡◌, ◌⊎◌, inl, inr, codes, ℕ, List, [], ◌++◌, take, length, Option, Some, None, Result, Ok, Err, OnOk, OnErr, IfSome, refl, sym, ap, subst, append-nil, arith}
+use Rattle.std.proofs.Common.{inr, codes, ℕ, List, [], length, Option, Some, None, Result, Ok, Err, OnOk, OnErr, IfSome, sym, subst, append-nil, arith}
 use Rattle.std.proofs.lemmas.List.{take_all}
-use Rattle.std.specs.Io.KnownBytes.{Appends, append_known}
+use Rattle.std.specs.Io.KnownBytes.{Appends}
 use Rattle.cell_text.specs.Output.{WroteFront}
 use Rattle.cell_program.specs.Served.{ReplayFails, fault_line}
 

@@ -1,5 +1,5 @@
 -- What is told of a simulation.
-use Rattle.std.proofs.Common.{◌≡◌, ◌⊎◌, inl, inr, codes, List, ℕ, Option, Some, None, Result, Ok, Err, IfSome, refl, sym, ap, ◌∙◌, subst}
+use Rattle.std.proofs.Common.{◌≡◌, inl, inr, codes, List, ℕ, Option, Some, None, Ok, Err, IfSome}
 use Rattle.cell_text.specs.Output.{WroteFront}
 use Rattle.cell_parts.specs.Axes.{CellScales}
 use Rattle.cell_plant.specs.Cells.{TellsRun}

@@ -1,8 +1,8 @@
 -- Which mode words ask for.
-use Rattle.std.proofs.Common.{◌≡◌, ◌⊎◌, inl, inr, ℕ, List, [], ◌∷◌, codes, refl, sym, ap, ◌∙◌}
+use Rattle.std.proofs.Common.{◌≡◌, inl, inr, ℕ, List, [], ◌∷◌, codes, refl, ap, ◌∙◌}
 use Rattle.clap.specs.Words.{Text}
 use Rattle.clap.proofs.OnLiterals.{clap_on_literals}
-use Rattle.cell_program.specs.Words.{AskForReplay, AskForSim, mode_of, program}
+use Rattle.cell_program.specs.Words.{AskForReplay, AskForSim, mode_of}
 use Rattle.cell_program.specs.declared.words.Mode.{Mode}
 use Rattle.cell_program.specs.declared.words.Mode.TheVariants.{Replay, Sim}
 

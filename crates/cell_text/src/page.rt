@@ -6,7 +6,7 @@ use std::fmt;
 use std::fmt::{Display, Write};
 use std::marker::Model;
 
-/// How many bytes a page has room for. No report has more than 1,310.
+/// How many bytes a page has room for.
 const ROOM: usize = 2048;
 
 /// A text that is kept in place.

@@ -1,10 +1,9 @@
-use Rattle.std.proofs.Common.{◌≡◌, ◌∙◌, ◌++◌, ◌∷◌, [], length, List, Ok, Some, sym, ap, arith, true}
+use Rattle.std.proofs.Common.{◌≡◌, ◌∙◌, length, Ok, Some, sym, ap, arith, true}
 use Rattle.std.specs.List.{filter_map, list_all}
 use Rattle.std.specs.Str.{chars}
 use Rattle.std.proofs.lemmas.Iterator.{YieldsList-from_chars}
 use Rattle.std.proofs.lemmas.Iterator.Consumers.{YieldsList-turn, YieldsList-end, count_from_yields_List}
 use Rattle.std.proofs.lemmas.List.{map-id}
-use Rattle.cell_notes.specs.declared.schedule.Turn.{Turn}
 use Rattle.cell_config.specs.Letters.{is_letter, turn_of}
 use Rattle.cell_config.proofs.LetterLemmas.{letters-more, turns-pushed, turns_of-letters, turns_of-long, turns_of-other}
 use Rattle.cell_config.proofs.schedules.turns_of.Goals as goal

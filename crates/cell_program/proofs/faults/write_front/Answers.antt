@@ -1,4 +1,3 @@
-use Rattle.std.proofs.Common.{◌≡◌}
 use Rattle.cell_program.proofs.FrontLemmas.{written_front}
 use Rattle.cell_program.proofs.faults.write_front.Goals as goal
 

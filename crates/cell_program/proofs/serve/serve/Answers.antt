@@ -1,4 +1,3 @@
-use Rattle.std.proofs.Common.{◌≡◌}
 use Rattle.cell_program.proofs.FrontLemmas.{told_before}
 use Rattle.cell_program.proofs.WordLemmas.{not_for_sim, not_for_replay, either_way}
 use Rattle.cell_program.proofs.serve.serve.Goals as goal

@@ -1,4 +1,3 @@
-use Rattle.std.proofs.Common.{◌≡◌, sym}
 use Rattle.cell_program.specs.Served.{IsAuditOf}
 use Rattle.cell_program.proofs.ReportLemmas.{audit_of, report_told, report_cut}
 use Rattle.cell_program.proofs.simulating.report.Goals as goal

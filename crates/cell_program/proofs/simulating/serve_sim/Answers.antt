@@ -1,6 +1,4 @@
-use Rattle.std.proofs.Common.{◌≡◌, subst}
-use Rattle.cell_program.specs.Simulated.{ReportTold}
-use Rattle.cell_program.proofs.SimLemmas.{config_refused, sim_without_memory, sim_well, sim_failed}
+use Rattle.cell_program.proofs.SimLemmas.{config_refused, sim_well, sim_failed}
 use Rattle.cell_program.proofs.simulating.serve_sim.Goals as goal
 
 pub returns-in-Err-clause-failed : goal.returns-in-Err-clause-failed

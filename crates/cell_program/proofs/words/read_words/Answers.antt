@@ -1,5 +1,5 @@
 use Rattle.std.proofs.Common.{ap, ap₂, refl, codes, true, List, [], ◌∷◌, ◌≡◌, ◌∙◌, subst}
-use Rattle.clap.specs.Words.{App, Text, app_of, is_simple_and_free, takes, fault_of}
+use Rattle.clap.specs.Words.{App, Text, is_simple_and_free, takes, fault_of}
 use Rattle.clap.proofs.OnLiterals.{clap_on_literals}
 use Rattle.cell_program.specs.Words.{program}
 use Rattle.cell_program.proofs.words.read_words.Goals as goal
