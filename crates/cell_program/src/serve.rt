@@ -13,6 +13,7 @@ use crate::faults::{FAILED, fail};
 use crate::replaying::serve_replay;
 use crate::simulating::serve_sim;
 use crate::words::{Mode, read_words};
+use cell_text::flush;
 use clap::error::ErrorKind;
 use std::alloc::Global;
 use std::io::{Read, Write};
@@ -69,7 +70,7 @@ pub fn refuse_bytes<W: Write>(writer: &mut W) -> u8
     ensures { result ≡ 2 }
 {
     let _ = writeln!(writer, "error: a word isn't UTF-8");
-    let _ = writer.flush();
+    let _ = flush(writer);
     REFUSED
 }
 
@@ -85,7 +86,7 @@ fn refuse<W: Write>(error: clap::Error, writer: &mut W) -> u8
         ErrorKind::DisplayHelp => WELL,
         _ => REFUSED,
     };
-    if write!(writer, "{error}").is_err() || writer.flush().is_err() {
+    if write!(writer, "{error}").is_err() || flush(writer).is_err() {
         return FAILED;
     }
     status

@@ -100,7 +100,7 @@ impl Write for FailingWriter {
     }
 }
 
-/// Takes all bytes, at most seven at a time, and is interrupted before each part.
+/// Takes all bytes, at most seven at a time, and is interrupted before each part and each flush.
 #[derive(Drop)]
 pub struct InterruptedWriter {
     pub taken: Vec<u8>,
@@ -119,6 +119,10 @@ impl Write for InterruptedWriter {
     }
 
     fn flush(&mut self) -> io::Result<()> {
+        self.is_ready = !self.is_ready;
+        if self.is_ready {
+            return Err(io::Error::from(ErrorKind::Interrupted));
+        }
         Ok(())
     }
 }

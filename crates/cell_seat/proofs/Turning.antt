@@ -1,20 +1,24 @@
 -- One turn of a machine over a bench, whatever the machine.
-use Rattle.std.proofs.Common.{◌≡◌, Bool, true, false, ◌++◌, append-nil, Some, None, Result, Ok, Err, refl, sym, ap, ◌∙◌, subst, if◌then◌else◌}
+use Rattle.std.proofs.Common.{◌≡◌, Bool, true, false, ◌++◌, append-nil, Option, Some, None, List, IfOk, Result, Ok, Err, refl, sym, ap, ◌∙◌, subst, if◌then◌else◌}
 use Rattle.std.specs.Option.{is_none}
 use Rattle.cell_types.specs.declared.machine.Machine.{Machine}
 use Rattle.cell_types.specs.declared.call.Call.{Call}
+use Rattle.cell_types.specs.declared.answer.Event.{Event}
 use Rattle.cell_types.specs.declared.reply.Reply.{Reply}
 use Rattle.cell_types.specs.declared.reply.Reply.TheVariants.{Settled, Busy}
 use Rattle.cell_calib.specs.declared.sense.SensorFault.{SensorFault}
 use Rattle.cell_rules.specs.declared.heard.LineFault.{LineFault}
+use Rattle.cell_rules.specs.ModelState.{ModelState}
 use Rattle.cell_rules.specs.Benches.{Desk, BenchAsks}
 use Rattle.cell_control.specs.Rigs.{Rig}
 use Rattle.cell_control.specs.Steps.{Steps, with_senses}
+use Rattle.cell_control.specs.Turns.{Performed, Turned, Turns, turned}
+use Rattle.cell_control.specs.declared.fault.CtlFault.{CtlFault}
 use Rattle.cell_control.proofs.TurnMaps.{turn_map, turn_either}
 use Rattle.cell_control.proofs.Senses.{turns_still}
-use Rattle.cell_notes.specs.Asks.{Asked, settled_by, settled_in}
+use Rattle.cell_notes.specs.Asks.{Asked, done_in, settled_by, settled_in}
 use Rattle.cell_notes.specs.Notes.{Notes, notes_with}
-use Rattle.cell_seat.specs.Sides.{Side, Acts, ActsAndMoves, TellsByDemands}
+use Rattle.cell_seat.specs.Sides.{Side, Acts, ActsAndMoves, TellsByDemands, act_or_rest, noting, part_set}
 use Rattle.cell_seat.proofs.Running.{some_stopped}
 use Rattle.cell_seat.specs.SeatTurns.{Answers, Leads, SeatTurn}
 
@@ -91,6 +95,29 @@ module _ {S Sense Reading Act State : Type 0} (t : Steps S Sense Reading Act) (r
         motor_demands = motor_demands;
         noted = subst (λ b. notes' ≡ (if b then notes_with notes asked else notes)) (sym runs) noted;
       }
+
+-- what a part notes of a turn is its own machine's: a controller that has stopped asks nothing, whatever its line
+pub own_done : {S Sense Reading Act : Type 0} → (t : Steps S Sense Reading Act) (same : Type 0) (asks : Call → Result Reply LineFault → Type 0) (asked : Asked) (m : Machine) (stopped : Option CtlFault) (p : S) (s : Sense) (w : Turned S Act)
+    → (stopped ≡ None → m ≡ t.machine) → (same → asked ≡ None) → Turns t same asks stopped p s w → done_in m asked ≡ done_in t.machine asked
+own_done t same asks asked m None p s w own nothing k = ap (λ x. done_in x asked) (own refl)
+own_done t same asks asked m (Some fault) p s w own nothing k = ap (done_in m) (nothing k.0) ∙ sym (ap (done_in t.machine) (nothing k.0))
+
+-- what a machine told its actuators in a turn that stopped nothing, and what that demands
+module _ {S Sense Reading Act State : Type 0} (t : Steps S Sense Reading Act) (rig : Rig State Sense Act) (p : S) (before now : State) (asked : Asked) (opening : ModelState) (seen : List Event) (done : Option Event) (w : Turned S Act)
+    (own : done ≡ done_in t.machine asked) (moved : now ≡ rig.moves (rig.set (noting rig before done) (act_or_rest (t.rest p) w.result)))
+    (met : IfOk w.result (λ act. t.motor_demands p act opening seen)) (runs : w.stopped ≡ None) where
+  performed_tells : (r : Performed S Act) → w ≡ turned p r → TellsByDemands t rig p before asked now opening seen
+  performed_tells (Ok led) e =
+      record {
+        act = led.1;
+        told = moved ∙ ap (λ x. rig.moves (rig.set (noting rig before x) (act_or_rest (t.rest p) w.result))) own ∙ ap (λ v. rig.moves (part_set t rig before asked (act_or_rest (t.rest p) v.result))) e;
+        motor_demands = subst (λ v. IfOk v.result (λ act. t.motor_demands p act opening seen)) e met;
+      }
+  performed_tells (Err fault) e = let stopped : w.stopped ≡ Some fault = ap (λ v. v.stopped) e in cc
+
+  pub turn_tells : (same : Type 0) (asks : Call → Result Reply LineFault → Type 0) (stopped : Option CtlFault) (s : Sense) → Turns t same asks stopped p s w → TellsByDemands t rig p before asked now opening seen
+  turn_tells same asks None s k = performed_tells k.0 k.2
+  turn_tells same asks (Some fault) s k = let stopped : w.stopped ≡ Some fault = ap (λ v. v.stopped) k.1 in cc
 
 -- where less is known of the sensors, a turn is still one
 module _ {S Sense Reading Act State : Type 0} (t : Steps S Sense Reading Act) (rig : Rig State Sense Act) (senses : Sense → Result Reading SensorFault → Type 0) (f : (s : Sense) (r : Result Reading SensorFault) → t.senses s r → senses s r) where

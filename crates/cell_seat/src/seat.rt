@@ -20,7 +20,7 @@ impl<P: Program, B: Part<Sense = P::Sense, Act = P::Act>> Seat<P, B> {
     /// done, and moves for a tick. After an error of the controller its motors are off. What was asked
     /// is handed on.
     pub fn turn<L: Line>(&mut self, line: &mut L) -> Asked
-        requires own { L.machine line.old ≡ (P.steps self.old.controller.program).machine }
+        requires own { self.old.controller.stopped ≡ None → L.machine line.old ≡ (P.steps self.old.controller.program).machine }
         requires ready { IsReady (P.steps self.old.controller.program) (L.opening line.old) (L.seen line.old) self.old.controller.stopped self.old.controller.progress }
         ensures row { ActsAndMoves (P.steps self.old.controller.program) (B.rig (B.make self.old.part)) (line.new ≡ line.old) (λ c r. L.asks line.old c r line.new)
             (side_of self.old.controller.progress self.old.controller.stopped (B.state self.old.part)) result (side_of self.new.controller.progress self.new.controller.stopped (B.state self.new.part)) }

@@ -71,4 +71,5 @@ press-rows = record {
   drives = drives;
   checks = record { bottom = refl; middle = refl; top = refl; none = refl; bottom_and_middle = refl; bottom_and_top = refl; middle_and_top = refl; all_three = refl };
   rests = λ p. refl;
+  demands = λ p motor opening seen on k. k on;
 }

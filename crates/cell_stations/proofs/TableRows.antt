@@ -85,6 +85,9 @@ drives loaded = record {
 checks : TableChecks
 checks = record {
   clash = (search rules);
+  clash_is_no_reading = λ r k. search rules;
+  no_clash_at_bottom = λ k. search rules;
+  no_clash_at_top = λ k. search rules;
   clash_before_raw_value = λ k. search rules;
   too_low = search rules;
   not_too_low = λ k. search rules;
@@ -101,4 +104,5 @@ table-rows = record {
   drives = drives;
   checks = checks;
   rests = λ points p. refl;
+  demands = λ points p height rotation opening seen on k. let at = k on in record { holds_entry = at.0.0; holds_exit = at.0.1; entry_moves = at.1.0; exit_moves = at.1.1 };
 }

@@ -1,5 +1,5 @@
 -- Examples of the press's program: each row of it, with each state of its notes.
-use Rattle.std.specs.Prelude.{◌≡◌, Bool, true, false, [], ◌∷◌, Ok, Err}
+use Rattle.std.specs.Prelude.{◌≡◌, ◌≢◌, Bool, true, false, List, [], ◌∷◌, Ok, Err}
 use Rattle.cell_types.specs.declared.machine.Machine.TheVariants.{Press}
 use Rattle.cell_types.specs.declared.zone.Zone.TheVariants.{Z3}
 use Rattle.cell_types.specs.declared.place.Place.{Place}
@@ -13,6 +13,10 @@ use Rattle.cell_devices.specs.declared.motor.Direction.TheVariants.{Plus as Upwa
 use Rattle.cell_devices.specs.declared.motor.Motor.{Motor}
 use Rattle.cell_devices.specs.declared.motor.Motor.TheVariants.{Off, Plus, Minus}
 use Rattle.cell_devices.specs.declared.act.PressAct.{PressAct}
+use Rattle.cell_types.specs.declared.answer.Event.{Event}
+use Rattle.cell_types.specs.declared.posture.Posture.TheVariants.{Moving}
+use Rattle.cell_rules.specs.ModelState.{ModelState}
+use Rattle.cell_rules.specs.History.{Holds, posture_by_events}
 use Rattle.cell_rules.specs.PlaceSet.{empty, insert_place}
 use Rattle.cell_rules.specs.Start.{start_state}
 use Rattle.cell_control.specs.Rows.{AskRow, DriveRow, UntilFree, UntilOwner, UntilRoom}
@@ -102,3 +106,4 @@ pub record PressRowsAreMet : Type 0 where
   pub drives : (loaded forged : Bool) (d : Direction) → PressDrives loaded forged d
   pub checks : PressChecks
   pub rests : (p : PressProgress) → press_steps.rest p ≡ told Off
+  pub demands : (p : PressProgress) (motor : Motor) (opening : ModelState) (seen : List Event) → motor ≢ Off → press_steps.motor_demands p (told motor) opening seen → Holds opening seen Press Z3 × (posture_by_events opening seen Z3 ≡ Moving)

@@ -1,5 +1,5 @@
 -- Examples of the table's program: each row of it, with each state of its note.
-use Rattle.std.specs.Prelude.{◌≡◌, ℕ, ℤ, pos, Bool, true, false, [], ◌∷◌, Ok, Err}
+use Rattle.std.specs.Prelude.{◌≡◌, ◌≢◌, ◌⊎◌, ℕ, ℤ, pos, Bool, true, false, List, [], ◌∷◌, Ok, Err}
 use Rattle.cell_types.specs.declared.machine.Machine.TheVariants.{Table as TableMachine}
 use Rattle.cell_types.specs.declared.zone.Zone.TheVariants.{Z1, Z2}
 use Rattle.cell_types.specs.declared.place.Place.{Place}
@@ -13,6 +13,10 @@ use Rattle.cell_calib.specs.declared.sense.SensorFault.TheVariants.{Low, High, C
 use Rattle.cell_devices.specs.declared.motor.Motor.{Motor}
 use Rattle.cell_devices.specs.declared.motor.Motor.TheVariants.{Off, Plus, Minus}
 use Rattle.cell_devices.specs.declared.act.TableAct.{TableAct}
+use Rattle.cell_types.specs.declared.answer.Event.{Event}
+use Rattle.cell_types.specs.declared.posture.Posture.TheVariants.{Moving}
+use Rattle.cell_rules.specs.ModelState.{ModelState}
+use Rattle.cell_rules.specs.History.{Holds, posture_by_events}
 use Rattle.cell_rules.specs.PlaceSet.{empty, insert_place}
 use Rattle.cell_rules.specs.Start.{start_state}
 use Rattle.cell_control.specs.Steps.{Steps}
@@ -87,6 +91,9 @@ three raw v = v ≡ pos 3
 
 pub record TableChecks : Type 0 where
   pub clash : (rows_by scale).senses (shown true true 100) (Err Clash)
+  pub clash_is_no_reading : (r : TableReading) → ¬ (rows_by scale).senses (shown true true 100) (Ok r)
+  pub no_clash_at_bottom : ¬ (rows_by scale).senses (shown true false 100) (Err Clash)
+  pub no_clash_at_top : ¬ (rows_by scale).senses (shown false true 100) (Err Clash)
   pub clash_before_raw_value : ¬ (rows_by scale).senses (shown true true 99) (Err Low)
   pub too_low : (rows_by scale).senses (shown false false 99) (Err Low)
   pub not_too_low : ¬ (rows_by scale).senses (shown false false 100) (Err Low)
@@ -95,6 +102,13 @@ pub record TableChecks : Type 0 where
   pub by_gauge : (table_steps scale three).senses (shown false true 100) (Ok (record { sense = shown false true 100; turn = pos 3 }))
   pub not_by_line : ¬ (table_steps scale three).senses (shown false true 100) (Ok (record { sense = shown false true 100; turn = pos 0 }))
 
+-- the table holds both its zones, and they move
+pub record DemandsBoth (opening : ModelState) (seen : List Event) : Type 0 where
+  pub holds_entry : Holds opening seen TableMachine Z1
+  pub holds_exit : Holds opening seen TableMachine Z2
+  pub entry_moves : posture_by_events opening seen Z1 ≡ Moving
+  pub exit_moves : posture_by_events opening seen Z2 ≡ Moving
+
 -- all of them; at a step that asks, both motors are off
 pub record TableRowsAreMet : Type 0 where
   pub starts : (points : Scale) → TableStarts points
@@ -102,3 +116,5 @@ pub record TableRowsAreMet : Type 0 where
   pub drives : (loaded : Bool) → TableDrives loaded
   pub checks : TableChecks
   pub rests : (points : Scale) (p : TableProgress) → (rows_by points).rest p ≡ told Off Off
+  pub demands : (points : Scale) (p : TableProgress) (height rotation : Motor) (opening : ModelState) (seen : List Event) → (height ≢ Off) ⊎ (rotation ≢ Off)
+      → (rows_by points).motor_demands p (told height rotation) opening seen → DemandsBoth opening seen

@@ -7,5 +7,5 @@ pub mod output;
 pub mod page;
 
 pub use input::{InputFault, read_up_to};
-pub use output::{WriteFault, write_text};
+pub use output::{WriteFault, flush, write_text};
 pub use page::Page;

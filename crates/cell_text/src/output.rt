@@ -39,8 +39,9 @@ pub fn write_text<W: Write>(writer: &mut W, text: &[u8]) -> Result<(), WriteFaul
     Err(WriteFault::Write)
 }
 
-/// Flushes a writer.
-fn flush<W: Write>(writer: &mut W) -> Result<(), WriteFault>
+/// Flushes a writer. An interrupted flush is made again; any other failure is an `Err`. What was
+/// written stays.
+pub fn flush<W: Write>(writer: &mut W) -> Result<(), WriteFault>
     ensures { Keeps (W.contents writer.old) (W.contents writer.new) }
 {
     'tries: for _ in 0..u64::MAX {
