@@ -1,5 +1,6 @@
 //! Two refusals that apply at once: the first in the call's order is the answer, and worn comes last.
-//! Each script ends in a call that meets the causes named above it, and every call before that is Done.
+//! Each script ends in a call that meets the causes named above it, and every call before that is Done. A pose
+//! that the machine hasn't concerns no zone: such rows say that none of the later causes comes before it.
 //! The texts were worked out apart from the program, from the rules of the cell.
 
 use super::is_answered;
