@@ -239,14 +239,24 @@ class Place:
             shutil.move(f"{source}/out/{name}", f"{to}/out/{name}")
 
 
+def size(folder):
+    """The bytes of the files that a check of the crate in this folder reads, by which crates are told that take long."""
+    return sum(os.path.getsize(f"{at}/{it}") for part in ("src", "specs", "proofs") for at, _, files in os.walk(f"{folder}/{part}") for it in files)
+
+
+def ahead(root, crates, order, name):
+    """How much is to be read, this crate included, on the longest way from it up to a crate that nothing of these stands on."""
+    above = [ahead(root, crates, order, it) for it in order if name in crates[it]]
+    return size(f"{root}/crates/{name}") + max(above, default=0)
+
+
 def prove(root, names, folder, limit=None, tell=lambda number, of, name: None, words_of=lambda name: (["rt", "lib"], [])):
     """Proves these crates and all below them, and answers None, or the crate that failed and the file of what rt said of it.
     Where cores and memory allow, or at most by the limit, crates are worked at side by side. What is proved already costs a second."""
     crates, order = listed(root), []
     for name in names:
         order += [it for it in [*below(crates, name), name] if it not in order]
-    above = {it: sum(it in below(crates, other) for other in order) for it in order}
-    left, done, waits = sorted(order, key=lambda it: -above[it]), set(), False
+    left, done, waits = sorted(order, key=lambda it: -ahead(root, crates, order, it)), set(), False
     places, begun, running = {}, {}, Running()
     with contextlib.ExitStack() as ends:
         ends.callback(lambda: [it.leave() for it in places.values()])
