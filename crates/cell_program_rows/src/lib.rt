@@ -15,4 +15,6 @@ mod served;
 #[cfg(test)]
 mod simulations;
 #[cfg(test)]
+mod six_machines;
+#[cfg(test)]
 mod streams;

@@ -150,3 +150,150 @@ axes press 500 arm1 0 arm2 0 rotation 300 lift 600 turn 500 crane 0 gripper 900
 stamp 9 plates 1
 audit ok
 ";
+
+/// Where each machine has had one turn, and one that found the interlock busy if it asked.
+pub const ONE_TURN_EACH: &str = "\
+start 0000000000 0
+feed turns 2 done 1 read 0 refused 0 busy 1 ok
+table turns 2 done 1 read 0 refused 0 busy 1 ok
+robot turns 2 done 0 read 0 refused 0 busy 1 ok
+press turns 2 done 1 read 0 refused 0 busy 1 ok
+deposit turns 2 done 1 read 0 refused 0 busy 1 ok
+crane turns 2 done 0 read 0 refused 0 busy 0 ok
+zone z1 table 0 closed
+zone z2 free 0 closed
+zone z3 press 0 closed
+zone z4 deposit 0 closed
+zone z5 free 0 closed
+zone z6 feed 0 closed
+places 0000000000
+axes press 1000 arm1 0 arm2 0 rotation 300 lift 0 turn 0 crane 0 gripper 900
+stamp 4 plates 0
+audit ok
+";
+
+/// Where the feed belt has pushed its plate onto the table, and the table has taken it.
+pub const FEED_TO_TABLE: &str = "\
+start 0100000000 0
+feed turns 11 done 5 read 0 refused 0 busy 0 ok
+table turns 7 done 6 read 0 refused 0 busy 0 ok
+robot turns 0 done 0 read 0 refused 0 busy 0 ok
+press turns 0 done 0 read 0 refused 0 busy 0 ok
+deposit turns 0 done 0 read 0 refused 0 busy 0 ok
+crane turns 0 done 0 read 0 refused 0 busy 0 ok
+zone z1 table 0 openin
+zone z2 table 0 closed
+zone z3 free 0 closed
+zone z4 free 0 closed
+zone z5 free 0 closed
+zone z6 feed 0 closed
+places 0010000000
+axes press 1000 arm1 0 arm2 0 rotation 300 lift 0 turn 0 crane 0 gripper 900
+stamp 11 plates 1
+audit ok
+";
+
+/// Where the robot has put its plate into the press, and the press has taken it.
+pub const ARM_TO_PRESS: &str = "\
+start 0001000000 0
+feed turns 0 done 0 read 0 refused 0 busy 0 ok
+table turns 0 done 0 read 0 refused 0 busy 0 ok
+robot turns 143 done 2 read 1 refused 0 busy 0 ok
+press turns 31 done 5 read 0 refused 0 busy 0 ok
+deposit turns 0 done 0 read 0 refused 0 busy 0 ok
+crane turns 0 done 0 read 0 refused 0 busy 0 ok
+zone z1 free 0 closed
+zone z2 free 0 closed
+zone z3 press 0 openin
+zone z4 free 0 closed
+zone z5 free 0 closed
+zone z6 free 0 closed
+places 0000100000
+axes press 500 arm1 20 arm2 0 rotation 1480 lift 0 turn 0 crane 0 gripper 900
+stamp 7 plates 1
+audit ok
+";
+
+/// Where the crane has brought its plate back to the feed belt.
+pub const CRANE_TO_FEED: &str = "\
+start 0000000001 0
+feed turns 4 done 4 read 0 refused 0 busy 0 ok
+table turns 0 done 0 read 0 refused 0 busy 0 ok
+robot turns 0 done 0 read 0 refused 0 busy 0 ok
+press turns 0 done 0 read 0 refused 0 busy 0 ok
+deposit turns 0 done 0 read 0 refused 0 busy 0 ok
+crane turns 160 done 2 read 0 refused 0 busy 0 ok
+zone z1 free 0 closed
+zone z2 free 0 closed
+zone z3 free 0 closed
+zone z4 free 0 closed
+zone z5 free 0 closed
+zone z6 feed 0 openin
+places 1000000000
+axes press 1000 arm1 0 arm2 0 rotation 300 lift 0 turn 0 crane 2000 gripper 860
+stamp 6 plates 1
+audit ok
+";
+
+/// Where one plate has gone once round the cell, and nobody has waited.
+pub const CARRIED_ROUND: &str = "\
+start 1000000000 0
+feed turns 62 done 10 read 0 refused 0 busy 0 ok
+table turns 76 done 13 read 0 refused 0 busy 0 ok
+robot turns 527 done 8 read 3 refused 0 busy 0 ok
+press turns 144 done 15 read 0 refused 0 busy 0 ok
+deposit turns 61 done 9 read 0 refused 0 busy 0 ok
+crane turns 342 done 4 read 1 refused 0 busy 0 ok
+zone z1 free 0 openin
+zone z2 table 0 closed
+zone z3 free 0 openin
+zone z4 deposit 0 closed
+zone z5 free 0 openout
+zone z6 feed 0 openin
+places 1000000000
+axes press 500 arm1 20 arm2 20 rotation 320 lift 0 turn 0 crane 0 gripper 860
+stamp 59 plates 1
+audit ok
+";
+
+/// Where four plates have gone round in 20,000 turns, taken in turn.
+pub const FOUR_PLATES: &str = "\
+start 1010100010 0
+feed turns 3334 done 56 read 0 refused 2948 busy 0 ok
+table turns 3334 done 52 read 0 refused 2879 busy 0 ok
+robot turns 3333 done 47 read 257 refused 0 busy 0 ok
+press turns 3333 done 66 read 0 refused 2674 busy 0 ok
+deposit turns 3333 done 52 read 0 refused 2969 busy 0 ok
+crane turns 3333 done 24 read 7 refused 1383 busy 0 ok
+zone z1 table 0 closed
+zone z2 table 0 openout
+zone z3 robot 0 openin
+zone z4 deposit 0 closed
+zone z5 crane 1 openout
+zone z6 feed 0 moving
+places 1011000000
+axes press 500 arm1 360 arm2 20 rotation 1480 lift 600 turn 500 crane 1640 gripper 860
+stamp 297 plates 4
+audit ok
+";
+
+/// Where five machines with a plate each wait for one another, in a ring.
+pub const STANDSTILL: &str = "\
+start 1011101010 0
+feed turns 400 done 3 read 0 refused 351 busy 0 ok
+table turns 400 done 4 read 0 refused 365 busy 0 ok
+robot turns 400 done 4 read 1 refused 63 busy 0 ok
+press turns 400 done 11 read 0 refused 311 busy 0 ok
+deposit turns 400 done 11 read 0 refused 337 busy 0 ok
+crane turns 400 done 2 read 2 refused 216 busy 0 ok
+zone z1 table 0 closed
+zone z2 table 0 openout
+zone z3 free 0 openin
+zone z4 deposit 0 closed
+zone z5 deposit 0 openout
+zone z6 feed 0 closed
+places 0111001011
+axes press 500 arm1 0 arm2 20 rotation 1780 lift 600 turn 500 crane 2000 gripper 860
+stamp 35 plates 6
+audit ok
+";

@@ -5,7 +5,9 @@ ghost use Rattle.cell_program.specs.Simulated.{scales_of};
 ghost use Rattle.cell_rules.specs.Start.{IsStartState};
 
 use super::doubles::{is_served, run};
-use super::reports::{BUSY, HANDS_OVER, LONG, PRESS, PRESS_REPORT, STILL, WAITS, WORN};
+use super::reports::{
+    BUSY, HANDS_OVER, LONG, ONE_TURN_EACH, PRESS, PRESS_REPORT, STILL, WAITS, WORN,
+};
 use cell_calib::{Calibration, Gauge, line_at};
 use cell_config::{Config, read_config};
 use cell_plant::{Cell, RunRecord, SimFault, simulate};
@@ -15,12 +17,15 @@ use std::alloc::{AllocError, Global};
 use std::process::Abort;
 use std::test::Fail;
 
-const SIM: &[&str] = &["cell", "sim"];
+pub const SIM: &[&str] = &["cell", "sim"];
 
 /// Runs that go well, with their reports.
 const REPORTS: &[(&str, &str)] = &[
     ("start = \"0000000000\"", STILL),
-    ("start = \"0000000000\"\nschedule = \"frdcFRDC\"", STILL),
+    (
+        "start = \"0000000000\"\nschedule = \"ftrpdcFTRPDC\"",
+        ONE_TURN_EACH,
+    ),
     ("start = \"0000000000\"\nschedule = \"P\"", BUSY),
     ("start = \"0000000000\"\nschedule = \"ttttttt\"", WAITS),
     (
@@ -52,7 +57,7 @@ fn are_simulated(rt: &impl Abort, alloc: Global, rows: &[(&str, &str)], status: 
 }
 
 #[test]
-fn simulates_press_and_table(rt: HostRuntime) {
+fn simulates_and_reports(rt: HostRuntime) {
     are_simulated(&rt, rt.alloc(), REPORTS, 0);
 }
 
@@ -127,7 +132,7 @@ fn simulates_with_closures_of_its_own(rt: HostRuntime) -> Result<(), Fail> {
 }
 
 /// A configuration with this start and this schedule.
-fn scheduled(alloc: Global, start: &str, schedule: &str) -> Result<String, AllocError> {
+pub fn scheduled(alloc: Global, start: &str, schedule: &str) -> Result<String, AllocError> {
     let mut config = String::from_str(alloc, "start = \"")?;
     config.push_str(start)?;
     config.push_str("\"\nschedule = \"")?;
@@ -149,36 +154,36 @@ fn simulates_20000_turns(rt: HostRuntime) -> Result<(), Fail> {
     Ok(())
 }
 
-/// 250 turns of table and press, with turns that find the interlock busy among them.
-fn random_schedule(alloc: Global, seed: u64) -> Result<String, AllocError> {
+const LETTERS: [&str; 6] = ["f", "t", "r", "p", "d", "c"];
+
+const CAPITALS: [&str; 6] = ["F", "T", "R", "P", "D", "C"];
+
+/// So many turns of all machines, with turns that find the interlock busy among them.
+pub fn random_schedule(alloc: Global, seed: usize, turns: usize) -> Result<String, AllocError> {
     let mut schedule = String::new(alloc);
-    let mut state = seed;
-    for _ in 0..250u32 {
+    let mut state = seed as u64;
+    for _ in 0..turns {
         state = state
             .wrapping_mul(6_364_136_223_846_793_005)
             .wrapping_add(1_442_695_040_888_963_407);
-        schedule.push_str(match state >> 60 {
-            0..=6 => "t",
-            7..=13 => "p",
-            14 => "T",
-            _ => "P",
-        })?;
+        let letters = if state >> 61 == 0 { CAPITALS } else { LETTERS };
+        schedule.push_str(letters[(state >> 32) as usize % 6])?;
     }
     Ok(schedule)
 }
 
-/// Whether a configuration is simulated, no machine is stopped, and the audit finds a history.
-fn is_audited(alloc: Global, config: &str) -> bool {
+/// Whether a configuration is simulated, no machine is stopped, and the report ends so.
+pub fn ends(alloc: Global, config: &str, end: &[u8]) -> bool {
     let mut written = Vec::new(alloc);
     let status = run(alloc, SIM, &mut config.as_bytes(), &mut written);
-    status == 0 && written.as_slice().ends_with(b"audit ok\n")
+    status == 0 && written.as_slice().ends_with(end)
 }
 
 #[test]
 fn audits_random_schedules(rt: HostRuntime) -> Result<(), Fail> {
     let alloc = rt.alloc();
-    for seed in 1..=20u64 {
-        let schedule = random_schedule(alloc, seed)?;
+    for seed in 1..=20usize {
+        let schedule = random_schedule(alloc, seed, 250)?;
         for start in [
             "0000000000",
             "0010000000",
@@ -187,7 +192,7 @@ fn audits_random_schedules(rt: HostRuntime) -> Result<(), Fail> {
             "1111010010",
         ] {
             let config = scheduled(alloc, start, schedule.as_str())?;
-            assert!(rt; is_audited(alloc, config.as_str()), "{config}");
+            assert!(rt; ends(alloc, config.as_str(), b"\naudit ok\n"), "{config}");
         }
     }
     Ok(())
