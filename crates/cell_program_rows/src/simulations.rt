@@ -204,7 +204,7 @@ fn audits_random_schedules(rt: HostRuntime) -> Result<(), Fail> {
 fn simulates_without_memory(rt: HostRuntime) {
     let mut room = [0u8; 2000];
     let mut writer = &mut room[..];
-    let config = "start = \"0000000000\"\nschedule = \"ppp\"";
+    let config = "start = \"0000000000\"\nschedule = \"ftrpdcppp\"";
     let status = run(rt.alloc(), SIM, &mut config.as_bytes(), &mut writer);
     let left = writer.len();
     let written = &room[..2000usize.saturating_sub(left)];
