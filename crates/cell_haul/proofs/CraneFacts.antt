@@ -24,7 +24,7 @@ use Rattle.cell_control.proofs.Facts.{Fact, Finds, AreSo, are_foreign, found, St
 use Rattle.cell_haul.specs.declared.crane_step.CraneStep.{CraneStep}
 use Rattle.cell_haul.specs.declared.crane_step.CraneStep.TheVariants.{RaiseToFetch, TravelToDeposit, AwaitPlate, LowerToPlate, GripPlate, RaiseWithPlate, TakePlate, ReleaseDeposit, TravelToFeed, ClaimFeed, LowerToFeed, DropPlate, RaiseFromFeed, GivePlate}
 use Rattle.cell_haul.specs.declared.crane_step.CraneProgress.{CraneProgress}
-use Rattle.cell_haul.specs.CraneProgram.{call_of, step_after, step_after_inquiry, first_step, after_done, is_done, gripper_zone, crane_steps}
+use Rattle.cell_haul.specs.CraneProgram.{call_of, step_after, step_after_inquiry, first_step, crane_start, after_done, is_done, gripper_zone, crane_steps}
 
 abbrev pub facts_at : CraneStep → List Fact
 facts_at RaiseToFetch = []
@@ -48,6 +48,9 @@ CraneKnows p z = AreSo Crane z (facts_at p.step)
 begins : (loaded : Bool) (z : ModelState) → AreSo Crane z (facts_at (first_step loaded))
 begins true z = tt
 begins false z = tt
+
+pub crane_begins : (z : ModelState) → CraneKnows (crane_start z) z
+crane_begins z = begins (is_full z OnCrane) z
 
 -- through a drive, or a magnet's switch
 done_drive : (s : CraneStep) (z : ModelState) → call_of s ≡ None → AreSo Crane z (facts_at s) → AreSo Crane z (facts_at (step_after s))
@@ -117,4 +120,4 @@ holds_at _ o h legal k = tt
 pub holds-zone : (points : Scale) (gives : ℕ → ℤ → Type 0) (opening : ModelState) (seen : List Event) (p : CraneProgress) → IsSound opening → IsLegal opening seen → IsReached (crane_steps points gives) opening seen p
     → HoldsIn Crane opening seen (gripper_zone p.step)
 holds-zone points gives opening seen p sound legal r =
-    holds_at p.step opening seen legal (reached_knows (crane_steps points gives) CraneKnows (crane-knowing points gives) opening seen p (begins (is_full opening OnCrane) opening) sound legal r)
+    holds_at p.step opening seen legal (reached_knows (crane_steps points gives) CraneKnows (crane-knowing points gives) opening seen p (crane_begins opening) sound legal r)

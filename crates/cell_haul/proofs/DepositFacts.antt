@@ -10,7 +10,7 @@ use Rattle.cell_types.specs.declared.answer.Answer.TheVariants.{Done}
 use Rattle.cell_types.specs.declared.answer.Event.{Event}
 use Rattle.cell_rules.specs.ModelState.{ModelState}
 use Rattle.cell_rules.specs.Sound.{IsSound}
-use Rattle.cell_rules.specs.Refusals.{owns}
+use Rattle.cell_rules.specs.Refusals.{owns, posture_at}
 use Rattle.cell_rules.specs.Reply.{reply, changed}
 use Rattle.cell_rules.specs.History.{after, IsLegal}
 use Rattle.cell_rules.proofs.Holders.{take_owned}
@@ -76,11 +76,19 @@ deposit-knowing = record {
   after_inquiry = λ p z c owner flag posture e d sound k. k;
 }
 
--- so a step that drives has what a belt that runs demands
-held_at : (s : DepositStep) (o : ModelState) (h : List Event) → IsLegal o h → call_of s ≡ None → AreSo Deposit (after o h) (facts_at s) → HoldsForRun o h
-held_at RunIn o h legal e k = record { entry = seen_held o h Deposit Z4 legal k.0; exit = seen_held o h Deposit Z5 legal k.1.0; entry_moves = seen_in o h Z4 Moving legal k.1.1.0.1; exit_moves = seen_in o h Z5 Moving legal k.1.1.1.0.1 }
-held_at RunOut o h legal e k = record { entry = seen_held o h Deposit Z4 legal k.0; exit = seen_held o h Deposit Z5 legal k.1.0; entry_moves = seen_in o h Z4 Moving legal k.1.1.0.1; exit_moves = seen_in o h Z5 Moving legal k.1.1.1.0.1 }
-held_at _ o h legal e k = cc
+-- so a step that drives holds both zones, and they move
+pub drives_at : (s : DepositStep) (z : ModelState) → call_of s ≡ None → AreSo Deposit z (facts_at s)
+    → ((owns z Deposit Z4 ≡ true) × (owns z Deposit Z5 ≡ true)) × ((posture_at z Z4 ≡ Moving) × (posture_at z Z5 ≡ Moving))
+drives_at RunIn z e k = ((k.0, k.1.0), (k.1.1.0.1, k.1.1.1.0.1))
+drives_at RunOut z e k = ((k.0, k.1.0), (k.1.1.0.1, k.1.1.1.0.1))
+drives_at _ z e k = cc
 
 pub drives-held : (opening : ModelState) (seen : List Event) (p : DepositProgress) → IsSound opening → IsLegal opening seen → IsReached deposit_steps opening seen p → call_of p.step ≡ None → HoldsForRun opening seen
-drives-held opening seen p sound legal r e = held_at p.step opening seen legal e (reached_knows deposit_steps DepositKnows deposit-knowing opening seen p tt sound legal r)
+drives-held opening seen p sound legal r e =
+    let at = drives_at p.step (after opening seen) e (reached_knows deposit_steps DepositKnows deposit-knowing opening seen p tt sound legal r) in
+    record {
+      entry = seen_held opening seen Deposit Z4 legal at.0.0;
+      exit = seen_held opening seen Deposit Z5 legal at.0.1;
+      entry_moves = seen_in opening seen Z4 Moving legal at.1.0;
+      exit_moves = seen_in opening seen Z5 Moving legal at.1.1;
+    }

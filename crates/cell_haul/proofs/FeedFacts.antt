@@ -16,7 +16,7 @@ use Rattle.cell_rules.specs.ModelState.{ModelState, is_full, one_if}
 use Rattle.cell_rules.specs.Sound.{IsSound, is_open, is_of_some_pose}
 use Rattle.cell_rules.specs.Refusals.{owns, posture_at, given_by}
 use Rattle.cell_rules.specs.Reply.{reply, changed, filled, emptied}
-use Rattle.cell_rules.specs.History.{after, IsLegal, Holds, plates_at}
+use Rattle.cell_rules.specs.History.{after, IsLegal, plates_at}
 use Rattle.cell_rules.proofs.Holders.{take_owned}
 use Rattle.cell_rules.proofs.Tables.{and_right}
 use Rattle.cell_rules.proofs.Conserved.{plates-kept}
@@ -136,22 +136,28 @@ feed-knowing = record {
 }
 
 -- while it runs in, no plate is at its end
-none_at_end : (b entry last : Bool) → pos (one_if b) ≡ pos 1 → b ≡ last → (entry && not last) ≡ true → ⊥
-none_at_end true true true e s f = cc
-none_at_end true false true e s f = cc
-none_at_end true entry false e s f = cc
-none_at_end false entry last e s f = cc
+none_at_end : (b entry last : Bool) → b ≡ last → (entry && not last) ≡ true → b ≡ false
+none_at_end b true true s f = cc
+none_at_end b false true s f = cc
+none_at_end b entry false s f = s
 
--- so a step that drives has what a belt that runs demands
-held_at : (s : FeedStep) (entry last : Bool) (o : ModelState) (h : List Event) → IsSound o → IsLegal o h → call_of s ≡ None → KnowsAt s entry last (after o h) → HoldsForRun o h
-held_at RunIn entry last o h sound legal e k =
-    let at_end = (plates-kept o h sound legal).at_place FeedEnd in
-    let exit : plates_at o h FeedEnd ≡ pos 1 → Holds o h Feed Z1 = λ one. absurd (none_at_end (is_full (after o h) FeedEnd) entry last (sym at_end ∙ one) k.last_noted k.plates) in
-    record { entry = seen_held o h Feed Z6 legal k.facts.0; moves = seen_in o h Z6 Moving legal k.facts.1.0.1; exit = exit }
-held_at RunOut entry last o h sound legal e k =
-    record { entry = seen_held o h Feed Z6 legal k.facts.0; moves = seen_in o h Z6 Moving legal k.facts.1.1.0.1; exit = λ one. seen_held o h Feed Z1 legal k.facts.1.0.0 }
-held_at _ entry last o h sound legal e k = cc
+-- so a step that drives holds the zone before the crane, which moves, and with a plate at its end the zone before the table
+pub drives_at : (s : FeedStep) (entry last : Bool) (z : ModelState) → call_of s ≡ None → KnowsAt s entry last z
+    → ((owns z Feed Z6 ≡ true) × (posture_at z Z6 ≡ Moving)) × (is_full z FeedEnd ≡ true → owns z Feed Z1 ≡ true)
+drives_at RunIn entry last z e k = ((k.facts.0, k.facts.1.0.1), λ full. let none : is_full z FeedEnd ≡ false = none_at_end _ entry last k.last_noted k.plates in cc)
+drives_at RunOut entry last z e k = ((k.facts.0, k.facts.1.1.0.1), λ full. k.facts.1.0.0)
+drives_at _ entry last z e k = cc
+
+one_is_full : (b : Bool) → pos (one_if b) ≡ pos 1 → b ≡ true
+one_is_full true e = refl
+one_is_full false e = cc
 
 pub drives-held : (opening : ModelState) (seen : List Event) (p : FeedProgress) → IsSound opening → IsLegal opening seen → IsReached feed_steps opening seen p → call_of p.step ≡ None → HoldsForRun opening seen
 drives-held opening seen p sound legal r e =
-    held_at p.step p.entry p.last opening seen sound legal e (reached_knows feed_steps FeedKnows feed-knowing opening seen p (feed_begins opening) sound legal r)
+    let at = drives_at p.step p.entry p.last (after opening seen) e (reached_knows feed_steps FeedKnows feed-knowing opening seen p (feed_begins opening) sound legal r) in
+    let full : plates_at opening seen FeedEnd ≡ pos 1 → is_full (after opening seen) FeedEnd ≡ true = λ one. one_is_full _ (sym ((plates-kept opening seen sound legal).at_place FeedEnd) ∙ one) in
+    record {
+      entry = seen_held opening seen Feed Z6 legal at.0.0;
+      moves = seen_in opening seen Z6 Moving legal at.0.1;
+      exit = λ one. seen_held opening seen Feed Z1 legal (at.1 (full one));
+    }
