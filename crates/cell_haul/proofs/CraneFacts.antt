@@ -1,0 +1,123 @@
+-- What the crane knows of the state at each step of its program.
+use Rattle.std.proofs.Common.{◌≡◌, ℕ, ℤ, Bool, true, false, if◌then◌else◌, List, [], ◌∷◌, Option, Some, None, refl, ap}
+use Rattle.cell_types.specs.declared.machine.Machine.{Machine}
+use Rattle.cell_types.specs.declared.machine.Machine.TheVariants.{Crane}
+use Rattle.cell_types.specs.declared.zone.Zone.TheVariants.{Z5, Z6}
+use Rattle.cell_types.specs.declared.posture.Posture.{Posture}
+use Rattle.cell_types.specs.declared.posture.Posture.TheVariants.{Closed, Moving, OpenIn, OpenOut}
+use Rattle.cell_types.specs.declared.call.Call.{Call}
+use Rattle.cell_types.specs.declared.call.Call.TheVariants.{Claim, Give, Take, Release, Inquire}
+use Rattle.cell_types.specs.declared.answer.Answer.TheVariants.{Done, Shown}
+use Rattle.cell_types.specs.declared.answer.Event.{Event}
+use Rattle.cell_types.specs.Tables.{transfer_of}
+use Rattle.cell_calib.specs.Scale.{Scale}
+use Rattle.cell_rules.specs.ModelState.{ModelState, is_full}
+use Rattle.cell_types.specs.declared.place.Place.TheVariants.{Crane as OnCrane}
+use Rattle.cell_rules.specs.Sound.{IsSound, is_owned_by, is_open, is_received_by, is_of_some_pose}
+use Rattle.cell_rules.specs.Refusals.{posture_at}
+use Rattle.cell_rules.specs.Reply.{reply, changed}
+use Rattle.cell_rules.specs.History.{after, IsLegal}
+use Rattle.cell_control.specs.Steps.{IsReached}
+use Rattle.cell_control.specs.Demands.{HoldsIn}
+use Rattle.cell_control.proofs.StepLemmas.{Knowing, reached_knows}
+use Rattle.cell_control.proofs.Facts.{Fact, Finds, AreSo, are_foreign, found, Stands, stands, handed, entered, posed}
+use Rattle.cell_haul.specs.declared.crane_step.CraneStep.{CraneStep}
+use Rattle.cell_haul.specs.declared.crane_step.CraneStep.TheVariants.{RaiseToFetch, TravelToDeposit, AwaitPlate, LowerToPlate, GripPlate, RaiseWithPlate, TakePlate, ReleaseDeposit, TravelToFeed, ClaimFeed, LowerToFeed, DropPlate, RaiseFromFeed, GivePlate}
+use Rattle.cell_haul.specs.declared.crane_step.CraneProgress.{CraneProgress}
+use Rattle.cell_haul.specs.CraneProgram.{call_of, step_after, step_after_inquiry, first_step, crane_start, after_done, is_done, gripper_zone, crane_steps}
+
+abbrev pub facts_at : CraneStep → List Fact
+facts_at RaiseToFetch = []
+facts_at TravelToDeposit = []
+facts_at AwaitPlate = []
+facts_at LowerToPlate = Finds Z5 OpenOut ∷ []
+facts_at GripPlate = Finds Z5 OpenOut ∷ []
+facts_at RaiseWithPlate = Finds Z5 OpenOut ∷ []
+facts_at TakePlate = Finds Z5 OpenOut ∷ []
+facts_at ReleaseDeposit = Finds Z5 OpenOut ∷ []
+facts_at TravelToFeed = []
+facts_at ClaimFeed = []
+facts_at LowerToFeed = Finds Z6 OpenIn ∷ []
+facts_at DropPlate = Finds Z6 OpenIn ∷ []
+facts_at RaiseFromFeed = Finds Z6 OpenIn ∷ []
+facts_at GivePlate = Finds Z6 OpenIn ∷ []
+
+abbrev pub CraneKnows : CraneProgress → ModelState → Type 0
+CraneKnows p z = AreSo Crane z (facts_at p.step)
+
+begins : (loaded : Bool) (z : ModelState) → AreSo Crane z (facts_at (first_step loaded))
+begins true z = tt
+begins false z = tt
+
+pub crane_begins : (z : ModelState) → CraneKnows (crane_start z) z
+crane_begins z = begins (is_full z OnCrane) z
+
+-- through a drive, or a magnet's switch
+done_drive : (s : CraneStep) (z : ModelState) → call_of s ≡ None → AreSo Crane z (facts_at s) → AreSo Crane z (facts_at (step_after s))
+done_drive RaiseToFetch z e k = k
+done_drive TravelToDeposit z e k = k
+done_drive LowerToPlate z e k = k
+done_drive GripPlate z e k = k
+done_drive RaiseWithPlate z e k = k
+done_drive TravelToFeed z e k = k
+done_drive LowerToFeed z e k = k
+done_drive DropPlate z e k = k
+done_drive RaiseFromFeed z e k = k
+done_drive _ z e k = cc
+
+drive_on : (b : Bool) (p : CraneProgress) (z : ModelState) → call_of p.step ≡ None → CraneKnows p z → CraneKnows (if b then after_done p else p) z
+drive_on true p z e k = done_drive p.step z e k
+drive_on false p z e k = k
+
+-- a plate comes to the crane while the deposit belt opens outward
+gives_out : (q : Posture) → is_received_by (Some Crane) (transfer_of Z5 q) ≡ true → q ≡ OpenOut
+gives_out Closed e = cc
+gives_out Moving e = cc
+gives_out OpenIn e = cc
+gives_out OpenOut e = refl
+
+-- the feed belt opens inward alone
+opens_in : (q : Posture) → is_open q ≡ true → is_of_some_pose Z6 q ≡ true → q ≡ OpenIn
+opens_in Closed e f = cc
+opens_in Moving e f = cc
+opens_in OpenIn e f = refl
+opens_in OpenOut e f = cc
+
+-- once its call is done
+done_call : (s : CraneStep) (c : Call) (z : ModelState) → call_of s ≡ Some c → reply z Crane c ≡ Done → IsSound z → AreSo Crane z (facts_at s) → AreSo Crane (changed z Crane c) (facts_at (step_after s))
+done_call TakePlate (Take Z5) z e d sound k = ((k.0.0, k.0.1), tt)
+done_call ReleaseDeposit (Release Z5) z e d sound k = tt
+done_call ClaimFeed (Claim Z6) z e d sound k = ((refl, opens_in (posture_at z Z6) (entered z Z6 Crane d refl) (posed z Z6 sound)), tt)
+done_call GivePlate (Give Z6) z e d sound k = tt
+done_call s c z e d sound k = cc
+
+-- once its inquiry has shown this
+at_deposit : (z : ModelState) (o : Option Machine) (f : Bool) (q : Posture) → IsSound z → Stands z Z5 o f q → AreSo Crane z (facts_at (step_after_inquiry AwaitPlate o f))
+at_deposit z (Some Crane) true q sound k = ((ap (λ x. is_owned_by x Crane) k.owner, gives_out (posture_at z Z5) (handed z Z5 Crane sound k.owner k.flag)), tt)
+at_deposit z o f q sound k = tt
+
+shown_call : (s : CraneStep) (c : Call) (z : ModelState) (o : Option Machine) (f : Bool) (q : Posture) → call_of s ≡ Some c → reply z Crane c ≡ Shown o f q → IsSound z → AreSo Crane z (facts_at s) → AreSo Crane z (facts_at (step_after_inquiry s o f))
+shown_call AwaitPlate (Inquire Z5) z o f q e d sound k = at_deposit z o f q sound (stands z Crane Z5 o f q d)
+shown_call AwaitPlate c z o f q e d sound k = cc
+shown_call s c z o f q e d sound k = k
+
+pub crane-knowing : (points : Scale) (gives : ℕ → ℤ → Type 0) → Knowing (crane_steps points gives) CraneKnows
+crane-knowing points gives = record {
+  foreign = λ p z n c apart sound k. are_foreign Crane n c z (facts_at p.step) apart sound k;
+  after_drive = λ p r act z e d k. drive_on (is_done p.step r.high act) p z e k;
+  after_done = λ p z c e d sound k. done_call p.step c z e d sound k;
+  after_inquiry = λ p z c o f q e d sound k. shown_call p.step c z o f q e d sound k;
+}
+
+-- so at each step the gripper's zone is held
+holds_at : (s : CraneStep) (o : ModelState) (h : List Event) → IsLegal o h → AreSo Crane (after o h) (facts_at s) → HoldsIn Crane o h (gripper_zone s)
+holds_at LowerToPlate o h legal k = found o h Crane Z5 OpenOut legal k.0
+holds_at RaiseWithPlate o h legal k = found o h Crane Z5 OpenOut legal k.0
+holds_at LowerToFeed o h legal k = found o h Crane Z6 OpenIn legal k.0
+holds_at RaiseFromFeed o h legal k = found o h Crane Z6 OpenIn legal k.0
+holds_at _ o h legal k = tt
+
+pub holds-zone : (points : Scale) (gives : ℕ → ℤ → Type 0) (opening : ModelState) (seen : List Event) (p : CraneProgress) → IsSound opening → IsLegal opening seen → IsReached (crane_steps points gives) opening seen p
+    → HoldsIn Crane opening seen (gripper_zone p.step)
+holds-zone points gives opening seen p sound legal r =
+    holds_at p.step opening seen legal (reached_knows (crane_steps points gives) CraneKnows (crane-knowing points gives) opening seen p (crane_begins opening) sound legal r)

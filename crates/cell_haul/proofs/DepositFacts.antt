@@ -1,0 +1,94 @@
+-- What the deposit belt knows of the state at each step of its program.
+use Rattle.std.proofs.Common.{◌≡◌, Bool, true, false, if◌then◌else◌, List, [], ◌∷◌, Some, None, refl}
+use Rattle.cell_types.specs.declared.machine.Machine.TheVariants.{Deposit}
+use Rattle.cell_types.specs.declared.zone.Zone.TheVariants.{Z4, Z5}
+use Rattle.cell_types.specs.declared.posture.Posture.TheVariants.{Closed, Moving, OpenIn, OpenOut}
+use Rattle.cell_types.specs.declared.pose.Pose.TheVariants.{Landing, Running, Offering}
+use Rattle.cell_types.specs.declared.call.Call.{Call}
+use Rattle.cell_types.specs.declared.call.Call.TheVariants.{Claim, Give, Take, Release, SetPose, Advance}
+use Rattle.cell_types.specs.declared.answer.Answer.TheVariants.{Done}
+use Rattle.cell_types.specs.declared.answer.Event.{Event}
+use Rattle.cell_rules.specs.ModelState.{ModelState}
+use Rattle.cell_rules.specs.Sound.{IsSound}
+use Rattle.cell_rules.specs.Refusals.{owns, posture_at}
+use Rattle.cell_rules.specs.Reply.{reply, changed}
+use Rattle.cell_rules.specs.History.{after, IsLegal}
+use Rattle.cell_rules.proofs.Holders.{take_owned}
+use Rattle.cell_control.specs.Steps.{IsReached}
+use Rattle.cell_control.proofs.StepLemmas.{Knowing, reached_knows}
+use Rattle.cell_control.proofs.Facts.{Fact, Owns, Hosts, AreSo, are_foreign, seen_held, seen_in}
+use Rattle.cell_haul.specs.declared.deposit_step.DepositStep.{DepositStep}
+use Rattle.cell_haul.specs.declared.deposit_step.DepositStep.TheVariants.{ClaimEntry, ClaimExit, PoseLanding, ReleaseEntry, TakePlate, StartRun, RunIn, RunOut, MoveOn, PoseOffering, GivePlate, ClaimBack}
+use Rattle.cell_haul.specs.declared.deposit_step.DepositProgress.{DepositProgress}
+use Rattle.cell_haul.specs.DepositProgram.{call_of, choice, step_after, after_done, HoldsForRun, deposit_steps}
+
+abbrev pub facts_at : DepositStep → List Fact
+facts_at ClaimEntry = []
+facts_at ClaimExit = Owns Z4 ∷ []
+facts_at PoseLanding = Owns Z4 ∷ Owns Z5 ∷ []
+facts_at ReleaseEntry = Owns Z4 ∷ Owns Z5 ∷ Hosts Z4 OpenIn ∷ Hosts Z5 Closed ∷ []
+facts_at TakePlate = Owns Z5 ∷ Hosts Z4 OpenIn ∷ Hosts Z5 Closed ∷ []
+facts_at StartRun = Owns Z4 ∷ Owns Z5 ∷ []
+facts_at RunIn = Owns Z4 ∷ Owns Z5 ∷ Hosts Z4 Moving ∷ Hosts Z5 Moving ∷ []
+facts_at RunOut = Owns Z4 ∷ Owns Z5 ∷ Hosts Z4 Moving ∷ Hosts Z5 Moving ∷ []
+facts_at MoveOn = Owns Z4 ∷ Owns Z5 ∷ Hosts Z4 Moving ∷ Hosts Z5 Moving ∷ []
+facts_at PoseOffering = Owns Z4 ∷ Owns Z5 ∷ []
+facts_at GivePlate = Owns Z4 ∷ Owns Z5 ∷ Hosts Z4 Closed ∷ Hosts Z5 OpenOut ∷ []
+facts_at ClaimBack = Owns Z4 ∷ Hosts Z4 Closed ∷ Hosts Z5 OpenOut ∷ []
+
+abbrev pub DepositKnows : DepositProgress → ModelState → Type 0
+DepositKnows p z = AreSo Deposit z (facts_at p.step)
+
+-- through a drive
+done_drive : (s : DepositStep) (entry last : Bool) (z : ModelState) → call_of s ≡ None → AreSo Deposit z (facts_at s) → AreSo Deposit z (facts_at (step_after s entry last))
+done_drive RunIn entry last z e k = k
+done_drive RunOut entry last z e k = k
+done_drive _ entry last z e k = cc
+
+drive_on : (b : Bool) (p : DepositProgress) (z : ModelState) → call_of p.step ≡ None → DepositKnows p z → DepositKnows (if b then p else after_done p) z
+drive_on true p z e k = k
+drive_on false p z e k = done_drive p.step p.entry p.last z e k
+
+-- once its call is done
+at_choice : (entry last : Bool) (z : ModelState) → owns z Deposit Z4 ≡ true → owns z Deposit Z5 ≡ true → AreSo Deposit z (facts_at (choice entry last))
+at_choice entry true z o u = (o, (u, tt))
+at_choice true false z o u = (o, (u, tt))
+at_choice false false z o u = (o, (u, tt))
+
+done_call : (s : DepositStep) (entry last : Bool) (c : Call) (z : ModelState) → call_of s ≡ Some c → reply z Deposit c ≡ Done → AreSo Deposit z (facts_at s) → AreSo Deposit (changed z Deposit c) (facts_at (step_after s entry last))
+done_call ClaimEntry entry last (Claim Z4) z e d k = (refl, tt)
+done_call ClaimExit entry last (Claim Z5) z e d k = at_choice entry last (changed z Deposit (Claim Z5)) k.0 refl
+done_call PoseLanding entry last (SetPose Landing) z e d k = (k.0, (k.1.0, ((refl, refl), ((refl, refl), tt))))
+done_call ReleaseEntry entry last (Release Z4) z e d k = k.1
+done_call TakePlate entry last (Take Z4) z e d k = (take_owned z Deposit Z4 d, (k.0, tt))
+done_call StartRun entry last (SetPose Running) z e d k = (k.0, (k.1.0, ((refl, refl), ((refl, refl), tt))))
+done_call MoveOn entry last Advance z e d k = (k.0, (k.1.0, tt))
+done_call PoseOffering entry last (SetPose Offering) z e d k = (k.0, (k.1.0, ((refl, refl), ((refl, refl), tt))))
+done_call GivePlate entry last (Give Z5) z e d k = (k.0, k.1.1)
+done_call ClaimBack entry last (Claim Z5) z e d k = at_choice entry last (changed z Deposit (Claim Z5)) k.0 refl
+done_call s entry last c z e d k = cc
+
+pub deposit-knowing : Knowing deposit_steps DepositKnows
+deposit-knowing = record {
+  foreign = λ p z n c apart sound k. are_foreign Deposit n c z (facts_at p.step) apart sound k;
+  after_drive = λ p s act z e d k. drive_on act.belt p z e k;
+  after_done = λ p z c e d sound k. done_call p.step p.entry p.last c z e d k;
+  after_inquiry = λ p z c owner flag posture e d sound k. k;
+}
+
+-- so a step that drives holds both zones, and they move
+pub drives_at : (s : DepositStep) (z : ModelState) → call_of s ≡ None → AreSo Deposit z (facts_at s)
+    → ((owns z Deposit Z4 ≡ true) × (owns z Deposit Z5 ≡ true)) × ((posture_at z Z4 ≡ Moving) × (posture_at z Z5 ≡ Moving))
+drives_at RunIn z e k = ((k.0, k.1.0), (k.1.1.0.1, k.1.1.1.0.1))
+drives_at RunOut z e k = ((k.0, k.1.0), (k.1.1.0.1, k.1.1.1.0.1))
+drives_at _ z e k = cc
+
+pub drives-held : (opening : ModelState) (seen : List Event) (p : DepositProgress) → IsSound opening → IsLegal opening seen → IsReached deposit_steps opening seen p → call_of p.step ≡ None → HoldsForRun opening seen
+drives-held opening seen p sound legal r e =
+    let at = drives_at p.step (after opening seen) e (reached_knows deposit_steps DepositKnows deposit-knowing opening seen p tt sound legal r) in
+    record {
+      entry = seen_held opening seen Deposit Z4 legal at.0.0;
+      exit = seen_held opening seen Deposit Z5 legal at.0.1;
+      entry_moves = seen_in opening seen Z4 Moving legal at.1.0;
+      exit_moves = seen_in opening seen Z5 Moving legal at.1.1;
+    }

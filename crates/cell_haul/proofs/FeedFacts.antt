@@ -1,0 +1,163 @@
+-- What the feed belt knows of the state at each step of its program.
+use Rattle.std.proofs.Common.{◌≡◌, pos, Bool, true, false, ◌&&◌, not, if◌then◌else◌, List, [], ◌∷◌, Some, None, refl, sym, ap, ◌∙◌}
+use Rattle.cell_types.specs.declared.machine.Machine.TheVariants.{Feed}
+use Rattle.cell_types.specs.declared.zone.Zone.TheVariants.{Z1, Z6}
+use Rattle.cell_types.specs.declared.place.Place.TheVariants.{FeedEntry, FeedEnd}
+use Rattle.cell_types.specs.declared.posture.Posture.{Posture}
+use Rattle.cell_types.specs.declared.posture.Posture.TheVariants.{Closed, Moving, OpenIn, OpenOut}
+use Rattle.cell_types.specs.declared.pose.Pose.TheVariants.{Landing, Running, Halted}
+use Rattle.cell_types.specs.declared.call.Call.{Call}
+use Rattle.cell_types.specs.declared.call.Call.TheVariants.{Claim, Give, Take, Release, SetPose, Advance}
+use Rattle.cell_types.specs.declared.answer.Answer.TheVariants.{Done}
+use Rattle.cell_types.specs.declared.answer.Event.{Event}
+use Rattle.cell_types.specs.Tables.{transfer_of}
+use Rattle.cell_rules.specs.PlaceSet.{has}
+use Rattle.cell_rules.specs.ModelState.{ModelState, is_full, one_if}
+use Rattle.cell_rules.specs.Sound.{IsSound, is_open, is_of_some_pose}
+use Rattle.cell_rules.specs.Refusals.{owns, posture_at, given_by}
+use Rattle.cell_rules.specs.Reply.{reply, changed, filled, emptied}
+use Rattle.cell_rules.specs.History.{after, IsLegal, plates_at}
+use Rattle.cell_rules.proofs.Holders.{take_owned}
+use Rattle.cell_rules.proofs.Tables.{and_right}
+use Rattle.cell_rules.proofs.Conserved.{plates-kept}
+use Rattle.cell_rules.proofs.OwnSide.{full-foreign}
+use Rattle.cell_control.specs.Steps.{IsReached}
+use Rattle.cell_control.proofs.StepLemmas.{Knowing, reached_knows}
+use Rattle.cell_control.proofs.Facts.{Fact, Owns, Hosts, Finds, AreSo, are_foreign, seen_held, seen_in, entered, posed}
+use Rattle.cell_haul.specs.declared.feed_step.FeedStep.{FeedStep}
+use Rattle.cell_haul.specs.declared.feed_step.FeedStep.TheVariants.{ClaimEntry, PoseLanding, ReleaseEntry, TakePlate, StartIn, RunIn, MoveOn, ClaimExit, StartOut, RunOut, Halt, GivePlate}
+use Rattle.cell_haul.specs.declared.feed_step.FeedProgress.{FeedProgress}
+use Rattle.cell_haul.specs.FeedProgram.{call_of, choice, step_after, entry_after, last_after, after_done, HoldsForRun, feed_steps}
+
+abbrev pub facts_at : FeedStep → List Fact
+facts_at ClaimEntry = []
+facts_at PoseLanding = Owns Z6 ∷ []
+facts_at ReleaseEntry = Owns Z6 ∷ Hosts Z6 OpenIn ∷ []
+facts_at TakePlate = Hosts Z6 OpenIn ∷ []
+facts_at StartIn = Owns Z6 ∷ []
+facts_at RunIn = Owns Z6 ∷ Hosts Z6 Moving ∷ []
+facts_at MoveOn = Owns Z6 ∷ Hosts Z6 Moving ∷ []
+facts_at ClaimExit = Owns Z6 ∷ []
+facts_at StartOut = Owns Z6 ∷ Finds Z1 OpenIn ∷ []
+facts_at RunOut = Owns Z6 ∷ Finds Z1 OpenIn ∷ Hosts Z6 Moving ∷ []
+facts_at Halt = Owns Z6 ∷ Finds Z1 OpenIn ∷ Hosts Z6 Moving ∷ []
+facts_at GivePlate = Owns Z6 ∷ Finds Z1 OpenIn ∷ Hosts Z6 Closed ∷ []
+
+-- the plates that the belt has at each step
+abbrev pub has_plates : FeedStep → Bool → Bool → Bool
+has_plates ClaimEntry entry last = true
+has_plates PoseLanding entry last = not entry && not last
+has_plates ReleaseEntry entry last = not entry && not last
+has_plates TakePlate entry last = not entry && not last
+has_plates StartIn entry last = entry && not last
+has_plates RunIn entry last = entry && not last
+has_plates MoveOn entry last = entry && not last
+has_plates ClaimExit entry last = last
+has_plates StartOut entry last = last
+has_plates RunOut entry last = last
+has_plates Halt entry last = last
+has_plates GivePlate entry last = last
+
+-- the notes are its places
+pub record KnowsAt (s : FeedStep) (entry last : Bool) (z : ModelState) : Type 0 where
+  pub facts : AreSo Feed z (facts_at s)
+  pub plates : has_plates s entry last ≡ true
+  pub entry_noted : is_full z FeedEntry ≡ entry
+  pub last_noted : is_full z FeedEnd ≡ last
+
+abbrev pub FeedKnows : FeedProgress → ModelState → Type 0
+FeedKnows p z = KnowsAt p.step p.entry p.last z
+
+pub feed_begins : (z : ModelState) → FeedKnows (feed_steps.start z) z
+feed_begins z = record { facts = tt; plates = refl; entry_noted = refl; last_noted = refl }
+
+-- through a drive
+done_drive : (s : FeedStep) (entry last : Bool) (z : ModelState) → call_of s ≡ None → KnowsAt s entry last z → KnowsAt (step_after s entry last) (entry_after s entry) (last_after s last) z
+done_drive RunIn entry last z e k = record { facts = k.facts; plates = k.plates; entry_noted = k.entry_noted; last_noted = k.last_noted }
+done_drive RunOut entry last z e k = record { facts = k.facts; plates = k.plates; entry_noted = k.entry_noted; last_noted = k.last_noted }
+done_drive _ entry last z e k = cc
+
+drive_on : (b : Bool) (p : FeedProgress) (z : ModelState) → call_of p.step ≡ None → FeedKnows p z → FeedKnows (if b then p else after_done p) z
+drive_on true p z e k = k
+drive_on false p z e k = done_drive p.step p.entry p.last z e k
+
+-- where it goes on by its plates
+at_choice : (entry last : Bool) (z : ModelState) → owns z Feed Z6 ≡ true → is_full z FeedEntry ≡ entry → is_full z FeedEnd ≡ last → KnowsAt (choice entry last) entry last z
+at_choice entry true z o e l = record { facts = (o, tt); plates = refl; entry_noted = e; last_noted = l }
+at_choice true false z o e l = record { facts = (o, tt); plates = refl; entry_noted = e; last_noted = l }
+at_choice false false z o e l = record { facts = (o, tt); plates = refl; entry_noted = e; last_noted = l }
+
+-- the zone before the table opens inward alone
+opens_in : (q : Posture) → is_open q ≡ true → is_of_some_pose Z1 q ≡ true → q ≡ OpenIn
+opens_in Closed e f = cc
+opens_in Moving e f = cc
+opens_in OpenIn e f = refl
+opens_in OpenOut e f = cc
+
+-- a plate comes to its entry, and one leaves its end
+taken_from : (z : ModelState) → posture_at z Z6 ≡ OpenIn → (is_full (changed z Feed (Take Z6)) FeedEntry ≡ true) × (is_full (changed z Feed (Take Z6)) FeedEnd ≡ is_full z FeedEnd)
+taken_from z opens = (ap (λ q. has (filled z.full (transfer_of Z6 q)) FeedEntry) opens, ap (λ q. has (filled z.full (transfer_of Z6 q)) FeedEnd) opens)
+
+given_to : (z : ModelState) → posture_at z Z1 ≡ OpenIn → (is_full (changed z Feed (Give Z1)) FeedEntry ≡ is_full z FeedEntry) × (is_full (changed z Feed (Give Z1)) FeedEnd ≡ false)
+given_to z opens = (ap (λ q. has (emptied z.full (given_by Feed (transfer_of Z1 q))) FeedEntry) opens, ap (λ q. has (emptied z.full (given_by Feed (transfer_of Z1 q))) FeedEnd) opens)
+
+-- once its call is done
+done_call : (s : FeedStep) (entry last : Bool) (c : Call) (z : ModelState) → call_of s ≡ Some c → reply z Feed c ≡ Done → IsSound z → KnowsAt s entry last z
+    → KnowsAt (step_after s entry last) (entry_after s entry) (last_after s last) (changed z Feed c)
+done_call ClaimEntry entry last (Claim Z6) z e d sound k = at_choice entry last (changed z Feed (Claim Z6)) refl k.entry_noted k.last_noted
+done_call PoseLanding entry last (SetPose Landing) z e d sound k = record { facts = (k.facts.0, ((refl, refl), tt)); plates = k.plates; entry_noted = k.entry_noted; last_noted = k.last_noted }
+done_call ReleaseEntry entry last (Release Z6) z e d sound k = record { facts = k.facts.1; plates = k.plates; entry_noted = k.entry_noted; last_noted = k.last_noted }
+done_call TakePlate entry last (Take Z6) z e d sound k =
+    let places = taken_from z k.facts.0.1 in
+    record { facts = (take_owned z Feed Z6 d, tt); plates = and_right (not entry) (not last) k.plates; entry_noted = places.0; last_noted = places.1 ∙ k.last_noted }
+done_call StartIn entry last (SetPose Running) z e d sound k = record { facts = (k.facts.0, ((refl, refl), tt)); plates = k.plates; entry_noted = k.entry_noted; last_noted = k.last_noted }
+done_call MoveOn entry last Advance z e d sound k = record { facts = (k.facts.0, tt); plates = refl; entry_noted = refl; last_noted = refl }
+done_call ClaimExit entry last (Claim Z1) z e d sound k =
+    record { facts = (k.facts.0, ((refl, opens_in (posture_at z Z1) (entered z Z1 Feed d refl) (posed z Z1 sound)), tt)); plates = k.plates; entry_noted = k.entry_noted; last_noted = k.last_noted }
+done_call StartOut entry last (SetPose Running) z e d sound k = record { facts = (k.facts.0, (k.facts.1.0, ((refl, refl), tt))); plates = k.plates; entry_noted = k.entry_noted; last_noted = k.last_noted }
+done_call Halt entry last (SetPose Halted) z e d sound k = record { facts = (k.facts.0, (k.facts.1.0, ((refl, refl), tt))); plates = k.plates; entry_noted = k.entry_noted; last_noted = k.last_noted }
+done_call GivePlate entry last (Give Z1) z e d sound k =
+    let places = given_to z k.facts.1.0.1 in
+    at_choice entry false (changed z Feed (Give Z1)) k.facts.0 (places.0 ∙ k.entry_noted) places.1
+done_call s entry last c z e d sound k = cc
+
+pub feed-knowing : Knowing feed_steps FeedKnows
+feed-knowing = record {
+  foreign = λ p z n c apart sound k.
+    record {
+      facts = are_foreign Feed n c z (facts_at p.step) apart sound k.facts;
+      plates = k.plates;
+      entry_noted = full-foreign z n c FeedEntry sound apart ∙ k.entry_noted;
+      last_noted = full-foreign z n c FeedEnd sound apart ∙ k.last_noted;
+    };
+  after_drive = λ p s act z e d k. drive_on act.belt p z e k;
+  after_done = λ p z c e d sound k. done_call p.step p.entry p.last c z e d sound k;
+  after_inquiry = λ p z c owner flag posture e d sound k. k;
+}
+
+-- while it runs in, no plate is at its end
+none_at_end : (b entry last : Bool) → b ≡ last → (entry && not last) ≡ true → b ≡ false
+none_at_end b true true s f = cc
+none_at_end b false true s f = cc
+none_at_end b entry false s f = s
+
+-- so a step that drives holds the zone before the crane, which moves, and with a plate at its end the zone before the table
+pub drives_at : (s : FeedStep) (entry last : Bool) (z : ModelState) → call_of s ≡ None → KnowsAt s entry last z
+    → ((owns z Feed Z6 ≡ true) × (posture_at z Z6 ≡ Moving)) × (is_full z FeedEnd ≡ true → owns z Feed Z1 ≡ true)
+drives_at RunIn entry last z e k = ((k.facts.0, k.facts.1.0.1), λ full. let none : is_full z FeedEnd ≡ false = none_at_end _ entry last k.last_noted k.plates in cc)
+drives_at RunOut entry last z e k = ((k.facts.0, k.facts.1.1.0.1), λ full. k.facts.1.0.0)
+drives_at _ entry last z e k = cc
+
+one_is_full : (b : Bool) → pos (one_if b) ≡ pos 1 → b ≡ true
+one_is_full true e = refl
+one_is_full false e = cc
+
+pub drives-held : (opening : ModelState) (seen : List Event) (p : FeedProgress) → IsSound opening → IsLegal opening seen → IsReached feed_steps opening seen p → call_of p.step ≡ None → HoldsForRun opening seen
+drives-held opening seen p sound legal r e =
+    let at = drives_at p.step p.entry p.last (after opening seen) e (reached_knows feed_steps FeedKnows feed-knowing opening seen p (feed_begins opening) sound legal r) in
+    let full : plates_at opening seen FeedEnd ≡ pos 1 → is_full (after opening seen) FeedEnd ≡ true = λ one. one_is_full _ (sym ((plates-kept opening seen sound legal).at_place FeedEnd) ∙ one) in
+    record {
+      entry = seen_held opening seen Feed Z6 legal at.0.0;
+      moves = seen_in opening seen Z6 Moving legal at.0.1;
+      exit = λ one. seen_held opening seen Feed Z1 legal (at.1 (full one));
+    }

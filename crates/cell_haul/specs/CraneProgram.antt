@@ -1,0 +1,179 @@
+-- The crane's program, row by row.
+use Rattle.std.specs.Prelude.{◌≡◌, ◌≢◌, ◌<◌, ◌≤◌, ℕ, ℤ, ◌+ℤ◌, ◌≤ℤ◌, Bool, true, false, ◌&&◌, ◌||◌, not, ◌↔◌, IsTrue, if◌then◌else◌, List, Option, Some, None, Result, Ok, Err}
+use Rattle.cell_types.specs.declared.machine.Machine.{Machine}
+use Rattle.cell_types.specs.declared.machine.Machine.TheVariants.{Crane}
+use Rattle.cell_types.specs.declared.zone.Zone.{Zone}
+use Rattle.cell_types.specs.declared.zone.Zone.TheVariants.{Z5, Z6}
+use Rattle.cell_types.specs.declared.place.Place.TheVariants.{Crane as OnCrane}
+use Rattle.cell_types.specs.declared.posture.Posture.{Posture}
+use Rattle.cell_types.specs.declared.posture.Posture.TheVariants.{OpenIn, OpenOut}
+use Rattle.cell_types.specs.declared.call.Call.{Call}
+use Rattle.cell_types.specs.declared.call.Call.TheVariants.{Claim, Give, Take, Release, Inquire}
+use Rattle.cell_types.specs.declared.answer.Refusal.{Refusal}
+use Rattle.cell_types.specs.declared.answer.Refusal.TheVariants.{Held, Shut}
+use Rattle.cell_types.specs.declared.answer.Event.{Event}
+use Rattle.cell_calib.specs.Scale.{Scale}
+use Rattle.cell_calib.specs.Line.{IsReading}
+use Rattle.cell_calib.specs.Sensors.{CraneClashes}
+use Rattle.cell_calib.specs.declared.sense.CraneSense.{CraneSense}
+use Rattle.cell_calib.specs.declared.sense.SensorFault.{SensorFault}
+use Rattle.cell_calib.specs.declared.sense.SensorFault.TheVariants.{Low, High, Clash}
+use Rattle.cell_devices.specs.declared.motor.Motor.{Motor}
+use Rattle.cell_devices.specs.declared.motor.Motor.TheVariants.{Off, Plus, Minus}
+use Rattle.cell_devices.specs.declared.stops.Stop.{Stop}
+use Rattle.cell_devices.specs.declared.stops.TheConstants.{GRIPPER_DEPOSIT, GRIPPER_FEED, GRIPPER_TRAVEL}
+use Rattle.cell_devices.specs.declared.act.CraneAct.{CraneAct}
+use Rattle.cell_devices.specs.Drives.{DrivesTo}
+use Rattle.cell_devices.specs.Limits.{travel_from}
+use Rattle.cell_rules.specs.ModelState.{ModelState, is_full}
+use Rattle.cell_control.specs.Steps.{Steps}
+use Rattle.cell_control.specs.Demands.{HoldsIn}
+use Rattle.cell_haul.specs.declared.crane_step.CraneStep.{CraneStep}
+use Rattle.cell_haul.specs.declared.crane_step.CraneStep.TheVariants.{RaiseToFetch, TravelToDeposit, AwaitPlate, LowerToPlate, GripPlate, RaiseWithPlate, TakePlate, ReleaseDeposit, TravelToFeed, ClaimFeed, LowerToFeed, DropPlate, RaiseFromFeed, GivePlate}
+use Rattle.cell_haul.specs.declared.crane_step.CraneProgress.{CraneProgress}
+use Rattle.cell_haul.specs.declared.crane_step.CraneReading.{CraneReading}
+
+-- what each step asks; a step that asks nothing drives, or switches the magnet
+abbrev pub call_of : CraneStep → Option Call
+call_of RaiseToFetch = None
+call_of TravelToDeposit = None
+call_of AwaitPlate = Some (Inquire Z5)
+call_of LowerToPlate = None
+call_of GripPlate = None
+call_of RaiseWithPlate = None
+call_of TakePlate = Some (Take Z5)
+call_of ReleaseDeposit = Some (Release Z5)
+call_of TravelToFeed = None
+call_of ClaimFeed = Some (Claim Z6)
+call_of LowerToFeed = None
+call_of DropPlate = None
+call_of RaiseFromFeed = None
+call_of GivePlate = Some (Give Z6)
+
+-- the refusals on which a step stays
+abbrev pub stays_on : CraneStep → Refusal → Bool
+stays_on ClaimFeed (Held _) = true
+stays_on ClaimFeed (Shut _) = true
+stays_on _ _ = false
+
+-- the step after each that is done; an inquiry isn't done, and leads on by what it shows
+abbrev pub step_after : CraneStep → CraneStep
+step_after RaiseToFetch = TravelToDeposit
+step_after TravelToDeposit = AwaitPlate
+step_after AwaitPlate = AwaitPlate
+step_after LowerToPlate = GripPlate
+step_after GripPlate = RaiseWithPlate
+step_after RaiseWithPlate = TakePlate
+step_after TakePlate = ReleaseDeposit
+step_after ReleaseDeposit = TravelToFeed
+step_after TravelToFeed = ClaimFeed
+step_after ClaimFeed = LowerToFeed
+step_after LowerToFeed = DropPlate
+step_after DropPlate = RaiseFromFeed
+step_after RaiseFromFeed = GivePlate
+step_after GivePlate = RaiseToFetch
+
+-- an inquiry leads on where it shows that the zone is the crane's, and a plate in it
+abbrev pub step_after_inquiry : CraneStep → Option Machine → Bool → CraneStep
+step_after_inquiry AwaitPlate (Some Crane) true = LowerToPlate
+step_after_inquiry step _ _ = step
+
+-- two steps switch the magnet, and the others leave it as it is
+abbrev pub magnet_by : CraneStep → Bool → Bool
+magnet_by GripPlate _ = true
+magnet_by DropPlate _ = false
+magnet_by _ magnet = magnet
+
+abbrev pub after_done : CraneProgress → CraneProgress
+after_done p = record { step = step_after p.step; magnet = magnet_by p.step p.magnet }
+
+-- it begins with a plate on its way to the feed belt, or with none
+abbrev pub first_step : Bool → CraneStep
+first_step loaded = if loaded then TravelToFeed else RaiseToFetch
+
+-- at the start the magnet is on where the crane has a plate
+abbrev pub crane_start : ModelState → CraneProgress
+crane_start s = record { step = first_step (is_full s OnCrane); magnet = is_full s OnCrane }
+
+-- what the sensors say that can be used: the switches don't clash, the raw value is one of the calibration's, and the gripper's height is what the gauge gives there, near the line
+pub record Reads (points : Scale) (gives : ℕ → ℤ → Type 0) (s : CraneSense) (r : CraneReading) : Type 0 where
+  pub no_clash : ¬ CraneClashes s
+  pub at_least : points.raw_lo ≤ s.gripper
+  pub at_most : s.gripper ≤ points.raw_hi
+  pub near : IsReading points s.gripper r.gripper
+  pub given : gives s.gripper r.gripper
+  pub switches : r.sense ≡ s
+  pub high : IsTrue r.high ↔ ((travel_from +ℤ points.tol) ≤ℤ r.gripper)
+
+-- the sensors are checked: the switches first, then whether the raw value is one of the calibration's
+abbrev pub Senses : Scale → (ℕ → ℤ → Type 0) → CraneSense → Result CraneReading SensorFault → Type 0
+Senses points gives s (Err Clash) = CraneClashes s
+Senses points gives s (Err Low) = ¬ CraneClashes s × (s.gripper < points.raw_lo)
+Senses points gives s (Err High) = ¬ CraneClashes s × (points.raw_hi < s.gripper)
+Senses points gives s (Ok r) = Reads points gives s r
+
+-- where a step drives the gripper to
+abbrev pub gripper_stop : CraneStep → Option Stop
+gripper_stop RaiseToFetch = Some GRIPPER_TRAVEL
+gripper_stop LowerToPlate = Some GRIPPER_DEPOSIT
+gripper_stop RaiseWithPlate = Some GRIPPER_TRAVEL
+gripper_stop LowerToFeed = Some GRIPPER_FEED
+gripper_stop RaiseFromFeed = Some GRIPPER_TRAVEL
+gripper_stop _ = None
+
+-- the steps that travel, and what they tell its motor: off at the switch and while the gripper isn't high, else towards the switch
+abbrev pub travels : CraneStep → Bool
+travels TravelToDeposit = true
+travels TravelToFeed = true
+travels _ = false
+
+abbrev pub travel_for : CraneStep → Bool → CraneSense → Motor
+travel_for TravelToDeposit high s = if high then (if s.deposit then Off else Minus) else Off
+travel_for TravelToFeed high s = if high then (if s.feed then Off else Plus) else Off
+travel_for _ high s = Off
+
+-- what a step that asks nothing tells motors and magnet
+pub record Acts (points : Scale) (p : CraneProgress) (r : CraneReading) (act : CraneAct) : Type 0 where
+  pub travel : act.travel ≡ travel_for p.step r.high r.sense
+  pub height : DrivesTo (gripper_stop p.step) points.tol r.gripper act.height
+  pub magnet : act.magnet ≡ magnet_by p.step p.magnet
+
+abbrev pub is_off : Motor → Bool
+is_off Off = true
+is_off _ = false
+
+-- a step is done in the turn in which both motors are off, but one that travels not while the gripper isn't high
+abbrev pub is_done : CraneStep → Bool → CraneAct → Bool
+is_done step high act = (not (travels step) || high) && (is_off act.travel && is_off act.height)
+
+abbrev pub after_act : CraneProgress → CraneReading → CraneAct → CraneProgress
+after_act p r act = if is_done p.step r.high act then after_done p else p
+
+-- the zone that the gripper is in, and its posture: none while it goes up before it travels
+abbrev pub gripper_zone : CraneStep → Option (Zone × Posture)
+gripper_zone LowerToPlate = Some (Z5, OpenOut)
+gripper_zone RaiseWithPlate = Some (Z5, OpenOut)
+gripper_zone LowerToFeed = Some (Z6, OpenIn)
+gripper_zone RaiseFromFeed = Some (Z6, OpenIn)
+gripper_zone _ = None
+
+-- while the motor of its height is on, the crane holds the gripper's zone in that posture
+abbrev pub CraneDemands : CraneStep → CraneAct → ModelState → List Event → Type 0
+CraneDemands step act opening seen = act.height ≢ Off → HoldsIn Crane opening seen (gripper_zone step)
+
+-- by the points of the gripper's calibration, and what its gauge may give at a raw value
+abbrev pub crane_steps : Scale → (ℕ → ℤ → Type 0) → Steps CraneProgress CraneSense CraneReading CraneAct
+crane_steps points gives =
+    record {
+      machine = Crane;
+      start = crane_start;
+      call = λ p. call_of p.step;
+      after_done = after_done;
+      after_inquiry = λ p owner flag posture. record p { step = step_after_inquiry p.step owner flag };
+      stays_on = λ p r. stays_on p.step r;
+      senses = Senses points gives;
+      drives = λ p r act. Acts points p r act;
+      after_drive = λ p r act. after_act p r act;
+      rest = λ p. record { travel = Off; height = Off; magnet = p.magnet };
+      motor_demands = λ p act opening seen. CraneDemands p.step act opening seen;
+    }
