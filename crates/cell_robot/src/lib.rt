@@ -1,6 +1,7 @@
 //! The controller of the robot.
 #![tactic(auto)]
 
+pub mod laws;
 pub mod robot;
 pub mod robot_step;
 
