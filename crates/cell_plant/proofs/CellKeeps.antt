@@ -6,25 +6,29 @@ use Rattle.cell_types.specs.declared.machine.Machine.TheVariants.{Feed, Table, R
 use Rattle.cell_rules.specs.ModelState.{ModelState}
 use Rattle.cell_rules.specs.Start.{IsStartState}
 use Rattle.cell_calib.specs.Line.{IsReading}
+use Rattle.cell_haul.specs.DepositProgram.{deposit_steps}
+use Rattle.cell_haul.specs.FeedProgram.{feed_steps}
 use Rattle.cell_stations.specs.PressProgram.{press_steps}
 use Rattle.cell_stations.specs.TableProgram.{table_steps}
 use Rattle.cell_parts.specs.Plant.{table_at_start}
-use Rattle.cell_parts.specs.Rigs.{press_rig, table_rig}
+use Rattle.cell_parts.specs.Rigs.{feed_rig, table_rig, press_rig, deposit_rig}
 use Rattle.cell_seat.proofs.Keeping.{Keeping}
 use Rattle.cell_seat.proofs.Demanding.{With, demands_kept}
 use Rattle.cell_parts.specs.Axes.{CellScales, AreCellScales}
 use Rattle.cell_plant.specs.Machines.{ProgressOf, PartOf, steps_of, rig_of}
 use Rattle.cell_plant.specs.CellStates.{side_in, sides_at_start}
+use Rattle.cell_plant.proofs.DepositKeeps.{DepositInv, DepositRuns, deposit-start, deposit-keeping, deposit-demanding}
+use Rattle.cell_plant.proofs.FeedKeeps.{FeedInv, FeedRuns, feed-start, feed-keeping, feed-demanding}
 use Rattle.cell_plant.proofs.PressKeeps.{PressInv, PressMoves, press-start, press-keeping, press-demanding}
 use Rattle.cell_plant.proofs.TableKeeps.{TableInv, TableDrives, off_stands, table-start, table-keeping, table-demanding}
-use Rattle.cell_plant.proofs.RestingKeeps.{FeedRests, DepositRests, RobotRests, CraneRests, feed-start, deposit-start, robot-start, crane-start, feed-keeping, deposit-keeping, still-keeping}
+use Rattle.cell_plant.proofs.RestingKeeps.{RobotRests, CraneRests, robot-start, crane-start, still-keeping}
 
 abbrev pub InvOf : (m : Machine) → ModelState → ProgressOf m → PartOf m → Type 0
-InvOf Feed = λ z p b. FeedRests z b
+InvOf Feed = With FeedInv FeedRuns
 InvOf Table = With TableInv TableDrives
 InvOf Robot = λ z p b. RobotRests b
 InvOf Press = With PressInv PressMoves
-InvOf Deposit = λ z p b. DepositRests z b
+InvOf Deposit = With DepositInv DepositRuns
 InvOf Crane = λ z p b. CraneRests b
 InvOf Watch = λ z p b. ⊤
 
@@ -33,19 +37,19 @@ abbrev pub ToldOf : (m : Machine) → ModelState → ProgressOf m → PartOf m �
 ToldOf = InvOf
 
 pub keeping_of : (c : CellScales) → AreCellScales c → (m : Machine) → Keeping (steps_of c m) (rig_of c m) (InvOf m) (ToldOf m)
-keeping_of c k Feed = feed-keeping
+keeping_of c k Feed = demands_kept feed_steps feed_rig FeedInv FeedInv FeedRuns feed-keeping feed-demanding
 keeping_of c k Table = demands_kept (table_steps c.turn (IsReading c.turn)) (table_rig c.turn) TableInv TableInv TableDrives (table-keeping c.turn k.turn) (table-demanding c.turn)
 keeping_of c k Robot = still-keeping Robot RobotRests
 keeping_of c k Press = demands_kept press_steps press_rig PressInv PressInv PressMoves press-keeping press-demanding
-keeping_of c k Deposit = deposit-keeping
+keeping_of c k Deposit = demands_kept deposit_steps deposit_rig DepositInv DepositInv DepositRuns deposit-keeping deposit-demanding
 keeping_of c k Crane = still-keeping Crane CraneRests
 keeping_of c k Watch = still-keeping Watch (λ b. ⊤)
 
 pub starts : (s : ModelState) → IsStartState s → (m : Machine) → InvOf m s (side_in (sides_at_start s) m).progress (side_in (sides_at_start s) m).part
-starts s k Feed = feed-start s
+starts s k Feed = (feed-start s, λ runs. cc)
 starts s k Table = (table-start s k, λ on. absurd (off_stands table_at_start refl refl on))
 starts s k Robot = robot-start s
 starts s k Press = (press-start s k, λ on. absurd (on refl))
-starts s k Deposit = deposit-start s
+starts s k Deposit = (deposit-start s, λ runs. cc)
 starts s k Crane = crane-start s
 starts s k Watch = tt

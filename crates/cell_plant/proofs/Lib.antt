@@ -1,6 +1,9 @@
 pub mod WithinLemmas
 pub mod PressKeeps
 pub mod TableKeeps
+pub mod BeltPlates
+pub mod FeedKeeps
+pub mod DepositKeeps
 pub mod RestingKeeps
 pub mod KeptRuns
 pub mod CellKeeps

@@ -56,13 +56,13 @@ clear_free full stamp = record { feed = λ e. cc; entry = λ e. cc; end = λ e. 
 clear_start : (s : ModelState) → IsStartState s → RunsClear s
 clear_start s k = subst RunsClear (sym k.same) (clear_free s.full s.stamp)
 
--- only table and press take turns, so the others' magnets stay as they are
+-- neither robot nor crane takes a turn, so their magnets stay as they are
 takes_alone : (w : CellState) (m : Machine) → goes_on w m ≡ true → (same_machine m Robot ≡ false) × (same_machine m Crane ≡ false)
+takes_alone w Feed e = (refl, refl)
 takes_alone w Table e = (refl, refl)
 takes_alone w Press e = (refl, refl)
-takes_alone w Feed e = cc
+takes_alone w Deposit e = (refl, refl)
 takes_alone w Robot e = cc
-takes_alone w Deposit e = cc
 takes_alone w Crane e = cc
 takes_alone w Watch e = cc
 
@@ -96,15 +96,15 @@ module _ (c : CellScales) (scales : AreCellScales c) where
       press = ((i.each Press).0.open_in, (i.each Press).0.open_out);
       table = (i.each Table).0.open_in;
       gripper = λ down. absurd (gripper_high down);
-      plates = ((i.each Feed).end, (i.each Deposit).end);
+      plates = ((i.each Feed).0.plates.end, (i.each Deposit).0.plates.end);
     }
 
     motors : (errand : GripperErrand) → MotorDemands errand w.interlock (plant_of w)
     motors errand = record {
       press = λ on. ((i.each Press).1 on).0;
       table = λ on. let k = (i.each Table).1 on in (k.0, k.1.0);
-      feed = λ runs. let stands = (i.each Feed).stands in cc;
-      deposit = λ runs. let stands = (i.each Deposit).stands in cc;
+      feed = λ runs. let at = ((i.each Feed).1 runs).0 in (at, λ full. i.clear.feed at.1 full);
+      deposit = λ runs. let at = (i.each Deposit).1 runs in (at.0, at.1.0);
       arm1 = λ on. absurd (on (ap (λ a. a.motor) (i.each Robot).arm1));
       arm2 = λ on. absurd (on (ap (λ a. a.motor) (i.each Robot).arm2));
       gripper = λ on. absurd (on (ap (λ a. a.motor) (i.each Crane).gripper));

@@ -1,5 +1,5 @@
 -- One turn of a simulation, as a step of a run.
-use Rattle.std.proofs.Common.{◌≡◌, ℕ, ℤ, OnOk, OnErr, IfOk, Bool, true, false, ◌&&◌, ◌⊎◌, inl, inr, is_none, List, [], ◌++◌, append-nil, None, Result, Ok, Err, refl, sym, ap, ◌∙◌, subst, if◌then◌else◌}
+use Rattle.std.proofs.Common.{◌≡◌, ℕ, ℤ, OnOk, OnErr, IfOk, Bool, true, false, ◌&&◌, ◌⊎◌, inl, inr, is_none, List, [], ◌++◌, append-nil, Option, None, Result, Ok, Err, refl, sym, ap, ◌∙◌, subst, if◌then◌else◌}
 use Rattle.cell_types.specs.declared.machine.Machine.{Machine}
 use Rattle.cell_types.specs.declared.machine.Machine.TheVariants.{Feed, Table, Robot, Press, Deposit, Crane, Watch}
 use Rattle.cell_types.specs.Same.{same_machine, one_machine}
@@ -13,6 +13,9 @@ use Rattle.cell_rules.specs.Benches.{Desk}
 use Rattle.cell_control.specs.Steps.{Steps}
 use Rattle.cell_control.specs.Rigs.{Rig}
 use Rattle.cell_stations.specs.declared.table_step.TableProgress.{TableProgress}
+use Rattle.cell_control.specs.declared.fault.CtlFault.{CtlFault}
+use Rattle.cell_haul.specs.DepositProgram.{deposit_steps}
+use Rattle.cell_haul.specs.FeedProgram.{feed_steps}
 use Rattle.cell_stations.specs.PressProgram.{press_steps}
 use Rattle.cell_stations.specs.TableProgram.{Senses, table_steps}
 use Rattle.cell_stations.proofs.TableSenses.{senses_near}
@@ -20,8 +23,9 @@ use Rattle.cell_notes.specs.Asks.{Asked, settled_in}
 use Rattle.cell_notes.specs.Notes.{Notes, notes_with}
 use Rattle.cell_parts.specs.Axes.{CellScales}
 use Rattle.cell_parts.specs.Plant.{TablePlant}
-use Rattle.cell_parts.specs.Rigs.{press_rig, table_rig}
-use Rattle.cell_seat.specs.Sides.{Side}
+use Rattle.cell_parts.specs.Rigs.{feed_rig, table_rig, press_rig, deposit_rig}
+use Rattle.cell_seat.specs.Sides.{Side, IsReady}
+use Rattle.cell_seat.proofs.Others.{others_ready}
 use Rattle.cell_seat.proofs.Turning.{seat_turn_still}
 use Rattle.cell_seat.specs.SeatTurns.{SeatTurn, Untouched, Leads as LeadsAlone}
 use Rattle.cell_notes.specs.declared.schedule.Turn.{Turn}
@@ -161,51 +165,67 @@ pub table_near : (points : Scale) (gives : ℕ → ℤ → Type 0) (rig : Rig Ta
     → SeatTurn (table_steps points gives) rig busy old new before now notes notes' → SeatTurn (table_steps points (IsReading points)) rig busy old new before now notes notes'
 table_near points gives rig busy old new before now notes notes' k = seat_turn_still (table_steps points gives) rig (Senses points (IsReading points)) (senses_near points gives) busy old new before now notes notes' k
 
--- the table's turn and the press's, which leave the others
+-- a turn leaves the sides and the notes of the other machines
+abbrev Others : Machine → Sides → Sides → AllNotes → AllNotes → Type 0
+Others m s t v w = (n : Machine) → same_machine m n ≡ false → (side_in t n ≡ side_in s n) × (notes_in w n ≡ notes_in v n)
+
+feed_others : (s : Sides) (x : SideOf Feed) (v : AllNotes) (y : Notes) → Others Feed s (record s { feed = x }) v (record v { feed = y })
+feed_others s x v y Feed apart = cc
+feed_others s x v y n apart = (refl, refl)
+
+table_others : (s : Sides) (x : SideOf Table) (v : AllNotes) (y : Notes) → Others Table s (record s { table = x }) v (record v { table = y })
+table_others s x v y Table apart = cc
+table_others s x v y n apart = (refl, refl)
+
+press_others : (s : Sides) (x : SideOf Press) (v : AllNotes) (y : Notes) → Others Press s (record s { press = x }) v (record v { press = y })
+press_others s x v y Press apart = cc
+press_others s x v y n apart = (refl, refl)
+
+deposit_others : (s : Sides) (x : SideOf Deposit) (v : AllNotes) (y : Notes) → Others Deposit s (record s { deposit = x }) v (record v { deposit = y })
+deposit_others s x v y Deposit apart = cc
+deposit_others s x v y n apart = (refl, refl)
+
 module _ (before now : Moment) (busy : Bool) (asked : Asked) (scales : now.scales ≡ before.scales) (opening : now.opening ≡ before.opening) where
-  table_others : now ≡ record now { sides = record before.sides { table = now.sides.table }; notes = record before.notes { table = now.notes.table } }
-      → (n : Machine) → same_machine Table n ≡ false → (side_in now.sides n ≡ side_in before.sides n) × (notes_in now.notes n ≡ notes_in before.notes n)
-  table_others e Feed apart = (ap (λ (m : Moment). side_in m.sides Feed) e, ap (λ (m : Moment). m.notes.feed) e)
-  table_others e Table apart = cc
-  table_others e Robot apart = (ap (λ (m : Moment). side_in m.sides Robot) e, ap (λ (m : Moment). m.notes.robot) e)
-  table_others e Press apart = (ap (λ (m : Moment). m.sides.press) e, ap (λ (m : Moment). m.notes.press) e)
-  table_others e Deposit apart = (ap (λ (m : Moment). side_in m.sides Deposit) e, ap (λ (m : Moment). m.notes.deposit) e)
-  table_others e Crane apart = (ap (λ (m : Moment). side_in m.sides Crane) e, ap (λ (m : Moment). m.notes.crane) e)
-  table_others e Watch apart = (refl, ap (λ (m : Moment). m.notes.watch) e)
+  -- a machine's turn, which leads its own side on and leaves the others
+  alone_on : (m : Machine) → has_controller m ≡ true
+      → LeadsAlone (is_none (side_in before.sides m).stopped) (steps_of before.scales m) (rig_of before.scales m) busy before.interlock (side_in before.sides m) asked now.interlock (side_in now.sides m)
+      → now.history ≡ before.history ++ settled_in m asked
+      → notes_in now.notes m ≡ (if is_none (side_in before.sides m).stopped then notes_with (notes_in before.notes m) asked else notes_in before.notes m)
+      → (s : Sides) (v : AllNotes) → now.sides ≡ s → now.notes ≡ v → Others m before.sides s before.notes v → StepsOn (record { machine = m; busy = busy }) before now
+  alone_on m controlled leads history noted s v e f others =
+      steps_on m busy before now asked controlled leads history noted (λ n apart. (ap (λ x. side_in x n) e ∙ (others n apart).0, ap (λ x. notes_in x n) f ∙ (others n apart).1)) scales opening
+
+  pub feed_on : LeadsAlone (is_none before.sides.feed.stopped) feed_steps feed_rig busy before.interlock before.sides.feed asked now.interlock now.sides.feed
+      → now.history ≡ before.history ++ settled_in Feed asked
+      → now.notes.feed ≡ (if is_none before.sides.feed.stopped then notes_with before.notes.feed asked else before.notes.feed)
+      → now.sides ≡ record before.sides { feed = now.sides.feed } → now.notes ≡ record before.notes { feed = now.notes.feed } → StepsOn (record { machine = Feed; busy = busy }) before now
+  feed_on leads history noted e f = alone_on Feed refl leads history noted _ _ e f (feed_others before.sides now.sides.feed before.notes now.notes.feed)
 
   pub table_on : (points : Scale) → LeadsAlone (is_none before.sides.table.stopped) (table_steps points (IsReading points)) (table_rig before.scales.turn) busy before.interlock before.sides.table asked now.interlock now.sides.table
       → before.scales.turn ≡ points → now.history ≡ before.history ++ settled_in Table asked
       → now.notes.table ≡ (if is_none before.sides.table.stopped then notes_with before.notes.table asked else before.notes.table)
-      → now ≡ record now { sides = record before.sides { table = now.sides.table }; notes = record before.notes { table = now.notes.table } }
-      → StepsOn (record { machine = Table; busy = busy }) before now
-  table_on points leads fits history noted rest =
+      → now.sides ≡ record before.sides { table = now.sides.table } → now.notes ≡ record before.notes { table = now.notes.table } → StepsOn (record { machine = Table; busy = busy }) before now
+  table_on points leads fits history noted e f =
       let led = subst (λ (s : Scale). LeadsAlone (is_none before.sides.table.stopped) (table_steps s (IsReading s)) (table_rig before.scales.turn) busy before.interlock before.sides.table asked now.interlock now.sides.table) (sym fits) leads in
-      steps_on Table busy before now asked refl led history noted (table_others rest) scales opening
-
-  press_others : now ≡ record now { sides = record before.sides { press = now.sides.press }; notes = record before.notes { press = now.notes.press } }
-      → (n : Machine) → same_machine Press n ≡ false → (side_in now.sides n ≡ side_in before.sides n) × (notes_in now.notes n ≡ notes_in before.notes n)
-  press_others e Feed apart = (ap (λ (m : Moment). side_in m.sides Feed) e, ap (λ (m : Moment). m.notes.feed) e)
-  press_others e Table apart = (ap (λ (m : Moment). m.sides.table) e, ap (λ (m : Moment). m.notes.table) e)
-  press_others e Robot apart = (ap (λ (m : Moment). side_in m.sides Robot) e, ap (λ (m : Moment). m.notes.robot) e)
-  press_others e Press apart = cc
-  press_others e Deposit apart = (ap (λ (m : Moment). side_in m.sides Deposit) e, ap (λ (m : Moment). m.notes.deposit) e)
-  press_others e Crane apart = (ap (λ (m : Moment). side_in m.sides Crane) e, ap (λ (m : Moment). m.notes.crane) e)
-  press_others e Watch apart = (refl, ap (λ (m : Moment). m.notes.watch) e)
+      alone_on Table refl led history noted _ _ e f (table_others before.sides now.sides.table before.notes now.notes.table)
 
   pub press_on : LeadsAlone (is_none before.sides.press.stopped) press_steps press_rig busy before.interlock before.sides.press asked now.interlock now.sides.press
       → now.history ≡ before.history ++ settled_in Press asked
       → now.notes.press ≡ (if is_none before.sides.press.stopped then notes_with before.notes.press asked else before.notes.press)
-      → now ≡ record now { sides = record before.sides { press = now.sides.press }; notes = record before.notes { press = now.notes.press } }
-      → StepsOn (record { machine = Press; busy = busy }) before now
-  press_on leads history noted rest = steps_on Press busy before now asked refl leads history noted (press_others rest) scales opening
+      → now.sides ≡ record before.sides { press = now.sides.press } → now.notes ≡ record before.notes { press = now.notes.press } → StepsOn (record { machine = Press; busy = busy }) before now
+  press_on leads history noted e f = alone_on Press refl leads history noted _ _ e f (press_others before.sides now.sides.press before.notes now.notes.press)
+
+  pub deposit_on : LeadsAlone (is_none before.sides.deposit.stopped) deposit_steps deposit_rig busy before.interlock before.sides.deposit asked now.interlock now.sides.deposit
+      → now.history ≡ before.history ++ settled_in Deposit asked
+      → now.notes.deposit ≡ (if is_none before.sides.deposit.stopped then notes_with before.notes.deposit asked else before.notes.deposit)
+      → now.sides ≡ record before.sides { deposit = now.sides.deposit } → now.notes ≡ record before.notes { deposit = now.notes.deposit } → StepsOn (record { machine = Deposit; busy = busy }) before now
+  deposit_on leads history noted e f = alone_on Deposit refl leads history noted _ _ e f (deposit_others before.sides now.sides.deposit before.notes now.notes.deposit)
 
 -- machines without a controller
-pub none_controlled : (m : Machine) → (m ≡ Feed) ⊎ ((m ≡ Robot) ⊎ ((m ≡ Deposit) ⊎ ((m ≡ Crane) ⊎ (m ≡ Watch)))) → has_controller m ≡ false
+pub none_controlled : (m : Machine) → (m ≡ Robot) ⊎ ((m ≡ Crane) ⊎ (m ≡ Watch)) → has_controller m ≡ false
 none_controlled m (inl e) = ap has_controller e
 none_controlled m (inr (inl e)) = ap has_controller e
-none_controlled m (inr (inr (inl e))) = ap has_controller e
-none_controlled m (inr (inr (inr (inl e)))) = ap has_controller e
-none_controlled m (inr (inr (inr (inr e)))) = ap has_controller e
+none_controlled m (inr (inr e)) = ap has_controller e
 
 -- what holds where a turn was Ok
 pub on_ok : {A E : Type 0} → (r : Result A E) (P Q : Type 0) → OnOk r P → (P → Q) → IfOk r (λ x. Q)
@@ -222,6 +242,11 @@ pub grows : {E S Sense Reading Act State : Type 0} → (r : Result Unit E) (t : 
     → OnOk r (SeatTurn t rig busy old new before now notes notes') → OnErr r (Untouched old new before now notes notes') → Grows t.machine old new
 grows (Ok x) t rig busy old new before now notes notes' k u = record { asked = k.asked; opening = k.opening; history = k.history }
 grows (Err e) t rig busy old new before now notes notes' k u = record { asked = None; opening = ap (λ (d : Desk). d.opening) u.desk; history = ap (λ (d : Desk). d.history) u.desk ∙ sym (append-nil old.history) }
+
+-- so the other machines' controllers stay ready
+pub stays_ready : {S Sense Reading Act : Type 0} → (t : Steps S Sense Reading Act) (m : Machine) (old new : Desk) → Grows m old new → (stopped : Option CtlFault) (p : S) → same_machine m t.machine ≡ false
+    → IsReady t old.opening old.history stopped p → IsReady t new.opening new.history stopped p
+stays_ready t m old new k stopped p apart ready = rw k.opening (others_ready t m old.opening old.history new.history k.asked stopped p apart k.history ready)
 
 -- another scale of the table's rotation
 abbrev pub with_turn : CellScales → Scale → CellScales

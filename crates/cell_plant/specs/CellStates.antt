@@ -3,6 +3,10 @@ use Rattle.std.specs.Prelude.{None}
 use Rattle.cell_types.specs.declared.machine.Machine.{Machine}
 use Rattle.cell_types.specs.declared.machine.Machine.TheVariants.{Feed, Table, Robot, Press, Deposit, Crane, Watch}
 use Rattle.cell_rules.specs.ModelState.{ModelState}
+use Rattle.cell_haul.specs.declared.deposit_step.DepositProgress.{DepositProgress}
+use Rattle.cell_haul.specs.declared.feed_step.FeedProgress.{FeedProgress}
+use Rattle.cell_haul.specs.DepositProgram.{deposit_start}
+use Rattle.cell_haul.specs.FeedProgram.{feed_start}
 use Rattle.cell_stations.specs.declared.press_step.PressProgress.{PressProgress}
 use Rattle.cell_stations.specs.declared.table_step.TableProgress.{TableProgress}
 use Rattle.cell_stations.specs.PressProgram.{press_start}
@@ -34,19 +38,19 @@ plant_of w =
 
 -- what is known of the six machines, and the side of each
 pub record Sides : Type 0 where
-  pub feed : Belt
+  pub feed : Side FeedProgress Belt
   pub table : Side TableProgress TablePlant
   pub robot : RobotPlant
   pub press : Side PressProgress Axis
-  pub deposit : Belt
+  pub deposit : Side DepositProgress Belt
   pub crane : CranePlant
 
 abbrev pub side_in : Sides → (m : Machine) → SideOf m
-side_in s Feed = side_of tt None s.feed
+side_in s Feed = s.feed
 side_in s Table = s.table
 side_in s Robot = side_of tt None s.robot
 side_in s Press = s.press
-side_in s Deposit = side_of tt None s.deposit
+side_in s Deposit = s.deposit
 side_in s Crane = side_of tt None s.crane
 side_in s Watch = side_of tt None tt
 
@@ -54,11 +58,11 @@ side_in s Watch = side_of tt None tt
 abbrev pub sides_at_start : ModelState → Sides
 sides_at_start s =
     record {
-      feed = feed_at_start s;
+      feed = side_of (feed_start s) None (feed_at_start s);
       table = side_of (table_start s) None table_at_start;
       robot = robot_at_start s;
       press = side_of (press_start s) None press_at_start;
-      deposit = deposit_at_start s;
+      deposit = side_of (deposit_start s) None (deposit_at_start s);
       crane = crane_at_start s;
     }
 

@@ -28,11 +28,11 @@ scales_of cell =
 abbrev pub sides_of : {F1 F2 F3 F4 F5 : Type 0} {g1 : Ghosts F1} {g2 : Ghosts F2} {g3 : Ghosts F3} {g4 : Ghosts F4} {g5 : Ghosts F5} → Cell F1 F2 F3 F4 F5 g1 g2 g3 g4 g5 → Sides
 sides_of cell =
     record {
-      feed = cell.feed.part.belt;
+      feed = side_of cell.feed.controller.progress cell.feed.controller.stopped cell.feed.part.belt;
       table = side_of cell.table.controller.progress cell.table.controller.stopped cell.table.part.plant;
       robot = cell.robot.part.plant;
       press = side_of cell.press.controller.progress cell.press.controller.stopped cell.press.part;
-      deposit = cell.deposit.part.belt;
+      deposit = side_of cell.deposit.controller.progress cell.deposit.controller.stopped cell.deposit.part.belt;
       crane = cell.crane.part.plant;
     }
 

@@ -5,17 +5,14 @@ ghost use Rattle.cell_plant.specs.Cells.{IsMadeFor, scales_of};
 
 use cell_calib::{Calibration, Gauge};
 use cell_control::Controller;
+use cell_haul::{DepositProgram, FeedProgram};
 use cell_parts::{CranePart, DepositPart, FeedPart, PressPart, RobotPart, RobotPoints, TablePart};
 use cell_rules::State;
 use cell_seat::Seat;
 use cell_stations::{PressProgram, TableProgram};
 
-/// The feed belt. It has no controller yet.
-#[derive(Drop)]
-pub struct FeedSeat {
-    /// What it moves, and what its sensors show.
-    pub part: FeedPart,
-}
+/// The feed belt.
+pub type FeedSeat = Seat<FeedProgram, FeedPart>;
 
 /// The table.
 pub type TableSeat<F> = Seat<TableProgram<F>, TablePart>;
@@ -36,12 +33,8 @@ pub struct RobotSeat<F1: Gauge, F2: Gauge, F3: Gauge> {
 /// The press.
 pub type PressSeat = Seat<PressProgram, PressPart>;
 
-/// The deposit belt. It has no controller yet.
-#[derive(Drop)]
-pub struct DepositSeat {
-    /// What it moves, and what its sensors show.
-    pub part: DepositPart,
-}
+/// The deposit belt.
+pub type DepositSeat = Seat<DepositProgram, DepositPart>;
 
 /// The crane, with the calibration of its gripper's height. It has no controller yet.
 #[derive(Drop)]
@@ -96,7 +89,8 @@ impl<F1: Gauge, F2: Gauge, F3: Gauge, F4: Gauge, F5: Gauge> Cell<F1, F2, F3, F4,
             rotation: rotation.points(),
         };
         Cell {
-            feed: FeedSeat {
+            feed: Seat {
+                controller: Controller::new(state, FeedProgram),
                 part: FeedPart::start(state),
             },
             table: Seat {
@@ -113,7 +107,8 @@ impl<F1: Gauge, F2: Gauge, F3: Gauge, F4: Gauge, F5: Gauge> Cell<F1, F2, F3, F4,
                 controller: Controller::new(state, PressProgram),
                 part: PressPart::start(),
             },
-            deposit: DepositSeat {
+            deposit: Seat {
+                controller: Controller::new(state, DepositProgram),
                 part: DepositPart::start(state),
             },
             crane: CraneSeat {

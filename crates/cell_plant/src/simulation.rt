@@ -26,8 +26,8 @@ use std::marker::Model;
 /// that machine's controller, and then a tick of its part; the other parts stand still.
 ///
 /// A turn whose `busy` is set finds the bench busy. A turn of a machine that has stopped, of the
-/// watch, and for now of feed belt, robot, deposit belt and crane does nothing and isn't counted. A
-/// machine for whose call the bench had no room stops with `Status::Memory`, and the run goes on.
+/// watch, and for now of robot and crane does nothing and isn't counted. A machine for whose call the
+/// bench had no room stops with `Status::Memory`, and the run goes on.
 /// `Memory` where the room for an entry of a journal was refused, which is made before a turn.
 pub fn simulate<F1: Gauge, F2: Gauge, F3: Gauge, F4: Gauge, F5: Gauge>(
     alloc: Global,
@@ -92,6 +92,15 @@ impl<F1: Gauge, F2: Gauge, F3: Gauge, F4: Gauge, F5: Gauge> Simulation<F1, F2, F
         let bench = &mut self.bench;
         let notebooks = &mut self.notebooks;
         match turn.machine {
+            Machine::Feed => {
+                seat_turn(
+                    bench,
+                    &mut notebooks.feed,
+                    &mut self.cell.feed,
+                    turn.machine,
+                    turn.busy,
+                )
+            }
             Machine::Table => {
                 seat_turn(
                     bench,
@@ -110,8 +119,16 @@ impl<F1: Gauge, F2: Gauge, F3: Gauge, F4: Gauge, F5: Gauge> Simulation<F1, F2, F
                     turn.busy,
                 )
             }
-            Machine::Feed | Machine::Robot | Machine::Deposit | Machine::Crane | Machine::Watch =>
-                Ok(()),
+            Machine::Deposit => {
+                seat_turn(
+                    bench,
+                    &mut notebooks.deposit,
+                    &mut self.cell.deposit,
+                    turn.machine,
+                    turn.busy,
+                )
+            }
+            Machine::Robot | Machine::Crane | Machine::Watch => Ok(()),
         }
     }
 
@@ -138,11 +155,11 @@ impl<F1: Gauge, F2: Gauge, F3: Gauge, F4: Gauge, F5: Gauge> Simulation<F1, F2, F
     {
         let idle = status_of(None);
         [
-            idle,
+            status_of(self.cell.feed.controller.stopped()),
             status_of(self.cell.table.controller.stopped()),
             idle,
             status_of(self.cell.press.controller.stopped()),
-            idle,
+            status_of(self.cell.deposit.controller.stopped()),
             idle,
             idle,
         ]

@@ -1,0 +1,84 @@
+-- A plate stands on a belt just where a place of the belt is full: at its entry, and at its end.
+use Rattle.std.proofs.Common.{◌≡◌, ℤ, Bool, true, false, not, IsSome, IsTrue, ◌↔◌, Option, Some, None, is_some, refl, sym, subst, if◌then◌else◌}
+use Rattle.cell_types.specs.declared.machine.Machine.{Machine}
+use Rattle.cell_types.specs.declared.zone.Zone.{Zone}
+use Rattle.cell_types.specs.declared.place.Place.{Place}
+use Rattle.cell_types.specs.declared.call.Call.{Call}
+use Rattle.cell_types.specs.declared.call.Call.TheVariants.{Give, Take, Advance}
+use Rattle.cell_types.specs.declared.answer.Answer.TheVariants.{Done}
+use Rattle.cell_types.specs.Tables.{transfer_of}
+use Rattle.cell_types.specs.Same.{same_machine}
+use Rattle.cell_types.specs.Ways.{keeper_of, work_of}
+use Rattle.cell_rules.specs.ModelState.{ModelState, zone_at, is_full}
+use Rattle.cell_rules.specs.Sound.{IsSound, is_party, is_received_by}
+use Rattle.cell_rules.specs.Refusals.{owns, owner_of, posture_at, gift, given_by, advance_refusal, give_refusal, take_refusal, has_no_work, press_unowned, not_at_work, nothing_to_work, no_room_for_work, worn, ◌or◌}
+use Rattle.cell_rules.specs.Reply.{reply, next}
+use Rattle.cell_rules.proofs.Tables.{and_left, and_right}
+use Rattle.cell_rules.proofs.Done.{none_or, none_then_not, take_done, give_done}
+use Rattle.cell_rules.proofs.Soundness.{done_none}
+use Rattle.cell_rules.proofs.Plates.{fourth}
+use Rattle.cell_rules.proofs.Holders.{owner_is}
+use Rattle.cell_rules.proofs.OwnSide.{full-foreign}
+use Rattle.cell_control.proofs.Facts.{handed}
+use Rattle.cell_parts.specs.declared.belt.Belt.{Belt}
+use Rattle.cell_parts.specs.Plant.{plate_if, moved_plate, moved_belt, set_belt}
+
+abbrev pub StandsIf : Option ℤ → Bool → Type 0
+StandsIf plate full = IsSome plate ↔ IsTrue full
+
+pub record PlatesStand (z : ModelState) (first last : Place) (b : Belt) : Type 0 where
+  pub entry : StandsIf b.entry (is_full z first)
+  pub end : StandsIf b.last (is_full z last)
+
+-- at the start
+pub plate_stands : (full : Bool) (at : ℤ) → StandsIf (plate_if full at) full
+plate_stands true at = (λ h. refl, λ h. refl)
+plate_stands false at = (λ h. cc, λ h. cc)
+
+-- where a place stays as it is, and while others act
+pub as_full : (plate : Option ℤ) (x y : Bool) → x ≡ y → StandsIf plate y → StandsIf plate x
+as_full plate x y e k = subst (StandsIf plate) (sym e) k
+
+pub plates_foreign : (z : ModelState) (n : Machine) (c : Call) (first last : Place) (b : Belt) → IsSound z → same_machine n (keeper_of first) ≡ false → same_machine n (keeper_of last) ≡ false → PlatesStand z first last b → PlatesStand (next z n c) first last b
+plates_foreign z n c first last b sound f l k = record { entry = as_full b.entry _ _ (full-foreign z n c first sound f) k.entry; end = as_full b.last _ _ (full-foreign z n c last sound l) k.end }
+
+-- as the belt is told to run or to stand, and as it runs
+pub plates_set : (z : ModelState) (first last : Place) (b : Belt) (runs : Bool) → PlatesStand z first last b → PlatesStand z first last (set_belt b runs)
+plates_set z first last b runs k = record { entry = k.entry; end = k.end }
+
+carried : (plate : Option ℤ) (full : Bool) → StandsIf plate full → StandsIf (moved_plate plate) full
+carried (Some at) full k = k
+carried None full k = k
+
+carried_by : (runs : Bool) (z : ModelState) (first last : Place) (b : Belt) → PlatesStand z first last b → PlatesStand z first last (if runs then record { entry = moved_plate b.entry; last = moved_plate b.last; runs = b.runs } else b)
+carried_by true z first last b k = record { entry = carried b.entry _ k.entry; end = carried b.last _ k.end }
+carried_by false z first last b k = k
+
+pub plates_moved : (z : ModelState) (first last : Place) (b : Belt) → PlatesStand z first last b → PlatesStand z first last (moved_belt b)
+plates_moved z first last b k = carried_by b.runs z first last b k
+
+runs_by : (t : Bool) (b : Belt) → (if t then record { entry = moved_plate b.entry; last = moved_plate b.last; runs = b.runs } else b).runs ≡ b.runs
+runs_by true b = refl
+runs_by false b = refl
+
+pub still_runs : (b : Belt) → (moved_belt b).runs ≡ b.runs
+still_runs b = runs_by b.runs b
+
+-- what a call says that is done: a plate was handed over to who takes it, there was one to give, and there was one to work
+pub plate_taken : (z : ModelState) (m : Machine) (y : Zone) → IsSound z → reply z m (Take y) ≡ Done → is_received_by (Some m) (transfer_of y (posture_at z y)) ≡ true
+plate_taken z m y sound e =
+    let may = and_right _ _ (take_done z m y (done_none (take_refusal z m y) e)).0 in
+    handed z y m sound (owner_is (owner_of z y) m (and_left _ _ may)) (and_right _ _ may)
+
+pub plate_given : (z : ModelState) (m : Machine) (y : Zone) → reply z m (Give y) ≡ Done → is_some (given_by m (transfer_of y (posture_at z y))) ≡ true
+plate_given z m y e = fourth (is_party m y) (owns z m y) (not (zone_at z y).flag) (is_some (gift z m y)) (give_done z m y (done_none (give_refusal z m y) e)).0
+
+pub plate_worked : (z : ModelState) (m : Machine) (from to : Place) → reply z m Advance ≡ Done → work_of m ≡ Some (from, to) → is_full z from ≡ true
+plate_worked z m from to e way =
+    let way' = work_of m in
+    let r3 = has_no_work m or press_unowned z m or not_at_work z m in
+    let r4 = r3 or nothing_to_work z way' in
+    let r5 = r4 or no_room_for_work z way' in
+    let h5 = none_or r5 (worn z) (done_none (advance_refusal z m) e) in
+    let h4 = none_or r4 (no_room_for_work z way') h5.0 in
+    none_then_not _ _ (subst (λ w. nothing_to_work z w ≡ None) way (none_or r3 (nothing_to_work z way') h4.0).1)

@@ -1,0 +1,89 @@
+-- What the deposit belt keeps of its side, in every state of a run.
+use Rattle.std.proofs.Common.{◌≡◌, Bool, true, false, IsTrue, is_some, List, [], ◌∷◌, Some, None, refl, sym, ap, ◌∙◌, subst}
+use Rattle.cell_types.specs.declared.machine.Machine.TheVariants.{Deposit}
+use Rattle.cell_types.specs.declared.zone.Zone.TheVariants.{Z4, Z5}
+use Rattle.cell_types.specs.declared.place.Place.TheVariants.{DepEntry, DepEnd}
+use Rattle.cell_types.specs.declared.posture.Posture.{Posture}
+use Rattle.cell_types.specs.declared.posture.Posture.TheVariants.{Closed, Moving, OpenIn, OpenOut}
+use Rattle.cell_types.specs.declared.pose.Pose.TheVariants.{Landing, Running, Offering}
+use Rattle.cell_types.specs.declared.call.Call.{Call}
+use Rattle.cell_types.specs.declared.call.Call.TheVariants.{Claim, Give, Take, Release, SetPose, Advance}
+use Rattle.cell_types.specs.declared.answer.Answer.TheVariants.{Done}
+use Rattle.cell_types.specs.Tables.{transfer_of}
+use Rattle.cell_rules.specs.PlaceSet.{PlaceSet, has}
+use Rattle.cell_rules.specs.ModelState.{ModelState, is_full}
+use Rattle.cell_rules.specs.Start.{IsStartState}
+use Rattle.cell_rules.specs.Sound.{IsSound, is_received_by}
+use Rattle.cell_rules.specs.Refusals.{posture_at, given_by}
+use Rattle.cell_rules.specs.Reply.{reply, changed, emptied, filled}
+use Rattle.cell_control.proofs.Facts.{Fact, Finds, AreSo}
+use Rattle.cell_haul.specs.declared.deposit_step.DepositStep.{DepositStep}
+use Rattle.cell_haul.specs.declared.deposit_step.DepositStep.TheVariants.{ClaimEntry, ClaimExit, PoseLanding, ReleaseEntry, TakePlate, StartRun, RunIn, RunOut, MoveOn, PoseOffering, GivePlate, ClaimBack}
+use Rattle.cell_haul.specs.declared.deposit_step.DepositProgress.{DepositProgress}
+use Rattle.cell_haul.specs.DepositProgram.{call_of, deposit_start, deposit_steps}
+use Rattle.cell_haul.proofs.DepositFacts.{DepositKnows, deposit-knowing, drives_at}
+use Rattle.cell_seat.proofs.Keeping.{Keeping}
+use Rattle.cell_seat.proofs.Demanding.{Demanding, WhileOn, demanding_while_on}
+use Rattle.cell_parts.specs.declared.belt.Belt.{Belt}
+use Rattle.cell_parts.specs.Plant.{deposit_at_start, set_belt, deposit_called}
+use Rattle.cell_parts.specs.Rigs.{deposit_rig}
+use Rattle.cell_plant.proofs.BeltPlates.{PlatesStand, plate_stands, as_full, plates_foreign, plates_set, plates_moved, still_runs, plate_taken, plate_given, plate_worked}
+
+-- what its step knows of the interlock; and plates stand on it where its places are full
+pub record DepositInv (z : ModelState) (p : DepositProgress) (b : Belt) : Type 0 where
+  pub knows : DepositKnows p z
+  pub plates : PlatesStand z DepEntry DepEnd b
+
+pub deposit-start : (s : ModelState) → DepositInv s (deposit_start s) (deposit_at_start s)
+deposit-start s = record { knows = tt; plates = record { entry = plate_stands (is_full s DepEntry) _; end = plate_stands (is_full s DepEnd) _ } }
+
+-- a plate that it takes comes to its entry, and one that it gives leaves its end
+filled_entry : (full : PlaceSet) (q : Posture) → is_received_by (Some Deposit) (transfer_of Z4 q) ≡ true → (has (filled full (transfer_of Z4 q)) DepEntry ≡ true) × (has (filled full (transfer_of Z4 q)) DepEnd ≡ has full DepEnd)
+filled_entry full Closed e = cc
+filled_entry full Moving e = cc
+filled_entry full OpenIn e = (refl, refl)
+filled_entry full OpenOut e = cc
+
+emptied_end : (full : PlaceSet) (q : Posture) → is_some (given_by Deposit (transfer_of Z5 q)) ≡ true
+    → (has (emptied full (given_by Deposit (transfer_of Z5 q))) DepEnd ≡ false) × (has (emptied full (given_by Deposit (transfer_of Z5 q))) DepEntry ≡ has full DepEntry)
+emptied_end full Closed e = cc
+emptied_end full Moving e = cc
+emptied_end full OpenIn e = cc
+emptied_end full OpenOut e = (refl, refl)
+
+-- by each of its calls the plates on it are what its places say
+done_plates : (s : DepositStep) (c : Call) (z : ModelState) (b : Belt) → call_of s ≡ Some c → reply z Deposit c ≡ Done → IsSound z → PlatesStand z DepEntry DepEnd b → PlatesStand (changed z Deposit c) DepEntry DepEnd (set_belt (deposit_called b c) false)
+done_plates ClaimEntry (Claim Z4) z b e d sound k = record { entry = k.entry; end = k.end }
+done_plates ClaimExit (Claim Z5) z b e d sound k = record { entry = k.entry; end = k.end }
+done_plates PoseLanding (SetPose Landing) z b e d sound k = record { entry = k.entry; end = k.end }
+done_plates ReleaseEntry (Release Z4) z b e d sound k = record { entry = k.entry; end = k.end }
+done_plates TakePlate (Take Z4) z b e d sound k =
+    let on = filled_entry z.full (posture_at z Z4) (plate_taken z Deposit Z4 sound d) in
+    record { entry = (λ h. on.0, λ h. refl); end = as_full b.last _ _ on.1 k.end }
+done_plates StartRun (SetPose Running) z b e d sound k = record { entry = k.entry; end = k.end }
+done_plates MoveOn Advance z b e d sound k = record { entry = (λ h. cc, λ h. cc); end = (λ h. refl, λ h. k.entry.1 (plate_worked z Deposit DepEntry DepEnd d refl)) }
+done_plates PoseOffering (SetPose Offering) z b e d sound k = record { entry = k.entry; end = k.end }
+done_plates GivePlate (Give Z5) z b e d sound k =
+    let off = emptied_end z.full (posture_at z Z5) (plate_given z Deposit Z5 d) in
+    record { entry = as_full b.entry _ _ off.1 k.entry; end = (λ h. cc, λ h. let none = off.0 in cc) }
+done_plates ClaimBack (Claim Z5) z b e d sound k = record { entry = k.entry; end = k.end }
+done_plates s c z b e d sound k = cc
+
+pub deposit-keeping : Keeping deposit_steps deposit_rig DepositInv DepositInv
+deposit-keeping = record {
+  foreign = λ z p b n c apart sound i. record { knows = deposit-knowing.foreign p z n c apart sound i.knows; plates = plates_foreign z n c DepEntry DepEnd b sound apart apart i.plates };
+  rests = λ z p b i. record { knows = i.knows; plates = plates_set z DepEntry DepEnd b false i.plates };
+  after_done = λ z p b c e d sound i. record { knows = deposit-knowing.after_done p z c e d sound i.knows; plates = done_plates p.step c z b e d sound i.plates };
+  after_inquiry = λ z p b c owner flag posture e d sound i. record { knows = i.knows; plates = plates_set z DepEntry DepEnd b false i.plates };
+  after_drive = λ z p b s reading act e shows senses drives i. record { knows = deposit-knowing.after_drive p reading act z e drives i.knows; plates = plates_set z DepEntry DepEnd b act.belt i.plates };
+  told = λ z p b i. i;
+  moves = λ z p b i. record { knows = i.knows; plates = plates_moved z DepEntry DepEnd b i.plates };
+}
+
+-- and while it runs it holds both its zones, which move
+abbrev pub DepositRuns : ModelState → DepositProgress → Belt → Type 0
+DepositRuns = WhileOn Deposit (λ b. IsTrue b.runs) (λ p. Finds Z4 Moving ∷ Finds Z5 Moving ∷ [])
+
+pub deposit-demanding : Demanding deposit_steps deposit_rig DepositInv DepositInv DepositRuns
+deposit-demanding =
+    demanding_while_on deposit_steps deposit_rig DepositInv DepositInv (λ b. IsTrue b.runs) (λ p. Finds Z4 Moving ∷ Finds Z5 Moving ∷ []) (λ p b runs. cc) (λ z p b s reading act e shows senses drives i runs. let at = drives_at p.step z e i.knows in ((at.0.0, at.1.0), ((at.0.1, at.1.1), tt))) (λ b runs. sym (still_runs b) ∙ runs)

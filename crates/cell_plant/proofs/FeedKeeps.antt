@@ -1,0 +1,89 @@
+-- What the feed belt keeps of its side, in every state of a run.
+use Rattle.std.proofs.Common.{◌≡◌, Bool, true, false, IsTrue, is_some, List, [], ◌∷◌, Some, None, refl, sym, ap, ◌∙◌, subst}
+use Rattle.cell_types.specs.declared.machine.Machine.TheVariants.{Feed}
+use Rattle.cell_types.specs.declared.zone.Zone.TheVariants.{Z1, Z6}
+use Rattle.cell_types.specs.declared.place.Place.TheVariants.{FeedEntry, FeedEnd}
+use Rattle.cell_types.specs.declared.posture.Posture.{Posture}
+use Rattle.cell_types.specs.declared.posture.Posture.TheVariants.{Closed, Moving, OpenIn, OpenOut}
+use Rattle.cell_types.specs.declared.pose.Pose.TheVariants.{Landing, Running, Halted}
+use Rattle.cell_types.specs.declared.call.Call.{Call}
+use Rattle.cell_types.specs.declared.call.Call.TheVariants.{Claim, Give, Take, Release, SetPose, Advance}
+use Rattle.cell_types.specs.declared.answer.Answer.TheVariants.{Done}
+use Rattle.cell_types.specs.Tables.{transfer_of}
+use Rattle.cell_rules.specs.PlaceSet.{PlaceSet, has}
+use Rattle.cell_rules.specs.ModelState.{ModelState, is_full}
+use Rattle.cell_rules.specs.Start.{IsStartState}
+use Rattle.cell_rules.specs.Sound.{IsSound, is_received_by}
+use Rattle.cell_rules.specs.Refusals.{posture_at, given_by}
+use Rattle.cell_rules.specs.Reply.{reply, changed, emptied, filled}
+use Rattle.cell_control.proofs.Facts.{Fact, Finds, AreSo}
+use Rattle.cell_haul.specs.declared.feed_step.FeedStep.{FeedStep}
+use Rattle.cell_haul.specs.declared.feed_step.FeedStep.TheVariants.{ClaimEntry, PoseLanding, ReleaseEntry, TakePlate, StartIn, RunIn, MoveOn, ClaimExit, StartOut, RunOut, Halt, GivePlate}
+use Rattle.cell_haul.specs.declared.feed_step.FeedProgress.{FeedProgress}
+use Rattle.cell_haul.specs.FeedProgram.{call_of, feed_start, feed_steps}
+use Rattle.cell_haul.proofs.FeedFacts.{FeedKnows, feed_begins, feed-knowing, drives_at}
+use Rattle.cell_seat.proofs.Keeping.{Keeping}
+use Rattle.cell_seat.proofs.Demanding.{Demanding, WhileOn, demanding_while_on}
+use Rattle.cell_parts.specs.declared.belt.Belt.{Belt}
+use Rattle.cell_parts.specs.Plant.{feed_at_start, set_belt, feed_called}
+use Rattle.cell_parts.specs.Rigs.{feed_rig}
+use Rattle.cell_plant.proofs.BeltPlates.{PlatesStand, plate_stands, as_full, plates_foreign, plates_set, plates_moved, still_runs, plate_taken, plate_given, plate_worked}
+
+-- what its step knows of the interlock; and plates stand on it where its places are full
+pub record FeedInv (z : ModelState) (p : FeedProgress) (b : Belt) : Type 0 where
+  pub knows : FeedKnows p z
+  pub plates : PlatesStand z FeedEntry FeedEnd b
+
+pub feed-start : (s : ModelState) → FeedInv s (feed_start s) (feed_at_start s)
+feed-start s = record { knows = feed_begins s; plates = record { entry = plate_stands (is_full s FeedEntry) _; end = plate_stands (is_full s FeedEnd) _ } }
+
+-- a plate that it takes comes to its entry, and one that it gives leaves its end
+filled_entry : (full : PlaceSet) (q : Posture) → is_received_by (Some Feed) (transfer_of Z6 q) ≡ true → (has (filled full (transfer_of Z6 q)) FeedEntry ≡ true) × (has (filled full (transfer_of Z6 q)) FeedEnd ≡ has full FeedEnd)
+filled_entry full Closed e = cc
+filled_entry full Moving e = cc
+filled_entry full OpenIn e = (refl, refl)
+filled_entry full OpenOut e = cc
+
+emptied_end : (full : PlaceSet) (q : Posture) → is_some (given_by Feed (transfer_of Z1 q)) ≡ true
+    → (has (emptied full (given_by Feed (transfer_of Z1 q))) FeedEnd ≡ false) × (has (emptied full (given_by Feed (transfer_of Z1 q))) FeedEntry ≡ has full FeedEntry)
+emptied_end full Closed e = cc
+emptied_end full Moving e = cc
+emptied_end full OpenIn e = (refl, refl)
+emptied_end full OpenOut e = cc
+
+-- by each of its calls the plates on it are what its places say
+done_plates : (s : FeedStep) (c : Call) (z : ModelState) (b : Belt) → call_of s ≡ Some c → reply z Feed c ≡ Done → IsSound z → PlatesStand z FeedEntry FeedEnd b → PlatesStand (changed z Feed c) FeedEntry FeedEnd (set_belt (feed_called b c) false)
+done_plates ClaimEntry (Claim Z6) z b e d sound k = record { entry = k.entry; end = k.end }
+done_plates PoseLanding (SetPose Landing) z b e d sound k = record { entry = k.entry; end = k.end }
+done_plates ReleaseEntry (Release Z6) z b e d sound k = record { entry = k.entry; end = k.end }
+done_plates TakePlate (Take Z6) z b e d sound k =
+    let on = filled_entry z.full (posture_at z Z6) (plate_taken z Feed Z6 sound d) in
+    record { entry = (λ h. on.0, λ h. refl); end = as_full b.last _ _ on.1 k.end }
+done_plates StartIn (SetPose Running) z b e d sound k = record { entry = k.entry; end = k.end }
+done_plates MoveOn Advance z b e d sound k = record { entry = (λ h. cc, λ h. cc); end = (λ h. refl, λ h. k.entry.1 (plate_worked z Feed FeedEntry FeedEnd d refl)) }
+done_plates ClaimExit (Claim Z1) z b e d sound k = record { entry = k.entry; end = k.end }
+done_plates StartOut (SetPose Running) z b e d sound k = record { entry = k.entry; end = k.end }
+done_plates Halt (SetPose Halted) z b e d sound k = record { entry = k.entry; end = k.end }
+done_plates GivePlate (Give Z1) z b e d sound k =
+    let off = emptied_end z.full (posture_at z Z1) (plate_given z Feed Z1 d) in
+    record { entry = as_full b.entry _ _ off.1 k.entry; end = (λ h. cc, λ h. let none = off.0 in cc) }
+done_plates s c z b e d sound k = cc
+
+pub feed-keeping : Keeping feed_steps feed_rig FeedInv FeedInv
+feed-keeping = record {
+  foreign = λ z p b n c apart sound i. record { knows = feed-knowing.foreign p z n c apart sound i.knows; plates = plates_foreign z n c FeedEntry FeedEnd b sound apart apart i.plates };
+  rests = λ z p b i. record { knows = i.knows; plates = plates_set z FeedEntry FeedEnd b false i.plates };
+  after_done = λ z p b c e d sound i. record { knows = feed-knowing.after_done p z c e d sound i.knows; plates = done_plates p.step c z b e d sound i.plates };
+  after_inquiry = λ z p b c owner flag posture e d sound i. record { knows = i.knows; plates = plates_set z FeedEntry FeedEnd b false i.plates };
+  after_drive = λ z p b s reading act e shows senses drives i. record { knows = feed-knowing.after_drive p reading act z e drives i.knows; plates = plates_set z FeedEntry FeedEnd b act.belt i.plates };
+  told = λ z p b i. i;
+  moves = λ z p b i. record { knows = i.knows; plates = plates_moved z FeedEntry FeedEnd b i.plates };
+}
+
+-- and while it runs it holds the zone before the crane, which moves
+abbrev pub FeedRuns : ModelState → FeedProgress → Belt → Type 0
+FeedRuns = WhileOn Feed (λ b. IsTrue b.runs) (λ p. Finds Z6 Moving ∷ [])
+
+pub feed-demanding : Demanding feed_steps feed_rig FeedInv FeedInv FeedRuns
+feed-demanding =
+    demanding_while_on feed_steps feed_rig FeedInv FeedInv (λ b. IsTrue b.runs) (λ p. Finds Z6 Moving ∷ []) (λ p b runs. cc) (λ z p b s reading act e shows senses drives i runs. ((drives_at p.step p.entry p.last z e i.knows).0, tt)) (λ b runs. sym (still_runs b) ∙ runs)
