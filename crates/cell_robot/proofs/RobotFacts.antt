@@ -1,0 +1,177 @@
+-- What the robot knows of the state at each step of its program.
+use Rattle.std.proofs.Common.{◌≡◌, Bool, true, false, if◌then◌else◌, List, [], ◌∷◌, Option, Some, None, refl, ap}
+use Rattle.cell_types.specs.declared.machine.Machine.{Machine}
+use Rattle.cell_types.specs.declared.machine.Machine.TheVariants.{Robot}
+use Rattle.cell_types.specs.declared.zone.Zone.TheVariants.{Z2, Z3, Z4}
+use Rattle.cell_types.specs.declared.posture.Posture.{Posture}
+use Rattle.cell_types.specs.declared.posture.Posture.TheVariants.{Closed, Moving, OpenIn, OpenOut}
+use Rattle.cell_types.specs.declared.call.Call.{Call}
+use Rattle.cell_types.specs.declared.call.Call.TheVariants.{Claim, Give, Take, Release, Inquire}
+use Rattle.cell_types.specs.declared.answer.Answer.TheVariants.{Done, Shown}
+use Rattle.cell_types.specs.declared.answer.Event.{Event}
+use Rattle.cell_types.specs.Tables.{transfer_of}
+use Rattle.cell_rules.specs.ModelState.{ModelState}
+use Rattle.cell_rules.specs.Sound.{IsSound, is_owned_by, is_open, is_received_by, is_of_some_pose}
+use Rattle.cell_rules.specs.Refusals.{owns, posture_at}
+use Rattle.cell_rules.specs.Reply.{reply, changed}
+use Rattle.cell_rules.specs.History.{after, IsLegal}
+use Rattle.cell_control.specs.Steps.{IsReached}
+use Rattle.cell_control.specs.Demands.{HoldsIn}
+use Rattle.cell_control.proofs.StepLemmas.{Knowing, reached_knows}
+use Rattle.cell_control.proofs.Facts.{Fact, Owns, Finds, AreSo, are_foreign, found, Stands, stands, handed, entered, posed}
+use Rattle.cell_devices.specs.declared.act.RobotAct.{RobotAct}
+use Rattle.cell_robot.specs.declared.robot_step.RobotStep.{RobotStep}
+use Rattle.cell_robot.specs.declared.robot_step.RobotStep.TheVariants.{TurnToTable, AwaitPlate, ReachTable, GripPlate, LeaveTable, TakePlate, ReleaseTable, TurnToLoad, ClaimPress, InspectPress, ReleasePress, ReachToLoad, DropInPress, LeaveLoaded, GiveToPress, TurnToUnload, AwaitForged, ReachToUnload, GripForged, LeaveUnloaded, TakeForged, ReleaseUnloaded, TurnToDeposit, ClaimDeposit, ReachDeposit, DropOnDeposit, LeaveDeposit, GiveToDeposit}
+use Rattle.cell_robot.specs.declared.robot_step.RobotNotes.{RobotNotes}
+use Rattle.cell_robot.specs.declared.robot_step.RobotProgress.{RobotProgress}
+use Rattle.cell_robot.specs.RobotProgram.{RobotScales, RobotGauges, call_of, choice, step_after, step_after_inquiry, notes_at, after_done, is_done, arm1_zone, arm2_zone, RobotDemands, robot_steps}
+
+abbrev pub facts_at : RobotStep → List Fact
+facts_at TurnToTable = []
+facts_at AwaitPlate = []
+facts_at ReachTable = Finds Z2 OpenOut ∷ []
+facts_at GripPlate = Finds Z2 OpenOut ∷ []
+facts_at LeaveTable = Finds Z2 OpenOut ∷ []
+facts_at TakePlate = Finds Z2 OpenOut ∷ []
+facts_at ReleaseTable = Finds Z2 OpenOut ∷ []
+facts_at TurnToLoad = []
+facts_at ClaimPress = []
+facts_at InspectPress = Owns Z3 ∷ []
+facts_at ReleasePress = Owns Z3 ∷ []
+facts_at ReachToLoad = Finds Z3 OpenIn ∷ []
+facts_at DropInPress = Finds Z3 OpenIn ∷ []
+facts_at LeaveLoaded = Finds Z3 OpenIn ∷ []
+facts_at GiveToPress = Finds Z3 OpenIn ∷ []
+facts_at TurnToUnload = []
+facts_at AwaitForged = []
+facts_at ReachToUnload = Finds Z3 OpenOut ∷ []
+facts_at GripForged = Finds Z3 OpenOut ∷ []
+facts_at LeaveUnloaded = Finds Z3 OpenOut ∷ []
+facts_at TakeForged = Finds Z3 OpenOut ∷ []
+facts_at ReleaseUnloaded = Finds Z3 OpenOut ∷ []
+facts_at TurnToDeposit = []
+facts_at ClaimDeposit = []
+facts_at ReachDeposit = Finds Z4 OpenIn ∷ []
+facts_at DropOnDeposit = Finds Z4 OpenIn ∷ []
+facts_at LeaveDeposit = Finds Z4 OpenIn ∷ []
+facts_at GiveToDeposit = Finds Z4 OpenIn ∷ []
+
+abbrev pub RobotKnows : RobotProgress → ModelState → Type 0
+RobotKnows p z = AreSo Robot z (facts_at p.step)
+
+-- before a group of steps nothing need be known
+by_notes : (first second fed : Bool) (z : ModelState) → AreSo Robot z (facts_at (if second then TurnToDeposit else (if fed then TurnToUnload else (if first then TurnToLoad else TurnToTable))))
+by_notes first true fed z = tt
+by_notes first false true z = tt
+by_notes true false false z = tt
+by_notes false false false z = tt
+
+pub at_choice : (notes : RobotNotes) (z : ModelState) → AreSo Robot z (facts_at (choice notes))
+at_choice notes z = by_notes notes.arm1 notes.arm2 notes.fed z
+
+-- through a drive, or a magnet's switch
+done_drive : (s : RobotStep) (notes : RobotNotes) (z : ModelState) → call_of s ≡ None → AreSo Robot z (facts_at s) → AreSo Robot z (facts_at (step_after s notes))
+done_drive TurnToTable notes z e k = k
+done_drive ReachTable notes z e k = k
+done_drive GripPlate notes z e k = k
+done_drive LeaveTable notes z e k = k
+done_drive TurnToLoad notes z e k = k
+done_drive ReachToLoad notes z e k = k
+done_drive DropInPress notes z e k = k
+done_drive LeaveLoaded notes z e k = k
+done_drive TurnToUnload notes z e k = k
+done_drive ReachToUnload notes z e k = k
+done_drive GripForged notes z e k = k
+done_drive LeaveUnloaded notes z e k = k
+done_drive TurnToDeposit notes z e k = k
+done_drive ReachDeposit notes z e k = k
+done_drive DropOnDeposit notes z e k = k
+done_drive LeaveDeposit notes z e k = k
+done_drive _ notes z e k = cc
+
+drive_on : (b : Bool) (p : RobotProgress) (z : ModelState) → call_of p.step ≡ None → RobotKnows p z → RobotKnows (if b then after_done p else p) z
+drive_on true p z e k = done_drive p.step _ z e k
+drive_on false p z e k = k
+
+-- a plate comes to the robot from the table, and from the press, while that opens outward
+table_gives : (q : Posture) → is_received_by (Some Robot) (transfer_of Z2 q) ≡ true → q ≡ OpenOut
+table_gives Closed e = cc
+table_gives Moving e = cc
+table_gives OpenIn e = cc
+table_gives OpenOut e = refl
+
+press_gives : (q : Posture) → is_received_by (Some Robot) (transfer_of Z3 q) ≡ true → q ≡ OpenOut
+press_gives Closed e = cc
+press_gives Moving e = cc
+press_gives OpenIn e = cc
+press_gives OpenOut e = refl
+
+-- the deposit belt opens to the robot inward alone
+deposit_opens : (q : Posture) → is_open q ≡ true → is_of_some_pose Z4 q ≡ true → q ≡ OpenIn
+deposit_opens Closed e f = cc
+deposit_opens Moving e f = cc
+deposit_opens OpenIn e f = refl
+deposit_opens OpenOut e f = cc
+
+-- once its call is done
+done_call : (s : RobotStep) (notes : RobotNotes) (c : Call) (z : ModelState) → call_of s ≡ Some c → reply z Robot c ≡ Done → IsSound z → AreSo Robot z (facts_at s) → AreSo Robot (changed z Robot c) (facts_at (step_after s notes))
+done_call TakePlate notes (Take Z2) z e d sound k = ((k.0.0, k.0.1), tt)
+done_call ReleaseTable notes (Release Z2) z e d sound k = at_choice notes (changed z Robot (Release Z2))
+done_call ClaimPress notes (Claim Z3) z e d sound k = (refl, tt)
+done_call ReleasePress notes (Release Z3) z e d sound k = tt
+done_call GiveToPress notes (Give Z3) z e d sound k = at_choice notes (changed z Robot (Give Z3))
+done_call TakeForged notes (Take Z3) z e d sound k = ((k.0.0, k.0.1), tt)
+done_call ReleaseUnloaded notes (Release Z3) z e d sound k = at_choice notes (changed z Robot (Release Z3))
+done_call ClaimDeposit notes (Claim Z4) z e d sound k = ((refl, deposit_opens (posture_at z Z4) (entered z Z4 Robot d refl) (posed z Z4 sound)), tt)
+done_call GiveToDeposit notes (Give Z4) z e d sound k = at_choice notes (changed z Robot (Give Z4))
+done_call s notes c z e d sound k = cc
+
+-- once its inquiry has shown this
+at_table : (z : ModelState) (o : Option Machine) (f : Bool) (q : Posture) → IsSound z → Stands z Z2 o f q → AreSo Robot z (facts_at (step_after_inquiry AwaitPlate o f q))
+at_table z (Some Robot) true q sound k = ((ap (λ x. is_owned_by x Robot) k.owner, table_gives (posture_at z Z2) (handed z Z2 Robot sound k.owner k.flag)), tt)
+at_table z o f q sound k = tt
+
+before_press : (z : ModelState) (o : Option Machine) (f : Bool) (q : Posture) → owns z Robot Z3 ≡ true → Stands z Z3 o f q → AreSo Robot z (facts_at (step_after_inquiry InspectPress o f q))
+before_press z o f OpenIn own k = ((own, k.posture), tt)
+before_press z o f q own k = (own, tt)
+
+at_press : (z : ModelState) (o : Option Machine) (f : Bool) (q : Posture) → IsSound z → Stands z Z3 o f q → AreSo Robot z (facts_at (step_after_inquiry AwaitForged o f q))
+at_press z (Some Robot) true q sound k = ((ap (λ x. is_owned_by x Robot) k.owner, press_gives (posture_at z Z3) (handed z Z3 Robot sound k.owner k.flag)), tt)
+at_press z o f q sound k = tt
+
+shown_call : (s : RobotStep) (c : Call) (z : ModelState) (o : Option Machine) (f : Bool) (q : Posture) → call_of s ≡ Some c → reply z Robot c ≡ Shown o f q → IsSound z → AreSo Robot z (facts_at s) → AreSo Robot z (facts_at (step_after_inquiry s o f q))
+shown_call AwaitPlate (Inquire Z2) z o f q e d sound k = at_table z o f q sound (stands z Robot Z2 o f q d)
+shown_call AwaitPlate c z o f q e d sound k = cc
+shown_call InspectPress (Inquire Z3) z o f q e d sound k = before_press z o f q k.0 (stands z Robot Z3 o f q d)
+shown_call InspectPress c z o f q e d sound k = cc
+shown_call AwaitForged (Inquire Z3) z o f q e d sound k = at_press z o f q sound (stands z Robot Z3 o f q d)
+shown_call AwaitForged c z o f q e d sound k = cc
+shown_call s c z o f q e d sound k = k
+
+pub robot-knowing : (points : RobotScales) (gives : RobotGauges) → Knowing (robot_steps points gives) RobotKnows
+robot-knowing points gives = record {
+  foreign = λ p z n c apart sound k. are_foreign Robot n c z (facts_at p.step) apart sound k;
+  after_drive = λ p r act z e d k. drive_on (is_done p.step r.retracted act) p z e k;
+  after_done = λ p z c e d sound k. done_call p.step _ c z e d sound k;
+  after_inquiry = λ p z c o f q e d sound k. shown_call p.step c z o f q e d sound k;
+}
+
+-- so at each step the zones of the arms are held
+first_holds : (s : RobotStep) (o : ModelState) (h : List Event) → IsLegal o h → AreSo Robot (after o h) (facts_at s) → HoldsIn Robot o h (arm1_zone s)
+first_holds ReachTable o h legal k = found o h Robot Z2 OpenOut legal k.0
+first_holds LeaveTable o h legal k = found o h Robot Z2 OpenOut legal k.0
+first_holds ReachToLoad o h legal k = found o h Robot Z3 OpenIn legal k.0
+first_holds LeaveLoaded o h legal k = found o h Robot Z3 OpenIn legal k.0
+first_holds _ o h legal k = tt
+
+second_holds : (s : RobotStep) (o : ModelState) (h : List Event) → IsLegal o h → AreSo Robot (after o h) (facts_at s) → HoldsIn Robot o h (arm2_zone s)
+second_holds ReachToUnload o h legal k = found o h Robot Z3 OpenOut legal k.0
+second_holds LeaveUnloaded o h legal k = found o h Robot Z3 OpenOut legal k.0
+second_holds ReachDeposit o h legal k = found o h Robot Z4 OpenIn legal k.0
+second_holds LeaveDeposit o h legal k = found o h Robot Z4 OpenIn legal k.0
+second_holds _ o h legal k = tt
+
+pub meets-demands : (points : RobotScales) (gives : RobotGauges) (opening : ModelState) (seen : List Event) (p : RobotProgress) (act : RobotAct) → IsSound opening → IsLegal opening seen → IsReached (robot_steps points gives) opening seen p → RobotDemands p.step act opening seen
+meets-demands points gives opening seen p act sound legal r =
+    let known = reached_knows (robot_steps points gives) RobotKnows (robot-knowing points gives) opening seen p (at_choice (notes_at opening) opening) sound legal r in
+    record { arm1 = λ on. first_holds p.step opening seen legal known; arm2 = λ on. second_holds p.step opening seen legal known }
