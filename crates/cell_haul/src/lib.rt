@@ -7,7 +7,9 @@ pub mod deposit;
 pub mod deposit_step;
 pub mod feed;
 pub mod feed_step;
+pub mod laws;
 
+pub use cell_control::CtlFault;
 pub use crane::{CraneCtl, CraneProgram};
 pub use crane_step::{CraneProgress, CraneReading, CraneStep};
 pub use deposit::{DepositCtl, DepositProgram};

@@ -1,0 +1,140 @@
+-- The rows of the crane's program are as the examples have them.
+use Rattle.std.proofs.Common.{◌≡◌, ◌∙◌, sym, ap, rules, ℕ, Some, None, pos, Bool, true, Option, [], ◌∷◌, refl}
+use Rattle.std.specs.Int.Signed.{le_z_yes, lt_z_yes}
+use Rattle.cell_types.specs.declared.machine.Machine.{Machine}
+use Rattle.cell_types.specs.declared.machine.Machine.TheVariants.{Crane}
+use Rattle.cell_types.specs.declared.place.Place.{Place}
+use Rattle.cell_types.specs.declared.place.Place.TheVariants.{Crane as OnCrane}
+use Rattle.cell_types.specs.declared.posture.Posture.{Posture}
+use Rattle.cell_types.specs.declared.answer.Refusal.{Refusal}
+use Rattle.cell_types.specs.declared.answer.Refusal.TheVariants.{Held, Shut}
+use Rattle.cell_calib.specs.Scale.{Scale}
+use Rattle.cell_devices.specs.declared.stops.Stop.{Stop}
+use Rattle.cell_devices.specs.declared.act.CraneAct.{CraneAct}
+use Rattle.cell_devices.proofs.DriveLemmas.{drives_one, stops_there, goes_plus, goes_minus}
+use Rattle.cell_rules.specs.PlaceSet.{empty, insert_place}
+use Rattle.cell_rules.specs.Start.{start_state}
+use Rattle.cell_control.specs.Rows.{stays_by, DriveRow, UntilFree, UntilOpen}
+use Rattle.cell_haul.specs.declared.crane_step.CraneStep.{CraneStep}
+use Rattle.cell_haul.specs.declared.crane_step.CraneStep.TheVariants.{RaiseToFetch, TravelToDeposit, AwaitPlate, LowerToPlate, GripPlate, RaiseWithPlate, TravelToFeed, ClaimFeed, LowerToFeed, DropPlate, RaiseFromFeed}
+use Rattle.cell_haul.specs.declared.crane_step.CraneReading.{CraneReading}
+use Rattle.cell_haul.specs.declared.crane_step.CraneProgress.{CraneProgress}
+use Rattle.cell_haul.specs.CraneProgram.{call_of, stays_on, gripper_stop, Acts, after_act}
+use Rattle.cell_haul.specs.CraneExamples.{begins_with, rows_by, scale, at, told, awaits, CraneAsks, GripperDrives, TravelDrives, MagnetSteps, CraneChecks, CraneRowsAreMet}
+
+begins : (points : Scale) (p : Place) → (rows_by points).start (start_state (insert_place empty p) 0) ≡ begins_with p
+begins points OnCrane = refl
+begins points _ = refl
+
+leads_awaiting : (points : Scale) (magnet : Bool) (owner : Option Machine) (flag : Bool) (posture : Posture) → (rows_by points).after_inquiry (at AwaitPlate magnet) owner flag posture ≡ awaits magnet owner flag posture
+leads_awaiting points magnet (Some Crane) true posture = refl
+leads_awaiting points magnet _ _ posture = refl
+
+stays_claiming : (r : Refusal) → stays_on ClaimFeed r ≡ stays_by (UntilFree ∷ UntilOpen ∷ []) r
+stays_claiming (Held _) = refl
+stays_claiming (Shut _) = refl
+stays_claiming _ = refl
+
+asks : (points : Scale) (magnet : Bool) → CraneAsks points magnet
+asks points magnet = record {
+  awaits_plate = record { asks = refl; stays = λ r. refl; leads = leads_awaiting points magnet };
+  takes = record { asks = refl; stays = λ r. refl; leads = refl };
+  releases_deposit = record { asks = refl; stays = λ r. refl; leads = refl };
+  claims_feed = record { asks = refl; stays = stays_claiming; leads = refl };
+  gives = record { asks = refl; stays = λ r. refl; leads = refl };
+}
+
+-- what a step tells motors and magnet is one thing
+acts_one : (points : Scale) (p : CraneProgress) (r : CraneReading) (a b : CraneAct) → Acts points p r a → Acts points p r b → b ≡ a
+acts_one points p r a b at_a at_b =
+    let travel : b.travel ≡ a.travel = at_b.travel ∙ sym at_a.travel in
+    let height : b.height ≡ a.height = drives_one (gripper_stop p.step) points.tol r.gripper a.height b.height at_a.height at_b.height in
+    let magnet : b.magnet ≡ a.magnet = at_b.magnet ∙ sym at_a.magnet in
+    ap (λ t. told t b.height b.magnet) travel ∙ ap (λ h. told a.travel h b.magnet) height ∙ ap (λ m. told a.travel a.height m) magnet
+
+drive_row : (step : CraneStep) (magnet : Bool) (r : CraneReading) (act : CraneAct) (next : CraneProgress) → call_of step ≡ None → Acts scale (at step magnet) r act → after_act (at step magnet) r act ≡ next → DriveRow (rows_by scale) (at step magnet) r act next
+drive_row step magnet r act next asks_nothing acts leads = record { asks_nothing = asks_nothing; drives = acts; drives_only = λ other d. acts_one scale (at step magnet) r act other acts d; leads = leads }
+
+abbrev travel_stop : Stop
+travel_stop = record { target = pos 900; half = 50 }
+
+abbrev deposit_stop : Stop
+deposit_stop = record { target = pos 100; half = 50 }
+
+abbrev feed_stop : Stop
+feed_stop = record { target = pos 300; half = 50 }
+
+gripper : (magnet : Bool) → GripperDrives magnet
+gripper magnet = record {
+  raise_to_fetch = drive_row RaiseToFetch magnet _ _ _ refl (record { travel = refl; height = goes_plus travel_stop (pos 5) (pos 854) (le_z_yes tt) (lt_z_yes tt); magnet = refl }) refl;
+  raise_to_fetch_too_far = drive_row RaiseToFetch magnet _ _ _ refl (record { travel = refl; height = goes_minus travel_stop (pos 5) (pos 946) (le_z_yes tt) (lt_z_yes tt); magnet = refl }) refl;
+  raise_to_fetch_there_first = drive_row RaiseToFetch magnet _ _ _ refl (record { travel = refl; height = stops_there travel_stop (pos 5) (pos 855) (record { not_below = le_z_yes tt; not_above = le_z_yes tt }); magnet = refl }) refl;
+  raise_to_fetch_there_last = drive_row RaiseToFetch magnet _ _ _ refl (record { travel = refl; height = stops_there travel_stop (pos 5) (pos 945) (record { not_below = le_z_yes tt; not_above = le_z_yes tt }); magnet = refl }) refl;
+  lower_to_plate = drive_row LowerToPlate magnet _ _ _ refl (record { travel = refl; height = goes_minus deposit_stop (pos 5) (pos 146) (le_z_yes tt) (lt_z_yes tt); magnet = refl }) refl;
+  lower_to_plate_too_far = drive_row LowerToPlate magnet _ _ _ refl (record { travel = refl; height = goes_plus deposit_stop (pos 5) (pos 54) (le_z_yes tt) (lt_z_yes tt); magnet = refl }) refl;
+  lower_to_plate_there_first = drive_row LowerToPlate magnet _ _ _ refl (record { travel = refl; height = stops_there deposit_stop (pos 5) (pos 55) (record { not_below = le_z_yes tt; not_above = le_z_yes tt }); magnet = refl }) refl;
+  lower_to_plate_there_last = drive_row LowerToPlate magnet _ _ _ refl (record { travel = refl; height = stops_there deposit_stop (pos 5) (pos 145) (record { not_below = le_z_yes tt; not_above = le_z_yes tt }); magnet = refl }) refl;
+  raise_with_plate = drive_row RaiseWithPlate magnet _ _ _ refl (record { travel = refl; height = goes_plus travel_stop (pos 5) (pos 854) (le_z_yes tt) (lt_z_yes tt); magnet = refl }) refl;
+  raise_with_plate_too_far = drive_row RaiseWithPlate magnet _ _ _ refl (record { travel = refl; height = goes_minus travel_stop (pos 5) (pos 946) (le_z_yes tt) (lt_z_yes tt); magnet = refl }) refl;
+  raise_with_plate_there_first = drive_row RaiseWithPlate magnet _ _ _ refl (record { travel = refl; height = stops_there travel_stop (pos 5) (pos 855) (record { not_below = le_z_yes tt; not_above = le_z_yes tt }); magnet = refl }) refl;
+  raise_with_plate_there_last = drive_row RaiseWithPlate magnet _ _ _ refl (record { travel = refl; height = stops_there travel_stop (pos 5) (pos 945) (record { not_below = le_z_yes tt; not_above = le_z_yes tt }); magnet = refl }) refl;
+  lower_to_feed = drive_row LowerToFeed magnet _ _ _ refl (record { travel = refl; height = goes_minus feed_stop (pos 5) (pos 346) (le_z_yes tt) (lt_z_yes tt); magnet = refl }) refl;
+  lower_to_feed_too_far = drive_row LowerToFeed magnet _ _ _ refl (record { travel = refl; height = goes_plus feed_stop (pos 5) (pos 254) (le_z_yes tt) (lt_z_yes tt); magnet = refl }) refl;
+  lower_to_feed_there_first = drive_row LowerToFeed magnet _ _ _ refl (record { travel = refl; height = stops_there feed_stop (pos 5) (pos 255) (record { not_below = le_z_yes tt; not_above = le_z_yes tt }); magnet = refl }) refl;
+  lower_to_feed_there_last = drive_row LowerToFeed magnet _ _ _ refl (record { travel = refl; height = stops_there feed_stop (pos 5) (pos 345) (record { not_below = le_z_yes tt; not_above = le_z_yes tt }); magnet = refl }) refl;
+  raise_from_feed = drive_row RaiseFromFeed magnet _ _ _ refl (record { travel = refl; height = goes_plus travel_stop (pos 5) (pos 854) (le_z_yes tt) (lt_z_yes tt); magnet = refl }) refl;
+  raise_from_feed_too_far = drive_row RaiseFromFeed magnet _ _ _ refl (record { travel = refl; height = goes_minus travel_stop (pos 5) (pos 946) (le_z_yes tt) (lt_z_yes tt); magnet = refl }) refl;
+  raise_from_feed_there_first = drive_row RaiseFromFeed magnet _ _ _ refl (record { travel = refl; height = stops_there travel_stop (pos 5) (pos 855) (record { not_below = le_z_yes tt; not_above = le_z_yes tt }); magnet = refl }) refl;
+  raise_from_feed_there_last = drive_row RaiseFromFeed magnet _ _ _ refl (record { travel = refl; height = stops_there travel_stop (pos 5) (pos 945) (record { not_below = le_z_yes tt; not_above = le_z_yes tt }); magnet = refl }) refl;
+}
+
+travel : (magnet : Bool) (height : ℕ) → TravelDrives magnet height
+travel magnet height = record {
+  to_deposit = drive_row TravelToDeposit magnet _ _ _ refl (record { travel = refl; height = refl; magnet = refl }) refl;
+  to_deposit_at_feed = drive_row TravelToDeposit magnet _ _ _ refl (record { travel = refl; height = refl; magnet = refl }) refl;
+  to_deposit_there = drive_row TravelToDeposit magnet _ _ _ refl (record { travel = refl; height = refl; magnet = refl }) refl;
+  to_deposit_low = drive_row TravelToDeposit magnet _ _ _ refl (record { travel = refl; height = refl; magnet = refl }) refl;
+  to_deposit_there_low = drive_row TravelToDeposit magnet _ _ _ refl (record { travel = refl; height = refl; magnet = refl }) refl;
+  to_feed = drive_row TravelToFeed magnet _ _ _ refl (record { travel = refl; height = refl; magnet = refl }) refl;
+  to_feed_at_deposit = drive_row TravelToFeed magnet _ _ _ refl (record { travel = refl; height = refl; magnet = refl }) refl;
+  to_feed_there = drive_row TravelToFeed magnet _ _ _ refl (record { travel = refl; height = refl; magnet = refl }) refl;
+  to_feed_low = drive_row TravelToFeed magnet _ _ _ refl (record { travel = refl; height = refl; magnet = refl }) refl;
+  to_feed_there_low = drive_row TravelToFeed magnet _ _ _ refl (record { travel = refl; height = refl; magnet = refl }) refl;
+}
+
+switches : (magnet : Bool) (reading : CraneReading) → MagnetSteps magnet reading
+switches magnet reading = record {
+  grips = drive_row GripPlate magnet _ _ _ refl (record { travel = refl; height = refl; magnet = refl }) refl;
+  drops = drive_row DropPlate magnet _ _ _ refl (record { travel = refl; height = refl; magnet = refl }) refl;
+}
+
+checks : CraneChecks
+checks = record {
+  clash = search rules;
+  clash_is_no_reading = λ r k. search rules;
+  no_clash_at_deposit = λ k. search rules;
+  no_clash_at_feed = λ k. search rules;
+  clash_before_raw_value = λ k. search rules;
+  too_low = search rules;
+  not_too_low = λ k. search rules;
+  too_high = search rules;
+  not_too_high = λ k. search rules;
+  by_gauge = search rules;
+  not_by_line = λ k. search rules;
+  high_first = search rules;
+  high_first_is_high = λ k. search rules;
+  low_last = search rules;
+  low_last_is_low = λ k. search rules;
+}
+
+pub crane-rows : CraneRowsAreMet
+crane-rows = record {
+  starts = λ points. record { whose = refl; empty_cell = refl; one_plate = begins points };
+  asks = asks;
+  gripper = gripper;
+  travel = travel;
+  magnet = switches;
+  checks = checks;
+  rests = λ points step magnet. refl;
+  demands = λ points magnet on travel height opening seen is_on. record { lower_to_plate = λ k. k is_on; raise_with_plate = λ k. k is_on; lower_to_feed = λ k. k is_on; raise_from_feed = λ k. k is_on };
+}

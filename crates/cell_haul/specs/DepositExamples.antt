@@ -1,0 +1,93 @@
+-- Examples of the deposit belt's program: each row of it, with each state of its notes.
+use Rattle.std.specs.Prelude.{◌≡◌, Bool, true, false, List, [], ◌∷◌, Ok, Err}
+use Rattle.cell_types.specs.declared.machine.Machine.TheVariants.{Deposit}
+use Rattle.cell_types.specs.declared.zone.Zone.TheVariants.{Z4, Z5}
+use Rattle.cell_types.specs.declared.place.Place.{Place}
+use Rattle.cell_types.specs.declared.place.Place.TheVariants.{DepEntry, DepEnd}
+use Rattle.cell_types.specs.declared.pose.Pose.TheVariants.{Landing, Running, Offering}
+use Rattle.cell_types.specs.declared.posture.Posture.TheVariants.{Moving}
+use Rattle.cell_types.specs.declared.call.Call.TheVariants.{Claim, Give, Take, Release, SetPose, Advance}
+use Rattle.cell_types.specs.declared.answer.Event.{Event}
+use Rattle.cell_calib.specs.declared.sense.DepositSense.{DepositSense}
+use Rattle.cell_calib.specs.declared.sense.SensorFault.{SensorFault}
+use Rattle.cell_devices.specs.declared.act.DepositAct.{DepositAct}
+use Rattle.cell_rules.specs.ModelState.{ModelState}
+use Rattle.cell_rules.specs.History.{Holds, posture_by_events}
+use Rattle.cell_rules.specs.PlaceSet.{empty, insert_place}
+use Rattle.cell_rules.specs.Start.{start_state}
+use Rattle.cell_control.specs.Rows.{AskRow, DriveRow, UntilFree, UntilOwner, UntilRoom}
+use Rattle.cell_haul.specs.declared.deposit_step.DepositStep.{DepositStep}
+use Rattle.cell_haul.specs.declared.deposit_step.DepositStep.TheVariants.{ClaimEntry, ClaimExit, PoseLanding, ReleaseEntry, TakePlate, StartRun, RunIn, RunOut, MoveOn, PoseOffering, GivePlate, ClaimBack}
+use Rattle.cell_haul.specs.declared.deposit_step.DepositProgress.{DepositProgress}
+use Rattle.cell_haul.specs.DepositProgram.{deposit_steps}
+
+-- a step, with whether a plate is at the belt's entry and at its end
+abbrev pub at : DepositStep → Bool → Bool → DepositProgress
+at step entry last = record { step = step; entry = entry; last = last }
+
+abbrev pub runs : DepositAct
+runs = record { belt = true }
+
+abbrev pub stands : DepositAct
+stands = record { belt = false }
+
+abbrev pub in_barrier : DepositSense
+in_barrier = record { barrier = true }
+
+abbrev pub barrier_off : DepositSense
+barrier_off = record { barrier = false }
+
+-- where the program begins, by the one place that is full
+abbrev pub begins_with : Place → DepositProgress
+begins_with DepEntry = at ClaimEntry true false
+begins_with DepEnd = at ClaimEntry false true
+begins_with _ = at ClaimEntry false false
+
+pub record DepositStarts : Type 0 where
+  pub whose : deposit_steps.machine ≡ Deposit
+  pub empty_cell : deposit_steps.start (start_state empty 0) ≡ at ClaimEntry false false
+  pub one_plate : (p : Place) → deposit_steps.start (start_state (insert_place empty p) 0) ≡ begins_with p
+  pub two_plates : deposit_steps.start (start_state (insert_place (insert_place empty DepEntry) DepEnd) 0) ≡ at ClaimEntry true true
+
+pub record DepositAsks (entry last : Bool) : Type 0 where
+  pub claims_entry : AskRow deposit_steps (at ClaimEntry entry last) (Claim Z4) [] (at ClaimExit entry last)
+  pub claims_exit : AskRow deposit_steps (at ClaimExit false false) (Claim Z5) [] (at PoseLanding false false)
+  pub claims_exit_with_plate : AskRow deposit_steps (at ClaimExit true false) (Claim Z5) [] (at StartRun true false)
+  pub claims_exit_with_plate_at_end : AskRow deposit_steps (at ClaimExit entry true) (Claim Z5) [] (at PoseOffering entry true)
+  pub poses_landing : AskRow deposit_steps (at PoseLanding entry last) (SetPose Landing) [] (at ReleaseEntry entry last)
+  pub releases_entry : AskRow deposit_steps (at ReleaseEntry entry last) (Release Z4) [] (at TakePlate entry last)
+  pub takes : AskRow deposit_steps (at TakePlate entry last) (Take Z4) (UntilOwner ∷ []) (at StartRun true last)
+  pub starts : AskRow deposit_steps (at StartRun entry last) (SetPose Running) [] (at RunIn entry last)
+  pub moves_on : AskRow deposit_steps (at MoveOn entry last) Advance [] (at PoseOffering false true)
+  pub poses_offering : AskRow deposit_steps (at PoseOffering entry last) (SetPose Offering) [] (at GivePlate entry last)
+  pub gives : AskRow deposit_steps (at GivePlate entry last) (Give Z5) (UntilRoom ∷ []) (at ClaimBack entry false)
+  pub claims_back : AskRow deposit_steps (at ClaimBack false false) (Claim Z5) (UntilFree ∷ []) (at PoseLanding false false)
+  pub claims_back_with_plate : AskRow deposit_steps (at ClaimBack true false) (Claim Z5) (UntilFree ∷ []) (at StartRun true false)
+  pub claims_back_with_plate_at_end : AskRow deposit_steps (at ClaimBack entry true) (Claim Z5) (UntilFree ∷ []) (at PoseOffering entry true)
+
+pub record DepositDrives (entry last : Bool) : Type 0 where
+  pub in_before_barrier : DriveRow deposit_steps (at RunIn entry last) barrier_off runs (at RunIn entry last)
+  pub in_at_barrier : DriveRow deposit_steps (at RunIn entry last) in_barrier stands (at RunOut entry last)
+  pub out_in_barrier : DriveRow deposit_steps (at RunOut entry last) in_barrier runs (at RunOut entry last)
+  pub out_of_barrier : DriveRow deposit_steps (at RunOut entry last) barrier_off stands (at MoveOn entry last)
+
+-- a light barrier can always be used
+pub record DepositChecks (s : DepositSense) : Type 0 where
+  pub as_shown : deposit_steps.senses s (Ok s)
+  pub no_fault : (fault : SensorFault) → ¬ deposit_steps.senses s (Err fault)
+
+-- a belt that runs demands both its zones, and that they move
+pub record DemandsBoth (opening : ModelState) (seen : List Event) : Type 0 where
+  pub holds_entry : Holds opening seen Deposit Z4
+  pub holds_exit : Holds opening seen Deposit Z5
+  pub entry_moves : posture_by_events opening seen Z4 ≡ Moving
+  pub exit_moves : posture_by_events opening seen Z5 ≡ Moving
+
+-- all of them; at a step that asks, the belt stands
+pub record DepositRowsAreMet : Type 0 where
+  pub starts : DepositStarts
+  pub asks : (entry last : Bool) → DepositAsks entry last
+  pub drives : (entry last : Bool) → DepositDrives entry last
+  pub checks : (s : DepositSense) → DepositChecks s
+  pub rests : (p : DepositProgress) → deposit_steps.rest p ≡ stands
+  pub demands : (p : DepositProgress) (opening : ModelState) (seen : List Event) → deposit_steps.motor_demands p runs opening seen → DemandsBoth opening seen

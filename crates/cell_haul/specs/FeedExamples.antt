@@ -1,0 +1,91 @@
+-- Examples of the feed belt's program: each row of it, with each state of its notes.
+use Rattle.std.specs.Prelude.{◌≡◌, pos, Bool, true, false, List, [], ◌∷◌, Ok, Err}
+use Rattle.cell_types.specs.declared.machine.Machine.TheVariants.{Feed}
+use Rattle.cell_types.specs.declared.zone.Zone.TheVariants.{Z1, Z6}
+use Rattle.cell_types.specs.declared.place.Place.{Place}
+use Rattle.cell_types.specs.declared.place.Place.TheVariants.{FeedEntry, FeedEnd}
+use Rattle.cell_types.specs.declared.pose.Pose.TheVariants.{Landing, Running, Halted}
+use Rattle.cell_types.specs.declared.posture.Posture.TheVariants.{Moving}
+use Rattle.cell_types.specs.declared.call.Call.TheVariants.{Claim, Give, Take, Release, SetPose, Advance}
+use Rattle.cell_types.specs.declared.answer.Event.{Event}
+use Rattle.cell_calib.specs.declared.sense.FeedSense.{FeedSense}
+use Rattle.cell_calib.specs.declared.sense.SensorFault.{SensorFault}
+use Rattle.cell_devices.specs.declared.act.FeedAct.{FeedAct}
+use Rattle.cell_rules.specs.ModelState.{ModelState}
+use Rattle.cell_rules.specs.History.{Holds, posture_by_events, plates_at}
+use Rattle.cell_rules.specs.PlaceSet.{empty, insert_place}
+use Rattle.cell_rules.specs.Start.{start_state}
+use Rattle.cell_control.specs.Rows.{AskRow, DriveRow, UntilFree, UntilOwner, UntilOpen}
+use Rattle.cell_haul.specs.declared.feed_step.FeedStep.{FeedStep}
+use Rattle.cell_haul.specs.declared.feed_step.FeedStep.TheVariants.{ClaimEntry, PoseLanding, ReleaseEntry, TakePlate, StartIn, RunIn, MoveOn, ClaimExit, StartOut, RunOut, Halt, GivePlate}
+use Rattle.cell_haul.specs.declared.feed_step.FeedProgress.{FeedProgress}
+use Rattle.cell_haul.specs.FeedProgram.{feed_steps}
+
+-- a step, with whether a plate is at the belt's entry and at its end
+abbrev pub at : FeedStep → Bool → Bool → FeedProgress
+at step entry last = record { step = step; entry = entry; last = last }
+
+abbrev pub runs : FeedAct
+runs = record { belt = true }
+
+abbrev pub stands : FeedAct
+stands = record { belt = false }
+
+abbrev pub in_barrier : FeedSense
+in_barrier = record { barrier = true }
+
+abbrev pub barrier_off : FeedSense
+barrier_off = record { barrier = false }
+
+-- where the program begins, by the one place that is full
+abbrev pub begins_with : Place → FeedProgress
+begins_with FeedEntry = at ClaimEntry true false
+begins_with FeedEnd = at ClaimEntry false true
+begins_with _ = at ClaimEntry false false
+
+pub record FeedStarts : Type 0 where
+  pub whose : feed_steps.machine ≡ Feed
+  pub empty_cell : feed_steps.start (start_state empty 0) ≡ at ClaimEntry false false
+  pub one_plate : (p : Place) → feed_steps.start (start_state (insert_place empty p) 0) ≡ begins_with p
+  pub two_plates : feed_steps.start (start_state (insert_place (insert_place empty FeedEntry) FeedEnd) 0) ≡ at ClaimEntry true true
+
+pub record FeedAsks (entry last : Bool) : Type 0 where
+  pub claims_entry : AskRow feed_steps (at ClaimEntry false false) (Claim Z6) [] (at PoseLanding false false)
+  pub claims_entry_with_plate : AskRow feed_steps (at ClaimEntry true false) (Claim Z6) [] (at StartIn true false)
+  pub claims_entry_with_plate_at_end : AskRow feed_steps (at ClaimEntry entry true) (Claim Z6) [] (at ClaimExit entry true)
+  pub poses_landing : AskRow feed_steps (at PoseLanding entry last) (SetPose Landing) [] (at ReleaseEntry entry last)
+  pub releases_entry : AskRow feed_steps (at ReleaseEntry entry last) (Release Z6) [] (at TakePlate entry last)
+  pub takes : AskRow feed_steps (at TakePlate entry last) (Take Z6) (UntilOwner ∷ []) (at StartIn true last)
+  pub starts_in : AskRow feed_steps (at StartIn entry last) (SetPose Running) [] (at RunIn entry last)
+  pub moves_on : AskRow feed_steps (at MoveOn entry last) Advance [] (at ClaimExit false true)
+  pub claims_exit : AskRow feed_steps (at ClaimExit entry last) (Claim Z1) (UntilFree ∷ UntilOpen ∷ []) (at StartOut entry last)
+  pub starts_out : AskRow feed_steps (at StartOut entry last) (SetPose Running) [] (at RunOut entry last)
+  pub halts : AskRow feed_steps (at Halt entry last) (SetPose Halted) [] (at GivePlate entry last)
+  pub gives : AskRow feed_steps (at GivePlate false last) (Give Z1) [] (at PoseLanding false false)
+  pub gives_with_plate : AskRow feed_steps (at GivePlate true last) (Give Z1) [] (at StartIn true false)
+
+pub record FeedDrives (entry last : Bool) : Type 0 where
+  pub in_before_barrier : DriveRow feed_steps (at RunIn entry last) barrier_off runs (at RunIn entry last)
+  pub in_at_barrier : DriveRow feed_steps (at RunIn entry last) in_barrier stands (at MoveOn entry last)
+  pub out_in_barrier : DriveRow feed_steps (at RunOut entry last) in_barrier runs (at RunOut entry last)
+  pub out_of_barrier : DriveRow feed_steps (at RunOut entry last) barrier_off stands (at Halt entry last)
+
+-- a light barrier can always be used
+pub record FeedChecks (s : FeedSense) : Type 0 where
+  pub as_shown : feed_steps.senses s (Ok s)
+  pub no_fault : (fault : SensorFault) → ¬ feed_steps.senses s (Err fault)
+
+-- a belt that runs demands the zone before the crane, moving, and the zone before the table where one plate is at its end
+pub record DemandsToRun (opening : ModelState) (seen : List Event) : Type 0 where
+  pub holds_entry : Holds opening seen Feed Z6
+  pub entry_moves : posture_by_events opening seen Z6 ≡ Moving
+  pub holds_exit : plates_at opening seen FeedEnd ≡ pos 1 → Holds opening seen Feed Z1
+
+-- all of them; at a step that asks, the belt stands
+pub record FeedRowsAreMet : Type 0 where
+  pub starts : FeedStarts
+  pub asks : (entry last : Bool) → FeedAsks entry last
+  pub drives : (entry last : Bool) → FeedDrives entry last
+  pub checks : (s : FeedSense) → FeedChecks s
+  pub rests : (p : FeedProgress) → feed_steps.rest p ≡ stands
+  pub demands : (p : FeedProgress) (opening : ModelState) (seen : List Event) → feed_steps.motor_demands p runs opening seen → DemandsToRun opening seen

@@ -1,0 +1,116 @@
+//! A machine that is played on a bench, with its part, while others ask there.
+ghost use Rattle.std.specs.Prelude.{◌≡◌, false, None};
+ghost use Rattle.cell_types.specs.Same.{same_machine};
+ghost use Rattle.cell_control.specs.Steps.{IsReached};
+
+use cell_control::{Controller, CtlFault, Part, Program};
+use cell_rules::{Bench, Line};
+use cell_types::{Answer, Call, Machine, Reply};
+
+/// What happens on the bench next.
+#[derive(Clone, Copy, Debug, PartialEq, Eq)]
+pub enum Move {
+    /// The machine has so many turns.
+    Turns(u32),
+    /// Another machine asks.
+    Asks(Machine, Call),
+}
+
+// The machine has some turns, with a tick of its part after each.
+fn goes_on<P: Program, B: Part<Sense = P::Sense, Act = P::Act>>(
+    controller: &mut Controller<P>,
+    part: &mut B,
+    own: Machine,
+    bench: &mut Bench,
+    turns: u32,
+) -> Result<(), CtlFault>
+    requires own { own ≡ (P.steps controller.old.program).machine }
+    requires reached { controller.old.stopped ≡ None → IsReached (P.steps controller.old.program) bench.old.opening bench.old.history.items controller.old.progress }
+    ensures program { controller.new.program ≡ controller.old.program }
+    ensures reached { controller.new.stopped ≡ None → IsReached (P.steps controller.new.program) bench.new.opening bench.new.history.items controller.new.progress }
+{
+    bench.seat(own, false);
+    'turns: for _ in 0..turns {
+        let asks = bench.heard().asks;
+        let act = controller.turn(bench, &part.sensors())?;
+        if bench.heard().asks != asks {
+            if let Some(event) = bench.history().last() {
+                part.note(event);
+            }
+        }
+        part.tick(&act);
+    }
+    Ok(())
+}
+
+// Another machine asks.
+fn guest_asks<P: Program>(controller: &Controller<P>, bench: &mut Bench, guest: Machine, call: Call)
+    requires apart { same_machine guest (P.steps controller.now.program).machine ≡ false }
+    requires reached { controller.now.stopped ≡ None → IsReached (P.steps controller.now.program) bench.old.opening bench.old.history.items controller.now.progress }
+    ensures reached { controller.now.stopped ≡ None → IsReached (P.steps controller.now.program) bench.new.opening bench.new.history.items controller.now.progress }
+{
+    let _ = controller;
+    bench.seat(guest, false);
+    let _ = bench.ask(call);
+}
+
+/// The machine has its turns and others ask, in this order.
+pub fn play<P: Program, B: Part<Sense = P::Sense, Act = P::Act>>(
+    controller: &mut Controller<P>,
+    part: &mut B,
+    own: Machine,
+    bench: &mut Bench,
+    moves: &[Move],
+) -> Result<(), CtlFault>
+    requires own { own ≡ (P.steps controller.old.program).machine }
+    requires reached { controller.old.stopped ≡ None → IsReached (P.steps controller.old.program) bench.old.opening bench.old.history.items controller.old.progress }
+    ensures program { controller.new.program ≡ controller.old.program }
+    ensures reached { controller.new.stopped ≡ None → IsReached (P.steps controller.new.program) bench.new.opening bench.new.history.items controller.new.progress }
+{
+    'moves: for next in moves {
+        match *next {
+            Move::Turns(turns) => goes_on(controller, part, own, bench, turns)?,
+            Move::Asks(guest, call) => {
+                if guest != own {
+                    guest_asks(controller, bench, guest, call);
+                }
+            }
+        }
+    }
+    Ok(())
+}
+
+/// The last call on the bench that was answered, and the answer.
+pub fn last(bench: &Bench) -> Option<(Call, Answer)> {
+    match bench.heard().last {
+        Some((call, Ok(Reply::Settled(answer, _)))) => Some((call, answer)),
+        _ => None,
+    }
+}
+
+/// Whether the machine stops in its next turn with this fault, having asked so often in it, and then
+/// asks nothing more.
+pub fn stops<P: Program, B: Part<Sense = P::Sense, Act = P::Act>>(
+    controller: &mut Controller<P>,
+    part: &B,
+    own: Machine,
+    bench: &mut Bench,
+    sense: P::Sense,
+    fault: CtlFault,
+    asks: u64,
+) -> bool
+    requires own { own ≡ (P.steps controller.old.program).machine }
+    requires reached { controller.old.stopped ≡ None → IsReached (P.steps controller.old.program) bench.old.opening bench.old.history.items controller.old.progress }
+{
+    bench.seat(own, false);
+    let before = bench.heard().asks;
+    let first = controller.turn(bench, &sense).err();
+    let asked = bench.heard().asks.wrapping_sub(before);
+    let then = controller.turn(bench, &part.sensors()).err();
+    let silent = bench.heard().asks.wrapping_sub(before) == asks;
+    first == Some(fault)
+        && asked == asks
+        && then == Some(CtlFault::Stopped)
+        && silent
+        && controller.stopped() == Some(fault)
+}
