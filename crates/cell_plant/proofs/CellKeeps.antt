@@ -6,6 +6,7 @@ use Rattle.cell_types.specs.declared.machine.Machine.TheVariants.{Feed, Table, R
 use Rattle.cell_rules.specs.ModelState.{ModelState}
 use Rattle.cell_rules.specs.Start.{IsStartState}
 use Rattle.cell_calib.specs.Line.{IsReading}
+use Rattle.cell_haul.specs.CraneProgram.{crane_steps}
 use Rattle.cell_haul.specs.DepositProgram.{deposit_steps}
 use Rattle.cell_haul.specs.FeedProgram.{feed_steps}
 use Rattle.cell_stations.specs.PressProgram.{press_steps}
@@ -17,11 +18,12 @@ use Rattle.cell_seat.proofs.Demanding.{With, demands_kept}
 use Rattle.cell_parts.specs.Axes.{CellScales, AreCellScales}
 use Rattle.cell_plant.specs.Machines.{ProgressOf, PartOf, steps_of, rig_of}
 use Rattle.cell_plant.specs.CellStates.{side_in, sides_at_start}
+use Rattle.cell_plant.proofs.CraneKeeps.{CraneInv, CraneTold, crane-start, crane-keeping}
 use Rattle.cell_plant.proofs.DepositKeeps.{DepositInv, DepositRuns, deposit-start, deposit-keeping, deposit-demanding}
 use Rattle.cell_plant.proofs.FeedKeeps.{FeedInv, FeedRuns, feed-start, feed-keeping, feed-demanding}
 use Rattle.cell_plant.proofs.PressKeeps.{PressInv, PressMoves, press-start, press-keeping, press-demanding}
 use Rattle.cell_plant.proofs.TableKeeps.{TableInv, TableDrives, off_stands, table-start, table-keeping, table-demanding}
-use Rattle.cell_plant.proofs.RestingKeeps.{RobotRests, CraneRests, robot-start, crane-start, still-keeping}
+use Rattle.cell_plant.proofs.RestingKeeps.{RobotRests, robot-start, still-keeping}
 
 abbrev pub InvOf : (m : Machine) → ModelState → ProgressOf m → PartOf m → Type 0
 InvOf Feed = With FeedInv FeedRuns
@@ -29,12 +31,13 @@ InvOf Table = With TableInv TableDrives
 InvOf Robot = λ z p b. RobotRests b
 InvOf Press = With PressInv PressMoves
 InvOf Deposit = With DepositInv DepositRuns
-InvOf Crane = λ z p b. CraneRests b
+InvOf Crane = CraneInv
 InvOf Watch = λ z p b. ⊤
 
--- for now none leads its axes to places that have to be known before they are reached
+-- once their motors are told where to go; only of the crane more is known then, of where its axes come to stay
 abbrev pub ToldOf : (m : Machine) → ModelState → ProgressOf m → PartOf m → Type 0
-ToldOf = InvOf
+ToldOf Crane = CraneTold
+ToldOf m = InvOf m
 
 pub keeping_of : (c : CellScales) → AreCellScales c → (m : Machine) → Keeping (steps_of c m) (rig_of c m) (InvOf m) (ToldOf m)
 keeping_of c k Feed = demands_kept feed_steps feed_rig FeedInv FeedInv FeedRuns feed-keeping feed-demanding
@@ -42,7 +45,7 @@ keeping_of c k Table = demands_kept (table_steps c.turn (IsReading c.turn)) (tab
 keeping_of c k Robot = still-keeping Robot RobotRests
 keeping_of c k Press = demands_kept press_steps press_rig PressInv PressInv PressMoves press-keeping press-demanding
 keeping_of c k Deposit = demands_kept deposit_steps deposit_rig DepositInv DepositInv DepositRuns deposit-keeping deposit-demanding
-keeping_of c k Crane = still-keeping Crane CraneRests
+keeping_of c k Crane = crane-keeping c.gripper k.gripper
 keeping_of c k Watch = still-keeping Watch (λ b. ⊤)
 
 pub starts : (s : ModelState) → IsStartState s → (m : Machine) → InvOf m s (side_in (sides_at_start s) m).progress (side_in (sides_at_start s) m).part

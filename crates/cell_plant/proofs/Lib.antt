@@ -4,6 +4,8 @@ pub mod TableKeeps
 pub mod BeltPlates
 pub mod FeedKeeps
 pub mod DepositKeeps
+pub mod Stops
+pub mod CraneKeeps
 pub mod RestingKeeps
 pub mod KeptRuns
 pub mod CellKeeps

@@ -7,8 +7,8 @@ use Rattle.cell_rules.specs.ModelState.{ModelState}
 use Rattle.cell_rules.specs.Sound.{IsSound}
 use Rattle.cell_rules.specs.Reply.{next}
 use Rattle.cell_seat.proofs.Keeping.{Keeping}
-use Rattle.cell_parts.specs.Axes.{rotation_start, gripper_start}
-use Rattle.cell_parts.specs.Plant.{RobotPlant, CranePlant, standing, robot_at_start, crane_at_start}
+use Rattle.cell_parts.specs.Axes.{rotation_start}
+use Rattle.cell_parts.specs.Plant.{RobotPlant, standing, robot_at_start}
 use Rattle.cell_plant.specs.Machines.{no_steps, no_rig}
 
 pub record RobotRests (r : RobotPlant) : Type 0 where
@@ -16,16 +16,9 @@ pub record RobotRests (r : RobotPlant) : Type 0 where
   pub arm2 : r.arm2 ≡ standing (pos 0)
   pub rotation : r.rotation ≡ standing rotation_start
 
-pub record CraneRests (c : CranePlant) : Type 0 where
-  pub travel : c.travel ≡ standing (pos 0)
-  pub gripper : c.gripper ≡ standing gripper_start
-
 -- at the start
 pub robot-start : (s : ModelState) → RobotRests (robot_at_start s)
 robot-start s = record { arm1 = refl; arm2 = refl; rotation = refl }
-
-pub crane-start : (s : ModelState) → CraneRests (crane_at_start s)
-crane-start s = record { travel = refl; gripper = refl }
 
 -- a machine without a controller keeps what others leave
 none_asked : (o : Option Call) (c : Call) (P : Type 0) → o ≡ None → o ≡ Some c → P

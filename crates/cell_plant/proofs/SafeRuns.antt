@@ -16,24 +16,31 @@ use Rattle.cell_calib.specs.Line.{IsReading}
 use Rattle.cell_control.specs.Rigs.{Rig}
 use Rattle.cell_control.specs.Steps.{Steps}
 use Rattle.cell_control.specs.Turns.{Turned}
+use Rattle.cell_calib.specs.declared.sense.CraneSense.{CraneSense}
+use Rattle.cell_devices.specs.declared.act.CraneAct.{CraneAct}
+use Rattle.cell_haul.specs.declared.crane_step.CraneProgress.{CraneProgress}
+use Rattle.cell_haul.specs.declared.crane_step.CraneReading.{CraneReading}
+use Rattle.cell_haul.specs.CraneProgram.{crane_steps}
 use Rattle.cell_stations.specs.PressProgram.{press_steps}
 use Rattle.cell_stations.specs.TableProgram.{table_steps}
 use Rattle.cell_notes.specs.Asks.{Asked, done_in}
 use Rattle.cell_seat.specs.Sides.{Side, noting, act_or_rest, side_set}
-use Rattle.cell_parts.specs.Rigs.{press_rig, table_rig}
-use Rattle.cell_parts.specs.Axes.{arm_end, rotation_end, crane_end, gripper_end, IsWithin, CellScales, AreCellScales}
-use Rattle.cell_parts.specs.Collisions.{IsOut, IsGripperDown, PlateFalls, DrivesPastEnd}
-use Rattle.cell_parts.specs.Plant.{StaysWithin}
+use Rattle.cell_parts.specs.Rigs.{press_rig, table_rig, crane_rig}
+use Rattle.cell_parts.specs.Axes.{arm_end, rotation_end, IsWithin, CellScales, AreCellScales}
+use Rattle.cell_parts.specs.Collisions.{IsOut, LetsGo, CraneMayLetGo, PlateFalls, DrivesPastEnd}
+use Rattle.cell_parts.specs.Plant.{StaysWithin, set_crane}
 use Rattle.cell_parts.specs.PositionDemands.{PositionDemands}
-use Rattle.cell_parts.specs.MotorDemands.{GripperErrand, ForTravel, MotorDemands}
+use Rattle.cell_parts.specs.MotorDemands.{GripperErrand, MotorDemands}
 use Rattle.cell_parts.specs.Laws.{AllDemandsMet}
 use Rattle.cell_parts.proofs.NoCollision.{nothing_collides}
 use Rattle.cell_notes.specs.declared.schedule.Turn.{Turn}
 use Rattle.cell_plant.specs.CellStates.{CellState, plant_of, cell_at_start}
 use Rattle.cell_plant.specs.Runs.{Step, TakesTurn, LeadsIf, goes_on, IsRun}
+use Rattle.cell_plant.specs.Errands.{errand_of}
 use Rattle.cell_plant.specs.Safety.{IsSafeState, IsSafelySet, IsSafeRun, EveryRunIsSafe}
 use Rattle.cell_plant.proofs.KeptRuns.{CellInv, step_keeps}
 use Rattle.cell_plant.proofs.CellKeeps.{InvOf, ToldOf, keeping_of, starts}
+use Rattle.cell_plant.proofs.CraneKeeps.{gripper-down, gripper-driven, travels-high, crane-ends, crane-lets-go}
 use Rattle.cell_plant.proofs.PressKeeps.{press-ends}
 use Rattle.cell_plant.proofs.TableKeeps.{table-ends}
 
@@ -56,15 +63,11 @@ clear_free full stamp = record { feed = λ e. cc; entry = λ e. cc; end = λ e. 
 clear_start : (s : ModelState) → IsStartState s → RunsClear s
 clear_start s k = subst RunsClear (sym k.same) (clear_free s.full s.stamp)
 
--- neither robot nor crane takes a turn, so their magnets stay as they are
-takes_alone : (w : CellState) (m : Machine) → goes_on w m ≡ true → (same_machine m Robot ≡ false) × (same_machine m Crane ≡ false)
-takes_alone w Feed e = (refl, refl)
-takes_alone w Table e = (refl, refl)
-takes_alone w Press e = (refl, refl)
-takes_alone w Deposit e = (refl, refl)
-takes_alone w Robot e = cc
-takes_alone w Crane e = cc
-takes_alone w Watch e = cc
+-- the robot takes no turn, so its magnets stay as they are
+robot_waits : (w : CellState) (m : Machine) → goes_on w m ≡ true → same_machine m Robot ≡ false
+robot_waits w Robot e = cc
+robot_waits w Watch e = cc
+robot_waits w m e = refl
 
 -- a part that has nothing to note of an event is only set
 unnoted : {State Sense Act : Type 0} → (rig : Rig State Sense Act) → ((b : State) (e : Event) → rig.notes b e ≡ b) → (b : State) (o : Option Event) → noting rig b o ≡ b
@@ -74,6 +77,9 @@ unnoted rig k b (Some e) = k b e
 set_unnoted : {S Sense Reading Act State : Type 0} → (t : Steps S Sense Reading Act) (rig : Rig State Sense Act) → ((b : State) (e : Event) → rig.notes b e ≡ b) → (before : Side S State) (asked : Asked) (turned : Turned S Act) (set : Side S State)
     → set ≡ side_set t rig before asked turned → set.part ≡ rig.set before.part (act_or_rest (t.rest before.progress) turned.result)
 set_unnoted t rig k before asked turned set e = ap (λ x. x.part) e ∙ ap (λ b. rig.set b (act_or_rest (t.rest before.progress) turned.result)) (unnoted rig k before.part (done_in t.machine asked))
+
+not_let_go : (a b : Bool) → a ≡ b → LetsGo b a → ⊥
+not_let_go a b e go = let on = go.0 in let off = go.1 in cc
 
 module _ (c : CellScales) (scales : AreCellScales c) where
   abbrev Kept : CellState → Type 0
@@ -86,37 +92,37 @@ module _ (c : CellScales) (scales : AreCellScales c) where
     arm2_in : ¬ IsOut (w.side Robot).part.arm2
     arm2_in out = let at : (w.side Robot).part.arm2.position ≡ pos 0 = ap (λ a. a.position) (i.each Robot).arm2 in omega (arith, ints)
 
-    gripper_high : ¬ IsGripperDown (w.side Crane).part
-    gripper_high down = let at : (w.side Crane).part.gripper.position ≡ pos 900 = ap (λ a. a.position) (i.each Crane).gripper in omega (arith, ints)
-
     positions : PositionDemands w.interlock (plant_of w)
     positions = record {
       arm1 = λ out. absurd (arm1_in out);
       arm2 = λ out. absurd (arm2_in out);
       press = ((i.each Press).0.open_in, (i.each Press).0.open_out);
       table = (i.each Table).0.open_in;
-      gripper = λ down. absurd (gripper_high down);
+      gripper = gripper-down w.interlock (w.side Crane).progress (w.side Crane).part (i.each Crane);
       plates = ((i.each Feed).0.plates.end, (i.each Deposit).0.plates.end);
     }
 
-    motors : (errand : GripperErrand) → MotorDemands errand w.interlock (plant_of w)
-    motors errand = record {
+    abbrev errand : GripperErrand
+    errand = errand_of (w.side Crane).progress.step
+
+    motors : MotorDemands errand w.interlock (plant_of w)
+    motors = record {
       press = λ on. ((i.each Press).1 on).0;
       table = λ on. let k = (i.each Table).1 on in (k.0, k.1.0);
       feed = λ runs. let at = ((i.each Feed).1 runs).0 in (at, λ full. i.clear.feed at.1 full);
       deposit = λ runs. let at = (i.each Deposit).1 runs in (at.0, at.1.0);
       arm1 = λ on. absurd (on (ap (λ a. a.motor) (i.each Robot).arm1));
       arm2 = λ on. absurd (on (ap (λ a. a.motor) (i.each Robot).arm2));
-      gripper = λ on. absurd (on (ap (λ a. a.motor) (i.each Crane).gripper));
+      gripper = λ on. gripper-driven w.interlock (w.side Crane).progress (w.side Crane).part (i.each Crane);
     }
 
-    all_met : (errand : GripperErrand) → AllDemandsMet errand w.interlock (plant_of w)
-    all_met errand = record {
+    all_met : AllDemandsMet errand w.interlock (plant_of w)
+    all_met = record {
       sound = i.sound;
       clear = i.clear;
       positions = positions;
-      motors = motors errand;
-      travel = λ on. absurd (on (ap (λ a. a.motor) (i.each Crane).travel));
+      motors = motors;
+      travel = travels-high w.interlock (w.side Crane).progress (w.side Crane).part (i.each Crane);
       rotation = record { arm1 = λ on. arm1_in; arm2 = λ on. arm2_in };
     }
 
@@ -131,18 +137,31 @@ module _ (c : CellScales) (scales : AreCellScales c) where
       rotation = standing_within rotation_end _ (pos 300) (ap (λ a. a.position) (i.each Robot).rotation) (omega (arith, ints)) (omega (arith, ints));
       lift = (i.each Table).0.lift_within;
       turn = (i.each Table).0.turn_within;
-      travel = standing_within crane_end _ (pos 0) (ap (λ a. a.position) (i.each Crane).travel) (omega (arith, ints)) (omega (arith, ints));
-      gripper = standing_within gripper_end _ (pos 900) (ap (λ a. a.position) (i.each Crane).gripper) (omega (arith, ints)) (omega (arith, ints));
+      travel = (i.each Crane).travel_within;
+      gripper = (i.each Crane).gripper_within;
     }
 
     pub is_safe : IsSafeState w
-    is_safe = record { clear = nothing_collides ForTravel w.interlock (plant_of w) (all_met ForTravel); within = within; positions = positions; motors = motors }
+    is_safe = record { clear = nothing_collides errand w.interlock (plant_of w) all_met; within = within; positions = positions; motors = motors }
 
-  -- where another machine's turn was taken, no magnet lets go
-  no_plate_falls : (m : Machine) (busy : Bool) (w : CellState) (s : Step) → goes_on w m ≡ true → TakesTurn c m busy w s → ¬ PlateFalls (plant_of w) (plant_of s.set)
-  no_plate_falls m busy w s e k (inl h) = let same = ap (λ x. x.part.magnet1) (k.others_set Robot (takes_alone w m e).0) in cc
-  no_plate_falls m busy w s e k (inr (inl h)) = let same = ap (λ x. x.part.magnet2) (k.others_set Robot (takes_alone w m e).0) in cc
-  no_plate_falls m busy w s e k (inr (inr h)) = let same = ap (λ x. x.part.magnet) (k.others_set Crane (takes_alone w m e).1) in cc
+  abbrev crane_program : Steps CraneProgress CraneSense CraneReading CraneAct
+  crane_program = crane_steps c.gripper (IsReading c.gripper)
+
+  crane_set : (busy : Bool) (w : CellState) (s : Step) → (k : TakesTurn c Crane busy w s) → (s.set.side Crane).part ≡ set_crane (w.side Crane).part (act_or_rest (crane_program.rest (w.side Crane).progress) k.takes.turned.result)
+  crane_set busy w s k = set_unnoted crane_program (crane_rig c.gripper) (λ b x. refl) (w.side Crane) s.asked k.takes.turned (s.set.side Crane) k.takes.is
+
+  -- the crane's magnet lets go only where it may, and in the turns of others it stays as it is
+  crane_lets_go : (m : Machine) (busy : Bool) (w : CellState) (s : Step) → Kept w → TakesTurn c m busy w s → LetsGo (w.side Crane).part.magnet (s.set.side Crane).part.magnet → CraneMayLetGo (s.set.side Crane).part
+  crane_lets_go Crane busy w s i k go =
+      let is = crane_set busy w s k in
+      subst CraneMayLetGo (sym is) (crane-lets-go c.gripper scales.gripper w.interlock (w.side Crane).progress (w.side Crane).part (i.each Crane) k.takes.sense k.takes.shows _ _ (w.side Crane).stopped k.takes.turned k.takes.row
+      (go.0, sym (ap (λ x. x.magnet) is) ∙ go.1))
+  crane_lets_go m busy w s i k go = let same = ap (λ x. x.part.magnet) (k.others_set Crane refl) in absurd (not_let_go _ _ same go)
+
+  no_plate_falls : (m : Machine) (busy : Bool) (w : CellState) (s : Step) → Kept w → goes_on w m ≡ true → TakesTurn c m busy w s → ¬ PlateFalls (plant_of w) (plant_of s.set)
+  no_plate_falls m busy w s i e k (inl h) = let same = ap (λ x. x.part.magnet1) (k.others_set Robot (robot_waits w m e)) in cc
+  no_plate_falls m busy w s i e k (inr (inl h)) = let same = ap (λ x. x.part.magnet2) (k.others_set Robot (robot_waits w m e)) in cc
+  no_plate_falls m busy w s i e k (inr (inr h)) = h.1 (crane_lets_go m busy w s i k h.0)
 
   -- nor is an axis driven on past an end
   not_past : (m : Machine) (busy : Bool) (w : CellState) (s : Step) → Kept w → goes_on w m ≡ true → TakesTurn c m busy w s → ¬ DrivesPastEnd m (plant_of s.set)
@@ -155,7 +174,9 @@ module _ (c : CellScales) (scales : AreCellScales c) where
   not_past Feed busy w s i e k past = past
   not_past Robot busy w s i e k past = cc
   not_past Deposit busy w s i e k past = past
-  not_past Crane busy w s i e k past = cc
+  not_past Crane busy w s i e k past =
+      crane-ends c.gripper scales.gripper w.interlock (w.side Crane).progress (w.side Crane).part (i.each Crane) k.takes.sense k.takes.shows _ _ (w.side Crane).stopped k.takes.turned k.takes.row
+      (subst (λ x. DrivesPastEnd Crane (record (plant_of s.set) { crane = x })) (crane_set busy w s k) past)
   not_past Watch busy w s i e k past = past
 
   not_taken : (b : Bool) → b ≡ false → b ≡ true → ⊥
@@ -165,7 +186,7 @@ module _ (c : CellScales) (scales : AreCellScales c) where
   safely_set true m busy w s e own k i set = record {
     clear = λ taken. record {
       plain = (is_safe s.set set).clear;
-      magnets = no_plate_falls m busy w s e k;
+      magnets = no_plate_falls m busy w s i e k;
       ends = subst (λ x. ¬ DrivesPastEnd x (plant_of s.set)) (sym own) (not_past m busy w s i e k);
     };
     state = is_safe s.set set;

@@ -5,7 +5,9 @@ use Rattle.cell_types.specs.declared.machine.Machine.TheVariants.{Feed, Table, R
 use Rattle.cell_types.specs.Same.{same_machine, one_machine}
 use Rattle.cell_calib.specs.Scale.{Scale}
 use Rattle.cell_calib.specs.Line.{IsReading}
+use Rattle.cell_calib.specs.declared.sense.CraneSense.{CraneSense}
 use Rattle.cell_calib.specs.declared.sense.TableSense.{TableSense}
+use Rattle.cell_devices.specs.declared.act.CraneAct.{CraneAct}
 use Rattle.cell_devices.specs.declared.act.TableAct.{TableAct}
 use Rattle.cell_types.specs.declared.answer.Event.{Event}
 use Rattle.cell_rules.specs.ModelState.{ModelState}
@@ -14,6 +16,9 @@ use Rattle.cell_control.specs.Steps.{Steps}
 use Rattle.cell_control.specs.Rigs.{Rig}
 use Rattle.cell_stations.specs.declared.table_step.TableProgress.{TableProgress}
 use Rattle.cell_control.specs.declared.fault.CtlFault.{CtlFault}
+use Rattle.cell_haul.specs.declared.crane_step.CraneProgress.{CraneProgress}
+use Rattle.cell_haul.specs.CraneProgram.{Senses as CraneSenses, crane_steps}
+use Rattle.cell_haul.proofs.CraneSenses.{senses_near as crane_senses_near}
 use Rattle.cell_haul.specs.DepositProgram.{deposit_steps}
 use Rattle.cell_haul.specs.FeedProgram.{feed_steps}
 use Rattle.cell_stations.specs.PressProgram.{press_steps}
@@ -22,8 +27,8 @@ use Rattle.cell_stations.proofs.TableSenses.{senses_near}
 use Rattle.cell_notes.specs.Asks.{Asked, settled_in}
 use Rattle.cell_notes.specs.Notes.{Notes, notes_with}
 use Rattle.cell_parts.specs.Axes.{CellScales}
-use Rattle.cell_parts.specs.Plant.{TablePlant}
-use Rattle.cell_parts.specs.Rigs.{feed_rig, table_rig, press_rig, deposit_rig}
+use Rattle.cell_parts.specs.Plant.{TablePlant, CranePlant}
+use Rattle.cell_parts.specs.Rigs.{feed_rig, table_rig, press_rig, deposit_rig, crane_rig}
 use Rattle.cell_seat.specs.Sides.{Side, IsReady}
 use Rattle.cell_seat.proofs.Others.{others_ready}
 use Rattle.cell_seat.proofs.Turning.{seat_turn_still}
@@ -185,6 +190,15 @@ deposit_others : (s : Sides) (x : SideOf Deposit) (v : AllNotes) (y : Notes) →
 deposit_others s x v y Deposit apart = cc
 deposit_others s x v y n apart = (refl, refl)
 
+crane_others : (s : Sides) (x : SideOf Crane) (v : AllNotes) (y : Notes) → Others Crane s (record s { crane = x }) v (record v { crane = y })
+crane_others s x v y Crane apart = cc
+crane_others s x v y n apart = (refl, refl)
+
+-- the crane's, likewise
+pub crane_near : (points : Scale) (gives : ℕ → ℤ → Type 0) (rig : Rig CranePlant CraneSense CraneAct) (busy : Bool) (old new : Desk) (before now : Side CraneProgress CranePlant) (notes notes' : Notes)
+    → SeatTurn (crane_steps points gives) rig busy old new before now notes notes' → SeatTurn (crane_steps points (IsReading points)) rig busy old new before now notes notes'
+crane_near points gives rig busy old new before now notes notes' k = seat_turn_still (crane_steps points gives) rig (CraneSenses points (IsReading points)) (crane_senses_near points gives) busy old new before now notes notes' k
+
 module _ (before now : Moment) (busy : Bool) (asked : Asked) (scales : now.scales ≡ before.scales) (opening : now.opening ≡ before.opening) where
   -- a machine's turn, which leads its own side on and leaves the others
   alone_on : (m : Machine) → has_controller m ≡ true
@@ -221,11 +235,18 @@ module _ (before now : Moment) (busy : Bool) (asked : Asked) (scales : now.scale
       → now.sides ≡ record before.sides { deposit = now.sides.deposit } → now.notes ≡ record before.notes { deposit = now.notes.deposit } → StepsOn (record { machine = Deposit; busy = busy }) before now
   deposit_on leads history noted e f = alone_on Deposit refl leads history noted _ _ e f (deposit_others before.sides now.sides.deposit before.notes now.notes.deposit)
 
+  pub crane_on : (points : Scale) → LeadsAlone (is_none before.sides.crane.stopped) (crane_steps points (IsReading points)) (crane_rig before.scales.gripper) busy before.interlock before.sides.crane asked now.interlock now.sides.crane
+      → before.scales.gripper ≡ points → now.history ≡ before.history ++ settled_in Crane asked
+      → now.notes.crane ≡ (if is_none before.sides.crane.stopped then notes_with before.notes.crane asked else before.notes.crane)
+      → now.sides ≡ record before.sides { crane = now.sides.crane } → now.notes ≡ record before.notes { crane = now.notes.crane } → StepsOn (record { machine = Crane; busy = busy }) before now
+  crane_on points leads fits history noted e f =
+      let led = subst (λ (s : Scale). LeadsAlone (is_none before.sides.crane.stopped) (crane_steps s (IsReading s)) (crane_rig before.scales.gripper) busy before.interlock before.sides.crane asked now.interlock now.sides.crane) (sym fits) leads in
+      alone_on Crane refl led history noted _ _ e f (crane_others before.sides now.sides.crane before.notes now.notes.crane)
+
 -- machines without a controller
-pub none_controlled : (m : Machine) → (m ≡ Robot) ⊎ ((m ≡ Crane) ⊎ (m ≡ Watch)) → has_controller m ≡ false
+pub none_controlled : (m : Machine) → (m ≡ Robot) ⊎ (m ≡ Watch) → has_controller m ≡ false
 none_controlled m (inl e) = ap has_controller e
-none_controlled m (inr (inl e)) = ap has_controller e
-none_controlled m (inr (inr e)) = ap has_controller e
+none_controlled m (inr e) = ap has_controller e
 
 -- what holds where a turn was Ok
 pub on_ok : {A E : Type 0} → (r : Result A E) (P Q : Type 0) → OnOk r P → (P → Q) → IfOk r (λ x. Q)
@@ -248,9 +269,12 @@ pub stays_ready : {S Sense Reading Act : Type 0} → (t : Steps S Sense Reading 
     → IsReady t old.opening old.history stopped p → IsReady t new.opening new.history stopped p
 stays_ready t m old new k stopped p apart ready = rw k.opening (others_ready t m old.opening old.history new.history k.asked stopped p apart k.history ready)
 
--- another scale of the table's rotation
+-- another scale of the table's rotation, and of the gripper's height
 abbrev pub with_turn : CellScales → Scale → CellScales
 with_turn c s = record c { turn = s }
+
+abbrev pub with_gripper : CellScales → Scale → CellScales
+with_gripper c s = record c { gripper = s }
 
 -- a simulation before its first turn
 pub first_is : (c : CellScales) (s opening interlock : ModelState) (sides : Sides) (history : List Event) (notes : AllNotes)

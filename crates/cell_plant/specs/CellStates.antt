@@ -3,8 +3,10 @@ use Rattle.std.specs.Prelude.{None}
 use Rattle.cell_types.specs.declared.machine.Machine.{Machine}
 use Rattle.cell_types.specs.declared.machine.Machine.TheVariants.{Feed, Table, Robot, Press, Deposit, Crane, Watch}
 use Rattle.cell_rules.specs.ModelState.{ModelState}
+use Rattle.cell_haul.specs.declared.crane_step.CraneProgress.{CraneProgress}
 use Rattle.cell_haul.specs.declared.deposit_step.DepositProgress.{DepositProgress}
 use Rattle.cell_haul.specs.declared.feed_step.FeedProgress.{FeedProgress}
+use Rattle.cell_haul.specs.CraneProgram.{crane_start}
 use Rattle.cell_haul.specs.DepositProgram.{deposit_start}
 use Rattle.cell_haul.specs.FeedProgram.{feed_start}
 use Rattle.cell_stations.specs.declared.press_step.PressProgress.{PressProgress}
@@ -43,7 +45,7 @@ pub record Sides : Type 0 where
   pub robot : RobotPlant
   pub press : Side PressProgress Axis
   pub deposit : Side DepositProgress Belt
-  pub crane : CranePlant
+  pub crane : Side CraneProgress CranePlant
 
 abbrev pub side_in : Sides → (m : Machine) → SideOf m
 side_in s Feed = s.feed
@@ -51,7 +53,7 @@ side_in s Table = s.table
 side_in s Robot = side_of tt None s.robot
 side_in s Press = s.press
 side_in s Deposit = s.deposit
-side_in s Crane = side_of tt None s.crane
+side_in s Crane = s.crane
 side_in s Watch = side_of tt None tt
 
 -- the cell at the start: each controller at the beginning of its program, and each part where it begins
@@ -63,7 +65,7 @@ sides_at_start s =
       robot = robot_at_start s;
       press = side_of (press_start s) None press_at_start;
       deposit = side_of (deposit_start s) None (deposit_at_start s);
-      crane = crane_at_start s;
+      crane = side_of (crane_start s) None (crane_at_start s);
     }
 
 abbrev pub cell_at_start : ModelState → CellState

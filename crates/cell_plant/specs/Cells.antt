@@ -33,7 +33,7 @@ sides_of cell =
       robot = cell.robot.part.plant;
       press = side_of cell.press.controller.progress cell.press.controller.stopped cell.press.part;
       deposit = side_of cell.deposit.controller.progress cell.deposit.controller.stopped cell.deposit.part.belt;
-      crane = cell.crane.part.plant;
+      crane = side_of cell.crane.controller.progress cell.crane.controller.stopped cell.crane.part.plant;
     }
 
 -- each potentiometer has the points of the calibration by which it is read
@@ -42,7 +42,7 @@ pub record IsFitted {F1 F2 F3 F4 F5 : Type 0} {g1 : Ghosts F1} {g2 : Ghosts F2} 
   pub arm2 : cell.robot.part.scale.arm2 ≡ cell.robot.arm2.points
   pub rotation : cell.robot.part.scale.rotation ≡ cell.robot.rotation.points
   pub turn : cell.table.part.scale ≡ cell.table.controller.program.turn.points
-  pub gripper : cell.crane.part.scale ≡ cell.crane.gripper.points
+  pub gripper : cell.crane.part.scale ≡ cell.crane.controller.program.gripper.points
 
 -- a cell as it is made for a state: each controller is at the beginning of its program, and each part where it begins
 pub record IsMadeFor {F1 F2 F3 F4 F5 : Type 0} {g1 : Ghosts F1} {g2 : Ghosts F2} {g3 : Ghosts F3} {g4 : Ghosts F4} {g5 : Ghosts F5} (s : ModelState) (cell : Cell F1 F2 F3 F4 F5 g1 g2 g3 g4 g5) : Type 0 where

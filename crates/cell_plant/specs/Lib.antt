@@ -2,6 +2,7 @@ pub mod Machines
 pub mod CellStates
 pub mod Runs
 pub mod Records
+pub mod Errands
 pub mod Safety
 pub mod Cells
 pub mod Moments

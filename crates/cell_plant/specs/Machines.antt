@@ -1,12 +1,14 @@
 -- The machines of the cell, looked up by name: what each is given by.
--- The watch has no part, and for now robot and crane have a part and no controller.
+-- The watch has no part, and for now the robot has a part and no controller.
 use Rattle.std.specs.Prelude.{Bool, true, false, None, ⊤}
 use Rattle.cell_types.specs.declared.machine.Machine.{Machine}
 use Rattle.cell_types.specs.declared.machine.Machine.TheVariants.{Feed, Table, Robot, Press, Deposit, Crane, Watch}
+use Rattle.cell_calib.specs.declared.sense.CraneSense.{CraneSense}
 use Rattle.cell_calib.specs.declared.sense.DepositSense.{DepositSense}
 use Rattle.cell_calib.specs.declared.sense.FeedSense.{FeedSense}
 use Rattle.cell_calib.specs.declared.sense.PressSense.{PressSense}
 use Rattle.cell_calib.specs.declared.sense.TableSense.{TableSense}
+use Rattle.cell_devices.specs.declared.act.CraneAct.{CraneAct}
 use Rattle.cell_devices.specs.declared.act.DepositAct.{DepositAct}
 use Rattle.cell_devices.specs.declared.act.FeedAct.{FeedAct}
 use Rattle.cell_devices.specs.declared.act.PressAct.{PressAct}
@@ -14,8 +16,11 @@ use Rattle.cell_devices.specs.declared.act.TableAct.{TableAct}
 use Rattle.cell_calib.specs.Line.{IsReading}
 use Rattle.cell_control.specs.Rigs.{Rig}
 use Rattle.cell_control.specs.Steps.{Steps}
+use Rattle.cell_haul.specs.declared.crane_step.CraneProgress.{CraneProgress}
+use Rattle.cell_haul.specs.declared.crane_step.CraneReading.{CraneReading}
 use Rattle.cell_haul.specs.declared.deposit_step.DepositProgress.{DepositProgress}
 use Rattle.cell_haul.specs.declared.feed_step.FeedProgress.{FeedProgress}
+use Rattle.cell_haul.specs.CraneProgram.{crane_steps}
 use Rattle.cell_haul.specs.DepositProgram.{deposit_steps}
 use Rattle.cell_haul.specs.FeedProgram.{feed_steps}
 use Rattle.cell_stations.specs.declared.press_step.PressProgress.{PressProgress}
@@ -27,7 +32,7 @@ use Rattle.cell_parts.specs.declared.axis.Axis.{Axis}
 use Rattle.cell_parts.specs.declared.belt.Belt.{Belt}
 use Rattle.cell_parts.specs.Axes.{CellScales}
 use Rattle.cell_parts.specs.Plant.{TablePlant, RobotPlant, CranePlant}
-use Rattle.cell_parts.specs.Rigs.{feed_rig, table_rig, press_rig, deposit_rig}
+use Rattle.cell_parts.specs.Rigs.{feed_rig, table_rig, press_rig, deposit_rig, crane_rig}
 
 -- its steps with their notes
 abbrev pub ProgressOf : Machine → Type 0
@@ -35,6 +40,7 @@ ProgressOf Feed = FeedProgress
 ProgressOf Table = TableProgress
 ProgressOf Press = PressProgress
 ProgressOf Deposit = DepositProgress
+ProgressOf Crane = CraneProgress
 ProgressOf _ = Unit {0}
 
 -- what its sensors show, and what they say once checked
@@ -43,6 +49,7 @@ SenseOf Feed = FeedSense
 SenseOf Table = TableSense
 SenseOf Press = PressSense
 SenseOf Deposit = DepositSense
+SenseOf Crane = CraneSense
 SenseOf _ = Unit {0}
 
 abbrev pub ReadingOf : Machine → Type 0
@@ -50,6 +57,7 @@ ReadingOf Feed = FeedSense
 ReadingOf Table = TableReading
 ReadingOf Press = PressSense
 ReadingOf Deposit = DepositSense
+ReadingOf Crane = CraneReading
 ReadingOf _ = Unit {0}
 
 -- what its actuators are told
@@ -58,6 +66,7 @@ ActOf Feed = FeedAct
 ActOf Table = TableAct
 ActOf Press = PressAct
 ActOf Deposit = DepositAct
+ActOf Crane = CraneAct
 ActOf _ = Unit {0}
 
 -- its part of the plant
@@ -95,6 +104,7 @@ has_controller Feed = true
 has_controller Table = true
 has_controller Press = true
 has_controller Deposit = true
+has_controller Crane = true
 has_controller _ = false
 
 -- its program, and how its part behaves, by the scales of the cell: a reading is any that a calibration over its scale may give
@@ -104,7 +114,7 @@ steps_of c Table = table_steps c.turn (IsReading c.turn)
 steps_of c Robot = no_steps Robot
 steps_of c Press = press_steps
 steps_of c Deposit = deposit_steps
-steps_of c Crane = no_steps Crane
+steps_of c Crane = crane_steps c.gripper (IsReading c.gripper)
 steps_of c Watch = no_steps Watch
 
 abbrev pub rig_of : CellScales → (m : Machine) → Rig (PartOf m) (SenseOf m) (ActOf m)
@@ -113,5 +123,5 @@ rig_of c Table = table_rig c.turn
 rig_of c Robot = no_rig
 rig_of c Press = press_rig
 rig_of c Deposit = deposit_rig
-rig_of c Crane = no_rig
+rig_of c Crane = crane_rig c.gripper
 rig_of c Watch = no_rig

@@ -1,23 +1,25 @@
 -- Runs in which nothing collides.
 use Rattle.std.specs.Prelude.{◌≡◌, true, List, [], ◌∷◌}
+use Rattle.cell_types.specs.declared.machine.Machine.TheVariants.{Crane}
 use Rattle.cell_rules.specs.ModelState.{ModelState}
 use Rattle.cell_rules.specs.Start.{IsStartState}
 use Rattle.cell_parts.specs.Axes.{CellScales, AreCellScales}
 use Rattle.cell_parts.specs.Collisions.{NothingCollides, NothingCollidesWhenSet}
 use Rattle.cell_parts.specs.Plant.{StaysWithin}
 use Rattle.cell_parts.specs.PositionDemands.{PositionDemands}
-use Rattle.cell_parts.specs.MotorDemands.{GripperErrand, MotorDemands}
+use Rattle.cell_parts.specs.MotorDemands.{MotorDemands}
 use Rattle.cell_notes.specs.declared.schedule.Turn.{Turn}
 use Rattle.cell_plant.specs.CellStates.{CellState, plant_of, cell_at_start}
 use Rattle.cell_plant.specs.Runs.{Step, IsRun}
+use Rattle.cell_plant.specs.Errands.{errand_of}
 
 -- In a state nothing collides, each axis is within its ends, and the interlock is as the positions and the motors demand, those
--- too that were left on by an earlier turn. For now the crane rests, so its motor demands nothing, whatever its errand.
+-- too that were left on by an earlier turn; what the gripper is driven for, the crane's step says.
 pub record IsSafeState (w : CellState) : Type 0 where
   pub clear : NothingCollides (plant_of w)
   pub within : StaysWithin (plant_of w)
   pub positions : PositionDemands w.interlock (plant_of w)
-  pub motors : (errand : GripperErrand) → MotorDemands errand w.interlock (plant_of w)
+  pub motors : MotorDemands (errand_of (w.side Crane).progress.step) w.interlock (plant_of w)
 
 -- the same once the motors of a turn are set
 pub record IsSafelySet (w : CellState) (s : Step) : Type 0 where

@@ -5,7 +5,7 @@ ghost use Rattle.cell_plant.specs.Cells.{IsMadeFor, scales_of};
 
 use cell_calib::{Calibration, Gauge};
 use cell_control::Controller;
-use cell_haul::{DepositProgram, FeedProgram};
+use cell_haul::{CraneProgram, DepositProgram, FeedProgram};
 use cell_parts::{CranePart, DepositPart, FeedPart, PressPart, RobotPart, RobotPoints, TablePart};
 use cell_rules::State;
 use cell_seat::Seat;
@@ -36,14 +36,8 @@ pub type PressSeat = Seat<PressProgram, PressPart>;
 /// The deposit belt.
 pub type DepositSeat = Seat<DepositProgram, DepositPart>;
 
-/// The crane, with the calibration of its gripper's height. It has no controller yet.
-#[derive(Drop)]
-pub struct CraneSeat<F: Gauge> {
-    /// Of the gripper's height.
-    pub gripper: Calibration<F>,
-    /// What it moves, and what its sensors show.
-    pub part: CranePart,
-}
+/// The crane.
+pub type CraneSeat<F> = Seat<CraneProgram<F>, CranePart>;
 
 /// The six machines of the cell, each with its controller and its part.
 #[derive(Drop)]
@@ -79,7 +73,7 @@ impl<F1: Gauge, F2: Gauge, F3: Gauge, F4: Gauge, F5: Gauge> Cell<F1, F2, F3, F4,
         ensures arm2 { result.robot.arm2 ≡ arm2 }
         ensures rotation { result.robot.rotation ≡ rotation }
         ensures turn { result.table.controller.program.turn ≡ turn }
-        ensures gripper { result.crane.gripper ≡ gripper }
+        ensures gripper { result.crane.controller.program.gripper ≡ gripper }
     {
         let table = TablePart::start(turn.points());
         let crane = CranePart::start(state, gripper.points());
@@ -111,8 +105,8 @@ impl<F1: Gauge, F2: Gauge, F3: Gauge, F4: Gauge, F5: Gauge> Cell<F1, F2, F3, F4,
                 controller: Controller::new(state, DepositProgram),
                 part: DepositPart::start(state),
             },
-            crane: CraneSeat {
-                gripper,
+            crane: Seat {
+                controller: Controller::new(state, CraneProgram::new(gripper)),
                 part: crane,
             },
         }

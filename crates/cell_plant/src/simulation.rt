@@ -26,8 +26,8 @@ use std::marker::Model;
 /// that machine's controller, and then a tick of its part; the other parts stand still.
 ///
 /// A turn whose `busy` is set finds the bench busy. A turn of a machine that has stopped, of the
-/// watch, and for now of robot and crane does nothing and isn't counted. A machine for whose call the
-/// bench had no room stops with `Status::Memory`, and the run goes on.
+/// watch, and for now of the robot does nothing and isn't counted. A machine for whose call the bench
+/// had no room stops with `Status::Memory`, and the run goes on.
 /// `Memory` where the room for an entry of a journal was refused, which is made before a turn.
 pub fn simulate<F1: Gauge, F2: Gauge, F3: Gauge, F4: Gauge, F5: Gauge>(
     alloc: Global,
@@ -68,7 +68,7 @@ impl<F1: Gauge, F2: Gauge, F3: Gauge, F4: Gauge, F5: Gauge> Model
 
     ghost view = { λ s. moment_of s };
 
-    ghost invariant = { λ s. AreReady F4.gives s };
+    ghost invariant = { λ s. AreReady (record { turn = F4.gives; gripper = F5.gives }) s };
 }
 
 impl<F1: Gauge, F2: Gauge, F3: Gauge, F4: Gauge, F5: Gauge> Simulation<F1, F2, F3, F4, F5> {
@@ -128,7 +128,16 @@ impl<F1: Gauge, F2: Gauge, F3: Gauge, F4: Gauge, F5: Gauge> Simulation<F1, F2, F
                     turn.busy,
                 )
             }
-            Machine::Robot | Machine::Crane | Machine::Watch => Ok(()),
+            Machine::Crane => {
+                seat_turn(
+                    bench,
+                    &mut notebooks.crane,
+                    &mut self.cell.crane,
+                    turn.machine,
+                    turn.busy,
+                )
+            }
+            Machine::Robot | Machine::Watch => Ok(()),
         }
     }
 
@@ -160,7 +169,7 @@ impl<F1: Gauge, F2: Gauge, F3: Gauge, F4: Gauge, F5: Gauge> Simulation<F1, F2, F
             idle,
             status_of(self.cell.press.controller.stopped()),
             status_of(self.cell.deposit.controller.stopped()),
-            idle,
+            status_of(self.cell.crane.controller.stopped()),
             idle,
         ]
     }

@@ -42,6 +42,20 @@ const ROWS: &[Row] = &[
         stamp: 11,
         axes: &[],
     },
+    // the crane brings its plate to the feed belt, and goes up again
+    Row {
+        start: b"0000000001",
+        schedule: &[
+            (Machine::Feed, 3),
+            (Machine::Crane, 160),
+            (Machine::Feed, 1),
+        ],
+        did: &[(0, [4, 4, 0, 0]), (5, [160, 2, 0, 0])],
+        zones: &[(Zone::Z6, Some(Machine::Feed), false, Posture::OpenIn)],
+        places: b"1000000000",
+        stamp: 6,
+        axes: &[(6, 2000), (7, 860)],
+    },
 ];
 
 // Which places have a plate, by their digits.

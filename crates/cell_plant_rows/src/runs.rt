@@ -139,7 +139,7 @@ fn a_machine_that_is_worn_stops(rt: HostRuntime) -> Result<(), Fail> {
 #[test]
 fn turns_of_other_machines_do_nothing(rt: HostRuntime) -> Result<(), Fail> {
     let mut turns = Vec::new(rt.alloc());
-    for machine in [Machine::Robot, Machine::Crane, Machine::Watch] {
+    for machine in [Machine::Robot, Machine::Watch] {
         turns.push(Turn {
             machine,
             busy: false,

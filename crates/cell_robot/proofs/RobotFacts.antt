@@ -66,7 +66,7 @@ by_notes first false true z = tt
 by_notes true false false z = tt
 by_notes false false false z = tt
 
-at_choice : (notes : RobotNotes) (z : ModelState) → AreSo Robot z (facts_at (choice notes))
+pub at_choice : (notes : RobotNotes) (z : ModelState) → AreSo Robot z (facts_at (choice notes))
 at_choice notes z = by_notes notes.arm1 notes.arm2 notes.fed z
 
 -- through a drive, or a magnet's switch

@@ -1,0 +1,515 @@
+-- What the crane keeps of its side, in every state of a run.
+use Rattle.std.proofs.Common.{◌≡◌, ℤ, pos, ◌+ℤ◌, ◌-ℤ◌, ◌<ℤ◌, ◌≤ℤ◌, Bool, true, false, not, ◌&&◌, ◌||◌, ◌⊎◌, inl, inr, Option, Some, None, Result, Ok, refl, sym, ap, ◌∙◌, if◌then◌else◌, arith}
+use Rattle.std.specs.Prelude.{⊤}
+use Rattle.std.proofs.lemmas.Int.{ints, clamps}
+use Rattle.cell_types.specs.declared.machine.Machine.{Machine}
+use Rattle.cell_types.specs.declared.machine.Machine.TheVariants.{Crane}
+use Rattle.cell_types.specs.declared.call.Call.{Call}
+use Rattle.cell_types.specs.declared.place.Place.TheVariants.{Crane as OnCrane}
+use Rattle.cell_types.specs.declared.reply.Reply.{Reply}
+use Rattle.cell_calib.specs.Scale.{Scale}
+use Rattle.cell_calib.specs.Line.{IsNear, IsReading}
+use Rattle.cell_calib.specs.declared.sense.CraneSense.{CraneSense}
+use Rattle.cell_devices.specs.declared.motor.Motor.{Motor}
+use Rattle.cell_devices.specs.declared.motor.Motor.TheVariants.{Off, Plus, Minus}
+use Rattle.cell_devices.specs.declared.act.CraneAct.{CraneAct}
+use Rattle.cell_devices.specs.Drives.{DrivesTo}
+use Rattle.cell_devices.specs.Limits.{travel_from}
+use Rattle.cell_rules.specs.declared.heard.LineFault.{LineFault}
+use Rattle.cell_rules.specs.ModelState.{ModelState, is_full}
+use Rattle.cell_rules.specs.Reply.{changed}
+use Rattle.cell_control.specs.declared.fault.CtlFault.{CtlFault}
+use Rattle.cell_control.specs.Turns.{Turned, Turns}
+use Rattle.cell_control.proofs.Facts.{AreSo}
+use Rattle.cell_haul.specs.declared.crane_step.CraneStep.{CraneStep}
+use Rattle.cell_haul.specs.declared.crane_step.CraneStep.TheVariants.{RaiseToFetch, TravelToDeposit, AwaitPlate, LowerToPlate, GripPlate, RaiseWithPlate, TakePlate, ReleaseDeposit, TravelToFeed, ClaimFeed, LowerToFeed, DropPlate, RaiseFromFeed, GivePlate}
+use Rattle.cell_haul.specs.declared.crane_step.CraneProgress.{CraneProgress}
+use Rattle.cell_haul.specs.declared.crane_step.CraneReading.{CraneReading}
+use Rattle.cell_haul.specs.CraneProgram.{call_of, step_after, step_after_inquiry, magnet_by, after_done, first_step, crane_start, is_off, is_done, travels, travel_for, gripper_stop, Senses, Acts, crane_steps}
+use Rattle.cell_haul.proofs.CraneFacts.{facts_at, CraneKnows, crane_begins, crane-knowing}
+use Rattle.cell_seat.specs.Sides.{act_or_rest}
+use Rattle.cell_seat.proofs.Keeping.{Keeping, turn_tells}
+use Rattle.cell_parts.specs.declared.axis.Axis.{Axis}
+use Rattle.cell_parts.specs.Axes.{IsAxisScale, IsWithin, crane_end, gripper_end, gripper_start}
+use Rattle.cell_parts.specs.Plant.{CranePlant, crane_at_start, moved_to, moved_axis, set_axis, set_crane}
+use Rattle.cell_parts.specs.Rigs.{crane_rig}
+use Rattle.cell_parts.specs.Shows.{CraneShows}
+use Rattle.cell_parts.specs.Collisions.{IsOn, IsGripperDown, IsOverDeposit, IsOverFeed, over_deposit_to, over_feed_from, LetsGo, CraneMayLetGo, DrivesPast}
+use Rattle.cell_parts.specs.MotorDemands.{ErrandDemands, TravelsHigh}
+use Rattle.cell_parts.specs.PositionDemands.{CraneHasDeposit, CraneHasFeed}
+use Rattle.cell_plant.specs.Errands.{errand_of}
+use Rattle.cell_plant.proofs.Stops.{reading_near, StopsWithin, off_within, driven_within}
+use Rattle.cell_plant.proofs.WithinLemmas.{between, moved_within}
+
+-- how high the gripper is at a step: high enough to travel, close above the feed belt, or anywhere
+pub data Level : Type 0 where
+  Up : Level
+  Close : Level
+  Any : Level
+
+abbrev level_of : CraneStep → Level
+level_of RaiseToFetch = Up
+level_of TravelToDeposit = Up
+level_of AwaitPlate = Up
+level_of LowerToPlate = Any
+level_of GripPlate = Any
+level_of RaiseWithPlate = Any
+level_of TakePlate = Up
+level_of ReleaseDeposit = Up
+level_of TravelToFeed = Up
+level_of ClaimFeed = Up
+level_of LowerToFeed = Any
+level_of DropPlate = Close
+level_of RaiseFromFeed = Any
+level_of GivePlate = Up
+
+abbrev IsAt : Level → ℤ → Type 0
+IsAt Up h = pos 850 ≤ℤ h
+IsAt Close h = (pos 250 ≤ℤ h) × (h ≤ℤ pos 350)
+IsAt Any h = ⊤
+
+-- once its motor is told where to go, it comes to stay there
+abbrev IsToldAt : Level → Axis → Type 0
+IsToldAt Up g = (pos 850 ≤ℤ g.position) × (g.motor ≡ Minus → pos 900 <ℤ g.position)
+IsToldAt Close g = ((pos 250 ≤ℤ g.position) × (g.position ≤ℤ pos 350)) × (g.motor ≡ Off)
+IsToldAt Any g = ⊤
+
+level_off : (l : Level) (g : Axis) → g.motor ≡ Off → IsAt l g.position → IsToldAt l g
+level_off Up g e k = (k, λ m. cc)
+level_off Close g e k = (k, e)
+level_off Any g e k = tt
+
+level_told : (l : Level) (g : Axis) → IsToldAt l g → IsAt l g.position
+level_told Up g k = k.0
+level_told Close g k = k.0
+level_told Any g k = tt
+
+up_moved : (m : Motor) (h : ℤ) → pos 850 ≤ℤ h → (m ≡ Minus → pos 900 <ℤ h) → pos 850 ≤ℤ moved_to gripper_end h m
+up_moved Off h a b = a
+up_moved Plus h a b = omega (arith, ints, clamps)
+up_moved Minus h a b = let over = b refl in omega (arith, ints, clamps)
+
+level_moved : (l : Level) (g : Axis) → IsToldAt l g → IsAt l (moved_axis gripper_end g).position
+level_moved Up g k = up_moved g.motor g.position k.0 k.1
+level_moved Close g k = rw k.1 k.0
+level_moved Any g k = tt
+
+-- where the crane is at a step
+pub data Stand : Type 0 where
+  OverDeposit : Stand
+  OverFeed : Stand
+  Anywhere : Stand
+
+abbrev stand_of : CraneStep → Stand
+stand_of RaiseToFetch = Anywhere
+stand_of TravelToDeposit = Anywhere
+stand_of AwaitPlate = OverDeposit
+stand_of LowerToPlate = OverDeposit
+stand_of GripPlate = OverDeposit
+stand_of RaiseWithPlate = OverDeposit
+stand_of TakePlate = Anywhere
+stand_of ReleaseDeposit = Anywhere
+stand_of TravelToFeed = Anywhere
+stand_of ClaimFeed = OverFeed
+stand_of LowerToFeed = OverFeed
+stand_of DropPlate = OverFeed
+stand_of RaiseFromFeed = OverFeed
+stand_of GivePlate = Anywhere
+
+abbrev IsOver : Stand → ℤ → Type 0
+IsOver OverDeposit x = x ≤ℤ pos 10
+IsOver OverFeed x = pos 1990 ≤ℤ x
+IsOver Anywhere x = ⊤
+
+abbrev IsToldOver : Stand → Axis → Type 0
+IsToldOver OverDeposit a = (a.position ≤ℤ pos 10) × (a.motor ≡ Off)
+IsToldOver OverFeed a = (pos 1990 ≤ℤ a.position) × (a.motor ≡ Off)
+IsToldOver Anywhere a = ⊤
+
+stand_off : (p : Stand) (a : Axis) → a.motor ≡ Off → IsOver p a.position → IsToldOver p a
+stand_off OverDeposit a e k = (k, e)
+stand_off OverFeed a e k = (k, e)
+stand_off Anywhere a e k = tt
+
+stand_told : (p : Stand) (a : Axis) → IsToldOver p a → IsOver p a.position
+stand_told OverDeposit a k = k.0
+stand_told OverFeed a k = k.0
+stand_told Anywhere a k = tt
+
+stand_moved : (p : Stand) (a : Axis) → IsToldOver p a → IsOver p (moved_axis crane_end a).position
+stand_moved OverDeposit a k = rw k.1 k.0
+stand_moved OverFeed a k = rw k.1 k.0
+stand_moved Anywhere a k = tt
+
+-- what its step knows of the interlock; its magnet is as it was told last, gripper and crane are where the step has them, and it travels only in steps that travel
+pub record CraneHas (Height : Level → Axis → Type 0) (Place : Stand → Axis → Type 0) (z : ModelState) (p : CraneProgress) (c : CranePlant) : Type 0 where
+  pub knows : CraneKnows p z
+  pub magnet : c.magnet ≡ p.magnet
+  pub gripper_within : IsWithin gripper_end c.gripper.position
+  pub travel_within : IsWithin crane_end c.travel.position
+  pub level : Height (level_of p.step) c.gripper
+  pub stand : Place (stand_of p.step) c.travel
+  pub travelling : IsOn c.travel → travels p.step ≡ true
+
+-- between turns, and once its motors are told where to go
+abbrev pub CraneInv : ModelState → CraneProgress → CranePlant → Type 0
+CraneInv = CraneHas (λ l g. IsAt l g.position) (λ s a. IsOver s a.position)
+
+abbrev pub CraneTold : ModelState → CraneProgress → CranePlant → Type 0
+CraneTold = CraneHas IsToldAt IsToldOver
+
+-- at the start
+first_level : (loaded : Bool) → IsAt (level_of (first_step loaded)) gripper_start
+first_level true = omega (arith, ints)
+first_level false = omega (arith, ints)
+
+first_stand : (loaded : Bool) (x : ℤ) → IsOver (stand_of (first_step loaded)) x
+first_stand true x = tt
+first_stand false x = tt
+
+pub crane-start : (s : ModelState) → CraneInv s (crane_start s) (crane_at_start s)
+crane-start s = record {
+  knows = crane_begins s;
+  magnet = refl;
+  gripper_within = between gripper_end gripper_start (omega (arith, ints)) (omega (arith, ints));
+  travel_within = between crane_end (pos 0) (omega (arith, ints)) (omega (arith, ints));
+  level = first_level (is_full s OnCrane);
+  stand = first_stand (is_full s OnCrane) (pos 0);
+  travelling = λ on. absurd (on refl);
+}
+
+-- a step that asks leaves it where it is
+asks_level : (s : CraneStep) (c : Call) (h : ℤ) → call_of s ≡ Some c → IsAt (level_of s) h → IsAt (level_of (step_after s)) h
+asks_level AwaitPlate c h e k = k
+asks_level TakePlate c h e k = k
+asks_level ReleaseDeposit c h e k = k
+asks_level ClaimFeed c h e k = tt
+asks_level GivePlate c h e k = k
+asks_level s c h e k = cc
+
+asks_stand : (s : CraneStep) (c : Call) (x : ℤ) → call_of s ≡ Some c → IsOver (stand_of s) x → IsOver (stand_of (step_after s)) x
+asks_stand AwaitPlate c x e k = k
+asks_stand TakePlate c x e k = tt
+asks_stand ReleaseDeposit c x e k = tt
+asks_stand ClaimFeed c x e k = k
+asks_stand GivePlate c x e k = tt
+asks_stand s c x e k = cc
+
+asks_magnet : (s : CraneStep) (c : Call) (m : Bool) → call_of s ≡ Some c → m ≡ magnet_by s m
+asks_magnet AwaitPlate c m e = refl
+asks_magnet TakePlate c m e = refl
+asks_magnet ReleaseDeposit c m e = refl
+asks_magnet ClaimFeed c m e = refl
+asks_magnet GivePlate c m e = refl
+asks_magnet s c m e = cc
+
+awaits_level : (o : Option Machine) (f : Bool) (h : ℤ) → pos 850 ≤ℤ h → IsAt (level_of (step_after_inquiry AwaitPlate o f)) h
+awaits_level (Some Crane) true h k = tt
+awaits_level o f h k = k
+
+awaits_stand : (o : Option Machine) (f : Bool) (x : ℤ) → x ≤ℤ pos 10 → IsOver (stand_of (step_after_inquiry AwaitPlate o f)) x
+awaits_stand (Some Crane) true x k = k
+awaits_stand o f x k = k
+
+shows_level : (s : CraneStep) (o : Option Machine) (f : Bool) (h : ℤ) → IsAt (level_of s) h → IsAt (level_of (step_after_inquiry s o f)) h
+shows_level AwaitPlate o f h k = awaits_level o f h k
+shows_level s o f h k = k
+
+shows_stand : (s : CraneStep) (o : Option Machine) (f : Bool) (x : ℤ) → IsOver (stand_of s) x → IsOver (stand_of (step_after_inquiry s o f)) x
+shows_stand AwaitPlate o f x k = awaits_stand o f x k
+shows_stand s o f x k = k
+
+-- a drive of the gripper
+raised : (h read tol : ℤ) → IsNear read h tol → IsNear read (pos 900) (pos 50 -ℤ tol) → pos 850 ≤ℤ h
+raised h read tol a b = omega (arith, ints)
+
+lowered : (h read tol : ℤ) → IsNear read h tol → IsNear read (pos 300) (pos 50 -ℤ tol) → (pos 250 ≤ℤ h) × (h ≤ℤ pos 350)
+lowered h read tol a b = (omega (arith, ints), omega (arith, ints))
+
+over : (h read tol : ℤ) → tol ≤ℤ pos 10 → IsNear read h tol → (pos 900 +ℤ (pos 50 -ℤ tol)) <ℤ read → pos 900 <ℤ h
+over h read tol a b c = omega (arith, ints)
+
+done_level : (s : CraneStep) (h read tol : ℤ) (m : Motor) → call_of s ≡ None → IsNear read h tol → DrivesTo (gripper_stop s) tol read m → m ≡ Off → IsAt (level_of s) h → IsAt (level_of (step_after s)) h
+done_level RaiseToFetch h read tol m e near drives off k = k
+done_level TravelToDeposit h read tol m e near drives off k = k
+done_level LowerToPlate h read tol m e near drives off k = tt
+done_level GripPlate h read tol m e near drives off k = tt
+done_level RaiseWithPlate h read tol m e near drives off k = raised h read tol near (drives.off.0 off)
+done_level TravelToFeed h read tol m e near drives off k = k
+done_level LowerToFeed h read tol m e near drives off k = lowered h read tol near (drives.off.0 off)
+done_level DropPlate h read tol m e near drives off k = tt
+done_level RaiseFromFeed h read tol m e near drives off k = raised h read tol near (drives.off.0 off)
+done_level s h read tol m e near drives off k = cc
+
+stays_level : (s : CraneStep) (g : Axis) (read tol : ℤ) (m : Motor) → call_of s ≡ None → tol ≤ℤ pos 10 → IsNear read g.position tol → DrivesTo (gripper_stop s) tol read m → IsAt (level_of s) g.position → IsToldAt (level_of s) (set_axis g m)
+stays_level RaiseToFetch g read tol m e small near drives k = (k, λ minus. over g.position read tol small near (drives.minus.0 minus))
+stays_level TravelToDeposit g read tol m e small near drives k = level_off Up (set_axis g m) drives k
+stays_level TravelToFeed g read tol m e small near drives k = level_off Up (set_axis g m) drives k
+stays_level DropPlate g read tol m e small near drives k = level_off Close (set_axis g m) drives k
+stays_level LowerToPlate g read tol m e small near drives k = tt
+stays_level GripPlate g read tol m e small near drives k = tt
+stays_level RaiseWithPlate g read tol m e small near drives k = tt
+stays_level LowerToFeed g read tol m e small near drives k = tt
+stays_level RaiseFromFeed g read tol m e small near drives k = tt
+stays_level s g read tol m e small near drives k = cc
+
+-- a drive of the travel
+at_switch : (high at : Bool) (on : Motor) → high ≡ true → (if high then (if at then Off else on) else Off) ≡ Off → (on ≡ Off → ⊥) → at ≡ true
+at_switch true true on e f g = refl
+at_switch true false on e f g = absurd (g f)
+at_switch false at on e f g = cc
+
+done_stand : (s : CraneStep) (x : ℤ) (high : Bool) (sense : CraneSense) (m : Motor) → call_of s ≡ None → m ≡ travel_for s high sense → m ≡ Off → (travels s ≡ true → high ≡ true)
+    → (sense.deposit ≡ true → x ≤ℤ pos 10) → (sense.feed ≡ true → pos 1990 ≤ℤ x) → IsOver (stand_of s) x → IsOver (stand_of (step_after s)) x
+done_stand RaiseToFetch x high sense m e drives off h d f k = tt
+done_stand TravelToDeposit x high sense m e drives off h d f k = d (at_switch high sense.deposit Minus (h refl) (sym drives ∙ off) (λ q. cc))
+done_stand LowerToPlate x high sense m e drives off h d f k = k
+done_stand GripPlate x high sense m e drives off h d f k = k
+done_stand RaiseWithPlate x high sense m e drives off h d f k = tt
+done_stand TravelToFeed x high sense m e drives off h d f k = f (at_switch high sense.feed Plus (h refl) (sym drives ∙ off) (λ q. cc))
+done_stand LowerToFeed x high sense m e drives off h d f k = k
+done_stand DropPlate x high sense m e drives off h d f k = k
+done_stand RaiseFromFeed x high sense m e drives off h d f k = tt
+done_stand s x high sense m e drives off h d f k = cc
+
+stays_stand : (s : CraneStep) (a : Axis) (high : Bool) (sense : CraneSense) (m : Motor) → call_of s ≡ None → m ≡ travel_for s high sense → IsOver (stand_of s) a.position → IsToldOver (stand_of s) (set_axis a m)
+stays_stand RaiseToFetch a high sense m e drives k = tt
+stays_stand TravelToDeposit a high sense m e drives k = tt
+stays_stand TravelToFeed a high sense m e drives k = tt
+stays_stand LowerToPlate a high sense m e drives k = (k, drives)
+stays_stand GripPlate a high sense m e drives k = (k, drives)
+stays_stand RaiseWithPlate a high sense m e drives k = (k, drives)
+stays_stand LowerToFeed a high sense m e drives k = (k, drives)
+stays_stand DropPlate a high sense m e drives k = (k, drives)
+stays_stand RaiseFromFeed a high sense m e drives k = (k, drives)
+stays_stand s a high sense m e drives k = cc
+
+-- a magnet's switch is done in its turn
+both_off : (a b : Motor) → (is_off a && is_off b) ≡ true → (a ≡ Off) × (b ≡ Off)
+both_off Off Off e = (refl, refl)
+both_off a b e = cc
+
+not_both : (a b : Motor) → a ≡ Off → b ≡ Off → (is_off a && is_off b) ≡ false → ⊥
+not_both Off Off e f g = cc
+not_both a b e f g = cc
+
+stays_magnet : (s : CraneStep) (high : Bool) (sense : CraneSense) (tol read : ℤ) (act : CraneAct) (m : Bool) → call_of s ≡ None → act.travel ≡ travel_for s high sense → DrivesTo (gripper_stop s) tol read act.height → is_done s high act ≡ false → magnet_by s m ≡ m
+stays_magnet GripPlate high sense tol read act m e travel height stays = absurd (not_both act.travel act.height travel height stays)
+stays_magnet DropPlate high sense tol read act m e travel height stays = absurd (not_both act.travel act.height travel height stays)
+stays_magnet s high sense tol read act m e travel height stays = refl
+
+-- what a step that is done says of its motors
+done_when : (t high : Bool) (a b : Motor) → ((not t || high) && (is_off a && is_off b)) ≡ true → ((t ≡ true → high ≡ true) × ((a ≡ Off) × (b ≡ Off)))
+done_when true true a b e = (λ q. refl, both_off a b e)
+done_when true false a b e = cc
+done_when false high a b e = (λ q. cc, both_off a b e)
+
+gripper_near : (points : Scale) (c : CranePlant) (s : CraneSense) (r : CraneReading) → IsAxisScale gripper_end points → IsWithin gripper_end c.gripper.position → CraneShows points c s → Senses points (IsReading points) s (Ok r) → IsNear r.gripper c.gripper.position points.tol
+gripper_near points c s r k within shows senses = reading_near gripper_end points c.gripper.position s.gripper r.gripper k within shows.raw senses.near
+
+-- only a step that travels tells the crane to
+told_travels : (s : CraneStep) (high : Bool) (sense : CraneSense) (m : Motor) → m ≡ travel_for s high sense → (m ≡ Off → ⊥) → travels s ≡ true
+told_travels TravelToDeposit high sense m e on = refl
+told_travels TravelToFeed high sense m e on = refl
+told_travels s high sense m e on = absurd (on e)
+
+-- with its motors off it stays where it is
+at_rest : (y : ModelState) (p q : CraneProgress) (c : CranePlant) → {z : ModelState} → CraneInv z p c → CraneKnows q y → p.magnet ≡ q.magnet → IsAt (level_of q.step) c.gripper.position → IsOver (stand_of q.step) c.travel.position
+    → CraneTold y q (set_crane c (record { travel = Off; height = Off; magnet = p.magnet }))
+at_rest y p q c i knows magnet level stand = record {
+  knows = knows;
+  magnet = magnet;
+  gripper_within = i.gripper_within;
+  travel_within = i.travel_within;
+  level = level_off (level_of q.step) (set_axis c.gripper Off) refl level;
+  stand = stand_off (stand_of q.step) (set_axis c.travel Off) refl stand;
+  travelling = λ on. absurd (on refl);
+}
+
+module _ (points : Scale) (axis : IsAxisScale gripper_end points) where
+  drive : (b : Bool) (z : ModelState) (p : CraneProgress) (c : CranePlant) (s : CraneSense) (r : CraneReading) (act : CraneAct) → is_done p.step r.high act ≡ b → call_of p.step ≡ None → CraneShows points c s → Senses points (IsReading points) s (Ok r) → Acts points p r act → CraneInv z p c
+      → CraneKnows (if b then after_done p else p) z → CraneTold z (if b then after_done p else p) (set_crane c act)
+  drive true z p c s r act b e shows senses acts i knows =
+      let off = done_when (travels p.step) r.high act.travel act.height b in
+      let near = gripper_near points c s r axis i.gripper_within shows senses in
+      record {
+        knows = knows;
+        magnet = acts.magnet;
+        gripper_within = i.gripper_within;
+        travel_within = i.travel_within;
+        level = level_off (level_of (step_after p.step)) (set_axis c.gripper act.height) off.1.1 (done_level p.step c.gripper.position r.gripper points.tol act.height e near acts.height off.1.1 i.level);
+        stand = stand_off (stand_of (step_after p.step)) (set_axis c.travel act.travel) off.1.0
+            (done_stand p.step c.travel.position r.high s act.travel e (acts.travel ∙ ap (λ x. travel_for p.step r.high x) senses.switches) off.1.0 off.0 (λ d. shows.deposit.0 d) (λ f. shows.feed.0 f) i.stand);
+        travelling = λ on. absurd (on off.1.0);
+      }
+  drive false z p c s r act b e shows senses acts i knows =
+      record {
+        knows = knows;
+        magnet = acts.magnet ∙ stays_magnet p.step r.high r.sense points.tol r.gripper act p.magnet e acts.travel acts.height b;
+        gripper_within = i.gripper_within;
+        travel_within = i.travel_within;
+        level = stays_level p.step c.gripper r.gripper points.tol act.height e axis.scale.coarsest (gripper_near points c s r axis i.gripper_within shows senses) acts.height i.level;
+        stand = stays_stand p.step c.travel r.high r.sense act.travel e acts.travel i.stand;
+        travelling = told_travels p.step r.high r.sense act.travel acts.travel;
+      }
+
+  pub crane-keeping : Keeping (crane_steps points (IsReading points)) (crane_rig points) CraneInv CraneTold
+  crane-keeping = record {
+    foreign = λ z p b n c apart sound i. record {
+      knows = (crane-knowing points (IsReading points)).foreign p z n c apart sound i.knows;
+      magnet = i.magnet;
+      gripper_within = i.gripper_within;
+      travel_within = i.travel_within;
+      level = i.level;
+      stand = i.stand;
+      travelling = i.travelling;
+    };
+    rests = λ z p b i. at_rest z p p b i i.knows refl i.level i.stand;
+    after_done = λ z p b c e d sound i.
+        at_rest (changed z Crane c) p (after_done p) b i ((crane-knowing points (IsReading points)).after_done p z c e d sound i.knows) (asks_magnet p.step c p.magnet e) (asks_level p.step c b.gripper.position e i.level) (asks_stand p.step c b.travel.position e i.stand);
+    after_inquiry = λ z p b c o f q e d sound i.
+        at_rest z p (record p { step = step_after_inquiry p.step o f }) b i ((crane-knowing points (IsReading points)).after_inquiry p z c o f q e d sound i.knows) refl (shows_level p.step o f b.gripper.position i.level) (shows_stand p.step o f b.travel.position i.stand);
+    after_drive = λ z p b s r act e shows senses acts i. drive (is_done p.step r.high act) z p b s r act refl e shows senses acts i ((crane-knowing points (IsReading points)).after_drive p r act z e acts i.knows);
+    told = λ z p b i. record {
+      knows = i.knows;
+      magnet = i.magnet;
+      gripper_within = i.gripper_within;
+      travel_within = i.travel_within;
+      level = level_told (level_of p.step) b.gripper i.level;
+      stand = stand_told (stand_of p.step) b.travel i.stand;
+      travelling = i.travelling;
+    };
+    moves = λ z p b i. record {
+      knows = i.knows;
+      magnet = i.magnet;
+      gripper_within = moved_within gripper_end b.gripper (omega (arith, ints)) i.gripper_within;
+      travel_within = moved_within crane_end b.travel (omega (arith, ints)) i.travel_within;
+      level = level_moved (level_of p.step) b.gripper i.level;
+      stand = stand_moved (stand_of p.step) b.travel i.stand;
+      travelling = i.travelling;
+    };
+  }
+
+-- where its gripper may be down, and what it is driven for at each step
+low : (h : ℤ) → h <ℤ travel_from → pos 850 ≤ℤ h → ⊥
+low h a b = absurd (omega (arith, ints))
+
+over_deposit : (x : ℤ) → x ≤ℤ pos 10 → x ≤ℤ over_deposit_to
+over_deposit x a = omega (arith, ints)
+
+over_feed : (x : ℤ) → pos 1990 ≤ℤ x → over_feed_from ≤ℤ x
+over_feed x a = omega (arith, ints)
+
+down_at : (s : CraneStep) (z : ModelState) (c : CranePlant) → AreSo Crane z (facts_at s) → IsAt (level_of s) c.gripper.position → IsOver (stand_of s) c.travel.position → IsGripperDown c
+    → (IsOverDeposit c × CraneHasDeposit z) ⊎ (IsOverFeed c × CraneHasFeed z)
+down_at LowerToPlate z c k level stand down = inl (over_deposit c.travel.position stand, k.0)
+down_at GripPlate z c k level stand down = inl (over_deposit c.travel.position stand, k.0)
+down_at RaiseWithPlate z c k level stand down = inl (over_deposit c.travel.position stand, k.0)
+down_at LowerToFeed z c k level stand down = inr (over_feed c.travel.position stand, k.0)
+down_at DropPlate z c k level stand down = inr (over_feed c.travel.position stand, k.0)
+down_at RaiseFromFeed z c k level stand down = inr (over_feed c.travel.position stand, k.0)
+down_at s z c k level stand down = absurd (low c.gripper.position down level)
+
+pub gripper-down : (z : ModelState) (p : CraneProgress) (c : CranePlant) → CraneInv z p c → IsGripperDown c → (IsOverDeposit c × CraneHasDeposit z) ⊎ (IsOverFeed c × CraneHasFeed z)
+gripper-down z p c i down = down_at p.step z c i.knows i.level i.stand down
+
+errand_met : (s : CraneStep) (z : ModelState) → AreSo Crane z (facts_at s) → ErrandDemands (errand_of s) z
+errand_met LowerToPlate z k = k.0
+errand_met RaiseWithPlate z k = k.0
+errand_met LowerToFeed z k = k.0
+errand_met RaiseFromFeed z k = k.0
+errand_met s z k = tt
+
+pub gripper-driven : (z : ModelState) (p : CraneProgress) (c : CranePlant) → CraneInv z p c → ErrandDemands (errand_of p.step) z
+gripper-driven z p c i = errand_met p.step z i.knows
+
+-- it travels high
+high_at : (s : CraneStep) (h : ℤ) → travels s ≡ true → IsAt (level_of s) h → pos 850 ≤ℤ h
+high_at TravelToDeposit h e k = k
+high_at TravelToFeed h e k = k
+high_at s h e k = cc
+
+pub travels-high : (z : ModelState) (p : CraneProgress) (c : CranePlant) → CraneInv z p c → TravelsHigh c
+travels-high z p c i on down = low c.gripper.position down (high_at p.step c.gripper.position (i.travelling on) i.level)
+
+-- No turn drives it on past an end: its travel by the switches, its gripper by its reading.
+abbrev DrivesOut : CranePlant → Type 0
+DrivesOut c = DrivesPast crane_end c.travel ⊎ DrivesPast gripper_end c.gripper
+
+off_stays : (c : CranePlant) (m : Bool) → ¬ DrivesOut (set_crane c (record { travel = Off; height = Off; magnet = m }))
+off_stays c m (inl past) = off_within crane_end (set_axis c.travel Off) refl past
+off_stays c m (inr past) = off_within gripper_end (set_axis c.gripper Off) refl past
+
+not_minus : (high at : Bool) → (if high then (if at then Off else Minus) else Off) ≡ Minus → at ≡ true → ⊥
+not_minus true true e a = cc
+not_minus true false e a = cc
+not_minus false at e a = cc
+
+no_minus : (high at : Bool) → (if high then (if at then Off else Plus) else Off) ≡ Minus → ⊥
+no_minus true true e = cc
+no_minus true false e = cc
+no_minus false at e = cc
+
+not_plus : (high at : Bool) → (if high then (if at then Off else Plus) else Off) ≡ Plus → at ≡ true → ⊥
+not_plus true true e a = cc
+not_plus true false e a = cc
+not_plus false at e a = cc
+
+no_plus : (high at : Bool) → (if high then (if at then Off else Minus) else Off) ≡ Plus → ⊥
+no_plus true true e = cc
+no_plus true false e = cc
+no_plus false at e = cc
+
+stays_first : (s : CraneStep) (high : Bool) (x : CraneSense) → travel_for s high x ≡ Minus → x.deposit ≡ true → ⊥
+stays_first TravelToDeposit high x e at = not_minus high x.deposit e at
+stays_first TravelToFeed high x e at = no_minus high x.feed e
+stays_first s high x e at = cc
+
+stays_last : (s : CraneStep) (high : Bool) (x : CraneSense) → travel_for s high x ≡ Plus → x.feed ≡ true → ⊥
+stays_last TravelToDeposit high x e at = no_plus high x.deposit e
+stays_last TravelToFeed high x e at = not_plus high x.feed e at
+stays_last s high x e at = cc
+
+travel_stays : (points : Scale) (c : CranePlant) (s : CraneStep) (high : Bool) (x : CraneSense) (m : Motor) → CraneShows points c x → m ≡ travel_for s high x → ¬ DrivesPast crane_end (set_axis c.travel m)
+travel_stays points c s high x m shows e (inl past) =
+    let first : c.travel.position ≡ pos 0 = past.0 in
+    stays_first s high x (sym e ∙ past.1) (shows.deposit.1 (omega (arith, ints)))
+travel_stays points c s high x m shows e (inr past) =
+    let last : c.travel.position ≡ pos 2000 = past.0 in
+    stays_last s high x (sym e ∙ past.1) (shows.feed.1 (omega (arith, ints)))
+
+stops_within : (s : CraneStep) → StopsWithin gripper_end (gripper_stop s)
+stops_within RaiseToFetch = (omega (arith, ints), omega (arith, ints), omega (arith, ints))
+stops_within LowerToPlate = (omega (arith, ints), omega (arith, ints), omega (arith, ints))
+stops_within RaiseWithPlate = (omega (arith, ints), omega (arith, ints), omega (arith, ints))
+stops_within LowerToFeed = (omega (arith, ints), omega (arith, ints), omega (arith, ints))
+stops_within RaiseFromFeed = (omega (arith, ints), omega (arith, ints), omega (arith, ints))
+stops_within s = tt
+
+-- Its magnet lets go only close above the feed belt.
+abbrev LetsGoThere : CranePlant → CraneAct → Type 0
+LetsGoThere c act = LetsGo c.magnet act.magnet → CraneMayLetGo (set_crane c act)
+
+still_on : (a b : Bool) → a ≡ b → LetsGo b a → ⊥
+still_on a b e go = let on = go.0 in let off = go.1 in cc
+
+lets_go_at : (s : CraneStep) (c : CranePlant) (act : CraneAct) (m : Bool) → c.magnet ≡ m → act.magnet ≡ magnet_by s m → IsAt (level_of s) c.gripper.position → IsOver (stand_of s) c.travel.position → LetsGoThere c act
+lets_go_at GripPlate c act m was is level stand go = let off = go.1 in cc
+lets_go_at DropPlate c act m was is level stand go = (stand, level)
+lets_go_at s c act m was is level stand go = absurd (still_on act.magnet c.magnet (is ∙ sym was) go)
+
+module _ (points : Scale) (axis : IsAxisScale gripper_end points) (z : ModelState) (p : CraneProgress) (c : CranePlant) (i : CraneInv z p c) (s : CraneSense) (shows : CraneShows points c s) where
+  acts_within : (r : CraneReading) (act : CraneAct) → Senses points (IsReading points) s (Ok r) → Acts points p r act → ¬ DrivesOut (set_crane c act)
+  acts_within r act senses acts (inl past) = travel_stays points c p.step r.high s act.travel shows (acts.travel ∙ ap (λ x. travel_for p.step r.high x) senses.switches) past
+  acts_within r act senses acts (inr past) = driven_within gripper_end points c.gripper (gripper_stop p.step) r.gripper act.height axis (gripper_near points c s r axis i.gripper_within shows senses) (stops_within p.step) acts.height past
+
+  -- so in no turn it is driven on past an end, nor lets a plate fall
+  pub crane-ends : (same : Type 0) (asks : Call → Result Reply LineFault → Type 0) (stopped : Option CtlFault) (w : Turned CraneProgress CraneAct) → Turns (crane_steps points (IsReading points)) same asks stopped p s w
+      → ¬ DrivesOut (set_crane c (act_or_rest ((crane_steps points (IsReading points)).rest p) w.result))
+  crane-ends same asks stopped w k = turn_tells (crane_steps points (IsReading points)) same asks p s (λ act. ¬ DrivesOut (set_crane c act)) (off_stays c p.magnet) (λ r act e senses drives. acts_within r act senses drives) stopped w k
+
+  pub crane-lets-go : (same : Type 0) (asks : Call → Result Reply LineFault → Type 0) (stopped : Option CtlFault) (w : Turned CraneProgress CraneAct) → Turns (crane_steps points (IsReading points)) same asks stopped p s w
+      → LetsGoThere c (act_or_rest ((crane_steps points (IsReading points)).rest p) w.result)
+  crane-lets-go same asks stopped w k =
+      turn_tells (crane_steps points (IsReading points)) same asks p s (λ act. LetsGoThere c act) (λ go. absurd (still_on p.magnet c.magnet (sym i.magnet) go))
+      (λ r act e senses drives. lets_go_at p.step c act p.magnet i.magnet drives.magnet i.level i.stand) stopped w k
