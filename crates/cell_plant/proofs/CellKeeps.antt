@@ -9,6 +9,7 @@ use Rattle.cell_calib.specs.Line.{IsReading}
 use Rattle.cell_haul.specs.CraneProgram.{crane_steps}
 use Rattle.cell_haul.specs.DepositProgram.{deposit_steps}
 use Rattle.cell_haul.specs.FeedProgram.{feed_steps}
+use Rattle.cell_robot.specs.RobotProgram.{scales_of}
 use Rattle.cell_stations.specs.PressProgram.{press_steps}
 use Rattle.cell_stations.specs.TableProgram.{table_steps}
 use Rattle.cell_parts.specs.Plant.{table_at_start}
@@ -23,12 +24,13 @@ use Rattle.cell_plant.proofs.DepositKeeps.{DepositInv, DepositRuns, deposit-star
 use Rattle.cell_plant.proofs.FeedKeeps.{FeedInv, FeedRuns, feed-start, feed-keeping, feed-demanding}
 use Rattle.cell_plant.proofs.PressKeeps.{PressInv, PressMoves, press-start, press-keeping, press-demanding}
 use Rattle.cell_plant.proofs.TableKeeps.{TableInv, TableDrives, off_stands, table-start, table-keeping, table-demanding}
-use Rattle.cell_plant.proofs.RestingKeeps.{RobotRests, robot-start, still-keeping}
+use Rattle.cell_plant.proofs.RobotKeeps.{RobotInv, robot-start, robot-keeping}
+use Rattle.cell_plant.proofs.WatchKeeps.{watch-keeping}
 
 abbrev pub InvOf : (m : Machine) → ModelState → ProgressOf m → PartOf m → Type 0
 InvOf Feed = With FeedInv FeedRuns
 InvOf Table = With TableInv TableDrives
-InvOf Robot = λ z p b. RobotRests b
+InvOf Robot = RobotInv
 InvOf Press = With PressInv PressMoves
 InvOf Deposit = With DepositInv DepositRuns
 InvOf Crane = CraneInv
@@ -42,11 +44,11 @@ ToldOf m = InvOf m
 pub keeping_of : (c : CellScales) → AreCellScales c → (m : Machine) → Keeping (steps_of c m) (rig_of c m) (InvOf m) (ToldOf m)
 keeping_of c k Feed = demands_kept feed_steps feed_rig FeedInv FeedInv FeedRuns feed-keeping feed-demanding
 keeping_of c k Table = demands_kept (table_steps c.turn (IsReading c.turn)) (table_rig c.turn) TableInv TableInv TableDrives (table-keeping c.turn k.turn) (table-demanding c.turn)
-keeping_of c k Robot = still-keeping Robot RobotRests
+keeping_of c k Robot = robot-keeping (scales_of c.arm1 c.arm2 c.rotation) (record { arm1 = k.arm1; arm2 = k.arm2; rotation = k.rotation })
 keeping_of c k Press = demands_kept press_steps press_rig PressInv PressInv PressMoves press-keeping press-demanding
 keeping_of c k Deposit = demands_kept deposit_steps deposit_rig DepositInv DepositInv DepositRuns deposit-keeping deposit-demanding
 keeping_of c k Crane = crane-keeping c.gripper k.gripper
-keeping_of c k Watch = still-keeping Watch (λ b. ⊤)
+keeping_of c k Watch = watch-keeping
 
 pub starts : (s : ModelState) → IsStartState s → (m : Machine) → InvOf m s (side_in (sides_at_start s) m).progress (side_in (sides_at_start s) m).part
 starts s k Feed = (feed-start s, λ runs. cc)

@@ -12,9 +12,9 @@ use Rattle.cell_seat.proofs.Running.{none_runs}
 use Rattle.cell_seat.proofs.Keeping.{Keeping, Changes, takes_keeps, takes_changes, others_keep, by_call}
 use Rattle.cell_parts.specs.Axes.{CellScales}
 use Rattle.cell_notes.specs.declared.schedule.Turn.{Turn}
-use Rattle.cell_plant.specs.Machines.{ProgressOf, PartOf, steps_of, rig_of, has_controller}
+use Rattle.cell_plant.specs.Machines.{ProgressOf, PartOf, steps_of, rig_of}
 use Rattle.cell_plant.specs.CellStates.{SideOf, CellState}
-use Rattle.cell_plant.specs.Runs.{Step, TakesTurn, LeadsIf, goes_on, IsRun}
+use Rattle.cell_plant.specs.Runs.{Step, TakesTurn, LeadsIf, is_at_work, goes_on, IsRun}
 
 -- each program is its machine's
 pub own_program : (c : CellScales) (m : Machine) → (steps_of c m).machine ≡ m
@@ -88,7 +88,7 @@ module _ (c : CellScales) (InvOf ToldOf : (m : Machine) → ModelState → Progr
   -- a step keeps what holds, in both of its states
   pub step_keeps : (b : Bool) (m : Machine) (busy : Bool) (w : CellState) (s : Step) → goes_on w m ≡ b → LeadsIf b c m busy w s → CellInv w → CellInv s.set × CellInv s.moved
   step_keeps true m busy w s e k i =
-      let runs = none_runs (w.side m).stopped (second_true (has_controller m) (is_none (w.side m).stopped) e) in
+      let runs = none_runs (w.side m).stopped (second_true (is_at_work m) (is_none (w.side m).stopped) e) in
       let set = set_keeps m busy w s k runs i in
       (set, moved_keeps m busy w s k runs i set)
   step_keeps false m busy w s e k i = (subst CellInv (sym k.set) i, subst CellInv (sym k.moved) i)

@@ -6,7 +6,8 @@ pub mod FeedKeeps
 pub mod DepositKeeps
 pub mod Stops
 pub mod CraneKeeps
-pub mod RestingKeeps
+pub mod RobotKeeps
+pub mod WatchKeeps
 pub mod KeptRuns
 pub mod CellKeeps
 pub mod SafeRuns

@@ -21,14 +21,19 @@ use Rattle.cell_devices.specs.declared.act.CraneAct.{CraneAct}
 use Rattle.cell_haul.specs.declared.crane_step.CraneProgress.{CraneProgress}
 use Rattle.cell_haul.specs.declared.crane_step.CraneReading.{CraneReading}
 use Rattle.cell_haul.specs.CraneProgram.{crane_steps}
+use Rattle.cell_calib.specs.declared.sense.RobotSense.{RobotSense}
+use Rattle.cell_devices.specs.declared.act.RobotAct.{RobotAct}
+use Rattle.cell_robot.specs.declared.robot_step.RobotProgress.{RobotProgress}
+use Rattle.cell_robot.specs.declared.robot_step.RobotReading.{RobotReading}
+use Rattle.cell_robot.specs.RobotProgram.{RobotScales, scales_of, near_lines, robot_rest, robot_steps}
 use Rattle.cell_stations.specs.PressProgram.{press_steps}
 use Rattle.cell_stations.specs.TableProgram.{table_steps}
 use Rattle.cell_notes.specs.Asks.{Asked, done_in}
 use Rattle.cell_seat.specs.Sides.{Side, noting, act_or_rest, side_set}
-use Rattle.cell_parts.specs.Rigs.{press_rig, table_rig, crane_rig}
-use Rattle.cell_parts.specs.Axes.{arm_end, rotation_end, IsWithin, CellScales, AreCellScales}
-use Rattle.cell_parts.specs.Collisions.{IsOut, LetsGo, CraneMayLetGo, PlateFalls, DrivesPastEnd}
-use Rattle.cell_parts.specs.Plant.{StaysWithin, set_crane}
+use Rattle.cell_parts.specs.Rigs.{table_rig, robot_rig, press_rig, crane_rig}
+use Rattle.cell_parts.specs.Axes.{CellScales, AreCellScales}
+use Rattle.cell_parts.specs.Collisions.{LetsGo, Arm1MayLetGo, Arm2MayLetGo, CraneMayLetGo, PlateFalls, DrivesPastEnd}
+use Rattle.cell_parts.specs.Plant.{StaysWithin, set_robot, set_crane}
 use Rattle.cell_parts.specs.PositionDemands.{PositionDemands}
 use Rattle.cell_parts.specs.MotorDemands.{GripperErrand, MotorDemands}
 use Rattle.cell_parts.specs.Laws.{AllDemandsMet}
@@ -42,6 +47,7 @@ use Rattle.cell_plant.proofs.KeptRuns.{CellInv, step_keeps}
 use Rattle.cell_plant.proofs.CellKeeps.{InvOf, ToldOf, keeping_of, starts}
 use Rattle.cell_plant.proofs.CraneKeeps.{gripper-down, gripper-driven, travels-high, crane-ends, crane-lets-go}
 use Rattle.cell_plant.proofs.PressKeeps.{press-ends}
+use Rattle.cell_plant.proofs.RobotKeeps.{AreRobotScales, part_scales, arm1-has, arm2-has, rotates-retracted, robot-ends, robot-lets-go}
 use Rattle.cell_plant.proofs.TableKeeps.{table-ends}
 
 -- a start is sound, for its zones are free, and its belts stand
@@ -63,12 +69,6 @@ clear_free full stamp = record { feed = λ e. cc; entry = λ e. cc; end = λ e. 
 clear_start : (s : ModelState) → IsStartState s → RunsClear s
 clear_start s k = subst RunsClear (sym k.same) (clear_free s.full s.stamp)
 
--- the robot takes no turn, so its magnets stay as they are
-robot_waits : (w : CellState) (m : Machine) → goes_on w m ≡ true → same_machine m Robot ≡ false
-robot_waits w Robot e = cc
-robot_waits w Watch e = cc
-robot_waits w m e = refl
-
 -- a part that has nothing to note of an event is only set
 unnoted : {State Sense Act : Type 0} → (rig : Rig State Sense Act) → ((b : State) (e : Event) → rig.notes b e ≡ b) → (b : State) (o : Option Event) → noting rig b o ≡ b
 unnoted rig k b None = refl
@@ -86,16 +86,10 @@ module _ (c : CellScales) (scales : AreCellScales c) where
   Kept w = CellInv c InvOf ToldOf (keeping_of c scales) w
 
   module _ (w : CellState) (i : Kept w) where
-    arm1_in : ¬ IsOut (w.side Robot).part.arm1
-    arm1_in out = let at : (w.side Robot).part.arm1.position ≡ pos 0 = ap (λ a. a.position) (i.each Robot).arm1 in omega (arith, ints)
-
-    arm2_in : ¬ IsOut (w.side Robot).part.arm2
-    arm2_in out = let at : (w.side Robot).part.arm2.position ≡ pos 0 = ap (λ a. a.position) (i.each Robot).arm2 in omega (arith, ints)
-
     positions : PositionDemands w.interlock (plant_of w)
     positions = record {
-      arm1 = λ out. absurd (arm1_in out);
-      arm2 = λ out. absurd (arm2_in out);
+      arm1 = λ out. arm1-has w.interlock (w.side Robot).progress (w.side Robot).part (i.each Robot) (inl out);
+      arm2 = λ out. arm2-has w.interlock (w.side Robot).progress (w.side Robot).part (i.each Robot) (inl out);
       press = ((i.each Press).0.open_in, (i.each Press).0.open_out);
       table = (i.each Table).0.open_in;
       gripper = gripper-down w.interlock (w.side Crane).progress (w.side Crane).part (i.each Crane);
@@ -111,8 +105,8 @@ module _ (c : CellScales) (scales : AreCellScales c) where
       table = λ on. let k = (i.each Table).1 on in (k.0, k.1.0);
       feed = λ runs. let at = ((i.each Feed).1 runs).0 in (at, λ full. i.clear.feed at.1 full);
       deposit = λ runs. let at = (i.each Deposit).1 runs in (at.0, at.1.0);
-      arm1 = λ on. absurd (on (ap (λ a. a.motor) (i.each Robot).arm1));
-      arm2 = λ on. absurd (on (ap (λ a. a.motor) (i.each Robot).arm2));
+      arm1 = λ on. arm1-has w.interlock (w.side Robot).progress (w.side Robot).part (i.each Robot) (inr on);
+      arm2 = λ on. arm2-has w.interlock (w.side Robot).progress (w.side Robot).part (i.each Robot) (inr on);
       gripper = λ on. gripper-driven w.interlock (w.side Crane).progress (w.side Crane).part (i.each Crane);
     }
 
@@ -123,18 +117,15 @@ module _ (c : CellScales) (scales : AreCellScales c) where
       positions = positions;
       motors = motors;
       travel = travels-high w.interlock (w.side Crane).progress (w.side Crane).part (i.each Crane);
-      rotation = record { arm1 = λ on. arm1_in; arm2 = λ on. arm2_in };
+      rotation = rotates-retracted w.interlock (w.side Robot).progress (w.side Robot).part (i.each Robot);
     }
-
-    standing_within : (end p at : ℤ) → p ≡ at → pos 0 ≤ℤ at → at ≤ℤ end → IsWithin end p
-    standing_within end p at e a b = record { first = omega (arith, ints); last = omega (arith, ints) }
 
     within : StaysWithin (plant_of w)
     within = record {
       press = (i.each Press).0.within;
-      arm1 = standing_within arm_end _ (pos 0) (ap (λ a. a.position) (i.each Robot).arm1) (omega (arith, ints)) (omega (arith, ints));
-      arm2 = standing_within arm_end _ (pos 0) (ap (λ a. a.position) (i.each Robot).arm2) (omega (arith, ints)) (omega (arith, ints));
-      rotation = standing_within rotation_end _ (pos 300) (ap (λ a. a.position) (i.each Robot).rotation) (omega (arith, ints)) (omega (arith, ints));
+      arm1 = (i.each Robot).arm1_within;
+      arm2 = (i.each Robot).arm2_within;
+      rotation = (i.each Robot).rotation_within;
       lift = (i.each Table).0.lift_within;
       turn = (i.each Table).0.turn_within;
       travel = (i.each Crane).travel_within;
@@ -158,26 +149,53 @@ module _ (c : CellScales) (scales : AreCellScales c) where
       (go.0, sym (ap (λ x. x.magnet) is) ∙ go.1))
   crane_lets_go m busy w s i k go = let same = ap (λ x. x.part.magnet) (k.others_set Crane refl) in absurd (not_let_go _ _ same go)
 
-  no_plate_falls : (m : Machine) (busy : Bool) (w : CellState) (s : Step) → Kept w → goes_on w m ≡ true → TakesTurn c m busy w s → ¬ PlateFalls (plant_of w) (plant_of s.set)
-  no_plate_falls m busy w s i e k (inl h) = let same = ap (λ x. x.part.magnet1) (k.others_set Robot (robot_waits w m e)) in cc
-  no_plate_falls m busy w s i e k (inr (inl h)) = let same = ap (λ x. x.part.magnet2) (k.others_set Robot (robot_waits w m e)) in cc
-  no_plate_falls m busy w s i e k (inr (inr h)) = h.1 (crane_lets_go m busy w s i k h.0)
+  -- nor do the robot's
+  abbrev robot_points : RobotScales
+  robot_points = scales_of c.arm1 c.arm2 c.rotation
+
+  abbrev robot_axes : AreRobotScales robot_points
+  robot_axes = record { arm1 = scales.arm1; arm2 = scales.arm2; rotation = scales.rotation }
+
+  abbrev robot_program : Steps RobotProgress RobotSense RobotReading RobotAct
+  robot_program = robot_steps robot_points (near_lines robot_points)
+
+  robot_set : (busy : Bool) (w : CellState) (s : Step) → (k : TakesTurn c Robot busy w s) → (s.set.side Robot).part ≡ set_robot (w.side Robot).part (act_or_rest (robot_rest (w.side Robot).progress) k.takes.turned.result)
+  robot_set busy w s k = set_unnoted robot_program (robot_rig (part_scales robot_points)) (λ b x. refl) (w.side Robot) s.asked k.takes.turned (s.set.side Robot) k.takes.is
+
+  robot_lets_go : (m : Machine) (busy : Bool) (w : CellState) (s : Step) → Kept w → TakesTurn c m busy w s
+      → (LetsGo (w.side Robot).part.magnet1 (s.set.side Robot).part.magnet1 → Arm1MayLetGo (s.set.side Robot).part) × (LetsGo (w.side Robot).part.magnet2 (s.set.side Robot).part.magnet2 → Arm2MayLetGo (s.set.side Robot).part)
+  robot_lets_go Robot busy w s i k =
+      let is = robot_set busy w s k in
+      let there = robot-lets-go robot_points robot_axes w.interlock (w.side Robot).progress (w.side Robot).part (i.each Robot) k.takes.sense k.takes.shows _ _ (w.side Robot).stopped k.takes.turned k.takes.row in (
+        λ go. subst Arm1MayLetGo (sym is) (there.0 (go.0, sym (ap (λ x. x.magnet1) is) ∙ go.1)),
+        λ go. subst Arm2MayLetGo (sym is) (there.1 (go.0, sym (ap (λ x. x.magnet2) is) ∙ go.1)),
+      )
+  robot_lets_go m busy w s i k =
+      let same = k.others_set Robot refl in
+      (λ go. absurd (not_let_go _ _ (ap (λ x. x.part.magnet1) same) go), λ go. absurd (not_let_go _ _ (ap (λ x. x.part.magnet2) same) go))
+
+  no_plate_falls : (m : Machine) (busy : Bool) (w : CellState) (s : Step) → Kept w → TakesTurn c m busy w s → ¬ PlateFalls (plant_of w) (plant_of s.set)
+  no_plate_falls m busy w s i k (inl h) = h.1 ((robot_lets_go m busy w s i k).0 h.0)
+  no_plate_falls m busy w s i k (inr (inl h)) = h.1 ((robot_lets_go m busy w s i k).1 h.0)
+  no_plate_falls m busy w s i k (inr (inr h)) = h.1 (crane_lets_go m busy w s i k h.0)
 
   -- nor is an axis driven on past an end
-  not_past : (m : Machine) (busy : Bool) (w : CellState) (s : Step) → Kept w → goes_on w m ≡ true → TakesTurn c m busy w s → ¬ DrivesPastEnd m (plant_of s.set)
-  not_past Table busy w s i e k past =
+  not_past : (m : Machine) (busy : Bool) (w : CellState) (s : Step) → Kept w → TakesTurn c m busy w s → ¬ DrivesPastEnd m (plant_of s.set)
+  not_past Table busy w s i k past =
       table-ends c.turn scales.turn (w.side Table).part (i.each Table).0.turn_within k.takes.sense k.takes.shows _ _ (w.side Table).stopped (w.side Table).progress k.takes.turned k.takes.row
       (subst (λ t. DrivesPastEnd Table (record (plant_of s.set) { table = t })) (set_unnoted (table_steps c.turn (IsReading c.turn)) (table_rig c.turn) (λ b x. refl) (w.side Table) s.asked k.takes.turned (s.set.side Table) k.takes.is) past)
-  not_past Press busy w s i e k past =
+  not_past Press busy w s i k past =
       press-ends (w.side Press).part k.takes.sense k.takes.shows _ _ (w.side Press).stopped (w.side Press).progress k.takes.turned k.takes.row
       (subst (λ a. DrivesPastEnd Press (record (plant_of s.set) { press = a })) (set_unnoted press_steps press_rig (λ b x. refl) (w.side Press) s.asked k.takes.turned (s.set.side Press) k.takes.is) past)
-  not_past Feed busy w s i e k past = past
-  not_past Robot busy w s i e k past = cc
-  not_past Deposit busy w s i e k past = past
-  not_past Crane busy w s i e k past =
+  not_past Feed busy w s i k past = past
+  not_past Robot busy w s i k past =
+      robot-ends robot_points robot_axes w.interlock (w.side Robot).progress (w.side Robot).part (i.each Robot) k.takes.sense k.takes.shows _ _ (w.side Robot).stopped k.takes.turned k.takes.row
+      (subst (λ x. DrivesPastEnd Robot (record (plant_of s.set) { robot = x })) (robot_set busy w s k) past)
+  not_past Deposit busy w s i k past = past
+  not_past Crane busy w s i k past =
       crane-ends c.gripper scales.gripper w.interlock (w.side Crane).progress (w.side Crane).part (i.each Crane) k.takes.sense k.takes.shows _ _ (w.side Crane).stopped k.takes.turned k.takes.row
       (subst (λ x. DrivesPastEnd Crane (record (plant_of s.set) { crane = x })) (crane_set busy w s k) past)
-  not_past Watch busy w s i e k past = past
+  not_past Watch busy w s i k past = past
 
   not_taken : (b : Bool) → b ≡ false → b ≡ true → ⊥
   not_taken b e f = cc
@@ -186,8 +204,8 @@ module _ (c : CellScales) (scales : AreCellScales c) where
   safely_set true m busy w s e own k i set = record {
     clear = λ taken. record {
       plain = (is_safe s.set set).clear;
-      magnets = no_plate_falls m busy w s i e k;
-      ends = subst (λ x. ¬ DrivesPastEnd x (plant_of s.set)) (sym own) (not_past m busy w s i e k);
+      magnets = no_plate_falls m busy w s i k;
+      ends = subst (λ x. ¬ DrivesPastEnd x (plant_of s.set)) (sym own) (not_past m busy w s i k);
     };
     state = is_safe s.set set;
   }

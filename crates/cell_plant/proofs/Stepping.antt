@@ -6,14 +6,19 @@ use Rattle.cell_types.specs.Same.{same_machine, one_machine}
 use Rattle.cell_calib.specs.Scale.{Scale}
 use Rattle.cell_calib.specs.Line.{IsReading}
 use Rattle.cell_calib.specs.declared.sense.CraneSense.{CraneSense}
+use Rattle.cell_calib.specs.declared.sense.RobotSense.{RobotSense}
 use Rattle.cell_calib.specs.declared.sense.TableSense.{TableSense}
 use Rattle.cell_devices.specs.declared.act.CraneAct.{CraneAct}
+use Rattle.cell_devices.specs.declared.act.RobotAct.{RobotAct}
 use Rattle.cell_devices.specs.declared.act.TableAct.{TableAct}
 use Rattle.cell_types.specs.declared.answer.Event.{Event}
 use Rattle.cell_rules.specs.ModelState.{ModelState}
 use Rattle.cell_rules.specs.Benches.{Desk}
 use Rattle.cell_control.specs.Steps.{Steps}
 use Rattle.cell_control.specs.Rigs.{Rig}
+use Rattle.cell_robot.specs.declared.robot_step.RobotProgress.{RobotProgress}
+use Rattle.cell_robot.specs.RobotProgram.{RobotScales, RobotGauges, scales_of, near_lines, Senses as RobotSenses, robot_steps}
+use Rattle.cell_robot.proofs.RobotSenses.{senses_near as robot_senses_near}
 use Rattle.cell_stations.specs.declared.table_step.TableProgress.{TableProgress}
 use Rattle.cell_control.specs.declared.fault.CtlFault.{CtlFault}
 use Rattle.cell_haul.specs.declared.crane_step.CraneProgress.{CraneProgress}
@@ -26,17 +31,17 @@ use Rattle.cell_stations.specs.TableProgram.{Senses, table_steps}
 use Rattle.cell_stations.proofs.TableSenses.{senses_near}
 use Rattle.cell_notes.specs.Asks.{Asked, settled_in}
 use Rattle.cell_notes.specs.Notes.{Notes, notes_with}
-use Rattle.cell_parts.specs.Axes.{CellScales}
-use Rattle.cell_parts.specs.Plant.{TablePlant, CranePlant}
-use Rattle.cell_parts.specs.Rigs.{feed_rig, table_rig, press_rig, deposit_rig, crane_rig}
+use Rattle.cell_parts.specs.Axes.{RobotScales as PartScales, CellScales}
+use Rattle.cell_parts.specs.Plant.{TablePlant, RobotPlant, CranePlant}
+use Rattle.cell_parts.specs.Rigs.{feed_rig, table_rig, robot_rig, press_rig, deposit_rig, crane_rig}
 use Rattle.cell_seat.specs.Sides.{Side, IsReady}
 use Rattle.cell_seat.proofs.Others.{others_ready}
 use Rattle.cell_seat.proofs.Turning.{seat_turn_still}
 use Rattle.cell_seat.specs.SeatTurns.{SeatTurn, Untouched, Leads as LeadsAlone}
 use Rattle.cell_notes.specs.declared.schedule.Turn.{Turn}
-use Rattle.cell_plant.specs.Machines.{steps_of, rig_of, has_controller}
+use Rattle.cell_plant.specs.Machines.{steps_of, rig_of}
 use Rattle.cell_plant.specs.CellStates.{SideOf, CellState, Sides, side_in, sides_at_start}
-use Rattle.cell_plant.specs.Runs.{Step, LeadsIf}
+use Rattle.cell_plant.specs.Runs.{Step, LeadsIf, is_at_work}
 use Rattle.cell_plant.specs.Moments.{Moment, AllNotes, StepsOn, state_at, notes_in, first_notes, first_moment}
 
 -- two states are the same that have the same interlock and the same side of each machine
@@ -83,8 +88,8 @@ last_false false b e = refl
 first_false : (a b : Bool) → a ≡ false → (a && b) ≡ false
 first_false a b e = rw e refl
 
--- a turn of a machine with a controller, which leaves all else
-module _ (m : Machine) (busy : Bool) (before now : Moment) (asked : Asked) (controlled : has_controller m ≡ true)
+-- a turn of a machine at work, which leaves all else
+module _ (m : Machine) (busy : Bool) (before now : Moment) (asked : Asked) (controlled : is_at_work m ≡ true)
     (leads : LeadsAlone (is_none (side_in before.sides m).stopped) (steps_of before.scales m) (rig_of before.scales m) busy before.interlock (side_in before.sides m) asked now.interlock (side_in now.sides m))
     (history : now.history ≡ before.history ++ settled_in m asked)
     (noted : notes_in now.notes m ≡ (if is_none (side_in before.sides m).stopped then notes_with (notes_in before.notes m) asked else notes_in before.notes m))
@@ -113,7 +118,7 @@ module _ (m : Machine) (busy : Bool) (before now : Moment) (asked : Asked) (cont
       record {
         step = step;
         machine = refl;
-        leads = subst (λ x. LeadsIf x before.scales m busy (state_at before) step) (sym (both_true (has_controller m) (is_none (side_in before.sides m).stopped) controlled e))
+        leads = subst (λ x. LeadsIf x before.scales m busy (state_at before) step) (sym (both_true (is_at_work m) (is_none (side_in before.sides m).stopped) controlled e))
             (record {
               taken = refl;
               takes = rw (put_same m k.set (side_in before.sides)) k.acts;
@@ -133,7 +138,7 @@ module _ (m : Machine) (busy : Bool) (before now : Moment) (asked : Asked) (cont
       record {
         step = step;
         machine = refl;
-        leads = subst (λ x. LeadsIf x before.scales m busy (state_at before) step) (sym (last_false (has_controller m) (is_none (side_in before.sides m).stopped) e)) (record { not_taken = refl; asked = k.asked_nothing; set = refl; moved = refl });
+        leads = subst (λ x. LeadsIf x before.scales m busy (state_at before) step) (sym (last_false (is_at_work m) (is_none (side_in before.sides m).stopped) e)) (record { not_taken = refl; asked = k.asked_nothing; set = refl; moved = refl });
         state = same_state (state_at now) (state_at before) k.same (λ n. same_side (same_machine m n) n refl k.stays);
         history = history;
         notes = λ n. noted_by false (same_machine m n) n refl e;
@@ -144,14 +149,14 @@ module _ (m : Machine) (busy : Bool) (before now : Moment) (asked : Asked) (cont
   pub steps_on : Goal
   steps_on = on (is_none (side_in before.sides m).stopped) refl leads
 
--- a turn of a machine that has no controller
-pub idle_on : (t : Turn) (w : Moment) → has_controller t.machine ≡ false → StepsOn t w w
+-- a turn of the watch
+pub idle_on : (t : Turn) (w : Moment) → is_at_work t.machine ≡ false → StepsOn t w w
 idle_on t w k =
     let step : Step = record { machine = t.machine; taken = false; asked = None; set = state_at w; moved = state_at w } in
     record {
       step = step;
       machine = refl;
-      leads = subst (λ x. LeadsIf x w.scales t.machine t.busy (state_at w) step) (sym (first_false (has_controller t.machine) (is_none (side_in w.sides t.machine).stopped) k)) (record { not_taken = refl; asked = refl; set = refl; moved = refl });
+      leads = subst (λ x. LeadsIf x w.scales t.machine t.busy (state_at w) step) (sym (first_false (is_at_work t.machine) (is_none (side_in w.sides t.machine).stopped) k)) (record { not_taken = refl; asked = refl; set = refl; moved = refl });
       state = refl;
       history = sym (append-nil w.history);
       notes = λ n. refl;
@@ -182,6 +187,10 @@ table_others : (s : Sides) (x : SideOf Table) (v : AllNotes) (y : Notes) → Oth
 table_others s x v y Table apart = cc
 table_others s x v y n apart = (refl, refl)
 
+robot_others : (s : Sides) (x : SideOf Robot) (v : AllNotes) (y : Notes) → Others Robot s (record s { robot = x }) v (record v { robot = y })
+robot_others s x v y Robot apart = cc
+robot_others s x v y n apart = (refl, refl)
+
 press_others : (s : Sides) (x : SideOf Press) (v : AllNotes) (y : Notes) → Others Press s (record s { press = x }) v (record v { press = y })
 press_others s x v y Press apart = cc
 press_others s x v y n apart = (refl, refl)
@@ -194,14 +203,24 @@ crane_others : (s : Sides) (x : SideOf Crane) (v : AllNotes) (y : Notes) → Oth
 crane_others s x v y Crane apart = cc
 crane_others s x v y n apart = (refl, refl)
 
--- the crane's, likewise
+-- the robot's and the crane's, likewise
+abbrev robot_axes : CellScales → PartScales
+robot_axes c = record { arm1 = c.arm1; arm2 = c.arm2; rotation = c.rotation }
+
+abbrev robot_points : CellScales → RobotScales
+robot_points c = scales_of c.arm1 c.arm2 c.rotation
+
+pub robot_near : (points : RobotScales) (gives : RobotGauges) (rig : Rig RobotPlant RobotSense RobotAct) (busy : Bool) (old new : Desk) (before now : Side RobotProgress RobotPlant) (notes notes' : Notes)
+    → SeatTurn (robot_steps points gives) rig busy old new before now notes notes' → SeatTurn (robot_steps points (near_lines points)) rig busy old new before now notes notes'
+robot_near points gives rig busy old new before now notes notes' k = seat_turn_still (robot_steps points gives) rig (RobotSenses points (near_lines points)) (robot_senses_near points gives) busy old new before now notes notes' k
+
 pub crane_near : (points : Scale) (gives : ℕ → ℤ → Type 0) (rig : Rig CranePlant CraneSense CraneAct) (busy : Bool) (old new : Desk) (before now : Side CraneProgress CranePlant) (notes notes' : Notes)
     → SeatTurn (crane_steps points gives) rig busy old new before now notes notes' → SeatTurn (crane_steps points (IsReading points)) rig busy old new before now notes notes'
 crane_near points gives rig busy old new before now notes notes' k = seat_turn_still (crane_steps points gives) rig (CraneSenses points (IsReading points)) (crane_senses_near points gives) busy old new before now notes notes' k
 
 module _ (before now : Moment) (busy : Bool) (asked : Asked) (scales : now.scales ≡ before.scales) (opening : now.opening ≡ before.opening) where
   -- a machine's turn, which leads its own side on and leaves the others
-  alone_on : (m : Machine) → has_controller m ≡ true
+  alone_on : (m : Machine) → is_at_work m ≡ true
       → LeadsAlone (is_none (side_in before.sides m).stopped) (steps_of before.scales m) (rig_of before.scales m) busy before.interlock (side_in before.sides m) asked now.interlock (side_in now.sides m)
       → now.history ≡ before.history ++ settled_in m asked
       → notes_in now.notes m ≡ (if is_none (side_in before.sides m).stopped then notes_with (notes_in before.notes m) asked else notes_in before.notes m)
@@ -223,6 +242,15 @@ module _ (before now : Moment) (busy : Bool) (asked : Asked) (scales : now.scale
       let led = subst (λ (s : Scale). LeadsAlone (is_none before.sides.table.stopped) (table_steps s (IsReading s)) (table_rig before.scales.turn) busy before.interlock before.sides.table asked now.interlock now.sides.table) (sym fits) leads in
       alone_on Table refl led history noted _ _ e f (table_others before.sides now.sides.table before.notes now.notes.table)
 
+  pub robot_on : (points : RobotScales) → LeadsAlone (is_none before.sides.robot.stopped) (robot_steps points (near_lines points)) (robot_rig (robot_axes before.scales)) busy before.interlock before.sides.robot asked now.interlock now.sides.robot
+      → before.scales.arm1 ≡ points.arm1 → before.scales.arm2 ≡ points.arm2 → before.scales.rotation ≡ points.rotation → now.history ≡ before.history ++ settled_in Robot asked
+      → now.notes.robot ≡ (if is_none before.sides.robot.stopped then notes_with before.notes.robot asked else before.notes.robot)
+      → now.sides ≡ record before.sides { robot = now.sides.robot } → now.notes ≡ record before.notes { robot = now.notes.robot } → StepsOn (record { machine = Robot; busy = busy }) before now
+  robot_on points leads a b d history noted e f =
+      let fits : points ≡ robot_points before.scales = λ i. record { arm1 = sym a i; arm2 = sym b i; rotation = sym d i } in
+      let led = subst (λ (s : RobotScales). LeadsAlone (is_none before.sides.robot.stopped) (robot_steps s (near_lines s)) (robot_rig (robot_axes before.scales)) busy before.interlock before.sides.robot asked now.interlock now.sides.robot) fits leads in
+      alone_on Robot refl led history noted _ _ e f (robot_others before.sides now.sides.robot before.notes now.notes.robot)
+
   pub press_on : LeadsAlone (is_none before.sides.press.stopped) press_steps press_rig busy before.interlock before.sides.press asked now.interlock now.sides.press
       → now.history ≡ before.history ++ settled_in Press asked
       → now.notes.press ≡ (if is_none before.sides.press.stopped then notes_with before.notes.press asked else before.notes.press)
@@ -243,10 +271,8 @@ module _ (before now : Moment) (busy : Bool) (asked : Asked) (scales : now.scale
       let led = subst (λ (s : Scale). LeadsAlone (is_none before.sides.crane.stopped) (crane_steps s (IsReading s)) (crane_rig before.scales.gripper) busy before.interlock before.sides.crane asked now.interlock now.sides.crane) (sym fits) leads in
       alone_on Crane refl led history noted _ _ e f (crane_others before.sides now.sides.crane before.notes now.notes.crane)
 
--- machines without a controller
-pub none_controlled : (m : Machine) → (m ≡ Robot) ⊎ (m ≡ Watch) → has_controller m ≡ false
-none_controlled m (inl e) = ap has_controller e
-none_controlled m (inr e) = ap has_controller e
+pub watch_rests : (m : Machine) → m ≡ Watch → is_at_work m ≡ false
+watch_rests m e = ap is_at_work e
 
 -- what holds where a turn was Ok
 pub on_ok : {A E : Type 0} → (r : Result A E) (P Q : Type 0) → OnOk r P → (P → Q) → IfOk r (λ x. Q)
@@ -269,12 +295,15 @@ pub stays_ready : {S Sense Reading Act : Type 0} → (t : Steps S Sense Reading 
     → IsReady t old.opening old.history stopped p → IsReady t new.opening new.history stopped p
 stays_ready t m old new k stopped p apart ready = rw k.opening (others_ready t m old.opening old.history new.history k.asked stopped p apart k.history ready)
 
--- another scale of the table's rotation, and of the gripper's height
+-- another scale of the table's rotation, of the gripper's height, and other scales of the robot
 abbrev pub with_turn : CellScales → Scale → CellScales
 with_turn c s = record c { turn = s }
 
 abbrev pub with_gripper : CellScales → Scale → CellScales
 with_gripper c s = record c { gripper = s }
+
+abbrev pub with_robot : CellScales → PartScales → CellScales
+with_robot c s = record c { arm1 = s.arm1; arm2 = s.arm2; rotation = s.rotation }
 
 -- a simulation before its first turn
 pub first_is : (c : CellScales) (s opening interlock : ModelState) (sides : Sides) (history : List Event) (notes : AllNotes)

@@ -9,6 +9,8 @@ use Rattle.cell_haul.specs.declared.feed_step.FeedProgress.{FeedProgress}
 use Rattle.cell_haul.specs.CraneProgram.{crane_start}
 use Rattle.cell_haul.specs.DepositProgram.{deposit_start}
 use Rattle.cell_haul.specs.FeedProgram.{feed_start}
+use Rattle.cell_robot.specs.declared.robot_step.RobotProgress.{RobotProgress}
+use Rattle.cell_robot.specs.RobotProgram.{robot_start}
 use Rattle.cell_stations.specs.declared.press_step.PressProgress.{PressProgress}
 use Rattle.cell_stations.specs.declared.table_step.TableProgress.{TableProgress}
 use Rattle.cell_stations.specs.PressProgram.{press_start}
@@ -42,7 +44,7 @@ plant_of w =
 pub record Sides : Type 0 where
   pub feed : Side FeedProgress Belt
   pub table : Side TableProgress TablePlant
-  pub robot : RobotPlant
+  pub robot : Side RobotProgress RobotPlant
   pub press : Side PressProgress Axis
   pub deposit : Side DepositProgress Belt
   pub crane : Side CraneProgress CranePlant
@@ -50,7 +52,7 @@ pub record Sides : Type 0 where
 abbrev pub side_in : Sides → (m : Machine) → SideOf m
 side_in s Feed = s.feed
 side_in s Table = s.table
-side_in s Robot = side_of tt None s.robot
+side_in s Robot = s.robot
 side_in s Press = s.press
 side_in s Deposit = s.deposit
 side_in s Crane = s.crane
@@ -62,7 +64,7 @@ sides_at_start s =
     record {
       feed = side_of (feed_start s) None (feed_at_start s);
       table = side_of (table_start s) None table_at_start;
-      robot = robot_at_start s;
+      robot = side_of (robot_start s) None (robot_at_start s);
       press = side_of (press_start s) None press_at_start;
       deposit = side_of (deposit_start s) None (deposit_at_start s);
       crane = side_of (crane_start s) None (crane_at_start s);

@@ -6,6 +6,8 @@ use Rattle.cell_rules.specs.History.{IsLegal, after}
 use Rattle.cell_notes.specs.declared.run_record.RunRecord.{RunRecord}
 use Rattle.cell_seat.specs.Sides.{side_of}
 use Rattle.cell_parts.specs.Axes.{CellScales}
+use Rattle.cell_robot.specs.declared.robot.RobotProgram.{RobotProgram}
+use Rattle.cell_robot.specs.RobotProgram.{RobotScales, scales_of as robot_scales}
 use Rattle.cell_plant.specs.declared.cell.Cell.{Cell}
 use Rattle.cell_notes.specs.declared.schedule.Turn.{Turn}
 use Rattle.cell_plant.specs.CellStates.{Sides, sides_at_start, cell_at_start}
@@ -24,13 +26,17 @@ scales_of cell =
       gripper = cell.crane.part.scale;
     }
 
+-- the points by which the robot reads
+abbrev pub points_of : {F1 F2 F3 : Type 0} {g1 : Ghosts F1} {g2 : Ghosts F2} {g3 : Ghosts F3} → RobotProgram F1 F2 F3 g1 g2 g3 → RobotScales
+points_of robot = robot_scales robot.arm1.points robot.arm2.points robot.rotation.points
+
 -- its six machines
 abbrev pub sides_of : {F1 F2 F3 F4 F5 : Type 0} {g1 : Ghosts F1} {g2 : Ghosts F2} {g3 : Ghosts F3} {g4 : Ghosts F4} {g5 : Ghosts F5} → Cell F1 F2 F3 F4 F5 g1 g2 g3 g4 g5 → Sides
 sides_of cell =
     record {
       feed = side_of cell.feed.controller.progress cell.feed.controller.stopped cell.feed.part.belt;
       table = side_of cell.table.controller.progress cell.table.controller.stopped cell.table.part.plant;
-      robot = cell.robot.part.plant;
+      robot = side_of cell.robot.controller.progress cell.robot.controller.stopped cell.robot.part.plant;
       press = side_of cell.press.controller.progress cell.press.controller.stopped cell.press.part;
       deposit = side_of cell.deposit.controller.progress cell.deposit.controller.stopped cell.deposit.part.belt;
       crane = side_of cell.crane.controller.progress cell.crane.controller.stopped cell.crane.part.plant;
@@ -38,9 +44,9 @@ sides_of cell =
 
 -- each potentiometer has the points of the calibration by which it is read
 pub record IsFitted {F1 F2 F3 F4 F5 : Type 0} {g1 : Ghosts F1} {g2 : Ghosts F2} {g3 : Ghosts F3} {g4 : Ghosts F4} {g5 : Ghosts F5} (cell : Cell F1 F2 F3 F4 F5 g1 g2 g3 g4 g5) : Type 0 where
-  pub arm1 : cell.robot.part.scale.arm1 ≡ cell.robot.arm1.points
-  pub arm2 : cell.robot.part.scale.arm2 ≡ cell.robot.arm2.points
-  pub rotation : cell.robot.part.scale.rotation ≡ cell.robot.rotation.points
+  pub arm1 : cell.robot.part.scale.arm1 ≡ cell.robot.controller.program.arm1.points
+  pub arm2 : cell.robot.part.scale.arm2 ≡ cell.robot.controller.program.arm2.points
+  pub rotation : cell.robot.part.scale.rotation ≡ cell.robot.controller.program.rotation.points
   pub turn : cell.table.part.scale ≡ cell.table.controller.program.turn.points
   pub gripper : cell.crane.part.scale ≡ cell.crane.controller.program.gripper.points
 

@@ -1,5 +1,4 @@
--- The machines of the cell, looked up by name: what each is given by.
--- The watch has no part, and for now the robot has a part and no controller.
+-- The machines of the cell, looked up by name: what each is given by. The watch has neither a controller nor a part.
 use Rattle.std.specs.Prelude.{Bool, true, false, None, ⊤}
 use Rattle.cell_types.specs.declared.machine.Machine.{Machine}
 use Rattle.cell_types.specs.declared.machine.Machine.TheVariants.{Feed, Table, Robot, Press, Deposit, Crane, Watch}
@@ -7,11 +6,13 @@ use Rattle.cell_calib.specs.declared.sense.CraneSense.{CraneSense}
 use Rattle.cell_calib.specs.declared.sense.DepositSense.{DepositSense}
 use Rattle.cell_calib.specs.declared.sense.FeedSense.{FeedSense}
 use Rattle.cell_calib.specs.declared.sense.PressSense.{PressSense}
+use Rattle.cell_calib.specs.declared.sense.RobotSense.{RobotSense}
 use Rattle.cell_calib.specs.declared.sense.TableSense.{TableSense}
 use Rattle.cell_devices.specs.declared.act.CraneAct.{CraneAct}
 use Rattle.cell_devices.specs.declared.act.DepositAct.{DepositAct}
 use Rattle.cell_devices.specs.declared.act.FeedAct.{FeedAct}
 use Rattle.cell_devices.specs.declared.act.PressAct.{PressAct}
+use Rattle.cell_devices.specs.declared.act.RobotAct.{RobotAct}
 use Rattle.cell_devices.specs.declared.act.TableAct.{TableAct}
 use Rattle.cell_calib.specs.Line.{IsReading}
 use Rattle.cell_control.specs.Rigs.{Rig}
@@ -23,6 +24,9 @@ use Rattle.cell_haul.specs.declared.feed_step.FeedProgress.{FeedProgress}
 use Rattle.cell_haul.specs.CraneProgram.{crane_steps}
 use Rattle.cell_haul.specs.DepositProgram.{deposit_steps}
 use Rattle.cell_haul.specs.FeedProgram.{feed_steps}
+use Rattle.cell_robot.specs.declared.robot_step.RobotProgress.{RobotProgress}
+use Rattle.cell_robot.specs.declared.robot_step.RobotReading.{RobotReading}
+use Rattle.cell_robot.specs.RobotProgram.{scales_of, near_lines, robot_steps}
 use Rattle.cell_stations.specs.declared.press_step.PressProgress.{PressProgress}
 use Rattle.cell_stations.specs.declared.table_step.TableProgress.{TableProgress}
 use Rattle.cell_stations.specs.declared.table_step.TableReading.{TableReading}
@@ -32,42 +36,46 @@ use Rattle.cell_parts.specs.declared.axis.Axis.{Axis}
 use Rattle.cell_parts.specs.declared.belt.Belt.{Belt}
 use Rattle.cell_parts.specs.Axes.{CellScales}
 use Rattle.cell_parts.specs.Plant.{TablePlant, RobotPlant, CranePlant}
-use Rattle.cell_parts.specs.Rigs.{feed_rig, table_rig, press_rig, deposit_rig, crane_rig}
+use Rattle.cell_parts.specs.Rigs.{feed_rig, table_rig, robot_rig, press_rig, deposit_rig, crane_rig}
 
 -- its steps with their notes
 abbrev pub ProgressOf : Machine → Type 0
 ProgressOf Feed = FeedProgress
 ProgressOf Table = TableProgress
+ProgressOf Robot = RobotProgress
 ProgressOf Press = PressProgress
 ProgressOf Deposit = DepositProgress
 ProgressOf Crane = CraneProgress
-ProgressOf _ = Unit {0}
+ProgressOf Watch = Unit {0}
 
 -- what its sensors show, and what they say once checked
 abbrev pub SenseOf : Machine → Type 0
 SenseOf Feed = FeedSense
 SenseOf Table = TableSense
+SenseOf Robot = RobotSense
 SenseOf Press = PressSense
 SenseOf Deposit = DepositSense
 SenseOf Crane = CraneSense
-SenseOf _ = Unit {0}
+SenseOf Watch = Unit {0}
 
 abbrev pub ReadingOf : Machine → Type 0
 ReadingOf Feed = FeedSense
 ReadingOf Table = TableReading
+ReadingOf Robot = RobotReading
 ReadingOf Press = PressSense
 ReadingOf Deposit = DepositSense
 ReadingOf Crane = CraneReading
-ReadingOf _ = Unit {0}
+ReadingOf Watch = Unit {0}
 
 -- what its actuators are told
 abbrev pub ActOf : Machine → Type 0
 ActOf Feed = FeedAct
 ActOf Table = TableAct
+ActOf Robot = RobotAct
 ActOf Press = PressAct
 ActOf Deposit = DepositAct
 ActOf Crane = CraneAct
-ActOf _ = Unit {0}
+ActOf Watch = Unit {0}
 
 -- its part of the plant
 abbrev pub PartOf : Machine → Type 0
@@ -79,11 +87,11 @@ PartOf Deposit = Belt
 PartOf Crane = CranePlant
 PartOf Watch = Unit {0}
 
--- a machine that has no controller, and a part that nothing tells anything
-abbrev pub no_steps : Machine → Steps (Unit {0}) (Unit {0}) (Unit {0}) (Unit {0})
-no_steps m =
+-- the watch: a program with no step that does anything, and a part that nothing tells anything
+abbrev pub no_steps : Steps (Unit {0}) (Unit {0}) (Unit {0}) (Unit {0})
+no_steps =
     record {
-      machine = m;
+      machine = Watch;
       start = λ s. tt;
       call = λ p. None;
       after_done = λ p. p;
@@ -96,31 +104,23 @@ no_steps m =
       motor_demands = λ p act opening seen. ⊤;
     }
 
-abbrev pub no_rig : {State : Type 0} → Rig State (Unit {0}) (Unit {0})
+abbrev pub no_rig : Rig (Unit {0}) (Unit {0}) (Unit {0})
 no_rig = record { shows = λ a s. ⊤; notes = λ a e. a; set = λ a act. a; moves = λ a. a }
-
-abbrev pub has_controller : Machine → Bool
-has_controller Feed = true
-has_controller Table = true
-has_controller Press = true
-has_controller Deposit = true
-has_controller Crane = true
-has_controller _ = false
 
 -- its program, and how its part behaves, by the scales of the cell: a reading is any that a calibration over its scale may give
 abbrev pub steps_of : CellScales → (m : Machine) → Steps (ProgressOf m) (SenseOf m) (ReadingOf m) (ActOf m)
 steps_of c Feed = feed_steps
 steps_of c Table = table_steps c.turn (IsReading c.turn)
-steps_of c Robot = no_steps Robot
+steps_of c Robot = robot_steps (scales_of c.arm1 c.arm2 c.rotation) (near_lines (scales_of c.arm1 c.arm2 c.rotation))
 steps_of c Press = press_steps
 steps_of c Deposit = deposit_steps
 steps_of c Crane = crane_steps c.gripper (IsReading c.gripper)
-steps_of c Watch = no_steps Watch
+steps_of c Watch = no_steps
 
 abbrev pub rig_of : CellScales → (m : Machine) → Rig (PartOf m) (SenseOf m) (ActOf m)
 rig_of c Feed = feed_rig
 rig_of c Table = table_rig c.turn
-rig_of c Robot = no_rig
+rig_of c Robot = robot_rig (record { arm1 = c.arm1; arm2 = c.arm2; rotation = c.rotation })
 rig_of c Press = press_rig
 rig_of c Deposit = deposit_rig
 rig_of c Crane = crane_rig c.gripper

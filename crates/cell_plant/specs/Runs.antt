@@ -1,13 +1,14 @@
 -- Runs of the cell: what each turn of a schedule leads to.
 use Rattle.std.specs.Prelude.{◌≡◌, Bool, true, false, ◌&&◌, List, [], ◌∷◌, None, is_none, ⊤}
 use Rattle.cell_types.specs.declared.machine.Machine.{Machine}
+use Rattle.cell_types.specs.declared.machine.Machine.TheVariants.{Watch}
 use Rattle.cell_types.specs.Same.{same_machine}
 use Rattle.cell_notes.specs.Asks.{Asked}
 use Rattle.cell_seat.specs.Sides.{side_moved}
 use Rattle.cell_seat.specs.SeatTurns.{Takes}
 use Rattle.cell_parts.specs.Axes.{CellScales}
 use Rattle.cell_notes.specs.declared.schedule.Turn.{Turn}
-use Rattle.cell_plant.specs.Machines.{steps_of, rig_of, has_controller}
+use Rattle.cell_plant.specs.Machines.{steps_of, rig_of}
 use Rattle.cell_plant.specs.CellStates.{CellState}
 
 -- a step of a run: whose turn it was, whether it was taken, and what was asked; the state once the actuators were set, and that once the part has moved
@@ -38,9 +39,13 @@ abbrev pub LeadsIf : Bool → CellScales → Machine → Bool → CellState → 
 LeadsIf true c m busy w s = TakesTurn c m busy w s
 LeadsIf false c m busy w s = IsPassedOver w s
 
--- a turn of a machine that nothing has stopped is taken; for now that of one without a controller isn't
+-- a turn of a machine that nothing has stopped is taken; the watch takes none
+abbrev pub is_at_work : Machine → Bool
+is_at_work Watch = false
+is_at_work _ = true
+
 abbrev pub goes_on : CellState → Machine → Bool
-goes_on w m = has_controller m && is_none (w.side m).stopped
+goes_on w m = is_at_work m && is_none (w.side m).stopped
 
 abbrev pub Leads : CellScales → Machine → Bool → CellState → Step → Type 0
 Leads c m busy w s = LeadsIf (goes_on w m) c m busy w s

@@ -4,11 +4,12 @@ use Rattle.cell_calib.specs.declared.gauge.Gauge.{Ghosts}
 use Rattle.cell_haul.specs.CraneProgram.{crane_steps}
 use Rattle.cell_haul.specs.DepositProgram.{deposit_steps}
 use Rattle.cell_haul.specs.FeedProgram.{feed_steps}
+use Rattle.cell_robot.specs.RobotProgram.{gauges_of, robot_steps}
 use Rattle.cell_stations.specs.PressProgram.{press_steps}
 use Rattle.cell_stations.specs.TableProgram.{table_steps}
 use Rattle.cell_seat.specs.Sides.{IsReady}
 use Rattle.cell_plant.specs.declared.simulation.Simulation.TheInside.{Inside}
-use Rattle.cell_plant.specs.Cells.{scales_of, sides_of, IsFitted}
+use Rattle.cell_plant.specs.Cells.{points_of, scales_of, sides_of, IsFitted}
 use Rattle.cell_plant.specs.Moments.{Moment}
 use Rattle.cell_plant.specs.Notebooks.{all_notes}
 
@@ -23,15 +24,22 @@ moment_of s =
       notes = all_notes s.notebooks;
     }
 
--- what the gauges of table and crane may give at a raw value
-pub record Gauges (F4 F5 : Type 0) : Type 1 where
+-- what the five gauges may give at a raw value
+pub record Gauges (F1 F2 F3 F4 F5 : Type 0) : Type 1 where
+  pub arm1 : F1 → ℕ → ℤ → Type 0
+  pub arm2 : F2 → ℕ → ℤ → Type 0
+  pub rotation : F3 → ℕ → ℤ → Type 0
   pub turn : F4 → ℕ → ℤ → Type 0
   pub gripper : F5 → ℕ → ℤ → Type 0
 
-pub record AreReady {F1 F2 F3 F4 F5 : Type 0} {g1 : Ghosts F1} {g2 : Ghosts F2} {g3 : Ghosts F3} {g4 : Ghosts F4} {g5 : Ghosts F5} (gives : Gauges F4 F5) (s : Inside F1 F2 F3 F4 F5 g1 g2 g3 g4 g5) : Type 0 where
+-- each controller that runs has come so far by its events
+pub record AreReady {F1 F2 F3 F4 F5 : Type 0} {g1 : Ghosts F1} {g2 : Ghosts F2} {g3 : Ghosts F3} {g4 : Ghosts F4} {g5 : Ghosts F5} (gives : Gauges F1 F2 F3 F4 F5) (s : Inside F1 F2 F3 F4 F5 g1 g2 g3 g4 g5) : Type 0 where
   pub fitted : IsFitted s.cell
   pub feed : IsReady feed_steps s.bench.opening s.bench.history.items s.cell.feed.controller.stopped s.cell.feed.controller.progress
   pub table : IsReady (table_steps s.cell.table.controller.program.turn.points (gives.turn s.cell.table.controller.program.turn.gauge)) s.bench.opening s.bench.history.items s.cell.table.controller.stopped s.cell.table.controller.progress
+  pub robot : IsReady (robot_steps (points_of s.cell.robot.controller.program)
+      (gauges_of (gives.arm1 s.cell.robot.controller.program.arm1.gauge) (gives.arm2 s.cell.robot.controller.program.arm2.gauge) (gives.rotation s.cell.robot.controller.program.rotation.gauge)))
+      s.bench.opening s.bench.history.items s.cell.robot.controller.stopped s.cell.robot.controller.progress
   pub press : IsReady press_steps s.bench.opening s.bench.history.items s.cell.press.controller.stopped s.cell.press.controller.progress
   pub deposit : IsReady deposit_steps s.bench.opening s.bench.history.items s.cell.deposit.controller.stopped s.cell.deposit.controller.progress
   pub crane : IsReady (crane_steps s.cell.crane.controller.program.gripper.points (gives.gripper s.cell.crane.controller.program.gripper.gauge)) s.bench.opening s.bench.history.items s.cell.crane.controller.stopped s.cell.crane.controller.progress

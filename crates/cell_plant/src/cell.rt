@@ -7,6 +7,7 @@ use cell_calib::{Calibration, Gauge};
 use cell_control::Controller;
 use cell_haul::{CraneProgram, DepositProgram, FeedProgram};
 use cell_parts::{CranePart, DepositPart, FeedPart, PressPart, RobotPart, RobotPoints, TablePart};
+use cell_robot::RobotProgram;
 use cell_rules::State;
 use cell_seat::Seat;
 use cell_stations::{PressProgram, TableProgram};
@@ -17,18 +18,8 @@ pub type FeedSeat = Seat<FeedProgram, FeedPart>;
 /// The table.
 pub type TableSeat<F> = Seat<TableProgram<F>, TablePart>;
 
-/// The robot, with the calibrations of its arms and its rotation. It has no controller yet.
-#[derive(Drop)]
-pub struct RobotSeat<F1: Gauge, F2: Gauge, F3: Gauge> {
-    /// Of the first arm's extension.
-    pub arm1: Calibration<F1>,
-    /// Of the second arm's extension.
-    pub arm2: Calibration<F2>,
-    /// Of the robot's rotation.
-    pub rotation: Calibration<F3>,
-    /// What it moves, and what its sensors show.
-    pub part: RobotPart,
-}
+/// The robot.
+pub type RobotSeat<F1, F2, F3> = Seat<RobotProgram<F1, F2, F3>, RobotPart>;
 
 /// The press.
 pub type PressSeat = Seat<PressProgram, PressPart>;
@@ -69,9 +60,9 @@ impl<F1: Gauge, F2: Gauge, F3: Gauge, F4: Gauge, F5: Gauge> Cell<F1, F2, F3, F4,
     ) -> Cell<F1, F2, F3, F4, F5>
         ensures made { IsMadeFor state.now result }
         ensures scales { scales_of result ≡ record { arm1 = arm1.points; arm2 = arm2.points; rotation = rotation.points; turn = turn.points; gripper = gripper.points } }
-        ensures arm1 { result.robot.arm1 ≡ arm1 }
-        ensures arm2 { result.robot.arm2 ≡ arm2 }
-        ensures rotation { result.robot.rotation ≡ rotation }
+        ensures arm1 { result.robot.controller.program.arm1 ≡ arm1 }
+        ensures arm2 { result.robot.controller.program.arm2 ≡ arm2 }
+        ensures rotation { result.robot.controller.program.rotation ≡ rotation }
         ensures turn { result.table.controller.program.turn ≡ turn }
         ensures gripper { result.crane.controller.program.gripper ≡ gripper }
     {
@@ -91,10 +82,8 @@ impl<F1: Gauge, F2: Gauge, F3: Gauge, F4: Gauge, F5: Gauge> Cell<F1, F2, F3, F4,
                 controller: Controller::new(state, TableProgram::new(turn)),
                 part: table,
             },
-            robot: RobotSeat {
-                arm1,
-                arm2,
-                rotation,
+            robot: Seat {
+                controller: Controller::new(state, RobotProgram::new(arm1, arm2, rotation)),
                 part: RobotPart::start(state, points),
             },
             press: Seat {

@@ -25,9 +25,9 @@ use std::marker::Model;
 /// Runs a schedule on a cell that was made for a start, over a bench that opens with it: turn by turn
 /// that machine's controller, and then a tick of its part; the other parts stand still.
 ///
-/// A turn whose `busy` is set finds the bench busy. A turn of a machine that has stopped, of the
-/// watch, and for now of the robot does nothing and isn't counted. A machine for whose call the bench
-/// had no room stops with `Status::Memory`, and the run goes on.
+/// A turn whose `busy` is set finds the bench busy. A turn of a machine that has stopped, and of the
+/// watch, does nothing and isn't counted. A machine for whose call the bench had no room stops with
+/// `Status::Memory`, and the run goes on.
 /// `Memory` where the room for an entry of a journal was refused, which is made before a turn.
 pub fn simulate<F1: Gauge, F2: Gauge, F3: Gauge, F4: Gauge, F5: Gauge>(
     alloc: Global,
@@ -68,7 +68,7 @@ impl<F1: Gauge, F2: Gauge, F3: Gauge, F4: Gauge, F5: Gauge> Model
 
     ghost view = { λ s. moment_of s };
 
-    ghost invariant = { λ s. AreReady (record { turn = F4.gives; gripper = F5.gives }) s };
+    ghost invariant = { λ s. AreReady (record { arm1 = F1.gives; arm2 = F2.gives; rotation = F3.gives; turn = F4.gives; gripper = F5.gives }) s };
 }
 
 impl<F1: Gauge, F2: Gauge, F3: Gauge, F4: Gauge, F5: Gauge> Simulation<F1, F2, F3, F4, F5> {
@@ -110,6 +110,15 @@ impl<F1: Gauge, F2: Gauge, F3: Gauge, F4: Gauge, F5: Gauge> Simulation<F1, F2, F
                     turn.busy,
                 )
             }
+            Machine::Robot => {
+                seat_turn(
+                    bench,
+                    &mut notebooks.robot,
+                    &mut self.cell.robot,
+                    turn.machine,
+                    turn.busy,
+                )
+            }
             Machine::Press => {
                 seat_turn(
                     bench,
@@ -137,7 +146,7 @@ impl<F1: Gauge, F2: Gauge, F3: Gauge, F4: Gauge, F5: Gauge> Simulation<F1, F2, F
                     turn.busy,
                 )
             }
-            Machine::Robot | Machine::Watch => Ok(()),
+            Machine::Watch => Ok(()),
         }
     }
 
@@ -162,15 +171,14 @@ impl<F1: Gauge, F2: Gauge, F3: Gauge, F4: Gauge, F5: Gauge> Simulation<F1, F2, F
     fn status(&self) -> [Status; 7]
         ensures { result ≡ map (λ m. status_by (side_in self.now.sides m).stopped) all_machines }
     {
-        let idle = status_of(None);
         [
             status_of(self.cell.feed.controller.stopped()),
             status_of(self.cell.table.controller.stopped()),
-            idle,
+            status_of(self.cell.robot.controller.stopped()),
             status_of(self.cell.press.controller.stopped()),
             status_of(self.cell.deposit.controller.stopped()),
             status_of(self.cell.crane.controller.stopped()),
-            idle,
+            status_of(None),
         ]
     }
 

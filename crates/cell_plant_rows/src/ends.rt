@@ -42,6 +42,20 @@ const ROWS: &[Row] = &[
         stamp: 11,
         axes: &[],
     },
+    // the robot loads the press with the plate of its first arm
+    Row {
+        start: b"0001000000",
+        schedule: &[
+            (Machine::Press, 30),
+            (Machine::Robot, 143),
+            (Machine::Press, 1),
+        ],
+        did: &[(2, [143, 2, 1, 0]), (3, [31, 5, 0, 0])],
+        zones: &[(Zone::Z3, Some(Machine::Press), false, Posture::OpenIn)],
+        places: b"0000100000",
+        stamp: 7,
+        axes: &[(0, 500), (1, 20), (3, 1480)],
+    },
     // the crane brings its plate to the feed belt, and goes up again
     Row {
         start: b"0000000001",

@@ -137,18 +137,12 @@ fn a_machine_that_is_worn_stops(rt: HostRuntime) -> Result<(), Fail> {
 }
 
 #[test]
-fn turns_of_other_machines_do_nothing(rt: HostRuntime) -> Result<(), Fail> {
-    let mut turns = Vec::new(rt.alloc());
-    for machine in [Machine::Robot, Machine::Watch] {
-        turns.push(Turn {
-            machine,
-            busy: false,
-        })?;
-    }
+fn turns_of_the_watch_do_nothing(rt: HostRuntime) -> Result<(), Fail> {
+    let turns = turns_of(rt.alloc(), Machine::Watch, false, 2)?;
     let record = run(rt.alloc(), ON_TABLE, 3, turns.as_slice())??;
-    assert_eq!(rt; record.counts, [Counts::default(); 7]);
-    assert_eq!(rt; record.start, State::start(ON_TABLE, 3)?);
-    assert_eq!(rt; record.end, Some(record.start));
+    assert!(rt; record.counts == [Counts::default(); 7]);
+    assert!(rt; record.start == State::start(ON_TABLE, 3)?);
+    assert!(rt; record.end == Some(record.start));
     Ok(())
 }
 

@@ -1,15 +1,16 @@
 use Rattle.std.proofs.Common.{◌∙◌, refl, sym, ap, subst}
-use Rattle.cell_types.specs.declared.machine.Machine.TheVariants.{Feed, Table, Press, Deposit, Crane}
+use Rattle.cell_types.specs.declared.machine.Machine.TheVariants.{Feed, Table, Robot, Press, Deposit, Crane}
 use Rattle.cell_notes.specs.Notes.{HasRoom}
 use Rattle.cell_haul.specs.CraneProgram.{crane_steps}
 use Rattle.cell_haul.specs.DepositProgram.{deposit_steps}
 use Rattle.cell_haul.specs.FeedProgram.{feed_steps}
+use Rattle.cell_robot.specs.RobotProgram.{gauges_of, robot_steps}
 use Rattle.cell_stations.specs.PressProgram.{press_steps}
 use Rattle.cell_stations.specs.TableProgram.{table_steps}
-use Rattle.cell_parts.specs.Rigs.{table_rig, crane_rig}
-use Rattle.cell_plant.specs.Cells.{scales_of}
+use Rattle.cell_parts.specs.Rigs.{table_rig, robot_rig, crane_rig}
+use Rattle.cell_plant.specs.Cells.{points_of, scales_of}
 use Rattle.cell_plant.specs.Moments.{Moment, notes_in}
-use Rattle.cell_plant.proofs.Stepping.{table_near, crane_near, feed_on, table_on, press_on, deposit_on, crane_on, idle_on, none_controlled, on_ok, grows, stays_ready, with_turn, with_gripper, turn_is, by_turn}
+use Rattle.cell_plant.proofs.Stepping.{table_near, robot_near, crane_near, feed_on, table_on, robot_on, press_on, deposit_on, crane_on, idle_on, watch_rests, on_ok, grows, stays_ready, with_turn, with_robot, with_gripper, turn_is, by_turn}
 use Rattle.cell_plant.proofs.simulation.Simulation.turn.Goals as goal
 
 pub seat_turn-requires-clause-room : goal.seat_turn-requires-clause-room
@@ -17,6 +18,9 @@ seat_turn-requires-clause-room g c = subst (λ (m : Moment). HasRoom (notes_in m
 
 pub seat_turn-requires-in-Table-clause-room : goal.seat_turn-requires-in-Table-clause-room
 seat_turn-requires-in-Table-clause-room g c = subst (λ (m : Moment). HasRoom (notes_in m.notes Table).counts) (sym c.self.view_is) (c.requires.room Table)
+
+pub seat_turn-requires-in-Robot-clause-room : goal.seat_turn-requires-in-Robot-clause-room
+seat_turn-requires-in-Robot-clause-room g c = subst (λ (m : Moment). HasRoom (notes_in m.notes Robot).counts) (sym c.self.view_is) (c.requires.room Robot)
 
 pub seat_turn-requires-in-Press-clause-room : goal.seat_turn-requires-in-Press-clause-room
 seat_turn-requires-in-Press-clause-room g c = subst (λ (m : Moment). HasRoom (notes_in m.notes Press).counts) (sym c.self.view_is) (c.requires.room Press)
@@ -31,6 +35,7 @@ pub invariant_of-self : goal.invariant_of-self
 invariant_of-self g c =
     let old = c.self.invariant in
     let turn = c.self.inside.cell.table.controller.program.turn in
+    let robot = c.self.inside.cell.robot.controller.program in
     let gripper = c.self.inside.cell.crane.controller.program.gripper in
     let done = c.seat_turn.ensures in
     let k = grows c.seat_turn.result _ _ _ _ _ _ _ _ _ done.turn done.failed in
@@ -38,6 +43,7 @@ invariant_of-self g c =
       fitted = record { arm1 = old.fitted.arm1; arm2 = old.fitted.arm2; rotation = old.fitted.rotation; turn = old.fitted.turn; gripper = old.fitted.gripper };
       feed = done.ready;
       table = stays_ready (table_steps turn.points (g.F4.Gauge.gives turn.gauge)) Feed _ _ k _ _ refl old.table;
+      robot = stays_ready (robot_steps (points_of robot) (gauges_of (g.F1.Gauge.gives robot.arm1.gauge) (g.F2.Gauge.gives robot.arm2.gauge) (g.F3.Gauge.gives robot.rotation.gauge))) Feed _ _ k _ _ refl old.robot;
       press = stays_ready press_steps Feed _ _ k _ _ refl old.press;
       deposit = stays_ready deposit_steps Feed _ _ k _ _ refl old.deposit;
       crane = stays_ready (crane_steps gripper.points (g.F5.Gauge.gives gripper.gauge)) Feed _ _ k _ _ refl old.crane;
@@ -46,6 +52,7 @@ invariant_of-self g c =
 pub invariant_of-self-in-Table : goal.invariant_of-self-in-Table
 invariant_of-self-in-Table g c =
     let old = c.self.invariant in
+    let robot = c.self.inside.cell.robot.controller.program in
     let gripper = c.self.inside.cell.crane.controller.program.gripper in
     let done = c.seat_turn-in-Table.ensures in
     let k = grows c.seat_turn-in-Table.result _ _ _ _ _ _ _ _ _ done.turn done.failed in
@@ -59,15 +66,40 @@ invariant_of-self-in-Table g c =
       };
       feed = stays_ready feed_steps Table _ _ k _ _ refl old.feed;
       table = done.ready;
+      robot = stays_ready (robot_steps (points_of robot) (gauges_of (g.F1.Gauge.gives robot.arm1.gauge) (g.F2.Gauge.gives robot.arm2.gauge) (g.F3.Gauge.gives robot.rotation.gauge))) Table _ _ k _ _ refl old.robot;
       press = stays_ready press_steps Table _ _ k _ _ refl old.press;
       deposit = stays_ready deposit_steps Table _ _ k _ _ refl old.deposit;
       crane = stays_ready (crane_steps gripper.points (g.F5.Gauge.gives gripper.gauge)) Table _ _ k _ _ refl old.crane;
+    }
+
+pub invariant_of-self-in-Robot : goal.invariant_of-self-in-Robot
+invariant_of-self-in-Robot g c =
+    let old = c.self.invariant in
+    let turn = c.self.inside.cell.table.controller.program.turn in
+    let gripper = c.self.inside.cell.crane.controller.program.gripper in
+    let done = c.seat_turn-in-Robot.ensures in
+    let k = grows c.seat_turn-in-Robot.result _ _ _ _ _ _ _ _ _ done.turn done.failed in
+    record {
+      fitted = record {
+        arm1 = ap (λ s. s.arm1) done.make ∙ old.fitted.arm1 ∙ sym (ap (λ p. p.arm1.points) done.program);
+        arm2 = ap (λ s. s.arm2) done.make ∙ old.fitted.arm2 ∙ sym (ap (λ p. p.arm2.points) done.program);
+        rotation = ap (λ s. s.rotation) done.make ∙ old.fitted.rotation ∙ sym (ap (λ p. p.rotation.points) done.program);
+        turn = old.fitted.turn;
+        gripper = old.fitted.gripper;
+      };
+      feed = stays_ready feed_steps Robot _ _ k _ _ refl old.feed;
+      table = stays_ready (table_steps turn.points (g.F4.Gauge.gives turn.gauge)) Robot _ _ k _ _ refl old.table;
+      robot = done.ready;
+      press = stays_ready press_steps Robot _ _ k _ _ refl old.press;
+      deposit = stays_ready deposit_steps Robot _ _ k _ _ refl old.deposit;
+      crane = stays_ready (crane_steps gripper.points (g.F5.Gauge.gives gripper.gauge)) Robot _ _ k _ _ refl old.crane;
     }
 
 pub invariant_of-self-in-Press : goal.invariant_of-self-in-Press
 invariant_of-self-in-Press g c =
     let old = c.self.invariant in
     let turn = c.self.inside.cell.table.controller.program.turn in
+    let robot = c.self.inside.cell.robot.controller.program in
     let gripper = c.self.inside.cell.crane.controller.program.gripper in
     let done = c.seat_turn-in-Press.ensures in
     let k = grows c.seat_turn-in-Press.result _ _ _ _ _ _ _ _ _ done.turn done.failed in
@@ -75,6 +107,7 @@ invariant_of-self-in-Press g c =
       fitted = record { arm1 = old.fitted.arm1; arm2 = old.fitted.arm2; rotation = old.fitted.rotation; turn = old.fitted.turn; gripper = old.fitted.gripper };
       feed = stays_ready feed_steps Press _ _ k _ _ refl old.feed;
       table = stays_ready (table_steps turn.points (g.F4.Gauge.gives turn.gauge)) Press _ _ k _ _ refl old.table;
+      robot = stays_ready (robot_steps (points_of robot) (gauges_of (g.F1.Gauge.gives robot.arm1.gauge) (g.F2.Gauge.gives robot.arm2.gauge) (g.F3.Gauge.gives robot.rotation.gauge))) Press _ _ k _ _ refl old.robot;
       press = done.ready;
       deposit = stays_ready deposit_steps Press _ _ k _ _ refl old.deposit;
       crane = stays_ready (crane_steps gripper.points (g.F5.Gauge.gives gripper.gauge)) Press _ _ k _ _ refl old.crane;
@@ -84,6 +117,7 @@ pub invariant_of-self-in-Deposit : goal.invariant_of-self-in-Deposit
 invariant_of-self-in-Deposit g c =
     let old = c.self.invariant in
     let turn = c.self.inside.cell.table.controller.program.turn in
+    let robot = c.self.inside.cell.robot.controller.program in
     let gripper = c.self.inside.cell.crane.controller.program.gripper in
     let done = c.seat_turn-in-Deposit.ensures in
     let k = grows c.seat_turn-in-Deposit.result _ _ _ _ _ _ _ _ _ done.turn done.failed in
@@ -91,6 +125,7 @@ invariant_of-self-in-Deposit g c =
       fitted = record { arm1 = old.fitted.arm1; arm2 = old.fitted.arm2; rotation = old.fitted.rotation; turn = old.fitted.turn; gripper = old.fitted.gripper };
       feed = stays_ready feed_steps Deposit _ _ k _ _ refl old.feed;
       table = stays_ready (table_steps turn.points (g.F4.Gauge.gives turn.gauge)) Deposit _ _ k _ _ refl old.table;
+      robot = stays_ready (robot_steps (points_of robot) (gauges_of (g.F1.Gauge.gives robot.arm1.gauge) (g.F2.Gauge.gives robot.arm2.gauge) (g.F3.Gauge.gives robot.rotation.gauge))) Deposit _ _ k _ _ refl old.robot;
       press = stays_ready press_steps Deposit _ _ k _ _ refl old.press;
       deposit = done.ready;
       crane = stays_ready (crane_steps gripper.points (g.F5.Gauge.gives gripper.gauge)) Deposit _ _ k _ _ refl old.crane;
@@ -100,6 +135,7 @@ pub invariant_of-self-in-Crane : goal.invariant_of-self-in-Crane
 invariant_of-self-in-Crane g c =
     let old = c.self.invariant in
     let turn = c.self.inside.cell.table.controller.program.turn in
+    let robot = c.self.inside.cell.robot.controller.program in
     let done = c.seat_turn-in-Crane.ensures in
     let k = grows c.seat_turn-in-Crane.result _ _ _ _ _ _ _ _ _ done.turn done.failed in
     record {
@@ -112,6 +148,7 @@ invariant_of-self-in-Crane g c =
       };
       feed = stays_ready feed_steps Crane _ _ k _ _ refl old.feed;
       table = stays_ready (table_steps turn.points (g.F4.Gauge.gives turn.gauge)) Crane _ _ k _ _ refl old.table;
+      robot = stays_ready (robot_steps (points_of robot) (gauges_of (g.F1.Gauge.gives robot.arm1.gauge) (g.F2.Gauge.gives robot.arm2.gauge) (g.F3.Gauge.gives robot.rotation.gauge))) Crane _ _ k _ _ refl old.robot;
       press = stays_ready press_steps Crane _ _ k _ _ refl old.press;
       deposit = stays_ready deposit_steps Crane _ _ k _ _ refl old.deposit;
       crane = done.ready;
@@ -134,6 +171,17 @@ returns-in-Table g c =
     let near = table_near turn.points (g.F4.Gauge.gives turn.gauge) (table_rig c.self.inside.cell.table.part.scale) _ _ _ _ _ _ _ turned in
     by_turn _ c.args.turn _ _ (turn_is c.args.turn Table c.in-Table.is)
     (table_on _ _ c.args.turn.busy near.asked (ap (with_turn (scales_of c.self.inside.cell)) done.make) near.opening turn.points near.leads c.self.invariant.fitted.turn near.history near.noted refl refl)))
+
+pub returns-in-Robot : goal.returns-in-Robot
+returns-in-Robot g c =
+    let done = c.seat_turn-in-Robot.ensures in
+    rw (sym c.self.view_is)
+    (on_ok c.seat_turn-in-Robot.result _ _ done.turn (λ turned.
+    let robot = c.self.inside.cell.robot.controller.program in
+    let fitted = c.self.invariant.fitted in
+    let near = robot_near (points_of robot) (gauges_of (g.F1.Gauge.gives robot.arm1.gauge) (g.F2.Gauge.gives robot.arm2.gauge) (g.F3.Gauge.gives robot.rotation.gauge)) (robot_rig c.self.inside.cell.robot.part.scale) _ _ _ _ _ _ _ turned in
+    by_turn _ c.args.turn _ _ (turn_is c.args.turn Robot c.in-Robot.is)
+    (robot_on _ _ c.args.turn.busy near.asked (ap (with_robot (scales_of c.self.inside.cell)) done.make) near.opening (points_of robot) near.leads fitted.arm1 fitted.arm2 fitted.rotation near.history near.noted refl refl)))
 
 pub returns-in-Press : goal.returns-in-Press
 returns-in-Press g c =
@@ -161,5 +209,5 @@ returns-in-Crane g c =
     by_turn _ c.args.turn _ _ (turn_is c.args.turn Crane c.in-Crane.is)
     (crane_on _ _ c.args.turn.busy near.asked (ap (with_gripper (scales_of c.self.inside.cell)) done.make) near.opening gripper.points near.leads c.self.invariant.fitted.gripper near.history near.noted refl refl)))
 
-pub returns-in-Robot : goal.returns-in-Robot
-returns-in-Robot g c = rw (sym c.self.view_is) (idle_on c.args.turn _ (none_controlled c.args.turn.machine c.in-Robot.is))
+pub returns-in-Watch : goal.returns-in-Watch
+returns-in-Watch g c = rw (sym c.self.view_is) (idle_on c.args.turn _ (watch_rests c.args.turn.machine c.in-Watch.is))

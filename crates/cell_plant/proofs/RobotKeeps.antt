@@ -1,0 +1,558 @@
+-- What the robot keeps of its side, in every state of a run.
+use Rattle.std.proofs.Common.{◌≡◌, ℤ, pos, ◌<ℤ◌, ◌≤ℤ◌, Bool, true, false, not, ◌&&◌, ◌||◌, ◌⊎◌, inl, inr, Option, Some, None, Result, Ok, refl, sym, ap, ◌∙◌, subst, if◌then◌else◌, arith}
+use Rattle.std.specs.Prelude.{⊤}
+use Rattle.std.proofs.lemmas.Int.{ints}
+use Rattle.cell_types.specs.declared.machine.Machine.{Machine}
+use Rattle.cell_types.specs.declared.machine.Machine.TheVariants.{Robot}
+use Rattle.cell_types.specs.declared.call.Call.{Call}
+use Rattle.cell_types.specs.declared.reply.Reply.{Reply}
+use Rattle.cell_types.specs.declared.posture.Posture.{Posture}
+use Rattle.cell_types.specs.declared.posture.Posture.TheVariants.{OpenIn, OpenOut}
+use Rattle.cell_types.specs.declared.zone.Zone.TheVariants.{Z2, Z3, Z4}
+use Rattle.cell_calib.specs.Scale.{Scale}
+use Rattle.cell_calib.specs.Line.{IsNear}
+use Rattle.cell_calib.specs.declared.sense.RobotSense.{RobotSense}
+use Rattle.cell_devices.specs.declared.motor.Motor.{Motor}
+use Rattle.cell_devices.specs.declared.motor.Motor.TheVariants.{Off, Plus, Minus}
+use Rattle.cell_devices.specs.declared.act.RobotAct.{RobotAct}
+use Rattle.cell_devices.specs.declared.stops.Stop.{Stop}
+use Rattle.cell_devices.specs.declared.stops.TheConstants.{RETRACTED, ARM1_PRESS, ARM2_DEPOSIT, ROTATION_ARM1_TABLE, ROTATION_ARM1_PRESS, ROTATION_ARM2_PRESS, ROTATION_ARM2_DEPOSIT}
+use Rattle.cell_devices.specs.Drives.{DrivesTo}
+use Rattle.cell_rules.specs.declared.heard.LineFault.{LineFault}
+use Rattle.cell_rules.specs.ModelState.{ModelState, is_full}
+use Rattle.cell_rules.specs.Reply.{changed}
+use Rattle.cell_control.specs.declared.fault.CtlFault.{CtlFault}
+use Rattle.cell_control.specs.Turns.{Turned, Turns}
+use Rattle.cell_control.proofs.Facts.{AreSo}
+use Rattle.cell_robot.specs.declared.robot_step.RobotStep.{RobotStep}
+use Rattle.cell_robot.specs.declared.robot_step.RobotStep.TheVariants.{TurnToTable, AwaitPlate, ReachTable, GripPlate, LeaveTable, TakePlate, ReleaseTable, TurnToLoad, ClaimPress, InspectPress, ReleasePress, ReachToLoad, DropInPress, LeaveLoaded, GiveToPress, TurnToUnload, AwaitForged, ReachToUnload, GripForged, LeaveUnloaded, TakeForged, ReleaseUnloaded, TurnToDeposit, ClaimDeposit, ReachDeposit, DropOnDeposit, LeaveDeposit, GiveToDeposit}
+use Rattle.cell_robot.specs.declared.robot_step.RobotNotes.{RobotNotes}
+use Rattle.cell_robot.specs.declared.robot_step.RobotMagnets.{RobotMagnets}
+use Rattle.cell_robot.specs.declared.robot_step.RobotProgress.{RobotProgress}
+use Rattle.cell_robot.specs.declared.robot_step.RobotReading.{RobotReading}
+use Rattle.cell_robot.specs.RobotProgram.{call_of, choice, step_after, step_after_inquiry, notes_after, magnets_by, after_done, notes_at, robot_start, RobotScales, near_lines, Senses, rotation_stop, turns_to, arm1_stop, arm2_stop, Acts, is_off, turns, is_done, robot_rest, robot_steps}
+use Rattle.cell_robot.proofs.RobotFacts.{facts_at, RobotKnows, at_choice, robot-knowing}
+use Rattle.cell_seat.specs.Sides.{act_or_rest}
+use Rattle.cell_seat.proofs.Keeping.{Keeping, turn_tells}
+use Rattle.cell_parts.specs.declared.axis.Axis.{Axis}
+use Rattle.cell_parts.specs.Axes.{RobotScales as PartScales, IsAxisScale, IsWithin, IsIn, arm_end, rotation_end, rotation_start}
+use Rattle.cell_parts.specs.Plant.{RobotPlant, robot_at_start, moved_axis, set_axis, set_robot}
+use Rattle.cell_parts.specs.Rigs.{robot_rig}
+use Rattle.cell_parts.specs.Shows.{RobotShows}
+use Rattle.cell_parts.specs.Collisions.{IsOn, IsOut, IsArm1AtTable, IsArm1InPress, IsArm2InPress, IsArm2AtDeposit, LetsGo, Arm1MayLetGo, Arm2MayLetGo, DrivesPast}
+use Rattle.cell_parts.specs.MotorDemands.{RotatesRetracted}
+use Rattle.cell_parts.specs.PositionDemands.{HoldsIn}
+use Rattle.cell_plant.proofs.Stops.{reading_near, span_of, at_stop, StopsWithin, off_within, driven_within}
+use Rattle.cell_plant.proofs.WithinLemmas.{between, moved_within}
+
+-- the stop at which each arm stands at a step, and the rotation; none where it may be anywhere
+abbrev arm1_at : RobotStep → Option Stop
+arm1_at ReachTable = None
+arm1_at GripPlate = None
+arm1_at LeaveTable = None
+arm1_at ReachToLoad = None
+arm1_at DropInPress = Some ARM1_PRESS
+arm1_at LeaveLoaded = None
+arm1_at _ = Some RETRACTED
+
+abbrev arm2_at : RobotStep → Option Stop
+arm2_at ReachToUnload = None
+arm2_at GripForged = None
+arm2_at LeaveUnloaded = None
+arm2_at ReachDeposit = None
+arm2_at DropOnDeposit = Some ARM2_DEPOSIT
+arm2_at LeaveDeposit = None
+arm2_at _ = Some RETRACTED
+
+abbrev rotation_at : RobotStep → Option Stop
+rotation_at AwaitPlate = Some ROTATION_ARM1_TABLE
+rotation_at ReachTable = Some ROTATION_ARM1_TABLE
+rotation_at GripPlate = Some ROTATION_ARM1_TABLE
+rotation_at LeaveTable = Some ROTATION_ARM1_TABLE
+rotation_at ClaimPress = Some ROTATION_ARM1_PRESS
+rotation_at InspectPress = Some ROTATION_ARM1_PRESS
+rotation_at ReleasePress = Some ROTATION_ARM1_PRESS
+rotation_at ReachToLoad = Some ROTATION_ARM1_PRESS
+rotation_at DropInPress = Some ROTATION_ARM1_PRESS
+rotation_at LeaveLoaded = Some ROTATION_ARM1_PRESS
+rotation_at AwaitForged = Some ROTATION_ARM2_PRESS
+rotation_at ReachToUnload = Some ROTATION_ARM2_PRESS
+rotation_at GripForged = Some ROTATION_ARM2_PRESS
+rotation_at LeaveUnloaded = Some ROTATION_ARM2_PRESS
+rotation_at ClaimDeposit = Some ROTATION_ARM2_DEPOSIT
+rotation_at ReachDeposit = Some ROTATION_ARM2_DEPOSIT
+rotation_at DropOnDeposit = Some ROTATION_ARM2_DEPOSIT
+rotation_at LeaveDeposit = Some ROTATION_ARM2_DEPOSIT
+rotation_at _ = None
+
+-- an axis stands at a stop, with its motor off
+abbrev StandsAt : Option Stop → Axis → Type 0
+StandsAt None a = ⊤
+StandsAt (Some stop) a = IsIn (span_of stop) a.position × (a.motor ≡ Off)
+
+stands_off : (at : Option Stop) (a : Axis) → StandsAt at a → StandsAt at (set_axis a Off)
+stands_off None a k = tt
+stands_off (Some stop) a k = (k.0, refl)
+
+stands_moved : (end : ℤ) (at : Option Stop) (a : Axis) → StandsAt at a → StandsAt at (moved_axis end a)
+stands_moved end None a k = tt
+stands_moved end (Some stop) a k = (rw k.1 k.0, k.1)
+
+-- a step leads to where an axis stands already, or may be anywhere; or it comes to where it was driven
+abbrev Stays : Option Stop → Option Stop → Type 0
+Stays at next = (next ≡ None) ⊎ (next ≡ at)
+
+abbrev Comes : Option Stop → Option Stop → Option Stop → Type 0
+Comes at stop next = Stays at next ⊎ (next ≡ stop)
+
+anywhere : {at : Option Stop} → Stays at None
+anywhere = inl refl
+
+there : {at : Option Stop} → Stays at at
+there = inr refl
+
+stays_off : (at next : Option Stop) (a : Axis) → Stays at next → StandsAt at a → StandsAt next (set_axis a Off)
+stays_off at next a (inl e) k = subst (λ x. StandsAt x (set_axis a Off)) (sym e) tt
+stays_off at next a (inr e) k = subst (λ x. StandsAt x (set_axis a Off)) (sym e) (stands_off at a k)
+
+at_stop_off : (stop : Option Stop) (a : Axis) (tol read : ℤ) → IsNear read a.position tol → DrivesTo stop tol read Off → StandsAt stop (set_axis a Off)
+at_stop_off None a tol read near drives = tt
+at_stop_off (Some stop) a tol read near drives = (at_stop stop tol read a.position near (drives.off.0 refl), refl)
+
+comes_off : (at stop next : Option Stop) (a : Axis) (tol read : ℤ) (m : Motor) → Comes at stop next → IsNear read a.position tol → DrivesTo stop tol read m → m ≡ Off → StandsAt at a → StandsAt next (set_axis a m)
+comes_off at stop next a tol read m (inl stays) near drives off k = subst (λ x. StandsAt next (set_axis a x)) (sym off) (stays_off at next a stays k)
+comes_off at stop next a tol read m (inr e) near drives off k =
+    subst (λ x. StandsAt next (set_axis a x)) (sym off) (subst (λ x. StandsAt x (set_axis a Off)) (sym e) (at_stop_off stop a tol read near (subst (λ x. DrivesTo stop tol read x) off drives)))
+
+-- while it is driven it may be anywhere
+still_there : (at stop : Option Stop) (a : Axis) (tol read : ℤ) (m : Motor) → (at ≡ None) ⊎ (stop ≡ None) → DrivesTo stop tol read m → StandsAt at a → StandsAt at (set_axis a m)
+still_there at stop a tol read m (inl e) drives k = subst (λ x. StandsAt x (set_axis a m)) (sym e) tt
+still_there at stop a tol read m (inr e) drives k =
+    let off : m ≡ Off = subst (λ x. DrivesTo x tol read m) e drives in
+    subst (λ x. StandsAt at (set_axis a x)) (sym off) (stands_off at a k)
+
+arm1_still : (s : RobotStep) → (arm1_at s ≡ None) ⊎ (arm1_stop s ≡ None)
+arm1_still ReachTable = inl refl
+arm1_still LeaveTable = inl refl
+arm1_still ReachToLoad = inl refl
+arm1_still LeaveLoaded = inl refl
+arm1_still s = inr refl
+
+arm2_still : (s : RobotStep) → (arm2_at s ≡ None) ⊎ (arm2_stop s ≡ None)
+arm2_still ReachToUnload = inl refl
+arm2_still LeaveUnloaded = inl refl
+arm2_still ReachDeposit = inl refl
+arm2_still LeaveDeposit = inl refl
+arm2_still s = inr refl
+
+no_stop : (b : Bool) (stop : Option Stop) → stop ≡ None → (if b then stop else None) ≡ None
+no_stop true stop e = e
+no_stop false stop e = refl
+
+rotation_still : (s : RobotStep) (b : Bool) → (rotation_at s ≡ None) ⊎ (turns_to s b ≡ None)
+rotation_still TurnToTable b = inl refl
+rotation_still TurnToLoad b = inl refl
+rotation_still TurnToUnload b = inl refl
+rotation_still TurnToDeposit b = inl refl
+rotation_still s b = inr (no_stop b (rotation_stop s) refl)
+
+-- where steps lead: before a group of steps both arms are in, and the rotation may be any
+choice_by : (arm1 arm2 fed : Bool) → (arm1_at (choice (record { arm1 = arm1; arm2 = arm2; fed = fed })) ≡ Some RETRACTED) × (arm2_at (choice (record { arm1 = arm1; arm2 = arm2; fed = fed })) ≡ Some RETRACTED) × (rotation_at (choice (record { arm1 = arm1; arm2 = arm2; fed = fed })) ≡ None)
+choice_by arm1 true fed = (refl, refl, refl)
+choice_by arm1 false true = (refl, refl, refl)
+choice_by true false false = (refl, refl, refl)
+choice_by false false false = (refl, refl, refl)
+
+at_group : (n : RobotNotes) → (arm1_at (choice n) ≡ Some RETRACTED) × (arm2_at (choice n) ≡ Some RETRACTED) × (rotation_at (choice n) ≡ None)
+at_group n = choice_by n.arm1 n.arm2 n.fed
+
+abbrev StaysAll : RobotStep → RobotStep → Type 0
+StaysAll s t = Stays (arm1_at s) (arm1_at t) × Stays (arm2_at s) (arm2_at t) × Stays (rotation_at s) (rotation_at t)
+
+abbrev ComesAll : RobotStep → RobotStep → Type 0
+ComesAll s t = Comes (arm1_at s) (arm1_stop s) (arm1_at t) × Comes (arm2_at s) (arm2_stop s) (arm2_at t) × Comes (rotation_at s) (rotation_stop s) (rotation_at t)
+
+to_group : (n : RobotNotes) → Stays (Some RETRACTED) (arm1_at (choice n)) × Stays (Some RETRACTED) (arm2_at (choice n)) × Stays None (rotation_at (choice n))
+to_group n = let at = at_group n in (inr at.0, inr at.1, inl at.2)
+
+asks_lead : (s : RobotStep) (n : RobotNotes) (c : Call) → call_of s ≡ Some c → StaysAll s (step_after s n)
+asks_lead AwaitPlate n c e = (there, there, there)
+asks_lead TakePlate n c e = (there, there, there)
+asks_lead ReleaseTable n c e = to_group n
+asks_lead ClaimPress n c e = (there, there, there)
+asks_lead InspectPress n c e = (there, there, there)
+asks_lead ReleasePress n c e = (there, there, there)
+asks_lead GiveToPress n c e = to_group n
+asks_lead AwaitForged n c e = (there, there, there)
+asks_lead TakeForged n c e = (there, there, there)
+asks_lead ReleaseUnloaded n c e = to_group n
+asks_lead ClaimDeposit n c e = (there, anywhere, there)
+asks_lead GiveToDeposit n c e = to_group n
+asks_lead s n c e = cc
+
+at_table : (o : Option Machine) (f : Bool) (q : Posture) → StaysAll AwaitPlate (step_after_inquiry AwaitPlate o f q)
+at_table (Some Robot) true q = (anywhere, there, there)
+at_table o f q = (there, there, there)
+
+before_press : (o : Option Machine) (f : Bool) (q : Posture) → StaysAll InspectPress (step_after_inquiry InspectPress o f q)
+before_press o f OpenIn = (anywhere, there, there)
+before_press o f q = (there, there, there)
+
+at_press : (o : Option Machine) (f : Bool) (q : Posture) → StaysAll AwaitForged (step_after_inquiry AwaitForged o f q)
+at_press (Some Robot) true q = (there, anywhere, there)
+at_press o f q = (there, there, there)
+
+inquiries_lead : (s : RobotStep) (o : Option Machine) (f : Bool) (q : Posture) → StaysAll s (step_after_inquiry s o f q)
+inquiries_lead AwaitPlate o f q = at_table o f q
+inquiries_lead InspectPress o f q = before_press o f q
+inquiries_lead AwaitForged o f q = at_press o f q
+inquiries_lead s o f q = (there, there, there)
+
+drives_lead : (s : RobotStep) (n : RobotNotes) → call_of s ≡ None → ComesAll s (step_after s n)
+drives_lead TurnToTable n e = (inl there, inl there, inr refl)
+drives_lead ReachTable n e = (inl anywhere, inl there, inl there)
+drives_lead GripPlate n e = (inl anywhere, inl there, inl there)
+drives_lead LeaveTable n e = (inr refl, inl there, inl anywhere)
+drives_lead TurnToLoad n e = (inl there, inl there, inr refl)
+drives_lead ReachToLoad n e = (inr refl, inl there, inl there)
+drives_lead DropInPress n e = (inl anywhere, inl there, inl there)
+drives_lead LeaveLoaded n e = (inr refl, inl there, inl anywhere)
+drives_lead TurnToUnload n e = (inl there, inl there, inr refl)
+drives_lead ReachToUnload n e = (inl there, inl anywhere, inl there)
+drives_lead GripForged n e = (inl there, inl anywhere, inl there)
+drives_lead LeaveUnloaded n e = (inl there, inr refl, inl anywhere)
+drives_lead TurnToDeposit n e = (inl there, inl there, inr refl)
+drives_lead ReachDeposit n e = (inl there, inr refl, inl there)
+drives_lead DropOnDeposit n e = (inl there, inl anywhere, inl there)
+drives_lead LeaveDeposit n e = (inl there, inr refl, inl anywhere)
+drives_lead s n e = cc
+
+-- what its step knows of the interlock; its magnets are as they were told last, each axis stands where the step has it, and it turns only in steps that turn
+pub record RobotInv (z : ModelState) (p : RobotProgress) (r : RobotPlant) : Type 0 where
+  pub knows : RobotKnows p z
+  pub magnet1 : r.magnet1 ≡ p.magnets.arm1
+  pub magnet2 : r.magnet2 ≡ p.magnets.arm2
+  pub arm1_within : IsWithin arm_end r.arm1.position
+  pub arm2_within : IsWithin arm_end r.arm2.position
+  pub rotation_within : IsWithin rotation_end r.rotation.position
+  pub arm1 : StandsAt (arm1_at p.step) r.arm1
+  pub arm2 : StandsAt (arm2_at p.step) r.arm2
+  pub rotation : StandsAt (rotation_at p.step) r.rotation
+  pub turning : IsOn r.rotation → turns p.step ≡ true
+
+pub robot-start : (s : ModelState) → RobotInv s (robot_start s) (robot_at_start s)
+robot-start s =
+    let at = at_group (notes_at s) in
+    record {
+      knows = at_choice (notes_at s) s;
+      magnet1 = refl;
+      magnet2 = refl;
+      arm1_within = between arm_end (pos 0) (omega (arith, ints)) (omega (arith, ints));
+      arm2_within = between arm_end (pos 0) (omega (arith, ints)) (omega (arith, ints));
+      rotation_within = between rotation_end rotation_start (omega (arith, ints)) (omega (arith, ints));
+      arm1 = subst (λ x. StandsAt x (robot_at_start s).arm1) (sym at.0) ((omega (arith, ints), omega (arith, ints)), refl);
+      arm2 = subst (λ x. StandsAt x (robot_at_start s).arm2) (sym at.1) ((omega (arith, ints), omega (arith, ints)), refl);
+      rotation = subst (λ x. StandsAt x (robot_at_start s).rotation) (sym at.2) tt;
+      turning = λ on. absurd (on refl);
+    }
+
+-- with its motors off it stays where it is
+at_rest : {z : ModelState} → (y : ModelState) (p q : RobotProgress) (r : RobotPlant) → RobotInv z p r → RobotKnows q y → p.magnets ≡ q.magnets → StaysAll p.step q.step → RobotInv y q (set_robot r (robot_rest p))
+at_rest y p q r i knows magnets leads = record {
+  knows = knows;
+  magnet1 = ap (λ m. m.arm1) magnets;
+  magnet2 = ap (λ m. m.arm2) magnets;
+  arm1_within = i.arm1_within;
+  arm2_within = i.arm2_within;
+  rotation_within = i.rotation_within;
+  arm1 = stays_off (arm1_at p.step) (arm1_at q.step) r.arm1 leads.0 i.arm1;
+  arm2 = stays_off (arm2_at p.step) (arm2_at q.step) r.arm2 leads.1 i.arm2;
+  rotation = stays_off (rotation_at p.step) (rotation_at q.step) r.rotation leads.2 i.rotation;
+  turning = λ on. absurd (on refl);
+}
+
+-- a step that asks switches no magnet
+asks_magnets : (s : RobotStep) (c : Call) (m : RobotMagnets) → call_of s ≡ Some c → m ≡ magnets_by s m
+asks_magnets AwaitPlate c m e = refl
+asks_magnets TakePlate c m e = refl
+asks_magnets ReleaseTable c m e = refl
+asks_magnets ClaimPress c m e = refl
+asks_magnets InspectPress c m e = refl
+asks_magnets ReleasePress c m e = refl
+asks_magnets GiveToPress c m e = refl
+asks_magnets AwaitForged c m e = refl
+asks_magnets TakeForged c m e = refl
+asks_magnets ReleaseUnloaded c m e = refl
+asks_magnets ClaimDeposit c m e = refl
+asks_magnets GiveToDeposit c m e = refl
+asks_magnets s c m e = cc
+
+-- what a step that is done says of its motors
+all_off : (a b c : Motor) → (is_off a && (is_off b && is_off c)) ≡ true → (a ≡ Off) × (b ≡ Off) × (c ≡ Off)
+all_off Off Off Off e = (refl, refl, refl)
+all_off a b c e = cc
+
+done_when : (t retracted : Bool) (a b c : Motor) → ((not t || retracted) && (is_off a && (is_off b && is_off c))) ≡ true → (t ≡ true → retracted ≡ true) × ((a ≡ Off) × (b ≡ Off) × (c ≡ Off))
+done_when true true a b c e = (λ q. refl, all_off a b c e)
+done_when true false a b c e = cc
+done_when false retracted a b c e = (λ q. cc, all_off a b c e)
+
+-- one that switches a magnet is done in its turn
+not_off : (a b c : Motor) → a ≡ Off → b ≡ Off → c ≡ Off → (is_off a && (is_off b && is_off c)) ≡ false → ⊥
+not_off Off Off Off e f g h = cc
+not_off a b c e f g h = cc
+
+turned_off : (b : Bool) (tol read : ℤ) (m : Motor) → DrivesTo (if b then None else None) tol read m → m ≡ Off
+turned_off true tol read m k = k
+turned_off false tol read m k = k
+
+module _ (points : RobotScales) (p : RobotProgress) (rd : RobotReading) (act : RobotAct) (acts : Acts points p rd act) where
+  stays_magnets : (s : RobotStep) (m : RobotMagnets) → DrivesTo (arm1_stop s) points.arm1.tol rd.arm1 act.arm1 → DrivesTo (arm2_stop s) points.arm2.tol rd.arm2 act.arm2 → DrivesTo (turns_to s rd.retracted) points.rotation.tol rd.rotation act.rotation
+      → is_done s rd.retracted act ≡ false → magnets_by s m ≡ m
+  stays_magnets GripPlate m a b c stays = absurd (not_off act.arm1 act.arm2 act.rotation a b (turned_off rd.retracted _ _ _ c) stays)
+  stays_magnets DropInPress m a b c stays = absurd (not_off act.arm1 act.arm2 act.rotation a b (turned_off rd.retracted _ _ _ c) stays)
+  stays_magnets GripForged m a b c stays = absurd (not_off act.arm1 act.arm2 act.rotation a b (turned_off rd.retracted _ _ _ c) stays)
+  stays_magnets DropOnDeposit m a b c stays = absurd (not_off act.arm1 act.arm2 act.rotation a b (turned_off rd.retracted _ _ _ c) stays)
+  stays_magnets s m a b c stays = refl
+
+  -- only a step that turns tells it to
+  told_turns : (s : RobotStep) → DrivesTo (turns_to s rd.retracted) points.rotation.tol rd.rotation act.rotation → (act.rotation ≡ Off → ⊥) → turns s ≡ true
+  told_turns TurnToTable c on = refl
+  told_turns TurnToLoad c on = refl
+  told_turns TurnToUnload c on = refl
+  told_turns TurnToDeposit c on = refl
+  told_turns s c on = absurd (on (turned_off rd.retracted _ _ _ c))
+
+retracted_then : (b : Bool) (stop : Option Stop) → b ≡ true → (if b then stop else None) ≡ stop
+retracted_then true stop e = refl
+retracted_then false stop e = cc
+
+turns_there : (s : RobotStep) (b : Bool) → (turns s ≡ true → b ≡ true) → turns_to s b ≡ rotation_stop s
+turns_there TurnToTable b f = retracted_then b _ (f refl)
+turns_there TurnToLoad b f = retracted_then b _ (f refl)
+turns_there TurnToUnload b f = retracted_then b _ (f refl)
+turns_there TurnToDeposit b f = retracted_then b _ (f refl)
+turns_there s b f = no_stop b None refl
+
+-- the scales of the potentiometers are those by which they are read
+abbrev pub part_scales : RobotScales → PartScales
+part_scales points = record { arm1 = points.arm1; arm2 = points.arm2; rotation = points.rotation }
+
+pub record AreRobotScales (points : RobotScales) : Type 0 where
+  pub arm1 : IsAxisScale arm_end points.arm1
+  pub arm2 : IsAxisScale arm_end points.arm2
+  pub rotation : IsAxisScale rotation_end points.rotation
+
+record ReadsNear (points : RobotScales) (r : RobotPlant) (rd : RobotReading) : Type 0 where
+  arm1 : IsNear rd.arm1 r.arm1.position points.arm1.tol
+  arm2 : IsNear rd.arm2 r.arm2.position points.arm2.tol
+  rotation : IsNear rd.rotation r.rotation.position points.rotation.tol
+
+module _ (points : RobotScales) (axes : AreRobotScales points) where
+  reads_near : (z : ModelState) (p : RobotProgress) (r : RobotPlant) (s : RobotSense) (rd : RobotReading) → RobotShows (part_scales points) r s → Senses points (near_lines points) s (Ok rd) → RobotInv z p r → ReadsNear points r rd
+  reads_near z p r s rd shows senses i = record {
+    arm1 = reading_near arm_end points.arm1 r.arm1.position s.arm1 rd.arm1 axes.arm1 i.arm1_within shows.arm1 senses.arm1.1.0;
+    arm2 = reading_near arm_end points.arm2 r.arm2.position s.arm2 rd.arm2 axes.arm2 i.arm2_within shows.arm2 senses.arm2.1.0;
+    rotation = reading_near rotation_end points.rotation r.rotation.position s.rotation rd.rotation axes.rotation i.rotation_within shows.rotation senses.rotation.1.0;
+  }
+
+  drive : (b : Bool) (z : ModelState) (p : RobotProgress) (r : RobotPlant) (s : RobotSense) (rd : RobotReading) (act : RobotAct) → is_done p.step rd.retracted act ≡ b → call_of p.step ≡ None → ReadsNear points r rd → Acts points p rd act → RobotInv z p r
+      → RobotKnows (if b then after_done p else p) z → RobotInv z (if b then after_done p else p) (set_robot r act)
+  drive true z p r s rd act b e near acts i knows =
+      let off = done_when (turns p.step) rd.retracted act.arm1 act.arm2 act.rotation b in
+      let leads = drives_lead p.step (notes_after p.step p.notes) e in
+      let next = step_after p.step (notes_after p.step p.notes) in
+      record {
+        knows = knows;
+        magnet1 = acts.magnet1;
+        magnet2 = acts.magnet2;
+        arm1_within = i.arm1_within;
+        arm2_within = i.arm2_within;
+        rotation_within = i.rotation_within;
+        arm1 = comes_off (arm1_at p.step) (arm1_stop p.step) (arm1_at next) r.arm1 points.arm1.tol rd.arm1 act.arm1 leads.0 near.arm1 acts.arm1 off.1.0 i.arm1;
+        arm2 = comes_off (arm2_at p.step) (arm2_stop p.step) (arm2_at next) r.arm2 points.arm2.tol rd.arm2 act.arm2 leads.1 near.arm2 acts.arm2 off.1.1 i.arm2;
+        rotation = comes_off (rotation_at p.step) (rotation_stop p.step) (rotation_at next) r.rotation points.rotation.tol rd.rotation act.rotation leads.2 near.rotation
+            (subst (λ x. DrivesTo x points.rotation.tol rd.rotation act.rotation) (turns_there p.step rd.retracted off.0) acts.rotation) off.1.2 i.rotation;
+        turning = λ on. absurd (on off.1.2);
+      }
+  drive false z p r s rd act b e near acts i knows =
+      let same = stays_magnets points p rd act acts p.step p.magnets acts.arm1 acts.arm2 acts.rotation b in
+      record {
+        knows = knows;
+        magnet1 = acts.magnet1 ∙ ap (λ m. m.arm1) same;
+        magnet2 = acts.magnet2 ∙ ap (λ m. m.arm2) same;
+        arm1_within = i.arm1_within;
+        arm2_within = i.arm2_within;
+        rotation_within = i.rotation_within;
+        arm1 = still_there (arm1_at p.step) (arm1_stop p.step) r.arm1 points.arm1.tol rd.arm1 act.arm1 (arm1_still p.step) acts.arm1 i.arm1;
+        arm2 = still_there (arm2_at p.step) (arm2_stop p.step) r.arm2 points.arm2.tol rd.arm2 act.arm2 (arm2_still p.step) acts.arm2 i.arm2;
+        rotation = still_there (rotation_at p.step) (turns_to p.step rd.retracted) r.rotation points.rotation.tol rd.rotation act.rotation (rotation_still p.step rd.retracted) acts.rotation i.rotation;
+        turning = told_turns points p rd act acts p.step acts.rotation;
+      }
+
+  pub robot-keeping : Keeping (robot_steps points (near_lines points)) (robot_rig (part_scales points)) RobotInv RobotInv
+  robot-keeping = record {
+    foreign = λ z p b n c apart sound i. record {
+      knows = (robot-knowing points (near_lines points)).foreign p z n c apart sound i.knows;
+      magnet1 = i.magnet1;
+      magnet2 = i.magnet2;
+      arm1_within = i.arm1_within;
+      arm2_within = i.arm2_within;
+      rotation_within = i.rotation_within;
+      arm1 = i.arm1;
+      arm2 = i.arm2;
+      rotation = i.rotation;
+      turning = i.turning;
+    };
+    rests = λ z p b i. at_rest z p p b i i.knows refl (there, there, there);
+    after_done = λ z p b c e d sound i.
+        at_rest (changed z Robot c) p (after_done p) b i ((robot-knowing points (near_lines points)).after_done p z c e d sound i.knows) (asks_magnets p.step c p.magnets e) (asks_lead p.step (notes_after p.step p.notes) c e);
+    after_inquiry = λ z p b c o f q e d sound i.
+        at_rest z p (record p { step = step_after_inquiry p.step o f q }) b i ((robot-knowing points (near_lines points)).after_inquiry p z c o f q e d sound i.knows) refl (inquiries_lead p.step o f q);
+    after_drive = λ z p b s rd act e shows senses acts i.
+        drive (is_done p.step rd.retracted act) z p b s rd act refl e (reads_near z p b s rd shows senses i) acts i ((robot-knowing points (near_lines points)).after_drive p rd act z e acts i.knows);
+    told = λ z p b i. i;
+    moves = λ z p b i. record {
+      knows = i.knows;
+      magnet1 = i.magnet1;
+      magnet2 = i.magnet2;
+      arm1_within = moved_within arm_end b.arm1 (omega (arith, ints)) i.arm1_within;
+      arm2_within = moved_within arm_end b.arm2 (omega (arith, ints)) i.arm2_within;
+      rotation_within = moved_within rotation_end b.rotation (omega (arith, ints)) i.rotation_within;
+      arm1 = stands_moved arm_end (arm1_at p.step) b.arm1 i.arm1;
+      arm2 = stands_moved arm_end (arm2_at p.step) b.arm2 i.arm2;
+      rotation = stands_moved rotation_end (rotation_at p.step) b.rotation i.rotation;
+      turning = i.turning;
+    };
+  }
+
+-- An arm that is out, or driven, is where it may be: the robot has that zone, open for it.
+not_out : (a : Axis) → StandsAt (Some RETRACTED) a → ¬ IsOut a
+not_out a k out = let at : a.position ≤ℤ pos 40 = k.0.1 in omega (arith, ints)
+
+stands_in : (a : Axis) → StandsAt (Some RETRACTED) a → IsOut a ⊎ IsOn a → ⊥
+stands_in a k (inl out) = not_out a k out
+stands_in a k (inr on) = on k.1
+
+over_table : (r : RobotPlant) → StandsAt (Some ROTATION_ARM1_TABLE) r.rotation → IsArm1AtTable r
+over_table r k = let first : pos 260 ≤ℤ r.rotation.position = k.0.0 in let last : r.rotation.position ≤ℤ pos 340 = k.0.1 in (omega (arith, ints), omega (arith, ints))
+
+before_interior : (r : RobotPlant) → StandsAt (Some ROTATION_ARM1_PRESS) r.rotation → IsArm1InPress r
+before_interior r k = let first : pos 1460 ≤ℤ r.rotation.position = k.0.0 in let last : r.rotation.position ≤ℤ pos 1540 = k.0.1 in (omega (arith, ints), omega (arith, ints))
+
+before_forged : (r : RobotPlant) → StandsAt (Some ROTATION_ARM2_PRESS) r.rotation → IsArm2InPress r
+before_forged r k = let first : pos 560 ≤ℤ r.rotation.position = k.0.0 in let last : r.rotation.position ≤ℤ pos 640 = k.0.1 in (omega (arith, ints), omega (arith, ints))
+
+over_deposit : (r : RobotPlant) → StandsAt (Some ROTATION_ARM2_DEPOSIT) r.rotation → IsArm2AtDeposit r
+over_deposit r k = let first : pos 1760 ≤ℤ r.rotation.position = k.0.0 in let last : r.rotation.position ≤ℤ pos 1840 = k.0.1 in (omega (arith, ints), omega (arith, ints))
+
+arm1_has : (s : RobotStep) (z : ModelState) (r : RobotPlant) → AreSo Robot z (facts_at s) → StandsAt (arm1_at s) r.arm1 → StandsAt (rotation_at s) r.rotation → IsOut r.arm1 ⊎ IsOn r.arm1
+    → (IsArm1AtTable r × HoldsIn OpenOut z Robot Z2) ⊎ (IsArm1InPress r × HoldsIn OpenIn z Robot Z3)
+arm1_has ReachTable z r k arm at out = inl (over_table r at, k.0)
+arm1_has GripPlate z r k arm at out = inl (over_table r at, k.0)
+arm1_has LeaveTable z r k arm at out = inl (over_table r at, k.0)
+arm1_has ReachToLoad z r k arm at out = inr (before_interior r at, k.0)
+arm1_has DropInPress z r k arm at out = inr (before_interior r at, k.0)
+arm1_has LeaveLoaded z r k arm at out = inr (before_interior r at, k.0)
+arm1_has s z r k arm at out = absurd (stands_in r.arm1 arm out)
+
+arm2_has : (s : RobotStep) (z : ModelState) (r : RobotPlant) → AreSo Robot z (facts_at s) → StandsAt (arm2_at s) r.arm2 → StandsAt (rotation_at s) r.rotation → IsOut r.arm2 ⊎ IsOn r.arm2
+    → (IsArm2InPress r × HoldsIn OpenOut z Robot Z3) ⊎ (IsArm2AtDeposit r × HoldsIn OpenIn z Robot Z4)
+arm2_has ReachToUnload z r k arm at out = inl (before_forged r at, k.0)
+arm2_has GripForged z r k arm at out = inl (before_forged r at, k.0)
+arm2_has LeaveUnloaded z r k arm at out = inl (before_forged r at, k.0)
+arm2_has ReachDeposit z r k arm at out = inr (over_deposit r at, k.0)
+arm2_has DropOnDeposit z r k arm at out = inr (over_deposit r at, k.0)
+arm2_has LeaveDeposit z r k arm at out = inr (over_deposit r at, k.0)
+arm2_has s z r k arm at out = absurd (stands_in r.arm2 arm out)
+
+-- it turns with both arms in
+turns_in : (s : RobotStep) → turns s ≡ true → (arm1_at s ≡ Some RETRACTED) × (arm2_at s ≡ Some RETRACTED)
+turns_in TurnToTable e = (refl, refl)
+turns_in TurnToLoad e = (refl, refl)
+turns_in TurnToUnload e = (refl, refl)
+turns_in TurnToDeposit e = (refl, refl)
+turns_in s e = cc
+
+module _ (z : ModelState) (p : RobotProgress) (r : RobotPlant) (i : RobotInv z p r) where
+  pub arm1-has : IsOut r.arm1 ⊎ IsOn r.arm1 → (IsArm1AtTable r × HoldsIn OpenOut z Robot Z2) ⊎ (IsArm1InPress r × HoldsIn OpenIn z Robot Z3)
+  arm1-has out = arm1_has p.step z r i.knows i.arm1 i.rotation out
+
+  pub arm2-has : IsOut r.arm2 ⊎ IsOn r.arm2 → (IsArm2InPress r × HoldsIn OpenOut z Robot Z3) ⊎ (IsArm2AtDeposit r × HoldsIn OpenIn z Robot Z4)
+  arm2-has out = arm2_has p.step z r i.knows i.arm2 i.rotation out
+
+  pub rotates-retracted : RotatesRetracted r
+  rotates-retracted = record {
+    arm1 = λ on. not_out r.arm1 (subst (λ x. StandsAt x r.arm1) (turns_in p.step (i.turning on)).0 i.arm1);
+    arm2 = λ on. not_out r.arm2 (subst (λ x. StandsAt x r.arm2) (turns_in p.step (i.turning on)).1 i.arm2);
+  }
+
+-- No turn drives it on past an end.
+abbrev DrivesOut : RobotPlant → Type 0
+DrivesOut r = DrivesPast arm_end r.arm1 ⊎ (DrivesPast arm_end r.arm2 ⊎ DrivesPast rotation_end r.rotation)
+
+rest_stays : (r : RobotPlant) (p : RobotProgress) → ¬ DrivesOut (set_robot r (robot_rest p))
+rest_stays r p (inl past) = off_within arm_end (set_axis r.arm1 Off) refl past
+rest_stays r p (inr (inl past)) = off_within arm_end (set_axis r.arm2 Off) refl past
+rest_stays r p (inr (inr past)) = off_within rotation_end (set_axis r.rotation Off) refl past
+
+arm1_stops : (s : RobotStep) → StopsWithin arm_end (arm1_stop s)
+arm1_stops ReachTable = (omega (arith, ints), omega (arith, ints), omega (arith, ints))
+arm1_stops LeaveTable = (omega (arith, ints), omega (arith, ints), omega (arith, ints))
+arm1_stops ReachToLoad = (omega (arith, ints), omega (arith, ints), omega (arith, ints))
+arm1_stops LeaveLoaded = (omega (arith, ints), omega (arith, ints), omega (arith, ints))
+arm1_stops s = tt
+
+arm2_stops : (s : RobotStep) → StopsWithin arm_end (arm2_stop s)
+arm2_stops ReachToUnload = (omega (arith, ints), omega (arith, ints), omega (arith, ints))
+arm2_stops LeaveUnloaded = (omega (arith, ints), omega (arith, ints), omega (arith, ints))
+arm2_stops ReachDeposit = (omega (arith, ints), omega (arith, ints), omega (arith, ints))
+arm2_stops LeaveDeposit = (omega (arith, ints), omega (arith, ints), omega (arith, ints))
+arm2_stops s = tt
+
+rotation_stops : (s : RobotStep) → StopsWithin rotation_end (rotation_stop s)
+rotation_stops TurnToTable = (omega (arith, ints), omega (arith, ints), omega (arith, ints))
+rotation_stops TurnToLoad = (omega (arith, ints), omega (arith, ints), omega (arith, ints))
+rotation_stops TurnToUnload = (omega (arith, ints), omega (arith, ints), omega (arith, ints))
+rotation_stops TurnToDeposit = (omega (arith, ints), omega (arith, ints), omega (arith, ints))
+rotation_stops s = tt
+
+turn_stops : (s : RobotStep) (b : Bool) → StopsWithin rotation_end (turns_to s b)
+turn_stops s true = rotation_stops s
+turn_stops s false = tt
+
+-- A magnet lets go only where its plate may go.
+abbrev LetsGoThere : RobotPlant → RobotAct → Type 0
+LetsGoThere r act = (LetsGo r.magnet1 act.magnet1 → Arm1MayLetGo (set_robot r act)) × (LetsGo r.magnet2 act.magnet2 → Arm2MayLetGo (set_robot r act))
+
+still_on : (a b : Bool) → a ≡ b → LetsGo b a → ⊥
+still_on a b e go = let on = go.0 in let off = go.1 in cc
+
+first_goes : (s : RobotStep) (r : RobotPlant) (act : RobotAct) (m : RobotMagnets) → r.magnet1 ≡ m.arm1 → act.magnet1 ≡ (magnets_by s m).arm1 → StandsAt (arm1_at s) r.arm1 → StandsAt (rotation_at s) r.rotation → LetsGo r.magnet1 act.magnet1 → Arm1MayLetGo (set_robot r act)
+first_goes GripPlate r act m was is arm at go = let off = go.1 in cc
+first_goes DropInPress r act m was is arm at go = (at.0, arm.0)
+first_goes s r act m was is arm at go = absurd (still_on act.magnet1 r.magnet1 (is ∙ sym was) go)
+
+second_goes : (s : RobotStep) (r : RobotPlant) (act : RobotAct) (m : RobotMagnets) → r.magnet2 ≡ m.arm2 → act.magnet2 ≡ (magnets_by s m).arm2 → StandsAt (arm2_at s) r.arm2 → StandsAt (rotation_at s) r.rotation → LetsGo r.magnet2 act.magnet2 → Arm2MayLetGo (set_robot r act)
+second_goes GripForged r act m was is arm at go = let off = go.1 in cc
+second_goes DropOnDeposit r act m was is arm at go = (at.0, arm.0)
+second_goes s r act m was is arm at go = absurd (still_on act.magnet2 r.magnet2 (is ∙ sym was) go)
+
+module _ (points : RobotScales) (axes : AreRobotScales points) (z : ModelState) (p : RobotProgress) (r : RobotPlant) (i : RobotInv z p r) (s : RobotSense) (shows : RobotShows (part_scales points) r s) where
+  acts_within : (rd : RobotReading) (act : RobotAct) → Senses points (near_lines points) s (Ok rd) → Acts points p rd act → ¬ DrivesOut (set_robot r act)
+  acts_within rd act senses acts (inl past) = driven_within arm_end points.arm1 r.arm1 (arm1_stop p.step) rd.arm1 act.arm1 axes.arm1 (reads_near points axes z p r s rd shows senses i).arm1 (arm1_stops p.step) acts.arm1 past
+  acts_within rd act senses acts (inr (inl past)) = driven_within arm_end points.arm2 r.arm2 (arm2_stop p.step) rd.arm2 act.arm2 axes.arm2 (reads_near points axes z p r s rd shows senses i).arm2 (arm2_stops p.step) acts.arm2 past
+  acts_within rd act senses acts (inr (inr past)) =
+      driven_within rotation_end points.rotation r.rotation (turns_to p.step rd.retracted) rd.rotation act.rotation axes.rotation (reads_near points axes z p r s rd shows senses i).rotation (turn_stops p.step rd.retracted) acts.rotation past
+
+  -- so in no turn it is driven on past an end, nor lets a plate fall
+  pub robot-ends : (same : Type 0) (asks : Call → Result Reply LineFault → Type 0) (stopped : Option CtlFault) (w : Turned RobotProgress RobotAct) → Turns (robot_steps points (near_lines points)) same asks stopped p s w
+      → ¬ DrivesOut (set_robot r (act_or_rest (robot_rest p) w.result))
+  robot-ends same asks stopped w k = turn_tells (robot_steps points (near_lines points)) same asks p s (λ act. ¬ DrivesOut (set_robot r act)) (rest_stays r p) (λ rd act e senses acts. acts_within rd act senses acts) stopped w k
+
+  pub robot-lets-go : (same : Type 0) (asks : Call → Result Reply LineFault → Type 0) (stopped : Option CtlFault) (w : Turned RobotProgress RobotAct) → Turns (robot_steps points (near_lines points)) same asks stopped p s w
+      → LetsGoThere r (act_or_rest (robot_rest p) w.result)
+  robot-lets-go same asks stopped w k =
+      turn_tells (robot_steps points (near_lines points)) same asks p s (λ act. LetsGoThere r act)
+      (λ go. absurd (still_on p.magnets.arm1 r.magnet1 (sym i.magnet1) go), λ go. absurd (still_on p.magnets.arm2 r.magnet2 (sym i.magnet2) go))
+      (λ rd act e senses acts. (first_goes p.step r act p.magnets i.magnet1 acts.magnet1 i.arm1 i.rotation, second_goes p.step r act p.magnets i.magnet2 acts.magnet2 i.arm2 i.rotation)) stopped w k
