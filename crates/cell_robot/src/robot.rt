@@ -133,7 +133,7 @@ impl<F1: Gauge, F2: Gauge, F3: Gauge> Program for RobotProgram<F1, F2, F3> {
             arm1,
             arm2,
             rotation,
-            retracted: are_in(&self.arm1, &self.arm2, arm1, arm2),
+            retracted: are_drawn_back(&self.arm1, &self.arm2, arm1, arm2),
         })
     }
 
@@ -181,7 +181,7 @@ fn read<F: Gauge>(calibration: &Calibration<F>, raw: u16) -> Result<i32, SensorF
 }
 
 // Whether both arms are surely retracted.
-fn are_in<F1: Gauge, F2: Gauge>(
+fn are_drawn_back<F1: Gauge, F2: Gauge>(
     first: &Calibration<F1>,
     second: &Calibration<F2>,
     arm1: i32,
@@ -189,11 +189,11 @@ fn are_in<F1: Gauge, F2: Gauge>(
 ) -> bool
     ensures { IsTrue result ↔ ((arm1 ≤ℤ (retracted_to -ℤ first.now.points.tol)) × (arm2 ≤ℤ (retracted_to -ℤ second.now.points.tol))) }
 {
-    is_in(first, arm1) && is_in(second, arm2)
+    is_drawn_back(first, arm1) && is_drawn_back(second, arm2)
 }
 
 // Whether an arm is surely retracted.
-fn is_in<F: Gauge>(arm: &Calibration<F>, read: i32) -> bool
+fn is_drawn_back<F: Gauge>(arm: &Calibration<F>, read: i32) -> bool
     ensures { IsTrue result ↔ (read ≤ℤ (retracted_to -ℤ arm.now.points.tol)) }
 {
     is_retracted(read, arm.tol())

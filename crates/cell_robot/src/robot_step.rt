@@ -99,13 +99,13 @@ pub struct RobotProgress {
 /// What the robot's sensors say once they are checked.
 #[derive(Clone, Copy, Debug, PartialEq, Eq)]
 pub struct RobotReading {
-    /// The extension of the first arm.
+    /// How far the first arm is out, in tenths of a millimetre.
     pub arm1: i32,
-    /// The extension of the second arm.
+    /// How far the second arm is out, in tenths of a millimetre.
     pub arm2: i32,
-    /// The rotation.
+    /// How far the robot is turned, in tenths of a degree.
     pub rotation: i32,
-    /// Whether both arms are surely retracted.
+    /// Whether both arms are surely drawn back, so that it may turn.
     pub retracted: bool,
 }
 

@@ -1,5 +1,4 @@
 use Rattle.std.proofs.Common.{◌≡◌, None}
-use Rattle.cell_types.specs.declared.machine.Machine.TheVariants.{Robot}
 use Rattle.cell_control.specs.Steps.{IsReached}
 use Rattle.cell_robot_rows.proofs.runs.guest_comes.Given as goal
 
