@@ -124,12 +124,12 @@ done_call s entry last c z e d sound k = cc
 pub feed-knowing : Knowing feed_steps FeedKnows
 feed-knowing = record {
   foreign = λ p z n c apart sound k.
-    record {
-      facts = are_foreign Feed n c z (facts_at p.step) apart sound k.facts;
-      plates = k.plates;
-      entry_noted = full-foreign z n c FeedEntry sound apart ∙ k.entry_noted;
-      last_noted = full-foreign z n c FeedEnd sound apart ∙ k.last_noted;
-    };
+      record {
+        facts = are_foreign Feed n c z (facts_at p.step) apart sound k.facts;
+        plates = k.plates;
+        entry_noted = full-foreign z n c FeedEntry sound apart ∙ k.entry_noted;
+        last_noted = full-foreign z n c FeedEnd sound apart ∙ k.last_noted;
+      };
   after_drive = λ p s act z e d k. drive_on act.belt p z e k;
   after_done = λ p z c e d sound k. done_call p.step p.entry p.last c z e d sound k;
   after_inquiry = λ p z c owner flag posture e d sound k. k;
