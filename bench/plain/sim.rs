@@ -195,7 +195,7 @@ fn read_config(text: &str) -> Option<Config> {
         match (section, key.trim()) {
             (None, "start") => places = Some(unquoted(value)?),
             (None, "stamp") => stamp = value.parse().ok()?,
-            (None, "schedule") if value == LINES => schedule = lines.by_ref().map_while(|line| line.strip_suffix('\\')).map(str::trim).collect(),
+            (None, "schedule") if value == LINES => schedule = lines.by_ref().map_while(|line| line.strip_suffix('\\')).collect(),
             (None, "schedule") => schedule = unquoted(value)?.to_string(),
             (Some(number), "raw") => {
                 let (lo, hi) = value.strip_prefix('[')?.strip_suffix(']')?.split_once(',')?;
