@@ -1,5 +1,5 @@
 -- What the deposit belt keeps of its side, in every state of a run.
-use Rattle.std.proofs.Common.{◌≡◌, Bool, true, false, IsTrue, is_some, List, [], ◌∷◌, Some, None, refl, sym, ap, ◌∙◌, subst}
+use Rattle.std.proofs.Common.{◌≡◌, true, false, IsTrue, is_some, [], ◌∷◌, Some, refl, sym, ◌∙◌}
 use Rattle.cell_types.specs.declared.machine.Machine.TheVariants.{Deposit}
 use Rattle.cell_types.specs.declared.zone.Zone.TheVariants.{Z4, Z5}
 use Rattle.cell_types.specs.declared.place.Place.TheVariants.{DepEntry, DepEnd}
@@ -12,13 +12,12 @@ use Rattle.cell_types.specs.declared.answer.Answer.TheVariants.{Done}
 use Rattle.cell_types.specs.Tables.{transfer_of}
 use Rattle.cell_rules.specs.PlaceSet.{PlaceSet, has}
 use Rattle.cell_rules.specs.ModelState.{ModelState, is_full}
-use Rattle.cell_rules.specs.Start.{IsStartState}
 use Rattle.cell_rules.specs.Sound.{IsSound, is_received_by}
 use Rattle.cell_rules.specs.Refusals.{posture_at, given_by}
 use Rattle.cell_rules.specs.Reply.{reply, changed, emptied, filled}
-use Rattle.cell_control.proofs.Facts.{Fact, Finds, AreSo}
+use Rattle.cell_control.proofs.Facts.{Finds}
 use Rattle.cell_haul.specs.declared.deposit_step.DepositStep.{DepositStep}
-use Rattle.cell_haul.specs.declared.deposit_step.DepositStep.TheVariants.{ClaimEntry, ClaimExit, PoseLanding, ReleaseEntry, TakePlate, StartRun, RunIn, RunOut, MoveOn, PoseOffering, GivePlate, ClaimBack}
+use Rattle.cell_haul.specs.declared.deposit_step.DepositStep.TheVariants.{ClaimEntry, ClaimExit, PoseLanding, ReleaseEntry, TakePlate, StartRun, MoveOn, PoseOffering, GivePlate, ClaimBack}
 use Rattle.cell_haul.specs.declared.deposit_step.DepositProgress.{DepositProgress}
 use Rattle.cell_haul.specs.DepositProgram.{call_of, deposit_start, deposit_steps}
 use Rattle.cell_haul.proofs.DepositFacts.{DepositKnows, deposit-knowing, drives_at}

@@ -1,5 +1,5 @@
 -- What the feed belt keeps of its side, in every state of a run.
-use Rattle.std.proofs.Common.{◌≡◌, Bool, true, false, IsTrue, is_some, List, [], ◌∷◌, Some, None, refl, sym, ap, ◌∙◌, subst}
+use Rattle.std.proofs.Common.{◌≡◌, true, false, IsTrue, is_some, [], ◌∷◌, Some, refl, sym, ◌∙◌}
 use Rattle.cell_types.specs.declared.machine.Machine.TheVariants.{Feed}
 use Rattle.cell_types.specs.declared.zone.Zone.TheVariants.{Z1, Z6}
 use Rattle.cell_types.specs.declared.place.Place.TheVariants.{FeedEntry, FeedEnd}
@@ -12,13 +12,12 @@ use Rattle.cell_types.specs.declared.answer.Answer.TheVariants.{Done}
 use Rattle.cell_types.specs.Tables.{transfer_of}
 use Rattle.cell_rules.specs.PlaceSet.{PlaceSet, has}
 use Rattle.cell_rules.specs.ModelState.{ModelState, is_full}
-use Rattle.cell_rules.specs.Start.{IsStartState}
 use Rattle.cell_rules.specs.Sound.{IsSound, is_received_by}
 use Rattle.cell_rules.specs.Refusals.{posture_at, given_by}
 use Rattle.cell_rules.specs.Reply.{reply, changed, emptied, filled}
-use Rattle.cell_control.proofs.Facts.{Fact, Finds, AreSo}
+use Rattle.cell_control.proofs.Facts.{Finds}
 use Rattle.cell_haul.specs.declared.feed_step.FeedStep.{FeedStep}
-use Rattle.cell_haul.specs.declared.feed_step.FeedStep.TheVariants.{ClaimEntry, PoseLanding, ReleaseEntry, TakePlate, StartIn, RunIn, MoveOn, ClaimExit, StartOut, RunOut, Halt, GivePlate}
+use Rattle.cell_haul.specs.declared.feed_step.FeedStep.TheVariants.{ClaimEntry, PoseLanding, ReleaseEntry, TakePlate, StartIn, MoveOn, ClaimExit, StartOut, Halt, GivePlate}
 use Rattle.cell_haul.specs.declared.feed_step.FeedProgress.{FeedProgress}
 use Rattle.cell_haul.specs.FeedProgram.{call_of, feed_start, feed_steps}
 use Rattle.cell_haul.proofs.FeedFacts.{FeedKnows, feed_begins, feed-knowing, drives_at}

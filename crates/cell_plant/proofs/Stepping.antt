@@ -1,5 +1,5 @@
 -- One turn of a simulation, as a step of a run.
-use Rattle.std.proofs.Common.{◌≡◌, ℕ, ℤ, OnOk, OnErr, IfOk, Bool, true, false, ◌&&◌, ◌⊎◌, inl, inr, is_none, List, [], ◌++◌, append-nil, Option, None, Result, Ok, Err, refl, sym, ap, ◌∙◌, subst, if◌then◌else◌}
+use Rattle.std.proofs.Common.{◌≡◌, ℕ, ℤ, OnOk, OnErr, IfOk, Bool, true, false, ◌&&◌, is_none, List, [], ◌++◌, append-nil, Option, None, Result, Ok, Err, refl, sym, ap, ◌∙◌, subst, if◌then◌else◌}
 use Rattle.cell_types.specs.declared.machine.Machine.{Machine}
 use Rattle.cell_types.specs.declared.machine.Machine.TheVariants.{Feed, Table, Robot, Press, Deposit, Crane, Watch}
 use Rattle.cell_types.specs.Same.{same_machine, one_machine}

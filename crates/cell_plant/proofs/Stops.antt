@@ -6,9 +6,9 @@ use Rattle.cell_calib.specs.Scale.{Scale}
 use Rattle.cell_calib.specs.Line.{raw_width, IsNear, IsReading}
 use Rattle.cell_calib.proofs.LineLemmas.{near_position_lem}
 use Rattle.cell_devices.specs.declared.motor.Motor.{Motor}
-use Rattle.cell_devices.specs.declared.motor.Motor.TheVariants.{Off, Plus, Minus}
+use Rattle.cell_devices.specs.declared.motor.Motor.TheVariants.{Off}
 use Rattle.cell_devices.specs.declared.stops.Stop.{Stop}
-use Rattle.cell_devices.specs.Drives.{StopsAt, DrivesTo}
+use Rattle.cell_devices.specs.Drives.{DrivesTo}
 use Rattle.cell_parts.specs.declared.axis.Axis.{Axis}
 use Rattle.cell_parts.specs.Axes.{IsAxisScale, IsWithin, Span, IsIn}
 use Rattle.cell_parts.specs.Plant.{set_axis}

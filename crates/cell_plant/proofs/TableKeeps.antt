@@ -1,5 +1,5 @@
 -- What the table keeps of its side, in every state of a run.
-use Rattle.std.proofs.Common.{◌≡◌, ℤ, pos, ◌+ℤ◌, ◌-ℤ◌, ◌<ℤ◌, ◌≤ℤ◌, Bool, true, false, ◌&&◌, ◌⊎◌, inl, inr, [], ◌∷◌, Option, Some, None, Result, Ok, refl, sym, ap, ◌∙◌, subst, if◌then◌else◌, arith}
+use Rattle.std.proofs.Common.{◌≡◌, ℤ, pos, ◌-ℤ◌, ◌≤ℤ◌, Bool, true, false, ◌&&◌, ◌⊎◌, inl, inr, [], ◌∷◌, Option, Some, None, Result, Ok, refl, sym, ap, ◌∙◌, subst, if◌then◌else◌, arith}
 use Rattle.std.proofs.lemmas.Int.{ints}
 use Rattle.cell_types.specs.declared.machine.Machine.TheVariants.{Table as TableMachine}
 use Rattle.cell_types.specs.declared.zone.Zone.TheVariants.{Z1, Z2}
@@ -10,10 +10,9 @@ use Rattle.cell_types.specs.declared.call.Call.{Call}
 use Rattle.cell_types.specs.declared.call.Call.TheVariants.{Claim, Give, Take, Release, SetPose}
 use Rattle.cell_types.specs.declared.answer.Answer.TheVariants.{Done}
 use Rattle.cell_types.specs.declared.reply.Reply.{Reply}
-use Rattle.cell_calib.specs.Scale.{Scale, IsScale}
-use Rattle.cell_calib.specs.Line.{raw_width, IsNear, IsReading}
+use Rattle.cell_calib.specs.Scale.{Scale}
+use Rattle.cell_calib.specs.Line.{IsNear, IsReading}
 use Rattle.cell_calib.specs.declared.sense.TableSense.{TableSense}
-use Rattle.cell_calib.proofs.LineLemmas.{near_position_lem}
 use Rattle.cell_devices.specs.declared.motor.Motor.{Motor}
 use Rattle.cell_devices.specs.declared.motor.Motor.TheVariants.{Off, Plus, Minus}
 use Rattle.cell_devices.specs.declared.act.TableAct.{TableAct}
@@ -31,11 +30,9 @@ use Rattle.cell_stations.specs.declared.table_step.TableStep.TheVariants.{ClaimE
 use Rattle.cell_stations.specs.declared.table_step.TableProgress.{TableProgress}
 use Rattle.cell_parts.specs.Axes.{IsAxisScale, IsWithin, lift_end, turn_end}
 use Rattle.cell_parts.specs.Plant.{TablePlant, table_at_start, set_axis, set_table, moved_table}
-use Rattle.cell_parts.specs.declared.axis.Axis.{Axis}
 use Rattle.cell_control.specs.declared.fault.CtlFault.{CtlFault}
 use Rattle.cell_control.specs.Turns.{Turned, Turns}
 use Rattle.cell_stations.specs.declared.table_step.TableReading.{TableReading}
-use Rattle.cell_devices.specs.Drives.{StopsAt, DrivesTo}
 use Rattle.cell_stations.specs.TableProgram.{call_of, step_after, after_done, is_off, after_act, height_for, rotation_stop, Senses, Acts, table_start, table_steps}
 use Rattle.cell_control.proofs.Facts.{Finds}
 use Rattle.cell_stations.proofs.TableFacts.{TableKnows, table-knowing, drives_at}
@@ -46,6 +43,7 @@ use Rattle.cell_parts.specs.Shows.{TableShows}
 use Rattle.cell_parts.specs.Collisions.{TableMoves, DrivesPast}
 use Rattle.cell_parts.specs.PositionDemands.{RestsAtLoading}
 use Rattle.cell_parts.specs.Rigs.{table_rig}
+use Rattle.cell_plant.proofs.Stops.{reading_near, StopsWithin, off_within, driven_within}
 use Rattle.cell_plant.proofs.WithinLemmas.{between, moved_within}
 
 abbrev at_rest_act : TableAct
@@ -113,10 +111,7 @@ led_elsewhere s loaded c e q = cc
 
 -- the reading is within the tolerance of where the table is turned to
 turn_near : (points : Scale) (t : TablePlant) (s : TableSense) (r : TableReading) → IsAxisScale turn_end points → IsWithin turn_end t.turn.position → TableShows points t s → Senses points (IsReading points) s (Ok r) → IsNear r.turn t.turn.position points.tol
-turn_near points t s r k within shows senses =
-    let scale = k.scale in
-    let wide : (points.at_hi -ℤ points.at_lo) ≤ℤ raw_width points = rw (k.from, k.to) k.wide in
-    near_position_lem points t.turn.position r.turn s.turn scale wide (shows.raw.between (rw k.from within.first) (rw k.to within.last)) senses.near.near
+turn_near points t s r k within shows senses = reading_near turn_end points t.turn.position s.turn r.turn k within shows.raw senses.near
 
 near_loading : (position read tol : ℤ) → IsNear read position tol → IsNear read (pos 0) (pos 20 -ℤ tol) → position ≤ℤ pos 20
 near_loading position read tol a b = omega (arith, ints)
@@ -215,10 +210,6 @@ table-demanding points =
 abbrev DrivesOut : TablePlant → Type 0
 DrivesOut t = DrivesPast lift_end t.lift ⊎ DrivesPast turn_end t.turn
 
-off_within : (end : ℤ) (a : Axis) → a.motor ≡ Off → DrivesPast end a → ⊥
-off_within end a e (inl past) = let minus = past.1 in cc
-off_within end a e (inr past) = let plus = past.1 in cc
-
 table_off_within : (t : TablePlant) → DrivesOut (set_table t at_rest_act) → ⊥
 table_off_within t (inl past) = off_within lift_end (set_table t at_rest_act).lift refl past
 table_off_within t (inr past) = off_within turn_end (set_table t at_rest_act).turn refl past
@@ -258,26 +249,16 @@ lift_stays points t s x m shows e (inr past) =
     let high : t.lift.position ≡ pos 600 = past.0 in
     raised s x (sym e ∙ past.1) (shows.top.1 (omega (arith, ints)))
 
-below_first : (position target tol read : ℤ) → pos 0 ≤ℤ target → tol ≤ℤ pos 10 → IsNear read position tol → (target +ℤ (pos 20 -ℤ tol)) <ℤ read → position ≡ pos 0 → ⊥
-below_first position target tol read a b near over e = absurd (omega (arith, ints))
-
-above_last : (position target tol read : ℤ) → target ≤ℤ pos 500 → tol ≤ℤ pos 10 → IsNear read position tol → read <ℤ (target -ℤ (pos 20 -ℤ tol)) → position ≡ pos 500 → ⊥
-above_last position target tol read a b near under e = absurd (omega (arith, ints))
-
 -- the rotation is turned to a place between its ends
-stop_within : (points : Scale) (t : TablePlant) (target read : ℤ) (m : Motor) → pos 0 ≤ℤ target → target ≤ℤ turn_end → IsScale points → IsNear read t.turn.position points.tol → StopsAt (record { target = target; half = 20 }) points.tol read m → DrivesPast turn_end (set_axis t.turn m) → ⊥
-stop_within points t target read m first last k near turns (inl past) = below_first t.turn.position target points.tol read first k.coarsest near (turns.minus.0 past.1) past.0
-stop_within points t target read m first last k near turns (inr past) = above_last t.turn.position target points.tol read last k.coarsest near (turns.plus.0 past.1) past.0
-
-turn_within : (points : Scale) (t : TablePlant) (s : TableStep) (read : ℤ) (m : Motor) → IsScale points → IsNear read t.turn.position points.tol → DrivesTo (rotation_stop s) points.tol read m → DrivesPast turn_end (set_axis t.turn m) → ⊥
-turn_within points t MoveToLoading read m k near turns past = stop_within points t (pos 0) read m (omega (arith, ints)) (omega (arith, ints)) k near turns past
-turn_within points t MoveToUnloading read m k near turns past = stop_within points t (pos 500) read m (omega (arith, ints)) (omega (arith, ints)) k near turns past
-turn_within points t s read m k near turns past = off_within turn_end (set_axis t.turn m) turns past
+stops_within : (s : TableStep) → StopsWithin turn_end (rotation_stop s)
+stops_within MoveToLoading = (omega (arith, ints), omega (arith, ints), omega (arith, ints))
+stops_within MoveToUnloading = (omega (arith, ints), omega (arith, ints), omega (arith, ints))
+stops_within s = tt
 
 module _ (points : Scale) (axis : IsAxisScale turn_end points) (t : TablePlant) (within : IsWithin turn_end t.turn.position) (s : TableSense) (shows : TableShows points t s) where
   acts_within : (p : TableProgress) (r : TableReading) (act : TableAct) → Senses points (IsReading points) s (Ok r) → Acts points p.step r act → DrivesOut (set_table t act) → ⊥
   acts_within p r act senses acts (inl past) = lift_stays points t p.step s act.height shows (acts.height ∙ ap (λ x. height_for p.step x) senses.switches) past
-  acts_within p r act senses acts (inr past) = turn_within points t p.step r.turn act.rotation axis.scale (turn_near points t s r axis within shows senses) acts.rotation past
+  acts_within p r act senses acts (inr past) = driven_within turn_end points t.turn (rotation_stop p.step) r.turn act.rotation axis (turn_near points t s r axis within shows senses) (stops_within p.step) acts.rotation past
 
   -- so in no turn it is driven on past an end
   pub table-ends : (same : Type 0) (asks : Call → Result Reply LineFault → Type 0) (stopped : Option CtlFault) (p : TableProgress) (w : Turned TableProgress TableAct) → Turns (table_steps points (IsReading points)) same asks stopped p s w

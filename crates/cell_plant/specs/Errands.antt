@@ -1,11 +1,21 @@
 -- What the crane's gripper is driven for, by the step at which the crane stands.
+use Rattle.std.specs.Prelude.{Option, Some, None}
+use Rattle.cell_types.specs.declared.zone.Zone.{Zone}
+use Rattle.cell_types.specs.declared.zone.Zone.TheVariants.{Z5, Z6}
+use Rattle.cell_types.specs.declared.posture.Posture.{Posture}
 use Rattle.cell_haul.specs.declared.crane_step.CraneStep.{CraneStep}
-use Rattle.cell_haul.specs.declared.crane_step.CraneStep.TheVariants.{LowerToPlate, RaiseWithPlate, LowerToFeed, RaiseFromFeed}
+use Rattle.cell_haul.specs.CraneProgram.{gripper_zone}
 use Rattle.cell_parts.specs.MotorDemands.{GripperErrand, ForTravel, AtDeposit, AtFeed}
 
+-- by the zone that the gripper is in
+abbrev pub errand_in : Zone → GripperErrand
+errand_in Z5 = AtDeposit
+errand_in Z6 = AtFeed
+errand_in _ = ForTravel
+
+abbrev pub errand_by : Option (Zone × Posture) → GripperErrand
+errand_by None = ForTravel
+errand_by (Some entered) = errand_in entered.0
+
 abbrev pub errand_of : CraneStep → GripperErrand
-errand_of LowerToPlate = AtDeposit
-errand_of RaiseWithPlate = AtDeposit
-errand_of LowerToFeed = AtFeed
-errand_of RaiseFromFeed = AtFeed
-errand_of _ = ForTravel
+errand_of step = errand_by (gripper_zone step)

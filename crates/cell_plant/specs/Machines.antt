@@ -1,5 +1,5 @@
 -- The machines of the cell, looked up by name: what each is given by. The watch has neither a controller nor a part.
-use Rattle.std.specs.Prelude.{Bool, true, false, None, ⊤}
+use Rattle.std.specs.Prelude.{false, None, ⊤}
 use Rattle.cell_types.specs.declared.machine.Machine.{Machine}
 use Rattle.cell_types.specs.declared.machine.Machine.TheVariants.{Feed, Table, Robot, Press, Deposit, Crane, Watch}
 use Rattle.cell_calib.specs.declared.sense.CraneSense.{CraneSense}

@@ -84,3 +84,8 @@ pub fn run(
     };
     Ok(run_by(alloc, start, gauges, points, turns))
 }
+
+// Which places have a plate, by their digits.
+pub fn places_of(digits: &[u8; 10]) -> [bool; 10] {
+    digits.map(|digit| digit == b'1')
+}

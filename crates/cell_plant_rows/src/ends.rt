@@ -1,6 +1,6 @@
 //! Where runs end: what each machine did, the interlock, and the axes.
 
-use crate::cells::run;
+use crate::cells::{places_of, run};
 use cell_plant::{Counts, RunRecord, SimFault, Status, Turn};
 use cell_rules::State;
 use cell_types::{Machine, Place, Posture, Zone};
@@ -71,11 +71,6 @@ const ROWS: &[Row] = &[
         axes: &[(6, 2000), (7, 860)],
     },
 ];
-
-// Which places have a plate, by their digits.
-fn places_of(digits: &[u8; 10]) -> [bool; 10] {
-    digits.map(|digit| digit == b'1')
-}
 
 // The turns of a schedule, of which one may be busy.
 fn turns_of(alloc: Global, schedule: &[Group], busy: Option<usize>) -> Result<Vec<Turn>, Fail> {

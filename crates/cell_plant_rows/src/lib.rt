@@ -6,4 +6,6 @@ mod cells;
 #[cfg(test)]
 mod ends;
 #[cfg(test)]
+mod rounds;
+#[cfg(test)]
 mod runs;

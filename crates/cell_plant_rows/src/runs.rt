@@ -146,20 +146,39 @@ fn turns_of_the_watch_do_nothing(rt: HostRuntime) -> Result<(), Fail> {
     Ok(())
 }
 
+// Two turns of each machine.
+const TWICE: [Machine; 12] = [
+    Machine::Feed,
+    Machine::Table,
+    Machine::Robot,
+    Machine::Press,
+    Machine::Deposit,
+    Machine::Crane,
+    Machine::Feed,
+    Machine::Table,
+    Machine::Robot,
+    Machine::Press,
+    Machine::Deposit,
+    Machine::Crane,
+];
+
 // Whatever growth is refused, a run is told or the fault says why not.
 #[test]
 fn a_run_without_memory(rt: HostRuntime) -> Result<(), Fail> {
-    let turn = Turn {
-        machine: Machine::Press,
+    let turns = TWICE.map(|machine| Turn {
+        machine,
         busy: false,
-    };
-    if let Ok(record) = run(rt.alloc(), EMPTY, 0, &[turn, turn, turn])? {
-        let counts = record.counts[3];
-        match record.status[3] {
-            Status::Fine => assert_eq!(rt; (counts.turns, counts.done), (3, 2)),
-            status => {
-                assert_eq!(rt; status, Status::Memory);
-                assert!(rt; counts.done < 2);
+    });
+    if let Ok(record) = run(rt.alloc(), EMPTY, 0, &turns)? {
+        let asked = record.counts.map(|counts| (counts.done, counts.read));
+        let wanted = [(2, 0), (2, 0), (0, 1), (2, 0), (2, 0), (0, 0), (0, 0)];
+        for (machine, status) in record.status.iter().enumerate() {
+            match status {
+                Status::Fine => assert!(rt; asked[machine] == wanted[machine]),
+                status => {
+                    assert!(rt; *status == Status::Memory);
+                    assert!(rt; asked[machine] != wanted[machine]);
+                }
             }
         }
     }
