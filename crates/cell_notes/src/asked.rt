@@ -5,7 +5,7 @@ ghost use Rattle.cell_types.specs.declared.reply.Reply.{Reply};
 ghost use Rattle.cell_rules.specs.declared.heard.LineFault.{LineFault};
 ghost use Rattle.cell_rules.specs.Seen.{heard_after};
 ghost use Rattle.std.specs.Option.{option_to_list};
-ghost use Rattle.cell_notes.specs.Asks.{done_in, entries_in, came_back, is_done_reply, is_read_reply, is_refused_reply, is_busy_reply};
+ghost use Rattle.cell_notes.specs.Asks.{done_in, entries_in};
 
 use cell_rules::{Answered, Heard};
 use cell_types::{Answer, Call, Entry, Event, Machine, Reply};
@@ -51,31 +51,4 @@ pub(crate) fn entry_of(asked: Asked) -> Option<Entry>
         }),
         Some((_, Ok(Reply::Busy { .. }))) | Some((_, Err(_))) | None => None,
     }
-}
-
-pub(crate) fn is_done(asked: Asked) -> bool
-    ensures { result ≡ came_back is_done_reply asked }
-{
-    matches!(asked, Some((_, Ok(Reply::Settled(Answer::Done, _)))))
-}
-
-pub(crate) fn is_read(asked: Asked) -> bool
-    ensures { result ≡ came_back is_read_reply asked }
-{
-    matches!(
-        asked,
-        Some((_, Ok(Reply::Settled(Answer::Shown { .. }, _))))
-    )
-}
-
-pub(crate) fn is_refused(asked: Asked) -> bool
-    ensures { result ≡ came_back is_refused_reply asked }
-{
-    matches!(asked, Some((_, Ok(Reply::Settled(Answer::Refused(_), _)))))
-}
-
-pub(crate) fn is_busy(asked: Asked) -> bool
-    ensures { result ≡ came_back is_busy_reply asked }
-{
-    matches!(asked, Some((_, Ok(Reply::Busy { .. }))))
 }

@@ -1,7 +1,8 @@
 ghost use Rattle.std.specs.Prelude.{◌≡◌};
 ghost use Rattle.cell_notes.specs.Notes.{no_counts, counts_with, HasRoom};
 
-use crate::asked::{Asked, is_busy, is_done, is_read, is_refused};
+use crate::asked::Asked;
+use cell_types::{Answer, Reply};
 
 /// How often a machine did what in a run.
 #[derive(Clone, Copy, Debug, PartialEq, Eq, Default)]
@@ -37,12 +38,15 @@ impl Counts {
         requires { HasRoom self }
         ensures { result ≡ counts_with self asked }
     {
-        Counts {
-            turns: self.turns + 1,
-            done: self.done + u64::from(is_done(asked)),
-            read: self.read + u64::from(is_read(asked)),
-            refused: self.refused + u64::from(is_refused(asked)),
-            busy: self.busy + u64::from(is_busy(asked)),
+        let mut counts = self;
+        counts.turns += 1;
+        match asked {
+            Some((_, Ok(Reply::Settled(Answer::Done, _)))) => counts.done += 1,
+            Some((_, Ok(Reply::Settled(Answer::Shown { .. }, _)))) => counts.read += 1,
+            Some((_, Ok(Reply::Settled(Answer::Refused(_), _)))) => counts.refused += 1,
+            Some((_, Ok(Reply::Busy { .. }))) => counts.busy += 1,
+            Some((_, Err(_))) | None => {}
         }
+        counts
     }
 }

@@ -22,8 +22,8 @@ fn key(entry: &Entry) -> u64
 /// it in its journal.
 #[derive(Clone, Copy, Debug)]
 pub struct Noted {
-    pub machine: Machine,
     pub entry: Entry,
+    pub machine: Machine,
     pub in_turn: bool,
 }
 
@@ -67,6 +67,7 @@ impl Noted {
 fn push_journal(all: &mut Vec<Noted>, machine: Machine, journal: &[Entry]) -> Result<(), AllocError>
     ensures { IfOk result (λ _. all.new.items ≡ all.old.items ++ order.noted_from machine [] journal.now) }
 {
+    all.reserve(journal.len())?;
     let mut latest = 0;
     for entry in journal {
         let key = key(entry);

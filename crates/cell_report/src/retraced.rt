@@ -19,6 +19,7 @@ pub fn retrace(
 {
     let mut state = *start;
     let mut events = Vec::new(alloc);
+    events.reserve(ordered.len())?;
     for noted in ordered {
         let answer = apply(&mut state, noted.machine, noted.entry.call);
         if !noted.in_turn

@@ -132,10 +132,10 @@ impl State {
         ensures { result ≡ refusals.claim_refusal self.now machine zone }
     {
         not_party(machine, zone)
-            .or(self.already_mine(machine, zone))
-            .or(self.held(machine, zone))
-            .or(self.shut_to_guest(machine, zone))
-            .or(self.worn())
+            .or_else(|| self.already_mine(machine, zone))
+            .or_else(|| self.held(machine, zone))
+            .or_else(|| self.shut_to_guest(machine, zone))
+            .or_else(|| self.worn())
     }
 
     pub(crate) fn give_refusal(&self, machine: Machine, zone: Zone) -> Option<Refusal>
@@ -155,30 +155,30 @@ impl State {
         ensures { result ≡ refusals.yield_refusal self.now machine zone }
     {
         not_party(machine, zone)
-            .or(self.not_owner(machine, zone))
-            .or(self.plate_in_zone(zone))
-            .or(self.shut(zone))
-            .or(self.in_use(machine, zone))
-            .or(self.worn())
+            .or_else(|| self.not_owner(machine, zone))
+            .or_else(|| self.plate_in_zone(zone))
+            .or_else(|| self.shut(zone))
+            .or_else(|| self.in_use(machine, zone))
+            .or_else(|| self.worn())
     }
 
     pub(crate) fn take_refusal(&self, machine: Machine, zone: Zone) -> Option<Refusal>
         ensures { result ≡ refusals.take_refusal self.now machine zone }
     {
         not_party(machine, zone)
-            .or(self.not_owner(machine, zone))
-            .or(self.no_plate_in_zone(zone))
-            .or(self.worn())
+            .or_else(|| self.not_owner(machine, zone))
+            .or_else(|| self.no_plate_in_zone(zone))
+            .or_else(|| self.worn())
     }
 
     pub(crate) fn release_refusal(&self, machine: Machine, zone: Zone) -> Option<Refusal>
         ensures { result ≡ refusals.release_refusal self.now machine zone }
     {
         not_party(machine, zone)
-            .or(self.not_owner(machine, zone))
-            .or(self.plate_in_zone(zone))
-            .or(self.shut_while_moving(zone))
-            .or(self.in_use(machine, zone))
-            .or(self.worn())
+            .or_else(|| self.not_owner(machine, zone))
+            .or_else(|| self.plate_in_zone(zone))
+            .or_else(|| self.shut_while_moving(zone))
+            .or_else(|| self.in_use(machine, zone))
+            .or_else(|| self.worn())
     }
 }
