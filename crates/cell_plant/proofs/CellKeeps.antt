@@ -8,7 +8,6 @@ use Rattle.cell_rules.specs.Start.{IsStartState}
 use Rattle.cell_calib.specs.Line.{IsReading}
 use Rattle.cell_haul.specs.DepositProgram.{deposit_steps}
 use Rattle.cell_haul.specs.FeedProgram.{feed_steps}
-use Rattle.cell_robot.specs.RobotProgram.{scales_of}
 use Rattle.cell_stations.specs.PressProgram.{press_steps}
 use Rattle.cell_stations.specs.TableProgram.{table_steps}
 use Rattle.cell_parts.specs.Plant.{table_at_start}
@@ -16,7 +15,7 @@ use Rattle.cell_parts.specs.Rigs.{feed_rig, table_rig, press_rig, deposit_rig}
 use Rattle.cell_seat.proofs.Keeping.{Keeping}
 use Rattle.cell_seat.proofs.Demanding.{With, demands_kept}
 use Rattle.cell_parts.specs.Axes.{CellScales, AreCellScales}
-use Rattle.cell_plant.specs.Machines.{ProgressOf, PartOf, steps_of, rig_of}
+use Rattle.cell_plant.specs.Machines.{ProgressOf, PartOf, robot_points, steps_of, rig_of}
 use Rattle.cell_plant.specs.CellStates.{side_in, sides_at_start}
 use Rattle.cell_plant.proofs.CraneKeeps.{CraneInv, CraneTold, crane-start, crane-keeping}
 use Rattle.cell_plant.proofs.DepositKeeps.{DepositInv, DepositRuns, deposit-start, deposit-keeping, deposit-demanding}
@@ -43,7 +42,7 @@ ToldOf m = InvOf m
 pub keeping_of : (c : CellScales) → AreCellScales c → (m : Machine) → Keeping (steps_of c m) (rig_of c m) (InvOf m) (ToldOf m)
 keeping_of c k Feed = demands_kept feed_steps feed_rig FeedInv FeedInv FeedRuns feed-keeping feed-demanding
 keeping_of c k Table = demands_kept (table_steps c.turn (IsReading c.turn)) (table_rig c.turn) TableInv TableInv TableDrives (table-keeping c.turn k.turn) (table-demanding c.turn)
-keeping_of c k Robot = robot-keeping (scales_of c.arm1 c.arm2 c.rotation) (record { arm1 = k.arm1; arm2 = k.arm2; rotation = k.rotation })
+keeping_of c k Robot = robot-keeping (robot_points c) (record { arm1 = k.arm1; arm2 = k.arm2; rotation = k.rotation })
 keeping_of c k Press = demands_kept press_steps press_rig PressInv PressInv PressMoves press-keeping press-demanding
 keeping_of c k Deposit = demands_kept deposit_steps deposit_rig DepositInv DepositInv DepositRuns deposit-keeping deposit-demanding
 keeping_of c k Crane = crane-keeping c.gripper k.gripper

@@ -38,6 +38,7 @@ use Rattle.cell_parts.specs.Collisions.{IsOn, IsGripperDown, IsOverDeposit, IsOv
 use Rattle.cell_parts.specs.MotorDemands.{ErrandDemands, TravelsHigh}
 use Rattle.cell_parts.specs.PositionDemands.{CraneHasDeposit, CraneHasFeed}
 use Rattle.cell_plant.specs.Errands.{errand_of}
+use Rattle.cell_plant.proofs.Magnets.{still_on}
 use Rattle.cell_plant.proofs.Stops.{reading_near, StopsWithin, off_within, driven_within}
 use Rattle.cell_plant.proofs.WithinLemmas.{between, moved_within}
 
@@ -489,9 +490,6 @@ stops_within s = tt
 -- Its magnet lets go only close above the feed belt.
 abbrev LetsGoThere : CranePlant → CraneAct → Type 0
 LetsGoThere c act = LetsGo c.magnet act.magnet → CraneMayLetGo (set_crane c act)
-
-still_on : (a b : Bool) → a ≡ b → LetsGo b a → ⊥
-still_on a b e go = let on = go.0 in let off = go.1 in cc
 
 lets_go_at : (s : CraneStep) (c : CranePlant) (act : CraneAct) (m : Bool) → c.magnet ≡ m → act.magnet ≡ magnet_by s m → IsAt (level_of s) c.gripper.position → IsOver (stand_of s) c.travel.position → LetsGoThere c act
 lets_go_at GripPlate c act m was is level stand go = let off = go.1 in cc

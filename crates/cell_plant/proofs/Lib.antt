@@ -5,6 +5,7 @@ pub mod BeltPlates
 pub mod FeedKeeps
 pub mod DepositKeeps
 pub mod Stops
+pub mod Magnets
 pub mod CraneKeeps
 pub mod RobotKeeps
 pub mod WatchKeeps

@@ -41,6 +41,7 @@ use Rattle.cell_parts.specs.Shows.{RobotShows}
 use Rattle.cell_parts.specs.Collisions.{IsOn, IsOut, IsArm1AtTable, IsArm1InPress, IsArm2InPress, IsArm2AtDeposit, LetsGo, Arm1MayLetGo, Arm2MayLetGo, DrivesPast}
 use Rattle.cell_parts.specs.MotorDemands.{RotatesRetracted}
 use Rattle.cell_parts.specs.PositionDemands.{HoldsIn}
+use Rattle.cell_plant.proofs.Magnets.{still_on}
 use Rattle.cell_plant.proofs.Stops.{reading_near, span_of, at_stop, StopsWithin, off_within, driven_within}
 use Rattle.cell_plant.proofs.WithinLemmas.{between, moved_within}
 
@@ -523,9 +524,6 @@ turn_stops s false = tt
 -- A magnet lets go only where its plate may go.
 abbrev LetsGoThere : RobotPlant → RobotAct → Type 0
 LetsGoThere r act = (LetsGo r.magnet1 act.magnet1 → Arm1MayLetGo (set_robot r act)) × (LetsGo r.magnet2 act.magnet2 → Arm2MayLetGo (set_robot r act))
-
-still_on : (a b : Bool) → a ≡ b → LetsGo b a → ⊥
-still_on a b e go = let on = go.0 in let off = go.1 in cc
 
 first_goes : (s : RobotStep) (r : RobotPlant) (act : RobotAct) (m : RobotMagnets) → r.magnet1 ≡ m.arm1 → act.magnet1 ≡ (magnets_by s m).arm1 → StandsAt (arm1_at s) r.arm1 → StandsAt (rotation_at s) r.rotation → LetsGo r.magnet1 act.magnet1 → Arm1MayLetGo (set_robot r act)
 first_goes GripPlate r act m was is arm at go = let off = go.1 in cc

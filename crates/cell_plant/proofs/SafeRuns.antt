@@ -23,7 +23,7 @@ use Rattle.cell_calib.specs.declared.sense.RobotSense.{RobotSense}
 use Rattle.cell_devices.specs.declared.act.RobotAct.{RobotAct}
 use Rattle.cell_robot.specs.declared.robot_step.RobotProgress.{RobotProgress}
 use Rattle.cell_robot.specs.declared.robot_step.RobotReading.{RobotReading}
-use Rattle.cell_robot.specs.RobotProgram.{RobotScales, scales_of, near_lines, robot_rest, robot_steps}
+use Rattle.cell_robot.specs.RobotProgram.{RobotScales, near_lines, robot_rest, robot_steps}
 use Rattle.cell_stations.specs.PressProgram.{press_steps}
 use Rattle.cell_stations.specs.TableProgram.{table_steps}
 use Rattle.cell_notes.specs.Asks.{Asked, done_in}
@@ -37,6 +37,7 @@ use Rattle.cell_parts.specs.MotorDemands.{GripperErrand, MotorDemands}
 use Rattle.cell_parts.specs.Laws.{AllDemandsMet}
 use Rattle.cell_parts.proofs.NoCollision.{nothing_collides}
 use Rattle.cell_notes.specs.declared.schedule.Turn.{Turn}
+use Rattle.cell_plant.specs.Machines.{robot_points, robot_axes}
 use Rattle.cell_plant.specs.CellStates.{CellState, plant_of, cell_at_start}
 use Rattle.cell_plant.specs.Runs.{Step, TakesTurn, LeadsIf, goes_on, IsRun}
 use Rattle.cell_plant.specs.Errands.{errand_of}
@@ -44,8 +45,9 @@ use Rattle.cell_plant.specs.Safety.{IsSafeState, IsSafelySet, IsSafeRun, EveryRu
 use Rattle.cell_plant.proofs.KeptRuns.{CellInv, step_keeps}
 use Rattle.cell_plant.proofs.CellKeeps.{InvOf, ToldOf, keeping_of, starts}
 use Rattle.cell_plant.proofs.CraneKeeps.{gripper-down, gripper-driven, travels-high, crane-ends, crane-lets-go}
+use Rattle.cell_plant.proofs.Magnets.{still_on}
 use Rattle.cell_plant.proofs.PressKeeps.{press-ends}
-use Rattle.cell_plant.proofs.RobotKeeps.{AreRobotScales, part_scales, arm1-has, arm2-has, rotates-retracted, robot-ends, robot-lets-go}
+use Rattle.cell_plant.proofs.RobotKeeps.{AreRobotScales, arm1-has, arm2-has, rotates-retracted, robot-ends, robot-lets-go}
 use Rattle.cell_plant.proofs.TableKeeps.{table-ends}
 
 -- a start is sound, for its zones are free, and its belts stand
@@ -75,9 +77,6 @@ unnoted rig k b (Some e) = k b e
 set_unnoted : {S Sense Reading Act State : Type 0} → (t : Steps S Sense Reading Act) (rig : Rig State Sense Act) → ((b : State) (e : Event) → rig.notes b e ≡ b) → (before : Side S State) (asked : Asked) (turned : Turned S Act) (set : Side S State)
     → set ≡ side_set t rig before asked turned → set.part ≡ rig.set before.part (act_or_rest (t.rest before.progress) turned.result)
 set_unnoted t rig k before asked turned set e = ap (λ x. x.part) e ∙ ap (λ b. rig.set b (act_or_rest (t.rest before.progress) turned.result)) (unnoted rig k before.part (done_in t.machine asked))
-
-not_let_go : (a b : Bool) → a ≡ b → LetsGo b a → ⊥
-not_let_go a b e go = let on = go.0 in let off = go.1 in cc
 
 module _ (c : CellScales) (scales : AreCellScales c) where
   abbrev Kept : CellState → Type 0
@@ -145,32 +144,32 @@ module _ (c : CellScales) (scales : AreCellScales c) where
       let is = crane_set busy w s k in
       subst CraneMayLetGo (sym is) (crane-lets-go c.gripper scales.gripper w.interlock (w.side Crane).progress (w.side Crane).part (i.each Crane) k.takes.sense k.takes.shows _ _ (w.side Crane).stopped k.takes.turned k.takes.row
       (go.0, sym (ap (λ x. x.magnet) is) ∙ go.1))
-  crane_lets_go m busy w s i k go = let same = ap (λ x. x.part.magnet) (k.others_set Crane refl) in absurd (not_let_go _ _ same go)
+  crane_lets_go m busy w s i k go = let same = ap (λ x. x.part.magnet) (k.others_set Crane refl) in absurd (still_on _ _ same go)
 
   -- nor do the robot's
-  abbrev robot_points : RobotScales
-  robot_points = scales_of c.arm1 c.arm2 c.rotation
+  abbrev points : RobotScales
+  points = robot_points c
 
-  abbrev robot_axes : AreRobotScales robot_points
-  robot_axes = record { arm1 = scales.arm1; arm2 = scales.arm2; rotation = scales.rotation }
+  abbrev axes : AreRobotScales points
+  axes = record { arm1 = scales.arm1; arm2 = scales.arm2; rotation = scales.rotation }
 
   abbrev robot_program : Steps RobotProgress RobotSense RobotReading RobotAct
-  robot_program = robot_steps robot_points (near_lines robot_points)
+  robot_program = robot_steps points (near_lines points)
 
   robot_set : (busy : Bool) (w : CellState) (s : Step) → (k : TakesTurn c Robot busy w s) → (s.set.side Robot).part ≡ set_robot (w.side Robot).part (act_or_rest (robot_rest (w.side Robot).progress) k.takes.turned.result)
-  robot_set busy w s k = set_unnoted robot_program (robot_rig (part_scales robot_points)) (λ b x. refl) (w.side Robot) s.asked k.takes.turned (s.set.side Robot) k.takes.is
+  robot_set busy w s k = set_unnoted robot_program (robot_rig (robot_axes c)) (λ b x. refl) (w.side Robot) s.asked k.takes.turned (s.set.side Robot) k.takes.is
 
   robot_lets_go : (m : Machine) (busy : Bool) (w : CellState) (s : Step) → Kept w → TakesTurn c m busy w s
       → (LetsGo (w.side Robot).part.magnet1 (s.set.side Robot).part.magnet1 → Arm1MayLetGo (s.set.side Robot).part) × (LetsGo (w.side Robot).part.magnet2 (s.set.side Robot).part.magnet2 → Arm2MayLetGo (s.set.side Robot).part)
   robot_lets_go Robot busy w s i k =
       let is = robot_set busy w s k in
-      let there = robot-lets-go robot_points robot_axes w.interlock (w.side Robot).progress (w.side Robot).part (i.each Robot) k.takes.sense k.takes.shows _ _ (w.side Robot).stopped k.takes.turned k.takes.row in (
+      let there = robot-lets-go points axes w.interlock (w.side Robot).progress (w.side Robot).part (i.each Robot) k.takes.sense k.takes.shows _ _ (w.side Robot).stopped k.takes.turned k.takes.row in (
         λ go. subst Arm1MayLetGo (sym is) (there.0 (go.0, sym (ap (λ x. x.magnet1) is) ∙ go.1)),
         λ go. subst Arm2MayLetGo (sym is) (there.1 (go.0, sym (ap (λ x. x.magnet2) is) ∙ go.1)),
       )
   robot_lets_go m busy w s i k =
       let same = k.others_set Robot refl in
-      (λ go. absurd (not_let_go _ _ (ap (λ x. x.part.magnet1) same) go), λ go. absurd (not_let_go _ _ (ap (λ x. x.part.magnet2) same) go))
+      (λ go. absurd (still_on _ _ (ap (λ x. x.part.magnet1) same) go), λ go. absurd (still_on _ _ (ap (λ x. x.part.magnet2) same) go))
 
   no_plate_falls : (m : Machine) (busy : Bool) (w : CellState) (s : Step) → Kept w → TakesTurn c m busy w s → ¬ PlateFalls (plant_of w) (plant_of s.set)
   no_plate_falls m busy w s i k (inl h) = h.1 ((robot_lets_go m busy w s i k).0 h.0)
@@ -187,7 +186,7 @@ module _ (c : CellScales) (scales : AreCellScales c) where
       (subst (λ a. DrivesPastEnd Press (record (plant_of s.set) { press = a })) (set_unnoted press_steps press_rig (λ b x. refl) (w.side Press) s.asked k.takes.turned (s.set.side Press) k.takes.is) past)
   not_past Feed busy w s i k past = past
   not_past Robot busy w s i k past =
-      robot-ends robot_points robot_axes w.interlock (w.side Robot).progress (w.side Robot).part (i.each Robot) k.takes.sense k.takes.shows _ _ (w.side Robot).stopped k.takes.turned k.takes.row
+      robot-ends points axes w.interlock (w.side Robot).progress (w.side Robot).part (i.each Robot) k.takes.sense k.takes.shows _ _ (w.side Robot).stopped k.takes.turned k.takes.row
       (subst (λ x. DrivesPastEnd Robot (record (plant_of s.set) { robot = x })) (robot_set busy w s k) past)
   not_past Deposit busy w s i k past = past
   not_past Crane busy w s i k past =

@@ -17,7 +17,7 @@ use Rattle.cell_rules.specs.Benches.{Desk}
 use Rattle.cell_control.specs.Steps.{Steps}
 use Rattle.cell_control.specs.Rigs.{Rig}
 use Rattle.cell_robot.specs.declared.robot_step.RobotProgress.{RobotProgress}
-use Rattle.cell_robot.specs.RobotProgram.{RobotScales, RobotGauges, scales_of, near_lines, Senses as RobotSenses, robot_steps}
+use Rattle.cell_robot.specs.RobotProgram.{RobotScales, RobotGauges, near_lines, Senses as RobotSenses, robot_steps}
 use Rattle.cell_robot.proofs.RobotSenses.{senses_near as robot_senses_near}
 use Rattle.cell_stations.specs.declared.table_step.TableProgress.{TableProgress}
 use Rattle.cell_control.specs.declared.fault.CtlFault.{CtlFault}
@@ -39,7 +39,7 @@ use Rattle.cell_seat.proofs.Others.{others_ready}
 use Rattle.cell_seat.proofs.Turning.{seat_turn_still}
 use Rattle.cell_seat.specs.SeatTurns.{SeatTurn, Untouched, Leads as LeadsAlone}
 use Rattle.cell_notes.specs.declared.schedule.Turn.{Turn}
-use Rattle.cell_plant.specs.Machines.{steps_of, rig_of}
+use Rattle.cell_plant.specs.Machines.{robot_points, robot_axes, steps_of, rig_of}
 use Rattle.cell_plant.specs.CellStates.{SideOf, CellState, Sides, side_in, sides_at_start}
 use Rattle.cell_plant.specs.Runs.{Step, LeadsIf, is_at_work}
 use Rattle.cell_plant.specs.Moments.{Moment, AllNotes, StepsOn, state_at, notes_in, first_notes, first_moment}
@@ -204,12 +204,6 @@ crane_others s x v y Crane apart = cc
 crane_others s x v y n apart = (refl, refl)
 
 -- the robot's and the crane's, likewise
-abbrev robot_axes : CellScales → PartScales
-robot_axes c = record { arm1 = c.arm1; arm2 = c.arm2; rotation = c.rotation }
-
-abbrev robot_points : CellScales → RobotScales
-robot_points c = scales_of c.arm1 c.arm2 c.rotation
-
 pub robot_near : (points : RobotScales) (gives : RobotGauges) (rig : Rig RobotPlant RobotSense RobotAct) (busy : Bool) (old new : Desk) (before now : Side RobotProgress RobotPlant) (notes notes' : Notes)
     → SeatTurn (robot_steps points gives) rig busy old new before now notes notes' → SeatTurn (robot_steps points (near_lines points)) rig busy old new before now notes notes'
 robot_near points gives rig busy old new before now notes notes' k = seat_turn_still (robot_steps points gives) rig (RobotSenses points (near_lines points)) (robot_senses_near points gives) busy old new before now notes notes' k

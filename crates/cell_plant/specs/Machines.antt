@@ -26,7 +26,7 @@ use Rattle.cell_haul.specs.DepositProgram.{deposit_steps}
 use Rattle.cell_haul.specs.FeedProgram.{feed_steps}
 use Rattle.cell_robot.specs.declared.robot_step.RobotProgress.{RobotProgress}
 use Rattle.cell_robot.specs.declared.robot_step.RobotReading.{RobotReading}
-use Rattle.cell_robot.specs.RobotProgram.{scales_of, near_lines, robot_steps}
+use Rattle.cell_robot.specs.RobotProgram.{RobotScales, scales_of, near_lines, robot_steps}
 use Rattle.cell_stations.specs.declared.press_step.PressProgress.{PressProgress}
 use Rattle.cell_stations.specs.declared.table_step.TableProgress.{TableProgress}
 use Rattle.cell_stations.specs.declared.table_step.TableReading.{TableReading}
@@ -34,7 +34,7 @@ use Rattle.cell_stations.specs.PressProgram.{press_steps}
 use Rattle.cell_stations.specs.TableProgram.{table_steps}
 use Rattle.cell_parts.specs.declared.axis.Axis.{Axis}
 use Rattle.cell_parts.specs.declared.belt.Belt.{Belt}
-use Rattle.cell_parts.specs.Axes.{CellScales}
+use Rattle.cell_parts.specs.Axes.{RobotScales as PartScales, CellScales}
 use Rattle.cell_parts.specs.Plant.{TablePlant, RobotPlant, CranePlant}
 use Rattle.cell_parts.specs.Rigs.{feed_rig, table_rig, robot_rig, press_rig, deposit_rig, crane_rig}
 
@@ -107,11 +107,18 @@ no_steps =
 abbrev pub no_rig : Rig (Unit {0}) (Unit {0}) (Unit {0})
 no_rig = record { shows = λ a s. ⊤; notes = λ a e. a; set = λ a act. a; moves = λ a. a }
 
+-- the robot's scales, as its program names them and as its part does
+abbrev pub robot_points : CellScales → RobotScales
+robot_points c = scales_of c.arm1 c.arm2 c.rotation
+
+abbrev pub robot_axes : CellScales → PartScales
+robot_axes c = record { arm1 = c.arm1; arm2 = c.arm2; rotation = c.rotation }
+
 -- its program, and how its part behaves, by the scales of the cell: a reading is any that a calibration over its scale may give
 abbrev pub steps_of : CellScales → (m : Machine) → Steps (ProgressOf m) (SenseOf m) (ReadingOf m) (ActOf m)
 steps_of c Feed = feed_steps
 steps_of c Table = table_steps c.turn (IsReading c.turn)
-steps_of c Robot = robot_steps (scales_of c.arm1 c.arm2 c.rotation) (near_lines (scales_of c.arm1 c.arm2 c.rotation))
+steps_of c Robot = robot_steps (robot_points c) (near_lines (robot_points c))
 steps_of c Press = press_steps
 steps_of c Deposit = deposit_steps
 steps_of c Crane = crane_steps c.gripper (IsReading c.gripper)
@@ -120,7 +127,7 @@ steps_of c Watch = no_steps
 abbrev pub rig_of : CellScales → (m : Machine) → Rig (PartOf m) (SenseOf m) (ActOf m)
 rig_of c Feed = feed_rig
 rig_of c Table = table_rig c.turn
-rig_of c Robot = robot_rig (record { arm1 = c.arm1; arm2 = c.arm2; rotation = c.rotation })
+rig_of c Robot = robot_rig (robot_axes c)
 rig_of c Press = press_rig
 rig_of c Deposit = deposit_rig
 rig_of c Crane = crane_rig c.gripper
