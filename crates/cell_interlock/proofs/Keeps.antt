@@ -23,28 +23,29 @@ use Rattle.cell_rules.proofs.SeenLemmas.{legal-append, same_as_itself}
 use Rattle.cell_word.specs.Layout.{packed}
 use Rattle.cell_interlock.specs.declared.pass.Part.{Part}
 use Rattle.cell_interlock.specs.Steps.{IsReady}
-use Rattle.cell_interlock.specs.Rule.{part, head_of, first_off, others_of, all_parts, Told, AllTold, parts_of, parts_in_all, Kept, Point, seen_at, looked, exchanged, IsSeat}
-use Rattle.cell_interlock.proofs.Machines.{apart_back, not_own, begins-more, own-more, next-same}
+use Rattle.cell_interlock.specs.Rule.{part, head_of, first_off, others_of, all_parts, Fits, AllFit, parts_of, parts_in_all, WordTellsHistory, Moment, seen_at, looked, exchanged, IsSeat}
+use Rattle.cell_rules.proofs.Quiet.{next-same}
+use Rattle.cell_interlock.proofs.Machines.{apart_back, not_own, begins-more, own-more}
 
 -- a machine that has seen the whole history
-told_whole : (o : ModelState) (h : List Event) (p : Part) (since : List Event) → p.opening ≡ o → Told o h (part p.opening p.machine h since)
-told_whole o h p since e = record { opening = e; begins = ([], sym (append-nil h)); own = refl }
+fits_whole : (o : ModelState) (h : List Event) (p : Part) (since : List Event) → p.opening ≡ o → Fits o h (part p.opening p.machine h since)
+fits_whole o h p since e = record { opening_is = e; begins = ([], sym (append-nil h)); own = refl }
 
-told-more : (o : ModelState) (h k : List Event) (m : Machine) → ((n : Machine) → same_machine n m ≡ false → own_events k n ≡ []) → (ps : List Part) → parts_of m ps ≡ 0 → AllTold o h ps → AllTold o (h ++ k) ps
-told-more o h k m quiet [] z t = tt
-told-more o h k m quiet (p ∷ ps) z t = go (same_machine p.machine m) refl (told-more o h k m quiet ps)
+fit-more : (o : ModelState) (h k : List Event) (m : Machine) → ((n : Machine) → same_machine n m ≡ false → own_events k n ≡ []) → (ps : List Part) → parts_of m ps ≡ 0 → AllFit o h ps → AllFit o (h ++ k) ps
+fit-more o h k m quiet [] z t = tt
+fit-more o h k m quiet (p ∷ ps) z t = go (same_machine p.machine m) refl (fit-more o h k m quiet ps)
   where
-    go : (b : Bool) → same_machine p.machine m ≡ b → (parts_of m ps ≡ 0 → AllTold o h ps → AllTold o (h ++ k) ps) → AllTold o (h ++ k) (p ∷ ps)
+    go : (b : Bool) → same_machine p.machine m ≡ b → (parts_of m ps ≡ 0 → AllFit o h ps → AllFit o (h ++ k) ps) → AllFit o (h ++ k) (p ∷ ps)
     go true e again = absurd (grind (arith, e, z))
-    go false e again = (record { opening = t.0.opening; begins = begins-more h k p.seen t.0.begins; own = own-more p.machine h k p.seen (quiet p.machine e) t.0.own }, again (grind (arith, e, z)) t.1)
+    go false e again = (record { opening_is = t.0.opening_is; begins = begins-more h k p.seen t.0.begins; own = own-more p.machine h k p.seen (quiet p.machine e) t.0.own }, again (grind (arith, e, z)) t.1)
 
-told-first : (o : ModelState) (h : List Event) (ps : List Part) → AllTold o h ps → AllTold o h (first_off ps)
-told-first o h [] a = tt
-told-first o h (p ∷ ps) a = (a.0, tt)
+fit-first : (o : ModelState) (h : List Event) (ps : List Part) → AllFit o h ps → AllFit o h (first_off ps)
+fit-first o h [] a = tt
+fit-first o h (p ∷ ps) a = (a.0, tt)
 
-told-others : (o : ModelState) (h : List Event) (ps : List Part) → AllTold o h ps → AllTold o h (others_of ps)
-told-others o h [] a = tt
-told-others o h (p ∷ ps) a = a.1
+fit-others : (o : ModelState) (h : List Event) (ps : List Part) → AllFit o h ps → AllFit o h (others_of ps)
+fit-others o h [] a = tt
+fit-others o h (p ∷ ps) a = a.1
 
 parts-cut : (m : Machine) (ps : List Part) → parts_of m (first_off ps) + parts_of m (others_of ps) ≡ parts_of m ps
 parts-cut m [] = refl
@@ -77,128 +78,128 @@ Views = List (List Part)
 abbrev Shop : Type 0 → Type 0
 Shop S = State S (List Part)
 
-views-stay : (o : ModelState) (h : List Event) (vs : Views) (id : ℕ) (w : List Part) → AllTold o h w → ((j : ℕ) (u : List Part) → j ≢ id → get_elem? vs j ≡ some u → AllTold o h u)
-    → (j : ℕ) (u : List Part) → get_elem? (set vs id w) j ≡ some u → AllTold o h u
-views-stay o h vs id w here others j u e = ⊎_elim (λ (t : (j ≡ id) × (w ≡ u)). subst (AllTold o h) t.1 here) (λ (t : (j ≢ id) × (get_elem? vs j ≡ some u)). others j u t.0 t.1) (at_set vs id j w u e)
+views-stay : (o : ModelState) (h : List Event) (vs : Views) (id : ℕ) (w : List Part) → AllFit o h w → ((j : ℕ) (u : List Part) → j ≢ id → get_elem? vs j ≡ some u → AllFit o h u)
+    → (j : ℕ) (u : List Part) → get_elem? (set vs id w) j ≡ some u → AllFit o h u
+views-stay o h vs id w here others j u e = ⊎_elim (λ (t : (j ≡ id) × (w ≡ u)). subst (AllFit o h) t.1 here) (λ (t : (j ≢ id) × (get_elem? vs j ≡ some u)). others j u t.0 t.1) (at_set vs id j w u e)
 
 module _ {S : Type 0} (o : ModelState) where
   -- the seat id has a new view of the same machines, and the word may have changed
-  moved : (s : Shop S) (r : Kept o s) (id : ℕ) (v w : List Part) → get_elem? s.views id ≡ some v → (h : List Event) → IsLegal o h → (n : ℕ) → n ≡ packed (after o h) → AllTold o h w
-      → ((j : ℕ) (u : List Part) → j ≢ id → get_elem? s.views j ≡ some u → AllTold o h u) → ((m : Machine) → parts_of m w ≡ parts_of m v) → Kept o (stepped s 0 n id [] w keeps)
+  moved : (s : Shop S) (r : WordTellsHistory o s) (id : ℕ) (v w : List Part) → get_elem? s.views id ≡ some v → (h : List Event) → IsLegal o h → (n : ℕ) → n ≡ packed (after o h) → AllFit o h w
+      → ((j : ℕ) (u : List Part) → j ≢ id → get_elem? s.views j ≡ some u → AllFit o h u) → ((m : Machine) → parts_of m w ≡ parts_of m v) → WordTellsHistory o (stepped s 0 n id [] w keeps)
   moved s r id v w at h legal n is here others count = record {
     history = h;
     has_word = subst (λ (z : ℕ). 0 < z) (sym (length-set s.words 0 n)) r.has_word;
     sound = r.sound;
     legal = legal;
     word = get_or-set_same s.words 0 n 0 r.has_word ∙ is;
-    told = views-stay o h s.views id w here others;
-    once = λ m. omega (arith, total-set m s.views id v w at, count m, r.once m);
+    views = views-stay o h s.views id w here others;
+    apart = λ m. omega (arith, total-set m s.views id v w at, count m, r.apart m);
   }
 
   -- no event, and the word stays
-  stayed : (s : Shop S) (r : Kept o s) (id : ℕ) (v w : List Part) → get_elem? s.views id ≡ some v → AllTold o r.history w → ((m : Machine) → parts_of m w ≡ parts_of m v)
-      → Kept o (stepped s 0 (get_or s.words 0 0) id [] w keeps)
-  stayed s r id v w at here count = moved s r id v w at r.history r.legal (get_or s.words 0 0) r.word here (λ j u _ e. r.told j u e) count
+  stayed : (s : Shop S) (r : WordTellsHistory o s) (id : ℕ) (v w : List Part) → get_elem? s.views id ≡ some v → AllFit o r.history w → ((m : Machine) → parts_of m w ≡ parts_of m v)
+      → WordTellsHistory o (stepped s 0 (get_or s.words 0 0) id [] w keeps)
+  stayed s r id v w at here count = moved s r id v w at r.history r.legal (get_or s.words 0 0) r.word here (λ j u _ e. r.views j u e) count
 
   -- one event of the machine whose seat it is
-  called : (s : Shop S) (r : Kept o s) (id : ℕ) (p : Part) → get_elem? s.views id ≡ some (p ∷ []) → (c : Call) (n : ℕ) → n ≡ packed (next (after o r.history) p.machine c) → (since : List Event)
-      → let e : Event = event p.machine c (reply (after o r.history) p.machine c) in Kept o (stepped s 0 n id [] (part p.opening p.machine (r.history ++ e ∷ []) since ∷ []) keeps)
+  called : (s : Shop S) (r : WordTellsHistory o s) (id : ℕ) (p : Part) → get_elem? s.views id ≡ some (p ∷ []) → (c : Call) (n : ℕ) → n ≡ packed (next (after o r.history) p.machine c) → (since : List Event)
+      → let e : Event = event p.machine c (reply (after o r.history) p.machine c) in WordTellsHistory o (stepped s 0 n id [] (part p.opening p.machine (r.history ++ e ∷ []) since ∷ []) keeps)
   called s r id p at c n is since =
       let h : List Event = r.history in let e : Event = event p.machine c (reply (after o h) p.machine c) in let k : List Event = e ∷ [] in
-      let t = r.told id (p ∷ []) at in
+      let t = r.views id (p ∷ []) at in
       let quiet : (m : Machine) → same_machine m p.machine ≡ false → own_events k m ≡ [] = λ m f. not_own e m (apart_back p.machine m f) in
       let mine_one : parts_of p.machine (p ∷ []) ≡ 1 = ap (λ (b : Bool). (if b then 1 else 0) + 0) (same_as_itself p.machine) in
       moved s r id (p ∷ []) (part p.opening p.machine (h ++ k) since ∷ []) at (h ++ k) (legal-append o h k r.legal (refl, tt)) n (is ∙ ap packed (sym (after-append o h k)))
-      (told_whole o (h ++ k) p since t.0.opening, tt)
-      (λ j u apart f. told-more o h k p.machine quiet u (omega (arith, total-two p.machine s.views id j (p ∷ []) u apart at f, r.once p.machine)) (r.told j u f))
+      (fits_whole o (h ++ k) p since t.0.opening_is, tt)
+      (λ j u apart f. fit-more o h k p.machine quiet u (omega (arith, total-two p.machine s.views id j (p ∷ []) u apart at f, r.apart p.machine)) (r.views j u f))
       (λ m. refl)
 
-  point : (s : Shop S) (r : Kept o s) (p : Part) → Told o r.history p → Point p (get_or s.words 0 0) r.history
+  point : (s : Shop S) (r : WordTellsHistory o s) (p : Part) → Fits o r.history p → Moment p (get_or s.words 0 0) r.history
   point s r p t = record {
-    opened = subst IsSound (sym t.opening) r.sound;
-    sound = subst (λ (z : ModelState). IsSound (after z r.history)) (sym t.opening) (sound-after o r.history r.sound);
-    legal = subst (λ (z : ModelState). IsLegal z r.history) (sym t.opening) r.legal;
+    opened = subst IsSound (sym t.opening_is) r.sound;
+    sound = subst (λ (z : ModelState). IsSound (after z r.history)) (sym t.opening_is) (sound-after o r.history r.sound);
+    legal = subst (λ (z : ModelState). IsLegal z r.history) (sym t.opening_is) r.legal;
     begins = t.begins;
     own = t.own;
-    found = subst (λ (z : ModelState). packed (after z r.history) ≡ get_or s.words 0 0) (sym t.opening) (sym r.word);
+    found = subst (λ (z : ModelState). packed (after z r.history) ≡ get_or s.words 0 0) (sym t.opening_is) (sym r.word);
   }
 
   -- the load finds the word, and the call's event is added where the call changes nothing
-  looks_at : (s : Shop S) (r : Kept o s) (id : ℕ) (p : Part) → get_elem? s.views id ≡ some (p ∷ []) → (c : Call) (since : List Event)
-      → Kept o (stepped s 0 (get_or s.words 0 0) id [] (part p.opening p.machine (seen_at c p r.history) since ∷ []) keeps)
+  looks_at : (s : Shop S) (r : WordTellsHistory o s) (id : ℕ) (p : Part) → get_elem? s.views id ≡ some (p ∷ []) → (c : Call) (since : List Event)
+      → WordTellsHistory o (stepped s 0 (get_or s.words 0 0) id [] (part p.opening p.machine (seen_at c p r.history) since ∷ []) keeps)
   looks_at s r id p at c since =
-      let h : List Event = r.history in let t = r.told id (p ∷ []) at in
-      subst (λ (z : ModelState). Kept o (stepped s 0 (get_or s.words 0 0) id [] (part p.opening p.machine (if is_done_answer (reply (after z h) p.machine c) then h else h ++ event p.machine c (reply (after z h) p.machine c) ∷ []) since ∷ []) keeps)) (sym t.0.opening)
+      let h : List Event = r.history in let t = r.views id (p ∷ []) at in
+      subst (λ (z : ModelState). WordTellsHistory o (stepped s 0 (get_or s.words 0 0) id [] (part p.opening p.machine (if is_done_answer (reply (after z h) p.machine c) then h else h ++ event p.machine c (reply (after z h) p.machine c) ∷ []) since ∷ []) keeps)) (sym t.0.opening_is)
       (go (is_done_answer (reply (after o h) p.machine c)) refl)
     where
       go : (b : Bool) → is_done_answer (reply (after o r.history) p.machine c) ≡ b
-          → Kept o (stepped s 0 (get_or s.words 0 0) id [] (part p.opening p.machine (if b then r.history else r.history ++ event p.machine c (reply (after o r.history) p.machine c) ∷ []) since ∷ []) keeps)
-      go true e = let t = r.told id (p ∷ []) at in stayed s r id (p ∷ []) (part p.opening p.machine r.history since ∷ []) at (told_whole o r.history p since t.0.opening, tt) (λ m. refl)
+          → WordTellsHistory o (stepped s 0 (get_or s.words 0 0) id [] (part p.opening p.machine (if b then r.history else r.history ++ event p.machine c (reply (after o r.history) p.machine c) ∷ []) since ∷ []) keeps)
+      go true e = let t = r.views id (p ∷ []) at in stayed s r id (p ∷ []) (part p.opening p.machine r.history since ∷ []) at (fits_whole o r.history p since t.0.opening_is, tt) (λ m. refl)
       go false e = called s r id p at c (get_or s.words 0 0) (r.word ∙ ap packed (sym (next-same (after o r.history) p.machine c e))) since
 
-  pub looks : (slots id : ℕ) (p : Part) (c : Call) → Allows (Kept o) slots id (p ∷ [], []) 0 (λ n. n) (looked {S = S} c (step slots 0 0 0 none) (p ∷ [], []))
+  pub looks : (slots id : ℕ) (p : Part) (c : Call) → Allows (WordTellsHistory o) slots id (p ∷ [], []) 0 (λ n. n) (looked {S = S} c (step slots 0 0 0 none) (p ∷ [], []))
   looks slots id p c s r _ at _ =
-      let t = r.told id (p ∷ []) at in
+      let t = r.views id (p ∷ []) at in
       (part p.opening p.machine (seen_at c p r.history) (seen_at c p r.history) ∷ [], keeps, tt, looks_at s r id p at c (seen_at c p r.history), (r.history, point s r p t.0, refl))
 
-  pub looks_as : (slots id : ℕ) (me : Me S (List Part)) (c : Call) → me ≡ (head_of me.0 ∷ [], []) → Allows (Kept o) slots id me 0 (λ n. n) (looked {S = S} c (step slots 0 0 0 none) me)
-  looks_as slots id me c e = subst (λ (z : Me S (List Part)). Allows (Kept o) slots id z 0 (λ n. n) (looked {S = S} c (step slots 0 0 0 none) z)) (sym e) (looks slots id (head_of me.0) c)
+  pub looks_as : (slots id : ℕ) (me : Me S (List Part)) (c : Call) → me ≡ (head_of me.0 ∷ [], []) → Allows (WordTellsHistory o) slots id me 0 (λ n. n) (looked {S = S} c (step slots 0 0 0 none) me)
+  looks_as slots id me c e = subst (λ (z : Me S (List Part)). Allows (WordTellsHistory o) slots id z 0 (λ n. n) (looked {S = S} c (step slots 0 0 0 none) z)) (sym e) (looks slots id (head_of me.0) c)
 
   -- the exchange is won where the word is still the one that the call was looked up for
   pub exchanges : (slots id : ℕ) (p : Part) (c : Call) (old new : ℕ) → ((z : ModelState) → IsSound z → packed z ≡ old → (reply z p.machine c ≡ Done) × (packed (next z p.machine c) ≡ new))
-      → Allows (Kept o) slots id (p ∷ [], []) 0 (λ n. either (eqb n old) new n) (exchanged {S = S} c (step slots 0 old new none) (p ∷ [], []))
+      → Allows (WordTellsHistory o) slots id (p ∷ [], []) 0 (λ n. either (eqb n old) new n) (exchanged {S = S} c (step slots 0 old new none) (p ∷ [], []))
   exchanges slots id p c old new ready s r _ at _ =
-      let h : List Event = r.history in let x : ℕ = get_or s.words 0 0 in let t = r.told id (p ∷ []) at in
+      let h : List Event = r.history in let x : ℕ = get_or s.words 0 0 in let t = r.views id (p ∷ []) at in
       let pick : Bool → List Part = λ b. part p.opening p.machine (if b then h ++ event p.machine c Done ∷ [] else seen_at c p h) p.since ∷ [] in
       dite (ℕ_discrete x old)
       (λ hit. let f = ready (after o h) (sound-after o h r.sound) (sym r.word ∙ hit) in (
         pick (eqb x old),
         keeps,
         tt,
-        subst (λ (b : Bool). Kept o (stepped s 0 (either b new x) id [] (pick b) keeps)) (sym (eq-eqb x old hit))
-            (subst (λ a. Kept o (stepped s 0 new id [] (part p.opening p.machine (h ++ event p.machine c a ∷ []) p.since ∷ []) keeps)) f.0 (called s r id p at c new (sym f.1) p.since)),
+        subst (λ (b : Bool). WordTellsHistory o (stepped s 0 (either b new x) id [] (pick b) keeps)) (sym (eq-eqb x old hit))
+            (subst (λ a. WordTellsHistory o (stepped s 0 new id [] (part p.opening p.machine (h ++ event p.machine c a ∷ []) p.since ∷ []) keeps)) f.0 (called s r id p at c new (sym f.1) p.since)),
         (h, point s r p t.0, refl),
       ))
       (λ miss. (
         pick (eqb x old),
         keeps,
         tt,
-        subst (λ (b : Bool). Kept o (stepped s 0 (either b new x) id [] (pick b) keeps)) (sym (ne_eqb x old miss)) (looks_at s r id p at c p.since),
+        subst (λ (b : Bool). WordTellsHistory o (stepped s 0 (either b new x) id [] (pick b) keeps)) (sym (ne_eqb x old miss)) (looks_at s r id p at c p.since),
         (h, point s r p t.0, refl),
       ))
 
   pub exchanges_as : (slots id : ℕ) (me : Me S (List Part)) (c : Call) (old new : ℕ) → me ≡ (head_of me.0 ∷ [], []) → ((z : ModelState) → IsSound z → packed z ≡ old → (reply z (head_of me.0).machine c ≡ Done) × (packed (next z (head_of me.0).machine c) ≡ new))
-      → Allows (Kept o) slots id me 0 (λ n. either (eqb n old) new n) (exchanged {S = S} c (step slots 0 old new none) me)
-  exchanges_as slots id me c old new e ready = subst (λ (z : Me S (List Part)). Allows (Kept o) slots id z 0 (λ n. either (eqb n old) new n) (exchanged {S = S} c (step slots 0 old new none) z)) (sym e) (exchanges slots id (head_of me.0) c old new ready)
+      → Allows (WordTellsHistory o) slots id me 0 (λ n. either (eqb n old) new n) (exchanged {S = S} c (step slots 0 old new none) me)
+  exchanges_as slots id me c old new e ready = subst (λ (z : Me S (List Part)). Allows (WordTellsHistory o) slots id z 0 (λ n. either (eqb n old) new n) (exchanged {S = S} c (step slots 0 old new none) z)) (sym e) (exchanges slots id (head_of me.0) c old new ready)
 
-  pub splits : (id : ℕ) (v : List Part) → Splits {S = S} (Kept o) id v (others_of v) (first_off v)
+  pub splits : (id : ℕ) (v : List Part) → Splits {S = S} (WordTellsHistory o) id v (others_of v) (first_off v)
   splits id v s r at = record {
     history = r.history;
     has_word = r.has_word;
     sound = r.sound;
     legal = r.legal;
     word = r.word;
-    told = λ j u e. ⊎_elim (views-stay o r.history s.views id (others_of v) (told-others o r.history v (r.told id v at)) (λ i x _ f. r.told i x f) j u)
-        (λ (t : first_off v ≡ u). subst (AllTold o r.history) t (told-first o r.history v (r.told id v at))) (at_snoc (set s.views id (others_of v)) (first_off v) u j e);
-    once = λ m. omega (arith, total-snoc m (set s.views id (others_of v)) (first_off v), total-set m s.views id v (others_of v) at, parts-cut m v, r.once m);
+    views = λ j u e. ⊎_elim (views-stay o r.history s.views id (others_of v) (fit-others o r.history v (r.views id v at)) (λ i x _ f. r.views i x f) j u)
+        (λ (t : first_off v ≡ u). subst (AllFit o r.history) t (fit-first o r.history v (r.views id v at))) (at_snoc (set s.views id (others_of v)) (first_off v) u j e);
+    apart = λ m. omega (arith, total-snoc m (set s.views id (others_of v)) (first_off v), total-set m s.views id v (others_of v) at, parts-cut m v, r.apart m);
   }
 
-  pub opens : (n : ℕ) (xs : List S) → n ≡ packed o → IsSound o → Kept o (opening (n ∷ []) xs (all_parts o))
+  pub opens : (n : ℕ) (xs : List S) → n ≡ packed o → IsSound o → WordTellsHistory o (opening (n ∷ []) xs (all_parts o))
   opens n xs is sound = record {
     history = [];
     has_word = omega arith;
     sound = sound;
     legal = tt;
     word = is;
-    told = first;
-    once = once;
+    views = first;
+    apart = once;
   }
     where
-      new : (m : Machine) → Told o [] (part o m [] [])
-      new m = record { opening = refl; begins = ([], refl); own = refl }
+      new : (m : Machine) → Fits o [] (part o m [] [])
+      new m = record { opening_is = refl; begins = ([], refl); own = refl }
 
-      first : (i : ℕ) (v : List Part) → get_elem? (all_parts o ∷ []) i ≡ some v → AllTold o [] v
-      first zero v e = subst (AllTold o []) (some-injective (all_parts o) v e) (new Feed, (new Table, (new Robot, (new Press, (new Deposit, (new Crane, (new Watch, tt)))))))
+      first : (i : ℕ) (v : List Part) → get_elem? (all_parts o ∷ []) i ≡ some v → AllFit o [] v
+      first zero v e = subst (AllFit o []) (some-injective (all_parts o) v e) (new Feed, (new Table, (new Robot, (new Press, (new Deposit, (new Crane, (new Watch, tt)))))))
       first (suc i) v e = absurd (some-ne-none v (sym e))
 
       once : (m : Machine) → parts_in_all m (all_parts o ∷ []) ≤ 1

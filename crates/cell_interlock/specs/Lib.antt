@@ -1,6 +1,8 @@
 pub mod Views
+pub mod Fresh
 pub mod Rule
 pub mod Steps
-pub mod Rights
+pub mod Seen
+pub mod Going
 pub mod Calls
-pub mod Replies
+pub mod Tries

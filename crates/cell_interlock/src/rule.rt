@@ -1,21 +1,21 @@
-//! The rule of the word, and what each step on it tells.
+//! The rule of the word, and what each kind of step on it tells: `specs/Rule.antt`.
 use crate::pass::View;
 use atomic_table::{Play, Split, TableRule};
 use cell_rules::State;
 use std::marker::{Brand, PhantomData};
 
-/// The word is that of the state after one history.
+/// The word tells one legal history, of which every machine has seen a beginning.
 pub struct OneHistory;
 
 impl TableRule<(), View, State> for OneHistory {
-    ghost use Rattle.cell_interlock.specs.Rule.{Kept, all_parts};
+    ghost use Rattle.cell_interlock.specs.Rule.{WordTellsHistory, all_parts};
 
-    ghost holds = { λ opening table. Kept opening table };
+    ghost holds = { λ opening table. WordTellsHistory opening table };
 
     ghost first = { all_parts };
 }
 
-/// Names the call of a step.
+/// Names the call that a step is made for.
 pub trait Asked {
     ghost use Rattle.cell_types.specs.declared.call.Call.{Call};
 
@@ -39,7 +39,7 @@ impl<A: Asked> Play<(), View> for Looks<A> {
     ghost then = { looked A.call };
 }
 
-/// An exchange for a call.
+/// An exchange for a call, won or lost.
 pub struct Exchanges<A> {
     asked: PhantomData<A>,
 }
@@ -50,7 +50,7 @@ impl<A: Asked> Play<(), View> for Exchanges<A> {
     ghost then = { exchanged A.call };
 }
 
-/// The first machine of a seat goes to the new seat.
+/// A split: the first machine of a seat goes to a new seat.
 pub struct FirstOff;
 
 impl Split<View> for FirstOff {
