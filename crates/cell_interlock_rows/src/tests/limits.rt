@@ -1,28 +1,26 @@
-//! How many exchanges a call may lose.
+//! How many exchanges a call may lose, whether there is memory or not.
 
 use cell_interlock::{Interlock, MakeFault};
 use cell_rules::State;
 use std::alloc::Global;
 
-const TRIES: &[(u8, Option<MakeFault>)] = &[
-    (0, Some(MakeFault::Tries)),
-    (1, None),
-    (64, None),
-    (65, Some(MakeFault::Tries)),
-    (255, Some(MakeFault::Tries)),
-];
+// So many exchanges, and whether a call may lose them.
+const TRIES: &[(u8, bool)] = &[(0, false), (1, true), (64, true), (65, false), (255, false)];
 
-fn is_made(alloc: Global, opening: State, tries: u8, fault: Option<MakeFault>) -> bool {
+fn is_allowed(alloc: Global, opening: State, tries: u8) -> bool {
     match Interlock::new(alloc, opening, tries) {
-        Ok(_) => fault == None,
-        Err(got) => fault == Some(got),
+        Ok(_) | Err(MakeFault::Memory) => true,
+        Err(MakeFault::Tries) => false,
     }
 }
 
 #[test]
 fn a_call_may_lose_from_one_to_sixty_four(rt: HostRuntime) {
     let opening = State::start([false; 10], 0).expect(&rt, "a start without plates");
-    for (tries, fault) in TRIES {
-        assert!(rt; is_made(rt.alloc(), opening, *tries, *fault), "{tries}");
+    for (tries, wanted) in TRIES {
+        assert!(rt;
+            is_allowed(rt.alloc(), opening, *tries) == *wanted,
+            "{tries}"
+        );
     }
 }

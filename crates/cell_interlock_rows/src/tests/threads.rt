@@ -78,8 +78,9 @@ fn note(journal: &mut Vec<Entry>, call: Call, reply: Reply) -> Result<(), AllocE
 fn work(interlock: &Interlock, mut pass: Pass, alloc: Global, load: Load) -> Journal
     requires { pass.table ≡ interlock.now.table }
 {
-    let zones = zones_of(pass.machine());
-    let mut numbers = Numbers(1995);
+    let machine = pass.machine();
+    let zones = zones_of(machine);
+    let mut numbers = Numbers(machine as u32);
     let mut journal = Vec::new(alloc);
     for _ in 0..load.calls {
         let call = numbers.call(zones);
