@@ -34,6 +34,8 @@ pub mod Fitting
 pub mod TablesHold
 pub mod Handing
 pub mod Assembly
+pub mod Owners
+pub mod Quiet
 pub mod Notes
 pub mod SeenLemmas
 pub mod OwnSide

@@ -8,6 +8,7 @@ pub mod Refusals
 pub mod Reply
 pub mod History
 pub mod Laws
+pub mod Rights
 pub mod Causes
 pub mod RefusalLaws
 pub mod Start

@@ -2,6 +2,7 @@
 //! functions that do nothing. A history is the list of the events since the opening, oldest first.
 //! `let _ = &opening.stamp;` looks at the opening, so that it is known to be sound.
 ghost use Rattle.std.specs.Prelude.{◌++◌};
+ghost use Rattle.cell_rules.specs.Sound.{IsSound};
 ghost use Rattle.cell_rules.specs.History.{IsLegal};
 ghost use Rattle.cell_rules.specs.Laws as law;
 ghost use Rattle.cell_rules.specs.RefusalLaws.{RefusalsTell, RefusalsTellAlong};
@@ -11,6 +12,13 @@ ghost use Rattle.cell_rules.specs.Start.{IsStartState};
 
 use crate::state::State;
 use cell_types::Event;
+
+/// Every state is sound.
+pub fn states_are_sound(state: &State)
+    ensures sound { IsSound state.now }
+{
+    let _ = &state.stamp;
+}
 
 /// Two machines never hold the same zone. Who holds one is its host or its guest, and owns it in the
 /// state after the history, as only a holder does.

@@ -8,4 +8,4 @@ mod step;
 mod word;
 
 pub use step::step_word;
-pub use word::{pack, unpack};
+pub use word::{pack, stamp_of, unpack};

@@ -78,13 +78,22 @@ fn places_told(word: u64) -> Places
     Places::from_flags(Place::ALL.map(|place| bits(word, place_bit(place), 1) == 1))
 }
 
+/// The stamp of a word, read without unpacking it. Of a word that no sound state has, it is what its
+/// bits 40 to 59 say.
+pub fn stamp_of(word: u64) -> u32
+    ensures told { result ≡ (state_told word).stamp }
+    ensures stamp { (state : ModelState) → IsSound state → packed state ≡ word
+        → result ≡ state.stamp }
+{
+    bits(word, STAMP_BIT, 20) as u32
+}
+
 /// The state that the bits of a word tell, if it is sound.
 fn sound_state_told(word: u64) -> Option<State>
     ensures some { IsSome result ↔ IsSound (state_told word) }
     ensures value { IfSome result (λ state. state ≡ state_told word) }
 {
-    let stamp = bits(word, STAMP_BIT, 20) as u32;
-    State::checked(zones_told(word), places_told(word), stamp)
+    State::checked(zones_told(word), places_told(word), stamp_of(word))
 }
 
 /// The state of a word: the sound state that packs to it, or `None` where none does, as where a

@@ -1,0 +1,239 @@
+-- Each step keeps the rule.
+use Rattle.std.proofs.Common.{◌≡◌, ◌≢◌, ℕ, zero, suc, ◌+◌, ◌<◌, ◌≤◌, eqb, Bool, true, false, if◌then◌else◌, List, [], ◌∷◌, ◌++◌, set, get_or, refl, sym, ap, ◌∙◌, subst, ⊎_elim, arith, append-nil, length-set, get_or-set_same, eq-eqb, ne_eqb}
+use mathlib.Core.Logic.{dite}
+use mathlib.Core.Option.{none, some, some-ne-none, some-injective}
+use native.Mathlib.Decide.{ℕ_discrete}
+use lib.ListN.{get_elem?}
+use prog.Atomic.{either}
+use Rattle.atomic_table.specs.Table.{State, Me, step, keeps, stepped, Allows, Splits, opening}
+use Rattle.atomic_table.proofs.Lists.{at_set, at_snoc}
+use Rattle.cell_types.specs.declared.machine.Machine.{Machine}
+use Rattle.cell_types.specs.declared.machine.Machine.TheVariants.{Feed, Table, Robot, Press, Deposit, Crane, Watch}
+use Rattle.cell_types.specs.declared.call.Call.{Call}
+use Rattle.cell_types.specs.declared.answer.Answer.TheVariants.{Done}
+use Rattle.cell_types.specs.declared.answer.Event.{Event}
+use Rattle.cell_types.specs.Same.{same_machine}
+use Rattle.cell_rules.specs.ModelState.{ModelState}
+use Rattle.cell_rules.specs.Sound.{IsSound}
+use Rattle.cell_rules.specs.Reply.{reply, next}
+use Rattle.cell_rules.specs.History.{after, IsLegal, own_events, is_done_answer}
+use Rattle.cell_rules.specs.Seen.{event}
+use Rattle.cell_rules.proofs.Histories.{after-append, sound-after}
+use Rattle.cell_rules.proofs.SeenLemmas.{legal-append, same_as_itself}
+use Rattle.cell_word.specs.Layout.{packed}
+use Rattle.cell_interlock.specs.declared.pass.Part.{Part}
+use Rattle.cell_interlock.specs.Steps.{IsReady}
+use Rattle.cell_interlock.specs.Rule.{part, head_of, first_off, others_of, all_parts, Fits, AllFit, parts_of, parts_in_all, WordTellsHistory, Moment, seen_at, looked, exchanged, IsSeat}
+use Rattle.cell_rules.proofs.Quiet.{next-same}
+use Rattle.cell_interlock.proofs.Machines.{apart_back, not_own, begins-more, own-more}
+
+-- a machine that has seen the whole history
+fits_whole : (o : ModelState) (h : List Event) (p : Part) (since : List Event) → p.opening ≡ o → Fits o h (part p.opening p.machine h since)
+fits_whole o h p since e = record { opening_is = e; begins = ([], sym (append-nil h)); own = refl }
+
+fit-more : (o : ModelState) (h k : List Event) (m : Machine) → ((n : Machine) → same_machine n m ≡ false → own_events k n ≡ []) → (ps : List Part) → parts_of m ps ≡ 0 → AllFit o h ps → AllFit o (h ++ k) ps
+fit-more o h k m quiet [] z t = tt
+fit-more o h k m quiet (p ∷ ps) z t = go (same_machine p.machine m) refl (fit-more o h k m quiet ps)
+  where
+    go : (b : Bool) → same_machine p.machine m ≡ b → (parts_of m ps ≡ 0 → AllFit o h ps → AllFit o (h ++ k) ps) → AllFit o (h ++ k) (p ∷ ps)
+    go true e again = absurd (grind (arith, e, z))
+    go false e again = (record { opening_is = t.0.opening_is; begins = begins-more h k p.seen t.0.begins; own = own-more p.machine h k p.seen (quiet p.machine e) t.0.own }, again (grind (arith, e, z)) t.1)
+
+fit-first : (o : ModelState) (h : List Event) (ps : List Part) → AllFit o h ps → AllFit o h (first_off ps)
+fit-first o h [] a = tt
+fit-first o h (p ∷ ps) a = (a.0, tt)
+
+fit-others : (o : ModelState) (h : List Event) (ps : List Part) → AllFit o h ps → AllFit o h (others_of ps)
+fit-others o h [] a = tt
+fit-others o h (p ∷ ps) a = a.1
+
+parts-cut : (m : Machine) (ps : List Part) → parts_of m (first_off ps) + parts_of m (others_of ps) ≡ parts_of m ps
+parts-cut m [] = refl
+parts-cut m (p ∷ ps) = omega arith
+
+total-set : (m : Machine) (vs : List (List Part)) (i : ℕ) (v w : List Part) → get_elem? vs i ≡ some v → parts_in_all m (set vs i w) + parts_of m v ≡ parts_in_all m vs + parts_of m w
+total-set m [] i v w e = absurd (some-ne-none v (sym e))
+total-set m (x ∷ xs) zero v w e = let f : parts_of m x ≡ parts_of m v = ap (parts_of m) (some-injective x v e) in omega arith
+total-set m (x ∷ xs) (suc i) v w e = omega (arith, total-set m xs i v w e)
+
+total-snoc : (m : Machine) (vs : List (List Part)) (w : List Part) → parts_in_all m (vs ++ w ∷ []) ≡ parts_in_all m vs + parts_of m w
+total-snoc m [] w = omega arith
+total-snoc m (x ∷ xs) w = omega (arith, total-snoc m xs w)
+
+total-one : (m : Machine) (vs : List (List Part)) (i : ℕ) (v : List Part) → get_elem? vs i ≡ some v → parts_of m v ≤ parts_in_all m vs
+total-one m [] i v e = absurd (some-ne-none v (sym e))
+total-one m (x ∷ xs) zero v e = let f : parts_of m x ≡ parts_of m v = ap (parts_of m) (some-injective x v e) in omega arith
+total-one m (x ∷ xs) (suc i) v e = omega (arith, total-one m xs i v e)
+
+total-two : (m : Machine) (vs : List (List Part)) (i j : ℕ) (v w : List Part) → j ≢ i → get_elem? vs i ≡ some v → get_elem? vs j ≡ some w → parts_of m v + parts_of m w ≤ parts_in_all m vs
+total-two m [] i j v w n e f = absurd (some-ne-none v (sym e))
+total-two m (x ∷ xs) zero zero v w n e f = absurd (n refl)
+total-two m (x ∷ xs) zero (suc j) v w n e f = let g : parts_of m x ≡ parts_of m v = ap (parts_of m) (some-injective x v e) in omega (arith, total-one m xs j w f)
+total-two m (x ∷ xs) (suc i) zero v w n e f = let g : parts_of m x ≡ parts_of m w = ap (parts_of m) (some-injective x w f) in omega (arith, total-one m xs i v e)
+total-two m (x ∷ xs) (suc i) (suc j) v w n e f = omega (arith, total-two m xs i j v w (λ h. n (ap suc h)) e f)
+
+abbrev Views : Type 0
+Views = List (List Part)
+
+abbrev Shop : Type 0 → Type 0
+Shop S = State S (List Part)
+
+views-stay : (o : ModelState) (h : List Event) (vs : Views) (id : ℕ) (w : List Part) → AllFit o h w → ((j : ℕ) (u : List Part) → j ≢ id → get_elem? vs j ≡ some u → AllFit o h u)
+    → (j : ℕ) (u : List Part) → get_elem? (set vs id w) j ≡ some u → AllFit o h u
+views-stay o h vs id w here others j u e = ⊎_elim (λ (t : (j ≡ id) × (w ≡ u)). subst (AllFit o h) t.1 here) (λ (t : (j ≢ id) × (get_elem? vs j ≡ some u)). others j u t.0 t.1) (at_set vs id j w u e)
+
+module _ {S : Type 0} (o : ModelState) where
+  -- the seat id has a new view of the same machines, and the word may have changed
+  moved : (s : Shop S) (r : WordTellsHistory o s) (id : ℕ) (v w : List Part) → get_elem? s.views id ≡ some v → (h : List Event) → IsLegal o h → (n : ℕ) → n ≡ packed (after o h) → AllFit o h w
+      → ((j : ℕ) (u : List Part) → j ≢ id → get_elem? s.views j ≡ some u → AllFit o h u) → ((m : Machine) → parts_of m w ≡ parts_of m v) → WordTellsHistory o (stepped s 0 n id [] w keeps)
+  moved s r id v w at h legal n is here others count = record {
+    history = h;
+    has_word = subst (λ (z : ℕ). 0 < z) (sym (length-set s.words 0 n)) r.has_word;
+    sound = r.sound;
+    legal = legal;
+    word = get_or-set_same s.words 0 n 0 r.has_word ∙ is;
+    views = views-stay o h s.views id w here others;
+    apart = λ m. omega (arith, total-set m s.views id v w at, count m, r.apart m);
+  }
+
+  -- no event, and the word stays
+  stayed : (s : Shop S) (r : WordTellsHistory o s) (id : ℕ) (v w : List Part) → get_elem? s.views id ≡ some v → AllFit o r.history w → ((m : Machine) → parts_of m w ≡ parts_of m v)
+      → WordTellsHistory o (stepped s 0 (get_or s.words 0 0) id [] w keeps)
+  stayed s r id v w at here count = moved s r id v w at r.history r.legal (get_or s.words 0 0) r.word here (λ j u _ e. r.views j u e) count
+
+  -- one event of the machine whose seat it is
+  called : (s : Shop S) (r : WordTellsHistory o s) (id : ℕ) (p : Part) → get_elem? s.views id ≡ some (p ∷ []) → (c : Call) (n : ℕ) → n ≡ packed (next (after o r.history) p.machine c) → (since : List Event)
+      → let e : Event = event p.machine c (reply (after o r.history) p.machine c) in WordTellsHistory o (stepped s 0 n id [] (part p.opening p.machine (r.history ++ e ∷ []) since ∷ []) keeps)
+  called s r id p at c n is since =
+      let h : List Event = r.history in let e : Event = event p.machine c (reply (after o h) p.machine c) in let k : List Event = e ∷ [] in
+      let t = r.views id (p ∷ []) at in
+      let quiet : (m : Machine) → same_machine m p.machine ≡ false → own_events k m ≡ [] = λ m f. not_own e m (apart_back p.machine m f) in
+      let mine_one : parts_of p.machine (p ∷ []) ≡ 1 = ap (λ (b : Bool). (if b then 1 else 0) + 0) (same_as_itself p.machine) in
+      moved s r id (p ∷ []) (part p.opening p.machine (h ++ k) since ∷ []) at (h ++ k) (legal-append o h k r.legal (refl, tt)) n (is ∙ ap packed (sym (after-append o h k)))
+      (fits_whole o (h ++ k) p since t.0.opening_is, tt)
+      (λ j u apart f. fit-more o h k p.machine quiet u (omega (arith, total-two p.machine s.views id j (p ∷ []) u apart at f, r.apart p.machine)) (r.views j u f))
+      (λ m. refl)
+
+  point : (s : Shop S) (r : WordTellsHistory o s) (p : Part) → Fits o r.history p → Moment p (get_or s.words 0 0) r.history
+  point s r p t = record {
+    opened = subst IsSound (sym t.opening_is) r.sound;
+    sound = subst (λ (z : ModelState). IsSound (after z r.history)) (sym t.opening_is) (sound-after o r.history r.sound);
+    legal = subst (λ (z : ModelState). IsLegal z r.history) (sym t.opening_is) r.legal;
+    begins = t.begins;
+    own = t.own;
+    found = subst (λ (z : ModelState). packed (after z r.history) ≡ get_or s.words 0 0) (sym t.opening_is) (sym r.word);
+  }
+
+  -- the load finds the word, and the call's event is added where the call changes nothing
+  looks_at : (s : Shop S) (r : WordTellsHistory o s) (id : ℕ) (p : Part) → get_elem? s.views id ≡ some (p ∷ []) → (c : Call) (since : List Event)
+      → WordTellsHistory o (stepped s 0 (get_or s.words 0 0) id [] (part p.opening p.machine (seen_at c p r.history) since ∷ []) keeps)
+  looks_at s r id p at c since =
+      let h : List Event = r.history in let t = r.views id (p ∷ []) at in
+      subst (λ (z : ModelState). WordTellsHistory o (stepped s 0 (get_or s.words 0 0) id [] (part p.opening p.machine (if is_done_answer (reply (after z h) p.machine c) then h else h ++ event p.machine c (reply (after z h) p.machine c) ∷ []) since ∷ []) keeps)) (sym t.0.opening_is)
+      (go (is_done_answer (reply (after o h) p.machine c)) refl)
+    where
+      go : (b : Bool) → is_done_answer (reply (after o r.history) p.machine c) ≡ b
+          → WordTellsHistory o (stepped s 0 (get_or s.words 0 0) id [] (part p.opening p.machine (if b then r.history else r.history ++ event p.machine c (reply (after o r.history) p.machine c) ∷ []) since ∷ []) keeps)
+      go true e = let t = r.views id (p ∷ []) at in stayed s r id (p ∷ []) (part p.opening p.machine r.history since ∷ []) at (fits_whole o r.history p since t.0.opening_is, tt) (λ m. refl)
+      go false e = called s r id p at c (get_or s.words 0 0) (r.word ∙ ap packed (sym (next-same (after o r.history) p.machine c e))) since
+
+  pub looks : (slots id : ℕ) (p : Part) (c : Call) → Allows (WordTellsHistory o) slots id (p ∷ [], []) 0 (λ n. n) (looked {S = S} c (step slots 0 0 0 none) (p ∷ [], []))
+  looks slots id p c s r _ at _ =
+      let t = r.views id (p ∷ []) at in
+      (part p.opening p.machine (seen_at c p r.history) (seen_at c p r.history) ∷ [], keeps, tt, looks_at s r id p at c (seen_at c p r.history), (r.history, point s r p t.0, refl))
+
+  pub looks_as : (slots id : ℕ) (me : Me S (List Part)) (c : Call) → me ≡ (head_of me.0 ∷ [], []) → Allows (WordTellsHistory o) slots id me 0 (λ n. n) (looked {S = S} c (step slots 0 0 0 none) me)
+  looks_as slots id me c e = subst (λ (z : Me S (List Part)). Allows (WordTellsHistory o) slots id z 0 (λ n. n) (looked {S = S} c (step slots 0 0 0 none) z)) (sym e) (looks slots id (head_of me.0) c)
+
+  -- the exchange is won where the word is still the one that the call was looked up for
+  pub exchanges : (slots id : ℕ) (p : Part) (c : Call) (old new : ℕ) → ((z : ModelState) → IsSound z → packed z ≡ old → (reply z p.machine c ≡ Done) × (packed (next z p.machine c) ≡ new))
+      → Allows (WordTellsHistory o) slots id (p ∷ [], []) 0 (λ n. either (eqb n old) new n) (exchanged {S = S} c (step slots 0 old new none) (p ∷ [], []))
+  exchanges slots id p c old new ready s r _ at _ =
+      let h : List Event = r.history in let x : ℕ = get_or s.words 0 0 in let t = r.views id (p ∷ []) at in
+      let pick : Bool → List Part = λ b. part p.opening p.machine (if b then h ++ event p.machine c Done ∷ [] else seen_at c p h) p.since ∷ [] in
+      dite (ℕ_discrete x old)
+      (λ hit. let f = ready (after o h) (sound-after o h r.sound) (sym r.word ∙ hit) in (
+        pick (eqb x old),
+        keeps,
+        tt,
+        subst (λ (b : Bool). WordTellsHistory o (stepped s 0 (either b new x) id [] (pick b) keeps)) (sym (eq-eqb x old hit))
+            (subst (λ a. WordTellsHistory o (stepped s 0 new id [] (part p.opening p.machine (h ++ event p.machine c a ∷ []) p.since ∷ []) keeps)) f.0 (called s r id p at c new (sym f.1) p.since)),
+        (h, point s r p t.0, refl),
+      ))
+      (λ miss. (
+        pick (eqb x old),
+        keeps,
+        tt,
+        subst (λ (b : Bool). WordTellsHistory o (stepped s 0 (either b new x) id [] (pick b) keeps)) (sym (ne_eqb x old miss)) (looks_at s r id p at c p.since),
+        (h, point s r p t.0, refl),
+      ))
+
+  pub exchanges_as : (slots id : ℕ) (me : Me S (List Part)) (c : Call) (old new : ℕ) → me ≡ (head_of me.0 ∷ [], []) → ((z : ModelState) → IsSound z → packed z ≡ old → (reply z (head_of me.0).machine c ≡ Done) × (packed (next z (head_of me.0).machine c) ≡ new))
+      → Allows (WordTellsHistory o) slots id me 0 (λ n. either (eqb n old) new n) (exchanged {S = S} c (step slots 0 old new none) me)
+  exchanges_as slots id me c old new e ready = subst (λ (z : Me S (List Part)). Allows (WordTellsHistory o) slots id z 0 (λ n. either (eqb n old) new n) (exchanged {S = S} c (step slots 0 old new none) z)) (sym e) (exchanges slots id (head_of me.0) c old new ready)
+
+  pub splits : (id : ℕ) (v : List Part) → Splits {S = S} (WordTellsHistory o) id v (others_of v) (first_off v)
+  splits id v s r at = record {
+    history = r.history;
+    has_word = r.has_word;
+    sound = r.sound;
+    legal = r.legal;
+    word = r.word;
+    views = λ j u e. ⊎_elim (views-stay o r.history s.views id (others_of v) (fit-others o r.history v (r.views id v at)) (λ i x _ f. r.views i x f) j u)
+        (λ (t : first_off v ≡ u). subst (AllFit o r.history) t (fit-first o r.history v (r.views id v at))) (at_snoc (set s.views id (others_of v)) (first_off v) u j e);
+    apart = λ m. omega (arith, total-snoc m (set s.views id (others_of v)) (first_off v), total-set m s.views id v (others_of v) at, parts-cut m v, r.apart m);
+  }
+
+  pub opens : (n : ℕ) (xs : List S) → n ≡ packed o → IsSound o → WordTellsHistory o (opening (n ∷ []) xs (all_parts o))
+  opens n xs is sound = record {
+    history = [];
+    has_word = omega arith;
+    sound = sound;
+    legal = tt;
+    word = is;
+    views = first;
+    apart = once;
+  }
+    where
+      new : (m : Machine) → Fits o [] (part o m [] [])
+      new m = record { opening_is = refl; begins = ([], refl); own = refl }
+
+      first : (i : ℕ) (v : List Part) → get_elem? (all_parts o ∷ []) i ≡ some v → AllFit o [] v
+      first zero v e = subst (AllFit o []) (some-injective (all_parts o) v e) (new Feed, (new Table, (new Robot, (new Press, (new Deposit, (new Crane, (new Watch, tt)))))))
+      first (suc i) v e = absurd (some-ne-none v (sym e))
+
+      once : (m : Machine) → parts_in_all m (all_parts o ∷ []) ≤ 1
+      once Feed = omega arith
+      once Table = omega arith
+      once Robot = omega arith
+      once Press = omega arith
+      once Deposit = omega arith
+      once Crane = omega arith
+      once Watch = omega arith
+
+-- what was seen stays legal
+
+seen-legal : (c : Call) (p : Part) (h : List Event) → IsLegal p.opening h → IsLegal p.opening (seen_at c p h)
+seen-legal c p h l = by (is_done_answer (reply (after p.opening h) p.machine c))
+  where
+    by : (b : Bool) → IsLegal p.opening (if b then h else h ++ event p.machine c (reply (after p.opening h) p.machine c) ∷ [])
+    by true = l
+    by false = legal-append p.opening h (event p.machine c (reply (after p.opening h) p.machine c) ∷ []) l (refl, tt)
+
+-- a seat of one part
+seat_of : {S : Type 0} (m : Machine) (p : Part) (rest : List _) → rest ≡ [] → p.machine ≡ m → IsSound p.opening → IsLegal p.opening p.seen → IsSeat {S = S} m (p ∷ [], rest)
+seat_of m p rest e is k l = record { one = ap (λ r. (p ∷ [], r)) e; machine = is; opened = k; legal = l }
+
+pub looked-seat : {S : Type 0} (c : Call) (m : Machine) (me me' : Me S (List Part)) (word : ℕ) → IsSeat m me → looked {S = S} c (step 0 0 0 0 none) me word me' → IsSeat m me'
+looked-seat c m me me' word is told =
+    let p : Part = head_of me.0 in
+    subst (IsSeat m) (sym told.2) (seat_of m (part p.opening p.machine (seen_at c p told.0) (seen_at c p told.0)) me.1 (ap (λ x. x.1) is.one) is.machine is.opened (seen-legal c p told.0 told.1.legal))
+
+pub exchanged-seat : {S : Type 0} (c : Call) (m : Machine) (me me' : Me S (List Part)) (old word new : ℕ) → IsSeat m me → IsReady (head_of me.0).machine c old new → exchanged {S = S} c (step 0 0 old 0 none) me word me' → IsSeat m me'
+exchanged-seat c m me me' old word new is ready told =
+    let p : Part = head_of me.0 in let h : List Event = told.0 in
+    subst (IsSeat m) (sym told.2) (seat_of m (part p.opening p.machine (if eqb word old then h ++ event p.machine c Done ∷ [] else seen_at c p h) p.since) me.1 (ap (λ x. x.1) is.one) is.machine is.opened
+    (dite (ℕ_discrete word old)
+    (λ hit. subst (λ (b : Bool). IsLegal p.opening (if b then h ++ event p.machine c Done ∷ [] else seen_at c p h)) (sym (eq-eqb word old hit))
+    (legal-append p.opening h (event p.machine c Done ∷ []) told.1.legal (sym (ready (after p.opening h) told.1.sound (told.1.found ∙ hit)).0, tt)))
+    (λ miss. subst (λ (b : Bool). IsLegal p.opening (if b then h ++ event p.machine c Done ∷ [] else seen_at c p h)) (sym (ne_eqb word old miss)) (seen-legal c p h told.1.legal))))

@@ -1,0 +1,4 @@
+pub mod Machines
+pub mod Keeps
+pub mod Overtaken
+pub mod Tells

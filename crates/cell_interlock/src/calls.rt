@@ -1,0 +1,172 @@
+//! The calls of a machine.
+ghost use Rattle.std.specs.Prelude.{◌≡◌, Ok};
+ghost use Rattle.cell_rules.specs.ModelState.{ModelState};
+ghost use Rattle.cell_rules.specs.Sound.{IsSound};
+ghost use Rattle.cell_rules.specs.Reply.{reply, next};
+ghost use Rattle.cell_rules.specs.History.{is_done_answer};
+ghost use Rattle.cell_rules.specs.Laws.{LawfulThroughout};
+ghost use Rattle.cell_rules.specs.Seen.{SeenAfter};
+ghost use Rattle.cell_word.specs.Layout.{packed};
+ghost use Rattle.cell_interlock.specs.Seen.{IsSamePass, AnswersAtItsPoint, LastingRight, IsOvertaken};
+ghost use Rattle.cell_interlock.specs.Calls.{IfSettled, IfBusy};
+ghost use Rattle.cell_interlock.specs.Tries.{Looked, Attempted};
+
+use crate::interlock::Interlock;
+use crate::pass::Pass;
+use crate::tries::{Look, Tried, Try};
+use cell_types::{Answer, Call, Machine, Reply};
+use cell_word::{stamp_of, step_word};
+
+/// The answer in the state of a word, and the word of the state after it.
+fn reply_at(word: u64, machine: Machine, call: Call) -> (Answer, u64)
+    requires { (state : ModelState) × IsSound state × (packed state ≡ word) }
+    ensures { (state : ModelState) → IsSound state → packed state ≡ word
+        → (result.0 ≡ reply state machine call) × (result.1 ≡ packed (next state machine call)) }
+{
+    let Some(both) = step_word(word, machine, call) else {
+        unreachable!()
+    };
+    both
+}
+
+fn is_done(answer: Answer) -> bool
+    ensures { result ≡ is_done_answer answer }
+{
+    match answer {
+        Answer::Done => true,
+        _ => false,
+    }
+}
+
+impl Interlock {
+    /// Makes a call: loads the word, and unless the call is refused there or inquires, puts the word
+    /// after it in place of the one found, by an exchange. An exchange that is lost has found another
+    /// word, and with that it goes on. `Busy` once as many exchanges are lost as a call may lose.
+    ///
+    /// The pass is one of those that were made with this interlock. Whatever other threads do with
+    /// the other passes meanwhile:
+    /// - it stays the same machine's pass (`pass`);
+    /// - what it has seen now is a legal history, and every law holds of it (`lawful`);
+    /// - that history begins with all that it had seen; a call that was answered is the last event,
+    ///   and the only new one of its machine; a call that is Busy left no event (`seen`);
+    /// - the answer is the sequential interlock's, after the events in front of the call (`answer`);
+    /// - what the machine held before, it holds there, so it isn't told that a zone of its own is
+    ///   another's (`right`);
+    /// - Busy comes only where the call would be Done, and other machines have made at least `tries`
+    ///   changes that the pass had not seen before (`busy`).
+    pub fn ask(&self, pass: &mut Pass, call: Call) -> Reply
+        requires same_interlock { pass.old.table ≡ self.now.table }
+        ensures pass { IsSamePass pass.old pass.new }
+        ensures lawful { LawfulThroughout pass.old.opening pass.new.seen }
+        ensures seen { SeenAfter pass.old.machine call (Ok result) pass.old.opening pass.old.seen pass.new.seen }
+        ensures answer { IfSettled result (λ answer. AnswersAtItsPoint pass.old call answer pass.new) }
+        ensures right { IfSettled result (λ answer. LastingRight pass.old call answer pass.new) }
+        ensures busy { IfBusy result (λ lost. IsOvertaken pass.old pass.old.seen call self.now.tries lost pass.new) }
+    {
+        let mut word = self.load(pass, call);
+        let (answer, mut new) = reply_at(word, pass.machine(), call);
+        if !is_done(answer) {
+            return Reply::Settled(answer, stamp_of(word));
+        }
+        for _lost in 0..self.tries {
+            let found = self.exchange(pass, call, word, new);
+            if found == word {
+                return Reply::Settled(Answer::Done, stamp_of(new));
+            }
+            let (answer, next) = reply_at(found, pass.machine(), call);
+            if !is_done(answer) {
+                return Reply::Settled(answer, stamp_of(found));
+            }
+            word = found;
+            new = next;
+        }
+        Reply::Busy {
+            lost: self.tries,
+            stamp: stamp_of(word),
+        }
+    }
+
+    /// The first step of a call, one load: a call that is refused or inquires is answered by it, and
+    /// any other is pending.
+    ///
+    /// The pass is one of those that were made with this interlock.
+    pub fn look(&self, mut pass: Pass, call: Call) -> Look
+        requires same_interlock { pass.table ≡ self.now.table }
+        ensures { Looked pass call self.now.tries result }
+    {
+        let found = self.load(&mut pass, call);
+        let (answer, new) = reply_at(found, pass.machine(), call);
+        if is_done(answer) {
+            Look::Pending(Try {
+                pass,
+                call,
+                old: found,
+                new,
+                lost: 0,
+                tries: self.tries,
+            })
+        } else {
+            Look::Settled(answer, stamp_of(found), pass)
+        }
+    }
+
+    /// A further step of a call, one exchange: where it is won, the call is Done. Where it is lost, the
+    /// word that it found may refuse the call; else the call has lost one exchange more, and is Busy
+    /// once it has lost as many as it may.
+    ///
+    /// The call's pass is one of those that were made with this interlock.
+    pub fn attempt(&self, pending: Try) -> Tried
+        requires same_interlock { pending.pass.table ≡ self.now.table }
+        ensures { Attempted pending result }
+    {
+        let Try {
+            mut pass,
+            call,
+            old,
+            new,
+            lost,
+            tries,
+        } = pending;
+        let found = self.exchange(&mut pass, call, old, new);
+        if found == old {
+            return Tried::Settled(Answer::Done, stamp_of(new), pass);
+        }
+        let (answer, new) = reply_at(found, pass.machine(), call);
+        if !is_done(answer) {
+            return Tried::Settled(answer, stamp_of(found), pass);
+        }
+        let lost = lost + 1;
+        if lost == tries {
+            return Tried::Busy {
+                lost,
+                stamp: stamp_of(found),
+                pass,
+            };
+        }
+        Tried::Lost(Try {
+            pass,
+            call,
+            old: found,
+            new,
+            lost,
+            tries,
+        })
+    }
+}
+
+impl Try {
+    /// Leaves the call, which is then never made, and gives its pass back.
+    pub fn abandon(self) -> Pass
+        ensures { result ≡ self.pass }
+    {
+        let Try {
+            pass,
+            call: _,
+            old: _,
+            new: _,
+            lost: _,
+            tries: _,
+        } = self;
+        pass
+    }
+}

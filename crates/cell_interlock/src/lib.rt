@@ -1,0 +1,15 @@
+//! The interlock of the cell on one atomic word, which threads share.
+#![tactic(auto)]
+
+mod calls;
+pub mod interlock;
+pub mod make;
+pub mod pass;
+pub mod rule;
+mod steps;
+pub mod tries;
+
+pub use interlock::Interlock;
+pub use make::MakeFault;
+pub use pass::{Pass, Passes};
+pub use tries::{Look, Tried, Try};

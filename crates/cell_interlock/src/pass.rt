@@ -1,0 +1,70 @@
+//! What a caller owns.
+ghost use Rattle.std.specs.Prelude.{◌≡◌};
+ghost use Rattle.cell_interlock.specs.Views.{pass_of};
+ghost use Rattle.cell_interlock.specs.Rule.{head_of, IsSeat};
+
+use atomic_table::Seat;
+use cell_rules::State;
+use cell_types::{Event, Machine};
+use std::collections::LinkedList;
+use std::marker::Model;
+
+/// What is known of one machine: the state that its interlock opened with, the history that it has
+/// seen, and how much of that it had seen right after its last load. No value of it is made.
+pub struct Part {
+    pub opening: State,
+    pub machine: Machine,
+    pub seen: LinkedList<Event>,
+    pub since: LinkedList<Event>,
+}
+
+/// What is known of the machines of a seat.
+pub type View = LinkedList<Part>;
+
+/// The right to make the calls of one machine. A call takes it whole, so a machine makes one call at a
+/// time; it may go from thread to thread.
+#[derive(Drop)]
+pub struct Pass {
+    machine: Machine,
+    pub(crate) seat: Seat<(), View>,
+}
+
+impl Model for Pass {
+    ghost use Rattle.cell_interlock.specs.Views.{PassView, pass_of};
+    ghost use Rattle.cell_interlock.specs.Rule.{head_of, IsSeat};
+
+    ghost Value = { PassView };
+
+    ghost view = { λ p. pass_of p.seat.table_id (head_of p.seat.me.0) };
+
+    ghost invariant = { λ p. IsSeat p.machine p.seat.me };
+}
+
+impl Pass {
+    /// The pass of a machine that has a seat alone.
+    pub(crate) fn of(machine: Machine, seat: Seat<(), View>) -> Pass
+        requires { IsSeat machine seat.me }
+        ensures { result ≡ pass_of seat.table_id (head_of seat.me.0) }
+    {
+        Pass { machine, seat }
+    }
+
+    /// The machine whose calls it makes.
+    pub fn machine(&self) -> Machine
+        ensures { result ≡ self.now.machine }
+    {
+        self.machine
+    }
+}
+
+/// The passes of an interlock, each in the field of its machine.
+#[derive(Drop)]
+pub struct Passes {
+    pub feed: Pass,
+    pub table: Pass,
+    pub robot: Pass,
+    pub press: Pass,
+    pub deposit: Pass,
+    pub crane: Pass,
+    pub watch: Pass,
+}

@@ -1,0 +1,62 @@
+//! The rule of the word, and what each kind of step on it tells: `specs/Rule.antt`.
+use crate::pass::View;
+use atomic_table::{Play, Split, TableRule};
+use cell_rules::State;
+use std::marker::{Brand, PhantomData};
+
+/// The word tells one legal history, of which every machine has seen a beginning.
+pub struct OneHistory;
+
+impl TableRule<(), View, State> for OneHistory {
+    ghost use Rattle.cell_interlock.specs.Rule.{WordTellsHistory, all_parts};
+
+    ghost holds = { λ opening table. WordTellsHistory opening table };
+
+    ghost first = { all_parts };
+}
+
+/// Names the call that a step is made for.
+pub trait Asked {
+    ghost use Rattle.cell_types.specs.declared.call.Call.{Call};
+
+    ghost call: { Call };
+}
+
+impl Asked for Brand {
+    ghost use Rattle.cell_types.specs.declared.call.Call.TheVariants.{Advance};
+
+    ghost call = { Advance };
+}
+
+/// A load for a call.
+pub struct Looks<A> {
+    asked: PhantomData<A>,
+}
+
+impl<A: Asked> Play<(), View> for Looks<A> {
+    ghost use Rattle.cell_interlock.specs.Rule.{looked};
+
+    ghost then = { looked A.call };
+}
+
+/// An exchange for a call, won or lost.
+pub struct Exchanges<A> {
+    asked: PhantomData<A>,
+}
+
+impl<A: Asked> Play<(), View> for Exchanges<A> {
+    ghost use Rattle.cell_interlock.specs.Rule.{exchanged};
+
+    ghost then = { exchanged A.call };
+}
+
+/// A split: the first machine of a seat goes to a new seat.
+pub struct FirstOff;
+
+impl Split<View> for FirstOff {
+    ghost use Rattle.cell_interlock.specs.Rule.{first_off, others_of};
+
+    ghost left = { others_of };
+
+    ghost right = { first_off };
+}

@@ -1,0 +1,6 @@
+//! Tests of `cell_interlock` by its public calls: tables of steps, and threads whose calls are audited.
+#![tactic(auto)]
+
+pub mod callers;
+#[cfg(test)]
+mod tests;

@@ -1,0 +1,3 @@
+mod limits;
+mod steps;
+mod threads;

@@ -1,0 +1,42 @@
+-- What is the same where nothing changes: the state after a call that isn't Done, and that after events of others without a change.
+use Rattle.std.proofs.Common.{◌≡◌, ℕ, ◌+◌, Bool, true, false, ◌&&◌, not, cond, List, [], ◌∷◌, ◌++◌, refl, sym, ap, ◌∙◌, subst, arith}
+use Rattle.std.proofs.lemmas.List.Sums.{sum_by-cons, sum_by-append}
+use Rattle.cell_types.specs.declared.machine.Machine.{Machine}
+use Rattle.cell_types.specs.declared.call.Call.{Call}
+use Rattle.cell_types.specs.declared.answer.Answer.{Answer}
+use Rattle.cell_types.specs.declared.answer.Answer.TheVariants.{Done, Shown, Refused}
+use Rattle.cell_types.specs.declared.answer.Event.{Event}
+use Rattle.cell_types.specs.Same.{same_machine}
+use Rattle.cell_rules.specs.ModelState.{ModelState}
+use Rattle.cell_rules.specs.Reply.{reply, next, next_by}
+use Rattle.cell_rules.specs.History.{after, IsLegal, own_events, is_done, is_done_answer, changes_by_others}
+use Rattle.cell_rules.proofs.Lasting.{own_head}
+
+same_by : (a : Answer) (s : ModelState) (m : Machine) (c : Call) → is_done_answer a ≡ false → next_by a s m c ≡ s
+same_by Done s m c e = cc
+same_by (Shown o f p) s m c e = refl
+same_by (Refused r) s m c e = refl
+
+pub next-same : (s : ModelState) (m : Machine) (c : Call) → is_done_answer (reply s m c) ≡ false → next s m c ≡ s
+next-same s m c e = same_by (reply s m c) s m c e
+
+abbrev counts : Machine → Event → ℕ
+counts m e = cond (is_done e && not (same_machine e.machine m)) 1 0
+
+pub changes-append : (m : Machine) (h k : List Event) → changes_by_others (h ++ k) m ≡ changes_by_others h m + changes_by_others k m
+changes-append m h k = sum_by-append (counts m) h k
+
+-- where the first event is another machine's and there are no changes, it is none
+quiet_head : (d own : Bool) (n k : ℕ) → own ≡ false → k ≡ cond (d && not own) 1 0 + n → k ≡ 0 → (d ≡ false) × (n ≡ 0)
+quiet_head d true n k e f z = cc
+quiet_head true false n k e f z = absurd (grind (arith, f, z))
+quiet_head false false n k e f z = (refl, omega (arith, f, z))
+
+-- where a machine did nothing and no other changed the state, it is the same
+pub unchanged : (m : Machine) (s : ModelState) (h : List Event) → IsLegal s h → own_events h m ≡ [] → changes_by_others h m ≡ 0 → after s h ≡ s
+unchanged m s [] l q z = refl
+unchanged m s (e ∷ h) l q z =
+    let others = own_head (same_machine e.machine m) e (own_events h m) q in
+    let quiet = quiet_head (is_done e) (same_machine e.machine m) (changes_by_others h m) (changes_by_others (e ∷ h) m) others.0 (sum_by-cons (counts m) e h) z in
+    let still = next-same s e.machine e.call (ap is_done_answer (sym l.0) ∙ quiet.0) in
+    ap (λ (t : ModelState). after t h) still ∙ unchanged m s h (subst (λ (t : ModelState). IsLegal t h) still l.1) others.1 quiet.1

@@ -1,0 +1,44 @@
+-- What a machine keeps while others make the events, and what its calls are then never refused for.
+use Rattle.std.specs.Prelude.{◌≡◌, ◌≢◌, Bool, false, ◌&&◌, List, Option, IsTrue}
+use Rattle.cell_types.specs.declared.machine.Machine.{Machine}
+use Rattle.cell_types.specs.declared.machine.Machine.TheVariants.{Press}
+use Rattle.cell_types.specs.declared.zone.Zone.{Zone}
+use Rattle.cell_types.specs.declared.zone.Zone.TheVariants.{Z3}
+use Rattle.cell_types.specs.declared.place.Place.{Place}
+use Rattle.cell_types.specs.declared.call.Call.{Call}
+use Rattle.cell_types.specs.declared.call.Call.TheVariants.{Give, Yield, Take, Release, SetPose, Advance}
+use Rattle.cell_types.specs.declared.answer.Answer.{Answer}
+use Rattle.cell_types.specs.declared.answer.Answer.TheVariants.{Refused}
+use Rattle.cell_types.specs.declared.answer.Refusal.TheVariants.{NotOwner}
+use Rattle.cell_types.specs.declared.answer.Event.{Event}
+use Rattle.cell_types.specs.Tables.{host_of}
+use Rattle.cell_types.specs.Same.{same_machine, same_zone}
+use Rattle.cell_types.specs.Ways.{keeper_of}
+use Rattle.cell_rules.specs.ModelState.{ModelState, zone_at, is_full}
+use Rattle.cell_rules.specs.History.{after, Holds, posture_by_events}
+
+-- from one history to a longer one a machine keeps each zone that it held, with its owner, flag and posture; the plates in its own places; and
+-- the postures of the zones that it hosts
+pub record KeepsItsOwn (s : ModelState) (m : Machine) (before now : List Event) : Type 0 where
+  pub held : (z : Zone) → Holds s before m z → Holds s now m z
+  pub zone : (z : Zone) → Holds s before m z → zone_at (after s now) z ≡ zone_at (after s before) z
+  pub places : (p : Place) → keeper_of p ≡ m → is_full (after s now) p ≡ is_full (after s before) p
+  pub postures : (z : Zone) → host_of z ≡ m → posture_by_events s now z ≡ posture_by_events s before z
+
+-- the zones that a call needs: the one that it names, but not to claim it or to inquire; of a pose those that the machine hosts; the press works in z3
+abbrev pub needs : Machine → Call → Zone → Bool
+needs m (Give y) z = same_zone y z
+needs m (Yield y) z = same_zone y z
+needs m (Take y) z = same_zone y z
+needs m (Release y) z = same_zone y z
+needs m (SetPose p) z = same_machine (host_of z) m
+needs m Advance z = same_machine m Press && same_zone Z3 z
+needs m _ z = false
+
+-- the answer doesn't say that a zone is another's, or nobody's
+abbrev pub NamesNoOwner : Answer → Type 0
+NamesNoOwner a = (owner : Option Machine) → a ≢ Refused (NotOwner owner)
+
+-- who held each zone that his call needs isn't refused for the owner of one
+abbrev pub IsNeverDisowned : ModelState → Machine → Call → Answer → List Event → Type 0
+IsNeverDisowned s m c a before = ((z : Zone) → IsTrue (needs m c z) → Holds s before m z) → NamesNoOwner a

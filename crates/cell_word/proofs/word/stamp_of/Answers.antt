@@ -1,0 +1,8 @@
+use Rattle.std.proofs.Common.{ℕ, sym, ap, ◌∙◌}
+use Rattle.cell_rules.specs.ModelState.{ModelState}
+use Rattle.cell_word.specs.Reading.{state_told}
+use Rattle.cell_word.proofs.RoundTrip.{told_back}
+use Rattle.cell_word.proofs.word.stamp_of.Goals as goal
+
+pub returns-clause-stamp : goal.returns-clause-stamp
+returns-clause-stamp c s k e = c.bits.ensures.value ∙ ap (λ (w : ℕ). (state_told w).stamp) (sym e) ∙ ap (λ (t : ModelState). t.stamp) (told_back s k)
