@@ -15,6 +15,3 @@ pub use notebook::Notebook;
 pub use run_record::RunRecord;
 pub use schedule::Turn;
 pub use status::Status;
-
-#[cfg(test)]
-mod tests;

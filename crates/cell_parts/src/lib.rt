@@ -11,6 +11,3 @@ mod potentiometer;
 pub use axis::Axis;
 pub use belt::Belt;
 pub use parts::{CranePart, DepositPart, FeedPart, PressPart, RobotPart, RobotPoints, TablePart};
-
-#[cfg(test)]
-mod tests;

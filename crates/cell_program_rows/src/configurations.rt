@@ -214,22 +214,22 @@ fn reads_the_forms_of_toml(rt: HostRuntime) -> Result<(), Fail> {
 }
 
 /// How a value of so many arrays, one in another, is judged.
-fn judged_nested(alloc: Global, depth: usize) -> Result<&'static str, AllocError> {
-    let mut text = String::from_str(alloc, "start = \"0000000000\"\narm1.raw = ")?;
+fn judged_nested(rt: &impl Abort, alloc: Global, depth: usize) -> &'static str {
+    let text = String::from_str(alloc, "start = \"0000000000\"\narm1.raw = ");
+    let mut text = text.expect(rt, "memory");
     for _ in 0..depth {
-        text.push('[')?;
+        text.push_str("[").expect(rt, "memory");
     }
     for _ in 0..depth {
-        text.push(']')?;
+        text.push_str("]").expect(rt, "memory");
     }
-    Ok(judged(alloc, text.as_bytes()))
+    judged(alloc, text.as_bytes())
 }
 
 #[test]
-fn reads_values_that_are_not_too_deep(rt: HostRuntime) -> Result<(), Fail> {
-    assert!(rt; judged_nested(rt.alloc(), 80)? == "config kind");
-    assert!(rt; judged_nested(rt.alloc(), 81)? == "config text");
-    Ok(())
+fn reads_values_that_are_not_too_deep(rt: HostRuntime) {
+    assert!(rt; judged_nested(&rt, rt.alloc(), 80) == "config kind");
+    assert!(rt; judged_nested(&rt, rt.alloc(), 81) == "config text");
 }
 
 /// Whether a text gives this configuration.
@@ -294,89 +294,123 @@ fn gives_what_is_written(rt: HostRuntime) -> Result<(), Fail> {
     Ok(())
 }
 
-/// The machines whose letters stand in `ftrpdc`.
-const LETTERED: &[Machine] = &[
-    Machine::Feed,
-    Machine::Table,
-    Machine::Robot,
-    Machine::Press,
-    Machine::Deposit,
-    Machine::Crane,
+/// The turns of the letters `ftrpdcFTRPDC`: in the last six the machine is told Busy.
+const LETTERED: &[(Machine, bool)] = &[
+    (Machine::Feed, false),
+    (Machine::Table, false),
+    (Machine::Robot, false),
+    (Machine::Press, false),
+    (Machine::Deposit, false),
+    (Machine::Crane, false),
+    (Machine::Feed, true),
+    (Machine::Table, true),
+    (Machine::Robot, true),
+    (Machine::Press, true),
+    (Machine::Deposit, true),
+    (Machine::Crane, true),
 ];
 
-#[test]
-fn reads_letters(rt: HostRuntime) -> Result<(), Fail> {
-    let text = "start = \"0000000000\"\nschedule = \"ftrpdcFTRPDC\"";
-    let config = read(rt.alloc(), &mut text.as_bytes())?;
-    assert!(rt; config.schedule.len() == 12);
-    for (number, turn) in config.schedule.iter().enumerate() {
-        let wanted = LETTERED.get(number % 6).copied();
-        assert!(rt; Some(turn.machine) == wanted, "letter {number}");
-        assert!(rt; turn.busy == (number >= 6), "letter {number}");
+/// How many turns are as lettered, each in its place.
+fn lettered(turns: &[Turn]) -> u32 {
+    let mut right = 0u32;
+    for (turn, (machine, busy)) in turns.iter().zip(LETTERED) {
+        if turn.machine == *machine && turn.busy == *busy {
+            right = right.saturating_add(1);
+        }
     }
-    Ok(())
+    right
+}
+
+#[test]
+fn reads_letters(rt: HostRuntime) {
+    let text = "start = \"0000000000\"\nschedule = \"ftrpdcFTRPDC\"";
+    let config = read(rt.alloc(), &mut text.as_bytes()).expect(&rt, "a configuration");
+    assert!(rt; config.schedule.len() == 12);
+    assert!(rt; lettered(config.schedule.as_slice()) == 12);
 }
 
 /// How many turns a schedule of so many times the same letter gives, or its fault.
 fn count_turns(
+    rt: &impl Abort,
     alloc: Global,
     letter: &str,
-    count: usize,
-) -> Result<Result<usize, ConfigFault>, AllocError> {
-    let mut text = String::from_str(alloc, "start = \"0000000000\"\nschedule = \"")?;
+    count: u32,
+) -> Result<usize, ConfigFault> {
+    let text = String::from_str(alloc, "start = \"0000000000\"\nschedule = \"");
+    let mut text = text.expect(rt, "memory");
     for _ in 0..count {
-        text.push_str(letter)?;
+        text.push_str(letter).expect(rt, "memory");
     }
-    text.push('"')?;
+    text.push_str("\"").expect(rt, "memory");
     match read(alloc, &mut text.as_bytes()) {
-        Ok(config) => Ok(Ok(config.schedule.len())),
-        Err(fault) => Ok(Err(fault)),
+        Ok(config) => Ok(config.schedule.len()),
+        Err(fault) => Err(fault),
     }
 }
 
-#[test]
-fn counts_letters(rt: HostRuntime) -> Result<(), Fail> {
-    let alloc = rt.alloc();
-    assert!(rt; count_turns(alloc, "p", 1_000_000)? == Ok(1_000_000));
-    assert!(rt; count_turns(alloc, "p", 1_000_001)? == Err(ConfigFault::Range));
-    assert!(rt; count_turns(alloc, "x", 1_000_001)? == Err(ConfigFault::Range));
+// A letter, how often it stands in the schedule, and how many turns that gives.
+const COUNTED: &[(&str, u32, Result<usize, ConfigFault>)] = &[
+    ("p", 1_000_000, Ok(1_000_000)),
+    ("p", 1_000_001, Err(ConfigFault::Range)),
+    ("x", 1_000_001, Err(ConfigFault::Range)),
     // Characters of two bytes each.
-    assert!(rt; count_turns(alloc, "é", 1_000_000)? == Err(ConfigFault::Letter));
-    assert!(rt; count_turns(alloc, "é", 1_000_001)? == Err(ConfigFault::Range));
-    Ok(())
-}
+    ("é", 1_000_000, Err(ConfigFault::Letter)),
+    ("é", 1_000_001, Err(ConfigFault::Range)),
+];
 
 #[test]
-fn reads_no_more_than_it_may(rt: HostRuntime) -> Result<(), Fail> {
-    let alloc = rt.alloc();
-    let mut text = String::from_str(alloc, "start = \"0000000000\"\n")?;
-    for _ in 0..2_097_131u32 {
-        text.push(' ')?;
+fn counts_letters(rt: HostRuntime) {
+    for (letter, count, wanted) in COUNTED {
+        let counted = count_turns(&rt, rt.alloc(), letter, *count);
+        assert!(rt; counted == *wanted, "{count} {letter}");
     }
-    assert!(rt; text.len() == 2_097_152);
-    assert!(rt; judged(alloc, text.as_bytes()) == "well");
-    text.push(' ')?;
-    assert!(rt; judged(alloc, text.as_bytes()) == "config long");
-    text.push_str("behind")?;
+}
+
+/// A start with so many spaces behind it, and then this.
+fn spaced(rt: &impl Abort, alloc: Global, spaces: u32, last: &str) -> String {
+    let mut text = String::from_str(alloc, "start = \"0000000000\"\n").expect(rt, "memory");
+    for _ in 0..spaces {
+        text.push_str(" ").expect(rt, "memory");
+    }
+    text.push_str(last).expect(rt, "memory");
+    text
+}
+
+/// Whether a text is too long, and all of it but this is read.
+fn is_read_up_to(alloc: Global, text: &str, rest: &str) -> bool {
     let mut reader = text.as_bytes();
     let fault = read(alloc, &mut reader).err();
-    assert!(rt; fault == Some(ConfigFault::Long));
-    assert!(rt; reader == b"behind".as_slice());
-    Ok(())
+    fault == Some(ConfigFault::Long) && reader == rest.as_bytes()
+}
+
+#[test]
+fn reads_no_more_than_it_may(rt: HostRuntime) {
+    let text = spaced(&rt, rt.alloc(), 2_097_131, "");
+    assert!(rt; text.len() == 2_097_152);
+    assert!(rt; judged(rt.alloc(), text.as_bytes()) == "well");
+    let text = spaced(&rt, rt.alloc(), 2_097_132, "");
+    assert!(rt; judged(rt.alloc(), text.as_bytes()) == "config long");
+    let text = spaced(&rt, rt.alloc(), 2_097_132, "behind");
+    assert!(rt; is_read_up_to(rt.alloc(), text.as_str(), "behind"));
+}
+
+/// Whether a configuration is the one that was written, or memory ran out.
+fn is_read_or_memory(read: &Result<Config, ConfigFault>) -> bool {
+    match read {
+        Ok(config) => {
+            config.start.stamp() == 3
+                && config.start.plates() == 1
+                && config.schedule.len() == 2
+                && config.points[0].tol() == 2
+        }
+        Err(fault) => *fault == ConfigFault::Memory,
+    }
 }
 
 #[test]
 fn reads_without_memory(rt: HostRuntime) {
     let text = "start = \"0100000000\"\nstamp = 3\nschedule = \"pP\"\narm1.tol = 2\n";
-    match read(rt.alloc(), &mut text.as_bytes()) {
-        Ok(config) => {
-            assert!(rt; config.start.stamp() == 3);
-            assert!(rt; config.start.plates() == 1);
-            assert!(rt; config.schedule.len() == 2);
-            assert!(rt; config.points[0].tol() == 2);
-        }
-        Err(fault) => assert!(rt; fault == ConfigFault::Memory),
-    }
+    assert!(rt; is_read_or_memory(&read(rt.alloc(), &mut text.as_bytes())));
     let other = judged(rt.alloc(), b"start = \"0100000000\"\nschedule = \"pPx\"\n");
     assert!(rt; other == "config letter" || other == "memory");
 }
@@ -395,9 +429,9 @@ const FAULTS: &[(ConfigFault, &str)] = &[
 ];
 
 #[test]
-fn prints_faults(rt: HostRuntime) -> Result<(), Fail> {
+fn prints_faults(rt: HostRuntime) {
     for (fault, text) in FAULTS {
-        assert!(rt; fault.to_string(rt.alloc())?.as_str() == *text);
+        let printed = fault.to_string(rt.alloc()).expect(&rt, "memory");
+        assert!(rt; printed.as_str() == *text, "{text}");
     }
-    Ok(())
 }

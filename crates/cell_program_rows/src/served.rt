@@ -11,21 +11,22 @@ pub const SCRIPT: &str =
 pub const TEXT: &str =
     "0 0 start 0\n1 1 done\n2 1 held press\n3 2 done\n4 2 shut closed\n5 2 zone free 0 closed\n";
 
+// Words, an input, the status and the text.
+const SERVED: &[(&[&str], &str, u8, &str)] = &[
+    (&["cell"], SCRIPT, 0, TEXT),
+    (&["cell", "replay"], SCRIPT, 0, TEXT),
+    (&["cell"], "", 1, "fault nostart\n"),
+    (&["cell", "replay"], "start,1\n", 1, "fault badstart\n"),
+];
+
 #[test]
 fn serves(rt: HostRuntime) {
-    let alloc = rt.alloc();
-    assert!(rt; is_served(alloc, &["cell"], SCRIPT, 0, TEXT));
-    assert!(rt; is_served(alloc, &["cell", "replay"], SCRIPT, 0, TEXT));
-    assert!(rt; is_served(alloc, &["cell"], "", 1, "fault nostart\n"));
-    assert!(rt;
-        is_served(
-            alloc,
-            &["cell", "replay"],
-            "start,1\n",
-            1,
-            "fault badstart\n"
-        )
-    );
+    for (words, input, status, text) in SERVED {
+        assert!(rt;
+            is_served(rt.alloc(), words, input, *status, text),
+            "{text}"
+        );
+    }
 }
 
 #[test]
@@ -35,11 +36,12 @@ fn serves_without_memory(rt: HostRuntime) {
     let status = run(rt.alloc(), &["cell"], &mut SCRIPT.as_bytes(), &mut writer);
     let left = writer.len();
     let written = &room[..200usize.saturating_sub(left)];
-    match status {
-        0 => assert!(rt; written == TEXT.as_bytes()),
-        1 => assert!(rt; written == b"fault memory\n".as_slice()),
-        _ => assert!(rt; false, "status {status}"),
-    }
+    let is_right = match status {
+        0 => written == TEXT.as_bytes(),
+        1 => written == "fault memory\n".as_bytes(),
+        _ => false,
+    };
+    assert!(rt; is_right, "status {status}");
 }
 
 /// Whether words other than those that ask for a mode are answered with this status and some text, and
@@ -52,18 +54,34 @@ fn is_told(alloc: Global, words: &[&str], status: u8) -> bool {
     answered == status && is_other && script.len() == SCRIPT.len()
 }
 
+const OTHERS: &[(&[&str], u8)] = &[
+    (&["cell", "--help"], 0),
+    (&["cell", "replay", "--help"], 0),
+    (&["cell", "sim", "--help"], 0),
+    (&["cell", "go"], 2),
+    (&["cell", "sim", "sim"], 2),
+    (&["cell", "run"], 2),
+    (&["cell", "replay", "replay"], 2),
+    (&["cell", "--turns", "3"], 2),
+];
+
 #[test]
 fn serves_other_words(rt: HostRuntime) {
-    let alloc = rt.alloc();
-    assert!(rt; is_told(alloc, &["cell", "--help"], 0));
-    assert!(rt; is_told(alloc, &["cell", "replay", "--help"], 0));
-    assert!(rt; is_told(alloc, &["cell", "sim", "--help"], 0));
-    assert!(rt; is_told(alloc, &["cell", "go"], 2));
-    assert!(rt; is_told(alloc, &["cell", "sim", "sim"], 2));
-    assert!(rt; is_told(alloc, &["cell", "run"], 2));
-    assert!(rt; is_told(alloc, &["cell", "replay", "replay"], 2));
-    assert!(rt; is_told(alloc, &["cell", "--turns", "3"], 2));
+    for (words, status) in OTHERS {
+        assert!(rt; is_told(rt.alloc(), words, *status), "{words:?}");
+    }
 }
+
+// Words, and what they ask for, if anything.
+const MODES: &[(&[&str], Option<Mode>)] = &[
+    (&["cell"], Some(Mode::Replay)),
+    (&["cell", "replay"], Some(Mode::Replay)),
+    (&["cell", "sim"], Some(Mode::Sim)),
+    (&["cell", "simulate"], None),
+    (&["cell", "run"], None),
+    (&["cell", "Replay"], None),
+    (&["cell", ""], None),
+];
 
 /// What these words ask for, if anything.
 fn mode_of(alloc: Global, words: &[&str]) -> Option<Mode> {
@@ -72,24 +90,13 @@ fn mode_of(alloc: Global, words: &[&str]) -> Option<Mode> {
 
 #[test]
 fn reads_words(rt: HostRuntime) {
-    let alloc = rt.alloc();
-    assert!(rt; mode_of(alloc, &["cell"]) == Some(Mode::Replay));
-    assert!(rt; mode_of(alloc, &["cell", "replay"]) == Some(Mode::Replay));
-    assert!(rt; mode_of(alloc, &["cell", "sim"]) == Some(Mode::Sim));
-    for word in ["simulate", "run", "Replay", ""] {
-        assert!(rt; mode_of(alloc, &["cell", word]).is_none(), "{word}");
+    for (words, mode) in MODES {
+        assert!(rt; mode_of(rt.alloc(), words) == *mode, "{words:?}");
     }
 }
 
-/// Whether the help that these words ask for has these parts, one behind another.
-fn is_helped(alloc: Global, words: &[&str], parts: &[&str]) -> bool {
-    let mut written = Vec::new(alloc);
-    if run(alloc, words, &mut b"".as_slice(), &mut written) != 0 {
-        return false;
-    }
-    let Ok(text) = str::from_utf8(written.as_slice()) else {
-        return false;
-    };
+/// Whether a text has these parts, one behind another.
+fn has_in_order(text: &str, parts: &[&str]) -> bool {
     let mut rest = text;
     for part in parts {
         match rest.split_once(*part) {
@@ -100,38 +107,51 @@ fn is_helped(alloc: Global, words: &[&str], parts: &[&str]) -> bool {
     true
 }
 
+/// Whether the help that these words ask for has these parts, one behind another.
+fn is_helped(alloc: Global, words: &[&str], parts: &[&str]) -> bool {
+    let mut written = Vec::new(alloc);
+    let status = run(alloc, words, &mut "".as_bytes(), &mut written);
+    match str::from_utf8(written.as_slice()) {
+        Ok(text) => status == 0 && has_in_order(text, parts),
+        Err(_) => false,
+    }
+}
+
+const OF_THE_WHOLE: &[&str] = &[
+    "Usage: cell [COMMAND]",
+    "replay",
+    "sim",
+    "docs/SCRIPTS.md",
+    "docs/CONFIGURATIONS.md",
+    "docs/REPORTS.md",
+    "cell replay < examples/interior.csv",
+];
+
+const OF_REPLAY: &[&str] = &[
+    "Usage: cell replay",
+    "Reads a script",
+    "Writes a line for each record",
+    "docs/SCRIPTS.md",
+    "cell replay < examples/interior.csv",
+];
+
+const OF_SIM: &[&str] = &[
+    "Usage: cell sim",
+    "Reads a configuration",
+    "Writes a report",
+    "docs/CONFIGURATIONS.md",
+    "docs/REPORTS.md",
+    "cell sim < examples/press.toml",
+];
+
 // Help says what is read, what is written, where the formats are described, and an example.
 #[test]
 fn helps(rt: HostRuntime) {
     let alloc = rt.alloc();
-    let whole = [
-        "Usage: cell [COMMAND]",
-        "replay",
-        "sim",
-        "docs/SCRIPTS.md",
-        "docs/CONFIGURATIONS.md",
-        "docs/REPORTS.md",
-        "cell replay < examples/interior.csv",
-    ];
-    let replay = [
-        "Usage: cell replay",
-        "Reads a script",
-        "Writes a line for each record",
-        "docs/SCRIPTS.md",
-        "cell replay < examples/interior.csv",
-    ];
-    let sim = [
-        "Usage: cell sim",
-        "Reads a configuration",
-        "Writes a report",
-        "docs/CONFIGURATIONS.md",
-        "docs/REPORTS.md",
-        "cell sim < examples/press.toml",
-    ];
-    assert!(rt; is_helped(alloc, &["cell", "--help"], &whole));
-    assert!(rt; is_helped(alloc, &["cell", "-h"], &whole));
-    assert!(rt; is_helped(alloc, &["cell", "replay", "--help"], &replay));
-    assert!(rt; is_helped(alloc, &["cell", "sim", "--help"], &sim));
+    assert!(rt; is_helped(alloc, &["cell", "--help"], OF_THE_WHOLE));
+    assert!(rt; is_helped(alloc, &["cell", "-h"], OF_THE_WHOLE));
+    assert!(rt; is_helped(alloc, &["cell", "replay", "--help"], OF_REPLAY));
+    assert!(rt; is_helped(alloc, &["cell", "sim", "--help"], OF_SIM));
 }
 
 #[test]

@@ -52,16 +52,25 @@ fn is_cut(alloc: Global, words: &[&str], input: &str, left: usize, is_full: bool
     status == 1 && is_front && writer.taken.len() == left
 }
 
+// Words, an input, after how many bytes the writer fails, and whether it then takes none.
+const CUT: &[(&[&str], &str, usize, bool)] = &[
+    (REPLAY, SCRIPT, 5, false),
+    (HELP, SCRIPT, 5, false),
+    (&["cell", "--help"], SCRIPT, 5, false),
+    (OTHER, SCRIPT, 5, false),
+    (SIM, PRESS, 0, false),
+    (SIM, PRESS, 1, false),
+    (SIM, PRESS, 18, false),
+    (SIM, PRESS, 19, false),
+    (SIM, PRESS, 300, true),
+    (SIM, PRESS, 560, false),
+];
+
 #[test]
 fn writes_a_front(rt: HostRuntime) {
-    let alloc = rt.alloc();
-    assert!(rt; is_cut(alloc, REPLAY, SCRIPT, 5, false));
-    assert!(rt; is_cut(alloc, HELP, SCRIPT, 5, false));
-    assert!(rt; is_cut(alloc, &["cell", "--help"], SCRIPT, 5, false));
-    assert!(rt; is_cut(alloc, OTHER, SCRIPT, 5, false));
-    for left in [0, 1, 18, 19, 300, 560] {
+    for (words, input, left, is_full) in CUT {
         assert!(rt;
-            is_cut(alloc, SIM, PRESS, left, left == 300),
+            is_cut(rt.alloc(), words, input, *left, *is_full),
             "after {left}"
         );
     }

@@ -19,6 +19,14 @@ fn is_answered(alloc: Global, script: &[u8], text: &str, outcome: Outcome) -> bo
     got == Ok(outcome) && written.as_slice() == text.as_bytes()
 }
 
+/// Each script is answered by its text.
+fn are_answered(rt: &impl Abort, alloc: Global, rows: &[(&str, &str)]) {
+    for (script, text) in rows {
+        let is_right = is_answered(alloc, script.as_bytes(), text, Outcome::Clean);
+        assert!(rt; is_right, "{script}");
+    }
+}
+
 /// The start with these places and this stamp.
 fn start_at(rt: &impl Abort, places: [bool; 10], stamp: u32) -> State {
     State::start(places, stamp).expect(rt, "a start")

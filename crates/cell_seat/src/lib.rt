@@ -10,6 +10,3 @@ pub use bench_turn::seat_turn;
 pub use fares::status_of;
 pub use fault::SimFault;
 pub use seat::Seat;
-
-#[cfg(test)]
-mod tests;

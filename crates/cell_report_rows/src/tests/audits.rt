@@ -7,7 +7,7 @@ use cell_types::{
     Answer, Call, Entry, Event, Journals, Machine, Place, Pose, Posture, Refusal, Zone,
 };
 use std::alloc::{AllocError, Global};
-use std::test::Fail;
+use std::process::Abort;
 
 /// A machine's note of a call: the call, its answer and the stamp after it.
 type Note = (Machine, Call, Answer, u32);
@@ -192,33 +192,31 @@ fn note(journals: &mut Journals, notes: &[Note]) -> Result<(), AllocError> {
     Ok(())
 }
 
-fn journals_of(alloc: Global, notes: &[Note], more: &[Note]) -> Result<Journals, AllocError> {
+fn journals_of(rt: &impl Abort, alloc: Global, notes: &[Note], more: &[Note]) -> Journals {
     let mut journals = Journals::new(alloc);
-    note(&mut journals, notes)?;
-    note(&mut journals, more)?;
-    Ok(journals)
+    note(&mut journals, notes).expect(rt, "memory");
+    note(&mut journals, more).expect(rt, "memory");
+    journals
 }
 
-/// Why an audit refuses the notes.
+/// Why an audit refuses the journals.
 fn fault_of(
     alloc: Global,
-    notes: &[Note],
-    more: &[Note],
+    journals: &Journals,
     start: &State,
     end: Option<&State>,
-) -> Result<Option<AuditFault>, AllocError> {
-    let journals = journals_of(alloc, notes, more)?;
-    Ok(audit(alloc, &journals, start, end).err())
+) -> Option<AuditFault> {
+    audit(alloc, journals, start, end).err()
 }
 
 #[test]
-fn refuses_what_no_history_wrote(rt: HostRuntime) -> Result<(), Fail> {
+fn refuses_what_no_history_wrote(rt: HostRuntime) {
     for (stamp, notes, more, fault) in ROWS {
         let start = start_at(&rt, EMPTY, *stamp);
-        let got = fault_of(rt.alloc(), notes, more, &start, None)?;
+        let journals = journals_of(&rt, rt.alloc(), notes, more);
+        let got = fault_of(rt.alloc(), &journals, &start, None);
         assert!(rt; got == *fault, "{fault:?}");
     }
-    Ok(())
 }
 
 fn end_of_three_calls(start: &State) -> State {
@@ -239,9 +237,9 @@ fn event(note: Note) -> Event {
 }
 
 #[test]
-fn accepts_what_was_noted(rt: HostRuntime) -> Result<(), Fail> {
+fn accepts_what_was_noted(rt: HostRuntime) {
     let start = start_at(&rt, EMPTY, 0);
-    let journals = journals_of(rt.alloc(), &THREE, &[])?;
+    let journals = journals_of(&rt, rt.alloc(), &THREE, &[]);
     let end = end_of_three_calls(&start);
     let events = audit(rt.alloc(), &journals, &start, Some(&end)).expect(&rt, "a history");
     let wanted = [
@@ -254,15 +252,15 @@ fn accepts_what_was_noted(rt: HostRuntime) -> Result<(), Fail> {
     let events = audit(rt.alloc(), &none, &start, Some(&start)).expect(&rt, "no history");
     assert!(rt; events.is_empty());
     let late = start_at(&rt, EMPTY, 7);
-    let journals = journals_of(rt.alloc(), &[CRANE_ASKS], &[])?;
+    let journals = journals_of(&rt, rt.alloc(), &[CRANE_ASKS], &[]);
     let events = audit(rt.alloc(), &journals, &late, Some(&late)).expect(&rt, "a refused call");
     assert!(rt; events.len() == 1);
-    Ok(())
 }
 
 #[test]
-fn compares_the_end_whole(rt: HostRuntime) -> Result<(), Fail> {
+fn compares_the_end_whole(rt: HostRuntime) {
     let start = start_at(&rt, EMPTY, 0);
+    let journals = journals_of(&rt, rt.alloc(), &THREE, &[]);
     let end = end_of_three_calls(&start);
     let mut full = end.full();
     full.set(Place::Crane, true);
@@ -276,10 +274,9 @@ fn compares_the_end_whole(rt: HostRuntime) -> Result<(), Fail> {
         (&later, Some(AuditFault::Gap(4))),
         (&fuller, Some(AuditFault::End)),
     ] {
-        let got = fault_of(rt.alloc(), &THREE, &[], &start, Some(end))?;
+        let got = fault_of(rt.alloc(), &journals, &start, Some(end));
         assert!(rt; got == fault, "{fault:?}");
     }
-    Ok(())
 }
 
 // Where memory runs out, a journal can't be written or the audit says so; else the answer is as ever.
@@ -287,9 +284,10 @@ fn compares_the_end_whole(rt: HostRuntime) -> Result<(), Fail> {
 fn wants_memory_or_answers(rt: HostRuntime) {
     let start = start_at(&rt, EMPTY, 0);
     let end = end_of_three_calls(&start);
-    let Ok(journals) = journals_of(rt.alloc(), &THREE, &[]) else {
+    let mut journals = Journals::new(rt.alloc());
+    if note(&mut journals, &THREE).is_err() {
         return;
-    };
+    }
     let is_right = match audit(rt.alloc(), &journals, &start, Some(&end)) {
         Ok(events) => events.len() == 3,
         Err(fault) => fault == AuditFault::Memory,

@@ -2,8 +2,8 @@
 
 use super::is_answered;
 use cell_report::{Outcome, ScriptFault, replay};
-use std::alloc::{AllocError, Global};
-use std::test::Fail;
+use std::alloc::Global;
+use std::process::Abort;
 
 /// A script's records, how many bytes they are filled up to by blank lines, and a record behind those.
 type Filled = (&'static str, usize, &'static str);
@@ -44,62 +44,70 @@ const ROWS: &[(Filled, &str, Outcome)] = &[
     ),
 ];
 
-fn script_of(alloc: Global, filled: Filled) -> Result<Vec<u8>, AllocError> {
+fn script_of(rt: &impl Abort, alloc: Global, filled: Filled) -> Vec<u8> {
     let (records, length, last) = filled;
     let mut script = Vec::new(alloc);
-    script.extend_from_slice(records.as_bytes())?;
-    script.resize(length, b'\n')?;
-    script.extend_from_slice(last.as_bytes())?;
-    Ok(script)
+    script
+        .extend_from_slice(records.as_bytes())
+        .expect(rt, "memory");
+    script.resize(length, b'\n').expect(rt, "memory");
+    script
+        .extend_from_slice(last.as_bytes())
+        .expect(rt, "memory");
+    script
 }
 
 #[test]
-fn cuts_long_scripts(rt: HostRuntime) -> Result<(), Fail> {
+fn cuts_long_scripts(rt: HostRuntime) {
     for (filled, text, outcome) in ROWS {
-        let script = script_of(rt.alloc(), *filled)?;
+        let script = script_of(&rt, rt.alloc(), *filled);
         let is_right = is_answered(rt.alloc(), script.as_slice(), text, *outcome);
         assert!(rt; is_right, "{text}");
     }
-    Ok(())
 }
 
 /// Record 0 and so many inquiries, and a record behind them.
-fn inquiries(alloc: Global, count: u32, last: &str) -> Result<Vec<u8>, AllocError> {
-    let mut script = Vec::new(alloc);
-    script.extend_from_slice(b"start,0000000000\n")?;
+fn inquiries(rt: &impl Abort, alloc: Global, count: u32, last: &str) -> String {
+    let mut script = String::from_str(alloc, "start,0000000000\n").expect(rt, "memory");
     for _ in 0..count {
-        script.extend_from_slice(b"watch,inquire,z1\n")?;
+        script.push_str("watch,inquire,z1\n").expect(rt, "memory");
     }
-    script.extend_from_slice(last.as_bytes())?;
-    Ok(script)
+    script.push_str(last).expect(rt, "memory");
+    script
 }
 
 /// What is written for as many inquiries and a last record, if the script ends so.
-fn told(alloc: Global, last: &str, outcome: Outcome) -> Result<Option<Vec<u8>>, AllocError> {
-    let script = inquiries(alloc, 65_536, last)?;
+fn told(rt: &impl Abort, alloc: Global, last: &str, outcome: Outcome) -> Option<Vec<u8>> {
+    let script = inquiries(rt, alloc, 65_536, last);
     let mut written = Vec::new(alloc);
-    let got = replay(alloc, &mut script.as_slice(), &mut written);
-    Ok(if got == Ok(outcome) {
+    if replay(alloc, &mut script.as_bytes(), &mut written) == Ok(outcome) {
         Some(written)
     } else {
         None
-    })
+    }
 }
+
+/// Whether it is a line for each of as many records, with these at both ends.
+fn has_most_lines(text: &[u8], first: &str, last: &str) -> bool {
+    text.starts_with(first.as_bytes())
+        && text.ends_with(last.as_bytes())
+        && text.iter().filter(|byte| **byte == b'\n').count() == 65_537
+}
+
+const TOO_MANY: &[&str] = &["watch,inquire,z1\n", "nothing\n"];
 
 // As many records as are answered are clean, and the record that is too many may hold anything.
 #[test]
-fn answers_most_records(rt: HostRuntime) -> Result<(), Fail> {
+fn answers_most_records(rt: HostRuntime) {
     let alloc = rt.alloc();
-    let mut text = told(alloc, "", Outcome::Clean)?.expect(&rt, "a clean script");
+    let mut text = told(&rt, alloc, "", Outcome::Clean).expect(&rt, "a clean script");
     let first = "0 0 start 0\n1 0 zone free 0 closed\n2 0 zone free 0 closed\n";
-    assert!(rt; text.as_slice().starts_with(first.as_bytes()));
-    assert!(rt; text.as_slice().ends_with(b"\n65536 0 zone free 0 closed\n"));
-    let lines = text.iter().filter(|byte| **byte == b'\n').count();
-    assert!(rt; lines == 65_537);
-    text.extend_from_slice(b"fault long\n")?;
-    for last in ["watch,inquire,z1\n", "nothing\n"] {
-        let long = told(alloc, last, LONG)?.expect(&rt, "a long script");
+    let last = "\n65536 0 zone free 0 closed\n";
+    assert!(rt; has_most_lines(text.as_slice(), first, last));
+    text.extend_from_slice("fault long\n".as_bytes())
+        .expect(&rt, "memory");
+    for last in TOO_MANY {
+        let long = told(&rt, alloc, last, LONG).expect(&rt, "a long script");
         assert!(rt; long.as_slice() == text.as_slice(), "{last}");
     }
-    Ok(())
 }

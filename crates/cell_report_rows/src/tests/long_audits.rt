@@ -7,7 +7,7 @@ use cell_report::{AuditFault, audit};
 use cell_rules::{State, apply};
 use cell_types::{Answer, Call, Entry, Event, Journals, Machine, Pose, Refusal, Zone};
 use std::alloc::{AllocError, Global};
-use std::test::Fail;
+use std::process::Abort;
 
 /// Numbers that look random, from a seed.
 #[derive(Drop)]
@@ -64,17 +64,18 @@ fn make(
 
 /// The journals of six machines that make this many calls, and the state that these leave.
 fn run(
+    rt: &impl Abort,
     alloc: Global,
     numbers: &mut Numbers,
     start: &State,
     calls: u32,
-) -> Result<(Journals, State), AllocError> {
+) -> (Journals, State) {
     let mut journals = Journals::new(alloc);
     let mut state = *start;
     for _ in 0..calls {
-        make(&mut state, &mut journals, numbers.machine(), numbers.call())?;
+        make(&mut state, &mut journals, numbers.machine(), numbers.call()).expect(rt, "memory");
     }
-    Ok((journals, state))
+    (journals, state)
 }
 
 /// Whether the events are answered as the interlock answers them, and are what the machines noted.
@@ -172,20 +173,19 @@ const PLACES: [bool; 10] = [
 ];
 
 #[test]
-fn audits_twenty_thousand_entries(rt: HostRuntime) -> Result<(), Fail> {
+fn audits_twenty_thousand_entries(rt: HostRuntime) {
     let start = start_at(&rt, PLACES, 100);
-    let (mut journals, end) = run(rt.alloc(), &mut Numbers(1995), &start, 20_000)?;
+    let (mut journals, end) = run(&rt, rt.alloc(), &mut Numbers(1995), &start, 20_000);
     let events = audit(rt.alloc(), &journals, &start, Some(&end)).expect(&rt, "a history");
     assert!(rt; events.len() == 20_000);
     assert!(rt; is_explained(&mut journals, &start, &events));
-    Ok(())
 }
 
 #[test]
-fn audits_changed_entries(rt: HostRuntime) -> Result<(), Fail> {
+fn audits_changed_entries(rt: HostRuntime) {
     let mut numbers = Numbers(1995);
     let start = start_at(&rt, PLACES, 100);
-    let (mut journals, end) = run(rt.alloc(), &mut numbers, &start, 10_000)?;
+    let (mut journals, end) = run(&rt, rt.alloc(), &mut numbers, &start, 10_000);
     let mut refusals = 0u32;
     for _ in 0..200 {
         let got = audited_changed(rt.alloc(), &mut numbers, &mut journals, &start, &end);
@@ -195,5 +195,4 @@ fn audits_changed_entries(rt: HostRuntime) -> Result<(), Fail> {
         }
     }
     assert!(rt; refusals > 100, "{refusals} refusals");
-    Ok(())
 }

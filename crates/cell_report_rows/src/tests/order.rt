@@ -3,8 +3,7 @@
 //! that the machine hasn't concerns no zone: such rows say that none of the later causes comes before it.
 //! The texts were worked out apart from the program, from the rules of the cell.
 
-use super::is_answered;
-use cell_report::Outcome;
+use super::are_answered;
 
 /// Claims.
 const CLAIM: &[(&str, &str)] = &[
@@ -661,10 +660,11 @@ const ADVANCE: &[(&str, &str)] = &[
 
 #[test]
 fn answers_in_order(rt: HostRuntime) {
-    for rows in [CLAIM, GIVE, YIELD, TAKE, RELEASE, POSE, ADVANCE] {
-        for (script, text) in rows {
-            let is_right = is_answered(rt.alloc(), script.as_bytes(), text, Outcome::Clean);
-            assert!(rt; is_right, "{script}");
-        }
-    }
+    are_answered(&rt, rt.alloc(), CLAIM);
+    are_answered(&rt, rt.alloc(), GIVE);
+    are_answered(&rt, rt.alloc(), YIELD);
+    are_answered(&rt, rt.alloc(), TAKE);
+    are_answered(&rt, rt.alloc(), RELEASE);
+    are_answered(&rt, rt.alloc(), POSE);
+    are_answered(&rt, rt.alloc(), ADVANCE);
 }

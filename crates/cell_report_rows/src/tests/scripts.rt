@@ -1,6 +1,6 @@
 //! Scripts of one zone, of starts, and of a plate on its way, with the text that each is answered.
 
-use super::is_answered;
+use super::{are_answered, is_answered};
 use cell_report::{Outcome, ScriptFault};
 
 const ANSWERED: &[(&str, &str)] = &[
@@ -228,10 +228,7 @@ const ROUND_TEXT: &str = "\
 
 #[test]
 fn answers_scripts(rt: HostRuntime) {
-    for (script, text) in ANSWERED {
-        let is_right = is_answered(rt.alloc(), script.as_bytes(), text, Outcome::Clean);
-        assert!(rt; is_right, "{script}");
-    }
+    are_answered(&rt, rt.alloc(), ANSWERED);
     for (script, text, outcome) in REFUSED {
         let is_right = is_answered(rt.alloc(), script.as_bytes(), text, *outcome);
         assert!(rt; is_right, "{script}");

@@ -1,14 +1,14 @@
-//! A machine that claims the press's interior, and once that is done lights a lamp.
-use crate::{Seat, seat_turn, status_of};
+//! Seats, at which sits a machine that claims the press's interior, and once that is done lights a lamp.
+
+use super::asking::EMPTY;
 use cell_calib::SensorFault;
 use cell_control::{Controller, CtlFault, Part, Program};
 use cell_notes::{Counts, Notebook, Status};
 use cell_rules::{Bench, State};
+use cell_seat::{Seat, seat_turn, status_of};
 use cell_types::{Call, Event, Machine, Posture, Refusal, Zone};
 use std::alloc::Global;
-use std::test::Fail;
-
-const EMPTY: [bool; 10] = [false; 10];
+use std::process::Abort;
 
 // The last stamp of the interlock.
 const LAST: u32 = 1_048_575;
@@ -135,7 +135,7 @@ impl Part for Lamp {
 }
 
 // The end of a run of it alone.
-#[derive(Clone, Copy)]
+#[derive(Drop)]
 struct Run {
     state: State,
     counts: Counts,
@@ -144,8 +144,9 @@ struct Run {
     lamp: (bool, bool),
 }
 
-fn run_turns(alloc: Global, stamp: u32, turns: &[bool]) -> Result<Run, Fail> {
-    let start = State::start(EMPTY, stamp)?;
+/// The end of a run over these turns, each busy or not.
+fn run_turns(rt: &impl Abort, alloc: Global, stamp: u32, turns: &[bool]) -> Run {
+    let start = State::start(EMPTY, stamp).expect(rt, "a start");
     let mut bench = Bench::new(alloc, start);
     let mut notebook = Notebook::new(alloc);
     let mut seat = Seat {
@@ -156,62 +157,72 @@ fn run_turns(alloc: Global, stamp: u32, turns: &[bool]) -> Result<Run, Fail> {
         },
     };
     'turns: for busy in turns {
-        seat_turn(&mut bench, &mut notebook, &mut seat, Machine::Press, *busy)?;
+        let turned = seat_turn(&mut bench, &mut notebook, &mut seat, Machine::Press, *busy);
+        turned.expect(rt, "a turn");
     }
-    Ok(Run {
+    Run {
         state: bench.state(),
         counts: notebook.counts,
         entries: notebook.journal.len(),
         stopped: seat.controller.stopped(),
         lamp: (seat.part.lit, seat.part.noted),
-    })
+    }
+}
+
+const ASKED_AND_LIT: Counts = Counts {
+    turns: 3,
+    done: 1,
+    read: 0,
+    refused: 0,
+    busy: 1,
+};
+
+fn has_asked_and_lit(run: &Run) -> bool {
+    run.counts == ASKED_AND_LIT
+        && run.entries == 1
+        && run.stopped.is_none()
+        && run.lamp == (true, true)
+        && run.state.owner(Zone::Z3) == Some(Machine::Press)
 }
 
 #[test]
-fn a_seat_asks_and_then_drives(rt: HostRuntime) -> Result<(), Fail> {
-    let run = run_turns(rt.alloc(), 0, &[true, false, false])?;
-    let counts = Counts {
-        turns: 3,
-        done: 1,
-        read: 0,
-        refused: 0,
-        busy: 1,
-    };
-    assert_eq!(rt; run.counts, counts);
-    assert_eq!(rt; run.entries, 1);
-    assert_eq!(rt; run.stopped, None);
-    assert_eq!(rt; run.lamp, (true, true));
-    assert_eq!(rt; run.state.owner(Zone::Z3), Some(Machine::Press));
-    Ok(())
+fn a_seat_asks_and_then_drives(rt: HostRuntime) {
+    let run = run_turns(&rt, rt.alloc(), 0, &[true, false, false]);
+    assert!(rt; has_asked_and_lit(&run));
+}
+
+const STOPPED: Counts = Counts {
+    turns: 1,
+    done: 0,
+    read: 0,
+    refused: 1,
+    busy: 0,
+};
+
+fn has_stopped(run: &Run) -> bool {
+    run.counts == STOPPED
+        && run.entries == 1
+        && run.stopped == Some(CtlFault::Worn)
+        && run.lamp == (false, false)
 }
 
 #[test]
-fn a_seat_that_has_stopped_is_passed_over(rt: HostRuntime) -> Result<(), Fail> {
-    let run = run_turns(rt.alloc(), LAST, &[false, false])?;
-    let counts = Counts {
-        turns: 1,
-        done: 0,
-        read: 0,
-        refused: 1,
-        busy: 0,
-    };
-    assert_eq!(rt; run.counts, counts);
-    assert_eq!(rt; run.entries, 1);
-    assert_eq!(rt; run.stopped, Some(CtlFault::Worn));
-    assert_eq!(rt; run.lamp, (false, false));
-    Ok(())
+fn a_seat_that_has_stopped_is_passed_over(rt: HostRuntime) {
+    let run = run_turns(&rt, rt.alloc(), LAST, &[false, false]);
+    assert!(rt; has_stopped(&run));
 }
+
+const STATUSES: &[(Option<CtlFault>, Status)] = &[
+    (None, Status::Fine),
+    (Some(CtlFault::Sensor(SensorFault::Clash)), Status::Sensor),
+    (Some(CtlFault::Refused(Refusal::Jump)), Status::Refused),
+    (Some(CtlFault::Worn), Status::Worn),
+    (Some(CtlFault::Memory), Status::Memory),
+];
 
 #[test]
 fn statuses_follow_from_faults(rt: HostRuntime) {
-    let rows: [(Option<CtlFault>, Status); 5] = [
-        (None, Status::Fine),
-        (Some(CtlFault::Sensor(SensorFault::Clash)), Status::Sensor),
-        (Some(CtlFault::Refused(Refusal::Jump)), Status::Refused),
-        (Some(CtlFault::Worn), Status::Worn),
-        (Some(CtlFault::Memory), Status::Memory),
-    ];
-    for (stopped, status) in rows.iter() {
-        assert_eq!(rt; status_of(*stopped), *status);
+    for (stopped, status) in STATUSES {
+        assert!(rt; status_of(*stopped) == *status, "{stopped:?}");
     }
 }

@@ -1,0 +1,52 @@
+//! What the rows of press and table share: another machine's calls, and an axis that its motor moves.
+ghost use Rattle.std.specs.Prelude.{◌≡◌, false, None};
+ghost use Rattle.cell_types.specs.Same.{same_machine};
+ghost use Rattle.cell_control.specs.Steps.{IsReached};
+
+use cell_control::{Controller, Program};
+use cell_devices::Motor;
+use cell_rules::{Answered, Bench, Heard, Line};
+use cell_types::{Answer, Call, Machine, Refusal, Reply};
+
+/// No place is full.
+pub const EMPTY: [bool; 10] = [false; 10];
+
+/// The refusal of a call that needs a right, while nobody has it.
+pub const NOT_YET: Answer = Answer::Refused(Refusal::NotOwner(None));
+
+/// The refusal of a plate while the place for it is full.
+pub const NO_ROOM: Answer = Answer::Refused(Refusal::PlaceFull);
+
+/// The refusal of a claim while the robot has the zone.
+pub const ROBOTS: Answer = Answer::Refused(Refusal::Held(Machine::Robot));
+
+/// Another machine than the controller's asks.
+pub fn guest_asks<P: Program>(
+    controller: &Controller<P>,
+    bench: &mut Bench,
+    guest: Machine,
+    call: Call,
+)
+    requires apart { same_machine guest (P.steps controller.now.program).machine ≡ false }
+    requires reached { controller.now.stopped ≡ None → IsReached (P.steps controller.now.program) bench.old.opening bench.old.history.items controller.now.progress }
+    ensures reached { controller.now.stopped ≡ None → IsReached (P.steps controller.now.program) bench.new.opening bench.new.history.items controller.now.progress }
+{
+    let _ = controller;
+    bench.seat(guest, false);
+    let _ = bench.ask(call);
+}
+
+/// An axis goes 20 a turn, from 0 to its end.
+pub fn moved(position: u16, motor: Motor, end: u16) -> u16 {
+    match motor {
+        Motor::Off => position,
+        Motor::Plus => position.saturating_add(20).min(end),
+        Motor::Minus => position.saturating_sub(20),
+    }
+}
+
+/// Whether this call was the last, and was answered so at this stamp.
+pub fn is_last(heard: &Heard, call: Call, answer: Answer, stamp: u32) -> bool {
+    let answered: Answered = Ok(Reply::Settled(answer, stamp));
+    heard.last == Some((call, answered))
+}

@@ -1,0 +1,218 @@
+//! The press's program over a bench, with a part that moves by its acts.
+ghost use Rattle.std.specs.Prelude.{◌≡◌, None};
+ghost use Rattle.cell_types.specs.declared.machine.Machine.TheVariants.{Press};
+ghost use Rattle.cell_control.specs.Steps.{IsReached};
+ghost use Rattle.cell_stations.specs.PressProgram.{press_steps};
+
+use super::asking::{EMPTY, NO_ROOM, NOT_YET, ROBOTS, guest_asks, is_last, moved};
+use cell_calib::{PressSense, SensorFault};
+use cell_rules::{Bench, Heard, Line, State};
+use cell_stations::{CtlFault, PressCtl, PressProgram};
+use cell_types::{Answer, Call, Machine, Pose, Posture, Zone};
+use std::alloc::Global;
+
+const DONE: Answer = Answer::Done;
+
+// A plate in the press that isn't forged.
+const IN_PRESS: [bool; 10] = [
+    false, false, false, false, true, false, false, false, false, false,
+];
+
+// The same, and one on the arm that would take it.
+const IN_PRESS_AND_ARM2: [bool; 10] = [
+    false, false, false, false, true, false, true, false, false, false,
+];
+
+// A forged plate in the press.
+const FORGED: [bool; 10] = [
+    false, false, false, false, false, true, false, false, false, false,
+];
+
+// A plate that the robot could give to the press.
+const ON_ARM1: [bool; 10] = [
+    false, false, false, true, false, false, false, false, false, false,
+];
+
+// What the robot asks between the turns of the press: it takes a plate and goes, or it comes and gives one.
+const TAKES: (Call, Call) = (Call::Take(Zone::Z3), Call::Release(Zone::Z3));
+
+const GIVES: (Call, Call) = (Call::Claim(Zone::Z3), Call::Give(Zone::Z3));
+
+fn press_at(position: u16) -> PressSense {
+    PressSense {
+        bottom: position <= 10,
+        middle: 490 <= position && position <= 510,
+        top: position >= 990,
+    }
+}
+
+/// Where the press stands after so many turns.
+fn go_on(press: &mut PressCtl, bench: &mut Bench, from: u16, turns: u32) -> Result<u16, CtlFault>
+    requires reached { press.old.stopped ≡ None → IsReached press_steps bench.old.opening bench.old.history.items press.old.progress }
+    ensures own { bench.new.machine ≡ Press }
+    ensures reached { press.new.stopped ≡ None → IsReached press_steps bench.new.opening bench.new.history.items press.new.progress }
+{
+    let mut position = from;
+    bench.seat(Machine::Press, false);
+    'turns: for _ in 0..turns {
+        let act = press.turn(bench, &press_at(position))?;
+        position = moved(position, act.press, 1000);
+    }
+    Ok(position)
+}
+
+// The end of a run.
+#[derive(Drop)]
+struct Run {
+    state: State,
+    heard: Heard,
+    position: u16,
+}
+
+/// The end of a run of the press alone.
+fn alone(alloc: Global, start: State, turns: u32) -> Option<Run> {
+    let mut press = PressCtl::new(&start, PressProgram);
+    let mut bench = Bench::new(alloc, start);
+    let stands = go_on(&mut press, &mut bench, 1000, turns);
+    end_of(&bench, stands)
+}
+
+/// The end of a run in which the robot asks twice after some turns, and then more turns come. A press that
+/// has stopped in the first goes on in none.
+fn visited(alloc: Global, start: State, turns: u32, calls: (Call, Call), more: u32) -> Option<Run> {
+    let mut press = PressCtl::new(&start, PressProgram);
+    let mut bench = Bench::new(alloc, start);
+    let waits_at = go_on(&mut press, &mut bench, 1000, turns).unwrap_or(0);
+    guest_asks(&press, &mut bench, Machine::Robot, calls.0);
+    guest_asks(&press, &mut bench, Machine::Robot, calls.1);
+    let stands = go_on(&mut press, &mut bench, waits_at, more);
+    end_of(&bench, stands)
+}
+
+/// What is seen of a run that ends with this.
+fn end_of(bench: &Bench, stands: Result<u16, CtlFault>) -> Option<Run> {
+    match stands {
+        Ok(position) => Some(Run {
+            state: bench.state(),
+            heard: bench.heard(),
+            position,
+        }),
+        Err(_) => None,
+    }
+}
+
+fn is_in_its_middle(run: &Run) -> bool {
+    run.position == 500
+        && run.heard.asks == 5
+        && run.state.owner(Zone::Z3).is_none()
+        && run.state.posture(Zone::Z3) == Posture::OpenIn
+        && run.state.stamp() == 4
+}
+
+#[test]
+fn the_press_comes_to_its_middle(rt: HostRuntime) {
+    let start = State::start(EMPTY, 0).expect(&rt, "a start");
+    let run = alone(rt.alloc(), start, 31).expect(&rt, "a run");
+    assert!(rt; is_in_its_middle(&run));
+}
+
+fn has_handed_its_plate_over(run: &Run) -> bool {
+    run.position == 0
+        && run.state.owner(Zone::Z3) == Some(Machine::Robot)
+        && run.state.flag(Zone::Z3)
+        && run.state.posture(Zone::Z3) == Posture::OpenOut
+        && run.state.stamp() == 7
+}
+
+#[test]
+fn the_press_forges_the_plate_that_it_starts_with(rt: HostRuntime) {
+    let start = State::start(IN_PRESS, 0).expect(&rt, "a start");
+    let run = alone(rt.alloc(), start, 59).expect(&rt, "a run");
+    assert!(rt; has_handed_its_plate_over(&run));
+}
+
+// Starts, turns, and then where the press stands, what it asked last, its answer and the stamp.
+const WAITS: &[([bool; 10], u32, u16, Call, Answer, u32)] = &[
+    (EMPTY, 31, 500, Call::Take(Zone::Z3), NOT_YET, 4),
+    (EMPTY, 40, 500, Call::Take(Zone::Z3), NOT_YET, 4),
+    (IN_PRESS_AND_ARM2, 59, 0, Call::Give(Zone::Z3), NO_ROOM, 6),
+    (IN_PRESS_AND_ARM2, 70, 0, Call::Give(Zone::Z3), NO_ROOM, 6),
+    (FORGED, 55, 0, Call::Give(Zone::Z3), DONE, 4),
+    (FORGED, 56, 0, Call::Claim(Zone::Z3), ROBOTS, 4),
+    (FORGED, 70, 0, Call::Claim(Zone::Z3), ROBOTS, 4),
+];
+
+#[test]
+fn the_press_waits_where_its_program_says_so(rt: HostRuntime) {
+    for (places, turns, position, call, answer, stamp) in WAITS {
+        let start = State::start(*places, 0).expect(&rt, "a start");
+        let run = alone(rt.alloc(), start, *turns).expect(&rt, "a run");
+        assert!(rt; run.position == *position, "after {turns}");
+        assert!(rt;
+            is_last(&run.heard, *call, *answer, *stamp),
+            "after {turns}"
+        );
+    }
+}
+
+// Starts, turns, the robot's calls, more turns, and then the same.
+const VISITS: &[([bool; 10], u32, (Call, Call), u32, u16, Call, Answer, u32)] = &[
+    (IN_PRESS, 60, TAKES, 1, 0, Call::Claim(Zone::Z3), DONE, 10),
+    (
+        IN_PRESS,
+        60,
+        TAKES,
+        29,
+        500,
+        Call::SetPose(Pose::Middle),
+        DONE,
+        12,
+    ),
+    (
+        IN_PRESS,
+        60,
+        TAKES,
+        31,
+        500,
+        Call::Take(Zone::Z3),
+        NOT_YET,
+        13,
+    ),
+    (ON_ARM1, 31, GIVES, 1, 500, Call::Take(Zone::Z3), DONE, 7),
+    (ON_ARM1, 31, GIVES, 30, 1000, Call::Advance, DONE, 10),
+];
+
+#[test]
+fn the_press_goes_on_once_the_robot_has_been_there(rt: HostRuntime) {
+    for (places, turns, calls, more, position, call, answer, stamp) in VISITS {
+        let start = State::start(*places, 0).expect(&rt, "a start");
+        let run = visited(rt.alloc(), start, *turns, *calls, *more).expect(&rt, "a run");
+        assert!(rt; run.position == *position, "after {more}");
+        assert!(rt; is_last(&run.heard, *call, *answer, *stamp), "after {more}");
+    }
+}
+
+const BROKEN: PressSense = PressSense {
+    bottom: true,
+    middle: false,
+    top: true,
+};
+
+/// Whether a press whose switches clash stops, and stays so without having asked.
+fn is_stopped(alloc: Global, start: State) -> bool {
+    let mut press = PressCtl::new(&start, PressProgram);
+    let mut bench = Bench::new(alloc, start);
+    bench.seat(Machine::Press, false);
+    let clash = CtlFault::Sensor(SensorFault::Clash);
+    let was_running = press.stopped().is_none();
+    let first = press.turn(&mut bench, &BROKEN);
+    let then = press.turn(&mut bench, &press_at(1000));
+    let told = first == Err(clash) && then == Err(CtlFault::Stopped);
+    was_running && told && press.stopped() == Some(clash) && bench.heard().asks == 0
+}
+
+#[test]
+fn a_press_whose_switches_clash_stops(rt: HostRuntime) {
+    let start = State::start(EMPTY, 0).expect(&rt, "a start");
+    assert!(rt; is_stopped(rt.alloc(), start));
+}

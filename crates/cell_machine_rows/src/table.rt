@@ -1,0 +1,342 @@
+//! The table's program over a bench, with a part that moves by its acts.
+ghost use Rattle.std.specs.Prelude.{◌≡◌, ◌≤◌, false, None, pos};
+ghost use Rattle.cell_types.specs.declared.machine.Machine.TheVariants.{Table as TableMachine};
+ghost use Rattle.cell_types.specs.Same.{same_machine};
+ghost use Rattle.cell_calib.specs.Line.{IsReading};
+ghost use Rattle.cell_control.specs.Steps.{IsReached};
+ghost use Rattle.cell_stations.specs.TableProgram.{table_steps};
+
+use super::asking::{EMPTY, NO_ROOM, NOT_YET, ROBOTS, guest_asks, is_last, moved};
+use cell_calib::{Calibration, Gauge, Points, SensorFault, TableSense, line_at};
+use cell_devices::Motor;
+use cell_rules::{Bench, Heard, Line, State};
+use cell_stations::{CtlFault, TableCtl, TableProgram};
+use cell_types::{Answer, Call, Machine, Pose, Posture, Zone};
+use std::alloc::Global;
+use std::process::Abort;
+
+const DONE: Answer = Answer::Done;
+
+// A plate on the table.
+const LOADED: [bool; 10] = [
+    false, false, true, false, false, false, false, false, false, false,
+];
+
+// A plate on the table, and one on the arm that would take it.
+const LOADED_AND_ARM1: [bool; 10] = [
+    false, false, true, true, false, false, false, false, false, false,
+];
+
+// A plate that the feed belt could give to the table.
+const AT_FEED_END: [bool; 10] = [
+    false, true, false, false, false, false, false, false, false, false,
+];
+
+// What another machine asks between the turns of the table: the robot takes a plate and goes, the feed belt
+// comes and gives one.
+const TAKES: (Call, Call) = (Call::Take(Zone::Z2), Call::Release(Zone::Z2));
+
+const GIVES: (Call, Call) = (Call::Claim(Zone::Z1), Call::Give(Zone::Z1));
+
+/// Where height and rotation stand.
+type At = (u16, u16);
+
+// The raw value goes from 0 to 4000 while the rotation goes from 0 to 500.
+fn table_at(at: At) -> TableSense {
+    TableSense {
+        bottom: at.0 <= 10,
+        top: at.0 >= 590,
+        turn: at.1.saturating_mul(8),
+    }
+}
+
+/// Where the table stands after so many turns, and in how many of them a motor was on.
+fn go_on<F: Gauge>(
+    table: &mut TableCtl<F>,
+    bench: &mut Bench,
+    from: At,
+    turns: u32,
+) -> Result<(At, u32), CtlFault>
+    requires reached { table.old.stopped ≡ None → IsReached (table_steps table.old.program.turn.points (F.gives table.old.program.turn.gauge)) bench.old.opening bench.old.history.items table.old.progress }
+    ensures own { bench.new.machine ≡ TableMachine }
+    ensures reached { table.new.stopped ≡ None → IsReached (table_steps table.new.program.turn.points (F.gives table.new.program.turn.gauge)) bench.new.opening bench.new.history.items table.new.progress }
+{
+    let (mut lift, mut turn) = from;
+    let mut driven = 0u32;
+    bench.seat(Machine::Table, false);
+    'turns: for _ in 0..turns {
+        let act = table.turn(bench, &table_at((lift, turn)))?;
+        lift = moved(lift, act.height, 600);
+        turn = moved(turn, act.rotation, 500);
+        if act.height != Motor::Off || act.rotation != Motor::Off {
+            driven = driven.saturating_add(1);
+        }
+    }
+    Ok(((lift, turn), driven))
+}
+
+// The end of a run.
+#[derive(Drop)]
+struct Run {
+    state: State,
+    heard: Heard,
+    at: At,
+    driven: u32,
+}
+
+/// What is seen of a run that ends with this.
+fn end_of(bench: &Bench, stands: Result<(At, u32), CtlFault>) -> Option<Run> {
+    match stands {
+        Ok((at, driven)) => Some(Run {
+            state: bench.state(),
+            heard: bench.heard(),
+            at,
+            driven,
+        }),
+        Err(_) => None,
+    }
+}
+
+/// The end of a run of the table alone.
+fn alone_by<F: Gauge>(
+    alloc: Global,
+    gauge: F,
+    points: Points,
+    start: State,
+    turns: u32,
+) -> Option<Run>
+    requires { F.keeps gauge points }
+{
+    let mut table = TableCtl::new(&start, TableProgram::new(Calibration::new(gauge, points)));
+    let mut bench = Bench::new(alloc, start);
+    let stands = go_on(&mut table, &mut bench, (0, 0), turns);
+    end_of(&bench, stands)
+}
+
+/// The same with a gauge that gives the line.
+fn alone(alloc: Global, points: Points, start: State, turns: u32) -> Option<Run> {
+    let gauge = move |raw: u16| line_at(&points, raw);
+    alone_by(alloc, gauge, points, start, turns)
+}
+
+/// The end of a run in which another machine asks twice after some turns, and then more turns come. A table
+/// that has stopped in the first goes on in none.
+fn visited_by<F: Gauge>(
+    alloc: Global,
+    gauge: F,
+    points: Points,
+    start: State,
+    turns: u32,
+    guest: Machine,
+    calls: (Call, Call),
+    more: u32,
+) -> Option<Run>
+    requires keeps { F.keeps gauge points }
+    requires guest { same_machine guest TableMachine ≡ false }
+{
+    let mut table = TableCtl::new(&start, TableProgram::new(Calibration::new(gauge, points)));
+    let mut bench = Bench::new(alloc, start);
+    let (waits_at, _) = go_on(&mut table, &mut bench, (0, 0), turns).unwrap_or(((0, 0), 0));
+    guest_asks(&table, &mut bench, guest, calls.0);
+    guest_asks(&table, &mut bench, guest, calls.1);
+    let stands = go_on(&mut table, &mut bench, waits_at, more);
+    end_of(&bench, stands)
+}
+
+/// The same with a gauge that gives the line.
+fn visited(
+    alloc: Global,
+    points: Points,
+    start: State,
+    turns: u32,
+    guest: Machine,
+    calls: (Call, Call),
+    more: u32,
+) -> Option<Run>
+    requires { same_machine guest TableMachine ≡ false }
+{
+    let gauge = move |raw: u16| line_at(&points, raw);
+    visited_by(alloc, gauge, points, start, turns, guest, calls, more)
+}
+
+/// The points of the rotation.
+fn scale(rt: &impl Abort) -> Points {
+    Points::new(0, 4000, 0, 500, 5).expect(rt, "points")
+}
+
+/// A start without a stamp.
+fn start_of(rt: &impl Abort, places: [bool; 10]) -> State {
+    State::start(places, 0).expect(rt, "a start")
+}
+
+fn waits_for_a_plate(run: &Run) -> bool {
+    run.heard.asks == 6
+        && run.at == (0, 0)
+        && run.driven == 0
+        && run.state.owner(Zone::Z1).is_none()
+        && run.state.posture(Zone::Z1) == Posture::OpenIn
+        && run.state.owner(Zone::Z2) == Some(Machine::Table)
+        && run.state.stamp() == 5
+}
+
+#[test]
+fn the_table_waits_for_a_plate(rt: HostRuntime) {
+    let run = alone(rt.alloc(), scale(&rt), start_of(&rt, EMPTY), 7).expect(&rt, "a run");
+    assert!(rt; waits_for_a_plate(&run));
+}
+
+fn has_handed_its_plate_over(run: &Run) -> bool {
+    run.heard.asks == 6
+        && run.at == (600, 500)
+        && run.driven == 30
+        && run.state.owner(Zone::Z2) == Some(Machine::Robot)
+        && run.state.flag(Zone::Z2)
+        && run.state.posture(Zone::Z2) == Posture::OpenOut
+        && run.state.stamp() == 5
+}
+
+#[test]
+fn the_table_hands_its_plate_over(rt: HostRuntime) {
+    let run = alone(rt.alloc(), scale(&rt), start_of(&rt, LOADED), 37).expect(&rt, "a run");
+    assert!(rt; has_handed_its_plate_over(&run));
+}
+
+// Starts, turns, and then where the table stands, what it asked last, its answer and the stamp.
+const WAITS: &[([bool; 10], u32, At, Call, Answer, u32)] = &[
+    (EMPTY, 7, (0, 0), Call::Take(Zone::Z1), NOT_YET, 5),
+    (EMPTY, 20, (0, 0), Call::Take(Zone::Z1), NOT_YET, 5),
+    (
+        LOADED_AND_ARM1,
+        36,
+        (600, 500),
+        Call::Give(Zone::Z2),
+        NO_ROOM,
+        4,
+    ),
+    (
+        LOADED_AND_ARM1,
+        50,
+        (600, 500),
+        Call::Give(Zone::Z2),
+        NO_ROOM,
+        4,
+    ),
+    (LOADED, 36, (600, 500), Call::Give(Zone::Z2), DONE, 5),
+    (LOADED, 37, (600, 500), Call::Claim(Zone::Z2), ROBOTS, 5),
+    (LOADED, 50, (600, 500), Call::Claim(Zone::Z2), ROBOTS, 5),
+];
+
+#[test]
+fn the_table_waits_where_its_program_says_so(rt: HostRuntime) {
+    for (places, turns, at, call, answer, stamp) in WAITS {
+        let start = start_of(&rt, *places);
+        let run = alone(rt.alloc(), scale(&rt), start, *turns).expect(&rt, "a run");
+        assert!(rt; run.at == *at, "after {turns}");
+        assert!(rt;
+            is_last(&run.heard, *call, *answer, *stamp),
+            "after {turns}"
+        );
+    }
+}
+
+// More turns once the robot has been there, and then the same.
+const VISITS: &[(u32, At, Call, Answer, u32)] = &[
+    (1, (600, 500), Call::Claim(Zone::Z2), DONE, 8),
+    (34, (0, 0), Call::SetPose(Pose::Loading), DONE, 10),
+    (36, (0, 0), Call::Take(Zone::Z1), NOT_YET, 11),
+];
+
+#[test]
+fn the_table_goes_on_once_the_robot_has_been_there(rt: HostRuntime) {
+    let start = start_of(&rt, LOADED);
+    let robot = Machine::Robot;
+    for (more, at, call, answer, stamp) in VISITS {
+        let run = visited(rt.alloc(), scale(&rt), start, 37, robot, TAKES, *more);
+        let run = run.expect(&rt, "a run");
+        assert!(rt; run.at == *at, "after {more}");
+        assert!(rt; is_last(&run.heard, *call, *answer, *stamp), "after {more}");
+    }
+}
+
+#[test]
+fn the_table_takes_the_plate_of_the_feed_belt(rt: HostRuntime) {
+    let start = start_of(&rt, AT_FEED_END);
+    let run = visited(rt.alloc(), scale(&rt), start, 7, Machine::Feed, GIVES, 1);
+    let run = run.expect(&rt, "a run");
+    assert!(rt; run.at == (0, 0));
+    assert!(rt; is_last(&run.heard, Call::Take(Zone::Z1), DONE, 8));
+}
+
+// A reading of the line from 0 to 500 over the raw values up to 4000: too high by the tolerance of 5.
+fn too_high(raw: u16) -> i32
+    requires { raw ≤ 4000 }
+    ensures { IsReading (record { raw_lo = 0; raw_hi = 4000; at_lo = pos 0; at_hi = pos 500; tol = pos 5 }) raw result }
+{
+    let above = raw / 8 + 5;
+    if above < 500 { i32::from(above) } else { 500 }
+}
+
+#[test]
+fn the_table_turns_by_what_its_gauge_gives(rt: HostRuntime) {
+    let points = Points::new(0, 4000, 0, 500, 5).expect(&rt, "points");
+    let gauge = move |raw: u16| too_high(raw);
+    let start = start_of(&rt, LOADED);
+    let run = alone_by(rt.alloc(), gauge, points, start, 37).expect(&rt, "a run");
+    assert!(rt; run.at == (600, 480));
+}
+
+// What the table's sensors say: its two switches, and the raw value of its rotation.
+fn shows(bottom: bool, top: bool, turn: u16) -> TableSense {
+    TableSense { bottom, top, turn }
+}
+
+/// Whether the table stops where its sensors show this, and stays so without having asked.
+fn is_stopped_by<F: Gauge>(
+    alloc: Global,
+    gauge: F,
+    points: Points,
+    start: State,
+    broken: TableSense,
+    fault: SensorFault,
+) -> bool
+    requires { F.keeps gauge points }
+{
+    let mut table = TableCtl::new(&start, TableProgram::new(Calibration::new(gauge, points)));
+    let mut bench = Bench::new(alloc, start);
+    bench.seat(Machine::Table, false);
+    let stop = CtlFault::Sensor(fault);
+    let first = table.turn(&mut bench, &broken);
+    let then = table.turn(&mut bench, &shows(true, false, 100));
+    let told = first == Err(stop) && then == Err(CtlFault::Stopped);
+    told && table.stopped() == Some(stop) && bench.heard().asks == 0
+}
+
+/// The same with a gauge that gives the line.
+fn is_stopped(
+    alloc: Global,
+    points: Points,
+    start: State,
+    broken: TableSense,
+    fault: SensorFault,
+) -> bool {
+    let gauge = move |raw: u16| line_at(&points, raw);
+    is_stopped_by(alloc, gauge, points, start, broken, fault)
+}
+
+// What is shown, and the fault.
+const WRONG: &[(bool, bool, u16, SensorFault)] = &[
+    (true, true, 100, SensorFault::Clash),
+    (true, true, 99, SensorFault::Clash),
+    (true, false, 99, SensorFault::Low),
+    (false, true, 4101, SensorFault::High),
+];
+
+#[test]
+fn a_table_whose_sensors_are_wrong_stops(rt: HostRuntime) {
+    let points = Points::new(100, 4100, 0, 500, 5).expect(&rt, "points");
+    let start = start_of(&rt, EMPTY);
+    for (bottom, top, turn, fault) in WRONG {
+        let broken = shows(*bottom, *top, *turn);
+        assert!(rt; is_stopped(rt.alloc(), points, start, broken, *fault));
+    }
+}
