@@ -6,3 +6,5 @@
 mod benches;
 #[cfg(test)]
 mod play;
+#[cfg(test)]
+mod rows;

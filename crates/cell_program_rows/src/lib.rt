@@ -1,5 +1,6 @@
-//! Rows of the program: what it answers and writes, with expectations that were worked out by hand from
-//! the rules of the cell and from its formats. They use public calls alone.
+//! Rows of the program: what it answers and writes, with expectations that were worked out apart from it:
+//! by hand from the rules of the cell and from its formats, those of long runs by another program. They use
+//! public calls alone.
 #![tactic(auto)]
 
 #[cfg(test)]

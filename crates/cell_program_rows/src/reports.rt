@@ -1,4 +1,5 @@
-//! Reports of runs, worked out by hand from the programs of the controllers and the figures of the plant.
+//! Reports of runs, worked out by hand from the programs of the controllers and the figures of the plant;
+//! those of long runs of six machines were made by `bench/plain/sim.rs`.
 
 /// The configuration of a run of the press alone.
 pub const PRESS: &str = "start = \"0000000000\"\nschedule = \"ppppppppppppppppppppppppppppppp\"\n";
