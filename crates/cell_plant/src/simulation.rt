@@ -89,63 +89,17 @@ impl<F1: Gauge, F2: Gauge, F3: Gauge, F4: Gauge, F5: Gauge> Simulation<F1, F2, F
         requires room { (m : Machine) → HasRoom (notes_in self.old.notes m).counts }
         ensures { IfOk result (λ _. StepsOn turn self.old self.new) }
     {
-        let bench = &mut self.bench;
-        let notebooks = &mut self.notebooks;
-        match turn.machine {
-            Machine::Feed => {
-                seat_turn(
-                    bench,
-                    &mut notebooks.feed,
-                    &mut self.cell.feed,
-                    turn.machine,
-                    turn.busy,
-                )
-            }
-            Machine::Table => {
-                seat_turn(
-                    bench,
-                    &mut notebooks.table,
-                    &mut self.cell.table,
-                    turn.machine,
-                    turn.busy,
-                )
-            }
-            Machine::Robot => {
-                seat_turn(
-                    bench,
-                    &mut notebooks.robot,
-                    &mut self.cell.robot,
-                    turn.machine,
-                    turn.busy,
-                )
-            }
-            Machine::Press => {
-                seat_turn(
-                    bench,
-                    &mut notebooks.press,
-                    &mut self.cell.press,
-                    turn.machine,
-                    turn.busy,
-                )
-            }
+        let Turn { machine, busy } = turn;
+        let (bench, notes, cell) = (&mut self.bench, &mut self.notebooks, &mut self.cell);
+        match machine {
+            Machine::Feed => seat_turn(bench, &mut notes.feed, &mut cell.feed, machine, busy),
+            Machine::Table => seat_turn(bench, &mut notes.table, &mut cell.table, machine, busy),
+            Machine::Robot => seat_turn(bench, &mut notes.robot, &mut cell.robot, machine, busy),
+            Machine::Press => seat_turn(bench, &mut notes.press, &mut cell.press, machine, busy),
             Machine::Deposit => {
-                seat_turn(
-                    bench,
-                    &mut notebooks.deposit,
-                    &mut self.cell.deposit,
-                    turn.machine,
-                    turn.busy,
-                )
+                seat_turn(bench, &mut notes.deposit, &mut cell.deposit, machine, busy)
             }
-            Machine::Crane => {
-                seat_turn(
-                    bench,
-                    &mut notebooks.crane,
-                    &mut self.cell.crane,
-                    turn.machine,
-                    turn.busy,
-                )
-            }
+            Machine::Crane => seat_turn(bench, &mut notes.crane, &mut cell.crane, machine, busy),
             Machine::Watch => Ok(()),
         }
     }
