@@ -66,23 +66,38 @@ const POSES: &[(&str, Option<Pose>)] = &[
 ];
 
 fn is_machine(word: &str, wanted: Option<Machine>) -> bool {
-    Machine::read(word.as_bytes()) == wanted && wanted.is_none_or(|machine| machine.word() == word)
+    match wanted {
+        Some(machine) => Machine::read(word.as_bytes()) == wanted && machine.word() == word,
+        None => Machine::read(word.as_bytes()).is_none(),
+    }
 }
 
 fn is_zone(word: &str, wanted: Option<Zone>) -> bool {
-    Zone::read(word.as_bytes()) == wanted && wanted.is_none_or(|zone| zone.word() == word)
+    match wanted {
+        Some(zone) => Zone::read(word.as_bytes()) == wanted && zone.word() == word,
+        None => Zone::read(word.as_bytes()).is_none(),
+    }
 }
 
 fn is_place(word: &str, wanted: Option<Place>) -> bool {
-    Place::read(word.as_bytes()) == wanted && wanted.is_none_or(|place| place.word() == word)
+    match wanted {
+        Some(place) => Place::read(word.as_bytes()) == wanted && place.word() == word,
+        None => Place::read(word.as_bytes()).is_none(),
+    }
 }
 
 fn is_posture(word: &str, wanted: Option<Posture>) -> bool {
-    Posture::read(word.as_bytes()) == wanted && wanted.is_none_or(|posture| posture.word() == word)
+    match wanted {
+        Some(posture) => Posture::read(word.as_bytes()) == wanted && posture.word() == word,
+        None => Posture::read(word.as_bytes()).is_none(),
+    }
 }
 
 fn is_pose(word: &str, wanted: Option<Pose>) -> bool {
-    Pose::read(word.as_bytes()) == wanted && wanted.is_none_or(|pose| pose.word() == word)
+    match wanted {
+        Some(pose) => Pose::read(word.as_bytes()) == wanted && pose.word() == word,
+        None => Pose::read(word.as_bytes()).is_none(),
+    }
 }
 
 #[test]
@@ -164,10 +179,7 @@ const NO_CALLS: &[(&str, Option<&str>)] = &[
 ];
 
 fn read(verb: &str, object: Option<&str>) -> Option<Call> {
-    match object {
-        Some(object) => Call::read(verb.as_bytes(), Some(object.as_bytes())),
-        None => Call::read(verb.as_bytes(), None),
-    }
+    Call::read(verb.as_bytes(), object.map(str::as_bytes))
 }
 
 #[test]

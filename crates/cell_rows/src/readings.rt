@@ -6,7 +6,6 @@ use cell_calib::{
     SensorVector, line_at, line_reading, switches_agree,
 };
 use std::process::Abort;
-use std::test::Fail;
 
 // What a controller does with a calibration: keeps it in a struct of its own, and reads.
 #[derive(Drop)]
@@ -46,33 +45,39 @@ fn expect_readings<F: Gauge>(
     meter.faults
 }
 
+// Raw values and readings.
+const BY_LINE: &[(u16, Result<i32, SensorFault>)] = &[
+    (100, Ok(0)),
+    (101, Ok(0)),
+    (104, Ok(1)),
+    (2050, Ok(500)),
+    (3999, Ok(999)),
+    (4000, Ok(1000)),
+    (99, Err(SensorFault::Low)),
+    (4001, Err(SensorFault::High)),
+];
+
 #[test]
-fn reads_by_the_line(rt: HostRuntime) -> Result<(), Fail> {
-    let points = Points::new(100, 4000, 0, 1000, 1)?;
-    let faults = expect_readings(
-        &rt,
-        move |raw: u16| line_at(&points, raw),
-        points,
-        &[
-            (100, Ok(0)),
-            (101, Ok(0)),
-            (104, Ok(1)),
-            (2050, Ok(500)),
-            (3999, Ok(999)),
-            (4000, Ok(1000)),
-            (99, Err(SensorFault::Low)),
-            (4001, Err(SensorFault::High)),
-        ],
-    );
+fn reads_by_the_line(rt: HostRuntime) {
+    let points = Points::new(100, 4000, 0, 1000, 1).expect(&rt, "points");
+    let faults = expect_readings(&rt, move |raw: u16| line_at(&points, raw), points, BY_LINE);
     assert!(rt; faults == 2);
     assert!(rt; line_reading(points, 2050) == Ok(500));
     assert!(rt; line_reading(points, 99) == Err(SensorFault::Low));
-    Ok(())
 }
 
+const BY_TABLE: &[(u16, Result<i32, SensorFault>)] = &[
+    (0, Ok(-200)),
+    (1, Ok(-97)),
+    (2, Ok(-5)),
+    (3, Ok(105)),
+    (4, Ok(200)),
+    (5, Err(SensorFault::High)),
+];
+
 #[test]
-fn reads_by_a_table(rt: HostRuntime) -> Result<(), Fail> {
-    let points = Points::new(0, 4, -200, 200, 5)?;
+fn reads_by_a_table(rt: HostRuntime) {
+    let points = Points::new(0, 4, -200, 200, 5).expect(&rt, "points");
     let measured = [-200, -97, -5, 105, 200];
     expect_readings(
         &rt,
@@ -81,16 +86,8 @@ fn reads_by_a_table(rt: HostRuntime) -> Result<(), Fail> {
             ensures { slice_get measured raw ≡ Some result }
         { measured[usize::from(raw)] },
         points,
-        &[
-            (0, Ok(-200)),
-            (1, Ok(-97)),
-            (2, Ok(-5)),
-            (3, Ok(105)),
-            (4, Ok(200)),
-            (5, Err(SensorFault::High)),
-        ],
+        BY_TABLE,
     );
-    Ok(())
 }
 
 // The lowest and the highest raw value, the positions at them, and the tolerance.
