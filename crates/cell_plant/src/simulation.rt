@@ -89,17 +89,34 @@ impl<F1: Gauge, F2: Gauge, F3: Gauge, F4: Gauge, F5: Gauge> Simulation<F1, F2, F
         requires room { (m : Machine) → HasRoom (notes_in self.old.notes m).counts }
         ensures { IfOk result (λ _. StepsOn turn self.old self.new) }
     {
+        let bench = &mut self.bench;
+        let notes = &mut self.notebooks;
         let Turn { machine, busy } = turn;
-        let (bench, notes, cell) = (&mut self.bench, &mut self.notebooks, &mut self.cell);
         match machine {
-            Machine::Feed => seat_turn(bench, &mut notes.feed, &mut cell.feed, machine, busy),
-            Machine::Table => seat_turn(bench, &mut notes.table, &mut cell.table, machine, busy),
-            Machine::Robot => seat_turn(bench, &mut notes.robot, &mut cell.robot, machine, busy),
-            Machine::Press => seat_turn(bench, &mut notes.press, &mut cell.press, machine, busy),
-            Machine::Deposit => {
-                seat_turn(bench, &mut notes.deposit, &mut cell.deposit, machine, busy)
+            Machine::Feed => {
+                seat_turn(bench, &mut notes.feed, &mut self.cell.feed, machine, busy)
             }
-            Machine::Crane => seat_turn(bench, &mut notes.crane, &mut cell.crane, machine, busy),
+            Machine::Table => {
+                seat_turn(bench, &mut notes.table, &mut self.cell.table, machine, busy)
+            }
+            Machine::Robot => {
+                seat_turn(bench, &mut notes.robot, &mut self.cell.robot, machine, busy)
+            }
+            Machine::Press => {
+                seat_turn(bench, &mut notes.press, &mut self.cell.press, machine, busy)
+            }
+            Machine::Deposit => {
+                seat_turn(
+                    bench,
+                    &mut notes.deposit,
+                    &mut self.cell.deposit,
+                    machine,
+                    busy,
+                )
+            }
+            Machine::Crane => {
+                seat_turn(bench, &mut notes.crane, &mut self.cell.crane, machine, busy)
+            }
             Machine::Watch => Ok(()),
         }
     }
