@@ -158,8 +158,8 @@ const LETTERS: [&str; 6] = ["f", "t", "r", "p", "d", "c"];
 
 const CAPITALS: [&str; 6] = ["F", "T", "R", "P", "D", "C"];
 
-/// So many turns of all machines, with turns that find the interlock busy among them.
-pub fn random_schedule(alloc: Global, seed: usize, turns: usize) -> Result<String, AllocError> {
+// So many turns of all machines, with turns that find the interlock busy among them.
+fn random_schedule(alloc: Global, seed: usize, turns: usize) -> Result<String, AllocError> {
     let mut schedule = String::new(alloc);
     let mut state = seed as u64;
     for _ in 0..turns {
@@ -172,8 +172,8 @@ pub fn random_schedule(alloc: Global, seed: usize, turns: usize) -> Result<Strin
     Ok(schedule)
 }
 
-/// Whether a configuration is simulated, no machine is stopped, and the report ends so.
-pub fn ends(alloc: Global, config: &str, end: &[u8]) -> bool {
+// Whether a configuration is simulated, no machine is stopped, and the report ends so.
+fn ends(alloc: Global, config: &str, end: &[u8]) -> bool {
     let mut written = Vec::new(alloc);
     let status = run(alloc, SIM, &mut config.as_bytes(), &mut written);
     status == 0 && written.as_slice().ends_with(end)
@@ -199,12 +199,12 @@ fn audits_random_schedules(rt: HostRuntime) -> Result<(), Fail> {
 }
 
 // Whatever growth is refused: the report of a run, in which a machine may have stopped for want of
-// memory, or the line of that fault.
+// memory, or the line of that fault. Within three turns every machine asks.
 #[test]
 fn simulates_without_memory(rt: HostRuntime) {
     let mut room = [0u8; 2000];
     let mut writer = &mut room[..];
-    let config = "start = \"0000000000\"\nschedule = \"ftrpdcppp\"";
+    let config = "start = \"0000000000\"\nschedule = \"ftrpdcftrpdcftrpdc\"";
     let status = run(rt.alloc(), SIM, &mut config.as_bytes(), &mut writer);
     let left = writer.len();
     let written = &room[..2000usize.saturating_sub(left)];

@@ -1,10 +1,11 @@
-//! Simulations in which all six machines move, with reports that were worked out apart from the program.
+//! Simulations in which several machines move, or all six, with reports that were worked out apart from
+//! the program.
 
 use super::doubles::is_served;
 use super::reports::{
     ARM_TO_PRESS, CARRIED_ROUND, CRANE_TO_FEED, FEED_TO_TABLE, FOUR_PLATES, STANDSTILL,
 };
-use super::simulations::{SIM, ends, random_schedule, scheduled};
+use super::simulations::{SIM, scheduled};
 use std::alloc::{AllocError, Global};
 use std::test::Fail;
 
@@ -13,9 +14,21 @@ type Runs<'a> = &'a [(usize, &'a str)];
 
 /// Starts and schedules, with the reports of their runs.
 const RUNS: &[(&str, Runs<'static>, &str)] = &[
-    ("0100000000", &[(6, "t"), (11, "f"), (1, "t")], FEED_TO_TABLE),
-    ("0001000000", &[(30, "p"), (143, "r"), (1, "p")], ARM_TO_PRESS),
-    ("0000000001", &[(3, "f"), (160, "c"), (1, "f")], CRANE_TO_FEED),
+    (
+        "0100000000",
+        &[(6, "t"), (11, "f"), (1, "t")],
+        FEED_TO_TABLE,
+    ),
+    (
+        "0001000000",
+        &[(30, "p"), (143, "r"), (1, "p")],
+        ARM_TO_PRESS,
+    ),
+    (
+        "0000000001",
+        &[(3, "f"), (160, "c"), (1, "f")],
+        CRANE_TO_FEED,
+    ),
     ("1000000000", ONE_ROUND, CARRIED_ROUND),
     ("1010100010", &[(3333, "ftrpdc"), (1, "ft")], FOUR_PLATES),
     ("1011101010", &[(400, "ftrpdc")], STANDSTILL),
@@ -55,40 +68,10 @@ fn config_of(alloc: Global, start: &str, runs: Runs<'_>) -> Result<String, Alloc
 fn plates_go_round(rt: HostRuntime) -> Result<(), Fail> {
     for (start, runs, report) in RUNS {
         let config = config_of(rt.alloc(), start, runs)?;
-        assert!(rt; is_served(rt.alloc(), SIM, config.as_str(), 0, report), "{start}");
-    }
-    Ok(())
-}
-
-// The feed belt pushes its plate onto the table, and one of its turns finds the interlock busy.
-#[test]
-fn a_busy_turn_stops_nobody(rt: HostRuntime) -> Result<(), Fail> {
-    for place in 0..11usize {
-        let runs = [(6, "t"), (place, "f"), (1, "F"), (10 - place, "f"), (1, "t")];
-        let config = config_of(rt.alloc(), "0100000000", &runs)?;
-        assert!(rt; ends(rt.alloc(), config.as_str(), b" plates 1\naudit ok\n"), "{place}");
-    }
-    Ok(())
-}
-
-#[test]
-fn one_plate_from_any_place(rt: HostRuntime) -> Result<(), Fail> {
-    let places = [
-        "1000000000",
-        "0100000000",
-        "0010000000",
-        "0001000000",
-        "0000100000",
-        "0000010000",
-        "0000001000",
-        "0000000100",
-        "0000000010",
-        "0000000001",
-    ];
-    for (seed, start) in places.iter().enumerate() {
-        let schedule = random_schedule(rt.alloc(), seed, 5000)?;
-        let config = scheduled(rt.alloc(), start, schedule.as_str())?;
-        assert!(rt; ends(rt.alloc(), config.as_str(), b" plates 1\naudit ok\n"), "{start}");
+        assert!(rt;
+            is_served(rt.alloc(), SIM, config.as_str(), 0, report),
+            "{start}"
+        );
     }
     Ok(())
 }
