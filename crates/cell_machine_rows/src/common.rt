@@ -1,15 +1,21 @@
-//! What the rows of press and table share: another machine's calls, and an axis that its motor moves.
+//! What the rows share: starts, and for press and table another machine's calls and an axis that its motor moves.
 ghost use Rattle.std.specs.Prelude.{◌≡◌, false, None};
 ghost use Rattle.cell_types.specs.Same.{same_machine};
 ghost use Rattle.cell_control.specs.Steps.{IsReached};
 
 use cell_control::{Controller, Program};
 use cell_devices::Motor;
-use cell_rules::{Answered, Bench, Heard, Line};
+use cell_rules::{Answered, Bench, Heard, Line, State};
 use cell_types::{Answer, Call, Machine, Refusal, Reply};
+use std::process::Abort;
 
 /// No place is full.
 pub const EMPTY: [bool; 10] = [false; 10];
+
+/// A start with these places and stamp 0.
+pub fn start_of(rt: &impl Abort, places: [bool; 10]) -> State {
+    State::start(places, 0).expect(rt, "a start")
+}
 
 /// The refusal of a call that needs a right, while nobody has it.
 pub const NOT_YET: Answer = Answer::Refused(Refusal::NotOwner(None));

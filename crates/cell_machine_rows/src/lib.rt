@@ -4,7 +4,7 @@
 #![tactic(auto)]
 
 #[cfg(test)]
-mod asking;
+mod common;
 #[cfg(test)]
 mod drives;
 #[cfg(test)]

@@ -1,26 +1,19 @@
 //! The parts, told and moved by hand.
 
+use super::common::{EMPTY, start_of};
 use cell_calib::{CraneSense, Points, PressSense, RobotSense, TableSense};
 use cell_control::Part;
 use cell_devices::{CraneAct, DepositAct, FeedAct, Motor, PressAct, RobotAct, TableAct};
 use cell_parts::{
     Belt, CranePart, DepositPart, FeedPart, PressPart, RobotPart, RobotPoints, TablePart,
 };
-use cell_rules::State;
 use cell_types::{Answer, Call, Event, Machine, Zone};
 use std::process::Abort;
-
-const EMPTY: [bool; 10] = [false; 10];
 
 // Plates on the first arm and on the crane.
 const HELD: [bool; 10] = [
     false, false, false, true, false, false, false, false, false, true,
 ];
-
-// A start with these places.
-fn start_of(rt: &impl Abort, places: [bool; 10]) -> State {
-    State::start(places, 0).expect(rt, "a start")
-}
 
 // Raw values from 100 to 4100 over an axis.
 fn points_of(rt: &impl Abort, end: i32) -> Points {

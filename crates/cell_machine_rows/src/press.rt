@@ -4,7 +4,7 @@ ghost use Rattle.cell_types.specs.declared.machine.Machine.TheVariants.{Press};
 ghost use Rattle.cell_control.specs.Steps.{IsReached};
 ghost use Rattle.cell_stations.specs.PressProgram.{press_steps};
 
-use super::asking::{EMPTY, NO_ROOM, NOT_YET, ROBOTS, guest_asks, is_last, moved};
+use super::common::{EMPTY, NO_ROOM, NOT_YET, ROBOTS, guest_asks, is_last, moved, start_of};
 use cell_calib::{PressSense, SensorFault};
 use cell_rules::{Bench, Heard, Line, State};
 use cell_stations::{CtlFault, PressCtl, PressProgram};
@@ -111,7 +111,7 @@ fn is_in_its_middle(run: &Run) -> bool {
 
 #[test]
 fn the_press_comes_to_its_middle(rt: HostRuntime) {
-    let start = State::start(EMPTY, 0).expect(&rt, "a start");
+    let start = start_of(&rt, EMPTY);
     let run = alone(rt.alloc(), start, 31).expect(&rt, "a run");
     assert!(rt; is_in_its_middle(&run));
 }
@@ -126,7 +126,7 @@ fn has_handed_its_plate_over(run: &Run) -> bool {
 
 #[test]
 fn the_press_forges_the_plate_that_it_starts_with(rt: HostRuntime) {
-    let start = State::start(IN_PRESS, 0).expect(&rt, "a start");
+    let start = start_of(&rt, IN_PRESS);
     let run = alone(rt.alloc(), start, 59).expect(&rt, "a run");
     assert!(rt; has_handed_its_plate_over(&run));
 }
@@ -145,7 +145,7 @@ const WAITS: &[([bool; 10], u32, u16, Call, Answer, u32)] = &[
 #[test]
 fn the_press_waits_where_its_program_says_so(rt: HostRuntime) {
     for (places, turns, position, call, answer, stamp) in WAITS {
-        let start = State::start(*places, 0).expect(&rt, "a start");
+        let start = start_of(&rt, *places);
         let run = alone(rt.alloc(), start, *turns).expect(&rt, "a run");
         assert!(rt; run.position == *position, "after {turns}");
         assert!(rt;
@@ -185,7 +185,7 @@ const VISITS: &[([bool; 10], u32, (Call, Call), u32, u16, Call, Answer, u32)] = 
 #[test]
 fn the_press_goes_on_once_the_robot_has_been_there(rt: HostRuntime) {
     for (places, turns, calls, more, position, call, answer, stamp) in VISITS {
-        let start = State::start(*places, 0).expect(&rt, "a start");
+        let start = start_of(&rt, *places);
         let run = visited(rt.alloc(), start, *turns, *calls, *more).expect(&rt, "a run");
         assert!(rt; run.position == *position, "after {more}");
         assert!(rt; is_last(&run.heard, *call, *answer, *stamp), "after {more}");
@@ -213,6 +213,6 @@ fn is_stopped(alloc: Global, start: State) -> bool {
 
 #[test]
 fn a_press_whose_switches_clash_stops(rt: HostRuntime) {
-    let start = State::start(EMPTY, 0).expect(&rt, "a start");
+    let start = start_of(&rt, EMPTY);
     assert!(rt; is_stopped(rt.alloc(), start));
 }

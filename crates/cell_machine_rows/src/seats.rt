@@ -1,6 +1,6 @@
 //! Seats, at which sits a machine that claims the press's interior, and once that is done lights a lamp.
 
-use super::asking::EMPTY;
+use super::common::EMPTY;
 use cell_calib::SensorFault;
 use cell_control::{Controller, CtlFault, Part, Program};
 use cell_notes::{Counts, Notebook, Status};

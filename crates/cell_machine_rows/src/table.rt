@@ -6,7 +6,7 @@ ghost use Rattle.cell_calib.specs.Line.{IsReading};
 ghost use Rattle.cell_control.specs.Steps.{IsReached};
 ghost use Rattle.cell_stations.specs.TableProgram.{table_steps};
 
-use super::asking::{EMPTY, NO_ROOM, NOT_YET, ROBOTS, guest_asks, is_last, moved};
+use super::common::{EMPTY, NO_ROOM, NOT_YET, ROBOTS, guest_asks, is_last, moved, start_of};
 use cell_calib::{Calibration, Gauge, Points, SensorFault, TableSense, line_at};
 use cell_devices::Motor;
 use cell_rules::{Bench, Heard, Line, State};
@@ -162,11 +162,6 @@ fn visited(
 /// The points of the rotation.
 fn scale(rt: &impl Abort) -> Points {
     Points::new(0, 4000, 0, 500, 5).expect(rt, "points")
-}
-
-/// A start without a stamp.
-fn start_of(rt: &impl Abort, places: [bool; 10]) -> State {
-    State::start(places, 0).expect(rt, "a start")
 }
 
 fn waits_for_a_plate(run: &Run) -> bool {

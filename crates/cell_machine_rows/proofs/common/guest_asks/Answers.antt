@@ -4,7 +4,7 @@ use Rattle.cell_rules.specs.BenchView.{desk_of}
 use Rattle.cell_rules.specs.History.{own_events}
 use Rattle.cell_control.specs.Steps.{IsReached}
 use Rattle.cell_control.proofs.BenchLemmas.{asks_others, reached_others}
-use Rattle.cell_machine_rows.proofs.asking.guest_asks.Goals as goal
+use Rattle.cell_machine_rows.proofs.common.guest_asks.Goals as goal
 
 pub returns : goal.returns
 returns g c =
