@@ -67,7 +67,6 @@ impl Noted {
 fn push_journal(all: &mut Vec<Noted>, machine: Machine, journal: &[Entry]) -> Result<(), AllocError>
     ensures { IfOk result (λ _. all.new.items ≡ all.old.items ++ order.noted_from machine [] journal.now) }
 {
-    all.reserve(journal.len())?;
     let mut latest = 0;
     for entry in journal {
         let key = key(entry);
