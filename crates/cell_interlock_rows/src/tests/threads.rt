@@ -126,15 +126,17 @@ fn two<R: Threads + Sync>(
 fn four<R: Threads + Sync>(
     rt: &R,
     interlock: &Interlock,
-    (feed, table): (Pass, Pass),
-    (robot, press): (Pass, Pass),
+    feeders: (Pass, Pass),
+    workers: (Pass, Pass),
     alloc: Global,
     load: Load,
 ) -> ((Journal, Journal), (Journal, Journal))
     requires sync { IsSync R.row }
-    requires feeders { (feed.table ≡ interlock.now.table) × (table.table ≡ interlock.now.table) }
-    requires workers { (robot.table ≡ interlock.now.table) × (press.table ≡ interlock.now.table) }
+    requires feeders { (feeders.0.table ≡ interlock.now.table) × (feeders.1.table ≡ interlock.now.table) }
+    requires workers { (workers.0.table ≡ interlock.now.table) × (workers.1.table ≡ interlock.now.table) }
 {
+    let (feed, table) = feeders;
+    let (robot, press) = workers;
     join(
         rt,
         move ||
