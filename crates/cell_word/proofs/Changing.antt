@@ -1,7 +1,6 @@
 -- What a call that is Done writes is what it changes.
-use Rattle.std.proofs.Common.{◌≡◌, ℕ, ◌+◌, ◌-◌, ◌*◌, ◌%◌, ◌^◌, ◌<◌, ◌≤◌, Bool, true, false, cond, ◌||◌, ◌&&◌, not, nat_eq, nat_lt, Option, Some, None, is_none, is_some, unwrap_or, refl, sym, ap, ap₂, ◌∙◌, subst, arith, eqb-true, ltb-true, mod-eq_of_lt, if◌then◌else◌}
+use Rattle.std.proofs.Common.{◌≡◌, ℕ, ◌+◌, ◌*◌, ◌^◌, ◌<◌, Bool, true, false, cond, ◌||◌, ◌&&◌, not, nat_eq, nat_lt, Option, Some, None, is_none, is_some, unwrap_or, refl, sym, ap, ap₂, ◌∙◌, arith, eqb-true, ltb-true, if◌then◌else◌}
 use Rattle.std.specs.Prelude.{bit_and, bit_or}
-use Rattle.std.specs.Option.{option_or}
 use Rattle.std.proofs.lemmas.Nat.{and_mask, or_comm, or_shifted}
 use Rattle.cell_types.specs.declared.machine.Machine.{Machine}
 use Rattle.cell_types.specs.declared.zone.Zone.{Zone}
@@ -12,8 +11,6 @@ use Rattle.cell_types.specs.declared.posture.Posture.TheVariants.{Closed}
 use Rattle.cell_types.specs.declared.pose.Pose.{Pose}
 use Rattle.cell_types.specs.declared.call.Call.{Call}
 use Rattle.cell_types.specs.declared.call.Call.TheVariants.{Claim, Give, Yield, Take, Release, SetPose, Advance, Inquire}
-use Rattle.cell_types.specs.declared.answer.Refusal.{Refusal}
-use Rattle.cell_types.specs.declared.answer.Refusal.TheVariants.{WrongWay}
 use Rattle.cell_types.specs.declared.answer.Answer.TheVariants.{Done}
 use Rattle.cell_types.specs.Tables.{transfer_of, posture_of}
 use Rattle.cell_types.specs.Ways.{work_of}
@@ -24,13 +21,13 @@ use Rattle.cell_rules.specs.PlaceSet.{PlaceSet, has}
 use Rattle.cell_rules.specs.ModelState.{ModelState, zone_at, is_full, one_if}
 use Rattle.cell_rules.specs.Sound.{IsSound, implies, is_party, is_owned_by}
 use Rattle.cell_rules.specs.Refusals
-use Rattle.cell_rules.specs.Reply.{reply, refusal, done_unless, changed, next, next_by, other_party, emptied, filled, worked, posed, halted, is_belt_of}
+use Rattle.cell_rules.specs.Reply.{reply, changed, next, next_by, other_party, emptied, filled, worked, posed, halted, is_belt_of}
 use Rattle.cell_rules.proofs.Tables.{and_left, and_right, and_both, implied, all_bools, from_bools, all_machines, from_machines, all_zones, from_zones, all_postures, from_postures, all_poses, from_poses, all_places, from_places, all_states, from_states}
 use Rattle.cell_rules.proofs.Puts.{put_cases, zone_in-map, has-put}
-use Rattle.cell_rules.proofs.Done.{none_or, none_then, fresh, may_claim, may_give, may_yield, may_take, may_release, claim_done, give_done, yield_done, take_done, release_done}
+use Rattle.cell_rules.proofs.Done.{none_or, fresh, may_claim, may_give, may_yield, may_take, may_release, claim_done, give_done, yield_done, take_done, release_done}
 use Rattle.cell_rules.proofs.Soundness.{done_none}
-use Rattle.cell_rules.proofs.Transfers.{take_finds, advance_finds}
-use Rattle.cell_word.specs.Layout.{zone_bit, place_bit, stamp_bit, owner_code, posture_code, packed}
+use Rattle.cell_rules.proofs.Transfers.{take_finds}
+use Rattle.cell_word.specs.Layout.{zone_bit, place_bit, owner_code, posture_code, packed}
 use Rattle.cell_word.specs.Reading.{bits_of}
 use Rattle.cell_word.specs.Patterns.{with_written}
 use Rattle.cell_word.specs.Rows as rows

@@ -1,9 +1,9 @@
 -- The guards of poses and of work are the refusals of these calls.
-use Rattle.std.proofs.Common.{◌≡◌, ℕ, ◌+◌, ◌*◌, ◌^◌, Bool, true, false, cond, ◌||◌, ◌&&◌, not, Option, Some, None, is_none, is_some, option_map, unwrap_or, List, [], ◌∷◌, ◌++◌, refl, sym, ap, ap₂, ◌∙◌, subst, if◌then◌else◌}
-use Rattle.std.specs.Prelude.{bit_and, bit_or}
+use Rattle.std.proofs.Common.{◌≡◌, ℕ, Bool, true, false, ◌||◌, ◌&&◌, not, Option, Some, None, is_none, is_some, option_map, unwrap_or, List, [], ◌∷◌, ◌++◌, refl, sym, ap, ap₂, ◌∙◌, subst, if◌then◌else◌}
+use Rattle.std.specs.Prelude.{bit_or}
 use Rattle.std.specs.Option.{option_or, option_eq}
 use Rattle.std.specs.Bool.{then_some}
-use Rattle.std.specs.List.{list_all, flat_map}
+use Rattle.std.specs.List.{flat_map}
 use Rattle.std.proofs.lemmas.List.{append-nil}
 use Rattle.cell_types.specs.declared.machine.Machine.{Machine}
 use Rattle.cell_types.specs.declared.machine.Machine.TheVariants.{Feed, Table as TableMachine, Robot, Press, Deposit, Crane as CraneMachine, Watch}
@@ -17,18 +17,16 @@ use Rattle.cell_types.specs.declared.pose.Pose.{Pose}
 use Rattle.cell_types.specs.declared.pose.Pose.TheVariants.{Running}
 use Rattle.cell_types.specs.declared.answer.Refusal.{Refusal}
 use Rattle.cell_types.specs.declared.answer.Refusal.TheVariants.{NotOwner, PlateInZone, NoPlate, PlaceFull, Jump, NotAtWork, NoPose}
-use Rattle.cell_types.specs.Everything.{all_zones as every_zone}
-use Rattle.cell_types.specs.Tables.{host_of, guest_of, transfer_of, posture_of}
-use Rattle.cell_types.specs.Same.{same_machine, same_posture, same_pose, one_machine, one_posture}
-use Rattle.cell_types.specs.Ways.{work_of}
+use Rattle.cell_types.specs.Tables.{host_of, guest_of, posture_of}
+use Rattle.cell_types.specs.Same.{same_machine, same_posture, same_pose, one_machine}
 use Rattle.cell_rules.specs.declared.zones.ZoneState.{ZoneState}
 use Rattle.cell_rules.specs.ModelState.{ModelState, zone_at, is_full}
 use Rattle.cell_rules.specs.Sound.{IsSound, implies, is_owned_by}
 use Rattle.cell_rules.specs.Refusals
-use Rattle.cell_rules.proofs.Tables.{and_left, and_right, and_both, implied, all_bools, from_bools, all_machines, from_machines, all_zones, from_zones, all_postures, from_postures, all_poses, from_poses, all_places, from_places, all_states, from_states}
+use Rattle.cell_rules.proofs.Tables.{and_left, and_right, and_both, implied, all_bools, from_bools, all_machines, from_machines, all_zones, from_zones, all_postures, from_postures, all_poses, from_poses, all_states, from_states}
 use Rattle.cell_rules.proofs.Done.{none_then_not}
 use Rattle.cell_word.specs.Layout.{packed}
-use Rattle.cell_word.specs.Patterns.{stands, anything, when, both, owner_is, place_is}
+use Rattle.cell_word.specs.Patterns.{anything, when, both, owner_is, place_is}
 use Rattle.cell_word.specs.Rows as rows
 use Rattle.cell_word.specs.Rows.{guard, first_refusal}
 use Rattle.cell_word.specs.declared.patterns.Guard.{Guard}

@@ -16,7 +16,7 @@ use Rattle.cell_types.specs.Tables.{host_of, transfer_of}
 use Rattle.cell_types.specs.Same.{same_machine}
 use Rattle.cell_types.specs.Ways.{work_of}
 use Rattle.cell_rules.specs.declared.zones.ZoneState.{ZoneState}
-use Rattle.cell_rules.specs.ZoneMap.{ZoneMap, put_zone, map_zones, everywhere, free_zone}
+use Rattle.cell_rules.specs.ZoneMap.{put_zone, map_zones, everywhere, free_zone}
 use Rattle.cell_rules.specs.PlaceSet.{PlaceSet, empty, insert_place}
 use Rattle.cell_rules.specs.ModelState.{ModelState, model_state}
 use Rattle.cell_rules.specs.Sound.{IsSound}

@@ -1,5 +1,5 @@
 -- A word is a sound state's just where the masks say so.
-use Rattle.std.proofs.Common.{◌≡◌, ◌⊎◌, inl, inr, ℕ, zero, suc, ◌+◌, ◌-◌, ◌*◌, ◌/◌, ◌%◌, ◌^◌, ◌<◌, ◌≤◌, Bool, true, false, ◌&&◌, not, nat_eq, Option, Some, None, List, [], ◌∷◌, refl, sym, ap, ap₂, ◌∙◌, subst, arith, eqb-true, eq-eqb}
+use Rattle.std.proofs.Common.{◌≡◌, inl, inr, ℕ, zero, suc, ◌+◌, ◌*◌, ◌/◌, ◌%◌, ◌^◌, ◌<◌, ◌≤◌, Bool, true, false, ◌&&◌, not, nat_eq, Option, Some, None, refl, sym, ap, ap₂, ◌∙◌, subst, arith, eqb-true, eq-eqb}
 use Rattle.std.specs.Prelude.{bit_and, bit_or}
 use Rattle.std.specs.List.{list_all}
 use Rattle.std.proofs.lemmas.Bool.{cases_lt}
@@ -18,11 +18,11 @@ use Rattle.cell_rules.specs.declared.zones.ZoneState.{ZoneState}
 use Rattle.cell_types.specs.declared.machine.Machine.{Machine}
 use Rattle.cell_rules.specs.PlaceSet.{PlaceSet}
 use Rattle.cell_rules.specs.ModelState.{ModelState, zone_at, is_full, one_if}
-use Rattle.cell_rules.specs.Sound.{IsSound, implies, has_lawful_owner, is_lawful_plate, has_lawful_plate, is_onto_full, is_open_to_guest, moves_by_host, is_of_some_pose, has_one_plate, is_received_by}
+use Rattle.cell_rules.specs.Sound.{IsSound, implies, has_lawful_owner, is_lawful_plate, is_onto_full, is_open_to_guest, moves_by_host, is_of_some_pose, has_one_plate, is_received_by}
 use Rattle.cell_rules.proofs.Tables.{and_left, and_right, and_both, implied, all_bools, from_bools, all_zones, from_zones, all_postures, from_postures, all_states, from_states, all_pass}
-use Rattle.cell_word.specs.Layout.{zone_bit, place_bit, stamp_bit, packed}
+use Rattle.cell_word.specs.Layout.{zone_bit, place_bit, packed}
 use Rattle.cell_word.specs.Reading.{bits_of, is_bit_set, owner_of_code, posture_of_code, zone_told, state_told}
-use Rattle.cell_word.specs.Patterns.{stands, both, nothing, flag_is, posture_is, place_is, field_is}
+use Rattle.cell_word.specs.Patterns.{stands, both, nothing, posture_is, place_is, field_is}
 use Rattle.cell_word.specs.StateWords.{zone_codes, onto_full, is_lawful_zone, is_lawful_press, is_state_word}
 use Rattle.cell_word.specs.declared.patterns.Pattern.{Pattern}
 use Rattle.cell_word.proofs.RoundTrip.{told_back, laid_out}
@@ -299,16 +299,18 @@ sound_by_masks w fits e =
     let one_plate : has_one_plate t.full (zone_at t Z3) ≡ true =
     and_both (not (is_full t PressIn && is_full t PressOut)) (implies (is_inward (zone_at t Z3)) (not (is_full t PressOut)))
     (ap not (sym (plates_seen w)) ∙ and_left plates forged last)
-    (sym (either_not (is_inward (zone_at t Z3)) (is_full t PressOut)) ∙ ap not (sym (forged_seen w)) ∙ and_right plates forged last) in
-    (record {
-      stamp_in_range = in_range w;
-      owner_is_party = λ z. and_left (owner z) (plate z) (two z);
-      flag_has_transfer = λ z. plate_at t.full z (v z).owner (v z).flag (v z).posture (and_right (owner z) (plate z) (two z)) (sym (onto_seen w z OpenIn) ∙ (parts z).1) (sym (onto_seen w z OpenOut) ∙ (parts z).2);
-      guest_only_while_open = λ z. and_right (owner z && plate z) (guest z) (three z);
-      moving_belongs_to_host = λ z. and_right (owner z && plate z && guest z) (moving z) (four z);
-      posture_of_some_pose = λ z. and_right (owner z && plate z && guest z && moving z) (posed z) (code z).1;
-      press_holds_one_plate = one_plate;
-    }, sym same)
+    (sym (either_not (is_inward (zone_at t Z3)) (is_full t PressOut)) ∙ ap not (sym (forged_seen w)) ∙ and_right plates forged last) in (
+      record {
+        stamp_in_range = in_range w;
+        owner_is_party = λ z. and_left (owner z) (plate z) (two z);
+        flag_has_transfer = λ z. plate_at t.full z (v z).owner (v z).flag (v z).posture (and_right (owner z) (plate z) (two z)) (sym (onto_seen w z OpenIn) ∙ (parts z).1) (sym (onto_seen w z OpenOut) ∙ (parts z).2);
+        guest_only_while_open = λ z. and_right (owner z && plate z) (guest z) (three z);
+        moving_belongs_to_host = λ z. and_right (owner z && plate z && guest z) (moving z) (four z);
+        posture_of_some_pose = λ z. and_right (owner z && plate z && guest z && moving z) (posed z) (code z).1;
+        press_holds_one_plate = one_plate;
+      },
+      sym same,
+    )
 
 pub masks_of_sound : (s : ModelState) → IsSound s → is_state_word (packed s) ≡ true
 masks_of_sound s h =
@@ -316,13 +318,13 @@ masks_of_sound s h =
     let told : state_told w ≡ s = told_back s h in
     let onto : (z : Zone) (q : Posture) → stands w (onto_full z q (transfer_of z q)) ≡ false =
     λ z q.
-      onto_seen w z q
-      ∙ ap (λ t. is_sent q (zone_at t z) && is_onto_full t.full (transfer_of z q)) told
-      ∙ not_sent s.full z (zone_at s z).owner (zone_at s z).flag (zone_at s z).posture q (h.flag_has_transfer z) in
+    onto_seen w z q
+    ∙ ap (λ t. is_sent q (zone_at t z) && is_onto_full t.full (transfer_of z q)) told
+    ∙ not_sent s.full z (zone_at s z).owner (zone_at s z).flag (zone_at s z).posture q (h.flag_has_transfer z) in
     let code : (z : Zone) → is_bit_set (zone_codes z) (bits_of w (zone_bit z) 5) ≡ true =
     λ z.
-      ap (is_bit_set (zone_codes z)) (zone_five s h z)
-      ∙ implied (is_lawful z (zone_at s z)) (is_bit_set (zone_codes z) (zone_code z (zone_at s z))) (from_states (lawful_test z) (from_zones (λ z. all_states (lawful_test z)) lawful_table z) (zone_at s z)) (lawful_at s h z) in
+    ap (is_bit_set (zone_codes z)) (zone_five s h z)
+    ∙ implied (is_lawful z (zone_at s z)) (is_bit_set (zone_codes z) (zone_code z (zone_at s z))) (from_states (lawful_test z) (from_zones (λ z. all_states (lawful_test z)) lawful_table z) (zone_at s z)) (lawful_at s h z) in
     let zone : (z : Zone) → is_lawful_zone w z ≡ true = λ z. and_both _ _ (and_both _ _ (code z) (ap not (onto z OpenIn))) (ap not (onto z OpenOut)) in
     let plates = not (is_full s PressIn && is_full s PressOut) in
     let forged = implies (is_inward (zone_at s Z3)) (not (is_full s PressOut)) in

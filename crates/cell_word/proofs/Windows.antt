@@ -1,11 +1,11 @@
 -- A row of guards sees of a word no bits but those under its masks.
-use Rattle.std.proofs.Common.{◌≡◌, ℕ, ◌+◌, ◌-◌, ◌*◌, ◌/◌, ◌%◌, ◌^◌, ◌<◌, ◌≤◌, min, max, Bool, true, false, cond, ◌&&◌, nat_eq, Option, Some, None, option_map, List, [], ◌∷◌, ◌++◌, refl, sym, ap, ◌∙◌, subst, arith, eqb-true, eq-eqb}
+use Rattle.std.proofs.Common.{◌≡◌, ℕ, ◌+◌, ◌-◌, ◌*◌, ◌/◌, ◌%◌, ◌^◌, min, max, Bool, true, false, cond, nat_eq, Option, Some, option_map, List, [], ◌∷◌, ◌++◌, refl, sym, ap, ◌∙◌, arith, eqb-true}
 use Rattle.std.specs.Prelude.{bit_and, bit_or}
 use Rattle.std.specs.Int.{bit_at}
 use Rattle.std.specs.Option.{option_or}
 use Rattle.std.specs.List.{find, list_all}
 use Rattle.std.proofs.Math.Nat.{mul_comm, mul-sub}
-use Rattle.std.proofs.lemmas.Nat.{and_assoc, and_comm, pow-add, pow_pos, shr-shr}
+use Rattle.std.proofs.lemmas.Nat.{and_assoc, pow-add, shr-shr}
 use Rattle.std.proofs.lemmas.Nat.Bits.{and_high, bit_at_and, bit_at_or, same_from_bits}
 use Rattle.cell_types.specs.declared.answer.Refusal.{Refusal}
 use Rattle.cell_rules.proofs.Tables.{and_left, and_right}
@@ -59,12 +59,12 @@ pub and_or : (w a b : ℕ) → bit_and w (bit_or a b) ≡ bit_or (bit_and w a) (
 and_or w a b =
     same_from_bits (bit_and w (bit_or a b)) (bit_or (bit_and w a) (bit_and w b))
     (λ i.
-      bit_at_and w (bit_or a b) i
-      ∙ ap (min (bit_at w i)) (bit_at_or a b i)
-      ∙ spread (bit_at w i) (bit_at a i) (bit_at b i)
-      ∙ sym (ap (λ n. max (min (bit_at w i) (bit_at a i)) n) (bit_at_and w b i))
-      ∙ sym (ap (λ n. max n (bit_at (bit_and w b) i)) (bit_at_and w a i))
-      ∙ sym (bit_at_or (bit_and w a) (bit_and w b) i))
+    bit_at_and w (bit_or a b) i
+    ∙ ap (min (bit_at w i)) (bit_at_or a b i)
+    ∙ spread (bit_at w i) (bit_at a i) (bit_at b i)
+    ∙ sym (ap (λ n. max (min (bit_at w i) (bit_at a i)) n) (bit_at_and w b i))
+    ∙ sym (ap (λ n. max n (bit_at (bit_and w b) i)) (bit_at_and w a i))
+    ∙ sym (bit_at_or (bit_and w a) (bit_and w b) i))
 
 mask_ends : (lowest width : ℕ) → (2 ^ width - 1) * 2 ^ lowest ≡ 2 ^ (width + lowest) - 2 ^ lowest
 mask_ends lowest width =

@@ -1,5 +1,5 @@
 -- The guards of the calls about a zone are the refusals of these calls.
-use Rattle.std.proofs.Common.{◌≡◌, ℕ, ◌+◌, ◌*◌, ◌^◌, ◌<◌, ◌≤◌, Bool, true, false, cond, ◌||◌, ◌&&◌, not, nat_eq, nat_lt, Option, Some, None, is_none, option_map, List, [], ◌∷◌, ◌++◌, refl, sym, ap, ap₂, ◌∙◌, subst, arith, eqb-true, ltb-true, if◌then◌else◌}
+use Rattle.std.proofs.Common.{◌≡◌, ℕ, ◌*◌, ◌^◌, ◌≤◌, Bool, true, false, cond, ◌||◌, ◌&&◌, not, nat_eq, nat_lt, Option, Some, None, is_none, option_map, List, [], ◌∷◌, ◌++◌, refl, sym, ap, ap₂, ◌∙◌, arith}
 use Rattle.std.specs.Prelude.{bit_and, bit_or}
 use Rattle.std.specs.Option.{option_or}
 use Rattle.std.specs.Bool.{then_some}
@@ -15,8 +15,8 @@ use Rattle.cell_types.specs.declared.place.Place.TheVariants.{FeedEnd}
 use Rattle.cell_types.specs.declared.posture.Posture.{Posture}
 use Rattle.cell_types.specs.declared.posture.Posture.TheVariants.{Closed, Moving, OpenIn, OpenOut}
 use Rattle.cell_types.specs.declared.answer.Refusal.{Refusal}
-use Rattle.cell_types.specs.declared.answer.Refusal.TheVariants.{NotParty, Held, AlreadyMine, Shut, NotOwner, PlateInZone, NoPlate, PlaceFull, WrongWay, NoPose, Worn, InUse}
-use Rattle.cell_types.specs.Tables.{host_of, guest_of, transfer_of}
+use Rattle.cell_types.specs.declared.answer.Refusal.TheVariants.{Held, AlreadyMine, Shut, NotOwner, PlateInZone, NoPlate, PlaceFull, WrongWay, NoPose, InUse}
+use Rattle.cell_types.specs.Tables.{guest_of, transfer_of}
 use Rattle.cell_types.specs.Same.{same_machine, same_zone, same_posture}
 use Rattle.cell_rules.specs.declared.zones.ZoneState.{ZoneState}
 use Rattle.cell_rules.specs.ModelState.{ModelState, zone_at, is_full, last_stamp}
@@ -29,7 +29,6 @@ use Rattle.cell_word.specs.Layout.{packed}
 use Rattle.cell_word.specs.Patterns.{stands, anything, nothing, when, both, owner_is, flag_is, posture_is, place_is}
 use Rattle.cell_word.specs.Rows as rows
 use Rattle.cell_word.specs.Rows.{guard, first_refusal}
-use Rattle.cell_word.specs.declared.patterns.Pattern.{Pattern}
 use Rattle.cell_word.specs.declared.patterns.Guard.{Guard}
 use Rattle.cell_word.proofs.SameAnswer.{same_bool, one_bool, same_answer, one_answer, same_row, one_row}
 use Rattle.cell_word.proofs.Windows.{first-append, all_within, first-window}

@@ -1,5 +1,5 @@
 -- The bits that a call writes where it is Done.
-use Rattle.std.specs.Prelude.{ℕ, true, false, Option, Some, None, if◌then◌else◌}
+use Rattle.std.specs.Prelude.{true, false, Option, Some, None, if◌then◌else◌}
 use Rattle.std.specs.Option.{option_or}
 use Rattle.cell_types.specs.declared.machine.Machine.{Machine}
 use Rattle.cell_types.specs.declared.machine.Machine.TheVariants.{Feed, Deposit}
@@ -9,7 +9,6 @@ use Rattle.cell_types.specs.declared.place.Place.{Place}
 use Rattle.cell_types.specs.declared.zone.Transfer.{Transfer}
 use Rattle.cell_types.specs.declared.posture.Posture.{Posture}
 use Rattle.cell_types.specs.declared.posture.Posture.TheVariants.{Closed, OpenIn, OpenOut}
-use Rattle.cell_types.specs.declared.pose.Pose.{Pose}
 use Rattle.cell_types.specs.declared.call.Call.{Call}
 use Rattle.cell_types.specs.declared.call.Call.TheVariants.{Claim, Give, Yield, Take, Release, SetPose, Advance, Inquire}
 use Rattle.cell_types.specs.Tables.{transfer_of}

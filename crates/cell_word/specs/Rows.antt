@@ -1,5 +1,5 @@
 -- The guards of each machine and call: patterns that refuse the call, each with its refusal, in the order of the refusals.
-use Rattle.std.specs.Prelude.{ℕ, Bool, true, false, ◌&&◌, not, Option, Some, None, is_some, is_none, option_map, List, [], ◌∷◌, ◌++◌, map, if◌then◌else◌}
+use Rattle.std.specs.Prelude.{ℕ, Bool, true, false, ◌&&◌, not, Option, Some, None, is_none, option_map, List, [], ◌∷◌, ◌++◌, map, if◌then◌else◌}
 use Rattle.std.specs.Option.{option_or}
 use Rattle.std.specs.List.{find, flat_map, list_all}
 use Rattle.cell_types.specs.declared.machine.Machine.{Machine}
@@ -17,12 +17,11 @@ use Rattle.cell_types.specs.declared.call.Call.{Call}
 use Rattle.cell_types.specs.declared.call.Call.TheVariants.{Claim, Give, Yield, Take, Release, SetPose, Advance, Inquire}
 use Rattle.cell_types.specs.declared.answer.Refusal.{Refusal}
 use Rattle.cell_types.specs.declared.answer.Refusal.TheVariants.{NotParty, Held, AlreadyMine, Shut, NotOwner, PlateInZone, NoPlate, PlaceFull, WrongWay, Jump, NotAtWork, NoPose, Worn, InUse}
-use Rattle.cell_types.specs.Everything.{all_zones}
 use Rattle.cell_types.specs.Tables.{host_of, guest_of, transfer_of, posture_of}
 use Rattle.cell_types.specs.Same.{same_machine, same_zone, same_pose}
 use Rattle.cell_rules.specs.ModelState.{last_stamp}
 use Rattle.cell_rules.specs.Sound.{is_party}
-use Rattle.cell_rules.specs.Refusals.{given_by, has_pose, is_moving_pose, passes_through_moving}
+use Rattle.cell_rules.specs.Refusals.{given_by, is_moving_pose, passes_through_moving}
 use Rattle.cell_types.specs.Refusals.{number_of}
 use Rattle.cell_rules.specs.Reply.{other_party}
 use Rattle.cell_rules.specs.RefusalLaws.{is_no_later}

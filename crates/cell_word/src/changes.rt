@@ -24,8 +24,10 @@ fn received_by(machine: Machine, row: Option<Transfer>) -> Option<Transfer>
 fn row_received(machine: Machine, zone: Zone) -> Option<Transfer>
     ensures { result ≡ changes.row_received machine zone }
 {
-    received_by(machine, transfer(zone, Posture::OpenIn))
-        .or(received_by(machine, transfer(zone, Posture::OpenOut)))
+    received_by(machine, transfer(zone, Posture::OpenIn)).or(received_by(
+        machine,
+        transfer(zone, Posture::OpenOut),
+    ))
 }
 
 fn given_away(machine: Machine, zone: Zone) -> Pattern

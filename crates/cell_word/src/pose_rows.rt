@@ -6,9 +6,7 @@ ghost use Rattle.cell_word.specs.Rows as rows;
 
 use crate::patterns::{Guard, Pattern, first_refusal};
 use crate::rows::{anothers, unowned, worn};
-use cell_types::{
-    Machine, Place, Pose, Posture, Refusal, Zone, guest, host, posture_in, transfer,
-};
+use cell_types::{Machine, Place, Pose, Posture, Refusal, Zone, guest, host, posture_in, transfer};
 
 /// The zones that a machine hosts.
 pub(crate) fn hosted(machine: Machine) -> (Option<Zone>, Option<Zone>)
@@ -43,8 +41,10 @@ fn owner_refusal(word: u64, posed: Option<(Zone, Posture)>) -> Option<Refusal>
     let row = [
         low.and(free).refuses(Refusal::NotOwner(None)),
         high.and(free).refuses(Refusal::NotOwner(None)),
-        low.and(others).refuses(Refusal::NotOwner(Some(guest(zone)))),
-        high.and(others).refuses(Refusal::NotOwner(Some(guest(zone)))),
+        low.and(others)
+            .refuses(Refusal::NotOwner(Some(guest(zone)))),
+        high.and(others)
+            .refuses(Refusal::NotOwner(Some(guest(zone)))),
     ];
     first_refusal(word, &row)
 }
@@ -94,7 +94,10 @@ fn jump_refusal(
         return None;
     }
     let low = low_refuses(zone, Posture::Moving, Refusal::Jump);
-    first_refusal(word, &[low, high_refuses(zone, Posture::Moving, Refusal::Jump)])
+    first_refusal(
+        word,
+        &[low, high_refuses(zone, Posture::Moving, Refusal::Jump)],
+    )
 }
 
 /// A place that is full where a zone becomes open inward.
@@ -113,8 +116,11 @@ fn inner_refusal(word: u64, zone: Zone) -> Option<Refusal>
     ensures { result ≡ rows.first_refusal word (rows.opening_guards zone OpenIn) }
 {
     match zone {
-        Zone::Z3 => room_refusal(word, zone, Place::PressIn)
-            .or(room_refusal(word, zone, Place::PressOut)),
+        Zone::Z3 => room_refusal(word, zone, Place::PressIn).or(room_refusal(
+            word,
+            zone,
+            Place::PressOut,
+        )),
         _ => room_refusal(word, zone, transfer(zone, Posture::OpenIn)?.to),
     }
 }
@@ -136,8 +142,10 @@ fn run_guards(machine: Machine, pose: Pose) -> [Guard; 3]
     let feed_runs = pose == Pose::Running && machine == Machine::Feed;
     let at_end = Pattern::place(Place::DepEnd, true);
     let unowned = Pattern::place(Place::FeedEnd, true).and(Pattern::owner(Zone::Z1, None));
-    let tables =
-        Pattern::place(Place::FeedEnd, true).and(Pattern::owner(Zone::Z1, Some(host(Zone::Z1))));
+    let tables = Pattern::place(Place::FeedEnd, true).and(Pattern::owner(
+        Zone::Z1,
+        Some(host(Zone::Z1)),
+    ));
     [
         at_end.when(deposit_runs).refuses(Refusal::PlaceFull),
         unowned.when(feed_runs).refuses(Refusal::PlaceFull),

@@ -6,12 +6,10 @@ ghost use Rattle.cell_rules.specs.Refusals as refusals;
 ghost use Rattle.cell_rules.specs.Reply as replies;
 ghost use Rattle.cell_word.specs.Rows as rows;
 
-use crate::pose_rows::{advance_refusal, pose_refusal};
 use crate::patterns::{Guard, Pattern, first_refusal};
+use crate::pose_rows::{advance_refusal, pose_refusal};
 use cell_rules::LAST_STAMP;
-use cell_types::{
-    Call, Machine, Place, Posture, Refusal, Transfer, Zone, guest, host, transfer,
-};
+use cell_types::{Call, Machine, Place, Posture, Refusal, Transfer, Zone, guest, host, transfer};
 
 /// Whether a machine is the host or the guest of a zone.
 pub(crate) fn is_party(machine: Machine, zone: Zone) -> bool
@@ -110,8 +108,10 @@ fn given_by(machine: Machine, row: Option<Transfer>) -> Option<Transfer>
 pub(crate) fn row_given(machine: Machine, zone: Zone) -> Option<Transfer>
     ensures { result ≡ rows.row_given machine zone }
 {
-    given_by(machine, transfer(zone, Posture::OpenIn))
-        .or(given_by(machine, transfer(zone, Posture::OpenOut)))
+    given_by(machine, transfer(zone, Posture::OpenIn)).or(given_by(
+        machine,
+        transfer(zone, Posture::OpenOut),
+    ))
 }
 
 fn wrong_way(machine: Machine, zone: Zone, posture: Posture) -> Guard

@@ -5,8 +5,8 @@ ghost use Rattle.cell_rules.specs.Sound.{IsSound};
 ghost use Rattle.cell_rules.specs.Reply.{reply, next};
 ghost use Rattle.cell_word.specs.Layout.{packed};
 
-use crate::codes::STAMP_BIT;
 use crate::changes::masks;
+use crate::codes::STAMP_BIT;
 use crate::rows::refusal;
 use crate::state_words::is_state_word;
 use crate::word::zone_told;

@@ -1,4 +1,4 @@
-use Rattle.std.proofs.Common.{◌≡◌, ℕ, ◌+◌, ◌<◌, ◌^◌, ◌∙◌, ap, sym, subst}
+use Rattle.std.proofs.Common.{◌+◌, ◌<◌, ◌^◌, ◌∙◌, ap, sym, subst}
 use Rattle.cell_word.specs.Layout.{packed}
 use Rattle.cell_word.specs.Patterns.{with_written}
 use Rattle.cell_word.specs.declared.patterns.Pattern.{Pattern}

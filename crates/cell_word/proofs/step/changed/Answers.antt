@@ -10,7 +10,7 @@ use Rattle.cell_rules.proofs.Soundness.{next_keeps}
 use Rattle.cell_word.specs.Layout.{packed}
 use Rattle.cell_word.specs.Patterns.{with_written}
 use Rattle.cell_word.proofs.RoundTrip.{laid_out, one_state}
-use Rattle.cell_word.proofs.Writing.{complement, cleared}
+use Rattle.cell_word.proofs.Writing.{cleared}
 use Rattle.cell_word.proofs.step.changed.Goals as goal
 
 after_is : (s : ModelState) → IsSound s → (m : Machine) (c : Call) (w clear set : ℕ) → packed s ≡ w → clear < 2 ^ 40 → packed (next s m c) ≡ with_written (packed s) clear set + 2 ^ 40
@@ -26,10 +26,10 @@ after_is s sound m c w clear set e low change =
 pub returns : goal.returns
 returns c =
     λ s h e.
-      let known = c.requires in
-      let same = one_state known.0 s known.1 h (known.2 ∙ sym e) in
-      let done = subst (λ t. reply t c.args.machine c.args.call ≡ Done) same known.3 in
-      after_is s h c.args.machine c.args.call c.args.word c.masks-clear.result.0 c.masks-clear.result.1 e c.masks-clear.ensures.below_stamp.0 (c.masks-clear.ensures.change s h done)
+    let known = c.requires in
+    let same = one_state known.0 s known.1 h (known.2 ∙ sym e) in
+    let done = subst (λ t. reply t c.args.machine c.args.call ≡ Done) same known.3 in
+    after_is s h c.args.machine c.args.call c.args.word c.masks-clear.result.0 c.masks-clear.result.1 e c.masks-clear.ensures.below_stamp.0 (c.masks-clear.ensures.change s h done)
 
 pub overflow_add-result : goal.overflow_add-result
 overflow_add-result c =

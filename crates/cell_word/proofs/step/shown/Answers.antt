@@ -9,6 +9,6 @@ use Rattle.cell_word.proofs.step.shown.Goals as goal
 pub returns : goal.returns
 returns c =
     λ s h e.
-      let z = c.args.zone in
-      let told : c.zone_told-at.result ≡ zone_at s z = c.zone_told-at.ensures ∙ ap (λ w. zone_told w z) (sym e) ∙ zone_read s h z in
-      ap (λ (v : ZoneState). Shown v.owner v.flag v.posture) told
+    let z = c.args.zone in
+    let told : c.zone_told-at.result ≡ zone_at s z = c.zone_told-at.ensures ∙ ap (λ w. zone_told w z) (sym e) ∙ zone_read s h z in
+    ap (λ (v : ZoneState). Shown v.owner v.flag v.posture) told

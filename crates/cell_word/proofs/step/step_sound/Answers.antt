@@ -5,10 +5,10 @@ use Rattle.cell_types.specs.declared.call.Call.{Call}
 use Rattle.cell_types.specs.declared.call.Call.TheVariants.{Claim, Give, Yield, Take, Release, SetPose, Advance, Inquire}
 use Rattle.cell_types.specs.declared.answer.Refusal.{Refusal}
 use Rattle.cell_types.specs.declared.answer.Answer.{Answer}
-use Rattle.cell_types.specs.declared.answer.Answer.TheVariants.{Done, Refused}
+use Rattle.cell_types.specs.declared.answer.Answer.TheVariants.{Refused}
 use Rattle.cell_rules.specs.ModelState.{ModelState}
 use Rattle.cell_rules.specs.Sound.{IsSound}
-use Rattle.cell_rules.specs.Reply.{reply, refusal, done_unless, next_by, next}
+use Rattle.cell_rules.specs.Reply.{reply, refusal, done_unless, next_by}
 use Rattle.cell_word.specs.Layout.{packed}
 use Rattle.cell_word.specs.Rows.{first_refusal, row_of}
 use Rattle.cell_word.proofs.RowsHold.{rows_hold}
@@ -38,14 +38,14 @@ changed-requires c =
 pub returns-in-Some : goal.returns-in-Some
 returns-in-Some c =
     λ s h e.
-      let r = c.in-Some.refusal in
-      let told = reply_found s h c.args.machine c.args.call c.in_default.not-Inquire c.args.word e (Some r) (sym c.refusal.ensures ∙ c.in-Some.is) in
-      let pair : Answer → ℕ → Answer × ℕ = λ a n. (a, n) in
-      ap (pair (Refused r)) (sym e) ∙ ap (λ a. pair a (packed (next_by a s c.args.machine c.args.call))) (sym told)
+    let r = c.in-Some.refusal in
+    let told = reply_found s h c.args.machine c.args.call c.in_default.not-Inquire c.args.word e (Some r) (sym c.refusal.ensures ∙ c.in-Some.is) in
+    let pair : Answer → ℕ → Answer × ℕ = λ a n. (a, n) in
+    ap (pair (Refused r)) (sym e) ∙ ap (λ a. pair a (packed (next_by a s c.args.machine c.args.call))) (sym told)
 
 pub returns-in-None : goal.returns-in-None
 returns-in-None c =
     λ s h e.
-      let told = reply_found s h c.args.machine c.args.call c.in_default.not-Inquire c.args.word e None (sym c.refusal.ensures ∙ c.in-None.is) in
-      let pair : Answer → ℕ → Answer × ℕ = λ a n. (a, n) in
-      ap₂ pair (sym told) (c.changed.ensures s h e)
+    let told = reply_found s h c.args.machine c.args.call c.in_default.not-Inquire c.args.word e None (sym c.refusal.ensures ∙ c.in-None.is) in
+    let pair : Answer → ℕ → Answer × ℕ = λ a n. (a, n) in
+    ap₂ pair (sym told) (c.changed.ensures s h e)
