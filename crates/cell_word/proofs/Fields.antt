@@ -14,14 +14,14 @@ abbrev pub stacked : List Field → ℕ
 stacked [] = 0
 stacked (f ∷ fs) = stacked fs * 2 ^ f.width + f.value
 
-arranged : (s w t v : ℕ) → v * t + s * (t * w) ≡ (s * w + v) * t
+pub arranged : (s w t v : ℕ) → v * t + s * (t * w) ≡ (s * w + v) * t
 arranged s w t v =
     let over : (s * w + v) * t ≡ s * w * t + v * t = add-mul (s * w) v t in
     let assoc : s * w * t ≡ s * (w * t) = mul_assoc s w t in
     let turned : s * (t * w) ≡ s * (w * t) = ap (λ n. s * n) (mul_comm t w) in
     omega arith
 
-word-cons : (start : ℕ) (f : Field) (fs : List Field) → f.lowest ≡ start → word_of (f ∷ fs) ≡ f.value * 2 ^ start + word_of fs
+pub word-cons : (start : ℕ) (f : Field) (fs : List Field) → f.lowest ≡ start → word_of (f ∷ fs) ≡ f.value * 2 ^ start + word_of fs
 word-cons start f fs e = sum_by-cons term_of f fs ∙ ap (λ n. f.value * 2 ^ n + word_of fs) e
 
 -- what the fields add to a word is that number, at their lowest bit

@@ -1,3 +1,13 @@
 pub mod Fields
 pub mod Growing
 pub mod RoundTrip
+pub mod Windows
+pub mod Seen
+pub mod SameAnswer
+pub mod ZoneRows
+pub mod PoseRows
+pub mod Writing
+pub mod Changing
+pub mod Possible
+pub mod RowsHold
+pub mod StateWordsHold

@@ -15,31 +15,31 @@ use Rattle.cell_types.specs.Everything.{all_zones, all_places}
 use Rattle.cell_rules.specs.declared.zones.ZoneState.{ZoneState}
 use Rattle.cell_rules.specs.ModelState.{ModelState, zone_at, is_full, one_if, last_stamp}
 use Rattle.cell_rules.specs.Sound.{IsSound, has_lawful_owner, is_owned_by}
-use Rattle.cell_word.specs.Layout.{Field, field, zone_bit, stamp_bit, owner_code, posture_code, zone_fields, fields_at, place_field, fields_of, packed}
+use Rattle.cell_word.specs.Layout.{Field, field, zone_bit, place_bit, stamp_bit, owner_code, posture_code, zone_fields, fields_at, place_field, fields_of, packed}
 use Rattle.cell_word.specs.Reading.{bits_of, owner_of_code, posture_of_code, is_bit_set, is_told_full, zone_told, state_told}
 use Rattle.cell_word.specs.Laws.{Fits, SideBySide, ReadsBack, IsLaidOut}
 use Rattle.cell_word.proofs.Fields.{whole_word_below, whole_word_back}
 
 -- ---- each field fits
-owner_fits : (z : Zone) (o : Option Machine) → owner_code z o < 4
+pub owner_fits : (z : Zone) (o : Option Machine) → owner_code z o < 4
 owner_fits z None = omega arith
 owner_fits z (Some m) = elim (same_machine m (host_of z)) as (λ b. (if b then 1 else 2) < 4) [ true ↦ omega arith | false ↦ omega arith ]
 
-flag_fits : (b : Bool) → one_if b < 2
+pub flag_fits : (b : Bool) → one_if b < 2
 flag_fits true = omega arith
 flag_fits false = omega arith
 
-posture_fits : (p : Posture) → posture_code p < 4
+pub posture_fits : (p : Posture) → posture_code p < 4
 posture_fits Closed = omega arith
 posture_fits Moving = omega arith
 posture_fits OpenIn = omega arith
 posture_fits OpenOut = omega arith
 
-All-flat_map : {X A : Type 0} (P : A → Type 0) (f : X → List A) (xs : List X) → ((x : X) → All P (f x)) → All P (flat_map f xs)
+pub All-flat_map : {X A : Type 0} (P : A → Type 0) (f : X → List A) (xs : List X) → ((x : X) → All P (f x)) → All P (flat_map f xs)
 All-flat_map P f [] h = All-nil P
 All-flat_map P f (x ∷ xs) h = All-append P (f x) (flat_map f xs) (h x) (All-flat_map P f xs h)
 
-all_three : (P : Field → Type 0) (a b c : Field) → P a → P b → P c → All P (a ∷ b ∷ c ∷ [])
+pub all_three : (P : Field → Type 0) (a b c : Field) → P a → P b → P c → All P (a ∷ b ∷ c ∷ [])
 all_three P a b c ha hb hc = All-cons P a (b ∷ c ∷ []) ha (All-cons P b (c ∷ []) hb (All-cons P c [] hc (All-nil P)))
 
 zone_fits : (z : Zone) (v : ZoneState) → All Fits (zone_fields z v)
@@ -55,7 +55,7 @@ fields_fit s small =
     All-append Fits (flat_map (fields_at s) all_zones ++ map (place_field s) all_places) (field stamp_bit 20 s.stamp ∷ [])
     (All-append Fits (flat_map (fields_at s) all_zones) (map (place_field s) all_places) zones places) stamp
 
-side_by_side : (s : ModelState) → SideBySide 0 60 (fields_of s)
+pub side_by_side : (s : ModelState) → SideBySide 0 60 (fields_of s)
 side_by_side s = search rules
 
 pub laid_out : (s : ModelState) → IsSound s → IsLaidOut s
@@ -106,31 +106,45 @@ place_back w bit b e = ap (λ n. nat_eq n 1) e ∙ flag_back b
 read : (s : ModelState) → IsSound s → (k : ℕ) → k < 29 → ReadsBack (packed s) (get_or (fields_of s) k (field 0 0 0))
 read s sound k inside = (laid_out s sound).reads_back k (field 0 0 0) inside
 
-zone_read : (s : ModelState) → IsSound s → (z : Zone) → zone_told (packed s) z ≡ zone_at s z
-zone_read s sound Z1 = zone_back (packed s) Z1 (zone_at s Z1) (sound.owner_is_party Z1) (read s sound 0 (omega arith)) (read s sound 1 (omega arith)) (read s sound 2 (omega arith))
-zone_read s sound Z2 = zone_back (packed s) Z2 (zone_at s Z2) (sound.owner_is_party Z2) (read s sound 3 (omega arith)) (read s sound 4 (omega arith)) (read s sound 5 (omega arith))
-zone_read s sound Z3 = zone_back (packed s) Z3 (zone_at s Z3) (sound.owner_is_party Z3) (read s sound 6 (omega arith)) (read s sound 7 (omega arith)) (read s sound 8 (omega arith))
-zone_read s sound Z4 = zone_back (packed s) Z4 (zone_at s Z4) (sound.owner_is_party Z4) (read s sound 9 (omega arith)) (read s sound 10 (omega arith)) (read s sound 11 (omega arith))
-zone_read s sound Z5 = zone_back (packed s) Z5 (zone_at s Z5) (sound.owner_is_party Z5) (read s sound 12 (omega arith)) (read s sound 13 (omega arith)) (read s sound 14 (omega arith))
-zone_read s sound Z6 = zone_back (packed s) Z6 (zone_at s Z6) (sound.owner_is_party Z6) (read s sound 15 (omega arith)) (read s sound 16 (omega arith)) (read s sound 17 (omega arith))
+pub record ZoneRead (w : ℕ) (z : Zone) (v : ZoneState) : Type 0 where
+  pub owner : bits_of w (zone_bit z) 2 ≡ owner_code z v.owner
+  pub flag : bits_of w (zone_bit z + 2) 1 ≡ one_if v.flag
+  pub posture : bits_of w (zone_bit z + 3) 2 ≡ posture_code v.posture
+
+pub zone_fields_read : (s : ModelState) → IsSound s → (z : Zone) → ZoneRead (packed s) z (zone_at s z)
+zone_fields_read s sound Z1 = record { owner = read s sound 0 (omega arith); flag = read s sound 1 (omega arith); posture = read s sound 2 (omega arith) }
+zone_fields_read s sound Z2 = record { owner = read s sound 3 (omega arith); flag = read s sound 4 (omega arith); posture = read s sound 5 (omega arith) }
+zone_fields_read s sound Z3 = record { owner = read s sound 6 (omega arith); flag = read s sound 7 (omega arith); posture = read s sound 8 (omega arith) }
+zone_fields_read s sound Z4 = record { owner = read s sound 9 (omega arith); flag = read s sound 10 (omega arith); posture = read s sound 11 (omega arith) }
+zone_fields_read s sound Z5 = record { owner = read s sound 12 (omega arith); flag = read s sound 13 (omega arith); posture = read s sound 14 (omega arith) }
+zone_fields_read s sound Z6 = record { owner = read s sound 15 (omega arith); flag = read s sound 16 (omega arith); posture = read s sound 17 (omega arith) }
+
+pub zone_read : (s : ModelState) → IsSound s → (z : Zone) → zone_told (packed s) z ≡ zone_at s z
+zone_read s sound z = let r = zone_fields_read s sound z in zone_back (packed s) z (zone_at s z) (sound.owner_is_party z) r.owner r.flag r.posture
+
+pub place_field_read : (s : ModelState) → IsSound s → (p : Place) → bits_of (packed s) (place_bit p) 1 ≡ one_if (is_full s p)
+place_field_read s sound FeedEntry = read s sound 18 (omega arith)
+place_field_read s sound FeedEnd = read s sound 19 (omega arith)
+place_field_read s sound Table = read s sound 20 (omega arith)
+place_field_read s sound Arm1 = read s sound 21 (omega arith)
+place_field_read s sound PressIn = read s sound 22 (omega arith)
+place_field_read s sound PressOut = read s sound 23 (omega arith)
+place_field_read s sound Arm2 = read s sound 24 (omega arith)
+place_field_read s sound DepEntry = read s sound 25 (omega arith)
+place_field_read s sound DepEnd = read s sound 26 (omega arith)
+place_field_read s sound Crane = read s sound 27 (omega arith)
 
 place_read : (s : ModelState) → IsSound s → (p : Place) → is_told_full (packed s) p ≡ is_full s p
-place_read s sound FeedEntry = place_back (packed s) 30 s.full.feed_entry (read s sound 18 (omega arith))
-place_read s sound FeedEnd = place_back (packed s) 31 s.full.feed_end (read s sound 19 (omega arith))
-place_read s sound Table = place_back (packed s) 32 s.full.table (read s sound 20 (omega arith))
-place_read s sound Arm1 = place_back (packed s) 33 s.full.arm1 (read s sound 21 (omega arith))
-place_read s sound PressIn = place_back (packed s) 34 s.full.press_in (read s sound 22 (omega arith))
-place_read s sound PressOut = place_back (packed s) 35 s.full.press_out (read s sound 23 (omega arith))
-place_read s sound Arm2 = place_back (packed s) 36 s.full.arm2 (read s sound 24 (omega arith))
-place_read s sound DepEntry = place_back (packed s) 37 s.full.dep_entry (read s sound 25 (omega arith))
-place_read s sound DepEnd = place_back (packed s) 38 s.full.dep_end (read s sound 26 (omega arith))
-place_read s sound Crane = place_back (packed s) 39 s.full.crane (read s sound 27 (omega arith))
+place_read s sound p = place_back (packed s) (place_bit p) (is_full s p) (place_field_read s sound p)
+
+pub stamp_read : (s : ModelState) → IsSound s → bits_of (packed s) stamp_bit 20 ≡ s.stamp
+stamp_read s sound = read s sound 28 (omega arith)
 
 pub told_back : (s : ModelState) → IsSound s → state_told (packed s) ≡ s
 told_back s sound =
     let zone = zone_read s sound in
     let place = place_read s sound in
-    let stamp : bits_of (packed s) stamp_bit 20 ≡ s.stamp = read s sound 28 (omega arith) in
+    let stamp = stamp_read s sound in
     λ i. record {
       zones = record { at_z1 = zone Z1 i; at_z2 = zone Z2 i; at_z3 = zone Z3 i; at_z4 = zone Z4 i; at_z5 = zone Z5 i; at_z6 = zone Z6 i };
       full = record {

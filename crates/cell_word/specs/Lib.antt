@@ -1,3 +1,7 @@
 pub mod Layout
 pub mod Reading
 pub mod Laws
+pub mod Patterns
+pub mod Rows
+pub mod Changes
+pub mod StateWords

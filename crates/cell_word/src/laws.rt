@@ -1,8 +1,13 @@
 //! What holds of the word of every state: laws, in functions that do nothing.
-ghost use Rattle.std.specs.Prelude.{◌≡◌};
+ghost use Rattle.std.specs.Prelude.{◌≡◌, IsTrue};
+ghost use Rattle.cell_types.specs.declared.machine.Machine.{Machine};
+ghost use Rattle.cell_types.specs.declared.call.Call.{Call};
 ghost use Rattle.cell_rules.specs.ModelState.{ModelState};
 ghost use Rattle.cell_rules.specs.Sound.{IsSound};
+ghost use Rattle.cell_rules.specs.Reply.{refusal};
+ghost use Rattle.cell_rules.specs.Causes.{order_of};
 ghost use Rattle.cell_word.specs.Layout.{packed};
+ghost use Rattle.cell_word.specs.Rows.{first_refusal, row_of, numbers_of, is_ordered};
 ghost use Rattle.cell_word.specs.Laws.{IsLaidOut};
 
 /// The fields of a sound state fill the bits 0 to 59 of its word, side by side and none over
@@ -15,4 +20,13 @@ pub fn word_is_laid_out()
 pub fn words_are_distinct()
     ensures { (one other : ModelState) → IsSound one → IsSound other
         → packed one ≡ packed other → one ≡ other }
+{}
+
+/// The guards of a call are its refusals: the first guard of the row that refuses a sound state's word
+/// has the refusal with which the interlock answers, and the guards of a row stand in the order of the
+/// call's refusals.
+pub fn guards_are_refusals()
+    ensures first { (state : ModelState) → IsSound state → (machine : Machine) (call : Call)
+        → first_refusal (packed state) (row_of machine call) ≡ refusal state machine call }
+    ensures order { (machine : Machine) (call : Call) → IsTrue (is_ordered (order_of call) (numbers_of (row_of machine call))) }
 {}

@@ -2,10 +2,16 @@
 #![tactic(auto)]
 
 mod bits;
+mod changes;
 mod codes;
 pub mod laws;
+mod patterns;
+mod pose_rows;
+mod rows;
+mod state_words;
 mod step;
 mod word;
 
-pub use step::step_word;
+pub use changes::masks;
+pub use step::{step_sound, step_word};
 pub use word::{pack, stamp_of, unpack};

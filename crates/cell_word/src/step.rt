@@ -1,12 +1,54 @@
 ghost use Rattle.std.specs.Prelude.{◌≡◌, ◌≢◌, ◌↔◌, Some, IsNone};
-ghost use Rattle.cell_rules.specs.ModelState.{ModelState};
+ghost use Rattle.cell_types.specs.declared.answer.Answer.TheVariants.{Done, Shown};
+ghost use Rattle.cell_rules.specs.ModelState.{ModelState, zone_at};
 ghost use Rattle.cell_rules.specs.Sound.{IsSound};
 ghost use Rattle.cell_rules.specs.Reply.{reply, next};
 ghost use Rattle.cell_word.specs.Layout.{packed};
 
-use crate::word::{pack, unpack};
-use cell_rules::apply;
-use cell_types::{Answer, Call, Machine};
+use crate::changes::masks;
+use crate::codes::STAMP_BIT;
+use crate::rows::refusal;
+use crate::state_words::is_state_word;
+use crate::word::zone_told;
+use cell_types::{Answer, Call, Machine, Zone};
+
+/// What stands at a zone.
+fn shown(word: u64, zone: Zone) -> Answer
+    ensures { (state : ModelState) → IsSound state → packed state ≡ word
+        → result ≡ Shown (zone_at state zone).owner (zone_at state zone).flag (zone_at state zone).posture }
+{
+    let at = zone_told(word, zone);
+    Answer::Shown {
+        owner: at.owner,
+        flag: at.flag,
+        posture: at.posture,
+    }
+}
+
+/// The word after a call that is Done.
+fn changed(word: u64, machine: Machine, call: Call) -> u64
+    requires { (state : ModelState) × IsSound state × (packed state ≡ word) × (reply state machine call ≡ Done) }
+    ensures { (state : ModelState) → IsSound state → packed state ≡ word → result ≡ packed (next state machine call) }
+{
+    let (clear, set) = masks(machine, call);
+    (word & !clear | set) + (1 << STAMP_BIT)
+}
+
+/// Makes a call on the word of a sound state, which is not taken apart: the interlock's answer, and
+/// the word of the state after it, which is the same word unless the answer is Done.
+pub fn step_sound(word: u64, machine: Machine, call: Call) -> (Answer, u64)
+    requires { (state : ModelState) × IsSound state × (packed state ≡ word) }
+    ensures { (state : ModelState) → IsSound state → packed state ≡ word
+        → result ≡ (reply state machine call, packed (next state machine call)) }
+{
+    if let Call::Inquire(zone) = call {
+        return (shown(word, zone), word);
+    }
+    match refusal(word, machine, call) {
+        Some(refusal) => (Answer::Refused(refusal), word),
+        None => (Answer::Done, changed(word, machine, call)),
+    }
+}
 
 /// Makes a call on a word: the interlock's answer, and the word of the state after it, which is the
 /// same word unless the answer is Done. `None` where no sound state packs to the word.
@@ -15,7 +57,9 @@ pub fn step_word(word: u64, machine: Machine, call: Call) -> Option<(Answer, u64
         → result ≡ Some (reply state machine call, packed (next state machine call)) }
     ensures none { IsNone result ↔ ((state : ModelState) → IsSound state → packed state ≢ word) }
 {
-    let mut state = unpack(word)?;
-    let answer = apply(&mut state, machine, call);
-    Some((answer, pack(&state)))
+    if is_state_word(word) {
+        Some(step_sound(word, machine, call))
+    } else {
+        None
+    }
 }

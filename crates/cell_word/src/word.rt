@@ -51,7 +51,7 @@ pub fn pack(state: &State) -> u64
     with_bits(word, STAMP_BIT, 20, u64::from(state.stamp()))
 }
 
-fn zone_told(word: u64, zone: Zone) -> ZoneState
+pub(crate) fn zone_told(word: u64, zone: Zone) -> ZoneState
     ensures { result ≡ reading.zone_told word zone }
 {
     let lowest = zone_bit(zone);

@@ -1,0 +1,150 @@
+-- A call that writes something is Done on some state.
+use Rattle.std.proofs.Common.{◌≡◌, ℕ, Bool, true, false, ◌||◌, ◌&&◌, nat_eq, nat_lt, ◌<◌, ◌^◌, Option, Some, None, is_some, refl, eqb-true, ltb-true, if◌then◌else◌}
+use Rattle.std.specs.Prelude.{◌≢◌}
+use Rattle.cell_types.specs.declared.machine.Machine.{Machine}
+use Rattle.cell_types.specs.declared.machine.Machine.TheVariants.{Press}
+use Rattle.cell_types.specs.declared.zone.Zone.{Zone}
+use Rattle.cell_types.specs.declared.place.Place.{Place}
+use Rattle.cell_types.specs.declared.zone.Transfer.{Transfer}
+use Rattle.cell_types.specs.declared.posture.Posture.{Posture}
+use Rattle.cell_types.specs.declared.posture.Posture.TheVariants.{Closed, Moving, OpenIn, OpenOut}
+use Rattle.cell_types.specs.declared.call.Call.{Call}
+use Rattle.cell_types.specs.declared.call.Call.TheVariants.{Claim, Give, Yield, Take, Release, SetPose, Advance, Inquire}
+use Rattle.cell_types.specs.declared.answer.Answer.{Answer}
+use Rattle.cell_types.specs.declared.answer.Answer.TheVariants.{Done, Shown, Refused}
+use Rattle.cell_types.specs.Tables.{host_of, transfer_of}
+use Rattle.cell_types.specs.Same.{same_machine}
+use Rattle.cell_types.specs.Ways.{work_of}
+use Rattle.cell_rules.specs.declared.zones.ZoneState.{ZoneState}
+use Rattle.cell_rules.specs.ZoneMap.{put_zone, map_zones, everywhere, free_zone}
+use Rattle.cell_rules.specs.PlaceSet.{PlaceSet, empty, insert_place}
+use Rattle.cell_rules.specs.ModelState.{ModelState, model_state}
+use Rattle.cell_rules.specs.Sound.{IsSound}
+use Rattle.cell_rules.specs.SoundTest.{is_sound}
+use Rattle.cell_rules.specs.Refusals.{given_by}
+use Rattle.cell_rules.specs.Reply.{reply}
+use Rattle.cell_rules.proofs.Tables.{and_left, and_right, all_machines, from_machines, all_zones, from_zones, all_poses, from_poses}
+use Rattle.cell_rules.proofs.Tested.{sound_by_test}
+use Rattle.cell_word.specs.Rows.{row_given}
+use Rattle.cell_word.specs.Changes.{written, received_by}
+use Rattle.cell_word.specs.declared.patterns.Pattern.{Pattern}
+
+-- ---- a test of all calls
+abbrev each : (Call → Bool) → (Zone → Call) → Bool
+each P call = all_zones (λ z. P (call z))
+
+abbrev poses_on : (Call → Bool) → Bool
+poses_on P = all_poses (λ p. P (SetPose p)) && (P Advance && each P Inquire)
+
+abbrev takes_on : (Call → Bool) → Bool
+takes_on P = each P Take && (each P Release && poses_on P)
+
+abbrev gives_on : (Call → Bool) → Bool
+gives_on P = each P Give && (each P Yield && takes_on P)
+
+abbrev pub all_calls : (Call → Bool) → Bool
+all_calls P = each P Claim && gives_on P
+
+by_call : (P : Call → Bool) → each P Claim ≡ true → each P Give ≡ true → each P Yield ≡ true → each P Take ≡ true → each P Release ≡ true → all_poses (λ p. P (SetPose p)) ≡ true → P Advance ≡ true
+    → each P Inquire ≡ true → (c : Call) → P c ≡ true
+by_call P claims gives yields takes releases poses work inquiries (Claim z) = from_zones (λ z. P (Claim z)) claims z
+by_call P claims gives yields takes releases poses work inquiries (Give z) = from_zones (λ z. P (Give z)) gives z
+by_call P claims gives yields takes releases poses work inquiries (Yield z) = from_zones (λ z. P (Yield z)) yields z
+by_call P claims gives yields takes releases poses work inquiries (Take z) = from_zones (λ z. P (Take z)) takes z
+by_call P claims gives yields takes releases poses work inquiries (Release z) = from_zones (λ z. P (Release z)) releases z
+by_call P claims gives yields takes releases poses work inquiries (SetPose p) = from_poses (λ p. P (SetPose p)) poses p
+by_call P claims gives yields takes releases poses work inquiries Advance = work
+by_call P claims gives yields takes releases poses work inquiries (Inquire z) = from_zones (λ z. P (Inquire z)) inquiries z
+
+pub from_calls : (P : Call → Bool) → all_calls P ≡ true → (c : Call) → P c ≡ true
+from_calls P e =
+    let gives = and_right (each P Claim) (gives_on P) e in
+    let yields = and_right (each P Give) (each P Yield && takes_on P) gives in
+    let takes = and_right (each P Yield) (takes_on P) yields in
+    let releases = and_right (each P Take) (each P Release && poses_on P) takes in
+    let poses = and_right (each P Release) (poses_on P) releases in
+    let works = and_right (all_poses (λ p. P (SetPose p))) (P Advance && each P Inquire) poses in
+    by_call P (and_left (each P Claim) (gives_on P) e) (and_left (each P Give) (each P Yield && takes_on P) gives) (and_left (each P Yield) (takes_on P) yields)
+    (and_left (each P Take) (each P Release && poses_on P) takes) (and_left (each P Release) (poses_on P) releases) (and_left (all_poses (λ p. P (SetPose p))) (P Advance && each P Inquire) poses)
+    (and_left (P Advance) (each P Inquire) works) (and_right (P Advance) (each P Inquire) works)
+
+-- ---- states in which a call finds all that it needs
+abbrev at : Option Machine → Bool → Posture → ZoneState
+at o f q = record { owner = o; flag = f; posture = q }
+
+abbrev with_zone : Zone → ZoneState → PlaceSet → ModelState
+with_zone z v full = model_state (put_zone (everywhere free_zone) z v) full 0
+
+-- the way in which a row leads, if there is one, and else the other
+abbrev way_of : Option Transfer → Posture
+way_of row = if is_some row then OpenIn else OpenOut
+
+abbrev start_of : Option Transfer → PlaceSet
+start_of None = empty
+start_of (Some row) = insert_place empty row.from
+
+abbrev hosting : Machine → Posture → PlaceSet → ModelState
+hosting m q full = model_state (map_zones (λ z v. if same_machine (host_of z) m then at (Some m) false q else v) (everywhere free_zone)) full 0
+
+abbrev begun : Option (Place × Place) → PlaceSet
+begun None = empty
+begun (Some way) = insert_place empty way.0
+
+abbrev example : Machine → Call → ModelState
+example m (Claim z) = with_zone z (at None false (way_of (transfer_of z OpenIn))) empty
+example m (Give z) = with_zone z (at (Some m) false (way_of (given_by m (transfer_of z OpenIn)))) (start_of (row_given m z))
+example m (Yield z) = with_zone z (at (Some m) false (way_of (transfer_of z OpenIn))) empty
+example m (Take z) = with_zone z (at (Some m) true (way_of (received_by m (transfer_of z OpenIn)))) empty
+example m (Release z) = with_zone z (at (Some m) false (way_of (transfer_of z OpenIn))) empty
+example m (SetPose p) = hosting m Moving empty
+example m Advance = hosting m (if same_machine m Press then Closed else Moving) (begun (work_of m))
+example m (Inquire z) = hosting m Closed empty
+
+abbrev is_done : Answer → Bool
+is_done Done = true
+is_done (Shown _ _ _) = false
+is_done (Refused _) = false
+
+done : (a : Answer) → is_done a ≡ true → a ≡ Done
+done Done e = refl
+done (Shown o f q) e = cc
+done (Refused r) e = cc
+
+abbrev writes_nothing : Pattern → Bool
+writes_nothing p = nat_eq p.mask 0 && nat_eq p.wanted 0
+
+abbrev may_be_done : ModelState → Machine → Call → Bool
+may_be_done s m c = is_sound s && is_done (reply s m c)
+
+abbrev possible_test : Machine → Call → Bool
+possible_test m c = writes_nothing (written m c) || may_be_done (example m c) m c
+
+possible_table : all_machines (λ m. all_calls (possible_test m)) ≡ true
+possible_table = refl
+
+untouched : (p : Pattern) (b d : Bool) → writes_nothing p ≡ b → (b || d) ≡ true → (d ≡ true → ⊥) → ◌≡◌ {A = ℕ × ℕ} (p.mask, p.wanted) (0, 0)
+untouched p true d e test never =
+    let mask = eqb-true p.mask 0 (and_left (nat_eq p.mask 0) (nat_eq p.wanted 0) e) in
+    let wanted = eqb-true p.wanted 0 (and_right (nat_eq p.mask 0) (nat_eq p.wanted 0) e) in
+    λ i. (mask i, wanted i)
+untouched p false d e test never = absurd (never test)
+
+pub never_written : (m : Machine) (c : Call) → ((s : ModelState) → IsSound s → reply s m c ≢ Done) → ◌≡◌ {A = ℕ × ℕ} ((written m c).mask, (written m c).wanted) (0, 0)
+never_written m c never =
+    let s = example m c in
+    untouched (written m c) (writes_nothing (written m c)) (may_be_done s m c) refl (from_calls (possible_test m) (from_machines (λ m. all_calls (possible_test m)) possible_table m) c)
+    (λ e. never s (sound_by_test s (and_left (is_sound s) (is_done (reply s m c)) e)) (done (reply s m c) (and_right (is_sound s) (is_done (reply s m c)) e)))
+
+-- no call writes into the stamp, or above it
+abbrev low_test : Machine → Call → Bool
+low_test m c = nat_lt (written m c).mask 0x10000000000 && nat_lt (written m c).wanted 0x10000000000
+
+low_table : all_machines (λ m. all_calls (low_test m)) ≡ true
+low_table = refl
+
+pub written_low : (m : Machine) (c : Call) → ((written m c).mask < 2 ^ 40) × ((written m c).wanted < 2 ^ 40)
+written_low m c =
+    let mask = nat_lt (written m c).mask 0x10000000000 in
+    let wanted = nat_lt (written m c).wanted 0x10000000000 in
+    let low = from_calls (low_test m) (from_machines (λ m. all_calls (low_test m)) low_table m) c in
+    (ltb-true (written m c).mask 0x10000000000 (and_left mask wanted low), ltb-true (written m c).wanted 0x10000000000 (and_right mask wanted low))

@@ -1,0 +1,77 @@
+-- What the word of a sound state shows through windows on its zones, its places and its stamp.
+use Rattle.std.proofs.Common.{◌≡◌, ℕ, ◌+◌, ◌*◌, ◌^◌, Bool, true, false, ◌&&◌, refl, ap, ◌∙◌}
+use Rattle.std.specs.Prelude.{bit_and, bit_or}
+use Rattle.cell_types.specs.declared.zone.Zone.{Zone}
+use Rattle.cell_types.specs.declared.place.Place.{Place}
+use Rattle.cell_types.specs.Tables.{transfer_of}
+use Rattle.cell_rules.specs.declared.zones.ZoneState.{ZoneState}
+use Rattle.cell_rules.specs.ModelState.{ModelState, zone_at, is_full, one_if}
+use Rattle.cell_rules.specs.Sound.{IsSound, implies, has_lawful_owner, is_lawful_plate, is_received_by, is_onto_full, is_open_to_guest, moves_by_host, is_of_some_pose}
+use Rattle.cell_rules.proofs.Tables.{and_both}
+use Rattle.cell_word.specs.Layout.{zone_bit, place_bit, stamp_bit, owner_code, posture_code, packed}
+use Rattle.cell_word.specs.Reading.{bits_of}
+use Rattle.cell_word.proofs.RoundTrip.{zone_fields_read, place_field_read, stamp_read}
+use Rattle.cell_word.proofs.Windows.{and_or, field_shown, five_bits}
+
+-- the five bits of a zone
+abbrev pub zone_code : Zone → ZoneState → ℕ
+zone_code z v = owner_code z v.owner + 4 * one_if v.flag + 8 * posture_code v.posture
+
+abbrev pub zone_window : Zone → ℕ
+zone_window z = 31 * 2 ^ zone_bit z
+
+abbrev pub zone_word : Zone → ZoneState → ℕ
+zone_word z v = zone_code z v * 2 ^ zone_bit z
+
+abbrev pub place_window : Place → ℕ
+place_window p = 1 * 2 ^ place_bit p
+
+abbrev pub place_word : Place → Bool → ℕ
+place_word p b = one_if b * 2 ^ place_bit p
+
+abbrev pub stamp_window : ℕ
+stamp_window = 1048575 * 2 ^ stamp_bit
+
+pub zone_five : (s : ModelState) → IsSound s → (z : Zone) → bits_of (packed s) (zone_bit z) 5 ≡ zone_code z (zone_at s z)
+zone_five s sound z =
+    let r = zone_fields_read s sound z in
+    five_bits (packed s) (zone_bit z)
+    ∙ ap (λ n. n + 4 * bits_of (packed s) (zone_bit z + 2) 1 + 8 * bits_of (packed s) (zone_bit z + 3) 2) r.owner
+    ∙ ap (λ n. owner_code z (zone_at s z).owner + 4 * n + 8 * bits_of (packed s) (zone_bit z + 3) 2) r.flag
+    ∙ ap (λ n. owner_code z (zone_at s z).owner + 4 * one_if (zone_at s z).flag + 8 * n) r.posture
+
+pub zone_shown : (s : ModelState) → IsSound s → (z : Zone) → bit_and (packed s) (zone_window z) ≡ zone_word z (zone_at s z)
+zone_shown s sound z = field_shown (packed s) (zone_bit z) 5 ∙ ap (λ n. n * 2 ^ zone_bit z) (zone_five s sound z)
+
+pub place_shown : (s : ModelState) → IsSound s → (p : Place) → bit_and (packed s) (place_window p) ≡ place_word p (is_full s p)
+place_shown s sound p = field_shown (packed s) (place_bit p) 1 ∙ ap (λ n. n * 2 ^ place_bit p) (place_field_read s sound p)
+
+pub stamp_shown : (s : ModelState) → IsSound s → bit_and (packed s) stamp_window ≡ s.stamp * 2 ^ stamp_bit
+stamp_shown s sound = field_shown (packed s) stamp_bit 20 ∙ ap (λ n. n * 2 ^ stamp_bit) (stamp_read s sound)
+
+-- a zone and a place at once
+pub zone_and_place_shown : (s : ModelState) → IsSound s → (z : Zone) (p : Place)
+    → bit_and (packed s) (bit_or (zone_window z) (place_window p)) ≡ bit_or (zone_word z (zone_at s z)) (place_word p (is_full s p))
+zone_and_place_shown s sound z p =
+    and_or (packed s) (zone_window z) (place_window p)
+    ∙ ap (λ n. bit_or n (bit_and (packed s) (place_window p))) (zone_shown s sound z)
+    ∙ ap (bit_or (zone_word z (zone_at s z))) (place_shown s sound p)
+
+-- ---- what a sound state has at a zone, whatever is at its places
+abbrev pub is_lawful : Zone → ZoneState → Bool
+is_lawful z v = has_lawful_owner z v && is_lawful_plate false z v && is_open_to_guest z v && moves_by_host z v && is_of_some_pose z v.posture
+
+flagless : (f r : Bool) → implies f (r && false) ≡ true → implies f (r && true) ≡ true
+flagless false r e = refl
+flagless true true e = cc
+flagless true false e = cc
+
+emptier : (b : Bool) (z : Zone) (v : ZoneState) → is_lawful_plate b z v ≡ true → is_lawful_plate false z v ≡ true
+emptier false z v e = e
+emptier true z v e = flagless v.flag (is_received_by v.owner (transfer_of z v.posture)) e
+
+pub lawful_at : (s : ModelState) → IsSound s → (z : Zone) → is_lawful z (zone_at s z) ≡ true
+lawful_at s h z =
+    let v = zone_at s z in
+    let plate : is_lawful_plate false z v ≡ true = emptier (is_onto_full s.full (transfer_of z v.posture)) z v (h.flag_has_transfer z) in
+    and_both _ _ (and_both _ _ (and_both _ _ (and_both _ _ (h.owner_is_party z) plate) (h.guest_only_while_open z)) (h.moving_belongs_to_host z)) (h.posture_of_some_pose z)

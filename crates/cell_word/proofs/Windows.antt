@@ -1,0 +1,83 @@
+-- A row of guards sees of a word no bits but those under its masks.
+use Rattle.std.proofs.Common.{◌≡◌, ℕ, ◌+◌, ◌-◌, ◌*◌, ◌/◌, ◌%◌, ◌^◌, min, max, Bool, true, false, cond, nat_eq, Option, Some, option_map, List, [], ◌∷◌, ◌++◌, refl, sym, ap, ◌∙◌, arith, eqb-true}
+use Rattle.std.specs.Prelude.{bit_and, bit_or}
+use Rattle.std.specs.Int.{bit_at}
+use Rattle.std.specs.Option.{option_or}
+use Rattle.std.specs.List.{find, list_all}
+use Rattle.std.proofs.Math.Nat.{mul_comm, mul-sub}
+use Rattle.std.proofs.lemmas.Nat.{and_assoc, pow-add, shr-shr}
+use Rattle.std.proofs.lemmas.Nat.Bits.{and_high, bit_at_and, bit_at_or, same_from_bits}
+use Rattle.cell_types.specs.declared.answer.Refusal.{Refusal}
+use Rattle.cell_rules.proofs.Tables.{and_left, and_right}
+use Rattle.cell_word.specs.Reading.{bits_of}
+use Rattle.cell_word.specs.Patterns.{stands}
+use Rattle.cell_word.specs.Rows.{first_refusal}
+use Rattle.cell_word.specs.declared.patterns.Pattern.{Pattern}
+use Rattle.cell_word.specs.declared.patterns.Guard.{Guard}
+
+-- ---- rows in parts
+step : (t : Bool) (g : Guard) (x y : Option Guard) (o : Option Refusal) → option_map (λ (g : Guard). g.refusal) x ≡ option_or (option_map (λ (g : Guard). g.refusal) y) o
+    → option_map (λ (g : Guard). g.refusal) (cond t (Some g) x) ≡ option_or (option_map (λ (g : Guard). g.refusal) (cond t (Some g) y)) o
+step true g x y o e = refl
+step false g x y o e = e
+
+pub first-append : (w : ℕ) (a b : List Guard) → first_refusal w (a ++ b) ≡ option_or (first_refusal w a) (first_refusal w b)
+first-append w [] b = refl
+first-append w (g ∷ gs) b = step (stands w g.pattern) g (find (λ g. stands w g.pattern) (gs ++ b)) (find (λ g. stands w g.pattern) gs) (first_refusal w b) (first-append w gs b)
+
+-- ---- windows
+abbrev pub is_within : ℕ → Guard → Bool
+is_within window g = nat_eq (bit_and window g.pattern.mask) g.pattern.mask
+
+abbrev pub all_within : ℕ → List Guard → Bool
+all_within window row = list_all (is_within window) row
+
+pub stands-window : (w window : ℕ) (p : Pattern) → nat_eq (bit_and window p.mask) p.mask ≡ true → stands w p ≡ stands (bit_and w window) p
+stands-window w window p inside =
+    let same : bit_and window p.mask ≡ p.mask = eqb-true (bit_and window p.mask) p.mask inside in
+    ap (λ n. nat_eq n p.wanted) (ap (bit_and w) (sym same) ∙ sym (and_assoc p.mask w window))
+
+next : (t u : Bool) (g : Guard) (x y : Option Guard) → t ≡ u → option_map (λ (g : Guard). g.refusal) x ≡ option_map (λ (g : Guard). g.refusal) y
+    → option_map (λ (g : Guard). g.refusal) (cond t (Some g) x) ≡ option_map (λ (g : Guard). g.refusal) (cond u (Some g) y)
+next true true g x y e r = refl
+next false false g x y e r = r
+next true false g x y e r = cc
+next false true g x y e r = cc
+
+pub first-window : (w window : ℕ) (row : List Guard) → all_within window row ≡ true → first_refusal w row ≡ first_refusal (bit_and w window) row
+first-window w window [] inside = refl
+first-window w window (g ∷ gs) inside =
+    let rest = first-window w window gs (and_right (is_within window g) (all_within window gs) inside) in
+    let here = stands-window w window g.pattern (and_left (is_within window g) (all_within window gs) inside) in
+    next (stands w g.pattern) (stands (bit_and w window) g.pattern) g (find (λ g. stands w g.pattern) gs) (find (λ g. stands (bit_and w window) g.pattern) gs) here rest
+
+-- ---- what windows show
+spread : (a b c : ℕ) → min a (max b c) ≡ max (min a b) (min a c)
+spread a b c = omega arith
+
+pub and_or : (w a b : ℕ) → bit_and w (bit_or a b) ≡ bit_or (bit_and w a) (bit_and w b)
+and_or w a b =
+    same_from_bits (bit_and w (bit_or a b)) (bit_or (bit_and w a) (bit_and w b))
+    (λ i.
+    bit_at_and w (bit_or a b) i
+    ∙ ap (min (bit_at w i)) (bit_at_or a b i)
+    ∙ spread (bit_at w i) (bit_at a i) (bit_at b i)
+    ∙ sym (ap (λ n. max (min (bit_at w i) (bit_at a i)) n) (bit_at_and w b i))
+    ∙ sym (ap (λ n. max n (bit_at (bit_and w b) i)) (bit_at_and w a i))
+    ∙ sym (bit_at_or (bit_and w a) (bit_and w b) i))
+
+mask_ends : (lowest width : ℕ) → (2 ^ width - 1) * 2 ^ lowest ≡ 2 ^ (width + lowest) - 2 ^ lowest
+mask_ends lowest width =
+    let ends : 2 ^ (width + lowest) ≡ 2 ^ width * 2 ^ lowest = pow-add 2 width lowest in
+    let turned : 2 ^ width * 2 ^ lowest ≡ 2 ^ lowest * 2 ^ width = mul_comm (2 ^ width) (2 ^ lowest) in
+    mul_comm (2 ^ width - 1) (2 ^ lowest) ∙ mul-sub (2 ^ lowest) (2 ^ width) 1 ∙ omega arith
+
+-- a window on a field shows its value
+pub field_shown : (w lowest width : ℕ) → bit_and w ((2 ^ width - 1) * 2 ^ lowest) ≡ bits_of w lowest width * 2 ^ lowest
+field_shown w lowest width = ap (bit_and w) (mask_ends lowest width) ∙ and_high w width lowest
+
+five : (a : ℕ) → a % 32 ≡ a % 4 + 4 * (a / 4 % 2) + 8 * (a / 8 % 4)
+five a = omega arith
+
+pub five_bits : (w k : ℕ) → bits_of w k 5 ≡ bits_of w k 2 + 4 * bits_of w (k + 2) 1 + 8 * bits_of w (k + 3) 2
+five_bits w k = rw (← shr-shr w k 2) (rw (← shr-shr w k 3) (five (w / 2 ^ k)))

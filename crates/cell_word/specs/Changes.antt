@@ -1,0 +1,64 @@
+-- The bits that a call writes where it is Done.
+use Rattle.std.specs.Prelude.{true, false, Option, Some, None, if◌then◌else◌}
+use Rattle.std.specs.Option.{option_or}
+use Rattle.cell_types.specs.declared.machine.Machine.{Machine}
+use Rattle.cell_types.specs.declared.machine.Machine.TheVariants.{Feed, Deposit}
+use Rattle.cell_types.specs.declared.zone.Zone.{Zone}
+use Rattle.cell_types.specs.declared.zone.Zone.TheVariants.{Z4, Z5, Z6}
+use Rattle.cell_types.specs.declared.place.Place.{Place}
+use Rattle.cell_types.specs.declared.zone.Transfer.{Transfer}
+use Rattle.cell_types.specs.declared.posture.Posture.{Posture}
+use Rattle.cell_types.specs.declared.posture.Posture.TheVariants.{Closed, OpenIn, OpenOut}
+use Rattle.cell_types.specs.declared.call.Call.{Call}
+use Rattle.cell_types.specs.declared.call.Call.TheVariants.{Claim, Give, Yield, Take, Release, SetPose, Advance, Inquire}
+use Rattle.cell_types.specs.Tables.{transfer_of}
+use Rattle.cell_types.specs.Ways.{work_of}
+use Rattle.cell_types.specs.Same.{same_machine}
+use Rattle.cell_rules.specs.Sound.{is_party}
+use Rattle.cell_rules.specs.Reply.{other_party}
+use Rattle.cell_word.specs.Patterns.{anything, both, owner_is, flag_is, posture_is, place_is}
+use Rattle.cell_word.specs.Rows.{row_given, hosted, posed_at}
+use Rattle.cell_word.specs.declared.patterns.Pattern.{Pattern}
+
+-- the row of transfers in which a machine receives in a zone, of which there is one at most
+abbrev pub received_by : Machine → Option Transfer → Option Transfer
+received_by m None = None
+received_by m (Some row) = if same_machine row.receiver m then Some row else None
+
+abbrev pub row_received : Machine → Zone → Option Transfer
+row_received m z = option_or (received_by m (transfer_of z OpenIn)) (received_by m (transfer_of z OpenOut))
+
+abbrev pub owner_becomes : Machine → Zone → Option Machine → Pattern
+owner_becomes m z o = if is_party m z then owner_is z o else anything
+
+abbrev pub given_away : Machine → Zone → Option Transfer → Pattern
+given_away m z None = anything
+given_away m z (Some row) = both (place_is row.from false) (both (flag_is z true) (owner_is z (Some (other_party m z))))
+
+abbrev pub taken_in : Zone → Option Transfer → Pattern
+taken_in z None = anything
+taken_in z (Some row) = both (flag_is z false) (place_is row.to true)
+
+abbrev pub posed : Option (Zone × Posture) → Pattern
+posed None = anything
+posed (Some at) = posture_is at.0 at.1
+
+abbrev pub moved_on : Option (Place × Place) → Pattern
+moved_on None = anything
+moved_on (Some way) = both (place_is way.0 false) (place_is way.1 true)
+
+abbrev pub halted : Machine → Pattern
+halted Feed = posture_is Z6 Closed
+halted Deposit = both (posture_is Z4 Closed) (posture_is Z5 Closed)
+halted _ = anything
+
+-- what a machine's call writes; no bits where it can never be Done
+abbrev pub written : Machine → Call → Pattern
+written m (Claim z) = owner_becomes m z (Some m)
+written m (Give z) = given_away m z (row_given m z)
+written m (Yield z) = owner_becomes m z (Some (other_party m z))
+written m (Take z) = taken_in z (row_received m z)
+written m (Release z) = owner_becomes m z None
+written m (SetPose p) = both (posed (posed_at m p (hosted m).0)) (posed (posed_at m p (hosted m).1))
+written m Advance = both (moved_on (work_of m)) (halted m)
+written m (Inquire z) = anything

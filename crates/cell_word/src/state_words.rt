@@ -1,0 +1,92 @@
+//! Whether a word is that of a sound state, told by masks.
+ghost use Rattle.std.specs.Prelude.{◌≡◌, ◌↔◌, ◌<◌, ◌^◌, IsTrue};
+ghost use Rattle.cell_rules.specs.ModelState.{ModelState};
+ghost use Rattle.cell_rules.specs.Sound.{IsSound};
+ghost use Rattle.std.specs.List.{list_all};
+ghost use Rattle.cell_types.specs.Everything.{all_zones};
+ghost use Rattle.cell_types.specs.Tables.{transfer_of};
+ghost use Rattle.cell_word.specs.Layout.{packed};
+ghost use Rattle.cell_word.specs.StateWords as words;
+
+use crate::bits::bits;
+use crate::codes::zone_bit;
+use crate::patterns::Pattern;
+use cell_types::{Place, Posture, Zone, transfer};
+
+/// The numbers that the five bits of a zone may make, each as a bit that is set: where it is shut,
+/// that is 0 and 1 while it is closed and 9 while it moves;
+const SHUT_CODES: u64 = 0x203;
+
+/// where it is open inward, that is 16, 17 and 18, and 21 with a plate;
+const INWARD_CODES: u64 = 0x27_0000;
+
+/// and where it is open outward, that is 24, 25 and 26, and 30 with a plate.
+const OUTWARD_CODES: u64 = 0x4700_0000;
+
+fn zone_codes(zone: Zone) -> u64
+    ensures { result ≡ words.zone_codes zone }
+{
+    let mut codes = SHUT_CODES;
+    if transfer(zone, Posture::OpenIn).is_some() {
+        codes |= INWARD_CODES;
+    }
+    if transfer(zone, Posture::OpenOut).is_some() {
+        codes |= OUTWARD_CODES;
+    }
+    codes
+}
+
+/// A plate is on its way to a full place.
+fn onto_full(zone: Zone, posture: Posture) -> Pattern
+    ensures { result ≡ words.onto_full zone posture (transfer_of zone posture) }
+{
+    match transfer(zone, posture) {
+        Some(row) => {
+            let posture = Pattern::posture(zone, posture);
+            Pattern::flag(zone, true).and(posture.and(Pattern::place(row.to, true)))
+        }
+        None => Pattern::NOTHING,
+    }
+}
+
+fn is_lawful_zone(word: u64, zone: Zone) -> bool
+    ensures { result ≡ words.is_lawful_zone word zone }
+{
+    let code = bits(word, zone_bit(zone), 5);
+    bits(zone_codes(zone), code as u32, 1) == 1
+        && !onto_full(zone, Posture::OpenIn).stands_in(word)
+        && !onto_full(zone, Posture::OpenOut).stands_in(word)
+}
+
+/// The press has one plate at most, and not a forged one while it is open inward.
+fn is_lawful_press(word: u64) -> bool
+    ensures { result ≡ words.is_lawful_press word }
+{
+    let forged = Pattern::place(Place::PressOut, true);
+    !Pattern::place(Place::PressIn, true)
+        .and(forged)
+        .stands_in(word)
+        && !Pattern::posture(Zone::Z3, Posture::OpenIn)
+            .and(forged)
+            .stands_in(word)
+}
+
+fn are_lawful_zones(word: u64) -> bool
+    ensures { result ≡ list_all (words.is_lawful_zone word) all_zones }
+{
+    Zone::ALL.iter().all(|zone| is_lawful_zone(word, *zone))
+}
+
+/// Whether the bits above the stamp, the zones and the press are as the masks say.
+fn keeps_masks(word: u64) -> bool
+    ensures { result ≡ words.is_state_word word }
+{
+    Pattern::field(60, 4, 0).stands_in(word) && are_lawful_zones(word) && is_lawful_press(word)
+}
+
+/// Whether a word is that of a sound state.
+pub(crate) fn is_state_word(word: u64) -> bool
+    ensures { IsTrue result ↔ ((state : ModelState) × IsSound state × (packed state ≡ word)) }
+{
+    keeps_masks(word)
+}

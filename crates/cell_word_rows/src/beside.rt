@@ -1,0 +1,99 @@
+//! Each call of each machine on random words, beside the same call on the state that is taken out of
+//! the word.
+
+use cell_rules::apply;
+use cell_types::{Answer, Call, Machine, Pose, Zone};
+use cell_word::{masks, pack, step_word, unpack};
+
+/// A call on a word by the state that the word tells.
+fn by_unpacking(word: u64, machine: Machine, call: Call) -> Option<(Answer, u64)> {
+    let mut state = unpack(word)?;
+    let answer = apply(&mut state, machine, call);
+    Some((answer, pack(&state)))
+}
+
+/// Whether both ways agree, and the masks with them.
+fn agrees(word: u64, machine: Machine, call: Call) -> bool {
+    let stepped = step_word(word, machine, call);
+    let (clear, set) = masks(machine, call);
+    let is_written = match stepped {
+        Some((Answer::Done, next)) => next == (word & !clear | set).wrapping_add(1 << 40),
+        Some((_, next)) => next == word,
+        None => true,
+    };
+    is_written && stepped == by_unpacking(word, machine, call)
+}
+
+fn agrees_about(word: u64, machine: Machine, zone: Zone) -> bool {
+    agrees(word, machine, Call::Claim(zone))
+        && agrees(word, machine, Call::Give(zone))
+        && agrees(word, machine, Call::Yield(zone))
+        && agrees(word, machine, Call::Take(zone))
+        && agrees(word, machine, Call::Release(zone))
+        && agrees(word, machine, Call::Inquire(zone))
+}
+
+fn agrees_for(word: u64, machine: Machine) -> bool {
+    let poses = Pose::ALL
+        .iter()
+        .all(|pose| agrees(word, machine, Call::SetPose(*pose)));
+    let zones = Zone::ALL
+        .iter()
+        .all(|zone| agrees_about(word, machine, *zone));
+    poses && zones && agrees(word, machine, Call::Advance)
+}
+
+fn agrees_at(word: u64) -> bool {
+    Machine::ALL.iter().all(|machine| agrees_for(word, *machine))
+}
+
+/// The number after a number, all over the numbers of 64 bits.
+fn after(number: u64) -> u64 {
+    let mut next = number;
+    next ^= next << 13;
+    next ^= next >> 7;
+    next ^= next << 17;
+    next
+}
+
+// The five bits of a zone that plates may come into, and of one that they may leave.
+const INWARD: [u64; 7] = [0, 1, 9, 16, 17, 18, 21];
+const OUTWARD: [u64; 7] = [0, 1, 9, 24, 25, 26, 30];
+
+/// Some word in which each zone by itself may be so.
+fn likely_word(number: u64) -> u64 {
+    let pick = |by: u32| ((number >> by) % 7) as usize;
+    let z3 = if number % 2 == 0 { INWARD } else { OUTWARD };
+    let zones = INWARD[pick(1)]
+        | OUTWARD[pick(6)] << 5
+        | z3[pick(11)] << 10
+        | INWARD[pick(16)] << 15
+        | OUTWARD[pick(21)] << 20
+        | INWARD[pick(26)] << 25;
+    let last = if number >> 60 == 0 { 0x0FFF_FF00_0000_0000 } else { 0 };
+    zones | number & 0x0FFF_FFFF_C000_0000 | last
+}
+
+#[test]
+fn random_words(rt: HostRuntime) {
+    let mut number = 0x9E37_79B9_7F4A_7C15;
+    for _ in 0..10_000 {
+        number = after(number);
+        assert!(rt; agrees_at(number), "{number}");
+    }
+}
+
+#[test]
+fn random_sound_states(rt: HostRuntime) {
+    let mut number = 0x2545_F491_4F6C_DD1D;
+    let mut found = 0_u32;
+    for _ in 0..1_000_000 {
+        number = after(number);
+        let word = likely_word(number);
+        if found < 10_000 && unpack(word).is_some() {
+            found += 1;
+            assert!(rt; agrees_at(word), "{word}");
+        }
+    }
+    assert!(rt; found == 10_000, "{found}");
+}
