@@ -15,7 +15,7 @@ use crate::interlock::Interlock;
 use crate::pass::Pass;
 use crate::tries::{Look, Tried, Try};
 use cell_types::{Answer, Call, Machine, Reply};
-use cell_word::{stamp_of, step_word};
+use cell_word::{stamp_of, step_sound};
 
 /// The answer in the state of a word, and the word of the state after it.
 fn reply_at(word: u64, machine: Machine, call: Call) -> (Answer, u64)
@@ -23,10 +23,7 @@ fn reply_at(word: u64, machine: Machine, call: Call) -> (Answer, u64)
     ensures { (state : ModelState) → IsSound state → packed state ≡ word
         → (result.0 ≡ reply state machine call) × (result.1 ≡ packed (next state machine call)) }
 {
-    let Some(both) = step_word(word, machine, call) else {
-        unreachable!()
-    };
-    both
+    step_sound(word, machine, call)
 }
 
 fn is_done(answer: Answer) -> bool
