@@ -1,5 +1,6 @@
 //! The guards of poses, and of work.
 ghost use Rattle.std.specs.Prelude.{◌≡◌, ◌∷◌, []};
+ghost use Rattle.cell_types.specs.declared.machine.Machine.TheVariants.{Feed, Press, Deposit};
 ghost use Rattle.cell_types.specs.declared.posture.Posture.TheVariants.{OpenIn};
 ghost use Rattle.cell_rules.specs.Refusals as refusals;
 ghost use Rattle.cell_word.specs.Rows as rows;
@@ -186,45 +187,57 @@ fn no_room_at(place: Place) -> Guard
     Pattern::place(place, true).refuses(Refusal::PlaceFull)
 }
 
+/// Feed works while it runs.
+fn feed_row() -> [Guard; 5]
+    ensures { result ≡ rows.advance_row Feed }
+{
+    [
+        low_refuses(Zone::Z6, Posture::Moving, Refusal::NotAtWork),
+        high_refuses(Zone::Z6, Posture::Moving, Refusal::NotAtWork),
+        no_plate_at(Place::FeedEntry),
+        no_room_at(Place::FeedEnd),
+        worn(),
+    ]
+}
+
+/// So does deposit.
+fn deposit_row() -> [Guard; 7]
+    ensures { result ≡ rows.advance_row Deposit }
+{
+    [
+        low_refuses(Zone::Z4, Posture::Moving, Refusal::NotAtWork),
+        high_refuses(Zone::Z4, Posture::Moving, Refusal::NotAtWork),
+        low_refuses(Zone::Z5, Posture::Moving, Refusal::NotAtWork),
+        high_refuses(Zone::Z5, Posture::Moving, Refusal::NotAtWork),
+        no_plate_at(Place::DepEntry),
+        no_room_at(Place::DepEnd),
+        worn(),
+    ]
+}
+
+/// The press works while it holds its zone, closed.
+fn press_row() -> [Guard; 7]
+    ensures { result ≡ rows.advance_row Press }
+{
+    [
+        unowned(Zone::Z3),
+        anothers(Zone::Z3, guest(Zone::Z3)),
+        low_refuses(Zone::Z3, Posture::Closed, Refusal::NotAtWork),
+        high_refuses(Zone::Z3, Posture::Closed, Refusal::NotAtWork),
+        no_plate_at(Place::PressIn),
+        no_room_at(Place::PressOut),
+        worn(),
+    ]
+}
+
 /// Why the work of a machine is refused at a word.
 pub(crate) fn advance_refusal(word: u64, machine: Machine) -> Option<Refusal>
     ensures { result ≡ rows.first_refusal word (rows.advance_row machine) }
 {
     match machine {
-        Machine::Feed => first_refusal(
-            word,
-            &[
-                low_refuses(Zone::Z6, Posture::Moving, Refusal::NotAtWork),
-                high_refuses(Zone::Z6, Posture::Moving, Refusal::NotAtWork),
-                no_plate_at(Place::FeedEntry),
-                no_room_at(Place::FeedEnd),
-                worn(),
-            ],
-        ),
-        Machine::Deposit => first_refusal(
-            word,
-            &[
-                low_refuses(Zone::Z4, Posture::Moving, Refusal::NotAtWork),
-                high_refuses(Zone::Z4, Posture::Moving, Refusal::NotAtWork),
-                low_refuses(Zone::Z5, Posture::Moving, Refusal::NotAtWork),
-                high_refuses(Zone::Z5, Posture::Moving, Refusal::NotAtWork),
-                no_plate_at(Place::DepEntry),
-                no_room_at(Place::DepEnd),
-                worn(),
-            ],
-        ),
-        Machine::Press => first_refusal(
-            word,
-            &[
-                unowned(Zone::Z3),
-                anothers(Zone::Z3, guest(Zone::Z3)),
-                low_refuses(Zone::Z3, Posture::Closed, Refusal::NotAtWork),
-                high_refuses(Zone::Z3, Posture::Closed, Refusal::NotAtWork),
-                no_plate_at(Place::PressIn),
-                no_room_at(Place::PressOut),
-                worn(),
-            ],
-        ),
+        Machine::Feed => first_refusal(word, &feed_row()),
+        Machine::Deposit => first_refusal(word, &deposit_row()),
+        Machine::Press => first_refusal(word, &press_row()),
         _ => Some(Refusal::NoPose),
     }
 }

@@ -1,19 +1,19 @@
 //! Each call of each machine on random words, beside the same call on the state that is taken out of
 //! the word.
 
-use cell_rules::apply;
+use cell_rules::{State, apply};
 use cell_types::{Answer, Call, Machine, Pose, Zone};
 use cell_word::{masks, pack, step_word, unpack};
 
-/// A call on a word by the state that the word tells.
-fn by_unpacking(word: u64, machine: Machine, call: Call) -> Option<(Answer, u64)> {
-    let mut state = unpack(word)?;
+/// A call on the state that a word tells, if it tells one.
+fn by_state(told: &Option<State>, machine: Machine, call: Call) -> Option<(Answer, u64)> {
+    let mut state = (*told)?;
     let answer = apply(&mut state, machine, call);
     Some((answer, pack(&state)))
 }
 
 /// Whether both ways agree, and the masks with them.
-fn agrees(word: u64, machine: Machine, call: Call) -> bool {
+fn agrees(word: u64, told: &Option<State>, machine: Machine, call: Call) -> bool {
     let stepped = step_word(word, machine, call);
     let (clear, set) = masks(machine, call);
     let is_written = match stepped {
@@ -21,30 +21,36 @@ fn agrees(word: u64, machine: Machine, call: Call) -> bool {
         Some((_, next)) => next == word,
         None => true,
     };
-    is_written && stepped == by_unpacking(word, machine, call)
+    is_written && stepped == by_state(told, machine, call)
 }
 
-fn agrees_about(word: u64, machine: Machine, zone: Zone) -> bool {
-    agrees(word, machine, Call::Claim(zone))
-        && agrees(word, machine, Call::Give(zone))
-        && agrees(word, machine, Call::Yield(zone))
-        && agrees(word, machine, Call::Take(zone))
-        && agrees(word, machine, Call::Release(zone))
-        && agrees(word, machine, Call::Inquire(zone))
+fn agrees_about(word: u64, told: &Option<State>, machine: Machine, zone: Zone) -> bool {
+    let calls = [
+        Call::Claim(zone),
+        Call::Give(zone),
+        Call::Yield(zone),
+        Call::Take(zone),
+        Call::Release(zone),
+        Call::Inquire(zone),
+    ];
+    calls.iter().all(|call| agrees(word, told, machine, *call))
 }
 
-fn agrees_for(word: u64, machine: Machine) -> bool {
+fn agrees_for(word: u64, told: &Option<State>, machine: Machine) -> bool {
     let poses = Pose::ALL
         .iter()
-        .all(|pose| agrees(word, machine, Call::SetPose(*pose)));
+        .all(|pose| agrees(word, told, machine, Call::SetPose(*pose)));
     let zones = Zone::ALL
         .iter()
-        .all(|zone| agrees_about(word, machine, *zone));
-    poses && zones && agrees(word, machine, Call::Advance)
+        .all(|zone| agrees_about(word, told, machine, *zone));
+    poses && zones && agrees(word, told, machine, Call::Advance)
 }
 
 fn agrees_at(word: u64) -> bool {
-    Machine::ALL.iter().all(|machine| agrees_for(word, *machine))
+    let told = unpack(word);
+    Machine::ALL
+        .iter()
+        .all(|machine| agrees_for(word, &told, *machine))
 }
 
 /// The number after a number, all over the numbers of 64 bits.
@@ -58,6 +64,7 @@ fn after(number: u64) -> u64 {
 
 // The five bits of a zone that plates may come into, and of one that they may leave.
 const INWARD: [u64; 7] = [0, 1, 9, 16, 17, 18, 21];
+
 const OUTWARD: [u64; 7] = [0, 1, 9, 24, 25, 26, 30];
 
 /// Some word in which each zone by itself may be so.
@@ -70,7 +77,11 @@ fn likely_word(number: u64) -> u64 {
         | INWARD[pick(16)] << 15
         | OUTWARD[pick(21)] << 20
         | INWARD[pick(26)] << 25;
-    let last = if number >> 60 == 0 { 0x0FFF_FF00_0000_0000 } else { 0 };
+    let last = if number >> 60 == 0 {
+        0x0FFF_FF00_0000_0000
+    } else {
+        0
+    };
     zones | number & 0x0FFF_FFFF_C000_0000 | last
 }
 
