@@ -1,0 +1,209 @@
+//! What the plain programs that run the cell have in common: configurations, the machines' turns and logs, and the report. Written by
+//! hand and proved by nobody. It reads configurations with one key a line, and names no fault of theirs.
+
+use crate::audit::{Entry, audit};
+use crate::interlock::{Answer, Call, Machine, Refusal, State, owner_word};
+use crate::machines::{Crane, Deposit, Feed, Gauge, Press, Program, Robot, Table};
+use std::fmt::Write as _;
+use std::io::{Read, Write};
+use std::process::ExitCode;
+
+#[derive(Clone, Copy, PartialEq, Eq)]
+enum Status {
+    Fine,
+    Worn,
+    Refused,
+}
+
+/// What is kept of a machine: what it did, how it fares, and its calls that were settled.
+struct Log {
+    turns: u64,
+    done: u64,
+    read: u64,
+    refused: u64,
+    busy: u64,
+    status: Status,
+    journal: Vec<Entry>,
+}
+
+pub struct Seat<P> {
+    program: P,
+    log: Log,
+}
+
+impl<P: Program> Seat<P> {
+    fn new(program: P) -> Seat<P> {
+        let log = Log { turns: 0, done: 0, read: 0, refused: 0, busy: 0, status: Status::Fine, journal: Vec::new() };
+        Seat { program, log }
+    }
+
+    /// A turn of its program: a step that asks, or one that drives. A call is answered with the stamp after it, or finds the interlock busy.
+    #[inline(always)]
+    pub fn turn(&mut self, ask: impl FnOnce(Machine, Call) -> Option<(Answer, u32)>) {
+        let log = &mut self.log;
+        if log.status != Status::Fine {
+            return;
+        }
+        log.turns += 1;
+        let Some((call, waits)) = self.program.asks() else {
+            return self.program.drive();
+        };
+        let Some((answer, stamp)) = ask(P::MACHINE, call) else {
+            log.busy += 1;
+            return;
+        };
+        log.journal.push(Entry { call, answer, stamp });
+        match answer {
+            Answer::Done => {
+                log.done += 1;
+                self.program.done();
+            }
+            Answer::Shown(at) => {
+                log.read += 1;
+                self.program.shown(at);
+            }
+            Answer::Refused(refusal) => {
+                log.refused += 1;
+                if refusal == Refusal::Worn {
+                    log.status = Status::Worn;
+                } else if !waits(refusal) {
+                    log.status = Status::Refused;
+                }
+            }
+        }
+    }
+}
+
+pub struct Cell {
+    pub feed: Seat<Feed>,
+    pub table: Seat<Table>,
+    pub robot: Seat<Robot>,
+    pub press: Seat<Press>,
+    pub deposit: Seat<Deposit>,
+    pub crane: Seat<Crane>,
+}
+
+impl Cell {
+    pub fn new(config: &Config) -> Cell {
+        let (start, [arm1, arm2, rotation, turn, gripper]) = (&config.start, config.gauges);
+        Cell {
+            feed: Seat::new(Feed::new(start)),
+            table: Seat::new(Table::new(start, turn)),
+            robot: Seat::new(Robot::new(start, arm1, arm2, rotation)),
+            press: Seat::new(Press::new(start)),
+            deposit: Seat::new(Deposit::new(start)),
+            crane: Seat::new(Crane::new(start, gripper)),
+        }
+    }
+
+    fn logs(&self) -> [(Machine, &Log); 6] {
+        [
+            (Machine::Feed, &self.feed.log),
+            (Machine::Table, &self.table.log),
+            (Machine::Robot, &self.robot.log),
+            (Machine::Press, &self.press.log),
+            (Machine::Deposit, &self.deposit.log),
+            (Machine::Crane, &self.crane.log),
+        ]
+    }
+
+    /// The report of a run, and whether all went well.
+    pub fn report(&self, start: &State, end: &State) -> (String, bool) {
+        let mut text = String::new();
+        let _ = writeln!(text, "start {} {}", digits(&start.full), start.stamp);
+        for (machine, log) in self.logs() {
+            let status = match log.status {
+                Status::Fine => "ok",
+                Status::Worn => "worn",
+                Status::Refused => "refused",
+            };
+            let Log { turns, done, read, refused, busy, .. } = log;
+            let _ = writeln!(text, "{} turns {turns} done {done} read {read} refused {refused} busy {busy} {status}", machine.word());
+        }
+        for (number, at) in (1..).zip(&end.zones) {
+            let _ = writeln!(text, "zone z{number} {} {} {}", owner_word(at.owner), u8::from(at.flag), at.posture.word());
+        }
+        let _ = writeln!(text, "places {}", digits(&end.full));
+        let (robot, table, crane) = (&self.robot.program, &self.table.program, &self.crane.program);
+        let _ = writeln!(
+            text,
+            "axes press {} arm1 {} arm2 {} rotation {} lift {} turn {} crane {} gripper {}",
+            self.press.program.position, robot.arm1, robot.arm2, robot.rotation, table.lift, table.turn, crane.travel, crane.gripper
+        );
+        let _ = writeln!(text, "stamp {} plates {}", end.stamp, end.plates());
+        let journals = self.logs().map(|(machine, log)| (machine, &log.journal[..]));
+        let audited = audit(&journals, start, end);
+        let _ = writeln!(text, "audit {}", audited.as_ref().err().map_or("ok", String::as_str));
+        let is_fine = self.logs().iter().all(|(_, log)| log.status == Status::Fine);
+        (text, is_fine && audited.is_ok())
+    }
+}
+
+fn digits(full: &[bool; 10]) -> String {
+    full.iter().map(|full| if *full { '1' } else { '0' }).collect()
+}
+
+pub struct Config {
+    pub start: State,
+    pub schedule: String,
+    gauges: [Gauge; 5],
+}
+
+/// The keys of the sections, in the order of the gauges, with the upper end of the axis.
+const SECTIONS: [(&str, i32); 5] = [("arm1", 1000), ("arm2", 1000), ("rotation", 2000), ("turn", 500), ("gripper", 1000)];
+
+fn read_config(text: &str) -> Option<Config> {
+    let (mut places, mut stamp, mut schedule, mut section) = (None, 0, String::new(), None);
+    let mut gauges = SECTIONS.map(|(_, end)| Gauge { raw_lo: 0, raw_hi: 4000, tol: 5, end });
+    let mut lines = text.lines().map(str::trim).filter(|line| !line.is_empty() && !line.starts_with('#'));
+    while let Some(line) = lines.next() {
+        if let Some(name) = line.strip_prefix('[') {
+            let name = name.strip_suffix(']')?;
+            section = Some(SECTIONS.iter().position(|(it, _)| *it == name)?);
+            continue;
+        }
+        let (key, value) = line.split_once('=')?;
+        let value = value.trim();
+        match (section, key.trim()) {
+            (None, "start") => places = Some(unquoted(value)?),
+            (None, "stamp") => stamp = value.parse().ok()?,
+            (None, "schedule") if value == LINES => schedule = lines.by_ref().map_while(|line| line.strip_suffix('\\')).collect(),
+            (None, "schedule") => schedule = unquoted(value)?.to_string(),
+            (Some(number), "raw") => {
+                let (lo, hi) = value.strip_prefix('[')?.strip_suffix(']')?.split_once(',')?;
+                gauges[number].raw_lo = lo.trim().parse().ok()?;
+                gauges[number].raw_hi = hi.trim().parse().ok()?;
+            }
+            (Some(number), "tol") => gauges[number].tol = value.parse().ok()?,
+            _ => return None,
+        }
+    }
+    let is_lawful = schedule.len() <= 1_000_000 && schedule.bytes().all(|letter| b"ftrpdcFTRPDC".contains(&letter));
+    let start = State::start(places?, stamp)?;
+    (is_lawful && gauges.iter().all(Gauge::is_sound)).then_some(Config { start, schedule, gauges })
+}
+
+/// How a schedule of several lines begins, of which each but the last, `"""`, ends with a backslash too.
+const LINES: &str = r#""""\"#;
+
+fn unquoted(value: &str) -> Option<&str> {
+    value.strip_prefix('"')?.strip_suffix('"')
+}
+
+/// Reads the configuration from standard input, has it run, and writes the report.
+pub fn served(run: impl FnOnce(&Config, &mut Cell) -> State) -> ExitCode {
+    let mut text = String::new();
+    if std::io::stdin().take(2_097_153).read_to_string(&mut text).is_err() {
+        println!("fault read");
+        return 1.into();
+    }
+    let Some(config) = read_config(&text).filter(|_| text.len() <= 2_097_152) else {
+        println!("fault config");
+        return 1.into();
+    };
+    let mut cell = Cell::new(&config);
+    let end = run(&config, &mut cell);
+    let (text, is_well) = cell.report(&config.start, &end);
+    let written = std::io::stdout().write_all(text.as_bytes());
+    u8::from(!is_well || written.is_err()).into()
+}
