@@ -1,6 +1,6 @@
 //! The schedule: a text with a letter for each turn.
 
-ghost use Rattle.std.specs.Prelude.{◌≡◌, ◌≢◌, Ok, Err, MatchResult};
+ghost use Rattle.std.specs.Prelude.{◌≡◌, ◌≢◌, ◌<◌, ℕ, None, Ok, Err, MatchResult, length, chars, nat_lt, slice_index_or};
 ghost use Rattle.toml.specs.View.{table_view};
 ghost use Rattle.cell_config.specs.Letters as letters;
 ghost use Rattle.cell_config.specs.Settings as settings;
@@ -15,6 +15,9 @@ use toml::Table;
 
 /// The most letters of a schedule.
 const MOST_LETTERS: usize = 1_000_000;
+
+/// How many ASCII characters there are.
+const ASCII: usize = 128;
 
 /// The turn that a letter stands for: in that of a capital a call finds the interlock busy.
 fn turn_of(letter: char) -> Option<Turn>
@@ -35,6 +38,36 @@ fn turn_of(letter: char) -> Option<Turn>
     })
 }
 
+/// The turn that each ASCII character stands for, looked up once, since the match of `turn_of` costs a branch that no processor foresees.
+fn ascii_turns() -> [Option<Turn>; ASCII]
+    ensures { (code : ℕ) → code < 128 → slice_index_or result code None ≡ letters.turn_of code }
+{
+    let mut turns = [None; ASCII];
+    for code in 0..128u8 {
+        turns[usize::from(code)] = turn_of(char::from(code));
+    }
+    turns
+}
+
+/// The turn that a letter stands for, by those of the ASCII characters.
+fn turn_by(turns: &[Option<Turn>; ASCII], letter: char) -> Option<Turn>
+    requires { (code : ℕ) → code < 128 → slice_index_or turns.now code None ≡ letters.turn_of code }
+    ensures { result ≡ letters.turn_of letter }
+{
+    if letter.is_ascii() {
+        turns[letter as usize]
+    } else {
+        turn_of(letter)
+    }
+}
+
+/// Whether a text has more characters than a schedule may have. It has no more characters than bytes.
+fn is_too_long(text: &str) -> bool
+    ensures { result ≡ nat_lt letters.most_letters (length (chars text.now)) }
+{
+    text.len() > MOST_LETTERS && text.chars().count() > MOST_LETTERS
+}
+
 /// The turns of a text of letters.
 ///
 /// `Range` where the text has more than 1,000,000 characters, `Letter` where one of them is no letter.
@@ -43,13 +76,13 @@ fn turns_of(alloc: Global, text: &str) -> Result<Vec<Turn>, ConfigFault>
         (λ turns. letters.turns_of text.now ≡ Ok turns.items)
         (λ fault. fault ≢ Memory → letters.turns_of text.now ≡ Err fault) }
 {
-    let count = text.chars().count();
-    if count > MOST_LETTERS {
+    if is_too_long(text) {
         return Err(ConfigFault::Range);
     }
-    let mut turns = Vec::with_capacity(alloc, count)?;
+    let mut turns = Vec::with_capacity(alloc, text.len())?;
+    let ascii = ascii_turns();
     'letters: for letter in text.chars() {
-        let Some(turn) = turn_of(letter) else {
+        let Some(turn) = turn_by(&ascii, letter) else {
             return Err(ConfigFault::Letter);
         };
         turns.push(turn)?;
