@@ -1,6 +1,5 @@
 //! Lines by passes of one interlock, what they note, and passes that meet.
 ghost use Rattle.std.specs.Prelude.{◌≡◌};
-ghost use Rattle.cell_interlock.specs.Fresh.{AreFresh};
 
 use cell_interlock::{Interlock, Pass, PassLine, Passes};
 use cell_rules::{Line, LineFault, State};
@@ -15,7 +14,7 @@ const RELEASE: Call = Call::Release(Zone::Z3);
 
 const HELD: Answer = Answer::Refused(Refusal::Held(Machine::Press));
 
-const LEFT: Answer = Answer::Refused(Refusal::NotOwner(Some(Machine::Robot)));
+const NOT_OWNER: Answer = Answer::Refused(Refusal::NotOwner(Some(Machine::Robot)));
 
 const SEEN: Answer = Answer::Shown {
     owner: Some(Machine::Press),
@@ -37,7 +36,12 @@ const NOTED: &[(Machine, Call, Answer, u32)] = &[
     (Machine::Robot, INQUIRE, SEEN, 3),
     (Machine::Press, RELEASE, Answer::Done, 4),
     (Machine::Robot, CLAIM, Answer::Done, 5),
-    (Machine::Press, Call::SetPose(Pose::Travelling), LEFT, 5),
+    (
+        Machine::Press,
+        Call::SetPose(Pose::Travelling),
+        NOT_OWNER,
+        5,
+    ),
 ];
 
 /// Whether a line settles a call so.
