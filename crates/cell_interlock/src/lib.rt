@@ -4,7 +4,9 @@
 mod calls;
 pub mod interlock;
 pub mod make;
+mod meet;
 pub mod pass;
+pub mod pass_line;
 pub mod rule;
 mod steps;
 pub mod tries;
@@ -12,4 +14,5 @@ pub mod tries;
 pub use interlock::Interlock;
 pub use make::MakeFault;
 pub use pass::{Pass, Passes};
+pub use pass_line::PassLine;
 pub use tries::{Look, Tried, Try};
