@@ -1,0 +1,10 @@
+//! Six workers over one interlock: each machine takes its turns in a thread of its own.
+#![tactic(auto)]
+
+pub mod fault;
+pub mod gate;
+pub mod run;
+
+pub use fault::RunFault;
+pub use gate::{Gate, OpenGate};
+pub use run::run_workers;
