@@ -22,6 +22,9 @@ pub record Moment (L S State : Type 0) : Type 0 where
   pub side : Side S State
   pub counts : Counts
 
+abbrev pub moment : {L S State : Type 0} → L → Side S State → Counts → Moment L S State
+moment line side counts = record { line = line; side = side; counts = counts }
+
 -- what a gate may answer a machine, by the number of the turn
 abbrev pub GateOf : Type 1
 GateOf = ℕ → Bool → Type 0
@@ -45,19 +48,21 @@ abbrev pub last_of : {A : Type 0} → A → List A → A
 last_of first [] = first
 last_of first (now ∷ later) = last_of now later
 
+-- a worker has come from one moment to another by turns
+pub record HasCome {L S Sense Reading Act State : Type 0} (lines : Lines L) (t : Steps S Sense Reading Act) (rig : Rig State Sense Act) (gate : GateOf) (first now : Moment L S State) : Type 0 where
+  pub turns : List (Moment L S State)
+  pub taken : TakesTurns lines t rig gate first turns
+  pub last : last_of first turns ≡ now
+
 -- A machine that nothing has stopped ends fine after all its turns, or earlier where its gate says no. One that was stopped ends so.
 abbrev pub Ends : GateOf → ℕ → Option CtlFault → ℕ → Status → Type 0
 Ends gate limit None turns s = ((s ≡ Fine) × (turns ≡ limit)) ⊎ ((s ≡ GateLimit) × (turns < limit) × gate turns false)
 Ends gate limit (Some fault) turns s = (s ≡ status_of (Some fault)) × (turns ≤ limit)
 
--- what a worker did: its turns, each by the moment after it, and how it fares at the end
-pub record Work (L S State : Type 0) : Type 0 where
-  pub turns : List (Moment L S State)
-  pub status : Status
-
-pub record IsWork {L S Sense Reading Act State : Type 0} (lines : Lines L) (t : Steps S Sense Reading Act) (rig : Rig State Sense Act) (gate : GateOf) (limit : ℕ) (first : Moment L S State) (work : Work L S State) : Type 0 where
-  pub taken : TakesTurns lines t rig gate first work.turns
-  pub ends : Ends gate limit (last_of first work.turns).side.stopped (last_of first work.turns).counts.turns work.status
+-- a worker has come from its first moment to its last, and fares so
+pub record HasWorked {L S Sense Reading Act State : Type 0} (lines : Lines L) (t : Steps S Sense Reading Act) (rig : Rig State Sense Act) (gate : GateOf) (limit : ℕ) (first last : Moment L S State) (status : Status) : Type 0 where
+  pub come : HasCome lines t rig gate first last
+  pub ends : Ends gate limit last.side.stopped last.counts.turns status
 
 -- ---- counts and journals
 

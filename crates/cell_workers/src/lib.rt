@@ -3,6 +3,7 @@
 
 pub mod fault;
 pub mod gate;
+pub mod labour;
 pub mod run;
 
 pub use fault::RunFault;
