@@ -4,6 +4,9 @@ use Rattle.cell_types.specs.declared.answer.Answer.{Answer}
 use Rattle.cell_types.specs.declared.answer.Answer.TheVariants.{Shown, Refused}
 use Rattle.cell_types.specs.declared.journal.Entry.{Entry}
 use Rattle.cell_rules.specs.History.{is_done_answer}
+use Rattle.cell_rules.specs.Journal.{noted}
+use Rattle.cell_rules.specs.Laws.{LawfulThroughout}
+use Rattle.cell_interlock.specs.Views.{PassView}
 use Rattle.cell_control.specs.declared.fault.CtlFault.{CtlFault}
 use Rattle.cell_control.specs.Rigs.{Rig}
 use Rattle.cell_control.specs.Steps.{Steps}
@@ -14,7 +17,7 @@ use Rattle.cell_notes.specs.Asks.{Asked}
 use Rattle.cell_notes.specs.Notes.{counts_with}
 use Rattle.cell_seat.specs.Fares.{status_of}
 use Rattle.cell_seat.specs.Sides.{Side, ActsAndMoves, TellsByDemands}
-use Rattle.cell_workers.specs.Lines.{Lines}
+use Rattle.cell_workers.specs.Lines.{Lines, passes}
 
 -- a worker between two turns: its line, its machine's side, and how often it has done what
 pub record Moment (L S State : Type 0) : Type 0 where
@@ -79,3 +82,15 @@ pub record AreCountsOf (journal : List Entry) (c : Counts) : Type 0 where
   pub done : c.done ≡ count_by (λ e. is_done_answer e.answer) journal
   pub read : c.read ≡ count_by (λ e. is_shown_answer e.answer) journal
   pub refused : c.refused ≡ count_by (λ e. is_refused_answer e.answer) journal
+
+-- What a worker gives back, that began at a moment: it has worked up to a last moment, with this pass, these counts and its part so. What
+-- the pass has seen is lawful, and the journal is what its machine notes of it.
+pub record GivesBack {S Sense Reading Act State : Type 0} (tries : ℕ) (t : Steps S Sense Reading Act) (rig : Rig State Sense Act) (gate : GateOf) (limit : ℕ) (first : Moment PassView S State) (kept : PassView) (journal : List Entry) (did : Counts) (fares : Status) (stands : State) : Type 0 where
+  pub last : Moment PassView S State
+  pub worked : HasWorked (passes tries) t rig gate limit first last fares
+  pub pass : last.line ≡ kept
+  pub counts : last.counts ≡ did
+  pub part : last.side.part ≡ stands
+  pub lawful : LawfulThroughout first.line.opening kept.seen
+  pub journal_is : journal ≡ noted first.line.opening kept.seen first.line.machine
+  pub counted : AreCountsOf journal did

@@ -5,6 +5,7 @@ pub mod fault;
 pub mod gate;
 pub mod labour;
 pub mod run;
+pub mod work;
 
 pub use fault::RunFault;
 pub use gate::{Gate, OpenGate};
