@@ -5,7 +5,9 @@ pub mod fault;
 pub mod gate;
 pub mod labour;
 pub mod run;
+pub mod start;
 pub mod work;
+pub mod worker;
 
 pub use fault::RunFault;
 pub use gate::{Gate, OpenGate};
