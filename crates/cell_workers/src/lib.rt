@@ -5,6 +5,7 @@ pub mod fault;
 pub mod gate;
 pub mod labour;
 pub mod run;
+pub mod six;
 pub mod start;
 pub mod work;
 pub mod worker;
