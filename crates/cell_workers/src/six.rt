@@ -1,5 +1,11 @@
 //! Six workers in a scope.
-ghost use Rattle.std.specs.Prelude.{◌≡◌, IfSome};
+ghost use Rattle.std.specs.Prelude.{◌≡◌, IfSome, None, [], ◌∷◌};
+ghost use Rattle.cell_types.specs.declared.machine.Machine.{Machine};
+ghost use Rattle.cell_types.specs.Journals.{journal_of};
+ghost use Rattle.cell_notes.specs.declared.status.Status.{Status};
+ghost use Rattle.cell_notes.specs.Notes.{no_counts};
+ghost use Rattle.cell_plant.specs.Records.{positions_in};
+ghost use Rattle.cell_workers.specs.Backs.{journal_in, parts_in};
 ghost use Rattle.cell_interlock.specs.Fresh.{AreFresh, IsFresh};
 ghost use Rattle.cell_types.specs.declared.machine.Machine.TheVariants.{Feed, Table, Robot, Press, Deposit, Crane};
 
@@ -8,7 +14,11 @@ use crate::start::{Orders, joined, start};
 use crate::work::Back;
 use crate::worker::Worker;
 use cell_interlock::{Pass, Passes};
+use cell_notes::{Counts, RunRecord, Status};
 use cell_parts::{CranePart, DepositPart, FeedPart, PressPart, RobotPart, TablePart};
+use cell_rules::State;
+use cell_types::Journals;
+use std::alloc::Global;
 use std::sync::Wait;
 use std::thread;
 use std::thread::Threads;
@@ -108,4 +118,98 @@ where
             })
         },
     )
+}
+
+impl Six {
+    /// The record of a run that began with this state. Its end is left open.
+    pub fn into_record(self, alloc: Global, start: State) -> RunRecord
+        ensures start { result.start ≡ start }
+        ensures counts { result.counts ≡ self.feed.counts ∷ self.table.counts ∷ self.robot.counts ∷ self.press.counts ∷ self.deposit.counts ∷ self.crane.counts ∷ no_counts ∷ [] }
+        ensures status { result.status ≡ self.feed.status ∷ self.table.status ∷ self.robot.status ∷ self.press.status ∷ self.deposit.status ∷ self.crane.status ∷ Status.Fine ∷ [] }
+        ensures journals { (m : Machine) → journal_of result.journals m ≡ journal_in self m }
+        ensures end { result.end ≡ None }
+        ensures axes { result.axes ≡ positions_in (parts_in self) }
+    {
+        let counts = self.counts();
+        let status = self.status();
+        let axes = self.axes();
+        RunRecord {
+            start,
+            counts,
+            status,
+            journals: self.into_journals(alloc),
+            end: None,
+            axes,
+        }
+    }
+
+    // How often each machine did what, in the order of `Machine::ALL`.
+    fn counts(&self) -> [Counts; 7]
+        ensures { result ≡ self.now.feed.counts ∷ self.now.table.counts ∷ self.now.robot.counts ∷ self.now.press.counts ∷ self.now.deposit.counts ∷ self.now.crane.counts ∷ no_counts ∷ [] }
+    {
+        [
+            self.feed.counts,
+            self.table.counts,
+            self.robot.counts,
+            self.press.counts,
+            self.deposit.counts,
+            self.crane.counts,
+            Counts::none(),
+        ]
+    }
+
+    // How each machine fares, in the same order.
+    fn status(&self) -> [Status; 7]
+        ensures { result ≡ self.now.feed.status ∷ self.now.table.status ∷ self.now.robot.status ∷ self.now.press.status ∷ self.now.deposit.status ∷ self.now.crane.status ∷ Status.Fine ∷ [] }
+    {
+        [
+            self.feed.status,
+            self.table.status,
+            self.robot.status,
+            self.press.status,
+            self.deposit.status,
+            self.crane.status,
+            Status::Fine,
+        ]
+    }
+
+    // Where the axes stand, in the order of reports.
+    fn axes(&self) -> [i32; 8]
+        ensures { result ≡ positions_in (parts_in self.now) }
+    {
+        [
+            self.press.part.position(),
+            self.robot.part.arm1(),
+            self.robot.part.arm2(),
+            self.robot.part.rotation(),
+            self.table.part.lift(),
+            self.table.part.turn(),
+            self.crane.part.travel(),
+            self.crane.part.gripper(),
+        ]
+    }
+
+    // Each machine's journal. The watch's is empty, and takes no memory.
+    fn into_journals(self, alloc: Global) -> Journals
+        ensures { (m : Machine) → journal_of result m ≡ journal_in self m }
+    {
+        let Six {
+            feed,
+            table,
+            robot,
+            press,
+            deposit,
+            crane,
+            watch: _,
+        } = self;
+        Journals {
+            feed: feed.journal,
+            table: table.journal,
+            robot: robot.journal,
+            press: press.journal,
+            deposit: deposit.journal,
+            crane: crane.journal,
+            watch: Vec::new(alloc),
+        }
+    }
 }

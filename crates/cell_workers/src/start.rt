@@ -10,6 +10,7 @@ use std::snapshot::Snapshot;
 use std::thread::{Promise, PromisedHandle, Scope, Threads};
 
 /// What the workers of a run have in common.
+#[derive(Drop)]
 pub struct Orders<'s, G> {
     /// Where their journals take memory.
     pub alloc: Global,
