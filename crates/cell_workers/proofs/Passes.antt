@@ -1,24 +1,20 @@
 -- A worker's turns over a line to an interlock, told of its pass; and what they leave of its journal.
-use Rattle.std.proofs.Common.{◌≡◌, ℕ, ◌+◌, Bool, true, false, if◌then◌else◌, cond, List, [], ◌∷◌, ◌++◌, map, count_by, append-nil, Option, Some, None, Result, Ok, Err, refl, sym, ap, subst, ◌∙◌, arith}
+use Rattle.std.proofs.Common.{◌≡◌, ℕ, ◌+◌, Bool, true, false, cond, List, [], ◌∷◌, ◌++◌, map, count_by, Some, None, Result, Ok, Err, refl, sym, ap, subst, ◌∙◌, arith}
 use Rattle.std.proofs.lemmas.List.Sums.{sum_by-append}
 use Rattle.std.proofs.Math.Logic.{∥∥₁_elim}
-use Rattle.cell_types.specs.declared.machine.Machine.{Machine}
 use Rattle.cell_types.specs.declared.call.Call.{Call}
 use Rattle.cell_types.specs.declared.answer.Answer.{Answer}
 use Rattle.cell_types.specs.declared.answer.Answer.TheVariants.{Done, Shown, Refused}
-use Rattle.cell_types.specs.declared.answer.Event.{Event}
 use Rattle.cell_types.specs.declared.journal.Entry.{Entry}
 use Rattle.cell_types.specs.declared.reply.Reply.{Reply}
 use Rattle.cell_types.specs.declared.reply.Reply.TheVariants.{Settled, Busy}
 use Rattle.cell_rules.specs.declared.heard.LineFault.{LineFault}
-use Rattle.cell_rules.specs.ModelState.{ModelState, one_if}
+use Rattle.cell_rules.specs.ModelState.{one_if}
 use Rattle.cell_rules.specs.Stored.{IsSound-prop, IsLegal-prop}
-use Rattle.cell_rules.specs.Sound.{IsSound}
-use Rattle.cell_rules.specs.History.{IsLegal, is_done_answer}
+use Rattle.cell_rules.specs.History.{is_done_answer}
 use Rattle.cell_rules.specs.Journal.{noted}
 use Rattle.cell_rules.specs.Laws.{LawfulThroughout, EveryLegalHistoryIsLawful}
 use Rattle.cell_interlock.specs.Views.{PassView}
-use Rattle.cell_interlock.specs.Seen.{IsSamePass}
 use Rattle.cell_interlock.specs.Lines.{IsLine, LineView, LineAsks, PassAsks}
 use Rattle.cell_interlock.proofs.Journals.{journal_by, journal-settled, journal-busy}
 use Rattle.cell_control.specs.Rigs.{Rig}
@@ -28,7 +24,6 @@ use Rattle.cell_notes.specs.declared.counts.Counts.{Counts}
 use Rattle.cell_notes.specs.declared.status.Status.{Status}
 use Rattle.cell_notes.specs.Asks.{Asked, came_back, is_done_reply, is_read_reply, is_refused_reply}
 use Rattle.cell_notes.specs.Notes.{no_counts, counts_with}
-use Rattle.cell_seat.specs.Sides.{Side, ActsAndMoves}
 use Rattle.cell_seat.proofs.Turning.{acts_map}
 use Rattle.cell_workers.specs.Lines.{Lines, passes}
 use Rattle.cell_workers.specs.Workers.{Moment, moment, GateOf, TakesTurn, TakesTurns, HasCome, HasWorked, GivesBack, AreCountsOf, last_of, is_shown_answer, is_refused_answer}

@@ -1,12 +1,8 @@
 -- What six workers gave back, by machine.
-use Rattle.std.specs.Prelude.{List, [], ◌∷◌}
+use Rattle.std.specs.Prelude.{List, []}
 use Rattle.cell_types.specs.declared.machine.Machine.{Machine}
 use Rattle.cell_types.specs.declared.machine.Machine.TheVariants.{Feed, Table, Robot, Press, Deposit, Crane, Watch}
 use Rattle.cell_types.specs.declared.journal.Entry.{Entry}
-use Rattle.cell_notes.specs.declared.counts.Counts.{Counts}
-use Rattle.cell_notes.specs.declared.status.Status.{Status}
-use Rattle.cell_notes.specs.declared.status.Status.TheVariants.{Fine}
-use Rattle.cell_notes.specs.Notes.{no_counts}
 use Rattle.cell_parts.specs.Plant.{PlantState}
 use Rattle.cell_workers.specs.declared.six.Six.{Six}
 

@@ -1,5 +1,5 @@
 -- What a record tells of six workers over one interlock.
-use Rattle.std.specs.Prelude.{◌≡◌, ℕ, true, [], map, None}
+use Rattle.std.specs.Prelude.{◌≡◌, ℕ, true, map, None}
 use Rattle.cell_types.specs.declared.machine.Machine.{Machine}
 use Rattle.cell_types.specs.declared.machine.Machine.TheVariants.{Feed, Table, Robot, Press, Deposit, Crane, Watch}
 use Rattle.cell_types.specs.Everything.{all_machines}

@@ -13,7 +13,7 @@ use cell_seat::{Seat, status_of};
 
 /// How far a worker came.
 #[derive(Clone, Copy, Debug, PartialEq, Eq)]
-pub struct Tally {
+pub(crate) struct Tally {
     /// How often its machine did what.
     pub counts: Counts,
     /// How its machine fares.
@@ -22,7 +22,7 @@ pub struct Tally {
 
 /// A machine's turns over a line: at most so many, each once the gate lets it begin, and none after one
 /// that has stopped the machine.
-pub fn labour<P: Program, B: Part<Sense = P::Sense, Act = P::Act>, L: Line, G: Gate>(
+pub(crate) fn labour<P: Program, B: Part<Sense = P::Sense, Act = P::Act>, L: Line, G: Gate>(
     seat: &mut Seat<P, B>,
     line: &mut L,
     gate: &G,

@@ -3,12 +3,12 @@
 
 pub mod fault;
 pub mod gate;
-pub mod labour;
+mod labour;
 pub mod run;
-pub mod six;
-pub mod start;
-pub mod work;
-pub mod worker;
+mod six;
+mod start;
+mod work;
+mod worker;
 
 pub use fault::RunFault;
 pub use gate::{Gate, OpenGate};

@@ -67,7 +67,9 @@ where
         deposit,
         crane,
     } = cell;
-    match run_six(rt, &orders, passes, feed, table, robot, press, deposit, crane) {
+    match run_six(
+        rt, &orders, passes, feed, table, robot, press, deposit, crane,
+    ) {
         Some(six) => Ok(six.into_record(alloc, opening)),
         None => Err(RunFault::Spawn),
     }

@@ -25,7 +25,7 @@ use std::thread::Threads;
 
 /// What each worker gave back, and the watch's pass.
 #[derive(Drop)]
-pub struct Six {
+pub(crate) struct Six {
     pub feed: Back<FeedPart>,
     pub table: Back<TablePart>,
     pub robot: Back<RobotPart>,
@@ -38,7 +38,7 @@ pub struct Six {
 /// Starts six workers, each in a thread of its own, and joins them.
 ///
 /// `None` where one couldn't be started: those before it have come to their ends.
-pub fn run_six<R, W1, W2, W3, W4, W5, W6, G>(
+pub(crate) fn run_six<R, W1, W2, W3, W4, W5, W6, G>(
     rt: &R,
     orders: &Orders<'_, G>,
     passes: Passes,
@@ -122,7 +122,7 @@ where
 
 impl Six {
     /// The record of a run that began with this state. Its end is left open.
-    pub fn into_record(self, alloc: Global, start: State) -> RunRecord
+    pub(crate) fn into_record(self, alloc: Global, start: State) -> RunRecord
         ensures start { result.start ≡ start }
         ensures counts { result.counts ≡ self.feed.counts ∷ self.table.counts ∷ self.robot.counts ∷ self.press.counts ∷ self.deposit.counts ∷ self.crane.counts ∷ no_counts ∷ [] }
         ensures status { result.status ≡ self.feed.status ∷ self.table.status ∷ self.robot.status ∷ self.press.status ∷ self.deposit.status ∷ self.crane.status ∷ Status.Fine ∷ [] }

@@ -11,7 +11,7 @@ use std::thread::{Promise, PromisedHandle, Scope, Threads};
 
 /// What the workers of a run have in common.
 #[derive(Drop)]
-pub struct Orders<'s, G> {
+pub(crate) struct Orders<'s, G> {
     /// Where their journals take memory.
     pub alloc: Global,
     /// The interlock over which they work.
@@ -24,7 +24,7 @@ pub struct Orders<'s, G> {
 
 /// What a worker's result keeps.
 #[derive(Drop)]
-pub struct Promised<W, G> {
+pub(crate) struct Promised<W, G> {
     interlock: Snapshot<Interlock>,
     pass: Snapshot<Pass>,
     worker: Snapshot<W>,
@@ -36,13 +36,10 @@ impl<W: Worker, G: Gate> Promise<Back<W::Part>> for Promised<W, G> {
     ghost kept_by = { λ p r. W.gives_back p.worker.value p.interlock.value.tries (G.may_answer p.gate.value p.pass.value.machine) p.turns p.pass.value r.pass r.journal.items r.counts r.status r.part };
 }
 
-/// A thread in which a worker takes its turns.
-pub type Started<W, G> = PromisedHandle<Back<<W as Worker>::Part>, Promised<W, G>>;
-
 /// Starts a worker, unless one of those before it couldn't be started.
 ///
 /// `None` where it isn't started; `all_run` is false then.
-pub fn start<'s, E, W: Worker + Send + 's, G: Gate + Sync>(
+pub(crate) fn start<'s, E, W: Worker + Send + 's, G: Gate + Sync>(
     scope: &Scope<'s, E>,
     orders: &Orders<'s, G>,
     all_run: &mut bool,
@@ -83,7 +80,7 @@ where
 }
 
 /// Waits for the end of a worker, if it was started.
-pub fn joined<R: Threads, T, P: Promise<T>>(
+pub(crate) fn joined<R: Threads, T, P: Promise<T>>(
     rt: &R,
     started: Option<PromisedHandle<T, P>>,
 ) -> Option<T>

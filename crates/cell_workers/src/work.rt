@@ -16,7 +16,7 @@ use std::alloc::Global;
 
 /// What a worker gives back. It borrows nothing, and the machine's controller isn't in it.
 #[derive(Drop)]
-pub struct Back<B> {
+pub(crate) struct Back<B> {
     /// The machine's pass.
     pub pass: Pass,
     /// Its calls that were settled.
@@ -30,7 +30,7 @@ pub struct Back<B> {
 }
 
 /// A machine's turns by its pass over an interlock.
-pub fn work<P: Program, B: Part<Sense = P::Sense, Act = P::Act>, G: Gate>(
+pub(crate) fn work<P: Program, B: Part<Sense = P::Sense, Act = P::Act>, G: Gate>(
     alloc: Global,
     interlock: &Interlock,
     pass: Pass,

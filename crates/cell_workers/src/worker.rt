@@ -11,7 +11,7 @@ use std::alloc::Global;
 ///
 /// A thread may be given a value of a type parameter, but no struct whose fields have bounds of their
 /// own. So this trait stands between a thread and the seat that it works at.
-pub trait Worker: Drop {
+pub(crate) trait Worker: Drop {
     ghost use Rattle.std.specs.Prelude.{◌≡◌, ℕ, Bool, List, []};
     ghost use Rattle.cell_types.specs.declared.journal.Entry.{Entry};
     ghost use Rattle.cell_notes.specs.declared.counts.Counts.{Counts};

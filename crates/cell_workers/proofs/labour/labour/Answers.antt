@@ -1,10 +1,9 @@
-use Rattle.std.proofs.Common.{rules, ◌≡◌, ◌∙◌, ◌+◌, sym, ap, subst, refl, not, true, arith}
+use Rattle.std.proofs.Common.{◌≡◌, ◌∙◌, ◌+◌, sym, ap, subst, refl, not, true, arith}
 use Rattle.std.specs.Option.{is_none, is_some}
 use Rattle.cell_notes.specs.Notes.{no_counts, AreBelow}
 use Rattle.cell_notes.proofs.CountLemmas.{none_below}
-use Rattle.cell_seat.specs.Sides.{IsReady, side_of}
+use Rattle.cell_seat.specs.Sides.{side_of}
 use Rattle.cell_seat.proofs.Running.{none_runs}
-use Rattle.cell_workers.specs.Workers.{TakesTurn, moment}
 use Rattle.cell_workers.proofs.Turning.{has_begun_as, comes_by, few_more}
 use Rattle.cell_workers.proofs.labour.labour.Goals as goal
 

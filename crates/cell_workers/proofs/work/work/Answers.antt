@@ -1,4 +1,4 @@
-use Rattle.std.proofs.Common.{◌≡◌, ◌∙◌, sym, ap, subst, refl}
+use Rattle.std.proofs.Common.{◌∙◌, ap, subst, refl}
 use Rattle.cell_interlock.specs.Views.{PassView}
 use Rattle.cell_notes.specs.Notes.{no_counts}
 use Rattle.cell_seat.specs.Sides.{side_of}
@@ -18,5 +18,5 @@ returns g c =
     subst (λ (v : PassView). GivesBack c.args.interlock.now.tries steps rig (g.G.Gate.may_answer c.args.gate.now v.machine) c.args.turns (moment v side no_counts) c.into_parts-pass.result.0 c.into_parts-pass.result.1.items done.result.counts done.result.status (g.B.Part.state done.new.seat.part))
     line.ensures.pass
     (gives_back c.args.interlock.now.tries steps rig (g.G.Gate.may_answer c.args.gate.now line.result.pass.machine) c.lawful_histories.ensures c.args.turns
-      (moment line.result side no_counts) (moment done.new.line now done.result.counts) done.result.status line.ensures.tries (ap (λ v. v.seen) line.ensures.pass ∙ c.requires.fresh) refl done.ensures.worked
-      done.new.line.kept _ _ _ _ c.into_parts-pass.ensures.pass c.into_parts-pass.ensures.journal refl refl)
+    (moment line.result side no_counts) (moment done.new.line now done.result.counts) done.result.status line.ensures.tries (ap (λ v. v.seen) line.ensures.pass ∙ c.requires.fresh) refl done.ensures.worked
+    done.new.line.kept _ _ _ _ c.into_parts-pass.ensures.pass c.into_parts-pass.ensures.journal refl refl)
