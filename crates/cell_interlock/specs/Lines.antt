@@ -41,3 +41,8 @@ pub record Replied (v : PassView) (c : Call) (tries : ℕ) (reply : Reply) (w : 
 abbrev pub PassAsks : ℕ → PassView → Call → Result Reply LineFault → PassView → Type 0
 PassAsks tries v c (Ok reply) w = Replied v c tries reply w
 PassAsks tries v c (Err fault) w = w ≡ v
+
+-- a call by a line: by its pass, and a later one may lose as many exchanges
+pub record LineAsks (l : LineView) (c : Call) (r : Result Reply LineFault) (d : LineView) : Type 0 where
+  pub call : PassAsks l.tries l.pass c r d.pass
+  pub tries : d.tries ≡ l.tries

@@ -99,7 +99,7 @@ fn ask_and_note(
 impl<'a> Line for PassLine<'a> {
     ghost use Rattle.std.proofs.Math.Logic.{∥∥₁_elim};
     ghost use Rattle.cell_rules.specs.Stored.{IsSound-prop, IsLegal-prop};
-    ghost use Rattle.cell_interlock.specs.Lines.{PassAsks};
+    ghost use Rattle.cell_interlock.specs.Lines.{LineAsks};
 
     ghost machine = { λ l. l.pass.machine };
 
@@ -109,8 +109,8 @@ impl<'a> Line for PassLine<'a> {
 
     ghost heard = { λ l. l.heard };
 
-    // What the interlock replied, or that there was no room for an entry.
-    ghost asks = { λ l call r d. PassAsks l.tries l.pass call r d.pass };
+    // What the interlock replied, or that there was no room for an entry; and it is the same interlock.
+    ghost asks = { λ l call r d. LineAsks l call r d };
 
     ghost sound = { λ l. ∥∥₁_elim l.kept (IsSound-prop l.pass.opening) (λ k. k.sound) };
 

@@ -1,0 +1,5 @@
+pub mod Faults
+pub mod Lines
+pub mod Workers
+pub mod Records
+pub mod Backs

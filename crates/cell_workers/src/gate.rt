@@ -1,0 +1,31 @@
+//! What lets a machine begin its turns.
+
+use cell_types::Machine;
+
+/// Lets a machine begin a turn, or doesn't: then that machine's worker has ended.
+pub trait Gate {
+    ghost use Rattle.std.specs.Prelude.{⊤, ℕ, Bool};
+    ghost use Rattle.cell_types.specs.declared.machine.Machine.{Machine};
+
+    // What it may answer a machine, by the number of the turn. Where an implementation says nothing, that is anything.
+    ghost may_answer: { Self → Machine → ℕ → Bool → Type 0 } = { λ _ _ _ _. ⊤ };
+
+    /// Whether the machine may begin its turn of this number, from 0. It is asked once for each turn, in
+    /// order, by the machine's own thread.
+    fn pass(&self, machine: Machine, turn: u32) -> bool
+        ensures { may_answer self.now machine turn result };
+}
+
+/// The gate that lets every machine begin every turn.
+#[derive(Clone, Copy, Debug, PartialEq, Eq)]
+pub struct OpenGate;
+
+impl Gate for OpenGate {
+    ghost use Rattle.std.specs.Prelude.{◌≡◌, true};
+
+    ghost may_answer = { λ _ _ _ answer. answer ≡ true };
+
+    fn pass(&self, _machine: Machine, _turn: u32) -> bool {
+        true
+    }
+}

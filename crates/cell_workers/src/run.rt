@@ -1,0 +1,76 @@
+//! Six workers over one interlock.
+ghost use Rattle.std.specs.Prelude.{◌≡◌, ◌<◌, ◌⊎◌, ◌↔◌, IfOk, Err};
+ghost use Rattle.cell_rules.specs.Start.{IsStartState};
+ghost use Rattle.cell_parts.specs.Axes.{AreCellScales};
+ghost use Rattle.cell_plant.specs.Cells.{IsMadeFor, scales_of};
+ghost use Rattle.cell_workers.specs.Records.{TellsWork};
+
+use crate::fault::RunFault;
+use crate::gate::Gate;
+use crate::six::run_six;
+use crate::start::Orders;
+use cell_calib::Gauge;
+use cell_interlock::Interlock;
+use cell_notes::RunRecord;
+use cell_plant::Cell;
+use cell_rules::State;
+use std::alloc::Global;
+use std::sync::Wait;
+use std::thread::Threads;
+
+/// Runs a cell that was made for a start: each machine in a thread of its own takes up to `turns` turns over
+/// one interlock, which opens with that start and where a call may lose `tries` exchanges. All six are
+/// joined.
+///
+/// Before its turn k, from 0, a worker asks the gate, and ends with `Status::GateLimit` where that says
+/// no. It ends, too, once its machine has stopped. The end of the record is left open, since a worker knows
+/// what it has seen of the history and not all of it.
+///
+/// `Tries`, which is looked at first, unless `tries` is 1 to 64; `Memory` where the interlock gets no
+/// room; `Spawn` where a thread couldn't be started: then the workers that had begun have come to their
+/// ends. Where the room for a call's entry is refused, that machine stops with `Status::Memory`.
+pub fn run_workers<R, F1, F2, F3, F4, F5, G>(
+    rt: &R,
+    alloc: Global,
+    cell: Cell<F1, F2, F3, F4, F5>,
+    opening: State,
+    tries: u8,
+    turns: u32,
+    gate: &G,
+) -> Result<RunRecord, RunFault>
+where
+    R: Threads + Wait + Sync,
+    F1: Gauge + Send,
+    F2: Gauge + Send,
+    F3: Gauge + Send,
+    F4: Gauge + Send,
+    F5: Gauge + Send,
+    G: Gate + Sync,
+    requires start { IsStartState opening }
+    requires made { IsMadeFor opening cell }
+    requires scales { AreCellScales (scales_of cell) }
+    ensures tries { (result ≡ Err RunFault.Tries) ↔ ((tries < 1) ⊎ (64 < tries)) }
+    ensures work { IfOk result (TellsWork (scales_of cell) opening tries turns (G.may_answer gate.now)) }
+{
+    let (interlock, passes) = Interlock::new(alloc, opening, tries)?;
+    let orders = Orders {
+        alloc,
+        interlock: &interlock,
+        gate,
+        turns,
+    };
+    let Cell {
+        feed,
+        table,
+        robot,
+        press,
+        deposit,
+        crane,
+    } = cell;
+    match run_six(
+        rt, &orders, passes, feed, table, robot, press, deposit, crane,
+    ) {
+        Some(six) => Ok(six.into_record(alloc, opening)),
+        None => Err(RunFault::Spawn),
+    }
+}
