@@ -2,3 +2,4 @@ pub mod Machines
 pub mod Keeps
 pub mod Overtaken
 pub mod Tells
+pub mod Journals

@@ -236,7 +236,7 @@ unmade-after v u w c f g =
     }
 
 -- the machine's own events at the point of its call are those before
-point_waits : (m : Machine) (c : Call) (a : Answer) (before now : List Event) (t : Settles m c a before now) → Waits m before t.point
+pub point_waits : (m : Machine) (c : Call) (a : Answer) (before now : List Event) (t : Settles m c a before now) → Waits m before t.point
 point_waits m c a before now t =
     let own : own_events t.point m ++ event m c a ∷ [] ≡ own_events before m ++ event m c a ∷ [] = sym (own-push t.point m c a) ∙ ap (λ (h : List Event). own_events h m) (sym t.ends) ∙ t.own in
     record { begins = t.begins; own = append_cancel_right (own_events t.point m) (own_events before m) (event m c a ∷ []) own }

@@ -6,3 +6,4 @@ pub mod Seen
 pub mod Going
 pub mod Calls
 pub mod Tries
+pub mod Lines

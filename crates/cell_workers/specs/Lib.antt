@@ -2,3 +2,4 @@ pub mod Faults
 pub mod Lines
 pub mod Workers
 pub mod Records
+pub mod Backs

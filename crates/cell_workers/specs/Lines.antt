@@ -6,9 +6,8 @@ use Rattle.cell_types.specs.declared.answer.Event.{Event}
 use Rattle.cell_types.specs.declared.reply.Reply.{Reply}
 use Rattle.cell_rules.specs.declared.heard.LineFault.{LineFault}
 use Rattle.cell_rules.specs.ModelState.{ModelState}
-use Rattle.cell_rules.specs.Seen.{SeenAfter}
 use Rattle.cell_interlock.specs.Views.{PassView, InterlockView}
-use Rattle.cell_interlock.specs.Seen.{IsSamePass}
+use Rattle.cell_interlock.specs.Lines.{PassAsks}
 
 -- the opening of its interlock, what was seen of the history over it, and what a call by it leaves
 pub record Lines (L : Type 0) : Type 1 where
@@ -19,10 +18,6 @@ pub record Lines (L : Type 0) : Type 1 where
 -- a pass of an interlock that has seen nothing
 abbrev pub fresh_pass : InterlockView → Machine → PassView
 fresh_pass i m = record { table = i.table; opening = i.opening; machine = m; seen = []; since = [] }
-
--- a call by a pass
-abbrev pub PassAsks : ℕ → PassView → Call → Result Reply LineFault → PassView → Type 0
-PassAsks tries v c r w = IsSamePass v w × SeenAfter v.machine c r v.opening v.seen w.seen
 
 -- the lines over the passes of an interlock whose calls may lose so many exchanges
 abbrev pub passes : ℕ → Lines PassView

@@ -1,5 +1,5 @@
 -- What a record tells of six workers over one interlock.
-use Rattle.std.specs.Prelude.{◌≡◌, ℕ, true, [], map, None}
+use Rattle.std.specs.Prelude.{◌≡◌, ℕ, true, map, None}
 use Rattle.cell_types.specs.declared.machine.Machine.{Machine}
 use Rattle.cell_types.specs.declared.machine.Machine.TheVariants.{Feed, Table, Robot, Press, Deposit, Crane, Watch}
 use Rattle.cell_types.specs.Everything.{all_machines}
@@ -9,6 +9,7 @@ use Rattle.cell_rules.specs.Journal.{noted}
 use Rattle.cell_rules.specs.Laws.{LawfulThroughout}
 use Rattle.cell_interlock.specs.Views.{PassView, InterlockView}
 use Rattle.cell_notes.specs.declared.run_record.RunRecord.{RunRecord}
+use Rattle.cell_notes.specs.declared.status.Status.{Status}
 use Rattle.cell_notes.specs.declared.status.Status.TheVariants.{Fine}
 use Rattle.cell_notes.specs.Notes.{no_counts}
 use Rattle.cell_parts.specs.Axes.{CellScales}
@@ -18,20 +19,14 @@ use Rattle.cell_plant.specs.CellStates.{side_in, sides_at_start}
 use Rattle.cell_plant.specs.Records.{positions_in}
 use Rattle.cell_plant.specs.Runs.{is_at_work}
 use Rattle.cell_workers.specs.Lines.{fresh_pass, passes}
-use Rattle.cell_workers.specs.Workers.{GateOf, Moment, Work, IsWork, AreCountsOf, last_of}
+use Rattle.cell_workers.specs.Workers.{GateOf, Moment, HasWorked, AreCountsOf}
 
 abbrev pub MomentOf : Machine → Type 0
 MomentOf m = Moment PassView (ProgressOf m) (PartOf m)
 
-abbrev pub WorkOf : Machine → Type 0
-WorkOf m = Work PassView (ProgressOf m) (PartOf m)
-
 -- before its first turn a worker has a pass that has seen nothing, and its machine stands as it does at the start
 abbrev pub first_moment : InterlockView → (m : Machine) → MomentOf m
 first_moment i m = record { line = fresh_pass i m; side = side_in (sides_at_start i.opening) m; counts = no_counts }
-
-abbrev pub last_moment : InterlockView → (m : Machine) → WorkOf m → MomentOf m
-last_moment i m work = last_of (first_moment i m) work.turns
 
 -- the parts of the machines at the ends of their workers, which have no moment in common
 abbrev pub parts_at_ends : ((m : Machine) → MomentOf m) → PlantState
@@ -45,20 +40,21 @@ parts_at_ends last =
       crane = (last Crane).side.part;
     }
 
--- A record tells six workers, one a machine, over one interlock: the turns of each, from the start of its machine; that what each has seen
--- is a lawful history, of which its journal is what its machine notes; and how far each came. The watch does nothing.
+-- A record tells six workers, one a machine, over one interlock: the turns of each, from the start of its machine to its last moment; that
+-- what each has seen then is a lawful history, of which its journal is what its machine notes; and how far each came. The watch does nothing.
 pub record TellsWork (scales : CellScales) (opening : ModelState) (tries limit : ℕ) (gate : Machine → GateOf) (r : RunRecord) : Type 0 where
   pub interlock : InterlockView
   pub opened : interlock.opening ≡ opening
   pub limited : interlock.tries ≡ tries
-  pub work : (m : Machine) → WorkOf m
-  pub works : (m : Machine) → is_at_work m ≡ true → IsWork (passes tries) (steps_of scales m) (rig_of scales m) (gate m) limit (first_moment interlock m) (work m)
-  pub watch_rests : ((work Watch).turns ≡ []) × ((work Watch).status ≡ Fine)
-  pub lawful : (m : Machine) → LawfulThroughout opening (last_moment interlock m (work m)).line.seen
+  pub last : (m : Machine) → MomentOf m
+  pub fares : Machine → Status
+  pub works : (m : Machine) → is_at_work m ≡ true → HasWorked (passes tries) (steps_of scales m) (rig_of scales m) (gate m) limit (first_moment interlock m) (last m) (fares m)
+  pub watch_rests : (last Watch ≡ first_moment interlock Watch) × (fares Watch ≡ Fine)
+  pub lawful : (m : Machine) → LawfulThroughout opening (last m).line.seen
   pub start : r.start ≡ opening
-  pub counts : r.counts ≡ map (λ m. (last_moment interlock m (work m)).counts) all_machines
-  pub status : r.status ≡ map (λ m. (work m).status) all_machines
-  pub journals : (m : Machine) → journal_of r.journals m ≡ noted opening (last_moment interlock m (work m)).line.seen m
-  pub counted : (m : Machine) → AreCountsOf (journal_of r.journals m) (last_moment interlock m (work m)).counts
+  pub counts : r.counts ≡ map (λ m. (last m).counts) all_machines
+  pub status : r.status ≡ map fares all_machines
+  pub journals : (m : Machine) → journal_of r.journals m ≡ noted opening (last m).line.seen m
+  pub counted : (m : Machine) → AreCountsOf (journal_of r.journals m) (last m).counts
   pub end : r.end ≡ None
-  pub axes : r.axes ≡ positions_in (parts_at_ends (λ m. last_moment interlock m (work m)))
+  pub axes : r.axes ≡ positions_in (parts_at_ends last)

@@ -4,6 +4,9 @@ use Rattle.cell_types.specs.declared.answer.Answer.{Answer}
 use Rattle.cell_types.specs.declared.answer.Answer.TheVariants.{Shown, Refused}
 use Rattle.cell_types.specs.declared.journal.Entry.{Entry}
 use Rattle.cell_rules.specs.History.{is_done_answer}
+use Rattle.cell_rules.specs.Journal.{noted}
+use Rattle.cell_rules.specs.Laws.{LawfulThroughout}
+use Rattle.cell_interlock.specs.Views.{PassView}
 use Rattle.cell_control.specs.declared.fault.CtlFault.{CtlFault}
 use Rattle.cell_control.specs.Rigs.{Rig}
 use Rattle.cell_control.specs.Steps.{Steps}
@@ -14,13 +17,16 @@ use Rattle.cell_notes.specs.Asks.{Asked}
 use Rattle.cell_notes.specs.Notes.{counts_with}
 use Rattle.cell_seat.specs.Fares.{status_of}
 use Rattle.cell_seat.specs.Sides.{Side, ActsAndMoves, TellsByDemands}
-use Rattle.cell_workers.specs.Lines.{Lines}
+use Rattle.cell_workers.specs.Lines.{Lines, passes}
 
 -- a worker between two turns: its line, its machine's side, and how often it has done what
 pub record Moment (L S State : Type 0) : Type 0 where
   pub line : L
   pub side : Side S State
   pub counts : Counts
+
+abbrev pub moment : {L S State : Type 0} → L → Side S State → Counts → Moment L S State
+moment line side counts = record { line = line; side = side; counts = counts }
 
 -- what a gate may answer a machine, by the number of the turn
 abbrev pub GateOf : Type 1
@@ -45,19 +51,21 @@ abbrev pub last_of : {A : Type 0} → A → List A → A
 last_of first [] = first
 last_of first (now ∷ later) = last_of now later
 
+-- a worker has come from one moment to another by turns
+pub record HasCome {L S Sense Reading Act State : Type 0} (lines : Lines L) (t : Steps S Sense Reading Act) (rig : Rig State Sense Act) (gate : GateOf) (first now : Moment L S State) : Type 0 where
+  pub turns : List (Moment L S State)
+  pub taken : TakesTurns lines t rig gate first turns
+  pub last : last_of first turns ≡ now
+
 -- A machine that nothing has stopped ends fine after all its turns, or earlier where its gate says no. One that was stopped ends so.
 abbrev pub Ends : GateOf → ℕ → Option CtlFault → ℕ → Status → Type 0
 Ends gate limit None turns s = ((s ≡ Fine) × (turns ≡ limit)) ⊎ ((s ≡ GateLimit) × (turns < limit) × gate turns false)
 Ends gate limit (Some fault) turns s = (s ≡ status_of (Some fault)) × (turns ≤ limit)
 
--- what a worker did: its turns, each by the moment after it, and how it fares at the end
-pub record Work (L S State : Type 0) : Type 0 where
-  pub turns : List (Moment L S State)
-  pub status : Status
-
-pub record IsWork {L S Sense Reading Act State : Type 0} (lines : Lines L) (t : Steps S Sense Reading Act) (rig : Rig State Sense Act) (gate : GateOf) (limit : ℕ) (first : Moment L S State) (work : Work L S State) : Type 0 where
-  pub taken : TakesTurns lines t rig gate first work.turns
-  pub ends : Ends gate limit (last_of first work.turns).side.stopped (last_of first work.turns).counts.turns work.status
+-- a worker has come from its first moment to its last, and fares so
+pub record HasWorked {L S Sense Reading Act State : Type 0} (lines : Lines L) (t : Steps S Sense Reading Act) (rig : Rig State Sense Act) (gate : GateOf) (limit : ℕ) (first last : Moment L S State) (status : Status) : Type 0 where
+  pub come : HasCome lines t rig gate first last
+  pub ends : Ends gate limit last.side.stopped last.counts.turns status
 
 -- ---- counts and journals
 
@@ -74,3 +82,15 @@ pub record AreCountsOf (journal : List Entry) (c : Counts) : Type 0 where
   pub done : c.done ≡ count_by (λ e. is_done_answer e.answer) journal
   pub read : c.read ≡ count_by (λ e. is_shown_answer e.answer) journal
   pub refused : c.refused ≡ count_by (λ e. is_refused_answer e.answer) journal
+
+-- What a worker gives back, that began at a moment: it has worked up to a last moment, with this pass, these counts and its part so. What
+-- the pass has seen is lawful, and the journal is what its machine notes of it.
+pub record GivesBack {S Sense Reading Act State : Type 0} (tries : ℕ) (t : Steps S Sense Reading Act) (rig : Rig State Sense Act) (gate : GateOf) (limit : ℕ) (first : Moment PassView S State) (kept : PassView) (journal : List Entry) (did : Counts) (fares : Status) (stands : State) : Type 0 where
+  pub last : Moment PassView S State
+  pub worked : HasWorked (passes tries) t rig gate limit first last fares
+  pub pass : last.line ≡ kept
+  pub counts : last.counts ≡ did
+  pub part : last.side.part ≡ stands
+  pub lawful : LawfulThroughout first.line.opening kept.seen
+  pub journal_is : journal ≡ noted first.line.opening kept.seen first.line.machine
+  pub counted : AreCountsOf journal did

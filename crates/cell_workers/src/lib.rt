@@ -3,7 +3,12 @@
 
 pub mod fault;
 pub mod gate;
+mod labour;
 pub mod run;
+mod six;
+mod start;
+mod work;
+mod worker;
 
 pub use fault::RunFault;
 pub use gate::{Gate, OpenGate};

@@ -7,7 +7,10 @@ ghost use Rattle.cell_workers.specs.Records.{TellsWork};
 
 use crate::fault::RunFault;
 use crate::gate::Gate;
+use crate::six::run_six;
+use crate::start::Orders;
 use cell_calib::Gauge;
+use cell_interlock::Interlock;
 use cell_notes::RunRecord;
 use cell_plant::Cell;
 use cell_rules::State;
@@ -49,9 +52,25 @@ where
     ensures tries { (result ≡ Err RunFault.Tries) ↔ ((tries < 1) ⊎ (64 < tries)) }
     ensures work { IfOk result (TellsWork (scales_of cell) opening tries turns (G.may_answer gate.now)) }
 {
-    if tries < 1 || tries > 64 {
-        return Err(RunFault::Tries);
+    let (interlock, passes) = Interlock::new(alloc, opening, tries)?;
+    let orders = Orders {
+        alloc,
+        interlock: &interlock,
+        gate,
+        turns,
+    };
+    let Cell {
+        feed,
+        table,
+        robot,
+        press,
+        deposit,
+        crane,
+    } = cell;
+    match run_six(
+        rt, &orders, passes, feed, table, robot, press, deposit, crane,
+    ) {
+        Some(six) => Ok(six.into_record(alloc, opening)),
+        None => Err(RunFault::Spawn),
     }
-    let _ = (rt, alloc, cell, turns, gate);
-    Err(RunFault::Memory)
 }

@@ -1,0 +1,112 @@
+-- The journal of a line grows by the calls that its pass settles.
+use Rattle.std.proofs.Common.{◌≡◌, ℕ, Bool, true, false, if◌then◌else◌, Result, Ok, Err, List, [], ◌∷◌, ◌++◌, refl, sym, ap, ◌∙◌, subst, append-nil}
+use Rattle.std.proofs.Props.{props}
+use Rattle.std.proofs.Math.Logic.{∥∥₁_elim, ∥∥₁_map}
+use Rattle.cell_types.specs.declared.machine.Machine.{Machine}
+use Rattle.cell_types.specs.declared.call.Call.{Call}
+use Rattle.cell_types.specs.declared.answer.Answer.{Answer}
+use Rattle.cell_types.specs.declared.answer.Event.{Event}
+use Rattle.cell_types.specs.declared.journal.Entry.{Entry}
+use Rattle.cell_types.specs.Same.{same_machine}
+use Rattle.cell_types.specs.declared.reply.Reply.{Reply}
+use Rattle.cell_types.specs.declared.reply.Reply.TheVariants.{Settled, Busy}
+use Rattle.cell_rules.specs.declared.heard.LineFault.{LineFault}
+use Rattle.cell_rules.specs.ModelState.{ModelState}
+use Rattle.cell_rules.specs.Sound.{IsSound}
+use Rattle.cell_rules.specs.Reply.{next}
+use Rattle.cell_rules.specs.History.{after, IsLegal, own_events}
+use Rattle.cell_rules.specs.Journal.{state_left, entry_of, noted}
+use Rattle.cell_rules.specs.Seen.{event, Waits}
+use Rattle.cell_rules.proofs.Lasting.{own_head}
+use Rattle.cell_rules.proofs.SeenLemmas.{same_as_itself, waits-foreign, after-push}
+use Rattle.cell_interlock.specs.Views.{PassView}
+use Rattle.cell_interlock.specs.Seen.{IsSamePass}
+use Rattle.cell_interlock.specs.Lines.{IsLine, Replied, PassAsks}
+use Rattle.cell_interlock.proofs.Tells.{point_waits}
+
+push_by : (b : Bool) (x : Entry) (xs ys : List Entry) → (if b then x ∷ (xs ++ ys) else xs ++ ys) ≡ (if b then x ∷ xs else xs) ++ ys
+push_by true x xs ys = refl
+push_by false x xs ys = refl
+
+-- what a machine notes of a history and of what follows it
+noted-append : (s : ModelState) (h k : List Event) (m : Machine) → noted s (h ++ k) m ≡ noted s h m ++ noted (after s h) k m
+noted-append s [] k m = refl
+noted-append s (e ∷ h) k m =
+    let t : ModelState = state_left s e in
+    ap (λ (l : List Entry). if same_machine e.machine m then entry_of s e ∷ l else l) (noted-append t h k m) ∙ push_by (same_machine e.machine m) (entry_of s e) (noted t h m) (noted (after t h) k m)
+
+skip_by : (b : Bool) (x : Entry) (xs : List Entry) → b ≡ false → (if b then x ∷ xs else xs) ≡ xs
+skip_by true x xs e = cc
+skip_by false x xs e = refl
+
+-- a machine notes nothing of the events of others
+noted-foreign : (s : ModelState) (h : List Event) (m : Machine) → own_events h m ≡ [] → noted s h m ≡ []
+noted-foreign s [] m q = refl
+noted-foreign s (e ∷ h) m q =
+    let others = own_head (same_machine e.machine m) e (own_events h m) q in
+    skip_by (same_machine e.machine m) (entry_of s e) (noted (state_left s e) h m) others.0 ∙ noted-foreign (state_left s e) h m others.1
+
+noted-waits : (s : ModelState) (m : Machine) (before now : List Event) → Waits m before now → noted s now m ≡ noted s before m
+noted-waits s m before now w =
+    ap (λ (h : List Event). noted s h m) w.begins.1 ∙ noted-append s before w.begins.0 m
+    ∙ ap (λ (l : List Entry). noted s before m ++ l) (noted-foreign (after s before) w.begins.0 m (waits-foreign m before now w)) ∙ append-nil (noted s before m)
+
+-- the journal of a pass
+abbrev pub journal_by : PassView → List Entry
+journal_by v = noted v.opening v.seen v.machine
+
+same_journal : (v w : PassView) → IsSamePass v w → journal_by w ≡ noted v.opening w.seen v.machine
+same_journal v w same i = noted (same.opening i) w.seen (same.machine i)
+
+last_entry : (s : ModelState) (m : Machine) (c : Call) (a : Answer) (stamp : ℕ) → stamp ≡ (next s m c).stamp → noted s (event m c a ∷ []) m ≡ record { call = c; answer = a; stamp = stamp } ∷ []
+last_entry s m c a stamp e =
+    ap (λ (b : Bool). if b then entry_of s (event m c a) ∷ [] else []) (same_as_itself m) ∙ ap (λ (n : ℕ). record { call = c; answer = a; stamp = n } ∷ []) (sym e)
+
+-- after a call that was settled, its entry
+pub journal-settled : (v w : PassView) (c : Call) (tries : ℕ) (a : Answer) (stamp : ℕ) → Replied v c tries (Settled a stamp) w → journal_by w ≡ journal_by v ++ record { call = c; answer = a; stamp = stamp } ∷ []
+journal-settled v w c tries a stamp f =
+    let t = f.seen.0 in let h : List Event = t.point in let e : Event = event v.machine c a in
+    let at : stamp ≡ (next (after v.opening h) v.machine c).stamp = f.seen.1 ∙ ap (λ (x : List Event). (after v.opening x).stamp) t.ends ∙ ap (λ (s : ModelState). s.stamp) (after-push v.opening h e) in
+    same_journal v w f.pass ∙ ap (λ (x : List Event). noted v.opening x v.machine) t.ends ∙ noted-append v.opening h (e ∷ []) v.machine
+    ∙ (λ i. noted-waits v.opening v.machine v.seen h (point_waits v.machine c a v.seen w.seen t) i ++ last_entry (after v.opening h) v.machine c a stamp at i)
+
+-- after a call that was busy, nothing new
+pub journal-busy : (v w : PassView) (c : Call) (tries lost stamp : ℕ) → Replied v c tries (Busy lost stamp) w → journal_by w ≡ journal_by v
+journal-busy v w c tries lost stamp f = same_journal v w f.pass ∙ noted-waits v.opening v.machine v.seen w.seen f.seen.0
+
+-- ---- what a line keeps
+
+entries_prop : (a b : List Entry) → IsProp (a ≡ b)
+entries_prop a b = hlevel props
+
+pub line_journal : (v : PassView) (j : List Entry) → ∥ IsLine v j ∥₁ → j ≡ journal_by v
+line_journal v j k = ∥∥₁_elim k (entries_prop j (journal_by v)) (λ l. l.noted_all)
+
+line_after : (tries : ℕ) (v w : PassView) (j k : List Entry) (c : Call) (r : Result Reply LineFault) → IsLine v j → PassAsks tries v c r w → k ≡ journal_by w → IsLine w k
+line_after tries v w j k c (Ok reply) l f e = record {
+  sound = subst IsSound (sym f.pass.opening) l.sound;
+  legal = subst (λ (o : ModelState). IsLegal o w.seen) (sym f.pass.opening) (f.lawful w.seen [] (sym (append-nil w.seen))).legal;
+  noted_all = e;
+}
+line_after tries v w j k c (Err fault) l f e = record {
+  sound = subst (λ (x : PassView). IsSound x.opening) (sym f) l.sound;
+  legal = subst (λ (x : PassView). IsLegal x.opening x.seen) (sym f) l.legal;
+  noted_all = e;
+}
+
+-- a call leaves a pass at its interlock
+pub asks-table : (tries : ℕ) (v w : PassView) (c : Call) (r : Result Reply LineFault) → PassAsks tries v c r w → w.table ≡ v.table
+asks-table tries v w c (Ok reply) f = f.pass.table
+asks-table tries v w c (Err fault) f = ap (λ (x : PassView). x.table) f
+
+-- a line stays one over a call
+pub line_kept : (tries : ℕ) (v w : PassView) (j k : List Entry) (c : Call) (r : Result Reply LineFault) → ∥ IsLine v j ∥₁ → PassAsks tries v c r w → k ≡ journal_by w → ∥ IsLine w k ∥₁
+line_kept tries v w j k c r l f e = ∥∥₁_map l (λ x. line_after tries v w j k c r x f e)
+
+-- a pass that has settled nothing makes a line with an empty journal
+pub line_new : (v u : PassView) (j : List Entry) → u ≡ v → own_events v.seen v.machine ≡ [] → IsSound u.opening → IsLegal u.opening u.seen → j ≡ [] → ∥ IsLine v j ∥₁
+line_new v u j e none_of k l f = ∣ record {
+  sound = subst (λ (x : PassView). IsSound x.opening) e k;
+  legal = subst (λ (x : PassView). IsLegal x.opening x.seen) e l;
+  noted_all = f ∙ sym (noted-foreign v.opening v.seen v.machine none_of);
+} ∣₁

@@ -1,0 +1,48 @@
+-- A line on a pass: what contracts see of it, and what a call of it does.
+use Rattle.std.specs.Prelude.{◌≡◌, ℕ, List, Result, Ok, Err}
+use Rattle.cell_types.specs.declared.call.Call.{Call}
+use Rattle.cell_types.specs.declared.reply.Reply.{Reply}
+use Rattle.cell_types.specs.declared.journal.Entry.{Entry}
+use Rattle.cell_rules.specs.declared.heard.LineFault.{LineFault}
+use Rattle.cell_rules.specs.declared.heard.Heard.{Heard}
+use Rattle.cell_rules.specs.Sound.{IsSound}
+use Rattle.cell_rules.specs.History.{IsLegal}
+use Rattle.cell_rules.specs.Laws.{LawfulThroughout}
+use Rattle.cell_rules.specs.Journal.{noted}
+use Rattle.cell_rules.specs.Seen.{SeenAfter}
+use Rattle.cell_interlock.specs.Views.{PassView}
+use Rattle.cell_interlock.specs.Seen.{IsSamePass, AnswersAtItsPoint, LastingRight, IsOvertaken}
+use Rattle.cell_interlock.specs.Calls.{IfSettled, IfBusy}
+
+-- a pass has seen a legal history from a sound opening, and the journal has an entry for each call that it settled
+pub record IsLine (v : PassView) (journal : List Entry) : Type 0 where
+  pub sound : IsSound v.opening
+  pub legal : IsLegal v.opening v.seen
+  pub noted_all : journal ≡ noted v.opening v.seen v.machine
+
+-- a line: its pass, the entries of the calls that the pass settled, what came of the last call, and how many exchanges a call may lose
+pub record LineView : Type 0 where
+  pub pass : PassView
+  pub journal : List Entry
+  pub heard : Heard
+  pub tries : ℕ
+  pub kept : ∥ IsLine pass journal ∥₁
+
+-- what a call leaves of its pass, by the clauses of ask
+pub record Replied (v : PassView) (c : Call) (tries : ℕ) (reply : Reply) (w : PassView) : Type 0 where
+  pub pass : IsSamePass v w
+  pub lawful : LawfulThroughout v.opening w.seen
+  pub seen : SeenAfter v.machine c (Ok reply) v.opening v.seen w.seen
+  pub answer : IfSettled reply (λ answer. AnswersAtItsPoint v c answer w)
+  pub right : IfSettled reply (λ answer. LastingRight v c answer w)
+  pub busy : IfBusy reply (λ lost. IsOvertaken v v.seen c tries lost w)
+
+-- what came back is what the interlock replied; where there was no room for an entry, no call was made
+abbrev pub PassAsks : ℕ → PassView → Call → Result Reply LineFault → PassView → Type 0
+PassAsks tries v c (Ok reply) w = Replied v c tries reply w
+PassAsks tries v c (Err fault) w = w ≡ v
+
+-- a call by a line: by its pass, and a later one may lose as many exchanges
+pub record LineAsks (l : LineView) (c : Call) (r : Result Reply LineFault) (d : LineView) : Type 0 where
+  pub call : PassAsks l.tries l.pass c r d.pass
+  pub tries : d.tries ≡ l.tries

@@ -1,0 +1,187 @@
+-- A worker's turns over a line to an interlock, told of its pass; and what they leave of its journal.
+use Rattle.std.proofs.Common.{◌≡◌, ℕ, ◌+◌, Bool, true, false, cond, List, [], ◌∷◌, ◌++◌, map, count_by, Some, None, Result, Ok, Err, refl, sym, ap, subst, ◌∙◌, arith}
+use Rattle.std.proofs.lemmas.List.Sums.{sum_by-append}
+use Rattle.std.proofs.Math.Logic.{∥∥₁_elim}
+use Rattle.cell_types.specs.declared.call.Call.{Call}
+use Rattle.cell_types.specs.declared.answer.Answer.{Answer}
+use Rattle.cell_types.specs.declared.answer.Answer.TheVariants.{Done, Shown, Refused}
+use Rattle.cell_types.specs.declared.journal.Entry.{Entry}
+use Rattle.cell_types.specs.declared.reply.Reply.{Reply}
+use Rattle.cell_types.specs.declared.reply.Reply.TheVariants.{Settled, Busy}
+use Rattle.cell_rules.specs.declared.heard.LineFault.{LineFault}
+use Rattle.cell_rules.specs.ModelState.{one_if}
+use Rattle.cell_rules.specs.Stored.{IsSound-prop, IsLegal-prop}
+use Rattle.cell_rules.specs.History.{is_done_answer}
+use Rattle.cell_rules.specs.Journal.{noted}
+use Rattle.cell_rules.specs.Laws.{LawfulThroughout, EveryLegalHistoryIsLawful}
+use Rattle.cell_interlock.specs.Views.{PassView}
+use Rattle.cell_interlock.specs.Lines.{IsLine, LineView, LineAsks, PassAsks}
+use Rattle.cell_interlock.proofs.Journals.{journal_by, journal-settled, journal-busy}
+use Rattle.cell_control.specs.Rigs.{Rig}
+use Rattle.cell_control.specs.Steps.{Steps}
+use Rattle.cell_control.proofs.TurnMaps.{turn_either}
+use Rattle.cell_notes.specs.declared.counts.Counts.{Counts}
+use Rattle.cell_notes.specs.declared.status.Status.{Status}
+use Rattle.cell_notes.specs.Asks.{Asked, came_back, is_done_reply, is_read_reply, is_refused_reply}
+use Rattle.cell_notes.specs.Notes.{no_counts, counts_with}
+use Rattle.cell_seat.proofs.Turning.{acts_map}
+use Rattle.cell_workers.specs.Lines.{Lines, passes}
+use Rattle.cell_workers.specs.Workers.{Moment, moment, GateOf, TakesTurn, TakesTurns, HasCome, HasWorked, GivesBack, AreCountsOf, last_of, is_shown_answer, is_refused_answer}
+
+-- what the lines of workers are
+abbrev pub line_views : Lines LineView
+line_views = record { opening = λ l. l.pass.opening; seen = λ l. l.pass.seen; asks = LineAsks }
+
+abbrev pub by_pass : {S State : Type 0} → Moment LineView S State → Moment PassView S State
+by_pass m = moment m.line.pass m.side m.counts
+
+module _ {S Sense Reading Act State : Type 0} (tries : ℕ) (t : Steps S Sense Reading Act) (rig : Rig State Sense Act) (gate : GateOf) where
+  -- in a turn nothing is asked, or one call is
+  by_turn : {L : Type 0} → (lines : Lines L) (before now : Moment L S State) (P : Type 0) → TakesTurn lines t rig gate before now
+      → ((asked : Asked) → now.line ≡ before.line → asked ≡ None → now.counts ≡ counts_with before.counts asked → P)
+      → ((asked : Asked) (c : Call) (r : Result Reply LineFault) → lines.asks before.line c r now.line → asked ≡ Some (c, r) → now.counts ≡ counts_with before.counts asked → P) → P
+  by_turn lines before now P k f g =
+      turn_either t ((now.line ≡ before.line) × (k.asked ≡ None)) (λ c r. lines.asks before.line c r now.line × (k.asked ≡ Some (c, r))) P
+      (λ h. f k.asked h.0 h.1 k.counted) (λ c r h. g k.asked c r h.0 h.1 k.counted) before.side.stopped before.side.progress k.row.acts.sense k.row.acts.turned k.row.acts.row
+
+  -- ---- lines and passes
+
+  turn_by_pass : (before now : Moment LineView S State) → before.line.tries ≡ tries → TakesTurn line_views t rig gate before now → TakesTurn (passes tries) t rig gate (by_pass before) (by_pass now)
+  turn_by_pass before now e k =
+      record {
+        runs = k.runs;
+        let_in = k.let_in;
+        asked = k.asked;
+        row = record {
+          set = k.row.set;
+          acts = acts_map t rig (now.line ≡ before.line) (now.line.pass ≡ before.line.pass) (λ c r. LineAsks before.line c r now.line) (λ c r. PassAsks tries before.line.pass c r now.line.pass)
+              (λ same. ap (λ l. l.pass) same) (λ c r a. subst (λ n. PassAsks n before.line.pass c r now.line.pass) e a.call) before.side k.row.set k.asked k.row.acts;
+          moved = k.row.moved;
+        };
+        motor_demands = k.motor_demands;
+        counted = k.counted;
+      }
+
+  same_tries : (before now : Moment LineView S State) → TakesTurn line_views t rig gate before now → now.line.tries ≡ before.line.tries
+  same_tries before now k = by_turn line_views before now _ k (λ asked same nothing counted. ap (λ l. l.tries) same) (λ asked c r asks is counted. asks.tries)
+
+  turns_by_pass : (before : Moment LineView S State) (turns : List (Moment LineView S State)) → before.line.tries ≡ tries → TakesTurns line_views t rig gate before turns → TakesTurns (passes tries) t rig gate (by_pass before) (map by_pass turns)
+  turns_by_pass before [] e k = tt
+  turns_by_pass before (now ∷ later) e k = (turn_by_pass before now e k.0, turns_by_pass now later (same_tries before now k.0 ∙ e) k.1)
+
+  last_by_pass : (first : Moment LineView S State) (turns : List (Moment LineView S State)) → last_of (by_pass first) (map by_pass turns) ≡ by_pass (last_of first turns)
+  last_by_pass first [] = refl
+  last_by_pass first (now ∷ later) = last_by_pass now later
+
+  pub come_by_pass : (first now : Moment LineView S State) → first.line.tries ≡ tries → HasCome line_views t rig gate first now → HasCome (passes tries) t rig gate (by_pass first) (by_pass now)
+  come_by_pass first now e k = record { turns = map by_pass k.turns; taken = turns_by_pass first k.turns e k.taken; last = last_by_pass first k.turns ∙ ap by_pass k.last }
+
+  -- ---- what is so all along
+
+  module _ (Q : Moment PassView S State → Type 0) (keeps : (before now : Moment PassView S State) → TakesTurn (passes tries) t rig gate before now → Q before → Q now) where
+    along : (first : Moment PassView S State) (turns : List (Moment PassView S State)) → TakesTurns (passes tries) t rig gate first turns → Q first → Q (last_of first turns)
+    along first [] k q = q
+    along first (now ∷ later) k q = along now later k.1 (keeps first now k.0 q)
+
+    pub all_along : (first now : Moment PassView S State) → HasCome (passes tries) t rig gate first now → Q first → Q now
+    all_along first now k q = subst Q k.last (along first k.turns k.taken q)
+
+  asks_same : (v w : PassView) (c : Call) (r : Result Reply LineFault) → PassAsks tries v c r w → (w.machine ≡ v.machine) × (w.opening ≡ v.opening)
+  asks_same v w c (Ok reply) k = (k.pass.machine, k.pass.opening)
+  asks_same v w c (Err fault) k = (ap (λ x. x.machine) k, ap (λ x. x.opening) k)
+
+  turn_same : (before now : Moment PassView S State) → TakesTurn (passes tries) t rig gate before now → (now.line.machine ≡ before.line.machine) × (now.line.opening ≡ before.line.opening)
+  turn_same before now k =
+      by_turn (passes tries) before now _ k (λ asked same nothing counted. (ap (λ x. x.machine) same, ap (λ x. x.opening) same)) (λ asked c r asks is counted. asks_same before.line now.line c r asks)
+
+  -- the pass stays its machine's, and its interlock opened with the same state
+  pub come_same : (first now : Moment PassView S State) → HasCome (passes tries) t rig gate first now → (now.line.machine ≡ first.line.machine) × (now.line.opening ≡ first.line.opening)
+  come_same first now k =
+      all_along (λ m. (m.line.machine ≡ first.line.machine) × (m.line.opening ≡ first.line.opening)) (λ before after step q. let same = turn_same before after step in (same.0 ∙ q.0, same.1 ∙ q.1))
+      first now k (refl, refl)
+
+-- ---- counts
+
+as_a_test : (b : Bool) (n : ℕ) → n + (0 + cond b 1 0) ≡ n + one_if b
+as_a_test true n = refl
+as_a_test false n = refl
+
+count-append : {X : Type 0} → (p : X → Bool) (xs : List X) (x : X) → count_by p (xs ++ x ∷ []) ≡ count_by p xs + one_if (p x)
+count-append p xs x = sum_by-append (λ y. cond (p y) 1 0) xs (x ∷ []) ∙ as_a_test (p x) (count_by p xs)
+
+one_more : (p : Entry → Bool) (journal now : List Entry) (e : Entry) (k n : ℕ) → now ≡ journal ++ e ∷ [] → n ≡ k + one_if (p e) → k ≡ count_by p journal → n ≡ count_by p now
+one_more p journal now e k n is more old = more ∙ ap (λ x. x + one_if (p e)) old ∙ sym (count-append p journal e) ∙ sym (ap (count_by p) is)
+
+-- a settled call is counted as its entry is
+settled_counts : (journal now : List Entry) (c : Call) (a : Answer) (stamp : ℕ) (k n : Counts) → now ≡ journal ++ record { call = c; answer = a; stamp = stamp } ∷ [] → n ≡ counts_with k (Some (c, Ok (Settled a stamp))) → AreCountsOf journal k → AreCountsOf now n
+settled_counts journal now c Done stamp k n is more old =
+    let e : Entry = record { call = c; answer = Done; stamp = stamp } in
+    record {
+      done = one_more (λ x. is_done_answer x.answer) journal now e k.done n.done is (ap (λ x. x.done) more) old.done;
+      read = one_more (λ x. is_shown_answer x.answer) journal now e k.read n.read is (ap (λ x. x.read) more) old.read;
+      refused = one_more (λ x. is_refused_answer x.answer) journal now e k.refused n.refused is (ap (λ x. x.refused) more) old.refused;
+    }
+settled_counts journal now c (Shown owner flag posture) stamp k n is more old =
+    let e : Entry = record { call = c; answer = Shown owner flag posture; stamp = stamp } in
+    record {
+      done = one_more (λ x. is_done_answer x.answer) journal now e k.done n.done is (ap (λ x. x.done) more) old.done;
+      read = one_more (λ x. is_shown_answer x.answer) journal now e k.read n.read is (ap (λ x. x.read) more) old.read;
+      refused = one_more (λ x. is_refused_answer x.answer) journal now e k.refused n.refused is (ap (λ x. x.refused) more) old.refused;
+    }
+settled_counts journal now c (Refused refusal) stamp k n is more old =
+    let e : Entry = record { call = c; answer = Refused refusal; stamp = stamp } in
+    record {
+      done = one_more (λ x. is_done_answer x.answer) journal now e k.done n.done is (ap (λ x. x.done) more) old.done;
+      read = one_more (λ x. is_shown_answer x.answer) journal now e k.read n.read is (ap (λ x. x.read) more) old.read;
+      refused = one_more (λ x. is_refused_answer x.answer) journal now e k.refused n.refused is (ap (λ x. x.refused) more) old.refused;
+    }
+
+-- a turn that settles nothing is counted, and no call of it is
+quiet_counts : (journal now : List Entry) (asked : Asked) (k n : Counts) → now ≡ journal → n ≡ counts_with k asked → came_back is_done_reply asked ≡ false → came_back is_read_reply asked ≡ false → came_back is_refused_reply asked ≡ false → AreCountsOf journal k → AreCountsOf now n
+quiet_counts journal now asked k n is more no_done no_read no_refusal old =
+    record {
+      done = ap (λ x. x.done) more ∙ ap (λ b. k.done + one_if b) no_done ∙ omega arith ∙ old.done ∙ sym (ap (count_by (λ e. is_done_answer e.answer)) is);
+      read = ap (λ x. x.read) more ∙ ap (λ b. k.read + one_if b) no_read ∙ omega arith ∙ old.read ∙ sym (ap (count_by (λ e. is_shown_answer e.answer)) is);
+      refused = ap (λ x. x.refused) more ∙ ap (λ b. k.refused + one_if b) no_refusal ∙ omega arith ∙ old.refused ∙ sym (ap (count_by (λ e. is_refused_answer e.answer)) is);
+    }
+
+asked_counts : (tries : ℕ) (v w : PassView) (c : Call) (r : Result Reply LineFault) (k n : Counts) → PassAsks tries v c r w → n ≡ counts_with k (Some (c, r)) → AreCountsOf (journal_by v) k → AreCountsOf (journal_by w) n
+asked_counts tries v w c (Ok (Settled a stamp)) k n asks more old = settled_counts (journal_by v) (journal_by w) c a stamp k n (journal-settled v w c tries a stamp asks) more old
+asked_counts tries v w c (Ok (Busy lost stamp)) k n asks more old = quiet_counts (journal_by v) (journal_by w) (Some (c, Ok (Busy lost stamp))) k n (journal-busy v w c tries lost stamp asks) more refl refl refl old
+asked_counts tries v w c (Err fault) k n asks more old = quiet_counts (journal_by v) (journal_by w) (Some (c, Err fault)) k n (ap journal_by asks) more refl refl refl old
+
+module _ {S Sense Reading Act State : Type 0} (tries : ℕ) (t : Steps S Sense Reading Act) (rig : Rig State Sense Act) (gate : GateOf) where
+  turn_counts : (before now : Moment PassView S State) → TakesTurn (passes tries) t rig gate before now → AreCountsOf (journal_by before.line) before.counts → AreCountsOf (journal_by now.line) now.counts
+  turn_counts before now k old =
+      by_turn tries t rig gate (passes tries) before now _ k
+      (λ asked same nothing counted. quiet_counts (journal_by before.line) (journal_by now.line) None before.counts now.counts (ap journal_by same) (counted ∙ ap (counts_with before.counts) nothing) refl refl refl old)
+      (λ asked c r asks is counted. asked_counts tries before.line now.line c r before.counts now.counts asks (counted ∙ ap (counts_with before.counts) is) old)
+
+  -- the counts of a worker are those of its journal
+  pub come_counts : (first now : Moment PassView S State) → HasCome (passes tries) t rig gate first now → first.line.seen ≡ [] → first.counts ≡ no_counts → AreCountsOf (journal_by now.line) now.counts
+  come_counts first now k seen counts =
+      let empty : journal_by first.line ≡ [] = ap (λ h. noted first.line.opening h first.line.machine) seen in
+      all_along tries t rig gate (λ m. AreCountsOf (journal_by m.line) m.counts) turn_counts first now k
+      (subst (λ j. AreCountsOf j first.counts) (sym empty) (subst (AreCountsOf []) (sym counts) (record { done = refl; read = refl; refused = refl })))
+
+  -- what a worker gives back
+  pub gives_back : (law : EveryLegalHistoryIsLawful) (limit : ℕ) (first last : Moment LineView S State) (status : Status) → first.line.tries ≡ tries → first.line.pass.seen ≡ [] → first.counts ≡ no_counts → HasWorked line_views t rig gate limit first last status
+      → (kept : ∥ IsLine last.line.pass last.line.journal ∥₁) (pass : PassView) (journal : List Entry) (counts : Counts) (part : State) → pass ≡ last.line.pass → journal ≡ noted pass.opening pass.seen pass.machine → counts ≡ last.counts → part ≡ last.side.part
+      → GivesBack tries t rig gate limit (by_pass first) pass journal counts status part
+  gives_back law limit first last status e seen none worked kept pass journal counts part is noted_all counted stands =
+      let come = come_by_pass tries t rig gate first last e worked.come in
+      let same = come_same tries t rig gate (by_pass first) (by_pass last) come in
+      let opening : pass.opening ≡ first.line.pass.opening = ap (λ v. v.opening) is ∙ same.1 in
+      let machine : pass.machine ≡ first.line.pass.machine = ap (λ v. v.machine) is ∙ same.0 in
+      let sound = ∥∥₁_elim kept (IsSound-prop last.line.pass.opening) (λ k. k.sound) in
+      let legal = ∥∥₁_elim kept (IsLegal-prop last.line.pass.opening last.line.pass.seen) (λ k. k.legal) in
+      record {
+        last = by_pass last;
+        worked = record { come = come; ends = worked.ends };
+        pass = sym is;
+        counts = sym counted;
+        part = sym stands;
+        lawful = subst (λ v. LawfulThroughout first.line.pass.opening v.seen) (sym is) (subst (λ o. LawfulThroughout o last.line.pass.seen) same.1 (law last.line.pass.opening last.line.pass.seen sound legal));
+        journal_is = noted_all ∙ (λ i. noted (opening i) pass.seen (machine i));
+        counted = subst (λ j. AreCountsOf j counts) (ap journal_by (sym is) ∙ sym noted_all) (subst (AreCountsOf (journal_by last.line.pass)) (sym counted) (come_counts (by_pass first) (by_pass last) come seen none));
+      }

@@ -1,0 +1,201 @@
+-- What six workers gave back, told of their machines by name, and the record of it.
+use Rattle.std.proofs.Common.{◌≡◌, ℕ, ℤ, true, List, [], ◌∷◌, None, Result, refl, sym, ap, subst, ◌∙◌}
+use Rattle.cell_types.specs.declared.machine.Machine.{Machine}
+use Rattle.cell_types.specs.declared.machine.Machine.TheVariants.{Feed, Table, Robot, Press, Deposit, Crane, Watch}
+use Rattle.cell_types.specs.declared.answer.Event.{Event}
+use Rattle.cell_types.specs.declared.journal.Entry.{Entry}
+use Rattle.cell_types.specs.Journals.{journal_of}
+use Rattle.cell_calib.specs.declared.sense.SensorFault.{SensorFault}
+use Rattle.cell_calib.specs.Scale.{Scale}
+use Rattle.cell_calib.specs.Line.{IsReading}
+use Rattle.cell_rules.specs.ModelState.{ModelState}
+use Rattle.cell_rules.specs.Journal.{noted}
+use Rattle.cell_rules.specs.Laws.{LawfulThroughout}
+use Rattle.cell_interlock.specs.Views.{PassView, InterlockView}
+use Rattle.cell_control.specs.Rigs.{Rig}
+use Rattle.cell_control.specs.Steps.{Steps, with_senses}
+use Rattle.cell_calib.specs.declared.sense.CraneSense.{CraneSense}
+use Rattle.cell_calib.specs.declared.sense.RobotSense.{RobotSense}
+use Rattle.cell_calib.specs.declared.sense.TableSense.{TableSense}
+use Rattle.cell_devices.specs.declared.act.CraneAct.{CraneAct}
+use Rattle.cell_devices.specs.declared.act.RobotAct.{RobotAct}
+use Rattle.cell_devices.specs.declared.act.TableAct.{TableAct}
+use Rattle.cell_haul.specs.CraneProgram.{Senses as CraneSenses, crane_steps}
+use Rattle.cell_haul.proofs.CraneSenses.{senses_near as crane_senses_near}
+use Rattle.cell_robot.specs.RobotProgram.{RobotScales, RobotGauges, near_lines, Senses as RobotSenses, robot_steps}
+use Rattle.cell_robot.proofs.RobotSenses.{senses_near as robot_senses_near}
+use Rattle.cell_stations.specs.TableProgram.{Senses as TableSenses, table_steps}
+use Rattle.cell_stations.proofs.TableSenses.{senses_near as table_senses_near}
+use Rattle.cell_parts.specs.Plant.{TablePlant, RobotPlant, CranePlant}
+use Rattle.cell_notes.specs.declared.counts.Counts.{Counts}
+use Rattle.cell_notes.specs.declared.run_record.RunRecord.{RunRecord}
+use Rattle.cell_notes.specs.declared.status.Status.{Status}
+use Rattle.cell_notes.specs.declared.status.Status.TheVariants.{Fine}
+use Rattle.cell_notes.specs.Notes.{no_counts}
+use Rattle.cell_seat.proofs.Turning.{acts_still}
+use Rattle.cell_parts.specs.Axes.{CellScales}
+use Rattle.cell_plant.specs.Machines.{PartOf, steps_of, rig_of}
+use Rattle.cell_plant.specs.CellStates.{SideOf, side_in, sides_at_start}
+use Rattle.cell_plant.specs.Records.{positions_in}
+use Rattle.cell_plant.specs.Runs.{is_at_work}
+use Rattle.cell_workers.specs.Lines.{Lines, fresh_pass, passes}
+use Rattle.cell_workers.specs.Workers.{Moment, moment, GateOf, TakesTurn, TakesTurns, HasWorked, GivesBack, AreCountsOf}
+use Rattle.cell_workers.specs.declared.six.Six.{Six}
+use Rattle.cell_workers.specs.Backs.{journal_in, parts_in}
+use Rattle.cell_workers.specs.Records.{MomentOf, first_moment, TellsWork}
+
+-- where less is known of the sensors, a worker has still worked
+module _ {L S Sense Reading Act State : Type 0} (lines : Lines L) (t : Steps S Sense Reading Act) (rig : Rig State Sense Act) (gate : GateOf) (senses : Sense → Result Reading SensorFault → Type 0) (f : (s : Sense) (r : Result Reading SensorFault) → t.senses s r → senses s r) where
+  turn_still : (before now : Moment L S State) → TakesTurn lines t rig gate before now → TakesTurn lines (with_senses t senses) rig gate before now
+  turn_still before now k =
+      record {
+        runs = k.runs;
+        let_in = k.let_in;
+        asked = k.asked;
+        row = record { set = k.row.set; acts = acts_still t rig senses f _ _ before.side k.row.set k.asked k.row.acts; moved = k.row.moved };
+        motor_demands = λ e. let tells = k.motor_demands e in record { act = tells.act; told = tells.told; motor_demands = tells.motor_demands };
+        counted = k.counted;
+      }
+
+  turns_still : (before : Moment L S State) (turns : List (Moment L S State)) → TakesTurns lines t rig gate before turns → TakesTurns lines (with_senses t senses) rig gate before turns
+  turns_still before [] k = tt
+  turns_still before (now ∷ later) k = (turn_still before now k.0, turns_still now later k.1)
+
+pub back_still : {S Sense Reading Act State : Type 0} → (tries : ℕ) (t : Steps S Sense Reading Act) (rig : Rig State Sense Act) (gate : GateOf) (senses : Sense → Result Reading SensorFault → Type 0) (f : (s : Sense) (r : Result Reading SensorFault) → t.senses s r → senses s r)
+    (limit : ℕ) (first : Moment PassView S State) (kept : PassView) (journal : List Entry) (did : Counts) (fares : Status) (stands : State)
+    → GivesBack tries t rig gate limit first kept journal did fares stands → GivesBack tries (with_senses t senses) rig gate limit first kept journal did fares stands
+back_still tries t rig gate senses f limit first kept journal did fares stands k =
+    record {
+      last = k.last;
+      worked = record { come = record { turns = k.worked.come.turns; taken = turns_still (passes tries) t rig gate senses f first k.worked.come.turns k.worked.come.taken; last = k.worked.come.last }; ends = k.worked.ends };
+      pass = k.pass;
+      counts = k.counts;
+      part = k.part;
+      lawful = k.lawful;
+      journal_is = k.journal_is;
+      counted = k.counted;
+    }
+
+-- the table, the robot and the crane read by their scales: a reading is any that a calibration over these may give
+module _ (tries : ℕ) (gate : GateOf) (limit : ℕ) (kept : PassView) (journal : List Entry) (did : Counts) (fares : Status) where
+  pub table_near : (points scale : Scale) (gives : ℕ → ℤ → Type 0) (rig : Rig TablePlant TableSense TableAct) (first : MomentOf Table) (stands : TablePlant) → scale ≡ points
+      → GivesBack tries (table_steps points gives) rig gate limit first kept journal did fares stands → GivesBack tries (table_steps scale (IsReading scale)) rig gate limit first kept journal did fares stands
+  table_near points scale gives rig first stands e k =
+      subst (λ s. GivesBack tries (table_steps s (IsReading s)) rig gate limit first kept journal did fares stands) (sym e)
+      (back_still tries (table_steps points gives) rig gate (TableSenses points (IsReading points)) (table_senses_near points gives) limit first kept journal did fares stands k)
+
+  pub robot_near : (points scales : RobotScales) (gives : RobotGauges) (rig : Rig RobotPlant RobotSense RobotAct) (first : MomentOf Robot) (stands : RobotPlant) → scales ≡ points
+      → GivesBack tries (robot_steps points gives) rig gate limit first kept journal did fares stands → GivesBack tries (robot_steps scales (near_lines scales)) rig gate limit first kept journal did fares stands
+  robot_near points scales gives rig first stands e k =
+      subst (λ s. GivesBack tries (robot_steps s (near_lines s)) rig gate limit first kept journal did fares stands) (sym e)
+      (back_still tries (robot_steps points gives) rig gate (RobotSenses points (near_lines points)) (robot_senses_near points gives) limit first kept journal did fares stands k)
+
+  pub crane_near : (points scale : Scale) (gives : ℕ → ℤ → Type 0) (rig : Rig CranePlant CraneSense CraneAct) (first : MomentOf Crane) (stands : CranePlant) → scale ≡ points
+      → GivesBack tries (crane_steps points gives) rig gate limit first kept journal did fares stands → GivesBack tries (crane_steps scale (IsReading scale)) rig gate limit first kept journal did fares stands
+  crane_near points scale gives rig first stands e k =
+      subst (λ s. GivesBack tries (crane_steps s (IsReading s)) rig gate limit first kept journal did fares stands) (sym e)
+      (back_still tries (crane_steps points gives) rig gate (CraneSenses points (IsReading points)) (crane_senses_near points gives) limit first kept journal did fares stands k)
+
+-- where a history is lawful, so is the one that has not begun
+nothing_yet : (s : ModelState) (h : List Event) → LawfulThroughout s h → LawfulThroughout s []
+nothing_yet s h k [] more e = k [] h refl
+nothing_yet s h k (x ∷ xs) more e = cc
+
+-- what the worker of a machine gave back, by the machine's name
+abbrev pub Gave : CellScales → InterlockView → ℕ → (Machine → GateOf) → (m : Machine) → PassView → List Entry → Counts → Status → PartOf m → Type 0
+Gave c i limit gate m kept journal did fares stands = GivesBack i.tries (steps_of c m) (rig_of c m) (gate m) limit (first_moment i m) kept journal did fares stands
+
+module _ (c : CellScales) (i : InterlockView) (limit : ℕ) (gate : Machine → GateOf) where
+  -- it began with a fresh pass, at the start of its machine
+  pub gave : (m : Machine) (pass : PassView) (side : SideOf m) (kept : PassView) (journal : List Entry) (did : Counts) (fares : Status) (stands : PartOf m) → pass ≡ fresh_pass i m → side ≡ side_in (sides_at_start i.opening) m
+      → GivesBack i.tries (steps_of c m) (rig_of c m) (gate pass.machine) limit (moment pass side no_counts) kept journal did fares stands → Gave c i limit gate m kept journal did fares stands
+  gave m pass side kept journal did fares stands e f k =
+      subst (λ s. GivesBack i.tries (steps_of c m) (rig_of c m) (gate m) limit (moment (fresh_pass i m) s no_counts) kept journal did fares stands) f
+      (subst (λ p. GivesBack i.tries (steps_of c m) (rig_of c m) (gate p.machine) limit (moment p side no_counts) kept journal did fares stands) e k)
+
+  module _ (six : Six)
+      (feed : Gave c i limit gate Feed six.feed.pass six.feed.journal.items six.feed.counts six.feed.status six.feed.part.belt)
+      (table : Gave c i limit gate Table six.table.pass six.table.journal.items six.table.counts six.table.status six.table.part.plant)
+      (robot : Gave c i limit gate Robot six.robot.pass six.robot.journal.items six.robot.counts six.robot.status six.robot.part.plant)
+      (press : Gave c i limit gate Press six.press.pass six.press.journal.items six.press.counts six.press.status six.press.part)
+      (deposit : Gave c i limit gate Deposit six.deposit.pass six.deposit.journal.items six.deposit.counts six.deposit.status six.deposit.part.belt)
+      (crane : Gave c i limit gate Crane six.crane.pass six.crane.journal.items six.crane.counts six.crane.status six.crane.part.plant)
+      (r : RunRecord) where
+    abbrev last : (m : Machine) → MomentOf m
+    last Feed = feed.last
+    last Table = table.last
+    last Robot = robot.last
+    last Press = press.last
+    last Deposit = deposit.last
+    last Crane = crane.last
+    last Watch = first_moment i Watch
+
+    abbrev fares : Machine → Status
+    fares Feed = six.feed.status
+    fares Table = six.table.status
+    fares Robot = six.robot.status
+    fares Press = six.press.status
+    fares Deposit = six.deposit.status
+    fares Crane = six.crane.status
+    fares Watch = Fine
+
+    works : (m : Machine) → is_at_work m ≡ true → HasWorked (passes i.tries) (steps_of c m) (rig_of c m) (gate m) limit (first_moment i m) (last m) (fares m)
+    works Feed e = feed.worked
+    works Table e = table.worked
+    works Robot e = robot.worked
+    works Press e = press.worked
+    works Deposit e = deposit.worked
+    works Crane e = crane.worked
+    works Watch e = cc
+
+    of_last : (m : Machine) (w : PassView) (k : PassView) → w ≡ k → LawfulThroughout i.opening k.seen → LawfulThroughout i.opening w.seen
+    of_last m w k e l = subst (λ v. LawfulThroughout i.opening v.seen) (sym e) l
+
+    lawful : (m : Machine) → LawfulThroughout i.opening (last m).line.seen
+    lawful Feed = of_last Feed _ _ feed.pass feed.lawful
+    lawful Table = of_last Table _ _ table.pass table.lawful
+    lawful Robot = of_last Robot _ _ robot.pass robot.lawful
+    lawful Press = of_last Press _ _ press.pass press.lawful
+    lawful Deposit = of_last Deposit _ _ deposit.pass deposit.lawful
+    lawful Crane = of_last Crane _ _ crane.pass crane.lawful
+    lawful Watch = nothing_yet i.opening _ feed.lawful
+
+    journal_is : (m : Machine) → journal_in six m ≡ noted i.opening (last m).line.seen m
+    journal_is Feed = feed.journal_is ∙ ap (λ v. noted i.opening v.seen Feed) (sym feed.pass)
+    journal_is Table = table.journal_is ∙ ap (λ v. noted i.opening v.seen Table) (sym table.pass)
+    journal_is Robot = robot.journal_is ∙ ap (λ v. noted i.opening v.seen Robot) (sym robot.pass)
+    journal_is Press = press.journal_is ∙ ap (λ v. noted i.opening v.seen Press) (sym press.pass)
+    journal_is Deposit = deposit.journal_is ∙ ap (λ v. noted i.opening v.seen Deposit) (sym deposit.pass)
+    journal_is Crane = crane.journal_is ∙ ap (λ v. noted i.opening v.seen Crane) (sym crane.pass)
+    journal_is Watch = refl
+
+    counted : (m : Machine) → AreCountsOf (journal_in six m) (last m).counts
+    counted Feed = subst (AreCountsOf six.feed.journal.items) (sym feed.counts) feed.counted
+    counted Table = subst (AreCountsOf six.table.journal.items) (sym table.counts) table.counted
+    counted Robot = subst (AreCountsOf six.robot.journal.items) (sym robot.counts) robot.counted
+    counted Press = subst (AreCountsOf six.press.journal.items) (sym press.counts) press.counted
+    counted Deposit = subst (AreCountsOf six.deposit.journal.items) (sym deposit.counts) deposit.counted
+    counted Crane = subst (AreCountsOf six.crane.journal.items) (sym crane.counts) crane.counted
+    counted Watch = record { done = refl; read = refl; refused = refl }
+
+    -- the record of what they gave back
+    pub tells : r.start ≡ i.opening → r.counts ≡ six.feed.counts ∷ six.table.counts ∷ six.robot.counts ∷ six.press.counts ∷ six.deposit.counts ∷ six.crane.counts ∷ no_counts ∷ [] → r.status ≡ six.feed.status ∷ six.table.status ∷ six.robot.status ∷ six.press.status ∷ six.deposit.status ∷ six.crane.status ∷ Fine ∷ [] → ((m : Machine) → journal_of r.journals m ≡ journal_in six m) → r.end ≡ None
+        → r.axes ≡ positions_in (parts_in six) → TellsWork c i.opening i.tries limit gate r
+    tells start counts status journals end axes =
+        record {
+          interlock = i;
+          opened = refl;
+          limited = refl;
+          last = last;
+          fares = fares;
+          works = works;
+          watch_rests = (refl, refl);
+          lawful = lawful;
+          start = start;
+          counts = counts ∙ (λ x. sym feed.counts x ∷ sym table.counts x ∷ sym robot.counts x ∷ sym press.counts x ∷ sym deposit.counts x ∷ sym crane.counts x ∷ no_counts ∷ []);
+          status = status;
+          journals = λ m. journals m ∙ journal_is m;
+          counted = λ m. subst (λ j. AreCountsOf j (last m).counts) (sym (journals m)) (counted m);
+          end = end;
+          axes = axes ∙ (λ x. positions_in (record { feed = sym feed.part x; table = sym table.part x; robot = sym robot.part x; press = sym press.part x; deposit = sym deposit.part x; crane = sym crane.part x }));
+        }

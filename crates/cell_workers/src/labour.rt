@@ -1,0 +1,67 @@
+//! A worker's turns, over any line.
+ghost use Rattle.std.specs.Prelude.{◌≡◌};
+ghost use Rattle.cell_notes.specs.Notes.{no_counts};
+ghost use Rattle.cell_seat.specs.Fares.{status_of as status_by};
+ghost use Rattle.cell_seat.specs.Sides.{IsReady, side_of};
+ghost use Rattle.cell_workers.specs.Workers.{HasWorked, moment};
+
+use crate::gate::Gate;
+use cell_control::{Part, Program};
+use cell_notes::{Counts, Status};
+use cell_rules::Line;
+use cell_seat::{Seat, status_of};
+
+/// How far a worker came.
+#[derive(Clone, Copy, Debug, PartialEq, Eq)]
+pub(crate) struct Tally {
+    /// How often its machine did what.
+    pub counts: Counts,
+    /// How its machine fares.
+    pub status: Status,
+}
+
+/// A machine's turns over a line: at most so many, each once the gate lets it begin, and none after one
+/// that has stopped the machine.
+pub(crate) fn labour<P: Program, B: Part<Sense = P::Sense, Act = P::Act>, L: Line, G: Gate>(
+    seat: &mut Seat<P, B>,
+    line: &mut L,
+    gate: &G,
+    turns: u32,
+) -> Tally
+    requires own { L.machine line.old ≡ (P.steps seat.old.controller.program).machine }
+    requires ready { IsReady (P.steps seat.old.controller.program) (L.opening line.old) (L.seen line.old) seat.old.controller.stopped seat.old.controller.progress }
+    ensures worked { HasWorked (record { opening = L.opening; seen = L.seen; asks = L.asks }) (P.steps seat.old.controller.program) (B.rig (B.make seat.old.part)) (G.may_answer gate.now (L.machine line.old)) turns
+        (moment line.old (side_of seat.old.controller.progress seat.old.controller.stopped (B.state seat.old.part)) no_counts)
+        (moment line.new (side_of seat.new.controller.progress seat.new.controller.stopped (B.state seat.new.part)) result.counts) result.status }
+    ensures own { L.machine line.new ≡ L.machine line.old }
+{
+    let machine = line.machine();
+    let mut counts = Counts::none();
+    for turn in 0..turns {
+        if seat.controller.stopped().is_some() {
+            return ended(seat, counts);
+        }
+        if !gate.pass(machine, turn) {
+            return Tally {
+                counts,
+                status: Status::GateLimit,
+            };
+        }
+        counts = counts.with(seat.turn(line));
+    }
+    ended(seat, counts)
+}
+
+// A worker that its gate has let through.
+fn ended<P: Program, B: Part<Sense = P::Sense, Act = P::Act>>(
+    seat: &Seat<P, B>,
+    counts: Counts,
+) -> Tally
+    ensures counts { result.counts ≡ counts }
+    ensures status { result.status ≡ status_by seat.now.controller.stopped }
+{
+    Tally {
+        counts,
+        status: status_of(seat.controller.stopped()),
+    }
+}

@@ -1,0 +1,93 @@
+//! Starts workers in threads, and joins them.
+ghost use Rattle.std.specs.Prelude.{◌≡◌, [], IfSome, Some};
+
+use crate::gate::Gate;
+use crate::work::Back;
+use crate::worker::Worker;
+use cell_interlock::{Interlock, Pass};
+use std::alloc::Global;
+use std::snapshot::Snapshot;
+use std::thread::{Promise, PromisedHandle, Scope, Threads};
+
+/// What the workers of a run have in common.
+#[derive(Drop)]
+pub(crate) struct Orders<'s, G> {
+    /// Where their journals take memory.
+    pub alloc: Global,
+    /// The interlock over which they work.
+    pub interlock: &'s Interlock,
+    /// What lets them begin their turns.
+    pub gate: &'s G,
+    /// How many turns each has at most.
+    pub turns: u32,
+}
+
+/// What a worker's result keeps.
+#[derive(Drop)]
+pub(crate) struct Promised<W, G> {
+    interlock: Snapshot<Interlock>,
+    pass: Snapshot<Pass>,
+    worker: Snapshot<W>,
+    gate: Snapshot<G>,
+    turns: u32,
+}
+
+impl<W: Worker, G: Gate> Promise<Back<W::Part>> for Promised<W, G> {
+    ghost kept_by = { λ p r. W.gives_back p.worker.value p.interlock.value.tries (G.may_answer p.gate.value p.pass.value.machine) p.turns p.pass.value r.pass r.journal.items r.counts r.status r.part };
+}
+
+/// Starts a worker, unless one of those before it couldn't be started.
+///
+/// `None` where it isn't started; `all_run` is false then.
+pub(crate) fn start<'s, E, W: Worker + Send + 's, G: Gate + Sync>(
+    scope: &Scope<'s, E>,
+    orders: &Orders<'s, G>,
+    all_run: &mut bool,
+    pass: Pass,
+    worker: W,
+) -> Option<PromisedHandle<Back<W::Part>, Promised<W, G>>>
+where
+    W::Part: Send,
+    requires table { pass.table ≡ orders.now.interlock.now.table }
+    requires fresh { pass.seen ≡ [] }
+    requires ready { W.is_ready worker pass }
+    ensures { IfSome result (λ h. (h.promise.interlock.value ≡ orders.now.interlock.now) × (h.promise.pass.value ≡ pass) × (h.promise.worker.value ≡ worker) × (h.promise.gate.value ≡ orders.now.gate.now) × (h.promise.turns ≡ orders.now.turns)) }
+{
+    if !*all_run {
+        return None;
+    }
+    let Orders {
+        alloc,
+        interlock,
+        gate,
+        turns,
+    } = *orders;
+    let promise = Promised {
+        interlock: Snapshot::of(interlock),
+        pass: Snapshot::of(&pass),
+        worker: Snapshot::of(&worker),
+        gate: Snapshot::of(gate),
+        turns,
+    };
+    let started = scope
+        .spawn_with(
+            promise,
+            move || worker.work(alloc, interlock, pass, gate, turns),
+        )
+        .ok();
+    *all_run = started.is_some();
+    started
+}
+
+/// Waits for the end of a worker, if it was started.
+pub(crate) fn joined<R: Threads, T, P: Promise<T>>(
+    rt: &R,
+    started: Option<PromisedHandle<T, P>>,
+) -> Option<T>
+    ensures { IfSome result (λ t. (h : _) × (started ≡ Some h) × P.kept_by h.promise t) }
+{
+    match started {
+        Some(handle) => Some(handle.join(rt)),
+        None => None,
+    }
+}

@@ -1,0 +1,60 @@
+//! A worker: a pass in, and a plain struct out.
+ghost use Rattle.std.specs.Prelude.{◌≡◌, []};
+ghost use Rattle.cell_notes.specs.Notes.{no_counts};
+ghost use Rattle.cell_seat.specs.Sides.{IsReady, side_of};
+ghost use Rattle.cell_workers.specs.Workers.{GivesBack, moment};
+
+use crate::gate::Gate;
+use crate::labour::labour;
+use cell_control::{Part, Program};
+use cell_interlock::{Interlock, Pass, PassLine};
+use cell_notes::{Counts, Status};
+use cell_rules::laws::lawful_histories;
+use cell_seat::Seat;
+use cell_types::Entry;
+use std::alloc::Global;
+
+/// What a worker gives back. It borrows nothing, and the machine's controller isn't in it.
+#[derive(Drop)]
+pub(crate) struct Back<B> {
+    /// The machine's pass.
+    pub pass: Pass,
+    /// Its calls that were settled.
+    pub journal: Vec<Entry>,
+    /// How often it did what.
+    pub counts: Counts,
+    /// How it fares.
+    pub status: Status,
+    /// Where its part stands.
+    pub part: B,
+}
+
+/// A machine's turns by its pass over an interlock.
+pub(crate) fn work<P: Program, B: Part<Sense = P::Sense, Act = P::Act>, G: Gate>(
+    alloc: Global,
+    interlock: &Interlock,
+    pass: Pass,
+    seat: Seat<P, B>,
+    gate: &G,
+    turns: u32,
+) -> Back<B>
+    requires table { pass.table ≡ interlock.now.table }
+    requires fresh { pass.seen ≡ [] }
+    requires own { pass.machine ≡ (P.steps seat.controller.program).machine }
+    requires ready { IsReady (P.steps seat.controller.program) pass.opening pass.seen seat.controller.stopped seat.controller.progress }
+    ensures { GivesBack interlock.now.tries (P.steps seat.controller.program) (B.rig (B.make seat.part)) (G.may_answer gate.now pass.machine) turns
+        (moment pass (side_of seat.controller.progress seat.controller.stopped (B.state seat.part)) no_counts) result.pass result.journal.items result.counts result.status (B.state result.part) }
+{
+    lawful_histories();
+    let mut seat = seat;
+    let mut line = PassLine::new(alloc, interlock, pass);
+    let tally = labour(&mut seat, &mut line, gate, turns);
+    let (pass, journal) = line.into_parts();
+    Back {
+        pass,
+        journal,
+        counts: tally.counts,
+        status: tally.status,
+        part: seat.part,
+    }
+}
