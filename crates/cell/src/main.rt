@@ -1,14 +1,16 @@
-//! The program of the production cell: it replays scripts of calls to the interlock, and simulates the
-//! cell.
+//! The program of the production cell: it replays scripts of calls to the interlock, simulates the cell,
+//! and runs it by six workers.
 #![tactic(auto)]
 
 pub use cell_config::{Config, ConfigFault, read_config};
+pub use cell_program::running::run_cell;
 pub use cell_program::serve::serve;
 use cell_program::start::start;
 pub use cell_program::words::{Mode, read_words};
+pub use cell_workers::{Gate, RunFault};
 use std::process::ExitCode;
 
 fn main(rt: HostRuntime) -> ExitCode {
-    let status = start(rt.alloc(), &rt, &mut rt.stdin(), &mut rt.stdout());
+    let status = start(&rt, rt.alloc(), &rt, &mut rt.stdin(), &mut rt.stdout());
     ExitCode::from(status)
 }

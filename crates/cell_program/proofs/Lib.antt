@@ -1,4 +1,7 @@
+mod FlagLemmas
+mod NumberLemmas
 mod ReportLemmas
 mod FrontLemmas
 mod SimLemmas
+mod RunLemmas
 mod WordLemmas

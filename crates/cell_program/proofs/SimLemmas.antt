@@ -1,25 +1,56 @@
 -- What is told of a simulation.
-use Rattle.std.proofs.Common.{◌≡◌, inl, inr, codes, List, ℕ, Option, Some, None, Ok, Err, IfSome}
+use Rattle.std.proofs.Common.{◌≡◌, ◌⊎◌, inl, inr, codes, List, ℕ, Option, Some, None, Ok, Err, IfSome, map, refl, sym, ap, ◌∙◌, subst, ⊎_elim}
+use Rattle.std.specs.Io.KnownBytes.{Appends}
+use Rattle.cell_types.specs.Journals.{journal_of}
+use Rattle.cell_rules.specs.ModelState.{ModelState}
+use Rattle.cell_rules.specs.Journal.{event_by}
+use Rattle.cell_rules.proofs.Notes.{events_of_noted}
 use Rattle.cell_text.specs.Output.{WroteFront}
 use Rattle.cell_parts.specs.Axes.{CellScales}
 use Rattle.cell_plant.specs.Cells.{TellsRun}
+use Rattle.cell_plant.specs.Records.{events_in}
 use Rattle.cell_notes.specs.declared.run_record.RunRecord.{RunRecord}
+use Rattle.cell_notes.specs.declared.schedule.Turn.{Turn}
 use Rattle.cell_config.specs.Configured.{Says, in_order, shown}
 use Rattle.cell_config.specs.Settings.{settings_of}
 use Rattle.cell_config.specs.ConfigWords.{config_fault_text}
-use Rattle.cell_program.specs.Served.{TellsRunOf, SimFails, WasSimulated, fault_line}
-use Rattle.cell_program.specs.Simulated.{ReportTold}
 use Rattle.cell_config.specs.declared.configuration.Config.{Config}
 use Rattle.cell_config.specs.declared.fault.ConfigFault.{ConfigFault}
+use Rattle.cell_report.specs.Audited.{EndsIn, IsAudited}
+use Rattle.cell_report.specs.Report.{report_text}
+use Rattle.cell_report.specs.declared.audit_faults.AuditFault.{AuditFault}
+use Rattle.cell_report.specs.declared.audit_faults.AuditFault.TheVariants.{Twice, Gap, Differs, End, Memory}
+use Rattle.cell_program.specs.Reported.{AreFine, AuditFinds, IsAmiss, ReportTold}
+use Rattle.cell_program.specs.Served.{IsAuditOf, SimFails, TellsRunOf, WasSimulated, fault_line}
+
+-- the history of a run is what an audit of its journals looks for
+audited_run : (c : CellScales) (opening : ModelState) (turns : List Turn) (r : RunRecord) (t : TellsRun c opening turns r) → IsAudited r.start (journal_of r.journals) r.end (events_in t.steps)
+audited_run c opening turns r t = subst (λ s. IsAudited s (journal_of r.journals) r.end (events_in t.steps)) (sym t.told.start) (record {
+  legal = t.legal;
+  own = λ m. sym (events_of_noted opening (events_in t.steps) m) ∙ ap (map (event_by m)) (sym (t.told.journals m));
+  noted = λ m. sym (t.told.journals m);
+  ends = subst (EndsIn _) (sym t.told.end) (sym t.reached);
+})
+
+-- so the audit refuses it for want of memory alone
+audit_is : (c : CellScales) (opening : ModelState) (turns : List Turn) (r : RunRecord) (audit : Option AuditFault) → TellsRun c opening turns r → AuditFinds r audit → IsAuditOf audit
+audit_is c opening turns r None t k = tt
+audit_is c opening turns r (Some (Twice s)) t k = absurd (k.1 (λ e. cc) (events_in t.steps) (audited_run c opening turns r t))
+audit_is c opening turns r (Some (Gap s)) t k = absurd (k.1 (λ e. cc) (events_in t.steps) (audited_run c opening turns r t))
+audit_is c opening turns r (Some (Differs s)) t k = absurd (k.1 (λ e. cc) (events_in t.steps) (audited_run c opening turns r t))
+audit_is c opening turns r (Some End) t k = absurd (k.1 (λ e. cc) (events_in t.steps) (audited_run c opening turns r t))
+audit_is c opening turns r (Some Memory) t k = refl
+
+-- what is amiss where the audit had memory
+amiss_is : (r : RunRecord) (audit : Option AuditFault) → IsAuditOf audit → IsAmiss r audit → (¬ AreFine r.status) ⊎ (audit ≡ Some Memory)
+amiss_is r None k (inl h) = inl h
+amiss_is r None k (inr h) = cc
+amiss_is r (Some f) k h = inr (ap (λ x. Some x) k)
 
 module _ (old new : Option (List ℕ)) where
   pub config_refused : (o : Option (List ℕ)) (fault : ConfigFault) → IfSome o (λ bytes. Says bytes (Err fault)) → WroteFront old new (fault_line (config_fault_text fault)) → IfSome o (λ bytes. SimFails bytes old new)
   config_refused None fault k w = tt
   config_refused (Some bytes) fault k w = inl (fault, (k, w))
-
-  pub sim_without_memory : (o : Option (List ℕ)) → WroteFront old new (fault_line (codes "memory")) → IfSome o (λ bytes. SimFails bytes old new)
-  sim_without_memory None w = tt
-  sim_without_memory (Some bytes) w = inr (inl w)
 
   tells_of : (bytes : List ℕ) (config : Config) (r : RunRecord) (c : CellScales) → settings_of bytes ≡ Ok (shown config) → config.points ≡ in_order c → TellsRun c config.start config.schedule.items r → TellsRunOf bytes r
   tells_of bytes config r c k points run = record { settings = shown config; said = k; scales = c; points = points; run = run }
@@ -27,9 +58,12 @@ module _ (old new : Option (List ℕ)) where
   pub sim_well : (o : Option (List ℕ)) (config : Config) (r : RunRecord) (c : CellScales) → IfSome o (λ bytes. Says bytes (Ok config)) → config.points ≡ in_order c → TellsRun c config.start config.schedule.items r
       → ReportTold 0 r old new → WasSimulated o old new
   sim_well None config r c k points run told = tt
-  sim_well (Some bytes) config r c k points run told = (r, (tells_of bytes config r c k points run, told))
+  sim_well (Some bytes) config r c k points run told = (r, (tells_of bytes config r c k points run, (told.0, told.1.1)))
 
   pub sim_failed : (o : Option (List ℕ)) (config : Config) (r : RunRecord) (c : CellScales) → IfSome o (λ bytes. Says bytes (Ok config)) → config.points ≡ in_order c → TellsRun c config.start config.schedule.items r
       → ReportTold 1 r old new → IfSome o (λ bytes. SimFails bytes old new)
   sim_failed None config r c k points run told = tt
-  sim_failed (Some bytes) config r c k points run told = inr (inr (r, told.0, (tells_of bytes config r c k points run, told.1)))
+  sim_failed (Some bytes) config r c k points run told =
+      let audited = audit_is c config.start config.schedule.items r told.0 run told.1.0 in
+      let ends = ⊎_elim (λ h. inl (h.0, amiss_is r told.0 audited h.1)) (λ w. inr w) told.1.1 in
+      inr (inr (r, told.0, (tells_of bytes config r c k points run, (audited, ends))))

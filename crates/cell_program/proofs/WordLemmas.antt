@@ -1,10 +1,10 @@
 -- Which mode words ask for.
-use Rattle.std.proofs.Common.{◌≡◌, inl, inr, ℕ, List, [], ◌∷◌, codes, refl, ap, ◌∙◌}
+use Rattle.std.proofs.Common.{◌≡◌, inl, inr, ℕ, List, [], ◌∷◌, codes, refl, sym, ap, ◌∙◌}
 use Rattle.clap.specs.Words.{Text}
 use Rattle.clap.proofs.OnLiterals.{clap_on_literals}
-use Rattle.cell_program.specs.Words.{AskForReplay, AskForSim, mode_of}
+use Rattle.cell_program.specs.Words.{AskForReplay, AskForRun, AskForSim, mode_of}
 use Rattle.cell_program.specs.declared.words.Mode.{Mode}
-use Rattle.cell_program.specs.declared.words.Mode.TheVariants.{Replay, Sim}
+use Rattle.cell_program.specs.declared.words.Mode.TheVariants.{Replay, Sim, Run}
 
 plain_mode : (name : Text) → mode_of (name ∷ []) ≡ Replay
 unfolding clap_on_literals
@@ -25,12 +25,21 @@ replay_asked words (name, inr e) = ap mode_of e ∙ replay_mode name
 pub sim_asked : (words : List Text) → AskForSim words → mode_of words ≡ Sim
 sim_asked words k = ap mode_of k.1 ∙ sim_mode k.0
 
--- words that ask for one mode don't ask for the other
-pub not_for_sim : {P : Type 0} → (words : List Text) (m : Mode) → m ≡ Replay → m ≡ mode_of words → AskForSim words → P
-not_for_sim words m e f k = let other = sim_asked words k in cc
+-- words that ask for one mode don't ask for another
+pub not_for_sim : {P : Type 0} → (words : List Text) (m n : Mode) → (n ≡ Sim → ⊥) → m ≡ n → m ≡ mode_of words → AskForSim words → P
+not_for_sim words m n other e f k = absurd (other (sym e ∙ (f ∙ sim_asked words k)))
 
-pub not_for_replay : {P : Type 0} → (words : List Text) (m : Mode) → m ≡ Sim → m ≡ mode_of words → AskForReplay words → P
-not_for_replay words m e f k = let other = replay_asked words k in cc
+pub not_for_replay : {P : Type 0} → (words : List Text) (m n : Mode) → (n ≡ Replay → ⊥) → m ≡ n → m ≡ mode_of words → AskForReplay words → P
+not_for_replay words m n other e f k = absurd (other (sym e ∙ (f ∙ replay_asked words k)))
+
+pub not_for_run : {P : Type 0} → (words : List Text) (m n : Mode) (turns tries : ℕ) → (n ≡ Run turns tries → ⊥) → m ≡ n → m ≡ mode_of words → AskForRun turns tries words → P
+not_for_run words m n turns tries other e f k = absurd (other (sym e ∙ (f ∙ k.1)))
+
+-- the words ask for the run that was read
+pub run_asked : (words : List Text) (m : Mode) (turns tries turns' tries' : ℕ) → m ≡ Run turns tries → m ≡ mode_of words → AskForRun turns' tries' words → (turns ≡ turns') × (tries ≡ tries')
+run_asked words m turns tries turns' tries' e f k =
+    let same : Run turns tries ≡ Run turns' tries' = sym e ∙ (f ∙ k.1) in
+    (cc, cc)
 
 -- what is so of both words that ask for a replay
 pub either_way : {K : Type 0} → (words : List Text) → AskForReplay words → ((name : List ℕ) → words ≡ name ∷ [] → K) → ((name : List ℕ) → words ≡ name ∷ codes "replay" ∷ [] → K) → K

@@ -1,3 +1,5 @@
 pub mod Words
+pub mod Reported
+pub mod Ran
 pub mod Served
 pub mod Simulated

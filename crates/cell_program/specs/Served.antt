@@ -1,5 +1,5 @@
 -- What a run of the program has done.
-use Rattle.std.specs.Prelude.{◌≡◌, ℕ, List, ◌++◌, codes, ◌⊎◌, All, Option, Some, None, Ok, Err, IfSome}
+use Rattle.std.specs.Prelude.{◌≡◌, ℕ, List, ◌++◌, codes, ◌⊎◌, Option, Some, None, Ok, Err, IfSome}
 use Rattle.std.specs.Io.KnownBytes.{Appends}
 use Rattle.cell_report.specs.Faults.{WroteFront, WroteLines}
 use Rattle.cell_report.specs.Script.{script_lines, script_outcome, script_text}
@@ -11,12 +11,12 @@ use Rattle.cell_report.specs.declared.audit_faults.AuditFault.TheVariants.{Memor
 use Rattle.cell_parts.specs.Axes.{CellScales}
 use Rattle.cell_plant.specs.Cells.{TellsRun}
 use Rattle.cell_notes.specs.declared.run_record.RunRecord.{RunRecord}
-use Rattle.cell_notes.specs.declared.status.Status.{Status}
-use Rattle.cell_notes.specs.declared.status.Status.TheVariants.{Fine}
 use Rattle.cell_config.specs.Configured.{Says, in_order}
 use Rattle.cell_config.specs.Settings.{Settings, settings_of}
 use Rattle.cell_config.specs.ConfigWords.{config_fault_text}
 use Rattle.cell_config.specs.declared.fault.ConfigFault.{ConfigFault}
+use Rattle.cell_program.specs.Ran.{TellsWorkers}
+use Rattle.cell_program.specs.Reported.{AreFine, AuditFinds, IsAmiss}
 
 -- the line of a fault
 abbrev pub fault_line : List ℕ → List ℕ
@@ -42,10 +42,6 @@ pub record TellsRunOf (bytes : List ℕ) (r : RunRecord) : Type 0 where
   pub points : settings.points ≡ in_order scales
   pub run : TellsRun scales settings.start settings.schedule r
 
--- no machine was stopped
-abbrev pub AreFine : List Status → Type 0
-AreFine status = All (λ s. s ≡ Fine) status
-
 -- the cell was simulated, no machine was stopped, and the report was written, with the line that the audit found a history
 abbrev pub WasSimulated : Option (List ℕ) → Option (List ℕ) → Option (List ℕ) → Type 0
 WasSimulated remaining old new = IfSome remaining (λ bytes. (r : RunRecord) × (TellsRunOf bytes r × (AreFine r.status × Appends old new (report_text r None))))
@@ -63,3 +59,26 @@ SimFails bytes old new =
     ⊎ (WroteFront old new (fault_line (codes "memory"))
     ⊎ ((r : RunRecord) × (audit : Option AuditFault) × (TellsRunOf bytes r × (IsAuditOf audit
     × ((Appends old new (report_text r audit) × ((¬ AreFine r.status) ⊎ (audit ≡ Some AuditMemory))) ⊎ WroteFront old new (report_text r audit))))))
+
+-- a record tells a run by six workers of the configuration that bytes give
+pub record TellsWorkersOf (turns tries : ℕ) (bytes : List ℕ) (r : RunRecord) : Type 0 where
+  pub settings : Settings
+  pub said : settings_of bytes ≡ Ok settings
+  pub scales : CellScales
+  pub points : settings.points ≡ in_order scales
+  pub run : TellsWorkers scales settings.start tries turns r
+
+-- the cell was run, no machine was stopped, the audit found a history, and the report was written
+abbrev pub WasRun : ℕ → ℕ → Option (List ℕ) → Option (List ℕ) → Option (List ℕ) → Type 0
+WasRun turns tries remaining old new =
+    IfSome remaining (λ bytes. (r : RunRecord) × (TellsWorkersOf turns tries bytes r × (AreFine r.status × (AuditFinds r None × Appends old new (report_text r None)))))
+
+-- The run failed: the configuration was refused, memory ran out, or a worker couldn't be started, and a front of that fault's line was
+-- written; or a machine was stopped or the audit was refused, and the report was written; or a front of the report was.
+abbrev pub RunFails : ℕ → ℕ → List ℕ → Option (List ℕ) → Option (List ℕ) → Type 0
+RunFails turns tries bytes old new =
+    ((fault : ConfigFault) × (Says bytes (Err fault) × WroteFront old new (fault_line (config_fault_text fault))))
+    ⊎ (WroteFront old new (fault_line (codes "memory"))
+    ⊎ (WroteFront old new (fault_line (codes "spawn"))
+    ⊎ ((r : RunRecord) × (audit : Option AuditFault) × (TellsWorkersOf turns tries bytes r × (AuditFinds r audit
+    × ((Appends old new (report_text r audit) × IsAmiss r audit) ⊎ WroteFront old new (report_text r audit)))))))

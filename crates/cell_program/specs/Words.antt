@@ -1,36 +1,87 @@
 -- The program's words, as `clap` reads them.
-use Rattle.std.specs.Prelude.{◌≡◌, ℕ, List, [], ◌∷◌, codes, ◌⊎◌, Option, Some, None, if◌then◌else◌}
-use Rattle.std.specs.Option.{option_map}
+use Rattle.std.specs.Prelude.{◌≡◌, ◌≤◌, ℕ, List, [], ◌∷◌, codes, ◌⊎◌, Option, Some, None, true, ⊤, if◌then◌else◌}
+use Rattle.std.specs.Option.{option_map_or}
 use Rattle.std.specs.Str.{bytes_eq}
-use Rattle.clap.specs.Words.{App, IsAmong, fault_of, new_app, subcommand_of, with_subcommand}
+use Rattle.std.specs.Str.Parse.{digits_value, without_leading_plus}
+use Rattle.clap.specs.Words.{App, IsAmong, IsUnsignedIn, Row, Rule, Text, fault_of, new_app, new_rule, one_of, subcommand_of, with_rule, with_subcommand}
+use Rattle.clap.specs.declared.builder.value_parser.ValueParser.TheVariants.{Unsigned}
 use Rattle.clap.specs.declared.error.kind.ErrorKind.TheVariants.{DisplayHelp}
 use Rattle.cell_program.specs.declared.words.Mode.{Mode}
-use Rattle.cell_program.specs.declared.words.Mode.TheVariants.{Replay, Sim}
+use Rattle.cell_program.specs.declared.words.Mode.TheVariants.{Replay, Sim, Run}
 
--- the program `cell`, with the words `replay` and `sim`
+-- a flag that takes a number from 1 to the most, and has a number where it isn't given
+abbrev pub number_flag : Text → ℕ → Text → Rule
+number_flag name most default = record (new_rule name) {
+  long = Some name;
+  value_names = 1;
+  parser = Some (Unsigned 1 most);
+  defaults = default ∷ [];
+}
+
+abbrev pub most_turns : ℕ
+most_turns = 100000
+
+abbrev pub most_tries : ℕ
+most_tries = 64
+
+-- the word `run` with its flags
+abbrev pub run_command : App
+run_command = with_rule (with_rule (new_app (codes "run")) (number_flag (codes "turns") most_turns (codes "1000"))) (number_flag (codes "tries") most_tries (codes "8"))
+
+-- the program `cell`, with the words `replay`, `sim` and `run`
 abbrev pub program : App
-program = with_subcommand (with_subcommand (new_app (codes "cell")) (new_app (codes "replay")).top) (new_app (codes "sim")).top
+program = with_subcommand (with_subcommand (with_subcommand (new_app (codes "cell")) (new_app (codes "replay")).top) (new_app (codes "sim")).top) run_command.top
+
+-- the number that a text spells, perhaps behind a plus
+abbrev pub number_of : Text → ℕ
+number_of text = digits_value 10 (without_leading_plus text)
+
+-- the number that a flag has, given or not
+abbrev pub number_in : Text → List Row → ℕ
+number_in flag rows = option_map_or number_of (one_of flag rows) 0
 
 -- what the word behind the program's name asks for: a replay where there is none
-abbrev pub mode_named : Option (List ℕ) → Mode
+abbrev pub mode_named : Option (Text × List Row) → Mode
 mode_named None = Replay
-mode_named (Some word) = if bytes_eq word (codes "sim") then Sim else Replay
+mode_named (Some (word, rows)) =
+    if bytes_eq word (codes "sim") then Sim
+    else (if bytes_eq word (codes "run") then Run (number_in (codes "turns") rows) (number_in (codes "tries") rows)
+    else Replay)
 
-abbrev pub mode_of : List (List ℕ) → Mode
-mode_of words = mode_named (option_map (λ found. found.0) (subcommand_of program words))
+abbrev pub mode_of : List Text → Mode
+mode_of words = mode_named (subcommand_of program words)
 
 -- `clap` has nothing against the words, of which the first is the program's name
-abbrev pub AreTaken : List (List ℕ) → Type 0
+abbrev pub AreTaken : List Text → Type 0
 AreTaken words = fault_of program words ≡ []
 
 -- they ask for help
-abbrev pub AskForHelp : List (List ℕ) → Type 0
+abbrev pub AskForHelp : List Text → Type 0
 AskForHelp words = IsAmong DisplayHelp (fault_of program words)
 
 -- they ask for a replay: the program's name alone, or with the word `replay` behind it
-abbrev pub AskForReplay : List (List ℕ) → Type 0
-AskForReplay words = (name : List ℕ) × ((words ≡ name ∷ []) ⊎ (words ≡ name ∷ codes "replay" ∷ []))
+abbrev pub AskForReplay : List Text → Type 0
+AskForReplay words = (name : Text) × ((words ≡ name ∷ []) ⊎ (words ≡ name ∷ codes "replay" ∷ []))
 
 -- they ask for a simulation: the program's name with the word `sim` behind it
-abbrev pub AskForSim : List (List ℕ) → Type 0
-AskForSim words = (name : List ℕ) × (words ≡ name ∷ codes "sim" ∷ [])
+abbrev pub AskForSim : List Text → Type 0
+AskForSim words = (name : Text) × (words ≡ name ∷ codes "sim" ∷ [])
+
+-- they ask for a run of so many turns and tries: they are taken, and have the word `run` behind the program's name
+abbrev pub AskForRun : ℕ → ℕ → List Text → Type 0
+AskForRun turns tries words = AreTaken words × (mode_of words ≡ Run turns tries)
+
+-- a run has from 1 to so many turns, and from 1 to so many tries
+abbrev pub IsWithin : Mode → Type 0
+IsWithin Replay = ⊤
+IsWithin Sim = ⊤
+IsWithin (Run turns tries) = (1 ≤ turns) × (turns ≤ most_turns) × (1 ≤ tries) × (tries ≤ most_tries)
+
+-- the flag has a number from 1 to the most
+abbrev pub HasNumber : Text → ℕ → List Row → Type 0
+HasNumber flag most rows = (text : Text) × (one_of flag rows ≡ Some text) × IsUnsignedIn 1 most text
+
+-- where the word `run` was met, its flags have their numbers
+abbrev pub HasNumbers : Option (Text × List Row) → Type 0
+HasNumbers None = ⊤
+HasNumbers (Some (word, rows)) = bytes_eq word (codes "run") ≡ true → HasNumber (codes "turns") most_turns rows × HasNumber (codes "tries") most_tries rows

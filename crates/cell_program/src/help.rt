@@ -42,3 +42,20 @@ what is written.
 
 Example:
   cell sim < examples/press.toml";
+
+/// Of `run`.
+pub const RUN: &str = "Runs the cell by six workers at once, and writes a report of the run.";
+
+pub const OF_RUN: &str = "\
+Reads a configuration, as `sim` does; its schedule is checked and not used. Each
+machine is run by a worker of its own, and all of them share the interlock. Writes a
+report, or a line that begins with `fault`. docs/CONFIGURATIONS.md describes what is
+read, docs/REPORTS.md what is written.
+
+Example:
+  cell run --turns 3 --tries 64 < examples/six_workers.toml";
+
+/// Of the flags of `run`.
+pub const TURNS: &str = "How many turns each worker takes, from 1 to 100000";
+
+pub const TRIES: &str = "How often a call may be overtaken before it is Busy, from 1 to 64";

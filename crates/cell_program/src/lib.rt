@@ -1,12 +1,15 @@
-//! What the program of the production cell does: it reads its words, and replays a script or simulates
-//! the cell.
+//! What the program of the production cell does: it reads its words, and replays a script, simulates the
+//! cell, or runs it by six workers.
 #![tactic(auto)]
 
 pub mod arguments;
 pub mod faults;
 mod help;
 pub mod replaying;
+pub mod reporting;
+pub mod running;
 pub mod serve;
 pub mod simulating;
 pub mod start;
 pub mod words;
+pub mod workers;

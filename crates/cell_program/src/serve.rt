@@ -1,22 +1,25 @@
 //! Serves one run of the program.
 
-ghost use Rattle.std.specs.Prelude.{◌≡◌, ◌≤◌, ◌<◌, ◌⊎◌, codes, map, IfSome};
+ghost use Rattle.std.specs.Prelude.{◌≡◌, ◌≤◌, ◌<◌, ◌⊎◌, ℕ, codes, map, IfSome};
 ghost use Rattle.clap.specs.Words.{kind_of};
 ghost use Rattle.cell_text.specs.Output.{WroteFront};
 ghost use Rattle.cell_text.specs.Input.{TakesAtMost};
 ghost use Rattle.cell_report.specs.Script.{most_bytes_read};
-ghost use Rattle.cell_program.specs.Served.{ReplayFails, SimFails, WasReplayed, WasSimulated, fault_line};
+ghost use Rattle.cell_program.specs.Served.{ReplayFails, RunFails, SimFails, WasReplayed, WasRun, WasSimulated, fault_line};
 ghost use Rattle.cell_config.specs.Settings as settings;
-ghost use Rattle.cell_program.specs.Words.{AreTaken, AskForHelp, AskForReplay, AskForSim};
+ghost use Rattle.cell_program.specs.Words.{AreTaken, AskForHelp, AskForReplay, AskForRun, AskForSim};
 
 use crate::faults::{FAILED, fail};
 use crate::replaying::serve_replay;
 use crate::simulating::serve_sim;
 use crate::words::{Mode, read_words};
+use crate::workers::serve_run;
 use cell_text::flush;
 use clap::error::ErrorKind;
 use std::alloc::Global;
 use std::io::{Read, Write};
+use std::sync::Wait;
+use std::thread::Threads;
 
 /// All went well, or help was asked for.
 const WELL: u8 = 0;
@@ -26,8 +29,17 @@ const REFUSED: u8 = 2;
 
 /// Does what the words ask for, of which the first is the program's name, and answers the exit status:
 /// 0 where all went well and for help; 1 for a refused input, a machine that was stopped, a refused
-/// audit, a failed read or write and want of memory; 2 for words that `clap` refuses.
-pub fn serve<R: Read, W: Write>(alloc: Global, words: &[&str], reader: &mut R, writer: &mut W) -> u8
+/// audit, a failed read or write, a worker that couldn't be started and want of memory; 2 for words
+/// that `clap` refuses. For the word `run` it waits until all workers have come to their ends.
+pub fn serve<T, R: Read, W: Write>(
+    rt: &T,
+    alloc: Global,
+    words: &[&str],
+    reader: &mut R,
+    writer: &mut W,
+) -> u8
+where
+    T: Threads + Wait + Sync,
     ensures status { result ≤ 2 }
 
     // With the program's name alone, or with the word `replay` behind it, 2 doesn't come. Status 0 says
@@ -46,21 +58,33 @@ pub fn serve<R: Read, W: Write>(alloc: Global, words: &[&str], reader: &mut R, w
     ensures sim_fails { AskForSim (map (λ w. w.now) words.now) → result ≡ 1 →
         IfSome (R.remaining reader.old) (λ bytes. SimFails bytes (W.contents writer.old) (W.contents writer.new)) }
 
+    // With words that `clap` takes and that have the word `run` behind the name, 2 doesn't come. Status 0
+    // says that six workers ran the cell, that no machine was stopped, that an audit found a history and
+    // that the report was written, status 1 what was written.
+    ensures run { (turns tries : ℕ) → AskForRun turns tries (map (λ w. w.now) words.now) → result < 2 }
+    ensures ran { (turns tries : ℕ) → AskForRun turns tries (map (λ w. w.now) words.now) → result ≡ 0 →
+        WasRun turns tries (R.remaining reader.old) (W.contents writer.old) (W.contents writer.new) }
+    ensures run_fails { (turns tries : ℕ) → AskForRun turns tries (map (λ w. w.now) words.now) → result ≡ 1 →
+        IfSome (R.remaining reader.old) (λ bytes. RunFails turns tries bytes (W.contents writer.old) (W.contents writer.new)) }
+
     // Status 0 comes for no words but those that `clap` takes and those that ask for help, and status 2
     // for none that it takes.
     ensures taken { result ≡ 0 →
         AreTaken (map (λ w. w.now) words.now) ⊎ AskForHelp (map (λ w. w.now) words.now) }
     ensures refused { AreTaken (map (λ w. w.now) words.now) → result < 2 }
 
-    // No more is taken from the input than a script may have, and one byte; for a simulation, than a
-    // configuration may have, and one byte.
+    // No more is taken from the input than a script may have, and one byte; for a simulation and for a run,
+    // than a configuration may have, and one byte.
     ensures read { TakesAtMost (R.remaining reader.old) (R.remaining reader.new) most_bytes_read }
     ensures read_sim { AskForSim (map (λ w. w.now) words.now) →
+        TakesAtMost (R.remaining reader.old) (R.remaining reader.new) settings.most_bytes_read }
+    ensures read_run { (turns tries : ℕ) → AskForRun turns tries (map (λ w. w.now) words.now) →
         TakesAtMost (R.remaining reader.old) (R.remaining reader.new) settings.most_bytes_read }
 {
     match read_words(alloc, words) {
         Ok(Mode::Replay) => serve_replay(alloc, reader, writer),
         Ok(Mode::Sim) => serve_sim(alloc, reader, writer),
+        Ok(Mode::Run { turns, tries }) => serve_run(rt, alloc, turns, tries, reader, writer),
         Err(error) => refuse(error, writer),
     }
 }

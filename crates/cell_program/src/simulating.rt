@@ -1,21 +1,20 @@
 //! Simulates the cell for the program.
 
-ghost use Rattle.std.specs.Prelude.{◌≡◌, ◌<◌, ◌↔◌, IsTrue, IfOk, IfSome, List, None, if◌then◌else◌};
+ghost use Rattle.std.specs.Prelude.{◌≡◌, ◌<◌, IfOk, IfSome};
 ghost use Rattle.cell_rules.specs.Start.{IsStartState};
 ghost use Rattle.cell_parts.specs.Axes.{AreCellScales, CellScales};
 ghost use Rattle.cell_plant.specs.Cells.{TellsRun};
-ghost use Rattle.cell_notes.specs.declared.schedule.Turn.{Turn as TurnOf};
 ghost use Rattle.cell_text.specs.Input.{TakesAtMost};
 ghost use Rattle.cell_config.specs.Configured.{AreAxisScales, in_order};
-ghost use Rattle.cell_program.specs.Served.{AreFine, SimFails, WasSimulated};
+ghost use Rattle.cell_program.specs.Served.{SimFails, WasSimulated};
 ghost use Rattle.cell_config.specs.Settings.{most_bytes_read};
-ghost use Rattle.cell_program.specs.Simulated.{ReportTold, scales_of};
+ghost use Rattle.cell_program.specs.Simulated.{scales_of};
 
-use crate::faults::{FAILED, fail};
+use crate::faults::fail;
+use crate::reporting::report;
 use cell_calib::{Calibration, Gauge, Points, line_at};
 use cell_config::{Config, read_config};
-use cell_plant::{Cell, RunRecord, SimFault, Status, Turn, simulate};
-use cell_report::{AuditFault, audit, write_report};
+use cell_plant::{Cell, RunRecord, SimFault, Turn, simulate};
 use cell_rules::State;
 use std::alloc::Global;
 use std::io::{Read, Write};
@@ -108,38 +107,4 @@ fn simulate_by<F1: Gauge, F2: Gauge, F3: Gauge, F4: Gauge, F5: Gauge>(
         Calibration::new(gripper, lines.gripper),
     );
     simulate(alloc, cell, start, schedule)
-}
-
-/// Whether no machine was stopped.
-fn are_fine(status: &[Status]) -> bool
-    ensures { IsTrue result ↔ AreFine status.now }
-{
-    status.iter().all(|status| matches!(status, Status::Fine))
-}
-
-/// Audits what the machines noted in a run, and writes its report. Answers the exit status.
-fn report<W: Write>(alloc: Global, run: &RunRecord, writer: &mut W) -> u8
-    requires { (c : CellScales) × (turns : List TurnOf) × TellsRun c run.now.start turns run.now }
-    ensures status { result < 2 }
-    ensures told { ReportTold result run.now (W.contents writer.old) (W.contents writer.new) }
-{
-    let audited = audit(alloc, &run.journals, &run.start, run.end.as_ref()).err();
-    match write_report(run, audited, writer) {
-        Ok(()) => status_of(is_well(run, audited)),
-        Err(_) => FAILED,
-    }
-}
-
-/// Whether no machine was stopped, and the audit found a history.
-fn is_well(run: &RunRecord, audited: Option<AuditFault>) -> bool
-    ensures { IsTrue result ↔ ((audited ≡ None) × AreFine run.now.status) }
-{
-    audited.is_none() && are_fine(&run.status)
-}
-
-/// The exit status, by whether all went well.
-fn status_of(well: bool) -> u8
-    ensures { result ≡ (if well then 0 else 1) }
-{
-    if well { 0 } else { FAILED }
 }

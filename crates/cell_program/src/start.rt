@@ -9,18 +9,23 @@ use std::alloc::Global;
 use std::env::Env;
 use std::io;
 use std::io::{ErrorKind, Read, Write};
+use std::sync::Wait;
+use std::thread::Threads;
 
 /// Serves the words that the program was started with, its input and its output, and answers the exit
 /// status. Words that aren't text are refused before `clap` sees them.
-pub fn start<E: Env, R: Read, W: Write>(
+pub fn start<T, E: Env, R: Read, W: Write>(
+    rt: &T,
     alloc: Global,
     env: &E,
     reader: &mut R,
     writer: &mut W,
 ) -> u8
+where
+    T: Threads + Wait + Sync,
     ensures { result ≤ 2 }
 {
-    match serve_words(alloc, env, reader, writer) {
+    match serve_words(rt, alloc, env, reader, writer) {
         Ok(status) => status,
         Err(error) if error.kind() == ErrorKind::OutOfMemory => fail(writer, "memory"),
         Err(_) => refuse_bytes(writer),
@@ -28,12 +33,15 @@ pub fn start<E: Env, R: Read, W: Write>(
 }
 
 /// Serves words that are text.
-fn serve_words<E: Env, R: Read, W: Write>(
+fn serve_words<T, E: Env, R: Read, W: Write>(
+    rt: &T,
     alloc: Global,
     env: &E,
     reader: &mut R,
     writer: &mut W,
 ) -> io::Result<u8>
+where
+    T: Threads + Wait + Sync,
     ensures { IfOk result (λ status. status ≤ 2) }
 {
     let words = words_of(alloc, env)?;
@@ -41,5 +49,5 @@ fn serve_words<E: Env, R: Read, W: Write>(
     for word in &words {
         texts.push(word.as_str())?;
     }
-    Ok(serve(alloc, texts.as_slice(), reader, writer))
+    Ok(serve(rt, alloc, texts.as_slice(), reader, writer))
 }

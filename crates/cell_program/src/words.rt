@@ -1,14 +1,16 @@
 //! The program's words.
 
-ghost use Rattle.std.specs.Prelude.{◌≡◌, [], ◌∷◌, ℕ, List, map, codes, false, option_map, IfErr, IfOk, OnOk};
-ghost use Rattle.clap.specs.Words.{app_of, fault_of, kind_of, new_app, HasKind};
+ghost use Rattle.std.specs.Prelude.{◌≡◌, ◌<◌, ◌^◌, [], ◌∷◌, ℕ, List, map, codes, false, option_map, IfErr, IfOk, OnOk};
+ghost use Rattle.clap.specs.Words.{app_of, fault_of, found_of, kind_of, new_app, rows_of, rule_of, subcommand_rows_of, HasKind};
 ghost use Rattle.clap.specs.declared.builder.command.Command.TheViews.{out-Command as fields_of};
 ghost use Rattle.cell_program.specs.Words as words;
-ghost use Rattle.cell_program.specs.Words.{AreTaken, mode_of, program};
+ghost use Rattle.cell_program.specs.Words.{AreTaken, HasNumber, HasNumbers, IsWithin, mode_of, number_in, program, run_command};
+ghost use Rattle.cell_program.specs.declared.words.Mode.TheVariants.{Run};
 
 use crate::help;
+use clap::builder::ValueParser;
 use clap::error::ErrorKind;
-use clap::{Command, Error};
+use clap::{Arg, ArgMatches, Command, Error};
 use std::alloc::{AllocError, Global};
 
 /// What the program does.
@@ -18,14 +20,25 @@ pub enum Mode {
     Replay,
     /// It simulates the cell.
     Sim,
+    /// It runs the cell, each machine by a worker of its own, which has so many turns; a call is given up
+    /// once it has been overtaken so many times.
+    Run { turns: u32, tries: u8 },
 }
 
+/// The most turns of a run.
+const MOST_TURNS: u64 = 100_000;
+
+/// The most tries of a call.
+const MOST_TRIES: u64 = 64;
+
 /// What the words ask for, of which the first is the program's name: a replay, with the word
-/// `replay` and without, or with the word `sim` a simulation. Other words are an error of `clap`, and
-/// so are those that ask for help.
+/// `replay` and without, with the word `sim` a simulation, or with the word `run` a run, by the flags
+/// `--turns` and `--tries`. Other words are an error of `clap`, and so are those that ask for help.
 pub fn read_words(alloc: Global, words: &[&str]) -> Result<Mode, Error>
-    // The mode is that of the word behind the name, as `clap` finds it.
+    // The mode is that of the word behind the name, with the numbers of its flags, as `clap` finds them.
     ensures mode { IfOk result (λ mode. mode ≡ mode_of (map (λ w. w.now) words.now)) }
+    // A run has 1 to 100,000 turns and 1 to 64 tries.
+    ensures within { IfOk result IsWithin }
     // `clap` has nothing against the words.
     ensures taken { OnOk result (AreTaken (map (λ w. w.now) words.now)) }
     // It has this against the words, or memory ran out.
@@ -38,10 +51,16 @@ pub fn read_words(alloc: Global, words: &[&str]) -> Result<Mode, Error>
         IfErr result (λ e. kind_of e ≡ ErrorKind.OutOfMemory) }
     ensures sim { (name : List ℕ) → map (λ w. w.now) words.now ≡ name ∷ codes "sim" ∷ [] →
         IfErr result (λ e. kind_of e ≡ ErrorKind.OutOfMemory) }
+    ensures run { (name : List ℕ) → map (λ w. w.now) words.now ≡ name ∷ codes "run" ∷ [] →
+        IfErr result (λ e. kind_of e ≡ ErrorKind.OutOfMemory) }
+
+    // Without flags a run has 1,000 turns and 8 tries.
+    ensures defaults { (name : List ℕ) → map (λ w. w.now) words.now ≡ name ∷ codes "run" ∷ [] →
+        IfOk result (λ mode. mode ≡ Run 1000 8) }
 {
     let command = command(alloc)?;
     match command.try_get_matches_from(words) {
-        Ok(matches) => Ok(mode_named(matches.subcommand_name())),
+        Ok(matches) => Ok(mode_of(&matches)),
         Err(error) => Err(error),
     }
 }
@@ -52,9 +71,42 @@ fn command<'a>(alloc: Global) -> Result<Command<'a>, AllocError>
 {
     let replay = command_with_help(alloc, "replay", help::REPLAY, help::OF_REPLAY);
     let sim = command_with_help(alloc, "sim", help::SIM, help::OF_SIM);
+    let run = run_command(alloc)?;
     command_with_help(alloc, "cell", help::CELL, help::OF_CELL)
         .subcommand(replay)?
-        .subcommand(sim)
+        .subcommand(sim)?
+        .subcommand(run)
+}
+
+/// The word `run` with its flags.
+fn run_command<'a>(alloc: Global) -> Result<Command<'a>, AllocError>
+    ensures app { IfOk result (λ command. app_of command ≡ run_command) }
+    ensures local { IfOk result (λ command. (fields_of command).has_globals ≡ false) }
+{
+    let turns = number_flag(alloc, "turns", MOST_TURNS, "1000", help::TURNS);
+    let tries = number_flag(alloc, "tries", MOST_TRIES, "8", help::TRIES);
+    command_with_help(alloc, "run", help::RUN, help::OF_RUN)
+        .arg(turns)?
+        .arg(tries)
+}
+
+/// A flag that takes a number from 1 to the most.
+fn number_flag<'a>(
+    alloc: Global,
+    name: &'a str,
+    most: u64,
+    default: &'a str,
+    help: &'a str,
+) -> Arg<'a>
+    ensures rule { rule_of result ≡ words.number_flag name.now most default.now }
+    ensures local { result.global ≡ false }
+{
+    Arg::new(alloc, name)
+        .long(name)
+        .value_name("N")
+        .value_parser(ValueParser::unsigned(1, most))
+        .default_value(default)
+        .help(help)
 }
 
 /// A command of this name, with what its help says before and behind its usage.
@@ -71,11 +123,28 @@ fn command_with_help<'a>(
 }
 
 /// What the word behind the program's name asks for.
-fn mode_named(word: Option<&str>) -> Mode
-    ensures { result ≡ words.mode_named (option_map (λ w. w.now) word.entry) }
+fn mode_of(matches: &ArgMatches<'_>) -> Mode
+    requires { HasNumbers (subcommand_rows_of matches.now) }
+    ensures mode { result ≡ words.mode_named (subcommand_rows_of matches.now) }
+    ensures within { IsWithin result }
 {
-    match word {
-        Some("sim") => Mode::Sim,
+    match matches.subcommand() {
+        Some(("sim", _)) => Mode::Sim,
+        Some(("run", flags)) => Mode::Run {
+            turns: number_in(flags, "turns"),
+            tries: number_in(flags, "tries") as u8,
+        },
         _ => Mode::Replay,
     }
+}
+
+/// The number of a flag, given or not.
+fn number_in(flags: &ArgMatches<'_>, flag: &str) -> u32
+    requires { (most : ℕ) × (most < 2 ^ 32) × HasNumber flag.now most (rows_of (found_of flags.now)) }
+    ensures { result ≡ words.number_in flag.now (rows_of (found_of flags.now)) }
+{
+    let Some(number) = flags.get_one::<u32>(flag) else {
+        unreachable!()
+    };
+    number
 }

@@ -1,12 +1,14 @@
 //! Which words the program was started with.
 
 use super::doubles::Given;
-use super::reports::{PRESS, PRESS_REPORT};
+use super::reports::{EMPTY, PRESS, PRESS_REPORT, SIX_WORKERS};
 use super::served::{SCRIPT, TEXT};
 use cell_program::arguments::words_of;
 use cell_program::start::start;
 use std::alloc::Global;
 use std::io::ErrorKind;
+use std::sync::Wait;
+use std::thread::Threads;
 
 /// Arguments, of which the first is the program's own name, and the words that they are. Whatever the
 /// name is, `cell` stands for it.
@@ -58,19 +60,45 @@ fn refuses_words_that_are_no_text(rt: HostRuntime) {
 }
 
 /// Whether the program, started with these arguments, answers this input with this status and this text.
-fn is_started(alloc: Global, arguments: &[&[u8]], input: &str, status: u8, text: &str) -> bool {
+fn is_started<T: Threads + Wait + Sync>(
+    rt: &T,
+    alloc: Global,
+    arguments: &[&[u8]],
+    input: &str,
+    status: u8,
+    text: &str,
+) -> bool {
     let mut written = Vec::new(alloc);
     let env = Given { arguments };
-    let answered = start(alloc, &env, &mut input.as_bytes(), &mut written);
+    let answered = start(rt, alloc, &env, &mut input.as_bytes(), &mut written);
     answered == status && written.as_slice() == text.as_bytes()
 }
 
+// Arguments, an input, the status and the text.
+const STARTED: &[(&[&[u8]], &str, u8, &str)] = &[
+    (&[b"bad\xff"], SCRIPT, 0, TEXT),
+    (&[b"cell", b"replay"], SCRIPT, 0, TEXT),
+    (&[b"bad\xff", b"sim"], PRESS, 0, PRESS_REPORT),
+    (
+        &[b"", b"run", b"--turns", b"3", b"--tries", b"64"],
+        EMPTY,
+        0,
+        SIX_WORKERS,
+    ),
+    (
+        &[b"cell", b"\xff"],
+        SCRIPT,
+        2,
+        "error: a word isn't UTF-8\n",
+    ),
+];
+
 #[test]
 fn starts(rt: HostRuntime) {
-    let alloc = rt.alloc();
-    let other = "error: a word isn't UTF-8\n";
-    assert!(rt; is_started(alloc, &[b"bad\xff"], SCRIPT, 0, TEXT));
-    assert!(rt; is_started(alloc, &[b"cell", b"replay"], SCRIPT, 0, TEXT));
-    assert!(rt; is_started(alloc, &[b"bad\xff", b"sim"], PRESS, 0, PRESS_REPORT));
-    assert!(rt; is_started(alloc, &[b"cell", b"\xff"], SCRIPT, 2, other));
+    for (arguments, input, status, text) in STARTED {
+        assert!(rt;
+            is_started(&rt, rt.alloc(), arguments, input, *status, text),
+            "{arguments:?}"
+        );
+    }
 }

@@ -7,16 +7,31 @@ use std::alloc::Global;
 use std::env::{Env, FillError};
 use std::io;
 use std::io::{ErrorKind, Read, Write};
+use std::sync::Wait;
+use std::thread::Threads;
 
 /// The exit status of a run of the program. It has no clauses, so that no row carries those of `serve`.
-pub fn run<R: Read, W: Write>(alloc: Global, words: &[&str], reader: &mut R, writer: &mut W) -> u8 {
-    serve(alloc, words, reader, writer)
+pub fn run<T: Threads + Wait + Sync, R: Read, W: Write>(
+    rt: &T,
+    alloc: Global,
+    words: &[&str],
+    reader: &mut R,
+    writer: &mut W,
+) -> u8 {
+    serve(rt, alloc, words, reader, writer)
 }
 
 /// Whether the program answers these words and this input with this status and this text.
-pub fn is_served(alloc: Global, words: &[&str], input: &str, status: u8, text: &str) -> bool {
+pub fn is_served<T: Threads + Wait + Sync>(
+    rt: &T,
+    alloc: Global,
+    words: &[&str],
+    input: &str,
+    status: u8,
+    text: &str,
+) -> bool {
     let mut written = Vec::new(alloc);
-    let answered = run(alloc, words, &mut input.as_bytes(), &mut written);
+    let answered = run(rt, alloc, words, &mut input.as_bytes(), &mut written);
     answered == status && written.as_slice() == text.as_bytes()
 }
 

@@ -12,6 +12,8 @@ mod doubles;
 #[cfg(test)]
 mod reports;
 #[cfg(test)]
+mod runs;
+#[cfg(test)]
 mod served;
 #[cfg(test)]
 mod simulations;

@@ -298,3 +298,27 @@ axes press 500 arm1 0 arm2 20 rotation 1780 lift 600 turn 500 crane 2000 gripper
 stamp 35 plates 6
 audit ok
 ";
+
+/// A configuration without plates.
+pub const EMPTY: &str = "start = \"0000000000\"\n";
+
+/// Where six workers take three turns each, and nobody is overtaken as often as calls may be.
+pub const SIX_WORKERS: &str = "\
+start 0000000000 0
+feed turns 3 done 3 read 0 refused 0 busy 0 ok
+table turns 3 done 3 read 0 refused 0 busy 0 ok
+robot turns 3 done 0 read 2 refused 0 busy 0 ok
+press turns 3 done 2 read 0 refused 0 busy 0 ok
+deposit turns 3 done 3 read 0 refused 0 busy 0 ok
+crane turns 3 done 0 read 1 refused 0 busy 0 ok
+zone z1 table 0 moving
+zone z2 table 0 moving
+zone z3 press 0 moving
+zone z4 deposit 0 openin
+zone z5 deposit 0 closed
+zone z6 free 0 openin
+places 0000000000
+axes press 980 arm1 0 arm2 0 rotation 300 lift 0 turn 0 crane 0 gripper 900
+stamp 11 plates 0
+audit ok
+";

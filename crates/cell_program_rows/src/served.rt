@@ -4,6 +4,8 @@ use super::doubles::{is_served, run};
 use cell_program::serve::refuse_bytes;
 use cell_program::words::{Mode, read_words};
 use std::alloc::Global;
+use std::sync::Wait;
+use std::thread::Threads;
 
 pub const SCRIPT: &str =
     "start,0000000000\npress,claim,z3\nrobot,claim,z3\npress,release,z3\nrobot,claim,z3\nwatch,inquire,z3\n";
@@ -23,7 +25,7 @@ const SERVED: &[(&[&str], &str, u8, &str)] = &[
 fn serves(rt: HostRuntime) {
     for (words, input, status, text) in SERVED {
         assert!(rt;
-            is_served(rt.alloc(), words, input, *status, text),
+            is_served(&rt, rt.alloc(), words, input, *status, text),
             "{text}"
         );
     }
@@ -33,7 +35,13 @@ fn serves(rt: HostRuntime) {
 fn serves_without_memory(rt: HostRuntime) {
     let mut room = [0u8; 200];
     let mut writer = &mut room[..];
-    let status = run(rt.alloc(), &["cell"], &mut SCRIPT.as_bytes(), &mut writer);
+    let status = run(
+        &rt,
+        rt.alloc(),
+        &["cell"],
+        &mut SCRIPT.as_bytes(),
+        &mut writer,
+    );
     let left = writer.len();
     let written = &room[..200usize.saturating_sub(left)];
     let is_right = match status {
@@ -46,10 +54,10 @@ fn serves_without_memory(rt: HostRuntime) {
 
 /// Whether words other than those that ask for a mode are answered with this status and some text, and
 /// the script isn't touched.
-fn is_told(alloc: Global, words: &[&str], status: u8) -> bool {
+fn is_told<T: Threads + Wait + Sync>(rt: &T, alloc: Global, words: &[&str], status: u8) -> bool {
     let mut script = SCRIPT.as_bytes();
     let mut written = Vec::new(alloc);
-    let answered = run(alloc, words, &mut script, &mut written);
+    let answered = run(rt, alloc, words, &mut script, &mut written);
     let is_other = !written.is_empty() && !written.as_slice().starts_with(b"0 0 start");
     answered == status && is_other && script.len() == SCRIPT.len()
 }
@@ -60,7 +68,25 @@ const OTHERS: &[(&[&str], u8)] = &[
     (&["cell", "sim", "--help"], 0),
     (&["cell", "go"], 2),
     (&["cell", "sim", "sim"], 2),
-    (&["cell", "run"], 2),
+    (&["cell", "run", "run"], 2),
+    (&["cell", "run", "--help"], 0),
+    (&["cell", "run", "--turns"], 2),
+    (&["cell", "run", "--turns", "0"], 2),
+    (&["cell", "run", "--turns", "100001"], 2),
+    (&["cell", "run", "--turns", "x"], 2),
+    (&["cell", "run", "--turns", "-1"], 2),
+    (&["cell", "run", "--turns="], 2),
+    (&["cell", "run", "--turns", "3", "4"], 2),
+    (&["cell", "run", "--turns", "3", "--turns", "3"], 2),
+    (&["cell", "run", "--tries"], 2),
+    (&["cell", "run", "--tries", "0"], 2),
+    (&["cell", "run", "--tries", "65"], 2),
+    (&["cell", "run", "--tries", "18446744073709551617"], 2),
+    (&["cell", "run", "--tries", "1.0"], 2),
+    (&["cell", "run", "--tries=3", "--tries=3"], 2),
+    (&["cell", "run", "-t", "3"], 2),
+    (&["cell", "sim", "--turns", "3"], 2),
+    (&["cell", "--turns", "3", "run"], 2),
     (&["cell", "replay", "replay"], 2),
     (&["cell", "--turns", "3"], 2),
 ];
@@ -68,17 +94,46 @@ const OTHERS: &[(&[&str], u8)] = &[
 #[test]
 fn serves_other_words(rt: HostRuntime) {
     for (words, status) in OTHERS {
-        assert!(rt; is_told(rt.alloc(), words, *status), "{words:?}");
+        assert!(rt; is_told(&rt, rt.alloc(), words, *status), "{words:?}");
     }
 }
+
+const RUN_BY_DEFAULT: Option<Mode> = Some(Mode::Run {
+    turns: 1000,
+    tries: 8,
+});
+
+const RUN_3_64: Option<Mode> = Some(Mode::Run {
+    turns: 3,
+    tries: 64,
+});
+
+const RUN_LONGEST: Option<Mode> = Some(Mode::Run {
+    turns: 100_000,
+    tries: 8,
+});
+
+const RUN_ONE_TRY: Option<Mode> = Some(Mode::Run {
+    turns: 1000,
+    tries: 1,
+});
 
 // Words, and what they ask for, if anything.
 const MODES: &[(&[&str], Option<Mode>)] = &[
     (&["cell"], Some(Mode::Replay)),
     (&["cell", "replay"], Some(Mode::Replay)),
     (&["cell", "sim"], Some(Mode::Sim)),
+    (&["cell", "run"], RUN_BY_DEFAULT),
+    (&["cell", "run", "--turns", "3", "--tries", "64"], RUN_3_64),
+    (&["cell", "run", "--tries=64", "--turns=3"], RUN_3_64),
+    (
+        &["cell", "run", "--turns", "+0003", "--tries", "064"],
+        RUN_3_64,
+    ),
+    (&["cell", "run", "--turns", "100000"], RUN_LONGEST),
+    (&["cell", "run", "--tries", "1"], RUN_ONE_TRY),
     (&["cell", "simulate"], None),
-    (&["cell", "run"], None),
+    (&["cell", "run", "3"], None),
     (&["cell", "Replay"], None),
     (&["cell", ""], None),
 ];
@@ -108,9 +163,14 @@ fn has_in_order(text: &str, parts: &[&str]) -> bool {
 }
 
 /// Whether the help that these words ask for has these parts, one behind another.
-fn is_helped(alloc: Global, words: &[&str], parts: &[&str]) -> bool {
+fn is_helped<T: Threads + Wait + Sync>(
+    rt: &T,
+    alloc: Global,
+    words: &[&str],
+    parts: &[&str],
+) -> bool {
     let mut written = Vec::new(alloc);
-    let status = run(alloc, words, &mut "".as_bytes(), &mut written);
+    let status = run(rt, alloc, words, &mut "".as_bytes(), &mut written);
     match str::from_utf8(written.as_slice()) {
         Ok(text) => status == 0 && has_in_order(text, parts),
         Err(_) => false,
@@ -121,6 +181,7 @@ const OF_THE_WHOLE: &[&str] = &[
     "Usage: cell [COMMAND]",
     "replay",
     "sim",
+    "run",
     "docs/SCRIPTS.md",
     "docs/CONFIGURATIONS.md",
     "docs/REPORTS.md",
@@ -144,14 +205,34 @@ const OF_SIM: &[&str] = &[
     "cell sim < examples/press.toml",
 ];
 
+const OF_RUN: &[&str] = &[
+    "Usage: cell run [OPTIONS]",
+    "--turns <N>",
+    "[default: 1000]",
+    "--tries <N>",
+    "[default: 8]",
+    "Reads a configuration",
+    "Writes a",
+    "docs/CONFIGURATIONS.md",
+    "docs/REPORTS.md",
+    "cell run --turns 3 --tries 64 < examples/six_workers.toml",
+];
+
+// Words that ask for help, and what it has.
+const HELPS: &[(&[&str], &[&str])] = &[
+    (&["cell", "--help"], OF_THE_WHOLE),
+    (&["cell", "-h"], OF_THE_WHOLE),
+    (&["cell", "replay", "--help"], OF_REPLAY),
+    (&["cell", "sim", "--help"], OF_SIM),
+    (&["cell", "run", "--help"], OF_RUN),
+];
+
 // Help says what is read, what is written, where the formats are described, and an example.
 #[test]
 fn helps(rt: HostRuntime) {
-    let alloc = rt.alloc();
-    assert!(rt; is_helped(alloc, &["cell", "--help"], OF_THE_WHOLE));
-    assert!(rt; is_helped(alloc, &["cell", "-h"], OF_THE_WHOLE));
-    assert!(rt; is_helped(alloc, &["cell", "replay", "--help"], OF_REPLAY));
-    assert!(rt; is_helped(alloc, &["cell", "sim", "--help"], OF_SIM));
+    for (words, parts) in HELPS {
+        assert!(rt; is_helped(&rt, rt.alloc(), words, parts), "{words:?}");
+    }
 }
 
 #[test]

@@ -15,7 +15,9 @@ use cell_program::simulating::Lines;
 use cell_report::{audit, write_report};
 use std::alloc::{AllocError, Global};
 use std::process::Abort;
+use std::sync::Wait;
 use std::test::Fail;
+use std::thread::Threads;
 
 pub const SIM: &[&str] = &["cell", "sim"];
 
@@ -50,9 +52,14 @@ const FAULTS: &[(&str, &str)] = &[
 ];
 
 /// Each configuration is answered with this status and its text.
-fn are_simulated(rt: &impl Abort, alloc: Global, rows: &[(&str, &str)], status: u8) {
+fn are_simulated<T: Abort + Threads + Wait + Sync>(
+    rt: &T,
+    alloc: Global,
+    rows: &[(&str, &str)],
+    status: u8,
+) {
     for (config, text) in rows {
-        assert!(rt; is_served(alloc, SIM, config, status, text), "{config}");
+        assert!(rt; is_served(rt, alloc, SIM, config, status, text), "{config}");
     }
 }
 
@@ -66,7 +73,7 @@ fn tells_the_faults_of_configurations(rt: HostRuntime) -> Result<(), Fail> {
     are_simulated(&rt, rt.alloc(), FAULTS, 1);
     let long = vec![in rt.alloc(); b' '; 2_097_153]?;
     let mut written = Vec::new(rt.alloc());
-    let status = run(rt.alloc(), SIM, &mut long.as_slice(), &mut written);
+    let status = run(&rt, rt.alloc(), SIM, &mut long.as_slice(), &mut written);
     assert!(rt; status == 1);
     assert!(rt; written.as_slice() == b"fault config long\n".as_slice());
     Ok(())
@@ -75,7 +82,7 @@ fn tells_the_faults_of_configurations(rt: HostRuntime) -> Result<(), Fail> {
 #[test]
 fn a_stopped_machine_is_a_failure(rt: HostRuntime) {
     let config = "start = \"0000000000\"\nstamp = 1048575\nschedule = \"ttP\"";
-    assert!(rt; is_served(rt.alloc(), SIM, config, 1, WORN));
+    assert!(rt; is_served(&rt, rt.alloc(), SIM, config, 1, WORN));
 }
 
 // The run of a configuration with these closures, by the calls that the program makes.
@@ -150,7 +157,7 @@ fn simulates_20000_turns(rt: HostRuntime) -> Result<(), Fail> {
         schedule.push_str("tp")?;
     }
     let config = scheduled(alloc, "0010000000", schedule.as_str())?;
-    assert!(rt; is_served(alloc, SIM, config.as_str(), 0, LONG));
+    assert!(rt; is_served(&rt, alloc, SIM, config.as_str(), 0, LONG));
     Ok(())
 }
 
@@ -173,9 +180,9 @@ fn random_schedule(alloc: Global, seed: usize, turns: usize) -> Result<String, A
 }
 
 // Whether a configuration is simulated, no machine is stopped, and the report ends so.
-fn ends(alloc: Global, config: &str, end: &[u8]) -> bool {
+fn ends<T: Threads + Wait + Sync>(rt: &T, alloc: Global, config: &str, end: &[u8]) -> bool {
     let mut written = Vec::new(alloc);
-    let status = run(alloc, SIM, &mut config.as_bytes(), &mut written);
+    let status = run(rt, alloc, SIM, &mut config.as_bytes(), &mut written);
     status == 0 && written.as_slice().ends_with(end)
 }
 
@@ -192,7 +199,10 @@ fn audits_random_schedules(rt: HostRuntime) -> Result<(), Fail> {
             "1111010010",
         ] {
             let config = scheduled(alloc, start, schedule.as_str())?;
-            assert!(rt; ends(alloc, config.as_str(), b"\naudit ok\n"), "{config}");
+            assert!(rt;
+                ends(&rt, alloc, config.as_str(), b"\naudit ok\n"),
+                "{config}"
+            );
         }
     }
     Ok(())
@@ -205,7 +215,7 @@ fn simulates_without_memory(rt: HostRuntime) {
     let mut room = [0u8; 2000];
     let mut writer = &mut room[..];
     let config = "start = \"0000000000\"\nschedule = \"ftrpdcftrpdcftrpdc\"";
-    let status = run(rt.alloc(), SIM, &mut config.as_bytes(), &mut writer);
+    let status = run(&rt, rt.alloc(), SIM, &mut config.as_bytes(), &mut writer);
     let left = writer.len();
     let written = &room[..2000usize.saturating_sub(left)];
     if status == 0 {

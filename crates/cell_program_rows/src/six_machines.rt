@@ -69,7 +69,7 @@ fn plates_go_round(rt: HostRuntime) -> Result<(), Fail> {
     for (start, runs, report) in RUNS {
         let config = config_of(rt.alloc(), start, runs)?;
         assert!(rt;
-            is_served(rt.alloc(), SIM, config.as_str(), 0, report),
+            is_served(&rt, rt.alloc(), SIM, config.as_str(), 0, report),
             "{start}"
         );
     }

@@ -3,51 +3,71 @@
 use super::doubles::{
     FailingReader, FailingWriter, InterruptedReader, InterruptedWriter, UnflushedWriter, read, run,
 };
-use super::reports::{PRESS, PRESS_REPORT};
+use super::reports::{EMPTY, PRESS, PRESS_REPORT, SIX_WORKERS};
 use super::served::{SCRIPT, TEXT};
 use cell_config::{Config, ConfigFault};
 use cell_program::serve::refuse_bytes;
 use std::alloc::Global;
+use std::sync::Wait;
+use std::thread::Threads;
 
 const REPLAY: &[&str] = &["cell", "replay"];
 
 const SIM: &[&str] = &["cell", "sim"];
+
+const RUN: &[&str] = &["cell", "run", "--turns", "3", "--tries", "64"];
 
 const HELP: &[&str] = &["cell", "sim", "--help"];
 
 const OTHER: &[&str] = &["cell", "go"];
 
 /// What a failing reader leads to: the status, and what is written.
-fn is_failed_read(alloc: Global, words: &[&str], input: &str, left: usize) -> bool {
+fn is_failed_read<T: Threads + Wait + Sync>(
+    rt: &T,
+    alloc: Global,
+    words: &[&str],
+    input: &str,
+    left: usize,
+) -> bool {
     let mut reader = FailingReader {
         bytes: input.as_bytes(),
         left,
     };
     let mut written = Vec::new(alloc);
-    let status = run(alloc, words, &mut reader, &mut written);
+    let status = run(rt, alloc, words, &mut reader, &mut written);
     status == 1 && written.as_slice() == b"fault read\n".as_slice()
 }
 
 #[test]
 fn tells_a_failed_read(rt: HostRuntime) {
-    let alloc = rt.alloc();
-    assert!(rt; is_failed_read(alloc, &["cell"], SCRIPT, 20));
+    assert!(rt; is_failed_read(&rt, rt.alloc(), &["cell"], SCRIPT, 20));
+    assert!(rt; is_failed_read(&rt, rt.alloc(), RUN, EMPTY, 7));
     for left in 0..PRESS.len() {
-        assert!(rt; is_failed_read(alloc, SIM, PRESS, left), "after {left}");
+        assert!(rt;
+            is_failed_read(&rt, rt.alloc(), SIM, PRESS, left),
+            "after {left}"
+        );
     }
 }
 
 /// Whether a writer that fails after so many bytes is answered with status 1, and has taken a front of
 /// the text that it would have taken.
-fn is_cut(alloc: Global, words: &[&str], input: &str, left: usize, is_full: bool) -> bool {
+fn is_cut<T: Threads + Wait + Sync>(
+    rt: &T,
+    alloc: Global,
+    words: &[&str],
+    input: &str,
+    left: usize,
+    is_full: bool,
+) -> bool {
     let mut writer = FailingWriter {
         taken: Vec::new(alloc),
         left,
         is_full,
     };
     let mut whole = Vec::new(alloc);
-    run(alloc, words, &mut input.as_bytes(), &mut whole);
-    let status = run(alloc, words, &mut input.as_bytes(), &mut writer);
+    run(rt, alloc, words, &mut input.as_bytes(), &mut whole);
+    let status = run(rt, alloc, words, &mut input.as_bytes(), &mut writer);
     let is_front = whole.as_slice().starts_with(writer.taken.as_slice());
     status == 1 && is_front && writer.taken.len() == left
 }
@@ -64,20 +84,28 @@ const CUT: &[(&[&str], &str, usize, bool)] = &[
     (SIM, PRESS, 19, false),
     (SIM, PRESS, 300, true),
     (SIM, PRESS, 560, false),
+    (RUN, EMPTY, 20, false),
 ];
 
 #[test]
 fn writes_a_front(rt: HostRuntime) {
     for (words, input, left, is_full) in CUT {
         assert!(rt;
-            is_cut(rt.alloc(), words, input, *left, *is_full),
+            is_cut(&rt, rt.alloc(), words, input, *left, *is_full),
             "after {left}"
         );
     }
 }
 
 /// Whether an input and an output that are interrupted before each part make no difference.
-fn is_served_in_parts(alloc: Global, words: &[&str], input: &str, status: u8, text: &[u8]) -> bool {
+fn is_served_in_parts<T: Threads + Wait + Sync>(
+    rt: &T,
+    alloc: Global,
+    words: &[&str],
+    input: &str,
+    status: u8,
+    text: &[u8],
+) -> bool {
     let mut reader = InterruptedReader {
         bytes: input.as_bytes(),
         is_ready: false,
@@ -86,49 +114,71 @@ fn is_served_in_parts(alloc: Global, words: &[&str], input: &str, status: u8, te
         taken: Vec::new(alloc),
         is_ready: false,
     };
-    let answered = run(alloc, words, &mut reader, &mut writer);
+    let answered = run(rt, alloc, words, &mut reader, &mut writer);
     answered == status && writer.taken.as_slice() == text
 }
 
 /// Whether words that aren't a mode's are told the same in parts.
-fn is_told_in_parts(alloc: Global, words: &[&str], status: u8) -> bool {
+fn is_told_in_parts<T: Threads + Wait + Sync>(
+    rt: &T,
+    alloc: Global,
+    words: &[&str],
+    status: u8,
+) -> bool {
     let mut whole = Vec::new(alloc);
-    run(alloc, words, &mut b"".as_slice(), &mut whole);
-    !whole.is_empty() && is_served_in_parts(alloc, words, "", status, whole.as_slice())
+    run(rt, alloc, words, &mut b"".as_slice(), &mut whole);
+    !whole.is_empty() && is_served_in_parts(rt, alloc, words, "", status, whole.as_slice())
 }
+
+// Words, an input, the status and the text.
+const IN_PARTS: &[(&[&str], &str, u8, &str)] = &[
+    (REPLAY, SCRIPT, 0, TEXT),
+    (SIM, PRESS, 0, PRESS_REPORT),
+    (RUN, EMPTY, 0, SIX_WORKERS),
+    (REPLAY, "", 1, "fault nostart\n"),
+    (SIM, "", 1, "fault config missing\n"),
+    (RUN, "", 1, "fault config missing\n"),
+];
 
 #[test]
 fn goes_on_where_it_is_interrupted(rt: HostRuntime) {
-    let alloc = rt.alloc();
-    assert!(rt; is_served_in_parts(alloc, REPLAY, SCRIPT, 0, TEXT.as_bytes()));
-    assert!(rt; is_served_in_parts(alloc, SIM, PRESS, 0, PRESS_REPORT.as_bytes()));
-    assert!(rt; is_served_in_parts(alloc, REPLAY, "", 1, b"fault nostart\n"));
-    assert!(rt; is_served_in_parts(alloc, SIM, "", 1, b"fault config missing\n"));
-    assert!(rt; is_told_in_parts(alloc, HELP, 0));
-    assert!(rt; is_told_in_parts(alloc, OTHER, 2));
+    for (words, input, status, text) in IN_PARTS {
+        assert!(rt;
+            is_served_in_parts(&rt, rt.alloc(), words, input, *status, text.as_bytes()),
+            "{words:?}"
+        );
+    }
+    assert!(rt; is_told_in_parts(&rt, rt.alloc(), HELP, 0));
+    assert!(rt; is_told_in_parts(&rt, rt.alloc(), OTHER, 2));
 }
 
 /// Whether a writer that fails to hand on what it has taken is answered with status 1, and has taken
 /// what it would have taken.
-fn is_lost(alloc: Global, words: &[&str], input: &str) -> bool {
+fn is_lost<T: Threads + Wait + Sync>(rt: &T, alloc: Global, words: &[&str], input: &str) -> bool {
     let mut writer = UnflushedWriter {
         taken: Vec::new(alloc),
     };
     let mut whole = Vec::new(alloc);
-    run(alloc, words, &mut input.as_bytes(), &mut whole);
-    let status = run(alloc, words, &mut input.as_bytes(), &mut writer);
+    run(rt, alloc, words, &mut input.as_bytes(), &mut whole);
+    let status = run(rt, alloc, words, &mut input.as_bytes(), &mut writer);
     status == 1 && writer.taken.as_slice() == whole.as_slice()
 }
 
+const LOST: &[(&[&str], &str)] = &[
+    (REPLAY, SCRIPT),
+    (SIM, PRESS),
+    (RUN, EMPTY),
+    (HELP, ""),
+    (OTHER, ""),
+];
+
 #[test]
 fn tells_a_failed_flush(rt: HostRuntime) {
-    let alloc = rt.alloc();
-    assert!(rt; is_lost(alloc, REPLAY, SCRIPT));
-    assert!(rt; is_lost(alloc, SIM, PRESS));
-    assert!(rt; is_lost(alloc, HELP, ""));
-    assert!(rt; is_lost(alloc, OTHER, ""));
+    for (words, input) in LOST {
+        assert!(rt; is_lost(&rt, rt.alloc(), words, input), "{words:?}");
+    }
     let mut writer = UnflushedWriter {
-        taken: Vec::new(alloc),
+        taken: Vec::new(rt.alloc()),
     };
     assert!(rt; refuse_bytes(&mut writer) == 2);
 }

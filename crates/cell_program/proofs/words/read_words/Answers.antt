@@ -1,12 +1,19 @@
-use Rattle.std.proofs.Common.{ap, ap₂, refl, codes, true, List, [], ◌∷◌, ◌≡◌, ◌∙◌, subst}
-use Rattle.clap.specs.Words.{App, Text, is_simple_and_free, takes, fault_of}
+use Rattle.std.proofs.Common.{ap, ap₂, refl, sym, codes, true, map, List, [], ◌∷◌, ◌≡◌, ◌∙◌, subst}
+use Rattle.clap.specs.Words.{App, HasMatchesOf, Text, fault_of, is_simple, is_simple_and_free, subcommand_of, subcommand_rows_of, takes}
+use Rattle.clap.specs.declared.parser.matches.ArgMatches.{ArgMatches}
 use Rattle.clap.proofs.OnLiterals.{clap_on_literals}
-use Rattle.cell_program.specs.Words.{program}
+use Rattle.cell_program.specs.Words.{HasNumbers, mode_named, mode_of, program}
+use Rattle.cell_program.specs.declared.words.Mode.TheVariants.{Run}
+use Rattle.cell_program.proofs.FlagLemmas.{run_has_numbers}
 use Rattle.cell_program.proofs.words.read_words.Goals as goal
 
-is_simple : is_simple_and_free program ≡ true
+program_is_free : is_simple_and_free program ≡ true
 unfolding clap_on_literals
-is_simple = refl
+program_is_free = refl
+
+program_is_simple : is_simple program ≡ true
+unfolding clap_on_literals
+program_is_simple = refl
 
 plain_is_taken : (name : Text) → takes program (name ∷ []) ≡ true
 unfolding clap_on_literals
@@ -20,12 +27,32 @@ sim_is_taken : (name : Text) → takes program (name ∷ codes "sim" ∷ []) ≡
 unfolding clap_on_literals
 sim_is_taken name = refl
 
+run_is_taken : (name : Text) → takes program (name ∷ codes "run" ∷ []) ≡ true
+unfolding clap_on_literals
+run_is_taken name = refl
+
+run_by_default : (name : Text) → mode_of (name ∷ codes "run" ∷ []) ≡ Run 1000 8
+unfolding clap_on_literals
+run_by_default name = refl
+
 -- what is taken by a command is taken by its equal
 clean_alike : (a b : App) (words : List Text) → a ≡ b → fault_of a words ≡ [] → fault_of b words ≡ []
 clean_alike a b words same h = subst (λ x. fault_of x words ≡ []) same h
 
+-- the word that was met with its flags, by the words alone
+met_alike : (a : App) (words : List Text) (m : ArgMatches) → a ≡ program → HasMatchesOf a words m → subcommand_rows_of m ≡ subcommand_of program words
+met_alike a words m same h = (subst (λ x. HasMatchesOf x words m) same h program_is_simple).1
+
+pub mode_of-requires : goal.mode_of-requires
+mode_of-requires c =
+    let clean = clean_alike _ _ _ c.in_ok-command.ensures (c.in-Ok.ensures.kinds (ap is_simple_and_free c.in_ok-command.ensures ∙ program_is_free)) in
+    subst HasNumbers (sym (met_alike _ _ _ c.in_ok-command.ensures c.in-Ok.ensures.matches)) (run_has_numbers (map (λ w. w.now) c.args.words.now) clean)
+
 pub returns-in-Ok-clause-taken : goal.returns-in-Ok-clause-taken
-returns-in-Ok-clause-taken c = clean_alike _ _ _ c.in_ok-command.ensures (c.in-Ok.ensures.kinds (ap is_simple_and_free c.in_ok-command.ensures ∙ is_simple))
+returns-in-Ok-clause-taken c = clean_alike _ _ _ c.in_ok-command.ensures (c.in-Ok.ensures.kinds (ap is_simple_and_free c.in_ok-command.ensures ∙ program_is_free))
+
+pub returns-in-Ok-clause-defaults : goal.returns-in-Ok-clause-defaults
+returns-in-Ok-clause-defaults c = λ name e. c.mode_of.ensures.mode ∙ (ap mode_named (met_alike _ _ _ c.in_ok-command.ensures c.in-Ok.ensures.matches) ∙ (ap mode_of e ∙ run_by_default name))
 
 pub returns-in-Err-clause-plain : goal.returns-in-Err-clause-plain
 returns-in-Err-clause-plain c = λ name e. c.in-Err.ensures.passes (ap₂ takes c.in_ok-command.ensures e ∙ plain_is_taken name)
@@ -35,3 +62,6 @@ returns-in-Err-clause-replay c = λ name e. c.in-Err.ensures.passes (ap₂ takes
 
 pub returns-in-Err-clause-sim : goal.returns-in-Err-clause-sim
 returns-in-Err-clause-sim c = λ name e. c.in-Err.ensures.passes (ap₂ takes c.in_ok-command.ensures e ∙ sim_is_taken name)
+
+pub returns-in-Err-clause-run : goal.returns-in-Err-clause-run
+returns-in-Err-clause-run c = λ name e. c.in-Err.ensures.passes (ap₂ takes c.in_ok-command.ensures e ∙ run_is_taken name)

@@ -1,0 +1,43 @@
+-- What is told of a run by six workers.
+use Rattle.std.proofs.Common.{◌≡◌, ◌≢◌, inl, inr, codes, List, ℕ, Option, Some, None, Ok, Err, IfSome, subst}
+use Rattle.cell_text.specs.Output.{WroteFront}
+use Rattle.cell_parts.specs.Axes.{CellScales}
+use Rattle.cell_notes.specs.declared.run_record.RunRecord.{RunRecord}
+use Rattle.cell_config.specs.Configured.{Says, in_order, shown}
+use Rattle.cell_config.specs.Settings.{settings_of}
+use Rattle.cell_config.specs.ConfigWords.{config_fault_text}
+use Rattle.cell_config.specs.declared.configuration.Config.{Config}
+use Rattle.cell_config.specs.declared.fault.ConfigFault.{ConfigFault}
+use Rattle.cell_workers.specs.Faults.{run_fault_text}
+use Rattle.cell_workers.specs.declared.fault.RunFault.{RunFault}
+use Rattle.cell_workers.specs.declared.fault.RunFault.TheVariants.{Tries, Memory, Spawn}
+use Rattle.cell_program.specs.Ran.{TellsWorkers}
+use Rattle.cell_program.specs.Reported.{ReportTold}
+use Rattle.cell_program.specs.Served.{RunFails, TellsWorkersOf, WasRun, fault_line}
+
+module _ (turns tries : ℕ) (old new : Option (List ℕ)) where
+  pub run_config_refused : (o : Option (List ℕ)) (fault : ConfigFault) → IfSome o (λ bytes. Says bytes (Err fault)) → WroteFront old new (fault_line (config_fault_text fault))
+      → IfSome o (λ bytes. RunFails turns tries bytes old new)
+  run_config_refused None fault k w = tt
+  run_config_refused (Some bytes) fault k w = inl (fault, (k, w))
+
+  -- the tries were in order, so memory ran out or a worker couldn't be started
+  pub run_refused : (o : Option (List ℕ)) (fault : RunFault) → fault ≢ Tries → WroteFront old new (fault_line (run_fault_text fault)) → IfSome o (λ bytes. RunFails turns tries bytes old new)
+  run_refused None fault other w = tt
+  run_refused (Some bytes) Tries other w = absurd (other (λ i. Tries))
+  run_refused (Some bytes) Memory other w = inr (inl w)
+  run_refused (Some bytes) Spawn other w = inr (inr (inl w))
+
+  tells_of : (bytes : List ℕ) (config : Config) (r : RunRecord) (c : CellScales) → settings_of bytes ≡ Ok (shown config) → config.points ≡ in_order c → TellsWorkers c config.start tries turns r
+      → TellsWorkersOf turns tries bytes r
+  tells_of bytes config r c k points run = record { settings = shown config; said = k; scales = c; points = points; run = run }
+
+  pub run_well : (o : Option (List ℕ)) (config : Config) (r : RunRecord) (c : CellScales) → IfSome o (λ bytes. Says bytes (Ok config)) → config.points ≡ in_order c → TellsWorkers c config.start tries turns r
+      → ReportTold 0 r old new → WasRun turns tries o old new
+  run_well None config r c k points run told = tt
+  run_well (Some bytes) config r c k points run told = (r, (tells_of bytes config r c k points run, told))
+
+  pub run_failed : (o : Option (List ℕ)) (config : Config) (r : RunRecord) (c : CellScales) → IfSome o (λ bytes. Says bytes (Ok config)) → config.points ≡ in_order c → TellsWorkers c config.start tries turns r
+      → ReportTold 1 r old new → IfSome o (λ bytes. RunFails turns tries bytes old new)
+  run_failed None config r c k points run told = tt
+  run_failed (Some bytes) config r c k points run told = inr (inr (inr (r, told.0, (tells_of bytes config r c k points run, told.1))))

@@ -1,0 +1,36 @@
+-- What is told of a run that was audited and reported.
+use Rattle.std.specs.Prelude.{◌≡◌, ◌≢◌, ℕ, zero, suc, List, All, ◌⊎◌, Option, Some, None}
+use Rattle.std.specs.Io.KnownBytes.{Appends}
+use Rattle.cell_types.specs.declared.answer.Event.{Event}
+use Rattle.cell_types.specs.Journals.{journal_of}
+use Rattle.cell_text.specs.Output.{WroteFront}
+use Rattle.cell_notes.specs.declared.run_record.RunRecord.{RunRecord}
+use Rattle.cell_notes.specs.declared.status.Status.{Status}
+use Rattle.cell_notes.specs.declared.status.Status.TheVariants.{Fine}
+use Rattle.cell_report.specs.Audited.{HasNoHistory, IsAudited}
+use Rattle.cell_report.specs.AuditFaults.{IsFault}
+use Rattle.cell_report.specs.Report.{report_text}
+use Rattle.cell_report.specs.declared.audit_faults.AuditFault.{AuditFault}
+use Rattle.cell_report.specs.declared.audit_faults.AuditFault.TheVariants.{Memory as AuditMemory}
+
+-- no machine was stopped
+abbrev pub AreFine : List Status → Type 0
+AreFine status = All (λ s. s ≡ Fine) status
+
+-- what an audit of a record finds: a legal history that tells its journals and leads to its end; or, unless memory ran out, that there
+-- is none, and the first cause
+abbrev pub AuditFinds : RunRecord → Option AuditFault → Type 0
+AuditFinds r None = (history : List Event) × IsAudited r.start (journal_of r.journals) r.end history
+AuditFinds r (Some fault) = IsFault r.start (journal_of r.journals) r.end fault × (fault ≢ AuditMemory → HasNoHistory r.start (journal_of r.journals) r.end)
+
+-- a machine was stopped, or the audit was refused
+abbrev pub IsAmiss : RunRecord → Option AuditFault → Type 0
+IsAmiss r audit = (¬ AreFine r.status) ⊎ ((fault : AuditFault) × (audit ≡ Some fault))
+
+-- With status 0 no machine was stopped, and the report was written, with the line that the audit found a history. Else a
+-- machine was stopped or the audit was refused, and the report was written, or a front of it was.
+abbrev pub ReportTold : ℕ → RunRecord → Option (List ℕ) → Option (List ℕ) → Type 0
+ReportTold zero r old new = AreFine r.status × (AuditFinds r None × Appends old new (report_text r None))
+ReportTold (suc n) r old new =
+    (audit : Option AuditFault) × (AuditFinds r audit
+    × ((Appends old new (report_text r audit) × IsAmiss r audit) ⊎ WroteFront old new (report_text r audit)))

@@ -1,0 +1,80 @@
+//! A run by six workers, with the state that it came to.
+
+ghost use Rattle.std.specs.Prelude.{◌≡◌, ◌≢◌, ◌<◌, ◌⊎◌, ◌↔◌, IfOk, Err};
+ghost use Rattle.cell_types.specs.Journals.{journal_of};
+ghost use Rattle.cell_rules.specs.History.{after};
+ghost use Rattle.cell_rules.specs.Start.{IsStartState};
+ghost use Rattle.cell_parts.specs.Axes.{AreCellScales};
+ghost use Rattle.cell_plant.specs.Cells.{IsMadeFor, scales_of};
+ghost use Rattle.cell_workers.specs.Records.{TellsWork};
+ghost use Rattle.cell_program.specs.Ran.{EndsAsAudited, but_end};
+
+use cell_calib::Gauge;
+use cell_notes::RunRecord;
+use cell_plant::Cell;
+use cell_report::{AuditFault, audit};
+use cell_rules::{State, apply};
+use cell_types::{Event, Journals};
+use cell_workers::{Gate, RunFault, run_workers};
+use std::alloc::Global;
+use std::sync::Wait;
+use std::thread::Threads;
+
+/// Runs a cell that was made for a start by six workers, as `run_workers` does, and audits what they noted.
+/// The record's end is the state that the audited events lead to from the start; it is left open where
+/// the audit finds no history.
+///
+/// The refusals are those of `run_workers`. `Memory` comes too where the audit had no room; then all
+/// workers have come to their ends.
+pub fn run_cell<R, F1, F2, F3, F4, F5, G>(
+    rt: &R,
+    alloc: Global,
+    cell: Cell<F1, F2, F3, F4, F5>,
+    opening: State,
+    tries: u8,
+    turns: u32,
+    gate: &G,
+) -> Result<RunRecord, RunFault>
+where
+    R: Threads + Wait + Sync,
+    F1: Gauge + Send,
+    F2: Gauge + Send,
+    F3: Gauge + Send,
+    F4: Gauge + Send,
+    F5: Gauge + Send,
+    G: Gate + Sync,
+    requires start { IsStartState opening }
+    requires made { IsMadeFor opening cell }
+    requires scales { AreCellScales (scales_of cell) }
+    ensures tries { (result ≡ Err RunFault.Tries) ↔ ((tries < 1) ⊎ (64 < tries)) }
+    ensures work { IfOk result (λ r. TellsWork (scales_of cell) opening tries turns (G.may_answer gate.now) (but_end r)) }
+    ensures end { IfOk result (λ r. EndsAsAudited r.start (journal_of r.journals) r.end) }
+{
+    let mut record = run_workers(rt, alloc, cell, opening, tries, turns, gate)?;
+    record.end = audited_end(alloc, &record.journals, &record.start)?;
+    Ok(record)
+}
+
+/// The state that the audited events lead to from the start, or `None` where no legal history tells the
+/// journals. `Memory` where the audit had no room.
+fn audited_end(alloc: Global, journals: &Journals, start: &State) -> Result<Option<State>, RunFault>
+    ensures end { IfOk result (EndsAsAudited start.now (journal_of journals.now)) }
+    ensures memory { result ≢ Err RunFault.Tries }
+{
+    match audit(alloc, journals, start, None) {
+        Ok(events) => Ok(Some(state_after(start, &events))),
+        Err(AuditFault::Memory) => Err(RunFault::Memory),
+        Err(_) => Ok(None),
+    }
+}
+
+/// The state that events lead to, one after another.
+fn state_after(start: &State, events: &[Event]) -> State
+    ensures { result ≡ after start.now events.now }
+{
+    let mut state = *start;
+    for event in events {
+        apply(&mut state, event.machine, event.call);
+    }
+    state
+}

@@ -1,0 +1,135 @@
+//! Runs the cell by six workers for the program.
+
+ghost use Rattle.std.specs.Prelude.{◌≡◌, ◌≢◌, ◌≤◌, ◌<◌, IfOk, IfSome, Err};
+ghost use Rattle.cell_rules.specs.Start.{IsStartState};
+ghost use Rattle.cell_parts.specs.Axes.{AreCellScales, CellScales};
+ghost use Rattle.cell_text.specs.Input.{TakesAtMost};
+ghost use Rattle.cell_config.specs.Configured.{AreAxisScales, in_order};
+ghost use Rattle.cell_config.specs.Settings.{most_bytes_read};
+ghost use Rattle.cell_program.specs.Ran.{TellsWorkers};
+ghost use Rattle.cell_program.specs.Served.{RunFails, WasRun};
+ghost use Rattle.cell_program.specs.Simulated.{scales_of};
+
+use crate::faults::fail;
+use crate::reporting::report;
+use crate::running::run_cell;
+use crate::simulating::Lines;
+use cell_calib::{Calibration, Gauge, line_at};
+use cell_config::{Config, read_config};
+use cell_notes::RunRecord;
+use cell_plant::Cell;
+use cell_rules::State;
+use cell_workers::{OpenGate, RunFault};
+use std::alloc::Global;
+use std::io::{Read, Write};
+use std::sync::Wait;
+use std::thread::Threads;
+
+/// Runs the cell by the configuration that is read, each machine by a worker of its own, audits what they
+/// noted, and writes the report, or prints a fault. Answers the exit status: 0 where all went well, else 1.
+pub fn serve_run<T, R: Read, W: Write>(
+    rt: &T,
+    alloc: Global,
+    turns: u32,
+    tries: u8,
+    reader: &mut R,
+    writer: &mut W,
+) -> u8
+where
+    T: Threads + Wait + Sync,
+    requires few { tries ≤ 64 }
+    requires some { 1 ≤ tries }
+    ensures status { result < 2 }
+    ensures well { result ≡ 0 →
+        WasRun turns tries (R.remaining reader.old) (W.contents writer.old) (W.contents writer.new) }
+    ensures failed { result ≡ 1 →
+        IfSome (R.remaining reader.old) (λ bytes. RunFails turns tries bytes (W.contents writer.old) (W.contents writer.new)) }
+    ensures read { TakesAtMost (R.remaining reader.old) (R.remaining reader.new) most_bytes_read }
+{
+    let config = match read_config(alloc, reader) {
+        Ok(config) => config,
+        Err(fault) => return fail(writer, fault.text()),
+    };
+    match ran(rt, alloc, &config, turns, tries) {
+        Ok(run) => report(alloc, &run, writer),
+        Err(fault) => fail(writer, fault.text()),
+    }
+}
+
+/// The run of a configuration by six workers, with each closure over its line, and a gate that is always
+/// open. The schedule isn't used.
+pub fn ran<T>(
+    rt: &T,
+    alloc: Global,
+    config: &Config,
+    turns: u32,
+    tries: u8,
+) -> Result<RunRecord, RunFault>
+where
+    T: Threads + Wait + Sync,
+    requires start { IsStartState config.now.start }
+    requires points { AreAxisScales config.now.points }
+    requires few { tries ≤ 64 }
+    requires some { 1 ≤ tries }
+    ensures work { IfOk result (λ r. (c : CellScales) × (config.now.points ≡ in_order c) × TellsWorkers c config.now.start tries turns r) }
+    ensures tries { result ≢ Err RunFault.Tries }
+{
+    let [arm1, arm2, rotation, turn, gripper] = config.points;
+    let gauges = (
+        move |raw: u16| line_at(&arm1, raw),
+        move |raw: u16| line_at(&arm2, raw),
+        move |raw: u16| line_at(&rotation, raw),
+        move |raw: u16| line_at(&turn, raw),
+        move |raw: u16| line_at(&gripper, raw),
+    );
+    let lines = Lines {
+        arm1,
+        arm2,
+        rotation,
+        turn,
+        gripper,
+    };
+    run_by(rt, alloc, gauges, lines, config.start, turns, tries)
+}
+
+/// A run by six workers with these closures. A calibration is named only where the closure's type is a
+/// parameter.
+fn run_by<T, F1, F2, F3, F4, F5>(
+    rt: &T,
+    alloc: Global,
+    gauges: (F1, F2, F3, F4, F5),
+    lines: Lines,
+    start: State,
+    turns: u32,
+    tries: u8,
+) -> Result<RunRecord, RunFault>
+where
+    T: Threads + Wait + Sync,
+    F1: Gauge + Send,
+    F2: Gauge + Send,
+    F3: Gauge + Send,
+    F4: Gauge + Send,
+    F5: Gauge + Send,
+    requires start { IsStartState start }
+    requires arm1 { F1.keeps gauges.0 lines.arm1 }
+    requires arm2 { F2.keeps gauges.1 lines.arm2 }
+    requires rotation { F3.keeps gauges.2 lines.rotation }
+    requires turn { F4.keeps gauges.3 lines.turn }
+    requires gripper { F5.keeps gauges.4 lines.gripper }
+    requires scales { AreCellScales (scales_of lines) }
+    requires few { tries ≤ 64 }
+    requires some { 1 ≤ tries }
+    ensures work { IfOk result (TellsWorkers (scales_of lines) start tries turns) }
+    ensures tries { result ≢ Err RunFault.Tries }
+{
+    let (arm1, arm2, rotation, turn, gripper) = gauges;
+    let cell = Cell::new(
+        &start,
+        Calibration::new(arm1, lines.arm1),
+        Calibration::new(arm2, lines.arm2),
+        Calibration::new(rotation, lines.rotation),
+        Calibration::new(turn, lines.turn),
+        Calibration::new(gripper, lines.gripper),
+    );
+    run_cell(rt, alloc, cell, start, tries, turns, &OpenGate)
+}
