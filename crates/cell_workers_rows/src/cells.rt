@@ -10,8 +10,8 @@ use cell_plant::Cell;
 use cell_rules::State;
 use cell_workers::{Gate, RunFault, run_workers};
 use std::alloc::Global;
-use std::sync::atomic::{AtomicU64, Ordering};
 use std::sync::Wait;
+use std::sync::atomic::{AtomicU64, Ordering};
 use std::test::Fail;
 use std::thread::Threads;
 

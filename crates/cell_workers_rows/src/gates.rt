@@ -53,9 +53,7 @@ impl Meeting {
 }
 
 fn is_one_two_three(notes: &[AtomicU64]) -> bool {
-    notes
-        .iter()
-        .all(|note| note.load(Ordering::SeqCst) == 123)
+    notes.iter().all(|note| note.load(Ordering::SeqCst) == 123)
 }
 
 fn zero() -> AtomicU64 {
@@ -107,7 +105,10 @@ impl Gate for Meeting {
         let at = place_of(machine);
         note(&self.asked[at], u64::from(turn).wrapping_add(1));
         for closure in closures_of(machine) {
-            if let (Some(calls), Some(found)) = (self.calls.get(*closure), self.found.get(*closure)) {
+            if let (Some(calls), Some(found)) = (
+                self.calls.get(*closure),
+                self.found.get(*closure),
+            ) {
                 note(found, calls.load(Ordering::SeqCst).wrapping_add(1));
             }
         }
