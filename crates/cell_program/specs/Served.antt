@@ -1,11 +1,11 @@
 -- What a run of the program has done.
 use Rattle.std.specs.Prelude.{◌≡◌, ℕ, List, ◌++◌, codes, ◌⊎◌, Option, Some, None, Ok, Err, IfSome}
 use Rattle.std.specs.Io.KnownBytes.{Appends}
-use Rattle.cell_report.specs.Faults.{WroteFront, WroteLines}
-use Rattle.cell_report.specs.Script.{script_lines, script_outcome, script_text}
+use Rattle.cell_replay.specs.Faults.{WroteFront, WroteLines}
+use Rattle.cell_replay.specs.Script.{script_lines, script_outcome, script_text}
 use Rattle.cell_report.specs.Report.{report_text}
-use Rattle.cell_report.specs.declared.script.Outcome.TheVariants.{Clean, Refused}
-use Rattle.cell_report.specs.declared.script.ScriptFault.{ScriptFault}
+use Rattle.cell_replay.specs.declared.script.Outcome.TheVariants.{Clean, Refused}
+use Rattle.cell_replay.specs.declared.script.ScriptFault.{ScriptFault}
 use Rattle.cell_report.specs.declared.audit_faults.AuditFault.{AuditFault}
 use Rattle.cell_report.specs.declared.audit_faults.AuditFault.TheVariants.{Memory as AuditMemory}
 use Rattle.cell_parts.specs.Axes.{CellScales}

@@ -2,11 +2,11 @@
 
 ghost use Rattle.std.specs.Prelude.{◌≡◌, ◌<◌, IfSome};
 ghost use Rattle.cell_text.specs.Input.{TakesAtMost};
-ghost use Rattle.cell_report.specs.Script.{most_bytes_read};
+ghost use Rattle.cell_replay.specs.Script.{most_bytes_read};
 ghost use Rattle.cell_program.specs.Served.{ReplayFails, WasReplayed};
 
 use crate::faults::{FAILED, fail};
-use cell_report::{Outcome, ReplayFault, replay};
+use cell_replay::{Outcome, ReplayFault, replay};
 use std::alloc::Global;
 use std::io::{Read, Write};
 

@@ -4,7 +4,7 @@ ghost use Rattle.std.specs.Prelude.{◌≡◌, ◌≤◌, ◌<◌, ◌⊎◌, �
 ghost use Rattle.clap.specs.Words.{kind_of};
 ghost use Rattle.cell_text.specs.Output.{WroteFront};
 ghost use Rattle.cell_text.specs.Input.{TakesAtMost};
-ghost use Rattle.cell_report.specs.Script.{most_bytes_read};
+ghost use Rattle.cell_replay.specs.Script.{most_bytes_read};
 ghost use Rattle.cell_program.specs.Served.{ReplayFails, RunFails, SimFails, WasReplayed, WasRun, WasSimulated, fault_line};
 ghost use Rattle.cell_config.specs.Settings as settings;
 ghost use Rattle.cell_program.specs.Words.{AreTaken, AskForHelp, AskForReplay, AskForRun, AskForSim};

@@ -14,11 +14,4 @@ pub mod Sound
 pub mod Complete
 pub mod Counts
 pub mod Refusals
-pub mod Digits
-pub mod Known
-pub mod Lines
-pub mod RecordLemmas
 pub mod Reports
-pub mod Requests
-pub mod Starts
-pub mod Scripts

@@ -60,6 +60,10 @@ machines_from i counts status = map (λ (m, row). machine_line m row.0 row.1) (z
 pub axis_more : (old new all word : List ℕ) (at : ℤ) → SFits w32 at → new ≡ old ++ axis_text word (to_z w32 (of_z w32 at)) → old ≡ all → new ≡ all ++ axis_text word at
 axis_more old new all word at fits more so_far = more ∙ ap₂ (λ page z. page ++ axis_text word z) so_far (to_z-of_z w32 at fits)
 
+-- one line more is told
+pub told_more : (old new line rest all more : List ℕ) → new ≡ old ++ line → more ≡ line ++ rest → old ++ more ≡ all → new ++ rest ≡ all
+told_more old new line rest all more wrote is told = rw (wrote, append_assoc) (rw is at told)
+
 -- one text more
 pub one_more : (old new text all : List ℕ) → new ≡ old ++ text → old ≡ all → new ≡ all ++ text
 one_more old new text all more so_far = more ∙ ap (λ page. page ++ text) so_far

@@ -1,4 +1,4 @@
-//! Tests of `cell_report` by its public calls. Each text was worked out by hand from the rules of the
+//! Tests of `cell_replay` and `cell_report` by their public calls. Each text was worked out by hand from the rules of the
 //! cell.
 #![tactic(auto)]
 

@@ -1,4 +1,4 @@
-use cell_report::{Outcome, replay};
+use cell_replay::{Outcome, replay};
 use cell_rules::State;
 use std::alloc::Global;
 use std::process::Abort;

@@ -1,7 +1,7 @@
 //! Readers and writers that are interrupted or fail, and refused memory.
 
 use crate::doubles::{EndlessReader, Failure, InterruptedReader, InterruptedWriter};
-use cell_report::{Outcome, ReplayFault, ScriptFault, replay};
+use cell_replay::{Outcome, ReplayFault, ScriptFault, replay};
 use std::alloc::Global;
 
 const SCRIPT: &str =

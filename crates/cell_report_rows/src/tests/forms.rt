@@ -1,7 +1,7 @@
 //! How the records are parted, quoted and spelled.
 
 use super::is_answered;
-use cell_report::{Outcome, ScriptFault};
+use cell_replay::{Outcome, ScriptFault};
 
 /// Record 0 and one that asks for the press's zone, with other ends, quotes and a byte order mark.
 const FORMS: &[&str] = &[

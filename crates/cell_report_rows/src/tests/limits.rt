@@ -1,7 +1,7 @@
 //! Scripts that are longer than is used.
 
 use super::is_answered;
-use cell_report::{Outcome, ScriptFault, replay};
+use cell_replay::{Outcome, ScriptFault, replay};
 use std::alloc::Global;
 use std::process::Abort;
 

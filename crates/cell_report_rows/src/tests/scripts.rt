@@ -1,7 +1,7 @@
 //! Scripts of one zone, of starts, and of a plate on its way, with the text that each is answered.
 
 use super::{are_answered, is_answered};
-use cell_report::{Outcome, ScriptFault};
+use cell_replay::{Outcome, ScriptFault};
 
 const ANSWERED: &[(&str, &str)] = &[
     // Who isn't a party is told so first, and at the last stamp all that would be Done is worn.

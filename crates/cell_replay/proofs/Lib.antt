@@ -1,0 +1,7 @@
+pub mod Digits
+pub mod Known
+pub mod Lines
+pub mod RecordLemmas
+pub mod Requests
+pub mod Starts
+pub mod Scripts

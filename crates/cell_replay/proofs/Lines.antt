@@ -1,0 +1,107 @@
+-- The lines of a script, one after the other, and what more records change.
+use Rattle.std.proofs.Common.{ℕ, suc, ◌≡◌, ◌<◌, ◌≤◌, ◌+◌, List, [], ◌∷◌, ◌++◌, Option, Some, None, length, map, take, drop, get_or, refl, sym, ◌∙◌, ap, ap₂, arith, append_assoc}
+use Rattle.std.specs.List.{enumerate_from}
+use Rattle.std.specs.Option.{option_map_or}
+use Rattle.std.proofs.lemmas.List.{append-nil, drop_more, drop_all}
+use Rattle.std.proofs.Math.Seq.{take-append_seam}
+use Rattle.cell_types.specs.declared.answer.Event.{Event}
+use Rattle.cell_types.specs.Answers.{answer_text}
+use Rattle.cell_rules.specs.ModelState.{ModelState}
+use Rattle.cell_rules.specs.Reply.{next, reply}
+use Rattle.cell_rules.specs.History.{IsLegal, after}
+use Rattle.cell_replay.specs.Requests.{Row, request_of}
+use Rattle.cell_replay.specs.Script.{event_line, event_lines, event_of, history_of, line_of, requests_in}
+use Rattle.cell_replay.specs.declared.request.Request.{Request}
+
+-- the lines of requests that are made in turn, after so many
+unfoldable pub lines_after : ℕ → ModelState → List Request → List (List ℕ)
+lines_after done s [] = []
+lines_after done s (r ∷ rs) =
+    line_of (done + 1) (next s r.machine r.call).stamp (answer_text (reply s r.machine r.call)) ∷ lines_after (done + 1) (next s r.machine r.call) rs
+
+after-append : (s : ModelState) (a b : List Event) → after s (a ++ b) ≡ after (after s a) b
+after-append s [] b = refl
+after-append s (e ∷ a) b = after-append (next s e.machine e.call) a b
+
+one_more : (xs : List Event) (x : Event) → length (xs ++ x ∷ []) ≡ length xs + 1
+one_more [] x = refl
+one_more (y ∷ ys) x = omega (arith, one_more ys x)
+
+-- the lines of the events behind those before
+lines-behind : (s now : ModelState) (h before : List Event) (n : ℕ) (rs : List Request) → now ≡ after s before → n ≡ length before → h ≡ before ++ history_of now rs
+    → map (event_line s h) (enumerate_from (n + 1) (history_of now rs)) ≡ lines_after n now rs
+unfolding history_of lines_after
+lines-behind s now h before n [] state count whole = refl
+lines-behind s now h before n (r ∷ rs) state count whole =
+    let front : List Event = before ++ event_of now r ∷ [] in
+    let rest : List Event = history_of (next now r.machine r.call) rs in
+    let more : n + 1 ≡ length front = omega (arith, one_more before (event_of now r)) in
+    let split : h ≡ front ++ rest = whole ∙ sym (append_assoc before (event_of now r ∷ []) rest) in
+    let taken : take (n + 1) h ≡ front = ap₂ take more split ∙ take-append_seam front rest in
+    let there : next now r.machine r.call ≡ after s front = ap (λ t. next t r.machine r.call) state ∙ sym (after-append s before (event_of now r ∷ [])) in
+    let here : after s (take (n + 1) h) ≡ next now r.machine r.call = ap (after s) taken ∙ sym there in
+    ap₂ (λ line lines. line ∷ lines) (ap (λ (t : ModelState). line_of (n + 1) t.stamp (answer_text (reply now r.machine r.call))) here)
+    (lines-behind s (next now r.machine r.call) h front (n + 1) rs there more split)
+
+pub event_lines-after : (s : ModelState) (rs : List Request) → event_lines s (history_of s rs) ≡ lines_after 0 s rs
+event_lines-after s rs = lines-behind s s (history_of s rs) [] 0 rs refl refl refl
+
+-- One record more.
+
+pub requests_in-none : requests_in [] ≡ []
+unfolding requests_in
+requests_in-none = refl
+
+pub requests_in-bad : (row : Row) (rows : List Row) → request_of row ≡ None → requests_in (row ∷ rows) ≡ []
+unfolding requests_in
+requests_in-bad row rows bad = rw bad refl
+
+pub requests_in-more : (row : Row) (rows : List Row) (r : Request) → request_of row ≡ Some r → requests_in (row ∷ rows) ≡ r ∷ requests_in rows
+unfolding requests_in
+requests_in-more row rows r good = rw good refl
+
+pub lines_after-none : (done : ℕ) (s : ModelState) → lines_after done s [] ≡ []
+unfolding lines_after
+lines_after-none done s = refl
+
+pub lines_after-more : (done : ℕ) (s : ModelState) (r : Request) (rs : List Request)
+    → lines_after done s (r ∷ rs) ≡ line_of (done + 1) (next s r.machine r.call).stamp (answer_text (reply s r.machine r.call)) ∷ lines_after (done + 1) (next s r.machine r.call) rs
+unfolding lines_after
+lines_after-more done s r rs = refl
+
+-- the records from one on, and after the last
+pub rows-more : {A B : Type 0} (f : A → B) (rows : List A) (i : ℕ) (row : A) → row ≡ get_or rows i row → i < length rows → map f (drop i rows) ≡ f row ∷ map f (drop (i + 1) rows)
+rows-more f rows i row is lt = ap (map f) (drop_more rows i row lt) ∙ ap (λ r. f r ∷ map f (drop (i + 1) rows)) (sym is)
+
+pub rows-none : {A B : Type 0} (f : A → B) (rows : List A) (i : ℕ) → length rows ≤ i → map f (drop i rows) ≡ []
+rows-none f rows i le = ap (map f) (drop_all i rows le)
+
+-- nothing more is told
+pub told-all : (text all rest : List ℕ) → rest ≡ [] → text ++ rest ≡ all → text ≡ all
+told-all text all rest none told = sym (append-nil text) ∙ rw none at told
+
+-- one line more is told
+pub told-more : (old new line rest all more : List ℕ) → new ≡ old ++ line → more ≡ line ++ rest → old ++ more ≡ all → new ++ rest ≡ all
+told-more old new line rest all more wrote is told = rw (wrote, append_assoc) (rw is at told)
+
+-- How many there are.
+
+length-first : (o : Option Request) (rs : List Request) (n : ℕ) → length rs ≤ n → length (option_map_or (λ r. r ∷ rs) o []) ≤ suc n
+length-first None rs n h = omega arith
+length-first (Some r) rs n h = omega arith
+
+pub length-requests_in : (rows : List Row) → length (requests_in rows) ≤ length rows
+unfolding requests_in
+length-requests_in [] = omega arith
+length-requests_in (row ∷ rows) = length-first (request_of row) (requests_in rows) (length rows) (length-requests_in rows)
+
+pub length-history_of : (s : ModelState) (rs : List Request) → length (history_of s rs) ≡ length rs
+unfolding history_of
+length-history_of s [] = refl
+length-history_of s (r ∷ rs) = ap suc (length-history_of (next s r.machine r.call) rs)
+
+-- the history is legal, since each event has the reply
+pub legal-history_of : (s : ModelState) (rs : List Request) → IsLegal s (history_of s rs)
+unfolding history_of
+legal-history_of s [] = tt
+legal-history_of s (r ∷ rs) = (refl, legal-history_of (next s r.machine r.call) rs)

@@ -1,0 +1,174 @@
+-- A record is a request exactly where its fields are how that request is written.
+use Rattle.std.proofs.Common.{ℕ, ◌≡◌, ◌<◌, ◌≤◌, Bool, true, false, cond, List, [], ◌∷◌, length, Option, Some, None, refl, sym, ◌∙◌, ap, ap₂, ◌↔◌, arith}
+use Rattle.std.specs.List.{find}
+use Rattle.std.specs.Str.{bytes_eq}
+use Rattle.std.specs.Cmp.Lexicographic.{pointwise}
+use Rattle.std.proofs.lemmas.Option.{same_Some}
+use Rattle.std.proofs.lemmas.Slice.Eq.{bytes_eq-Decides, slice_eq-Decides}
+use Rattle.csv.specs.Records.{field_at}
+use Rattle.cell_types.specs.declared.machine.Machine.{Machine}
+use Rattle.cell_types.specs.declared.machine.Machine.TheVariants.{Feed, Table, Robot, Press, Deposit, Crane, Watch}
+use Rattle.cell_types.specs.declared.zone.Zone.{Zone}
+use Rattle.cell_types.specs.declared.zone.Zone.TheVariants.{Z1, Z2, Z3, Z4, Z5, Z6}
+use Rattle.cell_types.specs.declared.pose.Pose.{Pose}
+use Rattle.cell_types.specs.declared.pose.Pose.TheVariants.{Turning, Loading, Unloading, Travelling, Middle, Low, Top, Running, Landing, Halted, Offering, Standing}
+use Rattle.cell_types.specs.declared.call.Call.{Call}
+use Rattle.cell_types.specs.declared.call.Call.TheVariants.{Claim, Give, Yield, Take, Release, SetPose, Advance, Inquire}
+use Rattle.cell_types.specs.Words.{machine_word}
+use Rattle.cell_types.specs.CallWords.{call_fields, object_of, verb_of, with_object}
+use Rattle.cell_types.specs.Everything.{all_machines}
+use Rattle.cell_replay.specs.Requests.{Row, all_calls, call_of, machine_of, request, request_by, request_fields, request_of}
+use Rattle.cell_replay.specs.declared.request.Request.{Request}
+
+-- What is found.
+
+found_step : {A : Type 0} (test : A → Bool) (y x : A) (ys : List A) (b : Bool) → test y ≡ b → cond b (Some y) (find test ys) ≡ Some x → (find test ys ≡ Some x → test x ≡ true) → test x ≡ true
+found_step test y x ys true is e rest = rw (← same_Some y x e) is
+found_step test y x ys false is e rest = rest e
+
+-- it passes the test
+found_passes : {A : Type 0} (test : A → Bool) (xs : List A) (x : A) → find test xs ≡ Some x → test x ≡ true
+found_passes test [] x e = absurd (cc)
+found_passes test (y ∷ ys) x e = found_step test y x ys (test y) refl e (found_passes test ys x)
+
+-- Machines.
+
+machine_of-word : (machine : Machine) → machine_of (machine_word machine) ≡ Some machine
+unfolding machine_of
+machine_of-word Feed = refl
+machine_of-word Table = refl
+machine_of-word Robot = refl
+machine_of-word Press = refl
+machine_of-word Deposit = refl
+machine_of-word Crane = refl
+machine_of-word Watch = refl
+
+machine_of-is : (word : List ℕ) (machine : Machine) → machine_of word ≡ Some machine → word ≡ machine_word machine
+unfolding machine_of
+machine_of-is word machine e = sym ((bytes_eq-Decides (machine_word machine) word).0 (found_passes (λ m. bytes_eq (machine_word m) word) all_machines machine e))
+
+-- Calls.
+
+call_of-zone : (make : Zone → Call) → call_of (call_fields (make Z1)) ≡ Some (make Z1) → call_of (call_fields (make Z2)) ≡ Some (make Z2) → call_of (call_fields (make Z3)) ≡ Some (make Z3)
+    → call_of (call_fields (make Z4)) ≡ Some (make Z4) → call_of (call_fields (make Z5)) ≡ Some (make Z5) → call_of (call_fields (make Z6)) ≡ Some (make Z6) → (z : Zone) → call_of (call_fields (make z)) ≡ Some (make z)
+call_of-zone make a b c d e f Z1 = a
+call_of-zone make a b c d e f Z2 = b
+call_of-zone make a b c d e f Z3 = c
+call_of-zone make a b c d e f Z4 = d
+call_of-zone make a b c d e f Z5 = e
+call_of-zone make a b c d e f Z6 = f
+
+call_of-pose : (pose : Pose) → call_of (call_fields (SetPose pose)) ≡ Some (SetPose pose)
+unfolding call_of
+call_of-pose Turning = refl
+call_of-pose Loading = refl
+call_of-pose Unloading = refl
+call_of-pose Travelling = refl
+call_of-pose Middle = refl
+call_of-pose Low = refl
+call_of-pose Top = refl
+call_of-pose Running = refl
+call_of-pose Landing = refl
+call_of-pose Halted = refl
+call_of-pose Offering = refl
+call_of-pose Standing = refl
+
+call_of-fields : (call : Call) → call_of (call_fields call) ≡ Some call
+unfolding call_of
+call_of-fields (Claim z) = call_of-zone Claim refl refl refl refl refl refl z
+call_of-fields (Give z) = call_of-zone Give refl refl refl refl refl refl z
+call_of-fields (Yield z) = call_of-zone Yield refl refl refl refl refl refl z
+call_of-fields (Take z) = call_of-zone Take refl refl refl refl refl refl z
+call_of-fields (Release z) = call_of-zone Release refl refl refl refl refl refl z
+call_of-fields (SetPose pose) = call_of-pose pose
+call_of-fields Advance = refl
+call_of-fields (Inquire z) = call_of-zone Inquire refl refl refl refl refl refl z
+
+call_of-is : (fields : Row) (call : Call) → call_of fields ≡ Some call → fields ≡ call_fields call
+unfolding call_of
+call_of-is fields call e = sym ((slice_eq-Decides bytes_eq-Decides (call_fields call) fields _ refl).0 (found_passes (λ c. pointwise bytes_eq (call_fields c) fields) all_calls call e))
+
+-- Requests.
+
+request_by-is : (o : Option Machine) (p : Option Call) (r : Request) → request_by o p ≡ Some r → (o ≡ Some r.machine) × (p ≡ Some r.call)
+request_by-is None p r e = absurd (cc)
+request_by-is (Some machine) None r e = absurd (cc)
+request_by-is (Some machine) (Some call) r e = let same = same_Some (request machine call) r e in (ap (λ (x : Request). Some x.machine) same, ap (λ (x : Request). Some x.call) same)
+
+pub request_of-written : (fields : Row) (r : Request) → (request_of fields ≡ Some r) ↔ (fields ≡ request_fields r)
+unfolding request_of
+request_of-written [] r = (λ e. absurd (cc), λ e. absurd (cc))
+request_of-written (word ∷ fields) r = (
+  λ e. let is = request_by-is (machine_of word) (call_of fields) r e in ap₂ (λ w fs. w ∷ fs) (machine_of-is word r.machine is.0) (call_of-is fields r.call is.1),
+  λ e.
+      let machine : machine_of word ≡ Some r.machine = (let same : word ≡ machine_word r.machine = cc in ap machine_of same ∙ machine_of-word r.machine) in
+      let call : call_of fields ≡ Some r.call = (let same : fields ≡ call_fields r.call = cc in ap call_of same ∙ call_of-fields r.call) in
+      rw (machine, call) refl,
+)
+
+-- two answers that are the same request or none alike
+pub same_answer : {A : Type 0} (o p : Option A) → ((x : A) → (o ≡ Some x) ↔ (p ≡ Some x)) → o ≡ p
+same_answer None None h = refl
+same_answer None (Some y) h = (h y).1 refl
+same_answer (Some x) p h = sym ((h x).0 refl)
+
+pub same_request : (fields : Row) (o : Option Request) → ((r : Request) → (o ≡ Some r) ↔ (fields ≡ request_fields r)) → o ≡ request_of fields
+same_request fields o h = same_answer o (request_of fields) (λ r. (λ e. (request_of-written fields r).1 ((h r).0 e), λ e. (h r).1 ((request_of-written fields r).0 e)))
+
+-- What the code has read of a record.
+
+-- a record of two or three fields
+fields_are : (fields : Row) (word verb : List ℕ) (object : Option (List ℕ)) → length fields ≤ 3 → field_at fields 0 ≡ Some word → field_at fields 1 ≡ Some verb → object ≡ field_at fields 2 → fields ≡ word ∷ with_object verb object
+unfolding field_at
+fields_are [] word verb object short e f g = absurd (cc)
+fields_are (a ∷ []) word verb object short e f g = absurd (cc)
+fields_are (a ∷ b ∷ []) word verb object short e f g = rw g (ap₂ (λ x y. x ∷ y ∷ []) (same_Some a word e) (same_Some b verb f))
+fields_are (a ∷ b ∷ c ∷ []) word verb object short e f g = rw g (ap₂ (λ x y. x ∷ y ∷ c ∷ []) (same_Some a word e) (same_Some b verb f))
+fields_are (a ∷ b ∷ c ∷ d ∷ fields) word verb object short e f g = absurd (omega arith)
+
+-- a word and a call that were read, or not
+read_as : (fields : Row) (word verb : List ℕ) (object : Option (List ℕ)) (o : Option Machine) (p : Option Call) → fields ≡ word ∷ with_object verb object
+    → ((m : Machine) → (o ≡ Some m) ↔ (word ≡ machine_word m)) → ((c : Call) → (p ≡ Some c) ↔ (with_object verb object ≡ call_fields c))
+    → (r : Request) → (request_by o p ≡ Some r) ↔ (fields ≡ request_fields r)
+read_as fields word verb object o p is machine call r = (
+  λ e. let found = request_by-is o p r e in is ∙ ap₂ (λ w fs. w ∷ fs) ((machine r.machine).0 found.0) ((call r.call).0 found.1),
+  λ e.
+      let both : word ∷ with_object verb object ≡ machine_word r.machine ∷ call_fields r.call = sym is ∙ e in
+      let first : word ≡ machine_word r.machine = cc in
+      let rest : with_object verb object ≡ call_fields r.call = cc in
+      rw ((machine r.machine).1 first, (call r.call).1 rest) refl,
+)
+
+pub read_whole : (fields : Row) (word verb : List ℕ) (object : Option (List ℕ)) (m : Machine) (p : Option Call) → length fields ≤ 3 → field_at fields 0 ≡ Some word → field_at fields 1 ≡ Some verb
+    → object ≡ field_at fields 2 → ((n : Machine) → (Some m ≡ Some n) ↔ (word ≡ machine_word n)) → ((c : Call) → (p ≡ Some c) ↔ (with_object verb object ≡ call_fields c))
+    → (r : Request) → (request_by (Some m) p ≡ Some r) ↔ (fields ≡ request_fields r)
+read_whole fields word verb object m p short e f g machine call = read_as fields word verb object (Some m) p (fields_are fields word verb object short e f g) machine call
+
+refused : (fields : Row) → ((r : Request) → fields ≡ request_fields r → ⊥) → (r : Request) → (None ≡ Some r) ↔ (fields ≡ request_fields r)
+refused fields never r = (λ e. absurd (cc), λ e. absurd (never r e))
+
+short_request : (word verb : List ℕ) (object : Option (List ℕ)) → length (word ∷ with_object verb object) ≤ 3
+short_request word verb None = omega arith
+short_request word verb (Some object) = omega arith
+
+pub read_long : (fields : Row) → 3 < length fields → (r : Request) → (None ≡ Some r) ↔ (fields ≡ request_fields r)
+read_long fields long = refused fields (λ r e. let short = short_request (machine_word r.machine) (verb_of r.call) (object_of r.call) in omega (arith, ap length e, short))
+
+pub read_empty : (fields : Row) → field_at fields 0 ≡ None → (r : Request) → (None ≡ Some r) ↔ (fields ≡ request_fields r)
+unfolding field_at
+read_empty fields none = refused fields (λ r e. let bad : Some (machine_word r.machine) ≡ None = rw e at none in absurd (cc))
+
+verb_there : (word verb : List ℕ) (object : Option (List ℕ)) → field_at (word ∷ with_object verb object) 1 ≡ Some verb
+unfolding field_at
+verb_there word verb None = refl
+verb_there word verb (Some object) = refl
+
+pub read_alone : (fields : Row) → field_at fields 1 ≡ None → (r : Request) → (None ≡ Some r) ↔ (fields ≡ request_fields r)
+read_alone fields none = refused fields (λ r e. let bad : Some (verb_of r.call) ≡ None = sym (verb_there (machine_word r.machine) (verb_of r.call) (object_of r.call)) ∙ rw e at none in absurd (cc))
+
+pub read_other : (fields : Row) (word : List ℕ) → field_at fields 0 ≡ Some word → ((m : Machine) → (None ≡ Some m) ↔ (word ≡ machine_word m)) → (r : Request) → (None ≡ Some r) ↔ (fields ≡ request_fields r)
+unfolding field_at
+read_other fields word there machine = refused fields (λ r e.
+    let same : Some (machine_word r.machine) ≡ Some word = rw e at there in
+    let bad : None ≡ Some r.machine = (machine r.machine).1 (sym (same_Some _ _ same)) in
+    absurd (cc))

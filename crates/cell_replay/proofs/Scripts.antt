@@ -1,0 +1,309 @@
+-- What is so of every script.
+use Rattle.std.proofs.Common.{append_assoc, ◌++◌, ℕ, zero, suc, ◌≡◌, ◌<◌, ◌≤◌, ◌+◌, ◌-◌, Bool, true, false, cond, List, [], ◌∷◌, Result, Ok, Err, IfOk, length, map, take, drop, min, nat_lt, nat_le, refl, sym, ◌∙◌, ap, ap₂, arith, Option, Some, None, ◌==◌, ◌&&◌, not, codes, MatchResult, ◌⊎◌, inl, inr}
+use Rattle.std.specs.Prelude.{⊤}
+use Rattle.std.specs.List.{concat, enumerate_from}
+use Rattle.std.specs.Str.{bytes_eq}
+use Rattle.std.proofs.lemmas.Bool.Decides.{nat_tests}
+use Rattle.std.proofs.lemmas.List.{length-take, length-take-le, length-map, take-map, take-take, take_all}
+use Rattle.std.proofs.lemmas.List.FromFn.{length-enumerate_from}
+use native.Mathlib.Decide.{dec_lt}
+use Rattle.cell_types.specs.declared.answer.Event.{Event}
+use Rattle.cell_types.specs.declared.place.Place.TheVariants.{PressIn, PressOut}
+use Rattle.cell_rules.specs.ModelState.{ModelState, last_stamp, size_of}
+use Rattle.cell_rules.specs.PlaceSet.{PlaceSet, has}
+use Rattle.cell_rules.specs.History.{IsLegal}
+use Rattle.cell_rules.specs.Start.{IsStartState, IsStart, places_of, start_state}
+use Rattle.cell_replay.specs.Requests.{Row}
+use Rattle.cell_rules.specs.StartDigits.{is_start, places_in}
+use Rattle.cell_replay.specs.Script.{end_of, event_line, event_lines, events_from, history_of, is_cut_of, lines_from, most_records, most_rows, number_in, outcome_from, requests_in, rows_lines, rows_outcome, rows_start, script_events, script_lines, script_outcome, script_rows, script_start, start_line, start_fields, start_in, start_of, used, without_last}
+use Rattle.cell_replay.specs.declared.script.ScriptFault.{ScriptFault}
+use Rattle.cell_replay.specs.declared.script.ScriptFault.TheVariants.{NoStart, BadStart, BadRow, Long}
+use Rattle.cell_replay.specs.declared.script.Outcome.{Outcome}
+use Rattle.cell_replay.specs.declared.script.Outcome.TheVariants.{Clean, Refused}
+use Rattle.cell_replay.proofs.Lines.{legal-history_of, length-history_of, length-requests_in}
+
+-- The events.
+
+legal-events_from : (start : Result ModelState ScriptFault) (rows : List Row) → IfOk start (λ s. IsLegal s (events_from start rows))
+legal-events_from (Ok s) rows = legal-history_of s (requests_in (take most_records rows))
+legal-events_from (Err fault) rows = tt
+
+pub legal-script_events : (bytes : List ℕ) → IfOk (script_start bytes) (λ s. IsLegal s (script_events bytes))
+unfolding script_start script_events
+legal-script_events bytes = legal-events_from (rows_start (is_cut_of bytes) (script_rows bytes)) (drop 1 (script_rows bytes))
+
+-- The start.
+
+and_parts : (a b : Bool) → (a && b) ≡ true → (a ≡ true) × (b ≡ true)
+and_parts true b e = (refl, e)
+and_parts false b e = absurd (cc)
+
+not_true : (b : Bool) → not b ≡ true → b ≡ false
+not_true true e = absurd (cc)
+not_true false e = refl
+
+le_true : (a b : ℕ) → nat_le a b ≡ true → a ≤ b
+le_true a b e = grind (arith, nat_tests)
+
+start_tested : (full : PlaceSet) (stamp : ℕ) → is_start full stamp ≡ true → IsStart full stamp
+start_tested full stamp e =
+    let all = and_parts (nat_le (size_of full) 6 && not (has full PressIn && has full PressOut)) (nat_le stamp last_stamp) e in
+    let first = and_parts (nat_le (size_of full) 6) (not (has full PressIn && has full PressOut)) all.0 in
+    record {
+      six_plates_at_most = le_true (size_of full) 6 first.0;
+      one_in_press_at_most = not_true (has full PressIn && has full PressOut) first.1;
+      stamp_in_range = le_true stamp last_stamp all.1;
+    }
+
+-- a start that was tested is one, and a fault of record 0 names no later record; that there are too many bytes is one where no record is left
+abbrev pub IsEarly : Bool → ScriptFault → Type 0
+IsEarly is_cut NoStart = ⊤
+IsEarly is_cut BadStart = ⊤
+IsEarly is_cut (BadRow number) = ⊥
+IsEarly is_cut Long = is_cut ≡ true
+
+abbrev pub IsRecord0 : Bool → Result ModelState ScriptFault → Type 0
+IsRecord0 is_cut start = MatchResult start IsStartState (IsEarly is_cut)
+
+start_tested_at : (is_cut : Bool) (full : PlaceSet) (stamp : ℕ) (b : Bool) → is_start full stamp ≡ b → IsRecord0 is_cut (cond b (Ok (start_state full stamp)) (Err BadStart))
+start_tested_at is_cut full stamp true e = record { start = start_tested full stamp e; same = refl }
+start_tested_at is_cut full stamp false e = tt
+
+start_of-record0 : (is_cut : Bool) (flags : Option (List Bool)) (stamp : Option ℕ) → IsRecord0 is_cut (start_of flags stamp)
+start_of-record0 is_cut (Some flags) (Some stamp) = start_tested_at is_cut (places_of flags) stamp (is_start (places_of flags) stamp) refl
+start_of-record0 is_cut (Some flags) None = tt
+start_of-record0 is_cut None stamp = tt
+
+start_fields-record0 : (is_cut : Bool) (fields : Row) → IsRecord0 is_cut (start_fields fields)
+start_fields-record0 is_cut [] = tt
+start_fields-record0 is_cut (places ∷ []) = start_of-record0 is_cut (places_in places) (Some 0)
+start_fields-record0 is_cut (places ∷ stamp ∷ []) = start_of-record0 is_cut (places_in places) (number_in stamp)
+start_fields-record0 is_cut (places ∷ stamp ∷ more ∷ rest) = tt
+
+by_word : (is_cut b : Bool) (start : Result ModelState ScriptFault) → IsRecord0 is_cut start → IsRecord0 is_cut (cond b start (Err NoStart))
+by_word is_cut true start h = h
+by_word is_cut false start h = tt
+
+start_in-record0 : (is_cut : Bool) (row : Row) → IsRecord0 is_cut (start_in row)
+unfolding start_in
+start_in-record0 is_cut [] = tt
+start_in-record0 is_cut (word ∷ fields) = by_word is_cut (bytes_eq word (codes "start")) (start_fields fields) (start_fields-record0 is_cut fields)
+
+no_records : (is_cut : Bool) → IsEarly is_cut (cond is_cut Long NoStart)
+no_records true = refl
+no_records false = tt
+
+rows_start-record0 : (is_cut : Bool) (rows : List Row) → IsRecord0 is_cut (rows_start is_cut rows)
+rows_start-record0 is_cut [] = no_records is_cut
+rows_start-record0 is_cut (row ∷ rows) = start_in-record0 is_cut row
+
+given : (is_cut : Bool) (start : Result ModelState ScriptFault) → IsRecord0 is_cut start → IfOk start IsStartState
+given is_cut (Ok s) h = h
+given is_cut (Err fault) h = tt
+
+pub given-script_start : (bytes : List ℕ) → IfOk (script_start bytes) IsStartState
+unfolding script_start
+given-script_start bytes = given _ _ (rows_start-record0 (is_cut_of bytes) (script_rows bytes))
+
+-- The lines.
+
+length-events_from : (start : Result ModelState ScriptFault) (rows : List Row) → (length (events_from start rows) ≤ length rows) × (length (events_from start rows) ≤ most_records)
+length-events_from (Ok s) rows =
+    let requests = take most_records rows in
+    let each : length (events_from (Ok s) rows) ≡ length (requests_in requests) = length-history_of s (requests_in requests) in
+    let few : length (requests_in requests) ≤ length requests = length-requests_in requests in
+    let most : length requests ≡ min most_records (length rows) = length-take most_records rows in
+    (omega (arith, each, few, most), omega (arith, each, few, most))
+length-events_from (Err fault) rows = (omega arith, omega arith)
+
+length-event_lines : (s : ModelState) (history : List Event) → length (event_lines s history) ≡ length history
+length-event_lines s history = length-map (enumerate_from 1 history) (event_line s history) ∙ length-enumerate_from 1 history
+
+length-lines_from : (start : Result ModelState ScriptFault) (rows : List Row) → length (lines_from start (events_from start rows)) ≤ most_records + 1
+length-lines_from (Ok s) rows = let few = length-events_from (Ok s) rows in omega (arith, length-event_lines s (events_from (Ok s) rows), few.1)
+length-lines_from (Err fault) rows = omega arith
+
+pub length-script_lines : (bytes : List ℕ) → length (script_lines bytes) ≤ 65537
+unfolding script_lines
+length-script_lines bytes = length-lines_from (rows_start (is_cut_of bytes) (script_rows bytes)) (drop 1 (script_rows bytes))
+
+-- a bad row leaves as many lines as its number says
+bad_end : (is_cut few full : Bool) (answered number : ℕ) → cond few (Refused (cond full Long (BadRow (answered + 1)))) (cond is_cut (Refused Long) Clean) ≡ Refused (BadRow number) → number ≡ answered + 1
+bad_end is_cut true true answered number e = absurd (cc)
+bad_end is_cut true false answered number e = cc
+bad_end true false full answered number e = absurd (cc)
+bad_end false false full answered number e = absurd (cc)
+
+lines_at_bad_row : (is_cut : Bool) (start : Result ModelState ScriptFault) (rows : List Row) (number : ℕ) → IsRecord0 is_cut start
+    → outcome_from is_cut start (length (events_from start rows)) (length rows) ≡ Refused (BadRow number) → length (lines_from start (events_from start rows)) ≡ number
+lines_at_bad_row is_cut (Ok s) rows number h e =
+    let answered = length (events_from (Ok s) rows) in
+    let is : number ≡ answered + 1 = bad_end is_cut (nat_lt answered (length rows)) (answered == most_records) answered number e in
+    omega (arith, is, length-event_lines s (events_from (Ok s) rows))
+lines_at_bad_row is_cut (Err NoStart) rows number h e = absurd (cc)
+lines_at_bad_row is_cut (Err BadStart) rows number h e = absurd (cc)
+lines_at_bad_row is_cut (Err (BadRow other)) rows number h e = absurd h
+lines_at_bad_row is_cut (Err Long) rows number h e = absurd (cc)
+
+pub lines-bad_row : (bytes : List ℕ) (number : ℕ) → script_outcome bytes ≡ Refused (BadRow number) → length (script_lines bytes) ≡ number
+unfolding script_outcome script_lines
+lines-bad_row bytes number e =
+    lines_at_bad_row (is_cut_of bytes) (rows_start (is_cut_of bytes) (script_rows bytes)) (drop 1 (script_rows bytes)) number (rows_start-record0 (is_cut_of bytes) (script_rows bytes)) e
+
+-- a clean script has a line for each record
+clean_end : (is_cut few full : Bool) (answered : ℕ) → cond few (Refused (cond full Long (BadRow (answered + 1)))) (cond is_cut (Refused Long) Clean) ≡ Clean → few ≡ false
+clean_end is_cut true full answered e = absurd (cc)
+clean_end is_cut false full answered e = refl
+
+not_fewer : (a b : ℕ) → nat_lt a b ≡ false → b ≤ a
+not_fewer a b e = grind (arith, nat_tests)
+
+lines_of_clean : (is_cut : Bool) (start : Result ModelState ScriptFault) (rows : List Row) → outcome_from is_cut start (length (events_from start rows)) (length rows) ≡ Clean
+    → length (lines_from start (events_from start rows)) ≡ length rows + 1
+lines_of_clean is_cut (Ok s) rows e =
+    let answered = length (events_from (Ok s) rows) in
+    let all : length rows ≤ answered = not_fewer answered (length rows) (clean_end is_cut (nat_lt answered (length rows)) (answered == most_records) answered e) in
+    let few = length-events_from (Ok s) rows in
+    omega (arith, all, few.0, length-event_lines s (events_from (Ok s) rows))
+lines_of_clean is_cut (Err fault) rows e = absurd (cc)
+
+rows_of_clean : (is_cut : Bool) (rows : List Row) → rows_outcome is_cut rows ≡ Clean → length (rows_lines is_cut rows) ≡ length rows
+rows_of_clean is_cut [] e = absurd (cc)
+rows_of_clean is_cut (row ∷ rows) e = (let lines : length (rows_lines is_cut (row ∷ rows)) ≡ length rows + 1 = lines_of_clean is_cut (start_in row) rows e in omega (arith, lines))
+
+pub lines-clean : (bytes : List ℕ) → script_outcome bytes ≡ Clean → length (script_lines bytes) ≡ length (script_rows bytes)
+unfolding script_outcome script_lines
+lines-clean bytes e = rows_of_clean (is_cut_of bytes) (script_rows bytes) e
+
+-- a long script has a line for each record that is used, as far as records are answered
+long_end : (is_cut few full : Bool) (answered : ℕ) → cond few (Refused (cond full Long (BadRow (answered + 1)))) (cond is_cut (Refused Long) Clean) ≡ Refused Long
+    → ((few ≡ true) × (full ≡ true)) ⊎ ((few ≡ false) × (is_cut ≡ true))
+long_end is_cut true true answered e = inl (refl, refl)
+long_end is_cut true false answered e = absurd (cc)
+long_end true false full answered e = inr (refl, refl)
+long_end false false full answered e = absurd (cc)
+
+fewer : (a b : ℕ) → nat_lt a b ≡ true → a < b
+fewer a b e = grind (arith, nat_tests)
+
+same_number : (a b : ℕ) → (a == b) ≡ true → a ≡ b
+same_number a b e = grind (arith, nat_tests)
+
+lines_of_long : (is_cut : Bool) (start : Result ModelState ScriptFault) (rows : List Row) → IsRecord0 false start
+    → outcome_from is_cut start (length (events_from start rows)) (length rows) ≡ Refused Long
+    → (length (lines_from start (events_from start rows)) ≡ min 65537 (length rows + 1)) × ((is_cut ≡ true) ⊎ (65537 ≤ length rows))
+lines_of_long is_cut (Ok s) rows h e =
+    let answered = length (events_from (Ok s) rows) in
+    let few = length-events_from (Ok s) rows in
+    let lines = length-event_lines s (events_from (Ok s) rows) in
+    elim (long_end is_cut (nat_lt answered (length rows)) (answered == most_records) answered e) [
+      | inl more ↦
+          let lt : answered < length rows = fewer answered (length rows) more.0 in
+          let all : answered ≡ most_records = same_number answered most_records more.1 in
+          (omega (arith, lt, all, lines), inr (omega (arith, lt, all)))
+      | inr cut ↦ let each : length rows ≤ answered = not_fewer answered (length rows) cut.0 in (omega (arith, each, few.0, few.1, lines), inl cut.1)
+    ]
+lines_of_long is_cut (Err NoStart) rows h e = absurd (cc)
+lines_of_long is_cut (Err BadStart) rows h e = absurd (cc)
+lines_of_long is_cut (Err (BadRow number)) rows h e = absurd h
+lines_of_long is_cut (Err Long) rows h e = absurd (cc)
+
+rows_of_long : (is_cut : Bool) (rows : List Row) → rows_outcome is_cut rows ≡ Refused Long → length (rows_lines is_cut rows) ≡ min 65537 (length rows)
+rows_of_long is_cut [] e = omega arith
+rows_of_long is_cut (row ∷ rows) e = (let lines = (lines_of_long is_cut (start_in row) rows (start_in-record0 false row) e).0 in omega (arith, lines))
+
+rows_of_long_whole : (is_cut : Bool) (rows : List Row) → is_cut ≡ false → rows_outcome is_cut rows ≡ Refused Long → length (rows_lines is_cut rows) ≡ 65537
+rows_of_long_whole true rows whole e = absurd (cc)
+rows_of_long_whole false [] whole e = absurd (cc)
+rows_of_long_whole false (row ∷ rows) whole e =
+    let lines = lines_of_long false (start_in row) rows (start_in-record0 false row) e in
+    elim lines.1 [
+      | inl cut ↦ absurd (cc)
+      | inr many ↦ omega (arith, lines.0, many)
+    ]
+
+pub lines-cut : (bytes : List ℕ) → script_outcome bytes ≡ Refused Long → length (script_lines bytes) ≡ min 65537 (length (script_rows bytes))
+unfolding script_outcome script_lines
+lines-cut bytes e = rows_of_long (is_cut_of bytes) (script_rows bytes) e
+
+not_cut : (bytes : List ℕ) → length bytes ≤ 4194304 → is_cut_of bytes ≡ false
+not_cut bytes few = grind (arith, nat_tests)
+
+pub lines-long : (bytes : List ℕ) → script_outcome bytes ≡ Refused Long → length bytes ≤ 4194304 → length (script_lines bytes) ≡ 65537
+unfolding script_outcome script_lines
+lines-long bytes e few = rows_of_long_whole (is_cut_of bytes) (script_rows bytes) (not_cut bytes few) e
+
+-- Records that are too many change nothing.
+
+lt-min : (n k m : ℕ) → n < k → nat_lt n (min k m) ≡ nat_lt n m
+lt-min n k m lt = grind (arith, nat_tests)
+
+end_of-take : (is_cut : Bool) (answered k count : ℕ) → answered < k → end_of is_cut answered (min k count) ≡ end_of is_cut answered count
+end_of-take is_cut answered k count room = rw (lt-min answered k count room) refl
+
+events_from-take : (start : Result ModelState ScriptFault) (k : ℕ) (rows : List Row) → most_records ≤ k → events_from start (take k rows) ≡ events_from start rows
+events_from-take (Ok s) k rows room = ap (λ r. history_of s (requests_in r)) (take-take most_records k rows room)
+events_from-take (Err fault) k rows room = refl
+
+outcome_from-take : (is_cut : Bool) (start : Result ModelState ScriptFault) (k : ℕ) (rows : List Row) → most_records < k
+    → outcome_from is_cut start (length (events_from start (take k rows))) (length (take k rows)) ≡ outcome_from is_cut start (length (events_from start rows)) (length rows)
+outcome_from-take is_cut (Ok s) k rows room =
+    let few = length-events_from (Ok s) rows in
+    ap₂ (end_of is_cut) (ap length (events_from-take (Ok s) k rows (omega arith))) (length-take k rows) ∙ end_of-take is_cut (length (events_from (Ok s) rows)) k (length rows) (omega (arith, few.1))
+outcome_from-take is_cut (Err fault) k rows room = refl
+
+rows_lines-take : (is_cut : Bool) (k : ℕ) (rows : List Row) → most_records + 1 < k → rows_lines is_cut (take k rows) ≡ rows_lines is_cut rows
+rows_lines-take is_cut zero rows room = absurd (omega arith)
+rows_lines-take is_cut (suc k) [] room = refl
+rows_lines-take is_cut (suc k) (row ∷ rows) room = ap (lines_from (start_in row)) (events_from-take (start_in row) k rows (omega arith))
+
+rows_outcome-take : (is_cut : Bool) (k : ℕ) (rows : List Row) → most_records + 1 < k → rows_outcome is_cut (take k rows) ≡ rows_outcome is_cut rows
+rows_outcome-take is_cut zero rows room = absurd (omega arith)
+rows_outcome-take is_cut (suc k) [] room = refl
+rows_outcome-take is_cut (suc k) (row ∷ rows) room = outcome_from-take is_cut (start_in row) k rows (omega arith)
+
+-- what doesn't depend on records that are too many is the same of all records and of those that are looked at
+used-take : {A : Type 0} (f : List Row → A) → ((k : ℕ) (rows : List Row) → most_records + 1 < k → f (take k rows) ≡ f rows)
+    → (is_cut : Bool) (rows : List Row) → f (used is_cut (take most_rows rows)) ≡ f (used is_cut rows)
+used-take f same false rows = same most_rows rows (omega arith)
+used-take f same true rows =
+    elim (dec_lt (length rows) most_rows) [
+      | yes few ↦ let all : take most_rows rows ≡ rows = take_all most_rows rows (omega arith) in ap (λ r. f (without_last r)) all
+      | no many ↦
+          let count : length (take most_rows rows) ≡ most_rows = length-take-le most_rows rows (omega arith) in
+          let front : take (most_rows - 1) (take most_rows rows) ≡ take (most_rows - 1) rows = take-take (most_rows - 1) most_rows rows (omega arith) in
+          rw (count, front) (same (most_rows - 1) rows (omega arith) ∙ sym (same (length rows - 1) rows (omega arith)))
+    ]
+
+pub rows_lines-used : (is_cut : Bool) (rows : List Row) → rows_lines is_cut (used is_cut (take most_rows rows)) ≡ rows_lines is_cut (used is_cut rows)
+rows_lines-used is_cut rows = used-take (rows_lines is_cut) (rows_lines-take is_cut) is_cut rows
+
+pub rows_outcome-used : (is_cut : Bool) (rows : List Row) → rows_outcome is_cut (used is_cut (take most_rows rows)) ≡ rows_outcome is_cut (used is_cut rows)
+rows_outcome-used is_cut rows = used-take (rows_outcome is_cut) (rows_outcome-take is_cut) is_cut rows
+
+-- What the code has told.
+
+-- of the first records at most so many
+first_rows : {A : Type 0} (k : ℕ) (rows : List A) → take (min (length rows) k) rows ≡ take k rows
+first_rows {A} zero rows = let none : min (length rows) zero ≡ zero = omega arith in ap (λ (n : ℕ). take n rows) none
+first_rows {A} (suc k) [] = let none : min zero (suc k) ≡ zero = omega arith in ap (λ (n : ℕ). take {A = A} n []) none
+first_rows {A} (suc k) (row ∷ rows) =
+    let both : min (suc (length rows)) (suc k) ≡ suc (min (length rows) k) = omega arith in
+    ap (λ (n : ℕ). take n (row ∷ rows)) both ∙ ap (λ (r : List A). row ∷ r) (first_rows k rows)
+
+pub first_rows_mapped : {A B : Type 0} (f : A → B) (k : ℕ) (rows : List A) → map f (take (min (length rows) k) rows) ≡ take k (map f rows)
+first_rows_mapped f k rows = ap (map f) (first_rows k rows) ∙ sym (take-map f k rows)
+
+pub lines_told : (is_cut : Bool) (rows later : List Row) (row : Row) (s : ModelState) (old mid new : List ℕ) → rows ≡ row ∷ later → start_in row ≡ Ok s → mid ≡ old ++ start_line s
+    → new ≡ mid ++ concat (event_lines s (history_of s (requests_in (take most_records later)))) → new ≡ old ++ concat (rows_lines is_cut rows)
+lines_told is_cut rows later row s old mid new split start first rest =
+    let lines : rows_lines is_cut (row ∷ later) ≡ start_line s ∷ event_lines s (history_of s (requests_in (take most_records later))) = ap (λ (t : Result ModelState ScriptFault). lines_from t (events_from t later)) start in
+    rw (split, lines) (rest ∙ ap (λ t. t ++ concat (event_lines s (history_of s (requests_in (take most_records later))))) first ∙ append_assoc old (start_line s) _)
+
+pub outcome_told : (is_cut : Bool) (rows later : List Row) (row : Row) (s : ModelState) (answered count : ℕ) (o : Outcome) → rows ≡ row ∷ later → start_in row ≡ Ok s
+    → answered ≡ length (requests_in (take most_records later)) → count ≡ length later → o ≡ end_of is_cut answered count → o ≡ rows_outcome is_cut rows
+outcome_told is_cut rows later row s answered count o split start n m is =
+    let events : answered ≡ length (history_of s (requests_in (take most_records later))) = n ∙ sym (length-history_of s (requests_in (take most_records later))) in
+    let outcome : rows_outcome is_cut (row ∷ later) ≡ end_of is_cut (length (history_of s (requests_in (take most_records later)))) (length later)
+    = ap (λ (t : Result ModelState ScriptFault). outcome_from is_cut t (length (events_from t later)) (length later)) start in
+    rw split (is ∙ ap₂ (end_of is_cut) events m ∙ sym outcome)

@@ -1,0 +1,24 @@
+-- What a replay that failed has written.
+use Rattle.std.specs.Prelude.{ℕ, List, take, Option}
+use Rattle.std.specs.List.{concat}
+use Rattle.std.specs.Io.KnownBytes.{Appends}
+pub use Rattle.cell_text.specs.Output.{WroteFront}
+use Rattle.cell_replay.specs.Script.{script_lines, script_text}
+use Rattle.cell_text.specs.declared.input.InputFault.{InputFault}
+use Rattle.cell_text.specs.declared.input.InputFault.TheVariants as input
+use Rattle.cell_replay.specs.declared.script.ReplayFault.{ReplayFault}
+use Rattle.cell_replay.specs.declared.script.ReplayFault.TheVariants.{Read, Write, Memory}
+
+-- whole lines were written, those of the first records
+abbrev pub WroteLines : Option (List ℕ) → Option (List ℕ) → List (List ℕ) → Type 0
+WroteLines old new lines = (n : ℕ) × Appends old new (concat (take n lines))
+
+abbrev pub Leaves : ReplayFault → List ℕ → Option (List ℕ) → Option (List ℕ) → Type 0
+Leaves Read bytes old new = WroteLines old new (script_lines bytes)
+Leaves Memory bytes old new = WroteLines old new (script_lines bytes)
+Leaves Write bytes old new = WroteFront old new (script_text bytes)
+
+-- the fault of a replay whose input wasn't read
+abbrev pub replay_fault_of : InputFault → ReplayFault
+replay_fault_of input.Read = Read
+replay_fault_of input.Memory = Memory

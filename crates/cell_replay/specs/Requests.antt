@@ -1,0 +1,43 @@
+-- Which machine asks for what in a record of a script.
+use Rattle.std.specs.Prelude.{ℕ, List, [], ◌∷◌, ◌++◌, map, find, Option, Some, None}
+use Rattle.std.specs.Str.{bytes_eq}
+use Rattle.std.specs.Cmp.Lexicographic.{pointwise}
+use Rattle.cell_types.specs.declared.machine.Machine.{Machine}
+use Rattle.cell_types.specs.declared.call.Call.{Call}
+use Rattle.cell_types.specs.declared.call.Call.TheVariants.{Claim, Give, Yield, Take, Release, SetPose, Advance, Inquire}
+use Rattle.cell_types.specs.Words.{machine_word}
+use Rattle.cell_types.specs.CallWords.{call_fields}
+use Rattle.cell_types.specs.Everything.{all_machines, all_zones, all_poses}
+use Rattle.cell_replay.specs.declared.request.Request.{Request}
+
+-- a record as it was read: its fields
+abbrev pub Row : Type 0
+Row = List (List ℕ)
+
+-- how a request is written: the machine's word, and the fields of its call
+abbrev pub request_fields : Request → Row
+request_fields request = machine_word request.machine ∷ call_fields request.call
+
+abbrev pub request : Machine → Call → Request
+request machine call = record { machine = machine; call = call }
+
+abbrev pub all_calls : List Call
+all_calls = map Claim all_zones ++ map Give all_zones ++ map Yield all_zones ++ map Take all_zones ++ map Release all_zones ++ map SetPose all_poses ++ map Inquire all_zones ++ Advance ∷ []
+
+-- the machine with this word
+unfoldable pub machine_of : List ℕ → Option Machine
+machine_of word = find (λ machine. bytes_eq (machine_word machine) word) all_machines
+
+-- the call with these fields
+unfoldable pub call_of : Row → Option Call
+call_of fields = find (λ call. pointwise bytes_eq (call_fields call) fields) all_calls
+
+abbrev pub request_by : Option Machine → Option Call → Option Request
+request_by (Some machine) (Some call) = Some (request machine call)
+request_by (Some machine) None = None
+request_by None call = None
+
+-- the request with these fields
+unfoldable pub request_of : Row → Option Request
+request_of [] = None
+request_of (word ∷ fields) = request_by (machine_of word) (call_of fields)

@@ -1,0 +1,169 @@
+-- What a script is answered.
+use Rattle.std.specs.Prelude.{ℕ, ◌+◌, ◌-◌, ◌*◌, ◌==◌, ◌&&◌, ◌||◌, Bool, not, List, [], ◌∷◌, ◌++◌, length, map, take, drop, codes, nat_lt, nat_le, Option, Some, None, Result, Ok, Err, if◌then◌else◌}
+use Rattle.std.specs.Char.{is_ascii_digit}
+use Rattle.std.specs.Fmt.{decimal}
+use Rattle.std.specs.List.{concat, enumerate_from, list_all}
+use Rattle.std.specs.Option.{option_map_or}
+use Rattle.std.specs.Str.{bytes_eq}
+use Rattle.csv.specs.Reading.{default_config, records, strip_bom}
+use Rattle.cell_types.specs.declared.answer.Event.{Event}
+use Rattle.cell_types.specs.Answers.{answer_text}
+use Rattle.cell_rules.specs.ModelState.{ModelState, plates_of}
+use Rattle.cell_rules.specs.PlaceSet.{PlaceSet}
+use Rattle.cell_rules.specs.Start.{places_of, start_state}
+use Rattle.cell_rules.specs.StartDigits.{places_in, is_start}
+use Rattle.cell_rules.specs.Reply.{next, reply}
+use Rattle.cell_rules.specs.History.{after}
+use Rattle.cell_replay.specs.Requests.{Row, request_of}
+use Rattle.cell_replay.specs.declared.request.Request.{Request}
+use Rattle.cell_replay.specs.declared.script.ScriptFault.{ScriptFault}
+use Rattle.cell_replay.specs.declared.script.ScriptFault.TheVariants.{NoStart, BadStart, BadRow, Long}
+use Rattle.cell_replay.specs.declared.script.Outcome.{Outcome}
+use Rattle.cell_replay.specs.declared.script.Outcome.TheVariants.{Clean, Refused}
+
+-- how many bytes of a script are used, and how many records after record 0 are answered
+abbrev pub byte_limit : ℕ
+byte_limit = 4194304
+
+abbrev pub most_records : ℕ
+most_records = 65536
+
+-- one byte more tells whether there is more than is used
+abbrev pub most_bytes_read : ℕ
+most_bytes_read = 4194305
+
+-- more records than this change nothing: record 0, those after it, one too many, and the last of a cut script
+abbrev pub most_rows : ℕ
+most_rows = 65539
+
+-- the number that digits write, after those of a number
+abbrev pub read_on : ℕ → List ℕ → ℕ
+read_on number [] = number
+read_on number (digit ∷ digits) = read_on (10 * number + (digit - 48)) digits
+
+-- one to seven digits
+abbrev pub is_number : List ℕ → Bool
+is_number field = nat_lt 0 (length field) && nat_le (length field) 7 && list_all is_ascii_digit field
+
+abbrev pub number_in : List ℕ → Option ℕ
+number_in field = if is_number field then Some (read_on 0 field) else None
+
+abbrev pub start_at : PlaceSet → ℕ → Result ModelState ScriptFault
+start_at full stamp = if is_start full stamp then Ok (start_state full stamp) else Err BadStart
+
+abbrev pub start_of : Option (List Bool) → Option ℕ → Result ModelState ScriptFault
+start_of (Some flags) (Some stamp) = start_at (places_of flags) stamp
+start_of (Some flags) None = Err BadStart
+start_of None stamp = Err BadStart
+
+-- the start of the fields behind the word `start`: the places, and the stamp, which is 0 where there is none
+abbrev pub start_fields : Row → Result ModelState ScriptFault
+start_fields [] = Err BadStart
+start_fields (places ∷ []) = start_of (places_in places) (Some 0)
+start_fields (places ∷ stamp ∷ []) = start_of (places_in places) (number_in stamp)
+start_fields (places ∷ stamp ∷ more ∷ rest) = Err BadStart
+
+-- the start that record 0 gives
+unfoldable pub start_in : Row → Result ModelState ScriptFault
+start_in [] = Err NoStart
+start_in (word ∷ fields) = if bytes_eq word (codes "start") then start_fields fields else Err NoStart
+
+-- the requests of the records up to the first that isn't one
+unfoldable pub requests_in : List Row → List Request
+requests_in [] = []
+requests_in (row ∷ rows) = option_map_or (λ request. request ∷ requests_in rows) (request_of row) []
+
+-- the history of requests that are made in turn
+abbrev pub event_of : ModelState → Request → Event
+event_of s request = record { machine = request.machine; call = request.call; answer = reply s request.machine request.call }
+
+unfoldable pub history_of : ModelState → List Request → List Event
+history_of s [] = []
+history_of s (request ∷ requests) = event_of s request ∷ history_of (next s request.machine request.call) requests
+
+-- a line: a record's number, the stamp after it, and what is told of it
+abbrev pub line_of : ℕ → ℕ → List ℕ → List ℕ
+line_of number stamp text = decimal number ++ 32 ∷ (decimal stamp ++ 32 ∷ (text ++ 10 ∷ []))
+
+abbrev pub start_line : ModelState → List ℕ
+start_line s = line_of 0 s.stamp (codes "start " ++ decimal (plates_of s))
+
+-- the line of the event with this number, from 1 on
+abbrev pub event_line : ModelState → List Event → ℕ × Event → List ℕ
+event_line s history (number, event) = line_of number (after s (take number history)).stamp (answer_text event.answer)
+
+abbrev pub event_lines : ModelState → List Event → List (List ℕ)
+event_lines s history = map (event_line s history) (enumerate_from 1 history)
+
+-- The script of records, of which the first is record 0: its start, its events, its lines, and how it ends.
+abbrev pub rows_start : Bool → List Row → Result ModelState ScriptFault
+rows_start is_cut [] = Err (if is_cut then Long else NoStart)
+rows_start is_cut (row ∷ rows) = start_in row
+
+abbrev pub events_from : Result ModelState ScriptFault → List Row → List Event
+events_from (Ok s) rows = history_of s (requests_in (take most_records rows))
+events_from (Err fault) rows = []
+
+abbrev pub rows_events : Bool → List Row → List Event
+rows_events is_cut rows = events_from (rows_start is_cut rows) (drop 1 rows)
+
+abbrev pub lines_from : Result ModelState ScriptFault → List Event → List (List ℕ)
+lines_from (Ok s) history = start_line s ∷ event_lines s history
+lines_from (Err fault) history = []
+
+abbrev pub rows_lines : Bool → List Row → List (List ℕ)
+rows_lines is_cut rows = lines_from (rows_start is_cut rows) (rows_events is_cut rows)
+
+-- how a script ends of whose records after record 0 so many are answered
+abbrev pub end_of : Bool → ℕ → ℕ → Outcome
+end_of is_cut answered count =
+    if nat_lt answered count then Refused (if answered == most_records then Long else BadRow (answered + 1)) else if is_cut then Refused Long else Clean
+
+abbrev pub outcome_from : Bool → Result ModelState ScriptFault → ℕ → ℕ → Outcome
+outcome_from is_cut (Ok s) answered count = end_of is_cut answered count
+outcome_from is_cut (Err fault) answered count = Refused fault
+
+abbrev pub rows_outcome : Bool → List Row → Outcome
+rows_outcome is_cut rows = outcome_from is_cut (rows_start is_cut rows) (length (rows_events is_cut rows)) (length (drop 1 rows))
+
+abbrev pub fault_text : ScriptFault → List ℕ
+fault_text NoStart = codes "nostart"
+fault_text BadStart = codes "badstart"
+fault_text (BadRow number) = codes "badrow " ++ decimal number
+fault_text Long = codes "long"
+
+-- the last line of a script that is refused
+abbrev pub end_text : Outcome → List ℕ
+end_text Clean = []
+end_text (Refused fault) = codes "fault " ++ (fault_text fault ++ 10 ∷ [])
+
+-- there are more bytes than are used
+abbrev pub is_cut_of : List ℕ → Bool
+is_cut_of bytes = nat_lt byte_limit (length bytes)
+
+-- of the records of a cut script the last is left out
+abbrev pub without_last : List Row → List Row
+without_last rows = take (length rows - 1) rows
+
+abbrev pub used : Bool → List Row → List Row
+used is_cut rows = if is_cut then without_last rows else rows
+
+abbrev pub script_rows : List ℕ → List Row
+script_rows bytes = used (is_cut_of bytes) (records default_config (strip_bom (take byte_limit bytes)))
+
+-- The script of bytes.
+unfoldable pub script_start : List ℕ → Result ModelState ScriptFault
+script_start bytes = rows_start (is_cut_of bytes) (script_rows bytes)
+
+unfoldable pub script_events : List ℕ → List Event
+script_events bytes = rows_events (is_cut_of bytes) (script_rows bytes)
+
+unfoldable pub script_lines : List ℕ → List (List ℕ)
+script_lines bytes = rows_lines (is_cut_of bytes) (script_rows bytes)
+
+unfoldable pub script_outcome : List ℕ → Outcome
+script_outcome bytes = rows_outcome (is_cut_of bytes) (script_rows bytes)
+
+-- what is written for a script
+unfoldable pub script_text : List ℕ → List ℕ
+script_text bytes = concat (script_lines bytes) ++ end_text (script_outcome bytes)

@@ -1,0 +1,13 @@
+//! What a script is answered: `replay`, from the bytes of a script to the bytes of its answers.
+#![tactic(auto)]
+
+pub mod laws;
+mod records;
+pub mod replays;
+mod request;
+pub mod script;
+mod start;
+mod tell;
+
+pub use replays::replay;
+pub use script::{Outcome, ReplayFault, ScriptFault};

@@ -1,0 +1,64 @@
+//! Reads the start that record 0 gives.
+
+ghost use Rattle.std.specs.Prelude.{◌≡◌, ◌==◌, ◌<◌, Some};
+ghost use Rattle.csv.specs.Records.{fields_of};
+ghost use Rattle.cell_replay.specs.Script as script;
+
+use crate::script::ScriptFault;
+use cell_rules::{PLACES, State, read_places};
+use csv::ByteRecord;
+
+/// The most digits that a stamp may have.
+const MOST_DIGITS: usize = 7;
+
+/// The number of one to seven digits.
+fn read_number(field: &[u8]) -> Option<u32>
+    ensures { result ≡ script.number_in field.now }
+{
+    if field.is_empty() || field.len() > MOST_DIGITS {
+        return None;
+    }
+    let mut number = 0u32;
+    'digits: for byte in field {
+        if !byte.is_ascii_digit() {
+            return None;
+        }
+        number = 10 * number + u32::from(*byte - b'0');
+    }
+    Some(number)
+}
+
+/// The start with these places and this stamp.
+fn start_of(places: Option<[bool; PLACES]>, stamp: Option<u32>) -> Result<State, ScriptFault>
+    ensures { result ≡ script.start_of places stamp }
+{
+    match (places, stamp) {
+        (Some(places), Some(stamp)) => {
+            State::start(places, stamp).map_err(|_| ScriptFault::BadStart)
+        }
+        _ => Err(ScriptFault::BadStart),
+    }
+}
+
+/// The start that a record gives, where it is record 0.
+#[tactic(auto, using(crate::proofs::Starts::start_shapes))]
+pub fn read_start(row: &ByteRecord) -> Result<State, ScriptFault>
+    ensures { result ≡ script.start_in (fields_of row.now) }
+{
+    let Some(word) = row.get(0) else {
+        return Err(ScriptFault::NoStart);
+    };
+    if word != b"start".as_slice() {
+        return Err(ScriptFault::NoStart);
+    }
+    let Some(places) = row.get(1) else {
+        return Err(ScriptFault::BadStart);
+    };
+    let Some(stamp) = row.get(2) else {
+        return start_of(read_places(places), Some(0));
+    };
+    if row.len() > 3 {
+        return Err(ScriptFault::BadStart);
+    }
+    start_of(read_places(places), read_number(stamp))
+}
