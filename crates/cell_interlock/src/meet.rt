@@ -18,11 +18,11 @@ impl Interlock {
         self.table.shared.join_seat::<Together>(seat, other);
     }
 
-    /// Lets the callers with these two passes compare what they have seen: afterwards both have seen one
-    /// history, that of the interlock so far.
+    /// Lets two passes meet: afterwards both have seen one history, which begins with all that each of
+    /// them had seen. No call is made, and no memory is taken.
     ///
     /// Both passes are of those that were made with this interlock. They come back in their order, each
-    /// the same machine's; it has seen at least what it had seen, and nothing new of its own (`left`,
+    /// its own machine's; of that machine there is nothing new in what the pass has seen (`left`,
     /// `right`).
     pub fn meet(&self, left: Pass, right: Pass) -> (Pass, Pass)
         requires same_interlock { (left.table ≡ self.now.table) × (right.table ≡ self.now.table) }

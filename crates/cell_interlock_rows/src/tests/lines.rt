@@ -22,6 +22,12 @@ const SEEN: Answer = Answer::Shown {
     posture: Posture::OpenIn,
 };
 
+const OWN: Answer = Answer::Shown {
+    owner: Some(Machine::Press),
+    flag: false,
+    posture: Posture::Closed,
+};
+
 // Who asks, and what is noted of it: the call, its answer, and the stamp.
 const NOTED: &[(Machine, Call, Answer, u32)] = &[
     (Machine::Press, CLAIM, Answer::Done, 1),
@@ -126,31 +132,38 @@ fn a_refused_call_leaves_journal_and_word(rt: HostRuntime) {
     assert!(rt; is_whole(rt.alloc(), opening));
 }
 
-/// What a pass is told.
-fn told(interlock: &Interlock, pass: &mut Pass, call: Call) -> (Answer, u32)
+type Row = (Call, Answer, u32);
+
+const FIRST: &[Row] = &[(CLAIM, Answer::Done, 1), (INQUIRE, OWN, 1)];
+
+const SECOND: &[Row] = &[(CLAIM, HELD, 1)];
+
+const LAST: &[Row] = &[(RELEASE, Answer::Done, 2)];
+
+/// Whether a pass is answered so.
+fn is_answered(interlock: &Interlock, pass: &mut Pass, rows: &[Row]) -> bool
     requires { pass.old.table ≡ interlock.now.table }
     ensures { pass.new.table ≡ pass.old.table }
 {
-    match interlock.ask(pass, call) {
-        Reply::Settled(answer, stamp) => (answer, stamp),
-        Reply::Busy { stamp, .. } => (Answer::Done, stamp),
+    for (call, answer, stamp) in rows {
+        if interlock.ask(pass, *call) != Reply::Settled(*answer, *stamp) {
+            return false;
+        }
     }
+    true
 }
 
 fn are_met(interlock: &Interlock, mut press: Pass, mut robot: Pass) -> bool
     requires press { press.table ≡ interlock.now.table }
     requires robot { robot.table ≡ interlock.now.table }
 {
-    let seen = shown_of(Some(Machine::Press));
-    let before = told(interlock, &mut press, CLAIM) == (Answer::Done, 1)
-        && told(interlock, &mut press, INQUIRE) == (seen, 1)
-        && told(interlock, &mut robot, CLAIM) == (HELD, 1);
+    let first = is_answered(interlock, &mut press, FIRST);
+    let second = is_answered(interlock, &mut robot, SECOND);
     let (mut press, mut robot) = interlock.meet(press, robot);
-    before
-        && press.machine() == Machine::Press
-        && robot.machine() == Machine::Robot
-        && told(interlock, &mut robot, CLAIM) == (HELD, 1)
-        && told(interlock, &mut press, RELEASE) == (Answer::Done, 2)
+    let third = is_answered(interlock, &mut robot, SECOND);
+    let last = is_answered(interlock, &mut press, LAST);
+    let are_theirs = press.machine() == Machine::Press && robot.machine() == Machine::Robot;
+    first && second && third && last && are_theirs
 }
 
 #[test]
