@@ -1,5 +1,5 @@
 -- What is told of a run by six workers.
-use Rattle.std.proofs.Common.{◌≡◌, ◌≢◌, inl, inr, codes, List, ℕ, Option, Some, None, Ok, Err, IfSome, subst}
+use Rattle.std.proofs.Common.{◌≡◌, ◌≢◌, inl, inr, List, ℕ, Option, Some, None, Ok, Err, IfSome}
 use Rattle.cell_text.specs.Output.{WroteFront}
 use Rattle.cell_parts.specs.Axes.{CellScales}
 use Rattle.cell_notes.specs.declared.run_record.RunRecord.{RunRecord}

@@ -1,6 +1,5 @@
 -- What is told of a simulation.
-use Rattle.std.proofs.Common.{◌≡◌, ◌⊎◌, inl, inr, codes, List, ℕ, Option, Some, None, Ok, Err, IfSome, map, refl, sym, ap, ◌∙◌, subst, ⊎_elim}
-use Rattle.std.specs.Io.KnownBytes.{Appends}
+use Rattle.std.proofs.Common.{◌≡◌, ◌⊎◌, inl, inr, List, ℕ, Option, Some, None, Ok, Err, IfSome, map, refl, sym, ap, ◌∙◌, subst, ⊎_elim}
 use Rattle.cell_types.specs.Journals.{journal_of}
 use Rattle.cell_rules.specs.ModelState.{ModelState}
 use Rattle.cell_rules.specs.Journal.{event_by}
@@ -17,7 +16,6 @@ use Rattle.cell_config.specs.ConfigWords.{config_fault_text}
 use Rattle.cell_config.specs.declared.configuration.Config.{Config}
 use Rattle.cell_config.specs.declared.fault.ConfigFault.{ConfigFault}
 use Rattle.cell_report.specs.Audited.{EndsIn, IsAudited}
-use Rattle.cell_report.specs.Report.{report_text}
 use Rattle.cell_report.specs.declared.audit_faults.AuditFault.{AuditFault}
 use Rattle.cell_report.specs.declared.audit_faults.AuditFault.TheVariants.{Twice, Gap, Differs, End, Memory}
 use Rattle.cell_program.specs.Reported.{AreFine, AuditFinds, IsAmiss, ReportTold}

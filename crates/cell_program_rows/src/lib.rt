@@ -6,9 +6,13 @@
 #[cfg(test)]
 mod arguments;
 #[cfg(test)]
+mod by_hand;
+#[cfg(test)]
 mod configurations;
 #[cfg(test)]
 mod doubles;
+#[cfg(test)]
+mod memory;
 #[cfg(test)]
 mod reports;
 #[cfg(test)]

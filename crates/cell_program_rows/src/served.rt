@@ -31,27 +31,6 @@ fn serves(rt: HostRuntime) {
     }
 }
 
-#[test]
-fn serves_without_memory(rt: HostRuntime) {
-    let mut room = [0u8; 200];
-    let mut writer = &mut room[..];
-    let status = run(
-        &rt,
-        rt.alloc(),
-        &["cell"],
-        &mut SCRIPT.as_bytes(),
-        &mut writer,
-    );
-    let left = writer.len();
-    let written = &room[..200usize.saturating_sub(left)];
-    let is_right = match status {
-        0 => written == TEXT.as_bytes(),
-        1 => written == "fault memory\n".as_bytes(),
-        _ => false,
-    };
-    assert!(rt; is_right, "status {status}");
-}
-
 /// Whether words other than those that ask for a mode are answered with this status and some text, and
 /// the script isn't touched.
 fn is_told<T: Threads + Wait + Sync>(rt: &T, alloc: Global, words: &[&str], status: u8) -> bool {

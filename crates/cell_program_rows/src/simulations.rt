@@ -1,18 +1,9 @@
 //! Simulations: configurations, the reports of their runs, and exit statuses.
 
-ghost use Rattle.cell_parts.specs.Axes.{AreCellScales};
-ghost use Rattle.cell_program.specs.Simulated.{scales_of};
-ghost use Rattle.cell_rules.specs.Start.{IsStartState};
-
 use super::doubles::{is_served, run};
 use super::reports::{
     BUSY, HANDS_OVER, LONG, ONE_TURN_EACH, PRESS, PRESS_REPORT, STILL, WAITS, WORN,
 };
-use cell_calib::{Calibration, Gauge, line_at};
-use cell_config::{Config, read_config};
-use cell_plant::{Cell, RunRecord, SimFault, simulate};
-use cell_program::simulating::Lines;
-use cell_report::{audit, write_report};
 use std::alloc::{AllocError, Global};
 use std::process::Abort;
 use std::sync::Wait;
@@ -69,73 +60,25 @@ fn simulates_and_reports(rt: HostRuntime) {
 }
 
 #[test]
-fn tells_the_faults_of_configurations(rt: HostRuntime) -> Result<(), Fail> {
+fn tells_the_faults_of_configurations(rt: HostRuntime) {
     are_simulated(&rt, rt.alloc(), FAULTS, 1);
-    let long = vec![in rt.alloc(); b' '; 2_097_153]?;
-    let mut written = Vec::new(rt.alloc());
-    let status = run(&rt, rt.alloc(), SIM, &mut long.as_slice(), &mut written);
-    assert!(rt; status == 1);
-    assert!(rt; written.as_slice() == b"fault config long\n".as_slice());
-    Ok(())
+    assert!(rt; is_too_long(&rt, rt.alloc()));
+}
+
+/// Whether a configuration with one byte too many is told so.
+fn is_too_long<T: Threads + Wait + Sync>(rt: &T, alloc: Global) -> bool {
+    let Ok(long) = vec![in alloc; b' '; 2_097_153] else {
+        return false;
+    };
+    let mut written = Vec::new(alloc);
+    let status = run(rt, alloc, SIM, &mut long.as_slice(), &mut written);
+    status == 1 && written.as_slice() == b"fault config long\n".as_slice()
 }
 
 #[test]
 fn a_stopped_machine_is_a_failure(rt: HostRuntime) {
     let config = "start = \"0000000000\"\nstamp = 1048575\nschedule = \"ttP\"";
     assert!(rt; is_served(&rt, rt.alloc(), SIM, config, 1, WORN));
-}
-
-// The run of a configuration with these closures, by the calls that the program makes.
-fn run_by_hand<F1: Gauge, F2: Gauge, F3: Gauge, F4: Gauge, F5: Gauge>(
-    alloc: Global,
-    gauges: (F1, F2, F3, F4, F5),
-    lines: Lines,
-    config: &Config,
-) -> Result<RunRecord, SimFault>
-    requires start { IsStartState config.now.start }
-    requires arm1 { F1.keeps gauges.0 lines.arm1 }
-    requires arm2 { F2.keeps gauges.1 lines.arm2 }
-    requires rotation { F3.keeps gauges.2 lines.rotation }
-    requires turn { F4.keeps gauges.3 lines.turn }
-    requires gripper { F5.keeps gauges.4 lines.gripper }
-    requires scales { AreCellScales (scales_of lines) }
-{
-    let cell = Cell::new(
-        &config.start,
-        Calibration::new(gauges.0, lines.arm1),
-        Calibration::new(gauges.1, lines.arm2),
-        Calibration::new(gauges.2, lines.rotation),
-        Calibration::new(gauges.3, lines.turn),
-        Calibration::new(gauges.4, lines.gripper),
-    );
-    simulate(alloc, cell, config.start, config.schedule.as_slice())
-}
-
-#[test]
-fn simulates_with_closures_of_its_own(rt: HostRuntime) -> Result<(), Fail> {
-    let alloc = rt.alloc();
-    let config = read_config(alloc, &mut PRESS.as_bytes())?;
-    let [arm1, arm2, rotation, turn, gripper] = config.points;
-    let gauges = (
-        move |raw: u16| line_at(&arm1, raw),
-        move |raw: u16| line_at(&arm2, raw),
-        move |raw: u16| line_at(&rotation, raw),
-        move |raw: u16| line_at(&turn, raw),
-        move |raw: u16| line_at(&gripper, raw),
-    );
-    let lines = Lines {
-        arm1,
-        arm2,
-        rotation,
-        turn,
-        gripper,
-    };
-    let run = run_by_hand(alloc, gauges, lines, &config)?;
-    let audited = audit(alloc, &run.journals, &run.start, run.end.as_ref()).err();
-    let mut written = Vec::new(alloc);
-    assert!(rt; write_report(&run, audited, &mut written).is_ok());
-    assert!(rt; written.as_slice() == PRESS_REPORT.as_bytes());
-    Ok(())
 }
 
 /// A configuration with this start and this schedule.
@@ -161,11 +104,13 @@ fn simulates_20000_turns(rt: HostRuntime) -> Result<(), Fail> {
     Ok(())
 }
 
-const LETTERS: [&str; 6] = ["f", "t", "r", "p", "d", "c"];
+// Letters of all machines; the capitals are turns that find the interlock busy.
+const LETTERS: [&str; 16] = [
+    "f", "t", "r", "p", "d", "c", "f", "t", //
+    "r", "p", "F", "T", "R", "P", "D", "C",
+];
 
-const CAPITALS: [&str; 6] = ["F", "T", "R", "P", "D", "C"];
-
-// So many turns of all machines, with turns that find the interlock busy among them.
+// A schedule of so many turns of all machines.
 fn random_schedule(alloc: Global, seed: usize, turns: usize) -> Result<String, AllocError> {
     let mut schedule = String::new(alloc);
     let mut state = seed as u64;
@@ -173,8 +118,7 @@ fn random_schedule(alloc: Global, seed: usize, turns: usize) -> Result<String, A
         state = state
             .wrapping_mul(6_364_136_223_846_793_005)
             .wrapping_add(1_442_695_040_888_963_407);
-        let letters = if state >> 61 == 0 { CAPITALS } else { LETTERS };
-        schedule.push_str(letters[(state >> 32) as usize % 6])?;
+        schedule.push_str(LETTERS[(state >> 60) as usize])?;
     }
     Ok(schedule)
 }
@@ -206,25 +150,4 @@ fn audits_random_schedules(rt: HostRuntime) -> Result<(), Fail> {
         }
     }
     Ok(())
-}
-
-// Whatever growth is refused: the report of a run, in which a machine may have stopped for want of
-// memory, or the line of that fault. Within three turns every machine asks.
-#[test]
-fn simulates_without_memory(rt: HostRuntime) {
-    let mut room = [0u8; 2000];
-    let mut writer = &mut room[..];
-    let config = "start = \"0000000000\"\nschedule = \"ftrpdcftrpdcftrpdc\"";
-    let status = run(&rt, rt.alloc(), SIM, &mut config.as_bytes(), &mut writer);
-    let left = writer.len();
-    let written = &room[..2000usize.saturating_sub(left)];
-    if status == 0 {
-        assert!(rt; written.ends_with(b"audit ok\n"));
-    } else {
-        // The only fault is want of memory: that of a line alone, of a machine or of the audit.
-        assert!(rt; status == 1);
-        let is_report = written.starts_with(b"start 0000000000 0\n");
-        assert!(rt; is_report || written == b"fault memory\n".as_slice());
-        assert!(rt; written.windows(6).any(|part| part == b"memory".as_slice()));
-    }
 }

@@ -7,7 +7,8 @@ use super::reports::{
 };
 use super::simulations::{SIM, scheduled};
 use std::alloc::{AllocError, Global};
-use std::test::Fail;
+use std::sync::Wait;
+use std::thread::Threads;
 
 /// A schedule in which letters come so often in a row.
 type Runs<'a> = &'a [(usize, &'a str)];
@@ -64,14 +65,26 @@ fn config_of(alloc: Global, start: &str, runs: Runs<'_>) -> Result<String, Alloc
     scheduled(alloc, start, schedule.as_str())
 }
 
+/// Whether the simulation of a start and of these runs has this report.
+fn is_reported<T: Threads + Wait + Sync>(
+    rt: &T,
+    alloc: Global,
+    start: &str,
+    runs: Runs<'_>,
+    report: &str,
+) -> bool {
+    match config_of(alloc, start, runs) {
+        Ok(config) => is_served(rt, alloc, SIM, config.as_str(), 0, report),
+        Err(_) => false,
+    }
+}
+
 #[test]
-fn plates_go_round(rt: HostRuntime) -> Result<(), Fail> {
+fn plates_go_round(rt: HostRuntime) {
     for (start, runs, report) in RUNS {
-        let config = config_of(rt.alloc(), start, runs)?;
         assert!(rt;
-            is_served(&rt, rt.alloc(), SIM, config.as_str(), 0, report),
+            is_reported(&rt, rt.alloc(), start, runs, report),
             "{start}"
         );
     }
-    Ok(())
 }

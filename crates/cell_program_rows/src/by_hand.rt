@@ -1,0 +1,130 @@
+//! A simulation and a run by six workers whose closures are made here, by the calls that the program makes.
+
+ghost use Rattle.cell_config.specs.Configured.{AreAxisScales};
+ghost use Rattle.cell_parts.specs.Axes.{AreCellScales};
+ghost use Rattle.cell_program.specs.Simulated.{scales_of};
+ghost use Rattle.cell_rules.specs.Start.{IsStartState};
+
+use super::reports::{EMPTY, PRESS, PRESS_REPORT, SIX_WORKERS};
+use cell_calib::{Calibration, Gauge, line_at};
+use cell_config::{Config, read_config};
+use cell_notes::RunRecord;
+use cell_plant::{Cell, simulate};
+use cell_program::running::run_cell;
+use cell_program::simulating::Lines;
+use cell_report::{audit, write_report};
+use cell_workers::OpenGate;
+use std::alloc::Global;
+use std::sync::Wait;
+use std::thread::Threads;
+
+/// How a cell is set going.
+#[derive(Clone, Copy, Debug)]
+enum Way {
+    /// By the schedule of the configuration.
+    Simulated,
+    /// By six workers with three turns each, which may be overtaken 64 times.
+    Run,
+}
+
+// The record of a cell with these closures.
+fn record_by<T, F1, F2, F3, F4, F5>(
+    rt: &T,
+    alloc: Global,
+    gauges: (F1, F2, F3, F4, F5),
+    lines: Lines,
+    config: &Config,
+    way: Way,
+) -> Option<RunRecord>
+where
+    T: Threads + Wait + Sync,
+    F1: Gauge + Send,
+    F2: Gauge + Send,
+    F3: Gauge + Send,
+    F4: Gauge + Send,
+    F5: Gauge + Send,
+    requires start { IsStartState config.now.start }
+    requires arm1 { F1.keeps gauges.0 lines.arm1 }
+    requires arm2 { F2.keeps gauges.1 lines.arm2 }
+    requires rotation { F3.keeps gauges.2 lines.rotation }
+    requires turn { F4.keeps gauges.3 lines.turn }
+    requires gripper { F5.keeps gauges.4 lines.gripper }
+    requires scales { AreCellScales (scales_of lines) }
+{
+    let cell = Cell::new(
+        &config.start,
+        Calibration::new(gauges.0, lines.arm1),
+        Calibration::new(gauges.1, lines.arm2),
+        Calibration::new(gauges.2, lines.rotation),
+        Calibration::new(gauges.3, lines.turn),
+        Calibration::new(gauges.4, lines.gripper),
+    );
+    match way {
+        Way::Simulated => simulate(alloc, cell, config.start, config.schedule.as_slice()).ok(),
+        Way::Run => run_cell(rt, alloc, cell, config.start, 64, 3, &OpenGate).ok(),
+    }
+}
+
+// The record of a configuration, with a closure over each of its lines.
+fn record_of<T: Threads + Wait + Sync>(
+    rt: &T,
+    alloc: Global,
+    config: &Config,
+    way: Way,
+) -> Option<RunRecord>
+    requires start { IsStartState config.now.start }
+    requires points { AreAxisScales config.now.points }
+{
+    let [arm1, arm2, rotation, turn, gripper] = config.points;
+    let gauges = (
+        move |raw: u16| line_at(&arm1, raw),
+        move |raw: u16| line_at(&arm2, raw),
+        move |raw: u16| line_at(&rotation, raw),
+        move |raw: u16| line_at(&turn, raw),
+        move |raw: u16| line_at(&gripper, raw),
+    );
+    let lines = Lines {
+        arm1,
+        arm2,
+        rotation,
+        turn,
+        gripper,
+    };
+    record_by(rt, alloc, gauges, lines, config, way)
+}
+
+/// Whether the report of a record, with its audit, is this text.
+fn is_reported(alloc: Global, run: &RunRecord, text: &str) -> bool {
+    let audited = audit(alloc, &run.journals, &run.start, run.end.as_ref()).err();
+    let mut written = Vec::new(alloc);
+    write_report(run, audited, &mut written).is_ok() && written.as_slice() == text.as_bytes()
+}
+
+/// Whether a configuration's record has this report.
+fn has_report<T: Threads + Wait + Sync>(
+    rt: &T,
+    alloc: Global,
+    config: &str,
+    way: Way,
+    text: &str,
+) -> bool {
+    let Ok(config) = read_config(alloc, &mut config.as_bytes()) else {
+        return false;
+    };
+    match record_of(rt, alloc, &config, way) {
+        Some(run) => is_reported(alloc, &run, text),
+        None => false,
+    }
+}
+
+const REPORTS: &[(&str, Way, &str)] = &[
+    (PRESS, Way::Simulated, PRESS_REPORT),
+    (EMPTY, Way::Run, SIX_WORKERS),
+];
+
+#[test]
+fn goes_with_closures_of_its_own(rt: HostRuntime) {
+    for (config, way, text) in REPORTS {
+        assert!(rt; has_report(&rt, rt.alloc(), config, *way, text), "{way:?}");
+    }
+}
