@@ -12,8 +12,9 @@ use std::alloc::Global;
 /// A thread may be given a value of a type parameter, but no struct whose fields have bounds of their
 /// own. So this trait stands between a thread and the seat that it works at.
 pub(crate) trait Worker: Drop {
-    ghost use Rattle.std.specs.Prelude.{◌≡◌, ℕ, Bool, []};
+    ghost use Rattle.std.specs.Prelude.{◌≡◌, ℕ, []};
     ghost use Rattle.cell_interlock.specs.Views.{PassView};
+    ghost use Rattle.cell_workers.specs.Workers.{GateOf};
     ghost use Rattle.cell_workers.specs.declared.work.Back.{Back};
 
     /// Its part, which it gives back.
@@ -23,7 +24,7 @@ pub(crate) trait Worker: Drop {
     ghost is_ready: { Self → PassView → Type 0 };
 
     // What it gives back that worked by this pass: where calls have so many tries, by its gate, in so many turns.
-    ghost gives_back: { Self → PassView → ℕ → (ℕ → Bool → Type 0) → ℕ → Back Self.Part → Type 0 };
+    ghost gives_back: { Self → PassView → ℕ → GateOf → ℕ → Back Self.Part → Type 0 };
 
     /// Its turns: at most so many.
     fn work<G: Gate>(
