@@ -1,5 +1,5 @@
 -- The journal of a line grows by the calls that its pass settles.
-use Rattle.std.proofs.Common.{◌≡◌, ℕ, Bool, true, false, if◌then◌else◌, Result, Ok, Err, List, [], ◌∷◌, ◌++◌, refl, sym, ap, ◌∙◌, subst, append-nil}
+use Rattle.std.proofs.Common.{◌≡◌, ℕ, Bool, if◌then◌else◌, Result, Ok, Err, List, [], ◌∷◌, ◌++◌, sym, ap, ◌∙◌, subst, append-nil}
 use Rattle.std.proofs.Props.{props}
 use Rattle.std.proofs.Math.Logic.{∥∥₁_elim, ∥∥₁_map}
 use Rattle.cell_types.specs.declared.machine.Machine.{Machine}
@@ -7,7 +7,6 @@ use Rattle.cell_types.specs.declared.call.Call.{Call}
 use Rattle.cell_types.specs.declared.answer.Answer.{Answer}
 use Rattle.cell_types.specs.declared.answer.Event.{Event}
 use Rattle.cell_types.specs.declared.journal.Entry.{Entry}
-use Rattle.cell_types.specs.Same.{same_machine}
 use Rattle.cell_types.specs.declared.reply.Reply.{Reply}
 use Rattle.cell_types.specs.declared.reply.Reply.TheVariants.{Settled, Busy}
 use Rattle.cell_rules.specs.declared.heard.LineFault.{LineFault}
@@ -15,36 +14,14 @@ use Rattle.cell_rules.specs.ModelState.{ModelState}
 use Rattle.cell_rules.specs.Sound.{IsSound}
 use Rattle.cell_rules.specs.Reply.{next}
 use Rattle.cell_rules.specs.History.{after, IsLegal, own_events}
-use Rattle.cell_rules.specs.Journal.{state_left, entry_of, noted}
+use Rattle.cell_rules.specs.Journal.{entry_of, noted}
 use Rattle.cell_rules.specs.Seen.{event, Waits}
-use Rattle.cell_rules.proofs.Lasting.{own_head}
+use Rattle.cell_rules.proofs.Notes.{noted-append, noted-foreign}
 use Rattle.cell_rules.proofs.SeenLemmas.{same_as_itself, waits-foreign, after-push}
 use Rattle.cell_interlock.specs.Views.{PassView}
 use Rattle.cell_interlock.specs.Seen.{IsSamePass}
 use Rattle.cell_interlock.specs.Lines.{IsLine, Replied, PassAsks}
 use Rattle.cell_interlock.proofs.Tells.{point_waits}
-
-push_by : (b : Bool) (x : Entry) (xs ys : List Entry) → (if b then x ∷ (xs ++ ys) else xs ++ ys) ≡ (if b then x ∷ xs else xs) ++ ys
-push_by true x xs ys = refl
-push_by false x xs ys = refl
-
--- what a machine notes of a history and of what follows it
-noted-append : (s : ModelState) (h k : List Event) (m : Machine) → noted s (h ++ k) m ≡ noted s h m ++ noted (after s h) k m
-noted-append s [] k m = refl
-noted-append s (e ∷ h) k m =
-    let t : ModelState = state_left s e in
-    ap (λ (l : List Entry). if same_machine e.machine m then entry_of s e ∷ l else l) (noted-append t h k m) ∙ push_by (same_machine e.machine m) (entry_of s e) (noted t h m) (noted (after t h) k m)
-
-skip_by : (b : Bool) (x : Entry) (xs : List Entry) → b ≡ false → (if b then x ∷ xs else xs) ≡ xs
-skip_by true x xs e = cc
-skip_by false x xs e = refl
-
--- a machine notes nothing of the events of others
-noted-foreign : (s : ModelState) (h : List Event) (m : Machine) → own_events h m ≡ [] → noted s h m ≡ []
-noted-foreign s [] m q = refl
-noted-foreign s (e ∷ h) m q =
-    let others = own_head (same_machine e.machine m) e (own_events h m) q in
-    skip_by (same_machine e.machine m) (entry_of s e) (noted (state_left s e) h m) others.0 ∙ noted-foreign (state_left s e) h m others.1
 
 noted-waits : (s : ModelState) (m : Machine) (before now : List Event) → Waits m before now → noted s now m ≡ noted s before m
 noted-waits s m before now w =

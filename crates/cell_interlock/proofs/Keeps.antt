@@ -5,7 +5,7 @@ use mathlib.Core.Option.{none, some, some-ne-none, some-injective}
 use native.Mathlib.Decide.{ℕ_discrete}
 use lib.ListN.{get_elem?}
 use prog.Atomic.{either}
-use Rattle.atomic_table.specs.Table.{State, Me, step, keeps, stepped, Allows, Splits, opening}
+use Rattle.atomic_table.specs.Table.{State, Me, step, keeps, stepped, Allows, Splits, Joins, opening}
 use Rattle.atomic_table.proofs.Lists.{at_set, at_snoc}
 use Rattle.cell_types.specs.declared.machine.Machine.{Machine}
 use Rattle.cell_types.specs.declared.machine.Machine.TheVariants.{Feed, Table, Robot, Press, Deposit, Crane, Watch}
@@ -23,7 +23,7 @@ use Rattle.cell_rules.proofs.SeenLemmas.{legal-append, same_as_itself}
 use Rattle.cell_word.specs.Layout.{packed}
 use Rattle.cell_interlock.specs.declared.pass.Part.{Part}
 use Rattle.cell_interlock.specs.Steps.{IsReady}
-use Rattle.cell_interlock.specs.Rule.{part, head_of, first_off, others_of, all_parts, Fits, AllFit, parts_of, parts_in_all, WordTellsHistory, Moment, seen_at, looked, exchanged, IsSeat}
+use Rattle.cell_interlock.specs.Rule.{part, head_of, first_off, others_of, all_parts, Fits, AllFit, parts_of, parts_in_all, WordTellsHistory, Moment, seen_at, looked, exchanged, MomentOfAll, all_see, gathered, IsSeat}
 use Rattle.cell_rules.proofs.Quiet.{next-same}
 use Rattle.cell_interlock.proofs.Machines.{apart_back, not_own, begins-more, own-more}
 
@@ -46,6 +46,22 @@ fit-first o h (p ∷ ps) a = (a.0, tt)
 fit-others : (o : ModelState) (h : List Event) (ps : List Part) → AllFit o h ps → AllFit o h (others_of ps)
 fit-others o h [] a = tt
 fit-others o h (p ∷ ps) a = a.1
+
+fit-both : (o : ModelState) (h : List Event) (ps qs : List Part) → AllFit o h ps → AllFit o h qs → AllFit o h (ps ++ qs)
+fit-both o h [] qs a b = b
+fit-both o h (p ∷ ps) qs a b = (a.0, fit-both o h ps qs a.1 b)
+
+fit-all_see : (o : ModelState) (h : List Event) (ps : List Part) → AllFit o h ps → AllFit o h (all_see h ps)
+fit-all_see o h [] a = tt
+fit-all_see o h (p ∷ ps) a = (fits_whole o h p h a.0.opening_is, fit-all_see o h ps a.1)
+
+parts-all_see : (m : Machine) (h : List Event) (ps : List Part) → parts_of m (all_see h ps) ≡ parts_of m ps
+parts-all_see m h [] = refl
+parts-all_see m h (p ∷ ps) = ap (λ n. (if same_machine p.machine m then 1 else 0) + n) (parts-all_see m h ps)
+
+parts-append : (m : Machine) (ps qs : List Part) → parts_of m (ps ++ qs) ≡ parts_of m ps + parts_of m qs
+parts-append m [] qs = omega arith
+parts-append m (p ∷ ps) qs = omega (arith, parts-append m ps qs)
 
 parts-cut : (m : Machine) (ps : List Part) → parts_of m (first_off ps) + parts_of m (others_of ps) ≡ parts_of m ps
 parts-cut m [] = refl
@@ -171,6 +187,32 @@ module _ {S : Type 0} (o : ModelState) where
   pub exchanges_as : (slots id : ℕ) (me : Me S (List Part)) (c : Call) (old new : ℕ) → me ≡ (head_of me.0 ∷ [], []) → ((z : ModelState) → IsSound z → packed z ≡ old → (reply z (head_of me.0).machine c ≡ Done) × (packed (next z (head_of me.0).machine c) ≡ new))
       → Allows (WordTellsHistory o) slots id me 0 (λ n. either (eqb n old) new n) (exchanged {S = S} c (step slots 0 old new none) me)
   exchanges_as slots id me c old new e ready = subst (λ (z : Me S (List Part)). Allows (WordTellsHistory o) slots id z 0 (λ n. either (eqb n old) new n) (exchanged {S = S} c (step slots 0 old new none) z)) (sym e) (exchanges slots id (head_of me.0) c old new ready)
+
+  points : (s : Shop S) (r : WordTellsHistory o s) (ps : List Part) → AllFit o r.history ps → MomentOfAll ps (get_or s.words 0 0) r.history
+  points s r [] t = tt
+  points s r (p ∷ ps) t = (point s r p t.0, points s r ps t.1)
+
+  gathers : (slots id : ℕ) (ps : List Part) → Allows (WordTellsHistory o) slots id (ps, []) 0 (λ n. n) (gathered {S = S} (step slots 0 0 0 none) (ps, []))
+  gathers slots id ps s r _ at _ =
+      let h : List Event = r.history in let t = r.views id ps at in
+      (all_see h ps, keeps, tt, stayed s r id ps (all_see h ps) at (fit-all_see o h ps t) (λ m. parts-all_see m h ps), (h, points s r ps t, refl))
+
+  pub gathers_as : (slots id : ℕ) (me : Me S (List Part)) → me.1 ≡ [] → Allows (WordTellsHistory o) slots id me 0 (λ n. n) (gathered {S = S} (step slots 0 0 0 none) me)
+  gathers_as slots id me e = subst (λ x. Allows (WordTellsHistory o) slots id (me.0, x) 0 (λ n. n) (gathered {S = S} (step slots 0 0 0 none) (me.0, x))) (sym e) (gathers slots id me.0)
+
+  pub joins : (id : ℕ) (v : List Part) (other : ℕ) (w : List Part) → Joins {S = S} (WordTellsHistory o) id v other w (w ++ v) []
+  joins id v other w s r at apart there =
+      let both = set s.views id (w ++ v) in
+      let was : get_elem? s.views other ≡ some w = ⊎_elim (λ (t : (other ≡ id) × (w ++ v ≡ w)). absurd (apart t.0)) (λ (t : (other ≢ id) × (get_elem? s.views other ≡ some w)). t.1) (at_set s.views id other (w ++ v) w there) in
+      let t = fit-both o r.history w v (r.views other w was) (r.views id v at) in record {
+        history = r.history;
+        has_word = r.has_word;
+        sound = r.sound;
+        legal = r.legal;
+        word = r.word;
+        views = views-stay o r.history both other [] tt (λ j u _ e. views-stay o r.history s.views id (w ++ v) t (λ i x _ f. r.views i x f) j u e);
+        apart = λ m. omega (arith, total-set m both other w [] there, total-set m s.views id v (w ++ v) at, parts-append m w v, r.apart m);
+      }
 
   pub splits : (id : ℕ) (v : List Part) → Splits {S = S} (WordTellsHistory o) id v (others_of v) (first_off v)
   splits id v s r at = record {

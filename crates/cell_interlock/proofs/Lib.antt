@@ -3,3 +3,4 @@ pub mod Keeps
 pub mod Overtaken
 pub mod Tells
 pub mod Journals
+pub mod Meeting

@@ -40,7 +40,7 @@ Says word m c a new = (s : ModelState) → IsSound s → packed s ≡ word → (
 abbrev pub Stamps : ℕ → ℕ → Type 0
 Stamps word stamp = (s : ModelState) → IsSound s → packed s ≡ word → stamp ≡ s.stamp
 
-lawful_history : (o : ModelState) (h : List Event) → IsSound o → IsLegal o h → LawfulThroughout o h
+pub lawful_history : (o : ModelState) (h : List Event) → IsSound o → IsLegal o h → LawfulThroughout o h
 lawful_history o h k l = throughout o (Lawful o) (lawful o k) h l
 
 begins-trans : (x y z : List Event) → BeginsWith y x → BeginsWith z y → BeginsWith z x

@@ -103,6 +103,20 @@ abbrev pub exchanged : {S : Type 0} → Call → Step S → Me S (List Part) →
 exchanged c st me word me' = (history : List Event) × Moment (head_of me.0) word history
     × (me' ≡ (part (head_of me.0).opening (head_of me.0).machine (if word == st.first then history ++ event (head_of me.0).machine c Done ∷ [] else seen_at c (head_of me.0) history) (head_of me.0).since ∷ [], me.1))
 
+-- the same moment for each machine of a view
+abbrev pub MomentOfAll : List Part → ℕ → List Event → Type 0
+MomentOfAll [] word history = ⊤
+MomentOfAll (p ∷ parts) word history = Moment p word history × MomentOfAll parts word history
+
+-- each machine of a view has seen this history, and just now
+abbrev pub all_see : List Event → List Part → List Part
+all_see history [] = []
+all_see history (p ∷ parts) = part p.opening p.machine history history ∷ all_see history parts
+
+-- a load for no call: each machine of the seat sees the history so far
+abbrev pub gathered : {S : Type 0} → Step S → Me S (List Part) → ℕ → Me S (List Part) → Type 0
+gathered st me word me' = (history : List Event) × MomentOfAll me.0 word history × (me' ≡ (all_see history me.0, me.1))
+
 -- the seat of one machine, whose interlock opened soundly and which has seen a legal history
 pub record IsSeat {S : Type 0} (m : Machine) (me : Me S (List Part)) : Type 0 where
   pub one : me ≡ (head_of me.0 ∷ [], [])

@@ -4,6 +4,7 @@
 mod calls;
 pub mod interlock;
 pub mod make;
+mod meet;
 pub mod pass;
 pub mod pass_line;
 pub mod rule;

@@ -25,7 +25,7 @@ pub type View = LinkedList<Part>;
 /// time; it may go from thread to thread.
 #[derive(Drop)]
 pub struct Pass {
-    machine: Machine,
+    pub(crate) machine: Machine,
     pub(crate) seat: Seat<(), View>,
 }
 

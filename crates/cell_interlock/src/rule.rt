@@ -1,6 +1,6 @@
 //! The rule of the word, and what each kind of step on it tells: `specs/Rule.antt`.
 use crate::pass::View;
-use atomic_table::{Play, Split, TableRule};
+use atomic_table::{Join, Play, Split, TableRule};
 use cell_rules::State;
 use std::marker::{Brand, PhantomData};
 
@@ -50,6 +50,15 @@ impl<A: Asked> Play<(), View> for Exchanges<A> {
     ghost then = { exchanged A.call };
 }
 
+/// A load for no call, by which the machines of a seat see one history.
+pub struct Gathers;
+
+impl Play<(), View> for Gathers {
+    ghost use Rattle.cell_interlock.specs.Rule.{gathered};
+
+    ghost then = { gathered };
+}
+
 /// A split: the first machine of a seat goes to a new seat.
 pub struct FirstOff;
 
@@ -59,4 +68,15 @@ impl Split<View> for FirstOff {
     ghost left = { others_of };
 
     ghost right = { first_off };
+}
+
+/// A join: the machines of the other seat go in front of those of a seat, which then has both.
+pub struct Together;
+
+impl Join<View> for Together {
+    ghost use Rattle.std.specs.Prelude.{◌++◌, []};
+
+    ghost both = { λ mine others. others ++ mine };
+
+    ghost spent = { [] };
 }

@@ -1,3 +1,4 @@
 mod limits;
+mod lines;
 mod steps;
 mod threads;

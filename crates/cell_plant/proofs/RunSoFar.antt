@@ -14,10 +14,11 @@ use Rattle.cell_types.specs.Everything.{all_machines}
 use Rattle.cell_types.specs.Same.{same_machine}
 use Rattle.cell_rules.specs.declared.heard.LineFault.{LineFault}
 use Rattle.cell_rules.specs.ModelState.{ModelState, one_if}
-use Rattle.cell_rules.specs.Journal.{noted, entry_of, state_left}
+use Rattle.cell_rules.specs.Journal.{noted, entry_of}
 use Rattle.cell_rules.specs.History.{after, IsLegal}
 use Rattle.cell_rules.specs.Start.{IsStartState}
 use Rattle.cell_rules.proofs.Histories.{after-append}
+use Rattle.cell_rules.proofs.Notes.{noted-append}
 use Rattle.cell_rules.proofs.SeenLemmas.{legal-append}
 use Rattle.cell_control.proofs.TurnMaps.{turn_either}
 use Rattle.cell_notes.specs.declared.counts.Counts.{Counts}
@@ -84,15 +85,6 @@ counts-push : (ss : List Step) (s : Step) (m : Machine) → counts_in (ss ++ s �
 counts-push ss s m =
     rw (count-push (is_turn_of m) ss s, count-push (is_told is_done_reply m) ss s, count-push (is_told is_read_reply m) ss s, count-push (is_told is_refused_reply m) ss s, count-push (is_told is_busy_reply m) ss s)
     (counted_by (counts_in ss m) (is_turn_of m s) s.asked)
-
--- what a machine notes of a history and of what follows it
-noted_by : (b : Bool) (s : ModelState) (e : Event) (xs ys zs : List Entry) → xs ≡ ys ++ zs → cond b (entry_of s e ∷ xs) xs ≡ cond b (entry_of s e ∷ ys) ys ++ zs
-noted_by true s e xs ys zs k = ap (λ l. entry_of s e ∷ l) k
-noted_by false s e xs ys zs k = k
-
-pub noted-append : (s : ModelState) (h k : List Event) (m : Machine) → noted s (h ++ k) m ≡ noted s h m ++ noted (after s h) k m
-noted-append s [] k m = refl
-noted-append s (e ∷ h) k m = noted_by (same_machine e.machine m) s e (noted (state_left s e) (h ++ k) m) (noted (state_left s e) h m) (noted (after s (e ∷ h)) k m) (noted-append (state_left s e) h k m)
 
 -- what the interlock was told in a step
 pub record IsAnswered (s : ModelState) (m : Machine) (asked : Asked) (t : ModelState) : Type 0 where

@@ -1,5 +1,7 @@
 -- A worker's turns, one by one.
-use Rattle.std.proofs.Common.{◌≡◌, ℕ, List, [], ◌+◌, ◌∷◌, ◌++◌, refl, sym, subst}
+use Rattle.std.proofs.Common.{◌≡◌, ℕ, Bool, true, false, List, [], ◌+◌, ◌∷◌, ◌++◌, Option, Some, None, refl, sym, ap, ◌∙◌, subst}
+use Rattle.std.specs.Option.{is_some}
+use Rattle.cell_control.specs.declared.fault.CtlFault.{CtlFault}
 use Rattle.cell_control.specs.Rigs.{Rig}
 use Rattle.cell_control.specs.Steps.{Steps}
 use Rattle.cell_notes.specs.declared.counts.Counts.{Counts}
@@ -42,3 +44,11 @@ module _ {L S Sense Reading Act State P M : Type 0} (lines : Lines L) (steps : P
 
 pub few_more : (n k : ℕ) (c now : Counts) (asked : Asked) → k ≡ n + 1 → AreBelow n c → now ≡ counts_with c asked → AreBelow k now
 few_more n k c now asked e b is = subst (λ x. AreBelow x now) (sym e) (subst (AreBelow (n + 1)) (sym is) (below_with n c asked b))
+
+pub one_turn_more : (n k : ℕ) (c now : Counts) (asked : Asked) → k ≡ n + 1 → c.turns ≡ n → now ≡ counts_with c asked → now.turns ≡ k
+one_turn_more n k c now asked e taken is = ap (λ x. x.turns) is ∙ ap (λ x. x + 1) taken ∙ sym e
+
+-- nothing has stopped a machine of which that was found out
+pub not_stopped : (stopped found : Option CtlFault) (b : Bool) → found ≡ stopped → b ≡ is_some found → b ≡ false → stopped ≡ None
+not_stopped None found b e f k = refl
+not_stopped (Some fault) found b e f k = let lie : true ≡ false = sym (ap is_some e) ∙ sym f ∙ k in cc

@@ -1,5 +1,5 @@
 //! Six workers in a scope.
-ghost use Rattle.std.specs.Prelude.{◌≡◌, IfSome, None, [], ◌∷◌};
+ghost use Rattle.std.specs.Prelude.{◌≡◌, IfSome, Some, None, [], ◌∷◌};
 ghost use Rattle.cell_types.specs.declared.machine.Machine.{Machine};
 ghost use Rattle.cell_types.specs.Journals.{journal_of};
 ghost use Rattle.cell_notes.specs.declared.status.Status.{Status};
@@ -65,12 +65,12 @@ where
     requires press { W4.is_ready press passes.press }
     requires deposit { W5.is_ready deposit passes.deposit }
     requires crane { W6.is_ready crane passes.crane }
-    ensures feed { IfSome result (λ six. W1.gives_back feed orders.now.interlock.now.tries (G.may_answer orders.now.gate.now passes.feed.machine) orders.now.turns passes.feed six.feed.pass six.feed.journal.items six.feed.counts six.feed.status six.feed.part) }
-    ensures table { IfSome result (λ six. W2.gives_back table orders.now.interlock.now.tries (G.may_answer orders.now.gate.now passes.table.machine) orders.now.turns passes.table six.table.pass six.table.journal.items six.table.counts six.table.status six.table.part) }
-    ensures robot { IfSome result (λ six. W3.gives_back robot orders.now.interlock.now.tries (G.may_answer orders.now.gate.now passes.robot.machine) orders.now.turns passes.robot six.robot.pass six.robot.journal.items six.robot.counts six.robot.status six.robot.part) }
-    ensures press { IfSome result (λ six. W4.gives_back press orders.now.interlock.now.tries (G.may_answer orders.now.gate.now passes.press.machine) orders.now.turns passes.press six.press.pass six.press.journal.items six.press.counts six.press.status six.press.part) }
-    ensures deposit { IfSome result (λ six. W5.gives_back deposit orders.now.interlock.now.tries (G.may_answer orders.now.gate.now passes.deposit.machine) orders.now.turns passes.deposit six.deposit.pass six.deposit.journal.items six.deposit.counts six.deposit.status six.deposit.part) }
-    ensures crane { IfSome result (λ six. W6.gives_back crane orders.now.interlock.now.tries (G.may_answer orders.now.gate.now passes.crane.machine) orders.now.turns passes.crane six.crane.pass six.crane.journal.items six.crane.counts six.crane.status six.crane.part) }
+    ensures feed { IfSome result (λ six. W1.gives_back feed passes.feed orders.now.interlock.now.tries (G.may_answer orders.now.gate.now passes.feed.machine) orders.now.turns six.feed) }
+    ensures table { IfSome result (λ six. W2.gives_back table passes.table orders.now.interlock.now.tries (G.may_answer orders.now.gate.now passes.table.machine) orders.now.turns six.table) }
+    ensures robot { IfSome result (λ six. W3.gives_back robot passes.robot orders.now.interlock.now.tries (G.may_answer orders.now.gate.now passes.robot.machine) orders.now.turns six.robot) }
+    ensures press { IfSome result (λ six. W4.gives_back press passes.press orders.now.interlock.now.tries (G.may_answer orders.now.gate.now passes.press.machine) orders.now.turns six.press) }
+    ensures deposit { IfSome result (λ six. W5.gives_back deposit passes.deposit orders.now.interlock.now.tries (G.may_answer orders.now.gate.now passes.deposit.machine) orders.now.turns six.deposit) }
+    ensures crane { IfSome result (λ six. W6.gives_back crane passes.crane orders.now.interlock.now.tries (G.may_answer orders.now.gate.now passes.crane.machine) orders.now.turns six.crane) }
 {
     let Passes {
         feed: feed_pass,
@@ -87,12 +87,12 @@ where
         move |scope| -> Option<Six>
             requires { IsFresh orders.now.interlock.now Feed feed_pass × IsFresh orders.now.interlock.now Table table_pass × IsFresh orders.now.interlock.now Robot robot_pass × IsFresh orders.now.interlock.now Press press_pass × IsFresh orders.now.interlock.now Deposit deposit_pass × IsFresh orders.now.interlock.now Crane crane_pass
                 × W1.is_ready feed feed_pass × W2.is_ready table table_pass × W3.is_ready robot robot_pass × W4.is_ready press press_pass × W5.is_ready deposit deposit_pass × W6.is_ready crane crane_pass }
-            ensures { IfSome result (λ six. W1.gives_back feed orders.entry.now.interlock.now.tries (G.may_answer orders.entry.now.gate.now feed_pass.machine) orders.entry.now.turns feed_pass six.feed.pass six.feed.journal.items six.feed.counts six.feed.status six.feed.part
-                × W2.gives_back table orders.entry.now.interlock.now.tries (G.may_answer orders.entry.now.gate.now table_pass.machine) orders.entry.now.turns table_pass six.table.pass six.table.journal.items six.table.counts six.table.status six.table.part
-                × W3.gives_back robot orders.entry.now.interlock.now.tries (G.may_answer orders.entry.now.gate.now robot_pass.machine) orders.entry.now.turns robot_pass six.robot.pass six.robot.journal.items six.robot.counts six.robot.status six.robot.part
-                × W4.gives_back press orders.entry.now.interlock.now.tries (G.may_answer orders.entry.now.gate.now press_pass.machine) orders.entry.now.turns press_pass six.press.pass six.press.journal.items six.press.counts six.press.status six.press.part
-                × W5.gives_back deposit orders.entry.now.interlock.now.tries (G.may_answer orders.entry.now.gate.now deposit_pass.machine) orders.entry.now.turns deposit_pass six.deposit.pass six.deposit.journal.items six.deposit.counts six.deposit.status six.deposit.part
-                × W6.gives_back crane orders.entry.now.interlock.now.tries (G.may_answer orders.entry.now.gate.now crane_pass.machine) orders.entry.now.turns crane_pass six.crane.pass six.crane.journal.items six.crane.counts six.crane.status six.crane.part) }
+            ensures { IfSome result (λ six. W1.gives_back feed feed_pass orders.entry.now.interlock.now.tries (G.may_answer orders.entry.now.gate.now feed_pass.machine) orders.entry.now.turns six.feed
+                × W2.gives_back table table_pass orders.entry.now.interlock.now.tries (G.may_answer orders.entry.now.gate.now table_pass.machine) orders.entry.now.turns six.table
+                × W3.gives_back robot robot_pass orders.entry.now.interlock.now.tries (G.may_answer orders.entry.now.gate.now robot_pass.machine) orders.entry.now.turns six.robot
+                × W4.gives_back press press_pass orders.entry.now.interlock.now.tries (G.may_answer orders.entry.now.gate.now press_pass.machine) orders.entry.now.turns six.press
+                × W5.gives_back deposit deposit_pass orders.entry.now.interlock.now.tries (G.may_answer orders.entry.now.gate.now deposit_pass.machine) orders.entry.now.turns six.deposit
+                × W6.gives_back crane crane_pass orders.entry.now.interlock.now.tries (G.may_answer orders.entry.now.gate.now crane_pass.machine) orders.entry.now.turns six.crane) }
         {
             let mut all_run = true;
             let feed = start(scope, orders, &mut all_run, feed_pass, feed);
@@ -101,23 +101,45 @@ where
             let press = start(scope, orders, &mut all_run, press_pass, press);
             let deposit = start(scope, orders, &mut all_run, deposit_pass, deposit);
             let crane = start(scope, orders, &mut all_run, crane_pass, crane);
-            let feed = joined(rt, feed);
-            let table = joined(rt, table);
-            let robot = joined(rt, robot);
-            let press = joined(rt, press);
-            let deposit = joined(rt, deposit);
-            let crane = joined(rt, crane);
-            Some(Six {
-                feed: feed?,
-                table: table?,
-                robot: robot?,
-                press: press?,
-                deposit: deposit?,
-                crane: crane?,
-                watch: watch_pass,
-            })
+            six_of(
+                joined(rt, feed),
+                joined(rt, table),
+                joined(rt, robot),
+                joined(rt, press),
+                joined(rt, deposit),
+                joined(rt, crane),
+                watch_pass,
+            )
         },
     )
+}
+
+// All six together, if none of them is missing.
+fn six_of(
+    feed: Option<Back<FeedPart>>,
+    table: Option<Back<TablePart>>,
+    robot: Option<Back<RobotPart>>,
+    press: Option<Back<PressPart>>,
+    deposit: Option<Back<DepositPart>>,
+    crane: Option<Back<CranePart>>,
+    watch: Pass,
+) -> Option<Six>
+    ensures { IfSome result (λ six. (feed ≡ Some six.feed) × (table ≡ Some six.table) × (robot ≡ Some six.robot) × (press ≡ Some six.press) × (deposit ≡ Some six.deposit) × (crane ≡ Some six.crane)) }
+{
+    match (feed, table, robot, press, deposit, crane) {
+        (Some(feed), Some(table), Some(robot), Some(press), Some(deposit), Some(crane)) => Some(
+            Six {
+                feed,
+                table,
+                robot,
+                press,
+                deposit,
+                crane,
+                watch,
+            },
+        ),
+        _ => None,
+    }
 }
 
 impl Six {

@@ -33,7 +33,7 @@ pub(crate) struct Promised<W, G> {
 }
 
 impl<W: Worker, G: Gate> Promise<Back<W::Part>> for Promised<W, G> {
-    ghost kept_by = { λ p r. W.gives_back p.worker.value p.interlock.value.tries (G.may_answer p.gate.value p.pass.value.machine) p.turns p.pass.value r.pass r.journal.items r.counts r.status r.part };
+    ghost kept_by = { λ p r. W.gives_back p.worker.value p.pass.value p.interlock.value.tries (G.may_answer p.gate.value p.pass.value.machine) p.turns r };
 }
 
 /// Starts a worker, unless one of those before it couldn't be started.

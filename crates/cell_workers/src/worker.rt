@@ -12,11 +12,9 @@ use std::alloc::Global;
 /// A thread may be given a value of a type parameter, but no struct whose fields have bounds of their
 /// own. So this trait stands between a thread and the seat that it works at.
 pub(crate) trait Worker: Drop {
-    ghost use Rattle.std.specs.Prelude.{◌≡◌, ℕ, Bool, List, []};
-    ghost use Rattle.cell_types.specs.declared.journal.Entry.{Entry};
-    ghost use Rattle.cell_notes.specs.declared.counts.Counts.{Counts};
-    ghost use Rattle.cell_notes.specs.declared.status.Status.{Status};
+    ghost use Rattle.std.specs.Prelude.{◌≡◌, ℕ, Bool, []};
     ghost use Rattle.cell_interlock.specs.Views.{PassView};
+    ghost use Rattle.cell_workers.specs.declared.work.Back.{Back};
 
     /// Its part, which it gives back.
     type Part: Drop;
@@ -24,8 +22,8 @@ pub(crate) trait Worker: Drop {
     // It has come so far by what this pass has seen.
     ghost is_ready: { Self → PassView → Type 0 };
 
-    // What it gives back: by so many tries, its gate and so many turns, and by a pass, what that pass has seen, its journal, its counts, how it fares and its part.
-    ghost gives_back: { Self → ℕ → (ℕ → Bool → Type 0) → ℕ → PassView → PassView → List Entry → Counts → Status → Self.Part → Type 0 };
+    // What it gives back that worked by this pass: where calls have so many tries, by its gate, in so many turns.
+    ghost gives_back: { Self → PassView → ℕ → (ℕ → Bool → Type 0) → ℕ → Back Self.Part → Type 0 };
 
     /// Its turns: at most so many.
     fn work<G: Gate>(
@@ -39,7 +37,7 @@ pub(crate) trait Worker: Drop {
         requires table { pass.table ≡ interlock.now.table }
         requires fresh { pass.seen ≡ [] }
         requires ready { is_ready self pass }
-        ensures { gives_back self interlock.now.tries (G.may_answer gate.now pass.machine) turns pass result.pass result.journal.items result.counts result.status result.part };
+        ensures { gives_back self pass interlock.now.tries (G.may_answer gate.now pass.machine) turns result };
 }
 
 impl<P: Program, B: Part<Sense = P::Sense, Act = P::Act>> Worker for Seat<P, B> {
@@ -52,8 +50,8 @@ impl<P: Program, B: Part<Sense = P::Sense, Act = P::Act>> Worker for Seat<P, B> 
 
     ghost is_ready = { λ seat pass. (pass.machine ≡ (P.steps seat.controller.program).machine) × IsReady (P.steps seat.controller.program) pass.opening pass.seen seat.controller.stopped seat.controller.progress };
 
-    ghost gives_back = { λ seat tries gate limit pass kept journal did fares part. GivesBack tries (P.steps seat.controller.program) (B.rig (B.make seat.part)) gate limit
-        (moment pass (side_of seat.controller.progress seat.controller.stopped (B.state seat.part)) no_counts) kept journal did fares (B.state part) };
+    ghost gives_back = { λ seat pass tries gate limit back. GivesBack tries (P.steps seat.controller.program) (B.rig (B.make seat.part)) gate limit
+        (moment pass (side_of seat.controller.progress seat.controller.stopped (B.state seat.part)) no_counts) back.pass back.journal.items back.counts back.status (B.state back.part) };
 
     fn work<G: Gate>(
         self,

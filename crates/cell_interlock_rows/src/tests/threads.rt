@@ -1,14 +1,14 @@
-//! Threads that share one interlock, each with a pass of its own. What they note of their calls has to
+//! Threads that share one interlock, each with a line of its own. The journals of their lines have to
 //! be accepted by the audit: there is one legal history with just these calls, answers and stamps.
 ghost use Rattle.std.specs.Prelude.{◌≡◌, ◌<◌};
 ghost use Rattle.std.specs.Thread.{IsSync};
 ghost use Rattle.cell_interlock.specs.Fresh.{AreFresh};
 
-use cell_interlock::{Interlock, Pass, Passes};
+use cell_interlock::{Interlock, Pass, PassLine, Passes};
 use cell_report::audit;
-use cell_rules::State;
+use cell_rules::{Line, State};
 use cell_types::{Answer, Call, Entry, Event, Journals, Machine, Pose, Reply, Zone};
-use std::alloc::{AllocError, Global};
+use std::alloc::Global;
 use std::thread::{Threads, join};
 
 /// Numbers that look random, from a seed.
@@ -59,92 +59,56 @@ struct Load {
     tries: u8,
 }
 
-type Journal = Result<Vec<Entry>, AllocError>;
-
-/// Notes a call that was settled.
-fn note(journal: &mut Vec<Entry>, call: Call, reply: Reply) -> Result<(), AllocError> {
-    match reply {
-        Reply::Settled(answer, stamp) => journal.push(Entry {
-            call,
-            answer,
-            stamp,
-        })?,
-        Reply::Busy { .. } => {}
-    }
-    Ok(())
-}
-
-/// Makes calls that look random, and notes them.
-fn work(interlock: &Interlock, mut pass: Pass, alloc: Global, load: Load) -> Journal
-    requires { pass.table ≡ interlock.now.table }
-{
-    let machine = pass.machine();
+/// Makes calls that look random, and gives the journal of them.
+fn work(mut line: PassLine<'_>, load: Load) -> Vec<Entry> {
+    let machine = line.machine();
     let zones = zones_of(machine);
     let mut numbers = Numbers(machine as u32);
-    let mut journal = Vec::new(alloc);
     for _ in 0..load.calls {
-        let call = numbers.call(zones);
-        let reply = interlock.ask(&mut pass, call);
-        note(&mut journal, call, reply)?;
+        let _ = line.ask(numbers.call(zones));
     }
-    Ok(journal)
+    let (_, journal) = line.into_parts();
+    journal
 }
 
 /// The watch inquires about every zone.
-fn inquire(interlock: &Interlock, mut watch: Pass, alloc: Global) -> Journal
-    requires { watch.table ≡ interlock.now.table }
-{
-    let mut journal = Vec::new(alloc);
+fn inquire(mut watch: PassLine<'_>) -> Vec<Entry> {
     for zone in Zone::ALL {
-        let call = Call::Inquire(zone);
-        let reply = interlock.ask(&mut watch, call);
-        note(&mut journal, call, reply)?;
+        let _ = watch.ask(Call::Inquire(zone));
     }
-    Ok(journal)
+    let (_, journal) = watch.into_parts();
+    journal
 }
 
 /// Two machines at once.
-fn two<R: Threads + Sync>(
+fn two<'a, R: Threads + Sync>(
     rt: &R,
-    interlock: &Interlock,
-    one: Pass,
-    other: Pass,
-    alloc: Global,
+    one: PassLine<'a>,
+    other: PassLine<'a>,
     load: Load,
-) -> (Journal, Journal)
-    requires one { one.table ≡ interlock.now.table }
-    requires other { other.table ≡ interlock.now.table }
-{
-    join(
-        rt,
-        move || work(interlock, one, alloc, load),
-        move || work(interlock, other, alloc, load),
-    )
+) -> (Vec<Entry>, Vec<Entry>) {
+    join(rt, move || work(one, load), move || work(other, load))
 }
 
 /// Four machines at once.
-fn four<R: Threads + Sync>(
+fn four<'a, R: Threads + Sync>(
     rt: &R,
-    interlock: &Interlock,
-    feeders: (Pass, Pass),
-    workers: (Pass, Pass),
-    alloc: Global,
+    feeders: (PassLine<'a>, PassLine<'a>),
+    workers: (PassLine<'a>, PassLine<'a>),
     load: Load,
-) -> ((Journal, Journal), (Journal, Journal))
-    requires sync { IsSync R.row }
-    requires feeders { (feeders.0.table ≡ interlock.now.table) × (feeders.1.table ≡ interlock.now.table) }
-    requires workers { (workers.0.table ≡ interlock.now.table) × (workers.1.table ≡ interlock.now.table) }
+) -> ((Vec<Entry>, Vec<Entry>), (Vec<Entry>, Vec<Entry>))
+    requires { IsSync R.row }
 {
     let (feed, table) = feeders;
     let (robot, press) = workers;
     join(
         rt,
         move ||
-            requires { IsSync R.row × (feed.table ≡ interlock.now.table) × (table.table ≡ interlock.now.table) }
-        { two(rt, interlock, feed, table, alloc, load) },
+            requires { IsSync R.row }
+        { two(rt, feed, table, load) },
         move ||
-            requires { IsSync R.row × (robot.table ≡ interlock.now.table) × (press.table ≡ interlock.now.table) }
-        { two(rt, interlock, robot, press, alloc, load) },
+            requires { IsSync R.row }
+        { two(rt, robot, press, load) },
     )
 }
 
@@ -155,37 +119,34 @@ fn seven<R: Threads + Sync>(
     passes: Passes,
     alloc: Global,
     load: Load,
-) -> Result<Journals, AllocError>
+) -> Journals
     requires { AreFresh interlock.now passes }
 {
-    let Passes {
-        feed,
-        table,
-        robot,
-        press,
-        deposit,
-        crane,
-        watch,
-    } = passes;
+    let feed = PassLine::new(alloc, interlock, passes.feed);
+    let table = PassLine::new(alloc, interlock, passes.table);
+    let robot = PassLine::new(alloc, interlock, passes.robot);
+    let press = PassLine::new(alloc, interlock, passes.press);
+    let deposit = PassLine::new(alloc, interlock, passes.deposit);
+    let crane = PassLine::new(alloc, interlock, passes.crane);
+    let watch = PassLine::new(alloc, interlock, passes.watch);
     let (belts, (feeders, workers)) = join(
         rt,
         move ||
-            requires { IsSync R.row × (deposit.table ≡ interlock.now.table) × (crane.table ≡ interlock.now.table) }
-        { two(rt, interlock, deposit, crane, alloc, load) },
+            requires { IsSync R.row }
+        { two(rt, deposit, crane, load) },
         move ||
-            requires { IsSync R.row × (feed.table ≡ interlock.now.table) × (table.table ≡ interlock.now.table)
-                × (robot.table ≡ interlock.now.table) × (press.table ≡ interlock.now.table) }
-        { four(rt, interlock, (feed, table), (robot, press), alloc, load) },
+            requires { IsSync R.row }
+        { four(rt, (feed, table), (robot, press), load) },
     );
-    Ok(Journals {
-        feed: feeders.0?,
-        table: feeders.1?,
-        robot: workers.0?,
-        press: workers.1?,
-        deposit: belts.0?,
-        crane: belts.1?,
-        watch: inquire(interlock, watch, alloc)?,
-    })
+    Journals {
+        feed: feeders.0,
+        table: feeders.1,
+        robot: workers.0,
+        press: workers.1,
+        deposit: belts.0,
+        crane: belts.1,
+        watch: inquire(watch),
+    }
 }
 
 /// Whether many calls were done: journals of nothing but refusals would be accepted too.
@@ -197,13 +158,13 @@ fn many_are_done(events: &[Event]) -> bool {
 /// Whether the audit accepts what six threads have noted.
 fn is_accepted<R: Threads + Sync>(rt: &R, alloc: Global, opening: State, load: Load) -> bool {
     match Interlock::new(alloc, opening, load.tries) {
-        Ok((interlock, passes)) => match seven(rt, &interlock, passes, alloc, load) {
-            Ok(journals) => match audit(alloc, &journals, &opening, None) {
+        Ok((interlock, passes)) => {
+            let journals = seven(rt, &interlock, passes, alloc, load);
+            match audit(alloc, &journals, &opening, None) {
                 Ok(events) => many_are_done(&events),
                 Err(_) => false,
-            },
-            Err(_) => false,
-        },
+            }
+        }
         Err(_) => false,
     }
 }

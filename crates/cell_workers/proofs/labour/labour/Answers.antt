@@ -1,10 +1,9 @@
-use Rattle.std.proofs.Common.{◌≡◌, ◌∙◌, ◌+◌, sym, ap, subst, refl, not, true, arith}
-use Rattle.std.specs.Option.{is_none, is_some}
+use Rattle.std.proofs.Common.{◌∙◌, ◌+◌, sym, ap, subst, refl}
 use Rattle.cell_notes.specs.Notes.{no_counts, AreBelow}
 use Rattle.cell_notes.proofs.CountLemmas.{none_below}
 use Rattle.cell_seat.specs.Sides.{side_of}
-use Rattle.cell_seat.proofs.Running.{none_runs}
-use Rattle.cell_workers.proofs.Turning.{has_begun_as, comes_by, few_more}
+use Rattle.cell_workers.specs.Workers.{moment}
+use Rattle.cell_workers.proofs.Turning.{has_begun_as, comes_by, few_more, one_turn_more, not_stopped}
 use Rattle.cell_workers.proofs.labour.labour.Goals as goal
 
 pub loop-turn-init : goal.loop-turn-init
@@ -29,12 +28,14 @@ loop-turn-preserved g c =
     let old = c.loop-turn.invariant in
     let seat = c.loop-turn.seat in
     let t = c.turn.ensures in
-    let runs : is_none seat.controller.stopped ≡ true = ap not (ap is_some (sym c.stopped.ensures) ∙ sym c.is_some.ensures ∙ c.if-is_some.false) in
+    let first = moment c.args.line.now (side_of c.args.seat.now.controller.progress c.args.seat.now.controller.stopped (g.B.Part.state c.args.seat.now.part)) no_counts in
+    let before = moment c.loop-turn.line (side_of seat.controller.progress seat.controller.stopped (g.B.Part.state seat.part)) c.loop-turn.counts in
+    let now = moment c.turn.new.line (side_of c.turn.new.self.controller.progress c.turn.new.self.controller.stopped (g.B.Part.state c.turn.new.self.part)) c.with-counts.result in
     record {
       come = comes_by (record { opening = g.L.Line.opening; seen = g.L.Line.seen; asks = g.L.Line.asks }) g.P.Program.steps g.B.Part.rig (g.G.Gate.may_answer c.args.gate.now (g.L.Line.machine c.args.line.now))
-          seat.controller.program c.args.seat.now.controller.program (g.B.Part.make seat.part) (g.B.Part.make c.args.seat.now.part) old.program old.make _ _ _ old.come
+          seat.controller.program c.args.seat.now.controller.program (g.B.Part.make seat.part) (g.B.Part.make c.args.seat.now.part) old.program old.make first before now old.come
           (record {
-            runs = none_runs _ runs;
+            runs = not_stopped seat.controller.stopped c.stopped.result c.is_some.result c.stopped.ensures c.is_some.ensures c.if-is_some.false;
             let_in = rw (old.taken, sym c.machine-machine.ensures) c.if-not-pass.ensures;
             asked = c.turn.result;
             row = t.row;
@@ -46,6 +47,6 @@ loop-turn-preserved g c =
       own = t.own ∙ old.own;
       opening = t.opening ∙ old.opening;
       ready = t.ready;
-      taken = ap (λ k. k.turns) c.with-counts.ensures ∙ omega (arith, old.taken);
+      taken = one_turn_more c.loop-turn.turn _ c.loop-turn.counts _ c.turn.result refl old.taken c.with-counts.ensures;
       few = few_more (c.loop-turn.turn + 1) _ c.loop-turn.counts _ c.turn.result refl old.few c.with-counts.ensures;
     }

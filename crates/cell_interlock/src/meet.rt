@@ -1,0 +1,50 @@
+//! Passes that meet.
+ghost use Rattle.std.specs.Prelude.{◌≡◌, [], ◌++◌};
+ghost use Rattle.cell_interlock.specs.Seen.{HasSeenMore};
+
+use crate::interlock::Interlock;
+use crate::pass::{Pass, View};
+use crate::rule::{FirstOff, Gathers, Together};
+use atomic_table::Seat;
+
+impl Interlock {
+    /// Brings the machines of another seat together with those of a seat.
+    fn join(&self, seat: &mut Seat<(), View>, other: Seat<(), View>)
+        requires same_interlock { (seat.old.table_id ≡ self.now.table) × (other.table_id ≡ self.now.table) }
+        requires no_slot { other.me.1 ≡ [] }
+        ensures table { seat.new.table_id ≡ seat.old.table_id }
+        ensures both { seat.new.me ≡ (other.me.0 ++ seat.old.me.0, seat.old.me.1) }
+    {
+        self.table.shared.join_seat::<Together>(seat, other);
+    }
+
+    /// Lets two passes meet: afterwards both have seen one history, which begins with all that each of
+    /// them had seen. No call is made, and no memory is taken.
+    ///
+    /// Both passes are of those that were made with this interlock. They come back in their order, each
+    /// its own machine's; of that machine there is nothing new in what the pass has seen (`left`,
+    /// `right`).
+    pub fn meet(&self, left: Pass, right: Pass) -> (Pass, Pass)
+        requires same_interlock { (left.table ≡ self.now.table) × (right.table ≡ self.now.table) }
+        ensures left { HasSeenMore left result.0 }
+        ensures right { HasSeenMore right result.1 }
+        ensures same { result.0.seen ≡ result.1.seen }
+    {
+        let Pass {
+            machine: left_machine,
+            seat: mut left_seat,
+        } = left;
+        let Pass {
+            machine: right_machine,
+            seat: right_seat,
+        } = right;
+        self.join(&mut left_seat, right_seat);
+        let shared = &self.table.shared;
+        shared.load::<Gathers>(&mut left_seat, 0);
+        let right_seat = shared.split_seat::<FirstOff>(&mut left_seat);
+        (
+            Pass::of(left_machine, left_seat),
+            Pass::of(right_machine, right_seat),
+        )
+    }
+}

@@ -1,0 +1,147 @@
+//! Cells whose machines work in threads, with a closure over the line of each potentiometer.
+ghost use Rattle.std.specs.Prelude.{IfOk, pos, ◌≤◌, ◌<ℤ◌, ◌≤ℤ◌};
+ghost use Rattle.cell_calib.specs.Line.{IsReading};
+ghost use Rattle.cell_parts.specs.Axes.{IsAxisScale, arm_end, rotation_end, turn_end};
+ghost use Rattle.cell_rules.specs.Start.{IsStartState};
+
+use cell_calib::{Calibration, Gauge, Points, PointsFault, line_at};
+use cell_notes::RunRecord;
+use cell_plant::Cell;
+use cell_rules::State;
+use cell_workers::{Gate, RunFault, run_workers};
+use std::alloc::Global;
+use std::sync::Wait;
+use std::sync::atomic::{AtomicU64, Ordering};
+use std::test::Fail;
+use std::thread::Threads;
+
+// Raw values from 0 to 4000 over an axis.
+fn points_of(end: i32) -> Result<Points, PointsFault>
+    requires some { pos 0 <ℤ end }
+    requires few { end ≤ℤ pos 4000 }
+    ensures { IfOk result (IsAxisScale end) }
+{
+    Points::new(0, 4000, 0, end, 5)
+}
+
+// The points of the five potentiometers.
+#[derive(Clone, Copy)]
+struct AxisPoints {
+    arm: Points,
+    rotation: Points,
+    turn: Points,
+}
+
+/// How many exchanges a call may lose, and how many turns each worker has.
+#[derive(Clone, Copy)]
+pub struct Limits {
+    pub tries: u8,
+    pub turns: u32,
+}
+
+/// What comes of workers.
+pub type Worked = Result<RunRecord, RunFault>;
+
+// Workers of a cell with these closures.
+fn work_by<R, F1, F2, F3, F4, F5, G>(
+    rt: &R,
+    alloc: Global,
+    start: State,
+    gauges: (F1, F2, F3, F4, F5),
+    points: AxisPoints,
+    limits: Limits,
+    gate: &G,
+) -> Worked
+where
+    R: Threads + Wait + Sync,
+    F1: Gauge + Send,
+    F2: Gauge + Send,
+    F3: Gauge + Send,
+    F4: Gauge + Send,
+    F5: Gauge + Send,
+    G: Gate + Sync,
+    requires start { IsStartState start }
+    requires arm1 { F1.keeps gauges.0 points.arm }
+    requires arm2 { F2.keeps gauges.1 points.arm }
+    requires rotation { F3.keeps gauges.2 points.rotation }
+    requires turn { F4.keeps gauges.3 points.turn }
+    requires gripper { F5.keeps gauges.4 points.arm }
+    requires arm_axis { IsAxisScale arm_end points.arm }
+    requires rotation_axis { IsAxisScale rotation_end points.rotation }
+    requires turn_axis { IsAxisScale turn_end points.turn }
+{
+    let (arm1, arm2, rotation, turn, gripper) = gauges;
+    let cell = Cell::new(
+        &start,
+        Calibration::new(arm1, points.arm),
+        Calibration::new(arm2, points.arm),
+        Calibration::new(rotation, points.rotation),
+        Calibration::new(turn, points.turn),
+        Calibration::new(gripper, points.arm),
+    );
+    run_workers(rt, alloc, cell, start, limits.tries, limits.turns, gate)
+}
+
+/// Workers of a cell whose closures are over their lines.
+pub fn work<R: Threads + Wait + Sync, G: Gate + Sync>(
+    rt: &R,
+    alloc: Global,
+    places: [bool; 10],
+    limits: Limits,
+    gate: &G,
+) -> Result<Worked, Fail> {
+    let start = State::start(places, 0)?;
+    let arm = points_of(1000)?;
+    let rotation = points_of(2000)?;
+    let turn = points_of(500)?;
+    let gauges = (
+        move |raw: u16| line_at(&arm, raw),
+        move |raw: u16| line_at(&arm, raw),
+        move |raw: u16| line_at(&rotation, raw),
+        move |raw: u16| line_at(&turn, raw),
+        move |raw: u16| line_at(&arm, raw),
+    );
+    let points = AxisPoints {
+        arm,
+        rotation,
+        turn,
+    };
+    Ok(work_by(rt, alloc, start, gauges, points, limits, gate))
+}
+
+/// Workers of a cell whose closures count their calls.
+pub fn work_counted<R: Threads + Wait + Sync, G: Gate + Sync>(
+    rt: &R,
+    alloc: Global,
+    calls: &[AtomicU64; 5],
+    limits: Limits,
+    gate: &G,
+) -> Result<Worked, Fail> {
+    let start = State::start([false; 10], 0)?;
+    let arm = points_of(1000)?;
+    let rotation = points_of(2000)?;
+    let turn = points_of(500)?;
+    let gauges = (
+        |raw: u16| counted(&calls[0], arm, raw),
+        |raw: u16| counted(&calls[1], arm, raw),
+        |raw: u16| counted(&calls[2], rotation, raw),
+        |raw: u16| counted(&calls[3], turn, raw),
+        |raw: u16| counted(&calls[4], arm, raw),
+    );
+    let points = AxisPoints {
+        arm,
+        rotation,
+        turn,
+    };
+    Ok(work_by(rt, alloc, start, gauges, points, limits, gate))
+}
+
+// The line, and the call is counted.
+fn counted(calls: &AtomicU64, points: Points, raw: u16) -> i32
+    requires low { points.raw_lo ≤ raw }
+    requires high { raw ≤ points.raw_hi }
+    ensures { IsReading points raw result }
+{
+    calls.fetch_add(1, Ordering::SeqCst);
+    line_at(&points, raw)
+}

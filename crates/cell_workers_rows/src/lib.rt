@@ -1,0 +1,9 @@
+//! Tests of six workers, by public calls alone.
+#![tactic(auto)]
+
+#[cfg(test)]
+mod cells;
+#[cfg(test)]
+mod gates;
+#[cfg(test)]
+mod rows;

@@ -1,0 +1,144 @@
+//! Runs of six workers, and what their records tell.
+
+use crate::cells::{Limits, work, work_counted};
+use crate::gates::{Meeting, ShutForFeed};
+use cell_notes::{Counts, RunRecord, Status};
+use cell_report::audit;
+use cell_rules::{State, apply};
+use cell_workers::{OpenGate, RunFault};
+use std::alloc::Global;
+use std::test::Fail;
+
+const EMPTY: [bool; 10] = [false; 10];
+
+// Plates at FeedEntry, Table, PressIn and Crane.
+const FOUR: [bool; 10] = [
+    true, false, true, false, true, false, false, false, false, true,
+];
+
+const THREE_TURNS: Limits = Limits {
+    tries: 64,
+    turns: 3,
+};
+
+// So many calls of a machine in three turns: done, and inquiries.
+fn three_turns(done: u64, read: u64) -> Counts {
+    Counts {
+        turns: 3,
+        done,
+        read,
+        refused: 0,
+        busy: 0,
+    }
+}
+
+// Each machine's calls in its first three turns, from a start without plates. In none of them machines meet, so
+// they are the same however the workers go on.
+fn first_steps() -> [Counts; 7] {
+    [
+        three_turns(3, 0),
+        three_turns(3, 0),
+        three_turns(0, 2),
+        three_turns(2, 0),
+        three_turns(3, 0),
+        three_turns(0, 1),
+        Counts::none(),
+    ]
+}
+
+fn is_first_steps(record: &RunRecord) -> bool {
+    record.counts == first_steps()
+        && record.status == [Status::Fine; 7]
+        && record.axes == [980, 0, 0, 300, 0, 0, 0, 900]
+        && record.end.is_none()
+}
+
+#[test]
+fn first_steps_are_always_the_same(rt: HostRuntime) -> Result<(), Fail> {
+    for round in 0..100u32 {
+        let record = work(&rt, rt.alloc(), EMPTY, THREE_TURNS, &OpenGate)??;
+        assert!(rt; is_first_steps(&record), "{round}");
+    }
+    Ok(())
+}
+
+// A machine that waits for the others is let in once they ask too: so all six work at once.
+#[test]
+fn six_work_at_once(rt: HostRuntime) -> Result<(), Fail> {
+    let meeting = Meeting::new();
+    let limits = Limits { tries: 8, turns: 3 };
+    let record = work_counted(&rt, rt.alloc(), &meeting.calls, limits, &meeting)??;
+    assert!(rt; record.status == [Status::Fine; 7]);
+    assert!(rt; meeting.is_in_order());
+    Ok(())
+}
+
+#[test]
+fn a_gate_ends_one_worker(rt: HostRuntime) -> Result<(), Fail> {
+    let record = work(&rt, rt.alloc(), EMPTY, THREE_TURNS, &ShutForFeed)??;
+    let mut status = [Status::Fine; 7];
+    status[0] = Status::GateLimit;
+    assert!(rt; record.status == status);
+    assert!(rt; record.counts.map(|counts| counts.turns) == [1, 3, 3, 3, 3, 3, 0]);
+    Ok(())
+}
+
+#[test]
+fn tries_have_limits(rt: HostRuntime) -> Result<(), Fail> {
+    for tries in [0, 65] {
+        let limits = Limits { tries, turns: 3 };
+        let worked = work(&rt, rt.alloc(), EMPTY, limits, &OpenGate)?;
+        assert!(rt;
+            worked.is_err_and(|fault| fault == RunFault::Tries),
+            "{tries}"
+        );
+    }
+    Ok(())
+}
+
+// The plates after the events that the journals tell.
+fn plates_told(alloc: Global, record: &RunRecord) -> Result<u32, Fail> {
+    let events = audit(alloc, &record.journals, &record.start, None)?;
+    let mut state = record.start;
+    for event in &events {
+        apply(&mut state, event.machine, event.call);
+    }
+    Ok(state.plates())
+}
+
+// No machine stops, and the plates that it began with are kept.
+#[test]
+fn long_runs_keep_their_plates(rt: HostRuntime) -> Result<(), Fail> {
+    for tries in [1, 8] {
+        let limits = Limits {
+            tries,
+            turns: 20_000,
+        };
+        let record = work(&rt, rt.alloc(), FOUR, limits, &OpenGate)??;
+        assert!(rt; record.status == [Status::Fine; 7], "{tries}");
+        assert!(rt;
+            record.counts.map(|counts| counts.turns)[..6] == [20_000; 6],
+            "{tries}"
+        );
+        assert!(rt; plates_told(rt.alloc(), &record)? == 4, "{tries}");
+    }
+    Ok(())
+}
+
+// Whatever growth is refused, the record tells who was stopped by that, or the fault why there is none.
+#[test]
+fn workers_without_memory(rt: HostRuntime) -> Result<(), Fail> {
+    match work(&rt, rt.alloc(), EMPTY, THREE_TURNS, &OpenGate)? {
+        Ok(record) => {
+            let wanted = first_steps().map(|counts| (counts.done, counts.read));
+            let asked = record.counts.map(|counts| (counts.done, counts.read));
+            for (machine, status) in record.status.iter().enumerate() {
+                let is_whole = asked[machine] == wanted[machine];
+                assert!(rt; is_whole == (*status == Status::Fine), "{machine}");
+                assert!(rt; is_whole || *status == Status::Memory, "{machine}");
+            }
+        }
+        Err(fault) => assert!(rt; fault != RunFault::Tries),
+    }
+    Ok(())
+}
