@@ -39,14 +39,23 @@ impl Counts {
         ensures { result ≡ counts_with self asked }
     {
         let mut counts = self;
-        counts.turns += 1;
+        counts.add(asked);
+        counts
+    }
+
+    // Counts one more turn, in which this was asked. In place, which saves copying five counts at each turn.
+    #[inline(always)]
+    pub(crate) fn add(&mut self, asked: Asked)
+        requires { HasRoom self.old }
+        ensures { self.new ≡ counts_with self.old asked }
+    {
+        self.turns += 1;
         match asked {
-            Some((_, Ok(Reply::Settled(Answer::Done, _)))) => counts.done += 1,
-            Some((_, Ok(Reply::Settled(Answer::Shown { .. }, _)))) => counts.read += 1,
-            Some((_, Ok(Reply::Settled(Answer::Refused(_), _)))) => counts.refused += 1,
-            Some((_, Ok(Reply::Busy { .. }))) => counts.busy += 1,
+            Some((_, Ok(Reply::Settled(Answer::Done, _)))) => self.done += 1,
+            Some((_, Ok(Reply::Settled(Answer::Shown { .. }, _)))) => self.read += 1,
+            Some((_, Ok(Reply::Settled(Answer::Refused(_), _)))) => self.refused += 1,
+            Some((_, Ok(Reply::Busy { .. }))) => self.busy += 1,
             Some((_, Err(_))) | None => {}
         }
-        counts
     }
 }

@@ -36,6 +36,7 @@ impl Notebook {
 
     /// Notes a turn of its machine, in which this was asked. The turn is counted, and a call that was
     /// settled ends the journal; where the room for its entry is refused, nothing is noted.
+    #[inline(always)]
     pub fn note(&mut self, asked: Asked) -> Result<(), AllocError>
         requires { HasRoom self.old.counts }
         ensures noted { OnOk result (notes_of self.new ≡ notes_with (notes_of self.old) asked) }
@@ -45,7 +46,7 @@ impl Notebook {
         if let Some(entry) = entry_of(asked) {
             self.journal.push(entry)?;
         }
-        self.counts = self.counts.with(asked);
+        self.counts.add(asked);
         Ok(())
     }
 }

@@ -202,6 +202,10 @@ claim_refusal s m z =
     or shut_to_guest s m z
     or worn s
 
+-- a plate can't go this way
+abbrev pub way_refusal : ModelState → Option Transfer → Option Refusal
+way_refusal s row = wrong_way row or nothing_to_give s row or no_room s row or worn s
+
 abbrev pub give_refusal : ModelState → Machine → Zone → Option Refusal
 give_refusal s m z =
     not_party m z

@@ -73,6 +73,7 @@ impl Bench {
     }
 
     // The call itself, before it is heard.
+    #[inline(always)]
     fn make(&mut self, call: Call) -> Result<Reply, LineFault>
         ensures asks { BenchAsks (desk_of self.old) call result (desk_of self.new) }
         ensures seen { SeenAfter self.old.machine call result self.old.opening self.old.history.items self.new.history.items }
@@ -130,6 +131,8 @@ impl Line for Bench {
         self.heard
     }
 
+    // inline, so that what came back need not pass through memory
+    #[inline(always)]
     fn ask(&mut self, call: Call) -> Result<Reply, LineFault> {
         let answered = self.make(call);
         self.heard = self.heard.after(call, answered);

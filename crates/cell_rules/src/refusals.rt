@@ -29,6 +29,12 @@ fn not_party(machine: Machine, zone: Zone) -> Option<Refusal>
     (!is_party(machine, zone)).then_some(Refusal::NotParty)
 }
 
+fn wrong_way(row: Option<Transfer>) -> Option<Refusal>
+    ensures { result ≡ refusals.wrong_way row }
+{
+    row.is_none().then_some(Refusal::WrongWay)
+}
+
 impl State {
     /// Whether a machine owns a zone.
     pub(crate) fn owns(&self, machine: Machine, zone: Zone) -> bool
@@ -68,7 +74,8 @@ impl State {
     fn not_owner(&self, machine: Machine, zone: Zone) -> Option<Refusal>
         ensures { result ≡ refusals.not_owner self.now machine zone }
     {
-        (!self.owns(machine, zone)).then_some(Refusal::NotOwner(self.owner(zone)))
+        let owner = self.owner(zone);
+        (owner != Some(machine)).then_some(Refusal::NotOwner(owner))
     }
 
     fn plate_in_zone(&self, zone: Zone) -> Option<Refusal>
@@ -122,6 +129,16 @@ impl State {
         self.is_full(row?.to).then_some(Refusal::PlaceFull)
     }
 
+    // Why a plate can't go this way.
+    fn way_refusal(&self, row: Option<Transfer>) -> Option<Refusal>
+        ensures { result ≡ refusals.way_refusal self.now row }
+    {
+        wrong_way(row)
+            .or_else(|| self.nothing_to_give(row))
+            .or_else(|| self.no_room(row))
+            .or_else(|| self.worn())
+    }
+
     fn no_plate_in_zone(&self, zone: Zone) -> Option<Refusal>
         ensures { result ≡ refusals.no_plate_in_zone self.now zone }
     {
@@ -141,14 +158,13 @@ impl State {
     pub(crate) fn give_refusal(&self, machine: Machine, zone: Zone) -> Option<Refusal>
         ensures { result ≡ refusals.give_refusal self.now machine zone }
     {
-        let row = self.gift(machine, zone);
-        not_party(machine, zone)
-            .or(self.not_owner(machine, zone))
-            .or(self.plate_in_zone(zone))
-            .or(row.is_none().then_some(Refusal::WrongWay))
-            .or(self.nothing_to_give(row))
-            .or(self.no_room(row))
-            .or(self.worn())
+        let unfit = not_party(machine, zone)
+            .or_else(|| self.not_owner(machine, zone))
+            .or_else(|| self.plate_in_zone(zone));
+        if let Some(refusal) = unfit {
+            return Some(refusal);
+        }
+        self.way_refusal(self.gift(machine, zone))
     }
 
     pub(crate) fn yield_refusal(&self, machine: Machine, zone: Zone) -> Option<Refusal>
