@@ -7,5 +7,3 @@ mod cells;
 mod ends;
 #[cfg(test)]
 mod rounds;
-#[cfg(test)]
-mod runs;

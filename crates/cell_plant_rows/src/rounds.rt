@@ -44,47 +44,70 @@ fn by_chance(alloc: Global, seed: u32, count: usize) -> Result<Vec<Turn>, Fail> 
     Ok(turns)
 }
 
-// A run with no machine stopped: the places that are full at its end, and its stamp.
-fn is_at(record: &RunRecord, places: &[u8; 10], stamp: u32) -> bool {
-    let Some(end) = record.end else {
-        return false;
-    };
-    record.status == [Status::Fine; 7]
-        && end.stamp() == stamp
-        && Place::ALL.map(|place| end.is_full(place)) == places_of(places)
+// A run and its end.
+#[derive(Clone, Copy)]
+struct Round {
+    start: &'static [u8; 10],
+    // of turns by chance; without one the machines have their turns one after another
+    seed: Option<u32>,
+    count: usize,
+    places: &'static [u8; 10],
+    stamp: u32,
+    // how many calls of each machine were done
+    done: Option<[u64; 7]>,
+    axes: Option<[i32; 8]>,
 }
 
-// How many calls of each machine were done.
-fn done(record: &RunRecord) -> [u64; 7] {
-    record.counts.map(|counts| counts.done)
-}
-
-// A plate goes once round and is back where it began.
-#[test]
-fn a_plate_goes_round(rt: HostRuntime) -> Result<(), Fail> {
-    let start = b"1000000000";
-    let turns = in_turn(rt.alloc(), 5257)?;
-    let record = run(rt.alloc(), places_of(start), 0, turns.as_slice())??;
-    assert!(rt; is_at(&record, start, 62));
-    assert!(rt; done(&record) == [10, 13, 8, 15, 12, 4, 0]);
-    assert!(rt; record.axes == [500, 20, 20, 320, 0, 0, 2000, 860]);
-    Ok(())
-}
-
-// Four plates go round and round.
-#[test]
-fn four_plates_go_round(rt: HostRuntime) -> Result<(), Fail> {
-    let start = places_of(b"1010100001");
-    let turns = in_turn(rt.alloc(), 20_000)?;
-    let record = run(rt.alloc(), start, 0, turns.as_slice())??;
-    assert!(rt; is_at(&record, b"1011000000", 292));
-    assert!(rt; done(&record) == [56, 52, 47, 66, 49, 22, 0]);
-    let turns = by_chance(rt.alloc(), 5, 20_000)?;
-    let record = run(rt.alloc(), start, 0, turns.as_slice())??;
-    assert!(rt; is_at(&record, b"0011000011", 283));
-    assert!(rt; done(&record) == [52, 51, 46, 66, 48, 20, 0]);
-    Ok(())
-}
+const ROUNDS: &[Round] = &[
+    // a plate goes once round and is back where it began
+    Round {
+        start: b"1000000000",
+        seed: None,
+        count: 5257,
+        places: b"1000000000",
+        stamp: 62,
+        done: Some([10, 13, 8, 15, 12, 4, 0]),
+        axes: Some([500, 20, 20, 320, 0, 0, 2000, 860]),
+    },
+    // four plates go round and round
+    Round {
+        start: b"1010100001",
+        seed: None,
+        count: 20_000,
+        places: b"1011000000",
+        stamp: 292,
+        done: Some([56, 52, 47, 66, 49, 22, 0]),
+        axes: None,
+    },
+    Round {
+        start: b"1010100001",
+        seed: Some(5),
+        count: 20_000,
+        places: b"0011000011",
+        stamp: 283,
+        done: Some([52, 51, 46, 66, 48, 20, 0]),
+        axes: None,
+    },
+    // with six plates the cell comes to a standstill: later turns change nothing, and no machine is stopped
+    Round {
+        start: b"1011010101",
+        seed: None,
+        count: 6000,
+        places: b"0111001011",
+        stamp: 22,
+        done: Some([3, 4, 2, 8, 5, 0, 0]),
+        axes: None,
+    },
+    Round {
+        start: b"1011010101",
+        seed: None,
+        count: 12_000,
+        places: b"0111001011",
+        stamp: 22,
+        done: Some([3, 4, 2, 8, 5, 0, 0]),
+        axes: None,
+    },
+];
 
 // Where a plate is after 5000 turns by chance, and the stamp, by where it began; before them the seed.
 const WALKS: [(u32, &[u8; 10], &[u8; 10], u32); 10] = [
@@ -100,24 +123,54 @@ const WALKS: [(u32, &[u8; 10], &[u8; 10], u32); 10] = [
     (10, b"0000000001", b"0000000000", 59),
 ];
 
+// A round's run.
+fn run_of(alloc: Global, round: &Round) -> Result<RunRecord, Fail> {
+    let turns = match round.seed {
+        Some(seed) => by_chance(alloc, seed, round.count)?,
+        None => in_turn(alloc, round.count)?,
+    };
+    Ok(run(alloc, places_of(round.start), 0, turns.as_slice())??)
+}
+
+// Whether no machine was stopped in a run, and it ended as its round says.
+fn ends_so(round: &Round, record: &RunRecord) -> bool {
+    let Some(end) = record.end else {
+        return false;
+    };
+    let done = record.counts.map(|counts| counts.done);
+    record.status == [Status::Fine; 7]
+        && end.stamp() == round.stamp
+        && Place::ALL.map(|place| end.is_full(place)) == places_of(round.places)
+        && round.done.unwrap_or(done) == done
+        && round.axes.unwrap_or(record.axes) == record.axes
+}
+
 #[test]
-fn a_plate_comes_on_from_each_place(rt: HostRuntime) -> Result<(), Fail> {
-    for (seed, start, places, stamp) in WALKS {
-        let turns = by_chance(rt.alloc(), seed, 5000)?;
-        let record = run(rt.alloc(), places_of(start), 0, turns.as_slice())??;
-        assert!(rt; is_at(&record, places, stamp), "{seed}");
+fn rounds_end_so(rt: HostRuntime) -> Result<(), Fail> {
+    for round in ROUNDS {
+        assert!(rt;
+            ends_so(round, &run_of(rt.alloc(), round)?),
+            "{}",
+            round.count
+        );
     }
     Ok(())
 }
 
-// With six plates the cell comes to a standstill: later turns change nothing, and no machine is stopped.
+// A plate comes on from each place.
 #[test]
-fn six_plates_stand_still(rt: HostRuntime) -> Result<(), Fail> {
-    for count in [6000, 12_000] {
-        let turns = in_turn(rt.alloc(), count)?;
-        let record = run(rt.alloc(), places_of(b"1011010101"), 0, turns.as_slice())??;
-        assert!(rt; is_at(&record, b"0111001011", 22));
-        assert!(rt; done(&record) == [3, 4, 2, 8, 5, 0, 0]);
+fn walks_end_so(rt: HostRuntime) -> Result<(), Fail> {
+    for (seed, start, places, stamp) in WALKS {
+        let round = Round {
+            start,
+            seed: Some(seed),
+            count: 5000,
+            places,
+            stamp,
+            done: None,
+            axes: None,
+        };
+        assert!(rt; ends_so(&round, &run_of(rt.alloc(), &round)?), "{seed}");
     }
     Ok(())
 }
