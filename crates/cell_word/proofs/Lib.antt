@@ -3,6 +3,9 @@ pub mod Growing
 pub mod RoundTrip
 pub mod Windows
 pub mod Seen
+pub mod Parties
+pub mod Trying
+pub mod Turning
 pub mod SameAnswer
 pub mod ZoneRows
 pub mod PoseRows

@@ -27,23 +27,10 @@ use Rattle.cell_word.specs.StateWords.{zone_codes, onto_full, is_lawful_zone, is
 use Rattle.cell_word.specs.declared.patterns.Pattern.{Pattern}
 use Rattle.cell_word.proofs.RoundTrip.{told_back, laid_out}
 use Rattle.cell_word.proofs.SameAnswer.{same_bool, one_bool}
-use Rattle.cell_word.proofs.Windows.{and_or, stands-window, field_shown}
+use Rattle.cell_word.proofs.Windows.{and_or, stands-window, field_shown, all_below, from_below, five_fit}
 use Rattle.cell_word.proofs.Seen.{zone_code, zone_window, place_window, place_word, zone_five, is_lawful, lawful_at}
 use Rattle.cell_word.proofs.ZoneRows.{and_zero}
 use Rattle.cell_word.proofs.Writing.{is_word_of}
-
--- ---- tests of the numbers below a bound
-abbrev all_below : ℕ → (ℕ → Bool) → Bool
-all_below zero P = true
-all_below (suc n) P = P n && all_below n P
-
-from_below : (n : ℕ) (P : ℕ → Bool) → all_below n P ≡ true → (c : ℕ) → c < n → P c ≡ true
-from_below zero P e c h = absurd (omega arith)
-from_below (suc n) P e c h =
-    elim (cases_lt c n) as (λ _. P c ≡ true) [
-      | inl less ↦ from_below n P (and_right (P n) (all_below n P) e) c less
-      | inr same ↦ let is : n ≡ c = omega arith in subst (λ k. P k ≡ true) is (and_left (P n) (all_below n P) e)
-    ]
 
 -- ---- the state that a word tells, zone by zone and place by place
 abbrev zone_of_code : Zone → ℕ → ZoneState
@@ -91,9 +78,6 @@ one_bit (suc (suc n)) h = absurd (omega arith)
 place_is_told : (w : ℕ) (p : Place) → bits_of w (place_bit p) 1 ≡ one_if (is_full (state_told w) p)
 place_is_told w p = one_bit (bits_of w (place_bit p) 1) (mod_below (w / 2 ^ place_bit p) 2 (omega arith)) ∙ ap one_if (sym (full_of_state w p))
 
-five_fit : (w : ℕ) (z : Zone) → bits_of w (zone_bit z) 5 < 32
-five_fit w z = mod_below (w / 2 ^ zone_bit z) 32 (omega arith)
-
 -- ---- patterns on a zone and a place, and on two places, at any word
 seen_both : (w : ℕ) (z : Zone) (p : Place) → bit_and w (bit_or (zone_window z) (place_window p)) ≡ bit_or (bits_of w (zone_bit z) 5 * 2 ^ zone_bit z) (place_word p (is_full (state_told w) p))
 seen_both w z p =
@@ -118,7 +102,7 @@ pattern_seen w z p pattern here tests =
     stands-window w window pattern (and_left inside each tests)
     ∙ ap (λ n. stands n pattern) (seen_both w z p)
     ∙ one_bool (stands (bit_or (c * 2 ^ zone_bit z) (place_word p full)) pattern) (here (zone_of_code z c) && full)
-    (from_bools (pattern_test z p pattern here c) (from_below 32 (λ c. all_bools (pattern_test z p pattern here c)) (and_right inside each tests) c (five_fit w z)) full)
+    (from_bools (pattern_test z p pattern here c) (from_below 32 (λ c. all_bools (pattern_test z p pattern here c)) (and_right inside each tests) c (five_fit w (zone_bit z))) full)
     ∙ ap (λ v. here v && full) (sym (zone_is w z))
 
 -- a plate on its way to a full place
@@ -193,7 +177,7 @@ by_code w z e =
     let c = bits_of w (zone_bit z) 5 in
     let v = zone_of_code z c in
     let same = nat_eq (zone_code z v) c in
-    let both_hold = implied (is_bit_set (zone_codes z) c) (same && is_lawful z v) (from_below 32 (code_test z) (from_zones (λ z. all_below 32 (code_test z)) code_table z) c (five_fit w z)) e in
+    let both_hold = implied (is_bit_set (zone_codes z) c) (same && is_lawful z v) (from_below 32 (code_test z) (from_zones (λ z. all_below 32 (code_test z)) code_table z) c (five_fit w (zone_bit z))) e in
     (sym (ap (zone_code z) (zone_is w z) ∙ eqb-true (zone_code z v) c (and_left same (is_lawful z v) both_hold)), ap (is_lawful z) (zone_is w z) ∙ and_right same (is_lawful z v) both_hold)
 
 -- ---- the plates, by posture

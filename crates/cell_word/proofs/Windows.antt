@@ -1,16 +1,17 @@
 -- A row of guards sees of a word no bits but those under its masks.
-use Rattle.std.proofs.Common.{◌≡◌, ℕ, ◌+◌, ◌-◌, ◌*◌, ◌/◌, ◌%◌, ◌^◌, min, max, Bool, true, false, cond, nat_eq, Option, Some, option_map, List, [], ◌∷◌, ◌++◌, refl, sym, ap, ◌∙◌, arith, eqb-true}
+use Rattle.std.proofs.Common.{◌≡◌, inl, inr, ℕ, zero, suc, ◌+◌, ◌-◌, ◌*◌, ◌/◌, ◌%◌, ◌^◌, ◌<◌, min, max, Bool, true, false, ◌&&◌, cond, nat_eq, Option, Some, option_map, List, [], ◌∷◌, ◌++◌, refl, sym, ap, ◌∙◌, subst, arith, eqb-true, eq-eqb, ne_eqb}
 use Rattle.std.specs.Prelude.{bit_and, bit_or}
+use Rattle.std.proofs.lemmas.Bool.{cases_lt, eqb-false}
 use Rattle.std.specs.Int.{bit_at}
 use Rattle.std.specs.Option.{option_or}
 use Rattle.std.specs.List.{find, list_all}
 use Rattle.std.proofs.Math.Nat.{mul_comm, mul-sub}
-use Rattle.std.proofs.lemmas.Nat.{and_assoc, pow-add, shr-shr}
+use Rattle.std.proofs.lemmas.Nat.{and_assoc, and_mask, mod_below, pow-add, shr-shr, shl-shr}
 use Rattle.std.proofs.lemmas.Nat.Bits.{and_high, bit_at_and, bit_at_or, same_from_bits}
 use Rattle.cell_types.specs.declared.answer.Refusal.{Refusal}
 use Rattle.cell_rules.proofs.Tables.{and_left, and_right}
 use Rattle.cell_word.specs.Reading.{bits_of}
-use Rattle.cell_word.specs.Patterns.{stands}
+use Rattle.cell_word.specs.Patterns.{stands, field_is}
 use Rattle.cell_word.specs.Rows.{first_refusal}
 use Rattle.cell_word.specs.declared.patterns.Pattern.{Pattern}
 use Rattle.cell_word.specs.declared.patterns.Guard.{Guard}
@@ -81,3 +82,41 @@ five a = omega arith
 
 pub five_bits : (w k : ℕ) → bits_of w k 5 ≡ bits_of w k 2 + 4 * bits_of w (k + 2) 1 + 8 * bits_of w (k + 3) 2
 five_bits w k = rw (← shr-shr w k 2) (rw (← shr-shr w k 3) (five (w / 2 ^ k)))
+
+-- ---- a word that is moved down
+same_test : (a b c d : ℕ) → (a ≡ b → c ≡ d) → (c ≡ d → a ≡ b) → (t : Bool) → nat_eq a b ≡ t → nat_eq c d ≡ t
+same_test a b c d there back true e = eq-eqb c d (there (eqb-true a b e))
+same_test a b c d there back false e = ne_eqb c d (λ h. eqb-false a b e (back h))
+
+scaled : (n v k : ℕ) → nat_eq (n * 2 ^ k) (v * 2 ^ k) ≡ nat_eq n v
+scaled n v k =
+    same_test n v (n * 2 ^ k) (v * 2 ^ k) (ap (λ x. x * 2 ^ k)) (λ e. sym (shl-shr n k) ∙ ap (λ x. x / 2 ^ k) e ∙ shl-shr v k) (nat_eq n v) refl
+
+field_test : (w lowest width v : ℕ) → stands w (field_is lowest width v) ≡ nat_eq (bits_of w lowest width) v
+field_test w lowest width v = ap (λ n. nat_eq n (v * 2 ^ lowest)) (field_shown w lowest width) ∙ scaled (bits_of w lowest width) v lowest
+
+-- a field stands in a word where it stands, that many bits lower, in the word moved down
+pub moved_down : (w k lowest width v : ℕ) → stands (w / 2 ^ k) (field_is lowest width v) ≡ stands w (field_is (k + lowest) width v)
+moved_down w k lowest width v =
+    field_test (w / 2 ^ k) lowest width v
+    ∙ ap (λ n. nat_eq (n % 2 ^ width) v) (shr-shr w k lowest)
+    ∙ sym (field_test w (k + lowest) width v)
+
+pub lowest_field : (w k width v : ℕ) → nat_eq (bit_and (w / 2 ^ k) (2 ^ width - 1)) v ≡ stands w (field_is k width v)
+lowest_field w k width v = ap (λ n. nat_eq n v) (and_mask (w / 2 ^ k) width) ∙ sym (field_test w k width v)
+
+-- ---- tests of the numbers below a bound
+abbrev pub all_below : ℕ → (ℕ → Bool) → Bool
+all_below zero P = true
+all_below (suc n) P = P n && all_below n P
+
+pub from_below : (n : ℕ) (P : ℕ → Bool) → all_below n P ≡ true → (c : ℕ) → c < n → P c ≡ true
+from_below zero P e c h = absurd (omega arith)
+from_below (suc n) P e c h =
+    elim (cases_lt c n) as (λ _. P c ≡ true) [
+      | inl less ↦ from_below n P (and_right (P n) (all_below n P) e) c less
+      | inr same ↦ let is : n ≡ c = omega arith in subst (λ k. P k ≡ true) is (and_left (P n) (all_below n P) e)
+    ]
+
+pub five_fit : (w k : ℕ) → bits_of w k 5 < 32
+five_fit w k = mod_below (w / 2 ^ k) 32 (omega arith)

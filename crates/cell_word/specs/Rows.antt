@@ -1,5 +1,5 @@
 -- The guards of each machine and call: patterns that refuse the call, each with its refusal, in the order of the refusals.
-use Rattle.std.specs.Prelude.{ℕ, Bool, true, false, ◌&&◌, not, Option, Some, None, is_none, option_map, List, [], ◌∷◌, ◌++◌, map, if◌then◌else◌}
+use Rattle.std.specs.Prelude.{ℕ, Bool, true, false, ◌&&◌, not, Option, Some, None, is_none, option_map, Result, Ok, Err, List, [], ◌∷◌, ◌++◌, map, if◌then◌else◌}
 use Rattle.std.specs.Option.{option_or}
 use Rattle.std.specs.List.{find, flat_map, list_all}
 use Rattle.cell_types.specs.declared.machine.Machine.{Machine}
@@ -35,6 +35,18 @@ guard pattern refusal = record { pattern = pattern; refusal = refusal }
 -- the refusal of the first guard whose pattern stands in a word
 abbrev pub first_refusal : ℕ → List Guard → Option Refusal
 first_refusal w row = option_map (λ g. g.refusal) (find (λ g. stands w g.pattern) row)
+
+-- what comes of a call that a row may refuse
+abbrev pub unless : {A : Type 0} → Option Refusal → A → Result A Refusal
+unless None a = Ok a
+unless (Some r) a = Err r
+
+abbrev pub checked : ℕ → List Guard → Result (Unit {0}) Refusal
+checked w row = unless (first_refusal w row) tt
+
+abbrev pub went_on : {A : Type 0} → Result A Refusal → Result (Unit {0}) Refusal
+went_on (Ok a) = Ok tt
+went_on (Err r) = Err r
 
 -- ---- guards that stand in several rows
 

@@ -1,55 +1,50 @@
 //! The bits that a call writes where it is Done.
-ghost use Rattle.std.specs.Prelude.{◌≡◌, ◌≢◌, ◌+◌, ◌<◌, ◌^◌};
+ghost use Rattle.std.specs.Prelude.{◌≡◌, ◌≢◌, ◌+◌, ◌<◌, ◌^◌, Some};
 ghost use Rattle.cell_types.specs.declared.answer.Answer.TheVariants.{Done};
 ghost use Rattle.cell_rules.specs.ModelState.{ModelState};
 ghost use Rattle.cell_rules.specs.Sound.{IsSound};
 ghost use Rattle.cell_rules.specs.Reply.{reply, next};
 ghost use Rattle.cell_word.specs.Layout.{packed};
-ghost use Rattle.cell_word.specs.Rows.{row_given as row_given_of};
 ghost use Rattle.cell_word.specs.Patterns.{with_written};
+ghost use Rattle.cell_types.specs.declared.call.Call.TheVariants as calls;
 ghost use Rattle.cell_word.specs.Changes as changes;
+ghost use Rattle.cell_word.specs.Sides as sides;
 
 use crate::patterns::Pattern;
 use crate::pose_rows::{hosted, posed_at};
-use crate::rows::{is_party, other_party, row_given};
-use cell_types::{Call, Machine, Place, Posture, Transfer, Zone, transfer, work};
+use crate::sides::{Side, row_given, row_received, side_of};
+use cell_types::{Call, Machine, Place, Pose, Posture, Transfer, Zone, work};
 
-fn received_by(machine: Machine, row: Option<Transfer>) -> Option<Transfer>
-    ensures { result ≡ changes.received_by machine row }
+/// What the giver writes: the plate is in the zone, and the zone the other's.
+#[inline(always)]
+pub(crate) fn gift(zone: Zone, side: Side, row: Transfer) -> Pattern
+    ensures { result ≡ changes.given_away (sides.party_of zone side) zone (Some row) }
 {
-    row.filter(|row| row.receiver == machine)
-}
-
-/// The row of transfers in which a machine receives in a zone.
-fn row_received(machine: Machine, zone: Zone) -> Option<Transfer>
-    ensures { result ≡ changes.row_received machine zone }
-{
-    received_by(machine, transfer(zone, Posture::OpenIn)).or(received_by(
-        machine,
-        transfer(zone, Posture::OpenOut),
-    ))
-}
-
-fn given_away(machine: Machine, zone: Zone) -> Pattern
-    ensures { result ≡ changes.given_away machine zone (row_given_of machine zone) }
-{
-    let Some(row) = row_given(machine, zone) else {
-        return Pattern::ANYTHING;
-    };
-    let other = Pattern::owner(zone, Some(other_party(machine, zone)));
+    let other = Pattern::owned(zone, side.other());
     Pattern::place(row.from, false).and(Pattern::flag(zone, true).and(other))
 }
 
-fn taken_in(machine: Machine, zone: Zone) -> Pattern
-    ensures { result ≡ changes.taken_in zone (changes.row_received machine zone) }
+fn given_away(zone: Zone, side: Side) -> Pattern
+    ensures { result ≡ changes.written (sides.party_of zone side) (calls.Give zone) }
 {
-    match row_received(machine, zone) {
+    match row_given(zone, side) {
+        Some(row) => gift(zone, side, row),
+        None => Pattern::ANYTHING,
+    }
+}
+
+#[inline(always)]
+pub(crate) fn taken_in(zone: Zone, side: Side) -> Pattern
+    ensures { result ≡ changes.written (sides.party_of zone side) (calls.Take zone) }
+{
+    match row_received(zone, side) {
         Some(row) => Pattern::flag(zone, false).and(Pattern::place(row.to, true)),
         None => Pattern::ANYTHING,
     }
 }
 
-fn posed(posed: Option<(Zone, Posture)>) -> Pattern
+#[inline(always)]
+pub(crate) fn posed(posed: Option<(Zone, Posture)>) -> Pattern
     ensures { result ≡ changes.posed posed }
 {
     match posed {
@@ -58,6 +53,7 @@ fn posed(posed: Option<(Zone, Posture)>) -> Pattern
     }
 }
 
+#[inline(always)]
 fn moved_on(way: Option<(Place, Place)>) -> Pattern
     ensures { result ≡ changes.moved_on way }
 {
@@ -68,6 +64,7 @@ fn moved_on(way: Option<(Place, Place)>) -> Pattern
 }
 
 /// The zones of a belt are closed once a plate has come to its end.
+#[inline(always)]
 fn halted(machine: Machine) -> Pattern
     ensures { result ≡ changes.halted machine }
 {
@@ -81,31 +78,48 @@ fn halted(machine: Machine) -> Pattern
     }
 }
 
-fn owner_becomes(machine: Machine, zone: Zone, owner: Option<Machine>) -> Pattern
-    ensures { result ≡ changes.owner_becomes machine zone owner }
+/// What a machine's work writes.
+#[inline(always)]
+pub(crate) fn worked(machine: Machine) -> Pattern
+    ensures { result ≡ changes.written machine calls.Advance }
 {
-    if is_party(machine, zone) {
-        Pattern::owner(zone, owner)
-    } else {
-        Pattern::ANYTHING
-    }
+    moved_on(work(machine)).and(halted(machine))
+}
+
+fn posed_by(machine: Machine, pose: Pose) -> Pattern
+    ensures { result ≡ changes.written machine (calls.SetPose pose) }
+{
+    let (one, other) = hosted(machine);
+    posed(posed_at(machine, pose, one)).and(posed(posed_at(machine, pose, other)))
 }
 
 /// What a call of a machine writes.
-pub(crate) fn written(machine: Machine, call: Call) -> Pattern
+fn written(machine: Machine, call: Call) -> Pattern
     ensures { result ≡ changes.written machine call }
 {
     match call {
-        Call::Claim(zone) => owner_becomes(machine, zone, Some(machine)),
-        Call::Give(zone) => given_away(machine, zone),
-        Call::Yield(zone) => owner_becomes(machine, zone, Some(other_party(machine, zone))),
-        Call::Take(zone) => taken_in(machine, zone),
-        Call::Release(zone) => owner_becomes(machine, zone, None),
-        Call::SetPose(pose) => {
-            let (one, other) = hosted(machine);
-            posed(posed_at(machine, pose, one)).and(posed(posed_at(machine, pose, other)))
-        }
-        Call::Advance => moved_on(work(machine)).and(halted(machine)),
+        Call::Claim(zone) => match side_of(machine, zone) {
+            Some(side) => Pattern::owned(zone, side),
+            None => Pattern::ANYTHING,
+        },
+        Call::Give(zone) => match side_of(machine, zone) {
+            Some(side) => given_away(zone, side),
+            None => Pattern::ANYTHING,
+        },
+        Call::Yield(zone) => match side_of(machine, zone) {
+            Some(side) => Pattern::owned(zone, side.other()),
+            None => Pattern::ANYTHING,
+        },
+        Call::Take(zone) => match side_of(machine, zone) {
+            Some(side) => taken_in(zone, side),
+            None => Pattern::ANYTHING,
+        },
+        Call::Release(zone) => match side_of(machine, zone) {
+            Some(_) => Pattern::owner(zone, None),
+            None => Pattern::ANYTHING,
+        },
+        Call::SetPose(pose) => posed_by(machine, pose),
+        Call::Advance => worked(machine),
         Call::Inquire(_) => Pattern::ANYTHING,
     }
 }

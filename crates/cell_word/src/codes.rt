@@ -10,39 +10,24 @@ use cell_types::{Machine, Place, Posture, Zone, guest, host};
 pub const STAMP_BIT: u32 = 40;
 
 /// The lowest of the five bits of a zone.
+#[inline(always)]
 pub fn zone_bit(zone: Zone) -> u32
     ensures place { result ≡ layout.zone_bit zone }
     ensures below_places { result ≤ 25 }
 {
-    match zone {
-        Zone::Z1 => 0,
-        Zone::Z2 => 5,
-        Zone::Z3 => 10,
-        Zone::Z4 => 15,
-        Zone::Z5 => 20,
-        Zone::Z6 => 25,
-    }
+    5 * (zone as u32)
 }
 
 /// The bit of a place.
+#[inline(always)]
 pub fn place_bit(place: Place) -> u32
     ensures place { result ≡ layout.place_bit place }
     ensures below_stamp { result < 40 }
 {
-    match place {
-        Place::FeedEntry => 30,
-        Place::FeedEnd => 31,
-        Place::Table => 32,
-        Place::Arm1 => 33,
-        Place::PressIn => 34,
-        Place::PressOut => 35,
-        Place::Arm2 => 36,
-        Place::DepEntry => 37,
-        Place::DepEnd => 38,
-        Place::Crane => 39,
-    }
+    30 + (place as u32)
 }
 
+#[inline(always)]
 pub fn owner_code(zone: Zone, owner: Option<Machine>) -> u64
     ensures code { result ≡ layout.owner_code zone owner }
     ensures fits { result < 4 }
@@ -55,6 +40,7 @@ pub fn owner_code(zone: Zone, owner: Option<Machine>) -> u64
 }
 
 /// The owner of a code; the spare code 3 means none other than 2 does.
+#[inline(always)]
 pub fn owner_of_code(zone: Zone, code: u64) -> Option<Machine>
     ensures { result ≡ reading.owner_of_code zone code }
 {
@@ -65,6 +51,7 @@ pub fn owner_of_code(zone: Zone, code: u64) -> Option<Machine>
     }
 }
 
+#[inline(always)]
 pub fn posture_code(posture: Posture) -> u64
     ensures code { result ≡ layout.posture_code posture }
     ensures fits { result < 4 }
@@ -77,6 +64,7 @@ pub fn posture_code(posture: Posture) -> u64
     }
 }
 
+#[inline(always)]
 pub fn posture_of_code(code: u64) -> Posture
     ensures { result ≡ reading.posture_of_code code }
 {

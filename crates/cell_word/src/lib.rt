@@ -8,6 +8,7 @@ pub mod laws;
 mod patterns;
 mod pose_rows;
 mod rows;
+mod sides;
 mod state_words;
 mod step;
 mod word;

@@ -1,9 +1,11 @@
 //! Some bits of a word, and what they are to be: to test a word by, and to write into one.
-ghost use Rattle.std.specs.Prelude.{◌≡◌, ◌+◌, ◌<◌, ◌≤◌, ◌^◌};
+ghost use Rattle.std.specs.Prelude.{◌≡◌, ◌+◌, ◌<◌, ◌≤◌, ◌^◌, ◌∷◌, [], Some};
 ghost use Rattle.cell_word.specs.Patterns as patterns;
 ghost use Rattle.cell_word.specs.Rows as rows;
+ghost use Rattle.cell_word.specs.Sides as sides;
 
 use crate::codes::{STAMP_BIT, owner_code, place_bit, posture_code, zone_bit};
+use crate::sides::Side;
 use cell_types::{Machine, Place, Posture, Refusal, Zone};
 
 /// Some bits of a word, those under the mask, as they are wanted.
@@ -24,6 +26,7 @@ impl Pattern {
     };
 
     /// A field of a word has a value.
+    #[inline(always)]
     pub fn field(lowest: u32, width: u32, value: u64) -> Pattern
         requires narrow { width < 64 }
         requires begins { lowest < 64 }
@@ -37,44 +40,43 @@ impl Pattern {
         }
     }
 
+    #[inline(always)]
     pub fn owner(zone: Zone, owner: Option<Machine>) -> Pattern
         ensures { result ≡ patterns.owner_is zone owner }
     {
         Pattern::field(zone_bit(zone), 2, owner_code(zone, owner))
     }
 
+    /// The owner of a zone is the machine on this side.
+    #[inline(always)]
+    pub fn owned(zone: Zone, side: Side) -> Pattern
+        ensures { result ≡ patterns.owner_is zone (Some (sides.party_of zone side)) }
+    {
+        Pattern::field(zone_bit(zone), 2, side.code())
+    }
+
+    #[inline(always)]
     pub fn flag(zone: Zone, set: bool) -> Pattern
         ensures { result ≡ patterns.flag_is zone set }
     {
         Pattern::field(zone_bit(zone) + 2, 1, u64::from(set))
     }
 
+    #[inline(always)]
     pub fn posture(zone: Zone, posture: Posture) -> Pattern
         ensures { result ≡ patterns.posture_is zone posture }
     {
         Pattern::field(zone_bit(zone) + 3, 2, posture_code(posture))
     }
 
-    /// The low bit of a zone's posture is another than in this posture.
-    pub fn low_differs(zone: Zone, posture: Posture) -> Pattern
-        ensures { result ≡ patterns.low_differs zone posture }
-    {
-        Pattern::field(zone_bit(zone) + 3, 1, 1 - posture_code(posture) % 2)
-    }
-
-    /// The high bit is.
-    pub fn high_differs(zone: Zone, posture: Posture) -> Pattern
-        ensures { result ≡ patterns.high_differs zone posture }
-    {
-        Pattern::field(zone_bit(zone) + 4, 1, 1 - posture_code(posture) / 2)
-    }
-
+    #[inline(always)]
     pub fn place(place: Place, full: bool) -> Pattern
         ensures { result ≡ patterns.place_is place full }
     {
         Pattern::field(place_bit(place), 1, u64::from(full))
     }
 
+    #[inline(always)]
     pub fn stamp(stamp: u32) -> Pattern
         requires { stamp < 2 ^ 20 }
         ensures { result ≡ patterns.stamp_is stamp }
@@ -83,6 +85,7 @@ impl Pattern {
     }
 
     /// Both patterns at once.
+    #[inline(always)]
     pub fn and(self, other: Pattern) -> Pattern
         ensures { result ≡ patterns.both self other }
     {
@@ -92,21 +95,24 @@ impl Pattern {
         }
     }
 
-    /// This pattern where a condition holds, and else the pattern of no word.
-    pub fn when(self, condition: bool) -> Pattern
-        ensures { result ≡ patterns.when condition self }
-    {
-        if condition { self } else { Pattern::NOTHING }
-    }
-
     /// Whether the bits of a word under the mask are as wanted.
+    #[inline(always)]
     pub fn stands_in(self, word: u64) -> bool
         ensures { result ≡ patterns.stands word self }
     {
         word & self.mask == self.wanted
     }
 
+    /// The word with the bits under the mask as they are wanted.
+    #[inline(always)]
+    pub fn written_into(self, word: u64) -> u64
+        ensures { result ≡ patterns.with_written word self.mask self.wanted }
+    {
+        word & !self.mask | self.wanted
+    }
+
     /// The guard that refuses words of this pattern.
+    #[inline(always)]
     pub fn refuses(self, refusal: Refusal) -> Guard
         ensures { result ≡ rows.guard self refusal }
     {
@@ -124,11 +130,16 @@ pub(crate) struct Guard {
     pub refusal: Refusal,
 }
 
-/// The refusal of the first guard in a row whose pattern stands in a word.
-pub(crate) fn first_refusal(word: u64, row: &[Guard]) -> Option<Refusal>
-    ensures { result ≡ rows.first_refusal word row.now }
-{
-    row.iter()
-        .find(|guard| guard.pattern.stands_in(word))
-        .map(|guard| guard.refusal)
+impl Guard {
+    /// Refuses a word in which the pattern stands.
+    #[inline(always)]
+    pub fn pass(self, word: u64) -> Result<(), Refusal>
+        ensures { result ≡ rows.checked word (self ∷ []) }
+    {
+        if self.pattern.stands_in(word) {
+            Err(self.refusal)
+        } else {
+            Ok(())
+        }
+    }
 }

@@ -1,15 +1,21 @@
-//! The guards of poses, and of work.
-ghost use Rattle.std.specs.Prelude.{◌≡◌, ◌∷◌, []};
-ghost use Rattle.cell_types.specs.declared.machine.Machine.TheVariants.{Feed, Press, Deposit};
+//! The guards of poses, and of work, and what these calls write.
+ghost use Rattle.std.specs.Prelude.{◌≡◌, ℕ, ◌∷◌, [], is_none};
+ghost use Rattle.cell_types.specs.declared.answer.Refusal.TheVariants.{NoPose};
+ghost use Rattle.cell_types.specs.declared.call.Call.TheVariants as calls;
 ghost use Rattle.cell_types.specs.declared.posture.Posture.TheVariants.{OpenIn};
 ghost use Rattle.cell_rules.specs.Refusals as refusals;
+ghost use Rattle.cell_word.specs.Changes as changes;
+ghost use Rattle.cell_word.specs.Patterns.{when, anything};
 ghost use Rattle.cell_word.specs.Rows as rows;
 
-use crate::patterns::{Guard, Pattern, first_refusal};
-use crate::rows::{anothers, unowned, worn};
-use cell_types::{Machine, Place, Pose, Posture, Refusal, Zone, guest, host, posture_in, transfer};
+use crate::changes::{posed, worked};
+use crate::patterns::Pattern;
+use crate::rows::{clear, held, moved, no_room, worn};
+use crate::sides::{Side, ZoneBits};
+use cell_types::{Machine, Place, Pose, Posture, Refusal, Zone, host, posture_in, transfer};
 
 /// The zones that a machine hosts.
+#[inline(always)]
 pub(crate) fn hosted(machine: Machine) -> (Option<Zone>, Option<Zone>)
     ensures { result ≡ rows.hosted machine }
 {
@@ -23,6 +29,7 @@ pub(crate) fn hosted(machine: Machine) -> (Option<Zone>, Option<Zone>)
 }
 
 /// A zone and the posture that a pose gives it.
+#[inline(always)]
 pub(crate) fn posed_at(machine: Machine, pose: Pose, zone: Option<Zone>) -> Option<(Zone, Posture)>
     ensures { result ≡ rows.posed_at machine pose zone }
 {
@@ -31,35 +38,53 @@ pub(crate) fn posed_at(machine: Machine, pose: Pose, zone: Option<Zone>) -> Opti
 }
 
 /// A zone that gets another posture has to be its host's.
-fn owner_refusal(word: u64, posed: Option<(Zone, Posture)>) -> Option<Refusal>
-    ensures { result ≡ rows.first_refusal word (rows.on_posed rows.owner_guards posed) }
+#[inline(always)]
+fn host_turns(at: ZoneBits, posture: Posture) -> Result<(), Refusal>
+    ensures { result ≡ rows.checked at.word (rows.owner_guards at.zone posture) }
 {
-    let (zone, posture) = posed?;
-    let low = Pattern::low_differs(zone, posture);
-    let high = Pattern::high_differs(zone, posture);
-    let free = Pattern::owner(zone, None);
-    let others = Pattern::owner(zone, Some(guest(zone)));
-    let row = [
-        low.and(free).refuses(Refusal::NotOwner(None)),
-        high.and(free).refuses(Refusal::NotOwner(None)),
-        low.and(others)
-            .refuses(Refusal::NotOwner(Some(guest(zone)))),
-        high.and(others)
-            .refuses(Refusal::NotOwner(Some(guest(zone)))),
-    ];
-    first_refusal(word, &row)
+    if at.is(posture) {
+        return Ok(());
+    }
+    held(at, Side::Host)
+}
+
+#[inline(always)]
+fn hosts(word: u64, posed: Option<(Zone, Posture)>) -> Result<(), Refusal>
+    ensures { result ≡ rows.checked word (rows.on_posed rows.owner_guards posed) }
+{
+    match posed {
+        Some((zone, posture)) => host_turns(ZoneBits { word, zone }, posture),
+        None => Ok(()),
+    }
 }
 
 /// It has to be clear of plates.
-fn plate_refusal(word: u64, posed: Option<(Zone, Posture)>) -> Option<Refusal>
-    ensures { result ≡ rows.first_refusal word (rows.on_posed rows.plate_guards posed) }
+#[inline(always)]
+fn turns_clear(at: ZoneBits, posture: Posture) -> Result<(), Refusal>
+    ensures { result ≡ rows.checked at.word (rows.plate_guards at.zone posture) }
 {
-    let (zone, posture) = posed?;
-    let plate = Pattern::flag(zone, true);
-    let low = Pattern::low_differs(zone, posture).and(plate);
-    let high = Pattern::high_differs(zone, posture).and(plate);
-    let refusal = Refusal::PlateInZone(zone);
-    first_refusal(word, &[low.refuses(refusal), high.refuses(refusal)])
+    if at.is(posture) {
+        return Ok(());
+    }
+    clear(at)
+}
+
+#[inline(always)]
+fn clears(word: u64, posed: Option<(Zone, Posture)>) -> Result<(), Refusal>
+    ensures { result ≡ rows.checked word (rows.on_posed rows.plate_guards posed) }
+{
+    match posed {
+        Some((zone, posture)) => turns_clear(ZoneBits { word, zone }, posture),
+        None => Ok(()),
+    }
+}
+
+/// A zone has to have a posture.
+#[inline(always)]
+pub(crate) fn only_in(at: ZoneBits, posture: Posture, refusal: Refusal) -> Result<(), Refusal>
+    ensures { result ≡ rows.checked at.word (rows.low_refuses at.zone posture refusal ∷ rows.high_refuses at.zone posture refusal ∷ []) }
+{
+    if at.is(posture) { Ok(()) } else { Err(refusal) }
 }
 
 fn is_moving_pose(pose: Pose) -> bool
@@ -68,176 +93,181 @@ fn is_moving_pose(pose: Pose) -> bool
     pose == Pose::Turning || pose == Pose::Travelling || pose == Pose::Running
 }
 
-fn low_refuses(zone: Zone, posture: Posture, refusal: Refusal) -> Guard
-    ensures { result ≡ rows.low_refuses zone posture refusal }
-{
-    Pattern::low_differs(zone, posture).refuses(refusal)
-}
-
-fn high_refuses(zone: Zone, posture: Posture, refusal: Refusal) -> Guard
-    ensures { result ≡ rows.high_refuses zone posture refusal }
-{
-    Pattern::high_differs(zone, posture).refuses(refusal)
-}
-
 /// Table and press take a pose that does not move out of one that does.
-fn jump_refusal(
+#[inline(always)]
+fn moves(
     word: u64,
     machine: Machine,
     pose: Pose,
     posed: Option<(Zone, Posture)>,
-) -> Option<Refusal>
-    ensures { result ≡ rows.first_refusal word (rows.on_posed (rows.jump_guards machine pose) posed) }
+) -> Result<(), Refusal>
+    ensures { result ≡ rows.checked word (rows.on_posed (rows.jump_guards machine pose) posed) }
 {
-    let (zone, _) = posed?;
     let passes_through_moving = machine == Machine::Table || machine == Machine::Press;
     if !passes_through_moving || is_moving_pose(pose) {
-        return None;
+        return Ok(());
     }
-    let low = low_refuses(zone, Posture::Moving, Refusal::Jump);
-    first_refusal(
-        word,
-        &[low, high_refuses(zone, Posture::Moving, Refusal::Jump)],
-    )
-}
-
-/// A place that is full where a zone becomes open inward.
-fn room_refusal(word: u64, zone: Zone, place: Place) -> Option<Refusal>
-    ensures { result ≡ rows.first_refusal word (rows.room_guards zone place) }
-{
-    let full = Pattern::place(place, true);
-    let low = Pattern::low_differs(zone, Posture::OpenIn).and(full);
-    let high = Pattern::high_differs(zone, Posture::OpenIn).and(full);
-    let refusal = Refusal::PlaceFull;
-    first_refusal(word, &[low.refuses(refusal), high.refuses(refusal)])
-}
-
-/// The places inside a zone have to be empty where it becomes open inward.
-fn inner_refusal(word: u64, zone: Zone) -> Option<Refusal>
-    ensures { result ≡ rows.first_refusal word (rows.opening_guards zone OpenIn) }
-{
-    match zone {
-        Zone::Z3 => room_refusal(word, zone, Place::PressIn).or(room_refusal(
-            word,
-            zone,
-            Place::PressOut,
-        )),
-        _ => room_refusal(word, zone, transfer(zone, Posture::OpenIn)?.to),
+    match posed {
+        Some((zone, _)) => only_in(ZoneBits { word, zone }, Posture::Moving, Refusal::Jump),
+        None => Ok(()),
     }
 }
 
-fn opening_refusal(word: u64, posed: Option<(Zone, Posture)>) -> Option<Refusal>
-    ensures { result ≡ rows.first_refusal word (rows.on_posed rows.opening_guards posed) }
+/// A place has to be empty where its zone becomes open inward.
+#[inline(always)]
+fn room(at: ZoneBits, place: Place) -> Result<(), Refusal>
+    ensures { result ≡ rows.checked at.word (rows.room_guards at.zone place) }
 {
-    match posed? {
-        (zone, Posture::OpenIn) => inner_refusal(word, zone),
-        _ => None,
+    if at.is(Posture::OpenIn) {
+        return Ok(());
+    }
+    no_room(place).pass(at.word)
+}
+
+/// So have all places inside the zone.
+#[inline(always)]
+fn rooms(at: ZoneBits) -> Result<(), Refusal>
+    ensures { result ≡ rows.checked at.word (rows.opening_guards at.zone OpenIn) }
+{
+    if at.zone == Zone::Z3 {
+        room(at, Place::PressIn)?;
+        return room(at, Place::PressOut);
+    }
+    match transfer(at.zone, Posture::OpenIn) {
+        Some(row) => room(at, row.to),
+        None => Ok(()),
+    }
+}
+
+#[inline(always)]
+fn opens(word: u64, posed: Option<(Zone, Posture)>) -> Result<(), Refusal>
+    ensures { result ≡ rows.checked word (rows.on_posed rows.opening_guards posed) }
+{
+    match posed {
+        Some((zone, Posture::OpenIn)) => rooms(ZoneBits { word, zone }),
+        _ => Ok(()),
     }
 }
 
 /// A belt does not run with a plate at its end; feed may where it owns z1.
-fn run_guards(machine: Machine, pose: Pose) -> [Guard; 3]
-    ensures { result ≡ rows.run_guards machine pose }
+#[inline(always)]
+fn runs(word: u64, machine: Machine, pose: Pose) -> Result<(), Refusal>
+    ensures { result ≡ rows.checked word (rows.run_guards machine pose) }
 {
-    let deposit_runs = pose == Pose::Running && machine == Machine::Deposit;
-    let feed_runs = pose == Pose::Running && machine == Machine::Feed;
-    let at_end = Pattern::place(Place::DepEnd, true);
-    let unowned = Pattern::place(Place::FeedEnd, true).and(Pattern::owner(Zone::Z1, None));
-    let tables = Pattern::place(Place::FeedEnd, true).and(Pattern::owner(
-        Zone::Z1,
-        Some(host(Zone::Z1)),
-    ));
-    [
-        at_end.when(deposit_runs).refuses(Refusal::PlaceFull),
-        unowned.when(feed_runs).refuses(Refusal::PlaceFull),
-        tables.when(feed_runs).refuses(Refusal::PlaceFull),
-    ]
+    if pose == Pose::Running && machine == Machine::Deposit {
+        no_room(Place::DepEnd).pass(word)?;
+    }
+    if pose == Pose::Running && machine == Machine::Feed {
+        let at_end = Pattern::place(Place::FeedEnd, true);
+        at_end
+            .and(Pattern::owner(Zone::Z1, None))
+            .refuses(Refusal::PlaceFull)
+            .pass(word)?;
+        at_end
+            .and(Pattern::owner(Zone::Z1, Some(host(Zone::Z1))))
+            .refuses(Refusal::PlaceFull)
+            .pass(word)?;
+    }
+    Ok(())
 }
 
-/// Why a pose is refused at a word.
-pub(crate) fn pose_refusal(word: u64, machine: Machine, pose: Pose) -> Option<Refusal>
-    ensures { result ≡ rows.first_refusal word (rows.pose_row machine pose) }
+/// A pose of the machine gives a posture to the first zone that it hosts.
+#[inline(always)]
+fn has_pose(posed: Option<(Zone, Posture)>) -> Result<(), Refusal>
+    ensures { (word : ℕ) → result ≡ rows.checked word (rows.guard (when (is_none posed) anything) NoPose ∷ []) }
+{
+    match posed {
+        Some(_) => Ok(()),
+        None => Err(Refusal::NoPose),
+    }
+}
+
+#[inline(always)]
+fn set_pose_of(word: u64, machine: Machine, pose: Pose) -> Result<Pattern, Refusal>
+    ensures { result ≡ rows.unless (rows.first_refusal word (rows.pose_row machine pose))
+        (changes.written machine (calls.SetPose pose)) }
 {
     let (one, other) = hosted(machine);
     let one = posed_at(machine, pose, one);
     let other = posed_at(machine, pose, other);
-    let lacks = Pattern::ANYTHING.when(one.is_none());
-    first_refusal(word, &[lacks.refuses(Refusal::NoPose)])
-        .or(owner_refusal(word, one))
-        .or(owner_refusal(word, other))
-        .or(plate_refusal(word, one))
-        .or(plate_refusal(word, other))
-        .or(jump_refusal(word, machine, pose, one))
-        .or(jump_refusal(word, machine, pose, other))
-        .or(opening_refusal(word, one))
-        .or(opening_refusal(word, other))
-        .or(first_refusal(word, &run_guards(machine, pose)))
-        .or(first_refusal(word, &[worn()]))
+    has_pose(one)?;
+    hosts(word, one)?;
+    hosts(word, other)?;
+    clears(word, one)?;
+    clears(word, other)?;
+    moves(word, machine, pose, one)?;
+    moves(word, machine, pose, other)?;
+    opens(word, one)?;
+    opens(word, other)?;
+    runs(word, machine, pose)?;
+    worn().pass(word)?;
+    Ok(posed(one).and(posed(other)))
 }
 
-fn no_plate_at(place: Place) -> Guard
-    ensures { result ≡ rows.no_plate_at place }
-{
-    Pattern::place(place, false).refuses(Refusal::NoPlate)
-}
-
-fn no_room_at(place: Place) -> Guard
-    ensures { result ≡ rows.no_room_at place }
-{
-    Pattern::place(place, true).refuses(Refusal::PlaceFull)
-}
-
-/// Feed works while it runs.
-fn feed_row() -> [Guard; 5]
-    ensures { result ≡ rows.advance_row Feed }
-{
-    [
-        low_refuses(Zone::Z6, Posture::Moving, Refusal::NotAtWork),
-        high_refuses(Zone::Z6, Posture::Moving, Refusal::NotAtWork),
-        no_plate_at(Place::FeedEntry),
-        no_room_at(Place::FeedEnd),
-        worn(),
-    ]
-}
-
-/// So does deposit.
-fn deposit_row() -> [Guard; 7]
-    ensures { result ≡ rows.advance_row Deposit }
-{
-    [
-        low_refuses(Zone::Z4, Posture::Moving, Refusal::NotAtWork),
-        high_refuses(Zone::Z4, Posture::Moving, Refusal::NotAtWork),
-        low_refuses(Zone::Z5, Posture::Moving, Refusal::NotAtWork),
-        high_refuses(Zone::Z5, Posture::Moving, Refusal::NotAtWork),
-        no_plate_at(Place::DepEntry),
-        no_room_at(Place::DepEnd),
-        worn(),
-    ]
-}
-
-/// The press works while it holds its zone, closed.
-fn press_row() -> [Guard; 7]
-    ensures { result ≡ rows.advance_row Press }
-{
-    [
-        unowned(Zone::Z3),
-        anothers(Zone::Z3, guest(Zone::Z3)),
-        low_refuses(Zone::Z3, Posture::Closed, Refusal::NotAtWork),
-        high_refuses(Zone::Z3, Posture::Closed, Refusal::NotAtWork),
-        no_plate_at(Place::PressIn),
-        no_room_at(Place::PressOut),
-        worn(),
-    ]
-}
-
-/// Why the work of a machine is refused at a word.
-pub(crate) fn advance_refusal(word: u64, machine: Machine) -> Option<Refusal>
-    ensures { result ≡ rows.first_refusal word (rows.advance_row machine) }
+/// Each machine by itself, so that the compiler knows its zones.
+#[inline(always)]
+pub(crate) fn set_pose(word: u64, machine: Machine, pose: Pose) -> Result<Pattern, Refusal>
+    ensures { result ≡ rows.unless (rows.first_refusal word (rows.pose_row machine pose))
+        (changes.written machine (calls.SetPose pose)) }
 {
     match machine {
-        Machine::Feed => first_refusal(word, &feed_row()),
-        Machine::Deposit => first_refusal(word, &deposit_row()),
-        Machine::Press => first_refusal(word, &press_row()),
-        _ => Some(Refusal::NoPose),
+        Machine::Feed => set_pose_of(word, Machine::Feed, pose),
+        Machine::Table => set_pose_of(word, Machine::Table, pose),
+        Machine::Press => set_pose_of(word, Machine::Press, pose),
+        Machine::Deposit => set_pose_of(word, Machine::Deposit, pose),
+        Machine::Robot | Machine::Crane | Machine::Watch => Err(Refusal::NoPose),
+    }
+}
+
+/// Why the work of a machine is refused at a word, or what it writes there.
+#[inline(always)]
+pub(crate) fn advance(word: u64, machine: Machine) -> Result<Pattern, Refusal>
+    ensures { result ≡ rows.unless (rows.first_refusal word (rows.advance_row machine))
+        (changes.written machine calls.Advance) }
+{
+    match machine {
+        Machine::Feed => {
+            only_in(
+                ZoneBits {
+                    word,
+                    zone: Zone::Z6,
+                },
+                Posture::Moving,
+                Refusal::NotAtWork,
+            )?;
+            moved(word, Place::FeedEntry, Place::FeedEnd)?;
+            Ok(worked(Machine::Feed))
+        }
+        Machine::Deposit => {
+            only_in(
+                ZoneBits {
+                    word,
+                    zone: Zone::Z4,
+                },
+                Posture::Moving,
+                Refusal::NotAtWork,
+            )?;
+            only_in(
+                ZoneBits {
+                    word,
+                    zone: Zone::Z5,
+                },
+                Posture::Moving,
+                Refusal::NotAtWork,
+            )?;
+            moved(word, Place::DepEntry, Place::DepEnd)?;
+            Ok(worked(Machine::Deposit))
+        }
+        Machine::Press => {
+            let z3 = ZoneBits {
+                word,
+                zone: Zone::Z3,
+            };
+            held(z3, Side::Host)?;
+            only_in(z3, Posture::Closed, Refusal::NotAtWork)?;
+            moved(word, Place::PressIn, Place::PressOut)?;
+            Ok(worked(Machine::Press))
+        }
+        Machine::Table | Machine::Robot | Machine::Crane | Machine::Watch => Err(Refusal::NoPose),
     }
 }

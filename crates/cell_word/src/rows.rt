@@ -1,218 +1,240 @@
-//! The guards of each machine and call. Each row of guards stands in the order of the refusals.
-ghost use Rattle.std.specs.Prelude.{◌≡◌, ◌||◌};
-ghost use Rattle.cell_types.specs.Tables.{guest_of, posture_of};
-ghost use Rattle.cell_rules.specs.Sound as sound;
-ghost use Rattle.cell_rules.specs.Refusals as refusals;
-ghost use Rattle.cell_rules.specs.Reply as replies;
+//! The guards of the calls about a zone, which are looked at in the order of the refusals, and what the calls write.
+ghost use Rattle.std.specs.Prelude.{◌≡◌, ℕ, ◌∷◌, [], map, Some, IfOk};
+ghost use Rattle.cell_types.specs.declared.answer.Refusal.TheVariants.{AlreadyMine, Held, Shut};
+ghost use Rattle.cell_types.specs.declared.posture.Posture.TheVariants.{Closed, Moving};
+ghost use Rattle.cell_types.specs.Everything.{all_postures};
+ghost use Rattle.cell_types.specs.declared.call.Call.TheVariants as calls;
 ghost use Rattle.cell_word.specs.Rows as rows;
+ghost use Rattle.cell_word.specs.Changes as changes;
+ghost use Rattle.cell_word.specs.Patterns.{when, owner_is, posture_is};
+ghost use Rattle.cell_word.specs.Sides as sides;
 
-use crate::patterns::{Guard, Pattern, first_refusal};
-use crate::pose_rows::{advance_refusal, pose_refusal};
+use crate::changes::{gift, taken_in};
+use crate::patterns::{Guard, Pattern};
+use crate::pose_rows::{advance, set_pose};
+use crate::sides::{Side, ZoneBits, row_given, side_of};
 use cell_rules::LAST_STAMP;
-use cell_types::{Call, Machine, Place, Posture, Refusal, Transfer, Zone, guest, host, transfer};
+use cell_types::{Call, Machine, Place, Posture, Refusal, Transfer, Zone};
 
-/// Whether a machine is the host or the guest of a zone.
-pub(crate) fn is_party(machine: Machine, zone: Zone) -> bool
-    ensures { result ≡ sound.is_party machine zone }
-{
-    machine == host(zone) || machine == guest(zone)
-}
-
-/// The other party of a zone.
-pub(crate) fn other_party(machine: Machine, zone: Zone) -> Machine
-    ensures { result ≡ replies.other_party machine zone }
-{
-    if machine == host(zone) {
-        guest(zone)
-    } else {
-        host(zone)
-    }
-}
-
-fn stranger(machine: Machine, zone: Zone) -> Guard
-    ensures { result ≡ rows.stranger machine zone }
-{
-    Pattern::ANYTHING
-        .when(!is_party(machine, zone))
-        .refuses(Refusal::NotParty)
-}
-
-pub(crate) fn unowned(zone: Zone) -> Guard
-    ensures { result ≡ rows.unowned zone }
-{
-    Pattern::owner(zone, None).refuses(Refusal::NotOwner(None))
-}
-
-pub(crate) fn anothers(zone: Zone, owner: Machine) -> Guard
-    ensures { result ≡ rows.anothers zone owner }
-{
-    Pattern::owner(zone, Some(owner)).refuses(Refusal::NotOwner(Some(owner)))
-}
-
-fn plate_in(zone: Zone) -> Guard
-    ensures { result ≡ rows.plate_in zone }
-{
-    Pattern::flag(zone, true).refuses(Refusal::PlateInZone(zone))
-}
-
-fn shut(zone: Zone, posture: Posture) -> Guard
-    ensures { result ≡ rows.shut zone posture }
-{
-    Pattern::posture(zone, posture).refuses(Refusal::Shut(posture))
-}
-
-/// Feed may not leave z1 while it runs with a plate at its end.
-fn in_use(machine: Machine, zone: Zone) -> Guard
-    ensures { result ≡ rows.in_use machine zone }
-{
-    Pattern::posture(Zone::Z6, Posture::Moving)
-        .and(Pattern::place(Place::FeedEnd, true))
-        .when(machine == Machine::Feed && zone == Zone::Z1)
-        .refuses(Refusal::InUse)
-}
-
+#[inline(always)]
 pub(crate) fn worn() -> Guard
     ensures { result ≡ rows.worn }
 {
     Pattern::stamp(LAST_STAMP).refuses(Refusal::Worn)
 }
 
-fn claim_row(machine: Machine, zone: Zone) -> [Guard; 6]
-    ensures { result ≡ rows.claim_row machine zone }
+#[inline(always)]
+pub(crate) fn no_room(place: Place) -> Guard
+    ensures { result ≡ rows.no_room_at place }
 {
-    let other = other_party(machine, zone);
-    let is_guest = machine == guest(zone);
-    let is_closed = Pattern::posture(zone, Posture::Closed);
-    let is_moving = Pattern::posture(zone, Posture::Moving);
-    [
-        stranger(machine, zone),
-        Pattern::owner(zone, Some(machine)).refuses(Refusal::AlreadyMine),
-        Pattern::owner(zone, Some(other)).refuses(Refusal::Held(other)),
-        is_closed
-            .when(is_guest)
-            .refuses(Refusal::Shut(Posture::Closed)),
-        is_moving
-            .when(is_guest)
-            .refuses(Refusal::Shut(Posture::Moving)),
-        worn(),
-    ]
+    Pattern::place(place, true).refuses(Refusal::PlaceFull)
 }
 
-fn given_by(machine: Machine, row: Option<Transfer>) -> Option<Transfer>
-    ensures { result ≡ refusals.given_by machine row }
+/// The side of the caller, who has to be a party of the zone.
+#[inline(always)]
+fn caller(machine: Machine, zone: Zone) -> Result<Side, Refusal>
+    ensures stranger { (word : ℕ) → rows.checked word (rows.stranger machine zone ∷ []) ≡ rows.went_on result }
+    ensures party { IfOk result (λ side. machine ≡ sides.party_of zone side) }
 {
-    row.filter(|row| row.giver == machine)
+    side_of(machine, zone).ok_or(Refusal::NotParty)
 }
 
-/// The row of transfers in which a machine gives in a zone.
-pub(crate) fn row_given(machine: Machine, zone: Zone) -> Option<Transfer>
-    ensures { result ≡ rows.row_given machine zone }
+/// The caller has to hold the zone.
+#[inline(always)]
+pub(crate) fn held(at: ZoneBits, side: Side) -> Result<(), Refusal>
+    ensures { result ≡ rows.checked at.word (rows.unowned at.zone ∷ rows.anothers at.zone (sides.party_of at.zone (sides.other_side side)) ∷ []) }
 {
-    given_by(machine, transfer(zone, Posture::OpenIn)).or(given_by(
-        machine,
-        transfer(zone, Posture::OpenOut),
-    ))
+    let other = side.other();
+    if at.is_free() {
+        return Err(Refusal::NotOwner(None));
+    }
+    if at.is_owned_by(other) {
+        return Err(Refusal::NotOwner(Some(other.party(at.zone))));
+    }
+    Ok(())
 }
 
-fn wrong_way(machine: Machine, zone: Zone, posture: Posture) -> Guard
-    ensures { result ≡ rows.wrong_way machine zone posture }
+/// No plate may be in the zone.
+#[inline(always)]
+pub(crate) fn clear(at: ZoneBits) -> Result<(), Refusal>
+    ensures { result ≡ rows.checked at.word (rows.plate_in at.zone ∷ []) }
 {
-    let row = given_by(machine, transfer(zone, posture));
-    Pattern::posture(zone, posture)
-        .when(row.is_none())
-        .refuses(Refusal::WrongWay)
+    if at.has_plate() {
+        return Err(Refusal::PlateInZone(at.zone));
+    }
+    Ok(())
 }
 
-fn starts_empty(row: Option<Transfer>) -> Pattern
-    ensures { result ≡ rows.starts_empty row }
+/// The zone may not have a posture.
+#[inline(always)]
+fn not_in(at: ZoneBits, posture: Posture) -> Result<(), Refusal>
+    ensures { result ≡ rows.checked at.word (rows.shut at.zone posture ∷ []) }
 {
-    match row {
-        Some(row) => Pattern::place(row.from, false),
-        None => Pattern::NOTHING,
+    if at.is(posture) {
+        return Err(Refusal::Shut(posture));
+    }
+    Ok(())
+}
+
+/// Feed may not leave z1 while it runs with a plate at its end.
+#[inline(always)]
+fn not_in_use(at: ZoneBits, machine: Machine) -> Result<(), Refusal>
+    ensures { result ≡ rows.checked at.word (rows.in_use machine at.zone ∷ []) }
+{
+    if machine == Machine::Feed && at.zone == Zone::Z1 {
+        return Pattern::posture(Zone::Z6, Posture::Moving)
+            .and(Pattern::place(Place::FeedEnd, true))
+            .refuses(Refusal::InUse)
+            .pass(at.word);
+    }
+    Ok(())
+}
+
+/// A plate is moved to an empty place, as long as stamps are left.
+#[inline(always)]
+pub(crate) fn moved(word: u64, from: Place, to: Place) -> Result<(), Refusal>
+    ensures { result ≡ rows.checked word (rows.no_plate_at from ∷ rows.no_room_at to ∷ rows.worn ∷ []) }
+{
+    Pattern::place(from, false)
+        .refuses(Refusal::NoPlate)
+        .pass(word)?;
+    no_room(to).pass(word)?;
+    worn().pass(word)
+}
+
+/// The zone has to be free.
+#[inline(always)]
+fn free(at: ZoneBits, side: Side) -> Result<(), Refusal>
+    ensures { result ≡ rows.unless (rows.first_refusal at.word (rows.guard (owner_is at.zone (Some (sides.party_of at.zone side))) AlreadyMine
+        ∷ rows.guard (owner_is at.zone (Some (sides.party_of at.zone (sides.other_side side)))) (Held (sides.party_of at.zone (sides.other_side side)))
+        ∷ [])) tt }
+{
+    let other = side.other();
+    if at.is_owned_by(side) {
+        return Err(Refusal::AlreadyMine);
+    }
+    if at.is_owned_by(other) {
+        return Err(Refusal::Held(other.party(at.zone)));
+    }
+    Ok(())
+}
+
+/// It has to be open to the guest.
+#[inline(always)]
+fn open_to(at: ZoneBits, side: Side) -> Result<(), Refusal>
+    ensures { result ≡ rows.checked at.word (rows.guard (when (sides.is_guest side) (posture_is at.zone Closed)) (Shut Closed)
+        ∷ rows.guard (when (sides.is_guest side) (posture_is at.zone Moving)) (Shut Moving) ∷ []) }
+{
+    if side == Side::Guest {
+        not_in(at, Posture::Closed)?;
+        not_in(at, Posture::Moving)?;
+    }
+    Ok(())
+}
+
+#[inline(always)]
+fn claim(word: u64, machine: Machine, zone: Zone) -> Result<Pattern, Refusal>
+    ensures { result ≡ rows.unless (rows.first_refusal word (rows.claim_row machine zone))
+        (changes.written machine (calls.Claim zone)) }
+{
+    let side = caller(machine, zone)?;
+    let at = ZoneBits { word, zone };
+    free(at, side)?;
+    open_to(at, side)?;
+    worn().pass(word)?;
+    Ok(Pattern::owned(zone, side))
+}
+
+/// The zone has to have the posture in which a side of it gives; the row of transfers.
+#[inline(always)]
+fn giving(at: ZoneBits, side: Side) -> Result<Transfer, Refusal>
+    ensures way { rows.checked at.word (map (rows.wrong_way (sides.party_of at.zone side) at.zone) all_postures) ≡ rows.went_on result }
+    ensures row { IfOk result (λ row. rows.row_given (sides.party_of at.zone side) at.zone ≡ Some row) }
+{
+    match row_given(at.zone, side) {
+        Some(row) => {
+            if at.is(side.giving()) {
+                Ok(row)
+            } else {
+                Err(Refusal::WrongWay)
+            }
+        }
+        None => Err(Refusal::WrongWay),
     }
 }
 
-fn ends_full(row: Option<Transfer>) -> Pattern
-    ensures { result ≡ rows.ends_full row }
+#[inline(always)]
+fn give(word: u64, machine: Machine, zone: Zone) -> Result<Pattern, Refusal>
+    ensures { result ≡ rows.unless (rows.first_refusal word (rows.give_row machine zone))
+        (changes.written machine (calls.Give zone)) }
 {
-    match row {
-        Some(row) => Pattern::place(row.to, true),
-        None => Pattern::NOTHING,
-    }
+    let side = caller(machine, zone)?;
+    let at = ZoneBits { word, zone };
+    held(at, side)?;
+    clear(at)?;
+    let row = giving(at, side)?;
+    moved(word, row.from, row.to)?;
+    Ok(gift(zone, side, row))
 }
 
-fn give_row(machine: Machine, zone: Zone) -> [Guard; 11]
-    ensures { result ≡ rows.give_row machine zone }
+#[inline(always)]
+fn hand_over(word: u64, machine: Machine, zone: Zone) -> Result<Pattern, Refusal>
+    ensures { result ≡ rows.unless (rows.first_refusal word (rows.yield_row machine zone))
+        (changes.written machine (calls.Yield zone)) }
 {
-    let row = row_given(machine, zone);
-    [
-        stranger(machine, zone),
-        unowned(zone),
-        anothers(zone, other_party(machine, zone)),
-        plate_in(zone),
-        wrong_way(machine, zone, Posture::Closed),
-        wrong_way(machine, zone, Posture::Moving),
-        wrong_way(machine, zone, Posture::OpenIn),
-        wrong_way(machine, zone, Posture::OpenOut),
-        starts_empty(row).refuses(Refusal::NoPlate),
-        ends_full(row).refuses(Refusal::PlaceFull),
-        worn(),
-    ]
+    let side = caller(machine, zone)?;
+    let at = ZoneBits { word, zone };
+    held(at, side)?;
+    clear(at)?;
+    not_in(at, Posture::Closed)?;
+    not_in(at, Posture::Moving)?;
+    not_in_use(at, machine)?;
+    worn().pass(word)?;
+    Ok(Pattern::owned(zone, side.other()))
 }
 
-fn yield_row(machine: Machine, zone: Zone) -> [Guard; 8]
-    ensures { result ≡ rows.yield_row machine zone }
+#[inline(always)]
+fn take(word: u64, machine: Machine, zone: Zone) -> Result<Pattern, Refusal>
+    ensures { result ≡ rows.unless (rows.first_refusal word (rows.take_row machine zone))
+        (changes.written machine (calls.Take zone)) }
 {
-    [
-        stranger(machine, zone),
-        unowned(zone),
-        anothers(zone, other_party(machine, zone)),
-        plate_in(zone),
-        shut(zone, Posture::Closed),
-        shut(zone, Posture::Moving),
-        in_use(machine, zone),
-        worn(),
-    ]
+    let side = caller(machine, zone)?;
+    held(ZoneBits { word, zone }, side)?;
+    Pattern::flag(zone, false)
+        .refuses(Refusal::NoPlate)
+        .pass(word)?;
+    worn().pass(word)?;
+    Ok(taken_in(zone, side))
 }
 
-fn take_row(machine: Machine, zone: Zone) -> [Guard; 5]
-    ensures { result ≡ rows.take_row machine zone }
+#[inline(always)]
+fn release(word: u64, machine: Machine, zone: Zone) -> Result<Pattern, Refusal>
+    ensures { result ≡ rows.unless (rows.first_refusal word (rows.release_row machine zone))
+        (changes.written machine (calls.Release zone)) }
 {
-    [
-        stranger(machine, zone),
-        unowned(zone),
-        anothers(zone, other_party(machine, zone)),
-        Pattern::flag(zone, false).refuses(Refusal::NoPlate),
-        worn(),
-    ]
+    let side = caller(machine, zone)?;
+    let at = ZoneBits { word, zone };
+    held(at, side)?;
+    clear(at)?;
+    not_in(at, Posture::Moving)?;
+    not_in_use(at, machine)?;
+    worn().pass(word)?;
+    Ok(Pattern::owner(zone, None))
 }
 
-fn release_row(machine: Machine, zone: Zone) -> [Guard; 7]
-    ensures { result ≡ rows.release_row machine zone }
-{
-    [
-        stranger(machine, zone),
-        unowned(zone),
-        anothers(zone, other_party(machine, zone)),
-        plate_in(zone),
-        shut(zone, Posture::Moving),
-        in_use(machine, zone),
-        worn(),
-    ]
-}
-
-/// Why a call is refused at a word: the first guard of its row that refuses it.
-pub(crate) fn refusal(word: u64, machine: Machine, call: Call) -> Option<Refusal>
-    ensures { result ≡ rows.first_refusal word (rows.row_of machine call) }
+/// What a call writes at a word, or the refusal of the first guard in its row that refuses it there.
+#[inline(always)]
+pub(crate) fn tried(word: u64, machine: Machine, call: Call) -> Result<Pattern, Refusal>
+    ensures { result ≡ rows.unless (rows.first_refusal word (rows.row_of machine call)) (changes.written machine call) }
 {
     match call {
-        Call::Claim(zone) => first_refusal(word, &claim_row(machine, zone)),
-        Call::Give(zone) => first_refusal(word, &give_row(machine, zone)),
-        Call::Yield(zone) => first_refusal(word, &yield_row(machine, zone)),
-        Call::Take(zone) => first_refusal(word, &take_row(machine, zone)),
-        Call::Release(zone) => first_refusal(word, &release_row(machine, zone)),
-        Call::SetPose(pose) => pose_refusal(word, machine, pose),
-        Call::Advance => advance_refusal(word, machine),
-        Call::Inquire(_) => None,
+        Call::Claim(zone) => claim(word, machine, zone),
+        Call::Give(zone) => give(word, machine, zone),
+        Call::Yield(zone) => hand_over(word, machine, zone),
+        Call::Take(zone) => take(word, machine, zone),
+        Call::Release(zone) => release(word, machine, zone),
+        Call::SetPose(pose) => set_pose(word, machine, pose),
+        Call::Advance => advance(word, machine),
+        Call::Inquire(_) => Ok(Pattern::ANYTHING),
     }
 }

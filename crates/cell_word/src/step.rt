@@ -5,9 +5,8 @@ ghost use Rattle.cell_rules.specs.Sound.{IsSound};
 ghost use Rattle.cell_rules.specs.Reply.{reply, next};
 ghost use Rattle.cell_word.specs.Layout.{packed};
 
-use crate::changes::masks;
 use crate::codes::STAMP_BIT;
-use crate::rows::refusal;
+use crate::rows::tried;
 use crate::state_words::is_state_word;
 use crate::word::zone_told;
 use cell_types::{Answer, Call, Machine, Zone};
@@ -25,15 +24,6 @@ fn shown(word: u64, zone: Zone) -> Answer
     }
 }
 
-/// The word after a call that is Done.
-fn changed(word: u64, machine: Machine, call: Call) -> u64
-    requires { (state : ModelState) × IsSound state × (packed state ≡ word) × (reply state machine call ≡ Done) }
-    ensures { (state : ModelState) → IsSound state → packed state ≡ word → result ≡ packed (next state machine call) }
-{
-    let (clear, set) = masks(machine, call);
-    (word & !clear | set) + (1 << STAMP_BIT)
-}
-
 /// Makes a call on the word of a sound state, which is not taken apart: the interlock's answer, and
 /// the word of the state after it, which is the same word unless the answer is Done.
 pub fn step_sound(word: u64, machine: Machine, call: Call) -> (Answer, u64)
@@ -44,9 +34,9 @@ pub fn step_sound(word: u64, machine: Machine, call: Call) -> (Answer, u64)
     if let Call::Inquire(zone) = call {
         return (shown(word, zone), word);
     }
-    match refusal(word, machine, call) {
-        Some(refusal) => (Answer::Refused(refusal), word),
-        None => (Answer::Done, changed(word, machine, call)),
+    match tried(word, machine, call) {
+        Err(refusal) => (Answer::Refused(refusal), word),
+        Ok(written) => (Answer::Done, written.written_into(word) + (1 << STAMP_BIT)),
     }
 }
 

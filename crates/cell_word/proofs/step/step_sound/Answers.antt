@@ -1,16 +1,23 @@
-use Rattle.std.proofs.Common.{◌≡◌, ℕ, Option, Some, None, ◌∙◌, ap, ap₂, sym, refl}
+use Rattle.std.proofs.Common.{◌≡◌, ℕ, ◌+◌, ◌<◌, ◌^◌, arith, Option, Some, None, ◌∙◌, ap, ap₂, sym, refl}
 use Rattle.cell_types.specs.declared.machine.Machine.{Machine}
 use Rattle.cell_types.specs.declared.zone.Zone.{Zone}
 use Rattle.cell_types.specs.declared.call.Call.{Call}
 use Rattle.cell_types.specs.declared.call.Call.TheVariants.{Claim, Give, Yield, Take, Release, SetPose, Advance, Inquire}
 use Rattle.cell_types.specs.declared.answer.Refusal.{Refusal}
 use Rattle.cell_types.specs.declared.answer.Answer.{Answer}
-use Rattle.cell_types.specs.declared.answer.Answer.TheVariants.{Refused}
+use Rattle.cell_types.specs.declared.answer.Answer.TheVariants.{Refused, Done}
 use Rattle.cell_rules.specs.ModelState.{ModelState}
 use Rattle.cell_rules.specs.Sound.{IsSound}
-use Rattle.cell_rules.specs.Reply.{reply, refusal, done_unless, next_by}
+use Rattle.cell_rules.specs.Reply.{reply, refusal, done_unless, next, next_by}
 use Rattle.cell_word.specs.Layout.{packed}
+use Rattle.cell_word.specs.Patterns.{with_written}
+use Rattle.cell_word.specs.Changes.{written}
 use Rattle.cell_word.specs.Rows.{first_refusal, row_of}
+use Rattle.cell_word.specs.declared.patterns.Pattern.{Pattern}
+use Rattle.cell_rules.proofs.Soundness.{next_keeps}
+use Rattle.cell_word.proofs.RoundTrip.{laid_out}
+use Rattle.cell_word.proofs.Changing.{done_written}
+use Rattle.cell_word.proofs.Trying.{was_refused, was_passed}
 use Rattle.cell_word.proofs.RowsHold.{rows_hold}
 use Rattle.cell_word.proofs.step.step_sound.Goals as goal
 
@@ -30,22 +37,39 @@ reply_found : (s : ModelState) → IsSound s → (m : Machine) (c : Call) → ((
 reply_found s sound m c other w e found is =
     reply_by s m c other ∙ ap done_unless (sym (rows_hold s sound m c) ∙ ap (λ n. first_refusal n (row_of m c)) e ∙ is)
 
-pub changed-requires : goal.changed-requires
-changed-requires c =
+after_is : (s : ModelState) → IsSound s → (m : Machine) (c : Call) (w : ℕ) (p : Pattern) → packed s ≡ w → p ≡ written m c → reply s m c ≡ Done → with_written w p.mask p.wanted + 2 ^ 40 ≡ packed (next s m c)
+after_is s sound m c w p e is done =
+    ap₂ (λ n (q : Pattern). with_written n q.mask q.wanted + 2 ^ 40) (sym e) is ∙ sym (done_written s sound m c done)
+
+pub returns-in-Err : goal.returns-in-Err
+returns-in-Err c =
+    λ s h e.
+    let m = c.args.machine in
+    let call = c.args.call in
+    let r = c.in-Err.refusal in
+    let found = was_refused (first_refusal c.args.word (row_of m call)) (written m call) r (sym c.tried.ensures ∙ c.in-Err.is) in
+    let told = reply_found s h m call c.in_default.not-Inquire c.args.word e (Some r) found in
+    let pair : Answer → ℕ → Answer × ℕ = λ a n. (a, n) in
+    ap (pair (Refused r)) (sym e) ∙ ap (λ a. pair a (packed (next_by a s m call))) (sym told)
+
+pub overflow_add-result : goal.overflow_add-result
+overflow_add-result c =
+    let m = c.args.machine in
+    let call = c.args.call in
     let known = c.requires in
-    (known.0, known.1, known.2, reply_found known.0 known.1 c.args.machine c.args.call c.in_default.not-Inquire c.args.word known.2 None (sym c.refusal.ensures ∙ c.in-None.is))
+    let s = known.0 in
+    let passed = was_passed (first_refusal c.args.word (row_of m call)) (written m call) c.in-Ok.written (sym c.tried.ensures ∙ c.in-Ok.is) in
+    let done = reply_found s known.1 m call c.in_default.not-Inquire c.args.word known.2 None passed.0 in
+    let same = after_is s known.1 m call c.args.word c.in-Ok.written known.2 (sym passed.1) done in
+    let bound = (laid_out (next s m call) (next_keeps s m call known.1)).bound in
+    omega (arith, c.written_into.ensures)
 
-pub returns-in-Some : goal.returns-in-Some
-returns-in-Some c =
+pub returns-in-Ok : goal.returns-in-Ok
+returns-in-Ok c =
     λ s h e.
-    let r = c.in-Some.refusal in
-    let told = reply_found s h c.args.machine c.args.call c.in_default.not-Inquire c.args.word e (Some r) (sym c.refusal.ensures ∙ c.in-Some.is) in
+    let m = c.args.machine in
+    let call = c.args.call in
+    let passed = was_passed (first_refusal c.args.word (row_of m call)) (written m call) c.in-Ok.written (sym c.tried.ensures ∙ c.in-Ok.is) in
+    let told = reply_found s h m call c.in_default.not-Inquire c.args.word e None passed.0 in
     let pair : Answer → ℕ → Answer × ℕ = λ a n. (a, n) in
-    ap (pair (Refused r)) (sym e) ∙ ap (λ a. pair a (packed (next_by a s c.args.machine c.args.call))) (sym told)
-
-pub returns-in-None : goal.returns-in-None
-returns-in-None c =
-    λ s h e.
-    let told = reply_found s h c.args.machine c.args.call c.in_default.not-Inquire c.args.word e None (sym c.refusal.ensures ∙ c.in-None.is) in
-    let pair : Answer → ℕ → Answer × ℕ = λ a n. (a, n) in
-    ap₂ pair (sym told) (c.changed.ensures s h e)
+    ap₂ pair (sym told) (ap (λ n. n + 2 ^ 40) c.written_into.ensures ∙ after_is s h m call c.args.word c.in-Ok.written e (sym passed.1) told)

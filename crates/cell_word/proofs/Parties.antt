@@ -1,0 +1,56 @@
+-- What holds of the party on a side of a zone.
+use Rattle.std.proofs.Common.{◌≡◌, true, false, None, Some, refl}
+use Rattle.cell_types.specs.declared.machine.Machine.{Machine}
+use Rattle.cell_types.specs.declared.zone.Zone.{Zone}
+use Rattle.cell_types.specs.declared.zone.Zone.TheVariants.{Z1, Z2, Z3, Z4, Z5, Z6}
+use Rattle.cell_types.specs.Tables.{host_of, guest_of, transfer_of}
+use Rattle.cell_types.specs.Same.{same_machine, one_machine}
+use Rattle.cell_rules.specs.Sound.{is_party}
+use Rattle.cell_rules.specs.Reply.{other_party}
+use Rattle.cell_word.specs.Sides.{side_of, party_of, other_side, giving}
+use Rattle.cell_word.specs.Rows.{row_given}
+use Rattle.cell_word.specs.Changes.{row_received}
+use Rattle.cell_word.specs.declared.sides.Side.{Side}
+use Rattle.cell_word.specs.declared.sides.Side.TheVariants.{Host, Guest}
+
+pub given_by_side : (z : Zone) (s : Side) → transfer_of z (giving s) ≡ row_given (party_of z s) z
+given_by_side Z1 Host = refl
+given_by_side Z1 Guest = refl
+given_by_side Z2 Host = refl
+given_by_side Z2 Guest = refl
+given_by_side Z3 Host = refl
+given_by_side Z3 Guest = refl
+given_by_side Z4 Host = refl
+given_by_side Z4 Guest = refl
+given_by_side Z5 Host = refl
+given_by_side Z5 Guest = refl
+given_by_side Z6 Host = refl
+given_by_side Z6 Guest = refl
+
+pub received_by_side : (z : Zone) (s : Side) → transfer_of z (giving (other_side s)) ≡ row_received (party_of z s) z
+received_by_side Z1 Host = refl
+received_by_side Z1 Guest = refl
+received_by_side Z2 Host = refl
+received_by_side Z2 Guest = refl
+received_by_side Z3 Host = refl
+received_by_side Z3 Guest = refl
+received_by_side Z4 Host = refl
+received_by_side Z4 Guest = refl
+received_by_side Z5 Host = refl
+received_by_side Z5 Guest = refl
+received_by_side Z6 Host = refl
+received_by_side Z6 Guest = refl
+
+pub other_of_party : (z : Zone) (s : Side) → other_party (party_of z s) z ≡ party_of z (other_side s)
+other_of_party Z1 Host = refl
+other_of_party Z1 Guest = refl
+other_of_party Z2 Host = refl
+other_of_party Z2 Guest = refl
+other_of_party Z3 Host = refl
+other_of_party Z3 Guest = refl
+other_of_party Z4 Host = refl
+other_of_party Z4 Guest = refl
+other_of_party Z5 Host = refl
+other_of_party Z5 Guest = refl
+other_of_party Z6 Host = refl
+other_of_party Z6 Guest = refl

@@ -1,0 +1,210 @@
+-- A zone has another posture where a bit of its posture is another.
+use Rattle.std.proofs.Common.{◌≡◌, ℕ, ◌+◌, ◌-◌, ◌*◌, ◌/◌, ◌^◌, Bool, true, false, ◌&&◌, cond, nat_eq, Option, Some, None, is_some, option_map, Result, Ok, Err, List, [], ◌∷◌, map, refl, sym, ap, ap₂, ◌∙◌, arith}
+use Rattle.std.specs.Prelude.{bit_and, bit_or}
+use Rattle.std.proofs.lemmas.Nat.{mod_below}
+use Rattle.cell_types.specs.declared.zone.Zone.{Zone}
+use Rattle.cell_types.specs.declared.zone.Transfer.{Transfer}
+use Rattle.cell_types.specs.declared.place.Place.{Place}
+use Rattle.cell_types.specs.declared.posture.Posture.{Posture}
+use Rattle.cell_types.specs.declared.posture.Posture.TheVariants.{OpenIn}
+use Rattle.cell_types.specs.declared.answer.Refusal.{Refusal}
+use Rattle.cell_types.specs.declared.answer.Refusal.TheVariants.{Jump, WrongWay}
+use Rattle.cell_types.specs.Tables.{guest_of, transfer_of}
+use Rattle.cell_types.specs.Everything.{all_postures as every_posture}
+use Rattle.cell_rules.proofs.Tables.{and_left, and_right, all_zones, from_zones, all_postures, from_postures, all_places, from_places}
+use Rattle.cell_word.specs.Layout.{zone_bit, place_bit}
+use Rattle.cell_word.specs.Reading.{bits_of}
+use Rattle.cell_word.specs.Patterns.{stands, when, posture_is, low_differs, high_differs, anything}
+use Rattle.cell_word.specs.Rows as rows
+use Rattle.cell_word.specs.Rows.{guard, first_refusal, unless, checked}
+use Rattle.cell_word.specs.Sides.{party_of, giving}
+use Rattle.cell_word.specs.declared.sides.Side.{Side}
+use Rattle.cell_word.specs.declared.sides.Side.TheVariants.{Host, Guest}
+use Rattle.cell_word.specs.declared.patterns.Pattern.{Pattern}
+use Rattle.cell_word.specs.declared.patterns.Guard.{Guard}
+use Rattle.cell_word.proofs.SameAnswer.{same_answer, one_answer}
+use Rattle.cell_word.proofs.Windows.{and_or, first-window, stands-window, all_within, field_shown, all_below, from_below, five_fit}
+use Rattle.cell_word.proofs.Seen.{zone_window}
+use Rattle.cell_word.proofs.ZoneRows.{blind, and_zero}
+
+-- ---- rows of which no guard refuses where a pattern stands, by what a window shows
+abbrev but : Pattern → List Guard → ℕ → Option Refusal
+but p short w = cond (stands w p) None (first_refusal w short)
+
+abbrev is_inside : ℕ → Pattern → List Guard → List Guard → Bool
+is_inside window p row short = nat_eq (bit_and window p.mask) p.mask && (all_within window row && all_within window short)
+
+through : (w window v : ℕ) (p : Pattern) (row short : List Guard) → bit_and w window ≡ v → is_inside window p row short ≡ true → same_answer (first_refusal v row) (but p short v) ≡ true
+    → first_refusal w row ≡ but p short w
+through w window v p row short shown inside same =
+    let here = nat_eq (bit_and window p.mask) p.mask in
+    let rest = and_right here (all_within window row && all_within window short) inside in
+    first-window w window row (and_left (all_within window row) (all_within window short) rest)
+    ∙ ap (λ n. first_refusal n row) shown
+    ∙ one_answer (first_refusal v row) (but p short v) same
+    ∙ ap (but p short) (sym shown)
+    ∙ ap₂ (λ b o. cond b None o) (sym (stands-window w window p (and_left here (all_within window row && all_within window short) inside)))
+    (sym (first-window w window short (and_right (all_within window row) (all_within window short) rest)))
+
+but_checked : (w : ℕ) (p : Pattern) (row short : List Guard) → first_refusal w row ≡ but p short w → checked w row ≡ cond (stands w p) (Ok tt) (checked w short)
+but_checked w p row short e = ap (λ o. unless o tt) e ∙ by (stands w p) where
+  by : (b : Bool) → unless (cond b None (first_refusal w short)) tt ≡ cond b (Ok tt) (checked w short)
+  by true = refl
+  by false = refl
+
+-- what a test leaves of such a row
+pub holds : {A : Type 0} {a x : A} {b : Bool} (y : A) → a ≡ cond b x y → b ≡ true → x ≡ a
+holds {x = x} y e is = sym (e ∙ ap (λ b. cond b x y) is)
+
+pub fails : {A : Type 0} {a y : A} {b : Bool} (x : A) → a ≡ cond b x y → b ≡ false → y ≡ a
+fails {y = y} x e is = sym (e ∙ ap (λ b. cond b x y) is)
+
+-- ---- guards on a zone and its posture
+abbrev turned_test : (Zone → Posture → List Guard) → (Zone → Posture → List Guard) → Zone → Posture → ℕ → Bool
+turned_test row short z q n = same_answer (first_refusal (n * 2 ^ zone_bit z) (row z q)) (but (posture_is z q) (short z q) (n * 2 ^ zone_bit z))
+
+abbrev turned_tests : (Zone → Posture → List Guard) → (Zone → Posture → List Guard) → Zone → Posture → Bool
+turned_tests row short z q = is_inside (zone_window z) (posture_is z q) (row z q) (short z q) && all_below 32 (turned_test row short z q)
+
+abbrev turned_table : (Zone → Posture → List Guard) → (Zone → Posture → List Guard) → Bool
+turned_table row short = all_zones (λ z. all_postures (turned_tests row short z))
+
+turned : (row short : Zone → Posture → List Guard) → turned_table row short ≡ true → (w : ℕ) (z : Zone) (q : Posture) → first_refusal w (row z q) ≡ but (posture_is z q) (short z q) w
+turned row short table w z q =
+    let n = bits_of w (zone_bit z) 5 in
+    let inside = is_inside (zone_window z) (posture_is z q) (row z q) (short z q) in
+    let tests = from_postures (turned_tests row short z) (from_zones (λ z. all_postures (turned_tests row short z)) table z) q in
+    through w (zone_window z) (n * 2 ^ zone_bit z) (posture_is z q) (row z q) (short z q) (field_shown w (zone_bit z) 5) (and_left inside (all_below 32 (turned_test row short z q)) tests)
+    (from_below 32 (turned_test row short z q) (and_right inside (all_below 32 (turned_test row short z q)) tests) n (five_fit w (zone_bit z)))
+
+-- a zone that gets another posture has to be its host's
+abbrev host_guards : Zone → Posture → List Guard
+host_guards z q = rows.unowned z ∷ rows.anothers z (guest_of z) ∷ []
+
+owner_table : turned_table rows.owner_guards host_guards ≡ true
+owner_table = refl
+
+pub host_turns : (w : ℕ) (z : Zone) (q : Posture) → checked w (rows.owner_guards z q) ≡ cond (stands w (posture_is z q)) (Ok tt) (checked w (rows.unowned z ∷ rows.anothers z (guest_of z) ∷ []))
+host_turns w z q = but_checked w (posture_is z q) (rows.owner_guards z q) (host_guards z q) (turned rows.owner_guards host_guards owner_table w z q)
+
+-- and clear of plates
+abbrev clear_guards : Zone → Posture → List Guard
+clear_guards z q = rows.plate_in z ∷ []
+
+plate_table : turned_table rows.plate_guards clear_guards ≡ true
+plate_table = refl
+
+pub turns_clear : (w : ℕ) (z : Zone) (q : Posture) → checked w (rows.plate_guards z q) ≡ cond (stands w (posture_is z q)) (Ok tt) (checked w (rows.plate_in z ∷ []))
+turns_clear w z q = but_checked w (posture_is z q) (rows.plate_guards z q) (clear_guards z q) (turned rows.plate_guards clear_guards plate_table w z q)
+
+-- where a zone has to have a posture, any other refuses
+abbrev differing : Refusal → Zone → Posture → List Guard
+differing r z q = rows.low_refuses z q r ∷ rows.high_refuses z q r ∷ []
+
+abbrev always : Zone → Posture → List Guard
+always z q = guard anything Jump ∷ []
+
+jump_table : turned_table (differing Jump) always ≡ true
+jump_table = refl
+
+abbrev by_bits : Bool → Bool → Refusal → Option Refusal
+by_bits low high r = cond low (Some r) (cond high (Some r) None)
+
+told_by_bits : (low high : Bool) (p q : Pattern) (r : Refusal) → option_map (λ (g : Guard). g.refusal) (cond low (Some (guard p r)) (cond high (Some (guard q r)) None)) ≡ by_bits low high r
+told_by_bits true high p q r = refl
+told_by_bits false true p q r = refl
+told_by_bits false false p q r = refl
+
+any_refusal : (low high b : Bool) (r : Refusal) → by_bits low high Jump ≡ cond b None (Some Jump) → ◌≡◌ {A = Result (Unit {0}) Refusal} (unless (by_bits low high r) tt) (cond b (Ok tt) (Err r))
+any_refusal true high true r e = cc
+any_refusal true high false r e = refl
+any_refusal false true true r e = cc
+any_refusal false true false r e = refl
+any_refusal false false true r e = refl
+any_refusal false false false r e = cc
+
+always_stands : (w : ℕ) → first_refusal w (guard anything Jump ∷ []) ≡ Some Jump
+always_stands w = blind w (guard anything Jump ∷ []) refl
+
+pub only_in : (w : ℕ) (z : Zone) (q : Posture) (r : Refusal) → checked w (rows.low_refuses z q r ∷ rows.high_refuses z q r ∷ []) ≡ cond (stands w (posture_is z q)) (Ok tt) (Err r)
+only_in w z q r =
+    let low = stands w (low_differs z q) in
+    let high = stands w (high_differs z q) in
+    let b = stands w (posture_is z q) in
+    let told = told_by_bits low high (low_differs z q) (high_differs z q) in
+    let jump : by_bits low high Jump ≡ cond b None (Some Jump) = sym (told Jump) ∙ turned (differing Jump) always jump_table w z q ∙ ap (cond b None) (always_stands w) in
+    ap (λ o. unless o tt) (told r) ∙ any_refusal low high b r jump
+
+-- ---- a zone that becomes open inward, and a place in it
+abbrev room_window : Zone → Place → ℕ
+room_window z p = bit_or ((2 ^ 2 - 1) * 2 ^ (zone_bit z + 3)) ((2 ^ 1 - 1) * 2 ^ place_bit p)
+
+abbrev room_word : Zone → Place → ℕ → ℕ → ℕ
+room_word z p n m = bit_or (n * 2 ^ (zone_bit z + 3)) (m * 2 ^ place_bit p)
+
+abbrev room_test : Zone → Place → ℕ → ℕ → Bool
+room_test z p n m = same_answer (first_refusal (room_word z p n m) (rows.room_guards z p)) (but (posture_is z OpenIn) (rows.no_room_at p ∷ []) (room_word z p n m))
+
+abbrev room_tests : Zone → Place → Bool
+room_tests z p = is_inside (room_window z p) (posture_is z OpenIn) (rows.room_guards z p) (rows.no_room_at p ∷ []) && all_below 4 (λ n. all_below 2 (room_test z p n))
+
+room_table : all_zones (λ z. all_places (room_tests z)) ≡ true
+room_table = refl
+
+pub room : (w : ℕ) (z : Zone) (p : Place) → checked w (rows.room_guards z p) ≡ cond (stands w (posture_is z OpenIn)) (Ok tt) (checked w (rows.no_room_at p ∷ []))
+room w z p =
+    let n = bits_of w (zone_bit z + 3) 2 in
+    let m = bits_of w (place_bit p) 1 in
+    let short = rows.no_room_at p ∷ [] in
+    let inside = is_inside (room_window z p) (posture_is z OpenIn) (rows.room_guards z p) short in
+    let each = all_below 4 (λ n. all_below 2 (room_test z p n)) in
+    let tests = from_places (room_tests z) (from_zones (λ z. all_places (room_tests z)) room_table z) p in
+    let shown : bit_and w (room_window z p) ≡ room_word z p n m =
+    and_or w ((2 ^ 2 - 1) * 2 ^ (zone_bit z + 3)) ((2 ^ 1 - 1) * 2 ^ place_bit p) ∙ ap₂ bit_or (field_shown w (zone_bit z + 3) 2) (field_shown w (place_bit p) 1) in
+    let same = from_below 2 (room_test z p n) (from_below 4 (λ n. all_below 2 (room_test z p n)) (and_right inside each tests) n (mod_below (w / 2 ^ (zone_bit z + 3)) 4 (omega arith))) m (mod_below (w / 2 ^ place_bit p) 2 (omega arith)) in
+    but_checked w (posture_is z OpenIn) (rows.room_guards z p) short
+    (through w (room_window z p) (room_word z p n m) (posture_is z OpenIn) (rows.room_guards z p) short shown (and_left inside each tests) same)
+
+-- ---- a zone from which a side gives
+abbrev way_pattern : Zone → Side → Pattern
+way_pattern z s = when (is_some (transfer_of z (giving s))) (posture_is z (giving s))
+
+abbrev wrong_ways : Zone → Side → List Guard
+wrong_ways z s = map (rows.wrong_way (party_of z s) z) every_posture
+
+abbrev wrong_way : List Guard
+wrong_way = guard anything WrongWay ∷ []
+
+abbrev way_test : Zone → Side → ℕ → Bool
+way_test z s n = same_answer (first_refusal (n * 2 ^ zone_bit z) (wrong_ways z s)) (but (way_pattern z s) wrong_way (n * 2 ^ zone_bit z))
+
+abbrev way_tests : Side → Zone → Bool
+way_tests s z = is_inside (zone_window z) (way_pattern z s) (wrong_ways z s) wrong_way && all_below 32 (way_test z s)
+
+host_ways : all_zones (way_tests Host) ≡ true
+host_ways = refl
+
+guest_ways : all_zones (way_tests Guest) ≡ true
+guest_ways = refl
+
+ways : (z : Zone) (s : Side) → way_tests s z ≡ true
+ways z Host = from_zones (way_tests Host) host_ways z
+ways z Guest = from_zones (way_tests Guest) guest_ways z
+
+way : (w : ℕ) (z : Zone) (s : Side) → checked w (wrong_ways z s) ≡ cond (stands w (way_pattern z s)) (Ok tt) (Err WrongWay)
+way w z s =
+    let n = bits_of w (zone_bit z) 5 in
+    let inside = is_inside (zone_window z) (way_pattern z s) (wrong_ways z s) wrong_way in
+    but_checked w (way_pattern z s) (wrong_ways z s) wrong_way
+    (through w (zone_window z) (n * 2 ^ zone_bit z) (way_pattern z s) (wrong_ways z s) wrong_way (field_shown w (zone_bit z) 5) (and_left inside (all_below 32 (way_test z s)) (ways z s))
+    (from_below 32 (way_test z s) (and_right inside (all_below 32 (way_test z s)) (ways z s)) n (five_fit w (zone_bit z))))
+    ∙ ap (λ o. cond (stands w (way_pattern z s)) (Ok tt) (unless o tt)) (blind w wrong_way refl)
+
+pub no_way : (w : ℕ) (z : Zone) (s : Side) → transfer_of z (giving s) ≡ None → checked w (wrong_ways z s) ≡ Err WrongWay
+no_way w z s e =
+    way w z s
+    ∙ ap (λ (row : Option Transfer). cond (stands w (when (is_some row) (posture_is z (giving s)))) (Ok tt) (Err WrongWay)) e
+    ∙ ap (λ n. cond (nat_eq n 0x8000000000000000) (Ok tt) (Err WrongWay)) (and_zero w)
+
+pub one_way : (w : ℕ) (z : Zone) (s : Side) (row : Transfer) → transfer_of z (giving s) ≡ Some row → checked w (wrong_ways z s) ≡ cond (stands w (posture_is z (giving s))) (Ok tt) (Err WrongWay)
+one_way w z s row e = way w z s ∙ ap (λ (row : Option Transfer). cond (stands w (when (is_some row) (posture_is z (giving s)))) (Ok tt) (Err WrongWay)) e
