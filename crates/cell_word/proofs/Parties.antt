@@ -1,5 +1,5 @@
 -- What holds of the party on a side of a zone.
-use Rattle.std.proofs.Common.{◌≡◌, true, false, None, Some, refl}
+use Rattle.std.proofs.Common.{◌≡◌, true, false, None, Some, refl, ap, ◌∙◌}
 use Rattle.cell_types.specs.declared.machine.Machine.{Machine}
 use Rattle.cell_types.specs.declared.zone.Zone.{Zone}
 use Rattle.cell_types.specs.declared.zone.Zone.TheVariants.{Z1, Z2, Z3, Z4, Z5, Z6}
@@ -7,7 +7,7 @@ use Rattle.cell_types.specs.Tables.{host_of, guest_of, transfer_of}
 use Rattle.cell_types.specs.Same.{same_machine, one_machine}
 use Rattle.cell_rules.specs.Sound.{is_party}
 use Rattle.cell_rules.specs.Reply.{other_party}
-use Rattle.cell_word.specs.Sides.{side_of, party_of, other_side, giving}
+use Rattle.cell_word.specs.Sides.{side_of, party_of, other_side, is_guest, giving}
 use Rattle.cell_word.specs.Rows.{row_given}
 use Rattle.cell_word.specs.Changes.{row_received}
 use Rattle.cell_word.specs.declared.sides.Side.{Side}
@@ -54,3 +54,24 @@ other_of_party Z5 Host = refl
 other_of_party Z5 Guest = refl
 other_of_party Z6 Host = refl
 other_of_party Z6 Guest = refl
+
+-- who is the other, of a machine that is the party on a side
+pub other_is : (m : Machine) (z : Zone) (s : Side) → m ≡ party_of z s → other_party m z ≡ party_of z (other_side s)
+other_is m z s e = ap (λ m. other_party m z) e ∙ other_of_party z s
+
+pub guest_by_side : (z : Zone) (s : Side) → same_machine (party_of z s) (guest_of z) ≡ is_guest s
+guest_by_side Z1 Host = refl
+guest_by_side Z1 Guest = refl
+guest_by_side Z2 Host = refl
+guest_by_side Z2 Guest = refl
+guest_by_side Z3 Host = refl
+guest_by_side Z3 Guest = refl
+guest_by_side Z4 Host = refl
+guest_by_side Z4 Guest = refl
+guest_by_side Z5 Host = refl
+guest_by_side Z5 Guest = refl
+guest_by_side Z6 Host = refl
+guest_by_side Z6 Guest = refl
+
+pub guest_is : (m : Machine) (z : Zone) (s : Side) → m ≡ party_of z s → same_machine m (guest_of z) ≡ is_guest s
+guest_is m z s e = ap (λ m. same_machine m (guest_of z)) e ∙ guest_by_side z s

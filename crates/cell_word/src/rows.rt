@@ -65,6 +65,15 @@ pub(crate) fn clear(at: ZoneBits) -> Result<(), Refusal>
     Ok(())
 }
 
+/// The caller has to hold the zone, and no plate may be in it.
+#[inline(always)]
+fn held_and_clear(at: ZoneBits, side: Side) -> Result<(), Refusal>
+    ensures { result ≡ rows.checked at.word (rows.unowned at.zone ∷ rows.anothers at.zone (sides.party_of at.zone (sides.other_side side)) ∷ rows.plate_in at.zone ∷ []) }
+{
+    held(at, side)?;
+    clear(at)
+}
+
 /// The zone may not have a posture.
 #[inline(always)]
 fn not_in(at: ZoneBits, posture: Posture) -> Result<(), Refusal>
@@ -88,6 +97,16 @@ fn not_in_use(at: ZoneBits, machine: Machine) -> Result<(), Refusal>
             .pass(at.word);
     }
     Ok(())
+}
+
+/// A zone is left where its host doesn't move and where it isn't in use, as long as stamps are left.
+#[inline(always)]
+fn left(at: ZoneBits, machine: Machine) -> Result<(), Refusal>
+    ensures { result ≡ rows.checked at.word (rows.shut at.zone Moving ∷ rows.in_use machine at.zone ∷ rows.worn ∷ []) }
+{
+    not_in(at, Posture::Moving)?;
+    not_in_use(at, machine)?;
+    worn().pass(at.word)
 }
 
 /// A plate is moved to an empty place, as long as stamps are left.
@@ -170,8 +189,7 @@ fn give(word: u64, machine: Machine, zone: Zone) -> Result<Pattern, Refusal>
 {
     let side = caller(machine, zone)?;
     let at = ZoneBits { word, zone };
-    held(at, side)?;
-    clear(at)?;
+    held_and_clear(at, side)?;
     let row = giving(at, side)?;
     moved(word, row.from, row.to)?;
     Ok(gift(zone, side, row))
@@ -184,12 +202,9 @@ fn hand_over(word: u64, machine: Machine, zone: Zone) -> Result<Pattern, Refusal
 {
     let side = caller(machine, zone)?;
     let at = ZoneBits { word, zone };
-    held(at, side)?;
-    clear(at)?;
+    held_and_clear(at, side)?;
     not_in(at, Posture::Closed)?;
-    not_in(at, Posture::Moving)?;
-    not_in_use(at, machine)?;
-    worn().pass(word)?;
+    left(at, machine)?;
     Ok(Pattern::owned(zone, side.other()))
 }
 
@@ -214,11 +229,8 @@ fn release(word: u64, machine: Machine, zone: Zone) -> Result<Pattern, Refusal>
 {
     let side = caller(machine, zone)?;
     let at = ZoneBits { word, zone };
-    held(at, side)?;
-    clear(at)?;
-    not_in(at, Posture::Moving)?;
-    not_in_use(at, machine)?;
-    worn().pass(word)?;
+    held_and_clear(at, side)?;
+    left(at, machine)?;
     Ok(Pattern::owner(zone, None))
 }
 

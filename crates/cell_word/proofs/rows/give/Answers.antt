@@ -1,4 +1,4 @@
-use Rattle.std.proofs.Common.{◌≡◌, ℕ, Option, Some, Ok, Err, List, [], ◌∷◌, ◌++◌, map, sym, ap, ◌∙◌, subst, rules}
+use Rattle.std.proofs.Common.{◌≡◌, ℕ, Option, Some, Ok, Err, List, [], ◌∷◌, map, sym, ap, ◌∙◌, rules}
 use Rattle.cell_types.specs.declared.machine.Machine.{Machine}
 use Rattle.cell_types.specs.declared.zone.Zone.{Zone}
 use Rattle.cell_types.specs.declared.zone.Transfer.{Transfer}
@@ -12,59 +12,78 @@ use Rattle.cell_word.specs.Rows.{guard, first_refusal, unless, checked, went_on}
 use Rattle.cell_word.specs.Sides.{party_of, other_side}
 use Rattle.cell_word.specs.declared.patterns.Pattern.{Pattern}
 use Rattle.cell_word.specs.declared.patterns.Guard.{Guard}
-use Rattle.cell_word.specs.declared.sides.Side.{Side}
-use Rattle.cell_word.proofs.Parties.{other_of_party}
+use Rattle.cell_word.proofs.Parties.{other_is}
 use Rattle.cell_word.proofs.Trying.{go, stop, part_by_part, by_parts}
 use Rattle.cell_word.proofs.rows.give.Goals as goal
 
-abbrev parts : Zone → Side → Machine → Option Transfer → List (List Guard)
-parts z s o row =
-    (rows.stranger (party_of z s) z ∷ [])
-    ∷ (rows.unowned z ∷ rows.anothers z o ∷ [])
-    ∷ (rows.plate_in z ∷ [])
-    ∷ map (rows.wrong_way (party_of z s) z) all_postures
+abbrev parts : Machine → Zone → Machine → Option Transfer → List (List Guard)
+parts m z o row =
+    (rows.stranger m z ∷ [])
+    ∷ (rows.unowned z ∷ rows.anothers z o ∷ rows.plate_in z ∷ [])
+    ∷ map (rows.wrong_way m z) all_postures
     ∷ (guard (rows.starts_empty row) NoPlate ∷ guard (rows.ends_full row) PlaceFull ∷ rows.worn ∷ [])
     ∷ []
 
--- the row of the party on a side, part by part
-row_is : (w : ℕ) (z : Zone) (s : Side) (row : Transfer) (written : Pattern) → rows.row_given (party_of z s) z ≡ Some row
-    → unless (first_refusal w (rows.give_row (party_of z s) z)) written ≡ part_by_part w (parts z s (party_of z (other_side s)) (Some row)) written
-row_is w z s row written e =
-    by_parts w (parts z s (other_party (party_of z s) z) (rows.row_given (party_of z s) z)) written
-    ∙ ap (λ o. part_by_part w (parts z s o (rows.row_given (party_of z s) z)) written) (other_of_party z s)
-    ∙ ap (λ row. part_by_part w (parts z s (party_of z (other_side s)) row) written) e
+-- the row, part by part
+row_is : (w : ℕ) (m : Machine) (z : Zone) (o : Machine) (p : Pattern) → other_party m z ≡ o
+    → unless (first_refusal w (rows.give_row m z)) p ≡ part_by_part w (parts m z o (rows.row_given m z)) p
+row_is w m z o p e = by_parts w (parts m z (other_party m z) (rows.row_given m z)) p ∙ ap (λ o. part_by_part w (parts m z o (rows.row_given m z)) p) e
+
+pub returns-in_err-held_and_clear : goal.returns-in_err-held_and_clear
+returns-in_err-held_and_clear c =
+    let w = c.args.word in
+    let m = c.args.machine in
+    let z = c.args.zone in
+    let told : c.from_residual-in_err-held_and_clear.result ≡ Err c.in_err-held_and_clear.field-0.0 = search rules in
+    told
+    ∙ sym
+    (row_is w m z _ (changes.written m (Give z)) (other_is m z c.in_ok-side.side c.in_ok-side.ensures.party)
+    ∙ go (c.caller.ensures.stranger w ∙ ap went_on c.in_ok-side.was)
+    ∙ stop (sym c.held_and_clear.ensures ∙ c.in_err-held_and_clear.was) _)
+
+pub returns-in_err-row : goal.returns-in_err-row
+returns-in_err-row c =
+    let w = c.args.word in
+    let m = c.args.machine in
+    let z = c.args.zone in
+    let party = c.in_ok-side.ensures.party in
+    let told : c.from_residual-in_err-row.result ≡ Err c.in_err-row.field-0.0 = search rules in
+    told
+    ∙ sym
+    (row_is w m z _ (changes.written m (Give z)) (other_is m z c.in_ok-side.side party)
+    ∙ go (c.caller.ensures.stranger w ∙ ap went_on c.in_ok-side.was)
+    ∙ go (sym c.held_and_clear.ensures ∙ c.in_ok-held_and_clear.was)
+    ∙ stop (ap (λ m. checked w (map (rows.wrong_way m z) all_postures)) party ∙ c.giving.ensures.way ∙ ap went_on c.in_err-row.was) _)
 
 pub returns-in_err-moved : goal.returns-in_err-moved
 returns-in_err-moved c =
     let w = c.args.word in
+    let m = c.args.machine in
     let z = c.args.zone in
-    let s = c.in_ok-side.side in
-    let m = party_of z s in
-    let party : c.args.machine ≡ m = c.in_ok-side.ensures.party in
+    let party = c.in_ok-side.ensures.party in
+    let row_given = ap (λ m. rows.row_given m z) party ∙ c.in_ok-row.ensures.row in
     let told : c.from_residual-in_err-moved.result ≡ Err c.in_err-moved.field-0.0 = search rules in
-    subst (λ m. c.from_residual-in_err-moved.result ≡ unless (first_refusal w (rows.give_row m z)) (changes.written m (Give z))) (sym party)
-    (told
+    told
     ∙ sym
-    (row_is w z s c.in_ok-row.row (changes.written m (Give z)) c.in_ok-row.ensures.row
-    ∙ go (ap (λ m. checked w (rows.stranger m z ∷ [])) (sym party) ∙ c.caller.ensures.stranger w ∙ ap went_on c.in_ok-side.was)
-    ∙ go (sym c.held.ensures ∙ c.in_ok-held.was)
-    ∙ go (sym c.clear.ensures ∙ c.in_ok-clear.was)
-    ∙ go (c.giving.ensures.way ∙ ap went_on c.in_ok-row.was)
-    ∙ stop (sym c.moved.ensures ∙ c.in_err-moved.was) _))
+    (row_is w m z _ (changes.written m (Give z)) (other_is m z c.in_ok-side.side party)
+    ∙ ap (λ row. part_by_part w (parts m z (party_of z (other_side c.in_ok-side.side)) row) (changes.written m (Give z))) row_given
+    ∙ go (c.caller.ensures.stranger w ∙ ap went_on c.in_ok-side.was)
+    ∙ go (sym c.held_and_clear.ensures ∙ c.in_ok-held_and_clear.was)
+    ∙ go (ap (λ m. checked w (map (rows.wrong_way m z) all_postures)) party ∙ c.giving.ensures.way ∙ ap went_on c.in_ok-row.was)
+    ∙ stop (sym c.moved.ensures ∙ c.in_err-moved.was) _)
 
 pub returns : goal.returns
 returns c =
     let w = c.args.word in
+    let m = c.args.machine in
     let z = c.args.zone in
-    let s = c.in_ok-side.side in
-    let m = party_of z s in
-    let party : c.args.machine ≡ m = c.in_ok-side.ensures.party in
-    subst (λ m. Ok c.gift.result ≡ unless (first_refusal w (rows.give_row m z)) (changes.written m (Give z))) (sym party)
-    (ap Ok (c.gift.ensures ∙ ap (changes.given_away m z) (sym c.in_ok-row.ensures.row))
+    let party = c.in_ok-side.ensures.party in
+    let row_given = ap (λ m. rows.row_given m z) party ∙ c.in_ok-row.ensures.row in
+    ap Ok (c.gift.ensures ∙ ap (changes.given_away (party_of z c.in_ok-side.side) z) (sym c.in_ok-row.ensures.row) ∙ ap (λ m. changes.given_away m z (rows.row_given m z)) (sym party))
     ∙ sym
-    (row_is w z s c.in_ok-row.row (changes.written m (Give z)) c.in_ok-row.ensures.row
-    ∙ go (ap (λ m. checked w (rows.stranger m z ∷ [])) (sym party) ∙ c.caller.ensures.stranger w ∙ ap went_on c.in_ok-side.was)
-    ∙ go (sym c.held.ensures ∙ c.in_ok-held.was)
-    ∙ go (sym c.clear.ensures ∙ c.in_ok-clear.was)
-    ∙ go (c.giving.ensures.way ∙ ap went_on c.in_ok-row.was)
-    ∙ go (sym c.moved.ensures ∙ c.in_ok-moved.was)))
+    (row_is w m z _ (changes.written m (Give z)) (other_is m z c.in_ok-side.side party)
+    ∙ ap (λ row. part_by_part w (parts m z (party_of z (other_side c.in_ok-side.side)) row) (changes.written m (Give z))) row_given
+    ∙ go (c.caller.ensures.stranger w ∙ ap went_on c.in_ok-side.was)
+    ∙ go (sym c.held_and_clear.ensures ∙ c.in_ok-held_and_clear.was)
+    ∙ go (ap (λ m. checked w (map (rows.wrong_way m z) all_postures)) party ∙ c.giving.ensures.way ∙ ap went_on c.in_ok-row.was)
+    ∙ go (sym c.moved.ensures ∙ c.in_ok-moved.was))
