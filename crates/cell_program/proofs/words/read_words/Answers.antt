@@ -1,8 +1,11 @@
-use Rattle.std.proofs.Common.{ap, ap₂, refl, sym, codes, true, map, List, [], ◌∷◌, ◌≡◌, ◌∙◌, subst}
-use Rattle.clap.specs.Words.{App, HasMatchesOf, Text, fault_of, is_simple, is_simple_and_free, subcommand_of, subcommand_rows_of, takes}
+use Rattle.std.proofs.Common.{ap, ap₂, refl, sym, codes, true, map, List, [], ◌∷◌, ◌≡◌, ◌∙◌, subst, inl, Result, Ok, Err, IfErr, rules}
+use Rattle.clap.specs.Words.{App, HasKind, HasMatchesOf, Kinds, Text, fault_of, is_simple, is_simple_and_free, kind_of, subcommand_of, subcommand_rows_of, takes}
 use Rattle.clap.specs.declared.parser.matches.ArgMatches.{ArgMatches}
+use Rattle.clap.specs.declared.error.Error.{Error}
+use Rattle.clap.specs.declared.error.kind.ErrorKind.TheVariants as ErrorKind
 use Rattle.clap.proofs.OnLiterals.{clap_on_literals}
 use Rattle.cell_program.specs.Words.{HasNumbers, mode_named, mode_of, program}
+use Rattle.cell_program.specs.declared.words.Mode.{Mode}
 use Rattle.cell_program.specs.declared.words.Mode.TheVariants.{Run}
 use Rattle.cell_program.proofs.FlagLemmas.{run_has_numbers}
 use Rattle.cell_program.proofs.words.read_words.Goals as goal
@@ -65,3 +68,35 @@ returns-in-Err-clause-sim c = λ name e. c.in-Err.ensures.passes (ap₂ takes c.
 
 pub returns-in-Err-clause-run : goal.returns-in-Err-clause-run
 returns-in-Err-clause-run c = λ name e. c.in-Err.ensures.passes (ap₂ takes c.in_ok-command.ensures e ∙ run_is_taken name)
+
+pub returns-in-Ok-clause-mode : goal.returns-in-Ok-clause-mode
+returns-in-Ok-clause-mode c = c.mode_of.ensures.mode ∙ ap mode_named (met_alike _ _ _ c.in_ok-command.ensures c.in-Ok.ensures.matches)
+
+pub returns-in-Ok-clause-within : goal.returns-in-Ok-clause-within
+returns-in-Ok-clause-within c = c.mode_of.ensures.within
+
+pub returns-in-Err-clause-refused : goal.returns-in-Err-clause-refused
+returns-in-Err-clause-refused c = subst (λ a. HasKind (fault_of a (map (λ w. w.now) c.args.words.now)) c.in-Err.error) c.in_ok-command.ensures (c.in-Err.ensures.kinds (ap is_simple_and_free c.in_ok-command.ensures ∙ program_is_free))
+
+-- without room for what clap is told, memory is wanting
+no_room : (c : goal.After-from_residual) → IfErr c.from_residual.result (λ e. kind_of e ≡ ErrorKind.OutOfMemory)
+no_room c = search rules
+
+has_kind : (r : Result Mode Error) (kinds : Kinds) → IfErr r (λ e. kind_of e ≡ ErrorKind.OutOfMemory) → IfErr r (HasKind kinds)
+has_kind (Ok mode) kinds h = tt
+has_kind (Err e) kinds h = inl h
+
+pub returns-in_err-command-clause-refused : goal.returns-in_err-command-clause-refused
+returns-in_err-command-clause-refused c = has_kind c.from_residual.result (fault_of program (map (λ w. w.now) c.args.words.now)) (no_room c)
+
+pub returns-in_err-command-clause-plain : goal.returns-in_err-command-clause-plain
+returns-in_err-command-clause-plain c = λ name e. no_room c
+
+pub returns-in_err-command-clause-replay : goal.returns-in_err-command-clause-replay
+returns-in_err-command-clause-replay c = λ name e. no_room c
+
+pub returns-in_err-command-clause-sim : goal.returns-in_err-command-clause-sim
+returns-in_err-command-clause-sim c = λ name e. no_room c
+
+pub returns-in_err-command-clause-run : goal.returns-in_err-command-clause-run
+returns-in_err-command-clause-run c = λ name e. no_room c
