@@ -1,0 +1,45 @@
+use Rattle.std.proofs.Common.{◌≡◌, ℕ, true, false, List, Err, refl, sym, ap, ◌∙◌, rules}
+use Rattle.std.specs.List.{flat_map}
+use Rattle.cell_types.specs.declared.zone.Zone.{Zone}
+use Rattle.cell_types.specs.declared.zone.Zone.TheVariants.{Z3}
+use Rattle.cell_types.specs.declared.place.Place.{Place}
+use Rattle.cell_types.specs.declared.place.Place.TheVariants.{PressIn, PressOut}
+use Rattle.cell_types.specs.declared.posture.Posture.TheVariants.{OpenIn}
+use Rattle.cell_types.specs.Same.{same_zone}
+use Rattle.cell_types.specs.Tables.{transfer_of}
+use Rattle.cell_word.specs.Rows as rows
+use Rattle.cell_word.specs.Rows.{checked}
+use Rattle.cell_word.proofs.Trying.{go, stop, then, in_parts}
+use Rattle.cell_word.proofs.pose_rows.rooms.Goals as goal
+
+-- the press has two places inside z3
+pressed : (w : ℕ) (z : Zone) → same_zone z Z3 ≡ true
+    → checked w (rows.opening_guards z OpenIn) ≡ then (checked w (rows.room_guards z PressIn)) (checked w (rows.room_guards z PressOut))
+pressed w Z3 e = in_parts w (rows.room_guards Z3 PressIn) (rows.room_guards Z3 PressOut) tt
+pressed w z e = cc
+
+-- any other machine has one at most, where its plates go
+elsewhere : (z : Zone) → same_zone z Z3 ≡ false → rows.inner_places z ≡ rows.end_of (transfer_of z OpenIn)
+elsewhere Z3 e = cc
+elsewhere z e = refl
+
+pub returns-in_err-room : goal.returns-in_err-room
+returns-in_err-room c =
+    let told : c.from_residual.result ≡ Err c.in_err-room.field-0.0 = search rules in
+    told ∙ sym (pressed c.args.at.word c.args.at.zone (sym c.eq.ensures ∙ c.if-eq.true) ∙ stop (sym c.room.ensures ∙ c.in_err-room.was) _)
+
+pub returns-then-eq : goal.returns-then-eq
+returns-then-eq c = c.room-then-eq.ensures ∙ sym (pressed c.args.at.word c.args.at.zone (sym c.eq.ensures ∙ c.if-eq.true) ∙ go (sym c.room.ensures ∙ c.in_ok-room.was))
+
+pub returns-in-Some : goal.returns-in-Some
+returns-in-Some c =
+    let w = c.args.at.word in
+    let z = c.args.at.zone in
+    c.room-in-Some.ensures
+    ∙ sym (ap (λ (places : List Place). checked w (flat_map (rows.room_guards z) places)) (elsewhere z (sym c.eq.ensures ∙ c.if-eq.false) ∙ ap rows.end_of (sym c.transfer.ensures ∙ c.in-Some.is)))
+
+pub returns-in-None : goal.returns-in-None
+returns-in-None c =
+    let w = c.args.at.word in
+    let z = c.args.at.zone in
+    sym (ap (λ (places : List Place). checked w (flat_map (rows.room_guards z) places)) (elsewhere z (sym c.eq.ensures ∙ c.if-eq.false) ∙ ap rows.end_of (sym c.transfer.ensures ∙ c.in-None.is)))
