@@ -1,0 +1,28 @@
+use Rattle.std.proofs.Common.{◌≡◌, ℕ, ◌+◌, ◌<◌, List, ◌++◌, map, drop, length, get_or, refl, sym, ap, ◌∙◌, add-one, append_assoc, drop-cons}
+use Rattle.std.specs.List.{concat}
+use Rattle.cell_types.specs.declared.place.Place.{Place}
+use Rattle.cell_types.specs.Answers.{flag_word}
+use Rattle.cell_types.specs.Everything.{all_places}
+use Rattle.cell_rules.specs.ModelState.{is_full}
+use Rattle.cell_report.proofs.report.push_places.Goals as goal
+use Rattle.cell_report.proofs.report.push_places.Goals.{then-is_full, else-is_full}
+
+-- what is left from a place on
+from_place : (word : Place → List ℕ) (places : List Place) (i : ℕ) (d : Place) → i < length places → concat (map word (drop i places)) ≡ word (get_or places i d) ++ concat (map word (drop (i + 1) places))
+from_place word places i d h = rw (add-one, drop-cons places i d) refl
+
+pub places-preserved : goal.places-preserved
+places-preserved c =
+    let word = λ (p : Place). flag_word (is_full c.args.state.now p) in
+    let left = concat (map word (drop (c.places.place-index + 1) all_places)) in
+    let flag : c.if-is_full.flag.now ≡ flag_word c.is_full.result = elim c.if-is_full.branch [
+      | then-is_full w ↦ ap (λ f. f.now) w.flag-is ∙ ap flag_word (sym w.if-is_full.true)
+      | else-is_full w ↦ ap (λ f. f.now) w.flag-is ∙ ap flag_word (sym w.if-is_full.false)
+    ] in
+    (
+      refl,
+      ap (λ page. page ++ left) (c.in_ok-write.ensures ∙ ap (λ w. c.places.page ++ w) (flag ∙ ap flag_word c.is_full.ensures))
+      ∙ append_assoc c.places.page _ left
+      ∙ sym (ap (λ rest. c.places.page ++ rest) (from_place word all_places c.places.place-index _ c.places-test.true))
+      ∙ c.places.invariant.1,
+    )
