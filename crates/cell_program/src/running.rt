@@ -1,6 +1,6 @@
 //! A run by six workers, with the state that it came to.
 
-ghost use Rattle.std.specs.Prelude.{◌≡◌, ◌≢◌, ◌<◌, ◌⊎◌, ◌↔◌, IfOk, Err};
+ghost use Rattle.std.specs.Prelude.{◌≡◌, ◌≢◌, ◌<◌, ◌⊎◌, ◌↔◌, IfOk, Err, None};
 ghost use Rattle.cell_types.specs.Journals.{journal_of};
 ghost use Rattle.cell_rules.specs.History.{after};
 ghost use Rattle.cell_rules.specs.Start.{IsStartState};
@@ -50,9 +50,19 @@ where
     ensures work { IfOk result (λ r. TellsWork (scales_of cell) opening tries turns (G.may_answer gate.now) (but_end r)) }
     ensures end { IfOk result (λ r. EndsAsAudited r.start (journal_of r.journals) r.end) }
 {
-    let mut record = run_workers(rt, alloc, cell, opening, tries, turns, gate)?;
-    record.end = audited_end(alloc, &record.journals, &record.start)?;
-    Ok(record)
+    let run = run_workers(rt, alloc, cell, opening, tries, turns, gate)?;
+    with_end(alloc, run)
+}
+
+/// A run whose end was left open, with its end. `Memory` where the audit had no room.
+fn with_end(alloc: Global, run: RunRecord) -> Result<RunRecord, RunFault>
+    requires open { run.end ≡ None }
+    ensures rest { IfOk result (λ r. but_end r ≡ run) }
+    ensures end { IfOk result (λ r. EndsAsAudited r.start (journal_of r.journals) r.end) }
+    ensures memory { result ≢ Err RunFault.Tries }
+{
+    let end = audited_end(alloc, &run.journals, &run.start)?;
+    Ok(RunRecord { end, ..run })
 }
 
 /// The state that the audited events lead to from the start, or `None` where no legal history tells the
