@@ -1,7 +1,7 @@
 //! The program's words.
 
 ghost use Rattle.std.specs.Prelude.{◌≡◌, ◌<◌, ◌^◌, [], ◌∷◌, ℕ, List, map, codes, false, option_map, IfErr, IfOk, OnOk};
-ghost use Rattle.clap.specs.Words.{app_of, fault_of, found_of, kind_of, new_app, rows_of, rule_of, subcommand_rows_of, HasKind};
+ghost use Rattle.clap.specs.Words.{app_of, fault_of, found_of, kind_of, new_app, rows_of, rule_of, subcommand_rows_of, with_subcommand, HasKind};
 ghost use Rattle.clap.specs.declared.builder.command.Command.TheViews.{out-Command as fields_of};
 ghost use Rattle.cell_program.specs.Words as words;
 ghost use Rattle.cell_program.specs.Words.{AreTaken, HasNumber, HasNumbers, IsWithin, mode_of, number_in, program, run_command};
@@ -69,13 +69,30 @@ pub fn read_words(alloc: Global, words: &[&str]) -> Result<Mode, Error>
 fn command<'a>(alloc: Global) -> Result<Command<'a>, AllocError>
     ensures { IfOk result (λ command. app_of command ≡ program) }
 {
-    let replay = command_with_help(alloc, "replay", help::REPLAY, help::OF_REPLAY);
-    let sim = command_with_help(alloc, "sim", help::SIM, help::OF_SIM);
-    let run = run_command(alloc)?;
-    command_with_help(alloc, "cell", help::CELL, help::OF_CELL)
-        .subcommand(replay)?
-        .subcommand(sim)?
-        .subcommand(run)
+    let cell = command_with_help(alloc, "cell", help::CELL, help::OF_CELL);
+    let cell = with_word(alloc, cell, "replay", help::REPLAY, help::OF_REPLAY)?;
+    let cell = with_word(alloc, cell, "sim", help::SIM, help::OF_SIM)?;
+    with_run(alloc, cell)
+}
+
+/// A command with one more word behind its name, which has no flags.
+fn with_word<'a>(
+    alloc: Global,
+    command: Command<'a>,
+    name: &'a str,
+    before: &'a str,
+    behind: &'a str,
+) -> Result<Command<'a>, AllocError>
+    ensures { IfOk result (λ r. app_of r ≡ with_subcommand (app_of command.entry) (new_app name.now).top) }
+{
+    command.subcommand(command_with_help(alloc, name, before, behind))
+}
+
+/// A command with the word `run`.
+fn with_run<'a>(alloc: Global, command: Command<'a>) -> Result<Command<'a>, AllocError>
+    ensures { IfOk result (λ r. app_of r ≡ with_subcommand (app_of command.entry) run_command.top) }
+{
+    command.subcommand(run_command(alloc)?)
 }
 
 /// The word `run` with its flags.
@@ -83,11 +100,10 @@ fn run_command<'a>(alloc: Global) -> Result<Command<'a>, AllocError>
     ensures app { IfOk result (λ command. app_of command ≡ run_command) }
     ensures local { IfOk result (λ command. (fields_of command).has_globals ≡ false) }
 {
+    let run = command_with_help(alloc, "run", help::RUN, help::OF_RUN);
     let turns = number_flag(alloc, "turns", MOST_TURNS, "1000", help::TURNS);
-    let tries = number_flag(alloc, "tries", MOST_TRIES, "8", help::TRIES);
-    command_with_help(alloc, "run", help::RUN, help::OF_RUN)
-        .arg(turns)?
-        .arg(tries)
+    let run = run.arg(turns)?;
+    run.arg(number_flag(alloc, "tries", MOST_TRIES, "8", help::TRIES))
 }
 
 /// A flag that takes a number from 1 to the most.
