@@ -3,7 +3,7 @@
 ghost use Rattle.std.specs.Prelude.{◌≡◌, ◌<◌, IfOk, IfSome};
 ghost use Rattle.cell_rules.specs.Start.{IsStartState};
 ghost use Rattle.cell_parts.specs.Axes.{AreCellScales, CellScales};
-ghost use Rattle.cell_plant.specs.Cells.{TellsRun};
+ghost use Rattle.cell_plant.specs.Cells.{IsMadeFor, TellsRun, scales_of as scales_in};
 ghost use Rattle.cell_text.specs.Input.{TakesAtMost};
 ghost use Rattle.cell_config.specs.Configured.{AreAxisScales, in_order};
 ghost use Rattle.cell_program.specs.Served.{SimFails, WasSimulated};
@@ -79,8 +79,7 @@ pub fn simulated(alloc: Global, config: &Config) -> Result<RunRecord, SimFault>
     )
 }
 
-/// The run of a schedule, with these closures. A calibration is named only where the closure's type
-/// is a parameter.
+/// The run of a schedule, with these closures.
 fn simulate_by<F1: Gauge, F2: Gauge, F3: Gauge, F4: Gauge, F5: Gauge>(
     alloc: Global,
     gauges: (F1, F2, F3, F4, F5),
@@ -97,14 +96,31 @@ fn simulate_by<F1: Gauge, F2: Gauge, F3: Gauge, F4: Gauge, F5: Gauge>(
     requires scales { AreCellScales (scales_of lines) }
     ensures run { IfOk result (TellsRun (scales_of lines) start schedule.now) }
 {
+    simulate(alloc, cell_by(gauges, lines, &start), start, schedule)
+}
+
+/// The cell at its start, with these closures. A calibration is named only where the closure's type is a
+/// parameter.
+pub(crate) fn cell_by<F1: Gauge, F2: Gauge, F3: Gauge, F4: Gauge, F5: Gauge>(
+    gauges: (F1, F2, F3, F4, F5),
+    lines: Lines,
+    start: &State,
+) -> Cell<F1, F2, F3, F4, F5>
+    requires arm1 { F1.keeps gauges.0 lines.arm1 }
+    requires arm2 { F2.keeps gauges.1 lines.arm2 }
+    requires rotation { F3.keeps gauges.2 lines.rotation }
+    requires turn { F4.keeps gauges.3 lines.turn }
+    requires gripper { F5.keeps gauges.4 lines.gripper }
+    ensures made { IsMadeFor start.now result }
+    ensures scales { scales_in result ≡ scales_of lines }
+{
     let (arm1, arm2, rotation, turn, gripper) = gauges;
-    let cell = Cell::new(
-        &start,
+    Cell::new(
+        start,
         Calibration::new(arm1, lines.arm1),
         Calibration::new(arm2, lines.arm2),
         Calibration::new(rotation, lines.rotation),
         Calibration::new(turn, lines.turn),
         Calibration::new(gripper, lines.gripper),
-    );
-    simulate(alloc, cell, start, schedule)
+    )
 }

@@ -13,11 +13,10 @@ ghost use Rattle.cell_program.specs.Simulated.{scales_of};
 use crate::faults::fail;
 use crate::reporting::report;
 use crate::running::run_cell;
-use crate::simulating::Lines;
-use cell_calib::{Calibration, Gauge, line_at};
+use crate::simulating::{Lines, cell_by};
+use cell_calib::{Gauge, line_at};
 use cell_config::{Config, read_config};
 use cell_notes::RunRecord;
-use cell_plant::Cell;
 use cell_rules::State;
 use cell_workers::{OpenGate, RunFault};
 use std::alloc::Global;
@@ -92,8 +91,7 @@ where
     run_by(rt, alloc, gauges, lines, config.start, turns, tries)
 }
 
-/// A run by six workers with these closures. A calibration is named only where the closure's type is a
-/// parameter.
+/// A run by six workers with these closures.
 fn run_by<T, F1, F2, F3, F4, F5>(
     rt: &T,
     alloc: Global,
@@ -122,14 +120,6 @@ where
     ensures work { IfOk result (TellsWorkers (scales_of lines) start tries turns) }
     ensures tries { result ≢ Err RunFault.Tries }
 {
-    let (arm1, arm2, rotation, turn, gripper) = gauges;
-    let cell = Cell::new(
-        &start,
-        Calibration::new(arm1, lines.arm1),
-        Calibration::new(arm2, lines.arm2),
-        Calibration::new(rotation, lines.rotation),
-        Calibration::new(turn, lines.turn),
-        Calibration::new(gripper, lines.gripper),
-    );
+    let cell = cell_by(gauges, lines, &start);
     run_cell(rt, alloc, cell, start, tries, turns, &OpenGate)
 }
