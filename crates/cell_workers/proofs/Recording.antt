@@ -1,5 +1,5 @@
 -- What six workers gave back, told of their machines by name, and the record of it.
-use Rattle.std.proofs.Common.{◌≡◌, ℕ, ℤ, true, List, [], ◌∷◌, None, Result, refl, sym, ap, subst, ◌∙◌}
+use Rattle.std.proofs.Common.{◌≡◌, ℕ, ℤ, true, List, [], ◌∷◌, Option, Some, None, IfSome, Result, refl, sym, ap, subst, ◌∙◌}
 use Rattle.cell_types.specs.declared.machine.Machine.{Machine}
 use Rattle.cell_types.specs.declared.machine.Machine.TheVariants.{Feed, Table, Robot, Press, Deposit, Crane, Watch}
 use Rattle.cell_types.specs.declared.answer.Event.{Event}
@@ -12,8 +12,9 @@ use Rattle.cell_rules.specs.ModelState.{ModelState}
 use Rattle.cell_rules.specs.Journal.{noted}
 use Rattle.cell_rules.specs.Laws.{LawfulThroughout}
 use Rattle.cell_interlock.specs.Views.{PassView, InterlockView}
+use Rattle.cell_control.specs.declared.fault.CtlFault.{CtlFault}
 use Rattle.cell_control.specs.Rigs.{Rig}
-use Rattle.cell_control.specs.Steps.{Steps, with_senses}
+use Rattle.cell_control.specs.Steps.{Steps, IsReached, with_senses}
 use Rattle.cell_calib.specs.declared.sense.CraneSense.{CraneSense}
 use Rattle.cell_calib.specs.declared.sense.RobotSense.{RobotSense}
 use Rattle.cell_calib.specs.declared.sense.TableSense.{TableSense}
@@ -32,6 +33,7 @@ use Rattle.cell_notes.specs.declared.run_record.RunRecord.{RunRecord}
 use Rattle.cell_notes.specs.declared.status.Status.{Status}
 use Rattle.cell_notes.specs.declared.status.Status.TheVariants.{Fine}
 use Rattle.cell_notes.specs.Notes.{no_counts}
+use Rattle.cell_seat.specs.Sides.{IsReady}
 use Rattle.cell_seat.proofs.Turning.{acts_still}
 use Rattle.cell_parts.specs.Axes.{CellScales}
 use Rattle.cell_plant.specs.Machines.{PartOf, steps_of, rig_of}
@@ -41,7 +43,7 @@ use Rattle.cell_plant.specs.Runs.{is_at_work}
 use Rattle.cell_workers.specs.Lines.{Lines, fresh_pass, passes}
 use Rattle.cell_workers.specs.Workers.{Moment, moment, GateOf, TakesTurn, TakesTurns, HasWorked, GivesBack, AreCountsOf}
 use Rattle.cell_workers.specs.declared.six.Six.{Six}
-use Rattle.cell_workers.specs.Backs.{journal_in, parts_in}
+use Rattle.cell_workers.specs.Backs.{Gave, AreBack, journal_in, parts_in}
 use Rattle.cell_workers.specs.Records.{MomentOf, first_moment, TellsWork}
 
 -- where less is known of the sensors, a worker has still worked
@@ -96,14 +98,20 @@ module _ (tries : ℕ) (gate : GateOf) (limit : ℕ) (kept : PassView) (journal 
       subst (λ s. GivesBack tries (crane_steps s (IsReading s)) rig gate limit first kept journal did fares stands) (sym e)
       (back_still tries (crane_steps points gives) rig gate (CraneSenses points (IsReading points)) (crane_senses_near points gives) limit first kept journal did fares stands k)
 
+-- with a fresh pass a machine is ready that is at the beginning of its program
+pub ready_at_start : {S Sense Reading Act : Type 0} → (t : Steps S Sense Reading Act) (i : InterlockView) (pass : PassView) (stopped : Option CtlFault) (progress : S) → pass ≡ fresh_pass i t.machine → progress ≡ t.start i.opening
+    → (pass.machine ≡ t.machine) × IsReady t pass.opening pass.seen stopped progress
+ready_at_start t i pass stopped progress e begins = (ap (λ (v : PassView). v.machine) e, λ runs. subst (λ (v : PassView). IsReached t v.opening v.seen progress) (sym e) (0, sym begins))
+
 -- where a history is lawful, so is the one that has not begun
 nothing_yet : (s : ModelState) (h : List Event) → LawfulThroughout s h → LawfulThroughout s []
 nothing_yet s h k [] more e = k [] h refl
 nothing_yet s h k (x ∷ xs) more e = cc
 
--- what the worker of a machine gave back, by the machine's name
-abbrev pub Gave : CellScales → InterlockView → ℕ → (Machine → GateOf) → (m : Machine) → PassView → List Entry → Counts → Status → PartOf m → Type 0
-Gave c i limit gate m kept journal did fares stands = GivesBack i.tries (steps_of c m) (rig_of c m) (gate m) limit (first_moment i m) kept journal did fares stands
+-- what follows of each of them, where there are some
+pub if_some : {A : Type 0} → (P Q : A → Type 0) → ((x : A) → P x → Q x) → (r : Option A) → IfSome r P → IfSome r Q
+if_some P Q f None k = tt
+if_some P Q f (Some x) k = f x k
 
 module _ (c : CellScales) (i : InterlockView) (limit : ℕ) (gate : Machine → GateOf) where
   -- it began with a fresh pass, at the start of its machine
@@ -113,21 +121,26 @@ module _ (c : CellScales) (i : InterlockView) (limit : ℕ) (gate : Machine → 
       subst (λ s. GivesBack i.tries (steps_of c m) (rig_of c m) (gate m) limit (moment (fresh_pass i m) s no_counts) kept journal did fares stands) f
       (subst (λ p. GivesBack i.tries (steps_of c m) (rig_of c m) (gate p.machine) limit (moment p side no_counts) kept journal did fares stands) e k)
 
-  module _ (six : Six)
-      (feed : Gave c i limit gate Feed six.feed.pass six.feed.journal.items six.feed.counts six.feed.status six.feed.part.belt)
-      (table : Gave c i limit gate Table six.table.pass six.table.journal.items six.table.counts six.table.status six.table.part.plant)
-      (robot : Gave c i limit gate Robot six.robot.pass six.robot.journal.items six.robot.counts six.robot.status six.robot.part.plant)
-      (press : Gave c i limit gate Press six.press.pass six.press.journal.items six.press.counts six.press.status six.press.part)
-      (deposit : Gave c i limit gate Deposit six.deposit.pass six.deposit.journal.items six.deposit.counts six.deposit.status six.deposit.part.belt)
-      (crane : Gave c i limit gate Crane six.crane.pass six.crane.journal.items six.crane.counts six.crane.status six.crane.part.plant)
-      (r : RunRecord) where
+  -- where there are six, each gave back what it says
+  pub are_back : (r : Option Six)
+      → IfSome r (λ six. Gave c i limit gate Feed six.feed.pass six.feed.journal.items six.feed.counts six.feed.status six.feed.part.belt)
+      → IfSome r (λ six. Gave c i limit gate Table six.table.pass six.table.journal.items six.table.counts six.table.status six.table.part.plant)
+      → IfSome r (λ six. Gave c i limit gate Robot six.robot.pass six.robot.journal.items six.robot.counts six.robot.status six.robot.part.plant)
+      → IfSome r (λ six. Gave c i limit gate Press six.press.pass six.press.journal.items six.press.counts six.press.status six.press.part)
+      → IfSome r (λ six. Gave c i limit gate Deposit six.deposit.pass six.deposit.journal.items six.deposit.counts six.deposit.status six.deposit.part.belt)
+      → IfSome r (λ six. Gave c i limit gate Crane six.crane.pass six.crane.journal.items six.crane.counts six.crane.status six.crane.part.plant)
+      → IfSome r (AreBack c i limit gate)
+  are_back None feed table robot press deposit crane = tt
+  are_back (Some six) feed table robot press deposit crane = record { feed = feed; table = table; robot = robot; press = press; deposit = deposit; crane = crane }
+
+  module _ (six : Six) (back : AreBack c i limit gate six) (r : RunRecord) where
     abbrev last : (m : Machine) → MomentOf m
-    last Feed = feed.last
-    last Table = table.last
-    last Robot = robot.last
-    last Press = press.last
-    last Deposit = deposit.last
-    last Crane = crane.last
+    last Feed = back.feed.last
+    last Table = back.table.last
+    last Robot = back.robot.last
+    last Press = back.press.last
+    last Deposit = back.deposit.last
+    last Crane = back.crane.last
     last Watch = first_moment i Watch
 
     abbrev fares : Machine → Status
@@ -140,42 +153,42 @@ module _ (c : CellScales) (i : InterlockView) (limit : ℕ) (gate : Machine → 
     fares Watch = Fine
 
     works : (m : Machine) → is_at_work m ≡ true → HasWorked (passes i.tries) (steps_of c m) (rig_of c m) (gate m) limit (first_moment i m) (last m) (fares m)
-    works Feed e = feed.worked
-    works Table e = table.worked
-    works Robot e = robot.worked
-    works Press e = press.worked
-    works Deposit e = deposit.worked
-    works Crane e = crane.worked
+    works Feed e = back.feed.worked
+    works Table e = back.table.worked
+    works Robot e = back.robot.worked
+    works Press e = back.press.worked
+    works Deposit e = back.deposit.worked
+    works Crane e = back.crane.worked
     works Watch e = cc
 
     of_last : (m : Machine) (w : PassView) (k : PassView) → w ≡ k → LawfulThroughout i.opening k.seen → LawfulThroughout i.opening w.seen
     of_last m w k e l = subst (λ v. LawfulThroughout i.opening v.seen) (sym e) l
 
     lawful : (m : Machine) → LawfulThroughout i.opening (last m).line.seen
-    lawful Feed = of_last Feed _ _ feed.pass feed.lawful
-    lawful Table = of_last Table _ _ table.pass table.lawful
-    lawful Robot = of_last Robot _ _ robot.pass robot.lawful
-    lawful Press = of_last Press _ _ press.pass press.lawful
-    lawful Deposit = of_last Deposit _ _ deposit.pass deposit.lawful
-    lawful Crane = of_last Crane _ _ crane.pass crane.lawful
-    lawful Watch = nothing_yet i.opening _ feed.lawful
+    lawful Feed = of_last Feed _ _ back.feed.pass back.feed.lawful
+    lawful Table = of_last Table _ _ back.table.pass back.table.lawful
+    lawful Robot = of_last Robot _ _ back.robot.pass back.robot.lawful
+    lawful Press = of_last Press _ _ back.press.pass back.press.lawful
+    lawful Deposit = of_last Deposit _ _ back.deposit.pass back.deposit.lawful
+    lawful Crane = of_last Crane _ _ back.crane.pass back.crane.lawful
+    lawful Watch = nothing_yet i.opening _ back.feed.lawful
 
     journal_is : (m : Machine) → journal_in six m ≡ noted i.opening (last m).line.seen m
-    journal_is Feed = feed.journal_is ∙ ap (λ v. noted i.opening v.seen Feed) (sym feed.pass)
-    journal_is Table = table.journal_is ∙ ap (λ v. noted i.opening v.seen Table) (sym table.pass)
-    journal_is Robot = robot.journal_is ∙ ap (λ v. noted i.opening v.seen Robot) (sym robot.pass)
-    journal_is Press = press.journal_is ∙ ap (λ v. noted i.opening v.seen Press) (sym press.pass)
-    journal_is Deposit = deposit.journal_is ∙ ap (λ v. noted i.opening v.seen Deposit) (sym deposit.pass)
-    journal_is Crane = crane.journal_is ∙ ap (λ v. noted i.opening v.seen Crane) (sym crane.pass)
+    journal_is Feed = back.feed.journal_is ∙ ap (λ v. noted i.opening v.seen Feed) (sym back.feed.pass)
+    journal_is Table = back.table.journal_is ∙ ap (λ v. noted i.opening v.seen Table) (sym back.table.pass)
+    journal_is Robot = back.robot.journal_is ∙ ap (λ v. noted i.opening v.seen Robot) (sym back.robot.pass)
+    journal_is Press = back.press.journal_is ∙ ap (λ v. noted i.opening v.seen Press) (sym back.press.pass)
+    journal_is Deposit = back.deposit.journal_is ∙ ap (λ v. noted i.opening v.seen Deposit) (sym back.deposit.pass)
+    journal_is Crane = back.crane.journal_is ∙ ap (λ v. noted i.opening v.seen Crane) (sym back.crane.pass)
     journal_is Watch = refl
 
     counted : (m : Machine) → AreCountsOf (journal_in six m) (last m).counts
-    counted Feed = subst (AreCountsOf six.feed.journal.items) (sym feed.counts) feed.counted
-    counted Table = subst (AreCountsOf six.table.journal.items) (sym table.counts) table.counted
-    counted Robot = subst (AreCountsOf six.robot.journal.items) (sym robot.counts) robot.counted
-    counted Press = subst (AreCountsOf six.press.journal.items) (sym press.counts) press.counted
-    counted Deposit = subst (AreCountsOf six.deposit.journal.items) (sym deposit.counts) deposit.counted
-    counted Crane = subst (AreCountsOf six.crane.journal.items) (sym crane.counts) crane.counted
+    counted Feed = subst (AreCountsOf six.feed.journal.items) (sym back.feed.counts) back.feed.counted
+    counted Table = subst (AreCountsOf six.table.journal.items) (sym back.table.counts) back.table.counted
+    counted Robot = subst (AreCountsOf six.robot.journal.items) (sym back.robot.counts) back.robot.counted
+    counted Press = subst (AreCountsOf six.press.journal.items) (sym back.press.counts) back.press.counted
+    counted Deposit = subst (AreCountsOf six.deposit.journal.items) (sym back.deposit.counts) back.deposit.counted
+    counted Crane = subst (AreCountsOf six.crane.journal.items) (sym back.crane.counts) back.crane.counted
     counted Watch = record { done = refl; read = refl; refused = refl }
 
     -- the record of what they gave back
@@ -192,10 +205,10 @@ module _ (c : CellScales) (i : InterlockView) (limit : ℕ) (gate : Machine → 
           watch_rests = (refl, refl);
           lawful = lawful;
           start = start;
-          counts = counts ∙ (λ x. sym feed.counts x ∷ sym table.counts x ∷ sym robot.counts x ∷ sym press.counts x ∷ sym deposit.counts x ∷ sym crane.counts x ∷ no_counts ∷ []);
+          counts = counts ∙ (λ x. sym back.feed.counts x ∷ sym back.table.counts x ∷ sym back.robot.counts x ∷ sym back.press.counts x ∷ sym back.deposit.counts x ∷ sym back.crane.counts x ∷ no_counts ∷ []);
           status = status;
           journals = λ m. journals m ∙ journal_is m;
           counted = λ m. subst (λ j. AreCountsOf j (last m).counts) (sym (journals m)) (counted m);
           end = end;
-          axes = axes ∙ (λ x. positions_in (record { feed = sym feed.part x; table = sym table.part x; robot = sym robot.part x; press = sym press.part x; deposit = sym deposit.part x; crane = sym crane.part x }));
+          axes = axes ∙ (λ x. positions_in (record { feed = sym back.feed.part x; table = sym back.table.part x; robot = sym back.robot.part x; press = sym back.press.part x; deposit = sym back.deposit.part x; crane = sym back.crane.part x }));
         }

@@ -1,16 +1,18 @@
 //! Six workers over one interlock.
-ghost use Rattle.std.specs.Prelude.{◌≡◌, ◌<◌, ◌⊎◌, ◌↔◌, IfOk, Err};
+ghost use Rattle.std.specs.Prelude.{◌≡◌, ◌<◌, ◌⊎◌, ◌↔◌, IfOk, Err, IfSome};
 ghost use Rattle.cell_rules.specs.Start.{IsStartState};
+ghost use Rattle.cell_interlock.specs.Fresh.{AreFresh};
 ghost use Rattle.cell_parts.specs.Axes.{AreCellScales};
 ghost use Rattle.cell_plant.specs.Cells.{IsMadeFor, scales_of};
+ghost use Rattle.cell_workers.specs.Backs.{AreBack};
 ghost use Rattle.cell_workers.specs.Records.{TellsWork};
 
 use crate::fault::RunFault;
 use crate::gate::Gate;
-use crate::six::run_six;
+use crate::six::{Six, run_six};
 use crate::start::Orders;
 use cell_calib::Gauge;
-use cell_interlock::Interlock;
+use cell_interlock::{Interlock, Passes};
 use cell_notes::RunRecord;
 use cell_plant::Cell;
 use cell_rules::State;
@@ -59,6 +61,31 @@ where
         gate,
         turns,
     };
+    match run_cell(rt, &orders, passes, cell) {
+        Some(six) => Ok(six.into_record(alloc, opening)),
+        None => Err(RunFault::Spawn),
+    }
+}
+
+// The workers of a cell, over the interlock of these passes.
+fn run_cell<R, F1, F2, F3, F4, F5, G>(
+    rt: &R,
+    orders: &Orders<'_, G>,
+    passes: Passes,
+    cell: Cell<F1, F2, F3, F4, F5>,
+) -> Option<Six>
+where
+    R: Threads + Wait + Sync,
+    F1: Gauge + Send,
+    F2: Gauge + Send,
+    F3: Gauge + Send,
+    F4: Gauge + Send,
+    F5: Gauge + Send,
+    G: Gate + Sync,
+    requires fresh { AreFresh orders.now.interlock.now passes }
+    requires made { IsMadeFor orders.now.interlock.now.opening cell }
+    ensures { IfSome result (AreBack (scales_of cell) orders.now.interlock.now orders.now.turns (G.may_answer orders.now.gate.now)) }
+{
     let Cell {
         feed,
         table,
@@ -67,10 +94,7 @@ where
         deposit,
         crane,
     } = cell;
-    match run_six(
-        rt, &orders, passes, feed, table, robot, press, deposit, crane,
-    ) {
-        Some(six) => Ok(six.into_record(alloc, opening)),
-        None => Err(RunFault::Spawn),
-    }
+    run_six(
+        rt, orders, passes, feed, table, robot, press, deposit, crane,
+    )
 }

@@ -1,0 +1,76 @@
+use Rattle.std.proofs.Common.{◌≡◌, ap}
+use Rattle.cell_types.specs.declared.machine.Machine.TheVariants.{Feed, Table, Robot, Press, Deposit, Crane}
+use Rattle.cell_haul.specs.FeedProgram.{feed_steps}
+use Rattle.cell_haul.specs.DepositProgram.{deposit_steps}
+use Rattle.cell_haul.specs.CraneProgram.{crane_steps}
+use Rattle.cell_notes.specs.Notes.{no_counts}
+use Rattle.cell_robot.specs.RobotProgram.{gauges_of, robot_steps}
+use Rattle.cell_stations.specs.PressProgram.{press_steps}
+use Rattle.cell_stations.specs.TableProgram.{table_steps}
+use Rattle.cell_parts.specs.Rigs.{table_rig, robot_rig, crane_rig}
+use Rattle.cell_plant.specs.Machines.{robot_points, robot_axes}
+use Rattle.cell_plant.specs.Cells.{points_of, scales_of, sides_of}
+use Rattle.cell_plant.specs.CellStates.{Sides}
+use Rattle.cell_workers.specs.declared.six.Six.{Six}
+use Rattle.cell_workers.specs.Workers.{moment}
+use Rattle.cell_workers.proofs.Recording.{gave, table_near, robot_near, crane_near, ready_at_start, if_some, are_back}
+use Rattle.cell_workers.proofs.run.run_cell.Goals as goal
+
+pub run_six-requires-clause-feed : goal.run_six-requires-clause-feed
+run_six-requires-clause-feed g c κs within =
+    let side = c.args.cell.feed.controller in
+    ready_at_start feed_steps c.args.orders.now.interlock.now c.args.passes.feed side.stopped side.progress c.requires.fresh.feed (ap (λ (s : Sides). s.feed.progress) c.requires.made.begins)
+
+pub run_six-requires-clause-table : goal.run_six-requires-clause-table
+run_six-requires-clause-table g c κs within =
+    let p = c.args.cell.table.controller.program in
+    let side = c.args.cell.table.controller in
+    ready_at_start (table_steps p.turn.points (g.F4.Gauge.gives p.turn.gauge)) c.args.orders.now.interlock.now c.args.passes.table side.stopped side.progress c.requires.fresh.table (ap (λ (s : Sides). s.table.progress) c.requires.made.begins)
+
+pub run_six-requires-clause-robot : goal.run_six-requires-clause-robot
+run_six-requires-clause-robot g c κs within =
+    let p = c.args.cell.robot.controller.program in
+    let side = c.args.cell.robot.controller in
+    ready_at_start (robot_steps (points_of p) (gauges_of (g.F1.Gauge.gives p.arm1.gauge) (g.F2.Gauge.gives p.arm2.gauge) (g.F3.Gauge.gives p.rotation.gauge))) c.args.orders.now.interlock.now c.args.passes.robot side.stopped side.progress c.requires.fresh.robot (ap (λ (s : Sides). s.robot.progress) c.requires.made.begins)
+
+pub run_six-requires-clause-press : goal.run_six-requires-clause-press
+run_six-requires-clause-press g c κs within =
+    let side = c.args.cell.press.controller in
+    ready_at_start press_steps c.args.orders.now.interlock.now c.args.passes.press side.stopped side.progress c.requires.fresh.press (ap (λ (s : Sides). s.press.progress) c.requires.made.begins)
+
+pub run_six-requires-clause-deposit : goal.run_six-requires-clause-deposit
+run_six-requires-clause-deposit g c κs within =
+    let side = c.args.cell.deposit.controller in
+    ready_at_start deposit_steps c.args.orders.now.interlock.now c.args.passes.deposit side.stopped side.progress c.requires.fresh.deposit (ap (λ (s : Sides). s.deposit.progress) c.requires.made.begins)
+
+pub run_six-requires-clause-crane : goal.run_six-requires-clause-crane
+run_six-requires-clause-crane g c κs within =
+    let p = c.args.cell.crane.controller.program in
+    let side = c.args.cell.crane.controller in
+    ready_at_start (crane_steps p.gripper.points (g.F5.Gauge.gives p.gripper.gauge)) c.args.orders.now.interlock.now c.args.passes.crane side.stopped side.progress c.requires.fresh.crane (ap (λ (s : Sides). s.crane.progress) c.requires.made.begins)
+
+pub returns : goal.returns
+returns g c =
+    let cell = c.args.cell in
+    let scales = scales_of cell in
+    let i = c.args.orders.now.interlock.now in
+    let gate = g.G.Gate.may_answer c.args.orders.now.gate.now in
+    let turns = c.args.orders.now.turns in
+    let fits = c.requires.made.fitted in
+    let begins = c.requires.made.begins in
+    let turn = cell.table.controller.program.turn in
+    let robot = cell.robot.controller.program in
+    let gripper = cell.crane.controller.program.gripper in
+    let robot_fits : robot_points scales ≡ points_of robot = λ x. record { arm1 = fits.arm1 x; arm2 = fits.arm2 x; rotation = fits.rotation x } in
+    let passes = c.args.passes in
+    let fresh = c.requires.fresh in
+    let sides = sides_of cell in
+    let r = c.run_six.result in
+    let back = c.run_six.ensures in
+    are_back scales i turns gate r
+    (if_some _ _ (λ (six : Six) k. gave scales i turns gate Feed passes.feed sides.feed six.feed.pass six.feed.journal.items six.feed.counts six.feed.status six.feed.part.belt fresh.feed (ap (λ (s : Sides). s.feed) begins) k) r back.feed)
+    (if_some _ _ (λ (six : Six) k. gave scales i turns gate Table passes.table sides.table six.table.pass six.table.journal.items six.table.counts six.table.status six.table.part.plant fresh.table (ap (λ (s : Sides). s.table) begins) (table_near i.tries (gate passes.table.machine) turns six.table.pass six.table.journal.items six.table.counts six.table.status turn.points scales.turn (g.F4.Gauge.gives turn.gauge) (table_rig scales.turn) (moment passes.table sides.table no_counts) six.table.part.plant fits.turn k)) r back.table)
+    (if_some _ _ (λ (six : Six) k. gave scales i turns gate Robot passes.robot sides.robot six.robot.pass six.robot.journal.items six.robot.counts six.robot.status six.robot.part.plant fresh.robot (ap (λ (s : Sides). s.robot) begins) (robot_near i.tries (gate passes.robot.machine) turns six.robot.pass six.robot.journal.items six.robot.counts six.robot.status (points_of robot) (robot_points scales) (gauges_of (g.F1.Gauge.gives robot.arm1.gauge) (g.F2.Gauge.gives robot.arm2.gauge) (g.F3.Gauge.gives robot.rotation.gauge)) (robot_rig (robot_axes scales)) (moment passes.robot sides.robot no_counts) six.robot.part.plant robot_fits k)) r back.robot)
+    (if_some _ _ (λ (six : Six) k. gave scales i turns gate Press passes.press sides.press six.press.pass six.press.journal.items six.press.counts six.press.status six.press.part fresh.press (ap (λ (s : Sides). s.press) begins) k) r back.press)
+    (if_some _ _ (λ (six : Six) k. gave scales i turns gate Deposit passes.deposit sides.deposit six.deposit.pass six.deposit.journal.items six.deposit.counts six.deposit.status six.deposit.part.belt fresh.deposit (ap (λ (s : Sides). s.deposit) begins) k) r back.deposit)
+    (if_some _ _ (λ (six : Six) k. gave scales i turns gate Crane passes.crane sides.crane six.crane.pass six.crane.journal.items six.crane.counts six.crane.status six.crane.part.plant fresh.crane (ap (λ (s : Sides). s.crane) begins) (crane_near i.tries (gate passes.crane.machine) turns six.crane.pass six.crane.journal.items six.crane.counts six.crane.status gripper.points scales.gripper (g.F5.Gauge.gives gripper.gauge) (crane_rig scales.gripper) (moment passes.crane sides.crane no_counts) six.crane.part.plant fits.gripper k)) r back.crane)
