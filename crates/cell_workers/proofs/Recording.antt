@@ -121,18 +121,6 @@ module _ (c : CellScales) (i : InterlockView) (limit : ℕ) (gate : Machine → 
       subst (λ s. GivesBack i.tries (steps_of c m) (rig_of c m) (gate m) limit (moment (fresh_pass i m) s no_counts) kept journal did fares stands) f
       (subst (λ p. GivesBack i.tries (steps_of c m) (rig_of c m) (gate p.machine) limit (moment p side no_counts) kept journal did fares stands) e k)
 
-  -- where there are six, each gave back what it says
-  pub are_back : (r : Option Six)
-      → IfSome r (λ six. Gave c i limit gate Feed six.feed.pass six.feed.journal.items six.feed.counts six.feed.status six.feed.part.belt)
-      → IfSome r (λ six. Gave c i limit gate Table six.table.pass six.table.journal.items six.table.counts six.table.status six.table.part.plant)
-      → IfSome r (λ six. Gave c i limit gate Robot six.robot.pass six.robot.journal.items six.robot.counts six.robot.status six.robot.part.plant)
-      → IfSome r (λ six. Gave c i limit gate Press six.press.pass six.press.journal.items six.press.counts six.press.status six.press.part)
-      → IfSome r (λ six. Gave c i limit gate Deposit six.deposit.pass six.deposit.journal.items six.deposit.counts six.deposit.status six.deposit.part.belt)
-      → IfSome r (λ six. Gave c i limit gate Crane six.crane.pass six.crane.journal.items six.crane.counts six.crane.status six.crane.part.plant)
-      → IfSome r (AreBack c i limit gate)
-  are_back None feed table robot press deposit crane = tt
-  are_back (Some six) feed table robot press deposit crane = record { feed = feed; table = table; robot = robot; press = press; deposit = deposit; crane = crane }
-
   module _ (six : Six) (back : AreBack c i limit gate six) (r : RunRecord) where
     abbrev last : (m : Machine) → MomentOf m
     last Feed = back.feed.last

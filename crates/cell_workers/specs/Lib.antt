@@ -3,3 +3,4 @@ pub mod Lines
 pub mod Workers
 pub mod Records
 pub mod Backs
+pub mod Promises

@@ -9,7 +9,7 @@ ghost use Rattle.cell_workers.specs.Records.{TellsWork};
 
 use crate::fault::RunFault;
 use crate::gate::Gate;
-use crate::six::{Six, run_six};
+use crate::six::{Each, Six, run_six};
 use crate::start::Orders;
 use cell_calib::Gauge;
 use cell_interlock::{Interlock, Passes};
@@ -86,15 +86,13 @@ where
     requires made { IsMadeFor orders.now.interlock.now.opening cell }
     ensures { IfSome result (AreBack (scales_of cell) orders.now.interlock.now orders.now.turns (G.may_answer orders.now.gate.now)) }
 {
-    let Cell {
-        feed,
-        table,
-        robot,
-        press,
-        deposit,
-        crane,
-    } = cell;
-    run_six(
-        rt, orders, passes, feed, table, robot, press, deposit, crane,
-    )
+    let workers = Each {
+        feed: cell.feed,
+        table: cell.table,
+        robot: cell.robot,
+        press: cell.press,
+        deposit: cell.deposit,
+        crane: cell.crane,
+    };
+    run_six(rt, orders, passes, workers)
 }

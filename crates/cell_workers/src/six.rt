@@ -6,14 +6,14 @@ ghost use Rattle.cell_notes.specs.declared.status.Status.{Status};
 ghost use Rattle.cell_notes.specs.Notes.{no_counts};
 ghost use Rattle.cell_plant.specs.Records.{positions_in};
 ghost use Rattle.cell_workers.specs.Backs.{journal_in, parts_in};
-ghost use Rattle.cell_interlock.specs.Fresh.{AreFresh, IsFresh};
-ghost use Rattle.cell_types.specs.declared.machine.Machine.TheVariants.{Feed, Table, Robot, Press, Deposit, Crane};
+ghost use Rattle.cell_workers.specs.Promises.{AreReady, GiveBack, IsKept, IsPromised};
+ghost use Rattle.cell_interlock.specs.Fresh.{AreFresh};
 
 use crate::gate::Gate;
-use crate::start::{Orders, joined, start};
+use crate::start::{Orders, Promised, joined, start};
 use crate::work::Back;
 use crate::worker::Worker;
-use cell_interlock::{Pass, Passes};
+use cell_interlock::Passes;
 use cell_notes::{Counts, RunRecord, Status};
 use cell_parts::{CranePart, DepositPart, FeedPart, PressPart, RobotPart, TablePart};
 use cell_rules::State;
@@ -21,9 +21,20 @@ use cell_types::Journals;
 use std::alloc::Global;
 use std::sync::Wait;
 use std::thread;
-use std::thread::Threads;
+use std::thread::{PromisedHandle, Scope, Threads};
 
-/// What each worker gave back, and the watch's pass.
+/// One for each machine that works.
+#[derive(Drop)]
+pub(crate) struct Each<A, B, C, D, E, F> {
+    pub feed: A,
+    pub table: B,
+    pub robot: C,
+    pub press: D,
+    pub deposit: E,
+    pub crane: F,
+}
+
+/// What each worker gave back.
 #[derive(Drop)]
 pub(crate) struct Six {
     pub feed: Back<FeedPart>,
@@ -32,8 +43,10 @@ pub(crate) struct Six {
     pub press: Back<PressPart>,
     pub deposit: Back<DepositPart>,
     pub crane: Back<CranePart>,
-    pub watch: Pass,
 }
+
+// A worker of whose start was asked.
+type Started<B, W, G> = Option<PromisedHandle<Back<B>, Promised<W, G>>>;
 
 /// Starts six workers, each in a thread of its own, and joins them.
 ///
@@ -42,12 +55,7 @@ pub(crate) fn run_six<R, W1, W2, W3, W4, W5, W6, G>(
     rt: &R,
     orders: &Orders<'_, G>,
     passes: Passes,
-    feed: W1,
-    table: W2,
-    robot: W3,
-    press: W4,
-    deposit: W5,
-    crane: W6,
+    workers: Each<W1, W2, W3, W4, W5, W6>,
 ) -> Option<Six>
 where
     R: Threads + Wait + Sync,
@@ -59,87 +67,149 @@ where
     W6: Worker<Part = CranePart> + Send,
     G: Gate + Sync,
     requires fresh { AreFresh orders.now.interlock.now passes }
-    requires feed { W1.is_ready feed passes.feed }
-    requires table { W2.is_ready table passes.table }
-    requires robot { W3.is_ready robot passes.robot }
-    requires press { W4.is_ready press passes.press }
-    requires deposit { W5.is_ready deposit passes.deposit }
-    requires crane { W6.is_ready crane passes.crane }
-    ensures feed { IfSome result (λ six. W1.gives_back feed passes.feed orders.now.interlock.now.tries (G.may_answer orders.now.gate.now passes.feed.machine) orders.now.turns six.feed) }
-    ensures table { IfSome result (λ six. W2.gives_back table passes.table orders.now.interlock.now.tries (G.may_answer orders.now.gate.now passes.table.machine) orders.now.turns six.table) }
-    ensures robot { IfSome result (λ six. W3.gives_back robot passes.robot orders.now.interlock.now.tries (G.may_answer orders.now.gate.now passes.robot.machine) orders.now.turns six.robot) }
-    ensures press { IfSome result (λ six. W4.gives_back press passes.press orders.now.interlock.now.tries (G.may_answer orders.now.gate.now passes.press.machine) orders.now.turns six.press) }
-    ensures deposit { IfSome result (λ six. W5.gives_back deposit passes.deposit orders.now.interlock.now.tries (G.may_answer orders.now.gate.now passes.deposit.machine) orders.now.turns six.deposit) }
-    ensures crane { IfSome result (λ six. W6.gives_back crane passes.crane orders.now.interlock.now.tries (G.may_answer orders.now.gate.now passes.crane.machine) orders.now.turns six.crane) }
+    requires ready { AreReady W1.is_ready W2.is_ready W3.is_ready W4.is_ready W5.is_ready W6.is_ready workers passes }
+    ensures { IfSome result (GiveBack W1.gives_back W2.gives_back W3.gives_back W4.gives_back W5.gives_back W6.gives_back workers passes orders.now.interlock.now.tries (G.may_answer orders.now.gate.now) orders.now.turns) }
 {
-    let Passes {
-        feed: feed_pass,
-        table: table_pass,
-        robot: robot_pass,
-        press: press_pass,
-        deposit: deposit_pass,
-        crane: crane_pass,
-        watch: watch_pass,
-    } = passes;
     thread::scope(
         thread::scope_env(),
         rt,
         move |scope| -> Option<Six>
-            requires { IsFresh orders.now.interlock.now Feed feed_pass × IsFresh orders.now.interlock.now Table table_pass × IsFresh orders.now.interlock.now Robot robot_pass × IsFresh orders.now.interlock.now Press press_pass × IsFresh orders.now.interlock.now Deposit deposit_pass × IsFresh orders.now.interlock.now Crane crane_pass
-                × W1.is_ready feed feed_pass × W2.is_ready table table_pass × W3.is_ready robot robot_pass × W4.is_ready press press_pass × W5.is_ready deposit deposit_pass × W6.is_ready crane crane_pass }
-            ensures { IfSome result (λ six. W1.gives_back feed feed_pass orders.entry.now.interlock.now.tries (G.may_answer orders.entry.now.gate.now feed_pass.machine) orders.entry.now.turns six.feed
-                × W2.gives_back table table_pass orders.entry.now.interlock.now.tries (G.may_answer orders.entry.now.gate.now table_pass.machine) orders.entry.now.turns six.table
-                × W3.gives_back robot robot_pass orders.entry.now.interlock.now.tries (G.may_answer orders.entry.now.gate.now robot_pass.machine) orders.entry.now.turns six.robot
-                × W4.gives_back press press_pass orders.entry.now.interlock.now.tries (G.may_answer orders.entry.now.gate.now press_pass.machine) orders.entry.now.turns six.press
-                × W5.gives_back deposit deposit_pass orders.entry.now.interlock.now.tries (G.may_answer orders.entry.now.gate.now deposit_pass.machine) orders.entry.now.turns six.deposit
-                × W6.gives_back crane crane_pass orders.entry.now.interlock.now.tries (G.may_answer orders.entry.now.gate.now crane_pass.machine) orders.entry.now.turns six.crane) }
-        {
-            let mut all_run = true;
-            let feed = start(scope, orders, &mut all_run, feed_pass, feed);
-            let table = start(scope, orders, &mut all_run, table_pass, table);
-            let robot = start(scope, orders, &mut all_run, robot_pass, robot);
-            let press = start(scope, orders, &mut all_run, press_pass, press);
-            let deposit = start(scope, orders, &mut all_run, deposit_pass, deposit);
-            let crane = start(scope, orders, &mut all_run, crane_pass, crane);
-            six_of(
-                joined(rt, feed),
-                joined(rt, table),
-                joined(rt, robot),
-                joined(rt, press),
-                joined(rt, deposit),
-                joined(rt, crane),
-                watch_pass,
-            )
-        },
+            requires { AreFresh orders.now.interlock.now passes × AreReady W1.is_ready W2.is_ready W3.is_ready W4.is_ready W5.is_ready W6.is_ready workers passes }
+            ensures { IfSome result (GiveBack W1.gives_back W2.gives_back W3.gives_back W4.gives_back W5.gives_back W6.gives_back workers passes orders.entry.now.interlock.now.tries (G.may_answer orders.entry.now.gate.now) orders.entry.now.turns) }
+        { work_in(scope, rt, orders, passes, workers) },
     )
+}
+
+// Six workers that begin in a scope, and end in it.
+fn work_in<'s, R, E, W1, W2, W3, W4, W5, W6, G>(
+    scope: &Scope<'s, E>,
+    rt: &R,
+    orders: &Orders<'s, G>,
+    passes: Passes,
+    workers: Each<W1, W2, W3, W4, W5, W6>,
+) -> Option<Six>
+where
+    R: Threads,
+    W1: Worker<Part = FeedPart> + Send + 's,
+    W2: Worker<Part = TablePart> + Send + 's,
+    W3: Worker<Part = RobotPart> + Send + 's,
+    W4: Worker<Part = PressPart> + Send + 's,
+    W5: Worker<Part = DepositPart> + Send + 's,
+    W6: Worker<Part = CranePart> + Send + 's,
+    G: Gate + Sync,
+    requires fresh { AreFresh orders.now.interlock.now passes }
+    requires ready { AreReady W1.is_ready W2.is_ready W3.is_ready W4.is_ready W5.is_ready W6.is_ready workers passes }
+    ensures { IfSome result (GiveBack W1.gives_back W2.gives_back W3.gives_back W4.gives_back W5.gives_back W6.gives_back workers passes orders.now.interlock.now.tries (G.may_answer orders.now.gate.now) orders.now.turns) }
+{
+    let started = start_six(scope, orders, passes, workers);
+    join_six(rt, started)
+}
+
+// Starts all six, or those before one that couldn't be started.
+fn start_six<'s, E, W1, W2, W3, W4, W5, W6, G>(
+    scope: &Scope<'s, E>,
+    orders: &Orders<'s, G>,
+    passes: Passes,
+    workers: Each<W1, W2, W3, W4, W5, W6>,
+) -> Each<
+    Started<FeedPart, W1, G>,
+    Started<TablePart, W2, G>,
+    Started<RobotPart, W3, G>,
+    Started<PressPart, W4, G>,
+    Started<DepositPart, W5, G>,
+    Started<CranePart, W6, G>,
+>
+where
+    W1: Worker<Part = FeedPart> + Send + 's,
+    W2: Worker<Part = TablePart> + Send + 's,
+    W3: Worker<Part = RobotPart> + Send + 's,
+    W4: Worker<Part = PressPart> + Send + 's,
+    W5: Worker<Part = DepositPart> + Send + 's,
+    W6: Worker<Part = CranePart> + Send + 's,
+    G: Gate + Sync,
+    requires fresh { AreFresh orders.now.interlock.now passes }
+    requires ready { AreReady W1.is_ready W2.is_ready W3.is_ready W4.is_ready W5.is_ready W6.is_ready workers passes }
+    ensures feed { IfSome result.feed (λ h. IsPromised orders.now.interlock.now orders.now.gate.now orders.now.turns passes.feed workers.feed h.promise) }
+    ensures table { IfSome result.table (λ h. IsPromised orders.now.interlock.now orders.now.gate.now orders.now.turns passes.table workers.table h.promise) }
+    ensures robot { IfSome result.robot (λ h. IsPromised orders.now.interlock.now orders.now.gate.now orders.now.turns passes.robot workers.robot h.promise) }
+    ensures press { IfSome result.press (λ h. IsPromised orders.now.interlock.now orders.now.gate.now orders.now.turns passes.press workers.press h.promise) }
+    ensures deposit { IfSome result.deposit (λ h. IsPromised orders.now.interlock.now orders.now.gate.now orders.now.turns passes.deposit workers.deposit h.promise) }
+    ensures crane { IfSome result.crane (λ h. IsPromised orders.now.interlock.now orders.now.gate.now orders.now.turns passes.crane workers.crane h.promise) }
+{
+    let mut all_run = true;
+    Each {
+        feed: start(scope, orders, &mut all_run, passes.feed, workers.feed),
+        table: start(scope, orders, &mut all_run, passes.table, workers.table),
+        robot: start(scope, orders, &mut all_run, passes.robot, workers.robot),
+        press: start(scope, orders, &mut all_run, passes.press, workers.press),
+        deposit: start(scope, orders, &mut all_run, passes.deposit, workers.deposit),
+        crane: start(scope, orders, &mut all_run, passes.crane, workers.crane),
+    }
+}
+
+// Waits for the ends of all that were started.
+fn join_six<R, W1, W2, W3, W4, W5, W6, G>(
+    rt: &R,
+    started: Each<
+        Started<FeedPart, W1, G>,
+        Started<TablePart, W2, G>,
+        Started<RobotPart, W3, G>,
+        Started<PressPart, W4, G>,
+        Started<DepositPart, W5, G>,
+        Started<CranePart, W6, G>,
+    >,
+) -> Option<Six>
+where
+    R: Threads,
+    W1: Worker<Part = FeedPart>,
+    W2: Worker<Part = TablePart>,
+    W3: Worker<Part = RobotPart>,
+    W4: Worker<Part = PressPart>,
+    W5: Worker<Part = DepositPart>,
+    W6: Worker<Part = CranePart>,
+    G: Gate,
+    ensures feed { IfSome result (λ six. (h : _) × (started.feed ≡ Some h) × IsKept W1.gives_back G.may_answer h.promise six.feed) }
+    ensures table { IfSome result (λ six. (h : _) × (started.table ≡ Some h) × IsKept W2.gives_back G.may_answer h.promise six.table) }
+    ensures robot { IfSome result (λ six. (h : _) × (started.robot ≡ Some h) × IsKept W3.gives_back G.may_answer h.promise six.robot) }
+    ensures press { IfSome result (λ six. (h : _) × (started.press ≡ Some h) × IsKept W4.gives_back G.may_answer h.promise six.press) }
+    ensures deposit { IfSome result (λ six. (h : _) × (started.deposit ≡ Some h) × IsKept W5.gives_back G.may_answer h.promise six.deposit) }
+    ensures crane { IfSome result (λ six. (h : _) × (started.crane ≡ Some h) × IsKept W6.gives_back G.may_answer h.promise six.crane) }
+{
+    six_of(Each {
+        feed: joined(rt, started.feed),
+        table: joined(rt, started.table),
+        robot: joined(rt, started.robot),
+        press: joined(rt, started.press),
+        deposit: joined(rt, started.deposit),
+        crane: joined(rt, started.crane),
+    })
 }
 
 // All six together, if none of them is missing.
 fn six_of(
-    feed: Option<Back<FeedPart>>,
-    table: Option<Back<TablePart>>,
-    robot: Option<Back<RobotPart>>,
-    press: Option<Back<PressPart>>,
-    deposit: Option<Back<DepositPart>>,
-    crane: Option<Back<CranePart>>,
-    watch: Pass,
+    each: Each<
+        Option<Back<FeedPart>>,
+        Option<Back<TablePart>>,
+        Option<Back<RobotPart>>,
+        Option<Back<PressPart>>,
+        Option<Back<DepositPart>>,
+        Option<Back<CranePart>>,
+    >,
 ) -> Option<Six>
-    ensures { IfSome result (λ six. (feed ≡ Some six.feed) × (table ≡ Some six.table) × (robot ≡ Some six.robot) × (press ≡ Some six.press) × (deposit ≡ Some six.deposit) × (crane ≡ Some six.crane)) }
+    ensures { IfSome result (λ six. (each.feed ≡ Some six.feed) × (each.table ≡ Some six.table) × (each.robot ≡ Some six.robot) × (each.press ≡ Some six.press) × (each.deposit ≡ Some six.deposit) × (each.crane ≡ Some six.crane)) }
 {
-    match (feed, table, robot, press, deposit, crane) {
-        (Some(feed), Some(table), Some(robot), Some(press), Some(deposit), Some(crane)) => Some(
-            Six {
-                feed,
-                table,
-                robot,
-                press,
-                deposit,
-                crane,
-                watch,
-            },
-        ),
-        _ => None,
-    }
+    let belts = each.feed.zip(each.deposit);
+    let tables = each.table.zip(each.press);
+    let arms = each.robot.zip(each.crane);
+    let (((feed, deposit), (table, press)), (robot, crane)) = belts.zip(tables).zip(arms)?;
+    Some(Six {
+        feed,
+        table,
+        robot,
+        press,
+        deposit,
+        crane,
+    })
 }
 
 impl Six {
@@ -222,7 +292,6 @@ impl Six {
             press,
             deposit,
             crane,
-            watch: _,
         } = self;
         Journals {
             feed: feed.journal,

@@ -1,5 +1,6 @@
 //! Starts workers in threads, and joins them.
 ghost use Rattle.std.specs.Prelude.{◌≡◌, [], IfSome, Some};
+ghost use Rattle.cell_workers.specs.Promises.{IsPromised};
 
 use crate::gate::Gate;
 use crate::work::Back;
@@ -51,7 +52,7 @@ where
     requires table { pass.table ≡ orders.now.interlock.now.table }
     requires fresh { pass.seen ≡ [] }
     requires ready { W.is_ready worker pass }
-    ensures { IfSome result (λ h. (h.promise.interlock.value ≡ orders.now.interlock.now) × (h.promise.pass.value ≡ pass) × (h.promise.worker.value ≡ worker) × (h.promise.gate.value ≡ orders.now.gate.now) × (h.promise.turns ≡ orders.now.turns)) }
+    ensures { IfSome result (λ h. IsPromised orders.now.interlock.now orders.now.gate.now orders.now.turns pass worker h.promise) }
 {
     if !*all_run {
         return None;

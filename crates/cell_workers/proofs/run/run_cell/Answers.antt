@@ -13,41 +13,34 @@ use Rattle.cell_plant.specs.Cells.{points_of, scales_of, sides_of}
 use Rattle.cell_plant.specs.CellStates.{Sides}
 use Rattle.cell_workers.specs.declared.six.Six.{Six}
 use Rattle.cell_workers.specs.Workers.{moment}
-use Rattle.cell_workers.proofs.Recording.{gave, table_near, robot_near, crane_near, ready_at_start, if_some, are_back}
+use Rattle.cell_workers.proofs.Recording.{gave, table_near, robot_near, crane_near, ready_at_start, if_some}
 use Rattle.cell_workers.proofs.run.run_cell.Goals as goal
 
-pub run_six-requires-clause-feed : goal.run_six-requires-clause-feed
-run_six-requires-clause-feed g c κs within =
-    let side = c.args.cell.feed.controller in
-    ready_at_start feed_steps c.args.orders.now.interlock.now c.args.passes.feed side.stopped side.progress c.requires.fresh.feed (ap (λ (s : Sides). s.feed.progress) c.requires.made.begins)
-
-pub run_six-requires-clause-table : goal.run_six-requires-clause-table
-run_six-requires-clause-table g c κs within =
-    let p = c.args.cell.table.controller.program in
-    let side = c.args.cell.table.controller in
-    ready_at_start (table_steps p.turn.points (g.F4.Gauge.gives p.turn.gauge)) c.args.orders.now.interlock.now c.args.passes.table side.stopped side.progress c.requires.fresh.table (ap (λ (s : Sides). s.table.progress) c.requires.made.begins)
-
-pub run_six-requires-clause-robot : goal.run_six-requires-clause-robot
-run_six-requires-clause-robot g c κs within =
-    let p = c.args.cell.robot.controller.program in
-    let side = c.args.cell.robot.controller in
-    ready_at_start (robot_steps (points_of p) (gauges_of (g.F1.Gauge.gives p.arm1.gauge) (g.F2.Gauge.gives p.arm2.gauge) (g.F3.Gauge.gives p.rotation.gauge))) c.args.orders.now.interlock.now c.args.passes.robot side.stopped side.progress c.requires.fresh.robot (ap (λ (s : Sides). s.robot.progress) c.requires.made.begins)
-
-pub run_six-requires-clause-press : goal.run_six-requires-clause-press
-run_six-requires-clause-press g c κs within =
-    let side = c.args.cell.press.controller in
-    ready_at_start press_steps c.args.orders.now.interlock.now c.args.passes.press side.stopped side.progress c.requires.fresh.press (ap (λ (s : Sides). s.press.progress) c.requires.made.begins)
-
-pub run_six-requires-clause-deposit : goal.run_six-requires-clause-deposit
-run_six-requires-clause-deposit g c κs within =
-    let side = c.args.cell.deposit.controller in
-    ready_at_start deposit_steps c.args.orders.now.interlock.now c.args.passes.deposit side.stopped side.progress c.requires.fresh.deposit (ap (λ (s : Sides). s.deposit.progress) c.requires.made.begins)
-
-pub run_six-requires-clause-crane : goal.run_six-requires-clause-crane
-run_six-requires-clause-crane g c κs within =
-    let p = c.args.cell.crane.controller.program in
-    let side = c.args.cell.crane.controller in
-    ready_at_start (crane_steps p.gripper.points (g.F5.Gauge.gives p.gripper.gauge)) c.args.orders.now.interlock.now c.args.passes.crane side.stopped side.progress c.requires.fresh.crane (ap (λ (s : Sides). s.crane.progress) c.requires.made.begins)
+pub run_six-requires-clause-ready : goal.run_six-requires-clause-ready
+run_six-requires-clause-ready g c κs within =
+    record {
+      feed =
+          let side = c.args.cell.feed.controller in
+          ready_at_start feed_steps c.args.orders.now.interlock.now c.args.passes.feed side.stopped side.progress c.requires.fresh.feed (ap (λ (s : Sides). s.feed.progress) c.requires.made.begins);
+      table =
+          let p = c.args.cell.table.controller.program in
+          let side = c.args.cell.table.controller in
+          ready_at_start (table_steps p.turn.points (g.F4.Gauge.gives p.turn.gauge)) c.args.orders.now.interlock.now c.args.passes.table side.stopped side.progress c.requires.fresh.table (ap (λ (s : Sides). s.table.progress) c.requires.made.begins);
+      robot =
+          let p = c.args.cell.robot.controller.program in
+          let side = c.args.cell.robot.controller in
+          ready_at_start (robot_steps (points_of p) (gauges_of (g.F1.Gauge.gives p.arm1.gauge) (g.F2.Gauge.gives p.arm2.gauge) (g.F3.Gauge.gives p.rotation.gauge))) c.args.orders.now.interlock.now c.args.passes.robot side.stopped side.progress c.requires.fresh.robot (ap (λ (s : Sides). s.robot.progress) c.requires.made.begins);
+      press =
+          let side = c.args.cell.press.controller in
+          ready_at_start press_steps c.args.orders.now.interlock.now c.args.passes.press side.stopped side.progress c.requires.fresh.press (ap (λ (s : Sides). s.press.progress) c.requires.made.begins);
+      deposit =
+          let side = c.args.cell.deposit.controller in
+          ready_at_start deposit_steps c.args.orders.now.interlock.now c.args.passes.deposit side.stopped side.progress c.requires.fresh.deposit (ap (λ (s : Sides). s.deposit.progress) c.requires.made.begins);
+      crane =
+          let p = c.args.cell.crane.controller.program in
+          let side = c.args.cell.crane.controller in
+          ready_at_start (crane_steps p.gripper.points (g.F5.Gauge.gives p.gripper.gauge)) c.args.orders.now.interlock.now c.args.passes.crane side.stopped side.progress c.requires.fresh.crane (ap (λ (s : Sides). s.crane.progress) c.requires.made.begins);
+    }
 
 pub returns : goal.returns
 returns g c =
@@ -65,12 +58,11 @@ returns g c =
     let passes = c.args.passes in
     let fresh = c.requires.fresh in
     let sides = sides_of cell in
-    let r = c.run_six.result in
-    let back = c.run_six.ensures in
-    are_back scales i turns gate r
-    (if_some _ _ (λ (six : Six) k. gave scales i turns gate Feed passes.feed sides.feed six.feed.pass six.feed.journal.items six.feed.counts six.feed.status six.feed.part.belt fresh.feed (ap (λ (s : Sides). s.feed) begins) k) r back.feed)
-    (if_some _ _ (λ (six : Six) k. gave scales i turns gate Table passes.table sides.table six.table.pass six.table.journal.items six.table.counts six.table.status six.table.part.plant fresh.table (ap (λ (s : Sides). s.table) begins) (table_near i.tries (gate passes.table.machine) turns six.table.pass six.table.journal.items six.table.counts six.table.status turn.points scales.turn (g.F4.Gauge.gives turn.gauge) (table_rig scales.turn) (moment passes.table sides.table no_counts) six.table.part.plant fits.turn k)) r back.table)
-    (if_some _ _ (λ (six : Six) k. gave scales i turns gate Robot passes.robot sides.robot six.robot.pass six.robot.journal.items six.robot.counts six.robot.status six.robot.part.plant fresh.robot (ap (λ (s : Sides). s.robot) begins) (robot_near i.tries (gate passes.robot.machine) turns six.robot.pass six.robot.journal.items six.robot.counts six.robot.status (points_of robot) (robot_points scales) (gauges_of (g.F1.Gauge.gives robot.arm1.gauge) (g.F2.Gauge.gives robot.arm2.gauge) (g.F3.Gauge.gives robot.rotation.gauge)) (robot_rig (robot_axes scales)) (moment passes.robot sides.robot no_counts) six.robot.part.plant robot_fits k)) r back.robot)
-    (if_some _ _ (λ (six : Six) k. gave scales i turns gate Press passes.press sides.press six.press.pass six.press.journal.items six.press.counts six.press.status six.press.part fresh.press (ap (λ (s : Sides). s.press) begins) k) r back.press)
-    (if_some _ _ (λ (six : Six) k. gave scales i turns gate Deposit passes.deposit sides.deposit six.deposit.pass six.deposit.journal.items six.deposit.counts six.deposit.status six.deposit.part.belt fresh.deposit (ap (λ (s : Sides). s.deposit) begins) k) r back.deposit)
-    (if_some _ _ (λ (six : Six) k. gave scales i turns gate Crane passes.crane sides.crane six.crane.pass six.crane.journal.items six.crane.counts six.crane.status six.crane.part.plant fresh.crane (ap (λ (s : Sides). s.crane) begins) (crane_near i.tries (gate passes.crane.machine) turns six.crane.pass six.crane.journal.items six.crane.counts six.crane.status gripper.points scales.gripper (g.F5.Gauge.gives gripper.gauge) (crane_rig scales.gripper) (moment passes.crane sides.crane no_counts) six.crane.part.plant fits.gripper k)) r back.crane)
+    if_some _ _ (λ (six : Six) k. record {
+      feed = gave scales i turns gate Feed passes.feed sides.feed six.feed.pass six.feed.journal.items six.feed.counts six.feed.status six.feed.part.belt fresh.feed (ap (λ (s : Sides). s.feed) begins) k.feed;
+      table = gave scales i turns gate Table passes.table sides.table six.table.pass six.table.journal.items six.table.counts six.table.status six.table.part.plant fresh.table (ap (λ (s : Sides). s.table) begins) (table_near i.tries (gate passes.table.machine) turns six.table.pass six.table.journal.items six.table.counts six.table.status turn.points scales.turn (g.F4.Gauge.gives turn.gauge) (table_rig scales.turn) (moment passes.table sides.table no_counts) six.table.part.plant fits.turn k.table);
+      robot = gave scales i turns gate Robot passes.robot sides.robot six.robot.pass six.robot.journal.items six.robot.counts six.robot.status six.robot.part.plant fresh.robot (ap (λ (s : Sides). s.robot) begins) (robot_near i.tries (gate passes.robot.machine) turns six.robot.pass six.robot.journal.items six.robot.counts six.robot.status (points_of robot) (robot_points scales) (gauges_of (g.F1.Gauge.gives robot.arm1.gauge) (g.F2.Gauge.gives robot.arm2.gauge) (g.F3.Gauge.gives robot.rotation.gauge)) (robot_rig (robot_axes scales)) (moment passes.robot sides.robot no_counts) six.robot.part.plant robot_fits k.robot);
+      press = gave scales i turns gate Press passes.press sides.press six.press.pass six.press.journal.items six.press.counts six.press.status six.press.part fresh.press (ap (λ (s : Sides). s.press) begins) k.press;
+      deposit = gave scales i turns gate Deposit passes.deposit sides.deposit six.deposit.pass six.deposit.journal.items six.deposit.counts six.deposit.status six.deposit.part.belt fresh.deposit (ap (λ (s : Sides). s.deposit) begins) k.deposit;
+      crane = gave scales i turns gate Crane passes.crane sides.crane six.crane.pass six.crane.journal.items six.crane.counts six.crane.status six.crane.part.plant fresh.crane (ap (λ (s : Sides). s.crane) begins) (crane_near i.tries (gate passes.crane.machine) turns six.crane.pass six.crane.journal.items six.crane.counts six.crane.status gripper.points scales.gripper (g.F5.Gauge.gives gripper.gauge) (crane_rig scales.gripper) (moment passes.crane sides.crane no_counts) six.crane.part.plant fits.gripper k.crane);
+    }) c.run_six.result c.run_six.ensures

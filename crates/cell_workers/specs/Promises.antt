@@ -1,0 +1,50 @@
+-- What the workers of six machines are ready for, and what they promise to give back.
+use Rattle.std.specs.Prelude.{◌≡◌, ℕ}
+use Rattle.cell_types.specs.declared.machine.Machine.{Machine}
+use Rattle.cell_interlock.specs.Views.{PassView, InterlockView}
+use Rattle.cell_interlock.specs.declared.pass.Passes.{Passes}
+use Rattle.cell_parts.specs.declared.parts.feed.FeedPart.{FeedPart}
+use Rattle.cell_parts.specs.declared.parts.table.TablePart.{TablePart}
+use Rattle.cell_parts.specs.declared.parts.robot.RobotPart.{RobotPart}
+use Rattle.cell_parts.specs.declared.parts.press.PressPart.{PressPart}
+use Rattle.cell_parts.specs.declared.parts.deposit.DepositPart.{DepositPart}
+use Rattle.cell_parts.specs.declared.parts.crane.CranePart.{CranePart}
+use Rattle.cell_workers.specs.Workers.{GateOf}
+use Rattle.cell_workers.specs.declared.start.Promised.{Promised}
+use Rattle.cell_workers.specs.declared.six.Each.{Each}
+use Rattle.cell_workers.specs.declared.six.Six.{Six}
+use Rattle.cell_workers.specs.declared.work.Back.{Back}
+
+-- what a worker gives back that worked by a pass: where calls have so many tries, by its gate, in so many turns
+abbrev pub GivesOf : Type 0 → Type 0 → Type 1
+GivesOf W B = W → PassView → ℕ → GateOf → ℕ → Back B → Type 0
+
+-- each worker has come so far by what its pass has seen
+pub record AreReady {W1 W2 W3 W4 W5 W6 : Type 0} (ready1 : W1 → PassView → Type 0) (ready2 : W2 → PassView → Type 0) (ready3 : W3 → PassView → Type 0) (ready4 : W4 → PassView → Type 0) (ready5 : W5 → PassView → Type 0) (ready6 : W6 → PassView → Type 0) (workers : Each W1 W2 W3 W4 W5 W6) (passes : Passes) : Type 0 where
+  pub feed : ready1 workers.feed passes.feed
+  pub table : ready2 workers.table passes.table
+  pub robot : ready3 workers.robot passes.robot
+  pub press : ready4 workers.press passes.press
+  pub deposit : ready5 workers.deposit passes.deposit
+  pub crane : ready6 workers.crane passes.crane
+
+-- each worker gives its own back
+pub record GiveBack {W1 W2 W3 W4 W5 W6 : Type 0} (gives1 : GivesOf W1 FeedPart) (gives2 : GivesOf W2 TablePart) (gives3 : GivesOf W3 RobotPart) (gives4 : GivesOf W4 PressPart) (gives5 : GivesOf W5 DepositPart) (gives6 : GivesOf W6 CranePart) (workers : Each W1 W2 W3 W4 W5 W6) (passes : Passes) (tries : ℕ) (gate : Machine → GateOf) (turns : ℕ) (six : Six) : Type 0 where
+  pub feed : gives1 workers.feed passes.feed tries (gate passes.feed.machine) turns six.feed
+  pub table : gives2 workers.table passes.table tries (gate passes.table.machine) turns six.table
+  pub robot : gives3 workers.robot passes.robot tries (gate passes.robot.machine) turns six.robot
+  pub press : gives4 workers.press passes.press tries (gate passes.press.machine) turns six.press
+  pub deposit : gives5 workers.deposit passes.deposit tries (gate passes.deposit.machine) turns six.deposit
+  pub crane : gives6 workers.crane passes.crane tries (gate passes.crane.machine) turns six.crane
+
+-- a promise is of this worker, by this pass
+pub record IsPromised {W G : Type 0} (interlock : InterlockView) (gate : G) (turns : ℕ) (pass : PassView) (worker : W) (p : Promised W G) : Type 0 where
+  pub over : p.interlock.value ≡ interlock
+  pub by_pass : p.pass.value ≡ pass
+  pub of_worker : p.worker.value ≡ worker
+  pub by_gate : p.gate.value ≡ gate
+  pub limit : p.turns ≡ turns
+
+-- a promise is kept by what was given back
+abbrev pub IsKept : {W G B : Type 0} → GivesOf W B → (G → Machine → GateOf) → Promised W G → Back B → Type 0
+IsKept gives may_answer p back = gives p.worker.value p.pass.value p.interlock.value.tries (may_answer p.gate.value p.pass.value.machine) p.turns back
