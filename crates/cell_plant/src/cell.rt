@@ -1,7 +1,9 @@
 //! The whole cell: its six machines.
 
 ghost use Rattle.std.specs.Prelude.{◌≡◌};
+ghost use Rattle.cell_seat.specs.Sides.{side_of};
 ghost use Rattle.cell_plant.specs.Cells.{IsMadeFor, scales_of};
+ghost use Rattle.cell_plant.specs.CellStates.{sides_at_start};
 
 use cell_calib::{Calibration, Gauge};
 use cell_control::Controller;
@@ -66,26 +68,13 @@ impl<F1: Gauge, F2: Gauge, F3: Gauge, F4: Gauge, F5: Gauge> Cell<F1, F2, F3, F4,
         ensures turn { result.table.controller.program.turn ≡ turn }
         ensures gripper { result.crane.controller.program.gripper ≡ gripper }
     {
-        let table = TablePart::start(turn.points());
-        let crane = CranePart::start(state, gripper.points());
-        let points = RobotPoints {
-            arm1: arm1.points(),
-            arm2: arm2.points(),
-            rotation: rotation.points(),
-        };
         Cell {
             feed: Seat {
                 controller: Controller::new(state, FeedProgram),
                 part: FeedPart::start(state),
             },
-            table: Seat {
-                controller: Controller::new(state, TableProgram::new(turn)),
-                part: table,
-            },
-            robot: Seat {
-                controller: Controller::new(state, RobotProgram::new(arm1, arm2, rotation)),
-                part: RobotPart::start(state, points),
-            },
+            table: table_at_start(state, turn),
+            robot: robot_at_start(state, arm1, arm2, rotation),
             press: Seat {
                 controller: Controller::new(state, PressProgram),
                 part: PressPart::start(),
@@ -94,10 +83,57 @@ impl<F1: Gauge, F2: Gauge, F3: Gauge, F4: Gauge, F5: Gauge> Cell<F1, F2, F3, F4,
                 controller: Controller::new(state, DepositProgram),
                 part: DepositPart::start(state),
             },
-            crane: Seat {
-                controller: Controller::new(state, CraneProgram::new(gripper)),
-                part: crane,
-            },
+            crane: crane_at_start(state, gripper),
         }
+    }
+}
+
+// The table at its start.
+fn table_at_start<F: Gauge>(state: &State, turn: Calibration<F>) -> TableSeat<F>
+    ensures side { side_of result.controller.progress result.controller.stopped result.part.plant ≡ (sides_at_start state.now).table }
+    ensures turn { result.controller.program.turn ≡ turn }
+    ensures scale { result.part.scale ≡ turn.points }
+{
+    let part = TablePart::start(turn.points());
+    Seat {
+        controller: Controller::new(state, TableProgram::new(turn)),
+        part,
+    }
+}
+
+// The robot at its start.
+fn robot_at_start<F1: Gauge, F2: Gauge, F3: Gauge>(
+    state: &State,
+    arm1: Calibration<F1>,
+    arm2: Calibration<F2>,
+    rotation: Calibration<F3>,
+) -> RobotSeat<F1, F2, F3>
+    ensures side { side_of result.controller.progress result.controller.stopped result.part.plant ≡ (sides_at_start state.now).robot }
+    ensures arm1 { result.controller.program.arm1 ≡ arm1 }
+    ensures arm2 { result.controller.program.arm2 ≡ arm2 }
+    ensures rotation { result.controller.program.rotation ≡ rotation }
+    ensures scale { result.part.scale ≡ record { arm1 = arm1.points; arm2 = arm2.points; rotation = rotation.points } }
+{
+    let points = RobotPoints {
+        arm1: arm1.points(),
+        arm2: arm2.points(),
+        rotation: rotation.points(),
+    };
+    Seat {
+        controller: Controller::new(state, RobotProgram::new(arm1, arm2, rotation)),
+        part: RobotPart::start(state, points),
+    }
+}
+
+// The crane at its start.
+fn crane_at_start<F: Gauge>(state: &State, gripper: Calibration<F>) -> CraneSeat<F>
+    ensures side { side_of result.controller.progress result.controller.stopped result.part.plant ≡ (sides_at_start state.now).crane }
+    ensures gripper { result.controller.program.gripper ≡ gripper }
+    ensures scale { result.part.scale ≡ gripper.points }
+{
+    let part = CranePart::start(state, gripper.points());
+    Seat {
+        controller: Controller::new(state, CraneProgram::new(gripper)),
+        part,
     }
 }
