@@ -1,12 +1,13 @@
 //! How an interlock is made.
 ghost use Rattle.std.specs.Prelude.{◌≡◌, ◌<◌, IfOk, Err, ◌⊎◌, ◌↔◌};
-ghost use Rattle.cell_interlock.specs.Rule.{IsSeat};
+ghost use Rattle.cell_interlock.specs.Rule.{IsSeat, first_off, head_of, others_of};
+ghost use Rattle.cell_interlock.specs.Views.{pass_of};
 ghost use Rattle.cell_interlock.specs.Fresh.{AreFresh};
 
 use crate::interlock::Interlock;
-use crate::pass::{Pass, Passes};
-use crate::rule::FirstOff;
-use atomic_table::Table;
+use crate::pass::{Pass, Passes, View};
+use crate::rule::{FirstOff, OneHistory};
+use atomic_table::{Seat, Table};
 use cell_rules::State;
 use cell_rules::laws::states_are_sound;
 use cell_types::Machine;
@@ -42,21 +43,31 @@ impl Interlock {
         let Ok((table, mut seat)) = Table::of_words(alloc, &words, &opening) else {
             return Err(MakeFault::Memory);
         };
-        let feed = table.shared.split_seat::<FirstOff>(&mut seat);
-        let table_seat = table.shared.split_seat::<FirstOff>(&mut seat);
-        let robot = table.shared.split_seat::<FirstOff>(&mut seat);
-        let press = table.shared.split_seat::<FirstOff>(&mut seat);
-        let deposit = table.shared.split_seat::<FirstOff>(&mut seat);
-        let crane = table.shared.split_seat::<FirstOff>(&mut seat);
         let passes = Passes {
-            feed: Pass::of(Machine::Feed, feed),
-            table: Pass::of(Machine::Table, table_seat),
-            robot: Pass::of(Machine::Robot, robot),
-            press: Pass::of(Machine::Press, press),
-            deposit: Pass::of(Machine::Deposit, deposit),
-            crane: Pass::of(Machine::Crane, crane),
+            feed: first_pass(&table, &mut seat, Machine::Feed),
+            table: first_pass(&table, &mut seat, Machine::Table),
+            robot: first_pass(&table, &mut seat, Machine::Robot),
+            press: first_pass(&table, &mut seat, Machine::Press),
+            deposit: first_pass(&table, &mut seat, Machine::Deposit),
+            crane: first_pass(&table, &mut seat, Machine::Crane),
             watch: Pass::of(Machine::Watch, seat),
         };
         Ok((Interlock { table, tries }, passes))
     }
+}
+
+// The pass of the first machine of a seat, which keeps the others.
+fn first_pass(
+    table: &Table<(), View, State, OneHistory, Global>,
+    seat: &mut Seat<(), View>,
+    machine: Machine,
+) -> Pass
+    requires same { seat.old.table_id ≡ table.now.shared.table_id }
+    requires word { 0 < table.now.shared.table_id.words }
+    requires own { IsSeat machine (first_off seat.old.me.0, seat.old.me.1) }
+    ensures same { seat.new.table_id ≡ seat.old.table_id }
+    ensures others { seat.new.me ≡ (others_of seat.old.me.0, seat.old.me.1) }
+    ensures pass { result ≡ pass_of seat.old.table_id (head_of (first_off seat.old.me.0)) }
+{
+    Pass::of(machine, table.shared.split_seat::<FirstOff>(seat))
 }
