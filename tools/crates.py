@@ -22,14 +22,20 @@ MEMORY = 7_000_000_000
 PROCESSORS = 2
 
 
-def listed(root):
-    """The crates of crates.txt by name, each with the crates of the repository that it stands on."""
+def rows(root):
+    """The crates of crates.txt by name, each with all libraries that it stands on."""
     found = {}
     with open(f"{root}/crates.txt", encoding="utf-8") as lines:
         for line in lines:
             head, colon, libraries = line.partition("#")[0].partition(":")
             if colon:
                 found[head.split()[0]] = libraries.split()
+    return found
+
+
+def listed(root):
+    """The crates of crates.txt by name, each with the crates of the repository that it stands on."""
+    found = rows(root)
     return {name: [it for it in libraries if it in found] for name, libraries in found.items()}
 
 
@@ -61,9 +67,9 @@ def memory():
     return found
 
 
-def at_once():
+def at_once(processors_each=PROCESSORS, memory_each=MEMORY):
     """How many crates may be checked side by side here."""
-    return max(1, min(processors() // PROCESSORS, memory() // MEMORY))
+    return max(1, min(processors() // processors_each, memory() // memory_each))
 
 
 def above_rooms():
@@ -117,13 +123,15 @@ class Running:
     def __init__(self):
         self.commands = {}
 
-    def start(self, key, words, folder, log):
-        """Starts a command in this folder. What it says goes into the log, and its temporary files beside that."""
+    def start(self, key, words, folder, log, behind=0):
+        """Starts a command in this folder, so far behind others in getting processors. What it says goes into the log, and its
+        temporary files beside that."""
         scratch = f"{os.path.dirname(log)}/scratch"
         os.makedirs(scratch, exist_ok=True)
         with open(log, "wb") as to, whole():
             # (a command begins with no signal held back)
-            how = {"preexec_fn": lambda: signal.pthread_sigmask(signal.SIG_UNBLOCK, STOPS), "start_new_session": True}
+            begin = lambda: (os.nice(behind), signal.pthread_sigmask(signal.SIG_UNBLOCK, STOPS))
+            how = {"preexec_fn": begin, "start_new_session": True}
             how |= {"cwd": folder, "stdin": subprocess.DEVNULL, "stdout": to, "stderr": to, "env": {**os.environ, "TMPDIR": scratch}}
             self.commands[key] = subprocess.Popen(words, **how)
 
@@ -195,6 +203,16 @@ class Place:
         self.home, self.crate, self.entered = f"{root}/crates/{name}", f"{folder}/crates/{name}", False
         self.held = contextlib.ExitStack()
 
+    @staticmethod
+    def is_done():
+        # (that is for rt to find out)
+        return False
+
+    @staticmethod
+    def words(side_by_side):
+        # a crate that runs alone gets the jobs that rt chooses
+        return ["rt", "lib", *(["--jobs", str(max(1, processors() // side_by_side))] if side_by_side > 1 else [])]
+
     def enter(self):
         """Answers whether it could: not where rt is at work in one of the crates."""
         with contextlib.ExitStack() as while_copied:
@@ -239,9 +257,14 @@ class Place:
             shutil.move(f"{source}/out/{name}", f"{to}/out/{name}")
 
 
+def sources(folder):
+    """The files that a check of the crate in this folder reads, in order."""
+    return sorted(f"{at}/{it}" for part in ("src", "specs", "proofs") for at, _, files in os.walk(f"{folder}/{part}") for it in files)
+
+
 def size(folder):
-    """The bytes of the files that a check of the crate in this folder reads, by which crates are told that take long."""
-    return sum(os.path.getsize(f"{at}/{it}") for part in ("src", "specs", "proofs") for at, _, files in os.walk(f"{folder}/{part}") for it in files)
+    """The bytes of a crate's files, by which crates are told that take long."""
+    return sum(map(os.path.getsize, sources(folder)))
 
 
 def ahead(root, crates, order, name):
@@ -250,13 +273,18 @@ def ahead(root, crates, order, name):
     return size(f"{root}/crates/{name}") + max(above, default=0)
 
 
-def prove(root, names, folder, limit=None, tell=lambda number, of, name: None, words_of=lambda name: (["rt", "lib"], [])):
-    """Proves these crates and all below them, and answers None, or the crate that failed and the file of what rt said of it.
-    Where cores and memory allow, or at most by the limit, crates are worked at side by side. What is proved already costs a second."""
+def prove(root, names, folder, place_of=Place, limit=None, tell=lambda number, of, name: None):
+    """Proves these crates and all below them, each in a place of its own, and answers None, or the crate that failed and the file of
+    what was said of it. Where cores and memory allow, or at most by the limit, crates are worked at side by side. Those with the
+    longest way above them come first, and get processors before others."""
     crates, order = listed(root), []
     for name in names:
         order += [it for it in [*below(crates, name), name] if it not in order]
-    left, done, waits = sorted(order, key=lambda it: -ahead(root, crates, order, it)), set(), False
+    urgent, done, waits = sorted(order, key=lambda it: -ahead(root, crates, order, it)), set(), False
+    for name in order:
+        if done >= {*crates[name]} and place_of(root, crates, name, f"{folder}/{name}").is_done():
+            done.add(name)
+    left = [it for it in urgent if it not in done]
     places, begun, running = {}, {}, Running()
     with contextlib.ExitStack() as ends:
         ends.callback(lambda: [it.leave() for it in places.values()])
@@ -266,7 +294,7 @@ def prove(root, names, folder, limit=None, tell=lambda number, of, name: None, w
             starting = [it for it in left if done >= {*crates[it]}][:free]
             side_by_side = len(places) + len(starting)
             for name in starting:
-                places[name] = Place(root, crates, name, f"{folder}/{name}")
+                places[name] = place_of(root, crates, name, f"{folder}/{name}")
                 if not places[name].enter():
                     del places[name]
                     if not waits:
@@ -274,10 +302,7 @@ def prove(root, names, folder, limit=None, tell=lambda number, of, name: None, w
                     waits = True
                     continue
                 left.remove(name)
-                # a crate that runs alone gets the jobs that rt chooses
-                jobs = ["--jobs", str(max(1, processors() // side_by_side))] if side_by_side > 1 else []
-                words, behind = words_of(name)
-                running.start(name, [*words, *jobs, *behind], places[name].crate, f"{folder}/{name}/log")
+                running.start(name, places[name].words(side_by_side), places[name].crate, f"{folder}/{name}/log", urgent.index(name) // 2)
                 begun[name] = len(order) - len(left), time.monotonic()
             for name, status in running.ended(1).items():
                 places.pop(name).leave(status == 0)
