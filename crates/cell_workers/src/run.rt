@@ -61,14 +61,14 @@ where
         gate,
         turns,
     };
-    match run_cell(rt, &orders, passes, cell) {
+    match run_seats(rt, &orders, passes, cell) {
         Some(six) => Ok(six.into_record(alloc, opening)),
         None => Err(RunFault::Spawn),
     }
 }
 
-// The workers of a cell, over the interlock of these passes.
-fn run_cell<R, F1, F2, F3, F4, F5, G>(
+// Runs the seats of a cell by workers with these passes.
+fn run_seats<R, F1, F2, F3, F4, F5, G>(
     rt: &R,
     orders: &Orders<'_, G>,
     passes: Passes,

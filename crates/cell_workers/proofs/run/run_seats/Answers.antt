@@ -14,7 +14,7 @@ use Rattle.cell_plant.specs.CellStates.{Sides}
 use Rattle.cell_workers.specs.declared.six.Six.{Six}
 use Rattle.cell_workers.specs.Workers.{moment}
 use Rattle.cell_workers.proofs.Recording.{gave, table_near, robot_near, crane_near, ready_at_start, if_some}
-use Rattle.cell_workers.proofs.run.run_cell.Goals as goal
+use Rattle.cell_workers.proofs.run.run_seats.Goals as goal
 
 pub run_six-requires-clause-ready : goal.run_six-requires-clause-ready
 run_six-requires-clause-ready g c κs within =
