@@ -67,9 +67,9 @@ def memory():
     return found
 
 
-def at_once(processors_each=PROCESSORS, memory_each=MEMORY):
+def at_once():
     """How many crates may be checked side by side here."""
-    return max(1, min(processors() // processors_each, memory() // memory_each))
+    return max(1, min(processors() // PROCESSORS, memory() // MEMORY))
 
 
 def above_rooms():
