@@ -18,11 +18,10 @@ places-preserved c =
     let flag : c.if-is_full.flag.now ≡ flag_word c.is_full.result = elim c.if-is_full.branch [
       | then-is_full w ↦ ap (λ f. f.now) w.flag-is ∙ ap flag_word (sym w.if-is_full.true)
       | else-is_full w ↦ ap (λ f. f.now) w.flag-is ∙ ap flag_word (sym w.if-is_full.false)
-    ] in
-    (
+    ] in (
       refl,
       ap (λ page. page ++ left) (c.in_ok-write.ensures ∙ ap (λ w. c.places.page ++ w) (flag ∙ ap flag_word c.is_full.ensures))
-      ∙ append_assoc c.places.page _ left
-      ∙ sym (ap (λ rest. c.places.page ++ rest) (from_place word all_places c.places.place-index _ c.places-test.true))
-      ∙ c.places.invariant.1,
+          ∙ append_assoc c.places.page _ left
+          ∙ sym (ap (λ rest. c.places.page ++ rest) (from_place word all_places c.places.place-index _ c.places-test.true))
+          ∙ c.places.invariant.1,
     )
