@@ -1,4 +1,3 @@
-pub mod Words
 pub mod Reported
 pub mod Ran
 pub mod Served

@@ -2,14 +2,11 @@
 //! cell, or runs it by six workers.
 #![tactic(auto)]
 
-pub mod arguments;
 pub mod faults;
-mod help;
 pub mod replaying;
 pub mod reporting;
 pub mod running;
 pub mod serve;
 pub mod simulating;
 pub mod start;
-pub mod words;
 pub mod workers;

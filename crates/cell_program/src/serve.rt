@@ -7,13 +7,13 @@ ghost use Rattle.cell_text.specs.Input.{TakesAtMost};
 ghost use Rattle.cell_replay.specs.Script.{most_bytes_read};
 ghost use Rattle.cell_program.specs.Served.{ReplayFails, RunFails, SimFails, WasReplayed, WasRun, WasSimulated, fault_line};
 ghost use Rattle.cell_config.specs.Settings as settings;
-ghost use Rattle.cell_program.specs.Words.{AreTaken, AskForHelp, AskForReplay, AskForRun, AskForSim};
+ghost use Rattle.cell_command.specs.Words.{AreTaken, AskForHelp, AskForReplay, AskForRun, AskForSim};
 
 use crate::faults::{FAILED, fail};
 use crate::replaying::serve_replay;
 use crate::simulating::serve_sim;
-use crate::words::{Mode, read_words};
 use crate::workers::serve_run;
+use cell_command::{Mode, read_words};
 use cell_text::flush;
 use clap::error::ErrorKind;
 use std::alloc::Global;

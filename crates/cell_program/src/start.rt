@@ -2,9 +2,9 @@
 
 ghost use Rattle.std.specs.Prelude.{◌≤◌, IfOk};
 
-use crate::arguments::words_of;
 use crate::faults::fail;
 use crate::serve::{refuse_bytes, serve};
+use cell_command::words_of;
 use std::alloc::Global;
 use std::env::Env;
 use std::io;

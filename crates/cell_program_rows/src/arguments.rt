@@ -3,7 +3,7 @@
 use super::doubles::Given;
 use super::reports::{EMPTY, PRESS, PRESS_REPORT, SIX_WORKERS};
 use super::served::{SCRIPT, TEXT};
-use cell_program::arguments::words_of;
+use cell_command::words_of;
 use cell_program::start::start;
 use std::alloc::Global;
 use std::io::ErrorKind;

@@ -1,8 +1,8 @@
 //! Words of the program, exit statuses, fault lines and help.
 
 use super::doubles::{is_served, run};
+use cell_command::{Mode, read_words};
 use cell_program::serve::refuse_bytes;
-use cell_program::words::{Mode, read_words};
 use std::alloc::Global;
 use std::sync::Wait;
 use std::thread::Threads;

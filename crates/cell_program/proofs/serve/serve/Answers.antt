@@ -1,7 +1,7 @@
 use Rattle.std.proofs.Common.{map, sym}
 use Rattle.cell_program.proofs.FrontLemmas.{told_before}
-use Rattle.cell_program.proofs.WordLemmas.{not_for_sim, not_for_replay, run_asked, either_way}
-use Rattle.cell_program.specs.declared.words.Mode.TheVariants.{Replay, Sim, Run}
+use Rattle.cell_command.proofs.Asked.{not_for_sim, not_for_replay, run_asked, either_way}
+use Rattle.cell_command.specs.declared.words.Mode.TheVariants.{Replay, Sim, Run}
 use Rattle.cell_program.proofs.serve.serve.Goals as goal
 
 pub returns-in-Ok-Replay-clause-simulated : goal.returns-in-Ok-Replay-clause-simulated

@@ -4,11 +4,11 @@ use Rattle.clap.specs.declared.parser.matches.ArgMatches.{ArgMatches}
 use Rattle.clap.specs.declared.error.Error.{Error}
 use Rattle.clap.specs.declared.error.kind.ErrorKind.TheVariants as ErrorKind
 use Rattle.clap.proofs.OnLiterals.{clap_on_literals}
-use Rattle.cell_program.specs.Words.{HasNumbers, mode_named, mode_of, program}
-use Rattle.cell_program.specs.declared.words.Mode.{Mode}
-use Rattle.cell_program.specs.declared.words.Mode.TheVariants.{Run}
-use Rattle.cell_program.proofs.FlagLemmas.{run_has_numbers}
-use Rattle.cell_program.proofs.words.read_words.Goals as goal
+use Rattle.cell_command.specs.Words.{HasNumbers, mode_named, mode_of, program}
+use Rattle.cell_command.specs.declared.words.Mode.{Mode}
+use Rattle.cell_command.specs.declared.words.Mode.TheVariants.{Run}
+use Rattle.cell_command.proofs.FlagLemmas.{run_has_numbers}
+use Rattle.cell_command.proofs.words.read_words.Goals as goal
 
 program_is_free : is_simple_and_free program ≡ true
 unfolding clap_on_literals

@@ -11,7 +11,7 @@ use Rattle.clap.specs.declared.parser.matches.ArgMatches.TheViews.{out-SubComman
 use Rattle.clap.specs.declared.parser.matches.SubCommand.{SubCommand}
 use Rattle.clap.specs.declared.parser.matches.Found.{Found}
 use Rattle.clap.proofs.WalkLemmas.{one_text-rows}
-use Rattle.cell_program.specs.Words.{HasNumber, HasNumbers, most_tries, most_turns, number_in, number_of}
+use Rattle.cell_command.specs.Words.{HasNumber, HasNumbers, most_tries, most_turns, number_in, number_of}
 
 -- how a text is read as a number of 32 bits
 abbrev Gives : Text → Result ℕ ParseIntError → Type 0

@@ -6,8 +6,8 @@ use Rattle.std.specs.Str.Parse.{digits_value, without_leading_plus}
 use Rattle.clap.specs.Words.{App, IsAmong, IsUnsignedIn, Row, Rule, Text, fault_of, new_app, new_rule, one_of, subcommand_of, with_rule, with_subcommand}
 use Rattle.clap.specs.declared.builder.value_parser.ValueParser.TheVariants.{Unsigned}
 use Rattle.clap.specs.declared.error.kind.ErrorKind.TheVariants.{DisplayHelp}
-use Rattle.cell_program.specs.declared.words.Mode.{Mode}
-use Rattle.cell_program.specs.declared.words.Mode.TheVariants.{Replay, Sim, Run}
+use Rattle.cell_command.specs.declared.words.Mode.{Mode}
+use Rattle.cell_command.specs.declared.words.Mode.TheVariants.{Replay, Sim, Run}
 
 -- a flag that takes a number from 1 to the most, and has a number where it isn't given
 abbrev pub number_flag : Text → ℕ → Text → Rule

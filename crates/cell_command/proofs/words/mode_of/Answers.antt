@@ -1,7 +1,7 @@
 use Rattle.std.proofs.Common.{arith, rules}
-use Rattle.cell_program.specs.Words.{most_tries, most_turns}
-use Rattle.cell_program.proofs.NumberLemmas.{flags_of_run}
-use Rattle.cell_program.proofs.words.mode_of.Goals as goal
+use Rattle.cell_command.specs.Words.{most_tries, most_turns}
+use Rattle.cell_command.proofs.NumberLemmas.{flags_of_run}
+use Rattle.cell_command.proofs.words.mode_of.Goals as goal
 
 pub number_in-requires : goal.number_in-requires
 number_in-requires c = (most_turns, omega arith, (flags_of_run _ _ _ c.in-Some-run-default.ensures.name c.in-Some-run-default.ensures.rows (search rules) c.requires).0)

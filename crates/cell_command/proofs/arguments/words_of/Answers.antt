@@ -1,5 +1,5 @@
 use Rattle.std.proofs.Common.{◌≡◌, ◌∷◌, ◌++◌, [], ℕ, List, map, codes, string_bytes, refl}
-use Rattle.cell_program.proofs.arguments.words_of.Goals as goal
+use Rattle.cell_command.proofs.arguments.words_of.Goals as goal
 
 -- words that are put behind the name
 behind_name : {S : Type 0} (bytes : S → List ℕ) (name : S) (none words behind all : List S) → bytes name ≡ codes "cell" → none ≡ [] → words ≡ none ++ name ∷ [] → all ≡ words ++ behind

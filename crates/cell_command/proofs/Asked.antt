@@ -2,9 +2,9 @@
 use Rattle.std.proofs.Common.{◌≡◌, inl, inr, ℕ, List, [], ◌∷◌, codes, refl, sym, ap, ◌∙◌}
 use Rattle.clap.specs.Words.{Text}
 use Rattle.clap.proofs.OnLiterals.{clap_on_literals}
-use Rattle.cell_program.specs.Words.{AskForReplay, AskForRun, AskForSim, mode_of}
-use Rattle.cell_program.specs.declared.words.Mode.{Mode}
-use Rattle.cell_program.specs.declared.words.Mode.TheVariants.{Replay, Sim, Run}
+use Rattle.cell_command.specs.Words.{AskForReplay, AskForRun, AskForSim, mode_of}
+use Rattle.cell_command.specs.declared.words.Mode.{Mode}
+use Rattle.cell_command.specs.declared.words.Mode.TheVariants.{Replay, Sim, Run}
 
 plain_mode : (name : Text) → mode_of (name ∷ []) ≡ Replay
 unfolding clap_on_literals

@@ -3,9 +3,9 @@
 ghost use Rattle.std.specs.Prelude.{◌≡◌, ◌<◌, ◌^◌, [], ◌∷◌, ℕ, List, map, codes, false, option_map, IfErr, IfOk, OnOk};
 ghost use Rattle.clap.specs.Words.{app_of, fault_of, found_of, kind_of, new_app, rows_of, rule_of, subcommand_rows_of, with_subcommand, HasKind};
 ghost use Rattle.clap.specs.declared.builder.command.Command.TheViews.{out-Command as fields_of};
-ghost use Rattle.cell_program.specs.Words as words;
-ghost use Rattle.cell_program.specs.Words.{AreTaken, HasNumber, HasNumbers, IsWithin, mode_of, number_in, program, run_command};
-ghost use Rattle.cell_program.specs.declared.words.Mode.TheVariants.{Run};
+ghost use Rattle.cell_command.specs.Words as words;
+ghost use Rattle.cell_command.specs.Words.{AreTaken, HasNumber, HasNumbers, IsWithin, mode_of, number_in, program, run_command};
+ghost use Rattle.cell_command.specs.declared.words.Mode.TheVariants.{Run};
 
 use crate::help;
 use clap::builder::ValueParser;

@@ -1,0 +1,3 @@
+mod FlagLemmas
+mod NumberLemmas
+pub mod Asked
