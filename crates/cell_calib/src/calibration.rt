@@ -15,8 +15,11 @@ use crate::sense::SensorFault;
 /// whoever puts them together, or changes one, has to prove it.
 #[derive(Drop)]
 pub struct Calibration<F: Gauge> {
+    /// The closure, from raw values to positions.
     pub gauge: F,
+    /// The points of its line.
     pub points: Points,
+    /// The closure is near the points' line.
     pub ghost near: { ∥ F.keeps gauge points ∥₁ },
 }
 

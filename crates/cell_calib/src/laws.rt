@@ -1,8 +1,8 @@
 //! Laws of calibrated readings, each the contract of a function that does nothing.
 
-ghost use Rattle.std.specs.Prelude.{ℕ, ℤ, pos, ◌-ℤ◌, ◌≤ℤ◌};
+ghost use Rattle.std.specs.Prelude.{ℕ, ℤ, ◌-ℤ◌, ◌≤ℤ◌};
 ghost use Rattle.cell_calib.specs.Scale.{Scale, IsScale};
-ghost use Rattle.cell_calib.specs.Line.{raw_width, IsLineNear, IsWithinTolerance, IsNear, IsReading, IsRawAt};
+ghost use Rattle.cell_calib.specs.Line.{raw_width, IsLineNear, IsWithinTolerance, IsNear, IsRawAt};
 
 /// A reading that is within a window less the tolerance puts the exact line within the window.
 pub fn line_in_window()

@@ -32,9 +32,6 @@ not_for_sim words m n other e f k = absurd (other (sym e ∙ (f ∙ sim_asked wo
 pub not_for_replay : {P : Type 0} → (words : List Text) (m n : Mode) → (n ≡ Replay → ⊥) → m ≡ n → m ≡ mode_of words → AskForReplay words → P
 not_for_replay words m n other e f k = absurd (other (sym e ∙ (f ∙ replay_asked words k)))
 
-pub not_for_run : {P : Type 0} → (words : List Text) (m n : Mode) (turns tries : ℕ) → (n ≡ Run turns tries → ⊥) → m ≡ n → m ≡ mode_of words → AskForRun turns tries words → P
-not_for_run words m n turns tries other e f k = absurd (other (sym e ∙ (f ∙ k.1)))
-
 -- the words ask for the run that was read
 pub run_asked : (words : List Text) (m : Mode) (turns tries turns' tries' : ℕ) → m ≡ Run turns tries → m ≡ mode_of words → AskForRun turns' tries' words → (turns ≡ turns') × (tries ≡ tries')
 run_asked words m turns tries turns' tries' e f k =

@@ -3,20 +3,23 @@
 
 /// Of the program.
 pub const CELL: &str =
-    "Replays scripts of calls to the interlock of the production cell, and simulates the cell.";
+    "Replays scripts of calls to the production cell's interlock, and simulates and runs the cell.";
 
 pub const OF_CELL: &str = "\
 Without a command a script is replayed. All input is standard input, all output
 standard output. The exit status is 0 where all went well, and for help; 1 for a
-refused input, a machine that was stopped, a refused audit, a failed read or write
-and want of memory; 2 for words that aren't a command's.
+refused input, a machine that was stopped, a refused audit, a failed read or write,
+a worker that couldn't be started and want of memory; 2 for words that aren't a
+command's.
 
 docs/SCRIPTS.md describes scripts, their answers and the exit statuses,
-docs/CONFIGURATIONS.md what a simulation reads, docs/REPORTS.md what it writes.
+docs/CONFIGURATIONS.md what a simulation and a run read, docs/REPORTS.md what they
+write.
 
 Examples:
   cell replay < examples/interior.csv
-  cell sim < examples/press.toml";
+  cell sim < examples/press.toml
+  cell run --turns 3 < examples/six_workers.toml";
 
 /// Of `replay`.
 pub const REPLAY: &str = "Replays a script of calls, and writes how the interlock answers each.";

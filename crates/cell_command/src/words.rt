@@ -1,6 +1,6 @@
 //! The program's words.
 
-ghost use Rattle.std.specs.Prelude.{◌≡◌, ◌<◌, ◌^◌, [], ◌∷◌, ℕ, List, map, codes, false, option_map, IfErr, IfOk, OnOk};
+ghost use Rattle.std.specs.Prelude.{◌≡◌, ◌<◌, ◌^◌, [], ◌∷◌, ℕ, List, map, codes, false, IfErr, IfOk, OnOk};
 ghost use Rattle.clap.specs.Words.{app_of, fault_of, found_of, kind_of, new_app, rows_of, rule_of, subcommand_rows_of, with_subcommand, HasKind};
 ghost use Rattle.clap.specs.declared.builder.command.Command.TheViews.{out-Command as fields_of};
 ghost use Rattle.cell_command.specs.Words as words;
@@ -33,7 +33,8 @@ const MOST_TRIES: u64 = 64;
 
 /// What the words ask for, of which the first is the program's name: a replay, with the word
 /// `replay` and without, with the word `sim` a simulation, or with the word `run` a run, by the flags
-/// `--turns` and `--tries`. Other words are an error of `clap`, and so are those that ask for help.
+/// `--turns` and `--tries`. Other words are an error of `clap`, and so are those that ask for help, and want
+/// of memory.
 pub fn read_words(alloc: Global, words: &[&str]) -> Result<Mode, Error>
     // The mode is that of the word behind the name, with the numbers of its flags, as `clap` finds them.
     ensures mode { IfOk result (λ mode. mode ≡ mode_of (map (λ w. w.now) words.now)) }

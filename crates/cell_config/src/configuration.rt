@@ -1,7 +1,7 @@
 //! Reads configurations: texts in TOML with the start of a run, its schedule, and how the five
 //! potentiometers are calibrated.
 
-ghost use Rattle.std.specs.Prelude.{◌≡◌, ◌≢◌, ◌≤◌, Ok, Err, length, IfOk, IfSome, MatchResult};
+ghost use Rattle.std.specs.Prelude.{◌≡◌, ◌≢◌, Ok, Err, IfOk, IfSome, MatchResult};
 ghost use Rattle.toml.specs.View.{table_view};
 ghost use Rattle.cell_text.specs.Input.{TakesAtMost};
 ghost use Rattle.cell_rules.specs.Start.{IsStartState};

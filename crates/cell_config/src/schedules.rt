@@ -90,7 +90,8 @@ fn turns_of(alloc: Global, text: &str) -> Result<Vec<Turn>, ConfigFault>
     Ok(turns)
 }
 
-/// The turns that a table gives by its key `schedule`.
+/// The turns that a table gives by its key `schedule`, none without one. `Kind` where its value is no text,
+/// `Range` and `Letter` as for a text, and `Memory` where the room for the turns was refused.
 pub fn schedule_at(alloc: Global, table: &Table) -> Result<Vec<Turn>, ConfigFault>
     ensures { MatchResult result
         (λ turns. settings.schedule_at (table_view table.now) ≡ Ok turns.items)

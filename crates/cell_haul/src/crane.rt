@@ -4,7 +4,7 @@ ghost use Rattle.cell_devices.specs.Limits.{travel_from};
 ghost use Rattle.cell_haul.specs.CraneProgram.{crane_steps, gripper_stop};
 
 use crate::crane_step::{CraneProgress, CraneReading, CraneStep};
-use cell_calib::{Calibration, CraneSense, Gauge, Points, SensorFault};
+use cell_calib::{Calibration, CraneSense, Gauge, SensorFault};
 use cell_control::{Controller, Program};
 use cell_devices::{CraneAct, Motor, drive_to, is_travel_high};
 use cell_rules::State;
@@ -25,13 +25,6 @@ impl<F: Gauge> CraneProgram<F> {
         ensures { result.gripper ≡ gripper }
     {
         CraneProgram { gripper }
-    }
-
-    /// The points of its gripper's calibration.
-    pub fn points(&self) -> Points
-        ensures { result ≡ self.now.gripper.points }
-    {
-        self.gripper.points()
     }
 }
 

@@ -12,9 +12,13 @@ use std::marker::Model;
 /// What is known of one machine: the state that its interlock opened with, the history that it has
 /// seen, and how much of that it had seen right after its last load. No value of it is made.
 pub struct Part {
+    /// The state that the interlock opened with.
     pub opening: State,
+    /// The machine.
     pub machine: Machine,
+    /// The history that it has seen.
     pub seen: LinkedList<Event>,
+    /// What of that it had seen right after its last load.
     pub since: LinkedList<Event>,
 }
 
@@ -60,11 +64,18 @@ impl Pass {
 /// The passes of an interlock, each in the field of its machine.
 #[derive(Drop)]
 pub struct Passes {
+    /// The feed belt's.
     pub feed: Pass,
+    /// The table's.
     pub table: Pass,
+    /// The robot's.
     pub robot: Pass,
+    /// The press's.
     pub press: Pass,
+    /// The deposit belt's.
     pub deposit: Pass,
+    /// The crane's.
     pub crane: Pass,
+    /// The watch's.
     pub watch: Pass,
 }

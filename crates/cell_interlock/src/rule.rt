@@ -22,6 +22,8 @@ pub trait Asked {
     ghost call: { Call };
 }
 
+// The steps of the rule itself are made for no call, and none is read of them: `load` and `exchange` name
+// the call in whose course they come.
 impl Asked for Brand {
     ghost use Rattle.cell_types.specs.declared.call.Call.TheVariants.{Advance};
 

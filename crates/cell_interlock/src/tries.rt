@@ -39,7 +39,8 @@ pub enum Look {
 /// What comes of an attempt.
 #[derive(Drop)]
 pub enum Tried {
-    /// The call was answered. The number is the stamp of the state at its point, after a Done call.
+    /// The call was answered. The number is the stamp of the state at its point, behind it where the call is
+    /// Done.
     Settled(Answer, u32, Pass),
     /// Another machine had changed the word. The call may be attempted again.
     Lost(Try),
@@ -49,6 +50,7 @@ pub enum Tried {
         lost: u8,
         /// The stamp of the state that was found last.
         stamp: u32,
+        /// The pass, given back.
         pass: Pass,
     },
 }

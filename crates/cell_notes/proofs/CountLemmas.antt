@@ -1,9 +1,9 @@
 -- After so many turns no count is above their number.
-use Rattle.std.proofs.Common.{ℕ, ◌+◌, ◌<◌, ◌≤◌, Bool, true, false, arith}
+use Rattle.std.proofs.Common.{ℕ, ◌+◌, ◌<◌, Bool, true, false, arith}
 use Rattle.cell_rules.specs.ModelState.{one_if}
 use Rattle.cell_notes.specs.declared.counts.Counts.{Counts}
 use Rattle.cell_notes.specs.Asks.{Asked, came_back, is_done_reply, is_read_reply, is_refused_reply, is_busy_reply}
-use Rattle.cell_notes.specs.Notes.{no_counts, counts_with, AreBelow, last_count, HasRoom}
+use Rattle.cell_notes.specs.Notes.{no_counts, counts_with, AreBelow}
 
 pub none_below : AreBelow 1 no_counts
 none_below = record { turns = omega arith; done = omega arith; read = omega arith; refused = omega arith; busy = omega arith }
@@ -21,10 +21,3 @@ below_with n c asked k =
       refused = one_more (came_back is_refused_reply asked) c.refused n k.refused;
       busy = one_more (came_back is_busy_reply asked) c.busy n k.busy;
     }
-
-pub below_later : (n k : ℕ) (c : Counts) → n ≤ k → AreBelow n c → AreBelow k c
-below_later n k c e b = record { turns = omega (arith, e, b.turns); done = omega (arith, e, b.done); read = omega (arith, e, b.read); refused = omega (arith, e, b.refused); busy = omega (arith, e, b.busy) }
-
--- so there is room for one more while there were fewer turns than the last value
-pub room_below : (n : ℕ) (c : Counts) → n ≤ last_count → AreBelow n c → HasRoom c
-room_below n c e k = record { turns = omega (arith, e, k.turns); done = omega (arith, e, k.done); read = omega (arith, e, k.read); refused = omega (arith, e, k.refused); busy = omega (arith, e, k.busy) }

@@ -14,7 +14,7 @@ pub enum Status {
     Sensor,
     /// A call was refused at a step that doesn't wait for that refusal to go away.
     Refused,
-    /// The interlock had no room for a call.
+    /// Its line had no room for a call.
     Memory,
     /// Its gate wasn't opened.
     GateLimit,

@@ -1,5 +1,5 @@
 -- What each machine keeps of its own side holds of every side in every state of a run.
-use Rattle.std.proofs.Common.{◌≡◌, Bool, true, false, ◌&&◌, None, is_none, List, [], ◌∷◌, refl, sym, ap, ◌∙◌, subst}
+use Rattle.std.proofs.Common.{◌≡◌, Bool, true, false, ◌&&◌, None, is_none, refl, sym, ap, ◌∙◌, subst}
 use Rattle.cell_types.specs.declared.machine.Machine.{Machine}
 use Rattle.cell_types.specs.declared.machine.Machine.TheVariants.{Feed, Table, Robot, Press, Deposit, Crane, Watch}
 use Rattle.cell_types.specs.Same.{same_machine, one_machine}
@@ -11,10 +11,9 @@ use Rattle.cell_rules.proofs.Soundness.{next_keeps}
 use Rattle.cell_seat.proofs.Running.{none_runs}
 use Rattle.cell_seat.proofs.Keeping.{Keeping, Changes, takes_keeps, takes_changes, others_keep, by_call}
 use Rattle.cell_parts.specs.Axes.{CellScales}
-use Rattle.cell_notes.specs.declared.schedule.Turn.{Turn}
 use Rattle.cell_plant.specs.Machines.{ProgressOf, PartOf, steps_of, rig_of}
 use Rattle.cell_plant.specs.CellStates.{SideOf, CellState}
-use Rattle.cell_plant.specs.Runs.{Step, TakesTurn, LeadsIf, is_at_work, goes_on, IsRun}
+use Rattle.cell_plant.specs.Runs.{Step, TakesTurn, LeadsIf, is_at_work, goes_on}
 
 -- each program is its machine's
 pub own_program : (c : CellScales) (m : Machine) → (steps_of c m).machine ≡ m
@@ -92,16 +91,3 @@ module _ (c : CellScales) (InvOf ToldOf : (m : Machine) → ModelState → Progr
       let set = set_keeps m busy w s k runs i in
       (set, moved_keeps m busy w s k runs i set)
   step_keeps false m busy w s e k i = (subst CellInv (sym k.set) i, subst CellInv (sym k.moved) i)
-
-  -- and so it holds in every state of a run
-  abbrev pub Throughout : CellState → List Step → Type 0
-  Throughout w [] = CellInv w
-  Throughout w (s ∷ ss) = CellInv w × (CellInv s.set × Throughout s.moved ss)
-
-  pub run_keeps : (w : CellState) (turns : List Turn) (steps : List Step) → CellInv w → IsRun c w turns steps → Throughout w steps
-  run_keeps w [] [] i r = i
-  run_keeps w (t ∷ ts) (s ∷ ss) i r =
-      let kept = step_keeps (goes_on w t.machine) t.machine t.busy w s refl r.1.0 i in
-      (i, (kept.0, run_keeps s.moved ts ss kept.1 r.1.1))
-  run_keeps w [] (s ∷ ss) i r = absurd r
-  run_keeps w (t ∷ ts) [] i r = absurd r

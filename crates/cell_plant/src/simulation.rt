@@ -23,7 +23,7 @@ use std::alloc::Global;
 use std::marker::Model;
 
 /// Runs a schedule on a cell that was made for a start, over a bench that opens with it: turn by turn
-/// that machine's controller, and then a tick of its part; the other parts stand still.
+/// the controller of the turn's machine, and then a tick of its part; the other parts stand still.
 ///
 /// A turn whose `busy` is set finds the bench busy. A turn of a machine that has stopped, and of the
 /// watch, does nothing and isn't counted. A machine for whose call the bench had no room stops with

@@ -9,8 +9,8 @@ use std::fmt;
 use std::fmt::Display;
 use std::io::Write;
 
-/// An input was refused, a machine stopped, an audit refused, a read or a write failed, or memory
-/// ran out.
+/// An input was refused, a machine stopped, an audit refused, a read or a write failed, a worker couldn't
+/// be started, or memory ran out.
 pub const FAILED: u8 = 1;
 
 /// Prints the line of a fault, as far as the writer takes it, and answers the exit status.
@@ -27,7 +27,7 @@ pub fn fail<W: Write, D: Display + Drop>(writer: &mut W, fault: D) -> u8
     }
 }
 
-/// The line of a fault. Every fault's has room on a page.
+/// The line of a fault, if it has room on a page, as that of every fault should: that is tested, not proved.
 fn fault_page<D: Display + Drop>(fault: D) -> Result<Page, fmt::Error>
     ensures { IfOk result (λ page. IfSome (D.output fault) (λ text. page ≡ fault_line text)) }
 {

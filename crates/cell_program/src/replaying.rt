@@ -10,8 +10,8 @@ use cell_replay::{Outcome, ReplayFault, replay};
 use std::alloc::Global;
 use std::io::{Read, Write};
 
-/// Replays, and prints a fault other than that of the script. Answers the exit status: 0 where all went
-/// well, else 1.
+/// Replays, and prints the line of a failed read or of want of memory; after a failed write nothing more is
+/// printed. Answers the exit status: 0 where all went well, else 1.
 pub fn serve_replay<R: Read, W: Write>(alloc: Global, reader: &mut R, writer: &mut W) -> u8
     ensures status { result < 2 }
     ensures well { result ≡ 0 →

@@ -59,7 +59,7 @@ fn with_end(alloc: Global, run: RunRecord) -> Result<RunRecord, RunFault>
     requires open { run.end ≡ None }
     ensures rest { IfOk result (λ r. but_end r ≡ run) }
     ensures end { IfOk result (λ r. EndsAsAudited r.start (journal_of r.journals) r.end) }
-    ensures memory { result ≢ Err RunFault.Tries }
+    ensures tries { result ≢ Err RunFault.Tries }
 {
     let end = audited_end(alloc, &run.journals, &run.start)?;
     Ok(RunRecord { end, ..run })
@@ -69,7 +69,7 @@ fn with_end(alloc: Global, run: RunRecord) -> Result<RunRecord, RunFault>
 /// journals. `Memory` where the audit had no room.
 fn audited_end(alloc: Global, journals: &Journals, start: &State) -> Result<Option<State>, RunFault>
     ensures end { IfOk result (EndsAsAudited start.now (journal_of journals.now)) }
-    ensures memory { result ≢ Err RunFault.Tries }
+    ensures tries { result ≢ Err RunFault.Tries }
 {
     match audit(alloc, journals, start, None) {
         Ok(events) => Ok(Some(state_after(start, &events))),

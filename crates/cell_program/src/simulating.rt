@@ -22,10 +22,15 @@ use std::io::{Read, Write};
 /// The lines of the five potentiometers.
 #[derive(Clone, Copy)]
 pub struct Lines {
+    /// That of the first arm.
     pub arm1: Points,
+    /// That of the second arm.
     pub arm2: Points,
+    /// That of the robot's rotation.
     pub rotation: Points,
+    /// That of the table's rotation.
     pub turn: Points,
+    /// That of the gripper's height.
     pub gripper: Points,
 }
 

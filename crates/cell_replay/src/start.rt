@@ -1,6 +1,6 @@
 //! Reads the start that record 0 gives.
 
-ghost use Rattle.std.specs.Prelude.{◌≡◌, ◌==◌, ◌<◌, Some};
+ghost use Rattle.std.specs.Prelude.{◌≡◌, ◌<◌, Some};
 ghost use Rattle.csv.specs.Records.{fields_of};
 ghost use Rattle.cell_replay.specs.Script as script;
 

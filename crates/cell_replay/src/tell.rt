@@ -1,11 +1,9 @@
 //! Writes the text that a script is answered.
 
-ghost use Rattle.std.specs.Prelude.{◌≡◌, ◌≤◌, ◌++◌, codes, length, map, IfOk, OnOk, string_bytes};
-ghost use Rattle.std.specs.Fmt.{decimal};
+ghost use Rattle.std.specs.Prelude.{◌≡◌, ◌≤◌, ◌++◌, length, map, IfOk, OnOk, string_bytes};
 ghost use Rattle.std.specs.List.{concat};
 ghost use Rattle.csv.specs.Records.{fields_of};
 ghost use Rattle.cell_types.specs.Answers.{answer_text};
-ghost use Rattle.cell_rules.specs.ModelState.{plates_of};
 ghost use Rattle.cell_replay.specs.Script as script;
 ghost use Rattle.cell_replay.specs.Script.{end_text, event_lines, history_of, line_of, most_records, requests_in, rows_lines, rows_outcome, start_line};
 

@@ -33,11 +33,12 @@ pub record IsGap (start top : ℕ) (count : ℕ → ℕ) (stamp : ℕ) : Type 0 
 abbrev pub HasNoGap : ℕ → ℕ → (ℕ → ℕ) → Type 0
 HasNoGap start top count = (r : ℕ) → start < r → r ≤ top → 0 < count r
 
--- the top: the greatest of the stamps of the start, of the end that is given, and of all entries
+-- the stamp of the end, if one is given
 abbrev pub end_stamp : Option ModelState → ℕ
 end_stamp None = 0
 end_stamp (Some end) = end.stamp
 
+-- the top: the greatest of the stamps of the start, of the end that is given, and of all entries
 abbrev pub top_of : ModelState → Option ModelState → List Noted → ℕ
 top_of start end all = greatest (max start.stamp (end_stamp end)) all
 

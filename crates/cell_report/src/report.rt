@@ -17,8 +17,8 @@ use std::io::Write;
 const AT_WORK: usize = 6;
 
 /// Writes the report of a run and of the audit of its journals, where `None` says that the audit
-/// found a history. It takes no memory: the text is made in place before it is written. With an
-/// `Err` a front of the text was written.
+/// found a history. It takes no memory: the text is made in place before it is written. `Write`
+/// where the writer failed, or where the text had no room; a front of it was written then.
 pub fn write_report<W: Write>(
     run: &RunRecord,
     audit: Option<AuditFault>,
@@ -36,7 +36,8 @@ pub fn write_report<W: Write>(
     write_text(writer, page.as_bytes())
 }
 
-/// The text of a report. Every record's has room on a page.
+/// The text of a report, if it has room on a page, as that of every record should: that is tested, not
+/// proved.
 fn report_page(run: &RunRecord, audit: Option<AuditFault>) -> Result<Page, fmt::Error>
     ensures { IfOk result (λ page. page ≡ report_text run.now audit) }
 {

@@ -4,7 +4,7 @@ ghost use Rattle.cell_devices.specs.Limits.{retracted_to};
 ghost use Rattle.cell_robot.specs.RobotProgram.{robot_steps, scales_of, gauges_of, ReadsAs, arm1_stop, arm2_stop, turns_to};
 
 use crate::robot_step::{RobotMagnets, RobotNotes, RobotProgress, RobotReading, RobotStep};
-use cell_calib::{Calibration, Gauge, Points, RobotSense, SensorFault};
+use cell_calib::{Calibration, Gauge, RobotSense, SensorFault};
 use cell_control::{Controller, Program};
 use cell_devices::{Motor, RobotAct, drive_to, is_retracted};
 use cell_rules::State;
@@ -37,27 +37,6 @@ impl<F1: Gauge, F2: Gauge, F3: Gauge> RobotProgram<F1, F2, F3> {
             arm2,
             rotation,
         }
-    }
-
-    /// The points of its first arm's calibration.
-    pub fn arm1_points(&self) -> Points
-        ensures { result ≡ self.now.arm1.points }
-    {
-        self.arm1.points()
-    }
-
-    /// The points of its second arm's calibration.
-    pub fn arm2_points(&self) -> Points
-        ensures { result ≡ self.now.arm2.points }
-    {
-        self.arm2.points()
-    }
-
-    /// The points of its rotation's calibration.
-    pub fn rotation_points(&self) -> Points
-        ensures { result ≡ self.now.rotation.points }
-    {
-        self.rotation.points()
     }
 }
 

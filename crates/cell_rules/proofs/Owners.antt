@@ -32,10 +32,6 @@ OwnsWhatItNeeds s m c = (z : Zone) → needs m c z ≡ true → owns s m z ≡ t
 itself : (z : Zone) → same_zone z z ≡ true
 itself = from_zones (λ z. same_zone z z) refl
 
-both : (a b : Bool) → (a && b) ≡ true → (a ≡ true) × (b ≡ true)
-both true b e = (refl, e)
-both false b e = cc
-
 -- a zone that is owned isn't another's
 not_anothers : (own other : Bool) → own ≡ true → (not own && other) ≡ false
 not_anothers true other e = refl

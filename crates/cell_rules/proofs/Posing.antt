@@ -178,10 +178,6 @@ pose_by s m p small h =
 
 -- ---- whether there is no room, as one test
 
-one_test : (a b : Bool) (r : Refusal) → then_some a r or then_some b r ≡ then_some (a || b) r
-one_test true b r = refl
-one_test false b r = refl
-
 abbrev opening : ModelState → Machine → Pose → Zone → Bool
 opening s m p z = Refusals.opens s m p z && Refusals.is_blocked s z
 

@@ -1,8 +1,8 @@
 -- What a call adds to a history, and to what its caller has seen.
-use Rattle.std.proofs.Common.{◌≡◌, cond, true, List, [], ◌∷◌, ◌++◌, refl, sym, ap, ◌∙◌, subst, append-nil}
+use Rattle.std.proofs.Common.{◌≡◌, cond, true, List, [], ◌∷◌, ◌++◌, refl, sym, ap, ◌∙◌, append-nil}
 use Rattle.std.proofs.Props.{props}
 use Rattle.std.proofs.Math.Logic.{∥∥₁_elim}
-use Rattle.std.proofs.lemmas.List.{append_cancel_left, append_cancel_right}
+use Rattle.std.proofs.lemmas.List.{append_cancel_left}
 use Rattle.std.proofs.lemmas.List.Elements.{filter-append}
 use Rattle.cell_types.specs.declared.machine.Machine.{Machine}
 use Rattle.cell_types.specs.declared.call.Call.{Call}
@@ -66,34 +66,3 @@ foreign_between m before more e =
 
 pub waits-foreign : (m : Machine) (before now : List Event) (w : Waits m before now) → own_events w.begins.0 m ≡ []
 waits-foreign m before now w = foreign_between m before w.begins.0 (ap (λ h. own_events h m) (sym w.begins.1) ∙ w.own)
-
-pub settles-foreign : (m : Machine) (c : Call) (a : Answer) (before now : List Event) (t : Settles m c a before now) → own_events t.begins.0 m ≡ []
-settles-foreign m c a before now t =
-    let own : own_events t.point m ++ event m c a ∷ [] ≡ own_events before m ++ event m c a ∷ [] = sym (own-push t.point m c a) ∙ ap (λ h. own_events h m) (sym t.ends) ∙ t.own in
-    let same = append_cancel_right (own_events t.point m) (own_events before m) (event m c a ∷ []) own in
-    foreign_between m before t.begins.0 (ap (λ h. own_events h m) (sym t.begins.1) ∙ same)
-
--- an answered call at its point: the state there, which events of others have led to from what was seen before, the answer that it gives, and the state after
-pub record Found (s : ModelState) (m : Machine) (c : Call) (a : Answer) (before now : List Event) : Type 0 where
-  pub state : ModelState
-  pub others : List Event
-  pub reached : state ≡ after (after s before) others
-  pub foreign : own_events others m ≡ []
-  pub answer : a ≡ reply state m c
-  pub next_state : after s now ≡ next state m c
-
-pub found : (s : ModelState) (m : Machine) (c : Call) (a : Answer) (before now : List Event) → Settles m c a before now → IsLegal s now → Found s m c a before now
-found s m c a before now t l =
-    let legal : IsLegal s (t.point ++ event m c a ∷ []) = subst (λ h. IsLegal s h) t.ends l in
-    record {
-      state = after s t.point;
-      others = t.begins.0;
-      reached = ap (after s) t.begins.1 ∙ after-append s before t.begins.0;
-      foreign = settles-foreign m c a before now t;
-      answer = (legal-right s t.point (event m c a ∷ []) legal).0;
-      next_state = ap (after s) t.ends ∙ after-push s t.point (event m c a);
-    }
-
--- a call that was not made, and the state after it
-pub waited : (s : ModelState) (m : Machine) (before now : List Event) (w : Waits m before now) → after s now ≡ after (after s before) w.begins.0
-waited s m before now w = ap (after s) w.begins.1 ∙ after-append s before w.begins.0

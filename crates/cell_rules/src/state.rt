@@ -38,11 +38,13 @@ impl Model for State {
 /// Why a start is refused.
 #[derive(Clone, Copy, Debug, PartialEq, Eq)]
 pub enum StartFault {
+    /// More than six places have plates, or both of the press, or the stamp is past the last one.
     BadStart,
 }
 
 impl State {
-    /// The start with these places and this stamp.
+    /// The start with these places and this stamp. `BadStart` where more than six places have plates, or
+    /// both of the press, or where the stamp is past the last one.
     pub fn start(places: [bool; 10], stamp: u32) -> Result<State, StartFault>
         ensures ok { IsOk result ↔ IsStart (places_of places) stamp }
         ensures value { IfOk result (λ s. s ≡ start_state (places_of places) stamp) }

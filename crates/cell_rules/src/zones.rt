@@ -8,8 +8,11 @@ use std::marker::Model;
 /// What stands at a zone.
 #[derive(Clone, Copy, Debug, PartialEq, Eq)]
 pub struct ZoneState {
+    /// Who holds the zone.
     pub owner: Option<Machine>,
+    /// Whether a plate is on its way through the zone.
     pub flag: bool,
+    /// How its host stands to it.
     pub posture: Posture,
 }
 

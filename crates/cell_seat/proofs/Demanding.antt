@@ -1,19 +1,11 @@
 -- What the motors demand holds in every state of a run, also for motors that an earlier turn has left on.
-use Rattle.std.proofs.Common.{List, [], ◌++◌, Option, sym, ap, ◌∙◌, ◌≡◌, false, Some, None, Ok}
+use Rattle.std.proofs.Common.{List, ◌≡◌, false, None, Ok}
 use Rattle.cell_types.specs.declared.machine.Machine.{Machine}
 use Rattle.cell_types.specs.declared.call.Call.{Call}
 use Rattle.cell_types.specs.Same.{same_machine}
 use Rattle.cell_rules.specs.ModelState.{ModelState}
 use Rattle.cell_rules.specs.Sound.{IsSound}
 use Rattle.cell_rules.specs.Reply.{next}
-use Rattle.cell_types.specs.declared.zone.Zone.{Zone}
-use Rattle.cell_types.specs.declared.posture.Posture.{Posture}
-use Rattle.cell_types.specs.declared.answer.Event.{Event}
-use Rattle.cell_rules.specs.History.{IsLegal, own_events}
-use Rattle.cell_rules.proofs.Histories.{legal-left}
-use Rattle.cell_rules.proofs.Lasting.{right_lasts_zone, right_lasts_held}
-use Rattle.cell_rules.proofs.Postures.{posture-after}
-use Rattle.cell_control.specs.Demands.{HoldsIn}
 use Rattle.cell_control.proofs.Facts.{Fact, AreSo, are_foreign}
 use Rattle.cell_control.specs.Rigs.{Rig}
 use Rattle.cell_control.specs.Steps.{Steps}
@@ -67,15 +59,3 @@ demanding_while_on t rig Inv Told on facts off drives ticks =
       after_drive = drives;
       moves = λ z p b told k. λ is_on. k (ticks b is_on);
     }
-
--- And by events, as a program states its demands: what a machine holds in a posture lasts while only others act.
-pub held_lasts : (m : Machine) (opening : ModelState) (seen more : List Event) (entered : Option (Zone × Posture)) → IsSound opening → IsLegal opening (seen ++ more) → own_events more m ≡ []
-    → HoldsIn m opening seen entered → HoldsIn m opening (seen ++ more) entered
-held_lasts m opening seen more None sound legal none k = tt
-held_lasts m opening seen more (Some entered) sound legal none k = (
-  right_lasts_held opening seen more sound legal m entered.0 none k.0,
-  sym (posture-after opening (seen ++ more) entered.0 legal)
-      ∙ ap (λ v. v.posture) (right_lasts_zone opening seen more sound legal m entered.0 none k.0)
-      ∙ posture-after opening seen entered.0 (legal-left opening seen more legal)
-      ∙ k.1,
-)

@@ -3,4 +3,3 @@ pub mod Keeping
 pub mod Demanding
 pub mod Turning
 pub mod Others
-pub mod Rooms

@@ -19,7 +19,6 @@ use Rattle.cell_control.proofs.Senses.{turns_still}
 use Rattle.cell_notes.specs.Asks.{Asked, done_in, settled_by, settled_in}
 use Rattle.cell_notes.specs.Notes.{Notes, notes_with}
 use Rattle.cell_seat.specs.Sides.{Side, Acts, ActsAndMoves, TellsByDemands, act_or_rest, noting, part_set}
-use Rattle.cell_seat.proofs.Running.{some_stopped}
 use Rattle.cell_seat.specs.SeatTurns.{Answers, Leads, SeatTurn}
 
 -- a turn, told of its line in other words
@@ -33,19 +32,6 @@ acts_map t rig same same' asks asks' f g before set asked k =
       row = turn_map t (same × (asked ≡ None)) (same' × (asked ≡ None)) (λ c r. asks c r × (asked ≡ Some (c, r))) (λ c r. asks' c r × (asked ≡ Some (c, r)))
           (λ h. (f h.0, h.1)) (λ c r h. (g c r h.0, h.1)) before.stopped before.progress k.sense k.turned k.row;
       is = k.is;
-    }
-
--- a turn that isn't taken
-pub passed_over : {S Sense Reading Act State : Type 0} → (t : Steps S Sense Reading Act) (rig : Rig State Sense Act) (busy : Bool) (desk : Desk) (side : Side S State) (notes : Notes)
-    → is_none side.stopped ≡ false → SeatTurn t rig busy desk desk side side notes notes
-passed_over t rig busy desk side notes stopped =
-    record {
-      asked = None;
-      leads = subst (λ b. Leads b t rig busy desk.state side None desk.state side) (sym stopped) (record { asked_nothing = refl; same = refl; stays = refl });
-      opening = refl;
-      history = sym (append-nil desk.history);
-      motor_demands = λ e. absurd (some_stopped side.stopped stopped e);
-      noted = subst (λ b. notes ≡ (if b then notes_with notes None else notes)) (sym stopped) refl;
     }
 
 -- a bench at which a machine was seated, before and after its turn

@@ -1,8 +1,8 @@
 //! The turn of a schedule, over a bench.
-ghost use Rattle.std.specs.Prelude.{◌≡◌, None, OnOk, OnErr};
+ghost use Rattle.std.specs.Prelude.{◌≡◌, OnOk, OnErr};
 ghost use Rattle.cell_rules.specs.BenchView.{desk_of};
 ghost use Rattle.cell_notes.specs.Notes.{HasRoom, notes_of};
-ghost use Rattle.cell_seat.specs.Sides.{IsReady, TellsByDemands, side_of};
+ghost use Rattle.cell_seat.specs.Sides.{IsReady, side_of};
 ghost use Rattle.cell_seat.specs.SeatTurns.{SeatTurn, Untouched};
 
 use crate::fault::SimFault;

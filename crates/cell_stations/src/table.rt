@@ -3,7 +3,7 @@ ghost use Rattle.cell_devices.specs.Drives.{DrivesTo};
 ghost use Rattle.cell_stations.specs.TableProgram.{table_steps, rotation_stop};
 
 use crate::table_step::{TableProgress, TableReading, TableStep};
-use cell_calib::{Calibration, Gauge, Points, SensorFault, TableSense};
+use cell_calib::{Calibration, Gauge, SensorFault, TableSense};
 use cell_control::{Controller, Program};
 use cell_devices::{Motor, TableAct, drive_to};
 use cell_rules::State;
@@ -24,13 +24,6 @@ impl<F: Gauge> TableProgram<F> {
         ensures { result.turn ≡ turn }
     {
         TableProgram { turn }
-    }
-
-    /// The points of its rotation's calibration.
-    pub fn points(&self) -> Points
-        ensures { result ≡ self.now.turn.points }
-    {
-        self.turn.points()
     }
 }
 

@@ -24,7 +24,8 @@ impl From<AllocError> for InputFault {
     }
 }
 
-/// The first bytes that the reader has left, at most this many. An interrupted read is made again.
+/// The first bytes that the reader has left, at most this many. An interrupted read is made again. `Read` where
+/// another read failed, and `Memory` where the room for the bytes was refused.
 pub fn read_up_to<R: Read>(
     alloc: Global,
     reader: &mut R,

@@ -1,6 +1,6 @@
 //! Writes a text, and says how much of it was written.
 
-ghost use Rattle.std.specs.Prelude.{◌≡◌, OnOk, OnErr};
+ghost use Rattle.std.specs.Prelude.{OnOk, OnErr};
 ghost use Rattle.std.specs.Io.KnownBytes.{Appends, Keeps};
 ghost use Rattle.cell_text.specs.Output.{WroteFront};
 

@@ -14,7 +14,6 @@ use Rattle.cell_types.specs.contracts.machine.Machine.{the_type as machine_type}
 use Rattle.cell_types.specs.contracts.zone.Zone.{the_type as zone_type}
 use Rattle.cell_types.specs.contracts.place.Place.{the_type as place_type}
 use Rattle.cell_types.specs.contracts.posture.Posture.{the_type as posture_type}
-use Rattle.cell_types.specs.contracts.pose.Pose.{the_type as pose_type}
 use denote.Enum.Bare.{same_true}
 
 abbrev pub same_machine : Machine → Machine → Bool
@@ -43,6 +42,3 @@ one_place a b e = same_true place_type tt a b e
 
 pub one_posture : (a b : Posture) → same_posture a b ≡ true → a ≡ b
 one_posture a b e = same_true posture_type tt a b e
-
-pub one_pose : (a b : Pose) → same_pose a b ≡ true → a ≡ b
-one_pose a b e = same_true pose_type tt a b e

@@ -81,7 +81,7 @@ impl Refusal {
         Refusal::InUse,
     ];
 
-    /// The number of the refusal.
+    /// The number of the refusal: no two have the same, whatever they name.
     pub fn number(&self) -> u8
         ensures { result ≡ number_of self.now }
     {
@@ -196,8 +196,11 @@ pub enum Answer {
     Done,
     /// What stands at the zone of an inquiry.
     Shown {
+        /// Who holds the zone.
         owner: Option<Machine>,
+        /// Whether a plate is on its way through the zone.
         flag: bool,
+        /// How its host stands to it.
         posture: Posture,
     },
     /// The call was refused, and nothing has changed.
@@ -207,8 +210,11 @@ pub enum Answer {
 /// A call of a machine, with its answer.
 #[derive(Clone, Copy, Debug, PartialEq, Eq)]
 pub struct Event {
+    /// Whose call it was.
     pub machine: Machine,
+    /// The call.
     pub call: Call,
+    /// What the interlock answered.
     pub answer: Answer,
 }
 

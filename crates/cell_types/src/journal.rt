@@ -11,20 +11,30 @@ use std::alloc::Global;
 /// after it.
 #[derive(Clone, Copy, Debug, PartialEq, Eq)]
 pub struct Entry {
+    /// The call.
     pub call: Call,
+    /// What was answered.
     pub answer: Answer,
+    /// The stamp of the state after it.
     pub stamp: u32,
 }
 
 /// The journal of each machine, its oldest entry first.
 #[derive(Debug, Drop)]
 pub struct Journals {
+    /// The feed belt's.
     pub feed: Vec<Entry>,
+    /// The table's.
     pub table: Vec<Entry>,
+    /// The robot's.
     pub robot: Vec<Entry>,
+    /// The press's.
     pub press: Vec<Entry>,
+    /// The deposit belt's.
     pub deposit: Vec<Entry>,
+    /// The crane's.
     pub crane: Vec<Entry>,
+    /// The watch's.
     pub watch: Vec<Entry>,
 }
 

@@ -33,7 +33,7 @@ pub fn guest(zone: Zone) -> Machine
     }
 }
 
-/// The way of a plate through a zone in a posture.
+/// The way of a plate through a zone in a posture; `None` where the zone isn't open so.
 pub fn transfer(zone: Zone, posture: Posture) -> Option<Transfer>
     ensures { result ≡ transfer_of zone posture }
 {
@@ -59,7 +59,7 @@ pub fn transfer(zone: Zone, posture: Posture) -> Option<Transfer>
     })
 }
 
-/// The posture that a pose of a machine gives a zone.
+/// The posture that a pose of a machine gives a zone; `None` where it says nothing of that zone.
 pub fn posture_in(machine: Machine, pose: Pose, zone: Zone) -> Option<Posture>
     ensures { result ≡ posture_of machine pose zone }
 {
@@ -86,7 +86,8 @@ pub fn posture_in(machine: Machine, pose: Pose, zone: Zone) -> Option<Posture>
     }
 }
 
-/// The way of a plate by a machine's own work: along a belt, or in the press from loaded to forged.
+/// The way of a plate by a machine's own work: along a belt, or in the press from loaded to forged; `None`
+/// for other machines.
 pub fn work(machine: Machine) -> Option<(Place, Place)>
     ensures { result ≡ work_of machine }
 {

@@ -53,8 +53,12 @@ impl Zone {
 /// How a plate passes through a zone: who gives it, who receives it, and from which place to which.
 #[derive(Clone, Copy, Debug, PartialEq, Eq)]
 pub struct Transfer {
+    /// Who gives the plate.
     pub giver: Machine,
+    /// Who receives it.
     pub receiver: Machine,
+    /// The place that it leaves.
     pub from: Place,
+    /// The place that it comes to.
     pub to: Place,
 }

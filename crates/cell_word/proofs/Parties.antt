@@ -1,13 +1,12 @@
 -- What holds of the party on a side of a zone.
-use Rattle.std.proofs.Common.{◌≡◌, true, false, None, Some, refl, ap, ◌∙◌}
+use Rattle.std.proofs.Common.{◌≡◌, refl, ap, ◌∙◌}
 use Rattle.cell_types.specs.declared.machine.Machine.{Machine}
 use Rattle.cell_types.specs.declared.zone.Zone.{Zone}
 use Rattle.cell_types.specs.declared.zone.Zone.TheVariants.{Z1, Z2, Z3, Z4, Z5, Z6}
-use Rattle.cell_types.specs.Tables.{host_of, guest_of, transfer_of}
-use Rattle.cell_types.specs.Same.{same_machine, one_machine}
-use Rattle.cell_rules.specs.Sound.{is_party}
+use Rattle.cell_types.specs.Tables.{guest_of, transfer_of}
+use Rattle.cell_types.specs.Same.{same_machine}
 use Rattle.cell_rules.specs.Reply.{other_party}
-use Rattle.cell_word.specs.Sides.{side_of, party_of, other_side, is_guest, giving}
+use Rattle.cell_word.specs.Sides.{party_of, other_side, is_guest, giving}
 use Rattle.cell_word.specs.Rows.{row_given}
 use Rattle.cell_word.specs.Changes.{row_received}
 use Rattle.cell_word.specs.declared.sides.Side.{Side}

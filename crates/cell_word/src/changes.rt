@@ -124,8 +124,8 @@ fn written(machine: Machine, call: Call) -> Pattern
     }
 }
 
-/// The bits of a word that a call of a machine clears, and those that it sets, where it is Done. None
-/// where it never is, as with an inquiry.
+/// The bits of a word that a call of a machine clears, and those that it sets, where it is Done, besides the
+/// stamp, to which one is added. Both are nought where it never is Done, as with an inquiry.
 pub fn masks(machine: Machine, call: Call) -> (u64, u64)
     ensures change { (state : ModelState) → IsSound state → reply state machine call ≡ Done
         → packed (next state machine call) ≡ with_written (packed state) result.0 result.1 + 2 ^ 40 }

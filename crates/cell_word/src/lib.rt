@@ -1,4 +1,4 @@
-//! A state of the interlock as one word of 64 bits, for a cell that is exchanged whole.
+//! A state of the interlock as one word of 64 bits, for an atomic that is exchanged whole.
 #![tactic(auto)]
 
 mod bits;

@@ -2,6 +2,7 @@
 ghost use Rattle.std.specs.Prelude.{◌≡◌, ℕ, ◌∷◌, [], is_none};
 ghost use Rattle.cell_types.specs.declared.answer.Refusal.TheVariants.{NoPose};
 ghost use Rattle.cell_types.specs.declared.call.Call.TheVariants as calls;
+ghost use Rattle.cell_types.specs.declared.machine.Machine.TheVariants as machines;
 ghost use Rattle.cell_types.specs.declared.posture.Posture.TheVariants.{OpenIn};
 ghost use Rattle.cell_rules.specs.Refusals as refusals;
 ghost use Rattle.cell_word.specs.Changes as changes;
@@ -219,6 +220,57 @@ pub(crate) fn set_pose(word: u64, machine: Machine, pose: Pose) -> Result<Patter
     }
 }
 
+/// Why the work of the feed belt is refused at a word, or what it writes there.
+#[inline(always)]
+fn advance_feed(word: u64) -> Result<Pattern, Refusal>
+    ensures { result ≡ rows.unless (rows.first_refusal word (rows.advance_row machines.Feed))
+        (changes.written machines.Feed calls.Advance) }
+{
+    let z6 = ZoneBits {
+        word,
+        zone: Zone::Z6,
+    };
+    only_in(z6, Posture::Moving, Refusal::NotAtWork)?;
+    moved(word, Place::FeedEntry, Place::FeedEnd)?;
+    Ok(worked(Machine::Feed))
+}
+
+/// Why the work of the deposit belt is refused at a word, or what it writes there.
+#[inline(always)]
+fn advance_deposit(word: u64) -> Result<Pattern, Refusal>
+    ensures { result ≡ rows.unless (rows.first_refusal word (rows.advance_row machines.Deposit))
+        (changes.written machines.Deposit calls.Advance) }
+{
+    let z4 = ZoneBits {
+        word,
+        zone: Zone::Z4,
+    };
+    let z5 = ZoneBits {
+        word,
+        zone: Zone::Z5,
+    };
+    only_in(z4, Posture::Moving, Refusal::NotAtWork)?;
+    only_in(z5, Posture::Moving, Refusal::NotAtWork)?;
+    moved(word, Place::DepEntry, Place::DepEnd)?;
+    Ok(worked(Machine::Deposit))
+}
+
+/// Why the work of the press is refused at a word, or what it writes there.
+#[inline(always)]
+fn advance_press(word: u64) -> Result<Pattern, Refusal>
+    ensures { result ≡ rows.unless (rows.first_refusal word (rows.advance_row machines.Press))
+        (changes.written machines.Press calls.Advance) }
+{
+    let z3 = ZoneBits {
+        word,
+        zone: Zone::Z3,
+    };
+    held(z3, Side::Host)?;
+    only_in(z3, Posture::Closed, Refusal::NotAtWork)?;
+    moved(word, Place::PressIn, Place::PressOut)?;
+    Ok(worked(Machine::Press))
+}
+
 /// Why the work of a machine is refused at a word, or what it writes there.
 #[inline(always)]
 pub(crate) fn advance(word: u64, machine: Machine) -> Result<Pattern, Refusal>
@@ -226,48 +278,9 @@ pub(crate) fn advance(word: u64, machine: Machine) -> Result<Pattern, Refusal>
         (changes.written machine calls.Advance) }
 {
     match machine {
-        Machine::Feed => {
-            only_in(
-                ZoneBits {
-                    word,
-                    zone: Zone::Z6,
-                },
-                Posture::Moving,
-                Refusal::NotAtWork,
-            )?;
-            moved(word, Place::FeedEntry, Place::FeedEnd)?;
-            Ok(worked(Machine::Feed))
-        }
-        Machine::Deposit => {
-            only_in(
-                ZoneBits {
-                    word,
-                    zone: Zone::Z4,
-                },
-                Posture::Moving,
-                Refusal::NotAtWork,
-            )?;
-            only_in(
-                ZoneBits {
-                    word,
-                    zone: Zone::Z5,
-                },
-                Posture::Moving,
-                Refusal::NotAtWork,
-            )?;
-            moved(word, Place::DepEntry, Place::DepEnd)?;
-            Ok(worked(Machine::Deposit))
-        }
-        Machine::Press => {
-            let z3 = ZoneBits {
-                word,
-                zone: Zone::Z3,
-            };
-            held(z3, Side::Host)?;
-            only_in(z3, Posture::Closed, Refusal::NotAtWork)?;
-            moved(word, Place::PressIn, Place::PressOut)?;
-            Ok(worked(Machine::Press))
-        }
+        Machine::Feed => advance_feed(word),
+        Machine::Deposit => advance_deposit(word),
+        Machine::Press => advance_press(word),
         Machine::Table | Machine::Robot | Machine::Crane | Machine::Watch => Err(Refusal::NoPose),
     }
 }

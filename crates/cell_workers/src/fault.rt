@@ -12,7 +12,8 @@ use thiserror::Error;
 pub enum RunFault {
     /// A call may lose from 1 to 64 exchanges, and no other number. No worker has begun.
     Tries,
-    /// The room for the interlock was refused. No worker has begun.
+    /// The room for the interlock was refused, before any worker had begun; or that of an audit, after all
+    /// of them had come to their ends.
     Memory,
     /// A thread couldn't be started. The workers that had begun have come to their ends.
     Spawn,

@@ -1,4 +1,4 @@
-use Rattle.std.proofs.Common.{◌≡◌, sym, ap, arith}
+use Rattle.std.proofs.Common.{sym, ap, arith}
 use Rattle.std.specs.Prelude.{bit_or}
 use Rattle.cell_word.proofs.Writing.{cleared}
 use Rattle.cell_word.proofs.patterns.Pattern.written_into.Goals as goal

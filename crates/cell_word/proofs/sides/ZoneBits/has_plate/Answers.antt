@@ -1,4 +1,4 @@
-use Rattle.std.proofs.Common.{◌≡◌, ◌∙◌, nat_eq, bit_and, ap}
+use Rattle.std.proofs.Common.{◌∙◌, nat_eq, bit_and, ap}
 use Rattle.cell_word.specs.Layout as layout
 use Rattle.cell_word.proofs.Windows.{moved_down}
 use Rattle.cell_word.proofs.sides.ZoneBits.has_plate.Goals as goal

@@ -1,4 +1,4 @@
-use Rattle.std.proofs.Common.{◌≡◌, ◌+◌, ◌/◌, ◌^◌, ◌∙◌, nat_eq, bit_and, ap, ap₂}
+use Rattle.std.proofs.Common.{◌+◌, ◌/◌, ◌^◌, ◌∙◌, nat_eq, bit_and, ap, ap₂}
 use Rattle.std.proofs.lemmas.Nat.{shr-shr}
 use Rattle.cell_word.specs.Layout as layout
 use Rattle.cell_word.proofs.Windows.{lowest_field}

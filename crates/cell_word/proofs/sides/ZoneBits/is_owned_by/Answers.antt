@@ -1,4 +1,4 @@
-use Rattle.std.proofs.Common.{◌≡◌, ◌∙◌, nat_eq, bit_and, ap₂, Some}
+use Rattle.std.proofs.Common.{◌∙◌, nat_eq, bit_and, ap₂, Some}
 use Rattle.cell_word.specs.Layout as layout
 use Rattle.cell_word.specs.Sides as sides
 use Rattle.cell_word.proofs.Windows.{lowest_field}
