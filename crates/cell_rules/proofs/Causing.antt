@@ -1,4 +1,4 @@
--- Each call is refused by the first of its conditions, and these tell its causes.
+-- Each call is refused by the first of its conditions, and these give its causes.
 use Rattle.std.proofs.Common.{◌≡◌, ◌≤◌, ℕ, Bool, true, false, ◌&&◌, not, nat_lt, Option, Some, None, option_map, is_none, List, [], ◌∷◌, refl, ap, ◌∙◌}
 use Rattle.std.specs.Option.{option_eq}
 use Rattle.cell_types.specs.declared.machine.Machine.{Machine}
@@ -26,7 +26,7 @@ use Rattle.cell_rules.proofs.Tables.{and_left, and_right, all_machines, from_mac
 use Rattle.cell_rules.proofs.Chains.{chain, numbers, Tells, TellEach, First, is_among, told_by, first_by}
 use Rattle.cell_rules.proofs.Tellings.{plain, names_owner, names_zone, names_holder, names_posture, names_moving, worn_at}
 
--- a call's refusal tells its causes, and comes in its order
+-- a call's refusal gives its cause, and comes in its order
 pub record TellsRight (causes : Refusal → Bool) (order : List ℕ) (o : Option Refusal) : Type 0 where
   pub cause : (r : Refusal) → o ≡ Some r → causes r ≡ true
   pub first : (r : Refusal) → causes r ≡ true → First order o r

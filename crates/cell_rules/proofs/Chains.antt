@@ -1,4 +1,4 @@
--- The first of a call's conditions that applies, and the causes that the conditions tell.
+-- The first of a call's conditions that applies, and the causes that the conditions give.
 use Rattle.std.proofs.Common.{◌≡◌, ℕ, Bool, true, false, cond, ◌||◌, nat_eq, Option, Some, None, is_some, List, [], ◌∷◌, refl, sym, ap, ◌∙◌, subst}
 use Rattle.std.specs.List.{list_any}
 use Rattle.std.proofs.lemmas.Bool.{eqb-true, eq-eqb}

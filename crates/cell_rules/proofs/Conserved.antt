@@ -1,4 +1,4 @@
--- The number of plates never changes, and the events tell where they are.
+-- The number of plates never changes, and the events determine where they are.
 use Rattle.std.proofs.Common.{◌≡◌, ℕ, ◌+◌, pos, ◌-ℤ◌, Bool, true, false, List, refl, sym, ap, ◌∙◌, arith}
 use Rattle.std.proofs.lemmas.Int.{ints}
 use Rattle.cell_types.specs.declared.machine.Machine.{Machine}

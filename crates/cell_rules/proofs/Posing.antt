@@ -1,4 +1,4 @@
--- A pose and an advance are refused by the first of their conditions, and these tell their causes.
+-- A pose and an advance are refused by the first of their conditions, and these give their causes.
 use Rattle.std.proofs.Common.{◌≡◌, ◌≤◌, ℕ, Bool, true, false, cond, ◌&&◌, ◌||◌, not, nat_lt, Option, Some, None, option_map, List, [], ◌∷◌, filter, is_none, refl, sym, ap, ◌∙◌, subst}
 use Rattle.std.specs.Bool.{then_some}
 use Rattle.std.specs.Option.{option_eq}

@@ -18,7 +18,7 @@ pub record Desk : Type 0 where
   pub machine : Machine
   pub busy : Bool
 
--- a caller that finds the bench busy is told so, and nothing changes; else the call is answered by the state, changes it, and its event ends the history; want of memory changes nothing
+-- a caller that finds the bench busy gets Busy, and nothing changes; else the state answers the call and changes by it, and its event ends the history; out of memory changes nothing
 abbrev pub BenchAsks : Desk → Call → Result Reply LineFault → Desk → Type 0
 BenchAsks b c (Ok (Busy lost stamp)) d = (b.busy ≡ true) × (lost ≡ 1) × (stamp ≡ b.state.stamp) × (d ≡ b)
 BenchAsks b c (Ok (Settled a stamp)) d =

@@ -1,4 +1,4 @@
--- The programs of controllers: what is asked where one stands, and where that leads.
+-- The programs of controllers: what each step asks, and where that leads.
 use Rattle.std.specs.Prelude.{◌≡◌, ℕ, zero, suc, List, [], ◌∷◌, Option, Some, None, Result}
 use Rattle.cell_types.specs.declared.machine.Machine.{Machine}
 use Rattle.cell_types.specs.declared.call.Call.{Call}
@@ -16,7 +16,7 @@ pub record Program (S : Type 0) : Type 1 where
   pub leads : S → Answer → S → Type 0
   pub moves : S → S → Type 0
 
--- so many turns that ask nothing lead from one step to another
+-- n turns that ask nothing lead from one step to another
 abbrev pub MovesIn : {S : Type 0} → Program S → ℕ → S → S → Type 0
 MovesIn {S = S} p zero s t = s ≡ t
 MovesIn {S = S} p (suc n) s t = (u : S) × p.moves s u × MovesIn p n u t

@@ -18,17 +18,17 @@ abbrev pub from_on : ℕ → List ℕ → List ℕ
 from_on n [] = []
 from_on n (k ∷ ks) = cond (nat_eq k n) (k ∷ ks) (from_on n ks)
 
--- in an order one number is another, or stands before it
+-- in an order one number is another, or comes before it
 abbrev pub is_no_later : List ℕ → ℕ → ℕ → Bool
 is_no_later order n k = list_any (λ x. nat_eq x k) (from_on n order)
 
--- the answer is a refusal, this one or one that stands before it in the call's order
+-- the answer is a refusal, this one or one that comes before it in the call's order
 pub record IsRefusedBy (s : ModelState) (m : Machine) (c : Call) (r : Refusal) : Type 0 where
   pub answered : Refusal
   pub answer : reply s m c ≡ Refused answered
   pub order : IsTrue (is_no_later (order_of c) (number_of answered) (number_of r))
 
--- each refusal tells its cause; and where a cause is there, the call is refused for it or for one that stands before it
+-- each refusal names its cause; and if a cause is there, the call is refused for it or for one that comes before it
 pub record RefusalsTell : Type 0 where
   pub cause : (s : ModelState) (m : Machine) (c : Call) (r : Refusal) → IsSound s → reply s m c ≡ Refused r → IsTrue (is_cause s m c r)
   pub first : (s : ModelState) (m : Machine) (c : Call) (r : Refusal) → IsSound s → IsTrue (is_cause s m c r) → IsRefusedBy s m c r

@@ -36,7 +36,7 @@ abbrev pub done_unless : Option Refusal → Answer
 done_unless None = Done
 done_unless (Some r) = Refused r
 
--- the answer to a call: to an inquiry what stands there, else Done unless it is refused
+-- the answer to a call: to an inquiry the state of the zone, else Done unless it is refused
 abbrev pub reply : ModelState → Machine → Call → Answer
 reply s m (Inquire z) = Shown (zone_at s z).owner (zone_at s z).flag (zone_at s z).posture
 reply s m c = done_unless (refusal s m c)

@@ -17,13 +17,13 @@ moves Travelling = true
 moves Running = true
 moves _ = false
 
--- the poses that move are turning, travelling and running: just those that give some zone Moving
+-- the poses that move are turning, travelling and running: exactly those that give some zone Moving
 pub record PosesThatMove : Type 0 where
   pub named : (p : Pose) → is_moving_pose p ≡ moves p
   pub some_zone : (p : Pose) → IsTrue (is_moving_pose p) → (m : Machine) × (z : Zone) × (posture_of m p z ≡ Some Moving)
   pub no_other : (m : Machine) (p : Pose) (z : Zone) → posture_of m p z ≡ Some Moving → IsTrue (is_moving_pose p)
 
--- a set has just those of the ten places whose digits are set
+-- a set has exactly those of the ten places whose digits are set
 pub record HasDigits (full : PlaceSet) (a b c d e f g h i j : Bool) : Type 0 where
   pub feed_entry : has full FeedEntry ≡ a
   pub feed_end : has full FeedEnd ≡ b

@@ -1,4 +1,4 @@
--- The map from the six zones to what stands at each. It is read by look-up and changed by update alone.
+-- The map from the six zones to the state of each. It is read by look-up and changed by update alone.
 use Rattle.std.specs.Prelude.{false, None, List, [], ◌∷◌}
 use Rattle.cell_types.specs.declared.zone.Zone.{Zone}
 use Rattle.cell_types.specs.declared.zone.Zone.TheVariants.{Z1, Z2, Z3, Z4, Z5, Z6}

@@ -133,14 +133,14 @@ pub fn refusals_tell_along(opening: &State, history: &[Event])
     let _ = &opening.stamp;
 }
 
-/// On every sound state each refusal tells its cause, with whatever it names: what its line of the table of
-/// refusals says holds of the state. And where a cause is there, the call isn't Done: it is refused
-/// for this cause or for one that stands before it in the call's order.
+/// On every sound state each refusal gives its cause, with whatever it names: its meaning in the table of
+/// refusals holds of the state. And if a cause is there, the call isn't Done: it is refused
+/// for this cause or for one that comes before it in the call's order.
 pub fn refusals_tell_causes()
     ensures { RefusalsTell }
 {}
 
-/// The poses that move are turning, travelling and running: just those that give some zone Moving.
+/// The poses that move are turning, travelling and running: exactly those that give some zone Moving.
 pub fn poses_that_move()
     ensures { PosesThatMove }
 {}

@@ -76,7 +76,7 @@ impl State {
         }
     }
 
-    /// What stands at each zone.
+    /// The state of each zone.
     pub fn zones(&self) -> Zones
         ensures { result ≡ self.now.zones }
     {
@@ -90,7 +90,7 @@ impl State {
         self.full
     }
 
-    /// What stands at a zone.
+    /// The state of a zone.
     pub fn zone(&self, zone: Zone) -> ZoneState
         ensures { result ≡ zone_at self.now zone }
     {

@@ -5,14 +5,14 @@ ghost use Rattle.cell_rules.specs.ZoneMap.{zone_in, put_zone, everywhere, free_z
 use cell_types::{Machine, Posture, Zone};
 use std::marker::Model;
 
-/// What stands at a zone.
+/// The state of a zone.
 #[derive(Clone, Copy, Debug, PartialEq, Eq)]
 pub struct ZoneState {
     /// Who holds the zone.
     pub owner: Option<Machine>,
     /// Whether a plate is on its way through the zone.
     pub flag: bool,
-    /// How its host stands to it.
+    /// Its posture.
     pub posture: Posture,
 }
 
@@ -32,7 +32,7 @@ impl ZoneState {
     }
 }
 
-/// What stands at each zone: a map from the zones.
+/// The state of each zone: a map from the zones.
 #[derive(Clone, Copy, Debug, PartialEq, Eq)]
 pub struct Zones {
     pub(crate) z1: ZoneState,
@@ -73,7 +73,7 @@ impl Zones {
         }
     }
 
-    /// What stands at a zone.
+    /// The state of a zone.
     pub fn get(&self, zone: Zone) -> ZoneState
         ensures { result ≡ zone_in self.now zone }
     {

@@ -1,4 +1,4 @@
--- How a call is written: the fields of a record behind the machine's word.
+-- How a call is written: the fields of a record after the machine's word.
 use Rattle.std.specs.Prelude.{ℕ, List, [], ◌∷◌, codes, Option, Some, None}
 use Rattle.cell_types.specs.declared.call.Call.{Call}
 use Rattle.cell_types.specs.declared.call.Call.TheVariants.{Claim, Give, Yield, Take, Release, SetPose, Advance, Inquire}
@@ -25,7 +25,7 @@ object_of (SetPose p) = Some (pose_word p)
 object_of Advance = None
 object_of (Inquire z) = Some (zone_word z)
 
--- a verb, and the field behind it where there is one
+-- a verb, and the field after it if there is one
 abbrev pub with_object : List ℕ → Option (List ℕ) → List (List ℕ)
 with_object verb None = verb ∷ []
 with_object verb (Some object) = verb ∷ object ∷ []

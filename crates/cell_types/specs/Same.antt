@@ -1,4 +1,4 @@
--- Whether two names are the same, as the program's `==` tells.
+-- Whether two names are the same, as the program's `==` decides it.
 use Rattle.std.specs.Prelude.{◌≡◌, Bool, true}
 use Rattle.cell_types.specs.declared.machine.Machine.{Machine}
 use Rattle.cell_types.specs.declared.zone.Zone.{Zone}

@@ -32,7 +32,7 @@ keeper_of DepEntry = Deposit
 keeper_of DepEnd = Deposit
 keeper_of Crane = CraneMachine
 
--- nobody gives in two rows of one zone, and nobody receives in two: a zone and its giver tell the place that is emptied, a zone and its receiver the one that is filled
+-- nobody gives in two rows of one zone, and nobody receives in two: a zone and its giver determine the place that is emptied, a zone and its receiver the one that is filled
 pub record OneRowEach : Type 0 where
   pub giver : (z : Zone) (q r : Posture) → IfSome (transfer_of z q) (λ a. IfSome (transfer_of z r) (λ b. a.giver ≡ b.giver → q ≡ r))
   pub receiver : (z : Zone) (q r : Posture) → IfSome (transfer_of z q) (λ a. IfSome (transfer_of z r) (λ b. a.receiver ≡ b.receiver → q ≡ r))

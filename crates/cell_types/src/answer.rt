@@ -194,13 +194,13 @@ fn plate_word(zone: Zone) -> &'static str
 pub enum Answer {
     /// The call was made, and the stamp is one higher.
     Done,
-    /// What stands at the zone of an inquiry.
+    /// The state of the zone, as an inquiry answers it.
     Shown {
         /// Who holds the zone.
         owner: Option<Machine>,
         /// Whether a plate is on its way through the zone.
         flag: bool,
-        /// How its host stands to it.
+        /// Its posture.
         posture: Posture,
     },
     /// The call was refused, and nothing has changed.

@@ -42,7 +42,7 @@ impl Call {
         }
     }
 
-    /// The call that a verb and the field behind it write; `None` where they write none.
+    /// The call that a verb and the field after it spell; `None` if they spell none.
     pub fn read(verb: &[u8], object: Option<&[u8]>) -> Option<Call>
         ensures { (call : Call) → (result ≡ Some call) ↔ (with_object verb.now (option_map (λ s. s.now) object.entry) ≡ call_fields call) }
     {

@@ -20,13 +20,13 @@ pub enum Pose {
     Top,
     /// A belt runs.
     Running,
-    /// A belt stands, open for a plate at its entry.
+    /// A belt is at rest, open for a plate at its entry.
     Landing,
-    /// A belt stands.
+    /// A belt is at rest, with its zones closed.
     Halted,
-    /// The deposit belt stands and offers the plate at its end.
+    /// The deposit belt is at rest and offers the plate at its end.
     Offering,
-    /// The deposit belt stands, open at both ends.
+    /// The deposit belt is at rest, open at both ends.
     Standing,
 }
 

@@ -59,7 +59,7 @@ pub fn transfer(zone: Zone, posture: Posture) -> Option<Transfer>
     })
 }
 
-/// The posture that a pose of a machine gives a zone; `None` where it says nothing of that zone.
+/// The posture that a pose of a machine gives a zone; `None` if it gives that zone none.
 pub fn posture_in(machine: Machine, pose: Pose, zone: Zone) -> Option<Posture>
     ensures { result ≡ posture_of machine pose zone }
 {

@@ -191,7 +191,7 @@ room_seen s sound z p tests =
     ∙ one_answer (first_refusal (bit_or (zone_word z v) (place_word p full)) row) (room_here z v full)
     (from_bools (room_test z p v) (from_states (λ v. all_bools (room_test z p v)) (and_right (all_within window row) (all_states (λ v. all_bools (room_test z p v))) tests) v) full)
 
--- what stands behind the places inside a zone
+-- what comes after the places inside a zone
 abbrev blocked_at : ModelState → Zone → Option Refusal
 blocked_at s z = then_some (not (same_posture (Refusals.posture_at s z) OpenIn) && Refusals.is_blocked s z) PlaceFull
 

@@ -1,4 +1,4 @@
--- A word is a sound state's just where the masks say so.
+-- A word is a sound state's exactly where the masks say so.
 use Rattle.std.proofs.Common.{◌≡◌, ℕ, zero, suc, ◌+◌, ◌*◌, ◌/◌, ◌%◌, ◌^◌, ◌<◌, ◌≤◌, Bool, true, false, ◌&&◌, not, nat_eq, Option, Some, None, refl, sym, ap, ap₂, ◌∙◌, arith, eqb-true, eq-eqb}
 use Rattle.std.specs.Prelude.{bit_and, bit_or}
 use Rattle.std.specs.List.{list_all}
@@ -31,7 +31,7 @@ use Rattle.cell_word.proofs.Seen.{zone_code, zone_window, place_window, place_wo
 use Rattle.cell_word.proofs.ZoneRows.{and_zero}
 use Rattle.cell_word.proofs.Writing.{is_word_of}
 
--- ---- the state that a word tells, zone by zone and place by place
+-- ---- the state that a word encodes, zone by zone and place by place
 abbrev zone_of_code : Zone → ℕ → ZoneState
 zone_of_code z c = record { owner = owner_of_code z (c % 4); flag = nat_eq (c / 4 % 2) 1; posture = posture_of_code (c / 8 % 4) }
 

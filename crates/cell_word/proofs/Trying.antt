@@ -40,7 +40,7 @@ pub by_parts : {A : Type 0} (w : ℕ) (parts : List (List Guard)) (p : A) → un
 by_parts w [] p = refl
 by_parts w (part ∷ parts) p = in_parts w part (joined parts) p ∙ ap (then (checked w part)) (by_parts w parts p)
 
--- what was told of a row
+-- what is known of a row
 pub was_refused : {A : Type 0} (o : Option Refusal) (p : A) (r : Refusal) → unless o p ≡ Err r → o ≡ Some r
 was_refused None p r e = cc
 was_refused (Some x) p r e = cc

@@ -1,4 +1,4 @@
--- A word into which a pattern is written: its fields, and the state that it tells.
+-- A word into which a pattern is written: its fields, and the state that it encodes.
 use Rattle.std.proofs.Common.{◌≡◌, ℕ, ◌+◌, ◌-◌, ◌*◌, ◌/◌, ◌%◌, ◌^◌, ◌<◌, List, [], ◌∷◌, ◌++◌, map, get_or, sym, ap, ap₂, ◌∙◌, subst, arith, mod-eq_of_lt}
 use Rattle.std.specs.Prelude.{bit_and, bit_or}
 use Rattle.std.specs.List.{All, flat_map}
@@ -38,7 +38,7 @@ upper_part start end x (f ∷ fs) side reads below =
     ∙ ap (λ n. f.value * 2 ^ start + n) rest
     ∙ sym (word-cons start f fs side.0)
 
--- the five bits of a zone tell its three fields
+-- the five bits of a zone determine its three fields
 codes_of : (a o f q : ℕ) → o < 4 → f < 2 → q < 4 → a % 32 ≡ o + 4 * f + 8 * q → (a % 4 ≡ o) × (a / 4 % 2 ≡ f) × (a / 8 % 4 ≡ q)
 codes_of a o f q ho hf hq e = (omega arith, omega arith, omega arith)
 

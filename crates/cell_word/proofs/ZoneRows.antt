@@ -43,7 +43,7 @@ pub or_assoc : (a b c : Option Refusal) → option_or a (option_or b c) ≡ opti
 or_assoc None b c = refl
 or_assoc (Some r) b c = refl
 
--- what stands behind is asked where nothing before it refuses
+-- what comes after is asked where nothing before it refuses
 pub or_next : (a x b y : Option Refusal) → a ≡ x → (x ≡ None → b ≡ y) → option_or a b ≡ option_or x y
 or_next a None b y e f = ap (λ o. option_or o b) e ∙ f refl
 or_next a (Some r) b y e f = ap (λ o. option_or o b) e

@@ -1,4 +1,4 @@
--- The bits that a call writes where it is Done.
+-- The bits that a Done call writes.
 use Rattle.std.specs.Prelude.{true, false, Option, Some, None, if◌then◌else◌}
 use Rattle.std.specs.Option.{option_or}
 use Rattle.cell_types.specs.declared.machine.Machine.{Machine}
@@ -52,7 +52,7 @@ halted Feed = posture_is Z6 Closed
 halted Deposit = both (posture_is Z4 Closed) (posture_is Z5 Closed)
 halted _ = anything
 
--- what a machine's call writes; no bits where it can never be Done
+-- what a machine's call writes; no bits if it can never be Done
 abbrev pub written : Machine → Call → Pattern
 written m (Claim z) = owner_becomes m z (Some m)
 written m (Give z) = given_away m z (row_given m z)

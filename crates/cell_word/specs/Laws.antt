@@ -8,12 +8,12 @@ use Rattle.cell_word.specs.Reading.{bits_of}
 abbrev pub Fits : Field → Type 0
 Fits f = f.value < 2 ^ f.width
 
--- from one bit to below another each bit belongs to one field, and the fields stand in order
+-- from one bit to below another each bit belongs to one field, and the fields come in order
 abbrev pub SideBySide : ℕ → ℕ → List Field → Type 0
 SideBySide start end [] = start ≡ end
 SideBySide start end (f ∷ fs) = (f.lowest ≡ start) × SideBySide (start + f.width) end fs
 
--- the bits of a field tell its value
+-- the bits of a field determine its value
 abbrev pub ReadsBack : ℕ → Field → Type 0
 ReadsBack w f = bits_of w f.lowest f.width ≡ f.value
 

@@ -15,7 +15,7 @@ use Rattle.cell_types.specs.Everything.{all_zones, all_places}
 use Rattle.cell_rules.specs.declared.zones.ZoneState.{ZoneState}
 use Rattle.cell_rules.specs.ModelState.{ModelState, zone_at, is_full, one_if}
 
--- a field: its lowest bit, how many bits it has, and the number that stands there
+-- a field: its lowest bit, how many bits it has, and the number that they hold
 pub record Field : Type 0 where
   pub lowest : ℕ
   pub width : ℕ

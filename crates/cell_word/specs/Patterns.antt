@@ -11,7 +11,7 @@ use Rattle.cell_word.specs.declared.patterns.Pattern.{Pattern}
 abbrev pub pattern : ℕ → ℕ → Pattern
 pattern mask wanted = record { mask = mask; wanted = wanted }
 
--- a pattern stands in a word where the bits under its mask are the wanted ones
+-- a word matches a pattern if the bits under its mask are the wanted ones
 abbrev pub stands : ℕ → Pattern → Bool
 stands w p = nat_eq (bit_and w p.mask) p.wanted
 

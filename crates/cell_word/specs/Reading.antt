@@ -1,4 +1,4 @@
--- The state that the bits of a word tell, sound or not.
+-- The state that the bits of a word encode, sound or not.
 use Rattle.std.specs.Prelude.{ℕ, ◌+◌, ◌/◌, ◌%◌, ◌^◌, Bool, nat_eq, Option, Some, None, if◌then◌else◌}
 use Rattle.cell_types.specs.declared.machine.Machine.{Machine}
 use Rattle.cell_types.specs.declared.zone.Zone.{Zone}

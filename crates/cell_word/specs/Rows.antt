@@ -32,7 +32,7 @@ use Rattle.cell_word.specs.declared.patterns.Guard.{Guard}
 abbrev pub guard : Pattern → Refusal → Guard
 guard pattern refusal = record { pattern = pattern; refusal = refusal }
 
--- the refusal of the first guard whose pattern stands in a word
+-- the refusal of the first guard whose pattern a word matches
 abbrev pub first_refusal : ℕ → List Guard → Option Refusal
 first_refusal w row = option_map (λ g. g.refusal) (find (λ g. stands w g.pattern) row)
 
@@ -48,7 +48,7 @@ abbrev pub went_on : {A : Type 0} → Result A Refusal → Result (Unit {0}) Ref
 went_on (Ok a) = Ok tt
 went_on (Err r) = Err r
 
--- ---- guards that stand in several rows
+-- ---- guards of several rows
 
 abbrev pub stranger : Machine → Zone → Guard
 stranger m z = guard (when (not (is_party m z)) anything) NotParty
@@ -90,7 +90,7 @@ row_given m z = option_or (given_by m (transfer_of z OpenIn)) (given_by m (trans
 abbrev pub wrong_way : Machine → Zone → Posture → Guard
 wrong_way m z q = guard (when (is_none (given_by m (transfer_of z q))) (posture_is z q)) WrongWay
 
--- nothing is where its way begins, or something where it ends
+-- the place where its way begins is empty, or the one where it ends is full
 abbrev pub starts_empty : Option Transfer → Pattern
 starts_empty None = nothing
 starts_empty (Some row) = place_is row.from false
@@ -291,7 +291,7 @@ row_of m (SetPose p) = pose_row m p
 row_of m Advance = advance_row m
 row_of m (Inquire z) = []
 
--- the numbers of the refusals of a row, and whether they stand as in an order
+-- the numbers of the refusals of a row, and whether they come as in an order
 abbrev pub numbers_of : List Guard → List ℕ
 numbers_of row = map (λ g. number_of g.refusal) row
 

@@ -1,4 +1,4 @@
--- The words of sound states, told by masks.
+-- The words of sound states, recognised by masks.
 use Rattle.std.specs.Prelude.{ℕ, Bool, true, ◌&&◌, not, Option, Some, None, is_some, bit_or, if◌then◌else◌}
 use Rattle.std.specs.List.{list_all}
 use Rattle.cell_types.specs.declared.zone.Zone.{Zone}
@@ -14,8 +14,8 @@ use Rattle.cell_word.specs.Reading.{bits_of, is_bit_set}
 use Rattle.cell_word.specs.Patterns.{stands, nothing, both, flag_is, posture_is, place_is, field_is}
 use Rattle.cell_word.specs.declared.patterns.Pattern.{Pattern}
 
--- The numbers that the five bits of a zone may make, each as a bit that is set: 0 and 1 where it is closed, and 9 where it moves;
--- 16, 17, 18 where it is open inward, and 21 with a plate; 24, 25, 26 where it is open outward, and 30 with a plate.
+-- The numbers that the five bits of a zone may make, each as a bit that is set: 0 and 1 if it is closed, and 9 if it moves;
+-- 16, 17, 18 if it is open inward, and 21 with a plate; 24, 25, 26 if it is open outward, and 30 with a plate.
 abbrev pub shut_codes : ℕ
 shut_codes = 0x203
 

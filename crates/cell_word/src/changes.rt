@@ -1,4 +1,4 @@
-//! The bits that a call writes where it is Done.
+//! The bits that a Done call writes.
 ghost use Rattle.std.specs.Prelude.{◌≡◌, ◌≢◌, ◌+◌, ◌<◌, ◌^◌, Some};
 ghost use Rattle.cell_types.specs.declared.answer.Answer.TheVariants.{Done};
 ghost use Rattle.cell_rules.specs.ModelState.{ModelState};
@@ -124,8 +124,8 @@ fn written(machine: Machine, call: Call) -> Pattern
     }
 }
 
-/// The bits of a word that a call of a machine clears, and those that it sets, where it is Done, besides the
-/// stamp, to which one is added. Both are nought where it never is Done, as with an inquiry.
+/// The bits of a word that a machine's Done call clears, and those that it sets; besides, one is added to
+/// the stamp. Both are zero for a call that is never Done, as an inquiry.
 pub fn masks(machine: Machine, call: Call) -> (u64, u64)
     ensures change { (state : ModelState) → IsSound state → reply state machine call ≡ Done
         → packed (next state machine call) ≡ with_written (packed state) result.0 result.1 + 2 ^ 40 }

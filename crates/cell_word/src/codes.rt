@@ -1,4 +1,4 @@
-//! The number of an owner, of a posture, and the bits where each thing stands.
+//! The number of an owner, of a posture, and the bits of each field.
 
 ghost use Rattle.std.specs.Prelude.{◌≡◌, ◌<◌, ◌≤◌};
 ghost use Rattle.cell_word.specs.Layout as layout;

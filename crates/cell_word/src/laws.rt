@@ -23,7 +23,7 @@ pub fn words_are_distinct()
 {}
 
 /// The guards of a call are its refusals: the first guard of the row that refuses a sound state's word
-/// has the refusal with which the interlock answers, and the guards of a row stand in the order of the
+/// has the refusal with which the interlock answers, and the guards of a row come in the order of the
 /// call's refusals.
 pub fn guards_are_refusals()
     ensures first { (state : ModelState) → IsSound state → (machine : Machine) (call : Call)

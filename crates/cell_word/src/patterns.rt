@@ -123,7 +123,7 @@ impl Pattern {
     }
 }
 
-/// What refuses a call: a pattern, and the refusal of the words in which it stands.
+/// What refuses a call: a pattern, and the refusal of the words that match it.
 #[derive(Clone, Copy)]
 pub(crate) struct Guard {
     pub pattern: Pattern,
@@ -131,7 +131,7 @@ pub(crate) struct Guard {
 }
 
 impl Guard {
-    /// Refuses a word in which the pattern stands.
+    /// Refuses a word that matches the pattern.
     #[inline(always)]
     pub fn pass(self, word: u64) -> Result<(), Refusal>
         ensures { result ≡ rows.checked word (self ∷ []) }

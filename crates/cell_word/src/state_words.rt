@@ -1,4 +1,4 @@
-//! Whether a word is that of a sound state, told by masks.
+//! Whether a word is that of a sound state, decided by masks.
 ghost use Rattle.std.specs.Prelude.{◌≡◌, ◌↔◌, IsTrue};
 ghost use Rattle.cell_rules.specs.ModelState.{ModelState};
 ghost use Rattle.cell_rules.specs.Sound.{IsSound};
@@ -13,14 +13,14 @@ use crate::codes::zone_bit;
 use crate::patterns::Pattern;
 use cell_types::{Place, Posture, Zone, transfer};
 
-/// The numbers that the five bits of a zone may make, each as a bit that is set: where it is shut,
-/// that is 0 and 1 while it is closed and 9 while it moves;
+/// The numbers that the five bits of a shut zone may make, each as a bit that is set: 0 and 1 while it
+/// is closed, and 9 while it moves.
 const SHUT_CODES: u64 = 0x203;
 
-/// where it is open inward, that is 16, 17 and 18, and 21 with a plate;
+/// Those of a zone that is open inward: 16, 17 and 18, and 21 with a plate.
 const INWARD_CODES: u64 = 0x27_0000;
 
-/// and where it is open outward, that is 24, 25 and 26, and 30 with a plate.
+/// Those of a zone that is open outward: 24, 25 and 26, and 30 with a plate.
 const OUTWARD_CODES: u64 = 0x4700_0000;
 
 fn zone_codes(zone: Zone) -> u64

@@ -11,7 +11,7 @@ use crate::state_words::is_state_word;
 use crate::word::zone_told;
 use cell_types::{Answer, Call, Machine, Zone};
 
-/// What stands at a zone.
+/// The state of a zone.
 fn shown(word: u64, zone: Zone) -> Answer
     ensures { (state : ModelState) → IsSound state → packed state ≡ word
         → result ≡ Shown (zone_at state zone).owner (zone_at state zone).flag (zone_at state zone).posture }

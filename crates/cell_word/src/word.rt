@@ -88,7 +88,7 @@ pub fn stamp_of(word: u64) -> u32
     bits(word, STAMP_BIT, 20) as u32
 }
 
-/// The state that the bits of a word tell, if it is sound.
+/// The state that the bits of a word encode, if it is sound.
 fn sound_state_told(word: u64) -> Option<State>
     ensures some { IsSome result ↔ IsSound (state_told word) }
     ensures value { IfSome result (λ state. state ≡ state_told word) }
@@ -97,7 +97,7 @@ fn sound_state_told(word: u64) -> Option<State>
 }
 
 /// The state of a word: the sound state that packs to it, or `None` where none does, as where a
-/// bit above the stamp is set, an owner has the spare code 3, or the state told is not sound.
+/// bit above the stamp is set, an owner has the spare code 3, or the encoded state is not sound.
 pub fn unpack(word: u64) -> Option<State>
     ensures some { (state : ModelState)
         → (result ≡ Some state) ↔ (IsSound state × (packed state ≡ word)) }
