@@ -10,9 +10,9 @@ import uuid
 import crates
 from crates import PROGRAM, ROOT
 
-# The folder of the tools, in which rattle's libraries, its logic and what links programs stand beside it.
+# The folder of the tools, which also has rattle's libraries, its logic and what links programs.
 KIT = os.path.dirname(os.path.dirname(os.path.realpath(shutil.which("rattle") or ".")))
-# Where in out/ a crate's library stands, with the stamp of what it was made from.
+# Where in out/ a crate's library is, with the stamp of what it was made from.
 BUILT = "built"
 # The jobs that a crate gets, and the most memory that it takes with them, in bytes.
 JOBS = 3

@@ -1,4 +1,4 @@
-"""What the scripts of this folder share: the crates of crates.txt, and proving them in the order that they stand on one another."""
+"""What the scripts of this folder share: the crates of crates.txt, and proving them in the order that they use one another."""
 
 import contextlib
 import fcntl
@@ -23,7 +23,7 @@ PROCESSORS = 2
 
 
 def rows(root):
-    """The crates of crates.txt by name, each with all libraries that it stands on."""
+    """The crates of crates.txt by name, each with all libraries that it uses."""
     found = {}
     with open(f"{root}/crates.txt", encoding="utf-8") as lines:
         for line in lines:
@@ -34,13 +34,13 @@ def rows(root):
 
 
 def listed(root):
-    """The crates of crates.txt by name, each with the crates of the repository that it stands on."""
+    """The crates of crates.txt by name, each with the crates of the repository that it uses."""
     found = rows(root)
     return {name: [it for it in libraries if it in found] for name, libraries in found.items()}
 
 
 def below(crates, name):
-    """All that a crate stands on, lowest first."""
+    """All crates that a crate uses, lowest first."""
     found = []
     for library in crates[name]:
         found += [it for it in [*below(crates, library), library] if it not in found]
@@ -267,7 +267,7 @@ def size(folder):
 
 
 def ahead(root, crates, order, name):
-    """How much is to be read, this crate included, on the longest way from it up to a crate that nothing of these stands on."""
+    """How much is to be read, this crate included, on the longest way from it up to a crate that none of these uses."""
     above = [ahead(root, crates, order, it) for it in order if name in crates[it]]
     return size(f"{root}/crates/{name}") + max(above, default=0)
 
@@ -292,7 +292,7 @@ class Progress:
         self.begun, self.weights, self.known = time.monotonic(), costs(), None
 
     def watch(self, plan, done, since):
-        """What `prove` calls: with the crates in the order that they begin in, each with those that it stands on, with the crates
+        """What `prove` calls: with the crates in the order that they begin in, each with those that it uses, with the crates
         that are proved, and with those under way, each with the time of its begin."""
         now, is_first = time.monotonic(), self.known is None
         if is_first:
