@@ -1,4 +1,4 @@
-"""What the scripts of this folder share: the crates of crates.txt, and proving them in the order that they stand on one another."""
+"""What the scripts of this folder share: the crates of crates.txt, and proving them in the order that they use one another."""
 
 import contextlib
 import fcntl
@@ -23,7 +23,7 @@ PROCESSORS = 2
 
 
 def rows(root):
-    """The crates of crates.txt by name, each with all libraries that it stands on."""
+    """The crates of crates.txt by name, each with all libraries that it uses."""
     found = {}
     with open(f"{root}/crates.txt", encoding="utf-8") as lines:
         for line in lines:
@@ -34,13 +34,13 @@ def rows(root):
 
 
 def listed(root):
-    """The crates of crates.txt by name, each with the crates of the repository that it stands on."""
+    """The crates of crates.txt by name, each with the crates of the repository that it uses."""
     found = rows(root)
     return {name: [it for it in libraries if it in found] for name, libraries in found.items()}
 
 
 def below(crates, name):
-    """All that a crate stands on, lowest first."""
+    """All crates that a crate uses, lowest first."""
     found = []
     for library in crates[name]:
         found += [it for it in [*below(crates, library), library] if it not in found]
@@ -123,20 +123,19 @@ class Running:
     def __init__(self):
         self.commands = {}
 
-    def start(self, key, words, folder, log, behind=0):
-        """Starts a command in this folder, so far behind others in getting processors. What it says goes into the log, and its
-        temporary files beside that."""
+    def start(self, key, words, folder, log, niceness=0):
+        """Starts a command in this folder, with this niceness. What it writes goes into the log, and its temporary files beside that."""
         scratch = f"{os.path.dirname(log)}/scratch"
         os.makedirs(scratch, exist_ok=True)
         with open(log, "wb") as to, whole():
             # (a command begins with no signal held back)
-            begin = lambda: (os.nice(behind), signal.pthread_sigmask(signal.SIG_UNBLOCK, STOPS))
+            begin = lambda: (os.nice(niceness), signal.pthread_sigmask(signal.SIG_UNBLOCK, STOPS))
             how = {"preexec_fn": begin, "start_new_session": True}
             how |= {"cwd": folder, "stdin": subprocess.DEVNULL, "stdout": to, "stderr": to, "env": {**os.environ, "TMPDIR": scratch}}
             self.commands[key] = subprocess.Popen(words, **how)
 
     def ended(self, seconds):
-        """The statuses of the commands that have ended, by their keys; none where none has ended within so many seconds."""
+        """The statuses of the commands that have ended, by their keys. Waits for the first at most these seconds."""
         until = time.monotonic() + seconds
         while True:
             found = {key: it.returncode for key, it in self.commands.items() if it.poll() is not None}
@@ -263,20 +262,79 @@ def sources(folder):
 
 
 def size(folder):
-    """The bytes of a crate's files, by which crates are told that take long."""
+    """The bytes of a crate's files: a measure of how long it takes."""
     return sum(map(os.path.getsize, sources(folder)))
 
 
 def ahead(root, crates, order, name):
-    """How much is to be read, this crate included, on the longest way from it up to a crate that nothing of these stands on."""
+    """How much is to be read, this crate included, on the longest way from it up to a crate that none of these uses."""
     above = [ahead(root, crates, order, it) for it in order if name in crates[it]]
     return size(f"{root}/crates/{name}") + max(above, default=0)
 
 
-def prove(root, names, folder, place_of=Place, limit=None, tell=lambda number, of, name: None):
+def costs():
+    """The processor seconds that the proof of each crate took when tools/cost last wrote them down."""
+    found = {}
+    with contextlib.suppress(OSError), open(f"{ROOT}/tools/costs.txt", encoding="utf-8") as lines:
+        for line in lines:
+            name, *seconds = line.partition("#")[0].split() or [""]
+            if seconds:
+                found[name] = int(seconds[0])
+    return found
+
+
+class Progress:
+    """Says how far `prove` is: at its begin, when a crate is proved, and after each minute of silence."""
+
+    def __init__(self, say, first=None):
+        """`first` is called at the begin, with all crates and those that are proved already."""
+        self.say, self.first = say, first
+        self.begun, self.weights, self.known = time.monotonic(), costs(), None
+
+    def watch(self, plan, done, since):
+        """What `prove` calls: with the crates in the order that they begin in, each with those that it uses, with the crates
+        that are proved, and with those under way, each with the time of its begin."""
+        now, is_first = time.monotonic(), self.known is None
+        if is_first:
+            self.known, self.since, self.spent, self.most = set(done), {}, {}, 1
+            if self.first:
+                self.first(plan, done)
+        self.since |= since
+        self.most = max(self.most, len(since))
+        for name in done - self.known:
+            self.spent[name] = now - self.since[name]
+        if done - self.known or since and (is_first or now - self.said > 60):
+            left = f", about {self.minutes(self.to_go(plan, done, since, now))} to go" if self.spent and since else ""
+            under_way = f"; under way: {', '.join(sorted(since))}" if since else ""
+            self.say(f"{len(done)} of {len(plan)} proved in {self.minutes(now - self.begun)}{left}{under_way}")
+            self.known, self.said = set(done), now
+
+    @staticmethod
+    def minutes(seconds):
+        return f"{seconds:.0f} s" if seconds < 90 else f"{seconds / 60:.0f} min"
+
+    def weight(self, name):
+        return self.weights.get(name, 60)
+
+    def to_go(self, plan, done, since, now):
+        """The seconds that are left, if each crate takes as long, by its weight, as those did that have ended."""
+        pace = sum(self.spent.values()) / sum(map(self.weight, self.spent))
+        at, ended = 0, {*done}
+        running = {name: max(pace * self.weight(name) - (now - begun), 1) for name, begun in since.items()}
+        while len(ended) < len(plan):
+            ready = [it for it in plan if it not in ended and it not in running and ended >= {*plan[it]}]
+            for name in ready[: max(self.most - len(running), 0)]:
+                running[name] = at + pace * self.weight(name)
+            first = min(running, key=running.get)
+            at = running.pop(first)
+            ended.add(first)
+        return at
+
+
+def prove(root, names, folder, place_of=Place, limit=None, watch=lambda plan, done, since: None):
     """Proves these crates and all below them, each in a place of its own, and answers None, or the crate that failed and the file of
     what was said of it. Where cores and memory allow, or at most by the limit, crates are worked at side by side. Those with the
-    longest way above them come first, and get processors before others."""
+    longest way above them come first, and get processors before others. Each second `watch` is called, as Progress.watch has it."""
     crates, order = listed(root), []
     for name in names:
         order += [it for it in [*below(crates, name), name] if it not in order]
@@ -284,6 +342,7 @@ def prove(root, names, folder, place_of=Place, limit=None, tell=lambda number, o
     for name in order:
         if done >= {*crates[name]} and place_of(root, crates, name, f"{folder}/{name}").is_done():
             done.add(name)
+    plan = {it: crates[it] for it in urgent}
     left = [it for it in urgent if it not in done]
     places, begun, running = {}, {}, Running()
     with contextlib.ExitStack() as ends:
@@ -303,14 +362,14 @@ def prove(root, names, folder, place_of=Place, limit=None, tell=lambda number, o
                     continue
                 left.remove(name)
                 running.start(name, places[name].words(side_by_side), places[name].crate, f"{folder}/{name}/log", urgent.index(name) // 2)
-                begun[name] = len(order) - len(left), time.monotonic()
+                begun[name] = time.monotonic()
+            watch(plan, done, begun)
             for name, status in running.ended(1).items():
                 places.pop(name).leave(status == 0)
-                begun.pop(name, None)
                 if status:
                     return name, f"{folder}/{name}/log"
+                del begun[name]
                 shutil.rmtree(f"{folder}/{name}")
                 done.add(name)
-            for name in [it for it, (_, since) in begun.items() if time.monotonic() - since > 2]:
-                tell(begun.pop(name)[0], len(order), name)
+        watch(plan, done, begun)
     return None

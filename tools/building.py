@@ -1,0 +1,96 @@
+"""Building crates by rattle alone, which keeps of a library its statements and nothing for a later check."""
+
+import contextlib
+import fcntl
+import hashlib
+import os
+import shutil
+import uuid
+
+import crates
+from crates import PROGRAM, ROOT
+
+# The folder of the tools, which also has rattle's libraries, its logic and what links programs.
+KIT = os.path.dirname(os.path.dirname(os.path.realpath(shutil.which("rattle") or ".")))
+# Where in out/ a crate's library is, with the stamp of what it was made from.
+BUILT = "built"
+# The jobs that a crate gets, and the most memory that it takes with them, in bytes.
+JOBS = 3
+MEMORY = 4_000_000_000
+
+
+def at_once():
+    """How many crates are worked at side by side: one less than there are processors, since each has several jobs."""
+    return max(1, min(crates.processors() - 1, crates.memory() // MEMORY))
+
+
+def text_of(path):
+    with contextlib.suppress(FileNotFoundError), open(path, "rb") as it:
+        return it.read()
+    return b""
+
+
+@contextlib.contextmanager
+def alone(say):
+    """Keeps other builds of this repository waiting, and hands out the folder of what is built of the program."""
+    out = f"{ROOT}/crates/{PROGRAM}/out"
+    os.makedirs(out, exist_ok=True)
+    with open(f"{out}/build.lock", "w", encoding="ascii") as held:
+        try:
+            fcntl.flock(held, fcntl.LOCK_EX | fcntl.LOCK_NB)
+        except BlockingIOError:
+            say("waiting for another build")
+            fcntl.flock(held, fcntl.LOCK_EX)
+        yield out
+
+
+class Building:
+    """A crate that rattle proves from nothing and builds over the libraries below it. Of a library it keeps the statements and not their
+    proofs, which no crate above has to read, and nothing for a later check: that takes less time than a check that keeps its work."""
+
+    def __init__(self, root, listed, name, folder):
+        self.name, self.folder, self.crate = name, folder, f"{root}/crates/{name}"
+        self.below, self.home = crates.below(listed, name), f"{root}/crates/{name}/out/{BUILT}"
+        self.made = f"{folder}/{BUILT}/{name}" + (".o" if name == PROGRAM else ".rlib")
+        self.libraries = crates.rows(root)[name]
+        self.kept = [f"{root}/crates/{it}/out/{BUILT}" for it in self.below]
+        self.rlibs = [f"{root}/crates/{it}/out/{BUILT}/{it}.rlib" if it in self.below else f"{KIT}/rlibs/{it}.rlib" for it in self.libraries]
+
+    def sum(self):
+        """A sum of all that the crate is made from."""
+        found = hashlib.sha256(repr((self.name, self.libraries)).encode() + text_of(f"{KIT}/WHAT"))
+        for path in [*crates.sources(self.crate), *(f"{it}/stamp" for it in self.kept)]:
+            found.update(repr((os.path.relpath(path, self.crate), text_of(path))).encode())
+        return found.hexdigest()
+
+    def is_done(self):
+        return text_of(f"{self.home}/stamp").startswith(self.sum().encode())
+
+    def enter(self):
+        os.makedirs(os.path.dirname(self.made))
+        self.begun = self.sum()
+        return True
+
+    def reading(self):
+        """The words by which rattle reads the crate over the libraries below it."""
+        words = ["--crate-name", self.name, "src/main.rt" if self.name == PROGRAM else "src/lib.rt"]
+        for it in [f"{KIT}/rlibs/std.rlib", *self.rlibs]:
+            words += ["--extern", f"{os.path.basename(it).removesuffix('.rlib')}={it}"]
+        for it in [f"{KIT}/rlibs", *self.kept]:
+            words += ["-L", f"dependency={it}"]
+        words += ["--antt-project", f"{KIT}/rattle/logic/antt-project.json", "--logic-built", f"{KIT}/logic_built"]
+        return [*words, "--links", f"{self.name}=", "--jobs", str(min(crates.processors(), JOBS))]
+
+    def words(self, _side_by_side):
+        how = ["--toolchain", f"{KIT}/toolchain"] if self.name == PROGRAM else ["--statements"]
+        return ["rattle", "build", *self.reading(), *how, "-o", self.made]
+
+    def leave(self, proved=False):
+        if proved:
+            with open(f"{self.folder}/{BUILT}/stamp", "w", encoding="ascii") as to:
+                # what is built over this fits this build of it alone
+                to.write(f"{self.begun} {uuid.uuid4()}\n")
+            with crates.whole():
+                shutil.rmtree(self.home, ignore_errors=True)
+                os.makedirs(os.path.dirname(self.home), exist_ok=True)
+                shutil.move(f"{self.folder}/{BUILT}", self.home)
