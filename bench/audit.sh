@@ -1,5 +1,5 @@
 #!/usr/bin/env bash
-# Times the audit of 125,000 to 1,000,000 entries: a line for each, so that the growth shows.
+# Times the audit of 125,000 to 1,000,000 entries: a line for each, so that one sees how the time grows.
 # The program of bench/audit is run in a copy of the repository, of which it is no part.
 set -euo pipefail
 top=$(cd "$(dirname "$0")/.." && pwd)

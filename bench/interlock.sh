@@ -1,7 +1,7 @@
 #!/usr/bin/env bash
 # Times calls of the interlock beside three plain Rust programs: its rules on the bits of the word, with a load, a
 # match and a compare-exchange; the same under a Mutex; and a bare load and compare-exchange without rules. Each is
-# run so many times in turn, so that other work on the machine slows all, and the middle one of its figures counts. A figure to look
+# run N times in turn, so that other work on the machine slows all, and its median counts. The figures are to look
 # at, not a test. The program of bench/interlock is proved and built in a copy of the repository, of which it is no part.
 set -euo pipefail
 top=$(cd "$(dirname "$0")/.." && pwd)

@@ -1,4 +1,4 @@
-//! The sequential interlock, written by hand in plain Rust and proved by nobody: the programs of this folder stand on it.
+//! The sequential interlock, written by hand in plain Rust and proved by nobody: the programs of this folder use it.
 
 #[derive(Clone, Copy, PartialEq, Eq, PartialOrd, Ord)]
 pub enum Machine {
