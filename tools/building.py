@@ -1,4 +1,4 @@
-"""Building crates by rattle alone, which keeps of a library its statements and nothing for a later check."""
+"""Builds crates with rattle alone. Of a library only the statements are kept, and nothing for a later check."""
 
 import contextlib
 import fcntl
@@ -39,7 +39,7 @@ def alone(say):
         try:
             fcntl.flock(held, fcntl.LOCK_EX | fcntl.LOCK_NB)
         except BlockingIOError:
-            say("waiting for another build")
+            say("waiting until another ./cell or tools/over in this folder has finished building")
             fcntl.flock(held, fcntl.LOCK_EX)
         yield out
 

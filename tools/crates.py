@@ -304,9 +304,9 @@ class Progress:
         for name in done - self.known:
             self.spent[name] = now - self.since[name]
         if done - self.known or since and (is_first or now - self.said > 60):
-            left = f", about {self.minutes(self.to_go(plan, done, since, now))} to go" if self.spent and since else ""
-            under_way = f"; under way: {', '.join(sorted(since))}" if since else ""
-            self.say(f"{len(done)} of {len(plan)} proved in {self.minutes(now - self.begun)}{left}{under_way}")
+            left = f", about {self.minutes(self.to_go(plan, done, since, now))} left" if self.spent and since else ""
+            under_way = f"; now proving {', '.join(sorted(since))}" if since else ""
+            self.say(f"{len(done)} of {len(plan)} crates are proved after {self.minutes(now - self.begun)}{left}{under_way}")
             self.known, self.said = set(done), now
 
     @staticmethod
@@ -357,7 +357,7 @@ def prove(root, names, folder, place_of=Place, limit=None, watch=lambda plan, do
                 if not places[name].enter():
                     del places[name]
                     if not waits:
-                        print(f"{PROGRAM}: waiting for another rt, which is at work in {name} or in a crate below it", file=sys.stderr, flush=True)
+                        print(f"{PROGRAM}: waiting: another rt works on {name}, or on a crate that {name} uses", file=sys.stderr, flush=True)
                     waits = True
                     continue
                 left.remove(name)
