@@ -5,8 +5,8 @@ use Rattle.cell_types.specs.declared.zone.Zone.{Zone}
 use Rattle.cell_types.specs.declared.call.Call.{Call}
 use Rattle.cell_types.specs.declared.call.Call.TheVariants.{Claim, Give, Yield, Take, Release, SetPose, Advance, Inquire}
 use Rattle.cell_types.specs.CallWords.{call_fields, verb_of}
-use Rattle.cell_types.specs.Words.{zone_word}
-use Rattle.cell_types.proofs.WordLemmas.{has_word, holds_of_found, named, same_zone}
+use Rattle.cell_types.specs.Words.{named, zone_word}
+use Rattle.cell_types.proofs.WordLemmas.{has_word, holds_of_found, same_zone}
 
 -- the calls that name this zone
 abbrev pub zone_calls : Zone → List Call

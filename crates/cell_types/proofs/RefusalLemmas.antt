@@ -7,7 +7,8 @@ use Rattle.cell_types.specs.declared.answer.Refusal.{Refusal}
 use Rattle.cell_types.specs.declared.answer.Refusal.TheVariants.{NotParty, Held, AlreadyMine, Shut, NotOwner, PlateInZone, NoPlate, PlaceFull, WrongWay, Jump, NotAtWork, NoPose, Worn, InUse}
 use Rattle.cell_types.specs.Answers.{refusal_word}
 use Rattle.cell_types.specs.Everything.{all_machines, all_postures, all_zones}
-use Rattle.cell_types.proofs.WordLemmas.{named, read_by}
+use Rattle.cell_types.specs.Words.{named}
+use Rattle.cell_types.proofs.WordLemmas.{read_by}
 
 abbrev pub refusals : List Refusal
 refusals =

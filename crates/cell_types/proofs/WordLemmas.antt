@@ -1,5 +1,5 @@
 -- A word is that of no other value: who looks for it among all values finds the one that has it.
-use Rattle.std.proofs.Common.{ℕ, ◌≡◌, Bool, true, false, cond, List, [], ◌∷◌, Option, Some, refl, sym, ◌∙◌, ap, ◌↔◌}
+use Rattle.std.proofs.Common.{ℕ, ◌≡◌, Bool, true, false, cond, List, [], ◌∷◌, Some, refl, sym, ◌∙◌, ap, ◌↔◌}
 use Rattle.std.specs.List.{find}
 use Rattle.std.specs.Str.{bytes_eq}
 use Rattle.std.proofs.lemmas.Option.{same_Some}
@@ -14,12 +14,8 @@ use Rattle.cell_types.specs.declared.posture.Posture.{Posture}
 use Rattle.cell_types.specs.declared.posture.Posture.TheVariants.{Closed, Moving, OpenIn, OpenOut}
 use Rattle.cell_types.specs.declared.pose.Pose.{Pose}
 use Rattle.cell_types.specs.declared.pose.Pose.TheVariants.{Turning, Loading, Unloading, Travelling, Middle, Low, Top, Running, Landing, Halted, Offering, Standing}
-use Rattle.cell_types.specs.Words.{machine_word, zone_word, place_word, posture_word, pose_word}
+use Rattle.cell_types.specs.Words.{named, machine_word, zone_word, place_word, posture_word, pose_word}
 use Rattle.cell_types.specs.Everything.{all_machines, all_zones, all_places, all_postures, all_poses}
-
--- the first of some values that has this word
-abbrev pub named : {X : Type 0} → (X → List ℕ) → List X → List ℕ → Option X
-named word_of all word = find (λ x. bytes_eq (word_of x) word) all
 
 passes : {X : Type 0} (p : X → Bool) (xs : List X) (x : X) → find p xs ≡ Some x → p x ≡ true
 passes p [] x e = cc

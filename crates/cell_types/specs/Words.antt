@@ -1,5 +1,7 @@
 -- The words of scripts and reports.
-use Rattle.std.specs.Prelude.{ℕ, List, codes}
+use Rattle.std.specs.Prelude.{ℕ, List, Option, codes}
+use Rattle.std.specs.List.{find}
+use Rattle.std.specs.Str.{bytes_eq}
 use Rattle.cell_types.specs.declared.machine.Machine.{Machine}
 use Rattle.cell_types.specs.declared.machine.Machine.TheVariants.{Feed, Table as TableMachine, Robot, Press, Deposit, Crane as CraneMachine, Watch}
 use Rattle.cell_types.specs.declared.zone.Zone.{Zone}
@@ -59,3 +61,7 @@ pose_word Landing = codes "landing"
 pose_word Halted = codes "halted"
 pose_word Offering = codes "offering"
 pose_word Standing = codes "standing"
+
+-- the first of some values that has this word
+abbrev pub named : {X : Type 0} → (X → List ℕ) → List X → List ℕ → Option X
+named word_of all word = find (λ x. bytes_eq (word_of x) word) all

@@ -5,6 +5,7 @@ ghost use Rattle.cell_types.specs.Answers.{answer_text, owner_word, refusal_word
 use crate::call::Call;
 use crate::machine::Machine;
 use crate::posture::Posture;
+use crate::words::{Worded, named};
 use crate::zone::Zone;
 use std::fmt;
 
@@ -129,10 +130,17 @@ impl Refusal {
     pub fn read(word: &[u8]) -> Option<Refusal>
         ensures { (refusal : Refusal) → (result ≡ Some refusal) ↔ (word.now ≡ refusal_word refusal) }
     {
-        Refusal::ALL
-            .iter()
-            .copied()
-            .find(|refusal| refusal.word().as_bytes() == word)
+        named(&Refusal::ALL, word)
+    }
+}
+
+impl Worded for Refusal {
+    ghost use Rattle.cell_types.specs.Answers.{refusal_word};
+
+    ghost word_of = { λ refusal. refusal_word refusal };
+
+    fn own_word(self) -> &'static str {
+        self.word()
     }
 }
 

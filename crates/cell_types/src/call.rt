@@ -2,6 +2,7 @@ ghost use Rattle.std.specs.Prelude.{◌≡◌, ◌↔◌, ◌∷◌, [], Some, o
 ghost use Rattle.cell_types.specs.CallWords.{call_fields, verb_of, with_object};
 
 use crate::pose::Pose;
+use crate::words::{Worded, named};
 use crate::zone::Zone;
 
 /// What a machine asks of the interlock.
@@ -69,8 +70,15 @@ fn read_with(verb: &[u8], object: &[u8]) -> Option<Call>
         Call::Release(zone),
         Call::Inquire(zone),
     ];
-    calls
-        .iter()
-        .copied()
-        .find(|call| call.verb().as_bytes() == verb)
+    named(&calls, verb)
+}
+
+impl Worded for Call {
+    ghost use Rattle.cell_types.specs.CallWords.{verb_of};
+
+    ghost word_of = { λ call. verb_of call };
+
+    fn own_word(self) -> &'static str {
+        self.verb()
+    }
 }

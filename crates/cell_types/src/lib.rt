@@ -12,6 +12,7 @@ pub mod pose;
 pub mod posture;
 pub mod reply;
 pub mod tables;
+mod words;
 pub mod zone;
 
 pub use answer::{Answer, Event, Refusal};

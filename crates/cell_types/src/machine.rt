@@ -1,6 +1,8 @@
 ghost use Rattle.std.specs.Prelude.{◌≡◌, ◌↔◌};
 ghost use Rattle.cell_types.specs.Words.{machine_word};
 
+use crate::words::{Worded, named};
+
 /// A machine of the production cell (LNCS 891). The watch is an observer: it only inquires.
 #[derive(Clone, Copy, Debug, PartialEq, Eq, PartialOrd, Ord)]
 pub enum Machine {
@@ -51,9 +53,16 @@ impl Machine {
     pub fn read(word: &[u8]) -> Option<Machine>
         ensures { (machine : Machine) → (result ≡ Some machine) ↔ (word.now ≡ machine_word machine) }
     {
-        Machine::ALL
-            .iter()
-            .copied()
-            .find(|machine| machine.word().as_bytes() == word)
+        named(&Machine::ALL, word)
+    }
+}
+
+impl Worded for Machine {
+    ghost use Rattle.cell_types.specs.Words.{machine_word};
+
+    ghost word_of = { λ machine. machine_word machine };
+
+    fn own_word(self) -> &'static str {
+        self.word()
     }
 }

@@ -1,6 +1,8 @@
 ghost use Rattle.std.specs.Prelude.{◌≡◌, ◌↔◌};
 ghost use Rattle.cell_types.specs.Words.{place_word};
 
+use crate::words::{Worded, named};
+
 /// A place for one plate.
 #[derive(Clone, Copy, Debug, PartialEq, Eq, PartialOrd, Ord)]
 pub enum Place {
@@ -63,9 +65,16 @@ impl Place {
     pub fn read(word: &[u8]) -> Option<Place>
         ensures { (place : Place) → (result ≡ Some place) ↔ (word.now ≡ place_word place) }
     {
-        Place::ALL
-            .iter()
-            .copied()
-            .find(|place| place.word().as_bytes() == word)
+        named(&Place::ALL, word)
+    }
+}
+
+impl Worded for Place {
+    ghost use Rattle.cell_types.specs.Words.{place_word};
+
+    ghost word_of = { λ place. place_word place };
+
+    fn own_word(self) -> &'static str {
+        self.word()
     }
 }

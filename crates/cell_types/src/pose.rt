@@ -1,6 +1,8 @@
 ghost use Rattle.std.specs.Prelude.{◌≡◌, ◌↔◌};
 ghost use Rattle.cell_types.specs.Words.{pose_word};
 
+use crate::words::{Worded, named};
+
 /// A pose of a machine, which gives the zones that it hosts their postures.
 #[derive(Clone, Copy, Debug, PartialEq, Eq)]
 pub enum Pose {
@@ -71,9 +73,16 @@ impl Pose {
     pub fn read(word: &[u8]) -> Option<Pose>
         ensures { (pose : Pose) → (result ≡ Some pose) ↔ (word.now ≡ pose_word pose) }
     {
-        Pose::ALL
-            .iter()
-            .copied()
-            .find(|pose| pose.word().as_bytes() == word)
+        named(&Pose::ALL, word)
+    }
+}
+
+impl Worded for Pose {
+    ghost use Rattle.cell_types.specs.Words.{pose_word};
+
+    ghost word_of = { λ pose. pose_word pose };
+
+    fn own_word(self) -> &'static str {
+        self.word()
     }
 }

@@ -1,6 +1,8 @@
 ghost use Rattle.std.specs.Prelude.{◌≡◌, ◌↔◌};
 ghost use Rattle.cell_types.specs.Words.{posture_word};
 
+use crate::words::{Worded, named};
+
 /// What the host of a zone has made of it.
 #[derive(Clone, Copy, Debug, PartialEq, Eq)]
 pub enum Posture {
@@ -39,9 +41,16 @@ impl Posture {
     pub fn read(word: &[u8]) -> Option<Posture>
         ensures { (posture : Posture) → (result ≡ Some posture) ↔ (word.now ≡ posture_word posture) }
     {
-        Posture::ALL
-            .iter()
-            .copied()
-            .find(|posture| posture.word().as_bytes() == word)
+        named(&Posture::ALL, word)
+    }
+}
+
+impl Worded for Posture {
+    ghost use Rattle.cell_types.specs.Words.{posture_word};
+
+    ghost word_of = { λ posture. posture_word posture };
+
+    fn own_word(self) -> &'static str {
+        self.word()
     }
 }

@@ -3,6 +3,7 @@ ghost use Rattle.cell_types.specs.Words.{zone_word};
 
 use crate::machine::Machine;
 use crate::place::Place;
+use crate::words::{Worded, named};
 
 /// A space that two machines share: at any time one of them at most may be in it.
 #[derive(Clone, Copy, Debug, PartialEq, Eq, PartialOrd, Ord)]
@@ -43,10 +44,17 @@ impl Zone {
     pub fn read(word: &[u8]) -> Option<Zone>
         ensures { (zone : Zone) → (result ≡ Some zone) ↔ (word.now ≡ zone_word zone) }
     {
-        Zone::ALL
-            .iter()
-            .copied()
-            .find(|zone| zone.word().as_bytes() == word)
+        named(&Zone::ALL, word)
+    }
+}
+
+impl Worded for Zone {
+    ghost use Rattle.cell_types.specs.Words.{zone_word};
+
+    ghost word_of = { λ zone. zone_word zone };
+
+    fn own_word(self) -> &'static str {
+        self.word()
     }
 }
 
