@@ -9,6 +9,17 @@ use cell_types::{
     Machine, Place, Pose, Posture, Refusal, Transfer, Zone, guest, host, posture_in, transfer,
 };
 
+// The first refusal of these. Each is looked for only where there is none before it.
+macro_rules! first {
+    ($last:expr) => { $last };
+    ($refusal:expr, $($more:expr),+) => {
+        match $refusal {
+            None => first!($($more),+),
+            refused => refused,
+        }
+    };
+}
+
 /// Whether a machine is the host or the guest of a zone.
 pub fn is_party(machine: Machine, zone: Zone) -> bool
     ensures { result ≡ is_party_of machine zone }
@@ -133,10 +144,12 @@ impl State {
     fn way_refusal(&self, row: Option<Transfer>) -> Option<Refusal>
         ensures { result ≡ refusals.way_refusal self.now row }
     {
-        wrong_way(row)
-            .or_else(|| self.nothing_to_give(row))
-            .or_else(|| self.no_room(row))
-            .or_else(|| self.worn())
+        first!(
+            wrong_way(row),
+            self.nothing_to_give(row),
+            self.no_room(row),
+            self.worn()
+        )
     }
 
     fn no_plate_in_zone(&self, zone: Zone) -> Option<Refusal>
@@ -148,53 +161,60 @@ impl State {
     pub(crate) fn claim_refusal(&self, machine: Machine, zone: Zone) -> Option<Refusal>
         ensures { result ≡ refusals.claim_refusal self.now machine zone }
     {
-        not_party(machine, zone)
-            .or_else(|| self.already_mine(machine, zone))
-            .or_else(|| self.held(machine, zone))
-            .or_else(|| self.shut_to_guest(machine, zone))
-            .or_else(|| self.worn())
+        first!(
+            not_party(machine, zone),
+            self.already_mine(machine, zone),
+            self.held(machine, zone),
+            self.shut_to_guest(machine, zone),
+            self.worn()
+        )
     }
 
     pub(crate) fn give_refusal(&self, machine: Machine, zone: Zone) -> Option<Refusal>
         ensures { result ≡ refusals.give_refusal self.now machine zone }
     {
-        let unfit = not_party(machine, zone)
-            .or_else(|| self.not_owner(machine, zone))
-            .or_else(|| self.plate_in_zone(zone));
-        if let Some(refusal) = unfit {
-            return Some(refusal);
-        }
-        self.way_refusal(self.gift(machine, zone))
+        first!(
+            not_party(machine, zone),
+            self.not_owner(machine, zone),
+            self.plate_in_zone(zone),
+            self.way_refusal(self.gift(machine, zone))
+        )
     }
 
     pub(crate) fn yield_refusal(&self, machine: Machine, zone: Zone) -> Option<Refusal>
         ensures { result ≡ refusals.yield_refusal self.now machine zone }
     {
-        not_party(machine, zone)
-            .or_else(|| self.not_owner(machine, zone))
-            .or_else(|| self.plate_in_zone(zone))
-            .or_else(|| self.shut(zone))
-            .or_else(|| self.in_use(machine, zone))
-            .or_else(|| self.worn())
+        first!(
+            not_party(machine, zone),
+            self.not_owner(machine, zone),
+            self.plate_in_zone(zone),
+            self.shut(zone),
+            self.in_use(machine, zone),
+            self.worn()
+        )
     }
 
     pub(crate) fn take_refusal(&self, machine: Machine, zone: Zone) -> Option<Refusal>
         ensures { result ≡ refusals.take_refusal self.now machine zone }
     {
-        not_party(machine, zone)
-            .or_else(|| self.not_owner(machine, zone))
-            .or_else(|| self.no_plate_in_zone(zone))
-            .or_else(|| self.worn())
+        first!(
+            not_party(machine, zone),
+            self.not_owner(machine, zone),
+            self.no_plate_in_zone(zone),
+            self.worn()
+        )
     }
 
     pub(crate) fn release_refusal(&self, machine: Machine, zone: Zone) -> Option<Refusal>
         ensures { result ≡ refusals.release_refusal self.now machine zone }
     {
-        not_party(machine, zone)
-            .or_else(|| self.not_owner(machine, zone))
-            .or_else(|| self.plate_in_zone(zone))
-            .or_else(|| self.shut_while_moving(zone))
-            .or_else(|| self.in_use(machine, zone))
-            .or_else(|| self.worn())
+        first!(
+            not_party(machine, zone),
+            self.not_owner(machine, zone),
+            self.plate_in_zone(zone),
+            self.shut_while_moving(zone),
+            self.in_use(machine, zone),
+            self.worn()
+        )
     }
 }
