@@ -1,5 +1,5 @@
 -- What holds of the party on a side of a zone.
-use Rattle.std.proofs.Common.{◌≡◌, refl, ap, ◌∙◌}
+use Rattle.std.proofs.Common.{◌≡◌, Option, refl, ap, ◌∙◌}
 use Rattle.cell_types.specs.declared.machine.Machine.{Machine}
 use Rattle.cell_types.specs.declared.zone.Zone.{Zone}
 use Rattle.cell_types.specs.declared.zone.Zone.TheVariants.{Z1, Z2, Z3, Z4, Z5, Z6}
@@ -7,8 +7,9 @@ use Rattle.cell_types.specs.Tables.{guest_of, transfer_of}
 use Rattle.cell_types.specs.Same.{same_machine}
 use Rattle.cell_rules.specs.Reply.{other_party}
 use Rattle.cell_word.specs.Sides.{party_of, other_side, is_guest, giving}
+use Rattle.cell_word.specs.Patterns.{owner_is}
 use Rattle.cell_word.specs.Rows.{row_given}
-use Rattle.cell_word.specs.Changes.{row_received}
+use Rattle.cell_word.specs.Changes.{row_received, owner_becomes}
 use Rattle.cell_word.specs.declared.sides.Side.{Side}
 use Rattle.cell_word.specs.declared.sides.Side.TheVariants.{Host, Guest}
 
@@ -74,3 +75,21 @@ guest_by_side Z6 Guest = refl
 
 pub guest_is : (m : Machine) (z : Zone) (s : Side) → m ≡ party_of z s → same_machine m (guest_of z) ≡ is_guest s
 guest_is m z s e = ap (λ m. same_machine m (guest_of z)) e ∙ guest_by_side z s
+
+by_party : (z : Zone) (s : Side) (o : Option Machine) → owner_becomes (party_of z s) z o ≡ owner_is z o
+by_party Z1 Host o = refl
+by_party Z1 Guest o = refl
+by_party Z2 Host o = refl
+by_party Z2 Guest o = refl
+by_party Z3 Host o = refl
+by_party Z3 Guest o = refl
+by_party Z4 Host o = refl
+by_party Z4 Guest o = refl
+by_party Z5 Host o = refl
+by_party Z5 Guest o = refl
+by_party Z6 Host o = refl
+by_party Z6 Guest o = refl
+
+-- what a party writes for the owner
+pub owner_by : (m : Machine) (z : Zone) (s : Side) (o : Option Machine) → m ≡ party_of z s → owner_becomes m z o ≡ owner_is z o
+owner_by m z s o e = ap (λ m. owner_becomes m z o) e ∙ by_party z s o
