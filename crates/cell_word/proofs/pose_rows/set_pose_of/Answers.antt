@@ -13,6 +13,17 @@ use Rattle.cell_word.specs.declared.patterns.Pattern.{Pattern}
 use Rattle.cell_word.specs.declared.patterns.Guard.{Guard}
 use Rattle.cell_word.proofs.Trying.{go, stop, part_by_part, by_parts}
 use Rattle.cell_word.proofs.pose_rows.set_pose_of.Goals as goal
+use Rattle.cell_word.proofs.pose_rows.set_pose_of.Goals.{After-posed_at-other, In_ok-clears-2}
+
+abbrev last_parts : Machine → Pose → Option (Zone × Posture) → Option (Zone × Posture) → List (List Guard)
+last_parts m p one other =
+    rows.on_posed (rows.jump_guards m p) one
+    ∷ rows.on_posed (rows.jump_guards m p) other
+    ∷ rows.on_posed rows.opening_guards one
+    ∷ rows.on_posed rows.opening_guards other
+    ∷ rows.run_guards m p
+    ∷ (rows.worn ∷ [])
+    ∷ []
 
 abbrev parts : Machine → Pose → Option (Zone × Posture) → Option (Zone × Posture) → List (List Guard)
 parts m p one other =
@@ -21,13 +32,7 @@ parts m p one other =
     ∷ rows.on_posed rows.owner_guards other
     ∷ rows.on_posed rows.plate_guards one
     ∷ rows.on_posed rows.plate_guards other
-    ∷ rows.on_posed (rows.jump_guards m p) one
-    ∷ rows.on_posed (rows.jump_guards m p) other
-    ∷ rows.on_posed rows.opening_guards one
-    ∷ rows.on_posed rows.opening_guards other
-    ∷ rows.run_guards m p
-    ∷ (rows.worn ∷ [])
-    ∷ []
+    ∷ last_parts m p one other
 
 regrouped : (a b c d e f g h i j : List Guard) → a ++ b ++ c ++ d ++ e ++ f ++ g ++ h ++ i ++ j ≡ a ++ (b ++ (c ++ (d ++ (e ++ (f ++ (g ++ (h ++ (i ++ j))))))))
 regrouped a b c d e f g h i j = simp append_assoc refl
@@ -43,76 +48,71 @@ row_is w m p one other written first second =
     (rows.run_guards m p) (rows.worn ∷ []))
     ∙ by_parts w (parts m p one other) written
 
+-- the row where the zones are known, and where nothing but the last parts can refuse
+row_at : (c : After-posed_at-other) → unless (first_refusal c.args.word (rows.pose_row c.args.machine c.args.pose)) (changes.written c.args.machine (SetPose c.args.pose))
+    ≡ part_by_part c.args.word (parts c.args.machine c.args.pose c.posed_at-one.result c.posed_at-other.result) (changes.written c.args.machine (SetPose c.args.pose))
+row_at c =
+    let first = c.posed_at-one.ensures ∙ ap (λ h. rows.posed_at c.args.machine c.args.pose h.0) c.hosted-one.ensures in
+    let second = c.posed_at-other.ensures ∙ ap (λ h. rows.posed_at c.args.machine c.args.pose h.1) c.hosted-one.ensures in
+    row_is c.args.word c.args.machine c.args.pose c.posed_at-one.result c.posed_at-other.result (changes.written c.args.machine (SetPose c.args.pose)) first second
+
+last_at : (c : In_ok-clears-2) → unless (first_refusal c.args.word (rows.pose_row c.args.machine c.args.pose)) (changes.written c.args.machine (SetPose c.args.pose))
+    ≡ part_by_part c.args.word (last_parts c.args.machine c.args.pose c.posed_at-one.result c.posed_at-other.result) (changes.written c.args.machine (SetPose c.args.pose))
+last_at c =
+    let first = c.posed_at-one.ensures ∙ ap (λ h. rows.posed_at c.args.machine c.args.pose h.0) c.hosted-one.ensures in
+    let second = c.posed_at-other.ensures ∙ ap (λ h. rows.posed_at c.args.machine c.args.pose h.1) c.hosted-one.ensures in
+    row_is c.args.word c.args.machine c.args.pose c.posed_at-one.result c.posed_at-other.result (changes.written c.args.machine (SetPose c.args.pose)) first second
+    ∙ go (sym (c.has_pose.ensures c.args.word) ∙ c.in_ok-has_pose.was)
+    ∙ go (sym c.hosts.ensures ∙ c.in_ok-hosts.was)
+    ∙ go (sym c.hosts-2.ensures ∙ c.in_ok-hosts-2.was)
+    ∙ go (sym c.clears.ensures ∙ c.in_ok-clears.was)
+    ∙ go (sym c.clears-2.ensures ∙ c.in_ok-clears-2.was)
+
 pub returns-in_err-has_pose : goal.returns-in_err-has_pose
 returns-in_err-has_pose c =
-    let w = c.args.word in
-    let m = c.args.machine in
-    let p = c.args.pose in
-    let first = c.posed_at-one.ensures ∙ ap (λ h. rows.posed_at m p h.0) c.hosted-one.ensures in
-    let second = c.posed_at-other.ensures ∙ ap (λ h. rows.posed_at m p h.1) c.hosted-one.ensures in
     let told : c.from_residual.result ≡ Err c.in_err-has_pose.field-0.0 = search rules in
     told
     ∙ sym
-    (row_is w m p c.posed_at-one.result c.posed_at-other.result (changes.written m (SetPose p)) first second
-    ∙ stop (sym (c.has_pose.ensures w) ∙ c.in_err-has_pose.was) _)
+    (row_at (goal.at.returns-in_err-has_pose c).After-posed_at-other
+    ∙ stop (sym (c.has_pose.ensures c.args.word) ∙ c.in_err-has_pose.was) _)
 
 pub returns-in_err-hosts : goal.returns-in_err-hosts
 returns-in_err-hosts c =
-    let w = c.args.word in
-    let m = c.args.machine in
-    let p = c.args.pose in
-    let first = c.posed_at-one.ensures ∙ ap (λ h. rows.posed_at m p h.0) c.hosted-one.ensures in
-    let second = c.posed_at-other.ensures ∙ ap (λ h. rows.posed_at m p h.1) c.hosted-one.ensures in
     let told : c.from_residual-in_err-hosts.result ≡ Err c.in_err-hosts.field-0.0 = search rules in
     told
     ∙ sym
-    (row_is w m p c.posed_at-one.result c.posed_at-other.result (changes.written m (SetPose p)) first second
-    ∙ go (sym (c.has_pose.ensures w) ∙ c.in_ok-has_pose.was)
+    (row_at (goal.at.returns-in_err-hosts c).After-posed_at-other
+    ∙ go (sym (c.has_pose.ensures c.args.word) ∙ c.in_ok-has_pose.was)
     ∙ stop (sym c.hosts.ensures ∙ c.in_err-hosts.was) _)
 
 pub returns-in_err-hosts-2 : goal.returns-in_err-hosts-2
 returns-in_err-hosts-2 c =
-    let w = c.args.word in
-    let m = c.args.machine in
-    let p = c.args.pose in
-    let first = c.posed_at-one.ensures ∙ ap (λ h. rows.posed_at m p h.0) c.hosted-one.ensures in
-    let second = c.posed_at-other.ensures ∙ ap (λ h. rows.posed_at m p h.1) c.hosted-one.ensures in
     let told : c.from_residual-in_err-hosts-2.result ≡ Err c.in_err-hosts-2.field-0.0 = search rules in
     told
     ∙ sym
-    (row_is w m p c.posed_at-one.result c.posed_at-other.result (changes.written m (SetPose p)) first second
-    ∙ go (sym (c.has_pose.ensures w) ∙ c.in_ok-has_pose.was)
+    (row_at (goal.at.returns-in_err-hosts-2 c).After-posed_at-other
+    ∙ go (sym (c.has_pose.ensures c.args.word) ∙ c.in_ok-has_pose.was)
     ∙ go (sym c.hosts.ensures ∙ c.in_ok-hosts.was)
     ∙ stop (sym c.hosts-2.ensures ∙ c.in_err-hosts-2.was) _)
 
 pub returns-in_err-clears : goal.returns-in_err-clears
 returns-in_err-clears c =
-    let w = c.args.word in
-    let m = c.args.machine in
-    let p = c.args.pose in
-    let first = c.posed_at-one.ensures ∙ ap (λ h. rows.posed_at m p h.0) c.hosted-one.ensures in
-    let second = c.posed_at-other.ensures ∙ ap (λ h. rows.posed_at m p h.1) c.hosted-one.ensures in
     let told : c.from_residual-in_err-clears.result ≡ Err c.in_err-clears.field-0.0 = search rules in
     told
     ∙ sym
-    (row_is w m p c.posed_at-one.result c.posed_at-other.result (changes.written m (SetPose p)) first second
-    ∙ go (sym (c.has_pose.ensures w) ∙ c.in_ok-has_pose.was)
+    (row_at (goal.at.returns-in_err-clears c).After-posed_at-other
+    ∙ go (sym (c.has_pose.ensures c.args.word) ∙ c.in_ok-has_pose.was)
     ∙ go (sym c.hosts.ensures ∙ c.in_ok-hosts.was)
     ∙ go (sym c.hosts-2.ensures ∙ c.in_ok-hosts-2.was)
     ∙ stop (sym c.clears.ensures ∙ c.in_err-clears.was) _)
 
 pub returns-in_err-clears-2 : goal.returns-in_err-clears-2
 returns-in_err-clears-2 c =
-    let w = c.args.word in
-    let m = c.args.machine in
-    let p = c.args.pose in
-    let first = c.posed_at-one.ensures ∙ ap (λ h. rows.posed_at m p h.0) c.hosted-one.ensures in
-    let second = c.posed_at-other.ensures ∙ ap (λ h. rows.posed_at m p h.1) c.hosted-one.ensures in
     let told : c.from_residual-in_err-clears-2.result ≡ Err c.in_err-clears-2.field-0.0 = search rules in
     told
     ∙ sym
-    (row_is w m p c.posed_at-one.result c.posed_at-other.result (changes.written m (SetPose p)) first second
-    ∙ go (sym (c.has_pose.ensures w) ∙ c.in_ok-has_pose.was)
+    (row_at (goal.at.returns-in_err-clears-2 c).After-posed_at-other
+    ∙ go (sym (c.has_pose.ensures c.args.word) ∙ c.in_ok-has_pose.was)
     ∙ go (sym c.hosts.ensures ∙ c.in_ok-hosts.was)
     ∙ go (sym c.hosts-2.ensures ∙ c.in_ok-hosts-2.was)
     ∙ go (sym c.clears.ensures ∙ c.in_ok-clears.was)
@@ -120,77 +120,37 @@ returns-in_err-clears-2 c =
 
 pub returns-in_err-moves : goal.returns-in_err-moves
 returns-in_err-moves c =
-    let w = c.args.word in
-    let m = c.args.machine in
-    let p = c.args.pose in
-    let first = c.posed_at-one.ensures ∙ ap (λ h. rows.posed_at m p h.0) c.hosted-one.ensures in
-    let second = c.posed_at-other.ensures ∙ ap (λ h. rows.posed_at m p h.1) c.hosted-one.ensures in
     let told : c.from_residual-in_err-moves.result ≡ Err c.in_err-moves.field-0.0 = search rules in
     told
     ∙ sym
-    (row_is w m p c.posed_at-one.result c.posed_at-other.result (changes.written m (SetPose p)) first second
-    ∙ go (sym (c.has_pose.ensures w) ∙ c.in_ok-has_pose.was)
-    ∙ go (sym c.hosts.ensures ∙ c.in_ok-hosts.was)
-    ∙ go (sym c.hosts-2.ensures ∙ c.in_ok-hosts-2.was)
-    ∙ go (sym c.clears.ensures ∙ c.in_ok-clears.was)
-    ∙ go (sym c.clears-2.ensures ∙ c.in_ok-clears-2.was)
+    (last_at (goal.at.returns-in_err-moves c).In_ok-clears-2
     ∙ stop (sym c.moves.ensures ∙ c.in_err-moves.was) _)
 
 pub returns-in_err-moves-2 : goal.returns-in_err-moves-2
 returns-in_err-moves-2 c =
-    let w = c.args.word in
-    let m = c.args.machine in
-    let p = c.args.pose in
-    let first = c.posed_at-one.ensures ∙ ap (λ h. rows.posed_at m p h.0) c.hosted-one.ensures in
-    let second = c.posed_at-other.ensures ∙ ap (λ h. rows.posed_at m p h.1) c.hosted-one.ensures in
     let told : c.from_residual-in_err-moves-2.result ≡ Err c.in_err-moves-2.field-0.0 = search rules in
     told
     ∙ sym
-    (row_is w m p c.posed_at-one.result c.posed_at-other.result (changes.written m (SetPose p)) first second
-    ∙ go (sym (c.has_pose.ensures w) ∙ c.in_ok-has_pose.was)
-    ∙ go (sym c.hosts.ensures ∙ c.in_ok-hosts.was)
-    ∙ go (sym c.hosts-2.ensures ∙ c.in_ok-hosts-2.was)
-    ∙ go (sym c.clears.ensures ∙ c.in_ok-clears.was)
-    ∙ go (sym c.clears-2.ensures ∙ c.in_ok-clears-2.was)
+    (last_at (goal.at.returns-in_err-moves-2 c).In_ok-clears-2
     ∙ go (sym c.moves.ensures ∙ c.in_ok-moves.was)
     ∙ stop (sym c.moves-2.ensures ∙ c.in_err-moves-2.was) _)
 
 pub returns-in_err-opens : goal.returns-in_err-opens
 returns-in_err-opens c =
-    let w = c.args.word in
-    let m = c.args.machine in
-    let p = c.args.pose in
-    let first = c.posed_at-one.ensures ∙ ap (λ h. rows.posed_at m p h.0) c.hosted-one.ensures in
-    let second = c.posed_at-other.ensures ∙ ap (λ h. rows.posed_at m p h.1) c.hosted-one.ensures in
     let told : c.from_residual-in_err-opens.result ≡ Err c.in_err-opens.field-0.0 = search rules in
     told
     ∙ sym
-    (row_is w m p c.posed_at-one.result c.posed_at-other.result (changes.written m (SetPose p)) first second
-    ∙ go (sym (c.has_pose.ensures w) ∙ c.in_ok-has_pose.was)
-    ∙ go (sym c.hosts.ensures ∙ c.in_ok-hosts.was)
-    ∙ go (sym c.hosts-2.ensures ∙ c.in_ok-hosts-2.was)
-    ∙ go (sym c.clears.ensures ∙ c.in_ok-clears.was)
-    ∙ go (sym c.clears-2.ensures ∙ c.in_ok-clears-2.was)
+    (last_at (goal.at.returns-in_err-opens c).In_ok-clears-2
     ∙ go (sym c.moves.ensures ∙ c.in_ok-moves.was)
     ∙ go (sym c.moves-2.ensures ∙ c.in_ok-moves-2.was)
     ∙ stop (sym c.opens.ensures ∙ c.in_err-opens.was) _)
 
 pub returns-in_err-opens-2 : goal.returns-in_err-opens-2
 returns-in_err-opens-2 c =
-    let w = c.args.word in
-    let m = c.args.machine in
-    let p = c.args.pose in
-    let first = c.posed_at-one.ensures ∙ ap (λ h. rows.posed_at m p h.0) c.hosted-one.ensures in
-    let second = c.posed_at-other.ensures ∙ ap (λ h. rows.posed_at m p h.1) c.hosted-one.ensures in
     let told : c.from_residual-in_err-opens-2.result ≡ Err c.in_err-opens-2.field-0.0 = search rules in
     told
     ∙ sym
-    (row_is w m p c.posed_at-one.result c.posed_at-other.result (changes.written m (SetPose p)) first second
-    ∙ go (sym (c.has_pose.ensures w) ∙ c.in_ok-has_pose.was)
-    ∙ go (sym c.hosts.ensures ∙ c.in_ok-hosts.was)
-    ∙ go (sym c.hosts-2.ensures ∙ c.in_ok-hosts-2.was)
-    ∙ go (sym c.clears.ensures ∙ c.in_ok-clears.was)
-    ∙ go (sym c.clears-2.ensures ∙ c.in_ok-clears-2.was)
+    (last_at (goal.at.returns-in_err-opens-2 c).In_ok-clears-2
     ∙ go (sym c.moves.ensures ∙ c.in_ok-moves.was)
     ∙ go (sym c.moves-2.ensures ∙ c.in_ok-moves-2.was)
     ∙ go (sym c.opens.ensures ∙ c.in_ok-opens.was)
@@ -198,20 +158,10 @@ returns-in_err-opens-2 c =
 
 pub returns-in_err-runs : goal.returns-in_err-runs
 returns-in_err-runs c =
-    let w = c.args.word in
-    let m = c.args.machine in
-    let p = c.args.pose in
-    let first = c.posed_at-one.ensures ∙ ap (λ h. rows.posed_at m p h.0) c.hosted-one.ensures in
-    let second = c.posed_at-other.ensures ∙ ap (λ h. rows.posed_at m p h.1) c.hosted-one.ensures in
     let told : c.from_residual-in_err-runs.result ≡ Err c.in_err-runs.field-0.0 = search rules in
     told
     ∙ sym
-    (row_is w m p c.posed_at-one.result c.posed_at-other.result (changes.written m (SetPose p)) first second
-    ∙ go (sym (c.has_pose.ensures w) ∙ c.in_ok-has_pose.was)
-    ∙ go (sym c.hosts.ensures ∙ c.in_ok-hosts.was)
-    ∙ go (sym c.hosts-2.ensures ∙ c.in_ok-hosts-2.was)
-    ∙ go (sym c.clears.ensures ∙ c.in_ok-clears.was)
-    ∙ go (sym c.clears-2.ensures ∙ c.in_ok-clears-2.was)
+    (last_at (goal.at.returns-in_err-runs c).In_ok-clears-2
     ∙ go (sym c.moves.ensures ∙ c.in_ok-moves.was)
     ∙ go (sym c.moves-2.ensures ∙ c.in_ok-moves-2.was)
     ∙ go (sym c.opens.ensures ∙ c.in_ok-opens.was)
@@ -220,46 +170,28 @@ returns-in_err-runs c =
 
 pub returns-in_err-pass : goal.returns-in_err-pass
 returns-in_err-pass c =
-    let w = c.args.word in
-    let m = c.args.machine in
-    let p = c.args.pose in
-    let first = c.posed_at-one.ensures ∙ ap (λ h. rows.posed_at m p h.0) c.hosted-one.ensures in
-    let second = c.posed_at-other.ensures ∙ ap (λ h. rows.posed_at m p h.1) c.hosted-one.ensures in
     let told : c.from_residual-in_err-pass.result ≡ Err c.in_err-pass.field-0.0 = search rules in
     told
     ∙ sym
-    (row_is w m p c.posed_at-one.result c.posed_at-other.result (changes.written m (SetPose p)) first second
-    ∙ go (sym (c.has_pose.ensures w) ∙ c.in_ok-has_pose.was)
-    ∙ go (sym c.hosts.ensures ∙ c.in_ok-hosts.was)
-    ∙ go (sym c.hosts-2.ensures ∙ c.in_ok-hosts-2.was)
-    ∙ go (sym c.clears.ensures ∙ c.in_ok-clears.was)
-    ∙ go (sym c.clears-2.ensures ∙ c.in_ok-clears-2.was)
+    (last_at (goal.at.returns-in_err-pass c).In_ok-clears-2
     ∙ go (sym c.moves.ensures ∙ c.in_ok-moves.was)
     ∙ go (sym c.moves-2.ensures ∙ c.in_ok-moves-2.was)
     ∙ go (sym c.opens.ensures ∙ c.in_ok-opens.was)
     ∙ go (sym c.opens-2.ensures ∙ c.in_ok-opens-2.was)
     ∙ go (sym c.runs.ensures ∙ c.in_ok-runs.was)
-    ∙ stop (sym (c.pass.ensures ∙ ap (λ (g : Guard). checked w (g ∷ [])) c.worn.ensures) ∙ c.in_err-pass.was) _)
+    ∙ stop (sym (c.pass.ensures ∙ ap (λ (g : Guard). checked c.args.word (g ∷ [])) c.worn.ensures) ∙ c.in_err-pass.was) _)
 
 pub returns : goal.returns
 returns c =
-    let w = c.args.word in
-    let m = c.args.machine in
-    let p = c.args.pose in
-    let first = c.posed_at-one.ensures ∙ ap (λ h. rows.posed_at m p h.0) c.hosted-one.ensures in
-    let second = c.posed_at-other.ensures ∙ ap (λ h. rows.posed_at m p h.1) c.hosted-one.ensures in
+    let first = c.posed_at-one.ensures ∙ ap (λ h. rows.posed_at c.args.machine c.args.pose h.0) c.hosted-one.ensures in
+    let second = c.posed_at-other.ensures ∙ ap (λ h. rows.posed_at c.args.machine c.args.pose h.1) c.hosted-one.ensures in
     let written = c.and.ensures ∙ ap₂ both (c.posed.ensures ∙ ap changes.posed first) (c.posed-2.ensures ∙ ap changes.posed second) in
     ap Ok written
     ∙ sym
-    (row_is w m p c.posed_at-one.result c.posed_at-other.result (changes.written m (SetPose p)) first second
-    ∙ go (sym (c.has_pose.ensures w) ∙ c.in_ok-has_pose.was)
-    ∙ go (sym c.hosts.ensures ∙ c.in_ok-hosts.was)
-    ∙ go (sym c.hosts-2.ensures ∙ c.in_ok-hosts-2.was)
-    ∙ go (sym c.clears.ensures ∙ c.in_ok-clears.was)
-    ∙ go (sym c.clears-2.ensures ∙ c.in_ok-clears-2.was)
+    (last_at (goal.at.returns c).In_ok-clears-2
     ∙ go (sym c.moves.ensures ∙ c.in_ok-moves.was)
     ∙ go (sym c.moves-2.ensures ∙ c.in_ok-moves-2.was)
     ∙ go (sym c.opens.ensures ∙ c.in_ok-opens.was)
     ∙ go (sym c.opens-2.ensures ∙ c.in_ok-opens-2.was)
     ∙ go (sym c.runs.ensures ∙ c.in_ok-runs.was)
-    ∙ go (sym (c.pass.ensures ∙ ap (λ (g : Guard). checked w (g ∷ [])) c.worn.ensures) ∙ c.in_ok-pass.was))
+    ∙ go (sym (c.pass.ensures ∙ ap (λ (g : Guard). checked c.args.word (g ∷ [])) c.worn.ensures) ∙ c.in_ok-pass.was))
