@@ -45,3 +45,13 @@ pub record DriveRow {S Sense Reading Act : Type 0} (t : Steps S Sense Reading Ac
   pub drives : t.drives p reading act
   pub drives_only : (other : Act) → t.drives p reading other → other ≡ act
   pub leads : t.after_drive p reading act ≡ next
+
+-- answers that can't come lead nowhere: an inquiry isn't done, no other call shows a zone, and a step that drives is refused nothing
+abbrev pub is_inquiry : Option Call → Bool
+is_inquiry (Some (Inquire _)) = true
+is_inquiry _ = false
+
+pub record NoOtherAnswers {S Sense Reading Act : Type 0} (t : Steps S Sense Reading Act) : Type 0 where
+  pub not_done : (p : S) → is_inquiry (t.call p) ≡ true → t.after_done p ≡ p
+  pub not_shown : (p : S) (owner : Option Machine) (flag : Bool) (posture : Posture) → is_inquiry (t.call p) ≡ false → t.after_inquiry p owner flag posture ≡ p
+  pub not_refused : (p : S) (r : Refusal) → t.call p ≡ None → t.stays_on p r ≡ false

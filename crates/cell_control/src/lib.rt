@@ -4,6 +4,7 @@
 
 pub mod controller;
 pub mod fault;
+pub mod laws;
 pub mod part;
 pub mod program;
 

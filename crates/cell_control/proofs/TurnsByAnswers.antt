@@ -1,0 +1,117 @@
+-- A turn leaves what its rows say.
+use Rattle.std.proofs.Common.{◌≡◌, ◌∙◌, ap, sym, subst, Bool, true, false, if◌then◌else◌, ℕ, Option, Some, None, Result, Ok, Err}
+use Rattle.std.specs.Prelude.{⊤}
+use Rattle.cell_types.specs.declared.call.Call.{Call}
+use Rattle.cell_types.specs.declared.answer.Refusal.{Refusal}
+use Rattle.cell_types.specs.declared.answer.Answer.TheVariants.{Refused}
+use Rattle.cell_types.specs.declared.reply.Reply.{Reply}
+use Rattle.cell_types.specs.declared.reply.Reply.TheVariants.{Settled}
+use Rattle.cell_calib.specs.declared.sense.SensorFault.{SensorFault}
+use Rattle.cell_rules.specs.declared.heard.LineFault.{LineFault}
+use Rattle.cell_rules.specs.declared.heard.Heard.{Heard}
+use Rattle.cell_rules.specs.Programs.{Hears}
+use Rattle.cell_control.specs.declared.fault.CtlFault.TheVariants as fault
+use Rattle.cell_control.specs.Faults.{fault_of}
+use Rattle.cell_control.specs.Steps.{Steps, outcome}
+use Rattle.cell_control.specs.Turns.{Performed, PerformsCall, PerformsSensed, Turned, Turns, at_rest, turned, asked_at}
+use Rattle.cell_control.specs.TurnRows.{Says, Answered, stops_with, AnswerRows, SilentRows, HeardRows, TurnRows}
+
+module _ {S Sense Reading Act : Type 0} (t : Steps S Sense Reading Act) (p : S) (s : Sense) where
+  -- a turn in which something was asked is what came back of that
+  asked_call : (o : Option Call) (answered : Result Reply LineFault) (reading : Reading) (r : Performed S Act) → PerformsCall t o ⊥ (λ call x. x ≡ answered) p reading r → r ≡ at_rest (t.rest p) (outcome t p answered)
+  asked_call None answered reading r k = absurd k.0
+  asked_call (Some call) answered reading r k = k.2 ∙ ap (λ x. at_rest (t.rest p) (outcome t p x)) k.1
+
+  asked_sensed : (sensed : Result Reading SensorFault) (answered : Result Reply LineFault) (r : Performed S Act) → PerformsSensed t sensed ⊥ (λ call x. x ≡ answered) p r → r ≡ at_rest (t.rest p) (outcome t p answered)
+  asked_sensed (Err f) answered r k = absurd k.0
+  asked_sensed (Ok reading) answered r k = asked_call (t.call p) answered reading r k
+
+  led_by : (answered : Result Reply LineFault) (w : Turned S Act) → Answered t p s answered w → w ≡ turned p (at_rest (t.rest p) (outcome t p answered))
+  led_by answered w k = k.2 ∙ ap (turned p) (asked_sensed k.1.sensed answered k.0 k.1.performs)
+
+  refused_by : (b : Bool) (r : Refusal) (stamp : ℕ) (w : Turned S Act) → t.stays_on p r ≡ b → Answered t p s (Ok (Settled (Refused r) stamp)) w → w ≡ turned p (at_rest (t.rest p) (if b then Ok p else Err (fault_of r)))
+  refused_by b r stamp w e k = led_by _ w k ∙ ap (λ x. turned p (at_rest (t.rest p) (if x then Ok p else Err (fault_of r)))) e
+
+  answers : (w : Turned S Act) → AnswerRows t p s w
+  answers w = record {
+    done = λ stamp k. led_by _ w k;
+    shown = λ owner flag posture stamp k. led_by _ w k;
+    waits = λ r stamp e k. refused_by true r stamp w e k;
+    busy = λ lost stamp k. led_by _ w k;
+    not_party = λ stamp e k. refused_by false _ stamp w e k;
+    held = λ m stamp e k. refused_by false _ stamp w e k;
+    already_mine = λ stamp e k. refused_by false _ stamp w e k;
+    shut = λ posture stamp e k. refused_by false _ stamp w e k;
+    not_owner = λ owner stamp e k. refused_by false _ stamp w e k;
+    plate_in_zone = λ zone stamp e k. refused_by false _ stamp w e k;
+    no_plate = λ stamp e k. refused_by false _ stamp w e k;
+    place_full = λ stamp e k. refused_by false _ stamp w e k;
+    wrong_way = λ stamp e k. refused_by false _ stamp w e k;
+    jump = λ stamp e k. refused_by false _ stamp w e k;
+    not_at_work = λ stamp e k. refused_by false _ stamp w e k;
+    no_pose = λ stamp e k. refused_by false _ stamp w e k;
+    in_use = λ stamp e k. refused_by false _ stamp w e k;
+    worn = λ stamp e k. refused_by false _ stamp w e k;
+    out_of_memory = λ k. led_by _ w k;
+  }
+
+  -- what a step performs by what its sensors say
+  by_sensors : (same : Type 0) (asks : Call → Result Reply LineFault → Type 0) (sensed said : Result Reading SensorFault) (r : Performed S Act) → sensed ≡ said → PerformsSensed t sensed same asks p r → PerformsSensed t said same asks p r
+  by_sensors same asks sensed said r e k = subst (λ x. PerformsSensed t x same asks p r) e k
+
+  by_call : (same : Type 0) (asks : Call → Result Reply LineFault → Type 0) (o : Option Call) (reading : Reading) (r : Performed S Act) → t.call p ≡ o → PerformsCall t (t.call p) same asks p reading r → PerformsCall t o same asks p reading r
+  by_call same asks o reading r e k = subst (λ x. PerformsCall t x same asks p reading r) e k
+
+  -- a step that asks nothing leaves the line as it is, whatever its sensors say
+  no_call : (asks : Call → Result Reply LineFault → Type 0) (sensed : Result Reading SensorFault) (r : Performed S Act) → t.call p ≡ None → PerformsSensed t sensed ⊥ asks p r → ⊥
+  no_call asks (Err f) r e k = k.0
+  no_call asks (Ok reading) r e k = (by_call ⊥ asks None reading r e k).0
+
+  own_call : (sensed : Result Reading SensorFault) (call other : Call) (r : Performed S Act) → t.call p ≡ Some call → PerformsSensed t sensed ⊥ (λ x y. x ≡ other) p r → other ≡ call
+  own_call (Err f) call other r e k = absurd k.0
+  own_call (Ok reading) call other r e k = sym (by_call ⊥ (λ x y. x ≡ other) (Some call) reading r e k).1
+
+  -- a turn of a controller that runs, over any line: what it asks, or that the line stays as it is, and where it leads
+  pub asked_own : (same : Type 0) (asks : Call → Result Reply LineFault → Type 0) (reading : Reading) (call : Call) (w : Turned S Act) → t.call p ≡ Some call → Says t s (Ok reading) → Turns t same asks None p s w
+      → (r : Result Reply LineFault) × asks call r × (w ≡ turned p (at_rest (t.rest p) (outcome t p r)))
+  asked_own same asks reading call w own says k =
+      let led = by_call same asks (Some call) reading k.0 own (by_sensors same asks k.1.sensed (Ok reading) k.0 (says k.1.sensed k.1.senses) k.1.performs) in
+      (led.0, led.1, k.2 ∙ ap (turned p) led.2)
+
+  pub drive_own : (same : Type 0) (asks : Call → Result Reply LineFault → Type 0) (reading : Reading) (act : Act) (w : Turned S Act) → t.call p ≡ None → Says t s (Ok reading) → ((other : Act) → t.drives p reading other → other ≡ act)
+      → Turns t same asks None p s w → same × (w ≡ turned p (Ok (t.after_drive p reading act, act)))
+  drive_own same asks reading act w none says only k =
+      let led = by_call same asks None reading k.0 none (by_sensors same asks k.1.sensed (Ok reading) k.0 (says k.1.sensed k.1.senses) k.1.performs) in
+      (led.0, k.2 ∙ ap (turned p) (led.1.2 ∙ ap (λ a. Ok (t.after_drive p reading a, a)) (only led.1.0 led.1.1)))
+
+  pub sensor_own : (same : Type 0) (asks : Call → Result Reply LineFault → Type 0) (f : SensorFault) (w : Turned S Act) → Says t s (Err f) → Turns t same asks None p s w → same × (w ≡ stops_with p (fault.Sensor f))
+  sensor_own same asks f w says k =
+      let led = by_sensors same asks k.1.sensed (Err f) k.0 (says k.1.sensed k.1.senses) k.1.performs in
+      (led.0, k.2 ∙ ap (turned p) led.1)
+
+  silent : (w : Turned S Act) → SilentRows t p s w
+  silent w = record {
+    stopped = λ f k. k.1;
+    stopped_asks_nothing = λ f call k. k.0;
+    sensor = λ f says k. (sensor_own ⊤ (λ call r. ⊥) f w says k).1;
+    sensor_asks_nothing = λ f call says k. (sensor_own ⊥ (λ other r. other ≡ call) f w says k).0;
+    drives = λ reading act none says only k. (drive_own ⊤ (λ call r. ⊥) reading act w none says only k).1;
+    drive_asks_nothing = λ call none k. no_call (λ other r. other ≡ call) k.1.sensed k.0 none k.1.performs;
+    asks = λ reading call own says k. (asked_own ⊤ (λ other r. ⊥) reading call w own says k).1;
+    asks_its_call = λ call other own k. own_call k.1.sensed call other k.0 own k.1.performs;
+  }
+
+  hears_none : (sensed : Result Reading SensorFault) (before now : Heard) → t.call p ≡ None → Hears (asked_at t sensed p) before now → now ≡ before
+  hears_none (Err f) before now e k = k
+  hears_none (Ok reading) before now e k = subst (λ o. Hears o before now) e k
+
+  heard : (before now : Heard) → HeardRows t p s before now
+  heard before now = record {
+    stopped = λ f k. k;
+    sensor = λ f says k. subst (λ x. Hears (asked_at t x p) before now) (says k.sensed k.senses) k.hears;
+    drives = λ none k. hears_none k.sensed before now none k.hears;
+    asks_once = λ reading call own says k. subst (λ o. Hears o before now) own (subst (λ x. Hears (asked_at t x p) before now) (says k.sensed k.senses) k.hears);
+  }
+
+  pub turn-rows : TurnRows t p s
+  turn-rows = record { answered = answers; silent = silent; heard = heard }

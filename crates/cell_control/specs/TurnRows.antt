@@ -1,0 +1,108 @@
+-- What a turn leaves, by what comes back of its call: rows with literal answers, for any step of any program.
+use Rattle.std.specs.Prelude.{◌≡◌, ⊤, ℕ, Bool, true, false, List, Option, Some, None, Result, Ok, Err}
+use Rattle.cell_types.specs.declared.machine.Machine.{Machine}
+use Rattle.cell_types.specs.declared.zone.Zone.{Zone}
+use Rattle.cell_types.specs.declared.posture.Posture.{Posture}
+use Rattle.cell_types.specs.declared.call.Call.{Call}
+use Rattle.cell_types.specs.declared.answer.Refusal.{Refusal}
+use Rattle.cell_types.specs.declared.answer.Refusal.TheVariants.{NotParty, Held, AlreadyMine, Shut, NotOwner, PlateInZone, NoPlate, PlaceFull, WrongWay, Jump, NotAtWork, NoPose, Worn, InUse}
+use Rattle.cell_types.specs.declared.answer.Answer.TheVariants.{Done, Shown, Refused}
+use Rattle.cell_types.specs.declared.answer.Event.{Event}
+use Rattle.cell_types.specs.declared.reply.Reply.{Reply}
+use Rattle.cell_types.specs.declared.reply.Reply.TheVariants.{Settled, Busy}
+use Rattle.cell_calib.specs.declared.sense.SensorFault.{SensorFault}
+use Rattle.cell_rules.specs.declared.heard.LineFault.{LineFault}
+use Rattle.cell_rules.specs.declared.heard.LineFault.TheVariants as line
+use Rattle.cell_rules.specs.declared.heard.Heard.{Heard}
+use Rattle.cell_rules.specs.ModelState.{ModelState}
+use Rattle.cell_rules.specs.History.{Holds, posture_by_events}
+use Rattle.cell_rules.specs.Seen.{heard_after}
+use Rattle.cell_control.specs.declared.fault.CtlFault.{CtlFault}
+use Rattle.cell_control.specs.declared.fault.CtlFault.TheVariants as fault
+use Rattle.cell_control.specs.Demands.{HoldsIn}
+use Rattle.cell_control.specs.Steps.{Steps}
+use Rattle.cell_control.specs.Turns.{Turned, Turns, HearsTurn}
+
+-- what the sensors say is this and nothing else
+abbrev pub Says : {S Sense Reading Act : Type 0} → Steps S Sense Reading Act → Sense → Result Reading SensorFault → Type 0
+Says {Reading = Reading} t s said = (other : Result Reading SensorFault) → t.senses s other → other ≡ said
+
+-- the step leads there, with the motors off; or the controller has stopped with a fault, and stays where it was
+abbrev pub leads_to : {S Sense Reading Act : Type 0} → Steps S Sense Reading Act → S → S → Turned S Act
+leads_to t p next = record { result = Ok (t.rest p); progress = next; stopped = None }
+
+abbrev pub stops_with : {S Act : Type 0} → S → CtlFault → Turned S Act
+stops_with p f = record { result = Err f; progress = p; stopped = Some f }
+
+-- ---- a controller that runs asks a call, and this comes back
+
+abbrev pub Answered : {S Sense Reading Act : Type 0} → Steps S Sense Reading Act → S → Sense → Result Reply LineFault → Turned S Act → Type 0
+Answered t p s answered w = Turns t ⊥ (λ call r. r ≡ answered) None p s w
+
+-- a refusal on which the step doesn't stay stops it with this fault
+abbrev pub Stops : {S Sense Reading Act : Type 0} → Steps S Sense Reading Act → S → Sense → Turned S Act → Refusal → CtlFault → Type 0
+Stops t p s w r f = (stamp : ℕ) → t.stays_on p r ≡ false → Answered t p s (Ok (Settled (Refused r) stamp)) w → w ≡ stops_with p f
+
+pub record AnswerRows {S Sense Reading Act : Type 0} (t : Steps S Sense Reading Act) (p : S) (s : Sense) (w : Turned S Act) : Type 0 where
+  pub done : (stamp : ℕ) → Answered t p s (Ok (Settled Done stamp)) w → w ≡ leads_to t p (t.after_done p)
+  pub shown : (owner : Option Machine) (flag : Bool) (posture : Posture) (stamp : ℕ) → Answered t p s (Ok (Settled (Shown owner flag posture) stamp)) w → w ≡ leads_to t p (t.after_inquiry p owner flag posture)
+  pub waits : (r : Refusal) (stamp : ℕ) → t.stays_on p r ≡ true → Answered t p s (Ok (Settled (Refused r) stamp)) w → w ≡ leads_to t p p
+  pub busy : (lost stamp : ℕ) → Answered t p s (Ok (Busy lost stamp)) w → w ≡ leads_to t p p
+  pub not_party : Stops t p s w NotParty (fault.Refused NotParty)
+  pub held : (m : Machine) → Stops t p s w (Held m) (fault.Refused (Held m))
+  pub already_mine : Stops t p s w AlreadyMine (fault.Refused AlreadyMine)
+  pub shut : (posture : Posture) → Stops t p s w (Shut posture) (fault.Refused (Shut posture))
+  pub not_owner : (owner : Option Machine) → Stops t p s w (NotOwner owner) (fault.Refused (NotOwner owner))
+  pub plate_in_zone : (zone : Zone) → Stops t p s w (PlateInZone zone) (fault.Refused (PlateInZone zone))
+  pub no_plate : Stops t p s w NoPlate (fault.Refused NoPlate)
+  pub place_full : Stops t p s w PlaceFull (fault.Refused PlaceFull)
+  pub wrong_way : Stops t p s w WrongWay (fault.Refused WrongWay)
+  pub jump : Stops t p s w Jump (fault.Refused Jump)
+  pub not_at_work : Stops t p s w NotAtWork (fault.Refused NotAtWork)
+  pub no_pose : Stops t p s w NoPose (fault.Refused NoPose)
+  pub in_use : Stops t p s w InUse (fault.Refused InUse)
+  pub worn : Stops t p s w Worn fault.Worn
+  pub out_of_memory : Answered t p s (Err line.Memory) w → w ≡ stops_with p fault.Memory
+
+-- ---- who asks, and who doesn't
+
+-- in a turn the line stays as it is; or something was asked, whatever came back
+abbrev pub AsksNothing : {S Sense Reading Act : Type 0} → Steps S Sense Reading Act → Option CtlFault → S → Sense → Turned S Act → Type 0
+AsksNothing t stopped p s w = Turns t ⊤ (λ call r. ⊥) stopped p s w
+
+abbrev pub Asks : {S Sense Reading Act : Type 0} → Steps S Sense Reading Act → Option CtlFault → S → Sense → Call → Turned S Act → Type 0
+Asks t stopped p s call w = Turns t ⊥ (λ other r. other ≡ call) stopped p s w
+
+pub record SilentRows {S Sense Reading Act : Type 0} (t : Steps S Sense Reading Act) (p : S) (s : Sense) (w : Turned S Act) : Type 0 where
+  -- a controller that has stopped, with whatever fault
+  pub stopped : (f : CtlFault) → AsksNothing t (Some f) p s w → w ≡ record { result = Err fault.Stopped; progress = p; stopped = Some f }
+  pub stopped_asks_nothing : (f : CtlFault) (call : Call) → ¬ Asks t (Some f) p s call w
+  -- one whose sensors can't be used
+  pub sensor : (f : SensorFault) → Says t s (Err f) → AsksNothing t None p s w → w ≡ stops_with p (fault.Sensor f)
+  pub sensor_asks_nothing : (f : SensorFault) (call : Call) → Says t s (Err f) → ¬ Asks t None p s call w
+  -- one that drives
+  pub drives : (reading : Reading) (act : Act) → t.call p ≡ None → Says t s (Ok reading) → ((other : Act) → t.drives p reading other → other ≡ act)
+      → AsksNothing t None p s w → w ≡ record { result = Ok act; progress = t.after_drive p reading act; stopped = None }
+  pub drive_asks_nothing : (call : Call) → t.call p ≡ None → ¬ Asks t None p s call w
+  -- one that asks: it does, and asks its own call
+  pub asks : (reading : Reading) (call : Call) → t.call p ≡ Some call → Says t s (Ok reading) → ¬ AsksNothing t None p s w
+  pub asks_its_call : (call other : Call) → t.call p ≡ Some call → Asks t None p s other w → other ≡ call
+
+-- what the line hears of a turn
+pub record HeardRows {S Sense Reading Act : Type 0} (t : Steps S Sense Reading Act) (p : S) (s : Sense) (before now : Heard) : Type 0 where
+  pub stopped : (f : CtlFault) → HearsTurn t (Some f) p s before now → now ≡ before
+  pub sensor : (f : SensorFault) → Says t s (Err f) → HearsTurn t None p s before now → now ≡ before
+  pub drives : t.call p ≡ None → HearsTurn t None p s before now → now ≡ before
+  pub asks_once : (reading : Reading) (call : Call) → t.call p ≡ Some call → Says t s (Ok reading) → HearsTurn t None p s before now → (r : Result Reply LineFault) × (now ≡ heard_after before call r)
+
+-- all of them
+pub record TurnRows {S Sense Reading Act : Type 0} (t : Steps S Sense Reading Act) (p : S) (s : Sense) : Type 0 where
+  pub answered : (w : Turned S Act) → AnswerRows t p s w
+  pub silent : (w : Turned S Act) → SilentRows t p s w
+  pub heard : (before now : Heard) → HeardRows t p s before now
+
+-- ---- what a motor that enters a zone demands
+
+pub record ZoneDemandRows (m : Machine) (opening : ModelState) (seen : List Event) (zone : Zone) (posture : Posture) : Type 0 where
+  pub holds : HoldsIn m opening seen (Some (zone, posture)) → Holds opening seen m zone
+  pub stands : HoldsIn m opening seen (Some (zone, posture)) → posture_by_events opening seen zone ≡ posture

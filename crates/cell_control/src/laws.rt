@@ -1,0 +1,24 @@
+//! What a turn leaves, and what a motor demands: laws, in functions that do nothing.
+ghost use Rattle.std.specs.Prelude.{List};
+ghost use Rattle.cell_types.specs.declared.machine.Machine.{Machine};
+ghost use Rattle.cell_types.specs.declared.zone.Zone.{Zone};
+ghost use Rattle.cell_types.specs.declared.posture.Posture.{Posture};
+ghost use Rattle.cell_types.specs.declared.answer.Event.{Event};
+ghost use Rattle.cell_rules.specs.ModelState.{ModelState};
+ghost use Rattle.cell_control.specs.TurnRows.{TurnRows, ZoneDemandRows};
+
+use crate::program::Program;
+
+/// What a turn leaves, at any step of any program: where each answer leads, a refusal on which the step
+/// stays, each refusal on which it doesn't, a Busy, and a call that was refused its memory; that a
+/// controller whose sensors can't be used stops; that one which has stopped stays so; and what each of
+/// these turns asks.
+pub fn turns_by_answers<P: Program>(program: &P, progress: P::Progress, sense: &P::Sense)
+    ensures { TurnRows (P.steps program.now) progress sense.now }
+{}
+
+/// A motor that enters a zone demands that its machine holds the zone, and that the zone has the
+/// posture.
+pub fn demands_of_a_zone()
+    ensures { (m : Machine) (opening : ModelState) (seen : List Event) (zone : Zone) (posture : Posture) → ZoneDemandRows m opening seen zone posture }
+{}
