@@ -3,3 +3,4 @@ pub mod Keeping
 pub mod Demanding
 pub mod Turning
 pub mod Others
+pub mod LiteralTurns

@@ -1,3 +1,4 @@
 pub mod Fares
 pub mod Sides
 pub mod SeatTurns
+pub mod SeatRows

@@ -4,6 +4,7 @@
 pub mod bench_turn;
 pub mod fares;
 pub mod fault;
+pub mod laws;
 pub mod seat;
 
 pub use bench_turn::seat_turn;
