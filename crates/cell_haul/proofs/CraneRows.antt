@@ -1,10 +1,8 @@
 -- The rows of the crane's program are as the examples have them.
-use Rattle.std.proofs.Common.{◌≡◌, ◌∙◌, sym, ap, rules, ℕ, Some, None, pos, Bool, true, Option, [], ◌∷◌, refl}
+use Rattle.std.proofs.Common.{◌≡◌, ◌∙◌, sym, ap, rules, ℕ, Some, None, pos, Bool, true, false, Option, [], ◌∷◌, refl}
 use Rattle.std.specs.Int.Signed.{le_z_yes, lt_z_yes}
 use Rattle.cell_types.specs.declared.machine.Machine.{Machine}
 use Rattle.cell_types.specs.declared.machine.Machine.TheVariants.{Crane}
-use Rattle.cell_types.specs.declared.place.Place.{Place}
-use Rattle.cell_types.specs.declared.place.Place.TheVariants.{Crane as OnCrane}
 use Rattle.cell_types.specs.declared.posture.Posture.{Posture}
 use Rattle.cell_types.specs.declared.answer.Refusal.{Refusal}
 use Rattle.cell_types.specs.declared.answer.Refusal.TheVariants.{Held, Shut}
@@ -12,19 +10,18 @@ use Rattle.cell_calib.specs.Scale.{Scale}
 use Rattle.cell_devices.specs.declared.stops.Stop.{Stop}
 use Rattle.cell_devices.specs.declared.act.CraneAct.{CraneAct}
 use Rattle.cell_devices.proofs.DriveLemmas.{drives_one, stops_there, goes_plus, goes_minus}
-use Rattle.cell_rules.specs.PlaceSet.{empty, insert_place}
-use Rattle.cell_rules.specs.Start.{start_state}
-use Rattle.cell_control.specs.Rows.{stays_by, DriveRow, UntilFree, UntilOpen}
+use Rattle.cell_rules.specs.ModelState.{ModelState}
+use Rattle.cell_control.specs.Rows.{stays_by, DriveRow, UntilFree, UntilOpen, is_inquiry}
 use Rattle.cell_haul.specs.declared.crane_step.CraneStep.{CraneStep}
 use Rattle.cell_haul.specs.declared.crane_step.CraneStep.TheVariants.{RaiseToFetch, TravelToDeposit, AwaitPlate, LowerToPlate, GripPlate, RaiseWithPlate, TravelToFeed, ClaimFeed, LowerToFeed, DropPlate, RaiseFromFeed}
 use Rattle.cell_haul.specs.declared.crane_step.CraneReading.{CraneReading}
 use Rattle.cell_haul.specs.declared.crane_step.CraneProgress.{CraneProgress}
-use Rattle.cell_haul.specs.CraneProgram.{call_of, stays_on, gripper_stop, Acts, after_act}
+use Rattle.cell_haul.specs.CraneProgram.{call_of, stays_on, gripper_stop, Acts, after_act, after_done, step_after_inquiry}
 use Rattle.cell_haul.specs.CraneExamples.{begins_with, rows_by, scale, at, told, awaits, CraneAsks, GripperDrives, TravelDrives, MagnetSteps, CraneChecks, CraneRowsAreMet}
 
-begins : (points : Scale) (p : Place) → (rows_by points).start (start_state (insert_place empty p) 0) ≡ begins_with p
-begins points OnCrane = refl
-begins points _ = refl
+begins : (points : Scale) (s : ModelState) (loaded : Bool) → (rows_by points).start (record s { full = record s.full { crane = loaded } }) ≡ begins_with loaded
+begins points s false = refl
+begins points s true = refl
 
 leads_awaiting : (points : Scale) (magnet : Bool) (owner : Option Machine) (flag : Bool) (posture : Posture) → (rows_by points).after_inquiry (at AwaitPlate magnet) owner flag posture ≡ awaits magnet owner flag posture
 leads_awaiting points magnet (Some Crane) true posture = refl
@@ -127,14 +124,36 @@ checks = record {
   low_last_is_low = λ k. search rules;
 }
 
+-- answers that can't come
+not_done : (s : CraneStep) (magnet : Bool) → is_inquiry (call_of s) ≡ true → after_done (at s magnet) ≡ at s magnet
+not_done AwaitPlate magnet e = refl
+not_done _ magnet e = cc
+
+not_shown : (s : CraneStep) (magnet : Bool) (owner : Option Machine) (flag : Bool) → is_inquiry (call_of s) ≡ false → at (step_after_inquiry s owner flag) magnet ≡ at s magnet
+not_shown AwaitPlate magnet owner flag e = cc
+not_shown _ magnet owner flag e = refl
+
+never_refused : (s : CraneStep) (r : Refusal) → call_of s ≡ None → stays_on s r ≡ false
+never_refused RaiseToFetch r e = refl
+never_refused TravelToDeposit r e = refl
+never_refused LowerToPlate r e = refl
+never_refused GripPlate r e = refl
+never_refused RaiseWithPlate r e = refl
+never_refused TravelToFeed r e = refl
+never_refused LowerToFeed r e = refl
+never_refused DropPlate r e = refl
+never_refused RaiseFromFeed r e = refl
+never_refused _ r e = cc
+
 pub crane-rows : CraneRowsAreMet
 crane-rows = record {
-  starts = λ points. record { whose = refl; empty_cell = refl; one_plate = begins points };
+  starts = λ points. record { whose = refl; by_places = λ s. begins points s s.full.crane };
   asks = asks;
   gripper = gripper;
   travel = travel;
   magnet = switches;
   checks = checks;
+  no_other_answers = λ points. record { not_done = λ p e. not_done p.step p.magnet e; not_shown = λ p owner flag posture e. not_shown p.step p.magnet owner flag e; not_refused = λ p r e. never_refused p.step r e };
   rests = λ points step magnet. refl;
   demands = λ points magnet on travel height opening seen is_on. record { lower_to_plate = λ k. k is_on; raise_with_plate = λ k. k is_on; lower_to_feed = λ k. k is_on; raise_from_feed = λ k. k is_on };
 }

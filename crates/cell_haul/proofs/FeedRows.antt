@@ -1,20 +1,19 @@
 -- The rows of the feed belt's program are as the examples have them.
-use Rattle.std.proofs.Common.{◌≡◌, Bool, [], ◌∷◌, refl}
-use Rattle.cell_types.specs.declared.place.Place.{Place}
-use Rattle.cell_types.specs.declared.place.Place.TheVariants.{FeedEntry, FeedEnd}
+use Rattle.std.proofs.Common.{◌≡◌, Bool, true, false, [], ◌∷◌, refl, None}
 use Rattle.cell_types.specs.declared.answer.Refusal.{Refusal}
 use Rattle.cell_types.specs.declared.answer.Refusal.TheVariants.{Held, NotOwner, Shut}
-use Rattle.cell_rules.specs.PlaceSet.{empty, insert_place}
-use Rattle.cell_rules.specs.Start.{start_state}
-use Rattle.cell_control.specs.Rows.{stays_by, UntilFree, UntilOwner, UntilOpen}
-use Rattle.cell_haul.specs.declared.feed_step.FeedStep.TheVariants.{TakePlate, ClaimExit}
-use Rattle.cell_haul.specs.FeedProgram.{stays_on, feed_steps}
+use Rattle.cell_rules.specs.ModelState.{ModelState}
+use Rattle.cell_control.specs.Rows.{stays_by, UntilFree, UntilOwner, UntilOpen, is_inquiry}
+use Rattle.cell_haul.specs.declared.feed_step.FeedStep.{FeedStep}
+use Rattle.cell_haul.specs.declared.feed_step.FeedStep.TheVariants.{TakePlate, ClaimExit, ClaimEntry, RunIn, RunOut}
+use Rattle.cell_haul.specs.FeedProgram.{stays_on, feed_steps, call_of}
 use Rattle.cell_haul.specs.FeedExamples.{begins_with, FeedAsks, FeedDrives, FeedRowsAreMet}
 
-begins : (p : Place) → feed_steps.start (start_state (insert_place empty p) 0) ≡ begins_with p
-begins FeedEntry = refl
-begins FeedEnd = refl
-begins _ = refl
+begins : (s : ModelState) (entry last : Bool) → feed_steps.start (record s { full = record s.full { feed_entry = entry; feed_end = last } }) ≡ begins_with entry last
+begins s false false = refl
+begins s true false = refl
+begins s false true = refl
+begins s true true = refl
 
 stays_taking : (r : Refusal) → stays_on TakePlate r ≡ stays_by (UntilOwner ∷ []) r
 stays_taking (NotOwner _) = refl
@@ -50,12 +49,23 @@ drives entry last = record {
   out_of_barrier = record { asks_nothing = refl; drives = refl; drives_only = λ other e. e; leads = refl };
 }
 
+-- answers that can't come
+no_inquiry : (s : FeedStep) → is_inquiry (call_of s) ≡ true → ⊥
+no_inquiry ClaimEntry e = cc
+no_inquiry _ e = cc
+
+never_refused : (s : FeedStep) (r : Refusal) → call_of s ≡ None → stays_on s r ≡ false
+never_refused RunIn r e = refl
+never_refused RunOut r e = refl
+never_refused _ r e = cc
+
 pub feed-rows : FeedRowsAreMet
 feed-rows = record {
-  starts = record { whose = refl; empty_cell = refl; one_plate = begins; two_plates = refl };
+  starts = record { whose = refl; by_places = λ s. begins s s.full.feed_entry s.full.feed_end };
   asks = asks;
   drives = drives;
   checks = λ s. record { as_shown = refl; no_fault = λ fault e. cc };
+  no_other_answers = record { not_done = λ p e. absurd (no_inquiry p.step e); not_shown = λ p owner flag posture e. refl; not_refused = λ p r e. never_refused p.step r e };
   rests = λ p. refl;
   demands = λ p opening seen k. let at = k refl in record { holds_entry = at.entry; entry_moves = at.moves; holds_exit = at.exit };
 }

@@ -4,8 +4,6 @@ use Rattle.cell_types.specs.declared.machine.Machine.{Machine}
 use Rattle.cell_types.specs.declared.machine.Machine.TheVariants.{Crane}
 use Rattle.cell_types.specs.declared.zone.Zone.{Zone}
 use Rattle.cell_types.specs.declared.zone.Zone.TheVariants.{Z5, Z6}
-use Rattle.cell_types.specs.declared.place.Place.{Place}
-use Rattle.cell_types.specs.declared.place.Place.TheVariants.{Crane as OnCrane}
 use Rattle.cell_types.specs.declared.posture.Posture.{Posture}
 use Rattle.cell_types.specs.declared.posture.Posture.TheVariants.{OpenIn, OpenOut}
 use Rattle.cell_types.specs.declared.call.Call.TheVariants.{Claim, Give, Take, Release}
@@ -19,10 +17,8 @@ use Rattle.cell_devices.specs.declared.motor.Motor.TheVariants.{Off, Plus, Minus
 use Rattle.cell_devices.specs.declared.act.CraneAct.{CraneAct}
 use Rattle.cell_rules.specs.ModelState.{ModelState}
 use Rattle.cell_rules.specs.History.{Holds, posture_by_events}
-use Rattle.cell_rules.specs.PlaceSet.{empty, insert_place}
-use Rattle.cell_rules.specs.Start.{start_state}
 use Rattle.cell_control.specs.Steps.{Steps}
-use Rattle.cell_control.specs.Rows.{AskRow, InquiryRow, DriveRow, UntilFree, UntilOpen}
+use Rattle.cell_control.specs.Rows.{AskRow, InquiryRow, DriveRow, UntilFree, UntilOpen, NoOtherAnswers}
 use Rattle.cell_haul.specs.declared.crane_step.CraneStep.{CraneStep}
 use Rattle.cell_haul.specs.declared.crane_step.CraneStep.TheVariants.{RaiseToFetch, TravelToDeposit, AwaitPlate, LowerToPlate, GripPlate, RaiseWithPlate, TakePlate, ReleaseDeposit, TravelToFeed, ClaimFeed, LowerToFeed, DropPlate, RaiseFromFeed, GivePlate}
 use Rattle.cell_haul.specs.declared.crane_step.CraneProgress.{CraneProgress}
@@ -54,15 +50,15 @@ high_at gripper = reads false false gripper true
 abbrev pub rows_by : Scale → Steps CraneProgress CraneSense CraneReading CraneAct
 rows_by points = crane_steps points (IsReading points)
 
--- where the program begins, by the one place that is full
-abbrev pub begins_with : Place → CraneProgress
-begins_with OnCrane = at TravelToFeed true
-begins_with _ = at RaiseToFetch false
+-- where the program begins, by whether a plate is on the crane
+abbrev pub begins_with : Bool → CraneProgress
+begins_with false = at RaiseToFetch false
+begins_with true = at TravelToFeed true
 
+-- by every set of full places, and by nothing else
 pub record CraneStarts (points : Scale) : Type 0 where
   pub whose : (rows_by points).machine ≡ Crane
-  pub empty_cell : (rows_by points).start (start_state empty 0) ≡ at RaiseToFetch false
-  pub one_plate : (p : Place) → (rows_by points).start (start_state (insert_place empty p) 0) ≡ begins_with p
+  pub by_places : (s : ModelState) → (rows_by points).start s ≡ begins_with s.full.crane
 
 -- it goes down once the deposit belt has handed a plate over
 abbrev pub awaits : Bool → Option Machine → Bool → Posture → CraneProgress
@@ -167,5 +163,6 @@ pub record CraneRowsAreMet : Type 0 where
   pub travel : (magnet : Bool) (gripper : ℕ) → TravelDrives magnet gripper
   pub magnet : (magnet : Bool) (reading : CraneReading) → MagnetSteps magnet reading
   pub checks : CraneChecks
+  pub no_other_answers : (points : Scale) → NoOtherAnswers (rows_by points)
   pub rests : (points : Scale) (step : CraneStep) (magnet : Bool) → (rows_by points).rest (at step magnet) ≡ told Off Off magnet
   pub demands : (points : Scale) (magnet on : Bool) (travel height : Motor) (opening : ModelState) (seen : List Event) → height ≢ Off → GripperDemands points magnet on travel height opening seen

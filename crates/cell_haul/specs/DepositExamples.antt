@@ -2,8 +2,6 @@
 use Rattle.std.specs.Prelude.{◌≡◌, Bool, true, false, List, [], ◌∷◌, Ok, Err}
 use Rattle.cell_types.specs.declared.machine.Machine.TheVariants.{Deposit}
 use Rattle.cell_types.specs.declared.zone.Zone.TheVariants.{Z4, Z5}
-use Rattle.cell_types.specs.declared.place.Place.{Place}
-use Rattle.cell_types.specs.declared.place.Place.TheVariants.{DepEntry, DepEnd}
 use Rattle.cell_types.specs.declared.pose.Pose.TheVariants.{Landing, Running, Offering}
 use Rattle.cell_types.specs.declared.posture.Posture.TheVariants.{Moving}
 use Rattle.cell_types.specs.declared.call.Call.TheVariants.{Claim, Give, Take, Release, SetPose, Advance}
@@ -13,9 +11,7 @@ use Rattle.cell_calib.specs.declared.sense.SensorFault.{SensorFault}
 use Rattle.cell_devices.specs.declared.act.DepositAct.{DepositAct}
 use Rattle.cell_rules.specs.ModelState.{ModelState}
 use Rattle.cell_rules.specs.History.{Holds, posture_by_events}
-use Rattle.cell_rules.specs.PlaceSet.{empty, insert_place}
-use Rattle.cell_rules.specs.Start.{start_state}
-use Rattle.cell_control.specs.Rows.{AskRow, DriveRow, UntilFree, UntilOwner, UntilRoom}
+use Rattle.cell_control.specs.Rows.{AskRow, DriveRow, UntilFree, UntilOwner, UntilRoom, NoOtherAnswers}
 use Rattle.cell_haul.specs.declared.deposit_step.DepositStep.{DepositStep}
 use Rattle.cell_haul.specs.declared.deposit_step.DepositStep.TheVariants.{ClaimEntry, ClaimExit, PoseLanding, ReleaseEntry, TakePlate, StartRun, RunIn, RunOut, MoveOn, PoseOffering, GivePlate, ClaimBack}
 use Rattle.cell_haul.specs.declared.deposit_step.DepositProgress.{DepositProgress}
@@ -37,17 +33,17 @@ in_barrier = record { barrier = true }
 abbrev pub barrier_off : DepositSense
 barrier_off = record { barrier = false }
 
--- where the program begins, by the one place that is full
-abbrev pub begins_with : Place → DepositProgress
-begins_with DepEntry = at ClaimEntry true false
-begins_with DepEnd = at ClaimEntry false true
-begins_with _ = at ClaimEntry false false
+-- where the program begins, by whether a plate is at the belt's entry and at its end
+abbrev pub begins_with : Bool → Bool → DepositProgress
+begins_with false false = at ClaimEntry false false
+begins_with true false = at ClaimEntry true false
+begins_with false true = at ClaimEntry false true
+begins_with true true = at ClaimEntry true true
 
+-- by every set of full places, and by nothing else
 pub record DepositStarts : Type 0 where
   pub whose : deposit_steps.machine ≡ Deposit
-  pub empty_cell : deposit_steps.start (start_state empty 0) ≡ at ClaimEntry false false
-  pub one_plate : (p : Place) → deposit_steps.start (start_state (insert_place empty p) 0) ≡ begins_with p
-  pub two_plates : deposit_steps.start (start_state (insert_place (insert_place empty DepEntry) DepEnd) 0) ≡ at ClaimEntry true true
+  pub by_places : (s : ModelState) → deposit_steps.start s ≡ begins_with s.full.dep_entry s.full.dep_end
 
 pub record DepositAsks (entry last : Bool) : Type 0 where
   pub claims_entry : AskRow deposit_steps (at ClaimEntry entry last) (Claim Z4) [] (at ClaimExit entry last)
@@ -89,5 +85,6 @@ pub record DepositRowsAreMet : Type 0 where
   pub asks : (entry last : Bool) → DepositAsks entry last
   pub drives : (entry last : Bool) → DepositDrives entry last
   pub checks : (s : DepositSense) → DepositChecks s
+  pub no_other_answers : NoOtherAnswers deposit_steps
   pub rests : (p : DepositProgress) → deposit_steps.rest p ≡ stands
   pub demands : (p : DepositProgress) (opening : ModelState) (seen : List Event) → deposit_steps.motor_demands p runs opening seen → DemandsBoth opening seen

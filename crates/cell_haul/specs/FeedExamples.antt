@@ -2,8 +2,7 @@
 use Rattle.std.specs.Prelude.{◌≡◌, pos, Bool, true, false, List, [], ◌∷◌, Ok, Err}
 use Rattle.cell_types.specs.declared.machine.Machine.TheVariants.{Feed}
 use Rattle.cell_types.specs.declared.zone.Zone.TheVariants.{Z1, Z6}
-use Rattle.cell_types.specs.declared.place.Place.{Place}
-use Rattle.cell_types.specs.declared.place.Place.TheVariants.{FeedEntry, FeedEnd}
+use Rattle.cell_types.specs.declared.place.Place.TheVariants.{FeedEnd}
 use Rattle.cell_types.specs.declared.pose.Pose.TheVariants.{Landing, Running, Halted}
 use Rattle.cell_types.specs.declared.posture.Posture.TheVariants.{Moving}
 use Rattle.cell_types.specs.declared.call.Call.TheVariants.{Claim, Give, Take, Release, SetPose, Advance}
@@ -13,9 +12,7 @@ use Rattle.cell_calib.specs.declared.sense.SensorFault.{SensorFault}
 use Rattle.cell_devices.specs.declared.act.FeedAct.{FeedAct}
 use Rattle.cell_rules.specs.ModelState.{ModelState}
 use Rattle.cell_rules.specs.History.{Holds, posture_by_events, plates_at}
-use Rattle.cell_rules.specs.PlaceSet.{empty, insert_place}
-use Rattle.cell_rules.specs.Start.{start_state}
-use Rattle.cell_control.specs.Rows.{AskRow, DriveRow, UntilFree, UntilOwner, UntilOpen}
+use Rattle.cell_control.specs.Rows.{AskRow, DriveRow, UntilFree, UntilOwner, UntilOpen, NoOtherAnswers}
 use Rattle.cell_haul.specs.declared.feed_step.FeedStep.{FeedStep}
 use Rattle.cell_haul.specs.declared.feed_step.FeedStep.TheVariants.{ClaimEntry, PoseLanding, ReleaseEntry, TakePlate, StartIn, RunIn, MoveOn, ClaimExit, StartOut, RunOut, Halt, GivePlate}
 use Rattle.cell_haul.specs.declared.feed_step.FeedProgress.{FeedProgress}
@@ -37,17 +34,17 @@ in_barrier = record { barrier = true }
 abbrev pub barrier_off : FeedSense
 barrier_off = record { barrier = false }
 
--- where the program begins, by the one place that is full
-abbrev pub begins_with : Place → FeedProgress
-begins_with FeedEntry = at ClaimEntry true false
-begins_with FeedEnd = at ClaimEntry false true
-begins_with _ = at ClaimEntry false false
+-- where the program begins, by whether a plate is at the belt's entry and at its end
+abbrev pub begins_with : Bool → Bool → FeedProgress
+begins_with false false = at ClaimEntry false false
+begins_with true false = at ClaimEntry true false
+begins_with false true = at ClaimEntry false true
+begins_with true true = at ClaimEntry true true
 
+-- by every set of full places, and by nothing else
 pub record FeedStarts : Type 0 where
   pub whose : feed_steps.machine ≡ Feed
-  pub empty_cell : feed_steps.start (start_state empty 0) ≡ at ClaimEntry false false
-  pub one_plate : (p : Place) → feed_steps.start (start_state (insert_place empty p) 0) ≡ begins_with p
-  pub two_plates : feed_steps.start (start_state (insert_place (insert_place empty FeedEntry) FeedEnd) 0) ≡ at ClaimEntry true true
+  pub by_places : (s : ModelState) → feed_steps.start s ≡ begins_with s.full.feed_entry s.full.feed_end
 
 pub record FeedAsks (entry last : Bool) : Type 0 where
   pub claims_entry : AskRow feed_steps (at ClaimEntry false false) (Claim Z6) [] (at PoseLanding false false)
@@ -87,5 +84,6 @@ pub record FeedRowsAreMet : Type 0 where
   pub asks : (entry last : Bool) → FeedAsks entry last
   pub drives : (entry last : Bool) → FeedDrives entry last
   pub checks : (s : FeedSense) → FeedChecks s
+  pub no_other_answers : NoOtherAnswers feed_steps
   pub rests : (p : FeedProgress) → feed_steps.rest p ≡ stands
   pub demands : (p : FeedProgress) (opening : ModelState) (seen : List Event) → feed_steps.motor_demands p runs opening seen → DemandsToRun opening seen

@@ -3,8 +3,6 @@ use Rattle.std.proofs.Common.{◌≡◌, ◌∙◌, sym, ap, rules, ℕ, ℤ, po
 use Rattle.std.specs.Int.Signed.{le_z_yes, lt_z_yes}
 use Rattle.cell_types.specs.declared.machine.Machine.{Machine}
 use Rattle.cell_types.specs.declared.machine.Machine.TheVariants.{Robot}
-use Rattle.cell_types.specs.declared.place.Place.{Place}
-use Rattle.cell_types.specs.declared.place.Place.TheVariants.{Arm1, PressIn, PressOut, Arm2}
 use Rattle.cell_types.specs.declared.posture.Posture.{Posture}
 use Rattle.cell_types.specs.declared.posture.Posture.TheVariants.{OpenIn}
 use Rattle.cell_types.specs.declared.call.Call.TheVariants.{Release}
@@ -16,23 +14,35 @@ use Rattle.cell_devices.specs.declared.stops.TheConstants.{ROTATION_ARM1_TABLE, 
 use Rattle.cell_devices.specs.declared.act.RobotAct.{RobotAct}
 use Rattle.cell_devices.specs.Drives.{DrivesTo}
 use Rattle.cell_devices.proofs.DriveLemmas.{drives_one, stops_there, goes_plus, goes_minus}
-use Rattle.cell_rules.specs.PlaceSet.{empty, insert_place}
-use Rattle.cell_rules.specs.Start.{start_state}
-use Rattle.cell_control.specs.Rows.{stays_by, DriveRow, UntilFree, UntilOpen}
+use Rattle.cell_rules.specs.ModelState.{ModelState}
+use Rattle.cell_control.specs.Rows.{stays_by, DriveRow, UntilFree, UntilOpen, is_inquiry}
+use Rattle.cell_robot.specs.declared.robot_step.RobotStep.{RobotStep}
 use Rattle.cell_robot.specs.declared.robot_step.RobotStep.TheVariants.{TurnToTable, AwaitPlate, ReachTable, GripPlate, LeaveTable, TakePlate, ReleaseTable, TurnToLoad, ClaimPress, InspectPress, ReleasePress, ReachToLoad, DropInPress, LeaveLoaded, GiveToPress, TurnToUnload, AwaitForged, ReachToUnload, GripForged, LeaveUnloaded, TakeForged, ReleaseUnloaded, TurnToDeposit, ClaimDeposit, ReachDeposit, DropOnDeposit, LeaveDeposit, GiveToDeposit}
 use Rattle.cell_robot.specs.declared.robot_step.RobotNotes.{RobotNotes}
 use Rattle.cell_robot.specs.declared.robot_step.RobotMagnets.{RobotMagnets}
 use Rattle.cell_robot.specs.declared.robot_step.RobotProgress.{RobotProgress}
 use Rattle.cell_robot.specs.declared.robot_step.RobotReading.{RobotReading}
-use Rattle.cell_robot.specs.RobotProgram.{RobotScales, call_of, stays_on, step_after_inquiry, arm1_stop, arm2_stop, turns_to, Acts, after_act}
+use Rattle.cell_robot.specs.RobotProgram.{RobotScales, call_of, stays_on, step_after_inquiry, arm1_stop, arm2_stop, turns_to, Acts, after_act, after_done}
 use Rattle.cell_robot.specs.RobotExamples.{noted, magnets, at, told, rows_by, begins_with, for_plate, for_room, EndRows, RobotAsks, scales, TurnRows, Arm1Rows, Arm2Rows, Arm1BackRows, Arm2BackRows, RobotDrives, RobotChecks, RobotDemandRows, RobotRowsAreMet}
 
-begins : (points : RobotScales) (p : Place) → (rows_by points).start (start_state (insert_place empty p) 0) ≡ begins_with p
-begins points Arm1 = refl
-begins points PressIn = refl
-begins points PressOut = refl
-begins points Arm2 = refl
-begins points _ = refl
+begins : (points : RobotScales) (s : ModelState) (arm1 press_in press_out arm2 : Bool)
+    → (rows_by points).start (record s { full = record s.full { arm1 = arm1; press_in = press_in; press_out = press_out; arm2 = arm2 } }) ≡ begins_with arm1 press_in press_out arm2
+begins points s false false false false = refl
+begins points s true false false false = refl
+begins points s false true false false = refl
+begins points s true true false false = refl
+begins points s false false true false = refl
+begins points s true false true false = refl
+begins points s false true true false = refl
+begins points s true true true false = refl
+begins points s false false false true = refl
+begins points s true false false true = refl
+begins points s false true false true = refl
+begins points s true true false true = refl
+begins points s false false true true = refl
+begins points s true false true true = refl
+begins points s false true true true = refl
+begins points s true true true true = refl
 
 -- ---- steps that ask
 
@@ -281,12 +291,45 @@ demands = record {
   leaves_deposit = λ points n m act opening seen on k. let at = k.arm2 on in record { holds = at.0; stands = at.1 };
 }
 
+-- answers that can't come
+not_done : (s : RobotStep) (n : RobotNotes) (m : RobotMagnets) → is_inquiry (call_of s) ≡ true → after_done (at s n m) ≡ at s n m
+not_done AwaitPlate n m e = refl
+not_done InspectPress n m e = refl
+not_done AwaitForged n m e = refl
+not_done _ n m e = cc
+
+not_shown : (s : RobotStep) (owner : Option Machine) (flag : Bool) (posture : Posture) → is_inquiry (call_of s) ≡ false → step_after_inquiry s owner flag posture ≡ s
+not_shown AwaitPlate owner flag posture e = cc
+not_shown InspectPress owner flag posture e = cc
+not_shown AwaitForged owner flag posture e = cc
+not_shown _ owner flag posture e = refl
+
+never_refused : (s : RobotStep) (r : Refusal) → call_of s ≡ None → stays_on s r ≡ false
+never_refused TurnToTable r e = refl
+never_refused ReachTable r e = refl
+never_refused GripPlate r e = refl
+never_refused LeaveTable r e = refl
+never_refused TurnToLoad r e = refl
+never_refused ReachToLoad r e = refl
+never_refused DropInPress r e = refl
+never_refused LeaveLoaded r e = refl
+never_refused TurnToUnload r e = refl
+never_refused ReachToUnload r e = refl
+never_refused GripForged r e = refl
+never_refused LeaveUnloaded r e = refl
+never_refused TurnToDeposit r e = refl
+never_refused ReachDeposit r e = refl
+never_refused DropOnDeposit r e = refl
+never_refused LeaveDeposit r e = refl
+never_refused _ r e = cc
+
 pub robot-rows : RobotRowsAreMet
 robot-rows = record {
-  starts = λ points. record { whose = refl; empty_cell = refl; one_plate = begins points; on_both_arms = refl; on_arm1_and_in_press = refl; on_arm1_and_forged = refl; on_arm2_and_in_press = refl };
+  starts = λ points. record { whose = refl; by_places = λ s. begins points s s.full.arm1 s.full.press_in s.full.press_out s.full.arm2 };
   asks = asks;
   drives = drives;
   checks = checks;
+  no_other_answers = λ points. record { not_done = λ p e. not_done p.step p.notes p.magnets e; not_shown = λ p owner flag posture e. ap (λ s. at s p.notes p.magnets) (not_shown p.step owner flag posture e); not_refused = λ p r e. never_refused p.step r e };
   rests = λ points step n m. refl;
   demands = demands;
 }

@@ -4,8 +4,6 @@ use Rattle.cell_types.specs.declared.machine.Machine.{Machine}
 use Rattle.cell_types.specs.declared.machine.Machine.TheVariants.{Robot}
 use Rattle.cell_types.specs.declared.zone.Zone.{Zone}
 use Rattle.cell_types.specs.declared.zone.Zone.TheVariants.{Z2, Z3, Z4}
-use Rattle.cell_types.specs.declared.place.Place.{Place}
-use Rattle.cell_types.specs.declared.place.Place.TheVariants.{Arm1, PressIn, PressOut, Arm2}
 use Rattle.cell_types.specs.declared.posture.Posture.{Posture}
 use Rattle.cell_types.specs.declared.posture.Posture.TheVariants.{OpenIn, OpenOut}
 use Rattle.cell_types.specs.declared.call.Call.{Call}
@@ -19,10 +17,8 @@ use Rattle.cell_devices.specs.declared.motor.Motor.TheVariants.{Off, Plus, Minus
 use Rattle.cell_devices.specs.declared.act.RobotAct.{RobotAct}
 use Rattle.cell_rules.specs.ModelState.{ModelState}
 use Rattle.cell_rules.specs.History.{Holds, posture_by_events}
-use Rattle.cell_rules.specs.PlaceSet.{empty, insert_place}
-use Rattle.cell_rules.specs.Start.{start_state}
 use Rattle.cell_control.specs.Steps.{Steps}
-use Rattle.cell_control.specs.Rows.{AskRow, InquiryRow, DriveRow, UntilFree, UntilOpen}
+use Rattle.cell_control.specs.Rows.{AskRow, InquiryRow, DriveRow, UntilFree, UntilOpen, NoOtherAnswers}
 use Rattle.cell_robot.specs.declared.robot_step.RobotStep.{RobotStep}
 use Rattle.cell_robot.specs.declared.robot_step.RobotStep.TheVariants.{TurnToTable, AwaitPlate, ReachTable, GripPlate, LeaveTable, TakePlate, ReleaseTable, TurnToLoad, ClaimPress, InspectPress, ReleasePress, ReachToLoad, DropInPress, LeaveLoaded, GiveToPress, TurnToUnload, AwaitForged, ReachToUnload, GripForged, LeaveUnloaded, TakeForged, ReleaseUnloaded, TurnToDeposit, ClaimDeposit, ReachDeposit, DropOnDeposit, LeaveDeposit, GiveToDeposit}
 use Rattle.cell_robot.specs.declared.robot_step.RobotNotes.{RobotNotes}
@@ -58,24 +54,29 @@ rows_by points = robot_steps points (near_lines points)
 
 -- ---- where the program begins, by the places that are full
 
-abbrev pub begins_with : Place → RobotProgress
-begins_with Arm1 = at TurnToLoad (noted true false false) (magnets true false)
-begins_with PressIn = at TurnToUnload (noted false false true) (magnets false false)
-begins_with PressOut = at TurnToUnload (noted false false true) (magnets false false)
-begins_with Arm2 = at TurnToDeposit (noted false true false) (magnets false true)
-begins_with _ = at TurnToTable (noted false false false) (magnets false false)
+-- a plate on arm 1, one in the press that isn't forged, one there that is, and one on arm 2
+abbrev pub begins_with : Bool → Bool → Bool → Bool → RobotProgress
+begins_with false false false false = at TurnToTable (noted false false false) (magnets false false)
+begins_with true false false false = at TurnToLoad (noted true false false) (magnets true false)
+begins_with false true false false = at TurnToUnload (noted false false true) (magnets false false)
+begins_with true true false false = at TurnToUnload (noted true false true) (magnets true false)
+begins_with false false true false = at TurnToUnload (noted false false true) (magnets false false)
+begins_with true false true false = at TurnToUnload (noted true false true) (magnets true false)
+begins_with false true true false = at TurnToUnload (noted false false true) (magnets false false)
+begins_with true true true false = at TurnToUnload (noted true false true) (magnets true false)
+begins_with false false false true = at TurnToDeposit (noted false true false) (magnets false true)
+begins_with true false false true = at TurnToDeposit (noted true true false) (magnets true true)
+begins_with false true false true = at TurnToDeposit (noted false true true) (magnets false true)
+begins_with true true false true = at TurnToDeposit (noted true true true) (magnets true true)
+begins_with false false true true = at TurnToDeposit (noted false true true) (magnets false true)
+begins_with true false true true = at TurnToDeposit (noted true true true) (magnets true true)
+begins_with false true true true = at TurnToDeposit (noted false true true) (magnets false true)
+begins_with true true true true = at TurnToDeposit (noted true true true) (magnets true true)
 
-abbrev pub with_two : Place → Place → ModelState
-with_two p q = start_state (insert_place (insert_place empty p) q) 0
-
+-- by every set of full places, and by nothing else
 pub record RobotStarts (points : RobotScales) : Type 0 where
   pub whose : (rows_by points).machine ≡ Robot
-  pub empty_cell : (rows_by points).start (start_state empty 0) ≡ at TurnToTable (noted false false false) (magnets false false)
-  pub one_plate : (p : Place) → (rows_by points).start (start_state (insert_place empty p) 0) ≡ begins_with p
-  pub on_both_arms : (rows_by points).start (with_two Arm1 Arm2) ≡ at TurnToDeposit (noted true true false) (magnets true true)
-  pub on_arm1_and_in_press : (rows_by points).start (with_two Arm1 PressIn) ≡ at TurnToUnload (noted true false true) (magnets true false)
-  pub on_arm1_and_forged : (rows_by points).start (with_two Arm1 PressOut) ≡ at TurnToUnload (noted true false true) (magnets true false)
-  pub on_arm2_and_in_press : (rows_by points).start (with_two Arm2 PressIn) ≡ at TurnToDeposit (noted false true true) (magnets false true)
+  pub by_places : (s : ModelState) → (rows_by points).start s ≡ begins_with s.full.arm1 s.full.press_in s.full.press_out s.full.arm2
 
 -- ---- steps that ask
 
@@ -249,5 +250,6 @@ pub record RobotRowsAreMet : Type 0 where
   pub asks : (points : RobotScales) (arm1 arm2 fed : Bool) (m : RobotMagnets) → RobotAsks points arm1 arm2 fed m
   pub drives : (turn : ℕ) (retracted : Bool) (r : RobotReading) (n : RobotNotes) (first second : Bool) → RobotDrives turn retracted r n first second
   pub checks : RobotChecks
+  pub no_other_answers : (points : RobotScales) → NoOtherAnswers (rows_by points)
   pub rests : (points : RobotScales) (step : RobotStep) (n : RobotNotes) (m : RobotMagnets) → (rows_by points).rest (at step n m) ≡ told Off Off Off m
   pub demands : RobotDemandRows

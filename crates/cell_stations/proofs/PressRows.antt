@@ -1,21 +1,20 @@
 -- The rows of the press's program are as the examples have them.
-use Rattle.std.proofs.Common.{◌≡◌, Bool, [], ◌∷◌, refl}
-use Rattle.cell_types.specs.declared.place.Place.{Place}
-use Rattle.cell_types.specs.declared.place.Place.TheVariants.{PressIn, PressOut}
+use Rattle.std.proofs.Common.{◌≡◌, Bool, true, false, [], ◌∷◌, refl, None}
 use Rattle.cell_types.specs.declared.answer.Refusal.{Refusal}
 use Rattle.cell_types.specs.declared.answer.Refusal.TheVariants.{Held, NotOwner, PlaceFull}
 use Rattle.cell_devices.specs.declared.motor.Direction.{Direction}
-use Rattle.cell_rules.specs.PlaceSet.{empty, insert_place}
-use Rattle.cell_rules.specs.Start.{start_state}
-use Rattle.cell_control.specs.Rows.{stays_by, UntilFree, UntilOwner, UntilRoom}
-use Rattle.cell_stations.specs.declared.press_step.PressStep.TheVariants.{TakePlate, GivePlate, ClaimBack}
-use Rattle.cell_stations.specs.PressProgram.{stays_on, press_steps}
+use Rattle.cell_rules.specs.ModelState.{ModelState}
+use Rattle.cell_control.specs.Rows.{stays_by, UntilFree, UntilOwner, UntilRoom, is_inquiry}
+use Rattle.cell_stations.specs.declared.press_step.PressStep.{PressStep}
+use Rattle.cell_stations.specs.declared.press_step.PressStep.TheVariants.{TakePlate, GivePlate, ClaimBack, ClaimFirst, MoveToMiddle, MoveToTop, MoveToBottom}
+use Rattle.cell_stations.specs.PressProgram.{stays_on, press_steps, call_of}
 use Rattle.cell_stations.specs.PressExamples.{begins_with, PressAsks, PressDrives, PressRowsAreMet}
 
-begins : (p : Place) → press_steps.start (start_state (insert_place empty p) 0) ≡ begins_with p
-begins PressIn = refl
-begins PressOut = refl
-begins _ = refl
+begins : (s : ModelState) (loaded forged : Bool) → press_steps.start (record s { full = record s.full { press_in = loaded; press_out = forged } }) ≡ begins_with loaded forged
+begins s false false = refl
+begins s true false = refl
+begins s false true = refl
+begins s true true = refl
 
 stays_taking : (r : Refusal) → stays_on TakePlate r ≡ stays_by (UntilOwner ∷ []) r
 stays_taking (NotOwner _) = refl
@@ -64,12 +63,24 @@ drives loaded forged d = record {
   to_bottom_there = record { asks_nothing = refl; drives = refl; drives_only = λ other e. e; leads = refl };
 }
 
+-- answers that can't come
+no_inquiry : (s : PressStep) → is_inquiry (call_of s) ≡ true → ⊥
+no_inquiry ClaimFirst e = cc
+no_inquiry _ e = cc
+
+never_refused : (s : PressStep) (r : Refusal) → call_of s ≡ None → stays_on s r ≡ false
+never_refused MoveToMiddle r e = refl
+never_refused MoveToTop r e = refl
+never_refused MoveToBottom r e = refl
+never_refused _ r e = cc
+
 pub press-rows : PressRowsAreMet
 press-rows = record {
-  starts = record { whose = refl; empty_cell = refl; one_plate = begins };
+  starts = record { whose = refl; by_places = λ s. begins s s.full.press_in s.full.press_out };
   asks = asks;
   drives = drives;
   checks = record { bottom = refl; middle = refl; top = refl; none = refl; bottom_and_middle = refl; bottom_and_top = refl; middle_and_top = refl; all_three = refl };
+  no_other_answers = record { not_done = λ p e. absurd (no_inquiry p.step e); not_shown = λ p owner flag posture e. refl; not_refused = λ p r e. never_refused p.step r e };
   rests = λ p. refl;
   demands = λ p motor opening seen on k. k on;
 }

@@ -1,27 +1,24 @@
 -- The rows of the table's program are as the examples have them.
-use Rattle.std.proofs.Common.{◌≡◌, ◌∙◌, sym, ap, rules, None, pos, Bool, [], ◌∷◌, refl}
+use Rattle.std.proofs.Common.{◌≡◌, ◌∙◌, sym, ap, rules, None, pos, Bool, true, false, [], ◌∷◌, refl}
 use Rattle.std.specs.Int.Signed.{le_z_yes, lt_z_yes}
-use Rattle.cell_types.specs.declared.place.Place.{Place}
-use Rattle.cell_types.specs.declared.place.Place.TheVariants.{Table as OnTable}
 use Rattle.cell_types.specs.declared.answer.Refusal.{Refusal}
 use Rattle.cell_types.specs.declared.answer.Refusal.TheVariants.{Held, NotOwner, PlaceFull}
 use Rattle.cell_calib.specs.Scale.{Scale}
 use Rattle.cell_devices.specs.declared.stops.Stop.{Stop}
 use Rattle.cell_devices.specs.declared.act.TableAct.{TableAct}
 use Rattle.cell_devices.proofs.DriveLemmas.{drives_one, stops_there, goes_plus, goes_minus}
-use Rattle.cell_rules.specs.PlaceSet.{empty, insert_place}
-use Rattle.cell_rules.specs.Start.{start_state}
-use Rattle.cell_control.specs.Rows.{stays_by, DriveRow, UntilFree, UntilOwner, UntilRoom}
+use Rattle.cell_rules.specs.ModelState.{ModelState}
+use Rattle.cell_control.specs.Rows.{stays_by, DriveRow, UntilFree, UntilOwner, UntilRoom, is_inquiry}
 use Rattle.cell_stations.specs.declared.table_step.TableStep.{TableStep}
-use Rattle.cell_stations.specs.declared.table_step.TableStep.TheVariants.{MoveToLoading, MoveToUnloading, TakePlate, GivePlate, ClaimBack}
+use Rattle.cell_stations.specs.declared.table_step.TableStep.TheVariants.{MoveToLoading, MoveToUnloading, TakePlate, GivePlate, ClaimBack, ClaimEntry}
 use Rattle.cell_stations.specs.declared.table_step.TableReading.{TableReading}
 use Rattle.cell_stations.specs.declared.table_step.TableProgress.{TableProgress}
 use Rattle.cell_stations.specs.TableProgram.{call_of, stays_on, rotation_stop, Acts, after_act}
 use Rattle.cell_stations.specs.TableExamples.{begins_with, rows_by, scale, at, told, TableAsks, TableDrives, TableChecks, TableRowsAreMet}
 
-begins : (points : Scale) (p : Place) → (rows_by points).start (start_state (insert_place empty p) 0) ≡ begins_with p
-begins points OnTable = refl
-begins points _ = refl
+begins : (points : Scale) (s : ModelState) (loaded : Bool) → (rows_by points).start (record s { full = record s.full { table = loaded } }) ≡ begins_with loaded
+begins points s false = refl
+begins points s true = refl
 
 stays_taking : (r : Refusal) → stays_on TakePlate r ≡ stays_by (UntilOwner ∷ []) r
 stays_taking (NotOwner _) = refl
@@ -97,12 +94,23 @@ checks = record {
   not_by_line = λ k. search rules;
 }
 
+-- answers that can't come
+no_inquiry : (s : TableStep) → is_inquiry (call_of s) ≡ true → ⊥
+no_inquiry ClaimEntry e = cc
+no_inquiry _ e = cc
+
+never_refused : (s : TableStep) (r : Refusal) → call_of s ≡ None → stays_on s r ≡ false
+never_refused MoveToLoading r e = refl
+never_refused MoveToUnloading r e = refl
+never_refused _ r e = cc
+
 pub table-rows : TableRowsAreMet
 table-rows = record {
-  starts = λ points. record { whose = refl; empty_cell = refl; one_plate = begins points };
+  starts = λ points. record { whose = refl; by_places = λ s. begins points s s.full.table };
   asks = asks;
   drives = drives;
   checks = checks;
+  no_other_answers = λ points. record { not_done = λ p e. absurd (no_inquiry p.step e); not_shown = λ p owner flag posture e. refl; not_refused = λ p r e. never_refused p.step r e };
   rests = λ points p. refl;
   demands = λ points p height rotation opening seen on k. let at = k on in record { holds_entry = at.0.0; holds_exit = at.0.1; entry_moves = at.1.0; exit_moves = at.1.1 };
 }

@@ -2,8 +2,6 @@
 use Rattle.std.specs.Prelude.{◌≡◌, ◌≢◌, Bool, true, false, List, [], ◌∷◌, Ok, Err}
 use Rattle.cell_types.specs.declared.machine.Machine.TheVariants.{Press}
 use Rattle.cell_types.specs.declared.zone.Zone.TheVariants.{Z3}
-use Rattle.cell_types.specs.declared.place.Place.{Place}
-use Rattle.cell_types.specs.declared.place.Place.TheVariants.{PressIn, PressOut}
 use Rattle.cell_types.specs.declared.pose.Pose.TheVariants.{Travelling, Middle, Low, Top}
 use Rattle.cell_types.specs.declared.call.Call.TheVariants.{Claim, Give, Take, Release, SetPose, Advance}
 use Rattle.cell_calib.specs.declared.sense.PressSense.{PressSense}
@@ -17,9 +15,7 @@ use Rattle.cell_types.specs.declared.answer.Event.{Event}
 use Rattle.cell_types.specs.declared.posture.Posture.TheVariants.{Moving}
 use Rattle.cell_rules.specs.ModelState.{ModelState}
 use Rattle.cell_rules.specs.History.{Holds, posture_by_events}
-use Rattle.cell_rules.specs.PlaceSet.{empty, insert_place}
-use Rattle.cell_rules.specs.Start.{start_state}
-use Rattle.cell_control.specs.Rows.{AskRow, DriveRow, UntilFree, UntilOwner, UntilRoom}
+use Rattle.cell_control.specs.Rows.{AskRow, DriveRow, UntilFree, UntilOwner, UntilRoom, NoOtherAnswers}
 use Rattle.cell_stations.specs.declared.press_step.PressStep.{PressStep}
 use Rattle.cell_stations.specs.declared.press_step.PressStep.TheVariants.{ClaimFirst, LeaveForMiddle, MoveToMiddle, PoseMiddle, ReleaseInterior, TakePlate, LeaveForTop, MoveToTop, PoseTop, Forge, LeaveForBottom, MoveToBottom, PoseLow, GivePlate, ClaimBack}
 use Rattle.cell_stations.specs.declared.press_step.PressProgress.{PressProgress}
@@ -47,16 +43,17 @@ at_top = switches false false true
 abbrev pub between : PressSense
 between = switches false false false
 
--- where the program begins, by the one place that is full
-abbrev pub begins_with : Place → PressProgress
-begins_with PressIn = at ClaimFirst true false Downward
-begins_with PressOut = at ClaimFirst false true Downward
-begins_with _ = at ClaimFirst false false Downward
+-- where the program begins, by the press's two places: whether a plate is there that isn't forged, and one that is
+abbrev pub begins_with : Bool → Bool → PressProgress
+begins_with false false = at ClaimFirst false false Downward
+begins_with true false = at ClaimFirst true false Downward
+begins_with false true = at ClaimFirst false true Downward
+begins_with true true = at ClaimFirst true true Downward
 
+-- by every set of full places, and by nothing else
 pub record PressStarts : Type 0 where
   pub whose : press_steps.machine ≡ Press
-  pub empty_cell : press_steps.start (start_state empty 0) ≡ at ClaimFirst false false Downward
-  pub one_plate : (p : Place) → press_steps.start (start_state (insert_place empty p) 0) ≡ begins_with p
+  pub by_places : (s : ModelState) → press_steps.start s ≡ begins_with s.full.press_in s.full.press_out
 
 pub record PressAsks (loaded forged : Bool) (d : Direction) : Type 0 where
   pub claims : AskRow press_steps (at ClaimFirst false false d) (Claim Z3) [] (at LeaveForMiddle false false d)
@@ -105,5 +102,6 @@ pub record PressRowsAreMet : Type 0 where
   pub asks : (loaded forged : Bool) (d : Direction) → PressAsks loaded forged d
   pub drives : (loaded forged : Bool) (d : Direction) → PressDrives loaded forged d
   pub checks : PressChecks
+  pub no_other_answers : NoOtherAnswers press_steps
   pub rests : (p : PressProgress) → press_steps.rest p ≡ told Off
   pub demands : (p : PressProgress) (motor : Motor) (opening : ModelState) (seen : List Event) → motor ≢ Off → press_steps.motor_demands p (told motor) opening seen → Holds opening seen Press Z3 × (posture_by_events opening seen Z3 ≡ Moving)

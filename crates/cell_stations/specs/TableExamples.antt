@@ -2,8 +2,6 @@
 use Rattle.std.specs.Prelude.{◌≡◌, ◌≢◌, ◌⊎◌, ℕ, ℤ, pos, Bool, true, false, List, [], ◌∷◌, Ok, Err}
 use Rattle.cell_types.specs.declared.machine.Machine.TheVariants.{Table as TableMachine}
 use Rattle.cell_types.specs.declared.zone.Zone.TheVariants.{Z1, Z2}
-use Rattle.cell_types.specs.declared.place.Place.{Place}
-use Rattle.cell_types.specs.declared.place.Place.TheVariants.{Table as OnTable}
 use Rattle.cell_types.specs.declared.pose.Pose.TheVariants.{Turning, Loading, Unloading}
 use Rattle.cell_types.specs.declared.call.Call.TheVariants.{Claim, Give, Take, Release, SetPose}
 use Rattle.cell_calib.specs.Scale.{Scale}
@@ -17,10 +15,8 @@ use Rattle.cell_types.specs.declared.answer.Event.{Event}
 use Rattle.cell_types.specs.declared.posture.Posture.TheVariants.{Moving}
 use Rattle.cell_rules.specs.ModelState.{ModelState}
 use Rattle.cell_rules.specs.History.{Holds, posture_by_events}
-use Rattle.cell_rules.specs.PlaceSet.{empty, insert_place}
-use Rattle.cell_rules.specs.Start.{start_state}
 use Rattle.cell_control.specs.Steps.{Steps}
-use Rattle.cell_control.specs.Rows.{AskRow, DriveRow, UntilFree, UntilOwner, UntilRoom}
+use Rattle.cell_control.specs.Rows.{AskRow, DriveRow, UntilFree, UntilOwner, UntilRoom, NoOtherAnswers}
 use Rattle.cell_stations.specs.declared.table_step.TableStep.{TableStep}
 use Rattle.cell_stations.specs.declared.table_step.TableStep.TheVariants.{ClaimEntry, ClaimExit, LeaveForLoading, MoveToLoading, PoseLoading, ReleaseEntry, TakePlate, LeaveForUnloading, MoveToUnloading, PoseUnloading, GivePlate, ClaimBack}
 use Rattle.cell_stations.specs.declared.table_step.TableProgress.{TableProgress}
@@ -44,15 +40,15 @@ reads bottom top turn = record { sense = shown bottom top 0; turn = pos turn }
 abbrev pub rows_by : Scale → Steps TableProgress TableSense TableReading TableAct
 rows_by points = table_steps points (IsReading points)
 
--- where the program begins, by the one place that is full
-abbrev pub begins_with : Place → TableProgress
-begins_with OnTable = at ClaimEntry true
-begins_with _ = at ClaimEntry false
+-- where the program begins, by whether a plate is on the table
+abbrev pub begins_with : Bool → TableProgress
+begins_with false = at ClaimEntry false
+begins_with true = at ClaimEntry true
 
+-- by every set of full places, and by nothing else
 pub record TableStarts (points : Scale) : Type 0 where
   pub whose : (rows_by points).machine ≡ TableMachine
-  pub empty_cell : (rows_by points).start (start_state empty 0) ≡ at ClaimEntry false
-  pub one_plate : (p : Place) → (rows_by points).start (start_state (insert_place empty p) 0) ≡ begins_with p
+  pub by_places : (s : ModelState) → (rows_by points).start s ≡ begins_with s.full.table
 
 pub record TableAsks (points : Scale) (loaded : Bool) : Type 0 where
   pub claims_entry : AskRow (rows_by points) (at ClaimEntry loaded) (Claim Z1) [] (at ClaimExit loaded)
@@ -115,6 +111,7 @@ pub record TableRowsAreMet : Type 0 where
   pub asks : (points : Scale) (loaded : Bool) → TableAsks points loaded
   pub drives : (loaded : Bool) → TableDrives loaded
   pub checks : TableChecks
+  pub no_other_answers : (points : Scale) → NoOtherAnswers (rows_by points)
   pub rests : (points : Scale) (p : TableProgress) → (rows_by points).rest p ≡ told Off Off
   pub demands : (points : Scale) (p : TableProgress) (height rotation : Motor) (opening : ModelState) (seen : List Event) → (height ≢ Off) ⊎ (rotation ≢ Off)
       → (rows_by points).motor_demands p (told height rotation) opening seen → DemandsBoth opening seen
