@@ -8,6 +8,8 @@ mod common;
 #[cfg(test)]
 mod drives;
 #[cfg(test)]
+mod full_line;
+#[cfg(test)]
 mod notebooks;
 #[cfg(test)]
 mod parts;

@@ -1,10 +1,11 @@
 //! Seats, at which sits a machine that claims the press's interior, and once that is done lights a lamp.
 
 use super::common::EMPTY;
+use super::full_line::FullLine;
 use cell_calib::SensorFault;
 use cell_control::{Controller, CtlFault, Part, Program};
-use cell_notes::{Counts, Notebook, Status};
-use cell_rules::{Bench, State};
+use cell_notes::{Asked, Counts, Notebook, Status};
+use cell_rules::{Bench, Line, LineFault, State};
 use cell_seat::{Seat, seat_turn, status_of};
 use cell_types::{Call, Event, Machine, Posture, Refusal, Zone};
 use std::alloc::Global;
@@ -210,6 +211,36 @@ fn has_stopped(run: &Run) -> bool {
 fn a_seat_that_has_stopped_is_passed_over(rt: HostRuntime) {
     let run = run_turns(&rt, rt.alloc(), LAST, &[false, false]);
     assert!(rt; has_stopped(&run));
+}
+
+// What it asks on a line that has no memory, and in the turn after that, and how it stands then.
+fn asked_out_of_memory(start: State) -> (Asked, Asked, u64, Status, (bool, bool)) {
+    let mut line = FullLine::new(Machine::Press, start);
+    let mut seat = Seat {
+        controller: Controller::new(&start, ClaimThenLight),
+        part: Lamp {
+            lit: true,
+            noted: false,
+        },
+    };
+    let first = seat.turn(&mut line);
+    let then = seat.turn(&mut line);
+    let status = status_of(seat.controller.stopped());
+    (
+        first,
+        then,
+        line.heard().asks,
+        status,
+        (seat.part.lit, seat.part.noted),
+    )
+}
+
+#[test]
+fn a_seat_that_gets_no_memory_stops(rt: HostRuntime) {
+    let start = State::start(EMPTY, 0).expect(&rt, "a start");
+    let refused: Asked = Some((Call::Claim(Zone::Z3), Err(LineFault::Memory)));
+    let end = (refused, None, 1, Status::Memory, (false, false));
+    assert!(rt; asked_out_of_memory(start) == end);
 }
 
 const STATUSES: &[(Option<CtlFault>, Status)] = &[
