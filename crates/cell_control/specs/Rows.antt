@@ -1,5 +1,5 @@
 -- Rows of a program, to be stated with literal steps, calls, refusals, readings and notes: a table that has other rows is refused.
-use Rattle.std.specs.Prelude.{◌≡◌, Bool, true, false, ◌||◌, List, [], ◌∷◌, Option, Some, None}
+use Rattle.std.specs.Prelude.{◌≡◌, Bool, true, false, ◌||◌, List, [], ◌∷◌, Option, Some, None, Result}
 use Rattle.cell_types.specs.declared.machine.Machine.{Machine}
 use Rattle.cell_types.specs.declared.zone.Zone.{Zone}
 use Rattle.cell_types.specs.declared.posture.Posture.{Posture}
@@ -7,6 +7,7 @@ use Rattle.cell_types.specs.declared.call.Call.{Call}
 use Rattle.cell_types.specs.declared.call.Call.TheVariants.{Inquire}
 use Rattle.cell_types.specs.declared.answer.Refusal.{Refusal}
 use Rattle.cell_types.specs.declared.answer.Refusal.TheVariants.{Held, NotOwner, PlaceFull, Shut}
+use Rattle.cell_calib.specs.declared.sense.SensorFault.{SensorFault}
 use Rattle.cell_control.specs.Steps.{Steps}
 
 -- what a step may wait for, by the refusal on which it stays
@@ -45,6 +46,11 @@ pub record DriveRow {S Sense Reading Act : Type 0} (t : Steps S Sense Reading Ac
   pub drives : t.drives p reading act
   pub drives_only : (other : Act) → t.drives p reading other → other ≡ act
   pub leads : t.after_drive p reading act ≡ next
+
+-- the sensors say this, and nothing else
+pub record CheckRow {S Sense Reading Act : Type 0} (t : Steps S Sense Reading Act) (s : Sense) (said : Result Reading SensorFault) : Type 0 where
+  pub says : t.senses s said
+  pub says_only : (other : Result Reading SensorFault) → t.senses s other → other ≡ said
 
 -- answers that can't come lead nowhere: an inquiry isn't done, no other call shows a zone, and a step that drives is refused nothing
 abbrev pub is_inquiry : Option Call → Bool

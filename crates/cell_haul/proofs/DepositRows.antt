@@ -68,7 +68,7 @@ deposit-rows = record {
   starts = record { whose = refl; by_places = λ s. begins s s.full.dep_entry s.full.dep_end };
   asks = asks;
   drives = drives;
-  checks = λ s. record { as_shown = refl; no_fault = λ fault e. cc };
+  checks = λ s. record { says = refl; says_only = λ other k. k };
   no_other_answers = record { not_done = λ p e. absurd (no_inquiry p.step e); not_shown = λ p owner flag posture e. refl; not_refused = λ p r e. never_refused p.step r e };
   rests = λ p. refl;
   demands = λ p opening seen k. let at = k refl in record { holds_entry = at.entry; holds_exit = at.exit; entry_moves = at.entry_moves; exit_moves = at.exit_moves };

@@ -64,7 +64,7 @@ feed-rows = record {
   starts = record { whose = refl; by_places = λ s. begins s s.full.feed_entry s.full.feed_end };
   asks = asks;
   drives = drives;
-  checks = λ s. record { as_shown = refl; no_fault = λ fault e. cc };
+  checks = λ s. record { says = refl; says_only = λ other k. k };
   no_other_answers = record { not_done = λ p e. absurd (no_inquiry p.step e); not_shown = λ p owner flag posture e. refl; not_refused = λ p r e. never_refused p.step r e };
   rests = λ p. refl;
   demands = λ p opening seen k. let at = k refl in record { holds_entry = at.entry; entry_moves = at.moves; holds_exit = at.exit };

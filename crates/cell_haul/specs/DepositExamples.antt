@@ -1,5 +1,5 @@
 -- Examples of the deposit belt's program: each row of it, with each state of its notes.
-use Rattle.std.specs.Prelude.{◌≡◌, Bool, true, false, List, [], ◌∷◌, Ok, Err}
+use Rattle.std.specs.Prelude.{◌≡◌, Bool, true, false, List, [], ◌∷◌, Ok}
 use Rattle.cell_types.specs.declared.machine.Machine.TheVariants.{Deposit}
 use Rattle.cell_types.specs.declared.zone.Zone.TheVariants.{Z4, Z5}
 use Rattle.cell_types.specs.declared.pose.Pose.TheVariants.{Landing, Running, Offering}
@@ -7,11 +7,10 @@ use Rattle.cell_types.specs.declared.posture.Posture.TheVariants.{Moving}
 use Rattle.cell_types.specs.declared.call.Call.TheVariants.{Claim, Give, Take, Release, SetPose, Advance}
 use Rattle.cell_types.specs.declared.answer.Event.{Event}
 use Rattle.cell_calib.specs.declared.sense.DepositSense.{DepositSense}
-use Rattle.cell_calib.specs.declared.sense.SensorFault.{SensorFault}
 use Rattle.cell_devices.specs.declared.act.DepositAct.{DepositAct}
 use Rattle.cell_rules.specs.ModelState.{ModelState}
 use Rattle.cell_rules.specs.History.{Holds, posture_by_events}
-use Rattle.cell_control.specs.Rows.{AskRow, DriveRow, UntilFree, UntilOwner, UntilRoom, NoOtherAnswers}
+use Rattle.cell_control.specs.Rows.{AskRow, DriveRow, CheckRow, UntilFree, UntilOwner, UntilRoom, NoOtherAnswers}
 use Rattle.cell_haul.specs.declared.deposit_step.DepositStep.{DepositStep}
 use Rattle.cell_haul.specs.declared.deposit_step.DepositStep.TheVariants.{ClaimEntry, ClaimExit, PoseLanding, ReleaseEntry, TakePlate, StartRun, RunIn, RunOut, MoveOn, PoseOffering, GivePlate, ClaimBack}
 use Rattle.cell_haul.specs.declared.deposit_step.DepositProgress.{DepositProgress}
@@ -67,11 +66,6 @@ pub record DepositDrives (entry last : Bool) : Type 0 where
   pub out_in_barrier : DriveRow deposit_steps (at RunOut entry last) in_barrier runs (at RunOut entry last)
   pub out_of_barrier : DriveRow deposit_steps (at RunOut entry last) barrier_off stands (at MoveOn entry last)
 
--- a light barrier can always be used
-pub record DepositChecks (s : DepositSense) : Type 0 where
-  pub as_shown : deposit_steps.senses s (Ok s)
-  pub no_fault : (fault : SensorFault) → ¬ deposit_steps.senses s (Err fault)
-
 -- a belt that runs demands both its zones, and that they move
 pub record DemandsBoth (opening : ModelState) (seen : List Event) : Type 0 where
   pub holds_entry : Holds opening seen Deposit Z4
@@ -84,7 +78,8 @@ pub record DepositRowsAreMet : Type 0 where
   pub starts : DepositStarts
   pub asks : (entry last : Bool) → DepositAsks entry last
   pub drives : (entry last : Bool) → DepositDrives entry last
-  pub checks : (s : DepositSense) → DepositChecks s
+  -- a light barrier can always be used
+  pub checks : (s : DepositSense) → CheckRow deposit_steps s (Ok s)
   pub no_other_answers : NoOtherAnswers deposit_steps
   pub rests : (p : DepositProgress) → deposit_steps.rest p ≡ stands
   pub demands : (p : DepositProgress) (opening : ModelState) (seen : List Event) → deposit_steps.motor_demands p runs opening seen → DemandsBoth opening seen

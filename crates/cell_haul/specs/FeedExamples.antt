@@ -1,5 +1,5 @@
 -- Examples of the feed belt's program: each row of it, with each state of its notes.
-use Rattle.std.specs.Prelude.{◌≡◌, pos, Bool, true, false, List, [], ◌∷◌, Ok, Err}
+use Rattle.std.specs.Prelude.{◌≡◌, pos, Bool, true, false, List, [], ◌∷◌, Ok}
 use Rattle.cell_types.specs.declared.machine.Machine.TheVariants.{Feed}
 use Rattle.cell_types.specs.declared.zone.Zone.TheVariants.{Z1, Z6}
 use Rattle.cell_types.specs.declared.place.Place.TheVariants.{FeedEnd}
@@ -8,11 +8,10 @@ use Rattle.cell_types.specs.declared.posture.Posture.TheVariants.{Moving}
 use Rattle.cell_types.specs.declared.call.Call.TheVariants.{Claim, Give, Take, Release, SetPose, Advance}
 use Rattle.cell_types.specs.declared.answer.Event.{Event}
 use Rattle.cell_calib.specs.declared.sense.FeedSense.{FeedSense}
-use Rattle.cell_calib.specs.declared.sense.SensorFault.{SensorFault}
 use Rattle.cell_devices.specs.declared.act.FeedAct.{FeedAct}
 use Rattle.cell_rules.specs.ModelState.{ModelState}
 use Rattle.cell_rules.specs.History.{Holds, posture_by_events, plates_at}
-use Rattle.cell_control.specs.Rows.{AskRow, DriveRow, UntilFree, UntilOwner, UntilOpen, NoOtherAnswers}
+use Rattle.cell_control.specs.Rows.{AskRow, DriveRow, CheckRow, UntilFree, UntilOwner, UntilOpen, NoOtherAnswers}
 use Rattle.cell_haul.specs.declared.feed_step.FeedStep.{FeedStep}
 use Rattle.cell_haul.specs.declared.feed_step.FeedStep.TheVariants.{ClaimEntry, PoseLanding, ReleaseEntry, TakePlate, StartIn, RunIn, MoveOn, ClaimExit, StartOut, RunOut, Halt, GivePlate}
 use Rattle.cell_haul.specs.declared.feed_step.FeedProgress.{FeedProgress}
@@ -67,11 +66,6 @@ pub record FeedDrives (entry last : Bool) : Type 0 where
   pub out_in_barrier : DriveRow feed_steps (at RunOut entry last) in_barrier runs (at RunOut entry last)
   pub out_of_barrier : DriveRow feed_steps (at RunOut entry last) barrier_off stands (at Halt entry last)
 
--- a light barrier can always be used
-pub record FeedChecks (s : FeedSense) : Type 0 where
-  pub as_shown : feed_steps.senses s (Ok s)
-  pub no_fault : (fault : SensorFault) → ¬ feed_steps.senses s (Err fault)
-
 -- a belt that runs demands the zone before the crane, moving, and the zone before the table where one plate is at its end
 pub record DemandsToRun (opening : ModelState) (seen : List Event) : Type 0 where
   pub holds_entry : Holds opening seen Feed Z6
@@ -83,7 +77,8 @@ pub record FeedRowsAreMet : Type 0 where
   pub starts : FeedStarts
   pub asks : (entry last : Bool) → FeedAsks entry last
   pub drives : (entry last : Bool) → FeedDrives entry last
-  pub checks : (s : FeedSense) → FeedChecks s
+  -- a light barrier can always be used
+  pub checks : (s : FeedSense) → CheckRow feed_steps s (Ok s)
   pub no_other_answers : NoOtherAnswers feed_steps
   pub rests : (p : FeedProgress) → feed_steps.rest p ≡ stands
   pub demands : (p : FeedProgress) (opening : ModelState) (seen : List Event) → feed_steps.motor_demands p runs opening seen → DemandsToRun opening seen

@@ -1,3 +1,4 @@
 pub mod Asks
+pub mod NoteRows
 pub mod Notes
 pub mod Statuses

@@ -4,6 +4,7 @@
 
 pub mod asked;
 pub mod counts;
+pub mod laws;
 pub mod notebook;
 pub mod run_record;
 pub mod schedule;

@@ -8,7 +8,7 @@ use Rattle.cell_control.specs.Rows.{stays_by, UntilFree, UntilOwner, UntilRoom, 
 use Rattle.cell_stations.specs.declared.press_step.PressStep.{PressStep}
 use Rattle.cell_stations.specs.declared.press_step.PressStep.TheVariants.{TakePlate, GivePlate, ClaimBack, ClaimFirst, MoveToMiddle, MoveToTop, MoveToBottom}
 use Rattle.cell_stations.specs.PressProgram.{stays_on, press_steps, call_of}
-use Rattle.cell_stations.specs.PressExamples.{begins_with, PressAsks, PressDrives, PressRowsAreMet}
+use Rattle.cell_stations.specs.PressExamples.{begins_with, PressAsks, PressDrives, PressChecks, PressRowsAreMet}
 
 begins : (s : ModelState) (loaded forged : Bool) → press_steps.start (record s { full = record s.full { press_in = loaded; press_out = forged } }) ≡ begins_with loaded forged
 begins s false false = refl
@@ -63,6 +63,18 @@ drives loaded forged d = record {
   to_bottom_there = record { asks_nothing = refl; drives = refl; drives_only = λ other e. e; leads = refl };
 }
 
+checks : PressChecks
+checks = record {
+  bottom = record { says = refl; says_only = λ other k. k };
+  middle = record { says = refl; says_only = λ other k. k };
+  top = record { says = refl; says_only = λ other k. k };
+  none = record { says = refl; says_only = λ other k. k };
+  bottom_and_middle = record { says = refl; says_only = λ other k. k };
+  bottom_and_top = record { says = refl; says_only = λ other k. k };
+  middle_and_top = record { says = refl; says_only = λ other k. k };
+  all_three = record { says = refl; says_only = λ other k. k };
+}
+
 -- answers that can't come
 no_inquiry : (s : PressStep) → is_inquiry (call_of s) ≡ true → ⊥
 no_inquiry ClaimFirst e = cc
@@ -79,7 +91,7 @@ press-rows = record {
   starts = record { whose = refl; by_places = λ s. begins s s.full.press_in s.full.press_out };
   asks = asks;
   drives = drives;
-  checks = record { bottom = refl; middle = refl; top = refl; none = refl; bottom_and_middle = refl; bottom_and_top = refl; middle_and_top = refl; all_three = refl };
+  checks = checks;
   no_other_answers = record { not_done = λ p e. absurd (no_inquiry p.step e); not_shown = λ p owner flag posture e. refl; not_refused = λ p r e. never_refused p.step r e };
   rests = λ p. refl;
   demands = λ p motor opening seen on k. k on;

@@ -86,10 +86,14 @@ checks = record {
   no_clash_at_bottom = λ k. search rules;
   no_clash_at_top = λ k. search rules;
   clash_before_raw_value = λ k. search rules;
+  clash_before_high_value = λ k. search rules;
   too_low = search rules;
+  too_low_is_no_reading = λ r k. search rules;
   not_too_low = λ k. search rules;
   too_high = search rules;
+  too_high_is_no_reading = λ r k. search rules;
   not_too_high = λ k. search rules;
+  switches_as_shown = λ s r k. k.switches;
   by_gauge = search rules;
   not_by_line = λ k. search rules;
 }

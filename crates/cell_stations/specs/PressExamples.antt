@@ -15,7 +15,7 @@ use Rattle.cell_types.specs.declared.answer.Event.{Event}
 use Rattle.cell_types.specs.declared.posture.Posture.TheVariants.{Moving}
 use Rattle.cell_rules.specs.ModelState.{ModelState}
 use Rattle.cell_rules.specs.History.{Holds, posture_by_events}
-use Rattle.cell_control.specs.Rows.{AskRow, DriveRow, UntilFree, UntilOwner, UntilRoom, NoOtherAnswers}
+use Rattle.cell_control.specs.Rows.{AskRow, DriveRow, CheckRow, UntilFree, UntilOwner, UntilRoom, NoOtherAnswers}
 use Rattle.cell_stations.specs.declared.press_step.PressStep.{PressStep}
 use Rattle.cell_stations.specs.declared.press_step.PressStep.TheVariants.{ClaimFirst, LeaveForMiddle, MoveToMiddle, PoseMiddle, ReleaseInterior, TakePlate, LeaveForTop, MoveToTop, PoseTop, Forge, LeaveForBottom, MoveToBottom, PoseLow, GivePlate, ClaimBack}
 use Rattle.cell_stations.specs.declared.press_step.PressProgress.{PressProgress}
@@ -87,14 +87,14 @@ pub record PressDrives (loaded forged : Bool) (d : Direction) : Type 0 where
   pub to_bottom_there : DriveRow press_steps (at MoveToBottom loaded forged d) at_bottom (told Off) (at PoseLow loaded forged d)
 
 pub record PressChecks : Type 0 where
-  pub bottom : press_steps.senses at_bottom (Ok at_bottom)
-  pub middle : press_steps.senses at_middle (Ok at_middle)
-  pub top : press_steps.senses at_top (Ok at_top)
-  pub none : press_steps.senses between (Ok between)
-  pub bottom_and_middle : press_steps.senses (switches true true false) (Err Clash)
-  pub bottom_and_top : press_steps.senses (switches true false true) (Err Clash)
-  pub middle_and_top : press_steps.senses (switches false true true) (Err Clash)
-  pub all_three : press_steps.senses (switches true true true) (Err Clash)
+  pub bottom : CheckRow press_steps at_bottom (Ok at_bottom)
+  pub middle : CheckRow press_steps at_middle (Ok at_middle)
+  pub top : CheckRow press_steps at_top (Ok at_top)
+  pub none : CheckRow press_steps between (Ok between)
+  pub bottom_and_middle : CheckRow press_steps (switches true true false) (Err Clash)
+  pub bottom_and_top : CheckRow press_steps (switches true false true) (Err Clash)
+  pub middle_and_top : CheckRow press_steps (switches false true true) (Err Clash)
+  pub all_three : CheckRow press_steps (switches true true true) (Err Clash)
 
 -- all of them; at a step that asks, the motor is off
 pub record PressRowsAreMet : Type 0 where

@@ -91,10 +91,14 @@ pub record TableChecks : Type 0 where
   pub no_clash_at_bottom : ¬ (rows_by scale).senses (shown true false 100) (Err Clash)
   pub no_clash_at_top : ¬ (rows_by scale).senses (shown false true 100) (Err Clash)
   pub clash_before_raw_value : ¬ (rows_by scale).senses (shown true true 99) (Err Low)
+  pub clash_before_high_value : ¬ (rows_by scale).senses (shown true true 4101) (Err High)
   pub too_low : (rows_by scale).senses (shown false false 99) (Err Low)
+  pub too_low_is_no_reading : (r : TableReading) → ¬ (rows_by scale).senses (shown false false 99) (Ok r)
   pub not_too_low : ¬ (rows_by scale).senses (shown false false 100) (Err Low)
   pub too_high : (rows_by scale).senses (shown true false 4101) (Err High)
+  pub too_high_is_no_reading : (r : TableReading) → ¬ (rows_by scale).senses (shown true false 4101) (Ok r)
   pub not_too_high : ¬ (rows_by scale).senses (shown true false 4100) (Err High)
+  pub switches_as_shown : (s : TableSense) (r : TableReading) → (rows_by scale).senses s (Ok r) → r.sense ≡ s
   pub by_gauge : (table_steps scale three).senses (shown false true 100) (Ok (record { sense = shown false true 100; turn = pos 3 }))
   pub not_by_line : ¬ (table_steps scale three).senses (shown false true 100) (Ok (record { sense = shown false true 100; turn = pos 0 }))
 
