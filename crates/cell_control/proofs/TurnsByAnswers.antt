@@ -1,20 +1,22 @@
 -- A turn leaves what its rows say.
-use Rattle.std.proofs.Common.{◌≡◌, ◌∙◌, ap, sym, subst, Bool, true, false, if◌then◌else◌, ℕ, Option, Some, None, Result, Ok, Err}
+use Rattle.std.proofs.Common.{◌≡◌, ◌∙◌, ap, sym, subst, refl, zero, suc, List, Bool, true, false, if◌then◌else◌, ℕ, Option, Some, None, Result, Ok, Err}
 use Rattle.std.specs.Prelude.{⊤}
 use Rattle.cell_types.specs.declared.call.Call.{Call}
 use Rattle.cell_types.specs.declared.answer.Refusal.{Refusal}
 use Rattle.cell_types.specs.declared.answer.Answer.TheVariants.{Refused}
+use Rattle.cell_types.specs.declared.answer.Event.{Event}
 use Rattle.cell_types.specs.declared.reply.Reply.{Reply}
 use Rattle.cell_types.specs.declared.reply.Reply.TheVariants.{Settled}
 use Rattle.cell_calib.specs.declared.sense.SensorFault.{SensorFault}
 use Rattle.cell_rules.specs.declared.heard.LineFault.{LineFault}
 use Rattle.cell_rules.specs.declared.heard.Heard.{Heard}
-use Rattle.cell_rules.specs.Programs.{Hears}
+use Rattle.cell_rules.specs.Programs.{Hears, MovesIn, Reached}
+use Rattle.cell_rules.specs.ModelState.{ModelState}
 use Rattle.cell_control.specs.declared.fault.CtlFault.TheVariants as fault
 use Rattle.cell_control.specs.Faults.{fault_of}
-use Rattle.cell_control.specs.Steps.{Steps, outcome}
+use Rattle.cell_control.specs.Steps.{Steps, after_answer, outcome, program_of}
 use Rattle.cell_control.specs.Turns.{Performed, PerformsCall, PerformsSensed, Turned, Turns, at_rest, turned, asked_at}
-use Rattle.cell_control.specs.TurnRows.{Says, Answered, stops_with, AnswerRows, SilentRows, HeardRows, TurnRows}
+use Rattle.cell_control.specs.TurnRows.{Says, Answered, stops_with, AnswerRows, SilentRows, HeardRows, AsksAlways, ReachedRows, TurnRows}
 
 module _ {S Sense Reading Act : Type 0} (t : Steps S Sense Reading Act) (p : S) (s : Sense) where
   -- a turn in which something was asked is what came back of that
@@ -113,5 +115,26 @@ module _ {S Sense Reading Act : Type 0} (t : Steps S Sense Reading Act) (p : S) 
     asks_once = λ reading call own says k. subst (λ o. Hears o before now) own (subst (λ x. Hears (asked_at t x p) before now) (says k.sensed k.senses) k.hears);
   }
 
+  -- where each step asks, none is passed by driving
+  no_moves : AsksAlways t → (n : ℕ) (q r : S) → MovesIn (program_of t) n q r → q ≡ r
+  no_moves always zero q r k = k
+  no_moves always (suc n) q r k =
+      let asks : t.call q ≡ Some (always q).0 = (always q).1 in
+      let asks_nothing : t.call q ≡ None = k.1.asks_nothing in
+      cc
+
+  reached : (opening : ModelState) (seen : List Event) → ReachedRows t p opening seen
+  reached opening seen = record {
+    at_first = (zero, refl);
+    by_none = λ always none k.
+        let moved = subst (λ h. Reached (program_of t) (t.start opening) h p) none k in
+        sym (no_moves always moved.0 (t.start opening) p moved.1);
+    by_one = λ e always one k.
+        let led = subst (λ h. Reached (program_of t) (t.start opening) h p) one k in
+        let first = no_moves always led.2.0 (t.start opening) led.0 led.2.1 in
+        let last = no_moves always led.5.0 led.1 p led.5.1 in
+        (ap t.call first ∙ led.3, ap (λ x. after_answer t x e.answer) first ∙ led.4 ∙ ap (λ x. Ok x) last);
+  }
+
   pub turn-rows : TurnRows t p s
-  turn-rows = record { answered = answers; silent = silent; heard = heard }
+  turn-rows = record { answered = answers; silent = silent; heard = heard; reached = reached }

@@ -1,5 +1,5 @@
 -- What a turn leaves, by what comes back of its call: rows with literal answers, for any step of any program.
-use Rattle.std.specs.Prelude.{◌≡◌, ⊤, ℕ, Bool, true, false, List, Option, Some, None, Result, Ok, Err}
+use Rattle.std.specs.Prelude.{◌≡◌, ⊤, ℕ, Bool, true, false, List, [], ◌∷◌, Option, Some, None, Result, Ok, Err}
 use Rattle.cell_types.specs.declared.machine.Machine.{Machine}
 use Rattle.cell_types.specs.declared.zone.Zone.{Zone}
 use Rattle.cell_types.specs.declared.posture.Posture.{Posture}
@@ -15,12 +15,12 @@ use Rattle.cell_rules.specs.declared.heard.LineFault.{LineFault}
 use Rattle.cell_rules.specs.declared.heard.LineFault.TheVariants as line
 use Rattle.cell_rules.specs.declared.heard.Heard.{Heard}
 use Rattle.cell_rules.specs.ModelState.{ModelState}
-use Rattle.cell_rules.specs.History.{Holds, posture_by_events}
+use Rattle.cell_rules.specs.History.{Holds, posture_by_events, own_events}
 use Rattle.cell_rules.specs.Seen.{heard_after}
 use Rattle.cell_control.specs.declared.fault.CtlFault.{CtlFault}
 use Rattle.cell_control.specs.declared.fault.CtlFault.TheVariants as fault
 use Rattle.cell_control.specs.Demands.{HoldsIn}
-use Rattle.cell_control.specs.Steps.{Steps}
+use Rattle.cell_control.specs.Steps.{Steps, outcome, IsReached}
 use Rattle.cell_control.specs.Turns.{Turned, Turns, HearsTurn}
 
 -- what the sensors say is this and nothing else
@@ -95,11 +95,22 @@ pub record HeardRows {S Sense Reading Act : Type 0} (t : Steps S Sense Reading A
   pub drives : t.call p ≡ None → HearsTurn t None p s before now → now ≡ before
   pub asks_once : (reading : Reading) (call : Call) → t.call p ≡ Some call → Says t s (Ok reading) → HearsTurn t None p s before now → (r : Result Reply LineFault) × (now ≡ heard_after before call r)
 
+-- how far a machine has come by its events: in a program each of whose steps asks, a step an event
+abbrev pub AsksAlways : {S Sense Reading Act : Type 0} → Steps S Sense Reading Act → Type 0
+AsksAlways {S = S} t = (q : S) → (call : Call) × (t.call q ≡ Some call)
+
+pub record ReachedRows {S Sense Reading Act : Type 0} (t : Steps S Sense Reading Act) (p : S) (opening : ModelState) (seen : List Event) : Type 0 where
+  pub at_first : IsReached t opening [] (t.start opening)
+  pub by_none : AsksAlways t → own_events seen t.machine ≡ [] → IsReached t opening seen p → p ≡ t.start opening
+  pub by_one : (e : Event) → AsksAlways t → own_events seen t.machine ≡ e ∷ [] → IsReached t opening seen p
+      → (t.call (t.start opening) ≡ Some e.call) × (outcome t (t.start opening) (Ok (Settled e.answer 0)) ≡ Ok p)
+
 -- all of them
 pub record TurnRows {S Sense Reading Act : Type 0} (t : Steps S Sense Reading Act) (p : S) (s : Sense) : Type 0 where
   pub answered : (w : Turned S Act) → AnswerRows t p s w
   pub silent : (w : Turned S Act) → SilentRows t p s w
   pub heard : (before now : Heard) → HeardRows t p s before now
+  pub reached : (opening : ModelState) (seen : List Event) → ReachedRows t p opening seen
 
 -- ---- what a motor that enters a zone demands
 

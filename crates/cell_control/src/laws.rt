@@ -11,8 +11,8 @@ use crate::program::Program;
 
 /// What a turn leaves, at any step of any program: where each answer leads, a refusal on which the step
 /// stays, each refusal on which it doesn't, a Busy, and a call that was refused its memory; that a
-/// controller whose sensors can't be used stops; that one which has stopped stays so; and what each of
-/// these turns asks.
+/// controller whose sensors can't be used stops; that one which has stopped stays so; what each of
+/// these turns asks; and how far the machine has come by none of its events, and by one.
 pub fn turns_by_answers<P: Program>(program: &P, progress: P::Progress, sense: &P::Sense)
     ensures { TurnRows (P.steps program.now) progress sense.now }
 {}
