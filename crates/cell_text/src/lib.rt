@@ -3,6 +3,7 @@
 #![tactic(auto)]
 
 pub mod input;
+pub mod laws;
 pub mod output;
 pub mod page;
 
