@@ -5,3 +5,4 @@ pub mod RecordLemmas
 pub mod Requests
 pub mod Starts
 pub mod Scripts
+pub mod ScriptRows

@@ -1,3 +1,4 @@
 pub mod Requests
 pub mod Script
 pub mod Faults
+pub mod ScriptExamples

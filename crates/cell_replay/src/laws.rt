@@ -4,6 +4,7 @@ ghost use Rattle.std.specs.Prelude.{◌≡◌, ◌≤◌, ℕ, length, min, IfOk
 ghost use Rattle.cell_rules.specs.History.{IsLegal};
 ghost use Rattle.cell_rules.specs.Start.{IsStartState};
 ghost use Rattle.cell_replay.specs.Script.{script_events, script_lines, script_outcome, script_rows, script_start};
+ghost use Rattle.cell_replay.specs.ScriptExamples.{ScriptsAreMet};
 
 use crate::script::{Outcome, ScriptFault};
 
@@ -27,4 +28,10 @@ pub fn lines_are_counted(script: &[u8])
         length script.now ≤ 4194304 → length (script_lines script.now) ≡ 65537 }
     ensures cut { script_outcome script.now ≡ Outcome.Refused ScriptFault.Long →
         length (script_lines script.now) ≡ min 65537 (length (script_rows script.now)) }
+{}
+
+/// Scripts with the whole text that each is answered: of calls, of each form of record 0, and of
+/// scripts that are cut.
+pub fn scripts_are_met()
+    ensures { ScriptsAreMet }
 {}
