@@ -15,3 +15,6 @@ pub mod Complete
 pub mod Counts
 pub mod Refusals
 pub mod Reports
+pub mod ReportRows
+pub mod OneFault
+pub mod AuditRows

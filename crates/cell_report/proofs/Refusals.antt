@@ -31,7 +31,7 @@ all_fit : (s : ModelState) (j : Machine → List Entry) (h : List Event) (t : �
 all_fit s j h t ordered legal own k =
     all_fit_from s s ordered (omega arith) (λ x i. noted_in_turn s j h x legal own (in_permutation_back (all_noted j) ordered x k.order.same i)) (followed s j h t ordered legal own k).fit
 
-fit_at : (s r : ModelState) (before : List Noted) (x : Noted) (rest : List Noted) → AllFit s r (before ++ x ∷ rest) → Fits s (after r (map event_of before)) x
+pub fit_at : (s r : ModelState) (before : List Noted) (x : Noted) (rest : List Noted) → AllFit s r (before ++ x ∷ rest) → Fits s (after r (map event_of before)) x
 fit_at s r [] x rest fit = fit.0
 fit_at s r (y ∷ before) x rest fit = fit_at s (next r y.machine y.entry.call) before x rest fit.1
 

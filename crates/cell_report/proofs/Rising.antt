@@ -30,18 +30,21 @@ rises_from key (x ∷ xs) up = (
   rises_from key xs (λ i j d h k. up (suc i) (suc j) d (omega (arith, h)) (omega (arith, k))),
 )
 
-at_or_in : (x : ℕ) (xs : List ℕ) (j : ℕ) (d : ℕ) → ((z : ℕ) → In z xs → x ≤ z) → j < length (x ∷ xs) → x ≤ get_or (x ∷ xs) j d
-at_or_in x xs zero d f h = omega arith
-at_or_in x xs (suc j) d f h = f (get_or xs j d) (in_at xs j d (omega (arith, h)))
+at_or_in : {X : Type 0} (key : X → ℕ) (x : X) (xs : List X) (j : ℕ) (d : X) → ((z : X) → In z xs → key x ≤ key z) → j < length (x ∷ xs) → key x ≤ key (get_or (x ∷ xs) j d)
+at_or_in key x xs zero d f h = omega arith
+at_or_in key x xs (suc j) d f h = f (get_or xs j d) (in_at xs j d (omega (arith, h)))
 
-from_ups_at : (x : ℕ) (xs : List ℕ) → Ups (x ∷ xs) → IsNonDecreasing xs → (i j d : ℕ) → i ≤ j → j < length (x ∷ xs) → get_or (x ∷ xs) i d ≤ get_or (x ∷ xs) j d
-from_ups_at x xs u up zero j d h k = at_or_in x xs j d u.0 k
-from_ups_at x xs u up (suc i) zero d h k = absurd (omega (arith, h))
-from_ups_at x xs u up (suc i) (suc j) d h k = up i j d (omega (arith, h)) (omega (arith, k))
+from_rises_at : {X : Type 0} (key : X → ℕ) (x : X) (xs : List X) → RisesBy key (x ∷ xs) → IsNonDecreasingBy key xs → (i j : ℕ) (d : X) → i ≤ j → j < length (x ∷ xs) → key (get_or (x ∷ xs) i d) ≤ key (get_or (x ∷ xs) j d)
+from_rises_at key x xs u up zero j d h k = at_or_in key x xs j d u.0 k
+from_rises_at key x xs u up (suc i) zero d h k = absurd (omega (arith, h))
+from_rises_at key x xs u up (suc i) (suc j) d h k = up i j d (omega (arith, h)) (omega (arith, k))
+
+pub from_rises : {X : Type 0} (key : X → ℕ) (xs : List X) → RisesBy key xs → IsNonDecreasingBy key xs
+from_rises key [] u = λ i j d h k. absurd (omega (arith, k))
+from_rises key (x ∷ xs) u = λ i j d h k. from_rises_at key x xs u (from_rises key xs u.1) i j d h k
 
 pub from_ups : (xs : List ℕ) → Ups xs → IsNonDecreasing xs
-from_ups [] u = λ i j d h k. absurd (omega (arith, k))
-from_ups (x ∷ xs) u = λ i j d h k. from_ups_at x xs u (from_ups xs u.1) i j d h k
+from_ups xs u = from_rises (λ n. n) xs u
 
 pub done_rank : (a : Answer) → is_done_answer a ≡ true → rank a ≡ 0
 done_rank Done e = refl

@@ -4,6 +4,7 @@
 
 pub mod audit_faults;
 pub mod audits;
+pub mod laws;
 mod ordered;
 pub mod report;
 mod retraced;

@@ -1,0 +1,78 @@
+-- Whole reports of two runs, in which no figure and no word is that of its neighbour, and the line of each audit.
+use Rattle.std.specs.Prelude.{◌≡◌, ℕ, pos, negsuc, Bool, true, false, List, [], ◌∷◌, ◌++◌, codes, Option, Some, None}
+use Rattle.cell_types.specs.declared.machine.Machine.{Machine}
+use Rattle.cell_types.specs.declared.machine.Machine.TheVariants.{Feed, Table, Robot, Crane}
+use Rattle.cell_types.specs.declared.posture.Posture.{Posture}
+use Rattle.cell_types.specs.declared.posture.Posture.TheVariants.{Closed, Moving, OpenIn, OpenOut}
+use Rattle.cell_types.specs.declared.journal.Journals.{Journals}
+use Rattle.cell_rules.specs.declared.zones.ZoneState.{ZoneState}
+use Rattle.cell_rules.specs.ZoneMap.{everywhere, free_zone, zone_map}
+use Rattle.cell_rules.specs.PlaceSet.{place_set}
+use Rattle.cell_rules.specs.ModelState.{ModelState, model_state}
+use Rattle.cell_notes.specs.declared.counts.Counts.{Counts}
+use Rattle.cell_notes.specs.declared.status.Status.TheVariants.{Fine, Worn, Sensor, Refused, Memory as NoMemory, GateLimit}
+use Rattle.cell_notes.specs.declared.run_record.RunRecord.{RunRecord}
+use Rattle.cell_report.specs.declared.audit_faults.AuditFault.TheVariants.{Twice, Gap, Differs, End, Memory}
+use Rattle.cell_report.specs.Report.{audit_line, report_text}
+
+abbrev pub counts : ℕ → ℕ → ℕ → ℕ → ℕ → Counts
+counts turns done read refused busy = record { turns = turns; done = done; read = read; refused = refused; busy = busy }
+
+abbrev pub zone : Option Machine → Bool → Posture → ZoneState
+zone owner flag posture = record { owner = owner; flag = flag; posture = posture }
+
+-- five plates at the start
+abbrev pub first : ModelState
+first = model_state (everywhere free_zone) (place_set true false true false false true false true false true) 1048570
+
+-- six at the end, two of them in zones
+abbrev pub last : ModelState
+last =
+    model_state
+    (zone_map (zone (Some Table) false Moving) (zone (Some Robot) true OpenOut) (zone None false OpenIn) (zone (Some Robot) false OpenIn) (zone (Some Crane) true OpenOut) (zone (Some Feed) false Closed))
+    (place_set true true false false true false true false false false) 1048575
+
+-- a run with seven machines' counts, of which the last are the watch's
+abbrev pub run : Option ModelState → Journals → RunRecord
+run end journals = record {
+  start = first;
+  counts = counts 10 11 12 13 14 ∷ counts 20 21 22 23 24 ∷ counts 30 31 32 33 34 ∷ counts 40 41 42 43 44 ∷ counts 50 51 52 53 54 ∷ counts 60 61 62 63 18446744073709551615 ∷ counts 70 71 72 73 74 ∷ [];
+  status = Worn ∷ Sensor ∷ Refused ∷ NoMemory ∷ GateLimit ∷ Fine ∷ Worn ∷ [];
+  journals = journals;
+  end = end;
+  axes = pos 0 ∷ pos 1 ∷ pos 20 ∷ pos 300 ∷ negsuc 3 ∷ pos 500 ∷ pos 2000 ∷ negsuc 2147483647 ∷ [];
+}
+
+abbrev pub start_and_machines : List ℕ
+start_and_machines =
+    codes "start 1010010101 1048570\n"
+    ++ codes "feed turns 10 done 11 read 12 refused 13 busy 14 worn\n"
+    ++ codes "table turns 20 done 21 read 22 refused 23 busy 24 sensor\n"
+    ++ codes "robot turns 30 done 31 read 32 refused 33 busy 34 refused\n"
+    ++ codes "press turns 40 done 41 read 42 refused 43 busy 44 memory\n"
+    ++ codes "deposit turns 50 done 51 read 52 refused 53 busy 54 gatelimit\n"
+    ++ codes "crane turns 60 done 61 read 62 refused 63 busy 18446744073709551615 ok\n"
+
+abbrev pub zones_and_places : List ℕ
+zones_and_places =
+    codes "zone z1 table 0 moving\n"
+    ++ codes "zone z2 robot 1 openout\n"
+    ++ codes "zone z3 free 0 openin\n"
+    ++ codes "zone z4 robot 0 openin\n"
+    ++ codes "zone z5 crane 1 openout\n"
+    ++ codes "zone z6 feed 0 closed\n"
+    ++ codes "places 1100101000\n"
+
+abbrev pub axes : List ℕ
+axes = codes "axes press 0 arm1 1 arm2 20 rotation 300 lift -4 turn 500 crane 2000 gripper -2147483648\n"
+
+pub record ReportsAreMet : Type 0 where
+  pub with_end : (journals : Journals) → report_text (run (Some last) journals) None
+      ≡ start_and_machines ++ zones_and_places ++ axes ++ codes "stamp 1048575 plates 6\n" ++ codes "audit ok\n"
+  pub without_end : (journals : Journals) → report_text (run None journals) (Some (Gap 17)) ≡ start_and_machines ++ axes ++ codes "audit gap 17\n"
+  pub ok : audit_line None ≡ codes "audit ok"
+  pub gap : audit_line (Some (Gap 0)) ≡ codes "audit gap 0"
+  pub twice : audit_line (Some (Twice 1048575)) ≡ codes "audit twice 1048575"
+  pub differs : audit_line (Some (Differs 12)) ≡ codes "audit differs 12"
+  pub end : audit_line (Some End) ≡ codes "audit end"
+  pub memory : audit_line (Some Memory) ≡ codes "audit memory"
