@@ -1,2 +1,4 @@
 mod LetterLemmas
 mod SettingsLemmas
+pub mod ConfigRows
+pub mod LimitLaws

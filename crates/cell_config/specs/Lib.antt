@@ -4,3 +4,5 @@ pub mod Keys
 pub mod Settings
 pub mod Configured
 pub mod ConfigWords
+pub mod ConfigExamples
+pub mod ConfigLaws

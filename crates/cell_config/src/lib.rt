@@ -5,6 +5,7 @@
 pub mod configuration;
 pub mod fault;
 mod keys;
+pub mod laws;
 mod schedules;
 mod sections;
 mod starts;
