@@ -1,3 +1,4 @@
 mod FlagLemmas
 mod NumberLemmas
 pub mod Asked
+pub mod WordRows

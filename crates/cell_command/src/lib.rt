@@ -3,6 +3,7 @@
 
 pub mod arguments;
 mod help;
+pub mod laws;
 pub mod words;
 
 pub use arguments::words_of;
