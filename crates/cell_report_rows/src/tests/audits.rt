@@ -136,6 +136,34 @@ const ROWS: &[Row] = &[
         &[(Machine::Press, Call::Release(Zone::Z3), DONE, 2)],
         Some(AuditFault::Differs(1)),
     ),
+    // Two entries differ: the first one's stamp is told.
+    (
+        0,
+        &[PRESS_CLAIMS, TABLE_CLAIMS],
+        &[
+            (
+                Machine::Press,
+                Call::Claim(Zone::Z3),
+                Answer::Refused(Refusal::NotParty),
+                1,
+            ),
+            (Machine::Crane, Call::Claim(Zone::Z3), DONE, 3),
+        ],
+        Some(AuditFault::Differs(1)),
+    ),
+    // The stamp next to the start's, and the greatest one, have to be reached as well.
+    (0, &[TABLE_CLAIMS], &[], Some(AuditFault::Gap(1))),
+    (
+        0,
+        &THREE,
+        &[(
+            Machine::Robot,
+            Call::Claim(Zone::Z3),
+            Answer::Refused(Refusal::Shut(Posture::Closed)),
+            4,
+        )],
+        Some(AuditFault::Gap(4)),
+    ),
     // The first entry in the order of stamps stands behind a later one in its journal.
     (
         0,
@@ -216,6 +244,9 @@ fn refuses_what_no_history_wrote(rt: HostRuntime) {
         let journals = journals_of(&rt, rt.alloc(), notes, more);
         let got = fault_of(rt.alloc(), &journals, &start, None);
         assert!(rt; got == *fault, "{fault:?}");
+        // A wrong end is told last.
+        let got = fault_of(rt.alloc(), &journals, &start, Some(&start));
+        assert!(rt; fault.is_none() || got == *fault, "{fault:?}");
     }
 }
 
@@ -255,6 +286,26 @@ fn accepts_what_was_noted(rt: HostRuntime) {
     let journals = journals_of(&rt, rt.alloc(), &[CRANE_ASKS], &[]);
     let events = audit(rt.alloc(), &journals, &late, Some(&late)).expect(&rt, "a refused call");
     assert!(rt; events.len() == 1);
+}
+
+/// What an inquiry of a zone is answered in which nobody is.
+const FREE: Answer = Answer::Shown {
+    owner: None,
+    flag: false,
+    posture: Posture::Closed,
+};
+
+// At one stamp the events stand by machine.
+#[test]
+fn puts_machines_in_order(rt: HostRuntime) {
+    let start = start_at(&rt, EMPTY, 0);
+    let mut journals = Journals::new(rt.alloc());
+    for machine in Machine::ALL {
+        let asks = (machine, Call::Inquire(Zone::Z3), FREE, 0);
+        note(&mut journals, &[asks]).expect(&rt, "memory");
+    }
+    let events = audit(rt.alloc(), &journals, &start, None).expect(&rt, "a history");
+    assert!(rt; events.iter().map(|event| event.machine).eq(Machine::ALL));
 }
 
 #[test]

@@ -38,6 +38,16 @@ const ROWS: &[(Filled, &str, Outcome)] = &[
     (("stop\n", 4_194_305, ""), "fault long\n", LONG),
     // A cut script with an earlier fault.
     (
+        ("start,2\nwatch\n", 4_194_305, ""),
+        "fault badstart\n",
+        Outcome::Refused(ScriptFault::BadStart),
+    ),
+    (
+        ("stop\nwatch\n", 4_194_305, ""),
+        "fault nostart\n",
+        Outcome::Refused(ScriptFault::NoStart),
+    ),
+    (
         ("start,0000000000\nwatch\nwatch\n", 4_194_400, ""),
         "0 0 start 0\nfault badrow 1\n",
         Outcome::Refused(ScriptFault::BadRow(1)),
