@@ -136,7 +136,7 @@ const ROWS: &[Row] = &[
         &[(Machine::Press, Call::Release(Zone::Z3), DONE, 2)],
         Some(AuditFault::Differs(1)),
     ),
-    // Two entries differ: the first one's stamp is told.
+    // Two entries differ: the stamp of the first is the answer.
     (
         0,
         &[PRESS_CLAIMS, TABLE_CLAIMS],
@@ -244,7 +244,7 @@ fn refuses_what_no_history_wrote(rt: HostRuntime) {
         let journals = journals_of(&rt, rt.alloc(), notes, more);
         let got = fault_of(rt.alloc(), &journals, &start, None);
         assert!(rt; got == *fault, "{fault:?}");
-        // A wrong end is told last.
+        // A wrong end is looked for last.
         let got = fault_of(rt.alloc(), &journals, &start, Some(&start));
         assert!(rt; fault.is_none() || got == *fault, "{fault:?}");
     }
