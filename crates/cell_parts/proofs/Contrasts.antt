@@ -18,3 +18,9 @@ false_true e = cc
 
 pub true_false : ¬ (true ≡ false)
 true_false e = cc
+
+pub off_plus : ¬ (Off ≡ Plus)
+off_plus e = cc
+
+pub off_minus : ¬ (Off ≡ Minus)
+off_minus e = cc

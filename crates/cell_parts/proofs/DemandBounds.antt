@@ -1,12 +1,14 @@
--- The examples of what positions and motors demand.
-use Rattle.std.proofs.Common.{◌≡◌, ◌≢◌, ◌∙◌, sym, ap, cond, false, Some, inl, inr, refl}
+-- What positions and motors demand, in figures.
+use Rattle.std.proofs.Common.{◌≡◌, ◌≢◌, ◌↔◌, ◌∙◌, sym, ap, cond, ℕ, ◌<◌, ◌≤◌, false, Some, ◌⊎◌, inl, inr, refl, arith}
 use Rattle.std.proofs.lemmas.Bool.{false_from_ne_true}
-use Rattle.std.specs.Int.Signed.{le_z_yes, lt_z_yes}
+use Rattle.std.specs.Int.Signed.{lt_z_yes}
 use Rattle.cell_types.specs.declared.machine.Machine.{Machine}
 use Rattle.cell_types.specs.declared.machine.Machine.TheVariants.{Feed, Table, Robot, Press, Deposit, Crane, Watch}
 use Rattle.cell_types.specs.declared.zone.Zone.{Zone}
+use Rattle.cell_types.specs.declared.zone.Zone.TheVariants.{Z1, Z2, Z3, Z4, Z5, Z6}
 use Rattle.cell_types.specs.declared.posture.Posture.{Posture}
 use Rattle.cell_types.specs.declared.posture.Posture.TheVariants.{Closed, OpenIn, OpenOut}
+use Rattle.cell_types.specs.declared.place.Place.TheVariants as place
 use Rattle.cell_types.specs.Same.{same_zone, one_zone}
 use Rattle.cell_rules.specs.declared.zones.ZoneState.{ZoneState}
 use Rattle.cell_rules.specs.ModelState.{ModelState, zone_at}
@@ -16,9 +18,10 @@ use Rattle.cell_rules.proofs.Puts.{each_zone, zone_in-put}
 use Rattle.cell_rules.proofs.Holders.{owner_is}
 use Rattle.cell_parts.specs.PositionDemands.{HoldsIn}
 use Rattle.cell_parts.specs.MotorDemands.{Rests}
-use Rattle.cell_parts.specs.Examples.{empty_cell, zone_of, with_zone}
-use Rattle.cell_parts.specs.DemandExamples.{ArmDemandBounds, PositionDemandBounds, AsksFor, PositionsAsk, MotorsAsk, MotorDemandBounds, DrivingExamples, EachDemand}
-use Rattle.cell_parts.proofs.Contrasts.{neither, plus_on, minus_on, false_true, true_false}
+use Rattle.cell_parts.specs.Examples.{FromTo, empty_cell, with_feed, with_deposit, all_free, zone_of, with_zone}
+use Rattle.cell_parts.specs.DemandExamples.{AsksFor, WorksAt, Arm1WorksAt, Arm2WorksAt, GripperWorksAt, EndPlateStands, PositionDemandBounds, feed_end_full, MotorDemandBounds, DrivingBounds, RestingBounds, EachDemand}
+use Rattle.cell_parts.proofs.Contrasts.{neither, plus_on, false_true}
+use Rattle.cell_parts.proofs.Figures.{same, always, never, both, either, due, given, order, past, below, not_past, clash, inside, driven, some}
 
 closed_in : ¬ (Closed ≡ OpenIn)
 closed_in e = cc
@@ -31,73 +34,6 @@ in_out e = cc
 
 out_in : ¬ (OpenOut ≡ OpenIn)
 out_in e = cc
-
-pub arm_demands : ArmDemandBounds
-arm_demands = record {
-  arm1_in = λ out. absurd out.lt;
-  arm1_at_no_zone = λ d. neither (λ k. false_true k.1.0) (λ k. false_true k.1.0) (d (lt_z_yes tt));
-  arm1_at_table_first = λ out. inl ((le_z_yes tt, le_z_yes tt), (refl, refl));
-  arm1_at_table_last = λ out. inl ((le_z_yes tt, le_z_yes tt), (refl, refl));
-  arm1_before_table = λ d. neither (λ k. k.0.0.le) (λ k. false_true k.1.0) (d (lt_z_yes tt));
-  arm1_behind_table = λ d. neither (λ k. k.0.1.le) (λ k. false_true k.1.0) (d (lt_z_yes tt));
-  arm1_in_press_first = λ out. inr ((le_z_yes tt, le_z_yes tt), (refl, refl));
-  arm1_in_press_last = λ out. inr ((le_z_yes tt, le_z_yes tt), (refl, refl));
-  arm1_before_press = λ d. neither (λ k. false_true k.1.0) (λ k. k.0.0.le) (d (lt_z_yes tt));
-  arm1_behind_press = λ d. neither (λ k. false_true k.1.0) (λ k. k.0.1.le) (d (lt_z_yes tt));
-  arm2_in = λ out. absurd out.lt;
-  arm2_at_no_zone = λ d. neither (λ k. false_true k.1.0) (λ k. false_true k.1.0) (d (lt_z_yes tt));
-  arm2_in_press_first = λ out. inl ((le_z_yes tt, le_z_yes tt), (refl, refl));
-  arm2_in_press_last = λ out. inl ((le_z_yes tt, le_z_yes tt), (refl, refl));
-  arm2_before_press = λ d. neither (λ k. k.0.0.le) (λ k. false_true k.1.0) (d (lt_z_yes tt));
-  arm2_behind_press = λ d. neither (λ k. k.0.1.le) (λ k. false_true k.1.0) (d (lt_z_yes tt));
-  arm2_at_deposit_first = λ out. inr ((le_z_yes tt, le_z_yes tt), (refl, refl));
-  arm2_at_deposit_last = λ out. inr ((le_z_yes tt, le_z_yes tt), (refl, refl));
-  arm2_before_deposit = λ d. neither (λ k. false_true k.1.0) (λ k. k.0.0.le) (d (lt_z_yes tt));
-  arm2_behind_deposit = λ d. neither (λ k. false_true k.1.0) (λ k. k.0.1.le) (d (lt_z_yes tt));
-}
-
--- two that both hold, and two of which neither does
-both : {A B : Type 0} → A → B → (A → B) × (B → A)
-both a b = (λ x. b, λ x. a)
-
-none : {A B : Type 0} → ¬ A → ¬ B → (A → B) × (B → A)
-none no_a no_b = (λ a. absurd (no_a a), λ b. absurd (no_b b))
-
-pub position_demands : PositionDemandBounds
-position_demands = record {
-  press_open_for_arm1 = (λ e. (refl, (le_z_yes tt, le_z_yes tt)), λ e. absurd (in_out e));
-  press_open_too_low = λ d. (d.0 refl).1.0.le;
-  press_open_too_high = λ d. (d.0 refl).1.1.le;
-  press_open_and_driven = λ d. plus_on (d.0 refl).0;
-  press_open_for_arm2 = (λ e. absurd (out_in e), λ e. (refl, le_z_yes tt));
-  press_above_bottom = λ d. (d.1 refl).1.le;
-  press_closed = (λ e. absurd (closed_in e), λ e. absurd (closed_out e));
-  table_open_to_feed = λ e. record { lift_off = refl; turn_off = refl; bottom = le_z_yes tt; turned = le_z_yes tt };
-  table_open_too_high = λ d. (d refl).bottom.le;
-  table_open_turned_away = λ d. (d refl).turned.le;
-  table_closed = λ e. absurd (closed_in e);
-  gripper_up = λ down. absurd down.lt;
-  gripper_down_at_no_zone = λ d. neither (λ k. false_true k.1.0) (λ k. false_true k.1.0) (d (lt_z_yes tt));
-  gripper_over_deposit = λ down. inl (le_z_yes tt, (refl, refl));
-  gripper_off_deposit = λ d. neither (λ k. k.0.le) (λ k. false_true k.1.0) (d (lt_z_yes tt));
-  gripper_over_feed = λ down. inr (le_z_yes tt, (refl, refl));
-  gripper_off_feed = λ d. neither (λ k. false_true k.1.0) (λ k. k.0.le) (d (lt_z_yes tt));
-  no_plates = (none false_true false_true, none false_true false_true);
-  feed_plate = (both refl refl, none false_true false_true);
-  feed_plate_missing = λ d. false_true (d.0.1 refl);
-  feed_plate_untold = λ d. false_true (d.0.0 refl);
-  deposit_plate = (none false_true false_true, both refl refl);
-  deposit_plate_missing = λ d. false_true (d.1.1 refl);
-  deposit_plate_untold = λ d. false_true (d.1.0 refl);
-  at_start = record {
-    arm1 = λ out. absurd out.lt;
-    arm2 = λ out. absurd out.lt;
-    press = (λ e. absurd (closed_in e), λ e. absurd (closed_out e));
-    table = λ e. absurd (closed_in e);
-    gripper = λ down. absurd down.lt;
-    plates = (none false_true false_true, none false_true false_true);
-  };
-}
 
 -- ---- whose zone is demanded, which, and in which posture
 
@@ -118,6 +54,7 @@ module _ (s : ModelState) (m : Machine) (z : Zone) (q : Posture) (Demands : Mode
   asks_for : Demands (with_zone s m z q) → ((t : ModelState) → Demands t → HoldsIn q t m z) → owns s m z ≡ false → AsksFor s m z q Demands
   asks_for met need before = record {
     met = met;
+    of_nobody = λ d. false_true (sym before ∙ (need s d).0);
     of_no_other = λ n other d.
         let owner = owner_is (owner_of (with_zone s n z q) z) m (need (with_zone s n z q) d).0 in
         other (one_owner n m (sym (ap (λ (v : ZoneState). v.owner) (put_here s n q z)) ∙ owner));
@@ -127,59 +64,122 @@ module _ (s : ModelState) (m : Machine) (z : Zone) (q : Posture) (Demands : Mode
     in_no_other = λ r other d. other (sym (ap (λ (v : ZoneState). v.posture) (put_here s m r z)) ∙ (need (with_zone s m z r) d).1);
   }
 
-pub positions_ask : PositionsAsk
-positions_ask = record {
-  arm1_at_table = asks_for _ _ _ _ _ (λ out. inl ((le_z_yes tt, le_z_yes tt), (refl, refl))) (λ t d. elim (d (lt_z_yes tt)) [ inl h ↦ h.1 | inr h ↦ absurd h.0.0.le ]) refl;
-  arm1_in_press = asks_for _ _ _ _ _ (λ out. inr ((le_z_yes tt, le_z_yes tt), (refl, refl))) (λ t d. elim (d (lt_z_yes tt)) [ inl h ↦ absurd h.0.1.le | inr h ↦ h.1 ]) refl;
-  arm2_in_press = asks_for _ _ _ _ _ (λ out. inl ((le_z_yes tt, le_z_yes tt), (refl, refl))) (λ t d. elim (d (lt_z_yes tt)) [ inl h ↦ h.1 | inr h ↦ absurd h.0.0.le ]) refl;
-  arm2_at_deposit = asks_for _ _ _ _ _ (λ out. inr ((le_z_yes tt, le_z_yes tt), (refl, refl))) (λ t d. elim (d (lt_z_yes tt)) [ inl h ↦ absurd h.0.1.le | inr h ↦ h.1 ]) refl;
-  gripper_at_deposit = asks_for _ _ _ _ _ (λ down. inl (le_z_yes tt, (refl, refl))) (λ t d. elim (d (lt_z_yes tt)) [ inl h ↦ h.1 | inr h ↦ absurd h.0.le ]) refl;
-  gripper_at_feed = asks_for _ _ _ _ _ (λ down. inr (le_z_yes tt, (refl, refl))) (λ t d. elim (d (lt_z_yes tt)) [ inl h ↦ absurd h.0.le | inr h ↦ h.1 ]) refl;
+-- ---- what works at two places
+
+module _ (m : Machine) (First : ℕ → Type 0) (y : Zone) (q : Posture) (Second : ℕ → Type 0) (z : Zone) (r : Posture) (Demands : ℕ → ModelState → Type 0) where
+  works_at : ((p : ℕ) (s : ModelState) → Demands p s ↔ ((First p × HoldsIn q s m y) ⊎ (Second p × HoldsIn r s m z))) → ((p : ℕ) → First p → Second p → ⊥)
+      → HoldsIn q (with_zone all_free m y q) m y → HoldsIn r (with_zone all_free m z r) m z → owns all_free m y ≡ false → owns all_free m z ≡ false
+      → WorksAt m First y q Second z r Demands
+  works_at demands apart had other_had free other_free = record {
+    first = λ p at. asks_for all_free m y q (Demands p) ((demands p (with_zone all_free m y q)).1 (inl (at, had))) (λ t d. elim ((demands p t).0 d) [ inl h ↦ h.1 | inr h ↦ absurd (apart p at h.0) ]) free;
+    second = λ p at. asks_for all_free m z r (Demands p) ((demands p (with_zone all_free m z r)).1 (inr (at, other_had))) (λ t d. elim ((demands p t).0 d) [ inl h ↦ absurd (apart p h.0 at) | inr h ↦ h.1 ]) other_free;
+    elsewhere = λ p not_first not_second s d. neither (λ h. not_first h.0) (λ h. not_second h.0) ((demands p s).0 d);
+  }
+
+far : (last first p : ℕ) → last < first → p ≤ last → first ≤ p → ⊥
+far last first p apart low high = omega arith
+
+arm1_works : (Demands : ℕ → ModelState → Type 0) → ((p : ℕ) (s : ModelState) → Demands p s ↔ ((FromTo 200 400 p × HoldsIn OpenOut s Robot Z2) ⊎ (FromTo 1400 1600 p × HoldsIn OpenIn s Robot Z3))) → Arm1WorksAt Demands
+arm1_works Demands demands = works_at Robot (FromTo 200 400) Z2 OpenOut (FromTo 1400 1600) Z3 OpenIn Demands demands (λ p a b. far 400 1400 p (omega arith) a.1 b.0) (refl, refl) (refl, refl) refl refl
+
+arm2_works : (Demands : ℕ → ModelState → Type 0) → ((p : ℕ) (s : ModelState) → Demands p s ↔ ((FromTo 500 700 p × HoldsIn OpenOut s Robot Z3) ⊎ (FromTo 1700 1900 p × HoldsIn OpenIn s Robot Z4))) → Arm2WorksAt Demands
+arm2_works Demands demands = works_at Robot (FromTo 500 700) Z3 OpenOut (FromTo 1700 1900) Z4 OpenIn Demands demands (λ p a b. far 700 1700 p (omega arith) a.1 b.0) (refl, refl) (refl, refl) refl refl
+
+gripper_works : (Demands : ℕ → ModelState → Type 0) → ((p : ℕ) (s : ModelState) → Demands p s ↔ (((p ≤ 200) × HoldsIn OpenOut s Crane Z5) ⊎ ((1800 ≤ p) × HoldsIn OpenIn s Crane Z6))) → GripperWorksAt Demands
+gripper_works Demands demands = works_at Crane (λ p. p ≤ 200) Z5 OpenOut (λ p. 1800 ≤ p) Z6 OpenIn Demands demands (λ p a b. far 200 1800 p (omega arith) a b) (refl, refl) (refl, refl) refl refl
+
+-- ---- positions
+
+feed_plate : EndPlateStands place.FeedEnd with_feed
+feed_plate = record {
+  present = λ entry last runs. (always refl refl, never false_true false_true);
+  missing = λ entry runs d. false_true (d.0.1 refl);
+  unknown = λ entry last runs d. false_true (d.0.0 refl);
+  absent = λ entry runs. (never false_true false_true, never false_true false_true);
 }
 
-pub motors_ask : MotorsAsk
-motors_ask = record {
-  press_up = asks_for _ _ _ _ _ (λ on. (refl, refl)) (λ t d. d plus_on) refl;
-  press_down = asks_for _ _ _ _ _ (λ on. (refl, refl)) (λ t d. d minus_on) refl;
-  height_at_z1 = asks_for _ _ _ _ _ (λ on. ((refl, refl), (refl, refl))) (λ t d. (d (inl plus_on)).0) refl;
-  height_at_z2 = asks_for _ _ _ _ _ (λ on. ((refl, refl), (refl, refl))) (λ t d. (d (inl minus_on)).1) refl;
-  rotation_at_z1 = asks_for _ _ _ _ _ (λ on. ((refl, refl), (refl, refl))) (λ t d. (d (inr plus_on)).0) refl;
-  rotation_at_z2 = asks_for _ _ _ _ _ (λ on. ((refl, refl), (refl, refl))) (λ t d. (d (inr minus_on)).1) refl;
-  feed = asks_for _ _ _ _ _ (λ runs. ((refl, refl), λ full. absurd (false_true full))) (λ t d. (d refl).0) refl;
-  deposit_at_z4 = asks_for _ _ _ _ _ (λ runs. ((refl, refl), (refl, refl))) (λ t d. (d refl).0) refl;
-  deposit_at_z5 = asks_for _ _ _ _ _ (λ runs. ((refl, refl), (refl, refl))) (λ t d. (d refl).1) refl;
-  arm1_at_table = asks_for _ _ _ _ _ (λ on. inl ((le_z_yes tt, le_z_yes tt), (refl, refl))) (λ t d. elim (d plus_on) [ inl h ↦ h.1 | inr h ↦ absurd h.0.0.le ]) refl;
-  arm1_in_press = asks_for _ _ _ _ _ (λ on. inr ((le_z_yes tt, le_z_yes tt), (refl, refl))) (λ t d. elim (d minus_on) [ inl h ↦ absurd h.0.1.le | inr h ↦ h.1 ]) refl;
-  arm2_in_press = asks_for _ _ _ _ _ (λ on. inl ((le_z_yes tt, le_z_yes tt), (refl, refl))) (λ t d. elim (d minus_on) [ inl h ↦ h.1 | inr h ↦ absurd h.0.0.le ]) refl;
-  arm2_at_deposit = asks_for _ _ _ _ _ (λ on. inr ((le_z_yes tt, le_z_yes tt), (refl, refl))) (λ t d. elim (d plus_on) [ inl h ↦ absurd h.0.1.le | inr h ↦ h.1 ]) refl;
-  gripper_at_deposit = asks_for _ _ _ _ _ (λ on. (refl, refl)) (λ t d. d minus_on) refl;
-  gripper_at_feed = asks_for _ _ _ _ _ (λ on. (refl, refl)) (λ t d. d plus_on) refl;
+deposit_plate : EndPlateStands place.DepEnd with_deposit
+deposit_plate = record {
+  present = λ entry last runs. (never false_true false_true, always refl refl);
+  missing = λ entry runs d. false_true (d.1.1 refl);
+  unknown = λ entry last runs d. false_true (d.1.0 refl);
+  absent = λ entry runs. (never false_true false_true, never false_true false_true);
 }
+
+pub position_demands : PositionDemandBounds
+position_demands = record {
+  arm1_in = λ s arm rotation low out. clash arm 50 low ((past 50 arm).0 out);
+  arm1_out = λ arm out. arm1_works _ (λ rotation s. due ((past 50 arm).1 out) (either (both (inside 200 400 rotation) same) (both (inside 1400 1600 rotation) same)));
+  arm2_in = λ s arm rotation low out. clash arm 50 low ((past 50 arm).0 out);
+  arm2_out = λ arm out. arm2_works _ (λ rotation s. due ((past 50 arm).1 out) (either (both (inside 500 700 rotation) same) (both (inside 1700 1900 rotation) same)));
+  gripper_up = λ s travel gripper up down. clash gripper 799 ((below gripper 799).0 down) up;
+  gripper_down = λ gripper down. gripper_works _ (λ travel s. due ((below gripper 799).1 down) (either (both (order travel 200) same) (both (order 1800 travel) same)));
+  press_for_arm1 = λ s press motor is. (λ d. ((d.0 is).0, (inside 490 510 press).0 (d.0 is).1), λ k. (λ e. (k.0, (inside 490 510 press).1 k.1), λ e. absurd (in_out (sym is ∙ e))));
+  press_for_arm2 = λ s press motor is. (λ d. ((d.1 is).0, (order press 10).0 (d.1 is).1), λ k. (λ e. absurd (out_in (sym is ∙ e)), λ e. (k.0, (order press 10).1 k.1)));
+  press_for_nobody = λ s p not_in not_out. (λ e. absurd (not_in e), λ e. absurd (not_out e));
+  rests_at_loading = λ lift turn height turning. (λ k. (k.lift_off, k.turn_off, (order lift 10).0 k.bottom, (order turn 20).0 k.turned), λ k. record { lift_off = k.0; turn_off = k.1; bottom = (order lift 10).1 k.2; turned = (order turn 20).1 k.3 });
+  table_for_feed = λ s p is. due is same;
+  table_for_nobody = λ s p closed e. absurd (closed e);
+  feed_plate = feed_plate;
+  deposit_plate = deposit_plate;
+  at_start = record {
+    arm1 = λ out. absurd out.lt;
+    arm2 = λ out. absurd out.lt;
+    press = (λ e. absurd (closed_in e), λ e. absurd (closed_out e));
+    table = λ e. absurd (closed_in e);
+    gripper = λ down. absurd down.lt;
+    plates = (never false_true false_true, never false_true false_true);
+  };
+}
+
+-- ---- motors
 
 pub motor_demands : MotorDemandBounds
 motor_demands = record {
-  nothing_driven = λ errand. record {
-    press = λ on. absurd (on refl);
-    table = λ on. absurd (neither (λ lift. lift refl) (λ turn. turn refl) on);
-    feed = λ runs. absurd (false_true runs);
-    deposit = λ runs. absurd (false_true runs);
-    arm1 = λ on. absurd (on refl);
-    arm2 = λ on. absurd (on refl);
-    gripper = λ on. absurd (on refl);
+  nothing_driven = λ errand s p rests. record {
+    press = λ on. absurd (on (rests Press));
+    table = λ on. absurd (neither (λ lift. lift (rests Table).0) (λ turn. turn (rests Table).1) on);
+    feed = λ runs. absurd (false_true (sym (rests Feed) ∙ runs));
+    deposit = λ runs. absurd (false_true (sym (rests Deposit) ∙ runs));
+    arm1 = λ on. absurd (on (rests Robot).0);
+    arm2 = λ on. absurd (on (rests Robot).1);
+    gripper = λ on. absurd (on (rests Crane).1);
   };
-  gripper_for_travel = λ on. tt;
-  feed_end_of_feed = λ runs. ((refl, refl), λ full. refl);
-  feed_end_of_table = λ d. false_true ((d refl).1 refl);
-  feed_end_of_nobody = λ d. false_true ((d refl).1 refl);
-  arm1_between = λ d. neither (λ h. h.0.1.le) (λ h. h.0.0.le) (d plus_on);
-  arm2_between = λ d. neither (λ h. h.0.1.le) (λ h. h.0.0.le) (d plus_on);
-  travels_high = λ on down. absurd down.lt;
-  travels_low = λ d. d minus_on (lt_z_yes tt);
-  stands_low = λ on. absurd (on refl);
-  rotates_in = record { arm1 = λ on out. absurd out.lt; arm2 = λ on out. absurd out.lt };
-  rotates_with_arm1 = λ d. d.arm1 plus_on (lt_z_yes tt);
-  rotates_with_arm2 = λ d. d.arm2 minus_on (lt_z_yes tt);
-  rests_with_arms_out = record { arm1 = λ on. absurd (on refl); arm2 = λ on. absurd (on refl) };
+  press = λ press motor way. asks_for _ _ _ _ _ (λ on. (refl, refl)) (λ t d. d ((driven motor).1 way)) refl;
+  table_at_z1 = λ lift turn height turning way. asks_for _ _ _ _ _ (λ on. ((refl, refl), (refl, refl))) (λ t d. (d ((either (driven height) (driven turning)).1 way)).0) refl;
+  table_at_z2 = λ lift turn height turning way. asks_for _ _ _ _ _ (λ on. ((refl, refl), (refl, refl))) (λ t d. (d ((either (driven height) (driven turning)).1 way)).1) refl;
+  feed_at_z6 = λ entry last. asks_for _ _ _ _ _ (λ runs. ((refl, refl), λ full. absurd (false_true full))) (λ t d. (d refl).0) refl;
+  feed_at_z1 = λ entry last q runs. ((refl, refl), λ full. refl);
+  z1_of_another = λ entry last q m other d. other (one_owner m Feed (owner_is (owner_of (with_zone feed_end_full m Z1 q) Z1) Feed ((d refl).1 refl)));
+  z1_of_nobody = λ entry last d. false_true ((d refl).1 refl);
+  deposit_at_z4 = λ entry last. asks_for _ _ _ _ _ (λ runs. ((refl, refl), (refl, refl))) (λ t d. (d refl).0) refl;
+  deposit_at_z5 = λ entry last. asks_for _ _ _ _ _ (λ runs. ((refl, refl), (refl, refl))) (λ t d. (d refl).1) refl;
+  arm1 = λ arm motor way. arm1_works _ (λ rotation s. due ((driven motor).1 way) (either (both (inside 200 400 rotation) same) (both (inside 1400 1600 rotation) same)));
+  arm2 = λ arm motor way. arm2_works _ (λ rotation s. due ((driven motor).1 way) (either (both (inside 500 700 rotation) same) (both (inside 1700 1900 rotation) same)));
+  gripper_for_travel = λ s p on. tt;
+  gripper_at_deposit = λ travel gripper motor way. asks_for _ _ _ _ _ (λ on. (refl, refl)) (λ t d. d ((driven motor).1 way)) refl;
+  gripper_at_feed = λ travel gripper motor way. asks_for _ _ _ _ _ (λ on. (refl, refl)) (λ t d. d ((driven motor).1 way)) refl;
+  travels_high = λ travel gripper motor. given (driven motor) (not_past gripper 800);
+  rotates_retracted = λ arm1 arm2 rotation motor. (
+    λ k way. let on = (driven motor).1 way in ((not_past 50 arm1).0 (k.arm1 on), (not_past 50 arm2).0 (k.arm2 on)),
+    λ k. record { arm1 = λ on. (not_past 50 arm1).1 (k ((driven motor).0 on)).0; arm2 = λ on. (not_past 50 arm2).1 (k ((driven motor).0 on)).1 },
+  );
+}
+
+pub driving : DrivingBounds
+driving = record {
+  press = λ errand press motor. driven motor;
+  table_in_z1 = λ errand lift turn height turning. either (driven height) (driven turning);
+  table_in_z2 = λ errand lift turn height turning. either (driven height) (driven turning);
+  feed_in_z6 = λ errand entry last runs. same;
+  feed_in_z1 = λ errand entry last runs. both same (some last);
+  deposit_in_z4 = λ errand entry last runs. same;
+  deposit_in_z5 = λ errand entry last runs. same;
+  robot_in_z2 = λ errand arm1 arm2 rotation. both (driven arm1) (inside 200 400 rotation);
+  robot_in_z3 = λ errand arm1 arm2 rotation. either (both (driven arm1) (inside 1400 1600 rotation)) (both (driven arm2) (inside 500 700 rotation));
+  robot_in_z4 = λ errand arm1 arm2 rotation. both (driven arm2) (inside 1700 1900 rotation);
+  gripper_in_z5 = λ travel gripper motor. driven motor;
+  gripper_in_z6 = λ travel gripper motor. driven motor;
 }
 
 all_rest : (m : Machine) → Rests empty_cell m
@@ -191,44 +191,25 @@ all_rest Deposit = refl
 all_rest Crane = (refl, refl)
 all_rest Watch = tt
 
-pub driving : DrivingExamples
-driving = record {
-  press = plus_on;
-  height_in_z1 = inl plus_on;
-  height_in_z2 = inl minus_on;
-  rotation_in_z1 = inr minus_on;
-  rotation_in_z2 = inr plus_on;
-  feed_in_z6 = refl;
-  feed_in_z1 = (refl, refl);
-  deposit_in_z4 = refl;
-  deposit_in_z5 = refl;
-  arm1_in_z2 = (plus_on, (le_z_yes tt, le_z_yes tt));
-  arm1_in_z3 = inl (minus_on, (le_z_yes tt, le_z_yes tt));
-  arm2_in_z3 = inr (minus_on, (le_z_yes tt, le_z_yes tt));
-  arm2_in_z4 = (plus_on, (le_z_yes tt, le_z_yes tt));
-  gripper_in_z5 = minus_on;
-  gripper_in_z6 = plus_on;
-  all_rest = all_rest;
-  press_works = plus_on;
-  height_works = λ r. plus_on r.0;
-  rotation_works = λ r. plus_on r.1;
-  feed_works = true_false;
-  deposit_works = true_false;
-  arm1_works = λ r. plus_on r.0;
-  arm2_works = λ r. plus_on r.1;
-  robot_rotates = λ r. plus_on r.2;
-  crane_travels = λ r. plus_on r.0;
-  gripper_works = λ r. plus_on r.1;
+pub resting : RestingBounds
+resting = record {
+  all = all_rest;
+  feed = λ entry last runs. same;
+  table = λ lift turn height turning. same;
+  robot = λ arm1 arm2 rotation. same;
+  press = λ press motor. same;
+  deposit = λ entry last runs. same;
+  crane = λ travel gripper motor height. same;
 }
 
 pub each_demand : EachDemand
 each_demand = record {
-  arm1_out = λ k. arm_demands.arm1_at_no_zone k.arm1;
-  arm2_out = λ k. arm_demands.arm2_at_no_zone k.arm2;
-  press_stands = λ k. position_demands.press_open_too_low k.press;
+  arm1_out = λ k. neither (λ h. false_true h.1.0) (λ h. false_true h.1.0) (k.arm1 (lt_z_yes tt));
+  arm2_out = λ k. neither (λ h. false_true h.1.0) (λ h. false_true h.1.0) (k.arm2 (lt_z_yes tt));
+  press_stands = λ k. (k.press.0 refl).1.0.le;
   table_stands = λ k. (k.table refl).bottom.le;
-  gripper_down = λ k. position_demands.gripper_down_at_no_zone k.gripper;
-  end_plate = λ k. position_demands.feed_plate_untold k.plates;
+  gripper_down = λ k. neither (λ h. false_true h.1.0) (λ h. false_true h.1.0) (k.gripper (lt_z_yes tt));
+  end_plate = λ k. false_true (k.plates.0.0 refl);
   press_on = λ k. false_true (k.press plus_on).0;
   table_on = λ k. false_true (k.table (inl plus_on)).0.0;
   feed_on = λ k. false_true (k.feed refl).0.0;

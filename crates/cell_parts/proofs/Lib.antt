@@ -3,6 +3,7 @@ mod Bounds
 mod CollisionBounds
 mod Contrasts
 mod DemandBounds
+mod Figures
 pub mod NoCollision
 mod PartBounds
 pub mod RawLemmas

@@ -9,6 +9,7 @@ use Rattle.cell_parts.specs.Axes.{RobotScales}
 use Rattle.cell_parts.specs.Shows.{ShowsRaw}
 use Rattle.cell_parts.specs.PartExamples.{SettingExamples, MovingBounds, SensorBounds, press_sense, table_sense, robot_sense, crane_sense, feed_sense, deposit_sense, doubled, ShowingExamples, NoteBounds, StartValues}
 use Rattle.cell_parts.proofs.Contrasts.{neither, false_true}
+use Rattle.cell_parts.proofs.Figures.{always, never, order, inside}
 
 pub setting : (scale : Scale) (scales : RobotScales) → SettingExamples scale scales
 setting scale scales = record {
@@ -59,26 +60,14 @@ moving scale scales = record {
 
 pub sensors : SensorBounds
 sensors = record {
-  press_bottom = le_z_yes tt;
-  press_above_bottom = λ k. k.le;
-  press_middle_begins = (le_z_yes tt, le_z_yes tt);
-  press_middle_ends = (le_z_yes tt, le_z_yes tt);
-  press_below_middle = λ k. k.0.le;
-  press_above_middle = λ k. k.1.le;
-  press_top = le_z_yes tt;
-  press_below_top = λ k. k.le;
-  table_bottom = le_z_yes tt;
-  table_above_bottom = λ k. k.le;
-  table_top = le_z_yes tt;
-  table_below_top = λ k. k.le;
-  crane_at_deposit = le_z_yes tt;
-  crane_off_deposit = λ k. k.le;
-  crane_at_feed = le_z_yes tt;
-  crane_off_feed = λ k. k.le;
-  barrier_begins = (le_z_yes tt, le_z_yes tt);
-  barrier_ends = (le_z_yes tt, le_z_yes tt);
-  before_the_barrier = λ k. k.0.le;
-  behind_the_barrier = λ k. k.1.le;
+  press_bottom = λ p. order p 10;
+  press_middle = inside 490 510;
+  press_top = order 990;
+  table_bottom = λ p. order p 10;
+  table_top = order 590;
+  crane_at_deposit = λ p. order p 10;
+  crane_at_feed = order 1990;
+  barrier = inside 900 999;
   no_plate_in_it = λ k. k;
 }
 
@@ -104,12 +93,6 @@ feed_as x b e = cc
 
 deposit_as : (x b : Bool) → x ≡ b → deposit_sense x ≡ deposit_sense b
 deposit_as x b e = cc
-
-always : {A B : Type 0} → A → B → A ↔ B
-always a b = (λ x. b, λ x. a)
-
-never : {A B : Type 0} → ¬ A → ¬ B → A ↔ B
-never no_a no_b = (λ a. absurd (no_a a), λ b. absurd (no_b b))
 
 shows_raw : (s : Scale) (p : ℤ) (raw : ℕ) → IsRawAt s p raw → ¬ (p <ℤ s.at_lo) → ¬ (s.at_hi <ℤ p) → ShowsRaw s p raw
 shows_raw s p raw is low high = record { between = λ from to. is; below = λ k. absurd (low k); above = λ k. absurd (high k) }

@@ -1,11 +1,11 @@
 -- What the examples of the plant are made of. What isn't named stands as at the start in a cell with no plate.
-use Rattle.std.specs.Prelude.{ℕ, pos, Bool, false, Option, Some, None}
+use Rattle.std.specs.Prelude.{◌≡◌, ℕ, ◌≤◌, pos, Bool, false, ◌⊎◌, Option, Some, None, option_map}
 use Rattle.cell_types.specs.declared.machine.Machine.{Machine}
 use Rattle.cell_types.specs.declared.zone.Zone.{Zone}
 use Rattle.cell_types.specs.declared.posture.Posture.{Posture}
 use Rattle.cell_types.specs.declared.place.Place.{Place}
 use Rattle.cell_devices.specs.declared.motor.Motor.{Motor}
-use Rattle.cell_devices.specs.declared.motor.Motor.TheVariants.{Off}
+use Rattle.cell_devices.specs.declared.motor.Motor.TheVariants.{Off, Plus, Minus}
 use Rattle.cell_rules.specs.declared.zones.ZoneState.{ZoneState}
 use Rattle.cell_rules.specs.PlaceSet.{empty, insert_place}
 use Rattle.cell_rules.specs.ZoneMap.{put_zone}
@@ -14,6 +14,14 @@ use Rattle.cell_rules.specs.Start.{start_state}
 use Rattle.cell_parts.specs.declared.axis.Axis.{Axis}
 use Rattle.cell_parts.specs.declared.belt.Belt.{Belt}
 use Rattle.cell_parts.specs.Plant.{TablePlant, RobotPlant, CranePlant, PlantState, plant_at_start}
+
+-- figures from a first to a last, both among them
+abbrev pub FromTo : ℕ → ℕ → ℕ → Type 0
+FromTo first last n = (first ≤ n) × (n ≤ last)
+
+-- a motor that is driven, either way
+abbrev pub IsDriven : Motor → Type 0
+IsDriven motor = (motor ≡ Plus) ⊎ (motor ≡ Minus)
 
 -- the cell at the start: with no plate, and with one at a place
 abbrev pub empty_cell : PlantState
@@ -45,41 +53,59 @@ crane_with travel gripper magnet = record { travel = travel; gripper = gripper; 
 abbrev pub crane_at : Axis → Axis → CranePlant
 crane_at travel gripper = crane_with travel gripper false
 
--- a belt by the plate at its end alone, by the one at its entry alone, and by both
+-- a belt by the plates at its entry and at its end, each absent or at a position; by the one at its end alone, by the one at its entry alone, and by both
+abbrev pub belt_of : Option ℕ → Option ℕ → Bool → Belt
+belt_of entry last runs = record { entry = option_map (λ p. pos p) entry; last = option_map (λ p. pos p) last; runs = runs }
+
 abbrev pub belt_with : Option ℕ → Bool → Belt
-belt_with None runs = record { entry = None; last = None; runs = runs }
-belt_with (Some p) runs = record { entry = None; last = Some (pos p); runs = runs }
+belt_with last runs = belt_of None last runs
 
 abbrev pub belt_entered_at : ℕ → Bool → Belt
-belt_entered_at p runs = record { entry = Some (pos p); last = None; runs = runs }
+belt_entered_at p runs = belt_of (Some p) None runs
 
 abbrev pub belt_at : ℕ → ℕ → Bool → Belt
-belt_at entry last runs = record { entry = Some (pos entry); last = Some (pos last); runs = runs }
+belt_at entry last runs = belt_of (Some entry) (Some last) runs
+
+-- the cell with another belt, table, robot or crane
+abbrev pub with_feed : Belt → PlantState
+with_feed b = record empty_cell { feed = b }
+
+abbrev pub with_deposit : Belt → PlantState
+with_deposit b = record empty_cell { deposit = b }
+
+abbrev pub with_table : Axis → Axis → PlantState
+with_table lift turn = record empty_cell { table = table_at lift turn }
+
+abbrev pub with_robot : Axis → Axis → Axis → PlantState
+with_robot arm1 arm2 rotation = record empty_cell { robot = robot_at arm1 arm2 rotation }
+
+abbrev pub with_crane : Axis → Axis → PlantState
+with_crane travel gripper = record empty_cell { crane = crane_at travel gripper }
 
 -- the cell with another axis
 abbrev pub with_press : Axis → PlantState
 with_press a = record empty_cell { press = a }
 
 abbrev pub with_arm1 : Axis → PlantState
-with_arm1 a = record empty_cell { robot = robot_at a (at 0) (at 300) }
+with_arm1 a = with_robot a (at 0) (at 300)
 
 abbrev pub with_arm2 : Axis → PlantState
-with_arm2 a = record empty_cell { robot = robot_at (at 0) a (at 300) }
+with_arm2 a = with_robot (at 0) a (at 300)
 
 abbrev pub with_rotation : Axis → PlantState
-with_rotation a = record empty_cell { robot = robot_at (at 0) (at 0) a }
+with_rotation a = with_robot (at 0) (at 0) a
 
 abbrev pub with_lift : Axis → PlantState
-with_lift a = record empty_cell { table = table_at a (at 0) }
+with_lift a = with_table a (at 0)
 
 abbrev pub with_turn : Axis → PlantState
-with_turn a = record empty_cell { table = table_at (at 0) a }
+with_turn a = with_table (at 0) a
 
 abbrev pub with_travel : Axis → PlantState
-with_travel a = record empty_cell { crane = crane_at a (at 900) }
+with_travel a = with_crane a (at 900)
 
 abbrev pub with_gripper : Axis → PlantState
-with_gripper a = record empty_cell { crane = crane_at (at 0) a }
+with_gripper a = with_crane (at 0) a
 
 -- the interlock with all zones free; a state in which a machine has a zone in a posture too; and one in which it has that alone
 abbrev pub all_free : ModelState

@@ -1,5 +1,5 @@
 -- Examples of the parts: what they are set to, how they move, what their sensors show, what they note, and where they begin.
-use Rattle.std.specs.Prelude.{◌≡◌, ℕ, ◌+◌, ◌*◌, pos, Bool, true, false, Some, None}
+use Rattle.std.specs.Prelude.{◌≡◌, ◌↔◌, ℕ, ◌+◌, ◌*◌, ◌≤◌, pos, Bool, true, false, Some, None}
 use Rattle.cell_types.specs.declared.machine.Machine.{Machine}
 use Rattle.cell_types.specs.declared.machine.Machine.TheVariants.{Feed, Table, Robot, Press, Deposit, Crane}
 use Rattle.cell_types.specs.declared.zone.Zone.TheVariants.{Z1, Z4, Z5, Z6}
@@ -32,7 +32,7 @@ use Rattle.cell_parts.specs.Plant.{TablePlant, RobotPlant, CranePlant}
 use Rattle.cell_parts.specs.Shows.{IsPressBottom, IsPressMiddle, IsPressTop, IsTableBottom, IsTableTop, IsCraneAtDeposit, IsCraneAtFeed, IsInBarrier}
 use Rattle.cell_parts.specs.Collisions.{NothingCollides}
 use Rattle.cell_parts.specs.Rigs.{feed_rig, table_rig, robot_rig, press_rig, deposit_rig, crane_rig}
-use Rattle.cell_parts.specs.Examples.{empty_cell, cell_with_plate_at, driven_at, at, robot_with, robot_at, table_at, crane_with, crane_at, belt_with, belt_entered_at, belt_at}
+use Rattle.cell_parts.specs.Examples.{FromTo, empty_cell, cell_with_plate_at, driven_at, at, robot_with, robot_at, table_at, crane_with, crane_at, belt_with, belt_entered_at, belt_at}
 
 -- ---- what is set: an axis or a belt that is told so, and no other
 
@@ -131,26 +131,14 @@ pub record MovingBounds (scale : Scale) (scales : RobotScales) : Type 0 where
 -- ---- sensors
 
 pub record SensorBounds : Type 0 where
-  pub press_bottom : IsPressBottom (pos 10)
-  pub press_above_bottom : ¬ IsPressBottom (pos 11)
-  pub press_middle_begins : IsPressMiddle (pos 490)
-  pub press_middle_ends : IsPressMiddle (pos 510)
-  pub press_below_middle : ¬ IsPressMiddle (pos 489)
-  pub press_above_middle : ¬ IsPressMiddle (pos 511)
-  pub press_top : IsPressTop (pos 990)
-  pub press_below_top : ¬ IsPressTop (pos 989)
-  pub table_bottom : IsTableBottom (pos 10)
-  pub table_above_bottom : ¬ IsTableBottom (pos 11)
-  pub table_top : IsTableTop (pos 590)
-  pub table_below_top : ¬ IsTableTop (pos 589)
-  pub crane_at_deposit : IsCraneAtDeposit (pos 10)
-  pub crane_off_deposit : ¬ IsCraneAtDeposit (pos 11)
-  pub crane_at_feed : IsCraneAtFeed (pos 1990)
-  pub crane_off_feed : ¬ IsCraneAtFeed (pos 1989)
-  pub barrier_begins : IsInBarrier (Some (pos 900))
-  pub barrier_ends : IsInBarrier (Some (pos 999))
-  pub before_the_barrier : ¬ IsInBarrier (Some (pos 899))
-  pub behind_the_barrier : ¬ IsInBarrier (Some (pos 1000))
+  pub press_bottom : (p : ℕ) → IsPressBottom (pos p) ↔ (p ≤ 10)
+  pub press_middle : (p : ℕ) → IsPressMiddle (pos p) ↔ FromTo 490 510 p
+  pub press_top : (p : ℕ) → IsPressTop (pos p) ↔ (990 ≤ p)
+  pub table_bottom : (p : ℕ) → IsTableBottom (pos p) ↔ (p ≤ 10)
+  pub table_top : (p : ℕ) → IsTableTop (pos p) ↔ (590 ≤ p)
+  pub crane_at_deposit : (p : ℕ) → IsCraneAtDeposit (pos p) ↔ (p ≤ 10)
+  pub crane_at_feed : (p : ℕ) → IsCraneAtFeed (pos p) ↔ (1990 ≤ p)
+  pub barrier : (p : ℕ) → IsInBarrier (Some (pos p)) ↔ FromTo 900 999 p
   pub no_plate_in_it : ¬ IsInBarrier None
 
 -- A sense is all that the sensors show: no other will do.

@@ -22,10 +22,10 @@ pub fn demands_can_be_met()
     ensures { DemandsCanBeMet }
 {}
 
-/// Examples of the plant at each bound and just past it: of the collisions, of what positions and motors
-/// demand, of the switches, the light barrier and the axes. So are whose zone is demanded and in which
-/// posture, what each part is set to, how it moves, what it shows and what it notes, and where everything
-/// stands at the start.
+/// The plant in figures: collisions, what positions and motors demand, switches and light barrier, each
+/// for all positions and motors of the parts that it names. So are the ends of the axes, whose zone is
+/// demanded and in which posture, what each part is set to, how it moves, what it shows and what it
+/// notes, and where everything stands at the start.
 pub fn bounds_are_met()
     ensures { BoundsAreMet }
 {}
