@@ -149,3 +149,35 @@ line_at_least s raw v p k near h = foot_sum (height_of s p) (height_of s (p +ℤ
 
 pub line_above : (s : Scale) (raw : ℕ) (v p : ℤ) → IsScale s → IsWithinTolerance s raw v → (p +ℤ s.tol) <ℤ v → IsLineAbove s raw p
 line_above s raw v p k near h = foot_strict (height_of s p) (height_of s (p +ℤ s.tol)) (height_of s v) (line_height s raw) (s.tol *ℤ raw_width s) (height_of-add s p s.tol) (height_strict s (p +ℤ s.tol) v k h) near.not_below
+
+squeezed : (x y z : ℤ) → x ≤ℤ y → y ≤ℤ z → z <ℤ x → ⊥
+squeezed x y z a b c = omega (arith, ints)
+
+-- of two raw values that an ideal sensor gives at a position none is the later one
+not_later : (s : Scale) (position : ℤ) (a b : ℕ) → IsScale s → IsRawAt s position a → IsRawAt s position b → b ≤ a
+not_later s position a b k one other =
+    by_lt_z (pos a) (pos b)
+    (λ later.
+    let rise = s.at_hi -ℤ s.at_lo in
+    let step = mul_mono (pos (a + 1) -ℤ pos s.raw_lo) (pos b -ℤ pos s.raw_lo) rise (omega (arith, ints)) (omega (arith, ints)) in
+    absurd (squeezed (line_height s (a + 1)) (line_height s b) (height_of s position) step other.not_above one.next_above))
+    (λ low. omega (arith, ints))
+
+both_ways : (a b : ℕ) → b ≤ a → a ≤ b → b ≡ a
+both_ways a b low high = omega arith
+
+-- so it gives one alone, and the line lies at one position alone
+pub one_raw_at : (s : Scale) (position : ℤ) (a b : ℕ) → IsScale s → IsRawAt s position a → IsRawAt s position b → b ≡ a
+one_raw_at s position a b k one other = both_ways a b (not_later s position a b k one other) (not_later s position b a k other one)
+
+lt_of_le_lt : (x y z : ℤ) → x ≤ℤ y → y <ℤ z → x <ℤ z
+lt_of_le_lt x y z a b = omega (arith, ints)
+
+not_higher : (s : Scale) (raw : ℕ) (v w : ℤ) → IsScale s → IsLineRoundedDown s raw v → IsLineRoundedDown s raw w → w ≤ℤ v
+not_higher s raw v w k one other = height_cancel s w v k (lt_of_le_lt (height_of s w) (line_height s raw) (height_of s (v +ℤ pos 1)) other.not_above one.next_above)
+
+both_ways_ℤ : (v w : ℤ) → w ≤ℤ v → v ≤ℤ w → w ≡ v
+both_ways_ℤ v w low high = omega (arith, ints)
+
+pub one_line_at : (s : Scale) (raw : ℕ) (v w : ℤ) → IsScale s → IsLineRoundedDown s raw v → IsLineRoundedDown s raw w → w ≡ v
+one_line_at s raw v w k one other = both_ways_ℤ v w (not_higher s raw v w k one other) (not_higher s raw w v k other one)

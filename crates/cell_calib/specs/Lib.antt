@@ -1,3 +1,4 @@
+pub mod Examples
 pub mod Line
 pub mod Scale
 pub mod Sensors

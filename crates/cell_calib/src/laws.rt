@@ -1,6 +1,7 @@
 //! Laws of calibrated readings, each the contract of a function that does nothing.
 
 ghost use Rattle.std.specs.Prelude.{ℕ, ℤ, ◌-ℤ◌, ◌≤ℤ◌};
+ghost use Rattle.cell_calib.specs.Examples.{RoundingExamples};
 ghost use Rattle.cell_calib.specs.Scale.{Scale, IsScale};
 ghost use Rattle.cell_calib.specs.Line.{raw_width, IsLineNear, IsWithinTolerance, IsNear, IsRawAt};
 
@@ -15,4 +16,10 @@ pub fn line_in_window()
 pub fn near_position()
     ensures { (s : Scale) (position v : ℤ) (raw : ℕ) → IsScale s → (s.at_hi -ℤ s.at_lo) ≤ℤ raw_width s
         → IsRawAt s position raw → IsWithinTolerance s raw v → IsNear v position s.tol }
+{}
+
+/// What an ideal sensor gives, and where the line lies, is rounded down, in figures: on scales with no whole
+/// number of raw values for a position.
+pub fn roundings_are_met()
+    ensures { RoundingExamples }
 {}
