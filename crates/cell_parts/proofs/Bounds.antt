@@ -2,7 +2,7 @@
 use Rattle.cell_parts.specs.Bounds.{BoundsAreMet}
 use Rattle.cell_parts.proofs.CollisionBounds.{collisions, magnets, all_ends, each_collision}
 use Rattle.cell_parts.proofs.DemandBounds.{position_demands, motor_demands, driving, resting, each_demand}
-use Rattle.cell_parts.proofs.PartBounds.{setting, moving, sensors, showing, notes, start}
+use Rattle.cell_parts.proofs.PartBounds.{setting, moving, sensors, raws, showing, notes, start}
 
 pub bounds_are_met : BoundsAreMet
 bounds_are_met = record {
@@ -18,6 +18,7 @@ bounds_are_met = record {
   setting = setting;
   moving = moving;
   sensors = sensors;
+  raws = raws;
   showing = showing;
   notes = notes;
   start = start;

@@ -1,15 +1,16 @@
 -- The examples of the parts.
-use Rattle.std.proofs.Common.{◌≡◌, ◌↔◌, ℕ, ◌+◌, ◌*◌, ◌≤◌, ℤ, pos, ◌<ℤ◌, Bool, true, false, inl, inr, refl, arith}
+use Rattle.std.proofs.Common.{◌≡◌, ◌↔◌, ℕ, ◌+◌, ◌<◌, ◌≤◌, ℤ, pos, ◌≤ℤ◌, ◌<ℤ◌, Bool, true, false, inl, inr, refl, arith}
+use Rattle.std.specs.Prelude.{T}
 use Rattle.std.proofs.lemmas.Int.{ints}
 use Rattle.std.proofs.lemmas.Bool.{false_from_ne_true}
-use Rattle.std.specs.Int.Signed.{le_z_yes, lt_z_yes}
-use Rattle.cell_calib.specs.Scale.{Scale}
-use Rattle.cell_calib.specs.Line.{IsRawAt}
+use Rattle.std.specs.Int.Signed.{le_z, lt_z, le_z_yes, lt_z_yes}
+use Rattle.cell_calib.specs.Scale.{Scale, IsScale}
+use Rattle.cell_calib.specs.Line.{height_of, line_height, IsRawAt}
+use Rattle.cell_calib.proofs.LineLemmas.{one_raw_at}
 use Rattle.cell_parts.specs.Axes.{RobotScales}
-use Rattle.cell_parts.specs.Shows.{ShowsRaw}
-use Rattle.cell_parts.specs.PartExamples.{SettingExamples, MovingBounds, SensorBounds, press_sense, table_sense, robot_sense, crane_sense, feed_sense, deposit_sense, doubled, ShowingExamples, NoteBounds, StartValues}
+use Rattle.cell_parts.specs.PartExamples.{SettingExamples, MovingBounds, SensorBounds, press_sense, table_sense, robot_sense, crane_sense, feed_sense, deposit_sense, Reads, scale_to, odd_arm1, odd_arm2, odd_rotation, odd_turn, odd_gripper, three_for_two, short_scale, RawBounds, ShowingExamples, NoteBounds, StartValues}
 use Rattle.cell_parts.proofs.Contrasts.{neither, false_true}
-use Rattle.cell_parts.proofs.Figures.{always, never, order, inside}
+use Rattle.cell_parts.proofs.Figures.{always, never, order, past, inside}
 
 pub setting : (scale : Scale) (scales : RobotScales) → SettingExamples scale scales
 setting scale scales = record {
@@ -94,37 +95,77 @@ feed_as x b e = cc
 deposit_as : (x b : Bool) → x ≡ b → deposit_sense x ≡ deposit_sense b
 deposit_as x b e = cc
 
-shows_raw : (s : Scale) (p : ℤ) (raw : ℕ) → IsRawAt s p raw → ¬ (p <ℤ s.at_lo) → ¬ (s.at_hi <ℤ p) → ShowsRaw s p raw
-shows_raw s p raw is low high = record { between = λ from to. is; below = λ k. absurd (low k); above = λ k. absurd (high k) }
+apart : {a b : ℤ} → a <ℤ b → b ≤ℤ a → ⊥
+apart less more = omega (arith, ints)
 
--- between its points a doubled scale shows but one raw value
-table_raw : (p raw : ℕ) → p ≤ 500 → ShowsRaw (doubled 100 500) (pos p) raw → raw ≡ 100 + 2 * p
-table_raw p raw h shown =
-    let at = shown.between (omega (arith, ints)) (omega (arith, ints)) in
-    let a = at.not_above in
-    let b = at.next_above in
-    omega (arith, ints)
+limits : (end raw_lo raw_hi : ℕ) → 0 < end → end ≤ 100000 → raw_lo < raw_hi → raw_hi < 65536 → IsScale (scale_to end raw_lo raw_hi)
+limits end raw_lo raw_hi some far rise fit = record {
+  raws_rise = rise;
+  raws_fit = fit;
+  ats_rise = (past 0 end).1 some;
+  lowest = le_z_yes tt;
+  highest = (order end 100000).1 far;
+  finest = le_z_yes tt;
+  coarsest = le_z_yes tt;
+}
 
-axis_raw : (p raw : ℕ) → p ≤ 1000 → ShowsRaw (doubled 100 1000) (pos p) raw → raw ≡ 100 + 2 * p
-axis_raw p raw h shown =
-    let at = shown.between (omega (arith, ints)) (omega (arith, ints)) in
-    let a = at.not_above in
-    let b = at.next_above in
-    omega (arith, ints)
+short_limits : IsScale short_scale
+short_limits = record { raws_rise = omega arith; raws_fit = omega arith; ats_rise = lt_z_yes tt; lowest = le_z_yes tt; highest = le_z_yes tt; finest = le_z_yes tt; coarsest = le_z_yes tt }
 
-arm2_raw : (p raw : ℕ) → p ≤ 1000 → ShowsRaw (doubled 200 1000) (pos p) raw → raw ≡ 200 + 2 * p
-arm2_raw p raw h shown =
-    let at = shown.between (omega (arith, ints)) (omega (arith, ints)) in
-    let a = at.not_above in
-    let b = at.next_above in
-    omega (arith, ints)
+three_scale : IsScale three_for_two
+three_scale = limits 1000 0 1500 (omega arith) (omega arith) (omega arith) (omega arith)
 
-rotation_raw : (p raw : ℕ) → p ≤ 2000 → ShowsRaw (doubled 300 2000) (pos p) raw → raw ≡ 300 + 2 * p
-rotation_raw p raw h shown =
-    let at = shown.between (omega (arith, ints)) (omega (arith, ints)) in
-    let a = at.not_above in
-    let b = at.next_above in
-    omega (arith, ints)
+arm1_scale : IsScale odd_arm1
+arm1_scale = limits 1000 0 1501 (omega arith) (omega arith) (omega arith) (omega arith)
+
+arm2_scale : IsScale odd_arm2
+arm2_scale = limits 1000 3 2004 (omega arith) (omega arith) (omega arith) (omega arith)
+
+rotation_scale : IsScale odd_rotation
+rotation_scale = limits 2000 7 4094 (omega arith) (omega arith) (omega arith) (omega arith)
+
+turn_scale : IsScale odd_turn
+turn_scale = limits 500 1 1000 (omega arith) (omega arith) (omega arith) (omega arith)
+
+gripper_scale : IsScale odd_gripper
+gripper_scale = limits 1000 5 1508 (omega arith) (omega arith) (omega arith) (omega arith)
+
+-- between the points of a scale one raw value alone is shown
+between : (s : Scale) (p raw : ℕ) → IsScale s → T (le_z s.at_lo (pos p)) → T (le_z (pos p) s.at_hi) → T (le_z (line_height s raw) (height_of s (pos p)))
+    → T (lt_z (height_of s (pos p)) (line_height s (raw + 1))) → Reads s p raw
+between s p raw k from to low high =
+    let is : IsRawAt s (pos p) raw = record { not_above = le_z_yes low; next_above = lt_z_yes high } in (
+      record { between = λ _ _. is; below = λ before. absurd (apart before (le_z_yes from)); above = λ behind. absurd (apart behind (le_z_yes to)) },
+      λ other shown. one_raw_at s (pos p) raw other k is (shown.between (le_z_yes from) (le_z_yes to)),
+    )
+
+pub raws : RawBounds
+raws = record {
+  three_for_two_at_0 = between _ _ _ three_scale tt tt tt tt;
+  three_for_two_at_1 = between _ _ _ three_scale tt tt tt tt;
+  three_for_two_at_999 = between _ _ _ three_scale tt tt tt tt;
+  three_for_two_at_1000 = between _ _ _ three_scale tt tt tt tt;
+  arm1_at_1 = between _ _ _ arm1_scale tt tt tt tt;
+  arm1_at_501 = between _ _ _ arm1_scale tt tt tt tt;
+  arm1_at_999 = between _ _ _ arm1_scale tt tt tt tt;
+  arm2_at_1 = between _ _ _ arm2_scale tt tt tt tt;
+  arm2_at_501 = between _ _ _ arm2_scale tt tt tt tt;
+  arm2_at_999 = between _ _ _ arm2_scale tt tt tt tt;
+  rotation_at_1 = between _ _ _ rotation_scale tt tt tt tt;
+  rotation_at_1001 = between _ _ _ rotation_scale tt tt tt tt;
+  rotation_at_1999 = between _ _ _ rotation_scale tt tt tt tt;
+  turn_at_1 = between _ _ _ turn_scale tt tt tt tt;
+  turn_at_251 = between _ _ _ turn_scale tt tt tt tt;
+  turn_at_499 = between _ _ _ turn_scale tt tt tt tt;
+  gripper_at_1 = between _ _ _ gripper_scale tt tt tt tt;
+  gripper_at_501 = between _ _ _ gripper_scale tt tt tt tt;
+  gripper_at_999 = between _ _ _ gripper_scale tt tt tt tt;
+  before_the_first = (record { between = λ from to. absurd from.le; below = λ before. refl; above = λ behind. absurd behind.lt }, λ other shown. shown.below (lt_z_yes tt));
+  at_the_first = between _ _ _ short_limits tt tt tt tt;
+  in_the_middle = between _ _ _ short_limits tt tt tt tt;
+  at_the_last = between _ _ _ short_limits tt tt tt tt;
+  behind_the_last = (record { between = λ from to. absurd to.le; below = λ before. absurd before.lt; above = λ behind. refl }, λ other shown. shown.above (lt_z_yes tt));
+}
 
 pub showing : ShowingExamples
 showing = record {
@@ -145,24 +186,24 @@ showing = record {
     λ other s. press_as other.bottom other.middle other.top false false false (off_unless other.bottom s.bottom (λ k. k.le)) (off_unless other.middle s.middle (λ k. k.0.le)) (off_unless other.top s.top (λ k. k.le)),
   );
   table_at_bottom = (
-    record { bottom = always refl (le_z_yes tt); top = never false_true (λ k. k.le); raw = shows_raw (doubled 100 500) (pos 250) 600 (record { not_above = le_z_yes tt; next_above = lt_z_yes tt }) (λ k. k.lt) (λ k. k.lt) },
-    λ other s. table_as other.bottom other.top true false other.turn 600 (s.bottom.1 (le_z_yes tt)) (off_unless other.top s.top (λ k. k.le)) (table_raw 250 other.turn (omega arith) s.raw),
+    record { bottom = always refl (le_z_yes tt); top = never false_true (λ k. k.le); raw = raws.turn_at_251.0 },
+    λ other s. table_as other.bottom other.top true false other.turn 502 (s.bottom.1 (le_z_yes tt)) (off_unless other.top s.top (λ k. k.le)) (raws.turn_at_251.1 other.turn s.raw),
   );
   table_at_top = (
-    record { bottom = never false_true (λ k. k.le); top = always refl (le_z_yes tt); raw = shows_raw (doubled 100 500) (pos 500) 1100 (record { not_above = le_z_yes tt; next_above = lt_z_yes tt }) (λ k. k.lt) (λ k. k.lt) },
-    λ other s. table_as other.bottom other.top false true other.turn 1100 (off_unless other.bottom s.bottom (λ k. k.le)) (s.top.1 (le_z_yes tt)) (table_raw 500 other.turn (omega arith) s.raw),
+    record { bottom = never false_true (λ k. k.le); top = always refl (le_z_yes tt); raw = raws.turn_at_499.0 },
+    λ other s. table_as other.bottom other.top false true other.turn 998 (off_unless other.bottom s.bottom (λ k. k.le)) (s.top.1 (le_z_yes tt)) (raws.turn_at_499.1 other.turn s.raw),
   );
   robot = (
-    record { arm1 = shows_raw (doubled 100 1000) (pos 10) 120 (record { not_above = le_z_yes tt; next_above = lt_z_yes tt }) (λ k. k.lt) (λ k. k.lt); arm2 = shows_raw (doubled 200 1000) (pos 20) 240 (record { not_above = le_z_yes tt; next_above = lt_z_yes tt }) (λ k. k.lt) (λ k. k.lt); rotation = shows_raw (doubled 300 2000) (pos 1500) 3300 (record { not_above = le_z_yes tt; next_above = lt_z_yes tt }) (λ k. k.lt) (λ k. k.lt) },
-    λ other s. robot_as other.arm1 other.arm2 other.rotation 120 240 3300 (axis_raw 10 other.arm1 (omega arith) s.arm1) (arm2_raw 20 other.arm2 (omega arith) s.arm2) (rotation_raw 1500 other.rotation (omega arith) s.rotation),
+    record { arm1 = raws.arm1_at_1.0; arm2 = raws.arm2_at_999.0; rotation = raws.rotation_at_1001.0 },
+    λ other s. robot_as other.arm1 other.arm2 other.rotation 1 2001 2052 (raws.arm1_at_1.1 other.arm1 s.arm1) (raws.arm2_at_999.1 other.arm2 s.arm2) (raws.rotation_at_1001.1 other.rotation s.rotation),
   );
   crane_at_deposit = (
-    record { deposit = always refl (le_z_yes tt); feed = never false_true (λ k. k.le); raw = shows_raw (doubled 100 1000) (pos 900) 1900 (record { not_above = le_z_yes tt; next_above = lt_z_yes tt }) (λ k. k.lt) (λ k. k.lt) },
-    λ other s. crane_as other.deposit other.feed true false other.gripper 1900 (s.deposit.1 (le_z_yes tt)) (off_unless other.feed s.feed (λ k. k.le)) (axis_raw 900 other.gripper (omega arith) s.raw),
+    record { deposit = always refl (le_z_yes tt); feed = never false_true (λ k. k.le); raw = raws.gripper_at_999.0 },
+    λ other s. crane_as other.deposit other.feed true false other.gripper 1506 (s.deposit.1 (le_z_yes tt)) (off_unless other.feed s.feed (λ k. k.le)) (raws.gripper_at_999.1 other.gripper s.raw),
   );
   crane_at_feed = (
-    record { deposit = never false_true (λ k. k.le); feed = always refl (le_z_yes tt); raw = shows_raw (doubled 100 1000) (pos 0) 100 (record { not_above = le_z_yes tt; next_above = lt_z_yes tt }) (λ k. k.lt) (λ k. k.lt) },
-    λ other s. crane_as other.deposit other.feed false true other.gripper 100 (off_unless other.deposit s.deposit (λ k. k.le)) (s.feed.1 (le_z_yes tt)) (axis_raw 0 other.gripper (omega arith) s.raw),
+    record { deposit = never false_true (λ k. k.le); feed = always refl (le_z_yes tt); raw = raws.gripper_at_1.0 },
+    λ other s. crane_as other.deposit other.feed false true other.gripper 6 (off_unless other.deposit s.deposit (λ k. k.le)) (s.feed.1 (le_z_yes tt)) (raws.gripper_at_1.1 other.gripper s.raw),
   );
   feed_sees_end = (record { barrier = always refl (inr (le_z_yes tt, le_z_yes tt)) }, λ other s. feed_as other.barrier true (s.barrier.1 (inr (le_z_yes tt, le_z_yes tt))));
   feed_sees_entry = (record { barrier = always refl (inl (le_z_yes tt, le_z_yes tt)) }, λ other s. feed_as other.barrier true (s.barrier.1 (inl (le_z_yes tt, le_z_yes tt))));

@@ -3,7 +3,7 @@ use Rattle.cell_calib.specs.Scale.{Scale}
 use Rattle.cell_parts.specs.Axes.{RobotScales}
 use Rattle.cell_parts.specs.CollisionExamples.{CollisionBounds, MagnetBounds, EndBounds, EachCollision}
 use Rattle.cell_parts.specs.DemandExamples.{PositionDemandBounds, MotorDemandBounds, DrivingBounds, RestingBounds, EachDemand}
-use Rattle.cell_parts.specs.PartExamples.{SettingExamples, MovingBounds, SensorBounds, ShowingExamples, NoteBounds, StartValues}
+use Rattle.cell_parts.specs.PartExamples.{SettingExamples, MovingBounds, SensorBounds, RawBounds, ShowingExamples, NoteBounds, StartValues}
 
 pub record BoundsAreMet : Type 0 where
   pub collisions : CollisionBounds
@@ -18,6 +18,7 @@ pub record BoundsAreMet : Type 0 where
   pub setting : (scale : Scale) (scales : RobotScales) → SettingExamples scale scales
   pub moving : (scale : Scale) (scales : RobotScales) → MovingBounds scale scales
   pub sensors : SensorBounds
+  pub raws : RawBounds
   pub showing : ShowingExamples
   pub notes : (scale : Scale) (scales : RobotScales) → NoteBounds scale scales
   pub start : StartValues

@@ -1,5 +1,5 @@
 -- Examples of the parts: what they are set to, how they move, what their sensors show, what they note, and where they begin.
-use Rattle.std.specs.Prelude.{◌≡◌, ◌↔◌, ℕ, ◌+◌, ◌*◌, ◌≤◌, pos, Bool, true, false, Some, None}
+use Rattle.std.specs.Prelude.{◌≡◌, ◌↔◌, ℕ, ◌≤◌, pos, Bool, true, false, Some, None}
 use Rattle.cell_types.specs.declared.machine.Machine.{Machine}
 use Rattle.cell_types.specs.declared.machine.Machine.TheVariants.{Feed, Table, Robot, Press, Deposit, Crane}
 use Rattle.cell_types.specs.declared.zone.Zone.TheVariants.{Z1, Z4, Z5, Z6}
@@ -10,6 +10,7 @@ use Rattle.cell_types.specs.declared.answer.Event.{Event}
 use Rattle.cell_types.specs.declared.answer.Refusal.TheVariants.{NoPlate}
 use Rattle.cell_types.specs.declared.place.Place.TheVariants as place
 use Rattle.cell_calib.specs.Scale.{Scale}
+use Rattle.cell_calib.specs.Examples.{scale_of}
 use Rattle.cell_calib.specs.declared.sense.FeedSense.{FeedSense}
 use Rattle.cell_calib.specs.declared.sense.TableSense.{TableSense}
 use Rattle.cell_calib.specs.declared.sense.RobotSense.{RobotSense}
@@ -29,7 +30,7 @@ use Rattle.cell_parts.specs.declared.axis.Axis.{Axis}
 use Rattle.cell_parts.specs.declared.belt.Belt.{Belt}
 use Rattle.cell_parts.specs.Axes.{RobotScales}
 use Rattle.cell_parts.specs.Plant.{TablePlant, RobotPlant, CranePlant}
-use Rattle.cell_parts.specs.Shows.{IsPressBottom, IsPressMiddle, IsPressTop, IsTableBottom, IsTableTop, IsCraneAtDeposit, IsCraneAtFeed, IsInBarrier}
+use Rattle.cell_parts.specs.Shows.{IsPressBottom, IsPressMiddle, IsPressTop, IsTableBottom, IsTableTop, IsCraneAtDeposit, IsCraneAtFeed, IsInBarrier, ShowsRaw}
 use Rattle.cell_parts.specs.Collisions.{NothingCollides}
 use Rattle.cell_parts.specs.Rigs.{feed_rig, table_rig, robot_rig, press_rig, deposit_rig, crane_rig}
 use Rattle.cell_parts.specs.Examples.{FromTo, empty_cell, cell_with_plate_at, driven_at, at, robot_with, robot_at, table_at, crane_with, crane_at, belt_with, belt_entered_at, belt_at}
@@ -163,23 +164,75 @@ feed_sense barrier = record { barrier = barrier }
 abbrev pub deposit_sense : Bool → DepositSense
 deposit_sense barrier = record { barrier = barrier }
 
--- a scale from 0 to an end of its axis, with two raw values for each position from a first one on
-abbrev pub doubled : ℕ → ℕ → Scale
-doubled first end = record { raw_lo = first; raw_hi = first + 2 * end; at_lo = pos 0; at_hi = pos end; tol = pos 5 }
+-- what a potentiometer shows at a position, and no other raw value
+abbrev pub Reads : Scale → ℕ → ℕ → Type 0
+Reads scale position raw = ShowsJust (ShowsRaw scale (pos position)) raw
 
-abbrev pub robot_doubled : RobotScales
-robot_doubled = record { arm1 = doubled 100 1000; arm2 = doubled 200 1000; rotation = doubled 300 2000 }
+-- scales with no whole number of raw values for a position: one for each potentiometer, one with three for two, and one with ends of its own
+abbrev pub scale_to : ℕ → ℕ → ℕ → Scale
+scale_to end raw_lo raw_hi = scale_of raw_lo raw_hi (pos 0) (pos end)
+
+abbrev pub odd_arm1 : Scale
+odd_arm1 = scale_to 1000 0 1501
+
+abbrev pub odd_arm2 : Scale
+odd_arm2 = scale_to 1000 3 2004
+
+abbrev pub odd_rotation : Scale
+odd_rotation = scale_to 2000 7 4094
+
+abbrev pub odd_turn : Scale
+odd_turn = scale_to 500 1 1000
+
+abbrev pub odd_gripper : Scale
+odd_gripper = scale_to 1000 5 1508
+
+abbrev pub odd_robot : RobotScales
+odd_robot = record { arm1 = odd_arm1; arm2 = odd_arm2; rotation = odd_rotation }
+
+abbrev pub three_for_two : Scale
+three_for_two = scale_to 1000 0 1500
+
+abbrev pub short_scale : Scale
+short_scale = scale_of 10 13 (pos 100) (pos 102)
+
+-- the raw value is rounded down, and beyond the ends of a scale it is that of the nearer end
+pub record RawBounds : Type 0 where
+  pub three_for_two_at_0 : Reads three_for_two 0 0
+  pub three_for_two_at_1 : Reads three_for_two 1 1
+  pub three_for_two_at_999 : Reads three_for_two 999 1498
+  pub three_for_two_at_1000 : Reads three_for_two 1000 1500
+  pub arm1_at_1 : Reads odd_arm1 1 1
+  pub arm1_at_501 : Reads odd_arm1 501 752
+  pub arm1_at_999 : Reads odd_arm1 999 1499
+  pub arm2_at_1 : Reads odd_arm2 1 5
+  pub arm2_at_501 : Reads odd_arm2 501 1005
+  pub arm2_at_999 : Reads odd_arm2 999 2001
+  pub rotation_at_1 : Reads odd_rotation 1 9
+  pub rotation_at_1001 : Reads odd_rotation 1001 2052
+  pub rotation_at_1999 : Reads odd_rotation 1999 4091
+  pub turn_at_1 : Reads odd_turn 1 2
+  pub turn_at_251 : Reads odd_turn 251 502
+  pub turn_at_499 : Reads odd_turn 499 998
+  pub gripper_at_1 : Reads odd_gripper 1 6
+  pub gripper_at_501 : Reads odd_gripper 501 758
+  pub gripper_at_999 : Reads odd_gripper 999 1506
+  pub before_the_first : Reads short_scale 99 10
+  pub at_the_first : Reads short_scale 100 10
+  pub in_the_middle : Reads short_scale 101 11
+  pub at_the_last : Reads short_scale 102 13
+  pub behind_the_last : Reads short_scale 103 13
 
 pub record ShowingExamples : Type 0 where
   pub press_at_bottom : ShowsJust (press_rig.shows (at 10)) (press_sense true false false)
   pub press_at_middle : ShowsJust (press_rig.shows (at 500)) (press_sense false true false)
   pub press_at_top : ShowsJust (press_rig.shows (at 990)) (press_sense false false true)
   pub press_between : ShowsJust (press_rig.shows (at 489)) (press_sense false false false)
-  pub table_at_bottom : ShowsJust ((table_rig (doubled 100 500)).shows (table_at (at 10) (at 250))) (table_sense true false 600)
-  pub table_at_top : ShowsJust ((table_rig (doubled 100 500)).shows (table_at (at 590) (at 500))) (table_sense false true 1100)
-  pub robot : ShowsJust ((robot_rig robot_doubled).shows (robot_at (at 10) (at 20) (at 1500))) (robot_sense 120 240 3300)
-  pub crane_at_deposit : ShowsJust ((crane_rig (doubled 100 1000)).shows (crane_at (at 10) (at 900))) (crane_sense true false 1900)
-  pub crane_at_feed : ShowsJust ((crane_rig (doubled 100 1000)).shows (crane_at (at 1990) (at 0))) (crane_sense false true 100)
+  pub table_at_bottom : ShowsJust ((table_rig odd_turn).shows (table_at (at 10) (at 251))) (table_sense true false 502)
+  pub table_at_top : ShowsJust ((table_rig odd_turn).shows (table_at (at 590) (at 499))) (table_sense false true 998)
+  pub robot : ShowsJust ((robot_rig odd_robot).shows (robot_at (at 1) (at 999) (at 1001))) (robot_sense 1 2001 2052)
+  pub crane_at_deposit : ShowsJust ((crane_rig odd_gripper).shows (crane_at (at 10) (at 999))) (crane_sense true false 1506)
+  pub crane_at_feed : ShowsJust ((crane_rig odd_gripper).shows (crane_at (at 1990) (at 1))) (crane_sense false true 6)
   pub feed_sees_end : ShowsJust (feed_rig.shows (belt_at 0 900 true)) (feed_sense true)
   pub feed_sees_entry : ShowsJust (feed_rig.shows (belt_at 999 1100 true)) (feed_sense true)
   pub feed_sees_none : ShowsJust (feed_rig.shows (belt_at 899 1000 true)) (feed_sense false)
