@@ -16,6 +16,8 @@ mod parts;
 #[cfg(test)]
 mod press;
 #[cfg(test)]
+mod raws;
+#[cfg(test)]
 mod seats;
 #[cfg(test)]
 mod table;

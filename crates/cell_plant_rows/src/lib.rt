@@ -7,3 +7,5 @@ mod cells;
 mod ends;
 #[cfg(test)]
 mod rounds;
+#[cfg(test)]
+mod scales;
