@@ -1,10 +1,11 @@
 //! Runs on scales with no whole number of raw values for a position: a reading is of the raw value rounded down, and so
 //! axes stop elsewhere than where it were rounded up.
 ghost use Rattle.std.specs.Prelude.{IfOk, pos, ◌≤ℤ◌, ◌-ℤ◌};
-ghost use Rattle.cell_parts.specs.Axes.{IsAxisScale};
+ghost use Rattle.cell_parts.specs.Axes.{IsAxisScale, arm_end, gripper_end, rotation_end, turn_end};
+ghost use Rattle.cell_rules.specs.Start.{IsStartState};
 
-use crate::cells::places_of;
-use cell_calib::{Calibration, Points, PointsFault, line_at};
+use crate::cells::{Simulated, places_of};
+use cell_calib::{Calibration, Gauge, Points, PointsFault, line_at};
 use cell_plant::{Cell, RunRecord, Status, Turn, simulate};
 use cell_rules::State;
 use cell_types::Machine;
@@ -20,7 +21,49 @@ fn scale_to(end: i32, raw_lo: u16, raw_hi: u16, tol: i32) -> Result<Points, Poin
     Points::new(raw_lo, raw_hi, 0, end, tol)
 }
 
-// A run of a cell in which each potentiometer has such a scale.
+// The scales of the five potentiometers: of the arms, of the rotations of robot and table, and of the gripper.
+#[derive(Clone, Copy)]
+struct Scales {
+    arm1: Points,
+    arm2: Points,
+    rotation: Points,
+    turn: Points,
+    gripper: Points,
+}
+
+// A run of a cell with these closures.
+fn run_by<F1: Gauge, F2: Gauge, F3: Gauge, F4: Gauge, F5: Gauge>(
+    alloc: Global,
+    start: State,
+    gauges: (F1, F2, F3, F4, F5),
+    scales: Scales,
+    turns: &[Turn],
+) -> Simulated
+    requires start { IsStartState start }
+    requires arm1 { F1.keeps gauges.0 scales.arm1 }
+    requires arm2 { F2.keeps gauges.1 scales.arm2 }
+    requires rotation { F3.keeps gauges.2 scales.rotation }
+    requires turn { F4.keeps gauges.3 scales.turn }
+    requires gripper { F5.keeps gauges.4 scales.gripper }
+    requires arm1_axis { IsAxisScale arm_end scales.arm1 }
+    requires arm2_axis { IsAxisScale arm_end scales.arm2 }
+    requires rotation_axis { IsAxisScale rotation_end scales.rotation }
+    requires turn_axis { IsAxisScale turn_end scales.turn }
+    requires gripper_axis { IsAxisScale gripper_end scales.gripper }
+{
+    let (arm1, arm2, rotation, turn, gripper) = gauges;
+    let cell = Cell::new(
+        &start,
+        Calibration::new(arm1, scales.arm1),
+        Calibration::new(arm2, scales.arm2),
+        Calibration::new(rotation, scales.rotation),
+        Calibration::new(turn, scales.turn),
+        Calibration::new(gripper, scales.gripper),
+    );
+    simulate(alloc, cell, start, turns)
+}
+
+// A run of a cell in which each potentiometer has a scale of its own, and a closure over its line.
 fn run_on_scales(alloc: Global, places: [bool; 10], turns: &[Turn]) -> Result<RunRecord, Fail> {
     let start = State::start(places, 0)?;
     let arm1 = scale_to(1000, 0, 1501, 1)?;
@@ -28,15 +71,21 @@ fn run_on_scales(alloc: Global, places: [bool; 10], turns: &[Turn]) -> Result<Ru
     let rotation = scale_to(2000, 7, 4094, 1)?;
     let turn = scale_to(500, 1, 1000, 1)?;
     let gripper = scale_to(1000, 5, 1508, 10)?;
-    let cell = Cell::new(
-        &start,
-        Calibration::new(move |raw: u16| line_at(&arm1, raw), arm1),
-        Calibration::new(move |raw: u16| line_at(&arm2, raw), arm2),
-        Calibration::new(move |raw: u16| line_at(&rotation, raw), rotation),
-        Calibration::new(move |raw: u16| line_at(&turn, raw), turn),
-        Calibration::new(move |raw: u16| line_at(&gripper, raw), gripper),
+    let gauges = (
+        move |raw: u16| line_at(&arm1, raw),
+        move |raw: u16| line_at(&arm2, raw),
+        move |raw: u16| line_at(&rotation, raw),
+        move |raw: u16| line_at(&turn, raw),
+        move |raw: u16| line_at(&gripper, raw),
     );
-    Ok(simulate(alloc, cell, start, turns)?)
+    let scales = Scales {
+        arm1,
+        arm2,
+        rotation,
+        turn,
+        gripper,
+    };
+    Ok(run_by(alloc, start, gauges, scales, turns)?)
 }
 
 // Which places are full, how many turns which machine has, one after another, and where axes stand then, in the order of
