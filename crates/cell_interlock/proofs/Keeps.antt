@@ -23,13 +23,17 @@ use Rattle.cell_rules.proofs.SeenLemmas.{legal-append, same_as_itself}
 use Rattle.cell_word.specs.Layout.{packed}
 use Rattle.cell_interlock.specs.declared.pass.Part.{Part}
 use Rattle.cell_interlock.specs.Steps.{IsReady}
-use Rattle.cell_interlock.specs.Rule.{part, head_of, first_off, others_of, all_parts, Fits, AllFit, parts_of, parts_in_all, WordTellsHistory, Moment, seen_at, looked, exchanged, MomentOfAll, all_see, gathered, IsSeat}
+use Rattle.cell_interlock.specs.Rule.{new_part, head_of, first_off, others_of, all_parts, Fits, AllFit, parts_of, parts_in_all, WordTellsHistory, Moment, seen_at, seen_by, after_load, after_exchange, looked, exchanged, MomentOfAll, all_see, gathered, IsSeat}
 use Rattle.cell_rules.proofs.Quiet.{next-same}
 use Rattle.cell_interlock.proofs.Machines.{apart_back, not_own, begins-more, own-more}
 
+-- a part after a step
+abbrev now : Part → List Event → List Event → ℕ → ℕ → Part
+now p seen since loads exchanges = record p { seen = seen; since = since; loads = loads; exchanges = exchanges }
+
 -- a machine that has seen the whole history
-fits_whole : (o : ModelState) (h : List Event) (p : Part) (since : List Event) → p.opening ≡ o → Fits o h (part p.opening p.machine h since)
-fits_whole o h p since e = record { opening_is = e; begins = ([], sym (append-nil h)); own = refl }
+fits_whole : (o : ModelState) (p : Part) → p.opening ≡ o → Fits o p.seen p
+fits_whole o p e = record { opening_is = e; begins = ([], sym (append-nil p.seen)); own = refl }
 
 fit-more : (o : ModelState) (h k : List Event) (m : Machine) → ((n : Machine) → same_machine n m ≡ false → own_events k n ≡ []) → (ps : List Part) → parts_of m ps ≡ 0 → AllFit o h ps → AllFit o (h ++ k) ps
 fit-more o h k m quiet [] z t = tt
@@ -53,7 +57,7 @@ fit-both o h (p ∷ ps) qs a b = (a.0, fit-both o h ps qs a.1 b)
 
 fit-all_see : (o : ModelState) (h : List Event) (ps : List Part) → AllFit o h ps → AllFit o h (all_see h ps)
 fit-all_see o h [] a = tt
-fit-all_see o h (p ∷ ps) a = (fits_whole o h p h a.0.opening_is, fit-all_see o h ps a.1)
+fit-all_see o h (p ∷ ps) a = (fits_whole o (after_load p h) a.0.opening_is, fit-all_see o h ps a.1)
 
 parts-all_see : (m : Machine) (h : List Event) (ps : List Part) → parts_of m (all_see h ps) ≡ parts_of m ps
 parts-all_see m h [] = refl
@@ -118,15 +122,15 @@ module _ {S : Type 0} (o : ModelState) where
   stayed s r id v w at here count = moved s r id v w at r.history r.legal (get_or s.words 0 0) r.word here (λ j u _ e. r.views j u e) count
 
   -- one event of the machine whose seat it is
-  called : (s : Shop S) (r : WordTellsHistory o s) (id : ℕ) (p : Part) → get_elem? s.views id ≡ some (p ∷ []) → (c : Call) (n : ℕ) → n ≡ packed (next (after o r.history) p.machine c) → (since : List Event)
-      → let e : Event = event p.machine c (reply (after o r.history) p.machine c) in WordTellsHistory o (stepped s 0 n id [] (part p.opening p.machine (r.history ++ e ∷ []) since ∷ []) keeps)
-  called s r id p at c n is since =
+  called : (s : Shop S) (r : WordTellsHistory o s) (id : ℕ) (p : Part) → get_elem? s.views id ≡ some (p ∷ []) → (c : Call) (n : ℕ) → n ≡ packed (next (after o r.history) p.machine c) → (since : List Event) (l x : ℕ)
+      → let e : Event = event p.machine c (reply (after o r.history) p.machine c) in WordTellsHistory o (stepped s 0 n id [] (now p (r.history ++ e ∷ []) since l x ∷ []) keeps)
+  called s r id p at c n is since l x =
       let h : List Event = r.history in let e : Event = event p.machine c (reply (after o h) p.machine c) in let k : List Event = e ∷ [] in
       let t = r.views id (p ∷ []) at in
       let quiet : (m : Machine) → same_machine m p.machine ≡ false → own_events k m ≡ [] = λ m f. not_own e m (apart_back p.machine m f) in
       let mine_one : parts_of p.machine (p ∷ []) ≡ 1 = ap (λ (b : Bool). (if b then 1 else 0) + 0) (same_as_itself p.machine) in
-      moved s r id (p ∷ []) (part p.opening p.machine (h ++ k) since ∷ []) at (h ++ k) (legal-append o h k r.legal (refl, tt)) n (is ∙ ap packed (sym (after-append o h k)))
-      (fits_whole o (h ++ k) p since t.0.opening_is, tt)
+      moved s r id (p ∷ []) (now p (h ++ k) since l x ∷ []) at (h ++ k) (legal-append o h k r.legal (refl, tt)) n (is ∙ ap packed (sym (after-append o h k)))
+      (fits_whole o (now p (h ++ k) since l x) t.0.opening_is, tt)
       (λ j u apart f. fit-more o h k p.machine quiet u (omega (arith, total-two p.machine s.views id j (p ∷ []) u apart at f, r.apart p.machine)) (r.views j u f))
       (λ m. refl)
 
@@ -141,22 +145,22 @@ module _ {S : Type 0} (o : ModelState) where
   }
 
   -- the load finds the word, and the call's event is added where the call changes nothing
-  looks_at : (s : Shop S) (r : WordTellsHistory o s) (id : ℕ) (p : Part) → get_elem? s.views id ≡ some (p ∷ []) → (c : Call) (since : List Event)
-      → WordTellsHistory o (stepped s 0 (get_or s.words 0 0) id [] (part p.opening p.machine (seen_at c p r.history) since ∷ []) keeps)
-  looks_at s r id p at c since =
+  looks_at : (s : Shop S) (r : WordTellsHistory o s) (id : ℕ) (p : Part) → get_elem? s.views id ≡ some (p ∷ []) → (c : Call) (since : List Event) (l x : ℕ)
+      → WordTellsHistory o (stepped s 0 (get_or s.words 0 0) id [] (now p (seen_at c p r.history) since l x ∷ []) keeps)
+  looks_at s r id p at c since l x =
       let h : List Event = r.history in let t = r.views id (p ∷ []) at in
-      subst (λ (z : ModelState). WordTellsHistory o (stepped s 0 (get_or s.words 0 0) id [] (part p.opening p.machine (if is_done_answer (reply (after z h) p.machine c) then h else h ++ event p.machine c (reply (after z h) p.machine c) ∷ []) since ∷ []) keeps)) (sym t.0.opening_is)
+      subst (λ (z : ModelState). WordTellsHistory o (stepped s 0 (get_or s.words 0 0) id [] (now p (if is_done_answer (reply (after z h) p.machine c) then h else h ++ event p.machine c (reply (after z h) p.machine c) ∷ []) since l x ∷ []) keeps)) (sym t.0.opening_is)
       (go (is_done_answer (reply (after o h) p.machine c)) refl)
     where
       go : (b : Bool) → is_done_answer (reply (after o r.history) p.machine c) ≡ b
-          → WordTellsHistory o (stepped s 0 (get_or s.words 0 0) id [] (part p.opening p.machine (if b then r.history else r.history ++ event p.machine c (reply (after o r.history) p.machine c) ∷ []) since ∷ []) keeps)
-      go true e = let t = r.views id (p ∷ []) at in stayed s r id (p ∷ []) (part p.opening p.machine r.history since ∷ []) at (fits_whole o r.history p since t.0.opening_is, tt) (λ m. refl)
-      go false e = called s r id p at c (get_or s.words 0 0) (r.word ∙ ap packed (sym (next-same (after o r.history) p.machine c e))) since
+          → WordTellsHistory o (stepped s 0 (get_or s.words 0 0) id [] (now p (if b then r.history else r.history ++ event p.machine c (reply (after o r.history) p.machine c) ∷ []) since l x ∷ []) keeps)
+      go true e = let t = r.views id (p ∷ []) at in stayed s r id (p ∷ []) (now p r.history since l x ∷ []) at (fits_whole o (now p r.history since l x) t.0.opening_is, tt) (λ m. refl)
+      go false e = called s r id p at c (get_or s.words 0 0) (r.word ∙ ap packed (sym (next-same (after o r.history) p.machine c e))) since l x
 
   pub looks : (slots id : ℕ) (p : Part) (c : Call) → Allows (WordTellsHistory o) slots id (p ∷ [], []) 0 (λ n. n) (looked {S = S} c (step slots 0 0 0 none) (p ∷ [], []))
   looks slots id p c s r _ at _ =
       let t = r.views id (p ∷ []) at in
-      (part p.opening p.machine (seen_at c p r.history) (seen_at c p r.history) ∷ [], keeps, tt, looks_at s r id p at c (seen_at c p r.history), (r.history, point s r p t.0, refl))
+      (after_load p (seen_at c p r.history) ∷ [], keeps, tt, looks_at s r id p at c (seen_at c p r.history) (p.loads + 1) p.exchanges, (r.history, point s r p t.0, refl))
 
   pub looks_as : (slots id : ℕ) (me : Me S (List Part)) (c : Call) → me ≡ (head_of me.0 ∷ [], []) → Allows (WordTellsHistory o) slots id me 0 (λ n. n) (looked {S = S} c (step slots 0 0 0 none) me)
   looks_as slots id me c e = subst (λ (z : Me S (List Part)). Allows (WordTellsHistory o) slots id z 0 (λ n. n) (looked {S = S} c (step slots 0 0 0 none) z)) (sym e) (looks slots id (head_of me.0) c)
@@ -166,21 +170,21 @@ module _ {S : Type 0} (o : ModelState) where
       → Allows (WordTellsHistory o) slots id (p ∷ [], []) 0 (λ n. either (eqb n old) new n) (exchanged {S = S} c (step slots 0 old new none) (p ∷ [], []))
   exchanges slots id p c old new ready s r _ at _ =
       let h : List Event = r.history in let x : ℕ = get_or s.words 0 0 in let t = r.views id (p ∷ []) at in
-      let pick : Bool → List Part = λ b. part p.opening p.machine (if b then h ++ event p.machine c Done ∷ [] else seen_at c p h) p.since ∷ [] in
+      let pick : Bool → List Part = λ b. after_exchange p (if b then h ++ event p.machine c Done ∷ [] else seen_at c p h) ∷ [] in
       dite (ℕ_discrete x old)
       (λ hit. let f = ready (after o h) (sound-after o h r.sound) (sym r.word ∙ hit) in (
         pick (eqb x old),
         keeps,
         tt,
         subst (λ (b : Bool). WordTellsHistory o (stepped s 0 (either b new x) id [] (pick b) keeps)) (sym (eq-eqb x old hit))
-            (subst (λ a. WordTellsHistory o (stepped s 0 new id [] (part p.opening p.machine (h ++ event p.machine c a ∷ []) p.since ∷ []) keeps)) f.0 (called s r id p at c new (sym f.1) p.since)),
+            (subst (λ a. WordTellsHistory o (stepped s 0 new id [] (after_exchange p (h ++ event p.machine c a ∷ []) ∷ []) keeps)) f.0 (called s r id p at c new (sym f.1) p.since p.loads (p.exchanges + 1))),
         (h, point s r p t.0, refl),
       ))
       (λ miss. (
         pick (eqb x old),
         keeps,
         tt,
-        subst (λ (b : Bool). WordTellsHistory o (stepped s 0 (either b new x) id [] (pick b) keeps)) (sym (ne_eqb x old miss)) (looks_at s r id p at c p.since),
+        subst (λ (b : Bool). WordTellsHistory o (stepped s 0 (either b new x) id [] (pick b) keeps)) (sym (ne_eqb x old miss)) (looks_at s r id p at c p.since p.loads (p.exchanges + 1)),
         (h, point s r p t.0, refl),
       ))
 
@@ -237,7 +241,7 @@ module _ {S : Type 0} (o : ModelState) where
     apart = once;
   }
     where
-      new : (m : Machine) → Fits o [] (part o m [] [])
+      new : (m : Machine) → Fits o [] (new_part o m)
       new m = record { opening_is = refl; begins = ([], refl); own = refl }
 
       first : (i : ℕ) (v : List Part) → get_elem? (all_parts o ∷ []) i ≡ some v → AllFit o [] v
@@ -269,12 +273,12 @@ seat_of m p rest e is k l = record { one = ap (λ r. (p ∷ [], r)) e; machine =
 pub looked-seat : {S : Type 0} (c : Call) (m : Machine) (me me' : Me S (List Part)) (word : ℕ) → IsSeat m me → looked {S = S} c (step 0 0 0 0 none) me word me' → IsSeat m me'
 looked-seat c m me me' word is told =
     let p : Part = head_of me.0 in
-    subst (IsSeat m) (sym told.2) (seat_of m (part p.opening p.machine (seen_at c p told.0) (seen_at c p told.0)) me.1 (ap (λ x. x.1) is.one) is.machine is.opened (seen-legal c p told.0 told.1.legal))
+    subst (IsSeat m) (sym told.2) (seat_of m (after_load p (seen_at c p told.0)) me.1 (ap (λ x. x.1) is.one) is.machine is.opened (seen-legal c p told.0 told.1.legal))
 
 pub exchanged-seat : {S : Type 0} (c : Call) (m : Machine) (me me' : Me S (List Part)) (old word new : ℕ) → IsSeat m me → IsReady (head_of me.0).machine c old new → exchanged {S = S} c (step 0 0 old 0 none) me word me' → IsSeat m me'
 exchanged-seat c m me me' old word new is ready told =
     let p : Part = head_of me.0 in let h : List Event = told.0 in
-    subst (IsSeat m) (sym told.2) (seat_of m (part p.opening p.machine (if eqb word old then h ++ event p.machine c Done ∷ [] else seen_at c p h) p.since) me.1 (ap (λ x. x.1) is.one) is.machine is.opened
+    subst (IsSeat m) (sym told.2) (seat_of m (after_exchange p (seen_by c p old word h)) me.1 (ap (λ x. x.1) is.one) is.machine is.opened
     (dite (ℕ_discrete word old)
     (λ hit. subst (λ (b : Bool). IsLegal p.opening (if b then h ++ event p.machine c Done ∷ [] else seen_at c p h)) (sym (eq-eqb word old hit))
     (legal-append p.opening h (event p.machine c Done ∷ []) told.1.legal (sym (ready (after p.opening h) told.1.sound (told.1.found ∙ hit)).0, tt)))

@@ -1,5 +1,5 @@
 -- What two passes have seen that met.
-use Rattle.std.proofs.Common.{◌≡◌, ℕ, List, [], ◌∷◌, ◌++◌, refl, sym, ap, ◌∙◌, subst}
+use Rattle.std.proofs.Common.{◌≡◌, ℕ, ◌+◌, List, [], ◌∷◌, ◌++◌, refl, sym, ap, ◌∙◌, subst}
 use mathlib.Core.Option.{none}
 use Rattle.atomic_table.specs.Table.{Me, step}
 use Rattle.atomic_table.specs.Seated.{TableId}
@@ -7,18 +7,25 @@ use Rattle.cell_types.specs.declared.machine.Machine.{Machine}
 use Rattle.cell_types.specs.declared.answer.Event.{Event}
 use Rattle.cell_interlock.specs.declared.pass.Part.{Part}
 use Rattle.cell_interlock.specs.Views.{PassView, pass_of}
-use Rattle.cell_interlock.specs.Rule.{part, head_of, first_off, others_of, Moment, MomentOfAll, all_see, gathered, IsSeat}
+use Rattle.cell_interlock.specs.Rule.{head_of, after_load, first_off, others_of, Moment, MomentOfAll, all_see, gathered, IsSeat}
 use Rattle.cell_interlock.specs.Seen.{HasSeenMore}
 use Rattle.cell_interlock.proofs.Tells.{lawful_history}
 
+-- one load more, and no exchange
+abbrev LoadsOnce : PassView → PassView → Type 0
+LoadsOnce v w = (w.loads ≡ v.loads + 1) × (w.exchanges ≡ v.exchanges)
+
 -- a pass whose part has seen the history so far
-more_at : (v w : PassView) (t u : TableId) (p q : Part) (h : List Event) (word : ℕ) → pass_of t p ≡ v → w ≡ pass_of u q → u ≡ t → Moment p word h → q ≡ part p.opening p.machine h h → HasSeenMore v w
+more_at : (v w : PassView) (t u : TableId) (p q : Part) (h : List Event) (word : ℕ) → pass_of t p ≡ v → w ≡ pass_of u q → u ≡ t → Moment p word h → q ≡ after_load p h → HasSeenMore v w × LoadsOnce v w
 more_at v w t u p q h word from to same at is =
-    subst (λ (x : PassView × PassView). HasSeenMore x.0 x.1) (λ i. (from i, sym (to ∙ ap (pass_of u) is) i)) record {
-      pass = record { table = same; opening = refl; machine = refl };
-      lawful = lawful_history p.opening h at.opened at.legal;
-      seen = record { begins = at.begins; own = at.own };
-    }
+    subst (λ (x : PassView × PassView). HasSeenMore x.0 x.1 × LoadsOnce x.0 x.1) (λ i. (from i, sym (to ∙ ap (pass_of u) is) i)) (
+      record {
+        pass = record { table = same; opening = refl; machine = refl };
+        lawful = lawful_history p.opening h at.opened at.legal;
+        seen = record { begins = at.begins; own = at.own };
+      },
+      (refl, refl),
+    )
 
 -- two seats were joined, the machines of both saw the history, and the first of them was split off again
 module _ {S : Type 0} (m n : Machine) (l r j j' ll rr : Me S (List Part)) (word : ℕ) (is_l : IsSeat m l) (is_r : IsSeat n r) (joined : j ≡ (r.0 ++ l.0, l.1)) (told : gathered {S = S} (step 0 0 0 0 none) j word j') (left : ll ≡ (others_of j'.0, j'.1)) (right : rr ≡ (first_off j'.0, [])) where
@@ -31,8 +38,8 @@ module _ {S : Type 0} (m n : Machine) (l r j j' ll rr : Me S (List Part)) (word 
   seen : j'.0 ≡ all_see told.0 (head_of r.0 ∷ head_of l.0 ∷ [])
   seen = ap (λ x. x.0) told.2 ∙ ap (all_see told.0) both
 
-  pub left_more : (v w : PassView) (t u : TableId) → pass_of t (head_of l.0) ≡ v → w ≡ pass_of u (head_of ll.0) → u ≡ t → HasSeenMore v w
+  pub left_more : (v w : PassView) (t u : TableId) → pass_of t (head_of l.0) ≡ v → w ≡ pass_of u (head_of ll.0) → u ≡ t → HasSeenMore v w × LoadsOnce v w
   left_more v w t u from to same = more_at v w t u (head_of l.0) (head_of ll.0) told.0 word from to same at.1.0 (ap (λ x. head_of x.0) left ∙ ap (λ ps. head_of (others_of ps)) seen)
 
-  pub right_more : (v w : PassView) (t u : TableId) → pass_of t (head_of r.0) ≡ v → w ≡ pass_of u (head_of rr.0) → u ≡ t → HasSeenMore v w
+  pub right_more : (v w : PassView) (t u : TableId) → pass_of t (head_of r.0) ≡ v → w ≡ pass_of u (head_of rr.0) → u ≡ t → HasSeenMore v w × LoadsOnce v w
   right_more v w t u from to same = more_at v w t u (head_of r.0) (head_of rr.0) told.0 word from to same at.0 (ap (λ x. head_of x.0) right ∙ ap (λ ps. head_of (first_off ps)) seen)

@@ -23,7 +23,7 @@ use Rattle.cell_rules.proofs.SeenLemmas.{after-push, legal-append, own-push, wai
 use Rattle.cell_word.specs.Layout.{packed}
 use Rattle.cell_interlock.specs.Views.{PassView}
 use Rattle.cell_interlock.specs.Rule.{Moment, seen_at}
-use Rattle.cell_interlock.specs.Steps.{part_of, sees, Loaded, IsReady, Exchanged}
+use Rattle.cell_interlock.specs.Steps.{part_of, Loaded, IsReady, Exchanged}
 use Rattle.cell_interlock.specs.Seen.{IsSamePass, IsSettled, IsUnmade, HasChanges, IsOvertaken}
 use Rattle.cell_interlock.specs.Going.{IsUnderWay}
 use Rattle.cell_interlock.proofs.Overtaken.{changes-trans, changes-before, overtaken}
@@ -86,29 +86,33 @@ settled v w c a stamp h k l waits same ends right stamped =
       };
     }
 
+-- the same pass after a step
+abbrev sees : PassView → List Event → List Event → ℕ → ℕ → PassView
+sees v seen since loads exchanges = record v { seen = seen; since = since; loads = loads; exchanges = exchanges }
+
 waits_at : (v : PassView) (word : ℕ) (h : List Event) → Moment (part_of v) word h → Waits v.machine v.seen h
 waits_at v word h at = record { begins = at.begins; own = at.own }
 
-same_pass : (v w : PassView) (seen since : List Event) → w ≡ sees v seen since → IsSamePass v w
-same_pass v w seen since is = record { table = ap (λ (x : PassView). x.table) is; opening = ap (λ (x : PassView). x.opening) is; machine = ap (λ (x : PassView). x.machine) is }
+same_pass : (v w : PassView) (seen since : List Event) (l x : ℕ) → w ≡ sees v seen since l x → IsSamePass v w
+same_pass v w seen since l x is = record { table = ap (λ (x : PassView). x.table) is; opening = ap (λ (x : PassView). x.opening) is; machine = ap (λ (x : PassView). x.machine) is }
 
-settled_at : (v w : PassView) (word : ℕ) (h since : List Event) (c : Call) (a : Answer) (stamp : ℕ) → Moment (part_of v) word h → w ≡ sees v (h ++ event v.machine c a ∷ []) since
+settled_at : (v w : PassView) (word : ℕ) (h since : List Event) (l x : ℕ) (c : Call) (a : Answer) (stamp : ℕ) → Moment (part_of v) word h → w ≡ sees v (h ++ event v.machine c a ∷ []) since l x
     → a ≡ reply (after v.opening h) v.machine c → stamp ≡ (next (after v.opening h) v.machine c).stamp → IsSettled v c a stamp w
-settled_at v w word h since c a stamp at is right stamped =
+settled_at v w word h since l x c a stamp at is right stamped =
     let f : w.seen ≡ h ++ event v.machine c a ∷ [] = ap (λ (x : PassView). x.seen) is in
-    settled v w c a stamp h at.opened at.legal (waits_at v word h at) (same_pass v w (h ++ event v.machine c a ∷ []) since is) f right
+    settled v w c a stamp h at.opened at.legal (waits_at v word h at) (same_pass v w (h ++ event v.machine c a ∷ []) since l x is) f right
     (stamped ∙ sym (ap (λ (x : List Event). (after v.opening x).stamp) f ∙ ap (λ (s : ModelState). s.stamp) (after-push v.opening h (event v.machine c a))))
 
-unmade_at : (v w : PassView) (word : ℕ) (h since : List Event) (c : Call) → Moment (part_of v) word h → w ≡ sees v h since → reply (after v.opening h) v.machine c ≡ Done → IsUnmade v c w
-unmade_at v w word h since c at is ready = subst (IsUnmade v c) (sym is) record {
+unmade_at : (v w : PassView) (word : ℕ) (h since : List Event) (l x : ℕ) (c : Call) → Moment (part_of v) word h → w ≡ sees v h since l x → reply (after v.opening h) v.machine c ≡ Done → IsUnmade v c w
+unmade_at v w word h since l x c at is ready = subst (IsUnmade v c) (sym is) record {
   more = record { pass = record { table = refl; opening = refl; machine = refl }; lawful = lawful_history v.opening h at.opened at.legal; seen = waits_at v word h at };
   ready = ready;
 }
 
 -- the answer at the moment of a step
-answer_at : (v w : PassView) (word : ℕ) (h seen since : List Event) (c : Call) (a : Answer) (new : ℕ) (m : Machine) → Moment (part_of v) word h → w ≡ sees v seen since → m ≡ w.machine → Says word m c a new
+answer_at : (v w : PassView) (word : ℕ) (h seen since : List Event) (l x : ℕ) (c : Call) (a : Answer) (new : ℕ) (m : Machine) → Moment (part_of v) word h → w ≡ sees v seen since l x → m ≡ w.machine → Says word m c a new
     → (a ≡ reply (after v.opening h) v.machine c) × (new ≡ packed (next (after v.opening h) v.machine c))
-answer_at v w word h seen since c a new m at is who says = let f : m ≡ v.machine = who ∙ ap (λ (x : PassView). x.machine) is in
+answer_at v w word h seen since l x c a new m at is who says = let f : m ≡ v.machine = who ∙ ap (λ (x : PassView). x.machine) is in
     subst (λ (x : Machine). (a ≡ reply (after v.opening h) x c) × (new ≡ packed (next (after v.opening h) x c))) f (says (after v.opening h) at.sound at.found)
 
 -- what is seen at that moment, by the answer
@@ -120,21 +124,28 @@ seen_refused v c h a right isnt =
 seen_done : (v : PassView) (c : Call) (h : List Event) (a : Answer) → a ≡ reply (after v.opening h) v.machine c → is_done_answer a ≡ true → seen_at c (part_of v) h ≡ h
 seen_done v c h a right isit = ap (λ (b : Bool). if b then h else h ++ event v.machine c (reply (after v.opening h) v.machine c) ∷ []) (ap is_done_answer (sym right) ∙ isit)
 
-refused_at : (v w : PassView) (word : ℕ) (h since : List Event) (c : Call) (a : Answer) (new stamp : ℕ) (m : Machine) → Moment (part_of v) word h → w ≡ sees v (seen_at c (part_of v) h) since → m ≡ w.machine
+refused_at : (v w : PassView) (word : ℕ) (h since : List Event) (l x : ℕ) (c : Call) (a : Answer) (new stamp : ℕ) (m : Machine) → Moment (part_of v) word h → w ≡ sees v (seen_at c (part_of v) h) since l x → m ≡ w.machine
     → Says word m c a new → Stamps word stamp → is_done_answer a ≡ false → IsSettled v c a stamp w
-refused_at v w word h since c a new stamp m at is who says stamps isnt =
+refused_at v w word h since l x c a new stamp m at is who says stamps isnt =
     let s : ModelState = after v.opening h in
-    let right = (answer_at v w word h (seen_at c (part_of v) h) since c a new m at is who says).0 in
-    settled_at v w word h since c a stamp at (is ∙ ap (λ (x : List Event). sees v x since) (seen_refused v c h a right isnt)) right
+    let right = (answer_at v w word h (seen_at c (part_of v) h) since l x c a new m at is who says).0 in
+    settled_at v w word h since l x c a stamp at (is ∙ ap (λ (z : List Event). sees v z since l x) (seen_refused v c h a right isnt)) right
     (stamps s at.sound at.found ∙ ap (λ (x : ModelState). x.stamp) (sym (next-same s v.machine c (ap is_done_answer (sym right) ∙ isnt))))
 
 -- ---- what a load tells
 
 pub look_refused : (v w : PassView) (word : ℕ) (c : Call) (a : Answer) (new stamp : ℕ) (m : Machine) → Loaded c v word w → m ≡ w.machine → Says word m c a new → Stamps word stamp → is_done_answer a ≡ false → IsSettled v c a stamp w
-look_refused v w word c a new stamp m told who says stamps isnt = refused_at v w word told.0 (seen_at c (part_of v) told.0) c a new stamp m told.1 told.2 who says stamps isnt
+look_refused v w word c a new stamp m told who says stamps isnt = refused_at v w word told.0 (seen_at c (part_of v) told.0) (v.loads + 1) v.exchanges c a new stamp m told.1 told.2 who says stamps isnt
 
 pub isnt_done : (a : Answer) → is_done_answer a ≡ false → a ≢ Done
 isnt_done a e f = let g = ap is_done_answer f in cc
+
+-- a load is counted as one, and so is an exchange
+pub one_load : (v w : PassView) (c : Call) (word : ℕ) → Loaded c v word w → (w.loads ≡ v.loads + 1) × (w.exchanges ≡ v.exchanges)
+one_load v w c word told = (ap (λ (k : PassView). k.loads) told.2, ap (λ (k : PassView). k.exchanges) told.2)
+
+pub one_exchange : (v w : PassView) (c : Call) (old word : ℕ) → Exchanged c v old word w → (w.loads ≡ v.loads) × (w.exchanges ≡ v.exchanges + 1)
+one_exchange v w c old word told = (ap (λ (k : PassView). k.loads) told.2, ap (λ (k : PassView). k.exchanges) told.2)
 
 -- the word found, and that after the call
 ready_for : (m n : Machine) (c : Call) (a : Answer) (word new : ℕ) → m ≡ n → Says word m c a new → is_done_answer a ≡ true → IsReady n c word new
@@ -143,10 +154,10 @@ ready_for m n c a word new who says isit = subst (λ (x : Machine). IsReady x c 
 pub look_ready : (v w : PassView) (word : ℕ) (c : Call) (a : Answer) (new : ℕ) (m : Machine) → Loaded c v word w → m ≡ w.machine → Says word m c a new → is_done_answer a ≡ true → IsUnmade v c w × IsUnderWay w c word new 0 × (w.since ≡ w.seen)
 look_ready v w word c a new m told who says isit =
     let h : List Event = told.0 in let at = told.1 in
-    let right = (answer_at v w word h (seen_at c (part_of v) h) (seen_at c (part_of v) h) c a new m at told.2 who says).0 in
-    let is : w ≡ sees v h h = told.2 ∙ ap (λ (x : List Event). sees v x x) (seen_done v c h a right isit) in
+    let right = (answer_at v w word h (seen_at c (part_of v) h) (seen_at c (part_of v) h) (v.loads + 1) v.exchanges c a new m at told.2 who says).0 in
+    let is : w ≡ sees v h h (v.loads + 1) v.exchanges = told.2 ∙ ap (λ (z : List Event). sees v z z (v.loads + 1) v.exchanges) (seen_done v c h a right isit) in
     let machine : m ≡ v.machine = who ∙ ap (λ (x : PassView). x.machine) is in (
-      unmade_at v w word h h c at is (sym right ∙ done_answer a isit),
+      unmade_at v w word h h (v.loads + 1) v.exchanges c at is (sym right ∙ done_answer a isit),
       subst (λ (k : PassView). IsUnderWay k c word new 0) (sym is) record {
         opened = at.opened;
         legal = at.legal;
@@ -159,11 +170,11 @@ look_ready v w word c a new m told who says isit =
 
 -- ---- what an exchange tells
 
-won_at : (v w : PassView) (c : Call) (old word : ℕ) → (told : Exchanged c v old word w) → word ≡ old → w ≡ sees v (told.0 ++ event v.machine c Done ∷ []) v.since
-won_at v w c old word told hit = told.2 ∙ ap (λ (b : Bool). sees v (if b then told.0 ++ event v.machine c Done ∷ [] else seen_at c (part_of v) told.0) v.since) (eq-eqb word old hit)
+won_at : (v w : PassView) (c : Call) (old word : ℕ) → (told : Exchanged c v old word w) → word ≡ old → w ≡ sees v (told.0 ++ event v.machine c Done ∷ []) v.since v.loads (v.exchanges + 1)
+won_at v w c old word told hit = told.2 ∙ ap (λ (b : Bool). sees v (if b then told.0 ++ event v.machine c Done ∷ [] else seen_at c (part_of v) told.0) v.since v.loads (v.exchanges + 1)) (eq-eqb word old hit)
 
-lost_at : (v w : PassView) (c : Call) (old word : ℕ) → (told : Exchanged c v old word w) → word ≢ old → w ≡ sees v (seen_at c (part_of v) told.0) v.since
-lost_at v w c old word told miss = told.2 ∙ ap (λ (b : Bool). sees v (if b then told.0 ++ event v.machine c Done ∷ [] else seen_at c (part_of v) told.0) v.since) (ne_eqb word old miss)
+lost_at : (v w : PassView) (c : Call) (old word : ℕ) → (told : Exchanged c v old word w) → word ≢ old → w ≡ sees v (seen_at c (part_of v) told.0) v.since v.loads (v.exchanges + 1)
+lost_at v w c old word told miss = told.2 ∙ ap (λ (b : Bool). sees v (if b then told.0 ++ event v.machine c Done ∷ [] else seen_at c (part_of v) told.0) v.since v.loads (v.exchanges + 1)) (ne_eqb word old miss)
 
 sound_seen : (v : PassView) (c : Call) (old new lost : ℕ) → IsUnderWay v c old new lost → IsSound (after v.opening v.seen)
 sound_seen v c old new lost t = sound-after v.opening v.seen t.opened
@@ -171,10 +182,10 @@ sound_seen v c old new lost t = sound-after v.opening v.seen t.opened
 pub attempt_won : (v w : PassView) (c : Call) (old new lost word stamp : ℕ) → IsUnderWay v c old new lost → Exchanged c v old word w → word ≡ old → Stamps new stamp → IsSettled v c Done stamp w
 attempt_won v w c old new lost word stamp t told hit stamps =
     let h : List Event = told.0 in let s : ModelState = after v.opening h in let f = t.ready s told.1.sound (told.1.found ∙ hit) in
-    settled_at v w word h v.since c Done stamp told.1 (won_at v w c old word told hit) (sym f.0) (stamps (next s v.machine c) (next_keeps s v.machine c told.1.sound) f.1)
+    settled_at v w word h v.since v.loads (v.exchanges + 1) c Done stamp told.1 (won_at v w c old word told hit) (sym f.0) (stamps (next s v.machine c) (next_keeps s v.machine c told.1.sound) f.1)
 
 pub attempt_refused : (v w : PassView) (c : Call) (old word new stamp : ℕ) (a : Answer) (m : Machine) → Exchanged c v old word w → word ≢ old → m ≡ w.machine → Says word m c a new → Stamps word stamp → is_done_answer a ≡ false → IsSettled v c a stamp w
-attempt_refused v w c old word new stamp a m told miss who says stamps isnt = refused_at v w word told.0 v.since c a new stamp m told.1 (lost_at v w c old word told miss) who says stamps isnt
+attempt_refused v w c old word new stamp a m told miss who says stamps isnt = refused_at v w word told.0 v.since v.loads (v.exchanges + 1) c a new stamp m told.1 (lost_at v w c old word told miss) who says stamps isnt
 
 -- what a lost exchange leaves
 pub record Loses (v w : PassView) (c : Call) (word new lost : ℕ) : Type 0 where
@@ -183,12 +194,12 @@ pub record Loses (v w : PassView) (c : Call) (word new lost : ℕ) : Type 0 wher
   pub changed : HasChanges v.machine v.seen w.seen 1
   pub under_way : IsUnderWay w c word new (lost + 1)
 
-loses_sees : (v w : PassView) (c : Call) (old before lost word new : ℕ) (h : List Event) → IsUnderWay v c old before lost → Moment (part_of v) word h → word ≢ old → w ≡ sees v h v.since → reply (after v.opening h) v.machine c ≡ Done
+loses_sees : (v w : PassView) (c : Call) (old before lost word new : ℕ) (h : List Event) → IsUnderWay v c old before lost → Moment (part_of v) word h → word ≢ old → w ≡ sees v h v.since v.loads (v.exchanges + 1) → reply (after v.opening h) v.machine c ≡ Done
     → IsReady v.machine c word new → Loses v w c word new lost
 loses_sees v w c old before lost word new h t at miss is ready next_word =
     let one = overtaken v word h old at t.found miss in
     subst (λ (x : PassView). Loses v x c word new lost) (sym is) record {
-      unmade = unmade_at v (sees v h v.since) word h v.since c at refl ready;
+      unmade = unmade_at v (sees v h v.since v.loads (v.exchanges + 1)) word h v.since v.loads (v.exchanges + 1) c at refl ready;
       since = refl;
       changed = one;
       under_way = record {
@@ -205,8 +216,8 @@ pub attempt_lost : (v w : PassView) (c : Call) (old before lost word new : ℕ) 
 attempt_lost v w c old before lost word new a m t told miss who says isit =
     let h : List Event = told.0 in let at = told.1 in
     let is = lost_at v w c old word told miss in
-    let right = (answer_at v w word h (seen_at c (part_of v) h) v.since c a new m at is who says).0 in
-    loses_sees v w c old before lost word new h t at miss (is ∙ ap (λ (x : List Event). sees v x v.since) (seen_done v c h a right isit)) (sym right ∙ done_answer a isit)
+    let right = (answer_at v w word h (seen_at c (part_of v) h) v.since v.loads (v.exchanges + 1) c a new m at is who says).0 in
+    loses_sees v w c old before lost word new h t at miss (is ∙ ap (λ (z : List Event). sees v z v.since v.loads (v.exchanges + 1)) (seen_done v c h a right isit)) (sym right ∙ done_answer a isit)
     (ready_for m v.machine c a word new (who ∙ ap (λ (x : PassView). x.machine) is) says isit)
 
 under_way_stamp : (w : PassView) (c : Call) (word new lost stamp : ℕ) → IsUnderWay w c word new lost → Stamps word stamp → stamp ≡ (after w.opening w.seen).stamp
@@ -252,6 +263,10 @@ settled-after v u w c a stamp k f g =
     (subst (λ (x : Machine). w.seen ≡ h ++ event x c a ∷ []) m g.seen.ends)
     (subst (λ (x : ModelState × Machine). a ≡ reply (after x.0 h) x.1 c) (λ i. (o i, m i)) (g.answer h g.seen.ends))
     (subst (λ (x : ModelState). stamp ≡ (after x w.seen).stamp) o g.stamped)
+
+-- the changes since the load, for the pass that the call began with
+pub changes_since : (v w : PassView) (c : Call) (old new lost n : ℕ) → IsUnmade v c w → IsUnderWay w c old new lost → n ≡ lost → HasChanges v.machine w.since w.seen n
+changes_since v w c old new lost n f t is = subst (λ (x : Machine × ℕ). HasChanges x.0 w.since w.seen x.1) (λ i. (f.more.pass.machine i, sym is i)) t.evidence
 
 -- as many exchanges were lost as may be
 pub busy : (v w : PassView) (c : Call) (old new lost tries : ℕ) → IsUnmade v c w → IsUnderWay w c old new lost → BeginsWith w.since v.seen → lost ≡ tries → IsOvertaken v v.seen c tries lost w

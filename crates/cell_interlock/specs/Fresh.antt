@@ -5,9 +5,12 @@ use Rattle.cell_types.specs.declared.machine.Machine.TheVariants.{Feed, Table, R
 use Rattle.cell_interlock.specs.Views.{PassView, InterlockView}
 use Rattle.cell_interlock.specs.declared.pass.Passes.{Passes}
 
--- the pass of a machine that has seen nothing yet
+-- the pass of a machine that has seen nothing and made no step yet
+abbrev pub fresh_pass : InterlockView → Machine → PassView
+fresh_pass i m = record { table = i.table; opening = i.opening; machine = m; seen = []; since = []; loads = 0; exchanges = 0 }
+
 abbrev pub IsFresh : InterlockView → Machine → PassView → Type 0
-IsFresh i m p = p ≡ record { table = i.table; opening = i.opening; machine = m; seen = []; since = [] }
+IsFresh i m p = p ≡ fresh_pass i m
 
 -- each field has a fresh pass of its machine
 pub record AreFresh (i : InterlockView) (p : Passes) : Type 0 where

@@ -1,5 +1,5 @@
 -- A line on a pass: what contracts see of it, and what a call of it does.
-use Rattle.std.specs.Prelude.{◌≡◌, ℕ, List, Result, Ok, Err}
+use Rattle.std.specs.Prelude.{◌≡◌, ℕ, ◌+◌, ◌≤◌, List, Result, Ok, Err}
 use Rattle.cell_types.specs.declared.call.Call.{Call}
 use Rattle.cell_types.specs.declared.reply.Reply.{Reply}
 use Rattle.cell_types.specs.declared.journal.Entry.{Entry}
@@ -11,7 +11,7 @@ use Rattle.cell_rules.specs.Laws.{LawfulThroughout}
 use Rattle.cell_rules.specs.Journal.{noted}
 use Rattle.cell_rules.specs.Seen.{SeenAfter}
 use Rattle.cell_interlock.specs.Views.{PassView}
-use Rattle.cell_interlock.specs.Seen.{IsSamePass, AnswersAtItsPoint, LastingRight, IsOvertaken}
+use Rattle.cell_interlock.specs.Seen.{IsSamePass, AnswersAtItsPoint, LastingRight, HasChanges, IsOvertaken}
 use Rattle.cell_interlock.specs.Calls.{IfSettled, IfBusy}
 
 -- a pass has seen a legal history from a sound opening, and the journal has an entry for each call that it settled
@@ -36,6 +36,10 @@ pub record Replied (v : PassView) (c : Call) (tries : ℕ) (reply : Reply) (w : 
   pub answer : IfSettled reply (λ answer. AnswersAtItsPoint v c answer w)
   pub right : IfSettled reply (λ answer. LastingRight v c answer w)
   pub busy : IfBusy reply (λ lost. IsOvertaken v v.seen c tries lost w)
+  pub one_load : w.loads ≡ v.loads + 1
+  pub few_exchanges : w.exchanges ≤ v.exchanges + tries
+  pub all_lost : IfBusy reply (λ n. w.exchanges ≡ v.exchanges + n)
+  pub since : IfBusy reply (HasChanges v.machine w.since w.seen)
 
 -- what came back is what the interlock replied; where there was no room for an entry, no call was made
 abbrev pub PassAsks : ℕ → PassView → Call → Result Reply LineFault → PassView → Type 0

@@ -21,13 +21,13 @@ use Rattle.cell_interlock.specs.declared.pass.Part.{Part}
 
 -- ---- views
 
--- the view of a seat is a list of parts, one for each machine that the seat has
-abbrev pub part : ModelState → Machine → List Event → List Event → Part
-part opening m seen since = record { opening = opening; machine = m; seen = seen; since = since }
+-- the view of a seat is a list of parts, one for each machine that the seat has. A machine's part that has seen nothing and made no step
+abbrev pub new_part : ModelState → Machine → Part
+new_part opening m = record { opening = opening; machine = m; seen = []; since = []; loads = 0; exchanges = 0 }
 
 -- stands where a view has no part
 abbrev pub nobody : Part
-nobody = part (start_state empty 0) Watch [] []
+nobody = new_part (start_state empty 0) Watch
 
 -- the first part of a view; that part alone; and the other parts
 abbrev pub head_of : List Part → Part
@@ -44,7 +44,7 @@ others_of (p ∷ parts) = parts
 
 -- the view of the first seat: a part for each machine, which has seen nothing
 abbrev pub all_parts : ModelState → List Part
-all_parts s = part s Feed [] [] ∷ part s Table [] [] ∷ part s Robot [] [] ∷ part s Press [] [] ∷ part s Deposit [] [] ∷ part s Crane [] [] ∷ part s Watch [] [] ∷ []
+all_parts s = new_part s Feed ∷ new_part s Table ∷ new_part s Robot ∷ new_part s Press ∷ new_part s Deposit ∷ new_part s Crane ∷ new_part s Watch ∷ []
 
 -- ---- the rule
 
@@ -93,25 +93,38 @@ abbrev pub seen_at : Call → Part → List Event → List Event
 seen_at c p history =
     if is_done_answer (reply (after p.opening history) p.machine c) then history else history ++ event p.machine c (reply (after p.opening history) p.machine c) ∷ []
 
+-- what a machine sees by an exchange of the old word for a call: where it is won, the history so far and then the call's Done event;
+-- where it is lost, what a load shows
+abbrev pub seen_by : Call → Part → ℕ → ℕ → List Event → List Event
+seen_by c p old word history = if word == old then history ++ event p.machine c Done ∷ [] else seen_at c p history
+
+-- a part that has seen this by one load more
+abbrev pub after_load : Part → List Event → Part
+after_load p seen = record p { seen = seen; since = seen; loads = p.loads + 1 }
+
+-- a part that has seen this by one exchange more
+abbrev pub after_exchange : Part → List Event → Part
+after_exchange p seen = record p { seen = seen; exchanges = p.exchanges + 1 }
+
 -- a load for a call
 abbrev pub looked : {S : Type 0} → Call → Step S → Me S (List Part) → ℕ → Me S (List Part) → Type 0
 looked c st me word me' = (history : List Event) × Moment (head_of me.0) word history
-    × (me' ≡ (part (head_of me.0).opening (head_of me.0).machine (seen_at c (head_of me.0) history) (seen_at c (head_of me.0) history) ∷ [], me.1))
+    × (me' ≡ (after_load (head_of me.0) (seen_at c (head_of me.0) history) ∷ [], me.1))
 
--- an exchange for a call: where it is won, the history so far and then the call's Done event is seen; where it is lost, what a load shows
+-- an exchange for a call, won or lost
 abbrev pub exchanged : {S : Type 0} → Call → Step S → Me S (List Part) → ℕ → Me S (List Part) → Type 0
 exchanged c st me word me' = (history : List Event) × Moment (head_of me.0) word history
-    × (me' ≡ (part (head_of me.0).opening (head_of me.0).machine (if word == st.first then history ++ event (head_of me.0).machine c Done ∷ [] else seen_at c (head_of me.0) history) (head_of me.0).since ∷ [], me.1))
+    × (me' ≡ (after_exchange (head_of me.0) (seen_by c (head_of me.0) st.first word history) ∷ [], me.1))
 
 -- the same moment for each machine of a view
 abbrev pub MomentOfAll : List Part → ℕ → List Event → Type 0
 MomentOfAll [] word history = ⊤
 MomentOfAll (p ∷ parts) word history = Moment p word history × MomentOfAll parts word history
 
--- each machine of a view has seen this history, and just now
+-- each machine of a view has seen this history by one load
 abbrev pub all_see : List Event → List Part → List Part
 all_see history [] = []
-all_see history (p ∷ parts) = part p.opening p.machine history history ∷ all_see history parts
+all_see history (p ∷ parts) = after_load p history ∷ all_see history parts
 
 -- a load for no call: each machine of the seat sees the history so far
 abbrev pub gathered : {S : Type 0} → Step S → Me S (List Part) → ℕ → Me S (List Part) → Type 0

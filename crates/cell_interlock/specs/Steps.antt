@@ -1,5 +1,5 @@
 -- What one step on the word tells of a pass.
-use Rattle.std.specs.Prelude.{◌≡◌, ℕ, ◌==◌, if◌then◌else◌, List, [], ◌∷◌, ◌++◌}
+use Rattle.std.specs.Prelude.{◌≡◌, ℕ, List}
 use Rattle.cell_types.specs.declared.machine.Machine.{Machine}
 use Rattle.cell_types.specs.declared.call.Call.{Call}
 use Rattle.cell_types.specs.declared.answer.Answer.TheVariants.{Done}
@@ -7,22 +7,17 @@ use Rattle.cell_types.specs.declared.answer.Event.{Event}
 use Rattle.cell_rules.specs.ModelState.{ModelState}
 use Rattle.cell_rules.specs.Sound.{IsSound}
 use Rattle.cell_rules.specs.Reply.{reply, next}
-use Rattle.cell_rules.specs.Seen.{event}
 use Rattle.cell_word.specs.Layout.{packed}
 use Rattle.cell_interlock.specs.declared.pass.Part.{Part}
-use Rattle.cell_interlock.specs.Views.{PassView}
-use Rattle.cell_interlock.specs.Rule.{part, Moment, seen_at}
+use Rattle.cell_interlock.specs.Views.{PassView, pass_of}
+use Rattle.cell_interlock.specs.Rule.{Moment, seen_at, seen_by, after_load, after_exchange}
 
 abbrev pub part_of : PassView → Part
-part_of v = part v.opening v.machine v.seen v.since
-
--- the pass after it has seen so much
-abbrev pub sees : PassView → List Event → List Event → PassView
-sees v seen since = record { table = v.table; opening = v.opening; machine = v.machine; seen = seen; since = since }
+part_of v = record { opening = v.opening; machine = v.machine; seen = v.seen; since = v.since; loads = v.loads; exchanges = v.exchanges }
 
 -- a load for a call found a word
 abbrev pub Loaded : Call → PassView → ℕ → PassView → Type 0
-Loaded c v word w = (history : List Event) × Moment (part_of v) word history × (w ≡ sees v (seen_at c (part_of v) history) (seen_at c (part_of v) history))
+Loaded c v word w = (history : List Event) × Moment (part_of v) word history × (w ≡ pass_of v.table (after_load (part_of v) (seen_at c (part_of v) history)))
 
 -- in each sound state of the old word the call is Done and leaves the new one
 abbrev pub IsReady : Machine → Call → ℕ → ℕ → Type 0
@@ -30,5 +25,4 @@ IsReady m c old new = (s : ModelState) → IsSound s → packed s ≡ old → (r
 
 -- an exchange for a call found a word, and was won where that is the old one
 abbrev pub Exchanged : Call → PassView → ℕ → ℕ → PassView → Type 0
-Exchanged c v old word w = (history : List Event) × Moment (part_of v) word history
-    × (w ≡ sees v (if word == old then history ++ event v.machine c Done ∷ [] else seen_at c (part_of v) history) v.since)
+Exchanged c v old word w = (history : List Event) × Moment (part_of v) word history × (w ≡ pass_of v.table (after_exchange (part_of v) (seen_by c (part_of v) old word history)))

@@ -1,4 +1,4 @@
--- What look and attempt answer.
+-- What look and attempt answer, and the pass after them.
 use Rattle.std.specs.Prelude.{◌≡◌, ◌≢◌, ℕ, ◌+◌, ◌<◌}
 use Rattle.cell_types.specs.declared.call.Call.{Call}
 use Rattle.cell_types.specs.declared.answer.Answer.TheVariants.{Done}
@@ -44,3 +44,13 @@ abbrev pub Attempted : TryView → Tried → Type 0
 Attempted t (TriedSettled a stamp w) = IsSettled t.pass t.call a stamp w
 Attempted t (Lost u) = IsLost t u
 Attempted t (Busy lost stamp w) = IsBusy t lost stamp w
+
+-- the pass after a look, and after an attempt
+abbrev pub after_look : Look → PassView
+after_look (LookSettled a stamp w) = w
+after_look (Pending t) = t.pass
+
+abbrev pub after_attempt : Tried → PassView
+after_attempt (TriedSettled a stamp w) = w
+after_attempt (Lost u) = u.pass
+after_attempt (Busy lost stamp w) = w

@@ -1,5 +1,5 @@
 //! The calls of a machine.
-ghost use Rattle.std.specs.Prelude.{◌≡◌, Ok};
+ghost use Rattle.std.specs.Prelude.{◌≡◌, ◌+◌, ◌≤◌, Ok};
 ghost use Rattle.cell_rules.specs.ModelState.{ModelState};
 ghost use Rattle.cell_rules.specs.Sound.{IsSound};
 ghost use Rattle.cell_rules.specs.Reply.{reply, next};
@@ -7,9 +7,9 @@ ghost use Rattle.cell_rules.specs.History.{is_done_answer};
 ghost use Rattle.cell_rules.specs.Laws.{LawfulThroughout};
 ghost use Rattle.cell_rules.specs.Seen.{SeenAfter};
 ghost use Rattle.cell_word.specs.Layout.{packed};
-ghost use Rattle.cell_interlock.specs.Seen.{IsSamePass, AnswersAtItsPoint, LastingRight, IsOvertaken};
+ghost use Rattle.cell_interlock.specs.Seen.{IsSamePass, AnswersAtItsPoint, LastingRight, HasChanges, IsOvertaken};
 ghost use Rattle.cell_interlock.specs.Calls.{IfSettled, IfBusy};
-ghost use Rattle.cell_interlock.specs.Tries.{Looked, Attempted};
+ghost use Rattle.cell_interlock.specs.Tries.{Looked, Attempted, after_look, after_attempt};
 
 use crate::interlock::Interlock;
 use crate::pass::Pass;
@@ -50,7 +50,10 @@ impl Interlock {
     /// - what the machine held before, it holds there, so it isn't told that a zone of its own is
     ///   another's (`right`);
     /// - Busy comes only where the call would be Done, and other machines have made at least `tries`
-    ///   changes that the pass had not seen before (`busy`).
+    ///   changes that the pass had not seen before (`busy`), all of them after this call's load
+    ///   (`since`);
+    /// - it loads the word once (`one_load`), and makes at most `tries` exchanges (`few_exchanges`):
+    ///   all of them where it is Busy (`all_lost`).
     pub fn ask(&self, pass: &mut Pass, call: Call) -> Reply
         requires same_interlock { pass.old.table ≡ self.now.table }
         ensures pass { IsSamePass pass.old pass.new }
@@ -59,6 +62,10 @@ impl Interlock {
         ensures answer { IfSettled result (λ answer. AnswersAtItsPoint pass.old call answer pass.new) }
         ensures right { IfSettled result (λ answer. LastingRight pass.old call answer pass.new) }
         ensures busy { IfBusy result (λ lost. IsOvertaken pass.old pass.old.seen call self.now.tries lost pass.new) }
+        ensures one_load { pass.new.loads ≡ pass.old.loads + 1 }
+        ensures few_exchanges { pass.new.exchanges ≤ pass.old.exchanges + self.now.tries }
+        ensures all_lost { IfBusy result (λ n. pass.new.exchanges ≡ pass.old.exchanges + n) }
+        ensures since { IfBusy result (HasChanges pass.old.machine pass.new.since pass.new.seen) }
     {
         let mut word = self.load(pass, call);
         let (answer, mut new) = reply_at(word, pass.machine(), call);
@@ -89,7 +96,9 @@ impl Interlock {
     /// The pass is one of those that were made with this interlock.
     pub fn look(&self, mut pass: Pass, call: Call) -> Look
         requires same_interlock { pass.table ≡ self.now.table }
-        ensures { Looked pass call self.now.tries result }
+        ensures looked { Looked pass call self.now.tries result }
+        ensures one_load { (after_look result).loads ≡ pass.loads + 1 }
+        ensures no_exchange { (after_look result).exchanges ≡ pass.exchanges }
     {
         let found = self.load(&mut pass, call);
         let (answer, new) = reply_at(found, pass.machine(), call);
@@ -114,7 +123,9 @@ impl Interlock {
     /// The call's pass is one of those that were made with this interlock.
     pub fn attempt(&self, pending: Try) -> Tried
         requires same_interlock { pending.pass.table ≡ self.now.table }
-        ensures { Attempted pending result }
+        ensures attempted { Attempted pending result }
+        ensures no_load { (after_attempt result).loads ≡ pending.pass.loads }
+        ensures one_exchange { (after_attempt result).exchanges ≡ pending.pass.exchanges + 1 }
     {
         let Try {
             mut pass,

@@ -1,5 +1,5 @@
 //! Passes that meet.
-ghost use Rattle.std.specs.Prelude.{◌≡◌, [], ◌++◌};
+ghost use Rattle.std.specs.Prelude.{◌≡◌, ◌+◌, [], ◌++◌};
 ghost use Rattle.cell_interlock.specs.Seen.{HasSeenMore};
 
 use crate::interlock::Interlock;
@@ -23,12 +23,17 @@ impl Interlock {
     ///
     /// Both passes are of those that were made with this interlock. They come back in their order, each
     /// its own machine's; of that machine there is nothing new in what the pass has seen (`left`,
-    /// `right`).
+    /// `right`). Each counts the one load of the meeting (`left_load`, `right_load`), and no exchange
+    /// (`left_exchanges`, `right_exchanges`).
     pub fn meet(&self, left: Pass, right: Pass) -> (Pass, Pass)
         requires same_interlock { (left.table ≡ self.now.table) × (right.table ≡ self.now.table) }
         ensures left { HasSeenMore left result.0 }
         ensures right { HasSeenMore right result.1 }
         ensures same { result.0.seen ≡ result.1.seen }
+        ensures left_load { result.0.loads ≡ left.loads + 1 }
+        ensures right_load { result.1.loads ≡ right.loads + 1 }
+        ensures left_exchanges { result.0.exchanges ≡ left.exchanges }
+        ensures right_exchanges { result.1.exchanges ≡ right.exchanges }
     {
         let Pass {
             machine: left_machine,

@@ -10,7 +10,8 @@ use std::collections::LinkedList;
 use std::marker::Model;
 
 /// What is known of one machine: the state that its interlock opened with, the history that it has
-/// seen, and how much of that it had seen right after its last load. No value of it is made.
+/// seen, how much of that it had seen right after its last load, and how many loads and exchanges it
+/// has made. No value of it is made.
 pub struct Part {
     /// The state that the interlock opened with.
     pub opening: State,
@@ -20,6 +21,10 @@ pub struct Part {
     pub seen: LinkedList<Event>,
     /// What of that it had seen right after its last load.
     pub since: LinkedList<Event>,
+    /// How often it has loaded the word.
+    pub loads: u64,
+    /// How many exchanges it has made, won or lost.
+    pub exchanges: u64,
 }
 
 /// What is known of the machines of a seat.

@@ -8,9 +8,9 @@ returns-in-Settled-clause-noted c =
     let e = c.in-Settled.ensures in
     c.push_reserved.ensures.items
     ∙ (ap (λ (l : List Entry). l ++ record { call = c.args.call; answer = c.in-Settled.answer; stamp = c.in-Settled.stamp } ∷ []) (c.reserve.ensures.items ∙ c.requires.noted)
-    ∙ sym (journal-settled _ _ _ c.args.interlock.now.tries _ _ record { pass = e.pass; lawful = e.lawful; seen = e.seen; answer = e.answer; right = e.right; busy = e.busy }))
+    ∙ sym (journal-settled _ _ _ c.args.interlock.now.tries _ _ record { pass = e.pass; lawful = e.lawful; seen = e.seen; answer = e.answer; right = e.right; busy = e.busy; one_load = e.one_load; few_exchanges = e.few_exchanges; all_lost = e.all_lost; since = e.since }))
 
 pub returns-in_default-clause-noted : goal.returns-in_default-clause-noted
 returns-in_default-clause-noted c =
     let e = c.in_default.ensures in
-    c.reserve.ensures.items ∙ (c.requires.noted ∙ sym (journal-busy _ _ _ _ _ _ record { pass = e.pass; lawful = e.lawful; seen = e.seen; answer = e.answer; right = e.right; busy = e.busy }))
+    c.reserve.ensures.items ∙ (c.requires.noted ∙ sym (journal-busy _ _ _ _ _ _ record { pass = e.pass; lawful = e.lawful; seen = e.seen; answer = e.answer; right = e.right; busy = e.busy; one_load = e.one_load; few_exchanges = e.few_exchanges; all_lost = e.all_lost; since = e.since }))

@@ -9,10 +9,8 @@ load-requires c = (search rules, search rules, gathers_as _ _ _ _ (search rules)
 pub split_seat-right_seat-requires : goal.split_seat-right_seat-requires
 split_seat-right_seat-requires c = (search rules, search rules, splits _ _ _)
 
-pub returns-clause-left : goal.returns-clause-left
-returns-clause-left c =
-    left_more _ _ _ _ _ _ _ _ _ c.left.invariant c.right.invariant c.join.ensures.both c.load.ensures.2 c.split_seat-right_seat.ensures.2 c.split_seat-right_seat.ensures.4 _ _ _ _ c.left.view_is c.of.ensures (search rules)
-
-pub returns-clause-right : goal.returns-clause-right
-returns-clause-right c =
-    right_more _ _ _ _ _ _ _ _ _ c.left.invariant c.right.invariant c.join.ensures.both c.load.ensures.2 c.split_seat-right_seat.ensures.2 c.split_seat-right_seat.ensures.4 _ _ _ _ c.right.view_is c.of-2.ensures (search rules)
+pub returns : goal.returns
+returns c =
+    let l = left_more _ _ _ _ _ _ _ _ _ c.left.invariant c.right.invariant c.join.ensures.both c.load.ensures.2 c.split_seat-right_seat.ensures.2 c.split_seat-right_seat.ensures.4 _ _ _ _ c.left.view_is c.of.ensures (search rules) in
+    let r = right_more _ _ _ _ _ _ _ _ _ c.left.invariant c.right.invariant c.join.ensures.both c.load.ensures.2 c.split_seat-right_seat.ensures.2 c.split_seat-right_seat.ensures.4 _ _ _ _ c.right.view_is c.of-2.ensures (search rules) in
+    record { left = l.0; right = r.0; same = search rules; left_load = l.1.0; right_load = r.1.0; left_exchanges = l.1.1; right_exchanges = r.1.1 }
