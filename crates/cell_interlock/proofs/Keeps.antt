@@ -160,7 +160,7 @@ module _ {S : Type 0} (o : ModelState) where
   pub looks : (slots id : ℕ) (p : Part) (c : Call) → Allows (WordTellsHistory o) slots id (p ∷ [], []) 0 (λ n. n) (looked {S = S} c (step slots 0 0 0 none) (p ∷ [], []))
   looks slots id p c s r _ at _ =
       let t = r.views id (p ∷ []) at in
-      (after_load p (seen_at c p r.history) ∷ [], keeps, tt, looks_at s r id p at c (seen_at c p r.history) (p.loads + 1) p.exchanges, (r.history, point s r p t.0, refl))
+      (after_load p (seen_at c p r.history) ∷ [], keeps, tt, looks_at s r id p at c _ _ _, (r.history, point s r p t.0, refl))
 
   pub looks_as : (slots id : ℕ) (me : Me S (List Part)) (c : Call) → me ≡ (head_of me.0 ∷ [], []) → Allows (WordTellsHistory o) slots id me 0 (λ n. n) (looked {S = S} c (step slots 0 0 0 none) me)
   looks_as slots id me c e = subst (λ (z : Me S (List Part)). Allows (WordTellsHistory o) slots id z 0 (λ n. n) (looked {S = S} c (step slots 0 0 0 none) z)) (sym e) (looks slots id (head_of me.0) c)
@@ -177,14 +177,14 @@ module _ {S : Type 0} (o : ModelState) where
         keeps,
         tt,
         subst (λ (b : Bool). WordTellsHistory o (stepped s 0 (either b new x) id [] (pick b) keeps)) (sym (eq-eqb x old hit))
-            (subst (λ a. WordTellsHistory o (stepped s 0 new id [] (after_exchange p (h ++ event p.machine c a ∷ []) ∷ []) keeps)) f.0 (called s r id p at c new (sym f.1) p.since p.loads (p.exchanges + 1))),
+            (subst (λ a. WordTellsHistory o (stepped s 0 new id [] (after_exchange p (h ++ event p.machine c a ∷ []) ∷ []) keeps)) f.0 (called s r id p at c new (sym f.1) _ _ _)),
         (h, point s r p t.0, refl),
       ))
       (λ miss. (
         pick (eqb x old),
         keeps,
         tt,
-        subst (λ (b : Bool). WordTellsHistory o (stepped s 0 (either b new x) id [] (pick b) keeps)) (sym (ne_eqb x old miss)) (looks_at s r id p at c p.since p.loads (p.exchanges + 1)),
+        subst (λ (b : Bool). WordTellsHistory o (stepped s 0 (either b new x) id [] (pick b) keeps)) (sym (ne_eqb x old miss)) (looks_at s r id p at c _ _ _),
         (h, point s r p t.0, refl),
       ))
 

@@ -23,7 +23,7 @@ use Rattle.cell_rules.proofs.SeenLemmas.{after-push, legal-append, own-push, wai
 use Rattle.cell_word.specs.Layout.{packed}
 use Rattle.cell_interlock.specs.Views.{PassView}
 use Rattle.cell_interlock.specs.Rule.{Moment, seen_at}
-use Rattle.cell_interlock.specs.Steps.{part_of, Loaded, IsReady, Exchanged}
+use Rattle.cell_interlock.specs.Steps.{part_of, with_load, with_exchange, Loaded, IsReady, Exchanged}
 use Rattle.cell_interlock.specs.Seen.{IsSamePass, IsSettled, IsUnmade, HasChanges, IsOvertaken}
 use Rattle.cell_interlock.specs.Going.{IsUnderWay}
 use Rattle.cell_interlock.proofs.Overtaken.{changes-trans, changes-before, overtaken}
@@ -135,7 +135,7 @@ refused_at v w word h since l x c a new stamp m at is who says stamps isnt =
 -- ---- what a load tells
 
 pub look_refused : (v w : PassView) (word : ℕ) (c : Call) (a : Answer) (new stamp : ℕ) (m : Machine) → Loaded c v word w → m ≡ w.machine → Says word m c a new → Stamps word stamp → is_done_answer a ≡ false → IsSettled v c a stamp w
-look_refused v w word c a new stamp m told who says stamps isnt = refused_at v w word told.0 (seen_at c (part_of v) told.0) (v.loads + 1) v.exchanges c a new stamp m told.1 told.2 who says stamps isnt
+look_refused v w word c a new stamp m told who says stamps isnt = refused_at v w word told.0 _ _ _ c a new stamp m told.1 told.2 who says stamps isnt
 
 pub isnt_done : (a : Answer) → is_done_answer a ≡ false → a ≢ Done
 isnt_done a e f = let g = ap is_done_answer f in cc
@@ -154,10 +154,10 @@ ready_for m n c a word new who says isit = subst (λ (x : Machine). IsReady x c 
 pub look_ready : (v w : PassView) (word : ℕ) (c : Call) (a : Answer) (new : ℕ) (m : Machine) → Loaded c v word w → m ≡ w.machine → Says word m c a new → is_done_answer a ≡ true → IsUnmade v c w × IsUnderWay w c word new 0 × (w.since ≡ w.seen)
 look_ready v w word c a new m told who says isit =
     let h : List Event = told.0 in let at = told.1 in
-    let right = (answer_at v w word h (seen_at c (part_of v) h) (seen_at c (part_of v) h) (v.loads + 1) v.exchanges c a new m at told.2 who says).0 in
-    let is : w ≡ sees v h h (v.loads + 1) v.exchanges = told.2 ∙ ap (λ (z : List Event). sees v z z (v.loads + 1) v.exchanges) (seen_done v c h a right isit) in
+    let right = (answer_at v w word h (seen_at c (part_of v) h) _ _ _ c a new m at told.2 who says).0 in
+    let is : w ≡ with_load v h = told.2 ∙ ap (with_load v) (seen_done v c h a right isit) in
     let machine : m ≡ v.machine = who ∙ ap (λ (x : PassView). x.machine) is in (
-      unmade_at v w word h h (v.loads + 1) v.exchanges c at is (sym right ∙ done_answer a isit),
+      unmade_at v w word h _ _ _ c at is (sym right ∙ done_answer a isit),
       subst (λ (k : PassView). IsUnderWay k c word new 0) (sym is) record {
         opened = at.opened;
         legal = at.legal;
@@ -170,11 +170,11 @@ look_ready v w word c a new m told who says isit =
 
 -- ---- what an exchange tells
 
-won_at : (v w : PassView) (c : Call) (old word : ℕ) → (told : Exchanged c v old word w) → word ≡ old → w ≡ sees v (told.0 ++ event v.machine c Done ∷ []) v.since v.loads (v.exchanges + 1)
-won_at v w c old word told hit = told.2 ∙ ap (λ (b : Bool). sees v (if b then told.0 ++ event v.machine c Done ∷ [] else seen_at c (part_of v) told.0) v.since v.loads (v.exchanges + 1)) (eq-eqb word old hit)
+won_at : (v w : PassView) (c : Call) (old word : ℕ) → (told : Exchanged c v old word w) → word ≡ old → w ≡ with_exchange v (told.0 ++ event v.machine c Done ∷ [])
+won_at v w c old word told hit = told.2 ∙ ap (λ (b : Bool). with_exchange v (if b then told.0 ++ event v.machine c Done ∷ [] else seen_at c (part_of v) told.0)) (eq-eqb word old hit)
 
-lost_at : (v w : PassView) (c : Call) (old word : ℕ) → (told : Exchanged c v old word w) → word ≢ old → w ≡ sees v (seen_at c (part_of v) told.0) v.since v.loads (v.exchanges + 1)
-lost_at v w c old word told miss = told.2 ∙ ap (λ (b : Bool). sees v (if b then told.0 ++ event v.machine c Done ∷ [] else seen_at c (part_of v) told.0) v.since v.loads (v.exchanges + 1)) (ne_eqb word old miss)
+lost_at : (v w : PassView) (c : Call) (old word : ℕ) → (told : Exchanged c v old word w) → word ≢ old → w ≡ with_exchange v (seen_at c (part_of v) told.0)
+lost_at v w c old word told miss = told.2 ∙ ap (λ (b : Bool). with_exchange v (if b then told.0 ++ event v.machine c Done ∷ [] else seen_at c (part_of v) told.0)) (ne_eqb word old miss)
 
 sound_seen : (v : PassView) (c : Call) (old new lost : ℕ) → IsUnderWay v c old new lost → IsSound (after v.opening v.seen)
 sound_seen v c old new lost t = sound-after v.opening v.seen t.opened
@@ -182,10 +182,10 @@ sound_seen v c old new lost t = sound-after v.opening v.seen t.opened
 pub attempt_won : (v w : PassView) (c : Call) (old new lost word stamp : ℕ) → IsUnderWay v c old new lost → Exchanged c v old word w → word ≡ old → Stamps new stamp → IsSettled v c Done stamp w
 attempt_won v w c old new lost word stamp t told hit stamps =
     let h : List Event = told.0 in let s : ModelState = after v.opening h in let f = t.ready s told.1.sound (told.1.found ∙ hit) in
-    settled_at v w word h v.since v.loads (v.exchanges + 1) c Done stamp told.1 (won_at v w c old word told hit) (sym f.0) (stamps (next s v.machine c) (next_keeps s v.machine c told.1.sound) f.1)
+    settled_at v w word h _ _ _ c Done stamp told.1 (won_at v w c old word told hit) (sym f.0) (stamps (next s v.machine c) (next_keeps s v.machine c told.1.sound) f.1)
 
 pub attempt_refused : (v w : PassView) (c : Call) (old word new stamp : ℕ) (a : Answer) (m : Machine) → Exchanged c v old word w → word ≢ old → m ≡ w.machine → Says word m c a new → Stamps word stamp → is_done_answer a ≡ false → IsSettled v c a stamp w
-attempt_refused v w c old word new stamp a m told miss who says stamps isnt = refused_at v w word told.0 v.since v.loads (v.exchanges + 1) c a new stamp m told.1 (lost_at v w c old word told miss) who says stamps isnt
+attempt_refused v w c old word new stamp a m told miss who says stamps isnt = refused_at v w word told.0 _ _ _ c a new stamp m told.1 (lost_at v w c old word told miss) who says stamps isnt
 
 -- what a lost exchange leaves
 pub record Loses (v w : PassView) (c : Call) (word new lost : ℕ) : Type 0 where
@@ -194,12 +194,12 @@ pub record Loses (v w : PassView) (c : Call) (word new lost : ℕ) : Type 0 wher
   pub changed : HasChanges v.machine v.seen w.seen 1
   pub under_way : IsUnderWay w c word new (lost + 1)
 
-loses_sees : (v w : PassView) (c : Call) (old before lost word new : ℕ) (h : List Event) → IsUnderWay v c old before lost → Moment (part_of v) word h → word ≢ old → w ≡ sees v h v.since v.loads (v.exchanges + 1) → reply (after v.opening h) v.machine c ≡ Done
+loses_sees : (v w : PassView) (c : Call) (old before lost word new : ℕ) (h : List Event) → IsUnderWay v c old before lost → Moment (part_of v) word h → word ≢ old → w ≡ with_exchange v h → reply (after v.opening h) v.machine c ≡ Done
     → IsReady v.machine c word new → Loses v w c word new lost
 loses_sees v w c old before lost word new h t at miss is ready next_word =
     let one = overtaken v word h old at t.found miss in
     subst (λ (x : PassView). Loses v x c word new lost) (sym is) record {
-      unmade = unmade_at v (sees v h v.since v.loads (v.exchanges + 1)) word h v.since v.loads (v.exchanges + 1) c at refl ready;
+      unmade = unmade_at v (with_exchange v h) word h _ _ _ c at refl ready;
       since = refl;
       changed = one;
       under_way = record {
@@ -216,8 +216,8 @@ pub attempt_lost : (v w : PassView) (c : Call) (old before lost word new : ℕ) 
 attempt_lost v w c old before lost word new a m t told miss who says isit =
     let h : List Event = told.0 in let at = told.1 in
     let is = lost_at v w c old word told miss in
-    let right = (answer_at v w word h (seen_at c (part_of v) h) v.since v.loads (v.exchanges + 1) c a new m at is who says).0 in
-    loses_sees v w c old before lost word new h t at miss (is ∙ ap (λ (z : List Event). sees v z v.since v.loads (v.exchanges + 1)) (seen_done v c h a right isit)) (sym right ∙ done_answer a isit)
+    let right = (answer_at v w word h (seen_at c (part_of v) h) _ _ _ c a new m at is who says).0 in
+    loses_sees v w c old before lost word new h t at miss (is ∙ ap (with_exchange v) (seen_done v c h a right isit)) (sym right ∙ done_answer a isit)
     (ready_for m v.machine c a word new (who ∙ ap (λ (x : PassView). x.machine) is) says isit)
 
 under_way_stamp : (w : PassView) (c : Call) (word new lost stamp : ℕ) → IsUnderWay w c word new lost → Stamps word stamp → stamp ≡ (after w.opening w.seen).stamp

@@ -15,9 +15,16 @@ use Rattle.cell_interlock.specs.Rule.{Moment, seen_at, seen_by, after_load, afte
 abbrev pub part_of : PassView → Part
 part_of v = record { opening = v.opening; machine = v.machine; seen = v.seen; since = v.since; loads = v.loads; exchanges = v.exchanges }
 
+-- a pass that has seen this by one load more, and by one exchange more
+abbrev pub with_load : PassView → List Event → PassView
+with_load v seen = pass_of v.table (after_load (part_of v) seen)
+
+abbrev pub with_exchange : PassView → List Event → PassView
+with_exchange v seen = pass_of v.table (after_exchange (part_of v) seen)
+
 -- a load for a call found a word
 abbrev pub Loaded : Call → PassView → ℕ → PassView → Type 0
-Loaded c v word w = (history : List Event) × Moment (part_of v) word history × (w ≡ pass_of v.table (after_load (part_of v) (seen_at c (part_of v) history)))
+Loaded c v word w = (history : List Event) × Moment (part_of v) word history × (w ≡ with_load v (seen_at c (part_of v) history))
 
 -- in each sound state of the old word the call is Done and leaves the new one
 abbrev pub IsReady : Machine → Call → ℕ → ℕ → Type 0
@@ -25,4 +32,4 @@ IsReady m c old new = (s : ModelState) → IsSound s → packed s ≡ old → (r
 
 -- an exchange for a call found a word, and was won where that is the old one
 abbrev pub Exchanged : Call → PassView → ℕ → ℕ → PassView → Type 0
-Exchanged c v old word w = (history : List Event) × Moment (part_of v) word history × (w ≡ pass_of v.table (after_exchange (part_of v) (seen_by c (part_of v) old word history)))
+Exchanged c v old word w = (history : List Event) × Moment (part_of v) word history × (w ≡ with_exchange v (seen_by c (part_of v) old word history))
