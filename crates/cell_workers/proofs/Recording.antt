@@ -12,6 +12,7 @@ use Rattle.cell_rules.specs.ModelState.{ModelState}
 use Rattle.cell_rules.specs.Journal.{noted}
 use Rattle.cell_rules.specs.Laws.{LawfulThroughout}
 use Rattle.cell_interlock.specs.Views.{PassView, InterlockView}
+use Rattle.cell_interlock.specs.Fresh.{fresh_pass}
 use Rattle.cell_control.specs.declared.fault.CtlFault.{CtlFault}
 use Rattle.cell_control.specs.Rigs.{Rig}
 use Rattle.cell_control.specs.Steps.{Steps, IsReached, with_senses}
@@ -40,7 +41,7 @@ use Rattle.cell_plant.specs.Machines.{PartOf, steps_of, rig_of}
 use Rattle.cell_plant.specs.CellStates.{SideOf, side_in, sides_at_start}
 use Rattle.cell_plant.specs.Records.{positions_in}
 use Rattle.cell_plant.specs.Runs.{is_at_work}
-use Rattle.cell_workers.specs.Lines.{Lines, fresh_pass, passes}
+use Rattle.cell_workers.specs.Lines.{Lines, passes}
 use Rattle.cell_workers.specs.Workers.{Moment, moment, GateOf, TakesTurn, TakesTurns, HasWorked, GivesBack, AreCountsOf}
 use Rattle.cell_workers.specs.declared.six.Six.{Six}
 use Rattle.cell_workers.specs.Backs.{Gave, AreBack, journal_in, parts_in}

@@ -1,12 +1,11 @@
 -- The lines of workers: what contracts say of one, whatever type it has.
-use Rattle.std.specs.Prelude.{ℕ, List, [], Result}
-use Rattle.cell_types.specs.declared.machine.Machine.{Machine}
+use Rattle.std.specs.Prelude.{ℕ, List, Result}
 use Rattle.cell_types.specs.declared.call.Call.{Call}
 use Rattle.cell_types.specs.declared.answer.Event.{Event}
 use Rattle.cell_types.specs.declared.reply.Reply.{Reply}
 use Rattle.cell_rules.specs.declared.heard.LineFault.{LineFault}
 use Rattle.cell_rules.specs.ModelState.{ModelState}
-use Rattle.cell_interlock.specs.Views.{PassView, InterlockView}
+use Rattle.cell_interlock.specs.Views.{PassView}
 use Rattle.cell_interlock.specs.Lines.{PassAsks}
 
 -- the opening of its interlock, what was seen of the history over it, and what a call by it leaves
@@ -14,10 +13,6 @@ pub record Lines (L : Type 0) : Type 1 where
   pub opening : L → ModelState
   pub seen : L → List Event
   pub asks : L → Call → Result Reply LineFault → L → Type 0
-
--- a pass of an interlock that has seen nothing
-abbrev pub fresh_pass : InterlockView → Machine → PassView
-fresh_pass i m = record { table = i.table; opening = i.opening; machine = m; seen = []; since = [] }
 
 -- the lines over the passes of an interlock whose calls may lose so many exchanges
 abbrev pub passes : ℕ → Lines PassView
