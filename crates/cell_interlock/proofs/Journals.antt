@@ -15,7 +15,7 @@ use Rattle.cell_rules.specs.Sound.{IsSound}
 use Rattle.cell_rules.specs.Reply.{next}
 use Rattle.cell_rules.specs.History.{after, IsLegal, own_events}
 use Rattle.cell_rules.specs.Journal.{entry_of, noted}
-use Rattle.cell_rules.specs.Seen.{event, Waits}
+use Rattle.cell_rules.specs.Seen.{event, Waits, SeenAfter}
 use Rattle.cell_rules.proofs.Notes.{noted-append, noted-foreign}
 use Rattle.cell_rules.proofs.SeenLemmas.{same_as_itself, waits-foreign, after-push}
 use Rattle.cell_interlock.specs.Views.{PassView}
@@ -40,16 +40,23 @@ last_entry s m c a stamp e =
     ap (λ (b : Bool). if b then entry_of s (event m c a) ∷ [] else []) (same_as_itself m) ∙ ap (λ (n : ℕ). record { call = c; answer = a; stamp = n } ∷ []) (sym e)
 
 -- after a call that was settled, its entry
-pub journal-settled : (v w : PassView) (c : Call) (tries : ℕ) (a : Answer) (stamp : ℕ) → Replied v c tries (Settled a stamp) w → journal_by w ≡ journal_by v ++ record { call = c; answer = a; stamp = stamp } ∷ []
-journal-settled v w c tries a stamp f =
-    let t = f.seen.0 in let h : List Event = t.point in let e : Event = event v.machine c a in
-    let at : stamp ≡ (next (after v.opening h) v.machine c).stamp = f.seen.1 ∙ ap (λ (x : List Event). (after v.opening x).stamp) t.ends ∙ ap (λ (s : ModelState). s.stamp) (after-push v.opening h e) in
-    same_journal v w f.pass ∙ ap (λ (x : List Event). noted v.opening x v.machine) t.ends ∙ noted-append v.opening h (e ∷ []) v.machine
+pub entry-settled : (v w : PassView) (c : Call) (a : Answer) (stamp : ℕ) → IsSamePass v w → SeenAfter v.machine c (Ok (Settled a stamp)) v.opening v.seen w.seen → journal_by w ≡ journal_by v ++ record { call = c; answer = a; stamp = stamp } ∷ []
+entry-settled v w c a stamp same seen =
+    let t = seen.0 in let h : List Event = t.point in let e : Event = event v.machine c a in
+    let at : stamp ≡ (next (after v.opening h) v.machine c).stamp = seen.1 ∙ ap (λ (x : List Event). (after v.opening x).stamp) t.ends ∙ ap (λ (s : ModelState). s.stamp) (after-push v.opening h e) in
+    same_journal v w same ∙ ap (λ (x : List Event). noted v.opening x v.machine) t.ends ∙ noted-append v.opening h (e ∷ []) v.machine
     ∙ (λ i. noted-waits v.opening v.machine v.seen h (point_waits v.machine c a v.seen w.seen t) i ++ last_entry (after v.opening h) v.machine c a stamp at i)
 
 -- after a call that was busy, nothing new
+pub entry-busy : (v w : PassView) → IsSamePass v w → Waits v.machine v.seen w.seen → journal_by w ≡ journal_by v
+entry-busy v w same waits = same_journal v w same ∙ noted-waits v.opening v.machine v.seen w.seen waits
+
+-- the same of what a line's call leaves
+pub journal-settled : (v w : PassView) (c : Call) (tries : ℕ) (a : Answer) (stamp : ℕ) → Replied v c tries (Settled a stamp) w → journal_by w ≡ journal_by v ++ record { call = c; answer = a; stamp = stamp } ∷ []
+journal-settled v w c tries a stamp f = entry-settled v w c a stamp f.pass f.seen
+
 pub journal-busy : (v w : PassView) (c : Call) (tries lost stamp : ℕ) → Replied v c tries (Busy lost stamp) w → journal_by w ≡ journal_by v
-journal-busy v w c tries lost stamp f = same_journal v w f.pass ∙ noted-waits v.opening v.machine v.seen w.seen f.seen.0
+journal-busy v w c tries lost stamp f = entry-busy v w f.pass f.seen.0
 
 -- ---- what a line keeps
 

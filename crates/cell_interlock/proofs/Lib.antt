@@ -4,3 +4,4 @@ pub mod Overtaken
 pub mod Tells
 pub mod Journals
 pub mod Meeting
+pub mod Outcomes

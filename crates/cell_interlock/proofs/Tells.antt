@@ -64,7 +64,7 @@ one_point : (h point : List Event) (e : Event) (now : List Event) → now ≡ h 
 one_point h point e now f g = append_cancel_right h point (e ∷ []) (sym f ∙ g)
 
 -- a call that was answered after a history
-settled : (v w : PassView) (c : Call) (a : Answer) (stamp : ℕ) (h : List Event) → IsSound v.opening → IsLegal v.opening h → Waits v.machine v.seen h → IsSamePass v w → w.seen ≡ h ++ event v.machine c a ∷ []
+pub settled : (v w : PassView) (c : Call) (a : Answer) (stamp : ℕ) (h : List Event) → IsSound v.opening → IsLegal v.opening h → Waits v.machine v.seen h → IsSamePass v w → w.seen ≡ h ++ event v.machine c a ∷ []
     → a ≡ reply (after v.opening h) v.machine c → stamp ≡ (after v.opening w.seen).stamp → IsSettled v c a stamp w
 settled v w c a stamp h k l waits same ends right stamped =
     let e : List Event = event v.machine c a ∷ [] in

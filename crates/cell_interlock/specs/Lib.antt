@@ -7,3 +7,4 @@ pub mod Going
 pub mod Calls
 pub mod Tries
 pub mod Lines
+pub mod OutcomeExamples

@@ -3,6 +3,7 @@
 
 mod calls;
 pub mod interlock;
+pub mod laws;
 pub mod make;
 mod meet;
 pub mod pass;

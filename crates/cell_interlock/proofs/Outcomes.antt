@@ -1,0 +1,242 @@
+-- The examples of what a call leaves, and of what none leaves.
+use Rattle.std.proofs.Common.{◌≡◌, ℕ, ◌+◌, ◌<◌, ◌≤◌, true, false, List, [], ◌∷◌, ◌++◌, length, None, inr, refl, ap, ◌∙◌, arith}
+use Rattle.std.proofs.lemmas.List.{same_from_push}
+use Rattle.atomic_table.specs.Seated.{TableId}
+use Rattle.cell_types.specs.declared.machine.Machine.{Machine}
+use Rattle.cell_types.specs.declared.machine.Machine.TheVariants.{Feed, Table, Press, Watch}
+use Rattle.cell_types.specs.declared.zone.Zone.{Zone}
+use Rattle.cell_types.specs.declared.zone.Zone.TheVariants.{Z3}
+use Rattle.cell_types.specs.declared.call.Call.TheVariants.{Release}
+use Rattle.cell_types.specs.declared.answer.Answer.TheVariants.{Done}
+use Rattle.cell_types.specs.declared.answer.Event.{Event}
+use Rattle.cell_rules.specs.declared.zones.ZoneState.{ZoneState}
+use Rattle.cell_rules.specs.ModelState.{ModelState}
+use Rattle.cell_rules.specs.Sound.{IsSound}
+use Rattle.cell_rules.specs.History.{IsLegal, Holds, changes_by_others}
+use Rattle.cell_rules.specs.Laws.{LawfulThroughout}
+use Rattle.cell_rules.specs.Rights.{needs}
+use Rattle.cell_rules.specs.Seen.{Waits}
+use Rattle.cell_rules.proofs.Puts.{each_zone}
+use Rattle.cell_rules.proofs.Quiet.{changes-append}
+use Rattle.cell_interlock.specs.Views.{PassView, InterlockView}
+use Rattle.cell_interlock.specs.Fresh.{IsFresh, AreFresh}
+use Rattle.cell_interlock.specs.Seen.{IsSettled, HasSeenMore, HasChanges}
+use Rattle.cell_interlock.specs.OutcomeExamples.{opened, claim, claimed, released, by_feed, again_by_feed, press_pass, after_claim, AskExamples, LookExamples, AttemptExamples, MoreExamples, ChangeExamples, AnswerExamples, FreshExamples, LineExamples, OutcomeExamples}
+use Rattle.cell_interlock.specs.declared.pass.Passes.{Passes}
+use Rattle.cell_interlock.proofs.Tells.{lawful_history, settled}
+
+sound : IsSound opened
+sound = record {
+  stamp_in_range = omega arith;
+  owner_is_party = each_zone _ refl refl refl refl refl refl;
+  flag_has_transfer = each_zone _ refl refl refl refl refl refl;
+  guest_only_while_open = each_zone _ refl refl refl refl refl refl;
+  moving_belongs_to_host = each_zone _ refl refl refl refl refl refl;
+  posture_of_some_pose = each_zone _ refl refl refl refl refl refl;
+  press_holds_one_plate = refl;
+}
+
+-- ---- what is wrong
+
+-- changes that were seen before aren't new
+counted : (m : Machine) (earlier now : List Event) (n : ℕ) → HasChanges m earlier now n → n + changes_by_others earlier m ≤ changes_by_others now m
+counted m earlier now n f = omega (arith, changes-append m earlier f.more, ap (λ (h : List Event). changes_by_others h m) f.is, f.many)
+
+abbrev first_by : List Event → Machine
+first_by [] = Watch
+first_by (e ∷ h) = e.machine
+
+-- the first event of such a history is unlawful
+unlawful : (rest : List Event) → LawfulThroughout opened (again_by_feed ∷ rest) → ⊥
+unlawful rest l = let e = (l (again_by_feed ∷ []) rest refl).legal.0 in cc
+
+-- ---- what is right
+
+saw_nothing : Waits Press [] []
+saw_nothing = record { begins = ([], refl); own = refl }
+
+-- a claim that is Done, from a pass that has seen nothing
+claim_done : (t : TableId) (l x : ℕ) → IsSettled (press_pass t [] [] l x) claim Done 1 (after_claim t)
+claim_done t l x = settled (press_pass t [] [] l x) (after_claim t) claim Done 1 [] sound tt saw_nothing (record { table = refl; opening = refl; machine = refl }) refl refl refl
+
+-- others have made changes
+more : (t : TableId) (seen now : List Event) (since : List Event) (l x k y : ℕ) → IsLegal opened now → Waits Press seen now → HasSeenMore (press_pass t seen since l x) (press_pass t now since k y)
+more t seen now since l x k y legal waits = record { pass = record { table = refl; opening = refl; machine = refl }; lawful = lawful_history opened now sound legal; seen = waits }
+
+both_by_feed : HasChanges Press [] (by_feed ∷ again_by_feed ∷ []) 2
+both_by_feed = record { more = by_feed ∷ again_by_feed ∷ []; is = refl; many = omega arith }
+
+-- ---- a whole call
+
+ask : (t : TableId) → AskExamples t
+ask t = record {
+  done = (let s = claim_done t 3 5 in record {
+    pass = s.pass;
+    lawful = s.lawful;
+    seen = (s.seen, s.stamped);
+    answer = s.answer;
+    right = s.right;
+    busy = tt;
+    one_load = refl;
+    few_exchanges = omega arith;
+    all_lost = tt;
+    since = tt;
+  });
+  other_table = λ u apart r. apart r.pass.table;
+  other_opening = λ r. let e : 7 ≡ 0 = ap (λ (s : ModelState). s.stamp) r.pass.opening in omega arith;
+  other_machine = λ r. let e = r.pass.machine in cc;
+  unlawful = λ r. unlawful (claimed ∷ []) r.lawful;
+  not_last = λ r. let e : Feed ≡ Press = ap (λ (x : Event). x.machine) (same_from_push (claimed ∷ []) r.seen.0.point by_feed claimed r.seen.0.ends).1 in cc;
+  forgets = λ r. let e = (same_from_push [] r.seen.0.point claimed claimed r.seen.0.ends).0 ∙ r.seen.0.begins.1 in cc;
+  two_events = λ r. let e : 2 ≡ 1 = ap length r.seen.0.own in omega arith;
+  other_stamp = λ r. let e : 2 ≡ 1 = r.seen.1 in omega arith;
+  no_load = λ r. let e : 3 ≡ 4 = r.one_load in omega arith;
+  two_loads = λ r. let e : 5 ≡ 4 = r.one_load in omega arith;
+  three_exchanges = λ r. let e : 8 ≤ 7 = r.few_exchanges in omega arith;
+  busy = (let m = more t [] (by_feed ∷ again_by_feed ∷ []) [] 3 5 4 7 (refl, (refl, tt)) (record { begins = (by_feed ∷ again_by_feed ∷ [], refl); own = refl }) in record {
+    pass = m.pass;
+    lawful = m.lawful;
+    seen = (m.seen, refl);
+    answer = tt;
+    right = tt;
+    busy = record { all_lost = refl; ready = refl; changed = both_by_feed };
+    one_load = refl;
+    few_exchanges = omega arith;
+    all_lost = refl;
+    since = both_by_feed;
+  });
+  busy_with_other_stamp = λ r. let e : 1 ≡ 2 = r.seen.1 in omega arith;
+  busy_with_an_event = λ r. let e : 1 ≡ 0 = ap length r.seen.0.own in omega arith;
+  busy_after_one_exchange = λ r. let e : 6 ≡ 7 = r.all_lost in omega arith;
+  busy_having_lost_one = λ r. let e : 1 ≡ 2 = r.busy.all_lost in omega arith;
+  busy_though_refused = λ r. let e = r.busy.ready in cc;
+  busy_by_changes_seen_before = λ r. let e : 3 ≤ 2 = counted _ _ _ _ r.busy.changed in omega arith;
+  busy_by_changes_before_its_load = λ r. let e : 3 ≤ 2 = counted _ _ _ _ r.since in omega arith;
+}
+
+-- ---- single steps
+
+look : (t : TableId) → LookExamples t
+look t = record {
+  pending = record {
+    unmade = record { more = more t [] [] [] 3 5 4 5 tt saw_nothing; ready = refl };
+    call = refl;
+    tries = refl;
+    lost = refl;
+    since = refl;
+  };
+  settles_done = λ r. r.1 refl;
+  has_own_event = λ r. let e : 1 ≡ 0 = ap length r.unmade.more.seen.own in omega arith;
+  though_refused = λ r. let e = r.unmade.ready in cc;
+  other_call = λ r. let e = r.call in cc;
+  other_tries = λ r. let e : 3 ≡ 2 = r.tries in omega arith;
+  has_lost_one = λ r. let e : 1 ≡ 0 = r.lost in omega arith;
+  pass_of_pending = refl;
+  pass_of_settled = refl;
+  seen_since = λ r. let e : 0 ≡ 1 = ap length r.since in omega arith;
+}
+
+attempt : (t : TableId) → AttemptExamples t
+attempt t = record {
+  lost = record {
+    unmade = record { more = more t [] (by_feed ∷ []) [] 4 5 4 6 (refl, tt) (record { begins = (by_feed ∷ [], refl); own = refl }); ready = refl };
+    call = refl;
+    tries = refl;
+    since = refl;
+    lost = refl;
+    room = omega arith;
+    changed = record { more = by_feed ∷ []; is = refl; many = omega arith };
+  };
+  has_own_event = λ r. let e : 1 ≡ 0 = ap length r.unmade.more.seen.own in omega arith;
+  though_refused = λ r. let e = r.unmade.ready in cc;
+  other_call = λ r. let e = r.call in cc;
+  other_tries = λ r. let e : 3 ≡ 2 = r.tries in omega arith;
+  other_since = λ r. let e : 1 ≡ 0 = ap length r.since in omega arith;
+  lost_none = λ r. let e : 0 ≡ 1 = r.lost in omega arith;
+  lost_two = λ r. let e : 2 ≡ 1 = r.lost in omega arith;
+  lost_last = λ r. let e : 2 < 2 = r.room in omega arith;
+  no_change = λ r. let e : 1 ≤ 0 = counted _ _ _ _ r.changed in omega arith;
+  busy = record {
+    more = more t (by_feed ∷ []) (by_feed ∷ again_by_feed ∷ []) [] 4 6 4 7 (refl, (refl, tt)) (record { begins = (again_by_feed ∷ [], refl); own = refl });
+    stamped = refl;
+    last = refl;
+    overtaken = record { all_lost = refl; ready = refl; changed = both_by_feed };
+  };
+  busy_with_other_stamp = λ r. let e : 1 ≡ 2 = r.stamped in omega arith;
+  busy_early = λ r. let e : 1 ≡ 2 = r.last in omega arith;
+  busy_having_lost_one = λ r. let e : 1 ≡ 2 = r.overtaken.all_lost in omega arith;
+  busy_though_refused = λ r. let e = r.overtaken.ready in cc;
+  busy_by_changes_before_its_look = λ r. let e : 3 ≤ 2 = counted _ _ _ _ r.overtaken.changed in omega arith;
+  busy_forgets = λ r. let e : Table ≡ Feed = ap first_by r.more.seen.begins.1 in cc;
+  pass_of_lost = refl;
+  pass_of_busy = refl;
+  pass_of_settled = refl;
+  settled = claim_done t 4 5;
+  settled_with_other_stamp = λ r. let e : 2 ≡ 1 = r.stamped in omega arith;
+}
+
+-- ---- what calls leave
+
+grows : (t : TableId) → MoreExamples t
+grows t = record {
+  more = more t [] (by_feed ∷ []) [] 3 5 4 6 (refl, tt) (record { begins = (by_feed ∷ [], refl); own = refl });
+  other_table = λ u apart r. apart r.pass.table;
+  other_opening = λ r. let e : 7 ≡ 0 = ap (λ (s : ModelState). s.stamp) r.pass.opening in omega arith;
+  other_machine = λ r. let e = r.pass.machine in cc;
+  unlawful = λ r. unlawful [] r.lawful;
+  forgets = λ r. let e = r.seen.begins.1 in cc;
+  own_event = λ r. let e : 1 ≡ 0 = ap length r.seen.own in omega arith;
+}
+
+changes : ChangeExamples
+changes = record {
+  one = record { more = by_feed ∷ []; is = refl; many = omega arith };
+  one_only = λ f. let e : 2 ≤ 1 = counted _ _ _ _ f in omega arith;
+  own = λ f. let e : 1 ≤ 0 = counted _ _ _ _ f in omega arith;
+  refused = λ f. let e : 1 ≤ 0 = counted _ _ _ _ f in omega arith;
+  seen_earlier = λ f. let e : 2 ≤ 1 = counted _ _ _ _ f in omega arith;
+  other_beginning = λ f. let e : Table ≡ Feed = ap first_by f.is in cc;
+}
+
+has_claimed : Holds opened (claimed ∷ []) Press Z3
+has_claimed = inr (record { before = []; gain = claimed; since = []; split = refl; gained = refl; kept = λ k d h. absurd (omega (arith, h)) })
+
+holds_what_it_needs : (z : Zone) → needs Press (Release Z3) z ≡ true → Holds opened (claimed ∷ []) Press z
+holds_what_it_needs = each_zone _ (λ e. absurd (false_is_true e)) (λ e. absurd (false_is_true e)) (λ e. has_claimed) (λ e. absurd (false_is_true e)) (λ e. absurd (false_is_true e)) (λ e. absurd (false_is_true e))
+  where
+    false_is_true : false ≡ true → ⊥
+    false_is_true e = cc
+
+answers : (t : TableId) → AnswerExamples t
+answers t = record {
+  other_answer = λ f. let e = f [] refl in cc;
+  loses_what_it_held = λ f. let e = ap (λ (v : ZoneState). v.owner) ((f.keeps (claimed ∷ released ∷ []) refl).zone Z3 has_claimed) in cc;
+  is_disowned = λ f. f.never_disowned holds_what_it_needs None refl;
+}
+
+-- ---- a new interlock
+
+fresh : (i : InterlockView) (p : Passes) → AreFresh i p → FreshExamples i p
+fresh i p f = record {
+  feed = machine_of p.feed f.feed;
+  table = machine_of p.table f.table;
+  robot = machine_of p.robot f.robot;
+  press = f.press;
+  deposit = machine_of p.deposit f.deposit;
+  crane = machine_of p.crane f.crane;
+  watch = machine_of p.watch f.watch;
+}
+  where
+    machine_of : {m : Machine} (v : PassView) → IsFresh i m v → v.machine ≡ m
+    machine_of v e = ap (λ (x : PassView). x.machine) e
+
+-- ---- a line
+
+lines : (t : TableId) → LineExamples t
+lines t = record {
+  loads_without_memory = λ f. let e : 4 ≡ 3 = ap (λ (v : PassView). v.loads) f in omega arith;
+  other_tries = λ l d apart f. apart f.tries;
+}
+
+pub outcomes_are_known : OutcomeExamples
+outcomes_are_known = record { ask = ask; look = look; attempt = attempt; more = grows; changes = changes; answers = answers; fresh = fresh; lines = lines }

@@ -1,0 +1,206 @@
+-- Examples of what a call of the press leaves of its pass, and of what none leaves: in each of these one thing is wrong.
+-- The press claims z3, which is open inward and free in the opening, and a call may lose two exchanges.
+use Rattle.std.specs.Prelude.{◌≡◌, ◌≢◌, ℕ, false, List, [], ◌∷◌, None, Err}
+use Rattle.atomic_table.specs.Seated.{TableId}
+use Rattle.cell_types.specs.declared.machine.Machine.{Machine}
+use Rattle.cell_types.specs.declared.machine.Machine.TheVariants.{Feed, Table, Robot, Press, Deposit, Crane, Watch}
+use Rattle.cell_types.specs.declared.zone.Zone.TheVariants.{Z1, Z3, Z6}
+use Rattle.cell_types.specs.declared.posture.Posture.TheVariants.{OpenIn}
+use Rattle.cell_types.specs.declared.call.Call.{Call}
+use Rattle.cell_types.specs.declared.call.Call.TheVariants.{Claim, Release, Inquire}
+use Rattle.cell_types.specs.declared.answer.Answer.{Answer}
+use Rattle.cell_types.specs.declared.answer.Answer.TheVariants.{Done, Shown, Refused}
+use Rattle.cell_types.specs.declared.answer.Refusal.TheVariants.{NotOwner, NotParty, Worn}
+use Rattle.cell_types.specs.declared.answer.Event.{Event}
+use Rattle.cell_types.specs.declared.reply.Reply.{Reply}
+use Rattle.cell_types.specs.declared.reply.Reply.TheVariants.{Settled, Busy}
+use Rattle.cell_rules.specs.ZoneMap.{free_zone, everywhere, put_zone}
+use Rattle.cell_rules.specs.PlaceSet.{empty}
+use Rattle.cell_rules.specs.ModelState.{ModelState, model_state}
+use Rattle.cell_rules.specs.Start.{start_state}
+use Rattle.cell_rules.specs.Seen.{event}
+use Rattle.cell_rules.specs.declared.heard.LineFault.TheVariants.{Memory}
+use Rattle.cell_interlock.specs.Views.{PassView, InterlockView, TryView}
+use Rattle.cell_interlock.specs.Fresh.{AreFresh}
+use Rattle.cell_interlock.specs.Seen.{AnswersAtItsPoint, LastingRight, HasSeenMore, HasChanges}
+use Rattle.cell_interlock.specs.Tries.{Looked, Attempted, after_look, after_attempt}
+use Rattle.cell_interlock.specs.Lines.{Replied, PassAsks, LineView, LineAsks}
+use Rattle.cell_interlock.specs.declared.pass.Passes.{Passes}
+use Rattle.cell_interlock.specs.declared.tries.Look.TheVariants.{Settled as LookSettled, Pending}
+use Rattle.cell_interlock.specs.declared.tries.Tried.TheVariants.{Settled as TriedSettled, Lost, Busy as TriedBusy}
+
+abbrev pub opened : ModelState
+opened = model_state (put_zone (everywhere free_zone) Z3 (record free_zone { posture = OpenIn })) empty 0
+
+abbrev pub claim : Call
+claim = Claim Z3
+
+-- what the press does, and what it reads of z3 while that is free
+abbrev pub claimed : Event
+claimed = event Press claim Done
+
+abbrev pub released : Event
+released = event Press (Release Z3) Done
+
+abbrev pub read : Event
+read = event Press (Inquire Z3) (Shown None false OpenIn)
+
+-- what others do: feed claims z6 and releases it, the table claims z1, the robot z3
+abbrev pub by_feed : Event
+by_feed = event Feed (Claim Z6) Done
+
+abbrev pub again_by_feed : Event
+again_by_feed = event Feed (Release Z6) Done
+
+abbrev pub by_table : Event
+by_table = event Table (Claim Z1) Done
+
+abbrev pub by_robot : Event
+by_robot = event Robot claim Done
+
+-- a refusal of another machine, which changes nothing
+abbrev pub feed_refused : Event
+feed_refused = event Feed claim (Refused NotParty)
+
+-- the press's pass
+abbrev pub press_pass : TableId → List Event → List Event → ℕ → ℕ → PassView
+press_pass t seen since loads exchanges = record { table = t; opening = opened; machine = Press; seen = seen; since = since; loads = loads; exchanges = exchanges }
+
+-- before the call; after a claim that is Done; after a look that leaves it pending; after its first lost exchange, and after its second
+abbrev pub before : TableId → PassView
+before t = press_pass t [] [] 3 5
+
+abbrev pub after_claim : TableId → PassView
+after_claim t = press_pass t (claimed ∷ []) [] 4 6
+
+abbrev pub looked : TableId → PassView
+looked t = press_pass t [] [] 4 5
+
+abbrev pub lost_one : TableId → PassView
+lost_one t = press_pass t (by_feed ∷ []) [] 4 6
+
+abbrev pub lost_both : TableId → PassView
+lost_both t = press_pass t (by_feed ∷ again_by_feed ∷ []) [] 4 7
+
+-- ---- a whole call
+
+abbrev pub Claims : PassView → Reply → PassView → Type 0
+Claims v reply w = Replied v claim 2 reply w
+
+pub record AskExamples (t : TableId) : Type 0 where
+  pub done : Claims (before t) (Settled Done 1) (after_claim t)
+  pub other_table : (u : TableId) → u ≢ t → ¬ Claims (before t) (Settled Done 1) (record (after_claim t) { table = u })
+  pub other_opening : ¬ Claims (before t) (Settled Done 1) (record (after_claim t) { opening = start_state empty 7 })
+  pub other_machine : ¬ Claims (before t) (Settled Done 1) (record (after_claim t) { machine = Robot })
+  pub unlawful : ¬ Claims (before t) (Settled Done 1) (record (after_claim t) { seen = again_by_feed ∷ claimed ∷ [] })
+  pub not_last : ¬ Claims (before t) (Settled Done 2) (record (after_claim t) { seen = claimed ∷ by_feed ∷ [] })
+  pub forgets : ¬ Claims (press_pass t (by_feed ∷ []) [] 3 5) (Settled Done 1) (after_claim t)
+  pub two_events : ¬ Claims (before t) (Settled Done 1) (record (after_claim t) { seen = read ∷ claimed ∷ [] })
+  pub other_stamp : ¬ Claims (before t) (Settled Done 2) (after_claim t)
+  pub no_load : ¬ Claims (before t) (Settled Done 1) (record (after_claim t) { loads = 3 })
+  pub two_loads : ¬ Claims (before t) (Settled Done 1) (record (after_claim t) { loads = 5 })
+  pub three_exchanges : ¬ Claims (before t) (Settled Done 1) (record (after_claim t) { exchanges = 8 })
+  pub busy : Claims (before t) (Busy 2 2) (lost_both t)
+  pub busy_with_other_stamp : ¬ Claims (before t) (Busy 2 1) (lost_both t)
+  pub busy_with_an_event : ¬ Claims (before t) (Busy 2 2) (record (lost_both t) { seen = by_feed ∷ again_by_feed ∷ read ∷ [] })
+  pub busy_after_one_exchange : ¬ Claims (before t) (Busy 2 2) (record (lost_both t) { exchanges = 6 })
+  pub busy_having_lost_one : ¬ Claims (before t) (Busy 1 2) (record (lost_both t) { exchanges = 6 })
+  pub busy_though_refused : ¬ Claims (before t) (Busy 2 2) (record (lost_both t) { seen = by_feed ∷ by_robot ∷ [] })
+  pub busy_by_changes_seen_before : ¬ Claims (press_pass t (by_feed ∷ []) [] 3 5) (Busy 2 2) (lost_both t)
+  pub busy_by_changes_before_its_load : ¬ Claims (before t) (Busy 2 2) (record (lost_both t) { since = by_feed ∷ [] })
+
+-- ---- single steps
+
+abbrev pub under_way : PassView → ℕ → TryView
+under_way p lost = record { pass = p; call = claim; lost = lost; tries = 2 }
+
+pub record LookExamples (t : TableId) : Type 0 where
+  pub pending : Looked (before t) claim 2 (Pending (under_way (looked t) 0))
+  pub settles_done : ¬ Looked (before t) claim 2 (LookSettled Done 1 (after_claim t))
+  pub has_own_event : ¬ Looked (before t) claim 2 (Pending (under_way (press_pass t (read ∷ []) (read ∷ []) 4 5) 0))
+  pub though_refused : ¬ Looked (before t) claim 2 (Pending (under_way (press_pass t (by_robot ∷ []) (by_robot ∷ []) 4 5) 0))
+  pub other_call : ¬ Looked (before t) claim 2 (Pending (record (under_way (looked t) 0) { call = Release Z3 }))
+  pub other_tries : ¬ Looked (before t) claim 2 (Pending (record (under_way (looked t) 0) { tries = 3 }))
+  pub has_lost_one : ¬ Looked (before t) claim 2 (Pending (under_way (looked t) 1))
+  pub seen_since : ¬ Looked (before t) claim 2 (Pending (under_way (press_pass t (by_feed ∷ []) [] 4 5) 0))
+  pub pass_of_pending : after_look (Pending (under_way (looked t) 0)) ≡ looked t
+  pub pass_of_settled : after_look (LookSettled Done 1 (after_claim t)) ≡ after_claim t
+
+pub record AttemptExamples (t : TableId) : Type 0 where
+  pub lost : Attempted (under_way (looked t) 0) (Lost (under_way (lost_one t) 1))
+  pub has_own_event : ¬ Attempted (under_way (looked t) 0) (Lost (under_way (record (lost_one t) { seen = by_feed ∷ read ∷ [] }) 1))
+  pub though_refused : ¬ Attempted (under_way (looked t) 0) (Lost (under_way (record (lost_one t) { seen = by_robot ∷ [] }) 1))
+  pub other_call : ¬ Attempted (under_way (looked t) 0) (Lost (record (under_way (lost_one t) 1) { call = Release Z3 }))
+  pub other_tries : ¬ Attempted (under_way (looked t) 0) (Lost (record (under_way (lost_one t) 1) { tries = 3 }))
+  pub other_since : ¬ Attempted (under_way (looked t) 0) (Lost (under_way (record (lost_one t) { since = by_feed ∷ [] }) 1))
+  pub lost_none : ¬ Attempted (under_way (looked t) 0) (Lost (under_way (lost_one t) 0))
+  pub lost_two : ¬ Attempted (record (under_way (looked t) 0) { tries = 4 }) (Lost (record (under_way (lost_one t) 2) { tries = 4 }))
+  pub lost_last : ¬ Attempted (under_way (lost_one t) 1) (Lost (under_way (lost_both t) 2))
+  pub no_change : ¬ Attempted (under_way (looked t) 0) (Lost (under_way (record (lost_one t) { seen = [] }) 1))
+  pub busy : Attempted (under_way (lost_one t) 1) (TriedBusy 2 2 (lost_both t))
+  pub busy_with_other_stamp : ¬ Attempted (under_way (lost_one t) 1) (TriedBusy 2 1 (lost_both t))
+  pub busy_early : ¬ Attempted (under_way (looked t) 0) (TriedBusy 2 2 (lost_both t))
+  pub busy_having_lost_one : ¬ Attempted (under_way (lost_one t) 1) (TriedBusy 1 2 (lost_both t))
+  pub busy_though_refused : ¬ Attempted (under_way (lost_one t) 1) (TriedBusy 2 2 (record (lost_both t) { seen = by_feed ∷ by_robot ∷ [] }))
+  pub busy_by_changes_before_its_look : ¬ Attempted (under_way (record (lost_one t) { since = by_feed ∷ [] }) 1) (TriedBusy 2 2 (lost_both t))
+  pub busy_forgets : ¬ Attempted (under_way (lost_one t) 1) (TriedBusy 2 2 (record (lost_both t) { seen = by_table ∷ by_feed ∷ [] }))
+  pub settled : Attempted (under_way (looked t) 0) (TriedSettled Done 1 (after_claim t))
+  pub settled_with_other_stamp : ¬ Attempted (under_way (looked t) 0) (TriedSettled Done 2 (after_claim t))
+  pub pass_of_lost : after_attempt (Lost (under_way (lost_one t) 1)) ≡ lost_one t
+  pub pass_of_busy : after_attempt (TriedBusy 2 2 (lost_both t)) ≡ lost_both t
+  pub pass_of_settled : after_attempt (TriedSettled Done 1 (after_claim t)) ≡ after_claim t
+
+-- ---- what calls leave
+
+-- what was seen of other machines grows, and what was seen of its own doesn't
+pub record MoreExamples (t : TableId) : Type 0 where
+  pub more : HasSeenMore (before t) (lost_one t)
+  pub other_table : (u : TableId) → u ≢ t → ¬ HasSeenMore (before t) (record (lost_one t) { table = u })
+  pub other_opening : ¬ HasSeenMore (before t) (record (lost_one t) { opening = start_state empty 7 })
+  pub other_machine : ¬ HasSeenMore (before t) (record (lost_one t) { machine = Robot })
+  pub unlawful : ¬ HasSeenMore (before t) (record (lost_one t) { seen = again_by_feed ∷ [] })
+  pub forgets : ¬ HasSeenMore (lost_one t) (before t)
+  pub own_event : ¬ HasSeenMore (before t) (after_claim t)
+
+-- how changes by others are counted
+pub record ChangeExamples : Type 0 where
+  pub one : HasChanges Press [] (by_feed ∷ []) 1
+  pub one_only : ¬ HasChanges Press [] (by_feed ∷ []) 2
+  pub own : ¬ HasChanges Press [] (claimed ∷ []) 1
+  pub refused : ¬ HasChanges Press [] (feed_refused ∷ []) 1
+  pub seen_earlier : ¬ HasChanges Press (by_feed ∷ []) (by_feed ∷ []) 1
+  pub other_beginning : ¬ HasChanges Press (by_feed ∷ []) (by_table ∷ by_feed ∷ []) 1
+
+-- the answer is that of the sequential interlock, and who holds a zone keeps it
+pub record AnswerExamples (t : TableId) : Type 0 where
+  pub other_answer : ¬ AnswersAtItsPoint (before t) claim (Refused Worn) (press_pass t (event Press claim (Refused Worn) ∷ []) [] 4 5)
+  pub loses_what_it_held : ¬ LastingRight (after_claim t) claim Done (press_pass t (claimed ∷ released ∷ claimed ∷ []) [] 5 7)
+  pub is_disowned : ¬ LastingRight (after_claim t) (Release Z3) (Refused (NotOwner None)) (after_claim t)
+
+-- ---- a new interlock
+
+-- whose pass is in each field, and that the passes have made no step
+pub record FreshExamples (i : InterlockView) (p : Passes) : Type 0 where
+  pub feed : p.feed.machine ≡ Feed
+  pub table : p.table.machine ≡ Table
+  pub robot : p.robot.machine ≡ Robot
+  pub press : p.press ≡ record { table = i.table; opening = i.opening; machine = Press; seen = []; since = []; loads = 0; exchanges = 0 }
+  pub deposit : p.deposit.machine ≡ Deposit
+  pub crane : p.crane.machine ≡ Crane
+  pub watch : p.watch.machine ≡ Watch
+
+-- ---- a line
+
+pub record LineExamples (t : TableId) : Type 0 where
+  pub loads_without_memory : ¬ PassAsks 2 (before t) claim (Err Memory) (looked t)
+  pub other_tries : (l d : LineView) → d.tries ≢ l.tries → ¬ LineAsks l claim (Err Memory) d
+
+pub record OutcomeExamples : Type 0 where
+  pub ask : (t : TableId) → AskExamples t
+  pub look : (t : TableId) → LookExamples t
+  pub attempt : (t : TableId) → AttemptExamples t
+  pub more : (t : TableId) → MoreExamples t
+  pub changes : ChangeExamples
+  pub answers : (t : TableId) → AnswerExamples t
+  pub fresh : (i : InterlockView) (p : Passes) → AreFresh i p → FreshExamples i p
+  pub lines : (t : TableId) → LineExamples t
