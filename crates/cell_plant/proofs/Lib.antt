@@ -14,3 +14,8 @@ pub mod CellKeeps
 pub mod SafeRuns
 pub mod RunSoFar
 pub mod Stepping
+mod Deciding
+mod SafetyDecided
+mod SafetyRows
+mod RunRows
+mod RecordRows

@@ -4,7 +4,10 @@ pub mod Runs
 pub mod Records
 pub mod Errands
 pub mod Safety
+pub mod SafetyExamples
 pub mod Cells
+pub mod RunExamples
+pub mod RecordExamples
 pub mod Moments
 pub mod Notebooks
 pub mod Simulations

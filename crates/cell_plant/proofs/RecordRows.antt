@@ -1,0 +1,187 @@
+-- The examples of records.
+use Rattle.std.proofs.Common.{◌≡◌, ◌≢◌, ℕ, ◌+◌, ℤ, pos, Bool, true, false, ◌&&◌, cond, List, [], ◌∷◌, length, get_or, map, Some, None, refl, sym, ap, ◌∙◌}
+use Rattle.cell_types.specs.declared.machine.Machine.{Machine}
+use Rattle.cell_types.specs.declared.machine.Machine.TheVariants.{Feed, Watch}
+use Rattle.cell_types.specs.declared.answer.Answer.TheVariants.{Done, Refused}
+use Rattle.cell_types.specs.declared.answer.Refusal.TheVariants.{Shut}
+use Rattle.cell_types.specs.declared.posture.Posture.TheVariants.{Closed}
+use Rattle.cell_types.specs.declared.journal.Entry.{Entry}
+use Rattle.cell_types.specs.declared.journal.Journals.{Journals}
+use Rattle.cell_types.specs.Everything.{all_machines}
+use Rattle.cell_types.specs.Same.{same_machine}
+use Rattle.cell_rules.specs.ModelState.{ModelState}
+use Rattle.cell_rules.specs.Journal.{noted}
+use Rattle.cell_notes.specs.declared.counts.Counts.{Counts}
+use Rattle.cell_notes.specs.declared.run_record.RunRecord.{RunRecord}
+use Rattle.cell_notes.specs.declared.status.Status.{Status}
+use Rattle.cell_notes.specs.declared.status.Status.TheVariants.{Fine, Memory}
+use Rattle.cell_notes.specs.declared.schedule.Turn.{Turn}
+use Rattle.cell_notes.specs.Notes.{no_counts}
+use Rattle.cell_parts.specs.Axes.{CellScales}
+use Rattle.cell_plant.specs.CellStates.{CellState, cell_at_start}
+use Rattle.cell_plant.specs.Cells.{TellsRun}
+use Rattle.cell_plant.specs.Records.{is_turn_of, counts_in, events_in}
+use Rattle.cell_plant.specs.Runs.{Step, IsRun}
+use Rattle.cell_plant.specs.Safety.{IsSafeState, IsSafeRun}
+use Rattle.cell_plant.specs.RunExamples.{opening, at_first, schedule, steps, turn_of, passes}
+use Rattle.cell_plant.specs.RecordExamples.{IsOfLiteralRun, WrongRecords, IsOfLegalHistory, RecordExamples, IsRecord, IsOfNoTurn, AreJournals, counts_of, counts_by, journal_by, done_entry, refused_entry, with_feed_counts, with_watch_counted, open_too_early}
+use Rattle.cell_plant.proofs.Deciding.{so, not_so, equals, same_number}
+use Rattle.cell_plant.proofs.RunRows.{run_examples}
+use Rattle.cell_plant.proofs.SafetyDecided.{is_safe, is_safe_run}
+
+-- ---- one thing is another
+
+-- the counts of one machine, by where it stands
+abbrev turns_at : ℕ → List Counts → ℕ
+turns_at n counts = (get_or counts n no_counts).turns
+
+ends_apart : (a b : ModelState) → a.stamp ≢ b.stamp → Some a ≢ Some b
+ends_apart a b apart e = let same : a ≡ b = cc in apart (ap (λ (s : ModelState). s.stamp) same)
+
+no_end : (a : ModelState) → None ≢ Some a
+no_end a e = cc
+
+fine_memory : Fine ≢ Memory
+fine_memory e = cc
+
+refused_done : Refused (Shut Closed) ≢ Done
+refused_done e = cc
+
+module _ (r : RunRecord) where
+  feed_count : (f : Counts → ℕ) (feed : Counts) → IsRecord (with_feed_counts r feed) → f feed ≡ f (counts_of 2 1 0 1 0)
+  feed_count f feed k = ap (λ (counts : List Counts). f (get_or counts 0 no_counts)) k.counts
+
+  feed_journal : (journals : Journals) (feed : List Entry) → AreJournals journals feed → IsRecord (record r { journals = journals }) → feed ≡ done_entry ∷ refused_entry ∷ []
+  feed_journal journals feed are k = sym (are Feed) ∙ k.journals Feed
+
+  wrong_records : WrongRecords r
+  wrong_records = record {
+    start = λ k. not_so (same_number _ _) refl (ap (λ (s : ModelState). s.stamp) k.start);
+    turns = λ k. not_so (same_number _ _) refl (feed_count (λ c. c.turns) _ k);
+    done = λ k. not_so (same_number _ _) refl (feed_count (λ c. c.done) _ k);
+    read = λ k. not_so (same_number _ _) refl (feed_count (λ c. c.read) _ k);
+    refused = λ k. not_so (same_number _ _) refl (feed_count (λ c. c.refused) _ k);
+    busy = λ k. not_so (same_number _ _) refl (feed_count (λ c. c.busy) _ k);
+    counts_of_others = λ k. not_so (same_number _ _) refl (ap (λ (counts : List Counts). (get_or counts 0 no_counts).done) k.counts);
+    status = λ k. fine_memory (ap (λ (status : List Status). get_or status 3 Fine) k.status);
+    status_of_another = λ k. fine_memory (ap (λ (status : List Status). get_or status 3 Fine) k.status);
+    end = λ k. ends_apart _ _ (not_so (same_number _ _) refl) k.end;
+    no_end = λ k. no_end _ k.end;
+    axis = λ k. not_so (equals _ _) refl (ap (λ (axes : List ℤ). get_or axes 7 (pos 0)) k.axes);
+    axes_swapped = λ k. not_so (equals _ _) refl (ap (λ (axes : List ℤ). get_or axes 0 (pos 0)) k.axes);
+    entry_left_out = λ j are k. not_so (same_number _ _) refl (ap (λ (es : List Entry). length es) (feed_journal j _ are k));
+    entry_twice = λ j are k. not_so (same_number _ _) refl (ap (λ (es : List Entry). length es) (feed_journal j _ are k));
+    entries_swapped = λ j are k. refused_done (ap (λ (es : List Entry). (get_or es 0 done_entry).answer) (feed_journal j _ are k));
+    another_stamp = λ j are k. not_so (same_number _ _) refl (ap (λ (es : List Entry). (get_or es 1 done_entry).stamp) (feed_journal j _ are k));
+  }
+
+  -- ---- the record of the literal run
+
+  noted_is : (m : Machine) → noted opening (events_in steps) m ≡ journal_by (done_entry ∷ refused_entry ∷ []) m
+  noted_is Feed = refl
+  noted_is _ = refl
+
+  figures : IsRecord r → IsOfLiteralRun r
+  figures k = record {
+    start = k.start;
+    counts = k.counts;
+    status = k.status;
+    journals = λ m. k.journals m ∙ noted_is m;
+    end = k.end;
+    axes = k.axes;
+  }
+
+  recorded : IsOfLiteralRun r → IsRecord r
+  recorded k = record {
+    start = k.start;
+    counts = k.counts;
+    status = k.status;
+    journals = λ m. k.journals m ∙ sym (noted_is m);
+    end = k.end;
+    axes = k.axes;
+  }
+
+  -- ---- records of runs of a schedule, and of no run of it
+
+  module _ (c : CellScales) where
+    of_run : IsOfLiteralRun r → TellsRun c opening schedule r
+    of_run k = record {
+      steps = steps;
+      run = (run_examples c).runs.run;
+      told = recorded k;
+      safe = so (is_safe_run at_first steps) refl;
+      legal = (refl, (refl, tt));
+      reached = refl;
+    }
+
+    of_no_turn : IsOfNoTurn opening r → TellsRun c opening [] r
+    of_no_turn k = record {
+      steps = [];
+      run = tt;
+      told = k;
+      safe = so (is_safe_run at_first []) refl;
+      legal = tt;
+      reached = refl;
+    }
+
+    of_the_watch : IsOfNoTurn opening r → TellsRun c opening (turn_of Watch ∷ []) r
+    of_the_watch k = record {
+      steps = passes Watch at_first ∷ [];
+      run = (refl, (record { not_taken = refl; asked = refl; set = refl; moved = refl }, tt));
+      told = record { start = k.start; counts = k.counts; status = k.status; journals = k.journals; end = k.end; axes = k.axes };
+      safe = so (is_safe_run at_first (passes Watch at_first ∷ [])) refl;
+      legal = tt;
+      reached = refl;
+    }
+
+    lawful : (s : ModelState) (turns : List Turn) → TellsRun c s turns r → IsOfLegalHistory s r
+    lawful s turns t = record {
+      seen = events_in t.steps;
+      legal = t.legal;
+      journals = t.told.journals;
+      end = t.told.end ∙ ap Some t.reached;
+    }
+
+    -- with no turn there are no steps, and so no counts
+    two_turns_of_none : (ss : List Step) → IsRun c at_first [] ss → counts_by (counts_of 2 1 0 1 0) (counts_of 2 0 0 0 1) ≢ map (counts_in ss) all_machines
+    two_turns_of_none [] run e = not_so (same_number _ _) refl (ap (turns_at 0) e)
+    two_turns_of_none (s ∷ ss) run e = run
+
+    -- a turn of the feed belt is counted, and one of the watch isn't
+    counted_once : (b : Bool) → b ≡ true → 0 ≢ 0 + cond b 1 0
+    counted_once true is e = cc
+    counted_once false is e = cc
+
+    not_counted : (b : Bool) → b ≡ false → 1 ≢ 0 + cond b 1 0
+    not_counted true is e = cc
+    not_counted false is e = cc
+
+    no_turn_of_one : (ss : List Step) → IsRun c at_first (turn_of Feed ∷ []) ss → map (counts_in []) all_machines ≢ map (counts_in ss) all_machines
+    no_turn_of_one [] run e = run
+    no_turn_of_one (s ∷ x ∷ ss) run e = run.1.1
+    no_turn_of_one (s ∷ []) run e = counted_once (is_turn_of Feed s) (ap (λ taken. taken && same_machine s.machine Feed) run.1.0.taken ∙ ap (λ m. same_machine m Feed) run.0) (ap (turns_at 0) e)
+
+    turn_of_watch : (ss : List Step) → IsRun c at_first (turn_of Watch ∷ []) ss → (with_watch_counted r).counts ≢ map (counts_in ss) all_machines
+    turn_of_watch [] run e = run
+    turn_of_watch (s ∷ x ∷ ss) run e = run.1.1
+    turn_of_watch (s ∷ []) run e = not_counted (is_turn_of Watch s) (ap (λ taken. taken && same_machine s.machine Watch) run.1.0.not_taken) (ap (turns_at 6) e)
+
+    first_is_safe : (w : CellState) (ss : List Step) → IsSafeRun w ss → IsSafeState w
+    first_is_safe w [] safe = safe
+    first_is_safe w (s ∷ ss) safe = safe.0
+
+pub record_examples : (c : CellScales) (r : RunRecord) → RecordExamples c r
+record_examples c r = record {
+  axes = refl;
+  figures = figures r;
+  recorded = recorded r;
+  wrong = wrong_records r;
+  of_run = of_run r c;
+  of_no_turn = of_no_turn r c;
+  of_the_watch = of_the_watch r c;
+  lawful = lawful r c;
+  made_up = λ k t. two_turns_of_none r c t.steps t.run (sym k.counts ∙ t.told.counts);
+  left_out = λ k t. no_turn_of_one r c t.steps t.run (sym k.counts ∙ t.told.counts);
+  watch_counted = λ t. turn_of_watch r c t.steps t.run t.told.counts;
+  begins_unsafely = λ t. not_so (is_safe (cell_at_start open_too_early)) refl (first_is_safe r c _ t.steps t.safe);
+}

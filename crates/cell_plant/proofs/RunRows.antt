@@ -1,0 +1,247 @@
+-- The examples of turns and runs, and of such that are none.
+use Rattle.std.proofs.Common.{◌≡◌, ◌≢◌, ℕ, Bool, true, false, inr, Some, None, Result, Ok, refl, sym, ap, subst}
+use Rattle.cell_types.specs.declared.machine.Machine.{Machine}
+use Rattle.cell_types.specs.declared.machine.Machine.TheVariants.{Feed, Table, Robot, Press, Deposit, Crane, Watch}
+use Rattle.cell_types.specs.declared.call.Call.{Call}
+use Rattle.cell_types.specs.declared.answer.Answer.TheVariants.{Done, Refused}
+use Rattle.cell_types.specs.declared.answer.Refusal.TheVariants.{Shut}
+use Rattle.cell_types.specs.declared.posture.Posture.TheVariants.{Closed}
+use Rattle.cell_types.specs.declared.reply.Reply.{Reply}
+use Rattle.cell_types.specs.Same.{same_machine}
+use Rattle.cell_calib.specs.declared.sense.FeedSense.{FeedSense}
+use Rattle.cell_calib.specs.declared.sense.PressSense.{PressSense}
+use Rattle.cell_devices.specs.declared.motor.Motor.TheVariants.{Minus}
+use Rattle.cell_rules.specs.declared.heard.LineFault.{LineFault}
+use Rattle.cell_rules.specs.ModelState.{ModelState}
+use Rattle.cell_control.specs.Rigs.{Rig}
+use Rattle.cell_control.specs.Steps.{Steps, outcome}
+use Rattle.cell_control.specs.Turns.{Performed, PerformsCall, at_rest, turned}
+use Rattle.cell_control.proofs.TurnMaps.{turn_either}
+use Rattle.cell_haul.specs.declared.feed_step.FeedProgress.{FeedProgress}
+use Rattle.cell_control.specs.declared.fault.CtlFault.TheVariants.{Memory}
+use Rattle.cell_stations.specs.declared.table_step.TableProgress.{TableProgress}
+use Rattle.cell_stations.specs.declared.press_step.PressProgress.{PressProgress}
+use Rattle.cell_notes.specs.Asks.{Asked}
+use Rattle.cell_seat.specs.Sides.{Side, side_of, side_set}
+use Rattle.cell_seat.specs.SeatTurns.{Answers, Takes}
+use Rattle.cell_parts.specs.declared.axis.Axis.{Axis}
+use Rattle.cell_parts.specs.declared.belt.Belt.{Belt}
+use Rattle.cell_parts.specs.Axes.{CellScales}
+use Rattle.cell_parts.specs.Examples.{at}
+use Rattle.cell_parts.specs.Plant.{TablePlant, feed_at_start}
+use Rattle.cell_parts.specs.Shows.{FeedShows, PressShows}
+use Rattle.cell_plant.specs.Machines.{steps_of, rig_of}
+use Rattle.cell_plant.specs.CellStates.{CellState, Sides, side_in}
+use Rattle.cell_plant.specs.Runs.{Step, TakesTurn, IsPassedOver}
+use Rattle.cell_plant.specs.RunExamples.{TurnExamples, PassExamples, ScheduleExamples, RunExamples, opening, at_first, at_entered, at_last, claims_entry, finds_busy, is_refused, finds_no_room, passes}
+use Rattle.cell_plant.proofs.Deciding.{so, not_so, equals, both, same_truth, at_most, is_true, true_false, false_true}
+
+-- ---- turns that are taken
+
+-- a machine asks once, and is answered
+takes_call : {S Sense Reading Act State : Type 0} → (t : Steps S Sense Reading Act) (rig : Rig State Sense Act) (busy : Bool) (z y : ModelState) (p : S) (part : State) (c : Call) (r : Result Reply LineFault) (set : Side S State) (sense : Sense) (reading : Reading)
+    → rig.shows part sense → t.senses sense (Ok reading) → t.call p ≡ Some c → Answers z t.machine busy c r y → set ≡ side_set t rig (side_of p None part) (Some (c, r)) (turned p (at_rest (t.rest p) (outcome t p r))) → Takes t rig busy z (side_of p None part) (Some (c, r)) y set
+takes_call {S = S} {Act = Act} t rig busy z y p part c r set sense reading shows senses call answers is =
+    let done : Performed S Act = at_rest (t.rest p) (outcome t p r) in
+    let asked : Asked = Some (c, r) in
+    record {
+      sense = sense;
+      shows = shows;
+      turned = turned p done;
+      row = (
+        done,
+        record {
+          sensed = Ok reading;
+          senses = senses;
+          performs = subst (λ o. PerformsCall t o ((y ≡ z) × (asked ≡ None)) (λ d x. Answers z t.machine busy d x y × (asked ≡ Some (d, x))) p reading done) (sym call) (r, (answers, refl), refl);
+        },
+        refl,
+      );
+      is = is;
+    }
+
+-- what the feed belt's barrier shows with the plate at its end, and the press's switches at its top
+abbrev plate_seen : FeedSense
+plate_seen = record { barrier = true }
+
+abbrev at_top : PressSense
+at_top = record { bottom = false; middle = false; top = true }
+
+shows_plate : FeedShows (feed_at_start opening) plate_seen
+shows_plate = record { barrier = (λ e. inr (so (both (at_most _ _) (at_most _ _)) refl), λ k. refl) }
+
+shows_top : PressShows (at 1000) at_top
+shows_top = record {
+  bottom = so (same_truth (is_true _) (at_most _ _)) refl;
+  middle = so (same_truth (is_true _) (both (at_most _ _) (at_most _ _))) refl;
+  top = so (same_truth (is_true _) (at_most _ _)) refl;
+}
+
+-- sides that differ in one machine's alone
+feed_apart : (a : Sides) (x : Side FeedProgress Belt) (n : Machine) → same_machine Feed n ≡ false → side_in (record a { feed = x }) n ≡ side_in a n
+feed_apart a x Feed e = absurd (true_false e)
+feed_apart a x Table e = refl
+feed_apart a x Robot e = refl
+feed_apart a x Press e = refl
+feed_apart a x Deposit e = refl
+feed_apart a x Crane e = refl
+feed_apart a x Watch e = refl
+
+press_apart : (a : Sides) (x : Side PressProgress Axis) (n : Machine) → same_machine Press n ≡ false → side_in (record a { press = x }) n ≡ side_in a n
+press_apart a x Press e = absurd (true_false e)
+press_apart a x Feed e = refl
+press_apart a x Table e = refl
+press_apart a x Robot e = refl
+press_apart a x Deposit e = refl
+press_apart a x Crane e = refl
+press_apart a x Watch e = refl
+
+abbrev Apart : ℕ → ℕ → Type 0
+Apart a b = a ≢ b
+
+one_zero : Apart 1 0
+one_zero e = cc
+
+zero_one : Apart 0 1
+zero_one e = cc
+
+some_none : {A : Type 0} (a : A) → ¬ (Some a ≡ None)
+some_none a e = cc
+
+press_runs : ¬ (None ≡ Some Memory)
+press_runs e = cc
+
+feed_press : Feed ≢ Press
+feed_press e = cc
+
+table_press : Table ≢ Press
+table_press e = cc
+
+module _ (c : CellScales) where
+  turn_done : TakesTurn c Feed false at_first claims_entry
+  turn_done = record {
+    taken = refl;
+    takes = takes_call (steps_of c Feed) (rig_of c Feed) _ _ _ _ _ _ _ _ _ _ shows_plate refl refl (refl, refl, refl, refl) refl;
+    others_set = feed_apart _ _;
+    moved = refl;
+    others_moved = λ n e. refl;
+    interlock = refl;
+  }
+
+  turn_busy : TakesTurn c Press true at_entered finds_busy
+  turn_busy = record {
+    taken = refl;
+    takes = takes_call (steps_of c Press) (rig_of c Press) _ _ _ _ _ _ _ _ _ _ shows_top refl refl (refl, refl, refl, refl) refl;
+    others_set = λ n e. refl;
+    moved = refl;
+    others_moved = λ n e. refl;
+    interlock = refl;
+  }
+
+  turn_refused : TakesTurn c Feed false at_entered is_refused
+  turn_refused = record {
+    taken = refl;
+    takes = takes_call (steps_of c Feed) (rig_of c Feed) _ _ _ _ _ _ _ _ _ _ shows_plate refl refl (refl, refl, refl, refl) refl;
+    others_set = λ n e. refl;
+    moved = refl;
+    others_moved = λ n e. refl;
+    interlock = refl;
+  }
+
+  turn_no_room : TakesTurn c Press false at_entered finds_no_room
+  turn_no_room = record {
+    taken = refl;
+    takes = takes_call (steps_of c Press) (rig_of c Press) _ _ _ _ _ _ _ _ _ _ shows_top refl refl (refl, refl) refl;
+    others_set = press_apart _ _;
+    moved = refl;
+    others_moved = λ n e. refl;
+    interlock = refl;
+  }
+
+  -- ---- turns that aren't
+
+  -- what was asked in a turn and came back, by the interlock before it and after
+  abbrev IsAnswered : ModelState → Machine → Bool → Asked → ModelState → Type 0
+  IsAnswered z m busy None y = y ≡ z
+  IsAnswered z m busy (Some call) y = Answers z m busy call.0 call.1 y
+
+  answered : (m : Machine) (busy : Bool) (w : CellState) (s : Step) → TakesTurn c m busy w s → IsAnswered w.interlock (steps_of c m).machine busy s.asked s.set.interlock
+  answered m busy w s k =
+      let t = steps_of c m in
+      let Is : Asked → Type 0 = λ a. IsAnswered w.interlock t.machine busy a s.set.interlock in
+      turn_either t ((s.set.interlock ≡ w.interlock) × (s.asked ≡ None)) (λ q r. Answers w.interlock t.machine busy q r s.set.interlock × (s.asked ≡ Some (q, r))) (Is s.asked) (λ h. subst Is (sym h.1) h.0) (λ q r h. subst Is (sym h.1) h.0)
+      (w.side m).stopped (w.side m).progress k.takes.sense k.takes.turned k.takes.row
+
+  stamps_apart : (a b : ModelState) → a.stamp ≢ b.stamp → a ≢ b
+  stamps_apart a b apart e = apart (ap (λ (s : ModelState). s.stamp) e)
+
+  turn_examples : TurnExamples c
+  turn_examples = record {
+    done = turn_done;
+    busy = turn_busy;
+    refused = turn_refused;
+    no_room = turn_no_room;
+    drives = record {
+      taken = refl;
+      takes = record {
+        sense = at_top;
+        shows = shows_top;
+        turned = _;
+        row = (Ok (_, record { press = Minus }), record { sensed = Ok at_top; senses = refl; performs = ((refl, refl), (record { press = Minus }, refl, refl)) }, refl);
+        is = refl;
+      };
+      others_set = press_apart _ _;
+      moved = refl;
+      others_moved = press_apart _ _;
+      interlock = refl;
+    };
+    not_taken = λ k. false_true k.taken;
+    asks_nothing = λ k. stamps_apart _ _ one_zero (answered Feed false at_first _ k);
+    answered_otherwise = λ k. let e : Refused (Shut Closed) ≡ Done = (answered Feed false at_first _ k).1 in cc;
+    another_stamp = λ k. zero_one (answered Feed false at_first _ k).2;
+    asks_another = λ k. let e : Done ≡ Refused (Shut Closed) = (answered Feed false at_first _ k).1 in cc;
+    busy_unasked = λ k. false_true (answered Press false at_entered _ k).0;
+    no_room_though_busy = λ k. true_false (answered Press true at_entered _ k).0;
+    changes_nothing = λ k. stamps_apart _ _ zero_one (answered Feed false at_first _ k).3;
+    another_is_set = λ k. not_so (equals _ _) refl (ap (λ (x : Side TableProgress TablePlant). x.part.lift.position) (k.others_set Table refl));
+    another_moves = λ k. not_so (equals _ _) refl (ap (λ (x : Side TableProgress TablePlant). x.part.lift.position) (k.others_moved Table refl));
+    moves_unset = λ k. true_false (ap (λ (x : Side FeedProgress Belt). x.part.runs) k.moved);
+    stays_though_set = λ k. not_so (equals _ _) refl (ap (λ (x : Side PressProgress Axis). x.part.position) k.moved);
+    moves_too_far = λ k. not_so (equals _ _) refl (ap (λ (x : Side PressProgress Axis). x.part.position) k.moved);
+    interlock_changes = λ k. stamps_apart _ _ zero_one k.interlock;
+  }
+
+  pass_examples : PassExamples
+  pass_examples = record {
+    passed = record { not_taken = refl; asked = refl; set = refl; moved = refl };
+    taken = λ k. true_false k.not_taken;
+    asks = λ k. some_none _ k.asked;
+    is_set = λ k. press_runs (ap (λ (w : CellState). (w.side Press).stopped) k.set);
+    moves = λ k. press_runs (ap (λ (w : CellState). (w.side Press).stopped) k.moved);
+  }
+
+  passed : (m : Machine) → IsPassedOver at_last (passes m at_last)
+  passed m = record { not_taken = refl; asked = refl; set = refl; moved = refl }
+
+  schedule_examples : ScheduleExamples c
+  schedule_examples = record {
+    starts = λ s. refl;
+    run = (refl, (turn_done, (refl, (turn_busy, (refl, (turn_refused, (refl, (turn_no_room, (refl, (passed Press, (refl, (passed Watch, tt))))))))))));
+    ends = refl;
+    no_turn = tt;
+    two_turns = (refl, (turn_busy, (refl, (turn_no_room, tt))));
+    turns_swapped = λ r. turn_examples.busy_unasked r.1.0;
+    steps_swapped = λ r. stamps_apart _ _ one_zero (answered Feed false at_first _ r.1.0).3;
+    turn_left_out = λ r. feed_press r.1.1.0;
+    last_left_out = λ r. r.1.1;
+    step_too_many = λ r. r.1.1;
+    all_left_out = λ r. r;
+    of_another = λ r. table_press r.0;
+    from_elsewhere = λ r. zero_one (answered Press true at_entered _ r.1.1.1.0).2;
+    stopped_goes_on = λ r. true_false r.1.0.not_taken;
+    watch_goes_on = λ r. true_false r.1.0.not_taken;
+    passed_over = λ r. false_true r.1.0.taken;
+  }
+
+  pub run_examples : RunExamples c
+  run_examples = record { turns = turn_examples; passes = pass_examples; runs = schedule_examples }

@@ -1,0 +1,133 @@
+-- What a record of the literal run has, and records that are of no run.
+use Rattle.std.specs.Prelude.{◌≡◌, ℕ, ℤ, pos, List, [], ◌∷◌, Some, None}
+use Rattle.cell_types.specs.declared.machine.Machine.{Machine}
+use Rattle.cell_types.specs.declared.machine.Machine.TheVariants.{Feed, Press, Watch}
+use Rattle.cell_types.specs.declared.zone.Zone.TheVariants.{Z1, Z3, Z6}
+use Rattle.cell_types.specs.declared.posture.Posture.TheVariants.{Closed, OpenIn}
+use Rattle.cell_types.specs.declared.call.Call.TheVariants.{Claim}
+use Rattle.cell_types.specs.declared.answer.Answer.TheVariants.{Done, Refused}
+use Rattle.cell_types.specs.declared.answer.Refusal.TheVariants.{Shut}
+use Rattle.cell_types.specs.declared.answer.Event.{Event}
+use Rattle.cell_types.specs.declared.journal.Entry.{Entry}
+use Rattle.cell_types.specs.declared.journal.Journals.{Journals}
+use Rattle.cell_types.specs.Journals.{journal_of}
+use Rattle.cell_rules.specs.ModelState.{ModelState}
+use Rattle.cell_rules.specs.History.{IsLegal, after}
+use Rattle.cell_rules.specs.Journal.{noted}
+use Rattle.cell_notes.specs.declared.counts.Counts.{Counts}
+use Rattle.cell_notes.specs.declared.run_record.RunRecord.{RunRecord}
+use Rattle.cell_notes.specs.declared.schedule.Turn.{Turn}
+use Rattle.cell_notes.specs.declared.status.Status.{Status}
+use Rattle.cell_notes.specs.declared.status.Status.TheVariants.{Fine, Memory}
+use Rattle.cell_notes.specs.Notes.{no_counts}
+use Rattle.cell_parts.specs.Axes.{CellScales}
+use Rattle.cell_parts.specs.Plant.{PlantState}
+use Rattle.cell_parts.specs.Examples.{empty_cell, at, robot_at, table_at, crane_at, held_by}
+use Rattle.cell_plant.specs.CellStates.{cell_at_start}
+use Rattle.cell_plant.specs.Cells.{TellsRun}
+use Rattle.cell_plant.specs.Records.{IsRecordOf, positions_in}
+use Rattle.cell_plant.specs.RunExamples.{opening, entered, at_last, schedule, steps, turn_of}
+
+-- ---- what is kept of the literal run
+
+-- a plant whose axes stand each somewhere else
+abbrev pub axes_apart : PlantState
+axes_apart = record empty_cell { press = at 1; robot = robot_at (at 2) (at 3) (at 4); table = table_at (at 5) (at 6); crane = crane_at (at 7) (at 8) }
+
+-- the counts of a machine, and those of all by what feed and press did
+abbrev pub counts_of : ℕ → ℕ → ℕ → ℕ → ℕ → Counts
+counts_of turns done read refused busy = record { turns = turns; done = done; read = read; refused = refused; busy = busy }
+
+abbrev pub counts_by : Counts → Counts → List Counts
+counts_by feed press = feed ∷ no_counts ∷ no_counts ∷ press ∷ no_counts ∷ no_counts ∷ no_counts ∷ []
+
+abbrev pub status_by : Status → Status → List Status
+status_by feed press = feed ∷ Fine ∷ Fine ∷ press ∷ Fine ∷ Fine ∷ Fine ∷ []
+
+-- the axes, of which the press, the robot's rotation and the gripper begin elsewhere than at 0
+abbrev pub axes_by : ℕ → ℕ → ℕ → List ℤ
+axes_by press rotation gripper = pos press ∷ pos 0 ∷ pos 0 ∷ pos rotation ∷ pos 0 ∷ pos 0 ∷ pos 0 ∷ pos gripper ∷ []
+
+abbrev pub done_entry : Entry
+done_entry = record { call = Claim Z6; answer = Done; stamp = 1 }
+
+abbrev pub refused_entry : Entry
+refused_entry = record { call = Claim Z1; answer = Refused (Shut Closed); stamp = 1 }
+
+abbrev pub journal_by : List Entry → Machine → List Entry
+journal_by feed Feed = feed
+journal_by feed _ = []
+
+abbrev pub AreJournals : Journals → List Entry → Type 0
+AreJournals journals feed = (m : Machine) → journal_of journals m ≡ journal_by feed m
+
+pub record IsOfLiteralRun (r : RunRecord) : Type 0 where
+  pub start : r.start ≡ opening
+  pub counts : r.counts ≡ counts_by (counts_of 2 1 0 1 0) (counts_of 2 0 0 0 1)
+  pub status : r.status ≡ status_by Fine Memory
+  pub journals : AreJournals r.journals (done_entry ∷ refused_entry ∷ [])
+  pub end : r.end ≡ Some entered
+  pub axes : r.axes ≡ axes_by 1000 300 900
+
+-- ---- records of which one thing is another
+
+abbrev pub IsRecord : RunRecord → Type 0
+IsRecord r = IsRecordOf opening steps at_last r
+
+abbrev pub with_feed_counts : RunRecord → Counts → RunRecord
+with_feed_counts r feed = record r { counts = counts_by feed (counts_of 2 0 0 0 1) }
+
+pub record WrongRecords (r : RunRecord) : Type 0 where
+  pub start : ¬ IsRecord (record r { start = entered })
+  pub turns : ¬ IsRecord (with_feed_counts r (counts_of 3 1 0 1 0))
+  pub done : ¬ IsRecord (with_feed_counts r (counts_of 2 2 0 1 0))
+  pub read : ¬ IsRecord (with_feed_counts r (counts_of 2 1 1 1 0))
+  pub refused : ¬ IsRecord (with_feed_counts r (counts_of 2 1 0 0 0))
+  pub busy : ¬ IsRecord (with_feed_counts r (counts_of 2 1 0 1 1))
+  pub counts_of_others : ¬ IsRecord (record r { counts = counts_by (counts_of 2 0 0 0 1) (counts_of 2 1 0 1 0) })
+  pub status : ¬ IsRecord (record r { status = status_by Fine Fine })
+  pub status_of_another : ¬ IsRecord (record r { status = status_by Memory Fine })
+  pub end : ¬ IsRecord (record r { end = Some opening })
+  pub no_end : ¬ IsRecord (record r { end = None })
+  pub axis : ¬ IsRecord (record r { axes = axes_by 1000 300 880 })
+  pub axes_swapped : ¬ IsRecord (record r { axes = axes_by 300 1000 900 })
+  pub entry_left_out : (journals : Journals) → AreJournals journals (done_entry ∷ []) → ¬ IsRecord (record r { journals = journals })
+  pub entry_twice : (journals : Journals) → AreJournals journals (done_entry ∷ refused_entry ∷ refused_entry ∷ []) → ¬ IsRecord (record r { journals = journals })
+  pub entries_swapped : (journals : Journals) → AreJournals journals (refused_entry ∷ done_entry ∷ []) → ¬ IsRecord (record r { journals = journals })
+  pub another_stamp : (journals : Journals) → AreJournals journals (done_entry ∷ record refused_entry { stamp = 0 } ∷ []) → ¬ IsRecord (record r { journals = journals })
+
+-- ---- records of runs of a schedule, and of no run of it
+
+-- the press begins at its top, but its zone is open as if it stood at its middle
+abbrev pub open_too_early : ModelState
+open_too_early = held_by Press Z3 OpenIn
+
+-- the record of a run with no turn
+abbrev pub IsOfNoTurn : ModelState → RunRecord → Type 0
+IsOfNoTurn s r = IsRecordOf s [] (cell_at_start s) r
+
+-- what is kept is of a legal history: it leads to the end, and each machine has noted its own of it
+pub record IsOfLegalHistory (opening : ModelState) (r : RunRecord) : Type 0 where
+  pub seen : List Event
+  pub legal : IsLegal opening seen
+  pub journals : (m : Machine) → journal_of r.journals m ≡ noted opening seen m
+  pub end : r.end ≡ Some (after opening seen)
+
+-- with a turn of the watch counted
+abbrev pub with_watch_counted : RunRecord → RunRecord
+with_watch_counted r = record r { counts = no_counts ∷ no_counts ∷ no_counts ∷ no_counts ∷ no_counts ∷ no_counts ∷ counts_of 1 0 0 0 0 ∷ [] }
+
+pub record RecordExamples (c : CellScales) (r : RunRecord) : Type 0 where
+  pub axes : positions_in axes_apart ≡ pos 1 ∷ pos 2 ∷ pos 3 ∷ pos 4 ∷ pos 5 ∷ pos 6 ∷ pos 7 ∷ pos 8 ∷ []
+  pub figures : IsRecord r → IsOfLiteralRun r
+  pub recorded : IsOfLiteralRun r → IsRecord r
+  pub wrong : WrongRecords r
+  pub of_run : IsOfLiteralRun r → TellsRun c opening schedule r
+  pub of_no_turn : IsOfNoTurn opening r → TellsRun c opening [] r
+  pub of_the_watch : IsOfNoTurn opening r → TellsRun c opening (turn_of Watch ∷ []) r
+  pub lawful : (s : ModelState) (turns : List Turn) → TellsRun c s turns r → IsOfLegalHistory s r
+  -- turns were made up, one was left out, one of the watch is counted, and the run begins unsafely
+  pub made_up : IsOfLiteralRun r → ¬ TellsRun c opening [] r
+  pub left_out : IsOfNoTurn opening r → ¬ TellsRun c opening (turn_of Feed ∷ []) r
+  pub watch_counted : ¬ TellsRun c opening (turn_of Watch ∷ []) (with_watch_counted r)
+  pub begins_unsafely : ¬ TellsRun c open_too_early [] r

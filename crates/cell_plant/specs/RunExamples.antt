@@ -1,0 +1,171 @@
+-- A literal run and its turns, and such as are none by one thing alone.
+use Rattle.std.specs.Prelude.{◌≡◌, true, false, List, [], ◌∷◌, Some, None, Result, Ok, Err}
+use Rattle.cell_types.specs.declared.machine.Machine.{Machine}
+use Rattle.cell_types.specs.declared.machine.Machine.TheVariants.{Feed, Table, Press, Watch}
+use Rattle.cell_types.specs.declared.zone.Zone.TheVariants.{Z1, Z3, Z6}
+use Rattle.cell_types.specs.declared.place.Place.TheVariants.{FeedEnd}
+use Rattle.cell_types.specs.declared.posture.Posture.TheVariants.{Closed, Moving}
+use Rattle.cell_types.specs.declared.call.Call.{Call}
+use Rattle.cell_types.specs.declared.call.Call.TheVariants.{Claim}
+use Rattle.cell_types.specs.declared.answer.Answer.TheVariants.{Done, Refused}
+use Rattle.cell_types.specs.declared.answer.Refusal.TheVariants.{Shut}
+use Rattle.cell_types.specs.declared.reply.Reply.{Reply}
+use Rattle.cell_types.specs.declared.reply.Reply.TheVariants.{Settled, Busy}
+use Rattle.cell_devices.specs.declared.motor.Direction.TheVariants.{Minus as Downward}
+use Rattle.cell_devices.specs.declared.motor.Motor.TheVariants.{Minus}
+use Rattle.cell_rules.specs.declared.heard.LineFault.{LineFault}
+use Rattle.cell_rules.specs.declared.heard.LineFault.TheVariants.{Memory as NoRoom}
+use Rattle.cell_rules.specs.ModelState.{ModelState}
+use Rattle.cell_rules.specs.PlaceSet.{empty, insert_place}
+use Rattle.cell_rules.specs.Start.{start_state}
+use Rattle.cell_control.specs.declared.fault.CtlFault.TheVariants.{Memory}
+use Rattle.cell_haul.specs.declared.feed_step.FeedStep.TheVariants.{ClaimExit}
+use Rattle.cell_stations.specs.declared.press_step.PressStep.TheVariants.{MoveToBottom}
+use Rattle.cell_stations.specs.PressProgram.{press_start}
+use Rattle.cell_notes.specs.declared.schedule.Turn.{Turn}
+use Rattle.cell_seat.specs.Sides.{side_of}
+use Rattle.cell_parts.specs.declared.axis.Axis.{Axis}
+use Rattle.cell_parts.specs.Axes.{CellScales}
+use Rattle.cell_parts.specs.Plant.{plant_at_start, feed_at_start, press_at_start, table_at_start}
+use Rattle.cell_parts.specs.Examples.{at, driven_at, belt_with, with_zone, all_free, held_by}
+use Rattle.cell_plant.specs.CellStates.{CellState, Sides, plant_of, side_in, sides_at_start, cell_at_start}
+use Rattle.cell_plant.specs.Runs.{Step, TakesTurn, IsPassedOver, IsRun, end_of}
+
+-- the run begins with a plate at the end of the feed belt
+abbrev pub opening : ModelState
+opening = start_state (insert_place empty FeedEnd) 0
+
+-- once the feed belt has its entry
+abbrev pub entered : ModelState
+entered = record (with_zone opening Feed Z6 Closed) { stamp = 1 }
+
+abbrev pub sides_entered : Sides
+sides_entered = record (sides_at_start opening) { feed = side_of (record { step = ClaimExit; entry = false; last = true }) None (feed_at_start opening) }
+
+-- and once the press has stopped
+abbrev pub sides_stopped : Sides
+sides_stopped = record sides_entered { press = side_of (press_start opening) (Some Memory) press_at_start }
+
+abbrev pub cell_of : ModelState → Sides → CellState
+cell_of s sides = record { interlock = s; side = side_in sides }
+
+abbrev pub at_first : CellState
+at_first = cell_at_start opening
+
+abbrev pub at_entered : CellState
+at_entered = cell_of entered sides_entered
+
+abbrev pub at_last : CellState
+at_last = cell_of entered sides_stopped
+
+-- a turn in which this was asked and came back, and in which no part moves; one that is passed over
+abbrev pub asks : Machine → Call → Result Reply LineFault → CellState → Step
+asks m c r w = record { machine = m; taken = true; asked = Some (c, r); set = w; moved = w }
+
+abbrev pub passes : Machine → CellState → Step
+passes m w = record { machine = m; taken = false; asked = None; set = w; moved = w }
+
+-- the feed belt claims its entry, the press finds the interlock busy, the feed belt is refused its exit, and for the press's
+-- claim there is no room; then the press has stopped, and the watch takes no turn
+abbrev pub claims_entry : Step
+claims_entry = asks Feed (Claim Z6) (Ok (Settled Done 1)) at_entered
+
+abbrev pub finds_busy : Step
+finds_busy = asks Press (Claim Z3) (Ok (Busy 1 1)) at_entered
+
+abbrev pub is_refused : Step
+is_refused = asks Feed (Claim Z1) (Ok (Settled (Refused (Shut Closed)) 1)) at_entered
+
+abbrev pub finds_no_room : Step
+finds_no_room = asks Press (Claim Z3) (Err NoRoom) at_last
+
+abbrev pub turn_of : Machine → Turn
+turn_of m = record { machine = m; busy = false }
+
+abbrev pub busy_turn_of : Machine → Turn
+busy_turn_of m = record { machine = m; busy = true }
+
+abbrev pub schedule : List Turn
+schedule = turn_of Feed ∷ busy_turn_of Press ∷ turn_of Feed ∷ turn_of Press ∷ turn_of Press ∷ turn_of Watch ∷ []
+
+abbrev pub steps : List Step
+steps = claims_entry ∷ finds_busy ∷ is_refused ∷ finds_no_room ∷ passes Press at_last ∷ passes Watch at_last ∷ []
+
+-- the press on its way to the bottom, from its top
+abbrev pub press_falls : Axis → CellState
+press_falls a = cell_of (held_by Press Z3 Moving) (record (sides_at_start all_free) { press = side_of (record { step = MoveToBottom; loaded = false; forged = false; direction = Downward }) None a })
+
+abbrev pub falls_to : Axis → Step
+falls_to a = record { machine = Press; taken = true; asked = None; set = press_falls (driven_at 1000 Minus); moved = press_falls a }
+
+-- ---- one turn
+
+-- the first step leads to these states instead
+abbrev pub claims_leading_to : CellState → CellState → Step
+claims_leading_to set moved = record claims_entry { set = set; moved = moved }
+
+-- with the table higher up, and with the feed belt running
+abbrev pub table_lifted : CellState
+table_lifted = cell_of entered (record sides_entered { table = record (sides_entered.table) { part = record table_at_start { lift = at 20 } } })
+
+abbrev pub feed_runs : CellState
+feed_runs = cell_of entered (record sides_entered { feed = record (sides_entered.feed) { part = belt_with (Some 900) true } })
+
+pub record TurnExamples (c : CellScales) : Type 0 where
+  pub done : TakesTurn c Feed false at_first claims_entry
+  pub busy : TakesTurn c Press true at_entered finds_busy
+  pub refused : TakesTurn c Feed false at_entered is_refused
+  pub no_room : TakesTurn c Press false at_entered finds_no_room
+  pub drives : TakesTurn c Press false (press_falls (at 1000)) (falls_to (driven_at 980 Minus))
+  -- by one thing alone it isn't the turn
+  pub not_taken : ¬ TakesTurn c Feed false at_first (record claims_entry { taken = false })
+  pub asks_nothing : ¬ TakesTurn c Feed false at_first (record claims_entry { asked = None })
+  pub answered_otherwise : ¬ TakesTurn c Feed false at_first (record claims_entry { asked = Some (Claim Z6, Ok (Settled (Refused (Shut Closed)) 1)) })
+  pub another_stamp : ¬ TakesTurn c Feed false at_first (record claims_entry { asked = Some (Claim Z6, Ok (Settled Done 0)) })
+  pub asks_another : ¬ TakesTurn c Feed false at_first (record claims_entry { asked = Some (Claim Z1, Ok (Settled Done 1)) })
+  pub busy_unasked : ¬ TakesTurn c Press false at_entered finds_busy
+  pub no_room_though_busy : ¬ TakesTurn c Press true at_entered finds_no_room
+  pub changes_nothing : ¬ TakesTurn c Feed false at_first (claims_leading_to at_first at_first)
+  pub another_is_set : ¬ TakesTurn c Feed false at_first (claims_leading_to table_lifted table_lifted)
+  pub another_moves : ¬ TakesTurn c Feed false at_first (claims_leading_to at_entered table_lifted)
+  pub moves_unset : ¬ TakesTurn c Feed false at_first (claims_leading_to at_entered feed_runs)
+  pub stays_though_set : ¬ TakesTurn c Press false (press_falls (at 1000)) (falls_to (driven_at 1000 Minus))
+  pub moves_too_far : ¬ TakesTurn c Press false (press_falls (at 1000)) (falls_to (driven_at 960 Minus))
+  pub interlock_changes : ¬ TakesTurn c Feed false at_first (claims_leading_to at_entered (cell_of opening sides_entered))
+
+pub record PassExamples : Type 0 where
+  pub passed : IsPassedOver at_last (passes Press at_last)
+  pub taken : ¬ IsPassedOver at_last (record (passes Press at_last) { taken = true })
+  pub asks : ¬ IsPassedOver at_last (record (passes Press at_last) { asked = Some (Claim Z3, Err NoRoom) })
+  pub is_set : ¬ IsPassedOver at_last (record (passes Press at_last) { set = at_entered })
+  pub moves : ¬ IsPassedOver at_last (record (passes Press at_last) { moved = at_entered })
+
+-- ---- runs
+
+pub record ScheduleExamples (c : CellScales) : Type 0 where
+  pub starts : (s : ModelState) → plant_of (cell_at_start s) ≡ plant_at_start s
+  pub run : IsRun c at_first schedule steps
+  pub ends : end_of at_first steps ≡ at_last
+  pub no_turn : IsRun c at_first [] []
+  pub two_turns : IsRun c at_entered (busy_turn_of Press ∷ turn_of Press ∷ []) (finds_busy ∷ finds_no_room ∷ [])
+  -- two turns, or their steps, in the other order; a turn left out; a step too many, and none
+  pub turns_swapped : ¬ IsRun c at_entered (turn_of Press ∷ busy_turn_of Press ∷ []) (finds_busy ∷ finds_no_room ∷ [])
+  pub steps_swapped : ¬ IsRun c at_first (turn_of Feed ∷ turn_of Feed ∷ []) (is_refused ∷ claims_entry ∷ [])
+  pub turn_left_out : ¬ IsRun c at_first schedule (claims_entry ∷ is_refused ∷ finds_no_room ∷ passes Press at_last ∷ passes Watch at_last ∷ [])
+  pub last_left_out : ¬ IsRun c at_first (turn_of Feed ∷ turn_of Watch ∷ []) (claims_entry ∷ [])
+  pub step_too_many : ¬ IsRun c at_first (turn_of Feed ∷ []) (claims_entry ∷ passes Watch at_entered ∷ [])
+  pub all_left_out : ¬ IsRun c at_first (turn_of Feed ∷ []) []
+  -- a step that is another machine's by its name alone, and one that begins elsewhere
+  pub of_another : ¬ IsRun c at_entered (busy_turn_of Press ∷ []) (record finds_busy { machine = Table } ∷ [])
+  pub from_elsewhere : ¬ IsRun c at_first (turn_of Feed ∷ busy_turn_of Press ∷ []) (claims_entry ∷ asks Press (Claim Z3) (Ok (Busy 1 0)) at_first ∷ [])
+  -- a machine that has stopped goes on, the watch takes a turn, and one that goes on is passed over
+  pub stopped_goes_on : ¬ IsRun c at_last (turn_of Press ∷ []) (finds_no_room ∷ [])
+  pub watch_goes_on : ¬ IsRun c at_last (turn_of Watch ∷ []) (record (passes Watch at_last) { taken = true } ∷ [])
+  pub passed_over : ¬ IsRun c at_entered (turn_of Press ∷ []) (passes Press at_entered ∷ [])
+
+-- ---- all of these
+
+pub record RunExamples (c : CellScales) : Type 0 where
+  pub turns : TurnExamples c
+  pub passes : PassExamples
+  pub runs : ScheduleExamples c
