@@ -10,6 +10,7 @@ use Rattle.cell_types.specs.declared.journal.Journals.{Journals}
 use Rattle.cell_types.specs.Everything.{all_machines}
 use Rattle.cell_types.specs.Same.{same_machine}
 use Rattle.cell_rules.specs.ModelState.{ModelState}
+use Rattle.cell_rules.specs.History.{IsLegal, after}
 use Rattle.cell_rules.specs.Journal.{noted}
 use Rattle.cell_notes.specs.declared.counts.Counts.{Counts}
 use Rattle.cell_notes.specs.declared.run_record.RunRecord.{RunRecord}
@@ -20,8 +21,8 @@ use Rattle.cell_notes.specs.Notes.{no_counts}
 use Rattle.cell_parts.specs.Axes.{CellScales}
 use Rattle.cell_plant.specs.CellStates.{CellState, cell_at_start}
 use Rattle.cell_plant.specs.Cells.{TellsRun}
-use Rattle.cell_plant.specs.Records.{is_turn_of, counts_in, events_in}
-use Rattle.cell_plant.specs.Runs.{Step, IsRun}
+use Rattle.cell_plant.specs.Records.{IsRecordOf, is_turn_of, counts_in, events_in}
+use Rattle.cell_plant.specs.Runs.{Step, IsRun, end_of}
 use Rattle.cell_plant.specs.Safety.{IsSafeState, IsSafeRun}
 use Rattle.cell_plant.specs.RunExamples.{opening, at_first, schedule, steps, turn_of, passes}
 use Rattle.cell_plant.specs.RecordExamples.{IsOfLiteralRun, WrongRecords, IsOfLegalHistory, RecordExamples, IsRecord, IsOfNoTurn, AreJournals, counts_of, counts_by, journal_by, done_entry, refused_entry, with_feed_counts, with_watch_counted, open_too_early}
@@ -92,47 +93,39 @@ module _ (r : RunRecord) where
   }
 
   recorded : IsOfLiteralRun r → IsRecord r
-  recorded k = record {
-    start = k.start;
-    counts = k.counts;
-    status = k.status;
-    journals = λ m. k.journals m ∙ sym (noted_is m);
-    end = k.end;
-    axes = k.axes;
+  recorded f = record {
+    start = f.start;
+    counts = f.counts;
+    status = f.status;
+    journals = λ m. f.journals m ∙ sym (noted_is m);
+    end = f.end;
+    axes = f.axes;
   }
 
   -- ---- records of runs of a schedule, and of no run of it
 
   module _ (c : CellScales) where
-    of_run : IsOfLiteralRun r → TellsRun c opening schedule r
-    of_run k = record {
-      steps = steps;
-      run = (run_examples c).runs.run;
-      told = recorded k;
-      safe = so (is_safe_run at_first steps) refl;
-      legal = (refl, (refl, tt));
-      reached = refl;
+    run_by : (turns : List Turn) (ss : List Step) → IsRun c at_first turns ss → IsRecordOf opening ss (end_of at_first ss) r → IsSafeRun at_first ss → IsLegal opening (events_in ss) → (end_of at_first ss).interlock ≡ after opening (events_in ss) → TellsRun c opening turns r
+    run_by turns ss run told safe legal reached = record {
+      steps = ss;
+      run = run;
+      told = told;
+      safe = safe;
+      legal = legal;
+      reached = reached;
     }
+
+    of_run : IsOfLiteralRun r → TellsRun c opening schedule r
+    of_run f = run_by schedule steps (run_examples c).runs.run (recorded f) (so (is_safe_run at_first steps) refl) (refl, (refl, tt)) refl
 
     of_no_turn : IsOfNoTurn opening r → TellsRun c opening [] r
-    of_no_turn k = record {
-      steps = [];
-      run = tt;
-      told = k;
-      safe = so (is_safe_run at_first []) refl;
-      legal = tt;
-      reached = refl;
-    }
+    of_no_turn n = run_by [] [] tt n (so (is_safe_run at_first []) refl) tt refl
 
     of_the_watch : IsOfNoTurn opening r → TellsRun c opening (turn_of Watch ∷ []) r
-    of_the_watch k = record {
-      steps = passes Watch at_first ∷ [];
-      run = (refl, (record { not_taken = refl; asked = refl; set = refl; moved = refl }, tt));
-      told = record { start = k.start; counts = k.counts; status = k.status; journals = k.journals; end = k.end; axes = k.axes };
-      safe = so (is_safe_run at_first (passes Watch at_first ∷ [])) refl;
-      legal = tt;
-      reached = refl;
-    }
+    of_the_watch n =
+        run_by (turn_of Watch ∷ []) (passes Watch at_first ∷ []) (refl, (record { not_taken = refl; asked = refl; set = refl; moved = refl }, tt))
+        (record { start = n.start; counts = n.counts; status = n.status; journals = n.journals; end = n.end; axes = n.axes })
+        (so (is_safe_run at_first (passes Watch at_first ∷ [])) refl) tt refl
 
     lawful : (s : ModelState) (turns : List Turn) → TellsRun c s turns r → IsOfLegalHistory s r
     lawful s turns t = record {
@@ -166,9 +159,9 @@ module _ (r : RunRecord) where
     turn_of_watch (s ∷ x ∷ ss) run e = run.1.1
     turn_of_watch (s ∷ []) run e = not_counted (is_turn_of Watch s) (ap (λ taken. taken && same_machine s.machine Watch) run.1.0.not_taken) (ap (turns_at 6) e)
 
-    first_is_safe : (w : CellState) (ss : List Step) → IsSafeRun w ss → IsSafeState w
-    first_is_safe w [] safe = safe
-    first_is_safe w (s ∷ ss) safe = safe.0
+    safe_with_no_turn : (w : CellState) (ss : List Step) → IsRun c w [] ss → IsSafeRun w ss → IsSafeState w
+    safe_with_no_turn w [] run safe = safe
+    safe_with_no_turn w (s ∷ ss) run safe = absurd run
 
 pub record_examples : (c : CellScales) (r : RunRecord) → RecordExamples c r
 record_examples c r = record {
@@ -183,5 +176,5 @@ record_examples c r = record {
   made_up = λ k t. two_turns_of_none r c t.steps t.run (sym k.counts ∙ t.told.counts);
   left_out = λ k t. no_turn_of_one r c t.steps t.run (sym k.counts ∙ t.told.counts);
   watch_counted = λ t. turn_of_watch r c t.steps t.run t.told.counts;
-  begins_unsafely = λ t. not_so (is_safe (cell_at_start open_too_early)) refl (first_is_safe r c _ t.steps t.safe);
+  begins_unsafely = λ t. not_so (is_safe (cell_at_start open_too_early)) refl (safe_with_no_turn r c _ t.steps t.run t.safe);
 }

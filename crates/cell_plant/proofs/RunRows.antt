@@ -22,18 +22,18 @@ use Rattle.cell_control.specs.declared.fault.CtlFault.TheVariants.{Memory}
 use Rattle.cell_stations.specs.declared.table_step.TableProgress.{TableProgress}
 use Rattle.cell_stations.specs.declared.press_step.PressProgress.{PressProgress}
 use Rattle.cell_notes.specs.Asks.{Asked}
-use Rattle.cell_seat.specs.Sides.{Side, side_of, side_set}
+use Rattle.cell_seat.specs.Sides.{Side, side_of, side_set, side_moved}
 use Rattle.cell_seat.specs.SeatTurns.{Answers, Takes}
 use Rattle.cell_parts.specs.declared.axis.Axis.{Axis}
 use Rattle.cell_parts.specs.declared.belt.Belt.{Belt}
 use Rattle.cell_parts.specs.Axes.{CellScales}
-use Rattle.cell_parts.specs.Examples.{at}
+use Rattle.cell_parts.specs.Examples.{at, driven_at}
 use Rattle.cell_parts.specs.Plant.{TablePlant, feed_at_start}
 use Rattle.cell_parts.specs.Shows.{FeedShows, PressShows}
 use Rattle.cell_plant.specs.Machines.{steps_of, rig_of}
 use Rattle.cell_plant.specs.CellStates.{CellState, Sides, side_in}
 use Rattle.cell_plant.specs.Runs.{Step, TakesTurn, IsPassedOver}
-use Rattle.cell_plant.specs.RunExamples.{TurnExamples, PassExamples, ScheduleExamples, RunExamples, opening, at_first, at_entered, at_last, claims_entry, finds_busy, is_refused, finds_no_room, passes}
+use Rattle.cell_plant.specs.RunExamples.{TurnExamples, PassExamples, ScheduleExamples, RunExamples, opening, at_first, at_entered, at_last, claims_entry, finds_busy, is_refused, finds_no_room, passes, press_falls, falls_to}
 use Rattle.cell_plant.proofs.Deciding.{so, not_so, equals, both, same_truth, at_most, is_true, true_false, false_true}
 
 -- ---- turns that are taken
@@ -118,44 +118,43 @@ table_press : Table ≢ Press
 table_press e = cc
 
 module _ (c : CellScales) where
-  turn_done : TakesTurn c Feed false at_first claims_entry
-  turn_done = record {
-    taken = refl;
-    takes = takes_call (steps_of c Feed) (rig_of c Feed) _ _ _ _ _ _ _ _ _ _ shows_plate refl refl (refl, refl, refl, refl) refl;
-    others_set = feed_apart _ _;
-    moved = refl;
-    others_moved = λ n e. refl;
-    interlock = refl;
+  abbrev TakesBy : (m : Machine) → Bool → CellState → Step → Type 0
+  TakesBy m busy w s = Takes (steps_of c m) (rig_of c m) busy w.interlock (w.side m) s.asked s.set.interlock (s.set.side m)
+
+  abbrev OthersStay : Machine → CellState → CellState → Type 0
+  OthersStay m w v = (n : Machine) → same_machine m n ≡ false → v.side n ≡ w.side n
+
+  -- a turn that moves no part of another machine
+  turn_by : (m : Machine) (busy : Bool) (w : CellState) (s : Step)
+      → s.taken ≡ true → TakesBy m busy w s → OthersStay m w s.set → s.moved.side m ≡ side_moved (rig_of c m) (s.set.side m) → OthersStay m s.set s.moved → s.moved.interlock ≡ s.set.interlock → TakesTurn c m busy w s
+  turn_by m busy w s taken takes others_set moved others_moved interlock = record {
+    taken = taken;
+    takes = takes;
+    others_set = others_set;
+    moved = moved;
+    others_moved = others_moved;
+    interlock = interlock;
   }
+
+  turn_done : TakesTurn c Feed false at_first claims_entry
+  turn_done = turn_by Feed _ _ _ refl (takes_call (steps_of c Feed) (rig_of c Feed) _ _ _ _ _ _ _ _ _ _ shows_plate refl refl (refl, refl, refl, refl) refl) (feed_apart _ _) refl (λ n e. refl) refl
 
   turn_busy : TakesTurn c Press true at_entered finds_busy
-  turn_busy = record {
-    taken = refl;
-    takes = takes_call (steps_of c Press) (rig_of c Press) _ _ _ _ _ _ _ _ _ _ shows_top refl refl (refl, refl, refl, refl) refl;
-    others_set = λ n e. refl;
-    moved = refl;
-    others_moved = λ n e. refl;
-    interlock = refl;
-  }
+  turn_busy = turn_by Press _ _ _ refl (takes_call (steps_of c Press) (rig_of c Press) _ _ _ _ _ _ _ _ _ _ shows_top refl refl (refl, refl, refl, refl) refl) (λ n e. refl) refl (λ n e. refl) refl
 
   turn_refused : TakesTurn c Feed false at_entered is_refused
-  turn_refused = record {
-    taken = refl;
-    takes = takes_call (steps_of c Feed) (rig_of c Feed) _ _ _ _ _ _ _ _ _ _ shows_plate refl refl (refl, refl, refl, refl) refl;
-    others_set = λ n e. refl;
-    moved = refl;
-    others_moved = λ n e. refl;
-    interlock = refl;
-  }
+  turn_refused = turn_by Feed _ _ _ refl (takes_call (steps_of c Feed) (rig_of c Feed) _ _ _ _ _ _ _ _ _ _ shows_plate refl refl (refl, refl, refl, refl) refl) (λ n e. refl) refl (λ n e. refl) refl
 
   turn_no_room : TakesTurn c Press false at_entered finds_no_room
-  turn_no_room = record {
-    taken = refl;
-    takes = takes_call (steps_of c Press) (rig_of c Press) _ _ _ _ _ _ _ _ _ _ shows_top refl refl (refl, refl) refl;
-    others_set = press_apart _ _;
-    moved = refl;
-    others_moved = λ n e. refl;
-    interlock = refl;
+  turn_no_room = turn_by Press _ _ _ refl (takes_call (steps_of c Press) (rig_of c Press) _ _ _ _ _ _ _ _ _ _ shows_top refl refl (refl, refl) refl) (press_apart _ _) refl (λ n e. refl) refl
+
+  drives_down : TakesBy Press false (press_falls (at 1000)) (falls_to (driven_at 980 Minus))
+  drives_down = record {
+    sense = at_top;
+    shows = shows_top;
+    turned = _;
+    row = (Ok (_, record { press = Minus }), record { sensed = Ok at_top; senses = refl; performs = ((refl, refl), (record { press = Minus }, refl, refl)) }, refl);
+    is = refl;
   }
 
   -- ---- turns that aren't
@@ -181,20 +180,7 @@ module _ (c : CellScales) where
     busy = turn_busy;
     refused = turn_refused;
     no_room = turn_no_room;
-    drives = record {
-      taken = refl;
-      takes = record {
-        sense = at_top;
-        shows = shows_top;
-        turned = _;
-        row = (Ok (_, record { press = Minus }), record { sensed = Ok at_top; senses = refl; performs = ((refl, refl), (record { press = Minus }, refl, refl)) }, refl);
-        is = refl;
-      };
-      others_set = press_apart _ _;
-      moved = refl;
-      others_moved = press_apart _ _;
-      interlock = refl;
-    };
+    drives = turn_by Press _ _ _ refl drives_down (press_apart _ _) refl (press_apart _ _) refl;
     not_taken = λ k. false_true k.taken;
     asks_nothing = λ k. stamps_apart _ _ one_zero (answered Feed false at_first _ k);
     answered_otherwise = λ k. let e : Refused (Shut Closed) ≡ Done = (answered Feed false at_first _ k).1 in cc;
