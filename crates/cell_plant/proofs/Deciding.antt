@@ -23,6 +23,10 @@ pub not_so : {A : Type 0} (d : Dec A) → is_yes d ≡ false → ¬ A
 not_so (yes a) e = cc
 not_so (no n) e = n
 
+-- what says nothing
+abbrev pub surely : Dec (Unit {0})
+surely = yes tt
+
 -- facts that are made of others
 abbrev pub like : {A B : Type 0} → (A → B) → (B → A) → Dec A → Dec B
 like f g (yes a) = yes (f a)

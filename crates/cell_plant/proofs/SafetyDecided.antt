@@ -25,7 +25,7 @@ use Rattle.cell_plant.specs.Errands.{errand_of}
 use Rattle.cell_plant.specs.Runs.{Step}
 use Rattle.cell_plant.specs.Safety.{IsSafeState, IsSafelySet, IsSafeRun}
 use Rattle.cell_plant.specs.SafetyExamples.{IsClear, IsWithinEnds, HasPositions, HasMotors, OnlyCollides, OnlyPastEnd, OnlyPositionUnmet, OnlyMotorUnmet, StandsWithin, OnlySetIsUnsafe, OnlyStepIsUnsafe, cell_with, before_first}
-use Rattle.cell_plant.proofs.Deciding.{like, both, all_three, either, denied, given, same_truth, at_most, less, is_true, is_false, equals, in_posture, is_off, is_plus, is_minus}
+use Rattle.cell_plant.proofs.Deciding.{surely, like, both, all_three, either, denied, given, same_truth, at_most, less, is_true, is_false, equals, in_posture, is_off, is_plus, is_minus}
 
 -- ---- one state
 
@@ -112,7 +112,7 @@ positions_have s p =
     (both (same_truth (is_true (is_some p.feed.last)) (is_true (is_full s FeedEnd))) (same_truth (is_true (is_some p.deposit.last)) (is_true (is_full s DepEnd)))))))))
 
 abbrev errand_has : (errand : GripperErrand) (s : ModelState) → Dec (ErrandDemands errand s)
-errand_has ForTravel s = yes tt
+errand_has ForTravel s = surely
 errand_has AtDeposit s = holds_in OpenOut s Crane Z5
 errand_has AtFeed s = holds_in OpenIn s Crane Z6
 
