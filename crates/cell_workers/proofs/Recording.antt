@@ -187,7 +187,6 @@ module _ (c : CellScales) (i : InterlockView) (limit : ℕ) (gate : Machine → 
         record {
           interlock = i;
           opened = refl;
-          limited = refl;
           last = last;
           fares = fares;
           works = works;

@@ -4,3 +4,4 @@ pub mod Workers
 pub mod Records
 pub mod Backs
 pub mod Promises
+pub mod Laws

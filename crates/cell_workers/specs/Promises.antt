@@ -1,5 +1,5 @@
 -- What the workers of six machines are ready for, and what they promise to give back.
-use Rattle.std.specs.Prelude.{◌≡◌, ℕ}
+use Rattle.std.specs.Prelude.{◌≡◌, ℕ, Option, None}
 use Rattle.cell_types.specs.declared.machine.Machine.{Machine}
 use Rattle.cell_interlock.specs.Views.{PassView, InterlockView}
 use Rattle.cell_interlock.specs.declared.pass.Passes.{Passes}
@@ -36,6 +36,14 @@ pub record GiveBack {W1 W2 W3 W4 W5 W6 : Type 0} (gives1 : GivesOf W1 FeedPart) 
   pub press : gives4 workers.press passes.press tries (gate passes.press.machine) turns six.press
   pub deposit : gives5 workers.deposit passes.deposit tries (gate passes.deposit.machine) turns six.deposit
   pub crane : gives6 workers.crane passes.crane tries (gate passes.crane.machine) turns six.crane
+
+-- workers are started one after another: after the first that couldn't be started none is
+pub record AreStartedInTurn {A B C D E F : Type 0} (started : Each (Option A) (Option B) (Option C) (Option D) (Option E) (Option F)) : Type 0 where
+  pub table : started.feed ≡ None → started.table ≡ None
+  pub robot : started.table ≡ None → started.robot ≡ None
+  pub press : started.robot ≡ None → started.press ≡ None
+  pub deposit : started.press ≡ None → started.deposit ≡ None
+  pub crane : started.deposit ≡ None → started.crane ≡ None
 
 -- a promise is of this worker, by this pass
 pub record IsPromised {W G : Type 0} (interlock : InterlockView) (gate : G) (turns : ℕ) (pass : PassView) (worker : W) (p : Promised W G) : Type 0 where

@@ -46,7 +46,6 @@ parts_at_ends last =
 pub record TellsWork (scales : CellScales) (opening : ModelState) (tries limit : ℕ) (gate : Machine → GateOf) (r : RunRecord) : Type 0 where
   pub interlock : InterlockView
   pub opened : interlock.opening ≡ opening
-  pub limited : interlock.tries ≡ tries
   pub last : (m : Machine) → MomentOf m
   pub fares : Machine → Status
   pub works : (m : Machine) → is_at_work m ≡ true → HasWorked (passes tries) (steps_of scales m) (rig_of scales m) (gate m) limit (first_moment interlock m) (last m) (fares m)

@@ -4,6 +4,7 @@
 pub mod fault;
 pub mod gate;
 mod labour;
+pub mod laws;
 pub mod run;
 mod six;
 mod start;

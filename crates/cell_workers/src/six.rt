@@ -6,7 +6,7 @@ ghost use Rattle.cell_notes.specs.declared.status.Status.{Status};
 ghost use Rattle.cell_notes.specs.Notes.{no_counts};
 ghost use Rattle.cell_plant.specs.Records.{positions_in};
 ghost use Rattle.cell_workers.specs.Backs.{journal_in, parts_in};
-ghost use Rattle.cell_workers.specs.Promises.{AreReady, GiveBack, IsKept, IsPromised};
+ghost use Rattle.cell_workers.specs.Promises.{AreReady, AreStartedInTurn, GiveBack, IsKept, IsPromised};
 ghost use Rattle.cell_interlock.specs.Fresh.{AreFresh};
 
 use crate::gate::Gate;
@@ -134,6 +134,7 @@ where
     ensures robot { IfSome result.robot (λ h. IsPromised orders.now.interlock.now orders.now.gate.now orders.now.turns passes.robot workers.robot h.promise) }
     ensures press { IfSome result.press (λ h. IsPromised orders.now.interlock.now orders.now.gate.now orders.now.turns passes.press workers.press h.promise) }
     ensures deposit { IfSome result.deposit (λ h. IsPromised orders.now.interlock.now orders.now.gate.now orders.now.turns passes.deposit workers.deposit h.promise) }
+    ensures in_turn { AreStartedInTurn result }
     ensures crane { IfSome result.crane (λ h. IsPromised orders.now.interlock.now orders.now.gate.now orders.now.turns passes.crane workers.crane h.promise) }
 {
     let mut all_run = true;

@@ -1,5 +1,5 @@
 //! Starts workers in threads, and joins them.
-ghost use Rattle.std.specs.Prelude.{◌≡◌, [], IfSome, Some};
+ghost use Rattle.std.specs.Prelude.{◌≡◌, [], IfSome, Some, None, false};
 ghost use Rattle.cell_workers.specs.Promises.{IsPromised};
 
 use crate::gate::Gate;
@@ -52,7 +52,9 @@ where
     requires table { pass.table ≡ orders.now.interlock.now.table }
     requires fresh { pass.seen ≡ [] }
     requires ready { W.is_ready worker pass }
-    ensures { IfSome result (λ h. IsPromised orders.now.interlock.now orders.now.gate.now orders.now.turns pass worker h.promise) }
+    ensures failed { result ≡ None → all_run.new ≡ false }
+    ensures none_after { all_run.old ≡ false → result ≡ None }
+    ensures promised { IfSome result (λ h. IsPromised orders.now.interlock.now orders.now.gate.now orders.now.turns pass worker h.promise) }
 {
     if !*all_run {
         return None;

@@ -1,0 +1,284 @@
+-- What a record of six workers tells.
+use Rattle.std.proofs.Common.{◌≡◌, ℕ, ℤ, pos, true, false, inl, inr, [], ◌∷◌, map, get_or, Option, Some, None, Result, Ok, Err, refl, sym, ap, subst, ◌∙◌, arith}
+use Rattle.std.specs.Prelude.{slice_get}
+use Rattle.cell_types.specs.declared.machine.Machine.{Machine}
+use Rattle.cell_types.specs.declared.machine.Machine.TheVariants.{Feed, Table, Robot, Press, Deposit, Crane, Watch}
+use Rattle.cell_types.specs.declared.call.Call.{Call}
+use Rattle.cell_types.specs.declared.answer.Event.{Event}
+use Rattle.cell_types.specs.declared.reply.Reply.{Reply}
+use Rattle.cell_types.specs.Everything.{all_machines}
+use Rattle.cell_types.specs.Journals.{journal_of}
+use Rattle.cell_calib.specs.declared.sense.SensorFault.{SensorFault}
+use Rattle.cell_calib.specs.declared.sense.CraneSense.{CraneSense}
+use Rattle.cell_calib.specs.Scale.{Scale}
+use Rattle.cell_calib.specs.Line.{IsReading}
+use Rattle.cell_rules.specs.declared.heard.LineFault.{LineFault}
+use Rattle.cell_rules.specs.ModelState.{ModelState}
+use Rattle.cell_rules.specs.PlaceSet.{empty}
+use Rattle.cell_rules.specs.Start.{start_state}
+use Rattle.cell_rules.specs.Journal.{noted}
+use Rattle.cell_rules.specs.Laws.{Lawful}
+use Rattle.cell_rules.proofs.Assembly.{lawful}
+use Rattle.cell_rules.proofs.Histories.{throughout}
+use Rattle.cell_interlock.specs.Views.{InterlockView}
+use Rattle.cell_interlock.specs.Lines.{PassAsks}
+use Rattle.cell_control.specs.Steps.{Steps}
+use Rattle.cell_control.specs.Turns.{Performed, PerformsSensed, Turned, Turns, turned}
+use Rattle.cell_devices.specs.declared.motor.Motor.{Motor}
+use Rattle.cell_devices.specs.declared.motor.Motor.TheVariants.{Off}
+use Rattle.cell_devices.specs.declared.act.CraneAct.{CraneAct}
+use Rattle.cell_haul.specs.declared.crane_step.CraneProgress.{CraneProgress}
+use Rattle.cell_haul.specs.declared.crane_step.CraneReading.{CraneReading}
+use Rattle.cell_haul.specs.CraneProgram.{crane_start, crane_steps}
+use Rattle.cell_robot.specs.RobotProgram.{robot_start}
+use Rattle.cell_parts.specs.declared.axis.Axis.{Axis}
+use Rattle.cell_parts.specs.Plant.{CranePlant, moved_to}
+use Rattle.cell_parts.specs.Rigs.{crane_rig}
+use Rattle.cell_seat.specs.Sides.{act_or_rest, noting, side_moved}
+use Rattle.cell_notes.specs.declared.counts.Counts.{Counts}
+use Rattle.cell_notes.specs.declared.run_record.RunRecord.{RunRecord}
+use Rattle.cell_notes.specs.declared.status.Status.{Status}
+use Rattle.cell_notes.specs.declared.status.Status.TheVariants.{Fine, GateLimit}
+use Rattle.cell_notes.specs.Asks.{done_in}
+use Rattle.cell_notes.specs.Notes.{no_counts}
+use Rattle.cell_parts.specs.Axes.{CellScales, crane_end}
+use Rattle.cell_plant.specs.Machines.{steps_of, rig_of}
+use Rattle.cell_plant.specs.Records.{positions_in}
+use Rattle.cell_plant.specs.Runs.{is_at_work}
+use Rattle.cell_workers.specs.Lines.{passes}
+use Rattle.cell_workers.specs.Workers.{TakesTurn, HasWorked, Ends, AreCountsOf}
+use Rattle.cell_workers.specs.Records.{MomentOf, first_moment, parts_at_ends, TellsWork}
+use Rattle.cell_workers.specs.Laws.{Rule, by_rule, TellsNothingDone, HadTurns, HasAtMost, first_call, TellsFirstTurns, RecordsTellTurns, TurnsAreTaken}
+use Rattle.cell_workers.proofs.FirstSteps.{within, ends_fine, ends_kept_out, fine_at_once, shut_at_once, ends_begun, answers_along, let_in_along, still, shut_still, once, stays, own_at_first, noted_at_most, busy_lost, busy_counted}
+
+-- two lists of the machines' values agree at each machine
+each_same : {A : Type 0} → (f g : Machine → A) → map f all_machines ≡ map g all_machines → (m : Machine) → f m ≡ g m
+each_same f g e Feed = ap (λ xs. get_or xs 0 (f Feed)) e
+each_same f g e Table = ap (λ xs. get_or xs 1 (f Table)) e
+each_same f g e Robot = ap (λ xs. get_or xs 2 (f Robot)) e
+each_same f g e Press = ap (λ xs. get_or xs 3 (f Press)) e
+each_same f g e Deposit = ap (λ xs. get_or xs 4 (f Deposit)) e
+each_same f g e Crane = ap (λ xs. get_or xs 5 (f Crane)) e
+each_same f g e Watch = ap (λ xs. get_or xs 6 (f Watch)) e
+
+module _ (c : CellScales) (opening : ModelState) (tries limit : ℕ) (lets : Rule) (r : RunRecord) where
+  abbrev Works : Type 0
+  Works = TellsWork c opening tries limit (by_rule lets) r
+
+  -- ---- where each machine stays at its start
+
+  module _ (fares : Status) where
+    -- nothing but that it fares so can come of a worker
+    abbrev Rests : Type 0
+    Rests = (m : Machine) (first last : MomentOf m) (s : Status) → first.side.stopped ≡ None → first.counts.turns ≡ 0 → HasWorked (passes tries) (steps_of c m) (rig_of c m) (by_rule lets m) limit first last s → (last ≡ first) × (s ≡ fares)
+
+    module _ (rests : Rests) (k : Works) where
+      abbrev first : (m : Machine) → MomentOf m
+      first m = first_moment k.interlock m
+
+      rest_of : (m : Machine) → is_at_work m ≡ true → (first m).side.stopped ≡ None → (k.last m ≡ first m) × (k.fares m ≡ fares)
+      rest_of m e runs = rests m (first m) (k.last m) (k.fares m) runs refl (k.works m e)
+
+      lasts : (m : Machine) → k.last m ≡ first m
+      lasts Feed = (rest_of Feed refl refl).0
+      lasts Table = (rest_of Table refl refl).0
+      lasts Robot = (rest_of Robot refl refl).0
+      lasts Press = (rest_of Press refl refl).0
+      lasts Deposit = (rest_of Deposit refl refl).0
+      lasts Crane = (rest_of Crane refl refl).0
+      lasts Watch = k.watch_rests.0
+
+      counted : (m : Machine) → (k.last m).counts ≡ no_counts
+      counted m = ap (λ (x : MomentOf m). x.counts) (lasts m)
+
+      seen_nothing : (m : Machine) → journal_of r.journals m ≡ []
+      seen_nothing m = k.journals m ∙ ap (λ (x : MomentOf m). noted opening x.line.seen m) (lasts m)
+
+      pub nothing_done : TellsNothingDone opening fares r
+      nothing_done =
+          record {
+            sound = (k.lawful Watch [] (k.last Watch).line.seen refl).stays_sound;
+            start = k.start;
+            counts = k.counts ∙ (λ x. counted Feed x ∷ counted Table x ∷ counted Robot x ∷ counted Press x ∷ counted Deposit x ∷ counted Crane x ∷ counted Watch x ∷ []);
+            status = k.status ∙ (λ x. (rest_of Feed refl refl).1 x ∷ (rest_of Table refl refl).1 x ∷ (rest_of Robot refl refl).1 x ∷ (rest_of Press refl refl).1 x ∷ (rest_of Deposit refl refl).1 x ∷ (rest_of Crane refl refl).1 x ∷ k.watch_rests.1 x ∷ []);
+            journals = seen_nothing;
+            end = k.end;
+            axes = k.axes ∙ (λ x. positions_in (parts_at_ends (λ m. lasts m x)));
+          }
+
+    -- a worker may end at once, and fare so
+    abbrev fares_so : Machine → Status
+    fares_so Watch = Fine
+    fares_so _ = fares
+
+    module _ (ends : (m : Machine) → Ends (by_rule lets m) limit None 0 fares) (k : TellsNothingDone opening fares r) where
+      abbrev interlock : InterlockView
+      interlock = record { table = record { words = 0; slots = 0; views_name = 0; atom = 0; block = 0; offset = 0; slot_names = [] }; opening = opening; tries = tries }
+
+      abbrev at : (m : Machine) → MomentOf m
+      at m = first_moment interlock m
+
+      works : (m : Machine) → is_at_work m ≡ true → HasWorked (passes tries) (steps_of c m) (rig_of c m) (by_rule lets m) limit (at m) (at m) (fares_so m)
+      works Feed e = stays tries (steps_of c Feed) (rig_of c Feed) (by_rule lets Feed) limit (at Feed) fares (ends Feed)
+      works Table e = stays tries (steps_of c Table) (rig_of c Table) (by_rule lets Table) limit (at Table) fares (ends Table)
+      works Robot e = stays tries (steps_of c Robot) (rig_of c Robot) (by_rule lets Robot) limit (at Robot) fares (ends Robot)
+      works Press e = stays tries (steps_of c Press) (rig_of c Press) (by_rule lets Press) limit (at Press) fares (ends Press)
+      works Deposit e = stays tries (steps_of c Deposit) (rig_of c Deposit) (by_rule lets Deposit) limit (at Deposit) fares (ends Deposit)
+      works Crane e = stays tries (steps_of c Crane) (rig_of c Crane) (by_rule lets Crane) limit (at Crane) fares (ends Crane)
+      works Watch e = cc
+
+      pub told : Works
+      told =
+          record {
+            interlock = interlock;
+            opened = refl;
+            last = at;
+            fares = fares_so;
+            works = works;
+            watch_rests = (refl, refl);
+            lawful = λ m. throughout opening (Lawful opening) (lawful opening k.sound) [] tt;
+            start = k.start;
+            counts = k.counts;
+            status = k.status;
+            journals = k.journals;
+            counted = λ m. subst (λ j. AreCountsOf j no_counts) (sym (k.journals m)) (record { done = refl; read = refl; refused = refl });
+            end = k.end;
+            axes = k.axes;
+          }
+
+  -- ---- the turns of a machine
+
+  pub had_turns : (k : Works) (m : Machine) (did : Counts) (fares : Status) → (k.last m).counts ≡ did → k.fares m ≡ fares → is_at_work m ≡ true → HadTurns limit (lets m) did fares (journal_of r.journals m)
+  had_turns k m did fares counts status e =
+      let worked = k.works m e in
+      let first = first_moment k.interlock m in
+      let last = k.last m in
+      let stopped = last.side.stopped in
+      let came : HadTurns limit (lets m) last.counts (k.fares m) (journal_of r.journals m) =
+      record {
+        within = within (by_rule lets m) limit stopped last.counts.turns (k.fares m) worked.ends;
+        let_in = λ turn less. sym (let_in_along tries (steps_of c m) (rig_of c m) (by_rule lets m) first last worked.come refl turn less);
+        fine = ends_fine (by_rule lets m) limit stopped last.counts.turns (k.fares m) worked.ends;
+        kept_out = λ out. let kept = ends_kept_out (by_rule lets m) limit stopped last.counts.turns (k.fares m) worked.ends out in (kept.0, sym kept.1);
+        one_answer_each = answers_along tries (steps_of c m) (rig_of c m) (by_rule lets m) first last worked.come (omega arith);
+        counted = k.counted m;
+      } in
+      subst (λ d. HadTurns limit (lets m) d fares (journal_of r.journals m)) counts (subst (λ x. HadTurns limit (lets m) last.counts x (journal_of r.journals m)) status came)
+
+-- ---- no turn
+
+module _ (c : CellScales) (tries : ℕ) (m : Machine) where
+  no_turn_left : (lets : Rule) (first last : MomentOf m) (s : Status) → first.side.stopped ≡ None → first.counts.turns ≡ 0 → HasWorked (passes tries) (steps_of c m) (rig_of c m) (by_rule lets m) 0 first last s → (last ≡ first) × (s ≡ Fine)
+  no_turn_left lets first last s runs none k =
+      let gate = by_rule lets m in
+      let few = within gate 0 last.side.stopped last.counts.turns s k.ends in
+      let same = still tries (steps_of c m) (rig_of c m) gate first last k.come (omega (arith, few, none)) in
+      (same, fine_at_once gate s (ends_begun tries (steps_of c m) (rig_of c m) gate 0 first last s same runs none k.ends))
+
+  never_let_in : (first last : MomentOf m) (s : Status) → first.side.stopped ≡ None → first.counts.turns ≡ 0 → HasWorked (passes tries) (steps_of c m) (rig_of c m) (by_rule (λ n turn. false) m) 5 first last s → (last ≡ first) × (s ≡ GateLimit)
+  never_let_in first last s runs none k =
+      let gate = by_rule (λ n turn. false) m in
+      let same = shut_still tries (steps_of c m) (rig_of c m) gate (λ turn e. cc) first last k.come in
+      (same, shut_at_once gate s (ends_begun tries (steps_of c m) (rig_of c m) gate 5 first last s same runs none k.ends))
+
+-- ---- the first turns in a cell without plates
+
+-- with no plate the crane's first step doesn't travel
+abbrev raising : CraneProgress
+raising = crane_start (start_state empty 0)
+
+module _ (scale : Scale) where
+  abbrev told_travel : Turned CraneProgress CraneAct → Motor
+  told_travel w = (act_or_rest ((crane_steps scale (IsReading scale)).rest raising) w.result).travel
+
+  module _ (same : Type 0) (asks : Call → Result Reply LineFault → Type 0) (w : Turned CraneProgress CraneAct) where
+    travel_off : (sensed : Result CraneReading SensorFault) (r : Performed CraneProgress CraneAct) → PerformsSensed (crane_steps scale (IsReading scale)) sensed same asks raising r → w ≡ turned raising r → told_travel w ≡ Off
+    travel_off (Err fault) r h e = ap told_travel e ∙ ap (λ x. told_travel (turned raising x)) h.1
+    travel_off (Ok reading) r h e = ap told_travel e ∙ ap (λ x. told_travel (turned raising x)) h.1.2 ∙ h.1.1.travel
+
+  noted_by_crane : (b : CranePlant) (e : Option Event) → noting (crane_rig scale) b e ≡ b
+  noted_by_crane b None = refl
+  noted_by_crane b (Some e) = refl
+
+module _ (c : CellScales) (tries : ℕ) (lets : Rule) (r : RunRecord) (k : TellsWork c (start_state empty 0) tries 1 (by_rule lets) r) where
+  abbrev begins : (m : Machine) → MomentOf m
+  begins m = first_moment k.interlock m
+
+  called : (m : Machine) → is_at_work m ≡ true → (steps_of c m).call (begins m).side.progress ≡ first_call m → HasAtMost (first_call m) (journal_of r.journals m)
+  called m e is =
+      subst (HasAtMost (first_call m)) (sym (k.journals m))
+      (noted_at_most (first_call m) (start_state empty 0) (k.last m).line.seen m
+      (own_at_first tries (steps_of c m) (rig_of c m) (by_rule lets m) (first_call m) (begins m) (k.last m) (k.fares m) refl refl is (k.works m e)))
+
+  calls : (m : Machine) → HasAtMost (first_call m) (journal_of r.journals m)
+  calls Feed = called Feed refl refl
+  calls Table = called Table refl refl
+  calls Robot = called Robot refl (ap (λ s. (steps_of c Robot).call (robot_start s)) k.opened)
+  calls Press = called Press refl refl
+  calls Deposit = called Deposit refl refl
+  calls Crane = called Crane refl (ap (λ s. (steps_of c Crane).call (crane_start s)) k.opened)
+  calls Watch = subst (HasAtMost None) (sym (k.journals Watch ∙ ap (λ (x : MomentOf Watch). noted (start_state empty 0) x.line.seen Watch) k.watch_rests.0)) tt
+
+  abbrev crane : Steps CraneProgress CraneSense CraneReading CraneAct
+  crane = crane_steps c.gripper (IsReading c.gripper)
+
+  abbrev travelled : MomentOf Crane → ℤ
+  travelled m = m.side.part.travel.position
+
+  stands_in_turn : TakesTurn (passes tries) crane (crane_rig c.gripper) (by_rule lets Crane) (begins Crane) (k.last Crane) → travelled (k.last Crane) ≡ pos 0
+  stands_in_turn turn =
+      let before = begins Crane in
+      let acts = turn.row.acts in
+      let b = before.side.part in
+      let rig = crane_rig c.gripper in
+      let Row : CraneProgress → Type 0 = λ p. Turns crane ((k.last Crane).line ≡ before.line × (turn.asked ≡ None)) (λ call answer. PassAsks tries before.line call answer (k.last Crane).line × (turn.asked ≡ Some (call, answer))) None p acts.sense acts.turned in
+      let row : Row raising = subst (λ s. Row (crane_start s)) k.opened acts.row in
+      let off = travel_off c.gripper _ _ acts.turned row.1.sensed row.0 row.1.performs row.2 in
+      let rests : (act_or_rest (crane.rest before.side.progress) acts.turned.result).travel ≡ Off = subst (λ s. (act_or_rest (crane.rest (crane_start s)) acts.turned.result).travel ≡ Off) (sym k.opened) off in
+      let noted_so = noting rig b (done_in Crane turn.asked) in
+      ap (λ side. side.part.travel.position) turn.row.moved
+      ∙ ap (λ side. (side_moved rig side).part.travel.position) acts.is
+      ∙ ap (λ motor. moved_to crane_end noted_so.travel.position motor) rests
+      ∙ ap (λ (x : CranePlant). x.travel.position) (noted_by_crane c.gripper b (done_in Crane turn.asked))
+
+  stands : travelled (k.last Crane) ≡ pos 0
+  stands =
+      let worked = k.works Crane refl in
+      let few = within (by_rule lets Crane) 1 (k.last Crane).side.stopped (k.last Crane).counts.turns (k.fares Crane) worked.ends in
+      elim (once tries crane (crane_rig c.gripper) (by_rule lets Crane) (begins Crane) (k.last Crane) worked.come (omega (arith, few))) as (λ _. travelled (k.last Crane) ≡ pos 0) [
+        | inl same ↦ ap travelled same
+        | inr turn ↦ stands_in_turn turn
+      ]
+
+  pub first_turns : TellsFirstTurns r
+  first_turns = record { calls = calls; crane = ap (λ xs. slice_get xs 6) k.axes ∙ ap (λ x. Some x) stands }
+
+pub records_tell : RecordsTellTurns
+records_tell =
+    record {
+      no_turns = λ c opening tries lets r. (
+        λ k. nothing_done c opening tries 0 lets r Fine (λ m first last s. no_turn_left c tries m lets first last s) k,
+        λ t. told c opening tries 0 lets r Fine (λ m. inl (refl, refl)) t,
+      );
+      shut = λ c opening tries r. (
+        λ k. nothing_done c opening tries 5 (λ m turn. false) r GateLimit (λ m first last s. never_let_in c tries m first last s) k,
+        λ t. told c opening tries 5 (λ m turn. false) r GateLimit (λ m. inr (refl, omega arith, refl)) t,
+      );
+      turns = λ c opening tries limit lets r did fares k counts status m e.
+          had_turns c opening tries limit lets r k m (did m) (fares m) (each_same (λ n. (k.last n).counts) did (sym k.counts ∙ counts) m) (each_same k.fares fares (sym k.status ∙ status) m) e;
+      first = first_turns;
+    }
+
+-- ---- one turn
+
+pub turns_taken : TurnsAreTaken
+turns_taken =
+    record {
+      stopped = λ c tries lets m before now fault e turn. let lie : None ≡ Some fault = sym turn.runs ∙ e in cc;
+      kept_out = λ c tries lets m before now e turn. let lie : true ≡ false = turn.let_in ∙ e in cc;
+      busy = λ c tries lets m before now turn call lost stamp e.
+          (busy_lost tries (steps_of c m) (rig_of c m) (by_rule lets m) before now turn call lost stamp e, busy_counted tries (steps_of c m) (rig_of c m) (by_rule lets m) before now turn call lost stamp e);
+      press = λ c tries lets before now turn runs on.
+          let told = turn.motor_demands runs in
+          told.motor_demands (λ off. on (ap (λ (a : Axis). a.motor) told.told ∙ off));
+    }

@@ -1,0 +1,5 @@
+use Rattle.cell_workers.proofs.Telling.{records_tell}
+use Rattle.cell_workers.proofs.laws.records_tell_turns.Goals as goal
+
+pub returns : goal.returns
+returns c = records_tell

@@ -1,0 +1,99 @@
+-- What a record of six workers tells, in figures: the statements.
+use Rattle.std.specs.Prelude.{◌≡◌, ◌≢◌, ℕ, ◌+◌, ◌<◌, ◌≤◌, ◌↔◌, pos, Bool, true, false, List, [], ◌∷◌, map, Option, Some, None, Ok, ⊤, slice_get}
+use Rattle.cell_types.specs.declared.machine.Machine.{Machine}
+use Rattle.cell_types.specs.declared.machine.Machine.TheVariants.{Feed, Table, Robot, Press, Deposit, Crane, Watch}
+use Rattle.cell_types.specs.declared.zone.Zone.TheVariants.{Z1, Z3, Z4, Z6}
+use Rattle.cell_types.specs.declared.call.Call.{Call}
+use Rattle.cell_types.specs.declared.call.Call.TheVariants.{Claim}
+use Rattle.cell_types.specs.declared.journal.Entry.{Entry}
+use Rattle.cell_types.specs.declared.reply.Reply.TheVariants.{Busy}
+use Rattle.cell_types.specs.Everything.{all_machines}
+use Rattle.cell_types.specs.Journals.{journal_of}
+use Rattle.cell_rules.specs.ModelState.{ModelState}
+use Rattle.cell_rules.specs.PlaceSet.{empty}
+use Rattle.cell_rules.specs.Start.{start_state}
+use Rattle.cell_rules.specs.Sound.{IsSound}
+use Rattle.cell_rules.specs.History.{Holds, PressMoves}
+use Rattle.cell_control.specs.declared.fault.CtlFault.{CtlFault}
+use Rattle.cell_devices.specs.declared.motor.Motor.TheVariants.{Off}
+use Rattle.cell_notes.specs.declared.counts.Counts.{Counts}
+use Rattle.cell_notes.specs.declared.run_record.RunRecord.{RunRecord}
+use Rattle.cell_notes.specs.declared.status.Status.{Status}
+use Rattle.cell_notes.specs.declared.status.Status.TheVariants.{Fine, GateLimit}
+use Rattle.cell_notes.specs.Notes.{no_counts}
+use Rattle.cell_parts.specs.Axes.{CellScales}
+use Rattle.cell_plant.specs.Machines.{steps_of, rig_of}
+use Rattle.cell_plant.specs.Runs.{is_at_work}
+use Rattle.cell_workers.specs.Lines.{passes}
+use Rattle.cell_workers.specs.Workers.{GateOf, TakesTurn, AreCountsOf}
+use Rattle.cell_workers.specs.Records.{MomentOf, TellsWork}
+
+-- gates by a rule: which of its turns a machine may begin
+abbrev pub Rule : Type 0
+Rule = Machine → ℕ → Bool
+
+abbrev pub by_rule : Rule → Machine → GateOf
+by_rule lets m turn answer = answer ≡ lets m turn
+
+-- a record in which nothing was done, and the six fare so
+pub record TellsNothingDone (opening : ModelState) (fares : Status) (r : RunRecord) : Type 0 where
+  pub sound : IsSound opening
+  pub start : r.start ≡ opening
+  pub counts : r.counts ≡ no_counts ∷ no_counts ∷ no_counts ∷ no_counts ∷ no_counts ∷ no_counts ∷ no_counts ∷ []
+  pub status : r.status ≡ fares ∷ fares ∷ fares ∷ fares ∷ fares ∷ fares ∷ Fine ∷ []
+  pub journals : (m : Machine) → journal_of r.journals m ≡ []
+  pub end : r.end ≡ None
+  pub axes : r.axes ≡ pos 1000 ∷ pos 0 ∷ pos 0 ∷ pos 300 ∷ pos 0 ∷ pos 0 ∷ pos 0 ∷ pos 900 ∷ []
+
+-- what came back of its calls
+abbrev pub answers_in : Counts → ℕ
+answers_in c = c.done + c.read + c.refused + c.busy
+
+-- the turns of a machine, by how many it may have and which its gate lets it begin
+pub record HadTurns (limit : ℕ) (lets : ℕ → Bool) (did : Counts) (fares : Status) (journal : List Entry) : Type 0 where
+  pub within : did.turns ≤ limit
+  pub let_in : (turn : ℕ) → turn < did.turns → lets turn ≡ true
+  pub fine : fares ≡ Fine → did.turns ≡ limit
+  pub kept_out : fares ≡ GateLimit → (did.turns < limit) × (lets did.turns ≡ false)
+  pub one_answer_each : answers_in did ≤ did.turns
+  pub counted : AreCountsOf journal did
+
+-- a journal has an entry of this call, or none
+abbrev pub HasAtMost : Option Call → List Entry → Type 0
+HasAtMost call [] = ⊤
+HasAtMost call (e ∷ es) = (call ≡ Some e.call) × (es ≡ [])
+
+-- what a machine asks in its first turn in a cell without plates: the robot and the crane drive first
+abbrev pub first_call : Machine → Option Call
+first_call Feed = Some (Claim Z6)
+first_call Table = Some (Claim Z1)
+first_call Robot = None
+first_call Press = Some (Claim Z3)
+first_call Deposit = Some (Claim Z4)
+first_call Crane = None
+first_call Watch = None
+
+-- records of one turn in that cell: with no plate the crane doesn't travel
+pub record TellsFirstTurns (r : RunRecord) : Type 0 where
+  pub calls : (m : Machine) → HasAtMost (first_call m) (journal_of r.journals m)
+  pub crane : slice_get r.axes 6 ≡ Some (pos 0)
+
+-- What a record tells: that nothing was done where no turns are left, just so, and where the gate lets no machine begin; the turns of each machine
+-- with work; and the first turns in a cell without plates.
+pub record RecordsTellTurns : Type 0 where
+  pub no_turns : (c : CellScales) (opening : ModelState) (tries : ℕ) (lets : Rule) (r : RunRecord) → TellsWork c opening tries 0 (by_rule lets) r ↔ TellsNothingDone opening Fine r
+  pub shut : (c : CellScales) (opening : ModelState) (tries : ℕ) (r : RunRecord) → TellsWork c opening tries 5 (by_rule (λ m turn. false)) r ↔ TellsNothingDone opening GateLimit r
+  pub turns : (c : CellScales) (opening : ModelState) (tries limit : ℕ) (lets : Rule) (r : RunRecord) (did : Machine → Counts) (fares : Machine → Status)
+      → TellsWork c opening tries limit (by_rule lets) r → r.counts ≡ map did all_machines → r.status ≡ map fares all_machines
+      → (m : Machine) → is_at_work m ≡ true → HadTurns limit (lets m) (did m) (fares m) (journal_of r.journals m)
+  pub first : (c : CellScales) (tries : ℕ) (lets : Rule) (r : RunRecord) → TellsWork c (start_state empty 0) tries 1 (by_rule lets) r → TellsFirstTurns r
+
+-- What a turn is: no machine takes one that was stopped, and none its gate keeps out; a call that was Busy has lost as many exchanges as it may, and is
+-- counted so; a press whose motor is on holds its interior, which moves.
+pub record TurnsAreTaken : Type 0 where
+  pub stopped : (c : CellScales) (tries : ℕ) (lets : Rule) (m : Machine) (before now : MomentOf m) (fault : CtlFault) → before.side.stopped ≡ Some fault → ¬ TakesTurn (passes tries) (steps_of c m) (rig_of c m) (by_rule lets m) before now
+  pub kept_out : (c : CellScales) (tries : ℕ) (lets : Rule) (m : Machine) (before now : MomentOf m) → lets m before.counts.turns ≡ false → ¬ TakesTurn (passes tries) (steps_of c m) (rig_of c m) (by_rule lets m) before now
+  pub busy : (c : CellScales) (tries : ℕ) (lets : Rule) (m : Machine) (before now : MomentOf m) (turn : TakesTurn (passes tries) (steps_of c m) (rig_of c m) (by_rule lets m) before now) (call : Call) (lost stamp : ℕ)
+      → turn.asked ≡ Some (call, Ok (Busy lost stamp)) → (lost ≡ tries) × (now.counts.busy ≡ before.counts.busy + 1)
+  pub press : (c : CellScales) (tries : ℕ) (lets : Rule) (before now : MomentOf Press) → TakesTurn (passes tries) (steps_of c Press) (rig_of c Press) (by_rule lets Press) before now
+      → now.side.stopped ≡ None → now.side.part.motor ≢ Off → Holds now.line.opening now.line.seen Press Z3 × PressMoves now.line.opening now.line.seen
