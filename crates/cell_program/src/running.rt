@@ -1,6 +1,6 @@
 //! A run by six workers, with the state that it came to.
 
-ghost use Rattle.std.specs.Prelude.{◌≡◌, ◌≢◌, ◌<◌, ◌⊎◌, ◌↔◌, IfOk, Err, None};
+ghost use Rattle.std.specs.Prelude.{◌≡◌, ◌≢◌, ◌<◌, ◌⊎◌, ◌↔◌, IfOk, IfErr, Ok, Err, Some, None};
 ghost use Rattle.cell_types.specs.Journals.{journal_of};
 ghost use Rattle.cell_rules.specs.History.{after};
 ghost use Rattle.cell_rules.specs.Start.{IsStartState};
@@ -54,24 +54,26 @@ where
     with_end(alloc, run)
 }
 
-/// A run whose end was left open, with its end. `Memory` where the audit had no room.
-fn with_end(alloc: Global, run: RunRecord) -> Result<RunRecord, RunFault>
+/// A run whose end was left open, with its end: the state that the audited events lead to from the start, or
+/// `None` where no legal history tells the journals. `Memory` where the audit had no room, and no other fault.
+pub fn with_end(alloc: Global, run: RunRecord) -> Result<RunRecord, RunFault>
     requires open { run.end ≡ None }
     ensures rest { IfOk result (λ r. but_end r ≡ run) }
     ensures end { IfOk result (λ r. EndsAsAudited r.start (journal_of r.journals) r.end) }
-    ensures tries { result ≢ Err RunFault.Tries }
+    ensures memory { IfErr result (λ fault. fault ≡ RunFault.Memory) }
 {
-    let end = audited_end(alloc, &run.journals, &run.start)?;
+    let audited = audit(alloc, &run.journals, &run.start, None);
+    let end = end_of(&run.start, audited)?;
     Ok(RunRecord { end, ..run })
 }
 
-/// The state that the audited events lead to from the start, or `None` where no legal history tells the
-/// journals. `Memory` where the audit had no room.
-fn audited_end(alloc: Global, journals: &Journals, start: &State) -> Result<Option<State>, RunFault>
-    ensures end { IfOk result (EndsAsAudited start.now (journal_of journals.now)) }
-    ensures tries { result ≢ Err RunFault.Tries }
+/// The end by what an audit answered: the state after its events, or none. Want of memory alone is a fault.
+fn end_of(start: &State, audited: Result<Vec<Event>, AuditFault>) -> Result<Option<State>, RunFault>
+    ensures found { IfOk audited (λ events. result ≡ Ok (Some (after start.now events.items))) }
+    ensures memory { audited ≡ Err AuditFault.Memory → result ≡ Err RunFault.Memory }
+    ensures refused { IfErr audited (λ fault. fault ≢ AuditFault.Memory → result ≡ Ok None) }
 {
-    match audit(alloc, journals, start, None) {
+    match audited {
         Ok(events) => Ok(Some(state_after(start, &events))),
         Err(AuditFault::Memory) => Err(RunFault::Memory),
         Err(_) => Ok(None),
