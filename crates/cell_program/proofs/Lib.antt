@@ -2,3 +2,4 @@ mod ReportLemmas
 mod FrontLemmas
 mod SimLemmas
 mod RunLemmas
+mod LawLemmas

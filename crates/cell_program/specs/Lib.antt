@@ -2,3 +2,4 @@ pub mod Reported
 pub mod Ran
 pub mod Served
 pub mod Simulated
+pub mod Laws

@@ -3,6 +3,7 @@
 #![tactic(auto)]
 
 pub mod faults;
+pub mod laws;
 pub mod replaying;
 pub mod reporting;
 pub mod running;

@@ -12,6 +12,12 @@ mod configurations;
 #[cfg(test)]
 mod doubles;
 #[cfg(test)]
+mod ends;
+#[cfg(test)]
+mod gated;
+#[cfg(test)]
+mod gates;
+#[cfg(test)]
 mod memory;
 #[cfg(test)]
 mod reports;

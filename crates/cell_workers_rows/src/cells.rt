@@ -1,6 +1,5 @@
-//! Cells whose machines work in threads, with a closure over the line of each potentiometer.
-ghost use Rattle.std.specs.Prelude.{IfOk, pos, ◌≤◌, ◌<ℤ◌, ◌≤ℤ◌};
-ghost use Rattle.cell_calib.specs.Line.{IsReading};
+//! Cells whose machines work in threads, let in always, with a closure over the line of each potentiometer.
+ghost use Rattle.std.specs.Prelude.{IfOk, pos, ◌<ℤ◌, ◌≤ℤ◌};
 ghost use Rattle.cell_parts.specs.Axes.{IsAxisScale, arm_end, rotation_end, turn_end};
 ghost use Rattle.cell_rules.specs.Start.{IsStartState};
 
@@ -8,10 +7,9 @@ use cell_calib::{Calibration, Gauge, Points, PointsFault, line_at};
 use cell_notes::RunRecord;
 use cell_plant::Cell;
 use cell_rules::State;
-use cell_workers::{Gate, RunFault, run_workers};
+use cell_workers::{OpenGate, RunFault, run_workers};
 use std::alloc::Global;
 use std::sync::Wait;
-use std::sync::atomic::{AtomicU64, Ordering};
 use std::test::Fail;
 use std::thread::Threads;
 
@@ -43,14 +41,13 @@ pub struct Limits {
 pub type Worked = Result<RunRecord, RunFault>;
 
 // Workers of a cell with these closures.
-fn work_by<R, F1, F2, F3, F4, F5, G>(
+fn work_by<R, F1, F2, F3, F4, F5>(
     rt: &R,
     alloc: Global,
     start: State,
     gauges: (F1, F2, F3, F4, F5),
     points: AxisPoints,
     limits: Limits,
-    gate: &G,
 ) -> Worked
 where
     R: Threads + Wait + Sync,
@@ -59,7 +56,6 @@ where
     F3: Gauge + Send,
     F4: Gauge + Send,
     F5: Gauge + Send,
-    G: Gate + Sync,
     requires start { IsStartState start }
     requires arm1 { F1.keeps gauges.0 points.arm }
     requires arm2 { F2.keeps gauges.1 points.arm }
@@ -79,16 +75,23 @@ where
         Calibration::new(turn, points.turn),
         Calibration::new(gripper, points.arm),
     );
-    run_workers(rt, alloc, cell, start, limits.tries, limits.turns, gate)
+    run_workers(
+        rt,
+        alloc,
+        cell,
+        start,
+        limits.tries,
+        limits.turns,
+        &OpenGate,
+    )
 }
 
 /// Workers of a cell whose closures are over their lines.
-pub fn work<R: Threads + Wait + Sync, G: Gate + Sync>(
+pub fn work<R: Threads + Wait + Sync>(
     rt: &R,
     alloc: Global,
     places: [bool; 10],
     limits: Limits,
-    gate: &G,
 ) -> Result<Worked, Fail> {
     let start = State::start(places, 0)?;
     let arm = points_of(1000)?;
@@ -106,42 +109,5 @@ pub fn work<R: Threads + Wait + Sync, G: Gate + Sync>(
         rotation,
         turn,
     };
-    Ok(work_by(rt, alloc, start, gauges, points, limits, gate))
-}
-
-/// Workers of a cell whose closures count their calls.
-pub fn work_counted<R: Threads + Wait + Sync, G: Gate + Sync>(
-    rt: &R,
-    alloc: Global,
-    calls: &[AtomicU64; 5],
-    limits: Limits,
-    gate: &G,
-) -> Result<Worked, Fail> {
-    let start = State::start([false; 10], 0)?;
-    let arm = points_of(1000)?;
-    let rotation = points_of(2000)?;
-    let turn = points_of(500)?;
-    let gauges = (
-        |raw: u16| counted(&calls[0], arm, raw),
-        |raw: u16| counted(&calls[1], arm, raw),
-        |raw: u16| counted(&calls[2], rotation, raw),
-        |raw: u16| counted(&calls[3], turn, raw),
-        |raw: u16| counted(&calls[4], arm, raw),
-    );
-    let points = AxisPoints {
-        arm,
-        rotation,
-        turn,
-    };
-    Ok(work_by(rt, alloc, start, gauges, points, limits, gate))
-}
-
-// The line, and the call is counted.
-fn counted(calls: &AtomicU64, points: Points, raw: u16) -> i32
-    requires low { points.raw_lo ≤ raw }
-    requires high { raw ≤ points.raw_hi }
-    ensures { IsReading points raw result }
-{
-    calls.fetch_add(1, Ordering::SeqCst);
-    line_at(&points, raw)
+    Ok(work_by(rt, alloc, start, gauges, points, limits))
 }

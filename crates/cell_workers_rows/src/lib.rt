@@ -4,6 +4,4 @@
 #[cfg(test)]
 mod cells;
 #[cfg(test)]
-mod gates;
-#[cfg(test)]
 mod rows;

@@ -1,11 +1,10 @@
 //! Runs of six workers, and what their records tell.
 
-use crate::cells::{Limits, work, work_counted};
-use crate::gates::{Meeting, ShutForFeed};
+use crate::cells::{Limits, work};
 use cell_notes::{Counts, RunRecord, Status};
 use cell_report::audit;
 use cell_rules::{State, apply};
-use cell_workers::{OpenGate, RunFault};
+use cell_workers::RunFault;
 use std::alloc::Global;
 use std::test::Fail;
 
@@ -56,30 +55,9 @@ fn is_first_steps(record: &RunRecord) -> bool {
 #[test]
 fn first_steps_are_always_the_same(rt: HostRuntime) -> Result<(), Fail> {
     for round in 0..100u32 {
-        let record = work(&rt, rt.alloc(), EMPTY, THREE_TURNS, &OpenGate)??;
+        let record = work(&rt, rt.alloc(), EMPTY, THREE_TURNS)??;
         assert!(rt; is_first_steps(&record), "{round}");
     }
-    Ok(())
-}
-
-// A machine that waits for the others is let in once they ask too: so all six work at once.
-#[test]
-fn six_work_at_once(rt: HostRuntime) -> Result<(), Fail> {
-    let meeting = Meeting::new();
-    let limits = Limits { tries: 8, turns: 3 };
-    let record = work_counted(&rt, rt.alloc(), &meeting.calls, limits, &meeting)??;
-    assert!(rt; record.status == [Status::Fine; 7]);
-    assert!(rt; meeting.is_in_order());
-    Ok(())
-}
-
-#[test]
-fn a_gate_ends_one_worker(rt: HostRuntime) -> Result<(), Fail> {
-    let record = work(&rt, rt.alloc(), EMPTY, THREE_TURNS, &ShutForFeed)??;
-    let mut status = [Status::Fine; 7];
-    status[0] = Status::GateLimit;
-    assert!(rt; record.status == status);
-    assert!(rt; record.counts.map(|counts| counts.turns) == [1, 3, 3, 3, 3, 3, 0]);
     Ok(())
 }
 
@@ -87,7 +65,7 @@ fn a_gate_ends_one_worker(rt: HostRuntime) -> Result<(), Fail> {
 fn tries_have_limits(rt: HostRuntime) -> Result<(), Fail> {
     for tries in [0, 65] {
         let limits = Limits { tries, turns: 3 };
-        let worked = work(&rt, rt.alloc(), EMPTY, limits, &OpenGate)?;
+        let worked = work(&rt, rt.alloc(), EMPTY, limits)?;
         assert!(rt;
             worked.is_err_and(|fault| fault == RunFault::Tries),
             "{tries}"
@@ -114,7 +92,7 @@ fn long_runs_keep_their_plates(rt: HostRuntime) -> Result<(), Fail> {
             tries,
             turns: 20_000,
         };
-        let record = work(&rt, rt.alloc(), FOUR, limits, &OpenGate)??;
+        let record = work(&rt, rt.alloc(), FOUR, limits)??;
         assert!(rt; record.status == [Status::Fine; 7], "{tries}");
         assert!(rt;
             record.counts.map(|counts| counts.turns)[..6] == [20_000; 6],
@@ -128,7 +106,7 @@ fn long_runs_keep_their_plates(rt: HostRuntime) -> Result<(), Fail> {
 // Whatever growth is refused, the record tells who was stopped by that, or the fault why there is none.
 #[test]
 fn workers_without_memory(rt: HostRuntime) -> Result<(), Fail> {
-    match work(&rt, rt.alloc(), EMPTY, THREE_TURNS, &OpenGate)? {
+    match work(&rt, rt.alloc(), EMPTY, THREE_TURNS)? {
         Ok(record) => {
             let wanted = first_steps().map(|counts| (counts.done, counts.read));
             let asked = record.counts.map(|counts| (counts.done, counts.read));

@@ -1,0 +1,183 @@
+//! Runs by six workers that have to pass a gate: which turns each machine takes, and for which it asks.
+ghost use Rattle.std.specs.Prelude.{IfOk, pos, ◌≤◌, ◌<ℤ◌, ◌≤ℤ◌};
+ghost use Rattle.cell_calib.specs.Line.{IsReading};
+ghost use Rattle.cell_parts.specs.Axes.{IsAxisScale, arm_end, rotation_end, turn_end};
+ghost use Rattle.cell_rules.specs.Start.{IsStartState};
+
+use super::gates::{Doorkeeper, NOTES};
+use cell_calib::{Calibration, Gauge, Points, PointsFault, line_at};
+use cell_notes::{RunRecord, Status};
+use cell_plant::Cell;
+use cell_program::running::run_cell;
+use cell_rules::State;
+use cell_workers::{Gate, RunFault};
+use std::alloc::Global;
+use std::sync::Wait;
+use std::sync::atomic::{AtomicU64, Ordering};
+use std::test::Fail;
+use std::thread::Threads;
+
+// Raw values from 0 to 4000 over an axis.
+fn points_of(end: i32) -> Result<Points, PointsFault>
+    requires some { pos 0 <ℤ end }
+    requires few { end ≤ℤ pos 4000 }
+    ensures { IfOk result (IsAxisScale end) }
+{
+    Points::new(0, 4000, 0, end, 5)
+}
+
+// The points of the five potentiometers.
+#[derive(Clone, Copy)]
+struct AxisPoints {
+    arm: Points,
+    rotation: Points,
+    turn: Points,
+}
+
+// A run of a cell with these closures. A call may lose eight exchanges.
+fn run_by<R, F1, F2, F3, F4, F5, G>(
+    rt: &R,
+    alloc: Global,
+    start: State,
+    gauges: (F1, F2, F3, F4, F5),
+    points: AxisPoints,
+    turns: u32,
+    gate: &G,
+) -> Result<RunRecord, RunFault>
+where
+    R: Threads + Wait + Sync,
+    F1: Gauge + Send,
+    F2: Gauge + Send,
+    F3: Gauge + Send,
+    F4: Gauge + Send,
+    F5: Gauge + Send,
+    G: Gate + Sync,
+    requires start { IsStartState start }
+    requires arm1 { F1.keeps gauges.0 points.arm }
+    requires arm2 { F2.keeps gauges.1 points.arm }
+    requires rotation { F3.keeps gauges.2 points.rotation }
+    requires turn { F4.keeps gauges.3 points.turn }
+    requires gripper { F5.keeps gauges.4 points.arm }
+    requires arm_axis { IsAxisScale arm_end points.arm }
+    requires rotation_axis { IsAxisScale rotation_end points.rotation }
+    requires turn_axis { IsAxisScale turn_end points.turn }
+{
+    let (arm1, arm2, rotation, turn, gripper) = gauges;
+    let cell = Cell::new(
+        &start,
+        Calibration::new(arm1, points.arm),
+        Calibration::new(arm2, points.arm),
+        Calibration::new(rotation, points.rotation),
+        Calibration::new(turn, points.turn),
+        Calibration::new(gripper, points.arm),
+    );
+    run_cell(rt, alloc, cell, start, 8, turns, gate)
+}
+
+// A run of a cell without plates from this stamp on, whose closures count their calls.
+fn run_counted<R: Threads + Wait + Sync>(
+    rt: &R,
+    alloc: Global,
+    stamp: u32,
+    turns: u32,
+    gate: &Doorkeeper,
+) -> Result<RunRecord, Fail> {
+    let start = State::start([false; 10], stamp)?;
+    let arm = points_of(1000)?;
+    let rotation = points_of(2000)?;
+    let turn = points_of(500)?;
+    let calls = &gate.calls;
+    let gauges = (
+        |raw: u16| counted(&calls[0], arm, raw),
+        |raw: u16| counted(&calls[1], arm, raw),
+        |raw: u16| counted(&calls[2], rotation, raw),
+        |raw: u16| counted(&calls[3], turn, raw),
+        |raw: u16| counted(&calls[4], arm, raw),
+    );
+    let points = AxisPoints {
+        arm,
+        rotation,
+        turn,
+    };
+    Ok(run_by(rt, alloc, start, gauges, points, turns, gate)?)
+}
+
+// The line, and the call is counted.
+fn counted(calls: &AtomicU64, points: Points, raw: u16) -> i32
+    requires low { points.raw_lo ≤ raw }
+    requires high { raw ≤ points.raw_hi }
+    ensures { IsReading points raw result }
+{
+    calls.fetch_add(1, Ordering::SeqCst);
+    line_at(&points, raw)
+}
+
+/// How many turns each worker has at most, and how many the gate lets each machine begin.
+type Row = (u32, [u32; 6]);
+
+// All machines are let in, and all work at once; none is; each alone is shut out at some turn; each at another.
+const ROWS: &[Row] = &[
+    (0, [6; 6]),
+    (1, [6; 6]),
+    (6, [6; 6]),
+    (6, [0; 6]),
+    (6, [0, 6, 6, 6, 6, 6]),
+    (6, [6, 1, 6, 6, 6, 6]),
+    (6, [6, 6, 2, 6, 6, 6]),
+    (6, [6, 6, 6, 3, 6, 6]),
+    (6, [6, 6, 6, 6, 4, 6]),
+    (6, [6, 6, 6, 6, 6, 5]),
+    (6, [5, 4, 3, 2, 1, 0]),
+];
+
+// How a machine fares, and for which turns it has asked, by how many of its turns it was let in.
+fn fares(let_in: u32, turns: u32) -> (Status, u64) {
+    let status = if let_in < turns {
+        Status::GateLimit
+    } else {
+        Status::Fine
+    };
+    let asked = let_in.saturating_add(1).min(turns);
+    (status, NOTES.get(asked as usize).copied().unwrap_or(0))
+}
+
+// Whether each machine takes just the turns that it is let in, and asks for these and the next one, once each.
+fn is_gated<R: Threads + Wait + Sync>(rt: &R, alloc: Global, row: &Row) -> Result<bool, Fail> {
+    let (turns, lets) = *row;
+    let gate = Doorkeeper::new(lets, lets == [6; 6]);
+    let record = run_counted(rt, alloc, 0, turns, &gate)?;
+    let [feed, table, robot, press, deposit, crane] = lets.map(|let_in| fares(let_in, turns));
+    let status = [
+        feed.0,
+        table.0,
+        robot.0,
+        press.0,
+        deposit.0,
+        crane.0,
+        Status::Fine,
+    ];
+    let notes = [feed.1, table.1, robot.1, press.1, deposit.1, crane.1];
+    let took_turns = record.counts.iter().zip(lets.iter()).all(|(counts, let_in)| counts.turns
+        == u64::from((*let_in).min(turns)));
+    Ok(took_turns && record.status == status && record.end.is_some() && gate.has_noted(&notes))
+}
+
+#[test]
+fn gates_let_machines_in(rt: HostRuntime) -> Result<(), Fail> {
+    for row in ROWS {
+        assert!(rt; is_gated(&rt, rt.alloc(), row)?, "{row:?}");
+    }
+    Ok(())
+}
+
+// At the last stamp the machines that claim first are worn in their first turn, and ask for no other.
+#[test]
+fn worn_machines_ask_no_more(rt: HostRuntime) -> Result<(), Fail> {
+    let gate = Doorkeeper::new([9; 6], false);
+    let record = run_counted(&rt, rt.alloc(), 1_048_575, 6, &gate)?;
+    let (worn, fine) = (Status::Worn, Status::Fine);
+    assert!(rt; record.status == [worn, worn, fine, worn, worn, fine, fine]);
+    assert!(rt; record.counts.map(|counts| counts.turns) == [1, 1, 6, 1, 1, 6, 0]);
+    assert!(rt; gate.has_noted(&[1, 1, 123_456, 1, 1, 123_456]));
+    Ok(())
+}

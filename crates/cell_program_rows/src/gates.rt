@@ -1,0 +1,129 @@
+//! A gate that machines have to pass, and what it notes of them.
+ghost use Rattle.std.specs.Prelude.{◌<◌};
+
+use cell_types::Machine;
+use cell_workers::Gate;
+use std::sync::atomic::{AtomicU64, Ordering};
+
+/// For how many turns a machine asks, as the gate notes it: none, turn 0, turns 0 and 1, and so on, each once and
+/// in this order.
+pub const NOTES: [u64; 8] = [0, 1, 12, 123, 1234, 12_345, 123_456, 1_234_567];
+
+/// Lets each machine begin so many turns, and notes for which it asked. Where it lets all six begin as many, it
+/// lets none begin a turn before all six ask for theirs, as long as a machine waits for that.
+#[derive(Drop)]
+pub struct Doorkeeper {
+    // How many turns each machine may begin. The watch has none.
+    lets: [u32; 7],
+    // Whether the machines wait for each other.
+    meets: bool,
+    // The turns for which each machine has asked, a digit each: 1 for turn 0.
+    asked: [AtomicU64; 7],
+    /// How often each closure was called.
+    pub calls: [AtomicU64; 5],
+    // That number when its machine asked, a digit each: 1 for none.
+    found: [AtomicU64; 5],
+}
+
+impl Doorkeeper {
+    pub fn new(lets: [u32; 6], meets: bool) -> Doorkeeper {
+        let [feed, table, robot, press, deposit, crane] = lets;
+        Doorkeeper {
+            lets: [feed, table, robot, press, deposit, crane, 0],
+            meets,
+            asked: [zero(), zero(), zero(), zero(), zero(), zero(), zero()],
+            calls: five_zeros(),
+            found: five_zeros(),
+        }
+    }
+
+    /// Whether the six machines have asked for these turns and the watch for none, and each closure was called
+    /// once between two of its machine's asks.
+    pub fn has_noted(&self, notes: &[u64; 6]) -> bool {
+        let [feed, table, robot, press, deposit, crane] = *notes;
+        are_noted(&self.asked, &[feed, table, robot, press, deposit, crane, 0])
+            && are_noted(&self.found, &[robot, robot, robot, table, crane])
+    }
+
+    // Whether all six have asked for this turn, once each for every turn up to it.
+    fn are_all_at(&self, turn: u32) -> bool {
+        match NOTES.get(turn as usize + 1) {
+            Some(wanted) => self.asked[..6]
+                .iter()
+                .all(|asked| asked.load(Ordering::SeqCst) >= *wanted),
+            None => false,
+        }
+    }
+}
+
+fn are_noted(found: &[AtomicU64], wanted: &[u64]) -> bool {
+    found
+        .iter()
+        .zip(wanted.iter())
+        .all(|(found, wanted)| found.load(Ordering::SeqCst) == *wanted)
+}
+
+fn zero() -> AtomicU64 {
+    AtomicU64::new(0)
+}
+
+fn five_zeros() -> [AtomicU64; 5] {
+    [zero(), zero(), zero(), zero(), zero()]
+}
+
+// Adds a digit. A note is its machine's own, so no other thread writes it.
+fn note(notes: &AtomicU64, digit: u64) {
+    let before = notes.load(Ordering::SeqCst);
+    let after = before.wrapping_mul(10).wrapping_add(digit);
+    notes.store(after, Ordering::SeqCst);
+}
+
+// The closures by which a machine reads: those of the first arm, the second arm, the robot's rotation, the
+// table's rotation and the gripper's height.
+fn closures_of(machine: Machine) -> &'static [usize] {
+    match machine {
+        Machine::Robot => &[0, 1, 2],
+        Machine::Table => &[3],
+        Machine::Crane => &[4],
+        Machine::Feed | Machine::Press | Machine::Deposit | Machine::Watch => &[],
+    }
+}
+
+// The place of a machine in the order of reports.
+fn place_of(machine: Machine) -> usize
+    ensures { result < 7 }
+{
+    match machine {
+        Machine::Feed => 0,
+        Machine::Table => 1,
+        Machine::Robot => 2,
+        Machine::Press => 3,
+        Machine::Deposit => 4,
+        Machine::Crane => 5,
+        Machine::Watch => 6,
+    }
+}
+
+impl Gate for Doorkeeper {
+    fn pass(&self, machine: Machine, turn: u32) -> bool {
+        let at = place_of(machine);
+        note(&self.asked[at], u64::from(turn).wrapping_add(1));
+        for closure in closures_of(machine) {
+            if let (Some(calls), Some(found)) = (
+                self.calls.get(*closure),
+                self.found.get(*closure),
+            ) {
+                note(found, calls.load(Ordering::SeqCst).wrapping_add(1));
+            }
+        }
+        if !self.meets {
+            return turn < self.lets[at];
+        }
+        for _ in 0..100_000_000u32 {
+            if self.are_all_at(turn) {
+                return true;
+            }
+        }
+        false
+    }
+}
