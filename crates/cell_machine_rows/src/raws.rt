@@ -16,7 +16,7 @@ enum Meter {
     Gripper,
 }
 
-// A potentiometer, the raw values at the ends of its axis, for how many ticks it moves, and what it shows then. Arms and
+// A potentiometer, the raw values at the ends of its axis, how many ticks it moves, and what it shows then. Arms and
 // table begin at 0, the robot at 300, and the gripper, which goes down, at 900. A tick is 20.
 const ROWS: &[(Meter, u16, u16, u32, u16)] = &[
     (Meter::Arm1, 0, 1501, 0, 0),
@@ -67,7 +67,7 @@ const REACHING: RobotAct = RobotAct {
     magnet2: false,
 };
 
-// What the robot's potentiometers show after so many ticks, each on this scale over its own axis.
+// What the robot's potentiometers show after these ticks, each on this scale over its own axis.
 fn robot_shows(rt: &impl Abort, raw_lo: u16, raw_hi: u16, ticks: u32) -> (u16, u16, u16) {
     let points = RobotPoints {
         arm1: scale_to(rt, 1000, raw_lo, raw_hi),

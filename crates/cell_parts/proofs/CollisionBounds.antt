@@ -7,7 +7,7 @@ use Rattle.cell_parts.specs.Collisions.{DrivesPast, LetsGo}
 use Rattle.cell_parts.specs.Examples.{driven_at}
 use Rattle.cell_parts.specs.CollisionExamples.{CollisionBounds, MagnetBounds, EndBounds, EachCollision}
 use Rattle.cell_parts.proofs.Contrasts.{neither, plus_on, off_plus, off_minus, false_true}
-use Rattle.cell_parts.proofs.Figures.{same, both, all_three, either, denied, just_first, just_second, order, past, below, equal, beyond, inside, driven, some}
+use Rattle.cell_parts.proofs.Figures.{same, both, all_three, either, denied, only_first, only_second, order, past, below, equal, beyond, inside, driven, some}
 
 pub collisions : CollisionBounds
 collisions = record {
@@ -29,9 +29,9 @@ lets_go before now may = (λ k. (k.0.0, k.0.1, λ laid. k.1 (may.1 laid)), λ k.
 
 pub magnets : MagnetBounds
 magnets = record {
-  arm1 = λ rotation arm before now. just_first (lets_go before now (both (inside 1460 1540 rotation) (inside 760 840 arm))) (neither kept_off kept_off);
-  arm2 = λ rotation arm before now. just_second kept_off (just_first (lets_go before now (both (inside 1760 1840 rotation) (inside 560 640 arm))) kept_off);
-  crane = λ travel gripper before now. just_second kept_off (just_second kept_off (lets_go before now (both (order 1990 travel) (inside 250 350 gripper))));
+  arm1 = λ rotation arm before now. only_first (lets_go before now (both (inside 1460 1540 rotation) (inside 760 840 arm))) (neither kept_off kept_off);
+  arm2 = λ rotation arm before now. only_second kept_off (only_first (lets_go before now (both (inside 1760 1840 rotation) (inside 560 640 arm))) kept_off);
+  crane = λ travel gripper before now. only_second kept_off (only_second kept_off (lets_go before now (both (order 1990 travel) (inside 250 350 gripper))));
 }
 
 -- ---- the ends of the axes
@@ -46,13 +46,13 @@ ends_at end position motor = either (both (equal position 0) same) (both (equal 
 pub all_ends : EndBounds
 all_ends = record {
   press = λ p m. ends_at 1000 p m;
-  arm1 = λ p m. just_first (ends_at 1000 p m) (neither (at_rest _ _) (at_rest _ _));
-  arm2 = λ p m. just_second (at_rest _ _) (just_first (ends_at 1000 p m) (at_rest _ _));
-  rotation = λ p m. just_second (at_rest _ _) (just_second (at_rest _ _) (ends_at 2000 p m));
-  lift = λ p m. just_first (ends_at 600 p m) (at_rest _ _);
-  turn = λ p m. just_second (at_rest _ _) (ends_at 500 p m);
-  travel = λ p m. just_first (ends_at 2000 p m) (at_rest _ _);
-  gripper = λ p m. just_second (at_rest _ _) (ends_at 1000 p m);
+  arm1 = λ p m. only_first (ends_at 1000 p m) (neither (at_rest _ _) (at_rest _ _));
+  arm2 = λ p m. only_second (at_rest _ _) (only_first (ends_at 1000 p m) (at_rest _ _));
+  rotation = λ p m. only_second (at_rest _ _) (only_second (at_rest _ _) (ends_at 2000 p m));
+  lift = λ p m. only_first (ends_at 600 p m) (at_rest _ _);
+  turn = λ p m. only_second (at_rest _ _) (ends_at 500 p m);
+  travel = λ p m. only_first (ends_at 2000 p m) (at_rest _ _);
+  gripper = λ p m. only_second (at_rest _ _) (ends_at 1000 p m);
   turn_of_another = neither (at_rest _ _) (at_rest _ _);
 }
 

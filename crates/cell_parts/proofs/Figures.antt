@@ -31,11 +31,11 @@ pub given : {A B C D : Type 0} → (A ↔ C) → (B ↔ D) → (A → B) ↔ (C 
 given f g = (λ k c. g.0 (k (f.1 c)), λ k a. g.1 (k (f.0 a)))
 
 -- the one of two that can be
-pub just_first : {A B R : Type 0} → (A ↔ B) → ¬ R → (A ⊎ R) ↔ B
-just_first f never_other = (λ k. elim k [ inl a ↦ f.0 a | inr r ↦ absurd (never_other r) ], λ b. inl (f.1 b))
+pub only_first : {A B R : Type 0} → (A ↔ B) → ¬ R → (A ⊎ R) ↔ B
+only_first f never_other = (λ k. elim k [ inl a ↦ f.0 a | inr r ↦ absurd (never_other r) ], λ b. inl (f.1 b))
 
-pub just_second : {A B L : Type 0} → ¬ L → (A ↔ B) → (L ⊎ A) ↔ B
-just_second never_other f = (λ k. elim k [ inl l ↦ absurd (never_other l) | inr a ↦ f.0 a ], λ b. inr (f.1 b))
+pub only_second : {A B L : Type 0} → ¬ L → (A ↔ B) → (L ⊎ A) ↔ B
+only_second never_other f = (λ k. elim k [ inl l ↦ absurd (never_other l) | inr a ↦ f.0 a ], λ b. inr (f.1 b))
 
 -- what is demanded under a condition that holds
 pub due : {A B C : Type 0} → A → (B ↔ C) → (A → B) ↔ C

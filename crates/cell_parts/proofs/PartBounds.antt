@@ -135,7 +135,7 @@ between : (s : Scale) (p raw : ℕ) → IsScale s → T (le_z s.at_lo (pos p)) �
     → T (lt_z (height_of s (pos p)) (line_height s (raw + 1))) → Reads s p raw
 between s p raw k from to low high =
     let is : IsRawAt s (pos p) raw = record { not_above = le_z_yes low; next_above = lt_z_yes high } in (
-      record { between = λ _ _. is; below = λ before. absurd (apart before (le_z_yes from)); above = λ behind. absurd (apart behind (le_z_yes to)) },
+      record { between = λ _ _. is; below = λ before. absurd (apart before (le_z_yes from)); above = λ beyond. absurd (apart beyond (le_z_yes to)) },
       λ other shown. one_raw_at s (pos p) raw other k is (shown.between (le_z_yes from) (le_z_yes to)),
     )
 
@@ -160,11 +160,11 @@ raws = record {
   gripper_at_1 = between _ _ _ gripper_scale tt tt tt tt;
   gripper_at_501 = between _ _ _ gripper_scale tt tt tt tt;
   gripper_at_999 = between _ _ _ gripper_scale tt tt tt tt;
-  before_the_first = (record { between = λ from to. absurd from.le; below = λ before. refl; above = λ behind. absurd behind.lt }, λ other shown. shown.below (lt_z_yes tt));
+  before_the_first = (record { between = λ from to. absurd from.le; below = λ before. refl; above = λ beyond. absurd beyond.lt }, λ other shown. shown.below (lt_z_yes tt));
   at_the_first = between _ _ _ short_limits tt tt tt tt;
   in_the_middle = between _ _ _ short_limits tt tt tt tt;
   at_the_last = between _ _ _ short_limits tt tt tt tt;
-  behind_the_last = (record { between = λ from to. absurd to.le; below = λ before. absurd before.lt; above = λ behind. refl }, λ other shown. shown.above (lt_z_yes tt));
+  beyond_the_last = (record { between = λ from to. absurd to.le; below = λ before. absurd before.lt; above = λ beyond. refl }, λ other shown. shown.above (lt_z_yes tt));
 }
 
 pub showing : ShowingExamples
@@ -218,7 +218,7 @@ notes scale scales = record {
   feed_takes = refl;
   feed_advances = refl;
   feed_gives = refl;
-  feed_takes_behind = refl;
+  feed_takes_another = refl;
   feed_advances_while_it_runs = refl;
   feed_gives_before = refl;
   feed_refused = refl;
@@ -229,7 +229,7 @@ notes scale scales = record {
   deposit_takes = refl;
   deposit_advances = refl;
   deposit_gives = refl;
-  deposit_takes_behind = refl;
+  deposit_takes_another = refl;
   deposit_advances_while_it_runs = refl;
   deposit_gives_before = refl;
   deposit_refused = refl;

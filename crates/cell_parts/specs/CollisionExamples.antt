@@ -79,7 +79,7 @@ pub record MagnetBounds : Type 0 where
 
 -- ---- the ends of the axes
 
--- an axis of a machine that goes from 0 to an end drives past these two alone, and only outwards
+-- an axis of a machine that goes from 0 to an end drives past these two alone, and outwards alone
 abbrev pub EndsAt : Machine → (Axis → PlantState) → ℕ → Type 0
 EndsAt m with_axis end =
     (position : ℕ) (motor : Motor) → DrivesPastEnd m (with_axis (driven_at position motor))

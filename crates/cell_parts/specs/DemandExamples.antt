@@ -51,7 +51,7 @@ GripperWorksAt Demands = WorksAt Crane (λ travel. travel ≤ 200) Z5 OpenOut (�
 
 -- ---- what positions demand
 
--- A plate is at a belt's end just where that place is full: wherever it is, whatever is at the belt's entry, and whether the belt runs.
+-- A plate is at a belt's end exactly where that place is full: wherever it is, whatever is at the belt's entry, and whether the belt runs.
 pub record EndPlateStands (end : Place) (with_belt : Belt → PlantState) : Type 0 where
   pub present : (entry : Option ℕ) (last : ℕ) (runs : Bool)
       → EndPlatesStand (start_state (insert_place empty end) 0) (with_belt (belt_of entry (Some last) runs))

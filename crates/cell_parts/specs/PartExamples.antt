@@ -221,7 +221,7 @@ pub record RawBounds : Type 0 where
   pub at_the_first : Reads short_scale 100 10
   pub in_the_middle : Reads short_scale 101 11
   pub at_the_last : Reads short_scale 102 13
-  pub behind_the_last : Reads short_scale 103 13
+  pub beyond_the_last : Reads short_scale 103 13
 
 pub record ShowingExamples : Type 0 where
   pub press_at_bottom : ShowsJust (press_rig.shows (at 10)) (press_sense true false false)
@@ -252,7 +252,7 @@ pub record NoteBounds (scale : Scale) (scales : RobotScales) : Type 0 where
   pub feed_takes : feed_hears Feed (Take Z6) (belt_with None false) ≡ belt_entered_at 0 false
   pub feed_advances : feed_hears Feed Advance (belt_entered_at 920 false) ≡ belt_with (Some 920) false
   pub feed_gives : feed_hears Feed (Give Z1) (belt_with (Some 1000) false) ≡ belt_with None false
-  pub feed_takes_behind : feed_hears Feed (Take Z6) (belt_with (Some 920) true) ≡ belt_at 0 920 true
+  pub feed_takes_another : feed_hears Feed (Take Z6) (belt_with (Some 920) true) ≡ belt_at 0 920 true
   pub feed_advances_while_it_runs : feed_hears Feed Advance (belt_entered_at 920 true) ≡ belt_with (Some 920) true
   pub feed_gives_before : feed_hears Feed (Give Z1) (belt_at 500 1000 true) ≡ belt_entered_at 500 true
   pub feed_refused : feed_rig.notes (belt_with None false) (event Feed (Take Z6) (Refused NoPlate)) ≡ belt_with None false
@@ -263,7 +263,7 @@ pub record NoteBounds (scale : Scale) (scales : RobotScales) : Type 0 where
   pub deposit_takes : deposit_hears Deposit (Take Z4) (belt_with None false) ≡ belt_entered_at 0 false
   pub deposit_advances : deposit_hears Deposit Advance (belt_entered_at 1000 false) ≡ belt_with (Some 1000) false
   pub deposit_gives : deposit_hears Deposit (Give Z5) (belt_with (Some 1000) false) ≡ belt_with None false
-  pub deposit_takes_behind : deposit_hears Deposit (Take Z4) (belt_with (Some 920) true) ≡ belt_at 0 920 true
+  pub deposit_takes_another : deposit_hears Deposit (Take Z4) (belt_with (Some 920) true) ≡ belt_at 0 920 true
   pub deposit_advances_while_it_runs : deposit_hears Deposit Advance (belt_entered_at 1000 true) ≡ belt_with (Some 1000) true
   pub deposit_gives_before : deposit_hears Deposit (Give Z5) (belt_at 500 1000 true) ≡ belt_entered_at 500 true
   pub deposit_refused : deposit_rig.notes (belt_with None false) (event Deposit (Take Z4) (Refused NoPlate)) ≡ belt_with None false
