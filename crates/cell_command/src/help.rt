@@ -1,20 +1,18 @@
-//! What the program's help says beside its usage: of each command a line before it, and behind it what
-//! is read, what is written, where the formats are described, and an example.
+//! What the help says besides usage: a line before it, and after it what is read and written, where the
+//! formats are described, and an example.
 
 /// Of the program.
 pub const CELL: &str =
     "Replays scripts of calls to the production cell's interlock, and simulates and runs the cell.";
 
-pub const OF_CELL: &str = "\
-Without a command a script is replayed. All input is standard input, all output
-standard output. The exit status is 0 where all went well, and for help; 1 for a
-refused input, a machine that was stopped, a refused audit, a failed read or write,
-a worker that couldn't be started and want of memory; 2 for words that aren't a
-command's.
+pub const CELL_DETAILS: &str = "\
+Without a command, a script is replayed. Input is standard input, output standard
+output. Exits with 0 on success and for help; with 1 if the input is refused, a
+machine stops, the audit fails, a read, a write or the start of a thread fails, or
+memory runs out; with 2 for bad arguments.
 
-docs/SCRIPTS.md describes scripts, their answers and the exit statuses,
-docs/CONFIGURATIONS.md what a simulation and a run read, docs/REPORTS.md what they
-write.
+docs/SCRIPTS.md describes scripts, answers and exit statuses, docs/CONFIGURATIONS.md
+what `sim` and `run` read, docs/REPORTS.md what they write.
 
 Examples:
   cell replay < examples/interior.csv
@@ -22,43 +20,44 @@ Examples:
   cell run --turns 3 < examples/six_workers.toml";
 
 /// Of `replay`.
-pub const REPLAY: &str = "Replays a script of calls, and writes how the interlock answers each.";
+pub const REPLAY: &str =
+    "Replays a script of calls to the interlock, and writes the answer to each.";
 
-pub const OF_REPLAY: &str = "\
-Reads a script: CSV, of which record 0 gives the start, and each later record the
-call of a machine. Writes a line for each record: its number, the stamp behind it,
-and the answer; a script that is refused ends with a line that begins with `fault`.
-docs/SCRIPTS.md describes both.
+pub const REPLAY_DETAILS: &str = "\
+Reads a script in CSV. Record 0 is the start, each later record a call of a machine.
+Writes a line for each record: its number, the stamp after it, and the answer. If
+the script is refused, the last line begins with `fault`. docs/SCRIPTS.md describes
+both.
 
 Example:
   cell replay < examples/interior.csv";
 
 /// Of `sim`.
-pub const SIM: &str = "Simulates the cell, and writes a report of the run.";
+pub const SIM: &str = "Simulates the cell along a schedule of turns, and writes a report.";
 
-pub const OF_SIM: &str = "\
-Reads a configuration: TOML with the start, the schedule of turns, and how the
-potentiometers are calibrated. Writes a report: what each machine did, how the cell
-stands at the end, and what an audit finds in the machines' journals; or a line that
-begins with `fault`. docs/CONFIGURATIONS.md describes what is read, docs/REPORTS.md
-what is written.
+pub const SIM_DETAILS: &str = "\
+Reads a configuration in TOML: the start, the schedule of turns, and the calibrations
+of the five potentiometers. Writes a report: what each machine did, the cell at the
+end, and what an audit of the machines' journals (their logs of calls) found. If the
+configuration is refused, writes one line that begins with `fault`.
+docs/CONFIGURATIONS.md describes what is read, docs/REPORTS.md what is written.
 
 Example:
   cell sim < examples/press.toml";
 
 /// Of `run`.
-pub const RUN: &str = "Runs the cell by six workers at once, and writes a report of the run.";
+pub const RUN: &str = "Runs the six machines in six threads, and writes a report.";
 
-pub const OF_RUN: &str = "\
-Reads a configuration, as `sim` does; its schedule is checked and not used. Each
-machine is run by a worker of its own, and all of them share the interlock. Writes a
-report, or a line that begins with `fault`. docs/CONFIGURATIONS.md describes what is
-read, docs/REPORTS.md what is written.
+pub const RUN_DETAILS: &str = "\
+Reads a configuration, as `sim` does. Its schedule is checked but not used. Each
+machine has a thread of its own, and all share the interlock. Writes a report, or a
+line that begins with `fault`. docs/CONFIGURATIONS.md describes what is read,
+docs/REPORTS.md what is written.
 
 Example:
   cell run --turns 3 --tries 64 < examples/six_workers.toml";
 
 /// Of the flags of `run`.
-pub const TURNS: &str = "How many turns each worker takes, from 1 to 100000";
+pub const TURNS: &str = "Turns of each machine, 1 to 100000";
 
-pub const TRIES: &str = "How often a call may be overtaken before it is Busy, from 1 to 64";
+pub const TRIES: &str = "Failed tries after which a call is Busy, 1 to 64";

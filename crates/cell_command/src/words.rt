@@ -70,9 +70,9 @@ pub fn read_words(alloc: Global, words: &[&str]) -> Result<Mode, Error>
 fn command<'a>(alloc: Global) -> Result<Command<'a>, AllocError>
     ensures { IfOk result (λ command. app_of command ≡ program) }
 {
-    let cell = command_with_help(alloc, "cell", help::CELL, help::OF_CELL);
-    let cell = with_word(alloc, cell, "replay", help::REPLAY, help::OF_REPLAY)?;
-    let cell = with_word(alloc, cell, "sim", help::SIM, help::OF_SIM)?;
+    let cell = command_with_help(alloc, "cell", help::CELL, help::CELL_DETAILS);
+    let cell = with_word(alloc, cell, "replay", help::REPLAY, help::REPLAY_DETAILS)?;
+    let cell = with_word(alloc, cell, "sim", help::SIM, help::SIM_DETAILS)?;
     with_run(alloc, cell)
 }
 
@@ -101,7 +101,7 @@ fn run_command<'a>(alloc: Global) -> Result<Command<'a>, AllocError>
     ensures app { IfOk result (λ command. app_of command ≡ run_command) }
     ensures local { IfOk result (λ command. (fields_of command).has_globals ≡ false) }
 {
-    let run = command_with_help(alloc, "run", help::RUN, help::OF_RUN);
+    let run = command_with_help(alloc, "run", help::RUN, help::RUN_DETAILS);
     let turns = number_flag(alloc, "turns", MOST_TURNS, "1000", help::TURNS);
     let run = run.arg(turns)?;
     run.arg(number_flag(alloc, "tries", MOST_TRIES, "8", help::TRIES))
