@@ -20,5 +20,6 @@ pub fn turns_by_answers<P: Program>(program: &P, progress: P::Progress, sense: &
 /// A motor that enters a zone demands that its machine holds the zone, and that the zone has the
 /// posture.
 pub fn demands_of_a_zone()
-    ensures { (m : Machine) (opening : ModelState) (seen : List Event) (zone : Zone) (posture : Posture) → ZoneDemandRows m opening seen zone posture }
+    ensures { (m : Machine) (opening : ModelState) (seen : List Event) (zone : Zone) (posture : Posture)
+        → ZoneDemandRows m opening seen zone posture }
 {}

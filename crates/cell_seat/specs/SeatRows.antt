@@ -38,7 +38,7 @@ pub record FareRows : Type 0 where
 
 -- ---- a machine's side after a turn over any line
 
--- it has come there, or was stopped by this; and its part was told this and has moved for a tick
+-- it has come there, or was stopped by this; its actuators are set so, and its part has moved for a tick
 abbrev pub comes_to : {S Sense Act State : Type 0} → Rig State Sense Act → S → Option CtlFault → State → Act → Side S State
 comes_to rig progress stopped part act = record { progress = progress; stopped = stopped; part = rig.moves (rig.set part act) }
 
@@ -124,7 +124,7 @@ pub record Drives {S Sense Reading Act State : Type 0} (t : Steps S Sense Readin
   pub bench : BenchStays old new
   pub side : now ≡ comes_to rig (t.after_drive before.progress reading act) None before.part act
   pub noted : notes' ≡ notes_with notes None
-  pub demanded : now.stopped ≡ None → (told : Act) × (now.part ≡ rig.moves (rig.set before.part told)) × t.motor_demands before.progress told new.opening new.history
+  pub demanded : now.stopped ≡ None → (set : Act) × (now.part ≡ rig.moves (rig.set before.part set)) × t.motor_demands before.progress set new.opening new.history
 
 pub record SeatRows {S Sense Reading Act State : Type 0} (t : Steps S Sense Reading Act) (rig : Rig State Sense Act) (old new : Desk) (before now : Side S State) (notes notes' : Notes) : Type 0 where
   pub stopped : (f : CtlFault) (busy : Bool) → before.stopped ≡ Some f → SeatTurn t rig busy old new before now notes notes' → PassedOver old new before now notes notes'

@@ -17,10 +17,12 @@ pub fn fares_by_faults()
 /// part, for each answer, a call that was refused its memory, a drive, sensors that can't be used and a
 /// controller that has stopped.
 pub fn sides_by_answers<P: Program, B: Part<Sense = P::Sense, Act = P::Act>>(seat: &Seat<P, B>)
-    ensures { (before now : Side P.Progress B.State) (asked : Asked) → SideRows (P.steps seat.now.controller.program) (B.rig (B.make seat.now.part)) before asked now }
+    ensures { (before now : Side P.Progress B.State) (asked : Asked)
+        → SideRows (P.steps seat.now.controller.program) (B.rig (B.make seat.now.part)) before asked now }
 {}
 
 /// What a turn over a bench leaves of any machine, of the bench and of the notebook.
 pub fn turns_at_a_bench<P: Program, B: Part<Sense = P::Sense, Act = P::Act>>(seat: &Seat<P, B>)
-    ensures { (old new : Desk) (before now : Side P.Progress B.State) (notes after : Notes) → SeatRows (P.steps seat.now.controller.program) (B.rig (B.make seat.now.part)) old new before now notes after }
+    ensures { (old new : Desk) (before now : Side P.Progress B.State) (notes after : Notes)
+        → SeatRows (P.steps seat.now.controller.program) (B.rig (B.make seat.now.part)) old new before now notes after }
 {}
