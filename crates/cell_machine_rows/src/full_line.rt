@@ -96,10 +96,10 @@ fn stops<P: Program>(
     let first = controller.turn(line, sense).err();
     let asked = line.heard();
     let then = controller.turn(line, sense).err();
-    let faulted = first == Some(CtlFault::Memory) && then == Some(CtlFault::Stopped);
+    let told = first == Some(CtlFault::Memory) && then == Some(CtlFault::Stopped);
     let once = asked.asks == 1 && asked.last == Some((call, Err(LineFault::Memory)));
     let stays = line.heard() == asked && controller.stopped() == Some(CtlFault::Memory);
-    silent && faulted && once && stays
+    silent && told && once && stays
 }
 
 fn belts_and_press_stop(start: State) -> bool {
