@@ -1,5 +1,5 @@
 -- The examples of the parts.
-use Rattle.std.proofs.Common.{◌≡◌, ◌↔◌, ℕ, ◌+◌, ◌<◌, ◌≤◌, ℤ, pos, ◌≤ℤ◌, ◌<ℤ◌, Bool, true, false, inl, inr, refl, arith}
+use Rattle.std.proofs.Common.{◌≡◌, ◌≢◌, ◌↔◌, ℕ, ◌+◌, ◌<◌, ◌≤◌, ℤ, pos, ◌≤ℤ◌, ◌<ℤ◌, Bool, true, false, inl, inr, refl, arith}
 use Rattle.std.specs.Prelude.{T}
 use Rattle.std.proofs.lemmas.Int.{ints}
 use Rattle.std.proofs.lemmas.Bool.{false_from_ne_true}
@@ -7,8 +7,13 @@ use Rattle.std.specs.Int.Signed.{le_z, lt_z, le_z_yes, lt_z_yes}
 use Rattle.cell_calib.specs.Scale.{Scale, IsScale}
 use Rattle.cell_calib.specs.Line.{height_of, line_height, IsRawAt}
 use Rattle.cell_calib.proofs.LineLemmas.{one_raw_at}
+use Rattle.cell_types.specs.declared.machine.Machine.TheVariants.{Feed, Deposit}
+use Rattle.cell_types.specs.declared.zone.Zone.{Zone}
+use Rattle.cell_types.specs.declared.zone.Zone.TheVariants.{Z1, Z2, Z3, Z4, Z5, Z6}
+use Rattle.cell_types.specs.declared.call.Call.TheVariants.{Give, Take}
+use Rattle.cell_parts.specs.declared.belt.Belt.{Belt}
 use Rattle.cell_parts.specs.Axes.{RobotScales}
-use Rattle.cell_parts.specs.PartExamples.{SettingExamples, MovingBounds, SensorBounds, press_sense, table_sense, robot_sense, crane_sense, feed_sense, deposit_sense, Reads, scale_to, odd_arm1, odd_arm2, odd_rotation, odd_turn, odd_gripper, three_for_two, short_scale, RawBounds, ShowingExamples, NoteBounds, StartValues}
+use Rattle.cell_parts.specs.PartExamples.{SettingExamples, MovingBounds, SensorBounds, press_sense, table_sense, robot_sense, crane_sense, feed_sense, deposit_sense, Reads, scale_to, odd_arm1, odd_arm2, odd_rotation, odd_turn, odd_gripper, three_for_two, short_scale, RawBounds, ShowingExamples, feed_hears, deposit_hears, NoteBounds, StartValues}
 use Rattle.cell_parts.proofs.Contrasts.{neither, false_true}
 use Rattle.cell_parts.proofs.Figures.{always, never, order, past, inside}
 
@@ -213,6 +218,40 @@ showing = record {
   deposit_sees_none = (record { barrier = never false_true (neither (λ k. k.0.le) (λ k. k.1.le)) }, λ other s. deposit_as other.barrier false (off_unless other.barrier s.barrier (neither (λ k. k.0.le) (λ k. k.1.le))));
 }
 
+-- ---- what is noted
+
+feed_gives_elsewhere : (b : Belt) (z : Zone) → z ≢ Z1 → feed_hears Feed (Give z) b ≡ b
+feed_gives_elsewhere b Z1 other = absurd (other refl)
+feed_gives_elsewhere b Z2 other = refl
+feed_gives_elsewhere b Z3 other = refl
+feed_gives_elsewhere b Z4 other = refl
+feed_gives_elsewhere b Z5 other = refl
+feed_gives_elsewhere b Z6 other = refl
+
+feed_takes_elsewhere : (b : Belt) (z : Zone) → z ≢ Z6 → feed_hears Feed (Take z) b ≡ b
+feed_takes_elsewhere b Z1 other = refl
+feed_takes_elsewhere b Z2 other = refl
+feed_takes_elsewhere b Z3 other = refl
+feed_takes_elsewhere b Z4 other = refl
+feed_takes_elsewhere b Z5 other = refl
+feed_takes_elsewhere b Z6 other = absurd (other refl)
+
+deposit_gives_elsewhere : (b : Belt) (z : Zone) → z ≢ Z5 → deposit_hears Deposit (Give z) b ≡ b
+deposit_gives_elsewhere b Z1 other = refl
+deposit_gives_elsewhere b Z2 other = refl
+deposit_gives_elsewhere b Z3 other = refl
+deposit_gives_elsewhere b Z4 other = refl
+deposit_gives_elsewhere b Z5 other = absurd (other refl)
+deposit_gives_elsewhere b Z6 other = refl
+
+deposit_takes_elsewhere : (b : Belt) (z : Zone) → z ≢ Z4 → deposit_hears Deposit (Take z) b ≡ b
+deposit_takes_elsewhere b Z1 other = refl
+deposit_takes_elsewhere b Z2 other = refl
+deposit_takes_elsewhere b Z3 other = refl
+deposit_takes_elsewhere b Z4 other = absurd (other refl)
+deposit_takes_elsewhere b Z5 other = refl
+deposit_takes_elsewhere b Z6 other = refl
+
 pub notes : (scale : Scale) (scales : RobotScales) → NoteBounds scale scales
 notes scale scales = record {
   feed_takes = refl;
@@ -225,7 +264,7 @@ notes scale scales = record {
   feed_hears_crane = refl;
   feed_hears_table = refl;
   feed_hears_press = refl;
-  feed_is_busy_elsewhere = refl;
+  feed_stays = record { claims = λ b z. refl; gives = feed_gives_elsewhere; yields = λ b z. refl; takes = feed_takes_elsewhere; releases = λ b z. refl; poses = λ b p. refl; inquires = λ b z. refl };
   deposit_takes = refl;
   deposit_advances = refl;
   deposit_gives = refl;
@@ -236,7 +275,7 @@ notes scale scales = record {
   deposit_hears_robot = refl;
   deposit_hears_crane = refl;
   deposit_hears_feed = refl;
-  deposit_is_busy_elsewhere = refl;
+  deposit_stays = record { claims = λ b z. refl; gives = deposit_gives_elsewhere; yields = λ b z. refl; takes = deposit_takes_elsewhere; releases = λ b z. refl; poses = λ b p. refl; inquires = λ b z. refl };
   table_notes_nothing = λ part e. refl;
   robot_notes_nothing = λ part e. refl;
   press_notes_nothing = λ part e. refl;

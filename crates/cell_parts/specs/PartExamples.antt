@@ -1,10 +1,12 @@
 -- Examples of the parts: what they are set to, how they move, what their sensors show, what they note, and where they begin.
-use Rattle.std.specs.Prelude.{◌≡◌, ◌↔◌, ℕ, ◌≤◌, pos, Bool, true, false, Some, None}
+use Rattle.std.specs.Prelude.{◌≡◌, ◌≢◌, ◌↔◌, ℕ, ◌≤◌, pos, Bool, true, false, Some, None}
 use Rattle.cell_types.specs.declared.machine.Machine.{Machine}
 use Rattle.cell_types.specs.declared.machine.Machine.TheVariants.{Feed, Table, Robot, Press, Deposit, Crane}
+use Rattle.cell_types.specs.declared.zone.Zone.{Zone}
 use Rattle.cell_types.specs.declared.zone.Zone.TheVariants.{Z1, Z4, Z5, Z6}
+use Rattle.cell_types.specs.declared.pose.Pose.{Pose}
 use Rattle.cell_types.specs.declared.call.Call.{Call}
-use Rattle.cell_types.specs.declared.call.Call.TheVariants.{Claim, Give, Take, Advance}
+use Rattle.cell_types.specs.declared.call.Call.TheVariants.{Claim, Give, Yield, Take, Release, SetPose, Advance, Inquire}
 use Rattle.cell_types.specs.declared.answer.Answer.TheVariants.{Done, Refused}
 use Rattle.cell_types.specs.declared.answer.Event.{Event}
 use Rattle.cell_types.specs.declared.answer.Refusal.TheVariants.{NoPlate}
@@ -248,6 +250,16 @@ feed_hears m call b = feed_rig.notes b (event m call Done)
 abbrev pub deposit_hears : Machine → Call → Belt → Belt
 deposit_hears m call b = deposit_rig.notes b (event m call Done)
 
+-- a belt is changed by its machine's take at one zone, give at another and advance; the machine's other calls leave it as it is
+pub record StaysByOtherCalls (hears : Call → Belt → Belt) (taken given : Zone) : Type 0 where
+  pub claims : (b : Belt) (z : Zone) → hears (Claim z) b ≡ b
+  pub gives : (b : Belt) (z : Zone) → z ≢ given → hears (Give z) b ≡ b
+  pub yields : (b : Belt) (z : Zone) → hears (Yield z) b ≡ b
+  pub takes : (b : Belt) (z : Zone) → z ≢ taken → hears (Take z) b ≡ b
+  pub releases : (b : Belt) (z : Zone) → hears (Release z) b ≡ b
+  pub poses : (b : Belt) (p : Pose) → hears (SetPose p) b ≡ b
+  pub inquires : (b : Belt) (z : Zone) → hears (Inquire z) b ≡ b
+
 pub record NoteBounds (scale : Scale) (scales : RobotScales) : Type 0 where
   pub feed_takes : feed_hears Feed (Take Z6) (belt_with None false) ≡ belt_entered_at 0 false
   pub feed_advances : feed_hears Feed Advance (belt_entered_at 920 false) ≡ belt_with (Some 920) false
@@ -259,7 +271,7 @@ pub record NoteBounds (scale : Scale) (scales : RobotScales) : Type 0 where
   pub feed_hears_crane : feed_hears Crane (Give Z6) (belt_with (Some 1000) false) ≡ belt_with (Some 1000) false
   pub feed_hears_table : feed_hears Table (Take Z1) (belt_with (Some 1000) false) ≡ belt_with (Some 1000) false
   pub feed_hears_press : feed_hears Press Advance (belt_entered_at 920 false) ≡ belt_entered_at 920 false
-  pub feed_is_busy_elsewhere : feed_hears Feed (Claim Z6) (belt_at 0 1000 false) ≡ belt_at 0 1000 false
+  pub feed_stays : StaysByOtherCalls (feed_hears Feed) Z6 Z1
   pub deposit_takes : deposit_hears Deposit (Take Z4) (belt_with None false) ≡ belt_entered_at 0 false
   pub deposit_advances : deposit_hears Deposit Advance (belt_entered_at 1000 false) ≡ belt_with (Some 1000) false
   pub deposit_gives : deposit_hears Deposit (Give Z5) (belt_with (Some 1000) false) ≡ belt_with None false
@@ -270,7 +282,7 @@ pub record NoteBounds (scale : Scale) (scales : RobotScales) : Type 0 where
   pub deposit_hears_robot : deposit_hears Robot (Give Z4) (belt_with None false) ≡ belt_with None false
   pub deposit_hears_crane : deposit_hears Crane (Take Z5) (belt_with (Some 1000) false) ≡ belt_with (Some 1000) false
   pub deposit_hears_feed : deposit_hears Feed Advance (belt_entered_at 1000 false) ≡ belt_entered_at 1000 false
-  pub deposit_is_busy_elsewhere : deposit_hears Deposit (Claim Z5) (belt_at 0 1000 false) ≡ belt_at 0 1000 false
+  pub deposit_stays : StaysByOtherCalls (deposit_hears Deposit) Z4 Z5
   pub table_notes_nothing : (t : TablePlant) (e : Event) → (table_rig scale).notes t e ≡ t
   pub robot_notes_nothing : (r : RobotPlant) (e : Event) → (robot_rig scales).notes r e ≡ r
   pub press_notes_nothing : (a : Axis) (e : Event) → press_rig.notes a e ≡ a
