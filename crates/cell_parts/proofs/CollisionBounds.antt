@@ -1,4 +1,4 @@
--- The collisions in figures.
+-- The collisions in numbers.
 use Rattle.std.proofs.Common.{◌≡◌, ◌↔◌, ℕ, ℤ, pos, Bool, true, false, ◌⊎◌, inl, inr, refl}
 use Rattle.std.specs.Int.Signed.{le_z_yes, lt_z_yes}
 use Rattle.cell_devices.specs.declared.motor.Motor.{Motor}
@@ -20,7 +20,7 @@ collisions = record {
   plate_misses_table = λ entry last runs lift turn height turning. all_three same (some last) (either (either (driven height) (driven turning)) (either (beyond 10 lift) (past 20 turn)));
 }
 
--- a magnet that is off after the turn as before lets nothing go
+-- a magnet that was off before the turn and is off after it drops nothing
 kept_off : {A : Type 0} → ¬ (LetsGo false false × A)
 kept_off k = false_true k.0.0
 
@@ -36,7 +36,7 @@ magnets = record {
 
 -- ---- the ends of the axes
 
--- an axis at rest drives past no end
+-- an axis at rest isn't driven past its end
 at_rest : (end p : ℤ) → ¬ DrivesPast end (record { position = p; motor = Off })
 at_rest end p = neither (λ k. off_minus k.1) (λ k. off_plus k.1)
 

@@ -1,4 +1,4 @@
--- What positions and motors demand, in figures.
+-- What positions and motors demand, in numbers.
 use Rattle.std.proofs.Common.{◌≡◌, ◌≢◌, ◌↔◌, ◌∙◌, sym, ap, cond, ℕ, ◌<◌, ◌≤◌, false, Some, ◌⊎◌, inl, inr, refl, arith}
 use Rattle.std.proofs.lemmas.Bool.{false_from_ne_true}
 use Rattle.std.specs.Int.Signed.{lt_z_yes}
@@ -35,7 +35,7 @@ in_out e = cc
 out_in : ¬ (OpenOut ≡ OpenIn)
 out_in e = cc
 
--- ---- whose zone is demanded, which, and in which posture
+-- ---- whose zone is demanded, which one, and in which posture
 
 one_owner : (n m : Machine) → Some n ≡ Some m → n ≡ m
 one_owner n m e = cc
@@ -49,7 +49,7 @@ put_here s m q = each_zone (λ z. zone_at (with_zone s m z q) z ≡ zone_of m q)
 put_elsewhere : (s : ModelState) (m : Machine) (q : Posture) (z y : Zone) → y ≢ z → zone_at (with_zone s m y q) z ≡ zone_at s z
 put_elsewhere s m q z y other = zone_in-put s.zones (zone_of m q) y z ∙ ap (λ b. cond b (zone_of m q) (zone_at s z)) (other_zone z y other)
 
--- what demands no less asks for it, where it isn't had yet
+-- what demands no less asks for the zone, if the machine doesn't hold it yet
 module _ (s : ModelState) (m : Machine) (z : Zone) (q : Posture) (Demands : ModelState → Type 0) where
   asks_for : Demands (with_zone s m z q) → ((t : ModelState) → Demands t → HoldsIn q t m z) → owns s m z ≡ false → AsksFor s m z q Demands
   asks_for met need before = record {

@@ -1,4 +1,4 @@
--- Conditions that come to the same, part by part: orders of integers and of their figures, motors, plates.
+-- Equivalent conditions, part by part: comparisons of integers and of natural numbers, motors, plates.
 use Rattle.std.proofs.Common.{◌≡◌, ◌≢◌, ◌↔◌, ℕ, ◌+◌, ◌≤◌, pos, ◌≤ℤ◌, ◌<ℤ◌, Option, Some, None, option_map, ◌⊎◌, inl, inr, IsSome, refl, arith}
 use Rattle.std.proofs.lemmas.Int.{ints, by_lt_z}
 use Rattle.cell_devices.specs.declared.motor.Motor.{Motor}
@@ -30,18 +30,18 @@ denied f = (λ k b. k (f.1 b), λ k a. k (f.0 a))
 pub given : {A B C D : Type 0} → (A ↔ C) → (B ↔ D) → (A → B) ↔ (C → D)
 given f g = (λ k c. g.0 (k (f.1 c)), λ k a. g.1 (k (f.0 a)))
 
--- the one of two that can be
+-- one of two alternatives is impossible
 pub only_first : {A B R : Type 0} → (A ↔ B) → ¬ R → (A ⊎ R) ↔ B
 only_first f never_other = (λ k. elim k [ inl a ↦ f.0 a | inr r ↦ absurd (never_other r) ], λ b. inl (f.1 b))
 
 pub only_second : {A B L : Type 0} → ¬ L → (A ↔ B) → (L ⊎ A) ↔ B
 only_second never_other f = (λ k. elim k [ inl l ↦ absurd (never_other l) | inr a ↦ f.0 a ], λ b. inr (f.1 b))
 
--- what is demanded under a condition that holds
+-- a demand whose condition holds
 pub due : {A B C : Type 0} → A → (B ↔ C) → (A → B) ↔ C
 due a f = (λ demand. f.0 (demand a), λ c x. f.1 c)
 
--- ---- figures
+-- ---- numbers
 
 pub order : (a b : ℕ) → (pos a ≤ℤ pos b) ↔ (a ≤ b)
 order a b = (λ k. omega (arith, ints), λ k. omega (arith, ints))

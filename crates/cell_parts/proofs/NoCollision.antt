@@ -26,14 +26,14 @@ use Rattle.cell_parts.specs.PositionDemands.{RestsAtLoading, EndPlatesStand, Pos
 use Rattle.cell_parts.specs.MotorDemands.{GripperErrand, AtDeposit, AtFeed, ErrandDemands, MotorDemands, RotatesRetracted, CraneDrivesIn, DrivesIn, Rests}
 use Rattle.cell_parts.specs.Laws.{DemandsPreventCollisions, MotorDemandsKeepApart}
 
--- no position is up to one and from a later one, nor in two spans of which the first ends before the other
+-- no position is at most one bound and at least a later one, nor in two spans if one ends before the other begins
 beyond : (last first x : ℤ) → last <ℤ first → x ≤ℤ last → first ≤ℤ x → ⊥
 beyond last first x apart a b = omega (arith, ints)
 
 in_both : (a b : Span) (x : ℤ) → a.last <ℤ b.first → IsIn a x → IsIn b x → ⊥
 in_both a b x apart one other = beyond a.last b.first x apart one.1 other.0
 
--- a zone that moves isn't open
+-- a moving zone isn't open
 moving_or_in : (q : Posture) → q ≡ Moving → q ≡ OpenIn → ⊥
 moving_or_in q moves e = cc
 
@@ -43,7 +43,7 @@ moving_or_out q moves e = cc
 moving_or_open : (q : Posture) → is_open q ≡ true → q ≡ Moving → ⊥
 moving_or_open q o moves = cc
 
--- z1 has no posture to be left by
+-- z1 has no posture OpenOut
 only_in : (q : Posture) → is_open q ≡ true → is_of_some_pose Z1 q ≡ true → q ≡ OpenIn
 only_in OpenIn o posed = refl
 only_in OpenOut o posed = cc
@@ -53,7 +53,7 @@ only_in Moving o posed = cc
 full_and_empty : (b : Bool) → b ≡ true → b ≡ false → ⊥
 full_and_empty b e f = cc
 
--- ---- where a part that is out stands, and what its machine holds there
+-- ---- the place of a part that is out, and what its machine holds there
 
 module _ (s : ModelState) (p : PlantState) (k : PositionDemands s p) where
   z3_for_arm1 : IsOut p.robot.arm1 → IsArm1InPress p.robot → posture_at s Z3 ≡ OpenIn
@@ -80,7 +80,7 @@ module _ (s : ModelState) (p : PlantState) (k : PositionDemands s p) where
   z6_for_gripper down over =
       elim (k.gripper down) [ inl h ↦ absurd (beyond over_deposit_to over_feed_from p.crane.travel.position (lt_z_yes tt) h.0 over) | inr h ↦ h.1.1 ]
 
-  -- an arm is in the press only where that rests
+  -- an arm is in the press only while the press rests
   no_arm_hits_press : ¬ ArmHitsPress p
   no_arm_hits_press (inl h) = h.2 (k.press.0 (z3_for_arm1 h.0 h.1))
   no_arm_hits_press (inr h) = h.2 (k.press.1 (z3_for_arm2 h.0 h.1))
@@ -100,7 +100,7 @@ module _ (s : ModelState) (p : PlantState) (k : PositionDemands s p) where
     no_feed_belt_pulls : ¬ FeedBeltPulls p
     no_feed_belt_pulls h = moving_or_in (posture_at s Z6) (motors.feed h.0).0.1 (z6_for_gripper h.1 h.2)
 
-    -- feed holds z1, whose guest it is: so that is open, and open inward, and the table stands ready to load
+    -- feed holds z1 as its guest, so z1 is open inward, and the table is ready to load
     table_is_ready : IsSound s → IsTrue (owns s Feed Z1) → RestsAtLoading p.table
     table_is_ready sound held =
         let o = implied (owns s Feed Z1) (is_open (posture_at s Z1)) (sound.guest_only_while_open Z1) held in
@@ -152,7 +152,7 @@ module _ (errand : GripperErrand) (s : ModelState) (p : PlantState) (belts : End
   rests Z5 o = false_from_ne_true p.deposit.runs (λ runs. moving_or_open (posture_at s Z5) o (k.deposit runs).1.1)
   rests Z6 o = false_from_ne_true p.feed.runs (λ runs. moving_or_open (posture_at s Z6) o (k.feed runs).0.1)
 
-  -- who drives in a zone holds it
+  -- a machine that drives in a zone holds it
   arm1_holds_press : IsOn p.robot.arm1 → IsArm1InPress p.robot → owns s Robot Z3 ≡ true
   arm1_holds_press on at =
       elim (k.arm1 on) [ inl h ↦ absurd (in_both arm1_at_table arm1_in_press p.robot.rotation.position (lt_z_yes tt) h.0 at) | inr h ↦ h.1.0 ]

@@ -77,7 +77,7 @@ sensors = record {
   no_plate_in_it = λ k. k;
 }
 
--- ---- what is shown, and nothing else
+-- ---- exactly what is shown
 
 off_unless : {P : Type 0} → (b : Bool) → ((b ≡ true) ↔ P) → ¬ P → b ≡ false
 off_unless b shown not = false_from_ne_true b (λ on. not (shown.0 on))
@@ -135,7 +135,7 @@ turn_scale = limits 500 1 1000 (omega arith) (omega arith) (omega arith) (omega 
 gripper_scale : IsScale odd_gripper
 gripper_scale = limits 1000 5 1508 (omega arith) (omega arith) (omega arith) (omega arith)
 
--- between the points of a scale one raw value alone is shown
+-- between the points of a scale exactly one raw value is shown
 between : (s : Scale) (p raw : ℕ) → IsScale s → T (le_z s.at_lo (pos p)) → T (le_z (pos p) s.at_hi) → T (le_z (line_height s raw) (height_of s (pos p)))
     → T (lt_z (height_of s (pos p)) (line_height s (raw + 1))) → Reads s p raw
 between s p raw k from to low high =

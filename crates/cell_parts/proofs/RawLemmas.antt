@@ -13,7 +13,7 @@ floor_naturals along width rise q some e = rw e (div-mul-le_self (along * width)
 raw_gap : (lo n : ℕ) → lo ≤ n → pos n -ℤ pos lo ≡ pos (n - lo)
 raw_gap lo n h = omega (arith, ints)
 
--- the part of the raw width that a position's distance from the first is of the length, rounded down
+-- the share of the raw width that a position's distance from the first point is of the length, rounded down
 pub raw_rounded_down : (s : Scale) (position : ℤ) (along rise q : ℕ) → IsScale s → s.at_hi -ℤ s.at_lo ≡ pos rise → position -ℤ s.at_lo ≡ pos along → q ≡ along * (s.raw_hi - s.raw_lo) / rise
     → IsRawAt s position (s.raw_lo + q)
 raw_rounded_down s position along rise q k rises is part =
@@ -27,7 +27,7 @@ raw_rounded_down s position along rise q k rises is part =
       next_above = rw (next, width, is, rises) (omega (arith, ints));
     }
 
--- the whole of the length has the whole of the raw width
+-- the whole length gives the whole raw width
 pub raw_at_end : (s : Scale) (along rise q : ℕ) → IsScale s → s.at_hi -ℤ s.at_lo ≡ pos rise → pos along ≡ s.at_hi -ℤ s.at_lo → q ≡ along * (s.raw_hi - s.raw_lo) / rise
     → s.raw_lo + q ≡ s.raw_hi
 raw_at_end s along rise q k rises whole part =
@@ -36,10 +36,10 @@ raw_at_end s along rise q k rises whole part =
     let width : q ≡ s.raw_hi - s.raw_lo = rw (part, same) (mul-div_cancel_left (s.raw_hi - s.raw_lo) some) in
     omega arith
 
--- none of it has none
+-- zero length gives zero raw width
 pub raw_at_start : (s : Scale) (along rise q : ℕ) → along ≡ 0 → q ≡ along * (s.raw_hi - s.raw_lo) / rise → s.raw_lo + q ≡ s.raw_lo
 raw_at_start s along rise q nothing part = let none : q ≡ 0 = rw (part, nothing) (grind arith) in omega arith
 
--- for a scale of this axis the raw value is always that of the position
+-- for a scale of this axis the raw value is always the position's
 pub raw_of_axis : (end position : ℤ) (s : Scale) (raw : ℕ) → IsAxisScale end s → IsWithin end position → ShowsRaw s position raw → IsRawAt s position raw
 raw_of_axis end position s raw axis within shows = shows.between (rw axis.from within.first) (rw axis.to within.last)

@@ -16,7 +16,8 @@ use Rattle.cell_parts.specs.Examples.{zone_of, at, driven_at, robot_at, table_at
 abbrev pub all_moving : ModelState
 all_moving = model_state (zone_map (zone_of Table Moving) (zone_of Table Moving) (zone_of Press Moving) (zone_of Deposit Moving) (zone_of Deposit Moving) (zone_of Feed Moving)) empty 0
 
--- both belts run, table and press move, the robot turns, and the crane travels and sets its height for travel
+-- both belts run, table and press move, the robot rotates, and the crane travels and drives its gripper to its
+-- travelling height
 abbrev pub all_driven : PlantState
 all_driven = record {
   feed = belt_with None true;
@@ -27,13 +28,14 @@ all_driven = record {
   crane = crane_at (driven_at 1000 Plus) (driven_at 900 Plus);
 }
 
--- z1 is open for a plate of feed, z3 for the second arm and z5 for the crane, and each of these holds it
+-- z1 is open for feed's plate, z3 for the second arm and z5 for the crane, and each of these guests holds its zone
 abbrev pub guests_inside : ModelState
 guests_inside =
     model_state (zone_map (zone_of Feed OpenIn) (zone_of Table Closed) (zone_of Robot OpenOut) (zone_of Deposit Closed) (zone_of Crane OpenOut) (zone_of Feed Moving))
     (insert_place (insert_place empty place.FeedEnd) place.DepEnd) 0
 
--- the feed belt runs with a plate at its end, the second arm goes into the press and the gripper down to the deposit belt
+-- the feed belt runs with a plate at its end, the second arm goes into the press, and the gripper goes down to the
+-- deposit belt
 abbrev pub guests_driven : PlantState
 guests_driven = record {
   feed = belt_with (Some 950) true;

@@ -24,18 +24,18 @@ crane_end = pos 2000
 abbrev pub gripper_end : ℤ
 gripper_end = pos 1000
 
--- how far an axis goes in a tick, and a plate on a belt that runs
+-- how far an axis goes in a tick, and how far a running belt carries a plate
 abbrev pub speed : ℤ
 speed = pos 20
 
--- where the robot's rotation and the gripper's height begin; the press begins at its end, and all else at 0
+-- the start of the robot's rotation and of the gripper's height; the press starts at its end, everything else at 0
 abbrev pub rotation_start : ℤ
 rotation_start = pos 300
 
 abbrev pub gripper_start : ℤ
 gripper_start = pos 900
 
--- how far a belt takes a plate, and where a plate begins that is at its end
+-- the end of a belt, and the start of a plate at its end
 abbrev pub belt_end : ℤ
 belt_end = pos 1100
 
@@ -45,7 +45,7 @@ feed_plate_start = pos 900
 abbrev pub deposit_plate_start : ℤ
 deposit_plate_start = pos 1000
 
--- a scale for an axis: its positions are the axis's ends, and its raw values are at least as many as the positions
+-- a scale for an axis: its positions are the axis's ends, and it has at least as many raw values as positions
 pub record IsAxisScale (end : ℤ) (s : Scale) : Type 0 where
   pub scale : IsScale s
   pub from : s.at_lo ≡ pos 0
@@ -77,7 +77,7 @@ pub record IsWithin (end position : ℤ) : Type 0 where
   pub first : pos 0 ≤ℤ position
   pub last : position ≤ℤ end
 
--- positions from a first to a last, both among them
+-- positions from a first to a last, both included
 pub record Span : Type 0 where
   pub first : ℤ
   pub last : ℤ

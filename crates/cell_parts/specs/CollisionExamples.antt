@@ -1,5 +1,5 @@
--- Collisions in figures. A rule holds for all positions and motors of the parts that it names: so at both ends of each
--- interval, one step inside it and one step outside, and for a motor that is driven either way.
+-- Collisions in numbers. A rule is stated for all positions and motors of its parts: at both ends of each interval, one
+-- step inside it, one step outside, and for a motor that drives either way.
 use Rattle.std.specs.Prelude.{◌≡◌, ◌↔◌, ℕ, ◌≤◌, Bool, true, false, ◌⊎◌, IsTrue, IsSome, Option, Some, None}
 use Rattle.cell_types.specs.declared.machine.Machine.{Machine}
 use Rattle.cell_types.specs.declared.machine.Machine.TheVariants.{Table, Robot, Press, Crane}
@@ -12,19 +12,19 @@ use Rattle.cell_parts.specs.Examples.{FromTo, IsDriven, empty_cell, driven_at, a
 
 -- ---- seven collisions
 
--- both arms at a rotation of the robot, beside the press, and beside the table by its height and its rotation
+-- both arms at a rotation of the robot; with them the press, or the table by its height and its rotation
 abbrev pub arms_and_press : ℕ → ℕ → ℕ → Axis → PlantState
 arms_and_press arm1 arm2 rotation press = record empty_cell { robot = robot_at (at arm1) (at arm2) (at rotation); press = press }
 
 abbrev pub arms_and_table : ℕ → ℕ → ℕ → Axis → Axis → PlantState
 arms_and_table arm1 arm2 rotation lift turn = record empty_cell { robot = robot_at (at arm1) (at arm2) (at rotation); table = table_at lift turn }
 
--- the deposit belt by the plates at its entry and at its end, with both arms, and with the gripper at a place of the crane
+-- the deposit belt by the plates at its entry and its end; with it both arms, or the gripper at a travel of the crane
 abbrev pub deposit_and_arms : Option ℕ → Option ℕ → Bool → ℕ → ℕ → ℕ → ℕ → ℕ → PlantState
 deposit_and_arms entry last runs arm1 arm2 rotation travel gripper =
     record empty_cell { deposit = belt_of entry last runs; robot = robot_at (at arm1) (at arm2) (at rotation); crane = crane_at (at travel) (at gripper) }
 
--- the feed belt with the gripper at a place of the crane, and with the table
+-- the feed belt; with it the gripper at a travel of the crane, or the table
 abbrev pub feed_and_crane : Option ℕ → Option ℕ → Bool → ℕ → ℕ → PlantState
 feed_and_crane entry last runs travel gripper = record empty_cell { feed = belt_of entry last runs; crane = crane_at (at travel) (at gripper) }
 
@@ -57,7 +57,7 @@ pub record CollisionBounds : Type 0 where
 
 -- ---- magnets
 
--- the robot with a magnet, at a rotation and with that arm; the crane with its magnet, over a place and with its gripper
+-- the robot by one magnet, its rotation and that arm; the crane by its magnet, its travel and its gripper
 abbrev pub with_magnet1 : ℕ → ℕ → Bool → PlantState
 with_magnet1 rotation arm on = record empty_cell { robot = robot_with (at arm) (at 0) (at rotation) on false }
 
@@ -67,7 +67,8 @@ with_magnet2 rotation arm on = record empty_cell { robot = robot_with (at 0) (at
 abbrev pub with_crane_magnet : ℕ → ℕ → Bool → PlantState
 with_crane_magnet travel gripper on = record empty_cell { crane = crane_with (at travel) (at gripper) on }
 
--- a magnet that is switched off lets a plate fall, but not where plates are laid down; one that is left on, left off or switched on never does
+-- a magnet that is switched off drops a plate, except where plates are laid down; one that stays on, stays off or is
+-- switched on doesn't
 abbrev pub FallsBut : (ℕ → ℕ → Bool → PlantState) → (ℕ → ℕ → Type 0) → Type 0
 FallsBut magnet Laid =
     (a b : ℕ) (before now : Bool) → PlateFalls (magnet a b before) (magnet a b now) ↔ ((before ≡ true) × (now ≡ false) × (¬ Laid a b))
@@ -79,7 +80,7 @@ pub record MagnetBounds : Type 0 where
 
 -- ---- the ends of the axes
 
--- an axis of a machine that goes from 0 to an end drives past these two alone, and outwards alone
+-- an axis from 0 to an end is driven past these two alone, and only outwards
 abbrev pub EndsAt : Machine → (Axis → PlantState) → ℕ → Type 0
 EndsAt m with_axis end =
     (position : ℕ) (motor : Motor) → DrivesPastEnd m (with_axis (driven_at position motor))
@@ -96,7 +97,7 @@ pub record EndBounds : Type 0 where
   pub gripper : EndsAt Crane with_gripper 1000
   pub turn_of_another : ¬ DrivesPastEnd Table (with_press (driven_at 0 Minus))
 
--- ---- each collision of its own
+-- ---- each collision matters
 
 pub record EachCollision : Type 0 where
   pub arm_and_press : ¬ NothingCollides (arms_and_press 51 0 1400 (at 0))

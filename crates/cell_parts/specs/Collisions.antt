@@ -1,4 +1,4 @@
--- Collisions: nine cases over positions, plates, motors, magnets and switches alone.
+-- Collisions: nine cases that mention only positions, plates, motors, magnets and switches.
 use Rattle.std.specs.Prelude.{◌≡◌, ◌≢◌, ℤ, pos, ◌+ℤ◌, ◌-ℤ◌, ◌≤ℤ◌, ◌<ℤ◌, Bool, true, false, ◌⊎◌, IsTrue, IsSome}
 use Rattle.cell_types.specs.declared.machine.Machine.{Machine}
 use Rattle.cell_types.specs.declared.machine.Machine.TheVariants.{Feed, Table, Robot, Press, Deposit, Crane, Watch}
@@ -14,7 +14,7 @@ use Rattle.cell_parts.specs.Shows.{IsPressBottom, IsPressMiddle, IsTableBottom, 
 abbrev pub IsOn : Axis → Type 0
 IsOn a = a.motor ≢ Off
 
--- an arm is out, and the sectors of the rotation in which it is somewhere
+-- an arm is out; the sectors of the rotation in which an arm is at a place
 abbrev pub IsOut : Axis → Type 0
 IsOut arm = retracted_to <ℤ arm.position
 
@@ -68,11 +68,11 @@ RestsAtBottom press = (press.motor ≡ Off) × IsPressBottom press.position
 abbrev pub TableMoves : TablePlant → Type 0
 TableMoves t = IsOn t.lift ⊎ IsOn t.turn
 
--- how far the table may be turned and still loads
+-- the rotation up to which the table still loads
 abbrev pub loads_to : ℤ
 loads_to = pos 20
 
--- An arm is out in the press, which doesn't rest where that arm may be.
+-- An arm is out in the press, and the press doesn't rest at that arm's position.
 abbrev pub ArmHitsPress : PlantState → Type 0
 ArmHitsPress p =
     (IsOut p.robot.arm1 × IsArm1InPress p.robot × (¬ RestsAtMiddle p.press)) ⊎ (IsOut p.robot.arm2 × IsArm2InPress p.robot × (¬ RestsAtBottom p.press))
@@ -98,17 +98,17 @@ CraneTravelsLow p = IsOn p.crane.travel × IsGripperDown p.crane
 abbrev pub RobotTurnsWithArmOut : PlantState → Type 0
 RobotTurnsWithArmOut p = IsOn p.robot.rotation × (IsOut p.robot.arm1 ⊎ IsOut p.robot.arm2)
 
--- The feed belt runs with a plate at its end while the table doesn't stand ready to load.
+-- The feed belt runs with a plate at its end while the table isn't ready to load.
 abbrev pub PlateMissesTable : PlantState → Type 0
 PlateMissesTable p =
     IsTrue p.feed.runs × IsSome p.feed.last × (TableMoves p.table ⊎ ((¬ IsTableBottom p.table.lift.position) ⊎ (loads_to <ℤ p.table.turn.position)))
 
--- A magnet lets go elsewhere than where a plate is laid down: that of the first arm in the press, that of the second over
--- the deposit belt, and the crane's close above the feed belt. Compared are the state before a turn and that once the motors are set.
+-- A magnet drops its plate at a wrong place. The first arm may drop it in the press, the second over the deposit belt,
+-- the crane close above the feed belt. The first state is before a turn, the second after its motors are set.
 abbrev pub LetsGo : Bool → Bool → Type 0
 LetsGo before now = (before ≡ true) × (now ≡ false)
 
--- an axis is where the drive to a stop ends
+-- an axis is within a stop's reach: where a drive to the stop ends
 abbrev pub IsAt : Stop → Axis → Type 0
 IsAt stop a = IsIn (record { first = stop.target -ℤ pos stop.half; last = stop.target +ℤ pos stop.half }) a.position
 
@@ -126,7 +126,7 @@ PlateFalls before p =
     (LetsGo before.robot.magnet1 p.robot.magnet1 × (¬ Arm1MayLetGo p.robot))
     ⊎ ((LetsGo before.robot.magnet2 p.robot.magnet2 × (¬ Arm2MayLetGo p.robot)) ⊎ (LetsGo before.crane.magnet p.crane.magnet × (¬ CraneMayLetGo p.crane)))
 
--- The machine whose turn it is drives one of its axes past an end: the axis is there already, and its motor goes that way.
+-- A machine drives one of its axes past an end in its turn: the axis is at that end, and its motor drives it outwards.
 abbrev pub DrivesPast : ℤ → Axis → Type 0
 DrivesPast end a = ((a.position ≡ pos 0) × (a.motor ≡ Minus)) ⊎ ((a.position ≡ end) × (a.motor ≡ Plus))
 
@@ -149,7 +149,7 @@ pub record NothingCollides (p : PlantState) : Type 0 where
   pub robot : ¬ RobotTurnsWithArmOut p
   pub plate_and_table : ¬ PlateMissesTable p
 
--- nor once the motors of a machine are set in its turn, in which two more cases are looked for
+-- nothing collides once a machine's motors are set in its turn; here there are two more cases
 pub record NothingCollidesWhenSet (m : Machine) (before p : PlantState) : Type 0 where
   pub plain : NothingCollides p
   pub magnets : ¬ PlateFalls before p

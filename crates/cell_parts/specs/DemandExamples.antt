@@ -1,5 +1,6 @@
--- What positions and motors demand, in figures: by machine, zone and posture. A rule holds for all positions and motors of the
--- parts that it names: so at both ends of each interval, one step inside it and one step outside, and for a motor that is driven either way.
+-- What positions and motors demand, in numbers: machine, zone and posture. A rule is stated for all positions and
+-- motors of its parts: at both ends of each interval, one step inside it, one step outside, and for a motor that drives
+-- either way.
 use Rattle.std.specs.Prelude.{◌≡◌, ◌≢◌, ◌↔◌, ℕ, ◌≤◌, Bool, true, false, ◌⊎◌, IsTrue, IsSome, Option, Some, None}
 use Rattle.cell_types.specs.declared.machine.Machine.{Machine}
 use Rattle.cell_types.specs.declared.machine.Machine.TheVariants.{Feed, Table, Robot, Press, Deposit, Crane}
@@ -21,10 +22,10 @@ use Rattle.cell_parts.specs.PositionDemands.{RestsAtLoading, Arm1OutDemands, Arm
 use Rattle.cell_parts.specs.MotorDemands.{PressMotorDemands, TableMotorDemands, FeedMotorDemands, DepositMotorDemands, Arm1MotorDemands, Arm2MotorDemands, GripperErrand, ForTravel, AtDeposit, AtFeed, GripperMotorDemands, MotorDemands, TravelsHigh, RotatesRetracted, DrivesIn, Rests}
 use Rattle.cell_parts.specs.Examples.{FromTo, IsDriven, empty_cell, cell_with_plate_at, driven_at, at, robot_at, table_at, crane_at, belt_of, with_feed, with_deposit, with_table, with_robot, with_crane, with_press, with_lift, all_free, with_zone, held_by}
 
--- ---- whose zone is demanded, which, and in which posture
+-- ---- whose zone is demanded, which one, and in which posture
 
--- Beside what others have, it is demanded that a machine has a zone in a posture: not less, and no other machine, no other zone and no
--- other posture will do.
+-- Exactly this is demanded, whatever the others hold: a machine holds a zone in a posture. Nothing less meets the
+-- demand, nor does another machine, another zone or another posture.
 pub record AsksFor (others : ModelState) (m : Machine) (z : Zone) (q : Posture) (Demands : ModelState → Type 0) : Type 0 where
   pub met : Demands (with_zone others m z q)
   pub of_nobody : ¬ Demands others
@@ -32,7 +33,8 @@ pub record AsksFor (others : ModelState) (m : Machine) (z : Zone) (q : Posture) 
   pub at_no_other : (y : Zone) → y ≢ z → ¬ Demands (with_zone others m y q)
   pub in_no_other : (r : Posture) → r ≢ q → ¬ Demands (with_zone others m z r)
 
--- What works at two places asks at each for a zone there, open for it, at all positions of that place; elsewhere nothing will do.
+-- What works at two places demands at each position of a place that place's zone, open for it; elsewhere no state meets
+-- the demand.
 pub record WorksAt (m : Machine) (First : ℕ → Type 0) (y : Zone) (q : Posture) (Second : ℕ → Type 0) (z : Zone) (r : Posture)
     (Demands : ℕ → ModelState → Type 0) : Type 0 where
   pub first : (p : ℕ) → First p → AsksFor all_free m y q (Demands p)
@@ -51,7 +53,8 @@ GripperWorksAt Demands = WorksAt Crane (λ travel. travel ≤ 200) Z5 OpenOut (�
 
 -- ---- what positions demand
 
--- A plate is at a belt's end exactly where that place is full: wherever it is, whatever is at the belt's entry, and whether the belt runs.
+-- A plate is at a belt's end if and only if that place is full, wherever the plate is, whatever is at the entry, and
+-- whether or not the belt runs.
 pub record EndPlateStands (end : Place) (with_belt : Belt → PlantState) : Type 0 where
   pub present : (entry : Option ℕ) (last : ℕ) (runs : Bool)
       → EndPlatesStand (start_state (insert_place empty end) 0) (with_belt (belt_of entry (Some last) runs))
@@ -86,7 +89,7 @@ pub record PositionDemandBounds : Type 0 where
 
 -- ---- what motors demand
 
--- feed has z6, which moves, and FeedEnd is full
+-- feed holds z6, which moves, and FeedEnd is full
 abbrev pub feed_end_full : ModelState
 feed_end_full = with_zone (start_state (insert_place empty place.FeedEnd) 0) Feed Z6 Moving
 
@@ -132,7 +135,7 @@ pub record MotorDemandBounds : Type 0 where
 
 -- ---- who drives in a zone, and who rests
 
--- the robot by the motors of both arms, at a rotation
+-- the robot, by the motors of both arms and its rotation
 abbrev pub arms_driven : Motor → Motor → ℕ → PlantState
 arms_driven arm1 arm2 rotation = with_robot (driven_at 300 arm1) (driven_at 300 arm2) (at rotation)
 
@@ -174,7 +177,7 @@ pub record RestingBounds : Type 0 where
   pub crane : (travel gripper : ℕ) (motor height : Motor)
       → Rests (with_crane (driven_at travel motor) (driven_at gripper height)) Crane ↔ ((motor ≡ Off) × (height ≡ Off))
 
--- ---- all that is demanded: each demand of its own
+-- ---- all demands: each one matters
 
 pub record EachDemand : Type 0 where
   pub arm1_out : ¬ PositionDemands all_free (with_robot (at 51) (at 0) (at 300))

@@ -1,4 +1,4 @@
--- What the examples of the plant are made of. What isn't named stands as at the start in a cell with no plate.
+-- What the examples of the plant are made of. What isn't named is as at the start in a cell without plates.
 use Rattle.std.specs.Prelude.{◌≡◌, ℕ, ◌≤◌, pos, Bool, false, ◌⊎◌, Option, Some, None, option_map}
 use Rattle.cell_types.specs.declared.machine.Machine.{Machine}
 use Rattle.cell_types.specs.declared.zone.Zone.{Zone}
@@ -15,29 +15,30 @@ use Rattle.cell_parts.specs.declared.axis.Axis.{Axis}
 use Rattle.cell_parts.specs.declared.belt.Belt.{Belt}
 use Rattle.cell_parts.specs.Plant.{TablePlant, RobotPlant, CranePlant, PlantState, plant_at_start}
 
--- figures from a first to a last, both among them
+-- numbers from a first to a last, both included
 abbrev pub FromTo : ℕ → ℕ → ℕ → Type 0
 FromTo first last n = (first ≤ n) × (n ≤ last)
 
--- a motor that is driven, either way
+-- a motor that drives, either way
 abbrev pub IsDriven : Motor → Type 0
 IsDriven motor = (motor ≡ Plus) ⊎ (motor ≡ Minus)
 
--- the cell at the start: with no plate, and with one at a place
+-- the cell at the start: without plates, and with one at a place
 abbrev pub empty_cell : PlantState
 empty_cell = plant_at_start (start_state empty 0)
 
 abbrev pub cell_with_plate_at : Place → PlantState
 cell_with_plate_at p = plant_at_start (start_state (insert_place empty p) 0)
 
--- an axis that is driven, and one at rest
+-- an axis that is driven, and an axis at rest
 abbrev pub driven_at : ℕ → Motor → Axis
 driven_at position motor = record { position = pos position; motor = motor }
 
 abbrev pub at : ℕ → Axis
 at position = driven_at position Off
 
--- parts of the plant: the robot by both arms and its rotation, with its magnets or with both off; the crane by its travel and its gripper
+-- parts of the plant: the robot by both arms and its rotation, with given magnets or both off; the crane by its travel
+-- and its gripper
 abbrev pub robot_with : Axis → Axis → Axis → Bool → Bool → RobotPlant
 robot_with arm1 arm2 rotation magnet1 magnet2 = record { arm1 = arm1; arm2 = arm2; rotation = rotation; magnet1 = magnet1; magnet2 = magnet2 }
 
@@ -53,7 +54,8 @@ crane_with travel gripper magnet = record { travel = travel; gripper = gripper; 
 abbrev pub crane_at : Axis → Axis → CranePlant
 crane_at travel gripper = crane_with travel gripper false
 
--- a belt by the plates at its entry and at its end, each absent or at a position; by the one at its end alone, by the one at its entry alone, and by both
+-- a belt by the plates at its entry and its end, each absent or at a position; by its end's alone, by its entry's
+-- alone, and by both
 abbrev pub belt_of : Option ℕ → Option ℕ → Bool → Belt
 belt_of entry last runs = record { entry = option_map (λ p. pos p) entry; last = option_map (λ p. pos p) last; runs = runs }
 
@@ -107,7 +109,8 @@ with_travel a = with_crane a (at 900)
 abbrev pub with_gripper : Axis → PlantState
 with_gripper a = with_crane (at 0) a
 
--- the interlock with all zones free; a state in which a machine has a zone in a posture too; and one in which it has that alone
+-- the interlock with all zones free; a state in which a machine also holds a zone in a posture; and one in which
+-- nothing else is held
 abbrev pub all_free : ModelState
 all_free = start_state empty 0
 

@@ -1,5 +1,5 @@
--- What a motor that is on, or a belt that runs, demands: of the interlock, and of its own machine. It is demanded in every
--- state of a run, also of motors that were left on while other machines have their turns.
+-- What a motor that is on, or a running belt, demands of the interlock and of its own machine. The demand holds in
+-- every state of a run, also of motors that stay on during other machines' turns.
 use Rattle.std.specs.Prelude.{◌≡◌, false, ◌⊎◌, IsTrue, IsSome, ⊤}
 use Rattle.cell_types.specs.declared.machine.Machine.{Machine}
 use Rattle.cell_types.specs.declared.machine.Machine.TheVariants.{Feed, Table, Robot, Press, Deposit, Crane, Watch}
@@ -14,19 +14,19 @@ use Rattle.cell_parts.specs.Plant.{RobotPlant, CranePlant, PlantState}
 use Rattle.cell_parts.specs.Collisions.{IsOn, IsOut, IsArm1AtTable, IsArm2InPress, IsArm1InPress, IsArm2AtDeposit, IsGripperDown, TableMoves}
 use Rattle.cell_parts.specs.PositionDemands.{HoldsIn, Arm1HasTable, Arm1HasPress, Arm2HasPress, Arm2HasDeposit, CraneHasDeposit, CraneHasFeed}
 
--- the press moves only while it has its interior, and that moves
+-- the press moves only while it holds its interior, which moves
 abbrev pub PressMotorDemands : ModelState → PlantState → Type 0
 PressMotorDemands s p = IsOn p.press → HoldsIn Moving s Press Z3
 
--- the table moves only while it has both its zones, and they move
+-- the table moves only while it holds both its zones, which move
 abbrev pub TableMotorDemands : ModelState → PlantState → Type 0
 TableMotorDemands s p = TableMoves p.table → HoldsIn Moving s Table Z1 × HoldsIn Moving s Table Z2
 
--- the feed belt runs only while feed has z6, which moves, and z1 where a plate is at its end
+-- the feed belt runs only while feed holds z6, which moves, and holds z1 if a plate is at its end
 abbrev pub FeedMotorDemands : ModelState → PlantState → Type 0
 FeedMotorDemands s p = IsTrue p.feed.runs → HoldsIn Moving s Feed Z6 × (IsTrue (is_full s FeedEnd) → IsTrue (owns s Feed Z1))
 
--- the deposit belt runs only while deposit has both its zones, and they move
+-- the deposit belt runs only while deposit holds both its zones, which move
 abbrev pub DepositMotorDemands : ModelState → PlantState → Type 0
 DepositMotorDemands s p = IsTrue p.deposit.runs → HoldsIn Moving s Deposit Z4 × HoldsIn Moving s Deposit Z5
 
@@ -37,8 +37,9 @@ Arm1MotorDemands s p = IsOn p.robot.arm1 → Arm1HasTable s p ⊎ Arm1HasPress s
 abbrev pub Arm2MotorDemands : ModelState → PlantState → Type 0
 Arm2MotorDemands s p = IsOn p.robot.arm2 → Arm2HasPress s p ⊎ Arm2HasDeposit s p
 
--- What the gripper is driven for: to its height for travel with nothing to do below, for a plate on the deposit belt, or to
--- lay one on the feed belt. The plant doesn't show it, since on its way to the height for travel the gripper may be over either belt.
+-- Why the gripper is driven: to its travelling height with no work below, for a plate on the deposit belt, or to lay
+-- one on the feed belt. The plant doesn't show it: on its way to the travelling height the gripper may be over either
+-- belt.
 pub data GripperErrand : Type 0 where
   ForTravel : GripperErrand
   AtDeposit : GripperErrand
@@ -49,7 +50,7 @@ ErrandDemands ForTravel s = ⊤
 ErrandDemands AtDeposit s = CraneHasDeposit s
 ErrandDemands AtFeed s = CraneHasFeed s
 
--- the gripper is driven only while the crane has the zone of its errand
+-- the gripper is driven only while the crane holds the zone of its errand
 abbrev pub GripperMotorDemands : GripperErrand → ModelState → PlantState → Type 0
 GripperMotorDemands errand s p = IsOn p.crane.gripper → ErrandDemands errand s
 
@@ -91,7 +92,7 @@ DrivesIn errand p Robot Z4 = IsOn p.robot.arm2 × IsArm2AtDeposit p.robot
 DrivesIn errand p Crane z = CraneDrivesIn errand p.crane z
 DrivesIn errand p m z = ⊥
 
--- a machine rests: its motors are off, or its belt stands
+-- a machine rests: its motors are off, or its belt doesn't run
 abbrev pub Rests : PlantState → Machine → Type 0
 Rests p Feed = p.feed.runs ≡ false
 Rests p Table = (p.table.lift.motor ≡ Off) × (p.table.turn.motor ≡ Off)

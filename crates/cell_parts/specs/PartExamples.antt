@@ -1,4 +1,5 @@
--- Examples of the parts: what they are set to, how they move, what their sensors show, what they note, and where they begin.
+-- Examples of the parts: how they obey commands, how they move, what their sensors show, what they note, and where they
+-- start.
 use Rattle.std.specs.Prelude.{◌≡◌, ◌≢◌, ◌↔◌, ℕ, ◌≤◌, pos, Bool, true, false, Some, None}
 use Rattle.cell_types.specs.declared.machine.Machine.{Machine}
 use Rattle.cell_types.specs.declared.machine.Machine.TheVariants.{Feed, Table, Robot, Press, Deposit, Crane}
@@ -37,7 +38,7 @@ use Rattle.cell_parts.specs.Collisions.{NothingCollides}
 use Rattle.cell_parts.specs.Rigs.{feed_rig, table_rig, robot_rig, press_rig, deposit_rig, crane_rig}
 use Rattle.cell_parts.specs.Examples.{FromTo, empty_cell, cell_with_plate_at, driven_at, at, robot_with, robot_at, table_at, crane_with, crane_at, belt_with, belt_entered_at, belt_at}
 
--- ---- what is set: an axis or a belt that is told so, and no other
+-- ---- commands: one changes exactly its axis or belt
 
 abbrev pub feed_act : Bool → FeedAct
 feed_act belt = record { belt = belt }
@@ -57,7 +58,7 @@ press_act press = record { press = press }
 abbrev pub crane_act : Motor → Motor → Bool → CraneAct
 crane_act travel height magnet = record { travel = travel; height = height; magnet = magnet }
 
--- in these the machine works, and is told otherwise
+-- in these the machine works, and gets another command
 abbrev pub robot_at_work : RobotPlant
 robot_at_work = robot_with (driven_at 100 Minus) (driven_at 200 Off) (driven_at 300 Plus) false true
 
@@ -78,9 +79,9 @@ pub record SettingExamples (scale : Scale) (scales : RobotScales) : Type 0 where
   pub crane_travels : (crane_rig scale).set crane_at_work (crane_act Plus Off true) ≡ crane_with (driven_at 1000 Plus) (at 500) true
   pub crane_lowers : (crane_rig scale).set crane_at_work (crane_act Off Minus false) ≡ crane_with (at 1000) (driven_at 500 Minus) false
 
--- ---- what moves: 20 a tick, to the end at most
+-- ---- moves: 20 a tick, at most to the end
 
--- an axis that moves by a tick, driven so
+-- an axis that is driven moves by a tick
 abbrev pub goes : ℕ → Motor → ℕ → (Axis → Axis) → Type 0
 goes start motor end move = move (driven_at start motor) ≡ driven_at end motor
 
@@ -144,7 +145,7 @@ pub record SensorBounds : Type 0 where
   pub barrier : (p : ℕ) → IsInBarrier (Some (pos p)) ↔ FromTo 900 999 p
   pub no_plate_in_it : ¬ IsInBarrier None
 
--- A sense is all that the sensors show: no other will do.
+-- The sensors show exactly this.
 abbrev pub ShowsJust : {Sense : Type 0} → (Sense → Type 0) → Sense → Type 0
 ShowsJust {Sense = Sense} shows sense = shows sense × ((other : Sense) → shows other → other ≡ sense)
 
@@ -166,11 +167,12 @@ feed_sense barrier = record { barrier = barrier }
 abbrev pub deposit_sense : Bool → DepositSense
 deposit_sense barrier = record { barrier = barrier }
 
--- what a potentiometer shows at a position, and no other raw value
+-- a potentiometer shows exactly this raw value at a position
 abbrev pub Reads : Scale → ℕ → ℕ → Type 0
 Reads scale position raw = ShowsJust (ShowsRaw scale (pos position)) raw
 
--- scales with no whole number of raw values for a position: one for each potentiometer, one with three for two, and one with ends of its own
+-- scales with no whole number of raw values for a position: one for each potentiometer, one with three for two, and one
+-- with other ends
 abbrev pub scale_to : ℕ → ℕ → ℕ → Scale
 scale_to end raw_lo raw_hi = scale_of raw_lo raw_hi (pos 0) (pos end)
 
@@ -198,7 +200,7 @@ three_for_two = scale_to 1000 0 1500
 abbrev pub short_scale : Scale
 short_scale = scale_of 10 13 (pos 100) (pos 102)
 
--- the raw value is rounded down, and beyond the ends of a scale it is that of the nearer end
+-- the raw value is rounded down; beyond the ends of a scale it is the nearer end's
 pub record RawBounds : Type 0 where
   pub three_for_two_at_0 : Reads three_for_two 0 0
   pub three_for_two_at_1 : Reads three_for_two 1 1
@@ -242,7 +244,7 @@ pub record ShowingExamples : Type 0 where
   pub deposit_sees_entry : ShowsJust (deposit_rig.shows (belt_at 999 1100 true)) (deposit_sense true)
   pub deposit_sees_none : ShowsJust (deposit_rig.shows (belt_at 899 1000 true)) (deposit_sense false)
 
--- ---- what is noted: by a belt its own calls that were done, and nothing by others
+-- ---- notes: a belt notes its own machine's Done calls, and no others
 
 abbrev pub feed_hears : Machine → Call → Belt → Belt
 feed_hears m call b = feed_rig.notes b (event m call Done)

@@ -1,4 +1,4 @@
--- The plant: where its axes and plates stand, and what its motors, belts and magnets were last told.
+-- The plant: the positions of its axes and plates, and the last commands to its motors, belts and magnets.
 use Rattle.std.specs.Prelude.{ℤ, pos, ◌+ℤ◌, ◌-ℤ◌, Bool, false, ◌&&◌, if◌then◌else◌, Option, Some, None, option_map}
 use Rattle.std.specs.Int.{int_min, int_max}
 use Rattle.cell_types.specs.declared.machine.Machine.TheVariants.{Feed, Deposit}
@@ -40,7 +40,7 @@ pub record CranePlant : Type 0 where
   pub gripper : Axis
   pub magnet : Bool
 
--- a machine's share of the plant, with the scales of its potentiometers
+-- a machine's part of the plant, with the scales of its potentiometers
 pub record Scaled (Plant Scales : Type 0) : Type 0 where
   pub plant : Plant
   pub scale : Scales
@@ -53,7 +53,8 @@ pub record PlantState : Type 0 where
   pub deposit : Belt
   pub crane : CranePlant
 
--- At the start: every motor and belt is off, plates stand where the full places say, and an arm or a crane that has a plate holds it by its magnet.
+-- The start: every motor and belt is off, each full place has its plate, and the magnet of an arm or a crane is on if
+-- it has a plate.
 abbrev pub standing : ℤ → Axis
 standing p = record { position = p; motor = Off }
 
@@ -90,7 +91,7 @@ plant_at_start s =
       crane = crane_at_start s;
     }
 
--- A part is set: its motors, belt and magnets are as they were told.
+-- A part obeys a command, which sets its motors, belt and magnets.
 abbrev pub set_axis : Axis → Motor → Axis
 set_axis a motor = record { position = a.position; motor = motor }
 
@@ -122,7 +123,8 @@ set_press a act = set_axis a act.press
 abbrev pub set_crane : CranePlant → CraneAct → CranePlant
 set_crane c act = record { travel = set_axis c.travel act.travel; gripper = set_axis c.gripper act.height; magnet = act.magnet }
 
--- A part moves: each axis whose motor is on goes on by its speed, to its end at most; each plate of a belt that runs does, to the belt's end at most.
+-- A part moves for a tick. An axis whose motor is on moves by its speed, at most to its end; a running belt carries its
+-- plates, at most to its end.
 abbrev pub moved_to : ℤ → ℤ → Motor → ℤ
 moved_to end p Off = p
 moved_to end p Plus = int_min (p +ℤ speed) end
@@ -149,8 +151,8 @@ moved_press a = moved_axis press_end a
 abbrev pub moved_crane : CranePlant → CranePlant
 moved_crane c = record c { travel = moved_axis crane_end c.travel; gripper = moved_axis gripper_end c.gripper }
 
--- What a belt notes of a Done call of its own machine: by a take a plate comes on at its entry, by an advance that plate
--- counts as the one at the end without being moved, by a give that one is gone.
+-- What a belt notes of a Done call of its own machine. A take puts a plate at its entry. An advance counts that plate
+-- as the one at the end, and doesn't move it. A give removes the plate at the end.
 abbrev pub advanced : Belt → Belt
 advanced b = record { entry = None; last = b.entry; runs = b.runs }
 
@@ -178,7 +180,7 @@ noted_by_feed b e = if is_done e && same_machine e.machine Feed then feed_called
 abbrev pub noted_by_deposit : Belt → Event → Belt
 noted_by_deposit b e = if is_done e && same_machine e.machine Deposit then deposit_called b e.call else b
 
--- each axis stands within its ends
+-- each axis is within its ends
 pub record StaysWithin (p : PlantState) : Type 0 where
   pub press : IsWithin press_end p.press.position
   pub arm1 : IsWithin arm_end p.robot.arm1.position

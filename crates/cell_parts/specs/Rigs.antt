@@ -1,4 +1,4 @@
--- How the parts of the machines behave. Only the belts have anything to note of an event.
+-- How the parts of the machines behave. Only the belts note events.
 use Rattle.cell_calib.specs.Scale.{Scale}
 use Rattle.cell_calib.specs.declared.sense.FeedSense.{FeedSense}
 use Rattle.cell_calib.specs.declared.sense.TableSense.{TableSense}

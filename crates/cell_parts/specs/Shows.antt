@@ -13,7 +13,7 @@ use Rattle.cell_parts.specs.declared.belt.Belt.{Belt}
 use Rattle.cell_parts.specs.Axes.{RobotScales, Span, IsIn}
 use Rattle.cell_parts.specs.Plant.{TablePlant, RobotPlant, CranePlant}
 
--- the places of the switches
+-- the positions of the switches
 abbrev pub press_bottom_to : ℤ
 press_bottom_to = pos 10
 
@@ -63,7 +63,7 @@ barrier = record { first = pos 900; last = pos 999 }
 abbrev pub IsInBarrier : Option ℤ → Type 0
 IsInBarrier plate = IsSomeAnd plate (λ p. IsIn barrier p)
 
--- what a potentiometer shows: the raw value of the position, rounded down, and beyond its points that of the nearer one
+-- what a potentiometer shows: the raw value of the position, rounded down; beyond its points, the nearer point's
 pub record ShowsRaw (scale : Scale) (position : ℤ) (raw : ℕ) : Type 0 where
   pub between : scale.at_lo ≤ℤ position → position ≤ℤ scale.at_hi → IsRawAt scale position raw
   pub below : position <ℤ scale.at_lo → raw ≡ scale.raw_lo
@@ -89,7 +89,7 @@ pub record CraneShows (scale : Scale) (c : CranePlant) (s : CraneSense) : Type 0
   pub feed : IsTrue s.feed ↔ IsCraneAtFeed c.travel.position
   pub raw : ShowsRaw scale c.gripper.position s.gripper
 
--- it sees either plate of its belt
+-- the barrier sees a plate of its belt, either one
 abbrev pub SeesPlate : Belt → Type 0
 SeesPlate b = IsInBarrier b.entry ⊎ IsInBarrier b.last
 

@@ -4,21 +4,21 @@ ghost use Rattle.cell_parts.specs.Plant.{standing, set_axis, moved_axis};
 
 use cell_devices::Motor;
 
-/// How far an axis goes in a tick, and a plate on a belt that runs, in tenths of a millimetre or of a
-/// degree.
+/// How far an axis goes in a tick, in tenths of a millimetre or of a degree; also how far a running
+/// belt carries its plates.
 pub const SPEED: i32 = 20;
 
 /// An axis of the plant, from 0 to its end, with its motor.
 #[derive(Clone, Copy, Debug, PartialEq, Eq)]
 pub struct Axis {
-    /// Where it stands, in tenths of a millimetre or of a degree.
+    /// Its position, in tenths of a millimetre or of a degree.
     pub position: i32,
-    /// What its motor was last told.
+    /// The last command to its motor.
     pub motor: Motor,
 }
 
 impl Axis {
-    /// At rest at a position.
+    /// An axis at rest at a position.
     pub fn standing(position: i32) -> Axis
         ensures { result ≡ standing position }
     {
@@ -28,14 +28,14 @@ impl Axis {
         }
     }
 
-    /// With its motor told so.
+    /// The axis after a command to its motor.
     pub fn set(self, motor: Motor) -> Axis
         ensures { result ≡ set_axis self motor }
     {
         Axis { motor, ..self }
     }
 
-    /// A tick later: where its motor is on it has gone on, to the end at most.
+    /// The axis a tick later. If its motor is on, it has moved on, but not past its end.
     pub(crate) fn moved(self, end: i32) -> Axis
         requires within { IsWithin end self.position }
         requires length { end ≤ℤ rotation_end }

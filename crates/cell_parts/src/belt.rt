@@ -7,48 +7,48 @@ use crate::axis::SPEED;
 use cell_rules::State;
 use cell_types::Place;
 
-/// How far a belt takes a plate, in tenths of a millimetre from its entry.
+/// The end of a belt, in tenths of a millimetre from its entry. No plate goes further.
 pub const BELT_END: i32 = 1100;
 
-/// Where the light barrier begins to see a plate.
+/// The first position at which the light barrier sees a plate.
 pub const BARRIER_FIRST: i32 = 900;
 
-/// Where it sees one last.
+/// The last position at which the light barrier sees a plate.
 pub const BARRIER_LAST: i32 = 999;
 
-/// Where the plate of the feed belt's end stands at the start: in the light barrier.
+/// The position of the plate at the feed belt's end at the start: in the light barrier.
 pub const FEED_PLATE_START: i32 = 900;
 
-/// Where the plate of the deposit belt's end stands at the start: behind the light barrier.
+/// The position of the plate at the deposit belt's end at the start: after the light barrier.
 pub const DEPOSIT_PLATE_START: i32 = 1000;
 
-/// A belt of the plant with the plates on it. Positions are tenths of a millimetre from its entry.
+/// A belt with its plates. Positions are tenths of a millimetre from its entry.
 #[derive(Clone, Copy, Debug, PartialEq, Eq)]
 pub struct Belt {
-    /// Where the plate of the belt's entry stands, if there is one.
+    /// The position of the plate that counts as the one at the belt's entry, if there is one.
     pub entry: Option<i32>,
-    /// Where the plate of the belt's end stands, if there is one.
+    /// The position of the plate that counts as the one at the belt's end, if there is one.
     pub last: Option<i32>,
     /// Whether the belt runs.
     pub runs: bool,
 }
 
 impl Belt {
-    /// The feed belt at the start: the plate of its end stands in the light barrier, at 900.
+    /// The feed belt at the start: a plate at its end is in the light barrier, at 900.
     pub fn feed(state: &State) -> Belt
         ensures { result ≡ feed_at_start state.now }
     {
         Belt::at_rest(state, Place::FeedEntry, Place::FeedEnd, FEED_PLATE_START)
     }
 
-    /// The deposit belt at the start: the plate of its end stands behind the light barrier, at 1000.
+    /// The deposit belt at the start: a plate at its end is after the light barrier, at 1000.
     pub fn deposit(state: &State) -> Belt
         ensures { result ≡ deposit_at_start state.now }
     {
         Belt::at_rest(state, Place::DepEntry, Place::DepEnd, DEPOSIT_PLATE_START)
     }
 
-    // A belt that stands, with plates where these places are full.
+    // A belt that doesn't run, with a plate at each of these places that is full.
     fn at_rest(state: &State, entry: Place, last: Place, end: i32) -> Belt
         ensures { result ≡ record { entry = plate_if (is_full state.now entry) (pos 0); last = plate_if (is_full state.now last) end; runs = false } }
     {
@@ -66,14 +66,14 @@ impl Belt {
         is_in_barrier(self.entry) || is_in_barrier(self.last)
     }
 
-    /// Told to run, or to stand.
+    /// The belt after a command to run or to stop.
     pub(crate) fn set(self, runs: bool) -> Belt
         ensures { result ≡ set_belt self runs }
     {
         Belt { runs, ..self }
     }
 
-    /// A tick later: where it runs its plates have gone on.
+    /// The belt a tick later. If it runs, it has carried its plates.
     pub(crate) fn moved(self) -> Belt
         ensures { result ≡ moved_belt self }
     {
@@ -87,7 +87,7 @@ impl Belt {
         }
     }
 
-    /// With a plate laid on its entry.
+    /// The belt with a new plate at its entry.
     pub(crate) fn loaded(self) -> Belt
         ensures { result ≡ loaded_belt self }
     {
@@ -97,7 +97,7 @@ impl Belt {
         }
     }
 
-    /// With the plate of its entry counted as that of its end, where it stands.
+    /// The belt after its entry's plate has become its end's plate, at the same position.
     pub(crate) fn advanced(self) -> Belt
         ensures { result ≡ advanced self }
     {
@@ -108,7 +108,7 @@ impl Belt {
         }
     }
 
-    /// Without the plate of its end.
+    /// The belt without the plate at its end.
     pub(crate) fn unloaded(self) -> Belt
         ensures { result ≡ unloaded_belt self }
     {
@@ -116,7 +116,7 @@ impl Belt {
     }
 }
 
-// Whether there is a plate, and in the light barrier.
+// Whether there is a plate, and it is in the light barrier.
 fn is_in_barrier(plate: Option<i32>) -> bool
     ensures { IsTrue result ↔ IsInBarrier plate }
 {
@@ -126,7 +126,7 @@ fn is_in_barrier(plate: Option<i32>) -> bool
     }
 }
 
-// A plate that its belt has carried for a tick.
+// The plate after its belt has run for a tick.
 fn carried(plate: Option<i32>) -> Option<i32>
     ensures { result ≡ moved_plate plate }
 {

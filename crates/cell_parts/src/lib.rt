@@ -1,5 +1,5 @@
-//! The parts of the plant: axes, belts, motors, magnets and sensors of the production cell, what collides
-//! in it, and what its positions and motors demand of the interlock.
+//! The parts of the plant: axes, belts, motors, magnets and sensors of the production cell. Also
+//! its collisions, and what its positions and motors demand of the interlock.
 #![tactic(auto)]
 
 pub mod axis;

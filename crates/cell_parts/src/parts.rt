@@ -1,5 +1,5 @@
-//! The parts of the plant: what a machine's controller moves, and what its sensors show. Lengths are
-//! tenths of a millimetre, angles tenths of a degree.
+//! The parts of the plant: what a controller moves, and what its sensors show. Lengths are in
+//! tenths of a millimetre, angles in tenths of a degree.
 
 pub mod crane;
 pub mod deposit;

@@ -3,8 +3,8 @@ ghost use Rattle.cell_parts.specs.Shows.{ShowsRaw};
 
 use cell_calib::Points;
 
-/// The raw value that an ideal sensor gives at a position between the points, rounded down. Beyond
-/// them it is that of the nearer point.
+/// The raw value that an ideal sensor gives at a position, rounded down. Beyond the points it is
+/// the nearer point's.
 pub(crate) fn raw_at(points: &Points, position: i32) -> u16
     ensures { ShowsRaw points.now position result }
 {
@@ -13,7 +13,8 @@ pub(crate) fn raw_at(points: &Points, position: i32) -> u16
     raw_lo + part_of(along(points, position), points.raw_hi() - raw_lo, length)
 }
 
-// How far a position is above that of the first point; beyond the points, as far as the nearer one.
+// The distance of a position from the first point. Beyond the points it is that of the nearer
+// point.
 fn along(points: &Points, position: i32) -> u32
     ensures is { points.now.at_lo ≤ℤ position → position ≤ℤ points.now.at_hi → position -ℤ points.now.at_lo ≡ pos result }
     ensures within { pos result ≤ℤ (points.now.at_hi -ℤ points.now.at_lo) }
@@ -31,7 +32,7 @@ fn along(points: &Points, position: i32) -> u32
     }
 }
 
-// How far a position is above another.
+// How far the second position is above the first.
 fn distance(from: i32, to: i32) -> u32
     requires { from ≤ℤ to }
     ensures { to -ℤ from ≡ pos result }
@@ -39,7 +40,7 @@ fn distance(from: i32, to: i32) -> u32
     (i64::from(to) - i64::from(from)) as u32
 }
 
-// The same part of a width as `along` is of a length, rounded down.
+// The share of a width that `along` is of a length, rounded down.
 fn part_of(along: u32, width: u16, length: u32) -> u16
     requires some { 0 < length }
     requires part { along ≤ length }

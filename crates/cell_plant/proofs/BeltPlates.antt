@@ -1,4 +1,4 @@
--- A plate stands on a belt just where a place of the belt is full: at its entry, and at its end.
+-- A plate is on a belt if and only if its place is full: the entry's and the end's.
 use Rattle.std.proofs.Common.{◌≡◌, ℤ, Bool, true, false, not, IsSome, IsTrue, ◌↔◌, Option, Some, None, is_some, refl, sym, subst, if◌then◌else◌}
 use Rattle.cell_types.specs.declared.machine.Machine.{Machine}
 use Rattle.cell_types.specs.declared.zone.Zone.{Zone}
@@ -35,14 +35,14 @@ pub plate_stands : (full : Bool) (at : ℤ) → StandsIf (plate_if full at) full
 plate_stands true at = (λ h. refl, λ h. refl)
 plate_stands false at = (λ h. cc, λ h. cc)
 
--- where a place stays as it is, and while others act
+-- if a place stays as it is, and while others act
 pub as_full : (plate : Option ℤ) (x y : Bool) → x ≡ y → StandsIf plate y → StandsIf plate x
 as_full plate x y e k = subst (StandsIf plate) (sym e) k
 
 pub plates_foreign : (z : ModelState) (n : Machine) (c : Call) (first last : Place) (b : Belt) → IsSound z → same_machine n (keeper_of first) ≡ false → same_machine n (keeper_of last) ≡ false → PlatesStand z first last b → PlatesStand (next z n c) first last b
 plates_foreign z n c first last b sound f l k = record { entry = as_full b.entry _ _ (full-foreign z n c first sound f) k.entry; end = as_full b.last _ _ (full-foreign z n c last sound l) k.end }
 
--- as the belt is told to run or to stand, and as it runs
+-- as the belt is commanded to run or to stop, and as it runs
 pub plates_set : (z : ModelState) (first last : Place) (b : Belt) (runs : Bool) → PlatesStand z first last b → PlatesStand z first last (set_belt b runs)
 plates_set z first last b runs k = record { entry = k.entry; end = k.end }
 
@@ -64,7 +64,7 @@ runs_by false b = refl
 pub still_runs : (b : Belt) → (moved_belt b).runs ≡ b.runs
 still_runs b = runs_by b.runs b
 
--- what a call says that is done: a plate was handed over to who takes it, there was one to give, and there was one to work
+-- what a Done call says: a take had a plate to hand over, a give had one to give, an advance had one to move
 pub plate_taken : (z : ModelState) (m : Machine) (y : Zone) → IsSound z → reply z m (Take y) ≡ Done → is_received_by (Some m) (transfer_of y (posture_at z y)) ≡ true
 plate_taken z m y sound e =
     let may = and_right _ _ (take_done z m y (done_none (take_refusal z m y) e)).0 in

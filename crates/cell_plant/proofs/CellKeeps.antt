@@ -1,4 +1,4 @@
--- What each machine keeps of its side, and that it holds in every state of a run of the cell.
+-- The invariant of each machine's side; it holds in every state of a run of the cell.
 use Rattle.std.proofs.Common.{refl}
 use Rattle.std.specs.Prelude.{⊤}
 use Rattle.cell_types.specs.declared.machine.Machine.{Machine}
@@ -34,7 +34,7 @@ InvOf Deposit = With DepositInv DepositRuns
 InvOf Crane = CraneInv
 InvOf Watch = λ z p b. ⊤
 
--- once their motors are told where to go; only of the crane more is known then, of where its axes come to stay
+-- after their motors' commands; only for the crane more is known then: where its axes will stay
 abbrev pub ToldOf : (m : Machine) → ModelState → ProgressOf m → PartOf m → Type 0
 ToldOf Crane = CraneTold
 ToldOf m = InvOf m

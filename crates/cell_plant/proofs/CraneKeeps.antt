@@ -1,4 +1,4 @@
--- What the crane keeps of its side, in every state of a run.
+-- The invariant of the crane's side: it holds in every state of a run.
 use Rattle.std.proofs.Common.{◌≡◌, ℤ, pos, ◌+ℤ◌, ◌-ℤ◌, ◌<ℤ◌, ◌≤ℤ◌, Bool, true, false, not, ◌&&◌, ◌||◌, ◌⊎◌, inl, inr, Option, Some, None, Result, Ok, refl, sym, ap, ◌∙◌, if◌then◌else◌, arith}
 use Rattle.std.specs.Prelude.{⊤}
 use Rattle.std.proofs.lemmas.Int.{ints, clamps}
@@ -69,7 +69,7 @@ IsAt Up h = pos 850 ≤ℤ h
 IsAt Close h = (pos 250 ≤ℤ h) × (h ≤ℤ pos 350)
 IsAt Any h = ⊤
 
--- once its motor is told where to go, it comes to stay there
+-- after its motor's command it will stay there
 abbrev IsToldAt : Level → Axis → Type 0
 IsToldAt Up g = (pos 850 ≤ℤ g.position) × (g.motor ≡ Minus → pos 900 <ℤ g.position)
 IsToldAt Close g = ((pos 250 ≤ℤ g.position) × (g.position ≤ℤ pos 350)) × (g.motor ≡ Off)
@@ -95,7 +95,7 @@ level_moved Up g k = up_moved g.motor g.position k.0 k.1
 level_moved Close g k = rw k.1 k.0
 level_moved Any g k = tt
 
--- where the crane is at a step
+-- the crane's position at a step
 pub data Stand : Type 0 where
   OverDeposit : Stand
   OverFeed : Stand
@@ -142,7 +142,8 @@ stand_moved OverDeposit a k = rw k.1 k.0
 stand_moved OverFeed a k = rw k.1 k.0
 stand_moved Anywhere a k = tt
 
--- what its step knows of the interlock; its magnet is as it was told last, gripper and crane are where the step has them, and it travels only in steps that travel
+-- what its step knows of the interlock; its magnet is as last commanded, gripper and crane are where the step needs
+-- them, and it travels only in steps that travel
 pub record CraneHas (Height : Level → Axis → Type 0) (Place : Stand → Axis → Type 0) (z : ModelState) (p : CraneProgress) (c : CranePlant) : Type 0 where
   pub knows : CraneKnows p z
   pub magnet : c.magnet ≡ p.magnet
@@ -152,7 +153,7 @@ pub record CraneHas (Height : Level → Axis → Type 0) (Place : Stand → Axis
   pub stand : Place (stand_of p.step) c.travel
   pub travelling : IsOn c.travel → travels p.step ≡ true
 
--- between turns, and once its motors are told where to go
+-- between turns, and after its motors' commands
 abbrev pub CraneInv : ModelState → CraneProgress → CranePlant → Type 0
 CraneInv = CraneHas (λ l g. IsAt l g.position) (λ s a. IsOver s a.position)
 
@@ -220,7 +221,7 @@ shows_stand : (s : CraneStep) (o : Option Machine) (f : Bool) (x : ℤ) → IsOv
 shows_stand AwaitPlate o f x k = awaits_stand o f x k
 shows_stand s o f x k = k
 
--- a drive of the gripper
+-- the gripper is driven
 raised : (h read tol : ℤ) → IsNear read h tol → IsNear read (pos 900) (pos 50 -ℤ tol) → pos 850 ≤ℤ h
 raised h read tol a b = omega (arith, ints)
 
@@ -254,7 +255,7 @@ stays_level LowerToFeed g read tol m e small near drives k = tt
 stays_level RaiseFromFeed g read tol m e small near drives k = tt
 stays_level s g read tol m e small near drives k = cc
 
--- a drive of the travel
+-- the travel is driven
 at_switch : (high at : Bool) (on : Motor) → high ≡ true → (if high then (if at then Off else on) else Off) ≡ Off → (on ≡ Off → ⊥) → at ≡ true
 at_switch true true on e f g = refl
 at_switch true false on e f g = absurd (g f)
@@ -285,7 +286,7 @@ stays_stand DropPlate a high sense m e drives k = (k, drives)
 stays_stand RaiseFromFeed a high sense m e drives k = (k, drives)
 stays_stand s a high sense m e drives k = cc
 
--- a magnet's switch is done in its turn
+-- a step that switches a magnet is done in its turn
 both_off : (a b : Motor) → (is_off a && is_off b) ≡ true → (a ≡ Off) × (b ≡ Off)
 both_off Off Off e = (refl, refl)
 both_off a b e = cc
@@ -299,7 +300,7 @@ stays_magnet GripPlate high sense tol read act m e travel height stays = absurd 
 stays_magnet DropPlate high sense tol read act m e travel height stays = absurd (not_both act.travel act.height travel height stays)
 stays_magnet s high sense tol read act m e travel height stays = refl
 
--- what a step that is done says of its motors
+-- what a done step says of its motors
 done_when : (t high : Bool) (a b : Motor) → ((not t || high) && (is_off a && is_off b)) ≡ true → ((t ≡ true → high ≡ true) × ((a ≡ Off) × (b ≡ Off)))
 done_when true true a b e = (λ q. refl, both_off a b e)
 done_when true false a b e = cc
@@ -308,7 +309,7 @@ done_when false high a b e = (λ q. cc, both_off a b e)
 gripper_near : (points : Scale) (c : CranePlant) (s : CraneSense) (r : CraneReading) → IsAxisScale gripper_end points → IsWithin gripper_end c.gripper.position → CraneShows points c s → Senses points (IsReading points) s (Ok r) → IsNear r.gripper c.gripper.position points.tol
 gripper_near points c s r k within shows senses = reading_near gripper_end points c.gripper.position s.gripper r.gripper k within shows.raw senses.near
 
--- only a step that travels tells the crane to
+-- only a step that travels commands the travel
 told_travels : (s : CraneStep) (high : Bool) (sense : CraneSense) (m : Motor) → m ≡ travel_for s high sense → (m ≡ Off → ⊥) → travels s ≡ true
 told_travels TravelToDeposit high sense m e on = refl
 told_travels TravelToFeed high sense m e on = refl
@@ -391,7 +392,7 @@ module _ (points : Scale) (axis : IsAxisScale gripper_end points) where
     };
   }
 
--- where its gripper may be down, and what it is driven for at each step
+-- where its gripper may be down, and why it is driven at each step
 low : (h : ℤ) → h <ℤ travel_from → pos 850 ≤ℤ h → ⊥
 low h a b = absurd (omega (arith, ints))
 
@@ -424,7 +425,7 @@ errand_met s z k = tt
 pub gripper-driven : (z : ModelState) (p : CraneProgress) (c : CranePlant) → CraneInv z p c → ErrandDemands (errand_of p.step) z
 gripper-driven z p c i = errand_met p.step z i.knows
 
--- it travels high
+-- it travels only with its gripper up
 high_at : (s : CraneStep) (h : ℤ) → travels s ≡ true → IsAt (level_of s) h → pos 850 ≤ℤ h
 high_at TravelToDeposit h e k = k
 high_at TravelToFeed h e k = k
@@ -487,7 +488,7 @@ stops_within LowerToFeed = (omega (arith, ints), omega (arith, ints), omega (ari
 stops_within RaiseFromFeed = (omega (arith, ints), omega (arith, ints), omega (arith, ints))
 stops_within s = tt
 
--- Its magnet lets go only close above the feed belt.
+-- Its magnet drops a plate only close above the feed belt.
 abbrev LetsGoThere : CranePlant → CraneAct → Type 0
 LetsGoThere c act = LetsGo c.magnet act.magnet → CraneMayLetGo (set_crane c act)
 
@@ -501,7 +502,7 @@ module _ (points : Scale) (axis : IsAxisScale gripper_end points) (z : ModelStat
   acts_within r act senses acts (inl past) = travel_stays points c p.step r.high s act.travel shows (acts.travel ∙ ap (λ x. travel_for p.step r.high x) senses.switches) past
   acts_within r act senses acts (inr past) = driven_within gripper_end points c.gripper (gripper_stop p.step) r.gripper act.height axis (gripper_near points c s r axis i.gripper_within shows senses) (stops_within p.step) acts.height past
 
-  -- so in no turn it is driven on past an end, nor lets a plate fall
+  -- so in no turn is an axis driven on past an end, and no turn drops a plate
   pub crane-ends : (same : Type 0) (asks : Call → Result Reply LineFault → Type 0) (stopped : Option CtlFault) (w : Turned CraneProgress CraneAct) → Turns (crane_steps points (IsReading points)) same asks stopped p s w
       → ¬ DrivesOut (set_crane c (act_or_rest ((crane_steps points (IsReading points)).rest p) w.result))
   crane-ends same asks stopped w k = turn_tells (crane_steps points (IsReading points)) same asks p s (λ act. ¬ DrivesOut (set_crane c act)) (off_stays c p.magnet) (λ r act e senses drives. acts_within r act senses drives) stopped w k

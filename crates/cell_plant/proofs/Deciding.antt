@@ -1,4 +1,4 @@
--- Facts that are decided by computing. `so` and `not_so` take what was computed for proof.
+-- Facts that are decided by computing. `so` and `not_so` turn a computed answer into a proof.
 use Rattle.std.proofs.Common.{◌≡◌, ◌≢◌, ℕ, ◌==◌, ℤ, ◌≤ℤ◌, ◌<ℤ◌, Bool, true, false, ◌⊎◌, inl, inr, refl, subst}
 use Rattle.std.proofs.Math.Dec.{T}
 use Rattle.std.proofs.lemmas.Bool.Decides.{Decides-eqb, Decides-int_eq}
@@ -23,11 +23,11 @@ pub not_so : {A : Type 0} (d : Dec A) → is_yes d ≡ false → ¬ A
 not_so (yes a) e = cc
 not_so (no n) e = n
 
--- what says nothing
+-- the empty fact
 abbrev pub surely : Dec (Unit {0})
 surely = yes tt
 
--- facts that are made of others
+-- facts made of others
 abbrev pub like : {A B : Type 0} → (A → B) → (B → A) → Dec A → Dec B
 like f g (yes a) = yes (f a)
 like f g (no n) = no (λ b. n (g b))

@@ -1,4 +1,4 @@
--- What the deposit belt keeps of its side, in every state of a run.
+-- The invariant of the deposit belt's side: it holds in every state of a run.
 use Rattle.std.proofs.Common.{◌≡◌, true, false, IsTrue, is_some, [], ◌∷◌, Some, refl, sym, ◌∙◌}
 use Rattle.cell_types.specs.declared.machine.Machine.TheVariants.{Deposit}
 use Rattle.cell_types.specs.declared.zone.Zone.TheVariants.{Z4, Z5}
@@ -28,7 +28,7 @@ use Rattle.cell_parts.specs.Plant.{deposit_at_start, set_belt, deposit_called}
 use Rattle.cell_parts.specs.Rigs.{deposit_rig}
 use Rattle.cell_plant.proofs.BeltPlates.{PlatesStand, plate_stands, as_full, plates_foreign, plates_set, plates_moved, still_runs, plate_taken, plate_given, plate_worked}
 
--- what its step knows of the interlock; and plates stand on it where its places are full
+-- what its step knows of the interlock; a plate is on it if and only if its place is full
 pub record DepositInv (z : ModelState) (p : DepositProgress) (b : Belt) : Type 0 where
   pub knows : DepositKnows p z
   pub plates : PlatesStand z DepEntry DepEnd b
@@ -50,7 +50,7 @@ emptied_end full Moving e = cc
 emptied_end full OpenIn e = cc
 emptied_end full OpenOut e = (refl, refl)
 
--- by each of its calls the plates on it are what its places say
+-- after each of its calls the plates on it are those of its places
 done_plates : (s : DepositStep) (c : Call) (z : ModelState) (b : Belt) → call_of s ≡ Some c → reply z Deposit c ≡ Done → IsSound z → PlatesStand z DepEntry DepEnd b → PlatesStand (changed z Deposit c) DepEntry DepEnd (set_belt (deposit_called b c) false)
 done_plates ClaimEntry (Claim Z4) z b e d sound k = record { entry = k.entry; end = k.end }
 done_plates ClaimExit (Claim Z5) z b e d sound k = record { entry = k.entry; end = k.end }
@@ -79,7 +79,7 @@ deposit-keeping = record {
   moves = λ z p b i. record { knows = i.knows; plates = plates_moved z DepEntry DepEnd b i.plates };
 }
 
--- and while it runs it holds both its zones, which move
+-- while it runs it holds both its zones, which move
 abbrev pub DepositRuns : ModelState → DepositProgress → Belt → Type 0
 DepositRuns = WhileOn Deposit (λ b. IsTrue b.runs) (λ p. Finds Z4 Moving ∷ Finds Z5 Moving ∷ [])
 

@@ -1,4 +1,4 @@
--- What the feed belt keeps of its side, in every state of a run.
+-- The invariant of the feed belt's side: it holds in every state of a run.
 use Rattle.std.proofs.Common.{◌≡◌, true, false, IsTrue, is_some, [], ◌∷◌, Some, refl, sym, ◌∙◌}
 use Rattle.cell_types.specs.declared.machine.Machine.TheVariants.{Feed}
 use Rattle.cell_types.specs.declared.zone.Zone.TheVariants.{Z1, Z6}
@@ -28,7 +28,7 @@ use Rattle.cell_parts.specs.Plant.{feed_at_start, set_belt, feed_called}
 use Rattle.cell_parts.specs.Rigs.{feed_rig}
 use Rattle.cell_plant.proofs.BeltPlates.{PlatesStand, plate_stands, as_full, plates_foreign, plates_set, plates_moved, still_runs, plate_taken, plate_given, plate_worked}
 
--- what its step knows of the interlock; and plates stand on it where its places are full
+-- what its step knows of the interlock; a plate is on it if and only if its place is full
 pub record FeedInv (z : ModelState) (p : FeedProgress) (b : Belt) : Type 0 where
   pub knows : FeedKnows p z
   pub plates : PlatesStand z FeedEntry FeedEnd b
@@ -50,7 +50,7 @@ emptied_end full Moving e = cc
 emptied_end full OpenIn e = (refl, refl)
 emptied_end full OpenOut e = cc
 
--- by each of its calls the plates on it are what its places say
+-- after each of its calls the plates on it are those of its places
 done_plates : (s : FeedStep) (c : Call) (z : ModelState) (b : Belt) → call_of s ≡ Some c → reply z Feed c ≡ Done → IsSound z → PlatesStand z FeedEntry FeedEnd b → PlatesStand (changed z Feed c) FeedEntry FeedEnd (set_belt (feed_called b c) false)
 done_plates ClaimEntry (Claim Z6) z b e d sound k = record { entry = k.entry; end = k.end }
 done_plates PoseLanding (SetPose Landing) z b e d sound k = record { entry = k.entry; end = k.end }
@@ -79,7 +79,7 @@ feed-keeping = record {
   moves = λ z p b i. record { knows = i.knows; plates = plates_moved z FeedEntry FeedEnd b i.plates };
 }
 
--- and while it runs it holds the zone before the crane, which moves
+-- while it runs it holds z6, which moves
 abbrev pub FeedRuns : ModelState → FeedProgress → Belt → Type 0
 FeedRuns = WhileOn Feed (λ b. IsTrue b.runs) (λ p. Finds Z6 Moving ∷ [])
 

@@ -1,4 +1,4 @@
--- What each machine keeps of its own side holds of every side in every state of a run.
+-- Each machine's invariant holds of its side in every state of a run.
 use Rattle.std.proofs.Common.{◌≡◌, Bool, true, false, ◌&&◌, None, is_none, refl, sym, ap, ◌∙◌, subst}
 use Rattle.cell_types.specs.declared.machine.Machine.{Machine}
 use Rattle.cell_types.specs.declared.machine.Machine.TheVariants.{Feed, Table, Robot, Press, Deposit, Crane, Watch}
@@ -33,7 +33,7 @@ module _ (c : CellScales) (InvOf ToldOf : (m : Machine) → ModelState → Progr
   abbrev Holds : (n : Machine) → ModelState → SideOf n → Type 0
   Holds n z side = InvOf n z side.progress side.part
 
-  -- the interlock is sound and its belts run clear, and each machine has what it keeps
+  -- the interlock is sound, its belts run clear, and each machine's invariant holds
   pub record CellInv (w : CellState) : Type 0 where
     pub sound : IsSound w.interlock
     pub clear : RunsClear w.interlock
@@ -44,7 +44,7 @@ module _ (c : CellScales) (InvOf ToldOf : (m : Machine) → ModelState → Progr
       subst (λ x. Changes w.interlock x s.set.interlock) (own_program c m)
       (takes_changes (steps_of c m) (rig_of c m) busy w.interlock s.set.interlock (w.side m) (s.set.side m) s.asked k.takes)
 
-  -- once the actuators are set: the machine's own side, and those of the others
+  -- once the actuators are set: the machine's own side, and the others
   own_told : (m : Machine) (busy : Bool) (w : CellState) (s : Step) → TakesTurn c m busy w s → (w.side m).stopped ≡ None → CellInv w → ToldOf m s.set.interlock (s.set.side m).progress (s.set.side m).part
   own_told m busy w s k runs i = takes_keeps (steps_of c m) (rig_of c m) (InvOf m) (ToldOf m) (keeping m) busy w.interlock s.set.interlock (w.side m) (s.set.side m) s.asked k.takes runs i.sound (i.each m)
 
@@ -84,7 +84,7 @@ module _ (c : CellScales) (InvOf ToldOf : (m : Machine) → ModelState → Progr
     each = λ n. subst (λ z. Holds n z (s.moved.side n)) (sym k.interlock) (moved_by (same_machine m n) m n busy w s refl k runs i set);
   }
 
-  -- a step keeps what holds, in both of its states
+  -- a step keeps the invariants, in both of its states
   pub step_keeps : (b : Bool) (m : Machine) (busy : Bool) (w : CellState) (s : Step) → goes_on w m ≡ b → LeadsIf b c m busy w s → CellInv w → CellInv s.set × CellInv s.moved
   step_keeps true m busy w s e k i =
       let runs = none_runs (w.side m).stopped (second_true (is_at_work m) (is_none (w.side m).stopped) e) in

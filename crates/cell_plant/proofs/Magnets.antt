@@ -1,4 +1,4 @@
--- A magnet that stays as it is lets nothing go.
+-- A magnet that stays as it is drops nothing.
 use Rattle.std.proofs.Common.{◌≡◌, Bool}
 use Rattle.cell_parts.specs.Collisions.{LetsGo}
 

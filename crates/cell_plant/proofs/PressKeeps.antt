@@ -1,4 +1,4 @@
--- What the press keeps of its side, in every state of a run.
+-- The invariant of the press's side: it holds in every state of a run.
 use Rattle.std.proofs.Common.{◌≡◌, pos, ◌≤ℤ◌, Bool, true, false, ◌⊎◌, inl, inr, [], ◌∷◌, Option, Some, None, Result, Ok, Err, refl, sym, ap, ◌∙◌, subst, if◌then◌else◌, arith}
 use Rattle.std.proofs.lemmas.Int.{ints}
 use Rattle.std.proofs.lemmas.Bool.{false_from_ne_true}
@@ -45,7 +45,8 @@ use Rattle.cell_parts.specs.Collisions.{IsOn, RestsAtMiddle, RestsAtBottom, Driv
 use Rattle.cell_parts.specs.Rigs.{press_rig}
 use Rattle.cell_plant.proofs.WithinLemmas.{between, moved_within}
 
--- what its controller knows of the interlock; it stands within its ends, and rests where an open posture says, and at a switch once it is driven there
+-- what its controller knows of the interlock; it is within its ends, rests where an open posture says, and is at a
+-- switch once it was driven there
 pub record PressInv (z : ModelState) (p : PressProgress) (a : Axis) : Type 0 where
   pub knows : PressKnows p z
   pub within : IsWithin press_end a.position
@@ -70,14 +71,14 @@ press-start s k =
       at_bottom = λ e. cc;
     }
 
--- once it has moved: it rests with its motor off, and so stays
+-- once it has moved: it rests if its motor is off, and so stays
 middle_moved : (a : Axis) → RestsAtMiddle a → RestsAtMiddle (moved_press a)
 middle_moved a r = (r.0, rw r.0 r.1)
 
 bottom_moved : (a : Axis) → RestsAtBottom a → RestsAtBottom (moved_press a)
 bottom_moved a r = (r.0, rw r.0 r.1)
 
--- a call that is done opens the press by a pose, or it was open before
+-- a Done call that leaves the press open is the pose that opened it, or the press was open before
 opened_in : (s : PressStep) (c : Call) (z : ModelState) → call_of s ≡ Some c → posture_at (changed z Press c) Z3 ≡ OpenIn → (posture_at z Z3 ≡ OpenIn) ⊎ (s ≡ PoseMiddle)
 opened_in ClaimFirst (Claim Z3) z e o = inl o
 opened_in LeaveForMiddle (SetPose Travelling) z e o = cc
@@ -108,14 +109,14 @@ opened_out GivePlate (Give Z3) z e o = inl o
 opened_out ClaimBack (Claim Z3) z e o = inl o
 opened_out s c z e o = cc
 
--- and it doesn't lead to a step that is come to by a drive
+-- the next step isn't one that is reached by a drive
 not_driven : (s : PressStep) (loaded forged : Bool) (c : Call) → call_of s ≡ Some c → (step_after s loaded forged ≡ PoseMiddle → ⊥) × (step_after s loaded forged ≡ PoseLow → ⊥)
 not_driven ClaimFirst loaded true c e = (λ q. cc, λ q. cc)
 not_driven ClaimFirst true false c e = (λ q. cc, λ q. cc)
 not_driven ClaimFirst false false c e = (λ q. cc, λ q. cc)
 not_driven s loaded forged c e = (λ q. cc, λ q. cc)
 
--- what a drive leads to, and when
+-- the next step of a drive, and when it comes
 motor_at_middle : (last : Direction) (b m t : Bool) → (if m then Off else (if b then Plus else (if t then Minus else motor_of last))) ≡ Off → m ≡ true
 motor_at_middle last b true t e = refl
 motor_at_middle last true false t e = cc
@@ -160,7 +161,7 @@ module _ (z : ModelState) (p : PressProgress) (a : Axis) (i : PressInv z p a) wh
     at_bottom = λ e. (refl, (i.at_bottom e).1);
   }
 
-  -- a call was done
+  -- a call was Done
   rests_middle : (posture_at z Z3 ≡ OpenIn) ⊎ (p.step ≡ PoseMiddle) → RestsAtMiddle (set_axis a Off)
   rests_middle (inl o) = (refl, (i.open_in o).1)
   rests_middle (inr e) = (refl, (i.at_middle e).1)
@@ -206,7 +207,7 @@ module _ (z : ModelState) (p : PressProgress) (a : Axis) (i : PressInv z p a) wh
       at_bottom = driven_bottom (act_for p x).press refl;
     }
 
--- what the switches say that are checked
+-- what the checked switches say
 checked_by : (b : Bool) (x r : PressSense) → Ok r ≡ (if b then Err Clash else Ok x) → x ≡ r
 checked_by true x r e = cc
 checked_by false x r e = cc
@@ -240,7 +241,7 @@ press-keeping = record {
   };
 }
 
--- and while its motor is on it holds its interior, which moves
+-- while its motor is on it holds its interior, which moves
 abbrev pub PressMoves : ModelState → PressProgress → Axis → Type 0
 PressMoves = WhileOn Press IsOn (λ p. Finds Z3 Moving ∷ [])
 
@@ -248,7 +249,7 @@ pub press-demanding : Demanding press_steps press_rig PressInv PressInv PressMov
 press-demanding =
     demanding_while_on press_steps press_rig PressInv PressInv IsOn (λ p. Finds Z3 Moving ∷ []) (λ p b on. on refl) (λ z p b x r act e shows senses drives i on. (drives_at p.step z e i.knows, tt)) (λ b on. on)
 
--- at an end of the axis its switch is on, and the motor isn't told to go on
+-- at an end of the axis its switch is on, and the motor isn't commanded to go on
 down_to_middle : (last : Direction) (b m t : Bool) → b ≡ true → m ≡ false → (if m then Off else (if b then Plus else (if t then Minus else motor_of last))) ≡ Minus → ⊥
 down_to_middle last b true t on off e = cc
 down_to_middle last true false t on off e = cc
@@ -312,7 +313,7 @@ module _ (a : Axis) (x : PressSense) (shows : PressShows a x) where
   off_not_past (inl k) = let e : Off ≡ Minus = k.1 in cc
   off_not_past (inr k) = let e : Off ≡ Plus = k.1 in cc
 
-  -- so in no turn it is driven on past an end
+  -- so in no turn is it driven on past an end
   pub press-ends : (same : Type 0) (asks : Call → Result Reply LineFault → Type 0) (stopped : Option CtlFault) (p : PressProgress) (w : Turned PressProgress PressAct) → Turns press_steps same asks stopped p x w
       → ¬ DrivesPast press_end (set_press a (act_or_rest (press_steps.rest p) w.result))
   press-ends same asks stopped p w k =

@@ -30,9 +30,9 @@ use Rattle.cell_plant.proofs.Deciding.{so, not_so, equals, same_number}
 use Rattle.cell_plant.proofs.RunRows.{run_examples}
 use Rattle.cell_plant.proofs.SafetyDecided.{is_safe, is_safe_run}
 
--- ---- one thing is another
+-- ---- one thing is wrong
 
--- the counts of one machine, by where it stands
+-- the counts of one machine, by its place in the list
 abbrev turns_at : ℕ → List Counts → ℕ
 turns_at n counts = (get_or counts n no_counts).turns
 
@@ -102,7 +102,7 @@ module _ (r : RunRecord) where
     axes = f.axes;
   }
 
-  -- ---- records of runs of a schedule, and of no run of it
+  -- ---- records of runs of a schedule, and records that are of no such run
 
   module _ (c : CellScales) where
     run_by : (turns : List Turn) (ss : List Step) → IsRun c at_first turns ss → IsRecordOf opening ss (end_of at_first ss) r → IsSafeRun at_first ss → IsLegal opening (events_in ss) → (end_of at_first ss).interlock ≡ after opening (events_in ss) → TellsRun c opening turns r

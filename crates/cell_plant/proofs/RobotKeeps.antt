@@ -1,4 +1,4 @@
--- What the robot keeps of its side, in every state of a run.
+-- The invariant of the robot's side: it holds in every state of a run.
 use Rattle.std.proofs.Common.{◌≡◌, ℤ, pos, ◌≤ℤ◌, Bool, true, false, not, ◌&&◌, ◌||◌, ◌⊎◌, inl, inr, Option, Some, None, Result, Ok, refl, sym, ap, ◌∙◌, subst, if◌then◌else◌, arith}
 use Rattle.std.specs.Prelude.{⊤}
 use Rattle.std.proofs.lemmas.Int.{ints}
@@ -45,7 +45,7 @@ use Rattle.cell_plant.proofs.Magnets.{still_on}
 use Rattle.cell_plant.proofs.Stops.{reading_near, span_of, at_stop, StopsWithin, off_within, driven_within}
 use Rattle.cell_plant.proofs.WithinLemmas.{between, moved_within}
 
--- the stop at which each arm stands at a step, and the rotation; none where it may be anywhere
+-- the stop of each arm at a step, and of the rotation; none if the axis may be anywhere
 abbrev arm1_at : RobotStep → Option Stop
 arm1_at ReachTable = None
 arm1_at GripPlate = None
@@ -85,7 +85,7 @@ rotation_at DropOnDeposit = Some ROTATION_ARM2_DEPOSIT
 rotation_at LeaveDeposit = Some ROTATION_ARM2_DEPOSIT
 rotation_at _ = None
 
--- an axis stands at a stop, with its motor off
+-- an axis is at a stop, with its motor off
 abbrev StandsAt : Option Stop → Axis → Type 0
 StandsAt None a = ⊤
 StandsAt (Some stop) a = IsIn (span_of stop) a.position × (a.motor ≡ Off)
@@ -98,7 +98,7 @@ stands_moved : (end : ℤ) (at : Option Stop) (a : Axis) → StandsAt at a → S
 stands_moved end None a k = tt
 stands_moved end (Some stop) a k = (rw k.1 k.0, k.1)
 
--- a step leads to where an axis stands already, or may be anywhere; or it comes to where it was driven
+-- at the next step an axis is at the same stop, or may be anywhere; or it is at the stop that it was driven to
 abbrev Stays : Option Stop → Option Stop → Type 0
 Stays at next = (next ≡ None) ⊎ (next ≡ at)
 
@@ -156,7 +156,7 @@ rotation_still TurnToUnload b = inl refl
 rotation_still TurnToDeposit b = inl refl
 rotation_still s b = inr (no_stop b (rotation_stop s) refl)
 
--- where steps lead: before a group of steps both arms are in, and the rotation may be any
+-- the next steps: before a group of steps both arms are in, and the rotation may be any
 choice_by : (arm1 arm2 fed : Bool) → (arm1_at (choice (record { arm1 = arm1; arm2 = arm2; fed = fed })) ≡ Some RETRACTED) × (arm2_at (choice (record { arm1 = arm1; arm2 = arm2; fed = fed })) ≡ Some RETRACTED) × (rotation_at (choice (record { arm1 = arm1; arm2 = arm2; fed = fed })) ≡ None)
 choice_by arm1 true fed = (refl, refl, refl)
 choice_by arm1 false true = (refl, refl, refl)
@@ -227,7 +227,8 @@ drives_lead DropOnDeposit n e = (inl there, inl anywhere, inl there)
 drives_lead LeaveDeposit n e = (inl there, inr refl, inl anywhere)
 drives_lead s n e = cc
 
--- what its step knows of the interlock; its magnets are as they were told last, each axis stands where the step has it, and it turns only in steps that turn
+-- what its step knows of the interlock; its magnets are as last commanded, each axis is where the step needs it, and it
+-- rotates only in steps that rotate
 pub record RobotInv (z : ModelState) (p : RobotProgress) (r : RobotPlant) : Type 0 where
   pub knows : RobotKnows p z
   pub magnet1 : r.magnet1 ≡ p.magnets.arm1
@@ -287,7 +288,7 @@ asks_magnets ClaimDeposit c m e = refl
 asks_magnets GiveToDeposit c m e = refl
 asks_magnets s c m e = cc
 
--- what a step that is done says of its motors
+-- what a done step says of its motors
 all_off : (a b c : Motor) → (is_off a && (is_off b && is_off c)) ≡ true → (a ≡ Off) × (b ≡ Off) × (c ≡ Off)
 all_off Off Off Off e = (refl, refl, refl)
 all_off a b c e = cc
@@ -297,7 +298,7 @@ done_when true true a b c e = (λ q. refl, all_off a b c e)
 done_when true false a b c e = cc
 done_when false retracted a b c e = (λ q. cc, all_off a b c e)
 
--- one that switches a magnet is done in its turn
+-- a step that switches a magnet is done in its turn
 not_off : (a b c : Motor) → a ≡ Off → b ≡ Off → c ≡ Off → (is_off a && (is_off b && is_off c)) ≡ false → ⊥
 not_off Off Off Off e f g h = cc
 not_off a b c e f g h = cc
@@ -315,7 +316,7 @@ module _ (points : RobotScales) (p : RobotProgress) (rd : RobotReading) (act : R
   stays_magnets DropOnDeposit m a b c stays = absurd (not_off act.arm1 act.arm2 act.rotation a b (turned_off rd.retracted _ _ _ c) stays)
   stays_magnets s m a b c stays = refl
 
-  -- only a step that turns tells it to
+  -- only a step that rotates commands the rotation
   told_turns : (s : RobotStep) → DrivesTo (turns_to s rd.retracted) points.rotation.tol rd.rotation act.rotation → (act.rotation ≡ Off → ⊥) → turns s ≡ true
   told_turns TurnToTable c on = refl
   told_turns TurnToLoad c on = refl
@@ -334,7 +335,7 @@ turns_there TurnToUnload b f = retracted_then b _ (f refl)
 turns_there TurnToDeposit b f = retracted_then b _ (f refl)
 turns_there s b f = no_stop b None refl
 
--- the scales of the potentiometers are those by which they are read
+-- the scales of the potentiometers are those of their calibrations
 abbrev pub part_scales : RobotScales → PartScales
 part_scales points = record { arm1 = points.arm1; arm2 = points.arm2; rotation = points.rotation }
 
@@ -426,7 +427,7 @@ module _ (points : RobotScales) (axes : AreRobotScales points) where
     };
   }
 
--- An arm that is out, or driven, is where it may be: the robot has that zone, open for it.
+-- An arm that is out, or driven, is where it may be: the robot holds that zone, open for it.
 not_out : (a : Axis) → StandsAt (Some RETRACTED) a → ¬ IsOut a
 not_out a k out = let at : a.position ≤ℤ pos 40 = k.0.1 in omega (arith, ints)
 
@@ -466,7 +467,7 @@ arm2_has DropOnDeposit z r k arm at out = inr (over_deposit r at, k.0)
 arm2_has LeaveDeposit z r k arm at out = inr (over_deposit r at, k.0)
 arm2_has s z r k arm at out = absurd (stands_in r.arm2 arm out)
 
--- it turns with both arms in
+-- it rotates only with both arms in
 turns_in : (s : RobotStep) → turns s ≡ true → (arm1_at s ≡ Some RETRACTED) × (arm2_at s ≡ Some RETRACTED)
 turns_in TurnToTable e = (refl, refl)
 turns_in TurnToLoad e = (refl, refl)
@@ -521,7 +522,7 @@ turn_stops : (s : RobotStep) (b : Bool) → StopsWithin rotation_end (turns_to s
 turn_stops s true = rotation_stops s
 turn_stops s false = tt
 
--- A magnet lets go only where its plate may go.
+-- A magnet drops its plate only where it may.
 abbrev LetsGoThere : RobotPlant → RobotAct → Type 0
 LetsGoThere r act = (LetsGo r.magnet1 act.magnet1 → Arm1MayLetGo (set_robot r act)) × (LetsGo r.magnet2 act.magnet2 → Arm2MayLetGo (set_robot r act))
 
@@ -542,7 +543,7 @@ module _ (points : RobotScales) (axes : AreRobotScales points) (z : ModelState) 
   acts_within rd act senses acts (inr (inr past)) =
       driven_within rotation_end points.rotation r.rotation (turns_to p.step rd.retracted) rd.rotation act.rotation axes.rotation (reads_near points axes z p r s rd shows senses i).rotation (turn_stops p.step rd.retracted) acts.rotation past
 
-  -- so in no turn it is driven on past an end, nor lets a plate fall
+  -- so in no turn is an axis driven on past an end, and no turn drops a plate
   pub robot-ends : (same : Type 0) (asks : Call → Result Reply LineFault → Type 0) (stopped : Option CtlFault) (w : Turned RobotProgress RobotAct) → Turns (robot_steps points (near_lines points)) same asks stopped p s w
       → ¬ DrivesOut (set_robot r (act_or_rest (robot_rest p) w.result))
   robot-ends same asks stopped w k = turn_tells (robot_steps points (near_lines points)) same asks p s (λ act. ¬ DrivesOut (set_robot r act)) (rest_stays r p) (λ rd act e senses acts. acts_within rd act senses acts) stopped w k

@@ -1,4 +1,4 @@
--- The examples of turns and runs, and of such that are none.
+-- The examples of turns and runs, and of what isn't one.
 use Rattle.std.proofs.Common.{◌≡◌, ◌≢◌, ℕ, Bool, true, false, inr, Some, None, Result, Ok, refl, sym, ap, subst}
 use Rattle.cell_types.specs.declared.machine.Machine.{Machine}
 use Rattle.cell_types.specs.declared.machine.Machine.TheVariants.{Feed, Table, Robot, Press, Deposit, Crane, Watch}
@@ -77,7 +77,7 @@ shows_top = record {
   top = so (same_truth (is_true _) (at_most _ _)) refl;
 }
 
--- sides that differ in one machine's alone
+-- sides that differ in one machine's only
 feed_apart : (a : Sides) (x : Side FeedProgress Belt) (n : Machine) → same_machine Feed n ≡ false → side_in (record a { feed = x }) n ≡ side_in a n
 feed_apart a x Feed e = absurd (true_false e)
 feed_apart a x Table e = refl
@@ -124,7 +124,7 @@ module _ (c : CellScales) where
   abbrev OthersStay : Machine → CellState → CellState → Type 0
   OthersStay m w v = (n : Machine) → same_machine m n ≡ false → v.side n ≡ w.side n
 
-  -- a turn that moves no part of another machine
+  -- a turn that moves no other machine's part
   turn_by : (m : Machine) (busy : Bool) (w : CellState) (s : Step)
       → s.taken ≡ true → TakesBy m busy w s → OthersStay m w s.set → s.moved.side m ≡ side_moved (rig_of c m) (s.set.side m) → OthersStay m s.set s.moved → s.moved.interlock ≡ s.set.interlock → TakesTurn c m busy w s
   turn_by m busy w s taken takes others_set moved others_moved interlock = record {
@@ -159,7 +159,7 @@ module _ (c : CellScales) where
 
   -- ---- turns that aren't
 
-  -- what was asked in a turn and came back, by the interlock before it and after
+  -- what a turn asked and got back, by the states of the interlock before and after it
   abbrev IsAnswered : ModelState → Machine → Bool → Asked → ModelState → Type 0
   IsAnswered z m busy None y = y ≡ z
   IsAnswered z m busy (Some call) y = Answers z m busy call.0 call.1 y

@@ -1,4 +1,4 @@
--- How far a simulation has come: the run so far, and what was noted of it.
+-- The progress of a simulation: the run so far, and what was noted of it.
 use Rattle.std.proofs.Common.{◌≡◌, ℕ, suc, ◌+◌, ◌<◌, ◌≤◌, Bool, true, false, ◌&&◌, cond, List, [], ◌∷◌, ◌++◌, append-nil, append_assoc, length, take, map, count_by, add-zero, Some, None, Result, Ok, Err, refl, sym, ap, ◌∙◌, subst, if◌then◌else◌, arith}
 use Rattle.std.proofs.lemmas.List.{length-take-le}
 use Rattle.std.proofs.lemmas.List.Sums.{sum_by-append, sum_by-cons, count_by-le-length}
@@ -38,7 +38,7 @@ use Rattle.cell_plant.specs.Moments.{Moment, StepsOn, Keeps, first_moment, state
 use Rattle.cell_plant.proofs.KeptRuns.{own_program}
 use Rattle.cell_plant.proofs.SafeRuns.{every_run}
 
--- a run goes on by a turn
+-- a run is extended by a turn
 pub run-push : (c : CellScales) (w : CellState) (ts : List Turn) (ss : List Step) (t : Turn) (s : Step) → IsRun c w ts ss → s.machine ≡ t.machine → Leads c t.machine t.busy (end_of w ss) s → IsRun c w (ts ++ t ∷ []) (ss ++ s ∷ [])
 run-push c w [] [] t s r e l = (e, (l, tt))
 run-push c w (u ∷ ts) (x ∷ ss) t s r e l = (r.0, (r.1.0, run-push c x.moved ts ss t s r.1.1 e l))
@@ -59,7 +59,7 @@ events-push : (ss : List Step) (s : Step) → events_in (ss ++ s ∷ []) ≡ eve
 events-push [] s = append-nil (settled_in s.machine s.asked)
 events-push (x ∷ ss) s = ap (λ h. settled_in x.machine x.asked ++ h) (events-push ss s) ∙ sym (append_assoc (settled_in x.machine x.asked) (events_in ss) (settled_in s.machine s.asked))
 
--- counts over one step more
+-- counts after one more step
 one_counted : (b : Bool) → cond b 1 0 + 0 ≡ one_if b
 one_counted true = refl
 one_counted false = refl
@@ -86,7 +86,7 @@ counts-push ss s m =
     rw (count-push (is_turn_of m) ss s, count-push (is_told is_done_reply m) ss s, count-push (is_told is_read_reply m) ss s, count-push (is_told is_refused_reply m) ss s, count-push (is_told is_busy_reply m) ss s)
     (counted_by (counts_in ss m) (is_turn_of m s) s.asked)
 
--- what the interlock was told in a step
+-- the replies of the interlock in a step
 pub record IsAnswered (s : ModelState) (m : Machine) (asked : Asked) (t : ModelState) : Type 0 where
   pub legal : IsLegal s (settled_in m asked)
   pub reached : t ≡ after s (settled_in m asked)
@@ -134,7 +134,7 @@ answered_if : (b : Bool) (c : CellScales) (m : Machine) (busy : Bool) (w : CellS
 answered_if true c m busy w s k = answered_taken c m busy w s k
 answered_if false c m busy w s k = answered_none w.interlock m s.asked s.moved.interlock (ap (λ x. x.interlock) k.moved, k.asked)
 
--- in a turn that isn't taken nothing is asked
+-- a turn that isn't taken asks nothing
 none_asked : (b : Bool) (c : CellScales) (m : Machine) (busy : Bool) (w : CellState) (s : Step) → LeadsIf b c m busy w s → s.taken ≡ false → entries_in s.asked ≡ []
 none_asked true c m busy w s k e = let f : true ≡ false = sym k.taken ∙ e in cc
 none_asked false c m busy w s k e = ap entries_in k.asked
@@ -202,7 +202,7 @@ module _ (turns : List Turn) (t : Turn) (before now : Moment) (g : RunSoFar turn
       ∙ ap (λ z. noted before.opening before.history n ++ noted z (settled_in t.machine s.asked) n) g.reached
       ∙ sym (noted-append before.opening before.history (settled_in t.machine s.asked) n)
 
-  -- the same by the opening and the scales that it began with
+  -- the same, by the opening and the scales of the beginning
   pub next_by : RunSoFar (turns ++ t ∷ []) (record now { scales = before.scales; opening = before.opening })
   next_by =
       record {

@@ -1,4 +1,4 @@
--- Every state of a run is safe: the facts of the six machines together meet all demands, and so nothing collides.
+-- Every state of a run is safe: together the six machines' invariants meet all demands, so nothing collides.
 use Rattle.std.proofs.Common.{◌≡◌, Bool, true, false, ◌&&◌, not, inl, inr, Option, Some, None, List, [], ◌∷◌, refl, sym, ap, ◌∙◌, subst}
 use Rattle.cell_types.specs.declared.machine.Machine.{Machine}
 use Rattle.cell_types.specs.declared.machine.Machine.TheVariants.{Feed, Table, Robot, Press, Deposit, Crane, Watch}
@@ -50,7 +50,7 @@ use Rattle.cell_plant.proofs.PressKeeps.{press-ends}
 use Rattle.cell_plant.proofs.RobotKeeps.{AreRobotScales, arm1-has, arm2-has, rotates-retracted, robot-ends, robot-lets-go}
 use Rattle.cell_plant.proofs.TableKeeps.{table-ends}
 
--- a start is sound, for its zones are free, and its belts stand
+-- a start is sound, since its zones are free, and its belts don't run
 one_place_empty : (b : Bool) → b ≡ false → (not b && true) ≡ true
 one_place_empty false e = refl
 one_place_empty true e = cc
@@ -69,7 +69,7 @@ clear_free full stamp = record { feed = λ e. cc; entry = λ e. cc; end = λ e. 
 clear_start : (s : ModelState) → IsStartState s → RunsClear s
 clear_start s k = subst RunsClear (sym k.same) (clear_free s.full s.stamp)
 
--- a part that has nothing to note of an event is only set
+-- an event doesn't change a part that notes nothing
 unnoted : {State Sense Act : Type 0} → (rig : Rig State Sense Act) → ((b : State) (e : Event) → rig.notes b e ≡ b) → (b : State) (o : Option Event) → noting rig b o ≡ b
 unnoted rig k b None = refl
 unnoted rig k b (Some e) = k b e
@@ -138,7 +138,7 @@ module _ (c : CellScales) (scales : AreCellScales c) where
   crane_set : (busy : Bool) (w : CellState) (s : Step) → (k : TakesTurn c Crane busy w s) → (s.set.side Crane).part ≡ set_crane (w.side Crane).part (act_or_rest (crane_program.rest (w.side Crane).progress) k.takes.turned.result)
   crane_set busy w s k = set_unnoted crane_program (crane_rig c.gripper) (λ b x. refl) (w.side Crane) s.asked k.takes.turned (s.set.side Crane) k.takes.is
 
-  -- the crane's magnet lets go only where it may, and in the turns of others it stays as it is
+  -- the crane's magnet drops a plate only where it may, and in the turns of others it stays as it is
   crane_lets_go : (m : Machine) (busy : Bool) (w : CellState) (s : Step) → Kept w → TakesTurn c m busy w s → LetsGo (w.side Crane).part.magnet (s.set.side Crane).part.magnet → CraneMayLetGo (s.set.side Crane).part
   crane_lets_go Crane busy w s i k go =
       let is = crane_set busy w s k in
@@ -146,7 +146,7 @@ module _ (c : CellScales) (scales : AreCellScales c) where
       (go.0, sym (ap (λ x. x.magnet) is) ∙ go.1))
   crane_lets_go m busy w s i k go = let same = ap (λ x. x.part.magnet) (k.others_set Crane refl) in absurd (still_on _ _ same go)
 
-  -- nor do the robot's
+  -- so do the robot's
   abbrev points : RobotScales
   points = robot_points c
 
@@ -176,7 +176,7 @@ module _ (c : CellScales) (scales : AreCellScales c) where
   no_plate_falls m busy w s i k (inr (inl h)) = h.1 ((robot_lets_go m busy w s i k).1 h.0)
   no_plate_falls m busy w s i k (inr (inr h)) = h.1 (crane_lets_go m busy w s i k h.0)
 
-  -- nor is an axis driven on past an end
+  -- no axis is driven on past an end
   not_past : (m : Machine) (busy : Bool) (w : CellState) (s : Step) → Kept w → TakesTurn c m busy w s → ¬ DrivesPastEnd m (plant_of s.set)
   not_past Table busy w s i k past =
       table-ends c.turn scales.turn (w.side Table).part (i.each Table).0.turn_within k.takes.sense k.takes.shows _ _ (w.side Table).stopped (w.side Table).progress k.takes.turned k.takes.row

@@ -1,4 +1,4 @@
--- Whether a state, a step and a run are safe is decided by computing.
+-- Decides by computing whether a state, a step and a run are safe.
 use Rattle.std.proofs.Common.{ℕ, ◌+◌, ℤ, pos, ◌+ℤ◌, ◌-ℤ◌, Bool, ◌⊎◌, List, [], ◌∷◌, is_some}
 use Rattle.cell_types.specs.declared.machine.Machine.{Machine}
 use Rattle.cell_types.specs.declared.machine.Machine.TheVariants.{Feed, Table, Robot, Press, Deposit, Crane, Watch}

@@ -1,4 +1,4 @@
--- The examples of safe states, steps and runs, and of such that aren't: each is decided by computing.
+-- The examples of safe and unsafe states, steps and runs: each is decided by computing.
 use Rattle.std.proofs.Common.{[], ◌∷◌, refl}
 use Rattle.cell_plant.specs.SafetyExamples.{SafeStates, CollidingStates, StatesAtEnds, PositionsUnmet, MotorsUnmet, StepExamples, SafeRuns, SafetyExamples, quiet, danger, through}
 use Rattle.cell_plant.proofs.Deciding.{so, not_so}

@@ -44,11 +44,11 @@ use Rattle.cell_plant.specs.CellStates.{SideOf, CellState, Sides, side_in, sides
 use Rattle.cell_plant.specs.Runs.{Step, LeadsIf, is_at_work}
 use Rattle.cell_plant.specs.Moments.{Moment, AllNotes, StepsOn, state_at, notes_in, first_notes, first_moment}
 
--- two states are the same that have the same interlock and the same side of each machine
+-- two states are the same if they have the same interlock and the same side of each machine
 same_state : (w v : CellState) → w.interlock ≡ v.interlock → ((n : Machine) → w.side n ≡ v.side n) → w ≡ v
 same_state w v e k = λ i. record { interlock = e i; side = λ n. k n i }
 
--- the sides with another at a machine
+-- the sides, with one machine's replaced
 abbrev put : (m : Machine) → SideOf m → ((n : Machine) → SideOf n) → (n : Machine) → SideOf n
 put Feed x f Feed = x
 put Table x f Table = x
@@ -88,7 +88,7 @@ last_false false b e = refl
 first_false : (a b : Bool) → a ≡ false → (a && b) ≡ false
 first_false a b e = rw e refl
 
--- a turn of a machine at work, which leaves all else
+-- a turn of a working machine leaves everything else as it was
 module _ (m : Machine) (busy : Bool) (before now : Moment) (asked : Asked) (controlled : is_at_work m ≡ true)
     (leads : LeadsAlone (is_none (side_in before.sides m).stopped) (steps_of before.scales m) (rig_of before.scales m) busy before.interlock (side_in before.sides m) asked now.interlock (side_in now.sides m))
     (history : now.history ≡ before.history ++ settled_in m asked)
@@ -170,7 +170,7 @@ turn_is t m e = ap (λ (x : Machine). record { machine = x; busy = t.busy }) (sy
 pub by_turn : (t u : Turn) (before now : Moment) → t ≡ u → StepsOn t before now → StepsOn u before now
 by_turn t u before now e k = subst (λ x. StepsOn x before now) e k
 
--- the table's turn: its readings are such as a calibration over its scale may give
+-- the table's turn: its readings are any that a calibration over its scale may give
 pub table_near : (points : Scale) (gives : ℕ → ℤ → Type 0) (rig : Rig TablePlant TableSense TableAct) (busy : Bool) (old new : Desk) (before now : Side TableProgress TablePlant) (notes notes' : Notes)
     → SeatTurn (table_steps points gives) rig busy old new before now notes notes' → SeatTurn (table_steps points (IsReading points)) rig busy old new before now notes notes'
 table_near points gives rig busy old new before now notes notes' k = seat_turn_still (table_steps points gives) rig (Senses points (IsReading points)) (senses_near points gives) busy old new before now notes notes' k
@@ -203,7 +203,7 @@ crane_others : (s : Sides) (x : SideOf Crane) (v : AllNotes) (y : Notes) → Oth
 crane_others s x v y Crane apart = cc
 crane_others s x v y n apart = (refl, refl)
 
--- the robot's and the crane's, likewise
+-- likewise the robot's and the crane's
 pub robot_near : (points : RobotScales) (gives : RobotGauges) (rig : Rig RobotPlant RobotSense RobotAct) (busy : Bool) (old new : Desk) (before now : Side RobotProgress RobotPlant) (notes notes' : Notes)
     → SeatTurn (robot_steps points gives) rig busy old new before now notes notes' → SeatTurn (robot_steps points (near_lines points)) rig busy old new before now notes notes'
 robot_near points gives rig busy old new before now notes notes' k = seat_turn_still (robot_steps points gives) rig (RobotSenses points (near_lines points)) (robot_senses_near points gives) busy old new before now notes notes' k
@@ -213,7 +213,7 @@ pub crane_near : (points : Scale) (gives : ℕ → ℤ → Type 0) (rig : Rig Cr
 crane_near points gives rig busy old new before now notes notes' k = seat_turn_still (crane_steps points gives) rig (CraneSenses points (IsReading points)) (crane_senses_near points gives) busy old new before now notes notes' k
 
 module _ (before now : Moment) (busy : Bool) (asked : Asked) (scales : now.scales ≡ before.scales) (opening : now.opening ≡ before.opening) where
-  -- a machine's turn, which leads its own side on and leaves the others
+  -- a machine's turn, which changes its own side and leaves the others
   alone_on : (m : Machine) → is_at_work m ≡ true
       → LeadsAlone (is_none (side_in before.sides m).stopped) (steps_of before.scales m) (rig_of before.scales m) busy before.interlock (side_in before.sides m) asked now.interlock (side_in now.sides m)
       → now.history ≡ before.history ++ settled_in m asked
@@ -268,12 +268,12 @@ module _ (before now : Moment) (busy : Bool) (asked : Asked) (scales : now.scale
 pub watch_rests : (m : Machine) → m ≡ Watch → is_at_work m ≡ false
 watch_rests m e = ap is_at_work e
 
--- what holds where a turn was Ok
+-- what holds if a turn was Ok
 pub on_ok : {A E : Type 0} → (r : Result A E) (P Q : Type 0) → OnOk r P → (P → Q) → IfOk r (λ x. Q)
 on_ok (Ok x) P Q p f = f p
 on_ok (Err e) P Q p f = tt
 
--- whatever came of a turn, the bench keeps its opening, and its history grows by what was asked
+-- after any turn, Ok or not, the bench keeps its opening, and its history grows by what was asked
 pub record Grows (m : Machine) (old new : Desk) : Type 0 where
   pub asked : Asked
   pub opening : new.opening ≡ old.opening
@@ -284,12 +284,12 @@ pub grows : {E S Sense Reading Act State : Type 0} → (r : Result Unit E) (t : 
 grows (Ok x) t rig busy old new before now notes notes' k u = record { asked = k.asked; opening = k.opening; history = k.history }
 grows (Err e) t rig busy old new before now notes notes' k u = record { asked = None; opening = ap (λ (d : Desk). d.opening) u.desk; history = ap (λ (d : Desk). d.history) u.desk ∙ sym (append-nil old.history) }
 
--- so the other machines' controllers stay ready
+-- the other machines' controllers stay ready
 pub stays_ready : {S Sense Reading Act : Type 0} → (t : Steps S Sense Reading Act) (m : Machine) (old new : Desk) → Grows m old new → (stopped : Option CtlFault) (p : S) → same_machine m t.machine ≡ false
     → IsReady t old.opening old.history stopped p → IsReady t new.opening new.history stopped p
 stays_ready t m old new k stopped p apart ready = rw k.opening (others_ready t m old.opening old.history new.history k.asked stopped p apart k.history ready)
 
--- another scale of the table's rotation, of the gripper's height, and other scales of the robot
+-- another scale of the table's rotation, another of the gripper's height, and other scales of the robot
 abbrev pub with_turn : CellScales → Scale → CellScales
 with_turn c s = record c { turn = s }
 

@@ -1,4 +1,5 @@
--- An axis that is driven to stops by its potentiometer: what is read is near where it stands, it stands at the stop once its motor is off there, and it isn't driven on past an end.
+-- An axis that is driven to stops by its potentiometer: the reading is near the position, the axis is at the stop once
+-- its motor is off there, and it isn't driven on past an end.
 use Rattle.std.proofs.Common.{◌≡◌, ℕ, ℤ, pos, ◌+ℤ◌, ◌-ℤ◌, ◌<ℤ◌, ◌≤ℤ◌, inl, inr, Option, Some, None, arith}
 use Rattle.std.specs.Prelude.{⊤}
 use Rattle.std.proofs.lemmas.Int.{ints}
@@ -15,7 +16,7 @@ use Rattle.cell_parts.specs.Plant.{set_axis}
 use Rattle.cell_parts.specs.Shows.{ShowsRaw}
 use Rattle.cell_parts.specs.Collisions.{DrivesPast}
 
--- a reading is within the tolerance of where the axis stands
+-- a reading is within the tolerance of the axis's position
 pub reading_near : (end : ℤ) (points : Scale) (position : ℤ) (raw : ℕ) (read : ℤ) → IsAxisScale end points → IsWithin end position → ShowsRaw points position raw → IsReading points raw read → IsNear read position points.tol
 reading_near end points position raw read k within shows near =
     let first : points.at_lo ≡ pos 0 = k.from in
@@ -34,7 +35,7 @@ at_stop_by target half tol read position near off = (omega (arith, ints), omega 
 pub at_stop : (stop : Stop) (tol read position : ℤ) → IsNear read position tol → IsNear read stop.target (pos stop.half -ℤ tol) → IsIn (span_of stop) position
 at_stop stop tol read position near off = at_stop_by stop.target (pos stop.half) tol read position near off
 
--- a stop between the ends, that is wide enough
+-- a stop between the ends, wide enough
 abbrev pub StopsWithin : ℤ → Option Stop → Type 0
 StopsWithin end None = ⊤
 StopsWithin end (Some stop) = (pos 0 ≤ℤ stop.target) × (stop.target ≤ℤ end) × (pos 20 ≤ℤ pos stop.half)

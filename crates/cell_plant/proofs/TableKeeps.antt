@@ -1,4 +1,4 @@
--- What the table keeps of its side, in every state of a run.
+-- The invariant of the table's side: it holds in every state of a run.
 use Rattle.std.proofs.Common.{◌≡◌, ℤ, pos, ◌-ℤ◌, ◌≤ℤ◌, Bool, true, false, ◌&&◌, ◌⊎◌, inl, inr, [], ◌∷◌, Option, Some, None, Result, Ok, refl, sym, ap, ◌∙◌, subst, if◌then◌else◌, arith}
 use Rattle.std.proofs.lemmas.Int.{ints}
 use Rattle.cell_types.specs.declared.machine.Machine.TheVariants.{Table as TableMachine}
@@ -49,7 +49,8 @@ use Rattle.cell_plant.proofs.WithinLemmas.{between, moved_within}
 abbrev at_rest_act : TableAct
 at_rest_act = record { height = Off; rotation = Off }
 
--- what its step knows of the interlock; it stands within its ends, and ready to load where it is open to the feed belt, and before it opens
+-- what its step knows of the interlock; it is within its ends; and it is ready to load while it is open to the feed
+-- belt, and before it opens
 pub record TableInv (z : ModelState) (p : TableProgress) (t : TablePlant) : Type 0 where
   pub knows : TableKnows p z
   pub lift_within : IsWithin lift_end t.lift.position
@@ -76,7 +77,7 @@ table-start s k =
 rests-off : (t : TablePlant) → RestsAtLoading t → RestsAtLoading (set_table t at_rest_act)
 rests-off t r = record { lift_off = refl; turn_off = refl; bottom = r.bottom; turned = r.turned }
 
--- its part moves: at rest it stays
+-- its part moves: if it rests, it stays
 rests-moved : (t : TablePlant) → RestsAtLoading t → RestsAtLoading (moved_table t)
 rests-moved t r =
     record {
@@ -86,7 +87,7 @@ rests-moved t r =
       turned = rw r.turn_off r.turned;
     }
 
--- of the calls of its steps only the one at the loading place opens the table to the feed belt
+-- among the calls of its steps only the one at the loading place opens the table to the feed belt
 opened : (s : TableStep) (c : Call) (q : Posture) (R : Type 0) → call_of s ≡ Some c → (q ≡ OpenIn → R) → (s ≡ PoseLoading → R) → posture_given TableMachine c Z1 q ≡ OpenIn → R
 opened ClaimEntry (Claim Z1) q R e f g o = f o
 opened ClaimExit (Claim Z2) q R e f g o = f o
@@ -100,7 +101,7 @@ opened GivePlate (Give Z2) q R e f g o = f o
 opened ClaimBack (Claim Z2) q R e f g o = f o
 opened s c q R e f g o = cc
 
--- and none of them leads to that step
+-- none of these calls leads to that step
 choice_elsewhere : (loaded : Bool) → step_after ClaimExit loaded ≡ PoseLoading → ⊥
 choice_elsewhere true q = cc
 choice_elsewhere false q = cc
@@ -109,7 +110,7 @@ led_elsewhere : (s : TableStep) (loaded : Bool) (c : Call) → call_of s ≡ Som
 led_elsewhere ClaimExit loaded c e q = choice_elsewhere loaded q
 led_elsewhere s loaded c e q = cc
 
--- the reading is within the tolerance of where the table is turned to
+-- the reading is within the tolerance of the table's rotation
 turn_near : (points : Scale) (t : TablePlant) (s : TableSense) (r : TableReading) → IsAxisScale turn_end points → IsWithin turn_end t.turn.position → TableShows points t s → Senses points (IsReading points) s (Ok r) → IsNear r.turn t.turn.position points.tol
 turn_near points t s r k within shows senses = reading_near turn_end points t.turn.position s.turn r.turn k within shows.raw senses.near
 
@@ -124,7 +125,7 @@ both_off : (a b : Motor) → (is_off a && is_off b) ≡ true → (a ≡ Off) × 
 both_off Off Off e = (refl, refl)
 both_off a b e = cc
 
--- a table whose motors go off as it moves to the feed belt stands ready to load there
+-- a table that moves to the feed belt is ready to load once its motors go off there
 rests-loading : (points : Scale) (t : TablePlant) (s : TableSense) (r : TableReading) (act : TableAct) → IsAxisScale turn_end points → IsWithin turn_end t.turn.position → TableShows points t s → Senses points (IsReading points) s (Ok r) → Acts points MoveToLoading r act
     → (act.height ≡ Off) × (act.rotation ≡ Off) → RestsAtLoading (set_table t act)
 rests-loading points t s r act k within shows senses acts off =
@@ -197,7 +198,7 @@ module _ (points : Scale) (axis : IsAxisScale turn_end points) where
     };
   }
 
--- and while it moves it holds both its zones, which move
+-- while it moves it holds both its zones, which move
 abbrev pub TableDrives : ModelState → TableProgress → TablePlant → Type 0
 TableDrives = WhileOn TableMachine TableMoves (λ p. Finds Z1 Moving ∷ Finds Z2 Moving ∷ [])
 
@@ -206,7 +207,8 @@ table-demanding points =
     demanding_while_on (table_steps points (IsReading points)) (table_rig points) TableInv TableInv TableMoves (λ p. Finds Z1 Moving ∷ Finds Z2 Moving ∷ []) (λ p b on. off_stands (set_table b at_rest_act) refl refl on)
     (λ z p b s r act e shows senses drives i on. let at = drives_at p.step z e i.knows in ((at.0.0, at.1.0), ((at.0.1, at.1.1), tt))) (λ b on. on)
 
--- No turn of the table drives it past an end: by its switches, and by its reading, which is within the tolerance.
+-- No turn of the table drives it on past an end: the height by its switches, the rotation by its reading, which is
+-- within the tolerance.
 abbrev DrivesOut : TablePlant → Type 0
 DrivesOut t = DrivesPast lift_end t.lift ⊎ DrivesPast turn_end t.turn
 
@@ -230,7 +232,7 @@ not_plus : (b : Bool) → (if b then Off else Minus) ≡ Plus → ⊥
 not_plus true e = cc
 not_plus false e = cc
 
--- the height goes down only off the bottom, and up only off the top
+-- the height goes down only if it isn't at the bottom, and up only if it isn't at the top
 lowered : (s : TableStep) (x : TableSense) → height_for s x ≡ Minus → x.bottom ≡ true → ⊥
 lowered MoveToLoading x e b = absurd (minus_unless x.bottom e b)
 lowered MoveToUnloading x e b = absurd (not_minus x.top e)
@@ -249,7 +251,7 @@ lift_stays points t s x m shows e (inr past) =
     let high : t.lift.position ≡ pos 600 = past.0 in
     raised s x (sym e ∙ past.1) (shows.top.1 (omega (arith, ints)))
 
--- the rotation is turned to a place between its ends
+-- the rotation is driven to a place between its ends
 stops_within : (s : TableStep) → StopsWithin turn_end (rotation_stop s)
 stops_within MoveToLoading = (omega (arith, ints), omega (arith, ints), omega (arith, ints))
 stops_within MoveToUnloading = (omega (arith, ints), omega (arith, ints), omega (arith, ints))
@@ -260,7 +262,7 @@ module _ (points : Scale) (axis : IsAxisScale turn_end points) (t : TablePlant) 
   acts_within p r act senses acts (inl past) = lift_stays points t p.step s act.height shows (acts.height ∙ ap (λ x. height_for p.step x) senses.switches) past
   acts_within p r act senses acts (inr past) = driven_within turn_end points t.turn (rotation_stop p.step) r.turn act.rotation axis (turn_near points t s r axis within shows senses) (stops_within p.step) acts.rotation past
 
-  -- so in no turn it is driven on past an end
+  -- so in no turn is an axis driven on past an end
   pub table-ends : (same : Type 0) (asks : Call → Result Reply LineFault → Type 0) (stopped : Option CtlFault) (p : TableProgress) (w : Turned TableProgress TableAct) → Turns (table_steps points (IsReading points)) same asks stopped p s w
       → ¬ DrivesOut (set_table t (act_or_rest at_rest_act w.result))
   table-ends same asks stopped p w k = turn_tells (table_steps points (IsReading points)) same asks p s (λ act. ¬ DrivesOut (set_table t act)) (table_off_within t) (λ r act e senses drives. acts_within p r act senses drives) stopped w k

@@ -1,4 +1,4 @@
--- The watch has nothing to keep.
+-- The watch has no invariant to keep.
 use Rattle.std.proofs.Common.{◌≡◌, Option, Some, None, refl}
 use Rattle.std.specs.Prelude.{⊤}
 use Rattle.cell_types.specs.declared.call.Call.{Call}

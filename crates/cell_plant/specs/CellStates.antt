@@ -1,4 +1,4 @@
--- A state of the whole cell: that of the interlock, and of each machine how far it has come, what has stopped it, and its part.
+-- A state of the whole cell: the interlock's, and of each machine its progress, what has stopped it, and its part.
 use Rattle.std.specs.Prelude.{None}
 use Rattle.cell_types.specs.declared.machine.Machine.{Machine}
 use Rattle.cell_types.specs.declared.machine.Machine.TheVariants.{Feed, Table, Robot, Press, Deposit, Crane, Watch}
@@ -58,7 +58,7 @@ side_in s Deposit = s.deposit
 side_in s Crane = s.crane
 side_in s Watch = side_of tt None tt
 
--- the cell at the start: each controller at the beginning of its program, and each part where it begins
+-- the cell at the start: each controller at the beginning of its program, and each part at its start
 abbrev pub sides_at_start : ModelState → Sides
 sides_at_start s =
     record {

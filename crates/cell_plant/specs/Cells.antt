@@ -1,4 +1,4 @@
--- The cell, by its machines.
+-- The cell and its machines.
 use Rattle.std.specs.Prelude.{◌≡◌, List}
 use Rattle.cell_calib.specs.declared.gauge.Gauge.{Ghosts}
 use Rattle.cell_rules.specs.ModelState.{ModelState}
@@ -26,7 +26,7 @@ scales_of cell =
       gripper = cell.crane.part.scale;
     }
 
--- the points by which the robot reads
+-- the points of the robot's calibrations
 abbrev pub points_of : {F1 F2 F3 : Type 0} {g1 : Ghosts F1} {g2 : Ghosts F2} {g3 : Ghosts F3} → RobotProgram F1 F2 F3 g1 g2 g3 → RobotScales
 points_of robot = robot_scales robot.arm1.points robot.arm2.points robot.rotation.points
 
@@ -42,7 +42,7 @@ sides_of cell =
       crane = side_of cell.crane.controller.progress cell.crane.controller.stopped cell.crane.part.plant;
     }
 
--- each potentiometer has the points of the calibration by which it is read
+-- each potentiometer has the points of its calibration
 pub record IsFitted {F1 F2 F3 F4 F5 : Type 0} {g1 : Ghosts F1} {g2 : Ghosts F2} {g3 : Ghosts F3} {g4 : Ghosts F4} {g5 : Ghosts F5} (cell : Cell F1 F2 F3 F4 F5 g1 g2 g3 g4 g5) : Type 0 where
   pub arm1 : cell.robot.part.scale.arm1 ≡ cell.robot.controller.program.arm1.points
   pub arm2 : cell.robot.part.scale.arm2 ≡ cell.robot.controller.program.arm2.points
@@ -50,12 +50,13 @@ pub record IsFitted {F1 F2 F3 F4 F5 : Type 0} {g1 : Ghosts F1} {g2 : Ghosts F2} 
   pub turn : cell.table.part.scale ≡ cell.table.controller.program.turn.points
   pub gripper : cell.crane.part.scale ≡ cell.crane.controller.program.gripper.points
 
--- a cell as it is made for a state: each controller is at the beginning of its program, and each part where it begins
+-- a cell that was made for a state: each controller is at the beginning of its program, and each part at its start
 pub record IsMadeFor {F1 F2 F3 F4 F5 : Type 0} {g1 : Ghosts F1} {g2 : Ghosts F2} {g3 : Ghosts F3} {g4 : Ghosts F4} {g5 : Ghosts F5} (s : ModelState) (cell : Cell F1 F2 F3 F4 F5 g1 g2 g3 g4 g5) : Type 0 where
   pub begins : sides_of cell ≡ sides_at_start s
   pub fitted : IsFitted cell
 
--- A record tells a run of a schedule from an opening. Nothing collides in that run, and its events are a legal history that leads to its end.
+-- A record is of a run of a schedule from an opening. Nothing collides in that run, and its events are a legal history
+-- that leads to its end.
 pub record TellsRun (c : CellScales) (opening : ModelState) (turns : List Turn) (r : RunRecord) : Type 0 where
   pub steps : List Step
   pub run : IsRun c (cell_at_start opening) turns steps

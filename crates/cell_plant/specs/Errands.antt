@@ -1,4 +1,4 @@
--- What the crane's gripper is driven for, by the step at which the crane stands.
+-- Why the crane's gripper is driven, by the crane's step.
 use Rattle.std.specs.Prelude.{Option, Some, None}
 use Rattle.cell_types.specs.declared.zone.Zone.{Zone}
 use Rattle.cell_types.specs.declared.zone.Zone.TheVariants.{Z5, Z6}
@@ -7,7 +7,7 @@ use Rattle.cell_haul.specs.declared.crane_step.CraneStep.{CraneStep}
 use Rattle.cell_haul.specs.CraneProgram.{gripper_zone}
 use Rattle.cell_parts.specs.MotorDemands.{GripperErrand, ForTravel, AtDeposit, AtFeed}
 
--- by the zone that the gripper is in
+-- by the gripper's zone
 abbrev pub errand_in : Zone → GripperErrand
 errand_in Z5 = AtDeposit
 errand_in Z6 = AtFeed

@@ -1,4 +1,4 @@
--- The machines of the cell, looked up by name: what each is given by. The watch has neither a controller nor a part.
+-- The machines of the cell, looked up by name: what each consists of. The watch has neither a controller nor a part.
 use Rattle.std.specs.Prelude.{false, None, ⊤}
 use Rattle.cell_types.specs.declared.machine.Machine.{Machine}
 use Rattle.cell_types.specs.declared.machine.Machine.TheVariants.{Feed, Table, Robot, Press, Deposit, Crane, Watch}
@@ -48,7 +48,7 @@ ProgressOf Deposit = DepositProgress
 ProgressOf Crane = CraneProgress
 ProgressOf Watch = Unit {0}
 
--- what its sensors show, and what they say once checked
+-- what its sensors show, and what the checked sensors say
 abbrev pub SenseOf : Machine → Type 0
 SenseOf Feed = FeedSense
 SenseOf Table = TableSense
@@ -67,7 +67,7 @@ ReadingOf Deposit = DepositSense
 ReadingOf Crane = CraneReading
 ReadingOf Watch = Unit {0}
 
--- what its actuators are told
+-- the commands to its actuators
 abbrev pub ActOf : Machine → Type 0
 ActOf Feed = FeedAct
 ActOf Table = TableAct
@@ -87,7 +87,7 @@ PartOf Deposit = Belt
 PartOf Crane = CranePlant
 PartOf Watch = Unit {0}
 
--- the watch: a program with no step that does anything, and a part that nothing tells anything
+-- the watch: a program with no step that does anything, and a part that takes no commands
 abbrev pub no_steps : Steps (Unit {0}) (Unit {0}) (Unit {0}) (Unit {0})
 no_steps =
     record {
@@ -107,14 +107,15 @@ no_steps =
 abbrev pub no_rig : Rig (Unit {0}) (Unit {0}) (Unit {0})
 no_rig = record { shows = λ a s. ⊤; notes = λ a e. a; set = λ a act. a; moves = λ a. a }
 
--- the robot's scales, as its program names them and as its part does
+-- the robot's scales, as its program and as its part names them
 abbrev pub robot_points : CellScales → RobotScales
 robot_points c = scales_of c.arm1 c.arm2 c.rotation
 
 abbrev pub robot_axes : CellScales → PartScales
 robot_axes c = record { arm1 = c.arm1; arm2 = c.arm2; rotation = c.rotation }
 
--- its program, and how its part behaves, by the scales of the cell: a reading is any that a calibration over its scale may give
+-- its program and its part's behaviour, by the scales of the cell: a reading is any that a calibration over its scale
+-- may give
 abbrev pub steps_of : CellScales → (m : Machine) → Steps (ProgressOf m) (SenseOf m) (ReadingOf m) (ActOf m)
 steps_of c Feed = feed_steps
 steps_of c Table = table_steps c.turn (IsReading c.turn)

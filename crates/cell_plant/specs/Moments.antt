@@ -36,7 +36,8 @@ notes_in n Deposit = n.deposit
 notes_in n Crane = n.crane
 notes_in n Watch = n.watch
 
--- its scales and its opening, which stay; the state of the interlock, the machines, the history, and what each machine has noted
+-- the scales and the opening, which stay; the state of the interlock, the machines' sides, the history, and each
+-- machine's notes
 pub record Moment : Type 0 where
   pub scales : CellScales
   pub opening : ModelState
@@ -63,7 +64,7 @@ first_moment c s =
       notes = first_notes;
     }
 
--- a turn leads on by a step, and what was asked in it is noted
+-- a turn is a step of the run, and the machine notes what it asked
 pub record StepsOn (t : Turn) (before now : Moment) : Type 0 where
   pub step : Step
   pub machine : step.machine ≡ t.machine
@@ -74,7 +75,7 @@ pub record StepsOn (t : Turn) (before now : Moment) : Type 0 where
   pub scales : now.scales ≡ before.scales
   pub opening : now.opening ≡ before.opening
 
--- what is kept of a run that has come so far
+-- the record of the run so far
 pub record Keeps (m : Moment) (opening : ModelState) (r : RunRecord) : Type 0 where
   pub start : r.start ≡ opening
   pub counts : r.counts ≡ map (λ n. (notes_in m.notes n).counts) all_machines

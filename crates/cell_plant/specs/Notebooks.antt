@@ -1,4 +1,4 @@
--- What stands in the notebooks of the machines.
+-- What the notebooks of the machines hold.
 use Rattle.cell_notes.specs.Notes.{notes_of}
 use Rattle.cell_plant.specs.declared.notebooks.Notebooks.{Notebooks}
 use Rattle.cell_plant.specs.Moments.{AllNotes}

@@ -1,4 +1,4 @@
--- What a record of the literal run has, and records that are of no run.
+-- The record of a literal run, and records that are of no run.
 use Rattle.std.specs.Prelude.{◌≡◌, ℕ, ℤ, pos, List, [], ◌∷◌, Some, None}
 use Rattle.cell_types.specs.declared.machine.Machine.{Machine}
 use Rattle.cell_types.specs.declared.machine.Machine.TheVariants.{Feed, Press, Watch}
@@ -28,13 +28,13 @@ use Rattle.cell_plant.specs.Cells.{TellsRun}
 use Rattle.cell_plant.specs.Records.{IsRecordOf, positions_in}
 use Rattle.cell_plant.specs.RunExamples.{opening, entered, at_last, schedule, steps, turn_of}
 
--- ---- what is kept of the literal run
+-- ---- the record of the literal run
 
--- a plant whose axes stand each somewhere else
+-- a plant whose axes are all at different positions
 abbrev pub axes_apart : PlantState
 axes_apart = record empty_cell { press = at 1; robot = robot_at (at 2) (at 3) (at 4); table = table_at (at 5) (at 6); crane = crane_at (at 7) (at 8) }
 
--- the counts of a machine, and those of all by what feed and press did
+-- the counts of a machine; those of all machines, by what feed and press did
 abbrev pub counts_of : ℕ → ℕ → ℕ → ℕ → ℕ → Counts
 counts_of turns done read refused busy = record { turns = turns; done = done; read = read; refused = refused; busy = busy }
 
@@ -44,7 +44,7 @@ counts_by feed press = feed ∷ no_counts ∷ no_counts ∷ press ∷ no_counts 
 abbrev pub status_by : Status → Status → List Status
 status_by feed press = feed ∷ Fine ∷ Fine ∷ press ∷ Fine ∷ Fine ∷ Fine ∷ []
 
--- the axes, of which the press, the robot's rotation and the gripper begin elsewhere than at 0
+-- the axes; all but the press, the robot's rotation and the gripper start at 0
 abbrev pub axes_by : ℕ → ℕ → ℕ → List ℤ
 axes_by press rotation gripper = pos press ∷ pos 0 ∷ pos 0 ∷ pos rotation ∷ pos 0 ∷ pos 0 ∷ pos 0 ∷ pos gripper ∷ []
 
@@ -69,7 +69,7 @@ pub record IsOfLiteralRun (r : RunRecord) : Type 0 where
   pub end : r.end ≡ Some entered
   pub axes : r.axes ≡ axes_by 1000 300 900
 
--- ---- records of which one thing is another
+-- ---- records that are wrong in one thing
 
 abbrev pub IsRecord : RunRecord → Type 0
 IsRecord r = IsRecordOf opening steps at_last r
@@ -96,9 +96,9 @@ pub record WrongRecords (r : RunRecord) : Type 0 where
   pub entries_swapped : (journals : Journals) → AreJournals journals (refused_entry ∷ done_entry ∷ []) → ¬ IsRecord (record r { journals = journals })
   pub another_stamp : (journals : Journals) → AreJournals journals (done_entry ∷ record refused_entry { stamp = 0 } ∷ []) → ¬ IsRecord (record r { journals = journals })
 
--- ---- records of runs of a schedule, and of no run of it
+-- ---- records of runs of a schedule, and records that are of no such run
 
--- the press begins at its top, but its zone is open as if it stood at its middle
+-- the press is at its top, but its zone is open as if the press were at its middle
 abbrev pub open_too_early : ModelState
 open_too_early = held_by Press Z3 OpenIn
 
@@ -106,14 +106,14 @@ open_too_early = held_by Press Z3 OpenIn
 abbrev pub IsOfNoTurn : ModelState → RunRecord → Type 0
 IsOfNoTurn s r = IsRecordOf s [] (cell_at_start s) r
 
--- what is kept is of a legal history: it leads to the end, and each machine has noted its own of it
+-- a record is of a legal history, which leads to its end; each machine has noted its own events of it
 pub record IsOfLegalHistory (opening : ModelState) (r : RunRecord) : Type 0 where
   pub seen : List Event
   pub legal : IsLegal opening seen
   pub journals : (m : Machine) → journal_of r.journals m ≡ noted opening seen m
   pub end : r.end ≡ Some (after opening seen)
 
--- with a turn of the watch counted
+-- the record with a turn of the watch counted
 abbrev pub with_watch_counted : RunRecord → RunRecord
 with_watch_counted r = record r { counts = no_counts ∷ no_counts ∷ no_counts ∷ no_counts ∷ no_counts ∷ no_counts ∷ counts_of 1 0 0 0 0 ∷ [] }
 
@@ -126,7 +126,7 @@ pub record RecordExamples (c : CellScales) (r : RunRecord) : Type 0 where
   pub of_no_turn : IsOfNoTurn opening r → TellsRun c opening [] r
   pub of_the_watch : IsOfNoTurn opening r → TellsRun c opening (turn_of Watch ∷ []) r
   pub lawful : (s : ModelState) (turns : List Turn) → TellsRun c s turns r → IsOfLegalHistory s r
-  -- turns were made up, one was left out, one of the watch is counted, and the run begins unsafely
+  -- turns were made up; one was left out; one of the watch is counted; the run begins unsafely
   pub made_up : IsOfLiteralRun r → ¬ TellsRun c opening [] r
   pub left_out : IsOfNoTurn opening r → ¬ TellsRun c opening (turn_of Feed ∷ []) r
   pub watch_counted : ¬ TellsRun c opening (turn_of Watch ∷ []) (with_watch_counted r)

@@ -1,4 +1,4 @@
--- What is kept of a run.
+-- The record of a run.
 use Rattle.std.specs.Prelude.{◌≡◌, ℤ, Bool, ◌&&◌, List, [], ◌∷◌, ◌++◌, map, count_by, Some, Result}
 use Rattle.cell_types.specs.declared.machine.Machine.{Machine}
 use Rattle.cell_types.specs.declared.answer.Event.{Event}
@@ -17,7 +17,7 @@ use Rattle.cell_parts.specs.Plant.{PlantState}
 use Rattle.cell_plant.specs.CellStates.{CellState, plant_of}
 use Rattle.cell_plant.specs.Runs.{Step}
 
--- a step was a turn of a machine, and something of this kind came back in it
+-- a step was a turn of this machine; and it got back something of this kind
 abbrev pub is_turn_of : Machine → Step → Bool
 is_turn_of m s = s.taken && same_machine s.machine m
 
@@ -34,12 +34,12 @@ counts_in steps m =
       busy = count_by (is_told is_busy_reply m) steps;
     }
 
--- the events of a run: its calls that were settled
+-- the events of a run: the calls that it settled
 abbrev pub events_in : List Step → List Event
 events_in [] = []
 events_in (s ∷ ss) = settled_in s.machine s.asked ++ events_in ss
 
--- where the axes stand, in the order of reports
+-- the positions of the axes, in the order of reports
 abbrev pub positions_in : PlantState → List ℤ
 positions_in p =
     p.press.position
@@ -52,7 +52,8 @@ positions_in p =
     ∷ p.crane.gripper.position
     ∷ []
 
--- a record tells a run from an opening: where it began and ended, what each machine did and noted, how each fares, and where the axes stand
+-- a record is of a run from an opening: where it began and ended, what each machine did and noted, its status, and the
+-- positions of the axes
 pub record IsRecordOf (opening : ModelState) (steps : List Step) (last : CellState) (r : RunRecord) : Type 0 where
   pub start : r.start ≡ opening
   pub counts : r.counts ≡ map (counts_in steps) all_machines

@@ -1,4 +1,4 @@
--- A literal run and its turns, and such as are none by one thing alone.
+-- A literal run and its turns, and examples that are wrong in one thing.
 use Rattle.std.specs.Prelude.{◌≡◌, true, false, List, [], ◌∷◌, Some, None, Result, Ok, Err}
 use Rattle.cell_types.specs.declared.machine.Machine.{Machine}
 use Rattle.cell_types.specs.declared.machine.Machine.TheVariants.{Feed, Table, Press, Watch}
@@ -35,14 +35,14 @@ use Rattle.cell_plant.specs.Runs.{Step, TakesTurn, IsPassedOver, IsRun, end_of}
 abbrev pub opening : ModelState
 opening = start_state (insert_place empty FeedEnd) 0
 
--- once the feed belt has its entry
+-- after the feed belt has claimed its entry
 abbrev pub entered : ModelState
 entered = record (with_zone opening Feed Z6 Closed) { stamp = 1 }
 
 abbrev pub sides_entered : Sides
 sides_entered = record (sides_at_start opening) { feed = side_of (record { step = ClaimExit; entry = false; last = true }) None (feed_at_start opening) }
 
--- and once the press has stopped
+-- after the press has stopped, too
 abbrev pub sides_stopped : Sides
 sides_stopped = record sides_entered { press = side_of (press_start opening) (Some Memory) press_at_start }
 
@@ -58,15 +58,15 @@ at_entered = cell_of entered sides_entered
 abbrev pub at_last : CellState
 at_last = cell_of entered sides_stopped
 
--- a turn in which this was asked and came back, and in which no part moves; one that is passed over
+-- a turn in which this was asked and came back, and no part moves; a turn that is passed over
 abbrev pub asks : Machine → Call → Result Reply LineFault → CellState → Step
 asks m c r w = record { machine = m; taken = true; asked = Some (c, r); set = w; moved = w }
 
 abbrev pub passes : Machine → CellState → Step
 passes m w = record { machine = m; taken = false; asked = None; set = w; moved = w }
 
--- the feed belt claims its entry, the press finds the interlock busy, the feed belt is refused its exit, and for the press's
--- claim there is no room; then the press has stopped, and the watch takes no turn
+-- Six turns: the feed belt claims its entry; the press finds the interlock busy; the feed belt is refused its exit;
+-- there is no room for the press's claim; so the press has stopped; the watch takes no turn.
 abbrev pub claims_entry : Step
 claims_entry = asks Feed (Claim Z6) (Ok (Settled Done 1)) at_entered
 
@@ -91,7 +91,7 @@ schedule = turn_of Feed ∷ busy_turn_of Press ∷ turn_of Feed ∷ turn_of Pres
 abbrev pub steps : List Step
 steps = claims_entry ∷ finds_busy ∷ is_refused ∷ finds_no_room ∷ passes Press at_last ∷ passes Watch at_last ∷ []
 
--- the press on its way to the bottom, from its top
+-- the press goes down from its top
 abbrev pub press_falls : Axis → CellState
 press_falls a = cell_of (held_by Press Z3 Moving) (record (sides_at_start all_free) { press = side_of (record { step = MoveToBottom; loaded = false; forged = false; direction = Downward }) None a })
 
@@ -104,7 +104,7 @@ falls_to a = record { machine = Press; taken = true; asked = None; set = press_f
 abbrev pub claims_leading_to : CellState → CellState → Step
 claims_leading_to set moved = record claims_entry { set = set; moved = moved }
 
--- with the table higher up, and with the feed belt running
+-- the table is higher up; the feed belt runs
 abbrev pub table_lifted : CellState
 table_lifted = cell_of entered (record sides_entered { table = record (sides_entered.table) { part = record table_at_start { lift = at 20 } } })
 
@@ -117,7 +117,7 @@ pub record TurnExamples (c : CellScales) : Type 0 where
   pub refused : TakesTurn c Feed false at_entered is_refused
   pub no_room : TakesTurn c Press false at_entered finds_no_room
   pub drives : TakesTurn c Press false (press_falls (at 1000)) (falls_to (driven_at 980 Minus))
-  -- by one thing alone it isn't the turn
+  -- each is wrong in one thing
   pub not_taken : ¬ TakesTurn c Feed false at_first (record claims_entry { taken = false })
   pub asks_nothing : ¬ TakesTurn c Feed false at_first (record claims_entry { asked = None })
   pub answered_otherwise : ¬ TakesTurn c Feed false at_first (record claims_entry { asked = Some (Claim Z6, Ok (Settled (Refused (Shut Closed)) 1)) })
@@ -148,17 +148,17 @@ pub record ScheduleExamples (c : CellScales) : Type 0 where
   pub ends : end_of at_first steps ≡ at_last
   pub no_turn : IsRun c at_first [] []
   pub two_turns : IsRun c at_entered (busy_turn_of Press ∷ turn_of Press ∷ []) (finds_busy ∷ finds_no_room ∷ [])
-  -- two turns, or their steps, in the other order; a turn left out; a step too many, and none
+  -- two turns, or their steps, swapped; a turn left out; a step too many, and no step
   pub turns_swapped : ¬ IsRun c at_entered (turn_of Press ∷ busy_turn_of Press ∷ []) (finds_busy ∷ finds_no_room ∷ [])
   pub steps_swapped : ¬ IsRun c at_first (turn_of Feed ∷ turn_of Feed ∷ []) (is_refused ∷ claims_entry ∷ [])
   pub turn_left_out : ¬ IsRun c at_first schedule (claims_entry ∷ is_refused ∷ finds_no_room ∷ passes Press at_last ∷ passes Watch at_last ∷ [])
   pub last_left_out : ¬ IsRun c at_first (turn_of Feed ∷ turn_of Watch ∷ []) (claims_entry ∷ [])
   pub step_too_many : ¬ IsRun c at_first (turn_of Feed ∷ []) (claims_entry ∷ passes Watch at_entered ∷ [])
   pub all_left_out : ¬ IsRun c at_first (turn_of Feed ∷ []) []
-  -- a step that is another machine's by its name alone, and one that begins elsewhere
+  -- a step with another machine's name, and a step that begins elsewhere
   pub of_another : ¬ IsRun c at_entered (busy_turn_of Press ∷ []) (record finds_busy { machine = Table } ∷ [])
   pub from_elsewhere : ¬ IsRun c at_first (turn_of Feed ∷ busy_turn_of Press ∷ []) (claims_entry ∷ asks Press (Claim Z3) (Ok (Busy 1 0)) at_first ∷ [])
-  -- a machine that has stopped goes on, the watch takes a turn, and one that goes on is passed over
+  -- a stopped machine goes on, the watch takes a turn, and a machine that goes on is passed over
   pub stopped_goes_on : ¬ IsRun c at_last (turn_of Press ∷ []) (finds_no_room ∷ [])
   pub watch_goes_on : ¬ IsRun c at_last (turn_of Watch ∷ []) (record (passes Watch at_last) { taken = true } ∷ [])
   pub passed_over : ¬ IsRun c at_entered (turn_of Press ∷ []) (passes Press at_entered ∷ [])

@@ -11,7 +11,8 @@ use Rattle.cell_notes.specs.declared.schedule.Turn.{Turn}
 use Rattle.cell_plant.specs.Machines.{steps_of, rig_of}
 use Rattle.cell_plant.specs.CellStates.{CellState}
 
--- a step of a run: whose turn it was, whether it was taken, and what was asked; the state once the actuators were set, and that once the part has moved
+-- a step of a run: whose turn it was, whether it was taken, and what was asked; the state once the actuators are set,
+-- and the state once the part has moved
 pub record Step : Type 0 where
   pub machine : Machine
   pub taken : Bool
@@ -19,7 +20,7 @@ pub record Step : Type 0 where
   pub set : CellState
   pub moved : CellState
 
--- a turn of a machine: its own side goes on, and those of the others stay
+-- a turn of a machine changes its own side, and leaves the others
 pub record TakesTurn (c : CellScales) (m : Machine) (busy : Bool) (w : CellState) (s : Step) : Type 0 where
   pub taken : s.taken ≡ true
   pub takes : Takes (steps_of c m) (rig_of c m) busy w.interlock (w.side m) s.asked s.set.interlock (s.set.side m)
@@ -28,7 +29,7 @@ pub record TakesTurn (c : CellScales) (m : Machine) (busy : Bool) (w : CellState
   pub others_moved : (n : Machine) → same_machine m n ≡ false → s.moved.side n ≡ s.set.side n
   pub interlock : s.moved.interlock ≡ s.set.interlock
 
--- a turn that isn't taken leaves all as it is
+-- a turn that isn't taken leaves everything as it is
 pub record IsPassedOver (w : CellState) (s : Step) : Type 0 where
   pub not_taken : s.taken ≡ false
   pub asked : s.asked ≡ None
@@ -39,7 +40,7 @@ abbrev pub LeadsIf : Bool → CellScales → Machine → Bool → CellState → 
 LeadsIf true c m busy w s = TakesTurn c m busy w s
 LeadsIf false c m busy w s = IsPassedOver w s
 
--- a turn of a machine that nothing has stopped is taken; the watch takes none
+-- a machine takes its turn unless it has stopped; the watch takes none
 abbrev pub is_at_work : Machine → Bool
 is_at_work Watch = false
 is_at_work _ = true
@@ -57,7 +58,7 @@ IsRun c w (t ∷ ts) (s ∷ ss) = (s.machine ≡ t.machine) × (Leads c t.machin
 IsRun c w [] (s ∷ ss) = ⊥
 IsRun c w (t ∷ ts) [] = ⊥
 
--- the state that a run ends in
+-- the state at the end of a run
 abbrev pub end_of : CellState → List Step → CellState
 end_of w [] = w
 end_of w (s ∷ ss) = end_of s.moved ss

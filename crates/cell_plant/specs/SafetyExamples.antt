@@ -1,4 +1,5 @@
--- Literal states, steps and runs that are safe, and such that aren't, mostly by one thing alone: all else that is asked of them holds.
+-- Literal states, steps and runs that are safe, and unsafe ones. Most of these are wrong in one thing, and right in all
+-- else.
 use Rattle.std.specs.Prelude.{ℕ, ◌+◌, pos, ◌-ℤ◌, Bool, true, false, [], ◌∷◌, Some, None}
 use Rattle.cell_types.specs.declared.machine.Machine.{Machine}
 use Rattle.cell_types.specs.declared.machine.Machine.TheVariants.{Feed, Table, Robot, Press, Deposit, Crane}
@@ -29,7 +30,8 @@ use Rattle.cell_plant.specs.Errands.{errand_of}
 use Rattle.cell_plant.specs.Runs.{Step}
 use Rattle.cell_plant.specs.Safety.{IsSafeState, IsSafelySet, IsSafeRun}
 
--- a state by the step of the crane's program, the interlock and the plant; the other programs are at their start, and nothing has stopped
+-- a state by the step of the crane's program, the interlock and the plant; the other programs are at their start, and
+-- no machine has stopped
 abbrev pub cell_at : CraneStep → ModelState → PlantState → CellState
 cell_at step s p =
     record {
@@ -44,11 +46,11 @@ cell_at step s p =
       });
     }
 
--- with the crane's program at its first step, which drives the gripper for no zone
+-- the same with the crane's program at its first step, which drives the gripper but demands no zone
 abbrev pub cell_with : ModelState → PlantState → CellState
 cell_with s p = cell_at RaiseToFetch s p
 
--- the cell at the start, with no plate
+-- the cell at the start, without plates
 abbrev pub quiet : CellState
 quiet = cell_with all_free empty_cell
 
@@ -64,7 +66,7 @@ table_moves = with_zone (held_by Table Z1 Moving) Table Z2 Moving
 
 -- ---- one state
 
--- what a safe state has, but nothing of one kind
+-- the conditions of a safe state, one by one
 abbrev pub IsClear : CellState → Type 0
 IsClear w = NothingCollides (plant_of w)
 
@@ -77,7 +79,8 @@ HasPositions w = PositionDemands w.interlock (plant_of w)
 abbrev pub HasMotors : CellState → Type 0
 HasMotors w = MotorDemands (errand_of (w.side Crane).progress.step) w.interlock (plant_of w)
 
--- a state is unsafe by a collision alone, by an axis past its end, by what a position demands, and by what a motor demands
+-- a state is unsafe only by a collision, only by an axis past its end, only by a position's demand, or only by a
+-- motor's demand
 pub record OnlyCollides (w : CellState) : Type 0 where
   pub unsafe : ¬ IsSafeState w
   pub within : IsWithinEnds w
@@ -102,7 +105,8 @@ pub record OnlyMotorUnmet (w : CellState) : Type 0 where
   pub within : IsWithinEnds w
   pub positions : HasPositions w
 
--- the crane with its travel and its gripper, the robot with its first arm and its rotation, and with its second arm over the deposit belt
+-- the crane by its travel and its gripper; the robot by its first arm and its rotation; the robot with its second arm
+-- over the deposit belt
 abbrev pub crane_moves : Axis → Axis → PlantState
 crane_moves travel gripper = record empty_cell { crane = crane_at travel gripper }
 
@@ -122,7 +126,7 @@ pub record SafeStates : Type 0 where
   pub gripper_raised : IsSafeState (cell_at RaiseToFetch all_free (with_gripper (driven_at 900 Plus)))
   pub plate_on_belt : IsSafeState (cell_with (plate_at FeedEnd) (cell_with_plate_at FeedEnd))
 
--- In a sound state whose belts run clear these come only where a demand isn't met, unless a machine drives itself so.
+-- In the last three a demand isn't met either: in a sound state whose belts run clear, met demands rule them out.
 pub record CollidingStates : Type 0 where
   pub plate_drives_off : OnlyCollides (cell_with (deposit_moves (plate_at DepEnd)) (record empty_cell { deposit = belt_with (Some 1000) true }))
   pub crane_travels_low : OnlyCollides (cell_with (held_by Crane Z5 OpenOut) (crane_moves (driven_at 100 Plus) (at 799)))
@@ -132,7 +136,7 @@ pub record CollidingStates : Type 0 where
   pub table_hits_arm : ¬ IsSafeState (cell_with (held_by Robot Z2 OpenOut) (record empty_cell { robot = robot_at (at 600) (at 0) (at 300); table = table_at (driven_at 300 Plus) (at 0) }))
   pub feed_belt_pulls : ¬ IsSafeState (cell_with (held_by Feed Z6 Moving) (record empty_cell { crane = crane_at (at 2000) (at 300); feed = belt_with None true }))
 
--- an axis may stand at its ends, 0 and another, and not one further on
+-- an axis may be at either end, 0 and another, but not one further
 abbrev pub before_first : Axis
 before_first = record { position = pos 0 -ℤ pos 1; motor = Off }
 
@@ -179,24 +183,25 @@ pub record MotorsUnmet : Type 0 where
 
 -- ---- one step
 
--- a machine's turn that is taken, by the state once its motors are set and the one once its part has moved
+-- a machine's turn that is taken, by the state once its motors are set and the state once its part has moved
 abbrev pub step_by : Machine → CellState → CellState → Step
 step_by m set moved = record { machine = m; taken = true; asked = None; set = set; moved = moved }
 
--- before a step and after it the cell is safe, but not once the motors are set
+-- the cell is safe before a step and after it, but not once the motors are set
 pub record OnlySetIsUnsafe (w : CellState) (s : Step) : Type 0 where
   pub before : IsSafeState w
   pub unsafe : ¬ IsSafelySet w s
   pub moved : IsSafeState s.moved
 
--- each state of a step is safe, but not the step
+-- all states of a step are safe, but the step isn't
 pub record OnlyStepIsUnsafe (w : CellState) (s : Step) : Type 0 where
   pub before : IsSafeState w
   pub unsafe : ¬ IsSafelySet w s
   pub set : IsSafeState s.set
   pub moved : IsSafeState s.moved
 
--- the crane over the deposit belt, whose zone it has; the robot before the table, whose zone it has; the press, which moves
+-- the crane over the deposit belt, whose zone it holds; the robot before the table, whose zone it holds; the press,
+-- which moves
 abbrev pub crane_works : Axis → Axis → CellState
 crane_works travel gripper = cell_with (held_by Crane Z5 OpenOut) (crane_moves travel gripper)
 
@@ -206,14 +211,14 @@ robot_works arm1 rotation = cell_with (held_by Robot Z2 OpenOut) (robot_moves ar
 abbrev pub press_works : Axis → CellState
 press_works a = cell_with (held_by Press Z3 Moving) (with_press a)
 
--- the magnets of the robot's arms, and that of the crane
+-- the robot's magnets, and the crane's
 abbrev pub robot_holds : Bool → Bool → CellState
 robot_holds first second = cell_with all_free (record empty_cell { robot = robot_with (at 0) (at 0) (at 300) first second })
 
 abbrev pub crane_holds : Bool → CellState
 crane_holds on = cell_with all_free (record empty_cell { crane = crane_with (at 0) (at 900) on })
 
--- an axis of a machine is set to be driven
+-- an axis at its end is commanded to go on
 abbrev pub Drives : Machine → (Axis → CellState) → ℕ → Type 0
 Drives m with_axis end = OnlyStepIsUnsafe (with_axis (at end)) (step_by m (with_axis (driven_at end Plus)) (with_axis (driven_at end Plus)))
 
@@ -221,12 +226,13 @@ pub record StepExamples : Type 0 where
   pub crane_leaves : IsSafelySet quiet (step_by Crane (cell_with all_free (crane_moves (driven_at 0 Plus) (at 900))) (cell_with all_free (crane_moves (driven_at 20 Plus) (at 900))))
   pub press_goes_down : IsSafelySet (press_works (at 1000)) (step_by Press (press_works (driven_at 1000 Minus)) (press_works (driven_at 980 Minus)))
   pub magnet_stays_on : IsSafelySet (crane_holds true) (step_by Crane (crane_holds true) (crane_holds true))
-  -- it is wrong once set alone: a collision, an axis past its end, a position and a motor that lack what they demand
+  -- wrong only once the motors are set: a collision, an axis past its end, an unmet demand of a position, and one of a
+  -- motor
   pub crane_leaves_too_low : OnlySetIsUnsafe (crane_works (at 0) (at 790)) (step_by Crane (crane_works (driven_at 0 Plus) (driven_at 790 Plus)) (crane_works (driven_at 20 Plus) (driven_at 810 Plus)))
   pub press_past_its_end : OnlySetIsUnsafe (press_works (at 1000)) (step_by Press (press_works (driven_at 1010 Minus)) (press_works (driven_at 990 Minus)))
   pub zone_left_too_low : OnlySetIsUnsafe (crane_works (at 0) (at 790)) (step_by Crane (cell_with all_free (crane_moves (at 0) (driven_at 790 Plus))) (cell_with all_free (crane_moves (at 0) (driven_at 810 Plus))))
   pub arm_driven_too_early : OnlySetIsUnsafe (robot_works (at 0) (at 190)) (step_by Robot (robot_works (driven_at 0 Plus) (driven_at 190 Plus)) (robot_works (driven_at 20 Plus) (driven_at 210 Plus)))
-  -- a magnet lets its plate fall
+  -- a magnet drops its plate
   pub arm1_lets_go : OnlyStepIsUnsafe (robot_holds true true) (step_by Robot (robot_holds false true) (robot_holds false true))
   pub arm2_lets_go : OnlyStepIsUnsafe (robot_holds true true) (step_by Robot (robot_holds true false) (robot_holds true false))
   pub crane_lets_go : OnlyStepIsUnsafe (crane_holds true) (step_by Crane (crane_holds false) (crane_holds false))
@@ -241,14 +247,14 @@ pub record StepExamples : Type 0 where
 
 -- ---- a run
 
--- a state that is unsafe, and a step
+-- an unsafe state, and a step
 abbrev pub danger : CellState
 danger = cell_with all_free (with_gripper (at 799))
 
 abbrev pub through : CellState → CellState → Step
 through set moved = step_by Crane set moved
 
--- all states of a run are safe but one
+-- all states of a run but one are safe
 pub record SafeRuns : Type 0 where
   pub safe : IsSafeRun quiet (through quiet quiet ∷ through quiet quiet ∷ [])
   pub no_turn : ¬ IsSafeRun danger []

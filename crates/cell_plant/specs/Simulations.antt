@@ -1,4 +1,4 @@
--- A simulation as a value: a moment of a run, whose controllers have come so far by their events.
+-- A simulation as a value: a moment of a run. Its controllers' progress follows from their events.
 use Rattle.std.specs.Prelude.{ℕ, ℤ}
 use Rattle.cell_calib.specs.declared.gauge.Gauge.{Ghosts}
 use Rattle.cell_haul.specs.CraneProgram.{crane_steps}
@@ -32,7 +32,7 @@ pub record Gauges (F1 F2 F3 F4 F5 : Type 0) : Type 1 where
   pub turn : F4 → ℕ → ℤ → Type 0
   pub gripper : F5 → ℕ → ℤ → Type 0
 
--- each controller that runs has come so far by its events
+-- the progress of each controller that hasn't stopped follows from its events
 pub record AreReady {F1 F2 F3 F4 F5 : Type 0} {g1 : Ghosts F1} {g2 : Ghosts F2} {g3 : Ghosts F3} {g4 : Ghosts F4} {g5 : Ghosts F5} (gives : Gauges F1 F2 F3 F4 F5) (s : Inside F1 F2 F3 F4 F5 g1 g2 g3 g4 g5) : Type 0 where
   pub fitted : IsFitted s.cell
   pub feed : IsReady feed_steps s.bench.opening s.bench.history.items s.cell.feed.controller.stopped s.cell.feed.controller.progress

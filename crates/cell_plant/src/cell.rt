@@ -50,8 +50,9 @@ pub struct Cell<F1: Gauge, F2: Gauge, F3: Gauge, F4: Gauge, F5: Gauge> {
 }
 
 impl<F1: Gauge, F2: Gauge, F3: Gauge, F4: Gauge, F5: Gauge> Cell<F1, F2, F3, F4, F5> {
-    /// The cell at its start, with plates where the state has them. The calibrations are those of the
-    /// first arm, the second arm, the robot's rotation, the table's rotation and the gripper's height.
+    /// The cell at its start, with a plate at each place that is full in the state. The
+    /// calibrations are for the first arm, the second arm, the robot's rotation, the table's
+    /// rotation and the gripper's height.
     pub fn new(
         state: &State,
         arm1: Calibration<F1>,

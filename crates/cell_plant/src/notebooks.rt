@@ -23,7 +23,7 @@ pub(crate) struct Notebooks {
 }
 
 impl Notebooks {
-    /// Before the first turn. It takes no memory.
+    /// Notebooks before the first turn. They allocate nothing.
     pub(crate) fn new(alloc: Global) -> Notebooks
         ensures { all_notes result ≡ first_notes }
     {
@@ -38,7 +38,7 @@ impl Notebooks {
         }
     }
 
-    /// What each machine did, in the order of `Machine::ALL`.
+    /// The counts of each machine, in the order of `Machine::ALL`.
     pub(crate) fn counts(&self) -> [Counts; 7]
         ensures { result ≡ map (λ m. (notes_in (all_notes self.now) m).counts) all_machines }
     {

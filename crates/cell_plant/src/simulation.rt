@@ -22,13 +22,15 @@ use cell_types::Machine;
 use std::alloc::Global;
 use std::marker::Model;
 
-/// Runs a schedule on a cell that was made for a start, over a bench that opens with it: turn by turn
-/// the controller of the turn's machine, and then a tick of its part; the other parts stand still.
+/// Runs a schedule on a cell that was made for a start, over a bench that opens with this start. In
+/// a turn the controller of the turn's machine takes a step, and then its part moves for a tick;
+/// the other parts rest.
 ///
-/// A turn whose `busy` is set finds the bench busy. A turn of a machine that has stopped, and of the
-/// watch, does nothing and isn't counted. A machine for whose call the bench had no room stops with
-/// `Status::Memory`, and the run goes on.
-/// `Memory` where the room for an entry of a journal was refused, which is made before a turn.
+/// A turn whose `busy` is set finds the bench busy. A turn of the watch, or of a machine that has
+/// stopped, does nothing and isn't counted. If the bench has no room for a machine's call, that
+/// machine stops with `Status::Memory`, and the run goes on.
+///
+/// `Memory` if there is no memory for a journal's next entry, which is allocated before each turn.
 pub fn simulate<F1: Gauge, F2: Gauge, F3: Gauge, F4: Gauge, F5: Gauge>(
     alloc: Global,
     cell: Cell<F1, F2, F3, F4, F5>,
@@ -49,8 +51,8 @@ pub fn simulate<F1: Gauge, F2: Gauge, F3: Gauge, F4: Gauge, F5: Gauge>(
     Ok(simulation.into_record(opening))
 }
 
-// A cell that runs over a bench, and what its machines note. As a value it is a moment of a run; its controllers have come so
-// far by their events.
+// A cell that runs over a bench, and what its machines note. As a value it is a moment of a run:
+// the controllers' progress follows from their events.
 #[derive(Drop)]
 struct Simulation<F1: Gauge, F2: Gauge, F3: Gauge, F4: Gauge, F5: Gauge> {
     cell: Cell<F1, F2, F3, F4, F5>,
@@ -72,7 +74,7 @@ impl<F1: Gauge, F2: Gauge, F3: Gauge, F4: Gauge, F5: Gauge> Model
 }
 
 impl<F1: Gauge, F2: Gauge, F3: Gauge, F4: Gauge, F5: Gauge> Simulation<F1, F2, F3, F4, F5> {
-    // Before the first turn. It takes no memory.
+    // A simulation before its first turn. It allocates nothing.
     fn new(alloc: Global, cell: Cell<F1, F2, F3, F4, F5>, opening: State) -> Self
         requires made { IsMadeFor opening cell }
         ensures { result ≡ first_moment (scales_of cell) opening }
@@ -121,7 +123,7 @@ impl<F1: Gauge, F2: Gauge, F3: Gauge, F4: Gauge, F5: Gauge> Simulation<F1, F2, F
         }
     }
 
-    // What is kept of the run.
+    // The record of the run so far.
     fn into_record(self, start: State) -> RunRecord
         ensures { Keeps self start result }
     {
@@ -138,7 +140,7 @@ impl<F1: Gauge, F2: Gauge, F3: Gauge, F4: Gauge, F5: Gauge> Simulation<F1, F2, F
         }
     }
 
-    // How each machine fares, in the order of `Machine::ALL`.
+    // The status of each machine, in the order of `Machine::ALL`.
     fn status(&self) -> [Status; 7]
         ensures { result ≡ map (λ m. status_by (side_in self.now.sides m).stopped) all_machines }
     {
@@ -153,7 +155,7 @@ impl<F1: Gauge, F2: Gauge, F3: Gauge, F4: Gauge, F5: Gauge> Simulation<F1, F2, F
         ]
     }
 
-    // Where the axes stand, in the order of reports.
+    // The positions of the axes, in the order of reports.
     fn axes(&self) -> [i32; 8]
         ensures { result ≡ positions_in (plant_of (state_at self.now)) }
     {

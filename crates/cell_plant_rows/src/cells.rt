@@ -1,4 +1,4 @@
-//! Cells for runs: over each potentiometer a closure on its line.
+//! Cells for runs; each potentiometer is read by a closure on its line.
 ghost use Rattle.std.specs.Prelude.{IfOk, pos, ◌<ℤ◌, ◌≤ℤ◌};
 ghost use Rattle.cell_parts.specs.Axes.{IsAxisScale, arm_end, rotation_end, turn_end};
 ghost use Rattle.cell_rules.specs.Start.{IsStartState};
@@ -59,7 +59,7 @@ fn run_by<F1: Gauge, F2: Gauge, F3: Gauge, F4: Gauge, F5: Gauge>(
     simulate(alloc, cell, start, turns)
 }
 
-// A run of a cell whose closures are over their lines.
+// A run of a cell; each closure is on its potentiometer's line.
 pub fn run(
     alloc: Global,
     places: [bool; 10],
@@ -85,7 +85,7 @@ pub fn run(
     Ok(run_by(alloc, start, gauges, points, turns))
 }
 
-// Which places have a plate, by their digits.
+// The places that have a plate, by their digits.
 pub fn places_of(digits: &[u8; 10]) -> [bool; 10] {
     digits.map(|digit| digit == b'1')
 }

@@ -1,5 +1,5 @@
-//! Where runs end: what each machine did, the interlock, and the axes, worked out by hand from the programs of the controllers
-//! and the numbers of the plant.
+//! Ends of runs: what each machine did, the interlock, and the axes. They were worked out by hand
+//! from the programs of the controllers and the numbers of the plant.
 
 use crate::cells::{places_of, run};
 use cell_plant::{Counts, RunRecord, Status, Turn};
@@ -9,10 +9,10 @@ use std::alloc::Global;
 use std::process::Abort;
 use std::test::Fail;
 
-// So many turns of a machine, whether they are busy ones.
+// A number of turns of a machine, and whether they are busy ones.
 type Group = (Machine, bool, usize);
 
-// A run and its end. Of the machines, zones and axes that aren't named nothing is said.
+// A run and its end. Machines, zones and axes that aren't named may be anything.
 struct Row {
     start: &'static [u8; 10],
     start_stamp: u32,
@@ -24,9 +24,9 @@ struct Row {
     places: &'static [u8; 10],
     plates: u32,
     stamp: u32,
-    // where axes stand, in the order of reports
+    // positions of axes, in the order of reports
     axes: &'static [(usize, i32)],
-    // how many calls the press has noted
+    // the number of calls that the press has noted
     press_noted: usize,
     // whether the end is the start
     stays: bool,
@@ -188,7 +188,7 @@ const ROWS: &[Row] = &[
         press_noted: 0,
         stays: false,
     },
-    // a machine that is worn stops, and no other
+    // a worn machine stops, and no other
     Row {
         start: b"0000000000",
         start_stamp: 1_048_575,
@@ -211,7 +211,7 @@ const ROWS: &[Row] = &[
         press_noted: 0,
         stays: true,
     },
-    // turns of the watch leave all as it was
+    // turns of the watch leave everything as it was
     Row {
         start: b"0010000000",
         start_stamp: 3,
@@ -236,7 +236,7 @@ const ROWS: &[Row] = &[
     },
 ];
 
-// The turns of a schedule, of which one more may be busy.
+// The turns of a schedule; one more of them may be busy.
 fn turns_of(alloc: Global, schedule: &[Group], other: Option<usize>) -> Result<Vec<Turn>, Fail> {
     let mut turns = Vec::new(alloc);
     for (machine, busy, count) in schedule {
@@ -262,7 +262,8 @@ fn did(counts: &[u64; 5]) -> Counts {
     }
 }
 
-// Whether the record has the start that its row says, and the end is that start where it says so.
+// Whether the record has its row's start, and whether its end is that start exactly if the row says
+// so.
 fn starts_so(row: &Row, record: &RunRecord) -> bool {
     State::start(places_of(row.start), row.start_stamp).is_ok_and(|start| start == record.start)
         && (record.end == Some(record.start)) == row.stays
@@ -290,7 +291,7 @@ fn ends_so(row: &Row, end: &State) -> bool {
         && Place::ALL.map(|place| end.is_full(place)) == places_of(row.places)
 }
 
-// A row's run, of whose turns one more may be busy.
+// Runs a row; one more of its turns may be busy.
 fn run_of(alloc: Global, row: &Row, other: Option<usize>) -> Result<RunRecord, Fail> {
     let turns = turns_of(alloc, row.schedule, other)?;
     Ok(run(
@@ -312,7 +313,7 @@ fn runs_end_so(rt: HostRuntime) -> Result<(), Fail> {
     Ok(())
 }
 
-// The first run, with each turn of the feed belt busy in its turn: no machine stops.
+// The first run, with one turn of the feed belt after another made busy: no machine stops.
 #[test]
 fn busy_turns_stop_nobody(rt: HostRuntime) -> Result<(), Fail> {
     for busy in 6..17 {
@@ -341,7 +342,8 @@ const TWICE: [Machine; 12] = [
 // The done calls and the inquiries of each machine in two turns.
 const ASKED: [(u64, u64); 7] = [(2, 0), (2, 0), (0, 1), (2, 0), (2, 0), (0, 0), (0, 0)];
 
-// Whether each machine that is fine has asked all that it should, and each other had no memory for it.
+// Whether each machine that is fine has asked all that it should, and each other machine stopped
+// for memory.
 fn lacks_but_memory(record: &RunRecord) -> bool {
     ASKED.iter().enumerate().all(|(machine, wanted)| {
         let Counts { done, read, .. } = record.counts[machine];
@@ -355,7 +357,7 @@ fn lacks_but_memory(record: &RunRecord) -> bool {
     })
 }
 
-// Whatever growth is refused, a run is told or the fault says why not.
+// Whichever allocation fails, the run has a record, or the fault says why not.
 #[test]
 fn a_run_without_memory(rt: HostRuntime) -> Result<(), Fail> {
     let turns = TWICE.map(|machine| Turn {

@@ -1,4 +1,5 @@
-//! Tests of runs, by public calls alone: they stand apart, so that the plant isn't proved once more with them.
+//! Tests of runs, by public calls only. They are a crate of their own, so that they aren't proved
+//! again with the plant.
 #![tactic(auto)]
 
 #[cfg(test)]

@@ -1,5 +1,5 @@
-//! Long runs: plates that go round through all six machines, and a cell that comes to a standstill. The figures are those of
-//! another program, which was written from the tables of the cell alone.
+//! Long runs: plates that go round through all six machines, and a cell that comes to a standstill.
+//! The numbers come from another program, which was written from the tables of the cell alone.
 
 use crate::cells::{places_of, run};
 use cell_plant::{RunRecord, Status, Turn};
@@ -17,7 +17,7 @@ const WORKING: [Machine; 6] = [
     Machine::Crane,
 ];
 
-// So many turns, one machine after another.
+// This number of turns, one machine after another.
 fn in_turn(alloc: Global, count: usize) -> Result<Vec<Turn>, Fail> {
     let mut turns = Vec::new(alloc);
     for number in 0..count {
@@ -29,7 +29,7 @@ fn in_turn(alloc: Global, count: usize) -> Result<Vec<Turn>, Fail> {
     Ok(turns)
 }
 
-// So many turns of machines by chance, of which one in eight finds the interlock busy.
+// This number of turns of machines in a random order; one in eight finds the interlock busy.
 fn by_chance(alloc: Global, seed: u32, count: usize) -> Result<Vec<Turn>, Fail> {
     let mut turns = Vec::new(alloc);
     let mut number = seed;
@@ -48,12 +48,12 @@ fn by_chance(alloc: Global, seed: u32, count: usize) -> Result<Vec<Turn>, Fail> 
 #[derive(Clone, Copy)]
 struct Round {
     start: &'static [u8; 10],
-    // of turns by chance; without one the machines have their turns one after another
+    // of the random turns; without one the machines take their turns one after another
     seed: Option<u32>,
     count: usize,
     places: &'static [u8; 10],
     stamp: u32,
-    // how many calls of each machine were done
+    // the number of each machine's done calls
     done: Option<[u64; 7]>,
     axes: Option<[i32; 8]>,
 }
@@ -88,7 +88,8 @@ const ROUNDS: &[Round] = &[
         done: Some([52, 51, 46, 66, 48, 20, 0]),
         axes: None,
     },
-    // with six plates the cell comes to a standstill: later turns change nothing, and no machine is stopped
+    // with six plates the cell comes to a standstill: later turns change nothing, and no machine
+    // stops
     Round {
         start: b"1011010101",
         seed: None,
@@ -109,7 +110,7 @@ const ROUNDS: &[Round] = &[
     },
 ];
 
-// Where a plate is after 5000 turns by chance, and the stamp, by where it began; before them the seed.
+// For each start of a plate: the seed, its place after 5000 random turns, and the stamp then.
 const WALKS: [(u32, &[u8; 10], &[u8; 10], u32); 10] = [
     (1, b"1000000000", b"0000000001", 59),
     (2, b"0100000000", b"1000000000", 61),
@@ -123,7 +124,7 @@ const WALKS: [(u32, &[u8; 10], &[u8; 10], u32); 10] = [
     (10, b"0000000001", b"0000000000", 59),
 ];
 
-// A round's run.
+// Runs a round.
 fn run_of(alloc: Global, round: &Round) -> Result<RunRecord, Fail> {
     let turns = match round.seed {
         Some(seed) => by_chance(alloc, seed, round.count)?,
@@ -157,7 +158,7 @@ fn rounds_end_so(rt: HostRuntime) -> Result<(), Fail> {
     Ok(())
 }
 
-// A plate comes on from each place.
+// From each place a plate moves on.
 #[test]
 fn walks_end_so(rt: HostRuntime) -> Result<(), Fail> {
     for (seed, start, places, stamp) in WALKS {

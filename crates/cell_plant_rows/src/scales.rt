@@ -1,5 +1,5 @@
-//! Runs on scales with no whole number of raw values for a position: a reading is of the raw value rounded down, and so
-//! axes stop elsewhere than where it were rounded up.
+//! Runs on scales with no whole number of raw values for a position. The raw value is rounded down;
+//! if it were rounded up, axes would stop elsewhere.
 ghost use Rattle.std.specs.Prelude.{IfOk, pos, ◌≤ℤ◌, ◌-ℤ◌};
 ghost use Rattle.cell_parts.specs.Axes.{IsAxisScale, arm_end, gripper_end, rotation_end, turn_end};
 ghost use Rattle.cell_rules.specs.Start.{IsStartState};
@@ -21,7 +21,8 @@ fn scale_to(end: i32, raw_lo: u16, raw_hi: u16, tol: i32) -> Result<Points, Poin
     Points::new(raw_lo, raw_hi, 0, end, tol)
 }
 
-// The scales of the five potentiometers: of the arms, of the rotations of robot and table, and of the gripper.
+// The scales of the five potentiometers: the arms', the robot's rotation's, the table's rotation's,
+// and the gripper's.
 #[derive(Clone, Copy)]
 struct Scales {
     arm1: Points,
@@ -63,7 +64,7 @@ fn run_by<F1: Gauge, F2: Gauge, F3: Gauge, F4: Gauge, F5: Gauge>(
     simulate(alloc, cell, start, turns)
 }
 
-// A run of a cell in which each potentiometer has a scale of its own, and a closure over its line.
+// A run of a cell; each potentiometer has its own scale, and a closure on its line.
 fn run_on_scales(alloc: Global, places: [bool; 10], turns: &[Turn]) -> Result<RunRecord, Fail> {
     let start = State::start(places, 0)?;
     let arm1 = scale_to(1000, 0, 1501, 1)?;
@@ -88,8 +89,9 @@ fn run_on_scales(alloc: Global, places: [bool; 10], turns: &[Turn]) -> Result<Ru
     Ok(run_by(alloc, start, gauges, scales, turns)?)
 }
 
-// Which places are full, how many turns which machine has, one after another, and where axes stand then, in the order of
-// reports: the press, the arms, the robot's rotation, the table's height and rotation, the crane and its gripper.
+// The full places, the turns of each machine, one machine after another, and the positions of axes
+// at the end, in the order of reports: the press, the arms, the robot's rotation, the table's
+// height and rotation, the crane and its gripper.
 struct Row {
     start: &'static [u8; 10],
     schedule: &'static [(Machine, usize)],
@@ -97,7 +99,8 @@ struct Row {
 }
 
 const ROWS: &[Row] = &[
-    // the first arm loads the press, and the robot rotates back to where the second reaches it
+    // the first arm loads the press, and the robot rotates to where the second arm reaches the
+    // press
     Row {
         start: b"0001000000",
         schedule: &[(Machine::Press, 30), (Machine::Robot, 190)],

@@ -11,7 +11,7 @@ use cell_rules::State;
 use cell_types::{Event, Place};
 use std::marker::Model;
 
-/// How far the crane travels, from over the deposit belt to over the feed belt.
+/// The end of the crane's travel, over the feed belt; 0 is over the deposit belt.
 pub const CRANE_END: i32 = 2000;
 
 /// The gripper's greatest height; the least is 0.
@@ -20,14 +20,15 @@ pub const GRIPPER_END: i32 = 1000;
 /// The gripper's height at the start.
 pub const GRIPPER_START: i32 = 900;
 
-/// The farthest from the deposit belt at which the switch there is on.
+/// The last travel at which the switch over the deposit belt is on.
 pub const CRANE_DEPOSIT_TO: i32 = 10;
 
-/// From where on the switch at the feed belt is on.
+/// The first travel at which the switch over the feed belt is on.
 pub const CRANE_FEED_FROM: i32 = 1990;
 
-/// The crane: its travel from 0 over the deposit belt to 2000 over the feed belt, with a switch at each
-/// end, its gripper's height from 0 to 1000, with a potentiometer, and the gripper's magnet.
+/// The crane. Its travel goes from 0, over the deposit belt, to 2000, over the feed belt, with a
+/// switch at each end. Its gripper's height goes from 0 to 1000, with a potentiometer. Its gripper
+/// has a magnet.
 #[derive(Clone, Copy, Debug)]
 pub struct CranePart {
     travel: Axis,
@@ -51,8 +52,8 @@ impl Model for CranePart {
 }
 
 impl CranePart {
-    /// At the start: over the deposit belt with its gripper high, the magnet on where it is loaded. Its
-    /// potentiometer gives the raw values of these points.
+    /// The crane at the start: over the deposit belt, with its gripper high. Its magnet is on if it
+    /// has a plate. These are the points of its potentiometer.
     pub fn start(state: &State, points: Points) -> CranePart
         ensures plant { result.plant ≡ crane_at_start state.now }
         ensures scale { result.scale ≡ points }
@@ -65,7 +66,7 @@ impl CranePart {
         }
     }
 
-    /// How far it is from the deposit belt, in tenths of a millimetre.
+    /// Its distance from the deposit belt, in tenths of a millimetre.
     pub fn travel(&self) -> i32
         ensures value { result ≡ self.now.plant.travel.position }
         ensures within { IsWithin crane_end result }
@@ -73,7 +74,7 @@ impl CranePart {
         self.travel.position
     }
 
-    /// How high its gripper is, in tenths of a millimetre.
+    /// Its gripper's height, in tenths of a millimetre.
     pub fn gripper(&self) -> i32
         ensures value { result ≡ self.now.plant.gripper.position }
         ensures within { IsWithin gripper_end result }

@@ -16,7 +16,8 @@ pub struct DepositPart {
 }
 
 impl DepositPart {
-    /// At the start: it stands, with plates where its places are full.
+    /// The deposit belt at the start: it doesn't run, and has a plate at each of its places that is
+    /// full.
     pub fn start(state: &State) -> DepositPart
         ensures { result.belt ≡ deposit_at_start state.now }
     {
@@ -50,7 +51,7 @@ impl Part for DepositPart {
         }
     }
 
-    // It notes a call of its own that was done: a plate that it took, moved on or gave.
+    // The belt notes only its own machine's calls that are Done: a plate came, moved on or left.
     fn note(&mut self, event: &Event) {
         if event.answer == Answer::Done && event.machine == Machine::Deposit {
             self.belt = called(self.belt, event.call);
@@ -62,7 +63,7 @@ impl Part for DepositPart {
     }
 }
 
-// The belt after a call of its own was done.
+// The belt after a Done call of its own machine.
 fn called(belt: Belt, call: Call) -> Belt
     ensures { result ≡ deposit_called belt call }
 {

@@ -16,7 +16,8 @@ pub struct FeedPart {
 }
 
 impl FeedPart {
-    /// At the start: it stands, with plates where its places are full.
+    /// The feed belt at the start: it doesn't run, and has a plate at each of its places that is
+    /// full.
     pub fn start(state: &State) -> FeedPart
         ensures { result.belt ≡ feed_at_start state.now }
     {
@@ -50,7 +51,7 @@ impl Part for FeedPart {
         }
     }
 
-    // It notes a call of its own that was done: a plate that it took, moved on or gave.
+    // The belt notes only its own machine's calls that are Done: a plate came, moved on or left.
     fn note(&mut self, event: &Event) {
         if event.answer == Answer::Done && event.machine == Machine::Feed {
             self.belt = called(self.belt, event.call);
@@ -62,7 +63,7 @@ impl Part for FeedPart {
     }
 }
 
-// The belt after a call of its own was done.
+// The belt after a Done call of its own machine.
 fn called(belt: Belt, call: Call) -> Belt
     ensures { result ≡ feed_called belt call }
 {

@@ -44,7 +44,7 @@ impl Model for PressPart {
 }
 
 impl PressPart {
-    /// At the start: at its top.
+    /// The press at the start: at its top.
     pub fn start() -> PressPart
         ensures { result ≡ press_at_start }
     {
@@ -53,7 +53,7 @@ impl PressPart {
         }
     }
 
-    /// Where it stands, in tenths of a millimetre.
+    /// Its position, in tenths of a millimetre.
     pub fn position(&self) -> i32
         ensures value { result ≡ self.now.position }
         ensures within { IsWithin press_end result }

@@ -11,13 +11,13 @@ use cell_rules::State;
 use cell_types::{Event, Place};
 use std::marker::Model;
 
-/// How far either arm goes out.
+/// The greatest extension of either arm; the least is 0.
 pub const ARM_END: i32 = 1000;
 
-/// The greatest rotation; the least is 0.
+/// The robot's greatest rotation; the least is 0.
 pub const ROTATION_END: i32 = 2000;
 
-/// How far the robot is turned at the start.
+/// The robot's rotation at the start.
 pub const ROTATION_START: i32 = 300;
 
 /// The points of the robot's potentiometers.
@@ -31,8 +31,8 @@ pub struct RobotPoints {
     pub rotation: Points,
 }
 
-/// The robot: its arms from 0 to 1000, its rotation from 0 to 2000, each with a potentiometer, and the
-/// magnets of the arms.
+/// The robot. Its arms go from 0 to 1000, its rotation from 0 to 2000, each with a potentiometer.
+/// Each arm has a magnet.
 #[derive(Clone, Copy, Debug)]
 pub struct RobotPart {
     arm1: Axis,
@@ -67,8 +67,8 @@ impl Model for RobotPart {
 }
 
 impl RobotPart {
-    /// At the start: both arms retracted, the magnet of a loaded arm on. Its potentiometers give the raw
-    /// values of these points.
+    /// The robot at the start: both arms are in, and the magnet of an arm with a plate is on. These
+    /// are the points of its potentiometers.
     pub fn start(state: &State, points: RobotPoints) -> RobotPart
         ensures plant { result.plant ≡ robot_at_start state.now }
         ensures scale { result.scale ≡ record { arm1 = points.arm1; arm2 = points.arm2; rotation = points.rotation } }
@@ -83,7 +83,7 @@ impl RobotPart {
         }
     }
 
-    /// How far the first arm is out, in tenths of a millimetre.
+    /// The first arm's extension, in tenths of a millimetre.
     pub fn arm1(&self) -> i32
         ensures value { result ≡ self.now.plant.arm1.position }
         ensures within { IsWithin arm_end result }
@@ -91,7 +91,7 @@ impl RobotPart {
         self.arm1.position
     }
 
-    /// How far the second arm is out, in tenths of a millimetre.
+    /// The second arm's extension, in tenths of a millimetre.
     pub fn arm2(&self) -> i32
         ensures value { result ≡ self.now.plant.arm2.position }
         ensures within { IsWithin arm_end result }
@@ -99,7 +99,7 @@ impl RobotPart {
         self.arm2.position
     }
 
-    /// How far it is turned, in tenths of a degree.
+    /// Its rotation, in tenths of a degree.
     pub fn rotation(&self) -> i32
         ensures value { result ≡ self.now.plant.rotation.position }
         ensures within { IsWithin rotation_end result }

@@ -10,10 +10,10 @@ use cell_devices::TableAct;
 use cell_types::Event;
 use std::marker::Model;
 
-/// The greatest height; the least is 0.
+/// The table's greatest height; the least is 0.
 pub const LIFT_END: i32 = 600;
 
-/// The greatest rotation; the least is 0.
+/// The table's greatest rotation; the least is 0.
 pub const TURN_END: i32 = 500;
 
 /// The greatest height at which the switch at the bottom is on.
@@ -22,8 +22,8 @@ pub const TABLE_BOTTOM_TO: i32 = 10;
 /// The least height at which the switch at the top is on.
 pub const TABLE_TOP_FROM: i32 = 590;
 
-/// The table: its height from 0 to 600, with a switch at each end, and its rotation from 0 to 500,
-/// with a potentiometer.
+/// The table. Its height goes from 0 to 600, with a switch at each end; its rotation goes from 0 to
+/// 500, with a potentiometer.
 #[derive(Clone, Copy, Debug)]
 pub struct TablePart {
     lift: Axis,
@@ -46,8 +46,8 @@ impl Model for TablePart {
 }
 
 impl TablePart {
-    /// At the start: at its bottom, turned to where it loads. Its potentiometer gives the raw values of
-    /// these points.
+    /// The table at the start: at its bottom, rotated to its loading place. These are the points of
+    /// its potentiometer.
     pub fn start(points: Points) -> TablePart
         ensures plant { result.plant ≡ table_at_start }
         ensures scale { result.scale ≡ points }
@@ -59,7 +59,7 @@ impl TablePart {
         }
     }
 
-    /// How high it stands, in tenths of a millimetre.
+    /// Its height, in tenths of a millimetre.
     pub fn lift(&self) -> i32
         ensures value { result ≡ self.now.plant.lift.position }
         ensures within { IsWithin lift_end result }
@@ -67,7 +67,7 @@ impl TablePart {
         self.lift.position
     }
 
-    /// How far it is turned, in tenths of a degree.
+    /// Its rotation, in tenths of a degree.
     pub fn turn(&self) -> i32
         ensures value { result ≡ self.now.plant.turn.position }
         ensures within { IsWithin turn_end result }
