@@ -39,7 +39,7 @@ last_entry : (s : ModelState) (m : Machine) (c : Call) (a : Answer) (stamp : ℕ
 last_entry s m c a stamp e =
     ap (λ (b : Bool). if b then entry_of s (event m c a) ∷ [] else []) (same_as_itself m) ∙ ap (λ (n : ℕ). record { call = c; answer = a; stamp = n } ∷ []) (sym e)
 
--- after a call that was settled, its entry
+-- after a settled call: one more entry, the call's
 pub entry-settled : (v w : PassView) (c : Call) (a : Answer) (stamp : ℕ) → IsSamePass v w → SeenAfter v.machine c (Ok (Settled a stamp)) v.opening v.seen w.seen → journal_by w ≡ journal_by v ++ record { call = c; answer = a; stamp = stamp } ∷ []
 entry-settled v w c a stamp same seen =
     let t = seen.0 in let h : List Event = t.point in let e : Event = event v.machine c a in
@@ -47,18 +47,18 @@ entry-settled v w c a stamp same seen =
     same_journal v w same ∙ ap (λ (x : List Event). noted v.opening x v.machine) t.ends ∙ noted-append v.opening h (e ∷ []) v.machine
     ∙ (λ i. noted-waits v.opening v.machine v.seen h (point_waits v.machine c a v.seen w.seen t) i ++ last_entry (after v.opening h) v.machine c a stamp at i)
 
--- after a call that was busy, nothing new
+-- after a Busy call: nothing new
 pub entry-busy : (v w : PassView) → IsSamePass v w → Waits v.machine v.seen w.seen → journal_by w ≡ journal_by v
 entry-busy v w same waits = same_journal v w same ∙ noted-waits v.opening v.machine v.seen w.seen waits
 
--- the same of what a line's call leaves
+-- likewise for a line's call
 pub journal-settled : (v w : PassView) (c : Call) (tries : ℕ) (a : Answer) (stamp : ℕ) → Replied v c tries (Settled a stamp) w → journal_by w ≡ journal_by v ++ record { call = c; answer = a; stamp = stamp } ∷ []
 journal-settled v w c tries a stamp f = entry-settled v w c a stamp f.pass f.seen
 
 pub journal-busy : (v w : PassView) (c : Call) (tries lost stamp : ℕ) → Replied v c tries (Busy lost stamp) w → journal_by w ≡ journal_by v
 journal-busy v w c tries lost stamp f = entry-busy v w f.pass f.seen.0
 
--- ---- what a line keeps
+-- ---- the invariant of a line
 
 entries_prop : (a b : List Entry) → IsProp (a ≡ b)
 entries_prop a b = hlevel props
@@ -78,12 +78,12 @@ line_after tries v w j k c (Err fault) l f e = record {
   noted_all = e;
 }
 
--- a call leaves a pass at its interlock
+-- after a call a pass belongs to the same interlock
 pub asks-table : (tries : ℕ) (v w : PassView) (c : Call) (r : Result Reply LineFault) → PassAsks tries v c r w → w.table ≡ v.table
 asks-table tries v w c (Ok reply) f = f.pass.table
 asks-table tries v w c (Err fault) f = ap (λ (x : PassView). x.table) f
 
--- a line stays one over a call
+-- a line remains a line after a call
 pub line_kept : (tries : ℕ) (v w : PassView) (j k : List Entry) (c : Call) (r : Result Reply LineFault) → ∥ IsLine v j ∥₁ → PassAsks tries v c r w → k ≡ journal_by w → ∥ IsLine w k ∥₁
 line_kept tries v w j k c r l f e = ∥∥₁_map l (λ x. line_after tries v w j k c r x f e)
 

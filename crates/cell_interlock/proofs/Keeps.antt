@@ -103,7 +103,7 @@ views-stay : (o : ModelState) (h : List Event) (vs : Views) (id : ℕ) (w : List
 views-stay o h vs id w here others j u e = ⊎_elim (λ (t : (j ≡ id) × (w ≡ u)). subst (AllFit o h) t.1 here) (λ (t : (j ≢ id) × (get_elem? vs j ≡ some u)). others j u t.0 t.1) (at_set vs id j w u e)
 
 module _ {S : Type 0} (o : ModelState) where
-  -- the seat id has a new view of the same machines, and the word may have changed
+  -- seat id has a new view of the same machines, and the word may have changed
   moved : (s : Shop S) (r : WordTellsHistory o s) (id : ℕ) (v w : List Part) → get_elem? s.views id ≡ some v → (h : List Event) → IsLegal o h → (n : ℕ) → n ≡ packed (after o h) → AllFit o h w
       → ((j : ℕ) (u : List Part) → j ≢ id → get_elem? s.views j ≡ some u → AllFit o h u) → ((m : Machine) → parts_of m w ≡ parts_of m v) → WordTellsHistory o (stepped s 0 n id [] w keeps)
   moved s r id v w at h legal n is here others count = record {
@@ -144,7 +144,7 @@ module _ {S : Type 0} (o : ModelState) where
     found = subst (λ (z : ModelState). packed (after z r.history) ≡ get_or s.words 0 0) (sym t.opening_is) (sym r.word);
   }
 
-  -- the load finds the word, and the call's event is added where the call changes nothing
+  -- the load finds the word; the call's event is added if the call changes nothing
   looks_at : (s : Shop S) (r : WordTellsHistory o s) (id : ℕ) (p : Part) → get_elem? s.views id ≡ some (p ∷ []) → (c : Call) (since : List Event) (l x : ℕ)
       → WordTellsHistory o (stepped s 0 (get_or s.words 0 0) id [] (now p (seen_at c p r.history) since l x ∷ []) keeps)
   looks_at s r id p at c since l x =
@@ -165,7 +165,7 @@ module _ {S : Type 0} (o : ModelState) where
   pub looks_as : (slots id : ℕ) (me : Me S (List Part)) (c : Call) → me ≡ (head_of me.0 ∷ [], []) → Allows (WordTellsHistory o) slots id me 0 (λ n. n) (looked {S = S} c (step slots 0 0 0 none) me)
   looks_as slots id me c e = subst (λ (z : Me S (List Part)). Allows (WordTellsHistory o) slots id z 0 (λ n. n) (looked {S = S} c (step slots 0 0 0 none) z)) (sym e) (looks slots id (head_of me.0) c)
 
-  -- the exchange is won where the word is still the one that the call was looked up for
+  -- the exchange is won if the word is still the one for which the call was looked up
   pub exchanges : (slots id : ℕ) (p : Part) (c : Call) (old new : ℕ) → ((z : ModelState) → IsSound z → packed z ≡ old → (reply z p.machine c ≡ Done) × (packed (next z p.machine c) ≡ new))
       → Allows (WordTellsHistory o) slots id (p ∷ [], []) 0 (λ n. either (eqb n old) new n) (exchanged {S = S} c (step slots 0 old new none) (p ∷ [], []))
   exchanges slots id p c old new ready s r _ at _ =

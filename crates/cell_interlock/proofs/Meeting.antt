@@ -1,4 +1,4 @@
--- What two passes have seen that met.
+-- What two passes have seen after they met.
 use Rattle.std.proofs.Common.{◌≡◌, ℕ, ◌+◌, List, [], ◌∷◌, ◌++◌, refl, sym, ap, ◌∙◌, subst}
 use mathlib.Core.Option.{none}
 use Rattle.atomic_table.specs.Table.{Me, step}
@@ -11,11 +11,11 @@ use Rattle.cell_interlock.specs.Rule.{head_of, after_load, first_off, others_of,
 use Rattle.cell_interlock.specs.Seen.{HasSeenMore}
 use Rattle.cell_interlock.proofs.Tells.{lawful_history}
 
--- one load more, and no exchange
+-- one more load, and no exchange
 abbrev LoadsOnce : PassView → PassView → Type 0
 LoadsOnce v w = (w.loads ≡ v.loads + 1) × (w.exchanges ≡ v.exchanges)
 
--- a pass whose part has seen the history so far
+-- a pass that has seen the history so far
 more_at : (v w : PassView) (t u : TableId) (p q : Part) (h : List Event) (word : ℕ) → pass_of t p ≡ v → w ≡ pass_of u q → u ≡ t → Moment p word h → q ≡ after_load p h → HasSeenMore v w × LoadsOnce v w
 more_at v w t u p q h word from to same at is =
     subst (λ (x : PassView × PassView). HasSeenMore x.0 x.1 × LoadsOnce x.0 x.1) (λ i. (from i, sym (to ∙ ap (pass_of u) is) i)) (
@@ -27,7 +27,7 @@ more_at v w t u p q h word from to same at is =
       (refl, refl),
     )
 
--- two seats were joined, the machines of both saw the history, and the first of them was split off again
+-- two seats were joined, all their machines saw the history, and the first machine was split off again
 module _ {S : Type 0} (m n : Machine) (l r j j' ll rr : Me S (List Part)) (word : ℕ) (is_l : IsSeat m l) (is_r : IsSeat n r) (joined : j ≡ (r.0 ++ l.0, l.1)) (told : gathered {S = S} (step 0 0 0 0 none) j word j') (left : ll ≡ (others_of j'.0, j'.1)) (right : rr ≡ (first_off j'.0, [])) where
   both : j.0 ≡ head_of r.0 ∷ head_of l.0 ∷ []
   both = ap (λ x. x.0) joined ∙ (λ i. (is_r.one i).0 ++ (is_l.one i).0)

@@ -1,4 +1,4 @@
--- The examples of what a call leaves, and of what none leaves.
+-- The examples of what a call may and may not leave of its pass.
 use Rattle.std.proofs.Common.{◌≡◌, ℕ, ◌+◌, ◌<◌, ◌≤◌, true, false, List, [], ◌∷◌, ◌++◌, length, None, inr, refl, ap, ◌∙◌, arith}
 use Rattle.std.proofs.lemmas.List.{same_from_push}
 use Rattle.atomic_table.specs.Seated.{TableId}
@@ -59,7 +59,7 @@ saw_nothing = record { begins = ([], refl); own = refl }
 claim_done : (t : TableId) (l x : ℕ) → IsSettled (press_pass t [] [] l x) claim Done 1 (after_claim t)
 claim_done t l x = settled (press_pass t [] [] l x) (after_claim t) claim Done 1 [] sound tt saw_nothing (record { table = refl; opening = refl; machine = refl }) refl refl refl
 
--- others have made changes
+-- others have made changes meanwhile
 more : (t : TableId) (seen now : List Event) (since : List Event) (l x k y : ℕ) → IsLegal opened now → Waits Press seen now → HasSeenMore (press_pass t seen since l x) (press_pass t now since k y)
 more t seen now since l x k y legal waits = record { pass = record { table = refl; opening = refl; machine = refl }; lawful = lawful_history opened now sound legal; seen = waits }
 
@@ -175,7 +175,7 @@ attempt t = record {
   settled_with_other_stamp = λ r. let e : 2 ≡ 1 = r.stamped in omega arith;
 }
 
--- ---- what calls leave
+-- ---- effects of calls
 
 grows : (t : TableId) → MoreExamples t
 grows t = record {

@@ -1,4 +1,4 @@
--- A word that changed was changed by another machine, and such changes are counted.
+-- If the word has changed, another machine changed it; such changes are counted.
 use Rattle.std.proofs.Common.{◌≡◌, ◌≢◌, ℕ, zero, suc, ◌+◌, ◌≤◌, List, ◌++◌, refl, sym, ap, ◌∙◌, subst, arith, append_assoc}
 use Rattle.cell_types.specs.declared.machine.Machine.{Machine}
 use Rattle.cell_types.specs.declared.answer.Event.{Event}
@@ -21,7 +21,7 @@ changes-trans m x y z i j f g =
       many = omega (arith, changes-append m f.more g.more, f.many, g.many);
     }
 
--- changes after what was seen later are changes after what was seen earlier
+-- changes after a later history are changes after an earlier one
 pub changes-before : (m : Machine) (x y z : List Event) (n : ℕ) → BeginsWith y x → HasChanges m y z n → HasChanges m x z n
 changes-before m x y z n b f = let g = changes-trans m x y z 0 n (record { more = b.0; is = b.1; many = omega arith }) f in record { more = g.more; is = g.is; many = omega (arith, g.many) }
 

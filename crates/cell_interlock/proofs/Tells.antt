@@ -1,4 +1,4 @@
--- What the steps of a call tell makes its clauses.
+-- The steps of a call imply the clauses of its contract.
 use Rattle.std.proofs.Common.{◌≡◌, ◌≢◌, ℕ, ◌+◌, Bool, true, false, if◌then◌else◌, List, [], ◌∷◌, ◌++◌, refl, sym, ap, ◌∙◌, subst, arith, append_assoc, append-nil, eq-eqb, ne_eqb}
 use Rattle.std.proofs.lemmas.List.{append_cancel_right}
 use Rattle.cell_types.specs.declared.machine.Machine.{Machine}
@@ -33,7 +33,7 @@ done_answer Done e = refl
 done_answer (Shown o f p) e = cc
 done_answer (Refused r) e = cc
 
--- what one word says of a call, and of the stamp
+-- what one word says of a call and its stamp
 abbrev pub Says : ℕ → Machine → Call → Answer → ℕ → Type 0
 Says word m c a new = (s : ModelState) → IsSound s → packed s ≡ word → (a ≡ reply s m c) × (new ≡ packed (next s m c))
 
@@ -46,7 +46,7 @@ lawful_history o h k l = throughout o (Lawful o) (lawful o k) h l
 begins-trans : (x y z : List Event) → BeginsWith y x → BeginsWith z y → BeginsWith z x
 begins-trans x y z f g = (f.0 ++ g.0, g.1 ∙ (ap (λ (l : List Event). l ++ g.0) f.1 ∙ append_assoc x f.0 g.0))
 
--- what others have done since leaves a machine its own
+-- events of others leave a machine its zones
 keeps_own : (o : ModelState) (m : Machine) (before point : List Event) → IsSound o → IsLegal o point → Waits m before point → KeepsItsOwn o m before point
 keeps_own o m before point k l w =
     let more : List Event = w.begins.0 in
@@ -59,7 +59,7 @@ keeps_own o m before point k l w =
       postures = λ z host. r.posture z (ap (λ (x : Machine). own_events more x) host ∙ foreign);
     }
 
--- a history has one point in front of its last event
+-- a history has one point before its last event
 one_point : (h point : List Event) (e : Event) (now : List Event) → now ≡ h ++ e ∷ [] → now ≡ point ++ e ∷ [] → h ≡ point
 one_point h point e now f g = append_cancel_right h point (e ∷ []) (sym f ∙ g)
 
@@ -132,7 +132,7 @@ refused_at v w word h since l x c a new stamp m at is who says stamps isnt =
     settled_at v w word h since l x c a stamp at (is ∙ ap (λ (z : List Event). sees v z since l x) (seen_refused v c h a right isnt)) right
     (stamps s at.sound at.found ∙ ap (λ (x : ModelState). x.stamp) (sym (next-same s v.machine c (ap is_done_answer (sym right) ∙ isnt))))
 
--- ---- what a load tells
+-- ---- what a load shows
 
 pub look_refused : (v w : PassView) (word : ℕ) (c : Call) (a : Answer) (new stamp : ℕ) (m : Machine) → Loaded c v word w → m ≡ w.machine → Says word m c a new → Stamps word stamp → is_done_answer a ≡ false → IsSettled v c a stamp w
 look_refused v w word c a new stamp m told who says stamps isnt = refused_at v w word told.0 _ _ _ c a new stamp m told.1 told.2 who says stamps isnt
@@ -140,14 +140,14 @@ look_refused v w word c a new stamp m told who says stamps isnt = refused_at v w
 pub isnt_done : (a : Answer) → is_done_answer a ≡ false → a ≢ Done
 isnt_done a e f = let g = ap is_done_answer f in cc
 
--- a load is counted as one, and so is an exchange
+-- a load counts as one load, an exchange as one exchange
 pub one_load : (v w : PassView) (c : Call) (word : ℕ) → Loaded c v word w → (w.loads ≡ v.loads + 1) × (w.exchanges ≡ v.exchanges)
 one_load v w c word told = (ap (λ (k : PassView). k.loads) told.2, ap (λ (k : PassView). k.exchanges) told.2)
 
 pub one_exchange : (v w : PassView) (c : Call) (old word : ℕ) → Exchanged c v old word w → (w.loads ≡ v.loads) × (w.exchanges ≡ v.exchanges + 1)
 one_exchange v w c old word told = (ap (λ (k : PassView). k.loads) told.2, ap (λ (k : PassView). k.exchanges) told.2)
 
--- the word found, and that after the call
+-- the word found, and the word after the call
 ready_for : (m n : Machine) (c : Call) (a : Answer) (word new : ℕ) → m ≡ n → Says word m c a new → is_done_answer a ≡ true → IsReady n c word new
 ready_for m n c a word new who says isit = subst (λ (x : Machine). IsReady x c word new) who (λ s k is. let f = says s k is in (sym f.0 ∙ done_answer a isit, sym f.1))
 
@@ -168,7 +168,7 @@ look_ready v w word c a new m told who says isit =
       ap (λ (k : PassView). k.since) is ∙ ap (λ (k : PassView). k.seen) (sym is),
     )
 
--- ---- what an exchange tells
+-- ---- what an exchange shows
 
 won_at : (v w : PassView) (c : Call) (old word : ℕ) → (told : Exchanged c v old word w) → word ≡ old → w ≡ with_exchange v (told.0 ++ event v.machine c Done ∷ [])
 won_at v w c old word told hit = told.2 ∙ ap (λ (b : Bool). with_exchange v (if b then told.0 ++ event v.machine c Done ∷ [] else seen_at c (part_of v) told.0)) (eq-eqb word old hit)
@@ -187,7 +187,7 @@ attempt_won v w c old new lost word stamp t told hit stamps =
 pub attempt_refused : (v w : PassView) (c : Call) (old word new stamp : ℕ) (a : Answer) (m : Machine) → Exchanged c v old word w → word ≢ old → m ≡ w.machine → Says word m c a new → Stamps word stamp → is_done_answer a ≡ false → IsSettled v c a stamp w
 attempt_refused v w c old word new stamp a m told miss who says stamps isnt = refused_at v w word told.0 _ _ _ c a new stamp m told.1 (lost_at v w c old word told miss) who says stamps isnt
 
--- what a lost exchange leaves
+-- the effect of a lost exchange
 pub record Loses (v w : PassView) (c : Call) (word new lost : ℕ) : Type 0 where
   pub unmade : IsUnmade v c w
   pub since : w.since ≡ v.since
@@ -223,7 +223,7 @@ attempt_lost v w c old before lost word new a m t told miss who says isit =
 under_way_stamp : (w : PassView) (c : Call) (word new lost stamp : ℕ) → IsUnderWay w c word new lost → Stamps word stamp → stamp ≡ (after w.opening w.seen).stamp
 under_way_stamp w c word new lost stamp t stamps = stamps (after w.opening w.seen) (sound_seen w c word new lost t) t.found
 
--- the stamp, for the pass that the call began with
+-- the stamp, stated for the pass at the call's beginning
 pub stamp_at : (v w : PassView) (c : Call) (word new lost stamp : ℕ) → IsUnmade v c w → IsUnderWay w c word new lost → Stamps word stamp → stamp ≡ (after v.opening w.seen).stamp
 stamp_at v w c word new lost stamp f t stamps = subst (λ (o : ModelState). stamp ≡ (after o w.seen).stamp) f.more.pass.opening (under_way_stamp w c word new lost stamp t stamps)
 
@@ -246,7 +246,7 @@ unmade-after v u w c f g =
       ready = subst (λ (x : ModelState × Machine). reply (after x.0 w.seen) x.1 c ≡ Done) (λ i. (o i, m i)) g.ready;
     }
 
--- the machine's own events at the point of its call are those before
+-- at the point of its call the machine has made only the events that it had made before
 pub point_waits : (m : Machine) (c : Call) (a : Answer) (before now : List Event) (t : Settles m c a before now) → Waits m before t.point
 point_waits m c a before now t =
     let own : own_events t.point m ++ event m c a ∷ [] ≡ own_events before m ++ event m c a ∷ [] = sym (own-push t.point m c a) ∙ ap (λ (h : List Event). own_events h m) (sym t.ends) ∙ t.own in
@@ -264,11 +264,11 @@ settled-after v u w c a stamp k f g =
     (subst (λ (x : ModelState × Machine). a ≡ reply (after x.0 h) x.1 c) (λ i. (o i, m i)) (g.answer h g.seen.ends))
     (subst (λ (x : ModelState). stamp ≡ (after x w.seen).stamp) o g.stamped)
 
--- the changes since the load, for the pass that the call began with
+-- the changes since the load, stated for the pass at the call's beginning
 pub changes_since : (v w : PassView) (c : Call) (old new lost n : ℕ) → IsUnmade v c w → IsUnderWay w c old new lost → n ≡ lost → HasChanges v.machine w.since w.seen n
 changes_since v w c old new lost n f t is = subst (λ (x : Machine × ℕ). HasChanges x.0 w.since w.seen x.1) (λ i. (f.more.pass.machine i, sym is i)) t.evidence
 
--- as many exchanges were lost as may be
+-- the call has lost as many exchanges as it may
 pub busy : (v w : PassView) (c : Call) (old new lost tries : ℕ) → IsUnmade v c w → IsUnderWay w c old new lost → BeginsWith w.since v.seen → lost ≡ tries → IsOvertaken v v.seen c tries lost w
 busy v w c old new lost tries f t begins is =
     let m = f.more.pass.machine in record {
@@ -277,7 +277,7 @@ busy v w c old new lost tries f t begins is =
       changed = changes-before v.machine v.seen w.since w.seen tries begins (subst (λ (x : Machine × ℕ). HasChanges x.0 w.since w.seen x.1) (λ i. (m i, is i)) t.evidence);
     }
 
--- the same from an attempt, whose pass has looked before
+-- likewise for an attempt, whose pass has looked before
 pub busy_attempt : (v w : PassView) (c : Call) (word new lost tries : ℕ) → Loses v w c word new lost → lost + 1 ≡ tries → IsOvertaken v v.since c tries (lost + 1) w
 busy_attempt v w c word new lost tries l is =
     let m = l.unmade.more.pass.machine in record {

@@ -1,15 +1,15 @@
--- What ask answers, by cases.
+-- What `ask` answers, by cases.
 use Rattle.std.specs.Prelude.{ℕ, ⊤}
 use Rattle.cell_types.specs.declared.answer.Answer.{Answer}
 use Rattle.cell_types.specs.declared.reply.Reply.{Reply}
 use Rattle.cell_types.specs.declared.reply.Reply.TheVariants.{Settled, Busy}
 
--- where a call was answered, this holds of the answer
+-- if a call was answered, this holds of the answer
 abbrev pub IfSettled : Reply → (Answer → Type 0) → Type 0
 IfSettled (Settled answer stamp) holds = holds answer
 IfSettled (Busy lost stamp) holds = ⊤
 
--- where it was not made, this holds of the exchanges that it lost
+-- if it wasn't made, this holds of the number of exchanges that it lost
 abbrev pub IfBusy : Reply → (ℕ → Type 0) → Type 0
 IfBusy (Settled answer stamp) holds = ⊤
 IfBusy (Busy lost stamp) holds = holds lost

@@ -1,4 +1,4 @@
--- What a call that is under way keeps.
+-- The invariant of a call that is under way.
 use Rattle.std.specs.Prelude.{◌≡◌, ℕ, ◌<◌, ◌≤◌}
 use Rattle.cell_types.specs.declared.call.Call.{Call}
 use Rattle.cell_rules.specs.Sound.{IsSound}
@@ -8,8 +8,8 @@ use Rattle.cell_interlock.specs.Views.{PassView}
 use Rattle.cell_interlock.specs.Steps.{IsReady}
 use Rattle.cell_interlock.specs.Seen.{HasChanges}
 
--- the word last found is that of the state after what was seen, the call would be Done there and leave the new word, and for each exchange
--- that it has lost there is a change of another machine since its first load
+-- the word last found is that of the state after what was seen; the call would be Done there and leave the new word;
+-- for each exchange that it has lost, another machine has made a change since its first load
 pub record IsUnderWay (v : PassView) (c : Call) (old new lost : ℕ) : Type 0 where
   pub opened : IsSound v.opening
   pub legal : IsLegal v.opening v.seen
@@ -17,7 +17,7 @@ pub record IsUnderWay (v : PassView) (c : Call) (old new lost : ℕ) : Type 0 wh
   pub ready : IsReady v.machine c old new
   pub evidence : HasChanges v.machine v.since v.seen lost
 
--- the same of a call that waits for its next exchange
+-- likewise for a call that waits for its next exchange
 pub record IsTry (v : PassView) (c : Call) (old new lost tries : ℕ) : Type 0 where
   pub under_way : IsUnderWay v c old new lost
   pub room : lost < tries

@@ -1,4 +1,4 @@
--- A line on a pass: what contracts see of it, and what a call of it does.
+-- A line by a pass: what contracts see of it, and the effect of its calls.
 use Rattle.std.specs.Prelude.{◌≡◌, ℕ, ◌+◌, ◌≤◌, List, Result, Ok, Err}
 use Rattle.cell_types.specs.declared.call.Call.{Call}
 use Rattle.cell_types.specs.declared.reply.Reply.{Reply}
@@ -20,7 +20,8 @@ pub record IsLine (v : PassView) (journal : List Entry) : Type 0 where
   pub legal : IsLegal v.opening v.seen
   pub noted_all : journal ≡ noted v.opening v.seen v.machine
 
--- a line: its pass, the entries of the calls that the pass settled, what came of the last call, and how many exchanges a call may lose
+-- a line: its pass, the entries of the calls that the pass settled, the outcome of the last call, and how many
+-- exchanges a call may lose
 pub record LineView : Type 0 where
   pub pass : PassView
   pub journal : List Entry
@@ -28,7 +29,7 @@ pub record LineView : Type 0 where
   pub tries : ℕ
   pub kept : ∥ IsLine pass journal ∥₁
 
--- what a call leaves of its pass, by the clauses of ask
+-- the effect of a call on its pass: the clauses of `ask`
 pub record Replied (v : PassView) (c : Call) (tries : ℕ) (reply : Reply) (w : PassView) : Type 0 where
   pub pass : IsSamePass v w
   pub lawful : LawfulThroughout v.opening w.seen
@@ -41,12 +42,12 @@ pub record Replied (v : PassView) (c : Call) (tries : ℕ) (reply : Reply) (w : 
   pub all_lost : IfBusy reply (λ n. w.exchanges ≡ v.exchanges + n)
   pub since : IfBusy reply (HasChanges v.machine w.since w.seen)
 
--- what came back is what the interlock replied; where there was no room for an entry, no call was made
+-- the interlock's reply came back; or there was no room for an entry, and no call was made
 abbrev pub PassAsks : ℕ → PassView → Call → Result Reply LineFault → PassView → Type 0
 PassAsks tries v c (Ok reply) w = Replied v c tries reply w
 PassAsks tries v c (Err fault) w = w ≡ v
 
--- a call by a line: by its pass, and a later one may lose as many exchanges
+-- a line's call: it is made by its pass, and a later one may lose as many exchanges
 pub record LineAsks (l : LineView) (c : Call) (r : Result Reply LineFault) (d : LineView) : Type 0 where
   pub call : PassAsks l.tries l.pass c r d.pass
   pub tries : d.tries ≡ l.tries

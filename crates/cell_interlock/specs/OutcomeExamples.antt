@@ -1,5 +1,5 @@
--- Examples of what a call of the press leaves of its pass, and of what none leaves: in each of these one thing is wrong.
--- The press claims z3, which is open inward and free in the opening, and a call may lose two exchanges.
+-- Examples of what a call of the press may leave of its pass, and of what it may not: each of these is wrong in one
+-- thing. The press claims z3, which is open inward and free in the opening. A call may lose two exchanges.
 use Rattle.std.specs.Prelude.{◌≡◌, ◌≢◌, ℕ, false, List, [], ◌∷◌, None, Err}
 use Rattle.atomic_table.specs.Seated.{TableId}
 use Rattle.cell_types.specs.declared.machine.Machine.{Machine}
@@ -45,7 +45,7 @@ released = event Press (Release Z3) Done
 abbrev pub read : Event
 read = event Press (Inquire Z3) (Shown None false OpenIn)
 
--- what others do: feed claims z6 and releases it, the table claims z1, the robot z3
+-- calls of others: feed claims z6 and releases it, the table claims z1, the robot claims z3
 abbrev pub by_feed : Event
 by_feed = event Feed (Claim Z6) Done
 
@@ -66,7 +66,8 @@ feed_refused = event Feed claim (Refused NotParty)
 abbrev pub press_pass : TableId → List Event → List Event → ℕ → ℕ → PassView
 press_pass t seen since loads exchanges = record { table = t; opening = opened; machine = Press; seen = seen; since = since; loads = loads; exchanges = exchanges }
 
--- before the call; after a claim that is Done; after a look that leaves it pending; after its first lost exchange, and after its second
+-- the pass before the call; after a claim that is Done; after a look that leaves it pending; after its first lost
+-- exchange; after its second
 abbrev pub before : TableId → PassView
 before t = press_pass t [] [] 3 5
 
@@ -150,9 +151,9 @@ pub record AttemptExamples (t : TableId) : Type 0 where
   pub pass_of_busy : after_attempt (TriedBusy 2 2 (lost_both t)) ≡ lost_both t
   pub pass_of_settled : after_attempt (TriedSettled Done 1 (after_claim t)) ≡ after_claim t
 
--- ---- what calls leave
+-- ---- effects of calls
 
--- what was seen of other machines grows, and what was seen of its own doesn't
+-- a pass may see more events of other machines, but no new one of its own
 pub record MoreExamples (t : TableId) : Type 0 where
   pub more : HasSeenMore (before t) (lost_one t)
   pub other_table : (u : TableId) → u ≢ t → ¬ HasSeenMore (before t) (record (lost_one t) { table = u })
@@ -162,7 +163,7 @@ pub record MoreExamples (t : TableId) : Type 0 where
   pub forgets : ¬ HasSeenMore (lost_one t) (before t)
   pub own_event : ¬ HasSeenMore (before t) (after_claim t)
 
--- how changes by others are counted
+-- the number of changes by others
 pub record ChangeExamples : Type 0 where
   pub one : HasChanges Press [] (by_feed ∷ []) 1
   pub one_only : ¬ HasChanges Press [] (by_feed ∷ []) 2
@@ -171,7 +172,7 @@ pub record ChangeExamples : Type 0 where
   pub seen_earlier : ¬ HasChanges Press (by_feed ∷ []) (by_feed ∷ []) 1
   pub other_beginning : ¬ HasChanges Press (by_feed ∷ []) (by_table ∷ by_feed ∷ []) 1
 
--- the answer is that of the sequential interlock, and who holds a zone keeps it
+-- the answer is the sequential interlock's; a machine that holds a zone keeps it
 pub record AnswerExamples (t : TableId) : Type 0 where
   pub other_answer : ¬ AnswersAtItsPoint (before t) claim (Refused Worn) (press_pass t (event Press claim (Refused Worn) ∷ []) [] 4 5)
   pub loses_what_it_held : ¬ LastingRight (after_claim t) claim Done (press_pass t (claimed ∷ released ∷ claimed ∷ []) [] 5 7)
@@ -179,7 +180,7 @@ pub record AnswerExamples (t : TableId) : Type 0 where
 
 -- ---- a new interlock
 
--- whose pass is in each field, and that the passes have made no step
+-- each field has its machine's pass, and the passes have made no step
 pub record FreshExamples (i : InterlockView) (p : Passes) : Type 0 where
   pub feed : p.feed.machine ≡ Feed
   pub table : p.table.machine ≡ Table

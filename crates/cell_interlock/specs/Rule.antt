@@ -1,4 +1,5 @@
--- The rule of the word: it tells one growing legal history. And what each step on the word tells the machine that makes it.
+-- The rule of the word: it holds the state after one growing legal history. And what each step on the word shows its
+-- machine.
 use Rattle.std.specs.Prelude.{◌≡◌, ℕ, ◌+◌, ◌<◌, ◌≤◌, ◌==◌, if◌then◌else◌, List, [], ◌∷◌, ◌++◌, length, slice_index, ⊤}
 use mathlib.Core.Option.{some}
 use lib.ListN.{get_elem?}
@@ -21,11 +22,12 @@ use Rattle.cell_interlock.specs.declared.pass.Part.{Part}
 
 -- ---- views
 
--- the view of a seat is a list of parts, one for each machine that the seat has. A machine's part that has seen nothing and made no step
+-- The view of a seat is a list of parts, one for each of its machines. This is the part of a machine that has seen
+-- nothing and made no step.
 abbrev pub new_part : ModelState → Machine → Part
 new_part opening m = record { opening = opening; machine = m; seen = []; since = []; loads = 0; exchanges = 0 }
 
--- stands where a view has no part
+-- the default for a view without parts
 abbrev pub nobody : Part
 nobody = new_part (start_state empty 0) Watch
 
@@ -42,13 +44,13 @@ abbrev pub others_of : List Part → List Part
 others_of [] = []
 others_of (p ∷ parts) = parts
 
--- the view of the first seat: a part for each machine, which has seen nothing
+-- the view of the first seat: a part for each machine, none of which has seen anything
 abbrev pub all_parts : ModelState → List Part
 all_parts s = new_part s Feed ∷ new_part s Table ∷ new_part s Robot ∷ new_part s Press ∷ new_part s Deposit ∷ new_part s Crane ∷ new_part s Watch ∷ []
 
 -- ---- the rule
 
--- a machine has seen a beginning of the history, with all of its own events
+-- a machine has seen a prefix of the history, with all its own events
 pub record Fits (opening : ModelState) (history : List Event) (p : Part) : Type 0 where
   pub opening_is : p.opening ≡ opening
   pub begins : BeginsWith history p.seen
@@ -58,7 +60,7 @@ abbrev pub AllFit : ModelState → List Event → List Part → Type 0
 AllFit opening history [] = ⊤
 AllFit opening history (p ∷ parts) = Fits opening history p × AllFit opening history parts
 
--- how many parts of a view, and of all views, are a machine's
+-- the number of a machine's parts, in a view and in all views
 abbrev pub parts_of : Machine → List Part → ℕ
 parts_of m [] = 0
 parts_of m (p ∷ parts) = (if same_machine p.machine m then 1 else 0) + parts_of m parts
@@ -67,7 +69,8 @@ abbrev pub parts_in_all : Machine → List (List Part) → ℕ
 parts_in_all m [] = 0
 parts_in_all m (view ∷ views) = parts_of m view + parts_in_all m views
 
--- the word is that of the state after one legal history; every view has seen a beginning of it, with all events of its machines; and no machine is in two views
+-- the word is that of the state after one legal history; each view has seen a prefix of it, with all events of its
+-- machines; no machine is in two views
 pub record WordTellsHistory {S : Type 0} (opening : ModelState) (table : State S (List Part)) : Type 0 where
   pub history : List Event
   pub has_word : 0 < length table.words
@@ -79,7 +82,8 @@ pub record WordTellsHistory {S : Type 0} (opening : ModelState) (table : State S
 
 -- ---- the steps
 
--- the moment of a step that finds a word, for a machine: the history so far, of which it had seen a beginning with all of its own events
+-- a machine's step finds a word: at this moment the history is this one, and the machine had seen a prefix of it, with
+-- all its own events
 pub record Moment (p : Part) (word : ℕ) (history : List Event) : Type 0 where
   pub opened : IsSound p.opening
   pub sound : IsSound (after p.opening history)
@@ -88,21 +92,22 @@ pub record Moment (p : Part) (word : ℕ) (history : List Event) : Type 0 where
   pub own : own_events history p.machine ≡ own_events p.seen p.machine
   pub found : packed (after p.opening history) ≡ word
 
--- what a machine sees that finds the word for a call: the history so far, and then the call's event where the call is refused or inquires
+-- what a machine sees when it finds the word for a call: the history so far, and then the call's event if the call is
+-- refused or inquires
 abbrev pub seen_at : Call → Part → List Event → List Event
 seen_at c p history =
     if is_done_answer (reply (after p.opening history) p.machine c) then history else history ++ event p.machine c (reply (after p.opening history) p.machine c) ∷ []
 
--- what a machine sees by an exchange of the old word for a call: where it is won, the history so far and then the call's Done event;
--- where it is lost, what a load shows
+-- what a machine sees by an exchange of the old word for a call: if it is won, the history so far and then the call's
+-- Done event; if it is lost, what a load shows
 abbrev pub seen_by : Call → Part → ℕ → ℕ → List Event → List Event
 seen_by c p old word history = if word == old then history ++ event p.machine c Done ∷ [] else seen_at c p history
 
--- a part that has seen this by one load more
+-- a part that has seen this, after one more load
 abbrev pub after_load : Part → List Event → Part
 after_load p seen = record p { seen = seen; since = seen; loads = p.loads + 1 }
 
--- a part that has seen this by one exchange more
+-- a part that has seen this, after one more exchange
 abbrev pub after_exchange : Part → List Event → Part
 after_exchange p seen = record p { seen = seen; exchanges = p.exchanges + 1 }
 
@@ -121,7 +126,7 @@ abbrev pub MomentOfAll : List Part → ℕ → List Event → Type 0
 MomentOfAll [] word history = ⊤
 MomentOfAll (p ∷ parts) word history = Moment p word history × MomentOfAll parts word history
 
--- each machine of a view has seen this history by one load
+-- each machine of a view has seen this history, after one more load
 abbrev pub all_see : List Event → List Part → List Part
 all_see history [] = []
 all_see history (p ∷ parts) = after_load p history ∷ all_see history parts

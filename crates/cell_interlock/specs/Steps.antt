@@ -1,4 +1,4 @@
--- What one step on the word tells of a pass.
+-- What one step on the word shows a pass.
 use Rattle.std.specs.Prelude.{◌≡◌, ℕ, List}
 use Rattle.cell_types.specs.declared.machine.Machine.{Machine}
 use Rattle.cell_types.specs.declared.call.Call.{Call}
@@ -15,7 +15,7 @@ use Rattle.cell_interlock.specs.Rule.{Moment, seen_at, seen_by, after_load, afte
 abbrev pub part_of : PassView → Part
 part_of v = record { opening = v.opening; machine = v.machine; seen = v.seen; since = v.since; loads = v.loads; exchanges = v.exchanges }
 
--- a pass that has seen this by one load more, and by one exchange more
+-- a pass that has seen this after one more load; and after one more exchange
 abbrev pub with_load : PassView → List Event → PassView
 with_load v seen = pass_of v.table (after_load (part_of v) seen)
 
@@ -26,10 +26,10 @@ with_exchange v seen = pass_of v.table (after_exchange (part_of v) seen)
 abbrev pub Loaded : Call → PassView → ℕ → PassView → Type 0
 Loaded c v word w = (history : List Event) × Moment (part_of v) word history × (w ≡ with_load v (seen_at c (part_of v) history))
 
--- in each sound state of the old word the call is Done and leaves the new one
+-- in each sound state of the old word the call is Done and leads to the new word
 abbrev pub IsReady : Machine → Call → ℕ → ℕ → Type 0
 IsReady m c old new = (s : ModelState) → IsSound s → packed s ≡ old → (reply s m c ≡ Done) × (packed (next s m c) ≡ new)
 
--- an exchange for a call found a word, and was won where that is the old one
+-- an exchange for a call found a word; it was won if that is the old one
 abbrev pub Exchanged : Call → PassView → ℕ → ℕ → PassView → Type 0
 Exchanged c v old word w = (history : List Event) × Moment (part_of v) word history × (w ≡ with_exchange v (seen_by c (part_of v) old word history))

@@ -1,4 +1,4 @@
--- What look and attempt answer, and the pass after them.
+-- What `look` and `attempt` answer, and the pass after them.
 use Rattle.std.specs.Prelude.{◌≡◌, ◌≢◌, ℕ, ◌+◌, ◌<◌}
 use Rattle.cell_types.specs.declared.call.Call.{Call}
 use Rattle.cell_types.specs.declared.answer.Answer.TheVariants.{Done}
@@ -10,7 +10,7 @@ use Rattle.cell_interlock.specs.declared.tries.Look.TheVariants.{Settled as Look
 use Rattle.cell_interlock.specs.declared.tries.Tried.{Tried}
 use Rattle.cell_interlock.specs.declared.tries.Tried.TheVariants.{Settled as TriedSettled, Lost, Busy}
 
--- a call that would be Done and has lost nothing, of a pass that has just looked
+-- a call that would be Done and has lost no exchange; its pass has only now looked
 pub record IsPending (v : PassView) (c : Call) (most : ℕ) (t : TryView) : Type 0 where
   pub unmade : IsUnmade v c t.pass
   pub call : t.call ≡ c
@@ -18,12 +18,12 @@ pub record IsPending (v : PassView) (c : Call) (most : ℕ) (t : TryView) : Type
   pub lost : t.lost ≡ 0
   pub since : t.pass.since ≡ t.pass.seen
 
--- a look settles only what changes nothing
+-- a look settles only calls that change nothing
 abbrev pub Looked : PassView → Call → ℕ → Look → Type 0
 Looked v c tries (LookSettled a stamp w) = IsSettled v c a stamp w × (a ≢ Done)
 Looked v c tries (Pending t) = IsPending v c tries t
 
--- the same call has lost one exchange more, to a change of another machine, and may lose a further one
+-- the same call has lost one more exchange, because another machine changed the word; it may lose another one
 pub record IsLost (t u : TryView) : Type 0 where
   pub unmade : IsUnmade t.pass t.call u.pass
   pub call : u.call ≡ t.call
@@ -33,7 +33,7 @@ pub record IsLost (t u : TryView) : Type 0 where
   pub room : u.lost < u.tries
   pub changed : HasChanges t.pass.machine t.pass.seen u.pass.seen 1
 
--- the exchange that a call could still lose is lost too
+-- the last exchange that the call may lose is lost, too
 pub record IsBusy (t : TryView) (lost stamp : ℕ) (w : PassView) : Type 0 where
   pub more : HasSeenMore t.pass w
   pub stamped : stamp ≡ (after t.pass.opening w.seen).stamp

@@ -17,7 +17,7 @@ use crate::tries::{Look, Tried, Try};
 use cell_types::{Answer, Call, Machine, Reply};
 use cell_word::{stamp_of, step_sound};
 
-/// The answer in the state of a word, and the word of the state after it.
+/// The answer in a word's state, and the word of the state after the call.
 fn reply_at(word: u64, machine: Machine, call: Call) -> (Answer, u64)
     requires { (state : ModelState) × IsSound state × (packed state ≡ word) }
     ensures { (state : ModelState) → IsSound state → packed state ≡ word
@@ -36,24 +36,24 @@ fn is_done(answer: Answer) -> bool
 }
 
 impl Interlock {
-    /// Makes a call: loads the word, and unless the call is refused there or inquires, puts the word
-    /// after it in place of the one found, by an exchange. An exchange that is lost has found another
-    /// word, and with that it goes on. `Busy` once as many exchanges are lost as a call may lose.
+    /// Makes a call. It loads the word. If the call is refused or inquires, that is its answer.
+    /// Otherwise an exchange replaces the word by the word after the call. If another machine has
+    /// changed the word, the exchange is lost, and the call goes on with the word that it found. It
+    /// is `Busy` once it has lost as many exchanges as a call may.
     ///
-    /// The pass is one of those that were made with this interlock. Whatever other threads do with
-    /// the other passes meanwhile:
-    /// - it stays the same machine's pass (`pass`);
-    /// - what it has seen now is a legal history, and every law holds of it (`lawful`);
-    /// - that history begins with all that it had seen; a call that was answered is the last event,
-    ///   and the only new one of its machine; a call that is Busy left no event (`seen`);
-    /// - the answer is the sequential interlock's, after the events in front of the call (`answer`);
-    /// - what the machine held before, it holds there, so it isn't told that a zone of its own is
-    ///   another's (`right`);
-    /// - Busy comes only where the call would be Done, and other machines have made at least `tries`
-    ///   changes that the pass had not seen before (`busy`), all of them after this call's load
-    ///   (`since`);
-    /// - it loads the word once (`one_load`), and makes at most `tries` exchanges (`few_exchanges`):
-    ///   all of them where it is Busy (`all_lost`).
+    /// The pass was made with this interlock. Whatever other threads do with the other passes
+    /// meanwhile:
+    /// - it remains the same machine's pass (`pass`);
+    /// - what it has seen now is a legal history, of which every law holds (`lawful`);
+    /// - that history begins with all that it had seen; an answered call is its last event, and the
+    ///   only new one of its machine; a Busy call leaves no event (`seen`);
+    /// - the answer is the sequential interlock's, after the events before the call (`answer`);
+    /// - the machine still holds there what it held before, so it isn't refused as not the owner of
+    ///   its own zone (`right`);
+    /// - it is Busy only if the call would be Done, and other machines have made at least `tries`
+    ///   changes that the pass hadn't seen before (`busy`), all after this call's load (`since`);
+    /// - it loads the word once (`one_load`), and makes at most `tries` exchanges
+    ///   (`few_exchanges`), exactly as many as it lost if it is Busy (`all_lost`).
     pub fn ask(&self, pass: &mut Pass, call: Call) -> Reply
         requires same_interlock { pass.old.table ≡ self.now.table }
         ensures pass { IsSamePass pass.old pass.new }
@@ -90,10 +90,10 @@ impl Interlock {
         }
     }
 
-    /// The first step of a call, one load: a call that is refused or inquires is answered by it, and
-    /// any other is pending.
+    /// The first step of a call, one load. It answers a call that is refused or inquires; any other
+    /// call is then pending.
     ///
-    /// The pass is one of those that were made with this interlock.
+    /// The pass was made with this interlock.
     pub fn look(&self, mut pass: Pass, call: Call) -> Look
         requires same_interlock { pass.table ≡ self.now.table }
         ensures looked { Looked pass call self.now.tries result }
@@ -116,11 +116,11 @@ impl Interlock {
         }
     }
 
-    /// A further step of a call, one exchange: where it is won, the call is Done. Where it is lost, the
-    /// word that it found may refuse the call; else the call has lost one exchange more, and is Busy
-    /// once it has lost as many as it may.
+    /// A further step of a call, one exchange. If it is won, the call is Done. If it is lost, the
+    /// word that it found may refuse the call. Otherwise the call has lost one more exchange, and
+    /// is Busy once it has lost as many as it may.
     ///
-    /// The call's pass is one of those that were made with this interlock.
+    /// The call's pass was made with this interlock.
     pub fn attempt(&self, pending: Try) -> Tried
         requires same_interlock { pending.pass.table ≡ self.now.table }
         ensures attempted { Attempted pending result }
@@ -163,7 +163,7 @@ impl Interlock {
 }
 
 impl Try {
-    /// Leaves the call, which is then never made, and gives its pass back.
+    /// Abandons the call, which is then never made, and gives its pass back.
     pub fn abandon(self) -> Pass
         ensures { result ≡ self.pass }
     {

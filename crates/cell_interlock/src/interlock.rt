@@ -8,8 +8,8 @@ use cell_rules::State;
 use std::alloc::Global;
 use std::marker::Model;
 
-/// The interlock: one atomic word, on which a call is one load and at most `tries` exchanges. Threads
-/// share it by reference, each with passes of its own.
+/// The interlock: one atomic word. A call is one load of it and at most `tries` exchanges on it.
+/// Threads share it by reference, each with its own passes.
 #[derive(Drop)]
 pub struct Interlock {
     pub(crate) table: Table<(), View, State, OneHistory, Global>,

@@ -1,8 +1,8 @@
-//! What is so of the calls' own definitions: a law, in a function that does nothing.
+//! A law of the calls' own definitions: a function that does nothing. Its contract is the law.
 ghost use Rattle.cell_interlock.specs.OutcomeExamples.{OutcomeExamples};
 
-/// Examples of what a call leaves of its pass, and of what none leaves: of a whole call, of its single
-/// steps, of a meeting and of a line.
+/// Examples of what a call may and may not leave of its pass: a whole call, its single steps, a
+/// meeting and a line.
 pub fn outcomes_are_known()
     ensures { OutcomeExamples }
 {}

@@ -1,4 +1,4 @@
-//! How an interlock is made.
+//! Makes an interlock.
 ghost use Rattle.std.specs.Prelude.{◌≡◌, ◌<◌, IfOk, Err, ◌⊎◌, ◌↔◌};
 ghost use Rattle.cell_interlock.specs.Rule.{IsSeat, first_off, head_of, others_of};
 ghost use Rattle.cell_interlock.specs.Views.{pass_of};
@@ -14,21 +14,21 @@ use cell_types::Machine;
 use cell_word::pack;
 use std::alloc::Global;
 
-/// Why an interlock is not made.
+/// Why an interlock wasn't made.
 #[derive(Clone, Copy, PartialEq, Eq, Debug)]
 pub enum MakeFault {
-    /// A call may lose from 1 to 64 exchanges, and no other number.
+    /// The number of exchanges that a call may lose isn't 1 to 64.
     Tries,
-    /// The room for the word was refused.
+    /// There was no memory for the word.
     Memory,
 }
 
 impl Interlock {
-    /// An interlock that opens with a state, where a call is Busy once it has lost `tries` exchanges;
-    /// and a pass for each machine, which nothing else makes.
+    /// Makes an interlock that opens with a state, and its only pass for each machine. A call is
+    /// Busy once it has lost `tries` exchanges.
     ///
-    /// `Tries`, which is looked at first, unless `tries` is 1 to 64; `Memory` where the word gets no
-    /// room. No later call takes memory.
+    /// Errors: `Tries` if `tries` isn't 1 to 64, which is checked first; `Memory` if there is no
+    /// memory for the word. No later call allocates memory.
     pub fn new(alloc: Global, opening: State, tries: u8) -> Result<(Interlock, Passes), MakeFault>
         ensures tries { (result ≡ Err MakeFault.Tries) ↔ ((tries < 1) ⊎ (64 < tries)) }
         ensures opening { IfOk result (λ made. made.0.opening ≡ opening) }
@@ -56,7 +56,7 @@ impl Interlock {
     }
 }
 
-// The pass of the first machine of a seat, which keeps the others.
+// The pass of a seat's first machine; the seat keeps the others.
 fn first_pass(
     table: &Table<(), View, State, OneHistory, Global>,
     seat: &mut Seat<(), View>,

@@ -8,7 +8,7 @@ use crate::rule::{FirstOff, Gathers, Together};
 use atomic_table::Seat;
 
 impl Interlock {
-    /// Brings the machines of another seat together with those of a seat.
+    /// Joins the other seat's machines to a seat.
     fn join(&self, seat: &mut Seat<(), View>, other: Seat<(), View>)
         requires same_interlock { (seat.old.table_id ≡ self.now.table) × (other.table_id ≡ self.now.table) }
         requires no_slot { other.me.1 ≡ [] }
@@ -18,13 +18,13 @@ impl Interlock {
         self.table.shared.join_seat::<Together>(seat, other);
     }
 
-    /// Lets two passes meet: afterwards both have seen one history, which begins with all that each of
-    /// them had seen. No call is made, and no memory is taken.
+    /// Lets two passes meet: afterwards both have seen the same history, which begins with what
+    /// each had seen. No call is made, and no memory is allocated.
     ///
-    /// Both passes are of those that were made with this interlock. They come back in their order, each
-    /// its own machine's; of that machine there is nothing new in what the pass has seen (`left`,
-    /// `right`). Each counts the one load of the meeting (`left_load`, `right_load`), and no exchange
-    /// (`left_exchanges`, `right_exchanges`).
+    /// Both passes were made with this interlock. They come back in their order, each still its
+    /// machine's, and have seen no new event of their own machine (`left`, `right`). Each counts
+    /// the one load of the meeting (`left_load`, `right_load`), and no exchange (`left_exchanges`,
+    /// `right_exchanges`).
     pub fn meet(&self, left: Pass, right: Pass) -> (Pass, Pass)
         requires same_interlock { (left.table ≡ self.now.table) × (right.table ≡ self.now.table) }
         ensures left { HasSeenMore left result.0 }

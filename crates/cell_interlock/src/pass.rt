@@ -9,9 +9,9 @@ use cell_types::{Event, Machine};
 use std::collections::LinkedList;
 use std::marker::Model;
 
-/// What is known of one machine: the state that its interlock opened with, the history that it has
-/// seen, how much of that it had seen right after its last load, and how many loads and exchanges it
-/// has made. No value of it is made.
+/// What contracts know of one machine: the state that its interlock opened with, the history that
+/// it has seen, the part of it that it had seen right after its last load, and the numbers of its
+/// loads and exchanges. No program makes a value of it.
 pub struct Part {
     /// The state that the interlock opened with.
     pub opening: State,
@@ -19,19 +19,19 @@ pub struct Part {
     pub machine: Machine,
     /// The history that it has seen.
     pub seen: LinkedList<Event>,
-    /// What of that it had seen right after its last load.
+    /// The part of that history that it had seen right after its last load.
     pub since: LinkedList<Event>,
-    /// How often it has loaded the word.
+    /// The number of its loads of the word.
     pub loads: u64,
-    /// How many exchanges it has made, won or lost.
+    /// The number of its exchanges, won or lost.
     pub exchanges: u64,
 }
 
-/// What is known of the machines of a seat.
+/// What contracts know of the machines of a seat.
 pub type View = LinkedList<Part>;
 
-/// The right to make the calls of one machine. A call takes it whole, so a machine makes one call at a
-/// time; it may go from thread to thread.
+/// The right to make the calls of one machine. A call borrows it exclusively or takes it, so a
+/// machine makes one call at a time. It may go from thread to thread.
 #[derive(Drop)]
 pub struct Pass {
     pub(crate) machine: Machine,
@@ -50,7 +50,7 @@ impl Model for Pass {
 }
 
 impl Pass {
-    /// The pass of a machine that has a seat alone.
+    /// The pass of a machine that is alone on its seat.
     pub(crate) fn of(machine: Machine, seat: Seat<(), View>) -> Pass
         requires { IsSeat machine seat.me }
         ensures { result ≡ pass_of seat.table_id (head_of seat.me.0) }

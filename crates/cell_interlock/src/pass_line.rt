@@ -12,11 +12,11 @@ use cell_types::{Call, Entry, Machine, Reply};
 use std::alloc::Global;
 use std::marker::Model;
 
-/// A machine's line to an interlock that it shares with others: a pass, and the journal of the calls
-/// that the pass has settled.
+/// A machine's line to a shared interlock: a pass, and the journal of the calls that the pass has
+/// settled.
 ///
-/// A call makes room for its entry first. Where that is refused, no call is made, and pass and
-/// journal stay as they were; a call that is Busy leaves no entry.
+/// A call first allocates room for its entry. If that fails, no call is made, and pass and journal
+/// stay as they were. A call that is Busy leaves no entry.
 #[derive(Drop)]
 pub struct PassLine<'a> {
     interlock: &'a Interlock,
@@ -36,8 +36,8 @@ impl<'a> Model for PassLine<'a> {
 }
 
 impl<'a> PassLine<'a> {
-    /// A line by a pass that has settled no call yet, and is one of those that were made with this
-    /// interlock. It takes no memory: its calls do.
+    /// Makes a line by a pass that was made with this interlock and has settled no call yet. It
+    /// allocates no memory; its calls do.
     pub fn new(alloc: Global, interlock: &'a Interlock, pass: Pass) -> PassLine<'a>
         requires own { pass.table ≡ interlock.now.table }
         requires settled_none { own_events pass.seen pass.machine ≡ [] }
@@ -45,7 +45,7 @@ impl<'a> PassLine<'a> {
         ensures heard { result.heard ≡ heard_nothing }
         ensures tries { result.tries ≡ interlock.now.tries }
     {
-        // Reads that what the pass has seen is legal.
+        // Reading the seat shows that what the pass has seen is legal.
         let _ = &pass.seat;
         PassLine {
             interlock,
@@ -55,7 +55,7 @@ impl<'a> PassLine<'a> {
         }
     }
 
-    /// The pass, and an entry for each call that it has settled, the oldest first.
+    /// Gives back the pass, and an entry for each call that it has settled, the oldest first.
     pub fn into_parts(self) -> (Pass, Vec<Entry>)
         ensures pass { result.0 ≡ self.entry.pass }
         ensures journal { result.1.items ≡ noted result.0.opening result.0.seen result.0.machine }
@@ -70,7 +70,7 @@ impl<'a> PassLine<'a> {
     }
 }
 
-// The call, and its entry, for which room is made before it.
+// Makes the call and its entry; the room for the entry is allocated first.
 fn ask_and_note(
     interlock: &Interlock,
     pass: &mut Pass,
@@ -109,7 +109,8 @@ impl<'a> Line for PassLine<'a> {
 
     ghost heard = { λ l. l.heard };
 
-    // What the interlock replied, or that there was no room for an entry; and it is the same interlock.
+    // The interlock's reply, or that there was no room for an entry; and the interlock stays the
+    // same.
     ghost asks = { λ l call r d. LineAsks l call r d };
 
     ghost sound = { λ l. ∥∥₁_elim l.kept (IsSound-prop l.pass.opening) (λ k. k.sound) };

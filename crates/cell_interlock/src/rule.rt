@@ -1,10 +1,11 @@
-//! The rule of the word, and what each kind of step on it tells: `specs/Rule.antt`.
+//! The rule of the word, and what each kind of step on it shows: `specs/Rule.antt`.
 use crate::pass::View;
 use atomic_table::{Join, Play, Split, TableRule};
 use cell_rules::State;
 use std::marker::{Brand, PhantomData};
 
-/// The word tells one legal history, of which every machine has seen a beginning.
+/// The rule: the word holds the state after one legal history, and every machine has seen a prefix
+/// of that history.
 pub struct OneHistory;
 
 impl TableRule<(), View, State> for OneHistory {
@@ -15,15 +16,15 @@ impl TableRule<(), View, State> for OneHistory {
     ghost first = { all_parts };
 }
 
-/// Names the call that a step is made for.
+/// Names the call for which a step is made.
 pub trait Asked {
     ghost use Rattle.cell_types.specs.declared.call.Call.{Call};
 
     ghost call: { Call };
 }
 
-// The steps of the rule itself are made for no call, and none is read of them: `load` and `exchange` name
-// the call in whose course they come.
+// The rule's own steps aren't made for a call, and this one isn't read. `load` and `exchange` name
+// the call for which they are made.
 impl Asked for Brand {
     ghost use Rattle.cell_types.specs.declared.call.Call.TheVariants.{Advance};
 
@@ -52,7 +53,7 @@ impl<A: Asked> Play<(), View> for Exchanges<A> {
     ghost then = { exchanged A.call };
 }
 
-/// A load for no call, by which the machines of a seat see one history.
+/// A load for no call: the machines of a seat then have seen the same history.
 pub struct Gathers;
 
 impl Play<(), View> for Gathers {
@@ -61,7 +62,7 @@ impl Play<(), View> for Gathers {
     ghost then = { gathered };
 }
 
-/// A split: the first machine of a seat goes to a new seat.
+/// A split: the first machine of a seat gets a new seat.
 pub struct FirstOff;
 
 impl Split<View> for FirstOff {
@@ -72,7 +73,7 @@ impl Split<View> for FirstOff {
     ghost right = { first_off };
 }
 
-/// A join: the machines of the other seat go in front of those of a seat, which then has both.
+/// A join: the other seat's machines are put before the machines of a seat, which then has both.
 pub struct Together;
 
 impl Join<View> for Together {

@@ -1,10 +1,10 @@
-//! A call that is not made yet, and what comes of its steps.
+//! A call that isn't made yet, and the results of its steps.
 use crate::pass::Pass;
 use cell_types::{Answer, Call};
 use std::marker::Model;
 
-/// A call that would be Done, and is not made yet. It owns its pass, so that no other call of its
-/// machine comes between.
+/// A call that would be Done, but isn't made yet. It owns its pass, so its machine can't make
+/// another call meanwhile.
 #[derive(Drop)]
 pub struct Try {
     pub(crate) pass: Pass,
@@ -26,29 +26,29 @@ impl Model for Try {
     ghost invariant = { λ t. IsTry t.pass t.call t.old t.new t.lost t.tries };
 }
 
-/// What comes of a look.
+/// The result of a look.
 #[derive(Drop)]
 pub enum Look {
-    /// The call was refused, or is an inquiry that was answered; the number is the stamp of the state
-    /// that was found.
+    /// The call was refused, or was an inquiry that was answered. The number is the stamp of the
+    /// state that was found.
     Settled(Answer, u32, Pass),
     /// The call would be Done.
     Pending(Try),
 }
 
-/// What comes of an attempt.
+/// The result of an attempt.
 #[derive(Drop)]
 pub enum Tried {
-    /// The call was answered. The number is the stamp of the state at its point, behind it where the call is
-    /// Done.
+    /// The call was answered. The number is the stamp of the state at its point, or after the call
+    /// if it is Done.
     Settled(Answer, u32, Pass),
     /// Another machine had changed the word. The call may be attempted again.
     Lost(Try),
-    /// As many exchanges were lost as a call may lose. It was not made.
+    /// The call has lost as many exchanges as it may. It wasn't made.
     Busy {
         /// How many exchanges it has lost.
         lost: u8,
-        /// The stamp of the state that was found last.
+        /// The stamp of the state that it found last.
         stamp: u32,
         /// The pass, given back.
         pass: Pass,

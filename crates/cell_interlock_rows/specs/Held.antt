@@ -1,4 +1,4 @@
--- What a caller of a table of steps has at hand.
+-- What a caller of a table of steps holds.
 use Rattle.std.specs.Prelude.{◌≡◌, ⊤}
 use Rattle.cell_interlock.specs.Views.{InterlockView}
 use Rattle.cell_interlock_rows.specs.declared.callers.Callers.{Callers}

@@ -1,4 +1,4 @@
-//! Callers who make their calls by single steps, so that a table can say how the calls overlap.
+//! Callers who make their calls by single steps, so a table can say how the calls overlap.
 ghost use Rattle.std.specs.Prelude.{◌≡◌};
 ghost use Rattle.cell_interlock.specs.Fresh.{AreFresh};
 ghost use Rattle.cell_interlock_rows.specs.Held.{IsHeldAt, AreHeldAt};
@@ -19,7 +19,7 @@ pub enum Step {
     Abandon,
 }
 
-/// What came of a step.
+/// The outcome of a step.
 #[derive(Clone, Copy, PartialEq, Eq, Debug)]
 pub enum Outcome {
     Settled(Answer, u32),
@@ -27,11 +27,11 @@ pub enum Outcome {
     Pending,
     Lost,
     Abandoned,
-    /// The step isn't one that its caller can take now.
+    /// Its caller can't take this step now.
     OutOfTurn,
 }
 
-/// What a caller has at hand between its steps.
+/// What a caller holds between its steps.
 #[derive(Drop)]
 pub enum Held {
     Idle(Pass),
@@ -69,7 +69,7 @@ fn attempted(interlock: &Interlock, pending: Try) -> (Held, Outcome)
     }
 }
 
-/// Takes a step with what a caller has, and gives what it has afterwards.
+/// Takes a step with what a caller holds, and returns what it holds afterwards.
 fn stepped(interlock: &Interlock, held: Held, step: Step) -> (Held, Outcome)
     requires { IsHeldAt interlock.now held }
     ensures { IsHeldAt interlock.now result.0 }
@@ -88,7 +88,7 @@ fn stepped(interlock: &Interlock, held: Held, step: Step) -> (Held, Outcome)
     }
 }
 
-/// A caller takes a step with what it has at hand.
+/// A caller takes a step with what it holds.
 fn take_step(interlock: &Interlock, held: &mut Held, step: Step) -> Outcome
     requires { IsHeldAt interlock.now held.old }
     ensures { IsHeldAt interlock.now held.new }
@@ -98,7 +98,7 @@ fn take_step(interlock: &Interlock, held: &mut Held, step: Step) -> Outcome
     outcome
 }
 
-/// What the callers have at hand, each in the field of its machine.
+/// What the callers hold, each in the field of its machine.
 #[derive(Drop)]
 pub struct Callers {
     feed: Held,
@@ -111,7 +111,7 @@ pub struct Callers {
 }
 
 impl Callers {
-    /// Callers with their passes, which have not called yet.
+    /// Callers with their passes, which have made no call yet.
     pub fn new(interlock: &Interlock, passes: Passes) -> Callers
         requires { AreFresh interlock.now passes }
         ensures { AreHeldAt interlock.now result }
@@ -157,7 +157,7 @@ fn are_outcomes(interlock: &Interlock, callers: Callers, steps: &[(Machine, Step
     true
 }
 
-/// Whether these steps, taken in this order at a new interlock, have these outcomes.
+/// Whether these steps, taken in this order on a new interlock, have these outcomes.
 pub fn is_played(
     alloc: Global,
     opening: State,

@@ -1,4 +1,5 @@
-//! Tests of `cell_interlock` by its public calls: tables of steps, and threads whose calls are audited.
+//! Tests of `cell_interlock` by public calls only: tables of steps, and threads whose calls are
+//! audited.
 #![tactic(auto)]
 
 pub mod callers;

@@ -1,10 +1,10 @@
-//! How many exchanges a call may lose, whether there is memory or not.
+//! How many exchanges a call may lose, even if memory runs out.
 
 use cell_interlock::{Interlock, MakeFault};
 use cell_rules::State;
 use std::alloc::Global;
 
-// So many exchanges, and whether a call may lose them.
+// A number of exchanges, and whether a call may lose that many.
 const TRIES: &[(u8, bool)] = &[(0, false), (1, true), (64, true), (65, false), (255, false)];
 
 fn is_allowed(alloc: Global, opening: State, tries: u8) -> bool {

@@ -50,12 +50,12 @@ const NOTED: &[(Machine, Call, Answer, u32)] = &[
     ),
 ];
 
-/// Whether a line settles a call so.
+/// Whether a line settles a call with this answer and stamp.
 fn is_settled<L: Line>(line: &mut L, call: Call, answer: Answer, stamp: u32) -> bool {
     line.ask(call) == Ok(Reply::Settled(answer, stamp))
 }
 
-/// Whether a journal has the machine's rows of the table, and no others.
+/// Whether a journal has exactly the machine's rows of the table.
 fn is_journal(journal: &[Entry], machine: Machine) -> bool {
     let mut rest = journal;
     for (caller, call, answer, stamp) in NOTED {
@@ -108,7 +108,7 @@ fn shown_of(owner: Option<Machine>) -> Answer {
     }
 }
 
-/// Whether a line's call was made and noted, or neither.
+/// Whether a line's call was both made and noted, or neither.
 fn is_whole(alloc: Global, opening: State) -> bool {
     let Ok((interlock, passes)) = Interlock::new(alloc, opening, 1) else {
         return true;
@@ -140,7 +140,7 @@ const SECOND: &[Row] = &[(CLAIM, HELD, 1)];
 
 const LAST: &[Row] = &[(RELEASE, Answer::Done, 2)];
 
-/// Whether a pass is answered so.
+/// Whether a pass is answered like this.
 fn is_answered(interlock: &Interlock, pass: &mut Pass, rows: &[Row]) -> bool
     requires { pass.old.table ≡ interlock.now.table }
     ensures { pass.new.table ≡ pass.old.table }

@@ -1,4 +1,4 @@
-//! Steps that overlap as each row says, and what comes of them.
+//! Steps that overlap as each row says, and their outcomes.
 
 use crate::callers::{Outcome, Step, is_played};
 use cell_rules::State;
@@ -28,7 +28,7 @@ const SHOWN: Answer = Answer::Shown {
     posture: Posture::Closed,
 };
 
-// Nobody has seen what the others did, and nobody is overtaken.
+// No machine has seen what the others did, and no call is overtaken.
 const APART: &[Taken] = &[
     (
         Machine::Press,
@@ -48,7 +48,7 @@ const APART: &[Taken] = &[
     ),
 ];
 
-// The zones are as they were, the word isn't.
+// The zones are as they were, but the word isn't.
 const OVERTAKEN: &[Taken] = &[
     (Machine::Table, Step::Look(CLAIM_1), Outcome::Pending),
     (
@@ -70,7 +70,7 @@ const OVERTAKEN: &[Taken] = &[
     ),
 ];
 
-// What is counted are exchanges that were lost, and not the changes that made them so.
+// Lost exchanges are counted, not the changes that caused them.
 const TWO_CHANGES: &[Taken] = &[
     (Machine::Table, Step::Look(CLAIM_1), Outcome::Pending),
     (
@@ -165,7 +165,7 @@ const WORN_LATE: &[Taken] = &[
     ),
 ];
 
-// A refusal makes nobody lose.
+// A refusal makes no other call lose an exchange.
 const UNDISTURBED: &[Taken] = &[
     (Machine::Table, Step::Look(CLAIM_1), Outcome::Pending),
     (
@@ -180,7 +180,7 @@ const UNDISTURBED: &[Taken] = &[
     ),
 ];
 
-// The call that was left was never made.
+// The abandoned call was never made.
 const ABANDONED: &[Taken] = &[
     (Machine::Table, Step::Look(CLAIM_1), Outcome::Pending),
     (Machine::Table, Step::Abandon, Outcome::Abandoned),
@@ -192,7 +192,7 @@ const ABANDONED: &[Taken] = &[
     (Machine::Table, Step::Attempt, Outcome::OutOfTurn),
 ];
 
-// What the row shows, how many exchanges a call may lose, the first stamp, and the steps.
+// What the row shows, the number of exchanges that a call may lose, the first stamp, and the steps.
 const ROWS: &[(&str, u8, u32, &[Taken])] = &[
     ("apart", 1, 0, APART),
     ("overtaken", 2, 0, OVERTAKEN),

@@ -1,5 +1,5 @@
-//! Threads that share one interlock, each with a line of its own. The journals of their lines have to
-//! be accepted by the audit: there is one legal history with just these calls, answers and stamps.
+//! Threads that share one interlock, each with its own line. The audit has to accept the journals
+//! of their lines: there is one legal history with exactly these calls, answers and stamps.
 ghost use Rattle.std.specs.Prelude.{◌≡◌, ◌<◌};
 ghost use Rattle.std.specs.Thread.{IsSync};
 ghost use Rattle.cell_interlock.specs.Fresh.{AreFresh};
@@ -52,14 +52,14 @@ fn zones_of(machine: Machine) -> [Zone; 3] {
     }
 }
 
-/// How many calls each thread makes, and how many exchanges each of them may lose.
+/// The number of calls of each thread, and of exchanges that each call may lose.
 #[derive(Clone, Copy)]
 struct Load {
     calls: u32,
     tries: u8,
 }
 
-/// Makes calls that look random, and gives the journal of them.
+/// Makes calls that look random, and returns their journal.
 fn work(mut line: PassLine<'_>, load: Load) -> Vec<Entry> {
     let machine = line.machine();
     let zones = zones_of(machine);
@@ -149,7 +149,7 @@ fn seven<R: Threads + Sync>(
     }
 }
 
-/// Whether many calls were done: journals of nothing but refusals would be accepted too.
+/// Whether many calls were done: journals with only refusals would be accepted, too.
 fn many_are_done(events: &[Event]) -> bool {
     let done = events.iter().filter(|event| event.answer == Answer::Done);
     done.count() >= 1000
