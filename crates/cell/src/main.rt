@@ -1,5 +1,5 @@
-//! The program of the production cell: it replays scripts of calls to the interlock, simulates the cell,
-//! and runs it by six workers.
+//! The program of the production cell: it replays scripts of calls to the interlock, simulates the
+//! cell, or runs it by six workers.
 #![tactic(auto)]
 
 pub use cell_command::{Mode, read_words};

@@ -1,11 +1,11 @@
--- Fronts of texts that are written.
+-- Prefixes of texts that are written.
 use Rattle.std.proofs.Common.{inr, codes, ℕ, List, [], length, Option, Some, None, Result, Ok, Err, OnOk, OnErr, IfSome, sym, subst, append-nil, arith}
 use Rattle.std.proofs.lemmas.List.{take_all}
 use Rattle.std.specs.Io.KnownBytes.{Appends}
 use Rattle.cell_text.specs.Output.{WroteFront}
 use Rattle.cell_program.specs.Served.{ReplayFails, fault_line}
 
--- the whole text is a front of it
+-- the whole text is a prefix of it
 pub whole_front : (old new : Option (List ℕ)) (text : List ℕ) → Appends old new text → WroteFront old new text
 whole_front old new text a = (length text, subst (Appends old new) (sym (take_all (length text) text (omega arith))) a)
 

@@ -1,4 +1,4 @@
--- What is told of runs, in figures.
+-- Proofs of the laws of runs.
 use Rattle.std.proofs.Common.{◌≡◌, ◌≢◌, Bool, true, false, List, [], ◌∷◌, ◌++◌, cond, get_or, Option, Some, None, refl, sym, ap, subst, ◌∙◌}
 use Rattle.std.proofs.lemmas.List.Elements.{All-head, All-tail}
 use Rattle.cell_types.specs.declared.machine.Machine.{Machine}
@@ -75,7 +75,8 @@ told =
           (had, λ out. let lie : true ≡ false = (had.kept_out out).1 in cc);
     }
 
--- the press can't have released what it never had: the first event of such a history would be that one, and was refused
+-- the press can't have released what it never held: the first event of such a history would be that release, but it is
+-- refused
 abbrev released : Event
 released = record { machine = Press; call = Release Z3; answer = Done }
 

@@ -1,4 +1,4 @@
--- What the report of a run tells.
+-- What the report of a run says.
 use Rattle.std.proofs.Common.{◌≡◌, ◌≢◌, Bool, true, false, inl, inr, ℕ, IsTrue, ◌↔◌, List, Option, Some, None, Result, Ok, Err, IfErr, IfOk, refl, subst, if◌then◌else◌}
 use Rattle.std.specs.Result.{result_err}
 use Rattle.std.specs.Io.KnownBytes.{Appends}

@@ -1,4 +1,4 @@
--- What is told of a run by six workers.
+-- What is said of a run by six workers.
 use Rattle.std.proofs.Common.{◌≡◌, ◌≢◌, inl, inr, List, ℕ, Option, Some, None, Result, Ok, Err, IfOk, IfErr, IfSome, refl, sym, subst}
 use Rattle.cell_types.specs.declared.machine.Machine.{Machine}
 use Rattle.cell_types.specs.declared.answer.Event.{Event}
@@ -23,7 +23,7 @@ use Rattle.cell_program.specs.Ran.{EndsAsAudited, TellsWorkers}
 use Rattle.cell_program.specs.Reported.{ReportTold}
 use Rattle.cell_program.specs.Served.{RunFails, TellsWorkersOf, WasRun, fault_line}
 
--- what comes of a run that has this end
+-- what follows for a run that has this end
 abbrev ended : Option ModelState → Result (Option ModelState) RunFault
 ended end = Ok end
 
@@ -36,7 +36,7 @@ module _ (turns tries : ℕ) (old new : Option (List ℕ)) where
   run_config_refused None fault k w = tt
   run_config_refused (Some bytes) fault k w = inl (fault, (k, w))
 
-  -- the tries were in order, so memory ran out or a worker couldn't be started
+  -- the tries were in range, so memory ran out or a worker couldn't be started
   pub run_refused : (o : Option (List ℕ)) (fault : RunFault) → fault ≢ Tries → WroteFront old new (fault_line (run_fault_text fault)) → IfSome o (λ bytes. RunFails turns tries bytes old new)
   run_refused None fault other w = tt
   run_refused (Some bytes) Tries other w = absurd (other (λ i. Tries))
@@ -57,7 +57,7 @@ module _ (turns tries : ℕ) (old new : Option (List ℕ)) where
   run_failed None config r c k points run told = tt
   run_failed (Some bytes) config r c k points run told = inr (inr (inr (r, told.0, (tells_of bytes config r c k points run, told.1))))
 
--- the end by what an audit answered is that of a history which tells the journals; with no end there is none
+-- the end, by the audit's answer: the end of a history that gives the journals, or none if there is no such history
 module _ {A : Type 0} (events : A → List Event) (start : ModelState) (journals : Machine → List Entry) (end : Option ModelState) where
   no_end : HasNoHistory start journals None → ended end ≡ ended None → EndsAsAudited start journals end
   no_end none e = subst (EndsAsAudited start journals) (sym (same_end end None e)) none

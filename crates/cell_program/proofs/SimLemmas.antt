@@ -1,4 +1,4 @@
--- What is told of a simulation.
+-- What is said of a simulation.
 use Rattle.std.proofs.Common.{◌≡◌, ◌⊎◌, inl, inr, List, ℕ, Option, Some, None, Ok, Err, IfSome, map, refl, sym, ap, ◌∙◌, subst, ⊎_elim}
 use Rattle.cell_types.specs.Journals.{journal_of}
 use Rattle.cell_rules.specs.ModelState.{ModelState}
@@ -21,7 +21,7 @@ use Rattle.cell_report.specs.declared.audit_faults.AuditFault.TheVariants.{Twice
 use Rattle.cell_program.specs.Reported.{AreFine, AuditFinds, IsAmiss, ReportTold}
 use Rattle.cell_program.specs.Served.{IsAuditOf, SimFails, TellsRunOf, WasSimulated, fault_line}
 
--- the history of a run is what an audit of its journals looks for
+-- the history of a run is one that an audit of its journals looks for
 audited_run : (c : CellScales) (opening : ModelState) (turns : List Turn) (r : RunRecord) (t : TellsRun c opening turns r) → IsAudited r.start (journal_of r.journals) r.end (events_in t.steps)
 audited_run c opening turns r t = subst (λ s. IsAudited s (journal_of r.journals) r.end (events_in t.steps)) (sym t.told.start) (record {
   legal = t.legal;
@@ -30,7 +30,7 @@ audited_run c opening turns r t = subst (λ s. IsAudited s (journal_of r.journal
   ends = subst (EndsIn _) (sym t.told.end) (sym t.reached);
 })
 
--- so the audit refuses it for want of memory alone
+-- so the audit rejects it only if memory runs out
 audit_is : (c : CellScales) (opening : ModelState) (turns : List Turn) (r : RunRecord) (audit : Option AuditFault) → TellsRun c opening turns r → AuditFinds r audit → IsAuditOf audit
 audit_is c opening turns r None t k = tt
 audit_is c opening turns r (Some (Twice s)) t k = absurd (k.1 (λ e. cc) (events_in t.steps) (audited_run c opening turns r t))
@@ -39,7 +39,7 @@ audit_is c opening turns r (Some (Differs s)) t k = absurd (k.1 (λ e. cc) (even
 audit_is c opening turns r (Some End) t k = absurd (k.1 (λ e. cc) (events_in t.steps) (audited_run c opening turns r t))
 audit_is c opening turns r (Some Memory) t k = refl
 
--- what is amiss where the audit had memory
+-- what is wrong if the audit had enough memory
 amiss_is : (r : RunRecord) (audit : Option AuditFault) → IsAuditOf audit → IsAmiss r audit → (¬ AreFine r.status) ⊎ (audit ≡ Some Memory)
 amiss_is r None k (inl h) = inl h
 amiss_is r None k (inr h) = cc

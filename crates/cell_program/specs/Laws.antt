@@ -1,4 +1,4 @@
--- What is told of runs, in figures: the statements.
+-- Laws of runs: the statements.
 use Rattle.std.specs.Prelude.{◌≡◌, ◌≢◌, ℕ, true, List, [], ◌∷◌, ◌++◌, map, Option, Some, None}
 use Rattle.cell_types.specs.declared.machine.Machine.{Machine}
 use Rattle.cell_types.specs.declared.machine.Machine.TheVariants.{Press}
@@ -24,7 +24,7 @@ use Rattle.cell_program.specs.Ran.{EndsAsAudited, TellsWorkers}
 use Rattle.cell_program.specs.Reported.{ReportTold}
 use Rattle.cell_program.specs.Served.{WasRun, WasSimulated}
 
--- no machine noted anything; and the press alone noted one entry, that it released its interior
+-- no machine noted anything; the press alone noted one entry, that it released its interior
 abbrev pub no_journals : Machine → List Entry
 no_journals m = []
 
@@ -32,24 +32,24 @@ abbrev pub press_released : Machine → List Entry
 press_released Press = record { call = Release Z3; answer = Done; stamp = 1 } ∷ []
 press_released _ = []
 
--- The end of a run is open only where no history tells its journals: it is the start where no machine noted anything, and open where the press
--- released what it never had.
+-- The end of a run is left open only if no history gives its journals. It is the start if no machine noted anything. It
+-- is left open if the press noted a release of a zone that it never held.
 pub record EndsAreFound : Type 0 where
   pub known : (start : ModelState) (journals : Machine → List Entry) (history : List Event) → IsAudited start journals None history → ¬ EndsAsAudited start journals None
   pub nothing : (start : ModelState) (end : Option ModelState) → EndsAsAudited start no_journals end → end ≡ Some start
   pub differs : (end : Option ModelState) → EndsAsAudited (start_state empty 0) press_released end → end ≡ None
 
--- in a run by six workers each machine has its turns, and no gate keeps it out
+-- in a run by six workers each machine takes its turns, and no gate keeps it out
 pub record TurnsAreTold : Type 0 where
   pub turns : (c : CellScales) (opening : ModelState) (tries limit : ℕ) (r : RunRecord) (did : Machine → Counts) (fares : Machine → Status)
       → TellsWorkers c opening tries limit r → r.counts ≡ map did all_machines → r.status ≡ map fares all_machines
       → (m : Machine) → is_at_work m ≡ true → HadTurns limit (λ turn. true) (did m) (fares m) (journal_of r.journals m) × (fares m ≢ GateLimit)
 
--- every machine fares well
+-- every machine is fine
 abbrev pub EachIsFine : RunRecord → Type 0
 EachIsFine r = (before after : List Status) (s : Status) → r.status ≡ before ++ s ∷ after → s ≡ Fine
 
--- where all went well, every machine fares well, and the audit found a history
+-- every machine is fine, and the audit found a history
 abbrev pub IsWell : RunRecord → Type 0
 IsWell r = EachIsFine r × ((history : List Event) × IsAudited r.start (journal_of r.journals) r.end history)
 

@@ -1,4 +1,4 @@
--- What is told of a run that was audited and reported.
+-- What is said of a run that was audited and reported.
 use Rattle.std.specs.Prelude.{◌≡◌, ◌≢◌, ℕ, zero, suc, List, All, ◌⊎◌, Option, Some, None}
 use Rattle.std.specs.Io.KnownBytes.{Appends}
 use Rattle.cell_types.specs.declared.answer.Event.{Event}
@@ -17,18 +17,18 @@ use Rattle.cell_report.specs.declared.audit_faults.AuditFault.TheVariants.{Memor
 abbrev pub AreFine : List Status → Type 0
 AreFine status = All (λ s. s ≡ Fine) status
 
--- what an audit of a record finds: a legal history that tells its journals and leads to its end; or, unless memory ran out, that there
--- is none, and the first cause
+-- what an audit of a record finds: a legal history that gives its journals and leads to its end; or the first fault,
+-- and then, unless memory ran out, there is no such history
 abbrev pub AuditFinds : RunRecord → Option AuditFault → Type 0
 AuditFinds r None = (history : List Event) × IsAudited r.start (journal_of r.journals) r.end history
 AuditFinds r (Some fault) = IsFault r.start (journal_of r.journals) r.end fault × (fault ≢ AuditMemory → HasNoHistory r.start (journal_of r.journals) r.end)
 
--- a machine was stopped, or the audit was refused
+-- a machine was stopped, or the audit rejected the run
 abbrev pub IsAmiss : RunRecord → Option AuditFault → Type 0
 IsAmiss r audit = (¬ AreFine r.status) ⊎ ((fault : AuditFault) × (audit ≡ Some fault))
 
--- With status 0 no machine was stopped, and the report was written, with the line that the audit found a history. Else a
--- machine was stopped or the audit was refused, and the report was written, or a front of it was.
+-- Status 0: no machine was stopped, and the report was written, with the line that the audit found a history. Status 1:
+-- a machine was stopped or the audit rejected the run, and the report was written; or only a prefix of the report was.
 abbrev pub ReportTold : ℕ → RunRecord → Option (List ℕ) → Option (List ℕ) → Type 0
 ReportTold zero r old new = AreFine r.status × (AuditFinds r None × Appends old new (report_text r None))
 ReportTold (suc n) r old new =

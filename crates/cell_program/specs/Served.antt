@@ -22,19 +22,19 @@ use Rattle.cell_program.specs.Reported.{AreFine, AuditFinds, IsAmiss}
 abbrev pub fault_line : List ℕ → List ℕ
 fault_line text = codes "fault " ++ (text ++ codes "\n")
 
--- the script that was left to read is clean, and its text was written
+-- the rest of the input is a clean script, and its text was written
 abbrev pub WasReplayed : Option (List ℕ) → Option (List ℕ) → Option (List ℕ) → Type 0
 WasReplayed remaining old new = IfSome remaining (λ bytes. Appends old new (script_text bytes) × (script_outcome bytes ≡ Clean))
 
--- The replay failed: the script was refused, as its text says, which was written whole; or a front of the text was written;
--- or some of its lines, each whole, and then a front of the line of a failed read or of want of memory.
+-- The replay failed: the script was refused, and its whole text was written, which says so; or a prefix of its text was
+-- written; or some of its lines, each whole, and then a prefix of the fault's line, for a failed read or for memory.
 abbrev pub ReplayFails : List ℕ → Option (List ℕ) → Option (List ℕ) → Type 0
 ReplayFails bytes old new =
     (Appends old new (script_text bytes) × ((fault : ScriptFault) × (script_outcome bytes ≡ Refused fault)))
     ⊎ (WroteFront old new (script_text bytes)
     ⊎ ((between : Option (List ℕ)) × (WroteLines old between (script_lines bytes) × (WroteFront between new (fault_line (codes "read")) ⊎ WroteFront between new (fault_line (codes "memory"))))))
 
--- a record tells the run of the configuration that bytes give
+-- a record is of the run of the configuration that the bytes give
 pub record TellsRunOf (bytes : List ℕ) (r : RunRecord) : Type 0 where
   pub settings : Settings
   pub said : settings_of bytes ≡ Ok settings
@@ -42,17 +42,19 @@ pub record TellsRunOf (bytes : List ℕ) (r : RunRecord) : Type 0 where
   pub points : settings.points ≡ in_order scales
   pub run : TellsRun scales settings.start settings.schedule r
 
--- the cell was simulated, no machine was stopped, and the report was written, with the line that the audit found a history
+-- the cell was simulated, no machine was stopped, and the report was written, with the line that the audit found a
+-- history
 abbrev pub WasSimulated : Option (List ℕ) → Option (List ℕ) → Option (List ℕ) → Type 0
 WasSimulated remaining old new = IfSome remaining (λ bytes. (r : RunRecord) × (TellsRunOf bytes r × (AreFine r.status × Appends old new (report_text r None))))
 
--- the audit refuses nothing but for want of memory
+-- the audit fails only if memory runs out
 abbrev pub IsAuditOf : Option AuditFault → Type 0
 IsAuditOf None = Unit
 IsAuditOf (Some fault) = fault ≡ AuditMemory
 
--- The simulation failed: the configuration was refused, or memory ran out, and a front of that fault's line was written; or
--- a machine was stopped or the audit had no memory, and the report was written; or a front of the report was.
+-- The simulation failed: the configuration was refused, or memory ran out, and a prefix of the fault's line was
+-- written; or a machine was stopped or the audit ran out of memory, and the report was written; or only a prefix of the
+-- report was.
 abbrev pub SimFails : List ℕ → Option (List ℕ) → Option (List ℕ) → Type 0
 SimFails bytes old new =
     ((fault : ConfigFault) × (Says bytes (Err fault) × WroteFront old new (fault_line (config_fault_text fault))))
@@ -60,7 +62,7 @@ SimFails bytes old new =
     ⊎ ((r : RunRecord) × (audit : Option AuditFault) × (TellsRunOf bytes r × (IsAuditOf audit
     × ((Appends old new (report_text r audit) × ((¬ AreFine r.status) ⊎ (audit ≡ Some AuditMemory))) ⊎ WroteFront old new (report_text r audit))))))
 
--- a record tells a run by six workers of the configuration that bytes give
+-- a record is of a run by six workers of the configuration that the bytes give
 pub record TellsWorkersOf (turns tries : ℕ) (bytes : List ℕ) (r : RunRecord) : Type 0 where
   pub settings : Settings
   pub said : settings_of bytes ≡ Ok settings
@@ -73,8 +75,9 @@ abbrev pub WasRun : ℕ → ℕ → Option (List ℕ) → Option (List ℕ) → 
 WasRun turns tries remaining old new =
     IfSome remaining (λ bytes. (r : RunRecord) × (TellsWorkersOf turns tries bytes r × (AreFine r.status × (AuditFinds r None × Appends old new (report_text r None)))))
 
--- The run failed: the configuration was refused, memory ran out, or a worker couldn't be started, and a front of that fault's line was
--- written; or a machine was stopped or the audit was refused, and the report was written; or a front of the report was.
+-- The run failed: the configuration was refused, memory ran out, or a worker couldn't be started, and a prefix of the
+-- fault's line was written; or a machine was stopped or the audit rejected the run, and the report was written; or only
+-- a prefix of the report was.
 abbrev pub RunFails : ℕ → ℕ → List ℕ → Option (List ℕ) → Option (List ℕ) → Type 0
 RunFails turns tries bytes old new =
     ((fault : ConfigFault) × (Says bytes (Err fault) × WroteFront old new (fault_line (config_fault_text fault))))

@@ -9,11 +9,11 @@ use std::fmt;
 use std::fmt::Display;
 use std::io::Write;
 
-/// An input was refused, a machine stopped, an audit refused, a read or a write failed, a worker couldn't
-/// be started, or memory ran out.
+/// The exit status of a failure: an input was refused, a machine stopped, an audit rejected, a read
+/// or a write failed, a worker couldn't be started, or memory ran out.
 pub const FAILED: u8 = 1;
 
-/// Prints the line of a fault, as far as the writer takes it, and answers the exit status.
+/// Prints a fault's line, as far as the writer takes it, and returns the exit status.
 pub fn fail<W: Write, D: Display + Drop>(writer: &mut W, fault: D) -> u8
     ensures status { result ≡ 1 }
     ensures line { IfSome (D.output fault) (λ text. WroteFront (W.contents writer.old) (W.contents writer.new) (fault_line text)) }
@@ -27,7 +27,7 @@ pub fn fail<W: Write, D: Display + Drop>(writer: &mut W, fault: D) -> u8
     }
 }
 
-/// The line of a fault, if it has room on a page, as that of every fault should: that is tested, not proved.
+/// A fault's line, if it fits on a page. Each fault's line fits: that is tested, not proved.
 fn fault_page<D: Display + Drop>(fault: D) -> Result<Page, fmt::Error>
     ensures { IfOk result (λ page. IfSome (D.output fault) (λ text. page ≡ fault_line text)) }
 {

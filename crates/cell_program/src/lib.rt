@@ -1,5 +1,5 @@
-//! What the program of the production cell does: by its words it replays a script, simulates the cell, or
-//! runs it by six workers.
+//! What the program of the production cell does. Its words say whether it replays a script,
+//! simulates the cell, or runs it by six workers.
 #![tactic(auto)]
 
 pub mod faults;

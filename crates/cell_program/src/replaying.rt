@@ -10,8 +10,8 @@ use cell_replay::{Outcome, ReplayFault, replay};
 use std::alloc::Global;
 use std::io::{Read, Write};
 
-/// Replays, and prints the line of a failed read or of want of memory; after a failed write nothing more is
-/// printed. Answers the exit status: 0 where all went well, else 1.
+/// Replays a script. Prints the fault's line if a read failed or memory ran out; after a failed
+/// write it prints nothing more. Returns the exit status: 0 if all went well, 1 otherwise.
 pub fn serve_replay<R: Read, W: Write>(alloc: Global, reader: &mut R, writer: &mut W) -> u8
     ensures status { result < 2 }
     ensures well { result ≡ 0 →

@@ -9,8 +9,8 @@ use cell_report::{AuditFault, audit, write_report};
 use std::alloc::Global;
 use std::io::Write;
 
-/// Audits what the machines noted in a run, and writes its report. Answers the exit status: 0 where
-/// no machine was stopped, the audit found a history and the report was written, else 1.
+/// Audits what the machines noted in a run, and writes its report. Returns the exit status: 0 if no
+/// machine was stopped, the audit found a history and the report was written, 1 otherwise.
 pub fn report<W: Write>(alloc: Global, run: &RunRecord, writer: &mut W) -> u8
     ensures status { result < 2 }
     ensures told { ReportTold result run.now (W.contents writer.old) (W.contents writer.new) }

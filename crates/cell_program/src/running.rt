@@ -1,4 +1,4 @@
-//! A run by six workers, with the state that it came to.
+//! A run by six workers, with its end.
 
 ghost use Rattle.std.specs.Prelude.{◌≡◌, ◌≢◌, ◌<◌, ◌⊎◌, ◌↔◌, IfOk, IfErr, Ok, Err, Some, None};
 ghost use Rattle.cell_types.specs.Journals.{journal_of};
@@ -20,12 +20,12 @@ use std::alloc::Global;
 use std::sync::Wait;
 use std::thread::Threads;
 
-/// Runs a cell that was made for a start by six workers, as `run_workers` does, and audits what they noted.
-/// The record's end is the state that the audited events lead to from the start; it is left open where
-/// the audit finds no history.
+/// Runs a cell that was made for a start by six workers, as `run_workers` does, and audits what
+/// they noted. The record's end is the state to which the audited events lead from the start. It is
+/// left open if the audit finds no history.
 ///
-/// The refusals are those of `run_workers`. `Memory` comes too where the audit had no room; then all
-/// workers have come to their ends.
+/// The errors are those of `run_workers`. It is also `Memory` if the audit ran out of memory; then
+/// all workers have ended.
 pub fn run_cell<R, F1, F2, F3, F4, F5, G>(
     rt: &R,
     alloc: Global,
@@ -54,8 +54,9 @@ where
     with_end(alloc, run)
 }
 
-/// A run whose end was left open, with its end: the state that the audited events lead to from the start, or
-/// `None` where no legal history tells the journals. `Memory` where the audit had no room, and no other fault.
+/// Fills in the end of a run that was left open: the state to which the audited events lead from
+/// the start, or `None` if no legal history gives the journals. The only error is `Memory`, if the
+/// audit runs out of memory.
 pub fn with_end(alloc: Global, run: RunRecord) -> Result<RunRecord, RunFault>
     requires open { run.end ≡ None }
     ensures rest { IfOk result (λ r. but_end r ≡ run) }
@@ -67,7 +68,8 @@ pub fn with_end(alloc: Global, run: RunRecord) -> Result<RunRecord, RunFault>
     Ok(RunRecord { end, ..run })
 }
 
-/// The end by what an audit answered: the state after its events, or none. Want of memory alone is a fault.
+/// The end, by the audit's answer: the state after its events, or none. Only running out of memory
+/// is a fault.
 fn end_of(start: &State, audited: Result<Vec<Event>, AuditFault>) -> Result<Option<State>, RunFault>
     ensures found { IfOk audited (λ events. result ≡ Ok (Some (after start.now events.items))) }
     ensures memory { audited ≡ Err AuditFault.Memory → result ≡ Err RunFault.Memory }
@@ -80,7 +82,7 @@ fn end_of(start: &State, audited: Result<Vec<Event>, AuditFault>) -> Result<Opti
     }
 }
 
-/// The state that events lead to, one after another.
+/// The state to which events lead, in this order.
 fn state_after(start: &State, events: &[Event]) -> State
     ensures { result ≡ after start.now events.now }
 {

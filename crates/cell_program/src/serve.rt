@@ -21,16 +21,18 @@ use std::io::{Read, Write};
 use std::sync::Wait;
 use std::thread::Threads;
 
-/// All went well, or help was asked for.
+/// The exit status if all went well, or for help.
 const WELL: u8 = 0;
 
-/// The words were refused.
+/// The exit status for refused words.
 const REFUSED: u8 = 2;
 
-/// Does what the words ask for, of which the first is the program's name, and answers the exit status:
-/// 0 where all went well and for help; 1 for a refused input, a machine that was stopped, a refused
-/// audit, a failed read or write, a worker that couldn't be started and want of memory; 2 for words
-/// that `clap` refuses. For the word `run` it waits until all workers have come to their ends.
+/// Does what the words ask for, and returns the exit status. The first word is the program's name.
+/// For the word `run` it waits until all workers have ended. The status is
+/// - 0 if all went well, and for help;
+/// - 1 for a refused input, a stopped machine, a rejected audit, a failed read or write, a worker
+///   that couldn't be started, and if memory ran out;
+/// - 2 for words that `clap` refuses.
 pub fn serve<T, R: Read, W: Write>(
     rt: &T,
     alloc: Global,
@@ -42,39 +44,41 @@ where
     T: Threads + Wait + Sync,
     ensures status { result ≤ 2 }
 
-    // With the program's name alone, or with the word `replay` behind it, 2 doesn't come. Status 0 says
-    // that the script was clean and its text was written, status 1 what was written of it.
+    // With the program's name alone, or with the word `replay` after it, the status is 0 or 1.
+    // Status 0 says that the script was clean and its text was written. Status 1 says what was
+    // written of it.
     ensures replay { AskForReplay (map (λ w. w.now) words.now) → result < 2 }
     ensures replayed { AskForReplay (map (λ w. w.now) words.now) → result ≡ 0 →
         WasReplayed (R.remaining reader.old) (W.contents writer.old) (W.contents writer.new) }
     ensures replay_fails { AskForReplay (map (λ w. w.now) words.now) → result ≡ 1 →
         IfSome (R.remaining reader.old) (λ bytes. ReplayFails bytes (W.contents writer.old) (W.contents writer.new)) }
 
-    // With the word `sim` behind the name, 2 doesn't come. Status 0 says that the run was simulated and
-    // audited, that no machine was stopped and that the report was written, status 1 what was written.
+    // With the word `sim` after the name, the status is 0 or 1. Status 0 says that the run was
+    // simulated and audited, no machine was stopped and the report was written. Status 1 says what
+    // was written.
     ensures sim { AskForSim (map (λ w. w.now) words.now) → result < 2 }
     ensures simulated { AskForSim (map (λ w. w.now) words.now) → result ≡ 0 →
         WasSimulated (R.remaining reader.old) (W.contents writer.old) (W.contents writer.new) }
     ensures sim_fails { AskForSim (map (λ w. w.now) words.now) → result ≡ 1 →
         IfSome (R.remaining reader.old) (λ bytes. SimFails bytes (W.contents writer.old) (W.contents writer.new)) }
 
-    // With words that `clap` takes and that have the word `run` behind the name, 2 doesn't come. Status 0
-    // says that six workers ran the cell, that no machine was stopped, that an audit found a history and
-    // that the report was written, status 1 what was written.
+    // With words that `clap` takes and with `run` after the name, the status is 0 or 1. Status 0
+    // says that six workers ran the cell, no machine was stopped, an audit found a history and the
+    // report was written. Status 1 says what was written.
     ensures run { (turns tries : ℕ) → AskForRun turns tries (map (λ w. w.now) words.now) → result < 2 }
     ensures ran { (turns tries : ℕ) → AskForRun turns tries (map (λ w. w.now) words.now) → result ≡ 0 →
         WasRun turns tries (R.remaining reader.old) (W.contents writer.old) (W.contents writer.new) }
     ensures run_fails { (turns tries : ℕ) → AskForRun turns tries (map (λ w. w.now) words.now) → result ≡ 1 →
         IfSome (R.remaining reader.old) (λ bytes. RunFails turns tries bytes (W.contents writer.old) (W.contents writer.new)) }
 
-    // Status 0 comes for no words but those that `clap` takes and those that ask for help, and status 2
-    // for none that it takes.
+    // Status 0 comes only for words that `clap` takes and for words that ask for help. Status 2
+    // never comes for words that it takes.
     ensures taken { result ≡ 0 →
         AreTaken (map (λ w. w.now) words.now) ⊎ AskForHelp (map (λ w. w.now) words.now) }
     ensures refused { AreTaken (map (λ w. w.now) words.now) → result < 2 }
 
-    // No more is taken from the input than a script may have, and one byte; for a simulation and for a run,
-    // than a configuration may have, and one byte.
+    // At most one byte more is read than a script may have; for a simulation and a run, at most one
+    // byte more than a configuration may have.
     ensures read { TakesAtMost (R.remaining reader.old) (R.remaining reader.new) most_bytes_read }
     ensures read_sim { AskForSim (map (λ w. w.now) words.now) →
         TakesAtMost (R.remaining reader.old) (R.remaining reader.new) settings.most_bytes_read }
@@ -89,7 +93,7 @@ where
     }
 }
 
-/// Prints that the program's words aren't text, and answers the exit status.
+/// Prints that the program's words aren't text, and returns the exit status.
 pub fn refuse_bytes<W: Write>(writer: &mut W) -> u8
     ensures { result ≡ 2 }
 {
@@ -98,7 +102,7 @@ pub fn refuse_bytes<W: Write>(writer: &mut W) -> u8
     REFUSED
 }
 
-/// Prints why the words were refused, or help, and answers the exit status.
+/// Prints why the words were refused, or help, and returns the exit status.
 fn refuse<W: Write>(error: clap::Error, writer: &mut W) -> u8
     ensures status { result ≤ 2 }
     ensures help { result ≡ 0 → kind_of error ≡ ErrorKind.DisplayHelp }

@@ -22,20 +22,20 @@ use std::io::{Read, Write};
 /// The lines of the five potentiometers.
 #[derive(Clone, Copy)]
 pub struct Lines {
-    /// That of the first arm.
+    /// The first arm's.
     pub arm1: Points,
-    /// That of the second arm.
+    /// The second arm's.
     pub arm2: Points,
-    /// That of the robot's rotation.
+    /// The robot's rotation's.
     pub rotation: Points,
-    /// That of the table's rotation.
+    /// The table's rotation's.
     pub turn: Points,
-    /// That of the gripper's height.
+    /// The gripper's height's.
     pub gripper: Points,
 }
 
-/// Simulates the cell by the configuration that is read, audits what its machines noted, and writes
-/// the report, or prints a fault. Answers the exit status: 0 where all went well, else 1.
+/// Simulates the cell by the configuration that it reads, audits what the machines noted, and
+/// writes the report, or prints a fault. Returns the exit status: 0 if all went well, 1 otherwise.
 pub fn serve_sim<R: Read, W: Write>(alloc: Global, reader: &mut R, writer: &mut W) -> u8
     ensures status { result < 2 }
     ensures well { result ≡ 0 →
@@ -54,7 +54,7 @@ pub fn serve_sim<R: Read, W: Write>(alloc: Global, reader: &mut R, writer: &mut 
     }
 }
 
-/// The run of a configuration, with each closure over its line.
+/// Runs a configuration's schedule, with a closure over each of its lines.
 pub fn simulated(alloc: Global, config: &Config) -> Result<RunRecord, SimFault>
     requires start { IsStartState config.now.start }
     requires points { AreAxisScales config.now.points }
@@ -84,7 +84,7 @@ pub fn simulated(alloc: Global, config: &Config) -> Result<RunRecord, SimFault>
     )
 }
 
-/// The run of a schedule, with these closures.
+/// Runs a schedule, with these closures.
 fn simulate_by<F1: Gauge, F2: Gauge, F3: Gauge, F4: Gauge, F5: Gauge>(
     alloc: Global,
     gauges: (F1, F2, F3, F4, F5),
@@ -104,8 +104,8 @@ fn simulate_by<F1: Gauge, F2: Gauge, F3: Gauge, F4: Gauge, F5: Gauge>(
     simulate(alloc, cell_by(gauges, lines, &start), start, schedule)
 }
 
-/// The cell at its start, with these closures. A calibration is named only where the closure's type is a
-/// parameter.
+/// The cell at its start, with these closures. A calibration can only be named where the closure's
+/// type is a parameter.
 pub(crate) fn cell_by<F1: Gauge, F2: Gauge, F3: Gauge, F4: Gauge, F5: Gauge>(
     gauges: (F1, F2, F3, F4, F5),
     lines: Lines,

@@ -12,8 +12,8 @@ use std::io::{ErrorKind, Read, Write};
 use std::sync::Wait;
 use std::thread::Threads;
 
-/// Serves the words that the program was started with, its input and its output, and answers the exit
-/// status. Words that aren't text are refused before `clap` sees them.
+/// Runs the program with the words that it was started with, its input and its output, and returns
+/// the exit status. Words that aren't text are refused before `clap` sees them.
 pub fn start<T, E: Env, R: Read, W: Write>(
     rt: &T,
     alloc: Global,
@@ -32,7 +32,7 @@ where
     }
 }
 
-/// Serves words that are text.
+/// Runs the program with words that are text.
 fn serve_words<T, E: Env, R: Read, W: Write>(
     rt: &T,
     alloc: Global,

@@ -24,8 +24,9 @@ use std::io::{Read, Write};
 use std::sync::Wait;
 use std::thread::Threads;
 
-/// Runs the cell by the configuration that is read, each machine by a worker of its own, audits what they
-/// noted, and writes the report, or prints a fault. Answers the exit status: 0 where all went well, else 1.
+/// Runs the cell by the configuration that it reads, each machine by its own worker, audits what
+/// they noted, and writes the report, or prints a fault. Returns the exit status: 0 if all went
+/// well, 1 otherwise.
 pub fn serve_run<T, R: Read, W: Write>(
     rt: &T,
     alloc: Global,
@@ -55,8 +56,8 @@ where
     }
 }
 
-/// The run of a configuration by six workers, with each closure over its line, and a gate that is always
-/// open. The schedule isn't used.
+/// Runs a configuration by six workers, with a closure over each of its lines, and a gate that is
+/// always open. Its schedule isn't used.
 pub fn ran<T>(
     rt: &T,
     alloc: Global,

@@ -10,8 +10,8 @@ use std::io::ErrorKind;
 use std::sync::Wait;
 use std::thread::Threads;
 
-/// Arguments, of which the first is the program's own name, and the words that they are. Whatever the
-/// name is, `cell` stands for it.
+/// Arguments, and the words that they are. The first argument is the program's own name; whichever
+/// it is, the word is `cell`.
 const WORDS: &[(&[&[u8]], &[&str])] = &[
     (&[b"./cell", b"sim"], &["cell", "sim"]),
     (&[b"bad\xff", b"sim"], &["cell", "sim"]),
@@ -22,7 +22,7 @@ const WORDS: &[(&[&[u8]], &[&str])] = &[
     (&[b"cell", b"", b"\xc3\xa9"], &["cell", "", "\u{e9}"]),
 ];
 
-/// Arguments with a word behind the name that isn't UTF-8.
+/// Arguments with a word after the name that isn't UTF-8.
 const NO_TEXT: &[&[&[u8]]] = &[
     &[b"cell", b"\xff", b"sim"],
     &[b"cell", b"sim", b"bad\xff"],
@@ -44,7 +44,7 @@ fn reads_the_words_behind_the_name(rt: HostRuntime) {
     }
 }
 
-/// Whether arguments are refused since one of them is no text.
+/// Whether arguments are refused because one of them isn't text.
 fn is_refused(alloc: Global, arguments: &[&[u8]]) -> bool {
     match words_of(alloc, &Given { arguments }) {
         Ok(_) => false,
@@ -59,7 +59,7 @@ fn refuses_words_that_are_no_text(rt: HostRuntime) {
     }
 }
 
-/// Whether the program, started with these arguments, answers this input with this status and this text.
+/// Whether the program, started with these arguments, answers the input with this status and text.
 fn is_started<T: Threads + Wait + Sync>(
     rt: &T,
     alloc: Global,

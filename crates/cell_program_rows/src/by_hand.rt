@@ -1,4 +1,5 @@
-//! A simulation and a run by six workers whose closures are made here, by the calls that the program makes.
+//! A simulation and a run by six workers, made by the program's own calls, but with closures from
+//! here.
 
 ghost use Rattle.cell_config.specs.Configured.{AreAxisScales};
 ghost use Rattle.cell_parts.specs.Axes.{AreCellScales};
@@ -18,12 +19,12 @@ use std::alloc::Global;
 use std::sync::Wait;
 use std::thread::Threads;
 
-/// How a cell is set going.
+/// How a cell is run.
 #[derive(Clone, Copy, PartialEq, Eq, Debug)]
 enum Way {
     /// By the schedule of the configuration.
     Simulated,
-    /// By six workers with three turns each, which may be overtaken 64 times.
+    /// By six workers with three turns each; each call may lose 64 exchanges.
     Run,
 }
 

@@ -15,7 +15,7 @@ fn axis(raw_lo: u16, raw_hi: u16, end: i32, tol: i32) -> Result<Points, Fail> {
     Ok(Points::new(raw_lo, raw_hi, 0, end, tol)?)
 }
 
-/// What the fault line says of a text behind `fault`, or `well`.
+/// What the fault line says of a text after `fault`, or `well`.
 fn judged(alloc: Global, bytes: &[u8]) -> &'static str {
     let mut reader = bytes;
     match read(alloc, &mut reader) {
@@ -24,14 +24,14 @@ fn judged(alloc: Global, bytes: &[u8]) -> &'static str {
     }
 }
 
-/// Each text is judged so.
+/// Checks how each text is judged.
 fn are_judged(rt: &impl Abort, alloc: Global, rows: &[(&str, &str)]) {
     for (text, wanted) in rows {
         assert!(rt; judged(alloc, text.as_bytes()) == *wanted, "{text}");
     }
 }
 
-/// Each text is judged so behind a good start.
+/// Checks how each text is judged after a good start.
 fn are_judged_beside_start(
     rt: &impl Abort,
     alloc: Global,
@@ -175,7 +175,7 @@ fn accepts_limits(rt: HostRuntime) -> Result<(), Fail> {
     Ok(are_judged_beside_start(&rt, rt.alloc(), LIMITS)?)
 }
 
-// The forms of TOML 1.1, and where it ends.
+// The forms of TOML 1.1, and their limits.
 const FORMS: &[(&str, &str)] = &[
     ("stamp = 0x_7", "config text"),
     ("stamp = 0xF_F", "well"),
@@ -213,7 +213,7 @@ fn reads_the_forms_of_toml(rt: HostRuntime) -> Result<(), Fail> {
     Ok(are_judged_beside_start(&rt, rt.alloc(), FORMS)?)
 }
 
-/// How a value of so many arrays, one in another, is judged.
+/// The judgement of a value with this depth of nested arrays.
 fn judged_nested(rt: &impl Abort, alloc: Global, depth: usize) -> &'static str {
     let text = String::from_str(alloc, "start = \"0000000000\"\narm1.raw = ");
     let mut text = text.expect(rt, "memory");
@@ -255,7 +255,7 @@ fn gives_defaults(rt: HostRuntime) -> Result<(), Fail> {
         ],
     };
     assert!(rt; is_read_as(alloc, "start = \"0000000000\"", &wanted));
-    // A byte order mark at the head is dropped.
+    // A byte order mark at the beginning is dropped.
     assert!(rt; is_read_as(alloc, "\u{feff}start = \"0000000000\"\n", &wanted));
     Ok(())
 }
@@ -294,7 +294,7 @@ fn gives_what_is_written(rt: HostRuntime) -> Result<(), Fail> {
     Ok(())
 }
 
-/// The turns of the letters `ftrpdcFTRPDC`: in the last six the machine is told Busy.
+/// The turns of the letters `ftrpdcFTRPDC`: in the last six the machine gets Busy.
 const LETTERED: &[(Machine, bool)] = &[
     (Machine::Feed, false),
     (Machine::Table, false),
@@ -310,7 +310,7 @@ const LETTERED: &[(Machine, bool)] = &[
     (Machine::Crane, true),
 ];
 
-/// How many turns are as lettered, each in its place.
+/// The number of turns that agree with their letters, each in its place.
 fn lettered(turns: &[Turn]) -> u32 {
     let mut right = 0u32;
     for (turn, (machine, busy)) in turns.iter().zip(LETTERED) {
@@ -329,7 +329,7 @@ fn reads_letters(rt: HostRuntime) {
     assert!(rt; lettered(config.schedule.as_slice()) == 12);
 }
 
-/// How many turns a schedule of so many times the same letter gives, or its fault.
+/// The number of turns that a schedule of one repeated letter gives, or its fault.
 fn count_turns(
     rt: &impl Abort,
     alloc: Global,
@@ -348,7 +348,7 @@ fn count_turns(
     }
 }
 
-// A letter, how often it stands in the schedule, and how many turns that gives.
+// A letter, how often the schedule has it, and the number of turns that it gives.
 const COUNTED: &[(&str, u32, Result<usize, ConfigFault>)] = &[
     ("p", 1_000_000, Ok(1_000_000)),
     ("p", 1_000_001, Err(ConfigFault::Range)),
@@ -366,7 +366,7 @@ fn counts_letters(rt: HostRuntime) {
     }
 }
 
-/// A start with so many spaces behind it, and then this.
+/// A start, then this number of spaces, and then the last text.
 fn spaced(rt: &impl Abort, alloc: Global, spaces: u32, last: &str) -> String {
     let mut text = String::from_str(alloc, "start = \"0000000000\"\n").expect(rt, "memory");
     for _ in 0..spaces {
@@ -376,7 +376,7 @@ fn spaced(rt: &impl Abort, alloc: Global, spaces: u32, last: &str) -> String {
     text
 }
 
-/// Whether a text is too long, and all of it but this is read.
+/// Whether a text is refused as too long, and all of it but this rest is read.
 fn is_read_up_to(alloc: Global, text: &str, rest: &str) -> bool {
     let mut reader = text.as_bytes();
     let fault = read(alloc, &mut reader).err();

@@ -1,5 +1,5 @@
-//! The calls of the rows, and what they are made with: readers and writers that fail or are interrupted,
-//! and an environment with given arguments.
+//! The calls of the rows, and what they need: readers and writers that fail or are interrupted, and
+//! an environment with given arguments.
 
 use cell_config::{Config, ConfigFault, read_config};
 use cell_program::serve::serve;
@@ -10,7 +10,8 @@ use std::io::{ErrorKind, Read, Write};
 use std::sync::Wait;
 use std::thread::Threads;
 
-/// The exit status of a run of the program. It has no clauses, so that no row carries those of `serve`.
+/// The exit status of a run of the program. It has no clauses, so the rows don't carry those of
+/// `serve`.
 pub fn run<T: Threads + Wait + Sync, R: Read, W: Write>(
     rt: &T,
     alloc: Global,
@@ -35,12 +36,12 @@ pub fn is_served<T: Threads + Wait + Sync>(
     answered == status && written.as_slice() == text.as_bytes()
 }
 
-/// The configuration that a reader gives, or its first fault, likewise without clauses.
+/// The configuration that a reader gives, or its first fault; also without clauses.
 pub fn read<R: Read>(alloc: Global, reader: &mut R) -> Result<Config, ConfigFault> {
     read_config(alloc, reader)
 }
 
-/// Gives so many bytes of a text, one at a time, and then fails.
+/// Gives `left` bytes of a text, one at a time, and then fails.
 #[derive(Drop)]
 pub struct FailingReader<'a> {
     pub bytes: &'a [u8],
@@ -67,7 +68,7 @@ impl Read for FailingReader<'_> {
     }
 }
 
-/// Gives a text, at most seven bytes at a time, and is interrupted before each part and before the end.
+/// Gives a text, at most seven bytes at a time, and is interrupted before each part and the end.
 #[derive(Drop)]
 pub struct InterruptedReader<'a> {
     pub bytes: &'a [u8],
@@ -88,7 +89,7 @@ impl Read for InterruptedReader<'_> {
     }
 }
 
-/// Takes so many bytes, at most three at a time, and then fails, or takes none.
+/// Takes a number of bytes, at most three at a time, and then fails, or takes none.
 #[derive(Drop)]
 pub struct FailingWriter {
     pub taken: Vec<u8>,
@@ -142,7 +143,7 @@ impl Write for InterruptedWriter {
     }
 }
 
-/// Takes all bytes, and fails when it is to hand them on.
+/// Takes all bytes, and fails at a flush.
 #[derive(Drop)]
 pub struct UnflushedWriter {
     pub taken: Vec<u8>,
@@ -159,7 +160,7 @@ impl Write for UnflushedWriter {
     }
 }
 
-/// An environment with these arguments, of which the first is the program's own name.
+/// An environment with these arguments; the first is the program's own name.
 #[derive(Clone, Copy)]
 pub struct Given<'a> {
     pub arguments: &'a [&'a [u8]],

@@ -1,4 +1,4 @@
-//! The ends of runs, by what their journals tell.
+//! The ends of runs, by their journals.
 
 use cell_notes::{Counts, RunRecord, Status};
 use cell_program::running::with_end;
@@ -21,7 +21,8 @@ const PRESS_RELEASES: Note = (Machine::Press, Call::Release(Zone::Z3), DONE, 3);
 
 const HELD: Answer = Answer::Refused(Refusal::Held(Machine::Press));
 
-// Notes, and whether one history tells them: else a stamp comes twice, one is left out, or an answer differs.
+// Notes, and whether one history gives them. Otherwise a stamp comes twice, one is left out, or an
+// answer differs.
 const ROWS: &[(&[Note], bool)] = &[
     (&[], true),
     (&[PRESS_CLAIMS, TABLE_CLAIMS, PRESS_RELEASES], true),
@@ -56,7 +57,7 @@ const ROWS: &[(&[Note], bool)] = &[
     ),
 ];
 
-// The journals that notes make.
+// The journals with these notes.
 fn journals_of(alloc: Global, notes: &[Note]) -> Result<Journals, AllocError> {
     let mut journals = Journals::new(alloc);
     for (machine, call, answer, stamp) in notes {
@@ -74,7 +75,7 @@ fn journals_of(alloc: Global, notes: &[Note]) -> Result<Journals, AllocError> {
     Ok(journals)
 }
 
-// The end of a run from a start without plates that has these journals.
+// The end of a run from a start without plates with these journals.
 fn end_of(alloc: Global, start: State, journals: Journals) -> Result<Option<State>, RunFault> {
     let run = RunRecord {
         start,
@@ -87,7 +88,7 @@ fn end_of(alloc: Global, start: State, journals: Journals) -> Result<Option<Stat
     Ok(with_end(alloc, run)?.end)
 }
 
-// The state to which notes lead that stand in the order of a history, if they tell one.
+// The state to which notes in the order of a history lead, if a history gives them.
 fn reached(start: State, notes: &[Note], is_told: bool) -> Option<State> {
     let mut state = start;
     for (machine, call, _, _) in notes {

@@ -1,4 +1,4 @@
-//! Runs by six workers that have to pass a gate: which turns each machine takes, and for which it asks.
+//! Runs by six workers with a gate: which turns each machine takes, and for which it asks.
 ghost use Rattle.std.specs.Prelude.{IfOk, pos, ◌≤◌, ◌<ℤ◌, ◌≤ℤ◌};
 ghost use Rattle.cell_calib.specs.Line.{IsReading};
 ghost use Rattle.cell_parts.specs.Axes.{IsAxisScale, arm_end, rotation_end, turn_end};
@@ -74,7 +74,7 @@ where
     run_cell(rt, alloc, cell, start, 8, turns, gate)
 }
 
-// A run of a cell without plates from this stamp on, whose closures count their calls.
+// A run of a cell without plates from this stamp on; its closures count their calls.
 fn run_counted<R: Threads + Wait + Sync>(
     rt: &R,
     alloc: Global,
@@ -112,10 +112,12 @@ fn counted(calls: &AtomicU64, points: Points, raw: u16) -> i32
     line_at(&points, raw)
 }
 
-/// How many turns each worker has at most, and how many the gate lets each machine begin.
+/// The greatest number of turns of each worker, and the number that the gate lets each machine
+/// begin.
 type Row = (u32, [u32; 6]);
 
-// All machines are let in, and all work at once; none is; each alone is shut out at some turn; each at another.
+// All machines are let in, and all work at once; none is let in; each machine alone is shut out at
+// some turn; each machine is shut out at another turn.
 const ROWS: &[Row] = &[
     (0, [6; 6]),
     (1, [6; 6]),
@@ -130,7 +132,8 @@ const ROWS: &[Row] = &[
     (6, [5, 4, 3, 2, 1, 0]),
 ];
 
-// How a machine fares, and for which turns it has asked, by how many of its turns it was let in.
+// A machine's status, and the turns for which it has asked, by the number of turns that it was let
+// in.
 fn fares(let_in: u32, turns: u32) -> (Status, u64) {
     let status = if let_in < turns {
         Status::GateLimit
@@ -141,7 +144,8 @@ fn fares(let_in: u32, turns: u32) -> (Status, u64) {
     (status, NOTES.get(asked as usize).copied().unwrap_or(0))
 }
 
-// Whether each machine takes just the turns that it is let in, and asks for these and the next one, once each.
+// Whether each machine takes exactly the turns that it is let in, and asks for these and the next
+// one, once each.
 fn is_gated<R: Threads + Wait + Sync>(rt: &R, alloc: Global, row: &Row) -> Result<bool, Fail> {
     let (turns, lets) = *row;
     let gate = Doorkeeper::new(lets, lets == [6; 6]);
@@ -170,7 +174,8 @@ fn gates_let_machines_in(rt: HostRuntime) -> Result<(), Fail> {
     Ok(())
 }
 
-// At the last stamp the machines that claim first are worn in their first turn, and ask for no other.
+// With the last stamp the machines that claim first are worn in their first turn, and don't ask
+// again.
 #[test]
 fn worn_machines_ask_no_more(rt: HostRuntime) -> Result<(), Fail> {
     let gate = Doorkeeper::new([9; 6], false);

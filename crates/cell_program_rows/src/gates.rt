@@ -1,27 +1,27 @@
-//! A gate that machines have to pass, and what it notes of them.
+//! A gate that counts: which turns it lets machines begin, and what it notes of them.
 ghost use Rattle.std.specs.Prelude.{◌<◌};
 
 use cell_types::Machine;
 use cell_workers::Gate;
 use std::sync::atomic::{AtomicU64, Ordering};
 
-/// For how many turns a machine asks, as the gate notes it: none, turn 0, turns 0 and 1, and so on, each once and
-/// in this order.
+/// A machine's asks as the gate notes them: for no turn, for turn 0, for turns 0 and 1, and so on,
+/// each once and in this order.
 pub const NOTES: [u64; 8] = [0, 1, 12, 123, 1234, 12_345, 123_456, 1_234_567];
 
-/// Lets each machine begin so many turns, and notes for which it asked. Where it lets all six begin as many, it
-/// lets none begin a turn before all six ask for theirs, as long as a machine waits for that.
+/// Lets each machine begin a number of turns, and notes the turns for which it asked. If `meets` is
+/// set, a machine may begin a turn once all six have asked for it; it waits for a bounded time.
 #[derive(Drop)]
 pub struct Doorkeeper {
     // How many turns each machine may begin. The watch has none.
     lets: [u32; 7],
-    // Whether the machines wait for each other.
+    // Whether the machines wait for one another.
     meets: bool,
-    // The turns for which each machine has asked, a digit each: 1 for turn 0.
+    // The turns for which each machine has asked, one digit each: 1 for turn 0.
     asked: [AtomicU64; 7],
-    /// How often each closure was called.
+    /// The number of calls of each closure.
     pub calls: [AtomicU64; 5],
-    // That number when its machine asked, a digit each: 1 for none.
+    // That number at each ask of its machine, one digit each: 1 for none.
     found: [AtomicU64; 5],
 }
 
@@ -37,15 +37,15 @@ impl Doorkeeper {
         }
     }
 
-    /// Whether the six machines have asked for these turns and the watch for none, and each closure was called
-    /// once between two of its machine's asks.
+    /// Whether the six machines have asked for these turns and the watch for none, and each closure
+    /// was called once between two asks of its machine.
     pub fn has_noted(&self, notes: &[u64; 6]) -> bool {
         let [feed, table, robot, press, deposit, crane] = *notes;
         are_noted(&self.asked, &[feed, table, robot, press, deposit, crane, 0])
             && are_noted(&self.found, &[robot, robot, robot, table, crane])
     }
 
-    // Whether all six have asked for this turn, once each for every turn up to it.
+    // Whether all six have asked for this turn, once for each turn up to it.
     fn are_all_at(&self, turn: u32) -> bool {
         match NOTES.get(turn as usize + 1) {
             Some(wanted) => self.asked[..6]
@@ -71,15 +71,15 @@ fn five_zeros() -> [AtomicU64; 5] {
     [zero(), zero(), zero(), zero(), zero()]
 }
 
-// Adds a digit. A note is its machine's own, so no other thread writes it.
+// Adds a digit. Only a machine's own thread writes its note.
 fn note(notes: &AtomicU64, digit: u64) {
     let before = notes.load(Ordering::SeqCst);
     let after = before.wrapping_mul(10).wrapping_add(digit);
     notes.store(after, Ordering::SeqCst);
 }
 
-// The closures by which a machine reads: those of the first arm, the second arm, the robot's rotation, the
-// table's rotation and the gripper's height.
+// A machine's closures, by number: the first arm's, the second arm's, the robot's rotation's, the
+// table's rotation's and the gripper's height's.
 fn closures_of(machine: Machine) -> &'static [usize] {
     match machine {
         Machine::Robot => &[0, 1, 2],
@@ -89,7 +89,7 @@ fn closures_of(machine: Machine) -> &'static [usize] {
     }
 }
 
-// The place of a machine in the order of reports.
+// A machine's place in the order of reports.
 fn place_of(machine: Machine) -> usize
     ensures { result < 7 }
 {

@@ -1,6 +1,6 @@
-//! Rows of the program: what it answers and writes, with expectations that were worked out apart from it:
-//! by hand from the rules of the cell and from its formats, those of long runs by another program. They use
-//! public calls alone.
+//! Rows of the program: what it answers and writes. The expectations were worked out apart from it:
+//! by hand from the rules of the cell and from the formats; those of long runs by another program.
+//! They use public calls only.
 #![tactic(auto)]
 
 #[cfg(test)]

@@ -1,4 +1,4 @@
-//! Runs of the program in which a growth is refused, whichever it is.
+//! Runs of the program in which one allocation fails, whichever it is.
 
 use super::doubles::run;
 use super::reports::EMPTY;
@@ -7,8 +7,8 @@ use std::alloc::Global;
 use std::sync::Wait;
 use std::thread::Threads;
 
-// Words, an input, what the text ends with where there is room for all, and the fault lines of which one
-// may stand in its place. Within three turns every machine asks.
+// Words, an input, the end of the text if memory suffices, and the fault lines, of which one may
+// come instead. Within three turns every machine asks.
 const ROWS: &[(&[&str], &str, &str, &[&str])] = &[
     (&["cell"], SCRIPT, TEXT, &["fault memory\n"]),
     (
@@ -25,13 +25,13 @@ const ROWS: &[(&[&str], &str, &str, &[&str])] = &[
     ),
 ];
 
-// Whether a text is a report of want of memory: that of a machine or of the audit.
+// Whether a text is a report that memory ran out, for a machine or for the audit.
 fn tells_want(written: &[u8]) -> bool {
     written.starts_with(b"start 0000000000 0\n")
         && written.windows(6).any(|part| part == b"memory".as_slice())
 }
 
-// Whether the program writes the whole text, or tells want of memory.
+// Whether the program writes the whole text, or says that memory ran out.
 fn is_right<T: Threads + Wait + Sync>(
     rt: &T,
     alloc: Global,

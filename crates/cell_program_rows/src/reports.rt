@@ -1,10 +1,10 @@
-//! Reports of runs, worked out by hand from the programs of the controllers and the figures of the plant;
-//! those of long runs of six machines were made by `bench/plain/sim.rs`.
+//! Reports of runs. They were worked out by hand from the programs of the controllers and the
+//! numbers of the plant; those of long runs of six machines were made by `bench/plain/sim.rs`.
 
 /// The configuration of a run of the press alone.
 pub const PRESS: &str = "start = \"0000000000\"\nschedule = \"ppppppppppppppppppppppppppppppp\"\n";
 
-/// Where neither table nor press has moved.
+/// The report if neither table nor press has moved.
 pub const STILL: &str = "\
 start 0000000000 0
 feed turns 0 done 0 read 0 refused 0 busy 0 ok
@@ -25,7 +25,7 @@ stamp 0 plates 0
 audit ok
 ";
 
-/// Where the press's call found the interlock busy.
+/// The report if the press's call found the interlock busy.
 pub const BUSY: &str = "\
 start 0000000000 0
 feed turns 0 done 0 read 0 refused 0 busy 0 ok
@@ -46,7 +46,7 @@ stamp 0 plates 0
 audit ok
 ";
 
-/// Where the table waits for the feed belt's plate.
+/// The report if the table waits for the feed belt's plate.
 pub const WAITS: &str = "\
 start 0000000000 0
 feed turns 0 done 0 read 0 refused 0 busy 0 ok
@@ -67,7 +67,7 @@ stamp 5 plates 0
 audit ok
 ";
 
-/// Where the table has gone to the top, and waits for the robot to take its plate.
+/// The report if the table has gone to the top, and waits for the robot to take its plate.
 pub const HANDS_OVER: &str = "\
 start 0010000000 0
 feed turns 0 done 0 read 0 refused 0 busy 0 ok
@@ -88,7 +88,7 @@ stamp 5 plates 1
 audit ok
 ";
 
-/// Where the press has gone to its middle, opened its interior and given it up.
+/// The report if the press has gone to its middle, opened its interior and released it.
 pub const PRESS_REPORT: &str = "\
 start 0000000000 0
 feed turns 0 done 0 read 0 refused 0 busy 0 ok
@@ -109,7 +109,7 @@ stamp 4 plates 0
 audit ok
 ";
 
-/// Where the last stamp stops the table before its first call is done.
+/// The report if the last stamp stops the table before its first call is done.
 pub const WORN: &str = "\
 start 0000000000 1048575
 feed turns 0 done 0 read 0 refused 0 busy 0 ok
@@ -130,8 +130,8 @@ stamp 1048575 plates 0
 audit ok
 ";
 
-/// Where table and press have taken 10,000 turns each, by turns: both wait for the robot, the table from its
-/// 37th turn on, the press from its 31st.
+/// The report after 10,000 turns each of table and press, one after the other. Both wait for the
+/// robot, the table from its 37th turn on, the press from its 31st.
 pub const LONG: &str = "\
 start 0010000000 0
 feed turns 0 done 0 read 0 refused 0 busy 0 ok
@@ -152,7 +152,8 @@ stamp 9 plates 1
 audit ok
 ";
 
-/// Where each machine has had one turn, and one that found the interlock busy if it asked.
+/// The report if each machine has had one turn, and another one that found the interlock busy if it
+/// asked.
 pub const ONE_TURN_EACH: &str = "\
 start 0000000000 0
 feed turns 2 done 1 read 0 refused 0 busy 1 ok
@@ -173,7 +174,7 @@ stamp 4 plates 0
 audit ok
 ";
 
-/// Where the feed belt has pushed its plate onto the table, and the table has taken it.
+/// The report if the feed belt has pushed its plate onto the table, and the table has taken it.
 pub const FEED_TO_TABLE: &str = "\
 start 0100000000 0
 feed turns 11 done 5 read 0 refused 0 busy 0 ok
@@ -194,7 +195,7 @@ stamp 11 plates 1
 audit ok
 ";
 
-/// Where the robot has put its plate into the press, and the press has taken it.
+/// The report if the robot has put its plate into the press, and the press has taken it.
 pub const ARM_TO_PRESS: &str = "\
 start 0001000000 0
 feed turns 0 done 0 read 0 refused 0 busy 0 ok
@@ -215,7 +216,7 @@ stamp 7 plates 1
 audit ok
 ";
 
-/// Where the crane has brought its plate back to the feed belt.
+/// The report if the crane has brought its plate back to the feed belt.
 pub const CRANE_TO_FEED: &str = "\
 start 0000000001 0
 feed turns 4 done 4 read 0 refused 0 busy 0 ok
@@ -236,7 +237,7 @@ stamp 6 plates 1
 audit ok
 ";
 
-/// Where one plate has gone once round the cell, and nobody has waited.
+/// The report if one plate has gone once round the cell, and no machine has waited.
 pub const CARRIED_ROUND: &str = "\
 start 1000000000 0
 feed turns 62 done 10 read 0 refused 0 busy 0 ok
@@ -257,7 +258,7 @@ stamp 59 plates 1
 audit ok
 ";
 
-/// Where four plates have gone round in 20,000 turns, taken in turn.
+/// The report if four plates have gone round in 20,000 turns, taken one after another.
 pub const FOUR_PLATES: &str = "\
 start 1010100010 0
 feed turns 3334 done 56 read 0 refused 2948 busy 0 ok
@@ -278,7 +279,7 @@ stamp 297 plates 4
 audit ok
 ";
 
-/// Where five machines with a plate each wait for one another, in a ring.
+/// The report if five machines with a plate each wait for one another, in a ring.
 pub const STANDSTILL: &str = "\
 start 1011101010 0
 feed turns 400 done 3 read 0 refused 351 busy 0 ok
@@ -302,7 +303,7 @@ audit ok
 /// A configuration without plates.
 pub const EMPTY: &str = "start = \"0000000000\"\n";
 
-/// Where six workers take three turns each, and nobody is overtaken as often as calls may be.
+/// The report if six workers take three turns each, and no call is Busy.
 pub const SIX_WORKERS: &str = "\
 start 0000000000 0
 feed turns 3 done 3 read 0 refused 0 busy 0 ok

@@ -8,8 +8,9 @@ use std::thread::Threads;
 
 const RUN: &[&str] = &["cell", "run", "--turns", "3", "--tries", "64"];
 
-/// Words and configurations, with status and text. Nobody can be overtaken 64 times in three turns, so the
-/// report is the same however the workers take turns. The schedule is checked, and isn't used.
+/// Words and configurations, with status and text. No call can lose 64 exchanges in three turns, so
+/// the report doesn't depend on the order of the workers' turns. The schedule is checked, but isn't
+/// used.
 const RUNS: &[(&[&str], &str, u8, &str)] = &[
     (RUN, EMPTY, 0, SIX_WORKERS),
     (
@@ -39,7 +40,7 @@ fn runs_and_reports(rt: HostRuntime) {
     }
 }
 
-// Whether a run ends with this status, and its report so.
+// Whether a run ends with status 0, and its report with this text.
 fn ends<T: Threads + Wait + Sync>(
     rt: &T,
     alloc: Global,
@@ -52,7 +53,8 @@ fn ends<T: Threads + Wait + Sync>(
     status == 0 && written.as_slice().ends_with(end)
 }
 
-// However the workers take turns, none is stopped, and their journals tell one legal history.
+// In whichever order the workers take turns, none is stopped, and their journals give one legal
+// history.
 const STARTS: &[&str] = &[
     "start = \"0000000000\"",
     "start = \"1010100010\"",

@@ -31,8 +31,8 @@ fn serves(rt: HostRuntime) {
     }
 }
 
-/// Whether words other than those that ask for a mode are answered with this status and some text, and
-/// the script isn't touched.
+/// Whether words that ask for no mode are answered with this status and some text, and the script
+/// isn't read.
 fn is_told<T: Threads + Wait + Sync>(rt: &T, alloc: Global, words: &[&str], status: u8) -> bool {
     let mut script = SCRIPT.as_bytes();
     let mut written = Vec::new(alloc);
@@ -129,7 +129,7 @@ fn reads_words(rt: HostRuntime) {
     }
 }
 
-/// Whether a text has these parts, one behind another.
+/// Whether a text has these parts, in this order.
 fn has_in_order(text: &str, parts: &[&str]) -> bool {
     let mut rest = text;
     for part in parts {
@@ -141,7 +141,7 @@ fn has_in_order(text: &str, parts: &[&str]) -> bool {
     true
 }
 
-/// Whether the help that these words ask for has these parts, one behind another.
+/// Whether the help that these words ask for has these parts, in this order.
 fn is_helped<T: Threads + Wait + Sync>(
     rt: &T,
     alloc: Global,

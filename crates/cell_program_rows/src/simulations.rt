@@ -65,7 +65,7 @@ fn tells_the_faults_of_configurations(rt: HostRuntime) {
     assert!(rt; is_too_long(&rt, rt.alloc()));
 }
 
-/// Whether a configuration with one byte too many is told so.
+/// Whether a configuration with one byte too many is refused as too long.
 fn is_too_long<T: Threads + Wait + Sync>(rt: &T, alloc: Global) -> bool {
     let Ok(long) = vec![in alloc; b' '; 2_097_153] else {
         return false;
@@ -110,7 +110,7 @@ const LETTERS: [&str; 16] = [
     "r", "p", "F", "T", "R", "P", "D", "C",
 ];
 
-// A schedule of so many turns of all machines.
+// A schedule of this number of turns of all machines.
 fn random_schedule(alloc: Global, seed: usize, turns: usize) -> Result<String, AllocError> {
     let mut schedule = String::new(alloc);
     let mut state = seed as u64;
@@ -123,7 +123,7 @@ fn random_schedule(alloc: Global, seed: usize, turns: usize) -> Result<String, A
     Ok(schedule)
 }
 
-// Whether a configuration is simulated, no machine is stopped, and the report ends so.
+// Whether a configuration is simulated, no machine is stopped, and the report ends with this text.
 fn ends<T: Threads + Wait + Sync>(rt: &T, alloc: Global, config: &str, end: &[u8]) -> bool {
     let mut written = Vec::new(alloc);
     let status = run(rt, alloc, SIM, &mut config.as_bytes(), &mut written);

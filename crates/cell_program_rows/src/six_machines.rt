@@ -1,4 +1,4 @@
-//! Simulations in which several machines move, or all six, with reports that were worked out apart from
+//! Simulations in which several machines move, or all six. Their reports were worked out apart from
 //! the program.
 
 use super::doubles::is_served;
@@ -10,7 +10,7 @@ use std::alloc::{AllocError, Global};
 use std::sync::Wait;
 use std::thread::Threads;
 
-/// A schedule in which letters come so often in a row.
+/// A schedule: letters, and how often each text of them comes in a row.
 type Runs<'a> = &'a [(usize, &'a str)];
 
 /// Starts and schedules, with the reports of their runs.
@@ -35,7 +35,7 @@ const RUNS: &[(&str, Runs<'static>, &str)] = &[
     ("1011101010", &[(400, "ftrpdc")], STANDSTILL),
 ];
 
-/// One plate is carried once round the cell, and each machine has turns for as long as it gets on.
+/// One plate is carried once round the cell, and each machine has turns for as long as it can work.
 const ONE_ROUND: Runs<'static> = &[
     (6, "t"),
     (61, "f"),

@@ -21,7 +21,7 @@ const HELP: &[&str] = &["cell", "sim", "--help"];
 
 const OTHER: &[&str] = &["cell", "go"];
 
-/// What a failing reader leads to: the status, and what is written.
+/// Whether a failing reader leads to status 1 and the line of a failed read.
 fn is_failed_read<T: Threads + Wait + Sync>(
     rt: &T,
     alloc: Global,
@@ -50,8 +50,8 @@ fn tells_a_failed_read(rt: HostRuntime) {
     }
 }
 
-/// Whether a writer that fails after so many bytes is answered with status 1, and has taken a front of
-/// the text that it would have taken.
+/// Whether a writer that fails after `left` bytes leads to status 1, and has taken a prefix of the
+/// text that it would have taken.
 fn is_cut<T: Threads + Wait + Sync>(
     rt: &T,
     alloc: Global,
@@ -72,7 +72,8 @@ fn is_cut<T: Threads + Wait + Sync>(
     status == 1 && is_front && writer.taken.len() == left
 }
 
-// Words, an input, after how many bytes the writer fails, and whether it then takes none.
+// Words, an input, the number of bytes after which the writer fails, and whether it then takes
+// none.
 const CUT: &[(&[&str], &str, usize, bool)] = &[
     (REPLAY, SCRIPT, 5, false),
     (HELP, SCRIPT, 5, false),
@@ -97,7 +98,7 @@ fn writes_a_front(rt: HostRuntime) {
     }
 }
 
-/// Whether an input and an output that are interrupted before each part make no difference.
+/// Whether it makes no difference if input and output are interrupted before each part.
 fn is_served_in_parts<T: Threads + Wait + Sync>(
     rt: &T,
     alloc: Global,
@@ -118,7 +119,7 @@ fn is_served_in_parts<T: Threads + Wait + Sync>(
     answered == status && writer.taken.as_slice() == text
 }
 
-/// Whether words that aren't a mode's are told the same in parts.
+/// Whether words that ask for no mode are answered the same in parts.
 fn is_told_in_parts<T: Threads + Wait + Sync>(
     rt: &T,
     alloc: Global,
@@ -152,8 +153,7 @@ fn goes_on_where_it_is_interrupted(rt: HostRuntime) {
     assert!(rt; is_told_in_parts(&rt, rt.alloc(), OTHER, 2));
 }
 
-/// Whether a writer that fails to hand on what it has taken is answered with status 1, and has taken
-/// what it would have taken.
+/// Whether a writer that fails at its flush leads to status 1, and has taken the whole text.
 fn is_lost<T: Threads + Wait + Sync>(rt: &T, alloc: Global, words: &[&str], input: &str) -> bool {
     let mut writer = UnflushedWriter {
         taken: Vec::new(alloc),
@@ -183,7 +183,7 @@ fn tells_a_failed_flush(rt: HostRuntime) {
     assert!(rt; refuse_bytes(&mut writer) == 2);
 }
 
-/// What is read of a text in parts, the reader being interrupted before each.
+/// What is read of a text in parts; the reader is interrupted before each.
 fn read_in_parts(alloc: Global, text: &str) -> Result<Config, ConfigFault> {
     let mut reader = InterruptedReader {
         bytes: text.as_bytes(),

@@ -1,4 +1,5 @@
--- A worker's first turns: none where no turns are left or where the gate is shut, and the first one by what its step asks.
+-- A worker's first turns. With no turns left, or a shut gate, there is none; the first turn is given by the call of its
+-- step.
 use Rattle.std.proofs.Common.{◌≡◌, ℕ, ◌+◌, ◌<◌, ◌≤◌, true, false, ◌⊎◌, inl, inr, List, [], ◌∷◌, ◌++◌, map, Option, Some, None, Result, Ok, Err, refl, sym, ap, subst, ◌∙◌, arith, below_more}
 use Rattle.std.specs.Prelude.{⊤}
 use Rattle.cell_types.specs.declared.machine.Machine.{Machine}
@@ -42,7 +43,7 @@ module _ (gate : GateOf) (limit : ℕ) where
   within None turns s (inr h) = omega (arith, h.1)
   within (Some fault) turns s h = h.1
 
-  -- the status of one that was stopped is neither
+  -- the status of a stopped machine is neither
   stopped_so : (P : Type 0) (f : CtlFault) (s : Status) → s ≡ status_of (Some f) → (s ≡ Fine) ⊎ (s ≡ GateLimit) → P
   stopped_so P (fault.Sensor x) s e (inl h) = cc
   stopped_so P (fault.Sensor x) s e (inr h) = cc
@@ -65,7 +66,7 @@ module _ (gate : GateOf) (limit : ℕ) where
   ends_kept_out None turns s (inr h) e = (h.1, h.2)
   ends_kept_out (Some f) turns s h e = stopped_so ((turns < limit) × gate turns false) f s h.0 (inr e)
 
--- how one ends that has taken no turn: fine where none is left, and kept out where there are some
+-- the status of a worker that has taken no turn: fine if no turn was allowed, kept out otherwise
 pub fine_at_once : (gate : GateOf) (s : Status) → Ends gate 0 None 0 s → s ≡ Fine
 fine_at_once gate s (inl h) = h.0
 fine_at_once gate s (inr h) = absurd (omega (arith, h.1))
@@ -74,7 +75,7 @@ pub shut_at_once : (gate : GateOf) (s : Status) → Ends gate 5 None 0 s → s �
 shut_at_once gate s (inl h) = absurd (omega (arith, h.1))
 shut_at_once gate s (inr h) = h.0
 
--- ---- what came back in a turn
+-- ---- the reply of a turn
 
 one_answer : (c : Counts) (asked : Asked) → answers_in c ≤ c.turns → answers_in (counts_with c asked) ≤ c.turns + 1
 one_answer c None k = omega (arith, k)
@@ -84,7 +85,7 @@ one_answer c (Some (call, Ok (Settled (Refused refusal) stamp))) k = omega (arit
 one_answer c (Some (call, Ok (Busy lost stamp))) k = omega (arith, k)
 one_answer c (Some (call, Err fault)) k = omega (arith, k)
 
--- ---- a turn, by what its step asks
+-- ---- a turn, by the call of its step
 
 module _ {S Sense Reading Act : Type 0} (t : Steps S Sense Reading Act) (same : Type 0) (asks : Call → Result Reply LineFault → Type 0) (P : Type 0) (o : Option Call) (f : same → P) (g : (c : Call) (r : Result Reply LineFault) → o ≡ Some c → asks c r → P) where
   by_call : (call : Option Call) → call ≡ o → (p : S) (reading : Reading) (r : Performed S Act) → PerformsCall t call same asks p reading r → P
@@ -99,7 +100,7 @@ module _ {S Sense Reading Act : Type 0} (t : Steps S Sense Reading Act) (same : 
   by_step (Some fault) p e s w h = f h.0
   by_step None p e s w h = by_sensed h.1.sensed p e h.0 h.1.performs
 
--- what came back of a call that was asked, and how many exchanges it lost
+-- the reply to a call, and how many exchanges it lost
 abbrev answered : Result Reply LineFault → Asked → Result Reply LineFault
 answered r None = r
 answered r (Some call) = call.1
@@ -113,7 +114,7 @@ all_lost tries v w c (Ok (Settled a s)) lost stamp k e = cc
 all_lost tries v w c (Ok (Busy l s)) lost stamp k e = sym (ap lost_in e) ∙ k.busy.all_lost
 all_lost tries v w c (Err fault) lost stamp k e = cc
 
--- a machine's own events are one of this call, or none
+-- a machine's own events are exactly this call, or there are none
 abbrev pub OwnAtMost : Option Call → List Event → Type 0
 OwnAtMost o [] = ⊤
 OwnAtMost o (x ∷ xs) = (o ≡ Some x.call) × (xs ≡ [])
@@ -133,7 +134,7 @@ entries_at_most : (o : Option Call) (m : Machine) (es : List Entry) → OwnAtMos
 entries_at_most o m [] k = tt
 entries_at_most o m (e ∷ es) k = (k.0, none_of_none m es k.1)
 
--- so is what the machine notes
+-- likewise the machine's notes
 pub noted_at_most : (o : Option Call) (s : ModelState) (h : List Event) (m : Machine) → OwnAtMost o (own_events h m) → HasAtMost o (noted s h m)
 noted_at_most o s h m k = entries_at_most o m (noted s h m) (subst (OwnAtMost o) (sym (events_of_noted s h m)) k)
 
@@ -151,7 +152,7 @@ module _ {S Sense Reading Act State : Type 0} (tries : ℕ) (t : Steps S Sense R
   pub busy_counted : (before now : Moment PassView S State) (turn : Turn before now) (call : Call) (lost stamp : ℕ) → turn.asked ≡ Some (call, Ok (Busy lost stamp)) → now.counts.busy ≡ before.counts.busy + 1
   busy_counted before now turn call lost stamp e = ap (λ (c : Counts). c.busy) turn.counted ∙ ap (λ a. before.counts.busy + one_if (came_back is_busy_reply a)) e
 
-  -- ---- what is so along all turns
+  -- ---- invariants of all turns
 
   pub answers_along : (first now : Moment PassView S State) → HasCome (passes tries) t rig gate first now → answers_in first.counts ≤ first.counts.turns → answers_in now.counts ≤ now.counts.turns
   answers_along first now k few =
@@ -181,7 +182,7 @@ module _ {S Sense Reading Act State : Type 0} (tries : ℕ) (t : Steps S Sense R
   pub still : (first last : Moment PassView S State) → HasCome (passes tries) t rig gate first last → last.counts.turns ≤ first.counts.turns → last ≡ first
   still first last k few = still_by first last k.turns k.taken k.last few
 
-  -- nor are there turns where the gate lets none begin
+  -- there are no turns if the gate lets none begin
   shut_by : ((turn : ℕ) → ¬ gate turn true) → (first last : Moment PassView S State) (turns : List (Moment PassView S State)) → TakesTurns (passes tries) t rig gate first turns → last_of first turns ≡ last → last ≡ first
   shut_by never first last [] k e = sym e
   shut_by never first last (now ∷ later) k e = absurd (never first.counts.turns k.0.let_in)
@@ -189,7 +190,7 @@ module _ {S Sense Reading Act State : Type 0} (tries : ℕ) (t : Steps S Sense R
   pub shut_still : ((turn : ℕ) → ¬ gate turn true) → (first last : Moment PassView S State) → HasCome (passes tries) t rig gate first last → last ≡ first
   shut_still never first last k = shut_by never first last k.turns k.taken k.last
 
-  -- then a worker ends as one that has begun
+  -- then a worker ends as if it had only begun
   pub ends_begun : (limit : ℕ) (first last : Moment PassView S State) (s : Status) → last ≡ first → first.side.stopped ≡ None → first.counts.turns ≡ 0 → Ends gate limit last.side.stopped last.counts.turns s → Ends gate limit None 0 s
   ends_begun limit first last s same runs none k =
       subst (λ n. Ends gate limit None n s) none
@@ -208,11 +209,11 @@ module _ {S Sense Reading Act State : Type 0} (tries : ℕ) (t : Steps S Sense R
   pub once : (first last : Moment PassView S State) → HasCome (passes tries) t rig gate first last → last.counts.turns ≤ first.counts.turns + 1 → (last ≡ first) ⊎ Turn first last
   once first last k few = once_by first last k.turns k.taken k.last few
 
-  -- a worker stays where it began, and fares so
+  -- a worker may stay where it began, with this status
   pub stays : (limit : ℕ) (first : Moment PassView S State) (s : Status) → Ends gate limit first.side.stopped first.counts.turns s → HasWorked (passes tries) t rig gate limit first first s
   stays limit first s e = record { come = record { turns = []; taken = tt; last = refl }; ends = e }
 
-  -- in one turn from a step that asks this
+  -- in one turn from a step with this call
   pub own_in_turn : (o : Option Call) (before now : Moment PassView S State) → before.line.seen ≡ [] → t.call before.side.progress ≡ o → Turn before now → OwnAtMost o (own_events now.line.seen before.line.machine)
   own_in_turn o before now e is k =
       by_step t ((now.line ≡ before.line) × (k.asked ≡ None)) (λ c r. PassAsks tries before.line c r now.line × (k.asked ≡ Some (c, r))) _ o

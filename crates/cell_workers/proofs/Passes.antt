@@ -1,4 +1,4 @@
--- A worker's turns over a line to an interlock, told of its pass; and what they leave of its journal.
+-- A worker's turns over a line to an interlock, stated for its pass; and their effect on its journal.
 use Rattle.std.proofs.Common.{◌≡◌, ℕ, ◌+◌, Bool, true, false, cond, List, [], ◌∷◌, ◌++◌, map, count_by, Some, None, Result, Ok, Err, refl, sym, ap, subst, ◌∙◌, arith}
 use Rattle.std.proofs.lemmas.List.Sums.{sum_by-append}
 use Rattle.std.proofs.Math.Logic.{∥∥₁_elim}
@@ -28,7 +28,7 @@ use Rattle.cell_seat.proofs.Turning.{acts_map}
 use Rattle.cell_workers.specs.Lines.{Lines, passes}
 use Rattle.cell_workers.specs.Workers.{Moment, moment, GateOf, TakesTurn, TakesTurns, HasCome, HasWorked, GivesBack, AreCountsOf, last_of, is_shown_answer, is_refused_answer}
 
--- what the lines of workers are
+-- the opening, the history seen and the calls of a worker's line
 abbrev pub line_views : Lines LineView
 line_views = record { opening = λ l. l.pass.opening; seen = λ l. l.pass.seen; asks = LineAsks }
 
@@ -36,7 +36,7 @@ abbrev pub by_pass : {S State : Type 0} → Moment LineView S State → Moment P
 by_pass m = moment m.line.pass m.side m.counts
 
 module _ {S Sense Reading Act State : Type 0} (tries : ℕ) (t : Steps S Sense Reading Act) (rig : Rig State Sense Act) (gate : GateOf) where
-  -- in a turn nothing is asked, or one call is
+  -- a turn asks nothing, or makes one call
   by_turn : {L : Type 0} → (lines : Lines L) (before now : Moment L S State) (P : Type 0) → TakesTurn lines t rig gate before now
       → ((asked : Asked) → now.line ≡ before.line → asked ≡ None → now.counts ≡ counts_with before.counts asked → P)
       → ((asked : Asked) (c : Call) (r : Result Reply LineFault) → lines.asks before.line c r now.line → asked ≡ Some (c, r) → now.counts ≡ counts_with before.counts asked → P) → P
@@ -76,7 +76,7 @@ module _ {S Sense Reading Act State : Type 0} (tries : ℕ) (t : Steps S Sense R
   pub come_by_pass : (first now : Moment LineView S State) → first.line.tries ≡ tries → HasCome line_views t rig gate first now → HasCome (passes tries) t rig gate (by_pass first) (by_pass now)
   come_by_pass first now e k = record { turns = map by_pass k.turns; taken = turns_by_pass first k.turns e k.taken; last = last_by_pass first k.turns ∙ ap by_pass k.last }
 
-  -- ---- what is so all along
+  -- ---- invariants of all turns
 
   module _ (Q : Moment PassView S State → Type 0) (keeps : (before now : Moment PassView S State) → TakesTurn (passes tries) t rig gate before now → Q before → Q now) where
     along : (first : Moment PassView S State) (turns : List (Moment PassView S State)) → TakesTurns (passes tries) t rig gate first turns → Q first → Q (last_of first turns)
@@ -94,7 +94,7 @@ module _ {S Sense Reading Act State : Type 0} (tries : ℕ) (t : Steps S Sense R
   turn_same before now k =
       by_turn (passes tries) before now _ k (λ asked same nothing counted. (ap (λ x. x.machine) same, ap (λ x. x.opening) same)) (λ asked c r asks is counted. asks_same before.line now.line c r asks)
 
-  -- the pass stays its machine's, and its interlock opened with the same state
+  -- the pass remains its machine's, and its interlock's opening remains the same
   pub come_same : (first now : Moment PassView S State) → HasCome (passes tries) t rig gate first now → (now.line.machine ≡ first.line.machine) × (now.line.opening ≡ first.line.opening)
   come_same first now k =
       all_along (λ m. (m.line.machine ≡ first.line.machine) × (m.line.opening ≡ first.line.opening)) (λ before after step q. let same = turn_same before after step in (same.0 ∙ q.0, same.1 ∙ q.1))
@@ -112,7 +112,7 @@ count-append p xs x = sum_by-append (λ y. cond (p y) 1 0) xs (x ∷ []) ∙ as_
 one_more : (p : Entry → Bool) (journal now : List Entry) (e : Entry) (k n : ℕ) → now ≡ journal ++ e ∷ [] → n ≡ k + one_if (p e) → k ≡ count_by p journal → n ≡ count_by p now
 one_more p journal now e k n is more old = more ∙ ap (λ x. x + one_if (p e)) old ∙ sym (count-append p journal e) ∙ sym (ap (count_by p) is)
 
--- a settled call is counted as its entry is
+-- a settled call is counted like its entry
 settled_counts : (journal now : List Entry) (c : Call) (a : Answer) (stamp : ℕ) (k n : Counts) → now ≡ journal ++ record { call = c; answer = a; stamp = stamp } ∷ [] → n ≡ counts_with k (Some (c, Ok (Settled a stamp))) → AreCountsOf journal k → AreCountsOf now n
 settled_counts journal now c Done stamp k n is more old =
     let e : Entry = record { call = c; answer = Done; stamp = stamp } in
@@ -136,7 +136,7 @@ settled_counts journal now c (Refused refusal) stamp k n is more old =
       refused = one_more (λ x. is_refused_answer x.answer) journal now e k.refused n.refused is (ap (λ x. x.refused) more) old.refused;
     }
 
--- a turn that settles nothing is counted, and no call of it is
+-- a turn that settles nothing is counted, but no settled call is
 quiet_counts : (journal now : List Entry) (asked : Asked) (k n : Counts) → now ≡ journal → n ≡ counts_with k asked → came_back is_done_reply asked ≡ false → came_back is_read_reply asked ≡ false → came_back is_refused_reply asked ≡ false → AreCountsOf journal k → AreCountsOf now n
 quiet_counts journal now asked k n is more no_done no_read no_refusal old =
     record {
@@ -157,7 +157,7 @@ module _ {S Sense Reading Act State : Type 0} (tries : ℕ) (t : Steps S Sense R
       (λ asked same nothing counted. quiet_counts (journal_by before.line) (journal_by now.line) None before.counts now.counts (ap journal_by same) (counted ∙ ap (counts_with before.counts) nothing) refl refl refl old)
       (λ asked c r asks is counted. asked_counts tries before.line now.line c r before.counts now.counts asks (counted ∙ ap (counts_with before.counts) is) old)
 
-  -- the counts of a worker are those of its journal
+  -- the counts of a worker agree with its journal
   pub come_counts : (first now : Moment PassView S State) → HasCome (passes tries) t rig gate first now → first.line.seen ≡ [] → first.counts ≡ no_counts → AreCountsOf (journal_by now.line) now.counts
   come_counts first now k seen counts =
       let empty : journal_by first.line ≡ [] = ap (λ h. noted first.line.opening h first.line.machine) seen in

@@ -1,4 +1,4 @@
--- What six workers gave back, told of their machines by name, and the record of it.
+-- What six workers gave back, stated for their machines by name; and the record of it.
 use Rattle.std.proofs.Common.{◌≡◌, ℕ, ℤ, true, List, [], ◌∷◌, Option, Some, None, IfSome, Result, refl, sym, ap, subst, ◌∙◌}
 use Rattle.cell_types.specs.declared.machine.Machine.{Machine}
 use Rattle.cell_types.specs.declared.machine.Machine.TheVariants.{Feed, Table, Robot, Press, Deposit, Crane, Watch}
@@ -47,7 +47,7 @@ use Rattle.cell_workers.specs.declared.six.Six.{Six}
 use Rattle.cell_workers.specs.Backs.{Gave, AreBack, journal_in, parts_in}
 use Rattle.cell_workers.specs.Records.{MomentOf, first_moment, TellsWork}
 
--- where less is known of the sensors, a worker has still worked
+-- if less is known of the sensors, a worker has still worked
 module _ {L S Sense Reading Act State : Type 0} (lines : Lines L) (t : Steps S Sense Reading Act) (rig : Rig State Sense Act) (gate : GateOf) (senses : Sense → Result Reading SensorFault → Type 0) (f : (s : Sense) (r : Result Reading SensorFault) → t.senses s r → senses s r) where
   turn_still : (before now : Moment L S State) → TakesTurn lines t rig gate before now → TakesTurn lines (with_senses t senses) rig gate before now
   turn_still before now k =
@@ -79,7 +79,7 @@ back_still tries t rig gate senses f limit first kept journal did fares stands k
       counted = k.counted;
     }
 
--- the table, the robot and the crane read by their scales: a reading is any that a calibration over these may give
+-- the table, the robot and the crane read by their scales: a reading is any that a calibration over its scale may give
 module _ (tries : ℕ) (gate : GateOf) (limit : ℕ) (kept : PassView) (journal : List Entry) (did : Counts) (fares : Status) where
   pub table_near : (points scale : Scale) (gives : ℕ → ℤ → Type 0) (rig : Rig TablePlant TableSense TableAct) (first : MomentOf Table) (stands : TablePlant) → scale ≡ points
       → GivesBack tries (table_steps points gives) rig gate limit first kept journal did fares stands → GivesBack tries (table_steps scale (IsReading scale)) rig gate limit first kept journal did fares stands
@@ -99,17 +99,17 @@ module _ (tries : ℕ) (gate : GateOf) (limit : ℕ) (kept : PassView) (journal 
       subst (λ s. GivesBack tries (crane_steps s (IsReading s)) rig gate limit first kept journal did fares stands) (sym e)
       (back_still tries (crane_steps points gives) rig gate (CraneSenses points (IsReading points)) (crane_senses_near points gives) limit first kept journal did fares stands k)
 
--- with a fresh pass a machine is ready that is at the beginning of its program
+-- a machine at the beginning of its program, with a fresh pass, is ready
 pub ready_at_start : {S Sense Reading Act : Type 0} → (t : Steps S Sense Reading Act) (i : InterlockView) (pass : PassView) (stopped : Option CtlFault) (progress : S) → pass ≡ fresh_pass i t.machine → progress ≡ t.start i.opening
     → (pass.machine ≡ t.machine) × IsReady t pass.opening pass.seen stopped progress
 ready_at_start t i pass stopped progress e begins = (ap (λ (v : PassView). v.machine) e, λ runs. subst (λ (v : PassView). IsReached t v.opening v.seen progress) (sym e) (0, sym begins))
 
--- where a history is lawful, so is the one that has not begun
+-- if a history is lawful, so is the empty one
 nothing_yet : (s : ModelState) (h : List Event) → LawfulThroughout s h → LawfulThroughout s []
 nothing_yet s h k [] more e = k [] h refl
 nothing_yet s h k (x ∷ xs) more e = cc
 
--- what follows of each of them, where there are some
+-- what follows from a value, if there is one
 pub if_some : {A : Type 0} → (P Q : A → Type 0) → ((x : A) → P x → Q x) → (r : Option A) → IfSome r P → IfSome r Q
 if_some P Q f None k = tt
 if_some P Q f (Some x) k = f x k

@@ -1,4 +1,4 @@
--- What a record of six workers tells.
+-- What a record of six workers says.
 use Rattle.std.proofs.Common.{◌≡◌, ℕ, ℤ, pos, true, false, inl, inr, [], ◌∷◌, map, get_or, Option, Some, None, Result, Ok, Err, refl, sym, ap, subst, ◌∙◌, arith}
 use Rattle.std.specs.Prelude.{slice_get}
 use Rattle.cell_types.specs.declared.machine.Machine.{Machine}
@@ -51,7 +51,7 @@ use Rattle.cell_workers.specs.Records.{MomentOf, first_moment, parts_at_ends, Te
 use Rattle.cell_workers.specs.Laws.{Rule, by_rule, TellsNothingDone, HadTurns, HasAtMost, first_call, TellsFirstTurns, RecordsTellTurns, TurnsAreTaken}
 use Rattle.cell_workers.proofs.FirstSteps.{within, ends_fine, ends_kept_out, fine_at_once, shut_at_once, ends_begun, answers_along, let_in_along, still, shut_still, once, stays, own_at_first, noted_at_most, busy_lost, busy_counted}
 
--- two lists of the machines' values agree at each machine
+-- equal lists of the machines' values have equal values for each machine
 each_same : {A : Type 0} → (f g : Machine → A) → map f all_machines ≡ map g all_machines → (m : Machine) → f m ≡ g m
 each_same f g e Feed = ap (λ xs. get_or xs 0 (f Feed)) e
 each_same f g e Table = ap (λ xs. get_or xs 1 (f Table)) e
@@ -65,10 +65,10 @@ module _ (c : CellScales) (opening : ModelState) (tries limit : ℕ) (lets : Rul
   abbrev Works : Type 0
   Works = TellsWork c opening tries limit (by_rule lets) r
 
-  -- ---- where each machine stays at its start
+  -- ---- if each machine stays at its start
 
   module _ (fares : Status) where
-    -- nothing but that it fares so can come of a worker
+    -- a worker can only stay at its start, with this status
     abbrev Rests : Type 0
     Rests = (m : Machine) (first last : MomentOf m) (s : Status) → first.side.stopped ≡ None → first.counts.turns ≡ 0 → HasWorked (passes tries) (steps_of c m) (rig_of c m) (by_rule lets m) limit first last s → (last ≡ first) × (s ≡ fares)
 
@@ -106,7 +106,7 @@ module _ (c : CellScales) (opening : ModelState) (tries limit : ℕ) (lets : Rul
             axes = k.axes ∙ (λ x. positions_in (parts_at_ends (λ m. lasts m x)));
           }
 
-    -- a worker may end at once, and fare so
+    -- a worker may end at once, with this status
     abbrev fares_so : Machine → Status
     fares_so Watch = Fine
     fares_so _ = fares
@@ -183,7 +183,7 @@ module _ (c : CellScales) (tries : ℕ) (m : Machine) where
 
 -- ---- the first turns in a cell without plates
 
--- with no plate the crane's first step doesn't travel
+-- without plates the crane's first step doesn't travel
 abbrev raising : CraneProgress
 raising = crane_start (start_state empty 0)
 

@@ -35,7 +35,7 @@ module _ {L S Sense Reading Act State : Type 0} (lines : Lines L) (t : Steps S S
   pub has_begun_as : (line : L) (side : Side S State) (none counts : Counts) → counts ≡ none → HasCome lines t rig gate (moment line side none) (moment line side counts)
   has_begun_as line side none counts e = subst (λ k. HasCome lines t rig gate (moment line side none) (moment line side k)) (sym e) (has_begun (moment line side none))
 
--- the program and the part keep what they are made of
+-- a program and a part keep their configuration
 module _ {L S Sense Reading Act State P M : Type 0} (lines : Lines L) (steps : P → Steps S Sense Reading Act) (rigs : M → Rig State Sense Act) (gate : GateOf) where
   pub comes_by : (p q : P) (m n : M) → p ≡ q → m ≡ n → (first before now : Moment L S State) → HasCome lines (steps q) (rigs n) gate first before → TakesTurn lines (steps p) (rigs m) gate before now → HasCome lines (steps q) (rigs n) gate first now
   comes_by p q m n e f first before now k turn =
@@ -48,7 +48,7 @@ few_more n k c now asked e b is = subst (λ x. AreBelow x now) (sym e) (subst (A
 pub one_turn_more : (n k : ℕ) (c now : Counts) (asked : Asked) → k ≡ n + 1 → c.turns ≡ n → now ≡ counts_with c asked → now.turns ≡ k
 one_turn_more n k c now asked e taken is = ap (λ x. x.turns) is ∙ ap (λ x. x + 1) taken ∙ sym e
 
--- nothing has stopped a machine of which that was found out
+-- a machine that was found not to have stopped has not stopped
 pub not_stopped : (stopped found : Option CtlFault) (b : Bool) → found ≡ stopped → b ≡ is_some found → b ≡ false → stopped ≡ None
 not_stopped None found b e f k = refl
 not_stopped (Some fault) found b e f k = let lie : true ≡ false = sym (ap is_some e) ∙ sym f ∙ k in cc

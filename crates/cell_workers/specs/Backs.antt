@@ -34,11 +34,12 @@ parts_in six =
       crane = six.crane.part.plant;
     }
 
--- what the worker of a machine gave back, by the machine's name: it began with a fresh pass of the interlock, at the start of its machine
+-- what a machine's worker gave back, by the machine's name; it began with a fresh pass of the interlock, at its
+-- machine's start
 abbrev pub Gave : CellScales → InterlockView → ℕ → (Machine → GateOf) → (m : Machine) → PassView → List Entry → Counts → Status → PartOf m → Type 0
 Gave c i limit gate m kept journal did fares stands = GivesBack i.tries (steps_of c m) (rig_of c m) (gate m) limit (first_moment i m) kept journal did fares stands
 
--- so did each of the six
+-- likewise for each of the six
 pub record AreBack (c : CellScales) (i : InterlockView) (limit : ℕ) (gate : Machine → GateOf) (six : Six) : Type 0 where
   pub feed : Gave c i limit gate Feed six.feed.pass six.feed.journal.items six.feed.counts six.feed.status six.feed.part.belt
   pub table : Gave c i limit gate Table six.table.pass six.table.journal.items six.table.counts six.table.status six.table.part.plant

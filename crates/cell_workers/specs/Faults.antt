@@ -1,4 +1,4 @@
--- What faults of runs are told as.
+-- The texts of the faults of runs.
 use Rattle.std.specs.Prelude.{ℕ, List, codes}
 use Rattle.cell_workers.specs.declared.fault.RunFault.{RunFault}
 use Rattle.cell_workers.specs.declared.fault.RunFault.TheVariants.{Tries, Memory, Spawn}

@@ -1,4 +1,4 @@
--- What a record of six workers tells, in figures: the statements.
+-- What a record of six workers says, in numbers: the statements.
 use Rattle.std.specs.Prelude.{◌≡◌, ◌≢◌, ℕ, ◌+◌, ◌<◌, ◌≤◌, ◌↔◌, pos, Bool, true, false, List, [], ◌∷◌, map, Option, Some, None, Ok, ⊤, slice_get}
 use Rattle.cell_types.specs.declared.machine.Machine.{Machine}
 use Rattle.cell_types.specs.declared.machine.Machine.TheVariants.{Feed, Table, Robot, Press, Deposit, Crane, Watch}
@@ -35,7 +35,7 @@ Rule = Machine → ℕ → Bool
 abbrev pub by_rule : Rule → Machine → GateOf
 by_rule lets m turn answer = answer ≡ lets m turn
 
--- a record in which nothing was done, and the six fare so
+-- a record in which nothing was done, and the six machines have this status
 pub record TellsNothingDone (opening : ModelState) (fares : Status) (r : RunRecord) : Type 0 where
   pub sound : IsSound opening
   pub start : r.start ≡ opening
@@ -45,11 +45,11 @@ pub record TellsNothingDone (opening : ModelState) (fares : Status) (r : RunReco
   pub end : r.end ≡ None
   pub axes : r.axes ≡ pos 1000 ∷ pos 0 ∷ pos 0 ∷ pos 300 ∷ pos 0 ∷ pos 0 ∷ pos 0 ∷ pos 900 ∷ []
 
--- what came back of its calls
+-- the number of replies
 abbrev pub answers_in : Counts → ℕ
 answers_in c = c.done + c.read + c.refused + c.busy
 
--- the turns of a machine, by how many it may have and which its gate lets it begin
+-- the turns of a machine, by the most that it may have and by those that its gate lets it begin
 pub record HadTurns (limit : ℕ) (lets : ℕ → Bool) (did : Counts) (fares : Status) (journal : List Entry) : Type 0 where
   pub within : did.turns ≤ limit
   pub let_in : (turn : ℕ) → turn < did.turns → lets turn ≡ true
@@ -58,12 +58,12 @@ pub record HadTurns (limit : ℕ) (lets : ℕ → Bool) (did : Counts) (fares : 
   pub one_answer_each : answers_in did ≤ did.turns
   pub counted : AreCountsOf journal did
 
--- a journal has an entry of this call, or none
+-- a journal has exactly one entry, of this call; or it is empty
 abbrev pub HasAtMost : Option Call → List Entry → Type 0
 HasAtMost call [] = ⊤
 HasAtMost call (e ∷ es) = (call ≡ Some e.call) × (es ≡ [])
 
--- what a machine asks in its first turn in a cell without plates: the robot and the crane drive first
+-- a machine's call in its first turn in a cell without plates; the robot and the crane drive first
 abbrev pub first_call : Machine → Option Call
 first_call Feed = Some (Claim Z6)
 first_call Table = Some (Claim Z1)
@@ -73,13 +73,13 @@ first_call Deposit = Some (Claim Z4)
 first_call Crane = None
 first_call Watch = None
 
--- records of one turn in that cell: with no plate the crane doesn't travel
+-- records of one turn in that cell; without plates the crane doesn't travel
 pub record TellsFirstTurns (r : RunRecord) : Type 0 where
   pub calls : (m : Machine) → HasAtMost (first_call m) (journal_of r.journals m)
   pub crane : slice_get r.axes 6 ≡ Some (pos 0)
 
--- What a record tells: that nothing was done where no turns are left, just so, and where the gate lets no machine begin; the turns of each machine
--- with work; and the first turns in a cell without plates.
+-- What a record says. With no turns, and with a gate that lets no machine begin, it says exactly that nothing was done.
+-- Then: the turns of each working machine; and the first turns in a cell without plates.
 pub record RecordsTellTurns : Type 0 where
   pub no_turns : (c : CellScales) (opening : ModelState) (tries : ℕ) (lets : Rule) (r : RunRecord) → TellsWork c opening tries 0 (by_rule lets) r ↔ TellsNothingDone opening Fine r
   pub shut : (c : CellScales) (opening : ModelState) (tries : ℕ) (r : RunRecord) → TellsWork c opening tries 5 (by_rule (λ m turn. false)) r ↔ TellsNothingDone opening GateLimit r
@@ -88,8 +88,8 @@ pub record RecordsTellTurns : Type 0 where
       → (m : Machine) → is_at_work m ≡ true → HadTurns limit (lets m) (did m) (fares m) (journal_of r.journals m)
   pub first : (c : CellScales) (tries : ℕ) (lets : Rule) (r : RunRecord) → TellsWork c (start_state empty 0) tries 1 (by_rule lets) r → TellsFirstTurns r
 
--- What a turn is: no machine takes one that was stopped, and none its gate keeps out; a call that was Busy has lost as many exchanges as it may, and is
--- counted so; a press whose motor is on holds its interior, which moves.
+-- What a turn is. A stopped machine takes none, nor does a machine that its gate refuses. A Busy call has lost as many
+-- exchanges as it may, and is counted as busy. A press whose motor is on holds its interior, which moves.
 pub record TurnsAreTaken : Type 0 where
   pub stopped : (c : CellScales) (tries : ℕ) (lets : Rule) (m : Machine) (before now : MomentOf m) (fault : CtlFault) → before.side.stopped ≡ Some fault → ¬ TakesTurn (passes tries) (steps_of c m) (rig_of c m) (by_rule lets m) before now
   pub kept_out : (c : CellScales) (tries : ℕ) (lets : Rule) (m : Machine) (before now : MomentOf m) → lets m before.counts.turns ≡ false → ¬ TakesTurn (passes tries) (steps_of c m) (rig_of c m) (by_rule lets m) before now

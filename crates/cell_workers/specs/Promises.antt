@@ -1,4 +1,4 @@
--- What the workers of six machines are ready for, and what they promise to give back.
+-- What the six workers require when they start, and what they promise to give back.
 use Rattle.std.specs.Prelude.{◌≡◌, ℕ, Option, None}
 use Rattle.cell_types.specs.declared.machine.Machine.{Machine}
 use Rattle.cell_interlock.specs.Views.{PassView, InterlockView}
@@ -15,11 +15,12 @@ use Rattle.cell_workers.specs.declared.six.Each.{Each}
 use Rattle.cell_workers.specs.declared.six.Six.{Six}
 use Rattle.cell_workers.specs.declared.work.Back.{Back}
 
--- what a worker gives back that worked by a pass: where calls have so many tries, by its gate, in so many turns
+-- what a worker gives back that worked by a pass; given are the tries of a call, its gate, and the greatest number of
+-- turns
 abbrev pub GivesOf : Type 0 → Type 0 → Type 1
 GivesOf W B = W → PassView → ℕ → GateOf → ℕ → Back B → Type 0
 
--- each worker has come so far by what its pass has seen
+-- each worker's progress follows from what its pass has seen
 pub record AreReady {W1 W2 W3 W4 W5 W6 : Type 0} (ready1 : W1 → PassView → Type 0) (ready2 : W2 → PassView → Type 0) (ready3 : W3 → PassView → Type 0) (ready4 : W4 → PassView → Type 0) (ready5 : W5 → PassView → Type 0) (ready6 : W6 → PassView → Type 0) (workers : Each W1 W2 W3 W4 W5 W6) (passes : Passes) : Type 0 where
   pub feed : ready1 workers.feed passes.feed
   pub table : ready2 workers.table passes.table
@@ -28,7 +29,7 @@ pub record AreReady {W1 W2 W3 W4 W5 W6 : Type 0} (ready1 : W1 → PassView → T
   pub deposit : ready5 workers.deposit passes.deposit
   pub crane : ready6 workers.crane passes.crane
 
--- each worker gives its own back
+-- each worker keeps its own promise
 pub record GiveBack {W1 W2 W3 W4 W5 W6 : Type 0} (gives1 : GivesOf W1 FeedPart) (gives2 : GivesOf W2 TablePart) (gives3 : GivesOf W3 RobotPart) (gives4 : GivesOf W4 PressPart) (gives5 : GivesOf W5 DepositPart) (gives6 : GivesOf W6 CranePart) (workers : Each W1 W2 W3 W4 W5 W6) (passes : Passes) (tries : ℕ) (gate : Machine → GateOf) (turns : ℕ) (six : Six) : Type 0 where
   pub feed : gives1 workers.feed passes.feed tries (gate passes.feed.machine) turns six.feed
   pub table : gives2 workers.table passes.table tries (gate passes.table.machine) turns six.table
@@ -37,7 +38,7 @@ pub record GiveBack {W1 W2 W3 W4 W5 W6 : Type 0} (gives1 : GivesOf W1 FeedPart) 
   pub deposit : gives5 workers.deposit passes.deposit tries (gate passes.deposit.machine) turns six.deposit
   pub crane : gives6 workers.crane passes.crane tries (gate passes.crane.machine) turns six.crane
 
--- workers are started one after another: after the first that couldn't be started none is
+-- workers are started one after another; after the first that couldn't be started, none is
 pub record AreStartedInTurn {A B C D E F : Type 0} (started : Each (Option A) (Option B) (Option C) (Option D) (Option E) (Option F)) : Type 0 where
   pub table : started.feed ≡ None → started.table ≡ None
   pub robot : started.table ≡ None → started.robot ≡ None
@@ -45,7 +46,7 @@ pub record AreStartedInTurn {A B C D E F : Type 0} (started : Each (Option A) (O
   pub deposit : started.press ≡ None → started.deposit ≡ None
   pub crane : started.deposit ≡ None → started.crane ≡ None
 
--- a promise is of this worker, by this pass
+-- a promise by this worker, with this pass
 pub record IsPromised {W G : Type 0} (interlock : InterlockView) (gate : G) (turns : ℕ) (pass : PassView) (worker : W) (p : Promised W G) : Type 0 where
   pub over : p.interlock.value ≡ interlock
   pub by_pass : p.pass.value ≡ pass
@@ -53,6 +54,6 @@ pub record IsPromised {W G : Type 0} (interlock : InterlockView) (gate : G) (tur
   pub by_gate : p.gate.value ≡ gate
   pub limit : p.turns ≡ turns
 
--- a promise is kept by what was given back
+-- what was given back keeps the promise
 abbrev pub IsKept : {W G B : Type 0} → GivesOf W B → (G → Machine → GateOf) → Promised W G → Back B → Type 0
 IsKept gives may_answer p back = gives p.worker.value p.pass.value p.interlock.value.tries (may_answer p.gate.value p.pass.value.machine) p.turns back

@@ -1,4 +1,4 @@
--- What a record tells of six workers over one interlock.
+-- What a record says of six workers over one interlock.
 use Rattle.std.specs.Prelude.{◌≡◌, ℕ, true, map, None}
 use Rattle.cell_types.specs.declared.machine.Machine.{Machine}
 use Rattle.cell_types.specs.declared.machine.Machine.TheVariants.{Feed, Table, Robot, Press, Deposit, Crane, Watch}
@@ -25,11 +25,11 @@ use Rattle.cell_workers.specs.Workers.{GateOf, Moment, HasWorked, AreCountsOf}
 abbrev pub MomentOf : Machine → Type 0
 MomentOf m = Moment PassView (ProgressOf m) (PartOf m)
 
--- before its first turn a worker has a pass that has seen nothing, and its machine stands as it does at the start
+-- before its first turn a worker has a pass that has seen nothing, and its machine is at its start
 abbrev pub first_moment : InterlockView → (m : Machine) → MomentOf m
 first_moment i m = record { line = fresh_pass i m; side = side_in (sides_at_start i.opening) m; counts = no_counts }
 
--- the parts of the machines at the ends of their workers, which have no moment in common
+-- the parts of the machines when their workers end; these aren't states of one moment
 abbrev pub parts_at_ends : ((m : Machine) → MomentOf m) → PlantState
 parts_at_ends last =
     record {
@@ -41,8 +41,9 @@ parts_at_ends last =
       crane = (last Crane).side.part;
     }
 
--- A record tells six workers, one a machine, over one interlock: the turns of each, from the start of its machine to its last moment; that
--- what each has seen then is a lawful history, of which its journal is what its machine notes; and how far each came. The watch does nothing.
+-- A record is of six workers, one for each machine, over one interlock. It gives the turns of each, from its machine's
+-- start to its last moment. What each has seen is then a lawful history, and its journal has its machine's notes of it.
+-- The watch does nothing.
 pub record TellsWork (scales : CellScales) (opening : ModelState) (tries limit : ℕ) (gate : Machine → GateOf) (r : RunRecord) : Type 0 where
   pub interlock : InterlockView
   pub opened : interlock.opening ≡ opening

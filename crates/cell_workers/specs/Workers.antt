@@ -1,4 +1,4 @@
--- A worker: its machine's turns one after another, and how they end.
+-- A worker: its machine's turns, one after another, and how they end.
 use Rattle.std.specs.Prelude.{◌≡◌, ◌<◌, ◌≤◌, ℕ, Bool, true, false, ⊤, ◌⊎◌, List, [], ◌∷◌, Option, Some, None, count_by}
 use Rattle.cell_types.specs.declared.answer.Answer.{Answer}
 use Rattle.cell_types.specs.declared.answer.Answer.TheVariants.{Shown, Refused}
@@ -19,7 +19,7 @@ use Rattle.cell_seat.specs.Fares.{status_of}
 use Rattle.cell_seat.specs.Sides.{Side, ActsAndMoves, TellsByDemands}
 use Rattle.cell_workers.specs.Lines.{Lines, passes}
 
--- a worker between two turns: its line, its machine's side, and how often it has done what
+-- a worker between two turns: its line, its machine's side, and its counts
 pub record Moment (L S State : Type 0) : Type 0 where
   pub line : L
   pub side : Side S State
@@ -32,8 +32,8 @@ moment line side counts = record { line = line; side = side; counts = counts }
 abbrev pub GateOf : Type 1
 GateOf = ℕ → Bool → Type 0
 
--- A turn of a machine that nothing has stopped, once its gate has let it in: a row of its program, by a call over the line or by none; and
--- what its motors demand holds of what was seen.
+-- A turn of a machine that hasn't stopped, once its gate has let it in: a row of its program, with one call over the
+-- line or none. What its motors demand holds of what it has seen.
 pub record TakesTurn {L S Sense Reading Act State : Type 0} (lines : Lines L) (t : Steps S Sense Reading Act) (rig : Rig State Sense Act) (gate : GateOf) (before now : Moment L S State) : Type 0 where
   pub runs : before.side.stopped ≡ None
   pub let_in : gate before.counts.turns true
@@ -42,7 +42,7 @@ pub record TakesTurn {L S Sense Reading Act State : Type 0} (lines : Lines L) (t
   pub motor_demands : now.side.stopped ≡ None → TellsByDemands t rig before.side.progress before.side.part asked now.side.part (lines.opening now.line) (lines.seen now.line)
   pub counted : now.counts ≡ counts_with before.counts asked
 
--- one turn after another, each from where the one before it has ended
+-- turns, each from the end of the one before it
 abbrev pub TakesTurns : {L S Sense Reading Act State : Type 0} → Lines L → Steps S Sense Reading Act → Rig State Sense Act → GateOf → Moment L S State → List (Moment L S State) → Type 0
 TakesTurns lines t rig gate before [] = ⊤
 TakesTurns lines t rig gate before (now ∷ later) = TakesTurn lines t rig gate before now × TakesTurns lines t rig gate now later
@@ -51,18 +51,19 @@ abbrev pub last_of : {A : Type 0} → A → List A → A
 last_of first [] = first
 last_of first (now ∷ later) = last_of now later
 
--- a worker has come from one moment to another by turns
+-- a worker has gone from one moment to another by turns
 pub record HasCome {L S Sense Reading Act State : Type 0} (lines : Lines L) (t : Steps S Sense Reading Act) (rig : Rig State Sense Act) (gate : GateOf) (first now : Moment L S State) : Type 0 where
   pub turns : List (Moment L S State)
   pub taken : TakesTurns lines t rig gate first turns
   pub last : last_of first turns ≡ now
 
--- A machine that nothing has stopped ends fine after all its turns, or earlier where its gate says no. One that was stopped ends so.
+-- A machine that hasn't stopped ends fine after all its turns, or earlier if its gate says no. A stopped machine ends
+-- with its fault.
 abbrev pub Ends : GateOf → ℕ → Option CtlFault → ℕ → Status → Type 0
 Ends gate limit None turns s = ((s ≡ Fine) × (turns ≡ limit)) ⊎ ((s ≡ GateLimit) × (turns < limit) × gate turns false)
 Ends gate limit (Some fault) turns s = (s ≡ status_of (Some fault)) × (turns ≤ limit)
 
--- a worker has come from its first moment to its last, and fares so
+-- a worker has gone from its first moment to its last, and ends with this status
 pub record HasWorked {L S Sense Reading Act State : Type 0} (lines : Lines L) (t : Steps S Sense Reading Act) (rig : Rig State Sense Act) (gate : GateOf) (limit : ℕ) (first last : Moment L S State) (status : Status) : Type 0 where
   pub come : HasCome lines t rig gate first last
   pub ends : Ends gate limit last.side.stopped last.counts.turns status
@@ -77,14 +78,14 @@ abbrev pub is_refused_answer : Answer → Bool
 is_refused_answer (Refused refusal) = true
 is_refused_answer _ = false
 
--- the counts of calls are those of the journal's entries
+-- the counts of settled calls agree with the journal's entries
 pub record AreCountsOf (journal : List Entry) (c : Counts) : Type 0 where
   pub done : c.done ≡ count_by (λ e. is_done_answer e.answer) journal
   pub read : c.read ≡ count_by (λ e. is_shown_answer e.answer) journal
   pub refused : c.refused ≡ count_by (λ e. is_refused_answer e.answer) journal
 
--- What a worker gives back, that began at a moment: it has worked up to a last moment, with this pass, these counts and its part so. What
--- the pass has seen is lawful, and the journal is what its machine notes of it.
+-- What a worker gives back after it began at this moment: it has worked up to a last moment, with this pass, these
+-- counts and this part. What the pass has seen is lawful, and the journal has its machine's notes of it.
 pub record GivesBack {S Sense Reading Act State : Type 0} (tries : ℕ) (t : Steps S Sense Reading Act) (rig : Rig State Sense Act) (gate : GateOf) (limit : ℕ) (first : Moment PassView S State) (kept : PassView) (journal : List Entry) (did : Counts) (fares : Status) (stands : State) : Type 0 where
   pub last : Moment PassView S State
   pub worked : HasWorked (passes tries) t rig gate limit first last fares

@@ -1,4 +1,4 @@
-//! Why six workers make no record.
+//! Why a run by six workers gives no record.
 
 ghost use Rattle.std.specs.Prelude.{◌≡◌};
 ghost use Rattle.cell_workers.specs.Faults.{run_fault_text};
@@ -6,21 +6,22 @@ ghost use Rattle.cell_workers.specs.Faults.{run_fault_text};
 use cell_interlock::MakeFault;
 use thiserror::Error;
 
-/// Why workers make no record. The text is that of a program's fault line, behind the word `fault`.
+/// Why a run by workers gives no record. Its text follows the word `fault` in a program's fault
+/// line.
 #[derive(Clone, Copy, PartialEq, Eq, Debug, Error)]
 #[error("{}", self.text())]
 pub enum RunFault {
-    /// A call may lose from 1 to 64 exchanges, and no other number. No worker has begun.
+    /// The number of exchanges that a call may lose isn't 1 to 64. No worker has begun.
     Tries,
-    /// The room for the interlock was refused, before any worker had begun; or that of an audit, after all
-    /// of them had come to their ends.
+    /// Memory ran out: for the interlock, before any worker had begun, or for an audit, after all
+    /// workers had ended.
     Memory,
-    /// A thread couldn't be started. The workers that had begun have come to their ends.
+    /// A thread couldn't be started. The workers that had begun have ended.
     Spawn,
 }
 
 impl RunFault {
-    /// What a program's fault line says behind the word `fault`.
+    /// The text that follows the word `fault` in a program's fault line.
     pub fn text(&self) -> &'static str
         ensures { result.now ≡ run_fault_text self.now }
     {

@@ -1,17 +1,17 @@
-//! What lets a machine begin its turns.
+//! A gate lets machines begin their turns.
 
 use cell_types::Machine;
 
-/// Lets a machine begin a turn, or doesn't: then that machine's worker has ended.
+/// Lets a machine begin a turn, or refuses: then that machine's worker ends.
 pub trait Gate {
     ghost use Rattle.std.specs.Prelude.{⊤, ℕ, Bool};
     ghost use Rattle.cell_types.specs.declared.machine.Machine.{Machine};
 
-    // What it may answer a machine, by the number of the turn. Where an implementation says nothing, that is anything.
+    // What it may answer a machine, by the number of the turn. The default is anything.
     ghost may_answer: { Self → Machine → ℕ → Bool → Type 0 } = { λ _ _ _ _. ⊤ };
 
-    /// Whether the machine may begin its turn of this number, from 0. It is asked once for each turn, in
-    /// order, by the machine's own thread.
+    /// Whether the machine may begin its turn of this number, from 0. The machine's own thread asks
+    /// once for each turn, in order.
     fn pass(&self, machine: Machine, turn: u32) -> bool
         ensures { may_answer self.now machine turn result };
 }

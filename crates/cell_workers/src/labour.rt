@@ -11,17 +11,17 @@ use cell_notes::{Counts, Status};
 use cell_rules::Line;
 use cell_seat::{Seat, status_of};
 
-/// How far a worker came.
+/// A worker's counts and status.
 #[derive(Clone, Copy, Debug, PartialEq, Eq)]
 pub(crate) struct Tally {
-    /// How often its machine did what.
+    /// Its counts of turns and replies.
     pub counts: Counts,
-    /// How its machine fares.
+    /// The status of its machine.
     pub status: Status,
 }
 
-/// A machine's turns over a line: at most so many, each once the gate lets it begin, and none after one
-/// that has stopped the machine.
+/// Takes a machine's turns over a line: at most `turns`, each once the gate lets it begin, and none
+/// after a turn that has stopped the machine.
 pub(crate) fn labour<P: Program, B: Part<Sense = P::Sense, Act = P::Act>, L: Line, G: Gate>(
     seat: &mut Seat<P, B>,
     line: &mut L,

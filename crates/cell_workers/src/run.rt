@@ -20,17 +20,20 @@ use std::alloc::Global;
 use std::sync::Wait;
 use std::thread::Threads;
 
-/// Runs a cell that was made for a start: each machine in a thread of its own takes up to `turns` turns over
-/// one interlock, which opens with that start and where a call may lose `tries` exchanges. All six are
-/// joined.
+/// Runs a cell that was made for a start. Each machine takes up to `turns` turns in a thread of its
+/// own. All six share one interlock, which opens with that start and on which a call may lose
+/// `tries` exchanges. Returns after joining all six.
 ///
-/// Before its turn k, from 0, a worker asks the gate, and ends with `Status::GateLimit` where that says
-/// no. It ends, too, once its machine has stopped. The end of the record is left open, since a worker knows
-/// what it has seen of the history and not all of it.
+/// Before its turn k, from 0, a worker asks the gate; if that says no, it ends with
+/// `Status::GateLimit`. It also ends once its machine has stopped. The record's end is left open: a
+/// worker knows only what it has seen of the history.
 ///
-/// `Tries`, which is looked at first, unless `tries` is 1 to 64; `Memory` where the interlock gets no
-/// room; `Spawn` where a thread couldn't be started: then the workers that had begun have come to their
-/// ends. Where the room for a call's entry is refused, that machine stops with `Status::Memory`.
+/// Errors:
+/// - `Tries` if `tries` isn't 1 to 64; it is checked first;
+/// - `Memory` if there is no memory for the interlock;
+/// - `Spawn` if a thread couldn't be started; the workers that had begun have ended.
+///
+/// If there is no memory for a call's entry, only that machine stops, with `Status::Memory`.
 pub fn run_workers<R, F1, F2, F3, F4, F5, G>(
     rt: &R,
     alloc: Global,

@@ -23,7 +23,7 @@ use std::sync::Wait;
 use std::thread;
 use std::thread::{PromisedHandle, Scope, Threads};
 
-/// One for each machine that works.
+/// A value for each of the six machines.
 #[derive(Drop)]
 pub(crate) struct Each<A, B, C, D, E, F> {
     pub feed: A,
@@ -45,12 +45,12 @@ pub(crate) struct Six {
     pub crane: Back<CranePart>,
 }
 
-// A worker of whose start was asked.
+// A worker that was asked to start.
 type Started<B, W, G> = Option<PromisedHandle<Back<B>, Promised<W, G>>>;
 
 /// Starts six workers, each in a thread of its own, and joins them.
 ///
-/// `None` where one couldn't be started: those before it have come to their ends.
+/// Returns `None` if one couldn't be started; those before it have ended.
 pub(crate) fn run_six<R, W1, W2, W3, W4, W5, W6, G>(
     rt: &R,
     orders: &Orders<'_, G>,
@@ -80,7 +80,7 @@ where
     )
 }
 
-// Six workers that begin in a scope, and end in it.
+// Starts six workers in a scope, and waits until they have ended.
 fn work_in<'s, R, E, W1, W2, W3, W4, W5, W6, G>(
     scope: &Scope<'s, E>,
     rt: &R,
@@ -105,7 +105,7 @@ where
     join_six(rt, started)
 }
 
-// Starts all six, or those before one that couldn't be started.
+// Starts all six, or those before the first that can't be started.
 fn start_six<'s, E, W1, W2, W3, W4, W5, W6, G>(
     scope: &Scope<'s, E>,
     orders: &Orders<'s, G>,
@@ -148,7 +148,7 @@ where
     }
 }
 
-// Waits for the ends of all that were started.
+// Waits until all that were started have ended.
 fn join_six<R, W1, W2, W3, W4, W5, W6, G>(
     rt: &R,
     started: Each<
@@ -186,7 +186,7 @@ where
     })
 }
 
-// All six together, if none of them is missing.
+// The results of all six, if none is missing.
 fn six_of(
     each: Each<
         Option<Back<FeedPart>>,
@@ -236,7 +236,7 @@ impl Six {
         }
     }
 
-    // How often each machine did what, in the order of `Machine::ALL`.
+    // The counts of each machine, in the order of `Machine::ALL`.
     fn counts(&self) -> [Counts; 7]
         ensures { result ≡ self.now.feed.counts ∷ self.now.table.counts ∷ self.now.robot.counts ∷ self.now.press.counts ∷ self.now.deposit.counts ∷ self.now.crane.counts ∷ no_counts ∷ [] }
     {
@@ -251,7 +251,7 @@ impl Six {
         ]
     }
 
-    // How each machine fares, in the same order.
+    // The status of each machine, in the same order.
     fn status(&self) -> [Status; 7]
         ensures { result ≡ self.now.feed.status ∷ self.now.table.status ∷ self.now.robot.status ∷ self.now.press.status ∷ self.now.deposit.status ∷ self.now.crane.status ∷ Status.Fine ∷ [] }
     {
@@ -266,7 +266,7 @@ impl Six {
         ]
     }
 
-    // Where the axes stand, in the order of reports.
+    // The positions of the axes, in the order of reports.
     fn axes(&self) -> [i32; 8]
         ensures { result ≡ positions_in (parts_in self.now) }
     {
@@ -282,7 +282,7 @@ impl Six {
         ]
     }
 
-    // Each machine's journal. The watch's is empty, and takes no memory.
+    // Each machine's journal. The watch's is empty, and isn't allocated.
     fn into_journals(self, alloc: Global) -> Journals
         ensures { (m : Machine) → journal_of result m ≡ journal_in self m }
     {

@@ -13,13 +13,13 @@ use std::thread::{Promise, PromisedHandle, Scope, Threads};
 /// What the workers of a run have in common.
 #[derive(Drop)]
 pub(crate) struct Orders<'s, G> {
-    /// Where their journals take memory.
+    /// The allocator of their journals.
     pub alloc: Global,
     /// The interlock over which they work.
     pub interlock: &'s Interlock,
-    /// What lets them begin their turns.
+    /// The gate that lets them begin their turns.
     pub gate: &'s G,
-    /// How many turns each has at most.
+    /// The greatest number of turns of each.
     pub turns: u32,
 }
 
@@ -37,9 +37,9 @@ impl<W: Worker, G: Gate> Promise<Back<W::Part>> for Promised<W, G> {
     ghost kept_by = { λ p r. W.gives_back p.worker.value p.pass.value p.interlock.value.tries (G.may_answer p.gate.value p.pass.value.machine) p.turns r };
 }
 
-/// Starts a worker, unless one of those before it couldn't be started.
+/// Starts a worker, unless an earlier one couldn't be started.
 ///
-/// `None` where it isn't started; `all_run` is false then.
+/// Returns `None` if it isn't started; then `all_run` is false.
 pub(crate) fn start<'s, E, W: Worker + Send + 's, G: Gate + Sync>(
     scope: &Scope<'s, E>,
     orders: &Orders<'s, G>,
@@ -82,7 +82,7 @@ where
     started
 }
 
-/// Waits for the end of a worker, if it was started.
+/// Waits until a worker has ended, if it was started.
 pub(crate) fn joined<R: Threads, T, P: Promise<T>>(
     rt: &R,
     started: Option<PromisedHandle<T, P>>,

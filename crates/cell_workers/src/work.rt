@@ -1,4 +1,4 @@
-//! A worker: a pass in, and a plain struct out.
+//! A worker: it gets a pass, and gives back a plain struct.
 ghost use Rattle.std.specs.Prelude.{◌≡◌, []};
 ghost use Rattle.cell_notes.specs.Notes.{no_counts};
 ghost use Rattle.cell_seat.specs.Sides.{IsReady, side_of};
@@ -14,22 +14,22 @@ use cell_seat::Seat;
 use cell_types::Entry;
 use std::alloc::Global;
 
-/// What a worker gives back. It borrows nothing, and the machine's controller isn't in it.
+/// What a worker gives back. It borrows nothing, and doesn't contain the machine's controller.
 #[derive(Drop)]
 pub(crate) struct Back<B> {
     /// The machine's pass.
     pub pass: Pass,
-    /// Its calls that were settled.
+    /// An entry for each call that it settled.
     pub journal: Vec<Entry>,
-    /// How often it did what.
+    /// Its counts of turns and replies.
     pub counts: Counts,
-    /// How it fares.
+    /// Its status at the end.
     pub status: Status,
-    /// Where its part stands.
+    /// Its part, as it was at the end.
     pub part: B,
 }
 
-/// A machine's turns by its pass over an interlock.
+/// Takes a machine's turns by its pass over an interlock.
 pub(crate) fn work<P: Program, B: Part<Sense = P::Sense, Act = P::Act>, G: Gate>(
     alloc: Global,
     interlock: &Interlock,

@@ -1,4 +1,4 @@
-//! What a thread is given: a machine, whatever machine it is.
+//! What a thread gets: a machine, of any of the six types.
 
 use crate::gate::Gate;
 use crate::work::{Back, work};
@@ -9,24 +9,25 @@ use std::alloc::Global;
 
 /// A machine that works in a thread of its own, by a pass over an interlock.
 ///
-/// A thread may be given a value of a type parameter, but no struct whose fields have bounds of their
-/// own. So this trait stands between a thread and the seat that it works at.
+/// A thread can take a value of a type parameter, but no struct whose fields have bounds of their
+/// own. So a thread works through this trait, and not with a seat itself.
 pub(crate) trait Worker: Drop {
     ghost use Rattle.std.specs.Prelude.{◌≡◌, ℕ, []};
     ghost use Rattle.cell_interlock.specs.Views.{PassView};
     ghost use Rattle.cell_workers.specs.Workers.{GateOf};
     ghost use Rattle.cell_workers.specs.declared.work.Back.{Back};
 
-    /// Its part, which it gives back.
+    /// The machine's part, which it gives back.
     type Part: Drop;
 
-    // It has come so far by what this pass has seen.
+    // Its progress follows from what this pass has seen.
     ghost is_ready: { Self → PassView → Type 0 };
 
-    // What it gives back that worked by this pass: where calls have so many tries, by its gate, in so many turns.
+    // What it gives back after it has worked by this pass. Given are the number of tries of a call,
+    // its gate, and the greatest number of turns.
     ghost gives_back: { Self → PassView → ℕ → GateOf → ℕ → Back Self.Part → Type 0 };
 
-    /// Its turns: at most so many.
+    /// Takes its turns, at most `turns`.
     fn work<G: Gate>(
         self,
         alloc: Global,

@@ -1,4 +1,5 @@
-//! Cells whose machines work in threads, let in always, with a closure over the line of each potentiometer.
+//! Cells whose machines work in threads. Their gate is open; each potentiometer is read by a
+//! closure on its line.
 ghost use Rattle.std.specs.Prelude.{IfOk, pos, ◌<ℤ◌, ◌≤ℤ◌};
 ghost use Rattle.cell_parts.specs.Axes.{IsAxisScale, arm_end, rotation_end, turn_end};
 ghost use Rattle.cell_rules.specs.Start.{IsStartState};
@@ -30,14 +31,14 @@ struct AxisPoints {
     turn: Points,
 }
 
-/// How many exchanges a call may lose, and how many turns each worker has.
+/// The number of exchanges that a call may lose, and of turns that each worker takes.
 #[derive(Clone, Copy)]
 pub struct Limits {
     pub tries: u8,
     pub turns: u32,
 }
 
-/// What comes of workers.
+/// The result of workers.
 pub type Worked = Result<RunRecord, RunFault>;
 
 // Workers of a cell with these closures.
@@ -86,7 +87,7 @@ where
     )
 }
 
-/// Workers of a cell whose closures are over their lines.
+/// Workers of a cell; each closure is on its potentiometer's line.
 pub fn work<R: Threads + Wait + Sync>(
     rt: &R,
     alloc: Global,

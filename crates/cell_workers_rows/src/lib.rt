@@ -1,4 +1,4 @@
-//! Tests of six workers, by public calls alone.
+//! Tests of six workers, by public calls only.
 #![tactic(auto)]
 
 #[cfg(test)]

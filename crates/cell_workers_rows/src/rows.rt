@@ -1,4 +1,4 @@
-//! Runs of six workers, and what their records tell.
+//! Runs of six workers, and what their records say.
 
 use crate::cells::{Limits, work};
 use cell_notes::{Counts, RunRecord, Status};
@@ -20,7 +20,7 @@ const THREE_TURNS: Limits = Limits {
     turns: 3,
 };
 
-// So many calls of a machine in three turns: done, and inquiries.
+// A machine's calls in three turns: the number of done calls, and of inquiries.
 fn three_turns(done: u64, read: u64) -> Counts {
     Counts {
         turns: 3,
@@ -31,8 +31,8 @@ fn three_turns(done: u64, read: u64) -> Counts {
     }
 }
 
-// Each machine's calls in its first three turns, from a start without plates. In none of them machines meet, so
-// they are the same however the workers go on.
+// Each machine's calls in its first three turns, from a start without plates. No machines meet in
+// them, so they are the same in whichever order the workers go on.
 fn first_steps() -> [Counts; 7] {
     [
         three_turns(3, 0),
@@ -74,7 +74,7 @@ fn tries_have_limits(rt: HostRuntime) -> Result<(), Fail> {
     Ok(())
 }
 
-// The plates after the events that the journals tell.
+// The number of plates after the events of the journals.
 fn plates_told(alloc: Global, record: &RunRecord) -> Result<u32, Fail> {
     let events = audit(alloc, &record.journals, &record.start, None)?;
     let mut state = record.start;
@@ -84,7 +84,7 @@ fn plates_told(alloc: Global, record: &RunRecord) -> Result<u32, Fail> {
     Ok(state.plates())
 }
 
-// No machine stops, and the plates that it began with are kept.
+// No machine stops, and the number of plates stays the same.
 #[test]
 fn long_runs_keep_their_plates(rt: HostRuntime) -> Result<(), Fail> {
     for tries in [1, 8] {
@@ -103,7 +103,8 @@ fn long_runs_keep_their_plates(rt: HostRuntime) -> Result<(), Fail> {
     Ok(())
 }
 
-// Whatever growth is refused, the record tells who was stopped by that, or the fault why there is none.
+// Whichever allocation fails, the record shows which machines it stopped, or the fault says why
+// there is no record.
 #[test]
 fn workers_without_memory(rt: HostRuntime) -> Result<(), Fail> {
     match work(&rt, rt.alloc(), EMPTY, THREE_TURNS)? {

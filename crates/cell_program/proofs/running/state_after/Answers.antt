@@ -7,7 +7,7 @@ use Rattle.cell_rules.specs.History.{after}
 use Rattle.cell_rules.proofs.SeenLemmas.{after-push}
 use Rattle.cell_program.proofs.running.state_after.Goals as goal
 
--- the state after one event more
+-- the state after one more event
 after_more : (start now new : ModelState) (events : List Event) (i : ℕ) (d : Event) → now ≡ after start (take i events) → i < length events → new ≡ next now (get_or events i d).machine (get_or events i d).call
     → new ≡ after start (take (i + 1) events)
 after_more start now new events i d so_far lt is =

@@ -2,7 +2,7 @@ use Rattle.std.proofs.Common.{◌≡◌, ◌∙◌, sym, ap, Option, Some, None}
 use Rattle.std.specs.Option.{option_zip}
 use Rattle.cell_workers.proofs.six.six_of.Goals as goal
 
--- where a pair is given, both of it were
+-- if there is a pair, there are both parts of it
 both : {A B : Type 0} → (a : Option A) (b : Option B) (x : A) (y : B) → option_zip a b ≡ Some (x, y) → (a ≡ Some x) × (b ≡ Some y)
 both None b x y e = cc
 both (Some a) None x y e = cc
