@@ -38,7 +38,7 @@ run_asked words m turns tries turns' tries' e f k =
     let same : Run turns tries ≡ Run turns' tries' = sym e ∙ (f ∙ k.1) in
     (cc, cc)
 
--- what is so of both words that ask for a replay
+-- what holds of both ways to ask for a replay
 pub either_way : {K : Type 0} → (words : List Text) → AskForReplay words → ((name : List ℕ) → words ≡ name ∷ [] → K) → ((name : List ℕ) → words ≡ name ∷ codes "replay" ∷ [] → K) → K
 either_way words (name, inl e) f g = f name e
 either_way words (name, inr e) f g = g name e

@@ -1,4 +1,5 @@
--- The flags of `run` have their numbers once `clap` has taken the words: a walk over the words keeps that, and so do the defaults.
+-- The flags of `run` have their numbers if `clap` accepts the words: going over the words keeps that, and so do the
+-- defaults.
 use Rattle.std.proofs.Common.{◌≡◌, ◌∷◌, [], ◌++◌, cond, ℕ, zero, suc, Bool, true, false, List, Option, Some, None, codes, refl, sym, ap, subst, fold, length, arith, is_some}
 use Rattle.std.specs.List.{AllByRecursion, find}
 use Rattle.std.specs.Option.{option_map_or}
@@ -21,7 +22,7 @@ use Rattle.clap.specs.declared.parser.matches.ValueSource.{ValueSource}
 use Rattle.clap.specs.declared.parser.matches.ValueSource.TheVariants.{CommandLine, DefaultValue}
 use Rattle.cell_command.specs.Words.{HasNumber, HasNumbers, most_tries, most_turns, number_flag, program, run_command}
 
--- of two steps neither fails
+-- neither of two steps fails
 neither : (a b : Kinds) → or_else a b ≡ [] → (a ≡ []) × (b ≡ [])
 neither [] b e = (refl, e)
 neither (k ∷ ks) b e = cc
@@ -65,7 +66,7 @@ row_changed : (id : Text) (change : Row → List Row) (missing rows : List Row) 
 row_changed id change missing [] m f a = m
 row_changed id change missing (r ∷ rs) m f a = row_step (bytes_eq r.id id) r (change r) rs (at_row id change missing rs) a.0 (f r a.0) a.1 (row_changed id change missing rs m f a.1)
 
--- ---- a walk keeps them, where every argument does
+-- ---- going over the words keeps them, if each argument does
 
 abbrev UsesWell : Bool → Rule → Type 0
 UsesWell again a = (values : List Text) (rows : List Row) → use_fault again a values rows ≡ [] → AreNumbers rows → AreNumbers (used a values rows)
@@ -121,7 +122,7 @@ module _ (s : Shape) (uses : AllByRecursion (UsesWell s.args_override_self) s.ru
   longs None v h u e n = n
   longs (Some a) v h u e n = longs_as (takes_values a) a v h (u a refl) e n
 
-  -- what goes on keeps them
+  -- what follows keeps them
   abbrev GoesOn : (Held → Kinds) → (Held → Held × Outcome) → Type 0
   GoesOn fault later = (h : Held) → fault h ≡ [] → AreNumbers h.rows → AreNumbers (later h).0.rows
 
@@ -342,7 +343,7 @@ help_defaults rows e n = go (has_row (codes "help") rows)
     go true = n
     go false = n
 
--- ---- the numbers that are there in the end
+-- ---- the numbers at the end
 
 both_rows : (rows : List Row) → AreNumbers rows → has_row (codes "turns") rows ≡ true → has_row (codes "tries") rows ≡ true
     → HasNumber (codes "turns") most_turns rows × HasNumber (codes "tries") most_tries rows
@@ -356,7 +357,7 @@ both_rows rows n a b =
     number_read : (flag : Text) (rows : List Row) (r : Row) (n : HasNumberFirst r) → find (λ x. bytes_eq x.id flag) rows ≡ Some r → one_of flag rows ≡ Some n.text
     number_read flag rows r n e = rw (e, n.values, n.reading) refl
 
--- a row that has one more value, by default
+-- a row with another value, by default
 abbrev longer : Text → Row → Row
 longer text r = record r { values = r.values ++ text ∷ []; source = Some (stronger r.source DefaultValue) }
 
@@ -438,7 +439,7 @@ entered_well : (stop : Option (Text × List Text)) → entered_fault (built prog
 entered_well None e = tt
 entered_well (Some p) e = found_well (λ s. answers_to p.0 (label_of s)) p.1 _ refl e
 
--- where `clap` has nothing against the words and finds the word `run`, its flags have their numbers
+-- if `clap` accepts the words and finds the word `run`, its flags have their numbers
 pub run_has_numbers : (words : List Text) → fault_of program words ≡ [] → HasNumbers (subcommand_of program words)
 run_has_numbers words e =
     let a = built program in

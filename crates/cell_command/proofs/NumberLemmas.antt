@@ -23,7 +23,7 @@ number_read most t (Some v) read small n = ap (λ k. Some k) read.0.1
 number_read most t None read small n = absurd (read.1.0 (n.0, omega (arith, n.3)))
 
 module _ {Z : Type 0} where
-  -- the flags of the word `run`, where that was met
+  -- the flags of the word `run`, if it was found
   pub flags_of_run : (sub : Option (Box SubCommand Z)) (word : Text) (rows : List Row) → Some word ≡ option_map (λ b. (out-SubCommand (box_value b)).name.now) sub → Some rows ≡ option_map (λ p. p.1) (subcommand_rows sub)
       → word ≡ codes "run" → HasNumbers (subcommand_rows sub) → HasNumber (codes "turns") most_turns rows × HasNumber (codes "tries") most_tries rows
   flags_of_run None word rows name is run n = cc

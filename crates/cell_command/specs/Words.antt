@@ -9,7 +9,7 @@ use Rattle.clap.specs.declared.error.kind.ErrorKind.TheVariants.{DisplayHelp}
 use Rattle.cell_command.specs.declared.words.Mode.{Mode}
 use Rattle.cell_command.specs.declared.words.Mode.TheVariants.{Replay, Sim, Run}
 
--- a flag that takes a number from 1 to the most, and has a number where it isn't given
+-- a flag that takes a number from 1 to the most, and has a default
 abbrev pub number_flag : Text → ℕ → Text → Rule
 number_flag name most default = record (new_rule name) {
   long = Some name;
@@ -32,15 +32,15 @@ run_command = with_rule (with_rule (new_app (codes "run")) (number_flag (codes "
 abbrev pub program : App
 program = with_subcommand (with_subcommand (with_subcommand (new_app (codes "cell")) (new_app (codes "replay")).top) (new_app (codes "sim")).top) run_command.top
 
--- the number that a text spells, perhaps behind a plus
+-- the number that a text spells, perhaps after a plus
 abbrev pub number_of : Text → ℕ
 number_of text = digits_value 10 (without_leading_plus text)
 
--- the number that a flag has, given or not
+-- the number of a flag, or its default
 abbrev pub number_in : Text → List Row → ℕ
 number_in flag rows = option_map_or number_of (one_of flag rows) 0
 
--- what the word behind the program's name asks for: a replay where there is none
+-- what the word after the program's name asks for: a replay if there is none
 abbrev pub mode_named : Option (Text × List Row) → Mode
 mode_named None = Replay
 mode_named (Some (word, rows)) =
@@ -51,7 +51,7 @@ mode_named (Some (word, rows)) =
 abbrev pub mode_of : List Text → Mode
 mode_of words = mode_named (subcommand_of program words)
 
--- `clap` has nothing against the words, of which the first is the program's name
+-- `clap` accepts the words; the first is the program's name
 abbrev pub AreTaken : List Text → Type 0
 AreTaken words = fault_of program words ≡ []
 
@@ -59,19 +59,19 @@ AreTaken words = fault_of program words ≡ []
 abbrev pub AskForHelp : List Text → Type 0
 AskForHelp words = IsAmong DisplayHelp (fault_of program words)
 
--- they ask for a replay: the program's name alone, or with the word `replay` behind it
+-- they ask for a replay: the program's name alone, or with the word `replay` after it
 abbrev pub AskForReplay : List Text → Type 0
 AskForReplay words = (name : Text) × ((words ≡ name ∷ []) ⊎ (words ≡ name ∷ codes "replay" ∷ []))
 
--- they ask for a simulation: the program's name with the word `sim` behind it
+-- they ask for a simulation: the program's name with the word `sim` after it
 abbrev pub AskForSim : List Text → Type 0
 AskForSim words = (name : Text) × (words ≡ name ∷ codes "sim" ∷ [])
 
--- they ask for a run of so many turns and tries: they are taken, and have the word `run` behind the program's name
+-- they ask for a run with these turns and tries: `clap` accepts them, and the word `run` follows the program's name
 abbrev pub AskForRun : ℕ → ℕ → List Text → Type 0
 AskForRun turns tries words = AreTaken words × (mode_of words ≡ Run turns tries)
 
--- a run has from 1 to so many turns, and from 1 to so many tries
+-- a run has from 1 to `most_turns` turns, and from 1 to `most_tries` tries
 abbrev pub IsWithin : Mode → Type 0
 IsWithin Replay = ⊤
 IsWithin Sim = ⊤
@@ -81,7 +81,7 @@ IsWithin (Run turns tries) = (1 ≤ turns) × (turns ≤ most_turns) × (1 ≤ t
 abbrev pub HasNumber : Text → ℕ → List Row → Type 0
 HasNumber flag most rows = (text : Text) × (one_of flag rows ≡ Some text) × IsUnsignedIn 1 most text
 
--- where the word `run` was met, its flags have their numbers
+-- if the word `run` was found, its flags have their numbers
 abbrev pub HasNumbers : Option (Text × List Row) → Type 0
 HasNumbers None = ⊤
 HasNumbers (Some (word, rows)) = bytes_eq word (codes "run") ≡ true → HasNumber (codes "turns") most_turns rows × HasNumber (codes "tries") most_tries rows

@@ -6,7 +6,7 @@ use std::alloc::Global;
 use std::env::{Env, FillError};
 use std::{env, io};
 
-/// An environment whose arguments begin behind the program's own name, which isn't read.
+/// An environment without the program's own name, which isn't read: its arguments begin after that.
 #[derive(Drop)]
 struct Behind<'a, E> {
     env: &'a E,
@@ -29,10 +29,10 @@ impl<E: Env> Env for Behind<'_, E> {
     }
 }
 
-/// The words that the program was started with, where `cell` stands for its own name. That isn't read,
-/// so it may be any bytes, or absent.
+/// The words that the program was started with. The first is `cell`: the program's own name isn't
+/// read, so it may be any bytes, or absent.
 ///
-/// `InvalidData` where a word behind the name isn't UTF-8, and `OutOfMemory` where memory ran out.
+/// `InvalidData` if a word after the name isn't UTF-8, and `OutOfMemory` if memory ran out.
 pub fn words_of<E: Env>(alloc: Global, env: &E) -> io::Result<Vec<String>>
     ensures { IfOk result (λ words. (behind : List (List ℕ)) × (map string_bytes words.items ≡ codes "cell" ∷ behind)) }
 {

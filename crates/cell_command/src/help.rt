@@ -1,7 +1,6 @@
-//! What the help says besides usage: a line before it, and after it what is read and written, where the
-//! formats are described, and an example.
+//! The texts of the help besides usage: a line before it, and details after it.
 
-/// Of the program.
+/// The help of the program.
 pub const CELL: &str =
     "Replays scripts of calls to the production cell's interlock, and simulates and runs the cell.";
 
@@ -19,7 +18,7 @@ Examples:
   cell sim < examples/press.toml
   cell run --turns 3 < examples/six_workers.toml";
 
-/// Of `replay`.
+/// The help of `replay`.
 pub const REPLAY: &str =
     "Replays a script of calls to the interlock, and writes the answer to each.";
 
@@ -32,7 +31,7 @@ both.
 Example:
   cell replay < examples/interior.csv";
 
-/// Of `sim`.
+/// The help of `sim`.
 pub const SIM: &str = "Simulates the cell along a schedule of turns, and writes a report.";
 
 pub const SIM_DETAILS: &str = "\
@@ -45,7 +44,7 @@ docs/CONFIGURATIONS.md describes what is read, docs/REPORTS.md what is written.
 Example:
   cell sim < examples/press.toml";
 
-/// Of `run`.
+/// The help of `run`.
 pub const RUN: &str = "Runs the six machines in six threads, and writes a report.";
 
 pub const RUN_DETAILS: &str = "\
@@ -57,7 +56,7 @@ docs/REPORTS.md what is written.
 Example:
   cell run --turns 3 --tries 64 < examples/six_workers.toml";
 
-/// Of the flags of `run`.
+/// The help of the flags of `run`.
 pub const TURNS: &str = "Turns of each machine, 1 to 100000";
 
 pub const TRIES: &str = "Failed tries after which a call is Busy, 1 to 64";

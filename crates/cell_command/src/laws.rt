@@ -1,8 +1,8 @@
-//! What is so of the program's words: laws, in functions that do nothing.
+//! Laws of the program's words, each the contract of a function that does nothing.
 
 ghost use Rattle.cell_command.specs.WordExamples.{WordsAreMet};
 
-/// Words with what they ask for, each flag with both ends of its range, and words that are refused.
+/// Examples: words and what they ask for, each flag with both ends of its range, and refused words.
 pub fn words_are_met()
     ensures { WordsAreMet }
 {}

@@ -16,12 +16,12 @@ use std::alloc::{AllocError, Global};
 /// What the program does.
 #[derive(Clone, Copy, PartialEq, Eq, Debug)]
 pub enum Mode {
-    /// It replays a script.
+    /// Replays a script.
     Replay,
-    /// It simulates the cell.
+    /// Simulates the cell.
     Sim,
-    /// It runs the cell, each machine by a worker of its own, which has so many turns; a call is given up
-    /// once it has been overtaken so many times.
+    /// Runs the cell, each machine in a worker of its own with this number of turns. A call is Busy
+    /// after this number of failed tries.
     Run { turns: u32, tries: u8 },
 }
 
@@ -31,21 +31,21 @@ const MOST_TURNS: u64 = 100_000;
 /// The most tries of a call.
 const MOST_TRIES: u64 = 64;
 
-/// What the words ask for, of which the first is the program's name: a replay, with the word
-/// `replay` and without, with the word `sim` a simulation, or with the word `run` a run, by the flags
-/// `--turns` and `--tries`. Other words are an error of `clap`, and so are those that ask for help, and want
-/// of memory.
+/// What the words ask for. The first is the program's name. After it `replay`, or nothing, asks for
+/// a replay, `sim` for a simulation, and `run` with the flags `--turns` and `--tries` for a run.
+/// Other words are an error of `clap`. So are words that ask for help, and out of memory.
 pub fn read_words(alloc: Global, words: &[&str]) -> Result<Mode, Error>
-    // The mode is that of the word behind the name, with the numbers of its flags, as `clap` finds them.
+    // The mode is that of the word after the name, with the numbers of its flags, as `clap` finds
+    // them.
     ensures mode { IfOk result (λ mode. mode ≡ mode_of (map (λ w. w.now) words.now)) }
     // A run has 1 to 100,000 turns and 1 to 64 tries.
     ensures within { IfOk result IsWithin }
-    // `clap` has nothing against the words.
+    // `clap` accepts the words.
     ensures taken { OnOk result (AreTaken (map (λ w. w.now) words.now)) }
-    // It has this against the words, or memory ran out.
+    // `clap` refuses the words for this, or memory ran out.
     ensures refused { IfErr result (HasKind (fault_of program (map (λ w. w.now) words.now))) }
 
-    // With the program's name alone, or with one of the words behind it, only memory can be wanting.
+    // With the program's name alone, or with one word after it, the only error is out of memory.
     ensures plain { (name : List ℕ) → map (λ w. w.now) words.now ≡ name ∷ [] →
         IfErr result (λ e. kind_of e ≡ ErrorKind.OutOfMemory) }
     ensures replay { (name : List ℕ) → map (λ w. w.now) words.now ≡ name ∷ codes "replay" ∷ [] →
@@ -66,7 +66,7 @@ pub fn read_words(alloc: Global, words: &[&str]) -> Result<Mode, Error>
     }
 }
 
-/// The program's words, as `clap` is told of them.
+/// The program's words, as `clap` is given them.
 fn command<'a>(alloc: Global) -> Result<Command<'a>, AllocError>
     ensures { IfOk result (λ command. app_of command ≡ program) }
 {
@@ -76,7 +76,7 @@ fn command<'a>(alloc: Global) -> Result<Command<'a>, AllocError>
     with_run(alloc, cell)
 }
 
-/// A command with one more word behind its name, which has no flags.
+/// A command with another word after its name; the word has no flags.
 fn with_word<'a>(
     alloc: Global,
     command: Command<'a>,
@@ -126,7 +126,7 @@ fn number_flag<'a>(
         .help(help)
 }
 
-/// A command of this name, with what its help says before and behind its usage.
+/// A command with this name, and with help before and after its usage.
 fn command_with_help<'a>(
     alloc: Global,
     name: &'a str,
@@ -139,7 +139,7 @@ fn command_with_help<'a>(
     Command::new(alloc, name).about(before).after_help(behind)
 }
 
-/// What the word behind the program's name asks for.
+/// What the word after the program's name asks for.
 fn mode_of(matches: &ArgMatches<'_>) -> Mode
     requires { HasNumbers (subcommand_rows_of matches.now) }
     ensures mode { result ≡ words.mode_named (subcommand_rows_of matches.now) }
@@ -155,7 +155,7 @@ fn mode_of(matches: &ArgMatches<'_>) -> Mode
     }
 }
 
-/// The number of a flag, given or not.
+/// The number of a flag, or its default.
 fn number_in(flags: &ArgMatches<'_>, flag: &str) -> u32
     requires { (most : ℕ) × (most < 2 ^ 32) × HasNumber flag.now most (rows_of (found_of flags.now)) }
     ensures { result ≡ words.number_in flag.now (rows_of (found_of flags.now)) }

@@ -1,4 +1,4 @@
--- A text of letters, and one with a character that is none.
+-- A text of letters, and one with a character that is no letter.
 use Rattle.std.proofs.Common.{ℕ, ◌≡◌, ◌<◌, ◌≤◌, ◌∙◌, ◌++◌, ◌∷◌, [], ◌&&◌, List, length, get_or, true, false, Option, Some, None, is_some, Ok, Err, sym, ap, ap₂, refl, lt-ltb, le-ltb}
 use Rattle.std.specs.List.{filter_map, list_all, cons_option}
 use Rattle.std.specs.Str.{chars}
@@ -19,11 +19,11 @@ turns_of-other text i letter short within here none =
 pub turns_of-letters : (text : List ℕ) → length (chars text) ≤ most_letters → list_all is_letter (chars text) ≡ true → turns_of text ≡ Ok (filter_map turn_of (chars text))
 turns_of-letters text short all = rw (le-ltb most_letters (length (chars text)) short, all) refl
 
--- one letter more
+-- another letter
 turns-more : (read : List ℕ) (letter : ℕ) (turn : Turn) → turn_of letter ≡ Some turn → filter_map turn_of (read ++ letter ∷ []) ≡ filter_map turn_of read ++ turn ∷ []
 turns-more read letter turn e = filter_map-append turn_of read (letter ∷ []) ∙ ap (λ (o : Option Turn). filter_map turn_of read ++ cons_option o []) e
 
--- the turn of one letter more is added to those of the letters before
+-- the turn of another letter is added to those before it
 pub turns-pushed : (read : List ℕ) (letter : ℕ) (turn : Turn) (before after : List Turn) → turn_of letter ≡ Some turn → before ≡ filter_map turn_of read → after ≡ before ++ turn ∷ [] → after ≡ filter_map turn_of (read ++ letter ∷ [])
 turns-pushed read letter turn before after e so_far pushed = pushed ∙ ap (λ items. items ++ turn ∷ []) so_far ∙ sym (turns-more read letter turn e)
 

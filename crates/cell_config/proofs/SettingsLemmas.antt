@@ -1,4 +1,4 @@
--- The settings that bytes spell, by how many bytes there are and what TOML makes of them.
+-- The settings in some bytes, by the number of bytes and what TOML makes of them.
 use Rattle.std.proofs.Common.{ℕ, ◌≡◌, ◌≢◌, ◌<◌, ◌≤◌, ◌∙◌, ◌+◌, List, length, take, Bool, true, false, Some, None, Result, Ok, Err, MatchResult, IsUtf8, sym, ap, refl, arith, le-leb, inl, inr}
 use Rattle.std.proofs.lemmas.Bool.{cases_lt, lt-leb}
 use Rattle.std.specs.Option.{ok_or}
@@ -30,7 +30,7 @@ settings_of-no_text bytes short refused = rw (le-leb (length bytes) byte_limit s
     by_text true e = rw (refused (IsUtf8-from_is_utf8 bytes e)) refl
     by_text false e = refl
 
--- one byte more than the limit tells whether there are more
+-- one byte more than the limit shows whether there are more
 pub settings_of-front : (bytes : List ℕ) → settings_of (take (byte_limit + 1) bytes) ≡ settings_of bytes
 settings_of-front bytes =
     elim (cases_lt byte_limit (length bytes)) [

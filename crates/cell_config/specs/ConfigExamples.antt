@@ -1,4 +1,4 @@
--- Configurations with what they say, and why they are refused: the first fault of several.
+-- Configurations and what they say, or why they are refused: the first of several faults.
 use Rattle.std.specs.Prelude.{◌≡◌, ℕ, pos, Bool, true, false, List, [], ◌∷◌, ◌++◌, codes, Ok, Err}
 use Rattle.cell_types.specs.declared.machine.Machine.{Machine}
 use Rattle.cell_types.specs.declared.machine.Machine.TheVariants.{Feed, Table, Robot, Press, Deposit, Crane}
@@ -16,11 +16,11 @@ IsRefused text fault = settings_of text ≡ Err fault
 abbrev pub Gives : List ℕ → Settings → Type 0
 Gives text settings = settings_of text ≡ Ok settings
 
--- a text after a good start
+-- a text after a valid start
 abbrev pub with_start : List ℕ → List ℕ
 with_start more = codes "start = '0000000000'\n" ++ more
 
--- ---- what is given
+-- ---- what configurations say
 
 abbrev pub scale : ℕ → ℕ → ℕ → ℕ → Scale
 scale raw_lo raw_hi end tol = record { raw_lo = raw_lo; raw_hi = raw_hi; at_lo = pos 0; at_hi = pos end; tol = pos tol }
@@ -99,7 +99,7 @@ pub record ValueExamples : Type 0 where
   pub tol_below : IsNo (codes "turn.tol = 0") Range
   pub tol_above : IsNo (codes "turn.tol = 11") Range
 
--- ---- two faults: the first of them in the order of the keys, of a section itself, its raw values and its tolerance
+-- ---- two faults: the first in the order of the keys; of a section, then of its raw values, then of its tolerance
 
 pub record FirstExamples : Type 0 where
   pub start_then_stamp : IsRefused (codes "start = '000'\nstamp = '0'") Start

@@ -1,4 +1,4 @@
--- What is so of every configuration: the limits of its bytes and its letters come before all that it says.
+-- Laws of configurations: the limits of bytes and letters come before everything else.
 use Rattle.std.specs.Prelude.{◌≡◌, ◌≢◌, ◌<◌, ◌≤◌, ℕ, List, length, chars, true, false, Some, None, Err}
 use Rattle.std.specs.Str.{is_utf8}
 use Rattle.toml.specs.Data.{Members}
@@ -7,14 +7,14 @@ use Rattle.cell_config.specs.Letters.{turns_of}
 use Rattle.cell_config.specs.Settings.{settings_in, settings_of}
 use Rattle.cell_config.specs.declared.fault.ConfigFault.TheVariants.{Long, Text, Range}
 
--- a text that is too long is refused for that alone, whatever else it is; another is what its table says, if it has one
+-- a text that is too long is refused for that alone; any other is what its table says, if it has one
 pub record TextLimits (bytes : List ℕ) : Type 0 where
   pub too_long : 2097152 < length bytes → settings_of bytes ≡ Err Long
   pub not_utf8 : length bytes ≤ 2097152 → is_utf8 bytes ≡ false → settings_of bytes ≡ Err Text
   pub not_toml : length bytes ≤ 2097152 → is_utf8 bytes ≡ true → parse_document bytes ≡ None → settings_of bytes ≡ Err Text
   pub read : length bytes ≤ 2097152 → is_utf8 bytes ≡ true → (table : Members) → parse_document bytes ≡ Some table → settings_of bytes ≡ settings_in table
 
--- a schedule of more letters than it may have is out of range, whatever they are, and no other is
+-- a schedule is out of range exactly if it has too many letters, whatever they are
 pub record LetterLimits (text : List ℕ) : Type 0 where
   pub too_long : 1000000 < length (chars text) → turns_of text ≡ Err Range
   pub short : length (chars text) ≤ 1000000 → turns_of text ≢ Err Range

@@ -1,4 +1,4 @@
--- What the program says of a configuration's fault.
+-- The text of a configuration's fault.
 use Rattle.std.specs.Prelude.{ℕ, List, codes}
 use Rattle.cell_config.specs.declared.fault.ConfigFault.{ConfigFault}
 use Rattle.cell_config.specs.declared.fault.ConfigFault.TheVariants.{Read, Long, Text, Unknown, Missing, Kind, Start, Range, Letter, Memory}

@@ -1,4 +1,4 @@
--- What reading a configuration answers.
+-- The answer to a configuration.
 use Rattle.std.specs.Prelude.{◌≡◌, ℕ, List, [], ◌∷◌, Result, Ok, Err, ⊤}
 use Rattle.cell_calib.specs.Scale.{Scale}
 use Rattle.cell_parts.specs.Axes.{AreCellScales, CellScales}
@@ -11,7 +11,7 @@ use Rattle.cell_config.specs.declared.fault.ConfigFault.TheVariants.{Read, Memor
 abbrev pub shown : Config → Settings
 shown config = record { start = config.start; schedule = config.schedule.items; points = config.points }
 
--- A refusal is the fault that the bytes have first, but for a failed read and want of memory.
+-- An error is the first fault of the bytes, a failed read and out of memory apart.
 abbrev pub Refuses : List ℕ → ConfigFault → Type 0
 Refuses bytes Read = ⊤
 Refuses bytes Memory = ⊤

@@ -26,13 +26,13 @@ inner_keys = codes "raw" ∷ codes "tol" ∷ []
 abbrev pub has_inner_keys : Members → Bool
 has_inner_keys section = list_all (λ entry. is_one_of inner_keys entry.0) (entries section)
 
--- a section that is a table has no keys but its own
+-- a section that is a table has only known keys
 abbrev pub is_known_inside : Data → Bool
 is_known_inside value = option_map_or has_inner_keys (as_table value) true
 
 abbrev pub is_known_entry : List ℕ × Data → Bool
 is_known_entry (key, value) = is_one_of plain_keys key || is_one_of section_keys key && is_known_inside value
 
--- each key is known, at the top and in each section that is a table
+-- all keys are known, at the top and in each section that is a table
 abbrev pub is_known : Members → Bool
 is_known members = list_all is_known_entry (entries members)

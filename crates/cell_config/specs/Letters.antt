@@ -17,7 +17,7 @@ turn busy machine = record { machine = machine; busy = busy }
 abbrev pub lettered : List Machine
 lettered = Feed ∷ Table ∷ Robot ∷ Press ∷ Deposit ∷ Crane ∷ []
 
--- each letter with its turn: a capital marks one whose ask is Busy
+-- each letter with its turn: in the turn of a capital letter a call is Busy
 abbrev pub letters : List (ℕ × Turn)
 letters = zip (codes "ftrpdcFTRPDC") (map (turn false) lettered ++ map (turn true) lettered)
 

@@ -19,7 +19,7 @@ use Rattle.cell_config.specs.declared.fault.ConfigFault.TheVariants.{Long, Text,
 abbrev pub byte_limit : ℕ
 byte_limit = 2097152
 
--- one byte more tells whether there are more than a configuration may have
+-- one byte more shows whether there are more than a configuration may have
 abbrev pub most_bytes_read : ℕ
 most_bytes_read = 2097153
 
@@ -41,18 +41,18 @@ places_at ms = required (get_member (codes "start") ms) Missing (λ value. of_ki
 abbrev pub stamp_at : Members → Result ℕ ConfigFault
 stamp_at = at_key (codes "stamp") as_integer 0 (number_within 0 last_stamp)
 
--- the start that places and a stamp make
+-- the start with these places and this stamp
 abbrev pub start_of : List Bool → ℕ → Result ModelState ConfigFault
 start_of places stamp = if is_start (places_of places) stamp then Ok (start_state (places_of places) stamp) else Err Start
 
--- both keys, and then the start that they make
+-- both keys, and then their start
 abbrev pub start_at : Members → Result ModelState ConfigFault
 start_at ms = places_at ms >>= (λ places. stamp_at ms >>= (λ stamp. start_of places stamp))
 
 abbrev pub schedule_at : Members → Result (List Turn) ConfigFault
 schedule_at = at_key (codes "schedule") as_str [] turns_of
 
--- two whole numbers, and nothing else
+-- exactly two whole numbers
 abbrev pub pair_of : Data → Option (ℤ × ℤ)
 pair_of (array (item (integer low) (item (integer high) no_items))) = Some (low, high)
 pair_of _ = None
@@ -103,7 +103,7 @@ settings_in ms =
     points_at ms >>= (λ points.
     Ok (record { start = start; schedule = schedule; points = points })))))
 
--- The settings that bytes spell, or their first fault.
+-- The settings in some bytes, or their first fault.
 unfoldable pub settings_of : List ℕ → Result Settings ConfigFault
 settings_of bytes =
     demand (nat_le (length bytes) byte_limit) Long >>= (λ _.

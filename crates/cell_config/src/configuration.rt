@@ -1,5 +1,5 @@
-//! Reads configurations: texts in TOML with the start of a run, its schedule, and how the five
-//! potentiometers are calibrated.
+//! Reads configurations: texts in TOML with the start of a run, its schedule, and the calibrations
+//! of the five potentiometers.
 
 ghost use Rattle.std.specs.Prelude.{◌≡◌, ◌≢◌, Ok, Err, IfOk, IfSome, MatchResult};
 ghost use Rattle.toml.specs.View.{table_view};
@@ -30,18 +30,20 @@ const MOST_BYTES: usize = 2_097_152;
 pub struct Config {
     /// The state of the interlock at the start.
     pub start: State,
-    /// Whose turns are taken one after another.
+    /// The turns, in order.
     pub schedule: Vec<Turn>,
-    /// The lines of the potentiometers arm1, arm2, rotation, turn and gripper. Each goes from 0 to the
-    /// end of its axis, and has at least as many raw values as the axis has positions.
+    /// The calibrations of the potentiometers arm1, arm2, rotation, turn and gripper. Each goes
+    /// from 0 to the end of its axis, and has at least as many raw values as the axis has
+    /// positions.
     pub points: [Points; 5],
 }
 
-/// The configuration in the bytes that the reader has left; `docs/CONFIGURATIONS.md` has the format.
+/// Reads a configuration from the bytes that the reader has left; `docs/CONFIGURATIONS.md` has the
+/// format.
 ///
-/// A refusal is the first fault in the order of `ConfigFault`, where from `Kind` to `Letter` the keys
-/// are gone through one by one. `Read` comes where the reader fails, and `Memory` may come wherever
-/// memory is asked for. Whatever the answer, no more than 2,097,153 bytes are taken from the reader.
+/// The error is the first fault in the order of `ConfigFault`; from `Kind` to `Letter` it is the
+/// first key with a fault. `Read` if the reader fails; `Memory` may come from any allocation. At
+/// most 2,097,153 bytes are taken from the reader, after an error too.
 pub fn read_config<R: Read>(alloc: Global, reader: &mut R) -> Result<Config, ConfigFault>
     ensures says { IfSome (R.remaining reader.old) (λ bytes. Says bytes result) }
     ensures start { IfOk result (λ config. IsStartState config.start) }
@@ -56,7 +58,7 @@ pub fn read_config<R: Read>(alloc: Global, reader: &mut R) -> Result<Config, Con
     config_of(alloc, bytes.as_slice())
 }
 
-/// The configuration that bytes spell, or their first fault.
+/// The configuration in some bytes, or their first fault.
 fn config_of(alloc: Global, bytes: &[u8]) -> Result<Config, ConfigFault>
     ensures says { MatchResult result
         (λ config. settings_of bytes.now ≡ Ok (shown config))

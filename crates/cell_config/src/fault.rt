@@ -7,8 +7,8 @@ ghost use Rattle.cell_config.specs.declared.fault.ConfigFault.TheVariants.{Memor
 use std::alloc::{AllocError, AllocFailed};
 use thiserror::Error;
 
-/// Why a configuration is refused, in the order in which faults are looked for, `Memory` apart. The text
-/// is that of the program's fault line, behind the word `fault`.
+/// Why a configuration is refused, in the order in which faults are looked for, `Memory` apart. It
+/// displays as the text after the word `fault` in the program's fault line.
 #[derive(Clone, Copy, PartialEq, Eq, Debug, Error)]
 #[error("{}", self.text())]
 pub enum ConfigFault {
@@ -16,26 +16,26 @@ pub enum ConfigFault {
     Read,
     /// There are more than 2,097,152 bytes.
     Long,
-    /// The bytes aren't UTF-8, or no TOML.
+    /// The bytes aren't UTF-8, or aren't TOML.
     Text,
-    /// The text or one of its sections has a key of another name.
+    /// The text or one of its sections has an unknown key.
     Unknown,
-    /// There is no start.
+    /// The key `start` is absent.
     Missing,
-    /// A value is of another kind than its key wants.
+    /// A value has another kind than its key needs.
     Kind,
-    /// The start isn't ten digits 0 or 1, or no state starts so.
+    /// The start isn't ten digits 0 or 1, or isn't a valid start.
     Start,
-    /// A number is out of its range, the raw values are too near, or the schedule is too long.
+    /// A number is out of range, two raw values are too close, or the schedule is too long.
     Range,
-    /// A character of the schedule is no letter of a machine.
+    /// A character of the schedule is no machine's letter.
     Letter,
-    /// A growth was refused, which may be told wherever memory is asked for.
+    /// Memory ran out, which may happen at any allocation.
     Memory,
 }
 
 impl ConfigFault {
-    /// What the program's fault line says behind the word `fault`.
+    /// The text after the word `fault` in the program's fault line.
     pub fn text(&self) -> &'static str
         ensures { result.now ≡ config_fault_text self.now }
     {

@@ -33,7 +33,7 @@ fn is_inner_key(key: &str) -> bool
     INNER_KEYS.contains(&key)
 }
 
-/// Whether a section has no keys but its own.
+/// Whether a section has only known keys.
 fn has_inner_keys(section: &Table) -> bool
     ensures { result ≡ keys.has_inner_keys (table_view section.now) }
 {
@@ -45,7 +45,7 @@ fn has_inner_keys(section: &Table) -> bool
     true
 }
 
-/// Whether a section, if it is a table, has no keys but its own.
+/// Whether a section has only known keys, if it is a table.
 fn is_known_inside(value: &Value) -> bool
     ensures { result ≡ keys.is_known_inside (view value.now) }
 {
@@ -61,7 +61,7 @@ fn is_known_entry(key: &str, value: &Value) -> bool
     is_plain_key(key) || is_section_key(key) && is_known_inside(value)
 }
 
-/// Whether each key is known, at the top and in each section that is a table.
+/// Whether all keys are known, at the top and in each section that is a table.
 pub fn is_known(table: &Table) -> bool
     ensures { result ≡ keys.is_known (table_view table.now) }
 {

@@ -1,5 +1,5 @@
-//! Configurations of a run of the whole cell: texts in TOML with its start, its schedule, and how the
-//! five potentiometers are calibrated.
+//! Configurations of a run of the whole cell: TOML texts with its start, its schedule, and the
+//! calibrations of the five potentiometers.
 #![tactic(auto)]
 
 pub mod configuration;

@@ -19,7 +19,7 @@ const MOST_LETTERS: usize = 1_000_000;
 /// How many ASCII characters there are.
 const ASCII: usize = 128;
 
-/// The turn that a letter stands for: in that of a capital a call finds the interlock busy.
+/// The turn of a letter. A call in the turn of a capital letter finds the interlock busy.
 fn turn_of(letter: char) -> Option<Turn>
     ensures { result ≡ letters.turn_of letter }
 {
@@ -38,7 +38,8 @@ fn turn_of(letter: char) -> Option<Turn>
     })
 }
 
-/// The turn that each ASCII character stands for, looked up once, since the match of `turn_of` costs a branch that no processor foresees.
+/// The turn of each ASCII character. A table replaces the match in `turn_of`, whose branch no
+/// processor predicts.
 fn ascii_turns() -> [Option<Turn>; ASCII]
     ensures { (code : ℕ) → code < 128 → slice_index_or result code None ≡ letters.turn_of code }
 {
@@ -49,7 +50,7 @@ fn ascii_turns() -> [Option<Turn>; ASCII]
     turns
 }
 
-/// The turn that a letter stands for, by those of the ASCII characters.
+/// The turn of a letter, from the turns of the ASCII characters.
 fn turn_by(turns: &[Option<Turn>; ASCII], letter: char) -> Option<Turn>
     requires { (code : ℕ) → code < 128 → slice_index_or turns.now code None ≡ letters.turn_of code }
     ensures { result ≡ letters.turn_of letter }
@@ -61,7 +62,8 @@ fn turn_by(turns: &[Option<Turn>; ASCII], letter: char) -> Option<Turn>
     }
 }
 
-/// Whether a text has more characters than a schedule may have. It has no more characters than bytes.
+/// Whether a text has more characters than a schedule may have. It has at least as many bytes as
+/// characters.
 fn is_too_long(text: &str) -> bool
     ensures { result ≡ nat_lt letters.most_letters (length (chars text.now)) }
 {
@@ -70,7 +72,8 @@ fn is_too_long(text: &str) -> bool
 
 /// The turns of a text of letters.
 ///
-/// `Range` where the text has more than 1,000,000 characters, `Letter` where one of them is no letter.
+/// `Range` if the text has more than 1,000,000 characters, `Letter` if one of them is no letter,
+/// and `Memory` if memory ran out.
 fn turns_of(alloc: Global, text: &str) -> Result<Vec<Turn>, ConfigFault>
     ensures { MatchResult result
         (λ turns. letters.turns_of text.now ≡ Ok turns.items)
@@ -90,8 +93,8 @@ fn turns_of(alloc: Global, text: &str) -> Result<Vec<Turn>, ConfigFault>
     Ok(turns)
 }
 
-/// The turns that a table gives by its key `schedule`, none without one. `Kind` where its value is no text,
-/// `Range` and `Letter` as for a text, and `Memory` where the room for the turns was refused.
+/// The turns in a table's key `schedule`, or none if the key is absent. `Kind` if its value is no
+/// text; `Range`, `Letter` and `Memory` as for a text.
 pub fn schedule_at(alloc: Global, table: &Table) -> Result<Vec<Turn>, ConfigFault>
     ensures { MatchResult result
         (λ turns. settings.schedule_at (table_view table.now) ≡ Ok turns.items)

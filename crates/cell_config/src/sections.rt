@@ -14,13 +14,13 @@ use cell_parts::parts::robot::{ARM_END, ROTATION_END};
 use cell_parts::parts::table::TURN_END;
 use toml::{Table, Value};
 
-/// The raw values where none are given, in sensor counts.
+/// The default raw values, in sensor counts.
 const RAW: (u16, u16) = (0, 4000);
 
-/// The tolerance where none is given, in tenths of a millimetre or of a degree.
+/// The default tolerance, in tenths of a millimetre or of a degree.
 const TOL: u32 = 5;
 
-/// A value that is an array of just two whole numbers.
+/// The numbers of an array of exactly two whole numbers.
 fn pair_of(value: &Value) -> Option<(i64, i64)>
     ensures { result ≡ settings.pair_of (view value.now) }
 {
@@ -31,15 +31,15 @@ fn pair_of(value: &Value) -> Option<(i64, i64)>
     }
 }
 
-/// A raw value of a sensor; `Range` where the number is none.
+/// The raw value that is this number; `Range` if no raw value is.
 fn raw_of(number: i64) -> Result<u16, ConfigFault>
     ensures { result ≡ settings.number_within 0 65535 number }
 {
     u16::try_from(number).map_err(|_| ConfigFault::Range)
 }
 
-/// The raw values at the two ends of an axis; `Range` where they are outside their limits, or nearer
-/// than the ends.
+/// The raw values at the two ends of an axis. `Range` if one is out of range, or they are closer to
+/// one another than the ends.
 fn raw_within(pair: (i64, i64), end: i32) -> Result<(u16, u16), ConfigFault>
     ensures value { result ≡ settings.raw_within end pair }
     ensures wide { IfOk result (λ raw. end ≤ℤ (pos raw.1 -ℤ pos raw.0)) }
@@ -53,7 +53,7 @@ fn raw_within(pair: (i64, i64), end: i32) -> Result<(u16, u16), ConfigFault>
     }
 }
 
-/// The raw values that a section gives by its key `raw`.
+/// The raw values in a section's key `raw`.
 fn raw_at(section: &Table, end: i32) -> Result<(u16, u16), ConfigFault>
     requires { settings.IsAxisEnd end }
     ensures value { result ≡ settings.raw_at end (table_view section.now) }
@@ -79,7 +79,7 @@ fn points_of(raw: (u16, u16), end: i32, tol: u32) -> Points
     Points::new(raw.0, raw.1, 0, end, tol as i32).unwrap()
 }
 
-/// The points that a section gives for an axis from 0 to `end`.
+/// The points in a section, for an axis from 0 to `end`.
 fn section_of(section: &Table, end: i32) -> Result<Points, ConfigFault>
     requires { settings.IsAxisEnd end }
     ensures value { result ≡ settings.section_of end (table_view section.now) }
@@ -90,11 +90,11 @@ fn section_of(section: &Table, end: i32) -> Result<Points, ConfigFault>
     Ok(points_of(raw, end, tol))
 }
 
-/// The points that a table gives by the key of a section for an axis from 0 to `end`.
+/// The points in a table's section, for an axis from 0 to `end`.
 ///
-/// `Kind` where a value is of another kind, `Range` where a number is outside its limits or the raw
-/// values are nearer to one another than the ends of the axis: first of the section, then of `raw`,
-/// then of `tol`.
+/// `Kind` if a value has another kind, `Range` if a number is out of range or the raw values are
+/// closer to one another than the ends of the axis. The section is checked first, then `raw`, then
+/// `tol`.
 fn section_at(table: &Table, key: &str, end: i32) -> Result<Points, ConfigFault>
     requires { settings.IsAxisEnd end }
     ensures value { result ≡ settings.section_at key.now end (table_view table.now) }
@@ -109,7 +109,7 @@ fn section_at(table: &Table, key: &str, end: i32) -> Result<Points, ConfigFault>
     section_of(section, end)
 }
 
-/// The points of the potentiometers arm1, arm2, rotation, turn and gripper, one after another.
+/// The points of the potentiometers arm1, arm2, rotation, turn and gripper, in this order.
 pub fn points_at(table: &Table) -> Result<[Points; 5], ConfigFault>
     ensures value { result ≡ settings.points_at (table_view table.now) }
     ensures axes { IfOk result (λ points. AreAxisScales points) }

@@ -10,10 +10,10 @@ use crate::values::{number_at, value_at};
 use cell_rules::{LAST_STAMP, PLACES, State, read_places};
 use toml::Table;
 
-/// Which places are full, by the key `start`.
+/// Which places are full, from the key `start`.
 ///
-/// `Missing` where the key is absent, `Kind` where its value is no text, `Start` where the text isn't
-/// ten digits 0 or 1.
+/// `Missing` if the key is absent, `Kind` if its value is no text, `Start` if the text isn't ten
+/// digits 0 or 1.
 fn places_at(table: &Table) -> Result<[bool; PLACES], ConfigFault>
     ensures { result ≡ settings.places_at (table_view table.now) }
 {
@@ -26,7 +26,7 @@ fn places_at(table: &Table) -> Result<[bool; PLACES], ConfigFault>
     read_places(text.as_bytes()).ok_or(ConfigFault::Start)
 }
 
-/// The start that places and a stamp make; `Start` where there is none.
+/// The start with these places and this stamp; `Start` if it isn't valid.
 fn start_of(places: [bool; PLACES], stamp: u32) -> Result<State, ConfigFault>
     ensures value { result ≡ settings.start_of places stamp }
     ensures start { IfOk result IsStartState }
@@ -34,10 +34,10 @@ fn start_of(places: [bool; PLACES], stamp: u32) -> Result<State, ConfigFault>
     State::start(places, stamp).map_err(|_| ConfigFault::Start)
 }
 
-/// The start that a table gives by its keys `start` and `stamp`.
+/// The start in a table's keys `start` and `stamp`.
 ///
-/// `Missing` where there is no `start`, `Kind` and `Start` where it isn't ten digits 0 or 1, then `Kind`
-/// and `Range` of `stamp`, and `Start` where no state starts so.
+/// `Missing` if there is no `start`; `Kind` or `Start` if it isn't ten digits 0 or 1; then `Kind`
+/// or `Range` for `stamp`; then `Start` if the start isn't valid.
 pub fn start_at(table: &Table) -> Result<State, ConfigFault>
     ensures value { result ≡ settings.start_at (table_view table.now) }
     ensures start { IfOk result IsStartState }

@@ -16,7 +16,7 @@ pub fn value_at<'a>(table: &'a Table, key: &str) -> Option<&'a Value>
     table.get(key)
 }
 
-/// A whole number within limits; else `Range`.
+/// The number, if it is within limits; else `Range`.
 pub fn number_within(number: i64, least: u32, most: u32) -> Result<u32, ConfigFault>
     ensures value { result ≡ number_within least most number }
     ensures limits { IfOk result (λ n. (least ≤ n) × (n ≤ most)) }
@@ -27,9 +27,9 @@ pub fn number_within(number: i64, least: u32, most: u32) -> Result<u32, ConfigFa
     }
 }
 
-/// The whole number at a key, or a default where the key is absent.
+/// The whole number at a key, or a default if the key is absent.
 ///
-/// `Kind` where the value is no whole number, `Range` where it is outside its limits.
+/// `Kind` if the value is no whole number, `Range` if it is out of range.
 pub fn number_at(
     table: &Table,
     key: &str,

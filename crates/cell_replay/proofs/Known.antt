@@ -11,7 +11,7 @@ pub if_some-both : {A : Type 0} (o : Option A) (P Q S : A → Type 0) → ((x : 
 if_some-both None P Q S f p q = tt
 if_some-both (Some x) P Q S f p q = f x p q
 
--- one byte more than the limit tells whether there are more
+-- one byte more than the limit shows whether there are more
 pub cut-same : (n : ℕ) (bytes : List ℕ) → nat_lt n (length (take (n + 1) bytes)) ≡ nat_lt n (length bytes)
 cut-same n bytes = rw (length-take (n + 1) bytes) (lt-min n (length bytes))
   where

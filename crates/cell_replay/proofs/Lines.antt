@@ -1,4 +1,4 @@
--- The lines of a script, one after the other, and what more records change.
+-- The lines of a script in order, and what another record adds.
 use Rattle.std.proofs.Common.{ℕ, suc, ◌≡◌, ◌<◌, ◌≤◌, ◌+◌, List, [], ◌∷◌, ◌++◌, Option, Some, None, length, map, take, drop, get_or, refl, sym, ◌∙◌, ap, ap₂, arith, append_assoc}
 use Rattle.std.specs.List.{enumerate_from}
 use Rattle.std.specs.Option.{option_map_or}
@@ -13,7 +13,7 @@ use Rattle.cell_replay.specs.Requests.{Row, request_of}
 use Rattle.cell_replay.specs.Script.{event_line, event_lines, event_of, history_of, line_of, requests_in}
 use Rattle.cell_replay.specs.declared.request.Request.{Request}
 
--- the lines of requests that are made in turn, after so many
+-- the lines of requests that are made in order, after a number of earlier ones
 unfoldable pub lines_after : ℕ → ModelState → List Request → List (List ℕ)
 lines_after done s [] = []
 lines_after done s (r ∷ rs) =
@@ -27,7 +27,7 @@ one_more : (xs : List Event) (x : Event) → length (xs ++ x ∷ []) ≡ length 
 one_more [] x = refl
 one_more (y ∷ ys) x = omega (arith, one_more ys x)
 
--- the lines of the events behind those before
+-- the lines of the events that follow earlier ones
 lines-behind : (s now : ModelState) (h before : List Event) (n : ℕ) (rs : List Request) → now ≡ after s before → n ≡ length before → h ≡ before ++ history_of now rs
     → map (event_line s h) (enumerate_from (n + 1) (history_of now rs)) ≡ lines_after n now rs
 unfolding history_of lines_after
@@ -46,7 +46,7 @@ lines-behind s now h before n (r ∷ rs) state count whole =
 pub event_lines-after : (s : ModelState) (rs : List Request) → event_lines s (history_of s rs) ≡ lines_after 0 s rs
 event_lines-after s rs = lines-behind s s (history_of s rs) [] 0 rs refl refl refl
 
--- One record more.
+-- Another record.
 
 pub requests_in-none : requests_in [] ≡ []
 unfolding requests_in
@@ -69,22 +69,22 @@ pub lines_after-more : (done : ℕ) (s : ModelState) (r : Request) (rs : List Re
 unfolding lines_after
 lines_after-more done s r rs = refl
 
--- the records from one on, and after the last
+-- the records from an index on, and past the last
 pub rows-more : {A B : Type 0} (f : A → B) (rows : List A) (i : ℕ) (row : A) → row ≡ get_or rows i row → i < length rows → map f (drop i rows) ≡ f row ∷ map f (drop (i + 1) rows)
 rows-more f rows i row is lt = ap (map f) (drop_more rows i row lt) ∙ ap (λ r. f r ∷ map f (drop (i + 1) rows)) (sym is)
 
 pub rows-none : {A B : Type 0} (f : A → B) (rows : List A) (i : ℕ) → length rows ≤ i → map f (drop i rows) ≡ []
 rows-none f rows i le = ap (map f) (drop_all i rows le)
 
--- nothing more is told
+-- no line is left to write
 pub told-all : (text all rest : List ℕ) → rest ≡ [] → text ++ rest ≡ all → text ≡ all
 told-all text all rest none told = sym (append-nil text) ∙ rw none at told
 
--- one line more is told
+-- another line is written
 pub told-more : (old new line rest all more : List ℕ) → new ≡ old ++ line → more ≡ line ++ rest → old ++ more ≡ all → new ++ rest ≡ all
 told-more old new line rest all more wrote is told = rw (wrote, append_assoc) (rw is at told)
 
--- How many there are.
+-- The number of requests and events.
 
 length-first : (o : Option Request) (rs : List Request) (n : ℕ) → length rs ≤ n → length (option_map_or (λ r. r ∷ rs) o []) ≤ suc n
 length-first None rs n h = omega arith

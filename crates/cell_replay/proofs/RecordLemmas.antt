@@ -1,4 +1,4 @@
--- The records of a text, from those that were read in turn.
+-- The records of a text, from those that were read in order.
 use Rattle.std.proofs.Common.{ℕ, zero, suc, ◌≡◌, ◌+◌, ◌-◌, ◌<◌, ◌≤◌, Bool, true, false, cond, List, [], ◌∷◌, length, take, Some, None, refl, sym, ◌∙◌, arith, ◌==◌, ◌&&◌, ◌⊎◌, inl, inr}
 use Rattle.std.proofs.lemmas.Bool.{false≢true}
 use Rattle.std.proofs.lemmas.List.{take_all}
@@ -57,7 +57,7 @@ step-between cfg st.AfterQuote c = either ((cfg.quoting && cfg.double_quote) && 
 step-between cfg st.InComment c = either (c == 10) _ _ (no_end st.StartRecord act.Skip refl) (no_end st.InComment act.Skip refl)
 step-between cfg st.AfterCr c = either (c == 10) _ _ (no_end st.StartRecord act.Skip refl) (start_record-between cfg c)
 
--- which way a test went, where the result is known
+-- which way a test went, if the result is known
 chosen : {A : Type 0} (b : Bool) (x y z : A) → cond b x y ≡ z → ((b ≡ true) × (x ≡ z)) ⊎ ((b ≡ false) × (y ≡ z))
 chosen true x y z e = inl (refl, e)
 chosen false x y z e = inr (refl, e)
@@ -79,7 +79,7 @@ next_record-takes cfg s fields field (c ∷ rest) p e =
           (omega (arith, more.0), more.1)
     ]
 
--- between records there is none at the end of the text
+-- a record that is found between records takes a byte
 next_record-shorter : (cfg : Config) (s : State) (xs : List ℕ) (p : Read) → ends_at_end s ≡ false → next_record cfg s [] [] xs ≡ Some p → length p.2 + 1 ≤ length xs
 unfolding next_record
 next_record-shorter cfg s [] p between e = let none : None ≡ Some p = rw between at e in absurd (cc)
@@ -104,7 +104,7 @@ records_from-front cfg (suc n) s s2 xs ys (r ∷ rows) le h =
     let rest = records_from-front cfg n h.0.1 s2 h.0.2 ys rows (omega arith) h.3 in
     rw (h.1, rest, ← h.2) refl
 
--- they are all of them, where no more is found
+-- they are all of them, if no more is found
 pub records_from-all : (cfg : Config) (n : ℕ) (s s2 : State) (xs ys : List ℕ) (rows : List (List (List ℕ))) → length rows < n → Reached cfg s xs rows s2 ys → next_record cfg s2 [] [] ys ≡ None → records_from cfg n s xs ≡ rows
 unfolding Reached records_from
 records_from-all cfg zero s s2 xs ys rows lt h e = absurd (omega arith)
@@ -113,13 +113,13 @@ records_from-all cfg (suc n) s s2 xs ys (r ∷ rows) lt h e =
     let rest = records_from-all cfg n h.0.1 s2 h.0.2 ys rows (omega arith) h.3 e in
     rw (h.1, rest, ← h.2) refl
 
--- as many records as are wanted
+-- as many records were read as are wanted
 pub records-front : (xs ys : List ℕ) (s2 : State) (rows : List (List (List ℕ))) (most : ℕ) → most ≡ length rows → Reached default_config st.StartRecord xs rows s2 ys → rows ≡ take most (records default_config xs)
 records-front xs ys s2 rows most full h =
     let fits = length-reached default_config st.StartRecord s2 xs ys rows refl h in
     rw full (sym (records_from-front default_config (length xs + 1) st.StartRecord s2 xs ys rows (omega (arith, fits)) h))
 
--- all records there are
+-- all records were read
 pub records-all : (xs ys : List ℕ) (s2 : State) (rows : List (List (List ℕ))) (most : ℕ) → length rows ≤ most → Reached default_config st.StartRecord xs rows s2 ys → next_record default_config s2 [] [] ys ≡ None
     → rows ≡ take most (records default_config xs)
 records-all xs ys s2 rows most le h e =

@@ -1,4 +1,4 @@
--- A record is a request exactly where its fields are how that request is written.
+-- A record has a request exactly if its fields write that request.
 use Rattle.std.proofs.Common.{ℕ, ◌≡◌, ◌<◌, ◌≤◌, Bool, true, false, cond, List, [], ◌∷◌, length, Option, Some, None, refl, sym, ◌∙◌, ap, ap₂, ◌↔◌, arith}
 use Rattle.std.specs.List.{find}
 use Rattle.std.specs.Str.{bytes_eq}
@@ -106,7 +106,7 @@ request_of-written (word ∷ fields) r = (
       rw (machine, call) refl,
 )
 
--- two answers that are the same request or none alike
+-- two options are the same if they have the same values
 pub same_answer : {A : Type 0} (o p : Option A) → ((x : A) → (o ≡ Some x) ↔ (p ≡ Some x)) → o ≡ p
 same_answer None None h = refl
 same_answer None (Some y) h = (h y).1 refl

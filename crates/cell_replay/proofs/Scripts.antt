@@ -1,4 +1,4 @@
--- What is so of every script.
+-- Facts of every script.
 use Rattle.std.proofs.Common.{append_assoc, ◌++◌, ℕ, zero, suc, ◌≡◌, ◌<◌, ◌≤◌, ◌+◌, ◌-◌, Bool, true, false, cond, List, [], ◌∷◌, Result, Ok, Err, IfOk, length, map, take, drop, min, nat_lt, nat_le, refl, sym, ◌∙◌, ap, ap₂, arith, Option, Some, None, ◌==◌, ◌&&◌, not, codes, MatchResult, ◌⊎◌, inl, inr}
 use Rattle.std.specs.Prelude.{⊤}
 use Rattle.std.specs.List.{concat, enumerate_from}
@@ -55,7 +55,8 @@ start_tested full stamp e =
       stamp_in_range = le_true stamp last_stamp all.1;
     }
 
--- a start that was tested is one, and a fault of record 0 names no later record; that there are too many bytes is one where no record is left
+-- a start that was checked is valid, and a fault of record 0 is no bad row; it is too many bytes only if the script is
+-- cut
 abbrev pub IsEarly : Bool → ScriptFault → Type 0
 IsEarly is_cut NoStart = ⊤
 IsEarly is_cut BadStart = ⊤
@@ -127,7 +128,7 @@ pub length-script_lines : (bytes : List ℕ) → length (script_lines bytes) ≤
 unfolding script_lines
 length-script_lines bytes = length-lines_from (rows_start (is_cut_of bytes) (script_rows bytes)) (drop 1 (script_rows bytes))
 
--- a bad row leaves as many lines as its number says
+-- a script with a bad row has as many lines as the row's number says
 bad_end : (is_cut few full : Bool) (answered number : ℕ) → cond few (Refused (cond full Long (BadRow (answered + 1)))) (cond is_cut (Refused Long) Clean) ≡ Refused (BadRow number) → number ≡ answered + 1
 bad_end is_cut true true answered number e = absurd (cc)
 bad_end is_cut true false answered number e = cc
@@ -175,7 +176,7 @@ pub lines-clean : (bytes : List ℕ) → script_outcome bytes ≡ Clean → leng
 unfolding script_outcome script_lines
 lines-clean bytes e = rows_of_clean (is_cut_of bytes) (script_rows bytes) e
 
--- a long script has a line for each record that is used, as far as records are answered
+-- a long script has a line for each record that is used, up to the most that are answered
 long_end : (is_cut few full : Bool) (answered : ℕ) → cond few (Refused (cond full Long (BadRow (answered + 1)))) (cond is_cut (Refused Long) Clean) ≡ Refused Long
     → ((few ≡ true) × (full ≡ true)) ⊎ ((few ≡ false) × (is_cut ≡ true))
 long_end is_cut true true answered e = inl (refl, refl)
@@ -233,7 +234,7 @@ pub lines-long : (bytes : List ℕ) → script_outcome bytes ≡ Refused Long �
 unfolding script_outcome script_lines
 lines-long bytes e few = rows_of_long_whole (is_cut_of bytes) (script_rows bytes) (not_cut bytes few) e
 
--- Records that are too many change nothing.
+-- Records past the limit change nothing.
 
 lt-min : (n k m : ℕ) → n < k → nat_lt n (min k m) ≡ nat_lt n m
 lt-min n k m lt = grind (arith, nat_tests)
@@ -262,7 +263,7 @@ rows_outcome-take is_cut zero rows room = absurd (omega arith)
 rows_outcome-take is_cut (suc k) [] room = refl
 rows_outcome-take is_cut (suc k) (row ∷ rows) room = outcome_from-take is_cut (start_in row) k rows (omega arith)
 
--- what doesn't depend on records that are too many is the same of all records and of those that are looked at
+-- what doesn't depend on records past the limit is the same for all records and for those that are read
 used-take : {A : Type 0} (f : List Row → A) → ((k : ℕ) (rows : List Row) → most_records + 1 < k → f (take k rows) ≡ f rows)
     → (is_cut : Bool) (rows : List Row) → f (used is_cut (take most_rows rows)) ≡ f (used is_cut rows)
 used-take f same false rows = same most_rows rows (omega arith)
@@ -281,9 +282,9 @@ rows_lines-used is_cut rows = used-take (rows_lines is_cut) (rows_lines-take is_
 pub rows_outcome-used : (is_cut : Bool) (rows : List Row) → rows_outcome is_cut (used is_cut (take most_rows rows)) ≡ rows_outcome is_cut (used is_cut rows)
 rows_outcome-used is_cut rows = used-take (rows_outcome is_cut) (rows_outcome-take is_cut) is_cut rows
 
--- What the code has told.
+-- What the code has written.
 
--- of the first records at most so many
+-- the first k records, if there are that many
 first_rows : {A : Type 0} (k : ℕ) (rows : List A) → take (min (length rows) k) rows ≡ take k rows
 first_rows {A} zero rows = let none : min (length rows) zero ≡ zero = omega arith in ap (λ (n : ℕ). take n rows) none
 first_rows {A} (suc k) [] = let none : min zero (suc k) ≡ zero = omega arith in ap (λ (n : ℕ). take {A = A} n []) none

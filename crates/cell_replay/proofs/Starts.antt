@@ -1,4 +1,4 @@
--- The start that record 0 gives, from its length and its first fields.
+-- The start in record 0, from its length and its first fields.
 use Rattle.std.proofs.Common.{ℕ, ◌≡◌, ◌<◌, ◌≤◌, List, [], ◌∷◌, length, Some, None, Err, true, false, codes, refl, arith}
 use Rattle.std.proofs.lemmas.Option.{same_Some}
 use Rattle.std.specs.Str.{bytes_eq}

@@ -1,4 +1,4 @@
--- What a replay that failed has written.
+-- What a failed replay has written.
 use Rattle.std.specs.Prelude.{ℕ, List, take, Option}
 use Rattle.std.specs.List.{concat}
 use Rattle.std.specs.Io.KnownBytes.{Appends}
@@ -9,7 +9,7 @@ use Rattle.cell_text.specs.declared.input.InputFault.TheVariants as input
 use Rattle.cell_replay.specs.declared.script.ReplayFault.{ReplayFault}
 use Rattle.cell_replay.specs.declared.script.ReplayFault.TheVariants.{Read, Write, Memory}
 
--- whole lines were written, those of the first records
+-- some first lines were written, each whole
 abbrev pub WroteLines : Option (List ℕ) → Option (List ℕ) → List (List ℕ) → Type 0
 WroteLines old new lines = (n : ℕ) × Appends old new (concat (take n lines))
 
@@ -18,7 +18,7 @@ Leaves Read bytes old new = WroteLines old new (script_lines bytes)
 Leaves Memory bytes old new = WroteLines old new (script_lines bytes)
 Leaves Write bytes old new = WroteFront old new (script_text bytes)
 
--- the fault of a replay whose input wasn't read
+-- the fault of a replay that couldn't read its input
 abbrev pub replay_fault_of : InputFault → ReplayFault
 replay_fault_of input.Read = Read
 replay_fault_of input.Memory = Memory

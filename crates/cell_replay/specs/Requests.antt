@@ -1,4 +1,4 @@
--- Which machine asks for what in a record of a script.
+-- The request in a record of a script.
 use Rattle.std.specs.Prelude.{ℕ, List, [], ◌∷◌, ◌++◌, map, find, Option, Some, None}
 use Rattle.std.specs.Str.{bytes_eq}
 use Rattle.std.specs.Cmp.Lexicographic.{pointwise}
@@ -10,11 +10,11 @@ use Rattle.cell_types.specs.CallWords.{call_fields}
 use Rattle.cell_types.specs.Everything.{all_machines, all_zones, all_poses}
 use Rattle.cell_replay.specs.declared.request.Request.{Request}
 
--- a record as it was read: its fields
+-- a record is its fields
 abbrev pub Row : Type 0
 Row = List (List ℕ)
 
--- how a request is written: the machine's word, and the fields of its call
+-- the fields that write a request: the machine's word, and those of the call
 abbrev pub request_fields : Request → Row
 request_fields request = machine_word request.machine ∷ call_fields request.call
 

@@ -1,4 +1,4 @@
--- What a script is answered.
+-- The answer to a script.
 use Rattle.std.specs.Prelude.{ℕ, ◌+◌, ◌-◌, ◌*◌, ◌==◌, ◌&&◌, Bool, List, [], ◌∷◌, ◌++◌, length, map, take, drop, codes, nat_lt, nat_le, Option, Some, None, Result, Ok, Err, if◌then◌else◌}
 use Rattle.std.specs.Char.{is_ascii_digit}
 use Rattle.std.specs.Fmt.{decimal}
@@ -21,14 +21,14 @@ use Rattle.cell_replay.specs.declared.script.ScriptFault.TheVariants.{NoStart, B
 use Rattle.cell_replay.specs.declared.script.Outcome.{Outcome}
 use Rattle.cell_replay.specs.declared.script.Outcome.TheVariants.{Clean, Refused}
 
--- how many bytes of a script are used, and how many records after record 0 are answered
+-- the most bytes of a script that are used, and the most records after record 0 that are answered
 abbrev pub byte_limit : ℕ
 byte_limit = 4194304
 
 abbrev pub most_records : ℕ
 most_records = 65536
 
--- one byte more tells whether there is more than is used
+-- one byte more shows whether there are more than are used
 abbrev pub most_bytes_read : ℕ
 most_bytes_read = 4194305
 
@@ -36,7 +36,7 @@ most_bytes_read = 4194305
 abbrev pub most_rows : ℕ
 most_rows = 65539
 
--- the number that digits write, after those of a number
+-- the number that more digits write, after those of a number
 abbrev pub read_on : ℕ → List ℕ → ℕ
 read_on number [] = number
 read_on number (digit ∷ digits) = read_on (10 * number + (digit - 48)) digits
@@ -56,24 +56,24 @@ start_of (Some flags) (Some stamp) = start_at (places_of flags) stamp
 start_of (Some flags) None = Err BadStart
 start_of None stamp = Err BadStart
 
--- the start of the fields behind the word `start`: the places, and the stamp, which is 0 where there is none
+-- the start in the fields after the word `start`: the places, and the stamp, which is 0 if it is absent
 abbrev pub start_fields : Row → Result ModelState ScriptFault
 start_fields [] = Err BadStart
 start_fields (places ∷ []) = start_of (places_in places) (Some 0)
 start_fields (places ∷ stamp ∷ []) = start_of (places_in places) (number_in stamp)
 start_fields (places ∷ stamp ∷ more ∷ rest) = Err BadStart
 
--- the start that record 0 gives
+-- the start in record 0
 unfoldable pub start_in : Row → Result ModelState ScriptFault
 start_in [] = Err NoStart
 start_in (word ∷ fields) = if bytes_eq word (codes "start") then start_fields fields else Err NoStart
 
--- the requests of the records up to the first that isn't one
+-- the requests of the records, up to the first record that has none
 unfoldable pub requests_in : List Row → List Request
 requests_in [] = []
 requests_in (row ∷ rows) = option_map_or (λ request. request ∷ requests_in rows) (request_of row) []
 
--- the history of requests that are made in turn
+-- the history of requests that are made in order
 abbrev pub event_of : ModelState → Request → Event
 event_of s request = record { machine = request.machine; call = request.call; answer = reply s request.machine request.call }
 
@@ -81,21 +81,21 @@ unfoldable pub history_of : ModelState → List Request → List Event
 history_of s [] = []
 history_of s (request ∷ requests) = event_of s request ∷ history_of (next s request.machine request.call) requests
 
--- a line: a record's number, the stamp after it, and what is told of it
+-- a line: a record's number, the stamp after it, and its text
 abbrev pub line_of : ℕ → ℕ → List ℕ → List ℕ
 line_of number stamp text = decimal number ++ 32 ∷ (decimal stamp ++ 32 ∷ (text ++ 10 ∷ []))
 
 abbrev pub start_line : ModelState → List ℕ
 start_line s = line_of 0 s.stamp (codes "start " ++ decimal (plates_of s))
 
--- the line of the event with this number, from 1 on
+-- the line of the event with this number; the first is 1
 abbrev pub event_line : ModelState → List Event → ℕ × Event → List ℕ
 event_line s history (number, event) = line_of number (after s (take number history)).stamp (answer_text event.answer)
 
 abbrev pub event_lines : ModelState → List Event → List (List ℕ)
 event_lines s history = map (event_line s history) (enumerate_from 1 history)
 
--- The script of records, of which the first is record 0: its start, its events, its lines, and how it ends.
+-- A script as records, the first of which is record 0: its start, its events, its lines, and how it ends.
 abbrev pub rows_start : Bool → List Row → Result ModelState ScriptFault
 rows_start is_cut [] = Err (if is_cut then Long else NoStart)
 rows_start is_cut (row ∷ rows) = start_in row
@@ -114,7 +114,7 @@ lines_from (Err fault) history = []
 abbrev pub rows_lines : Bool → List Row → List (List ℕ)
 rows_lines is_cut rows = lines_from (rows_start is_cut rows) (rows_events is_cut rows)
 
--- how a script ends of whose records after record 0 so many are answered
+-- how a script ends with `count` records after record 0, if the first `answered` are answered
 abbrev pub end_of : Bool → ℕ → ℕ → Outcome
 end_of is_cut answered count =
     if nat_lt answered count then Refused (if answered == most_records then Long else BadRow (answered + 1)) else if is_cut then Refused Long else Clean
@@ -132,7 +132,7 @@ fault_text BadStart = codes "badstart"
 fault_text (BadRow number) = codes "badrow " ++ decimal number
 fault_text Long = codes "long"
 
--- the last line of a script that is refused
+-- the last line of a refused script
 abbrev pub end_text : Outcome → List ℕ
 end_text Clean = []
 end_text (Refused fault) = codes "fault " ++ (fault_text fault ++ 10 ∷ [])
@@ -141,7 +141,7 @@ end_text (Refused fault) = codes "fault " ++ (fault_text fault ++ 10 ∷ [])
 abbrev pub is_cut_of : List ℕ → Bool
 is_cut_of bytes = nat_lt byte_limit (length bytes)
 
--- of the records of a cut script the last is left out
+-- the last record of a cut script is left out
 abbrev pub without_last : List Row → List Row
 without_last rows = take (length rows - 1) rows
 
@@ -151,7 +151,7 @@ used is_cut rows = if is_cut then without_last rows else rows
 abbrev pub script_rows : List ℕ → List Row
 script_rows bytes = used (is_cut_of bytes) (records default_config (strip_bom (take byte_limit bytes)))
 
--- The script of bytes.
+-- A script as bytes.
 unfoldable pub script_start : List ℕ → Result ModelState ScriptFault
 script_start bytes = rows_start (is_cut_of bytes) (script_rows bytes)
 
@@ -164,6 +164,6 @@ script_lines bytes = rows_lines (is_cut_of bytes) (script_rows bytes)
 unfoldable pub script_outcome : List ℕ → Outcome
 script_outcome bytes = rows_outcome (is_cut_of bytes) (script_rows bytes)
 
--- what is written for a script
+-- the text that answers a script
 unfoldable pub script_text : List ℕ → List ℕ
 script_text bytes = concat (script_lines bytes) ++ end_text (script_outcome bytes)

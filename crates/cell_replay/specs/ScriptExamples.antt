@@ -1,4 +1,4 @@
--- Scripts with the whole text that each is answered, and how it ends.
+-- Scripts with the whole text that answers each, and how it ends.
 use Rattle.std.specs.Prelude.{◌≡◌, ℕ, Bool, true, false, List, [], ◌∷◌, ◌++◌, codes}
 use Rattle.std.specs.List.{concat}
 use Rattle.cell_replay.specs.Requests.{Row}
@@ -10,7 +10,7 @@ use Rattle.cell_replay.specs.declared.script.Outcome.TheVariants.{Clean, Refused
 abbrev pub IsAnswered : List ℕ → List ℕ → Outcome → Type 0
 IsAnswered script text outcome = (script_text script ≡ text) × (script_outcome script ≡ outcome)
 
--- ---- what is answered
+-- ---- answers
 
 abbrev pub opens : List ℕ
 opens = codes "start,0000000000\n"
@@ -63,7 +63,7 @@ pub record StartExamples : Type 0 where
   pub beyond_last : HasBadStamp (codes "1048576")
   pub field_more : HasBadStamp (codes "5,\n")
 
--- ---- scripts that are cut: the last record isn't used
+-- ---- cut scripts: the last record isn't used
 
 abbrev pub first : Row
 first = codes "start" ∷ codes "0000000000" ∷ []

@@ -1,4 +1,4 @@
-//! What is so of every script: laws, in functions that do nothing.
+//! Laws of scripts, each the contract of a function that does nothing.
 
 ghost use Rattle.std.specs.Prelude.{◌≡◌, ◌≤◌, ℕ, length, min, IfOk};
 ghost use Rattle.cell_rules.specs.History.{IsLegal};
@@ -8,16 +8,16 @@ ghost use Rattle.cell_replay.specs.ScriptExamples.{ScriptsAreMet};
 
 use crate::script::{Outcome, ScriptFault};
 
-/// The events of a script are a legal history from the start that record 0 gives, and a start it is.
+/// A script's events are a legal history from the start in record 0, which is a valid start.
 pub fn events_are_legal(script: &[u8])
     ensures legal { IfOk (script_start script.now) (λ s. IsLegal s (script_events script.now)) }
     ensures start { IfOk (script_start script.now) IsStartState }
 {}
 
-/// A script has a line for record 0 and one for each event. Where a record is refused by its number,
-/// there are as many lines; where none is, each record has its line. A script with too many records
-/// has as many lines as a script can have; one with too many bytes has one for each record that is
-/// used, up to as many.
+/// The number of a script's lines is at most 65,537: one for record 0 and one for each event. If
+/// record N is refused, it is N. If no record is refused, it is the number of records. With too
+/// many records it is 65,537. With too many bytes it is the number of records that are used, or
+/// 65,537 if there are more.
 pub fn lines_are_counted(script: &[u8])
     ensures most { length (script_lines script.now) ≤ 65537 }
     ensures bad_row { (number : ℕ) → script_outcome script.now ≡ Outcome.Refused (ScriptFault.BadRow number) →
@@ -30,8 +30,7 @@ pub fn lines_are_counted(script: &[u8])
         length (script_lines script.now) ≡ min 65537 (length (script_rows script.now)) }
 {}
 
-/// Scripts with the whole text that each is answered: of calls, of each form of record 0, and of
-/// scripts that are cut.
+/// Example scripts with their whole answers: calls, each form of record 0, and cut scripts.
 pub fn scripts_are_met()
     ensures { ScriptsAreMet }
 {}

@@ -1,4 +1,4 @@
-//! What a script is answered: `replay`, from the bytes of a script to the bytes of its answers.
+//! Answers scripts: `replay` reads the bytes of a script and writes the bytes of its answers.
 #![tactic(auto)]
 
 pub mod laws;

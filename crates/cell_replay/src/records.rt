@@ -7,8 +7,9 @@ ghost use Rattle.csv.specs.Records.{fields_of};
 use csv::{ByteRecord, ErrorKind, ReaderBuilder};
 use std::alloc::{AllocError, Global};
 
-/// The first records of a text with no header row, at most this many. Each record may have any
-/// number of fields, so what can fail is memory alone: bytes at hand are always read.
+/// The first `most` records of a text without a header row, or all if there are fewer. A record may
+/// have any number of fields. The error is that memory ran out; reading bytes in memory doesn't
+/// fail.
 pub fn first_rows(alloc: Global, text: &[u8], most: usize) -> Result<Vec<ByteRecord>, AllocError>
     ensures { IfOk result (λ v. map fields_of v.items ≡ take most (records default_config (strip_bom text.now))) }
 {
@@ -25,7 +26,7 @@ pub fn first_rows(alloc: Global, text: &[u8], most: usize) -> Result<Vec<ByteRec
             Ok(row) => rows.push(row)?,
             Err(error) => match error.kind() {
                 ErrorKind::OutOfMemory | ErrorKind::Io(_) => return Err(AllocError),
-                // Records may be of any length, they are no text, and no type is read or written.
+                // Records may have any length, they are bytes, and no type is read or written.
                 ErrorKind::UnequalLengths { .. }
                 | ErrorKind::Utf8 { .. }
                 | ErrorKind::Serialize(_)

@@ -16,34 +16,35 @@ use csv::ByteRecord;
 use std::alloc::{AllocError, Global};
 use std::io::{Read, Write};
 
-/// How many bytes of a script are used.
+/// The most bytes of a script that are used.
 const BYTE_LIMIT: usize = 4_194_304;
 
-/// How many records are looked at: record 0, the 65,536 that may be answered, one too many, and the
+/// The most records that are read: record 0, the 65,536 that may be answered, one too many, and the
 /// last record of a cut script.
 const MOST_ROWS: usize = 65_539;
 
-/// Reads a script from the reader, makes its calls in turn, and writes the line of each and, where
-/// the script is refused, a last line that says why. The whole text is made before it is written.
+/// Reads a script from the reader, makes its calls in order, and writes a line for each. If the
+/// script is refused, a last line says why. The text is complete before any of it is written.
 ///
-/// After `Read` or `Memory` whole lines were written, those of the first records; after `Write` a
-/// front of the text. At most 4,194,305 bytes are taken from the reader.
+/// After `Read` or `Memory`, what was written is some first lines of the text, each whole; after
+/// `Write`, a prefix of the text. At most 4,194,305 bytes are taken from the reader.
 pub fn replay<R: Read, W: Write>(
     alloc: Global,
     reader: &mut R,
     writer: &mut W,
 ) -> Result<Outcome, ReplayFault>
-    // The text of the script was written, and nothing else.
+    // The answer to the script was written, and nothing else.
     ensures text { OnOk result (IfSome (R.remaining reader.old) (λ bytes.
         Appends (W.contents writer.old) (W.contents writer.new) (script_text bytes))) }
-    // The outcome is as that text says.
+    // The outcome is the one in that text.
     ensures outcome { IfOk result (λ o. IfSome (R.remaining reader.old) (λ bytes. o ≡ script_outcome bytes)) }
 
-    // After a failed read, or want of memory, whole lines were written; after a failed write a front of the text.
+    // After a failed read, or out of memory: some first lines, each whole. After a failed write: a
+    // prefix.
     ensures failed { IfErr result (λ fault. IfSome (R.remaining reader.old) (λ bytes.
         Leaves fault bytes (W.contents writer.old) (W.contents writer.new))) }
 
-    // Reading stops one byte behind the limit, however the replay ends.
+    // Reading stops one byte after the limit, however the replay ends.
     ensures taken { TakesAtMost (R.remaining reader.old) (R.remaining reader.new) most_bytes_read }
 {
     let (text, outcome) = answer(alloc, reader)?;
@@ -53,7 +54,7 @@ pub fn replay<R: Read, W: Write>(
     }
 }
 
-/// The text of the script that a reader has, and how it ends.
+/// The text that answers the script of a reader, and how the script ends.
 fn answer<R: Read>(alloc: Global, reader: &mut R) -> Result<(String, Outcome), InputFault>
     ensures text { IfOk result (λ p. IfSome (R.remaining reader.old) (λ bytes. string_bytes p.0 ≡ script_text bytes)) }
     ensures outcome { IfOk result (λ p. IfSome (R.remaining reader.old) (λ bytes. p.1 ≡ script_outcome bytes)) }
@@ -68,7 +69,7 @@ fn answer<R: Read>(alloc: Global, reader: &mut R) -> Result<(String, Outcome), I
 #[derive(Drop)]
 struct Script {
     bytes: Vec<u8>,
-    // There was more.
+    // Whether there were more.
     is_cut: bool,
 }
 
@@ -83,7 +84,7 @@ fn read_script<R: Read>(alloc: Global, reader: &mut R) -> Result<Script, InputFa
     Ok(Script { bytes, is_cut })
 }
 
-/// The first of the records that are answered, as many as are looked at.
+/// The records that may be answered: the first ones, of a cut script without the last.
 fn used_rows(alloc: Global, script: &Script) -> Result<Vec<ByteRecord>, AllocError>
     ensures { IfOk result (λ v. map fields_of v.items
         ≡ used script.now.is_cut (take most_rows (records default_config (strip_bom script.now.bytes.items)))) }

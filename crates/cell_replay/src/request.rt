@@ -1,4 +1,4 @@
-//! Reads what a record asks for.
+//! Reads the request in a record.
 
 ghost use Rattle.std.specs.Prelude.{◌≡◌, ◌↔◌, Some};
 ghost use Rattle.csv.specs.Records.{fields_of};
@@ -14,7 +14,7 @@ pub struct Request {
     pub call: Call,
 }
 
-/// The request of a record, or `None` for any other record.
+/// The request in a record, or `None` if the record has none.
 pub fn read_request(row: &ByteRecord) -> Option<Request>
     ensures written { (request : Request) → (result ≡ Some request) ↔ (fields_of row.now ≡ request_fields request) }
     ensures same { result ≡ request_of (fields_of row.now) }

@@ -1,4 +1,4 @@
-//! What comes of a script, and of its replay.
+//! How a script ends, and why a replay fails.
 
 ghost use Rattle.std.specs.Prelude.{◌≡◌, Some};
 ghost use Rattle.cell_replay.specs.Script.{fault_text};
@@ -12,9 +12,9 @@ use std::fmt;
 pub enum ScriptFault {
     /// There is no record 0, or its first field isn't `start`.
     NoStart,
-    /// Record 0 begins with `start` and gives no start.
+    /// Record 0 begins with `start`, but the rest of it is no valid start.
     BadStart,
-    /// The record with this number is no request. Record 0 gives the start, and 1 is the first number.
+    /// The record with this number is no request. Record 0 is the start, so 1 is the least number.
     BadRow(u32),
     /// There are more than 65,536 records after record 0, or more than 4,194,304 bytes.
     Long,
@@ -49,7 +49,7 @@ pub enum ReplayFault {
     Read,
     /// The writer failed, or took none of the bytes that were left.
     Write,
-    /// A growth was refused.
+    /// Memory ran out.
     Memory,
 }
 

@@ -1,4 +1,4 @@
-//! Reads the start that record 0 gives.
+//! Reads the start in record 0.
 
 ghost use Rattle.std.specs.Prelude.{◌≡◌, ◌<◌, Some};
 ghost use Rattle.csv.specs.Records.{fields_of};
@@ -8,10 +8,10 @@ use crate::script::ScriptFault;
 use cell_rules::{PLACES, State, read_places};
 use csv::ByteRecord;
 
-/// The most digits that a stamp may have.
+/// The most digits of a stamp.
 const MOST_DIGITS: usize = 7;
 
-/// The number of one to seven digits.
+/// The number that one to seven digits write; `None` for other bytes.
 fn read_number(field: &[u8]) -> Option<u32>
     ensures { result ≡ script.number_in field.now }
 {
@@ -28,7 +28,7 @@ fn read_number(field: &[u8]) -> Option<u32>
     Some(number)
 }
 
-/// The start with these places and this stamp.
+/// The start with these places and this stamp; `BadStart` if one is absent, or both make no start.
 fn start_of(places: Option<[bool; PLACES]>, stamp: Option<u32>) -> Result<State, ScriptFault>
     ensures { result ≡ script.start_of places stamp }
 {
@@ -40,7 +40,8 @@ fn start_of(places: Option<[bool; PLACES]>, stamp: Option<u32>) -> Result<State,
     }
 }
 
-/// The start that a record gives, where it is record 0.
+/// The start in record 0. `NoStart` if its first field isn't `start`, `BadStart` if the rest is no
+/// start.
 #[tactic(auto, using(crate::proofs::Starts::start_shapes))]
 pub fn read_start(row: &ByteRecord) -> Result<State, ScriptFault>
     ensures { result ≡ script.start_in (fields_of row.now) }

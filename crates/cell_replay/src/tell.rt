@@ -1,4 +1,4 @@
-//! Writes the text that a script is answered.
+//! Writes the answers to a script.
 
 ghost use Rattle.std.specs.Prelude.{◌≡◌, ◌≤◌, ◌++◌, length, map, IfOk, OnOk, string_bytes};
 ghost use Rattle.std.specs.List.{concat};
@@ -15,10 +15,10 @@ use cell_types::Answer;
 use csv::ByteRecord;
 use std::alloc::{AllocError, Global};
 
-/// How many records after record 0 are answered.
+/// The most records after record 0 that are answered.
 const MOST_RECORDS: usize = 65_536;
 
-/// The text of these records, of which the first is record 0, and how it ends.
+/// The text that answers these records, the first of which is record 0, and how the script ends.
 pub fn tell(
     alloc: Global,
     rows: &[ByteRecord],
@@ -35,7 +35,7 @@ pub fn tell(
     Ok((text, outcome))
 }
 
-/// Adds the line of each record that has one, and says how the text ends.
+/// Adds the line of each record that has one, and returns how the script ends.
 fn push_lines(text: &mut String, rows: &[ByteRecord], is_cut: bool) -> Result<Outcome, AllocError>
     ensures text { OnOk result (string_bytes text.new
         ≡ string_bytes text.old ++ concat (rows_lines is_cut (map fields_of rows.now))) }
@@ -59,7 +59,7 @@ fn push_lines(text: &mut String, rows: &[ByteRecord], is_cut: bool) -> Result<Ou
     }
 }
 
-/// How a script ends of whose records after record 0 so many are answered.
+/// How a script ends with `count` records after record 0, if the first `answered` are answered.
 fn end_of(is_cut: bool, answered: u32, count: usize) -> Outcome
     requires { answered ≤ most_records }
     ensures { result ≡ script.end_of is_cut answered count }
@@ -77,8 +77,8 @@ fn end_of(is_cut: bool, answered: u32, count: usize) -> Outcome
     }
 }
 
-/// Makes the requests of the records in turn, up to the first that isn't one, adds the line of each,
-/// and says how many there were.
+/// Makes the requests of the records in order, up to the first record that has none. Adds a line
+/// for each, and returns their number.
 fn push_answers(text: &mut String, start: State, rows: &[ByteRecord]) -> Result<u32, AllocError>
     requires { length rows.now ≤ most_records }
     ensures text { OnOk result (string_bytes text.new

@@ -1,4 +1,4 @@
--- The audits of the examples. Their entries stand in order, but for one list that is only noted.
+-- The audits of the examples. Their entries are in order, except one list that is only noted.
 use Rattle.std.proofs.Common.{◌≡◌, ℕ, ◌<◌, ◌≤◌, nat_le, Bool, true, false, ◌&&◌, inl, inr, List, [], ◌∷◌, Option, Some, None, refl, ap, arith}
 use Rattle.std.specs.List.{list_all}
 use Rattle.std.proofs.lemmas.Bool.{and_parts, leb-true}
@@ -19,7 +19,7 @@ use Rattle.cell_report.proofs.Rising.{Rises, from_rises}
 use Rattle.cell_report.proofs.Times.{gap_after, gap_tells, twice_after, twice_tells}
 use Rattle.cell_report.proofs.Checks.{gap_is, gapless, no_twice, rising_stamps, twice_is, within_top}
 
--- ---- entries that stand in order
+-- ---- entries that are in order
 
 abbrev stands_low : Noted → List Noted → Bool
 stands_low x xs = list_all (λ z. nat_le (key_at x) (key_at z)) xs

@@ -1,4 +1,4 @@
--- Two lists that rise, and that have the same entries of each key in the same order, are the same.
+-- Two rising lists that have the same entries of each key in the same order are the same.
 use Rattle.std.proofs.Common.{◌≡◌, ◌≤◌, Bool, true, false, cond, inl, inr, List, [], ◌∷◌, filter, refl, sym, ap, ◌∙◌, subst, arith}
 use Rattle.std.specs.Ordering.{nat_cmp, is_lt}
 use Rattle.std.specs.List.Sorted.{ties}

@@ -1,4 +1,4 @@
--- Where there is a history, every entry fits.
+-- If there is a history, every entry fits.
 use Rattle.std.proofs.Common.{◌≡◌, ◌+◌, ◌≤◌, inl, inr, true, List, [], ◌∷◌, ◌++◌, map, refl, sym, ap, ◌∙◌, subst, arith, append_assoc, append-nil}
 use Rattle.std.proofs.lemmas.Bool.{cases_lt}
 use Rattle.cell_types.specs.declared.machine.Machine.{Machine}
@@ -65,7 +65,7 @@ not_below s h ordered before xs x r st e reached p =
       ]
     ]
 
--- what is so after all
+-- what holds after all entries
 pub record Followed (s : ModelState) (h : List Event) (ordered before xs : List Noted) (r : ModelState) : Type 0 where
   pub fit : AllFitAt r xs
   pub through : Through s h (after r (map event_of xs))

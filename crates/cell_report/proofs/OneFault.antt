@@ -33,7 +33,7 @@ not_twice count s a b = absurd (omega (arith, a.twice, b s))
 not_gap : {A : Type 0} (start top : ℕ) (count : ℕ → ℕ) (s : ℕ) → IsGap start top count s → HasNoGap start top count → A
 not_gap start top count s a b = absurd (omega (arith, a.missing, b s a.behind a.within))
 
--- the first that doesn't fit is one entry
+-- only one entry is the first that doesn't fit
 first_misfit : (start now : ModelState) (before others : List Noted) (x y : Noted) (rest more : List Noted) → before ++ x ∷ rest ≡ others ++ y ∷ more
     → AllFit start now before → ¬ Fits start (after now (map event_of before)) x → AllFit start now others → ¬ Fits start (after now (map event_of others)) y → x ≡ y
 first_misfit start now [] [] x y rest more e f n g m = cc

@@ -1,4 +1,4 @@
--- Where the stamps pass their tests, an entry that fits has the stamp of its point.
+-- If the stamps pass their tests, an entry that fits has the stamp of its point.
 use Rattle.std.proofs.Common.{◌≡◌, ℕ, ◌+◌, ◌*◌, ◌<◌, ◌≤◌, true, false, ◌⊎◌, inl, inr, List, [], ◌∷◌, ◌++◌, map, filter, refl, sym, ap, ◌∙◌, subst, arith, append_assoc}
 use Rattle.std.specs.Prelude.{⊤}
 use Rattle.std.proofs.lemmas.Bool.{cases_lt}
@@ -40,7 +40,7 @@ stamped start t all ordered k = record {
       (subst (λ n. 0 < n) (sym (counted all ordered k.order r)) (k.no_gap r a (omega (arith, b, greatest_in t all x (in_permutation_back all ordered x k.order.same i)))));
 }
 
--- a state that entries have led to from the start
+-- a state that entries lead to from the start
 pub record Reached (s : ModelState) (before : List Noted) (r : ModelState) : Type 0 where
   pub low : s.stamp ≤ r.stamp
   pub high : (y : Noted) → In y before → y.entry.stamp ≤ r.stamp
@@ -67,7 +67,7 @@ reached_more s before r x k f = record {
   ];
 }
 
--- ---- what stands before an entry, and what behind it
+-- ---- what is before an entry, and what is after it
 
 pub rises_apart : (a b : List Noted) (y x : Noted) → Rises (a ++ x ∷ b) → In y a → key_at y ≤ key_at x
 rises_apart [] b y x r h = absurd h
@@ -88,14 +88,14 @@ twice_in r a b h k =
     let t = ap (stands r) e ∙ stands_append r (done_stamps a) (done_stamps b) in
     omega (arith, t, stands_in r (done_stamps a) h, stands_in r (done_stamps b) k)
 
--- the last Done stamp isn't that of a Done entry further on
+-- the last Done stamp isn't that of a later Done entry
 pub not_again : (start : ℕ) (ordered before rest : List Noted) (x : Noted) → Stamped start ordered → ordered ≡ before ++ x ∷ rest → is_done_noted x ≡ true → In x.entry.stamp (done_stamps before) → ⊥
 not_again start ordered before rest x st e done q =
     let two = twice_in x.entry.stamp before (x ∷ rest) q (to_done (x ∷ rest) x (inl refl) done) in
     let once = subst (λ l. stands x.entry.stamp (done_stamps l) ≤ 1) e (st.once x.entry.stamp) in
     omega (arith, two, once)
 
--- a Done entry of the next stamp stands behind the entries before, and not before this one
+-- a Done entry of the next stamp is after the entries before this one, and not before this one
 pub behind_next : (ordered before rest : List Noted) (x : Noted) (n : ℕ) → ordered ≡ before ++ x ∷ rest → Rises ordered → ((y : Noted) → In y before → y.entry.stamp ≤ n) → In (n + 1) (done_stamps ordered) → key_at x ≤ 2 * (n + 1)
 behind_next ordered before rest x n e up high i =
     let d = from_done ordered (n + 1) i in
@@ -176,7 +176,7 @@ all_fit_at s ordered before (x ∷ xs) r e st k fit =
     let here : FitsAt r x = record { answer = fit.0.answer; stamp = stamp_follows s r ordered before xs x e k st fit.0 } in
     (here, all_fit_at s ordered (before ++ x ∷ []) xs (next r x.machine x.entry.call) (e ∙ sym (append_assoc before (x ∷ []) xs)) st (reached_more s before r x k here) fit.1)
 
--- ---- and the other way round
+-- ---- the converse
 
 fits_from : (s r : ModelState) (x : Noted) → s.stamp ≤ r.stamp → x.in_turn ≡ true → FitsAt r x → Fits s r x
 fits_from s r x low turn f = record {

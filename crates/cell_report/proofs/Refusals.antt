@@ -1,4 +1,4 @@
--- What an audit refuses has no history.
+-- Journals that an audit refuses have no history.
 use Rattle.std.proofs.Common.{◌≡◌, ◌≢◌, ℕ, ◌<◌, ◌≤◌, max, inl, inr, List, ◌∷◌, ◌++◌, [], map, Option, Some, None, Result, Ok, Err, IfErr, refl, ap, ◌∙◌, subst, arith, true}
 use Rattle.std.proofs.lemmas.Bool.{cases_lt}
 use Rattle.cell_types.specs.declared.machine.Machine.{Machine}
@@ -35,7 +35,7 @@ pub fit_at : (s r : ModelState) (before : List Noted) (x : Noted) (rest : List N
 fit_at s r [] x rest fit = fit.0
 fit_at s r (y ∷ before) x rest fit = fit_at s (next r y.machine y.entry.call) before x rest fit.1
 
--- the Done entry of a stamp that the history comes to
+-- the Done entry of a stamp that the history reaches
 done_noted : (s : ModelState) (j : Machine → List Entry) (h : List Event) (r : ℕ) → IsLegal s h → ((m : Machine) → noted s h m ≡ j m) → s.stamp < r → r ≤ (after s h).stamp → (x : Noted) × In x (all_noted j) × (is_done_noted x ≡ true) × (x.entry.stamp ≡ r)
 done_noted s j h r legal own low high =
     let d = done_in_run s h r legal low high in

@@ -1,4 +1,4 @@
--- The lines of a report, one after the other.
+-- The lines of a report, in order.
 use Rattle.std.proofs.Common.{ℕ, ℤ, pos, ◌≡◌, ◌<◌, ◌+◌, List, [], ◌∷◌, ◌++◌, length, map, drop, get_or, codes, refl, sym, ap, ap₂, ◌∙◌, arith, append_assoc, to_z, of_z, w32, SFits}
 use Rattle.std.proofs.lemmas.Int.{to_z-of_z}
 use Rattle.std.proofs.lemmas.List.{append-nil, drop_more}
@@ -16,12 +16,12 @@ pub text_of_lines-append : (a b : List (List ℕ)) → text_of_lines (a ++ b) �
 text_of_lines-append [] b = refl
 text_of_lines-append (line ∷ a) b = ap (λ t. (line ++ codes "\n") ++ t) (text_of_lines-append a b) ∙ sym (append_assoc (line ++ codes "\n") (text_of_lines a) (text_of_lines b))
 
--- texts, each before what follows it
+-- texts in order, and then the rest
 abbrev pub before : List (List ℕ) → List ℕ → List ℕ
 before [] rest = rest
 before (text ∷ texts) rest = text ++ before texts rest
 
--- a page after more and more texts
+-- a page after each of some texts was added
 abbrev pub after_all : List ℕ → List (List ℕ) → List ℕ
 after_all page [] = page
 after_all page (text ∷ texts) = after_all (page ++ text) texts
@@ -34,11 +34,11 @@ spaced-before : (word : List ℕ) (words : List (List ℕ)) (rest : List ℕ) �
 spaced-before word [] rest = refl
 spaced-before word (next ∷ words) rest = append_assoc word (32 ∷ spaced (next ∷ words)) rest ∙ ap (λ text. word ++ 32 ∷ text) (spaced-before next words rest)
 
--- a blank, the name of an axis, a blank, and where it stands
+-- a blank, the name of an axis, a blank, and its position
 abbrev pub axis_text : List ℕ → ℤ → List ℕ
 axis_text name position = 32 ∷ (name ++ 32 ∷ signed_decimal position)
 
--- the line of the axes, one after the other
+-- the line of the axes, written axis by axis
 pub axes_told : (page : List ℕ) (axes : List ℤ) → length axes ≡ 8
     → after_all page (codes "axes" ∷ axis_text (codes "press") (get_or axes 0 (pos 0)) ∷ axis_text (codes "arm1") (get_or axes 1 (pos 0)) ∷ axis_text (codes "arm2") (get_or axes 2 (pos 0))
     ∷ axis_text (codes "rotation") (get_or axes 3 (pos 0)) ∷ axis_text (codes "lift") (get_or axes 4 (pos 0)) ∷ axis_text (codes "turn") (get_or axes 5 (pos 0))
@@ -52,19 +52,19 @@ axes_told page _ eight = absurd (omega arith)
 abbrev pub at_work : List Machine
 at_work = Feed ∷ Table ∷ Robot ∷ Press ∷ Deposit ∷ Crane ∷ []
 
--- the lines of the machines from one on
+-- the lines of the machines from an index on
 abbrev pub machines_from : ℕ → List Counts → List Status → List (List ℕ)
 machines_from i counts status = map (λ (m, row). machine_line m row.0 row.1) (zip (drop i at_work) (zip (drop i counts) (drop i status)))
 
--- one axis more
+-- another axis
 pub axis_more : (old new all word : List ℕ) (at : ℤ) → SFits w32 at → new ≡ old ++ axis_text word (to_z w32 (of_z w32 at)) → old ≡ all → new ≡ all ++ axis_text word at
 axis_more old new all word at fits more so_far = more ∙ ap₂ (λ page z. page ++ axis_text word z) so_far (to_z-of_z w32 at fits)
 
--- one line more is told
+-- another line is written
 pub told_more : (old new line rest all more : List ℕ) → new ≡ old ++ line → more ≡ line ++ rest → old ++ more ≡ all → new ++ rest ≡ all
 told_more old new line rest all more wrote is told = rw (wrote, append_assoc) (rw is at told)
 
--- one text more
+-- another text
 pub one_more : (old new text all : List ℕ) → new ≡ old ++ text → old ≡ all → new ≡ all ++ text
 one_more old new text all more so_far = more ∙ ap (λ page. page ++ text) so_far
 

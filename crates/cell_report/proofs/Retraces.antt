@@ -37,7 +37,7 @@ retraced_at start ordered i d history more now new answer r h turn time same is 
     let t : Retraced start (take i ordered ++ x ∷ []) (history ++ event_of x ∷ []) (next now x.machine x.entry.call) = retraced_more start (take i ordered) x history now r (record { in_turn = turn; in_time = time; answer = same ∙ is }) in
     rw (take_more ordered i d h, new_is, more_is) t
 
--- an entry that doesn't fit behind those that do
+-- an entry that doesn't fit, after those that do
 pub misfit_at : (start : ModelState) (ordered : List Noted) (i : ℕ) (d : Noted) (history : List Event) (now : ModelState)
     → Retraced start (take i ordered) history now → i < length ordered
     → ((get_or ordered i d).in_turn ≡ true → ¬ IsTooEarly start.stamp (get_or ordered i d) → (get_or ordered i d).entry.answer ≡ reply now (get_or ordered i d).machine (get_or ordered i d).entry.call → ⊥)

@@ -9,7 +9,7 @@ use Rattle.cell_report.specs.declared.ordered.Noted.{Noted}
 use Rattle.cell_report.specs.Order.{key_at, rank, is_done_noted, stamp_of, done_stamps}
 use Rattle.cell_report.proofs.Members.{In, in_at, contains_from_in, in_filter, from_filter}
 
--- each element's key is not above those behind it
+-- each element's key is not above those after it
 abbrev pub RisesBy : {X : Type 0} → (X → ℕ) → List X → Type 0
 RisesBy key [] = ⊤
 RisesBy {X} key (x ∷ xs) = ((z : X) → In z xs → key x ≤ key z) × RisesBy key xs

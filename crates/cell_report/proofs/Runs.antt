@@ -1,4 +1,4 @@
--- The states of a legal history, and where each entry was noted.
+-- The states of a legal history, and at which point each entry was noted.
 use Rattle.std.proofs.Common.{◌≡◌, ◌+◌, ◌*◌, ◌≤◌, Bool, true, false, cond, ◌⊎◌, inl, inr, List, [], ◌∷◌, ◌++◌, refl, sym, ap, ◌∙◌, subst, arith}
 use Rattle.cell_types.specs.declared.machine.Machine.{Machine}
 use Rattle.cell_types.specs.declared.call.Call.{Call}
@@ -21,14 +21,14 @@ by_answer Done s m c = inl (refl, refl)
 by_answer (Shown _ _ _) s m c = inr (refl, refl)
 by_answer (Refused _) s m c = inr (refl, refl)
 
--- a call that is Done makes the stamp one higher, and any other changes nothing
+-- a Done call adds one to the stamp, and any other changes nothing
 pub next_cases : (s : ModelState) (m : Machine) (c : Call) → ((is_done_answer (reply s m c) ≡ true) × ((next s m c).stamp ≡ s.stamp + 1)) ⊎ ((is_done_answer (reply s m c) ≡ false) × (next s m c ≡ s))
 next_cases s m c = by_answer (reply s m c) s m c
 
 pub stamp_rises : (s : ModelState) (m : Machine) (c : Call) → s.stamp ≤ (next s m c).stamp
 stamp_rises s m c = elim (next_cases s m c) [ inl e ↦ omega (arith, e.1) | inr e ↦ let p = ap (λ (t : ModelState). t.stamp) e.1 in omega (arith, p) ]
 
--- a state that the history comes through
+-- a state that the history passes through
 abbrev pub Through : ModelState → List Event → ModelState → Type 0
 Through s [] t = s ≡ t
 Through s (e ∷ h) t = (s ≡ t) ⊎ Through (state_left s e) h t
@@ -51,7 +51,7 @@ through_high s [] t e = let p = ap (λ (u : ModelState). u.stamp) e in omega (ar
 through_high s (f ∷ h) t (inl e) = let p = ap (λ (u : ModelState). u.stamp) e in omega (arith, p, stamp_rises s f.machine f.call, through_high (state_left s f) h (state_left s f) (through_first (state_left s f) h))
 through_high s (f ∷ h) t (inr k) = through_high (state_left s f) h t k
 
--- two of them with one stamp are the same
+-- two such states with one stamp are the same
 first_and : (s : ModelState) (f : Event) (h : List Event) (a b : ModelState) → s ≡ a → Through (state_left s f) h b → a.stamp ≡ b.stamp → ((a b : ModelState) → Through (state_left s f) h a → Through (state_left s f) h b → a.stamp ≡ b.stamp → a ≡ b) → a ≡ b
 first_and s f h a b e k q same =
     elim (next_cases s f.machine f.call) [

@@ -1,4 +1,4 @@
--- Entries of which each fits are a legal history, of which each machine noted its own.
+-- Entries that each fit are a legal history, and each machine noted its own.
 use Rattle.std.proofs.Common.{◌≡◌, max, Option, Some, None, option_map, ℕ, Bool, true, false, cond, inl, inr, List, [], ◌∷◌, map, filter, refl, sym, ap, ◌∙◌, subst}
 use Rattle.cell_types.specs.declared.machine.Machine.{Machine}
 use Rattle.cell_types.specs.declared.answer.Event.{Event}

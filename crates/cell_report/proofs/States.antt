@@ -1,4 +1,4 @@
--- Two states with the same at each zone and each place, and with one stamp.
+-- Two states are the same if they have the same at each zone and place, and the same stamp.
 use Rattle.std.proofs.Common.{◌≡◌, ◌↔◌, ℕ, ◌<◌, Bool, true, false, MatchBool, List, length, All, IsTrue, refl, sym, ◌∙◌, arith}
 use Rattle.std.specs.List.{AllWithin, HoldsAt}
 use Rattle.std.proofs.lemmas.Bool.{false≢true}
@@ -10,7 +10,7 @@ use Rattle.cell_rules.specs.ZoneMap.{ZoneMap, zone_map, zone_in}
 use Rattle.cell_rules.specs.PlaceSet.{PlaceSet, place_set, has}
 use Rattle.cell_rules.specs.ModelState.{ModelState, model_state, zone_at, is_full}
 
--- what a test of each element answers, where there is an element
+-- what a test of each element answers, if there is an element
 pub tells_all : {X : Type 0} (P : X → Type 0) (xs : List X) (d : X) (r : Bool) → MatchBool r (AllWithin P xs 0 (length xs)) ((k : ℕ) × (k < length xs) × HoldsAt (λ x. ¬ P x) xs k) → IsTrue r ↔ All P xs
 tells_all P xs d true m = (λ _ k e h. m k e (omega arith) h, λ _. refl)
 tells_all P xs d false m = (λ e. absurd (false≢true e), λ all. absurd (m.2 d (all m.0 d m.1)))

@@ -1,4 +1,4 @@
--- How often a number stands in a list that doesn't fall.
+-- How often a number occurs in a non-decreasing list.
 use Rattle.std.proofs.Common.{◌≡◌, ◌≢◌, ℕ, ◌+◌, ◌-◌, ◌<◌, ◌≤◌, max, nat_eq, nat_lt, Bool, true, false, cond, ◌&&◌, ◌⊎◌, inl, inr, List, [], ◌∷◌, map, filter, Option, Some, None, refl, sym, ap, ◌∙◌, subst, arith, zero-add, drop, length, get_or, All, MatchOption}
 use Rattle.std.proofs.lemmas.Bool.{eqb-true, eqb-false, ltb-true, ltb-false, eq-eqb, lt-ltb}
 use Rattle.std.proofs.lemmas.List.{at_drop_more, at_drop_all}
@@ -59,7 +59,7 @@ at_most l r t h f = elim (eq_cases l r) [ inl e ↦ omega (arith, e.1, f e.0) | 
 
 -- ---- the tests, from one number to the next
 
--- the first number that is the one before it
+-- the first number that equals the one before it
 abbrev pub is_last : Option ℕ → ℕ → Bool
 is_last None x = false
 is_last (Some last) x = nat_eq last x
@@ -68,7 +68,7 @@ abbrev pub twice_after : Option ℕ → List ℕ → Option ℕ
 twice_after last [] = None
 twice_after last (x ∷ xs) = cond (is_last last x) (Some x) (twice_after (Some x) xs)
 
--- the first number behind the last, up to top, that is left out
+-- the first number after the last, up to top, that is missing
 abbrev pub gap_after : ℕ → ℕ → List ℕ → Option ℕ
 gap_after last top [] = cond (nat_lt last top) (Some (last + 1)) None
 gap_after last top (x ∷ xs) = cond (nat_lt 1 (x - last)) (Some (last + 1)) (gap_after (max last x) top xs)
@@ -94,7 +94,7 @@ pub not_twice : (xs : List ℕ) → Ups xs → twice_after None xs ≡ None → 
 not_twice [] u h = λ r. omega arith
 not_twice (x ∷ xs) u h = not_twice_from x xs u h
 
--- ---- the least that stands twice
+-- ---- the least that occurs twice
 
 abbrev LeastTwice : List ℕ → ℕ → Type 0
 LeastTwice xs s = (2 ≤ stands s xs) × ((r : ℕ) → r < s → stands r xs ≤ 1)
@@ -183,7 +183,7 @@ gap_found last top s (x ∷ xs) u f h =
           }
     ]
 
--- ---- what the tests say of a list that doesn't fall
+-- ---- what the tests say of a non-decreasing list
 
 pub times_is : (xs : List ℕ) (r : ℕ) → times xs r ≡ stands r xs
 times_is [] r = refl
@@ -209,7 +209,7 @@ gap_tells start top xs up within (Some s) h =
       least = λ r a b. subst (λ n. 0 < n) (sym (times_is xs r)) (g.least r a b);
     }
 
--- ---- where a test ends
+-- ---- how a test ends
 
 same_option : (o : Option ℕ) (x : ℕ) → option_eq nat_eq o (Some x) ≡ true → o ≡ Some x
 same_option None x h = cc

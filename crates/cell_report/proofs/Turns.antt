@@ -28,7 +28,7 @@ later_than m earlier (e ∷ es) z d (inl q) i t =
     omega (arith, low_of d earlier (key_of e) i (ap (λ (w : Noted). w.in_turn) q ∙ t), k)
 later_than m earlier (e ∷ es) z d (inr h) i t = later_than m (earlier ++ e ∷ []) es z d h (in_append_left earlier (e ∷ []) d i) t
 
--- where all are in turn, the journal rises
+-- if all are in turn, the journal rises
 pub rises_in_turn : (m : Machine) (earlier es : List Entry) → ((z : Noted) → In z (noted_from m earlier es) → z.in_turn ≡ true) → Rises (noted_from m earlier es)
 rises_in_turn m earlier [] f = tt
 rises_in_turn m earlier (e ∷ es) f = (
@@ -48,6 +48,6 @@ in_turn_behind m earlier (e ∷ es) f r z (inr h) =
     ])
     r.1 z h
 
--- and the other way round
+-- and the converse
 pub in_turn_from_rises : (m : Machine) (es : List Entry) → Rises (noted_from m [] es) → (z : Noted) → In z (noted_from m [] es) → z.in_turn ≡ true
 in_turn_from_rises m es r z h = in_turn_behind m [] es (λ d i. absurd i) r z h

@@ -23,7 +23,7 @@ use Rattle.cell_report.specs.declared.audit_faults.AuditFault.TheVariants.{Twice
 use Rattle.cell_report.specs.Order.{key_of, all_noted, AreInOrder}
 use Rattle.cell_report.specs.AuditFaults.{IsFault}
 
--- a call, its answer and its stamp, noted by a machine
+-- a call, its answer and its stamp, as a machine notes them
 abbrev pub entry : Call → Answer → ℕ → Entry
 entry call answer stamp = record { call = call; answer = answer; stamp = stamp }
 
@@ -36,7 +36,7 @@ note m call answer stamp = (m, entry call answer stamp)
 abbrev pub journals_of : List Note → Machine → List Entry
 journals_of notes m = map (λ note. note.1) (filter (λ note. same_machine note.0 m) notes)
 
--- what an inquiry of a zone is told that nobody has
+-- the answer to an inquiry of a zone that nobody owns
 abbrev pub free : Answer
 free = Shown None false Closed
 
@@ -48,11 +48,11 @@ noted m e in_turn = record { machine = m; entry = e; in_turn = in_turn }
 abbrev pub asks : Machine → Note
 asks m = note m (Inquire Z3) free 5
 
--- all machines ask at one stamp, the last one first
+-- all machines ask at one stamp, in the opposite order
 abbrev pub backwards : List Note
 backwards = asks Watch ∷ asks Crane ∷ asks Deposit ∷ asks Press ∷ asks Robot ∷ asks Table ∷ asks Feed ∷ []
 
--- a journal in which the fourth entry comes after a later one, and the fifth, which is Done, after others of its stamp
+-- a journal whose fourth entry follows a later one, and whose fifth, which is Done, follows others of its stamp
 abbrev pub claimed : ℕ → Entry
 claimed stamp = entry (Claim Z3) Done stamp
 
@@ -76,7 +76,7 @@ pub record OrderExamples : Type 0 where
       ≡ noted Press (claimed 6) true ∷ noted Press (refused 6) true ∷ noted Press (shown 6) true ∷ noted Press (refused 5) false
       ∷ noted Press (claimed 6) false ∷ noted Press (claimed 7) true ∷ []
 
--- ---- the faults, where the stamp of the start is 5
+-- ---- the faults, if the start's stamp is 5
 
 abbrev pub opening : ModelState
 opening = start_state empty 5
@@ -93,7 +93,7 @@ press_claims stamp = note Press (Claim Z3) Done stamp
 abbrev pub deposit_claims : ℕ → Note
 deposit_claims stamp = note Deposit (Claim Z4) Done stamp
 
--- feed has noted what no interlock answers it, and the press a claim of a zone that isn't its own
+-- feed has noted an answer that no interlock gives, and the press a claim of a zone that isn't its own
 abbrev pub feed_errs : ℕ → Note
 feed_errs stamp = note Feed (Claim Z6) (Refused NotParty) stamp
 
@@ -120,7 +120,7 @@ refused_later = feed_claims 6 ∷ feed_errs 8 ∷ []
 abbrev pub two_err : List Note
 two_err = feed_claims 6 ∷ feed_errs 6 ∷ press_errs 7 ∷ []
 
--- the state after the claim of feed, and that with a plate more
+-- the state after feed's claim, and the same with one plate more
 abbrev pub reached : ModelState
 reached = next opening Feed (Claim Z6)
 

@@ -1,4 +1,4 @@
--- Why an audit refuses: each refusal's least stamp, over all entries.
+-- Why an audit refuses journals: the least stamp of each refusal, over all entries.
 use Rattle.std.specs.Prelude.{◌≡◌, ℕ, ◌<◌, ◌≤◌, nat_eq, max, count_by, List, [], ◌∷◌, ◌++◌, map, Option, Some, None, IsTrue, ◌⊎◌, ⊤}
 use Rattle.cell_types.specs.declared.machine.Machine.{Machine}
 use Rattle.cell_types.specs.declared.journal.Entry.{Entry}
@@ -11,7 +11,7 @@ use Rattle.cell_report.specs.declared.audit_faults.AuditFault.TheVariants.{Twice
 use Rattle.cell_report.specs.Audited.{EndsIn}
 use Rattle.cell_report.specs.Order.{all_noted, InOrder, event_of, stamp_of, is_done_noted, done_at, greatest}
 
--- how often a stamp stands in a list of stamps
+-- how often a stamp occurs in a list of stamps
 abbrev pub times : List ℕ → ℕ → ℕ
 times stamps s = count_by (λ r. nat_eq r s) stamps
 
@@ -23,7 +23,7 @@ pub record IsTwice (count : ℕ → ℕ) (stamp : ℕ) : Type 0 where
 abbrev pub HasNoTwice : (ℕ → ℕ) → Type 0
 HasNoTwice count = (r : ℕ) → count r ≤ 1
 
--- the least stamp behind the start's, up to the top, that isn't counted
+-- the least stamp after the start's, up to the top, that isn't counted
 pub record IsGap (start top : ℕ) (count : ℕ → ℕ) (stamp : ℕ) : Type 0 where
   pub behind : start < stamp
   pub within : stamp ≤ top
@@ -38,17 +38,17 @@ abbrev pub end_stamp : Option ModelState → ℕ
 end_stamp None = 0
 end_stamp (Some end) = end.stamp
 
--- the top: the greatest of the stamps of the start, of the end that is given, and of all entries
+-- the top: the greatest of the stamps of the start, of the given end, and of all entries
 abbrev pub top_of : ModelState → Option ModelState → List Noted → ℕ
 top_of start end all = greatest (max start.stamp (end_stamp end)) all
 
--- all entries in the order, where each stamp behind the start's, up to the top, is that of one Done entry
+-- all entries in the order, if each stamp after the start's, up to the top, belongs to exactly one Done entry
 pub record HasStamps (start top : ℕ) (all ordered : List Noted) : Type 0 where
   pub order : InOrder all ordered
   pub no_twice : HasNoTwice (done_at all)
   pub no_gap : HasNoGap start top (done_at all)
 
--- a stamp below the start's or, at a Done entry, not above it
+-- a stamp below the start's or, for a Done entry, not above it
 abbrev pub IsTooEarly : ℕ → Noted → Type 0
 IsTooEarly start x = (stamp_of x < start) ⊎ (IsTrue (is_done_noted x) × (stamp_of x ≤ start))
 
@@ -72,12 +72,12 @@ pub record IsMisfit (start : ModelState) (ordered : List Noted) (stamp : ℕ) : 
   pub misfit : ¬ Fits start (after start (map event_of before)) x
   pub is : stamp ≡ stamp_of x
 
--- all entries fit, but don't come to the end that is given
+-- all entries fit, but don't lead to the given end
 pub record MissesEnd (start : ModelState) (ordered : List Noted) (end : Option ModelState) : Type 0 where
   pub fit : AllFit start start ordered
   pub misses : ¬ EndsIn (after start (map event_of ordered)) end
 
--- what the stamps alone refuse
+-- the faults of the stamps alone
 abbrev pub IsStampFault : ℕ → ℕ → List Noted → AuditFault → Type 0
 IsStampFault start top all (Twice stamp) = IsTwice (done_at all) stamp
 IsStampFault start top all (Gap stamp) = HasNoTwice (done_at all) × IsGap start top (done_at all) stamp
@@ -85,7 +85,7 @@ IsStampFault start top all (Differs _) = ⊥
 IsStampFault start top all End = ⊥
 IsStampFault start top all Memory = ⊤
 
--- what each refusal says, each where none before it applies
+-- what each fault says, if no fault before it applies
 abbrev pub IsFaultOf : ModelState → Option ModelState → List Noted → AuditFault → Type 0
 IsFaultOf start end all (Twice stamp) = IsTwice (done_at all) stamp
 IsFaultOf start end all (Gap stamp) = HasNoTwice (done_at all) × IsGap start.stamp (top_of start end all) (done_at all) stamp

@@ -1,4 +1,4 @@
--- What is so of audits: the journals alone say in which order their entries stand, and why they are refused.
+-- Laws of audits: the journals alone decide the order of their entries, and why they are refused.
 use Rattle.std.specs.Prelude.{◌≡◌, ◌≢◌, List, Option}
 use Rattle.cell_types.specs.declared.machine.Machine.{Machine}
 use Rattle.cell_types.specs.declared.journal.Entry.{Entry}
@@ -9,11 +9,11 @@ use Rattle.cell_report.specs.declared.audit_faults.AuditFault.TheVariants.{Memor
 use Rattle.cell_report.specs.Order.{InOrder}
 use Rattle.cell_report.specs.AuditFaults.{IsFault}
 
--- entries have one order
+-- entries have only one order
 abbrev pub OrderIsOne : Type 0
 OrderIsOne = (all one other : List Noted) → InOrder all one → InOrder all other → one ≡ other
 
--- journals have one fault at most, but for a fault of memory
+-- journals have at most one fault, a fault of memory apart
 abbrev pub FaultIsOne : Type 0
 FaultIsOne =
     (start : ModelState) (journals : Machine → List Entry) (end : Option ModelState) (one other : AuditFault)

@@ -13,7 +13,7 @@ use Rattle.cell_rules.specs.History.{is_done_answer}
 use Rattle.cell_rules.specs.Journal.{event_by}
 use Rattle.cell_report.specs.declared.ordered.Noted.{Noted}
 
--- the order goes by the stamp, and at one stamp Done stands before the other answers
+-- the order is by stamp, and at one stamp Done is before the other answers
 abbrev pub rank : Answer → ℕ
 rank Done = 0
 rank (Shown _ _ _) = 1
@@ -22,16 +22,16 @@ rank (Refused _) = 1
 abbrev pub key_of : Entry → ℕ
 key_of e = 2 * e.stamp + rank e.answer
 
--- an entry behind the earlier ones of its journal: it is in turn where it is later in the order than all of them
+-- an entry after the earlier ones of its journal: it is in turn if none of them is later in the order
 abbrev pub noted_behind : Machine → List Entry → Entry → Noted
 noted_behind m earlier e = record { machine = m; entry = e; in_turn = list_all (λ d. nat_le (key_of d) (key_of e)) earlier }
 
--- the entries of a journal, behind earlier ones
+-- the entries of a journal, after earlier ones
 abbrev pub noted_from : Machine → List Entry → List Entry → List Noted
 noted_from m earlier [] = []
 noted_from m earlier (e ∷ es) = noted_behind m earlier e ∷ noted_from m (earlier ++ e ∷ []) es
 
--- all entries, by machine and as in the journals
+-- all entries, by machine, and then as in the journal
 abbrev pub all_noted : (Machine → List Entry) → List Noted
 all_noted journals =
     noted_from Feed [] (journals Feed)
@@ -42,7 +42,7 @@ all_noted journals =
     ++ noted_from Crane [] (journals Crane)
     ++ noted_from Watch [] (journals Watch)
 
--- the entries in the order: by their keys, and those of one key by machine and as in the journals
+-- the entries in the order: by key, and those with one key by machine, and then as in the journal
 abbrev pub key_at : Noted → ℕ
 key_at x = key_of x.entry
 

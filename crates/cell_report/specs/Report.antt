@@ -15,7 +15,7 @@ use Rattle.cell_notes.specs.Statuses.{status_word}
 use Rattle.cell_report.specs.declared.audit_faults.AuditFault.{AuditFault}
 use Rattle.cell_report.specs.declared.audit_faults.AuditFault.TheVariants.{Twice, Gap, Differs, End, Memory}
 
--- words with a blank between each two
+-- words with a blank between any two
 abbrev pub spaced : List (List ℕ) → List ℕ
 spaced words = join_with_byte 32 words
 
@@ -26,7 +26,7 @@ places_word s = concat (map (λ p. flag_word (is_full s p)) all_places)
 abbrev pub start_line : ModelState → List ℕ
 start_line s = spaced (codes "start" ∷ places_word s ∷ decimal s.stamp ∷ [])
 
--- what a machine did, and how it fares
+-- what a machine did, and its status
 abbrev pub machine_line : Machine → Counts → Status → List ℕ
 machine_line m n s =
     spaced (machine_word m ∷ codes "turns" ∷ decimal n.turns ∷ codes "done" ∷ decimal n.done ∷ codes "read" ∷ decimal n.read
@@ -36,14 +36,14 @@ machine_line m n s =
 abbrev pub machine_lines : List Counts → List Status → List (List ℕ)
 machine_lines counts status = map (λ (m, row). machine_line m row.0 row.1) (take 6 (zip all_machines (zip counts status)))
 
--- what stands at a zone
+-- the state of a zone
 abbrev pub zone_line : ModelState → Zone → List ℕ
 zone_line s z = spaced (codes "zone" ∷ zone_word z ∷ owner_word (zone_at s z).owner ∷ flag_word (zone_at s z).flag ∷ posture_word (zone_at s z).posture ∷ [])
 
 abbrev pub places_line : ModelState → List ℕ
 places_line s = spaced (codes "places" ∷ places_word s ∷ [])
 
--- where each axis stands
+-- the position of each axis
 abbrev pub axis_names : List (List ℕ)
 axis_names = codes "press" ∷ codes "arm1" ∷ codes "arm2" ∷ codes "rotation" ∷ codes "lift" ∷ codes "turn" ∷ codes "crane" ∷ codes "gripper" ∷ []
 
@@ -56,7 +56,7 @@ axes_line axes = spaced (codes "axes" ∷ flat_map axis_words (zip axis_names ax
 abbrev pub stamp_line : ModelState → List ℕ
 stamp_line s = spaced (codes "stamp" ∷ decimal s.stamp ∷ codes "plates" ∷ decimal (plates_of s) ∷ [])
 
--- what the audit found, where it found anything
+-- the fault that the audit found
 abbrev pub audit_fault_text : AuditFault → List ℕ
 audit_fault_text (Gap stamp) = spaced (codes "gap" ∷ decimal stamp ∷ [])
 audit_fault_text (Twice stamp) = spaced (codes "twice" ∷ decimal stamp ∷ [])
@@ -68,7 +68,7 @@ abbrev pub audit_line : Option AuditFault → List ℕ
 audit_line None = spaced (codes "audit" ∷ codes "ok" ∷ [])
 audit_line (Some fault) = spaced (codes "audit" ∷ audit_fault_text fault ∷ [])
 
--- lines that stand only where the end of the run is known
+-- lines that are written only if the end of the run is known
 abbrev pub where_known : Option ModelState → (ModelState → List (List ℕ)) → List (List ℕ)
 where_known None lines = []
 where_known (Some end) lines = lines end
@@ -85,7 +85,7 @@ report_lines r audit =
     ++ where_known r.end (λ s. stamp_line s ∷ [])
     ++ audit_line audit ∷ []
 
--- lines as they are written, each with a line feed at its end
+-- lines as they are written, each ended by a line feed
 abbrev pub text_of_lines : List (List ℕ) → List ℕ
 text_of_lines lines = concat (map (λ line. line ++ codes "\n") lines)
 

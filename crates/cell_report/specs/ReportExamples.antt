@@ -1,4 +1,4 @@
--- Whole reports of two runs, in which no figure and no word is that of its neighbour, and the line of each audit.
+-- Whole reports of two runs, in which no number and no word is the same as its neighbour, and the line of each audit.
 use Rattle.std.specs.Prelude.{◌≡◌, ℕ, pos, negsuc, Bool, true, false, List, [], ◌∷◌, ◌++◌, codes, Option, Some, None}
 use Rattle.cell_types.specs.declared.machine.Machine.{Machine}
 use Rattle.cell_types.specs.declared.machine.Machine.TheVariants.{Feed, Table, Robot, Crane}
@@ -32,7 +32,7 @@ last =
     (zone_map (zone (Some Table) false Moving) (zone (Some Robot) true OpenOut) (zone None false OpenIn) (zone (Some Robot) false OpenIn) (zone (Some Crane) true OpenOut) (zone (Some Feed) false Closed))
     (place_set true true false false true false true false false false) 1048575
 
--- a run with seven machines' counts, of which the last are the watch's
+-- a run with the counts of seven machines, the watch's last
 abbrev pub run : Option ModelState → Journals → RunRecord
 run end journals = record {
   start = first;

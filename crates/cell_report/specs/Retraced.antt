@@ -1,4 +1,4 @@
--- What entries in their order come to, one after the other.
+-- What entries in their order lead to.
 use Rattle.std.specs.Prelude.{◌≡◌, List, map, ⊤}
 use Rattle.cell_types.specs.declared.answer.Event.{Event}
 use Rattle.cell_rules.specs.ModelState.{ModelState}
@@ -9,7 +9,7 @@ use Rattle.cell_report.specs.declared.audit_faults.AuditFault.TheVariants.{Twice
 use Rattle.cell_report.specs.Order.{event_of}
 use Rattle.cell_report.specs.AuditFaults.{AllFit, IsMisfit}
 
--- each fits at its point, and these are their events and the state after them
+-- each entry fits at its point, and these are the events and the state after them
 pub record Retraced (start : ModelState) (ordered : List Noted) (history : List Event) (end : ModelState) : Type 0 where
   pub fit : AllFit start start ordered
   pub events : history ≡ map event_of ordered

@@ -8,17 +8,17 @@ use std::fmt;
 /// Why an audit refuses journals.
 #[derive(Clone, Copy, Debug, PartialEq, Eq)]
 pub enum AuditFault {
-    /// Two Done entries have this stamp: the least such.
+    /// Two Done entries have this stamp, the least such stamp.
     Twice(u32),
-    /// No Done entry has this stamp, though the entries or the end go on to it: the least such behind
-    /// the start's.
+    /// No Done entry has this stamp, the least such stamp after the start's, up to the greatest
+    /// stamp of the entries and the end.
     Gap(u32),
-    /// The stamp of the first entry that isn't in turn, is too early for the start, or isn't what the
-    /// interlock answers at that point.
+    /// The stamp of the first entry that isn't in turn, is too early for the start, or has another
+    /// answer than the interlock gives at that point.
     Differs(u32),
-    /// The end that is given isn't the state reached.
+    /// The given end isn't the state reached.
     End,
-    /// Memory ran out, which says nothing of the journals.
+    /// Memory ran out, which says nothing about the journals.
     Memory,
 }
 

@@ -1,4 +1,4 @@
-//! The audit: whether the journals of the machines are what one legal history wrote.
+//! The audit: whether one legal history explains the journals of the machines.
 ghost use Rattle.std.specs.Prelude.{◌≡◌, ◌≢◌, MatchResult, IfErr, IfOk, max};
 ghost use Rattle.std.specs.Option.{option_copied};
 ghost use Rattle.cell_types.specs.Journals.{journal_of};
@@ -24,8 +24,8 @@ fn stamp_of_end(end: Option<&State>) -> u32
     end.map_or(0, |end| end.stamp())
 }
 
-/// All entries in the order of an audit, if each stamp from the one behind the start's to the
-/// greatest is that of one Done entry.
+/// All entries in the order of an audit, if each stamp after the start's, up to the greatest,
+/// belongs to exactly one Done entry.
 fn checked_order(
     alloc: Global,
     journals: &Journals,
@@ -72,17 +72,17 @@ fn audit_in_order(
     Ok(events)
 }
 
-/// The legal history from the start of which each journal is what its machine noted, and which ends
-/// in the end that is given, if there is one. Its events stand in the order of their stamps, at one
-/// stamp the Done one first, then by machine and as in the journal. For n entries it costs about
-/// n log n.
+/// Finds the legal history that explains the journals: it begins at the start, each journal is what
+/// its machine noted of it, and it ends at the end, if one is given. Its events are in the order of
+/// their stamps. At one stamp the Done event is first; the others are by machine, and then in the
+/// order of the journal. The cost for n entries is about n log n.
 ///
 /// # Errors
 ///
-/// No history is such where the refusal is another than `Memory`. The refusals are looked for in the
-/// order of `AuditFault`, and the first that applies is the answer; the end's own stamp counts among
-/// those that no Done entry may leave out, and the end is compared whole. `Memory` comes where a
-/// growth was refused. The journals and the states are only read.
+/// After any fault but `Memory` there is no such history. The faults are looked for in the order of
+/// `AuditFault`, and the first that applies is returned. `Gap` takes the end's stamp into account
+/// too, and `End` compares the whole states. `Memory` says that memory ran out. The journals and
+/// the states don't change.
 pub fn audit(
     alloc: Global,
     journals: &Journals,

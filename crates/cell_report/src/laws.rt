@@ -1,24 +1,25 @@
-//! What is so of audits and reports: laws, in functions that do nothing.
+//! Laws of audits and reports, each the contract of a function that does nothing.
 
 ghost use Rattle.cell_report.specs.AuditExamples.{FaultExamples, OrderExamples};
 ghost use Rattle.cell_report.specs.AuditLaws.{FaultIsOne, OrderIsOne};
 ghost use Rattle.cell_report.specs.ReportExamples.{ReportsAreMet};
 
-/// The journals alone say how an audit goes: their entries have one order, and one fault is the
-/// answer, but for a fault of memory.
+/// The journals alone decide an audit: their entries have only one order, and they have at most one
+/// fault, `Memory` apart.
 pub fn audits_are_one()
     ensures order { OrderIsOne }
     ensures fault { FaultIsOne }
 {}
 
-/// Journals of a few entries, the order of these, and why an audit refuses them: the least stamp of
-/// several, and the first cause of several.
+/// Examples: journals of a few entries, their order, and why an audit refuses them: the least of
+/// several stamps, and the first of several causes.
 pub fn audits_are_met()
     ensures order { OrderExamples }
     ensures fault { FaultExamples }
 {}
 
-/// Two runs and their whole reports, one with an end and one without, and the line of each audit.
+/// Examples: two runs with their whole reports, one with an end and one without, and the line of
+/// each audit.
 pub fn reports_are_met()
     ensures { ReportsAreMet }
 {}

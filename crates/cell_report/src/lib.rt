@@ -1,5 +1,5 @@
-//! What is told of runs: `audit`, which finds the one history that the journals of the machines tell,
-//! and `write_report`.
+//! Audits and reports of runs: `audit` finds the one history that explains the journals of the
+//! machines, and `write_report` writes the report.
 #![tactic(auto)]
 
 pub mod audit_faults;

@@ -7,7 +7,7 @@ ghost use Rattle.cell_report.specs.AuditFaults.{IsTooEarly};
 use cell_types::{Answer, Entry, Event, Journals, Machine};
 use std::alloc::{AllocError, Global};
 
-/// What the order goes by: the stamp, and at one stamp the Done entry before the others.
+/// The key of the order: the stamp, and at one stamp Done before the other answers.
 fn key(entry: &Entry) -> u64
     ensures { result ≡ order.key_of entry.now }
 {
@@ -18,8 +18,8 @@ fn key(entry: &Entry) -> u64
     2 * u64::from(entry.stamp) + rank
 }
 
-/// An entry of a machine, and whether it is in turn: later in the order than all that stand before
-/// it in its journal.
+/// An entry of a machine, and whether it is in turn: no earlier entry of its journal is later in
+/// the order.
 #[derive(Clone, Copy, Debug)]
 pub struct Noted {
     pub entry: Entry,
@@ -41,7 +41,7 @@ impl Noted {
         matches!(self.entry.answer, Answer::Done)
     }
 
-    /// Whether the stamp is one that no entry has behind a start with this one.
+    /// Whether the stamp is too early for an entry after a start with this stamp.
     pub fn is_too_early(&self, start: u32) -> bool
         ensures { IsTrue result ↔ IsTooEarly start self.now }
     {
@@ -94,7 +94,7 @@ fn all_noted(alloc: Global, journals: &Journals) -> Result<Vec<Noted>, AllocErro
     Ok(all)
 }
 
-/// All entries in the order of an audit. It costs about n log n for n entries.
+/// All entries in the order of an audit. The cost for n entries is about n log n.
 pub fn in_order(alloc: Global, journals: &Journals) -> Result<Vec<Noted>, AllocError>
     ensures { IfOk result (λ ordered. order.InOrder (order.all_noted (journal_of journals.now)) ordered.items) }
 {

@@ -13,12 +13,12 @@ use cell_types::{Machine, Place, Zone};
 use std::fmt;
 use std::io::Write;
 
-/// The machines that work: all but the watch.
+/// How many machines work: all but the watch.
 const AT_WORK: usize = 6;
 
-/// Writes the report of a run and of the audit of its journals, where `None` says that the audit
-/// found a history. It takes no memory: the text is made in place before it is written. `Write`
-/// where the writer failed, or where the text had no room; a front of it was written then.
+/// Writes the report of a run and of the audit of its journals; `None` says that the audit found a
+/// history. It allocates nothing. `Write` if the writer failed, or the page has no room for the
+/// text; a prefix of the text was then written.
 pub fn write_report<W: Write>(
     run: &RunRecord,
     audit: Option<AuditFault>,
@@ -26,7 +26,7 @@ pub fn write_report<W: Write>(
 ) -> Result<(), WriteFault>
     // The report was written, and nothing else.
     ensures text { OnOk result (Appends (W.contents writer.old) (W.contents writer.new) (report_text run.now audit)) }
-    // The bytes of the report from the first on, as many as the writer took.
+    // After an error a prefix of the report was written.
     ensures failed { OnErr result (WroteFront (W.contents writer.old) (W.contents writer.new) (report_text run.now audit)) }
 {
     let page = match report_page(run, audit) {
@@ -36,8 +36,8 @@ pub fn write_report<W: Write>(
     write_text(writer, page.as_bytes())
 }
 
-/// The text of a report, if it has room on a page, as that of every record should: that is tested, not
-/// proved.
+/// The text of a report, or an error if a page has no room for it. It is tested, not proved, that
+/// each report has room.
 fn report_page(run: &RunRecord, audit: Option<AuditFault>) -> Result<Page, fmt::Error>
     ensures { IfOk result (λ page. page ≡ report_text run.now audit) }
 {
@@ -61,7 +61,7 @@ fn push_start(page: &mut Page, start: &State) -> fmt::Result
     writeln!(page, " {stamp}")
 }
 
-/// Adds for each place a 1 where it is full, and else a 0.
+/// Adds a digit for each place: 1 if it is full, else 0.
 fn push_places(page: &mut Page, state: &State) -> fmt::Result
     ensures { OnOk result (page.new ≡ page.old ++ places_word state.now) }
 {
@@ -101,7 +101,7 @@ fn push_machine(page: &mut Page, machine: Machine, counts: &Counts, status: Stat
     )
 }
 
-/// Adds the lines of the zones and of the places at the end, where it is known.
+/// Adds the lines of the zones and of the places at the end, if the end is known.
 fn push_end(page: &mut Page, end: Option<State>) -> fmt::Result
     ensures { OnOk result (page.new ≡ page.old ++ text_of_lines (where_known end end_lines)) }
 {
@@ -152,14 +152,14 @@ fn push_axes(page: &mut Page, axes: &[i32; 8]) -> fmt::Result
     writeln!(page)
 }
 
-/// Adds the name of an axis and where it stands.
+/// Adds the name of an axis and its position.
 fn push_axis(page: &mut Page, word: &str, position: i32) -> fmt::Result
     ensures { OnOk result (page.new ≡ page.old ++ 32 ∷ spaced (axis_words (word.now, position))) }
 {
     write!(page, " {word} {position}")
 }
 
-/// Adds the line of the stamp and the number of plates at the end, where it is known.
+/// Adds the line of the stamp and the number of plates at the end, if the end is known.
 fn push_stamp(page: &mut Page, end: Option<State>) -> fmt::Result
     ensures { OnOk result (page.new ≡ page.old ++ text_of_lines (where_known end (λ s. stamp_line s ∷ []))) }
 {

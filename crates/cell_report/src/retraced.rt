@@ -1,4 +1,4 @@
-//! What a start comes to by the entries, one after the other.
+//! Makes the calls of the entries again, in order.
 ghost use Rattle.std.specs.Prelude.{MatchResult};
 ghost use Rattle.cell_report.specs.Retraced.{Retraced, IsRetraceFault};
 
@@ -9,7 +9,7 @@ use cell_rules::{State, apply};
 use cell_types::Event;
 use std::alloc::Global;
 
-/// The events of the entries and the state that they leave, if each entry fits at its point.
+/// The events of the entries and the state that they lead to, if each entry fits at its point.
 pub fn retrace(
     alloc: Global,
     ordered: &[Noted],

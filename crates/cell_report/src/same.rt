@@ -1,4 +1,4 @@
-//! Whether two values are the same.
+//! Whether two answers, or two states, are the same.
 ghost use Rattle.std.specs.Prelude.{◌≡◌, ◌↔◌, IsTrue, All};
 ghost use Rattle.cell_types.specs.Everything.{all_zones, all_places};
 ghost use Rattle.cell_rules.specs.ModelState.{zone_at, is_full};

@@ -1,4 +1,4 @@
-//! The stamps of the entries: which one two Done entries have, and which one none has.
+//! The stamps of the Done entries: which one occurs twice, and which one is missing.
 ghost use Rattle.std.specs.Prelude.{◌≡◌, ◌≤◌, All, IfOk, MatchOption};
 ghost use Rattle.std.specs.List.Sorted.{IsNonDecreasing};
 ghost use Rattle.cell_report.specs.Order.{done_stamps, greatest};
@@ -20,7 +20,7 @@ pub fn stamps_done(alloc: Global, ordered: &[Noted]) -> Result<Vec<u32>, AllocEr
     Ok(stamps)
 }
 
-/// The least stamp that stands twice in stamps that don't fall.
+/// The least stamp that occurs twice in a non-decreasing list.
 pub fn least_twice(stamps: &[u32]) -> Option<u32>
     requires { IsNonDecreasing stamps.now }
     ensures { MatchOption result (HasNoTwice (times stamps.now)) (IsTwice (times stamps.now)) }
@@ -35,7 +35,7 @@ pub fn least_twice(stamps: &[u32]) -> Option<u32>
     None
 }
 
-/// The least stamp behind a start, up to a top, that isn't among stamps that don't fall.
+/// The least stamp after a start, up to a top, that is missing in a non-decreasing list.
 pub fn least_gap(stamps: &[u32], start: u32, top: u32) -> Option<u32>
     requires rising { IsNonDecreasing stamps.now }
     requires within { All (λ stamp. stamp ≤ top) stamps.now }

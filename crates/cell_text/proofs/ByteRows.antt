@@ -1,4 +1,4 @@
--- The examples of bytes that are taken and written.
+-- The examples of bytes that are taken or written.
 use Rattle.std.proofs.Common.{◌≡◌, ℕ, zero, suc, ◌≤◌, List, [], ◌∷◌, ◌++◌, length, take, refl, ap, arith}
 use Rattle.std.proofs.lemmas.List.{length-append, length-take}
 use Rattle.cell_text.specs.ByteExamples.{BytesAreMet}
@@ -9,7 +9,7 @@ two = 1 ∷ 2 ∷ []
 abbrev second : List ℕ
 second = 2 ∷ []
 
--- of two bytes no more than two are written, and not the second alone
+-- no prefix of two bytes has a third byte, or only the second
 no_third : (n : ℕ) → take n two ≡ 1 ∷ 2 ∷ 3 ∷ [] → ⊥
 no_third n e = let all = ap length e in omega (arith, all, length-take n two)
 

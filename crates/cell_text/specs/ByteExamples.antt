@@ -1,13 +1,13 @@
--- What is taken from a reader and written of a text, and what isn't.
+-- Examples of bytes that may be taken from a reader or written of a text, and of bytes that may not.
 use Rattle.std.specs.Prelude.{ℕ, List, [], ◌∷◌, Option, Some, None}
 use Rattle.cell_text.specs.Input.{TakesAtMost}
 use Rattle.cell_text.specs.Output.{WroteFront}
 
--- a reader that had 1, 2 and 3 has these left, where it may lose a number of bytes at most
+-- a reader that had 1, 2 and 3 may have these left, if it may lose at most a number of bytes
 abbrev pub Leaves : Option (List ℕ) → ℕ → Type 0
 Leaves left most = TakesAtMost (Some (1 ∷ 2 ∷ 3 ∷ [])) left most
 
--- a writer that had 7 has this after some of 1 and 2 were written
+-- a writer that had 7 may have this after a prefix of 1 and 2 was written
 abbrev pub Has : Option (List ℕ) → Type 0
 Has written = WroteFront (Some (7 ∷ [])) written (1 ∷ 2 ∷ [])
 

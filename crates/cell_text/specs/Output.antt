@@ -2,6 +2,6 @@
 use Rattle.std.specs.Prelude.{ℕ, List, take, Option}
 use Rattle.std.specs.Io.KnownBytes.{Appends}
 
--- a front of these bytes was written
+-- a prefix of these bytes was written
 abbrev pub WroteFront : Option (List ℕ) → Option (List ℕ) → List ℕ → Type 0
 WroteFront old new text = (n : ℕ) × Appends old new (take n text)

@@ -1,4 +1,4 @@
-//! Reads at most so many bytes.
+//! Reads a limited number of bytes.
 
 ghost use Rattle.std.specs.Prelude.{◌≡◌, take, IfOk, IfSome};
 ghost use Rattle.cell_text.specs.Input.{TakesAtMost};
@@ -12,7 +12,7 @@ use std::io::{ErrorKind, Read};
 pub enum InputFault {
     /// The reader failed.
     Read,
-    /// A growth was refused.
+    /// Memory ran out.
     Memory,
 }
 
@@ -24,15 +24,16 @@ impl From<AllocError> for InputFault {
     }
 }
 
-/// The first bytes that the reader has left, at most this many. An interrupted read is made again. `Read` where
-/// another read failed, and `Memory` where the room for the bytes was refused.
+/// Reads the bytes that the reader has left, at most `most` of them. An interrupted read is tried
+/// again. `Read` if another read failed, `Memory` if memory ran out; some of these bytes may then
+/// have been taken from the reader.
 pub fn read_up_to<R: Read>(
     alloc: Global,
     reader: &mut R,
     most: usize,
 ) -> Result<Vec<u8>, InputFault>
     ensures bytes { IfOk result (λ v. IfSome (R.remaining reader.old) (λ bytes. v.items ≡ take most bytes)) }
-    // No more is taken from the reader, also where a read failed or memory ran out.
+    // At most this many bytes are taken from the reader, after an error too.
     ensures taken { TakesAtMost (R.remaining reader.old) (R.remaining reader.new) most }
 {
     let mut bytes = Vec::new(alloc);

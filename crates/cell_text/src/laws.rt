@@ -1,9 +1,9 @@
-//! What is so of bytes that are read and written: laws, in functions that do nothing.
+//! Laws of reading and writing bytes, each the contract of a function that does nothing.
 
 ghost use Rattle.cell_text.specs.ByteExamples.{BytesAreMet};
 
-/// What is taken from a reader is its first bytes, no more than the most, and what is written of a text
-/// its first bytes, after what the writer had.
+/// Examples: which bytes may be taken from a reader, which may have been written, and which may
+/// not.
 pub fn bytes_are_met()
     ensures { BytesAreMet }
 {}

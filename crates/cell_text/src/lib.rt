@@ -1,5 +1,5 @@
-//! Bytes in and out: what is read up to a limit, what is written whole or as a front, and a text that
-//! takes no memory.
+//! Bytes in and out: reads up to a limit, writes a text whole or a prefix of it, and a text of
+//! limited length that allocates nothing.
 #![tactic(auto)]
 
 pub mod input;

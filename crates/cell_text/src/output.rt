@@ -13,8 +13,8 @@ pub enum WriteFault {
     Write,
 }
 
-/// Writes the whole text and flushes the writer. With an `Err` a front of the text was written. An
-/// interrupted write or flush is made again.
+/// Writes the whole text and flushes the writer. After an error a prefix of the text was written.
+/// An interrupted write or flush is tried again.
 pub fn write_text<W: Write>(writer: &mut W, text: &[u8]) -> Result<(), WriteFault>
     ensures ok { OnOk result (Appends (W.contents writer.old) (W.contents writer.new) text.now) }
     ensures err { OnErr result (WroteFront (W.contents writer.old) (W.contents writer.new) text.now) }
@@ -39,7 +39,7 @@ pub fn write_text<W: Write>(writer: &mut W, text: &[u8]) -> Result<(), WriteFaul
     Err(WriteFault::Write)
 }
 
-/// Flushes a writer. An interrupted flush is made again; any other failure is an `Err`. What was
+/// Flushes a writer. An interrupted flush is tried again; any other failure is an error. What was
 /// written stays.
 pub fn flush<W: Write>(writer: &mut W) -> Result<(), WriteFault>
     ensures { Keeps (W.contents writer.old) (W.contents writer.new) }

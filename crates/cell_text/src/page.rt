@@ -1,4 +1,4 @@
-//! A text of limited length, which takes no memory.
+//! A text of limited length, which allocates nothing.
 
 ghost use Rattle.std.specs.Prelude.{◌≡◌, ◌≤◌, List, ℕ, [], ◌++◌, take, IfSome, OnOk};
 
@@ -9,7 +9,7 @@ use std::marker::Model;
 /// How many bytes a page has room for.
 const ROOM: usize = 2048;
 
-/// A text that is kept in place.
+/// A text of at most 2,048 bytes, stored in place.
 #[derive(Drop)]
 pub struct Page {
     bytes: [u8; ROOM],
@@ -42,7 +42,7 @@ impl Page {
         &self.bytes[..self.len]
     }
 
-    /// Adds what `write!` and `writeln!` are given. An `Err` says that there is no room.
+    /// Appends the arguments of `write!` and `writeln!`. An error says that there is no room.
     pub fn write_fmt<D: Display + Drop>(&mut self, text: D) -> fmt::Result
         ensures { OnOk result (IfSome (D.output text) (λ bytes. self.new ≡ self.old ++ bytes)) }
     {

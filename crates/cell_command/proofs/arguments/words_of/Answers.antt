@@ -1,7 +1,7 @@
 use Rattle.std.proofs.Common.{◌≡◌, ◌∷◌, ◌++◌, [], ℕ, List, map, codes, string_bytes, refl}
 use Rattle.cell_command.proofs.arguments.words_of.Goals as goal
 
--- words that are put behind the name
+-- words after the name
 behind_name : {S : Type 0} (bytes : S → List ℕ) (name : S) (none words behind all : List S) → bytes name ≡ codes "cell" → none ≡ [] → words ≡ none ++ name ∷ [] → all ≡ words ++ behind
     → (rest : List (List ℕ)) × (map bytes all ≡ codes "cell" ∷ rest)
 behind_name bytes name none words behind all is empty one joined = (map bytes behind, rw (joined, one, empty, is) refl)

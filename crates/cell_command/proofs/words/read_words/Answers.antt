@@ -38,11 +38,11 @@ run_by_default : (name : Text) → mode_of (name ∷ codes "run" ∷ []) ≡ Run
 unfolding clap_on_literals
 run_by_default name = refl
 
--- what is taken by a command is taken by its equal
+-- words that a command accepts are accepted by an equal command
 clean_alike : (a b : App) (words : List Text) → a ≡ b → fault_of a words ≡ [] → fault_of b words ≡ []
 clean_alike a b words same h = subst (λ x. fault_of x words ≡ []) same h
 
--- the word that was met with its flags, by the words alone
+-- the word that was found, with its flags, depends on the words alone
 met_alike : (a : App) (words : List Text) (m : ArgMatches) → a ≡ program → HasMatchesOf a words m → subcommand_rows_of m ≡ subcommand_of program words
 met_alike a words m same h = (subst (λ x. HasMatchesOf x words m) same h program_is_simple).1
 
@@ -78,7 +78,7 @@ returns-in-Ok-clause-within c = c.mode_of.ensures.within
 pub returns-in-Err-clause-refused : goal.returns-in-Err-clause-refused
 returns-in-Err-clause-refused c = subst (λ a. HasKind (fault_of a (map (λ w. w.now) c.args.words.now)) c.in-Err.error) c.in_ok-command.ensures (c.in-Err.ensures.kinds (ap is_simple_and_free c.in_ok-command.ensures ∙ program_is_free))
 
--- without room for what clap is told, memory is wanting
+-- without room for the command the error is out of memory
 no_room : (c : goal.After-from_residual) → IfErr c.from_residual.result (λ e. kind_of e ≡ ErrorKind.OutOfMemory)
 no_room c = search rules
 

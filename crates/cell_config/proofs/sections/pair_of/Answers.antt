@@ -15,7 +15,7 @@ array_is (boolean b) items e = absurd (cc)
 array_is (datetime d) items e = absurd (cc)
 array_is (table ms) items e = absurd (cc)
 
--- one item is no pair, nor are three and more
+-- one item is no pair, nor are three or more
 one_is_none : (x : Data) → ◌≡◌ {A = Option (ℤ × ℤ)} None (pair_of (array (item x no_items)))
 one_is_none (string s) = refl
 one_is_none (integer z) = refl

@@ -4,12 +4,12 @@ use Rattle.cell_rules.specs.PlaceSet.{PlaceSet}
 use Rattle.cell_rules.specs.Start.{IsStart, IsStartState, places_of, start_state}
 use Rattle.cell_config.proofs.starts.start_of.Goals as goal
 
--- what is started is a start
+-- a start that was made is valid
 started : {E : Type 0} (full : PlaceSet) (stamp : ℕ) (r : Result ModelState E) → (IsOk r → IsStart full stamp) → IfOk r (λ s. s ≡ start_state full stamp) → IfOk r IsStartState
 started full stamp (Ok s) start is = rw is (record { start = start refl; same = refl })
 started full stamp (Err e) start is = tt
 
--- a fact of the value lasts under another error
+-- a fact about the value holds for another type of errors too
 other_error : {D E : Type 0} (r : Result ModelState E) (s : Result ModelState D) (Q : E → D → Type 0) → MatchResult r (λ x. s ≡ Ok x) (λ e. IsErrAnd s (Q e)) → IfOk r IsStartState → IfOk s IsStartState
 other_error (Ok x) s Q same h = rw same h
 other_error (Err e) (Ok x) Q same h = absurd same

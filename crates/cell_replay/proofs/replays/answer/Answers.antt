@@ -9,7 +9,7 @@ use Rattle.cell_replay.proofs.Known.{if_some-both}
 use Rattle.cell_replay.proofs.Scripts.{rows_lines-used, rows_outcome-used}
 use Rattle.cell_replay.proofs.replays.answer.Goals as goal
 
--- what is told of the records that are looked at is told of the script
+-- the outcome of the records that are read is the script's
 outcome_told : (bytes read : List ℕ) (is_cut : Bool) (rows : List Row) (o : Outcome) → read ≡ take byte_limit bytes → is_cut ≡ is_cut_of bytes
     → rows ≡ used is_cut (take most_rows (records default_config (strip_bom read))) → o ≡ rows_outcome is_cut rows → o ≡ script_outcome bytes
 unfolding script_outcome

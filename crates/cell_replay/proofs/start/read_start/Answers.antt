@@ -12,7 +12,7 @@ returns-in_default-get-2 c =
     c.start_of.ensures ∙ ap (λ p. start_of p (Some 0)) c.read_places.ensures
     ∙ sym (start_in-plain (fields_of c.args.row.now) c.in-Some.word.now c.in-Some-get.places.now (sym c.in-Some.ensures.value) word (sym c.in-Some-get.ensures.value) none)
 
--- a word that isn't another than `start`
+-- a word that doesn't differ from `start` is `start`
 word_is : (n : Bool) (word text known : List ℕ) → n ≡ not (bytes_eq word text) → n ≡ false → text ≡ known → bytes_eq word known ≡ true
 word_is n word text known e f same = rw (← same) (by_test (bytes_eq word text) (sym e ∙ f))
   where

@@ -7,7 +7,7 @@ use Rattle.cell_rules.specs.ModelState.{is_full}
 use Rattle.cell_report.proofs.report.push_places.Goals as goal
 use Rattle.cell_report.proofs.report.push_places.Goals.{then-is_full, else-is_full}
 
--- what is left from a place on
+-- what is left from an index on
 from_place : (word : Place → List ℕ) (places : List Place) (i : ℕ) (d : Place) → i < length places → concat (map word (drop i places)) ≡ word (get_or places i d) ++ concat (map word (drop (i + 1) places))
 from_place word places i d h = rw (add-one, drop-cons places i d) refl
 

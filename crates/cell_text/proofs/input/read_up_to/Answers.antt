@@ -5,7 +5,7 @@ use Rattle.std.proofs.KnownBytes.{Consumes-kept, Consumes-trans}
 use Rattle.cell_text.proofs.input.read_up_to.Goals as goal
 use Rattle.cell_text.proofs.input.read_up_to.Goals.{in-Ok+in_ok-extend_from_slice-in-Ok, in-Err+else-ne}
 
--- one part more within the limit
+-- another part is still within the limit
 within : (bytes block buf : List ℕ) (count room free most : ℕ) → length buf ≡ length (take room block) → count ≤ length buf → room ≡ min 8192 free → free ≡ most - length bytes → length bytes ≤ most → length (bytes ++ take count buf) ≤ most
 within bytes block buf count room free most kept bound is left so_far = omega (arith, length-append bytes (take count buf), length-take count buf, length-take room block)
 

@@ -11,13 +11,13 @@ take-plus n k xs =
     let back : drop n (take (n + k) xs) ≡ take k (drop n xs) = drop-take n k xs in
     rw (front, back) at (sym (take-append-drop n (take (n + k) xs)))
 
--- a slice from a place to the end
+-- the rest of a slice from an index on
 slice-end : (xs : List ℕ) (k : ℕ) → take (length xs - k) (drop k xs) ≡ drop k xs
 slice-end xs k =
     let len = length-drop k xs in
     take_all (length xs - k) (drop k xs) (omega arith)
 
--- what was written so far, after one more part
+-- what was written so far, after another part
 part_written : (old mid new : Option (List ℕ)) (text rest : List ℕ) (n k : ℕ) → n ≤ length text → rest ≡ drop n text → Appends old mid (take n text)
     → k ≤ length rest → Appends mid new (take k rest)
     → (m : ℕ) × (m ≤ length text) × (take (length rest - k) (drop k rest) ≡ drop m text) × Appends old new (take m text)
