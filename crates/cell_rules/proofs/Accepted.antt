@@ -1,4 +1,4 @@
--- More of what is so where a yield, a release, a pose or an advance is not refused.
+-- More that holds if a yield, a release, a pose or an advance isn't refused.
 use Rattle.std.proofs.Common.{◌≡◌, None}
 use Rattle.cell_types.specs.declared.machine.Machine.{Machine}
 use Rattle.cell_types.specs.declared.zone.Zone.{Zone}

@@ -26,12 +26,12 @@ use Rattle.cell_rules.proofs.Tables.{and_left, and_right, all_machines, from_mac
 use Rattle.cell_rules.proofs.Chains.{chain, numbers, Tells, TellEach, First, is_among, told_by, first_by}
 use Rattle.cell_rules.proofs.Tellings.{plain, names_owner, names_zone, names_holder, names_posture, names_moving, worn_at}
 
--- a call's refusal gives its cause, and comes in its order
+-- a call's refusal has its cause, and is in the call's order
 pub record TellsRight (causes : Refusal → Bool) (order : List ℕ) (o : Option Refusal) : Type 0 where
   pub cause : (r : Refusal) → o ≡ Some r → causes r ≡ true
   pub first : (r : Refusal) → causes r ≡ true → First order o r
 
--- the causes are of refusals that the order names
+-- the order names every refusal that has a cause
 abbrev pub AllNamed : (Refusal → Bool) → List ℕ → Type 0
 AllNamed causes order = (r : Refusal) → causes r ≡ true → is_among (number_of r) order ≡ true
 

@@ -7,7 +7,7 @@ use Rattle.cell_types.specs.Refusals.{number_of}
 use Rattle.cell_rules.specs.Refusals.{◌or◌}
 use Rattle.cell_rules.specs.RefusalLaws.{from_on, is_no_later}
 
--- ---- conditions with their numbers, in a row
+-- ---- conditions with their numbers, in order
 
 abbrev pub chain : Option Refusal → List (ℕ × Option Refusal) → Option Refusal
 chain found [] = found
@@ -17,7 +17,7 @@ abbrev pub numbers : List (ℕ × Option Refusal) → List ℕ
 numbers [] = []
 numbers (l ∷ ls) = l.0 ∷ numbers ls
 
--- a condition refuses for a cause, and does so wherever the cause is there
+-- a condition refuses for its cause, and does so whenever the cause holds
 pub record Tells (cause : Refusal → Bool) (l : ℕ × Option Refusal) : Type 0 where
   pub told : (r : Refusal) → l.1 ≡ Some r → (number_of r ≡ l.0) × (cause r ≡ true)
   pub found : (r : Refusal) → number_of r ≡ l.0 → cause r ≡ true → is_some l.1 ≡ true
@@ -39,7 +39,7 @@ pub told_by : (cause : Refusal → Bool) (ls : List (ℕ × Option Refusal)) →
 told_by cause [] t r e = cc
 told_by cause (l ∷ ls) t r e = told_at cause l ls l.1 refl t.0 (told_by cause ls t.1) r e
 
--- an answer that stands in the order no later than a refusal
+-- an answer that is in the order no later than a refusal
 pub record First (order : List ℕ) (o : Option Refusal) (r : Refusal) : Type 0 where
   pub answered : Refusal
   pub is : o ≡ Some answered

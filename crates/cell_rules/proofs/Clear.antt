@@ -1,4 +1,4 @@
--- The belts run clear: each call keeps it, and so by the events it is so after a history.
+-- The belts run clear: each call keeps this, so by the events it holds after a history.
 use Rattle.std.proofs.Common.{◌≡◌, pos, Bool, true, false, ◌&&◌, ◌||◌, not, is_some, unwrap_or, List, [], ◌∷◌, ◌⊎◌, inl, inr, refl, sym, ap, ◌∙◌, if◌then◌else◌}
 use Rattle.std.proofs.lemmas.Bool.{or_cases}
 use Rattle.cell_types.specs.declared.machine.Machine.{Machine}
@@ -36,7 +36,7 @@ use Rattle.cell_rules.proofs.Accepted.{yield_out_of_use, release_out_of_use, pos
 
 -- ---- z1
 
--- where it is not in use, it isn't so that feed would leave it while running with a plate at its end
+-- unless z1 is in use, feed doesn't leave it while running with a plate at its end
 unless_in_use : (feed : Bool) (belt : Posture) (at_end any : Bool) → (feed && same_zone Z1 Z1 && same_posture belt Moving && at_end) ≡ false → feed ≡ true → belt ≡ Moving → at_end ≡ true → any ≡ true
 unless_in_use true Moving true any none is_feed moving full = cc
 unless_in_use _ _ _ any none is_feed moving full = cc
@@ -61,7 +61,7 @@ gone full _ _ e = cc
 
 -- ---- a belt starts
 
--- a zone moves after a pose only if it moved before, or the pose is that its machine runs
+-- a zone moves after a pose only if it moved before, or if the pose is running, by its own machine
 abbrev starts : Machine → Zone → Machine → Pose → Posture → Bool
 starts n z m p now = implies (same_posture (unwrap_or (posture_of m p z) now) Moving) (same_posture now Moving || (same_pose p Running && same_machine m n))
 

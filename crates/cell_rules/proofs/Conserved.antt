@@ -41,7 +41,8 @@ flags-halted s n =
     let same = λ (z : Zone). ap one_if (halted-flag (is_belt_of n z) (zone_at s z)) in
     omega (arith, same Z1, same Z2, same Z3, same Z4, same Z5, same Z6)
 
--- a plate less where a full place is emptied, one more where an empty one is filled, and as many where one goes from place to place
+-- one plate less after a full place is emptied, one more after an empty one is filled, and the same number after a
+-- plate goes from place to place
 size-emptied : (full : PlaceSet) (p : Place) → has full p ≡ true → size_of (put_place full p false) + 1 ≡ size_of full
 size-emptied full p there = omega (arith, size-put full false p, ap one_if there)
 

@@ -1,4 +1,5 @@
--- What is counted along a history, and that a place is full as often as it was at first and is filled, less what empties it.
+-- What is counted along a history: a place has a plate as often as it had one at first and got one, minus how often it
+-- lost one.
 use Rattle.std.proofs.Common.{◌≡◌, ℕ, ◌+◌, Bool, true, false, cond, ◌&&◌, Option, Some, None, option_map, List, [], ◌∷◌, refl, sym, ap, ◌∙◌, subst, arith}
 use Rattle.std.specs.Option.{option_eq}
 use Rattle.std.specs.List.{count_by}
@@ -26,7 +27,7 @@ use Rattle.cell_rules.proofs.Puts.{has-put}
 use Rattle.cell_rules.proofs.Transfers.{give_finds, take_finds, advance_finds}
 use Rattle.cell_rules.proofs.Soundness.{done_none, next_keeps}
 
--- ---- a number of the state, to which a Done call may add one, and from which it may take one
+-- ---- a number of the state, which a Done call may raise by one and lower by one
 
 abbrev pub Balanced : (ModelState → ℕ) → (Machine → Call → Bool) → (Machine → Call → Bool) → ModelState → Machine → Call → Type 0
 Balanced number adds drops s n c = number s + cond (adds n c) 1 0 ≡ number (changed s n c) + cond (drops n c) 1 0
@@ -53,7 +54,7 @@ counted number adds drops balanced s (e ∷ h) k l =
     let less = sum_by-cons (λ (x : Event). cond (each_done drops x) 1 0) e h in
     omega (arith, here, rest, more, less)
 
--- ---- where a place q that is full becomes empty, and where one that is empty becomes full
+-- ---- a full place q becomes empty, and an empty one full
 
 one_emptied : (full : PlaceSet) (q p : Place) → has full q ≡ true → one_if (has full p) + 0 ≡ one_if (has (put_place full q false) p) + cond (same_place q p) 1 0
 one_emptied full q p there =

@@ -1,4 +1,4 @@
--- What is so where a call is not refused.
+-- What holds if a call isn't refused.
 use Rattle.std.proofs.Common.{◌≡◌, ◌<◌, Bool, true, false, ◌&&◌, not, nat_lt, Option, Some, None, refl, is_none, is_some, ltb-true}
 use Rattle.std.specs.Bool.{then_some}
 use Rattle.cell_types.specs.declared.machine.Machine.{Machine}
@@ -20,7 +20,7 @@ use Rattle.cell_rules.specs.Refusals
 use Rattle.cell_rules.proofs.Tables.{and_both}
 use Rattle.cell_rules.proofs.Puts.{each_zone}
 
--- where neither of two refusals applies
+-- neither of two refusals applies
 pub none_or : (a b : Option Refusal) → Refusals.◌or◌ a b ≡ None → (a ≡ None) × (b ≡ None)
 none_or None b e = (refl, e)
 none_or (Some r) b e = cc
@@ -44,7 +44,7 @@ free (Some o) m e h = let p : same_machine o m ≡ true = none_then_not (same_ma
 pub fresh : (s : ModelState) → Refusals.worn s ≡ None → s.stamp < 1048575
 fresh s e = let h : nat_lt s.stamp 1048575 ≡ true = none_then_not _ _ e in ltb-true _ _ h
 
--- of the zone, for each call
+-- what holds of the zone, for each call
 abbrev pub may_claim : ZoneState → Machine → Zone → Bool
 may_claim v m z = is_party m z && (is_none v.owner && not (same_machine m (guest_of z) && not (is_open v.posture)))
 
@@ -149,7 +149,7 @@ pose_done s m p e =
     let h1 = none_or r1 (Refusals.first_zone (Refusals.unowned_by_pose s m p)) h2.0 in
     (h1.1, h2.1, h4.1, fresh s h6.1)
 
--- no zone refuses where the first refusal of the zones is none
+-- if the zones have no first refusal, no zone refuses
 pub no_zone : (f : Zone → Option Refusal) → Refusals.first_zone f ≡ None → (z : Zone) → f z ≡ None
 no_zone f e =
     let r2 = Refusals.◌or◌ (f Z1) (f Z2) in

@@ -1,4 +1,4 @@
--- The state before an event that is Done suits it.
+-- What holds in the state before a Done event.
 use Rattle.std.proofs.Common.{◌≡◌, ◌≢◌, Bool, true, false, ◌&&◌, not, Option, Some, None, unwrap_or, List, [], ◌∷◌, ◌++◌, sym, ap, ◌∙◌, subst, IsTrue}
 use Rattle.std.proofs.lemmas.Bool.{not-false, false_from_ne_true, and_parts, or_parts, or_right}
 use Rattle.cell_types.specs.declared.machine.Machine.{Machine}
@@ -58,7 +58,7 @@ no_jump s m p e passes still z host =
     let hosts : same_machine (host_of z) m ≡ true = ap (same_machine (host_of z)) (sym host) ∙ same_machine-self (host_of z) in
     one_posture (posture_at s z) Moving (implied (same_machine (host_of z) m) (same_posture (posture_at s z) Moving) (all_of_host s m moves z) hosts)
 
--- where a zone opens inward, it's not blocked
+-- a zone that opens inward isn't blocked
 unblocked : (s : ModelState) (m : Machine) (p : Pose) → pose_refusal s m p ≡ None → (z : Zone) → posture_of m p z ≡ Some OpenIn → posture_at s z ≢ OpenIn → is_blocked s z ≡ false
 unblocked s m p e z opens shut =
     let to : same_posture (unwrap_or (posture_of m p z) (posture_at s z)) OpenIn ≡ true = ap (λ (q : Option Posture). same_posture (unwrap_or q (posture_at s z)) OpenIn) opens in

@@ -1,4 +1,4 @@
--- The flag of a zone is set as often as it was at first and a plate is given into it, less what is taken.
+-- The flag of a zone counts its plates: at first, plus those given into it, minus those taken.
 use Rattle.std.proofs.Common.{◌≡◌, ◌+◌, Bool, true, false, cond, List, refl, sym, ap, ◌∙◌, if◌then◌else◌}
 use Rattle.std.specs.List.{count_by}
 use Rattle.cell_types.specs.declared.machine.Machine.{Machine}

@@ -52,7 +52,7 @@ no_jump_along s h l = record {
 has_zone : (s : ModelState) (h before : List Event) (m : Machine) (c : Call) (rest : List Event) (z : Zone) → Throughout (OwnersHold s) h → h ≡ before ++ done m c ∷ rest → owns (after s before) m z ≡ true → HasZone s before m z
 has_zone s h before m c rest z holders split owned = (holders before (done m c ∷ rest) split m z owned, owner_is (owner_of (after s before) z) m owned)
 
--- what a party may do who owns the zone
+-- a party that may act owns the zone
 owner_of_party : (party owned rest : Bool) → (party && (owned && rest)) ≡ true → owned ≡ true
 owner_of_party party owned rest e = and_left owned rest (and_right party (owned && rest) e)
 

@@ -7,7 +7,7 @@ use Rattle.cell_rules.specs.ModelState.{ModelState}
 use Rattle.cell_rules.specs.Refusals.{owns}
 use Rattle.cell_rules.specs.History.{is_gain, is_loss}
 
--- a machine that held a zone before a history, or not, holds it after: it gained it and lost it no more since
+-- whether a machine holds a zone after a history: it held it before, or gained it, and hasn't lost it since
 abbrev pub holds_since : Bool → List Event → Machine → Zone → Bool
 holds_since held [] m z = held
 holds_since held (e ∷ history) m z = holds_since (is_gain e m z || (held && not (is_loss e m z))) history m z

@@ -1,4 +1,4 @@
--- Beginnings of histories, and the states after them.
+-- Prefixes of histories, and the states after them.
 use Rattle.std.proofs.Common.{◌≡◌, List, [], ◌∷◌, ◌++◌, refl, subst}
 use Rattle.cell_types.specs.declared.answer.Event.{Event}
 use Rattle.cell_rules.specs.ModelState.{ModelState}
@@ -16,7 +16,7 @@ pub legal-left : (s : ModelState) (a b : List Event) → IsLegal s (a ++ b) → 
 legal-left s [] b l = tt
 legal-left s (e ∷ a) b l = (l.0, legal-left (next s e.machine e.call) a b l.1)
 
--- a law of legal histories holds of each beginning of one
+-- a law of legal histories holds of each prefix of one
 pub throughout : (s : ModelState) (Law : List Event → Type 0) → ((h : List Event) → IsLegal s h → Law h) → (h : List Event) → IsLegal s h → Throughout Law h
 throughout s Law each h l before more e = each before (legal-left s before more (subst (IsLegal s) e l))
 

@@ -1,4 +1,4 @@
--- Whose a zone is: the laws, of one legal history from a sound opening.
+-- Laws of the holders of zones, for one legal history from a sound opening.
 use Rattle.std.proofs.Common.{◌≡◌, true, ◌||◌, is_none, List, sym, ap, ◌∙◌, ◌↔◌, IsTrue, subst}
 use Rattle.cell_types.specs.declared.machine.Machine.{Machine}
 use Rattle.cell_types.specs.declared.machine.Machine.TheVariants.{Robot, Press}

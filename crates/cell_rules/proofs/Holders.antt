@@ -1,4 +1,4 @@
--- Who holds a zone by the test that goes event by event owns it in the state after.
+-- A machine that holds a zone, by the test of each event, owns it in the state after.
 use Rattle.std.proofs.Common.{◌≡◌, Bool, true, false, ◌&&◌, ◌||◌, not, Option, Some, None, is_none, List, [], ◌∷◌, refl, sym, ap, ◌∙◌, subst, if◌then◌else◌}
 use Rattle.std.proofs.Math.Bool.{and-true, and-false}
 use Rattle.cell_types.specs.declared.machine.Machine.{Machine}
@@ -50,7 +50,7 @@ claim_unowned s n y e m = unowned (owner_of s y) m (second _ _ _ (claim_done s n
 pub give_owned : (s : ModelState) (n : Machine) (y : Zone) → reply s n (Give y) ≡ Done → owns s n y ≡ true
 give_owned s n y e = second _ _ _ (give_done s n y (done_none (give_refusal s n y) e)).0
 
--- a handover is a party's
+-- only a party hands a zone over
 give_by_party : (s : ModelState) (n : Machine) (y : Zone) → reply s n (Give y) ≡ Done → is_party n y ≡ true
 give_by_party s n y e = and_left _ _ (give_done s n y (done_none (give_refusal s n y) e)).0
 
@@ -98,7 +98,7 @@ owner-halted : (t : Bool) (v : ZoneState) → (if t then record v { posture = Cl
 owner-halted true v = refl
 owner-halted false v = refl
 
--- a handover of a party is one from the other party
+-- a party hands the zone over to the other party
 from_party : (s : ModelState) (n : Machine) (y : Zone) (m : Machine) (z : Zone) → is_party n y ≡ true
     → ((same_zone y z && same_machine (other_party n y) m) || (owns s m z && not (same_zone y z && same_machine n m)))
     ≡ ((same_zone y z && (is_party n y && same_machine (other_party n y) m)) || (owns s m z && not (same_zone y z && same_machine n m)))

@@ -1,4 +1,5 @@
--- A machine holds a zone by the events exactly where the test that goes event by event says so, and where it is the owner in the state after.
+-- A machine holds a zone by the events exactly if the test of each event says so, and exactly if it owns it in the
+-- state after.
 use Rattle.std.proofs.Common.{◌≡◌, Bool, true, false, ◌&&◌, ◌||◌, not, List, [], ◌∷◌, ◌++◌, ◌⊎◌, inl, inr, refl, sym, ap, ◌∙◌, ◌↔◌, IsTrue}
 use Rattle.std.proofs.lemmas.Bool.{or_left, or_right, false_from_ne_true}
 use Rattle.std.proofs.lemmas.List.Elements.{All-nil, All-cons, All-head, All-tail}
@@ -35,7 +36,7 @@ gained_or_kept false true false e = inr (refl, refl)
 gained_or_kept false true true e = cc
 gained_or_kept false false l e = cc
 
--- what is held at the end was gained last, or held at the start, and not lost since
+-- a zone held at the end was gained last, or held at the start, and not lost since
 held_by_events : (b : Bool) (h : List Event) (m : Machine) (z : Zone) → holds_since b h m z ≡ true → ((b ≡ true) × LosesNothing h m z) ⊎ GainsAndKeeps h m z
 held_by_events b [] m z e = inl (e, All-nil (λ x. ¬ IsLoss x m z))
 held_by_events b (x ∷ h) m z e =

@@ -23,7 +23,7 @@ use Rattle.cell_rules.proofs.Soundness.{next_keeps}
 use Rattle.cell_rules.proofs.Lasting.{right_lasts_held, right_lasts_zone, own_head}
 use Rattle.cell_rules.proofs.Unposed.{right_lasts_posture}
 
--- who fills or empties a place keeps it
+-- a machine keeps each place that it fills or empties
 abbrev changes : Machine → Call → Place → Bool
 changes n c p = fills n c p || empties n c p
 
@@ -45,7 +45,7 @@ by_keeper n (Take y) p = and_left _ _ (and_right _ _ (all_calls n y p))
 by_keeper n Advance p = and_right _ _ (and_right _ _ (all_calls n Z1 p))
 by_keeper n _ p = refl
 
--- where nothing is added and nothing dropped, the bit is the same
+-- if nothing is added or dropped, the bit is the same
 same_bit : (f d k a b : Bool) → implies (f || d) k ≡ true → k ≡ false → one_if a + cond f 1 0 ≡ one_if b + cond d 1 0 → b ≡ a
 same_bit true d k a b i o e = cc
 same_bit false true k a b i o e = cc

@@ -16,7 +16,7 @@ use Rattle.cell_rules.proofs.Puts.{zone_in-kept}
 use Rattle.cell_rules.proofs.Lawful.{is_lawful, lawful_in, lawful_from, sound_from}
 use Rattle.cell_rules.proofs.Done.{may_claim, may_yield, may_release, claim_done, yield_done, release_done}
 
--- a test of all zones, what stands there, machines and places
+-- a test of all zones, their values, machines and places
 abbrev pub All : (Bool → Bool → Bool → Machine → Zone → ZoneState → Bool) → Bool
 All P = all_zones (λ z. all_states (λ v. all_machines (λ m. all_bools (λ b. all_bools (λ i. all_bools (λ o. P b i o m z v))))))
 

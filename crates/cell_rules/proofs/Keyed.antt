@@ -1,4 +1,4 @@
--- std's finite map and set of what a function answers at each key, where a list has every key.
+-- std's finite map and set of a function's values at each key, if a list has every key.
 use Rattle.std.proofs.Common.{◌≡◌, ◌≢◌, Bool, true, false, cond, ◌&&◌, ◌||◌, not, Some, None, List, [], ◌∷◌, refl, sym, ap, subst, ◌∙◌, map as list_map}
 use Rattle.std.specs.List.{list_any, filter}
 use Rattle.std.proofs.lemmas.Map.Views.{any-filter_same}
@@ -35,7 +35,7 @@ module _ {K : Type 0} {R : K → K → Ordering} (o : IsTotalOrder R) (one : IsA
       pub get-table : (f : K → X) (q : K) → map.get (map.from_entries {R = R} (table f keys)) q ≡ Some (f q)
       get-table f q = map.get-from_entries o (table f keys) q ∙ find-table f q keys ∙ ap (λ b. cond b (Some (f q)) None) (every q)
 
-      -- where g is f but at one key, its map is that of f with this key put
+      -- if g is f except at one key, its map is that of f with this key put
       pub table-put : (f g : K → X) (k : K) (v : X) → g k ≡ v → ((q : K) → q ≢ k → g q ≡ f q) → map.from_entries {R = R} (table g keys) ≡ map.insert (map.from_entries (table f keys)) k v
       table-put f g k v here else =
           map.same_map o one _ _ (λ q.

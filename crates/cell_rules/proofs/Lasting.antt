@@ -31,7 +31,7 @@ use Rattle.cell_rules.proofs.Histories.{after-append, legal-left, sound-after}
 use Rattle.cell_rules.proofs.Holders.{owned_as, claim_unowned, give_owned, yield_owned, take_owned, release_owned}
 use Rattle.cell_rules.proofs.HoldsLemmas.{holds_iff_owns}
 
--- ---- a call of another machine leaves a zone that m owns
+-- ---- another machine's call leaves a zone that m owns
 
 -- a zone that m doesn't own changes, and another is m's
 put_other : (s : ModelState) (m : Machine) (y : Zone) (new : ZoneState) → owns s m y ≡ false → (z : Zone) → owns s m z ≡ true → zone_in (put_zone s.zones y new) z ≡ zone_at s z
@@ -93,7 +93,7 @@ zone_at-next s n c m z k d o = zone_at-by (reply s n c) s n c z (zone_at-changed
 
 -- ---- and so does a history without events of m
 
--- none of m's events is the first of such a history, or in its rest
+-- the first event of such a history isn't m's, nor is any later one
 pub own_head : (t : Bool) (e : Event) (own : List Event) → cond t (e ∷ own) own ≡ [] → (t ≡ false) × (own ≡ [])
 own_head true e own h = cc
 own_head false e own h = (refl, h)

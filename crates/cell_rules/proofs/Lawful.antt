@@ -15,7 +15,8 @@ use Rattle.cell_rules.specs.Sound.{IsSound, implies, has_lawful_owner, is_onto_f
 use Rattle.cell_rules.proofs.Puts.{each_zone}
 use Rattle.cell_rules.proofs.Tables.{and_both, all_zones, from_zones, all_postures, from_postures}
 
--- each host opens a zone inward only, or outward only, but the press does both: the postures that poses give, without the poses
+-- each host opens a zone only inward or only outward, but the press does both: the postures that poses give, without
+-- the poses
 abbrev pub can_be_in : Zone → Posture → Bool
 can_be_in z Closed = true
 can_be_in z Moving = true
@@ -40,7 +41,7 @@ abbrev pub press_is_lawful : Bool → Bool → Zone → ZoneState → Bool
 press_is_lawful in_full out_full Z3 v = not (in_full && out_full) && implies (same_posture v.posture OpenIn) (not out_full)
 press_is_lawful in_full out_full _ v = true
 
--- onto: whether the place that its plate would come to is full; then the two places of the press
+-- first whether the place where the zone's plate would go is full, then whether the press's two places are
 abbrev pub is_lawful : Bool → Bool → Bool → Zone → ZoneState → Bool
 is_lawful onto in_full out_full z v =
     has_lawful_owner z v && (is_lawful_plate onto z v && (is_open_to_guest z v && (moves_by_host z v && (can_be_in z v.posture && press_is_lawful in_full out_full z v))))

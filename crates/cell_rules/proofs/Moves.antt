@@ -44,7 +44,7 @@ pub posture_suits : (m : Machine) (p : Pose) (z : Zone) → suits m z (posture_o
 posture_suits m p z =
     from_zones (λ z. suits m z (posture_of m p z)) (from_poses (λ p. all_zones (λ z. suits m z (posture_of m p z))) (from_machines (λ m. all_poses (λ p. all_zones (λ z. suits m z (posture_of m p z)))) suits_table m) p) z
 
--- a pose concerns a zone where it gives it another posture, or makes it move
+-- a pose concerns a zone if it gives it another posture, or makes it move
 abbrev pub concerns_posture : Option Posture → Posture → Bool
 concerns_posture None now = false
 concerns_posture (Some q) now = same_posture q Moving || not (same_posture q now)
@@ -60,13 +60,13 @@ concerned s m p z =
     from_postures (concern_test m p z) (from_zones (λ z. all_postures (concern_test m p z)) (from_poses (λ p. all_zones (λ z. all_postures (concern_test m p z)))
     (from_machines (λ m. all_poses (λ p. all_zones (λ z. all_postures (concern_test m p z)))) concern_table m) p) z) (posture_at s z)
 
--- what no zone of concern has, no zone has that gets another posture
+-- what holds of no concerned zone holds of no zone that gets another posture
 unconcerned : (a b c : Bool) → implies a b ≡ true → (b && c) ≡ false → (a && c) ≡ false
 unconcerned false b c i e = refl
 unconcerned true true c i e = e
 unconcerned true false c i e = cc
 
--- where a pose concerns a zone, its machine owns it
+-- if a pose concerns a zone, its machine owns it
 pub pose_owned : (s : ModelState) (m : Machine) (p : Pose) (z : Zone) → pose_refusal s m p ≡ None → (concerns_posture (posture_of m p z) (posture_at s z) && not (owns s m z)) ≡ false
 pose_owned s m p z e =
     unconcerned (concerns_posture (posture_of m p z) (posture_at s z)) (is_concerned s m p z) (not (owns s m z)) (concerned s m p z)
@@ -98,7 +98,7 @@ abbrev press_blocked : Bool → Bool → Zone → Bool
 press_blocked i o Z3 = i || o
 press_blocked i o _ = false
 
--- what the refusals leave open
+-- what holds of a zone if its pose isn't refused
 abbrev may_pose : Option Posture → Bool → Bool → Bool → Bool → Machine → Zone → ZoneState → Bool
 may_pose q c b i o m z v =
     not (concerns_posture q v.posture && not (is_owned_by v.owner m)) && (not (concerns_posture q v.posture && v.flag)
@@ -114,7 +114,7 @@ same_self : (b : Bool) → beq b b ≡ true
 same_self true = refl
 same_self false = refl
 
--- where a pose doesn't concern a zone, its posture stays
+-- if a pose doesn't concern a zone, its posture stays
 same_after : (F : Posture → Bool) (q : Option Posture) (now : Posture) → (concerns_posture q now || beq (F now) (F (unwrap_or q now))) ≡ true
 same_after F None now = same_self (F now)
 same_after F (Some Closed) Closed = same_self (F Closed)
@@ -173,7 +173,7 @@ fewer_worked false true c e = refl
 fewer_worked false false true e = refl
 fewer_worked false false false e = refl
 
--- no zone leads to the place that a work fills
+-- no zone leads to the place that work fills
 onto_worked : (full : PlaceSet) (from to : Place) (t : Option Transfer) → comes_from to t ≡ false → fewer (is_onto_full (put_place (put_place full from false) to true) t) (is_onto_full full t) ≡ true
 onto_worked full from to None e = refl
 onto_worked full from to (Some t) e =
@@ -210,7 +210,7 @@ belt_or : (t : Bool) (F : Posture → Bool) (v : ZoneState) (b : Bool) → fewer
 belt_or true F v b e = refl
 belt_or false F v b e = e
 
--- by its way, which no zone leads to, and what becomes of the press
+-- an advance on its way, to which no zone leads, and what becomes of the press
 advance_by : (s : ModelState) (m : Machine) (from to : Place) → IsSound s → is_at_work s m ≡ true → ((z : Zone) (q : Posture) → comes_from to (transfer_of z q) ≡ false) → s.stamp < 1048575
     → (let full = put_place (put_place s.full from false) to true in has full PressIn ≡ press_if m false (has s.full PressIn))
     → (let full = put_place (put_place s.full from false) to true in has full PressOut ≡ press_if m true (has s.full PressOut))

@@ -1,4 +1,4 @@
--- What a machine notes of a history are its own events, one after another.
+-- What a machine notes of a history are its own events, in order.
 use Rattle.std.proofs.Common.{◌≡◌, Bool, true, false, cond, List, [], ◌∷◌, ◌++◌, map, refl, sym, ap, ◌∙◌}
 use Rattle.cell_types.specs.declared.machine.Machine.{Machine}
 use Rattle.cell_types.specs.declared.answer.Event.{Event}
@@ -33,7 +33,7 @@ skipped_by : (b : Bool) (x : Entry) (xs : List Entry) → b ≡ false → cond b
 skipped_by true x xs e = cc
 skipped_by false x xs e = refl
 
--- of the events of others it notes nothing
+-- it notes nothing of others' events
 pub noted-foreign : (s : ModelState) (h : List Event) (m : Machine) → own_events h m ≡ [] → noted s h m ≡ []
 noted-foreign s [] m q = refl
 noted-foreign s (e ∷ h) m q =

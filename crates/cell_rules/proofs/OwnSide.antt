@@ -1,4 +1,5 @@
--- What another machine's call leaves as it is: a zone that the machine owns, the postures of the zones that it hosts, and its places.
+-- What another machine's call leaves unchanged: a zone that the machine owns, the postures of the zones that it hosts,
+-- and its places.
 use Rattle.std.proofs.Common.{◌≡◌, Bool, true, false, cond, Option, Some, None, is_some, unwrap_or, [], ◌∷◌, refl, ap, ◌∙◌, if◌then◌else◌}
 use Rattle.cell_types.specs.declared.machine.Machine.{Machine}
 use Rattle.cell_types.specs.declared.zone.Zone.{Zone}
@@ -34,7 +35,7 @@ zone-foreign s n m c z k apart o = zone_at-after s (event n c Done ∷ []) m z k
 pub full-foreign : (s : ModelState) (n : Machine) (c : Call) (p : Place) → IsSound s → same_machine n (keeper_of p) ≡ false → is_full (next s n c) p ≡ is_full s p
 full-foreign s n c p k apart = right_lasts_places s [] (event n c Done ∷ []) k p (foreign-event n (keeper_of p) c apart)
 
--- a pose is its host's, and so is a belt
+-- only a zone's host gives it a posture, and only its host can be its belt
 abbrev pose_test : Machine → Pose → Zone → Bool
 pose_test n p z = implies (is_some (posture_of n p z)) (same_machine n (host_of z))
 

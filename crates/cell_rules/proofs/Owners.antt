@@ -1,4 +1,4 @@
--- Who holds each zone that his call needs isn't refused for the owner of one.
+-- If a machine holds each zone that its call needs, the call isn't refused for the owner of one.
 use Rattle.std.proofs.Common.{◌≡◌, Bool, true, false, ◌&&◌, not, cond, Option, Some, List, [], ◌∷◌, filter, refl, sym, ap, ◌∙◌, subst}
 use Rattle.std.specs.List.{list_all}
 use Rattle.cell_types.specs.declared.machine.Machine.{Machine}
@@ -32,12 +32,12 @@ OwnsWhatItNeeds s m c = (z : Zone) → needs m c z ≡ true → owns s m z ≡ t
 itself : (z : Zone) → same_zone z z ≡ true
 itself = from_zones (λ z. same_zone z z) refl
 
--- a zone that is owned isn't another's
+-- a zone that the machine owns isn't another's
 not_anothers : (own other : Bool) → own ≡ true → (not own && other) ≡ false
 not_anothers true other e = refl
 not_anothers false other e = cc
 
--- each zone of a pose is hosted
+-- a pose gives postures only to zones that its machine hosts
 abbrev hosts : Machine → Zone × Posture → Bool
 hosts m row = same_machine (host_of row.0) m
 
@@ -47,7 +47,7 @@ hosts_table = refl
 all_hosted : (m : Machine) (p : Pose) → Passed (hosts m) (zones_posed m p)
 all_hosted m p = passed (hosts m) (zones_posed m p) (from_poses (λ p. list_all (hosts m) (zones_posed m p)) (from_machines (λ m. all_poses (λ p. list_all (hosts m) (zones_posed m p))) hosts_table m) p)
 
--- so none of them fails where all are owned
+-- so none of them fails if the machine owns all of them
 none_fails : (s : ModelState) (m : Machine) (o : Option Machine) (rows : List (Zone × Posture)) → ((z : Zone) → same_machine (host_of z) m ≡ true → owns s m z ≡ true) → Passed (hosts m) rows
     → on_zone (lowest (λ z. not (owns s m z)) (filter (is_changed s) rows)) (λ z. is_owned_as s z o) ≡ false
 none_fails s m o [] own hosted = refl

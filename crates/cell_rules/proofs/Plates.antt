@@ -24,7 +24,7 @@ use Rattle.cell_rules.proofs.Kept.{All, from_all}
 
 -- ---- fewer full places keep a zone lawful
 
--- b says at most what c says
+-- b implies c
 abbrev pub fewer : Bool → Bool → Bool
 fewer b c = implies b c
 
@@ -83,7 +83,7 @@ false_by : (t b : Bool) → b ≡ false → cond t false b ≡ false
 false_by true b e = refl
 false_by false b e = e
 
--- a row that its giver may use leads to a place with room
+-- a row that its giver may use leads to an empty place
 room_if : (s : ModelState) (t : Transfer) (b : Bool) → is_some (if b then Some t else None) ≡ true → no_room s (if b then Some t else None) ≡ None
     → is_onto_full (emptied s.full (if b then Some t else None)) (Some t) ≡ false
 room_if s t true k e = has-put s.full false t.from t.to ∙ false_by (same_place t.from t.to) (has s.full t.to) (none_then (has s.full t.to) PlaceFull e)

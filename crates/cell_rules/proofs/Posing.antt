@@ -24,7 +24,7 @@ use Rattle.cell_rules.proofs.Chains.{chain, Tells, head_on}
 use Rattle.cell_rules.proofs.Tellings.{plain, names_owner, names_zone, worn_at}
 use Rattle.cell_rules.proofs.Causing.{TellsRight, AllNamed, by_lines}
 
--- ---- where the machine hasn't the pose, or no work
+-- ---- the machine doesn't have the pose, or has no work
 
 pub lacks : (causes : Refusal → Bool) (ns : List ℕ) → causes NoPose ≡ true → AllNamed causes (12 ∷ ns) → TellsRight causes (12 ∷ ns) (Some NoPose)
 lacks causes ns here named = record {
@@ -118,7 +118,7 @@ plate_rows s m p = rows_refusal (is_changed s) (has_plate s) PlateInZone (zones_
 abbrev pub no_room : ModelState → Machine → Pose → Option Refusal
 no_room s m p = first_zone (Refusals.opens_onto_plate s m p) or Refusals.runs_onto_plate s m p
 
--- what is to be shown of a pose that the machine has
+-- what must be shown of a pose that the machine has
 pub record Poses (s : ModelState) (m : Machine) (p : Pose) : Type 0 where
   pub has : Refusals.lacks_pose m p ≡ None
   pub has_zones : pose_cause s m p NoPose ≡ false

@@ -1,4 +1,4 @@
--- The posture by the events is that of the state after.
+-- The posture by the events is the one in the state after.
 use Rattle.std.proofs.Common.{◌≡◌, Bool, true, false, List, [], ◌∷◌, refl, sym, ap, ◌∙◌, subst, if◌then◌else◌}
 use Rattle.cell_types.specs.declared.machine.Machine.{Machine}
 use Rattle.cell_types.specs.declared.zone.Zone.{Zone}
@@ -18,7 +18,7 @@ use Rattle.cell_rules.proofs.Puts.{zone_in-map, zone_in-kept}
 use Rattle.cell_rules.proofs.Kept.{claimed, yielded, released}
 use Rattle.cell_rules.proofs.Plates.{given, taken}
 
--- a zone that is put with its posture
+-- a zone is put with its own posture
 put_kept : (s : ModelState) (y : Zone) (v : ZoneState) → v.posture ≡ posture_at s y → (z : Zone) → (zone_in (put_zone s.zones y v) z).posture ≡ posture_at s z
 put_kept s y v e z = zone_in-kept (λ x u. u.posture ≡ posture_at s x) s.zones v (λ x. refl) y e z
 

@@ -45,7 +45,7 @@ zone_in-put m v =
 pub zone_in-map : (f : Zone → ZoneState → ZoneState) (m : ZoneMap) (y : Zone) → zone_in (map_zones f m) y ≡ f y (zone_in m y)
 zone_in-map f m = each_zone (λ y. zone_in (map_zones f m) y ≡ f y (zone_in m y)) refl refl refl refl refl refl
 
--- what holds at each zone holds after one zone is put, if it holds there
+-- what holds at each zone holds after one zone is put, if it holds of the new value
 pub zone_in-kept : (P : Zone → ZoneState → Type 0) (m : ZoneMap) (v : ZoneState) → ((y : Zone) → P y (zone_in m y)) → (z : Zone) → P z v → (y : Zone) → P y (zone_in (put_zone m z v) y)
 zone_in-kept P m v all =
     let At : Zone → Zone → Type 0 = λ z y. P y (zone_in (put_zone m z v) y) in

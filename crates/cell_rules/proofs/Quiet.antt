@@ -1,4 +1,5 @@
--- What is the same where nothing changes: the state after a call that isn't Done, and that after events of others without a change.
+-- What is the same if nothing changes: the state after a call that isn't Done, and after events of others without a
+-- change.
 use Rattle.std.proofs.Common.{◌≡◌, ℕ, ◌+◌, Bool, true, false, ◌&&◌, not, cond, List, [], ◌∷◌, ◌++◌, refl, sym, ap, ◌∙◌, subst, arith}
 use Rattle.std.proofs.lemmas.List.Sums.{sum_by-cons, sum_by-append}
 use Rattle.cell_types.specs.declared.machine.Machine.{Machine}
@@ -26,13 +27,13 @@ counts m e = cond (is_done e && not (same_machine e.machine m)) 1 0
 pub changes-append : (m : Machine) (h k : List Event) → changes_by_others (h ++ k) m ≡ changes_by_others h m + changes_by_others k m
 changes-append m h k = sum_by-append (counts m) h k
 
--- where the first event is another machine's and there are no changes, it is none
+-- if the first event is another machine's and there are no changes, it isn't Done
 quiet_head : (d own : Bool) (n k : ℕ) → own ≡ false → k ≡ cond (d && not own) 1 0 + n → k ≡ 0 → (d ≡ false) × (n ≡ 0)
 quiet_head d true n k e f z = cc
 quiet_head true false n k e f z = absurd (grind (arith, f, z))
 quiet_head false false n k e f z = (refl, omega (arith, f, z))
 
--- where a machine did nothing and no other changed the state, it is the same
+-- if a machine did nothing and no other changed the state, it is the same
 pub unchanged : (m : Machine) (s : ModelState) (h : List Event) → IsLegal s h → own_events h m ≡ [] → changes_by_others h m ≡ 0 → after s h ≡ s
 unchanged m s [] l q z = refl
 unchanged m s (e ∷ h) l q z =

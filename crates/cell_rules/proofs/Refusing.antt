@@ -1,4 +1,4 @@
--- Each refusal gives its cause, on every sound state.
+-- Each refusal has its cause, on every sound state.
 use Rattle.std.proofs.Common.{◌≡◌, Option, Some, None, ap}
 use Rattle.cell_types.specs.declared.machine.Machine.{Machine}
 use Rattle.cell_types.specs.declared.call.Call.{Call}

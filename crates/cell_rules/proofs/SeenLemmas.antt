@@ -41,7 +41,7 @@ own-event m c a = ap (λ t. cond t (event m c a ∷ []) []) (same_as_itself m)
 pub own-push : (h : List Event) (m : Machine) (c : Call) (a : Answer) → own_events (h ++ event m c a ∷ []) m ≡ own_events h m ++ event m c a ∷ []
 own-push h m c a = own-append h (event m c a ∷ []) m ∙ ap (λ own. own_events h m ++ own) (own-event m c a)
 
--- a stored history with one more call
+-- a stored history with another call
 pub history-push : (o s t : ModelState) (h : List Event) (m : Machine) (c : Call) (a : Answer) → IsHistory o s h → a ≡ reply s m c → t ≡ next s m c → IsHistory o t (h ++ event m c a ∷ [])
 history-push o s t h m c a k e n =
     record {
@@ -59,7 +59,7 @@ state_prop a b = hlevel props
 pub state_reached : (o s : ModelState) (h : List Event) → ∥ IsHistory o s h ∥₁ → s ≡ after o h
 state_reached o s h t = ∥∥₁_elim t (state_prop s (after o h)) (λ k. k.reached)
 
--- what came between what was seen before and the machine's next event is of others
+-- the events between what was seen before and the machine's next event are of others
 foreign_between : (m : Machine) (before more : List Event) → own_events (before ++ more) m ≡ own_events before m → own_events more m ≡ []
 foreign_between m before more e =
     append_cancel_left (own_events before m) (own_events more m) [] (sym (own-append before more m) ∙ e ∙ sym (append-nil (own_events before m)))

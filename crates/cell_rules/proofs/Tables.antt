@@ -47,7 +47,7 @@ pub passed : {X : Type 0} → (P : X → Bool) (xs : List X) → list_all P xs �
 passed P [] e = tt
 passed P (x ∷ xs) e = (and_left (P x) (list_all P xs) e, passed P xs (and_right (P x) (list_all P xs) e))
 
--- and of each member where it holds of all values
+-- and of each member if it holds of all values
 pub all_pass : {X : Type 0} → (P : X → Bool) → ((x : X) → P x ≡ true) → (xs : List X) → list_all P xs ≡ true
 all_pass P each [] = refl
 all_pass P each (x ∷ xs) = and_both (P x) (list_all P xs) (each x) (all_pass P each xs)

@@ -1,4 +1,4 @@
--- For each condition of a call the cause that it gives.
+-- The cause of each condition of a call.
 use Rattle.std.proofs.Common.{◌≡◌, ◌≤◌, ℕ, Bool, true, false, ◌&&◌, not, nat_eq, nat_lt, Option, Some, None, is_some, refl, sym, ap, ◌∙◌, arith}
 use Rattle.std.specs.Bool.{then_some}
 use Rattle.std.specs.Option.{option_eq}
@@ -18,7 +18,7 @@ use Rattle.cell_rules.proofs.Tables.{and_left, and_right, and_both}
 use Rattle.cell_rules.proofs.Holders.{same_machine-self, same_zone-self}
 use Rattle.cell_rules.proofs.Chains.{Tells}
 
--- a test that is passed refuses
+-- a passed test refuses
 pub passed_then : (b : Bool) (r q : Refusal) → then_some b r ≡ Some q → (b ≡ true) × (r ≡ q)
 passed_then true r q e = (refl, same_Some r q e)
 passed_then false r q e = cc

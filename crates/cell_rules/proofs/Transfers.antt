@@ -1,4 +1,4 @@
--- What a give, a take and an advance find where they are Done: the way of the plate, its start full or its end empty.
+-- What a Done give, take or advance finds: the way of the plate, its start full or its end empty.
 use Rattle.std.proofs.Common.{◌≡◌, Bool, true, false, ◌&&◌, not, Option, Some, None, is_some, refl, subst}
 use Rattle.cell_types.specs.declared.machine.Machine.{Machine}
 use Rattle.cell_types.specs.declared.zone.Zone.{Zone}

@@ -1,4 +1,4 @@
--- What a bench is to its caller, and what a call of it does.
+-- What a bench is to its caller, and what a call does to it.
 use Rattle.std.specs.Prelude.{◌≡◌, Bool, true, false, List, [], ◌∷◌, ◌++◌, Result, Ok, Err}
 use Rattle.cell_types.specs.declared.machine.Machine.{Machine}
 use Rattle.cell_types.specs.declared.call.Call.{Call}
@@ -18,7 +18,8 @@ pub record Desk : Type 0 where
   pub machine : Machine
   pub busy : Bool
 
--- a caller that finds the bench busy gets Busy, and nothing changes; else the state answers the call and changes by it, and its event ends the history; out of memory changes nothing
+-- if the caller finds the bench busy, the answer is Busy and nothing changes; else the state answers the call and makes
+-- its change, and the event is added to the history; out of memory changes nothing
 abbrev pub BenchAsks : Desk → Call → Result Reply LineFault → Desk → Type 0
 BenchAsks b c (Ok (Busy lost stamp)) d = (b.busy ≡ true) × (lost ≡ 1) × (stamp ≡ b.state.stamp) × (d ≡ b)
 BenchAsks b c (Ok (Settled a stamp)) d =

@@ -1,5 +1,5 @@
--- What each refusal says of the state and of the call, and the order in which a call looks for its refusals.
--- These tables are written out by themselves, apart from `reply` and from the tables that it uses.
+-- What each refusal says of the state and of the call, and the order in which a call looks for its refusals. These
+-- tables are written out on their own: they don't use `reply` or its tables.
 use Rattle.std.specs.Prelude.{ℕ, Bool, true, false, ◌&&◌, ◌||◌, not, nat_eq, List, [], ◌∷◌, filter, Option, Some, None, is_none}
 use Rattle.std.specs.Option.{option_eq}
 use Rattle.std.specs.List.{find}
@@ -22,7 +22,7 @@ use Rattle.cell_rules.specs.ZoneMap.{zone_in}
 use Rattle.cell_rules.specs.PlaceSet.{has}
 use Rattle.cell_rules.specs.ModelState.{ModelState}
 
--- the orders, by the refusals' numbers
+-- the orders, as lists of the refusals' numbers
 abbrev pub order_of : Call → List ℕ
 order_of (Claim _) = 1 ∷ 3 ∷ 2 ∷ 4 ∷ 13 ∷ []
 order_of (Give _) = 1 ∷ 5 ∷ 6 ∷ 9 ∷ 7 ∷ 8 ∷ 13 ∷ []
@@ -53,7 +53,7 @@ gift_of Deposit Z5 OpenOut = Some (DepEnd, Crane)
 gift_of CraneMachine Z6 OpenIn = Some (Crane, FeedEntry)
 gift_of _ _ _ = None
 
--- the poses of a machine, and the posture of each of its zones in them; no zones where it hasn't the pose
+-- the poses of a machine, and the postures that they give its zones; no zones if the machine doesn't have the pose
 abbrev pub zones_posed : Machine → Pose → List (Zone × Posture)
 zones_posed TableMachine Turning = (Z1, Moving) ∷ (Z2, Moving) ∷ []
 zones_posed TableMachine Loading = (Z1, OpenIn) ∷ (Z2, Closed) ∷ []
@@ -72,7 +72,7 @@ zones_posed Deposit Standing = (Z4, OpenIn) ∷ (Z5, OpenOut) ∷ []
 zones_posed Deposit Halted = (Z4, Closed) ∷ (Z5, Closed) ∷ []
 zones_posed _ _ = []
 
--- what the state has at a zone
+-- what the state says of a zone
 abbrev pub is_owner : ModelState → Zone → Machine → Bool
 is_owner s z m = option_eq same_machine (zone_in s.zones z).owner (Some m)
 
@@ -91,14 +91,14 @@ is_shut Moving = true
 is_shut OpenIn = false
 is_shut OpenOut = false
 
--- the last stamp has been given
+-- the stamp is the last one
 abbrev pub is_worn : ModelState → Bool
 is_worn s = nat_eq s.stamp 1048575
 
 abbrev pub is_stranger : Machine → Zone → Bool
 is_stranger m z = not (same_machine m (parties_of z).0 || same_machine m (parties_of z).1)
 
--- the zone belongs to somebody else, or to nobody, and this is who
+-- the zone has this owner, or none, and the owner isn't the machine
 abbrev pub is_anothers : ModelState → Machine → Zone → Option Machine → Bool
 is_anothers s m z o = not (is_owner s z m) && is_owned_as s z o
 
@@ -161,7 +161,7 @@ is_changed s row = same_posture row.1 Moving || not (same_posture row.1 (zone_in
 abbrev pub concerned : ModelState → Machine → Pose → List (Zone × Posture)
 concerned s m p = filter (is_changed s) (zones_posed m p)
 
--- the lowest zone of a list that fails
+-- a test of a zone that was found
 abbrev pub on_zone : Option (Zone × Posture) → (Zone → Bool) → Bool
 on_zone None test = false
 on_zone (Some row) test = test row.0
@@ -169,7 +169,7 @@ on_zone (Some row) test = test row.0
 abbrev pub lowest : (Zone → Bool) → List (Zone × Posture) → Option (Zone × Posture)
 lowest test rows = find (λ row. test row.0) rows
 
--- table and press come to a pose only out of a pose that moves
+-- table and press take a pose only after one that moves
 abbrev pub jumps : ModelState → Machine → Pose → Bool
 jumps s TableMachine Loading = not (is_in s Z1 Moving && is_in s Z2 Moving)
 jumps s TableMachine Unloading = not (is_in s Z1 Moving && is_in s Z2 Moving)
@@ -202,14 +202,14 @@ pose_cause s m p PlaceFull = lacks_room s m p
 pose_cause s m p Worn = is_worn s
 pose_cause s m p _ = false
 
--- where a machine works: a belt while it runs, the press while it is closed
+-- a machine isn't at work: its belt doesn't run, or its press isn't closed
 abbrev pub is_idle : ModelState → Machine → Bool
 is_idle s Feed = not (is_in s Z6 Moving)
 is_idle s Deposit = not (is_in s Z4 Moving && is_in s Z5 Moving)
 is_idle s Press = not (is_in s Z3 Closed)
 is_idle s _ = false
 
--- where its work begins, and where it ends
+-- the places where its work begins and ends
 abbrev pub work_at : Machine → Option (Place × Place)
 work_at Feed = Some (FeedEntry, FeedEnd)
 work_at Deposit = Some (DepEntry, DepEnd)
@@ -225,7 +225,7 @@ advance_cause s m PlaceFull = on_way (work_at m) (λ way. has s.full way.1)
 advance_cause s m Worn = is_worn s
 advance_cause s m _ = false
 
--- what a refusal of a call says holds of the state
+-- what a refusal of a call says of the state
 abbrev pub is_cause : ModelState → Machine → Call → Refusal → Bool
 is_cause s m (Claim z) r = claim_cause s m z r
 is_cause s m (Give z) r = give_cause s m z r

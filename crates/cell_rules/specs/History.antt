@@ -26,7 +26,7 @@ abbrev pub after : ModelState → List Event → ModelState
 after s [] = s
 after s (e ∷ history) = after (next s e.machine e.call) history
 
--- every event answers what the reply is in the state that it finds
+-- every event has the answer that `reply` gives in the state before it
 abbrev pub IsLegal : ModelState → List Event → Type 0
 IsLegal s [] = ⊤
 IsLegal s (e ∷ history) = (e.answer ≡ reply s e.machine e.call) × IsLegal (next s e.machine e.call) history
@@ -43,14 +43,14 @@ is_done_answer (Refused _) = false
 abbrev pub is_done : Event → Bool
 is_done e = is_done_answer e.answer
 
--- how many Done events a history has, and how many of machines other than one
+-- how many Done events a history has, and how many of them are of machines other than one
 abbrev pub done_count : List Event → ℕ
 done_count history = count_by is_done history
 
 abbrev pub changes_by_others : List Event → Machine → ℕ
 changes_by_others history m = count_by (λ e. is_done e && not (same_machine e.machine m)) history
 
--- a machine gains a zone by its own claim, and by a handover from the zone's other party
+-- a machine gains a zone by its own claim, or by a handover from the zone's other party
 abbrev pub gains : Machine → Call → Machine → Zone → Bool
 gains n (Claim y) m z = same_zone y z && same_machine n m
 gains n (Give y) m z = same_zone y z && (is_party n y && same_machine (other_party n y) m)
@@ -103,11 +103,13 @@ abbrev pub posture_since : Posture → List Event → Zone → Posture
 posture_since now [] z = now
 posture_since now (e ∷ history) z = posture_since (if is_done e then posture_given e.machine e.call z now else now) history z
 
--- the posture that the last pose of its host gave a zone; Closed once the host, a belt, has advanced; at first the opening's
+-- the posture that a zone's host gave it by its last pose; Closed if the host, a belt, has advanced since; at first the
+-- opening's
 abbrev pub posture_by_events : ModelState → List Event → Zone → Posture
 posture_by_events s history z = posture_since (posture_at s z) history z
 
--- the place that a machine's give empties in a zone, and the one that its take fills: it has at most one row there
+-- the place that a machine's give empties in a zone, and the one that its take fills: a machine has at most one row
+-- there
 abbrev pub giving_of : Machine → Option Transfer → Option Place
 giving_of n None = None
 giving_of n (Some row) = if same_machine row.giver n then Some row.from else None
@@ -143,11 +145,11 @@ is_filled_by p e = is_done e && fills e.machine e.call p
 abbrev pub is_emptied_by : Place → Event → Bool
 is_emptied_by p e = is_done e && empties e.machine e.call p
 
--- how many plates a place has by the events: 1 if it was full in the opening, more what fills it, less what empties it
+-- how many plates a place has by the events: 1 if it was full in the opening, plus what fills it, minus what empties it
 abbrev pub plates_at : ModelState → List Event → Place → ℤ
 plates_at s history p = pos (one_if (is_full s p) + count_by (is_filled_by p) history) -ℤ pos (count_by (is_emptied_by p) history)
 
--- a plate is given into a zone, and taken from it
+-- a call gives a plate into a zone, or takes one from it
 abbrev pub gives : Call → Zone → Bool
 gives (Give y) z = same_zone y z
 gives _ z = false
@@ -162,7 +164,7 @@ is_given_into z e = is_done e && gives e.call z
 abbrev pub is_taken_from : Zone → Event → Bool
 is_taken_from z e = is_done e && takes e.call z
 
--- how many plates are in a zone by the events: 1 if its flag was set in the opening, more the gives, less the takes
+-- how many plates are in a zone by the events: 1 if its flag was set in the opening, plus the gives, minus the takes
 abbrev pub plates_in_transfer : ModelState → List Event → Zone → ℤ
 plates_in_transfer s history z = pos (one_if (zone_at s z).flag + count_by (is_given_into z) history) -ℤ pos (count_by (is_taken_from z) history)
 
@@ -170,6 +172,6 @@ plates_in_transfer s history z = pos (one_if (zone_at s z).flag + count_by (is_g
 abbrev pub Moves : ModelState → List Event → Zone → Type 0
 Moves s history z = posture_by_events s history z ≡ Moving
 
--- the press moves where its interior, z3, does: that is the pose travelling
+-- the press moves while its interior, z3, does: in the pose travelling
 abbrev pub PressMoves : ModelState → List Event → Type 0
 PressMoves s history = Moves s history Z3

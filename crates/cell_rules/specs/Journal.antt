@@ -1,4 +1,4 @@
--- What each machine notes of a history: its own events, each with the stamp that it leaves.
+-- What each machine notes of a history: its own events, each with the stamp after it.
 use Rattle.std.specs.Prelude.{List, [], ◌∷◌, if◌then◌else◌}
 use Rattle.cell_types.specs.declared.machine.Machine.{Machine}
 use Rattle.cell_types.specs.declared.answer.Event.{Event}
@@ -7,11 +7,11 @@ use Rattle.cell_types.specs.Same.{same_machine}
 use Rattle.cell_rules.specs.ModelState.{ModelState}
 use Rattle.cell_rules.specs.Reply.{next}
 
--- the state that an event leaves
+-- the state after an event
 abbrev pub state_left : ModelState → Event → ModelState
 state_left s e = next s e.machine e.call
 
--- the entry of an event: its call and answer, and the stamp of the state that it leaves
+-- the entry of an event: its call and answer, and the stamp of the state after it
 abbrev pub entry_of : ModelState → Event → Entry
 entry_of s e = record { call = e.call; answer = e.answer; stamp = (state_left s e).stamp }
 

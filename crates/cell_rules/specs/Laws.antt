@@ -1,4 +1,4 @@
--- What is so on every legal history from a sound opening: the statements.
+-- Laws of every legal history from a sound opening.
 use Rattle.std.specs.Prelude.{◌≡◌, ◌≢◌, ◌+◌, pos, false, not, List, [], ◌∷◌, ◌++◌, Some, IsTrue, ◌↔◌}
 use Rattle.cell_types.specs.declared.place.Place.{Place}
 use Rattle.cell_types.specs.declared.place.Place.TheVariants.{FeedEnd, PressIn, PressOut, DepEnd}
@@ -23,11 +23,12 @@ use Rattle.cell_rules.specs.Refusals.{owns, posture_at, is_moving_pose, passes_t
 use Rattle.cell_rules.specs.History.{after, IsLegal, own_events, done_count, changes_by_others, Holds, Moves, PressMoves, posture_by_events, plates_at, plates_in_transfer}
 use Rattle.cell_rules.specs.RefusalLaws.{RefusalsTellAlong}
 
--- a law holds of each beginning of a history
+-- a law holds of each prefix of a history
 abbrev pub Throughout : (List Event → Type 0) → List Event → Type 0
 Throughout Law h = (before more : List Event) → h ≡ before ++ more → Law before
 
--- two machines never hold the same zone; who holds one is its host or its guest, and owns it in the state after, as only a holder does
+-- two machines never hold the same zone; only a zone's host or guest can hold it, and exactly the holder owns it in the
+-- state after
 pub record OneHolder (s : ModelState) (h : List Event) : Type 0 where
   pub alone : (m n : Machine) (z : Zone) → Holds s h m z → Holds s h n z → m ≡ n
   pub party : (m : Machine) (z : Zone) → Holds s h m z → IsTrue (is_party m z)
@@ -38,11 +39,12 @@ pub record MoverIsHost (s : ModelState) (h : List Event) : Type 0 where
   pub host : (z : Zone) → Moves s h z → Holds s h (host_of z) z
   pub press : PressMoves s h → ¬ Holds s h Robot Z3
 
--- a zone that its guest holds is open by the events
+-- if a zone's guest holds it, the zone is open, by the events
 abbrev pub GuestOnlyWhileOpen : ModelState → List Event → Type 0
 GuestOnlyWhileOpen s h = (z : Zone) → Holds s h (guest_of z) z → IsTrue (is_open (posture_by_events s h z))
 
--- by the events each place and each zone has one plate or none, as the state after has, and there are as many plates as in the opening
+-- each place and each zone has one plate or none, counted by the events; the state after says the same, and has as many
+-- plates as the opening
 pub record PlatesAreKept (s : ModelState) (h : List Event) : Type 0 where
   pub at_place : (p : Place) → plates_at s h p ≡ pos (one_if (is_full (after s h) p))
   pub in_transfer : (z : Zone) → plates_in_transfer s h z ≡ pos (one_if (zone_at (after s h) z).flag)
@@ -65,15 +67,15 @@ pub record BeltsRunClear (s : ModelState) (h : List Event) : Type 0 where
   pub end : Moves s h Z5 → plates_at s h DepEnd ≡ pos 0
   pub state : RunsClear (after s h)
 
--- what a machine holds stays held, with its posture and flag, while others make the events; so do the machine's own places,
--- and the postures of the zones that it hosts, held or not
+-- while others make the events, a machine keeps each zone that it holds, with posture and flag, its own places, and the
+-- postures of the zones that it hosts, held or not
 pub record RightLasts (s : ModelState) (before more : List Event) : Type 0 where
   pub held : (m : Machine) (z : Zone) → own_events more m ≡ [] → Holds s before m z → Holds s (before ++ more) m z
   pub zone : (m : Machine) (z : Zone) → own_events more m ≡ [] → Holds s before m z → zone_at (after s (before ++ more)) z ≡ zone_at (after s before) z
   pub places : (p : Place) → own_events more (keeper_of p) ≡ [] → is_full (after s (before ++ more)) p ≡ is_full (after s before) p
   pub posture : (z : Zone) → own_events more (host_of z) ≡ [] → posture_by_events s (before ++ more) z ≡ posture_by_events s before z
 
--- the posture by the events is that of the state after
+-- the posture by the events is the one in the state after
 abbrev pub PostureByEvents : ModelState → List Event → Type 0
 PostureByEvents s h = (z : Zone) → posture_by_events s h z ≡ posture_at (after s h) z
 
@@ -83,13 +85,13 @@ StaysSound s h = IsSound (after s h)
 abbrev pub done : Machine → Call → Event
 done m c = record { machine = m; call = c; answer = Done }
 
--- what a Done event finds in the state before it
+-- what holds in the state before a Done event
 pub record EventsFit (s : ModelState) (h : List Event) : Type 0 where
   -- table and press take a pose that isn't moving only while all their zones move
   pub no_jump : (before rest : List Event) (m : Machine) (p : Pose) → h ≡ before ++ done m (SetPose p) ∷ rest → IsTrue (passes_through_moving m) → IsTrue (not (is_moving_pose p)) → (z : Zone) → host_of z ≡ m → posture_at (after s before) z ≡ Moving
   -- a zone becomes open inward only while the place that a plate would come to is empty
   pub opens_onto_empty : (before rest : List Event) (m : Machine) (p : Pose) → h ≡ before ++ done m (SetPose p) ∷ rest → (z : Zone) (row : Transfer) → posture_of m p z ≡ Some OpenIn → posture_at (after s before) z ≢ OpenIn → transfer_of z OpenIn ≡ Some row → is_full (after s before) row.to ≡ false
-  -- the press only while both its places are empty
+  -- the press opens inward only while both its places are empty
   pub press_opens_empty : (before rest : List Event) (m : Machine) (p : Pose) → h ≡ before ++ done m (SetPose p) ∷ rest → posture_of m p Z3 ≡ Some OpenIn → posture_at (after s before) Z3 ≢ OpenIn → (is_full (after s before) PressIn ≡ false) × (is_full (after s before) PressOut ≡ false)
   -- a machine changes the posture of a zone only while it holds it
   pub pose_by_holder : (before rest : List Event) (m : Machine) (p : Pose) → h ≡ before ++ done m (SetPose p) ∷ rest → (z : Zone) (q : Posture) → posture_of m p z ≡ Some q → posture_at (after s before) z ≢ q → Holds s before m z
@@ -108,7 +110,7 @@ pub record NoJump (s : ModelState) (h : List Event) : Type 0 where
 abbrev pub HasZone : ModelState → List Event → Machine → Zone → Type 0
 HasZone s before m z = Holds s before m z × ((zone_at (after s before) z).owner ≡ Some m)
 
--- who hands a zone over, takes a plate from it or leaves it, has it
+-- a machine has the zone that it hands over, takes a plate from, or leaves
 pub record HandoverByHolder (s : ModelState) (h : List Event) : Type 0 where
   pub give : (before rest : List Event) (m : Machine) (z : Zone) → h ≡ before ++ done m (Give z) ∷ rest → HasZone s before m z
   pub yield : (before rest : List Event) (m : Machine) (z : Zone) → h ≡ before ++ done m (Yield z) ∷ rest → HasZone s before m z
@@ -137,7 +139,7 @@ pub record Lawful (s : ModelState) (h : List Event) : Type 0 where
   pub changes_are_counted : ChangesAreCounted h
   pub refusals_tell : RefusalsTellAlong s h
 
--- every law, of each beginning of a history
+-- every law, of each prefix of a history
 abbrev pub LawfulThroughout : ModelState → List Event → Type 0
 LawfulThroughout s h = Throughout (Lawful s) h
 

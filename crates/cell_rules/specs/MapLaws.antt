@@ -1,4 +1,5 @@
--- That the map of the zones is a map and the set of the places is a set: by the laws of look-up and update, and as std's finite map and finite set.
+-- The map of the zones is a map and the set of the places is a set: by the laws of look-up and update, and as std's
+-- finite map and finite set.
 use Rattle.std.specs.Prelude.{◌≡◌, ◌≢◌, true, false, Some, map as list_map, filter}
 use Rattle.std.specs.declared.cmp.Ordering.{Ordering}
 use Rattle.std.specs.FinMap as map
@@ -12,7 +13,7 @@ use Rattle.cell_rules.specs.declared.zones.ZoneState.{ZoneState}
 use Rattle.cell_rules.specs.ZoneMap.{ZoneMap, zone_in, put_zone, map_zones, everywhere}
 use Rattle.cell_rules.specs.PlaceSet.{PlaceSet, has, insert_place, remove_place, empty}
 
--- look-up after an update, and that a map is what it has at each zone
+-- look-up after an update; and two maps with the same value at each zone are equal
 pub record ZonesAreAMap : Type 0 where
   pub put_here : (m : ZoneMap) (z : Zone) (v : ZoneState) → zone_in (put_zone m z v) z ≡ v
   pub put_elsewhere : (m : ZoneMap) (z y : Zone) (v : ZoneState) → y ≢ z → zone_in (put_zone m z v) y ≡ zone_in m y
@@ -20,7 +21,7 @@ pub record ZonesAreAMap : Type 0 where
   pub mapped : (f : Zone → ZoneState → ZoneState) (m : ZoneMap) (z : Zone) → zone_in (map_zones f m) z ≡ f z (zone_in m z)
   pub at_every_zone : (v : ZoneState) (z : Zone) → zone_in (everywhere v) z ≡ v
 
--- membership after an insertion and a removal, and that a set is what it has
+-- membership after an insertion and a removal; and two sets with the same members are equal
 pub record PlacesAreASet : Type 0 where
   pub inserted : (s : PlaceSet) (p : Place) → has (insert_place s p) p ≡ true
   pub removed : (s : PlaceSet) (p : Place) → has (remove_place s p) p ≡ false
@@ -36,11 +37,11 @@ zone_cmp a b = zone_ghosts.cmp a b
 abbrev pub place_cmp : Place → Place → Ordering
 place_cmp a b = place_ghosts.cmp a b
 
--- std's finite map with what the map has at each zone
+-- std's finite map with the same values as the map
 abbrev pub map_of : ZoneMap → map.FinMap zone_cmp ZoneState
 map_of m = map.from_entries (list_map (λ z. (z, zone_in m z)) all_zones)
 
--- std's finite set of the places that the set has
+-- std's finite set with the same places as the set
 abbrev pub set_of : PlaceSet → set.FinSet place_cmp
 set_of s = set.from_list (filter (has s) all_places)
 

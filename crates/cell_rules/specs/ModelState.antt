@@ -1,5 +1,5 @@
--- A state of the interlock: a map from the zones to who owns each, whether a plate is in it and its posture,
--- the set of the places that are full, and the stamp.
+-- A state of the interlock: each zone's owner, flag (whether a plate is in it) and posture, as a map; the set of the
+-- places that are full; and the stamp.
 use Rattle.std.specs.Prelude.{ℕ, ◌+◌, Bool}
 use mir.Val.{bool_byte}
 use Rattle.cell_types.specs.declared.zone.Zone.{Zone}

@@ -31,7 +31,7 @@ has places DepEntry = places.dep_entry
 has places DepEnd = places.dep_end
 has places Crane = places.crane
 
--- insertion where the bit is true, removal where it is false
+-- insertion if the bit is true, removal if it is false
 abbrev pub put_place : PlaceSet → Place → Bool → PlaceSet
 put_place places FeedEntry b = record places { feed_entry = b }
 put_place places FeedEnd b = record places { feed_end = b }

@@ -57,7 +57,7 @@ held s m z = held_by (owner_of s z) m
 abbrev pub shut_to_guest : ModelState → Machine → Zone → Option Refusal
 shut_to_guest s m z = then_some (same_machine m (guest_of z) && not (is_open (posture_at s z))) (Shut (posture_at s z))
 
--- the stamp is at its end
+-- the stamp is the last one
 abbrev pub worn : ModelState → Option Refusal
 worn s = then_some (not (nat_lt s.stamp last_stamp)) Worn
 
@@ -73,7 +73,7 @@ plate_in_zone s z = then_some (zone_at s z).flag (PlateInZone z)
 abbrev pub shut_while_moving : ModelState → Zone → Option Refusal
 shut_while_moving s z = then_some (same_posture (posture_at s z) Moving) (Shut Moving)
 
--- feed leaves z1 while it runs with a plate at its end
+-- feed would leave z1 while its belt runs with a plate at its end
 abbrev pub in_use : ModelState → Machine → Zone → Option Refusal
 in_use s m z = then_some (same_machine m Feed && same_zone z Z1 && same_posture (posture_at s Z6) Moving && is_full s FeedEnd) InUse
 
@@ -89,7 +89,7 @@ given_by m (Some row) = if same_machine row.giver m then Some row else None
 abbrev pub gift : ModelState → Machine → Zone → Option Transfer
 gift s m z = given_by m (transfer_of z (posture_at s z))
 
--- no row has this caller as giver in this posture
+-- in this posture the caller gives in no row
 abbrev pub wrong_way : Option Transfer → Option Refusal
 wrong_way row = then_some (is_none row) WrongWay
 
@@ -111,7 +111,7 @@ no_plate_in_zone s z = then_some (not (zone_at s z).flag) NoPlate
 abbrev pub first_zone : (Zone → Option Refusal) → Option Refusal
 first_zone f = f Z1 or f Z2 or f Z3 or f Z4 or f Z5 or f Z6
 
--- a machine has the poses that give a posture to some zone
+-- a machine has a pose if the pose gives some zone a posture
 abbrev pub has_pose : Machine → Pose → Bool
 has_pose m p = list_any (λ z. is_some (posture_of m p z)) all_zones
 
@@ -125,7 +125,8 @@ is_moving_pose p = same_pose p Turning || same_pose p Travelling || same_pose p 
 abbrev pub posture_with : ModelState → Machine → Pose → Zone → Posture
 posture_with s m p z = unwrap_or (posture_of m p z) (posture_at s z)
 
--- the host zones that a machine must own, and clear of plates, to take a pose: those that get another posture, and to move, all of them
+-- the zones that a machine must own, and free of plates, to take a pose: of those that it hosts all if the pose moves,
+-- else those that get another posture
 abbrev pub is_concerned : ModelState → Machine → Pose → Zone → Bool
 is_concerned s m p z = same_machine (host_of z) m && (is_moving_pose p || not (same_posture (posture_with s m p z) (posture_at s z)))
 
@@ -143,7 +144,7 @@ moves_at s m z = not (same_machine (host_of z) m) || same_posture (posture_at s 
 abbrev pub all_move : ModelState → Machine → Bool
 all_move s m = list_all (moves_at s m) all_zones
 
--- table and press come to a pose by moving, and not at once
+-- table and press take a pose only after moving
 abbrev pub passes_through_moving : Machine → Bool
 passes_through_moving m = same_machine m TableMachine || same_machine m Press
 
@@ -155,7 +156,7 @@ abbrev pub is_blocked : ModelState → Zone → Bool
 is_blocked s Z3 = is_full s PressIn || is_full s PressOut
 is_blocked s z = is_onto_full s.full (transfer_of z OpenIn)
 
--- a zone becomes open inward, and was not
+-- a zone becomes open inward, and wasn't
 abbrev pub opens : ModelState → Machine → Pose → Zone → Bool
 opens s m p z = same_posture (posture_with s m p z) OpenIn && not (same_posture (posture_at s z) OpenIn)
 
@@ -163,7 +164,7 @@ opens s m p z = same_posture (posture_with s m p z) OpenIn && not (same_posture 
 abbrev pub opens_onto_plate : ModelState → Machine → Pose → Zone → Option Refusal
 opens_onto_plate s m p z = then_some (opens s m p z && is_blocked s z) PlaceFull
 
--- a belt would run with a plate at its end; feed may where it owns z1
+-- a belt would run with a plate at its end; feed may if it owns z1
 abbrev pub runs_onto_plate : ModelState → Machine → Pose → Option Refusal
 runs_onto_plate s m p =
     then_some (same_pose p Running && ((same_machine m Deposit && is_full s DepEnd) || (same_machine m Feed && is_full s FeedEnd && not (owns s Feed Z1)))) PlaceFull
@@ -192,7 +193,7 @@ abbrev pub no_room_for_work : ModelState → Option (Place × Place) → Option 
 no_room_for_work s None = None
 no_room_for_work s (Some way) = then_some (is_full s way.1) PlaceFull
 
--- for each call its conditions, in their order
+-- the conditions of each call, in their order
 
 abbrev pub claim_refusal : ModelState → Machine → Zone → Option Refusal
 claim_refusal s m z =
@@ -225,7 +226,7 @@ yield_refusal s m z =
     or in_use s m z
     or worn s
 
--- the receiving place need not be asked for: soundness keeps it empty while the zone's flag is set
+-- the receiving place need not be tested: soundness keeps it empty while the zone's flag is set
 abbrev pub take_refusal : ModelState → Machine → Zone → Option Refusal
 take_refusal s m z =
     not_party m z

@@ -60,7 +60,7 @@ abbrev pub worked : PlaceSet → Option (Place × Place) → PlaceSet
 worked full None = full
 worked full (Some way) = insert_place (remove_place full way.0) way.1
 
--- a zone in the posture of a pose, or as it was
+-- a zone in the posture of a pose, or unchanged
 abbrev pub posed : Machine → Pose → Zone → ZoneState → ZoneState
 posed m p z v = record v { posture = unwrap_or (posture_of m p z) v.posture }
 
@@ -74,7 +74,7 @@ is_belt_of _ z = false
 abbrev pub halted : Machine → Zone → ZoneState → ZoneState
 halted m z v = if is_belt_of m z then record v { posture = Closed } else v
 
--- what a call that is Done makes of the zones, and of the full places
+-- the zones, and the full places, after a Done call
 abbrev pub zones_after : ModelState → Machine → Call → ZoneMap
 zones_after s m (Claim z) = put_zone s.zones z (record (zone_at s z) { owner = Some m })
 zones_after s m (Give z) = put_zone s.zones z (record (zone_at s z) { owner = Some (other_party m z); flag = true })
@@ -95,7 +95,7 @@ places_after s m _ = s.full
 abbrev pub changed : ModelState → Machine → Call → ModelState
 changed s m c = record { zones = zones_after s m c; full = places_after s m c; stamp = s.stamp + 1 }
 
--- the state that a call leaves, by its answer
+-- the state after a call, by its answer
 abbrev pub next_by : Answer → ModelState → Machine → Call → ModelState
 next_by Done s m c = changed s m c
 next_by (Refused _) s m c = s

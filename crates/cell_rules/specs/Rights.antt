@@ -1,4 +1,4 @@
--- What a machine keeps while others make the events, and what its calls are then never refused for.
+-- What a machine keeps while others make the events, and refusals that its calls then never get.
 use Rattle.std.specs.Prelude.{◌≡◌, ◌≢◌, Bool, false, ◌&&◌, List, Option, IsTrue}
 use Rattle.cell_types.specs.declared.machine.Machine.{Machine}
 use Rattle.cell_types.specs.declared.machine.Machine.TheVariants.{Press}
@@ -25,7 +25,8 @@ pub record KeepsItsOwn (s : ModelState) (m : Machine) (before now : List Event) 
   pub places : (p : Place) → keeper_of p ≡ m → is_full (after s now) p ≡ is_full (after s before) p
   pub postures : (z : Zone) → host_of z ≡ m → posture_by_events s now z ≡ posture_by_events s before z
 
--- the zones that a call needs: the one that it names, but not to claim it or to inquire; of a pose those that the machine hosts; the press works in z3
+-- the zones that a call needs: the zone that it names, unless it is a claim or an inquiry; for a pose the machine's own
+-- zones; for the press's work z3
 abbrev pub needs : Machine → Call → Zone → Bool
 needs m (Give y) z = same_zone y z
 needs m (Yield y) z = same_zone y z
@@ -35,10 +36,10 @@ needs m (SetPose p) z = same_machine (host_of z) m
 needs m Advance z = same_machine m Press && same_zone Z3 z
 needs m _ z = false
 
--- the answer doesn't say that a zone is another's, or nobody's
+-- the answer doesn't say that a zone belongs to another machine, or to nobody
 abbrev pub NamesNoOwner : Answer → Type 0
 NamesNoOwner a = (owner : Option Machine) → a ≢ Refused (NotOwner owner)
 
--- who held each zone that his call needs isn't refused for the owner of one
+-- if a machine held each zone that its call needs, no refusal names another owner
 abbrev pub IsNeverDisowned : ModelState → Machine → Call → Answer → List Event → Type 0
 IsNeverDisowned s m c a before = ((z : Zone) → IsTrue (needs m c z) → Holds s before m z) → NamesNoOwner a

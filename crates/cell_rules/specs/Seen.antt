@@ -30,13 +30,13 @@ pub record Waits (m : Machine) (before now : List Event) : Type 0 where
   pub begins : BeginsWith now before
   pub own : own_events now m ≡ own_events before m
 
--- what a caller has seen after a call, by what came back; the stamp is that of the state at the end of it
+-- what a caller has seen after a call, by what came back; the stamp is the one in the state after that
 abbrev pub SeenAfter : Machine → Call → Result Reply LineFault → ModelState → List Event → List Event → Type 0
 SeenAfter m c (Ok (Settled a stamp)) s before now = Settles m c a before now × (stamp ≡ (after s now).stamp)
 SeenAfter m c (Ok (Busy lost stamp)) s before now = Waits m before now × (stamp ≡ (after s now).stamp)
 SeenAfter m c (Err fault) s before now = now ≡ before
 
--- what a line hears: each call, and what came back last
+-- what a line hears: the number of calls, and what came back last
 abbrev pub heard_nothing : Heard
 heard_nothing = record { asks = 0; last = None }
 

@@ -1,4 +1,4 @@
--- What every state satisfies, rule by rule. Each rule but the stamp's range is a test of one zone, some with the places.
+-- The rules of a sound state. Each, except the stamp's range, is a test of one zone, some with the places.
 use Rattle.std.specs.Prelude.{◌≤◌, Bool, false, true, ◌||◌, ◌&&◌, not, Option, Some, None, is_none, IsTrue}
 use Rattle.std.specs.Option.{option_eq}
 use Rattle.std.specs.List.{list_any}
@@ -29,7 +29,7 @@ is_open OpenOut = true
 abbrev pub is_owned_by : Option Machine → Machine → Bool
 is_owned_by o m = option_eq same_machine o (Some m)
 
--- two machines are parties of a zone, the one that hosts it and the one that visits it
+-- the parties of a zone are its host and its guest
 abbrev pub is_party : Machine → Zone → Bool
 is_party m z = same_machine m (host_of z) || same_machine m (guest_of z)
 
@@ -47,22 +47,23 @@ abbrev pub is_onto_full : PlaceSet → Option Transfer → Bool
 is_onto_full full None = false
 is_onto_full full (Some row) = has full row.to
 
--- a plate in a zone is on its way: the posture names the way, who receives it owns the zone, and there is room where it goes
+-- a plate in a zone is on its way: the posture gives the way, the receiver owns the zone, and the place where it goes
+-- is empty
 abbrev pub is_lawful_plate : Bool → Zone → ZoneState → Bool
 is_lawful_plate onto_full z v = implies v.flag (is_received_by v.owner (transfer_of z v.posture) && not onto_full)
 
 abbrev pub has_lawful_plate : PlaceSet → Zone → ZoneState → Bool
 has_lawful_plate full z v = is_lawful_plate (is_onto_full full (transfer_of z v.posture)) z v
 
--- what a guest owns isn't shut
+-- a zone that its guest owns is open
 abbrev pub is_open_to_guest : Zone → ZoneState → Bool
 is_open_to_guest z v = implies (is_owned_by v.owner (guest_of z)) (is_open v.posture)
 
--- a zone that moves belongs to the machine that hosts it
+-- a zone that moves belongs to its host
 abbrev pub moves_by_host : Zone → ZoneState → Bool
 moves_by_host z v = implies (same_posture v.posture Moving) (is_owned_by v.owner (host_of z))
 
--- the posture of a zone is one that the table of poses has for it; Closed needs no row
+-- the posture of a zone is Closed, or one that a pose of its host gives it
 abbrev pub is_given_by : Zone → Posture → Pose → Bool
 is_given_by z q p = option_eq same_posture (posture_of (host_of z) p z) (Some q)
 

@@ -15,6 +15,6 @@ flag_in digit = if is_flag digit then Some (digit == 49) else None
 abbrev pub places_in : List ℕ → Option (List Bool)
 places_in field = if (length field == 10) && list_all is_flag field then Some (map (λ digit. digit == 49) field) else None
 
--- at most six plates, not both places of the press, and a stamp that a state may have
+-- at most six plates, not both places of the press, and a stamp in range
 abbrev pub is_start : PlaceSet → ℕ → Bool
 is_start full stamp = nat_le (size_of full) 6 && not (has full PressIn && has full PressOut) && nat_le stamp last_stamp

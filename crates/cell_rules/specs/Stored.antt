@@ -9,7 +9,7 @@ use Rattle.cell_rules.specs.Sound.{IsSound}
 use Rattle.cell_rules.specs.Reply.{reply, next}
 use Rattle.cell_rules.specs.History.{after, IsLegal}
 
--- it is a legal history from a sound opening, and leads to the state
+-- the history is legal, begins in a sound opening, and leads to the state
 pub record IsHistory (opening state : ModelState) (history : List Event) : Type 0 where
   pub sound : IsSound opening
   pub legal : IsLegal opening history

@@ -1,4 +1,4 @@
--- What is so of the tables that the interlock makes use of: the poses that move, and the digits of a start.
+-- Laws of the tables that the interlock uses: the poses that move, and the digits of a start.
 use Rattle.std.specs.Prelude.{◌≡◌, Bool, true, false, [], ◌∷◌, Some, IsTrue}
 use Rattle.cell_types.specs.declared.machine.Machine.{Machine}
 use Rattle.cell_types.specs.declared.zone.Zone.{Zone}
@@ -23,7 +23,7 @@ pub record PosesThatMove : Type 0 where
   pub some_zone : (p : Pose) → IsTrue (is_moving_pose p) → (m : Machine) × (z : Zone) × (posture_of m p z ≡ Some Moving)
   pub no_other : (m : Machine) (p : Pose) (z : Zone) → posture_of m p z ≡ Some Moving → IsTrue (is_moving_pose p)
 
--- a set has exactly those of the ten places whose digits are set
+-- a set has exactly the places whose digits are set
 pub record HasDigits (full : PlaceSet) (a b c d e f g h i j : Bool) : Type 0 where
   pub feed_entry : has full FeedEntry ≡ a
   pub feed_end : has full FeedEnd ≡ b

@@ -35,7 +35,7 @@ put_zone map Z4 v = record map { at_z4 = v }
 put_zone map Z5 v = record map { at_z5 = v }
 put_zone map Z6 v = record map { at_z6 = v }
 
--- the map with each of these zones updated to what a function makes of it
+-- the map with each of these zones updated by a function
 abbrev pub put_each : (Zone → ZoneState → ZoneState) → List Zone → ZoneMap → ZoneMap
 put_each f [] map = map
 put_each f (z ∷ zs) map = put_each f zs (put_zone map z (f z (zone_in map z)))
@@ -47,6 +47,6 @@ map_zones f map = put_each f all_zones map
 abbrev pub free_zone : ZoneState
 free_zone = record { owner = None; flag = false; posture = Closed }
 
--- the map that has a value at every zone
+-- the map with one value at every zone
 abbrev pub everywhere : ZoneState → ZoneMap
 everywhere v = zone_map v v v v v v

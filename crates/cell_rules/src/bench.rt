@@ -7,10 +7,10 @@ use crate::state::State;
 use cell_types::{Call, Event, Machine, Reply};
 use std::alloc::Global;
 
-/// A sequential interlock that stores the state it opened with and its history.
+/// A sequential interlock that stores its history and the state that it opened with.
 ///
-/// It serves one caller at a time, whom [`Bench::seat`] chooses; at first that is the watch. Want of
-/// memory changes nothing but what was heard.
+/// It serves one caller at a time, chosen by [`Bench::seat`]; at first the watch. Out of memory
+/// changes nothing but what was heard.
 #[derive(Drop)]
 pub struct Bench {
     opening: State,
@@ -30,7 +30,7 @@ impl Bench {
     ghost use Rattle.cell_rules.specs.Benches.{BenchAsks};
     ghost use Rattle.cell_rules.specs.BenchView.{desk_of};
 
-    /// A bench that opens with this state. It takes no memory until the first call.
+    /// A bench that opens with this state. It allocates nothing until the first call.
     pub fn new(alloc: Global, opening: State) -> Bench
         ensures desk { desk_of result ≡ record { opening = opening; state = opening; history = []; machine = Machine.Watch; busy = false } }
         ensures heard { result.heard ≡ heard_nothing }
@@ -46,8 +46,8 @@ impl Bench {
         }
     }
 
-    /// Chooses who asks until the next seating, and whether those calls find the bench busy: they
-    /// are then answered `Busy`, one exchange lost, and none is made.
+    /// Chooses the caller until the next seating, and whether the caller finds the bench busy: its
+    /// calls are then not made, and answered `Busy` with one failed try.
     pub fn seat(&mut self, machine: Machine, busy: bool)
         ensures desk { desk_of self.new ≡ record (desk_of self.old) { machine = machine; busy = busy } }
         ensures heard { self.new.heard ≡ self.old.heard }
@@ -72,7 +72,7 @@ impl Bench {
         &self.history
     }
 
-    // The call itself, before it is heard.
+    // The call itself. `ask` then records it in `heard`.
     #[inline(always)]
     fn make(&mut self, call: Call) -> Result<Reply, LineFault>
         ensures asks { BenchAsks (desk_of self.old) call result (desk_of self.new) }
@@ -116,7 +116,7 @@ impl Line for Bench {
 
     ghost heard = { λ b. b.heard };
 
-    // Busy exactly where its seating said so, and what that leaves.
+    // What a call answers and leaves; Busy exactly if `seat` said so.
     ghost asks = { λ b call r d. BenchAsks (desk_of b) call r (desk_of d) };
 
     ghost sound = { λ b. ∥∥₁_elim b.kept (IsSound-prop b.opening) (λ k. k.sound) };
@@ -131,7 +131,7 @@ impl Line for Bench {
         self.heard
     }
 
-    // inline, so that what came back need not pass through memory
+    // inline, so that the answer need not pass through memory
     #[inline(always)]
     fn ask(&mut self, call: Call) -> Result<Reply, LineFault> {
         let answered = self.make(call);

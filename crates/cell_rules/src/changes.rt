@@ -70,7 +70,7 @@ impl Zones {
 }
 
 impl Places {
-    /// The set after a plate has gone from its giving place.
+    /// The set after a plate has left the giving place of its way.
     pub(crate) fn emptied(mut self, row: Option<Transfer>) -> Places
         ensures { result ≡ replies.emptied self row }
     {
@@ -80,7 +80,7 @@ impl Places {
         self
     }
 
-    /// The set after a plate has come to its receiving place.
+    /// The set after a plate has come to the receiving place of its way.
     pub(crate) fn filled(mut self, row: Option<Transfer>) -> Places
         ensures { result ≡ replies.filled self row }
     {

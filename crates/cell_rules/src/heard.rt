@@ -6,24 +6,24 @@ use cell_types::{Call, Reply};
 /// Why a line could not make a call.
 #[derive(Clone, Copy, Debug, PartialEq, Eq)]
 pub enum LineFault {
-    /// The room for the call's entry was refused, before anything had changed.
+    /// Memory ran out before anything had changed.
     Memory,
 }
 
 /// What came back from a call.
 pub type Answered = Result<Reply, LineFault>;
 
-/// What a line remembers of the calls that were asked.
+/// What a line remembers of its calls.
 #[derive(Clone, Copy, Debug, PartialEq, Eq)]
 pub struct Heard {
-    /// How many calls were asked, also those that were refused. It wraps round.
+    /// How many calls were asked, refused ones too. It wraps round.
     pub asks: u64,
     /// The last call, and what came back.
     pub last: Option<(Call, Answered)>,
 }
 
 impl Heard {
-    /// What is heard before the first call.
+    /// The value before the first call.
     pub fn nothing() -> Heard
         ensures { result ≡ heard_nothing }
     {
@@ -33,7 +33,7 @@ impl Heard {
         }
     }
 
-    /// What is heard once a call has come back.
+    /// The value after another call has come back.
     pub fn after(self, call: Call, answered: Answered) -> Heard
         ensures { result ≡ heard_after self call answered }
     {

@@ -1,6 +1,6 @@
-//! What is so on every legal history from a sound opening, and on each beginning of it: laws, in
-//! functions that do nothing. A history is the list of the events since the opening, oldest first.
-//! `let _ = &opening.stamp;` looks at the opening, so that it is known to be sound.
+//! Laws of every legal history from a sound opening, and of each prefix of it, each the contract of
+//! a function that does nothing. A history is the list of the events since the opening, oldest
+//! first. `let _ = &opening.stamp;` reads the opening, so the prover knows that it is sound.
 ghost use Rattle.std.specs.Prelude.{◌++◌};
 ghost use Rattle.cell_rules.specs.Sound.{IsSound};
 ghost use Rattle.cell_rules.specs.History.{IsLegal};
@@ -20,8 +20,8 @@ pub fn states_are_sound(state: &State)
     let _ = &state.stamp;
 }
 
-/// Two machines never hold the same zone. Who holds one is its host or its guest, and owns it in the
-/// state after the history, as only a holder does.
+/// Two machines never hold the same zone. Only a zone's host or guest can hold it, and exactly the
+/// holder owns it in the state after the history.
 pub fn one_holder(opening: &State, history: &[Event])
     requires { IsLegal opening.now history.now }
     ensures { Throughout (law.OneHolder opening.now) history.now }
@@ -37,7 +37,7 @@ pub fn mover_is_host(opening: &State, history: &[Event])
     let _ = &opening.stamp;
 }
 
-/// A zone that its guest holds is open by the events.
+/// If a zone's guest holds it, the zone is open, by the events.
 pub fn guest_only_while_open(opening: &State, history: &[Event])
     requires { IsLegal opening.now history.now }
     ensures { Throughout (law.GuestOnlyWhileOpen opening.now) history.now }
@@ -45,8 +45,8 @@ pub fn guest_only_while_open(opening: &State, history: &[Event])
     let _ = &opening.stamp;
 }
 
-/// By the events each place and each zone has one plate or none, as the state after the history has,
-/// and the number of plates never changes.
+/// Each place and each zone has one plate or none, counted by the events, and the state after the
+/// history says the same. The number of plates never changes.
 pub fn plates_are_kept(opening: &State, history: &[Event])
     requires { IsLegal opening.now history.now }
     ensures { Throughout (law.PlatesAreKept opening.now) history.now }
@@ -60,8 +60,8 @@ pub fn stamp_counts_changes(opening: &State, history: &[Event])
     ensures { Throughout (law.StampCountsChanges opening.now) history.now }
 {}
 
-/// The feed belt runs with a plate at its end only while feed holds z1, and the deposit belt only
-/// while its end is empty, where the opening keeps this.
+/// The feed belt runs with a plate at its end only while feed holds z1, and the deposit belt runs
+/// only while its end is empty, if the opening satisfies this.
 pub fn belts_run_clear(opening: &State, history: &[Event])
     requires legal { IsLegal opening.now history.now }
     requires clear { RunsClear opening.now }
@@ -70,14 +70,14 @@ pub fn belts_run_clear(opening: &State, history: &[Event])
     let _ = &opening.stamp;
 }
 
-/// Every start keeps what `belts_run_clear` asks of its opening.
+/// Every start satisfies what `belts_run_clear` asks of its opening.
 pub fn starts_run_clear(opening: &State)
     requires { IsStartState opening.now }
     ensures { RunsClear opening.now }
 {}
 
-/// What a machine holds stays held, with its posture and its flag, while other machines make the
-/// events; so do the machine's own places, and the postures of the zones that it hosts.
+/// While other machines make the events, a machine keeps each zone that it holds, with posture and
+/// flag, its own places, and the postures of the zones that it hosts.
 pub fn right_lasts(opening: &State, before: &[Event], more: &[Event])
     requires { IsLegal opening.now (before.now ++ more.now) }
     ensures { law.RightLasts opening.now before.now more.now }
@@ -85,7 +85,7 @@ pub fn right_lasts(opening: &State, before: &[Event], more: &[Event])
     let _ = &opening.stamp;
 }
 
-/// The posture by the events is that of the state after.
+/// The posture by the events is the one in the state after them.
 pub fn posture_by_events(opening: &State, history: &[Event])
     requires { IsLegal opening.now history.now }
     ensures { Throughout (law.PostureByEvents opening.now) history.now }
@@ -114,18 +114,18 @@ pub fn no_jump(opening: &State, history: &[Event])
     ensures { law.NoJump opening.now history.now }
 {}
 
-/// Who gives in a zone, yields it, takes from it or releases it, holds it.
+/// A machine holds the zone in which it gives, or which it yields, takes from or releases.
 pub fn handover_by_holder(opening: &State, history: &[Event])
     requires { IsLegal opening.now history.now }
     ensures { law.HandoverByHolder opening.now history.now }
 {}
 
-/// The Done events of a history are a machine's own and those of the others, and none is counted twice.
+/// The Done events of a history are a machine's own and those of the others, each counted once.
 pub fn changes_are_counted(history: &[Event])
     ensures { law.ChangesAreCounted history.now }
 {}
 
-/// The causes of the refusals in a history are there when they are answered.
+/// Each refusal in a history has its cause in the state at that point.
 pub fn refusals_tell_along(opening: &State, history: &[Event])
     requires { IsLegal opening.now history.now }
     ensures { RefusalsTellAlong opening.now history.now }
@@ -133,9 +133,9 @@ pub fn refusals_tell_along(opening: &State, history: &[Event])
     let _ = &opening.stamp;
 }
 
-/// On every sound state each refusal gives its cause, with whatever it names: its meaning in the table of
-/// refusals holds of the state. And if a cause is there, the call isn't Done: it is refused
-/// for this cause or for one that comes before it in the call's order.
+/// On every sound state each refusal has its cause: its meaning in the table of refusals holds of
+/// the state, with whatever the refusal names. And if a cause holds, the call isn't Done: it is
+/// refused for this cause, or for one that comes before it in the call's order.
 pub fn refusals_tell_causes()
     ensures { RefusalsTell }
 {}
@@ -150,12 +150,12 @@ pub fn digits_are_places()
     ensures { DigitsArePlaces }
 {}
 
-/// All of these of every legal history from any sound opening, also of one that no program stores.
+/// All these laws hold of every legal history from any sound opening, stored or not.
 pub fn lawful_histories()
     ensures { law.EveryLegalHistoryIsLawful }
 {}
 
-/// All of these, of each beginning of the history.
+/// All these laws hold of each prefix of the history.
 pub fn lawful_throughout(opening: &State, history: &[Event])
     requires { IsLegal opening.now history.now }
     ensures { law.LawfulThroughout opening.now history.now }

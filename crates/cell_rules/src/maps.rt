@@ -1,8 +1,9 @@
-//! That the map of the zones is a map and the set of the places a set: laws, in functions that do nothing.
+//! Laws, each the contract of a function that does nothing: the map of the zones is a map, and the
+//! set of the places is a set.
 ghost use Rattle.cell_rules.specs.MapLaws as law;
 
-/// Look-up after an update, at that zone and at another; two maps that agree at each zone are equal;
-/// and what each zone has where a function is mapped over them, or one value put everywhere.
+/// Look-up after an update, at that zone and at another; two maps with the same value at each zone
+/// are equal; and the values after mapping a function, or with one value everywhere.
 pub fn zones_are_a_map()
     ensures { law.ZonesAreAMap }
 {}

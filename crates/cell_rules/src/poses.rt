@@ -6,7 +6,7 @@ use crate::sound::is_onto_full;
 use crate::state::State;
 use cell_types::{Machine, Place, Pose, Posture, Refusal, Zone, host, posture_in, transfer, work};
 
-/// Whether a pose gives a zone of a machine a posture.
+/// Whether a machine has a pose: it gives some zone a posture.
 fn has_pose(machine: Machine, pose: Pose) -> bool
     ensures { result ≡ refusals.has_pose machine pose }
 {

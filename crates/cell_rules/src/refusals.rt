@@ -9,7 +9,7 @@ use cell_types::{
     Machine, Place, Pose, Posture, Refusal, Transfer, Zone, guest, host, posture_in, transfer,
 };
 
-// The first refusal of these. Each is looked for only where there is none before it.
+// The first refusal of these. Each is computed only if there is none before it.
 macro_rules! first {
     ($last:expr) => { $last };
     ($refusal:expr, $($more:expr),+) => {

@@ -1,4 +1,4 @@
-//! Whether zones, places and a stamp make a state.
+//! Whether zones, places and a stamp make a sound state.
 ghost use Rattle.std.specs.Prelude.{◌≡◌};
 ghost use Rattle.std.specs.List.{list_any};
 ghost use Rattle.cell_types.specs.Everything.{all_poses};

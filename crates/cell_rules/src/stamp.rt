@@ -1,2 +1,2 @@
-/// The last stamp: no call is done at it.
+/// The last stamp. No call is Done at it.
 pub const LAST_STAMP: u32 = 1_048_575;

@@ -6,7 +6,7 @@ ghost use Rattle.cell_rules.specs.StartDigits.{flag_in, places_in};
 /// How many places there are.
 pub const PLACES: usize = 10;
 
-/// Whether a place is full, by the digit 0 or 1.
+/// Whether a place is full, from the digit 0 or 1; `None` for any other byte.
 fn read_flag(digit: u8) -> Option<bool>
     ensures { result ≡ flag_in digit }
 {

@@ -43,8 +43,8 @@ pub enum StartFault {
 }
 
 impl State {
-    /// The start with these places and this stamp. `BadStart` where more than six places have plates, or
-    /// both of the press, or where the stamp is past the last one.
+    /// The start with these places and this stamp. `BadStart` if more than six places have plates,
+    /// or both of the press, or if the stamp is past the last one.
     pub fn start(places: [bool; 10], stamp: u32) -> Result<State, StartFault>
         ensures ok { IsOk result ↔ IsStart (places_of places) stamp }
         ensures value { IfOk result (λ s. s ≡ start_state (places_of places) stamp) }
@@ -112,7 +112,7 @@ impl State {
         at.flag
     }
 
-    /// What its host has made of a zone.
+    /// The posture of a zone.
     pub fn posture(&self, zone: Zone) -> Posture
         ensures { result ≡ posture_at self.now zone }
     {

@@ -17,14 +17,14 @@ pub struct ZoneState {
 }
 
 impl ZoneState {
-    /// The same with this owner.
+    /// The same zone state with this owner.
     pub(crate) fn owned_by(self, owner: Option<Machine>) -> ZoneState
         ensures { result ≡ record self { owner = owner } }
     {
         ZoneState { owner, ..self }
     }
 
-    /// The same with this flag.
+    /// The same zone state with this flag.
     pub(crate) fn flagged(self, flag: bool) -> ZoneState
         ensures { result ≡ record self { flag = flag } }
     {
@@ -87,7 +87,7 @@ impl Zones {
         }
     }
 
-    /// Puts a value at a zone, and leaves the others.
+    /// Sets the value at a zone, and leaves the others.
     pub fn set(&mut self, zone: Zone, value: ZoneState)
         ensures { self.new ≡ put_zone self.old zone value }
     {

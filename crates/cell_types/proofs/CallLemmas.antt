@@ -1,4 +1,4 @@
--- The calls that name a zone are told apart by their verbs.
+-- Verbs distinguish the calls that name a zone.
 use Rattle.std.proofs.Common.{ℕ, ◌≡◌, List, [], ◌∷◌, Some, refl, sym, ◌∙◌, ap, ◌↔◌, codes}
 use Rattle.std.specs.Str.{bytes_eq}
 use Rattle.cell_types.specs.declared.zone.Zone.{Zone}
@@ -35,6 +35,6 @@ written zone verb other (SetPose p) e = let pose : verb ≡ codes "pose" = cc in
 written zone verb other Advance e = cc
 written zone verb other (Inquire z) e = found Inquire zone z verb refl e
 
--- among the calls of a zone, verbs and calls belong together
+-- among a zone's calls, a verb determines the call, and the call its verb
 pub zone_call_read : (zone : Zone) (verb : List ℕ) → (verb ≡ codes "pose" → ⊥) → (call : Call) → (named verb_of (zone_calls zone) verb ≡ Some call) ↔ (verb ∷ zone_word zone ∷ [] ≡ call_fields call)
 zone_call_read zone verb other call = (told zone verb call, written zone verb other call)

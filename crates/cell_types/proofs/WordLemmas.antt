@@ -1,4 +1,4 @@
--- A word is that of no other value: who looks for it among all values finds the one that has it.
+-- No two values have the same word: a search for a word finds the value that has it.
 use Rattle.std.proofs.Common.{ℕ, ◌≡◌, Bool, true, false, cond, List, [], ◌∷◌, Some, refl, sym, ◌∙◌, ap, ◌↔◌}
 use Rattle.std.specs.List.{find}
 use Rattle.std.specs.Str.{bytes_eq}
@@ -25,7 +25,7 @@ passes p (y ∷ ys) x e =
       | false ↦ λ _ is. passes p ys x is
     ] refl e
 
--- what holds of each of some values
+-- something holds of each of some values
 abbrev pub Each : {X : Type 0} → (X → Type 0) → List X → Type 0
 Each Q [] = Unit {0}
 Each Q (x ∷ xs) = Q x × Each Q xs
@@ -42,7 +42,7 @@ holds_of_found Q p (y ∷ ys) each x e =
 pub has_word : {X : Type 0} (word_of : X → List ℕ) (all : List X) (word : List ℕ) (x : X) → named word_of all word ≡ Some x → word ≡ word_of x
 has_word word_of all word x e = sym ((bytes_eq-Decides (word_of x) word).0 (passes (λ y. bytes_eq (word_of y) word) all x e))
 
--- where each value is found by its word, it is found by no other
+-- if each value is found by its word, no other word finds it
 pub read_by : {X : Type 0} (word_of : X → List ℕ) (all : List X) → ((x : X) → named word_of all (word_of x) ≡ Some x) → (word : List ℕ) (x : X) → (named word_of all word ≡ Some x) ↔ (word ≡ word_of x)
 read_by word_of all found word x = (
   λ e. has_word word_of all word x e,

@@ -1,4 +1,4 @@
--- The fourteen numbers of the refusals, written out, and that they differ.
+-- The fourteen numbers of the refusals, written out, and that they are distinct.
 use Rattle.std.specs.Prelude.{◌≡◌, Bool, true, false, Option, IsTrue}
 use Rattle.cell_types.specs.declared.machine.Machine.{Machine}
 use Rattle.cell_types.specs.declared.zone.Zone.{Zone}
@@ -7,7 +7,7 @@ use Rattle.cell_types.specs.declared.answer.Refusal.{Refusal}
 use Rattle.cell_types.specs.declared.answer.Refusal.TheVariants.{NotParty, Held, AlreadyMine, Shut, NotOwner, PlateInZone, NoPlate, PlaceFull, WrongWay, Jump, NotAtWork, NoPose, Worn, InUse}
 use Rattle.cell_types.specs.Refusals.{number_of}
 
--- two refusals are the same, but perhaps for what they name
+-- two refusals differ in nothing but what they name
 abbrev pub is_same_but : Refusal → Refusal → Bool
 is_same_but NotParty NotParty = true
 is_same_but (Held _) (Held _) = true
@@ -25,7 +25,7 @@ is_same_but Worn Worn = true
 is_same_but InUse InUse = true
 is_same_but _ _ = false
 
--- whatever a refusal names, its number is that of the table, and no other refusal's
+-- a refusal's number is the table's, whatever it names, and no other refusal has it
 pub record NumbersOfRefusals : Type 0 where
   pub not_party : number_of NotParty ≡ 1
   pub held : (m : Machine) → number_of (Held m) ≡ 2

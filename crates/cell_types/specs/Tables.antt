@@ -1,4 +1,4 @@
--- The tables of the cell: who meets in a zone, the way of a plate through it, and what a pose makes of it.
+-- The tables of the cell: who meets in a zone, the way of a plate through it, and the postures that poses give it.
 use Rattle.std.specs.Prelude.{Option, Some, None}
 use Rattle.cell_types.specs.declared.machine.Machine.{Machine}
 use Rattle.cell_types.specs.declared.machine.Machine.TheVariants.{Feed, Robot, Press, Deposit, Table as TableMachine, Crane as CraneMachine}

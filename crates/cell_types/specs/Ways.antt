@@ -32,7 +32,8 @@ keeper_of DepEntry = Deposit
 keeper_of DepEnd = Deposit
 keeper_of Crane = CraneMachine
 
--- nobody gives in two rows of one zone, and nobody receives in two: a zone and its giver determine the place that is emptied, a zone and its receiver the one that is filled
+-- in one zone a machine gives in at most one row, so both determine the place that is emptied; it receives in at most
+-- one row, so both determine the place that is filled
 pub record OneRowEach : Type 0 where
   pub giver : (z : Zone) (q r : Posture) → IfSome (transfer_of z q) (λ a. IfSome (transfer_of z r) (λ b. a.giver ≡ b.giver → q ≡ r))
   pub receiver : (z : Zone) (q r : Posture) → IfSome (transfer_of z q) (λ a. IfSome (transfer_of z r) (λ b. a.receiver ≡ b.receiver → q ≡ r))
@@ -42,14 +43,14 @@ pub record JoinsKeepers : Type 0 where
   pub row : (z : Zone) (q : Posture) → IfSome (transfer_of z q) (λ row. (keeper_of row.from ≡ row.giver) × (keeper_of row.to ≡ row.receiver))
   pub work : (m : Machine) → IfSome (work_of m) (λ way. (keeper_of way.0 ≡ m) × (keeper_of way.1 ≡ m))
 
--- from where to where a row leads
+-- the places where a row begins and ends
 abbrev pub way_of : Transfer → Place × Place
 way_of row = (row.from, row.to)
 
 abbrev pub all_ways : List (Place × Place)
 all_ways = flat_map (λ z. filter_map (λ q. option_map way_of (transfer_of z q)) all_postures) all_zones ++ filter_map work_of all_machines
 
--- plates go round: each place is left by one way, and entered by one
+-- plates go round: exactly one way leaves each place, and one enters it
 pub record GoesRound : Type 0 where
   pub left : (p : Place) → count_by (λ way. same_place way.0 p) all_ways ≡ 1
   pub entered : (p : Place) → count_by (λ way. same_place way.1 p) all_ways ≡ 1

@@ -20,7 +20,7 @@ pub enum Refusal {
     AlreadyMine,
     /// The posture forbids the call.
     Shut(Posture),
-    /// The call needs a zone that somebody else owns, or nobody.
+    /// The caller doesn't own a zone that the call needs. This machine does, or nobody.
     NotOwner(Option<Machine>),
     /// A plate is in the zone.
     PlateInZone(Zone),
@@ -30,20 +30,20 @@ pub enum Refusal {
     PlaceFull,
     /// No plate goes this way while the zone has this posture.
     WrongWay,
-    /// Table or press would change its pose without having moved.
+    /// Table or press would change its pose without moving first.
     Jump,
     /// The machine isn't at work.
     NotAtWork,
-    /// The machine hasn't this pose, or can't move a plate on.
+    /// The machine doesn't have this pose, or can't move a plate on.
     NoPose,
-    /// All else would be Done, but the stamp has reached its last value.
+    /// The call would be Done, but the stamp has reached its last value.
     Worn,
     /// The feed belt runs with a plate at its end, and so may not leave the table's zone.
     InUse,
 }
 
 impl Refusal {
-    /// The refusals, each with whatever it may name, in the order of their numbers.
+    /// All refusals, with every value that each can name, in the order of their numbers.
     pub const ALL: [Refusal; 35] = [
         Refusal::NotParty,
         Refusal::Held(Machine::Feed),
@@ -82,7 +82,7 @@ impl Refusal {
         Refusal::InUse,
     ];
 
-    /// The number of the refusal: no two have the same, whatever they name.
+    /// The number of the refusal, which doesn't depend on what the refusal names.
     pub fn number(&self) -> u8
         ensures { result ≡ number_of self.now }
     {
@@ -104,7 +104,7 @@ impl Refusal {
         }
     }
 
-    /// The text of scripts and reports, with what the refusal names.
+    /// The refusal's text in scripts and reports, with what it names.
     pub fn word(self) -> &'static str
         ensures { result.now ≡ refusal_word self }
     {
@@ -126,7 +126,7 @@ impl Refusal {
         }
     }
 
-    /// The refusal of a text, or `None` for any other bytes.
+    /// The refusal with this text, or `None` if none has it.
     pub fn read(word: &[u8]) -> Option<Refusal>
         ensures { (refusal : Refusal) → (result ≡ Some refusal) ↔ (word.now ≡ refusal_word refusal) }
     {

@@ -27,7 +27,7 @@ pub enum Call {
 }
 
 impl Call {
-    /// The verb of scripts.
+    /// The call's verb in scripts.
     pub fn verb(self) -> &'static str
         ensures { result.now ≡ verb_of self }
     {

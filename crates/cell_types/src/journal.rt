@@ -1,4 +1,4 @@
-//! What each machine notes of the calls that were settled.
+//! What each machine notes of its settled calls.
 ghost use Rattle.std.specs.Prelude.{◌≡◌, []};
 ghost use Rattle.cell_types.specs.declared.machine.Machine.{Machine};
 ghost use Rattle.cell_types.specs.Journals.{journal_of};
@@ -7,8 +7,7 @@ use crate::answer::Answer;
 use crate::call::Call;
 use std::alloc::Global;
 
-/// A machine's note of a call that was settled: the call, its answer, and the stamp that the state has
-/// after it.
+/// A machine's note of a settled call: the call, its answer, and the stamp of the state after it.
 #[derive(Clone, Copy, Debug, PartialEq, Eq)]
 pub struct Entry {
     /// The call.
@@ -39,7 +38,8 @@ pub struct Journals {
 }
 
 impl Journals {
-    /// Seven empty journals. It takes no memory: each journal keeps the allocator for its entries.
+    /// Seven empty journals. It allocates nothing: each journal keeps the allocator for its
+    /// entries.
     pub fn new(alloc: Global) -> Journals
         ensures { (machine : Machine) → journal_of result machine ≡ [] }
     {

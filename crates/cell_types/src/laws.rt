@@ -1,8 +1,8 @@
-//! What is so of the tables: laws, in functions that do nothing.
+//! Laws of the tables, each the contract of a function that does nothing.
 ghost use Rattle.cell_types.specs.Numbers.{NumbersOfRefusals};
 ghost use Rattle.cell_types.specs.Ways.{GoesRound, JoinsKeepers, OneRowEach};
 
-/// Nobody gives in two rows of one zone, and nobody receives in two.
+/// In one zone a machine gives in at most one row, and receives in at most one.
 pub fn one_row_each()
     ensures { OneRowEach }
 {}
@@ -18,8 +18,8 @@ pub fn plates_go_round()
     ensures { GoesRound }
 {}
 
-/// The numbers of the refusals are 1 to 13 and 16, as the table has them, and no two refusals share one,
-/// but those that differ only in what they name.
+/// The numbers of the refusals are 1 to 13 and 16, as in the table. Two refusals share a number
+/// only if they differ in nothing but what they name.
 pub fn numbers_of_refusals()
     ensures { NumbersOfRefusals }
 {}

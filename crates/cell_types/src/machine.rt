@@ -18,7 +18,7 @@ pub enum Machine {
     Deposit,
     /// The travelling crane.
     Crane,
-    /// Whoever only looks on.
+    /// An observer, which only inquires.
     Watch,
 }
 
@@ -34,7 +34,7 @@ impl Machine {
         Machine::Watch,
     ];
 
-    /// The word of scripts and reports.
+    /// The machine's word in scripts and reports.
     pub fn word(self) -> &'static str
         ensures { result.now ≡ machine_word self }
     {
@@ -49,7 +49,7 @@ impl Machine {
         }
     }
 
-    /// The machine that a word names, or `None` for any other bytes.
+    /// The machine with this word, or `None` if none has it.
     pub fn read(word: &[u8]) -> Option<Machine>
         ensures { (machine : Machine) → (result ≡ Some machine) ↔ (word.now ≡ machine_word machine) }
     {

@@ -43,7 +43,7 @@ impl Place {
         Place::Crane,
     ];
 
-    /// The short name, by the order of the digits of a start.
+    /// The short name, p1 to p10, in the order of the digits of a start.
     pub fn word(self) -> &'static str
         ensures { result.now ≡ place_word self }
     {
@@ -61,7 +61,7 @@ impl Place {
         }
     }
 
-    /// The place that a short name means, or `None` for any other bytes.
+    /// The place with this short name, or `None` if none has it.
     pub fn read(word: &[u8]) -> Option<Place>
         ensures { (place : Place) → (result ≡ Some place) ↔ (word.now ≡ place_word place) }
     {

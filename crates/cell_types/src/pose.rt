@@ -49,7 +49,7 @@ impl Pose {
         Pose::Standing,
     ];
 
-    /// The word of scripts.
+    /// The pose's word in scripts.
     pub fn word(self) -> &'static str
         ensures { result.now ≡ pose_word self }
     {
@@ -69,7 +69,7 @@ impl Pose {
         }
     }
 
-    /// The pose that a word names, or `None` for any other bytes.
+    /// The pose with this word, or `None` if none has it.
     pub fn read(word: &[u8]) -> Option<Pose>
         ensures { (pose : Pose) → (result ≡ Some pose) ↔ (word.now ≡ pose_word pose) }
     {

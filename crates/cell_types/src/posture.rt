@@ -3,7 +3,7 @@ ghost use Rattle.cell_types.specs.Words.{posture_word};
 
 use crate::words::{Worded, named};
 
-/// What the host of a zone has made of it.
+/// The posture of a zone, which its host sets.
 #[derive(Clone, Copy, Debug, PartialEq, Eq)]
 pub enum Posture {
     /// The guest may not enter, and nothing moves.
@@ -25,7 +25,7 @@ impl Posture {
         Posture::OpenOut,
     ];
 
-    /// The word of scripts and reports.
+    /// The posture's word in scripts and reports.
     pub fn word(self) -> &'static str
         ensures { result.now ≡ posture_word self }
     {
@@ -37,7 +37,7 @@ impl Posture {
         }
     }
 
-    /// The posture that a word names, or `None` for any other bytes.
+    /// The posture with this word, or `None` if none has it.
     pub fn read(word: &[u8]) -> Option<Posture>
         ensures { (posture : Posture) → (result ≡ Some posture) ↔ (word.now ≡ posture_word posture) }
     {

@@ -1,4 +1,4 @@
-//! Who meets in a zone, the way of a plate through it, and what a pose makes of it.
+//! Who meets in a zone, the way of a plate through it, and the postures that poses give it.
 
 ghost use Rattle.std.specs.Prelude.{◌≡◌};
 ghost use Rattle.cell_types.specs.Tables.{host_of, guest_of, transfer_of, posture_of};
@@ -33,7 +33,7 @@ pub fn guest(zone: Zone) -> Machine
     }
 }
 
-/// The way of a plate through a zone in a posture; `None` where the zone isn't open so.
+/// The way of a plate through a zone in a posture; `None` if no plate can pass.
 pub fn transfer(zone: Zone, posture: Posture) -> Option<Transfer>
     ensures { result ≡ transfer_of zone posture }
 {

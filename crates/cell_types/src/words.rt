@@ -1,4 +1,4 @@
-//! How a value is found by its word.
+//! Finds a value by its word.
 ghost use Rattle.std.specs.Prelude.{◌≡◌};
 ghost use Rattle.cell_types.specs.Words as words;
 

@@ -5,7 +5,7 @@ use crate::machine::Machine;
 use crate::place::Place;
 use crate::words::{Worded, named};
 
-/// A space that two machines share: at any time one of them at most may be in it.
+/// A space that two machines share: at most one of them may be in it at a time.
 #[derive(Clone, Copy, Debug, PartialEq, Eq, PartialOrd, Ord)]
 pub enum Zone {
     /// From the feed belt to the table.
@@ -26,7 +26,7 @@ impl Zone {
     /// The zones, in order.
     pub const ALL: [Zone; 6] = [Zone::Z1, Zone::Z2, Zone::Z3, Zone::Z4, Zone::Z5, Zone::Z6];
 
-    /// The word of scripts and reports.
+    /// The zone's word in scripts and reports.
     pub fn word(self) -> &'static str
         ensures { result.now ≡ zone_word self }
     {
@@ -40,7 +40,7 @@ impl Zone {
         }
     }
 
-    /// The zone that a word names, or `None` for any other bytes.
+    /// The zone with this word, or `None` if none has it.
     pub fn read(word: &[u8]) -> Option<Zone>
         ensures { (zone : Zone) → (result ≡ Some zone) ↔ (word.now ≡ zone_word zone) }
     {

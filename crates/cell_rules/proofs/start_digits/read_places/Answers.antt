@@ -5,7 +5,7 @@ use Rattle.std.proofs.lemmas.Option.{cond_some}
 use Rattle.cell_rules.specs.StartDigits.{flag_in, is_flag, places_in}
 use Rattle.cell_rules.proofs.start_digits.read_places.Goals as goal
 
--- a digit more that is a flag
+-- another digit that is a flag
 flags_more : (field : List ℕ) (i : ℕ) → i < length field → is_flag (get_or field i 0) ≡ true → list_all is_flag (drop (i + 1) field) ≡ list_all is_flag (drop i field)
 flags_more field i lt flag = sym (ap (list_all is_flag) (drop_more field i 0 lt) ∙ ap (λ b. b && list_all is_flag (drop (i + 1) field)) flag)
 
