@@ -1,4 +1,4 @@
-//! A bench, which serves who is seated at it.
+//! A bench, and the machines that are seated at it.
 
 use cell_rules::{Answered, Bench, Heard, Line, LineFault, State};
 use cell_types::{Answer, Call, Event, Machine, Posture, Refusal, Reply, Zone};
@@ -17,7 +17,7 @@ const SHOWN: Answer = Answer::Shown {
 
 const HELD: Answer = Answer::Refused(Refusal::Held(Machine::Press));
 
-// Who is seated, whether it is to be told Busy, and the reply to its claim.
+// Who is seated, whether the bench is busy, and the reply to a claim.
 const SEATED: &[(Machine, bool, Answered)] = &[
     (Machine::Press, true, Ok(Reply::Busy { lost: 1, stamp: 7 })),
     (Machine::Press, false, Ok(Reply::Settled(Answer::Done, 8))),
@@ -49,7 +49,7 @@ fn is_opened(bench: &Bench, start: State) -> bool {
         && bench.history().is_empty()
 }
 
-/// Whether a machine that is seated is replied so to its claim of the press's zone.
+/// Whether a seated machine gets this reply to its claim of the press's zone.
 fn is_served(bench: &mut Bench, machine: Machine, is_busy: bool, reply: Answered) -> bool {
     bench.seat(machine, is_busy);
     bench.machine() == machine && bench.ask(CLAIM) == reply
@@ -80,7 +80,7 @@ fn a_bench_serves_who_is_seated(rt: HostRuntime) {
     assert!(rt; is_served_out(&bench));
 }
 
-/// Whether the bench, whose second call was answered so, has what that answer says.
+/// Whether the bench, after this answer to its second call, is as the answer says.
 fn is_kept(bench: &Bench, start: State, answered: Answered) -> bool {
     let heard = bench.heard();
     let is_right = match answered {
@@ -90,7 +90,7 @@ fn is_kept(bench: &Bench, start: State, answered: Answered) -> bool {
     is_right && heard.asks == 2 && heard.last == Some((CLAIM, answered))
 }
 
-// With memory this is an answered call. Run with its allocation refused, it is the other arm.
+// With memory the call is answered. The run with refused memory takes the other arm.
 #[test]
 fn want_of_memory_leaves_state_and_history(rt: HostRuntime) {
     let start = State::start(EMPTY, 0).expect(&rt, "a start without plates");

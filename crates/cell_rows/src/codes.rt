@@ -1,14 +1,14 @@
-//! Which words are a state's: all codes of each zone, and the bit of each place.
+//! Which words are a sound state's: all codes of each zone, and the bit of each place.
 
 use cell_rules::State;
 use cell_types::Place;
 use cell_word::{pack, unpack};
 
-// The word of a zone's code 1, the word of the full places, and for each code of the zone from 0 to 31
-// whether it is a state's while all other zones are free and Closed: `s` where it is. In each group of
-// eight codes the posture is the same, Closed, Moving, OpenIn, OpenOut. The first four of a group have
-// no plate in the zone, the others one, and in these four the owner is nobody, the host, the guest, and
-// the spare code.
+// The word of a zone's code 1, the word of the full places, and a letter for each code of the zone
+// from 0 to 31: `s` if the word is a sound state's while all other zones are free and Closed. Each
+// group of eight codes has one posture: Closed, Moving, OpenIn, OpenOut. The first four of a group
+// have no plate in the zone, the others have one. In each four the owner is nobody, the host, the
+// guest, and the spare code.
 const CODES: &[(u64, u64, &str)] = &[
     // z1, the table empty, then full
     (1, 0x00_0000_0000, "ss...... .s...... sss..s.. ........"),
@@ -85,7 +85,7 @@ const CODES: &[(u64, u64, &str)] = &[
         0x00_4000_0000,
         "ss...... .s...... sss..... ........",
     ),
-    // each zone, all places full but that of a forged plate in the press
+    // each zone, all places full except that of a forged plate
     (1, 0xF7_C000_0000, "ss...... .s...... sss..... ........"),
     (
         1 << 5,
@@ -114,7 +114,7 @@ const CODES: &[(u64, u64, &str)] = &[
     ),
 ];
 
-/// Whether a word is a state's, and packed again is that word.
+/// Whether a word is a sound state's, and packs to itself again.
 fn is_a_states(word: u64) -> bool {
     unpack(word).is_some_and(|state| pack(&state) == word)
 }
@@ -141,7 +141,7 @@ fn codes_of_zones(rt: HostRuntime) {
     }
 }
 
-// The starts of one plate: its place, which the digit at the row's number tells, and the word.
+// The starts with one plate: its place, given by the digit with the row's number, and the word.
 const ALONE: &[(Place, u64)] = &[
     (Place::FeedEntry, 0x0000_0000_4000_0000),
     (Place::FeedEnd, 0x0000_0000_8000_0000),
@@ -155,7 +155,7 @@ const ALONE: &[(Place, u64)] = &[
     (Place::Crane, 0x0000_0080_0000_0000),
 ];
 
-/// Whether the start with a plate at the digit of this number has it in this place alone, and this word.
+/// Whether a start with this digit set has a plate only at this place, and has this word.
 fn is_alone(number: usize, place: Place, word: u64) -> bool {
     let mut places = [false; 10];
     match places.get_mut(number) {

@@ -1,5 +1,5 @@
-//! Worked rows of the names, the interlock, its word and the calibrations, by public calls alone. What
-//! each row has to come to was worked out from the rules of the cell, and never by the program.
+//! Tests of the names, the interlock, its word and the calibrations, by public calls only. The
+//! wanted values were worked out from the rules of the cell, never by the program.
 #![tactic(auto)]
 
 #[cfg(test)]

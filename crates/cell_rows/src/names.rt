@@ -119,7 +119,7 @@ fn words(rt: HostRuntime) {
     }
 }
 
-// The fourteen numbers of refusals; the two of those that aren't used stand free.
+// The fourteen numbers of the refusals; 14 and 15 aren't used.
 const REFUSALS: &[(u8, Refusal, &str)] = &[
     (1, Refusal::NotParty, "notparty"),
     (2, Refusal::Held(Machine::Press), "held press"),

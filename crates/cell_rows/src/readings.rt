@@ -7,7 +7,7 @@ use cell_calib::{
 };
 use std::process::Abort;
 
-// What a controller does with a calibration: keeps it in a struct of its own, and reads.
+// Uses a calibration as a controller does: keeps it in a struct of its own, and reads.
 #[derive(Drop)]
 struct Meter<F: Gauge> {
     calibration: Calibration<F>,
@@ -24,7 +24,7 @@ impl<F: Gauge> Meter<F> {
     }
 }
 
-// Keeps a closure, and reads by it at each raw value.
+// Keeps a gauge, and reads with it at each raw value.
 fn expect_readings<F: Gauge>(
     rt: &impl Abort,
     gauge: F,

@@ -1,4 +1,4 @@
-//! Starts, sound states, one plate's way round, and refusals.
+//! Starts, sound states, one plate's way round the cell, and refusals.
 
 use cell_rules::{StartFault, State, answer, apply};
 use cell_types::{Answer, Call, Machine, Place, Pose, Posture, Refusal, Zone};
@@ -25,7 +25,7 @@ const NO_STARTS: &[([bool; 10], u32)] = &[
         ],
         0,
     ),
-    // a stamp behind the last
+    // a stamp past the last one
     (EMPTY, 1_048_576),
 ];
 
@@ -52,8 +52,8 @@ fn starts(rt: HostRuntime) {
     assert!(rt; is_right);
 }
 
-/// Who owns z1 where it is this machine's while all else is as at the start, or `None` where no sound
-/// state is so.
+/// The owner of z1 if this machine owns it and all else is as at the start; `None` if no sound
+/// state is such.
 fn checked_owner(machine: Machine) -> Option<Option<Machine>> {
     let state = State::start(AT_ENTRY, 7).ok()?;
     let mut zones = state.zones();
@@ -129,7 +129,7 @@ const ROUND: [(Machine, Call); 55] = [
     (Machine::Deposit, Call::Release(Zone::Z5)),
 ];
 
-/// Whether a call is Done, and the stamp after it is this one, and the plates are one.
+/// Whether a call is Done, with this stamp and one plate after it.
 fn is_done(state: &mut State, machine: Machine, call: Call, stamp: u32) -> bool {
     apply(state, machine, call) == Answer::Done && state.stamp() == stamp && state.plates() == 1
 }
@@ -177,7 +177,7 @@ const REFUSED: &[(Machine, Call, Refusal)] = &[
     ),
 ];
 
-/// Whether a call is refused so and leaves the state as it was.
+/// Whether a call gets this refusal and leaves the state as it was.
 fn is_refused(start: State, machine: Machine, call: Call, refusal: Refusal) -> bool {
     let mut state = start;
     answer(&state, machine, call) == Answer::Refused(refusal)

@@ -1,4 +1,4 @@
-//! Who meets in a zone, the way of a plate through it, and what each pose makes of it.
+//! Who meets in a zone, the way of a plate through it, and the postures that poses give it.
 
 use cell_types::{
     Machine, Place, Pose, Posture, Transfer, Zone, guest, host, posture_in, transfer,
@@ -14,7 +14,7 @@ fn posture_of_letter(letter: u8) -> Option<Posture> {
     }
 }
 
-// For each machine a row for each pose, and in it a letter for each zone.
+// For each machine a row for each pose, with a letter for each zone.
 const POSTURES: &[(Machine, &[&str])] = &[
     (
         Machine::Feed,
@@ -67,7 +67,7 @@ const POSTURES: &[(Machine, &[&str])] = &[
     ),
 ];
 
-/// In how many zones a pose makes what the letters say.
+/// In how many zones a pose gives the posture of the letter.
 fn agreeing(machine: Machine, pose: Pose, row: &str) -> u32 {
     let mut cells = 0u32;
     for (zone, letter) in Zone::ALL.iter().zip(row.bytes()) {
@@ -78,7 +78,7 @@ fn agreeing(machine: Machine, pose: Pose, row: &str) -> u32 {
     cells
 }
 
-/// In how many cells the rows of a machine are right, of six zones in twelve poses.
+/// How many cells of a machine's rows are right, of six zones in twelve poses.
 fn right_of(machine: Machine, rows: &[&str]) -> u32 {
     let mut cells = 0u32;
     for (pose, row) in Pose::ALL.iter().zip(rows) {
@@ -95,10 +95,10 @@ fn postures_of_poses(rt: HostRuntime) {
     assert!(rt; POSTURES.len() == 7);
 }
 
-/// Who gives, who receives, and from where to where.
+/// Giver, receiver, and the places where a row begins and ends.
 type Way = (Machine, Machine, Place, Place);
 
-// For each zone its host, its guest, and the way of a plate while it is open inward, and outward.
+// For each zone its host, its guest, and the row while it is open inward, and outward.
 const MEETINGS: &[(Zone, Machine, Machine, Option<Way>, Option<Way>)] = &[
     (
         Zone::Z1,

@@ -39,7 +39,7 @@ const RUNNING: [(Machine, Call); 3] = [
     (Machine::Feed, Call::Advance),
 ];
 
-// The full places of a start, calls and how many of them are made, and the word that they leave.
+// The full places of a start, some calls, how many of them are made, and the word after these.
 const WORDS: &[([bool; 10], &[(Machine, Call)], usize, u64)] = &[
     (EMPTY, &LOADING, 0, 0x0000_0000_0000_0000),
     (AT_FEED_END, &LOADING, 0, 0x0000_0000_8000_0000),
@@ -51,7 +51,7 @@ const WORDS: &[([bool; 10], &[(Machine, Call)], usize, u64)] = &[
     (AT_FEED_ENTRY, &RUNNING, 3, 0x0000_0300_8200_0000),
 ];
 
-/// The state and the word that calls leave, each of which is Done.
+/// The state and the word after some calls, all of them Done.
 fn after(places: [bool; 10], calls: &[(Machine, Call)], count: usize) -> Option<(State, u64)> {
     let mut state = State::start(places, 0).ok()?;
     let mut word = pack(&state);
@@ -87,7 +87,7 @@ const GIVEN: ZoneState = ZoneState {
     posture: Posture::OpenIn,
 };
 
-/// Whether a word tells a state in which a plate comes to the table.
+/// Whether a word is that of a state in which a plate is on its way to the table.
 fn comes_to_the_table(word: u64) -> bool {
     match unpack(word) {
         Some(state) => {

@@ -1,4 +1,5 @@
--- Histories: lists of events, the oldest first. Each definition over a history takes the opening, the state that it begins with.
+-- Histories: lists of events, the oldest first. Each definition over a history takes the opening, the state that it
+-- begins with.
 use Rattle.std.specs.Prelude.{◌≡◌, ℕ, ◌+◌, ℤ, pos, ◌-ℤ◌, Bool, true, false, ◌&&◌, not, ◌⊎◌, List, [], ◌∷◌, ◌++◌, filter, count_by, All, unwrap_or, if◌then◌else◌, Option, Some, None, option_map, IsTrue, ⊤}
 use Rattle.std.specs.Option.{option_or}
 use Rattle.cell_types.specs.declared.place.Place.{Place}
@@ -89,7 +90,8 @@ pub record GainsAndKeeps (history : List Event) (m : Machine) (z : Zone) : Type 
   pub gained : IsGain gain m z
   pub kept : LosesNothing since m z
 
--- a machine holds a zone after a history: it owned it in the opening and hasn't lost it, or has gained it and not lost it since
+-- a machine holds a zone after a history: it owned it in the opening and hasn't lost it, or has gained it and not lost
+-- it since
 abbrev pub Holds : ModelState → List Event → Machine → Zone → Type 0
 Holds s history m z = (IsTrue (owns s m z) × LosesNothing history m z) ⊎ GainsAndKeeps history m z
 

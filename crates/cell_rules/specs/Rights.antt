@@ -17,8 +17,8 @@ use Rattle.cell_types.specs.Ways.{keeper_of}
 use Rattle.cell_rules.specs.ModelState.{ModelState, zone_at, is_full}
 use Rattle.cell_rules.specs.History.{after, Holds, posture_by_events}
 
--- from one history to a longer one a machine keeps each zone that it held, with its owner, flag and posture; the plates in its own places; and
--- the postures of the zones that it hosts
+-- from one history to a longer one a machine keeps each zone that it held, with owner, flag and posture; its own
+-- places; and the postures of the zones that it hosts
 pub record KeepsItsOwn (s : ModelState) (m : Machine) (before now : List Event) : Type 0 where
   pub held : (z : Zone) → Holds s before m z → Holds s now m z
   pub zone : (z : Zone) → Holds s before m z → zone_at (after s now) z ≡ zone_at (after s before) z

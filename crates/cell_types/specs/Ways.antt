@@ -38,7 +38,8 @@ pub record OneRowEach : Type 0 where
   pub giver : (z : Zone) (q r : Posture) → IfSome (transfer_of z q) (λ a. IfSome (transfer_of z r) (λ b. a.giver ≡ b.giver → q ≡ r))
   pub receiver : (z : Zone) (q r : Posture) → IfSome (transfer_of z q) (λ a. IfSome (transfer_of z r) (λ b. a.receiver ≡ b.receiver → q ≡ r))
 
--- a row leads from a place of its giver to a place of its receiver, and work from a place of the machine to another of its own
+-- a row leads from a place of its giver to one of its receiver, and work from a place of the machine to another of its
+-- own
 pub record JoinsKeepers : Type 0 where
   pub row : (z : Zone) (q : Posture) → IfSome (transfer_of z q) (λ row. (keeper_of row.from ≡ row.giver) × (keeper_of row.to ≡ row.receiver))
   pub work : (m : Machine) → IfSome (work_of m) (λ way. (keeper_of way.0 ≡ m) × (keeper_of way.1 ≡ m))

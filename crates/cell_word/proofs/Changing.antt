@@ -1,4 +1,4 @@
--- What a call that is Done writes is what it changes.
+-- What a Done call writes is what it changes.
 use Rattle.std.proofs.Common.{◌≡◌, ℕ, ◌+◌, ◌*◌, ◌^◌, ◌<◌, Bool, true, false, cond, ◌||◌, ◌&&◌, not, nat_eq, nat_lt, Option, Some, None, is_none, is_some, unwrap_or, refl, sym, ap, ap₂, ◌∙◌, arith, eqb-true, ltb-true, if◌then◌else◌}
 use Rattle.std.specs.Prelude.{bit_and, bit_or}
 use Rattle.std.proofs.lemmas.Nat.{and_mask, or_comm, or_shifted}
@@ -58,7 +58,7 @@ leaves_zone p z = writes_at p (zone_bit z) 5 31 0
 abbrev leaves_place : Pattern → Place → Bool
 leaves_place p at = writes_at p (place_bit at) 1 1 0
 
--- the stamp and what is above it are left
+-- the stamp and the bits above it are unchanged
 abbrev is_low : Pattern → Bool
 is_low p = nat_lt p.mask 0x10000000000 && nat_lt p.wanted 0x10000000000
 
@@ -81,7 +81,7 @@ zone_left p z v e = by_bits p (zone_bit z) 5 31 0 (zone_code z v) e ∙ unchange
 place_left : (p : Pattern) (at : Place) (b : Bool) → leaves_place p at ≡ true → in_place p at (one_if b) ≡ one_if b
 place_left p at b e = by_bits p (place_bit at) 1 1 0 (one_if b) e ∙ unchanged (one_if b) 1 (flag_fits b)
 
--- the three low bits are kept, and a posture is set
+-- the three low bits are unchanged, and a posture is set
 abbrev poses_zone : Pattern → Zone → Posture → Bool
 poses_zone p z q = writes_at p (zone_bit z) 5 7 (8 * posture_code q)
 
@@ -191,7 +191,7 @@ release_written s sound m z e =
     (zones_by may_release released Release release_table s sound m z done.0)
     (λ at. place_left (written m (Release z)) at (is_full s at) (leaves_for Release refl m z at))
 
--- Give empties the place where its way begins
+-- Give empties the place where its row begins
 abbrev given : Machine → Zone → ZoneState → ZoneState
 given m z v = record v { owner = Some (other_party m z); flag = true }
 
@@ -236,7 +236,7 @@ give_written s sound m z e =
     (zones_by may_give given Give give_table s sound m z done.0)
     (λ at. at_place at ∙ ap (λ row. one_if (emptied_at row at (is_full s at))) (sym same) ∙ ap one_if (sym (emptied_has s.full gift at)))
 
--- Take fills the place where its way ends
+-- Take fills the place where its row ends
 abbrev taken : Machine → Zone → ZoneState → ZoneState
 taken m z v = record v { flag = false }
 

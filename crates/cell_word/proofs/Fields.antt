@@ -1,4 +1,4 @@
--- Fields that stand side by side read back from their word.
+-- Fields side by side read back from their word.
 use Rattle.std.proofs.Common.{◌≡◌, ℕ, ◌+◌, ◌*◌, ◌/◌, ◌<◌, ◌^◌, List, [], ◌∷◌, sym, ap, ◌∙◌, subst, arith}
 use Rattle.std.specs.List.{All}
 use Rattle.std.proofs.Math.Nat.{add-mul, add_assoc, mul_assoc, mul_comm}
@@ -33,7 +33,7 @@ word-stacked start end (f ∷ fs) side =
     ∙ ap (λ n. f.value * 2 ^ start + n) (upper ∙ ap (λ n. stacked fs * n) (pow-add 2 start f.width))
     ∙ arranged (stacked fs) (2 ^ f.width) (2 ^ start) f.value
 
--- a field over lower bits keeps them below the next field
+-- a field above lower bits keeps the sum below the next field
 pub next_bound : (low v start width : ℕ) → low < 2 ^ start → v < 2 ^ width → low + v * 2 ^ start < 2 ^ (start + width)
 next_bound low v start width below fits =
     let power : 2 ^ (start + width) ≡ 2 ^ start * 2 ^ width = pow-add 2 start width in
@@ -43,7 +43,7 @@ next_bound low v start width below fits =
 same_word : (low start : ℕ) (f : Field) (fs : List Field) → f.lowest ≡ start → low + f.value * 2 ^ start + word_of fs ≡ low + word_of (f ∷ fs)
 same_word low start f fs e = add_assoc low (f.value * 2 ^ start) (word_of fs) ∙ ap (λ n. low + n) (sym (word-cons start f fs e))
 
--- over lower bits the fields end where the last of them does
+-- above lower bits the fields end where the last one does
 pub word_below : (start end low : ℕ) (fs : List Field) → SideBySide start end fs → All Fits fs → low < 2 ^ start → low + word_of fs < 2 ^ end
 word_below start end low [] side fits below = subst (λ n. low + 0 < 2 ^ n) side (omega arith)
 word_below start end low (f ∷ fs) side fits below =
@@ -58,7 +58,7 @@ lowest_back start width low v upper below fits =
     let turned : low + (upper * 2 ^ width + v) * 2 ^ start ≡ (upper * 2 ^ width + v) * 2 ^ start + low = omega arith in
     rw turned (rw high (mod_low upper width v fits))
 
--- and so does each
+-- and so does each field
 pub all_back : (start end low : ℕ) (fs : List Field) → SideBySide start end fs → All Fits fs → low < 2 ^ start → All (ReadsBack (low + word_of fs)) fs
 all_back start end low [] side fits below = All-nil (ReadsBack (low + word_of []))
 all_back start end low (f ∷ fs) side fits below =

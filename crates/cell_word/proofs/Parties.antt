@@ -55,7 +55,7 @@ other_of_party Z5 Guest = refl
 other_of_party Z6 Host = refl
 other_of_party Z6 Guest = refl
 
--- who is the other, of a machine that is the party on a side
+-- the other party, of the machine on a side
 pub other_is : (m : Machine) (z : Zone) (s : Side) → m ≡ party_of z s → other_party m z ≡ party_of z (other_side s)
 other_is m z s e = ap (λ m. other_party m z) e ∙ other_of_party z s
 

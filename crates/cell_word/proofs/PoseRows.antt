@@ -56,7 +56,7 @@ posed_seen row here table s sound z q =
     ∙ ap (λ w. first_refusal w (row z q)) (zone_shown s sound z)
     ∙ one_answer (first_refusal (zone_word z v) (row z q)) (here z q v) same
 
--- whether a zone is moving to, or gets another posture: a zone that moves already is its host's, and clear
+-- whether a zone is to move, or gets another posture: a zone that moves already is its host's, and free of plates
 abbrev turned : Bool → Posture → ZoneState → Bool
 turned moving q v = (moving && same_posture q Moving) || not (same_posture q v.posture)
 
@@ -191,7 +191,7 @@ room_seen s sound z p tests =
     ∙ one_answer (first_refusal (bit_or (zone_word z v) (place_word p full)) row) (room_here z v full)
     (from_bools (room_test z p v) (from_states (λ v. all_bools (room_test z p v)) (and_right (all_within window row) (all_states (λ v. all_bools (room_test z p v))) tests) v) full)
 
--- what comes after the places inside a zone
+-- what the places inside a zone refuse
 abbrev blocked_at : ModelState → Zone → Option Refusal
 blocked_at s z = then_some (not (same_posture (Refusals.posture_at s z) OpenIn) && Refusals.is_blocked s z) PlaceFull
 

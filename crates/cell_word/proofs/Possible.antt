@@ -68,14 +68,14 @@ from_calls P e =
     (and_left (each P Take) (each P Release && poses_on P) takes) (and_left (each P Release) (poses_on P) releases) (and_left (all_poses (λ p. P (SetPose p))) (P Advance && each P Inquire) poses)
     (and_left (P Advance) (each P Inquire) works) (and_right (P Advance) (each P Inquire) works)
 
--- ---- states in which a call finds all that it needs
+-- ---- states in which a call finds what it needs
 abbrev at : Option Machine → Bool → Posture → ZoneState
 at o f q = record { owner = o; flag = f; posture = q }
 
 abbrev with_zone : Zone → ZoneState → PlaceSet → ModelState
 with_zone z v full = model_state (put_zone (everywhere free_zone) z v) full 0
 
--- the way in which a row leads, if there is one, and else the other
+-- inward if there is such a row, and else outward
 abbrev way_of : Option Transfer → Posture
 way_of row = if is_some row then OpenIn else OpenOut
 
@@ -135,7 +135,7 @@ never_written m c never =
     untouched (written m c) (writes_nothing (written m c)) (may_be_done s m c) refl (from_calls (possible_test m) (from_machines (λ m. all_calls (possible_test m)) possible_table m) c)
     (λ e. never s (sound_by_test s (and_left (is_sound s) (is_done (reply s m c)) e)) (done (reply s m c) (and_right (is_sound s) (is_done (reply s m c)) e)))
 
--- no call writes into the stamp, or above it
+-- no call writes into the stamp or above it
 abbrev low_test : Machine → Call → Bool
 low_test m c = nat_lt (written m c).mask 0x10000000000 && nat_lt (written m c).wanted 0x10000000000
 

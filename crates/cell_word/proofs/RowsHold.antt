@@ -1,4 +1,4 @@
--- On the word of a sound state the guards of each machine and call are its refusals, in their order.
+-- On a sound state's word the guards of each machine and call are its refusals, in their order.
 use Rattle.std.proofs.Common.{◌≡◌, Bool, true, refl}
 use Rattle.cell_types.specs.declared.machine.Machine.{Machine}
 use Rattle.cell_types.specs.declared.call.Call.{Call}
@@ -24,7 +24,7 @@ rows_hold s sound m (SetPose p) = pose_rows s sound m p
 rows_hold s sound m Advance = advance_rows s sound m
 rows_hold s sound m (Inquire z) = refl
 
--- and the guards of a row stand in that order
+-- and the guards of a row are in that order
 abbrev ordered_test : Machine → Call → Bool
 ordered_test m c = is_ordered (order_of c) (numbers_of (row_of m c))
 

@@ -1,4 +1,4 @@
--- Whether two refusals are the same, or two rows of transfers, as a test.
+-- Tests whether two refusals, or two rows of transfers, are the same.
 use Rattle.std.proofs.Common.{◌≡◌, Bool, true, false, ◌&&◌, not, Option, Some, None, refl, ap}
 use Rattle.cell_types.specs.declared.machine.Machine.{Machine}
 use Rattle.cell_types.specs.declared.zone.Transfer.{Transfer}

@@ -1,4 +1,4 @@
--- A word is a sound state's exactly where the masks say so.
+-- A word is a sound state's exactly if the masks say so.
 use Rattle.std.proofs.Common.{◌≡◌, ℕ, zero, suc, ◌+◌, ◌*◌, ◌/◌, ◌%◌, ◌^◌, ◌<◌, ◌≤◌, Bool, true, false, ◌&&◌, not, nat_eq, Option, Some, None, refl, sym, ap, ap₂, ◌∙◌, arith, eqb-true, eq-eqb}
 use Rattle.std.specs.Prelude.{bit_and, bit_or}
 use Rattle.std.specs.List.{list_all}
@@ -190,7 +190,7 @@ plate_by true true false e h = refl
 plate_by true true true e h = cc
 plate_by true false o e h = cc
 
--- a zone that is shut has no row
+-- a shut zone has no row
 no_row_closed : (z : Zone) → transfer_of z Closed ≡ None
 no_row_closed Z1 = refl
 no_row_closed Z2 = refl

@@ -1,4 +1,4 @@
--- A row of guards is looked at part by part.
+-- A row of guards is tested part by part.
 use Rattle.std.proofs.Common.{◌≡◌, ℕ, Option, Some, None, Result, Ok, Err, List, [], ◌∷◌, ◌++◌, refl, ap, ◌∙◌}
 use Rattle.std.specs.Option.{option_or}
 use Rattle.cell_types.specs.declared.answer.Refusal.{Refusal}
@@ -6,7 +6,7 @@ use Rattle.cell_word.specs.Rows.{first_refusal, unless, checked}
 use Rattle.cell_word.specs.declared.patterns.Guard.{Guard}
 use Rattle.cell_word.proofs.Windows.{first-append}
 
--- what comes of two parts
+-- the result of two parts
 unfoldable pub then : {A : Type 0} → Result (Unit {0}) Refusal → Result A Refusal → Result A Refusal
 then (Ok u) y = y
 then (Err r) y = Err r
@@ -27,7 +27,7 @@ either (Some r) b p = refl
 pub in_parts : {A : Type 0} (w : ℕ) (a b : List Guard) (p : A) → unless (first_refusal w (a ++ b)) p ≡ then (checked w a) (unless (first_refusal w b) p)
 in_parts w a b p = ap (λ o. unless o p) (first-append w a b) ∙ either (first_refusal w a) (first_refusal w b) p
 
--- the row of some parts, and what comes of them
+-- the row that the parts make, and its result
 abbrev pub joined : List (List Guard) → List Guard
 joined [] = []
 joined (part ∷ parts) = part ++ joined parts
@@ -40,7 +40,7 @@ pub by_parts : {A : Type 0} (w : ℕ) (parts : List (List Guard)) (p : A) → un
 by_parts w [] p = refl
 by_parts w (part ∷ parts) p = in_parts w part (joined parts) p ∙ ap (then (checked w part)) (by_parts w parts p)
 
--- what is known of a row
+-- what a row's result shows
 pub was_refused : {A : Type 0} (o : Option Refusal) (p : A) (r : Refusal) → unless o p ≡ Err r → o ≡ Some r
 was_refused None p r e = cc
 was_refused (Some x) p r e = cc

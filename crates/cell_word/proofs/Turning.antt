@@ -1,4 +1,4 @@
--- A zone has another posture where a bit of its posture is another.
+-- A zone has another posture if a bit of its posture differs.
 use Rattle.std.proofs.Common.{◌≡◌, ℕ, ◌+◌, ◌-◌, ◌*◌, ◌/◌, ◌^◌, Bool, true, false, ◌&&◌, cond, nat_eq, Option, Some, None, is_some, option_map, Result, Ok, Err, List, [], ◌∷◌, map, refl, sym, ap, ap₂, ◌∙◌, arith}
 use Rattle.std.specs.Prelude.{bit_and, bit_or}
 use Rattle.std.proofs.lemmas.Nat.{mod_below}
@@ -27,7 +27,7 @@ use Rattle.cell_word.proofs.Windows.{and_or, first-window, stands-window, all_wi
 use Rattle.cell_word.proofs.Seen.{zone_window}
 use Rattle.cell_word.proofs.ZoneRows.{blind, and_zero}
 
--- ---- rows of which no guard refuses where a pattern stands, by what a window shows
+-- ---- rows whose guards all pass if a pattern matches, shown through a window
 abbrev but : Pattern → List Guard → ℕ → Option Refusal
 but p short w = cond (stands w p) None (first_refusal w short)
 
@@ -87,7 +87,7 @@ owner_table = refl
 pub host_turns : (w : ℕ) (z : Zone) (q : Posture) → checked w (rows.owner_guards z q) ≡ cond (stands w (posture_is z q)) (Ok tt) (checked w (rows.unowned z ∷ rows.anothers z (guest_of z) ∷ []))
 host_turns w z q = but_checked w (posture_is z q) (rows.owner_guards z q) (host_guards z q) (turned rows.owner_guards host_guards owner_table w z q)
 
--- and clear of plates
+-- and free of plates
 abbrev clear_guards : Zone → Posture → List Guard
 clear_guards z q = rows.plate_in z ∷ []
 
@@ -97,7 +97,7 @@ plate_table = refl
 pub turns_clear : (w : ℕ) (z : Zone) (q : Posture) → checked w (rows.plate_guards z q) ≡ cond (stands w (posture_is z q)) (Ok tt) (checked w (rows.plate_in z ∷ []))
 turns_clear w z q = but_checked w (posture_is z q) (rows.plate_guards z q) (clear_guards z q) (turned rows.plate_guards clear_guards plate_table w z q)
 
--- where a zone has to have a posture, any other refuses
+-- if a zone has to have a posture, any other refuses
 abbrev differing : Refusal → Zone → Posture → List Guard
 differing r z q = rows.low_refuses z q r ∷ rows.high_refuses z q r ∷ []
 

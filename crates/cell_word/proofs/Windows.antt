@@ -1,4 +1,4 @@
--- A row of guards sees of a word no bits but those under its masks.
+-- A row of guards sees only the bits of a word under its masks.
 use Rattle.std.proofs.Common.{◌≡◌, inl, inr, ℕ, zero, suc, ◌+◌, ◌-◌, ◌*◌, ◌/◌, ◌%◌, ◌^◌, ◌<◌, min, max, Bool, true, false, ◌&&◌, cond, nat_eq, Option, Some, option_map, List, [], ◌∷◌, ◌++◌, refl, sym, ap, ◌∙◌, subst, arith, eqb-true, eq-eqb, ne_eqb}
 use Rattle.std.specs.Prelude.{bit_and, bit_or}
 use Rattle.std.proofs.lemmas.Bool.{cases_lt, eqb-false}
@@ -83,7 +83,7 @@ five a = omega arith
 pub five_bits : (w k : ℕ) → bits_of w k 5 ≡ bits_of w k 2 + 4 * bits_of w (k + 2) 1 + 8 * bits_of w (k + 3) 2
 five_bits w k = rw (← shr-shr w k 2) (rw (← shr-shr w k 3) (five (w / 2 ^ k)))
 
--- ---- a word that is moved down
+-- ---- a word that is shifted down
 same_test : (a b c d : ℕ) → (a ≡ b → c ≡ d) → (c ≡ d → a ≡ b) → (t : Bool) → nat_eq a b ≡ t → nat_eq c d ≡ t
 same_test a b c d there back true e = eq-eqb c d (there (eqb-true a b e))
 same_test a b c d there back false e = ne_eqb c d (λ h. eqb-false a b e (back h))
@@ -95,7 +95,7 @@ scaled n v k =
 field_test : (w lowest width v : ℕ) → stands w (field_is lowest width v) ≡ nat_eq (bits_of w lowest width) v
 field_test w lowest width v = ap (λ n. nat_eq n (v * 2 ^ lowest)) (field_shown w lowest width) ∙ scaled (bits_of w lowest width) v lowest
 
--- a field stands in a word where it stands, that many bits lower, in the word moved down
+-- a pattern on a field matches a word shifted down exactly if the pattern shifted up matches the word
 pub moved_down : (w k lowest width v : ℕ) → stands (w / 2 ^ k) (field_is lowest width v) ≡ stands w (field_is (k + lowest) width v)
 moved_down w k lowest width v =
     field_test (w / 2 ^ k) lowest width v

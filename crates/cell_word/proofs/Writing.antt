@@ -88,7 +88,7 @@ cleared w mask small within =
     let gone : bit_and mask w ≡ bit_and w mask = and_comm mask w in
     omega arith
 
--- some bits, of which some are kept and some are set
+-- the bits of a word after some are kept and some are set
 abbrev pub rewritten : ℕ → ℕ → ℕ → ℕ
 rewritten v keep set = bit_or (bit_and v keep) set
 
@@ -101,7 +101,7 @@ field_written w mask set k n small within =
     ∙ bits_of-or (bit_and w (complement mask)) set k n
     ∙ ap (λ m. bit_or m (bits_of set k n)) (bits_of-and w (complement mask) k n)
 
--- one added at bit 40 leaves what is below
+-- one added at bit 40 leaves the bits below
 zone_below : (y : ℕ) (z : Zone) → bits_of (y + 2 ^ 40) (zone_bit z) 5 ≡ bits_of y (zone_bit z) 5
 zone_below y Z1 = omega arith
 zone_below y Z2 = omega arith

@@ -43,7 +43,7 @@ pub or_assoc : (a b c : Option Refusal) → option_or a (option_or b c) ≡ opti
 or_assoc None b c = refl
 or_assoc (Some r) b c = refl
 
--- what comes after is asked where nothing before it refuses
+-- the next part is tested if no part before it refuses
 pub or_next : (a x b y : Option Refusal) → a ≡ x → (x ≡ None → b ≡ y) → option_or a b ≡ option_or x y
 or_next a None b y e f = ap (λ o. option_or o b) e ∙ f refl
 or_next a (Some r) b y e f = ap (λ o. option_or o b) e
@@ -90,7 +90,7 @@ place_seen s sound p b =
     ∙ one_bool (nat_eq (place_word p full) (place_word p b)) (same_bool full b)
     (from_bools (place_test p full) (from_bools (λ full. all_bools (place_test p full)) (from_places (λ p. all_bools (λ full. all_bools (place_test p full))) place_table p) full) b)
 
--- a way begins at an empty place, or ends at a full one
+-- a row begins at an empty place, or ends at a full one
 pub way_seen : (s : ModelState) → IsSound s → (start end : Place)
     → first_refusal (packed s) (guard (place_is start false) NoPlate ∷ guard (place_is end true) PlaceFull ∷ []) ≡ option_or (then_some (not (is_full s start)) NoPlate) (then_some (is_full s end) PlaceFull)
 way_seen s sound start end =
@@ -240,7 +240,7 @@ give_here m z v = option_or (option_or (not_mine m z v) (then_some v.flag (Plate
 give_table : zone_table give_part give_here ≡ true
 give_table = refl
 
--- the row in which a machine gives is the one in which it may give at all
+-- if a machine may give in a posture, the row is the only one in which it gives
 abbrev given_test : Machine → Zone → Posture → Bool
 given_test m z q = is_none (Refusals.given_by m (transfer_of z q)) || same_row (Refusals.given_by m (transfer_of z q)) (rows.row_given m z)
 

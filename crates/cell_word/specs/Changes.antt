@@ -20,7 +20,7 @@ use Rattle.cell_word.specs.Patterns.{anything, both, owner_is, flag_is, posture_
 use Rattle.cell_word.specs.Rows.{row_given, hosted, posed_at}
 use Rattle.cell_word.specs.declared.patterns.Pattern.{Pattern}
 
--- the row of transfers in which a machine receives in a zone, of which there is one at most
+-- the row of transfers in which a machine receives in a zone; there is at most one
 abbrev pub received_by : Machine → Option Transfer → Option Transfer
 received_by m None = None
 received_by m (Some row) = if same_machine row.receiver m then Some row else None

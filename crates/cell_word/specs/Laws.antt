@@ -1,4 +1,4 @@
--- What holds of the fields of each word: the statements.
+-- Laws of the fields of each word.
 use Rattle.std.specs.Prelude.{◌≡◌, ℕ, ◌+◌, ◌<◌, ◌^◌, List, [], ◌∷◌, All}
 use Rattle.cell_rules.specs.ModelState.{ModelState}
 use Rattle.cell_word.specs.Layout.{Field, fields_of, packed}
@@ -8,7 +8,7 @@ use Rattle.cell_word.specs.Reading.{bits_of}
 abbrev pub Fits : Field → Type 0
 Fits f = f.value < 2 ^ f.width
 
--- from one bit to below another each bit belongs to one field, and the fields come in order
+-- fields in order that fill the bits from one bit to below another, without overlap
 abbrev pub SideBySide : ℕ → ℕ → List Field → Type 0
 SideBySide start end [] = start ≡ end
 SideBySide start end (f ∷ fs) = (f.lowest ≡ start) × SideBySide (start + f.width) end fs

@@ -1,5 +1,5 @@
--- The word of a state: fields of bits side by side, from the lowest bit up. Five bits for each zone, one for each place, both in
--- their order, then twenty for the stamp, and nothing above.
+-- The word of a state: fields side by side, from the lowest bit up. Each zone has five bits, each place one, both in
+-- their order; then the stamp has twenty. The bits above are zero.
 use Rattle.std.specs.Prelude.{ℕ, ◌+◌, ◌*◌, ◌^◌, List, [], ◌∷◌, ◌++◌, map, sum_by, Option, Some, None, if◌then◌else◌}
 use Rattle.std.specs.List.{flat_map}
 use Rattle.cell_types.specs.declared.machine.Machine.{Machine}
@@ -50,7 +50,7 @@ place_bit Crane = 39
 abbrev pub stamp_bit : ℕ
 stamp_bit = 40
 
--- a zone is free, its host's, or its guest's
+-- a zone is free, its host's, or its guest's: 0, 1 or 2
 abbrev pub owner_code : Zone → Option Machine → ℕ
 owner_code z None = 0
 owner_code z (Some m) = if same_machine m (host_of z) then 1 else 2
@@ -76,7 +76,7 @@ place_field s p = field (place_bit p) 1 (one_if (is_full s p))
 abbrev pub fields_at : ModelState → Zone → List Field
 fields_at s z = zone_fields z (zone_at s z)
 
--- the zones in order, the places in order, and twenty bits for the stamp
+-- the zones in order, the places in order, and then the stamp
 abbrev pub fields_of : ModelState → List Field
 fields_of s = flat_map (fields_at s) all_zones ++ map (place_field s) all_places ++ field stamp_bit 20 s.stamp ∷ []
 

@@ -1,4 +1,4 @@
--- Some bits of a word, and what they are to be.
+-- Some bits of a word and their wanted values.
 use Rattle.std.specs.Prelude.{ℕ, ◌+◌, ◌-◌, ◌*◌, ◌/◌, ◌%◌, ◌^◌, Bool, nat_eq, bit_and, bit_or, Option, if◌then◌else◌}
 use Rattle.cell_types.specs.declared.machine.Machine.{Machine}
 use Rattle.cell_types.specs.declared.zone.Zone.{Zone}
@@ -41,14 +41,14 @@ field_is lowest width value = pattern ((2 ^ width - 1) * 2 ^ lowest) (value * 2 
 abbrev pub owner_is : Zone → Option Machine → Pattern
 owner_is z o = field_is (zone_bit z) 2 (owner_code z o)
 
--- a plate is in a zone, or none
+-- a plate is in a zone, or isn't
 abbrev pub flag_is : Zone → Bool → Pattern
 flag_is z b = field_is (zone_bit z + 2) 1 (one_if b)
 
 abbrev pub posture_is : Zone → Posture → Pattern
 posture_is z q = field_is (zone_bit z + 3) 2 (posture_code q)
 
--- a zone has another posture: the low bit of the posture is another, or the high bit
+-- a zone has another posture: the low bit of the posture differs, or the high bit
 abbrev pub low_differs : Zone → Posture → Pattern
 low_differs z q = field_is (zone_bit z + 3) 1 (1 - posture_code q % 2)
 

@@ -14,7 +14,7 @@ use Rattle.cell_rules.specs.PlaceSet.{PlaceSet, place_set}
 use Rattle.cell_rules.specs.ModelState.{ModelState, model_state}
 use Rattle.cell_word.specs.Layout.{zone_bit, place_bit, stamp_bit}
 
--- the number that some bits of a word make
+-- the number in some bits of a word
 abbrev pub bits_of : ℕ → ℕ → ℕ → ℕ
 bits_of w lowest width = w / 2 ^ lowest % 2 ^ width
 

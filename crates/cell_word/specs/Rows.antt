@@ -1,4 +1,5 @@
--- The guards of each machine and call: patterns that refuse the call, each with its refusal, in the order of the refusals.
+-- The guards of each machine and call: patterns that refuse the call, each with its refusal, in the order of the
+-- refusals.
 use Rattle.std.specs.Prelude.{ℕ, Bool, true, false, ◌&&◌, not, Option, Some, None, is_none, option_map, Result, Ok, Err, List, [], ◌∷◌, ◌++◌, map, if◌then◌else◌}
 use Rattle.std.specs.Option.{option_or}
 use Rattle.std.specs.List.{find, flat_map, list_all}
@@ -36,7 +37,7 @@ guard pattern refusal = record { pattern = pattern; refusal = refusal }
 abbrev pub first_refusal : ℕ → List Guard → Option Refusal
 first_refusal w row = option_map (λ g. g.refusal) (find (λ g. stands w g.pattern) row)
 
--- what comes of a call that a row may refuse
+-- the result of a call that a row may refuse
 abbrev pub unless : {A : Type 0} → Option Refusal → A → Result A Refusal
 unless None a = Ok a
 unless (Some r) a = Err r
@@ -83,14 +84,14 @@ claim_row m z =
     ∷ worn
     ∷ []
 
--- the row of transfers in which a machine gives in a zone, of which there is one at most
+-- the row of transfers in which a machine gives in a zone; there is at most one
 abbrev pub row_given : Machine → Zone → Option Transfer
 row_given m z = option_or (given_by m (transfer_of z OpenIn)) (given_by m (transfer_of z OpenOut))
 
 abbrev pub wrong_way : Machine → Zone → Posture → Guard
 wrong_way m z q = guard (when (is_none (given_by m (transfer_of z q))) (posture_is z q)) WrongWay
 
--- the place where its way begins is empty, or the one where it ends is full
+-- the place where a row begins is empty, or the place where it ends is full
 abbrev pub starts_empty : Option Transfer → Pattern
 starts_empty None = nothing
 starts_empty (Some row) = place_is row.from false
@@ -148,7 +149,7 @@ release_row m z =
 
 -- ---- poses
 
--- the zones that a machine hosts, two at most
+-- the zones that a machine hosts, at most two
 abbrev pub hosted : Machine → Option Zone × Option Zone
 hosted TableMachine = (Some Z1, Some Z2)
 hosted Press = (Some Z3, None)
@@ -174,21 +175,21 @@ owner_guards z q =
     ∷ guard (both (high_differs z q) (owner_is z (Some (guest_of z)))) (NotOwner (Some (guest_of z)))
     ∷ []
 
--- and clear of plates
+-- and free of plates
 abbrev pub plate_guards : Zone → Posture → List Guard
 plate_guards z q =
     guard (both (low_differs z q) (flag_is z true)) (PlateInZone z)
     ∷ guard (both (high_differs z q) (flag_is z true)) (PlateInZone z)
     ∷ []
 
--- another posture than this refuses
+-- any posture but this one refuses
 abbrev pub low_refuses : Zone → Posture → Refusal → Guard
 low_refuses z q r = guard (low_differs z q) r
 
 abbrev pub high_refuses : Zone → Posture → Refusal → Guard
 high_refuses z q r = guard (high_differs z q) r
 
--- the places that must be empty where a zone becomes open inward
+-- the places that must be empty if a zone becomes open inward
 abbrev pub end_of : Option Transfer → List Place
 end_of None = []
 end_of (Some row) = row.to ∷ []
@@ -207,11 +208,11 @@ abbrev pub opening_guards : Zone → Posture → List Guard
 opening_guards z OpenIn = flat_map (room_guards z) (inner_places z)
 opening_guards z _ = []
 
--- table and press take a pose that does not move out of one that does
+-- table and press take a pose only from one that moves, unless the new pose moves too
 abbrev pub jump_guards : Machine → Pose → Zone → Posture → List Guard
 jump_guards m p z q = if passes_through_moving m && not (is_moving_pose p) then low_refuses z Moving Jump ∷ high_refuses z Moving Jump ∷ [] else []
 
--- a belt does not run with a plate at its end; feed may where it owns z1
+-- a belt doesn't run with a plate at its end; feed may if it owns z1
 abbrev pub deposit_runs : Machine → Pose → Bool
 deposit_runs m p = same_pose p Running && same_machine m Deposit
 
@@ -225,7 +226,7 @@ run_guards m p =
     ∷ guard (when (feed_runs m p) (both (place_is FeedEnd true) (owner_is Z1 (Some (host_of Z1))))) PlaceFull
     ∷ []
 
--- a pose of a machine gives a posture to each zone that it hosts, and so to the first
+-- a pose of a machine gives each zone that it hosts a posture, so it gives one to the first
 abbrev pub pose_guards : Machine → Pose → Option (Zone × Posture) → Option (Zone × Posture) → List Guard
 pose_guards m p one other =
     guard (when (is_none one) anything) NoPose
@@ -291,7 +292,7 @@ row_of m (SetPose p) = pose_row m p
 row_of m Advance = advance_row m
 row_of m (Inquire z) = []
 
--- the numbers of the refusals of a row, and whether they come as in an order
+-- the numbers of a row's refusals, and whether they are in an order
 abbrev pub numbers_of : List Guard → List ℕ
 numbers_of row = map (λ g. number_of g.refusal) row
 

@@ -14,8 +14,8 @@ use Rattle.cell_word.specs.Reading.{bits_of, is_bit_set}
 use Rattle.cell_word.specs.Patterns.{stands, nothing, both, flag_is, posture_is, place_is, field_is}
 use Rattle.cell_word.specs.declared.patterns.Pattern.{Pattern}
 
--- The numbers that the five bits of a zone may make, each as a bit that is set: 0 and 1 if it is closed, and 9 if it moves;
--- 16, 17, 18 if it is open inward, and 21 with a plate; 24, 25, 26 if it is open outward, and 30 with a plate.
+-- The codes that a zone may have in its five bits, each as a set bit: 0 and 1 if it is closed, 9 if it moves; 16, 17
+-- and 18 if it is open inward, and 21 with a plate; 24, 25 and 26 if it is open outward, and 30 with a plate.
 abbrev pub shut_codes : ℕ
 shut_codes = 0x203
 
@@ -42,7 +42,7 @@ is_lawful_zone w z =
     && not (stands w (onto_full z OpenIn (transfer_of z OpenIn)))
     && not (stands w (onto_full z OpenOut (transfer_of z OpenOut)))
 
--- the press has one plate at most, and not a forged one while it is open inward
+-- the press has at most one plate, and no forged one while it is open inward
 abbrev pub is_lawful_press : ℕ → Bool
 is_lawful_press w =
     not (stands w (both (place_is PressIn true) (place_is PressOut true)))

@@ -1,9 +1,9 @@
-//! The bits of a word, from a lowest one on.
+//! Fields of bits in a word, each with its lowest bit and its width.
 
 ghost use Rattle.std.specs.Prelude.{◌≡◌, ◌+◌, ◌*◌, ◌<◌, ◌≤◌, ◌^◌};
 ghost use Rattle.cell_word.specs.Reading.{bits_of};
 
-/// The number that some bits of a word make.
+/// The number in a field of a word.
 pub fn bits(word: u64, lowest: u32, width: u32) -> u64
     requires lowest_in_word { lowest < 64 }
     requires width_in_word { width < 64 }
@@ -13,7 +13,7 @@ pub fn bits(word: u64, lowest: u32, width: u32) -> u64
     (word >> lowest) % (1 << width)
 }
 
-/// The word with a number in the bits above those that it has.
+/// The word with a number in a field above all bits that are set.
 pub fn with_bits(word: u64, lowest: u32, width: u32, value: u64) -> u64
     requires below { word < 2 ^ lowest }
     requires fits { value < 2 ^ width }

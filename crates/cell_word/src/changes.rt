@@ -15,7 +15,7 @@ use crate::pose_rows::{hosted, posed_at};
 use crate::sides::{Side, row_given, row_received, side_of};
 use cell_types::{Call, Machine, Place, Pose, Posture, Transfer, Zone, work};
 
-/// What the giver writes: the plate is in the zone, and the zone the other's.
+/// What a give writes: the plate is in the zone, and the zone belongs to the other side.
 #[inline(always)]
 pub(crate) fn gift(zone: Zone, side: Side, row: Transfer) -> Pattern
     ensures { result ≡ changes.given_away (sides.party_of zone side) zone (Some row) }
@@ -63,7 +63,7 @@ fn moved_on(way: Option<(Place, Place)>) -> Pattern
     }
 }
 
-/// The zones of a belt are closed once a plate has come to its end.
+/// The zones of a belt are closed after a plate has come to its end.
 #[inline(always)]
 fn halted(machine: Machine) -> Pattern
     ensures { result ≡ changes.halted machine }
@@ -124,8 +124,8 @@ fn written(machine: Machine, call: Call) -> Pattern
     }
 }
 
-/// The bits of a word that a machine's Done call clears, and those that it sets; besides, one is added to
-/// the stamp. Both are zero for a call that is never Done, as an inquiry.
+/// The bits of a word that a machine's Done call clears, and those that it sets; besides, the call
+/// adds one to the stamp. Both are zero for a call that is never Done, such as an inquiry.
 pub fn masks(machine: Machine, call: Call) -> (u64, u64)
     ensures change { (state : ModelState) → IsSound state → reply state machine call ≡ Done
         → packed (next state machine call) ≡ with_written (packed state) result.0 result.1 + 2 ^ 40 }

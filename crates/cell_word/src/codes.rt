@@ -1,4 +1,4 @@
-//! The number of an owner, of a posture, and the bits of each field.
+//! The codes of owners and postures, and the bits of each field.
 
 ghost use Rattle.std.specs.Prelude.{◌≡◌, ◌<◌, ◌≤◌};
 ghost use Rattle.cell_word.specs.Layout as layout;
@@ -39,7 +39,7 @@ pub fn owner_code(zone: Zone, owner: Option<Machine>) -> u64
     }
 }
 
-/// The owner of a code; the spare code 3 means none other than 2 does.
+/// The owner with a code; the spare code 3 reads as 2 does.
 #[inline(always)]
 pub fn owner_of_code(zone: Zone, code: u64) -> Option<Machine>
     ensures { result ≡ reading.owner_of_code zone code }

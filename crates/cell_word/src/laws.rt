@@ -1,4 +1,4 @@
-//! What holds of the word of every state: laws, in functions that do nothing.
+//! Laws of the word of every state, each the contract of a function that does nothing.
 ghost use Rattle.std.specs.Prelude.{◌≡◌, IsTrue};
 ghost use Rattle.cell_types.specs.declared.machine.Machine.{Machine};
 ghost use Rattle.cell_types.specs.declared.call.Call.{Call};
@@ -10,21 +10,21 @@ ghost use Rattle.cell_word.specs.Layout.{packed};
 ghost use Rattle.cell_word.specs.Rows.{first_refusal, row_of, numbers_of, is_ordered};
 ghost use Rattle.cell_word.specs.Laws.{IsLaidOut};
 
-/// The fields of a sound state fill the bits 0 to 59 of its word, side by side and none over
-/// another. Each value fits its width and reads back, and the word is below 2 to the 60.
+/// The fields of a sound state fill the bits 0 to 59 of its word, side by side and without overlap.
+/// Each value fits its width and reads back, and the word is below 2 to the 60.
 pub fn word_is_laid_out()
     ensures { (state : ModelState) → IsSound state → IsLaidOut state }
 {}
 
-/// No two sound states have one word: a state that is packed and unpacked is the same state.
+/// No two sound states have the same word: a state that is packed and unpacked is the same state.
 pub fn words_are_distinct()
     ensures { (one other : ModelState) → IsSound one → IsSound other
         → packed one ≡ packed other → one ≡ other }
 {}
 
-/// The guards of a call are its refusals: the first guard of the row that refuses a sound state's word
-/// has the refusal with which the interlock answers, and the guards of a row come in the order of the
-/// call's refusals.
+/// The guards of a call are its refusals: the first guard of its row that refuses a sound state's
+/// word has the refusal that the interlock answers, and the guards are in the order of the call's
+/// refusals.
 pub fn guards_are_refusals()
     ensures first { (state : ModelState) → IsSound state → (machine : Machine) (call : Call)
         → first_refusal (packed state) (row_of machine call) ≡ refusal state machine call }

@@ -1,4 +1,4 @@
-//! A state of the interlock as one word of 64 bits, for an atomic that is exchanged whole.
+//! A state of the interlock as one 64-bit word, for an atomic that is exchanged as a whole.
 #![tactic(auto)]
 
 mod bits;

@@ -1,4 +1,4 @@
-//! Some bits of a word, and what they are to be: to test a word by, and to write into one.
+//! Some bits of a word and their wanted values: to test a word, and to write into one.
 ghost use Rattle.std.specs.Prelude.{◌≡◌, ◌+◌, ◌<◌, ◌≤◌, ◌^◌, ◌∷◌, [], Some};
 ghost use Rattle.cell_word.specs.Patterns as patterns;
 ghost use Rattle.cell_word.specs.Rows as rows;
@@ -8,7 +8,7 @@ use crate::codes::{STAMP_BIT, owner_code, place_bit, posture_code, zone_bit};
 use crate::sides::Side;
 use cell_types::{Machine, Place, Posture, Refusal, Zone};
 
-/// Some bits of a word, those under the mask, as they are wanted.
+/// Wanted values of some bits of a word: those under the mask.
 #[derive(Clone, Copy)]
 pub(crate) struct Pattern {
     pub mask: u64,
@@ -25,7 +25,7 @@ impl Pattern {
         wanted: 0x8000_0000_0000_0000,
     };
 
-    /// A field of a word has a value.
+    /// A field of a word has this value.
     #[inline(always)]
     pub fn field(lowest: u32, width: u32, value: u64) -> Pattern
         requires narrow { width < 64 }

@@ -59,7 +59,7 @@ fn hosts(word: u64, posed: Option<(Zone, Posture)>) -> Result<(), Refusal>
     }
 }
 
-/// It has to be clear of plates.
+/// A zone that gets another posture has to be free of plates.
 #[inline(always)]
 fn turns_clear(at: ZoneBits, posture: Posture) -> Result<(), Refusal>
     ensures { result ≡ rows.checked at.word (rows.plate_guards at.zone posture) }
@@ -80,7 +80,7 @@ fn clears(word: u64, posed: Option<(Zone, Posture)>) -> Result<(), Refusal>
     }
 }
 
-/// A zone has to have a posture.
+/// The zone has to have this posture.
 #[inline(always)]
 pub(crate) fn only_in(at: ZoneBits, posture: Posture, refusal: Refusal) -> Result<(), Refusal>
     ensures { result ≡ rows.checked at.word (rows.low_refuses at.zone posture refusal ∷ rows.high_refuses at.zone posture refusal ∷ []) }
@@ -94,7 +94,7 @@ fn is_moving_pose(pose: Pose) -> bool
     pose == Pose::Turning || pose == Pose::Travelling || pose == Pose::Running
 }
 
-/// Table and press take a pose that does not move out of one that does.
+/// Table and press take a pose only from one that moves, unless the new pose moves too.
 #[inline(always)]
 fn moves(
     word: u64,
@@ -114,7 +114,7 @@ fn moves(
     }
 }
 
-/// A place has to be empty where its zone becomes open inward.
+/// The place has to be empty if its zone becomes open inward.
 #[inline(always)]
 fn room(at: ZoneBits, place: Place) -> Result<(), Refusal>
     ensures { result ≡ rows.checked at.word (rows.room_guards at.zone place) }
@@ -125,7 +125,7 @@ fn room(at: ZoneBits, place: Place) -> Result<(), Refusal>
     no_room(place).pass(at.word)
 }
 
-/// So have all places inside the zone.
+/// All places inside the zone have to be empty if it becomes open inward.
 #[inline(always)]
 fn rooms(at: ZoneBits) -> Result<(), Refusal>
     ensures { result ≡ rows.checked at.word (rows.opening_guards at.zone OpenIn) }
@@ -150,7 +150,7 @@ fn opens(word: u64, posed: Option<(Zone, Posture)>) -> Result<(), Refusal>
     }
 }
 
-/// A belt does not run with a plate at its end; feed may where it owns z1.
+/// A belt doesn't run with a plate at its end; feed may if it owns z1.
 #[inline(always)]
 fn runs(word: u64, machine: Machine, pose: Pose) -> Result<(), Refusal>
     ensures { result ≡ rows.checked word (rows.run_guards machine pose) }
@@ -172,7 +172,7 @@ fn runs(word: u64, machine: Machine, pose: Pose) -> Result<(), Refusal>
     Ok(())
 }
 
-/// A pose of the machine gives a posture to the first zone that it hosts.
+/// The machine has the pose: it gives a posture to the first zone that the machine hosts.
 #[inline(always)]
 fn has_pose(posed: Option<(Zone, Posture)>) -> Result<(), Refusal>
     ensures { (word : ℕ) → result ≡ rows.checked word (rows.guard (when (is_none posed) anything) NoPose ∷ []) }
@@ -205,7 +205,7 @@ fn set_pose_of(word: u64, machine: Machine, pose: Pose) -> Result<Pattern, Refus
     Ok(posed(one).and(posed(other)))
 }
 
-/// Each machine by itself, so that the compiler knows its zones.
+/// One case for each machine, so that the compiler knows its zones.
 #[inline(always)]
 pub(crate) fn set_pose(word: u64, machine: Machine, pose: Pose) -> Result<Pattern, Refusal>
     ensures { result ≡ rows.unless (rows.first_refusal word (rows.pose_row machine pose))
@@ -220,7 +220,7 @@ pub(crate) fn set_pose(word: u64, machine: Machine, pose: Pose) -> Result<Patter
     }
 }
 
-/// Why the work of the feed belt is refused at a word, or what it writes there.
+/// Why the work of the feed belt is refused at a word, or what it writes.
 #[inline(always)]
 fn advance_feed(word: u64) -> Result<Pattern, Refusal>
     ensures { result ≡ rows.unless (rows.first_refusal word (rows.advance_row machines.Feed))
@@ -235,7 +235,7 @@ fn advance_feed(word: u64) -> Result<Pattern, Refusal>
     Ok(worked(Machine::Feed))
 }
 
-/// Why the work of the deposit belt is refused at a word, or what it writes there.
+/// Why the work of the deposit belt is refused at a word, or what it writes.
 #[inline(always)]
 fn advance_deposit(word: u64) -> Result<Pattern, Refusal>
     ensures { result ≡ rows.unless (rows.first_refusal word (rows.advance_row machines.Deposit))
@@ -255,7 +255,7 @@ fn advance_deposit(word: u64) -> Result<Pattern, Refusal>
     Ok(worked(Machine::Deposit))
 }
 
-/// Why the work of the press is refused at a word, or what it writes there.
+/// Why the work of the press is refused at a word, or what it writes.
 #[inline(always)]
 fn advance_press(word: u64) -> Result<Pattern, Refusal>
     ensures { result ≡ rows.unless (rows.first_refusal word (rows.advance_row machines.Press))
@@ -271,7 +271,7 @@ fn advance_press(word: u64) -> Result<Pattern, Refusal>
     Ok(worked(Machine::Press))
 }
 
-/// Why the work of a machine is refused at a word, or what it writes there.
+/// Why the work of a machine is refused at a word, or what it writes.
 #[inline(always)]
 pub(crate) fn advance(word: u64, machine: Machine) -> Result<Pattern, Refusal>
     ensures { result ≡ rows.unless (rows.first_refusal word (rows.advance_row machine))

@@ -1,4 +1,4 @@
-//! The guards of the calls about a zone, which are looked at in the order of the refusals, and what the calls write.
+//! The guards of the calls about a zone, in the order of the refusals, and what the calls write.
 ghost use Rattle.std.specs.Prelude.{◌≡◌, ℕ, ◌∷◌, [], map, Some, IfOk};
 ghost use Rattle.cell_types.specs.declared.answer.Refusal.TheVariants.{AlreadyMine, Held, Shut};
 ghost use Rattle.cell_types.specs.declared.posture.Posture.TheVariants.{Closed, Moving};
@@ -74,7 +74,7 @@ fn held_and_clear(at: ZoneBits, side: Side) -> Result<(), Refusal>
     clear(at)
 }
 
-/// The zone may not have a posture.
+/// The zone must not have this posture.
 #[inline(always)]
 fn not_in(at: ZoneBits, posture: Posture) -> Result<(), Refusal>
     ensures { result ≡ rows.checked at.word (rows.shut at.zone posture ∷ []) }
@@ -99,7 +99,7 @@ fn not_in_use(at: ZoneBits, machine: Machine) -> Result<(), Refusal>
     Ok(())
 }
 
-/// A zone is left where its host doesn't move and where it isn't in use, as long as stamps are left.
+/// A zone may be left if it doesn't move, isn't in use, and a stamp is left.
 #[inline(always)]
 fn left(at: ZoneBits, machine: Machine) -> Result<(), Refusal>
     ensures { result ≡ rows.checked at.word (rows.shut at.zone Moving ∷ rows.in_use machine at.zone ∷ rows.worn ∷ []) }
@@ -109,7 +109,7 @@ fn left(at: ZoneBits, machine: Machine) -> Result<(), Refusal>
     worn().pass(at.word)
 }
 
-/// A plate is moved to an empty place, as long as stamps are left.
+/// A plate may be moved if its place is full, its new place empty, and a stamp is left.
 #[inline(always)]
 pub(crate) fn moved(word: u64, from: Place, to: Place) -> Result<(), Refusal>
     ensures { result ≡ rows.checked word (rows.no_plate_at from ∷ rows.no_room_at to ∷ rows.worn ∷ []) }
@@ -138,7 +138,7 @@ fn free(at: ZoneBits, side: Side) -> Result<(), Refusal>
     Ok(())
 }
 
-/// It has to be open to the guest.
+/// The zone has to be open to a guest.
 #[inline(always)]
 fn open_to(at: ZoneBits, side: Side) -> Result<(), Refusal>
     ensures { result ≡ rows.checked at.word (rows.guard (when (sides.is_guest side) (posture_is at.zone Closed)) (Shut Closed)
@@ -164,7 +164,7 @@ fn claim(word: u64, machine: Machine, zone: Zone) -> Result<Pattern, Refusal>
     Ok(Pattern::owned(zone, side))
 }
 
-/// The zone has to have the posture in which a side of it gives; the row of transfers.
+/// The zone has to be in the posture in which this side gives. Returns the row of transfers.
 #[inline(always)]
 fn giving(at: ZoneBits, side: Side) -> Result<Transfer, Refusal>
     ensures way { rows.checked at.word (map (rows.wrong_way (sides.party_of at.zone side) at.zone) all_postures) ≡ rows.went_on result }
@@ -234,7 +234,8 @@ fn release(word: u64, machine: Machine, zone: Zone) -> Result<Pattern, Refusal>
     Ok(Pattern::owner(zone, None))
 }
 
-/// What a call writes at a word, or the refusal of the first guard in its row that refuses it there.
+/// What a call writes into a word, or the refusal of the first guard in its row that refuses the
+/// word.
 #[inline(always)]
 pub(crate) fn tried(word: u64, machine: Machine, call: Call) -> Result<Pattern, Refusal>
     ensures { result ≡ rows.unless (rows.first_refusal word (rows.row_of machine call)) (changes.written machine call) }

@@ -1,4 +1,4 @@
-//! The two sides on which machines meet in a zone, and a zone of a word.
+//! The two sides of a zone, and a zone's bits in a word.
 ghost use Rattle.std.specs.Prelude.{◌≡◌, ◌/◌, ◌<◌, ◌^◌, Some, None, true};
 ghost use Rattle.cell_types.specs.Tables.{transfer_of};
 ghost use Rattle.cell_word.specs.Layout as layout;
@@ -77,7 +77,7 @@ impl Side {
     }
 }
 
-/// The row of transfers in which a side of a zone gives.
+/// The row of transfers in which this side of a zone gives.
 #[inline(always)]
 #[tactic(auto, using(crate::proofs::Parties::given_by_side))]
 pub(crate) fn row_given(zone: Zone, side: Side) -> Option<Transfer>
@@ -87,7 +87,7 @@ pub(crate) fn row_given(zone: Zone, side: Side) -> Option<Transfer>
     transfer(zone, side.giving())
 }
 
-/// The row in which it receives.
+/// The row of transfers in which this side of a zone receives.
 #[inline(always)]
 #[tactic(auto, using(crate::proofs::Parties::received_by_side))]
 pub(crate) fn row_received(zone: Zone, side: Side) -> Option<Transfer>
@@ -96,7 +96,8 @@ pub(crate) fn row_received(zone: Zone, side: Side) -> Option<Transfer>
     transfer(zone, side.other().giving())
 }
 
-/// A zone of a word. The word is moved down, and the zone's masks stay where the first zone has them.
+/// A zone's bits in a word. The word is shifted down, so that all zones share the masks of the
+/// first.
 #[derive(Clone, Copy)]
 pub(crate) struct ZoneBits {
     pub word: u64,
@@ -104,7 +105,7 @@ pub(crate) struct ZoneBits {
 }
 
 impl ZoneBits {
-    /// The word from the lowest bit of the zone on.
+    /// The word shifted down by the zone's lowest bit.
     #[inline(always)]
     fn lowest(self) -> u64
         ensures { result ≡ self.word / 2 ^ layout.zone_bit self.zone }

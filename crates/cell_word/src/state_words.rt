@@ -1,4 +1,4 @@
-//! Whether a word is that of a sound state, decided by masks.
+//! Whether a word is a sound state's, decided by masks.
 ghost use Rattle.std.specs.Prelude.{◌≡◌, ◌↔◌, IsTrue};
 ghost use Rattle.cell_rules.specs.ModelState.{ModelState};
 ghost use Rattle.cell_rules.specs.Sound.{IsSound};
@@ -13,14 +13,14 @@ use crate::codes::zone_bit;
 use crate::patterns::Pattern;
 use cell_types::{Place, Posture, Zone, transfer};
 
-/// The numbers that the five bits of a shut zone may make, each as a bit that is set: 0 and 1 while it
-/// is closed, and 9 while it moves.
+/// The codes that a shut zone may have in its five bits, each as a set bit: 0 and 1 if it is
+/// closed, 9 if it moves.
 const SHUT_CODES: u64 = 0x203;
 
-/// Those of a zone that is open inward: 16, 17 and 18, and 21 with a plate.
+/// The codes of a zone that is open inward: 16, 17 and 18, and 21 with a plate.
 const INWARD_CODES: u64 = 0x27_0000;
 
-/// Those of a zone that is open outward: 24, 25 and 26, and 30 with a plate.
+/// The codes of a zone that is open outward: 24, 25 and 26, and 30 with a plate.
 const OUTWARD_CODES: u64 = 0x4700_0000;
 
 fn zone_codes(zone: Zone) -> u64
@@ -58,7 +58,7 @@ fn is_lawful_zone(word: u64, zone: Zone) -> bool
         && !onto_full(zone, Posture::OpenOut).stands_in(word)
 }
 
-/// The press has one plate at most, and not a forged one while it is open inward.
+/// The press has at most one plate, and no forged one while it is open inward.
 fn is_lawful_press(word: u64) -> bool
     ensures { result ≡ words.is_lawful_press word }
 {
@@ -77,14 +77,14 @@ fn are_lawful_zones(word: u64) -> bool
     Zone::ALL.iter().all(|zone| is_lawful_zone(word, *zone))
 }
 
-/// Whether the bits above the stamp, the zones and the press are as the masks say.
+/// Whether the bits above the stamp, the zones and the press are as the masks allow.
 fn keeps_masks(word: u64) -> bool
     ensures { result ≡ words.is_state_word word }
 {
     Pattern::field(60, 4, 0).stands_in(word) && are_lawful_zones(word) && is_lawful_press(word)
 }
 
-/// Whether a word is that of a sound state.
+/// Whether a word is a sound state's.
 pub(crate) fn is_state_word(word: u64) -> bool
     ensures { IsTrue result ↔ ((state : ModelState) × IsSound state × (packed state ≡ word)) }
 {

@@ -24,8 +24,8 @@ fn shown(word: u64, zone: Zone) -> Answer
     }
 }
 
-/// Makes a call on the word of a sound state, which is not taken apart: the interlock's answer, and
-/// the word of the state after it, which is the same word unless the answer is Done.
+/// Makes a call on the word of a sound state without unpacking it. Returns the interlock's answer
+/// and the word of the state after it: the same word unless the answer is Done.
 pub fn step_sound(word: u64, machine: Machine, call: Call) -> (Answer, u64)
     requires { (state : ModelState) × IsSound state × (packed state ≡ word) }
     ensures { (state : ModelState) → IsSound state → packed state ≡ word
@@ -40,8 +40,8 @@ pub fn step_sound(word: u64, machine: Machine, call: Call) -> (Answer, u64)
     }
 }
 
-/// Makes a call on a word: the interlock's answer, and the word of the state after it, which is the
-/// same word unless the answer is Done. `None` where no sound state packs to the word.
+/// Makes a call on a word. Returns the interlock's answer and the word of the state after it: the
+/// same word unless the answer is Done. `None` if the word is no sound state's.
 pub fn step_word(word: u64, machine: Machine, call: Call) -> Option<(Answer, u64)>
     ensures some { (state : ModelState) → IsSound state → packed state ≡ word
         → result ≡ Some (reply state machine call, packed (next state machine call)) }

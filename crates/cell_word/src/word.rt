@@ -13,7 +13,7 @@ use crate::codes::{
 use cell_rules::{Places, State, ZoneState, Zones};
 use cell_types::{Place, Zone};
 
-/// A word with a zone above what it has.
+/// The word with a zone above all bits that are set.
 fn with_zone(word: u64, zone: Zone, at: ZoneState) -> u64
     requires { word < 2 ^ layout.zone_bit zone }
     ensures word { result ≡ word + layout.word_of (layout.zone_fields zone at) }
@@ -25,7 +25,7 @@ fn with_zone(word: u64, zone: Zone, at: ZoneState) -> u64
     with_bits(word, lowest + 3, 2, posture_code(at.posture))
 }
 
-/// A word with a place above what it has.
+/// The word with a place above all bits that are set.
 fn with_place(word: u64, place: Place, full: bool) -> u64
     requires { word < 2 ^ layout.place_bit place }
     ensures word { result ≡ word + one_if full * 2 ^ layout.place_bit place }
@@ -78,8 +78,8 @@ fn places_told(word: u64) -> Places
     Places::from_flags(Place::ALL.map(|place| bits(word, place_bit(place), 1) == 1))
 }
 
-/// The stamp of a word, read without unpacking it. Of a word that no sound state has, it is what its
-/// bits 40 to 59 say.
+/// The stamp of a word, read without unpacking it. If the word is no sound state's, it is the
+/// number in the bits 40 to 59.
 pub fn stamp_of(word: u64) -> u32
     ensures told { result ≡ (state_told word).stamp }
     ensures stamp { (state : ModelState) → IsSound state → packed state ≡ word
@@ -96,8 +96,8 @@ fn sound_state_told(word: u64) -> Option<State>
     State::checked(zones_told(word), places_told(word), stamp_of(word))
 }
 
-/// The state of a word: the sound state that packs to it, or `None` where none does, as where a
-/// bit above the stamp is set, an owner has the spare code 3, or the encoded state is not sound.
+/// The sound state that packs to a word, or `None` if there is none: a bit above the stamp is set,
+/// an owner has the spare code 3, or the encoded state isn't sound.
 pub fn unpack(word: u64) -> Option<State>
     ensures some { (state : ModelState)
         → (result ≡ Some state) ↔ (IsSound state × (packed state ≡ word)) }

@@ -1,18 +1,17 @@
-//! Each call of each machine on random words, beside the same call on the state that is taken out of
-//! the word.
+//! Each call of each machine on random words, compared with the same call on the unpacked state.
 
 use cell_rules::{State, apply};
 use cell_types::{Answer, Call, Machine, Pose, Zone};
 use cell_word::{masks, pack, step_word, unpack};
 
-/// A call on the state that a word tells, if it tells one.
+/// A call on the state of a word, if it has one.
 fn by_state(told: &Option<State>, machine: Machine, call: Call) -> Option<(Answer, u64)> {
     let mut state = (*told)?;
     let answer = apply(&mut state, machine, call);
     Some((answer, pack(&state)))
 }
 
-/// Whether both ways agree, and the masks with them.
+/// Whether the call and its masks agree with the call on the state.
 fn agrees(word: u64, told: &Option<State>, machine: Machine, call: Call) -> bool {
     let stepped = step_word(word, machine, call);
     let (clear, set) = masks(machine, call);
@@ -53,7 +52,7 @@ fn agrees_at(word: u64) -> bool {
         .all(|machine| agrees_for(word, &told, *machine))
 }
 
-/// The number after a number, all over the numbers of 64 bits.
+/// The next of a sequence of random numbers of 64 bits.
 fn after(number: u64) -> u64 {
     let mut next = number;
     next ^= next << 13;
@@ -62,12 +61,12 @@ fn after(number: u64) -> u64 {
     next
 }
 
-// The five bits of a zone that plates may come into, and of one that they may leave.
+// The codes of zones that may be open inward, and of zones that may be open outward.
 const INWARD: [u64; 7] = [0, 1, 9, 16, 17, 18, 21];
 
 const OUTWARD: [u64; 7] = [0, 1, 9, 24, 25, 26, 30];
 
-/// Some word in which each zone by itself may be so.
+/// A word in which each zone has a code that it may have.
 fn likely_word(number: u64) -> u64 {
     let pick = |by: u32| ((number >> by) % 7) as usize;
     let z3 = if number % 2 == 0 { INWARD } else { OUTWARD };

@@ -1,5 +1,5 @@
-//! Worked rows of calls on words, by public calls alone, and calls on words beside the same calls on
-//! states that are taken out of them.
+//! Tests of calls on words, by public calls only, also compared with the same calls on the unpacked
+//! states.
 #![tactic(auto)]
 
 #[cfg(test)]

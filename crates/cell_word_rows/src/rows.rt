@@ -1,4 +1,4 @@
-//! Calls with their masks, and words with the answers that calls get on them.
+//! Calls with their masks, and calls on words with their answers.
 
 use cell_types::{Answer, Call, Machine, Pose, Posture, Refusal, Zone};
 use cell_word::{masks, step_word};
@@ -40,7 +40,7 @@ fn masks_of_calls(rt: HostRuntime) {
 
 // A word, a call on it, the answer and the word after.
 const STEPS: &[(u64, Machine, Call, Answer, u64)] = &[
-    // the robot comes into the press, which is open inward
+    // the robot enters the press, which is open inward
     (
         0x0000_0400_0000_4000,
         Machine::Robot,
@@ -48,7 +48,7 @@ const STEPS: &[(u64, Machine, Call, Answer, u64)] = &[
         Answer::Done,
         0x0000_0500_0000_4800,
     ),
-    // it has no plate to give, and the press has one
+    // the robot has no plate to give, and the press has one
     (
         0x0000_0004_0000_4800,
         Machine::Robot,
@@ -94,7 +94,7 @@ const STEPS: &[(u64, Machine, Call, Answer, u64)] = &[
         Answer::Done,
         0x0000_0300_0000_0001,
     ),
-    // a zone that the press holds is shown, and is not the robot's to claim, nor the press's again
+    // a zone that the press holds is shown; the robot can't claim it, nor the press again
     (
         0x0000_0100_0000_0400,
         Machine::Press,

@@ -18,7 +18,7 @@ pressed : (w : ℕ) (z : Zone) → same_zone z Z3 ≡ true
 pressed w Z3 e = in_parts w (rows.room_guards Z3 PressIn) (rows.room_guards Z3 PressOut) tt
 pressed w z e = cc
 
--- any other machine has one at most, where its plates go
+-- any other zone has at most one, where its plates go
 elsewhere : (z : Zone) → same_zone z Z3 ≡ false → rows.inner_places z ≡ rows.end_of (transfer_of z OpenIn)
 elsewhere Z3 e = cc
 elsewhere z e = refl

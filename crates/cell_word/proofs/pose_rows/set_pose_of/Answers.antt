@@ -48,7 +48,7 @@ row_is w m p one other written first second =
     (rows.run_guards m p) (rows.worn ∷ []))
     ∙ by_parts w (parts m p one other) written
 
--- the row where the zones are known, and where nothing but the last parts can refuse
+-- the row if the zones are known, and only the last parts can refuse
 row_at : (c : After-posed_at-other) → unless (first_refusal c.args.word (rows.pose_row c.args.machine c.args.pose)) (changes.written c.args.machine (SetPose c.args.pose))
     ≡ part_by_part c.args.word (parts c.args.machine c.args.pose c.posed_at-one.result c.posed_at-other.result) (changes.written c.args.machine (SetPose c.args.pose))
 row_at c =

@@ -21,7 +21,7 @@ use Rattle.cell_word.proofs.Trying.{was_refused, was_passed}
 use Rattle.cell_word.proofs.RowsHold.{rows_hold}
 use Rattle.cell_word.proofs.step.step_sound.Goals as goal
 
--- what a call is answered that is no inquiry
+-- the answer to a call that is no inquiry
 reply_by : (s : ModelState) (m : Machine) (c : Call) → ((z : Zone) → c ≡ Inquire z → ⊥) → reply s m c ≡ done_unless (refusal s m c)
 reply_by s m (Claim z) other = refl
 reply_by s m (Give z) other = refl
