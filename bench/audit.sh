@@ -1,13 +1,13 @@
 #!/usr/bin/env bash
-# Times the audit of 125,000 to 1,000,000 entries: a line for each, so that one sees how the time grows.
-# The program of bench/audit is run in a copy of the repository, of which it is no part.
+# Times the audit of 125,000 to 1,000,000 entries, one line each, to show how the time grows.
+# The program in bench/audit runs in a copy of the repository, since it isn't part of it.
 set -euo pipefail
 top=$(cd "$(dirname "$0")/.." && pwd)
 work=$(mktemp -d)
 trap 'rm -rf "$work"' EXIT
 cp -r "$top/crates" "$top/crates.txt" "$top/HANDLES" "$work"
 mkdir -p "$work/crates/bench_audit/src"
-# it has another name here, since the gate wants each source file in a crate
+# it has another name here: the gate accepts source files only in crates
 cp "$top/bench/audit/main.txt" "$work/crates/bench_audit/src/main.rt"
 echo 'bench_audit: cell_report cell_rules cell_types' >> "$work/crates.txt"
 cd "$work/crates/bench_audit"

@@ -1,8 +1,9 @@
 #!/usr/bin/env bash
-# Times calls of the interlock beside three plain Rust programs: its rules on the bits of the word, with a load, a
-# match and a compare-exchange; the same under a Mutex; and a bare load and compare-exchange without rules. Each is
-# run N times in turn, so that other work on the machine slows all, and its median counts. The figures are to look
-# at, not a test. The program of bench/interlock is proved and built in a copy of the repository, of which it is no part.
+# Compares calls of the interlock with three plain Rust programs: the same rules on the bits of the
+# word, with a load, a match and a compare-exchange; the same under a Mutex; and a bare load and
+# compare-exchange without rules. They take turns for N runs each, so that other work on the machine
+# slows all; the medians are printed. The figures are for reading, not a test. The program in
+# bench/interlock is proved and built in a copy of the repository, since it isn't part of it.
 set -euo pipefail
 top=$(cd "$(dirname "$0")/.." && pwd)
 runs=${1:-20}
@@ -15,7 +16,7 @@ for crate in cell_types cell_rules cell_word cell_interlock; do
 done
 cp "$top/HANDLES" "$work"
 mkdir -p "$work/crates/bench_interlock/src"
-# its files have other names here, since the gate wants each source and each proof in a crate
+# its files have other names here: the gate accepts sources and proofs only in crates
 cp "$top/bench/interlock/main.txt" "$work/crates/bench_interlock/src/main.rt"
 for it in calls work; do
     mkdir -p "$work/crates/bench_interlock/proofs/$it"

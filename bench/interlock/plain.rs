@@ -1,6 +1,6 @@
-//! The interlock in plain Rust, three times: its rules on the bits of the word, with a load, a match and a
-//! compare-exchange; the same rules on a word under a Mutex; and a bare load and compare-exchange that
-//! know no rules.
+//! The interlock in plain Rust, three times: its rules on the bits of the word, with a load, a
+//! match and a compare-exchange; the same rules on a word under a Mutex; and a bare load and
+//! compare-exchange without rules.
 
 use std::hint::black_box;
 use std::sync::Mutex;
@@ -38,7 +38,7 @@ const DEP_END: u64 = 1 << 38;
 const STAMP: u64 = 1 << 40;
 const LAST: u64 = 1_048_575 << 40;
 
-// Giver, receiver, the bits of the giving and of the receiving place.
+// Giver, receiver, and the bits of the giving and the receiving place.
 type Row = (Machine, Machine, u32, u32);
 
 fn row(z: usize, posture: u8) -> Option<Row> {
@@ -88,7 +88,7 @@ fn who(w: u64, z: usize) -> Option<Machine> {
     match owner(w, z) { 0 => None, 1 => Some(HOSTS[z]), _ => Some(GUESTS[z]) }
 }
 
-// The refusals that are common to the calls in a zone that the caller holds.
+// The refusals common to all calls that need the zone.
 fn held(w: u64, m: Machine, z: usize) -> Result<u64, Refusal> {
     let mine = code(m, z);
     if mine == 0 { Err(NotParty) } else if owner(w, z) != mine { Err(NotOwner(who(w, z))) } else { Ok(mine) }
@@ -249,7 +249,7 @@ impl Shared for Bare {
     }
 }
 
-// Each call of the press in this round is Done.
+// Every call of the press in this round is Done.
 const ROUND: [Call; 8] = [Claim(2), SetPose(3), SetPose(4), Release(2), Claim(2), SetPose(3), SetPose(6), Release(2)];
 
 // Six machines at once: four claim and release a zone of their own, two inquire and are refused.
@@ -262,7 +262,7 @@ const PAIRS: [(Machine, [Call; 2]); 6] = [
     (Crane, [Inquire(4), Claim(4)]),
 ];
 
-// Nanoseconds a call of 1,000,000 that nobody overtakes.
+// Nanoseconds a call, over 1,000,000 calls that no other overtakes.
 fn alone<S: Shared>(shared: S) -> f64 {
     let begun = Instant::now();
     for n in 0..1_000_000 {
@@ -271,7 +271,7 @@ fn alone<S: Shared>(shared: S) -> f64 {
     begun.elapsed().as_nanos() as f64 / 1e6
 }
 
-// Calls a second of six threads that make 150,000 each.
+// Calls a second, with six threads of 150,000 calls each.
 fn six<S: Shared>(shared: S) -> f64 {
     let begun = Instant::now();
     thread::scope(|scope| {
@@ -287,7 +287,7 @@ fn six<S: Shared>(shared: S) -> f64 {
     900_000.0 / begun.elapsed().as_secs_f64()
 }
 
-// Numbers that look random, from a seed.
+// Random numbers from a seed.
 struct Numbers(u32);
 
 impl Numbers {
@@ -336,7 +336,7 @@ fn number(answer: Answer) -> u32 {
     }
 }
 
-// One number for the replies to 2,000,000 calls that look random, which has to be that of the proved program.
+// A digest of the replies to 2,000,000 random calls, which has to equal the proved program's.
 fn digest(word: u64) -> u32 {
     let shared = Word(AtomicU64::new(word));
     let mut numbers = Numbers(1995);

@@ -1,4 +1,4 @@
-//! The audit of journals, written by hand in plain Rust and proved by nobody.
+//! The audit of journals in hand-written plain Rust, unproved.
 
 use crate::interlock::{Answer, Call, Machine, State};
 
@@ -10,7 +10,8 @@ pub struct Entry {
     pub stamp: u32,
 }
 
-/// Whether the journals are those of one history from the start to the end: else the words of the fault.
+/// Checks that the journals are those of one history from the start to the end. The error has the
+/// words of the fault.
 pub fn audit(journals: &[(Machine, &[Entry])], start: &State, end: &State) -> Result<(), String> {
     let mut order = Vec::with_capacity(journals.iter().map(|(_, journal)| journal.len()).sum());
     for (number, (_, journal)) in journals.iter().enumerate() {

@@ -1,5 +1,6 @@
-//! What the plain programs that run the cell have in common: configurations, the machines' turns and logs, and the report. Written by
-//! hand and proved by nobody. It reads configurations with one key a line, and names no fault of theirs.
+//! What the plain programs for the cell share: configurations, the machines' turns and logs, and
+//! the report. Hand-written and unproved. It reads configurations with one key a line, and doesn't
+//! name their faults.
 
 use crate::audit::{Entry, audit};
 use crate::interlock::{Answer, Call, Machine, Refusal, State, owner_word};
@@ -15,7 +16,7 @@ enum Status {
     Refused,
 }
 
-/// What is kept of a machine: what it did, how it fares, and its calls that were settled.
+/// What is stored of a machine: its counts, its status, and its settled calls.
 struct Log {
     turns: u64,
     done: u64,
@@ -37,7 +38,8 @@ impl<P: Program> Seat<P> {
         Seat { program, log }
     }
 
-    /// A turn of its program: a step that asks, or one that drives. A call is answered with the stamp after it, or finds the interlock busy.
+    /// A turn of its program: a step with a call, or one that drives. The call is answered with the
+    /// stamp after it, or finds the interlock busy.
     #[inline(always)]
     pub fn turn(&mut self, ask: impl FnOnce(Machine, Call) -> Option<(Answer, u32)>) {
         let log = &mut self.log;
@@ -107,7 +109,7 @@ impl Cell {
         ]
     }
 
-    /// The report of a run, and whether all went well.
+    /// The report of a run, and whether it succeeded.
     pub fn report(&self, start: &State, end: &State) -> (String, bool) {
         let mut text = String::new();
         let _ = writeln!(text, "start {} {}", digits(&start.full), start.stamp);
@@ -149,7 +151,7 @@ pub struct Config {
     gauges: [Gauge; 5],
 }
 
-/// The keys of the sections, in the order of the gauges, with the upper end of the axis.
+/// The keys of the sections, in the order of the gauges, with the end of each axis.
 const SECTIONS: [(&str, i32); 5] = [("arm1", 1000), ("arm2", 1000), ("rotation", 2000), ("turn", 500), ("gripper", 1000)];
 
 fn read_config(text: &str) -> Option<Config> {
@@ -183,14 +185,15 @@ fn read_config(text: &str) -> Option<Config> {
     (is_lawful && gauges.iter().all(Gauge::is_sound)).then_some(Config { start, schedule, gauges })
 }
 
-/// How a schedule of several lines begins, of which each but the last, `"""`, ends with a backslash too.
+/// The first line of a schedule of several lines. Each but the last, `"""`, ends with a backslash
+/// too.
 const LINES: &str = r#""""\"#;
 
 fn unquoted(value: &str) -> Option<&str> {
     value.strip_prefix('"')?.strip_suffix('"')
 }
 
-/// Reads the configuration from standard input, has it run, and writes the report.
+/// Reads the configuration from standard input, runs it, and writes the report.
 pub fn served(run: impl FnOnce(&Config, &mut Cell) -> State) -> ExitCode {
     let mut text = String::new();
     if std::io::stdin().take(2_097_153).read_to_string(&mut text).is_err() {

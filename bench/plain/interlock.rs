@@ -1,4 +1,5 @@
-//! The sequential interlock, written by hand in plain Rust and proved by nobody: the programs of this folder use it.
+//! The sequential interlock in hand-written plain Rust, unproved. The programs of this folder use
+//! it.
 
 #[derive(Clone, Copy, PartialEq, Eq, PartialOrd, Ord)]
 pub enum Machine {
@@ -206,7 +207,7 @@ pub enum Refusal {
     InUse,
 }
 
-/// What a zone is in: its owner, whether a plate is in it, and its posture.
+/// The state of a zone: its owner, whether a plate is in it, and its posture.
 #[derive(Clone, Copy, PartialEq, Eq)]
 pub struct At {
     pub owner: Option<Machine>,
@@ -257,7 +258,7 @@ impl State {
         &mut self.zones[zone as usize]
     }
 
-    /// Where a plate comes from and goes to in this zone, as it is open.
+    /// Where a plate comes from and goes to in this zone, in its posture.
     fn way(&self, zone: Zone) -> Option<(usize, usize)> {
         match (zone, self.at(zone).posture) {
             (Z1, OpenIn) => Some((FEED_END, ON_TABLE)),
@@ -426,7 +427,7 @@ impl State {
         Ok(())
     }
 
-    /// Answers the call, and changes the state where it is done.
+    /// Answers the call, and changes the state if it is done.
     pub fn apply(&mut self, machine: Machine, call: Call) -> Answer {
         let checked = match call {
             Call::Claim(zone) => self.claim(machine, zone),

@@ -1,4 +1,5 @@
-//! The machines' programs and parts, written by hand in plain Rust and proved by nobody. Each machine goes through its steps, by number.
+//! The machines' programs and parts in hand-written plain Rust, unproved. Each machine goes through
+//! numbered steps.
 
 use crate::interlock::*;
 
@@ -7,13 +8,14 @@ pub type Waits = fn(Refusal) -> bool;
 
 pub trait Program {
     const MACHINE: Machine;
-    /// What the step asks, if it asks.
+    /// The call of the step, if it has one.
     fn asks(&self) -> Option<(Call, Waits)>;
     /// The step's call was done.
     fn done(&mut self);
     /// The step's inquiry was answered.
     fn shown(&mut self, _at: At) {}
-    /// A step that drives: it sets its motors and moves for a tick, and is over in the turn in which all of them are off.
+    /// A step without a call: it sets its motors and moves for a tick. It ends in the turn in which
+    /// all motors are off.
     fn drive(&mut self);
 }
 
@@ -46,7 +48,7 @@ enum Motor {
 
 use Motor::{Minus, Off, Plus};
 
-/// Where an axis goes in a tick, at most to 0 or to its end.
+/// The position of an axis after a tick, not below 0 or past its end.
 fn moved(position: i32, motor: Motor, end: i32) -> i32 {
     match motor {
         Off => position,
@@ -59,7 +61,7 @@ fn until(at: bool, on: Motor) -> Motor {
     if at { Off } else { on }
 }
 
-/// A potentiometer, read by its straight line.
+/// A potentiometer with a linear reading.
 #[derive(Clone, Copy)]
 pub struct Gauge {
     pub raw_lo: i32,
@@ -99,7 +101,7 @@ impl Gauge {
     }
 }
 
-/// A belt with its two plates.
+/// A belt with the two plates that it may have.
 struct Belt {
     entry: Option<i32>,
     last: Option<i32>,
@@ -377,7 +379,7 @@ impl Crane {
         Crane { step: if start.full[ON_CRANE] { 9 } else { 1 }, gauge, travel: 0, gripper: 900 }
     }
 
-    /// Travels, where the gripper is high, and ends at the switch.
+    /// Travels while the gripper is high, and ends at the switch.
     fn travel(&mut self, at: bool, on: Motor) {
         if self.gauge.is_high(self.gripper) {
             let motor = until(at, on);
@@ -431,7 +433,7 @@ impl Program for Crane {
     }
 }
 
-/// The steps of the robot: four groups, each of which ends with the choice of the next.
+/// The steps of the robot: four groups, each of which ends by choosing the next.
 pub struct Robot {
     group: Group,
     step: u32,
@@ -481,7 +483,7 @@ impl Robot {
         };
     }
 
-    /// Rotates, where both arms are in.
+    /// Rotates while both arms are in.
     fn rotate(&mut self, target: i32) {
         let [arm1, arm2, rotation] = &self.gauges;
         if arm1.is_retracted(self.arm1) && arm2.is_retracted(self.arm2) {

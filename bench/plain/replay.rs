@@ -1,5 +1,5 @@
-//! The replay of scripts, written by hand in plain Rust and proved by nobody: what the proved program is measured beside.
-//! It knows no quotes, no bare carriage returns and no byte order mark.
+//! The replay of scripts in hand-written plain Rust, unproved, for comparison with the proved
+//! program. It supports no quotes, no bare carriage returns and no byte order mark.
 
 #[allow(dead_code, reason = "each program uses a part of it")]
 mod interlock;
@@ -55,7 +55,7 @@ fn call_of(record: &str) -> Option<(Machine, Call)> {
     }
 }
 
-/// Adds the lines to the text, and gives the fault.
+/// Adds the lines to the text; the error is the fault.
 fn tell(text: &mut String, records: &[&str], is_cut: bool) -> Result<(), String> {
     let long = || Err("long".to_string());
     let Some((first, later)) = records.split_first() else {

@@ -1,5 +1,6 @@
-//! The simulation of the cell, written by hand in plain Rust and proved by nobody: what `cell sim` is measured beside. As the proved
-//! program it keeps a history of all calls and a journal for each machine, and makes the same audit of the journals.
+//! The simulation of the cell in hand-written plain Rust, unproved, for comparison with `cell sim`.
+//! Like the proved program, it keeps a history of all calls and a journal for each machine, and
+//! audits the journals.
 
 mod audit;
 mod cell;
@@ -16,7 +17,7 @@ struct Event {
     _answer: Answer,
 }
 
-/// The state that a schedule leads to.
+/// The state after a schedule.
 fn run(config: &Config, cell: &mut Cell) -> State {
     let mut state = config.start;
     let mut history = Vec::new();

@@ -1,5 +1,6 @@
-//! Six workers, one a machine, each in a thread of its own, over one interlock under a Mutex: what `cell run` is measured beside, written
-//! by hand in plain Rust and proved by nobody. Each keeps a journal, and the journals are audited. Its one word is the number of turns.
+//! Six workers, one for each machine, each in its own thread, on one interlock under a Mutex.
+//! Hand-written plain Rust, unproved, for comparison with `cell run`. Each keeps a journal, and the
+//! journals are audited. Its one word is the number of turns.
 
 mod audit;
 #[allow(dead_code, reason = "each program uses a part of it")]
@@ -13,7 +14,7 @@ use interlock::State;
 use machines::Program;
 use std::sync::{Mutex, PoisonError};
 
-/// So many turns of a machine.
+/// A number of turns of a machine.
 fn work<P: Program>(seat: &mut Seat<P>, interlock: &Mutex<State>, turns: u32) {
     for _ in 0..turns {
         seat.turn(|machine, call| {

@@ -20,7 +20,7 @@ pub enum Mode {
     Replay,
     /// Simulates the cell.
     Sim,
-    /// Runs the cell, each machine in a worker of its own with this number of turns. A call is Busy
+    /// Runs the cell. Each machine has a worker of its own and this number of turns; a call is Busy
     /// after this number of failed tries.
     Run { turns: u32, tries: u8 },
 }

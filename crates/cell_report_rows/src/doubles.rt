@@ -1,21 +1,21 @@
-//! Readers and a writer that stand in for others in tests: interrupted, failing, or without an end.
+//! Readers and a writer for tests: interrupted, failing, or endless.
 
 use std::alloc::Global;
 use std::io;
 use std::io::{ErrorKind, Read, Write};
 
-/// Gives the bytes of a text one at a time, and fails once it has given so many. It is interrupted
+/// Gives the bytes of a text one at a time, and fails after a number of them. It is interrupted
 /// before each byte, the end and the failure.
 #[derive(Drop)]
 pub struct InterruptedReader<'a> {
     bytes: &'a [u8],
     left: usize,
-    // The last read was interrupted.
+    // Whether the last read was interrupted.
     is_resumed: bool,
 }
 
 impl<'a> InterruptedReader<'a> {
-    /// A reader of these bytes that fails once it has given so many.
+    /// A reader of these bytes that fails after it has given `left` of them.
     pub fn new(bytes: &'a [u8], left: usize) -> InterruptedReader<'a> {
         InterruptedReader {
             bytes,
@@ -47,7 +47,7 @@ impl Read for InterruptedReader<'_> {
 /// Gives line feeds without end, and counts them.
 #[derive(Drop)]
 pub struct EndlessReader {
-    /// How many it has given.
+    /// How many bytes it has given.
     pub given: u64,
 }
 
@@ -59,32 +59,32 @@ impl Read for EndlessReader {
     }
 }
 
-/// What a writer fails in.
+/// How a writer fails.
 #[derive(Clone, Copy, PartialEq, Eq, Debug)]
 pub enum Failure {
-    /// A write that finds no room left is an error.
+    /// A write is an error when no room is left.
     Write,
-    /// A write that finds no room left takes no byte.
+    /// A write takes no byte when no room is left.
     Full,
     /// A flush is an error.
     Flush,
 }
 
-/// Takes so many bytes, at most so many at a time, and fails as it is told. It is interrupted before
-/// each part and each flush.
+/// Takes a limited number of bytes, a limited number at a time, and then fails in a given way. It
+/// is interrupted before each part and each flush.
 #[derive(Drop)]
 pub struct InterruptedWriter {
-    /// What it has taken.
+    /// The bytes that it has taken.
     pub taken: Vec<u8>,
     at_once: usize,
     left: usize,
     failure: Failure,
-    // The last write or flush was interrupted.
+    // Whether the last write or flush was interrupted.
     is_resumed: bool,
 }
 
 impl InterruptedWriter {
-    /// A writer with room for so many bytes that takes at most so many at a time, and what it fails in.
+    /// A writer with room for `room` bytes, which takes at most `at_once` at a time.
     pub fn new(alloc: Global, room: usize, at_once: usize, failure: Failure) -> InterruptedWriter {
         InterruptedWriter {
             taken: Vec::new(alloc),
@@ -95,7 +95,7 @@ impl InterruptedWriter {
         }
     }
 
-    /// Answers each second call by an interruption.
+    /// Interrupts every second call.
     fn interrupt(&mut self) -> io::Result<()> {
         self.is_resumed = !self.is_resumed;
         if self.is_resumed {

@@ -1,5 +1,5 @@
-//! Tests of `cell_replay` and `cell_report` by their public calls. Each text was worked out by hand from the rules of the
-//! cell.
+//! Tests of `cell_replay` and `cell_report` by their public calls. Each text was worked out by hand
+//! from the rules of the cell.
 #![tactic(auto)]
 
 pub mod doubles;

@@ -12,14 +12,14 @@ mod order;
 mod reports;
 mod scripts;
 
-/// Whether the replay of a script writes this text and ends so.
+/// Whether the replay of a script writes this text and has this outcome.
 fn is_answered(alloc: Global, script: &[u8], text: &str, outcome: Outcome) -> bool {
     let mut written = Vec::new(alloc);
     let got = replay(alloc, &mut &*script, &mut written);
     got == Ok(outcome) && written.as_slice() == text.as_bytes()
 }
 
-/// Each script is answered by its text.
+/// Checks that each script is answered by its text.
 fn are_answered(rt: &impl Abort, alloc: Global, rows: &[(&str, &str)]) {
     for (script, text) in rows {
         let is_right = is_answered(alloc, script.as_bytes(), text, Outcome::Clean);

@@ -55,19 +55,19 @@ const CRANE_ASKS: Note = (
     7,
 );
 
-/// The stamp of the start, notes in two parts, and why the audit refuses them.
+/// The stamp of the start, notes in two parts, and the fault of the audit.
 type Row = (u32, &'static [Note], &'static [Note], Option<AuditFault>);
 
 const ROWS: &[Row] = &[
     (0, &THREE, &[], None),
-    // Two Done entries have the stamp.
+    // Two Done entries have one stamp.
     (
         0,
         &THREE,
         &[(Machine::Table, Call::Claim(Zone::Z2), DONE, 3)],
         Some(AuditFault::Twice(3)),
     ),
-    // Two below the start's stamp count too, and a gap is looked for later.
+    // Two with a stamp below the start's count too, and come before a gap.
     (
         0,
         &THREE,
@@ -85,7 +85,7 @@ const ROWS: &[Row] = &[
         &[],
         Some(AuditFault::Gap(2)),
     ),
-    // A refused entry's stamp has to be reached as well.
+    // The stamp of a refused entry has to be reached too.
     (
         0,
         &THREE,
@@ -116,14 +116,14 @@ const ROWS: &[Row] = &[
         )],
         Some(AuditFault::Differs(5)),
     ),
-    // It was refused as it is while the robot is in, but noted at a stamp before that.
+    // The answer is right while the robot is in, but the stamp is one before that.
     (
         0,
         &LETS_IN,
         &[(Machine::Press, MOVES, ROBOTS, 4)],
         Some(AuditFault::Differs(4)),
     ),
-    // Entries of one stamp that aren't Done may stand either way, but not before the Done one.
+    // Entries of one stamp that aren't Done may be in any order, but not before the Done one.
     (
         0,
         &[PRESS_CLAIMS, ALREADY, INQUIRY, ALREADY],
@@ -136,7 +136,7 @@ const ROWS: &[Row] = &[
         &[(Machine::Press, Call::Release(Zone::Z3), DONE, 2)],
         Some(AuditFault::Differs(1)),
     ),
-    // Two entries differ: the stamp of the first is the answer.
+    // Two entries differ: the first one's stamp is the answer.
     (
         0,
         &[PRESS_CLAIMS, TABLE_CLAIMS],
@@ -151,7 +151,7 @@ const ROWS: &[Row] = &[
         ],
         Some(AuditFault::Differs(1)),
     ),
-    // The stamp next to the start's, and the greatest one, have to be reached as well.
+    // The stamp after the start's, and the greatest one, have to be reached too.
     (0, &[TABLE_CLAIMS], &[], Some(AuditFault::Gap(1))),
     (
         0,
@@ -164,14 +164,14 @@ const ROWS: &[Row] = &[
         )],
         Some(AuditFault::Gap(4)),
     ),
-    // The first entry in the order of stamps stands behind a later one in its journal.
+    // The first entry by stamp is after a later one in its journal.
     (
         0,
         &[(Machine::Press, Call::Release(Zone::Z3), DONE, 2)],
         &[PRESS_CLAIMS],
         Some(AuditFault::Differs(1)),
     ),
-    // Nothing is before the start.
+    // There is nothing before the start.
     (7, &[CRANE_ASKS], &[], None),
     (
         7,
@@ -192,7 +192,7 @@ const ROWS: &[Row] = &[
     ),
 ];
 
-/// The press claims its zone and releases it, and the table claims its own in between.
+/// The press claims its zone and releases it; between the two the table claims its own.
 const THREE: [Note; 3] = [PRESS_CLAIMS, PRESS_RELEASES, TABLE_CLAIMS];
 
 /// The journal of a machine.
@@ -227,7 +227,7 @@ fn journals_of(rt: &impl Abort, alloc: Global, notes: &[Note], more: &[Note]) ->
     journals
 }
 
-/// Why an audit refuses the journals.
+/// The fault for which an audit refuses the journals.
 fn fault_of(
     alloc: Global,
     journals: &Journals,
@@ -244,7 +244,7 @@ fn refuses_what_no_history_wrote(rt: HostRuntime) {
         let journals = journals_of(&rt, rt.alloc(), notes, more);
         let got = fault_of(rt.alloc(), &journals, &start, None);
         assert!(rt; got == *fault, "{fault:?}");
-        // A wrong end is looked for last.
+        // A wrong end comes last.
         let got = fault_of(rt.alloc(), &journals, &start, Some(&start));
         assert!(rt; fault.is_none() || got == *fault, "{fault:?}");
     }
@@ -288,14 +288,14 @@ fn accepts_what_was_noted(rt: HostRuntime) {
     assert!(rt; events.len() == 1);
 }
 
-/// What an inquiry of a zone is answered in which nobody is.
+/// The answer to an inquiry of a free zone.
 const FREE: Answer = Answer::Shown {
     owner: None,
     flag: false,
     posture: Posture::Closed,
 };
 
-// At one stamp the events stand by machine.
+// At one stamp the events are in the order of the machines.
 #[test]
 fn puts_machines_in_order(rt: HostRuntime) {
     let start = start_at(&rt, EMPTY, 0);
@@ -330,7 +330,7 @@ fn compares_the_end_whole(rt: HostRuntime) {
     }
 }
 
-// Where memory runs out, a journal can't be written or the audit says so; else the answer is as ever.
+// If memory runs out, a journal can't be written or the audit says so; else the answer is the same.
 #[test]
 fn wants_memory_or_answers(rt: HostRuntime) {
     let start = start_at(&rt, EMPTY, 0);

@@ -10,13 +10,13 @@ const SCRIPT: &str =
 const TEXT: &str =
     "0 0 start 0\n1 1 done\n2 1 held press\n3 2 done\n4 2 shut closed\n5 2 zone free 0 closed\n";
 
-/// Whether a text is some of the lines of `TEXT`, from the first on.
+/// Whether a text is some first lines of `TEXT`.
 fn is_whole_lines(written: &[u8]) -> bool {
     TEXT.as_bytes().starts_with(written) && (written.is_empty() || written.ends_with(b"\n"))
 }
 
-/// Whether the replay of the script, of which a reader gives so many bytes before it fails, fails
-/// with it and has written whole lines.
+/// Whether the replay fails to read, and has written whole lines, if the reader fails after `left`
+/// bytes of the script.
 fn fails_to_read(alloc: Global, left: usize) -> bool {
     let mut reader = InterruptedReader::new(SCRIPT.as_bytes(), left);
     let mut written = Vec::new(alloc);
@@ -24,8 +24,8 @@ fn fails_to_read(alloc: Global, left: usize) -> bool {
     got == Err(ReplayFault::Read) && is_whole_lines(written.as_slice())
 }
 
-/// Whether the replay ends so with a writer that has room for so many bytes, and has written as many
-/// of its text, or all.
+/// Whether the replay has this result with a writer for `room` bytes, and has written that many of
+/// its text, or all if it is shorter.
 fn is_written(
     alloc: Global,
     room: usize,
@@ -47,7 +47,7 @@ fn fails_with_its_reader(rt: HostRuntime) {
     }
 }
 
-// A failure is told, and an interruption isn't one.
+// A failure is reported; an interruption isn't a failure.
 #[test]
 fn fails_with_its_writer(rt: HostRuntime) {
     let failed = Err(ReplayFault::Write);
@@ -65,7 +65,7 @@ fn fails_with_its_writer(rt: HostRuntime) {
     assert!(rt; is_written(rt.alloc(), usize::MAX, Failure::Write, Ok(Outcome::Clean)));
 }
 
-// The run chooses which request for memory is refused. The writer takes no memory.
+// The run chooses which allocation is refused. The writer allocates nothing.
 #[test]
 fn runs_out_of_memory(rt: HostRuntime) {
     let mut room = [0u8; 200];

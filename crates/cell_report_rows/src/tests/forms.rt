@@ -1,9 +1,9 @@
-//! How the records are parted, quoted and spelled.
+//! How records are separated, quoted and spelled.
 
 use super::is_answered;
 use cell_replay::{Outcome, ScriptFault};
 
-/// Record 0 and one that asks for the press's zone, with other ends, quotes and a byte order mark.
+/// Record 0 and a claim of the press's zone, with other line ends, quotes and a byte order mark.
 const FORMS: &[&str] = &[
     "start,0000000000\npress,claim,z3\n",
     "start,0000000000\npress,claim,z3",
@@ -37,7 +37,7 @@ const NO_REQUESTS: &[&str] = &[
     "start,0000000000\nstart,0000000000\n",
 ];
 
-/// A request with a byte behind it that is no text.
+/// A request with a byte after it that isn't UTF-8.
 const NO_TEXT: &[u8] = b"start,0000000000\npress,claim,z3\xff\n";
 
 const NO_STARTS: &[&str] = &[
@@ -48,7 +48,7 @@ const NO_STARTS: &[&str] = &[
     "start \n",
     ",0000000000\n",
     "start2,0000000000\n",
-    // A quote is no part of a field, and a field is compared whole.
+    // Quotes aren't part of a field, and a field is compared whole.
     "\"start,0000000000\"\n",
     "\"start\"2,0000000000\n",
 ];
@@ -79,7 +79,7 @@ const STAMPS: &[(&str, &str)] = &[
     ("start,0000010001,1048575\n", "0 1048575 start 2\n"),
 ];
 
-/// Scripts that are answered alike.
+/// Groups of scripts with the same answer.
 const GROUPS: &[(&[&str], &str, Outcome)] = &[
     (FORMS, "0 0 start 0\n1 1 done\n", Outcome::Clean),
     (

@@ -1,11 +1,11 @@
-//! Scripts that are longer than is used.
+//! Scripts that are too long.
 
 use super::is_answered;
 use cell_replay::{Outcome, ScriptFault, replay};
 use std::alloc::Global;
 use std::process::Abort;
 
-/// A script's records, how many bytes they are filled up to by blank lines, and a record behind those.
+/// A script's records, the length to which blank lines fill it, and a record after those.
 type Filled = (&'static str, usize, &'static str);
 
 const TWO: &str = "start,0000000000\nwatch,inquire,z1\nwatch,inquire,z2\n";
@@ -13,19 +13,19 @@ const TWO: &str = "start,0000000000\nwatch,inquire,z1\nwatch,inquire,z2\n";
 const LONG: Outcome = Outcome::Refused(ScriptFault::Long);
 
 const ROWS: &[(Filled, &str, Outcome)] = &[
-    // All bytes that are used.
+    // Every byte is used.
     (
         (TWO, 4_194_304, ""),
         "0 0 start 0\n1 0 zone free 0 closed\n2 0 zone free 0 closed\n",
         Outcome::Clean,
     ),
-    // The last record of a script with more bytes isn't answered, wherever it ends.
+    // With more bytes the last record isn't answered, wherever it ends.
     (
         (TWO, 4_194_305, ""),
         "0 0 start 0\n1 0 zone free 0 closed\nfault long\n",
         LONG,
     ),
-    // A record that goes on behind the bytes that are used is the last one.
+    // A record that goes on past the used bytes is the last one.
     (
         (TWO, 4_194_300, "watch,inquire,z3\n"),
         "0 0 start 0\n1 0 zone free 0 closed\n2 0 zone free 0 closed\nfault long\n",
@@ -76,7 +76,7 @@ fn cuts_long_scripts(rt: HostRuntime) {
     }
 }
 
-/// Record 0 and so many inquiries, and a record behind them.
+/// Record 0, a number of inquiries, and a last record.
 fn inquiries(rt: &impl Abort, alloc: Global, count: u32, last: &str) -> String {
     let mut script = String::from_str(alloc, "start,0000000000\n").expect(rt, "memory");
     for _ in 0..count {
@@ -86,7 +86,7 @@ fn inquiries(rt: &impl Abort, alloc: Global, count: u32, last: &str) -> String {
     script
 }
 
-/// What is written for as many inquiries and a last record, if the script ends so.
+/// The text for 65,536 inquiries and a last record, if the script has this outcome.
 fn told(rt: &impl Abort, alloc: Global, last: &str, outcome: Outcome) -> Option<Vec<u8>> {
     let script = inquiries(rt, alloc, 65_536, last);
     let mut written = Vec::new(alloc);
@@ -97,7 +97,7 @@ fn told(rt: &impl Abort, alloc: Global, last: &str, outcome: Outcome) -> Option<
     }
 }
 
-/// Whether it is a line for each of as many records, with these at both ends.
+/// Whether the text has 65,537 lines, with these first and last ones.
 fn has_most_lines(text: &[u8], first: &str, last: &str) -> bool {
     text.starts_with(first.as_bytes())
         && text.ends_with(last.as_bytes())
@@ -106,7 +106,7 @@ fn has_most_lines(text: &[u8], first: &str, last: &str) -> bool {
 
 const TOO_MANY: &[&str] = &["watch,inquire,z1\n", "nothing\n"];
 
-// As many records as are answered are clean, and the record that is too many may hold anything.
+// As many records as may be answered are clean. One more may hold anything.
 #[test]
 fn answers_most_records(rt: HostRuntime) {
     let alloc = rt.alloc();

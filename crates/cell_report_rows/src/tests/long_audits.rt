@@ -1,4 +1,4 @@
-//! Audits of many entries, of calls that look random.
+//! Audits of many random calls.
 ghost use Rattle.std.specs.Prelude.{◌<◌};
 
 use super::audits::journal_mut;
@@ -9,7 +9,7 @@ use cell_types::{Answer, Call, Entry, Event, Journals, Machine, Pose, Refusal, Z
 use std::alloc::{AllocError, Global};
 use std::process::Abort;
 
-/// Numbers that look random, from a seed.
+/// Random numbers from a seed.
 #[derive(Drop)]
 struct Numbers(u32);
 
@@ -62,7 +62,7 @@ fn make(
     Ok(())
 }
 
-/// The journals of six machines that make this many calls, and the state that these leave.
+/// The journals of six machines after a number of calls, and the state after these.
 fn run(
     rt: &impl Abort,
     alloc: Global,
@@ -78,7 +78,7 @@ fn run(
     (journals, state)
 }
 
-/// Whether the events are answered as the interlock answers them, and are what the machines noted.
+/// Whether the events have the interlock's answers, and are what the machines noted.
 fn is_explained(journals: &mut Journals, start: &State, events: &[Event]) -> bool {
     let mut state = *start;
     let mut places = [0usize; 7];
@@ -124,14 +124,14 @@ fn changed(numbers: &mut Numbers, entry: Entry) -> Entry {
     }
 }
 
-/// What an audit of journals with one entry changed comes to.
+/// The result of an audit of journals with one changed entry.
 #[derive(Clone, Copy, PartialEq, Eq, Debug)]
 enum Verdict {
     /// The journals are refused.
     Refused,
     /// Another history explains them.
     Explained,
-    /// No history explains them, and they aren't refused.
+    /// No history explains them, but they aren't refused.
     Wrong,
 }
 
@@ -143,7 +143,7 @@ fn audited(alloc: Global, journals: &mut Journals, start: &State, end: &State) -
     }
 }
 
-/// Changes an entry, audits the journals, and puts the entry back.
+/// Changes an entry, audits the journals, and restores the entry.
 fn audited_changed(
     alloc: Global,
     numbers: &mut Numbers,

@@ -1,7 +1,7 @@
-//! Two refusals that apply at once: the first in the call's order is the answer, and worn comes last.
-//! Each script ends in a call that meets the causes named above it, and every call before that is Done. A pose
-//! that the machine hasn't concerns no zone: such rows say that none of the later causes comes before it.
-//! The texts were worked out apart from the program, from the rules of the cell.
+//! If two refusals apply, the answer is the first in the call's order, and worn comes last. Each
+//! script ends with a call that has the causes named above it; every call before that is Done. A
+//! pose that the machine doesn't have concerns no zone: such rows say that no later cause comes
+//! before nopose. The texts were worked out from the rules of the cell, without the program.
 
 use super::are_answered;
 

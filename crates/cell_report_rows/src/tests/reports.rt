@@ -1,4 +1,4 @@
-//! Reports of runs, each with the record of the run made by hand.
+//! Reports of runs whose records were made by hand.
 
 use super::{EMPTY, start_at};
 use crate::doubles::{Failure, InterruptedWriter};
@@ -17,7 +17,7 @@ const NONE: Counts = Counts {
     busy: 0,
 };
 
-/// The press's counts after 31 turns, in which it went to its middle and waited for a plate.
+/// The press's counts after 31 turns: it has moved to its middle, and waits for a plate.
 const PRESS: Counts = Counts {
     turns: 31,
     done: 4,
@@ -33,7 +33,7 @@ const TO_MIDDLE: &[Call] = &[
     Call::Release(Zone::Z3),
 ];
 
-/// An empty cell in which the press alone had turns.
+/// An empty cell in which only the press had turns.
 fn press_alone(rt: &impl Abort, alloc: Global) -> RunRecord {
     let start = start_at(rt, EMPTY, 0);
     let mut end = start;
@@ -93,8 +93,8 @@ const STATUS: [Status; 7] = [
     Status::Worn,
 ];
 
-/// A run that tells each machine from the others, and each axis, and each of a machine's numbers. Its
-/// end isn't known, so that no line of it stands in the report.
+/// A run in which all machines, all axes and all counts of a machine differ. Its end isn't known,
+/// so the report has no line about it.
 fn mixed(rt: &impl Abort, alloc: Global) -> RunRecord {
     RunRecord {
         start: start_at(rt, PLACES, 1_048_575),
@@ -114,7 +114,7 @@ fn mixed(rt: &impl Abort, alloc: Global) -> RunRecord {
     }
 }
 
-/// Its report but for the line of the audit.
+/// Its report without the line of the audit.
 const MIXED: &str = "start 1010010101 1048575
 feed turns 10 done 2 read 3 refused 4 busy 5 worn
 table turns 20 done 2 read 3 refused 4 busy 5 sensor
@@ -125,7 +125,7 @@ crane turns 60 done 2 read 3 refused 4 busy 5 ok
 axes press 1 arm1 2 arm2 3 rotation 4 lift 5 turn 6 crane 7 gripper 8
 ";
 
-/// The line of the audit, by what was found.
+/// The line of the audit, by its fault.
 const AUDITS: &[(Option<AuditFault>, &str)] = &[
     (Some(AuditFault::Gap(17)), "audit gap 17\n"),
     (None, "audit ok\n"),
@@ -162,7 +162,7 @@ const BUSY_PLACES: [bool; 10] = [
     false, true, false, true, false, true, false, false, true, true,
 ];
 
-/// A run that ends after these calls, with three of five plates in zones.
+/// A run that ends after the calls of `BUSY`, with three of five plates in zones.
 fn busy(rt: &impl Abort, alloc: Global) -> RunRecord {
     let mut run = press_alone(rt, alloc);
     run.start = start_at(rt, BUSY_PLACES, 1000);
@@ -201,7 +201,7 @@ const MOST: Counts = Counts {
     busy: u64::MAX,
 };
 
-/// The run of the press with the longest numbers and words, for which there is room.
+/// The run of the press with the longest numbers and words; a page has room for it.
 fn largest(rt: &impl Abort, alloc: Global) -> RunRecord {
     let mut run = press_alone(rt, alloc);
     run.counts = [MOST; 7];
@@ -210,7 +210,7 @@ fn largest(rt: &impl Abort, alloc: Global) -> RunRecord {
     run
 }
 
-/// Its report but for the line of the audit.
+/// Its report without the line of the audit.
 const LARGEST: &str = "start 0000000000 0
 feed turns 18446744073709551615 done 18446744073709551615 read 18446744073709551615 refused 18446744073709551615 busy 18446744073709551615 gatelimit
 table turns 18446744073709551615 done 18446744073709551615 read 18446744073709551615 refused 18446744073709551615 busy 18446744073709551615 gatelimit
@@ -229,7 +229,7 @@ axes press -2147483648 arm1 -2147483648 arm2 -2147483648 rotation -2147483648 li
 stamp 4 plates 0
 ";
 
-/// Whether the report of a run and an audit is this text, with this line at its end.
+/// Whether the report of a run and an audit is this text and then this line.
 fn is_reported(
     alloc: Global,
     run: &RunRecord,
@@ -259,8 +259,8 @@ fn tells_runs(rt: HostRuntime) {
     assert!(rt; is_reported(alloc, &largest(&rt, alloc), differs, LARGEST, line));
 }
 
-/// Whether the report of the run of the press comes to this with a writer that has room for so many
-/// bytes and takes so many at a time, and has written as many of its text, or all.
+/// Whether the press's report has this result with a writer for `room` bytes, `at_once` at a time,
+/// and that many bytes of its text were written, or all if it is shorter.
 fn is_written(
     alloc: Global,
     run: &RunRecord,
@@ -276,7 +276,7 @@ fn is_written(
         && PRESS_ALONE.as_bytes().starts_with(writer.taken.as_slice())
 }
 
-// A failure is told, and an interruption isn't one.
+// A failure is reported; an interruption isn't a failure.
 #[test]
 fn fails_with_its_writer(rt: HostRuntime) {
     let alloc = rt.alloc();
@@ -294,6 +294,6 @@ fn fails_with_its_writer(rt: HostRuntime) {
     }
     assert!(rt; is_written(alloc, &run, usize::MAX, 100, Failure::Flush, failed));
     assert!(rt; is_written(alloc, &run, usize::MAX, 100, Failure::Write, Ok(())));
-    // It is taken byte by byte.
+    // The writer takes byte by byte.
     assert!(rt; is_written(alloc, &run, PRESS_ALONE.len(), 1, Failure::Full, Ok(())));
 }

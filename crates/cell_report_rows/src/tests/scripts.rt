@@ -1,10 +1,11 @@
-//! Scripts of one zone, of starts, and of a plate on its way, with the text that each is answered.
+//! Scripts about one zone, starts, and a plate on its way, with their answers.
 
 use super::{are_answered, is_answered};
 use cell_replay::{Outcome, ScriptFault};
 
 const ANSWERED: &[(&str, &str)] = &[
-    // Who isn't a party is told so first, and at the last stamp all that would be Done is worn.
+    // A caller that isn't a party learns that first. At the last stamp a call that would be Done is
+    // worn.
     (
         "start,1111100010,1048575\nwatch,claim,z1\ntable,claim,z1\ntable,release,z1\n",
         "0 1048575 start 6\n1 1048575 notparty\n2 1048575 worn\n3 1048575 notowner free\n",
@@ -14,7 +15,7 @@ const ANSWERED: &[(&str, &str)] = &[
         "start,0100000000\nfeed,claim,z1\n",
         "0 0 start 1\n1 0 shut closed\n",
     ),
-    // A mover needs its zone.
+    // A machine that moves needs its zone.
     (
         "start,0000000000\npress,claim,z3\npress,pose,travelling\npress,pose,middle\npress,release,z3\nrobot,claim,z3\npress,pose,travelling\n",
         "0 0 start 0\n1 1 done\n2 2 done\n3 3 done\n4 4 done\n5 5 done\n6 5 notowner robot\n",
@@ -24,7 +25,7 @@ const ANSWERED: &[(&str, &str)] = &[
         "start,0000000000\ntable,claim,z1\ntable,claim,z2\ntable,pose,loading\n",
         "0 0 start 0\n1 1 done\n2 2 done\n3 2 jump\n",
     ),
-    // The feed belt would run over its end.
+    // The feed belt would run a plate off its end.
     (
         "start,0100000000\nfeed,claim,z6\nfeed,pose,running\n",
         "0 0 start 1\n1 1 done\n2 1 placefull\n",
@@ -59,7 +60,7 @@ const ANSWERED: &[(&str, &str)] = &[
         "start,0100000000\ntable,claim,z1\ntable,claim,z2\ntable,pose,turning\ntable,pose,loading\ntable,release,z1\nfeed,claim,z1\nfeed,give,z1\ntable,pose,turning\n",
         "0 0 start 1\n1 1 done\n2 2 done\n3 3 done\n4 4 done\n5 5 done\n6 6 done\n7 7 done\n8 7 platein z1\n",
     ),
-    // A belt that runs keeps its way free.
+    // A belt that runs with a plate at its end keeps z1 in use.
     (
         "start,0100000000\ntable,claim,z1\ntable,claim,z2\ntable,pose,turning\ntable,pose,loading\ntable,release,z1\nfeed,claim,z1\nfeed,claim,z6\nfeed,pose,running\nfeed,release,z1\nfeed,pose,halted\nfeed,yield,z1\nwatch,inquire,z1\n",
         "0 0 start 1\n1 1 done\n2 2 done\n3 3 done\n4 4 done\n5 5 done\n6 6 done\n7 7 done\n8 8 done\n9 8 inuse\n10 9 done\n11 10 done\n12 10 zone table 0 openin\n",
@@ -69,7 +70,7 @@ const ANSWERED: &[(&str, &str)] = &[
 ];
 
 const REFUSED: &[(&str, &str, Outcome)] = &[
-    // Nothing at all.
+    // No record.
     (
         "",
         "fault nostart\n",
@@ -81,7 +82,7 @@ const REFUSED: &[(&str, &str, Outcome)] = &[
         "fault badstart\n",
         Outcome::Refused(ScriptFault::BadStart),
     ),
-    // Refusals, and a zone that is none.
+    // Refusals, and a zone that doesn't exist.
     (
         "start,0000000000\npress,claim,z3\npress,pose,travelling\npress,pose,middle\npress,give,z3\nrobot,pose,middle\nwatch,claim,z1\npress,claim,z3\nfeed,claim,z7\n",
         "0 0 start 0\n1 1 done\n2 2 done\n3 3 done\n4 3 wrongway\n5 3 nopose\n6 3 notparty\n7 3 already\nfault badrow 8\n",
@@ -89,7 +90,7 @@ const REFUSED: &[(&str, &str, Outcome)] = &[
     ),
 ];
 
-// Through every zone and every pose, and along every way of a plate.
+// Through every zone and every pose, along every way of a plate.
 const ROUND: &str = "\
     start,1000000000\n\
     feed,claim,z6\n\
