@@ -17,7 +17,7 @@ mul_nonneg (pos m) (pos n) ha hb = omega (arith, ints)
 mul_nonneg (pos m) (negsuc n) ha hb = absurd (omega (arith, ints))
 mul_nonneg (negsuc m) b ha hb = absurd (omega (arith, ints))
 
--- a product with a number that isn't below 0 keeps an order
+-- multiplication by a number that isn't below 0 keeps an order
 mul_mono : (a b w : ℤ) → a ≤ℤ b → pos 0 ≤ℤ w → (a *ℤ w) ≤ℤ (b *ℤ w)
 mul_mono a b w h some =
     let rest = mul_nonneg (b -ℤ a) w (omega (arith, ints)) some in
@@ -53,11 +53,11 @@ line_height-next s raw =
     let next : pos (raw + 1) -ℤ pos s.raw_lo ≡ (pos raw -ℤ pos s.raw_lo) +ℤ pos 1 = omega (arith, ints) in
     rw next (add-mul_ℤ (pos raw -ℤ pos s.raw_lo) (pos 1) rise ∙ ap (λ z. line_height s raw +ℤ z) (one-mul_ℤ rise))
 
--- those products, as numbers
+-- the same, as numbers
 window_sum : (t v over under rest tol half line : ℤ) → rest +ℤ tol ≡ half → over ≡ v +ℤ rest → under ≡ t +ℤ rest → t ≤ℤ over → v ≤ℤ under → v ≤ℤ (line +ℤ tol) → line ≤ℤ (v +ℤ tol) → (t ≤ℤ (line +ℤ half)) × (line ≤ℤ (t +ℤ half))
 window_sum t v over under rest tol half line a b c d e f g = (omega (arith, ints), omega (arith, ints))
 
--- a reading within a window less the tolerance puts the line within the window
+-- if a reading is within a window less the tolerance, the line is within the window
 pub line_in_window_lem : (s : Scale) (raw : ℕ) (v target half : ℤ) → IsScale s → IsWithinTolerance s raw v → IsNear v target (half -ℤ s.tol) → IsLineNear s raw target half
 line_in_window_lem s raw v target half k near in_window =
     let rest = half -ℤ s.tol in
@@ -74,11 +74,11 @@ within_of_height : (s : Scale) (p v : ℤ) → IsScale s → height_of s p <ℤ 
 within_of_height s p v k h =
     height_cancel s p (v +ℤ s.tol) k (next_above (height_of s p) (height_of s v) (height_of s (v +ℤ s.tol)) (height_of s ((v +ℤ s.tol) +ℤ pos 1)) (s.tol *ℤ raw_width s) (raw_width s) (height_of-next s (v +ℤ s.tol)) (height_of-add s v s.tol) h)
 
--- what is known of the heights of a position, of a reading and of the line, as numbers
+-- the heights of a position, of a reading and of the line, as numbers
 ideal_sum : (p v line next rise tol width : ℤ) → pos 0 <ℤ width → rise ≤ℤ width → next ≡ line +ℤ rise → line ≤ℤ p → p <ℤ next → v ≤ℤ (line +ℤ tol) → line ≤ℤ (v +ℤ tol) → (p <ℤ ((v +ℤ tol) +ℤ width)) × (v <ℤ ((p +ℤ tol) +ℤ width))
 ideal_sum p v line next rise tol width a b c d e f g = (omega (arith, ints), omega (arith, ints))
 
--- a reading at what an ideal sensor gives for a position is within the tolerance of that position
+-- a reading of the raw value that an ideal sensor gives at a position is within the tolerance of the position
 pub near_position_lem : (s : Scale) (position v : ℤ) (raw : ℕ) → IsScale s → (s.at_hi -ℤ s.at_lo) ≤ℤ raw_width s → IsRawAt s position raw → IsWithinTolerance s raw v → IsNear v position s.tol
 near_position_lem s position v raw k wide ideal near =
     let sums = ideal_sum (height_of s position) (height_of s v) (line_height s raw) (line_height s (raw + 1)) (s.at_hi -ℤ s.at_lo) (s.tol *ℤ raw_width s) (raw_width s) (width_positive s k) wide (line_height-next s raw) ideal.not_above ideal.next_above near.not_below near.not_above in
@@ -90,7 +90,7 @@ raw_gap lo n h = omega (arith, ints)
 floor_naturals : (along rise width q : ℕ) → 0 < width → q ≡ along * rise / width → (q * width ≤ along * rise) × (along * rise < q * width + width)
 floor_naturals along rise width q some e = rw e (div-mul-le_self (along * rise) width, lt-div-mul-add some)
 
--- the part of the positions that a raw value's distance from the first is of the raw width, rounded down, is the line rounded down
+-- the rise times the raw value's distance from the first, over the raw width, rounded down, is the line rounded down
 pub rounded_down : (s : Scale) (raw : ℕ) (v : ℤ) (rise q : ℕ) → IsScale s → s.raw_lo ≤ raw → s.at_hi -ℤ s.at_lo ≡ pos rise → v ≡ s.at_lo +ℤ pos q → q ≡ (raw - s.raw_lo) * rise / (s.raw_hi - s.raw_lo) → IsLineRoundedDown s raw v
 rounded_down s raw v rise q k low rises is part =
     let naturals = floor_naturals (raw - s.raw_lo) rise (s.raw_hi - s.raw_lo) q (omega arith) part in
@@ -106,7 +106,7 @@ rounded_down s raw v rise q k low rises is part =
 floor_sum : (v next line width tol : ℤ) → pos 0 <ℤ width → width ≤ℤ tol → next ≡ v +ℤ width → v ≤ℤ line → line <ℤ next → (v ≤ℤ (line +ℤ tol)) × (line ≤ℤ (v +ℤ tol))
 floor_sum v next line width tol a b c d e = (omega (arith, ints), omega (arith, ints))
 
--- the line rounded down is within the tolerance, which is 1 at least
+-- the line rounded down is within the tolerance, which is at least 1
 pub reading_of_floor : (s : Scale) (raw : ℕ) (v : ℤ) → IsScale s → IsLineRoundedDown s raw v → s.at_lo ≤ℤ v → v ≤ℤ s.at_hi → IsReading s raw v
 reading_of_floor s raw v k floor first last =
     let width = width_positive s k in
@@ -121,7 +121,7 @@ height_strict : (s : Scale) (p q : ℤ) → IsScale s → p <ℤ q → height_of
 height_strict s p q k h =
     next_at_most (height_of s p) (height_of s (p +ℤ pos 1)) (height_of s q) (raw_width s) (height_of-next s p) (width_positive s k) (height_mono s (p +ℤ pos 1) q k (omega (arith, ints)))
 
--- the line is at most as high as a reading and the tolerance
+-- the line is at most a reading plus the tolerance
 line_top : (s : Scale) (raw : ℕ) (v : ℤ) → IsWithinTolerance s raw v → line_height s raw ≤ℤ height_of s (v +ℤ s.tol)
 line_top s raw v near = rw (height_of-add s v s.tol) near.not_above
 
@@ -137,7 +137,8 @@ foot_sum p sum v line tol a b c = omega (arith, ints)
 foot_strict : (p sum v line tol : ℤ) → sum ≡ p +ℤ tol → sum <ℤ v → v ≤ℤ (line +ℤ tol) → p <ℤ line
 foot_strict p sum v line tol a b c = omega (arith, ints)
 
--- a reading that is the tolerance or more below a position puts the line at most there, and likewise above; more than the tolerance, strictly
+-- if a reading is below a position by the tolerance, the line is at most the position; if by more, the line is below it
+-- (likewise above)
 pub line_at_most : (s : Scale) (raw : ℕ) (v p : ℤ) → IsScale s → IsWithinTolerance s raw v → (v +ℤ s.tol) ≤ℤ p → IsLineAtMost s raw p
 line_at_most s raw v p k near h = le_sums (line_height s raw) (height_of s (v +ℤ s.tol)) (height_of s p) (line_top s raw v near) (height_mono s (v +ℤ s.tol) p k h)
 
@@ -153,7 +154,7 @@ line_above s raw v p k near h = foot_strict (height_of s p) (height_of s (p +ℤ
 squeezed : (x y z : ℤ) → x ≤ℤ y → y ≤ℤ z → z <ℤ x → ⊥
 squeezed x y z a b c = omega (arith, ints)
 
--- of two raw values that an ideal sensor gives at a position none is the later one
+-- of two raw values that an ideal sensor gives at a position, neither is greater
 not_later : (s : Scale) (position : ℤ) (a b : ℕ) → IsScale s → IsRawAt s position a → IsRawAt s position b → b ≤ a
 not_later s position a b k one other =
     by_lt_z (pos a) (pos b)
@@ -166,7 +167,7 @@ not_later s position a b k one other =
 both_ways : (a b : ℕ) → b ≤ a → a ≤ b → b ≡ a
 both_ways a b low high = omega arith
 
--- so it gives one alone, and the line lies at one position alone
+-- so it gives only one, and the line is at only one position
 pub one_raw_at : (s : Scale) (position : ℤ) (a b : ℕ) → IsScale s → IsRawAt s position a → IsRawAt s position b → b ≡ a
 one_raw_at s position a b k one other = both_ways a b (not_later s position a b k one other) (not_later s position b a k other one)
 

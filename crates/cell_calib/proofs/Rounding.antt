@@ -1,4 +1,4 @@
--- The figures of what is rounded down.
+-- Rounding down, in figures.
 use Rattle.std.proofs.Common.{◌+◌, ◌+ℤ◌, pos, ℕ, ℤ, arith}
 use Rattle.std.specs.Int.Signed.{le_z, lt_z, le_z_yes, lt_z_yes}
 use Rattle.std.specs.Prelude.{T}

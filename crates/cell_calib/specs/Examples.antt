@@ -1,17 +1,17 @@
--- Raw values and positions rounded down, in figures, where a scale's raw values aren't a whole number for each position.
+-- Raw values and positions rounded down, in figures, on scales with no whole number of raw values for a position.
 use Rattle.std.specs.Prelude.{◌≡◌, ℕ, ℤ, pos, neg_ℤ}
 use Rattle.cell_calib.specs.Scale.{Scale}
 use Rattle.cell_calib.specs.Line.{IsLineRoundedDown, IsRawAt}
 
--- a scale by its two raw values, and the positions at them
+-- a scale by its two raw values and the positions there
 abbrev pub scale_of : ℕ → ℕ → ℤ → ℤ → Scale
 scale_of raw_lo raw_hi at_lo at_hi = record { raw_lo = raw_lo; raw_hi = raw_hi; at_lo = at_lo; at_hi = at_hi; tol = pos 5 }
 
--- an ideal sensor gives this raw value at a position, and no other
+-- an ideal sensor gives this raw value at a position and no other
 abbrev pub GivesRaw : Scale → ℤ → ℕ → Type 0
 GivesRaw s position raw = IsRawAt s position raw × ((other : ℕ) → IsRawAt s position other → other ≡ raw)
 
--- the line is at this position for a raw value, rounded down, and at no other
+-- the line at a raw value, rounded down, is this position and no other
 abbrev pub LiesAt : Scale → ℕ → ℤ → Type 0
 LiesAt s raw position = IsLineRoundedDown s raw position × ((other : ℤ) → IsLineRoundedDown s raw other → other ≡ position)
 
@@ -19,7 +19,7 @@ LiesAt s raw position = IsLineRoundedDown s raw position × ((other : ℤ) → I
 abbrev pub three_for_two : Scale
 three_for_two = scale_of 0 1500 (pos 0) (pos 1000)
 
--- 503 raw values for 500 positions, of which most are below 0
+-- 503 raw values for 500 positions; most positions are below 0
 abbrev pub below_zero : Scale
 below_zero = scale_of 7 510 (neg_ℤ (pos 300)) (pos 200)
 

@@ -1,7 +1,7 @@
 use Rattle.std.specs.Prelude.{ℕ, ◌+◌, ◌≤◌, ℤ, pos, ◌+ℤ◌, ◌-ℤ◌, ◌*ℤ◌, ◌≤ℤ◌, ◌<ℤ◌}
 use Rattle.cell_calib.specs.Scale.{Scale}
 
--- how many raw values lie between the two points
+-- the number of raw values from one point to the other
 abbrev pub raw_width : Scale → ℤ
 raw_width s = pos s.raw_hi -ℤ pos s.raw_lo
 
@@ -18,7 +18,7 @@ pub record IsLineNear (s : Scale) (raw : ℕ) (position d : ℤ) : Type 0 where
   pub not_below : height_of s position ≤ℤ (line_height s raw +ℤ d *ℤ raw_width s)
   pub not_above : line_height s raw ≤ℤ (height_of s position +ℤ d *ℤ raw_width s)
 
--- the exact line at a raw value is below a position, above it, at most it, at least it
+-- the exact line at a raw value is below, above, at most or at least a position
 abbrev pub IsLineBelow : Scale → ℕ → ℤ → Type 0
 IsLineBelow s raw position = line_height s raw <ℤ height_of s position
 
@@ -41,7 +41,7 @@ pub record IsReading (s : Scale) (raw : ℕ) (v : ℤ) : Type 0 where
   pub first : s.at_lo ≤ℤ v
   pub last : v ≤ℤ s.at_hi
 
--- a closure, by what it requires and ensures, may be called from raw_lo to raw_hi, and then answers near the line
+-- a closure (what it requires, what it ensures) may be called from raw_lo to raw_hi, and answers near the line
 pub record KeepsCalibration (pre : ℕ → Type 0) (post : ℕ → ℤ → Type 0) (s : Scale) : Type 0 where
   pub callable : (raw : ℕ) → s.raw_lo ≤ raw → raw ≤ s.raw_hi → pre raw
   pub near : (raw : ℕ) → s.raw_lo ≤ raw → raw ≤ s.raw_hi → (v : ℤ) → post raw v → IsReading s raw v

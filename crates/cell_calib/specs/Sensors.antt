@@ -7,19 +7,19 @@ use Rattle.cell_calib.specs.declared.sense.RobotSense.{RobotSense}
 use Rattle.cell_calib.specs.declared.sense.DepositSense.{DepositSense}
 use Rattle.cell_calib.specs.declared.sense.SensorVector.{SensorVector}
 
--- both ends of the table's height are on
+-- the switches at both ends of the table's height are on
 abbrev pub TableClashes : TableSense → Type 0
 TableClashes s = IsTrue s.bottom × IsTrue s.top
 
--- two positions of the press are on
+-- the switches at two positions of the press are on
 abbrev pub PressClashes : PressSense → Type 0
 PressClashes s = ((IsTrue s.bottom × IsTrue s.middle) ⊎ (IsTrue s.bottom × IsTrue s.top)) ⊎ (IsTrue s.middle × IsTrue s.top)
 
--- both ends of the crane's travel are on
+-- the switches at both ends of the crane's travel are on
 abbrev pub CraneClashes : CraneSense → Type 0
 CraneClashes s = IsTrue s.deposit × IsTrue s.feed
 
--- the parts of the sensors, by machine
+-- the sensors of each machine
 abbrev pub feed_part : SensorVector → FeedSense
 feed_part v = record { barrier = v.feed_barrier }
 
@@ -38,6 +38,6 @@ deposit_part v = record { barrier = v.deposit_barrier }
 abbrev pub crane_part : SensorVector → CraneSense
 crane_part v = record { deposit = v.crane_deposit; feed = v.crane_feed; gripper = v.gripper }
 
--- some machine has two switches on that can't both be
+-- a machine has two switches on that exclude each other
 abbrev pub SwitchesClash : SensorVector → Type 0
 SwitchesClash v = (PressClashes (press_part v) ⊎ TableClashes (table_part v)) ⊎ CraneClashes (crane_part v)

@@ -7,12 +7,12 @@ use crate::line::line_at;
 use crate::points::Points;
 use crate::sense::SensorFault;
 
-/// A potentiometer's calibration: a closure from raw values to positions, and the line that it is
-/// known to stay near.
+/// A potentiometer's calibration: a closure from raw values to positions, and the line that the
+/// closure stays near.
 ///
-/// From `raw_lo` to `raw_hi` the closure may be called, and answers a position within the tolerance
-/// of the exact line and within `at_lo` to `at_hi`. That fact is kept beside the two fields, so
-/// whoever puts them together, or changes one, has to prove it.
+/// The closure may be called with raw values from `raw_lo` to `raw_hi`. It then answers a position
+/// from `at_lo` to `at_hi`, within the tolerance of the exact line. The field `near` states this,
+/// so code that makes a calibration, or changes a field, has to prove it.
 #[derive(Drop)]
 pub struct Calibration<F: Gauge> {
     /// The closure, from raw values to positions.
@@ -24,7 +24,7 @@ pub struct Calibration<F: Gauge> {
 }
 
 impl<F: Gauge> Calibration<F> {
-    /// Keeps a closure that is near the points' line.
+    /// The calibration of a closure that is near the line of `points`.
     pub fn new(gauge: F, points: Points) -> Calibration<F>
         requires near { F.keeps gauge points }
         ensures gauge { result.gauge ≡ gauge }
@@ -48,8 +48,8 @@ impl<F: Gauge> Calibration<F> {
         self.points.tol()
     }
 
-    /// The position at a raw value, as the closure gives it: `Low` below `raw_lo`, `High` above
-    /// `raw_hi`.
+    /// The position at a raw value, as the closure gives it. A raw value below `raw_lo` is `Low`,
+    /// one above `raw_hi` is `High`.
     pub fn read(&self, raw: u16) -> Result<i32, SensorFault>
         ensures ok { IsOk result ↔ ((self.now.points.raw_lo ≤ raw) × (raw ≤ self.now.points.raw_hi)) }
         ensures low { (result ≡ Err SensorFault.Low) ↔ (raw < self.now.points.raw_lo) }
@@ -67,8 +67,8 @@ impl<F: Gauge> Calibration<F> {
     }
 }
 
-/// What a calibration over the line itself reads at a raw value: the line rounded down, with `Low`
-/// and `High` as ever.
+/// The reading of a calibration whose closure is the exact line, rounded down. A raw value below
+/// `raw_lo` is `Low`, one above `raw_hi` is `High`.
 pub fn line_reading(points: Points, raw: u16) -> Result<i32, SensorFault>
     ensures ok { IsOk result ↔ ((points.raw_lo ≤ raw) × (raw ≤ points.raw_hi)) }
     ensures low { (result ≡ Err SensorFault.Low) ↔ (raw < points.raw_lo) }
@@ -78,8 +78,8 @@ pub fn line_reading(points: Points, raw: u16) -> Result<i32, SensorFault>
     reading(move |raw: u16| line_at(&points, raw), points, raw)
 }
 
-// Keeps a closure and reads by it once. A calibration is named only where the closure's type is a
-// parameter.
+// Makes a closure's calibration and reads by it once. Only a function with the closure's type as a
+// parameter can name the calibration's type.
 fn reading<F: Gauge>(gauge: F, points: Points, raw: u16) -> Result<i32, SensorFault>
     requires { F.keeps gauge points }
     ensures ok { IsOk result ↔ ((points.raw_lo ≤ raw) × (raw ≤ points.raw_hi)) }

@@ -4,19 +4,18 @@ ghost use Rattle.cell_calib.specs.Line.{KeepsCalibration, IsReading};
 
 use crate::points::Points;
 
-/// What gives a position for a raw value: every closure from `u16` to `i32` is one.
+/// A function from raw values to positions. Every closure from `u16` to `i32` is one.
 ///
-/// A struct can keep a fact about the members of a trait of its own project, but not about what a
-/// closure requires and ensures. So this trait stands between a closure and the calibration that
-/// keeps it.
+/// A struct can state a fact about the members of a trait of its own project, but not about what a
+/// closure requires and ensures. So a calibration uses its closure through this trait.
 pub trait Gauge: Drop {
-    // It may be called from raw_lo to raw_hi of a scale, and stays near that scale's line.
+    // It may be called with a scale's raw values from raw_lo to raw_hi, and stays near its line.
     ghost keeps: { Self → Scale → Type 0 };
 
     // What it may give at a raw value.
     ghost gives: { Self → ℕ → ℤ → Type 0 };
 
-    /// The position at a raw value from `raw_lo` to `raw_hi` of points that it keeps to.
+    /// The position at a raw value from `raw_lo` to `raw_hi`, near the line of `points`.
     fn position(&self, points: Points, raw: u16) -> i32
         requires keeps { ∥ keeps self.now points ∥₁ }
         requires low { points.raw_lo ≤ raw }
@@ -36,7 +35,7 @@ impl<F: Fn(u16) -> i32> Gauge for F {
     }
 }
 
-// That a fact has some proof is enough here: nothing that is computed depends on which one.
+// It is enough that the fact has a proof: no computed value depends on which proof.
 fn reveal<F: Fn(u16) -> i32>(f: &F, points: Points)
     requires { ∥ KeepsCalibration (F.pre f.now) (F.post f.now) points ∥₁ }
     ensures { KeepsCalibration (F.pre f.now) (F.post f.now) points }

@@ -1,5 +1,5 @@
-//! Calibrated sensors of the production cell: what a raw value says of a position, by a closure
-//! that is kept beside the line it stays near, and the fourteen sensors by machine.
+//! Calibrated sensors of the production cell: positions from raw values, by a closure that stays
+//! near a line, and the fourteen sensors by machine.
 #![tactic(auto)]
 
 pub mod calibration;

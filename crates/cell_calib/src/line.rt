@@ -3,7 +3,7 @@ ghost use Rattle.cell_calib.specs.Line.{IsLineRoundedDown, IsReading};
 
 use crate::points::Points;
 
-/// The position that the line has at a raw value from `raw_lo` to `raw_hi`, rounded down.
+/// The line's position at a raw value from `raw_lo` to `raw_hi`, rounded down.
 pub fn line_at(points: &Points, raw: u16) -> i32
     requires low { points.now.raw_lo ≤ raw }
     requires high { raw ≤ points.now.raw_hi }
@@ -16,7 +16,7 @@ pub fn line_at(points: &Points, raw: u16) -> i32
     at_lo + part_of(height, raw - raw_lo, points.raw_hi() - raw_lo) as i32
 }
 
-// The same part of a height as `along` is of a width, rounded down.
+// The height times `along` over `width`, rounded down.
 fn part_of(height: u32, along: u16, width: u16) -> u32
     requires some { 0 < width }
     requires part { along ≤ width }

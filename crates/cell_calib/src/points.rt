@@ -46,7 +46,7 @@ impl Points {
 
     /// The line through (`raw_lo`, `at_lo`) and (`raw_hi`, `at_hi`) with a tolerance.
     ///
-    /// `Range` exactly where the numbers are outside the limits of the type.
+    /// `Range` exactly if the numbers are outside the limits of the type.
     pub fn new(
         raw_lo: u16,
         raw_hi: u16,
@@ -74,7 +74,7 @@ impl Points {
         }
     }
 
-    /// The least raw value that the line is for.
+    /// The least raw value of the line.
     pub fn raw_lo(&self) -> u16
         ensures value { result ≡ self.now.raw_lo }
         ensures limits { IsScale self.now }
@@ -82,7 +82,7 @@ impl Points {
         self.raw_lo
     }
 
-    /// The greatest raw value that the line is for.
+    /// The greatest raw value of the line.
     pub fn raw_hi(&self) -> u16
         ensures value { result ≡ self.now.raw_hi }
         ensures limits { IsScale self.now }

@@ -4,11 +4,11 @@ ghost use Rattle.cell_calib.specs.Sensors.{TableClashes, PressClashes, CraneClas
 /// Why a machine's sensors can't be used.
 #[derive(Clone, Copy, Debug, PartialEq, Eq)]
 pub enum SensorFault {
-    /// A raw value is below its calibration's least.
+    /// A raw value is below the least of its calibration.
     Low,
-    /// A raw value is above its calibration's greatest.
+    /// A raw value is above the greatest of its calibration.
     High,
-    /// Two switches are on that can't both be.
+    /// Two switches are on that exclude each other.
     Clash,
 }
 
@@ -71,7 +71,7 @@ pub struct CraneSense {
 }
 
 impl TableSense {
-    /// Whether the switches can be on together: `Clash` exactly where both ends are.
+    /// Checks the switches: `Clash` exactly if both ends are on.
     pub fn agree(&self) -> Result<(), SensorFault>
         ensures ok { IsOk result ↔ ¬ (TableClashes self.now) }
         ensures clash { (result ≡ Err SensorFault.Clash) ↔ TableClashes self.now }
@@ -84,7 +84,7 @@ impl TableSense {
 }
 
 impl PressSense {
-    /// Whether the switches can be on together: `Clash` exactly where two positions are.
+    /// Checks the switches: `Clash` exactly if two positions are on.
     pub fn agree(&self) -> Result<(), SensorFault>
         ensures ok { IsOk result ↔ ¬ (PressClashes self.now) }
         ensures clash { (result ≡ Err SensorFault.Clash) ↔ PressClashes self.now }
@@ -97,7 +97,7 @@ impl PressSense {
 }
 
 impl CraneSense {
-    /// Whether the switches can be on together: `Clash` exactly where both ends are.
+    /// Checks the switches: `Clash` exactly if both ends are on.
     pub fn agree(&self) -> Result<(), SensorFault>
         ensures ok { IsOk result ↔ ¬ (CraneClashes self.now) }
         ensures clash { (result ≡ Err SensorFault.Clash) ↔ CraneClashes self.now }
@@ -143,7 +143,7 @@ pub struct SensorVector {
 }
 
 impl SensorVector {
-    /// The feed belt's part.
+    /// The feed belt's sensors, out of the fourteen.
     pub fn feed(&self) -> FeedSense
         ensures { result ≡ feed_part self.now }
     {
@@ -152,7 +152,7 @@ impl SensorVector {
         }
     }
 
-    /// The table's part.
+    /// The table's sensors, out of the fourteen.
     pub fn table(&self) -> TableSense
         ensures { result ≡ table_part self.now }
     {
@@ -163,7 +163,7 @@ impl SensorVector {
         }
     }
 
-    /// The robot's part.
+    /// The robot's sensors, out of the fourteen.
     pub fn robot(&self) -> RobotSense
         ensures { result ≡ robot_part self.now }
     {
@@ -174,7 +174,7 @@ impl SensorVector {
         }
     }
 
-    /// The press's part.
+    /// The press's sensors, out of the fourteen.
     pub fn press(&self) -> PressSense
         ensures { result ≡ press_part self.now }
     {
@@ -185,7 +185,7 @@ impl SensorVector {
         }
     }
 
-    /// The deposit belt's part.
+    /// The deposit belt's sensors, out of the fourteen.
     pub fn deposit(&self) -> DepositSense
         ensures { result ≡ deposit_part self.now }
     {
@@ -194,7 +194,7 @@ impl SensorVector {
         }
     }
 
-    /// The crane's part.
+    /// The crane's sensors, out of the fourteen.
     pub fn crane(&self) -> CraneSense
         ensures { result ≡ crane_part self.now }
     {
@@ -206,8 +206,8 @@ impl SensorVector {
     }
 }
 
-/// Whether the switches of the whole cell can be on together: `Clash` exactly where those of the
-/// press, the table or the crane can't.
+/// Checks the switches of the whole cell: `Clash` exactly if those of the press, the table or the
+/// crane clash.
 pub fn switches_agree(sensors: &SensorVector) -> Result<(), SensorFault>
     ensures ok { IsOk result ↔ ¬ (SwitchesClash sensors.now) }
     ensures clash { (result ≡ Err SensorFault.Clash) ↔ SwitchesClash sensors.now }

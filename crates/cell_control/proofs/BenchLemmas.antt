@@ -1,4 +1,4 @@
--- What another machine asks of a bench is no event of one's own, so one stands where one stood.
+-- Another machine's call on a bench is no event of this machine, so its progress stays.
 use Rattle.std.proofs.Common.{◌≡◌, false, cond, List, [], ◌∷◌, ◌++◌, Result, Ok, Err, sym, ap, ◌∙◌, subst, append-nil}
 use Rattle.cell_types.specs.declared.machine.Machine.{Machine}
 use Rattle.cell_types.specs.declared.call.Call.{Call}

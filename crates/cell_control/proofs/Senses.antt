@@ -1,4 +1,4 @@
--- Less may be known of the sensors: a turn, and a step that is reached, are then still what they are.
+-- With less known of the sensors, a turn is still a turn, and a reached step is still reached.
 use Rattle.std.proofs.Common.{◌≡◌, Option, Some, None, Result, Ok, Err, refl, ◌∙◌, ap}
 use Rattle.cell_types.specs.declared.call.Call.{Call}
 use Rattle.cell_types.specs.declared.answer.Answer.{Answer}

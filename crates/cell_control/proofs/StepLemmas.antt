@@ -1,4 +1,4 @@
--- What a turn keeps, whatever the program: that its step is reached, and what its steps know of the state.
+-- What a turn of any program keeps: that its step is reached, and what its steps know of the state.
 use Rattle.std.proofs.Common.{◌≡◌, Bool, true, false, if◌then◌else◌, List, Option, Some, None, Result, Ok, Err, refl, sym, subst}
 use Rattle.cell_types.specs.declared.machine.Machine.{Machine}
 use Rattle.cell_types.specs.declared.posture.Posture.{Posture}
@@ -33,7 +33,7 @@ reached_ask t p q c (Err fault) o before now e seen k l = cc
 pub reached_drive : {S Sense Reading Act : Type 0} → (t : Steps S Sense Reading Act) (p q : S) (o : ModelState) (seen : List Event) → Drives t p q → IsReached t o seen p → IsReached t o seen q
 reached_drive t p q o seen d k = reached-moves (program_of t) (t.start o) p q (own_events seen t.machine) k d
 
--- what the steps know of the state is kept while others act, through drives, and by the program's own calls that are done or show something
+-- what the steps know of the state is kept by others' calls, by drives, and by own calls that are done or show a zone
 pub record Knowing {S Sense Reading Act : Type 0} (t : Steps S Sense Reading Act) (Knows : S → ModelState → Type 0) : Type 0 where
   pub foreign : (p : S) (z : ModelState) (n : Machine) (c : Call) → same_machine n t.machine ≡ false → IsSound z → Knows p z → Knows p (next z n c)
   pub after_drive : (p : S) (reading : _) (act : _) (z : ModelState) → t.call p ≡ None → t.drives p reading act → Knows p z → Knows (t.after_drive p reading act) z
@@ -61,7 +61,7 @@ keeps_by t Knows k = record {
   own = λ p q z c e l sound h. own_answer t Knows k (reply z t.machine c) p q z c e l refl sound h;
 }
 
--- what a step that is reached knows of the state after what was seen
+-- what a reached step knows of the state after the history
 pub reached_knows : {S Sense Reading Act : Type 0} → (t : Steps S Sense Reading Act) (Knows : S → ModelState → Type 0) → Knowing t Knows → (opening : ModelState) (seen : List Event) (p : S)
     → Knows (t.start opening) opening → IsSound opening → IsLegal opening seen → IsReached t opening seen p → Knows p (after opening seen)
 reached_knows t Knows k opening seen p begins sound legal r = reached-knows (program_of t) Knows (keeps_by t Knows k) (t.start opening) p opening seen sound legal begins r

@@ -1,4 +1,4 @@
--- A controller's turn, told of its line in other words.
+-- A controller's turn, by another relation to its line.
 use Rattle.std.proofs.Common.{Option, Some, None, Result, Ok, Err}
 use Rattle.cell_types.specs.declared.call.Call.{Call}
 use Rattle.cell_types.specs.declared.reply.Reply.{Reply}
@@ -21,7 +21,7 @@ module _ {S Sense Reading Act : Type 0} (t : Steps S Sense Reading Act) (same sa
   turn_map (Some fault) p s w h = (f h.0, h.1)
   turn_map None p s w h = (h.0, record { sensed = h.1.sensed; senses = h.1.senses; performs = sensed_map h.1.sensed p h.0 h.1.performs }, h.2)
 
--- in a turn nothing was asked, or one call was
+-- a turn asks nothing or one call
 module _ {S Sense Reading Act : Type 0} (t : Steps S Sense Reading Act) (same : Type 0) (asks : Call → Result Reply LineFault → Type 0) (P : Type 0) (f : same → P) (g : (c : Call) (r : Result Reply LineFault) → asks c r → P) where
   call_either : (o : Option Call) (p : S) (reading : Reading) (r : Performed S Act) → PerformsCall t o same asks p reading r → P
   call_either None p reading r h = f h.0

@@ -1,4 +1,4 @@
--- A turn leaves what its rows say.
+-- A turn has the effect that its rows say.
 use Rattle.std.proofs.Common.{◌≡◌, ◌∙◌, ap, sym, subst, refl, zero, suc, List, Bool, true, false, if◌then◌else◌, ℕ, Option, Some, None, Result, Ok, Err}
 use Rattle.std.specs.Prelude.{⊤}
 use Rattle.cell_types.specs.declared.call.Call.{Call}
@@ -19,7 +19,7 @@ use Rattle.cell_control.specs.Turns.{Performed, PerformsCall, PerformsSensed, Tu
 use Rattle.cell_control.specs.TurnRows.{Says, Answered, stops_with, AnswerRows, SilentRows, HeardRows, AsksAlways, ReachedRows, TurnRows}
 
 module _ {S Sense Reading Act : Type 0} (t : Steps S Sense Reading Act) (p : S) (s : Sense) where
-  -- a turn in which something was asked is what came back of that
+  -- the outcome of a turn that asks, by what came back
   asked_call : (o : Option Call) (answered : Result Reply LineFault) (reading : Reading) (r : Performed S Act) → PerformsCall t o ⊥ (λ call x. x ≡ answered) p reading r → r ≡ at_rest (t.rest p) (outcome t p answered)
   asked_call None answered reading r k = absurd k.0
   asked_call (Some call) answered reading r k = k.2 ∙ ap (λ x. at_rest (t.rest p) (outcome t p x)) k.1
@@ -57,14 +57,14 @@ module _ {S Sense Reading Act : Type 0} (t : Steps S Sense Reading Act) (p : S) 
     out_of_memory = λ k. led_by _ w k;
   }
 
-  -- what a step performs by what its sensors say
+  -- a step is performed by what its sensors say
   by_sensors : (same : Type 0) (asks : Call → Result Reply LineFault → Type 0) (sensed said : Result Reading SensorFault) (r : Performed S Act) → sensed ≡ said → PerformsSensed t sensed same asks p r → PerformsSensed t said same asks p r
   by_sensors same asks sensed said r e k = subst (λ x. PerformsSensed t x same asks p r) e k
 
   by_call : (same : Type 0) (asks : Call → Result Reply LineFault → Type 0) (o : Option Call) (reading : Reading) (r : Performed S Act) → t.call p ≡ o → PerformsCall t (t.call p) same asks p reading r → PerformsCall t o same asks p reading r
   by_call same asks o reading r e k = subst (λ x. PerformsCall t x same asks p reading r) e k
 
-  -- a step that asks nothing leaves the line as it is, whatever its sensors say
+  -- a step that asks nothing leaves the line as it is, for anything that its sensors say
   no_call : (asks : Call → Result Reply LineFault → Type 0) (sensed : Result Reading SensorFault) (r : Performed S Act) → t.call p ≡ None → PerformsSensed t sensed ⊥ asks p r → ⊥
   no_call asks (Err f) r e k = k.0
   no_call asks (Ok reading) r e k = (by_call ⊥ asks None reading r e k).0
@@ -73,7 +73,7 @@ module _ {S Sense Reading Act : Type 0} (t : Steps S Sense Reading Act) (p : S) 
   own_call (Err f) call other r e k = absurd k.0
   own_call (Ok reading) call other r e k = sym (by_call ⊥ (λ x y. x ≡ other) (Some call) reading r e k).1
 
-  -- a turn of a controller that runs, over any line: what it asks, or that the line stays as it is, and where it leads
+  -- a turn of a controller that runs, over any line: what it asks, or that the line stays, and the next step
   pub asked_own : (same : Type 0) (asks : Call → Result Reply LineFault → Type 0) (reading : Reading) (call : Call) (w : Turned S Act) → t.call p ≡ Some call → Says t s (Ok reading) → Turns t same asks None p s w
       → (r : Result Reply LineFault) × asks call r × (w ≡ turned p (at_rest (t.rest p) (outcome t p r)))
   asked_own same asks reading call w own says k =
@@ -115,7 +115,7 @@ module _ {S Sense Reading Act : Type 0} (t : Steps S Sense Reading Act) (p : S) 
     asks_once = λ reading call own says k. subst (λ o. Hears o before now) own (subst (λ x. Hears (asked_at t x p) before now) (says k.sensed k.senses) k.hears);
   }
 
-  -- where each step asks, none is passed by driving
+  -- if each step asks, no step is passed by driving
   no_moves : AsksAlways t → (n : ℕ) (q r : S) → MovesIn (program_of t) n q r → q ≡ r
   no_moves always zero q r k = k
   no_moves always (suc n) q r k =

@@ -1,4 +1,4 @@
--- Rows of a program, to be stated with literal steps, calls, refusals, readings and notes: a table that has other rows is refused.
+-- The forms of a program's rows, for literal steps, calls, refusals, readings and notes.
 use Rattle.std.specs.Prelude.{◌≡◌, Bool, true, false, ◌||◌, List, [], ◌∷◌, Option, Some, None, Result}
 use Rattle.cell_types.specs.declared.machine.Machine.{Machine}
 use Rattle.cell_types.specs.declared.zone.Zone.{Zone}
@@ -10,7 +10,7 @@ use Rattle.cell_types.specs.declared.answer.Refusal.TheVariants.{Held, NotOwner,
 use Rattle.cell_calib.specs.declared.sense.SensorFault.{SensorFault}
 use Rattle.cell_control.specs.Steps.{Steps}
 
--- what a step may wait for, by the refusal on which it stays
+-- what a step may wait for: each is a refusal on which it stays
 pub data Wait : Type 0 where
   UntilFree : Wait
   UntilOwner : Wait
@@ -28,31 +28,31 @@ abbrev pub stays_by : List Wait → Refusal → Bool
 stays_by [] r = false
 stays_by (w ∷ ws) r = is_waited_out w r || stays_by ws r
 
--- a step asks this, stays on these refusals and on no other, and leads there once the call is done
+-- a step asks this call, stays on exactly these refusals, and leads to `next` when the call is done
 pub record AskRow {S Sense Reading Act : Type 0} (t : Steps S Sense Reading Act) (p : S) (call : Call) (waits : List Wait) (next : S) : Type 0 where
   pub asks : t.call p ≡ Some call
   pub stays : (r : Refusal) → t.stays_on p r ≡ stays_by waits r
   pub leads : t.after_done p ≡ next
 
--- a step inquires a zone, stays on no refusal, and leads on by the zone's owner, its flag and its posture
+-- a step inquires a zone, stays on no refusal, and leads on by the zone's owner, flag and posture
 pub record InquiryRow {S Sense Reading Act : Type 0} (t : Steps S Sense Reading Act) (p : S) (zone : Zone) (next : Option Machine → Bool → Posture → S) : Type 0 where
   pub asks : t.call p ≡ Some (Inquire zone)
   pub stays : (r : Refusal) → t.stays_on p r ≡ false
   pub leads : (owner : Option Machine) (flag : Bool) (posture : Posture) → t.after_inquiry p owner flag posture ≡ next owner flag posture
 
--- a step asks nothing; by this reading it tells the actuators this and nothing else, and leads there
+-- a step asks nothing; by this reading it sets the actuators to `act` and nothing else, and leads to `next`
 pub record DriveRow {S Sense Reading Act : Type 0} (t : Steps S Sense Reading Act) (p : S) (reading : Reading) (act : Act) (next : S) : Type 0 where
   pub asks_nothing : t.call p ≡ None
   pub drives : t.drives p reading act
   pub drives_only : (other : Act) → t.drives p reading other → other ≡ act
   pub leads : t.after_drive p reading act ≡ next
 
--- the sensors say this, and nothing else
+-- the sensors say this and nothing else
 pub record CheckRow {S Sense Reading Act : Type 0} (t : Steps S Sense Reading Act) (s : Sense) (said : Result Reading SensorFault) : Type 0 where
   pub says : t.senses s said
   pub says_only : (other : Result Reading SensorFault) → t.senses s other → other ≡ said
 
--- answers that can't come lead nowhere: an inquiry isn't done, no other call shows a zone, and a step that drives is refused nothing
+-- answers that can't come lead nowhere: Done to an inquiry, Shown to another call, a refusal of a step that drives
 abbrev pub is_inquiry : Option Call → Bool
 is_inquiry (Some (Inquire _)) = true
 is_inquiry _ = false

@@ -18,27 +18,27 @@ use Rattle.cell_control.specs.declared.fault.CtlFault.{CtlFault}
 use Rattle.cell_control.specs.declared.fault.CtlFault.TheVariants.{Memory}
 use Rattle.cell_control.specs.Faults.{fault_of}
 
--- over the steps S with their notes, what the sensors show and what they say once checked, and what the actuators are told
+-- S: a step with its notes; Sense: what the sensors show; Reading: what they say after the check; Act: the commands
 pub record Steps (S Sense Reading Act : Type 0) : Type 1 where
-  -- whose program it is, and where it begins, by the places that are full
+  -- whose program it is; its first step, by the places that are full
   pub machine : Machine
   pub start : ModelState → S
   -- what a step asks; a step that asks nothing drives
   pub call : S → Option Call
-  -- where a step leads once it is done; where one leads whose inquiry showed this; the refusals on which a step stays
+  -- the next step when the call is done; the next step by what an inquiry showed; the refusals on which a step stays
   pub after_done : S → S
   pub after_inquiry : S → Option Machine → Bool → Posture → S
   pub stays_on : S → Refusal → Bool
-  -- the sensors are checked: what they say, or why they can't be used
+  -- the check of the sensors: what they say, or why they can't be used
   pub senses : Sense → Result Reading SensorFault → Type 0
-  -- what a step that drives tells the actuators, and where that leads; what a step tells them that asks
+  -- the commands of a step that drives, and the next step; the commands of a step that asks
   pub drives : S → Reading → Act → Type 0
   pub after_drive : S → Reading → Act → S
   pub rest : S → Act
-  -- while a step tells the actuators so, what must hold of what was seen
+  -- what must hold of the history while a step has set the actuators so
   pub motor_demands : S → Act → ModelState → List Event → Type 0
 
--- where an answer leads: on where the call was done; nowhere on a refusal that the step stays on
+-- the next step after an answer; on a refusal the step stays, or the controller stops
 abbrev pub after_refusal : {S Sense Reading Act : Type 0} → Steps S Sense Reading Act → S → Refusal → Result S CtlFault
 after_refusal t p r = if t.stays_on p r then Ok p else Err (fault_of r)
 
@@ -65,10 +65,10 @@ pub record Drives {S Sense Reading Act : Type 0} (t : Steps S Sense Reading Act)
 abbrev pub program_of : {S Sense Reading Act : Type 0} → Steps S Sense Reading Act → Program S
 program_of t = record { machine = t.machine; call = t.call; leads = λ p a q. after_answer t p a ≡ Ok q; moves = Drives t }
 
--- the machine has come so far by its events in a history
+-- the step is one that the machine reaches by its events in a history
 abbrev pub IsReached : {S Sense Reading Act : Type 0} → Steps S Sense Reading Act → ModelState → List Event → S → Type 0
 IsReached t opening seen p = Reached (program_of t) (t.start opening) (own_events seen t.machine) p
 
--- the same program, by sensors of which something else is known
+-- the same program with another check of the sensors
 abbrev pub with_senses : {S Sense Reading Act : Type 0} → Steps S Sense Reading Act → (Sense → Result Reading SensorFault → Type 0) → Steps S Sense Reading Act
 with_senses t senses = record t { senses = senses }

@@ -1,4 +1,4 @@
--- What a turn leaves, by what comes back of its call: rows with literal answers, for any step of any program.
+-- The effect of a turn, by what comes back from its call: rows with literal answers, for any step of any program.
 use Rattle.std.specs.Prelude.{◌≡◌, ⊤, ℕ, Bool, true, false, List, [], ◌∷◌, Option, Some, None, Result, Ok, Err}
 use Rattle.cell_types.specs.declared.machine.Machine.{Machine}
 use Rattle.cell_types.specs.declared.zone.Zone.{Zone}
@@ -23,18 +23,18 @@ use Rattle.cell_control.specs.Demands.{HoldsIn}
 use Rattle.cell_control.specs.Steps.{Steps, outcome, IsReached}
 use Rattle.cell_control.specs.Turns.{Turned, Turns, HearsTurn}
 
--- what the sensors say is this and nothing else
+-- the sensors say nothing but this
 abbrev pub Says : {S Sense Reading Act : Type 0} → Steps S Sense Reading Act → Sense → Result Reading SensorFault → Type 0
 Says {Reading = Reading} t s said = (other : Result Reading SensorFault) → t.senses s other → other ≡ said
 
--- the step leads there, with the motors off; or the controller has stopped with a fault, and stays where it was
+-- the step leads to `next` with the motors off; or the controller has stopped with a fault, and its step stays
 abbrev pub leads_to : {S Sense Reading Act : Type 0} → Steps S Sense Reading Act → S → S → Turned S Act
 leads_to t p next = record { result = Ok (t.rest p); progress = next; stopped = None }
 
 abbrev pub stops_with : {S Act : Type 0} → S → CtlFault → Turned S Act
 stops_with p f = record { result = Err f; progress = p; stopped = Some f }
 
--- ---- a controller that runs asks a call, and this comes back
+-- ---- what comes back from a call of a controller that runs
 
 abbrev pub Answered : {S Sense Reading Act : Type 0} → Steps S Sense Reading Act → S → Sense → Result Reply LineFault → Turned S Act → Type 0
 Answered t p s answered w = Turns t ⊥ (λ call r. r ≡ answered) None p s w
@@ -66,7 +66,7 @@ pub record AnswerRows {S Sense Reading Act : Type 0} (t : Steps S Sense Reading 
 
 -- ---- who asks, and who doesn't
 
--- in a turn the line stays as it is; or something was asked, whatever came back
+-- a turn that leaves the line as it is; and one that asks a call, with any reply
 abbrev pub AsksNothing : {S Sense Reading Act : Type 0} → Steps S Sense Reading Act → Option CtlFault → S → Sense → Turned S Act → Type 0
 AsksNothing t stopped p s w = Turns t ⊤ (λ call r. ⊥) stopped p s w
 
@@ -74,7 +74,7 @@ abbrev pub Asks : {S Sense Reading Act : Type 0} → Steps S Sense Reading Act �
 Asks t stopped p s call w = Turns t ⊥ (λ other r. other ≡ call) stopped p s w
 
 pub record SilentRows {S Sense Reading Act : Type 0} (t : Steps S Sense Reading Act) (p : S) (s : Sense) (w : Turned S Act) : Type 0 where
-  -- a controller that has stopped, with whatever fault
+  -- a controller that has stopped, with any fault
   pub stopped : (f : CtlFault) → AsksNothing t (Some f) p s w → w ≡ record { result = Err fault.Stopped; progress = p; stopped = Some f }
   pub stopped_asks_nothing : (f : CtlFault) (call : Call) → ¬ Asks t (Some f) p s call w
   -- one whose sensors can't be used
@@ -84,7 +84,7 @@ pub record SilentRows {S Sense Reading Act : Type 0} (t : Steps S Sense Reading 
   pub drives : (reading : Reading) (act : Act) → t.call p ≡ None → Says t s (Ok reading) → ((other : Act) → t.drives p reading other → other ≡ act)
       → AsksNothing t None p s w → w ≡ record { result = Ok act; progress = t.after_drive p reading act; stopped = None }
   pub drive_asks_nothing : (call : Call) → t.call p ≡ None → ¬ Asks t None p s call w
-  -- one that asks: it does, and asks its own call
+  -- one that asks: it asks its own call
   pub asks : (reading : Reading) (call : Call) → t.call p ≡ Some call → Says t s (Ok reading) → ¬ AsksNothing t None p s w
   pub asks_its_call : (call other : Call) → t.call p ≡ Some call → Asks t None p s other w → other ≡ call
 
@@ -95,7 +95,7 @@ pub record HeardRows {S Sense Reading Act : Type 0} (t : Steps S Sense Reading A
   pub drives : t.call p ≡ None → HearsTurn t None p s before now → now ≡ before
   pub asks_once : (reading : Reading) (call : Call) → t.call p ≡ Some call → Says t s (Ok reading) → HearsTurn t None p s before now → (r : Result Reply LineFault) × (now ≡ heard_after before call r)
 
--- how far a machine has come by its events: in a program each of whose steps asks, a step an event
+-- a machine's progress by its events: one step for each event, in a program of which every step asks
 abbrev pub AsksAlways : {S Sense Reading Act : Type 0} → Steps S Sense Reading Act → Type 0
 AsksAlways {S = S} t = (q : S) → (call : Call) × (t.call q ≡ Some call)
 
@@ -105,7 +105,7 @@ pub record ReachedRows {S Sense Reading Act : Type 0} (t : Steps S Sense Reading
   pub by_one : (e : Event) → AsksAlways t → own_events seen t.machine ≡ e ∷ [] → IsReached t opening seen p
       → (t.call (t.start opening) ≡ Some e.call) × (outcome t (t.start opening) (Ok (Settled e.answer 0)) ≡ Ok p)
 
--- all of them
+-- all rows
 pub record TurnRows {S Sense Reading Act : Type 0} (t : Steps S Sense Reading Act) (p : S) (s : Sense) : Type 0 where
   pub answered : (w : Turned S Act) → AnswerRows t p s w
   pub silent : (w : Turned S Act) → SilentRows t p s w

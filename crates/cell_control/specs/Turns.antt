@@ -10,7 +10,7 @@ use Rattle.cell_control.specs.declared.fault.CtlFault.{CtlFault}
 use Rattle.cell_control.specs.declared.fault.CtlFault.TheVariants.{Sensor, Stopped}
 use Rattle.cell_control.specs.Steps.{Steps, outcome}
 
--- where a step leads, and what it tells the actuators
+-- the next step and the actuators' commands, or the fault
 abbrev pub Performed : Type 0 → Type 0 → Type 0
 Performed S Act = Result (S × Act) CtlFault
 
@@ -18,7 +18,7 @@ abbrev pub at_rest : {S Act : Type 0} → Act → Result S CtlFault → Performe
 at_rest act (Ok p) = Ok (p, act)
 at_rest act (Err fault) = Err fault
 
--- a step is performed: one that asks does so once with the motors off, one that drives asks nothing
+-- a step is performed: one that asks does so once, with the motors off; one that drives asks nothing
 abbrev pub PerformsCall : {S Sense Reading Act : Type 0} → Steps S Sense Reading Act → Option Call → Type 0 → (Call → Result Reply LineFault → Type 0) → S → Reading → Performed S Act → Type 0
 PerformsCall {Act = Act} t None same asks p reading r = same × ((act : Act) × t.drives p reading act × (r ≡ Ok (t.after_drive p reading act, act)))
 PerformsCall t (Some c) same asks p reading r = (answered : Result Reply LineFault) × asks c answered × (r ≡ at_rest (t.rest p) (outcome t p answered))
@@ -27,13 +27,13 @@ abbrev pub PerformsSensed : {S Sense Reading Act : Type 0} → Steps S Sense Rea
 PerformsSensed t (Err fault) same asks p r = same × (r ≡ Err (Sensor fault))
 PerformsSensed t (Ok reading) same asks p r = PerformsCall t (t.call p) same asks p reading r
 
--- first the sensors are checked; `same` says that the line stays as it is, `asks` that it was asked and what came back
+-- first the sensors are checked; `same` says that the line stays as it is, `asks` what it was asked and what came back
 pub record Performs {S Sense Reading Act : Type 0} (t : Steps S Sense Reading Act) (same : Type 0) (asks : Call → Result Reply LineFault → Type 0) (p : S) (s : Sense) (r : Performed S Act) : Type 0 where
   pub sensed : Result Reading SensorFault
   pub senses : t.senses s sensed
   pub performs : PerformsSensed t sensed same asks p r
 
--- what a turn leaves, with what has stopped the controller
+-- the result of a turn, the progress, and what has stopped the controller
 pub record Turned (S Act : Type 0) : Type 0 where
   pub result : Result Act CtlFault
   pub progress : S
@@ -48,7 +48,7 @@ abbrev pub Turns : {S Sense Reading Act : Type 0} → Steps S Sense Reading Act 
 Turns t same asks (Some fault) p s w = same × (w ≡ record { result = Err Stopped; progress = p; stopped = Some fault })
 Turns {S = S} {Act = Act} t same asks None p s w = (r : Performed S Act) × Performs t same asks p s r × (w ≡ turned p r)
 
--- what a step asks once its sensors are checked
+-- what a step asks after the check of its sensors
 abbrev pub asked_at : {S Sense Reading Act : Type 0} → Steps S Sense Reading Act → Result Reading SensorFault → S → Option Call
 asked_at t (Err fault) p = None
 asked_at t (Ok reading) p = t.call p

@@ -8,7 +8,7 @@ use crate::program::Program;
 use cell_rules::{Answered, Line, State};
 use cell_types::{Answer, Refusal, Reply};
 
-/// A machine's controller: its program, how far it has come in it, and what has stopped it.
+/// A machine's controller: its program, its progress in it, and what has stopped it.
 #[derive(Drop)]
 pub struct Controller<P: Program> {
     program: P,
@@ -17,7 +17,7 @@ pub struct Controller<P: Program> {
 }
 
 impl<P: Program> Controller<P> {
-    /// The controller at the start, which notes the machine's places.
+    /// The controller at the start of its program, by the machine's full places.
     pub fn new(state: &State, program: P) -> Controller<P>
         ensures program { result.program ≡ program }
         ensures progress { result.progress ≡ (P.steps program).start state.now }
@@ -38,18 +38,17 @@ impl<P: Program> Controller<P> {
         self.stopped
     }
 
-    /// What its step tells the actuators if it asks, or can't go on: all motors are off.
+    /// The actuators' commands in a step that asks or can't go on: all motors are off.
     pub fn rest(&self) -> P::Act
         ensures { result ≡ (P.steps self.now.program).rest self.now.progress }
     {
         self.program.rest(self.progress)
     }
 
-    /// One turn of the program: the sensors are checked, and the step at which it stands is
-    /// performed, which asks once or drives.
+    /// One turn: checks the sensors and performs one step of the program. It asks once or drives.
     ///
-    /// After any error the controller has stopped, and keeps what has stopped it. The motors are then
-    /// to be set off. Each later turn asks nothing and answers `Stopped`.
+    /// After any error the controller has stopped, and keeps the cause. The caller then turns the
+    /// motors off. Each later turn asks nothing and answers `Stopped`.
     pub fn turn<L: Line>(&mut self, line: &mut L, sense: &P::Sense) -> Result<P::Act, CtlFault>
         requires own { self.old.stopped ≡ None → L.machine line.old ≡ (P.steps self.old.program).machine }
         requires reached { self.old.stopped ≡ None → IsReached (P.steps self.old.program) (L.opening line.old) (L.seen line.old) self.old.progress }
@@ -78,7 +77,7 @@ impl<P: Program> Controller<P> {
     }
 }
 
-// Performs the step: where it leads, and what it tells the actuators.
+// Performs the step: the next step, and the actuators' commands.
 fn perform<P: Program, L: Line>(
     program: &P,
     progress: P::Progress,
@@ -110,7 +109,7 @@ fn perform<P: Program, L: Line>(
     }
 }
 
-// Where a step leads once its call has come back.
+// The next step after a call has come back.
 fn after_call<P: Program>(
     program: &P,
     progress: P::Progress,

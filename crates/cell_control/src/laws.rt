@@ -1,4 +1,4 @@
-//! What a turn leaves, and what a motor demands: laws, in functions that do nothing.
+//! Laws of a turn and of a motor's demands. Each is the contract of a function with an empty body.
 ghost use Rattle.std.specs.Prelude.{List};
 ghost use Rattle.cell_types.specs.declared.machine.Machine.{Machine};
 ghost use Rattle.cell_types.specs.declared.zone.Zone.{Zone};
@@ -9,10 +9,10 @@ ghost use Rattle.cell_control.specs.TurnRows.{TurnRows, ZoneDemandRows};
 
 use crate::program::Program;
 
-/// What a turn leaves, at any step of any program: where each answer leads, a refusal on which the step
-/// stays, each refusal on which it doesn't, a Busy, and a call that was refused its memory; that a
-/// controller whose sensors can't be used stops; that one which has stopped stays so; what each of
-/// these turns asks; and how far the machine has come by none of its events, and by one.
+/// The effect of a turn, at any step of any program: after each answer, a refusal on which the step
+/// stays, each refusal on which it doesn't, a Busy, and a call that is out of memory. Sensors that
+/// can't be used stop the controller, and a stopped controller stays so. Also what each of these
+/// turns asks, and the machine's progress by none of its events, and by one.
 pub fn turns_by_answers<P: Program>(program: &P, progress: P::Progress, sense: &P::Sense)
     ensures { TurnRows (P.steps program.now) progress sense.now }
 {}

@@ -1,5 +1,5 @@
-//! What a machine is given by, and the controller that goes through any machine's program, step by
-//! step.
+//! The two traits of a machine, its program and its part, and the controller that performs any
+//! machine's program, step by step.
 #![tactic(auto)]
 
 pub mod controller;

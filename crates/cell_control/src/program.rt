@@ -4,18 +4,17 @@ use cell_types::{Call, Machine, Posture, Refusal};
 
 /// A machine's program, with the calibrations of its sensors.
 ///
-/// What the program is stands in `steps`, a table of its steps; the methods are that table. A turn
-/// performs one step:
+/// The program is the table `steps`, and each method is a column of it. A turn performs one step:
 ///
-/// - A step with a call asks it once, and the actuators are told `rest`. When the call is done, the
-///   step leads to `after_done`; when it was an inquiry, to `after_inquiry`, by what that showed. On a
-///   refusal it stays if `stays_on` says so, and stops the controller otherwise.
-/// - A step with none drives: the actuators are told `drive`, and it leads to `after_drive`, which is
-///   the step itself until its motors are off. A step that only switches a magnet is such a step: its
-///   motors are off, so it leads on at once.
+/// - A step with a call asks it once and sets the actuators to `rest`. When the call is done, the
+///   step leads to `after_done`; an inquiry leads to `after_inquiry`, by what it showed. On a
+///   refusal the step stays if `stays_on` says so. Otherwise the controller stops.
+/// - A step without a call drives: it sets the actuators to `drive` and leads to `after_drive`.
+///   That is the step itself until its motors are off. A step that only switches a magnet drives
+///   too: its motors are off, so it leads on at once.
 ///
-/// `rest` sees what was noted, so that a magnet stays as it was switched. It is also what the actuators
-/// are told after a fault: all motors are off, and the part keeps its own magnets.
+/// `rest` depends on the notes, so that a magnet stays as it was switched. After a fault the
+/// actuators are set to `rest` too: all motors are off, and the part keeps its own magnets.
 pub trait Program: Drop {
     ghost use Rattle.std.specs.Prelude.{◌≡◌, List, None};
     ghost use Rattle.cell_types.specs.declared.answer.Event.{Event};
@@ -24,34 +23,34 @@ pub trait Program: Drop {
     ghost use Rattle.cell_rules.specs.History.{IsLegal};
     ghost use Rattle.cell_control.specs.Steps.{Steps, IsReached};
 
-    /// A step, with what the machine has noted.
+    /// A step, with the machine's notes.
     type Progress: Copy;
 
     /// What the machine's sensors show.
     type Sense: Copy;
 
-    /// What they say once they are checked.
+    /// What they say after the check.
     type Reading: Copy;
 
-    /// What its actuators are told.
+    /// The commands to its actuators.
     type Act: Copy;
 
     // The table of its steps.
     ghost steps: { Self → Steps Self.Progress Self.Sense Self.Reading Self.Act };
 
-    /// The beginning, by the places that are full.
+    /// The first step and its notes, by the places that are full.
     fn start(&self, state: &State) -> Self::Progress
         ensures { result ≡ (steps self.now).start state.now };
 
-    /// What a step asks, or `None` where it drives.
+    /// What a step asks, or `None` if it drives.
     fn call(&self, progress: Self::Progress) -> Option<Call>
         ensures { result ≡ (steps self.now).call progress };
 
-    /// Where a step leads once its call is done.
+    /// The next step after a call that is done.
     fn after_done(&self, progress: Self::Progress) -> Self::Progress
         ensures { result ≡ (steps self.now).after_done progress };
 
-    /// Where a step leads whose inquiry showed this of a zone.
+    /// The next step after an inquiry, by what it showed of a zone.
     fn after_inquiry(
         &self,
         progress: Self::Progress,
@@ -61,7 +60,7 @@ pub trait Program: Drop {
     ) -> Self::Progress
         ensures { result ≡ (steps self.now).after_inquiry progress owner flag posture };
 
-    /// Whether a step waits for a refusal to go away.
+    /// Whether a step waits for a refusal to pass.
     fn stays_on(&self, progress: Self::Progress, refusal: Refusal) -> bool
         ensures { result ≡ (steps self.now).stays_on progress refusal };
 
@@ -69,14 +68,14 @@ pub trait Program: Drop {
     fn check(&self, sense: &Self::Sense) -> Result<Self::Reading, SensorFault>
         ensures { (steps self.now).senses sense.now result };
 
-    /// What a step that drives tells the actuators. Whatever was seen on the way to the step, what its
-    /// motors demand of that holds.
+    /// The actuators' commands in a step that drives. Every legal history that reaches the step
+    /// meets what its motors demand.
     fn drive(&self, progress: Self::Progress, reading: Self::Reading) -> Self::Act
         requires asks_nothing { (steps self.now).call progress ≡ None }
         ensures drives { (steps self.now).drives progress reading result }
         ensures motor_demands { (opening : ModelState) (seen : List Event) → IsSound opening → IsLegal opening seen → IsReached (steps self.now) opening seen progress → (steps self.now).motor_demands progress result opening seen };
 
-    /// Where a step leads that has told the actuators so by these sensors.
+    /// The next step after a drive, by its reading and its commands.
     fn after_drive(
         &self,
         progress: Self::Progress,
@@ -85,8 +84,7 @@ pub trait Program: Drop {
     ) -> Self::Progress
         ensures { result ≡ (steps self.now).after_drive progress reading act };
 
-    /// What a step that asks tells the actuators, and what they are told after a fault: that demands
-    /// nothing.
+    /// The actuators' commands in a step that asks, and after a fault. They demand nothing.
     fn rest(&self, progress: Self::Progress) -> Self::Act
         ensures rest { result ≡ (steps self.now).rest progress }
         ensures motor_demands { (opening : ModelState) (seen : List Event) → (steps self.now).motor_demands progress result opening seen };

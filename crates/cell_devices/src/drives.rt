@@ -5,11 +5,11 @@ ghost use Rattle.cell_devices.specs.Drives.{MovesLine, DrivesTo, narrowest_half,
 use crate::motor::Motor;
 use crate::stops::Stop;
 
-/// Drives towards a stop by a reading. The motor is off where the reading is no farther from the
-/// target than `half` less the tolerance; elsewhere it goes plus from below and minus from above.
+/// Drives towards a stop by a reading. The motor is off if the reading is at most `half` less the
+/// tolerance from the target. Otherwise it goes plus from below and minus from above.
 ///
-/// So for a reading that is within the tolerance of the exact line: a motor that is off leaves the
-/// line no farther than `half` from the target, and one that is on finds it on the side it leaves.
+/// So if the reading is within the tolerance of the exact line: while the motor is off, the line is
+/// at most `half` from the target; while it is on, the line is on the side that it drives from.
 pub fn drive(stop: Stop, tol: i32, read: i32) -> Motor
     requires { (pos 2 *ℤ tol) ≤ℤ pos stop.half }
     ensures off { (result ≡ Motor.Off) ↔ IsNear read stop.target (pos stop.half -ℤ tol) }
@@ -21,7 +21,7 @@ pub fn drive(stop: Stop, tol: i32, read: i32) -> Motor
     towards(above, i64::from(stop.half) - i64::from(tol))
 }
 
-// Off within a window round 0, else plus below it and minus above it.
+// Off within a window around 0, plus below it, minus above it.
 fn towards(above: i64, window: i64) -> Motor
     requires { pos 0 ≤ℤ window }
     ensures off { (result ≡ Motor.Off) ↔ IsNear above (pos 0) window }
@@ -37,7 +37,7 @@ fn towards(above: i64, window: i64) -> Motor
     }
 }
 
-/// Drives towards the stop that a step names, by a reading; off where it names none.
+/// Drives towards the stop of a step, by a reading. Without a stop the motor is off.
 pub fn drive_to(stop: Option<Stop>, tol: i32, read: i32) -> Motor
     requires half { IfSome stop (λ s. narrowest_half ≤ s.half) }
     requires coarsest { tol ≤ℤ coarsest_tol }

@@ -1,4 +1,4 @@
--- The clause says only that a proof of the fact exists. An entailment is a proposition, so that proof may be opened in front of the walk that Rattle made.
+-- The clause says only that the fact has a proof. An entailment is a proposition, so that proof may be opened first.
 use seplogic.Bi.Basic.{Entails-prop}
 use mathlib.Core.Logic.{∥∥₁_elim}
 use base.Logic.{via, mono_r, guard_i, guard_e, emp}
