@@ -52,7 +52,7 @@ begins false z = tt
 pub crane_begins : (z : ModelState) → CraneKnows (crane_start z) z
 crane_begins z = begins (is_full z OnCrane) z
 
--- through a drive, or a magnet's switch
+-- after a drive, or after switching the magnet
 done_drive : (s : CraneStep) (z : ModelState) → call_of s ≡ None → AreSo Crane z (facts_at s) → AreSo Crane z (facts_at (step_after s))
 done_drive RaiseToFetch z e k = k
 done_drive TravelToDeposit z e k = k
@@ -69,21 +69,21 @@ drive_on : (b : Bool) (p : CraneProgress) (z : ModelState) → call_of p.step �
 drive_on true p z e k = done_drive p.step z e k
 drive_on false p z e k = k
 
--- a plate comes to the crane while the deposit belt opens outward
+-- a plate comes to the crane only while the deposit belt's zone is open outward
 gives_out : (q : Posture) → is_received_by (Some Crane) (transfer_of Z5 q) ≡ true → q ≡ OpenOut
 gives_out Closed e = cc
 gives_out Moving e = cc
 gives_out OpenIn e = cc
 gives_out OpenOut e = refl
 
--- the feed belt opens inward alone
+-- the feed belt opens its zone to the crane only inward
 opens_in : (q : Posture) → is_open q ≡ true → is_of_some_pose Z6 q ≡ true → q ≡ OpenIn
 opens_in Closed e f = cc
 opens_in Moving e f = cc
 opens_in OpenIn e f = refl
 opens_in OpenOut e f = cc
 
--- once its call is done
+-- after a call that is done
 done_call : (s : CraneStep) (c : Call) (z : ModelState) → call_of s ≡ Some c → reply z Crane c ≡ Done → IsSound z → AreSo Crane z (facts_at s) → AreSo Crane (changed z Crane c) (facts_at (step_after s))
 done_call TakePlate (Take Z5) z e d sound k = ((k.0.0, k.0.1), tt)
 done_call ReleaseDeposit (Release Z5) z e d sound k = tt
@@ -91,7 +91,7 @@ done_call ClaimFeed (Claim Z6) z e d sound k = ((refl, opens_in (posture_at z Z6
 done_call GivePlate (Give Z6) z e d sound k = tt
 done_call s c z e d sound k = cc
 
--- once its inquiry has shown this
+-- after an inquiry that showed this
 at_deposit : (z : ModelState) (o : Option Machine) (f : Bool) (q : Posture) → IsSound z → Stands z Z5 o f q → AreSo Crane z (facts_at (step_after_inquiry AwaitPlate o f))
 at_deposit z (Some Crane) true q sound k = ((ap (λ x. is_owned_by x Crane) k.owner, gives_out (posture_at z Z5) (handed z Z5 Crane sound k.owner k.flag)), tt)
 at_deposit z o f q sound k = tt
@@ -109,7 +109,7 @@ crane-knowing points gives = record {
   after_inquiry = λ p z c o f q e d sound k. shown_call p.step c z o f q e d sound k;
 }
 
--- so at each step the gripper's zone is held
+-- so in each step the crane holds the gripper's zone
 holds_at : (s : CraneStep) (o : ModelState) (h : List Event) → IsLegal o h → AreSo Crane (after o h) (facts_at s) → HoldsIn Crane o h (gripper_zone s)
 holds_at LowerToPlate o h legal k = found o h Crane Z5 OpenOut legal k.0
 holds_at RaiseWithPlate o h legal k = found o h Crane Z5 OpenOut legal k.0

@@ -1,4 +1,4 @@
--- The rows of the crane's program are as the examples have them.
+-- The crane's program meets the rows of the examples.
 use Rattle.std.proofs.Common.{◌≡◌, ◌∙◌, sym, ap, rules, ℕ, Some, None, pos, Bool, true, false, Option, [], ◌∷◌, refl}
 use Rattle.std.specs.Int.Signed.{le_z_yes, lt_z_yes}
 use Rattle.cell_types.specs.declared.machine.Machine.{Machine}
@@ -41,7 +41,7 @@ asks points magnet = record {
   gives = record { asks = refl; stays = λ r. refl; leads = refl };
 }
 
--- what a step tells motors and magnet is one thing
+-- a step and a reading determine the commands to motors and magnet
 acts_one : (points : Scale) (p : CraneProgress) (r : CraneReading) (a b : CraneAct) → Acts points p r a → Acts points p r b → b ≡ a
 acts_one points p r a b at_a at_b =
     let travel : b.travel ≡ a.travel = at_b.travel ∙ sym at_a.travel in

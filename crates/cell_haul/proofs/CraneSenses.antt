@@ -1,4 +1,4 @@
--- Whatever the gauge of the crane's gripper may give, it is near the line; so a turn is also one of the program that knows no more.
+-- A gauge's value is near its line, so a turn is also one of the program that knows only that.
 use Rattle.std.proofs.Common.{ℕ, ℤ, Result, Ok, Err}
 use Rattle.cell_calib.specs.Scale.{Scale}
 use Rattle.cell_calib.specs.Line.{IsReading}

@@ -39,7 +39,7 @@ facts_at ClaimBack = Owns Z4 ∷ Hosts Z4 Closed ∷ Hosts Z5 OpenOut ∷ []
 abbrev pub DepositKnows : DepositProgress → ModelState → Type 0
 DepositKnows p z = AreSo Deposit z (facts_at p.step)
 
--- through a drive
+-- after a drive
 done_drive : (s : DepositStep) (entry last : Bool) (z : ModelState) → call_of s ≡ None → AreSo Deposit z (facts_at s) → AreSo Deposit z (facts_at (step_after s entry last))
 done_drive RunIn entry last z e k = k
 done_drive RunOut entry last z e k = k
@@ -49,7 +49,7 @@ drive_on : (b : Bool) (p : DepositProgress) (z : ModelState) → call_of p.step 
 drive_on true p z e k = k
 drive_on false p z e k = done_drive p.step p.entry p.last z e k
 
--- once its call is done
+-- after a call that is done
 at_choice : (entry last : Bool) (z : ModelState) → owns z Deposit Z4 ≡ true → owns z Deposit Z5 ≡ true → AreSo Deposit z (facts_at (choice entry last))
 at_choice entry true z o u = (o, (u, tt))
 at_choice true false z o u = (o, (u, tt))
@@ -76,7 +76,7 @@ deposit-knowing = record {
   after_inquiry = λ p z c owner flag posture e d sound k. k;
 }
 
--- so a step that drives holds both zones, and they move
+-- so in a step that drives the belt holds both its zones, which move
 pub drives_at : (s : DepositStep) (z : ModelState) → call_of s ≡ None → AreSo Deposit z (facts_at s)
     → ((owns z Deposit Z4 ≡ true) × (owns z Deposit Z5 ≡ true)) × ((posture_at z Z4 ≡ Moving) × (posture_at z Z5 ≡ Moving))
 drives_at RunIn z e k = ((k.0, k.1.0), (k.1.1.0.1, k.1.1.1.0.1))

@@ -43,7 +43,7 @@ facts_at RunOut = Owns Z6 ∷ Finds Z1 OpenIn ∷ Hosts Z6 Moving ∷ []
 facts_at Halt = Owns Z6 ∷ Finds Z1 OpenIn ∷ Hosts Z6 Moving ∷ []
 facts_at GivePlate = Owns Z6 ∷ Finds Z1 OpenIn ∷ Hosts Z6 Closed ∷ []
 
--- the plates that the belt has at each step
+-- the plates on the belt at each step
 abbrev pub has_plates : FeedStep → Bool → Bool → Bool
 has_plates ClaimEntry entry last = true
 has_plates PoseLanding entry last = not entry && not last
@@ -58,7 +58,7 @@ has_plates RunOut entry last = last
 has_plates Halt entry last = last
 has_plates GivePlate entry last = last
 
--- the notes are its places
+-- the notes agree with the belt's places
 pub record KnowsAt (s : FeedStep) (entry last : Bool) (z : ModelState) : Type 0 where
   pub facts : AreSo Feed z (facts_at s)
   pub plates : has_plates s entry last ≡ true
@@ -71,7 +71,7 @@ FeedKnows p z = KnowsAt p.step p.entry p.last z
 pub feed_begins : (z : ModelState) → FeedKnows (feed_steps.start z) z
 feed_begins z = record { facts = tt; plates = refl; entry_noted = refl; last_noted = refl }
 
--- through a drive
+-- after a drive
 done_drive : (s : FeedStep) (entry last : Bool) (z : ModelState) → call_of s ≡ None → KnowsAt s entry last z → KnowsAt (step_after s entry last) (entry_after s entry) (last_after s last) z
 done_drive RunIn entry last z e k = record { facts = k.facts; plates = k.plates; entry_noted = k.entry_noted; last_noted = k.last_noted }
 done_drive RunOut entry last z e k = record { facts = k.facts; plates = k.plates; entry_noted = k.entry_noted; last_noted = k.last_noted }
@@ -81,27 +81,27 @@ drive_on : (b : Bool) (p : FeedProgress) (z : ModelState) → call_of p.step ≡
 drive_on true p z e k = k
 drive_on false p z e k = done_drive p.step p.entry p.last z e k
 
--- where it goes on by its plates
+-- at the first step of the next group
 at_choice : (entry last : Bool) (z : ModelState) → owns z Feed Z6 ≡ true → is_full z FeedEntry ≡ entry → is_full z FeedEnd ≡ last → KnowsAt (choice entry last) entry last z
 at_choice entry true z o e l = record { facts = (o, tt); plates = refl; entry_noted = e; last_noted = l }
 at_choice true false z o e l = record { facts = (o, tt); plates = refl; entry_noted = e; last_noted = l }
 at_choice false false z o e l = record { facts = (o, tt); plates = refl; entry_noted = e; last_noted = l }
 
--- the zone before the table opens inward alone
+-- the zone shared with the table opens only inward
 opens_in : (q : Posture) → is_open q ≡ true → is_of_some_pose Z1 q ≡ true → q ≡ OpenIn
 opens_in Closed e f = cc
 opens_in Moving e f = cc
 opens_in OpenIn e f = refl
 opens_in OpenOut e f = cc
 
--- a plate comes to its entry, and one leaves its end
+-- a plate comes to the entry, and one leaves the end
 taken_from : (z : ModelState) → posture_at z Z6 ≡ OpenIn → (is_full (changed z Feed (Take Z6)) FeedEntry ≡ true) × (is_full (changed z Feed (Take Z6)) FeedEnd ≡ is_full z FeedEnd)
 taken_from z opens = (ap (λ q. has (filled z.full (transfer_of Z6 q)) FeedEntry) opens, ap (λ q. has (filled z.full (transfer_of Z6 q)) FeedEnd) opens)
 
 given_to : (z : ModelState) → posture_at z Z1 ≡ OpenIn → (is_full (changed z Feed (Give Z1)) FeedEntry ≡ is_full z FeedEntry) × (is_full (changed z Feed (Give Z1)) FeedEnd ≡ false)
 given_to z opens = (ap (λ q. has (emptied z.full (given_by Feed (transfer_of Z1 q))) FeedEntry) opens, ap (λ q. has (emptied z.full (given_by Feed (transfer_of Z1 q))) FeedEnd) opens)
 
--- once its call is done
+-- after a call that is done
 done_call : (s : FeedStep) (entry last : Bool) (c : Call) (z : ModelState) → call_of s ≡ Some c → reply z Feed c ≡ Done → IsSound z → KnowsAt s entry last z
     → KnowsAt (step_after s entry last) (entry_after s entry) (last_after s last) (changed z Feed c)
 done_call ClaimEntry entry last (Claim Z6) z e d sound k = at_choice entry last (changed z Feed (Claim Z6)) refl k.entry_noted k.last_noted
@@ -135,13 +135,13 @@ feed-knowing = record {
   after_inquiry = λ p z c owner flag posture e d sound k. k;
 }
 
--- while it runs in, no plate is at its end
+-- while the belt runs in, no plate is at its end
 none_at_end : (b entry last : Bool) → b ≡ last → (entry && not last) ≡ true → b ≡ false
 none_at_end b true true s f = cc
 none_at_end b false true s f = cc
 none_at_end b entry false s f = s
 
--- so a step that drives holds the zone before the crane, which moves, and with a plate at its end the zone before the table
+-- so in a step that drives the belt holds the crane's zone, which moves, and with a plate at its end the table's zone
 pub drives_at : (s : FeedStep) (entry last : Bool) (z : ModelState) → call_of s ≡ None → KnowsAt s entry last z
     → ((owns z Feed Z6 ≡ true) × (posture_at z Z6 ≡ Moving)) × (is_full z FeedEnd ≡ true → owns z Feed Z1 ≡ true)
 drives_at RunIn entry last z e k = ((k.facts.0, k.facts.1.0.1), λ full. let none : is_full z FeedEnd ≡ false = none_at_end _ entry last k.last_noted k.plates in cc)

@@ -1,4 +1,4 @@
--- The rows of the feed belt's program are as the examples have them.
+-- The feed belt's program meets the rows of the examples.
 use Rattle.std.proofs.Common.{◌≡◌, Bool, true, false, [], ◌∷◌, refl, None}
 use Rattle.cell_types.specs.declared.answer.Refusal.{Refusal}
 use Rattle.cell_types.specs.declared.answer.Refusal.TheVariants.{Held, NotOwner, Shut}

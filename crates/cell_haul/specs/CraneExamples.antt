@@ -1,4 +1,4 @@
--- Examples of the crane's program: each row of it, with each state of its note.
+-- Examples of each row of the crane's program, with each state of its note.
 use Rattle.std.specs.Prelude.{◌≡◌, ◌≢◌, ℕ, ℤ, pos, Bool, true, false, List, [], ◌∷◌, Option, Some, Ok, Err}
 use Rattle.cell_types.specs.declared.machine.Machine.{Machine}
 use Rattle.cell_types.specs.declared.machine.Machine.TheVariants.{Crane}
@@ -29,7 +29,7 @@ use Rattle.cell_haul.specs.CraneProgram.{crane_steps}
 abbrev pub at : CraneStep → Bool → CraneProgress
 at step magnet = record { step = step; magnet = magnet }
 
--- the motors of travel and height, and the magnet
+-- the commands to travel, height and magnet
 abbrev pub told : Motor → Motor → Bool → CraneAct
 told travel height magnet = record { travel = travel; height = height; magnet = magnet }
 
@@ -46,21 +46,21 @@ low_at gripper = reads false false gripper false
 abbrev pub high_at : ℕ → CraneReading
 high_at gripper = reads false false gripper true
 
--- with a gauge that may give whatever is near the line
+-- with a gauge that may give any position near the line
 abbrev pub rows_by : Scale → Steps CraneProgress CraneSense CraneReading CraneAct
 rows_by points = crane_steps points (IsReading points)
 
--- where the program begins, by whether a plate is on the crane
+-- the start of the program, by whether a plate is on the crane
 abbrev pub begins_with : Bool → CraneProgress
 begins_with false = at RaiseToFetch false
 begins_with true = at TravelToFeed true
 
--- by every set of full places, and by nothing else
+-- the start depends on the full places and on nothing else
 pub record CraneStarts (points : Scale) : Type 0 where
   pub whose : (rows_by points).machine ≡ Crane
   pub by_places : (s : ModelState) → (rows_by points).start s ≡ begins_with s.full.crane
 
--- it goes down once the deposit belt has handed a plate over
+-- the gripper goes down when the deposit belt has handed a plate over
 abbrev pub awaits : Bool → Option Machine → Bool → Posture → CraneProgress
 awaits magnet (Some Crane) true posture = at LowerToPlate magnet
 awaits magnet owner flag posture = at AwaitPlate magnet
@@ -72,7 +72,8 @@ pub record CraneAsks (points : Scale) (magnet : Bool) : Type 0 where
   pub claims_feed : AskRow (rows_by points) (at ClaimFeed magnet) (Claim Z6) (UntilFree ∷ UntilOpen ∷ []) (at LowerToFeed magnet)
   pub gives : AskRow (rows_by points) (at GivePlate magnet) (Give Z6) [] (at RaiseToFetch magnet)
 
--- raw values from 100 to 4100, with a tolerance of 5: so the motor of the height is off within 45 of its target, and the gripper is high from 805 on
+-- raw values from 100 to 4100 and a tolerance of 5, so the height's motor is off within 45 of its target, and the
+-- gripper is high from 805 on
 abbrev pub scale : Scale
 scale = record { raw_lo = 100; raw_hi = 4100; at_lo = pos 0; at_hi = pos 1000; tol = pos 5 }
 
@@ -102,7 +103,7 @@ pub record GripperDrives (magnet : Bool) : Type 0 where
   pub raise_from_feed_there_first : Drives RaiseFromFeed magnet (high_at 855) (told Off Off magnet) GivePlate
   pub raise_from_feed_there_last : Drives RaiseFromFeed magnet (high_at 945) (told Off Off magnet) GivePlate
 
--- the crane travels only while the gripper is high, and stays where it isn't, also at the switch that it travels to
+-- the crane travels only while the gripper is high; otherwise it stays, even at the switch that it travels to
 pub record TravelDrives (magnet : Bool) (gripper : ℕ) : Type 0 where
   pub to_deposit : Drives TravelToDeposit magnet (high_at gripper) (told Minus Off magnet) TravelToDeposit
   pub to_deposit_at_feed : Drives TravelToDeposit magnet (reads false true gripper true) (told Minus Off magnet) TravelToDeposit
@@ -115,12 +116,12 @@ pub record TravelDrives (magnet : Bool) (gripper : ℕ) : Type 0 where
   pub to_feed_low : Drives TravelToFeed magnet (low_at gripper) (told Off Off magnet) TravelToFeed
   pub to_feed_there_low : Drives TravelToFeed magnet (reads false true gripper false) (told Off Off magnet) TravelToFeed
 
--- two steps switch the magnet, wherever the crane is
+-- two steps switch the magnet, at any position of the crane
 pub record MagnetSteps (magnet : Bool) (reading : CraneReading) : Type 0 where
   pub grips : Drives GripPlate magnet reading (told Off Off true) RaiseWithPlate
   pub drops : Drives DropPlate magnet reading (told Off Off false) RaiseFromFeed
 
--- gauges that give 3, 804 and 805 at any raw value, which are near the line at 100, 3316 and 3320
+-- gauges that give 3, 804 or 805 at every raw value; at 100, 3316 and 3320 these are near the line
 abbrev pub gives_only : ℕ → ℕ → ℤ → Type 0
 gives_only height raw v = v ≡ pos height
 
@@ -152,14 +153,14 @@ pub record CraneChecks : Type 0 where
 abbrev pub HoldsOpen : ModelState → List Event → Zone → Posture → Type 0
 HoldsOpen opening seen z q = Holds opening seen Crane z × (posture_by_events opening seen z ≡ q)
 
--- while the gripper is driven at a belt, the crane holds the zone there; on its way up before it travels it demands none
+-- while the gripper is driven at a belt, the crane holds the belt's zone; raising it before travel demands no zone
 pub record GripperDemands (points : Scale) (magnet on : Bool) (travel height : Motor) (opening : ModelState) (seen : List Event) : Type 0 where
   pub lower_to_plate : (rows_by points).motor_demands (at LowerToPlate magnet) (told travel height on) opening seen → HoldsOpen opening seen Z5 OpenOut
   pub raise_with_plate : (rows_by points).motor_demands (at RaiseWithPlate magnet) (told travel height on) opening seen → HoldsOpen opening seen Z5 OpenOut
   pub lower_to_feed : (rows_by points).motor_demands (at LowerToFeed magnet) (told travel height on) opening seen → HoldsOpen opening seen Z6 OpenIn
   pub raise_from_feed : (rows_by points).motor_demands (at RaiseFromFeed magnet) (told travel height on) opening seen → HoldsOpen opening seen Z6 OpenIn
 
--- all of them; at a step that asks, both motors are off, and the magnet is as it was
+-- all rows; in a step that asks, both motors are off, and the magnet is as it was
 pub record CraneRowsAreMet : Type 0 where
   pub starts : (points : Scale) → CraneStarts points
   pub asks : (points : Scale) (magnet : Bool) → CraneAsks points magnet

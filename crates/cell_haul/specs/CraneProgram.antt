@@ -56,7 +56,7 @@ stays_on ClaimFeed (Held _) = true
 stays_on ClaimFeed (Shut _) = true
 stays_on _ _ = false
 
--- the step after each that is done; an inquiry isn't done, and leads on by what it shows
+-- the next step after each that is done; an inquiry isn't done, and leads on by what it shows
 abbrev pub step_after : CraneStep → CraneStep
 step_after RaiseToFetch = TravelToDeposit
 step_after TravelToDeposit = AwaitPlate
@@ -73,7 +73,7 @@ step_after DropPlate = RaiseFromFeed
 step_after RaiseFromFeed = GivePlate
 step_after GivePlate = RaiseToFetch
 
--- an inquiry leads on where it shows that the zone is the crane's, and a plate in it
+-- an inquiry leads on if it shows that the zone is the crane's and has a plate
 abbrev pub step_after_inquiry : CraneStep → Option Machine → Bool → CraneStep
 step_after_inquiry AwaitPlate (Some Crane) true = LowerToPlate
 step_after_inquiry step _ _ = step
@@ -87,15 +87,16 @@ magnet_by _ magnet = magnet
 abbrev pub after_done : CraneProgress → CraneProgress
 after_done p = record { step = step_after p.step; magnet = magnet_by p.step p.magnet }
 
--- it begins with a plate on its way to the feed belt, or with none
+-- with a plate the crane begins on its way to the feed belt
 abbrev pub first_step : Bool → CraneStep
 first_step loaded = if loaded then TravelToFeed else RaiseToFetch
 
--- at the start the magnet is on where the crane has a plate
+-- at the start the magnet is on if the crane has a plate
 abbrev pub crane_start : ModelState → CraneProgress
 crane_start s = record { step = first_step (is_full s OnCrane); magnet = is_full s OnCrane }
 
--- what the sensors say that can be used: the switches don't clash, the raw value is one of the calibration's, and the gripper's height is what the gauge gives there, near the line
+-- a reading of sensors that can be used: the switches don't clash, the raw value is in the calibration's range,
+-- and the gripper's height is what the gauge gives there, near the line
 pub record Reads (points : Scale) (gives : ℕ → ℤ → Type 0) (s : CraneSense) (r : CraneReading) : Type 0 where
   pub no_clash : ¬ CraneClashes s
   pub at_least : points.raw_lo ≤ s.gripper
@@ -105,14 +106,14 @@ pub record Reads (points : Scale) (gives : ℕ → ℤ → Type 0) (s : CraneSen
   pub switches : r.sense ≡ s
   pub high : IsTrue r.high ↔ ((travel_from +ℤ points.tol) ≤ℤ r.gripper)
 
--- the sensors are checked: the switches first, then whether the raw value is one of the calibration's
+-- the check of the sensors: first the switches, then the range of the raw value
 abbrev pub Senses : Scale → (ℕ → ℤ → Type 0) → CraneSense → Result CraneReading SensorFault → Type 0
 Senses points gives s (Err Clash) = CraneClashes s
 Senses points gives s (Err Low) = ¬ CraneClashes s × (s.gripper < points.raw_lo)
 Senses points gives s (Err High) = ¬ CraneClashes s × (points.raw_hi < s.gripper)
 Senses points gives s (Ok r) = Reads points gives s r
 
--- where a step drives the gripper to
+-- the height that a step drives the gripper to
 abbrev pub gripper_stop : CraneStep → Option Stop
 gripper_stop RaiseToFetch = Some GRIPPER_TRAVEL
 gripper_stop LowerToPlate = Some GRIPPER_DEPOSIT
@@ -121,7 +122,7 @@ gripper_stop LowerToFeed = Some GRIPPER_FEED
 gripper_stop RaiseFromFeed = Some GRIPPER_TRAVEL
 gripper_stop _ = None
 
--- the steps that travel, and what they tell its motor: off at the switch and while the gripper isn't high, else towards the switch
+-- the steps that travel, and their motor: off at the switch and while the gripper isn't high, else towards the switch
 abbrev pub travels : CraneStep → Bool
 travels TravelToDeposit = true
 travels TravelToFeed = true
@@ -132,7 +133,7 @@ travel_for TravelToDeposit high s = if high then (if s.deposit then Off else Min
 travel_for TravelToFeed high s = if high then (if s.feed then Off else Plus) else Off
 travel_for _ high s = Off
 
--- what a step that asks nothing tells motors and magnet
+-- the commands to motors and magnet in a step that asks nothing
 pub record Acts (points : Scale) (p : CraneProgress) (r : CraneReading) (act : CraneAct) : Type 0 where
   pub travel : act.travel ≡ travel_for p.step r.high r.sense
   pub height : DrivesTo (gripper_stop p.step) points.tol r.gripper act.height
@@ -142,14 +143,14 @@ abbrev pub is_off : Motor → Bool
 is_off Off = true
 is_off _ = false
 
--- a step is done in the turn in which both motors are off, but one that travels not while the gripper isn't high
+-- a step is done in the turn in which both motors are off; a step that travels also needs the gripper high
 abbrev pub is_done : CraneStep → Bool → CraneAct → Bool
 is_done step high act = (not (travels step) || high) && (is_off act.travel && is_off act.height)
 
 abbrev pub after_act : CraneProgress → CraneReading → CraneAct → CraneProgress
 after_act p r act = if is_done p.step r.high act then after_done p else p
 
--- the zone that the gripper is in, and its posture: none while it goes up before it travels
+-- the gripper's zone and its posture; none while it is raised before travel
 abbrev pub gripper_zone : CraneStep → Option (Zone × Posture)
 gripper_zone LowerToPlate = Some (Z5, OpenOut)
 gripper_zone RaiseWithPlate = Some (Z5, OpenOut)
@@ -157,11 +158,11 @@ gripper_zone LowerToFeed = Some (Z6, OpenIn)
 gripper_zone RaiseFromFeed = Some (Z6, OpenIn)
 gripper_zone _ = None
 
--- while the motor of its height is on, the crane holds the gripper's zone in that posture
+-- while the height's motor is on, the crane holds the gripper's zone in that posture
 abbrev pub CraneDemands : CraneStep → CraneAct → ModelState → List Event → Type 0
 CraneDemands step act opening seen = act.height ≢ Off → HoldsIn Crane opening seen (gripper_zone step)
 
--- by the points of the gripper's calibration, and what its gauge may give at a raw value
+-- the program, by the points of the gripper's calibration and what its gauge may give at a raw value
 abbrev pub crane_steps : Scale → (ℕ → ℤ → Type 0) → Steps CraneProgress CraneSense CraneReading CraneAct
 crane_steps points gives =
     record {

@@ -1,4 +1,4 @@
--- Examples of the deposit belt's program: each row of it, with each state of its notes.
+-- Examples of each row of the deposit belt's program, with each state of its notes.
 use Rattle.std.specs.Prelude.{◌≡◌, Bool, true, false, List, [], ◌∷◌, Ok}
 use Rattle.cell_types.specs.declared.machine.Machine.TheVariants.{Deposit}
 use Rattle.cell_types.specs.declared.zone.Zone.TheVariants.{Z4, Z5}
@@ -32,14 +32,14 @@ in_barrier = record { barrier = true }
 abbrev pub barrier_off : DepositSense
 barrier_off = record { barrier = false }
 
--- where the program begins, by whether a plate is at the belt's entry and at its end
+-- the start of the program, by whether a plate is at the belt's entry and at its end
 abbrev pub begins_with : Bool → Bool → DepositProgress
 begins_with false false = at ClaimEntry false false
 begins_with true false = at ClaimEntry true false
 begins_with false true = at ClaimEntry false true
 begins_with true true = at ClaimEntry true true
 
--- by every set of full places, and by nothing else
+-- the start depends on the full places and on nothing else
 pub record DepositStarts : Type 0 where
   pub whose : deposit_steps.machine ≡ Deposit
   pub by_places : (s : ModelState) → deposit_steps.start s ≡ begins_with s.full.dep_entry s.full.dep_end
@@ -66,14 +66,14 @@ pub record DepositDrives (entry last : Bool) : Type 0 where
   pub out_in_barrier : DriveRow deposit_steps (at RunOut entry last) in_barrier runs (at RunOut entry last)
   pub out_of_barrier : DriveRow deposit_steps (at RunOut entry last) barrier_off stands (at MoveOn entry last)
 
--- a belt that runs demands both its zones, and that they move
+-- a running belt demands both its zones, moving
 pub record DemandsBoth (opening : ModelState) (seen : List Event) : Type 0 where
   pub holds_entry : Holds opening seen Deposit Z4
   pub holds_exit : Holds opening seen Deposit Z5
   pub entry_moves : posture_by_events opening seen Z4 ≡ Moving
   pub exit_moves : posture_by_events opening seen Z5 ≡ Moving
 
--- all of them; at a step that asks, the belt stands
+-- all rows; in a step that asks, the belt is off
 pub record DepositRowsAreMet : Type 0 where
   pub starts : DepositStarts
   pub asks : (entry last : Bool) → DepositAsks entry last

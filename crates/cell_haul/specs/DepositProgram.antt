@@ -40,11 +40,11 @@ stays_on GivePlate PlaceFull = true
 stays_on ClaimBack (Held _) = true
 stays_on _ _ = false
 
--- where it goes on, by whether a plate is at its entry, and at its end
+-- the first step of the next group, by whether a plate is at the belt's entry and at its end
 abbrev pub choice : Bool → Bool → DepositStep
 choice entry last = if last then PoseOffering else (if entry then StartRun else PoseLanding)
 
--- the step after each that is done
+-- the next step after each that is done
 abbrev pub step_after : DepositStep → Bool → Bool → DepositStep
 step_after ClaimEntry _ _ = ClaimExit
 step_after ClaimExit entry last = choice entry last
@@ -59,7 +59,7 @@ step_after PoseOffering _ _ = GivePlate
 step_after GivePlate _ _ = ClaimBack
 step_after ClaimBack entry last = choice entry last
 
--- what the step does to the two notes
+-- the two notes after a step
 abbrev pub entry_after : DepositStep → Bool → Bool
 entry_after TakePlate _ = true
 entry_after MoveOn _ = false
@@ -73,7 +73,7 @@ last_after _ last = last
 abbrev pub after_done : DepositProgress → DepositProgress
 after_done p = record { step = step_after p.step p.entry p.last; entry = entry_after p.step p.entry; last = last_after p.step p.last }
 
--- at the start the places are noted
+-- at the start the belt notes its places
 abbrev pub deposit_start : ModelState → DepositProgress
 deposit_start s = record { step = ClaimEntry; entry = is_full s DepEntry; last = is_full s DepEnd }
 
@@ -83,15 +83,15 @@ runs_at RunIn barrier = not barrier
 runs_at RunOut barrier = barrier
 runs_at _ barrier = false
 
--- what a step that drives tells the belt
+-- the command to the belt in a step that drives
 abbrev pub act_for : DepositProgress → DepositSense → DepositAct
 act_for p s = record { belt = runs_at p.step s.barrier }
 
--- the drive is done in the turn in which the belt stands
+-- the drive is done in the turn in which the belt is off
 abbrev pub after_act : DepositProgress → DepositAct → DepositProgress
 after_act p act = if act.belt then p else after_done p
 
--- while the belt runs, the deposit belt holds both its zones, and they move
+-- while the belt runs, it holds both its zones, which move
 pub record HoldsForRun (opening : ModelState) (seen : List Event) : Type 0 where
   pub entry : Holds opening seen Deposit Z4
   pub exit : Holds opening seen Deposit Z5

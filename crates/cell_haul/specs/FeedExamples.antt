@@ -1,4 +1,4 @@
--- Examples of the feed belt's program: each row of it, with each state of its notes.
+-- Examples of each row of the feed belt's program, with each state of its notes.
 use Rattle.std.specs.Prelude.{◌≡◌, pos, Bool, true, false, List, [], ◌∷◌, Ok}
 use Rattle.cell_types.specs.declared.machine.Machine.TheVariants.{Feed}
 use Rattle.cell_types.specs.declared.zone.Zone.TheVariants.{Z1, Z6}
@@ -33,14 +33,14 @@ in_barrier = record { barrier = true }
 abbrev pub barrier_off : FeedSense
 barrier_off = record { barrier = false }
 
--- where the program begins, by whether a plate is at the belt's entry and at its end
+-- the start of the program, by whether a plate is at the belt's entry and at its end
 abbrev pub begins_with : Bool → Bool → FeedProgress
 begins_with false false = at ClaimEntry false false
 begins_with true false = at ClaimEntry true false
 begins_with false true = at ClaimEntry false true
 begins_with true true = at ClaimEntry true true
 
--- by every set of full places, and by nothing else
+-- the start depends on the full places and on nothing else
 pub record FeedStarts : Type 0 where
   pub whose : feed_steps.machine ≡ Feed
   pub by_places : (s : ModelState) → feed_steps.start s ≡ begins_with s.full.feed_entry s.full.feed_end
@@ -66,13 +66,13 @@ pub record FeedDrives (entry last : Bool) : Type 0 where
   pub out_in_barrier : DriveRow feed_steps (at RunOut entry last) in_barrier runs (at RunOut entry last)
   pub out_of_barrier : DriveRow feed_steps (at RunOut entry last) barrier_off stands (at Halt entry last)
 
--- a belt that runs demands the zone before the crane, moving, and the zone before the table where one plate is at its end
+-- a running belt demands the zone shared with the crane, moving; with a plate at its end, also the table's zone
 pub record DemandsToRun (opening : ModelState) (seen : List Event) : Type 0 where
   pub holds_entry : Holds opening seen Feed Z6
   pub entry_moves : posture_by_events opening seen Z6 ≡ Moving
   pub holds_exit : plates_at opening seen FeedEnd ≡ pos 1 → Holds opening seen Feed Z1
 
--- all of them; at a step that asks, the belt stands
+-- all rows; in a step that asks, the belt is off
 pub record FeedRowsAreMet : Type 0 where
   pub starts : FeedStarts
   pub asks : (entry last : Bool) → FeedAsks entry last

@@ -40,11 +40,11 @@ stays_on ClaimExit (Held _) = true
 stays_on ClaimExit (Shut _) = true
 stays_on _ _ = false
 
--- where it goes on, by whether a plate is at its entry, and at its end
+-- the first step of the next group, by whether a plate is at the belt's entry and at its end
 abbrev pub choice : Bool → Bool → FeedStep
 choice entry last = if last then ClaimExit else (if entry then StartIn else PoseLanding)
 
--- the step after each that is done
+-- the next step after each that is done
 abbrev pub step_after : FeedStep → Bool → Bool → FeedStep
 step_after ClaimEntry entry last = choice entry last
 step_after PoseLanding _ _ = ReleaseEntry
@@ -59,7 +59,7 @@ step_after RunOut _ _ = Halt
 step_after Halt _ _ = GivePlate
 step_after GivePlate entry _ = choice entry false
 
--- what the step does to the two notes
+-- the two notes after a step
 abbrev pub entry_after : FeedStep → Bool → Bool
 entry_after TakePlate _ = true
 entry_after MoveOn _ = false
@@ -73,7 +73,7 @@ last_after _ last = last
 abbrev pub after_done : FeedProgress → FeedProgress
 after_done p = record { step = step_after p.step p.entry p.last; entry = entry_after p.step p.entry; last = last_after p.step p.last }
 
--- at the start the places are noted
+-- at the start the belt notes its places
 abbrev pub feed_start : ModelState → FeedProgress
 feed_start s = record { step = ClaimEntry; entry = is_full s FeedEntry; last = is_full s FeedEnd }
 
@@ -83,15 +83,15 @@ runs_at RunIn barrier = not barrier
 runs_at RunOut barrier = barrier
 runs_at _ barrier = false
 
--- what a step that drives tells the belt
+-- the command to the belt in a step that drives
 abbrev pub act_for : FeedProgress → FeedSense → FeedAct
 act_for p s = record { belt = runs_at p.step s.barrier }
 
--- the drive is done in the turn in which the belt stands
+-- the drive is done in the turn in which the belt is off
 abbrev pub after_act : FeedProgress → FeedAct → FeedProgress
 after_act p act = if act.belt then p else after_done p
 
--- while the belt runs, the feed belt holds the zone before the crane, which moves, and with a plate at its end the zone before the table
+-- while the belt runs, it holds the zone shared with the crane, which moves; with a plate at its end, also the table's
 pub record HoldsForRun (opening : ModelState) (seen : List Event) : Type 0 where
   pub entry : Holds opening seen Feed Z6
   pub moves : Moves opening seen Z6

@@ -20,7 +20,7 @@ pub struct CraneProgram<F: Gauge> {
 pub type CraneCtl<F> = Controller<CraneProgram<F>>;
 
 impl<F: Gauge> CraneProgram<F> {
-    /// The program over this calibration.
+    /// The program with this calibration.
     pub fn new(gripper: Calibration<F>) -> CraneProgram<F>
         ensures { result.gripper ≡ gripper }
     {
@@ -143,7 +143,7 @@ impl<F: Gauge> Program for CraneProgram<F> {
     }
 }
 
-// What a step tells the motor of the gripper's height.
+// The height motor's command in a step.
 fn height<F: Gauge>(gripper: &Calibration<F>, step: CraneStep, read: i32) -> Motor
     ensures { DrivesTo (gripper_stop step) gripper.now.points.tol read result }
 {

@@ -28,7 +28,7 @@ pub enum CraneStep {
     ReleaseDeposit,
     /// Travels to the feed belt.
     TravelToFeed,
-    /// Waits for the feed belt.
+    /// Waits until the feed belt lets it in.
     ClaimFeed,
     /// Lowers the plate to the feed belt.
     LowerToFeed,
@@ -40,7 +40,7 @@ pub enum CraneStep {
     GivePlate,
 }
 
-/// How far the crane has come in its program, with what it has noted.
+/// The crane's step in its program, with its note.
 #[derive(Clone, Copy, Debug, PartialEq, Eq)]
 pub struct CraneProgress {
     pub step: CraneStep,
@@ -48,19 +48,19 @@ pub struct CraneProgress {
     pub magnet: bool,
 }
 
-/// What the crane's sensors say once they are checked.
+/// What the crane's sensors say after the check.
 #[derive(Clone, Copy, Debug, PartialEq, Eq)]
 pub struct CraneReading {
-    /// What they show: switches that don't clash, and the raw value.
+    /// The switches, which don't clash, and the raw value.
     pub sense: CraneSense,
-    /// The height of the gripper.
+    /// The height of the gripper, in tenths of a millimetre.
     pub gripper: i32,
-    /// Whether it is surely high enough to travel.
+    /// Whether the gripper is surely high enough to travel.
     pub high: bool,
 }
 
 impl CraneStep {
-    // The step after this one is done.
+    // The next step after this one is done.
     pub(crate) fn next(self) -> CraneStep
         ensures { result ≡ program.step_after self }
     {
@@ -82,7 +82,7 @@ impl CraneStep {
         }
     }
 
-    // The step after an inquiry that showed this owner and this flag.
+    // The next step after an inquiry that showed this owner and this flag.
     pub(crate) fn after_inquiry(self, owner: Option<Machine>, flag: bool) -> CraneStep
         ensures { result ≡ program.step_after_inquiry self owner flag }
     {
@@ -92,7 +92,7 @@ impl CraneStep {
         }
     }
 
-    // Whether the magnet is on in this step and after it.
+    // Whether the magnet is on from this step on.
     pub(crate) fn magnet(self, magnet: bool) -> bool
         ensures { result ≡ program.magnet_by self magnet }
     {
@@ -103,7 +103,7 @@ impl CraneStep {
         }
     }
 
-    // Where the step drives the gripper to.
+    // The height that the step drives the gripper to.
     pub(crate) fn gripper_stop(self) -> Option<Stop>
         ensures stop { result ≡ program.gripper_stop self }
         ensures half { IfSome result (λ s. narrowest_half ≤ s.half) }
@@ -118,14 +118,14 @@ impl CraneStep {
         }
     }
 
-    // Whether the step is one that travels.
+    // Whether the crane travels in the step.
     pub(crate) fn travels(self) -> bool
         ensures { result ≡ program.travels self }
     {
         matches!(self, CraneStep::TravelToDeposit | CraneStep::TravelToFeed)
     }
 
-    // What the step tells the motor of the travel, where the gripper is high or not.
+    // The travel motor's command in the step, by whether the gripper is high.
     pub(crate) fn travel(self, high: bool, crane: &CraneSense) -> Motor
         ensures { result ≡ program.travel_for self high crane.now }
     {

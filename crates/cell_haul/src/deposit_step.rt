@@ -4,9 +4,9 @@ ghost use Rattle.cell_haul.specs.DepositProgram as program;
 /// A step of the deposit belt's program.
 #[derive(Clone, Copy, Debug, PartialEq, Eq)]
 pub enum DepositStep {
-    /// Claims the zone before the robot for the first time.
+    /// Claims the zone shared with the robot for the first time.
     ClaimEntry,
-    /// Claims the zone before the crane for the first time.
+    /// Claims the zone shared with the crane for the first time.
     ClaimExit,
     /// Gets ready for a plate.
     PoseLanding,
@@ -14,23 +14,23 @@ pub enum DepositStep {
     ReleaseEntry,
     /// Waits for the plate and takes it.
     TakePlate,
-    /// Sets out for its end.
+    /// Sets out to bring the plate to its end.
     StartRun,
     /// Runs until the plate is in the barrier.
     RunIn,
     /// Runs until the plate is out of the barrier.
     RunOut,
-    /// Counts the plate as the one at its end.
+    /// Notes the plate at its end.
     MoveOn,
     /// Gets ready for the crane.
     PoseOffering,
-    /// Hands the plate to the crane, once that has room.
+    /// Hands the plate to the crane, when the crane has room.
     GivePlate,
-    /// Waits for the crane to be gone.
+    /// Waits until the crane has left.
     ClaimBack,
 }
 
-/// How far the deposit belt has come in its program, with what it has noted.
+/// The deposit belt's step in its program, with its notes.
 #[derive(Clone, Copy, Debug, PartialEq, Eq)]
 pub struct DepositProgress {
     pub step: DepositStep,
@@ -41,7 +41,7 @@ pub struct DepositProgress {
 }
 
 impl DepositStep {
-    // Where the belt goes on by the plates that it has.
+    // The first step of the next group, by the plates on the belt.
     fn choice(entry: bool, last: bool) -> DepositStep
         ensures { result ≡ program.choice entry last }
     {
@@ -54,7 +54,7 @@ impl DepositStep {
         }
     }
 
-    // The step after this one is done.
+    // The next step after this one is done.
     pub(crate) fn next(self, entry: bool, last: bool) -> DepositStep
         ensures { result ≡ program.step_after self entry last }
     {

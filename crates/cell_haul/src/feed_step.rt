@@ -4,7 +4,7 @@ ghost use Rattle.cell_haul.specs.FeedProgram as program;
 /// A step of the feed belt's program.
 #[derive(Clone, Copy, Debug, PartialEq, Eq)]
 pub enum FeedStep {
-    /// Claims the zone before the crane for the first time.
+    /// Claims the zone shared with the crane for the first time.
     ClaimEntry,
     /// Gets ready for a plate.
     PoseLanding,
@@ -12,25 +12,25 @@ pub enum FeedStep {
     ReleaseEntry,
     /// Waits for the plate and takes it.
     TakePlate,
-    /// Sets out for its end.
+    /// Sets out to bring the plate to its end.
     StartIn,
     /// Runs until the plate is in the barrier.
     RunIn,
-    /// Counts the plate as the one at its end.
+    /// Notes the plate at its end.
     MoveOn,
-    /// Waits for the table.
+    /// Waits until the table lets it in.
     ClaimExit,
-    /// Sets out for the table.
+    /// Sets out to bring the plate to the table.
     StartOut,
     /// Runs until the plate is out of the barrier.
     RunOut,
-    /// Has come to rest.
+    /// Has stopped the belt.
     Halt,
     /// Hands the plate to the table.
     GivePlate,
 }
 
-/// How far the feed belt has come in its program, with what it has noted.
+/// The feed belt's step in its program, with its notes.
 #[derive(Clone, Copy, Debug, PartialEq, Eq)]
 pub struct FeedProgress {
     pub step: FeedStep,
@@ -41,7 +41,7 @@ pub struct FeedProgress {
 }
 
 impl FeedStep {
-    // Where the belt goes on by the plates that it has.
+    // The first step of the next group, by the plates on the belt.
     fn choice(entry: bool, last: bool) -> FeedStep
         ensures { result ≡ program.choice entry last }
     {
@@ -54,7 +54,7 @@ impl FeedStep {
         }
     }
 
-    // The step after this one is done.
+    // The next step after this one is done.
     pub(crate) fn next(self, entry: bool, last: bool) -> FeedStep
         ensures { result ≡ program.step_after self entry last }
     {

@@ -1,22 +1,22 @@
-//! What the programs are, row by row: laws, in functions that do nothing.
+//! Laws of the programs, row by row. Each is the contract of a function with an empty body.
 ghost use Rattle.cell_haul.specs.CraneExamples.{CraneRowsAreMet};
 ghost use Rattle.cell_haul.specs.DepositExamples.{DepositRowsAreMet};
 ghost use Rattle.cell_haul.specs.FeedExamples.{FeedRowsAreMet};
 
-/// The rows of the feed belt's program, by examples: where it begins by the places that are full; for
-/// each step and each state of its notes what it asks, the refusals on which it stays, all others it
-/// doesn't, and where it leads; whether the belt runs by the light barrier.
+/// The rows of the feed belt's program, by examples: its start, by the places that are full; for
+/// each step and each state of its notes, what it asks, exactly the refusals on which it stays, and
+/// the next step; and whether the belt runs, by the light barrier.
 pub fn feed_rows_are_met()
     ensures { FeedRowsAreMet }
 {}
 
-/// The rows of the deposit belt's program, in the same way.
+/// The rows of the deposit belt's program, likewise.
 pub fn deposit_rows_are_met()
     ensures { DepositRowsAreMet }
 {}
 
-/// The rows of the crane's program, in the same way: what it tells the motor of its gripper stands at
-/// the last reading that is far enough and the first that isn't, and so does from where on it travels.
+/// The rows of the crane's program, likewise, with its gripper's motor and its travel at the last
+/// reading that is far enough and at the first that isn't.
 pub fn crane_rows_are_met()
     ensures { CraneRowsAreMet }
 {}

@@ -59,7 +59,7 @@ facts_at GiveToDeposit = Finds Z4 OpenIn ∷ []
 abbrev pub RobotKnows : RobotProgress → ModelState → Type 0
 RobotKnows p z = AreSo Robot z (facts_at p.step)
 
--- before a group of steps nothing need be known
+-- the first step of a group needs to know nothing
 by_notes : (first second fed : Bool) (z : ModelState) → AreSo Robot z (facts_at (if second then TurnToDeposit else (if fed then TurnToUnload else (if first then TurnToLoad else TurnToTable))))
 by_notes first true fed z = tt
 by_notes first false true z = tt
@@ -69,7 +69,7 @@ by_notes false false false z = tt
 pub at_choice : (notes : RobotNotes) (z : ModelState) → AreSo Robot z (facts_at (choice notes))
 at_choice notes z = by_notes notes.arm1 notes.arm2 notes.fed z
 
--- through a drive, or a magnet's switch
+-- after a drive, or after switching a magnet
 done_drive : (s : RobotStep) (notes : RobotNotes) (z : ModelState) → call_of s ≡ None → AreSo Robot z (facts_at s) → AreSo Robot z (facts_at (step_after s notes))
 done_drive TurnToTable notes z e k = k
 done_drive ReachTable notes z e k = k
@@ -93,7 +93,7 @@ drive_on : (b : Bool) (p : RobotProgress) (z : ModelState) → call_of p.step �
 drive_on true p z e k = done_drive p.step _ z e k
 drive_on false p z e k = k
 
--- a plate comes to the robot from the table, and from the press, while that opens outward
+-- a plate comes to the robot from the table or the press only while that zone is open outward
 table_gives : (q : Posture) → is_received_by (Some Robot) (transfer_of Z2 q) ≡ true → q ≡ OpenOut
 table_gives Closed e = cc
 table_gives Moving e = cc
@@ -106,14 +106,14 @@ press_gives Moving e = cc
 press_gives OpenIn e = cc
 press_gives OpenOut e = refl
 
--- the deposit belt opens to the robot inward alone
+-- the deposit belt opens its zone to the robot only inward
 deposit_opens : (q : Posture) → is_open q ≡ true → is_of_some_pose Z4 q ≡ true → q ≡ OpenIn
 deposit_opens Closed e f = cc
 deposit_opens Moving e f = cc
 deposit_opens OpenIn e f = refl
 deposit_opens OpenOut e f = cc
 
--- once its call is done
+-- after a call that is done
 done_call : (s : RobotStep) (notes : RobotNotes) (c : Call) (z : ModelState) → call_of s ≡ Some c → reply z Robot c ≡ Done → IsSound z → AreSo Robot z (facts_at s) → AreSo Robot (changed z Robot c) (facts_at (step_after s notes))
 done_call TakePlate notes (Take Z2) z e d sound k = ((k.0.0, k.0.1), tt)
 done_call ReleaseTable notes (Release Z2) z e d sound k = at_choice notes (changed z Robot (Release Z2))
@@ -126,7 +126,7 @@ done_call ClaimDeposit notes (Claim Z4) z e d sound k = ((refl, deposit_opens (p
 done_call GiveToDeposit notes (Give Z4) z e d sound k = at_choice notes (changed z Robot (Give Z4))
 done_call s notes c z e d sound k = cc
 
--- once its inquiry has shown this
+-- after an inquiry that showed this
 at_table : (z : ModelState) (o : Option Machine) (f : Bool) (q : Posture) → IsSound z → Stands z Z2 o f q → AreSo Robot z (facts_at (step_after_inquiry AwaitPlate o f q))
 at_table z (Some Robot) true q sound k = ((ap (λ x. is_owned_by x Robot) k.owner, table_gives (posture_at z Z2) (handed z Z2 Robot sound k.owner k.flag)), tt)
 at_table z o f q sound k = tt
@@ -156,7 +156,7 @@ robot-knowing points gives = record {
   after_inquiry = λ p z c o f q e d sound k. shown_call p.step c z o f q e d sound k;
 }
 
--- so at each step the zones of the arms are held
+-- so in each step the robot holds the zones of its arms
 first_holds : (s : RobotStep) (o : ModelState) (h : List Event) → IsLegal o h → AreSo Robot (after o h) (facts_at s) → HoldsIn Robot o h (arm1_zone s)
 first_holds ReachTable o h legal k = found o h Robot Z2 OpenOut legal k.0
 first_holds LeaveTable o h legal k = found o h Robot Z2 OpenOut legal k.0

@@ -1,4 +1,4 @@
--- The rows of the robot's program are as the examples have them.
+-- The robot's program meets the rows of the examples.
 use Rattle.std.proofs.Common.{◌≡◌, ◌∙◌, sym, ap, rules, ℕ, ℤ, pos, Bool, true, false, if◌then◌else◌, Option, Some, None, [], ◌∷◌, refl}
 use Rattle.std.specs.Int.Signed.{le_z_yes, lt_z_yes}
 use Rattle.cell_types.specs.declared.machine.Machine.{Machine}
@@ -105,7 +105,7 @@ asks points arm1 arm2 fed m = record {
 
 -- ---- steps that drive
 
--- what a step tells motors and magnets is one thing
+-- a step and a reading determine the commands to motors and magnets
 acts_one : (points : RobotScales) (p : RobotProgress) (r : RobotReading) (a b : RobotAct) → Acts points p r a → Acts points p r b → b ≡ a
 acts_one points p r a b at_a at_b =
     let first : b.arm1 ≡ a.arm1 = drives_one (arm1_stop p.step) points.arm1.tol r.arm1 a.arm1 b.arm1 at_a.arm1 at_b.arm1 in
@@ -166,7 +166,7 @@ turns_to_deposit n m = record {
   held_above = drive_row _ _ _ _ refl (record { arm1 = refl; arm2 = refl; rotation = refl; magnet1 = refl; magnet2 = refl }) refl;
 }
 
--- a step that turns nowhere leaves the rotation's motor off
+-- the rotation's motor is off in a step that doesn't turn
 stands_still : (retracted : Bool) (tol read : ℤ) → DrivesTo (if retracted then None else None) tol read Off
 stands_still true tol read = refl
 stands_still false tol read = refl

@@ -1,4 +1,4 @@
--- Examples of the robot's program: each row of it, with each state of its notes.
+-- Examples of each row of the robot's program, with each state of its notes.
 use Rattle.std.specs.Prelude.{◌≡◌, ◌≢◌, ℕ, pos, Bool, true, false, List, [], ◌∷◌, Option, Some, Ok, Err}
 use Rattle.cell_types.specs.declared.machine.Machine.{Machine}
 use Rattle.cell_types.specs.declared.machine.Machine.TheVariants.{Robot}
@@ -27,7 +27,7 @@ use Rattle.cell_robot.specs.declared.robot_step.RobotProgress.{RobotProgress}
 use Rattle.cell_robot.specs.declared.robot_step.RobotReading.{RobotReading}
 use Rattle.cell_robot.specs.RobotProgram.{RobotScales, robot_steps, scales_of, gauges_of, near_lines}
 
--- a step, with the notes: a plate on the first arm, on the second arm, in the press; and with the magnets of both arms
+-- a step with its notes (a plate on the first arm, on the second arm, in the press) and the magnets of both arms
 abbrev pub noted : Bool → Bool → Bool → RobotNotes
 noted arm1 arm2 fed = record { arm1 = arm1; arm2 = arm2; fed = fed }
 
@@ -37,7 +37,7 @@ magnets first second = record { arm1 = first; arm2 = second }
 abbrev pub at : RobotStep → RobotNotes → RobotMagnets → RobotProgress
 at step notes on = record { step = step; notes = notes; magnets = on }
 
--- the motors of both arms and of the rotation, with the magnets
+-- the commands to both arms, the rotation and the magnets
 abbrev pub told : Motor → Motor → Motor → RobotMagnets → RobotAct
 told first second turn on = record { arm1 = first; arm2 = second; rotation = turn; magnet1 = on.arm1; magnet2 = on.arm2 }
 
@@ -48,13 +48,13 @@ shown first second turn = record { arm1 = first; arm2 = second; rotation = turn 
 abbrev pub reads : ℕ → ℕ → ℕ → Bool → RobotReading
 reads first second turn retracted = record { arm1 = pos first; arm2 = pos second; rotation = pos turn; retracted = retracted }
 
--- with gauges that may give whatever is near the line
+-- with gauges that may give any position near their lines
 abbrev pub rows_by : RobotScales → Steps RobotProgress RobotSense RobotReading RobotAct
 rows_by points = robot_steps points (near_lines points)
 
--- ---- where the program begins, by the places that are full
+-- ---- the start of the program, by the places that are full
 
--- a plate on arm 1, one in the press that isn't forged, one there that is, and one on arm 2
+-- whether a plate is on arm 1, an unforged one in the press, a forged one in the press, and one on arm 2
 abbrev pub begins_with : Bool → Bool → Bool → Bool → RobotProgress
 begins_with false false false false = at TurnToTable (noted false false false) (magnets false false)
 begins_with true false false false = at TurnToLoad (noted true false false) (magnets true false)
@@ -73,24 +73,25 @@ begins_with true false true true = at TurnToDeposit (noted true true true) (magn
 begins_with false true true true = at TurnToDeposit (noted false true true) (magnets false true)
 begins_with true true true true = at TurnToDeposit (noted true true true) (magnets true true)
 
--- by every set of full places, and by nothing else
+-- the start depends on the full places and on nothing else
 pub record RobotStarts (points : RobotScales) : Type 0 where
   pub whose : (rows_by points).machine ≡ Robot
   pub by_places : (s : ModelState) → (rows_by points).start s ≡ begins_with s.full.arm1 s.full.press_in s.full.press_out s.full.arm2
 
 -- ---- steps that ask
 
--- an inquiry for a plate leads on where the zone is the robot's and a plate is in it, and else nowhere
+-- an inquiry for a plate leads on if the zone is the robot's and has a plate; otherwise the step stays
 abbrev pub for_plate : RobotStep → RobotStep → Option Machine → Bool → RobotStep
 for_plate wait next (Some Robot) true = next
 for_plate wait next _ _ = wait
 
--- one for room leads on where the zone opens inward
+-- an inquiry for room leads on if the zone is open inward
 abbrev pub for_room : RobotStep → RobotStep → Posture → RobotStep
 for_room leave next OpenIn = next
 for_room leave next _ = leave
 
--- a call that ends a group of steps: a forged plate on the second arm goes before one in the press, and that before one on the first arm
+-- a call that ends a group of steps: a forged plate on the second arm is next, then a plate in the press, then one on
+-- the first arm
 pub record EndRows (points : RobotScales) (step : RobotStep) (call : Call) (m : RobotMagnets) : Type 0 where
   pub to_deposit : (arm1 fed : Bool) → AskRow (rows_by points) (at step (noted arm1 true fed) m) call [] (at TurnToDeposit (noted arm1 true fed) m)
   pub to_unload : (arm1 : Bool) → AskRow (rows_by points) (at step (noted arm1 false true) m) call [] (at TurnToUnload (noted arm1 false true) m)
@@ -116,7 +117,7 @@ pub record RobotAsks (points : RobotScales) (arm1 arm2 fed : Bool) (m : RobotMag
 
 -- ---- steps that drive
 
--- raw values from 100 to 4100, with tolerances of 5, 6 and 7: so a motor is off within 35, 34 and 33 of its target
+-- raw values from 100 to 4100 and tolerances of 5, 6 and 7, so a motor is off within 35, 34 and 33 of its target
 abbrev pub scale_to : ℕ → ℕ → Scale
 scale_to end tol = record { raw_lo = 100; raw_hi = 4100; at_lo = pos 0; at_hi = pos end; tol = pos tol }
 
@@ -126,7 +127,8 @@ scales = scales_of (scale_to 1000 5) (scale_to 1000 6) (scale_to 2000 7)
 abbrev pub Drives : RobotStep → RobotReading → RobotAct → RobotStep → RobotNotes → RobotMagnets → Type 0
 Drives step reading act next n m = DriveRow (rows_by scales) (at step n m) reading act (at next n m)
 
--- a step that turns: the motor is off from one position to another, in which the step is done; and it is off while an arm may be out, in which it isn't
+-- a step that turns: the motor is off from one position to another, and the step is then done; while an arm may be
+-- out, the motor is off too, and the step isn't done
 pub record TurnRows (step next : RobotStep) (below first last above : ℕ) (n : RobotNotes) (m : RobotMagnets) : Type 0 where
   pub up : Drives step (reads 0 0 below true) (told Off Off Plus m) step n m
   pub from : Drives step (reads 0 0 first true) (told Off Off Off m) next n m
@@ -136,7 +138,7 @@ pub record TurnRows (step next : RobotStep) (below first last above : ℕ) (n : 
   pub held_there : Drives step (reads 0 45 first false) (told Off Off Off m) step n m
   pub held_above : Drives step (reads 46 45 above false) (told Off Off Off m) step n m
 
--- steps that put out an arm, and that draw it back, wherever the rotation stands
+-- steps that put out an arm or draw it back, at any rotation
 pub record Arm1Rows (step next : RobotStep) (below first last above : ℕ) (turn : ℕ) (retracted : Bool) (n : RobotNotes) (m : RobotMagnets) : Type 0 where
   pub out : Drives step (reads below 0 turn retracted) (told Plus Off Off m) step n m
   pub from : Drives step (reads first 0 turn retracted) (told Off Off Off m) next n m
@@ -159,7 +161,7 @@ pub record Arm2BackRows (step next : RobotStep) (turn : ℕ) (retracted : Bool) 
   pub near_end : Drives step (reads 0 34 turn retracted) (told Off Off Off m) next n m
   pub at_end : Drives step (reads 0 0 turn retracted) (told Off Off Off m) next n m
 
--- a step that switches a magnet, whatever the sensors say
+-- a step that switches a magnet, by any reading
 abbrev pub Switches : RobotStep → RobotMagnets → RobotReading → RobotStep → RobotMagnets → RobotNotes → Type 0
 Switches step before reading next now n = DriveRow (rows_by scales) (at step n before) reading (told Off Off Off now) (at next n now)
 
@@ -183,11 +185,11 @@ pub record RobotDrives (turn : ℕ) (retracted : Bool) (r : RobotReading) (n : R
 
 -- ---- sensors
 
--- gauges that give 3, 4 and 5 at any raw value, which is near their lines at 100
+-- gauges that give 3, 4 and 5 at every raw value; at 100 these are near their lines
 abbrev pub three_to_five : Steps RobotProgress RobotSense RobotReading RobotAct
 three_to_five = robot_steps scales (gauges_of (λ raw v. v ≡ pos 3) (λ raw v. v ≡ pos 4) (λ raw v. v ≡ pos 5))
 
--- a sensor can't be used: that is said, and nothing is read
+-- a sensor can't be used: the check says so, and there is no reading
 pub record LowRow (s : RobotSense) : Type 0 where
   pub low : (rows_by scales).senses s (Err Low)
   pub not_high : ¬ (rows_by scales).senses s (Err High)
@@ -244,7 +246,7 @@ pub record RobotDemandRows : Type 0 where
   pub reaches_deposit : Arm2Demands ReachDeposit Z4 OpenIn
   pub leaves_deposit : Arm2Demands LeaveDeposit Z4 OpenIn
 
--- all of them; at a step that asks, the motors are off and the magnets as they were told last
+-- all rows; in a step that asks, the motors are off and the magnets are as last set
 pub record RobotRowsAreMet : Type 0 where
   pub starts : (points : RobotScales) → RobotStarts points
   pub asks : (points : RobotScales) (arm1 arm2 fed : Bool) (m : RobotMagnets) → RobotAsks points arm1 arm2 fed m

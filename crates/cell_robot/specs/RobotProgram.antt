@@ -73,11 +73,12 @@ stays_on ClaimDeposit (Held _) = true
 stays_on ClaimDeposit (Shut _) = true
 stays_on _ _ = false
 
--- the group of steps that comes next: a forged plate on the second arm is brought away, one in the press fetched, one on the first arm brought there
+-- the first step of the next group: bring a forged plate on the second arm away, else fetch a plate from the press,
+-- else bring a plate on the first arm to the press
 abbrev pub choice : RobotNotes → RobotStep
 choice notes = if notes.arm2 then TurnToDeposit else (if notes.fed then TurnToUnload else (if notes.arm1 then TurnToLoad else TurnToTable))
 
--- the step after each that is done, by the notes that it leaves; an inquiry isn't done, and leads on by what it shows
+-- the next step after each that is done, by the notes after it; an inquiry isn't done, and leads on by what it shows
 abbrev pub step_after : RobotStep → RobotNotes → RobotStep
 step_after TurnToTable _ = AwaitPlate
 step_after AwaitPlate _ = AwaitPlate
@@ -108,7 +109,8 @@ step_after DropOnDeposit _ = LeaveDeposit
 step_after LeaveDeposit _ = GiveToDeposit
 step_after GiveToDeposit notes = choice notes
 
--- where an inquiry leads: on to the table, and to the forged plate, where the zone is the robot's and a plate is in it; into the press with a plate where that opens inward
+-- the next step after an inquiry: to a plate on the table or in the press if the zone is the robot's and has a plate;
+-- into the press with a plate if its zone is open inward
 abbrev pub step_after_inquiry : RobotStep → Option Machine → Bool → Posture → RobotStep
 step_after_inquiry AwaitPlate (Some Robot) true _ = ReachTable
 step_after_inquiry InspectPress _ _ OpenIn = ReachToLoad
@@ -116,7 +118,7 @@ step_after_inquiry InspectPress _ _ _ = ReleasePress
 step_after_inquiry AwaitForged (Some Robot) true _ = ReachToUnload
 step_after_inquiry step _ _ _ = step
 
--- what the step does to the notes
+-- the notes after a step
 abbrev pub notes_after : RobotStep → RobotNotes → RobotNotes
 notes_after TakePlate notes = record notes { arm1 = true }
 notes_after GiveToPress notes = record notes { arm1 = false; fed = true }
@@ -124,7 +126,7 @@ notes_after TakeForged notes = record notes { arm2 = true; fed = false }
 notes_after GiveToDeposit notes = record notes { arm2 = false }
 notes_after _ notes = notes
 
--- four steps switch a magnet, and the others leave both as they are
+-- four steps switch a magnet; the others leave both as they are
 abbrev pub magnets_by : RobotStep → RobotMagnets → RobotMagnets
 magnets_by GripPlate magnets = record magnets { arm1 = true }
 magnets_by DropInPress magnets = record magnets { arm1 = false }
@@ -135,14 +137,14 @@ magnets_by _ magnets = magnets
 abbrev pub after_done : RobotProgress → RobotProgress
 after_done p = record { step = step_after p.step (notes_after p.step p.notes); notes = notes_after p.step p.notes; magnets = magnets_by p.step p.magnets }
 
--- at the start the places are noted, and the magnets of loaded arms are on
+-- at the start the robot notes its places, and the magnets of loaded arms are on
 abbrev pub notes_at : ModelState → RobotNotes
 notes_at s = record { arm1 = is_full s Arm1; arm2 = is_full s Arm2; fed = is_full s PressIn || is_full s PressOut }
 
 abbrev pub robot_start : ModelState → RobotProgress
 robot_start s = record { step = choice (notes_at s); notes = notes_at s; magnets = record { arm1 = is_full s Arm1; arm2 = is_full s Arm2 } }
 
--- a raw value is one of the calibration's; or why it isn't
+-- a raw value is in the calibration's range; or why it isn't
 abbrev pub IsRaw : Scale → ℕ → Type 0
 IsRaw points raw = (points.raw_lo ≤ raw) × (raw ≤ points.raw_hi)
 
@@ -156,7 +158,7 @@ abbrev pub ReadsAs : Scale → (ℕ → ℤ → Type 0) → ℕ → Result ℤ S
 ReadsAs points gives raw (Ok read) = IsRaw points raw × (IsReading points raw read × gives raw read)
 ReadsAs points gives raw (Err fault) = Fails points raw fault
 
--- the points of the calibrations of both arms and of the rotation, and what their gauges may give at a raw value
+-- the points of the calibrations of both arms and the rotation, and what their gauges may give at a raw value
 pub record RobotScales : Type 0 where
   pub arm1 : Scale
   pub arm2 : Scale
@@ -173,22 +175,22 @@ scales_of first second turn = record { arm1 = first; arm2 = second; rotation = t
 abbrev pub gauges_of : (ℕ → ℤ → Type 0) → (ℕ → ℤ → Type 0) → (ℕ → ℤ → Type 0) → RobotGauges
 gauges_of first second turn = record { arm1 = first; arm2 = second; rotation = turn }
 
--- gauges that may give whatever is near the line
+-- gauges that may give any position near their lines
 abbrev pub near_lines : RobotScales → RobotGauges
 near_lines points = gauges_of (IsReading points.arm1) (IsReading points.arm2) (IsReading points.rotation)
 
--- both arms read as retracted, surely
+-- both arms are surely retracted, by their readings
 abbrev pub AreRetracted : RobotScales → ℤ → ℤ → Type 0
 AreRetracted points first second = (first ≤ℤ (retracted_to -ℤ points.arm1.tol)) × (second ≤ℤ (retracted_to -ℤ points.arm2.tol))
 
--- what the sensors say where all can be used
+-- a reading of sensors that can all be used
 pub record Reads (points : RobotScales) (gives : RobotGauges) (s : RobotSense) (r : RobotReading) : Type 0 where
   pub arm1 : ReadsAs points.arm1 gives.arm1 s.arm1 (Ok r.arm1)
   pub arm2 : ReadsAs points.arm2 gives.arm2 s.arm2 (Ok r.arm2)
   pub rotation : ReadsAs points.rotation gives.rotation s.rotation (Ok r.rotation)
   pub retracted : IsTrue r.retracted ↔ AreRetracted points r.arm1 r.arm2
 
--- the sensors are checked one after another, and the first that can't be used says why
+-- the sensors are checked one by one, and the first that can't be used gives the fault
 abbrev pub FirstFails : RobotScales → RobotSense → SensorFault → Type 0
 FirstFails points s fault =
     Fails points.arm1 s.arm1 fault ⊎ (IsRaw points.arm1 s.arm1 × (Fails points.arm2 s.arm2 fault ⊎ (IsRaw points.arm2 s.arm2 × Fails points.rotation s.rotation fault)))
@@ -197,7 +199,7 @@ abbrev pub Senses : RobotScales → RobotGauges → RobotSense → Result RobotR
 Senses points gives s (Ok r) = Reads points gives s r
 Senses points gives s (Err fault) = FirstFails points s fault
 
--- where a step turns to; the rotation is driven only while both arms are retracted
+-- the rotation that a step turns to; it is driven only while both arms are retracted
 abbrev pub rotation_stop : RobotStep → Option Stop
 rotation_stop TurnToTable = Some ROTATION_ARM1_TABLE
 rotation_stop TurnToLoad = Some ROTATION_ARM1_PRESS
@@ -208,7 +210,7 @@ rotation_stop _ = None
 abbrev pub turns_to : RobotStep → Bool → Option Stop
 turns_to step retracted = if retracted then rotation_stop step else None
 
--- where a step drives each arm to
+-- the extension that a step drives each arm to
 abbrev pub arm1_stop : RobotStep → Option Stop
 arm1_stop ReachTable = Some ARM1_TABLE
 arm1_stop LeaveTable = Some RETRACTED
@@ -223,7 +225,7 @@ arm2_stop ReachDeposit = Some ARM2_DEPOSIT
 arm2_stop LeaveDeposit = Some RETRACTED
 arm2_stop _ = None
 
--- what a step that asks nothing tells motors and magnets
+-- the commands to motors and magnets in a step that asks nothing
 pub record Acts (points : RobotScales) (p : RobotProgress) (r : RobotReading) (act : RobotAct) : Type 0 where
   pub arm1 : DrivesTo (arm1_stop p.step) points.arm1.tol r.arm1 act.arm1
   pub arm2 : DrivesTo (arm2_stop p.step) points.arm2.tol r.arm2 act.arm2
@@ -235,7 +237,7 @@ abbrev pub is_off : Motor → Bool
 is_off Off = true
 is_off _ = false
 
--- a step is done in the turn in which all motors are off; but one that turns isn't while an arm may be out
+-- a step is done in the turn in which all motors are off; a step that turns also needs both arms retracted
 abbrev pub turns : RobotStep → Bool
 turns TurnToTable = true
 turns TurnToLoad = true
@@ -249,7 +251,7 @@ is_done step retracted act = (not (turns step) || retracted) && (is_off act.arm1
 abbrev pub after_act : RobotProgress → RobotReading → RobotAct → RobotProgress
 after_act p r act = if is_done p.step r.retracted act then after_done p else p
 
--- the zone in which each arm is driven, and its posture
+-- the zone into which each arm is driven, and its posture
 abbrev pub arm1_zone : RobotStep → Option (Zone × Posture)
 arm1_zone ReachTable = Some (Z2, OpenOut)
 arm1_zone LeaveTable = Some (Z2, OpenOut)
@@ -269,11 +271,11 @@ pub record RobotDemands (step : RobotStep) (act : RobotAct) (opening : ModelStat
   pub arm1 : act.arm1 ≢ Off → HoldsIn Robot opening seen (arm1_zone step)
   pub arm2 : act.arm2 ≢ Off → HoldsIn Robot opening seen (arm2_zone step)
 
--- a step that asks tells motors to be off, and leaves the magnets as they are
+-- in a step that asks, the motors are off and the magnets stay as they are
 abbrev pub robot_rest : RobotProgress → RobotAct
 robot_rest p = record { arm1 = Off; arm2 = Off; rotation = Off; magnet1 = p.magnets.arm1; magnet2 = p.magnets.arm2 }
 
--- by the points of the calibrations, and what their gauges may give
+-- the program, by the points of the calibrations and what their gauges may give
 abbrev pub robot_steps : RobotScales → RobotGauges → Steps RobotProgress RobotSense RobotReading RobotAct
 robot_steps points gives =
     record {

@@ -22,7 +22,7 @@ pub struct RobotProgram<F1: Gauge, F2: Gauge, F3: Gauge> {
 pub type RobotCtl<F1, F2, F3> = Controller<RobotProgram<F1, F2, F3>>;
 
 impl<F1: Gauge, F2: Gauge, F3: Gauge> RobotProgram<F1, F2, F3> {
-    /// The program over these calibrations.
+    /// The program with these calibrations.
     pub fn new(
         arm1: Calibration<F1>,
         arm2: Calibration<F2>,
@@ -178,21 +178,21 @@ fn is_drawn_back<F: Gauge>(arm: &Calibration<F>, read: i32) -> bool
     is_retracted(read, arm.tol())
 }
 
-// What a step tells the motor of the first arm.
+// The first arm motor's command in a step.
 fn first_arm<F: Gauge>(arm: &Calibration<F>, step: RobotStep, read: i32) -> Motor
     ensures { DrivesTo (arm1_stop step) arm.now.points.tol read result }
 {
     drive_to(step.arm1_stop(), arm.tol(), read)
 }
 
-// What a step tells the motor of the second arm.
+// The second arm motor's command in a step.
 fn second_arm<F: Gauge>(arm: &Calibration<F>, step: RobotStep, read: i32) -> Motor
     ensures { DrivesTo (arm2_stop step) arm.now.points.tol read result }
 {
     drive_to(step.arm2_stop(), arm.tol(), read)
 }
 
-// What a step tells the motor of the rotation.
+// The rotation motor's command in a step.
 fn rotation<F: Gauge>(turn: &Calibration<F>, step: RobotStep, retracted: bool, read: i32) -> Motor
     ensures { DrivesTo (turns_to step retracted) turn.now.points.tol read result }
 {

@@ -28,11 +28,11 @@ pub enum RobotStep {
     ReleaseTable,
     /// Turns the first arm to the press.
     TurnToLoad,
-    /// Waits for the press.
+    /// Waits until the press lets it in.
     ClaimPress,
-    /// Looks whether the press is open for a plate.
+    /// Inquires whether the press is open for a plate.
     InspectPress,
-    /// Leaves the press, which isn't.
+    /// Leaves the press, which isn't open for a plate.
     ReleasePress,
     /// Puts the first arm out into the press.
     ReachToLoad,
@@ -58,7 +58,7 @@ pub enum RobotStep {
     ReleaseUnloaded,
     /// Turns the second arm to the deposit belt.
     TurnToDeposit,
-    /// Waits for the deposit belt.
+    /// Waits until the deposit belt lets it in.
     ClaimDeposit,
     /// Puts the second arm out over the deposit belt.
     ReachDeposit,
@@ -70,7 +70,7 @@ pub enum RobotStep {
     GiveToDeposit,
 }
 
-/// What the robot has noted of plates.
+/// The robot's notes of plates.
 #[derive(Clone, Copy, Debug, PartialEq, Eq)]
 pub struct RobotNotes {
     /// Whether a plate is on the first arm.
@@ -81,14 +81,14 @@ pub struct RobotNotes {
     pub fed: bool,
 }
 
-/// What the robot told its magnets last: whether each is on.
+/// The robot's last commands to its magnets: whether each is on.
 #[derive(Clone, Copy, Debug, PartialEq, Eq)]
 pub struct RobotMagnets {
     pub arm1: bool,
     pub arm2: bool,
 }
 
-/// How far the robot has come in its program, with what it has noted.
+/// The robot's step in its program, with its notes.
 #[derive(Clone, Copy, Debug, PartialEq, Eq)]
 pub struct RobotProgress {
     pub step: RobotStep,
@@ -96,7 +96,7 @@ pub struct RobotProgress {
     pub magnets: RobotMagnets,
 }
 
-/// What the robot's sensors say once they are checked.
+/// What the robot's sensors say after the check.
 #[derive(Clone, Copy, Debug, PartialEq, Eq)]
 pub struct RobotReading {
     /// How far the first arm is out, in tenths of a millimetre.
@@ -110,7 +110,7 @@ pub struct RobotReading {
 }
 
 impl RobotNotes {
-    // The group of steps that comes next.
+    // The first step of the next group, by the notes.
     pub(crate) fn choice(self) -> RobotStep
         ensures { result ≡ program.choice self }
     {
@@ -163,7 +163,7 @@ impl RobotStep {
         }
     }
 
-    // The step after this one is done, by the notes that it leaves.
+    // The next step after this one is done, by the notes after this one.
     pub(crate) fn next(self, notes: RobotNotes) -> RobotStep
         ensures { result ≡ program.step_after self notes }
     {
@@ -199,7 +199,7 @@ impl RobotStep {
         }
     }
 
-    // The step after an inquiry that showed this of a zone.
+    // The next step after an inquiry that showed this of a zone.
     pub(crate) fn after_inquiry(
         self,
         owner: Option<Machine>,
@@ -217,7 +217,7 @@ impl RobotStep {
         }
     }
 
-    // What the step does to the notes.
+    // The notes after the step.
     pub(crate) fn notes_after(self, notes: RobotNotes) -> RobotNotes
         ensures { result ≡ program.notes_after self notes }
     {
@@ -244,7 +244,7 @@ impl RobotStep {
         }
     }
 
-    // The magnets in this step and after it.
+    // The magnets from this step on.
     pub(crate) fn magnets_by(self, magnets: RobotMagnets) -> RobotMagnets
         ensures { result ≡ program.magnets_by self magnets }
     {
@@ -269,7 +269,7 @@ impl RobotStep {
         }
     }
 
-    // Where the step turns to.
+    // The rotation that the step turns to.
     pub(crate) fn rotation_stop(self) -> Option<Stop>
         ensures stop { result ≡ program.rotation_stop self }
         ensures half { IfSome result (λ s. narrowest_half ≤ s.half) }
@@ -283,7 +283,7 @@ impl RobotStep {
         }
     }
 
-    // Where the step drives the first arm to.
+    // The extension that the step drives the first arm to.
     pub(crate) fn arm1_stop(self) -> Option<Stop>
         ensures stop { result ≡ program.arm1_stop self }
         ensures half { IfSome result (λ s. narrowest_half ≤ s.half) }
@@ -296,7 +296,7 @@ impl RobotStep {
         }
     }
 
-    // Where the step drives the second arm to.
+    // The extension that the step drives the second arm to.
     pub(crate) fn arm2_stop(self) -> Option<Stop>
         ensures stop { result ≡ program.arm2_stop self }
         ensures half { IfSome result (λ s. narrowest_half ≤ s.half) }
@@ -309,7 +309,7 @@ impl RobotStep {
         }
     }
 
-    // Whether the step is one that turns.
+    // Whether the robot turns in the step.
     pub(crate) fn turns(self) -> bool
         ensures { result ≡ program.turns self }
     {

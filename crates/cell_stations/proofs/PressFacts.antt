@@ -44,7 +44,7 @@ facts_at ClaimBack = Hosts Z3 OpenOut ∷ []
 abbrev pub PressKnows : PressProgress → ModelState → Type 0
 PressKnows p z = AreSo Press z (facts_at p.step)
 
--- through a drive
+-- after a drive
 done_drive : (s : PressStep) (loaded forged : Bool) (z : ModelState) → call_of s ≡ None → AreSo Press z (facts_at s) → AreSo Press z (facts_at (step_after s loaded forged))
 done_drive MoveToMiddle loaded forged z e k = k
 done_drive MoveToTop loaded forged z e k = k
@@ -56,7 +56,7 @@ drive_on Off p z e k = done_drive p.step p.loaded p.forged z e k
 drive_on Plus p z e k = k
 drive_on Minus p z e k = k
 
--- once its call is done
+-- after a call that is done
 at_choice : (loaded forged : Bool) (z : ModelState) → owns z Press Z3 ≡ true → AreSo Press z (facts_at (step_after ClaimFirst loaded forged))
 at_choice loaded true z o = (o, tt)
 at_choice true false z o = (o, tt)
@@ -85,7 +85,7 @@ press-knowing = record {
   after_inquiry = λ p z c owner flag posture e d sound k. k;
 }
 
--- so a step that drives holds the interior, and it moves
+-- so in a step that drives the press holds its interior, which moves
 pub drives_at : (s : PressStep) (z : ModelState) → call_of s ≡ None → AreSo Press z (facts_at s) → (owns z Press Z3 ≡ true) × (posture_at z Z3 ≡ Moving)
 drives_at MoveToMiddle z e k = (k.0, k.1.0.1)
 drives_at MoveToTop z e k = (k.0, k.1.0.1)

@@ -40,7 +40,7 @@ facts_at ClaimBack = Owns Z1 ∷ Hosts Z1 Closed ∷ Hosts Z2 OpenOut ∷ []
 abbrev pub TableKnows : TableProgress → ModelState → Type 0
 TableKnows p z = AreSo TableMachine z (facts_at p.step)
 
--- through a drive
+-- after a drive
 done_drive : (s : TableStep) (loaded : Bool) (z : ModelState) → call_of s ≡ None → AreSo TableMachine z (facts_at s) → AreSo TableMachine z (facts_at (step_after s loaded))
 done_drive MoveToLoading loaded z e k = k
 done_drive MoveToUnloading loaded z e k = k
@@ -50,7 +50,7 @@ drive_on : (b : Bool) (p : TableProgress) (z : ModelState) → call_of p.step �
 drive_on true p z e k = done_drive p.step p.loaded z e k
 drive_on false p z e k = k
 
--- once its call is done
+-- after a call that is done
 at_choice : (loaded : Bool) (z : ModelState) → owns z TableMachine Z1 ≡ true → owns z TableMachine Z2 ≡ true → AreSo TableMachine z (facts_at (step_after ClaimExit loaded))
 at_choice true z o u = (o, (u, tt))
 at_choice false z o u = (o, (u, tt))
@@ -77,7 +77,7 @@ table-knowing points gives = record {
   after_inquiry = λ p z c owner flag posture e d sound k. k;
 }
 
--- so a step that drives holds both zones, and they move
+-- so in a step that drives the table holds both its zones, which move
 pub drives_at : (s : TableStep) (z : ModelState) → call_of s ≡ None → AreSo TableMachine z (facts_at s)
     → ((owns z TableMachine Z1 ≡ true) × (owns z TableMachine Z2 ≡ true)) × ((posture_at z Z1 ≡ Moving) × (posture_at z Z2 ≡ Moving))
 drives_at MoveToLoading z e k = ((k.0, k.1.0), (k.1.1.0.1, k.1.1.1.0.1))

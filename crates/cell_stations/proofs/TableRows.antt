@@ -1,4 +1,4 @@
--- The rows of the table's program are as the examples have them.
+-- The table's program meets the rows of the examples.
 use Rattle.std.proofs.Common.{◌≡◌, ◌∙◌, sym, ap, rules, None, pos, Bool, true, false, [], ◌∷◌, refl}
 use Rattle.std.specs.Int.Signed.{le_z_yes, lt_z_yes}
 use Rattle.cell_types.specs.declared.answer.Refusal.{Refusal}
@@ -47,7 +47,7 @@ asks points loaded = record {
   claims_back = record { asks = refl; stays = stays_claiming; leads = refl };
 }
 
--- what a step tells its two motors is one thing
+-- a step and a reading determine the commands to the two motors
 acts_one : (points : Scale) (step : TableStep) (r : TableReading) (a b : TableAct) → Acts points step r a → Acts points step r b → b ≡ a
 acts_one points step r a b at_a at_b =
     let height : b.height ≡ a.height = at_b.height ∙ sym at_a.height in

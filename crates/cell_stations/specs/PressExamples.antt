@@ -1,4 +1,4 @@
--- Examples of the press's program: each row of it, with each state of its notes.
+-- Examples of each row of the press's program, with each state of its notes.
 use Rattle.std.specs.Prelude.{◌≡◌, ◌≢◌, Bool, true, false, List, [], ◌∷◌, Ok, Err}
 use Rattle.cell_types.specs.declared.machine.Machine.TheVariants.{Press}
 use Rattle.cell_types.specs.declared.zone.Zone.TheVariants.{Z3}
@@ -24,7 +24,7 @@ use Rattle.cell_stations.specs.PressProgram.{press_steps}
 abbrev pub at : PressStep → Bool → Bool → Direction → PressProgress
 at step loaded forged direction = record { step = step; loaded = loaded; forged = forged; direction = direction }
 
--- the motor of a step, and the switches
+-- the command to the motor, and the switches
 abbrev pub told : Motor → PressAct
 told motor = record { press = motor }
 
@@ -43,14 +43,14 @@ at_top = switches false false true
 abbrev pub between : PressSense
 between = switches false false false
 
--- where the program begins, by the press's two places: whether a plate is there that isn't forged, and one that is
+-- the start of the program, by whether an unforged and a forged plate are in the press
 abbrev pub begins_with : Bool → Bool → PressProgress
 begins_with false false = at ClaimFirst false false Downward
 begins_with true false = at ClaimFirst true false Downward
 begins_with false true = at ClaimFirst false true Downward
 begins_with true true = at ClaimFirst true true Downward
 
--- by every set of full places, and by nothing else
+-- the start depends on the full places and on nothing else
 pub record PressStarts : Type 0 where
   pub whose : press_steps.machine ≡ Press
   pub by_places : (s : ModelState) → press_steps.start s ≡ begins_with s.full.press_in s.full.press_out
@@ -96,7 +96,7 @@ pub record PressChecks : Type 0 where
   pub middle_and_top : CheckRow press_steps (switches false true true) (Err Clash)
   pub all_three : CheckRow press_steps (switches true true true) (Err Clash)
 
--- all of them; at a step that asks, the motor is off
+-- all rows; in a step that asks, the motor is off
 pub record PressRowsAreMet : Type 0 where
   pub starts : PressStarts
   pub asks : (loaded forged : Bool) (d : Direction) → PressAsks loaded forged d

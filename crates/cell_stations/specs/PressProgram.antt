@@ -50,7 +50,7 @@ stays_on GivePlate PlaceFull = true
 stays_on ClaimBack (Held _) = true
 stays_on _ _ = false
 
--- the step after each that is done, by whether the press has a plate that isn't forged, and one that is
+-- the next step after each that is done, by whether the press has an unforged and a forged plate
 abbrev pub step_after : PressStep → Bool → Bool → PressStep
 step_after ClaimFirst loaded forged = if forged then LeaveForBottom else (if loaded then LeaveForTop else LeaveForMiddle)
 step_after LeaveForMiddle _ _ = MoveToMiddle
@@ -68,7 +68,7 @@ step_after PoseLow _ _ = GivePlate
 step_after GivePlate _ _ = ClaimBack
 step_after ClaimBack _ _ = LeaveForMiddle
 
--- what the step does to the two notes
+-- the two notes after a step
 abbrev pub loaded_after : PressStep → Bool → Bool
 loaded_after TakePlate _ = true
 loaded_after Forge _ = false
@@ -87,11 +87,11 @@ after_done p =
       forged = forged_after p.step p.forged;
     }
 
--- at the start the places are noted
+-- at the start the press notes its places
 abbrev pub press_start : ModelState → PressProgress
 press_start s = record { step = ClaimFirst; loaded = is_full s PressIn; forged = is_full s PressOut; direction = Downward }
 
--- the drives by switch: off at the switch, else towards it; to the middle from between two switches in the last direction
+-- the drives by switch: off at the switch, else towards it; to the middle from no switch, in the last direction
 abbrev pub to_middle : Direction → PressSense → Motor
 to_middle last s = if s.middle then Off else (if s.bottom then Plus else (if s.top then Minus else motor_of last))
 
@@ -116,7 +116,7 @@ after_motor p Off = after_done p
 after_motor p Plus = record p { direction = latest p.direction Plus }
 after_motor p Minus = record p { direction = latest p.direction Minus }
 
--- two switches are on that can't both be
+-- two switches are on that exclude each other
 abbrev pub clashes : PressSense → Bool
 clashes s = (s.bottom && s.middle) || (s.bottom && s.top) || (s.middle && s.top)
 

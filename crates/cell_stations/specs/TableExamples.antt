@@ -1,4 +1,4 @@
--- Examples of the table's program: each row of it, with each state of its note.
+-- Examples of each row of the table's program, with each state of its note.
 use Rattle.std.specs.Prelude.{◌≡◌, ◌≢◌, ◌⊎◌, ℕ, ℤ, pos, Bool, true, false, List, [], ◌∷◌, Ok, Err}
 use Rattle.cell_types.specs.declared.machine.Machine.TheVariants.{Table as TableMachine}
 use Rattle.cell_types.specs.declared.zone.Zone.TheVariants.{Z1, Z2}
@@ -36,16 +36,16 @@ shown bottom top turn = record { bottom = bottom; top = top; turn = turn }
 abbrev pub reads : Bool → Bool → ℕ → TableReading
 reads bottom top turn = record { sense = shown bottom top 0; turn = pos turn }
 
--- with a gauge that may give whatever is near the line
+-- with a gauge that may give any position near the line
 abbrev pub rows_by : Scale → Steps TableProgress TableSense TableReading TableAct
 rows_by points = table_steps points (IsReading points)
 
--- where the program begins, by whether a plate is on the table
+-- the start of the program, by whether a plate is on the table
 abbrev pub begins_with : Bool → TableProgress
 begins_with false = at ClaimEntry false
 begins_with true = at ClaimEntry true
 
--- by every set of full places, and by nothing else
+-- the start depends on the full places and on nothing else
 pub record TableStarts (points : Scale) : Type 0 where
   pub whose : (rows_by points).machine ≡ TableMachine
   pub by_places : (s : ModelState) → (rows_by points).start s ≡ begins_with s.full.table
@@ -63,7 +63,7 @@ pub record TableAsks (points : Scale) (loaded : Bool) : Type 0 where
   pub gives : AskRow (rows_by points) (at GivePlate loaded) (Give Z2) (UntilRoom ∷ []) (at ClaimBack false)
   pub claims_back : AskRow (rows_by points) (at ClaimBack loaded) (Claim Z2) (UntilFree ∷ []) (at LeaveForLoading loaded)
 
--- raw values from 100 to 4100, with a tolerance of 5: so the rotation's motor is off within 15 of its target
+-- raw values from 100 to 4100 and a tolerance of 5, so the rotation's motor is off within 15 of its target
 abbrev pub scale : Scale
 scale = record { raw_lo = 100; raw_hi = 4100; at_lo = pos 0; at_hi = pos 500; tol = pos 5 }
 
@@ -81,7 +81,7 @@ pub record TableDrives (loaded : Bool) : Type 0 where
   pub to_unloading_there_first : DriveRow (rows_by scale) (at MoveToUnloading loaded) (reads false true 485) (told Off Off) (at PoseUnloading loaded)
   pub to_unloading_there_last : DriveRow (rows_by scale) (at MoveToUnloading loaded) (reads false true 515) (told Off Off) (at PoseUnloading loaded)
 
--- a gauge that gives 3 at any raw value, which is near the line at 100
+-- a gauge that gives 3 at every raw value; at 100 this is near the line
 abbrev pub three : ℕ → ℤ → Type 0
 three raw v = v ≡ pos 3
 
@@ -102,14 +102,14 @@ pub record TableChecks : Type 0 where
   pub by_gauge : (table_steps scale three).senses (shown false true 100) (Ok (record { sense = shown false true 100; turn = pos 3 }))
   pub not_by_line : ¬ (table_steps scale three).senses (shown false true 100) (Ok (record { sense = shown false true 100; turn = pos 0 }))
 
--- the table holds both its zones, and they move
+-- the table holds both its zones, which move
 pub record DemandsBoth (opening : ModelState) (seen : List Event) : Type 0 where
   pub holds_entry : Holds opening seen TableMachine Z1
   pub holds_exit : Holds opening seen TableMachine Z2
   pub entry_moves : posture_by_events opening seen Z1 ≡ Moving
   pub exit_moves : posture_by_events opening seen Z2 ≡ Moving
 
--- all of them; at a step that asks, both motors are off
+-- all rows; in a step that asks, both motors are off
 pub record TableRowsAreMet : Type 0 where
   pub starts : (points : Scale) → TableStarts points
   pub asks : (points : Scale) (loaded : Bool) → TableAsks points loaded

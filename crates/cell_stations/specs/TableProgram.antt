@@ -51,7 +51,7 @@ stays_on GivePlate PlaceFull = true
 stays_on ClaimBack (Held _) = true
 stays_on _ _ = false
 
--- the step after each that is done, by whether a plate is on the table
+-- the next step after each that is done, by whether a plate is on the table
 abbrev pub step_after : TableStep → Bool → TableStep
 step_after ClaimEntry _ = ClaimExit
 step_after ClaimExit loaded = if loaded then LeaveForUnloading else LeaveForLoading
@@ -66,7 +66,7 @@ step_after PoseUnloading _ = GivePlate
 step_after GivePlate _ = ClaimBack
 step_after ClaimBack _ = LeaveForLoading
 
--- what the step does to the note
+-- the note after a step
 abbrev pub loaded_after : TableStep → Bool → Bool
 loaded_after TakePlate _ = true
 loaded_after GivePlate _ = false
@@ -75,11 +75,12 @@ loaded_after _ loaded = loaded
 abbrev pub after_done : TableProgress → TableProgress
 after_done p = record { step = step_after p.step p.loaded; loaded = loaded_after p.step p.loaded }
 
--- at the start the place is noted
+-- at the start the table notes its place
 abbrev pub table_start : ModelState → TableProgress
 table_start s = record { step = ClaimEntry; loaded = is_full s OnTable }
 
--- what the sensors say that can be used: the switches don't clash, the raw value is one of the calibration's, and the rotation is what the gauge gives there, near the line
+-- a reading of sensors that can be used: the switches don't clash, the raw value is in the calibration's range,
+-- and the rotation is what the gauge gives there, near the line
 pub record Reads (points : Scale) (gives : ℕ → ℤ → Type 0) (s : TableSense) (r : TableReading) : Type 0 where
   pub no_clash : ¬ TableClashes s
   pub first : points.raw_lo ≤ s.turn
@@ -88,26 +89,26 @@ pub record Reads (points : Scale) (gives : ℕ → ℤ → Type 0) (s : TableSen
   pub given : gives s.turn r.turn
   pub switches : r.sense ≡ s
 
--- the sensors are checked: the switches first, then whether the raw value is one of the calibration's
+-- the check of the sensors: first the switches, then the range of the raw value
 abbrev pub Senses : Scale → (ℕ → ℤ → Type 0) → TableSense → Result TableReading SensorFault → Type 0
 Senses points gives s (Err Clash) = TableClashes s
 Senses points gives s (Err Low) = ¬ TableClashes s × (s.turn < points.raw_lo)
 Senses points gives s (Err High) = ¬ TableClashes s × (points.raw_hi < s.turn)
 Senses points gives s (Ok r) = Reads points gives s r
 
--- the height is driven by its switches: off there, else towards it
+-- the height's motor: off at the switch, else towards it
 abbrev pub height_for : TableStep → TableSense → Motor
 height_for MoveToLoading s = if s.bottom then Off else Minus
 height_for MoveToUnloading s = if s.top then Off else Plus
 height_for _ s = Off
 
--- where a step turns to
+-- the rotation that a step turns to
 abbrev pub rotation_stop : TableStep → Option Stop
 rotation_stop MoveToLoading = Some TURN_LOADING
 rotation_stop MoveToUnloading = Some TURN_UNLOADING
 rotation_stop _ = None
 
--- what a step that drives tells the two motors
+-- the commands to the two motors in a step that drives
 pub record Acts (points : Scale) (step : TableStep) (r : TableReading) (act : TableAct) : Type 0 where
   pub height : act.height ≡ height_for step r.sense
   pub rotation : DrivesTo (rotation_stop step) points.tol r.turn act.rotation
@@ -125,7 +126,7 @@ abbrev pub TableDemands : TableAct → ModelState → List Event → Type 0
 TableDemands act opening seen =
     (act.height ≢ Off) ⊎ (act.rotation ≢ Off) → (Holds opening seen TableMachine Z1 × Holds opening seen TableMachine Z2) × (Moves opening seen Z1 × Moves opening seen Z2)
 
--- by the points of the rotation's calibration, and what its gauge may give at a raw value
+-- the program, by the points of the rotation's calibration and what its gauge may give at a raw value
 abbrev pub table_steps : Scale → (ℕ → ℤ → Type 0) → Steps TableProgress TableSense TableReading TableAct
 table_steps points gives =
     record {

@@ -119,7 +119,7 @@ impl Program for PressProgram {
     }
 }
 
-// What a step tells the motor.
+// The motor's command in a step.
 fn motor(progress: PressProgress, press: PressSense) -> Motor
     ensures { result ≡ step_motor progress.step progress.direction press }
 {

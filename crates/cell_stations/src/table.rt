@@ -19,7 +19,7 @@ pub struct TableProgram<F: Gauge> {
 pub type TableCtl<F> = Controller<TableProgram<F>>;
 
 impl<F: Gauge> TableProgram<F> {
-    /// The program over this calibration.
+    /// The program with this calibration.
     pub fn new(turn: Calibration<F>) -> TableProgram<F>
         ensures { result.turn ≡ turn }
     {
@@ -128,7 +128,7 @@ impl<F: Gauge> Program for TableProgram<F> {
     }
 }
 
-// What a step tells the motor of the rotation.
+// The rotation motor's command in a step.
 fn rotation<F: Gauge>(turn: &Calibration<F>, step: TableStep, read: i32) -> Motor
     ensures { DrivesTo (rotation_stop step) turn.now.points.tol read result }
 {

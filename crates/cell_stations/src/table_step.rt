@@ -9,15 +9,15 @@ use cell_devices::{Motor, Stop, table_to_bottom, table_to_top};
 /// A step of the table's program.
 #[derive(Clone, Copy, Debug, PartialEq, Eq)]
 pub enum TableStep {
-    /// Claims the zone before the feed belt for the first time.
+    /// Claims the zone shared with the feed belt for the first time.
     ClaimEntry,
-    /// Claims the zone before the robot for the first time.
+    /// Claims the zone shared with the robot for the first time.
     ClaimExit,
     /// Sets out for the feed belt.
     LeaveForLoading,
     /// Goes down and turns to the feed belt.
     MoveToLoading,
-    /// Has come to the feed belt.
+    /// Has arrived at the feed belt.
     PoseLoading,
     /// Lets the feed belt give a plate.
     ReleaseEntry,
@@ -27,15 +27,15 @@ pub enum TableStep {
     LeaveForUnloading,
     /// Goes up and turns to the robot.
     MoveToUnloading,
-    /// Has come to the robot.
+    /// Has arrived at the robot.
     PoseUnloading,
-    /// Hands the plate to the robot, once its arm has room.
+    /// Hands the plate to the robot, when its arm has room.
     GivePlate,
-    /// Waits for the robot to be gone.
+    /// Waits until the robot has left.
     ClaimBack,
 }
 
-/// How far the table has come in its program, with what it has noted.
+/// The table's step in its program, with its note.
 #[derive(Clone, Copy, Debug, PartialEq, Eq)]
 pub struct TableProgress {
     pub step: TableStep,
@@ -43,17 +43,17 @@ pub struct TableProgress {
     pub loaded: bool,
 }
 
-/// What the table's sensors say once they are checked.
+/// What the table's sensors say after the check.
 #[derive(Clone, Copy, Debug, PartialEq, Eq)]
 pub struct TableReading {
-    /// What they show: switches that don't clash, and the raw value.
+    /// The switches, which don't clash, and the raw value.
     pub sense: TableSense,
-    /// The position of the rotation.
+    /// The position of the rotation, in tenths of a degree.
     pub turn: i32,
 }
 
 impl TableStep {
-    // The step after this one is done.
+    // The next step after this one is done.
     pub(crate) fn next(self, loaded: bool) -> TableStep
         ensures { result ≡ program.step_after self loaded }
     {
@@ -84,7 +84,7 @@ impl TableStep {
         }
     }
 
-    // What the step tells the motor of the height.
+    // The height motor's command in the step.
     pub(crate) fn height(self, table: &TableSense) -> Motor
         ensures { result ≡ program.height_for self table.now }
     {
@@ -95,7 +95,7 @@ impl TableStep {
         }
     }
 
-    // Where the step turns to.
+    // The rotation that the step turns to.
     pub(crate) fn stop(self) -> Option<Stop>
         ensures stop { result ≡ program.rotation_stop self }
         ensures half { IfSome result (λ s. narrowest_half ≤ s.half) }
