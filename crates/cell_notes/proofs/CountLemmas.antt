@@ -1,4 +1,4 @@
--- After so many turns no count is above their number.
+-- No count is above the number of turns.
 use Rattle.std.proofs.Common.{ℕ, ◌+◌, ◌<◌, Bool, true, false, arith}
 use Rattle.cell_rules.specs.ModelState.{one_if}
 use Rattle.cell_notes.specs.declared.counts.Counts.{Counts}

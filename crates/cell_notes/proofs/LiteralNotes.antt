@@ -1,4 +1,4 @@
--- What is kept of a turn is what the rows say.
+-- What is kept of a turn meets the rows.
 use Rattle.std.proofs.Common.{refl}
 use Rattle.cell_notes.specs.NoteRows.{NotesAreMet}
 

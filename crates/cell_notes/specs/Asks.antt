@@ -1,4 +1,4 @@
--- What was asked in a turn, and what came of it.
+-- The call of a turn, and its effect.
 use Rattle.std.specs.Prelude.{Bool, true, false, List, [], ◌∷◌, Option, Some, None, Result, Ok, Err}
 use Rattle.cell_types.specs.declared.call.Call.{Call}
 use Rattle.cell_types.specs.declared.machine.Machine.{Machine}
@@ -10,11 +10,11 @@ use Rattle.cell_types.specs.declared.reply.Reply.TheVariants.{Settled, Busy}
 use Rattle.cell_rules.specs.declared.heard.LineFault.{LineFault}
 use Rattle.cell_rules.specs.Seen.{event}
 
--- what was asked in a turn, and what came back
+-- the call of a turn, if there was one, and what came back
 abbrev pub Asked : Type 0
 Asked = Option (Call × Result Reply LineFault)
 
--- the event of what a machine asked, if that was done: its part notes it
+-- the event of a machine's call if it was done: the machine's part notes it
 abbrev pub done_by : Machine → Call → Result Reply LineFault → Option Event
 done_by m c (Ok (Settled Done stamp)) = Some (event m c Done)
 done_by m c _ = None
@@ -54,7 +54,7 @@ abbrev pub settled_in : Machine → Asked → List Event
 settled_in m None = []
 settled_in m (Some call) = settled_by m call.0 call.1
 
--- the entries of a call: one where it was settled
+-- the journal's entries of a call: one if it was settled
 abbrev pub entries_by : Call → Result Reply LineFault → List Entry
 entries_by c (Ok (Settled a stamp)) = record { call = c; answer = a; stamp = stamp } ∷ []
 entries_by c (Ok (Busy lost stamp)) = []

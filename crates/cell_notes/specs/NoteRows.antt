@@ -20,12 +20,12 @@ use Rattle.cell_notes.specs.Statuses.{status_word}
 abbrev pub entry : Call → Answer → ℕ → Entry
 entry call a stamp = record { call = call; answer = a; stamp = stamp }
 
--- ---- what stands in the notebook: the turns, the calls done, the inquiries, the refusals and the busy calls; and the journal
+-- ---- the notebook: the counts of turns, calls done, inquiries, refusals and busy calls; and the journal
 
 abbrev pub noted : ℕ → ℕ → ℕ → ℕ → ℕ → List Entry → Notes
 noted turns done read refused busy journal = record { counts = record { turns = turns; done = done; read = read; refused = refused; busy = busy }; journal = journal }
 
--- after a claim that was done and ten other turns
+-- a notebook after a claim that was done and ten other turns: its one entry, and the whole
 abbrev pub kept : Entry
 kept = entry (Claim Z1) Done 6
 
@@ -65,7 +65,7 @@ pub record StatusWords : Type 0 where
   pub memory : status_word status.Memory ≡ codes "memory"
   pub gate_limit : status_word status.GateLimit ≡ codes "gatelimit"
 
--- all of them
+-- all rows
 pub record NotesAreMet : Type 0 where
   pub counts : (call : Call) → CountRows call
   pub events : (m : Machine) (call : Call) (stamp : ℕ) → EventRows m call stamp

@@ -1,4 +1,4 @@
--- What stands in a machine's notebook.
+-- The content of a machine's notebook.
 use Rattle.std.specs.Prelude.{ℕ, ◌+◌, ◌<◌, vec_len, vec_capacity, List, [], ◌++◌}
 use Rattle.cell_types.specs.declared.journal.Entry.{Entry}
 use Rattle.cell_rules.specs.ModelState.{one_if}
@@ -6,7 +6,7 @@ use Rattle.cell_notes.specs.declared.counts.Counts.{Counts}
 use Rattle.cell_notes.specs.declared.notebook.Notebook.{Notebook}
 use Rattle.cell_notes.specs.Asks.{Asked, came_back, is_done_reply, is_read_reply, is_refused_reply, is_busy_reply, entries_in}
 
--- how often a machine did what, and its journal
+-- a machine's counts and its journal
 pub record Notes : Type 0 where
   pub counts : Counts
   pub journal : List Entry
@@ -21,7 +21,7 @@ no_counts = record { turns = 0; done = 0; read = 0; refused = 0; busy = 0 }
 abbrev pub no_notes : Notes
 no_notes = record { counts = no_counts; journal = [] }
 
--- after one more turn, in which this was asked
+-- after another turn, in which this was asked
 abbrev pub counts_with : Counts → Asked → Counts
 counts_with c asked =
     record {
@@ -43,14 +43,14 @@ pub record AreBelow (n : ℕ) (c : Counts) : Type 0 where
   pub refused : c.refused < n
   pub busy : c.busy < n
 
--- the last value of a count
+-- the greatest value of a count
 abbrev pub last_count : ℕ
 last_count = 18446744073709551615
 
--- there is room for one more in each count
+-- each count can be increased by 1
 abbrev pub HasRoom : Counts → Type 0
 HasRoom c = AreBelow last_count c
 
--- there is room for one more entry in the journal
+-- the journal has room for another entry
 abbrev pub HasSpare : Notebook → Type 0
 HasSpare n = vec_len n.journal < vec_capacity n.journal

@@ -1,4 +1,4 @@
-//! What a machine asked in a turn.
+//! The call of a machine's turn.
 ghost use Rattle.std.specs.Prelude.{◌≡◌, None, Some, Result};
 ghost use Rattle.cell_types.specs.declared.call.Call.{Call};
 ghost use Rattle.cell_types.specs.declared.reply.Reply.{Reply};
@@ -10,10 +10,10 @@ ghost use Rattle.cell_notes.specs.Asks.{done_in, entries_in};
 use cell_rules::{Answered, Heard};
 use cell_types::{Answer, Call, Entry, Event, Machine, Reply};
 
-/// What a machine asked in a turn, and what came back; `None` where it asked nothing.
+/// The call that a machine asked in a turn, and what came back. `None` if it asked nothing.
 pub type Asked = Option<(Call, Answered)>;
 
-/// What was asked between these two times, where that was nothing or one call.
+/// What was asked from `before` to `now`, if that is nothing or one call.
 pub fn asked_between(before: Heard, now: Heard) -> Asked
     ensures nothing { now ≡ before → result ≡ None }
     ensures once { (c : Call) (r : Result Reply LineFault) → now ≡ heard_after before c r → result ≡ Some (c, r) }
@@ -25,7 +25,7 @@ pub fn asked_between(before: Heard, now: Heard) -> Asked
     }
 }
 
-/// The event of what a machine asked, if that was done.
+/// The event of a machine's call, if the call was done.
 pub fn done_event(machine: Machine, asked: Asked) -> Option<Event>
     ensures { result ≡ done_in machine asked }
 {
@@ -39,7 +39,7 @@ pub fn done_event(machine: Machine, asked: Asked) -> Option<Event>
     }
 }
 
-// The entry of a call that was settled.
+// The journal's entry of a call that was settled.
 pub(crate) fn entry_of(asked: Asked) -> Option<Entry>
     ensures { option_to_list result ≡ entries_in asked }
 {

@@ -4,23 +4,23 @@ ghost use Rattle.cell_notes.specs.Notes.{no_counts, counts_with, HasRoom};
 use crate::asked::Asked;
 use cell_types::{Answer, Reply};
 
-/// How often a machine did what in a run.
+/// A machine's turns and calls in a run, counted.
 #[derive(Clone, Copy, Debug, PartialEq, Eq, Default)]
 pub struct Counts {
-    /// The turns of its controller, one that ends in an error too.
+    /// The turns of its controller, including one that ends in an error.
     pub turns: u64,
     /// The calls that were answered Done.
     pub done: u64,
     /// The inquiries that were answered.
     pub read: u64,
-    /// The calls that were refused, for whatever cause.
+    /// The calls that were refused, for any cause.
     pub refused: u64,
     /// The calls that found the interlock busy.
     pub busy: u64,
 }
 
 impl Counts {
-    /// The counts of a machine that has had no turn.
+    /// The counts of a machine without a turn: all 0.
     pub fn none() -> Counts
         ensures { result ≡ no_counts }
     {
@@ -33,7 +33,7 @@ impl Counts {
         }
     }
 
-    /// The counts after one more turn, in which this was asked.
+    /// The counts after another turn, in which this was asked.
     pub fn with(self, asked: Asked) -> Counts
         requires { HasRoom self }
         ensures { result ≡ counts_with self asked }
@@ -43,7 +43,7 @@ impl Counts {
         counts
     }
 
-    // Counts one more turn, in which this was asked. In place, which saves copying five counts at each turn.
+    // Counts another turn, in which this was asked. In place, so that no turn copies five counts.
     #[inline(always)]
     pub(crate) fn add(&mut self, asked: Asked)
         requires { HasRoom self.old }

@@ -1,8 +1,8 @@
-//! What is kept of a turn: a law, in a function that does nothing.
+//! A law of what is kept of a turn. It is the contract of a function with an empty body.
 ghost use Rattle.cell_notes.specs.NoteRows.{NotesAreMet};
 
-/// What a notebook, a part and a run's events have of a turn, for each answer, a busy call, one that got no
-/// memory and a turn that asked nothing; and the words of statuses.
+/// What a notebook, a part and a run's events keep of a turn: for each answer, a busy call, a call
+/// that is out of memory, and a turn that asked nothing. And the words of statuses.
 pub fn notes_by_answers()
     ensures { NotesAreMet }
 {}

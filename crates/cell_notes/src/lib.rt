@@ -1,5 +1,5 @@
-//! What goes into a run and what is kept of it: the turns of a schedule, each machine's counts and journal, and how
-//! the machines fare at its end.
+//! The input and the record of a run: the turns of a schedule, each machine's counts and journal,
+//! and each machine's status at the end.
 #![tactic(auto)]
 
 pub mod asked;

@@ -6,16 +6,16 @@ use crate::counts::Counts;
 use cell_types::Entry;
 use std::alloc::{AllocError, Global};
 
-/// What a machine keeps of its turns: how often it did what, and its calls that were settled.
+/// What a machine keeps of its turns: its counts, and its calls that were settled.
 #[derive(Debug, Drop)]
 pub struct Notebook {
     pub counts: Counts,
-    /// The oldest entry stands first.
+    /// The settled calls, the oldest first.
     pub journal: Vec<Entry>,
 }
 
 impl Notebook {
-    /// The notebook before the first turn. It takes no memory.
+    /// An empty notebook. It allocates nothing.
     pub fn new(alloc: Global) -> Notebook
         ensures { notes_of result ≡ no_notes }
     {
@@ -25,7 +25,8 @@ impl Notebook {
         }
     }
 
-    /// Makes room for one entry, where there is none. What stands in the notebook stays.
+    /// Makes room for one entry if there is none. The notebook's content stays, also if out of
+    /// memory.
     pub fn make_room(&mut self) -> Result<(), AllocError>
         ensures same { notes_of self.new ≡ notes_of self.old }
         ensures room { OnOk result (HasSpare self.new) }
@@ -34,8 +35,8 @@ impl Notebook {
         self.journal.reserve(1)
     }
 
-    /// Notes a turn of its machine, in which this was asked. The turn is counted, and a call that was
-    /// settled ends the journal; where the room for its entry is refused, nothing is noted.
+    /// Notes a turn of its machine, in which this was asked: counts the turn, and appends a settled
+    /// call to the journal. If out of memory for the entry, it notes nothing.
     #[inline(always)]
     pub fn note(&mut self, asked: Asked) -> Result<(), AllocError>
         requires { HasRoom self.old.counts }

@@ -3,25 +3,25 @@ ghost use Rattle.cell_notes.specs.Statuses.{status_word};
 
 use std::fmt;
 
-/// How a machine fares: what has stopped it, if anything has.
+/// A machine's status: what has stopped it, if anything has.
 #[derive(Clone, Copy, Debug, PartialEq, Eq)]
 pub enum Status {
-    /// Nothing has.
+    /// Nothing has stopped it.
     Fine,
     /// The interlock's stamp has reached its last value.
     Worn,
     /// Its sensors couldn't be used.
     Sensor,
-    /// A call was refused at a step that doesn't wait for that refusal to go away.
+    /// A call was refused, and its step doesn't wait for that refusal to pass.
     Refused,
-    /// Its line had no room for a call.
+    /// Its line was out of memory for a call.
     Memory,
     /// Its gate wasn't opened.
     GateLimit,
 }
 
 impl Status {
-    /// The word of reports.
+    /// The status's word in reports.
     pub fn word(self) -> &'static str
         ensures { result.now ≡ status_word self }
     {

@@ -1,4 +1,4 @@
--- What the motors demand holds in every state of a run, also for motors that an earlier turn has left on.
+-- The motors' demands hold in every state of a run, also for motors that an earlier turn has left on.
 use Rattle.std.proofs.Common.{List, ◌≡◌, false, None, Ok}
 use Rattle.cell_types.specs.declared.machine.Machine.{Machine}
 use Rattle.cell_types.specs.declared.call.Call.{Call}
@@ -11,20 +11,20 @@ use Rattle.cell_control.specs.Rigs.{Rig}
 use Rattle.cell_control.specs.Steps.{Steps}
 use Rattle.cell_seat.proofs.Keeping.{Keeping}
 
--- What a machine proves of its motors' demands, which are a fact about the interlock, the step at which it stands and its
--- part. Inv and Told are what it keeps of its side besides.
+-- What a machine proves of its motors' demands. They are a fact about the interlock, the machine's step and its part.
+-- Inv and Told are what else it keeps of its side.
 pub record Demanding {S Sense Reading Act State : Type 0} (t : Steps S Sense Reading Act) (rig : Rig State Sense Act) (Inv Told Demands : ModelState → S → State → Type 0) : Type 0 where
-  -- while others act, its motors may be left on
+  -- its motors may stay on during other machines' turns
   pub foreign : (z : ModelState) (p : S) (b : State) (n : Machine) (c : Call) → same_machine n t.machine ≡ false → IsSound z → Inv z p b → Demands z p b → Demands (next z n c) p b
-  -- with its actuators at rest nothing is demanded, wherever the step leads
+  -- actuators at rest demand nothing, at any next step
   pub rests : (z : ModelState) (p q : S) (b : State) → Demands z q (rig.set b (t.rest p))
-  -- a drive meets the demands of what it tells
+  -- a drive meets the demands of its commands
   pub after_drive : (z : ModelState) (p : S) (b : State) (s : Sense) (reading : Reading) (act : Act) → t.call p ≡ None → rig.shows b s → t.senses s (Ok reading) → t.drives p reading act → Inv z p b
       → Demands z (t.after_drive p reading act) (rig.set b act)
-  -- and its part may move
+  -- its part may move
   pub moves : (z : ModelState) (p : S) (b : State) → Told z p b → Demands z p b → Demands z p (rig.moves b)
 
--- so they are kept with what else it keeps
+-- the demands, together with what else it keeps
 abbrev pub With : {S State : Type 0} → (ModelState → S → State → Type 0) → (ModelState → S → State → Type 0) → ModelState → S → State → Type 0
 With Inv Demands z p b = Inv z p b × Demands z p b
 
@@ -41,11 +41,11 @@ demands_kept t rig Inv Told Demands k d =
       moves = λ z p b i. (k.moves z p b i.0, d.moves z p b i.0 i.1);
     }
 
--- The demands of most motors: while one is on, these facts about the interlock hold, by the step at which its machine stands.
+-- The demands of most motors: while one is on, these facts about the interlock hold, by the machine's step.
 abbrev pub WhileOn : {S State : Type 0} → Machine → (State → Type 0) → (S → List Fact) → ModelState → S → State → Type 0
 WhileOn m on facts z p b = on b → AreSo m z (facts p)
 
--- then no other machine changes them, and it is enough that a rest turns the motor off, a drive finds them and a tick turns nothing on
+-- no other machine changes them; it is enough that rest turns the motor off, a drive has them, a tick turns none on
 pub demanding_while_on : {S Sense Reading Act State : Type 0} → (t : Steps S Sense Reading Act) (rig : Rig State Sense Act) (Inv Told : ModelState → S → State → Type 0) (on : State → Type 0) (facts : S → List Fact)
     → ((p : S) (b : State) → on (rig.set b (t.rest p)) → ⊥)
     → ((z : ModelState) (p : S) (b : State) (s : Sense) (reading : Reading) (act : Act) → t.call p ≡ None → rig.shows b s → t.senses s (Ok reading) → t.drives p reading act → Inv z p b

@@ -1,4 +1,4 @@
--- What holds of one machine's side in every state of a run, whatever the machine.
+-- What holds of one machine's side in every state of a run, for any machine.
 use Rattle.std.proofs.Common.{◌≡◌, Bool, true, false, if◌then◌else◌, ◌⊎◌, inl, inr, Option, Some, None, Result, Ok, Err, refl, sym, ap, ◌∙◌, subst}
 use Rattle.cell_types.specs.declared.machine.Machine.{Machine}
 use Rattle.cell_types.specs.declared.posture.Posture.{Posture}
@@ -23,25 +23,26 @@ use Rattle.cell_notes.specs.Asks.{Asked, done_in}
 use Rattle.cell_seat.specs.Sides.{Side, noting, part_set, act_or_rest}
 use Rattle.cell_seat.specs.SeatTurns.{Answers, Takes}
 
--- in a turn that is told by the state, nothing is asked, or one call is
+-- a turn, by the state, asks nothing or one call
 abbrev pub AsksNothing : ModelState → Asked → ModelState → Type 0
 AsksNothing z asked y = (y ≡ z) × (asked ≡ None)
 
 abbrev pub AsksOnce : ModelState → Machine → Bool → Asked → ModelState → Call → Result Reply LineFault → Type 0
 AsksOnce z m busy asked y c r = Answers z m busy c r y × (asked ≡ Some (c, r))
 
--- A machine's own part of the proof that what holds of its side is kept: what holds between turns, and the more that holds, once its actuators are told, of where they lead.
+-- A machine's own part of the proof that its side keeps what holds of it: Inv holds between turns; Told holds when the
+-- actuators are set, before the part moves.
 pub record Keeping {S Sense Reading Act State : Type 0} (t : Steps S Sense Reading Act) (rig : Rig State Sense Act) (Inv Told : ModelState → S → State → Type 0) : Type 0 where
-  -- while others act
+  -- other machines' calls
   pub foreign : (z : ModelState) (p : S) (b : State) (n : Machine) (c : Call) → same_machine n t.machine ≡ false → IsSound z → Inv z p b → Inv (next z n c) p b
-  -- with its actuators at rest; by a call that is done; by what an inquiry showed; by a drive
+  -- actuators at rest; a call that is done; what an inquiry showed; a drive
   pub rests : (z : ModelState) (p : S) (b : State) → Inv z p b → Told z p (rig.set b (t.rest p))
   pub after_done : (z : ModelState) (p : S) (b : State) (c : Call) → t.call p ≡ Some c → reply z t.machine c ≡ Done → IsSound z → Inv z p b → Told (changed z t.machine c) (t.after_done p) (rig.set (rig.notes b (event t.machine c Done)) (t.rest p))
   pub after_inquiry : (z : ModelState) (p : S) (b : State) (c : Call) (owner : Option Machine) (flag : Bool) (posture : Posture) → t.call p ≡ Some c → reply z t.machine c ≡ Shown owner flag posture → IsSound z → Inv z p b
       → Told z (t.after_inquiry p owner flag posture) (rig.set b (t.rest p))
   pub after_drive : (z : ModelState) (p : S) (b : State) (s : Sense) (reading : Reading) (act : Act) → t.call p ≡ None → rig.shows b s → t.senses s (Ok reading) → t.drives p reading act → Inv z p b
       → Told z (t.after_drive p reading act) (rig.set b act)
-  -- before its part has moved, and once it has
+  -- before its part has moved, and after
   pub told : (z : ModelState) (p : S) (b : State) → Told z p b → Inv z p b
   pub moves : (z : ModelState) (p : S) (b : State) → Told z p b → Inv z p (rig.moves b)
 
@@ -84,13 +85,13 @@ module _ {S Sense Reading Act State : Type 0} (t : Steps S Sense Reading Act) (r
     by_row None w e k = subst After (sym k.2) (by_sensors k.1.sensed k.0 k.1.senses k.1.performs)
     by_row (Some fault) w e k = cc
 
--- a machine's own turn keeps what holds of its side, and tells its actuators what leads on to it
+-- a machine's own turn keeps what holds of its side, and sets its actuators so that a tick keeps it too
 pub takes_keeps : {S Sense Reading Act State : Type 0} → (t : Steps S Sense Reading Act) (rig : Rig State Sense Act) (Inv Told : ModelState → S → State → Type 0) → Keeping t rig Inv Told
     → (busy : Bool) (z y : ModelState) (side set : Side S State) (asked : Asked) → Takes t rig busy z side asked y set → side.stopped ≡ None → IsSound z → Inv z side.progress side.part → Told y set.progress set.part
 takes_keeps t rig Inv Told keeps busy z y side set asked k runs sound i =
     subst (λ x. Told y x.progress x.part) (sym k.is) (by_row t rig Inv Told keeps busy z y asked side.progress side.part i k.sense k.shows sound side.stopped k.turned runs k.row)
 
--- it asks once at most, so the interlock stays or changes by a call of that machine
+-- a turn asks at most once, so the interlock stays or changes by a call of that machine
 abbrev pub Changes : ModelState → Machine → ModelState → Type 0
 Changes z m y = ((c : Call) × (y ≡ next z m c)) ⊎ (y ≡ z)
 
@@ -104,7 +105,7 @@ pub takes_changes : {S Sense Reading Act State : Type 0} → (t : Steps S Sense 
 takes_changes t rig busy z y side set asked k =
     turn_either t (AsksNothing z asked y) (AsksOnce z t.machine busy asked y) (Changes z t.machine y) (λ h. inr h.0) (λ c r h. by_answer z t.machine busy c r y h.0) side.stopped side.progress k.sense k.turned k.row
 
--- and another machine's turn keeps it
+-- another machine's turn keeps it too
 pub by_call : (P : ModelState → Type 0) (z : ModelState) (m : Machine) (y : ModelState) → Changes z m y → P z → ((c : Call) → P (next z m c)) → P y
 by_call P z m y (inl k) here called = subst P (sym k.1) (called k.0)
 by_call P z m y (inr e) here called = subst P (sym e) here
@@ -113,7 +114,7 @@ pub others_keep : {S Sense Reading Act State : Type 0} → (t : Steps S Sense Re
     → (z y : ModelState) (m : Machine) (p : S) (b : State) → same_machine m t.machine ≡ false → Changes z m y → IsSound z → Inv z p b → Inv y p b
 others_keep t rig Inv Told keeps z y m p b apart by sound i = by_call (λ x. Inv x p b) z m y by i (λ c. keeps.foreign z p b m c apart sound i)
 
--- what its actuators are told in a turn is what a step tells them that asks, or what one tells them that drives
+-- the actuators' commands in a turn are those of a step that asks or of a step that drives
 module _ {S Sense Reading Act : Type 0} (t : Steps S Sense Reading Act) (same : Type 0) (asks : Call → Result Reply LineFault → Type 0) (p : S) (s : Sense) (Q : Act → Type 0) (rests : Q (t.rest p))
     (drives : (reading : Reading) (act : Act) → t.call p ≡ None → t.senses s (Ok reading) → t.drives p reading act → Q act) where
   at_rest_is : (r : Result S CtlFault) → Q (act_or_rest (t.rest p) (turned p (at_rest (t.rest p) r)).result)
@@ -128,7 +129,7 @@ module _ {S Sense Reading Act : Type 0} (t : Steps S Sense Reading Act) (same : 
   told_by_sensors (Err fault) r senses k = subst (λ x. Q (act_or_rest (t.rest p) (turned p x).result)) (sym k.1) rests
   told_by_sensors (Ok reading) r senses k = told_by_step (t.call p) reading r refl senses k
 
-  -- also where it had stopped before
+  -- also if the controller had stopped before
   pub turn_tells : (stopped : Option CtlFault) (w : Turned S Act) → Turns t same asks stopped p s w → Q (act_or_rest (t.rest p) w.result)
   turn_tells None w k = subst (λ x. Q (act_or_rest (t.rest p) x.result)) (sym k.2) (told_by_sensors k.1.sensed k.0 k.1.senses k.1.performs)
   turn_tells (Some fault) w k = subst (λ x. Q (act_or_rest (t.rest p) x.result)) (sym k.1) rests

@@ -1,4 +1,4 @@
--- How a machine fares and what its turn leaves is what the rows say.
+-- A machine's status and its turn meet the rows.
 use Rattle.std.proofs.Common.{◌≡◌, ◌∙◌, refl, ap, subst, ◌⊎◌, inl, inr, ℕ, Bool, true, false, if◌then◌else◌, ◌++◌, append-nil, Option, Some, None, Result, Ok, Err}
 use Rattle.std.specs.Prelude.{⊤}
 use Rattle.std.specs.Option.{is_none}
@@ -31,7 +31,7 @@ use Rattle.cell_seat.specs.SeatRows.{FareRows, IsAsking, IsDriving, PartSays, An
 pub fare-rows : FareRows
 fare-rows = record { runs = refl; sensor = λ f. refl; refused = λ r. refl; worn = refl; out_of_memory = refl; stopped = refl }
 
--- what came back by the state: in a turn that finds the interlock busy, and in one that doesn't
+-- the reply, by the state: in a turn that finds the interlock busy, and in one that doesn't
 busy_answer : (z y : ModelState) (m : Machine) (call : Call) (r : Result Reply LineFault) → Answers z m true call r y → (r ≡ Ok (Busy 1 z.stamp)) × (y ≡ z)
 busy_answer z y m call (Ok (Settled a stamp)) k = let wrong : true ≡ false = k.0 in cc
 busy_answer z y m call (Ok (Busy lost stamp)) k = (ap (λ x. Ok (Busy x stamp)) k.1 ∙ ap (λ x. Ok (Busy 1 x)) k.2, k.3)
@@ -44,7 +44,7 @@ free_answer z y m call (Ok (Busy lost stamp)) k = let wrong : false ≡ true = k
 free_answer z y m call (Err line.Memory) k = inr (refl, k.1)
 
 module _ {S Sense Reading Act State : Type 0} (t : Steps S Sense Reading Act) (rig : Rig State Sense Act) (before now : Side S State) (asked : Asked) where
-  -- where a turn leads, by what its controller left and what was asked
+  -- the machine's side after a turn, by the controller's result and what was asked
   abbrev led : Asked → Turned S Act → Side S State
   led a w = side_moved rig (side_set t rig before a w)
 
@@ -109,7 +109,7 @@ module _ {S Sense Reading Act State : Type 0} (t : Steps S Sense Reading Act) (r
 
 -- over a bench
 module _ {S Sense Reading Act State : Type 0} (t : Steps S Sense Reading Act) (rig : Rig State Sense Act) (old new : Desk) (before now : Side S State) (notes notes' : Notes) where
-  -- a turn that is taken, with what the notebook has of it
+  -- a turn that is taken, with its notes
   taken : (busy : Bool) → before.stopped ≡ None → (k : SeatTurn t rig busy old new before now notes notes') → ActsAndMoves t rig (new.state ≡ old.state) (λ c r. Answers old.state t.machine busy c r new.state) before k.asked now
   taken busy e k = subst (λ o. Leads (is_none o) t rig busy old.state before k.asked new.state now) e k.leads
 

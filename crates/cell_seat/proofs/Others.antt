@@ -1,4 +1,4 @@
--- What a machine's turn leaves to the others: their readiness.
+-- A machine's turn leaves the other controllers ready.
 use Rattle.std.proofs.Common.{◌≡◌, false, List, [], ◌∷◌, ◌++◌, append-nil, Option, Some, None, Result, Ok, Err, refl, sym, ap, ◌∙◌, subst, cond}
 use Rattle.cell_types.specs.declared.machine.Machine.{Machine}
 use Rattle.cell_types.specs.declared.call.Call.{Call}
@@ -16,7 +16,7 @@ use Rattle.cell_control.specs.Steps.{Steps, program_of}
 use Rattle.cell_notes.specs.Asks.{Asked, settled_by, settled_in}
 use Rattle.cell_seat.specs.Sides.{IsReady}
 
--- what another machine asked is no event of a machine's own
+-- another machine's call is no event of this machine
 settled_foreign : (m n : Machine) (c : Call) (r : Result Reply LineFault) → same_machine m n ≡ false → own_events (settled_by m c r) n ≡ []
 settled_foreign m n c (Ok (Settled a stamp)) apart = ap (λ b. cond b (record { machine = m; call = c; answer = a } ∷ []) []) apart
 settled_foreign m n c (Ok (Busy lost stamp)) apart = refl
@@ -30,7 +30,7 @@ pub own_stays : (m n : Machine) (before now : List Event) (asked : Asked) → sa
 own_stays m n before now asked apart e =
     ap (λ h. own_events h n) e ∙ own-append before (settled_in m asked) n ∙ ap (λ x. own_events before n ++ x) (asked_foreign m n asked apart) ∙ append-nil (own_events before n)
 
--- so a controller stays ready while another machine has its turn
+-- so a controller stays ready during another machine's turn
 pub others_ready : {S Sense Reading Act : Type 0} → (t : Steps S Sense Reading Act) (m : Machine) (opening : ModelState) (before now : List Event) (asked : Asked) (stopped : Option CtlFault) (p : S)
     → same_machine m t.machine ≡ false → now ≡ before ++ settled_in m asked → IsReady t opening before stopped p → IsReady t opening now stopped p
 others_ready t m opening before now asked stopped p apart e ready runs =

@@ -1,4 +1,4 @@
--- What nothing has stopped.
+-- A machine that nothing has stopped.
 use Rattle.std.proofs.Common.{◌≡◌, true, Option, Some, None, refl}
 use Rattle.std.specs.Option.{is_none}
 

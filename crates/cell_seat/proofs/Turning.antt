@@ -1,4 +1,4 @@
--- One turn of a machine over a bench, whatever the machine.
+-- One turn of any machine over a bench.
 use Rattle.std.proofs.Common.{◌≡◌, Bool, true, false, ◌++◌, append-nil, Option, Some, None, List, IfOk, Result, Ok, Err, refl, sym, ap, ◌∙◌, subst, if◌then◌else◌}
 use Rattle.std.specs.Option.{is_none}
 use Rattle.cell_types.specs.declared.machine.Machine.{Machine}
@@ -21,7 +21,7 @@ use Rattle.cell_notes.specs.Notes.{Notes, notes_with}
 use Rattle.cell_seat.specs.Sides.{Side, Acts, ActsAndMoves, TellsByDemands, act_or_rest, noting, part_set}
 use Rattle.cell_seat.specs.SeatTurns.{Answers, Leads, SeatTurn}
 
--- a turn, told of its line in other words
+-- a turn, by another relation to its line
 pub acts_map : {S Sense Reading Act State : Type 0} → (t : Steps S Sense Reading Act) (rig : Rig State Sense Act) (same same' : Type 0) (asks asks' : Call → Result Reply LineFault → Type 0) → (same → same')
     → ((c : Call) (r : Result Reply LineFault) → asks c r → asks' c r) → (before set : Side S State) (asked : Asked) → Acts t rig same asks before asked set → Acts t rig same' asks' before asked set
 acts_map t rig same same' asks asks' f g before set asked k =
@@ -34,7 +34,7 @@ acts_map t rig same same' asks asks' f g before set asked k =
       is = k.is;
     }
 
--- a bench at which a machine was seated, before and after its turn
+-- a bench with a machine seated, before and after the machine's turn
 bench_answers : (old new : Desk) (m : Machine) (busy : Bool) (q : Call) (r : Result Reply LineFault) → BenchAsks (record old { machine = m; busy = busy }) q r new → Answers old.state m busy q r new.state
 bench_answers old new m busy q (Ok (Settled a stamp)) k = (k.0, k.1, k.2, ap (λ d. d.state) k.3)
 bench_answers old new m busy q (Ok (Busy lost stamp)) k = (k.0, k.1, k.2, ap (λ d. d.state) k.3)
@@ -82,13 +82,13 @@ module _ {S Sense Reading Act State : Type 0} (t : Steps S Sense Reading Act) (r
         noted = subst (λ b. notes' ≡ (if b then notes_with notes asked else notes)) (sym runs) noted;
       }
 
--- what a part notes of a turn is its own machine's: a controller that has stopped asks nothing, whatever its line
+-- a part notes only its own machine's events: a controller that has stopped asks nothing on any line
 pub own_done : {S Sense Reading Act : Type 0} → (t : Steps S Sense Reading Act) (same : Type 0) (asks : Call → Result Reply LineFault → Type 0) (asked : Asked) (m : Machine) (stopped : Option CtlFault) (p : S) (s : Sense) (w : Turned S Act)
     → (stopped ≡ None → m ≡ t.machine) → (same → asked ≡ None) → Turns t same asks stopped p s w → done_in m asked ≡ done_in t.machine asked
 own_done t same asks asked m None p s w own nothing k = ap (λ x. done_in x asked) (own refl)
 own_done t same asks asked m (Some fault) p s w own nothing k = ap (done_in m) (nothing k.0) ∙ sym (ap (done_in t.machine) (nothing k.0))
 
--- what a machine told its actuators in a turn that stopped nothing, and what that demands
+-- the actuators' commands in a turn that stopped nothing, and what they demand
 module _ {S Sense Reading Act State : Type 0} (t : Steps S Sense Reading Act) (rig : Rig State Sense Act) (p : S) (before now : State) (asked : Asked) (opening : ModelState) (seen : List Event) (done : Option Event) (w : Turned S Act)
     (own : done ≡ done_in t.machine asked) (moved : now ≡ rig.moves (rig.set (noting rig before done) (act_or_rest (t.rest p) w.result)))
     (met : IfOk w.result (λ act. t.motor_demands p act opening seen)) (runs : w.stopped ≡ None) where
@@ -105,7 +105,7 @@ module _ {S Sense Reading Act State : Type 0} (t : Steps S Sense Reading Act) (r
   turn_tells same asks None s k = performed_tells k.0 k.2
   turn_tells same asks (Some fault) s k = let stopped : w.stopped ≡ Some fault = ap (λ v. v.stopped) k.1 in cc
 
--- where less is known of the sensors, a turn is still one
+-- with less known of the sensors, a turn is still a turn
 module _ {S Sense Reading Act State : Type 0} (t : Steps S Sense Reading Act) (rig : Rig State Sense Act) (senses : Sense → Result Reading SensorFault → Type 0) (f : (s : Sense) (r : Result Reading SensorFault) → t.senses s r → senses s r) where
   pub acts_still : (same : Type 0) (asks : Call → Result Reply LineFault → Type 0) (before set : Side S State) (asked : Asked) → Acts t rig same asks before asked set → Acts (with_senses t senses) rig same asks before asked set
   acts_still same asks before set asked k =

@@ -1,4 +1,4 @@
--- How a machine fares, and what its turn leaves: rows with literal answers, for any program and any part.
+-- A machine's status and the effect of its turn: rows with literal answers, for any program and any part.
 use Rattle.std.specs.Prelude.{◌≡◌, ⊤, ◌⊎◌, ℕ, Bool, true, false, [], ◌∷◌, ◌++◌, Option, Some, None, Result, Ok, Err}
 use Rattle.cell_types.specs.declared.machine.Machine.{Machine}
 use Rattle.cell_types.specs.declared.posture.Posture.{Posture}
@@ -26,7 +26,7 @@ use Rattle.cell_seat.specs.Fares.{status_of}
 use Rattle.cell_seat.specs.Sides.{Side, ActsAndMoves}
 use Rattle.cell_seat.specs.SeatTurns.{SeatTurn}
 
--- ---- how a machine fares whose controller was stopped by this, or by nothing
+-- ---- a machine's status, by what has stopped its controller
 
 pub record FareRows : Type 0 where
   pub runs : status_of None ≡ Fine
@@ -38,15 +38,15 @@ pub record FareRows : Type 0 where
 
 -- ---- a machine's side after a turn over any line
 
--- it has come there, or was stopped by this; its actuators are set so, and its part has moved for a tick
+-- the machine has this progress and fault; its part was set so and has moved for a tick
 abbrev pub comes_to : {S Sense Act State : Type 0} → Rig State Sense Act → S → Option CtlFault → State → Act → Side S State
 comes_to rig progress stopped part act = record { progress = progress; stopped = stopped; part = rig.moves (rig.set part act) }
 
--- whatever the part shows, the sensors say this
+-- for everything that the part may show, the sensors say this
 abbrev pub PartSays : {S Sense Reading Act State : Type 0} → Steps S Sense Reading Act → Rig State Sense Act → State → Result Reading SensorFault → Type 0
 PartSays {Sense = Sense} t rig part said = (s : Sense) → rig.shows part s → Says t s said
 
--- nothing has stopped it, and its step asks this; or its step drives, and tells the actuators this and nothing else
+-- nothing has stopped it, and its step asks this call; or its step drives, by these commands and no others
 pub record IsAsking {S Sense Reading Act State : Type 0} (t : Steps S Sense Reading Act) (rig : Rig State Sense Act) (before : Side S State) (reading : Reading) (call : Call) : Type 0 where
   pub runs : before.stopped ≡ None
   pub says : PartSays t rig before.part (Ok reading)
@@ -58,7 +58,7 @@ pub record IsDriving {S Sense Reading Act State : Type 0} (t : Steps S Sense Rea
   pub asks_nothing : t.call before.progress ≡ None
   pub drives_only : (other : Act) → t.drives before.progress reading other → other ≡ act
 
--- a turn over a line that answers so, and one over a line that is asked nothing
+-- a turn over a line that answers so; and one over a line that is asked nothing
 abbrev pub Answered : {S Sense Reading Act State : Type 0} → Steps S Sense Reading Act → Rig State Sense Act → Side S State → Result Reply LineFault → Asked → Side S State → Type 0
 Answered t rig before answered asked now = ActsAndMoves t rig ⊥ (λ call r. r ≡ answered) before asked now
 
@@ -66,10 +66,10 @@ abbrev pub Alone : {S Sense Reading Act State : Type 0} → Steps S Sense Readin
 Alone t rig before asked now = ActsAndMoves t rig ⊤ (λ call r. ⊥) before asked now
 
 pub record SideRows {S Sense Reading Act State : Type 0} (t : Steps S Sense Reading Act) (rig : Rig State Sense Act) (before : Side S State) (asked : Asked) (now : Side S State) : Type 0 where
-  -- a call that is done is noted by the part
+  -- the part notes a call that is done
   pub done : (reading : Reading) (call : Call) (stamp : ℕ) → IsAsking t rig before reading call → Answered t rig before (Ok (Settled answer.Done stamp)) asked now
       → (asked ≡ Some (call, Ok (Settled answer.Done stamp))) × (now ≡ comes_to rig (t.after_done before.progress) None (rig.notes before.part (event t.machine call answer.Done)) (t.rest before.progress))
-  -- nothing else is
+  -- it notes nothing else
   pub shown : (reading : Reading) (call : Call) (owner : Option Machine) (flag : Bool) (posture : Posture) (stamp : ℕ) → IsAsking t rig before reading call → Answered t rig before (Ok (Settled (answer.Shown owner flag posture) stamp)) asked now
       → (asked ≡ Some (call, Ok (Settled (answer.Shown owner flag posture) stamp))) × (now ≡ comes_to rig (t.after_inquiry before.progress owner flag posture) None before.part (t.rest before.progress))
   pub waits : (reading : Reading) (call : Call) (r : Refusal) (stamp : ℕ) → t.stays_on before.progress r ≡ true → IsAsking t rig before reading call → Answered t rig before (Ok (Settled (answer.Refused r) stamp)) asked now
@@ -82,7 +82,7 @@ pub record SideRows {S Sense Reading Act State : Type 0} (t : Steps S Sense Read
       → (asked ≡ Some (call, Ok (Busy lost stamp))) × (now ≡ comes_to rig before.progress None before.part (t.rest before.progress))
   pub out_of_memory : (reading : Reading) (call : Call) → IsAsking t rig before reading call → Answered t rig before (Err line.Memory) asked now
       → (asked ≡ Some (call, Err line.Memory)) × (now ≡ comes_to rig before.progress (Some fault.Memory) before.part (t.rest before.progress))
-  -- a step that drives asks nothing, nor does a machine that can't go on
+  -- a step that drives asks nothing; neither does a machine that can't go on
   pub drives : (reading : Reading) (act : Act) → IsDriving t rig before reading act → Alone t rig before asked now
       → (asked ≡ None) × (now ≡ comes_to rig (t.after_drive before.progress reading act) None before.part act)
   pub sensor : (f : SensorFault) → before.stopped ≡ None → PartSays t rig before.part (Err f) → Alone t rig before asked now
@@ -92,13 +92,13 @@ pub record SideRows {S Sense Reading Act State : Type 0} (t : Steps S Sense Read
 
 -- ---- a turn over a bench
 
--- the bench is as it was, but for who sits there
+-- the bench is as it was, except for the machine seated there
 pub record BenchStays (old new : Desk) : Type 0 where
   pub opening : new.opening ≡ old.opening
   pub state : new.state ≡ old.state
   pub history : new.history ≡ old.history
 
--- the call has its answer by the state; or its memory was refused
+-- the call has its answer by the state; or it is out of memory
 pub record IsAnswered (m : Machine) (call : Call) (old new : Desk) (notes notes' : Notes) : Type 0 where
   pub opening : new.opening ≡ old.opening
   pub state : new.state ≡ next old.state m call

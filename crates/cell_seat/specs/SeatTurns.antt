@@ -1,4 +1,4 @@
--- A turn of a machine by the state of the interlock, and over a bench with what its notebook keeps.
+-- A turn of a machine by the state of the interlock, and over a bench with a notebook.
 use Rattle.std.specs.Prelude.{◌≡◌, Bool, true, false, if◌then◌else◌, ◌++◌, None, Result, Ok, Err}
 use Rattle.std.specs.Option.{is_none}
 use Rattle.cell_types.specs.declared.machine.Machine.{Machine}
@@ -15,21 +15,21 @@ use Rattle.cell_notes.specs.Asks.{Asked, settled_in}
 use Rattle.cell_notes.specs.Notes.{Notes, notes_with}
 use Rattle.cell_seat.specs.Sides.{Side, Acts, ActsAndMoves, TellsByDemands}
 
--- A call is answered by the state, and changes it. In a turn that finds the interlock busy it is answered so, and where the
--- room for it was refused it isn't made: then nothing changes.
+-- A call is answered by the state, and changes it. If the turn finds the interlock busy, the answer is Busy; if out of
+-- memory, the call isn't made. In both cases nothing changes.
 abbrev pub Answers : ModelState → Machine → Bool → Call → Result Reply LineFault → ModelState → Type 0
 Answers s m busy c (Ok (Settled a stamp)) t = (busy ≡ false) × (a ≡ reply s m c) × (stamp ≡ t.stamp) × (t ≡ next s m c)
 Answers s m busy c (Ok (Busy lost stamp)) t = (busy ≡ true) × (lost ≡ 1) × (stamp ≡ s.stamp) × (t ≡ s)
 Answers s m busy c (Err fault) t = (busy ≡ false) × (t ≡ s)
 
--- a machine takes its turn, by the state z and leading to y: up to where its actuators are set, and once its part has moved
+-- a machine takes its turn, from state z to state y: until its actuators are set, and until its part has moved
 abbrev pub Takes : {S Sense Reading Act State : Type 0} → Steps S Sense Reading Act → Rig State Sense Act → Bool → ModelState → Side S State → Asked → ModelState → Side S State → Type 0
 Takes t rig busy z before asked y set = Acts t rig (y ≡ z) (λ c r. Answers z t.machine busy c r y) before asked set
 
 abbrev pub Taken : {S Sense Reading Act State : Type 0} → Steps S Sense Reading Act → Rig State Sense Act → Bool → ModelState → Side S State → Asked → ModelState → Side S State → Type 0
 Taken t rig busy z before asked y now = ActsAndMoves t rig (y ≡ z) (λ c r. Answers z t.machine busy c r y) before asked now
 
--- a machine is passed over: all stays as it is
+-- a machine is passed over, and all stays as it is
 pub record PassedOver {S State : Type 0} (z : ModelState) (before : Side S State) (asked : Asked) (y : ModelState) (now : Side S State) : Type 0 where
   pub asked_nothing : asked ≡ None
   pub same : y ≡ z
@@ -40,7 +40,7 @@ abbrev pub Leads : {S Sense Reading Act State : Type 0} → Bool → Steps S Sen
 Leads true t rig busy z before asked y now = Taken t rig busy z before asked y now
 Leads false t rig busy z before asked y now = PassedOver z before asked y now
 
--- over a bench: what was asked is in the history, a turn that is taken is in the notebook, and what motors are told holds of the history
+-- over a bench: the history has what was asked, the notebook a turn that is taken, and the motors' demands hold
 pub record SeatTurn {S Sense Reading Act State : Type 0} (t : Steps S Sense Reading Act) (rig : Rig State Sense Act) (busy : Bool) (old new : Desk) (before now : Side S State) (notes notes' : Notes) : Type 0 where
   pub asked : Asked
   pub leads : Leads (is_none before.stopped) t rig busy old.state before asked new.state now

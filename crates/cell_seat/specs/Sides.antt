@@ -1,4 +1,4 @@
--- One machine's side of a run: how far it has come, what has stopped it, and its part; and where a turn leads it.
+-- One machine's side of a run (its progress, what has stopped it, its part), and the effect of a turn on it.
 use Rattle.std.specs.Prelude.{◌≡◌, List, Option, Some, None, Result, Ok, Err}
 use Rattle.cell_types.specs.declared.call.Call.{Call}
 use Rattle.cell_types.specs.declared.answer.Event.{Event}
@@ -19,21 +19,21 @@ pub record Side (S State : Type 0) : Type 0 where
 abbrev pub side_of : {S State : Type 0} → S → Option CtlFault → State → Side S State
 side_of progress stopped part = record { progress = progress; stopped = stopped; part = part }
 
--- a controller that runs has come so far by its machine's events
+-- a controller that runs has reached its step by its machine's events
 abbrev pub IsReady : {S Sense Reading Act : Type 0} → Steps S Sense Reading Act → ModelState → List Event → Option CtlFault → S → Type 0
 IsReady t opening seen stopped p = stopped ≡ None → IsReached t opening seen p
 
--- a part notes what was done, if anything was
+-- a part notes the event, if there is one
 abbrev pub noting : {State Sense Act : Type 0} → Rig State Sense Act → State → Option Event → State
 noting rig b None = b
 noting rig b (Some e) = rig.notes b e
 
--- what the actuators are told: after a fault, what a step tells them that asks
+-- the actuators' commands: after a fault, those of a step that asks
 abbrev pub act_or_rest : {Act : Type 0} → Act → Result Act CtlFault → Act
 act_or_rest rest (Ok act) = act
 act_or_rest rest (Err fault) = rest
 
--- once its part has noted what was done, and its actuators are set; and once the part has moved
+-- after the part has noted what was done and its actuators are set; and after the part has moved
 abbrev pub part_set : {S Sense Reading Act State : Type 0} → Steps S Sense Reading Act → Rig State Sense Act → State → Asked → Act → State
 part_set t rig b asked act = rig.set (noting rig b (done_in t.machine asked)) act
 
@@ -43,8 +43,8 @@ side_set t rig side asked turned = record { progress = turned.progress; stopped 
 abbrev pub side_moved : {S Sense Act State : Type 0} → Rig State Sense Act → Side S State → Side S State
 side_moved rig side = record side { part = rig.moves side.part }
 
--- A turn up to where the actuators are set: the sensors are read, a row of the program is performed, and the part notes what
--- was done. `same` says that the line stays as it is, `asks` that it was asked and what came back.
+-- A turn until the actuators are set: the sensors are read, a row of the program is performed, and the part notes what
+-- was done. `same` says that the line stays as it is, `asks` what it was asked and what came back.
 pub record Acts {S Sense Reading Act State : Type 0} (t : Steps S Sense Reading Act) (rig : Rig State Sense Act) (same : Type 0) (asks : Call → Result Reply LineFault → Type 0) (before : Side S State) (asked : Asked) (set : Side S State) : Type 0 where
   pub sense : Sense
   pub shows : rig.shows before.part sense
@@ -52,13 +52,13 @@ pub record Acts {S Sense Reading Act State : Type 0} (t : Steps S Sense Reading 
   pub row : Turns t (same × (asked ≡ None)) (λ c r. asks c r × (asked ≡ Some (c, r))) before.stopped before.progress sense turned
   pub is : set ≡ side_set t rig before asked turned
 
--- and then the part moves for a tick
+-- then the part moves for a tick
 pub record ActsAndMoves {S Sense Reading Act State : Type 0} (t : Steps S Sense Reading Act) (rig : Rig State Sense Act) (same : Type 0) (asks : Call → Result Reply LineFault → Type 0) (before : Side S State) (asked : Asked) (now : Side S State) : Type 0 where
   pub set : Side S State
   pub acts : Acts t rig same asks before asked set
   pub moved : now ≡ side_moved rig set
 
--- what its actuators were told in a turn at this step, and what that demands holds of what was seen
+-- the actuators' commands in a turn at this step; what they demand holds of the history
 pub record TellsByDemands {S Sense Reading Act State : Type 0} (t : Steps S Sense Reading Act) (rig : Rig State Sense Act) (p : S) (before : State) (asked : Asked) (now : State) (opening : ModelState) (seen : List Event) : Type 0 where
   pub act : Act
   pub told : now ≡ rig.moves (part_set t rig before asked act)

@@ -1,4 +1,4 @@
-//! The turn of a schedule, over a bench.
+//! A turn of a schedule, over a bench.
 ghost use Rattle.std.specs.Prelude.{◌≡◌, OnOk, OnErr};
 ghost use Rattle.cell_rules.specs.BenchView.{desk_of};
 ghost use Rattle.cell_notes.specs.Notes.{HasRoom, notes_of};
@@ -12,11 +12,11 @@ use cell_notes::Notebook;
 use cell_rules::Bench;
 use cell_types::Machine;
 
-/// One turn of a machine over a bench, with what its notebook keeps of it. A machine that has
-/// stopped does nothing, and nothing is kept.
+/// One turn of a machine over a bench, noted in the machine's notebook. A machine that has stopped
+/// does nothing, and nothing is noted.
 ///
-/// `Memory` where the room for an entry was refused, which is made before the turn: then nothing has
-/// changed.
+/// `Memory` if out of memory for a journal's entry. Its room is made before the turn, so nothing
+/// has changed.
 pub fn seat_turn<P: Program, B: Part<Sense = P::Sense, Act = P::Act>>(
     bench: &mut Bench,
     notebook: &mut Notebook,

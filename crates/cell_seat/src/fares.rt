@@ -1,11 +1,11 @@
-//! How a machine fares.
+//! A machine's status.
 ghost use Rattle.std.specs.Prelude.{◌≡◌};
 ghost use Rattle.cell_seat.specs.Fares.{status_of as status_by};
 
 use cell_control::CtlFault;
 use cell_notes::Status;
 
-/// How a machine fares whose controller was stopped by this, or by nothing.
+/// The status of a machine, by what has stopped its controller.
 pub fn status_of(stopped: Option<CtlFault>) -> Status
     ensures { result ≡ status_by stopped }
 {

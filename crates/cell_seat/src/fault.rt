@@ -3,7 +3,7 @@ use std::alloc::AllocError;
 /// Why a cell wasn't simulated.
 #[derive(Clone, Copy, Debug, PartialEq, Eq)]
 pub enum SimFault {
-    /// The room for a journal's entry was refused.
+    /// Out of memory for a journal's entry.
     Memory,
 }
 

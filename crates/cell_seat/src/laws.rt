@@ -1,4 +1,4 @@
-//! How a machine fares, and what its turn leaves: laws, in functions that do nothing.
+//! Laws of a machine's status and turn. Each is the contract of a function with an empty body.
 ghost use Rattle.cell_rules.specs.Benches.{Desk};
 ghost use Rattle.cell_notes.specs.Asks.{Asked};
 ghost use Rattle.cell_notes.specs.Notes.{Notes};
@@ -8,20 +8,20 @@ ghost use Rattle.cell_seat.specs.SeatRows.{FareRows, SideRows, SeatRows};
 use crate::seat::Seat;
 use cell_control::{Part, Program};
 
-/// How a machine fares whose controller was stopped by each fault, or by none.
+/// The status of a machine, for each fault of its controller and for none.
 pub fn fares_by_faults()
     ensures { FareRows }
 {}
 
-/// What a turn over any line leaves of any machine: how far it has come, what has stopped it, and its
-/// part, for each answer, a call that was refused its memory, a drive, sensors that can't be used and a
-/// controller that has stopped.
+/// The effect of any machine's turn over any line, on its progress, its fault and its part: for
+/// each answer, a call that is out of memory, a drive, sensors that can't be used, and a controller
+/// that has stopped.
 pub fn sides_by_answers<P: Program, B: Part<Sense = P::Sense, Act = P::Act>>(seat: &Seat<P, B>)
     ensures { (before now : Side P.Progress B.State) (asked : Asked)
         → SideRows (P.steps seat.now.controller.program) (B.rig (B.make seat.now.part)) before asked now }
 {}
 
-/// What a turn over a bench leaves of any machine, of the bench and of the notebook.
+/// The effect of any machine's turn over a bench, on the machine, the bench and the notebook.
 pub fn turns_at_a_bench<P: Program, B: Part<Sense = P::Sense, Act = P::Act>>(seat: &Seat<P, B>)
     ensures { (old new : Desk) (before now : Side P.Progress B.State) (notes after : Notes)
         → SeatRows (P.steps seat.now.controller.program) (B.rig (B.make seat.now.part)) old new before now notes after }

@@ -1,4 +1,4 @@
-//! A machine in a run: its controller with its part, and their turns over any line and over a bench.
+//! A machine in a run: its controller with its part, and their turn over any line and over a bench.
 #![tactic(auto)]
 
 pub mod bench_turn;

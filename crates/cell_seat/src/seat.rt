@@ -9,16 +9,16 @@ use cell_types::Event;
 /// A machine in a run: its controller and its part.
 #[derive(Drop)]
 pub struct Seat<P: Program, B: Part<Sense = P::Sense, Act = P::Act>> {
-    /// How far it has come in its program, and what has stopped it.
+    /// Its program, its progress in it, and what has stopped it.
     pub controller: Controller<P>,
     /// What it moves, and what its sensors show.
     pub part: B,
 }
 
 impl<P: Program, B: Part<Sense = P::Sense, Act = P::Act>> Seat<P, B> {
-    /// One turn: its controller's, by what its sensors show; then its part notes the call, if that was
-    /// done, and moves for a tick. After an error of the controller its motors are off. What was asked
-    /// is handed on.
+    /// One turn. The controller has its turn, by what the sensors show. Then the part notes a call
+    /// that was done, and moves for a tick. After an error of the controller the motors are off.
+    /// Answers what was asked.
     pub fn turn<L: Line>(&mut self, line: &mut L) -> Asked
         requires own { self.old.controller.stopped ≡ None → L.machine line.old ≡ (P.steps self.old.controller.program).machine }
         requires ready { IsReady (P.steps self.old.controller.program) (L.opening line.old) (L.seen line.old) self.old.controller.stopped self.old.controller.progress }
@@ -42,7 +42,7 @@ impl<P: Program, B: Part<Sense = P::Sense, Act = P::Act>> Seat<P, B> {
     }
 }
 
-// What the actuators are told after a turn.
+// The actuators' commands after a turn.
 fn act_of<A: Copy>(turned: Result<A, CtlFault>, rest: A) -> A
     ensures { result ≡ act_or_rest rest turned }
 {
