@@ -1,5 +1,5 @@
-//! The three machines on a bench: their rows, sensors of the crane that can't be used, and a stamp at its
-//! end.
+//! The three machines on a bench: their rows, sensors of the crane that can't be used, and a stamp
+//! at its last value.
 use crate::play::{Move, last, play, stops};
 use crate::rows::{CRANE, DEPOSIT, FEED, Positions};
 use cell_calib::{Calibration, CraneSense, Gauge, Points, SensorFault, line_at};
@@ -13,7 +13,7 @@ use std::alloc::Global;
 // The last call on the bench and its answer, and two positions.
 type End = (Option<(Call, Answer)>, Positions);
 
-// A start with these places full, by a digit for each.
+// A start with these places full: a digit for each place.
 fn start(places: &[u8; 10], stamp: u32) -> Option<State> {
     State::start(read_places(places)?, stamp).ok()
 }
@@ -81,7 +81,7 @@ fn the_crane_waits_and_goes_on(rt: HostRuntime) {
     }
 }
 
-// Whether the crane stops where its sensors show this, and stays so without having asked.
+// Whether the crane stops by these sensors with this fault, and stays stopped, without any call.
 fn crane_stops<F: Gauge>(
     alloc: Global,
     gauge: F,
@@ -128,7 +128,7 @@ fn a_crane_whose_sensors_are_wrong_stops(rt: HostRuntime) {
     }
 }
 
-// Whether the feed belt stops in its first turn, as the stamp has reached its last value.
+// Whether the feed belt stops in its first turn, because the stamp is at its last value.
 fn worn_feed_stops(alloc: Global) -> Option<bool> {
     let start = start(b"0000000000", LAST_STAMP)?;
     let mut feed = FeedCtl::new(&start, FeedProgram);

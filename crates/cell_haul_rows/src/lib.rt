@@ -1,5 +1,5 @@
-//! Tests of the controllers of feed belt, deposit belt and crane, by public calls alone: they stand
-//! apart, so that the programs aren't proved once more with them.
+//! Tests of the controllers of feed belt, deposit belt and crane, by public calls only. They are a
+//! crate of their own, so that a change of a test doesn't prove the programs again.
 #![tactic(auto)]
 
 #[cfg(test)]

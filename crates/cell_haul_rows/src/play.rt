@@ -1,4 +1,4 @@
-//! A machine that is played on a bench, with its part, while others ask there.
+//! Runs of a machine and its part on a bench, with calls of other machines.
 ghost use Rattle.std.specs.Prelude.{◌≡◌, false, None};
 ghost use Rattle.cell_types.specs.Same.{same_machine};
 ghost use Rattle.cell_control.specs.Steps.{IsReached};
@@ -7,16 +7,16 @@ use cell_control::{Controller, CtlFault, Part, Program};
 use cell_rules::{Bench, Line};
 use cell_types::{Answer, Call, Machine, Reply};
 
-/// What happens on the bench next.
+/// The next thing that happens on the bench.
 #[derive(Clone, Copy, Debug, PartialEq, Eq)]
 pub enum Move {
-    /// The machine has so many turns.
+    /// The machine has this number of turns.
     Turns(u32),
     /// Another machine asks.
     Asks(Machine, Call),
 }
 
-// The machine has some turns, with a tick of its part after each.
+// The machine has a number of turns, each with a tick of its part.
 fn goes_on<P: Program, B: Part<Sense = P::Sense, Act = P::Act>>(
     controller: &mut Controller<P>,
     part: &mut B,
@@ -54,7 +54,7 @@ fn guest_asks<P: Program>(controller: &Controller<P>, bench: &mut Bench, guest: 
     let _ = bench.ask(call);
 }
 
-/// The machine has its turns and others ask, in this order.
+/// The machine's turns and the others' calls, in this order.
 pub fn play<P: Program, B: Part<Sense = P::Sense, Act = P::Act>>(
     controller: &mut Controller<P>,
     part: &mut B,
@@ -80,7 +80,7 @@ pub fn play<P: Program, B: Part<Sense = P::Sense, Act = P::Act>>(
     Ok(())
 }
 
-/// The last call on the bench that was answered, and the answer.
+/// The last call on the bench, with its answer, if it was settled.
 pub fn last(bench: &Bench) -> Option<(Call, Answer)> {
     match bench.heard().last {
         Some((call, Ok(Reply::Settled(answer, _)))) => Some((call, answer)),
@@ -88,8 +88,8 @@ pub fn last(bench: &Bench) -> Option<(Call, Answer)> {
     }
 }
 
-/// Whether the machine stops in its next turn with this fault, having asked so often in it, and then
-/// asks nothing more.
+/// Whether the machine stops in its next turn with this fault and this number of calls, and asks
+/// nothing after that.
 pub fn stops<P: Program, B: Part<Sense = P::Sense, Act = P::Act>>(
     controller: &mut Controller<P>,
     part: &B,

@@ -1,21 +1,21 @@
-//! The rows of the tests: each wait of the three programs, by a start that blocks it, and how the machine
-//! goes on once another has been there. Turns and positions were worked out by hand from the programs and
-//! the plant's figures.
+//! The rows of the tests: each wait of the three programs, by a start that blocks it, and how the
+//! machine goes on after another machine's calls. Turns and positions were worked out by hand from
+//! the programs and the plant's figures.
 
 use crate::play::Move;
 use crate::play::Move::{Asks, Turns};
 use cell_types::{Answer, Call, Machine, Pose, Posture, Refusal, Zone};
 
-/// Two positions: of the plates at a belt's entry and at its end, or of the crane's travel and its gripper.
+/// The positions of the plates at a belt's entry and end, or of the crane's travel and gripper.
 pub type Positions = (Option<i32>, Option<i32>);
 
-/// A machine on a bench with others, and how that ends.
+/// A run of a machine on a bench with others, and its end.
 #[derive(Clone, Copy, Debug)]
 pub struct Row {
-    /// The places that are full at the start, by a digit for each.
+    /// The places that are full at the start: a digit for each place.
     pub places: &'static [u8; 10],
     pub moves: &'static [Move],
-    /// The last call on the bench and its answer, and where the machine's plates or its axes are then.
+    /// The last call on the bench and its answer, and the positions at the end.
     pub last: (Call, Answer),
     pub at: Positions,
 }
@@ -34,7 +34,7 @@ const HELD_BY_TABLE: Answer = Answer::Refused(Refusal::Held(Machine::Table));
 
 const HELD_BY_CRANE: Answer = Answer::Refused(Refusal::Held(Machine::Crane));
 
-// What the crane sees of the deposit belt's end: a shut zone that nobody has, and its own with a plate.
+// The crane's inquiry at the deposit belt: a shut zone without an owner, and its own with a plate.
 const NOTHING: Answer = Answer::Shown {
     owner: None,
     flag: false,
@@ -90,7 +90,7 @@ const ROBOT_COMES: Move = Asks(Machine::Robot, Call::Claim(Zone::Z4));
 
 const ROBOT_GIVES: Move = Asks(Machine::Robot, Call::Give(Zone::Z4));
 
-// The crane takes one from it, and goes.
+// The crane takes a plate from the deposit belt and leaves.
 const CRANE_TAKES: Move = Asks(Machine::Crane, Call::Take(Zone::Z5));
 
 const CRANE_GOES: Move = Asks(Machine::Crane, Call::Release(Zone::Z5));
@@ -111,12 +111,13 @@ const DEPOSIT_OFFERS: Move = Asks(Machine::Deposit, OFFERING);
 
 const DEPOSIT_GIVES: Move = Asks(Machine::Deposit, GIVE_Z5);
 
-// The crane over either belt, with its gripper as high as it starts.
+// The crane over each belt, with its gripper at the height of the start.
 const OVER_DEPOSIT: Positions = (Some(0), Some(900));
 
 const OVER_FEED: Positions = (Some(2000), Some(900));
 
-/// Each wait of the feed belt, and how it goes on: with a plate that lands, and once the table has opened.
+/// Each wait of the feed belt, and how it goes on: with a plate that lands, and after the table has
+/// opened.
 pub const FEED: &[Row] = &[
     Row {
         places: b"0000000000",
@@ -230,8 +231,8 @@ pub const FEED: &[Row] = &[
     },
 ];
 
-/// Each wait of the deposit belt, and how it goes on: with a plate that lands, once the feed belt has room for
-/// the plate at its end, and once the crane has gone.
+/// Each wait of the deposit belt, and how it goes on: with a plate that lands, with room on the
+/// feed belt for the plate at its end, and after the crane has left.
 pub const DEPOSIT: &[Row] = &[
     Row {
         places: b"0000000000",
@@ -333,8 +334,8 @@ pub const DEPOSIT: &[Row] = &[
     },
 ];
 
-/// Each wait of the crane, and how it goes on: with a plate of the deposit belt, and once the feed belt has
-/// opened.
+/// Each wait of the crane, and how it goes on: with a plate of the deposit belt, and after the feed
+/// belt has opened.
 pub const CRANE: &[Row] = &[
     Row {
         places: b"0000000000",

@@ -1,4 +1,4 @@
-//! What the rows share: starts, and for press and table another machine's calls and an axis that its motor moves.
+//! What the rows share: starts, another machine's calls, and an axis that its motor moves.
 ghost use Rattle.std.specs.Prelude.{◌≡◌, false, None};
 ghost use Rattle.cell_types.specs.Same.{same_machine};
 ghost use Rattle.cell_control.specs.Steps.{IsReached};
@@ -12,21 +12,21 @@ use std::process::Abort;
 /// No place is full.
 pub const EMPTY: [bool; 10] = [false; 10];
 
-/// A start with these places and stamp 0.
+/// A start with these full places and stamp 0.
 pub fn start_of(rt: &impl Abort, places: [bool; 10]) -> State {
     State::start(places, 0).expect(rt, "a start")
 }
 
-/// The refusal of a call that needs a right, while nobody has it.
+/// The refusal of a call whose zone has no owner.
 pub const NOT_YET: Answer = Answer::Refused(Refusal::NotOwner(None));
 
-/// The refusal of a plate while the place for it is full.
+/// The refusal of a plate whose place is full.
 pub const NO_ROOM: Answer = Answer::Refused(Refusal::PlaceFull);
 
 /// The refusal of a claim while the robot has the zone.
 pub const ROBOTS: Answer = Answer::Refused(Refusal::Held(Machine::Robot));
 
-/// Another machine than the controller's asks.
+/// A call of a machine other than the controller's.
 pub fn guest_asks<P: Program>(
     controller: &Controller<P>,
     bench: &mut Bench,
@@ -42,7 +42,7 @@ pub fn guest_asks<P: Program>(
     let _ = bench.ask(call);
 }
 
-/// An axis goes 20 a turn, from 0 to its end.
+/// An axis's position after a turn: it moves by 20, and stays from 0 to its end.
 pub fn moved(position: u16, motor: Motor, end: u16) -> u16 {
     match motor {
         Motor::Off => position,
@@ -51,7 +51,7 @@ pub fn moved(position: u16, motor: Motor, end: u16) -> u16 {
     }
 }
 
-/// Whether this call was the last, and was answered so at this stamp.
+/// Whether the last call was this one, with this answer at this stamp.
 pub fn is_last(heard: &Heard, call: Call, answer: Answer, stamp: u32) -> bool {
     let answered: Answered = Ok(Reply::Settled(answer, stamp));
     heard.last == Some((call, answered))

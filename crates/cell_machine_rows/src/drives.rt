@@ -1,4 +1,4 @@
-//! Drives towards stops, by a reading and by switches.
+//! Drives to stops, by a reading and by switches.
 
 use cell_calib::{CraneSense, PressSense, TableSense};
 use cell_devices::stops::*;
@@ -12,7 +12,7 @@ const STOP: Stop = Stop {
     half: 40,
 };
 
-// Readings, and what the motor is told.
+// Readings, and the motor's command.
 const TOWARDS: &[(i32, Motor)] = &[
     (564, Motor::Plus),
     (565, Motor::Off),
@@ -59,8 +59,8 @@ fn press_shows(bottom: bool, middle: bool, top: bool) -> PressSense {
     }
 }
 
-// What the press's switches show, and its motor towards the top, towards the bottom, and, the last way
-// being downward, towards the middle.
+// The press's switches, and its motor towards the top, towards the bottom, and towards the middle
+// with downward as the last direction.
 const BY_SWITCHES: &[(bool, bool, bool, Motor, Motor, Motor)] = &[
     (true, false, false, Motor::Plus, Motor::Off, Motor::Plus),
     (false, true, false, Motor::Plus, Motor::Minus, Motor::Off),

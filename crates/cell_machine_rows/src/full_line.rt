@@ -1,4 +1,4 @@
-//! A line whose calls are all refused their memory, and the six controllers and a seat on it.
+//! A line on which every call is out of memory, and the six controllers and a seat on it.
 ghost use Rattle.std.specs.Prelude.{◌≡◌, [], None};
 ghost use Rattle.cell_rules.specs.Sound.{IsSound};
 ghost use Rattle.cell_rules.specs.Seen.{heard_nothing};
@@ -16,7 +16,7 @@ use cell_rules::{Answered, Heard, Line, LineFault, State};
 use cell_stations::{PressCtl, PressProgram, TableCtl, TableProgram};
 use cell_types::{Call, Machine, Zone};
 
-/// A line of this machine, to an interlock that opened so.
+/// A machine's line to an interlock with this opening state. Each call is out of memory.
 #[derive(Drop)]
 pub struct FullLine {
     machine: Machine,
@@ -26,7 +26,7 @@ pub struct FullLine {
 }
 
 impl FullLine {
-    /// A line on which nothing was asked yet.
+    /// A line without any call yet.
     pub fn new(machine: Machine, opening: State) -> FullLine
         ensures machine { result.machine ≡ machine }
         ensures opening { result.opening ≡ opening }
@@ -75,8 +75,8 @@ impl Line for FullLine {
     }
 }
 
-// Whether a controller, after some turns that drive, stops in the turn in which it asks this, and then asks
-// nothing more.
+// Whether a controller stops in the turn in which it asks this, after a number of turns that drive,
+// and asks nothing after that.
 fn stops<P: Program>(
     controller: &mut Controller<P>,
     line: &mut FullLine,
@@ -140,7 +140,7 @@ fn table_stops<F: Gauge>(start: State, gauge: F, points: Points) -> bool
     stops(&mut table, &mut line, &sense, 0, Call::Claim(Zone::Z1))
 }
 
-// Its gripper is high and it stands over the deposit belt, so it is done with its first two steps at once.
+// The gripper is high and the crane over the deposit belt, so its first two steps need a turn each.
 fn crane_stops<F: Gauge>(start: State, gauge: F, points: Points) -> bool
     requires { F.keeps gauge points }
 {
@@ -154,7 +154,7 @@ fn crane_stops<F: Gauge>(start: State, gauge: F, points: Points) -> bool
     stops(&mut crane, &mut line, &sense, 2, Call::Inquire(Zone::Z5))
 }
 
-// It stands before the table, so it is done with its first step at once.
+// The robot faces the table, so its first step needs one turn.
 fn robot_stops<F1: Gauge, F2: Gauge, F3: Gauge>(
     start: State,
     gauges: (F1, F2, F3),

@@ -1,6 +1,5 @@
-//! Rows of what machines are driven by and are seen by: drives, parts, programs, seats and notebooks, by
-//! public calls alone. What each row has to come to was worked out by hand from the rules of the cell and
-//! the figures of the plant, and never by the program.
+//! Rows of drives, parts, programs, seats and notebooks, by public calls only. Each result was
+//! worked out by hand from the cell's rules and the plant's figures, never by the program.
 #![tactic(auto)]
 
 #[cfg(test)]

@@ -1,4 +1,4 @@
-//! What notebooks keep of what was asked, and the words of statuses.
+//! What notebooks keep of calls, and the words of statuses.
 
 use cell_notes::{Asked, Counts, Notebook, Status, asked_between, done_event};
 use cell_rules::{Answered, Heard};
@@ -16,7 +16,7 @@ const SHOWN: Answer = Answer::Shown {
 
 const HELD: Answer = Answer::Refused(Refusal::Held(Machine::Robot));
 
-// A turn that asks nothing, an inquiry, a claim that finds the interlock busy, is refused, and is done.
+// A turn that asks nothing, an inquiry, and a busy, a refused and a done claim.
 const ASKED: &[Asked] = &[
     None,
     Some((INQUIRE, Ok(Reply::Settled(SHOWN, 7)))),

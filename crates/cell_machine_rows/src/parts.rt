@@ -1,4 +1,4 @@
-//! The parts, told and moved by hand.
+//! The parts, with commands and ticks given by hand.
 
 use super::common::{EMPTY, start_of};
 use cell_calib::{CraneSense, Points, PressSense, RobotSense, TableSense};
@@ -36,7 +36,7 @@ fn press_shows(bottom: bool, middle: bool, top: bool) -> PressSense {
     }
 }
 
-// Downward for some ticks, and then the position and the switches: bottom, middle, top.
+// A number of ticks downward, then the position and the switches: bottom, middle, top.
 const FALLING: &[(u32, i32, bool, bool, bool)] = &[
     (0, 1000, false, false, true),
     (1, 980, false, false, false),
@@ -63,7 +63,7 @@ fn the_press_falls_past_its_switches(rt: HostRuntime) {
     }
 }
 
-// The belt runs for some ticks, and then the plate's position and the barrier.
+// A number of ticks of the running belt, then the plate's position and the barrier.
 const RUNNING: &[(u32, i32, bool)] = &[
     (0, 0, false),
     (44, 880, false),
@@ -73,7 +73,7 @@ const RUNNING: &[(u32, i32, bool)] = &[
     (9, 1100, false),
 ];
 
-// Whether the belt has these plates, at its entry and the last.
+// Whether the belt has these plates, at its entry and at its end.
 fn has(belt: &Belt, entry: Option<i32>, last: Option<i32>) -> bool {
     belt.entry == entry && belt.last == last
 }
@@ -115,7 +115,7 @@ fn table_shows(bottom: bool, top: bool, turn: u16) -> TableSense {
     TableSense { bottom, top, turn }
 }
 
-// Both motors on for some ticks, and then the height and what the sensors show.
+// A number of ticks with both motors on, then the height and what the sensors show.
 const RISING: &[(u32, i32, bool, bool, u16)] = &[
     (0, 0, true, false, 100),
     (1, 20, false, false, 260),
@@ -185,7 +185,7 @@ const LOWERING: CraneAct = CraneAct {
     magnet: true,
 };
 
-// On its way and downward for some ticks, and then what the sensors show.
+// A number of ticks travelling and lowering, then what the sensors show.
 const TRAVELLING: &[(u32, bool, bool, u16)] = &[
     (0, true, false, 3700),
     (1, false, false, 3620),

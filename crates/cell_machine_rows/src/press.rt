@@ -1,4 +1,4 @@
-//! The press's program over a bench, with a part that moves by its acts.
+//! The press's program over a bench, with a position that moves by its commands.
 ghost use Rattle.std.specs.Prelude.{◌≡◌, None};
 ghost use Rattle.cell_types.specs.declared.machine.Machine.TheVariants.{Press};
 ghost use Rattle.cell_control.specs.Steps.{IsReached};
@@ -13,12 +13,12 @@ use std::alloc::Global;
 
 const DONE: Answer = Answer::Done;
 
-// A plate in the press that isn't forged.
+// A plate that isn't forged in the press.
 const IN_PRESS: [bool; 10] = [
     false, false, false, false, true, false, false, false, false, false,
 ];
 
-// The same, and one on the arm that would take it.
+// The same, and a plate on the arm that would take it.
 const IN_PRESS_AND_ARM2: [bool; 10] = [
     false, false, false, false, true, false, true, false, false, false,
 ];
@@ -33,7 +33,7 @@ const ON_ARM1: [bool; 10] = [
     false, false, false, true, false, false, false, false, false, false,
 ];
 
-// What the robot asks between the turns of the press: it takes a plate and goes, or it comes and gives one.
+// The robot's calls between the press's turns: it takes a plate and leaves, or comes and gives one.
 const TAKES: (Call, Call) = (Call::Take(Zone::Z3), Call::Release(Zone::Z3));
 
 const GIVES: (Call, Call) = (Call::Claim(Zone::Z3), Call::Give(Zone::Z3));
@@ -46,7 +46,7 @@ fn press_at(position: u16) -> PressSense {
     }
 }
 
-/// Where the press stands after so many turns.
+/// The press's position after this number of turns.
 fn go_on(press: &mut PressCtl, bench: &mut Bench, from: u16, turns: u32) -> Result<u16, CtlFault>
     requires reached { press.old.stopped ≡ None → IsReached press_steps bench.old.opening bench.old.history.items press.old.progress }
     ensures own { bench.new.machine ≡ Press }
@@ -77,8 +77,8 @@ fn alone(alloc: Global, start: State, turns: u32) -> Option<Run> {
     end_of(&bench, stands)
 }
 
-/// The end of a run in which the robot asks twice after some turns, and then more turns come. A press that
-/// has stopped in the first goes on in none.
+/// The end of a run in which the robot asks twice after a number of turns, and more turns follow.
+/// A press that stopped in the first turns does nothing in the others.
 fn visited(alloc: Global, start: State, turns: u32, calls: (Call, Call), more: u32) -> Option<Run> {
     let mut press = PressCtl::new(&start, PressProgram);
     let mut bench = Bench::new(alloc, start);
@@ -89,7 +89,7 @@ fn visited(alloc: Global, start: State, turns: u32, calls: (Call, Call), more: u
     end_of(&bench, stands)
 }
 
-/// What is seen of a run that ends with this.
+/// The end of a run, or `None` if the press has stopped.
 fn end_of(bench: &Bench, stands: Result<u16, CtlFault>) -> Option<Run> {
     match stands {
         Ok(position) => Some(Run {
@@ -131,7 +131,7 @@ fn the_press_forges_the_plate_that_it_starts_with(rt: HostRuntime) {
     assert!(rt; has_handed_its_plate_over(&run));
 }
 
-// Starts, turns, and then where the press stands, what it asked last, its answer and the stamp.
+// A start and a number of turns; then the press's position, its last call, its answer, the stamp.
 const WAITS: &[([bool; 10], u32, u16, Call, Answer, u32)] = &[
     (EMPTY, 31, 500, Call::Take(Zone::Z3), NOT_YET, 4),
     (EMPTY, 40, 500, Call::Take(Zone::Z3), NOT_YET, 4),
@@ -155,7 +155,7 @@ fn the_press_waits_where_its_program_says_so(rt: HostRuntime) {
     }
 }
 
-// Starts, turns, the robot's calls, more turns, and then the same.
+// A start, turns, the robot's calls and more turns, then the same.
 const VISITS: &[([bool; 10], u32, (Call, Call), u32, u16, Call, Answer, u32)] = &[
     (IN_PRESS, 60, TAKES, 1, 0, Call::Claim(Zone::Z3), DONE, 10),
     (
@@ -198,7 +198,7 @@ const BROKEN: PressSense = PressSense {
     top: true,
 };
 
-/// Whether a press whose switches clash stops, and stays so without having asked.
+/// Whether a press whose switches clash stops, and stays stopped, without any call.
 fn is_stopped(alloc: Global, start: State) -> bool {
     let mut press = PressCtl::new(&start, PressProgram);
     let mut bench = Bench::new(alloc, start);

@@ -1,5 +1,5 @@
-//! Raw values of the five potentiometers on scales with no whole number of raw values for a position: each is
-//! rounded down.
+//! Raw values of the five potentiometers, rounded down, on scales with no whole number of raw
+//! values for a position.
 
 use super::common::{EMPTY, start_of};
 use cell_calib::Points;
@@ -16,8 +16,9 @@ enum Meter {
     Gripper,
 }
 
-// A potentiometer, the raw values at the ends of its axis, how many ticks it moves, and what it shows then. Arms and
-// table begin at 0, the robot at 300, and the gripper, which goes down, at 900. A tick is 20.
+// A potentiometer, the raw values at the ends of its axis, a number of ticks, and what it shows
+// then. Arms and table begin at 0, the robot at 300, and the gripper, which goes down, at 900. A
+// tick is 20.
 const ROWS: &[(Meter, u16, u16, u32, u16)] = &[
     (Meter::Arm1, 0, 1501, 0, 0),
     (Meter::Arm1, 0, 1501, 1, 30),
@@ -67,7 +68,7 @@ const REACHING: RobotAct = RobotAct {
     magnet2: false,
 };
 
-// What the robot's potentiometers show after these ticks, each on this scale over its own axis.
+// What the robot's potentiometers show after these ticks, with these raw values at the axes' ends.
 fn robot_shows(rt: &impl Abort, raw_lo: u16, raw_hi: u16, ticks: u32) -> (u16, u16, u16) {
     let points = RobotPoints {
         arm1: scale_to(rt, 1000, raw_lo, raw_hi),

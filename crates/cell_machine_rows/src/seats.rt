@@ -1,4 +1,4 @@
-//! Seats, at which sits a machine that claims the press's interior, and once that is done lights a lamp.
+//! Seats with a machine that claims the press's interior and then lights a lamp.
 
 use super::common::EMPTY;
 use super::full_line::FullLine;
@@ -14,7 +14,7 @@ use std::process::Abort;
 // The last stamp of the interlock.
 const LAST: u32 = 1_048_575;
 
-// Its step is whether it has claimed.
+// A program whose step is whether it has claimed.
 #[derive(Drop)]
 struct ClaimThenLight;
 
@@ -93,7 +93,7 @@ impl Program for ClaimThenLight {
     }
 }
 
-// A lamp, which notes that something was done.
+// A lamp. It notes that a call was done.
 #[derive(Drop)]
 struct Lamp {
     lit: bool,
@@ -135,7 +135,7 @@ impl Part for Lamp {
     }
 }
 
-// The end of a run of it alone.
+// The end of a run of the machine alone.
 #[derive(Drop)]
 struct Run {
     state: State,
@@ -213,7 +213,7 @@ fn a_seat_that_has_stopped_is_passed_over(rt: HostRuntime) {
     assert!(rt; has_stopped(&run));
 }
 
-// What it asks on a line that has no memory, and in the turn after that, and how it stands then.
+// What it asks on a line that is out of memory, what in its next turn, and its state after that.
 fn asked_out_of_memory(start: State) -> (Asked, Asked, u64, Status, (bool, bool)) {
     let mut line = FullLine::new(Machine::Press, start);
     let mut seat = Seat {

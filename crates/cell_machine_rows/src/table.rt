@@ -1,4 +1,4 @@
-//! The table's program over a bench, with a part that moves by its acts.
+//! The table's program over a bench, with positions that move by its commands.
 ghost use Rattle.std.specs.Prelude.{◌≡◌, ◌≤◌, false, None, pos};
 ghost use Rattle.cell_types.specs.declared.machine.Machine.TheVariants.{Table as TableMachine};
 ghost use Rattle.cell_types.specs.Same.{same_machine};
@@ -22,7 +22,7 @@ const LOADED: [bool; 10] = [
     false, false, true, false, false, false, false, false, false, false,
 ];
 
-// A plate on the table, and one on the arm that would take it.
+// A plate on the table, and a plate on the arm that would take it.
 const LOADED_AND_ARM1: [bool; 10] = [
     false, false, true, true, false, false, false, false, false, false,
 ];
@@ -32,13 +32,13 @@ const AT_FEED_END: [bool; 10] = [
     false, true, false, false, false, false, false, false, false, false,
 ];
 
-// What another machine asks between the turns of the table: the robot takes a plate and goes, the feed belt
-// comes and gives one.
+// Another machine's calls between the table's turns: the robot takes a plate and leaves, the feed
+// belt comes and gives one.
 const TAKES: (Call, Call) = (Call::Take(Zone::Z2), Call::Release(Zone::Z2));
 
 const GIVES: (Call, Call) = (Call::Claim(Zone::Z1), Call::Give(Zone::Z1));
 
-/// Where height and rotation stand.
+/// The positions of height and rotation.
 type At = (u16, u16);
 
 // The raw value goes from 0 to 4000 while the rotation goes from 0 to 500.
@@ -50,7 +50,7 @@ fn table_at(at: At) -> TableSense {
     }
 }
 
-/// Where the table stands after so many turns, and in how many of them a motor was on.
+/// The table's positions after this number of turns, and the number of them with a motor on.
 fn go_on<F: Gauge>(
     table: &mut TableCtl<F>,
     bench: &mut Bench,
@@ -84,7 +84,7 @@ struct Run {
     driven: u32,
 }
 
-/// What is seen of a run that ends with this.
+/// The end of a run, or `None` if the table has stopped.
 fn end_of(bench: &Bench, stands: Result<(At, u32), CtlFault>) -> Option<Run> {
     match stands {
         Ok((at, driven)) => Some(Run {
@@ -113,14 +113,14 @@ fn alone_by<F: Gauge>(
     end_of(&bench, stands)
 }
 
-/// The same with a gauge that gives the line.
+/// The same, with a gauge that gives the line.
 fn alone(alloc: Global, points: Points, start: State, turns: u32) -> Option<Run> {
     let gauge = move |raw: u16| line_at(&points, raw);
     alone_by(alloc, gauge, points, start, turns)
 }
 
-/// The end of a run in which another machine asks twice after some turns, and then more turns come. A table
-/// that has stopped in the first goes on in none.
+/// The end of a run in which another machine asks twice after a number of turns, and more turns
+/// follow. A table that stopped in the first turns does nothing in the others.
 fn visited_by<F: Gauge>(
     alloc: Global,
     gauge: F,
@@ -143,7 +143,7 @@ fn visited_by<F: Gauge>(
     end_of(&bench, stands)
 }
 
-/// The same with a gauge that gives the line.
+/// The same, with a gauge that gives the line.
 fn visited(
     alloc: Global,
     points: Points,
@@ -196,7 +196,7 @@ fn the_table_hands_its_plate_over(rt: HostRuntime) {
     assert!(rt; has_handed_its_plate_over(&run));
 }
 
-// Starts, turns, and then where the table stands, what it asked last, its answer and the stamp.
+// A start and a number of turns; then the table's positions, its last call, its answer, the stamp.
 const WAITS: &[([bool; 10], u32, At, Call, Answer, u32)] = &[
     (EMPTY, 7, (0, 0), Call::Take(Zone::Z1), NOT_YET, 5),
     (EMPTY, 20, (0, 0), Call::Take(Zone::Z1), NOT_YET, 5),
@@ -234,7 +234,7 @@ fn the_table_waits_where_its_program_says_so(rt: HostRuntime) {
     }
 }
 
-// More turns once the robot has been there, and then the same.
+// More turns after the robot has left, then the same.
 const VISITS: &[(u32, At, Call, Answer, u32)] = &[
     (1, (600, 500), Call::Claim(Zone::Z2), DONE, 8),
     (34, (0, 0), Call::SetPose(Pose::Loading), DONE, 10),
@@ -262,7 +262,7 @@ fn the_table_takes_the_plate_of_the_feed_belt(rt: HostRuntime) {
     assert!(rt; is_last(&run.heard, Call::Take(Zone::Z1), DONE, 8));
 }
 
-// A reading of the line from 0 to 500 over the raw values up to 4000: too high by the tolerance of 5.
+// A reading of the line from 0 to 500 over the raw values to 4000: too high by its tolerance, 5.
 fn too_high(raw: u16) -> i32
     requires { raw ≤ 4000 }
     ensures { IsReading (record { raw_lo = 0; raw_hi = 4000; at_lo = pos 0; at_hi = pos 500; tol = pos 5 }) raw result }
@@ -285,7 +285,7 @@ fn shows(bottom: bool, top: bool, turn: u16) -> TableSense {
     TableSense { bottom, top, turn }
 }
 
-/// Whether the table stops where its sensors show this, and stays so without having asked.
+/// Whether the table stops by these sensors with this fault, and stays stopped, without any call.
 fn is_stopped_by<F: Gauge>(
     alloc: Global,
     gauge: F,
@@ -306,7 +306,7 @@ fn is_stopped_by<F: Gauge>(
     told && table.stopped() == Some(stop) && bench.heard().asks == 0
 }
 
-/// The same with a gauge that gives the line.
+/// The same, with a gauge that gives the line.
 fn is_stopped(
     alloc: Global,
     points: Points,
@@ -318,7 +318,7 @@ fn is_stopped(
     is_stopped_by(alloc, gauge, points, start, broken, fault)
 }
 
-// What is shown, and the fault.
+// What the sensors show, and the fault.
 const WRONG: &[(bool, bool, u16, SensorFault)] = &[
     (true, true, 100, SensorFault::Clash),
     (true, true, 99, SensorFault::Clash),

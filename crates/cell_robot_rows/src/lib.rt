@@ -1,5 +1,5 @@
-//! Tests of the robot's controller over a bench, by public calls alone: they stand apart, so that its
-//! program isn't proved once more with them.
+//! Tests of the robot's controller over a bench, by public calls only. They are a crate of their
+//! own, so that a change of a test doesn't prove the program again.
 #![tactic(auto)]
 
 #[cfg(test)]

@@ -1,14 +1,14 @@
-//! The rows of the tests: what the robot has to come to was worked out from its program and the speed of
-//! its axes, and never by the controller.
+//! The rows of the tests. Each result was worked out by hand from the robot's program and the speed
+//! of its axes, never by the controller.
 
 use cell_calib::{RobotSense, SensorFault};
 use cell_control::CtlFault;
 use cell_types::{Answer, Call, Machine, Pose, Posture, Refusal, Zone};
 
-/// Where the first arm, the second arm and the rotation stand.
+/// The positions of the first arm, the second arm and the rotation.
 pub type Axes = (u16, u16, u16);
 
-/// The robot alone for some turns; then a guest comes and asks, and the robot goes on.
+/// A run: turns of the robot alone, then a guest's calls, then more turns of the robot.
 #[derive(Clone, Copy, Debug)]
 pub struct Row {
     /// The places that are full at the start, and its stamp.
@@ -19,10 +19,10 @@ pub struct Row {
     pub guest: Machine,
     pub calls: &'static [Call],
     pub more: u32,
-    /// Where the robot stands then, and which of its magnets are on.
+    /// The robot's axes at the end, and which of its magnets are on.
     pub to: Axes,
     pub magnets: (bool, bool),
-    /// How many calls the bench has heard; the last of them, its answer and the stamp that it left.
+    /// The number of calls on the bench; and the last call, its answer and the stamp after it.
     pub asks: u64,
     pub last: Option<(Call, Answer, u32)>,
     pub stopped: Option<CtlFault>,
@@ -50,7 +50,7 @@ const ON_ARM2: [bool; 10] = [
     false, false, false, false, false, false, true, false, false, false,
 ];
 
-// The table hands its plate over.
+// The table hands its plate to the robot.
 const TABLE_GIVES: &[Call] = &[
     Call::Claim(Zone::Z1),
     Call::Claim(Zone::Z2),
@@ -59,7 +59,7 @@ const TABLE_GIVES: &[Call] = &[
     Call::Give(Zone::Z2),
 ];
 
-// The press lets the robot in at its middle, lets it in at its bottom, or hands a forged plate over.
+// The press lets the robot in at its middle, or at its bottom, or hands a forged plate over.
 const PRESS_OPENS: &[Call] = &[
     Call::Claim(Zone::Z3),
     Call::SetPose(Pose::Travelling),
@@ -92,7 +92,7 @@ const DEPOSIT_LANDS: &[Call] = &[
 
 const DONE: Answer = Answer::Done;
 
-// A zone that nobody has is shown so; and a guest who claims it is refused so.
+// The answers to an inquiry and to a guest's claim for a zone without an owner.
 const FREE: Answer = Answer::Shown {
     owner: None,
     flag: false,
@@ -101,7 +101,7 @@ const FREE: Answer = Answer::Shown {
 
 const SHUT: Answer = Answer::Refused(Refusal::Shut(Posture::Closed));
 
-// The robot has the zone of a press at its bottom; the press has its own, with a plate.
+// The press is at its bottom and the robot owns its zone; the press owns its zone, with a plate.
 const LOW: Answer = Answer::Shown {
     owner: Some(Machine::Robot),
     flag: false,
@@ -124,8 +124,8 @@ const RELEASE_PRESS: Call = Call::Release(Zone::Z3);
 
 const CLAIM_DEPOSIT: Call = Call::Claim(Zone::Z4);
 
-// Where the robot waits: at the table; before the press with a plate, or for a forged one; before the
-// deposit belt.
+// The robot's waits: at the table, at the press with a plate, at the press for a forged one, and at
+// the deposit belt.
 const AT_TABLE: Row = Row {
     places: EMPTY,
     stamp: 0,
@@ -167,14 +167,14 @@ const TO_DEPOSIT: Row = Row {
     ..AT_TABLE
 };
 
-// The press lets it in at its bottom, so there is no room for a plate.
+// The press lets the robot in at its bottom, which isn't open for a plate.
 const LOW_PRESS: Row = Row {
     guest: Machine::Press,
     calls: PRESS_OPENS_LOW,
     ..TO_LOAD
 };
 
-/// Where each step waits, alone and while another machine has the zone.
+/// The wait of each step, alone and while another machine owns the zone.
 pub const WAITS: &[Row] = &[
     AT_TABLE,
     Row {
@@ -243,7 +243,7 @@ pub const WAITS: &[Row] = &[
         )),
         ..TO_DEPOSIT
     },
-    // the plate that it gave is the press's
+    // the robot gave its plate, so the zone is the press's, with the plate
     Row {
         guest: Machine::Press,
         calls: PRESS_OPENS,
@@ -256,7 +256,8 @@ pub const WAITS: &[Row] = &[
     },
 ];
 
-/// How it goes on once its partner has been there: to the end of the group of steps, and into the next.
+/// How the robot goes on after its partner's calls: to the end of the group of steps, and into the
+/// next group.
 pub const GOES_ON: &[Row] = &[
     Row {
         places: ON_TABLE,
@@ -322,7 +323,7 @@ pub const GOES_ON: &[Row] = &[
     },
 ];
 
-// It may turn with its arms so far out, and no farther.
+// The robot may turn with its arms out to 45, and no farther.
 const NEARLY_IN: Row = Row {
     from: (45, 45, 300),
     turns: 60,
@@ -332,7 +333,7 @@ const NEARLY_IN: Row = Row {
     ..TO_LOAD
 };
 
-/// It doesn't turn while an arm may be out, and asks nothing meanwhile, though it be there already.
+/// The robot doesn't turn while an arm may be out. Meanwhile it asks nothing, even at its target.
 pub const TURNS_RETRACTED: &[Row] = &[
     NEARLY_IN,
     Row {
@@ -355,7 +356,7 @@ pub const TURNS_RETRACTED: &[Row] = &[
     },
 ];
 
-/// It stops on a call that is worn, and asks nothing from then on.
+/// The robot stops on a call that is worn, and asks nothing after that.
 pub const STOPS: &[Row] = &[Row {
     stamp: 1_048_571,
     guest: Machine::Press,
@@ -374,7 +375,7 @@ pub const GOOD: RobotSense = RobotSense {
     rotation: 4100,
 };
 
-/// Sensors that can't be used, and why: each of the three, and the first of two.
+/// Sensors that can't be used, and their faults: each of the three, and the first of two.
 pub const BROKEN: &[(RobotSense, SensorFault)] = &[
     (RobotSense { arm1: 99, ..GOOD }, SensorFault::Low),
     (RobotSense { arm1: 4101, ..GOOD }, SensorFault::High),

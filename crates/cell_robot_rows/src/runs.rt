@@ -15,7 +15,7 @@ use cell_types::{Answer, Call, Machine, Reply};
 use std::alloc::Global;
 use std::test::Fail;
 
-// Another machine than the controller's asks.
+// A call of a machine other than the controller's.
 fn guest_asks<P: Program>(controller: &Controller<P>, bench: &mut Bench, guest: Machine, call: Call)
     requires apart { same_machine guest (P.steps controller.now.program).machine ≡ false }
     requires reached { controller.now.stopped ≡ None → IsReached (P.steps controller.now.program) bench.old.opening bench.old.history.items controller.now.progress }
@@ -26,7 +26,7 @@ fn guest_asks<P: Program>(controller: &Controller<P>, bench: &mut Bench, guest: 
     let _ = bench.ask(call);
 }
 
-// A guest comes, if it isn't the robot, and asks one call after another.
+// The calls of a guest, in order, if the guest isn't the robot.
 fn guest_comes<P: Program>(robot: &Controller<P>, bench: &mut Bench, guest: Machine, calls: &[Call])
     requires robot { (P.steps robot.now.program).machine ≡ Robot }
     requires reached { robot.now.stopped ≡ None → IsReached (P.steps robot.now.program) bench.old.opening bench.old.history.items robot.now.progress }
@@ -42,7 +42,7 @@ fn guest_comes<P: Program>(robot: &Controller<P>, bench: &mut Bench, guest: Mach
     }
 }
 
-// An axis goes 20 a turn, from 0 to its end.
+// An axis's position after a turn: it moves by 20, and stays from 0 to its end.
 fn moved(position: u16, motor: Motor, end: u16) -> u16 {
     match motor {
         Motor::Off => position,
@@ -51,7 +51,7 @@ fn moved(position: u16, motor: Motor, end: u16) -> u16 {
     }
 }
 
-// Where the robot stands, and which of its magnets are on.
+// The robot's axes, and which of its magnets are on.
 #[derive(Clone, Copy)]
 struct Stand {
     axes: Axes,
@@ -70,7 +70,7 @@ fn told(axes: Axes, act: RobotAct) -> Stand {
     }
 }
 
-// The raw values go from 0 to 4000, while an arm goes from 0 to 1000 and the rotation from 0 to 2000.
+// Raw values go from 0 to 4000, for an arm from 0 to 1000 and for the rotation from 0 to 2000.
 fn shown(axes: Axes) -> RobotSense {
     let (arm1, arm2, rotation) = axes;
     RobotSense {
@@ -80,7 +80,7 @@ fn shown(axes: Axes) -> RobotSense {
     }
 }
 
-// The robot goes on for some turns; in those in which it has stopped it stays where it is.
+// A number of turns of the robot. Once stopped, it stays where it is.
 fn goes_on<P: Program<Sense = RobotSense, Act = RobotAct>>(
     robot: &mut Controller<P>,
     bench: &mut Bench,
@@ -134,7 +134,7 @@ fn robot_by<F1: Gauge, F2: Gauge, F3: Gauge>(
     RobotCtl::new(start, program)
 }
 
-// Whether a row comes out so, with these closures.
+// Whether the robot meets a row, with these closures.
 fn is_met_by<F1: Gauge, F2: Gauge, F3: Gauge>(
     alloc: Global,
     row: &Row,
@@ -186,7 +186,7 @@ fn the_robot_goes_through_its_program(rt: HostRuntime) -> Result<(), Fail> {
     Ok(())
 }
 
-// Whether the robot stops where its sensors show this, and stays so without having asked.
+// Whether the robot stops by these sensors with this fault, and stays stopped, without any call.
 fn is_stopped_by<F1: Gauge, F2: Gauge, F3: Gauge>(
     alloc: Global,
     broken: (RobotSense, SensorFault),
