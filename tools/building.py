@@ -20,7 +20,7 @@ MEMORY = 4_000_000_000
 
 
 def at_once():
-    """How many crates are worked at side by side: one less than there are processors, since each has several jobs."""
+    """How many crates are proved at the same time: one less than there are processors, since each has several jobs."""
     return max(1, min(crates.processors() - 1, crates.memory() // MEMORY))
 
 
@@ -39,7 +39,7 @@ def alone(say):
         try:
             fcntl.flock(held, fcntl.LOCK_EX | fcntl.LOCK_NB)
         except BlockingIOError:
-            say("waiting until another ./cell or tools/over in this folder has finished building")
+            say("waiting until another ./cell or tools/over in this clone has finished building")
             fcntl.flock(held, fcntl.LOCK_EX)
         yield out
 

@@ -284,16 +284,16 @@ def costs():
 
 
 class Progress:
-    """Says how far `prove` is: at its begin, when a crate is proved, and after each minute of silence."""
+    """Says how far `prove` is: at the beginning, when a crate is proved, and after each minute of silence."""
 
     def __init__(self, say, first=None):
-        """`first` is called at the begin, with all crates and those that are proved already."""
+        """`first` is called at the beginning, with all crates and those that are proved already."""
         self.say, self.first = say, first
         self.begun, self.weights, self.known = time.monotonic(), costs(), None
 
     def watch(self, plan, done, since):
-        """What `prove` calls: with the crates in the order that they begin in, each with those that it uses, with the crates
-        that are proved, and with those under way, each with the time of its begin."""
+        """What `prove` calls: with the crates in their order, each with those that it uses, with the crates that are
+        proved, and with those under way, each with the time when it began."""
         now, is_first = time.monotonic(), self.known is None
         if is_first:
             self.known, self.since, self.spent, self.most = set(done), {}, {}, 1
@@ -357,7 +357,7 @@ def prove(root, names, folder, place_of=Place, limit=None, watch=lambda plan, do
                 if not places[name].enter():
                     del places[name]
                     if not waits:
-                        print(f"{PROGRAM}: waiting: another rt works on {name}, or on a crate that {name} uses", file=sys.stderr, flush=True)
+                        print(f"{PROGRAM}: waiting: another rt is working on {name}, or on a crate that {name} uses", file=sys.stderr, flush=True)
                     waits = True
                     continue
                 left.remove(name)

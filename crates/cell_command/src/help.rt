@@ -5,10 +5,10 @@ pub const CELL: &str =
     "Replays scripts of calls to the production cell's interlock, and simulates and runs the cell.";
 
 pub const CELL_DETAILS: &str = "\
-Without a command, a script is replayed. Input is standard input, output standard
-output. Exits with 0 on success and for help; with 1 if the input is refused, a
-machine stops, the audit fails, a read, a write or the start of a thread fails, or
-memory runs out; with 2 for bad arguments.
+Reads standard input, writes standard output. Without a command, replays a script.
+Exit status: 0 on success and for help; 2 for bad arguments; otherwise 1: the input is
+refused, a machine stops, the audit fails, a read, a write or the start of a thread
+fails, or memory runs out.
 
 docs/SCRIPTS.md describes scripts, answers and exit statuses, docs/CONFIGURATIONS.md
 what `sim` and `run` read, docs/REPORTS.md what they write.
@@ -23,10 +23,11 @@ pub const REPLAY: &str =
     "Replays a script of calls to the interlock, and writes the answer to each.";
 
 pub const REPLAY_DETAILS: &str = "\
-Reads a script in CSV. Record 0 is the start, each later record a call of a machine.
-Writes a line for each record: its number, the stamp after it, and the answer. If
-the script is refused, the last line begins with `fault`. docs/SCRIPTS.md describes
-both.
+Reads a script in CSV. Record 0 says which places are full at the start; each later
+record is a call of a machine.
+Writes a line for each record: its number, the stamp (the number of changes) after it,
+and the answer. If the script is refused, the last line begins with `fault`.
+docs/SCRIPTS.md describes scripts and answers.
 
 Example:
   cell replay < examples/interior.csv";
@@ -35,10 +36,11 @@ Example:
 pub const SIM: &str = "Simulates the cell along a schedule of turns, and writes a report.";
 
 pub const SIM_DETAILS: &str = "\
-Reads a configuration in TOML: the start, the schedule of turns, and the calibrations
-of the five potentiometers. Writes a report: what each machine did, the cell at the
-end, and what an audit of the machines' journals (their logs of calls) found. If the
-configuration is refused, writes one line that begins with `fault`.
+Reads a configuration in TOML: which places are full at the start, the schedule of
+turns, and the calibrations of the five potentiometers. Writes a report: what each
+machine did, the cell at the end, and what an audit of the machines' journals (their
+logs of calls) found. If the configuration is refused, writes one line that begins
+with `fault`.
 docs/CONFIGURATIONS.md describes what is read, docs/REPORTS.md what is written.
 
 Example:
@@ -49,14 +51,14 @@ pub const RUN: &str = "Runs the six machines in six threads, and writes a report
 
 pub const RUN_DETAILS: &str = "\
 Reads a configuration, as `sim` does. Its schedule is checked but not used. Each
-machine has a thread of its own, and all share the interlock. Writes a report, or a
-line that begins with `fault`. docs/CONFIGURATIONS.md describes what is read,
+machine has a thread of its own, and all share the interlock. Writes a report or, if
+it fails, a line that begins with `fault`. docs/CONFIGURATIONS.md describes what is read,
 docs/REPORTS.md what is written.
 
 Example:
   cell run --turns 3 --tries 64 < examples/six_workers.toml";
 
 /// The help of the flags of `run`.
-pub const TURNS: &str = "Turns of each machine, 1 to 100000";
+pub const TURNS: &str = "Most turns of each machine, 1 to 100000";
 
-pub const TRIES: &str = "Failed tries after which a call is Busy, 1 to 64";
+pub const TRIES: &str = "Failed exchanges after which a call gives up and answers Busy, 1 to 64";
