@@ -6,9 +6,9 @@ pub const CELL: &str =
 
 pub const CELL_DETAILS: &str = "\
 Reads standard input, writes standard output. Without a command, replays a script.
-Exit status: 0 on success and for help; 2 for bad arguments; otherwise 1: the input is
-refused, a machine stops, the audit fails, a read, a write or the start of a thread
-fails, or memory runs out.
+Exit status: 0 on success and for help; 2 for bad arguments; otherwise 1: a refused
+input, a machine stopped by a fault, a failed audit, read, write or start of a thread,
+or no memory.
 
 docs/SCRIPTS.md describes scripts, answers and exit statuses, docs/CONFIGURATIONS.md
 what `sim` and `run` read, docs/REPORTS.md what they write.
@@ -52,13 +52,13 @@ pub const RUN: &str = "Runs the six machines in six threads, and writes a report
 pub const RUN_DETAILS: &str = "\
 Reads a configuration, as `sim` does. Its schedule is checked but not used. Each
 machine has a thread of its own, and all share the interlock. Writes a report or, if
-it fails, a line that begins with `fault`. docs/CONFIGURATIONS.md describes what is read,
-docs/REPORTS.md what is written.
+there can be none, a line that begins with `fault`. docs/CONFIGURATIONS.md describes
+what is read, docs/REPORTS.md what is written.
 
 Example:
   cell run --turns 3 --tries 64 < examples/six_workers.toml";
 
 /// The help of the flags of `run`.
-pub const TURNS: &str = "Most turns of each machine, 1 to 100000";
+pub const TURNS: &str = "Maximum of turns per machine, 1 to 100000";
 
 pub const TRIES: &str = "Failed exchanges after which a call gives up and answers Busy, 1 to 64";
