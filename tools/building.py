@@ -14,14 +14,14 @@ from crates import PROGRAM, ROOT
 KIT = os.path.dirname(os.path.dirname(os.path.realpath(shutil.which("rattle") or ".")))
 # Where in out/ a crate's library is, with the stamp of what it was made from.
 BUILT = "built"
-# The jobs that a crate gets, and the most memory that it takes with them, in bytes.
-JOBS = 3
-MEMORY = 4_000_000_000
+# The most memory that a crate takes with one job, in bytes. A second job costs more processor time than it saves: each
+# job reads again what its crate uses.
+MEMORY = 3_000_000_000
 
 
 def at_once():
-    """How many crates are proved at the same time: one less than there are processors, since each has several jobs."""
-    return max(1, min(crates.processors() - 1, crates.memory() // MEMORY))
+    """How many crates are proved at the same time: one for each processor, if there is memory for that."""
+    return max(1, min(crates.processors(), crates.memory() // MEMORY))
 
 
 def text_of(path):
@@ -79,11 +79,11 @@ class Building:
         for it in [f"{KIT}/rlibs", *self.kept]:
             words += ["-L", f"dependency={it}"]
         words += ["--antt-project", f"{KIT}/rattle/logic/antt-project.json", "--logic-built", f"{KIT}/logic_built"]
-        return [*words, "--links", f"{self.name}=", "--jobs", str(min(crates.processors(), JOBS))]
+        return [*words, "--links", f"{self.name}="]
 
     def words(self, _side_by_side):
         how = ["--toolchain", f"{KIT}/toolchain"] if self.name == PROGRAM else ["--statements"]
-        return ["rattle", "build", *self.reading(), *how, "-o", self.made]
+        return ["rattle", "build", *self.reading(), *how, "--jobs", "1", "-o", self.made]
 
     def leave(self, proved=False):
         if proved:

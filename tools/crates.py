@@ -306,7 +306,7 @@ class Progress:
         if done - self.known or since and (is_first or now - self.said > 60):
             left = f", about {self.minutes(self.to_go(plan, done, since, now))} left" if self.spent and since else ""
             under_way = f"; now proving {', '.join(sorted(since))}" if since else ""
-            self.say(f"{len(done)} of {len(plan)} crates are proved after {self.minutes(now - self.begun)}{left}{under_way}")
+            self.say(f"{len(done)} of {len(plan)} crates are proved; {self.minutes(now - self.begun)} gone{left}{under_way}")
             self.known, self.said = set(done), now
 
     @staticmethod
