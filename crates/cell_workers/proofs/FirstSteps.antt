@@ -32,7 +32,7 @@ use Rattle.cell_notes.specs.Notes.{counts_with}
 use Rattle.cell_seat.specs.Fares.{status_of}
 use Rattle.cell_workers.specs.Lines.{passes}
 use Rattle.cell_workers.specs.Workers.{GateOf, Moment, TakesTurn, TakesTurns, HasCome, HasWorked, Ends, last_of}
-use Rattle.cell_workers.specs.Laws.{answers_in, HasAtMost}
+use Rattle.cell_workers.specs.Laws.{answers_in, HasAtMost, MayFare}
 use Rattle.cell_workers.proofs.Passes.{all_along}
 
 -- ---- how a worker ends
@@ -65,6 +65,15 @@ module _ (gate : GateOf) (limit : ℕ) where
   ends_kept_out None turns s (inl h) e = let lie : Fine ≡ GateLimit = sym h.0 ∙ e in cc
   ends_kept_out None turns s (inr h) e = (h.1, h.2)
   ends_kept_out (Some f) turns s h e = stopped_so ((turns < limit) × gate turns false) f s h.0 (inr e)
+
+  pub may_fare : (stopped : Option CtlFault) (turns : ℕ) (s : Status) → Ends gate limit stopped turns s → MayFare stopped s
+  may_fare None turns s (inl h) = inl h.0
+  may_fare None turns s (inr h) = inr h.0
+  may_fare (Some (fault.Sensor x)) turns s h = h.0
+  may_fare (Some (fault.Refused x)) turns s h = h.0
+  may_fare (Some fault.Worn) turns s h = h.0
+  may_fare (Some fault.Memory) turns s h = h.0
+  may_fare (Some fault.Stopped) turns s h = h.0
 
 -- the status of a worker that has taken no turn: fine if no turn was allowed, kept out otherwise
 pub fine_at_once : (gate : GateOf) (s : Status) → Ends gate 0 None 0 s → s ≡ Fine
@@ -167,14 +176,17 @@ module _ {S Sense Reading Act State : Type 0} (tries : ℕ) (t : Steps S Sense R
 
   -- ---- no turn, and one
 
+  one_more_turn : (before now : Moment PassView S State) → Turn before now → now.counts.turns ≡ before.counts.turns + 1
+  one_more_turn before now turn = ap (λ (c : Counts). c.turns) turn.counted
+
   grows : (first : Moment PassView S State) (turns : List (Moment PassView S State)) → TakesTurns (passes tries) t rig gate first turns → first.counts.turns ≤ (last_of first turns).counts.turns
   grows first [] k = omega arith
-  grows first (now ∷ later) k = let one = ap (λ (c : Counts). c.turns) k.0.counted in let more = grows now later k.1 in omega (arith, one, more)
+  grows first (now ∷ later) k = let one = one_more_turn first now k.0 in let more = grows now later k.1 in omega (arith, one, more)
 
   still_by : (first last : Moment PassView S State) (turns : List (Moment PassView S State)) → TakesTurns (passes tries) t rig gate first turns → last_of first turns ≡ last → last.counts.turns ≤ first.counts.turns → last ≡ first
   still_by first last [] k e few = sym e
   still_by first last (now ∷ later) k e few =
-      let one = ap (λ (c : Counts). c.turns) k.0.counted in
+      let one = one_more_turn first now k.0 in
       let more = grows now later k.1 in
       let ends = ap (λ (m : Moment PassView S State). m.counts.turns) e in
       absurd (omega (arith, one, more, ends, few))
@@ -200,8 +212,8 @@ module _ {S Sense Reading Act State : Type 0} (tries : ℕ) (t : Steps S Sense R
   once_by first last [] k e few = inl (sym e)
   once_by first last (now ∷ []) k e few = inr (subst (Turn first) e k.0)
   once_by first last (now ∷ (next ∷ later)) k e few =
-      let one = ap (λ (c : Counts). c.turns) k.0.counted in
-      let two = ap (λ (c : Counts). c.turns) k.1.0.counted in
+      let one = one_more_turn first now k.0 in
+      let two = one_more_turn now next k.1.0 in
       let more = grows next later k.1.1 in
       let ends = ap (λ (m : Moment PassView S State). m.counts.turns) e in
       absurd (omega (arith, one, two, more, ends, few))

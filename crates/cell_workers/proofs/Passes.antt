@@ -24,6 +24,7 @@ use Rattle.cell_notes.specs.declared.counts.Counts.{Counts}
 use Rattle.cell_notes.specs.declared.status.Status.{Status}
 use Rattle.cell_notes.specs.Asks.{Asked, came_back, is_done_reply, is_read_reply, is_refused_reply}
 use Rattle.cell_notes.specs.Notes.{no_counts, counts_with}
+use Rattle.cell_seat.specs.Sides.{Acts}
 use Rattle.cell_seat.proofs.Turning.{acts_map}
 use Rattle.cell_workers.specs.Lines.{Lines, passes}
 use Rattle.cell_workers.specs.Workers.{Moment, moment, GateOf, TakesTurn, TakesTurns, HasCome, HasWorked, GivesBack, AreCountsOf, last_of, is_shown_answer, is_refused_answer}
@@ -46,18 +47,19 @@ module _ {S Sense Reading Act State : Type 0} (tries : ℕ) (t : Steps S Sense R
 
   -- ---- lines and passes
 
+  acts_by_pass : (before now : Moment LineView S State) → before.line.tries ≡ tries → (k : TakesTurn line_views t rig gate before now)
+      → Acts t rig (now.line.pass ≡ before.line.pass) (λ c r. PassAsks tries before.line.pass c r now.line.pass) before.side k.asked k.row.set
+  acts_by_pass before now e k =
+      acts_map t rig (now.line ≡ before.line) (now.line.pass ≡ before.line.pass) (λ c r. LineAsks before.line c r now.line) (λ c r. PassAsks tries before.line.pass c r now.line.pass)
+      (λ same. ap (λ l. l.pass) same) (λ c r a. subst (λ n. PassAsks n before.line.pass c r now.line.pass) e a.call) before.side k.row.set k.asked k.row.acts
+
   turn_by_pass : (before now : Moment LineView S State) → before.line.tries ≡ tries → TakesTurn line_views t rig gate before now → TakesTurn (passes tries) t rig gate (by_pass before) (by_pass now)
   turn_by_pass before now e k =
       record {
         runs = k.runs;
         let_in = k.let_in;
         asked = k.asked;
-        row = record {
-          set = k.row.set;
-          acts = acts_map t rig (now.line ≡ before.line) (now.line.pass ≡ before.line.pass) (λ c r. LineAsks before.line c r now.line) (λ c r. PassAsks tries before.line.pass c r now.line.pass)
-              (λ same. ap (λ l. l.pass) same) (λ c r a. subst (λ n. PassAsks n before.line.pass c r now.line.pass) e a.call) before.side k.row.set k.asked k.row.acts;
-          moved = k.row.moved;
-        };
+        row = record { set = k.row.set; acts = acts_by_pass before now e k; moved = k.row.moved };
         motor_demands = k.motor_demands;
         counted = k.counted;
       }
@@ -112,28 +114,30 @@ count-append p xs x = sum_by-append (λ y. cond (p y) 1 0) xs (x ∷ []) ∙ as_
 one_more : (p : Entry → Bool) (journal now : List Entry) (e : Entry) (k n : ℕ) → now ≡ journal ++ e ∷ [] → n ≡ k + one_if (p e) → k ≡ count_by p journal → n ≡ count_by p now
 one_more p journal now e k n is more old = more ∙ ap (λ x. x + one_if (p e)) old ∙ sym (count-append p journal e) ∙ sym (ap (count_by p) is)
 
+-- an answer is counted in the same way as a reply and as an entry
+same_done : (c : Call) (a : Answer) (stamp : ℕ) → came_back is_done_reply (Some (c, Ok (Settled a stamp))) ≡ is_done_answer a
+same_done c Done stamp = refl
+same_done c (Shown owner flag posture) stamp = refl
+same_done c (Refused refusal) stamp = refl
+
+same_read : (c : Call) (a : Answer) (stamp : ℕ) → came_back is_read_reply (Some (c, Ok (Settled a stamp))) ≡ is_shown_answer a
+same_read c Done stamp = refl
+same_read c (Shown owner flag posture) stamp = refl
+same_read c (Refused refusal) stamp = refl
+
+same_refused : (c : Call) (a : Answer) (stamp : ℕ) → came_back is_refused_reply (Some (c, Ok (Settled a stamp))) ≡ is_refused_answer a
+same_refused c Done stamp = refl
+same_refused c (Shown owner flag posture) stamp = refl
+same_refused c (Refused refusal) stamp = refl
+
 -- a settled call is counted like its entry
 settled_counts : (journal now : List Entry) (c : Call) (a : Answer) (stamp : ℕ) (k n : Counts) → now ≡ journal ++ record { call = c; answer = a; stamp = stamp } ∷ [] → n ≡ counts_with k (Some (c, Ok (Settled a stamp))) → AreCountsOf journal k → AreCountsOf now n
-settled_counts journal now c Done stamp k n is more old =
-    let e : Entry = record { call = c; answer = Done; stamp = stamp } in
+settled_counts journal now c a stamp k n is more old =
+    let e : Entry = record { call = c; answer = a; stamp = stamp } in
     record {
-      done = one_more (λ x. is_done_answer x.answer) journal now e k.done n.done is (ap (λ x. x.done) more) old.done;
-      read = one_more (λ x. is_shown_answer x.answer) journal now e k.read n.read is (ap (λ x. x.read) more) old.read;
-      refused = one_more (λ x. is_refused_answer x.answer) journal now e k.refused n.refused is (ap (λ x. x.refused) more) old.refused;
-    }
-settled_counts journal now c (Shown owner flag posture) stamp k n is more old =
-    let e : Entry = record { call = c; answer = Shown owner flag posture; stamp = stamp } in
-    record {
-      done = one_more (λ x. is_done_answer x.answer) journal now e k.done n.done is (ap (λ x. x.done) more) old.done;
-      read = one_more (λ x. is_shown_answer x.answer) journal now e k.read n.read is (ap (λ x. x.read) more) old.read;
-      refused = one_more (λ x. is_refused_answer x.answer) journal now e k.refused n.refused is (ap (λ x. x.refused) more) old.refused;
-    }
-settled_counts journal now c (Refused refusal) stamp k n is more old =
-    let e : Entry = record { call = c; answer = Refused refusal; stamp = stamp } in
-    record {
-      done = one_more (λ x. is_done_answer x.answer) journal now e k.done n.done is (ap (λ x. x.done) more) old.done;
-      read = one_more (λ x. is_shown_answer x.answer) journal now e k.read n.read is (ap (λ x. x.read) more) old.read;
-      refused = one_more (λ x. is_refused_answer x.answer) journal now e k.refused n.refused is (ap (λ x. x.refused) more) old.refused;
+      done = one_more (λ x. is_done_answer x.answer) journal now e k.done n.done is (ap (λ x. x.done) more ∙ ap (λ b. k.done + one_if b) (same_done c a stamp)) old.done;
+      read = one_more (λ x. is_shown_answer x.answer) journal now e k.read n.read is (ap (λ x. x.read) more ∙ ap (λ b. k.read + one_if b) (same_read c a stamp)) old.read;
+      refused = one_more (λ x. is_refused_answer x.answer) journal now e k.refused n.refused is (ap (λ x. x.refused) more ∙ ap (λ b. k.refused + one_if b) (same_refused c a stamp)) old.refused;
     }
 
 -- a turn that settles nothing is counted, but no settled call is

@@ -3,9 +3,13 @@ use Rattle.std.proofs.Common.{◌≡◌, ℕ, ℤ, pos, true, false, inl, inr, [
 use Rattle.std.specs.Prelude.{slice_get}
 use Rattle.cell_types.specs.declared.machine.Machine.{Machine}
 use Rattle.cell_types.specs.declared.machine.Machine.TheVariants.{Feed, Table, Robot, Press, Deposit, Crane, Watch}
+use Rattle.cell_types.specs.declared.zone.Zone.TheVariants.{Z3}
 use Rattle.cell_types.specs.declared.call.Call.{Call}
+use Rattle.cell_types.specs.declared.call.Call.TheVariants.{Claim}
+use Rattle.cell_types.specs.declared.answer.Answer.TheVariants.{Done}
 use Rattle.cell_types.specs.declared.answer.Event.{Event}
 use Rattle.cell_types.specs.declared.reply.Reply.{Reply}
+use Rattle.cell_types.specs.declared.reply.Reply.TheVariants.{Settled, Busy}
 use Rattle.cell_types.specs.Everything.{all_machines}
 use Rattle.cell_types.specs.Journals.{journal_of}
 use Rattle.cell_calib.specs.declared.sense.SensorFault.{SensorFault}
@@ -22,8 +26,8 @@ use Rattle.cell_rules.proofs.Assembly.{lawful}
 use Rattle.cell_rules.proofs.Histories.{throughout}
 use Rattle.cell_interlock.specs.Views.{InterlockView}
 use Rattle.cell_interlock.specs.Lines.{PassAsks}
-use Rattle.cell_control.specs.Steps.{Steps}
-use Rattle.cell_control.specs.Turns.{Performed, PerformsSensed, Turned, Turns, turned}
+use Rattle.cell_control.specs.Steps.{Steps, outcome}
+use Rattle.cell_control.specs.Turns.{Performed, PerformsSensed, Turned, Turns, at_rest, turned}
 use Rattle.cell_devices.specs.declared.motor.Motor.{Motor}
 use Rattle.cell_devices.specs.declared.motor.Motor.TheVariants.{Off}
 use Rattle.cell_devices.specs.declared.act.CraneAct.{CraneAct}
@@ -31,10 +35,11 @@ use Rattle.cell_haul.specs.declared.crane_step.CraneProgress.{CraneProgress}
 use Rattle.cell_haul.specs.declared.crane_step.CraneReading.{CraneReading}
 use Rattle.cell_haul.specs.CraneProgram.{crane_start, crane_steps}
 use Rattle.cell_robot.specs.RobotProgram.{robot_start}
+use Rattle.cell_stations.specs.PressProgram.{press_steps}
 use Rattle.cell_parts.specs.declared.axis.Axis.{Axis}
 use Rattle.cell_parts.specs.Plant.{CranePlant, moved_to}
-use Rattle.cell_parts.specs.Rigs.{crane_rig}
-use Rattle.cell_seat.specs.Sides.{act_or_rest, noting, side_moved}
+use Rattle.cell_parts.specs.Rigs.{press_rig, crane_rig}
+use Rattle.cell_seat.specs.Sides.{act_or_rest, noting, side_set, side_moved}
 use Rattle.cell_notes.specs.declared.counts.Counts.{Counts}
 use Rattle.cell_notes.specs.declared.run_record.RunRecord.{RunRecord}
 use Rattle.cell_notes.specs.declared.status.Status.{Status}
@@ -42,14 +47,17 @@ use Rattle.cell_notes.specs.declared.status.Status.TheVariants.{Fine, GateLimit}
 use Rattle.cell_notes.specs.Asks.{done_in}
 use Rattle.cell_notes.specs.Notes.{no_counts}
 use Rattle.cell_parts.specs.Axes.{CellScales, crane_end}
+use Rattle.cell_plant.specs.CellStates.{SideOf}
 use Rattle.cell_plant.specs.Machines.{steps_of, rig_of}
 use Rattle.cell_plant.specs.Records.{positions_in}
 use Rattle.cell_plant.specs.Runs.{is_at_work}
 use Rattle.cell_workers.specs.Lines.{passes}
-use Rattle.cell_workers.specs.Workers.{TakesTurn, HasWorked, Ends, AreCountsOf}
+use Rattle.cell_workers.specs.Workers.{GateOf, TakesTurn, HasWorked, Ends, AreCountsOf}
 use Rattle.cell_workers.specs.Records.{MomentOf, first_moment, parts_at_ends, TellsWork}
-use Rattle.cell_workers.specs.Laws.{Rule, by_rule, TellsNothingDone, HadTurns, HasAtMost, first_call, TellsFirstTurns, RecordsTellTurns, TurnsAreTaken}
-use Rattle.cell_workers.proofs.FirstSteps.{within, ends_fine, ends_kept_out, fine_at_once, shut_at_once, ends_begun, answers_along, let_in_along, still, shut_still, once, stays, own_at_first, noted_at_most, busy_lost, busy_counted}
+use Rattle.cell_workers.specs.Laws.{Rule, by_rule, TellsNothingDone, HadTurns, HasAtMost, first_call, TellsFirstTurns, RecordsTellTurns, RecordsKeepTries, WorkersEnd, TurnsAreTaken}
+use Rattle.cell_workers.proofs.Passes.{come_same, come_counts}
+use Rattle.cell_workers.proofs.Answering.{side_answered, line_unchanged, falls}
+use Rattle.cell_workers.proofs.FirstSteps.{within, ends_fine, ends_kept_out, may_fare, fine_at_once, shut_at_once, ends_begun, answers_along, let_in_along, still, shut_still, once, stays, own_at_first, noted_at_most, busy_lost, busy_counted}
 
 -- equal lists of the machines' values have equal values for each machine
 each_same : {A : Type 0} → (f g : Machine → A) → map f all_machines ≡ map g all_machines → (m : Machine) → f m ≡ g m
@@ -148,6 +156,15 @@ module _ (c : CellScales) (opening : ModelState) (tries limit : ℕ) (lets : Rul
 
   -- ---- the turns of a machine
 
+  -- its counts agree with its journal; so `counted` follows from the other fields
+  counted_by_turns : (k : Works) (m : Machine) → is_at_work m ≡ true → AreCountsOf (journal_of r.journals m) (k.last m).counts
+  counted_by_turns k m e =
+      let first = first_moment k.interlock m in
+      let come = (k.works m e).come in
+      let same = come_same tries (steps_of c m) (rig_of c m) (by_rule lets m) first (k.last m) come in
+      subst (λ j. AreCountsOf j (k.last m).counts) ((λ i. noted (same.1 i) (k.last m).line.seen (same.0 i)) ∙ ap (λ o. noted o (k.last m).line.seen m) k.opened ∙ sym (k.journals m))
+      (come_counts tries (steps_of c m) (rig_of c m) (by_rule lets m) first (k.last m) come refl refl)
+
   pub had_turns : (k : Works) (m : Machine) (did : Counts) (fares : Status) → (k.last m).counts ≡ did → k.fares m ≡ fares → is_at_work m ≡ true → HadTurns limit (lets m) did fares (journal_of r.journals m)
   had_turns k m did fares counts status e =
       let worked = k.works m e in
@@ -161,7 +178,7 @@ module _ (c : CellScales) (opening : ModelState) (tries limit : ℕ) (lets : Rul
         fine = ends_fine (by_rule lets m) limit stopped last.counts.turns (k.fares m) worked.ends;
         kept_out = λ out. let kept = ends_kept_out (by_rule lets m) limit stopped last.counts.turns (k.fares m) worked.ends out in (kept.0, sym kept.1);
         one_answer_each = answers_along tries (steps_of c m) (rig_of c m) (by_rule lets m) first last worked.come (omega arith);
-        counted = k.counted m;
+        counted = counted_by_turns k m e;
       } in
       subst (λ d. HadTurns limit (lets m) d fares (journal_of r.journals m)) counts (subst (λ x. HadTurns limit (lets m) last.counts x (journal_of r.journals m)) status came)
 
@@ -269,6 +286,18 @@ records_tell =
       first = first_turns;
     }
 
+-- ---- the interlock, and the ends
+
+pub keep_tries : (gate : Machine → GateOf) → RecordsKeepTries gate
+keep_tries gate c opening tries limit r k = (record k { interlock = record (k.interlock) { tries = tries } }, refl)
+
+pub workers_end : WorkersEnd
+workers_end =
+    record {
+      fares = λ c tries limit lets m first last s k. may_fare (by_rule lets m) limit last.side.stopped last.counts.turns s k.ends;
+      counted = λ call c. (λ k. (k.done, k.read, k.refused), λ h. record { done = h.0; read = h.1; refused = h.2 });
+    }
+
 -- ---- one turn
 
 pub turns_taken : TurnsAreTaken
@@ -278,7 +307,18 @@ turns_taken =
       kept_out = λ c tries lets m before now e turn. let lie : true ≡ false = turn.let_in ∙ e in cc;
       busy = λ c tries lets m before now turn call lost stamp e.
           (busy_lost tries (steps_of c m) (rig_of c m) (by_rule lets m) before now turn call lost stamp e, busy_counted tries (steps_of c m) (rig_of c m) (by_rule lets m) before now turn call lost stamp e);
+      waits = λ c tries lets m before now turn call lost stamp e.
+          let is = side_answered tries (steps_of c m) (rig_of c m) (by_rule lets m) before now turn call (Ok (Busy lost stamp)) e in
+          (ap (λ (s : SideOf m). s.progress) is, ap (λ (s : SideOf m). s.stopped) is);
+      no_memory = λ c tries lets m before now turn call why e.
+          let is = side_answered tries (steps_of c m) (rig_of c m) (by_rule lets m) before now turn call (Err why) e in
+          (ap (λ (s : SideOf m). s.stopped) is, line_unchanged tries (steps_of c m) (rig_of c m) (by_rule lets m) before now turn call why e);
       press = λ c tries lets before now turn runs on.
           let told = turn.motor_demands runs in
           told.motor_demands (λ off. on (ap (λ (a : Axis). a.motor) told.told ∙ off));
+      claims = λ c tries lets before now turn stamp e is.
+          let r : Result Reply LineFault = Ok (Settled Done stamp) in
+          let led : SideOf Press → SideOf Press = λ s. side_moved press_rig (side_set press_steps press_rig s (Some (Claim Z3, r)) (turned s.progress (at_rest (press_steps.rest s.progress) (outcome press_steps s.progress r)))) in
+          side_answered tries press_steps press_rig (by_rule lets Press) before now turn (Claim Z3) r is ∙ ap led e;
+      falls = λ c tries lets before now turn e. falls tries (by_rule lets Press) before now turn e;
     }

@@ -1,31 +1,44 @@
 -- What a record of six workers says, in numbers: the statements.
-use Rattle.std.specs.Prelude.{◌≡◌, ◌≢◌, ℕ, ◌+◌, ◌<◌, ◌≤◌, ◌↔◌, pos, Bool, true, false, List, [], ◌∷◌, map, Option, Some, None, Ok, ⊤, slice_get}
+use Rattle.std.specs.Prelude.{◌≡◌, ◌≢◌, ℕ, ◌+◌, ◌<◌, ◌≤◌, ◌↔◌, ◌⊎◌, pos, Bool, true, false, List, [], ◌∷◌, map, Option, Some, None, Ok, Err, ⊤, slice_get}
 use Rattle.cell_types.specs.declared.machine.Machine.{Machine}
 use Rattle.cell_types.specs.declared.machine.Machine.TheVariants.{Feed, Table, Robot, Press, Deposit, Crane, Watch}
 use Rattle.cell_types.specs.declared.zone.Zone.TheVariants.{Z1, Z3, Z4, Z6}
+use Rattle.cell_types.specs.declared.posture.Posture.TheVariants.{Closed}
 use Rattle.cell_types.specs.declared.call.Call.{Call}
 use Rattle.cell_types.specs.declared.call.Call.TheVariants.{Claim}
+use Rattle.cell_types.specs.declared.answer.Answer.{Answer}
+use Rattle.cell_types.specs.declared.answer.Answer.TheVariants as answer
+use Rattle.cell_types.specs.declared.answer.Refusal.TheVariants.{NotParty}
 use Rattle.cell_types.specs.declared.journal.Entry.{Entry}
-use Rattle.cell_types.specs.declared.reply.Reply.TheVariants.{Busy}
+use Rattle.cell_types.specs.declared.reply.Reply.TheVariants.{Settled, Busy}
 use Rattle.cell_types.specs.Everything.{all_machines}
 use Rattle.cell_types.specs.Journals.{journal_of}
+use Rattle.cell_rules.specs.declared.heard.LineFault.{LineFault}
 use Rattle.cell_rules.specs.ModelState.{ModelState}
 use Rattle.cell_rules.specs.PlaceSet.{empty}
 use Rattle.cell_rules.specs.Start.{start_state}
 use Rattle.cell_rules.specs.Sound.{IsSound}
 use Rattle.cell_rules.specs.History.{Holds, PressMoves}
 use Rattle.cell_control.specs.declared.fault.CtlFault.{CtlFault}
-use Rattle.cell_devices.specs.declared.motor.Motor.TheVariants.{Off}
+use Rattle.cell_control.specs.declared.fault.CtlFault.TheVariants as cause
+use Rattle.cell_devices.specs.declared.motor.Direction.TheVariants.{Minus as Downward}
+use Rattle.cell_devices.specs.declared.motor.Motor.{Motor}
+use Rattle.cell_devices.specs.declared.motor.Motor.TheVariants.{Off, Minus}
+use Rattle.cell_stations.specs.declared.press_step.PressStep.{PressStep}
+use Rattle.cell_stations.specs.declared.press_step.PressStep.TheVariants.{ClaimFirst, LeaveForMiddle, MoveToBottom}
 use Rattle.cell_notes.specs.declared.counts.Counts.{Counts}
 use Rattle.cell_notes.specs.declared.run_record.RunRecord.{RunRecord}
 use Rattle.cell_notes.specs.declared.status.Status.{Status}
 use Rattle.cell_notes.specs.declared.status.Status.TheVariants.{Fine, GateLimit}
+use Rattle.cell_notes.specs.declared.status.Status.TheVariants as status
 use Rattle.cell_notes.specs.Notes.{no_counts}
+use Rattle.cell_seat.specs.Sides.{side_of}
 use Rattle.cell_parts.specs.Axes.{CellScales}
+use Rattle.cell_plant.specs.CellStates.{SideOf}
 use Rattle.cell_plant.specs.Machines.{steps_of, rig_of}
 use Rattle.cell_plant.specs.Runs.{is_at_work}
 use Rattle.cell_workers.specs.Lines.{passes}
-use Rattle.cell_workers.specs.Workers.{GateOf, TakesTurn, AreCountsOf}
+use Rattle.cell_workers.specs.Workers.{GateOf, TakesTurn, HasWorked, AreCountsOf}
 use Rattle.cell_workers.specs.Records.{MomentOf, TellsWork}
 
 -- gates by a rule: which of its turns a machine may begin
@@ -78,6 +91,32 @@ pub record TellsFirstTurns (r : RunRecord) : Type 0 where
   pub calls : (m : Machine) → HasAtMost (first_call m) (journal_of r.journals m)
   pub crane : slice_get r.axes 6 ≡ Some (pos 0)
 
+-- the status of a worker, by what has stopped its machine
+abbrev pub MayFare : Option CtlFault → Status → Type 0
+MayFare None s = (s ≡ Fine) ⊎ (s ≡ GateLimit)
+MayFare (Some (cause.Sensor _)) s = s ≡ status.Sensor
+MayFare (Some (cause.Refused _)) s = s ≡ status.Refused
+MayFare (Some cause.Worn) s = s ≡ status.Worn
+MayFare (Some cause.Memory) s = s ≡ status.Memory
+MayFare (Some cause.Stopped) s = s ≡ status.Refused
+
+-- a journal of one call that was done, two that inquired, and three that were refused
+abbrev pub entry_with : Call → Answer → Entry
+entry_with call a = record { call = call; answer = a; stamp = 0 }
+
+abbrev pub shown : Answer
+shown = answer.Shown None false Closed
+
+abbrev pub refused : Answer
+refused = answer.Refused NotParty
+
+abbrev pub six_entries : Call → List Entry
+six_entries call = map (entry_with call) (answer.Done ∷ shown ∷ shown ∷ refused ∷ refused ∷ refused ∷ [])
+
+-- the press at this step without plates, at this position
+abbrev pub press_at : PressStep → ℕ → Motor → SideOf Press
+press_at step position motor = side_of (record { step = step; loaded = false; forged = false; direction = Downward }) None (record { position = pos position; motor = motor })
+
 -- What a record says. With no turns, and with a gate that lets no machine begin, it says exactly that nothing was done.
 -- Then: the turns of each working machine; and the first turns in a cell without plates.
 pub record RecordsTellTurns : Type 0 where
@@ -88,12 +127,33 @@ pub record RecordsTellTurns : Type 0 where
       → (m : Machine) → is_at_work m ≡ true → HadTurns limit (lets m) (did m) (fares m) (journal_of r.journals m)
   pub first : (c : CellScales) (tries : ℕ) (lets : Rule) (r : RunRecord) → TellsWork c (start_state empty 0) tries 1 (by_rule lets) r → TellsFirstTurns r
 
+-- A record's interlock may lose as many exchanges in a call as its passes may.
+abbrev pub RecordsKeepTries : (Machine → GateOf) → Type 0
+RecordsKeepTries gate = (c : CellScales) (opening : ModelState) (tries limit : ℕ) (r : RunRecord) → TellsWork c opening tries limit gate r → (k : TellsWork c opening tries limit gate r) × (k.interlock.tries ≡ tries)
+
+-- How a worker ends, by what has stopped its machine. And the counts of a journal, in numbers.
+pub record WorkersEnd : Type 0 where
+  pub fares : (c : CellScales) (tries limit : ℕ) (lets : Rule) (m : Machine) (first last : MomentOf m) (s : Status)
+      → HasWorked (passes tries) (steps_of c m) (rig_of c m) (by_rule lets m) limit first last s → MayFare last.side.stopped s
+  pub counted : (call : Call) (c : Counts) → AreCountsOf (six_entries call) c ↔ (c.done ≡ 1) × (c.read ≡ 2) × (c.refused ≡ 3)
+
 -- What a turn is. A stopped machine takes none, nor does a machine that its gate refuses. A Busy call has lost as many
--- exchanges as it may, and is counted as busy. A press whose motor is on holds its interior, which moves.
+-- exchanges as it may, and is counted as busy; the step waits. Without memory for an entry the machine stops, and the
+-- line is as it was. A press whose motor is on holds its interior, which moves. Two turns of a press are in numbers: it
+-- claims its interior; it falls for a tick.
 pub record TurnsAreTaken : Type 0 where
   pub stopped : (c : CellScales) (tries : ℕ) (lets : Rule) (m : Machine) (before now : MomentOf m) (fault : CtlFault) → before.side.stopped ≡ Some fault → ¬ TakesTurn (passes tries) (steps_of c m) (rig_of c m) (by_rule lets m) before now
   pub kept_out : (c : CellScales) (tries : ℕ) (lets : Rule) (m : Machine) (before now : MomentOf m) → lets m before.counts.turns ≡ false → ¬ TakesTurn (passes tries) (steps_of c m) (rig_of c m) (by_rule lets m) before now
   pub busy : (c : CellScales) (tries : ℕ) (lets : Rule) (m : Machine) (before now : MomentOf m) (turn : TakesTurn (passes tries) (steps_of c m) (rig_of c m) (by_rule lets m) before now) (call : Call) (lost stamp : ℕ)
       → turn.asked ≡ Some (call, Ok (Busy lost stamp)) → (lost ≡ tries) × (now.counts.busy ≡ before.counts.busy + 1)
+  pub waits : (c : CellScales) (tries : ℕ) (lets : Rule) (m : Machine) (before now : MomentOf m) (turn : TakesTurn (passes tries) (steps_of c m) (rig_of c m) (by_rule lets m) before now) (call : Call) (lost stamp : ℕ)
+      → turn.asked ≡ Some (call, Ok (Busy lost stamp)) → (now.side.progress ≡ before.side.progress) × (now.side.stopped ≡ None)
+  pub no_memory : (c : CellScales) (tries : ℕ) (lets : Rule) (m : Machine) (before now : MomentOf m) (turn : TakesTurn (passes tries) (steps_of c m) (rig_of c m) (by_rule lets m) before now) (call : Call) (why : LineFault)
+      → turn.asked ≡ Some (call, Err why) → (now.side.stopped ≡ Some cause.Memory) × (now.line ≡ before.line)
   pub press : (c : CellScales) (tries : ℕ) (lets : Rule) (before now : MomentOf Press) → TakesTurn (passes tries) (steps_of c Press) (rig_of c Press) (by_rule lets Press) before now
       → now.side.stopped ≡ None → now.side.part.motor ≢ Off → Holds now.line.opening now.line.seen Press Z3 × PressMoves now.line.opening now.line.seen
+  pub claims : (c : CellScales) (tries : ℕ) (lets : Rule) (before now : MomentOf Press) (turn : TakesTurn (passes tries) (steps_of c Press) (rig_of c Press) (by_rule lets Press) before now) (stamp : ℕ)
+      → before.side ≡ press_at ClaimFirst 1000 Off → turn.asked ≡ Some (Claim Z3, Ok (Settled answer.Done stamp)) → now.side ≡ press_at LeaveForMiddle 1000 Off
+  pub falls : (c : CellScales) (tries : ℕ) (lets : Rule) (before now : MomentOf Press) → TakesTurn (passes tries) (steps_of c Press) (rig_of c Press) (by_rule lets Press) before now
+      → before.side ≡ press_at MoveToBottom 1000 Off
+      → (now.side ≡ press_at MoveToBottom 980 Minus) × (now.line ≡ before.line) × (now.counts.turns ≡ before.counts.turns + 1) × (answers_in now.counts ≡ answers_in before.counts)

@@ -1,0 +1,140 @@
+-- A worker's turn, by what came back from its call; and a turn of a press that drives.
+use Rattle.std.proofs.Common.{◌≡◌, ℕ, pos, ◌≤ℤ◌, ◌+◌, false, ◌&&◌, ◌||◌, if◌then◌else◌, Option, Some, None, Result, Ok, Err, refl, sym, ap, subst, ◌∙◌, arith}
+use Rattle.std.proofs.lemmas.Bool.{false_from_ne_true}
+use Rattle.std.proofs.lemmas.Int.{ints}
+use Rattle.cell_types.specs.declared.machine.Machine.TheVariants.{Press}
+use Rattle.cell_types.specs.declared.call.Call.{Call}
+use Rattle.cell_types.specs.declared.reply.Reply.{Reply}
+use Rattle.cell_calib.specs.declared.sense.PressSense.{PressSense}
+use Rattle.cell_calib.specs.declared.sense.SensorFault.{SensorFault}
+use Rattle.cell_calib.specs.declared.sense.SensorFault.TheVariants.{Clash}
+use Rattle.cell_rules.specs.declared.heard.LineFault.{LineFault}
+use Rattle.cell_interlock.specs.Views.{PassView}
+use Rattle.cell_interlock.specs.Lines.{PassAsks}
+use Rattle.cell_control.specs.declared.fault.CtlFault.{CtlFault}
+use Rattle.cell_control.specs.Rigs.{Rig}
+use Rattle.cell_control.specs.Steps.{Steps, outcome}
+use Rattle.cell_control.specs.Turns.{Performed, PerformsCall, PerformsSensed, Turned, Turns, at_rest, turned}
+use Rattle.cell_control.proofs.TurnMaps.{turn_either}
+use Rattle.cell_control.proofs.TurnsByAnswers.{drive_own}
+use Rattle.cell_devices.specs.declared.act.PressAct.{PressAct}
+use Rattle.cell_devices.specs.declared.motor.Motor.TheVariants.{Off, Minus}
+use Rattle.cell_stations.specs.declared.press_step.PressStep.TheVariants.{MoveToBottom}
+use Rattle.cell_stations.specs.PressProgram.{press_steps, checked}
+use Rattle.cell_parts.specs.Rigs.{press_rig}
+use Rattle.cell_parts.specs.Shows.{PressShows}
+use Rattle.cell_notes.specs.declared.counts.Counts.{Counts}
+use Rattle.cell_notes.specs.Asks.{Asked}
+use Rattle.cell_notes.specs.Notes.{counts_with}
+use Rattle.cell_seat.specs.Sides.{Side, Acts, side_set, side_moved}
+use Rattle.cell_plant.specs.CellStates.{SideOf}
+use Rattle.cell_workers.specs.Lines.{passes}
+use Rattle.cell_workers.specs.Workers.{GateOf, Moment, TakesTurn}
+use Rattle.cell_workers.specs.Records.{MomentOf}
+use Rattle.cell_workers.specs.Laws.{press_at, answers_in}
+
+-- ---- by what came back
+
+abbrev answered : Result Reply LineFault → Asked → Result Reply LineFault
+answered r None = r
+answered r (Some call) = call.1
+
+module _ {S Sense Reading Act : Type 0} (t : Steps S Sense Reading Act) (same : Type 0) (asks : Call → Result Reply LineFault → Type 0) (asked : Asked) (call : Call) (r : Result Reply LineFault) (is : asked ≡ Some (call, r)) where
+  abbrev Same : Type 0
+  Same = same × (asked ≡ None)
+
+  abbrev Asks : Call → Result Reply LineFault → Type 0
+  Asks c a = asks c a × (asked ≡ Some (c, a))
+
+  abbrev led : S → Performed S Act
+  led p = at_rest (t.rest p) (outcome t p r)
+
+  answered_call : (o : Option Call) (p : S) (reading : Reading) (x : Performed S Act) → PerformsCall t o Same Asks p reading x → x ≡ led p
+  answered_call None p reading x h = let lie : None ≡ Some (call, r) = sym h.0.1 ∙ is in cc
+  answered_call (Some c) p reading x h = h.2 ∙ ap (λ a. at_rest (t.rest p) (outcome t p a)) (ap (answered r) (sym h.1.1 ∙ is))
+
+  answered_sensed : (sensed : Result Reading SensorFault) (p : S) (x : Performed S Act) → PerformsSensed t sensed Same Asks p x → x ≡ led p
+  answered_sensed (Err fault) p x h = let lie : None ≡ Some (call, r) = sym h.0.1 ∙ is in cc
+  answered_sensed (Ok reading) p x h = answered_call (t.call p) p reading x h
+
+  answered_turn : (p : S) (s : Sense) (w : Turned S Act) → Turns t Same Asks None p s w → w ≡ turned p (led p)
+  answered_turn p s w h = h.2 ∙ ap (turned p) (answered_sensed h.1.sensed p h.0 h.1.performs)
+
+unchanged : (tries : ℕ) (v w : PassView) (c : Call) (a : Result Reply LineFault) (fault : LineFault) → PassAsks tries v c a w → a ≡ Err fault → w ≡ v
+unchanged tries v w c (Ok reply) fault k e = cc
+unchanged tries v w c (Err f) fault k e = k
+
+module _ {S Sense Reading Act State : Type 0} (tries : ℕ) (t : Steps S Sense Reading Act) (rig : Rig State Sense Act) (gate : GateOf) (before now : Moment PassView S State) (turn : TakesTurn (passes tries) t rig gate before now) where
+  abbrev Stays : Type 0
+  Stays = now.line ≡ before.line
+
+  abbrev Calls : Call → Result Reply LineFault → Type 0
+  Calls c a = PassAsks tries before.line c a now.line
+
+  abbrev set : Side S State
+  set = turn.row.set
+
+  abbrev acts : Acts t rig Stays Calls before.side turn.asked set
+  acts = turn.row.acts
+
+  abbrev Row : Option CtlFault → S → Type 0
+  Row o p = Turns t (Stays × (turn.asked ≡ None)) (λ c a. Calls c a × (turn.asked ≡ Some (c, a))) o p acts.sense acts.turned
+
+  -- the row that it performs; the machine runs
+  row_of : Row None before.side.progress
+  row_of = subst (λ o. Row o before.side.progress) turn.runs acts.row
+
+  -- the machine's side after its turn
+  pub side_answered : (call : Call) (r : Result Reply LineFault) → turn.asked ≡ Some (call, r)
+      → now.side ≡ side_moved rig (side_set t rig before.side (Some (call, r)) (turned before.side.progress (at_rest (t.rest before.side.progress) (outcome t before.side.progress r))))
+  side_answered call r is =
+      let led = answered_turn t Stays Calls turn.asked call r is before.side.progress acts.sense acts.turned row_of in
+      turn.row.moved ∙ ap (side_moved rig) (acts.is ∙ (λ i. side_set t rig before.side (is i) (led i)))
+
+  pub line_unchanged : (call : Call) (fault : LineFault) → turn.asked ≡ Some (call, Err fault) → now.line ≡ before.line
+  line_unchanged call fault is =
+      turn_either t (Stays × (turn.asked ≡ None)) (λ c a. Calls c a × (turn.asked ≡ Some (c, a))) (now.line ≡ before.line)
+      (λ h. h.0) (λ c a h. unchanged tries before.line now.line c a fault h.0 (ap (answered (Err fault)) (sym h.1 ∙ is)))
+      None before.side.progress acts.sense acts.turned row_of
+
+-- ---- a press that drives
+
+abbrev falling : SideOf Press
+falling = press_at MoveToBottom 1000 Off
+
+module _ (s : PressSense) (shows : PressShows falling.part s) where
+  no_bottom : s.bottom ≡ false
+  no_bottom = false_from_ne_true s.bottom (λ on. let low : pos 1000 ≤ℤ pos 10 = shows.bottom.0 on in omega (arith, ints))
+
+  no_middle : s.middle ≡ false
+  no_middle = false_from_ne_true s.middle (λ on. let low : pos 1000 ≤ℤ pos 510 = (shows.middle.0 on).1 in omega (arith, ints))
+
+  fine : checked s ≡ Ok s
+  fine = λ i. if (no_bottom i && no_middle i) || (no_bottom i && s.top) || (no_middle i && s.top) then Err Clash else Ok s
+
+  drives_down : (act : PressAct) → press_steps.drives falling.progress s act → act ≡ record { press = Minus }
+  drives_down act is = is ∙ (λ i. record { press = if no_bottom i then Off else Minus })
+
+module _ (tries : ℕ) (gate : GateOf) (before now : MomentOf Press) (turn : TakesTurn (passes tries) press_steps press_rig gate before now) (e : before.side ≡ falling) where
+  abbrev turned_so : Acts press_steps press_rig (now.line ≡ before.line) (λ c a. PassAsks tries before.line c a now.line) before.side turn.asked (set tries press_steps press_rig gate before now turn)
+  turned_so = acts tries press_steps press_rig gate before now turn
+
+  shown : PressShows falling.part turned_so.sense
+  shown = subst (λ (s : SideOf Press). PressShows s.part turned_so.sense) e turned_so.shows
+
+  abbrev Left : Type 0
+  Left = (now.line ≡ before.line) × (turn.asked ≡ None)
+
+  driven : Left × (turned_so.turned ≡ turned falling.progress (Ok (falling.progress, record { press = Minus })))
+  driven =
+      drive_own press_steps falling.progress turned_so.sense Left (λ c a. PassAsks tries before.line c a now.line × (turn.asked ≡ Some (c, a))) turned_so.sense (record { press = Minus }) turned_so.turned refl
+      (λ other is. is ∙ fine turned_so.sense shown) (drives_down turned_so.sense shown)
+      (subst (λ (s : SideOf Press). Row tries press_steps press_rig gate before now turn None s.progress) e (row_of tries press_steps press_rig gate before now turn))
+
+  pub falls : (now.side ≡ press_at MoveToBottom 980 Minus) × (now.line ≡ before.line) × (now.counts.turns ≡ before.counts.turns + 1) × (answers_in now.counts ≡ answers_in before.counts)
+  falls = (
+    turn.row.moved ∙ ap (side_moved press_rig) (turned_so.is ∙ (λ i. side_set press_steps press_rig (e i) (driven.0.1 i) (driven.1 i))),
+    driven.0.0,
+    ap (λ (c : Counts). c.turns) turn.counted,
+    ap answers_in turn.counted ∙ ap (λ a. answers_in (counts_with before.counts a)) driven.0.1 ∙ omega arith,
+  )

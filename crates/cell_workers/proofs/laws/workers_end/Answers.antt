@@ -1,0 +1,5 @@
+use Rattle.cell_workers.proofs.Telling as telling
+use Rattle.cell_workers.proofs.laws.workers_end.Goals as goal
+
+pub returns : goal.returns
+returns c = telling.workers_end
