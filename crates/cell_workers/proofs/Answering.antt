@@ -39,6 +39,9 @@ abbrev answered : Result Reply LineFault → Asked → Result Reply LineFault
 answered r None = r
 answered r (Some call) = call.1
 
+nothing_is_asked : (call : Call × Result Reply LineFault) → ¬ (None ≡ Some call)
+nothing_is_asked call e = cc
+
 module _ {S Sense Reading Act : Type 0} (t : Steps S Sense Reading Act) (same : Type 0) (asks : Call → Result Reply LineFault → Type 0) (asked : Asked) (call : Call) (r : Result Reply LineFault) (is : asked ≡ Some (call, r)) where
   abbrev Same : Type 0
   Same = same × (asked ≡ None)
@@ -50,11 +53,11 @@ module _ {S Sense Reading Act : Type 0} (t : Steps S Sense Reading Act) (same : 
   led p = at_rest (t.rest p) (outcome t p r)
 
   answered_call : (o : Option Call) (p : S) (reading : Reading) (x : Performed S Act) → PerformsCall t o Same Asks p reading x → x ≡ led p
-  answered_call None p reading x h = let lie : None ≡ Some (call, r) = sym h.0.1 ∙ is in cc
+  answered_call None p reading x h = absurd (nothing_is_asked _ (sym h.0.1 ∙ is))
   answered_call (Some c) p reading x h = h.2 ∙ ap (λ a. at_rest (t.rest p) (outcome t p a)) (ap (answered r) (sym h.1.1 ∙ is))
 
   answered_sensed : (sensed : Result Reading SensorFault) (p : S) (x : Performed S Act) → PerformsSensed t sensed Same Asks p x → x ≡ led p
-  answered_sensed (Err fault) p x h = let lie : None ≡ Some (call, r) = sym h.0.1 ∙ is in cc
+  answered_sensed (Err fault) p x h = absurd (nothing_is_asked _ (sym h.0.1 ∙ is))
   answered_sensed (Ok reading) p x h = answered_call (t.call p) p reading x h
 
   answered_turn : (p : S) (s : Sense) (w : Turned S Act) → Turns t Same Asks None p s w → w ≡ turned p (led p)

@@ -1,6 +1,7 @@
 -- A worker's first turns. With no turns left, or a shut gate, there is none; the first turn is given by the call of its
 -- step.
-use Rattle.std.proofs.Common.{◌≡◌, ℕ, ◌+◌, ◌<◌, ◌≤◌, true, false, ◌⊎◌, inl, inr, List, [], ◌∷◌, ◌++◌, map, Option, Some, None, Result, Ok, Err, refl, sym, ap, subst, ◌∙◌, arith, below_more}
+use Rattle.std.proofs.Common.{◌≡◌, ℕ, ◌+◌, ◌*◌, ◌<◌, ◌≤◌, true, false, ◌⊎◌, inl, inr, List, [], ◌∷◌, ◌++◌, map, Option, Some, None, Result, Ok, Err, refl, sym, ap, subst, ◌∙◌, arith, below_more}
+use Rattle.std.proofs.Math.Nat.{add-mul}
 use Rattle.std.specs.Prelude.{⊤}
 use Rattle.cell_types.specs.declared.machine.Machine.{Machine}
 use Rattle.cell_types.specs.declared.call.Call.{Call}
@@ -33,7 +34,7 @@ use Rattle.cell_seat.specs.Fares.{status_of}
 use Rattle.cell_workers.specs.Lines.{passes}
 use Rattle.cell_workers.specs.Workers.{GateOf, Moment, TakesTurn, TakesTurns, HasCome, HasWorked, Ends, last_of}
 use Rattle.cell_workers.specs.Laws.{answers_in, HasAtMost, MayFare}
-use Rattle.cell_workers.proofs.Passes.{all_along}
+use Rattle.cell_workers.proofs.Passes.{by_turn, all_along}
 
 -- ---- how a worker ends
 
@@ -190,6 +191,25 @@ module _ {S Sense Reading Act State : Type 0} (tries : ℕ) (t : Steps S Sense R
       let more = grows now later k.1 in
       let ends = ap (λ (m : Moment PassView S State). m.counts.turns) e in
       absurd (omega (arith, one, more, ends, few))
+
+  -- a turn loses at most as many exchanges as a call may
+  lost_in_call : (v w : PassView) (c : Call) (r : Result Reply LineFault) → PassAsks tries v c r w → w.exchanges ≤ v.exchanges + tries
+  lost_in_call v w c (Ok reply) k = k.few_exchanges
+  lost_in_call v w c (Err fault) k = let same = ap (λ (x : PassView). x.exchanges) k in omega (arith, same)
+
+  lost_in_turn : (before now : Moment PassView S State) → Turn before now → now.line.exchanges ≤ before.line.exchanges + tries
+  lost_in_turn before now turn =
+      by_turn tries t rig gate (passes tries) before now (now.line.exchanges ≤ before.line.exchanges + tries) turn
+      (λ asked same nothing counted. let stays = ap (λ (x : PassView). x.exchanges) same in omega (arith, stays)) (λ asked c r asks is counted. lost_in_call before.line now.line c r asks)
+
+  few_after_turn : (before now : Moment PassView S State) → Turn before now → before.line.exchanges ≤ before.counts.turns * tries → now.line.exchanges ≤ now.counts.turns * tries
+  few_after_turn before now turn few =
+      let more = lost_in_turn before now turn in
+      let turns : now.counts.turns * tries ≡ before.counts.turns * tries + tries = ap (λ n. n * tries) (one_more_turn before now turn) ∙ add-mul before.counts.turns 1 tries ∙ omega arith in
+      omega (arith, few, more, turns)
+
+  pub few_along : (first now : Moment PassView S State) → HasCome (passes tries) t rig gate first now → first.line.exchanges ≡ 0 → now.line.exchanges ≤ now.counts.turns * tries
+  few_along first now k none = all_along tries t rig gate (λ m. m.line.exchanges ≤ m.counts.turns * tries) few_after_turn first now k (omega (arith, none))
 
   pub still : (first last : Moment PassView S State) → HasCome (passes tries) t rig gate first last → last.counts.turns ≤ first.counts.turns → last ≡ first
   still first last k few = still_by first last k.turns k.taken k.last few

@@ -38,7 +38,7 @@ by_pass m = moment m.line.pass m.side m.counts
 
 module _ {S Sense Reading Act State : Type 0} (tries : ℕ) (t : Steps S Sense Reading Act) (rig : Rig State Sense Act) (gate : GateOf) where
   -- a turn asks nothing, or makes one call
-  by_turn : {L : Type 0} → (lines : Lines L) (before now : Moment L S State) (P : Type 0) → TakesTurn lines t rig gate before now
+  pub by_turn : {L : Type 0} → (lines : Lines L) (before now : Moment L S State) (P : Type 0) → TakesTurn lines t rig gate before now
       → ((asked : Asked) → now.line ≡ before.line → asked ≡ None → now.counts ≡ counts_with before.counts asked → P)
       → ((asked : Asked) (c : Call) (r : Result Reply LineFault) → lines.asks before.line c r now.line → asked ≡ Some (c, r) → now.counts ≡ counts_with before.counts asked → P) → P
   by_turn lines before now P k f g =

@@ -57,7 +57,7 @@ use Rattle.cell_workers.specs.Records.{MomentOf, first_moment, parts_at_ends, Te
 use Rattle.cell_workers.specs.Laws.{Rule, by_rule, TellsNothingDone, HadTurns, HasAtMost, first_call, TellsFirstTurns, RecordsTellTurns, RecordsKeepTries, WorkersEnd, TurnsAreTaken}
 use Rattle.cell_workers.proofs.Passes.{come_same, come_counts}
 use Rattle.cell_workers.proofs.Answering.{side_answered, line_unchanged, falls}
-use Rattle.cell_workers.proofs.FirstSteps.{within, ends_fine, ends_kept_out, may_fare, fine_at_once, shut_at_once, ends_begun, answers_along, let_in_along, still, shut_still, once, stays, own_at_first, noted_at_most, busy_lost, busy_counted}
+use Rattle.cell_workers.proofs.FirstSteps.{within, ends_fine, ends_kept_out, may_fare, fine_at_once, shut_at_once, ends_begun, answers_along, let_in_along, few_along, still, shut_still, once, stays, own_at_first, noted_at_most, busy_lost, busy_counted}
 
 -- equal lists of the machines' values have equal values for each machine
 each_same : {A : Type 0} → (f g : Machine → A) → map f all_machines ≡ map g all_machines → (m : Machine) → f m ≡ g m
@@ -283,6 +283,11 @@ records_tell =
       );
       turns = λ c opening tries limit lets r did fares k counts status m e.
           had_turns c opening tries limit lets r k m (did m) (fares m) (each_same (λ n. (k.last n).counts) did (sym k.counts ∙ counts) m) (each_same k.fares fares (sym k.status ∙ status) m) e;
+      exchanges = λ c opening tries limit lets r k m e. few_along tries (steps_of c m) (rig_of c m) (by_rule lets m) (first_moment k.interlock m) (k.last m) (k.works m e).come refl;
+      once = λ c opening tries lets r k m e.
+          let w = k.works m e in
+          let few = within (by_rule lets m) 1 (k.last m).side.stopped (k.last m).counts.turns (k.fares m) w.ends in
+          once tries (steps_of c m) (rig_of c m) (by_rule lets m) (first_moment k.interlock m) (k.last m) w.come (omega (arith, few));
       first = first_turns;
     }
 

@@ -1,5 +1,5 @@
 -- What a record of six workers says, in numbers: the statements.
-use Rattle.std.specs.Prelude.{◌≡◌, ◌≢◌, ℕ, ◌+◌, ◌<◌, ◌≤◌, ◌↔◌, ◌⊎◌, pos, Bool, true, false, List, [], ◌∷◌, map, Option, Some, None, Ok, Err, ⊤, slice_get}
+use Rattle.std.specs.Prelude.{◌≡◌, ◌≢◌, ℕ, ◌+◌, ◌*◌, ◌<◌, ◌≤◌, ◌↔◌, ◌⊎◌, pos, Bool, true, false, List, [], ◌∷◌, map, Option, Some, None, Ok, Err, ⊤, slice_get}
 use Rattle.cell_types.specs.declared.machine.Machine.{Machine}
 use Rattle.cell_types.specs.declared.machine.Machine.TheVariants.{Feed, Table, Robot, Press, Deposit, Crane, Watch}
 use Rattle.cell_types.specs.declared.zone.Zone.TheVariants.{Z1, Z3, Z4, Z6}
@@ -39,7 +39,7 @@ use Rattle.cell_plant.specs.Machines.{steps_of, rig_of}
 use Rattle.cell_plant.specs.Runs.{is_at_work}
 use Rattle.cell_workers.specs.Lines.{passes}
 use Rattle.cell_workers.specs.Workers.{GateOf, TakesTurn, HasWorked, AreCountsOf}
-use Rattle.cell_workers.specs.Records.{MomentOf, TellsWork}
+use Rattle.cell_workers.specs.Records.{MomentOf, first_moment, TellsWork}
 
 -- gates by a rule: which of its turns a machine may begin
 abbrev pub Rule : Type 0
@@ -118,13 +118,18 @@ abbrev pub press_at : PressStep → ℕ → Motor → SideOf Press
 press_at step position motor = side_of (record { step = step; loaded = false; forged = false; direction = Downward }) None (record { position = pos position; motor = motor })
 
 -- What a record says. With no turns, and with a gate that lets no machine begin, it says exactly that nothing was done.
--- Then: the turns of each working machine; and the first turns in a cell without plates.
+-- Then: the turns of each working machine, in each of which it loses no more exchanges than a call may; a single turn
+-- is one by this cell's scales; and the first turns in a cell without plates.
 pub record RecordsTellTurns : Type 0 where
   pub no_turns : (c : CellScales) (opening : ModelState) (tries : ℕ) (lets : Rule) (r : RunRecord) → TellsWork c opening tries 0 (by_rule lets) r ↔ TellsNothingDone opening Fine r
   pub shut : (c : CellScales) (opening : ModelState) (tries : ℕ) (r : RunRecord) → TellsWork c opening tries 5 (by_rule (λ m turn. false)) r ↔ TellsNothingDone opening GateLimit r
   pub turns : (c : CellScales) (opening : ModelState) (tries limit : ℕ) (lets : Rule) (r : RunRecord) (did : Machine → Counts) (fares : Machine → Status)
       → TellsWork c opening tries limit (by_rule lets) r → r.counts ≡ map did all_machines → r.status ≡ map fares all_machines
       → (m : Machine) → is_at_work m ≡ true → HadTurns limit (lets m) (did m) (fares m) (journal_of r.journals m)
+  pub exchanges : (c : CellScales) (opening : ModelState) (tries limit : ℕ) (lets : Rule) (r : RunRecord) (k : TellsWork c opening tries limit (by_rule lets) r)
+      → (m : Machine) → is_at_work m ≡ true → (k.last m).line.exchanges ≤ (k.last m).counts.turns * tries
+  pub once : (c : CellScales) (opening : ModelState) (tries : ℕ) (lets : Rule) (r : RunRecord) (k : TellsWork c opening tries 1 (by_rule lets) r)
+      → (m : Machine) → is_at_work m ≡ true → (k.last m ≡ first_moment k.interlock m) ⊎ TakesTurn (passes tries) (steps_of c m) (rig_of c m) (by_rule lets m) (first_moment k.interlock m) (k.last m)
   pub first : (c : CellScales) (tries : ℕ) (lets : Rule) (r : RunRecord) → TellsWork c (start_state empty 0) tries 1 (by_rule lets) r → TellsFirstTurns r
 
 -- A record's interlock may lose as many exchanges in a call as its passes may.
