@@ -1,5 +1,5 @@
 //! Starts workers in threads, and joins them.
-ghost use Rattle.std.specs.Prelude.{◌≡◌, [], IfSome, Some, None, false};
+ghost use Rattle.std.specs.Prelude.{◌≡◌, [], IfSome, Some, None, true, false};
 ghost use Rattle.cell_workers.specs.Promises.{IsPromised};
 
 use crate::gate::Gate;
@@ -39,7 +39,7 @@ impl<W: Worker, G: Gate> Promise<Back<W::Part>> for Promised<W, G> {
 
 /// Starts a worker, unless an earlier one couldn't be started.
 ///
-/// Returns `None` if it isn't started; then `all_run` is false.
+/// Returns `None` if it isn't started; then `all_run` is false. Otherwise it stays true.
 pub(crate) fn start<'s, E, W: Worker + Send + 's, G: Gate + Sync>(
     scope: &Scope<'s, E>,
     orders: &Orders<'s, G>,
@@ -53,6 +53,7 @@ where
     requires fresh { pass.seen ≡ [] }
     requires ready { W.is_ready worker pass }
     ensures failed { result ≡ None → all_run.new ≡ false }
+    ensures goes_on { IfSome result (λ h. all_run.new ≡ true) }
     ensures none_after { all_run.old ≡ false → result ≡ None }
     ensures promised { IfSome result (λ h. IsPromised orders.now.interlock.now orders.now.gate.now orders.now.turns pass worker h.promise) }
 {
