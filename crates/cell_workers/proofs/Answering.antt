@@ -60,8 +60,9 @@ module _ {S Sense Reading Act : Type 0} (t : Steps S Sense Reading Act) (same : 
   answered_sensed (Err fault) p x h = absurd (nothing_is_asked _ (sym h.0.1 ∙ is))
   answered_sensed (Ok reading) p x h = answered_call (t.call p) p reading x h
 
-  answered_turn : (p : S) (s : Sense) (w : Turned S Act) → Turns t Same Asks None p s w → w ≡ turned p (led p)
-  answered_turn p s w h = h.2 ∙ ap (turned p) (answered_sensed h.1.sensed p h.0 h.1.performs)
+  answered_turn : (stopped : Option CtlFault) (p : S) (s : Sense) (w : Turned S Act) → Turns t Same Asks stopped p s w → w ≡ turned p (led p)
+  answered_turn (Some fault) p s w h = absurd (nothing_is_asked _ (sym h.0.1 ∙ is))
+  answered_turn None p s w h = h.2 ∙ ap (turned p) (answered_sensed h.1.sensed p h.0 h.1.performs)
 
 unchanged : (tries : ℕ) (v w : PassView) (c : Call) (a : Result Reply LineFault) (fault : LineFault) → PassAsks tries v c a w → a ≡ Err fault → w ≡ v
 unchanged tries v w c (Ok reply) fault k e = cc
@@ -83,22 +84,18 @@ module _ {S Sense Reading Act State : Type 0} (tries : ℕ) (t : Steps S Sense R
   abbrev Row : Option CtlFault → S → Type 0
   Row o p = Turns t (Stays × (turn.asked ≡ None)) (λ c a. Calls c a × (turn.asked ≡ Some (c, a))) o p acts.sense acts.turned
 
-  -- the row that it performs; the machine runs
-  row_of : Row None before.side.progress
-  row_of = subst (λ o. Row o before.side.progress) turn.runs acts.row
-
   -- the machine's side after its turn
   pub side_answered : (call : Call) (r : Result Reply LineFault) → turn.asked ≡ Some (call, r)
       → now.side ≡ side_moved rig (side_set t rig before.side (Some (call, r)) (turned before.side.progress (at_rest (t.rest before.side.progress) (outcome t before.side.progress r))))
   side_answered call r is =
-      let led = answered_turn t Stays Calls turn.asked call r is before.side.progress acts.sense acts.turned row_of in
+      let led = answered_turn t Stays Calls turn.asked call r is before.side.stopped before.side.progress acts.sense acts.turned acts.row in
       turn.row.moved ∙ ap (side_moved rig) (acts.is ∙ (λ i. side_set t rig before.side (is i) (led i)))
 
   pub line_unchanged : (call : Call) (fault : LineFault) → turn.asked ≡ Some (call, Err fault) → now.line ≡ before.line
   line_unchanged call fault is =
       turn_either t (Stays × (turn.asked ≡ None)) (λ c a. Calls c a × (turn.asked ≡ Some (c, a))) (now.line ≡ before.line)
       (λ h. h.0) (λ c a h. unchanged tries before.line now.line c a fault h.0 (ap (answered (Err fault)) (sym h.1 ∙ is)))
-      None before.side.progress acts.sense acts.turned row_of
+      before.side.stopped before.side.progress acts.sense acts.turned acts.row
 
 -- ---- a press that drives
 
@@ -132,7 +129,7 @@ module _ (tries : ℕ) (gate : GateOf) (before now : MomentOf Press) (turn : Tak
   driven =
       drive_own press_steps falling.progress turned_so.sense Left (λ c a. PassAsks tries before.line c a now.line × (turn.asked ≡ Some (c, a))) turned_so.sense (record { press = Minus }) turned_so.turned refl
       (λ other is. is ∙ fine turned_so.sense shown) (drives_down turned_so.sense shown)
-      (subst (λ (s : SideOf Press). Row tries press_steps press_rig gate before now turn None s.progress) e (row_of tries press_steps press_rig gate before now turn))
+      (subst (λ (s : SideOf Press). Row tries press_steps press_rig gate before now turn s.stopped s.progress) e turned_so.row)
 
   pub falls : (now.side ≡ press_at MoveToBottom 980 Minus) × (now.line ≡ before.line) × (now.counts.turns ≡ before.counts.turns + 1) × (answers_in now.counts ≡ answers_in before.counts)
   falls = (
