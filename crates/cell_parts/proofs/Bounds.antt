@@ -2,7 +2,8 @@
 use Rattle.cell_parts.specs.Bounds.{BoundsAreMet}
 use Rattle.cell_parts.proofs.CollisionBounds.{collisions, magnets, all_ends, each_collision}
 use Rattle.cell_parts.proofs.DemandBounds.{position_demands, motor_demands, driving, resting, each_demand}
-use Rattle.cell_parts.proofs.PartBounds.{setting, moving, sensors, raws, showing, notes, start}
+use Rattle.cell_parts.proofs.PartBounds.{setting, moving, sensors, showing, notes, start}
+use Rattle.cell_parts.proofs.Raws.{raws}
 
 pub bounds_are_met : BoundsAreMet
 bounds_are_met = record {

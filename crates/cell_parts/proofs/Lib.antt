@@ -7,3 +7,4 @@ mod Figures
 pub mod NoCollision
 mod PartBounds
 pub mod RawLemmas
+mod Raws
