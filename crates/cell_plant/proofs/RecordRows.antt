@@ -1,31 +1,45 @@
 -- The examples of records.
-use Rattle.std.proofs.Common.{◌≡◌, ◌≢◌, ℕ, ◌+◌, ℤ, pos, Bool, true, false, ◌&&◌, cond, List, [], ◌∷◌, length, get_or, map, Some, None, refl, sym, ap, ◌∙◌}
+use Rattle.std.proofs.Common.{◌≡◌, ◌≢◌, ℕ, ◌+◌, ℤ, pos, Bool, true, false, ◌&&◌, cond, List, [], ◌∷◌, length, get_or, map, Some, None, Result, Ok, Err, refl, sym, ap, ◌∙◌, arith}
 use Rattle.cell_types.specs.declared.machine.Machine.{Machine}
-use Rattle.cell_types.specs.declared.machine.Machine.TheVariants.{Feed, Watch}
+use Rattle.cell_types.specs.declared.machine.Machine.TheVariants.{Feed, Table, Robot, Press, Deposit, Crane, Watch}
+use Rattle.cell_types.specs.declared.call.Call.{Call}
 use Rattle.cell_types.specs.declared.answer.Answer.TheVariants.{Done, Refused}
 use Rattle.cell_types.specs.declared.answer.Refusal.TheVariants.{Shut}
 use Rattle.cell_types.specs.declared.posture.Posture.TheVariants.{Closed}
 use Rattle.cell_types.specs.declared.journal.Entry.{Entry}
 use Rattle.cell_types.specs.declared.journal.Journals.{Journals}
+use Rattle.cell_types.specs.declared.reply.Reply.{Reply}
 use Rattle.cell_types.specs.Everything.{all_machines}
 use Rattle.cell_types.specs.Same.{same_machine}
+use Rattle.cell_calib.specs.Line.{IsReading}
+use Rattle.cell_calib.specs.declared.sense.CraneSense.{CraneSense}
+use Rattle.cell_calib.specs.declared.sense.SensorFault.{SensorFault}
+use Rattle.cell_devices.specs.declared.act.CraneAct.{CraneAct}
+use Rattle.cell_rules.specs.declared.heard.LineFault.{LineFault}
 use Rattle.cell_rules.specs.ModelState.{ModelState}
 use Rattle.cell_rules.specs.History.{IsLegal, after}
 use Rattle.cell_rules.specs.Journal.{noted}
+use Rattle.cell_control.specs.declared.fault.CtlFault.TheVariants.{Sensor as BySensor}
+use Rattle.cell_control.specs.Turns.{Performed, PerformsSensed, Turned, turned}
+use Rattle.cell_haul.specs.declared.crane_step.CraneProgress.{CraneProgress}
+use Rattle.cell_haul.specs.declared.crane_step.CraneReading.{CraneReading}
+use Rattle.cell_haul.specs.CraneProgram.{Senses}
 use Rattle.cell_notes.specs.declared.counts.Counts.{Counts}
 use Rattle.cell_notes.specs.declared.run_record.RunRecord.{RunRecord}
 use Rattle.cell_notes.specs.declared.status.Status.{Status}
-use Rattle.cell_notes.specs.declared.status.Status.TheVariants.{Fine, Memory}
+use Rattle.cell_notes.specs.declared.status.Status.TheVariants.{Fine, Sensor, Memory}
 use Rattle.cell_notes.specs.declared.schedule.Turn.{Turn}
 use Rattle.cell_notes.specs.Notes.{no_counts}
+use Rattle.cell_seat.specs.Fares.{status_of}
 use Rattle.cell_parts.specs.Axes.{CellScales}
-use Rattle.cell_plant.specs.CellStates.{CellState, cell_at_start}
+use Rattle.cell_plant.specs.Machines.{steps_of}
+use Rattle.cell_plant.specs.CellStates.{SideOf, CellState, cell_at_start}
 use Rattle.cell_plant.specs.Cells.{TellsRun}
 use Rattle.cell_plant.specs.Records.{IsRecordOf, is_turn_of, counts_in, events_in}
-use Rattle.cell_plant.specs.Runs.{Step, IsRun, end_of}
+use Rattle.cell_plant.specs.Runs.{Step, TakesTurn, IsRun, end_of}
 use Rattle.cell_plant.specs.Safety.{IsSafeState, IsSafeRun}
 use Rattle.cell_plant.specs.RunExamples.{opening, at_first, schedule, steps, turn_of, passes}
-use Rattle.cell_plant.specs.RecordExamples.{IsOfLiteralRun, WrongRecords, IsOfLegalHistory, RecordExamples, IsRecord, IsOfNoTurn, AreJournals, counts_of, counts_by, journal_by, done_entry, refused_entry, with_feed_counts, with_watch_counted, open_too_early}
+use Rattle.cell_plant.specs.RecordExamples.{IsOfLiteralRun, IsOfApart, WrongRecords, IsOfLegalHistory, RecordExamples, IsRecord, IsOfNoTurn, IsUnread, AreJournals, counts_of, counts_by, journal_by, done_entry, refused_entry, steps_apart, last_apart, journals_apart, with_feed_counts, with_watch_counted, open_too_early}
 use Rattle.cell_plant.proofs.Deciding.{so, not_so, equals, same_number}
 use Rattle.cell_plant.proofs.RunRows.{run_examples}
 use Rattle.cell_plant.proofs.SafetyDecided.{is_safe, is_safe_run}
@@ -92,6 +106,21 @@ module _ (r : RunRecord) where
     axes = k.axes;
   }
 
+  apart_is : (m : Machine) → noted opening (events_in steps_apart) m ≡ journals_apart m
+  apart_is Feed = refl
+  apart_is Table = refl
+  apart_is Robot = refl
+  apart_is _ = refl
+
+  apart : IsRecordOf opening steps_apart last_apart r → IsOfApart r
+  apart k = record {
+    counts = k.counts;
+    status = k.status;
+    journals = λ m. k.journals m ∙ apart_is m;
+    end = k.end;
+    axes = k.axes;
+  }
+
   recorded : IsOfLiteralRun r → IsRecord r
   recorded f = record {
     start = f.start;
@@ -126,6 +155,40 @@ module _ (r : RunRecord) where
         run_by (turn_of Watch ∷ []) (passes Watch at_first ∷ []) (refl, (record { not_taken = refl; asked = refl; set = refl; moved = refl }, tt))
         (record { start = n.start; counts = n.counts; status = n.status; journals = n.journals; end = n.end; axes = n.axes })
         (so (is_safe_run at_first (passes Watch at_first ∷ [])) refl) tt refl
+
+    of_none_only : (ss : List Step) → IsRun c at_first [] ss → IsRecordOf opening ss (end_of at_first ss) r → IsOfNoTurn opening r
+    of_none_only [] run told = told
+    of_none_only (s ∷ ss) run told = absurd run
+
+    -- a crane whose potentiometer has no raw value stops by its sensors
+    abbrev Blind : Performed CraneProgress CraneAct → Type 0
+    Blind done = (f : SensorFault) × (done ≡ Err (BySensor f))
+
+    no_reading : (same : Type 0) (asks : Call → Result Reply LineFault → Type 0) (p : CraneProgress) (s : CraneSense) (sensed : Result CraneReading SensorFault) (done : Performed CraneProgress CraneAct)
+        → IsUnread c → Senses c.gripper (IsReading c.gripper) s sensed → PerformsSensed (steps_of c Crane) sensed same asks p done → Blind done
+    no_reading same asks p s (Ok reading) done unread senses performs = let no : ⊥ = omega (arith, unread, senses.at_least, senses.at_most) in absurd no
+    no_reading same asks p s (Err f) done unread senses performs = (f, performs.1)
+
+    stops_blind : (s : Step) → IsUnread c → TakesTurn c Crane false at_first s → (f : SensorFault) × ((s.moved.side Crane).stopped ≡ Some (BySensor f))
+    stops_blind s unread k =
+        let row = k.takes.row in
+        let blind = no_reading _ _ _ k.takes.sense row.1.sensed row.0 unread row.1.senses row.1.performs in
+        (blind.0,
+          ap (λ (x : SideOf Crane). x.stopped) k.moved
+          ∙ ap (λ (x : SideOf Crane). x.stopped) k.takes.is
+          ∙ ap (λ (x : Turned CraneProgress CraneAct). x.stopped) row.2
+          ∙ ap (λ (x : Performed CraneProgress CraneAct). (turned (at_first.side Crane).progress x).stopped) blind.1)
+
+    -- the other machines go on
+    goes_fine : (n : Machine) (s : Step) → same_machine Crane n ≡ false → TakesTurn c Crane false at_first s → (s.moved.side n).stopped ≡ (at_first.side n).stopped
+    goes_fine n s apart k = ap (λ (x : SideOf n). x.stopped) (k.others_moved n apart ∙ k.others_set n apart)
+
+    blind : (ss : List Step) → IsUnread c → IsRun c at_first (turn_of Crane ∷ []) ss → map (λ m. status_of ((end_of at_first ss).side m).stopped) all_machines ≡ Fine ∷ Fine ∷ Fine ∷ Fine ∷ Fine ∷ Sensor ∷ Fine ∷ []
+    blind [] unread run = absurd run
+    blind (s ∷ x ∷ ss) unread run = absurd run.1.1
+    blind (s ∷ []) unread run =
+        let k = run.1.0 in
+        rw (goes_fine Feed s refl k, goes_fine Table s refl k, goes_fine Robot s refl k, goes_fine Press s refl k, goes_fine Deposit s refl k, (stops_blind s unread k).1, goes_fine Watch s refl k) refl
 
     lawful : (s : ModelState) (turns : List Turn) → TellsRun c s turns r → IsOfLegalHistory s r
     lawful s turns t = record {
@@ -168,10 +231,13 @@ record_examples c r = record {
   axes = refl;
   figures = figures r;
   recorded = recorded r;
+  apart = apart r;
   wrong = wrong_records r;
   of_run = of_run r c;
   of_no_turn = of_no_turn r c;
   of_the_watch = of_the_watch r c;
+  only_no_turn = λ t. of_none_only r c t.steps t.run t.told;
+  unread = λ unread t. t.told.status ∙ blind r c t.steps unread t.run;
   lawful = lawful r c;
   made_up = λ k t. two_turns_of_none r c t.steps t.run (sym k.counts ∙ t.told.counts);
   left_out = λ k t. no_turn_of_one r c t.steps t.run (sym k.counts ∙ t.told.counts);

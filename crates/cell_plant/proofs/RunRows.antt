@@ -33,7 +33,7 @@ use Rattle.cell_parts.specs.Shows.{FeedShows, PressShows}
 use Rattle.cell_plant.specs.Machines.{steps_of, rig_of}
 use Rattle.cell_plant.specs.CellStates.{CellState, Sides, side_in}
 use Rattle.cell_plant.specs.Runs.{Step, TakesTurn, IsPassedOver}
-use Rattle.cell_plant.specs.RunExamples.{TurnExamples, PassExamples, ScheduleExamples, RunExamples, opening, at_first, at_entered, at_last, claims_entry, finds_busy, is_refused, finds_no_room, passes, press_falls, falls_to}
+use Rattle.cell_plant.specs.RunExamples.{TurnExamples, PassExamples, ScheduleExamples, RunExamples, opening, at_first, at_entered, at_last, claims_entry, finds_busy, is_refused, finds_no_room, passes, press_falls, falls, falls_to, belt_waits, waits}
 use Rattle.cell_plant.proofs.Deciding.{so, not_so, equals, both, same_truth, at_most, is_true, true_false, false_true}
 
 -- ---- turns that are taken
@@ -77,6 +77,17 @@ shows_top = record {
   top = so (same_truth (is_true _) (at_most _ _)) refl;
 }
 
+-- further down they show nothing
+abbrev below_top : PressSense
+below_top = record { bottom = false; middle = false; top = false }
+
+shows_below : PressShows (driven_at 980 Minus) below_top
+shows_below = record {
+  bottom = so (same_truth (is_true _) (at_most _ _)) refl;
+  middle = so (same_truth (is_true _) (both (at_most _ _) (at_most _ _))) refl;
+  top = so (same_truth (is_true _) (at_most _ _)) refl;
+}
+
 -- sides that differ in one machine's only
 feed_apart : (a : Sides) (x : Side FeedProgress Belt) (n : Machine) → same_machine Feed n ≡ false → side_in (record a { feed = x }) n ≡ side_in a n
 feed_apart a x Feed e = absurd (true_false e)
@@ -114,9 +125,6 @@ press_runs e = cc
 feed_press : Feed ≢ Press
 feed_press e = cc
 
-table_press : Table ≢ Press
-table_press e = cc
-
 module _ (c : CellScales) where
   abbrev TakesBy : (m : Machine) → Bool → CellState → Step → Type 0
   TakesBy m busy w s = Takes (steps_of c m) (rig_of c m) busy w.interlock (w.side m) s.asked s.set.interlock (s.set.side m)
@@ -148,6 +156,9 @@ module _ (c : CellScales) where
   turn_no_room : TakesTurn c Press false at_entered finds_no_room
   turn_no_room = turn_by Press _ _ _ refl (takes_call (steps_of c Press) (rig_of c Press) _ _ _ _ _ _ _ _ _ _ shows_top refl refl (refl, refl) refl) (press_apart _ _) refl (λ n e. refl) refl
 
+  turn_meanwhile : TakesTurn c Feed false (belt_waits (driven_at 980 Minus)) waits
+  turn_meanwhile = turn_by Feed _ _ _ refl (takes_call (steps_of c Feed) (rig_of c Feed) _ _ _ _ _ _ _ _ _ _ shows_plate refl refl (refl, refl, refl, refl) refl) (λ n e. refl) refl (λ n e. refl) refl
+
   drives_down : TakesBy Press false (press_falls (at 1000)) (falls_to (driven_at 980 Minus))
   drives_down = record {
     sense = at_top;
@@ -156,6 +167,21 @@ module _ (c : CellScales) where
     row = (Ok (_, record { press = Minus }), record { sensed = Ok at_top; senses = refl; performs = ((refl, refl), (record { press = Minus }, refl, refl)) }, refl);
     is = refl;
   }
+
+  drives_further : TakesBy Press false (press_falls (driven_at 980 Minus)) (falls (driven_at 980 Minus) (driven_at 960 Minus))
+  drives_further = record {
+    sense = below_top;
+    shows = shows_below;
+    turned = _;
+    row = (Ok (_, record { press = Minus }), record { sensed = Ok below_top; senses = refl; performs = ((refl, refl), (record { press = Minus }, refl, refl)) }, refl);
+    is = refl;
+  }
+
+  turn_down : TakesTurn c Press false (press_falls (at 1000)) (falls_to (driven_at 980 Minus))
+  turn_down = turn_by Press _ _ _ refl drives_down (press_apart _ _) refl (press_apart _ _) refl
+
+  turn_further : TakesTurn c Press false (press_falls (driven_at 980 Minus)) (falls (driven_at 980 Minus) (driven_at 960 Minus))
+  turn_further = turn_by Press _ _ _ refl drives_further (λ n e. refl) refl (press_apart _ _) refl
 
   -- ---- turns that aren't
 
@@ -180,7 +206,8 @@ module _ (c : CellScales) where
     busy = turn_busy;
     refused = turn_refused;
     no_room = turn_no_room;
-    drives = turn_by Press _ _ _ refl drives_down (press_apart _ _) refl (press_apart _ _) refl;
+    drives = turn_down;
+    meanwhile = turn_meanwhile;
     not_taken = λ k. false_true k.taken;
     asks_nothing = λ k. stamps_apart _ _ one_zero (answered Feed false at_first _ k);
     answered_otherwise = λ k. let e : Refused (Shut Closed) ≡ Done = (answered Feed false at_first _ k).1 in cc;
@@ -191,6 +218,7 @@ module _ (c : CellScales) where
     changes_nothing = λ k. stamps_apart _ _ zero_one (answered Feed false at_first _ k).3;
     another_is_set = λ k. not_so (equals _ _) refl (ap (λ (x : Side TableProgress TablePlant). x.part.lift.position) (k.others_set Table refl));
     another_moves = λ k. not_so (equals _ _) refl (ap (λ (x : Side TableProgress TablePlant). x.part.lift.position) (k.others_moved Table refl));
+    another_goes_on = λ k. not_so (equals _ _) refl (ap (λ (x : Side PressProgress Axis). x.part.position) (k.others_moved Press refl));
     moves_unset = λ k. true_false (ap (λ (x : Side FeedProgress Belt). x.part.runs) k.moved);
     stays_though_set = λ k. not_so (equals _ _) refl (ap (λ (x : Side PressProgress Axis). x.part.position) k.moved);
     moves_too_far = λ k. not_so (equals _ _) refl (ap (λ (x : Side PressProgress Axis). x.part.position) k.moved);
@@ -214,16 +242,21 @@ module _ (c : CellScales) where
     starts = λ s. refl;
     run = (refl, (turn_done, (refl, (turn_busy, (refl, (turn_refused, (refl, (turn_no_room, (refl, (passed Press, (refl, (passed Watch, tt))))))))))));
     ends = refl;
+    all_go_on = refl;
+    others_go_on = refl;
     no_turn = tt;
     two_turns = (refl, (turn_busy, (refl, (turn_no_room, tt))));
+    two_ticks = (refl, (turn_down, (refl, (turn_further, tt))));
     turns_swapped = λ r. turn_examples.busy_unasked r.1.0;
     steps_swapped = λ r. stamps_apart _ _ one_zero (answered Feed false at_first _ r.1.0).3;
     turn_left_out = λ r. feed_press r.1.1.0;
     last_left_out = λ r. r.1.1;
     step_too_many = λ r. r.1.1;
     all_left_out = λ r. r;
-    of_another = λ r. table_press r.0;
+    of_another = λ m apart r. apart r.0;
+    passed_by_another = λ m apart r. apart r.0;
     from_elsewhere = λ r. zero_one (answered Press true at_entered _ r.1.1.1.0).2;
+    stopped_asks = λ r. true_false r.1.0.not_taken;
     stopped_goes_on = λ r. true_false r.1.0.not_taken;
     watch_goes_on = λ r. true_false r.1.0.not_taken;
     passed_over = λ r. false_true r.1.0.taken;

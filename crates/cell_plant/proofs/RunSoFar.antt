@@ -139,13 +139,25 @@ none_asked : (b : Bool) (c : CellScales) (m : Machine) (busy : Bool) (w : CellSt
 none_asked true c m busy w s k e = let f : true ≡ false = sym k.taken ∙ e in cc
 none_asked false c m busy w s k e = ap entries_in k.asked
 
+-- the events of a run are a legal history, which leads to its end
+pub run-lawful : (c : CellScales) (w : CellState) (ts : List Turn) (ss : List Step) → IsRun c w ts ss → IsLegal w.interlock (events_in ss) × ((end_of w ss).interlock ≡ after w.interlock (events_in ss))
+run-lawful c w [] [] r = (tt, refl)
+run-lawful c w (t ∷ ts) (s ∷ ss) r =
+    let own = settled_in s.machine s.asked in
+    let k = subst (λ m. IsAnswered w.interlock m s.asked s.moved.interlock) (sym r.0) (answered_if (goes_on w t.machine) c t.machine t.busy w s r.1.0) in
+    let more = run-lawful c s.moved ts ss r.1.1 in (
+      legal-append w.interlock own (events_in ss) k.legal (subst (λ z. IsLegal z (events_in ss)) k.reached more.0),
+      more.1 ∙ ap (λ z. after z (events_in ss)) k.reached ∙ sym (after-append w.interlock own (events_in ss)),
+    )
+run-lawful c w [] (s ∷ ss) r = absurd r
+run-lawful c w (t ∷ ts) [] r = absurd r
+
 -- the run of the turns so far, and what was noted of it
 pub record RunSoFar (turns : List Turn) (m : Moment) : Type 0 where
   pub steps : List Step
   pub run : IsRun m.scales (cell_at_start m.opening) turns steps
   pub is_end : state_at m ≡ end_of (cell_at_start m.opening) steps
   pub history : m.history ≡ events_in steps
-  pub legal : IsLegal m.opening m.history
   pub reached : m.interlock ≡ after m.opening m.history
   pub counts : (n : Machine) → (notes_in m.notes n).counts ≡ counts_in steps n
   pub journals : (n : Machine) → (notes_in m.notes n).journal ≡ noted m.opening m.history n
@@ -160,7 +172,7 @@ no_notes_yet c opening Crane = refl
 no_notes_yet c opening Watch = refl
 
 pub at_start : (c : CellScales) (opening : ModelState) → RunSoFar [] (first_moment c opening)
-at_start c opening = record { steps = []; run = tt; is_end = refl; history = refl; legal = tt; reached = refl; counts = λ n. ap (λ (x : Notes). x.counts) (no_notes_yet c opening n); journals = λ n. ap (λ (x : Notes). x.journal) (no_notes_yet c opening n) }
+at_start c opening = record { steps = []; run = tt; is_end = refl; history = refl; reached = refl; counts = λ n. ap (λ (x : Notes). x.counts) (no_notes_yet c opening n); journals = λ n. ap (λ (x : Notes). x.journal) (no_notes_yet c opening n) }
 
 journal_more : (b : Bool) (n : Notes) (asked : Asked) → (if b then notes_with n asked else n).journal ≡ n.journal ++ (if b then entries_in asked else [])
 journal_more true n asked = refl
@@ -210,7 +222,6 @@ module _ (turns : List Turn) (t : Turn) (before now : Moment) (g : RunSoFar turn
         run = run-push before.scales start turns g.steps t s g.run o.machine (subst (λ w. Leads before.scales t.machine t.busy w s) g.is_end o.leads);
         is_end = o.state ∙ sym (end-push start g.steps s);
         history = o.history ∙ ap (λ x. x ++ settled_in t.machine s.asked) g.history ∙ ap (λ m. events_in g.steps ++ settled_in m s.asked) (sym o.machine) ∙ sym (events-push g.steps s);
-        legal = subst (IsLegal before.opening) (sym o.history) (legal-append before.opening before.history (settled_in t.machine s.asked) g.legal (subst (λ x. IsLegal x (settled_in t.machine s.asked)) g.reached answered.legal));
         reached =
             ap (λ w. w.interlock) o.state
             ∙ answered.reached
@@ -250,6 +261,7 @@ by_machine f g e = rw (e Feed, e Table, e Robot, e Press, e Deposit, e Crane, e 
 
 pub tells : (turns : List Turn) (m : Moment) (r : RunRecord) → AreCellScales m.scales → IsStartState m.opening → RunSoFar turns m → Keeps m m.opening r → TellsRun m.scales m.opening turns r
 tells turns m r scales start g k =
+    let lawful = run-lawful m.scales (cell_at_start m.opening) turns g.steps g.run in
     record {
       steps = g.steps;
       run = g.run;
@@ -262,8 +274,8 @@ tells turns m r scales start g k =
         axes = k.axes ∙ ap (λ (w : CellState). positions_in (plant_of w)) g.is_end;
       };
       safe = every_run m.scales m.opening turns g.steps scales start g.run;
-      legal = subst (IsLegal m.opening) g.history g.legal;
-      reached = ap (λ (w : CellState). w.interlock) (sym g.is_end) ∙ g.reached ∙ ap (after m.opening) g.history;
+      legal = lawful.0;
+      reached = lawful.1;
     }
 
 pub tells_all : (c : CellScales) (opening : ModelState) (turns all : List Turn) (m : Moment) (r : RunRecord) → turns ≡ all → m.scales ≡ c → m.opening ≡ opening → AreCellScales c → IsStartState opening → RunSoFar turns m → Keeps m opening r

@@ -1,6 +1,6 @@
 -- The examples of safe and unsafe states, steps and runs: each is decided by computing.
 use Rattle.std.proofs.Common.{[], ◌∷◌, refl}
-use Rattle.cell_plant.specs.SafetyExamples.{SafeStates, CollidingStates, StatesAtEnds, PositionsUnmet, MotorsUnmet, StepExamples, SafeRuns, SafetyExamples, quiet, danger, through}
+use Rattle.cell_plant.specs.SafetyExamples.{SafeStates, CollidingStates, StatesAtEnds, PositionsUnmet, MotorsUnmet, StepExamples, SafeRuns, SafetyExamples, quiet, danger, loaded, through, drops}
 use Rattle.cell_plant.proofs.Deciding.{so, not_so}
 use Rattle.cell_plant.proofs.SafetyDecided.{is_safe, only_collides, only_position_unmet, only_motor_unmet, stands_within, is_safely_set, only_set_is_unsafe, only_step_is_unsafe, is_safe_run}
 
@@ -98,6 +98,8 @@ safe_runs = record {
   first_moved = not_so (is_safe_run quiet (through quiet danger ∷ through quiet quiet ∷ [])) refl;
   last_set = not_so (is_safe_run quiet (through quiet quiet ∷ through danger quiet ∷ [])) refl;
   last = not_so (is_safe_run quiet (through quiet quiet ∷ through quiet danger ∷ [])) refl;
+  plate_dropped = not_so (is_safe_run loaded (drops ∷ [])) refl;
+  plate_dropped_last = not_so (is_safe_run quiet (through quiet loaded ∷ drops ∷ [])) refl;
 }
 
 pub safety_examples : SafetyExamples

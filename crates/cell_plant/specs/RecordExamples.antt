@@ -1,32 +1,42 @@
 -- The record of a literal run, and records that are of no run.
-use Rattle.std.specs.Prelude.{◌≡◌, ℕ, ℤ, pos, List, [], ◌∷◌, Some, None}
+use Rattle.std.specs.Prelude.{◌≡◌, ℕ, ◌<◌, ℤ, pos, true, false, List, [], ◌∷◌, Some, None, Ok, Err}
 use Rattle.cell_types.specs.declared.machine.Machine.{Machine}
-use Rattle.cell_types.specs.declared.machine.Machine.TheVariants.{Feed, Press, Watch}
-use Rattle.cell_types.specs.declared.zone.Zone.TheVariants.{Z1, Z3, Z6}
+use Rattle.cell_types.specs.declared.machine.Machine.TheVariants.{Feed, Table, Robot, Press, Deposit, Crane, Watch}
+use Rattle.cell_types.specs.declared.zone.Zone.TheVariants.{Z1, Z2, Z3, Z4, Z6}
 use Rattle.cell_types.specs.declared.posture.Posture.TheVariants.{Closed, OpenIn}
-use Rattle.cell_types.specs.declared.call.Call.TheVariants.{Claim}
-use Rattle.cell_types.specs.declared.answer.Answer.TheVariants.{Done, Refused}
-use Rattle.cell_types.specs.declared.answer.Refusal.TheVariants.{Shut}
+use Rattle.cell_types.specs.declared.call.Call.TheVariants.{Claim, Inquire}
+use Rattle.cell_types.specs.declared.answer.Answer.TheVariants.{Done, Refused, Shown}
+use Rattle.cell_types.specs.declared.answer.Refusal.TheVariants.{Shut, Jump}
 use Rattle.cell_types.specs.declared.answer.Event.{Event}
 use Rattle.cell_types.specs.declared.journal.Entry.{Entry}
 use Rattle.cell_types.specs.declared.journal.Journals.{Journals}
+use Rattle.cell_types.specs.declared.reply.Reply.TheVariants.{Settled, Busy}
 use Rattle.cell_types.specs.Journals.{journal_of}
+use Rattle.cell_calib.specs.declared.sense.SensorFault.TheVariants.{Low}
+use Rattle.cell_rules.specs.declared.heard.LineFault.TheVariants.{Memory as NoRoom}
 use Rattle.cell_rules.specs.ModelState.{ModelState}
 use Rattle.cell_rules.specs.History.{IsLegal, after}
 use Rattle.cell_rules.specs.Journal.{noted}
+use Rattle.cell_control.specs.declared.fault.CtlFault.TheVariants as fault
+use Rattle.cell_haul.specs.CraneProgram.{crane_start}
+use Rattle.cell_robot.specs.RobotProgram.{robot_start}
+use Rattle.cell_stations.specs.PressProgram.{press_start}
+use Rattle.cell_stations.specs.TableProgram.{table_start}
 use Rattle.cell_notes.specs.declared.counts.Counts.{Counts}
 use Rattle.cell_notes.specs.declared.run_record.RunRecord.{RunRecord}
 use Rattle.cell_notes.specs.declared.schedule.Turn.{Turn}
 use Rattle.cell_notes.specs.declared.status.Status.{Status}
-use Rattle.cell_notes.specs.declared.status.Status.TheVariants.{Fine, Memory}
+use Rattle.cell_notes.specs.declared.status.Status.TheVariants.{Fine, Worn, Sensor, Refused as WasRefused, Memory}
 use Rattle.cell_notes.specs.Notes.{no_counts}
+use Rattle.cell_seat.specs.Sides.{side_of}
 use Rattle.cell_parts.specs.Axes.{CellScales}
 use Rattle.cell_parts.specs.Plant.{PlantState}
 use Rattle.cell_parts.specs.Examples.{empty_cell, at, robot_at, table_at, crane_at, held_by}
-use Rattle.cell_plant.specs.CellStates.{cell_at_start}
+use Rattle.cell_plant.specs.CellStates.{CellState, Sides, sides_at_start, cell_at_start}
 use Rattle.cell_plant.specs.Cells.{TellsRun}
 use Rattle.cell_plant.specs.Records.{IsRecordOf, positions_in}
-use Rattle.cell_plant.specs.RunExamples.{opening, entered, at_last, schedule, steps, turn_of}
+use Rattle.cell_plant.specs.Runs.{Step}
+use Rattle.cell_plant.specs.RunExamples.{opening, entered, at_first, at_last, cell_of, asks, passes, schedule, steps, turn_of}
 
 -- ---- the record of the literal run
 
@@ -68,6 +78,45 @@ pub record IsOfLiteralRun (r : RunRecord) : Type 0 where
   pub journals : AreJournals r.journals (done_entry ∷ refused_entry ∷ [])
   pub end : r.end ≡ Some entered
   pub axes : r.axes ≡ axes_by 1000 300 900
+
+-- ---- the record of steps and of a last state in which the machines differ; they aren't of a run
+
+abbrev pub steps_apart : List Step
+steps_apart =
+    asks Feed (Claim Z6) (Ok (Settled Done 1)) at_first
+    ∷ asks Table (Inquire Z2) (Ok (Settled (Shown None false Closed) 1)) at_first
+    ∷ asks Robot (Claim Z2) (Ok (Settled (Refused (Shut Closed)) 1)) at_first
+    ∷ asks Press (Claim Z3) (Ok (Busy 1 1)) at_first
+    ∷ asks Deposit (Claim Z4) (Err NoRoom) at_first
+    ∷ record (passes Crane at_first) { taken = true }
+    ∷ record (passes Crane at_first) { taken = true }
+    ∷ passes Watch at_first
+    ∷ []
+
+abbrev pub sides_apart : Sides
+sides_apart =
+    record (sides_at_start opening) {
+      table = side_of (table_start opening) (Some fault.Worn) axes_apart.table;
+      robot = side_of (robot_start opening) (Some (fault.Sensor Low)) axes_apart.robot;
+      press = side_of (press_start opening) (Some (fault.Refused Jump)) axes_apart.press;
+      crane = side_of (crane_start opening) (Some fault.Memory) axes_apart.crane;
+    }
+
+abbrev pub last_apart : CellState
+last_apart = cell_of entered sides_apart
+
+abbrev pub journals_apart : Machine → List Entry
+journals_apart Feed = done_entry ∷ []
+journals_apart Table = record { call = Inquire Z2; answer = Shown None false Closed; stamp = 1 } ∷ []
+journals_apart Robot = record { call = Claim Z2; answer = Refused (Shut Closed); stamp = 1 } ∷ []
+journals_apart _ = []
+
+pub record IsOfApart (r : RunRecord) : Type 0 where
+  pub counts : r.counts ≡ counts_of 1 1 0 0 0 ∷ counts_of 1 0 1 0 0 ∷ counts_of 1 0 0 1 0 ∷ counts_of 1 0 0 0 1 ∷ counts_of 1 0 0 0 0 ∷ counts_of 2 0 0 0 0 ∷ no_counts ∷ []
+  pub status : r.status ≡ Fine ∷ Worn ∷ Sensor ∷ WasRefused ∷ Fine ∷ Memory ∷ Fine ∷ []
+  pub journals : (m : Machine) → journal_of r.journals m ≡ journals_apart m
+  pub end : r.end ≡ Some entered
+  pub axes : r.axes ≡ pos 1 ∷ pos 2 ∷ pos 3 ∷ pos 4 ∷ pos 5 ∷ pos 6 ∷ pos 7 ∷ pos 8 ∷ []
 
 -- ---- records that are wrong in one thing
 
@@ -113,6 +162,13 @@ pub record IsOfLegalHistory (opening : ModelState) (r : RunRecord) : Type 0 wher
   pub journals : (m : Machine) → journal_of r.journals m ≡ noted opening seen m
   pub end : r.end ≡ Some (after opening seen)
 
+-- the crane's potentiometer has no raw value; the crane has stopped by its sensors
+abbrev pub IsUnread : CellScales → Type 0
+IsUnread c = c.gripper.raw_hi < c.gripper.raw_lo
+
+abbrev pub HasBlindCrane : RunRecord → Type 0
+HasBlindCrane r = r.status ≡ Fine ∷ Fine ∷ Fine ∷ Fine ∷ Fine ∷ Sensor ∷ Fine ∷ []
+
 -- the record with a turn of the watch counted
 abbrev pub with_watch_counted : RunRecord → RunRecord
 with_watch_counted r = record r { counts = no_counts ∷ no_counts ∷ no_counts ∷ no_counts ∷ no_counts ∷ no_counts ∷ counts_of 1 0 0 0 0 ∷ [] }
@@ -121,10 +177,13 @@ pub record RecordExamples (c : CellScales) (r : RunRecord) : Type 0 where
   pub axes : positions_in axes_apart ≡ pos 1 ∷ pos 2 ∷ pos 3 ∷ pos 4 ∷ pos 5 ∷ pos 6 ∷ pos 7 ∷ pos 8 ∷ []
   pub figures : IsRecord r → IsOfLiteralRun r
   pub recorded : IsOfLiteralRun r → IsRecord r
+  pub apart : IsRecordOf opening steps_apart last_apart r → IsOfApart r
   pub wrong : WrongRecords r
   pub of_run : IsOfLiteralRun r → TellsRun c opening schedule r
   pub of_no_turn : IsOfNoTurn opening r → TellsRun c opening [] r
   pub of_the_watch : IsOfNoTurn opening r → TellsRun c opening (turn_of Watch ∷ []) r
+  pub only_no_turn : TellsRun c opening [] r → IsOfNoTurn opening r
+  pub unread : IsUnread c → TellsRun c opening (turn_of Crane ∷ []) r → HasBlindCrane r
   pub lawful : (s : ModelState) (turns : List Turn) → TellsRun c s turns r → IsOfLegalHistory s r
   -- turns were made up; one was left out; one of the watch is counted; the run begins unsafely
   pub made_up : IsOfLiteralRun r → ¬ TellsRun c opening [] r

@@ -1,7 +1,7 @@
 -- A literal run and its turns, and examples that are wrong in one thing.
-use Rattle.std.specs.Prelude.{◌≡◌, true, false, List, [], ◌∷◌, Some, None, Result, Ok, Err}
+use Rattle.std.specs.Prelude.{◌≡◌, ◌≢◌, true, false, List, [], ◌∷◌, map, Some, None, Result, Ok, Err}
 use Rattle.cell_types.specs.declared.machine.Machine.{Machine}
-use Rattle.cell_types.specs.declared.machine.Machine.TheVariants.{Feed, Table, Press, Watch}
+use Rattle.cell_types.specs.declared.machine.Machine.TheVariants.{Feed, Press, Watch}
 use Rattle.cell_types.specs.declared.zone.Zone.TheVariants.{Z1, Z3, Z6}
 use Rattle.cell_types.specs.declared.place.Place.TheVariants.{FeedEnd}
 use Rattle.cell_types.specs.declared.posture.Posture.TheVariants.{Closed, Moving}
@@ -11,6 +11,7 @@ use Rattle.cell_types.specs.declared.answer.Answer.TheVariants.{Done, Refused}
 use Rattle.cell_types.specs.declared.answer.Refusal.TheVariants.{Shut}
 use Rattle.cell_types.specs.declared.reply.Reply.{Reply}
 use Rattle.cell_types.specs.declared.reply.Reply.TheVariants.{Settled, Busy}
+use Rattle.cell_types.specs.Everything.{all_machines}
 use Rattle.cell_devices.specs.declared.motor.Direction.TheVariants.{Minus as Downward}
 use Rattle.cell_devices.specs.declared.motor.Motor.TheVariants.{Minus}
 use Rattle.cell_rules.specs.declared.heard.LineFault.{LineFault}
@@ -21,15 +22,16 @@ use Rattle.cell_rules.specs.Start.{start_state}
 use Rattle.cell_control.specs.declared.fault.CtlFault.TheVariants.{Memory}
 use Rattle.cell_haul.specs.declared.feed_step.FeedStep.TheVariants.{ClaimExit}
 use Rattle.cell_stations.specs.declared.press_step.PressStep.TheVariants.{MoveToBottom}
+use Rattle.cell_stations.specs.declared.press_step.PressProgress.{PressProgress}
 use Rattle.cell_stations.specs.PressProgram.{press_start}
 use Rattle.cell_notes.specs.declared.schedule.Turn.{Turn}
-use Rattle.cell_seat.specs.Sides.{side_of}
+use Rattle.cell_seat.specs.Sides.{Side, side_of}
 use Rattle.cell_parts.specs.declared.axis.Axis.{Axis}
 use Rattle.cell_parts.specs.Axes.{CellScales}
 use Rattle.cell_parts.specs.Plant.{plant_at_start, feed_at_start, press_at_start, table_at_start}
 use Rattle.cell_parts.specs.Examples.{at, driven_at, belt_with, with_zone, all_free, held_by}
 use Rattle.cell_plant.specs.CellStates.{CellState, Sides, plant_of, side_in, sides_at_start, cell_at_start}
-use Rattle.cell_plant.specs.Runs.{Step, TakesTurn, IsPassedOver, IsRun, end_of}
+use Rattle.cell_plant.specs.Runs.{Step, TakesTurn, IsPassedOver, IsRun, goes_on, end_of}
 
 -- the run begins with a plate at the end of the feed belt
 abbrev pub opening : ModelState
@@ -92,11 +94,24 @@ abbrev pub steps : List Step
 steps = claims_entry ∷ finds_busy ∷ is_refused ∷ finds_no_room ∷ passes Press at_last ∷ passes Watch at_last ∷ []
 
 -- the press goes down from its top
+abbrev pub falling : Axis → Side PressProgress Axis
+falling a = side_of (record { step = MoveToBottom; loaded = false; forged = false; direction = Downward }) None a
+
 abbrev pub press_falls : Axis → CellState
-press_falls a = cell_of (held_by Press Z3 Moving) (record (sides_at_start all_free) { press = side_of (record { step = MoveToBottom; loaded = false; forged = false; direction = Downward }) None a })
+press_falls a = cell_of (held_by Press Z3 Moving) (record (sides_at_start all_free) { press = falling a })
+
+abbrev pub falls : Axis → Axis → Step
+falls set moved = record { machine = Press; taken = true; asked = None; set = press_falls set; moved = press_falls moved }
 
 abbrev pub falls_to : Axis → Step
-falls_to a = record { machine = Press; taken = true; asked = None; set = press_falls (driven_at 1000 Minus); moved = press_falls a }
+falls_to a = falls (driven_at 1000 Minus) a
+
+-- the same while the feed belt waits for its exit
+abbrev pub belt_waits : Axis → CellState
+belt_waits a = cell_of (with_zone entered Press Z3 Moving) (record sides_entered { press = falling a })
+
+abbrev pub waits : Step
+waits = asks Feed (Claim Z1) (Ok (Settled (Refused (Shut Closed)) 1)) (belt_waits (driven_at 980 Minus))
 
 -- ---- one turn
 
@@ -117,6 +132,7 @@ pub record TurnExamples (c : CellScales) : Type 0 where
   pub refused : TakesTurn c Feed false at_entered is_refused
   pub no_room : TakesTurn c Press false at_entered finds_no_room
   pub drives : TakesTurn c Press false (press_falls (at 1000)) (falls_to (driven_at 980 Minus))
+  pub meanwhile : TakesTurn c Feed false (belt_waits (driven_at 980 Minus)) waits
   -- each is wrong in one thing
   pub not_taken : ¬ TakesTurn c Feed false at_first (record claims_entry { taken = false })
   pub asks_nothing : ¬ TakesTurn c Feed false at_first (record claims_entry { asked = None })
@@ -128,6 +144,7 @@ pub record TurnExamples (c : CellScales) : Type 0 where
   pub changes_nothing : ¬ TakesTurn c Feed false at_first (claims_leading_to at_first at_first)
   pub another_is_set : ¬ TakesTurn c Feed false at_first (claims_leading_to table_lifted table_lifted)
   pub another_moves : ¬ TakesTurn c Feed false at_first (claims_leading_to at_entered table_lifted)
+  pub another_goes_on : ¬ TakesTurn c Feed false (belt_waits (driven_at 980 Minus)) (record waits { moved = belt_waits (driven_at 960 Minus) })
   pub moves_unset : ¬ TakesTurn c Feed false at_first (claims_leading_to at_entered feed_runs)
   pub stays_though_set : ¬ TakesTurn c Press false (press_falls (at 1000)) (falls_to (driven_at 1000 Minus))
   pub moves_too_far : ¬ TakesTurn c Press false (press_falls (at 1000)) (falls_to (driven_at 960 Minus))
@@ -146,8 +163,11 @@ pub record ScheduleExamples (c : CellScales) : Type 0 where
   pub starts : (s : ModelState) → plant_of (cell_at_start s) ≡ plant_at_start s
   pub run : IsRun c at_first schedule steps
   pub ends : end_of at_first steps ≡ at_last
+  pub all_go_on : map (goes_on at_first) all_machines ≡ true ∷ true ∷ true ∷ true ∷ true ∷ true ∷ false ∷ []
+  pub others_go_on : map (goes_on at_last) all_machines ≡ true ∷ true ∷ true ∷ false ∷ true ∷ true ∷ false ∷ []
   pub no_turn : IsRun c at_first [] []
   pub two_turns : IsRun c at_entered (busy_turn_of Press ∷ turn_of Press ∷ []) (finds_busy ∷ finds_no_room ∷ [])
+  pub two_ticks : IsRun c (press_falls (at 1000)) (turn_of Press ∷ turn_of Press ∷ []) (falls_to (driven_at 980 Minus) ∷ falls (driven_at 980 Minus) (driven_at 960 Minus) ∷ [])
   -- two turns, or their steps, swapped; a turn left out; a step too many, and no step
   pub turns_swapped : ¬ IsRun c at_entered (turn_of Press ∷ busy_turn_of Press ∷ []) (finds_busy ∷ finds_no_room ∷ [])
   pub steps_swapped : ¬ IsRun c at_first (turn_of Feed ∷ turn_of Feed ∷ []) (is_refused ∷ claims_entry ∷ [])
@@ -155,11 +175,13 @@ pub record ScheduleExamples (c : CellScales) : Type 0 where
   pub last_left_out : ¬ IsRun c at_first (turn_of Feed ∷ turn_of Watch ∷ []) (claims_entry ∷ [])
   pub step_too_many : ¬ IsRun c at_first (turn_of Feed ∷ []) (claims_entry ∷ passes Watch at_entered ∷ [])
   pub all_left_out : ¬ IsRun c at_first (turn_of Feed ∷ []) []
-  -- a step with another machine's name, and a step that begins elsewhere
-  pub of_another : ¬ IsRun c at_entered (busy_turn_of Press ∷ []) (record finds_busy { machine = Table } ∷ [])
+  -- a step with another machine's name, taken or passed over, and a step that begins elsewhere
+  pub of_another : (m : Machine) → m ≢ Press → ¬ IsRun c at_entered (busy_turn_of Press ∷ []) (record finds_busy { machine = m } ∷ [])
+  pub passed_by_another : (m : Machine) → m ≢ Press → ¬ IsRun c at_last (turn_of Press ∷ []) (passes m at_last ∷ [])
   pub from_elsewhere : ¬ IsRun c at_first (turn_of Feed ∷ busy_turn_of Press ∷ []) (claims_entry ∷ asks Press (Claim Z3) (Ok (Busy 1 0)) at_first ∷ [])
-  -- a stopped machine goes on, the watch takes a turn, and a machine that goes on is passed over
-  pub stopped_goes_on : ¬ IsRun c at_last (turn_of Press ∷ []) (finds_no_room ∷ [])
+  -- a stopped machine asks, or takes a turn; the watch takes one; and a machine that goes on is passed over
+  pub stopped_asks : ¬ IsRun c at_last (turn_of Press ∷ []) (finds_no_room ∷ [])
+  pub stopped_goes_on : ¬ IsRun c at_last (turn_of Press ∷ []) (record (passes Press at_last) { taken = true } ∷ [])
   pub watch_goes_on : ¬ IsRun c at_last (turn_of Watch ∷ []) (record (passes Watch at_last) { taken = true } ∷ [])
   pub passed_over : ¬ IsRun c at_entered (turn_of Press ∷ []) (passes Press at_entered ∷ [])
 

@@ -254,7 +254,14 @@ danger = cell_with all_free (with_gripper (at 799))
 abbrev pub through : CellState → CellState → Step
 through set moved = step_by Crane set moved
 
--- all states of a run but one are safe
+-- the robot with a plate at each arm, and a step in which the first arm drops its plate
+abbrev pub loaded : CellState
+loaded = robot_holds true true
+
+abbrev pub drops : Step
+drops = step_by Robot (robot_holds false true) (robot_holds false true)
+
+-- all states of a run but one are safe; or all are, but a step isn't
 pub record SafeRuns : Type 0 where
   pub safe : IsSafeRun quiet (through quiet quiet ∷ through quiet quiet ∷ [])
   pub no_turn : ¬ IsSafeRun danger []
@@ -263,6 +270,8 @@ pub record SafeRuns : Type 0 where
   pub first_moved : ¬ IsSafeRun quiet (through quiet danger ∷ through quiet quiet ∷ [])
   pub last_set : ¬ IsSafeRun quiet (through quiet quiet ∷ through danger quiet ∷ [])
   pub last : ¬ IsSafeRun quiet (through quiet quiet ∷ through quiet danger ∷ [])
+  pub plate_dropped : ¬ IsSafeRun loaded (drops ∷ [])
+  pub plate_dropped_last : ¬ IsSafeRun quiet (through quiet loaded ∷ drops ∷ [])
 
 -- ---- all of these
 
