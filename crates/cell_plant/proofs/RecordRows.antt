@@ -169,7 +169,7 @@ module _ (r : RunRecord) where
     no_reading same asks p s (Ok reading) done unread senses performs = let no : ⊥ = omega (arith, unread, senses.at_least, senses.at_most) in absurd no
     no_reading same asks p s (Err f) done unread senses performs = (f, performs.1)
 
-    stops_blind : (s : Step) → IsUnread c → TakesTurn c Crane false at_first s → (f : SensorFault) × ((s.moved.side Crane).stopped ≡ Some (BySensor f))
+    stops_blind : {busy : Bool} (s : Step) → IsUnread c → TakesTurn c Crane busy at_first s → (f : SensorFault) × ((s.moved.side Crane).stopped ≡ Some (BySensor f))
     stops_blind s unread k =
         let row = k.takes.row in
         let blind = no_reading _ _ _ k.takes.sense row.1.sensed row.0 unread row.1.senses row.1.performs in
@@ -180,7 +180,7 @@ module _ (r : RunRecord) where
           ∙ ap (λ (x : Performed CraneProgress CraneAct). (turned (at_first.side Crane).progress x).stopped) blind.1)
 
     -- the other machines go on
-    goes_fine : (n : Machine) (s : Step) → same_machine Crane n ≡ false → TakesTurn c Crane false at_first s → (s.moved.side n).stopped ≡ (at_first.side n).stopped
+    goes_fine : {busy : Bool} (n : Machine) (s : Step) → same_machine Crane n ≡ false → TakesTurn c Crane busy at_first s → (s.moved.side n).stopped ≡ (at_first.side n).stopped
     goes_fine n s apart k = ap (λ (x : SideOf n). x.stopped) (k.others_moved n apart ∙ k.others_set n apart)
 
     blind : (ss : List Step) → IsUnread c → IsRun c at_first (turn_of Crane ∷ []) ss → map (λ m. status_of ((end_of at_first ss).side m).stopped) all_machines ≡ Fine ∷ Fine ∷ Fine ∷ Fine ∷ Fine ∷ Sensor ∷ Fine ∷ []
