@@ -1,6 +1,6 @@
 //! Runs a schedule on a cell over a bench.
 
-ghost use Rattle.std.specs.Prelude.{◌≡◌, map, IfOk};
+ghost use Rattle.std.specs.Prelude.{◌≡◌, [], map, IsOk, IfOk};
 ghost use Rattle.cell_types.specs.declared.machine.Machine.{Machine};
 ghost use Rattle.cell_types.specs.Everything.{all_machines};
 ghost use Rattle.cell_rules.specs.Start.{IsStartState};
@@ -31,6 +31,7 @@ use std::marker::Model;
 /// machine stops with `Status::Memory`, and the run goes on.
 ///
 /// `Memory` if there is no memory for a journal's next entry, which is allocated before each turn.
+/// A run of no turn succeeds.
 pub fn simulate<F1: Gauge, F2: Gauge, F3: Gauge, F4: Gauge, F5: Gauge>(
     alloc: Global,
     cell: Cell<F1, F2, F3, F4, F5>,
@@ -41,6 +42,7 @@ pub fn simulate<F1: Gauge, F2: Gauge, F3: Gauge, F4: Gauge, F5: Gauge>(
     requires made { IsMadeFor opening cell }
     requires scales { AreCellScales (scales_of cell) }
     ensures run { IfOk result (TellsRun (scales_of cell) opening turns.now) }
+    ensures no_turn { turns.now ≡ [] → IsOk result }
 {
     let mut simulation = Simulation::new(alloc, cell, opening);
     'turns: for turn in turns {

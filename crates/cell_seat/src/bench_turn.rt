@@ -1,7 +1,7 @@
 //! A turn of a schedule, over a bench.
-ghost use Rattle.std.specs.Prelude.{◌≡◌, OnOk, OnErr};
+ghost use Rattle.std.specs.Prelude.{◌≡◌, ◌≢◌, None, IsOk, OnOk, OnErr};
 ghost use Rattle.cell_rules.specs.BenchView.{desk_of};
-ghost use Rattle.cell_notes.specs.Notes.{HasRoom, notes_of};
+ghost use Rattle.cell_notes.specs.Notes.{HasRoom, HasSpare, notes_of};
 ghost use Rattle.cell_seat.specs.Sides.{IsReady, side_of};
 ghost use Rattle.cell_seat.specs.SeatTurns.{SeatTurn, Untouched};
 
@@ -16,7 +16,7 @@ use cell_types::Machine;
 /// does nothing, and nothing is noted.
 ///
 /// `Memory` if out of memory for a journal's entry. Its room is made before the turn, so nothing
-/// has changed.
+/// has changed. A machine that has stopped, or whose journal has room, never fails so.
 pub fn seat_turn<P: Program, B: Part<Sense = P::Sense, Act = P::Act>>(
     bench: &mut Bench,
     notebook: &mut Notebook,
@@ -33,6 +33,8 @@ pub fn seat_turn<P: Program, B: Part<Sense = P::Sense, Act = P::Act>>(
     ensures failed { OnErr result (Untouched (desk_of bench.old) (desk_of bench.new)
         (side_of seat.old.controller.progress seat.old.controller.stopped (B.state seat.old.part)) (side_of seat.new.controller.progress seat.new.controller.stopped (B.state seat.new.part))
         (notes_of notebook.old) (notes_of notebook.new)) }
+    ensures succeeds { HasSpare notebook.old → IsOk result }
+    ensures stopped { seat.old.controller.stopped ≢ None → IsOk result }
     ensures ready { IsReady (P.steps seat.new.controller.program) bench.new.opening bench.new.history.items seat.new.controller.stopped seat.new.controller.progress }
     ensures program { seat.new.controller.program ≡ seat.old.controller.program }
     ensures make { B.make seat.new.part ≡ B.make seat.old.part }

@@ -31,8 +31,8 @@ turns-preserved g c =
       run = next_more (take i c.args.turns.now) (take (i + 1) c.args.turns.now) _ _ _ (take_more c.args.turns.now i _ c.turns-test.true) old.run on;
     }
 
-pub returns : goal.returns
-returns g c =
+pub returns-clause-run : goal.returns-clause-run
+returns-clause-run g c =
     let i = c.turns.turn-index in
     let now = c.turns.invariant in
-    record { run = tells_all (scales_of c.args.cell) c.args.opening (take i c.args.turns.now) c.args.turns.now _ _ (take_all i c.args.turns.now c.turns-test.false) now.scales now.opening c.requires.scales c.requires.start now.run c.into_record.ensures }
+    tells_all (scales_of c.args.cell) c.args.opening (take i c.args.turns.now) c.args.turns.now _ _ (take_all i c.args.turns.now c.turns-test.false) now.scales now.opening c.requires.scales c.requires.start now.run c.into_record.ensures
