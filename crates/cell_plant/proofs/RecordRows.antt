@@ -172,12 +172,13 @@ module _ (r : RunRecord) where
     stops_blind : {busy : Bool} (s : Step) → IsUnread c → TakesTurn c Crane busy at_first s → (f : SensorFault) × ((s.moved.side Crane).stopped ≡ Some (BySensor f))
     stops_blind s unread k =
         let row = k.takes.row in
-        let blind = no_reading _ _ _ k.takes.sense row.1.sensed row.0 unread row.1.senses row.1.performs in
-        (blind.0,
+        let blind = no_reading _ _ _ k.takes.sense row.1.sensed row.0 unread row.1.senses row.1.performs in (
+          blind.0,
           ap (λ (x : SideOf Crane). x.stopped) k.moved
-          ∙ ap (λ (x : SideOf Crane). x.stopped) k.takes.is
-          ∙ ap (λ (x : Turned CraneProgress CraneAct). x.stopped) row.2
-          ∙ ap (λ (x : Performed CraneProgress CraneAct). (turned (at_first.side Crane).progress x).stopped) blind.1)
+              ∙ ap (λ (x : SideOf Crane). x.stopped) k.takes.is
+              ∙ ap (λ (x : Turned CraneProgress CraneAct). x.stopped) row.2
+              ∙ ap (λ (x : Performed CraneProgress CraneAct). (turned (at_first.side Crane).progress x).stopped) blind.1,
+        )
 
     -- the other machines go on
     goes_fine : {busy : Bool} (n : Machine) (s : Step) → same_machine Crane n ≡ false → TakesTurn c Crane busy at_first s → (s.moved.side n).stopped ≡ (at_first.side n).stopped

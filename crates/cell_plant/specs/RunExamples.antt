@@ -163,6 +163,7 @@ pub record ScheduleExamples (c : CellScales) : Type 0 where
   pub starts : (s : ModelState) → plant_of (cell_at_start s) ≡ plant_at_start s
   pub run : IsRun c at_first schedule steps
   pub ends : end_of at_first steps ≡ at_last
+  -- who takes a turn: at the start, and once the press has stopped
   pub all_go_on : map (goes_on at_first) all_machines ≡ true ∷ true ∷ true ∷ true ∷ true ∷ true ∷ false ∷ []
   pub others_go_on : map (goes_on at_last) all_machines ≡ true ∷ true ∷ true ∷ false ∷ true ∷ true ∷ false ∷ []
   pub no_turn : IsRun c at_first [] []

@@ -23,16 +23,18 @@ pub fn unsafe_runs_are_refused()
     ensures { SafetyExamples }
 {}
 
-/// Examples of turns and of a run, over any scales, and of what isn't one. These are wrong in one
+/// Examples of turns and of runs, over any scales, and of what isn't one. These are wrong in one
 /// thing: a step that isn't a turn of its machine, a turn left out or added, two turns or their
-/// steps swapped, a step that begins elsewhere, or a stopped machine that goes on.
+/// steps swapped, a step with another machine's name, a step that begins elsewhere, or a stopped
+/// machine that goes on. The six machines go on until they stop.
 pub fn wrong_runs_are_refused()
     ensures { (c : CellScales) → RunExamples c }
 {}
 
 /// Examples of the record of one literal run, and of wrong records: a count, a status, the start,
 /// the end, an axis or a journal is wrong, a turn was made up or left out, or the run begins
-/// unsafely. The record of any run keeps a legal history, which leads to its end.
+/// unsafely. No turn has one record, and a crane that can't be read stops by its sensors. The
+/// record of any run keeps a legal history, which leads to its end.
 pub fn wrong_records_are_refused()
     ensures { (c : CellScales) (r : RunRecord) → RecordExamples c r }
 {}
