@@ -1,5 +1,5 @@
 -- Proofs of the laws of runs.
-use Rattle.std.proofs.Common.{◌≡◌, ◌≢◌, Bool, true, false, List, [], ◌∷◌, ◌++◌, cond, get_or, Option, Some, None, refl, sym, ap, subst, ◌∙◌}
+use Rattle.std.proofs.Common.{◌≡◌, ◌≢◌, ℕ, Bool, true, false, List, [], ◌∷◌, ◌++◌, cond, get_or, map, Option, Some, None, refl, sym, ap, subst, ◌∙◌}
 use Rattle.std.proofs.lemmas.List.Elements.{All-head, All-tail}
 use Rattle.cell_types.specs.declared.machine.Machine.{Machine}
 use Rattle.cell_types.specs.declared.machine.Machine.TheVariants.{Feed, Table, Robot, Press, Deposit, Crane, Watch}
@@ -8,6 +8,7 @@ use Rattle.cell_types.specs.declared.call.Call.TheVariants.{Release}
 use Rattle.cell_types.specs.declared.answer.Answer.TheVariants.{Done, Refused}
 use Rattle.cell_types.specs.declared.answer.Refusal.TheVariants.{NotOwner}
 use Rattle.cell_types.specs.declared.answer.Event.{Event}
+use Rattle.cell_types.specs.Everything.{all_machines}
 use Rattle.cell_types.specs.Same.{same_machine}
 use Rattle.cell_rules.specs.ModelState.{ModelState}
 use Rattle.cell_rules.specs.PlaceSet.{empty}
@@ -18,11 +19,12 @@ use Rattle.cell_rules.proofs.Lasting.{own_head}
 use Rattle.cell_notes.specs.declared.run_record.RunRecord.{RunRecord}
 use Rattle.cell_notes.specs.declared.status.Status.{Status}
 use Rattle.cell_notes.specs.declared.status.Status.TheVariants.{Fine}
+use Rattle.cell_parts.specs.Axes.{CellScales}
 use Rattle.cell_report.specs.Audited.{IsAudited}
 use Rattle.cell_workers.proofs.Telling.{records_tell}
-use Rattle.cell_program.specs.Ran.{EndsAsAudited, but_end}
+use Rattle.cell_program.specs.Ran.{EndsAsAudited, TellsWorkers, but_end}
 use Rattle.cell_program.specs.Reported.{AreFine}
-use Rattle.cell_program.specs.Laws.{EachIsFine, EndsAreFound, StatusZeroIsWell, TurnsAreTold, no_journals, press_released}
+use Rattle.cell_program.specs.Laws.{EachHadTurns, EachIsFine, EndsAreFound, FaultLinesAreMet, StatusZeroIsWell, TurnsAreTold, no_journals, press_released}
 
 -- ---- ends
 
@@ -50,7 +52,7 @@ nothing : (start : ModelState) (end : Option ModelState) → EndsAsAudited start
 nothing start None k = absurd (k [] (record { legal = tt; own = λ m. refl; noted = λ m. refl; ends = tt }))
 nothing start (Some reached) k = nothing_by start reached k.0 k.1
 
--- ---- status 0
+-- ---- turns and status 0
 
 at_each : (before after : List Status) (s : Status) → AreFine (before ++ s ∷ after) → s ≡ Fine
 at_each [] after s k = All-head (λ x. x ≡ Fine) s after k
@@ -59,14 +61,6 @@ at_each (x ∷ xs) after s k = at_each xs after s (All-tail (λ y. y ≡ Fine) x
 each_fine : (r : RunRecord) → AreFine r.status → EachIsFine r
 each_fine r k before after s e = at_each before after s (subst AreFine e k)
 
-pub well : StatusZeroIsWell
-well =
-    record {
-      reported = λ r old new k. (each_fine r k.0, k.1.0);
-      simulated = λ bytes old new k. (k.0, each_fine k.0 k.1.1.0);
-      ran = λ turns tries bytes old new k. (k.0, (each_fine k.0 k.1.1.0, k.1.1.1.0));
-    }
-
 pub told : TurnsAreTold
 told =
     record {
@@ -74,6 +68,38 @@ told =
           let had = records_tell.turns c opening tries limit (λ n turn. true) (but_end r) did fares k.work counts status m e in
           (had, λ out. let lie : true ≡ false = (had.kept_out out).1 in cc);
     }
+
+fine_in : (fares : Machine → Status) (before after : List Machine) (m : Machine) → AreFine (map fares (before ++ m ∷ after)) → fares m ≡ Fine
+fine_in fares [] after m k = All-head (λ x. x ≡ Fine) (fares m) (map fares after) k
+fine_in fares (x ∷ xs) after m k = fine_in fares xs after m (All-tail (λ y. y ≡ Fine) (fares x) (map fares (xs ++ m ∷ after)) k)
+
+each_fares : (fares : Machine → Status) → AreFine (map fares all_machines) → (m : Machine) → fares m ≡ Fine
+each_fares fares k Feed = fine_in fares [] (Table ∷ Robot ∷ Press ∷ Deposit ∷ Crane ∷ Watch ∷ []) Feed k
+each_fares fares k Table = fine_in fares (Feed ∷ []) (Robot ∷ Press ∷ Deposit ∷ Crane ∷ Watch ∷ []) Table k
+each_fares fares k Robot = fine_in fares (Feed ∷ Table ∷ []) (Press ∷ Deposit ∷ Crane ∷ Watch ∷ []) Robot k
+each_fares fares k Press = fine_in fares (Feed ∷ Table ∷ Robot ∷ []) (Deposit ∷ Crane ∷ Watch ∷ []) Press k
+each_fares fares k Deposit = fine_in fares (Feed ∷ Table ∷ Robot ∷ Press ∷ []) (Crane ∷ Watch ∷ []) Deposit k
+each_fares fares k Crane = fine_in fares (Feed ∷ Table ∷ Robot ∷ Press ∷ Deposit ∷ []) (Watch ∷ []) Crane k
+each_fares fares k Watch = fine_in fares (Feed ∷ Table ∷ Robot ∷ Press ∷ Deposit ∷ Crane ∷ []) [] Watch k
+
+-- a machine that is fine had all its turns
+all_turns : (c : CellScales) (opening : ModelState) (tries turns : ℕ) (r : RunRecord) → TellsWorkers c opening tries turns r → AreFine r.status → EachHadTurns turns r
+all_turns c opening tries turns r k fine did counts m e =
+    let had = told.turns c opening tries turns r did k.work.fares k counts k.work.status m e in
+    had.0.fine (each_fares k.work.fares (subst AreFine k.work.status fine) m)
+
+pub well : StatusZeroIsWell
+well =
+    record {
+      reported = λ r old new k. (each_fine r k.0, k.1.0);
+      replayed = λ bytes text k. k;
+      simulated = λ bytes text k. (k.0, k.1.0, k.1.1.1, each_fine k.0 k.1.1.0);
+      ran = λ turns tries bytes text k.
+          let tells = k.1.0 in
+          (k.0, tells, k.1.1.1.1, (each_fine k.0 k.1.1.0, k.1.1.1.0), all_turns tells.scales tells.settings.start tries turns k.0 tells.run k.1.1.0);
+    }
+
+-- ---- ends that no history has
 
 -- the press can't have released what it never held: the first event of such a history would be that release, but it is
 -- refused
@@ -109,3 +135,8 @@ differs (Some reached) k = absurd (differs_by reached k.0 k.1)
 
 pub found : EndsAreFound
 found = record { known = λ start journals history k none. none history k; nothing = nothing; differs = differs }
+
+-- ---- lines
+
+pub lines : FaultLinesAreMet
+lines = record { memory = refl; missing = refl; spawn = refl }

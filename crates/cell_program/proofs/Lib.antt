@@ -3,3 +3,4 @@ mod FrontLemmas
 mod SimLemmas
 mod RunLemmas
 mod LawLemmas
+mod AskLemmas

@@ -1,5 +1,5 @@
 -- Laws of runs: the statements.
-use Rattle.std.specs.Prelude.{◌≡◌, ◌≢◌, ℕ, true, List, [], ◌∷◌, ◌++◌, map, Option, Some, None}
+use Rattle.std.specs.Prelude.{◌≡◌, ◌≢◌, ℕ, true, List, [], ◌∷◌, ◌++◌, codes, map, Option, Some, None}
 use Rattle.cell_types.specs.declared.machine.Machine.{Machine}
 use Rattle.cell_types.specs.declared.machine.Machine.TheVariants.{Press}
 use Rattle.cell_types.specs.declared.zone.Zone.TheVariants.{Z3}
@@ -18,11 +18,18 @@ use Rattle.cell_notes.specs.declared.status.Status.{Status}
 use Rattle.cell_notes.specs.declared.status.Status.TheVariants.{Fine, GateLimit}
 use Rattle.cell_parts.specs.Axes.{CellScales}
 use Rattle.cell_plant.specs.Runs.{is_at_work}
+use Rattle.cell_config.specs.ConfigWords.{config_fault_text}
+use Rattle.cell_config.specs.declared.fault.ConfigFault.TheVariants.{Missing}
+use Rattle.cell_replay.specs.Script.{script_outcome, script_text}
+use Rattle.cell_replay.specs.declared.script.Outcome.TheVariants.{Clean}
 use Rattle.cell_report.specs.Audited.{IsAudited}
+use Rattle.cell_report.specs.Report.{report_text}
+use Rattle.cell_workers.specs.Faults.{run_fault_text}
+use Rattle.cell_workers.specs.declared.fault.RunFault.TheVariants.{Spawn}
 use Rattle.cell_workers.specs.Laws.{HadTurns}
 use Rattle.cell_program.specs.Ran.{EndsAsAudited, TellsWorkers}
 use Rattle.cell_program.specs.Reported.{ReportTold}
-use Rattle.cell_program.specs.Served.{WasRun, WasSimulated}
+use Rattle.cell_program.specs.Served.{TellsRunOf, TellsWorkersOf, WasReplayed, WasRun, WasSimulated, fault_line}
 
 -- no machine noted anything; the press alone noted one entry, that it released its interior
 abbrev pub no_journals : Machine → List Entry
@@ -53,7 +60,21 @@ EachIsFine r = (before after : List Status) (s : Status) → r.status ≡ before
 abbrev pub IsWell : RunRecord → Type 0
 IsWell r = EachIsFine r × ((history : List Event) × IsAudited r.start (journal_of r.journals) r.end history)
 
+-- each machine that works had this number of turns
+abbrev pub EachHadTurns : ℕ → RunRecord → Type 0
+EachHadTurns turns r = (did : Machine → Counts) → r.counts ≡ map did all_machines → (m : Machine) → is_at_work m ≡ true → (did m).turns ≡ turns
+
+-- Status 0, by the text that was written: of a clean script; or the report of a simulation or a run in which every
+-- machine is fine, with `audit ok`. In a run each machine had all its turns, and the audit found a history.
 pub record StatusZeroIsWell : Type 0 where
   pub reported : (r : RunRecord) (old new : Option (List ℕ)) → ReportTold 0 r old new → IsWell r
-  pub simulated : (bytes : List ℕ) (old new : Option (List ℕ)) → WasSimulated (Some bytes) old new → (r : RunRecord) × EachIsFine r
-  pub ran : (turns tries : ℕ) (bytes : List ℕ) (old new : Option (List ℕ)) → WasRun turns tries (Some bytes) old new → (r : RunRecord) × IsWell r
+  pub replayed : (bytes text : List ℕ) → WasReplayed (Some bytes) (Some []) (Some text) → (text ≡ script_text bytes) × (script_outcome bytes ≡ Clean)
+  pub simulated : (bytes text : List ℕ) → WasSimulated (Some bytes) (Some []) (Some text) → (r : RunRecord) × TellsRunOf bytes r × (text ≡ report_text r None) × EachIsFine r
+  pub ran : (turns tries : ℕ) (bytes text : List ℕ) → WasRun turns tries (Some bytes) (Some []) (Some text)
+      → (r : RunRecord) × TellsWorkersOf turns tries bytes r × (text ≡ report_text r None) × IsWell r × EachHadTurns turns r
+
+-- lines of faults
+pub record FaultLinesAreMet : Type 0 where
+  pub memory : fault_line (codes "memory") ≡ codes "fault memory\n"
+  pub missing : fault_line (config_fault_text Missing) ≡ codes "fault config missing\n"
+  pub spawn : fault_line (run_fault_text Spawn) ≡ codes "fault spawn\n"

@@ -1,5 +1,6 @@
 //! Laws of runs. Each is a function that does nothing: its contract is the law.
-ghost use Rattle.cell_program.specs.Laws.{EndsAreFound, StatusZeroIsWell, TurnsAreTold};
+ghost use Rattle.cell_program.specs.Asked.{WordsAreServed};
+ghost use Rattle.cell_program.specs.Laws.{EndsAreFound, FaultLinesAreMet, StatusZeroIsWell, TurnsAreTold};
 
 /// The end of a run is left open only if no history gives its journals. The end is the start if no
 /// machine noted anything. It is left open if the press noted a release of a zone that it never
@@ -14,7 +15,20 @@ pub fn turns_are_told()
     ensures { TurnsAreTold }
 {}
 
-/// Status 0 says that each machine's status is `Fine`, and that the audit found a history.
+/// Status 0 says that the script was clean; or that each machine's status is `Fine`, and the report
+/// with `audit ok` was written. Of a run by six workers it also says that the audit found a history,
+/// and that each machine had all its turns.
 pub fn status_zero_is_well()
     ensures { StatusZeroIsWell }
+{}
+
+/// What is said of `serve` for words that ask for a replay or a simulation holds for the program's
+/// name alone, and for the words `replay` and `sim` after it.
+pub fn words_are_served()
+    ensures { WordsAreServed }
+{}
+
+/// Examples of fault lines.
+pub fn fault_lines_are_met()
+    ensures { FaultLinesAreMet }
 {}

@@ -5,9 +5,10 @@ ghost use Rattle.clap.specs.Words.{kind_of};
 ghost use Rattle.cell_text.specs.Output.{WroteFront};
 ghost use Rattle.cell_text.specs.Input.{TakesAtMost};
 ghost use Rattle.cell_replay.specs.Script.{most_bytes_read};
+ghost use Rattle.cell_program.specs.Asked.{AskFor};
 ghost use Rattle.cell_program.specs.Served.{ReplayFails, RunFails, SimFails, WasReplayed, WasRun, WasSimulated, fault_line};
 ghost use Rattle.cell_config.specs.Settings as settings;
-ghost use Rattle.cell_command.specs.Words.{AreTaken, AskForHelp, AskForReplay, AskForRun, AskForSim};
+ghost use Rattle.cell_command.specs.Words.{AreTaken, AskForHelp, AskForRun};
 
 use crate::faults::{FAILED, fail};
 use crate::replaying::serve_replay;
@@ -44,22 +45,22 @@ where
     T: Threads + Wait + Sync,
     ensures status { result ≤ 2 }
 
-    // With the program's name alone, or with the word `replay` after it, the status is 0 or 1.
-    // Status 0 says that the script was clean and its text was written. Status 1 says what was
+    // With words that `clap` takes and with nothing or `replay` after the name, the status is 0 or
+    // 1. Status 0 says that the script was clean and its text was written. Status 1 says what was
     // written of it.
-    ensures replay { AskForReplay (map (λ w. w.now) words.now) → result < 2 }
-    ensures replayed { AskForReplay (map (λ w. w.now) words.now) → result ≡ 0 →
+    ensures replay { AskFor Mode.Replay (map (λ w. w.now) words.now) → result < 2 }
+    ensures replayed { AskFor Mode.Replay (map (λ w. w.now) words.now) → result ≡ 0 →
         WasReplayed (R.remaining reader.old) (W.contents writer.old) (W.contents writer.new) }
-    ensures replay_fails { AskForReplay (map (λ w. w.now) words.now) → result ≡ 1 →
+    ensures replay_fails { AskFor Mode.Replay (map (λ w. w.now) words.now) → result ≡ 1 →
         IfSome (R.remaining reader.old) (λ bytes. ReplayFails bytes (W.contents writer.old) (W.contents writer.new)) }
 
-    // With the word `sim` after the name, the status is 0 or 1. Status 0 says that the run was
-    // simulated and audited, no machine was stopped and the report was written. Status 1 says what
-    // was written.
-    ensures sim { AskForSim (map (λ w. w.now) words.now) → result < 2 }
-    ensures simulated { AskForSim (map (λ w. w.now) words.now) → result ≡ 0 →
+    // With words that `clap` takes and with `sim` after the name, the status is 0 or 1. Status 0
+    // says that the run was simulated and audited, no machine was stopped and the report was
+    // written. Status 1 says what was written.
+    ensures sim { AskFor Mode.Sim (map (λ w. w.now) words.now) → result < 2 }
+    ensures simulated { AskFor Mode.Sim (map (λ w. w.now) words.now) → result ≡ 0 →
         WasSimulated (R.remaining reader.old) (W.contents writer.old) (W.contents writer.new) }
-    ensures sim_fails { AskForSim (map (λ w. w.now) words.now) → result ≡ 1 →
+    ensures sim_fails { AskFor Mode.Sim (map (λ w. w.now) words.now) → result ≡ 1 →
         IfSome (R.remaining reader.old) (λ bytes. SimFails bytes (W.contents writer.old) (W.contents writer.new)) }
 
     // With words that `clap` takes and with `run` after the name, the status is 0 or 1. Status 0
@@ -80,7 +81,7 @@ where
     // At most one byte more is read than a script may have; for a simulation and a run, at most one
     // byte more than a configuration may have.
     ensures read { TakesAtMost (R.remaining reader.old) (R.remaining reader.new) most_bytes_read }
-    ensures read_sim { AskForSim (map (λ w. w.now) words.now) →
+    ensures read_sim { AskFor Mode.Sim (map (λ w. w.now) words.now) →
         TakesAtMost (R.remaining reader.old) (R.remaining reader.new) settings.most_bytes_read }
     ensures read_run { (turns tries : ℕ) → AskForRun turns tries (map (λ w. w.now) words.now) →
         TakesAtMost (R.remaining reader.old) (R.remaining reader.new) settings.most_bytes_read }
