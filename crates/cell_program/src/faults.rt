@@ -37,7 +37,7 @@ fn fault_page<D: Display + Drop>(fault: D) -> Result<Page, fmt::Error>
 }
 
 /// Writes a text as far as the writer takes it.
-fn write_front<W: Write>(writer: &mut W, text: &[u8])
+pub(crate) fn write_front<W: Write>(writer: &mut W, text: &[u8])
     ensures { WroteFront (W.contents writer.old) (W.contents writer.new) text.now }
 {
     let _ = write_text(writer, text);

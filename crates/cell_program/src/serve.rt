@@ -10,7 +10,7 @@ ghost use Rattle.cell_program.specs.Served.{ReplayFails, RunFails, SimFails, Was
 ghost use Rattle.cell_config.specs.Settings as settings;
 ghost use Rattle.cell_command.specs.Words.{AreTaken, AskForHelp, AskForRun};
 
-use crate::faults::{FAILED, fail};
+use crate::faults::{FAILED, fail, write_front};
 use crate::replaying::serve_replay;
 use crate::simulating::serve_sim;
 use crate::workers::serve_run;
@@ -94,12 +94,12 @@ where
     }
 }
 
-/// Prints that the program's words aren't text, and returns the exit status.
+/// Prints that a word isn't text, as far as the writer takes it, and returns the exit status.
 pub fn refuse_bytes<W: Write>(writer: &mut W) -> u8
-    ensures { result ≡ 2 }
+    ensures status { result ≡ 2 }
+    ensures line { WroteFront (W.contents writer.old) (W.contents writer.new) (codes "error: a word isn't UTF-8\n") }
 {
-    let _ = writeln!(writer, "error: a word isn't UTF-8");
-    let _ = flush(writer);
+    write_front(writer, "error: a word isn't UTF-8\n".as_bytes());
     REFUSED
 }
 

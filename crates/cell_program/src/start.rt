@@ -1,6 +1,8 @@
 //! Starts the program: from its arguments to its exit status.
 
 ghost use Rattle.std.specs.Prelude.{◌≤◌, IfOk};
+ghost use Rattle.cell_text.specs.Input.{TakesAtMost};
+ghost use Rattle.cell_replay.specs.Script.{most_bytes_read};
 
 use crate::faults::fail;
 use crate::serve::{refuse_bytes, serve};
@@ -23,7 +25,8 @@ pub fn start<T, E: Env, R: Read, W: Write>(
 ) -> u8
 where
     T: Threads + Wait + Sync,
-    ensures { result ≤ 2 }
+    ensures status { result ≤ 2 }
+    ensures read { TakesAtMost (R.remaining reader.old) (R.remaining reader.new) most_bytes_read }
 {
     match serve_words(rt, alloc, env, reader, writer) {
         Ok(status) => status,
@@ -42,7 +45,8 @@ fn serve_words<T, E: Env, R: Read, W: Write>(
 ) -> io::Result<u8>
 where
     T: Threads + Wait + Sync,
-    ensures { IfOk result (λ status. status ≤ 2) }
+    ensures status { IfOk result (λ status. status ≤ 2) }
+    ensures read { TakesAtMost (R.remaining reader.old) (R.remaining reader.new) most_bytes_read }
 {
     let words = words_of(alloc, env)?;
     let mut texts = Vec::new(alloc);
