@@ -143,10 +143,11 @@ impl Write for InterruptedWriter {
     }
 }
 
-/// Takes all bytes, and fails at a flush.
+/// Takes all bytes, and fails at a flush. Keeps how many bytes it had taken at the last flush.
 #[derive(Drop)]
 pub struct UnflushedWriter {
     pub taken: Vec<u8>,
+    pub flushed: usize,
 }
 
 impl Write for UnflushedWriter {
@@ -156,6 +157,7 @@ impl Write for UnflushedWriter {
     }
 
     fn flush(&mut self) -> io::Result<()> {
+        self.flushed = self.taken.len();
         Err(io::Error::from(ErrorKind::Other))
     }
 }

@@ -258,6 +258,28 @@ stamp 59 plates 1
 audit ok
 ";
 
+/// The report if one plate has gone once round, and the first arm and the gripper have lines of their
+/// own, by which they stop elsewhere.
+pub const LINES_OF_THEIR_OWN: &str = "\
+start 1000000000 0
+feed turns 62 done 10 read 0 refused 0 busy 0 ok
+table turns 76 done 13 read 0 refused 0 busy 0 ok
+robot turns 527 done 8 read 6 refused 0 busy 0 ok
+press turns 144 done 15 read 0 refused 0 busy 0 ok
+deposit turns 61 done 9 read 0 refused 0 busy 0 ok
+crane turns 342 done 4 read 1 refused 0 busy 0 ok
+zone z1 free 0 openin
+zone z2 table 0 closed
+zone z3 free 0 openin
+zone z4 deposit 0 closed
+zone z5 free 0 openout
+zone z6 feed 0 openin
+places 1000000000
+axes press 500 arm1 40 arm2 20 rotation 320 lift 0 turn 0 crane 40 gripper 880
+stamp 59 plates 1
+audit ok
+";
+
 /// The report if four plates have gone round in 20,000 turns, taken one after another.
 pub const FOUR_PLATES: &str = "\
 start 1010100010 0

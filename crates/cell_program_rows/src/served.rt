@@ -17,6 +17,7 @@ pub const TEXT: &str =
 const SERVED: &[(&[&str], &str, u8, &str)] = &[
     (&["cell"], SCRIPT, 0, TEXT),
     (&["cell", "replay"], SCRIPT, 0, TEXT),
+    (&["cell", "--"], SCRIPT, 0, TEXT),
     (&["cell"], "", 1, "fault nostart\n"),
     (&["cell", "replay"], "start,1\n", 1, "fault badstart\n"),
 ];
@@ -32,12 +33,13 @@ fn serves(rt: HostRuntime) {
 }
 
 /// Whether words that ask for no mode are answered with this status and some text, and the script
-/// isn't read.
+/// isn't read. For status 2, and only then, the text says that it is an error.
 fn is_told<T: Threads + Wait + Sync>(rt: &T, alloc: Global, words: &[&str], status: u8) -> bool {
     let mut script = SCRIPT.as_bytes();
     let mut written = Vec::new(alloc);
     let answered = run(rt, alloc, words, &mut script, &mut written);
-    let is_other = !written.is_empty() && !written.as_slice().starts_with(b"0 0 start");
+    let is_error = written.as_slice().starts_with(b"error: ");
+    let is_other = !written.is_empty() && is_error == (status == 2);
     answered == status && is_other && script.len() == SCRIPT.len()
 }
 

@@ -3,7 +3,8 @@
 
 use super::doubles::is_served;
 use super::reports::{
-    ARM_TO_PRESS, CARRIED_ROUND, CRANE_TO_FEED, FEED_TO_TABLE, FOUR_PLATES, STANDSTILL,
+    ARM_TO_PRESS, CARRIED_ROUND, CRANE_TO_FEED, FEED_TO_TABLE, FOUR_PLATES, LINES_OF_THEIR_OWN,
+    STANDSTILL,
 };
 use super::simulations::{SIM, scheduled};
 use std::alloc::{AllocError, Global};
@@ -13,26 +14,41 @@ use std::thread::Threads;
 /// A schedule: letters, and how often each text of them comes in a row.
 type Runs<'a> = &'a [(usize, &'a str)];
 
-/// Starts and schedules, with the reports of their runs.
-const RUNS: &[(&str, Runs<'static>, &str)] = &[
+// Each pair of arms and gripper exchanged would give another report.
+const LINES: &str = "\
+arm1 = { raw = [0, 1501], tol = 1 }
+gripper = { raw = [5, 1508], tol = 10 }
+";
+
+/// Starts, schedules and lines, with the reports of their runs.
+const RUNS: &[(&str, Runs<'static>, &str, &str)] = &[
     (
         "0100000000",
         &[(6, "t"), (11, "f"), (1, "t")],
+        "",
         FEED_TO_TABLE,
     ),
     (
         "0001000000",
         &[(30, "p"), (143, "r"), (1, "p")],
+        "",
         ARM_TO_PRESS,
     ),
     (
         "0000000001",
         &[(3, "f"), (160, "c"), (1, "f")],
+        "",
         CRANE_TO_FEED,
     ),
-    ("1000000000", ONE_ROUND, CARRIED_ROUND),
-    ("1010100010", &[(3333, "ftrpdc"), (1, "ft")], FOUR_PLATES),
-    ("1011101010", &[(400, "ftrpdc")], STANDSTILL),
+    ("1000000000", ONE_ROUND, "", CARRIED_ROUND),
+    ("1000000000", ONE_ROUND, LINES, LINES_OF_THEIR_OWN),
+    (
+        "1010100010",
+        &[(3333, "ftrpdc"), (1, "ft")],
+        "",
+        FOUR_PLATES,
+    ),
+    ("1011101010", &[(400, "ftrpdc")], "", STANDSTILL),
 ];
 
 /// One plate is carried once round the cell, and each machine has turns for as long as it can work.
@@ -54,26 +70,34 @@ const ONE_ROUND: Runs<'static> = &[
     (1, "f"),
 ];
 
-/// The configuration of a start and of these runs.
-fn config_of(alloc: Global, start: &str, runs: Runs<'_>) -> Result<String, AllocError> {
+/// The configuration of a start, of these runs and these lines.
+fn config_of(
+    alloc: Global,
+    start: &str,
+    runs: Runs<'_>,
+    lines: &str,
+) -> Result<String, AllocError> {
     let mut schedule = String::new(alloc);
     for (count, letters) in runs {
         for _ in 0..*count {
             schedule.push_str(letters)?;
         }
     }
-    scheduled(alloc, start, schedule.as_str())
+    let mut config = scheduled(alloc, start, schedule.as_str())?;
+    config.push_str(lines)?;
+    Ok(config)
 }
 
-/// Whether the simulation of a start and of these runs has this report.
+/// Whether the simulation of a start, of these runs and these lines has this report.
 fn is_reported<T: Threads + Wait + Sync>(
     rt: &T,
     alloc: Global,
     start: &str,
     runs: Runs<'_>,
+    lines: &str,
     report: &str,
 ) -> bool {
-    match config_of(alloc, start, runs) {
+    match config_of(alloc, start, runs, lines) {
         Ok(config) => is_served(rt, alloc, SIM, config.as_str(), 0, report),
         Err(_) => false,
     }
@@ -81,9 +105,9 @@ fn is_reported<T: Threads + Wait + Sync>(
 
 #[test]
 fn plates_go_round(rt: HostRuntime) {
-    for (start, runs, report) in RUNS {
+    for (start, runs, lines, report) in RUNS {
         assert!(rt;
-            is_reported(&rt, rt.alloc(), start, runs, report),
+            is_reported(&rt, rt.alloc(), start, runs, lines, report),
             "{start}"
         );
     }

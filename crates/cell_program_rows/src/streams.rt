@@ -153,21 +153,24 @@ fn goes_on_where_it_is_interrupted(rt: HostRuntime) {
     assert!(rt; is_told_in_parts(&rt, rt.alloc(), OTHER, 2));
 }
 
-/// Whether a writer that fails at its flush leads to status 1, and has taken the whole text.
+/// Whether a writer that fails at its flush leads to status 1, and was flushed after the whole text.
 fn is_lost<T: Threads + Wait + Sync>(rt: &T, alloc: Global, words: &[&str], input: &str) -> bool {
     let mut writer = UnflushedWriter {
         taken: Vec::new(alloc),
+        flushed: 0,
     };
     let mut whole = Vec::new(alloc);
     run(rt, alloc, words, &mut input.as_bytes(), &mut whole);
     let status = run(rt, alloc, words, &mut input.as_bytes(), &mut writer);
-    status == 1 && writer.taken.as_slice() == whole.as_slice()
+    let is_whole = writer.taken.as_slice() == whole.as_slice();
+    status == 1 && is_whole && writer.flushed == whole.len()
 }
 
 const LOST: &[(&[&str], &str)] = &[
     (REPLAY, SCRIPT),
     (SIM, PRESS),
     (RUN, EMPTY),
+    (SIM, ""),
     (HELP, ""),
     (OTHER, ""),
 ];
@@ -179,8 +182,10 @@ fn tells_a_failed_flush(rt: HostRuntime) {
     }
     let mut writer = UnflushedWriter {
         taken: Vec::new(rt.alloc()),
+        flushed: 0,
     };
     assert!(rt; refuse_bytes(&mut writer) == 2);
+    assert!(rt; writer.flushed == 26);
 }
 
 /// What is read of a text in parts; the reader is interrupted before each.
