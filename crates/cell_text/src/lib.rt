@@ -2,11 +2,13 @@
 //! limited length that allocates nothing.
 #![tactic(auto)]
 
+pub mod block;
 pub mod input;
 pub mod laws;
 pub mod output;
 pub mod page;
 
+pub use block::Block;
 pub use input::{InputFault, read_up_to};
-pub use output::{WriteFault, flush, write_text};
+pub use output::{WriteFault, flush, write_bytes, write_counted, write_text};
 pub use page::Page;

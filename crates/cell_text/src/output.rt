@@ -1,6 +1,6 @@
 //! Writes a text, and says how much of it was written.
 
-ghost use Rattle.std.specs.Prelude.{OnOk, OnErr};
+ghost use Rattle.std.specs.Prelude.{◌≡◌, ◌≤◌, length, take, OnOk, OnErr};
 ghost use Rattle.std.specs.Io.KnownBytes.{Appends, Keeps};
 ghost use Rattle.cell_text.specs.Output.{WroteFront};
 
@@ -19,24 +19,46 @@ pub fn write_text<W: Write>(writer: &mut W, text: &[u8]) -> Result<(), WriteFaul
     ensures ok { OnOk result (Appends (W.contents writer.old) (W.contents writer.new) text.now) }
     ensures err { OnErr result (WroteFront (W.contents writer.old) (W.contents writer.new) text.now) }
 {
-    let mut rest = text;
+    match write_bytes(writer, text) {
+        Ok(()) => flush(writer),
+        Err(fault) => Err(fault),
+    }
+}
+
+/// Writes the whole text, without a flush. After an error a prefix of the text was written. An
+/// interrupted write is tried again.
+pub fn write_bytes<W: Write>(writer: &mut W, text: &[u8]) -> Result<(), WriteFault>
+    ensures ok { OnOk result (Appends (W.contents writer.old) (W.contents writer.new) text.now) }
+    ensures err { OnErr result (WroteFront (W.contents writer.old) (W.contents writer.new) text.now) }
+{
+    write_counted(writer, text).1
+}
+
+/// Writes a text, without a flush, and returns how many of its bytes were written: all of them if
+/// there was no error. An interrupted write is tried again.
+pub fn write_counted<W: Write>(writer: &mut W, text: &[u8]) -> (usize, Result<(), WriteFault>)
+    ensures bound { result.0 ≤ length text.now }
+    ensures all { OnOk result.1 (result.0 ≡ length text.now) }
+    ensures bytes { Appends (W.contents writer.old) (W.contents writer.new) (take result.0 text.now) }
+{
+    let mut written = 0;
     'parts: for _ in 0..u64::MAX {
-        if rest.is_empty() {
-            return flush(writer);
+        if written == text.len() {
+            return (written, Ok(()));
         }
-        let count = match writer.write(rest) {
-            Ok(0) => return Err(WriteFault::Write),
+        let count = match writer.write(&text[written..]) {
+            Ok(0) => return (written, Err(WriteFault::Write)),
             Ok(count) => count,
             Err(error) => {
                 if error.kind() != ErrorKind::Interrupted {
-                    return Err(WriteFault::Write);
+                    return (written, Err(WriteFault::Write));
                 }
                 0
             }
         };
-        rest = &rest[count..];
+        written += count;
     }
-    Err(WriteFault::Write)
+    (written, Err(WriteFault::Write))
 }
 
 /// Flushes a writer. An interrupted flush is tried again; any other failure is an error. What was
