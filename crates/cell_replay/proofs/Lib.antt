@@ -1,8 +1,11 @@
 pub mod Digits
-pub mod Known
+pub mod LimitedReads
 pub mod Lines
 pub mod RecordLemmas
 pub mod Requests
 pub mod Starts
 pub mod Scripts
 pub mod ScriptRows
+pub mod RowsTaken
+pub mod Writings
+pub mod BufferedWrites

@@ -1,8 +1,7 @@
 -- The lines of a script in order, and what another record adds.
-use Rattle.std.proofs.Common.{ℕ, suc, ◌≡◌, ◌<◌, ◌≤◌, ◌+◌, List, [], ◌∷◌, ◌++◌, Option, Some, None, length, map, take, drop, get_or, refl, sym, ◌∙◌, ap, ap₂, arith, append_assoc}
+use Rattle.std.proofs.Common.{ℕ, suc, ◌≡◌, ◌≤◌, ◌+◌, List, [], ◌∷◌, ◌++◌, Option, Some, None, length, map, take, refl, sym, ◌∙◌, ap, ap₂, arith, append_assoc}
 use Rattle.std.specs.List.{enumerate_from}
 use Rattle.std.specs.Option.{option_map_or}
-use Rattle.std.proofs.lemmas.List.{append-nil, drop_more, drop_all}
 use Rattle.std.proofs.Math.Seq.{take-append_seam}
 use Rattle.cell_types.specs.declared.answer.Event.{Event}
 use Rattle.cell_types.specs.Answers.{answer_text}
@@ -12,12 +11,7 @@ use Rattle.cell_rules.specs.History.{IsLegal, after}
 use Rattle.cell_replay.specs.Requests.{Row, request_of}
 use Rattle.cell_replay.specs.Script.{event_line, event_lines, event_of, history_of, line_of, requests_in}
 use Rattle.cell_replay.specs.declared.request.Request.{Request}
-
--- the lines of requests that are made in order, after a number of earlier ones
-unfoldable pub lines_after : ℕ → ModelState → List Request → List (List ℕ)
-lines_after done s [] = []
-lines_after done s (r ∷ rs) =
-    line_of (done + 1) (next s r.machine r.call).stamp (answer_text (reply s r.machine r.call)) ∷ lines_after (done + 1) (next s r.machine r.call) rs
+use Rattle.cell_replay.specs.Writing.{lines_after}
 
 after-append : (s : ModelState) (a b : List Event) → after s (a ++ b) ≡ after (after s a) b
 after-append s [] b = refl
@@ -68,21 +62,6 @@ pub lines_after-more : (done : ℕ) (s : ModelState) (r : Request) (rs : List Re
     → lines_after done s (r ∷ rs) ≡ line_of (done + 1) (next s r.machine r.call).stamp (answer_text (reply s r.machine r.call)) ∷ lines_after (done + 1) (next s r.machine r.call) rs
 unfolding lines_after
 lines_after-more done s r rs = refl
-
--- the records from an index on, and past the last
-pub rows-more : {A B : Type 0} (f : A → B) (rows : List A) (i : ℕ) (row : A) → row ≡ get_or rows i row → i < length rows → map f (drop i rows) ≡ f row ∷ map f (drop (i + 1) rows)
-rows-more f rows i row is lt = ap (map f) (drop_more rows i row lt) ∙ ap (λ r. f r ∷ map f (drop (i + 1) rows)) (sym is)
-
-pub rows-none : {A B : Type 0} (f : A → B) (rows : List A) (i : ℕ) → length rows ≤ i → map f (drop i rows) ≡ []
-rows-none f rows i le = ap (map f) (drop_all i rows le)
-
--- no line is left to write
-pub told-all : (text all rest : List ℕ) → rest ≡ [] → text ++ rest ≡ all → text ≡ all
-told-all text all rest none told = sym (append-nil text) ∙ rw none at told
-
--- another line is written
-pub told-more : (old new line rest all more : List ℕ) → new ≡ old ++ line → more ≡ line ++ rest → old ++ more ≡ all → new ++ rest ≡ all
-told-more old new line rest all more wrote is told = rw (wrote, append_assoc) (rw is at told)
 
 -- The number of requests and events.
 

@@ -1,10 +1,8 @@
--- The records of a text, from those that were read in order.
-use Rattle.std.proofs.Common.{ℕ, zero, suc, ◌≡◌, ◌+◌, ◌-◌, ◌<◌, ◌≤◌, Bool, true, false, cond, List, [], ◌∷◌, length, take, Some, None, refl, sym, ◌∙◌, arith, ◌==◌, ◌&&◌, ◌⊎◌, inl, inr}
+-- What a record takes of a text.
+use Rattle.std.proofs.Common.{ℕ, ◌≡◌, ◌+◌, ◌-◌, ◌≤◌, Bool, true, false, cond, List, [], ◌∷◌, length, Some, None, refl, sym, ◌∙◌, arith, ◌==◌, ◌&&◌, ◌⊎◌, inl, inr}
 use Rattle.std.proofs.lemmas.Bool.{false≢true}
-use Rattle.std.proofs.lemmas.List.{take_all}
 use Rattle.std.proofs.lemmas.Option.{same_Some}
 use Rattle.csv.specs.Machine.{Read, after_end, ends_at_end, ends_with, fields_after, field_after, in_field, is_byte, is_end, next_record, start_field, start_record, step}
-use Rattle.csv.specs.Reading.{Reached, default_config, records, records_from}
 use Rattle.csv.specs.declared.parser.Config.{Config}
 use Rattle.csv.specs.declared.parser.Terminator.{Terminator}
 use Rattle.csv.specs.declared.parser.Terminator.TheVariants as term
@@ -63,7 +61,7 @@ chosen true x y z e = inl (refl, e)
 chosen false x y z e = inr (refl, e)
 
 -- a record leaves the machine between records, and takes a byte if there is one
-next_record-takes : (cfg : Config) (s : State) (fields : List (List ℕ)) (field xs : List ℕ) (p : Read) → next_record cfg s fields field xs ≡ Some p
+pub next_record-takes : (cfg : Config) (s : State) (fields : List (List ℕ)) (field xs : List ℕ) (p : Read) → next_record cfg s fields field xs ≡ Some p
     → (length p.2 ≤ length xs - 1) × (ends_at_end p.1 ≡ false)
 unfolding next_record
 next_record-takes cfg s fields field [] p e =
@@ -80,49 +78,7 @@ next_record-takes cfg s fields field (c ∷ rest) p e =
     ]
 
 -- a record that is found between records takes a byte
-next_record-shorter : (cfg : Config) (s : State) (xs : List ℕ) (p : Read) → ends_at_end s ≡ false → next_record cfg s [] [] xs ≡ Some p → length p.2 + 1 ≤ length xs
+pub next_record-shorter : (cfg : Config) (s : State) (xs : List ℕ) (p : Read) → ends_at_end s ≡ false → next_record cfg s [] [] xs ≡ Some p → length p.2 + 1 ≤ length xs
 unfolding next_record
 next_record-shorter cfg s [] p between e = let none : None ≡ Some p = rw between at e in absurd (cc)
 next_record-shorter cfg s (c ∷ rest) p between e = let takes = next_record-takes cfg s [] [] (c ∷ rest) p e in omega (arith, takes.0)
-
--- each record takes a byte
-pub length-reached : (cfg : Config) (s s2 : State) (xs ys : List ℕ) (rows : List (List (List ℕ))) → ends_at_end s ≡ false → Reached cfg s xs rows s2 ys → length rows + length ys ≤ length xs
-unfolding Reached
-length-reached cfg s s2 xs ys [] between h = rw h.1 (omega arith)
-length-reached cfg s s2 xs ys (r ∷ rows) between h =
-    let shorter = next_record-shorter cfg s xs h.0 between h.1 in
-    let after = (next_record-takes cfg s [] [] xs h.0 h.1).1 in
-    let rest = length-reached cfg h.0.1 s2 h.0.2 ys rows after h.3 in
-    omega (arith, shorter, rest)
-
--- the records that were read are the first of the text
-pub records_from-front : (cfg : Config) (n : ℕ) (s s2 : State) (xs ys : List ℕ) (rows : List (List (List ℕ))) → length rows ≤ n → Reached cfg s xs rows s2 ys → take (length rows) (records_from cfg n s xs) ≡ rows
-unfolding Reached records_from
-records_from-front cfg n s s2 xs ys [] le h = refl
-records_from-front cfg zero s s2 xs ys (r ∷ rows) le h = absurd (omega arith)
-records_from-front cfg (suc n) s s2 xs ys (r ∷ rows) le h =
-    let rest = records_from-front cfg n h.0.1 s2 h.0.2 ys rows (omega arith) h.3 in
-    rw (h.1, rest, ← h.2) refl
-
--- they are all of them, if no more is found
-pub records_from-all : (cfg : Config) (n : ℕ) (s s2 : State) (xs ys : List ℕ) (rows : List (List (List ℕ))) → length rows < n → Reached cfg s xs rows s2 ys → next_record cfg s2 [] [] ys ≡ None → records_from cfg n s xs ≡ rows
-unfolding Reached records_from
-records_from-all cfg zero s s2 xs ys rows lt h e = absurd (omega arith)
-records_from-all cfg (suc n) s s2 xs ys [] lt h e = rw (h.0, h.1, e) refl
-records_from-all cfg (suc n) s s2 xs ys (r ∷ rows) lt h e =
-    let rest = records_from-all cfg n h.0.1 s2 h.0.2 ys rows (omega arith) h.3 e in
-    rw (h.1, rest, ← h.2) refl
-
--- as many records were read as are wanted
-pub records-front : (xs ys : List ℕ) (s2 : State) (rows : List (List (List ℕ))) (most : ℕ) → most ≡ length rows → Reached default_config st.StartRecord xs rows s2 ys → rows ≡ take most (records default_config xs)
-records-front xs ys s2 rows most full h =
-    let fits = length-reached default_config st.StartRecord s2 xs ys rows refl h in
-    rw full (sym (records_from-front default_config (length xs + 1) st.StartRecord s2 xs ys rows (omega (arith, fits)) h))
-
--- all records were read
-pub records-all : (xs ys : List ℕ) (s2 : State) (rows : List (List (List ℕ))) (most : ℕ) → length rows ≤ most → Reached default_config st.StartRecord xs rows s2 ys → next_record default_config s2 [] [] ys ≡ None
-    → rows ≡ take most (records default_config xs)
-records-all xs ys s2 rows most le h e =
-    let fits = length-reached default_config st.StartRecord s2 xs ys rows refl h in
-    let all = records_from-all default_config (length xs + 1) st.StartRecord s2 xs ys rows (omega (arith, fits)) h e in
-    rw all (sym (take_all most rows le))

@@ -1,12 +1,11 @@
 -- Facts of every script.
-use Rattle.std.proofs.Common.{append_assoc, ◌++◌, ℕ, zero, suc, ◌≡◌, ◌<◌, ◌≤◌, ◌+◌, ◌-◌, Bool, true, false, cond, List, [], ◌∷◌, Result, Ok, Err, IfOk, length, map, take, drop, min, nat_lt, nat_le, refl, sym, ◌∙◌, ap, ap₂, arith, Option, Some, None, ◌==◌, ◌&&◌, not, codes, MatchResult, ◌⊎◌, inl, inr}
+use Rattle.std.proofs.Common.{ℕ, ◌≡◌, ◌<◌, ◌≤◌, ◌+◌, Bool, true, false, cond, List, [], ◌∷◌, Result, Ok, Err, IfOk, length, take, drop, min, nat_lt, nat_le, refl, ◌∙◌, arith, Option, Some, None, ◌==◌, ◌&&◌, not, codes, MatchResult, ◌⊎◌, inl, inr}
 use Rattle.std.specs.Prelude.{⊤}
-use Rattle.std.specs.List.{concat, enumerate_from}
+use Rattle.std.specs.List.{enumerate_from}
 use Rattle.std.specs.Str.{bytes_eq}
 use Rattle.std.proofs.lemmas.Bool.Decides.{nat_tests}
-use Rattle.std.proofs.lemmas.List.{length-take, length-take-le, length-map, take-map, take-take, take_all}
+use Rattle.std.proofs.lemmas.List.{length-take, length-map}
 use Rattle.std.proofs.lemmas.List.FromFn.{length-enumerate_from}
-use native.Mathlib.Decide.{dec_lt}
 use Rattle.cell_types.specs.declared.answer.Event.{Event}
 use Rattle.cell_types.specs.declared.place.Place.TheVariants.{PressIn, PressOut}
 use Rattle.cell_rules.specs.ModelState.{ModelState, last_stamp, size_of}
@@ -15,10 +14,9 @@ use Rattle.cell_rules.specs.History.{IsLegal}
 use Rattle.cell_rules.specs.Start.{IsStartState, IsStart, places_of, start_state}
 use Rattle.cell_replay.specs.Requests.{Row}
 use Rattle.cell_rules.specs.StartDigits.{is_start, places_in}
-use Rattle.cell_replay.specs.Script.{end_of, event_line, event_lines, events_from, history_of, is_cut_of, lines_from, most_records, most_rows, number_in, outcome_from, requests_in, rows_lines, rows_outcome, rows_start, script_events, script_lines, script_outcome, script_rows, script_start, start_line, start_fields, start_in, start_of, used, without_last}
+use Rattle.cell_replay.specs.Script.{event_line, event_lines, events_from, is_cut_of, lines_from, most_records, number_in, outcome_from, requests_in, rows_lines, rows_outcome, rows_start, script_events, script_lines, script_outcome, script_rows, script_start, start_fields, start_in, start_of}
 use Rattle.cell_replay.specs.declared.script.ScriptFault.{ScriptFault}
 use Rattle.cell_replay.specs.declared.script.ScriptFault.TheVariants.{NoStart, BadStart, BadRow, Long}
-use Rattle.cell_replay.specs.declared.script.Outcome.{Outcome}
 use Rattle.cell_replay.specs.declared.script.Outcome.TheVariants.{Clean, Refused}
 use Rattle.cell_replay.proofs.Lines.{legal-history_of, length-history_of, length-requests_in}
 
@@ -233,78 +231,3 @@ not_cut bytes few = grind (arith, nat_tests)
 pub lines-long : (bytes : List ℕ) → script_outcome bytes ≡ Refused Long → length bytes ≤ 4194304 → length (script_lines bytes) ≡ 65537
 unfolding script_outcome script_lines
 lines-long bytes e few = rows_of_long_whole (is_cut_of bytes) (script_rows bytes) (not_cut bytes few) e
-
--- Records past the limit change nothing.
-
-lt-min : (n k m : ℕ) → n < k → nat_lt n (min k m) ≡ nat_lt n m
-lt-min n k m lt = grind (arith, nat_tests)
-
-end_of-take : (is_cut : Bool) (answered k count : ℕ) → answered < k → end_of is_cut answered (min k count) ≡ end_of is_cut answered count
-end_of-take is_cut answered k count room = rw (lt-min answered k count room) refl
-
-events_from-take : (start : Result ModelState ScriptFault) (k : ℕ) (rows : List Row) → most_records ≤ k → events_from start (take k rows) ≡ events_from start rows
-events_from-take (Ok s) k rows room = ap (λ r. history_of s (requests_in r)) (take-take most_records k rows room)
-events_from-take (Err fault) k rows room = refl
-
-outcome_from-take : (is_cut : Bool) (start : Result ModelState ScriptFault) (k : ℕ) (rows : List Row) → most_records < k
-    → outcome_from is_cut start (length (events_from start (take k rows))) (length (take k rows)) ≡ outcome_from is_cut start (length (events_from start rows)) (length rows)
-outcome_from-take is_cut (Ok s) k rows room =
-    let few = length-events_from (Ok s) rows in
-    ap₂ (end_of is_cut) (ap length (events_from-take (Ok s) k rows (omega arith))) (length-take k rows) ∙ end_of-take is_cut (length (events_from (Ok s) rows)) k (length rows) (omega (arith, few.1))
-outcome_from-take is_cut (Err fault) k rows room = refl
-
-rows_lines-take : (is_cut : Bool) (k : ℕ) (rows : List Row) → most_records + 1 < k → rows_lines is_cut (take k rows) ≡ rows_lines is_cut rows
-rows_lines-take is_cut zero rows room = absurd (omega arith)
-rows_lines-take is_cut (suc k) [] room = refl
-rows_lines-take is_cut (suc k) (row ∷ rows) room = ap (lines_from (start_in row)) (events_from-take (start_in row) k rows (omega arith))
-
-rows_outcome-take : (is_cut : Bool) (k : ℕ) (rows : List Row) → most_records + 1 < k → rows_outcome is_cut (take k rows) ≡ rows_outcome is_cut rows
-rows_outcome-take is_cut zero rows room = absurd (omega arith)
-rows_outcome-take is_cut (suc k) [] room = refl
-rows_outcome-take is_cut (suc k) (row ∷ rows) room = outcome_from-take is_cut (start_in row) k rows (omega arith)
-
--- what doesn't depend on records past the limit is the same for all records and for those that are read
-used-take : {A : Type 0} (f : List Row → A) → ((k : ℕ) (rows : List Row) → most_records + 1 < k → f (take k rows) ≡ f rows)
-    → (is_cut : Bool) (rows : List Row) → f (used is_cut (take most_rows rows)) ≡ f (used is_cut rows)
-used-take f same false rows = same most_rows rows (omega arith)
-used-take f same true rows =
-    elim (dec_lt (length rows) most_rows) [
-      | yes few ↦ let all : take most_rows rows ≡ rows = take_all most_rows rows (omega arith) in ap (λ r. f (without_last r)) all
-      | no many ↦
-          let count : length (take most_rows rows) ≡ most_rows = length-take-le most_rows rows (omega arith) in
-          let front : take (most_rows - 1) (take most_rows rows) ≡ take (most_rows - 1) rows = take-take (most_rows - 1) most_rows rows (omega arith) in
-          rw (count, front) (same (most_rows - 1) rows (omega arith) ∙ sym (same (length rows - 1) rows (omega arith)))
-    ]
-
-pub rows_lines-used : (is_cut : Bool) (rows : List Row) → rows_lines is_cut (used is_cut (take most_rows rows)) ≡ rows_lines is_cut (used is_cut rows)
-rows_lines-used is_cut rows = used-take (rows_lines is_cut) (rows_lines-take is_cut) is_cut rows
-
-pub rows_outcome-used : (is_cut : Bool) (rows : List Row) → rows_outcome is_cut (used is_cut (take most_rows rows)) ≡ rows_outcome is_cut (used is_cut rows)
-rows_outcome-used is_cut rows = used-take (rows_outcome is_cut) (rows_outcome-take is_cut) is_cut rows
-
--- What the code has written.
-
--- the first k records, if there are that many
-first_rows : {A : Type 0} (k : ℕ) (rows : List A) → take (min (length rows) k) rows ≡ take k rows
-first_rows {A} zero rows = let none : min (length rows) zero ≡ zero = omega arith in ap (λ (n : ℕ). take n rows) none
-first_rows {A} (suc k) [] = let none : min zero (suc k) ≡ zero = omega arith in ap (λ (n : ℕ). take {A = A} n []) none
-first_rows {A} (suc k) (row ∷ rows) =
-    let both : min (suc (length rows)) (suc k) ≡ suc (min (length rows) k) = omega arith in
-    ap (λ (n : ℕ). take n (row ∷ rows)) both ∙ ap (λ (r : List A). row ∷ r) (first_rows k rows)
-
-pub first_rows_mapped : {A B : Type 0} (f : A → B) (k : ℕ) (rows : List A) → map f (take (min (length rows) k) rows) ≡ take k (map f rows)
-first_rows_mapped f k rows = ap (map f) (first_rows k rows) ∙ sym (take-map f k rows)
-
-pub lines_told : (is_cut : Bool) (rows later : List Row) (row : Row) (s : ModelState) (old mid new : List ℕ) → rows ≡ row ∷ later → start_in row ≡ Ok s → mid ≡ old ++ start_line s
-    → new ≡ mid ++ concat (event_lines s (history_of s (requests_in (take most_records later)))) → new ≡ old ++ concat (rows_lines is_cut rows)
-lines_told is_cut rows later row s old mid new split start first rest =
-    let lines : rows_lines is_cut (row ∷ later) ≡ start_line s ∷ event_lines s (history_of s (requests_in (take most_records later))) = ap (λ (t : Result ModelState ScriptFault). lines_from t (events_from t later)) start in
-    rw (split, lines) (rest ∙ ap (λ t. t ++ concat (event_lines s (history_of s (requests_in (take most_records later))))) first ∙ append_assoc old (start_line s) _)
-
-pub outcome_told : (is_cut : Bool) (rows later : List Row) (row : Row) (s : ModelState) (answered count : ℕ) (o : Outcome) → rows ≡ row ∷ later → start_in row ≡ Ok s
-    → answered ≡ length (requests_in (take most_records later)) → count ≡ length later → o ≡ end_of is_cut answered count → o ≡ rows_outcome is_cut rows
-outcome_told is_cut rows later row s answered count o split start n m is =
-    let events : answered ≡ length (history_of s (requests_in (take most_records later))) = n ∙ sym (length-history_of s (requests_in (take most_records later))) in
-    let outcome : rows_outcome is_cut (row ∷ later) ≡ end_of is_cut (length (history_of s (requests_in (take most_records later)))) (length later)
-    = ap (λ (t : Result ModelState ScriptFault). outcome_from is_cut t (length (events_from t later)) (length later)) start in
-    rw split (is ∙ ap₂ (end_of is_cut) events m ∙ sym outcome)

@@ -32,10 +32,6 @@ most_records = 65536
 abbrev pub most_bytes_read : ℕ
 most_bytes_read = 4194305
 
--- more records than this change nothing: record 0, those after it, one too many, and the last of a cut script
-abbrev pub most_rows : ℕ
-most_rows = 65539
-
 -- the number that more digits write, after those of a number
 abbrev pub read_on : ℕ → List ℕ → ℕ
 read_on number [] = number

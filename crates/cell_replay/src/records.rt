@@ -1,38 +1,146 @@
-//! The records of a text.
+//! The records of a script, one at a time.
 
-ghost use Rattle.std.specs.Prelude.{◌≡◌, map, take, IfOk};
+ghost use Rattle.std.specs.Prelude.{◌≡◌, ℕ, List, take, None, Some, IfOk, OnOk};
 ghost use Rattle.csv.specs.Reading.{default_config, records, strip_bom};
 ghost use Rattle.csv.specs.Records.{fields_of};
+ghost use Rattle.cell_replay.specs.Limited.{bytes_left};
+ghost use Rattle.cell_replay.specs.Records.{GivesRow, HasRows, IsPlain, RowsLeft, TakesRow};
+ghost use Rattle.cell_replay.specs.Requests.{Row};
+ghost use Rattle.cell_replay.specs.Script.{byte_limit, is_cut_of, used};
 
-use csv::{ByteRecord, ErrorKind, ReaderBuilder};
-use std::alloc::{AllocError, Global};
+use crate::lent::{LentReader, Origin};
+use crate::limited::LimitedReader;
+use cell_text::InputFault;
+use csv::{ByteRecord, ErrorKind, Reader, ReaderBuilder};
+use std::alloc::Global;
+use std::io::Read;
+use std::mem;
 
-/// The first `most` records of a text without a header row, or all if there are fewer. A record may
-/// have any number of fields. The error is that memory ran out; reading bytes in memory doesn't
-/// fail.
-pub fn first_rows(alloc: Global, text: &[u8], most: usize) -> Result<Vec<ByteRecord>, AllocError>
-    ensures { IfOk result (λ v. map fields_of v.items ≡ take most (records default_config (strip_bom text.now))) }
+/// Reads the next record into `row`. Returns whether there was one. `Read` if the reader failed,
+/// `Memory` if memory ran out.
+fn read_row<R: Read>(reader: &mut Reader<R>, row: &mut ByteRecord) -> Result<bool, InputFault>
+    requires { IsPlain reader.old }
+    ensures plain { OnOk result (IsPlain reader.new) }
+    ensures found { IfOk result (λ found. (rows : List Row) → HasRows R.remaining reader.old rows →
+        TakesRow R.remaining reader.new found (fields_of row.new) rows) }
 {
-    let reader = ReaderBuilder::new()
-        .has_headers(false)
-        .flexible(true)
-        .from_reader(alloc, text);
-    let mut rows = Vec::new(alloc);
-    'rows: for row in reader.into_byte_records() {
-        if rows.len() == most {
-            return Ok(rows);
+    match reader.read_byte_record(row) {
+        Ok(found) => Ok(found),
+        Err(error) => match error.kind() {
+            ErrorKind::Io(_) => Err(InputFault::Read),
+            ErrorKind::OutOfMemory => Err(InputFault::Memory),
+            // Records may have any length, they are bytes, and no type is read or written.
+            ErrorKind::UnequalLengths { .. }
+            | ErrorKind::Utf8 { .. }
+            | ErrorKind::Serialize(_)
+            | ErrorKind::Deserialize { .. } => unreachable!(),
+        },
+    }
+}
+
+/// The records of a script in order, without the last one of a script that is cut. One record is
+/// held back until it is known whether it is the last one.
+#[derive(Drop)]
+pub struct Records<'f, L: LentReader, K: Origin> {
+    reader: Reader<&'f mut LimitedReader<L, K>>,
+    row: ByteRecord,
+    held: ByteRecord,
+    holds: bool,
+    // Whether the script is cut, once no record is held.
+    is_cut: bool,
+}
+
+impl<'f, L: LentReader, K: Origin> Records<'f, L, K> {
+    /// Reads the next record into `held`.
+    fn read_ahead(&mut self) -> Result<(), InputFault>
+        requires { IsPlain self.old.reader }
+        ensures plain { OnOk result (IsPlain self.new.reader) }
+        ensures row { self.new.row ≡ self.old.row }
+        ensures found { OnOk result ((bytes : List ℕ) → K.bytes ≡ Some bytes → (rows : List Row) →
+            HasRows (λ r. bytes_left (L.left r.now.input) r.now.is_cut r.now.taken) self.old.reader rows →
+            GivesRow self.new.holds (fields_of self.new.held) rows self.new.is_cut (is_cut_of bytes)
+            (HasRows (λ r. bytes_left (L.left r.now.input) r.now.is_cut r.now.taken) self.new.reader)) }
+    {
+        self.holds = read_row(&mut self.reader, &mut self.held)?;
+        if !self.holds {
+            match self.reader.get_ref().is_cut() {
+                Some(is_cut) => self.is_cut = is_cut,
+                // `csv` finds no record only at the end of its reader, which notes it.
+                None => return Err(InputFault::Read),
+            }
         }
-        match row {
-            Ok(row) => rows.push(row)?,
-            Err(error) => match error.kind() {
-                ErrorKind::OutOfMemory | ErrorKind::Io(_) => return Err(AllocError),
-                // Records may have any length, they are bytes, and no type is read or written.
-                ErrorKind::UnequalLengths { .. }
-                | ErrorKind::Utf8 { .. }
-                | ErrorKind::Serialize(_)
-                | ErrorKind::Deserialize { .. } => unreachable!(),
-            },
+        Ok(())
+    }
+
+    /// The records of a reader, none of which is read.
+    pub fn new(alloc: Global, input: &'f mut LimitedReader<L, K>) -> Records<'f, L, K>
+        requires taken { input.old.taken ≡ 0 }
+        requires unnoted { input.old.is_cut ≡ None }
+        ensures plain { IsPlain result.reader }
+        ensures all { (bytes : List ℕ) → K.bytes ≡ Some bytes →
+            HasRows (λ r. bytes_left (L.left r.now.input) r.now.is_cut r.now.taken) result.reader (records default_config (strip_bom (take byte_limit bytes))) }
+    {
+        Records {
+            reader: ReaderBuilder::new()
+                .has_headers(false)
+                .flexible(true)
+                .from_reader(alloc, input),
+            row: ByteRecord::new(alloc),
+            held: ByteRecord::new(alloc),
+            holds: false,
+            is_cut: false,
         }
     }
-    Ok(rows)
+
+    /// Reads the first record that is held back.
+    pub fn begin(&mut self) -> Result<(), InputFault>
+        requires { IsPlain self.old.reader }
+        ensures plain { OnOk result (IsPlain self.new.reader) }
+        ensures left { OnOk result ((bytes : List ℕ) → K.bytes ≡ Some bytes → (rows : List Row) →
+            HasRows (λ r. bytes_left (L.left r.now.input) r.now.is_cut r.now.taken) self.old.reader rows →
+            RowsLeft (λ r. bytes_left (L.left r.now.input) r.now.is_cut r.now.taken) (is_cut_of bytes) self.new.reader
+            self.new.holds (fields_of self.new.held) self.new.is_cut (used (is_cut_of bytes) rows)) }
+    {
+        self.read_ahead()?;
+        Ok(())
+    }
+
+    /// Reads on, so that `row` is the next record. Returns whether there is one.
+    pub fn next(&mut self) -> Result<bool, InputFault>
+        requires { IsPlain self.old.reader }
+        ensures plain { OnOk result (IsPlain self.new.reader) }
+        ensures gives { IfOk result (λ found. (bytes : List ℕ) → K.bytes ≡ Some bytes → (left : List Row) →
+            RowsLeft (λ r. bytes_left (L.left r.now.input) r.now.is_cut r.now.taken) (is_cut_of bytes) self.old.reader
+            self.old.holds (fields_of self.old.held) self.old.is_cut left →
+            GivesRow found (fields_of self.new.row) left self.new.is_cut (is_cut_of bytes)
+            (RowsLeft (λ r. bytes_left (L.left r.now.input) r.now.is_cut r.now.taken) (is_cut_of bytes) self.new.reader
+            self.new.holds (fields_of self.new.held) self.new.is_cut)) }
+    {
+        if !self.holds {
+            return Ok(false);
+        }
+        mem::swap(&mut self.row, &mut self.held);
+        self.read_ahead()?;
+        Ok(self.holds || !self.is_cut)
+    }
+
+    /// The record that `next` found last.
+    pub fn row(&self) -> &ByteRecord
+        ensures { result.now ≡ self.now.row }
+    {
+        &self.row
+    }
+
+    /// Whether a further line was read already. If so, `next` doesn't wait for the reader.
+    pub fn has_line(&self) -> bool {
+        let used = self.reader.position().byte();
+        self.reader.get_ref().has_line_after(used)
+    }
+
+    /// Whether the script is cut, once `next` has found no record.
+    pub fn is_cut(&self) -> bool
+        ensures { result ≡ self.now.is_cut }
+    {
+        self.is_cut
+    }
 }

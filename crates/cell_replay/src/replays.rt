@@ -1,30 +1,26 @@
 //! Replays a script.
 
-ghost use Rattle.std.specs.Prelude.{◌≡◌, map, take, IfOk, IfErr, IfSome, OnOk, string_bytes};
-ghost use Rattle.std.specs.Io.KnownBytes.{Appends};
-ghost use Rattle.csv.specs.Reading.{default_config, records, strip_bom};
-ghost use Rattle.csv.specs.Records.{fields_of};
+ghost use Rattle.std.specs.Prelude.{◌≡◌, ◌++◌, ℕ, List, None, Some, IfOk, IfErr, IfSome, OnOk, string_bytes};
+ghost use Rattle.std.specs.Io.KnownBytes.{Appends, append_known};
 ghost use Rattle.cell_replay.specs.Faults.{Leaves};
 ghost use Rattle.cell_text.specs.Input.{TakesAtMost};
-ghost use Rattle.cell_replay.specs.Script.{byte_limit, is_cut_of, most_bytes_read, most_rows, script_outcome, script_text, used};
+ghost use Rattle.cell_replay.specs.Script.{end_text, fault_text, most_bytes_read, script_outcome, script_text};
+ghost use Rattle.cell_replay.specs.Writing.{WritesEnd, WritesScript};
 
-use crate::records::first_rows;
+use crate::answers::answer_rows;
+use crate::buffered::BufferedWriter;
+use crate::lent::{LentReader, LentWriter, Origin};
+use crate::limited::LimitedReader;
+use crate::records::Records;
 use crate::script::{Outcome, ReplayFault};
-use crate::tell::tell;
-use cell_text::{InputFault, read_up_to, write_text};
-use csv::ByteRecord;
+use cell_text::write_bytes;
 use std::alloc::{AllocError, Global};
 use std::io::{Read, Write};
-
-/// The most bytes of a script that are used.
-const BYTE_LIMIT: usize = 4_194_304;
-
-/// The most records that are read: record 0, the 65,536 that may be answered, one too many, and the
-/// last record of a cut script.
-const MOST_ROWS: usize = 65_539;
+use std::marker::Brand;
 
 /// Reads a script from the reader, makes its calls in order, and writes a line for each. If the
-/// script is refused, a last line says why. The text is complete before any of it is written.
+/// script is refused, a last line says why. The script is read record by record: a line is written
+/// when the next record is read, and before the reader is waited for.
 ///
 /// After `Read` or `Memory`, what was written is some first lines of the text, each whole; after
 /// `Write`, a prefix of the text. At most 4,194,305 bytes are taken from the reader.
@@ -47,51 +43,108 @@ pub fn replay<R: Read, W: Write>(
     // Reading stops one byte after the limit, however the replay ends.
     ensures taken { TakesAtMost (R.remaining reader.old) (R.remaining reader.new) most_bytes_read }
 {
-    let (text, outcome) = answer(alloc, reader)?;
-    match write_text(writer, text.as_str().as_bytes()) {
+    let Replayed {
+        input: _,
+        output: _,
+        ended,
+    } = replay_lent::<&mut R, &mut W, Brand>(alloc, reader, writer);
+    ended
+}
+
+/// A reader and a writer after a replay, and how it ended.
+#[derive(Drop)]
+struct Replayed<L, O> {
+    input: L,
+    output: O,
+    ended: Result<Outcome, ReplayFault>,
+}
+
+/// Replays a script. `K` identifies the reader and the writer, which are returned.
+fn replay_lent<L: LentReader, O: LentWriter, K: Origin>(
+    alloc: Global,
+    input: L,
+    output: O,
+) -> Replayed<L, O>
+    requires bytes { L.left input ≡ K.bytes }
+    requires reader { L.loan_of input ≡ K.reader_loan }
+    requires written { O.contents output ≡ K.written }
+    requires writer { O.loan_of output ≡ K.writer_loan }
+    ensures reader { L.loan_of result.input ≡ L.loan_of input }
+    ensures writer { O.loan_of result.output ≡ O.loan_of output }
+    ensures taken { TakesAtMost (L.left input) (L.left result.input) most_bytes_read }
+    ensures script { (bytes : List ℕ) → L.left input ≡ Some bytes →
+        WritesScript bytes (O.contents output) (O.contents result.output) result.ended }
+{
+    let mut reader = LimitedReader::<L, K>::new(input);
+    let mut writer = BufferedWriter::<O, K>::new(output);
+    let answered = answer_script(alloc, &mut reader, &mut writer);
+    let ended = finish(answered, &mut writer);
+    Replayed {
+        input: reader.into_input(),
+        output: writer.into_output(),
+        ended,
+    }
+}
+
+/// Writes the lines that wait after a replay, unless the writer failed before.
+fn finish<O: LentWriter, K: Origin>(
+    answered: Result<Outcome, ReplayFault>,
+    writer: &mut BufferedWriter<O, K>,
+) -> Result<Outcome, ReplayFault>
+    ensures script { (bytes : List ℕ) →
+        WritesScript bytes K.written (append_known (O.contents writer.old.output) writer.old.waiting) answered →
+        WritesScript bytes K.written (O.contents writer.new.output) result }
+{
+    if answered == Err(ReplayFault::Write) {
+        return Err(ReplayFault::Write);
+    }
+    match writer.flush_out() {
+        Ok(()) => answered,
+        Err(_) => Err(ReplayFault::Write),
+    }
+}
+
+/// Reads a script and writes its text.
+fn answer_script<L: LentReader, K: Origin, W: Write>(
+    alloc: Global,
+    input: &mut LimitedReader<L, K>,
+    writer: &mut W,
+) -> Result<Outcome, ReplayFault>
+    requires taken { input.old.taken ≡ 0 }
+    requires unnoted { input.old.is_cut ≡ None }
+    ensures written { (bytes : List ℕ) → K.bytes ≡ Some bytes →
+        WritesScript bytes (W.contents writer.old) (W.contents writer.new) result }
+{
+    let mut records = Records::new(alloc, input);
+    records.begin()?;
+    match answer_rows(alloc, &mut records, writer) {
+        Ok(outcome) => write_end(alloc, outcome, writer),
+        Err(fault) => Err(fault),
+    }
+}
+
+/// Writes the last line of a script that is refused.
+fn write_end<W: Write>(
+    alloc: Global,
+    outcome: Outcome,
+    writer: &mut W,
+) -> Result<Outcome, ReplayFault>
+    ensures written { WritesEnd outcome (W.contents writer.old) (W.contents writer.new) result }
+{
+    let mut line = String::new(alloc);
+    push_end(&mut line, outcome)?;
+    match write_bytes(writer, line.as_str().as_bytes()) {
         Ok(()) => Ok(outcome),
         Err(_) => Err(ReplayFault::Write),
     }
 }
 
-/// The text that answers the script of a reader, and how the script ends.
-fn answer<R: Read>(alloc: Global, reader: &mut R) -> Result<(String, Outcome), InputFault>
-    ensures text { IfOk result (λ p. IfSome (R.remaining reader.old) (λ bytes. string_bytes p.0 ≡ script_text bytes)) }
-    ensures outcome { IfOk result (λ p. IfSome (R.remaining reader.old) (λ bytes. p.1 ≡ script_outcome bytes)) }
-    ensures taken { TakesAtMost (R.remaining reader.old) (R.remaining reader.new) most_bytes_read }
+/// Appends the last line of a script that is refused.
+fn push_end(text: &mut String, outcome: Outcome) -> Result<(), AllocError>
+    ensures { OnOk result (string_bytes text.new ≡ string_bytes text.old ++ end_text outcome) }
 {
-    let script = read_script(alloc, reader)?;
-    let rows = used_rows(alloc, &script)?;
-    Ok(tell(alloc, rows.as_slice(), script.is_cut)?)
-}
-
-/// The bytes of a script that are used.
-#[derive(Drop)]
-struct Script {
-    bytes: Vec<u8>,
-    // Whether there were more.
-    is_cut: bool,
-}
-
-fn read_script<R: Read>(alloc: Global, reader: &mut R) -> Result<Script, InputFault>
-    ensures bytes { IfOk result (λ s. IfSome (R.remaining reader.old) (λ bytes. s.bytes.items ≡ take byte_limit bytes)) }
-    ensures cut { IfOk result (λ s. IfSome (R.remaining reader.old) (λ bytes. s.is_cut ≡ is_cut_of bytes)) }
-    ensures taken { TakesAtMost (R.remaining reader.old) (R.remaining reader.new) most_bytes_read }
-{
-    let mut bytes = read_up_to(alloc, reader, BYTE_LIMIT + 1)?;
-    let is_cut = bytes.len() > BYTE_LIMIT;
-    bytes.truncate(BYTE_LIMIT);
-    Ok(Script { bytes, is_cut })
-}
-
-/// The records that may be answered: the first ones, of a cut script without the last.
-fn used_rows(alloc: Global, script: &Script) -> Result<Vec<ByteRecord>, AllocError>
-    ensures { IfOk result (λ v. map fields_of v.items
-        ≡ used script.now.is_cut (take most_rows (records default_config (strip_bom script.now.bytes.items)))) }
-{
-    let mut rows = first_rows(alloc, script.bytes.as_slice(), MOST_ROWS)?;
-    if script.is_cut {
-        rows.truncate(rows.len().saturating_sub(1));
+    match outcome {
+        Outcome::Clean => Ok(()),
+        Outcome::Refused(fault) => writeln!(text, "fault {fault}"),
     }
-    Ok(rows)
 }

@@ -3,8 +3,10 @@
 ghost use Rattle.std.specs.Prelude.{◌≡◌, Some};
 ghost use Rattle.cell_replay.specs.Script.{fault_text};
 ghost use Rattle.cell_replay.specs.Faults.{replay_fault_of};
+ghost use Rattle.cell_replay.specs.declared.script.ReplayFault.TheVariants.{Memory};
 
 use cell_text::InputFault;
+use std::alloc::AllocError;
 use std::fmt;
 
 /// Why a script was refused.
@@ -51,6 +53,14 @@ pub enum ReplayFault {
     Write,
     /// Memory ran out.
     Memory,
+}
+
+impl From<AllocError> for ReplayFault {
+    ghost from_gives = { λ _ fault. fault ≡ Memory };
+
+    fn from(_error: AllocError) -> ReplayFault {
+        ReplayFault::Memory
+    }
 }
 
 impl From<InputFault> for ReplayFault {

@@ -7,6 +7,7 @@ mod audits;
 mod faults;
 mod forms;
 mod limits;
+mod line_by_line;
 mod long_audits;
 mod order;
 mod reports;

@@ -3,6 +3,7 @@
 use crate::doubles::{EndlessReader, Failure, InterruptedReader, InterruptedWriter};
 use cell_replay::{Outcome, ReplayFault, ScriptFault, replay};
 use std::alloc::Global;
+use std::io::Read;
 
 const SCRIPT: &str =
     "start,0000000000\npress,claim,z3\nrobot,claim,z3\npress,release,z3\nrobot,claim,z3\nwatch,inquire,z3\n";
@@ -15,29 +16,47 @@ fn is_whole_lines(written: &[u8]) -> bool {
     TEXT.as_bytes().starts_with(written) && (written.is_empty() || written.ends_with(b"\n"))
 }
 
-/// Whether the replay fails to read, and has written whole lines, if the reader fails after `left`
-/// bytes of the script.
+fn count_lines(text: &[u8]) -> usize {
+    text.iter().filter(|byte| **byte == b'\n').count()
+}
+
+/// Whether the replay fails to read if the reader fails after `left` bytes of the script, and has
+/// written the lines of all records that it has read, except the last one.
 fn fails_to_read(alloc: Global, left: usize) -> bool {
     let mut reader = InterruptedReader::new(SCRIPT.as_bytes(), left);
     let mut written = Vec::new(alloc);
     let got = replay(alloc, &mut reader, &mut written);
-    got == Err(ReplayFault::Read) && is_whole_lines(written.as_slice())
+    let records = count_lines(&SCRIPT.as_bytes()[..left.min(SCRIPT.len())]);
+    got == Err(ReplayFault::Read)
+        && is_whole_lines(written.as_slice())
+        && count_lines(written.as_slice()) == records.saturating_sub(1)
 }
 
 /// Whether the replay has this result with a writer for `room` bytes, and has written that many of
-/// its text, or all if it is shorter.
+/// its text, or all if it is shorter. The script is read at once, and then a byte at a time.
 fn is_written(
     alloc: Global,
     room: usize,
     failure: Failure,
     wanted: Result<Outcome, ReplayFault>,
 ) -> bool {
+    let mut at_once = InterruptedWriter::new(alloc, room, 3, failure);
+    let mut bytewise = InterruptedWriter::new(alloc, room, 3, failure);
     let mut reader = InterruptedReader::new(SCRIPT.as_bytes(), usize::MAX);
-    let mut writer = InterruptedWriter::new(alloc, room, 3, failure);
-    let got = replay(alloc, &mut reader, &mut writer);
-    got == wanted
-        && writer.taken.len() == room.min(TEXT.len())
-        && TEXT.as_bytes().starts_with(writer.taken.as_slice())
+    replay(alloc, &mut SCRIPT.as_bytes(), &mut at_once) == wanted
+        && replay(alloc, &mut reader, &mut bytewise) == wanted
+        && [at_once, bytewise].iter().all(|writer| {
+            writer.taken.len() == room.min(TEXT.len())
+                && TEXT.as_bytes().starts_with(writer.taken.as_slice())
+        })
+}
+
+/// How many lines are written before a flush fails, if they are the first lines of the text.
+fn lines_before_failed_flush<R: Read>(alloc: Global, reader: &mut R) -> Option<usize> {
+    let mut writer = InterruptedWriter::new(alloc, usize::MAX, 3, Failure::Flush);
+    let failed = replay(alloc, reader, &mut writer) == Err(ReplayFault::Write);
+    let written = writer.taken.as_slice();
+    (failed && is_whole_lines(written)).then(|| count_lines(written))
 }
 
 #[test]
@@ -61,8 +80,17 @@ fn fails_with_its_writer(rt: HostRuntime) {
             "{room}"
         );
     }
-    assert!(rt; is_written(rt.alloc(), usize::MAX, Failure::Flush, failed));
     assert!(rt; is_written(rt.alloc(), usize::MAX, Failure::Write, Ok(Outcome::Clean)));
+}
+
+// The writer is flushed when no further line is at hand: of a script that is read at once, when all
+// lines but the last are known; of one that is read a byte at a time, after each line.
+#[test]
+fn fails_with_its_flush(rt: HostRuntime) {
+    let alloc = rt.alloc();
+    let mut bytewise = InterruptedReader::new(SCRIPT.as_bytes(), usize::MAX);
+    assert!(rt; lines_before_failed_flush(alloc, &mut SCRIPT.as_bytes()) == Some(5));
+    assert!(rt; lines_before_failed_flush(alloc, &mut bytewise) == Some(1));
 }
 
 // The run chooses which allocation is refused. The writer allocates nothing.

@@ -1,7 +1,8 @@
 //! Scripts that are too long.
 
 use super::is_answered;
-use cell_replay::{Outcome, ScriptFault, replay};
+use crate::doubles::InterruptedReader;
+use cell_replay::{Outcome, ReplayFault, ScriptFault, replay};
 use std::alloc::Global;
 use std::process::Abort;
 
@@ -28,6 +29,23 @@ const ROWS: &[(Filled, &str, Outcome)] = &[
     // A record that goes on past the used bytes is the last one.
     (
         (TWO, 4_194_300, "watch,inquire,z3\n"),
+        "0 0 start 0\n1 0 zone free 0 closed\n2 0 zone free 0 closed\nfault long\n",
+        LONG,
+    ),
+    // So is one that lacks its line feed, one whose line feed is the last used byte, and one in
+    // quotes.
+    (
+        (TWO, 4_194_288, "watch,inquire,z3\n"),
+        "0 0 start 0\n1 0 zone free 0 closed\n2 0 zone free 0 closed\nfault long\n",
+        LONG,
+    ),
+    (
+        (TWO, 4_194_287, "watch,inquire,z3\nw"),
+        "0 0 start 0\n1 0 zone free 0 closed\n2 0 zone free 0 closed\nfault long\n",
+        LONG,
+    ),
+    (
+        (TWO, 4_194_300, "\"watch\",inquire,z3\n"),
         "0 0 start 0\n1 0 zone free 0 closed\n2 0 zone free 0 closed\nfault long\n",
         LONG,
     ),
@@ -120,4 +138,18 @@ fn answers_most_records(rt: HostRuntime) {
         let long = told(&rt, alloc, last, LONG).expect(&rt, "a long script");
         assert!(rt; long.as_slice() == text.as_slice(), "{last}");
     }
+}
+
+// A reader fails at the last byte of a script with one record too many. The lines that are known are
+// written; the record before the one that failed is still held back.
+#[test]
+fn writes_before_its_reader_fails(rt: HostRuntime) {
+    let alloc = rt.alloc();
+    let script = inquiries(&rt, alloc, 65_537, "");
+    let mut reader = InterruptedReader::new(script.as_bytes(), script.len().saturating_sub(1));
+    let mut written = Vec::new(alloc);
+    let got = replay(alloc, &mut reader, &mut written);
+    assert!(rt; got == Err(ReplayFault::Read));
+    let last = b"\n65535 0 zone free 0 closed\n".as_slice();
+    assert!(rt; written.as_slice().ends_with(last));
 }

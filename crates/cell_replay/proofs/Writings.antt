@@ -1,0 +1,320 @@
+-- What is written for the records that are left, one at a time.
+use Rattle.std.proofs.Common.{ℕ, zero, suc, ◌≡◌, ◌<◌, ◌≤◌, ◌+◌, ◌-◌, ◌==◌, Bool, true, false, cond, List, [], ◌∷◌, ◌++◌, length, take, min, nat_lt, Option, Some, None, Result, Ok, Err, IfSome, IfOk, IfErr, OnOk, refl, sym, ◌∙◌, ap, ap₂, arith, append_assoc, append-nil, subst}
+use Rattle.std.specs.List.{concat}
+use Rattle.std.specs.Result.{IsErrAnd}
+use Rattle.std.specs.Io.KnownBytes.{Appends, Keeps}
+use Rattle.std.proofs.KnownBytes.{Appends-kept, Appends-nil, Appends-trans, Keeps-refl}
+use Rattle.std.proofs.Math.Seq.{take-append-add}
+use Rattle.std.proofs.lemmas.List.{take-append-le, take_all}
+use Rattle.std.proofs.lemmas.List.Folds.{concat-append}
+use Rattle.std.proofs.Math.Seq.{take-nil}
+use Rattle.std.proofs.lemmas.Bool.Decides.{nat_tests}
+use Rattle.cell_types.specs.Answers.{answer_text}
+use Rattle.cell_types.specs.declared.answer.Answer.{Answer}
+use Rattle.cell_rules.specs.ModelState.{ModelState}
+use Rattle.cell_rules.specs.Reply.{next, reply}
+use Rattle.cell_replay.specs.Requests.{Row, request_of}
+use Rattle.cell_replay.specs.declared.request.Request.{Request}
+use Rattle.cell_replay.specs.Script.{end_of, end_text, events_from, is_cut_of, script_lines, script_outcome, script_rows, script_text, line_of, lines_from, most_records, outcome_from, requests_in, rows_lines, rows_outcome, start_in, start_line}
+use Rattle.cell_replay.specs.declared.script.ScriptFault.{ScriptFault}
+use Rattle.cell_replay.specs.declared.script.ScriptFault.TheVariants.{BadRow, Long, NoStart}
+use Rattle.cell_replay.specs.declared.script.Outcome.{Outcome}
+use Rattle.cell_replay.specs.declared.script.Outcome.TheVariants.{Refused}
+use Rattle.cell_replay.specs.declared.script.ReplayFault.{ReplayFault}
+use Rattle.cell_replay.specs.declared.script.ReplayFault.TheVariants.{Read, Write, Memory}
+use Rattle.cell_replay.specs.Faults.{Leaves, WroteFront, WroteLines, replay_fault_of}
+use Rattle.cell_text.specs.declared.input.InputFault.{InputFault}
+use Rattle.cell_text.specs.declared.input.InputFault.TheVariants as input
+use Rattle.cell_replay.specs.Writing.{Writes, WritesEnd, WritesNext, WritesScript, lines_after, lines_left, outcome_left}
+use Rattle.cell_replay.proofs.Lines.{event_lines-after, length-history_of, lines_after-more, lines_after-none, requests_in-bad, requests_in-more, requests_in-none}
+
+-- The records that are left.
+
+take-one : {A : Type 0} (n : ℕ) (x : A) (xs : List A) → n < most_records → take (most_records - n) (x ∷ xs) ≡ x ∷ take (most_records - (n + 1)) xs
+take-one n x xs few =
+    let one : most_records - n ≡ suc (most_records - (n + 1)) = omega arith in
+    ap (λ k. take k (x ∷ xs)) one
+
+requests-more : (n : ℕ) (row : Row) (rest : List Row) (r : Request) → n < most_records → request_of row ≡ Some r
+    → requests_in (take (most_records - n) (row ∷ rest)) ≡ r ∷ requests_in (take (most_records - (n + 1)) rest)
+requests-more n row rest r few good = ap requests_in (take-one n row rest few) ∙ requests_in-more row (take (most_records - (n + 1)) rest) r good
+
+requests-bad : (n : ℕ) (row : Row) (rest : List Row) → n < most_records → request_of row ≡ None → requests_in (take (most_records - n) (row ∷ rest)) ≡ []
+requests-bad n row rest few bad = ap requests_in (take-one n row rest few) ∙ requests_in-bad row (take (most_records - (n + 1)) rest) bad
+
+requests-none : (k : ℕ) → requests_in (take k []) ≡ []
+requests-none k = ap requests_in (take-nil k) ∙ requests_in-none
+
+lines-more : (n : ℕ) (s : ModelState) (row : Row) (rest : List Row) (r : Request) → n < most_records → request_of row ≡ Some r
+    → lines_left n s (row ∷ rest) ≡ line_of (n + 1) (next s r.machine r.call).stamp (answer_text (reply s r.machine r.call)) ∷ lines_left (n + 1) (next s r.machine r.call) rest
+lines-more n s row rest r few good = ap (lines_after n s) (requests-more n row rest r few good) ∙ lines_after-more n s r (requests_in (take (most_records - (n + 1)) rest))
+
+outcome-more : (is_cut : Bool) (n : ℕ) (row : Row) (rest : List Row) (r : Request) → n < most_records → request_of row ≡ Some r → outcome_left is_cut n (row ∷ rest) ≡ outcome_left is_cut (n + 1) rest
+outcome-more is_cut n row rest r few good =
+    let count = ap length (requests-more n row rest r few good) in
+    ap₂ (end_of is_cut) (omega (arith, count)) (omega arith)
+
+lines-bad : (n : ℕ) (s : ModelState) (row : Row) (rest : List Row) → n < most_records → request_of row ≡ None → lines_left n s (row ∷ rest) ≡ []
+lines-bad n s row rest few bad = ap (lines_after n s) (requests-bad n row rest few bad) ∙ lines_after-none n s
+
+end-bad : (is_cut : Bool) (n count : ℕ) → n < count → n < most_records → end_of is_cut n count ≡ Refused (BadRow (n + 1))
+end-bad is_cut n count more few =
+    let lt : nat_lt n count ≡ true = grind (arith, nat_tests) in
+    let ne : (n == most_records) ≡ false = grind (arith, nat_tests) in
+    rw (lt, ne) refl
+
+outcome-bad : (is_cut : Bool) (n : ℕ) (row : Row) (rest : List Row) → n < most_records → request_of row ≡ None → outcome_left is_cut n (row ∷ rest) ≡ Refused (BadRow (n + 1))
+outcome-bad is_cut n row rest few bad =
+    let count = ap length (requests-bad n row rest few bad) in
+    let none : n + length (requests_in (take (most_records - n) (row ∷ rest))) ≡ n = omega (arith, count) in
+    ap (λ k. end_of is_cut k (n + length (row ∷ rest))) none ∙ end-bad is_cut n (n + length (row ∷ rest)) (omega arith) few
+
+end-all : (is_cut : Bool) (n : ℕ) → end_of is_cut n n ≡ end_of is_cut 0 0
+end-all is_cut n =
+    let lt : nat_lt n n ≡ false = grind (arith, nat_tests) in
+    rw lt refl
+
+outcome-none : (is_cut : Bool) (n : ℕ) → outcome_left is_cut n [] ≡ end_of is_cut 0 0
+outcome-none is_cut n =
+    let count = ap length (requests-none (most_records - n)) in
+    let none : n + length (requests_in (take (most_records - n) [])) ≡ n = omega (arith, count) in
+    ap₂ (end_of is_cut) none (omega arith) ∙ end-all is_cut n
+
+lines-none : (n : ℕ) (s : ModelState) → lines_left n s [] ≡ []
+lines-none n s = ap (lines_after n s) (requests-none (most_records - n)) ∙ lines_after-none n s
+
+requests-full : (n : ℕ) (left : List Row) → n ≡ most_records → requests_in (take (most_records - n) left) ≡ []
+requests-full n left full =
+    let zero_left : most_records - n ≡ 0 = omega (arith, full) in
+    ap (λ k. requests_in (take k left)) zero_left ∙ requests_in-none
+
+pub lines-full : (n : ℕ) (s : ModelState) (left : List Row) → n ≡ most_records → lines_left n s left ≡ []
+lines-full n s left full = ap (lines_after n s) (requests-full n left full) ∙ lines_after-none n s
+
+end-long : (is_cut : Bool) (n count : ℕ) → n < count → n ≡ most_records → end_of is_cut n count ≡ Refused Long
+end-long is_cut n count more full =
+    let lt : nat_lt n count ≡ true = grind (arith, nat_tests) in
+    let eq : (n == most_records) ≡ true = grind (arith, nat_tests) in
+    rw (lt, eq) refl
+
+outcome-full : (is_cut : Bool) (n : ℕ) (row : Row) (rest : List Row) → n ≡ most_records → outcome_left is_cut n (row ∷ rest) ≡ Refused Long
+outcome-full is_cut n row rest full =
+    let count = ap length (requests-full n (row ∷ rest) full) in
+    let none : n + length (requests_in (take (most_records - n) (row ∷ rest))) ≡ n = omega (arith, count) in
+    ap (λ k. end_of is_cut k (n + length (row ∷ rest))) none ∙ end-long is_cut n (n + length (row ∷ rest)) (omega arith) full
+
+-- What was written.
+
+pub kept-none : (old new : Option (List ℕ)) → Keeps old new → Appends old new []
+kept-none old new keeps = Appends-kept old old new [] (Appends-nil old) keeps
+
+-- lines, and then some first lines of the others
+wrote-more : (written rest all : List (List ℕ)) (old mid new : Option (List ℕ)) → Appends old mid (concat written) → written ++ rest ≡ all → WroteLines mid new rest → WroteLines old new all
+wrote-more written rest all old mid new wrote whole h =
+    let n = h.0 in
+    let front : concat written ++ concat (take n rest) ≡ concat (take (length written + n) all) = sym (concat-append written (take n rest)) ∙ ap concat (sym (take-append-add written rest n) ∙ ap (take (length written + n)) whole) in
+    (length written + n, subst (Appends old new) front (Appends-trans old mid new (concat written) (concat (take n rest)) wrote h.1))
+
+-- lines, and then what is written for the others
+pub writes-through : (written rest all : List (List ℕ)) (o end : Outcome) (old mid new : Option (List ℕ)) (r : Result Outcome ReplayFault) → Appends old mid (concat written) → written ++ rest ≡ all → o ≡ end
+    → Writes rest o mid new r → Writes all end old new r
+writes-through written rest all o end old mid new (Ok x) wrote whole same h =
+    (h.0 ∙ same, subst (Appends old new) (sym (concat-append written rest) ∙ ap concat whole) (Appends-trans old mid new (concat written) (concat rest) wrote h.1))
+writes-through written rest all o end old mid new (Err Read) wrote whole same h = wrote-more written rest all old mid new wrote whole h
+writes-through written rest all o end old mid new (Err Memory) wrote whole same h = wrote-more written rest all old mid new wrote whole h
+writes-through written rest all o end old mid new (Err Write) wrote whole same h =
+    let n = h.0 in
+    let front : concat written ++ take n (concat rest) ≡ take (length (concat written) + n) (concat all) = sym (take-append-add (concat written) (concat rest) n) ∙ ap (take (length (concat written) + n)) (sym (concat-append written rest) ∙ ap concat whole) in
+    (length (concat written) + n, subst (Appends old new) front (Appends-trans old mid new (concat written) (take n (concat rest)) wrote h.1))
+
+-- the input failed before anything was written
+pub writes-input : (fault : InputFault) (lines : List (List ℕ)) (end : Outcome) (old : Option (List ℕ)) → Writes lines end old old (Err (replay_fault_of fault))
+writes-input input.Read lines end old = (0, Appends-nil old)
+writes-input input.Memory lines end old = (0, Appends-nil old)
+
+take-min : (k : ℕ) (a : List ℕ) → take (min k (length a)) a ≡ take k a
+take-min zero [] = refl
+take-min zero (x ∷ a) = let none : min zero (suc (length a)) ≡ zero = omega arith in ap (λ n. take n (x ∷ a)) none
+take-min (suc k) [] = let none : min (suc k) 0 ≡ 0 = omega arith in ap (λ n. take {A = ℕ} n []) none
+take-min (suc k) (x ∷ a) =
+    let both : min (suc k) (suc (length a)) ≡ suc (min k (length a)) = omega arith in
+    ap (λ n. take n (x ∷ a)) both ∙ ap (λ r. x ∷ r) (take-min k a)
+
+-- a prefix of a prefix is a prefix
+pub front-more : (line more all : List ℕ) (old new : Option (List ℕ)) → all ≡ line ++ more → WroteFront old new line → WroteFront old new all
+front-more line more all old new whole h =
+    let n = min h.0 (length line) in
+    let same : take h.0 line ≡ take n all = short h.0 line more ∙ ap (take n) (sym whole) in
+    (n, subst (Appends old new) same h.1)
+  where
+    short : (k : ℕ) (a b : List ℕ) → take k a ≡ take (min k (length a)) (a ++ b)
+    short k a b =
+        let within : min k (length a) ≤ length a = omega arith in
+        sym (take-append-le (min k (length a)) a b within ∙ take-min k a)
+
+-- One record.
+
+pub one-input : (fault : InputFault) (is_cut : Bool) (n : ℕ) (s s2 : ModelState) (left : List Row) (old : Option (List ℕ)) (After : List Row → Type 0) → WritesNext is_cut n s s2 left old old After (Err (replay_fault_of fault))
+one-input input.Read is_cut n s s2 left old After = Keeps-refl old
+one-input input.Memory is_cut n s s2 left old After = Keeps-refl old
+
+pub one-none : (is_cut : Bool) (n : ℕ) (s s2 : ModelState) (left : List Row) (old : Option (List ℕ)) (After : List Row → Type 0) (noted : Bool) (o : Outcome) → noted ≡ is_cut → left ≡ [] → o ≡ end_of noted 0 0
+    → WritesNext is_cut n s s2 left old old After (Ok (Some o))
+one-none is_cut n s s2 left old After noted o note none is =
+    (ap (lines_left n s) none ∙ lines-none n s, ap (outcome_left is_cut n) none ∙ outcome-none is_cut n ∙ sym (is ∙ ap (λ b. end_of b 0 0) note), Keeps-refl old)
+
+pub one-bad : (is_cut : Bool) (n : ℕ) (s s2 : ModelState) (left rest : List Row) (row : Row) (old : Option (List ℕ)) (After : List Row → Type 0) → n < most_records → left ≡ row ∷ rest → request_of row ≡ None
+    → WritesNext is_cut n s s2 left old old After (Ok (Some (Refused (BadRow (n + 1)))))
+one-bad is_cut n s s2 left rest row old After few is bad =
+    (ap (lines_left n s) is ∙ lines-bad n s row rest few bad, ap (outcome_left is_cut n) is ∙ outcome-bad is_cut n row rest few bad, Keeps-refl old)
+
+-- the line of a request
+abbrev pub line_on : ℕ → ModelState → Request → List ℕ
+line_on n s r = line_of (n + 1) (next s r.machine r.call).stamp (answer_text (reply s r.machine r.call))
+
+pub one-written : (is_cut : Bool) (n : ℕ) (s s2 : ModelState) (left rest : List Row) (row : Row) (r : Request) (line : List ℕ) (old new : Option (List ℕ)) (After : List Row → Type 0)
+    → n < most_records → left ≡ row ∷ rest → request_of row ≡ Some r → s2 ≡ next s r.machine r.call → line ≡ line_on n s r → Appends old new line → After rest
+    → WritesNext is_cut n s s2 left old new After (Ok None)
+one-written is_cut n s s2 left rest row r line old new After few is good now_s line_made wrote after =
+    (rest, line, wrote, ap (lines_left n s) is ∙ lines-more n s row rest r few good ∙ ap₂ (λ l t. l ∷ lines_left (n + 1) t rest) (sym line_made) (sym now_s), ap (outcome_left is_cut n) is ∙ outcome-more is_cut n row rest r few good, after)
+
+pub one-cut : (is_cut : Bool) (n : ℕ) (s s2 : ModelState) (left rest : List Row) (row : Row) (r : Request) (line : List ℕ) (old new : Option (List ℕ)) (After : List Row → Type 0)
+    → n < most_records → left ≡ row ∷ rest → request_of row ≡ Some r → line ≡ line_on n s r → WroteFront old new line
+    → WritesNext is_cut n s s2 left old new After (Err Write)
+one-cut is_cut n s s2 left rest row r line old new After few is good line_made h =
+    let lines = ap (lines_left n s) is ∙ lines-more n s row rest r few good in
+    let more = concat (lines_left (n + 1) (next s r.machine r.call) rest) in
+    front-more line more (concat (lines_left n s left)) old new (ap concat lines ∙ ap (λ l. l ++ more) (sym line_made)) h
+
+-- the line that was made
+pub line_made : (n : ℕ) (s : ModelState) (r : Request) (stamp : ℕ) (s2 : ModelState) (answer : Answer) (bytes text empty : List ℕ) → bytes ≡ text → text ≡ empty ++ line_of (n + 1) stamp (answer_text answer) → empty ≡ []
+    → stamp ≡ s2.stamp → s2 ≡ next s r.machine r.call → answer ≡ reply s r.machine r.call → bytes ≡ line_on n s r
+line_made n s r stamp s2 answer bytes text empty is made none now_stamp now_s replied =
+    is ∙ made ∙ ap (λ b. b ++ line_of (n + 1) stamp (answer_text answer)) none ∙ ap₂ (λ t a. line_of (n + 1) t (answer_text a)) (now_stamp ∙ ap (λ (t : ModelState). t.stamp) now_s) replied
+
+-- what a step wrote, by its result
+pub one-goes : (is_cut : Bool) (n : ℕ) (s s2 : ModelState) (left : List Row) (old new : Option (List ℕ)) (After : List Row → Type 0) (r : Result (Option Outcome) ReplayFault) → r ≡ Ok None → WritesNext is_cut n s s2 left old new After r
+    → WritesNext is_cut n s s2 left old new After (Ok None)
+one-goes is_cut n s s2 left old new After r e h = rw e at h
+
+pub one-stops : (is_cut : Bool) (n : ℕ) (s s2 : ModelState) (left : List Row) (old new : Option (List ℕ)) (After : List Row → Type 0) (r : Result (Option Outcome) ReplayFault) (o : Outcome) → r ≡ Ok (Some o) → WritesNext is_cut n s s2 left old new After r
+    → Writes (lines_left n s left) (outcome_left is_cut n left) old new (Ok o)
+one-stops is_cut n s s2 left old new After r o e h = stop (rw e at h)
+  where
+    stop : WritesNext is_cut n s s2 left old new After (Ok (Some o)) → Writes (lines_left n s left) (outcome_left is_cut n left) old new (Ok o)
+    stop h = (sym h.1, rw h.0 (kept-none old new h.2))
+
+pub one-fails : (is_cut : Bool) (n : ℕ) (s s2 : ModelState) (left : List Row) (old new : Option (List ℕ)) (After : List Row → Type 0) (r : Result (Option Outcome) ReplayFault) (fault : ReplayFault) → r ≡ Err fault → WritesNext is_cut n s s2 left old new After r
+    → Writes (lines_left n s left) (outcome_left is_cut n left) old new (Err fault)
+one-fails is_cut n s s2 left old new After r Read e h = (0, kept-none old new (rw e at h))
+one-fails is_cut n s s2 left old new After r Memory e h = (0, kept-none old new (rw e at h))
+one-fails is_cut n s s2 left old new After r Write e h = rw e at h
+
+-- another line was written
+pub line-more : (lines : List (List ℕ)) (line : List ℕ) (old mid new : Option (List ℕ)) → Appends old mid (concat lines) → Appends mid new line → Appends old new (concat (lines ++ line ∷ []))
+line-more lines line old mid new wrote more =
+    let both : concat lines ++ line ≡ concat (lines ++ line ∷ []) = ap (λ l. concat lines ++ l) (sym (append-nil line)) ∙ sym (concat-append lines (line ∷ [])) in
+    subst (Appends old new) both (Appends-trans old mid new (concat lines) line wrote more)
+
+pub lines-step : (lines rest more all : List (List ℕ)) (line : List ℕ) → lines ++ rest ≡ all → rest ≡ line ∷ more → (lines ++ line ∷ []) ++ more ≡ all
+lines-step lines rest more all line whole is = append_assoc lines (line ∷ []) more ∙ ap (λ l. lines ++ l) (sym is) ∙ whole
+
+-- the end, if as many records are answered as may be, or none is left
+pub writes-long : (is_cut : Bool) (n : ℕ) (s : ModelState) (row : Row) (left rest : List Row) (old : Option (List ℕ)) → n ≡ most_records → left ≡ row ∷ rest → Writes (lines_left n s left) (outcome_left is_cut n left) old old (Ok (Refused Long))
+writes-long is_cut n s row left rest old full is =
+    (sym (ap (outcome_left is_cut n) is ∙ outcome-full is_cut n row rest full), rw (lines-full n s left full) (Appends-nil old))
+
+pub writes-end : (is_cut : Bool) (n : ℕ) (s : ModelState) (left : List Row) (noted : Bool) (o : Outcome) (old : Option (List ℕ)) → noted ≡ is_cut → left ≡ [] → o ≡ end_of noted 0 0 → Writes (lines_left n s left) (outcome_left is_cut n left) old old (Ok o)
+writes-end is_cut n s left noted o old note none is =
+    (is ∙ ap (λ b. end_of b 0 0) note ∙ sym (ap (outcome_left is_cut n) none ∙ outcome-none is_cut n), rw (ap (lines_left n s) none ∙ lines-none n s) (Appends-nil old))
+
+-- Record 0.
+
+pub rows-empty : (is_cut noted : Bool) (left : List Row) (fault : ScriptFault) (old : Option (List ℕ)) → noted ≡ is_cut → left ≡ [] → fault ≡ cond noted Long NoStart → Writes (rows_lines is_cut left) (rows_outcome is_cut left) old old (Ok (Refused fault))
+rows-empty is_cut noted left fault old note none is = rw (none, ← note) (ap Refused is, Appends-nil old)
+
+first-refused : (is_cut : Bool) (start : Result ModelState ScriptFault) (fault : ScriptFault) (rest : List Row) (old : Option (List ℕ)) → start ≡ Err fault
+    → Writes (lines_from start (events_from start rest)) (outcome_from is_cut start (length (events_from start rest)) (length rest)) old old (Ok (Refused fault))
+first-refused is_cut start fault rest old e = rw e (refl, Appends-nil old)
+
+pub rows-refused : (is_cut : Bool) (row : Row) (left rest : List Row) (fault : ScriptFault) (old : Option (List ℕ)) → left ≡ row ∷ rest → start_in row ≡ Err fault → Writes (rows_lines is_cut left) (rows_outcome is_cut left) old old (Ok (Refused fault))
+rows-refused is_cut row left rest fault old is bad = rw is (first-refused is_cut (start_in row) fault rest old bad)
+
+lines-started : (start : Result ModelState ScriptFault) (s : ModelState) (rest : List Row) → start ≡ Ok s → lines_from start (events_from start rest) ≡ start_line s ∷ lines_left 0 s rest
+lines-started start s rest e = rw e (ap (λ l. start_line s ∷ l) (event_lines-after s (requests_in (take most_records rest))))
+
+outcome-started : (is_cut : Bool) (start : Result ModelState ScriptFault) (s : ModelState) (rest : List Row) → start ≡ Ok s → outcome_left is_cut 0 rest ≡ outcome_from is_cut start (length (events_from start rest)) (length rest)
+outcome-started is_cut start s rest e =
+    let count = length-history_of s (requests_in (take most_records rest)) in
+    rw e (ap₂ (end_of is_cut) (omega (arith, count)) (omega arith))
+
+pub rows-started : (is_cut : Bool) (row : Row) (left rest : List Row) (s : ModelState) (line : List ℕ) (old mid new : Option (List ℕ)) (r : Result Outcome ReplayFault) → left ≡ row ∷ rest → start_in row ≡ Ok s → line ≡ start_line s → Appends old mid line
+    → Writes (lines_left 0 s rest) (outcome_left is_cut 0 rest) mid new r → Writes (rows_lines is_cut left) (rows_outcome is_cut left) old new r
+rows-started is_cut row left rest s line old mid new r is good line_made wrote h =
+    let one : line ≡ concat (start_line s ∷ []) = line_made ∙ sym (append-nil (start_line s)) in
+    let whole : start_line s ∷ lines_left 0 s rest ≡ rows_lines is_cut left = sym (ap (rows_lines is_cut) is ∙ lines-started (start_in row) s rest good) in
+    let same : outcome_left is_cut 0 rest ≡ rows_outcome is_cut left = outcome-started is_cut (start_in row) s rest good ∙ sym (ap (rows_outcome is_cut) is) in
+    writes-through (start_line s ∷ []) (lines_left 0 s rest) (rows_lines is_cut left) (outcome_left is_cut 0 rest) (rows_outcome is_cut left) old mid new r (subst (Appends old mid) one wrote) whole same h
+
+pub rows-unwritten : (is_cut : Bool) (row : Row) (left rest : List Row) (s : ModelState) (line : List ℕ) (old new : Option (List ℕ)) → left ≡ row ∷ rest → start_in row ≡ Ok s → line ≡ start_line s → WroteFront old new line
+    → WroteFront old new (concat (rows_lines is_cut left))
+rows-unwritten is_cut row left rest s line old new is good line_made h =
+    let whole : rows_lines is_cut left ≡ start_line s ∷ lines_left 0 s rest = ap (rows_lines is_cut) is ∙ lines-started (start_in row) s rest good in
+    front-more line (concat (lines_left 0 s rest)) (concat (rows_lines is_cut left)) old new (ap concat whole ∙ ap (λ l. l ++ concat (lines_left 0 s rest)) (sym line_made)) h
+
+pub writes-residual : (r : Result Outcome ReplayFault) (fault : InputFault) (lines : List (List ℕ)) (end : Outcome) (old : Option (List ℕ)) → IsErrAnd r (λ given. given ≡ replay_fault_of fault) → Writes lines end old old r
+writes-residual (Ok o) fault lines end old h = absurd h
+writes-residual (Err given) fault lines end old h = rw h (writes-input fault lines end old)
+
+-- The script.
+
+pub script-fails : (bytes : List ℕ) (old new : Option (List ℕ)) (fault : ReplayFault) → Writes (script_lines bytes) (script_outcome bytes) old new (Err fault) → Leaves fault bytes old new
+unfolding script_text
+script-fails bytes old new Read h = h
+script-fails bytes old new Memory h = h
+script-fails bytes old new Write h = front-more (concat (script_lines bytes)) (end_text (script_outcome bytes)) (script_text bytes) old new refl h
+
+pub script-ends : (bytes : List ℕ) (old mid new : Option (List ℕ)) (o : Outcome) (r : Result Outcome ReplayFault) → Writes (script_lines bytes) (script_outcome bytes) old mid (Ok o) → WritesEnd o mid new r → WritesScript bytes old new r
+unfolding script_text
+script-ends bytes old mid new o (Ok x) h end = (end.0 ∙ h.0, subst (Appends old new) (ap (λ e. concat (script_lines bytes) ++ end_text e) h.0) (Appends-trans old mid new (concat (script_lines bytes)) (end_text o) h.1 end.1))
+script-ends bytes old mid new o (Err Read) h end = absurd end
+script-ends bytes old mid new o (Err Memory) h end =
+    let all : concat (take (length (script_lines bytes)) (script_lines bytes)) ≡ concat (script_lines bytes) = ap concat (take_all (length (script_lines bytes)) (script_lines bytes) (omega arith)) in
+    (length (script_lines bytes), rw all (Appends-kept old mid new (concat (script_lines bytes)) h.1 end))
+script-ends bytes old mid new o (Err Write) h end =
+    let lines = concat (script_lines bytes) in
+    let n = end.0 in
+    let front : lines ++ take n (end_text o) ≡ take (length lines + n) (lines ++ end_text (script_outcome bytes)) = sym (take-append-add lines (end_text o) n) ∙ ap (λ e. take (length lines + n) (lines ++ end_text e)) h.0 in
+    (length lines + n, subst (Appends old new) front (Appends-trans old mid new lines (take n (end_text o)) h.1 end.1))
+
+pub script-rows : (bytes : List ℕ) (left : List Row) (old new : Option (List ℕ)) (r : Result Outcome ReplayFault) → left ≡ script_rows bytes
+    → Writes (rows_lines (is_cut_of bytes) left) (rows_outcome (is_cut_of bytes) left) old new r → Writes (script_lines bytes) (script_outcome bytes) old new r
+unfolding script_lines script_outcome
+script-rows bytes left old new r is h = rw is at h
+
+pub script-stops : (bytes : List ℕ) (old : Option (List ℕ)) (r : Result Outcome ReplayFault) (fault : InputFault) → IsErrAnd r (λ given. given ≡ replay_fault_of fault) → WritesScript bytes old old r
+script-stops bytes old (Ok o) fault h = absurd h
+script-stops bytes old (Err given) fault h = script-fails bytes old old given (rw h (writes-input fault (script_lines bytes) (script_outcome bytes) old))
+
+-- the script's lines, by the result of the function that wrote them
+pub script-written : (bytes : List ℕ) (left : List Row) (old new : Option (List ℕ)) (r r2 : Result Outcome ReplayFault) → left ≡ script_rows bytes → r ≡ r2
+    → Writes (rows_lines (is_cut_of bytes) left) (rows_outcome (is_cut_of bytes) left) old new r → Writes (script_lines bytes) (script_outcome bytes) old new r2
+script-written bytes left old new r r2 is e h = subst (Writes (script_lines bytes) (script_outcome bytes) old new) e (script-rows bytes left old new r is h)
+
+-- What the contract of a replay says, if the bytes are known.
+
+known : (o : Option (List ℕ)) (P : List ℕ → Type 0) → ((bytes : List ℕ) → o ≡ Some bytes → P bytes) → IfSome o P
+known None P f = tt
+known (Some bytes) P f = f bytes refl
+
+pub written-text : (o : Option (List ℕ)) (old new : Option (List ℕ)) (r : Result Outcome ReplayFault) → ((bytes : List ℕ) → o ≡ Some bytes → WritesScript bytes old new r) → OnOk r (IfSome o (λ bytes. Appends old new (script_text bytes)))
+written-text o old new (Ok x) f = known o _ (λ bytes is. (f bytes is).1)
+written-text o old new (Err fault) f = tt
+
+pub written-outcome : (o : Option (List ℕ)) (old new : Option (List ℕ)) (r : Result Outcome ReplayFault) → ((bytes : List ℕ) → o ≡ Some bytes → WritesScript bytes old new r) → IfOk r (λ x. IfSome o (λ bytes. x ≡ script_outcome bytes))
+written-outcome o old new (Ok x) f = known o _ (λ bytes is. (f bytes is).0)
+written-outcome o old new (Err fault) f = tt
+
+pub written-failed : (o : Option (List ℕ)) (old new : Option (List ℕ)) (r : Result Outcome ReplayFault) → ((bytes : List ℕ) → o ≡ Some bytes → WritesScript bytes old new r) → IfErr r (λ fault. IfSome o (λ bytes. Leaves fault bytes old new))
+written-failed o old new (Ok x) f = tt
+written-failed o old new (Err fault) f = known o _ (λ bytes is. f bytes is)

@@ -1,0 +1,168 @@
+//! Writes the line of each record of a script as soon as it is known.
+
+ghost use Rattle.std.specs.Prelude.{◌≡◌, ◌<◌, ◌++◌, ℕ, List, Some, OnOk, if◌then◌else◌, string_bytes};
+ghost use Rattle.std.specs.Io.KnownBytes.{Keeps};
+ghost use Rattle.csv.specs.Records.{fields_of};
+ghost use Rattle.cell_types.specs.Answers.{answer_text};
+ghost use Rattle.cell_replay.specs.Limited.{bytes_left};
+ghost use Rattle.cell_replay.specs.Records.{IsPlain, RowsLeft};
+ghost use Rattle.cell_replay.specs.Requests.{Row};
+ghost use Rattle.cell_replay.specs.Script as script;
+ghost use Rattle.cell_replay.specs.Script.{is_cut_of, line_of, most_records, rows_lines, rows_outcome, start_line};
+ghost use Rattle.cell_replay.specs.Writing.{Writes, WritesNext, lines_left, outcome_left};
+
+use crate::lent::{LentReader, Origin};
+use crate::records::Records;
+use crate::request::read_request;
+use crate::script::{Outcome, ReplayFault, ScriptFault};
+use crate::start::read_start;
+use cell_rules::{State, apply};
+use cell_text::{WriteFault, flush, write_bytes};
+use cell_types::Answer;
+use std::alloc::{AllocError, Global};
+use std::io::Write;
+
+/// The most records after record 0 that are answered.
+const MOST_RECORDS: u32 = 65_536;
+
+/// Writes the lines of the records that are left, the first of which is record 0. Returns how the
+/// script ends.
+pub fn answer_rows<L: LentReader, K: Origin, W: Write>(
+    alloc: Global,
+    records: &mut Records<'_, L, K>,
+    writer: &mut W,
+) -> Result<Outcome, ReplayFault>
+    requires { IsPlain records.old.reader }
+    ensures written { (bytes : List ℕ) → K.bytes ≡ Some bytes → (left : List Row) →
+        RowsLeft (λ r. bytes_left (L.left r.now.input) r.now.is_cut r.now.taken) (is_cut_of bytes) records.old.reader
+        records.old.holds (fields_of records.old.held) records.old.is_cut left →
+        Writes (rows_lines (is_cut_of bytes) left) (rows_outcome (is_cut_of bytes) left) (W.contents writer.old) (W.contents writer.new) result }
+{
+    if !records.next()? {
+        return Ok(Outcome::Refused(if records.is_cut() {
+            ScriptFault::Long
+        } else {
+            ScriptFault::NoStart
+        }));
+    }
+    match read_start(records.row()) {
+        Ok(start) => {
+            let mut line = String::new(alloc);
+            push_start(&mut line, &start)?;
+            match write_bytes(writer, line.as_str().as_bytes()) {
+                Ok(()) => answer_later(alloc, records, start, writer),
+                Err(_) => Err(ReplayFault::Write),
+            }
+        }
+        Err(fault) => Ok(Outcome::Refused(fault)),
+    }
+}
+
+/// Writes the lines of the records after record 0. Returns how the script ends.
+fn answer_later<L: LentReader, K: Origin, W: Write>(
+    alloc: Global,
+    records: &mut Records<'_, L, K>,
+    start: State,
+    writer: &mut W,
+) -> Result<Outcome, ReplayFault>
+    requires { IsPlain records.old.reader }
+    ensures written { (bytes : List ℕ) → K.bytes ≡ Some bytes → (left : List Row) →
+        RowsLeft (λ r. bytes_left (L.left r.now.input) r.now.is_cut r.now.taken) (is_cut_of bytes) records.old.reader
+        records.old.holds (fields_of records.old.held) records.old.is_cut left →
+        Writes (lines_left 0 start left) (outcome_left (is_cut_of bytes) 0 left) (W.contents writer.old) (W.contents writer.new) result }
+{
+    let mut state = start;
+    let mut line = String::new(alloc);
+    'rows: for done in 0..MOST_RECORDS {
+        if flush_at_pause(records, writer).is_err() {
+            return Err(ReplayFault::Write);
+        }
+        match answer_next(records, &mut state, done, &mut line, writer) {
+            Ok(None) => {}
+            Ok(Some(outcome)) => return Ok(outcome),
+            Err(fault) => return Err(fault),
+        }
+    }
+    if flush_at_pause(records, writer).is_err() {
+        return Err(ReplayFault::Write);
+    }
+    if records.next()? {
+        return Ok(Outcome::Refused(ScriptFault::Long));
+    }
+    Ok(end(records.is_cut()))
+}
+
+/// Writes the lines that wait, unless a further line was read already.
+fn flush_at_pause<L: LentReader, K: Origin, W: Write>(
+    records: &Records<'_, L, K>,
+    writer: &mut W,
+) -> Result<(), WriteFault>
+    ensures { Keeps (W.contents writer.old) (W.contents writer.new) }
+{
+    if records.has_line() {
+        return Ok(());
+    }
+    flush(writer)
+}
+
+/// Writes the line of the next record, or returns how the script ends. `done` records after record 0
+/// are answered. `line` is room for the line.
+fn answer_next<L: LentReader, K: Origin, W: Write>(
+    records: &mut Records<'_, L, K>,
+    state: &mut State,
+    done: u32,
+    line: &mut String,
+    writer: &mut W,
+) -> Result<Option<Outcome>, ReplayFault>
+    requires plain { IsPlain records.old.reader }
+    requires few { done < most_records }
+    ensures plain { OnOk result (IsPlain records.new.reader) }
+    ensures written { (bytes : List ℕ) → K.bytes ≡ Some bytes → (left : List Row) →
+        RowsLeft (λ r. bytes_left (L.left r.now.input) r.now.is_cut r.now.taken) (is_cut_of bytes) records.old.reader
+        records.old.holds (fields_of records.old.held) records.old.is_cut left →
+        WritesNext (is_cut_of bytes) done state.old state.new left (W.contents writer.old) (W.contents writer.new)
+        (RowsLeft (λ r. bytes_left (L.left r.now.input) r.now.is_cut r.now.taken) (is_cut_of bytes) records.new.reader
+        records.new.holds (fields_of records.new.held) records.new.is_cut) result }
+{
+    if !records.next()? {
+        return Ok(Some(end(records.is_cut())));
+    }
+    let Some(request) = read_request(records.row()) else {
+        return Ok(Some(Outcome::Refused(ScriptFault::BadRow(done + 1))));
+    };
+    let answer = apply(state, request.machine, request.call);
+    line.clear();
+    push_line(line, done + 1, state.stamp(), answer)?;
+    match write_bytes(writer, line.as_str().as_bytes()) {
+        Ok(()) => Ok(None),
+        Err(_) => Err(ReplayFault::Write),
+    }
+}
+
+/// How a script ends if each of its records is answered.
+fn end(is_cut: bool) -> Outcome
+    ensures { result ≡ script.end_of is_cut 0 0 }
+{
+    if is_cut {
+        Outcome::Refused(ScriptFault::Long)
+    } else {
+        Outcome::Clean
+    }
+}
+
+/// Adds the line of record 0.
+fn push_start(text: &mut String, start: &State) -> Result<(), AllocError>
+    ensures { OnOk result (string_bytes text.new ≡ string_bytes text.old ++ start_line start.now) }
+{
+    let number = 0u32;
+    let stamp = start.stamp();
+    let plates = start.plates();
+    writeln!(text, "{number} {stamp} start {plates}")
+}
+
+/// Adds the line of a later record.
+fn push_line(text: &mut String, number: u32, stamp: u32, answer: Answer) -> Result<(), AllocError>
+    ensures { OnOk result (string_bytes text.new ≡ string_bytes text.old ++ line_of number stamp (answer_text answer)) }
+{
+    writeln!(text, "{number} {stamp} {answer}")
+}
