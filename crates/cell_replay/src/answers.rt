@@ -34,9 +34,10 @@ pub fn answer_rows<L: LentReader, K: Origin, W: Write>(
 ) -> Result<Outcome, ReplayFault>
     requires { IsPlain records.old.reader }
     ensures written { (bytes : List ℕ) → K.bytes ≡ Some bytes → (left : List Row) →
-        RowsLeft (λ r. bytes_left (L.left r.now.input) r.now.is_cut r.now.taken) (is_cut_of bytes) records.old.reader
-        records.old.holds (fields_of records.old.held) records.old.is_cut left →
-        Writes (rows_lines (is_cut_of bytes) left) (rows_outcome (is_cut_of bytes) left) (W.contents writer.old) (W.contents writer.new) result }
+        RowsLeft (λ r. bytes_left (L.left r.now.input) r.now.is_cut r.now.taken) (is_cut_of bytes)
+        records.old.reader records.old.holds (fields_of records.old.held) records.old.is_cut left →
+        Writes (rows_lines (is_cut_of bytes) left) (rows_outcome (is_cut_of bytes) left)
+        (W.contents writer.old) (W.contents writer.new) result }
 {
     if !records.next()? {
         return Ok(Outcome::Refused(if records.is_cut() {
@@ -67,9 +68,10 @@ fn answer_later<L: LentReader, K: Origin, W: Write>(
 ) -> Result<Outcome, ReplayFault>
     requires { IsPlain records.old.reader }
     ensures written { (bytes : List ℕ) → K.bytes ≡ Some bytes → (left : List Row) →
-        RowsLeft (λ r. bytes_left (L.left r.now.input) r.now.is_cut r.now.taken) (is_cut_of bytes) records.old.reader
-        records.old.holds (fields_of records.old.held) records.old.is_cut left →
-        Writes (lines_left 0 start left) (outcome_left (is_cut_of bytes) 0 left) (W.contents writer.old) (W.contents writer.new) result }
+        RowsLeft (λ r. bytes_left (L.left r.now.input) r.now.is_cut r.now.taken) (is_cut_of bytes)
+        records.old.reader records.old.holds (fields_of records.old.held) records.old.is_cut left →
+        Writes (lines_left 0 start left) (outcome_left (is_cut_of bytes) 0 left)
+        (W.contents writer.old) (W.contents writer.new) result }
 {
     let mut state = start;
     let mut line = String::new(alloc);
@@ -105,8 +107,8 @@ fn flush_at_pause<L: LentReader, K: Origin, W: Write>(
     flush(writer)
 }
 
-/// Writes the line of the next record, or returns how the script ends. `done` records after record 0
-/// are answered. `line` is room for the line.
+/// Writes the line of the next record, or returns how the script ends. `done` is how many records
+/// after record 0 are answered. `line` is room for the line.
 fn answer_next<L: LentReader, K: Origin, W: Write>(
     records: &mut Records<'_, L, K>,
     state: &mut State,
@@ -118,11 +120,12 @@ fn answer_next<L: LentReader, K: Origin, W: Write>(
     requires few { done < most_records }
     ensures plain { OnOk result (IsPlain records.new.reader) }
     ensures written { (bytes : List ℕ) → K.bytes ≡ Some bytes → (left : List Row) →
-        RowsLeft (λ r. bytes_left (L.left r.now.input) r.now.is_cut r.now.taken) (is_cut_of bytes) records.old.reader
-        records.old.holds (fields_of records.old.held) records.old.is_cut left →
-        WritesNext (is_cut_of bytes) done state.old state.new left (W.contents writer.old) (W.contents writer.new)
-        (RowsLeft (λ r. bytes_left (L.left r.now.input) r.now.is_cut r.now.taken) (is_cut_of bytes) records.new.reader
-        records.new.holds (fields_of records.new.held) records.new.is_cut) result }
+        RowsLeft (λ r. bytes_left (L.left r.now.input) r.now.is_cut r.now.taken) (is_cut_of bytes)
+        records.old.reader records.old.holds (fields_of records.old.held) records.old.is_cut left →
+        WritesNext (is_cut_of bytes) done state.old state.new left
+        (W.contents writer.old) (W.contents writer.new)
+        (RowsLeft (λ r. bytes_left (L.left r.now.input) r.now.is_cut r.now.taken) (is_cut_of bytes)
+        records.new.reader records.new.holds (fields_of records.new.held) records.new.is_cut) result }
 {
     if !records.next()? {
         return Ok(Some(end(records.is_cut())));

@@ -9,8 +9,8 @@ use std::io;
 use std::io::{ErrorKind, Read, Write};
 use std::marker::Brand;
 
-/// Identifies the reader and the writer of a replay: which loans they are, the bytes that the reader
-/// had at first, and those that the writer had.
+/// Identifies the reader and the writer of a replay: which loans they are, the bytes that the
+/// reader had at first, and those that the writer had.
 pub trait Origin {
     ghost bytes: { Option (List ℕ) };
 

@@ -92,7 +92,8 @@ impl<L: LentReader, K: Origin> LimitedReader<L, K> {
         requires room { self.old.taken < byte_limit }
         requires wanted { 0 < length buf.old }
         ensures bound { ReadsAtMost result buf.new }
-        ensures bytes { ReadConsumes (bytes_left (L.left self.old.input) self.old.is_cut self.old.taken)
+        ensures bytes { ReadConsumes
+            (bytes_left (L.left self.old.input) self.old.is_cut self.old.taken)
             (bytes_left (L.left self.new.input) self.new.is_cut self.new.taken) result buf.new }
     {
         let room = buf.len().min(BYTE_LIMIT - self.taken);
@@ -111,7 +112,8 @@ impl<L: LentReader, K: Origin> LimitedReader<L, K> {
         requires full { self.old.taken ≡ byte_limit }
         ensures kept { Keeps (bytes_left (L.left self.old.input) self.old.is_cut self.old.taken)
             (bytes_left (L.left self.new.input) self.new.is_cut self.new.taken) }
-        ensures end { OnOk result (IsAtEnd (bytes_left (L.left self.new.input) self.new.is_cut self.new.taken)) }
+        ensures end { OnOk result (IsAtEnd
+            (bytes_left (L.left self.new.input) self.new.is_cut self.new.taken)) }
     {
         let mut one = [0u8];
         let count = self.input.read_on(&mut one)?;

@@ -57,9 +57,11 @@ impl<'f, L: LentReader, K: Origin> Records<'f, L, K> {
         ensures plain { OnOk result (IsPlain self.new.reader) }
         ensures row { self.new.row ≡ self.old.row }
         ensures found { OnOk result ((bytes : List ℕ) → K.bytes ≡ Some bytes → (rows : List Row) →
-            HasRows (λ r. bytes_left (L.left r.now.input) r.now.is_cut r.now.taken) self.old.reader rows →
+            HasRows (λ r. bytes_left (L.left r.now.input) r.now.is_cut r.now.taken)
+            self.old.reader rows →
             GivesRow self.new.holds (fields_of self.new.held) rows self.new.is_cut (is_cut_of bytes)
-            (HasRows (λ r. bytes_left (L.left r.now.input) r.now.is_cut r.now.taken) self.new.reader)) }
+            (HasRows (λ r. bytes_left (L.left r.now.input) r.now.is_cut r.now.taken)
+            self.new.reader)) }
     {
         self.holds = read_row(&mut self.reader, &mut self.held)?;
         if !self.holds {
@@ -78,7 +80,8 @@ impl<'f, L: LentReader, K: Origin> Records<'f, L, K> {
         requires unnoted { input.old.is_cut ≡ None }
         ensures plain { IsPlain result.reader }
         ensures all { (bytes : List ℕ) → K.bytes ≡ Some bytes →
-            HasRows (λ r. bytes_left (L.left r.now.input) r.now.is_cut r.now.taken) result.reader (records default_config (strip_bom (take byte_limit bytes))) }
+            HasRows (λ r. bytes_left (L.left r.now.input) r.now.is_cut r.now.taken)
+            result.reader (records default_config (strip_bom (take byte_limit bytes))) }
     {
         Records {
             reader: ReaderBuilder::new()
@@ -97,9 +100,11 @@ impl<'f, L: LentReader, K: Origin> Records<'f, L, K> {
         requires { IsPlain self.old.reader }
         ensures plain { OnOk result (IsPlain self.new.reader) }
         ensures left { OnOk result ((bytes : List ℕ) → K.bytes ≡ Some bytes → (rows : List Row) →
-            HasRows (λ r. bytes_left (L.left r.now.input) r.now.is_cut r.now.taken) self.old.reader rows →
-            RowsLeft (λ r. bytes_left (L.left r.now.input) r.now.is_cut r.now.taken) (is_cut_of bytes) self.new.reader
-            self.new.holds (fields_of self.new.held) self.new.is_cut (used (is_cut_of bytes) rows)) }
+            HasRows (λ r. bytes_left (L.left r.now.input) r.now.is_cut r.now.taken)
+            self.old.reader rows →
+            RowsLeft (λ r. bytes_left (L.left r.now.input) r.now.is_cut r.now.taken) (is_cut_of bytes)
+            self.new.reader self.new.holds (fields_of self.new.held) self.new.is_cut
+            (used (is_cut_of bytes) rows)) }
     {
         self.read_ahead()?;
         Ok(())
@@ -109,12 +114,13 @@ impl<'f, L: LentReader, K: Origin> Records<'f, L, K> {
     pub fn next(&mut self) -> Result<bool, InputFault>
         requires { IsPlain self.old.reader }
         ensures plain { OnOk result (IsPlain self.new.reader) }
-        ensures gives { IfOk result (λ found. (bytes : List ℕ) → K.bytes ≡ Some bytes → (left : List Row) →
-            RowsLeft (λ r. bytes_left (L.left r.now.input) r.now.is_cut r.now.taken) (is_cut_of bytes) self.old.reader
-            self.old.holds (fields_of self.old.held) self.old.is_cut left →
+        ensures gives { IfOk result (λ found. (bytes : List ℕ) → K.bytes ≡ Some bytes →
+            (left : List Row) →
+            RowsLeft (λ r. bytes_left (L.left r.now.input) r.now.is_cut r.now.taken) (is_cut_of bytes)
+            self.old.reader self.old.holds (fields_of self.old.held) self.old.is_cut left →
             GivesRow found (fields_of self.new.row) left self.new.is_cut (is_cut_of bytes)
-            (RowsLeft (λ r. bytes_left (L.left r.now.input) r.now.is_cut r.now.taken) (is_cut_of bytes) self.new.reader
-            self.new.holds (fields_of self.new.held) self.new.is_cut)) }
+            (RowsLeft (λ r. bytes_left (L.left r.now.input) r.now.is_cut r.now.taken) (is_cut_of bytes)
+            self.new.reader self.new.holds (fields_of self.new.held) self.new.is_cut)) }
     {
         if !self.holds {
             return Ok(false);

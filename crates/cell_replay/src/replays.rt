@@ -92,7 +92,8 @@ fn finish<O: LentWriter, K: Origin>(
     writer: &mut BufferedWriter<O, K>,
 ) -> Result<Outcome, ReplayFault>
     ensures script { (bytes : List ℕ) →
-        WritesScript bytes K.written (append_known (O.contents writer.old.output) writer.old.waiting) answered →
+        WritesScript bytes K.written
+        (append_known (O.contents writer.old.output) writer.old.waiting) answered →
         WritesScript bytes K.written (O.contents writer.new.output) result }
 {
     if answered == Err(ReplayFault::Write) {

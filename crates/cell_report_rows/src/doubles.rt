@@ -127,8 +127,8 @@ impl Write for InterruptedWriter {
     }
 }
 
-/// Gives a text in parts, which bars separate, at most one part at a read. Before each part and before
-/// the end it notes how many lines a `FlushedLines` has.
+/// Gives a text in parts, which bars separate, at most one part at a read. Before each part and
+/// before the end it notes how many lines a `FlushedLines` has.
 #[derive(Drop)]
 pub struct PartReader<'a> {
     bytes: &'a [u8],

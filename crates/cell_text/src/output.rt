@@ -39,7 +39,8 @@ pub fn write_bytes<W: Write>(writer: &mut W, text: &[u8]) -> Result<(), WriteFau
 pub fn write_counted<W: Write>(writer: &mut W, text: &[u8]) -> (usize, Result<(), WriteFault>)
     ensures bound { result.0 ≤ length text.now }
     ensures all { OnOk result.1 (result.0 ≡ length text.now) }
-    ensures bytes { Appends (W.contents writer.old) (W.contents writer.new) (take result.0 text.now) }
+    ensures bytes { Appends (W.contents writer.old) (W.contents writer.new)
+        (take result.0 text.now) }
 {
     let mut written = 0;
     'parts: for _ in 0..u64::MAX {

@@ -140,8 +140,8 @@ fn answers_most_records(rt: HostRuntime) {
     }
 }
 
-// A reader fails at the last byte of a script with one record too many. The lines that are known are
-// written; the record before the one that failed is still held back.
+// A reader fails at the last byte of a script with one record too many. The lines that are known
+// are written; the record before the one that failed is still held back.
 #[test]
 fn writes_before_its_reader_fails(rt: HostRuntime) {
     let alloc = rt.alloc();

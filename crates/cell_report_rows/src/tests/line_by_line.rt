@@ -5,8 +5,8 @@ use cell_replay::replay;
 use std::alloc::Global;
 use std::cell::Cell;
 
-/// A script, with a bar between the parts in which it is read, and how many lines are flushed before
-/// each part and before the end.
+/// A script, with a bar between the parts in which it is read, and how many lines are flushed
+/// before each part and before the end.
 type Row = (&'static str, &'static [usize]);
 
 const ROWS: &[Row] = &[
