@@ -1,10 +1,10 @@
 //! What the plain programs for the cell share: configurations, the machines' turns and logs, and
-//! the report. Hand-written and unproved. It reads configurations with one key a line, and doesn't
-//! name their faults.
+//! the report. Hand-written and unproved.
 
 use crate::audit::{Entry, audit};
+use crate::config::{Config, read_config};
 use crate::interlock::{Answer, Call, Machine, Refusal, State, owner_word};
-use crate::machines::{Crane, Deposit, Feed, Gauge, Press, Program, Robot, Table};
+use crate::machines::{Crane, Deposit, Feed, Press, Program, Robot, Table};
 use std::fmt::Write as _;
 use std::io::{Read, Write};
 use std::process::ExitCode;
@@ -145,64 +145,19 @@ fn digits(full: &[bool; 10]) -> String {
     full.iter().map(|full| if *full { '1' } else { '0' }).collect()
 }
 
-pub struct Config {
-    pub start: State,
-    pub schedule: String,
-    gauges: [Gauge; 5],
-}
-
-/// The keys of the sections, in the order of the gauges, with the end of each axis.
-const SECTIONS: [(&str, i32); 5] = [("arm1", 1000), ("arm2", 1000), ("rotation", 2000), ("turn", 500), ("gripper", 1000)];
-
-fn read_config(text: &str) -> Option<Config> {
-    let (mut places, mut stamp, mut schedule, mut section) = (None, 0, String::new(), None);
-    let mut gauges = SECTIONS.map(|(_, end)| Gauge { raw_lo: 0, raw_hi: 4000, tol: 5, end });
-    let mut lines = text.lines().map(str::trim).filter(|line| !line.is_empty() && !line.starts_with('#'));
-    while let Some(line) = lines.next() {
-        if let Some(name) = line.strip_prefix('[') {
-            let name = name.strip_suffix(']')?;
-            section = Some(SECTIONS.iter().position(|(it, _)| *it == name)?);
-            continue;
-        }
-        let (key, value) = line.split_once('=')?;
-        let value = value.trim();
-        match (section, key.trim()) {
-            (None, "start") => places = Some(unquoted(value)?),
-            (None, "stamp") => stamp = value.parse().ok()?,
-            (None, "schedule") if value == LINES => schedule = lines.by_ref().map_while(|line| line.strip_suffix('\\')).collect(),
-            (None, "schedule") => schedule = unquoted(value)?.to_string(),
-            (Some(number), "raw") => {
-                let (lo, hi) = value.strip_prefix('[')?.strip_suffix(']')?.split_once(',')?;
-                gauges[number].raw_lo = lo.trim().parse().ok()?;
-                gauges[number].raw_hi = hi.trim().parse().ok()?;
-            }
-            (Some(number), "tol") => gauges[number].tol = value.parse().ok()?,
-            _ => return None,
-        }
-    }
-    let is_lawful = schedule.len() <= 1_000_000 && schedule.bytes().all(|letter| b"ftrpdcFTRPDC".contains(&letter));
-    let start = State::start(places?, stamp)?;
-    (is_lawful && gauges.iter().all(Gauge::is_sound)).then_some(Config { start, schedule, gauges })
-}
-
-/// The first line of a schedule of several lines. Each but the last, `"""`, ends with a backslash
-/// too.
-const LINES: &str = r#""""\"#;
-
-fn unquoted(value: &str) -> Option<&str> {
-    value.strip_prefix('"')?.strip_suffix('"')
-}
-
 /// Reads the configuration from standard input, runs it, and writes the report.
 pub fn served(run: impl FnOnce(&Config, &mut Cell) -> State) -> ExitCode {
-    let mut text = String::new();
-    if std::io::stdin().take(2_097_153).read_to_string(&mut text).is_err() {
+    let mut bytes = Vec::new();
+    if std::io::stdin().take(2_097_153).read_to_end(&mut bytes).is_err() {
         println!("fault read");
         return 1.into();
     }
-    let Some(config) = read_config(&text).filter(|_| text.len() <= 2_097_152) else {
-        println!("fault config");
-        return 1.into();
+    let config = match read_config(&bytes) {
+        Ok(config) => config,
+        Err(fault) => {
+            println!("fault config {fault}");
+            return 1.into();
+        }
     };
     let mut cell = Cell::new(&config);
     let end = run(&config, &mut cell);

@@ -71,10 +71,6 @@ pub struct Gauge {
 }
 
 impl Gauge {
-    pub fn is_sound(&self) -> bool {
-        self.raw_lo >= 0 && self.raw_hi <= 65_535 && self.raw_hi - self.raw_lo >= self.end && (1..=10).contains(&self.tol)
-    }
-
     fn read(&self, position: i32) -> i64 {
         let (width, end) = (i64::from(self.raw_hi - self.raw_lo), i64::from(self.end));
         i64::from(position) * width / end * end / width

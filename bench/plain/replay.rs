@@ -1,9 +1,11 @@
 //! The replay of scripts in hand-written plain Rust, unproved, for comparison with the proved
-//! program. It supports no quotes, no bare carriage returns and no byte order mark.
+//! program.
 
+mod csv;
 #[allow(dead_code, reason = "each program uses a part of it")]
 mod interlock;
 
+use csv::{Record, Records};
 use interlock::{Answer, Call, LAST_STAMP, Machine, Refusal, State, owner_word};
 use std::fmt::Write as _;
 use std::io::{Read, Write};
@@ -36,45 +38,58 @@ fn refused(refusal: Refusal) -> String {
     alone.to_string()
 }
 
-fn start(fields: &[&str]) -> Option<State> {
-    let places = fields.get(1)?;
-    let stamp = fields.get(2).copied().unwrap_or("0");
-    if fields.len() > 3 || stamp.is_empty() || stamp.len() > 7 || !stamp.bytes().all(|digit| digit.is_ascii_digit()) {
+fn word_of(field: &[u8]) -> Option<&str> {
+    std::str::from_utf8(field).ok()
+}
+
+/// The start in record 0, after the word `start`.
+fn start(record: &Record) -> Option<State> {
+    let places = word_of(record.field(1)?)?;
+    let stamp = word_of(record.field(2).unwrap_or(b"0"))?;
+    if record.len() > 3 || stamp.is_empty() || stamp.len() > 7 || !stamp.bytes().all(|digit| digit.is_ascii_digit()) {
         return None;
     }
     State::start(places, stamp.parse().ok().filter(|stamp| *stamp <= LAST_STAMP)?)
 }
 
-fn call_of(record: &str) -> Option<(Machine, Call)> {
-    let fields: Vec<&str> = record.split(',').collect();
-    let machine = Machine::ALL.into_iter().find(|machine| machine.word() == fields[0])?;
-    match fields.as_slice() {
-        [_, verb] => Some((machine, Call::read(verb, None)?)),
-        [_, verb, object] => Some((machine, Call::read(verb, Some(object))?)),
+fn call_of(record: &Record) -> Option<(Machine, Call)> {
+    let machine = word_of(record.field(0)?)?;
+    let machine = Machine::ALL.into_iter().find(|it| it.word() == machine)?;
+    let verb = word_of(record.field(1)?)?;
+    match record.len() {
+        2 => Some((machine, Call::read(verb, None)?)),
+        3 => Some((machine, Call::read(verb, Some(word_of(record.field(2)?)?))?)),
         _ => None,
     }
 }
 
-/// Adds the lines to the text; the error is the fault.
-fn tell(text: &mut String, records: &[&str], is_cut: bool) -> Result<(), String> {
+/// Adds the lines to the text; the error is the fault. Of a cut script the last record isn't answered.
+fn tell(text: &mut String, mut records: Records, is_cut: bool) -> Result<(), String> {
     let long = || Err("long".to_string());
-    let Some((first, later)) = records.split_first() else {
+    let mut record = Record::default();
+    let mut left = usize::MAX;
+    if is_cut {
+        let mut all = records.clone();
+        left = std::iter::repeat_with(|| all.read(&mut record)).take_while(|is_there| *is_there).count().saturating_sub(1);
+    }
+    if left == 0 || !records.read(&mut record) {
         return if is_cut { long() } else { Err("nostart".to_string()) };
-    };
-    let fields: Vec<&str> = first.split(',').collect();
-    if fields[0] != "start" {
+    }
+    if record.field(0) != Some(b"start") {
         return Err("nostart".to_string());
     }
-    let Some(mut state) = start(&fields) else {
+    let Some(mut state) = start(&record) else {
         return Err("badstart".to_string());
     };
     let _ = writeln!(text, "0 {} start {}", state.stamp, state.plates());
-    for (index, record) in later.iter().enumerate() {
-        let number = index + 1;
+    for number in 1..left {
+        if !records.read(&mut record) {
+            break;
+        }
         if number > 65_536 {
             return long();
         }
-        let Some((machine, call)) = call_of(record) else {
+        let Some((machine, call)) = call_of(&record) else {
             return Err(format!("badrow {number}"));
         };
         let answer = state.apply(machine, call);
@@ -91,13 +106,8 @@ fn main() -> std::process::ExitCode {
     }
     let is_cut = input.len() > 4_194_304;
     input.truncate(4_194_304);
-    let script = String::from_utf8_lossy(&input);
-    let mut records: Vec<&str> = script.lines().filter(|line| !line.is_empty()).collect();
-    if is_cut {
-        records.pop();
-    }
     let mut text = String::new();
-    let end = tell(&mut text, &records, is_cut);
+    let end = tell(&mut text, Records::new(&input), is_cut);
     if let Err(fault) = &end {
         let _ = writeln!(text, "fault {fault}");
     }

@@ -4,11 +4,14 @@
 
 mod audit;
 mod cell;
+mod config;
 #[allow(dead_code, reason = "each program uses a part of it")]
 mod interlock;
 mod machines;
+mod toml;
 
-use cell::{Cell, Config, served};
+use cell::{Cell, served};
+use config::Config;
 use interlock::{Answer, Call, Machine, State};
 
 struct Event {

@@ -5,11 +5,14 @@
 mod audit;
 #[allow(dead_code, reason = "each program uses a part of it")]
 mod cell;
+mod config;
 #[allow(dead_code, reason = "each program uses a part of it")]
 mod interlock;
 mod machines;
+mod toml;
 
-use cell::{Cell, Config, Seat, served};
+use cell::{Cell, Seat, served};
+use config::Config;
 use interlock::State;
 use machines::Program;
 use std::sync::{Mutex, PoisonError};
