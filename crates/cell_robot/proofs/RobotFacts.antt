@@ -1,12 +1,13 @@
 -- What the robot knows of the state at each step of its program.
-use Rattle.std.proofs.Common.{◌≡◌, Bool, true, false, if◌then◌else◌, List, [], ◌∷◌, Option, Some, None, refl, ap}
+use Rattle.std.proofs.Common.{◌≡◌, Bool, true, false, if◌then◌else◌, List, [], ◌∷◌, Option, Some, None, refl, ap, subst}
+use Rattle.std.specs.Prelude.{⊤}
 use Rattle.cell_types.specs.declared.machine.Machine.{Machine}
 use Rattle.cell_types.specs.declared.machine.Machine.TheVariants.{Robot}
 use Rattle.cell_types.specs.declared.zone.Zone.TheVariants.{Z2, Z3, Z4}
 use Rattle.cell_types.specs.declared.posture.Posture.{Posture}
 use Rattle.cell_types.specs.declared.posture.Posture.TheVariants.{Closed, Moving, OpenIn, OpenOut}
 use Rattle.cell_types.specs.declared.call.Call.{Call}
-use Rattle.cell_types.specs.declared.call.Call.TheVariants.{Claim, Give, Take, Release, Inquire}
+use Rattle.cell_types.specs.declared.call.Call.TheVariants.{Give, Release, Inquire}
 use Rattle.cell_types.specs.declared.answer.Answer.TheVariants.{Done, Shown}
 use Rattle.cell_types.specs.declared.answer.Event.{Event}
 use Rattle.cell_types.specs.Tables.{transfer_of}
@@ -87,7 +88,7 @@ done_drive TurnToDeposit notes z e k = k
 done_drive ReachDeposit notes z e k = k
 done_drive DropOnDeposit notes z e k = k
 done_drive LeaveDeposit notes z e k = k
-done_drive _ notes z e k = cc
+done_drive _ notes z e _ = cc
 
 drive_on : (b : Bool) (p : RobotProgress) (z : ModelState) → call_of p.step ≡ None → RobotKnows p z → RobotKnows (if b then after_done p else p) z
 drive_on true p z e k = done_drive p.step _ z e k
@@ -114,17 +115,42 @@ deposit_opens OpenIn e f = refl
 deposit_opens OpenOut e f = cc
 
 -- after a call that is done
+abbrev AfterCall : ModelState → Option Call → List Fact → Type 0
+AfterCall z None facts = ⊤
+AfterCall z (Some c) facts = reply z Robot c ≡ Done → AreSo Robot (changed z Robot c) facts
+
+after_call : (s : RobotStep) (notes : RobotNotes) (z : ModelState) → IsSound z → AreSo Robot z (facts_at s) → AfterCall z (call_of s) (facts_at (step_after s notes))
+after_call TurnToTable notes z sound k = tt
+after_call AwaitPlate notes z sound k = λ d. cc
+after_call ReachTable notes z sound k = tt
+after_call GripPlate notes z sound k = tt
+after_call LeaveTable notes z sound k = tt
+after_call TakePlate notes z sound k = λ d. ((k.0.0, k.0.1), tt)
+after_call ReleaseTable notes z sound k = λ d. at_choice notes (changed z Robot (Release Z2))
+after_call TurnToLoad notes z sound k = tt
+after_call ClaimPress notes z sound k = λ d. (refl, tt)
+after_call InspectPress notes z sound k = λ d. cc
+after_call ReleasePress notes z sound k = λ d. tt
+after_call ReachToLoad notes z sound k = tt
+after_call DropInPress notes z sound k = tt
+after_call LeaveLoaded notes z sound k = tt
+after_call GiveToPress notes z sound k = λ d. at_choice notes (changed z Robot (Give Z3))
+after_call TurnToUnload notes z sound k = tt
+after_call AwaitForged notes z sound k = λ d. cc
+after_call ReachToUnload notes z sound k = tt
+after_call GripForged notes z sound k = tt
+after_call LeaveUnloaded notes z sound k = tt
+after_call TakeForged notes z sound k = λ d. ((k.0.0, k.0.1), tt)
+after_call ReleaseUnloaded notes z sound k = λ d. at_choice notes (changed z Robot (Release Z3))
+after_call TurnToDeposit notes z sound k = tt
+after_call ClaimDeposit notes z sound k = λ d. ((refl, deposit_opens (posture_at z Z4) (entered z Z4 Robot d refl) (posed z Z4 sound)), tt)
+after_call ReachDeposit notes z sound k = tt
+after_call DropOnDeposit notes z sound k = tt
+after_call LeaveDeposit notes z sound k = tt
+after_call GiveToDeposit notes z sound k = λ d. at_choice notes (changed z Robot (Give Z4))
+
 done_call : (s : RobotStep) (notes : RobotNotes) (c : Call) (z : ModelState) → call_of s ≡ Some c → reply z Robot c ≡ Done → IsSound z → AreSo Robot z (facts_at s) → AreSo Robot (changed z Robot c) (facts_at (step_after s notes))
-done_call TakePlate notes (Take Z2) z e d sound k = ((k.0.0, k.0.1), tt)
-done_call ReleaseTable notes (Release Z2) z e d sound k = at_choice notes (changed z Robot (Release Z2))
-done_call ClaimPress notes (Claim Z3) z e d sound k = (refl, tt)
-done_call ReleasePress notes (Release Z3) z e d sound k = tt
-done_call GiveToPress notes (Give Z3) z e d sound k = at_choice notes (changed z Robot (Give Z3))
-done_call TakeForged notes (Take Z3) z e d sound k = ((k.0.0, k.0.1), tt)
-done_call ReleaseUnloaded notes (Release Z3) z e d sound k = at_choice notes (changed z Robot (Release Z3))
-done_call ClaimDeposit notes (Claim Z4) z e d sound k = ((refl, deposit_opens (posture_at z Z4) (entered z Z4 Robot d refl) (posed z Z4 sound)), tt)
-done_call GiveToDeposit notes (Give Z4) z e d sound k = at_choice notes (changed z Robot (Give Z4))
-done_call s notes c z e d sound k = cc
+done_call s notes c z e d sound k = subst (λ o. AfterCall z o (facts_at (step_after s notes))) e (after_call s notes z sound k) d
 
 -- after an inquiry that showed this
 at_table : (z : ModelState) (o : Option Machine) (f : Bool) (q : Posture) → IsSound z → Stands z Z2 o f q → AreSo Robot z (facts_at (step_after_inquiry AwaitPlate o f q))
@@ -139,13 +165,13 @@ at_press : (z : ModelState) (o : Option Machine) (f : Bool) (q : Posture) → Is
 at_press z (Some Robot) true q sound k = ((ap (λ x. is_owned_by x Robot) k.owner, press_gives (posture_at z Z3) (handed z Z3 Robot sound k.owner k.flag)), tt)
 at_press z o f q sound k = tt
 
+asked : (a c : Call) → Some a ≡ Some c → c ≡ a
+asked a c e = cc
+
 shown_call : (s : RobotStep) (c : Call) (z : ModelState) (o : Option Machine) (f : Bool) (q : Posture) → call_of s ≡ Some c → reply z Robot c ≡ Shown o f q → IsSound z → AreSo Robot z (facts_at s) → AreSo Robot z (facts_at (step_after_inquiry s o f q))
-shown_call AwaitPlate (Inquire Z2) z o f q e d sound k = at_table z o f q sound (stands z Robot Z2 o f q d)
-shown_call AwaitPlate c z o f q e d sound k = cc
-shown_call InspectPress (Inquire Z3) z o f q e d sound k = before_press z o f q k.0 (stands z Robot Z3 o f q d)
-shown_call InspectPress c z o f q e d sound k = cc
-shown_call AwaitForged (Inquire Z3) z o f q e d sound k = at_press z o f q sound (stands z Robot Z3 o f q d)
-shown_call AwaitForged c z o f q e d sound k = cc
+shown_call AwaitPlate c z o f q e d sound k = at_table z o f q sound (stands z Robot Z2 o f q (subst (λ a. reply z Robot a ≡ Shown o f q) (asked (Inquire Z2) c e) d))
+shown_call InspectPress c z o f q e d sound k = before_press z o f q k.0 (stands z Robot Z3 o f q (subst (λ a. reply z Robot a ≡ Shown o f q) (asked (Inquire Z3) c e) d))
+shown_call AwaitForged c z o f q e d sound k = at_press z o f q sound (stands z Robot Z3 o f q (subst (λ a. reply z Robot a ≡ Shown o f q) (asked (Inquire Z3) c e) d))
 shown_call s c z o f q e d sound k = k
 
 pub robot-knowing : (points : RobotScales) (gives : RobotGauges) → Knowing (robot_steps points gives) RobotKnows

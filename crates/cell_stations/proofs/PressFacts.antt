@@ -1,11 +1,11 @@
 -- What the press knows of the state at each step of its program.
-use Rattle.std.proofs.Common.{◌≡◌, Bool, true, false, List, [], ◌∷◌, Some, None, refl}
+use Rattle.std.proofs.Common.{◌≡◌, Bool, true, false, List, [], ◌∷◌, Option, Some, None, refl, subst}
+use Rattle.std.specs.Prelude.{⊤}
 use Rattle.cell_types.specs.declared.machine.Machine.TheVariants.{Press}
 use Rattle.cell_types.specs.declared.zone.Zone.TheVariants.{Z3}
 use Rattle.cell_types.specs.declared.posture.Posture.TheVariants.{Closed, Moving, OpenIn, OpenOut}
-use Rattle.cell_types.specs.declared.pose.Pose.TheVariants.{Travelling, Middle, Low, Top}
 use Rattle.cell_types.specs.declared.call.Call.{Call}
-use Rattle.cell_types.specs.declared.call.Call.TheVariants.{Claim, Give, Take, Release, SetPose, Advance}
+use Rattle.cell_types.specs.declared.call.Call.TheVariants.{Claim}
 use Rattle.cell_types.specs.declared.answer.Answer.TheVariants.{Done}
 use Rattle.cell_types.specs.declared.answer.Event.{Event}
 use Rattle.cell_rules.specs.ModelState.{ModelState}
@@ -49,7 +49,7 @@ done_drive : (s : PressStep) (loaded forged : Bool) (z : ModelState) → call_of
 done_drive MoveToMiddle loaded forged z e k = k
 done_drive MoveToTop loaded forged z e k = k
 done_drive MoveToBottom loaded forged z e k = k
-done_drive _ loaded forged z e k = cc
+done_drive _ loaded forged z e _ = cc
 
 drive_on : (m : Motor) (p : PressProgress) (z : ModelState) → call_of p.step ≡ None → PressKnows p z → PressKnows (after_motor p m) z
 drive_on Off p z e k = done_drive p.step p.loaded p.forged z e k
@@ -62,20 +62,29 @@ at_choice loaded true z o = (o, tt)
 at_choice true false z o = (o, tt)
 at_choice false false z o = (o, tt)
 
+abbrev AfterCall : ModelState → Option Call → List Fact → Type 0
+AfterCall z None facts = ⊤
+AfterCall z (Some c) facts = reply z Press c ≡ Done → AreSo Press (changed z Press c) facts
+
+after_call : (s : PressStep) (loaded forged : Bool) (z : ModelState) → AreSo Press z (facts_at s) → AfterCall z (call_of s) (facts_at (step_after s loaded forged))
+after_call ClaimFirst loaded forged z k = λ d. at_choice loaded forged (changed z Press (Claim Z3)) refl
+after_call LeaveForMiddle loaded forged z k = λ d. (k.0, ((refl, refl), tt))
+after_call MoveToMiddle loaded forged z k = tt
+after_call PoseMiddle loaded forged z k = λ d. (k.0, ((refl, refl), tt))
+after_call ReleaseInterior loaded forged z k = λ d. (k.1.0, tt)
+after_call TakePlate loaded forged z k = λ d. (take_owned z Press Z3 d, tt)
+after_call LeaveForTop loaded forged z k = λ d. (k.0, ((refl, refl), tt))
+after_call MoveToTop loaded forged z k = tt
+after_call PoseTop loaded forged z k = λ d. (k.0, ((refl, refl), tt))
+after_call Forge loaded forged z k = λ d. (k.0, tt)
+after_call LeaveForBottom loaded forged z k = λ d. (k.0, ((refl, refl), tt))
+after_call MoveToBottom loaded forged z k = tt
+after_call PoseLow loaded forged z k = λ d. (k.0, ((refl, refl), tt))
+after_call GivePlate loaded forged z k = λ d. (k.1.0, tt)
+after_call ClaimBack loaded forged z k = λ d. (refl, tt)
+
 done_call : (s : PressStep) (loaded forged : Bool) (c : Call) (z : ModelState) → call_of s ≡ Some c → reply z Press c ≡ Done → AreSo Press z (facts_at s) → AreSo Press (changed z Press c) (facts_at (step_after s loaded forged))
-done_call ClaimFirst loaded forged (Claim Z3) z e d k = at_choice loaded forged (changed z Press (Claim Z3)) refl
-done_call LeaveForMiddle loaded forged (SetPose Travelling) z e d k = (k.0, ((refl, refl), tt))
-done_call PoseMiddle loaded forged (SetPose Middle) z e d k = (k.0, ((refl, refl), tt))
-done_call ReleaseInterior loaded forged (Release Z3) z e d k = (k.1.0, tt)
-done_call TakePlate loaded forged (Take Z3) z e d k = (take_owned z Press Z3 d, tt)
-done_call LeaveForTop loaded forged (SetPose Travelling) z e d k = (k.0, ((refl, refl), tt))
-done_call PoseTop loaded forged (SetPose Top) z e d k = (k.0, ((refl, refl), tt))
-done_call Forge loaded forged Advance z e d k = (k.0, tt)
-done_call LeaveForBottom loaded forged (SetPose Travelling) z e d k = (k.0, ((refl, refl), tt))
-done_call PoseLow loaded forged (SetPose Low) z e d k = (k.0, ((refl, refl), tt))
-done_call GivePlate loaded forged (Give Z3) z e d k = (k.1.0, tt)
-done_call ClaimBack loaded forged (Claim Z3) z e d k = (refl, tt)
-done_call s loaded forged c z e d k = cc
+done_call s loaded forged c z e d k = subst (λ o. AfterCall z o (facts_at (step_after s loaded forged))) e (after_call s loaded forged z k) d
 
 pub press-knowing : Knowing press_steps PressKnows
 press-knowing = record {
@@ -90,7 +99,7 @@ pub drives_at : (s : PressStep) (z : ModelState) → call_of s ≡ None → AreS
 drives_at MoveToMiddle z e k = (k.0, k.1.0.1)
 drives_at MoveToTop z e k = (k.0, k.1.0.1)
 drives_at MoveToBottom z e k = (k.0, k.1.0.1)
-drives_at _ z e k = cc
+drives_at _ z e _ = cc
 
 pub drives-held : (opening : ModelState) (seen : List Event) (p : PressProgress) → IsSound opening → IsLegal opening seen → IsReached press_steps opening seen p → call_of p.step ≡ None
     → Holds opening seen Press Z3 × PressMoves opening seen

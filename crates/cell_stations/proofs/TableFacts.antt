@@ -1,11 +1,11 @@
 -- What the table knows of the state at each step of its program.
-use Rattle.std.proofs.Common.{◌≡◌, ℕ, ℤ, ◌&&◌, Bool, true, false, if◌then◌else◌, List, [], ◌∷◌, Some, None, refl}
+use Rattle.std.proofs.Common.{◌≡◌, ℕ, ℤ, ◌&&◌, Bool, true, false, if◌then◌else◌, List, [], ◌∷◌, Option, Some, None, refl, subst}
+use Rattle.std.specs.Prelude.{⊤}
 use Rattle.cell_types.specs.declared.machine.Machine.TheVariants.{Table as TableMachine}
 use Rattle.cell_types.specs.declared.zone.Zone.TheVariants.{Z1, Z2}
 use Rattle.cell_types.specs.declared.posture.Posture.TheVariants.{Closed, Moving, OpenIn, OpenOut}
-use Rattle.cell_types.specs.declared.pose.Pose.TheVariants.{Turning, Loading, Unloading}
 use Rattle.cell_types.specs.declared.call.Call.{Call}
-use Rattle.cell_types.specs.declared.call.Call.TheVariants.{Claim, Give, Take, Release, SetPose}
+use Rattle.cell_types.specs.declared.call.Call.TheVariants.{Claim}
 use Rattle.cell_types.specs.declared.answer.Answer.TheVariants.{Done}
 use Rattle.cell_types.specs.declared.answer.Event.{Event}
 use Rattle.cell_calib.specs.Scale.{Scale}
@@ -44,7 +44,7 @@ TableKnows p z = AreSo TableMachine z (facts_at p.step)
 done_drive : (s : TableStep) (loaded : Bool) (z : ModelState) → call_of s ≡ None → AreSo TableMachine z (facts_at s) → AreSo TableMachine z (facts_at (step_after s loaded))
 done_drive MoveToLoading loaded z e k = k
 done_drive MoveToUnloading loaded z e k = k
-done_drive _ loaded z e k = cc
+done_drive _ loaded z e _ = cc
 
 drive_on : (b : Bool) (p : TableProgress) (z : ModelState) → call_of p.step ≡ None → TableKnows p z → TableKnows (if b then after_done p else p) z
 drive_on true p z e k = done_drive p.step p.loaded z e k
@@ -55,19 +55,27 @@ at_choice : (loaded : Bool) (z : ModelState) → owns z TableMachine Z1 ≡ true
 at_choice true z o u = (o, (u, tt))
 at_choice false z o u = (o, (u, tt))
 
+abbrev AfterCall : ModelState → Option Call → List Fact → Type 0
+AfterCall z None facts = ⊤
+AfterCall z (Some c) facts = reply z TableMachine c ≡ Done → AreSo TableMachine (changed z TableMachine c) facts
+
+after_call : (s : TableStep) (loaded : Bool) (z : ModelState) → AreSo TableMachine z (facts_at s) → AfterCall z (call_of s) (facts_at (step_after s loaded))
+after_call ClaimEntry loaded z k = λ d. (refl, tt)
+after_call ClaimExit loaded z k = λ d. at_choice loaded (changed z TableMachine (Claim Z2)) k.0 refl
+after_call LeaveForLoading loaded z k = λ d. (k.0, (k.1.0, ((refl, refl), ((refl, refl), tt))))
+after_call MoveToLoading loaded z k = tt
+after_call PoseLoading loaded z k = λ d. (k.0, (k.1.0, ((refl, refl), ((refl, refl), tt))))
+after_call ReleaseEntry loaded z k = λ d. k.1
+after_call TakePlate loaded z k = λ d. (take_owned z TableMachine Z1 d, (k.0, tt))
+after_call LeaveForUnloading loaded z k = λ d. (k.0, (k.1.0, ((refl, refl), ((refl, refl), tt))))
+after_call MoveToUnloading loaded z k = tt
+after_call PoseUnloading loaded z k = λ d. (k.0, (k.1.0, ((refl, refl), ((refl, refl), tt))))
+after_call GivePlate loaded z k = λ d. (k.0, k.1.1)
+after_call ClaimBack loaded z k = λ d. (k.0, (refl, tt))
+
 done_call : (s : TableStep) (loaded : Bool) (c : Call) (z : ModelState) → call_of s ≡ Some c → reply z TableMachine c ≡ Done → AreSo TableMachine z (facts_at s)
     → AreSo TableMachine (changed z TableMachine c) (facts_at (step_after s loaded))
-done_call ClaimEntry loaded (Claim Z1) z e d k = (refl, tt)
-done_call ClaimExit loaded (Claim Z2) z e d k = at_choice loaded (changed z TableMachine (Claim Z2)) k.0 refl
-done_call LeaveForLoading loaded (SetPose Turning) z e d k = (k.0, (k.1.0, ((refl, refl), ((refl, refl), tt))))
-done_call PoseLoading loaded (SetPose Loading) z e d k = (k.0, (k.1.0, ((refl, refl), ((refl, refl), tt))))
-done_call ReleaseEntry loaded (Release Z1) z e d k = k.1
-done_call TakePlate loaded (Take Z1) z e d k = (take_owned z TableMachine Z1 d, (k.0, tt))
-done_call LeaveForUnloading loaded (SetPose Turning) z e d k = (k.0, (k.1.0, ((refl, refl), ((refl, refl), tt))))
-done_call PoseUnloading loaded (SetPose Unloading) z e d k = (k.0, (k.1.0, ((refl, refl), ((refl, refl), tt))))
-done_call GivePlate loaded (Give Z2) z e d k = (k.0, k.1.1)
-done_call ClaimBack loaded (Claim Z2) z e d k = (k.0, (refl, tt))
-done_call s loaded c z e d k = cc
+done_call s loaded c z e d k = subst (λ o. AfterCall z o (facts_at (step_after s loaded))) e (after_call s loaded z k) d
 
 pub table-knowing : (points : Scale) (gives : ℕ → ℤ → Type 0) → Knowing (table_steps points gives) TableKnows
 table-knowing points gives = record {
@@ -82,7 +90,7 @@ pub drives_at : (s : TableStep) (z : ModelState) → call_of s ≡ None → AreS
     → ((owns z TableMachine Z1 ≡ true) × (owns z TableMachine Z2 ≡ true)) × ((posture_at z Z1 ≡ Moving) × (posture_at z Z2 ≡ Moving))
 drives_at MoveToLoading z e k = ((k.0, k.1.0), (k.1.1.0.1, k.1.1.1.0.1))
 drives_at MoveToUnloading z e k = ((k.0, k.1.0), (k.1.1.0.1, k.1.1.1.0.1))
-drives_at _ z e k = cc
+drives_at _ z e _ = cc
 
 pub drives-held : (points : Scale) (gives : ℕ → ℤ → Type 0) (opening : ModelState) (seen : List Event) (p : TableProgress) → IsSound opening → IsLegal opening seen → IsReached (table_steps points gives) opening seen p → call_of p.step ≡ None
     → (Holds opening seen TableMachine Z1 × Holds opening seen TableMachine Z2) × (Moves opening seen Z1 × Moves opening seen Z2)
