@@ -1,6 +1,7 @@
 -- A row of guards is tested part by part.
 use Rattle.std.proofs.Common.{◌≡◌, ℕ, Option, Some, None, Result, Ok, Err, List, [], ◌∷◌, ◌++◌, refl, ap, ◌∙◌}
 use Rattle.std.specs.Option.{option_or}
+use Rattle.std.specs.Result.{IsErrAnd}
 use Rattle.cell_types.specs.declared.answer.Refusal.{Refusal}
 use Rattle.cell_word.specs.Rows.{first_refusal, unless, checked}
 use Rattle.cell_word.specs.declared.patterns.Guard.{Guard}
@@ -39,6 +40,11 @@ part_by_part w (part ∷ parts) p = then (checked w part) (part_by_part w parts 
 pub by_parts : {A : Type 0} (w : ℕ) (parts : List (List Guard)) (p : A) → unless (first_refusal w (joined parts)) p ≡ part_by_part w parts p
 by_parts w [] p = refl
 by_parts w (part ∷ parts) p = in_parts w part (joined parts) p ∙ ap (then (checked w part)) (by_parts w parts p)
+
+-- a refusal is handed on
+pub refused : {A : Type 0} (x : Result A Refusal) (r : Refusal) → IsErrAnd x (λ y. y ≡ r) → x ≡ Err r
+refused (Ok a) r k = absurd k
+refused (Err y) r k = ap Err k
 
 -- what a row's result shows
 pub was_refused : {A : Type 0} (o : Option Refusal) (p : A) (r : Refusal) → unless o p ≡ Err r → o ≡ Some r

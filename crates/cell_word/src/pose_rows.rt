@@ -1,5 +1,5 @@
 //! The guards of poses, and of work, and what these calls write.
-ghost use Rattle.std.specs.Prelude.{◌≡◌, ℕ, ◌∷◌, [], is_none};
+ghost use Rattle.std.specs.Prelude.{◌≡◌, ℕ, ◌∷◌, ◌++◌, [], is_none};
 ghost use Rattle.cell_types.specs.declared.answer.Refusal.TheVariants.{NoPose};
 ghost use Rattle.cell_types.specs.declared.call.Call.TheVariants as calls;
 ghost use Rattle.cell_types.specs.declared.machine.Machine.TheVariants as machines;
@@ -183,6 +183,42 @@ fn has_pose(posed: Option<(Zone, Posture)>) -> Result<(), Refusal>
     }
 }
 
+/// Each zone that gets another posture has to be its host's; then each has to be free of plates.
+#[inline(always)]
+fn may_turn(
+    word: u64,
+    one: Option<(Zone, Posture)>,
+    other: Option<(Zone, Posture)>,
+) -> Result<(), Refusal>
+    ensures { result ≡ rows.checked word (rows.on_posed rows.owner_guards one ++ (rows.on_posed rows.owner_guards other
+        ++ (rows.on_posed rows.plate_guards one ++ rows.on_posed rows.plate_guards other))) }
+{
+    hosts(word, one)?;
+    hosts(word, other)?;
+    clears(word, one)?;
+    clears(word, other)
+}
+
+/// Each zone has to be left in a posture that moves; then each that opens inward needs room, and a
+/// belt that runs must not lose a plate.
+#[inline(always)]
+fn may_stand(
+    word: u64,
+    machine: Machine,
+    pose: Pose,
+    one: Option<(Zone, Posture)>,
+    other: Option<(Zone, Posture)>,
+) -> Result<(), Refusal>
+    ensures { result ≡ rows.checked word (rows.on_posed (rows.jump_guards machine pose) one ++ (rows.on_posed (rows.jump_guards machine pose) other
+        ++ (rows.on_posed rows.opening_guards one ++ (rows.on_posed rows.opening_guards other ++ rows.run_guards machine pose)))) }
+{
+    moves(word, machine, pose, one)?;
+    moves(word, machine, pose, other)?;
+    opens(word, one)?;
+    opens(word, other)?;
+    runs(word, machine, pose)
+}
+
 #[inline(always)]
 fn set_pose_of(word: u64, machine: Machine, pose: Pose) -> Result<Pattern, Refusal>
     ensures { result ≡ rows.unless (rows.first_refusal word (rows.pose_row machine pose))
@@ -192,15 +228,8 @@ fn set_pose_of(word: u64, machine: Machine, pose: Pose) -> Result<Pattern, Refus
     let one = posed_at(machine, pose, one);
     let other = posed_at(machine, pose, other);
     has_pose(one)?;
-    hosts(word, one)?;
-    hosts(word, other)?;
-    clears(word, one)?;
-    clears(word, other)?;
-    moves(word, machine, pose, one)?;
-    moves(word, machine, pose, other)?;
-    opens(word, one)?;
-    opens(word, other)?;
-    runs(word, machine, pose)?;
+    may_turn(word, one, other)?;
+    may_stand(word, machine, pose, one, other)?;
     worn().pass(word)?;
     Ok(posed(one).and(posed(other)))
 }

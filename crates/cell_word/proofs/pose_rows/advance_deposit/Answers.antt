@@ -1,4 +1,4 @@
-use Rattle.std.proofs.Common.{◌≡◌, Ok, Err, List, [], ◌∷◌, sym, ap, ◌∙◌, rules}
+use Rattle.std.proofs.Common.{Ok, List, [], ◌∷◌, sym, ap, ◌∙◌}
 use Rattle.cell_types.specs.declared.machine.Machine.TheVariants.{Deposit}
 use Rattle.cell_types.specs.declared.zone.Zone.TheVariants.{Z4, Z5}
 use Rattle.cell_types.specs.declared.place.Place.TheVariants.{DepEntry, DepEnd}
@@ -8,7 +8,7 @@ use Rattle.cell_types.specs.declared.answer.Refusal.TheVariants.{NotAtWork}
 use Rattle.cell_word.specs.Changes.{written}
 use Rattle.cell_word.specs.Rows as rows
 use Rattle.cell_word.specs.declared.patterns.Guard.{Guard}
-use Rattle.cell_word.proofs.Trying.{go, stop, by_parts}
+use Rattle.cell_word.proofs.Trying.{refused, go, stop, by_parts}
 use Rattle.cell_word.proofs.pose_rows.advance_deposit.Goals as goal
 
 abbrev parts : List (List Guard)
@@ -20,16 +20,14 @@ parts =
 
 pub returns-in_err-only_in : goal.returns-in_err-only_in
 returns-in_err-only_in c =
-    let told : c.from_residual.result ≡ Err c.in_err-only_in.field-0.0 = search rules in
-    told
+    refused _ c.in_err-only_in.field-0.0 c.from_residual.ensures.1
     ∙ sym
     (by_parts c.args.word parts (written Deposit Advance)
     ∙ stop (sym c.only_in.ensures ∙ c.in_err-only_in.was) _)
 
 pub returns-in_err-only_in-2 : goal.returns-in_err-only_in-2
 returns-in_err-only_in-2 c =
-    let told : c.from_residual-in_err-only_in-2.result ≡ Err c.in_err-only_in-2.field-0.0 = search rules in
-    told
+    refused _ c.in_err-only_in-2.field-0.0 c.from_residual-in_err-only_in-2.ensures.1
     ∙ sym
     (by_parts c.args.word parts (written Deposit Advance)
     ∙ go (sym c.only_in.ensures ∙ c.in_ok-only_in.was)
@@ -37,8 +35,7 @@ returns-in_err-only_in-2 c =
 
 pub returns-in_err-moved : goal.returns-in_err-moved
 returns-in_err-moved c =
-    let told : c.from_residual-in_err-moved.result ≡ Err c.in_err-moved.field-0.0 = search rules in
-    told
+    refused _ c.in_err-moved.field-0.0 c.from_residual-in_err-moved.ensures.1
     ∙ sym
     (by_parts c.args.word parts (written Deposit Advance)
     ∙ go (sym c.only_in.ensures ∙ c.in_ok-only_in.was)

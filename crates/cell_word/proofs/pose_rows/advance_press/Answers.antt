@@ -1,4 +1,4 @@
-use Rattle.std.proofs.Common.{◌≡◌, Ok, Err, List, [], ◌∷◌, sym, ap, ◌∙◌, rules}
+use Rattle.std.proofs.Common.{Ok, List, [], ◌∷◌, sym, ap, ◌∙◌}
 use Rattle.cell_types.specs.declared.machine.Machine.TheVariants.{Press}
 use Rattle.cell_types.specs.declared.zone.Zone.TheVariants.{Z3}
 use Rattle.cell_types.specs.declared.place.Place.TheVariants.{PressIn, PressOut}
@@ -9,7 +9,7 @@ use Rattle.cell_types.specs.Tables.{guest_of}
 use Rattle.cell_word.specs.Changes.{written}
 use Rattle.cell_word.specs.Rows as rows
 use Rattle.cell_word.specs.declared.patterns.Guard.{Guard}
-use Rattle.cell_word.proofs.Trying.{go, stop, by_parts}
+use Rattle.cell_word.proofs.Trying.{refused, go, stop, by_parts}
 use Rattle.cell_word.proofs.pose_rows.advance_press.Goals as goal
 
 abbrev parts : List (List Guard)
@@ -21,16 +21,14 @@ parts =
 
 pub returns-in_err-held : goal.returns-in_err-held
 returns-in_err-held c =
-    let told : c.from_residual.result ≡ Err c.in_err-held.field-0.0 = search rules in
-    told
+    refused _ c.in_err-held.field-0.0 c.from_residual.ensures.1
     ∙ sym
     (by_parts c.args.word parts (written Press Advance)
     ∙ stop (sym c.held.ensures ∙ c.in_err-held.was) _)
 
 pub returns-in_err-only_in : goal.returns-in_err-only_in
 returns-in_err-only_in c =
-    let told : c.from_residual-in_err-only_in.result ≡ Err c.in_err-only_in.field-0.0 = search rules in
-    told
+    refused _ c.in_err-only_in.field-0.0 c.from_residual-in_err-only_in.ensures.1
     ∙ sym
     (by_parts c.args.word parts (written Press Advance)
     ∙ go (sym c.held.ensures ∙ c.in_ok-held.was)
@@ -38,8 +36,7 @@ returns-in_err-only_in c =
 
 pub returns-in_err-moved : goal.returns-in_err-moved
 returns-in_err-moved c =
-    let told : c.from_residual-in_err-moved.result ≡ Err c.in_err-moved.field-0.0 = search rules in
-    told
+    refused _ c.in_err-moved.field-0.0 c.from_residual-in_err-moved.ensures.1
     ∙ sym
     (by_parts c.args.word parts (written Press Advance)
     ∙ go (sym c.held.ensures ∙ c.in_ok-held.was)

@@ -1,4 +1,4 @@
-use Rattle.std.proofs.Common.{◌≡◌, ℕ, true, false, List, Err, refl, sym, ap, ◌∙◌, rules}
+use Rattle.std.proofs.Common.{◌≡◌, ℕ, true, false, List, refl, sym, ap, ◌∙◌}
 use Rattle.std.specs.List.{flat_map}
 use Rattle.cell_types.specs.declared.zone.Zone.{Zone}
 use Rattle.cell_types.specs.declared.zone.Zone.TheVariants.{Z3}
@@ -9,7 +9,7 @@ use Rattle.cell_types.specs.Same.{same_zone}
 use Rattle.cell_types.specs.Tables.{transfer_of}
 use Rattle.cell_word.specs.Rows as rows
 use Rattle.cell_word.specs.Rows.{checked}
-use Rattle.cell_word.proofs.Trying.{go, stop, then, in_parts}
+use Rattle.cell_word.proofs.Trying.{refused, go, stop, then, in_parts}
 use Rattle.cell_word.proofs.pose_rows.rooms.Goals as goal
 
 -- the press has two places inside z3
@@ -25,8 +25,7 @@ elsewhere z e = refl
 
 pub returns-in_err-room : goal.returns-in_err-room
 returns-in_err-room c =
-    let told : c.from_residual.result ≡ Err c.in_err-room.field-0.0 = search rules in
-    told ∙ sym (pressed c.args.at.word c.args.at.zone (sym c.eq.ensures ∙ c.if-eq.true) ∙ stop (sym c.room.ensures ∙ c.in_err-room.was) _)
+    refused _ c.in_err-room.field-0.0 c.from_residual.ensures.1 ∙ sym (pressed c.args.at.word c.args.at.zone (sym c.eq.ensures ∙ c.if-eq.true) ∙ stop (sym c.room.ensures ∙ c.in_err-room.was) _)
 
 pub returns-then-eq : goal.returns-then-eq
 returns-then-eq c = c.room-then-eq.ensures ∙ sym (pressed c.args.at.word c.args.at.zone (sym c.eq.ensures ∙ c.if-eq.true) ∙ go (sym c.room.ensures ∙ c.in_ok-room.was))

@@ -1,4 +1,4 @@
-use Rattle.std.proofs.Common.{◌≡◌, Bool, Some, Err, List, [], ◌∷◌, sym, ap, ◌∙◌, rules, Ok}
+use Rattle.std.proofs.Common.{◌≡◌, Bool, Some, List, [], ◌∷◌, sym, ap, ◌∙◌, Ok}
 use Rattle.cell_types.specs.declared.machine.Machine.{Machine}
 use Rattle.cell_types.specs.declared.zone.Zone.{Zone}
 use Rattle.cell_types.specs.declared.posture.Posture.TheVariants.{Closed, Moving}
@@ -13,7 +13,7 @@ use Rattle.cell_word.specs.Rows as rows
 use Rattle.cell_word.specs.Rows.{guard, first_refusal, unless, checked, went_on}
 use Rattle.cell_word.specs.declared.patterns.Guard.{Guard}
 use Rattle.cell_word.proofs.Parties.{other_is, guest_is, owner_by}
-use Rattle.cell_word.proofs.Trying.{go, stop, part_by_part, by_parts}
+use Rattle.cell_word.proofs.Trying.{refused, go, stop, part_by_part, by_parts}
 use Rattle.cell_word.specs.Sides.{party_of, other_side, is_guest}
 use Rattle.cell_word.proofs.rows.claim.Goals as goal
 use Rattle.cell_word.proofs.rows.claim.Goals.{In_ok-side}
@@ -47,24 +47,21 @@ row_at c =
 
 pub returns-in_err-side : goal.returns-in_err-side
 returns-in_err-side c =
-    let told : c.from_residual.result ≡ Err c.in_err-side.field-0.0 = search rules in
-    told
+    refused _ c.in_err-side.field-0.0 c.from_residual.ensures.1
     ∙ sym
     (by_parts c.args.word (parts c.args.machine c.args.zone) (written c.args.machine (Claim c.args.zone))
     ∙ stop (c.caller.ensures.stranger c.args.word ∙ ap went_on c.in_err-side.was) _)
 
 pub returns-in_err-free : goal.returns-in_err-free
 returns-in_err-free c =
-    let told : c.from_residual-in_err-free.result ≡ Err c.in_err-free.field-0.0 = search rules in
-    told
+    refused _ c.in_err-free.field-0.0 c.from_residual-in_err-free.ensures.1
     ∙ sym
     (row_at (goal.at.returns-in_err-free c).In_ok-side
     ∙ stop (sym c.free.ensures ∙ c.in_err-free.was) _)
 
 pub returns-in_err-open_to : goal.returns-in_err-open_to
 returns-in_err-open_to c =
-    let told : c.from_residual-in_err-open_to.result ≡ Err c.in_err-open_to.field-0.0 = search rules in
-    told
+    refused _ c.in_err-open_to.field-0.0 c.from_residual-in_err-open_to.ensures.1
     ∙ sym
     (row_at (goal.at.returns-in_err-open_to c).In_ok-side
     ∙ go (sym c.free.ensures ∙ c.in_ok-free.was)
@@ -72,8 +69,7 @@ returns-in_err-open_to c =
 
 pub returns-in_err-pass : goal.returns-in_err-pass
 returns-in_err-pass c =
-    let told : c.from_residual-in_err-pass.result ≡ Err c.in_err-pass.field-0.0 = search rules in
-    told
+    refused _ c.in_err-pass.field-0.0 c.from_residual-in_err-pass.ensures.1
     ∙ sym
     (row_at (goal.at.returns-in_err-pass c).In_ok-side
     ∙ go (sym c.free.ensures ∙ c.in_ok-free.was)

@@ -1,4 +1,4 @@
-use Rattle.std.proofs.Common.{◌≡◌, Option, Ok, Err, List, [], ◌∷◌, map, sym, ap, ◌∙◌, rules}
+use Rattle.std.proofs.Common.{◌≡◌, Option, Ok, List, [], ◌∷◌, map, sym, ap, ◌∙◌}
 use Rattle.cell_types.specs.declared.machine.Machine.{Machine}
 use Rattle.cell_types.specs.declared.zone.Zone.{Zone}
 use Rattle.cell_types.specs.declared.zone.Transfer.{Transfer}
@@ -12,7 +12,7 @@ use Rattle.cell_word.specs.Rows.{guard, first_refusal, unless, checked, went_on}
 use Rattle.cell_word.specs.Sides.{party_of, other_side}
 use Rattle.cell_word.specs.declared.patterns.Guard.{Guard}
 use Rattle.cell_word.proofs.Parties.{other_is}
-use Rattle.cell_word.proofs.Trying.{go, stop, part_by_part, by_parts}
+use Rattle.cell_word.proofs.Trying.{refused, go, stop, part_by_part, by_parts}
 use Rattle.cell_word.proofs.rows.give.Goals as goal
 use Rattle.cell_word.proofs.rows.give.Goals.{In_ok-side}
 
@@ -41,24 +41,21 @@ row_at c =
 
 pub returns-in_err-side : goal.returns-in_err-side
 returns-in_err-side c =
-    let told : c.from_residual.result ≡ Err c.in_err-side.field-0.0 = search rules in
-    told
+    refused _ c.in_err-side.field-0.0 c.from_residual.ensures.1
     ∙ sym
     (by_parts c.args.word (parts c.args.machine c.args.zone) (changes.written c.args.machine (Give c.args.zone))
     ∙ stop (c.caller.ensures.stranger c.args.word ∙ ap went_on c.in_err-side.was) _)
 
 pub returns-in_err-held_and_clear : goal.returns-in_err-held_and_clear
 returns-in_err-held_and_clear c =
-    let told : c.from_residual-in_err-held_and_clear.result ≡ Err c.in_err-held_and_clear.field-0.0 = search rules in
-    told
+    refused _ c.in_err-held_and_clear.field-0.0 c.from_residual-in_err-held_and_clear.ensures.1
     ∙ sym
     (row_at (goal.at.returns-in_err-held_and_clear c).In_ok-side
     ∙ stop (sym c.held_and_clear.ensures ∙ c.in_err-held_and_clear.was) _)
 
 pub returns-in_err-row : goal.returns-in_err-row
 returns-in_err-row c =
-    let told : c.from_residual-in_err-row.result ≡ Err c.in_err-row.field-0.0 = search rules in
-    told
+    refused _ c.in_err-row.field-0.0 c.from_residual-in_err-row.ensures.1
     ∙ sym
     (row_at (goal.at.returns-in_err-row c).In_ok-side
     ∙ go (sym c.held_and_clear.ensures ∙ c.in_ok-held_and_clear.was)
@@ -67,8 +64,7 @@ returns-in_err-row c =
 pub returns-in_err-moved : goal.returns-in_err-moved
 returns-in_err-moved c =
     let row_given = ap (λ m. rows.row_given m c.args.zone) c.in_ok-side.ensures.party ∙ c.in_ok-row.ensures.row in
-    let told : c.from_residual-in_err-moved.result ≡ Err c.in_err-moved.field-0.0 = search rules in
-    told
+    refused _ c.in_err-moved.field-0.0 c.from_residual-in_err-moved.ensures.1
     ∙ sym
     (row_at (goal.at.returns-in_err-moved c).In_ok-side
     ∙ ap (λ row. part_by_part c.args.word (rest c.args.machine c.args.zone (party_of c.args.zone (other_side c.in_ok-side.side)) row) (changes.written c.args.machine (Give c.args.zone))) row_given

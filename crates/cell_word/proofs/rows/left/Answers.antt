@@ -1,10 +1,10 @@
-use Rattle.std.proofs.Common.{◌≡◌, ℕ, Err, [], ◌∷◌, sym, ap, ◌∙◌, rules}
+use Rattle.std.proofs.Common.{◌≡◌, ℕ, [], ◌∷◌, sym, ap, ◌∙◌}
 use Rattle.cell_types.specs.declared.machine.Machine.{Machine}
 use Rattle.cell_types.specs.declared.zone.Zone.{Zone}
 use Rattle.cell_types.specs.declared.posture.Posture.TheVariants.{Moving}
 use Rattle.cell_word.specs.Rows as rows
 use Rattle.cell_word.specs.Rows.{checked}
-use Rattle.cell_word.proofs.Trying.{go, stop, then, in_parts}
+use Rattle.cell_word.proofs.Trying.{refused, go, stop, then, in_parts}
 use Rattle.cell_word.proofs.rows.left.Goals as goal
 
 row_is : (w : ℕ) (m : Machine) (z : Zone) → checked w (rows.shut z Moving ∷ rows.in_use m z ∷ rows.worn ∷ []) ≡ then (checked w (rows.shut z Moving ∷ [])) (checked w (rows.in_use m z ∷ rows.worn ∷ []))
@@ -15,13 +15,11 @@ rest_is w m z = in_parts w (rows.in_use m z ∷ []) (rows.worn ∷ []) tt
 
 pub returns-in_err-not_in : goal.returns-in_err-not_in
 returns-in_err-not_in c =
-    let told : c.from_residual.result ≡ Err c.in_err-not_in.field-0.0 = search rules in
-    told ∙ sym (row_is c.args.at.word c.args.machine c.args.at.zone ∙ stop (sym c.not_in.ensures ∙ c.in_err-not_in.was) _)
+    refused _ c.in_err-not_in.field-0.0 c.from_residual.ensures.1 ∙ sym (row_is c.args.at.word c.args.machine c.args.at.zone ∙ stop (sym c.not_in.ensures ∙ c.in_err-not_in.was) _)
 
 pub returns-in_err-not_in_use : goal.returns-in_err-not_in_use
 returns-in_err-not_in_use c =
-    let told : c.from_residual-in_err-not_in_use.result ≡ Err c.in_err-not_in_use.field-0.0 = search rules in
-    told
+    refused _ c.in_err-not_in_use.field-0.0 c.from_residual-in_err-not_in_use.ensures.1
     ∙ sym
     (row_is c.args.at.word c.args.machine c.args.at.zone
     ∙ go (sym c.not_in.ensures ∙ c.in_ok-not_in.was)

@@ -1,4 +1,4 @@
-use Rattle.std.proofs.Common.{◌≡◌, Err, List, [], ◌∷◌, sym, ap, ◌∙◌, rules, Ok, None}
+use Rattle.std.proofs.Common.{◌≡◌, List, [], ◌∷◌, sym, ap, ◌∙◌, Ok, None}
 use Rattle.cell_types.specs.declared.machine.Machine.{Machine}
 use Rattle.cell_types.specs.declared.zone.Zone.{Zone}
 use Rattle.cell_types.specs.declared.posture.Posture.TheVariants.{Moving}
@@ -9,7 +9,7 @@ use Rattle.cell_word.specs.Rows as rows
 use Rattle.cell_word.specs.Rows.{first_refusal, unless, went_on}
 use Rattle.cell_word.specs.declared.patterns.Guard.{Guard}
 use Rattle.cell_word.proofs.Parties.{other_is, owner_by}
-use Rattle.cell_word.proofs.Trying.{go, stop, part_by_part, by_parts}
+use Rattle.cell_word.proofs.Trying.{refused, go, stop, part_by_part, by_parts}
 use Rattle.cell_word.specs.Sides.{party_of, other_side}
 use Rattle.cell_word.proofs.rows.release.Goals as goal
 use Rattle.cell_word.proofs.rows.release.Goals.{In_ok-side}
@@ -40,24 +40,21 @@ row_at c =
 
 pub returns-in_err-side : goal.returns-in_err-side
 returns-in_err-side c =
-    let told : c.from_residual.result ≡ Err c.in_err-side.field-0.0 = search rules in
-    told
+    refused _ c.in_err-side.field-0.0 c.from_residual.ensures.1
     ∙ sym
     (by_parts c.args.word (parts c.args.machine c.args.zone) (written c.args.machine (Release c.args.zone))
     ∙ stop (c.caller.ensures.stranger c.args.word ∙ ap went_on c.in_err-side.was) _)
 
 pub returns-in_err-held_and_clear : goal.returns-in_err-held_and_clear
 returns-in_err-held_and_clear c =
-    let told : c.from_residual-in_err-held_and_clear.result ≡ Err c.in_err-held_and_clear.field-0.0 = search rules in
-    told
+    refused _ c.in_err-held_and_clear.field-0.0 c.from_residual-in_err-held_and_clear.ensures.1
     ∙ sym
     (row_at (goal.at.returns-in_err-held_and_clear c).In_ok-side
     ∙ stop (sym c.held_and_clear.ensures ∙ c.in_err-held_and_clear.was) _)
 
 pub returns-in_err-left : goal.returns-in_err-left
 returns-in_err-left c =
-    let told : c.from_residual-in_err-left.result ≡ Err c.in_err-left.field-0.0 = search rules in
-    told
+    refused _ c.in_err-left.field-0.0 c.from_residual-in_err-left.ensures.1
     ∙ sym
     (row_at (goal.at.returns-in_err-left c).In_ok-side
     ∙ go (sym c.held_and_clear.ensures ∙ c.in_ok-held_and_clear.was)

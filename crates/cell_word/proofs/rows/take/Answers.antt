@@ -1,4 +1,4 @@
-use Rattle.std.proofs.Common.{◌≡◌, false, Err, List, [], ◌∷◌, sym, ap, ◌∙◌, rules, Ok}
+use Rattle.std.proofs.Common.{◌≡◌, false, List, [], ◌∷◌, sym, ap, ◌∙◌, Ok}
 use Rattle.cell_types.specs.declared.machine.Machine.{Machine}
 use Rattle.cell_types.specs.declared.zone.Zone.{Zone}
 use Rattle.cell_types.specs.declared.answer.Refusal.TheVariants.{NoPlate}
@@ -10,7 +10,7 @@ use Rattle.cell_word.specs.Rows as rows
 use Rattle.cell_word.specs.Rows.{guard, first_refusal, unless, checked, went_on}
 use Rattle.cell_word.specs.declared.patterns.Guard.{Guard}
 use Rattle.cell_word.proofs.Parties.{other_is}
-use Rattle.cell_word.proofs.Trying.{go, stop, part_by_part, by_parts}
+use Rattle.cell_word.proofs.Trying.{refused, go, stop, part_by_part, by_parts}
 use Rattle.cell_word.specs.Sides.{party_of, other_side}
 use Rattle.cell_word.proofs.rows.take.Goals as goal
 use Rattle.cell_word.proofs.rows.take.Goals.{In_ok-side}
@@ -42,24 +42,21 @@ row_at c =
 
 pub returns-in_err-side : goal.returns-in_err-side
 returns-in_err-side c =
-    let told : c.from_residual.result ≡ Err c.in_err-side.field-0.0 = search rules in
-    told
+    refused _ c.in_err-side.field-0.0 c.from_residual.ensures.1
     ∙ sym
     (by_parts c.args.word (parts c.args.machine c.args.zone) (written c.args.machine (Take c.args.zone))
     ∙ stop (c.caller.ensures.stranger c.args.word ∙ ap went_on c.in_err-side.was) _)
 
 pub returns-in_err-held : goal.returns-in_err-held
 returns-in_err-held c =
-    let told : c.from_residual-in_err-held.result ≡ Err c.in_err-held.field-0.0 = search rules in
-    told
+    refused _ c.in_err-held.field-0.0 c.from_residual-in_err-held.ensures.1
     ∙ sym
     (row_at (goal.at.returns-in_err-held c).In_ok-side
     ∙ stop (sym c.held.ensures ∙ c.in_err-held.was) _)
 
 pub returns-in_err-pass : goal.returns-in_err-pass
 returns-in_err-pass c =
-    let told : c.from_residual-in_err-pass.result ≡ Err c.in_err-pass.field-0.0 = search rules in
-    told
+    refused _ c.in_err-pass.field-0.0 c.from_residual-in_err-pass.ensures.1
     ∙ sym
     (row_at (goal.at.returns-in_err-pass c).In_ok-side
     ∙ go (sym c.held.ensures ∙ c.in_ok-held.was)
@@ -67,8 +64,7 @@ returns-in_err-pass c =
 
 pub returns-in_err-pass-2 : goal.returns-in_err-pass-2
 returns-in_err-pass-2 c =
-    let told : c.from_residual-in_err-pass-2.result ≡ Err c.in_err-pass-2.field-0.0 = search rules in
-    told
+    refused _ c.in_err-pass-2.field-0.0 c.from_residual-in_err-pass-2.ensures.1
     ∙ sym
     (row_at (goal.at.returns-in_err-pass-2 c).In_ok-side
     ∙ go (sym c.held.ensures ∙ c.in_ok-held.was)
