@@ -247,7 +247,8 @@ impl fmt::Display for Answer {
     }
 }
 
-fn owner_word_of(owner: Option<Machine>) -> &'static str
+/// The word of a zone's owner in scripts and reports: the machine's, or `free`.
+pub fn owner_word_of(owner: Option<Machine>) -> &'static str
     ensures { result.now ≡ owner_word owner }
 {
     match owner {

@@ -15,7 +15,7 @@ pub mod tables;
 mod words;
 pub mod zone;
 
-pub use answer::{Answer, Event, Refusal};
+pub use answer::{Answer, Event, Refusal, owner_word_of};
 pub use call::Call;
 pub use journal::{Entry, Journals};
 pub use machine::Machine;
