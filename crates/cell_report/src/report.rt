@@ -9,12 +9,17 @@ use crate::audit_faults::AuditFault;
 use cell_notes::{Counts, RunRecord, Status};
 use cell_rules::State;
 use cell_text::{Page, WriteFault, write_text};
-use cell_types::{Machine, Place, Zone};
+use cell_types::{Machine, Place, Zone, owner_word_of};
 use std::fmt;
 use std::io::Write;
 
 /// How many machines work: all but the watch.
 const AT_WORK: usize = 6;
+
+/// The names of the axes, in the order of a record of a run.
+const AXIS_NAMES: [&str; 8] = [
+    "press", "arm1", "arm2", "rotation", "lift", "turn", "crane", "gripper",
+];
 
 /// Writes the report of a run and of the audit of its journals; `None` says that the audit found a
 /// history. It allocates nothing. `Write` if the writer failed, or the page has no room for the
@@ -128,7 +133,7 @@ fn push_zones(page: &mut Page, state: &State) -> fmt::Result
 fn push_zone(page: &mut Page, end: &State, zone: Zone) -> fmt::Result
     ensures { OnOk result (page.new ≡ page.old ++ (zone_line end.now zone ++ codes "\n")) }
 {
-    let owner = end.owner(zone).map_or("free", Machine::word);
+    let owner = owner_word_of(end.owner(zone));
     let flag = if end.flag(zone) { "1" } else { "0" };
     let posture = end.posture(zone).word();
     let zone = zone.word();
@@ -139,16 +144,10 @@ fn push_zone(page: &mut Page, end: &State, zone: Zone) -> fmt::Result
 fn push_axes(page: &mut Page, axes: &[i32; 8]) -> fmt::Result
     ensures { OnOk result (page.new ≡ page.old ++ (axes_line axes.now ++ codes "\n")) }
 {
-    let [press, arm1, arm2, rotation, lift, turn, crane, gripper] = *axes;
     write!(page, "axes")?;
-    push_axis(page, "press", press)?;
-    push_axis(page, "arm1", arm1)?;
-    push_axis(page, "arm2", arm2)?;
-    push_axis(page, "rotation", rotation)?;
-    push_axis(page, "lift", lift)?;
-    push_axis(page, "turn", turn)?;
-    push_axis(page, "crane", crane)?;
-    push_axis(page, "gripper", gripper)?;
+    'axes: for (index, name) in AXIS_NAMES.iter().enumerate() {
+        push_axis(page, name, axes[index])?;
+    }
     writeln!(page)
 }
 

@@ -1,18 +1,28 @@
-use Rattle.std.proofs.Common.{◌≡◌, ◌∙◌, length, rules, codes, get_or, pos}
+use Rattle.std.proofs.Common.{◌≡◌, ◌+◌, [], ◌++◌, ◌∙◌, length, get_or, pos, rules, arith, codes, sym, ap, subst, append_assoc, append-nil}
+use Rattle.std.proofs.lemmas.List.{get_or-map}
 use Rattle.std.proofs.lemmas.Result.{on_ok_weaker}
-use Rattle.cell_report.proofs.Reports.{axes_told, axis_more, one_more}
+use Rattle.cell_report.specs.Report.{axis_names}
+use Rattle.cell_report.proofs.Reports.{axes_from, axes_from-more, axes_told, axis_text, told_more}
 use Rattle.cell_report.proofs.report.push_axes.Goals as goal
+use Rattle.cell_report.proofs.report.push_axes.Goals.{In_ok-push_axis}
+
+pub axes-init : goal.axes-init
+axes-init c = ap (λ page. page ++ axes_from 0 c.args.axes.now) c.in_ok-write.ensures ∙ append_assoc c.args.page.now (codes "axes") (axes_from 0 c.args.axes.now)
+
+wrote : (c : In_ok-push_axis) → c.push_axis.new.page ≡ c.axes.page ++ axis_text (get_or axis_names c.axes.index []) (get_or c.args.axes.now c.axes.index (pos 0))
+wrote c = search (rules, get_or-map)
+
+pub axes-preserved : goal.axes-preserved
+axes-preserved c =
+    let axes = c.args.axes.now in
+    let i = c.axes.index in
+    let eight : length axes ≡ 8 = search rules in
+    told_more c.axes.page c.push_axis.new.page (axis_text (get_or axis_names i []) (get_or axes i (pos 0))) (axes_from (i + 1) axes) (c.args.page.now ++ (codes "axes" ++ axes_from 0 axes)) (axes_from i axes)
+    (wrote c) (axes_from-more i axes c.axes-test.true (omega arith)) c.axes.invariant
 
 pub returns : goal.returns
 returns c =
     let axes = c.args.axes.now in
-    let eight : length axes ≡ 8 = search rules in
-    let p1 = axis_more _ _ _ (codes "press") (get_or axes 0 (pos 0)) (search rules) c.in_ok-push_axis.ensures c.in_ok-write.ensures in
-    let p2 = axis_more _ _ _ (codes "arm1") (get_or axes 1 (pos 0)) (search rules) c.in_ok-push_axis-2.ensures p1 in
-    let p3 = axis_more _ _ _ (codes "arm2") (get_or axes 2 (pos 0)) (search rules) c.in_ok-push_axis-3.ensures p2 in
-    let p4 = axis_more _ _ _ (codes "rotation") (get_or axes 3 (pos 0)) (search rules) c.in_ok-push_axis-4.ensures p3 in
-    let p5 = axis_more _ _ _ (codes "lift") (get_or axes 4 (pos 0)) (search rules) c.in_ok-push_axis-5.ensures p4 in
-    let p6 = axis_more _ _ _ (codes "turn") (get_or axes 5 (pos 0)) (search rules) c.in_ok-push_axis-6.ensures p5 in
-    let p7 = axis_more _ _ _ (codes "crane") (get_or axes 6 (pos 0)) (search rules) c.in_ok-push_axis-7.ensures p6 in
-    let p8 = axis_more _ _ _ (codes "gripper") (get_or axes 7 (pos 0)) (search rules) c.in_ok-push_axis-8.ensures p7 in
-    on_ok_weaker c.writeln.result (λ last. one_more _ _ _ _ last p8 ∙ axes_told c.args.page.now axes eight) c.writeln.ensures
+    let last : c.axes.index ≡ 8 = omega arith in
+    let written = subst (λ i. c.axes.page ++ axes_from i axes ≡ c.args.page.now ++ (codes "axes" ++ axes_from 0 axes)) last c.axes.invariant in
+    on_ok_weaker c.writeln.result (λ more. more ∙ ap (λ page. page ++ codes "\n") (sym (append-nil c.axes.page) ∙ written) ∙ axes_told c.args.page.now axes) c.writeln.ensures
