@@ -183,15 +183,17 @@ fn has_pose(posed: Option<(Zone, Posture)>) -> Result<(), Refusal>
     }
 }
 
-/// Each zone that gets another posture has to be its host's; then each has to be free of plates.
+/// The zones that get another posture have to be their host's, and free of plates.
 #[inline(always)]
 fn may_turn(
     word: u64,
     one: Option<(Zone, Posture)>,
     other: Option<(Zone, Posture)>,
 ) -> Result<(), Refusal>
-    ensures { result ≡ rows.checked word (rows.on_posed rows.owner_guards one ++ (rows.on_posed rows.owner_guards other
-        ++ (rows.on_posed rows.plate_guards one ++ rows.on_posed rows.plate_guards other))) }
+    ensures { result ≡ rows.checked word (rows.on_posed rows.owner_guards one
+        ++ (rows.on_posed rows.owner_guards other
+        ++ (rows.on_posed rows.plate_guards one
+        ++ rows.on_posed rows.plate_guards other))) }
 {
     hosts(word, one)?;
     hosts(word, other)?;
@@ -199,8 +201,8 @@ fn may_turn(
     clears(word, other)
 }
 
-/// Each zone has to be left in a posture that moves; then each that opens inward needs room, and a
-/// belt that runs must not lose a plate.
+/// Table and press may not jump from pose to pose, each zone that becomes open inward needs room,
+/// and no belt may run with a plate at its end.
 #[inline(always)]
 fn may_stand(
     word: u64,
@@ -209,8 +211,11 @@ fn may_stand(
     one: Option<(Zone, Posture)>,
     other: Option<(Zone, Posture)>,
 ) -> Result<(), Refusal>
-    ensures { result ≡ rows.checked word (rows.on_posed (rows.jump_guards machine pose) one ++ (rows.on_posed (rows.jump_guards machine pose) other
-        ++ (rows.on_posed rows.opening_guards one ++ (rows.on_posed rows.opening_guards other ++ rows.run_guards machine pose)))) }
+    ensures { result ≡ rows.checked word (rows.on_posed (rows.jump_guards machine pose) one
+        ++ (rows.on_posed (rows.jump_guards machine pose) other
+        ++ (rows.on_posed rows.opening_guards one
+        ++ (rows.on_posed rows.opening_guards other
+        ++ rows.run_guards machine pose)))) }
 {
     moves(word, machine, pose, one)?;
     moves(word, machine, pose, other)?;
