@@ -55,12 +55,12 @@ REFUSALS[INUSE] = "inuse"
 DONE = 0
 
 
-def refused(refusal, named=0):
+def refusal(number, named=0):
     """The number of a refusal, with the machine, zone or posture that it names."""
-    return refusal << 3 | named
+    return number << 3 | named
 
 
-def shown(owner, flag, posture):
+def zone_answer(owner, flag, posture):
     """The number of an inquiry's answer."""
     return 192 | owner << 3 | flag << 2 | posture
 
@@ -72,14 +72,14 @@ def words(answer):
     if answer >= 192:
         owner = answer >> 3 & 7
         return f"zone {'free' if owner == NOBODY else MACHINES[owner]} {answer >> 2 & 1} {POSTURES[answer & 3]}"
-    refusal, named = answer >> 3, answer & 7
-    if refusal in (HELD, NOTOWNER):
-        return f"{REFUSALS[refusal]} {'free' if named == NOBODY else MACHINES[named]}"
-    if refusal == SHUT:
+    number, named = answer >> 3, answer & 7
+    if number in (HELD, NOTOWNER):
+        return f"{REFUSALS[number]} {'free' if named == NOBODY else MACHINES[named]}"
+    if number == SHUT:
         return f"shut {POSTURES[named]}"
-    if refusal == PLATEIN:
+    if number == PLATEIN:
         return f"platein z{named + 1}"
-    return REFUSALS.get(refusal, f"number {answer}")
+    return REFUSALS.get(number, f"number {answer}")
 
 
 class State:
@@ -129,7 +129,7 @@ class State:
         pressing = self.full[PRESS_IN] and self.full[PRESS_OUT] or self.full[PRESS_OUT] and self.posture[Z3] == OPENIN
         return not pressing
 
-    def changed(self, owner=(), flag=(), posture=(), full=()):
+    def with_changes(self, owner=(), flag=(), posture=(), full=()):
         """The state with these changes, each a dictionary."""
         parts = []
         for part, changes in ((self.owner, owner), (self.flag, flag), (self.posture, posture), (self.full, full)):
@@ -147,13 +147,13 @@ class State:
             return self.pose(machine, POSES[call - 36])
         verb, zone = divmod(call, 6)
         if verb == 5:
-            return shown(self.owner[zone], self.flag[zone], self.posture[zone])
+            return zone_answer(self.owner[zone], self.flag[zone], self.posture[zone])
         if machine not in (HOST[zone], GUEST[zone]):
-            return refused(NOTPARTY)
+            return refusal(NOTPARTY)
         if verb == 0:
             return self.claim(machine, zone)
         if self.owner[zone] != machine:
-            return refused(NOTOWNER, self.owner[zone])
+            return refusal(NOTOWNER, self.owner[zone])
         return (None, self.give, self.yield_, self.take, self.release)[verb](machine, zone)
 
     def is_open(self, zone):
@@ -167,90 +167,90 @@ class State:
     def claim(self, machine, zone):
         """Claim."""
         if self.owner[zone] == machine:
-            return refused(ALREADY)
+            return refusal(ALREADY)
         if self.owner[zone] != NOBODY:
-            return refused(HELD, self.owner[zone])
+            return refusal(HELD, self.owner[zone])
         if machine == GUEST[zone] and not self.is_open(zone):
-            return refused(SHUT, self.posture[zone])
-        return self.changed(owner={zone: machine})
+            return refusal(SHUT, self.posture[zone])
+        return self.with_changes(owner={zone: machine})
 
     def give(self, machine, zone):
         """Give, by the owner."""
         if self.flag[zone]:
-            return refused(PLATEIN, zone)
+            return refusal(PLATEIN, zone)
         posture = self.posture[zone]
         way = WAYS.get((zone, posture))
         if way is None or machine != (GUEST[zone] if posture == OPENIN else HOST[zone]):
-            return refused(WRONGWAY)
+            return refusal(WRONGWAY)
         if not self.full[way[0]]:
-            return refused(NOPLATE)
+            return refusal(NOPLATE)
         if self.full[way[1]]:
-            return refused(PLACEFULL)
-        return self.changed(owner={zone: HOST[zone] + GUEST[zone] - machine}, flag={zone: True}, full={way[0]: False})
+            return refusal(PLACEFULL)
+        return self.with_changes(owner={zone: HOST[zone] + GUEST[zone] - machine}, flag={zone: True}, full={way[0]: False})
 
     def yield_(self, machine, zone):
         """Yield, by the owner."""
         if self.flag[zone]:
-            return refused(PLATEIN, zone)
+            return refusal(PLATEIN, zone)
         if not self.is_open(zone):
-            return refused(SHUT, self.posture[zone])
+            return refusal(SHUT, self.posture[zone])
         if self.is_in_use(machine, zone):
-            return refused(INUSE)
-        return self.changed(owner={zone: HOST[zone] + GUEST[zone] - machine})
+            return refusal(INUSE)
+        return self.with_changes(owner={zone: HOST[zone] + GUEST[zone] - machine})
 
     def take(self, _machine, zone):
         """Take, by the owner."""
         if not self.flag[zone]:
-            return refused(NOPLATE)
-        return self.changed(flag={zone: False}, full={WAYS[zone, self.posture[zone]][1]: True})
+            return refusal(NOPLATE)
+        return self.with_changes(flag={zone: False}, full={WAYS[zone, self.posture[zone]][1]: True})
 
     def release(self, machine, zone):
         """Release, by the owner."""
         if self.flag[zone]:
-            return refused(PLATEIN, zone)
+            return refusal(PLATEIN, zone)
         if self.posture[zone] == MOVING:
-            return refused(SHUT, MOVING)
+            return refusal(SHUT, MOVING)
         if self.is_in_use(machine, zone):
-            return refused(INUSE)
-        return self.changed(owner={zone: NOBODY})
+            return refusal(INUSE)
+        return self.with_changes(owner={zone: NOBODY})
 
     def pose(self, machine, pose):
         """SetPose."""
         postures = POSE_OF.get((machine, pose))
         if postures is None:
-            return refused(NOPOSE)
+            return refusal(NOPOSE)
         zones = HOSTED[machine]
         moves = MOVING in postures
         looked_at = [zone for zone, posture in zip(zones, postures) if moves or self.posture[zone] != posture]
         for zone in looked_at:
             if self.owner[zone] != machine:
-                return refused(NOTOWNER, self.owner[zone])
+                return refusal(NOTOWNER, self.owner[zone])
         for zone in looked_at:
             if self.flag[zone]:
-                return refused(PLATEIN, zone)
+                return refusal(PLATEIN, zone)
         if machine in (TABLE, PRESS) and not moves and any(self.posture[zone] != MOVING for zone in zones):
-            return refused(JUMP)
+            return refusal(JUMP)
         for zone, posture in zip(zones, postures):
             if posture == OPENIN and self.posture[zone] != OPENIN:
                 places = (PRESS_IN, PRESS_OUT) if zone == Z3 else (WAYS[zone, OPENIN][1],)
                 if any(self.full[place] for place in places):
-                    return refused(PLACEFULL)
+                    return refusal(PLACEFULL)
         if moves and (machine == DEPOSIT and self.full[DEP_END] or machine == FEED and self.full[FEED_END] and self.owner[Z1] != FEED):
-            return refused(PLACEFULL)
-        return self.changed(posture=dict(zip(zones, postures)))
+            return refusal(PLACEFULL)
+        return self.with_changes(posture=dict(zip(zones, postures)))
 
     def advance(self, machine):
         """Advance."""
         if machine not in ADVANCES:
-            return refused(NOPOSE)
+            return refusal(NOPOSE)
         begin, end, at_work = ADVANCES[machine]
         if machine == PRESS and self.owner[Z3] != PRESS:
-            return refused(NOTOWNER, self.owner[Z3])
+            return refusal(NOTOWNER, self.owner[Z3])
         if any(self.posture[zone] != at_work for zone in HOSTED[machine]):
-            return refused(NOTATWORK)
+            return refusal(NOTATWORK)
         if not self.full[begin]:
-            return refused(NOPLATE)
+            return refusal(NOPLATE)
         if self.full[end]:
-            return refused(PLACEFULL)
+            return refusal(PLACEFULL)
         closed = {} if machine == PRESS else {zone: CLOSED for zone in HOSTED[machine]}
-        return self.changed(posture=closed, full={begin: False, end: True})
+        return self.with_changes(posture=closed, full={begin: False, end: True})
