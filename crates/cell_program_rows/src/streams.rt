@@ -166,8 +166,19 @@ fn is_lost<T: Threads + Wait + Sync>(rt: &T, alloc: Global, words: &[&str], inpu
     status == 1 && is_whole && writer.flushed == whole.len()
 }
 
+/// Whether a replay with such a writer leads to status 1, and has written some first lines of its
+/// text: it is flushed before the last line is known.
+fn is_lost_in_a_replay<T: Threads + Wait + Sync>(rt: &T, alloc: Global) -> bool {
+    let mut writer = UnflushedWriter {
+        taken: Vec::new(alloc),
+        flushed: 0,
+    };
+    let status = run(rt, alloc, REPLAY, &mut SCRIPT.as_bytes(), &mut writer);
+    let taken = writer.taken.as_slice();
+    status == 1 && TEXT.as_bytes().starts_with(taken) && taken.ends_with(b"\n")
+}
+
 const LOST: &[(&[&str], &str)] = &[
-    (REPLAY, SCRIPT),
     (SIM, PRESS),
     (RUN, EMPTY),
     (SIM, ""),
@@ -180,6 +191,7 @@ fn tells_a_failed_flush(rt: HostRuntime) {
     for (words, input) in LOST {
         assert!(rt; is_lost(&rt, rt.alloc(), words, input), "{words:?}");
     }
+    assert!(rt; is_lost_in_a_replay(&rt, rt.alloc()));
     let mut writer = UnflushedWriter {
         taken: Vec::new(rt.alloc()),
         flushed: 0,
