@@ -1,2 +1,6 @@
 pub mod LineLemmas
 mod Rounding
+mod CurveLemmas
+mod CurveReadings
+mod LineCurve
+mod CurveFigures

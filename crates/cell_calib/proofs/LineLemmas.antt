@@ -6,10 +6,10 @@ use borrow.Author.Differences.{up, down, sum_is_lem}
 use Rattle.cell_calib.specs.Scale.{Scale, IsScale}
 use Rattle.cell_calib.specs.Line.{raw_width, height_of, line_height, IsLineNear, IsLineBelow, IsLineAbove, IsLineAtMost, IsLineAtLeast, IsWithinTolerance, IsReading, IsLineRoundedDown, IsRawAt, IsNear}
 
-add-mul_ℤ : (a b w : ℤ) → (a +ℤ b) *ℤ w ≡ a *ℤ w +ℤ b *ℤ w
+pub add-mul_ℤ : (a b w : ℤ) → (a +ℤ b) *ℤ w ≡ a *ℤ w +ℤ b *ℤ w
 add-mul_ℤ a b w = omega (arith, ints, ap (λ n. n * up w) (sum_is_lem a b), ap (λ n. n * down w) (sum_is_lem a b))
 
-one-mul_ℤ : (w : ℤ) → pos 1 *ℤ w ≡ w
+pub one-mul_ℤ : (w : ℤ) → pos 1 *ℤ w ≡ w
 one-mul_ℤ w = omega (arith, ints)
 
 mul_nonneg : (a b : ℤ) → pos 0 ≤ℤ a → pos 0 ≤ℤ b → pos 0 ≤ℤ (a *ℤ b)
@@ -18,7 +18,7 @@ mul_nonneg (pos m) (negsuc n) ha hb = absurd (omega (arith, ints))
 mul_nonneg (negsuc m) b ha hb = absurd (omega (arith, ints))
 
 -- multiplication by a number that isn't below 0 keeps an order
-mul_mono : (a b w : ℤ) → a ≤ℤ b → pos 0 ≤ℤ w → (a *ℤ w) ≤ℤ (b *ℤ w)
+pub mul_mono : (a b w : ℤ) → a ≤ℤ b → pos 0 ≤ℤ w → (a *ℤ w) ≤ℤ (b *ℤ w)
 mul_mono a b w h some =
     let rest = mul_nonneg (b -ℤ a) w (omega (arith, ints)) some in
     let whole : b ≡ a +ℤ (b -ℤ a) = omega (arith, ints) in
@@ -34,7 +34,7 @@ height_of-add s p d =
     let shifted : (p +ℤ d) -ℤ s.at_lo ≡ (p -ℤ s.at_lo) +ℤ d = omega (arith, ints) in
     rw shifted (add-mul_ℤ (p -ℤ s.at_lo) d (raw_width s))
 
-height_of-next : (s : Scale) (p : ℤ) → height_of s (p +ℤ pos 1) ≡ height_of s p +ℤ raw_width s
+pub height_of-next : (s : Scale) (p : ℤ) → height_of s (p +ℤ pos 1) ≡ height_of s p +ℤ raw_width s
 height_of-next s p = height_of-add s p (pos 1) ∙ ap (λ z. height_of s p +ℤ z) (one-mul_ℤ (raw_width s))
 
 height_mono : (s : Scale) (p q : ℤ) → IsScale s → p ≤ℤ q → height_of s p ≤ℤ height_of s q
@@ -84,7 +84,7 @@ near_position_lem s position v raw k wide ideal near =
     let sums = ideal_sum (height_of s position) (height_of s v) (line_height s raw) (line_height s (raw + 1)) (s.at_hi -ℤ s.at_lo) (s.tol *ℤ raw_width s) (raw_width s) (width_positive s k) wide (line_height-next s raw) ideal.not_above ideal.next_above near.not_below near.not_above in
     record { not_below = within_of_height s position v k sums.0; not_above = within_of_height s v position k sums.1 }
 
-raw_gap : (lo n : ℕ) → lo ≤ n → pos n -ℤ pos lo ≡ pos (n - lo)
+pub raw_gap : (lo n : ℕ) → lo ≤ n → pos n -ℤ pos lo ≡ pos (n - lo)
 raw_gap lo n h = omega (arith, ints)
 
 floor_naturals : (along rise width q : ℕ) → 0 < width → q ≡ along * rise / width → (q * width ≤ along * rise) × (along * rise < q * width + width)
@@ -151,7 +151,7 @@ line_at_least s raw v p k near h = foot_sum (height_of s p) (height_of s (p +ℤ
 pub line_above : (s : Scale) (raw : ℕ) (v p : ℤ) → IsScale s → IsWithinTolerance s raw v → (p +ℤ s.tol) <ℤ v → IsLineAbove s raw p
 line_above s raw v p k near h = foot_strict (height_of s p) (height_of s (p +ℤ s.tol)) (height_of s v) (line_height s raw) (s.tol *ℤ raw_width s) (height_of-add s p s.tol) (height_strict s (p +ℤ s.tol) v k h) near.not_below
 
-squeezed : (x y z : ℤ) → x ≤ℤ y → y ≤ℤ z → z <ℤ x → ⊥
+pub squeezed : (x y z : ℤ) → x ≤ℤ y → y ≤ℤ z → z <ℤ x → ⊥
 squeezed x y z a b c = omega (arith, ints)
 
 -- of two raw values that an ideal sensor gives at a position, neither is greater

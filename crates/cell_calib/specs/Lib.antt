@@ -1,3 +1,6 @@
+pub mod Curve
+pub mod CurveExamples
+pub mod CurveFaults
 pub mod Examples
 pub mod Line
 pub mod Scale

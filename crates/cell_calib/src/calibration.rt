@@ -1,7 +1,9 @@
 ghost use Rattle.std.specs.Prelude.{◌≡◌, ◌≤◌, ◌<◌, ◌↔◌, IsOk, IfOk};
 ghost use Rattle.cell_calib.specs.Scale.{IsScale};
 ghost use Rattle.cell_calib.specs.Line.{IsReading, IsLineRoundedDown};
+ghost use Rattle.cell_calib.specs.Curve.{IsOnCurve, pairs_of};
 
+use crate::curve::Curve;
 use crate::gauge::Gauge;
 use crate::line::line_at;
 use crate::points::Points;
@@ -76,6 +78,18 @@ pub fn line_reading(points: Points, raw: u16) -> Result<i32, SensorFault>
     ensures floor { IfOk result (λ v. IsLineRoundedDown points raw v) }
 {
     reading(move |raw: u16| line_at(&points, raw), points, raw)
+}
+
+/// The reading of a calibration whose closure is a curve. A raw value below `raw_lo` is `Low`, one
+/// above `raw_hi` is `High`.
+pub fn curve_reading(curve: Curve, raw: u16) -> Result<i32, SensorFault>
+    ensures ok { IsOk result ↔ ((curve.scale.raw_lo ≤ raw) × (raw ≤ curve.scale.raw_hi)) }
+    ensures low { (result ≡ Err SensorFault.Low) ↔ (raw < curve.scale.raw_lo) }
+    ensures high { (result ≡ Err SensorFault.High) ↔ (curve.scale.raw_hi < raw) }
+    ensures curve { IfOk result (λ v. IsOnCurve (pairs_of curve) raw v) }
+    ensures near { IfOk result (λ v. IsReading curve.scale raw v) }
+{
+    reading(move |raw: u16| curve.at(raw), curve.points(), raw)
 }
 
 // Makes a closure's calibration and reads by it once. Only a function with the closure's type as a

@@ -1,6 +1,8 @@
 //! Laws of calibrated readings. Each is the contract of a function with an empty body.
 
-ghost use Rattle.std.specs.Prelude.{ℕ, ℤ, ◌-ℤ◌, ◌≤ℤ◌};
+ghost use Rattle.std.specs.Prelude.{◌≡◌, ℕ, ℤ, ◌-ℤ◌, ◌≤ℤ◌, List};
+ghost use Rattle.cell_calib.specs.Curve.{Pair, IsCurve, IsOnCurve};
+ghost use Rattle.cell_calib.specs.CurveExamples.{CurveExamples};
 ghost use Rattle.cell_calib.specs.Examples.{RoundingExamples};
 ghost use Rattle.cell_calib.specs.Scale.{Scale, IsScale};
 ghost use Rattle.cell_calib.specs.Line.{raw_width, IsLineNear, IsWithinTolerance, IsNear, IsRawAt};
@@ -22,4 +24,16 @@ pub fn near_position()
 /// value of an ideal sensor, and the position of the line.
 pub fn roundings_are_met()
     ensures { RoundingExamples }
+{}
+
+/// A curve is at one position at a raw value: neighbours that share it agree there.
+pub fn one_position()
+    ensures { (s : Scale) (pairs : List Pair) (raw : ℕ) (v w : ℤ) → IsCurve s pairs
+        → IsOnCurve pairs raw v → IsOnCurve pairs raw w → w ≡ v }
+{}
+
+/// Curves, in figures: what one that bulges and one that falls below 0 read, and the first fault
+/// of pairs that make none.
+pub fn curves_are_met()
+    ensures { CurveExamples }
 {}

@@ -1,15 +1,17 @@
 //! Calibrated sensors of the production cell: positions from raw values, by a closure that stays
-//! near a line, and the fourteen sensors by machine.
+//! near a line, such as a curve through measured pairs, and the fourteen sensors by machine.
 #![tactic(auto)]
 
 pub mod calibration;
+pub mod curve;
 pub mod gauge;
 pub mod laws;
 pub mod line;
 pub mod points;
 pub mod sense;
 
-pub use calibration::{Calibration, line_reading};
+pub use calibration::{Calibration, curve_reading, line_reading};
+pub use curve::{Curve, CurveFault};
 pub use gauge::Gauge;
 pub use line::line_at;
 pub use points::{Points, PointsFault};
