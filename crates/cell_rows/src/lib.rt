@@ -7,6 +7,8 @@ mod benches;
 #[cfg(test)]
 mod codes;
 #[cfg(test)]
+mod curves;
+#[cfg(test)]
 mod names;
 #[cfg(test)]
 mod readings;
