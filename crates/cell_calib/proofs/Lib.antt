@@ -4,3 +4,4 @@ mod CurveLemmas
 mod CurveReadings
 mod LineCurve
 mod CurveFigures
+pub mod CurveTestLemmas
