@@ -55,6 +55,20 @@ values = record {
   tol_kind = refl;
   tol_below = refl;
   tol_above = refl;
+  points_number = refl;
+  points_flat = refl;
+  points_of_three = refl;
+  points_text = refl;
+  points_none = refl;
+  points_one = refl;
+  points_end = refl;
+  points_order = refl;
+  points_outside = refl;
+  points_far = refl;
+  points_fine = refl;
+  points_raw_below = refl;
+  points_raw_above = refl;
+  points_at_above = refl;
 }
 
 first : FirstExamples
@@ -71,6 +85,9 @@ first = record {
   turn_then_gripper = refl;
   raw_then_tol = refl;
   tol_after_raw = refl;
+  tol_then_points = refl;
+  points_then_arm2 = refl;
+  points_kind_then_number = refl;
   no_text = refl;
 }
 

@@ -1,4 +1,6 @@
 mod LetterLemmas
 mod SettingsLemmas
+mod MeasuredLemmas
+mod CurveChoices
 pub mod ConfigRows
 pub mod LimitLaws

@@ -1,5 +1,5 @@
 -- The settings in some bytes, by the number of bytes and what TOML makes of them.
-use Rattle.std.proofs.Common.{ℕ, ◌≡◌, ◌≢◌, ◌<◌, ◌≤◌, ◌∙◌, ◌+◌, List, length, take, Bool, true, false, Some, None, Result, Ok, Err, MatchResult, IsUtf8, sym, ap, refl, arith, le-leb, inl, inr}
+use Rattle.std.proofs.Common.{ℕ, ◌≡◌, ◌≢◌, ◌<◌, ◌≤◌, ◌∙◌, ◌+◌, List, [], ◌∷◌, length, map, take, Bool, true, false, Some, None, Result, Ok, Err, MatchResult, IsUtf8, sym, ap, refl, arith, le-leb, inl, inr}
 use Rattle.std.proofs.lemmas.Bool.{cases_lt, lt-leb}
 use Rattle.std.specs.Option.{ok_or}
 use Rattle.std.specs.Str.{is_utf8}
@@ -8,7 +8,12 @@ use Rattle.std.proofs.lemmas.Str.{IsUtf8-from_is_utf8, is_utf8-from_IsUtf8}
 use Rattle.toml.specs.Data.{Members}
 use Rattle.toml.specs.Parse.{parse_document}
 use Rattle.cell_config.specs.Steps.{◌>>=◌, demand}
-use Rattle.cell_config.specs.Settings.{Settings, byte_limit, settings_in, settings_of}
+use Rattle.cell_rules.specs.ModelState.{ModelState}
+use Rattle.cell_calib.specs.Scale.{Scale}
+use Rattle.cell_calib.specs.Curve.{Curved, Pair, pairs_of}
+use Rattle.cell_notes.specs.declared.schedule.Turn.{Turn}
+use Rattle.cell_config.specs.Keys.{is_known}
+use Rattle.cell_config.specs.Settings.{Section, Settings, byte_limit, schedule_at, sections_at, settings_in, settings_of, start_at}
 use Rattle.cell_config.specs.Configured.{Refuses, Says, shown}
 use Rattle.cell_config.specs.declared.configuration.Config.{Config}
 use Rattle.cell_config.specs.declared.fault.ConfigFault.{ConfigFault}
@@ -55,3 +60,18 @@ says_from bytes given (Err fault) same h = refusal fault (λ other. sym same ∙
     refusal Start h = h (λ e. absurd (cc))
     refusal Range h = h (λ e. absurd (cc))
     refusal Letter h = h (λ e. absurd (cc))
+
+-- the settings of a table whose parts were read
+map_first : (curves : List Curved) → map (λ (section : Section). section.0) (map (λ (c : Curved). (c.scale, pairs_of c)) curves) ≡ map (λ (c : Curved). c.scale) curves
+map_first [] = refl
+map_first (c ∷ more) = ap (λ (rest : List Scale). c.scale ∷ rest) (map_first more)
+
+map_second : (curves : List Curved) → map (λ (section : Section). section.1) (map (λ (c : Curved). (c.scale, pairs_of c)) curves) ≡ map pairs_of curves
+map_second [] = refl
+map_second (c ∷ more) = ap (λ (rest : List (List Pair)). pairs_of c ∷ rest) (map_second more)
+
+pub settings_made : (ms : Members) (start : ModelState) (turns : List Turn) (curves : List Curved) (scales : List Scale) → is_known ms ≡ true → start_at ms ≡ Ok start → schedule_at ms ≡ Ok turns
+    → sections_at ms ≡ Ok (map (λ c. (c.scale, pairs_of c)) curves) → scales ≡ map (λ c. c.scale) curves
+    → settings_in ms ≡ Ok (record { start = start; schedule = turns; points = scales; curves = map pairs_of curves })
+settings_made ms start turns curves scales known s t c same =
+    rw (known, s, t, c, map_first curves, map_second curves, same) refl

@@ -1,10 +1,11 @@
 -- Configurations and what they say, or why they are refused: the first of several faults.
-use Rattle.std.specs.Prelude.{◌≡◌, ℕ, pos, Bool, true, false, List, [], ◌∷◌, ◌++◌, codes, Ok, Err}
+use Rattle.std.specs.Prelude.{◌≡◌, ℕ, pos, Bool, true, false, List, [], ◌∷◌, ◌++◌, map, codes, Ok, Err}
 use Rattle.cell_types.specs.declared.machine.Machine.{Machine}
 use Rattle.cell_types.specs.declared.machine.Machine.TheVariants.{Feed, Table, Robot, Press, Deposit, Crane}
 use Rattle.cell_rules.specs.PlaceSet.{empty, place_set}
 use Rattle.cell_rules.specs.Start.{start_state}
 use Rattle.cell_calib.specs.Scale.{Scale}
+use Rattle.cell_calib.specs.Curve.{Pair, ends_of}
 use Rattle.cell_notes.specs.declared.schedule.Turn.{Turn}
 use Rattle.cell_config.specs.Settings.{Settings, settings_of}
 use Rattle.cell_config.specs.declared.fault.ConfigFault.{ConfigFault}
@@ -25,6 +26,10 @@ with_start more = codes "start = '0000000000'\n" ++ more
 abbrev pub scale : ℕ → ℕ → ℕ → ℕ → Scale
 scale raw_lo raw_hi end tol = record { raw_lo = raw_lo; raw_hi = raw_hi; at_lo = pos 0; at_hi = pos end; tol = pos tol }
 
+-- the curves of lines
+abbrev pub of_lines : List Scale → List (List Pair)
+of_lines scales = map ends_of scales
+
 abbrev pub turn : Machine → Bool → Turn
 turn machine busy = record { machine = machine; busy = busy }
 
@@ -33,12 +38,13 @@ by_default = record {
   start = start_state empty 0;
   schedule = [];
   points = scale 0 4000 1000 5 ∷ scale 0 4000 1000 5 ∷ scale 0 4000 2000 5 ∷ scale 0 4000 500 5 ∷ scale 0 4000 1000 5 ∷ [];
+  curves = of_lines (scale 0 4000 1000 5 ∷ scale 0 4000 1000 5 ∷ scale 0 4000 2000 5 ∷ scale 0 4000 500 5 ∷ scale 0 4000 1000 5 ∷ []);
 }
 
 abbrev pub all_given : List ℕ
 all_given =
-    codes "gripper.raw = [64535, 65535]\narm2.tol = 2\nturn = { tol = 10, raw = [100, 600] }\nrotation.raw = [1, 2001]\n"
-    ++ codes "arm1 = { raw = [10, 1010], tol = 1 }\nschedule = 'ftrpdcFTRPDC'\nstamp = 1048575\nstart = '0100000001'\n"
+    codes "gripper.raw = [64535, 65535]\narm2.tol = 2\narm2.points = [[0, 0], [2000, 501], [4000, 1000]]\nturn = { points = [[100, 0], [101, 0], [599, 490], [600, 500]], tol = 10, raw = [100, 600] }\nrotation.raw = [1, 2001]\n"
+    ++ codes "arm1 = { raw = [10, 1010], tol = 1, points = [[10, 0], [1010, 1000]] }\nschedule = 'ftrpdcFTRPDC'\nstamp = 1048575\nstart = '0100000001'\n"
 
 abbrev pub as_given : Settings
 as_given = record {
@@ -47,6 +53,9 @@ as_given = record {
       turn Feed false ∷ turn Table false ∷ turn Robot false ∷ turn Press false ∷ turn Deposit false ∷ turn Crane false
       ∷ turn Feed true ∷ turn Table true ∷ turn Robot true ∷ turn Press true ∷ turn Deposit true ∷ turn Crane true ∷ [];
   points = scale 10 1010 1000 1 ∷ scale 0 4000 1000 2 ∷ scale 1 2001 2000 5 ∷ scale 100 600 500 10 ∷ scale 64535 65535 1000 5 ∷ [];
+  curves =
+      ((10, pos 0) ∷ (1010, pos 1000) ∷ []) ∷ ((0, pos 0) ∷ (2000, pos 501) ∷ (4000, pos 1000) ∷ []) ∷ ends_of (scale 1 2001 2000 5)
+      ∷ ((100, pos 0) ∷ (101, pos 0) ∷ (599, pos 490) ∷ (600, pos 500) ∷ []) ∷ ends_of (scale 64535 65535 1000 5) ∷ [];
 }
 
 pub record GivenExamples : Type 0 where
@@ -98,6 +107,20 @@ pub record ValueExamples : Type 0 where
   pub tol_kind : IsNo (codes "turn.tol = '5'") Kind
   pub tol_below : IsNo (codes "turn.tol = 0") Range
   pub tol_above : IsNo (codes "turn.tol = 11") Range
+  pub points_number : IsNo (codes "arm1.points = 3") Kind
+  pub points_flat : IsNo (codes "arm1.points = [0, 0]") Kind
+  pub points_of_three : IsNo (codes "arm1.points = [[0, 0, 0], [4000, 1000]]") Kind
+  pub points_text : IsNo (codes "arm1.points = [[0, 0], [4000, '1000']]") Kind
+  pub points_none : IsNo (codes "arm1.points = []") Range
+  pub points_one : IsNo (codes "arm1.points = [[0, 0]]") Range
+  pub points_end : IsNo (codes "arm1.points = [[0, 0], [3999, 1000]]") Range
+  pub points_order : IsNo (codes "arm1.points = [[0, 0], [2000, 500], [2000, 500], [4000, 1000]]") Range
+  pub points_outside : IsNo (codes "arm1.points = [[0, 0], [4000, 1001]]") Range
+  pub points_far : IsNo (codes "arm1.points = [[0, 0], [1000, 255], [4000, 1000]]") Range
+  pub points_fine : IsNo (codes "arm1.tol = 1\narm1.points = [[0, 0], [1000, 251], [4000, 1000]]") Range
+  pub points_raw_below : IsNo (codes "arm1.points = [[-1, 0], [4000, 1000]]") Range
+  pub points_raw_above : IsNo (codes "arm1.points = [[0, 0], [65536, 1000]]") Range
+  pub points_at_above : IsNo (codes "arm1.points = [[0, 0], [2000, 2147483648], [4000, 1000]]") Range
 
 -- ---- two faults: the first in the order of the keys; of a section, then of its raw values, then of its tolerance
 
@@ -113,6 +136,9 @@ pub record FirstExamples : Type 0 where
   pub turn_then_gripper : IsNo (codes "gripper = 5\nturn.tol = 11") Range
   pub raw_then_tol : IsNo (codes "arm1.tol = '5'\narm1.raw = [0, 999]") Range
   pub tol_after_raw : IsNo (codes "arm1.tol = 11\narm1.raw = [0]") Kind
+  pub tol_then_points : IsNo (codes "arm1.points = 3\narm1.tol = 11") Range
+  pub points_then_arm2 : IsNo (codes "arm2 = 5\narm1.points = [[0, 0]]") Range
+  pub points_kind_then_number : IsNo (codes "arm1.points = [[-1, 0], 5]") Kind
   pub no_text : IsRefused (codes "start = '000'\ncolour =") Text
 
 pub record ConfigsAreMet : Type 0 where

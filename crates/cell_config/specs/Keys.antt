@@ -21,7 +21,7 @@ abbrev pub section_keys : List (List ℕ)
 section_keys = codes "arm1" ∷ codes "arm2" ∷ codes "rotation" ∷ codes "turn" ∷ codes "gripper" ∷ []
 
 abbrev pub inner_keys : List (List ℕ)
-inner_keys = codes "raw" ∷ codes "tol" ∷ []
+inner_keys = codes "raw" ∷ codes "tol" ∷ codes "points" ∷ []
 
 abbrev pub has_inner_keys : Members → Bool
 has_inner_keys section = list_all (λ entry. is_one_of inner_keys entry.0) (entries section)

@@ -1,12 +1,15 @@
 -- What a configuration says, or its first fault.
-use Rattle.std.specs.Prelude.{ℕ, ℤ, pos, negsuc, ◌-ℤ◌, ◌<ℤ◌, ◌≤ℤ◌, Bool, List, [], ◌∷◌, length, codes, nat_le, int_lt, ◌&&◌, Option, Some, None, Result, Ok, Err, if◌then◌else◌}
-use Rattle.std.specs.Option.{ok_or}
+use Rattle.std.specs.Prelude.{ℕ, ℤ, pos, negsuc, ◌-ℤ◌, ◌<ℤ◌, ◌≤ℤ◌, Bool, List, [], ◌∷◌, length, codes, nat_le, int_lt, int_le, ◌&&◌, map, is_some, Option, Some, None, Result, Ok, Err, if◌then◌else◌}
+use Rattle.std.specs.List.{filter_map, list_all}
+use Rattle.std.specs.Option.{ok_or, option_and_then}
 use Rattle.std.specs.Str.{is_utf8}
-use Rattle.toml.specs.Data.{Data, Members, array, integer, item, no_items, as_integer, as_str, as_table, get_member}
+use Rattle.toml.specs.Data.{Data, Items, Members, array, integer, item, no_items, as_integer, as_str, as_table, get_member}
 use Rattle.toml.specs.Parse.{parse_document}
 use Rattle.cell_rules.specs.ModelState.{ModelState, last_stamp}
 use Rattle.cell_rules.specs.Start.{places_of, start_state}
 use Rattle.cell_calib.specs.Scale.{Scale}
+use Rattle.cell_calib.specs.Curve.{Pair, ends_of}
+use Rattle.cell_calib.specs.CurveTests.{is_curve}
 use Rattle.cell_parts.specs.Axes.{arm_end, rotation_end, turn_end, gripper_end}
 use Rattle.cell_notes.specs.declared.schedule.Turn.{Turn}
 use Rattle.cell_rules.specs.StartDigits.{is_start, places_in}
@@ -23,11 +26,12 @@ byte_limit = 2097152
 abbrev pub most_bytes_read : ℕ
 most_bytes_read = 2097153
 
--- what a configuration gives: a start, a schedule, and the scales of arm1, arm2, rotation, turn and gripper
+-- what a configuration gives: a start, a schedule, and of arm1, arm2, rotation, turn and gripper the scales and the curves' pairs
 pub record Settings : Type 0 where
   pub start : ModelState
   pub schedule : List Turn
   pub points : List Scale
+  pub curves : List (List Pair)
 
 -- a whole number within limits
 abbrev pub number_within : ℕ → ℕ → ℤ → Result ℕ ConfigFault
@@ -78,15 +82,66 @@ tol_at = at_key (codes "tol") as_integer 5 (number_within 1 10)
 abbrev pub axis_scale : ℤ → ℕ × ℕ → ℕ → Scale
 axis_scale end raw tol = record { raw_lo = raw.0; raw_hi = raw.1; at_lo = pos 0; at_hi = end; tol = pos tol }
 
-abbrev pub section_of : ℤ → Members → Result Scale ConfigFault
-section_of end section = raw_at end section >>= (λ raw. tol_at section >>= (λ tol. Ok (axis_scale end raw tol)))
+-- ---- the pairs of a curve
 
-abbrev pub section_at : List ℕ → ℤ → Members → Result Scale ConfigFault
-section_at key end = at_key key as_table (axis_scale end (0, 4000) 5) (section_of end)
+abbrev pub values_in : Items → List Data
+values_in no_items = []
+values_in (item value more) = value ∷ values_in more
 
--- the five scales, in the order of their keys
-abbrev pub points_at : Members → Result (List Scale) ConfigFault
-points_at ms =
+abbrev pub is_pair : Data → Bool
+is_pair value = is_some (pair_of value)
+
+-- an array of pairs of whole numbers
+abbrev pub pairs_in : Data → Option (List Data)
+pairs_in (array items) = if list_all is_pair (values_in items) then Some (values_in items) else None
+pairs_in _ = None
+
+abbrev pub fits_i32 : ℤ → Bool
+fits_i32 z = int_le (negsuc 2147483647) z && int_le z (pos 2147483647)
+
+-- two whole numbers as a raw value and a position, if they fit
+abbrev pub measured_in : ℤ × ℤ → Option Pair
+measured_in (pos raw, position) = if nat_le raw 65535 && fits_i32 position then Some (raw, position) else None
+measured_in (negsuc n, position) = None
+
+abbrev pub measured_of : Data → Option Pair
+measured_of value = option_and_then measured_in (pair_of value)
+
+abbrev pub is_measured : Data → Bool
+is_measured value = is_some (measured_of value)
+
+abbrev pub curve_of : Scale → List Pair → Result (List Pair) ConfigFault
+curve_of s pairs = if is_curve s pairs then Ok pairs else Err Range
+
+-- pairs that fit and make a curve near the scale's line
+abbrev pub curve_within : Scale → List Data → Result (List Pair) ConfigFault
+curve_within s values = if list_all is_measured values then curve_of s (filter_map measured_of values) else Err Range
+
+-- the pairs of a section's curve, which is that of the line if the key is absent
+abbrev pub pairs_at : Scale → Members → Result (List Pair) ConfigFault
+pairs_at s = at_key (codes "points") pairs_in (ends_of s) (curve_within s)
+
+-- ---- the sections
+
+-- a scale with the pairs of its curve
+abbrev pub Section : Type 0
+Section = Scale × List Pair
+
+abbrev pub section_by : Scale → Members → Result Section ConfigFault
+section_by s section = pairs_at s section >>= (λ pairs. Ok (s, pairs))
+
+abbrev pub section_of : ℤ → Members → Result Section ConfigFault
+section_of end section = raw_at end section >>= (λ raw. tol_at section >>= (λ tol. section_by (axis_scale end raw tol) section))
+
+abbrev pub default_section : ℤ → Section
+default_section end = (axis_scale end (0, 4000) 5, ends_of (axis_scale end (0, 4000) 5))
+
+abbrev pub section_at : List ℕ → ℤ → Members → Result Section ConfigFault
+section_at key end = at_key key as_table (default_section end) (section_of end)
+
+-- the five sections, in the order of their keys
+abbrev pub sections_at : Members → Result (List Section) ConfigFault
+sections_at ms =
     section_at (codes "arm1") arm_end ms >>= (λ arm1.
     section_at (codes "arm2") arm_end ms >>= (λ arm2.
     section_at (codes "rotation") rotation_end ms >>= (λ rotation.
@@ -100,8 +155,8 @@ settings_in ms =
     demand (is_known ms) Unknown >>= (λ _.
     start_at ms >>= (λ start.
     schedule_at ms >>= (λ schedule.
-    points_at ms >>= (λ points.
-    Ok (record { start = start; schedule = schedule; points = points })))))
+    sections_at ms >>= (λ sections.
+    Ok (record { start = start; schedule = schedule; points = map (λ section. section.0) sections; curves = map (λ section. section.1) sections })))))
 
 -- The settings in some bytes, or their first fault.
 unfoldable pub settings_of : List ℕ → Result Settings ConfigFault

@@ -5,16 +5,16 @@ ghost use Rattle.std.specs.Prelude.{◌≡◌, ◌≢◌, Ok, Err, IfOk, IfSome,
 ghost use Rattle.toml.specs.View.{table_view};
 ghost use Rattle.cell_text.specs.Input.{TakesAtMost};
 ghost use Rattle.cell_rules.specs.Start.{IsStartState};
-ghost use Rattle.cell_config.specs.Configured.{AreAxisScales, Says, shown};
+ghost use Rattle.cell_config.specs.Configured.{AreAxisScales, AreCurvesOf, Says, shown};
 ghost use Rattle.cell_config.specs.Settings.{most_bytes_read, settings_in, settings_of};
 ghost use Rattle.cell_config.specs.declared.fault.ConfigFault.TheVariants.{Memory};
 
 use crate::fault::ConfigFault;
 use crate::keys::is_known;
 use crate::schedules::schedule_at;
-use crate::sections::points_at;
+use crate::sections::{curves_at, points_of_curves};
 use crate::starts::start_at;
-use cell_calib::Points;
+use cell_calib::{Curve, Points};
 use cell_notes::Turn;
 use cell_rules::State;
 use cell_text::{InputFault, read_up_to};
@@ -36,6 +36,8 @@ pub struct Config {
     /// from 0 to the end of its axis, and has at least as many raw values as the axis has
     /// positions.
     pub points: [Points; 5],
+    /// The curves of the same potentiometers: those of their lines, unless the text has others.
+    pub curves: [Curve; 5],
 }
 
 /// Reads a configuration from the bytes that the reader has left; `docs/CONFIGURATIONS.md` has the
@@ -48,6 +50,7 @@ pub fn read_config<R: Read>(alloc: Global, reader: &mut R) -> Result<Config, Con
     ensures says { IfSome (R.remaining reader.old) (λ bytes. Says bytes result) }
     ensures start { IfOk result (λ config. IsStartState config.start) }
     ensures points { IfOk result (λ config. AreAxisScales config.points) }
+    ensures curves { IfOk result (λ config. AreCurvesOf config.points config.curves) }
     ensures taken { TakesAtMost (R.remaining reader.old) (R.remaining reader.new) most_bytes_read }
 {
     let bytes = match read_up_to(alloc, reader, MOST_BYTES + 1) {
@@ -65,6 +68,7 @@ fn config_of(alloc: Global, bytes: &[u8]) -> Result<Config, ConfigFault>
         (λ fault. fault ≢ Memory → settings_of bytes.now ≡ Err fault) }
     ensures start { IfOk result (λ config. IsStartState config.start) }
     ensures points { IfOk result (λ config. AreAxisScales config.points) }
+    ensures curves { IfOk result (λ config. AreCurvesOf config.points config.curves) }
 {
     if bytes.len() > MOST_BYTES {
         return Err(ConfigFault::Long);
@@ -83,16 +87,18 @@ fn config_in(alloc: Global, table: &Table) -> Result<Config, ConfigFault>
         (λ fault. fault ≢ Memory → settings_in (table_view table.now) ≡ Err fault) }
     ensures start { IfOk result (λ config. IsStartState config.start) }
     ensures points { IfOk result (λ config. AreAxisScales config.points) }
+    ensures curves { IfOk result (λ config. AreCurvesOf config.points config.curves) }
 {
     if !is_known(table) {
         return Err(ConfigFault::Unknown);
     }
     let start = start_at(table)?;
     let schedule = schedule_at(alloc, table)?;
-    let points = points_at(table)?;
+    let curves = curves_at(table)?;
     Ok(Config {
         start,
         schedule,
-        points,
+        points: points_of_curves(&curves),
+        curves,
     })
 }

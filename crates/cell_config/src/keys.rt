@@ -13,7 +13,7 @@ const PLAIN_KEYS: [&str; 3] = ["start", "stamp", "schedule"];
 const SECTION_KEYS: [&str; 5] = ["arm1", "arm2", "rotation", "turn", "gripper"];
 
 /// The keys of a section.
-const INNER_KEYS: [&str; 2] = ["raw", "tol"];
+const INNER_KEYS: [&str; 3] = ["raw", "tol", "points"];
 
 fn is_plain_key(key: &str) -> bool
     ensures { result ≡ keys.is_one_of keys.plain_keys key.now }

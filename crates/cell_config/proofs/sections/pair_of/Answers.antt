@@ -3,17 +3,8 @@ use Rattle.toml.specs.Data.{Data, Items, string, integer, float, boolean, dateti
 use Rattle.toml.specs.View.{items_view, view}
 use Rattle.toml.specs.declared.value.Value.{Value}
 use Rattle.cell_config.specs.Settings.{pair_of}
+use Rattle.cell_config.proofs.CurveChoices.{array_is}
 use Rattle.cell_config.proofs.sections.pair_of.Goals as goal
-
--- a value with items is an array of them
-array_is : (value : Data) (items : Items) → Some items ≡ as_array value → value ≡ array items
-array_is (array items) found e = cc
-array_is (string s) items e = absurd (cc)
-array_is (integer z) items e = absurd (cc)
-array_is (float x) items e = absurd (cc)
-array_is (boolean b) items e = absurd (cc)
-array_is (datetime d) items e = absurd (cc)
-array_is (table ms) items e = absurd (cc)
 
 -- one item is no pair, nor are three or more
 one_is_none : (x : Data) → ◌≡◌ {A = Option (ℤ × ℤ)} None (pair_of (array (item x no_items)))

@@ -1,14 +1,14 @@
 use Rattle.std.proofs.Common.{refl}
-use Rattle.cell_config.proofs.sections.points_at.Goals as goal
+use Rattle.cell_config.proofs.sections.curves_at.Goals as goal
 
 pub returns-clause-axes : goal.returns-clause-axes
 returns-clause-axes c = (
   record {
-    arm1 = c.in_ok-arm1.arm1;
-    arm2 = c.in_ok-arm2.arm2;
-    rotation = c.in_ok-rotation.rotation;
-    turn = c.in_ok-turn.turn;
-    gripper = c.in_ok-gripper.gripper;
+    arm1 = c.in_ok-arm1.arm1.scale;
+    arm2 = c.in_ok-arm2.arm2.scale;
+    rotation = c.in_ok-rotation.rotation.scale;
+    turn = c.in_ok-turn.turn.scale;
+    gripper = c.in_ok-gripper.gripper.scale;
   },
   refl,
   record {
