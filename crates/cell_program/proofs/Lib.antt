@@ -3,4 +3,5 @@ mod FrontLemmas
 mod SimLemmas
 mod RunLemmas
 mod LawLemmas
+mod PlaceLemmas
 mod AskLemmas

@@ -5,14 +5,14 @@ ghost use Rattle.cell_rules.specs.Start.{IsStartState};
 ghost use Rattle.cell_parts.specs.Axes.{AreCellScales, CellScales};
 ghost use Rattle.cell_plant.specs.Cells.{IsMadeFor, TellsRun, scales_of as scales_in};
 ghost use Rattle.cell_text.specs.Input.{TakesAtMost};
-ghost use Rattle.cell_config.specs.Configured.{AreAxisScales, in_order};
+ghost use Rattle.cell_config.specs.Configured.{AreAxisScales, AreCurvesOf, in_order};
 ghost use Rattle.cell_program.specs.Served.{SimFails, WasSimulated};
 ghost use Rattle.cell_config.specs.Settings.{most_bytes_read};
 ghost use Rattle.cell_program.specs.Simulated.{scales_of};
 
 use crate::faults::fail;
 use crate::reporting::report;
-use cell_calib::{Calibration, Gauge, Points, line_at};
+use cell_calib::{Calibration, Gauge, Points};
 use cell_config::{Config, read_config};
 use cell_plant::{Cell, RunRecord, SimFault, Turn, simulate};
 use cell_rules::State;
@@ -54,27 +54,28 @@ pub fn serve_sim<R: Read, W: Write>(alloc: Global, reader: &mut R, writer: &mut 
     }
 }
 
-/// Runs a configuration's schedule, with a closure over each of its lines.
+/// Runs a configuration's schedule, with a closure over each of its curves.
 pub fn simulated(alloc: Global, config: &Config) -> Result<RunRecord, SimFault>
     requires start { IsStartState config.now.start }
     requires points { AreAxisScales config.now.points }
+    requires curves { AreCurvesOf config.now.points config.now.curves }
     ensures run { IfOk result (λ r. (c : CellScales) × (config.now.points ≡ in_order c) × TellsRun c config.now.start config.now.schedule.items r) }
 {
-    let [arm1, arm2, rotation, turn, gripper] = config.points;
-    let gauges = (
-        move |raw: u16| line_at(&arm1, raw),
-        move |raw: u16| line_at(&arm2, raw),
-        move |raw: u16| line_at(&rotation, raw),
-        move |raw: u16| line_at(&turn, raw),
-        move |raw: u16| line_at(&gripper, raw),
-    );
+    let [arm1, arm2, rotation, turn, gripper] = config.curves;
     let lines = Lines {
-        arm1,
-        arm2,
-        rotation,
-        turn,
-        gripper,
+        arm1: arm1.points(),
+        arm2: arm2.points(),
+        rotation: rotation.points(),
+        turn: turn.points(),
+        gripper: gripper.points(),
     };
+    let gauges = (
+        move |raw: u16| arm1.at(raw),
+        move |raw: u16| arm2.at(raw),
+        move |raw: u16| rotation.at(raw),
+        move |raw: u16| turn.at(raw),
+        move |raw: u16| gripper.at(raw),
+    );
     simulate_by(
         alloc,
         gauges,

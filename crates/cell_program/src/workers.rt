@@ -4,7 +4,7 @@ ghost use Rattle.std.specs.Prelude.{◌≡◌, ◌≢◌, ◌≤◌, ◌<◌, If
 ghost use Rattle.cell_rules.specs.Start.{IsStartState};
 ghost use Rattle.cell_parts.specs.Axes.{AreCellScales, CellScales};
 ghost use Rattle.cell_text.specs.Input.{TakesAtMost};
-ghost use Rattle.cell_config.specs.Configured.{AreAxisScales, in_order};
+ghost use Rattle.cell_config.specs.Configured.{AreAxisScales, AreCurvesOf, in_order};
 ghost use Rattle.cell_config.specs.Settings.{most_bytes_read};
 ghost use Rattle.cell_program.specs.Ran.{TellsWorkers};
 ghost use Rattle.cell_program.specs.Served.{RunFails, WasRun};
@@ -14,7 +14,7 @@ use crate::faults::fail;
 use crate::reporting::report;
 use crate::running::run_cell;
 use crate::simulating::{Lines, cell_by};
-use cell_calib::{Gauge, line_at};
+use cell_calib::Gauge;
 use cell_config::{Config, read_config};
 use cell_notes::RunRecord;
 use cell_rules::State;
@@ -56,7 +56,7 @@ where
     }
 }
 
-/// Runs a configuration by six workers, with a closure over each of its lines, and a gate that is
+/// Runs a configuration by six workers, with a closure over each of its curves, and a gate that is
 /// always open. Its schedule isn't used.
 pub fn ran<T>(
     rt: &T,
@@ -69,26 +69,27 @@ where
     T: Threads + Wait + Sync,
     requires start { IsStartState config.now.start }
     requires points { AreAxisScales config.now.points }
+    requires curves { AreCurvesOf config.now.points config.now.curves }
     requires few { tries ≤ 64 }
     requires some { 1 ≤ tries }
     ensures work { IfOk result (λ r. (c : CellScales) × (config.now.points ≡ in_order c) × TellsWorkers c config.now.start tries turns r) }
     ensures tries { result ≢ Err RunFault.Tries }
 {
-    let [arm1, arm2, rotation, turn, gripper] = config.points;
-    let gauges = (
-        move |raw: u16| line_at(&arm1, raw),
-        move |raw: u16| line_at(&arm2, raw),
-        move |raw: u16| line_at(&rotation, raw),
-        move |raw: u16| line_at(&turn, raw),
-        move |raw: u16| line_at(&gripper, raw),
-    );
+    let [arm1, arm2, rotation, turn, gripper] = config.curves;
     let lines = Lines {
-        arm1,
-        arm2,
-        rotation,
-        turn,
-        gripper,
+        arm1: arm1.points(),
+        arm2: arm2.points(),
+        rotation: rotation.points(),
+        turn: turn.points(),
+        gripper: gripper.points(),
     };
+    let gauges = (
+        move |raw: u16| arm1.at(raw),
+        move |raw: u16| arm2.at(raw),
+        move |raw: u16| rotation.at(raw),
+        move |raw: u16| turn.at(raw),
+        move |raw: u16| gripper.at(raw),
+    );
     run_by(rt, alloc, gauges, lines, config.start, turns, tries)
 }
 

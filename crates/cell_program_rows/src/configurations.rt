@@ -1,7 +1,7 @@
 //! Configurations: what they give, and why they are refused.
 
 use super::doubles::read;
-use cell_calib::Points;
+use cell_calib::{Curve, Points};
 use cell_config::{Config, ConfigFault};
 use cell_plant::Turn;
 use cell_rules::State;
@@ -82,7 +82,8 @@ const LEVELS: &[(&str, &str)] = &[
     ("tol = 3", "config unknown"),
     ("raw = [0, 4000]", "config unknown"),
     ("arm1.start = \"0000000000\"", "config unknown"),
-    ("arm1.points = [[0, 0], [4000, 1000]]", "config unknown"),
+    ("points = [[0, 0], [4000, 1000]]", "config unknown"),
+    ("arm1.curve = [[0, 0], [4000, 1000]]", "config unknown"),
     ("gripper.tol = 11\ngripper.stamp = 1", "config unknown"),
     ("[lift]\ntol = 5", "config unknown"),
     ("[arm1.arm2]\ntol = 5", "config unknown"),
@@ -134,6 +135,14 @@ const VALUES: &[(&str, &str)] = &[
     ("turn.tol = 11", "config range"),
     ("turn.tol = 0", "config range"),
     ("turn.tol = 5.0", "config kind"),
+    ("arm1.points = 5", "config kind"),
+    ("arm1.points = [0, 1000]", "config kind"),
+    ("arm1.points = [[0, 0]]", "config range"),
+    ("arm1.points = [[0, 0], [3999, 1000]]", "config range"),
+    (
+        "arm1.points = [[0, 0], [2000, 505], [4000, 1000]]",
+        "config range",
+    ),
 ];
 
 #[test]
@@ -168,6 +177,8 @@ const LIMITS: &[(&str, &str)] = &[
     ("rotation = { raw = [1, 2001], tol = 1 }", "well"),
     ("[gripper]\ntol = 10", "well"),
     ("[gripper]", "well"),
+    ("arm1.points = [[0, 0], [4000, 1000]]", "well"),
+    ("arm1.points = [[0, 0], [2000, 504], [4000, 1000]]", "well"),
 ];
 
 #[test]
@@ -253,6 +264,13 @@ fn gives_defaults(rt: HostRuntime) -> Result<(), Fail> {
             axis(0, 4000, 500, 5)?,
             axis(0, 4000, 1000, 5)?,
         ],
+        curves: [
+            Curve::of_line(axis(0, 4000, 1000, 5)?),
+            Curve::of_line(axis(0, 4000, 1000, 5)?),
+            Curve::of_line(axis(0, 4000, 2000, 5)?),
+            Curve::of_line(axis(0, 4000, 500, 5)?),
+            Curve::of_line(axis(0, 4000, 1000, 5)?),
+        ],
     };
     assert!(rt; is_read_as(alloc, "start = \"0000000000\"", &wanted));
     // A byte order mark at the beginning is dropped.
@@ -288,6 +306,13 @@ fn gives_what_is_written(rt: HostRuntime) -> Result<(), Fail> {
             axis(0, 65535, 2000, 3)?,
             axis(100, 600, 500, 4)?,
             axis(0, 4000, 1000, 9)?,
+        ],
+        curves: [
+            Curve::of_line(axis(10, 1010, 1000, 5)?),
+            Curve::of_line(axis(0, 4000, 1000, 2)?),
+            Curve::of_line(axis(0, 65535, 2000, 3)?),
+            Curve::of_line(axis(100, 600, 500, 4)?),
+            Curve::of_line(axis(0, 4000, 1000, 9)?),
         ],
     };
     assert!(rt; is_read_as(alloc, text, &wanted));

@@ -25,6 +25,12 @@ const REPORTS: &[(&str, &str)] = &[
         "start = \"0010000000\"\nschedule = \"ttttttttttttttttttttttttttttttttttttt\"",
         HANDS_OVER,
     ),
+    // The table's curve is off its line in the middle, and reads alike where the table stops.
+    (
+        "start = \"0010000000\"\nschedule = \"ttttttttttttttttttttttttttttttttttttt\"\n\
+        turn.points = [[0, 0], [2000, 251], [4000, 500]]",
+        HANDS_OVER,
+    ),
     (PRESS, PRESS_REPORT),
 ];
 
