@@ -26,7 +26,8 @@ pub enum ConfigFault {
     Kind,
     /// The start isn't ten digits 0 or 1, or isn't a valid start.
     Start,
-    /// A number is out of range, two raw values are too close, or the schedule is too long.
+    /// A number is out of range, two raw values are too close, pairs make no curve, or the schedule
+    /// is too long.
     Range,
     /// A character of the schedule is no machine's letter.
     Letter,
