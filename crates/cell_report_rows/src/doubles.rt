@@ -200,7 +200,8 @@ impl Write for FlushedLines<'_> {
     }
 
     fn flush(&mut self) -> io::Result<()> {
-        self.lines.set(self.lines.get().saturating_add(self.waiting));
+        self.lines
+            .set(self.lines.get().saturating_add(self.waiting));
         self.waiting = 0;
         Ok(())
     }
