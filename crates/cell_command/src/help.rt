@@ -61,4 +61,4 @@ Example:
 /// The help of the flags of `run`.
 pub const TURNS: &str = "Maximum of turns per machine, 1 to 100000";
 
-pub const TRIES: &str = "Failed exchanges after which a call makes no other, 1 to 64";
+pub const TRIES: &str = "Maximum of compare-exchanges per call, 1 to 64";
