@@ -32,7 +32,7 @@ pub fn read_config(bytes: &[u8]) -> Result<Config, &'static str> {
         Some(value) => schedule_of(text_of(value)?)?,
         None => String::new(),
     };
-    let mut gauges = SECTIONS.map(|(_, end)| Gauge { raw_lo: 0, raw_hi: 4000, tol: 5, end });
+    let mut gauges = SECTIONS.map(|(_, end)| Gauge { raw_lo: 0, raw_hi: 4000, tol: 5, end, pairs: [(0, 0); 32], filled: 0 });
     for (gauge, (name, _)) in gauges.iter_mut().zip(SECTIONS) {
         if let Some(value) = table.get(name) {
             calibrate(gauge, value)?;
@@ -44,7 +44,7 @@ pub fn read_config(bytes: &[u8]) -> Result<Config, &'static str> {
 fn is_known(key: &str, value: &Value) -> bool {
     if SECTIONS.iter().any(|(name, _)| *name == key) {
         return match value {
-            Value::Table(section) => section.entries.keys().all(|key| key == "raw" || key == "tol"),
+            Value::Table(section) => section.entries.keys().all(|key| key == "raw" || key == "tol" || key == "points"),
             _ => true,
         };
     }
@@ -93,5 +93,28 @@ fn calibrate(gauge: &mut Gauge, value: &Value) -> Result<(), &'static str> {
         }
     }
     gauge.tol = number_in(section, "tol", 1, 10, 5)? as i32;
+    if let Some(points) = section.get("points") {
+        let pairs = pairs_of(points).ok_or("kind")?;
+        if !gauge.is_curve(&pairs) {
+            return Err("range");
+        }
+        gauge.pairs[..pairs.len()].copy_from_slice(&pairs);
+        gauge.filled = pairs.len();
+    }
     Ok(())
+}
+
+fn pairs_of(points: &Value) -> Option<Vec<(i64, i64)>> {
+    let Value::Array(items) = points else {
+        return None;
+    };
+    let pair_of = |item: &Value| match item {
+        Value::Array(pair) => match pair[..] {
+            // (no number so great is near a line, and products of these fit)
+            [Value::Whole(raw), Value::Whole(at)] => Some((raw.clamp(-1, 1 << 20), at.clamp(-1, 1 << 20))),
+            _ => None,
+        },
+        _ => None,
+    };
+    items.iter().map(pair_of).collect()
 }

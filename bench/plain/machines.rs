@@ -61,19 +61,44 @@ fn until(at: bool, on: Motor) -> Motor {
     if at { Off } else { on }
 }
 
-/// A potentiometer with a linear reading.
+/// A potentiometer, read by a line or, if there are measured pairs, by a curve through them.
 #[derive(Clone, Copy)]
 pub struct Gauge {
     pub raw_lo: i32,
     pub raw_hi: i32,
     pub tol: i32,
     pub end: i32,
+    pub pairs: [(i64, i64); 32],
+    pub filled: usize,
 }
 
 impl Gauge {
     fn read(&self, position: i32) -> i64 {
         let (width, end) = (i64::from(self.raw_hi - self.raw_lo), i64::from(self.end));
-        i64::from(position) * width / end * end / width
+        let above = i64::from(position) * width / end;
+        let raw = i64::from(self.raw_lo) + above;
+        let pairs = &self.pairs[..self.filled];
+        match pairs.windows(2).find(|both| raw <= both[1].0) {
+            None => above * end / width,
+            Some(both) => {
+                let ((left, from), (right, to)) = (both[0], both[1]);
+                from + ((to - from) * (raw - left)).div_euclid(right - left)
+            }
+        }
+    }
+
+    /// Whether pairs make a curve near the line.
+    pub fn is_curve(&self, pairs: &[(i64, i64)]) -> bool {
+        let (lo, hi, end) = (i64::from(self.raw_lo), i64::from(self.raw_hi), i64::from(self.end));
+        let is_near = |&(raw, at): &(i64, i64)| {
+            let off = (at * (hi - lo) - (raw - lo) * end).abs();
+            (0..=end).contains(&at) && off <= i64::from(self.tol - 1) * (hi - lo)
+        };
+        (2..=32).contains(&pairs.len())
+            && pairs[0].0 == lo
+            && pairs[pairs.len() - 1].0 == hi
+            && pairs.windows(2).all(|both| both[0].0 < both[1].0)
+            && pairs.iter().all(is_near)
     }
 
     fn drive(&self, position: i32, target: i32, half: i32) -> Motor {
