@@ -5,43 +5,47 @@ use std::cell::Cell;
 use std::io;
 use std::io::{ErrorKind, Read, Write};
 
-/// Gives the bytes of a text one at a time, and fails after a number of them. It is interrupted
-/// before each byte, the end and the failure.
+/// Gives the bytes of a text, a limited number at a time, and fails after a number of them. It is
+/// interrupted twice before each part, the end and the failure.
 #[derive(Drop)]
 pub struct InterruptedReader<'a> {
     bytes: &'a [u8],
     left: usize,
-    // Whether the last read was interrupted.
-    is_resumed: bool,
+    at_once: usize,
+    // How many reads were interrupted since the last one that wasn't.
+    interrupted: u32,
 }
 
 impl<'a> InterruptedReader<'a> {
-    /// A reader of these bytes that fails after it has given `left` of them.
-    pub fn new(bytes: &'a [u8], left: usize) -> InterruptedReader<'a> {
+    /// A reader of these bytes that fails after it has given `left` of them, at most `at_once` at a
+    /// time.
+    pub fn new(bytes: &'a [u8], left: usize, at_once: usize) -> InterruptedReader<'a> {
         InterruptedReader {
             bytes,
             left,
-            is_resumed: false,
+            at_once,
+            interrupted: 0,
         }
     }
 }
 
 impl Read for InterruptedReader<'_> {
     fn read(&mut self, buf: &mut [u8]) -> io::Result<usize> {
-        self.is_resumed = !self.is_resumed;
-        if self.is_resumed {
+        if self.interrupted < 2 {
+            self.interrupted += 1;
             return Err(io::Error::from(ErrorKind::Interrupted));
         }
+        self.interrupted = 0;
         if self.left == 0 {
             return Err(io::Error::from(ErrorKind::Other));
         }
-        let (Some(place), Some((first, rest))) = (buf.first_mut(), self.bytes.split_first()) else {
-            return Ok(0);
-        };
-        *place = *first;
+        let count = buf.len().min(self.bytes.len());
+        let count = count.min(self.left).min(self.at_once);
+        let (given, rest) = self.bytes.split_at(count);
+        buf[..count].copy_from_slice(given);
         self.bytes = rest;
-        self.left -= 1;
-        Ok(1)
+        self.left -= count;
+        Ok(count)
     }
 }
 

@@ -20,10 +20,11 @@ fn count_lines(text: &[u8]) -> usize {
     text.iter().filter(|byte| **byte == b'\n').count()
 }
 
-/// Whether the replay fails to read if the reader fails after `left` bytes of the script, and has
-/// written the lines of all records that it has read, except the last one.
-fn fails_to_read(alloc: Global, left: usize) -> bool {
-    let mut reader = InterruptedReader::new(SCRIPT.as_bytes(), left);
+/// Whether the replay fails to read if the reader, which gives at most `at_once` bytes at a time,
+/// fails after `left` bytes of the script, and has written the lines of all records that it has
+/// read, except the last one.
+fn fails_to_read(alloc: Global, left: usize, at_once: usize) -> bool {
+    let mut reader = InterruptedReader::new(SCRIPT.as_bytes(), left, at_once);
     let mut written = Vec::new(alloc);
     let got = replay(alloc, &mut reader, &mut written);
     let records = count_lines(&SCRIPT.as_bytes()[..left.min(SCRIPT.len())]);
@@ -42,7 +43,7 @@ fn is_written(
 ) -> bool {
     let mut at_once = InterruptedWriter::new(alloc, room, 3, failure);
     let mut bytewise = InterruptedWriter::new(alloc, room, 3, failure);
-    let mut reader = InterruptedReader::new(SCRIPT.as_bytes(), usize::MAX);
+    let mut reader = InterruptedReader::new(SCRIPT.as_bytes(), usize::MAX, 1);
     replay(alloc, &mut SCRIPT.as_bytes(), &mut at_once) == wanted
         && replay(alloc, &mut reader, &mut bytewise) == wanted
         && [at_once, bytewise].iter().all(|writer| {
@@ -59,10 +60,18 @@ fn lines_before_failed_flush<R: Read>(alloc: Global, reader: &mut R) -> Option<u
     (failed && is_whole_lines(written)).then(|| count_lines(written))
 }
 
+/// How many bytes a reader gives at a time.
+const PARTS: &[usize] = &[1, 7, usize::MAX];
+
 #[test]
 fn fails_with_its_reader(rt: HostRuntime) {
     for left in 0..=SCRIPT.len() {
-        assert!(rt; fails_to_read(rt.alloc(), left), "{left}");
+        for at_once in PARTS {
+            assert!(rt;
+                fails_to_read(rt.alloc(), left, *at_once),
+                "{left} {at_once}"
+            );
+        }
     }
 }
 
@@ -88,7 +97,7 @@ fn fails_with_its_writer(rt: HostRuntime) {
 #[test]
 fn fails_with_its_flush(rt: HostRuntime) {
     let alloc = rt.alloc();
-    let mut bytewise = InterruptedReader::new(SCRIPT.as_bytes(), usize::MAX);
+    let mut bytewise = InterruptedReader::new(SCRIPT.as_bytes(), usize::MAX, 1);
     assert!(rt; lines_before_failed_flush(alloc, &mut SCRIPT.as_bytes()) == Some(5));
     assert!(rt; lines_before_failed_flush(alloc, &mut bytewise) == Some(1));
 }

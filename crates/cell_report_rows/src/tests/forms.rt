@@ -15,6 +15,12 @@ const FORMS: &[&str] = &[
     "start,0000000000\n\"pre\"ss,claim,z3\n",
     "start,0000000000\npress,claim,\"z3",
     "start,0000000000,0\npress,claim,z3\n",
+    // As other systems save a text: a byte order mark, Windows line ends, no line end at the end.
+    "\u{feff}start,0000000000\r\npress,claim,z3",
+    "\u{feff}\r\nstart,0000000000\r\n\r\npress,claim,z3\r\n\r\n",
+    "\u{feff}\"start\",0000000000\npress,claim,z3\n",
+    "start,0000000000\n\"press\",\"claim\",\"z3\"\r\n",
+    "start,0000000000\r\n\"press\",claim,z3\n",
 ];
 
 const NO_REQUESTS: &[&str] = &[
@@ -35,10 +41,65 @@ const NO_REQUESTS: &[&str] = &[
     "start,0000000000\npress,claim,\"z3\npress,claim,z3\n",
     "start,0000000000\n\u{feff}press,claim,z3\n",
     "start,0000000000\nstart,0000000000\n",
+    // Blanks, tabs and zero bytes are part of a field, and so is a quote that doesn't begin it.
+    "start,0000000000\r\npress, claim, z3\r\n",
+    "start,0000000000\r\npress,claim,z3 \r\n",
+    "start,0000000000\n \npress,claim,z3\n",
+    "start,0000000000\npress,claim,\tz3\n",
+    "start,0000000000\npress,claim,z3\u{0}\n",
+    "start,0000000000\n\u{0}\n",
+    "start,0000000000\npress,claim,z3\"\"\n",
+    "start,0000000000\npress, \"claim\",z3\n",
+    "start,0000000000\npress,claim,\"z3\" \n",
+    "start,0000000000\n\"press,claim,z3\"\n",
+    "start,0000000000\npress,claim,\u{feff}z3\n",
+    // Other separators, a header, a remark, empty fields.
+    "start,0000000000\npress;claim;z3\n",
+    "start,0000000000\npress\tclaim\tz3\n",
+    "start,0000000000\nmachine,verb,zone\n",
+    "start,0000000000\n# press,claim,z3\n",
+    "start,0000000000\n,,\n",
+    "start,0000000000\n\"\"\n",
+    "start,0000000000\nPRESS,CLAIM,Z3\n",
+    // Blank lines aren't numbered; a record in quotes has one number.
+    "start,0000000000\n\n\r\n\npress\n",
+    "start,0000000000\n\"press\n\n\",claim,z3\n",
 ];
 
-/// A request with a byte after it that isn't UTF-8.
-const NO_TEXT: &[u8] = b"start,0000000000\npress,claim,z3\xff\n";
+/// Bytes that aren't UTF-8, and what other systems put at the end of a text.
+const BYTES: &[(&[u8], &str, Outcome)] = &[
+    (
+        b"start,0000000000\npress,claim,z3\xff\n",
+        "0 0 start 0\nfault badrow 1\n",
+        Outcome::Refused(ScriptFault::BadRow(1)),
+    ),
+    (
+        b"start,0000000000\r\npress,claim,z3\r\n\x1a",
+        "0 0 start 0\n1 1 done\nfault badrow 2\n",
+        Outcome::Refused(ScriptFault::BadRow(2)),
+    ),
+    (
+        b"start,0000000000\npress,claim,z3\n\xff",
+        "0 0 start 0\n1 1 done\nfault badrow 2\n",
+        Outcome::Refused(ScriptFault::BadRow(2)),
+    ),
+    (
+        b"start,000000000\xff\n",
+        "fault badstart\n",
+        Outcome::Refused(ScriptFault::BadStart),
+    ),
+    // A part of a byte order mark, and the one of UTF-16.
+    (
+        b"\xef\xbbstart,0000000000\n",
+        "fault nostart\n",
+        Outcome::Refused(ScriptFault::NoStart),
+    ),
+    (
+        b"\xff\xfes\x00t\x00a\x00r\x00t\x00",
+        "fault nostart\n",
+        Outcome::Refused(ScriptFault::NoStart),
+    ),
+];
 
 const NO_STARTS: &[&str] = &[
     "\n\n",
@@ -51,6 +112,17 @@ const NO_STARTS: &[&str] = &[
     // Quotes aren't part of a field, and a field is compared whole.
     "\"start,0000000000\"\n",
     "\"start\"2,0000000000\n",
+    "\r\n\r\n\r\n",
+    "\u{feff}\u{feff}start,0000000000\n",
+    "\n\u{feff}start,0000000000\n",
+    "machine,verb,zone\nstart,0000000000\n",
+    " \nstart,0000000000\n",
+    "\"\"\nstart,0000000000\n",
+    "start;0000000000\n",
+    "start\t0000000000\n",
+    "START,0000000000\n",
+    "\u{0}start,0000000000\n",
+    "# start,0000000000\n",
 ];
 
 const BAD_STARTS: &[&str] = &[
@@ -72,11 +144,21 @@ const BAD_STARTS: &[&str] = &[
     "start,0000000000,1a\n",
     "start,0000000000,5,\n",
     "\"start\"\n",
+    "start, 0000000000\n",
+    "start,0000000000 \r\n",
+    "start,000000000\u{0}\n",
+    "start,0000000000\u{2028}press,claim,z3\n",
+    "start,0000000000,9999999\n",
+    "start,0000000000,00000000\n",
+    "start,0000000000,\u{665}\n",
+    "start,\"0000000000\npress,claim,z3\n",
 ];
 
 const STAMPS: &[(&str, &str)] = &[
     ("start,0000000000,0000005\n", "0 5 start 0\n"),
     ("start,0000010001,1048575\n", "0 1048575 start 2\n"),
+    ("start,0000000000,0000000\r\n", "0 0 start 0\n"),
+    ("start,0000000000,\"0000005", "0 5 start 0\n"),
 ];
 
 /// Groups of scripts with the same answer.
@@ -111,13 +193,8 @@ fn reads_records(rt: HostRuntime) {
         let is_right = is_answered(rt.alloc(), script.as_bytes(), text, Outcome::Clean);
         assert!(rt; is_right, "{script:?}");
     }
-    let bad_row = Outcome::Refused(ScriptFault::BadRow(1));
-    assert!(rt;
-        is_answered(
-            rt.alloc(),
-            NO_TEXT,
-            "0 0 start 0\nfault badrow 1\n",
-            bad_row
-        )
-    );
+    for (script, text, outcome) in BYTES {
+        let is_right = is_answered(rt.alloc(), script, text, *outcome);
+        assert!(rt; is_right, "{script:?}");
+    }
 }

@@ -1,7 +1,7 @@
 //! Scripts that are too long.
 
 use super::is_answered;
-use crate::doubles::InterruptedReader;
+use crate::doubles::{Failure, InterruptedReader, InterruptedWriter};
 use cell_replay::{Outcome, ReplayFault, ScriptFault, replay};
 use std::alloc::Global;
 use std::process::Abort;
@@ -10,6 +10,8 @@ use std::process::Abort;
 type Filled = (&'static str, usize, &'static str);
 
 const TWO: &str = "start,0000000000\nwatch,inquire,z1\nwatch,inquire,z2\n";
+
+const QUOTED: &str = "start,0000000000\nwatch,inquire,z1\nwatch,inquire,\"z2\n";
 
 const LONG: Outcome = Outcome::Refused(ScriptFault::Long);
 
@@ -47,6 +49,12 @@ const ROWS: &[(Filled, &str, Outcome)] = &[
     (
         (TWO, 4_194_300, "\"watch\",inquire,z3\n"),
         "0 0 start 0\n1 0 zone free 0 closed\n2 0 zone free 0 closed\nfault long\n",
+        LONG,
+    ),
+    // A quote that isn't closed makes all that follows one record.
+    (
+        (QUOTED, 4_194_305, ""),
+        "0 0 start 0\n1 0 zone free 0 closed\nfault long\n",
         LONG,
     ),
     // A cut script of one record or none.
@@ -146,10 +154,63 @@ fn answers_most_records(rt: HostRuntime) {
 fn writes_before_its_reader_fails(rt: HostRuntime) {
     let alloc = rt.alloc();
     let script = inquiries(&rt, alloc, 65_537, "");
-    let mut reader = InterruptedReader::new(script.as_bytes(), script.len().saturating_sub(1));
+    let last_byte = script.len().saturating_sub(1);
+    let mut reader = InterruptedReader::new(script.as_bytes(), last_byte, 1);
     let mut written = Vec::new(alloc);
     let got = replay(alloc, &mut reader, &mut written);
     assert!(rt; got == Err(ReplayFault::Read));
     let last = b"\n65535 0 zone free 0 closed\n".as_slice();
     assert!(rt; written.as_slice().ends_with(last));
+}
+
+/// After how many bytes a reader of `TWO` and blank lines fails, and what follows.
+const FAILS_AT_LIMIT: &[(usize, &str, Result<Outcome, ReplayFault>)] = &[
+    (
+        4_194_303,
+        "0 0 start 0\n1 0 zone free 0 closed\n",
+        Err(ReplayFault::Read),
+    ),
+    // The byte past the limit is asked for.
+    (
+        4_194_304,
+        "0 0 start 0\n1 0 zone free 0 closed\n",
+        Err(ReplayFault::Read),
+    ),
+    // No further one is.
+    (
+        4_194_305,
+        "0 0 start 0\n1 0 zone free 0 closed\nfault long\n",
+        Ok(LONG),
+    ),
+];
+
+/// After how many bytes of a long text a writer fails: the text is written in blocks of 8,192.
+const ROOMS: &[usize] = &[
+    0, 1, 8_170, 8_191, 8_192, 8_193, 16_383, 16_384, 16_385, 20_000,
+];
+
+// The faults of a reader at the limit, and of a writer between the blocks of a long text.
+#[test]
+fn fails_at_limits(rt: HostRuntime) {
+    let alloc = rt.alloc();
+    let script = script_of(&rt, alloc, (TWO, 4_194_310, ""));
+    for (left, text, wanted) in FAILS_AT_LIMIT {
+        let mut reader = InterruptedReader::new(script.as_slice(), *left, usize::MAX);
+        let mut written = Vec::new(alloc);
+        let got = replay(alloc, &mut reader, &mut written);
+        assert!(rt;
+            got == *wanted && written.as_slice() == text.as_bytes(),
+            "{left}"
+        );
+    }
+    let long = inquiries(&rt, alloc, 1_000, "");
+    let mut text = Vec::new(alloc);
+    assert!(rt; replay(alloc, &mut long.as_bytes(), &mut text) == Ok(Outcome::Clean));
+    for room in ROOMS {
+        let mut writer = InterruptedWriter::new(alloc, *room, 1_000, Failure::Write);
+        let got = replay(alloc, &mut long.as_bytes(), &mut writer);
+        let taken = writer.taken.as_slice();
+        let is_prefix = taken.len() == *room && text.as_slice().starts_with(taken);
+        assert!(rt; got == Err(ReplayFault::Write) && is_prefix, "{room}");
+    }
 }
