@@ -115,7 +115,7 @@ impl Program for PressProgram {
     }
 
     fn rest(&self, _progress: PressProgress) -> PressAct {
-        PressAct { press: Motor::Off }
+        PressAct::at_rest()
     }
 }
 

@@ -121,10 +121,7 @@ impl<F: Gauge> Program for TableProgram<F> {
     }
 
     fn rest(&self, _progress: TableProgress) -> TableAct {
-        TableAct {
-            height: Motor::Off,
-            rotation: Motor::Off,
-        }
+        TableAct::at_rest()
     }
 }
 
