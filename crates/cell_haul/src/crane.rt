@@ -135,11 +135,7 @@ impl<F: Gauge> Program for CraneProgram<F> {
     }
 
     fn rest(&self, progress: CraneProgress) -> CraneAct {
-        CraneAct {
-            travel: Motor::Off,
-            height: Motor::Off,
-            magnet: progress.magnet,
-        }
+        CraneAct::at_rest(progress.magnet)
     }
 }
 

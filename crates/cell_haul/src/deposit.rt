@@ -100,6 +100,6 @@ impl Program for DepositProgram {
     }
 
     fn rest(&self, _progress: DepositProgress) -> DepositAct {
-        DepositAct { belt: false }
+        DepositAct::at_rest()
     }
 }

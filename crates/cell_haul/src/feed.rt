@@ -100,6 +100,6 @@ impl Program for FeedProgram {
     }
 
     fn rest(&self, _progress: FeedProgress) -> FeedAct {
-        FeedAct { belt: false }
+        FeedAct::at_rest()
     }
 }
