@@ -142,13 +142,7 @@ impl<F1: Gauge, F2: Gauge, F3: Gauge> Program for RobotProgram<F1, F2, F3> {
     }
 
     fn rest(&self, progress: RobotProgress) -> RobotAct {
-        RobotAct {
-            arm1: Motor::Off,
-            arm2: Motor::Off,
-            rotation: Motor::Off,
-            magnet1: progress.magnets.arm1,
-            magnet2: progress.magnets.arm2,
-        }
+        RobotAct::at_rest(progress.magnets.arm1, progress.magnets.arm2)
     }
 }
 
