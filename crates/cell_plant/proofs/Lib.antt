@@ -17,5 +17,6 @@ pub mod Stepping
 mod Deciding
 mod SafetyDecided
 mod SafetyRows
+pub mod Resting
 mod RunRows
 mod RecordRows

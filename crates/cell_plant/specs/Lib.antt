@@ -1,6 +1,7 @@
 pub mod Machines
 pub mod CellStates
 pub mod Runs
+pub mod Resting
 pub mod Records
 pub mod Errands
 pub mod Safety

@@ -3,6 +3,7 @@
 ghost use Rattle.cell_notes.specs.declared.run_record.RunRecord.{RunRecord};
 ghost use Rattle.cell_parts.specs.Axes.{CellScales};
 ghost use Rattle.cell_plant.specs.RecordExamples.{RecordExamples};
+ghost use Rattle.cell_plant.specs.Resting.{StoppedMachinesRest};
 ghost use Rattle.cell_plant.specs.RunExamples.{RunExamples};
 ghost use Rattle.cell_plant.specs.Safety.{EveryRunIsSafe};
 ghost use Rattle.cell_plant.specs.SafetyExamples.{SafetyExamples};
@@ -29,6 +30,13 @@ pub fn unsafe_runs_are_refused()
 /// machine that goes on. The six machines go on until they stop.
 pub fn wrong_runs_are_refused()
     ensures { (c : CellScales) → RunExamples c }
+{}
+
+/// A turn that an error ends leaves the motors and the belt of its machine off, and its magnets as
+/// they were switched last: once its actuators are set, and once its part has moved. Later turns of
+/// that machine change nothing.
+pub fn stopped_machines_rest()
+    ensures { (c : CellScales) → StoppedMachinesRest c }
 {}
 
 /// Examples of the record of one literal run, and of wrong records: a count, a status, the start,
