@@ -1,43 +1,19 @@
 -- Curves in figures.
-use Rattle.std.proofs.Common.{ℕ, zero, suc, ◌+◌, ◌-◌, ◌<◌, ◌≤◌, ℤ, pos, ◌+ℤ◌, List, [], ◌∷◌, length, refl, arith}
+use Rattle.std.proofs.Common.{◌≡◌, ℕ, ◌+◌, ◌-◌, ◌<◌, ◌≤◌, ℤ, pos, ◌+ℤ◌, true, List, [], ◌∷◌, length, refl, arith}
 use Rattle.std.specs.Int.Signed.{le_z, lt_z, le_z_yes, lt_z_yes}
 use Rattle.std.specs.Prelude.{T, neg_ℤ}
 use Rattle.cell_calib.specs.Line.{height_of, line_height}
-use Rattle.cell_calib.specs.Curve.{Pair, pair_at, raw_at, HasCount, IsRising, AreNearLine, IsCurve, IsOnCurve, line_through}
-use Rattle.cell_calib.specs.CurveExamples.{Reads, quarters, bulging, sunk, falling, ReadingExamples, FaultExamples, CurveExamples}
+use Rattle.cell_calib.specs.Curve.{Pair, pair_at, raw_at, HasCount, IsRising, IsCurve, IsOnCurve, line_through}
+use Rattle.cell_calib.specs.CurveTests.{is_rising}
+use Rattle.cell_calib.specs.CurveExamples.{Reads, quarters, bulging, sunk, falling, even, steps, ReadingExamples, FaultExamples, CurveExamples}
 use Rattle.cell_calib.proofs.CurveReadings.{one_on_curve}
-
-bulging_rises : IsRising bulging
-bulging_rises zero h = omega arith
-bulging_rises (suc zero) h = omega arith
-bulging_rises (suc (suc zero)) h = omega arith
-bulging_rises (suc (suc (suc i))) h = absurd (omega arith)
-
-falling_rises : IsRising falling
-falling_rises zero h = omega arith
-falling_rises (suc zero) h = omega arith
-falling_rises (suc (suc zero)) h = omega arith
-falling_rises (suc (suc (suc i))) h = absurd (omega arith)
-
-bulging_near : AreNearLine quarters bulging
-bulging_near zero h = record { near = record { not_below = le_z_yes tt; not_above = le_z_yes tt }; first = le_z_yes tt; last = le_z_yes tt }
-bulging_near (suc zero) h = record { near = record { not_below = le_z_yes tt; not_above = le_z_yes tt }; first = le_z_yes tt; last = le_z_yes tt }
-bulging_near (suc (suc zero)) h = record { near = record { not_below = le_z_yes tt; not_above = le_z_yes tt }; first = le_z_yes tt; last = le_z_yes tt }
-bulging_near (suc (suc (suc zero))) h = record { near = record { not_below = le_z_yes tt; not_above = le_z_yes tt }; first = le_z_yes tt; last = le_z_yes tt }
-bulging_near (suc (suc (suc (suc i)))) h = absurd (omega arith)
-
-falling_near : AreNearLine sunk falling
-falling_near zero h = record { near = record { not_below = le_z_yes tt; not_above = le_z_yes tt }; first = le_z_yes tt; last = le_z_yes tt }
-falling_near (suc zero) h = record { near = record { not_below = le_z_yes tt; not_above = le_z_yes tt }; first = le_z_yes tt; last = le_z_yes tt }
-falling_near (suc (suc zero)) h = record { near = record { not_below = le_z_yes tt; not_above = le_z_yes tt }; first = le_z_yes tt; last = le_z_yes tt }
-falling_near (suc (suc (suc zero))) h = record { near = record { not_below = le_z_yes tt; not_above = le_z_yes tt }; first = le_z_yes tt; last = le_z_yes tt }
-falling_near (suc (suc (suc (suc i)))) h = absurd (omega arith)
+use Rattle.cell_calib.proofs.CurveTestLemmas.{curve_of_pass, rises_at}
 
 bulges : IsCurve quarters bulging
-bulges = record { number = record { least = omega arith; most = omega arith }; ends = record { first = refl; last = refl }; rising = bulging_rises; near = bulging_near }
+bulges = curve_of_pass quarters bulging refl
 
 falls : IsCurve sunk falling
-falls = record { number = record { least = omega arith; most = omega arith }; ends = record { first = refl; last = refl }; rising = falling_rises; near = falling_near }
+falls = curve_of_pass sunk falling refl
 
 -- a position between the i-th pair and the next
 reads : (pairs : List Pair) (i raw : ℕ) (v : ℤ) → IsRising pairs → i < length pairs - 1 → raw_at pairs i ≤ raw → raw ≤ raw_at pairs (i + 1)
@@ -55,45 +31,42 @@ reads pairs i raw v rising within from to low high =
 readings : ReadingExamples
 readings = record {
   bulges = bulges;
-  at_0 = reads bulging 0 0 (pos 0) bulging_rises (omega arith) (omega arith) (omega arith) tt tt;
-  at_1 = reads bulging 0 1 (pos 0) bulging_rises (omega arith) (omega arith) (omega arith) tt tt;
-  at_500 = reads bulging 0 500 (pos 127) bulging_rises (omega arith) (omega arith) (omega arith) tt tt;
-  at_1000 = reads bulging 0 1000 (pos 254) bulging_rises (omega arith) (omega arith) (omega arith) tt tt;
-  at_1500 = reads bulging 1 1500 (pos 377) bulging_rises (omega arith) (omega arith) (omega arith) tt tt;
-  at_1999 = reads bulging 1 1999 (pos 499) bulging_rises (omega arith) (omega arith) (omega arith) tt tt;
-  at_3000 = reads bulging 2 3000 (pos 750) bulging_rises (omega arith) (omega arith) (omega arith) tt tt;
-  at_4000 = reads bulging 2 4000 (pos 1000) bulging_rises (omega arith) (omega arith) (omega arith) tt tt;
+  at_0 = reads bulging 0 0 (pos 0) bulges.rising (omega arith) (omega arith) (omega arith) tt tt;
+  at_1 = reads bulging 0 1 (pos 0) bulges.rising (omega arith) (omega arith) (omega arith) tt tt;
+  at_500 = reads bulging 0 500 (pos 127) bulges.rising (omega arith) (omega arith) (omega arith) tt tt;
+  at_1000 = reads bulging 0 1000 (pos 254) bulges.rising (omega arith) (omega arith) (omega arith) tt tt;
+  at_1500 = reads bulging 1 1500 (pos 377) bulges.rising (omega arith) (omega arith) (omega arith) tt tt;
+  at_1999 = reads bulging 1 1999 (pos 499) bulges.rising (omega arith) (omega arith) (omega arith) tt tt;
+  at_3000 = reads bulging 2 3000 (pos 750) bulges.rising (omega arith) (omega arith) (omega arith) tt tt;
+  at_4000 = reads bulging 2 4000 (pos 1000) bulges.rising (omega arith) (omega arith) (omega arith) tt tt;
   falls = falls;
-  at_11 = reads falling 0 11 (neg_ℤ (pos 4)) falling_rises (omega arith) (omega arith) (omega arith) tt tt;
-  at_13 = reads falling 1 13 (neg_ℤ (pos 3)) falling_rises (omega arith) (omega arith) (omega arith) tt tt;
-  at_14 = reads falling 1 14 (neg_ℤ (pos 4)) falling_rises (omega arith) (omega arith) (omega arith) tt tt;
-  at_16 = reads falling 2 16 (neg_ℤ (pos 4)) falling_rises (omega arith) (omega arith) (omega arith) tt tt;
-  at_17 = reads falling 2 17 (neg_ℤ (pos 2)) falling_rises (omega arith) (omega arith) (omega arith) tt tt;
+  at_11 = reads falling 0 11 (neg_ℤ (pos 4)) falls.rising (omega arith) (omega arith) (omega arith) tt tt;
+  at_13 = reads falling 1 13 (neg_ℤ (pos 3)) falls.rising (omega arith) (omega arith) (omega arith) tt tt;
+  at_14 = reads falling 1 14 (neg_ℤ (pos 4)) falls.rising (omega arith) (omega arith) (omega arith) tt tt;
+  at_16 = reads falling 2 16 (neg_ℤ (pos 4)) falls.rising (omega arith) (omega arith) (omega arith) tt tt;
+  at_17 = reads falling 2 17 (neg_ℤ (pos 2)) falls.rising (omega arith) (omega arith) (omega arith) tt tt;
+  most_pairs = curve_of_pass even (steps 32) refl;
 }
 
 counted : (pairs : List Pair) → 2 ≤ length pairs → length pairs ≤ 32 → HasCount pairs
 counted pairs least most = record { least = least; most = most }
 
+rises : (pairs : List Pair) → is_rising pairs ≡ true → IsRising pairs
+rises pairs h = λ i within. rises_at pairs i h within
+
 faults : FaultExamples
 faults = record {
   one_pair = λ has. absurd (omega (arith, has.least));
+  pair_too_many = λ has. absurd (omega (arith, has.most));
   first_end = (counted _ (omega arith) (omega arith), λ has. absurd (omega (arith, has.first)));
   last_end = (counted _ (omega arith) (omega arith), λ has. absurd (omega (arith, has.last)));
+  ends_before_others = (counted _ (omega arith) (omega arith), λ has. absurd (omega (arith, has.first)));
   equal_raws = (counted _ (omega arith) (omega arith), record { first = refl; last = refl }, λ rising. let step = rising 1 (omega arith) in absurd (omega (arith, step)));
-  far = (counted _ (omega arith) (omega arith), record { first = refl; last = refl }, far_rises, λ near. let pair = near 1 (omega arith) in pair.near.not_below.le);
-  outside = (counted _ (omega arith) (omega arith), record { first = refl; last = refl }, outside_rises, λ near. let pair = near 2 (omega arith) in pair.last.le);
+  far = (counted _ (omega arith) (omega arith), record { first = refl; last = refl }, rises ((0, pos 0) ∷ (1000, pos 255) ∷ (2000, pos 500) ∷ (4000, pos 1000) ∷ []) refl, λ near. let pair = near 1 (omega arith) in pair.near.not_below.le);
+  far_below = (counted _ (omega arith) (omega arith), record { first = refl; last = refl }, rises ((0, pos 0) ∷ (1000, pos 245) ∷ (2000, pos 500) ∷ (4000, pos 1000) ∷ []) refl, λ near. let pair = near 1 (omega arith) in pair.near.not_above.le);
+  outside = (counted _ (omega arith) (omega arith), record { first = refl; last = refl }, rises ((0, pos 0) ∷ (2000, pos 500) ∷ (4000, pos 1001) ∷ []) refl, λ near. let pair = near 2 (omega arith) in pair.last.le);
+  below_first = (counted _ (omega arith) (omega arith), record { first = refl; last = refl }, rises ((0, neg_ℤ (pos 1)) ∷ (2000, pos 500) ∷ (4000, pos 1000) ∷ []) refl, λ near. let pair = near 0 (omega arith) in pair.first.le);
 }
-  where
-    far_rises : IsRising ((0, pos 0) ∷ (1000, pos 255) ∷ (2000, pos 500) ∷ (4000, pos 1000) ∷ [])
-    far_rises zero h = omega arith
-    far_rises (suc zero) h = omega arith
-    far_rises (suc (suc zero)) h = omega arith
-    far_rises (suc (suc (suc i))) h = absurd (omega arith)
-
-    outside_rises : IsRising ((0, pos 0) ∷ (2000, pos 500) ∷ (4000, pos 1001) ∷ [])
-    outside_rises zero h = omega arith
-    outside_rises (suc zero) h = omega arith
-    outside_rises (suc (suc i)) h = absurd (omega arith)
 
 pub curve_figures : CurveExamples
 curve_figures = record { readings = readings; faults = faults }

@@ -47,7 +47,7 @@ all_of : (p : Pair → Bool) (pairs : List Pair) → ((i : ℕ) → i < length p
 all_of p [] h = refl
 all_of p (pair ∷ more) h = both _ _ (h 0 (omega arith)) (all_of p more (λ i l. h (suc i) (omega arith)))
 
-rises_at : (pairs : List Pair) (i : ℕ) → is_rising pairs ≡ true → i < length pairs - 1 → raw_at pairs i < raw_at pairs (i + 1)
+pub rises_at : (pairs : List Pair) (i : ℕ) → is_rising pairs ≡ true → i < length pairs - 1 → raw_at pairs i < raw_at pairs (i + 1)
 rises_at [] i h l = absurd (omega arith)
 rises_at (pair ∷ []) i h l = absurd (omega arith)
 rises_at (pair ∷ next ∷ more) zero h l = ltb-true pair.0 next.0 (left _ _ h)

@@ -1,5 +1,6 @@
 -- Curves in figures: what they read, and why pairs make none.
-use Rattle.std.specs.Prelude.{◌≡◌, ℕ, ℤ, pos, neg_ℤ, List, [], ◌∷◌}
+use Rattle.std.specs.Prelude.{◌≡◌, ℕ, ℤ, pos, neg_ℤ, List, [], ◌∷◌, map}
+use Rattle.std.specs.List.{range_with_len}
 use Rattle.cell_calib.specs.Scale.{Scale}
 use Rattle.cell_calib.specs.Curve.{Pair, IsCurve, IsOnCurve}
 use Rattle.cell_calib.specs.CurveFaults.{IsFirstFault}
@@ -25,6 +26,13 @@ sunk = scale_of 10 18 (neg_ℤ (pos 6)) (pos 0)
 abbrev pub falling : List Pair
 falling = (10, neg_ℤ (pos 6)) ∷ (12, neg_ℤ (pos 1)) ∷ (15, neg_ℤ (pos 5)) ∷ (18, pos 0) ∷ []
 
+-- an axis with one raw value for each position, and as many pairs on its line, each a step from the next
+abbrev pub even : Scale
+even = scale_of 0 31 (pos 0) (pos 31)
+
+abbrev pub steps : ℕ → List Pair
+steps count = map (λ n. (n, pos n)) (range_with_len 0 count)
+
 pub record ReadingExamples : Type 0 where
   pub bulges : IsCurve quarters bulging
   pub at_0 : Reads bulging 0 (pos 0)
@@ -41,14 +49,19 @@ pub record ReadingExamples : Type 0 where
   pub at_14 : Reads falling 14 (neg_ℤ (pos 4))
   pub at_16 : Reads falling 16 (neg_ℤ (pos 4))
   pub at_17 : Reads falling 17 (neg_ℤ (pos 2))
+  pub most_pairs : IsCurve even (steps 32)
 
 pub record FaultExamples : Type 0 where
   pub one_pair : IsFirstFault quarters ((0, pos 0) ∷ []) Count
+  pub pair_too_many : IsFirstFault even (steps 33) Count
   pub first_end : IsFirstFault quarters ((1, pos 0) ∷ (1000, pos 254) ∷ (2000, pos 500) ∷ (4000, pos 1000) ∷ []) Ends
   pub last_end : IsFirstFault quarters ((0, pos 0) ∷ (1000, pos 254) ∷ (2000, pos 500) ∷ (3999, pos 1000) ∷ []) Ends
+  pub ends_before_others : IsFirstFault quarters ((1, pos 0) ∷ (1000, pos 255) ∷ (1000, pos 500) ∷ (4000, pos 1000) ∷ []) Ends
   pub equal_raws : IsFirstFault quarters ((0, pos 0) ∷ (1000, pos 254) ∷ (1000, pos 500) ∷ (4000, pos 1000) ∷ []) Order
   pub far : IsFirstFault quarters ((0, pos 0) ∷ (1000, pos 255) ∷ (2000, pos 500) ∷ (4000, pos 1000) ∷ []) OffLine
+  pub far_below : IsFirstFault quarters ((0, pos 0) ∷ (1000, pos 245) ∷ (2000, pos 500) ∷ (4000, pos 1000) ∷ []) OffLine
   pub outside : IsFirstFault quarters ((0, pos 0) ∷ (2000, pos 500) ∷ (4000, pos 1001) ∷ []) OffLine
+  pub below_first : IsFirstFault quarters ((0, neg_ℤ (pos 1)) ∷ (2000, pos 500) ∷ (4000, pos 1000) ∷ []) OffLine
 
 pub record CurveExamples : Type 0 where
   pub readings : ReadingExamples
