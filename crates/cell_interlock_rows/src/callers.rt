@@ -4,9 +4,7 @@ ghost use Rattle.cell_interlock.specs.Fresh.{AreFresh};
 ghost use Rattle.cell_interlock_rows.specs.Held.{IsHeldAt, AreHeldAt};
 
 use cell_interlock::{Interlock, Look, Pass, Passes, Tried, Try};
-use cell_rules::State;
 use cell_types::{Answer, Call, Machine, Reply};
-use std::alloc::Global;
 use std::mem;
 
 /// A step of a caller.
@@ -142,32 +140,5 @@ impl Callers {
             Machine::Crane => take_step(interlock, &mut self.crane, next),
             Machine::Watch => take_step(interlock, &mut self.watch, next),
         }
-    }
-}
-
-fn are_outcomes(interlock: &Interlock, callers: Callers, steps: &[(Machine, Step, Outcome)]) -> bool
-    requires { AreHeldAt interlock.now callers }
-{
-    let mut callers = callers;
-    for (machine, step, wanted) in steps {
-        if callers.step(interlock, *machine, *step) != *wanted {
-            return false;
-        }
-    }
-    true
-}
-
-/// Whether these steps, taken in this order on a new interlock, have these outcomes.
-pub fn is_played(
-    alloc: Global,
-    opening: State,
-    tries: u8,
-    steps: &[(Machine, Step, Outcome)],
-) -> bool {
-    match Interlock::new(alloc, opening, tries) {
-        Ok((interlock, passes)) => {
-            are_outcomes(&interlock, Callers::new(&interlock, passes), steps)
-        }
-        Err(_) => false,
     }
 }

@@ -1,4 +1,6 @@
 mod limits;
 mod lines;
+mod overtaken;
+mod played;
 mod steps;
 mod threads;

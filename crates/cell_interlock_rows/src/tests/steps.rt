@@ -1,10 +1,9 @@
 //! Steps that overlap as each row says, and their outcomes.
 
-use crate::callers::{Outcome, Step, is_played};
-use cell_rules::State;
+use super::overtaken::are_right_from;
+use super::played::{Taken, is_played};
+use crate::callers::{Outcome, Step};
 use cell_types::{Answer, Call, Machine, Pose, Posture, Refusal, Zone};
-
-type Taken = (Machine, Step, Outcome);
 
 const CLAIM_1: Call = Call::Claim(Zone::Z1);
 
@@ -15,6 +14,14 @@ const CLAIM_6: Call = Call::Claim(Zone::Z6);
 const RELEASE_3: Call = Call::Release(Zone::Z3);
 
 const HELD: Answer = Answer::Refused(Refusal::Held(Machine::Press));
+
+const HELD_BY_ROBOT: Answer = Answer::Refused(Refusal::Held(Machine::Robot));
+
+const MINE: Answer = Answer::Refused(Refusal::AlreadyMine);
+
+const NOBODYS: Answer = Answer::Refused(Refusal::NotOwner(None));
+
+const IDLE: Answer = Answer::Refused(Refusal::NotAtWork);
 
 const SHUT: Answer = Answer::Refused(Refusal::Shut(Posture::Closed));
 
@@ -28,76 +35,84 @@ const SHOWN: Answer = Answer::Shown {
     posture: Posture::Closed,
 };
 
+const FREE: Answer = Answer::Shown {
+    owner: None,
+    flag: false,
+    posture: Posture::Closed,
+};
+
+const DONE_1: Outcome = Outcome::Settled(Answer::Done, 1);
+
+const DONE_2: Outcome = Outcome::Settled(Answer::Done, 2);
+
+const DONE_3: Outcome = Outcome::Settled(Answer::Done, 3);
+
+const DONE_4: Outcome = Outcome::Settled(Answer::Done, 4);
+
+const DONE_5: Outcome = Outcome::Settled(Answer::Done, 5);
+
+const DONE_6: Outcome = Outcome::Settled(Answer::Done, 6);
+
+const DONE_7: Outcome = Outcome::Settled(Answer::Done, 7);
+
+const TABLE_LOOKS: Taken = (Machine::Table, Step::Look(CLAIM_1), Outcome::Pending);
+
+const TABLE_LOSES: Taken = (Machine::Table, Step::Attempt, Outcome::Lost);
+
+const PRESS_CLAIMS: Taken = (Machine::Press, Step::Ask(CLAIM_3), DONE_1);
+
+const PRESS_RELEASES: Taken = (Machine::Press, Step::Ask(RELEASE_3), DONE_2);
+
+const FEED_CLAIMS: Taken = (Machine::Feed, Step::Ask(CLAIM_6), DONE_3);
+
+const PRESS_TRAVELS: Taken = (
+    Machine::Press,
+    Step::Ask(Call::SetPose(Pose::Travelling)),
+    DONE_2,
+);
+
+const PRESS_OPENS: Taken = (
+    Machine::Press,
+    Step::Ask(Call::SetPose(Pose::Middle)),
+    DONE_3,
+);
+
+const PRESS_LEAVES: Taken = (Machine::Press, Step::Ask(RELEASE_3), DONE_4);
+
+const ROBOT_LOOKS: Taken = (Machine::Robot, Step::Look(CLAIM_3), Outcome::Pending);
+
+const ROBOT_LOSES: Taken = (Machine::Robot, Step::Attempt, Outcome::Lost);
+
 // No machine has seen what the others did, and no call is overtaken.
 const APART: &[Taken] = &[
-    (
-        Machine::Press,
-        Step::Ask(CLAIM_3),
-        Outcome::Settled(Answer::Done, 1),
-    ),
-    (
-        Machine::Table,
-        Step::Ask(CLAIM_1),
-        Outcome::Settled(Answer::Done, 2),
-    ),
+    (Machine::Press, Step::Ask(CLAIM_3), DONE_1),
+    (Machine::Table, Step::Ask(CLAIM_1), DONE_2),
     (Machine::Feed, Step::Look(CLAIM_6), Outcome::Pending),
-    (
-        Machine::Feed,
-        Step::Attempt,
-        Outcome::Settled(Answer::Done, 3),
-    ),
+    (Machine::Feed, Step::Attempt, DONE_3),
 ];
 
 // The zones are as they were, but the word isn't.
 const OVERTAKEN: &[Taken] = &[
     (Machine::Table, Step::Look(CLAIM_1), Outcome::Pending),
-    (
-        Machine::Press,
-        Step::Ask(CLAIM_3),
-        Outcome::Settled(Answer::Done, 1),
-    ),
+    (Machine::Press, Step::Ask(CLAIM_3), DONE_1),
     (Machine::Table, Step::Attempt, Outcome::Lost),
-    (
-        Machine::Press,
-        Step::Ask(RELEASE_3),
-        Outcome::Settled(Answer::Done, 2),
-    ),
+    (Machine::Press, Step::Ask(RELEASE_3), DONE_2),
     (Machine::Table, Step::Attempt, Outcome::Busy(2, 2)),
-    (
-        Machine::Table,
-        Step::Ask(CLAIM_1),
-        Outcome::Settled(Answer::Done, 3),
-    ),
+    (Machine::Table, Step::Ask(CLAIM_1), DONE_3),
 ];
 
 // Lost exchanges are counted, not the changes that caused them.
 const TWO_CHANGES: &[Taken] = &[
     (Machine::Table, Step::Look(CLAIM_1), Outcome::Pending),
-    (
-        Machine::Press,
-        Step::Ask(CLAIM_3),
-        Outcome::Settled(Answer::Done, 1),
-    ),
-    (
-        Machine::Press,
-        Step::Ask(RELEASE_3),
-        Outcome::Settled(Answer::Done, 2),
-    ),
+    (Machine::Press, Step::Ask(CLAIM_3), DONE_1),
+    (Machine::Press, Step::Ask(RELEASE_3), DONE_2),
     (Machine::Table, Step::Attempt, Outcome::Lost),
-    (
-        Machine::Feed,
-        Step::Ask(CLAIM_6),
-        Outcome::Settled(Answer::Done, 3),
-    ),
+    (Machine::Feed, Step::Ask(CLAIM_6), DONE_3),
     (Machine::Table, Step::Attempt, Outcome::Busy(2, 3)),
 ];
 
 const REFUSED: &[Taken] = &[
-    (
-        Machine::Press,
-        Step::Ask(CLAIM_3),
-        Outcome::Settled(Answer::Done, 1),
-    ),
+    (Machine::Press, Step::Ask(CLAIM_3), DONE_1),
     (
         Machine::Press,
         Step::Ask(Call::Inquire(Zone::Z3)),
@@ -122,32 +137,20 @@ const REFUSED: &[Taken] = &[
 
 // A lost exchange finds a word that refuses the call.
 const REFUSED_LATE: &[Taken] = &[
-    (
-        Machine::Press,
-        Step::Ask(CLAIM_3),
-        Outcome::Settled(Answer::Done, 1),
-    ),
+    (Machine::Press, Step::Ask(CLAIM_3), DONE_1),
     (
         Machine::Press,
         Step::Ask(Call::SetPose(Pose::Travelling)),
-        Outcome::Settled(Answer::Done, 2),
+        DONE_2,
     ),
     (
         Machine::Press,
         Step::Ask(Call::SetPose(Pose::Middle)),
-        Outcome::Settled(Answer::Done, 3),
+        DONE_3,
     ),
-    (
-        Machine::Press,
-        Step::Ask(RELEASE_3),
-        Outcome::Settled(Answer::Done, 4),
-    ),
+    (Machine::Press, Step::Ask(RELEASE_3), DONE_4),
     (Machine::Robot, Step::Look(CLAIM_3), Outcome::Pending),
-    (
-        Machine::Press,
-        Step::Ask(CLAIM_3),
-        Outcome::Settled(Answer::Done, 5),
-    ),
+    (Machine::Press, Step::Ask(CLAIM_3), DONE_5),
     (Machine::Robot, Step::Attempt, Outcome::Settled(HELD, 5)),
 ];
 
@@ -165,6 +168,111 @@ const WORN_LATE: &[Taken] = &[
     ),
 ];
 
+// No call of others comes between.
+const ALONE: &[Taken] = &[TABLE_LOOKS, (Machine::Table, Step::Attempt, DONE_1)];
+
+const LOST_ONCE: &[Taken] = &[
+    TABLE_LOOKS,
+    PRESS_CLAIMS,
+    TABLE_LOSES,
+    (Machine::Table, Step::Attempt, DONE_2),
+];
+
+const LOST_TWICE: &[Taken] = &[
+    TABLE_LOOKS,
+    PRESS_CLAIMS,
+    TABLE_LOSES,
+    PRESS_RELEASES,
+    TABLE_LOSES,
+    (Machine::Table, Step::Attempt, DONE_3),
+];
+
+const LOST_THRICE: &[Taken] = &[
+    TABLE_LOOKS,
+    PRESS_CLAIMS,
+    TABLE_LOSES,
+    PRESS_RELEASES,
+    TABLE_LOSES,
+    FEED_CLAIMS,
+    (Machine::Table, Step::Attempt, Outcome::Busy(3, 3)),
+];
+
+// The table hasn't seen the changes, but they come before its load.
+const UNSEEN: &[Taken] = &[
+    PRESS_CLAIMS,
+    PRESS_RELEASES,
+    FEED_CLAIMS,
+    (
+        Machine::Table,
+        Step::Ask(CLAIM_1),
+        Outcome::Settled(Answer::Done, 4),
+    ),
+];
+
+// The last exchange that the call may lose finds a word that refuses it.
+const REFUSED_LAST: &[Taken] = &[
+    PRESS_CLAIMS,
+    PRESS_TRAVELS,
+    PRESS_OPENS,
+    PRESS_LEAVES,
+    ROBOT_LOOKS,
+    (Machine::Table, Step::Ask(CLAIM_1), DONE_5),
+    ROBOT_LOSES,
+    (Machine::Press, Step::Ask(CLAIM_3), DONE_6),
+    (Machine::Robot, Step::Attempt, Outcome::Settled(HELD, 6)),
+];
+
+// The word found last refuses the call, for another reason than those between.
+const SHUT_LATE: &[Taken] = &[
+    PRESS_CLAIMS,
+    PRESS_TRAVELS,
+    PRESS_OPENS,
+    PRESS_LEAVES,
+    ROBOT_LOOKS,
+    (Machine::Press, Step::Ask(CLAIM_3), DONE_5),
+    (
+        Machine::Press,
+        Step::Ask(Call::SetPose(Pose::Travelling)),
+        DONE_6,
+    ),
+    (Machine::Press, Step::Ask(Call::SetPose(Pose::Top)), DONE_7),
+    (
+        Machine::Press,
+        Step::Ask(RELEASE_3),
+        Outcome::Settled(Answer::Done, 8),
+    ),
+    (Machine::Robot, Step::Attempt, Outcome::Settled(SHUT, 8)),
+];
+
+// Two calls wait for one zone.
+const BOTH_PENDING: &[Taken] = &[
+    PRESS_CLAIMS,
+    PRESS_TRAVELS,
+    PRESS_OPENS,
+    PRESS_LEAVES,
+    ROBOT_LOOKS,
+    (Machine::Press, Step::Look(CLAIM_3), Outcome::Pending),
+    (Machine::Robot, Step::Attempt, DONE_5),
+    (
+        Machine::Press,
+        Step::Attempt,
+        Outcome::Settled(HELD_BY_ROBOT, 5),
+    ),
+];
+
+// The press has the zone and leaves it between: no reason to refuse the call is left.
+const FREE_AGAIN: &[Taken] = &[
+    PRESS_CLAIMS,
+    PRESS_TRAVELS,
+    PRESS_OPENS,
+    PRESS_LEAVES,
+    ROBOT_LOOKS,
+    (Machine::Press, Step::Ask(CLAIM_3), DONE_5),
+    (Machine::Press, Step::Ask(RELEASE_3), DONE_6),
+    ROBOT_LOSES,
+    (Machine::Robot, Step::Attempt, DONE_7),
+];
+
 // A refusal makes no other call lose an exchange.
 const UNDISTURBED: &[Taken] = &[
     (Machine::Table, Step::Look(CLAIM_1), Outcome::Pending),
@@ -173,41 +281,163 @@ const UNDISTURBED: &[Taken] = &[
         Step::Ask(CLAIM_3),
         Outcome::Settled(SHUT, 0),
     ),
+    (Machine::Table, Step::Attempt, DONE_1),
+];
+
+// Refusals, inquiries, looks and abandoned calls of others make no call lose an exchange.
+const LEFT_ALONE: &[Taken] = &[
+    TABLE_LOOKS,
     (
-        Machine::Table,
-        Step::Attempt,
-        Outcome::Settled(Answer::Done, 1),
+        Machine::Robot,
+        Step::Ask(CLAIM_3),
+        Outcome::Settled(SHUT, 0),
     ),
+    (
+        Machine::Robot,
+        Step::Look(CLAIM_3),
+        Outcome::Settled(SHUT, 0),
+    ),
+    (
+        Machine::Press,
+        Step::Ask(RELEASE_3),
+        Outcome::Settled(NOBODYS, 0),
+    ),
+    (
+        Machine::Feed,
+        Step::Ask(CLAIM_3),
+        Outcome::Settled(STRANGER, 0),
+    ),
+    (
+        Machine::Feed,
+        Step::Ask(Call::Advance),
+        Outcome::Settled(IDLE, 0),
+    ),
+    (
+        Machine::Watch,
+        Step::Ask(CLAIM_1),
+        Outcome::Settled(STRANGER, 0),
+    ),
+    (
+        Machine::Watch,
+        Step::Ask(Call::Inquire(Zone::Z1)),
+        Outcome::Settled(FREE, 0),
+    ),
+    (Machine::Press, Step::Look(CLAIM_3), Outcome::Pending),
+    (Machine::Press, Step::Abandon, Outcome::Abandoned),
+    (Machine::Table, Step::Attempt, DONE_1),
+];
+
+// Likewise between a lost exchange and the next one; before it they don't hide the change.
+const REFUSED_BETWEEN: &[Taken] = &[
+    TABLE_LOOKS,
+    (
+        Machine::Robot,
+        Step::Ask(CLAIM_3),
+        Outcome::Settled(SHUT, 0),
+    ),
+    PRESS_CLAIMS,
+    (
+        Machine::Robot,
+        Step::Ask(CLAIM_3),
+        Outcome::Settled(HELD, 1),
+    ),
+    TABLE_LOSES,
+    (
+        Machine::Robot,
+        Step::Ask(CLAIM_3),
+        Outcome::Settled(HELD, 1),
+    ),
+    (
+        Machine::Press,
+        Step::Ask(CLAIM_3),
+        Outcome::Settled(MINE, 1),
+    ),
+    (Machine::Table, Step::Attempt, DONE_2),
+];
+
+// Nor do exchanges that others lose, or calls of theirs that are Busy.
+const OTHERS_LOSE: &[Taken] = &[
+    (Machine::Feed, Step::Look(CLAIM_6), Outcome::Pending),
+    PRESS_CLAIMS,
+    TABLE_LOOKS,
+    (Machine::Feed, Step::Attempt, Outcome::Lost),
+    (Machine::Table, Step::Attempt, DONE_2),
+    (
+        Machine::Robot,
+        Step::Ask(CLAIM_3),
+        Outcome::Settled(HELD, 2),
+    ),
+    (Machine::Feed, Step::Attempt, Outcome::Busy(2, 2)),
+    FEED_CLAIMS,
+];
+
+const OTHERS_ARE_BUSY: &[Taken] = &[
+    (Machine::Feed, Step::Look(CLAIM_6), Outcome::Pending),
+    PRESS_CLAIMS,
+    TABLE_LOOKS,
+    (Machine::Feed, Step::Attempt, Outcome::Busy(1, 1)),
+    (Machine::Table, Step::Attempt, DONE_2),
 ];
 
 // The abandoned call was never made.
 const ABANDONED: &[Taken] = &[
-    (Machine::Table, Step::Look(CLAIM_1), Outcome::Pending),
+    TABLE_LOOKS,
     (Machine::Table, Step::Abandon, Outcome::Abandoned),
+    (Machine::Table, Step::Ask(Call::Claim(Zone::Z2)), DONE_1),
     (
-        Machine::Table,
-        Step::Ask(Call::Claim(Zone::Z2)),
-        Outcome::Settled(Answer::Done, 1),
+        Machine::Watch,
+        Step::Ask(Call::Inquire(Zone::Z1)),
+        Outcome::Settled(FREE, 1),
     ),
     (Machine::Table, Step::Attempt, Outcome::OutOfTurn),
+];
+
+// The next call has lost no exchange yet.
+const ABANDONED_LATE: &[Taken] = &[
+    TABLE_LOOKS,
+    PRESS_CLAIMS,
+    TABLE_LOSES,
+    (Machine::Table, Step::Abandon, Outcome::Abandoned),
+    TABLE_LOOKS,
+    PRESS_RELEASES,
+    TABLE_LOSES,
+    (Machine::Table, Step::Attempt, DONE_3),
 ];
 
 // What the row shows, the number of exchanges that a call may lose, the first stamp, and the steps.
 const ROWS: &[(&str, u8, u32, &[Taken])] = &[
     ("apart", 1, 0, APART),
+    ("alone", 3, 0, ALONE),
+    ("lost once", 3, 0, LOST_ONCE),
+    ("lost twice", 3, 0, LOST_TWICE),
+    ("lost thrice", 3, 0, LOST_THRICE),
+    ("unseen", 3, 0, UNSEEN),
     ("overtaken", 2, 0, OVERTAKEN),
     ("two changes", 2, 0, TWO_CHANGES),
     ("refused", 1, 0, REFUSED),
     ("refused late", 3, 0, REFUSED_LATE),
+    ("refused late, at once the last", 1, 0, REFUSED_LATE),
+    ("refused last", 2, 0, REFUSED_LAST),
+    ("shut late", 1, 0, SHUT_LATE),
+    ("both pending", 1, 0, BOTH_PENDING),
+    ("free again", 2, 0, FREE_AGAIN),
     ("worn late", 1, 1_048_574, WORN_LATE),
     ("undisturbed", 1, 0, UNDISTURBED),
+    ("left alone", 1, 0, LEFT_ALONE),
+    ("refused between", 2, 0, REFUSED_BETWEEN),
+    ("others lose", 2, 0, OTHERS_LOSE),
+    ("others are busy", 1, 0, OTHERS_ARE_BUSY),
     ("abandoned", 1, 0, ABANDONED),
+    ("abandoned late", 2, 0, ABANDONED_LATE),
 ];
 
 #[test]
 fn steps_overlap(rt: HostRuntime) {
-    for (shown, tries, stamp, steps) in ROWS {
-        let opening = State::start([false; 10], *stamp).expect(&rt, "a start without plates");
-        assert!(rt; is_played(rt.alloc(), opening, *tries, steps), "{shown}");
+    for (shown, tries, first, steps) in ROWS {
+        assert!(rt; is_played(rt.alloc(), *first, *tries, steps), "{shown}");
+    }
+    assert!(rt; are_right_from(rt.alloc(), 0));
+    for first in 1_048_550..=1_048_575u32 {
+        assert!(rt; are_right_from(rt.alloc(), first), "{first}");
     }
 }

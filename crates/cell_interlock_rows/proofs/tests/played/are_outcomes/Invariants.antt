@@ -1,5 +1,5 @@
 use Rattle.cell_interlock_rows.specs.Held.{AreHeldAt}
-use Rattle.cell_interlock_rows.proofs.callers.are_outcomes.Given as goal
+use Rattle.cell_interlock_rows.proofs.tests.played.are_outcomes.Given as goal
 
 abbrev pub invariant-loop-machine : goal.invariant-loop-machine
 invariant-loop-machine l = AreHeldAt l.interlock l.callers
