@@ -2,11 +2,13 @@
 //! at its last value.
 use crate::play::{Move, last, play, stops};
 use crate::rows::{CRANE, DEPOSIT, FEED, Positions};
-use cell_calib::{Calibration, CraneSense, Gauge, Points, SensorFault, line_at};
+use cell_calib::{
+    Calibration, CraneSense, DepositSense, FeedSense, Gauge, Points, SensorFault, line_at,
+};
 use cell_control::{CtlFault, Part};
 use cell_haul::{CraneCtl, CraneProgram, DepositCtl, DepositProgram, FeedCtl, FeedProgram};
 use cell_parts::{CranePart, DepositPart, FeedPart};
-use cell_rules::{Bench, LAST_STAMP, State, read_places};
+use cell_rules::{Bench, LAST_STAMP, Line, State, read_places};
 use cell_types::{Answer, Call, Machine};
 use std::alloc::Global;
 
@@ -115,7 +117,9 @@ fn a_crane_whose_sensors_are_wrong_stops(rt: HostRuntime) {
     for (deposit, feed, gripper, fault) in [
         (true, true, 100, SensorFault::Clash),
         (true, true, 99, SensorFault::Clash),
+        (true, true, 4101, SensorFault::Clash),
         (true, false, 99, SensorFault::Low),
+        (true, false, 4101, SensorFault::High),
         (false, true, 4101, SensorFault::High),
     ] {
         let gauge = move |raw: u16| line_at(&points, raw);
@@ -125,6 +129,28 @@ fn a_crane_whose_sensors_are_wrong_stops(rt: HostRuntime) {
             gripper,
         };
         assert!(rt; crane_stops(rt.alloc(), gauge, points, broken, fault) == Some(true));
+    }
+}
+
+// Whether both belts go on in their first turns, whatever their barriers show.
+fn belts_go_on(alloc: Global, barrier: bool) -> Option<bool> {
+    let start = start(b"0000000000", 0)?;
+    let mut bench = Bench::new(alloc, start);
+    let mut feed = FeedCtl::new(&start, FeedProgram);
+    bench.seat(Machine::Feed, false);
+    let first = feed.turn(&mut bench, &FeedSense { barrier });
+    let mut other = Bench::new(alloc, start);
+    let mut deposit = DepositCtl::new(&start, DepositProgram);
+    other.seat(Machine::Deposit, false);
+    let then = deposit.turn(&mut other, &DepositSense { barrier });
+    let asked = bench.heard().asks == 1 && other.heard().asks == 1;
+    Some(first.is_ok() && then.is_ok() && asked)
+}
+
+#[test]
+fn no_barrier_stops_a_belt(rt: HostRuntime) {
+    for barrier in [false, true] {
+        assert!(rt; belts_go_on(rt.alloc(), barrier) == Some(true));
     }
 }
 

@@ -89,7 +89,7 @@ pub fn last(bench: &Bench) -> Option<(Call, Answer)> {
 }
 
 /// Whether the machine stops in its next turn with this fault and this number of calls, and asks
-/// nothing after that.
+/// nothing after that. The history has these calls and no others.
 pub fn stops<P: Program, B: Part<Sense = P::Sense, Act = P::Act>>(
     controller: &mut Controller<P>,
     part: &B,
@@ -104,10 +104,12 @@ pub fn stops<P: Program, B: Part<Sense = P::Sense, Act = P::Act>>(
 {
     bench.seat(own, false);
     let before = bench.heard().asks;
+    let events = bench.history().len() as u64;
     let first = controller.turn(bench, &sense).err();
     let asked = bench.heard().asks.wrapping_sub(before);
     let then = controller.turn(bench, &part.sensors()).err();
-    let silent = bench.heard().asks.wrapping_sub(before) == asks;
+    let noted = (bench.history().len() as u64).wrapping_sub(events) == asks;
+    let silent = noted && bench.heard().asks.wrapping_sub(before) == asks;
     first == Some(fault)
         && asked == asks
         && then == Some(CtlFault::Stopped)

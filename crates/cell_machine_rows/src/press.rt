@@ -192,27 +192,39 @@ fn the_press_goes_on_once_the_robot_has_been_there(rt: HostRuntime) {
     }
 }
 
-const BROKEN: PressSense = PressSense {
-    bottom: true,
-    middle: false,
-    top: true,
-};
-
-/// Whether a press whose switches clash stops, and stays stopped, without any call.
-fn is_stopped(alloc: Global, start: State) -> bool {
+/// Whether a press that has claimed its interior stops by these switches, and stays stopped,
+/// without another call.
+fn is_stopped(alloc: Global, start: State, broken: &PressSense) -> bool {
     let mut press = PressCtl::new(&start, PressProgram);
     let mut bench = Bench::new(alloc, start);
     bench.seat(Machine::Press, false);
+    let was_running = press.turn(&mut bench, &press_at(1000)).is_ok();
+    let heard = bench.heard();
     let clash = CtlFault::Sensor(SensorFault::Clash);
-    let was_running = press.stopped().is_none();
-    let first = press.turn(&mut bench, &BROKEN);
+    let first = press.turn(&mut bench, broken);
     let then = press.turn(&mut bench, &press_at(1000));
     let told = first == Err(clash) && then == Err(CtlFault::Stopped);
-    was_running && told && press.stopped() == Some(clash) && bench.heard().asks == 0
+    let silent = bench.heard() == heard && bench.history().len() == 1;
+    was_running && told && press.stopped() == Some(clash) && silent
 }
+
+// Switches at the bottom, the middle and the top: each two that exclude each other, and all.
+const CLASHES: &[(bool, bool, bool)] = &[
+    (true, true, false),
+    (true, false, true),
+    (false, true, true),
+    (true, true, true),
+];
 
 #[test]
 fn a_press_whose_switches_clash_stops(rt: HostRuntime) {
     let start = start_of(&rt, EMPTY);
-    assert!(rt; is_stopped(rt.alloc(), start));
+    for (bottom, middle, top) in CLASHES {
+        let broken = PressSense {
+            bottom: *bottom,
+            middle: *middle,
+            top: *top,
+        };
+        assert!(rt; is_stopped(rt.alloc(), start, &broken), "{broken:?}");
+    }
 }

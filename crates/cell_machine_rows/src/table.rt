@@ -285,7 +285,8 @@ fn shows(bottom: bool, top: bool, turn: u16) -> TableSense {
     TableSense { bottom, top, turn }
 }
 
-/// Whether the table stops by these sensors with this fault, and stays stopped, without any call.
+/// Whether a table that has claimed its entry stops by these sensors with this fault, and stays
+/// stopped, without another call.
 fn is_stopped_by<F: Gauge>(
     alloc: Global,
     gauge: F,
@@ -299,11 +300,14 @@ fn is_stopped_by<F: Gauge>(
     let mut table = TableCtl::new(&start, TableProgram::new(Calibration::new(gauge, points)));
     let mut bench = Bench::new(alloc, start);
     bench.seat(Machine::Table, false);
+    let was_running = table.turn(&mut bench, &shows(true, false, 100)).is_ok();
+    let heard = bench.heard();
     let stop = CtlFault::Sensor(fault);
     let first = table.turn(&mut bench, &broken);
     let then = table.turn(&mut bench, &shows(true, false, 100));
     let told = first == Err(stop) && then == Err(CtlFault::Stopped);
-    told && table.stopped() == Some(stop) && bench.heard().asks == 0
+    let silent = bench.heard() == heard && bench.history().len() == 1;
+    was_running && told && table.stopped() == Some(stop) && silent
 }
 
 /// The same, with a gauge that gives the line.
@@ -318,19 +322,21 @@ fn is_stopped(
     is_stopped_by(alloc, gauge, points, start, broken, fault)
 }
 
-// What the sensors show, and the fault.
-const WRONG: &[(bool, bool, u16, SensorFault)] = &[
-    (true, true, 100, SensorFault::Clash),
-    (true, true, 99, SensorFault::Clash),
-    (true, false, 99, SensorFault::Low),
-    (false, true, 4101, SensorFault::High),
+// The least raw value, the greatest, what the sensors show, and the fault: a clash is the first.
+const WRONG: &[(u16, u16, bool, bool, u16, SensorFault)] = &[
+    (100, 4100, true, true, 100, SensorFault::Clash),
+    (100, 4100, true, true, 99, SensorFault::Clash),
+    (100, 4100, true, false, 99, SensorFault::Low),
+    (100, 4100, false, true, 4101, SensorFault::High),
+    (0, 4000, true, true, 4001, SensorFault::Clash),
+    (0, 4000, true, false, 4001, SensorFault::High),
 ];
 
 #[test]
 fn a_table_whose_sensors_are_wrong_stops(rt: HostRuntime) {
-    let points = Points::new(100, 4100, 0, 500, 5).expect(&rt, "points");
     let start = start_of(&rt, EMPTY);
-    for (bottom, top, turn, fault) in WRONG {
+    for (least, greatest, bottom, top, turn, fault) in WRONG {
+        let points = Points::new(*least, *greatest, 0, 500, 5).expect(&rt, "points");
         let broken = shows(*bottom, *top, *turn);
         assert!(rt; is_stopped(rt.alloc(), points, start, broken, *fault));
     }

@@ -405,6 +405,14 @@ pub const BROKEN: &[(RobotSense, SensorFault)] = &[
     ),
     (
         RobotSense {
+            arm1: 99,
+            rotation: 4101,
+            ..GOOD
+        },
+        SensorFault::Low,
+    ),
+    (
+        RobotSense {
             arm2: 4101,
             rotation: 99,
             ..GOOD

@@ -206,7 +206,8 @@ fn is_stopped_by<F1: Gauge, F2: Gauge, F3: Gauge>(
     let first = robot.turn(&mut bench, &sense);
     let then = robot.turn(&mut bench, &GOOD);
     let told = first == Err(stop) && then == Err(CtlFault::Stopped);
-    Ok(told && robot.stopped() == Some(stop) && bench.heard().asks == 0)
+    let silent = bench.heard().asks == 0 && bench.history().is_empty();
+    Ok(told && robot.stopped() == Some(stop) && silent)
 }
 
 #[test]
