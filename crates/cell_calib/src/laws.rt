@@ -3,9 +3,11 @@
 ghost use Rattle.std.specs.Prelude.{◌≡◌, ℕ, ℤ, ◌-ℤ◌, ◌≤ℤ◌, List};
 ghost use Rattle.cell_calib.specs.Curve.{Pair, IsCurve, IsOnCurve};
 ghost use Rattle.cell_calib.specs.CurveExamples.{CurveExamples};
+ghost use Rattle.cell_calib.specs.CurveFaults.{IsFirstFault};
 ghost use Rattle.cell_calib.specs.Examples.{RoundingExamples};
 ghost use Rattle.cell_calib.specs.Scale.{Scale, IsScale};
 ghost use Rattle.cell_calib.specs.Line.{raw_width, IsLineNear, IsWithinTolerance, IsNear, IsRawAt};
+ghost use Rattle.cell_calib.specs.declared.curve.CurveFault.{CurveFault};
 
 /// If a reading is within a window less the tolerance, the exact line is within the window.
 pub fn line_in_window()
@@ -30,6 +32,12 @@ pub fn roundings_are_met()
 pub fn one_position()
     ensures { (s : Scale) (pairs : List Pair) (raw : ℕ) (v w : ℤ) → IsCurve s pairs
         → IsOnCurve pairs raw v → IsOnCurve pairs raw w → w ≡ v }
+{}
+
+/// Pairs have one first fault.
+pub fn one_first_fault()
+    ensures { (s : Scale) (pairs : List Pair) (f g : CurveFault) → IsFirstFault s pairs f
+        → IsFirstFault s pairs g → g ≡ f }
 {}
 
 /// Curves, in figures: what one that bulges and one that falls below 0 read, and the first fault
