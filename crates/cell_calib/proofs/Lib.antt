@@ -2,7 +2,10 @@ pub mod LineLemmas
 mod Rounding
 mod CurveLemmas
 mod CurveReadings
+mod CurveReads
 mod CurveFaultLemmas
 mod LineCurve
+mod ReadingFigures
+mod FaultFigures
 mod CurveFigures
 pub mod CurveTestLemmas

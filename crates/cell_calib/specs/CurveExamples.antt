@@ -49,6 +49,7 @@ pub record ReadingExamples : Type 0 where
   pub at_14 : Reads falling 14 (neg_ℤ (pos 4))
   pub at_16 : Reads falling 16 (neg_ℤ (pos 4))
   pub at_17 : Reads falling 17 (neg_ℤ (pos 2))
+  pub fewest_pairs : IsCurve quarters ((0, pos 0) ∷ (4000, pos 1000) ∷ [])
   pub most_pairs : IsCurve even (steps 32)
 
 pub record FaultExamples : Type 0 where
