@@ -1,10 +1,10 @@
 -- Pairs pass the tests of a curve exactly if they make one.
-use Rattle.std.proofs.Common.{◌≡◌, ℕ, zero, suc, ◌+◌, ◌-◌, ◌<◌, ◌≤◌, ℤ, pos, ◌-ℤ◌, ◌≤ℤ◌, Bool, true, false, ◌&&◌, ◌==◌, nat_le, nat_lt, List, [], ◌∷◌, length, refl, sym, subst, arith, leb-true, le-leb, ltb-true, lt-ltb, eqb-true, eq-eqb}
+use Rattle.std.proofs.Common.{◌≡◌, ℕ, zero, suc, ◌+◌, ◌-◌, ◌<◌, ℤ, ◌≤ℤ◌, Bool, true, false, ◌&&◌, List, [], ◌∷◌, length, refl, sym, subst, arith, leb-true, le-leb, ltb-true, lt-ltb, eqb-true, eq-eqb}
 use Rattle.std.specs.Prelude.{int_le, T}
 use Rattle.std.specs.List.{list_all}
 use Rattle.std.specs.Int.Signed.{le_z, le_z_yes}
 use Rattle.cell_calib.specs.Scale.{Scale}
-use Rattle.cell_calib.specs.Curve.{Pair, pair_at, raw_at, HasCount, HasEnds, IsRising, IsNearPair, AreNearLine, IsCurve}
+use Rattle.cell_calib.specs.Curve.{Pair, pair_at, raw_at, IsRising, IsNearPair, IsCurve}
 use Rattle.cell_calib.specs.CurveTests.{is_curve, is_near_pair, is_rising, has_count, has_ends}
 
 left : (a b : Bool) → (a && b) ≡ true → a ≡ true
