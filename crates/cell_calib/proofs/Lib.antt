@@ -1,6 +1,7 @@
 pub mod LineLemmas
 mod Rounding
 mod CurveLemmas
+mod CurveParts
 mod CurveReadings
 mod CurveReads
 mod CurveFaultLemmas
