@@ -51,6 +51,7 @@ use Rattle.cell_plant.specs.CellStates.{SideOf}
 use Rattle.cell_plant.specs.Machines.{steps_of, rig_of}
 use Rattle.cell_plant.specs.Records.{positions_in}
 use Rattle.cell_plant.specs.Runs.{is_at_work}
+use Rattle.cell_plant.proofs.Resting.{moves_rest}
 use Rattle.cell_workers.specs.Lines.{passes}
 use Rattle.cell_workers.specs.Workers.{GateOf, TakesTurn, HasWorked, Ends, AreCountsOf}
 use Rattle.cell_workers.specs.Records.{MomentOf, first_moment, parts_at_ends, TellsWork}
@@ -318,6 +319,7 @@ turns_taken =
       no_memory = λ c tries lets m before now turn call why e.
           let is = side_answered tries (steps_of c m) (rig_of c m) (by_rule lets m) before now turn call (Err why) e in
           (ap (λ (s : SideOf m). s.stopped) is, line_unchanged tries (steps_of c m) (rig_of c m) (by_rule lets m) before now turn call why e);
+      rests = λ c tries lets m before now fault turn e. moves_rest c m _ _ before.side turn.asked fault now.side turn.row e;
       press = λ c tries lets before now turn runs on.
           let told = turn.motor_demands runs in
           told.motor_demands (λ off. on (ap (λ (a : Axis). a.motor) told.told ∙ off));

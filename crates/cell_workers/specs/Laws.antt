@@ -36,6 +36,7 @@ use Rattle.cell_seat.specs.Sides.{side_of}
 use Rattle.cell_parts.specs.Axes.{CellScales}
 use Rattle.cell_plant.specs.CellStates.{SideOf}
 use Rattle.cell_plant.specs.Machines.{steps_of, rig_of}
+use Rattle.cell_plant.specs.Resting.{IsAtRest}
 use Rattle.cell_plant.specs.Runs.{is_at_work}
 use Rattle.cell_workers.specs.Lines.{passes}
 use Rattle.cell_workers.specs.Workers.{GateOf, TakesTurn, HasWorked, AreCountsOf}
@@ -144,8 +145,8 @@ pub record WorkersEnd : Type 0 where
 
 -- What a turn is. A stopped machine takes none, nor does a machine that its gate refuses. A Busy call has lost as many
 -- exchanges as it may, and is counted as busy; the step waits. Without memory for an entry the machine stops, and the
--- line is as it was. A press whose motor is on holds its interior, which moves. Two turns of a press are in numbers: it
--- claims its interior; it falls for a tick.
+-- line is as it was. A machine that stops rests. A press whose motor is on holds its interior, which moves. Two turns of
+-- a press are in numbers: it claims its interior; it falls for a tick.
 pub record TurnsAreTaken : Type 0 where
   pub stopped : (c : CellScales) (tries : ℕ) (lets : Rule) (m : Machine) (before now : MomentOf m) (fault : CtlFault) → before.side.stopped ≡ Some fault → ¬ TakesTurn (passes tries) (steps_of c m) (rig_of c m) (by_rule lets m) before now
   pub kept_out : (c : CellScales) (tries : ℕ) (lets : Rule) (m : Machine) (before now : MomentOf m) → lets m before.counts.turns ≡ false → ¬ TakesTurn (passes tries) (steps_of c m) (rig_of c m) (by_rule lets m) before now
@@ -155,6 +156,8 @@ pub record TurnsAreTaken : Type 0 where
       → turn.asked ≡ Some (call, Ok (Busy lost stamp)) → (now.side.progress ≡ before.side.progress) × (now.side.stopped ≡ None)
   pub no_memory : (c : CellScales) (tries : ℕ) (lets : Rule) (m : Machine) (before now : MomentOf m) (turn : TakesTurn (passes tries) (steps_of c m) (rig_of c m) (by_rule lets m) before now) (call : Call) (why : LineFault)
       → turn.asked ≡ Some (call, Err why) → (now.side.stopped ≡ Some cause.Memory) × (now.line ≡ before.line)
+  pub rests : (c : CellScales) (tries : ℕ) (lets : Rule) (m : Machine) (before now : MomentOf m) (fault : CtlFault) → TakesTurn (passes tries) (steps_of c m) (rig_of c m) (by_rule lets m) before now
+      → now.side.stopped ≡ Some fault → IsAtRest m before.side.progress now.side.part
   pub press : (c : CellScales) (tries : ℕ) (lets : Rule) (before now : MomentOf Press) → TakesTurn (passes tries) (steps_of c Press) (rig_of c Press) (by_rule lets Press) before now
       → now.side.stopped ≡ None → now.side.part.motor ≢ Off → Holds now.line.opening now.line.seen Press Z3 × PressMoves now.line.opening now.line.seen
   pub claims : (c : CellScales) (tries : ℕ) (lets : Rule) (before now : MomentOf Press) (turn : TakesTurn (passes tries) (steps_of c Press) (rig_of c Press) (by_rule lets Press) before now) (stamp : ℕ)
