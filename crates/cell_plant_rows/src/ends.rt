@@ -1,10 +1,11 @@
 //! Ends of runs: what each machine did, the interlock, and the axes. They were worked out by hand
 //! from the programs of the controllers and the numbers of the plant.
 
-use crate::cells::{places_of, run};
+use crate::cells::{Gauges, places_of, run};
+use crate::gauges::GAUGES;
 use cell_plant::{Counts, RunRecord, Status, Turn};
 use cell_rules::State;
-use cell_types::{Machine, Place, Posture, Zone};
+use cell_types::{Entry, Machine, Place, Posture, Zone};
 use std::alloc::Global;
 use std::process::Abort;
 use std::test::Fail;
@@ -291,11 +292,38 @@ fn ends_so(row: &Row, end: &State) -> bool {
         && Place::ALL.map(|place| end.is_full(place)) == places_of(row.places)
 }
 
+fn journals_of(record: &RunRecord) -> [&[Entry]; 7] {
+    let journals = &record.journals;
+    [
+        journals.feed.as_slice(),
+        journals.table.as_slice(),
+        journals.robot.as_slice(),
+        journals.press.as_slice(),
+        journals.deposit.as_slice(),
+        journals.crane.as_slice(),
+        journals.watch.as_slice(),
+    ]
+}
+
+// Whether two records are the same in all fields.
+fn are_same(record: &RunRecord, other: &RunRecord) -> bool {
+    (record.start, record.end) == (other.start, other.end)
+        && (record.counts, record.status) == (other.counts, other.status)
+        && journals_of(record) == journals_of(other)
+        && record.axes == other.axes
+}
+
 // Runs a row; one more of its turns may be busy.
-fn run_of(alloc: Global, row: &Row, other: Option<usize>) -> Result<RunRecord, Fail> {
+fn run_of(
+    alloc: Global,
+    row: &Row,
+    gauges: Gauges,
+    other: Option<usize>,
+) -> Result<RunRecord, Fail> {
     let turns = turns_of(alloc, row.schedule, other)?;
     Ok(run(
         alloc,
+        gauges,
         places_of(row.start),
         row.start_stamp,
         turns.as_slice(),
@@ -305,10 +333,14 @@ fn run_of(alloc: Global, row: &Row, other: Option<usize>) -> Result<RunRecord, F
 #[test]
 fn runs_end_so(rt: HostRuntime) -> Result<(), Fail> {
     for row in ROWS {
-        let record = run_of(rt.alloc(), row, None)?;
-        assert!(rt; starts_so(row, &record));
-        assert!(rt; has_done(row, &record));
-        assert!(rt; record.end.is_some_and(|end| ends_so(row, &end)));
+        let on_lines = run_of(rt.alloc(), row, Gauges::Lines, None)?;
+        for gauges in GAUGES {
+            let record = run_of(rt.alloc(), row, gauges, None)?;
+            assert!(rt; starts_so(row, &record));
+            assert!(rt; has_done(row, &record));
+            assert!(rt; record.end.is_some_and(|end| ends_so(row, &end)));
+            assert!(rt; are_same(&record, &on_lines));
+        }
     }
     Ok(())
 }
@@ -317,7 +349,7 @@ fn runs_end_so(rt: HostRuntime) -> Result<(), Fail> {
 #[test]
 fn busy_turns_stop_nobody(rt: HostRuntime) -> Result<(), Fail> {
     for busy in 6..17 {
-        let record = run_of(rt.alloc(), &ROWS[0], Some(busy))?;
+        let record = run_of(rt.alloc(), &ROWS[0], Gauges::Lines, Some(busy))?;
         assert!(rt; record.status == FINE);
     }
     Ok(())
@@ -364,7 +396,7 @@ fn a_run_without_memory(rt: HostRuntime) -> Result<(), Fail> {
         machine,
         busy: false,
     });
-    if let Ok(record) = run(rt.alloc(), [false; 10], 0, &turns)? {
+    if let Ok(record) = run(rt.alloc(), Gauges::Lines, [false; 10], 0, &turns)? {
         assert!(rt; lacks_but_memory(&record));
     }
     Ok(())

@@ -7,6 +7,8 @@ mod cells;
 #[cfg(test)]
 mod ends;
 #[cfg(test)]
+mod gauges;
+#[cfg(test)]
 mod rounds;
 #[cfg(test)]
 mod scales;

@@ -1,7 +1,8 @@
 //! Long runs: plates that go round through all six machines, and a cell that comes to a standstill.
 //! The numbers come from another program, which was written from the tables of the cell alone.
 
-use crate::cells::{places_of, run};
+use crate::cells::{Gauges, places_of, run};
+use crate::gauges::GAUGES;
 use cell_plant::{RunRecord, Status, Turn};
 use cell_types::{Machine, Place};
 use std::alloc::Global;
@@ -125,12 +126,12 @@ const WALKS: [(u32, &[u8; 10], &[u8; 10], u32); 10] = [
 ];
 
 // Runs a round.
-fn run_of(alloc: Global, round: &Round) -> Result<RunRecord, Fail> {
+fn run_of(alloc: Global, round: &Round, gauges: Gauges) -> Result<RunRecord, Fail> {
     let turns = match round.seed {
         Some(seed) => by_chance(alloc, seed, round.count)?,
         None => in_turn(alloc, round.count)?,
     };
-    Ok(run(alloc, places_of(round.start), 0, turns.as_slice())??)
+    Ok(run(alloc, gauges, places_of(round.start), 0, turns.as_slice())??)
 }
 
 // Whether no machine was stopped in a run, and it ended as its round says.
@@ -149,11 +150,10 @@ fn ends_so(round: &Round, record: &RunRecord) -> bool {
 #[test]
 fn rounds_end_so(rt: HostRuntime) -> Result<(), Fail> {
     for round in ROUNDS {
-        assert!(rt;
-            ends_so(round, &run_of(rt.alloc(), round)?),
-            "{}",
-            round.count
-        );
+        for gauges in GAUGES {
+            let record = run_of(rt.alloc(), round, gauges)?;
+            assert!(rt; ends_so(round, &record), "{}", round.count);
+        }
     }
     Ok(())
 }
@@ -171,7 +171,8 @@ fn walks_end_so(rt: HostRuntime) -> Result<(), Fail> {
             done: None,
             axes: None,
         };
-        assert!(rt; ends_so(&round, &run_of(rt.alloc(), &round)?), "{seed}");
+        let record = run_of(rt.alloc(), &round, Gauges::Lines)?;
+        assert!(rt; ends_so(&round, &record), "{seed}");
     }
     Ok(())
 }
