@@ -7,23 +7,28 @@ mod interlock;
 
 use csv::{Record, Records};
 use interlock::{Answer, Call, LAST_STAMP, Machine, Refusal, State, owner_word};
-use std::fmt::Write as _;
-use std::io::{Read, Write};
+use std::fmt::{self, Display, Formatter};
+use std::io::{self, BufWriter, Read, Write};
 
-fn word(answer: Answer) -> String {
-    match answer {
-        Answer::Done => "done".to_string(),
-        Answer::Shown(at) => format!("zone {} {} {}", owner_word(at.owner), u8::from(at.flag), at.posture.word()),
-        Answer::Refused(refusal) => refused(refusal),
+/// An answer, as a replay writes it.
+struct Words(Answer);
+
+impl Display for Words {
+    fn fmt(&self, text: &mut Formatter<'_>) -> fmt::Result {
+        match self.0 {
+            Answer::Done => text.write_str("done"),
+            Answer::Shown(at) => write!(text, "zone {} {} {}", owner_word(at.owner), u8::from(at.flag), at.posture.word()),
+            Answer::Refused(refusal) => write_refusal(text, refusal),
+        }
     }
 }
 
-fn refused(refusal: Refusal) -> String {
-    let alone = match refusal {
-        Refusal::Held(machine) => return format!("held {}", machine.word()),
-        Refusal::NotOwner(owner) => return format!("notowner {}", owner_word(owner)),
-        Refusal::Shut(posture) => return format!("shut {}", posture.word()),
-        Refusal::PlateIn(zone) => return format!("platein {}", zone.word()),
+fn write_refusal(text: &mut Formatter<'_>, refusal: Refusal) -> fmt::Result {
+    text.write_str(match refusal {
+        Refusal::Held(machine) => return write!(text, "held {}", machine.word()),
+        Refusal::NotOwner(owner) => return write!(text, "notowner {}", owner_word(owner)),
+        Refusal::Shut(posture) => return write!(text, "shut {}", posture.word()),
+        Refusal::PlateIn(zone) => return write!(text, "platein {}", zone.word()),
         Refusal::NotParty => "notparty",
         Refusal::Already => "already",
         Refusal::NoPlate => "noplate",
@@ -34,8 +39,7 @@ fn refused(refusal: Refusal) -> String {
         Refusal::NoPose => "nopose",
         Refusal::Worn => "worn",
         Refusal::InUse => "inuse",
-    };
-    alone.to_string()
+    })
 }
 
 fn word_of(field: &[u8]) -> Option<&str> {
@@ -63,54 +67,93 @@ fn call_of(record: &Record) -> Option<(Machine, Call)> {
     }
 }
 
-/// Adds the lines to the text; the error is the fault. Of a cut script the last record isn't answered.
-fn tell(text: &mut String, mut records: Records, is_cut: bool) -> Result<(), String> {
-    let long = || Err("long".to_string());
-    let mut record = Record::default();
-    let mut left = usize::MAX;
-    if is_cut {
-        let mut all = records.clone();
-        left = std::iter::repeat_with(|| all.read(&mut record)).take_while(|is_there| *is_there).count().saturating_sub(1);
+/// Why a replay ends early.
+enum Fault {
+    Script(String),
+    Read,
+    Write,
+}
+
+fn script(fault: &str) -> Result<(), Fault> {
+    Err(Fault::Script(fault.to_string()))
+}
+
+/// The records of a script. One is held back, since the last one of a cut script isn't answered.
+struct Script<R> {
+    records: Records<R>,
+    held: Record,
+    holds: bool,
+    is_cut: bool,
+}
+
+impl<R: Read> Script<R> {
+    fn new(input: R) -> io::Result<Script<R>> {
+        let mut script = Script { records: Records::new(input, 4_194_304)?, held: Record::default(), holds: false, is_cut: false };
+        script.read_ahead()?;
+        Ok(script)
     }
-    if left == 0 || !records.read(&mut record) {
-        return if is_cut { long() } else { Err("nostart".to_string()) };
+
+    fn read_ahead(&mut self) -> io::Result<()> {
+        self.holds = self.records.read(&mut self.held)?;
+        if !self.holds {
+            self.is_cut = self.records.is_cut()?;
+        }
+        Ok(())
+    }
+
+    /// Reads the next record into this one. Is false where none is left.
+    fn next(&mut self, record: &mut Record) -> io::Result<bool> {
+        if !self.holds {
+            return Ok(false);
+        }
+        std::mem::swap(record, &mut self.held);
+        self.read_ahead()?;
+        Ok(self.holds || !self.is_cut)
+    }
+}
+
+/// Answers the records; each line is written when it is known. They go out together, and before the
+/// input is waited for.
+fn tell(input: impl Read, output: &mut impl Write) -> Result<(), Fault> {
+    let mut records = Script::new(input).map_err(|_| Fault::Read)?;
+    let mut record = Record::default();
+    if !records.next(&mut record).map_err(|_| Fault::Read)? {
+        return script(if records.is_cut { "long" } else { "nostart" });
     }
     if record.field(0) != Some(b"start") {
-        return Err("nostart".to_string());
+        return script("nostart");
     }
     let Some(mut state) = start(&record) else {
-        return Err("badstart".to_string());
+        return script("badstart");
     };
-    let _ = writeln!(text, "0 {} start {}", state.stamp, state.plates());
-    for number in 1..left {
-        if !records.read(&mut record) {
+    writeln!(output, "0 {} start {}", state.stamp, state.plates()).map_err(|_| Fault::Write)?;
+    for number in 1.. {
+        if cfg!(flush_each_line) || !records.records.has_line() {
+            output.flush().map_err(|_| Fault::Write)?;
+        }
+        if !records.next(&mut record).map_err(|_| Fault::Read)? {
             break;
         }
         if number > 65_536 {
-            return long();
+            return script("long");
         }
         let Some((machine, call)) = call_of(&record) else {
-            return Err(format!("badrow {number}"));
+            return Err(Fault::Script(format!("badrow {number}")));
         };
         let answer = state.apply(machine, call);
-        let _ = writeln!(text, "{number} {} {}", state.stamp, word(answer));
+        writeln!(output, "{number} {} {}", state.stamp, Words(answer)).map_err(|_| Fault::Write)?;
     }
-    if is_cut { long() } else { Ok(()) }
+    if records.is_cut { script("long") } else { Ok(()) }
 }
 
 fn main() -> std::process::ExitCode {
-    let mut input = Vec::new();
-    if std::io::stdin().take(4_194_305).read_to_end(&mut input).is_err() {
-        println!("fault read");
-        return 1.into();
-    }
-    let is_cut = input.len() > 4_194_304;
-    input.truncate(4_194_304);
-    let mut text = String::new();
-    let end = tell(&mut text, Records::new(&input), is_cut);
-    if let Err(fault) = &end {
-        let _ = writeln!(text, "fault {fault}");
-    }
-    let written = std::io::stdout().write_all(text.as_bytes());
+    let mut output = BufWriter::new(io::stdout().lock());
+    let end = tell(io::stdin().lock(), &mut output);
+    let written = match &end {
+        Ok(()) | Err(Fault::Write) => Ok(()),
+        Err(Fault::Read) => writeln!(output, "fault read"),
+        Err(Fault::Script(fault)) => writeln!(output, "fault {fault}"),
+    };
+    let written = written.and_then(|()| output.flush());
     u8::from(end.is_err() || written.is_err()).into()
 }
