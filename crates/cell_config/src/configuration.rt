@@ -23,7 +23,7 @@ use std::io::Read;
 use toml::Table;
 
 /// The most bytes of a configuration.
-const MOST_BYTES: usize = 2_097_152;
+const MAX_BYTES: usize = 2_097_152;
 
 /// What a run begins with.
 #[derive(Debug, PartialEq, Eq, Drop)]
@@ -53,7 +53,7 @@ pub fn read_config<R: Read>(alloc: Global, reader: &mut R) -> Result<Config, Con
     ensures curves { IfOk result (λ config. AreCurvesOf config.points config.curves) }
     ensures taken { TakesAtMost (R.remaining reader.old) (R.remaining reader.new) most_bytes_read }
 {
-    let bytes = match read_up_to(alloc, reader, MOST_BYTES + 1) {
+    let bytes = match read_up_to(alloc, reader, MAX_BYTES + 1) {
         Ok(bytes) => bytes,
         Err(InputFault::Read) => return Err(ConfigFault::Read),
         Err(InputFault::Memory) => return Err(ConfigFault::Memory),
@@ -70,7 +70,7 @@ fn config_of(alloc: Global, bytes: &[u8]) -> Result<Config, ConfigFault>
     ensures points { IfOk result (λ config. AreAxisScales config.points) }
     ensures curves { IfOk result (λ config. AreCurvesOf config.points config.curves) }
 {
-    if bytes.len() > MOST_BYTES {
+    if bytes.len() > MAX_BYTES {
         return Err(ConfigFault::Long);
     }
     match toml::table_from_slice(alloc, bytes) {

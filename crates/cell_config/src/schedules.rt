@@ -14,7 +14,7 @@ use std::alloc::Global;
 use toml::Table;
 
 /// The most letters of a schedule.
-const MOST_LETTERS: usize = 1_000_000;
+const MAX_LETTERS: usize = 1_000_000;
 
 /// How many ASCII characters there are.
 const ASCII: usize = 128;
@@ -67,7 +67,7 @@ fn turn_by(turns: &[Option<Turn>; ASCII], letter: char) -> Option<Turn>
 fn is_too_long(text: &str) -> bool
     ensures { result ≡ nat_lt letters.most_letters (length (chars text.now)) }
 {
-    text.len() > MOST_LETTERS && text.chars().count() > MOST_LETTERS
+    text.len() > MAX_LETTERS && text.chars().count() > MAX_LETTERS
 }
 
 /// The turns of a text of letters.

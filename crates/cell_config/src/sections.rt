@@ -23,7 +23,7 @@ const RAW: (u16, u16) = (0, 4000);
 const TOL: u32 = 5;
 
 /// The most pairs of a curve.
-const MOST_PAIRS: usize = 32;
+const MAX_PAIRS: usize = 32;
 
 /// The numbers of an array of exactly two whole numbers.
 fn pair_of(value: &Value) -> Option<(i64, i64)>
@@ -127,14 +127,14 @@ fn pairs_in(value: &Value) -> Option<&[Value]>
 }
 
 /// An array that begins with the measured pairs of some values, or none if one doesn't fit.
-fn measured_pairs(values: &[Value]) -> Option<[(u16, i32); MOST_PAIRS]>
+fn measured_pairs(values: &[Value]) -> Option<[(u16, i32); MAX_PAIRS]>
     requires { length values.now ≤ 32 }
     ensures { MatchOption result
         (list_all settings.is_measured (map view values.now) ≡ false)
         (λ pairs. (list_all settings.is_measured (map view values.now) ≡ true)
         × (take (length values.now) pairs ≡ filter_map settings.measured_of (map view values.now))) }
 {
-    let mut pairs = [(0, 0); MOST_PAIRS];
+    let mut pairs = [(0, 0); MAX_PAIRS];
     'values: for i in 0..values.len() {
         let Some(pair) = measured_of(&values[i]) else {
             return None;
@@ -165,7 +165,7 @@ fn curve_within(points: Points, values: &[Value]) -> Result<Curve, ConfigFault>
         (λ fault. settings.curve_within points (map view values.now) ≡ Err fault) }
     ensures scale { IfOk result (λ c. c.scale ≡ points) }
 {
-    if values.len() > MOST_PAIRS {
+    if values.len() > MAX_PAIRS {
         return Err(ConfigFault::Range);
     }
     let Some(pairs) = measured_pairs(values) else {

@@ -36,7 +36,7 @@ impl Axis {
     }
 
     /// The axis a tick later. If its motor is on, it has moved on, but not past its end.
-    pub(crate) fn moved(self, end: i32) -> Axis
+    pub(crate) fn after_tick(self, end: i32) -> Axis
         requires within { IsWithin end self.position }
         requires length { end ≤ℤ rotation_end }
         ensures value { result ≡ moved_axis end self }

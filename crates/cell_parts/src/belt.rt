@@ -74,21 +74,21 @@ impl Belt {
     }
 
     /// The belt a tick later. If it runs, it has carried its plates.
-    pub(crate) fn moved(self) -> Belt
+    pub(crate) fn after_tick(self) -> Belt
         ensures { result ≡ moved_belt self }
     {
         if !self.runs {
             return self;
         }
         Belt {
-            entry: carried(self.entry),
-            last: carried(self.last),
+            entry: plate_after_tick(self.entry),
+            last: plate_after_tick(self.last),
             ..self
         }
     }
 
     /// The belt with a new plate at its entry.
-    pub(crate) fn loaded(self) -> Belt
+    pub(crate) fn with_plate_at_entry(self) -> Belt
         ensures { result ≡ loaded_belt self }
     {
         Belt {
@@ -98,7 +98,7 @@ impl Belt {
     }
 
     /// The belt after its entry's plate has become its end's plate, at the same position.
-    pub(crate) fn advanced(self) -> Belt
+    pub(crate) fn with_plate_at_end(self) -> Belt
         ensures { result ≡ advanced self }
     {
         Belt {
@@ -109,7 +109,7 @@ impl Belt {
     }
 
     /// The belt without the plate at its end.
-    pub(crate) fn unloaded(self) -> Belt
+    pub(crate) fn without_plate_at_end(self) -> Belt
         ensures { result ≡ unloaded_belt self }
     {
         Belt { last: None, ..self }
@@ -127,7 +127,7 @@ fn is_in_barrier(plate: Option<i32>) -> bool
 }
 
 // The plate after its belt has run for a tick.
-fn carried(plate: Option<i32>) -> Option<i32>
+fn plate_after_tick(plate: Option<i32>) -> Option<i32>
     ensures { result ≡ moved_plate plate }
 {
     match plate {

@@ -23,7 +23,7 @@ use std::alloc::{AllocError, Global};
 use std::io::Write;
 
 /// The most records after record 0 that are answered.
-const MOST_RECORDS: u32 = 65_536;
+const MAX_RECORDS: u32 = 65_536;
 
 /// Writes the lines of the records that are left, the first of which is record 0. Returns how the
 /// script ends.
@@ -75,7 +75,7 @@ fn answer_later<L: LentReader, K: Origin, W: Write>(
 {
     let mut state = start;
     let mut line = String::new(alloc);
-    'rows: for done in 0..MOST_RECORDS {
+    'rows: for done in 0..MAX_RECORDS {
         if flush_at_pause(records, writer).is_err() {
             return Err(ReplayFault::Write);
         }

@@ -9,13 +9,13 @@ use cell_rules::{PLACES, State, read_places};
 use csv::ByteRecord;
 
 /// The most digits of a stamp.
-const MOST_DIGITS: usize = 7;
+const MAX_DIGITS: usize = 7;
 
 /// The number that one to seven digits write; `None` for other bytes.
 fn read_number(field: &[u8]) -> Option<u32>
     ensures { result ≡ script.number_in field.now }
 {
-    if field.is_empty() || field.len() > MOST_DIGITS {
+    if field.is_empty() || field.len() > MAX_DIGITS {
         return None;
     }
     let mut number = 0u32;

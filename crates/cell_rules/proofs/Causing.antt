@@ -20,7 +20,7 @@ use Rattle.cell_rules.specs.ModelState.{ModelState, zone_at, is_full}
 use Rattle.cell_rules.specs.PlaceSet.{has}
 use Rattle.cell_rules.specs.Sound.{is_party}
 use Rattle.cell_rules.specs.Refusals
-use Rattle.cell_rules.specs.Refusals.{owner_of, posture_at, owns, given_by, gift}
+use Rattle.cell_rules.specs.Refusals.{owner_of, posture_at, owns, given_by, transfer_given}
 use Rattle.cell_rules.specs.Causes.{parties_of, gift_of, is_stranger, is_in_use, is_shut, on_way, claim_cause, give_cause, yield_cause, take_cause, release_cause}
 use Rattle.cell_rules.proofs.Tables.{and_left, and_right, all_machines, from_machines, all_zones, from_zones, all_postures, from_postures}
 use Rattle.cell_rules.proofs.Chains.{chain, numbers, Tells, TellEach, First, is_among, told_by, first_by}
@@ -141,7 +141,7 @@ give_named s m z _ k = cc
 pub give_tells : (s : ModelState) (m : Machine) (z : Zone) → s.stamp ≤ 1048575 → TellsRight (give_cause s m z) (1 ∷ 5 ∷ 6 ∷ 9 ∷ 7 ∷ 8 ∷ 13 ∷ []) (Refusals.give_refusal s m z)
 give_tells s m z small =
     let causes = give_cause s m z in
-    let row = gift s m z in
+    let row = transfer_given s m z in
     let way = gift_is m z (posture_at s z) in
     let lines : List (ℕ × Option Refusal) = (1, Refusals.not_party m z) ∷ (5, Refusals.not_owner s m z) ∷ (6, Refusals.plate_in_zone s z) ∷ (9, Refusals.wrong_way row) ∷ (7, Refusals.nothing_to_give s row) ∷ (8, Refusals.no_room s row) ∷ (13, Refusals.worn s) ∷ [] in
     by_lines causes lines (

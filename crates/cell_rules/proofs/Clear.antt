@@ -22,7 +22,7 @@ use Rattle.cell_types.specs.Same.{same_machine, same_zone, same_posture, same_po
 use Rattle.cell_rules.specs.PlaceSet.{PlaceSet, has}
 use Rattle.cell_rules.specs.ModelState.{ModelState, zone_at, is_full, one_if}
 use Rattle.cell_rules.specs.Sound.{implies, is_party}
-use Rattle.cell_rules.specs.Refusals.{owns, owner_of, posture_at, gift, given_by, give_refusal, yield_refusal, release_refusal, pose_refusal}
+use Rattle.cell_rules.specs.Refusals.{owns, owner_of, posture_at, transfer_given, given_by, give_refusal, yield_refusal, release_refusal, pose_refusal}
 use Rattle.cell_rules.specs.Reply.{reply, changed, next, next_by, emptied, filled, is_belt_of}
 use Rattle.cell_rules.specs.History.{after, posture_given, plates_at}
 use Rattle.cell_rules.specs.Laws.{OneHolder, PlatesAreKept, PostureByEvents, RunsClear, BeltsRunClear}
@@ -88,14 +88,14 @@ deposit_starts _ _ _ onto e r = cc
 
 -- a place that is full after a give was full
 was_full : (s : ModelState) (m : Machine) (z : Zone) (p : Place) → is_full (changed s m (Give z)) p ≡ true → is_full s p ≡ true
-was_full s m z p e = implied (is_full (changed s m (Give z)) p) (is_full s p) (emptied_fewer s.full (gift s m z) p) e
+was_full s m z p e = implied (is_full (changed s m (Give z)) p) (is_full s p) (emptied_fewer s.full (transfer_given s m z) p) e
 
 feed_clear : (s : ModelState) (m : Machine) (c : Call) → RunsClear s → reply s m c ≡ Done → posture_given m c Z6 (posture_at s Z6) ≡ Moving → is_full (changed s m c) FeedEnd ≡ true → owns (changed s m c) Feed Z1 ≡ true
 feed_clear s m (Claim Z1) r e moving full = let own = r.feed moving full in let free = claim_unowned s m Z1 e Feed in cc
 feed_clear s m (Claim _) r e moving full = r.feed moving full
 feed_clear s m (Give Z1) r e moving full =
     let may = (give_done s m Z1 (done_none (give_refusal s m Z1) e)).0 in
-    let empty = gone s.full (posture_at s Z1) m (fourth (is_party m Z1) (owns s m Z1) (not (zone_at s Z1).flag) (is_some (gift s m Z1)) may) in
+    let empty = gone s.full (posture_at s Z1) m (fourth (is_party m Z1) (owns s m Z1) (not (zone_at s Z1).flag) (is_some (transfer_given s m Z1)) may) in
     cc
 feed_clear s m (Give z) r e moving full = r.feed moving (was_full s m z FeedEnd full)
 feed_clear s m (Yield Z1) r e moving full =

@@ -114,9 +114,9 @@ pub some_unless : (o : Option Transfer) → Refusals.wrong_way o ≡ None → is
 some_unless None e = cc
 some_unless (Some row) e = refl
 
-pub give_done : (s : ModelState) (m : Machine) (z : Zone) → Refusals.give_refusal s m z ≡ None → (may_give (zone_at s z) m z ≡ true) × (Refusals.no_room s (Refusals.gift s m z) ≡ None) × (s.stamp < 1048575)
+pub give_done : (s : ModelState) (m : Machine) (z : Zone) → Refusals.give_refusal s m z ≡ None → (may_give (zone_at s z) m z ≡ true) × (Refusals.no_room s (Refusals.transfer_given s m z) ≡ None) × (s.stamp < 1048575)
 give_done s m z e =
-    let row = Refusals.gift s m z in
+    let row = Refusals.transfer_given s m z in
     let r1 = Refusals.not_party m z in
     let r2 = Refusals.◌or◌ r1 (Refusals.not_owner s m z) in
     let r3 = Refusals.◌or◌ r2 (Refusals.plate_in_zone s z) in

@@ -14,7 +14,7 @@ use Rattle.cell_rules.specs.declared.zones.ZoneState.{ZoneState}
 use Rattle.cell_rules.specs.PlaceSet.{PlaceSet, has}
 use Rattle.cell_rules.specs.ModelState.{ModelState, zone_at}
 use Rattle.cell_rules.specs.Sound.{IsSound, implies, is_onto_full, is_party, is_owned_by}
-use Rattle.cell_rules.specs.Refusals.{give_refusal, take_refusal, gift, given_by, no_room}
+use Rattle.cell_rules.specs.Refusals.{give_refusal, take_refusal, transfer_given, given_by, no_room}
 use Rattle.cell_rules.specs.Reply.{changed, other_party, emptied, filled}
 use Rattle.cell_rules.proofs.Tables.{all_bools, from_bools, all_zones, from_zones, all_states, from_states, all_postures, from_postures, implied, and_both}
 use Rattle.cell_rules.proofs.Puts.{zone_in-kept, put_cases, has-put}
@@ -109,7 +109,7 @@ give_keeps s m z h e =
     let may = give_done s m z e in
     let small : s.stamp + 1 ≤ 1048575 = omega arith in
     let v = zone_at s z in
-    let row = gift s m z in
+    let row = transfer_given s m z in
     let full = emptied s.full row in
     let after : (y : Zone) → lawful_in full y (zone_at s y) ≡ true = λ y.
     lawful_less (is_onto_full full (transfer_of y (zone_at s y).posture)) (is_onto_full s.full (transfer_of y (zone_at s y).posture)) (has full PressIn) (has s.full PressIn) (has full PressOut) (has s.full PressOut) y (zone_at s y)

@@ -18,17 +18,17 @@ use Rattle.cell_rules.proofs.Holders.{owner_is}
 -- ---- a give: the zone is clear and the plate at its start
 pub record Gives (s : ModelState) (m : Machine) (z : Zone) : Type 0 where
   pub row : Transfer
-  pub way : Refusals.gift s m z ≡ Some row
+  pub way : Refusals.transfer_given s m z ≡ Some row
   pub there : is_full s row.from ≡ true
   pub clear : (zone_at s z).flag ≡ false
 
-gives_by : (s : ModelState) (m : Machine) (z : Zone) (row : Option Transfer) → Refusals.gift s m z ≡ row → is_some row ≡ true → Refusals.nothing_to_give s row ≡ None → (zone_at s z).flag ≡ false → Gives s m z
+gives_by : (s : ModelState) (m : Machine) (z : Zone) (row : Option Transfer) → Refusals.transfer_given s m z ≡ row → is_some row ≡ true → Refusals.nothing_to_give s row ≡ None → (zone_at s z).flag ≡ false → Gives s m z
 gives_by s m z None way some there clear = cc
 gives_by s m z (Some row) way some there clear = record { row = row; way = way; there = none_then_not (is_full s row.from) NoPlate there; clear = clear }
 
 pub give_finds : (s : ModelState) (m : Machine) (z : Zone) → Refusals.give_refusal s m z ≡ None → Gives s m z
 give_finds s m z e =
-    let row = Refusals.gift s m z in
+    let row = Refusals.transfer_given s m z in
     let r2 = Refusals.◌or◌ (Refusals.not_party m z) (Refusals.not_owner s m z) in
     let r3 = Refusals.◌or◌ r2 (Refusals.plate_in_zone s z) in
     let r4 = Refusals.◌or◌ r3 (Refusals.wrong_way row) in

@@ -86,8 +86,8 @@ abbrev pub given_by : Machine → Option Transfer → Option Transfer
 given_by m None = None
 given_by m (Some row) = if same_machine row.giver m then Some row else None
 
-abbrev pub gift : ModelState → Machine → Zone → Option Transfer
-gift s m z = given_by m (transfer_of z (posture_at s z))
+abbrev pub transfer_given : ModelState → Machine → Zone → Option Transfer
+transfer_given s m z = given_by m (transfer_of z (posture_at s z))
 
 -- in this posture the caller gives in no row
 abbrev pub wrong_way : Option Transfer → Option Refusal
@@ -212,9 +212,9 @@ give_refusal s m z =
     not_party m z
     or not_owner s m z
     or plate_in_zone s z
-    or wrong_way (gift s m z)
-    or nothing_to_give s (gift s m z)
-    or no_room s (gift s m z)
+    or wrong_way (transfer_given s m z)
+    or nothing_to_give s (transfer_given s m z)
+    or no_room s (transfer_given s m z)
     or worn s
 
 abbrev pub yield_refusal : ModelState → Machine → Zone → Option Refusal

@@ -19,7 +19,7 @@ use Rattle.cell_rules.specs.declared.zones.ZoneState.{ZoneState}
 use Rattle.cell_rules.specs.ZoneMap.{ZoneMap, put_zone, map_zones}
 use Rattle.cell_rules.specs.PlaceSet.{PlaceSet, insert_place, remove_place}
 use Rattle.cell_rules.specs.ModelState.{ModelState, zone_at}
-use Rattle.cell_rules.specs.Refusals.{claim_refusal, give_refusal, yield_refusal, take_refusal, release_refusal, pose_refusal, advance_refusal, gift, posture_at}
+use Rattle.cell_rules.specs.Refusals.{claim_refusal, give_refusal, yield_refusal, take_refusal, release_refusal, pose_refusal, advance_refusal, transfer_given, posture_at}
 
 -- the first refusal of a call
 abbrev pub refusal : ModelState → Machine → Call → Option Refusal
@@ -86,7 +86,7 @@ zones_after s m Advance = map_zones (halted m) s.zones
 zones_after s m (Inquire z) = s.zones
 
 abbrev pub places_after : ModelState → Machine → Call → PlaceSet
-places_after s m (Give z) = emptied s.full (gift s m z)
+places_after s m (Give z) = emptied s.full (transfer_given s m z)
 places_after s m (Take z) = filled s.full (transfer_of z (posture_at s z))
 places_after s m Advance = worked s.full (work_of m)
 places_after s m _ = s.full

@@ -1,6 +1,6 @@
 ghost use Rattle.cell_rules.specs.Stored.{IsHistory};
 
-use crate::answers::{answer, settle};
+use crate::answers::{answer, apply_answer};
 use crate::heard::{Heard, LineFault};
 use crate::line::Line;
 use crate::state::State;
@@ -94,7 +94,7 @@ impl Bench {
         };
         match self.history.push(event) {
             Ok(()) => {
-                settle(&mut self.state, machine, call, answer);
+                apply_answer(&mut self.state, machine, call, answer);
                 Ok(Reply::Settled(answer, self.state.stamp()))
             }
             Err(_) => Err(LineFault::Memory),

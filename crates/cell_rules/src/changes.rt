@@ -18,7 +18,7 @@ pub fn other_party(machine: Machine, zone: Zone) -> Machine
     }
 }
 
-fn posed(machine: Machine, pose: Pose, zone: Zone, at: ZoneState) -> ZoneState
+fn zone_after_pose(machine: Machine, pose: Pose, zone: Zone, at: ZoneState) -> ZoneState
     ensures { result ≡ replies.posed machine pose zone at }
 {
     ZoneState {
@@ -27,7 +27,7 @@ fn posed(machine: Machine, pose: Pose, zone: Zone, at: ZoneState) -> ZoneState
     }
 }
 
-fn halted(machine: Machine, zone: Zone, at: ZoneState) -> ZoneState
+fn zone_after_halt(machine: Machine, zone: Zone, at: ZoneState) -> ZoneState
     ensures { result ≡ replies.halted machine zone at }
 {
     let is_belt = machine == Machine::Feed || machine == Machine::Deposit;
@@ -42,36 +42,36 @@ fn halted(machine: Machine, zone: Zone, at: ZoneState) -> ZoneState
 }
 
 impl Zones {
-    pub(crate) fn posed(&self, machine: Machine, pose: Pose) -> Zones
+    pub(crate) fn after_pose(&self, machine: Machine, pose: Pose) -> Zones
         ensures { result ≡ map_zones (replies.posed machine pose) self.now }
     {
         Zones {
-            z1: posed(machine, pose, Zone::Z1, self.z1),
-            z2: posed(machine, pose, Zone::Z2, self.z2),
-            z3: posed(machine, pose, Zone::Z3, self.z3),
-            z4: posed(machine, pose, Zone::Z4, self.z4),
-            z5: posed(machine, pose, Zone::Z5, self.z5),
-            z6: posed(machine, pose, Zone::Z6, self.z6),
+            z1: zone_after_pose(machine, pose, Zone::Z1, self.z1),
+            z2: zone_after_pose(machine, pose, Zone::Z2, self.z2),
+            z3: zone_after_pose(machine, pose, Zone::Z3, self.z3),
+            z4: zone_after_pose(machine, pose, Zone::Z4, self.z4),
+            z5: zone_after_pose(machine, pose, Zone::Z5, self.z5),
+            z6: zone_after_pose(machine, pose, Zone::Z6, self.z6),
         }
     }
 
-    pub(crate) fn halted(&self, machine: Machine) -> Zones
+    pub(crate) fn after_halt(&self, machine: Machine) -> Zones
         ensures { result ≡ map_zones (replies.halted machine) self.now }
     {
         Zones {
-            z1: halted(machine, Zone::Z1, self.z1),
-            z2: halted(machine, Zone::Z2, self.z2),
-            z3: halted(machine, Zone::Z3, self.z3),
-            z4: halted(machine, Zone::Z4, self.z4),
-            z5: halted(machine, Zone::Z5, self.z5),
-            z6: halted(machine, Zone::Z6, self.z6),
+            z1: zone_after_halt(machine, Zone::Z1, self.z1),
+            z2: zone_after_halt(machine, Zone::Z2, self.z2),
+            z3: zone_after_halt(machine, Zone::Z3, self.z3),
+            z4: zone_after_halt(machine, Zone::Z4, self.z4),
+            z5: zone_after_halt(machine, Zone::Z5, self.z5),
+            z6: zone_after_halt(machine, Zone::Z6, self.z6),
         }
     }
 }
 
 impl Places {
     /// The set after a plate has left the giving place of its way.
-    pub(crate) fn emptied(mut self, row: Option<Transfer>) -> Places
+    pub(crate) fn after_give(mut self, row: Option<Transfer>) -> Places
         ensures { result ≡ replies.emptied self row }
     {
         if let Some(row) = row {
@@ -81,7 +81,7 @@ impl Places {
     }
 
     /// The set after a plate has come to the receiving place of its way.
-    pub(crate) fn filled(mut self, row: Option<Transfer>) -> Places
+    pub(crate) fn after_take(mut self, row: Option<Transfer>) -> Places
         ensures { result ≡ replies.filled self row }
     {
         if let Some(row) = row {
@@ -91,7 +91,7 @@ impl Places {
     }
 
     /// The set after a machine has moved its plate.
-    pub(crate) fn worked(mut self, way: Option<(Place, Place)>) -> Places
+    pub(crate) fn after_work(mut self, way: Option<(Place, Place)>) -> Places
         ensures { result ≡ replies.worked self way }
     {
         if let Some((from, to)) = way {

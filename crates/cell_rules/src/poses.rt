@@ -154,7 +154,7 @@ impl State {
             .or(self.jump(machine, pose))
             .or(self.any_opens_onto_plate(machine, pose))
             .or(self.runs_onto_plate(machine, pose))
-            .or(self.worn())
+            .or(self.worn_refusal())
     }
 
     fn press_unowned(&self, machine: Machine) -> Option<Refusal>
@@ -205,6 +205,6 @@ impl State {
             .or(self.not_at_work(machine))
             .or(self.nothing_to_work(work(machine)))
             .or(self.no_room_for_work(work(machine)))
-            .or(self.worn())
+            .or(self.worn_refusal())
     }
 }

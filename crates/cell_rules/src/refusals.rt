@@ -60,7 +60,7 @@ impl State {
         self.owns(machine, zone).then_some(Refusal::AlreadyMine)
     }
 
-    fn held(&self, machine: Machine, zone: Zone) -> Option<Refusal>
+    fn held_refusal(&self, machine: Machine, zone: Zone) -> Option<Refusal>
         ensures { result ≡ refusals.held self.now machine zone }
     {
         match self.owner(zone) {
@@ -76,7 +76,7 @@ impl State {
         (machine == guest(zone) && !is_open(posture)).then_some(Refusal::Shut(posture))
     }
 
-    pub(crate) fn worn(&self) -> Option<Refusal>
+    pub(crate) fn worn_refusal(&self) -> Option<Refusal>
         ensures { result ≡ refusals.worn self.now }
     {
         (!(self.stamp() < LAST_STAMP)).then_some(Refusal::Worn)
@@ -111,7 +111,7 @@ impl State {
         in_use.then_some(Refusal::InUse)
     }
 
-    fn shut(&self, zone: Zone) -> Option<Refusal>
+    fn shut_refusal(&self, zone: Zone) -> Option<Refusal>
         ensures { result ≡ refusals.shut self.now zone }
     {
         let posture = self.posture(zone);
@@ -119,8 +119,8 @@ impl State {
     }
 
     /// The way of a plate that a machine can give.
-    pub(crate) fn gift(&self, machine: Machine, zone: Zone) -> Option<Transfer>
-        ensures { result ≡ refusals.gift self.now machine zone }
+    pub(crate) fn transfer_given(&self, machine: Machine, zone: Zone) -> Option<Transfer>
+        ensures { result ≡ refusals.transfer_given self.now machine zone }
     {
         match transfer(zone, self.posture(zone)) {
             Some(row) if row.giver == machine => Some(row),
@@ -148,7 +148,7 @@ impl State {
             wrong_way(row),
             self.nothing_to_give(row),
             self.no_room(row),
-            self.worn()
+            self.worn_refusal()
         )
     }
 
@@ -164,9 +164,9 @@ impl State {
         first!(
             not_party(machine, zone),
             self.already_mine(machine, zone),
-            self.held(machine, zone),
+            self.held_refusal(machine, zone),
             self.shut_to_guest(machine, zone),
-            self.worn()
+            self.worn_refusal()
         )
     }
 
@@ -177,7 +177,7 @@ impl State {
             not_party(machine, zone),
             self.not_owner(machine, zone),
             self.plate_in_zone(zone),
-            self.way_refusal(self.gift(machine, zone))
+            self.way_refusal(self.transfer_given(machine, zone))
         )
     }
 
@@ -188,9 +188,9 @@ impl State {
             not_party(machine, zone),
             self.not_owner(machine, zone),
             self.plate_in_zone(zone),
-            self.shut(zone),
+            self.shut_refusal(zone),
             self.in_use(machine, zone),
-            self.worn()
+            self.worn_refusal()
         )
     }
 
@@ -201,7 +201,7 @@ impl State {
             not_party(machine, zone),
             self.not_owner(machine, zone),
             self.no_plate_in_zone(zone),
-            self.worn()
+            self.worn_refusal()
         )
     }
 
@@ -214,7 +214,7 @@ impl State {
             self.plate_in_zone(zone),
             self.shut_while_moving(zone),
             self.in_use(machine, zone),
-            self.worn()
+            self.worn_refusal()
         )
     }
 }

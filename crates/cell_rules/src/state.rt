@@ -56,7 +56,7 @@ impl State {
         {
             Ok(State {
                 stamp,
-                zones: Zones::free(),
+                zones: Zones::all_free(),
                 full,
             })
         } else {
@@ -146,19 +146,19 @@ impl State {
     {
         let mut zones = self.zones;
         match call {
-            Call::Claim(zone) => zones.set(zone, self.zone(zone).owned_by(Some(machine))),
+            Call::Claim(zone) => zones.set(zone, self.zone(zone).with_owner(Some(machine))),
             Call::Give(zone) => {
-                let given = self.zone(zone).flagged(true);
-                zones.set(zone, given.owned_by(Some(other_party(machine, zone))));
+                let given = self.zone(zone).with_flag(true);
+                zones.set(zone, given.with_owner(Some(other_party(machine, zone))));
             }
             Call::Yield(zone) => {
                 let other = Some(other_party(machine, zone));
-                zones.set(zone, self.zone(zone).owned_by(other));
+                zones.set(zone, self.zone(zone).with_owner(other));
             }
-            Call::Take(zone) => zones.set(zone, self.zone(zone).flagged(false)),
-            Call::Release(zone) => zones.set(zone, self.zone(zone).owned_by(None)),
-            Call::SetPose(pose) => zones = zones.posed(machine, pose),
-            Call::Advance => zones = zones.halted(machine),
+            Call::Take(zone) => zones.set(zone, self.zone(zone).with_flag(false)),
+            Call::Release(zone) => zones.set(zone, self.zone(zone).with_owner(None)),
+            Call::SetPose(pose) => zones = zones.after_pose(machine, pose),
+            Call::Advance => zones = zones.after_halt(machine),
             Call::Inquire(_) => {}
         }
         zones
@@ -168,15 +168,15 @@ impl State {
         ensures { result ≡ replies.places_after self.now machine call }
     {
         match call {
-            Call::Give(zone) => self.full.emptied(self.gift(machine, zone)),
-            Call::Take(zone) => self.full.filled(transfer(zone, self.posture(zone))),
-            Call::Advance => self.full.worked(work(machine)),
+            Call::Give(zone) => self.full.after_give(self.transfer_given(machine, zone)),
+            Call::Take(zone) => self.full.after_take(transfer(zone, self.posture(zone))),
+            Call::Advance => self.full.after_work(work(machine)),
             _ => self.full,
         }
     }
 
     /// The state after a call that is Done.
-    pub(crate) fn changed(&self, machine: Machine, call: Call) -> State
+    pub(crate) fn after_call(&self, machine: Machine, call: Call) -> State
         requires { replies.reply self.now machine call ≡ Done }
         ensures { result ≡ replies.changed self.now machine call }
     {

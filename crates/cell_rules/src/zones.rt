@@ -18,14 +18,14 @@ pub struct ZoneState {
 
 impl ZoneState {
     /// The same zone state with this owner.
-    pub(crate) fn owned_by(self, owner: Option<Machine>) -> ZoneState
+    pub(crate) fn with_owner(self, owner: Option<Machine>) -> ZoneState
         ensures { result ≡ record self { owner = owner } }
     {
         ZoneState { owner, ..self }
     }
 
     /// The same zone state with this flag.
-    pub(crate) fn flagged(self, flag: bool) -> ZoneState
+    pub(crate) fn with_flag(self, flag: bool) -> ZoneState
         ensures { result ≡ record self { flag = flag } }
     {
         ZoneState { flag, ..self }
@@ -55,7 +55,7 @@ impl Model for Zones {
 
 impl Zones {
     /// All zones free and Closed.
-    pub fn free() -> Zones
+    pub fn all_free() -> Zones
         ensures { result ≡ everywhere free_zone }
     {
         let free = ZoneState {

@@ -5,7 +5,7 @@ ghost use Rattle.cell_types.specs.Answers.{answer_text, owner_word, refusal_word
 use crate::call::Call;
 use crate::machine::Machine;
 use crate::posture::Posture;
-use crate::words::{Worded, named};
+use crate::words::{Worded, find_by_word};
 use crate::zone::Zone;
 use std::fmt;
 
@@ -130,7 +130,7 @@ impl Refusal {
     pub fn read(word: &[u8]) -> Option<Refusal>
         ensures { (refusal : Refusal) → (result ≡ Some refusal) ↔ (word.now ≡ refusal_word refusal) }
     {
-        named(&Refusal::ALL, word)
+        find_by_word(&Refusal::ALL, word)
     }
 }
 

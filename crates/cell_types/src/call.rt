@@ -2,7 +2,7 @@ ghost use Rattle.std.specs.Prelude.{◌≡◌, ◌↔◌, ◌∷◌, [], Some, o
 ghost use Rattle.cell_types.specs.CallWords.{call_fields, verb_of, with_object};
 
 use crate::pose::Pose;
-use crate::words::{Worded, named};
+use crate::words::{Worded, find_by_word};
 use crate::zone::Zone;
 
 /// What a machine asks of the interlock.
@@ -70,7 +70,7 @@ fn read_with(verb: &[u8], object: &[u8]) -> Option<Call>
         Call::Release(zone),
         Call::Inquire(zone),
     ];
-    named(&calls, verb)
+    find_by_word(&calls, verb)
 }
 
 impl Worded for Call {

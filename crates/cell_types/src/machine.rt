@@ -1,7 +1,7 @@
 ghost use Rattle.std.specs.Prelude.{◌≡◌, ◌↔◌};
 ghost use Rattle.cell_types.specs.Words.{machine_word};
 
-use crate::words::{Worded, named};
+use crate::words::{Worded, find_by_word};
 
 /// A machine of the production cell (LNCS 891). The watch is an observer: it only inquires.
 #[derive(Clone, Copy, Debug, PartialEq, Eq, PartialOrd, Ord)]
@@ -53,7 +53,7 @@ impl Machine {
     pub fn read(word: &[u8]) -> Option<Machine>
         ensures { (machine : Machine) → (result ≡ Some machine) ↔ (word.now ≡ machine_word machine) }
     {
-        named(&Machine::ALL, word)
+        find_by_word(&Machine::ALL, word)
     }
 }
 

@@ -1,7 +1,7 @@
 ghost use Rattle.std.specs.Prelude.{◌≡◌, ◌↔◌};
 ghost use Rattle.cell_types.specs.Words.{place_word};
 
-use crate::words::{Worded, named};
+use crate::words::{Worded, find_by_word};
 
 /// A place for one plate.
 #[derive(Clone, Copy, Debug, PartialEq, Eq, PartialOrd, Ord)]
@@ -65,7 +65,7 @@ impl Place {
     pub fn read(word: &[u8]) -> Option<Place>
         ensures { (place : Place) → (result ≡ Some place) ↔ (word.now ≡ place_word place) }
     {
-        named(&Place::ALL, word)
+        find_by_word(&Place::ALL, word)
     }
 }
 

@@ -1,7 +1,7 @@
 ghost use Rattle.std.specs.Prelude.{◌≡◌, ◌↔◌};
 ghost use Rattle.cell_types.specs.Words.{pose_word};
 
-use crate::words::{Worded, named};
+use crate::words::{Worded, find_by_word};
 
 /// A pose of a machine, which gives the zones that it hosts their postures.
 #[derive(Clone, Copy, Debug, PartialEq, Eq)]
@@ -73,7 +73,7 @@ impl Pose {
     pub fn read(word: &[u8]) -> Option<Pose>
         ensures { (pose : Pose) → (result ≡ Some pose) ↔ (word.now ≡ pose_word pose) }
     {
-        named(&Pose::ALL, word)
+        find_by_word(&Pose::ALL, word)
     }
 }
 

@@ -1,7 +1,7 @@
 ghost use Rattle.std.specs.Prelude.{◌≡◌, ◌↔◌};
 ghost use Rattle.cell_types.specs.Words.{posture_word};
 
-use crate::words::{Worded, named};
+use crate::words::{Worded, find_by_word};
 
 /// The posture of a zone, which its host sets.
 #[derive(Clone, Copy, Debug, PartialEq, Eq)]
@@ -41,7 +41,7 @@ impl Posture {
     pub fn read(word: &[u8]) -> Option<Posture>
         ensures { (posture : Posture) → (result ≡ Some posture) ↔ (word.now ≡ posture_word posture) }
     {
-        named(&Posture::ALL, word)
+        find_by_word(&Posture::ALL, word)
     }
 }
 

@@ -15,7 +15,7 @@ pub(crate) trait Worded: Copy {
 }
 
 /// The first of these values that has this word.
-pub(crate) fn named<T: Worded>(all: &[T], word: &[u8]) -> Option<T>
+pub(crate) fn find_by_word<T: Worded>(all: &[T], word: &[u8]) -> Option<T>
     ensures { result ≡ words.named T.word_of all.now word.now }
 {
     all.iter()

@@ -3,7 +3,7 @@ ghost use Rattle.cell_types.specs.Words.{zone_word};
 
 use crate::machine::Machine;
 use crate::place::Place;
-use crate::words::{Worded, named};
+use crate::words::{Worded, find_by_word};
 
 /// A space that two machines share: at most one of them may be in it at a time.
 #[derive(Clone, Copy, Debug, PartialEq, Eq, PartialOrd, Ord)]
@@ -44,7 +44,7 @@ impl Zone {
     pub fn read(word: &[u8]) -> Option<Zone>
         ensures { (zone : Zone) → (result ≡ Some zone) ↔ (word.now ≡ zone_word zone) }
     {
-        named(&Zone::ALL, word)
+        find_by_word(&Zone::ALL, word)
     }
 }
 

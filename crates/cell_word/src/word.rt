@@ -65,7 +65,7 @@ pub(crate) fn zone_told(word: u64, zone: Zone) -> ZoneState
 fn zones_told(word: u64) -> Zones
     ensures { result ≡ reading.zones_told word }
 {
-    let mut zones = Zones::free();
+    let mut zones = Zones::all_free();
     for zone in Zone::ALL {
         zones.set(zone, zone_told(word, zone));
     }

@@ -114,8 +114,8 @@ impl Part for CranePart {
     fn note(&mut self, _event: &Event) {}
 
     fn tick(&mut self, act: &CraneAct) {
-        self.travel = self.travel.set(act.travel).moved(CRANE_END);
-        self.gripper = self.gripper.set(act.height).moved(GRIPPER_END);
+        self.travel = self.travel.set(act.travel).after_tick(CRANE_END);
+        self.gripper = self.gripper.set(act.height).after_tick(GRIPPER_END);
         self.magnet = act.magnet;
     }
 }

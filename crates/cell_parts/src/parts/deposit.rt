@@ -54,23 +54,23 @@ impl Part for DepositPart {
     // The belt notes only its own machine's calls that are Done: a plate came, moved on or left.
     fn note(&mut self, event: &Event) {
         if event.answer == Answer::Done && event.machine == Machine::Deposit {
-            self.belt = called(self.belt, event.call);
+            self.belt = belt_after_call(self.belt, event.call);
         }
     }
 
     fn tick(&mut self, act: &DepositAct) {
-        self.belt = self.belt.set(act.belt).moved();
+        self.belt = self.belt.set(act.belt).after_tick();
     }
 }
 
 // The belt after a Done call of its own machine.
-fn called(belt: Belt, call: Call) -> Belt
+fn belt_after_call(belt: Belt, call: Call) -> Belt
     ensures { result ≡ deposit_called belt call }
 {
     match call {
-        Call::Take(Zone::Z4) => belt.loaded(),
-        Call::Advance => belt.advanced(),
-        Call::Give(Zone::Z5) => belt.unloaded(),
+        Call::Take(Zone::Z4) => belt.with_plate_at_entry(),
+        Call::Advance => belt.with_plate_at_end(),
+        Call::Give(Zone::Z5) => belt.without_plate_at_end(),
         _ => belt,
     }
 }

@@ -92,6 +92,6 @@ impl Part for PressPart {
     fn note(&mut self, _event: &Event) {}
 
     fn tick(&mut self, act: &PressAct) {
-        self.axis = self.axis.set(act.press).moved(PRESS_END);
+        self.axis = self.axis.set(act.press).after_tick(PRESS_END);
     }
 }

@@ -138,9 +138,9 @@ impl Part for RobotPart {
     fn note(&mut self, _event: &Event) {}
 
     fn tick(&mut self, act: &RobotAct) {
-        self.arm1 = self.arm1.set(act.arm1).moved(ARM_END);
-        self.arm2 = self.arm2.set(act.arm2).moved(ARM_END);
-        self.rotation = self.rotation.set(act.rotation).moved(ROTATION_END);
+        self.arm1 = self.arm1.set(act.arm1).after_tick(ARM_END);
+        self.arm2 = self.arm2.set(act.arm2).after_tick(ARM_END);
+        self.rotation = self.rotation.set(act.rotation).after_tick(ROTATION_END);
         self.magnet1 = act.magnet1;
         self.magnet2 = act.magnet2;
     }

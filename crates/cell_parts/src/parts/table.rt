@@ -107,7 +107,7 @@ impl Part for TablePart {
     fn note(&mut self, _event: &Event) {}
 
     fn tick(&mut self, act: &TableAct) {
-        self.lift = self.lift.set(act.height).moved(LIFT_END);
-        self.turn = self.turn.set(act.rotation).moved(TURN_END);
+        self.lift = self.lift.set(act.height).after_tick(LIFT_END);
+        self.turn = self.turn.set(act.rotation).after_tick(TURN_END);
     }
 }

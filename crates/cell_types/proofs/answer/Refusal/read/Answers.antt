@@ -2,4 +2,4 @@ use Rattle.cell_types.proofs.RefusalLemmas.{refusal_read}
 use Rattle.cell_types.proofs.answer.Refusal.read.Goals as goal
 
 pub returns : goal.returns
-returns c = λ refusal. rw c.named.ensures (refusal_read c.args.word.now refusal)
+returns c = λ refusal. rw c.find_by_word.ensures (refusal_read c.args.word.now refusal)

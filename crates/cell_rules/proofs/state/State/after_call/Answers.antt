@@ -3,7 +3,7 @@ use Rattle.cell_rules.specs.ModelState.{ModelState}
 use Rattle.cell_rules.specs.Sound.{IsSound}
 use Rattle.cell_rules.specs.Reply as replies
 use Rattle.cell_rules.proofs.Soundness.{changed_keeps}
-use Rattle.cell_rules.proofs.state.State.changed.Goals as goal
+use Rattle.cell_rules.proofs.state.State.after_call.Goals as goal
 
 pub invariant_of-result : goal.invariant_of-result
 invariant_of-result c =
