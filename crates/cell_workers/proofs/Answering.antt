@@ -29,7 +29,7 @@ use Rattle.cell_notes.specs.Notes.{counts_with}
 use Rattle.cell_seat.specs.Sides.{Side, Acts, side_set, side_moved}
 use Rattle.cell_plant.specs.CellStates.{SideOf}
 use Rattle.cell_workers.specs.Lines.{passes}
-use Rattle.cell_workers.specs.Workers.{GateOf, Moment, TakesTurn}
+use Rattle.cell_workers.specs.Workers.{GateOf, WorkerMoment, TakesTurn}
 use Rattle.cell_workers.specs.Records.{MomentOf}
 use Rattle.cell_workers.specs.Laws.{press_at, answers_in}
 
@@ -68,7 +68,7 @@ unchanged : (tries : ℕ) (v w : PassView) (c : Call) (a : Result Reply LineFaul
 unchanged tries v w c (Ok reply) fault k e = cc
 unchanged tries v w c (Err f) fault k e = k
 
-module _ {S Sense Reading Act State : Type 0} (tries : ℕ) (t : Steps S Sense Reading Act) (rig : Rig State Sense Act) (gate : GateOf) (before now : Moment PassView S State) (turn : TakesTurn (passes tries) t rig gate before now) where
+module _ {S Sense Reading Act State : Type 0} (tries : ℕ) (t : Steps S Sense Reading Act) (rig : Rig State Sense Act) (gate : GateOf) (before now : WorkerMoment PassView S State) (turn : TakesTurn (passes tries) t rig gate before now) where
   abbrev Stays : Type 0
   Stays = now.line ≡ before.line
 

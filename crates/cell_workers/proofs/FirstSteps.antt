@@ -32,7 +32,7 @@ use Rattle.cell_notes.specs.Asks.{Asked, came_back, is_busy_reply}
 use Rattle.cell_notes.specs.Notes.{counts_with}
 use Rattle.cell_seat.specs.Fares.{status_of}
 use Rattle.cell_workers.specs.Lines.{passes}
-use Rattle.cell_workers.specs.Workers.{GateOf, Moment, TakesTurn, TakesTurns, HasCome, HasWorked, Ends, last_of}
+use Rattle.cell_workers.specs.Workers.{GateOf, WorkerMoment, TakesTurn, TakesTurns, HasCome, HasEnded, Ends, last_of}
 use Rattle.cell_workers.specs.Laws.{answers_in, HasAtMost, MayFare}
 use Rattle.cell_workers.proofs.Passes.{by_turn, all_along}
 
@@ -149,27 +149,27 @@ pub noted_at_most : (o : Option Call) (s : ModelState) (h : List Event) (m : Mac
 noted_at_most o s h m k = entries_at_most o m (noted s h m) (subst (OwnAtMost o) (sym (events_of_noted s h m)) k)
 
 module _ {S Sense Reading Act State : Type 0} (tries : ℕ) (t : Steps S Sense Reading Act) (rig : Rig State Sense Act) (gate : GateOf) where
-  abbrev Turn : (before now : Moment PassView S State) → Type 0
+  abbrev Turn : (before now : WorkerMoment PassView S State) → Type 0
   Turn before now = TakesTurn (passes tries) t rig gate before now
 
-  pub busy_lost : (before now : Moment PassView S State) (turn : Turn before now) (call : Call) (lost stamp : ℕ) → turn.asked ≡ Some (call, Ok (Busy lost stamp)) → lost ≡ tries
+  pub busy_lost : (before now : WorkerMoment PassView S State) (turn : Turn before now) (call : Call) (lost stamp : ℕ) → turn.asked ≡ Some (call, Ok (Busy lost stamp)) → lost ≡ tries
   busy_lost before now turn call lost stamp e =
       turn_either t ((now.line ≡ before.line) × (turn.asked ≡ None)) (λ c r. PassAsks tries before.line c r now.line × (turn.asked ≡ Some (c, r))) (lost ≡ tries)
       (λ h. let lie : None ≡ Some (call, Ok (Busy lost stamp)) = sym h.1 ∙ e in cc)
       (λ c r h. all_lost tries before.line now.line c r lost stamp h.0 (ap (answered r) (sym h.1 ∙ e)))
       before.side.stopped before.side.progress turn.row.acts.sense turn.row.acts.turned turn.row.acts.row
 
-  pub busy_counted : (before now : Moment PassView S State) (turn : Turn before now) (call : Call) (lost stamp : ℕ) → turn.asked ≡ Some (call, Ok (Busy lost stamp)) → now.counts.busy ≡ before.counts.busy + 1
+  pub busy_counted : (before now : WorkerMoment PassView S State) (turn : Turn before now) (call : Call) (lost stamp : ℕ) → turn.asked ≡ Some (call, Ok (Busy lost stamp)) → now.counts.busy ≡ before.counts.busy + 1
   busy_counted before now turn call lost stamp e = ap (λ (c : Counts). c.busy) turn.counted ∙ ap (λ a. before.counts.busy + one_if (came_back is_busy_reply a)) e
 
   -- ---- invariants of all turns
 
-  pub answers_along : (first now : Moment PassView S State) → HasCome (passes tries) t rig gate first now → answers_in first.counts ≤ first.counts.turns → answers_in now.counts ≤ now.counts.turns
+  pub answers_along : (first now : WorkerMoment PassView S State) → HasCome (passes tries) t rig gate first now → answers_in first.counts ≤ first.counts.turns → answers_in now.counts ≤ now.counts.turns
   answers_along first now k few =
       all_along tries t rig gate (λ m. answers_in m.counts ≤ m.counts.turns)
       (λ before after turn q. subst (λ c. answers_in c ≤ c.turns) (sym turn.counted) (one_answer before.counts turn.asked q)) first now k few
 
-  pub let_in_along : (first now : Moment PassView S State) → HasCome (passes tries) t rig gate first now → first.counts.turns ≡ 0 → (turn : ℕ) → turn < now.counts.turns → gate turn true
+  pub let_in_along : (first now : WorkerMoment PassView S State) → HasCome (passes tries) t rig gate first now → first.counts.turns ≡ 0 → (turn : ℕ) → turn < now.counts.turns → gate turn true
   let_in_along first now k none =
       all_along tries t rig gate (λ m. (turn : ℕ) → turn < m.counts.turns → gate turn true)
       (λ before after turn q. subst (λ c. (n : ℕ) → n < c.turns → gate n true) (sym turn.counted) (below_more (λ n. gate n true) before.counts.turns q turn.let_in))
@@ -177,19 +177,19 @@ module _ {S Sense Reading Act State : Type 0} (tries : ℕ) (t : Steps S Sense R
 
   -- ---- no turn, and one
 
-  one_more_turn : (before now : Moment PassView S State) → Turn before now → now.counts.turns ≡ before.counts.turns + 1
+  one_more_turn : (before now : WorkerMoment PassView S State) → Turn before now → now.counts.turns ≡ before.counts.turns + 1
   one_more_turn before now turn = ap (λ (c : Counts). c.turns) turn.counted
 
-  grows : (first : Moment PassView S State) (turns : List (Moment PassView S State)) → TakesTurns (passes tries) t rig gate first turns → first.counts.turns ≤ (last_of first turns).counts.turns
+  grows : (first : WorkerMoment PassView S State) (turns : List (WorkerMoment PassView S State)) → TakesTurns (passes tries) t rig gate first turns → first.counts.turns ≤ (last_of first turns).counts.turns
   grows first [] k = omega arith
   grows first (now ∷ later) k = let one = one_more_turn first now k.0 in let more = grows now later k.1 in omega (arith, one, more)
 
-  still_by : (first last : Moment PassView S State) (turns : List (Moment PassView S State)) → TakesTurns (passes tries) t rig gate first turns → last_of first turns ≡ last → last.counts.turns ≤ first.counts.turns → last ≡ first
+  still_by : (first last : WorkerMoment PassView S State) (turns : List (WorkerMoment PassView S State)) → TakesTurns (passes tries) t rig gate first turns → last_of first turns ≡ last → last.counts.turns ≤ first.counts.turns → last ≡ first
   still_by first last [] k e few = sym e
   still_by first last (now ∷ later) k e few =
       let one = one_more_turn first now k.0 in
       let more = grows now later k.1 in
-      let ends = ap (λ (m : Moment PassView S State). m.counts.turns) e in
+      let ends = ap (λ (m : WorkerMoment PassView S State). m.counts.turns) e in
       absurd (omega (arith, one, more, ends, few))
 
   -- a turn loses at most as many exchanges as a call may
@@ -197,66 +197,66 @@ module _ {S Sense Reading Act State : Type 0} (tries : ℕ) (t : Steps S Sense R
   lost_in_call v w c (Ok reply) k = k.few_exchanges
   lost_in_call v w c (Err fault) k = let same = ap (λ (x : PassView). x.exchanges) k in omega (arith, same)
 
-  lost_in_turn : (before now : Moment PassView S State) → Turn before now → now.line.exchanges ≤ before.line.exchanges + tries
+  lost_in_turn : (before now : WorkerMoment PassView S State) → Turn before now → now.line.exchanges ≤ before.line.exchanges + tries
   lost_in_turn before now turn =
       by_turn tries t rig gate (passes tries) before now (now.line.exchanges ≤ before.line.exchanges + tries) turn
       (λ asked same nothing counted. let stays = ap (λ (x : PassView). x.exchanges) same in omega (arith, stays)) (λ asked c r asks is counted. lost_in_call before.line now.line c r asks)
 
-  few_after_turn : (before now : Moment PassView S State) → Turn before now → before.line.exchanges ≤ before.counts.turns * tries → now.line.exchanges ≤ now.counts.turns * tries
+  few_after_turn : (before now : WorkerMoment PassView S State) → Turn before now → before.line.exchanges ≤ before.counts.turns * tries → now.line.exchanges ≤ now.counts.turns * tries
   few_after_turn before now turn few =
       let more = lost_in_turn before now turn in
       let turns : now.counts.turns * tries ≡ before.counts.turns * tries + tries = ap (λ n. n * tries) (one_more_turn before now turn) ∙ add-mul before.counts.turns 1 tries ∙ omega arith in
       omega (arith, few, more, turns)
 
-  pub few_along : (first now : Moment PassView S State) → HasCome (passes tries) t rig gate first now → first.line.exchanges ≡ 0 → now.line.exchanges ≤ now.counts.turns * tries
+  pub few_along : (first now : WorkerMoment PassView S State) → HasCome (passes tries) t rig gate first now → first.line.exchanges ≡ 0 → now.line.exchanges ≤ now.counts.turns * tries
   few_along first now k none = all_along tries t rig gate (λ m. m.line.exchanges ≤ m.counts.turns * tries) few_after_turn first now k (omega (arith, none))
 
-  pub still : (first last : Moment PassView S State) → HasCome (passes tries) t rig gate first last → last.counts.turns ≤ first.counts.turns → last ≡ first
+  pub still : (first last : WorkerMoment PassView S State) → HasCome (passes tries) t rig gate first last → last.counts.turns ≤ first.counts.turns → last ≡ first
   still first last k few = still_by first last k.turns k.taken k.last few
 
   -- there are no turns if the gate lets none begin
-  shut_by : ((turn : ℕ) → ¬ gate turn true) → (first last : Moment PassView S State) (turns : List (Moment PassView S State)) → TakesTurns (passes tries) t rig gate first turns → last_of first turns ≡ last → last ≡ first
+  shut_by : ((turn : ℕ) → ¬ gate turn true) → (first last : WorkerMoment PassView S State) (turns : List (WorkerMoment PassView S State)) → TakesTurns (passes tries) t rig gate first turns → last_of first turns ≡ last → last ≡ first
   shut_by never first last [] k e = sym e
   shut_by never first last (now ∷ later) k e = absurd (never first.counts.turns k.0.let_in)
 
-  pub shut_still : ((turn : ℕ) → ¬ gate turn true) → (first last : Moment PassView S State) → HasCome (passes tries) t rig gate first last → last ≡ first
+  pub shut_still : ((turn : ℕ) → ¬ gate turn true) → (first last : WorkerMoment PassView S State) → HasCome (passes tries) t rig gate first last → last ≡ first
   shut_still never first last k = shut_by never first last k.turns k.taken k.last
 
   -- then a worker ends as if it had only begun
-  pub ends_begun : (limit : ℕ) (first last : Moment PassView S State) (s : Status) → last ≡ first → first.side.stopped ≡ None → first.counts.turns ≡ 0 → Ends gate limit last.side.stopped last.counts.turns s → Ends gate limit None 0 s
+  pub ends_begun : (limit : ℕ) (first last : WorkerMoment PassView S State) (s : Status) → last ≡ first → first.side.stopped ≡ None → first.counts.turns ≡ 0 → Ends gate limit last.side.stopped last.counts.turns s → Ends gate limit None 0 s
   ends_begun limit first last s same runs none k =
       subst (λ n. Ends gate limit None n s) none
-      (subst (λ o. Ends gate limit o first.counts.turns s) runs (subst (λ (m : Moment PassView S State). Ends gate limit m.side.stopped m.counts.turns s) same k))
+      (subst (λ o. Ends gate limit o first.counts.turns s) runs (subst (λ (m : WorkerMoment PassView S State). Ends gate limit m.side.stopped m.counts.turns s) same k))
 
-  once_by : (first last : Moment PassView S State) (turns : List (Moment PassView S State)) → TakesTurns (passes tries) t rig gate first turns → last_of first turns ≡ last → last.counts.turns ≤ first.counts.turns + 1 → (last ≡ first) ⊎ Turn first last
+  once_by : (first last : WorkerMoment PassView S State) (turns : List (WorkerMoment PassView S State)) → TakesTurns (passes tries) t rig gate first turns → last_of first turns ≡ last → last.counts.turns ≤ first.counts.turns + 1 → (last ≡ first) ⊎ Turn first last
   once_by first last [] k e few = inl (sym e)
   once_by first last (now ∷ []) k e few = inr (subst (Turn first) e k.0)
   once_by first last (now ∷ (next ∷ later)) k e few =
       let one = one_more_turn first now k.0 in
       let two = one_more_turn now next k.1.0 in
       let more = grows next later k.1.1 in
-      let ends = ap (λ (m : Moment PassView S State). m.counts.turns) e in
+      let ends = ap (λ (m : WorkerMoment PassView S State). m.counts.turns) e in
       absurd (omega (arith, one, two, more, ends, few))
 
-  pub once : (first last : Moment PassView S State) → HasCome (passes tries) t rig gate first last → last.counts.turns ≤ first.counts.turns + 1 → (last ≡ first) ⊎ Turn first last
+  pub once : (first last : WorkerMoment PassView S State) → HasCome (passes tries) t rig gate first last → last.counts.turns ≤ first.counts.turns + 1 → (last ≡ first) ⊎ Turn first last
   once first last k few = once_by first last k.turns k.taken k.last few
 
   -- a worker may stay where it began, with this status
-  pub stays : (limit : ℕ) (first : Moment PassView S State) (s : Status) → Ends gate limit first.side.stopped first.counts.turns s → HasWorked (passes tries) t rig gate limit first first s
+  pub stays : (limit : ℕ) (first : WorkerMoment PassView S State) (s : Status) → Ends gate limit first.side.stopped first.counts.turns s → HasEnded (passes tries) t rig gate limit first first s
   stays limit first s e = record { come = record { turns = []; taken = tt; last = refl }; ends = e }
 
   -- in one turn from a step with this call
-  pub own_in_turn : (o : Option Call) (before now : Moment PassView S State) → before.line.seen ≡ [] → t.call before.side.progress ≡ o → Turn before now → OwnAtMost o (own_events now.line.seen before.line.machine)
+  pub own_in_turn : (o : Option Call) (before now : WorkerMoment PassView S State) → before.line.seen ≡ [] → t.call before.side.progress ≡ o → Turn before now → OwnAtMost o (own_events now.line.seen before.line.machine)
   own_in_turn o before now e is k =
       by_step t ((now.line ≡ before.line) × (k.asked ≡ None)) (λ c r. PassAsks tries before.line c r now.line × (k.asked ≡ Some (c, r))) _ o
       (λ h. subst (λ x. OwnAtMost o (own_events x before.line.machine)) (sym (ap (λ (v : PassView). v.seen) h.0 ∙ e)) tt)
       (λ c r asked h. own_after tries before.line now.line o c r e asked h.0) before.side.stopped before.side.progress is k.row.acts.sense k.row.acts.turned k.row.acts.row
 
-  pub own_at_first : (o : Option Call) (first last : Moment PassView S State) (s : Status) → first.line.seen ≡ [] → first.counts.turns ≡ 0 → t.call first.side.progress ≡ o → HasWorked (passes tries) t rig gate 1 first last s
+  pub own_at_first : (o : Option Call) (first last : WorkerMoment PassView S State) (s : Status) → first.line.seen ≡ [] → first.counts.turns ≡ 0 → t.call first.side.progress ≡ o → HasEnded (passes tries) t rig gate 1 first last s
       → OwnAtMost o (own_events last.line.seen first.line.machine)
   own_at_first o first last s e none is k =
       let few = within gate 1 last.side.stopped last.counts.turns s k.ends in
       elim (once first last k.come (omega (arith, few, none))) as (λ _. OwnAtMost o (own_events last.line.seen first.line.machine)) [
-        | inl same ↦ subst (λ x. OwnAtMost o (own_events x first.line.machine)) (sym (ap (λ (m : Moment PassView S State). m.line.seen) same ∙ e)) tt
+        | inl same ↦ subst (λ x. OwnAtMost o (own_events x first.line.machine)) (sym (ap (λ (m : WorkerMoment PassView S State). m.line.seen) same ∙ e)) tt
         | inr turn ↦ own_in_turn o first last e is turn
       ]

@@ -27,18 +27,18 @@ use Rattle.cell_notes.specs.Notes.{no_counts, counts_with}
 use Rattle.cell_seat.specs.Sides.{Acts}
 use Rattle.cell_seat.proofs.Turning.{acts_map}
 use Rattle.cell_workers.specs.Lines.{Lines, passes}
-use Rattle.cell_workers.specs.Workers.{Moment, moment, GateOf, TakesTurn, TakesTurns, HasCome, HasWorked, GivesBack, AreCountsOf, last_of, is_shown_answer, is_refused_answer}
+use Rattle.cell_workers.specs.Workers.{WorkerMoment, worker_moment, GateOf, TakesTurn, TakesTurns, HasCome, HasEnded, IsWorkerResult, AreCountsOf, last_of, is_shown_answer, is_refused_answer}
 
 -- the opening, the history seen and the calls of a worker's line
 abbrev pub line_views : Lines LineView
 line_views = record { opening = λ l. l.pass.opening; seen = λ l. l.pass.seen; asks = LineAsks }
 
-abbrev pub by_pass : {S State : Type 0} → Moment LineView S State → Moment PassView S State
-by_pass m = moment m.line.pass m.side m.counts
+abbrev pub by_pass : {S State : Type 0} → WorkerMoment LineView S State → WorkerMoment PassView S State
+by_pass m = worker_moment m.line.pass m.side m.counts
 
 module _ {S Sense Reading Act State : Type 0} (tries : ℕ) (t : Steps S Sense Reading Act) (rig : Rig State Sense Act) (gate : GateOf) where
   -- a turn asks nothing, or makes one call
-  pub by_turn : {L : Type 0} → (lines : Lines L) (before now : Moment L S State) (P : Type 0) → TakesTurn lines t rig gate before now
+  pub by_turn : {L : Type 0} → (lines : Lines L) (before now : WorkerMoment L S State) (P : Type 0) → TakesTurn lines t rig gate before now
       → ((asked : Asked) → now.line ≡ before.line → asked ≡ None → now.counts ≡ counts_with before.counts asked → P)
       → ((asked : Asked) (c : Call) (r : Result Reply LineFault) → lines.asks before.line c r now.line → asked ≡ Some (c, r) → now.counts ≡ counts_with before.counts asked → P) → P
   by_turn lines before now P k f g =
@@ -47,13 +47,13 @@ module _ {S Sense Reading Act State : Type 0} (tries : ℕ) (t : Steps S Sense R
 
   -- ---- lines and passes
 
-  acts_by_pass : (before now : Moment LineView S State) → before.line.tries ≡ tries → (k : TakesTurn line_views t rig gate before now)
+  acts_by_pass : (before now : WorkerMoment LineView S State) → before.line.tries ≡ tries → (k : TakesTurn line_views t rig gate before now)
       → Acts t rig (now.line.pass ≡ before.line.pass) (λ c r. PassAsks tries before.line.pass c r now.line.pass) before.side k.asked k.row.set
   acts_by_pass before now e k =
       acts_map t rig (now.line ≡ before.line) (now.line.pass ≡ before.line.pass) (λ c r. LineAsks before.line c r now.line) (λ c r. PassAsks tries before.line.pass c r now.line.pass)
       (λ same. ap (λ l. l.pass) same) (λ c r a. subst (λ n. PassAsks n before.line.pass c r now.line.pass) e a.call) before.side k.row.set k.asked k.row.acts
 
-  turn_by_pass : (before now : Moment LineView S State) → before.line.tries ≡ tries → TakesTurn line_views t rig gate before now → TakesTurn (passes tries) t rig gate (by_pass before) (by_pass now)
+  turn_by_pass : (before now : WorkerMoment LineView S State) → before.line.tries ≡ tries → TakesTurn line_views t rig gate before now → TakesTurn (passes tries) t rig gate (by_pass before) (by_pass now)
   turn_by_pass before now e k =
       record {
         runs = k.runs;
@@ -64,40 +64,40 @@ module _ {S Sense Reading Act State : Type 0} (tries : ℕ) (t : Steps S Sense R
         counted = k.counted;
       }
 
-  same_tries : (before now : Moment LineView S State) → TakesTurn line_views t rig gate before now → now.line.tries ≡ before.line.tries
+  same_tries : (before now : WorkerMoment LineView S State) → TakesTurn line_views t rig gate before now → now.line.tries ≡ before.line.tries
   same_tries before now k = by_turn line_views before now _ k (λ asked same nothing counted. ap (λ l. l.tries) same) (λ asked c r asks is counted. asks.tries)
 
-  turns_by_pass : (before : Moment LineView S State) (turns : List (Moment LineView S State)) → before.line.tries ≡ tries → TakesTurns line_views t rig gate before turns → TakesTurns (passes tries) t rig gate (by_pass before) (map by_pass turns)
+  turns_by_pass : (before : WorkerMoment LineView S State) (turns : List (WorkerMoment LineView S State)) → before.line.tries ≡ tries → TakesTurns line_views t rig gate before turns → TakesTurns (passes tries) t rig gate (by_pass before) (map by_pass turns)
   turns_by_pass before [] e k = tt
   turns_by_pass before (now ∷ later) e k = (turn_by_pass before now e k.0, turns_by_pass now later (same_tries before now k.0 ∙ e) k.1)
 
-  last_by_pass : (first : Moment LineView S State) (turns : List (Moment LineView S State)) → last_of (by_pass first) (map by_pass turns) ≡ by_pass (last_of first turns)
+  last_by_pass : (first : WorkerMoment LineView S State) (turns : List (WorkerMoment LineView S State)) → last_of (by_pass first) (map by_pass turns) ≡ by_pass (last_of first turns)
   last_by_pass first [] = refl
   last_by_pass first (now ∷ later) = last_by_pass now later
 
-  pub come_by_pass : (first now : Moment LineView S State) → first.line.tries ≡ tries → HasCome line_views t rig gate first now → HasCome (passes tries) t rig gate (by_pass first) (by_pass now)
+  pub come_by_pass : (first now : WorkerMoment LineView S State) → first.line.tries ≡ tries → HasCome line_views t rig gate first now → HasCome (passes tries) t rig gate (by_pass first) (by_pass now)
   come_by_pass first now e k = record { turns = map by_pass k.turns; taken = turns_by_pass first k.turns e k.taken; last = last_by_pass first k.turns ∙ ap by_pass k.last }
 
   -- ---- invariants of all turns
 
-  module _ (Q : Moment PassView S State → Type 0) (keeps : (before now : Moment PassView S State) → TakesTurn (passes tries) t rig gate before now → Q before → Q now) where
-    along : (first : Moment PassView S State) (turns : List (Moment PassView S State)) → TakesTurns (passes tries) t rig gate first turns → Q first → Q (last_of first turns)
+  module _ (Q : WorkerMoment PassView S State → Type 0) (keeps : (before now : WorkerMoment PassView S State) → TakesTurn (passes tries) t rig gate before now → Q before → Q now) where
+    along : (first : WorkerMoment PassView S State) (turns : List (WorkerMoment PassView S State)) → TakesTurns (passes tries) t rig gate first turns → Q first → Q (last_of first turns)
     along first [] k q = q
     along first (now ∷ later) k q = along now later k.1 (keeps first now k.0 q)
 
-    pub all_along : (first now : Moment PassView S State) → HasCome (passes tries) t rig gate first now → Q first → Q now
+    pub all_along : (first now : WorkerMoment PassView S State) → HasCome (passes tries) t rig gate first now → Q first → Q now
     all_along first now k q = subst Q k.last (along first k.turns k.taken q)
 
   asks_same : (v w : PassView) (c : Call) (r : Result Reply LineFault) → PassAsks tries v c r w → (w.machine ≡ v.machine) × (w.opening ≡ v.opening)
   asks_same v w c (Ok reply) k = (k.pass.machine, k.pass.opening)
   asks_same v w c (Err fault) k = (ap (λ x. x.machine) k, ap (λ x. x.opening) k)
 
-  turn_same : (before now : Moment PassView S State) → TakesTurn (passes tries) t rig gate before now → (now.line.machine ≡ before.line.machine) × (now.line.opening ≡ before.line.opening)
+  turn_same : (before now : WorkerMoment PassView S State) → TakesTurn (passes tries) t rig gate before now → (now.line.machine ≡ before.line.machine) × (now.line.opening ≡ before.line.opening)
   turn_same before now k =
       by_turn (passes tries) before now _ k (λ asked same nothing counted. (ap (λ x. x.machine) same, ap (λ x. x.opening) same)) (λ asked c r asks is counted. asks_same before.line now.line c r asks)
 
   -- the pass remains its machine's, and its interlock's opening remains the same
-  pub come_same : (first now : Moment PassView S State) → HasCome (passes tries) t rig gate first now → (now.line.machine ≡ first.line.machine) × (now.line.opening ≡ first.line.opening)
+  pub come_same : (first now : WorkerMoment PassView S State) → HasCome (passes tries) t rig gate first now → (now.line.machine ≡ first.line.machine) × (now.line.opening ≡ first.line.opening)
   come_same first now k =
       all_along (λ m. (m.line.machine ≡ first.line.machine) × (m.line.opening ≡ first.line.opening)) (λ before after step q. let same = turn_same before after step in (same.0 ∙ q.0, same.1 ∙ q.1))
       first now k (refl, refl)
@@ -155,23 +155,23 @@ asked_counts tries v w c (Ok (Busy lost stamp)) k n asks more old = quiet_counts
 asked_counts tries v w c (Err fault) k n asks more old = quiet_counts (journal_by v) (journal_by w) (Some (c, Err fault)) k n (ap journal_by asks) more refl refl refl old
 
 module _ {S Sense Reading Act State : Type 0} (tries : ℕ) (t : Steps S Sense Reading Act) (rig : Rig State Sense Act) (gate : GateOf) where
-  turn_counts : (before now : Moment PassView S State) → TakesTurn (passes tries) t rig gate before now → AreCountsOf (journal_by before.line) before.counts → AreCountsOf (journal_by now.line) now.counts
+  turn_counts : (before now : WorkerMoment PassView S State) → TakesTurn (passes tries) t rig gate before now → AreCountsOf (journal_by before.line) before.counts → AreCountsOf (journal_by now.line) now.counts
   turn_counts before now k old =
       by_turn tries t rig gate (passes tries) before now _ k
       (λ asked same nothing counted. quiet_counts (journal_by before.line) (journal_by now.line) None before.counts now.counts (ap journal_by same) (counted ∙ ap (counts_with before.counts) nothing) refl refl refl old)
       (λ asked c r asks is counted. asked_counts tries before.line now.line c r before.counts now.counts asks (counted ∙ ap (counts_with before.counts) is) old)
 
   -- the counts of a worker agree with its journal
-  pub come_counts : (first now : Moment PassView S State) → HasCome (passes tries) t rig gate first now → first.line.seen ≡ [] → first.counts ≡ no_counts → AreCountsOf (journal_by now.line) now.counts
+  pub come_counts : (first now : WorkerMoment PassView S State) → HasCome (passes tries) t rig gate first now → first.line.seen ≡ [] → first.counts ≡ no_counts → AreCountsOf (journal_by now.line) now.counts
   come_counts first now k seen counts =
       let empty : journal_by first.line ≡ [] = ap (λ h. noted first.line.opening h first.line.machine) seen in
       all_along tries t rig gate (λ m. AreCountsOf (journal_by m.line) m.counts) turn_counts first now k
       (subst (λ j. AreCountsOf j first.counts) (sym empty) (subst (AreCountsOf []) (sym counts) (record { done = refl; read = refl; refused = refl })))
 
   -- what a worker gives back
-  pub gives_back : (law : EveryLegalHistoryIsLawful) (limit : ℕ) (first last : Moment LineView S State) (status : Status) → first.line.tries ≡ tries → first.line.pass.seen ≡ [] → first.counts ≡ no_counts → HasWorked line_views t rig gate limit first last status
+  pub gives_back : (law : EveryLegalHistoryIsLawful) (limit : ℕ) (first last : WorkerMoment LineView S State) (status : Status) → first.line.tries ≡ tries → first.line.pass.seen ≡ [] → first.counts ≡ no_counts → HasEnded line_views t rig gate limit first last status
       → (kept : ∥ IsLine last.line.pass last.line.journal ∥₁) (pass : PassView) (journal : List Entry) (counts : Counts) (part : State) → pass ≡ last.line.pass → journal ≡ noted pass.opening pass.seen pass.machine → counts ≡ last.counts → part ≡ last.side.part
-      → GivesBack tries t rig gate limit (by_pass first) pass journal counts status part
+      → IsWorkerResult tries t rig gate limit (by_pass first) pass journal counts status part
   gives_back law limit first last status e seen none worked kept pass journal counts part is noted_all counted stands =
       let come = come_by_pass tries t rig gate first last e worked.come in
       let same = come_same tries t rig gate (by_pass first) (by_pass last) come in

@@ -42,14 +42,14 @@ use Rattle.cell_plant.specs.CellStates.{SideOf, side_in, sides_at_start}
 use Rattle.cell_plant.specs.Records.{positions_in}
 use Rattle.cell_plant.specs.Runs.{is_at_work}
 use Rattle.cell_workers.specs.Lines.{Lines, passes}
-use Rattle.cell_workers.specs.Workers.{Moment, moment, GateOf, TakesTurn, TakesTurns, HasWorked, GivesBack, AreCountsOf}
-use Rattle.cell_workers.specs.declared.six.Six.{Six}
-use Rattle.cell_workers.specs.Backs.{Gave, AreBack, journal_in, parts_in}
+use Rattle.cell_workers.specs.Workers.{WorkerMoment, worker_moment, GateOf, TakesTurn, TakesTurns, HasEnded, IsWorkerResult, AreCountsOf}
+use Rattle.cell_workers.specs.Results.{SixResults}
+use Rattle.cell_workers.specs.Results.{IsResultOf, AreWorkerResults, journal_in, parts_in}
 use Rattle.cell_workers.specs.Records.{MomentOf, first_moment, TellsWork}
 
 -- if less is known of the sensors, a worker has still worked
 module _ {L S Sense Reading Act State : Type 0} (lines : Lines L) (t : Steps S Sense Reading Act) (rig : Rig State Sense Act) (gate : GateOf) (senses : Sense → Result Reading SensorFault → Type 0) (f : (s : Sense) (r : Result Reading SensorFault) → t.senses s r → senses s r) where
-  turn_still : (before now : Moment L S State) → TakesTurn lines t rig gate before now → TakesTurn lines (with_senses t senses) rig gate before now
+  turn_still : (before now : WorkerMoment L S State) → TakesTurn lines t rig gate before now → TakesTurn lines (with_senses t senses) rig gate before now
   turn_still before now k =
       record {
         runs = k.runs;
@@ -60,14 +60,14 @@ module _ {L S Sense Reading Act State : Type 0} (lines : Lines L) (t : Steps S S
         counted = k.counted;
       }
 
-  turns_still : (before : Moment L S State) (turns : List (Moment L S State)) → TakesTurns lines t rig gate before turns → TakesTurns lines (with_senses t senses) rig gate before turns
+  turns_still : (before : WorkerMoment L S State) (turns : List (WorkerMoment L S State)) → TakesTurns lines t rig gate before turns → TakesTurns lines (with_senses t senses) rig gate before turns
   turns_still before [] k = tt
   turns_still before (now ∷ later) k = (turn_still before now k.0, turns_still now later k.1)
 
-pub back_still : {S Sense Reading Act State : Type 0} → (tries : ℕ) (t : Steps S Sense Reading Act) (rig : Rig State Sense Act) (gate : GateOf) (senses : Sense → Result Reading SensorFault → Type 0) (f : (s : Sense) (r : Result Reading SensorFault) → t.senses s r → senses s r)
-    (limit : ℕ) (first : Moment PassView S State) (kept : PassView) (journal : List Entry) (did : Counts) (fares : Status) (stands : State)
-    → GivesBack tries t rig gate limit first kept journal did fares stands → GivesBack tries (with_senses t senses) rig gate limit first kept journal did fares stands
-back_still tries t rig gate senses f limit first kept journal did fares stands k =
+pub result_still : {S Sense Reading Act State : Type 0} → (tries : ℕ) (t : Steps S Sense Reading Act) (rig : Rig State Sense Act) (gate : GateOf) (senses : Sense → Result Reading SensorFault → Type 0) (f : (s : Sense) (r : Result Reading SensorFault) → t.senses s r → senses s r)
+    (limit : ℕ) (first : WorkerMoment PassView S State) (kept : PassView) (journal : List Entry) (did : Counts) (fares : Status) (stands : State)
+    → IsWorkerResult tries t rig gate limit first kept journal did fares stands → IsWorkerResult tries (with_senses t senses) rig gate limit first kept journal did fares stands
+result_still tries t rig gate senses f limit first kept journal did fares stands k =
     record {
       last = k.last;
       worked = record { come = record { turns = k.worked.come.turns; taken = turns_still (passes tries) t rig gate senses f first k.worked.come.turns k.worked.come.taken; last = k.worked.come.last }; ends = k.worked.ends };
@@ -82,22 +82,22 @@ back_still tries t rig gate senses f limit first kept journal did fares stands k
 -- the table, the robot and the crane read by their scales: a reading is any that a calibration over its scale may give
 module _ (tries : ℕ) (gate : GateOf) (limit : ℕ) (kept : PassView) (journal : List Entry) (did : Counts) (fares : Status) where
   pub table_near : (points scale : Scale) (gives : ℕ → ℤ → Type 0) (rig : Rig TablePlant TableSense TableAct) (first : MomentOf Table) (stands : TablePlant) → scale ≡ points
-      → GivesBack tries (table_steps points gives) rig gate limit first kept journal did fares stands → GivesBack tries (table_steps scale (IsReading scale)) rig gate limit first kept journal did fares stands
+      → IsWorkerResult tries (table_steps points gives) rig gate limit first kept journal did fares stands → IsWorkerResult tries (table_steps scale (IsReading scale)) rig gate limit first kept journal did fares stands
   table_near points scale gives rig first stands e k =
-      subst (λ s. GivesBack tries (table_steps s (IsReading s)) rig gate limit first kept journal did fares stands) (sym e)
-      (back_still tries (table_steps points gives) rig gate (TableSenses points (IsReading points)) (table_senses_near points gives) limit first kept journal did fares stands k)
+      subst (λ s. IsWorkerResult tries (table_steps s (IsReading s)) rig gate limit first kept journal did fares stands) (sym e)
+      (result_still tries (table_steps points gives) rig gate (TableSenses points (IsReading points)) (table_senses_near points gives) limit first kept journal did fares stands k)
 
   pub robot_near : (points scales : RobotScales) (gives : RobotGauges) (rig : Rig RobotPlant RobotSense RobotAct) (first : MomentOf Robot) (stands : RobotPlant) → scales ≡ points
-      → GivesBack tries (robot_steps points gives) rig gate limit first kept journal did fares stands → GivesBack tries (robot_steps scales (near_lines scales)) rig gate limit first kept journal did fares stands
+      → IsWorkerResult tries (robot_steps points gives) rig gate limit first kept journal did fares stands → IsWorkerResult tries (robot_steps scales (near_lines scales)) rig gate limit first kept journal did fares stands
   robot_near points scales gives rig first stands e k =
-      subst (λ s. GivesBack tries (robot_steps s (near_lines s)) rig gate limit first kept journal did fares stands) (sym e)
-      (back_still tries (robot_steps points gives) rig gate (RobotSenses points (near_lines points)) (robot_senses_near points gives) limit first kept journal did fares stands k)
+      subst (λ s. IsWorkerResult tries (robot_steps s (near_lines s)) rig gate limit first kept journal did fares stands) (sym e)
+      (result_still tries (robot_steps points gives) rig gate (RobotSenses points (near_lines points)) (robot_senses_near points gives) limit first kept journal did fares stands k)
 
   pub crane_near : (points scale : Scale) (gives : ℕ → ℤ → Type 0) (rig : Rig CranePlant CraneSense CraneAct) (first : MomentOf Crane) (stands : CranePlant) → scale ≡ points
-      → GivesBack tries (crane_steps points gives) rig gate limit first kept journal did fares stands → GivesBack tries (crane_steps scale (IsReading scale)) rig gate limit first kept journal did fares stands
+      → IsWorkerResult tries (crane_steps points gives) rig gate limit first kept journal did fares stands → IsWorkerResult tries (crane_steps scale (IsReading scale)) rig gate limit first kept journal did fares stands
   crane_near points scale gives rig first stands e k =
-      subst (λ s. GivesBack tries (crane_steps s (IsReading s)) rig gate limit first kept journal did fares stands) (sym e)
-      (back_still tries (crane_steps points gives) rig gate (CraneSenses points (IsReading points)) (crane_senses_near points gives) limit first kept journal did fares stands k)
+      subst (λ s. IsWorkerResult tries (crane_steps s (IsReading s)) rig gate limit first kept journal did fares stands) (sym e)
+      (result_still tries (crane_steps points gives) rig gate (CraneSenses points (IsReading points)) (crane_senses_near points gives) limit first kept journal did fares stands k)
 
 -- a machine at the beginning of its program, with a fresh pass, is ready
 pub ready_at_start : {S Sense Reading Act : Type 0} → (t : Steps S Sense Reading Act) (i : InterlockView) (pass : PassView) (stopped : Option CtlFault) (progress : S) → pass ≡ fresh_pass i t.machine → progress ≡ t.start i.opening
@@ -116,13 +116,13 @@ if_some P Q f (Some x) k = f x k
 
 module _ (c : CellScales) (i : InterlockView) (limit : ℕ) (gate : Machine → GateOf) where
   -- it began with a fresh pass, at the start of its machine
-  pub gave : (m : Machine) (pass : PassView) (side : SideOf m) (kept : PassView) (journal : List Entry) (did : Counts) (fares : Status) (stands : PartOf m) → pass ≡ fresh_pass i m → side ≡ side_in (sides_at_start i.opening) m
-      → GivesBack i.tries (steps_of c m) (rig_of c m) (gate pass.machine) limit (moment pass side no_counts) kept journal did fares stands → Gave c i limit gate m kept journal did fares stands
-  gave m pass side kept journal did fares stands e f k =
-      subst (λ s. GivesBack i.tries (steps_of c m) (rig_of c m) (gate m) limit (moment (fresh_pass i m) s no_counts) kept journal did fares stands) f
-      (subst (λ p. GivesBack i.tries (steps_of c m) (rig_of c m) (gate p.machine) limit (moment p side no_counts) kept journal did fares stands) e k)
+  pub is_result_of : (m : Machine) (pass : PassView) (side : SideOf m) (kept : PassView) (journal : List Entry) (did : Counts) (fares : Status) (stands : PartOf m) → pass ≡ fresh_pass i m → side ≡ side_in (sides_at_start i.opening) m
+      → IsWorkerResult i.tries (steps_of c m) (rig_of c m) (gate pass.machine) limit (worker_moment pass side no_counts) kept journal did fares stands → IsResultOf c i limit gate m kept journal did fares stands
+  is_result_of m pass side kept journal did fares stands e f k =
+      subst (λ s. IsWorkerResult i.tries (steps_of c m) (rig_of c m) (gate m) limit (worker_moment (fresh_pass i m) s no_counts) kept journal did fares stands) f
+      (subst (λ p. IsWorkerResult i.tries (steps_of c m) (rig_of c m) (gate p.machine) limit (worker_moment p side no_counts) kept journal did fares stands) e k)
 
-  module _ (six : Six) (back : AreBack c i limit gate six) (r : RunRecord) where
+  module _ (results : SixResults) (back : AreWorkerResults c i limit gate results) (r : RunRecord) where
     abbrev last : (m : Machine) → MomentOf m
     last Feed = back.feed.last
     last Table = back.table.last
@@ -133,15 +133,15 @@ module _ (c : CellScales) (i : InterlockView) (limit : ℕ) (gate : Machine → 
     last Watch = first_moment i Watch
 
     abbrev fares : Machine → Status
-    fares Feed = six.feed.status
-    fares Table = six.table.status
-    fares Robot = six.robot.status
-    fares Press = six.press.status
-    fares Deposit = six.deposit.status
-    fares Crane = six.crane.status
+    fares Feed = results.feed.status
+    fares Table = results.table.status
+    fares Robot = results.robot.status
+    fares Press = results.press.status
+    fares Deposit = results.deposit.status
+    fares Crane = results.crane.status
     fares Watch = Fine
 
-    works : (m : Machine) → is_at_work m ≡ true → HasWorked (passes i.tries) (steps_of c m) (rig_of c m) (gate m) limit (first_moment i m) (last m) (fares m)
+    works : (m : Machine) → is_at_work m ≡ true → HasEnded (passes i.tries) (steps_of c m) (rig_of c m) (gate m) limit (first_moment i m) (last m) (fares m)
     works Feed e = back.feed.worked
     works Table e = back.table.worked
     works Robot e = back.robot.worked
@@ -162,7 +162,7 @@ module _ (c : CellScales) (i : InterlockView) (limit : ℕ) (gate : Machine → 
     lawful Crane = of_last Crane _ _ back.crane.pass back.crane.lawful
     lawful Watch = nothing_yet i.opening _ back.feed.lawful
 
-    journal_is : (m : Machine) → journal_in six m ≡ noted i.opening (last m).line.seen m
+    journal_is : (m : Machine) → journal_in results m ≡ noted i.opening (last m).line.seen m
     journal_is Feed = back.feed.journal_is ∙ ap (λ v. noted i.opening v.seen Feed) (sym back.feed.pass)
     journal_is Table = back.table.journal_is ∙ ap (λ v. noted i.opening v.seen Table) (sym back.table.pass)
     journal_is Robot = back.robot.journal_is ∙ ap (λ v. noted i.opening v.seen Robot) (sym back.robot.pass)
@@ -171,18 +171,18 @@ module _ (c : CellScales) (i : InterlockView) (limit : ℕ) (gate : Machine → 
     journal_is Crane = back.crane.journal_is ∙ ap (λ v. noted i.opening v.seen Crane) (sym back.crane.pass)
     journal_is Watch = refl
 
-    counted : (m : Machine) → AreCountsOf (journal_in six m) (last m).counts
-    counted Feed = subst (AreCountsOf six.feed.journal.items) (sym back.feed.counts) back.feed.counted
-    counted Table = subst (AreCountsOf six.table.journal.items) (sym back.table.counts) back.table.counted
-    counted Robot = subst (AreCountsOf six.robot.journal.items) (sym back.robot.counts) back.robot.counted
-    counted Press = subst (AreCountsOf six.press.journal.items) (sym back.press.counts) back.press.counted
-    counted Deposit = subst (AreCountsOf six.deposit.journal.items) (sym back.deposit.counts) back.deposit.counted
-    counted Crane = subst (AreCountsOf six.crane.journal.items) (sym back.crane.counts) back.crane.counted
+    counted : (m : Machine) → AreCountsOf (journal_in results m) (last m).counts
+    counted Feed = subst (AreCountsOf results.feed.journal.items) (sym back.feed.counts) back.feed.counted
+    counted Table = subst (AreCountsOf results.table.journal.items) (sym back.table.counts) back.table.counted
+    counted Robot = subst (AreCountsOf results.robot.journal.items) (sym back.robot.counts) back.robot.counted
+    counted Press = subst (AreCountsOf results.press.journal.items) (sym back.press.counts) back.press.counted
+    counted Deposit = subst (AreCountsOf results.deposit.journal.items) (sym back.deposit.counts) back.deposit.counted
+    counted Crane = subst (AreCountsOf results.crane.journal.items) (sym back.crane.counts) back.crane.counted
     counted Watch = record { done = refl; read = refl; refused = refl }
 
     -- the record of what they gave back
-    pub tells : r.start ≡ i.opening → r.counts ≡ six.feed.counts ∷ six.table.counts ∷ six.robot.counts ∷ six.press.counts ∷ six.deposit.counts ∷ six.crane.counts ∷ no_counts ∷ [] → r.status ≡ six.feed.status ∷ six.table.status ∷ six.robot.status ∷ six.press.status ∷ six.deposit.status ∷ six.crane.status ∷ Fine ∷ [] → ((m : Machine) → journal_of r.journals m ≡ journal_in six m) → r.end ≡ None
-        → r.axes ≡ positions_in (parts_in six) → TellsWork c i.opening i.tries limit gate r
+    pub tells : r.start ≡ i.opening → r.counts ≡ results.feed.counts ∷ results.table.counts ∷ results.robot.counts ∷ results.press.counts ∷ results.deposit.counts ∷ results.crane.counts ∷ no_counts ∷ [] → r.status ≡ results.feed.status ∷ results.table.status ∷ results.robot.status ∷ results.press.status ∷ results.deposit.status ∷ results.crane.status ∷ Fine ∷ [] → ((m : Machine) → journal_of r.journals m ≡ journal_in results m) → r.end ≡ None
+        → r.axes ≡ positions_in (parts_in results) → TellsWork c i.opening i.tries limit gate r
     tells start counts status journals end axes =
         record {
           interlock = i;

@@ -53,7 +53,7 @@ use Rattle.cell_plant.specs.Records.{positions_in}
 use Rattle.cell_plant.specs.Runs.{is_at_work}
 use Rattle.cell_plant.proofs.Resting.{moves_rest}
 use Rattle.cell_workers.specs.Lines.{passes}
-use Rattle.cell_workers.specs.Workers.{GateOf, TakesTurn, HasWorked, Ends, AreCountsOf}
+use Rattle.cell_workers.specs.Workers.{GateOf, TakesTurn, HasEnded, Ends, AreCountsOf}
 use Rattle.cell_workers.specs.Records.{MomentOf, first_moment, parts_at_ends, TellsWork}
 use Rattle.cell_workers.specs.Laws.{Rule, by_rule, TellsNothingDone, HadTurns, HasAtMost, first_call, TellsFirstTurns, RecordsTellTurns, RecordsKeepTries, WorkersEnd, TurnsAreTaken}
 use Rattle.cell_workers.proofs.Passes.{come_same, come_counts}
@@ -79,7 +79,7 @@ module _ (c : CellScales) (opening : ModelState) (tries limit : ℕ) (lets : Rul
   module _ (fares : Status) where
     -- a worker can only stay at its start, with this status
     abbrev Rests : Type 0
-    Rests = (m : Machine) (first last : MomentOf m) (s : Status) → first.side.stopped ≡ None → first.counts.turns ≡ 0 → HasWorked (passes tries) (steps_of c m) (rig_of c m) (by_rule lets m) limit first last s → (last ≡ first) × (s ≡ fares)
+    Rests = (m : Machine) (first last : MomentOf m) (s : Status) → first.side.stopped ≡ None → first.counts.turns ≡ 0 → HasEnded (passes tries) (steps_of c m) (rig_of c m) (by_rule lets m) limit first last s → (last ≡ first) × (s ≡ fares)
 
     module _ (rests : Rests) (k : Works) where
       abbrev first : (m : Machine) → MomentOf m
@@ -127,7 +127,7 @@ module _ (c : CellScales) (opening : ModelState) (tries limit : ℕ) (lets : Rul
       abbrev at : (m : Machine) → MomentOf m
       at m = first_moment interlock m
 
-      works : (m : Machine) → is_at_work m ≡ true → HasWorked (passes tries) (steps_of c m) (rig_of c m) (by_rule lets m) limit (at m) (at m) (fares_so m)
+      works : (m : Machine) → is_at_work m ≡ true → HasEnded (passes tries) (steps_of c m) (rig_of c m) (by_rule lets m) limit (at m) (at m) (fares_so m)
       works Feed e = stays tries (steps_of c Feed) (rig_of c Feed) (by_rule lets Feed) limit (at Feed) fares (ends Feed)
       works Table e = stays tries (steps_of c Table) (rig_of c Table) (by_rule lets Table) limit (at Table) fares (ends Table)
       works Robot e = stays tries (steps_of c Robot) (rig_of c Robot) (by_rule lets Robot) limit (at Robot) fares (ends Robot)
@@ -186,14 +186,14 @@ module _ (c : CellScales) (opening : ModelState) (tries limit : ℕ) (lets : Rul
 -- ---- no turn
 
 module _ (c : CellScales) (tries : ℕ) (m : Machine) where
-  no_turn_left : (lets : Rule) (first last : MomentOf m) (s : Status) → first.side.stopped ≡ None → first.counts.turns ≡ 0 → HasWorked (passes tries) (steps_of c m) (rig_of c m) (by_rule lets m) 0 first last s → (last ≡ first) × (s ≡ Fine)
+  no_turn_left : (lets : Rule) (first last : MomentOf m) (s : Status) → first.side.stopped ≡ None → first.counts.turns ≡ 0 → HasEnded (passes tries) (steps_of c m) (rig_of c m) (by_rule lets m) 0 first last s → (last ≡ first) × (s ≡ Fine)
   no_turn_left lets first last s runs none k =
       let gate = by_rule lets m in
       let few = within gate 0 last.side.stopped last.counts.turns s k.ends in
       let same = still tries (steps_of c m) (rig_of c m) gate first last k.come (omega (arith, few, none)) in
       (same, fine_at_once gate s (ends_begun tries (steps_of c m) (rig_of c m) gate 0 first last s same runs none k.ends))
 
-  never_let_in : (first last : MomentOf m) (s : Status) → first.side.stopped ≡ None → first.counts.turns ≡ 0 → HasWorked (passes tries) (steps_of c m) (rig_of c m) (by_rule (λ n turn. false) m) 5 first last s → (last ≡ first) × (s ≡ GateLimit)
+  never_let_in : (first last : MomentOf m) (s : Status) → first.side.stopped ≡ None → first.counts.turns ≡ 0 → HasEnded (passes tries) (steps_of c m) (rig_of c m) (by_rule (λ n turn. false) m) 5 first last s → (last ≡ first) × (s ≡ GateLimit)
   never_let_in first last s runs none k =
       let gate = by_rule (λ n turn. false) m in
       let same = shut_still tries (steps_of c m) (rig_of c m) gate (λ turn e. cc) first last k.come in

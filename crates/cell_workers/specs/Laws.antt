@@ -39,7 +39,7 @@ use Rattle.cell_plant.specs.Machines.{steps_of, rig_of}
 use Rattle.cell_plant.specs.Resting.{IsAtRest}
 use Rattle.cell_plant.specs.Runs.{is_at_work}
 use Rattle.cell_workers.specs.Lines.{passes}
-use Rattle.cell_workers.specs.Workers.{GateOf, TakesTurn, HasWorked, AreCountsOf}
+use Rattle.cell_workers.specs.Workers.{GateOf, TakesTurn, HasEnded, AreCountsOf}
 use Rattle.cell_workers.specs.Records.{MomentOf, first_moment, TellsWork}
 
 -- gates by a rule: which of its turns a machine may begin
@@ -140,7 +140,7 @@ RecordsKeepTries gate = (c : CellScales) (opening : ModelState) (tries limit : �
 -- How a worker ends, by what has stopped its machine. And the counts of a journal, in numbers.
 pub record WorkersEnd : Type 0 where
   pub fares : (c : CellScales) (tries limit : ℕ) (lets : Rule) (m : Machine) (first last : MomentOf m) (s : Status)
-      → HasWorked (passes tries) (steps_of c m) (rig_of c m) (by_rule lets m) limit first last s → MayFare last.side.stopped s
+      → HasEnded (passes tries) (steps_of c m) (rig_of c m) (by_rule lets m) limit first last s → MayFare last.side.stopped s
   pub counted : (call : Call) (c : Counts) → AreCountsOf (six_entries call) c ↔ (c.done ≡ 1) × (c.read ≡ 2) × (c.refused ≡ 3)
 
 -- What a turn is. A stopped machine takes none, nor does a machine that its gate refuses. A Busy call has lost as many

@@ -2,6 +2,6 @@ pub mod Faults
 pub mod Lines
 pub mod Workers
 pub mod Records
-pub mod Backs
+pub mod Results
 pub mod Promises
 pub mod Laws

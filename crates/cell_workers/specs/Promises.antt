@@ -10,18 +10,18 @@ use Rattle.cell_parts.specs.declared.parts.press.PressPart.{PressPart}
 use Rattle.cell_parts.specs.declared.parts.deposit.DepositPart.{DepositPart}
 use Rattle.cell_parts.specs.declared.parts.crane.CranePart.{CranePart}
 use Rattle.cell_workers.specs.Workers.{GateOf}
-use Rattle.cell_workers.specs.declared.start.Promised.{Promised}
-use Rattle.cell_workers.specs.declared.six.Each.{Each}
-use Rattle.cell_workers.specs.declared.six.Six.{Six}
-use Rattle.cell_workers.specs.declared.work.Back.{Back}
+use Rattle.cell_workers.specs.declared.start.WorkerPromise.{WorkerPromise}
+use Rattle.cell_workers.specs.declared.per_machine.PerMachine.{PerMachine}
+use Rattle.cell_workers.specs.Results.{SixResults}
+use Rattle.cell_workers.specs.declared.worker_result.WorkerResult.{WorkerResult}
 
 -- what a worker gives back that worked by a pass; given are the tries of a call, its gate, and the greatest number of
 -- turns
 abbrev pub GivesOf : Type 0 → Type 0 → Type 1
-GivesOf W B = W → PassView → ℕ → GateOf → ℕ → Back B → Type 0
+GivesOf W B = W → PassView → ℕ → GateOf → ℕ → WorkerResult B → Type 0
 
 -- each worker's progress follows from what its pass has seen
-pub record AreReady {W1 W2 W3 W4 W5 W6 : Type 0} (ready1 : W1 → PassView → Type 0) (ready2 : W2 → PassView → Type 0) (ready3 : W3 → PassView → Type 0) (ready4 : W4 → PassView → Type 0) (ready5 : W5 → PassView → Type 0) (ready6 : W6 → PassView → Type 0) (workers : Each W1 W2 W3 W4 W5 W6) (passes : Passes) : Type 0 where
+pub record AreReady {W1 W2 W3 W4 W5 W6 : Type 0} (ready1 : W1 → PassView → Type 0) (ready2 : W2 → PassView → Type 0) (ready3 : W3 → PassView → Type 0) (ready4 : W4 → PassView → Type 0) (ready5 : W5 → PassView → Type 0) (ready6 : W6 → PassView → Type 0) (workers : PerMachine W1 W2 W3 W4 W5 W6) (passes : Passes) : Type 0 where
   pub feed : ready1 workers.feed passes.feed
   pub table : ready2 workers.table passes.table
   pub robot : ready3 workers.robot passes.robot
@@ -30,16 +30,16 @@ pub record AreReady {W1 W2 W3 W4 W5 W6 : Type 0} (ready1 : W1 → PassView → T
   pub crane : ready6 workers.crane passes.crane
 
 -- each worker keeps its own promise
-pub record GiveBack {W1 W2 W3 W4 W5 W6 : Type 0} (gives1 : GivesOf W1 FeedPart) (gives2 : GivesOf W2 TablePart) (gives3 : GivesOf W3 RobotPart) (gives4 : GivesOf W4 PressPart) (gives5 : GivesOf W5 DepositPart) (gives6 : GivesOf W6 CranePart) (workers : Each W1 W2 W3 W4 W5 W6) (passes : Passes) (tries : ℕ) (gate : Machine → GateOf) (turns : ℕ) (six : Six) : Type 0 where
-  pub feed : gives1 workers.feed passes.feed tries (gate passes.feed.machine) turns six.feed
-  pub table : gives2 workers.table passes.table tries (gate passes.table.machine) turns six.table
-  pub robot : gives3 workers.robot passes.robot tries (gate passes.robot.machine) turns six.robot
-  pub press : gives4 workers.press passes.press tries (gate passes.press.machine) turns six.press
-  pub deposit : gives5 workers.deposit passes.deposit tries (gate passes.deposit.machine) turns six.deposit
-  pub crane : gives6 workers.crane passes.crane tries (gate passes.crane.machine) turns six.crane
+pub record GiveBack {W1 W2 W3 W4 W5 W6 : Type 0} (gives1 : GivesOf W1 FeedPart) (gives2 : GivesOf W2 TablePart) (gives3 : GivesOf W3 RobotPart) (gives4 : GivesOf W4 PressPart) (gives5 : GivesOf W5 DepositPart) (gives6 : GivesOf W6 CranePart) (workers : PerMachine W1 W2 W3 W4 W5 W6) (passes : Passes) (tries : ℕ) (gate : Machine → GateOf) (turns : ℕ) (results : SixResults) : Type 0 where
+  pub feed : gives1 workers.feed passes.feed tries (gate passes.feed.machine) turns results.feed
+  pub table : gives2 workers.table passes.table tries (gate passes.table.machine) turns results.table
+  pub robot : gives3 workers.robot passes.robot tries (gate passes.robot.machine) turns results.robot
+  pub press : gives4 workers.press passes.press tries (gate passes.press.machine) turns results.press
+  pub deposit : gives5 workers.deposit passes.deposit tries (gate passes.deposit.machine) turns results.deposit
+  pub crane : gives6 workers.crane passes.crane tries (gate passes.crane.machine) turns results.crane
 
 -- workers are started one after another; after the first that couldn't be started, none is
-pub record AreStartedInTurn {A B C D E F : Type 0} (started : Each (Option A) (Option B) (Option C) (Option D) (Option E) (Option F)) : Type 0 where
+pub record AreStartedInTurn {A B C D E F : Type 0} (started : PerMachine (Option A) (Option B) (Option C) (Option D) (Option E) (Option F)) : Type 0 where
   pub table : started.feed ≡ None → started.table ≡ None
   pub robot : started.table ≡ None → started.robot ≡ None
   pub press : started.robot ≡ None → started.press ≡ None
@@ -47,7 +47,7 @@ pub record AreStartedInTurn {A B C D E F : Type 0} (started : Each (Option A) (O
   pub crane : started.deposit ≡ None → started.crane ≡ None
 
 -- a promise by this worker, with this pass
-pub record IsPromised {W G : Type 0} (interlock : InterlockView) (gate : G) (turns : ℕ) (pass : PassView) (worker : W) (p : Promised W G) : Type 0 where
+pub record IsPromised {W G : Type 0} (interlock : InterlockView) (gate : G) (turns : ℕ) (pass : PassView) (worker : W) (p : WorkerPromise W G) : Type 0 where
   pub over : p.interlock.value ≡ interlock
   pub by_pass : p.pass.value ≡ pass
   pub of_worker : p.worker.value ≡ worker
@@ -55,5 +55,5 @@ pub record IsPromised {W G : Type 0} (interlock : InterlockView) (gate : G) (tur
   pub limit : p.turns ≡ turns
 
 -- what was given back keeps the promise
-abbrev pub IsKept : {W G B : Type 0} → GivesOf W B → (G → Machine → GateOf) → Promised W G → Back B → Type 0
+abbrev pub IsKept : {W G B : Type 0} → GivesOf W B → (G → Machine → GateOf) → WorkerPromise W G → WorkerResult B → Type 0
 IsKept gives may_answer p back = gives p.worker.value p.pass.value p.interlock.value.tries (may_answer p.gate.value p.pass.value.machine) p.turns back

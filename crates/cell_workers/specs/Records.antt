@@ -20,10 +20,10 @@ use Rattle.cell_plant.specs.CellStates.{side_in, sides_at_start}
 use Rattle.cell_plant.specs.Records.{positions_in}
 use Rattle.cell_plant.specs.Runs.{is_at_work}
 use Rattle.cell_workers.specs.Lines.{passes}
-use Rattle.cell_workers.specs.Workers.{GateOf, Moment, HasWorked, AreCountsOf}
+use Rattle.cell_workers.specs.Workers.{GateOf, WorkerMoment, HasEnded, AreCountsOf}
 
 abbrev pub MomentOf : Machine → Type 0
-MomentOf m = Moment PassView (ProgressOf m) (PartOf m)
+MomentOf m = WorkerMoment PassView (ProgressOf m) (PartOf m)
 
 -- before its first turn a worker has a pass that has seen nothing, and its machine is at its start
 abbrev pub first_moment : InterlockView → (m : Machine) → MomentOf m
@@ -49,7 +49,7 @@ pub record TellsWork (scales : CellScales) (opening : ModelState) (tries limit :
   pub opened : interlock.opening ≡ opening
   pub last : (m : Machine) → MomentOf m
   pub fares : Machine → Status
-  pub works : (m : Machine) → is_at_work m ≡ true → HasWorked (passes tries) (steps_of scales m) (rig_of scales m) (gate m) limit (first_moment interlock m) (last m) (fares m)
+  pub works : (m : Machine) → is_at_work m ≡ true → HasEnded (passes tries) (steps_of scales m) (rig_of scales m) (gate m) limit (first_moment interlock m) (last m) (fares m)
   pub watch_rests : (last Watch ≡ first_moment interlock Watch) × (fares Watch ≡ Fine)
   pub lawful : (m : Machine) → LawfulThroughout opening (last m).line.seen
   pub start : r.start ≡ opening

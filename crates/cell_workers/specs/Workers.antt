@@ -20,13 +20,13 @@ use Rattle.cell_seat.specs.Sides.{Side, ActsAndMoves, TellsByDemands}
 use Rattle.cell_workers.specs.Lines.{Lines, passes}
 
 -- a worker between two turns: its line, its machine's side, and its counts
-pub record Moment (L S State : Type 0) : Type 0 where
+pub record WorkerMoment (L S State : Type 0) : Type 0 where
   pub line : L
   pub side : Side S State
   pub counts : Counts
 
-abbrev pub moment : {L S State : Type 0} → L → Side S State → Counts → Moment L S State
-moment line side counts = record { line = line; side = side; counts = counts }
+abbrev pub worker_moment : {L S State : Type 0} → L → Side S State → Counts → WorkerMoment L S State
+worker_moment line side counts = record { line = line; side = side; counts = counts }
 
 -- what a gate may answer a machine, by the number of the turn
 abbrev pub GateOf : Type 1
@@ -34,7 +34,7 @@ GateOf = ℕ → Bool → Type 0
 
 -- A turn of a machine that hasn't stopped, once its gate has let it in: a row of its program, with one call over the
 -- line or none. What its motors demand holds of what it has seen.
-pub record TakesTurn {L S Sense Reading Act State : Type 0} (lines : Lines L) (t : Steps S Sense Reading Act) (rig : Rig State Sense Act) (gate : GateOf) (before now : Moment L S State) : Type 0 where
+pub record TakesTurn {L S Sense Reading Act State : Type 0} (lines : Lines L) (t : Steps S Sense Reading Act) (rig : Rig State Sense Act) (gate : GateOf) (before now : WorkerMoment L S State) : Type 0 where
   pub runs : before.side.stopped ≡ None
   pub let_in : gate before.counts.turns true
   pub asked : Asked
@@ -43,7 +43,7 @@ pub record TakesTurn {L S Sense Reading Act State : Type 0} (lines : Lines L) (t
   pub counted : now.counts ≡ counts_with before.counts asked
 
 -- turns, each from the end of the one before it
-abbrev pub TakesTurns : {L S Sense Reading Act State : Type 0} → Lines L → Steps S Sense Reading Act → Rig State Sense Act → GateOf → Moment L S State → List (Moment L S State) → Type 0
+abbrev pub TakesTurns : {L S Sense Reading Act State : Type 0} → Lines L → Steps S Sense Reading Act → Rig State Sense Act → GateOf → WorkerMoment L S State → List (WorkerMoment L S State) → Type 0
 TakesTurns lines t rig gate before [] = ⊤
 TakesTurns lines t rig gate before (now ∷ later) = TakesTurn lines t rig gate before now × TakesTurns lines t rig gate now later
 
@@ -52,8 +52,8 @@ last_of first [] = first
 last_of first (now ∷ later) = last_of now later
 
 -- a worker has gone from one moment to another by turns
-pub record HasCome {L S Sense Reading Act State : Type 0} (lines : Lines L) (t : Steps S Sense Reading Act) (rig : Rig State Sense Act) (gate : GateOf) (first now : Moment L S State) : Type 0 where
-  pub turns : List (Moment L S State)
+pub record HasCome {L S Sense Reading Act State : Type 0} (lines : Lines L) (t : Steps S Sense Reading Act) (rig : Rig State Sense Act) (gate : GateOf) (first now : WorkerMoment L S State) : Type 0 where
+  pub turns : List (WorkerMoment L S State)
   pub taken : TakesTurns lines t rig gate first turns
   pub last : last_of first turns ≡ now
 
@@ -64,7 +64,7 @@ Ends gate limit None turns s = ((s ≡ Fine) × (turns ≡ limit)) ⊎ ((s ≡ G
 Ends gate limit (Some fault) turns s = (s ≡ status_of (Some fault)) × (turns ≤ limit)
 
 -- a worker has gone from its first moment to its last, and ends with this status
-pub record HasWorked {L S Sense Reading Act State : Type 0} (lines : Lines L) (t : Steps S Sense Reading Act) (rig : Rig State Sense Act) (gate : GateOf) (limit : ℕ) (first last : Moment L S State) (status : Status) : Type 0 where
+pub record HasEnded {L S Sense Reading Act State : Type 0} (lines : Lines L) (t : Steps S Sense Reading Act) (rig : Rig State Sense Act) (gate : GateOf) (limit : ℕ) (first last : WorkerMoment L S State) (status : Status) : Type 0 where
   pub come : HasCome lines t rig gate first last
   pub ends : Ends gate limit last.side.stopped last.counts.turns status
 
@@ -86,9 +86,9 @@ pub record AreCountsOf (journal : List Entry) (c : Counts) : Type 0 where
 
 -- What a worker gives back after it began at this moment: it has worked up to a last moment, with this pass, these
 -- counts and this part. What the pass has seen is lawful, and the journal has its machine's notes of it.
-pub record GivesBack {S Sense Reading Act State : Type 0} (tries : ℕ) (t : Steps S Sense Reading Act) (rig : Rig State Sense Act) (gate : GateOf) (limit : ℕ) (first : Moment PassView S State) (kept : PassView) (journal : List Entry) (did : Counts) (fares : Status) (stands : State) : Type 0 where
-  pub last : Moment PassView S State
-  pub worked : HasWorked (passes tries) t rig gate limit first last fares
+pub record IsWorkerResult {S Sense Reading Act State : Type 0} (tries : ℕ) (t : Steps S Sense Reading Act) (rig : Rig State Sense Act) (gate : GateOf) (limit : ℕ) (first : WorkerMoment PassView S State) (kept : PassView) (journal : List Entry) (did : Counts) (fares : Status) (stands : State) : Type 0 where
+  pub last : WorkerMoment PassView S State
+  pub worked : HasEnded (passes tries) t rig gate limit first last fares
   pub pass : last.line ≡ kept
   pub counts : last.counts ≡ did
   pub part : last.side.part ≡ stands

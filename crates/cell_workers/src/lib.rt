@@ -3,13 +3,14 @@
 
 pub mod fault;
 pub mod gate;
-mod labour;
 pub mod laws;
+mod per_machine;
 pub mod run;
-mod six;
 mod start;
-mod work;
+mod take_turns;
+mod threads;
 mod worker;
+mod worker_result;
 
 pub use fault::RunFault;
 pub use gate::{Gate, OpenGate};

@@ -4,13 +4,14 @@ ghost use Rattle.cell_rules.specs.Start.{IsStartState};
 ghost use Rattle.cell_interlock.specs.Fresh.{AreFresh};
 ghost use Rattle.cell_parts.specs.Axes.{AreCellScales};
 ghost use Rattle.cell_plant.specs.Cells.{IsMadeFor, scales_of};
-ghost use Rattle.cell_workers.specs.Backs.{AreBack};
+ghost use Rattle.cell_workers.specs.Results.{AreWorkerResults};
 ghost use Rattle.cell_workers.specs.Records.{TellsWork};
 
 use crate::fault::RunFault;
 use crate::gate::Gate;
-use crate::six::{Each, Six, run_six};
-use crate::start::Orders;
+use crate::per_machine::{PerMachine, WorkerResults};
+use crate::start::WorkerContext;
+use crate::threads::run_in_threads;
 use cell_calib::Gauge;
 use cell_interlock::{Interlock, Passes};
 use cell_notes::RunRecord;
@@ -58,14 +59,14 @@ where
     ensures work { IfOk result (TellsWork (scales_of cell) opening tries turns (G.may_answer gate.now)) }
 {
     let (interlock, passes) = Interlock::new(alloc, opening, tries)?;
-    let orders = Orders {
+    let context = WorkerContext {
         alloc,
         interlock: &interlock,
         gate,
         turns,
     };
-    match run_seats(rt, &orders, passes, cell) {
-        Some(six) => Ok(six.into_record(alloc, opening)),
+    match run_seats(rt, &context, passes, cell) {
+        Some(results) => Ok(results.into_record(alloc, opening)),
         None => Err(RunFault::Spawn),
     }
 }
@@ -73,10 +74,10 @@ where
 // Runs the seats of a cell by workers with these passes.
 fn run_seats<R, F1, F2, F3, F4, F5, G>(
     rt: &R,
-    orders: &Orders<'_, G>,
+    context: &WorkerContext<'_, G>,
     passes: Passes,
     cell: Cell<F1, F2, F3, F4, F5>,
-) -> Option<Six>
+) -> Option<WorkerResults>
 where
     R: Threads + Wait + Sync,
     F1: Gauge + Send,
@@ -85,11 +86,11 @@ where
     F4: Gauge + Send,
     F5: Gauge + Send,
     G: Gate + Sync,
-    requires fresh { AreFresh orders.now.interlock.now passes }
-    requires made { IsMadeFor orders.now.interlock.now.opening cell }
-    ensures { IfSome result (AreBack (scales_of cell) orders.now.interlock.now orders.now.turns (G.may_answer orders.now.gate.now)) }
+    requires fresh { AreFresh context.now.interlock.now passes }
+    requires made { IsMadeFor context.now.interlock.now.opening cell }
+    ensures { IfSome result (AreWorkerResults (scales_of cell) context.now.interlock.now context.now.turns (G.may_answer context.now.gate.now)) }
 {
-    let workers = Each {
+    let workers = PerMachine {
         feed: cell.feed,
         table: cell.table,
         robot: cell.robot,
@@ -97,5 +98,5 @@ where
         deposit: cell.deposit,
         crane: cell.crane,
     };
-    run_six(rt, orders, passes, workers)
+    run_in_threads(rt, context, passes, workers)
 }

@@ -3,8 +3,8 @@ ghost use Rattle.std.specs.Prelude.{◌≡◌, [], IfSome, Some, None, true, fal
 ghost use Rattle.cell_workers.specs.Promises.{IsPromised};
 
 use crate::gate::Gate;
-use crate::work::Back;
 use crate::worker::Worker;
+use crate::worker_result::WorkerResult;
 use cell_interlock::{Interlock, Pass};
 use std::alloc::Global;
 use std::snapshot::Snapshot;
@@ -12,10 +12,10 @@ use std::thread::{Promise, PromisedHandle, Scope, Threads};
 
 /// What the workers of a run have in common.
 #[derive(Drop)]
-pub(crate) struct Orders<'s, G> {
+pub(crate) struct WorkerContext<'s, G> {
     /// The allocator of their journals.
     pub alloc: Global,
-    /// The interlock over which they work.
+    /// The interlock over which they take their turns.
     pub interlock: &'s Interlock,
     /// The gate that lets them begin their turns.
     pub gate: &'s G,
@@ -25,7 +25,7 @@ pub(crate) struct Orders<'s, G> {
 
 /// What a worker's result keeps.
 #[derive(Drop)]
-pub(crate) struct Promised<W, G> {
+pub(crate) struct WorkerPromise<W, G> {
     interlock: Snapshot<Interlock>,
     pass: Snapshot<Pass>,
     worker: Snapshot<W>,
@@ -33,7 +33,7 @@ pub(crate) struct Promised<W, G> {
     turns: u32,
 }
 
-impl<W: Worker, G: Gate> Promise<Back<W::Part>> for Promised<W, G> {
+impl<W: Worker, G: Gate> Promise<WorkerResult<W::Part>> for WorkerPromise<W, G> {
     ghost kept_by = { λ p r. W.gives_back p.worker.value p.pass.value p.interlock.value.tries (G.may_answer p.gate.value p.pass.value.machine) p.turns r };
 }
 
@@ -42,31 +42,31 @@ impl<W: Worker, G: Gate> Promise<Back<W::Part>> for Promised<W, G> {
 /// Returns `None` if it isn't started; then `all_run` is false. Otherwise it stays true.
 pub(crate) fn start<'s, E, W: Worker + Send + 's, G: Gate + Sync>(
     scope: &Scope<'s, E>,
-    orders: &Orders<'s, G>,
+    context: &WorkerContext<'s, G>,
     all_run: &mut bool,
     pass: Pass,
     worker: W,
-) -> Option<PromisedHandle<Back<W::Part>, Promised<W, G>>>
+) -> Option<PromisedHandle<WorkerResult<W::Part>, WorkerPromise<W, G>>>
 where
     W::Part: Send,
-    requires table { pass.table ≡ orders.now.interlock.now.table }
+    requires table { pass.table ≡ context.now.interlock.now.table }
     requires fresh { pass.seen ≡ [] }
     requires ready { W.is_ready worker pass }
     ensures failed { result ≡ None → all_run.new ≡ false }
     ensures goes_on { IfSome result (λ h. all_run.new ≡ true) }
     ensures none_after { all_run.old ≡ false → result ≡ None }
-    ensures promised { IfSome result (λ h. IsPromised orders.now.interlock.now orders.now.gate.now orders.now.turns pass worker h.promise) }
+    ensures promised { IfSome result (λ h. IsPromised context.now.interlock.now context.now.gate.now context.now.turns pass worker h.promise) }
 {
     if !*all_run {
         return None;
     }
-    let Orders {
+    let WorkerContext {
         alloc,
         interlock,
         gate,
         turns,
-    } = *orders;
-    let promise = Promised {
+    } = *context;
+    let promise = WorkerPromise {
         interlock: Snapshot::of(interlock),
         pass: Snapshot::of(&pass),
         worker: Snapshot::of(&worker),
@@ -76,7 +76,7 @@ where
     let started = scope
         .spawn_with(
             promise,
-            move || worker.work(alloc, interlock, pass, gate, turns),
+            move || worker.take_turns(alloc, interlock, pass, gate, turns),
         )
         .ok();
     *all_run = started.is_some();
@@ -84,7 +84,7 @@ where
 }
 
 /// Waits until a worker has ended, if it was started.
-pub(crate) fn joined<R: Threads, T, P: Promise<T>>(
+pub(crate) fn join<R: Threads, T, P: Promise<T>>(
     rt: &R,
     started: Option<PromisedHandle<T, P>>,
 ) -> Option<T>

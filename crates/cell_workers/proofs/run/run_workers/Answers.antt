@@ -18,4 +18,4 @@ returns-in-Some-clause-work g c =
     let turns = c.args.turns in
     subst (λ (n : ℕ). TellsWork scales c.args.opening n turns gate c.into_record.result) made.limit
     (subst (λ (s : ModelState). TellsWork scales s i.tries turns gate c.into_record.result) made.opening
-    (tells scales i turns gate c.in-Some.six c.in-Some.ensures c.into_record.result (r.start ∙ sym made.opening) r.counts r.status r.journals r.end r.axes))
+    (tells scales i turns gate c.in-Some.results c.in-Some.ensures c.into_record.result (r.start ∙ sym made.opening) r.counts r.status r.journals r.end r.axes))

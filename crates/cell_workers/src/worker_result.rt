@@ -1,11 +1,11 @@
-//! A worker: it gets a pass, and gives back a plain struct.
+//! A machine's turns by its pass, and what its worker gives back: a plain struct.
 ghost use Rattle.std.specs.Prelude.{◌≡◌, []};
 ghost use Rattle.cell_notes.specs.Notes.{no_counts};
 ghost use Rattle.cell_seat.specs.Sides.{IsReady, side_of};
-ghost use Rattle.cell_workers.specs.Workers.{GivesBack, moment};
+ghost use Rattle.cell_workers.specs.Workers.{IsWorkerResult, worker_moment};
 
 use crate::gate::Gate;
-use crate::labour::labour;
+use crate::take_turns::take_turns;
 use cell_control::{Part, Program};
 use cell_interlock::{Interlock, Pass, PassLine};
 use cell_notes::{Counts, Status};
@@ -16,7 +16,7 @@ use std::alloc::Global;
 
 /// What a worker gives back. It borrows nothing, and doesn't contain the machine's controller.
 #[derive(Drop)]
-pub(crate) struct Back<B> {
+pub(crate) struct WorkerResult<B> {
     /// The machine's pass.
     pub pass: Pass,
     /// An entry for each call that it settled.
@@ -30,31 +30,31 @@ pub(crate) struct Back<B> {
 }
 
 /// Takes a machine's turns by its pass over an interlock.
-pub(crate) fn work<P: Program, B: Part<Sense = P::Sense, Act = P::Act>, G: Gate>(
+pub(crate) fn take_turns_by_pass<P: Program, B: Part<Sense = P::Sense, Act = P::Act>, G: Gate>(
     alloc: Global,
     interlock: &Interlock,
     pass: Pass,
     seat: Seat<P, B>,
     gate: &G,
     turns: u32,
-) -> Back<B>
+) -> WorkerResult<B>
     requires table { pass.table ≡ interlock.now.table }
     requires fresh { pass.seen ≡ [] }
     requires own { pass.machine ≡ (P.steps seat.controller.program).machine }
     requires ready { IsReady (P.steps seat.controller.program) pass.opening pass.seen seat.controller.stopped seat.controller.progress }
-    ensures { GivesBack interlock.now.tries (P.steps seat.controller.program) (B.rig (B.make seat.part)) (G.may_answer gate.now pass.machine) turns
-        (moment pass (side_of seat.controller.progress seat.controller.stopped (B.state seat.part)) no_counts) result.pass result.journal.items result.counts result.status (B.state result.part) }
+    ensures { IsWorkerResult interlock.now.tries (P.steps seat.controller.program) (B.rig (B.make seat.part)) (G.may_answer gate.now pass.machine) turns
+        (worker_moment pass (side_of seat.controller.progress seat.controller.stopped (B.state seat.part)) no_counts) result.pass result.journal.items result.counts result.status (B.state result.part) }
 {
     lawful_histories();
     let mut seat = seat;
     let mut line = PassLine::new(alloc, interlock, pass);
-    let tally = labour(&mut seat, &mut line, gate, turns);
+    let ending = take_turns(&mut seat, &mut line, gate, turns);
     let (pass, journal) = line.into_parts();
-    Back {
+    WorkerResult {
         pass,
         journal,
-        counts: tally.counts,
-        status: tally.status,
+        counts: ending.counts,
+        status: ending.status,
         part: seat.part,
     }
 }

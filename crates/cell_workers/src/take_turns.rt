@@ -3,7 +3,7 @@ ghost use Rattle.std.specs.Prelude.{◌≡◌};
 ghost use Rattle.cell_notes.specs.Notes.{no_counts};
 ghost use Rattle.cell_seat.specs.Fares.{status_of as status_by};
 ghost use Rattle.cell_seat.specs.Sides.{IsReady, side_of};
-ghost use Rattle.cell_workers.specs.Workers.{HasWorked, moment};
+ghost use Rattle.cell_workers.specs.Workers.{HasEnded, worker_moment};
 
 use crate::gate::Gate;
 use cell_control::{Part, Program};
@@ -11,9 +11,9 @@ use cell_notes::{Counts, Status};
 use cell_rules::Line;
 use cell_seat::{Seat, status_of};
 
-/// A worker's counts and status.
+/// How a worker ended.
 #[derive(Clone, Copy, Debug, PartialEq, Eq)]
-pub(crate) struct Tally {
+pub(crate) struct Ending {
     /// Its counts of turns and replies.
     pub counts: Counts,
     /// The status of its machine.
@@ -22,45 +22,45 @@ pub(crate) struct Tally {
 
 /// Takes a machine's turns over a line: at most `turns`, each once the gate lets it begin, and none
 /// after a turn that has stopped the machine.
-pub(crate) fn labour<P: Program, B: Part<Sense = P::Sense, Act = P::Act>, L: Line, G: Gate>(
+pub(crate) fn take_turns<P: Program, B: Part<Sense = P::Sense, Act = P::Act>, L: Line, G: Gate>(
     seat: &mut Seat<P, B>,
     line: &mut L,
     gate: &G,
     turns: u32,
-) -> Tally
+) -> Ending
     requires own { L.machine line.old ≡ (P.steps seat.old.controller.program).machine }
     requires ready { IsReady (P.steps seat.old.controller.program) (L.opening line.old) (L.seen line.old) seat.old.controller.stopped seat.old.controller.progress }
-    ensures worked { HasWorked (record { opening = L.opening; seen = L.seen; asks = L.asks }) (P.steps seat.old.controller.program) (B.rig (B.make seat.old.part)) (G.may_answer gate.now (L.machine line.old)) turns
-        (moment line.old (side_of seat.old.controller.progress seat.old.controller.stopped (B.state seat.old.part)) no_counts)
-        (moment line.new (side_of seat.new.controller.progress seat.new.controller.stopped (B.state seat.new.part)) result.counts) result.status }
+    ensures ended { HasEnded (record { opening = L.opening; seen = L.seen; asks = L.asks }) (P.steps seat.old.controller.program) (B.rig (B.make seat.old.part)) (G.may_answer gate.now (L.machine line.old)) turns
+        (worker_moment line.old (side_of seat.old.controller.progress seat.old.controller.stopped (B.state seat.old.part)) no_counts)
+        (worker_moment line.new (side_of seat.new.controller.progress seat.new.controller.stopped (B.state seat.new.part)) result.counts) result.status }
     ensures own { L.machine line.new ≡ L.machine line.old }
 {
     let machine = line.machine();
     let mut counts = Counts::none();
     for turn in 0..turns {
         if seat.controller.stopped().is_some() {
-            return ended(seat, counts);
+            return ending_of(seat, counts);
         }
         if !gate.pass(machine, turn) {
-            return Tally {
+            return Ending {
                 counts,
                 status: Status::GateLimit,
             };
         }
         counts = counts.with(seat.turn(line));
     }
-    ended(seat, counts)
+    ending_of(seat, counts)
 }
 
-// A worker that its gate has let through.
-fn ended<P: Program, B: Part<Sense = P::Sense, Act = P::Act>>(
+// How a worker ends that its gate has let through.
+fn ending_of<P: Program, B: Part<Sense = P::Sense, Act = P::Act>>(
     seat: &Seat<P, B>,
     counts: Counts,
-) -> Tally
+) -> Ending
     ensures counts { result.counts ≡ counts }
     ensures status { result.status ≡ status_by seat.now.controller.stopped }
 {
-    Tally {
+    Ending {
         counts,
         status: status_of(seat.controller.stopped()),
     }

@@ -2,9 +2,9 @@ use Rattle.std.proofs.Common.{◌∙◌, ◌+◌, sym, ap, subst, refl}
 use Rattle.cell_notes.specs.Notes.{no_counts, AreBelow}
 use Rattle.cell_notes.proofs.CountLemmas.{none_below}
 use Rattle.cell_seat.specs.Sides.{side_of}
-use Rattle.cell_workers.specs.Workers.{moment}
+use Rattle.cell_workers.specs.Workers.{worker_moment}
 use Rattle.cell_workers.proofs.Turning.{has_begun_as, comes_by, few_more, one_turn_more, not_stopped}
-use Rattle.cell_workers.proofs.labour.labour.Goals as goal
+use Rattle.cell_workers.proofs.take_turns.take_turns.Goals as goal
 
 pub loop-turn-init : goal.loop-turn-init
 loop-turn-init g c =
@@ -28,9 +28,9 @@ loop-turn-preserved g c =
     let old = c.loop-turn.invariant in
     let seat = c.loop-turn.seat in
     let t = c.turn.ensures in
-    let first = moment c.args.line.now (side_of c.args.seat.now.controller.progress c.args.seat.now.controller.stopped (g.B.Part.state c.args.seat.now.part)) no_counts in
-    let before = moment c.loop-turn.line (side_of seat.controller.progress seat.controller.stopped (g.B.Part.state seat.part)) c.loop-turn.counts in
-    let now = moment c.turn.new.line (side_of c.turn.new.self.controller.progress c.turn.new.self.controller.stopped (g.B.Part.state c.turn.new.self.part)) c.with-counts.result in
+    let first = worker_moment c.args.line.now (side_of c.args.seat.now.controller.progress c.args.seat.now.controller.stopped (g.B.Part.state c.args.seat.now.part)) no_counts in
+    let before = worker_moment c.loop-turn.line (side_of seat.controller.progress seat.controller.stopped (g.B.Part.state seat.part)) c.loop-turn.counts in
+    let now = worker_moment c.turn.new.line (side_of c.turn.new.self.controller.progress c.turn.new.self.controller.stopped (g.B.Part.state c.turn.new.self.part)) c.with-counts.result in
     record {
       come = comes_by (record { opening = g.L.Line.opening; seen = g.L.Line.seen; asks = g.L.Line.asks }) g.P.Program.steps g.B.Part.rig (g.G.Gate.may_answer c.args.gate.now (g.L.Line.machine c.args.line.now))
           seat.controller.program c.args.seat.now.controller.program (g.B.Part.make seat.part) (g.B.Part.make c.args.seat.now.part) old.program old.make first before now old.come

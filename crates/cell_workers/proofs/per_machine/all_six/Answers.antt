@@ -1,6 +1,6 @@
 use Rattle.std.proofs.Common.{◌≡◌, ◌∙◌, sym, ap, Option, Some, None}
 use Rattle.std.specs.Option.{option_zip}
-use Rattle.cell_workers.proofs.six.six_of.Goals as goal
+use Rattle.cell_workers.proofs.per_machine.all_six.Goals as goal
 
 -- if there is a pair, there are both parts of it
 both : {A B : Type 0} → (a : Option A) (b : Option B) (x : A) (y : B) → option_zip a b ≡ Some (x, y) → (a ≡ Some x) × (b ≡ Some y)

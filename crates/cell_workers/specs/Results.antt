@@ -1,0 +1,62 @@
+-- What six workers gave back, by machine.
+use Rattle.std.specs.Prelude.{ℕ, List, []}
+use Rattle.cell_types.specs.declared.machine.Machine.{Machine}
+use Rattle.cell_types.specs.declared.machine.Machine.TheVariants.{Feed, Table, Robot, Press, Deposit, Crane, Watch}
+use Rattle.cell_types.specs.declared.journal.Entry.{Entry}
+use Rattle.cell_interlock.specs.Views.{PassView, InterlockView}
+use Rattle.cell_notes.specs.declared.counts.Counts.{Counts}
+use Rattle.cell_notes.specs.declared.status.Status.{Status}
+use Rattle.cell_parts.specs.Axes.{CellScales}
+use Rattle.cell_parts.specs.Plant.{PlantState}
+use Rattle.cell_plant.specs.Machines.{PartOf, steps_of, rig_of}
+use Rattle.cell_workers.specs.Workers.{GateOf, IsWorkerResult}
+use Rattle.cell_workers.specs.Records.{first_moment}
+use Rattle.cell_parts.specs.declared.parts.feed.FeedPart.{FeedPart}
+use Rattle.cell_parts.specs.declared.parts.table.TablePart.{TablePart}
+use Rattle.cell_parts.specs.declared.parts.robot.RobotPart.{RobotPart}
+use Rattle.cell_parts.specs.declared.parts.press.PressPart.{PressPart}
+use Rattle.cell_parts.specs.declared.parts.deposit.DepositPart.{DepositPart}
+use Rattle.cell_parts.specs.declared.parts.crane.CranePart.{CranePart}
+use Rattle.cell_workers.specs.declared.worker_result.WorkerResult.{WorkerResult}
+use Rattle.cell_workers.specs.declared.per_machine.PerMachine.{PerMachine}
+
+-- what the six workers gave back: `WorkerResults`, since antt has no name for an alias
+abbrev pub SixResults : Type 0
+SixResults =
+    PerMachine (WorkerResult FeedPart) (WorkerResult TablePart) (WorkerResult RobotPart)
+    (WorkerResult PressPart) (WorkerResult DepositPart) (WorkerResult CranePart)
+
+-- the journals; the watch's is empty
+abbrev pub journal_in : SixResults → Machine → List Entry
+journal_in results Feed = results.feed.journal.items
+journal_in results Table = results.table.journal.items
+journal_in results Robot = results.robot.journal.items
+journal_in results Press = results.press.journal.items
+journal_in results Deposit = results.deposit.journal.items
+journal_in results Crane = results.crane.journal.items
+journal_in results Watch = []
+
+abbrev pub parts_in : SixResults → PlantState
+parts_in results =
+    record {
+      feed = results.feed.part.belt;
+      table = results.table.part.plant;
+      robot = results.robot.part.plant;
+      press = results.press.part;
+      deposit = results.deposit.part.belt;
+      crane = results.crane.part.plant;
+    }
+
+-- what a machine's worker gave back, by the machine's name; it began with a fresh pass of the interlock, at its
+-- machine's start
+abbrev pub IsResultOf : CellScales → InterlockView → ℕ → (Machine → GateOf) → (m : Machine) → PassView → List Entry → Counts → Status → PartOf m → Type 0
+IsResultOf c i limit gate m kept journal did fares stands = IsWorkerResult i.tries (steps_of c m) (rig_of c m) (gate m) limit (first_moment i m) kept journal did fares stands
+
+-- likewise for each of the six
+pub record AreWorkerResults (c : CellScales) (i : InterlockView) (limit : ℕ) (gate : Machine → GateOf) (results : SixResults) : Type 0 where
+  pub feed : IsResultOf c i limit gate Feed results.feed.pass results.feed.journal.items results.feed.counts results.feed.status results.feed.part.belt
+  pub table : IsResultOf c i limit gate Table results.table.pass results.table.journal.items results.table.counts results.table.status results.table.part.plant
+  pub robot : IsResultOf c i limit gate Robot results.robot.pass results.robot.journal.items results.robot.counts results.robot.status results.robot.part.plant
+  pub press : IsResultOf c i limit gate Press results.press.pass results.press.journal.items results.press.counts results.press.status results.press.part
+  pub deposit : IsResultOf c i limit gate Deposit results.deposit.pass results.deposit.journal.items results.deposit.counts results.deposit.status results.deposit.part.belt
+  pub crane : IsResultOf c i limit gate Crane results.crane.pass results.crane.journal.items results.crane.counts results.crane.status results.crane.part.plant
