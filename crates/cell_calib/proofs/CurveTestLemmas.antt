@@ -4,7 +4,7 @@ use Rattle.std.specs.Prelude.{int_le, T}
 use Rattle.std.specs.List.{list_all}
 use Rattle.std.specs.Int.Signed.{le_z, le_z_yes}
 use Rattle.cell_calib.specs.Scale.{Scale}
-use Rattle.cell_calib.specs.Curve.{Pair, pair_at, raw_at, IsRising, IsNearPair, IsCurve}
+use Rattle.cell_calib.specs.Curve.{Pair, pair_at, raw_at, HasCount, IsRising, IsNearPair, IsCurve}
 use Rattle.cell_calib.specs.CurveTests.{is_curve, is_near_pair, is_rising, has_count, has_ends}
 
 left : (a b : Bool) → (a && b) ≡ true → a ≡ true
@@ -69,6 +69,9 @@ passes_as_curve s pairs curve =
     (both _ _ (both _ _ (eq-eqb _ _ curve.ends.first) (eq-eqb _ _ curve.ends.last))
     (both _ _ (rises_of pairs curve.rising) (all_of (is_near_pair s) pairs (λ i l. near_passes s (pair_at pairs i) (curve.near i l)))))
 
+pub count_of_pass : (pairs : List Pair) → has_count pairs ≡ true → HasCount pairs
+count_of_pass pairs h = record { least = leb-true 2 (length pairs) (left _ _ h); most = leb-true (length pairs) 32 (right _ _ h) }
+
 pub curve_of_pass : (s : Scale) (pairs : List Pair) → is_curve s pairs ≡ true → IsCurve s pairs
 curve_of_pass s pairs h =
     let number = left (has_count pairs) _ h in
@@ -78,7 +81,7 @@ curve_of_pass s pairs h =
     let rising = left (is_rising pairs) _ others in
     let near = right (is_rising pairs) _ others in
     record {
-      number = record { least = leb-true 2 (length pairs) (left _ _ number); most = leb-true (length pairs) 32 (right _ _ number) };
+      number = count_of_pass pairs number;
       ends = record { first = eqb-true _ _ (left _ _ ends); last = eqb-true _ _ (right _ _ ends) };
       rising = λ i l. rises_at pairs i rising l;
       near = λ i l. near_of_pass s (pair_at pairs i) (all_at (is_near_pair s) pairs i near l);
