@@ -72,7 +72,9 @@ impl<R: Read> Records<R> {
                 record.end_field();
                 return Ok(is_there);
             }
-            for (number, &byte) in bytes.iter().enumerate() {
+            let mut number = 0;
+            while let Some(&byte) = bytes.get(number) {
+                number += 1;
                 place = match (place, byte) {
                     (Place::Quoted, b'"') => Place::Quote,
                     (Place::Blank | Place::Start, b'"') => Place::Quoted,
@@ -91,11 +93,13 @@ impl<R: Read> Records<R> {
                     (Place::Blank, b'\n' | b'\r') => Place::Blank,
                     (_, b'\n' | b'\r') => {
                         record.end_field();
-                        self.input.consume(number + 1);
+                        self.input.consume(number);
                         return Ok(true);
                     }
                     _ => {
-                        record.bytes.push(byte);
+                        let more = bytes[number..].iter().take_while(|byte| !matches!(byte, b',' | b'\n' | b'\r')).count();
+                        record.bytes.extend_from_slice(&bytes[number - 1..number + more]);
+                        number += more;
                         Place::Plain
                     }
                 };
