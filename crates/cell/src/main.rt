@@ -4,7 +4,7 @@
 
 pub use cell_command::{Mode, read_words};
 pub use cell_config::{Config, ConfigFault, read_config};
-pub use cell_program::running::run_cell;
+pub use cell_program::run_cell::run_cell;
 pub use cell_program::serve::serve;
 use cell_program::start::start;
 pub use cell_workers::{Gate, RunFault};

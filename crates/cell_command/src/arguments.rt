@@ -8,11 +8,11 @@ use std::{env, io};
 
 /// An environment without the program's own name, which isn't read: its arguments begin after that.
 #[derive(Drop)]
-struct Behind<'a, E> {
+struct WithoutName<'a, E> {
     env: &'a E,
 }
 
-impl<E: Env> Env for Behind<'_, E> {
+impl<E: Env> Env for WithoutName<'_, E> {
     fn arg(&self, i: usize, buf: &mut [u8]) -> Result<usize, FillError> {
         match i.checked_add(1) {
             Some(i) => self.env.arg(i, buf),
@@ -34,12 +34,12 @@ impl<E: Env> Env for Behind<'_, E> {
 ///
 /// `InvalidData` if a word after the name isn't UTF-8, and `OutOfMemory` if memory ran out.
 pub fn words_of<E: Env>(alloc: Global, env: &E) -> io::Result<Vec<String>>
-    ensures { IfOk result (λ words. (behind : List (List ℕ)) × (map string_bytes words.items ≡ codes "cell" ∷ behind)) }
+    ensures { IfOk result (λ words. (rest : List (List ℕ)) × (map string_bytes words.items ≡ codes "cell" ∷ rest)) }
 {
-    let arguments = (Behind { env }, alloc);
-    let mut behind: Vec<String> = env::args(&arguments)?.collect(alloc)?;
+    let arguments = (WithoutName { env }, alloc);
+    let mut rest: Vec<String> = env::args(&arguments)?.collect(alloc)?;
     let mut words = Vec::new(alloc);
     words.push(String::from_str(alloc, "cell")?)?;
-    words.append(&mut behind)?;
+    words.append(&mut rest)?;
     Ok(words)
 }

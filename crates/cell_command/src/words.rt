@@ -26,10 +26,10 @@ pub enum Mode {
 }
 
 /// The most turns of a run.
-const MOST_TURNS: u64 = 100_000;
+const MAX_TURNS: u64 = 100_000;
 
 /// The most tries of a call.
-const MOST_TRIES: u64 = 64;
+const MAX_TRIES: u64 = 64;
 
 /// What the words ask for. The first is the program's name. After it `replay`, or nothing, asks for
 /// a replay, `sim` for a simulation, and `run` with the flags `--turns` and `--tries` for a run.
@@ -82,11 +82,11 @@ fn with_word<'a>(
     command: Command<'a>,
     name: &'a str,
     before: &'a str,
-    behind: &'a str,
+    after: &'a str,
 ) -> Result<Command<'a>, AllocError>
     ensures { IfOk result (λ r. app_of r ≡ with_subcommand (app_of command.entry) (new_app name.now).top) }
 {
-    command.subcommand(command_with_help(alloc, name, before, behind))
+    command.subcommand(command_with_help(alloc, name, before, after))
 }
 
 /// A command with the word `run`.
@@ -102,9 +102,9 @@ fn run_command<'a>(alloc: Global) -> Result<Command<'a>, AllocError>
     ensures local { IfOk result (λ command. (fields_of command).has_globals ≡ false) }
 {
     let run = command_with_help(alloc, "run", help::RUN, help::RUN_DETAILS);
-    let turns = number_flag(alloc, "turns", MOST_TURNS, "1000", help::TURNS);
+    let turns = number_flag(alloc, "turns", MAX_TURNS, "1000", help::TURNS);
     let run = run.arg(turns)?;
-    run.arg(number_flag(alloc, "tries", MOST_TRIES, "8", help::TRIES))
+    run.arg(number_flag(alloc, "tries", MAX_TRIES, "8", help::TRIES))
 }
 
 /// A flag that takes a number from 1 to the most.
@@ -131,12 +131,12 @@ fn command_with_help<'a>(
     alloc: Global,
     name: &'a str,
     before: &'a str,
-    behind: &'a str,
+    after: &'a str,
 ) -> Command<'a>
     ensures app { app_of result ≡ new_app name.now }
     ensures local { (fields_of result).has_globals ≡ false }
 {
-    Command::new(alloc, name).about(before).after_help(behind)
+    Command::new(alloc, name).about(before).after_help(after)
 }
 
 /// What the word after the program's name asks for.

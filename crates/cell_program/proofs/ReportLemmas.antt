@@ -1,5 +1,5 @@
 -- What the report of a run says.
-use Rattle.std.proofs.Common.{◌≡◌, ◌≢◌, Bool, true, false, inl, inr, ℕ, IsTrue, ◌↔◌, List, Option, Some, None, Result, Ok, Err, IfErr, IfOk, refl, subst, if◌then◌else◌}
+use Rattle.std.proofs.Common.{◌≡◌, ◌≢◌, Bool, true, false, inl, inr, ℕ, IsTrue, ◌↔◌, List, Option, Some, None, Result, Ok, Err, IfErr, IfOk, refl, subst}
 use Rattle.std.specs.Result.{result_err}
 use Rattle.std.specs.Io.KnownBytes.{Appends}
 use Rattle.cell_types.specs.declared.answer.Event.{Event}
@@ -12,6 +12,7 @@ use Rattle.cell_report.specs.Report.{report_text}
 use Rattle.cell_report.specs.declared.audit_faults.AuditFault.{AuditFault}
 use Rattle.cell_report.specs.declared.audit_faults.AuditFault.TheVariants.{Memory}
 use Rattle.cell_notes.specs.declared.run_record.RunRecord.{RunRecord}
+use Rattle.cell_program.specs.declared.exit.Exit.TheVariants.{Well, Failed}
 use Rattle.cell_program.specs.Reported.{AreFine, AuditFinds, IsAmiss, ReportTold}
 
 -- what `audit` answers of a record
@@ -27,10 +28,13 @@ amiss : (r : RunRecord) (audit : Option AuditFault) → (((audit ≡ None) × Ar
 amiss r None never = inl (λ fine. never (refl, fine))
 amiss r (Some f) never = inr (f, refl)
 
-pub report_told : (b : Bool) (r : RunRecord) (audit : Option AuditFault) (old new : Option (List ℕ)) → AuditFinds r audit → IsTrue b ↔ ((audit ≡ None) × AreFine r.status) → Appends old new (report_text r audit)
-    → ReportTold (if b then 0 else 1) r old new
-report_told true r audit old new k w a = ((w.0 refl).1, (subst (AuditFinds r) (w.0 refl).0 k, subst (λ x. Appends old new (report_text r x)) (w.0 refl).0 a))
-report_told false r audit old new k w a = (audit, (k, inl (a, amiss r audit (λ h. let well = w.1 h in cc))))
+pub report_well : (b : Bool) (r : RunRecord) (audit : Option AuditFault) (old new : Option (List ℕ)) → AuditFinds r audit → IsTrue b ↔ ((audit ≡ None) × AreFine r.status) → b ≡ true
+    → Appends old new (report_text r audit) → ReportTold Well r old new
+report_well b r audit old new k w e a = let h = w.0 e in (h.1, (subst (AuditFinds r) h.0 k, subst (λ x. Appends old new (report_text r x)) h.0 a))
 
-pub report_cut : (r : RunRecord) (audit : Option AuditFault) (old new : Option (List ℕ)) → AuditFinds r audit → WroteFront old new (report_text r audit) → ReportTold 1 r old new
+pub report_amiss : (b : Bool) (r : RunRecord) (audit : Option AuditFault) (old new : Option (List ℕ)) → AuditFinds r audit → IsTrue b ↔ ((audit ≡ None) × AreFine r.status) → b ≡ false
+    → Appends old new (report_text r audit) → ReportTold Failed r old new
+report_amiss b r audit old new k w e a = (audit, (k, inl (a, amiss r audit (λ h. let well = w.1 h in cc))))
+
+pub report_cut : (r : RunRecord) (audit : Option AuditFault) (old new : Option (List ℕ)) → AuditFinds r audit → WroteFront old new (report_text r audit) → ReportTold Failed r old new
 report_cut r audit old new k a = (audit, (k, inr a))

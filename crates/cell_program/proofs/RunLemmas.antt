@@ -20,6 +20,7 @@ use Rattle.cell_workers.specs.Faults.{run_fault_text}
 use Rattle.cell_workers.specs.declared.fault.RunFault.{RunFault}
 use Rattle.cell_workers.specs.declared.fault.RunFault.TheVariants.{Tries, Memory, Spawn}
 use Rattle.cell_program.specs.Ran.{EndsAsAudited, TellsWorkers}
+use Rattle.cell_program.specs.declared.exit.Exit.TheVariants.{Well, Failed}
 use Rattle.cell_program.specs.Reported.{ReportTold}
 use Rattle.cell_program.specs.Served.{RunFails, TellsWorkersOf, WasRun, fault_line}
 
@@ -48,12 +49,12 @@ module _ (turns tries : ℕ) (old new : Option (List ℕ)) where
   tells_of bytes config r c k points run = record { settings = shown config; said = k; scales = c; points = points; run = run }
 
   pub run_well : (o : Option (List ℕ)) (config : Config) (r : RunRecord) (c : CellScales) → IfSome o (λ bytes. Says bytes (Ok config)) → config.points ≡ in_order c → TellsWorkers c config.start tries turns r
-      → ReportTold 0 r old new → WasRun turns tries o old new
+      → ReportTold Well r old new → WasRun turns tries o old new
   run_well None config r c k points run told = tt
   run_well (Some bytes) config r c k points run told = (r, (tells_of bytes config r c k points run, told))
 
   pub run_failed : (o : Option (List ℕ)) (config : Config) (r : RunRecord) (c : CellScales) → IfSome o (λ bytes. Says bytes (Ok config)) → config.points ≡ in_order c → TellsWorkers c config.start tries turns r
-      → ReportTold 1 r old new → IfSome o (λ bytes. RunFails turns tries bytes old new)
+      → ReportTold Failed r old new → IfSome o (λ bytes. RunFails turns tries bytes old new)
   run_failed None config r c k points run told = tt
   run_failed (Some bytes) config r c k points run told = inr (inr (inr (r, told.0, (tells_of bytes config r c k points run, told.1))))
 

@@ -18,6 +18,7 @@ use Rattle.cell_config.specs.declared.fault.ConfigFault.{ConfigFault}
 use Rattle.cell_report.specs.Audited.{EndsIn, IsAudited}
 use Rattle.cell_report.specs.declared.audit_faults.AuditFault.{AuditFault}
 use Rattle.cell_report.specs.declared.audit_faults.AuditFault.TheVariants.{Twice, Gap, Differs, End, Memory}
+use Rattle.cell_program.specs.declared.exit.Exit.TheVariants.{Well, Failed}
 use Rattle.cell_program.specs.Reported.{AreFine, AuditFinds, IsAmiss, ReportTold}
 use Rattle.cell_program.specs.Served.{IsAuditOf, SimFails, TellsRunOf, WasSimulated, fault_line}
 
@@ -54,12 +55,12 @@ module _ (old new : Option (List ℕ)) where
   tells_of bytes config r c k points run = record { settings = shown config; said = k; scales = c; points = points; run = run }
 
   pub sim_well : (o : Option (List ℕ)) (config : Config) (r : RunRecord) (c : CellScales) → IfSome o (λ bytes. Says bytes (Ok config)) → config.points ≡ in_order c → TellsRun c config.start config.schedule.items r
-      → ReportTold 0 r old new → WasSimulated o old new
+      → ReportTold Well r old new → WasSimulated o old new
   sim_well None config r c k points run told = tt
   sim_well (Some bytes) config r c k points run told = (r, (tells_of bytes config r c k points run, (told.0, told.1.1)))
 
   pub sim_failed : (o : Option (List ℕ)) (config : Config) (r : RunRecord) (c : CellScales) → IfSome o (λ bytes. Says bytes (Ok config)) → config.points ≡ in_order c → TellsRun c config.start config.schedule.items r
-      → ReportTold 1 r old new → IfSome o (λ bytes. SimFails bytes old new)
+      → ReportTold Failed r old new → IfSome o (λ bytes. SimFails bytes old new)
   sim_failed None config r c k points run told = tt
   sim_failed (Some bytes) config r c k points run told =
       let audited = audit_is c config.start config.schedule.items r told.0 run told.1.0 in

@@ -28,6 +28,7 @@ use Rattle.cell_workers.specs.Faults.{run_fault_text}
 use Rattle.cell_workers.specs.declared.fault.RunFault.TheVariants.{Spawn}
 use Rattle.cell_workers.specs.Laws.{HadTurns}
 use Rattle.cell_program.specs.Ran.{EndsAsAudited, TellsWorkers}
+use Rattle.cell_program.specs.declared.exit.Exit.TheVariants.{Well}
 use Rattle.cell_program.specs.Reported.{ReportTold}
 use Rattle.cell_program.specs.Served.{TellsRunOf, TellsWorkersOf, WasReplayed, WasRun, WasSimulated, fault_line}
 
@@ -67,7 +68,7 @@ EachHadTurns turns r = (did : Machine → Counts) → r.counts ≡ map did all_m
 -- Status 0, by the text that was written: of a clean script; or the report of a simulation or a run in which every
 -- machine is fine, with `audit ok`. In a run each machine had all its turns, and the audit found a history.
 pub record StatusZeroIsWell : Type 0 where
-  pub reported : (r : RunRecord) (old new : Option (List ℕ)) → ReportTold 0 r old new → IsWell r
+  pub reported : (r : RunRecord) (old new : Option (List ℕ)) → ReportTold Well r old new → IsWell r
   pub replayed : (bytes text : List ℕ) → WasReplayed (Some bytes) (Some []) (Some text) → (text ≡ script_text bytes) × (script_outcome bytes ≡ Clean)
   pub simulated : (bytes text : List ℕ) → WasSimulated (Some bytes) (Some []) (Some text) → (r : RunRecord) × TellsRunOf bytes r × (text ≡ report_text r None) × EachIsFine r
   pub ran : (turns tries : ℕ) (bytes text : List ℕ) → WasRun turns tries (Some bytes) (Some []) (Some text)

@@ -1,6 +1,7 @@
+pub mod Exits
 pub mod Reported
 pub mod Ran
 pub mod Served
 pub mod Asked
-pub mod Simulated
+pub mod Gauges
 pub mod Laws

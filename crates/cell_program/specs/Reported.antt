@@ -1,5 +1,5 @@
 -- What is said of a run that was audited and reported.
-use Rattle.std.specs.Prelude.{◌≡◌, ◌≢◌, ℕ, zero, suc, List, All, ◌⊎◌, Option, Some, None}
+use Rattle.std.specs.Prelude.{◌≡◌, ◌≢◌, ℕ, List, All, ◌⊎◌, Option, Some, None}
 use Rattle.std.specs.Io.KnownBytes.{Appends}
 use Rattle.cell_types.specs.declared.answer.Event.{Event}
 use Rattle.cell_types.specs.Journals.{journal_of}
@@ -7,6 +7,8 @@ use Rattle.cell_text.specs.Output.{WroteFront}
 use Rattle.cell_notes.specs.declared.run_record.RunRecord.{RunRecord}
 use Rattle.cell_notes.specs.declared.status.Status.{Status}
 use Rattle.cell_notes.specs.declared.status.Status.TheVariants.{Fine}
+use Rattle.cell_program.specs.declared.exit.Exit.{Exit}
+use Rattle.cell_program.specs.declared.exit.Exit.TheVariants.{Well, Failed, Refused}
 use Rattle.cell_report.specs.Audited.{HasNoHistory, IsAudited}
 use Rattle.cell_report.specs.AuditFaults.{IsFault}
 use Rattle.cell_report.specs.Report.{report_text}
@@ -27,10 +29,11 @@ AuditFinds r (Some fault) = IsFault r.start (journal_of r.journals) r.end fault 
 abbrev pub IsAmiss : RunRecord → Option AuditFault → Type 0
 IsAmiss r audit = (¬ AreFine r.status) ⊎ ((fault : AuditFault) × (audit ≡ Some fault))
 
--- Status 0: no machine was stopped, and the report was written, with the line that the audit found a history. Status 1:
+-- Well: no machine was stopped, and the report was written, with the line that the audit found a history. Failed:
 -- a machine was stopped or the audit rejected the run, and the report was written; or only a prefix of the report was.
-abbrev pub ReportTold : ℕ → RunRecord → Option (List ℕ) → Option (List ℕ) → Type 0
-ReportTold zero r old new = AreFine r.status × (AuditFinds r None × Appends old new (report_text r None))
-ReportTold (suc n) r old new =
+abbrev pub ReportTold : Exit → RunRecord → Option (List ℕ) → Option (List ℕ) → Type 0
+ReportTold Well r old new = AreFine r.status × (AuditFinds r None × Appends old new (report_text r None))
+ReportTold Failed r old new =
     (audit : Option AuditFault) × (AuditFinds r audit
     × ((Appends old new (report_text r audit) × IsAmiss r audit) ⊎ WroteFront old new (report_text r audit)))
+ReportTold Refused r old new = ⊥

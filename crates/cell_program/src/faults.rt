@@ -4,27 +4,21 @@ ghost use Rattle.std.specs.Prelude.{◌≡◌, IfOk, IfSome};
 ghost use Rattle.cell_text.specs.Output.{WroteFront};
 ghost use Rattle.cell_program.specs.Served.{fault_line};
 
+use crate::exit::Exit;
 use cell_text::{Page, write_text};
 use std::fmt;
 use std::fmt::Display;
 use std::io::Write;
 
-/// The exit status of a failure: an input was refused, a machine stopped, an audit rejected, a read
-/// or a write failed, a worker couldn't be started, or memory ran out.
-pub const FAILED: u8 = 1;
-
-/// Prints a fault's line, as far as the writer takes it, and returns the exit status.
-pub fn fail<W: Write, D: Display + Drop>(writer: &mut W, fault: D) -> u8
-    ensures status { result ≡ 1 }
+/// Prints a fault's line, as far as the writer takes it, and returns `Failed`.
+pub fn fail<W: Write, D: Display + Drop>(writer: &mut W, fault: D) -> Exit
+    ensures status { result ≡ Exit.Failed }
     ensures line { IfSome (D.output fault) (λ text. WroteFront (W.contents writer.old) (W.contents writer.new) (fault_line text)) }
 {
-    match fault_page(fault) {
-        Ok(page) => {
-            write_front(writer, page.as_bytes());
-            FAILED
-        }
-        Err(_) => FAILED,
+    if let Ok(page) = fault_page(fault) {
+        write_front(writer, page.as_bytes());
     }
+    Exit::Failed
 }
 
 /// A fault's line, if it fits on a page. Each fault's line fits: that is tested, not proved.

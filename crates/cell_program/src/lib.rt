@@ -2,12 +2,14 @@
 //! simulates the cell, or runs it by six workers.
 #![tactic(auto)]
 
+pub mod exit;
 pub mod faults;
+pub mod gauges;
 pub mod laws;
-pub mod replaying;
 pub mod reporting;
-pub mod running;
+pub mod run_cell;
 pub mod serve;
-pub mod simulating;
+pub mod serve_replay;
+pub mod serve_run;
+pub mod serve_sim;
 pub mod start;
-pub mod workers;

@@ -10,10 +10,11 @@ ghost use Rattle.cell_program.specs.Served.{ReplayFails, RunFails, SimFails, Was
 ghost use Rattle.cell_config.specs.Settings as settings;
 ghost use Rattle.cell_command.specs.Words.{AreTaken, AskForHelp, AskForRun};
 
-use crate::faults::{FAILED, fail, write_front};
-use crate::replaying::serve_replay;
-use crate::simulating::serve_sim;
-use crate::workers::serve_run;
+use crate::exit::Exit;
+use crate::faults::{fail, write_front};
+use crate::serve_replay::serve_replay;
+use crate::serve_run::serve_run;
+use crate::serve_sim::serve_sim;
 use cell_command::{Mode, read_words};
 use cell_text::flush;
 use clap::error::ErrorKind;
@@ -21,12 +22,6 @@ use std::alloc::Global;
 use std::io::{Read, Write};
 use std::sync::Wait;
 use std::thread::Threads;
-
-/// The exit status if all went well, or for help.
-const WELL: u8 = 0;
-
-/// The exit status for refused words.
-const REFUSED: u8 = 2;
 
 /// Does what the words ask for, and returns the exit status. The first word is the program's name.
 /// For the word `run` it waits until all workers have ended. The status is
@@ -87,36 +82,35 @@ where
         TakesAtMost (R.remaining reader.old) (R.remaining reader.new) settings.most_bytes_read }
 {
     match read_words(alloc, words) {
-        Ok(Mode::Replay) => serve_replay(alloc, reader, writer),
-        Ok(Mode::Sim) => serve_sim(alloc, reader, writer),
-        Ok(Mode::Run { turns, tries }) => serve_run(rt, alloc, turns, tries, reader, writer),
-        Err(error) => refuse(error, writer),
+        Ok(Mode::Replay) => serve_replay(alloc, reader, writer).status(),
+        Ok(Mode::Sim) => serve_sim(alloc, reader, writer).status(),
+        Ok(Mode::Run { turns, tries }) => serve_run(rt, alloc, turns, tries, reader, writer).status(),
+        Err(error) => refuse(error, writer).status(),
     }
 }
 
-/// Prints that a word isn't text, as far as the writer takes it, and returns the exit status.
-pub fn refuse_bytes<W: Write>(writer: &mut W) -> u8
-    ensures status { result ≡ 2 }
+/// Prints that a word isn't text, as far as the writer takes it, and returns `Refused`.
+pub fn refuse_bytes<W: Write>(writer: &mut W) -> Exit
+    ensures status { result ≡ Exit.Refused }
     ensures line { WroteFront (W.contents writer.old) (W.contents writer.new) (codes "error: a word isn't UTF-8\n") }
 {
     write_front(writer, "error: a word isn't UTF-8\n".as_bytes());
-    REFUSED
+    Exit::Refused
 }
 
 /// Prints why the words were refused, or help, and returns the exit status.
-fn refuse<W: Write>(error: clap::Error, writer: &mut W) -> u8
-    ensures status { result ≤ 2 }
-    ensures help { result ≡ 0 → kind_of error ≡ ErrorKind.DisplayHelp }
-    ensures memory { kind_of error ≡ ErrorKind.OutOfMemory → result ≡ 1 }
+fn refuse<W: Write>(error: clap::Error, writer: &mut W) -> Exit
+    ensures help { result ≡ Exit.Well → kind_of error ≡ ErrorKind.DisplayHelp }
+    ensures memory { kind_of error ≡ ErrorKind.OutOfMemory → result ≡ Exit.Failed }
     ensures line { kind_of error ≡ ErrorKind.OutOfMemory → WroteFront (W.contents writer.old) (W.contents writer.new) (fault_line (codes "memory")) }
 {
-    let status = match error.kind() {
+    let exit = match error.kind() {
         ErrorKind::OutOfMemory => return fail(writer, "memory"),
-        ErrorKind::DisplayHelp => WELL,
-        _ => REFUSED,
+        ErrorKind::DisplayHelp => Exit::Well,
+        _ => Exit::Refused,
     };
     if write!(writer, "{error}").is_err() || flush(writer).is_err() {
-        return FAILED;
+        return Exit::Failed;
     }
-    status
+    exit
 }

@@ -30,8 +30,8 @@ where
 {
     match serve_words(rt, alloc, env, reader, writer) {
         Ok(status) => status,
-        Err(error) if error.kind() == ErrorKind::OutOfMemory => fail(writer, "memory"),
-        Err(_) => refuse_bytes(writer),
+        Err(error) if error.kind() == ErrorKind::OutOfMemory => fail(writer, "memory").status(),
+        Err(_) => refuse_bytes(writer).status(),
     }
 }
 

@@ -3,7 +3,7 @@
 
 ghost use Rattle.cell_config.specs.Configured.{AreAxisScales};
 ghost use Rattle.cell_parts.specs.Axes.{AreCellScales};
-ghost use Rattle.cell_program.specs.Simulated.{scales_of};
+ghost use Rattle.cell_program.specs.Gauges.{cell_scales};
 ghost use Rattle.cell_rules.specs.Start.{IsStartState};
 
 use super::reports::{EMPTY, PRESS, PRESS_REPORT, SIX_WORKERS};
@@ -11,8 +11,8 @@ use cell_calib::{Calibration, Gauge, line_at};
 use cell_config::{Config, read_config};
 use cell_notes::RunRecord;
 use cell_plant::{Cell, simulate};
-use cell_program::running::run_cell;
-use cell_program::simulating::Lines;
+use cell_program::run_cell::run_cell;
+use cell_program::serve_sim::CellPoints;
 use cell_report::{audit, write_report};
 use cell_workers::OpenGate;
 use std::alloc::Global;
@@ -33,7 +33,7 @@ fn record_by<T, F1, F2, F3, F4, F5>(
     rt: &T,
     alloc: Global,
     gauges: (F1, F2, F3, F4, F5),
-    lines: Lines,
+    points: CellPoints,
     config: &Config,
     way: Way,
 ) -> Option<RunRecord>
@@ -45,20 +45,20 @@ where
     F4: Gauge + Send,
     F5: Gauge + Send,
     requires start { IsStartState config.now.start }
-    requires arm1 { F1.keeps gauges.0 lines.arm1 }
-    requires arm2 { F2.keeps gauges.1 lines.arm2 }
-    requires rotation { F3.keeps gauges.2 lines.rotation }
-    requires turn { F4.keeps gauges.3 lines.turn }
-    requires gripper { F5.keeps gauges.4 lines.gripper }
-    requires scales { AreCellScales (scales_of lines) }
+    requires arm1 { F1.keeps gauges.0 points.arm1 }
+    requires arm2 { F2.keeps gauges.1 points.arm2 }
+    requires rotation { F3.keeps gauges.2 points.rotation }
+    requires turn { F4.keeps gauges.3 points.turn }
+    requires gripper { F5.keeps gauges.4 points.gripper }
+    requires scales { AreCellScales (cell_scales points) }
 {
     let cell = Cell::new(
         &config.start,
-        Calibration::new(gauges.0, lines.arm1),
-        Calibration::new(gauges.1, lines.arm2),
-        Calibration::new(gauges.2, lines.rotation),
-        Calibration::new(gauges.3, lines.turn),
-        Calibration::new(gauges.4, lines.gripper),
+        Calibration::new(gauges.0, points.arm1),
+        Calibration::new(gauges.1, points.arm2),
+        Calibration::new(gauges.2, points.rotation),
+        Calibration::new(gauges.3, points.turn),
+        Calibration::new(gauges.4, points.gripper),
     );
     match way {
         Way::Simulated => simulate(alloc, cell, config.start, config.schedule.as_slice()).ok(),
@@ -84,14 +84,14 @@ fn record_of<T: Threads + Wait + Sync>(
         move |raw: u16| line_at(&turn, raw),
         move |raw: u16| line_at(&gripper, raw),
     );
-    let lines = Lines {
+    let points = CellPoints {
         arm1,
         arm2,
         rotation,
         turn,
         gripper,
     };
-    record_by(rt, alloc, gauges, lines, config, way)
+    record_by(rt, alloc, gauges, points, config, way)
 }
 
 /// Whether the report of a record, with its audit, is this text.

@@ -1,7 +1,7 @@
 //! The ends of runs, by their journals.
 
 use cell_notes::{Counts, RunRecord, Status};
-use cell_program::running::with_end;
+use cell_program::run_cell::with_end;
 use cell_rules::{State, apply};
 use cell_types::{Answer, Call, Entry, Journals, Machine, Refusal, Zone};
 use cell_workers::RunFault;

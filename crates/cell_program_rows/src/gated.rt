@@ -8,7 +8,7 @@ use super::gates::{Doorkeeper, NOTES};
 use cell_calib::{Calibration, Gauge, Points, PointsFault, line_at};
 use cell_notes::{RunRecord, Status};
 use cell_plant::Cell;
-use cell_program::running::run_cell;
+use cell_program::run_cell::run_cell;
 use cell_rules::State;
 use cell_workers::{Gate, RunFault};
 use std::alloc::Global;

@@ -2,6 +2,7 @@
 
 use super::doubles::{is_served, run};
 use cell_command::{Mode, read_words};
+use cell_program::exit::Exit;
 use cell_program::serve::refuse_bytes;
 use std::alloc::Global;
 use std::sync::Wait;
@@ -219,6 +220,6 @@ fn helps(rt: HostRuntime) {
 #[test]
 fn refuses_words_that_are_no_text(rt: HostRuntime) {
     let mut written = Vec::new(rt.alloc());
-    assert!(rt; refuse_bytes(&mut written) == 2);
+    assert!(rt; refuse_bytes(&mut written) == Exit::Refused);
     assert!(rt; written.as_slice() == b"error: a word isn't UTF-8\n".as_slice());
 }

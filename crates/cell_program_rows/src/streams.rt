@@ -6,6 +6,7 @@ use super::doubles::{
 use super::reports::{EMPTY, PRESS, PRESS_REPORT, SIX_WORKERS};
 use super::served::{SCRIPT, TEXT};
 use cell_config::{Config, ConfigFault};
+use cell_program::exit::Exit;
 use cell_program::serve::refuse_bytes;
 use std::alloc::Global;
 use std::sync::Wait;
@@ -196,7 +197,7 @@ fn tells_a_failed_flush(rt: HostRuntime) {
         taken: Vec::new(rt.alloc()),
         flushed: 0,
     };
-    assert!(rt; refuse_bytes(&mut writer) == 2);
+    assert!(rt; refuse_bytes(&mut writer) == Exit::Refused);
     assert!(rt; writer.flushed == 26);
 }
 

@@ -1,6 +1,6 @@
 use Rattle.cell_types.specs.Journals.{journal_of}
 use Rattle.cell_program.proofs.RunLemmas.{ends_as_audited}
-use Rattle.cell_program.proofs.running.with_end.Goals as goal
+use Rattle.cell_program.proofs.run_cell.with_end.Goals as goal
 
 pub returns-clause-end : goal.returns-clause-end
 returns-clause-end c =

@@ -1,6 +1,6 @@
 //! Runs the cell by six workers for the program.
 
-ghost use Rattle.std.specs.Prelude.{◌≡◌, ◌≢◌, ◌≤◌, ◌<◌, IfOk, IfSome, Err};
+ghost use Rattle.std.specs.Prelude.{◌≡◌, ◌≢◌, ◌≤◌, IfOk, IfSome, Err};
 ghost use Rattle.cell_rules.specs.Start.{IsStartState};
 ghost use Rattle.cell_parts.specs.Axes.{AreCellScales, CellScales};
 ghost use Rattle.cell_text.specs.Input.{TakesAtMost};
@@ -8,12 +8,13 @@ ghost use Rattle.cell_config.specs.Configured.{AreAxisScales, AreCurvesOf, in_or
 ghost use Rattle.cell_config.specs.Settings.{most_bytes_read};
 ghost use Rattle.cell_program.specs.Ran.{TellsWorkers};
 ghost use Rattle.cell_program.specs.Served.{RunFails, WasRun};
-ghost use Rattle.cell_program.specs.Simulated.{scales_of};
+ghost use Rattle.cell_program.specs.Gauges.{cell_scales};
 
+use crate::exit::Exit;
 use crate::faults::fail;
+use crate::gauges::{CellPoints, cell_with_gauges};
 use crate::reporting::report;
-use crate::running::run_cell;
-use crate::simulating::{Lines, cell_by};
+use crate::run_cell::run_cell;
 use cell_calib::Gauge;
 use cell_config::{Config, read_config};
 use cell_notes::RunRecord;
@@ -25,8 +26,8 @@ use std::sync::Wait;
 use std::thread::Threads;
 
 /// Runs the cell by the configuration that it reads, each machine by its own worker, audits what
-/// they noted, and writes the report, or prints a fault. Returns the exit status: 0 if all went
-/// well, 1 otherwise.
+/// they noted, and writes the report, or prints a fault. Returns `Well` if all went well,
+/// `Failed` otherwise.
 pub fn serve_run<T, R: Read, W: Write>(
     rt: &T,
     alloc: Global,
@@ -34,15 +35,15 @@ pub fn serve_run<T, R: Read, W: Write>(
     tries: u8,
     reader: &mut R,
     writer: &mut W,
-) -> u8
+) -> Exit
 where
     T: Threads + Wait + Sync,
     requires few { tries ≤ 64 }
     requires some { 1 ≤ tries }
-    ensures status { result < 2 }
-    ensures well { result ≡ 0 →
+    ensures status { result ≢ Exit.Refused }
+    ensures well { result ≡ Exit.Well →
         WasRun turns tries (R.remaining reader.old) (W.contents writer.old) (W.contents writer.new) }
-    ensures failed { result ≡ 1 →
+    ensures failed { result ≡ Exit.Failed →
         IfSome (R.remaining reader.old) (λ bytes. RunFails turns tries bytes (W.contents writer.old) (W.contents writer.new)) }
     ensures read { TakesAtMost (R.remaining reader.old) (R.remaining reader.new) most_bytes_read }
 {
@@ -50,7 +51,7 @@ where
         Ok(config) => config,
         Err(fault) => return fail(writer, fault.text()),
     };
-    match ran(rt, alloc, &config, turns, tries) {
+    match run_configured(rt, alloc, &config, turns, tries) {
         Ok(run) => report(alloc, &run, writer),
         Err(fault) => fail(writer, fault.text()),
     }
@@ -58,7 +59,7 @@ where
 
 /// Runs a configuration by six workers, with a closure over each of its curves, and a gate that is
 /// always open. Its schedule isn't used.
-pub fn ran<T>(
+pub fn run_configured<T>(
     rt: &T,
     alloc: Global,
     config: &Config,
@@ -76,7 +77,7 @@ where
     ensures tries { result ≢ Err RunFault.Tries }
 {
     let [arm1, arm2, rotation, turn, gripper] = config.curves;
-    let lines = Lines {
+    let points = CellPoints {
         arm1: arm1.points(),
         arm2: arm2.points(),
         rotation: rotation.points(),
@@ -90,15 +91,15 @@ where
         move |raw: u16| turn.at(raw),
         move |raw: u16| gripper.at(raw),
     );
-    run_by(rt, alloc, gauges, lines, config.start, turns, tries)
+    run_with_gauges(rt, alloc, gauges, points, config.start, turns, tries)
 }
 
 /// A run by six workers with these closures.
-fn run_by<T, F1, F2, F3, F4, F5>(
+fn run_with_gauges<T, F1, F2, F3, F4, F5>(
     rt: &T,
     alloc: Global,
     gauges: (F1, F2, F3, F4, F5),
-    lines: Lines,
+    points: CellPoints,
     start: State,
     turns: u32,
     tries: u8,
@@ -111,17 +112,17 @@ where
     F4: Gauge + Send,
     F5: Gauge + Send,
     requires start { IsStartState start }
-    requires arm1 { F1.keeps gauges.0 lines.arm1 }
-    requires arm2 { F2.keeps gauges.1 lines.arm2 }
-    requires rotation { F3.keeps gauges.2 lines.rotation }
-    requires turn { F4.keeps gauges.3 lines.turn }
-    requires gripper { F5.keeps gauges.4 lines.gripper }
-    requires scales { AreCellScales (scales_of lines) }
+    requires arm1 { F1.keeps gauges.0 points.arm1 }
+    requires arm2 { F2.keeps gauges.1 points.arm2 }
+    requires rotation { F3.keeps gauges.2 points.rotation }
+    requires turn { F4.keeps gauges.3 points.turn }
+    requires gripper { F5.keeps gauges.4 points.gripper }
+    requires scales { AreCellScales (cell_scales points) }
     requires few { tries ≤ 64 }
     requires some { 1 ≤ tries }
-    ensures work { IfOk result (TellsWorkers (scales_of lines) start tries turns) }
+    ensures work { IfOk result (TellsWorkers (cell_scales points) start tries turns) }
     ensures tries { result ≢ Err RunFault.Tries }
 {
-    let cell = cell_by(gauges, lines, &start);
+    let cell = cell_with_gauges(gauges, points, &start);
     run_cell(rt, alloc, cell, start, tries, turns, &OpenGate)
 }

@@ -5,7 +5,7 @@ use Rattle.cell_rules.specs.ModelState.{ModelState}
 use Rattle.cell_rules.specs.Reply.{next}
 use Rattle.cell_rules.specs.History.{after}
 use Rattle.cell_rules.proofs.SeenLemmas.{after-push}
-use Rattle.cell_program.proofs.running.state_after.Goals as goal
+use Rattle.cell_program.proofs.run_cell.state_after.Goals as goal
 
 -- the state after one more event
 after_more : (start now new : ModelState) (events : List Event) (i : ℕ) (d : Event) → now ≡ after start (take i events) → i < length events → new ≡ next now (get_or events i d).machine (get_or events i d).call

@@ -1,0 +1,50 @@
+//! The five potentiometers' calibrations.
+
+ghost use Rattle.std.specs.Prelude.{◌≡◌};
+ghost use Rattle.cell_plant.specs.Cells.{IsMadeFor, scales_of};
+ghost use Rattle.cell_program.specs.Gauges.{cell_scales};
+
+use cell_calib::{Calibration, Gauge, Points};
+use cell_plant::Cell;
+use cell_rules::State;
+
+/// The points of the five potentiometers' curves.
+#[derive(Clone, Copy)]
+pub struct CellPoints {
+    /// The first arm's.
+    pub arm1: Points,
+    /// The second arm's.
+    pub arm2: Points,
+    /// The robot's rotation's.
+    pub rotation: Points,
+    /// The table's rotation's.
+    pub turn: Points,
+    /// The gripper's height's.
+    pub gripper: Points,
+}
+
+/// The cell at its start, with these closures. A calibration can only be named where the closure's
+/// type is a parameter.
+pub(crate) fn cell_with_gauges<F1: Gauge, F2: Gauge, F3: Gauge, F4: Gauge, F5: Gauge>(
+    gauges: (F1, F2, F3, F4, F5),
+    points: CellPoints,
+    start: &State,
+) -> Cell<F1, F2, F3, F4, F5>
+    requires arm1 { F1.keeps gauges.0 points.arm1 }
+    requires arm2 { F2.keeps gauges.1 points.arm2 }
+    requires rotation { F3.keeps gauges.2 points.rotation }
+    requires turn { F4.keeps gauges.3 points.turn }
+    requires gripper { F5.keeps gauges.4 points.gripper }
+    ensures made { IsMadeFor start.now result }
+    ensures scales { scales_of result ≡ cell_scales points }
+{
+    let (arm1, arm2, rotation, turn, gripper) = gauges;
+    Cell::new(
+        start,
+        Calibration::new(arm1, points.arm1),
+        Calibration::new(arm2, points.arm2),
+        Calibration::new(rotation, points.rotation),
+        Calibration::new(turn, points.turn),
+        Calibration::new(gripper, points.gripper),
+    )
+}
