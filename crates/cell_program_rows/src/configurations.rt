@@ -359,13 +359,12 @@ fn count_turns(
     rt: &impl Abort,
     alloc: Global,
     letter: &str,
-    count: u32,
+    count: usize,
 ) -> Result<usize, ConfigFault> {
     let text = String::from_str(alloc, "start = \"0000000000\"\nschedule = \"");
     let mut text = text.expect(rt, "memory");
-    for _ in 0..count {
-        text.push_str(letter).expect(rt, "memory");
-    }
+    let letters = letter.repeat(alloc, count).expect(rt, "memory");
+    text.push_str(letters.as_str()).expect(rt, "memory");
     text.push_str("\"").expect(rt, "memory");
     match read(alloc, &mut text.as_bytes()) {
         Ok(config) => Ok(config.schedule.len()),
@@ -374,7 +373,7 @@ fn count_turns(
 }
 
 // A letter, how often the schedule has it, and the number of turns that it gives.
-const COUNTED: &[(&str, u32, Result<usize, ConfigFault>)] = &[
+const COUNTED: &[(&str, usize, Result<usize, ConfigFault>)] = &[
     ("p", 1_000_000, Ok(1_000_000)),
     ("p", 1_000_001, Err(ConfigFault::Range)),
     ("x", 1_000_001, Err(ConfigFault::Range)),
@@ -392,11 +391,10 @@ fn counts_letters(rt: HostRuntime) {
 }
 
 /// A start, then this number of spaces, and then the last text.
-fn spaced(rt: &impl Abort, alloc: Global, spaces: u32, last: &str) -> String {
+fn spaced(rt: &impl Abort, alloc: Global, spaces: usize, last: &str) -> String {
     let mut text = String::from_str(alloc, "start = \"0000000000\"\n").expect(rt, "memory");
-    for _ in 0..spaces {
-        text.push_str(" ").expect(rt, "memory");
-    }
+    let blanks = " ".repeat(alloc, spaces).expect(rt, "memory");
+    text.push_str(blanks.as_str()).expect(rt, "memory");
     text.push_str(last).expect(rt, "memory");
     text
 }

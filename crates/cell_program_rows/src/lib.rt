@@ -18,7 +18,11 @@ mod gated;
 #[cfg(test)]
 mod gates;
 #[cfg(test)]
+mod hostile_configurations;
+#[cfg(test)]
 mod memory;
+#[cfg(test)]
+mod numbers;
 #[cfg(test)]
 mod reports;
 #[cfg(test)]
