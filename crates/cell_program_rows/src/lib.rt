@@ -20,6 +20,8 @@ mod gates;
 #[cfg(test)]
 mod hostile_configurations;
 #[cfg(test)]
+mod lines_as_curves;
+#[cfg(test)]
 mod memory;
 #[cfg(test)]
 mod numbers;

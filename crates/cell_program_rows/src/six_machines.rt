@@ -12,16 +12,16 @@ use std::sync::Wait;
 use std::thread::Threads;
 
 /// A schedule: letters, and how often each text of them comes in a row.
-type Runs<'a> = &'a [(usize, &'a str)];
+pub type Runs<'a> = &'a [(usize, &'a str)];
 
 // Each pair of arms and gripper exchanged would give another report.
-const LINES: &str = "\
+pub const LINES: &str = "\
 arm1 = { raw = [0, 1501], tol = 1 }
 gripper = { raw = [5, 1508], tol = 10 }
 ";
 
 /// Starts, schedules and lines, with the reports of their runs.
-const RUNS: &[(&str, Runs<'static>, &str, &str)] = &[
+pub const RUNS: &[(&str, Runs<'static>, &str, &str)] = &[
     (
         "0100000000",
         &[(6, "t"), (11, "f"), (1, "t")],
@@ -89,7 +89,7 @@ fn config_of(
 }
 
 /// Whether the simulation of a start, of these runs and these lines has this report.
-fn is_reported<T: Threads + Wait + Sync>(
+pub fn is_reported<T: Threads + Wait + Sync>(
     rt: &T,
     alloc: Global,
     start: &str,
