@@ -68,6 +68,28 @@ impl Read for FailingReader<'_> {
     }
 }
 
+/// Gives a text, a line at a time, and counts these parts.
+#[derive(Drop)]
+pub struct LineReader<'a> {
+    pub bytes: &'a [u8],
+    pub given: usize,
+}
+
+impl Read for LineReader<'_> {
+    fn read(&mut self, buf: &mut [u8]) -> io::Result<usize> {
+        let end = self.bytes.iter().position(|byte| *byte == b'\n');
+        let line = end.map_or(self.bytes.len(), |end| end.saturating_add(1));
+        let count = line.min(buf.len()).min(self.bytes.len());
+        let (part, rest) = self.bytes.split_at(count);
+        buf[..count].copy_from_slice(part);
+        self.bytes = rest;
+        if count > 0 {
+            self.given = self.given.saturating_add(1);
+        }
+        Ok(count)
+    }
+}
+
 /// Gives a text, at most seven bytes at a time, and is interrupted before each part and the end.
 #[derive(Drop)]
 pub struct InterruptedReader<'a> {
