@@ -271,7 +271,7 @@ regrouped (Some r) b c d = refl
 pub give_rows : (s : ModelState) → IsSound s → (m : Machine) (z : Zone) → first_refusal (packed s) (rows.give_row m z) ≡ Refusals.give_refusal s m z
 give_rows s sound m z =
     let w = packed s in
-    let gift = Refusals.gift s m z in
+    let gift = Refusals.transfer_given s m z in
     let row = rows.row_given m z in
     let here = give_here m z (zone_at s z) in
     let before = option_or (not_mine m z (zone_at s z)) (then_some (zone_at s z).flag (PlateInZone z)) in
