@@ -92,7 +92,7 @@ fn is_kept(bench: &Bench, start: State, answered: Answered) -> bool {
 
 // With memory the call is answered. The run with refused memory takes the other arm.
 #[test]
-fn want_of_memory_leaves_state_and_history(rt: HostRuntime) {
+fn is_unchanged_if_out_of_memory(rt: HostRuntime) {
     let start = State::start(EMPTY, 0).expect(&rt, "a start without plates");
     let mut bench = Bench::new(rt.alloc(), start);
     let busy = Ok(Reply::Busy { lost: 1, stamp: 0 });
