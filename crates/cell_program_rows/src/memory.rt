@@ -56,8 +56,8 @@ fn is_cut(written: &str, answer: &str, least: usize, fault: &str) -> bool {
     }
 }
 
-// Whether a run writes the whole text, or says that memory ran out. What it has written it doesn't
-// lose: if the script's next part was read, the lines of all records but the last two had been written.
+// Whether a run writes the whole text, or says that memory ran out. A script gives a record at a time,
+// and before the next one is read the lines of all but the last one are written: they aren't lost.
 fn is_right<T: Threads + Wait + Sync>(rt: &T, alloc: Global, row: &Row) -> bool {
     let (words, input, answer, end, faults) = *row;
     let mut reader = LineReader {
