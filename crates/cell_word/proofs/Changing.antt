@@ -30,13 +30,13 @@ use Rattle.cell_rules.proofs.Transfers.{take_finds}
 use Rattle.cell_word.specs.Layout.{zone_bit, place_bit, owner_code, posture_code, packed}
 use Rattle.cell_word.specs.Reading.{bits_of}
 use Rattle.cell_word.specs.Patterns.{with_written}
-use Rattle.cell_word.specs.Rows as rows
+use Rattle.cell_word.specs.Guards as guards
 use Rattle.cell_word.specs.Changes.{written, received_by, row_received}
 use Rattle.cell_word.specs.declared.patterns.Pattern.{Pattern}
 use Rattle.cell_word.proofs.RoundTrip.{laid_out, place_field_read, stamp_read, owner_fits, flag_fits, posture_fits}
 use Rattle.cell_word.proofs.SameAnswer.{same_row, one_row}
 use Rattle.cell_word.proofs.Seen.{zone_code, zone_five, is_lawful, lawful_at}
-use Rattle.cell_word.proofs.ZoneRows.{either_way, given_once}
+use Rattle.cell_word.proofs.ZoneGuards.{either_way, given_once}
 use Rattle.cell_word.proofs.Writing.{complement, rewritten, unchanged, written_word}
 
 -- ---- what a pattern writes into a zone, and into a place
@@ -207,7 +207,7 @@ emptied_has full None at = refl
 emptied_has full (Some row) at = has-put full false row.from at
 
 abbrev give_place : Machine → Zone → Pattern → Place → Bool → Bool
-give_place m z p at b = is_none (rows.row_given m z) || nat_eq (in_place p at (one_if b)) (one_if (emptied_at (rows.row_given m z) at b))
+give_place m z p at b = is_none (guards.row_given m z) || nat_eq (in_place p at (one_if b)) (one_if (emptied_at (guards.row_given m z) at b))
 
 abbrev give_places : Machine → Zone → Pattern → Bool
 give_places m z p = all_places (λ at. all_bools (give_place m z p at))
@@ -227,11 +227,11 @@ give_written s sound m z e =
     let gift = Refusals.transfer_given s m z in
     let way : is_some gift ≡ true = and_right (not v.flag) (is_some gift) (and_right (is_owned_by v.owner m) (not v.flag && is_some gift) (and_right (is_party m z) (is_owned_by v.owner m && (not v.flag && is_some gift)) done.0)) in
     let some : is_none gift ≡ false = was_some gift way in
-    let same : gift ≡ rows.row_given m z = given_once m z v.posture some in
+    let same : gift ≡ guards.row_given m z = given_once m z v.posture some in
     let table = λ (at : Place). from_places (λ at. all_bools (give_place m z p at)) (from_zones (λ z. give_places m z (written m (Give z))) (from_machines (λ m. all_zones (λ z. give_places m z (written m (Give z)))) give_place_table m) z) at in
-    let at_place : (at : Place) → in_place p at (one_if (is_full s at)) ≡ one_if (emptied_at (rows.row_given m z) at (is_full s at)) =
-    λ at. eqb-true (in_place p at (one_if (is_full s at))) (one_if (emptied_at (rows.row_given m z) at (is_full s at)))
-    (either_way (is_none (rows.row_given m z)) (nat_eq (in_place p at (one_if (is_full s at))) (one_if (emptied_at (rows.row_given m z) at (is_full s at)))) (from_bools (give_place m z p at) (table at) (is_full s at)) (ap is_none (sym same) ∙ some)) in
+    let at_place : (at : Place) → in_place p at (one_if (is_full s at)) ≡ one_if (emptied_at (guards.row_given m z) at (is_full s at)) =
+    λ at. eqb-true (in_place p at (one_if (is_full s at))) (one_if (emptied_at (guards.row_given m z) at (is_full s at)))
+    (either_way (is_none (guards.row_given m z)) (nat_eq (in_place p at (one_if (is_full s at))) (one_if (emptied_at (guards.row_given m z) at (is_full s at)))) (from_bools (give_place m z p at) (table at) (is_full s at)) (ap is_none (sym same) ∙ some)) in
     by_parts s (changed s m (Give z)) p sound (low_for Give refl m z) done.2 refl
     (zones_by may_give given Give give_table s sound m z done.0)
     (λ at. at_place at ∙ ap (λ row. one_if (emptied_at row at (is_full s at))) (sym same) ∙ ap one_if (sym (emptied_has s.full gift at)))

@@ -25,7 +25,7 @@ use Rattle.cell_rules.specs.Refusals.{given_by}
 use Rattle.cell_rules.specs.Reply.{reply}
 use Rattle.cell_rules.proofs.Tables.{and_left, and_right, all_machines, from_machines, all_zones, from_zones, all_poses, from_poses}
 use Rattle.cell_rules.proofs.Tested.{sound_by_test}
-use Rattle.cell_word.specs.Rows.{row_given}
+use Rattle.cell_word.specs.Guards.{row_given}
 use Rattle.cell_word.specs.Changes.{written, received_by}
 use Rattle.cell_word.specs.declared.patterns.Pattern.{Pattern}
 

@@ -28,7 +28,7 @@ use Rattle.cell_word.proofs.RoundTrip.{told_back, laid_out}
 use Rattle.cell_word.proofs.SameAnswer.{same_bool, one_bool}
 use Rattle.cell_word.proofs.Windows.{and_or, stands-window, field_shown, all_below, from_below, five_fit}
 use Rattle.cell_word.proofs.Seen.{zone_code, zone_window, place_window, place_word, zone_five, is_lawful, lawful_at}
-use Rattle.cell_word.proofs.ZoneRows.{and_zero}
+use Rattle.cell_word.proofs.ZoneGuards.{and_zero}
 use Rattle.cell_word.proofs.Writing.{is_word_of}
 
 -- ---- the state that a word encodes, zone by zone and place by place

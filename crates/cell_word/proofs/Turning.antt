@@ -15,17 +15,17 @@ use Rattle.cell_rules.proofs.Tables.{and_left, and_right, all_zones, from_zones,
 use Rattle.cell_word.specs.Layout.{zone_bit, place_bit}
 use Rattle.cell_word.specs.Reading.{bits_of}
 use Rattle.cell_word.specs.Patterns.{stands, when, posture_is, low_differs, high_differs, anything}
-use Rattle.cell_word.specs.Rows as rows
-use Rattle.cell_word.specs.Rows.{guard, first_refusal, unless, checked}
-use Rattle.cell_word.specs.Sides.{party_of, giving}
-use Rattle.cell_word.specs.declared.sides.Side.{Side}
-use Rattle.cell_word.specs.declared.sides.Side.TheVariants.{Host, Guest}
+use Rattle.cell_word.specs.Guards as guards
+use Rattle.cell_word.specs.Guards.{guard, first_refusal, unless, checked}
+use Rattle.cell_word.specs.Parties.{machine_of, giving_posture}
+use Rattle.cell_word.specs.declared.parties.Party.{Party}
+use Rattle.cell_word.specs.declared.parties.Party.TheVariants.{Host, Guest}
 use Rattle.cell_word.specs.declared.patterns.Pattern.{Pattern}
 use Rattle.cell_word.specs.declared.patterns.Guard.{Guard}
 use Rattle.cell_word.proofs.SameAnswer.{same_answer, one_answer}
 use Rattle.cell_word.proofs.Windows.{and_or, first-window, stands-window, all_within, field_shown, all_below, from_below, five_fit}
 use Rattle.cell_word.proofs.Seen.{zone_window}
-use Rattle.cell_word.proofs.ZoneRows.{blind, and_zero}
+use Rattle.cell_word.proofs.ZoneGuards.{blind, and_zero}
 
 -- ---- rows whose guards all pass if a pattern matches, shown through a window
 abbrev but : Pattern → List Guard → ℕ → Option Refusal
@@ -79,27 +79,27 @@ turned row short table w z q =
 
 -- a zone that gets another posture has to be its host's
 abbrev host_guards : Zone → Posture → List Guard
-host_guards z q = rows.unowned z ∷ rows.anothers z (guest_of z) ∷ []
+host_guards z q = guards.unowned z ∷ guards.anothers z (guest_of z) ∷ []
 
-owner_table : turned_table rows.owner_guards host_guards ≡ true
+owner_table : turned_table guards.owner_guards host_guards ≡ true
 owner_table = refl
 
-pub host_turns : (w : ℕ) (z : Zone) (q : Posture) → checked w (rows.owner_guards z q) ≡ cond (stands w (posture_is z q)) (Ok tt) (checked w (rows.unowned z ∷ rows.anothers z (guest_of z) ∷ []))
-host_turns w z q = but_checked w (posture_is z q) (rows.owner_guards z q) (host_guards z q) (turned rows.owner_guards host_guards owner_table w z q)
+pub require_held_unless_in : (w : ℕ) (z : Zone) (q : Posture) → checked w (guards.owner_guards z q) ≡ cond (stands w (posture_is z q)) (Ok tt) (checked w (guards.unowned z ∷ guards.anothers z (guest_of z) ∷ []))
+require_held_unless_in w z q = but_checked w (posture_is z q) (guards.owner_guards z q) (host_guards z q) (turned guards.owner_guards host_guards owner_table w z q)
 
 -- and free of plates
 abbrev clear_guards : Zone → Posture → List Guard
-clear_guards z q = rows.plate_in z ∷ []
+clear_guards z q = guards.plate_in z ∷ []
 
-plate_table : turned_table rows.plate_guards clear_guards ≡ true
+plate_table : turned_table guards.plate_guards clear_guards ≡ true
 plate_table = refl
 
-pub turns_clear : (w : ℕ) (z : Zone) (q : Posture) → checked w (rows.plate_guards z q) ≡ cond (stands w (posture_is z q)) (Ok tt) (checked w (rows.plate_in z ∷ []))
-turns_clear w z q = but_checked w (posture_is z q) (rows.plate_guards z q) (clear_guards z q) (turned rows.plate_guards clear_guards plate_table w z q)
+pub require_clear_unless_in : (w : ℕ) (z : Zone) (q : Posture) → checked w (guards.plate_guards z q) ≡ cond (stands w (posture_is z q)) (Ok tt) (checked w (guards.plate_in z ∷ []))
+require_clear_unless_in w z q = but_checked w (posture_is z q) (guards.plate_guards z q) (clear_guards z q) (turned guards.plate_guards clear_guards plate_table w z q)
 
 -- if a zone has to have a posture, any other refuses
 abbrev differing : Refusal → Zone → Posture → List Guard
-differing r z q = rows.low_refuses z q r ∷ rows.high_refuses z q r ∷ []
+differing r z q = guards.low_refuses z q r ∷ guards.high_refuses z q r ∷ []
 
 abbrev always : Zone → Posture → List Guard
 always z q = guard anything Jump ∷ []
@@ -126,8 +126,8 @@ any_refusal false false false r e = cc
 always_stands : (w : ℕ) → first_refusal w (guard anything Jump ∷ []) ≡ Some Jump
 always_stands w = blind w (guard anything Jump ∷ []) refl
 
-pub only_in : (w : ℕ) (z : Zone) (q : Posture) (r : Refusal) → checked w (rows.low_refuses z q r ∷ rows.high_refuses z q r ∷ []) ≡ cond (stands w (posture_is z q)) (Ok tt) (Err r)
-only_in w z q r =
+pub require_in : (w : ℕ) (z : Zone) (q : Posture) (r : Refusal) → checked w (guards.low_refuses z q r ∷ guards.high_refuses z q r ∷ []) ≡ cond (stands w (posture_is z q)) (Ok tt) (Err r)
+require_in w z q r =
     let low = stands w (low_differs z q) in
     let high = stands w (high_differs z q) in
     let b = stands w (posture_is z q) in
@@ -143,42 +143,42 @@ abbrev room_word : Zone → Place → ℕ → ℕ → ℕ
 room_word z p n m = bit_or (n * 2 ^ (zone_bit z + 3)) (m * 2 ^ place_bit p)
 
 abbrev room_test : Zone → Place → ℕ → ℕ → Bool
-room_test z p n m = same_answer (first_refusal (room_word z p n m) (rows.room_guards z p)) (but (posture_is z OpenIn) (rows.no_room_at p ∷ []) (room_word z p n m))
+room_test z p n m = same_answer (first_refusal (room_word z p n m) (guards.room_guards z p)) (but (posture_is z OpenIn) (guards.no_room_at p ∷ []) (room_word z p n m))
 
 abbrev room_tests : Zone → Place → Bool
-room_tests z p = is_inside (room_window z p) (posture_is z OpenIn) (rows.room_guards z p) (rows.no_room_at p ∷ []) && all_below 4 (λ n. all_below 2 (room_test z p n))
+room_tests z p = is_inside (room_window z p) (posture_is z OpenIn) (guards.room_guards z p) (guards.no_room_at p ∷ []) && all_below 4 (λ n. all_below 2 (room_test z p n))
 
 room_table : all_zones (λ z. all_places (room_tests z)) ≡ true
 room_table = refl
 
-pub room : (w : ℕ) (z : Zone) (p : Place) → checked w (rows.room_guards z p) ≡ cond (stands w (posture_is z OpenIn)) (Ok tt) (checked w (rows.no_room_at p ∷ []))
-room w z p =
+pub require_room : (w : ℕ) (z : Zone) (p : Place) → checked w (guards.room_guards z p) ≡ cond (stands w (posture_is z OpenIn)) (Ok tt) (checked w (guards.no_room_at p ∷ []))
+require_room w z p =
     let n = bits_of w (zone_bit z + 3) 2 in
     let m = bits_of w (place_bit p) 1 in
-    let short = rows.no_room_at p ∷ [] in
-    let inside = is_inside (room_window z p) (posture_is z OpenIn) (rows.room_guards z p) short in
+    let short = guards.no_room_at p ∷ [] in
+    let inside = is_inside (room_window z p) (posture_is z OpenIn) (guards.room_guards z p) short in
     let each = all_below 4 (λ n. all_below 2 (room_test z p n)) in
     let tests = from_places (room_tests z) (from_zones (λ z. all_places (room_tests z)) room_table z) p in
     let shown : bit_and w (room_window z p) ≡ room_word z p n m =
     and_or w ((2 ^ 2 - 1) * 2 ^ (zone_bit z + 3)) ((2 ^ 1 - 1) * 2 ^ place_bit p) ∙ ap₂ bit_or (field_shown w (zone_bit z + 3) 2) (field_shown w (place_bit p) 1) in
     let same = from_below 2 (room_test z p n) (from_below 4 (λ n. all_below 2 (room_test z p n)) (and_right inside each tests) n (mod_below (w / 2 ^ (zone_bit z + 3)) 4 (omega arith))) m (mod_below (w / 2 ^ place_bit p) 2 (omega arith)) in
-    but_checked w (posture_is z OpenIn) (rows.room_guards z p) short
-    (through w (room_window z p) (room_word z p n m) (posture_is z OpenIn) (rows.room_guards z p) short shown (and_left inside each tests) same)
+    but_checked w (posture_is z OpenIn) (guards.room_guards z p) short
+    (through w (room_window z p) (room_word z p n m) (posture_is z OpenIn) (guards.room_guards z p) short shown (and_left inside each tests) same)
 
--- ---- a zone from which a side gives
-abbrev way_pattern : Zone → Side → Pattern
-way_pattern z s = when (is_some (transfer_of z (giving s))) (posture_is z (giving s))
+-- ---- a zone from which a party gives
+abbrev way_pattern : Zone → Party → Pattern
+way_pattern z s = when (is_some (transfer_of z (giving_posture s))) (posture_is z (giving_posture s))
 
-abbrev wrong_ways : Zone → Side → List Guard
-wrong_ways z s = map (rows.wrong_way (party_of z s) z) every_posture
+abbrev wrong_ways : Zone → Party → List Guard
+wrong_ways z s = map (guards.wrong_way (machine_of z s) z) every_posture
 
 abbrev wrong_way : List Guard
 wrong_way = guard anything WrongWay ∷ []
 
-abbrev way_test : Zone → Side → ℕ → Bool
+abbrev way_test : Zone → Party → ℕ → Bool
 way_test z s n = same_answer (first_refusal (n * 2 ^ zone_bit z) (wrong_ways z s)) (but (way_pattern z s) wrong_way (n * 2 ^ zone_bit z))
 
-abbrev way_tests : Side → Zone → Bool
+abbrev way_tests : Party → Zone → Bool
 way_tests s z = is_inside (zone_window z) (way_pattern z s) (wrong_ways z s) wrong_way && all_below 32 (way_test z s)
 
 host_ways : all_zones (way_tests Host) ≡ true
@@ -187,11 +187,11 @@ host_ways = refl
 guest_ways : all_zones (way_tests Guest) ≡ true
 guest_ways = refl
 
-ways : (z : Zone) (s : Side) → way_tests s z ≡ true
+ways : (z : Zone) (s : Party) → way_tests s z ≡ true
 ways z Host = from_zones (way_tests Host) host_ways z
 ways z Guest = from_zones (way_tests Guest) guest_ways z
 
-way : (w : ℕ) (z : Zone) (s : Side) → checked w (wrong_ways z s) ≡ cond (stands w (way_pattern z s)) (Ok tt) (Err WrongWay)
+way : (w : ℕ) (z : Zone) (s : Party) → checked w (wrong_ways z s) ≡ cond (stands w (way_pattern z s)) (Ok tt) (Err WrongWay)
 way w z s =
     let n = bits_of w (zone_bit z) 5 in
     let inside = is_inside (zone_window z) (way_pattern z s) (wrong_ways z s) wrong_way in
@@ -200,11 +200,11 @@ way w z s =
     (from_below 32 (way_test z s) (and_right inside (all_below 32 (way_test z s)) (ways z s)) n (five_fit w (zone_bit z))))
     ∙ ap (λ o. cond (stands w (way_pattern z s)) (Ok tt) (unless o tt)) (blind w wrong_way refl)
 
-pub no_way : (w : ℕ) (z : Zone) (s : Side) → transfer_of z (giving s) ≡ None → checked w (wrong_ways z s) ≡ Err WrongWay
+pub no_way : (w : ℕ) (z : Zone) (s : Party) → transfer_of z (giving_posture s) ≡ None → checked w (wrong_ways z s) ≡ Err WrongWay
 no_way w z s e =
     way w z s
-    ∙ ap (λ (row : Option Transfer). cond (stands w (when (is_some row) (posture_is z (giving s)))) (Ok tt) (Err WrongWay)) e
+    ∙ ap (λ (row : Option Transfer). cond (stands w (when (is_some row) (posture_is z (giving_posture s)))) (Ok tt) (Err WrongWay)) e
     ∙ ap (λ n. cond (nat_eq n 0x8000000000000000) (Ok tt) (Err WrongWay)) (and_zero w)
 
-pub one_way : (w : ℕ) (z : Zone) (s : Side) (row : Transfer) → transfer_of z (giving s) ≡ Some row → checked w (wrong_ways z s) ≡ cond (stands w (posture_is z (giving s))) (Ok tt) (Err WrongWay)
-one_way w z s row e = way w z s ∙ ap (λ (row : Option Transfer). cond (stands w (when (is_some row) (posture_is z (giving s)))) (Ok tt) (Err WrongWay)) e
+pub one_way : (w : ℕ) (z : Zone) (s : Party) (row : Transfer) → transfer_of z (giving_posture s) ≡ Some row → checked w (wrong_ways z s) ≡ cond (stands w (posture_is z (giving_posture s))) (Ok tt) (Err WrongWay)
+one_way w z s row e = way w z s ∙ ap (λ (row : Option Transfer). cond (stands w (when (is_some row) (posture_is z (giving_posture s)))) (Ok tt) (Err WrongWay)) e

@@ -12,7 +12,7 @@ use Rattle.cell_types.specs.declared.answer.Refusal.{Refusal}
 use Rattle.cell_rules.proofs.Tables.{and_left, and_right}
 use Rattle.cell_word.specs.Reading.{bits_of}
 use Rattle.cell_word.specs.Patterns.{stands, field_is}
-use Rattle.cell_word.specs.Rows.{first_refusal}
+use Rattle.cell_word.specs.Guards.{first_refusal}
 use Rattle.cell_word.specs.declared.patterns.Pattern.{Pattern}
 use Rattle.cell_word.specs.declared.patterns.Guard.{Guard}
 

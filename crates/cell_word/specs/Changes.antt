@@ -17,7 +17,7 @@ use Rattle.cell_types.specs.Same.{same_machine}
 use Rattle.cell_rules.specs.Sound.{is_party}
 use Rattle.cell_rules.specs.Reply.{other_party}
 use Rattle.cell_word.specs.Patterns.{anything, both, owner_is, flag_is, posture_is, place_is}
-use Rattle.cell_word.specs.Rows.{row_given, hosted, posed_at}
+use Rattle.cell_word.specs.Guards.{row_given, hosted_zones, posed_at}
 use Rattle.cell_word.specs.declared.patterns.Pattern.{Pattern}
 
 -- the row of transfers in which a machine receives in a zone; there is at most one
@@ -31,34 +31,34 @@ row_received m z = option_or (received_by m (transfer_of z OpenIn)) (received_by
 abbrev pub owner_becomes : Machine → Zone → Option Machine → Pattern
 owner_becomes m z o = if is_party m z then owner_is z o else anything
 
-abbrev pub given_away : Machine → Zone → Option Transfer → Pattern
-given_away m z None = anything
-given_away m z (Some row) = both (place_is row.from false) (both (flag_is z true) (owner_is z (Some (other_party m z))))
+abbrev pub give_pattern : Machine → Zone → Option Transfer → Pattern
+give_pattern m z None = anything
+give_pattern m z (Some row) = both (place_is row.from false) (both (flag_is z true) (owner_is z (Some (other_party m z))))
 
-abbrev pub taken_in : Zone → Option Transfer → Pattern
-taken_in z None = anything
-taken_in z (Some row) = both (flag_is z false) (place_is row.to true)
+abbrev pub take_pattern : Zone → Option Transfer → Pattern
+take_pattern z None = anything
+take_pattern z (Some row) = both (flag_is z false) (place_is row.to true)
 
-abbrev pub posed : Option (Zone × Posture) → Pattern
-posed None = anything
-posed (Some at) = posture_is at.0 at.1
+abbrev pub posture_pattern : Option (Zone × Posture) → Pattern
+posture_pattern None = anything
+posture_pattern (Some at) = posture_is at.0 at.1
 
-abbrev pub moved_on : Option (Place × Place) → Pattern
-moved_on None = anything
-moved_on (Some way) = both (place_is way.0 false) (place_is way.1 true)
+abbrev pub move_pattern : Option (Place × Place) → Pattern
+move_pattern None = anything
+move_pattern (Some way) = both (place_is way.0 false) (place_is way.1 true)
 
-abbrev pub halted : Machine → Pattern
-halted Feed = posture_is Z6 Closed
-halted Deposit = both (posture_is Z4 Closed) (posture_is Z5 Closed)
-halted _ = anything
+abbrev pub halt_pattern : Machine → Pattern
+halt_pattern Feed = posture_is Z6 Closed
+halt_pattern Deposit = both (posture_is Z4 Closed) (posture_is Z5 Closed)
+halt_pattern _ = anything
 
 -- what a machine's call writes; no bits if it can never be Done
 abbrev pub written : Machine → Call → Pattern
 written m (Claim z) = owner_becomes m z (Some m)
-written m (Give z) = given_away m z (row_given m z)
+written m (Give z) = give_pattern m z (row_given m z)
 written m (Yield z) = owner_becomes m z (Some (other_party m z))
-written m (Take z) = taken_in z (row_received m z)
+written m (Take z) = take_pattern z (row_received m z)
 written m (Release z) = owner_becomes m z None
-written m (SetPose p) = both (posed (posed_at m p (hosted m).0)) (posed (posed_at m p (hosted m).1))
-written m Advance = both (moved_on (work_of m)) (halted m)
+written m (SetPose p) = both (posture_pattern (posed_at m p (hosted_zones m).0)) (posture_pattern (posed_at m p (hosted_zones m).1))
+written m Advance = both (move_pattern (work_of m)) (halt_pattern m)
 written m (Inquire z) = anything

@@ -1,8 +1,8 @@
 pub mod Layout
 pub mod Reading
 pub mod Laws
-pub mod Sides
+pub mod Parties
 pub mod Patterns
-pub mod Rows
+pub mod Guards
 pub mod Changes
 pub mod StateWords

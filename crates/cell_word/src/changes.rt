@@ -8,44 +8,44 @@ ghost use Rattle.cell_word.specs.Layout.{packed};
 ghost use Rattle.cell_word.specs.Patterns.{with_written};
 ghost use Rattle.cell_types.specs.declared.call.Call.TheVariants as calls;
 ghost use Rattle.cell_word.specs.Changes as changes;
-ghost use Rattle.cell_word.specs.Sides as sides;
+ghost use Rattle.cell_word.specs.Parties as parties;
 
+use crate::parties::{Party, party_of, row_given, row_received};
 use crate::patterns::Pattern;
-use crate::pose_rows::{hosted, posed_at};
-use crate::sides::{Side, row_given, row_received, side_of};
+use crate::pose_guards::{hosted_zones, posed_at};
 use cell_types::{Call, Machine, Place, Pose, Posture, Transfer, Zone, work};
 
-/// What a give writes: the plate is in the zone, and the zone belongs to the other side.
+/// What a give writes: the plate is in the zone, and the zone belongs to the other party.
 #[inline(always)]
-pub(crate) fn gift(zone: Zone, side: Side, row: Transfer) -> Pattern
-    ensures { result ≡ changes.given_away (sides.party_of zone side) zone (Some row) }
+pub(crate) fn give_pattern(zone: Zone, party: Party, row: Transfer) -> Pattern
+    ensures { result ≡ changes.give_pattern (parties.machine_of zone party) zone (Some row) }
 {
-    let other = Pattern::owned(zone, side.other());
+    let other = Pattern::owned_by(zone, party.opposite());
     Pattern::place(row.from, false).and(Pattern::flag(zone, true).and(other))
 }
 
-fn given_away(zone: Zone, side: Side) -> Pattern
-    ensures { result ≡ changes.written (sides.party_of zone side) (calls.Give zone) }
+fn give_pattern_for(zone: Zone, party: Party) -> Pattern
+    ensures { result ≡ changes.written (parties.machine_of zone party) (calls.Give zone) }
 {
-    match row_given(zone, side) {
-        Some(row) => gift(zone, side, row),
+    match row_given(zone, party) {
+        Some(row) => give_pattern(zone, party, row),
         None => Pattern::ANYTHING,
     }
 }
 
 #[inline(always)]
-pub(crate) fn taken_in(zone: Zone, side: Side) -> Pattern
-    ensures { result ≡ changes.written (sides.party_of zone side) (calls.Take zone) }
+pub(crate) fn take_pattern(zone: Zone, party: Party) -> Pattern
+    ensures { result ≡ changes.written (parties.machine_of zone party) (calls.Take zone) }
 {
-    match row_received(zone, side) {
+    match row_received(zone, party) {
         Some(row) => Pattern::flag(zone, false).and(Pattern::place(row.to, true)),
         None => Pattern::ANYTHING,
     }
 }
 
 #[inline(always)]
-pub(crate) fn posed(posed: Option<(Zone, Posture)>) -> Pattern
-    ensures { result ≡ changes.posed posed }
+pub(crate) fn posture_pattern(posed: Option<(Zone, Posture)>) -> Pattern
+    ensures { result ≡ changes.posture_pattern posed }
 {
     match posed {
         Some((zone, posture)) => Pattern::posture(zone, posture),
@@ -54,8 +54,8 @@ pub(crate) fn posed(posed: Option<(Zone, Posture)>) -> Pattern
 }
 
 #[inline(always)]
-fn moved_on(way: Option<(Place, Place)>) -> Pattern
-    ensures { result ≡ changes.moved_on way }
+fn move_pattern(way: Option<(Place, Place)>) -> Pattern
+    ensures { result ≡ changes.move_pattern way }
 {
     match way {
         Some((from, to)) => Pattern::place(from, false).and(Pattern::place(to, true)),
@@ -65,8 +65,8 @@ fn moved_on(way: Option<(Place, Place)>) -> Pattern
 
 /// The zones of a belt are closed after a plate has come to its end.
 #[inline(always)]
-fn halted(machine: Machine) -> Pattern
-    ensures { result ≡ changes.halted machine }
+fn halt_pattern(machine: Machine) -> Pattern
+    ensures { result ≡ changes.halt_pattern machine }
 {
     match machine {
         Machine::Feed => Pattern::posture(Zone::Z6, Posture::Closed),
@@ -80,46 +80,48 @@ fn halted(machine: Machine) -> Pattern
 
 /// What a machine's work writes.
 #[inline(always)]
-pub(crate) fn worked(machine: Machine) -> Pattern
+pub(crate) fn advance_pattern(machine: Machine) -> Pattern
     ensures { result ≡ changes.written machine calls.Advance }
 {
-    moved_on(work(machine)).and(halted(machine))
+    move_pattern(work(machine)).and(halt_pattern(machine))
 }
 
-fn posed_by(machine: Machine, pose: Pose) -> Pattern
+fn pose_pattern(machine: Machine, pose: Pose) -> Pattern
     ensures { result ≡ changes.written machine (calls.SetPose pose) }
 {
-    let (one, other) = hosted(machine);
-    posed(posed_at(machine, pose, one)).and(posed(posed_at(machine, pose, other)))
+    let (one, other) = hosted_zones(machine);
+    posture_pattern(posed_at(machine, pose, one)).and(posture_pattern(posed_at(
+        machine, pose, other,
+    )))
 }
 
 /// What a call of a machine writes.
-fn written(machine: Machine, call: Call) -> Pattern
+fn written_by(machine: Machine, call: Call) -> Pattern
     ensures { result ≡ changes.written machine call }
 {
     match call {
-        Call::Claim(zone) => match side_of(machine, zone) {
-            Some(side) => Pattern::owned(zone, side),
+        Call::Claim(zone) => match party_of(machine, zone) {
+            Some(party) => Pattern::owned_by(zone, party),
             None => Pattern::ANYTHING,
         },
-        Call::Give(zone) => match side_of(machine, zone) {
-            Some(side) => given_away(zone, side),
+        Call::Give(zone) => match party_of(machine, zone) {
+            Some(party) => give_pattern_for(zone, party),
             None => Pattern::ANYTHING,
         },
-        Call::Yield(zone) => match side_of(machine, zone) {
-            Some(side) => Pattern::owned(zone, side.other()),
+        Call::Yield(zone) => match party_of(machine, zone) {
+            Some(party) => Pattern::owned_by(zone, party.opposite()),
             None => Pattern::ANYTHING,
         },
-        Call::Take(zone) => match side_of(machine, zone) {
-            Some(side) => taken_in(zone, side),
+        Call::Take(zone) => match party_of(machine, zone) {
+            Some(party) => take_pattern(zone, party),
             None => Pattern::ANYTHING,
         },
-        Call::Release(zone) => match side_of(machine, zone) {
+        Call::Release(zone) => match party_of(machine, zone) {
             Some(_) => Pattern::owner(zone, None),
             None => Pattern::ANYTHING,
         },
-        Call::SetPose(pose) => posed_by(machine, pose),
-        Call::Advance => worked(machine),
+        Call::SetPose(pose) => pose_pattern(machine, pose),
+        Call::Advance => advance_pattern(machine),
         Call::Inquire(_) => Pattern::ANYTHING,
     }
 }
@@ -132,6 +134,6 @@ pub fn masks(machine: Machine, call: Call) -> (u64, u64)
     ensures below_stamp { (result.0 < 2 ^ 40) × (result.1 < 2 ^ 40) }
     ensures never { ((state : ModelState) → IsSound state → reply state machine call ≢ Done) → result ≡ (0, 0) }
 {
-    let written = written(machine, call);
+    let written = written_by(machine, call);
     (written.mask, written.wanted)
 }

@@ -7,7 +7,7 @@ ghost use Rattle.cell_rules.specs.Sound.{IsSound};
 ghost use Rattle.cell_rules.specs.Reply.{refusal};
 ghost use Rattle.cell_rules.specs.Causes.{order_of};
 ghost use Rattle.cell_word.specs.Layout.{packed};
-ghost use Rattle.cell_word.specs.Rows.{first_refusal, row_of, numbers_of, is_ordered};
+ghost use Rattle.cell_word.specs.Guards.{first_refusal, guards_of, numbers_of, is_ordered};
 ghost use Rattle.cell_word.specs.Laws.{IsLaidOut};
 
 /// The fields of a sound state fill the bits 0 to 59 of its word, side by side and without overlap.
@@ -22,11 +22,10 @@ pub fn words_are_distinct()
         → packed one ≡ packed other → one ≡ other }
 {}
 
-/// The guards of a call are its refusals: the first guard of its row that refuses a sound state's
-/// word has the refusal that the interlock answers, and the guards are in the order of the call's
-/// refusals.
+/// The guards of a call are its refusals: the first of them that refuses a sound state's word has
+/// the refusal that the interlock answers, and they are in the order of the call's refusals.
 pub fn guards_are_refusals()
     ensures first { (state : ModelState) → IsSound state → (machine : Machine) (call : Call)
-        → first_refusal (packed state) (row_of machine call) ≡ refusal state machine call }
-    ensures order { (machine : Machine) (call : Call) → IsTrue (is_ordered (order_of call) (numbers_of (row_of machine call))) }
+        → first_refusal (packed state) (guards_of machine call) ≡ refusal state machine call }
+    ensures order { (machine : Machine) (call : Call) → IsTrue (is_ordered (order_of call) (numbers_of (guards_of machine call))) }
 {}

@@ -4,11 +4,11 @@
 mod bits;
 mod changes;
 mod codes;
+mod guards;
 pub mod laws;
+mod parties;
 mod patterns;
-mod pose_rows;
-mod rows;
-mod sides;
+mod pose_guards;
 mod state_words;
 mod step;
 mod word;

@@ -1,11 +1,11 @@
 //! Some bits of a word and their wanted values: to test a word, and to write into one.
 ghost use Rattle.std.specs.Prelude.{◌≡◌, ◌+◌, ◌<◌, ◌≤◌, ◌^◌, ◌∷◌, [], Some};
 ghost use Rattle.cell_word.specs.Patterns as patterns;
-ghost use Rattle.cell_word.specs.Rows as rows;
-ghost use Rattle.cell_word.specs.Sides as sides;
+ghost use Rattle.cell_word.specs.Guards as guards;
+ghost use Rattle.cell_word.specs.Parties as parties;
 
 use crate::codes::{STAMP_BIT, owner_code, place_bit, posture_code, zone_bit};
-use crate::sides::Side;
+use crate::parties::Party;
 use cell_types::{Machine, Place, Posture, Refusal, Zone};
 
 /// Wanted values of some bits of a word: those under the mask.
@@ -47,12 +47,12 @@ impl Pattern {
         Pattern::field(zone_bit(zone), 2, owner_code(zone, owner))
     }
 
-    /// The owner of a zone is the machine on this side.
+    /// The owner of a zone is this party.
     #[inline(always)]
-    pub fn owned(zone: Zone, side: Side) -> Pattern
-        ensures { result ≡ patterns.owner_is zone (Some (sides.party_of zone side)) }
+    pub fn owned_by(zone: Zone, party: Party) -> Pattern
+        ensures { result ≡ patterns.owner_is zone (Some (parties.machine_of zone party)) }
     {
-        Pattern::field(zone_bit(zone), 2, side.code())
+        Pattern::field(zone_bit(zone), 2, party.code())
     }
 
     #[inline(always)]
@@ -114,7 +114,7 @@ impl Pattern {
     /// The guard that refuses words of this pattern.
     #[inline(always)]
     pub fn refuses(self, refusal: Refusal) -> Guard
-        ensures { result ≡ rows.guard self refusal }
+        ensures { result ≡ guards.guard self refusal }
     {
         Guard {
             pattern: self,
@@ -134,7 +134,7 @@ impl Guard {
     /// Refuses a word that matches the pattern.
     #[inline(always)]
     pub fn pass(self, word: u64) -> Result<(), Refusal>
-        ensures { result ≡ rows.checked word (self ∷ []) }
+        ensures { result ≡ guards.checked word (self ∷ []) }
     {
         if self.pattern.stands_in(word) {
             Err(self.refusal)

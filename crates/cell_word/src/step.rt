@@ -6,13 +6,13 @@ ghost use Rattle.cell_rules.specs.Reply.{reply, next};
 ghost use Rattle.cell_word.specs.Layout.{packed};
 
 use crate::codes::STAMP_BIT;
-use crate::rows::tried;
+use crate::guards::check;
 use crate::state_words::is_state_word;
 use crate::word::zone_told;
 use cell_types::{Answer, Call, Machine, Zone};
 
 /// The state of a zone.
-fn shown(word: u64, zone: Zone) -> Answer
+fn show_zone(word: u64, zone: Zone) -> Answer
     ensures { (state : ModelState) → IsSound state → packed state ≡ word
         → result ≡ Shown (zone_at state zone).owner (zone_at state zone).flag (zone_at state zone).posture }
 {
@@ -32,9 +32,9 @@ pub fn step_sound(word: u64, machine: Machine, call: Call) -> (Answer, u64)
         → result ≡ (reply state machine call, packed (next state machine call)) }
 {
     if let Call::Inquire(zone) = call {
-        return (shown(word, zone), word);
+        return (show_zone(word, zone), word);
     }
-    match tried(word, machine, call) {
+    match check(word, machine, call) {
         Err(refusal) => (Answer::Refused(refusal), word),
         Ok(written) => (Answer::Done, written.written_into(word) + (1 << STAMP_BIT)),
     }

@@ -8,10 +8,10 @@ use Rattle.cell_word.proofs.changes.masks.Goals as goal
 
 pub returns-clause-change : goal.returns-clause-change
 returns-clause-change c =
-    λ s h e. done_written s h c.args.machine c.args.call e ∙ ap (λ (p : Pattern). with_written (packed s) p.mask p.wanted + 2 ^ 40) (sym c.written-written.ensures)
+    λ s h e. done_written s h c.args.machine c.args.call e ∙ ap (λ (p : Pattern). with_written (packed s) p.mask p.wanted + 2 ^ 40) (sym c.written_by-written.ensures)
 
 pub returns-clause-below_stamp : goal.returns-clause-below_stamp
-returns-clause-below_stamp c = subst (λ (p : Pattern). (p.mask < 2 ^ 40) × (p.wanted < 2 ^ 40)) (sym c.written-written.ensures) (written_low c.args.machine c.args.call)
+returns-clause-below_stamp c = subst (λ (p : Pattern). (p.mask < 2 ^ 40) × (p.wanted < 2 ^ 40)) (sym c.written_by-written.ensures) (written_low c.args.machine c.args.call)
 
 pub returns-clause-never : goal.returns-clause-never
-returns-clause-never c = λ never. ap (λ (p : Pattern). (p.mask, p.wanted)) c.written-written.ensures ∙ never_written c.args.machine c.args.call never
+returns-clause-never c = λ never. ap (λ (p : Pattern). (p.mask, p.wanted)) c.written_by-written.ensures ∙ never_written c.args.machine c.args.call never

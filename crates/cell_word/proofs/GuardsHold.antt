@@ -1,0 +1,35 @@
+-- On a sound state's word the guards of each machine and call are its refusals, in their order.
+use Rattle.std.proofs.Common.{◌≡◌, Bool, true, refl}
+use Rattle.cell_types.specs.declared.machine.Machine.{Machine}
+use Rattle.cell_types.specs.declared.call.Call.{Call}
+use Rattle.cell_types.specs.declared.call.Call.TheVariants.{Claim, Give, Yield, Take, Release, SetPose, Advance, Inquire}
+use Rattle.cell_rules.specs.ModelState.{ModelState}
+use Rattle.cell_rules.specs.Sound.{IsSound}
+use Rattle.cell_rules.specs.Reply.{refusal}
+use Rattle.cell_rules.specs.Causes.{order_of}
+use Rattle.cell_rules.proofs.Tables.{all_machines, from_machines}
+use Rattle.cell_word.specs.Layout.{packed}
+use Rattle.cell_word.specs.Guards.{first_refusal, guards_of, numbers_of, is_ordered}
+use Rattle.cell_word.proofs.Possible.{all_calls, from_calls}
+use Rattle.cell_word.proofs.ZoneGuards.{claim_holds, give_holds, yield_holds, take_holds, release_holds}
+use Rattle.cell_word.proofs.PoseGuards.{pose_holds, advance_holds}
+
+pub guards_hold : (s : ModelState) → IsSound s → (m : Machine) (c : Call) → first_refusal (packed s) (guards_of m c) ≡ refusal s m c
+guards_hold s sound m (Claim z) = claim_holds s sound m z
+guards_hold s sound m (Give z) = give_holds s sound m z
+guards_hold s sound m (Yield z) = yield_holds s sound m z
+guards_hold s sound m (Take z) = take_holds s sound m z
+guards_hold s sound m (Release z) = release_holds s sound m z
+guards_hold s sound m (SetPose p) = pose_holds s sound m p
+guards_hold s sound m Advance = advance_holds s sound m
+guards_hold s sound m (Inquire z) = refl
+
+-- and the guards of a row are in that order
+abbrev ordered_test : Machine → Call → Bool
+ordered_test m c = is_ordered (order_of c) (numbers_of (guards_of m c))
+
+ordered_table : all_machines (λ m. all_calls (ordered_test m)) ≡ true
+ordered_table = refl
+
+pub guards_ordered : (m : Machine) (c : Call) → ordered_test m c ≡ true
+guards_ordered m c = from_calls (ordered_test m) (from_machines (λ m. all_calls (ordered_test m)) ordered_table m) c

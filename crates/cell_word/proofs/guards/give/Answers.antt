@@ -1,0 +1,86 @@
+use Rattle.std.proofs.Common.{◌≡◌, Option, Ok, List, [], ◌∷◌, map, sym, ap, ◌∙◌}
+use Rattle.cell_types.specs.declared.machine.Machine.{Machine}
+use Rattle.cell_types.specs.declared.zone.Zone.{Zone}
+use Rattle.cell_types.specs.declared.zone.Transfer.{Transfer}
+use Rattle.cell_types.specs.declared.call.Call.TheVariants.{Give}
+use Rattle.cell_types.specs.declared.answer.Refusal.TheVariants.{NoPlate, PlaceFull}
+use Rattle.cell_types.specs.Everything.{all_postures}
+use Rattle.cell_rules.specs.Reply.{other_party}
+use Rattle.cell_word.specs.Changes as changes
+use Rattle.cell_word.specs.Guards as guards
+use Rattle.cell_word.specs.Guards.{guard, first_refusal, unless, checked, went_on}
+use Rattle.cell_word.specs.Parties.{machine_of, opposite}
+use Rattle.cell_word.specs.declared.patterns.Guard.{Guard}
+use Rattle.cell_word.proofs.PartyFacts.{other_is}
+use Rattle.cell_word.proofs.Trying.{refused, go, stop, part_by_part, by_parts}
+use Rattle.cell_word.proofs.guards.give.Goals as goal
+use Rattle.cell_word.proofs.guards.give.Goals.{In_ok-party}
+
+-- the parts of the row after its first guard
+abbrev rest : Machine → Zone → Machine → Option Transfer → List (List Guard)
+rest m z o row =
+    (guards.unowned z ∷ guards.anothers z o ∷ guards.plate_in z ∷ [])
+    ∷ map (guards.wrong_way m z) all_postures
+    ∷ (guard (guards.starts_empty row) NoPlate ∷ guard (guards.ends_full row) PlaceFull ∷ guards.worn ∷ [])
+    ∷ []
+
+abbrev parts : Machine → Zone → List (List Guard)
+parts m z = (guards.stranger m z ∷ []) ∷ rest m z (other_party m z) (guards.row_given m z)
+
+-- the row of a party, part by part
+row_at : (c : In_ok-party) → unless (first_refusal c.args.word (guards.give_guards c.args.machine c.args.zone)) (changes.written c.args.machine (Give c.args.zone))
+    ≡ part_by_part c.args.word (rest c.args.machine c.args.zone (machine_of c.args.zone (opposite c.in_ok-party.party)) (guards.row_given c.args.machine c.args.zone)) (changes.written c.args.machine (Give c.args.zone))
+row_at c =
+    let w = c.args.word in
+    let m = c.args.machine in
+    let z = c.args.zone in
+    let p = changes.written m (Give z) in
+    by_parts w (parts m z) p
+    ∙ go (c.require_party.ensures.stranger w ∙ ap went_on c.in_ok-party.was)
+    ∙ ap (λ o. part_by_part w (rest m z o (guards.row_given m z)) p) (other_is m z c.in_ok-party.party c.in_ok-party.ensures.party)
+
+pub returns-in_err-party : goal.returns-in_err-party
+returns-in_err-party c =
+    refused _ c.in_err-party.field-0.0 c.from_residual.ensures.1
+    ∙ sym
+    (by_parts c.args.word (parts c.args.machine c.args.zone) (changes.written c.args.machine (Give c.args.zone))
+    ∙ stop (c.require_party.ensures.stranger c.args.word ∙ ap went_on c.in_err-party.was) _)
+
+pub returns-in_err-require_held_and_clear : goal.returns-in_err-require_held_and_clear
+returns-in_err-require_held_and_clear c =
+    refused _ c.in_err-require_held_and_clear.field-0.0 c.from_residual-in_err-require_held_and_clear.ensures.1
+    ∙ sym
+    (row_at (goal.at.returns-in_err-require_held_and_clear c).In_ok-party
+    ∙ stop (sym c.require_held_and_clear.ensures ∙ c.in_err-require_held_and_clear.was) _)
+
+pub returns-in_err-row : goal.returns-in_err-row
+returns-in_err-row c =
+    refused _ c.in_err-row.field-0.0 c.from_residual-in_err-row.ensures.1
+    ∙ sym
+    (row_at (goal.at.returns-in_err-row c).In_ok-party
+    ∙ go (sym c.require_held_and_clear.ensures ∙ c.in_ok-require_held_and_clear.was)
+    ∙ stop (ap (λ m. checked c.args.word (map (guards.wrong_way m c.args.zone) all_postures)) c.in_ok-party.ensures.party ∙ c.require_giving.ensures.way ∙ ap went_on c.in_err-row.was) _)
+
+pub returns-in_err-require_movable : goal.returns-in_err-require_movable
+returns-in_err-require_movable c =
+    let row_given = ap (λ m. guards.row_given m c.args.zone) c.in_ok-party.ensures.party ∙ c.in_ok-row.ensures.row in
+    refused _ c.in_err-require_movable.field-0.0 c.from_residual-in_err-require_movable.ensures.1
+    ∙ sym
+    (row_at (goal.at.returns-in_err-require_movable c).In_ok-party
+    ∙ ap (λ row. part_by_part c.args.word (rest c.args.machine c.args.zone (machine_of c.args.zone (opposite c.in_ok-party.party)) row) (changes.written c.args.machine (Give c.args.zone))) row_given
+    ∙ go (sym c.require_held_and_clear.ensures ∙ c.in_ok-require_held_and_clear.was)
+    ∙ go (ap (λ m. checked c.args.word (map (guards.wrong_way m c.args.zone) all_postures)) c.in_ok-party.ensures.party ∙ c.require_giving.ensures.way ∙ ap went_on c.in_ok-row.was)
+    ∙ stop (sym c.require_movable.ensures ∙ c.in_err-require_movable.was) _)
+
+pub returns : goal.returns
+returns c =
+    let z = c.args.zone in
+    let party = c.in_ok-party.ensures.party in
+    let row_given = ap (λ m. guards.row_given m z) party ∙ c.in_ok-row.ensures.row in
+    ap Ok (c.give_pattern.ensures ∙ ap (changes.give_pattern (machine_of z c.in_ok-party.party) z) (sym c.in_ok-row.ensures.row) ∙ ap (λ m. changes.give_pattern m z (guards.row_given m z)) (sym party))
+    ∙ sym
+    (row_at (goal.at.returns c).In_ok-party
+    ∙ ap (λ row. part_by_part c.args.word (rest c.args.machine z (machine_of c.args.zone (opposite c.in_ok-party.party)) row) (changes.written c.args.machine (Give c.args.zone))) row_given
+    ∙ go (sym c.require_held_and_clear.ensures ∙ c.in_ok-require_held_and_clear.was)
+    ∙ go (ap (λ m. checked c.args.word (map (guards.wrong_way m c.args.zone) all_postures)) c.in_ok-party.ensures.party ∙ c.require_giving.ensures.way ∙ ap went_on c.in_ok-row.was)
+    ∙ go (sym c.require_movable.ensures ∙ c.in_ok-require_movable.was))

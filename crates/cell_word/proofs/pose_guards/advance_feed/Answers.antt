@@ -1,0 +1,41 @@
+use Rattle.std.proofs.Common.{Ok, List, [], ◌∷◌, sym, ap, ◌∙◌}
+use Rattle.cell_types.specs.declared.machine.Machine.TheVariants.{Feed}
+use Rattle.cell_types.specs.declared.zone.Zone.TheVariants.{Z6}
+use Rattle.cell_types.specs.declared.place.Place.TheVariants.{FeedEntry, FeedEnd}
+use Rattle.cell_types.specs.declared.posture.Posture.TheVariants.{Moving}
+use Rattle.cell_types.specs.declared.call.Call.TheVariants.{Advance}
+use Rattle.cell_types.specs.declared.answer.Refusal.TheVariants.{NotAtWork}
+use Rattle.cell_word.specs.Changes.{written}
+use Rattle.cell_word.specs.Guards as guards
+use Rattle.cell_word.specs.declared.patterns.Guard.{Guard}
+use Rattle.cell_word.proofs.Trying.{refused, go, stop, by_parts}
+use Rattle.cell_word.proofs.pose_guards.advance_feed.Goals as goal
+
+abbrev parts : List (List Guard)
+parts =
+    (guards.low_refuses Z6 Moving NotAtWork ∷ guards.high_refuses Z6 Moving NotAtWork ∷ [])
+    ∷ (guards.no_plate_at FeedEntry ∷ guards.no_room_at FeedEnd ∷ guards.worn ∷ [])
+    ∷ []
+
+pub returns-in_err-require_in : goal.returns-in_err-require_in
+returns-in_err-require_in c =
+    refused _ c.in_err-require_in.field-0.0 c.from_residual.ensures.1
+    ∙ sym
+    (by_parts c.args.word parts (written Feed Advance)
+    ∙ stop (sym c.require_in.ensures ∙ c.in_err-require_in.was) _)
+
+pub returns-in_err-require_movable : goal.returns-in_err-require_movable
+returns-in_err-require_movable c =
+    refused _ c.in_err-require_movable.field-0.0 c.from_residual-in_err-require_movable.ensures.1
+    ∙ sym
+    (by_parts c.args.word parts (written Feed Advance)
+    ∙ go (sym c.require_in.ensures ∙ c.in_ok-require_in.was)
+    ∙ stop (sym c.require_movable.ensures ∙ c.in_err-require_movable.was) _)
+
+pub returns : goal.returns
+returns c =
+    ap Ok c.advance_pattern.ensures
+    ∙ sym
+    (by_parts c.args.word parts (written Feed Advance)
+    ∙ go (sym c.require_in.ensures ∙ c.in_ok-require_in.was)
+    ∙ go (sym c.require_movable.ensures ∙ c.in_ok-require_movable.was))

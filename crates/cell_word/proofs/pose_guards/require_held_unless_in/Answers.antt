@@ -1,0 +1,10 @@
+use Rattle.std.proofs.Common.{◌∙◌, sym}
+use Rattle.cell_word.proofs.Turning as turning
+use Rattle.cell_word.proofs.Turning.{holds, fails}
+use Rattle.cell_word.proofs.pose_guards.require_held_unless_in.Goals as goal
+
+pub returns-then-is : goal.returns-then-is
+returns-then-is c = holds _ (turning.require_held_unless_in c.args.at.word c.args.at.zone c.args.posture) (sym c.is.ensures ∙ c.if-is.true)
+
+pub returns : goal.returns
+returns c = c.require_held.ensures ∙ fails _ (turning.require_held_unless_in c.args.at.word c.args.at.zone c.args.posture) (sym c.is.ensures ∙ c.if-is.false)

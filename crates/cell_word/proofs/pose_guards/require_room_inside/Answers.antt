@@ -1,0 +1,44 @@
+use Rattle.std.proofs.Common.{◌≡◌, ℕ, true, false, List, refl, sym, ap, ◌∙◌}
+use Rattle.std.specs.List.{flat_map}
+use Rattle.cell_types.specs.declared.zone.Zone.{Zone}
+use Rattle.cell_types.specs.declared.zone.Zone.TheVariants.{Z3}
+use Rattle.cell_types.specs.declared.place.Place.{Place}
+use Rattle.cell_types.specs.declared.place.Place.TheVariants.{PressIn, PressOut}
+use Rattle.cell_types.specs.declared.posture.Posture.TheVariants.{OpenIn}
+use Rattle.cell_types.specs.Same.{same_zone}
+use Rattle.cell_types.specs.Tables.{transfer_of}
+use Rattle.cell_word.specs.Guards as guards
+use Rattle.cell_word.specs.Guards.{checked}
+use Rattle.cell_word.proofs.Trying.{refused, go, stop, then, in_parts}
+use Rattle.cell_word.proofs.pose_guards.require_room_inside.Goals as goal
+
+-- the press has two places inside z3
+pressed : (w : ℕ) (z : Zone) → same_zone z Z3 ≡ true
+    → checked w (guards.opening_guards z OpenIn) ≡ then (checked w (guards.room_guards z PressIn)) (checked w (guards.room_guards z PressOut))
+pressed w Z3 e = in_parts w (guards.room_guards Z3 PressIn) (guards.room_guards Z3 PressOut) tt
+pressed w z e = cc
+
+-- any other zone has at most one, where its plates go
+elsewhere : (z : Zone) → same_zone z Z3 ≡ false → guards.inner_places z ≡ guards.end_of (transfer_of z OpenIn)
+elsewhere Z3 e = cc
+elsewhere z e = refl
+
+pub returns-in_err-require_room : goal.returns-in_err-require_room
+returns-in_err-require_room c =
+    refused _ c.in_err-require_room.field-0.0 c.from_residual.ensures.1 ∙ sym (pressed c.args.at.word c.args.at.zone (sym c.eq.ensures ∙ c.if-eq.true) ∙ stop (sym c.require_room.ensures ∙ c.in_err-require_room.was) _)
+
+pub returns-then-eq : goal.returns-then-eq
+returns-then-eq c = c.require_room-then-eq.ensures ∙ sym (pressed c.args.at.word c.args.at.zone (sym c.eq.ensures ∙ c.if-eq.true) ∙ go (sym c.require_room.ensures ∙ c.in_ok-require_room.was))
+
+pub returns-in-Some : goal.returns-in-Some
+returns-in-Some c =
+    let w = c.args.at.word in
+    let z = c.args.at.zone in
+    c.require_room-in-Some.ensures
+    ∙ sym (ap (λ (places : List Place). checked w (flat_map (guards.room_guards z) places)) (elsewhere z (sym c.eq.ensures ∙ c.if-eq.false) ∙ ap guards.end_of (sym c.transfer.ensures ∙ c.in-Some.is)))
+
+pub returns-in-None : goal.returns-in-None
+returns-in-None c =
+    let w = c.args.at.word in
+    let z = c.args.at.zone in
+    sym (ap (λ (places : List Place). checked w (flat_map (guards.room_guards z) places)) (elsewhere z (sym c.eq.ensures ∙ c.if-eq.false) ∙ ap guards.end_of (sym c.transfer.ensures ∙ c.in-None.is)))

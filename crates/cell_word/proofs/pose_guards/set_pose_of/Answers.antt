@@ -1,0 +1,90 @@
+use Rattle.std.proofs.Common.{◌≡◌, ℕ, Ok, Option, is_none, List, [], ◌∷◌, ◌++◌, append_assoc, refl, sym, ap, ap₂, ◌∙◌}
+use Rattle.cell_types.specs.declared.machine.Machine.{Machine}
+use Rattle.cell_types.specs.declared.zone.Zone.{Zone}
+use Rattle.cell_types.specs.declared.pose.Pose.{Pose}
+use Rattle.cell_types.specs.declared.posture.Posture.{Posture}
+use Rattle.cell_types.specs.declared.call.Call.TheVariants.{SetPose}
+use Rattle.cell_types.specs.declared.answer.Refusal.TheVariants.{NoPose}
+use Rattle.cell_word.specs.Changes as changes
+use Rattle.cell_word.specs.Patterns.{when, anything, both}
+use Rattle.cell_word.specs.Guards as guards
+use Rattle.cell_word.specs.Guards.{guard, first_refusal, unless, checked}
+use Rattle.cell_word.specs.declared.patterns.Pattern.{Pattern}
+use Rattle.cell_word.specs.declared.patterns.Guard.{Guard}
+use Rattle.cell_word.proofs.Trying.{refused, go, stop, part_by_part, by_parts}
+use Rattle.cell_word.proofs.pose_guards.set_pose_of.Goals as goal
+use Rattle.cell_word.proofs.pose_guards.set_pose_of.Goals.{After-posed_at-other}
+
+abbrev parts : Machine → Pose → Option (Zone × Posture) → Option (Zone × Posture) → List (List Guard)
+parts m p one other =
+    (guard (when (is_none one) anything) NoPose ∷ [])
+    ∷ (guards.on_posed guards.owner_guards one ++ (guards.on_posed guards.owner_guards other ++ (guards.on_posed guards.plate_guards one ++ guards.on_posed guards.plate_guards other)))
+    ∷ (guards.on_posed (guards.jump_guards m p) one ++ (guards.on_posed (guards.jump_guards m p) other ++ (guards.on_posed guards.opening_guards one ++ (guards.on_posed guards.opening_guards other ++ guards.run_guards m p))))
+    ∷ (guards.worn ∷ [])
+    ∷ []
+
+regrouped : (a b c d e f g h i j : List Guard) → a ++ b ++ c ++ d ++ e ++ f ++ g ++ h ++ i ++ j ≡ (a ++ (b ++ (c ++ d))) ++ ((e ++ (f ++ (g ++ (h ++ i)))) ++ j)
+regrouped a b c d e f g h i j = simp append_assoc refl
+
+-- the row of a pose, part by part, by the zones that it gives a posture
+row_is : (w : ℕ) (m : Machine) (p : Pose) (one other : Option (Zone × Posture)) (written : Pattern) → one ≡ guards.posed_at m p (guards.hosted_zones m).0 → other ≡ guards.posed_at m p (guards.hosted_zones m).1
+    → unless (first_refusal w (guards.pose_guards m p)) written ≡ part_by_part w (parts m p one other) written
+row_is w m p one other written first second =
+    ap₂ (λ a b. unless (first_refusal w (guards.pose_guards_at m p a b)) written) (sym first) (sym second)
+    ∙ ap (λ (row : List Guard). unless (first_refusal w (guard (when (is_none one) anything) NoPose ∷ row)) written)
+    (regrouped (guards.on_posed guards.owner_guards one) (guards.on_posed guards.owner_guards other) (guards.on_posed guards.plate_guards one) (guards.on_posed guards.plate_guards other)
+    (guards.on_posed (guards.jump_guards m p) one) (guards.on_posed (guards.jump_guards m p) other) (guards.on_posed guards.opening_guards one) (guards.on_posed guards.opening_guards other)
+    (guards.run_guards m p) (guards.worn ∷ []))
+    ∙ by_parts w (parts m p one other) written
+
+-- the row if the zones are known
+row_at : (c : After-posed_at-other) → unless (first_refusal c.args.word (guards.pose_guards c.args.machine c.args.pose)) (changes.written c.args.machine (SetPose c.args.pose))
+    ≡ part_by_part c.args.word (parts c.args.machine c.args.pose c.posed_at-one.result c.posed_at-other.result) (changes.written c.args.machine (SetPose c.args.pose))
+row_at c =
+    let first = c.posed_at-one.ensures ∙ ap (λ h. guards.posed_at c.args.machine c.args.pose h.0) c.hosted_zones-one.ensures in
+    let second = c.posed_at-other.ensures ∙ ap (λ h. guards.posed_at c.args.machine c.args.pose h.1) c.hosted_zones-one.ensures in
+    row_is c.args.word c.args.machine c.args.pose c.posed_at-one.result c.posed_at-other.result (changes.written c.args.machine (SetPose c.args.pose)) first second
+
+pub returns-in_err-require_pose : goal.returns-in_err-require_pose
+returns-in_err-require_pose c =
+    refused _ c.in_err-require_pose.field-0.0 c.from_residual.ensures.1 ∙ sym (row_at (goal.at.returns-in_err-require_pose c).After-posed_at-other ∙ stop (sym (c.require_pose.ensures c.args.word) ∙ c.in_err-require_pose.was) _)
+
+pub returns-in_err-require_owned_clear_zones : goal.returns-in_err-require_owned_clear_zones
+returns-in_err-require_owned_clear_zones c =
+    refused _ c.in_err-require_owned_clear_zones.field-0.0 c.from_residual-in_err-require_owned_clear_zones.ensures.1
+    ∙ sym
+    (row_at (goal.at.returns-in_err-require_owned_clear_zones c).After-posed_at-other
+    ∙ go (sym (c.require_pose.ensures c.args.word) ∙ c.in_ok-require_pose.was)
+    ∙ stop (sym c.require_owned_clear_zones.ensures ∙ c.in_err-require_owned_clear_zones.was) _)
+
+pub returns-in_err-require_allowed_pose : goal.returns-in_err-require_allowed_pose
+returns-in_err-require_allowed_pose c =
+    refused _ c.in_err-require_allowed_pose.field-0.0 c.from_residual-in_err-require_allowed_pose.ensures.1
+    ∙ sym
+    (row_at (goal.at.returns-in_err-require_allowed_pose c).After-posed_at-other
+    ∙ go (sym (c.require_pose.ensures c.args.word) ∙ c.in_ok-require_pose.was)
+    ∙ go (sym c.require_owned_clear_zones.ensures ∙ c.in_ok-require_owned_clear_zones.was)
+    ∙ stop (sym c.require_allowed_pose.ensures ∙ c.in_err-require_allowed_pose.was) _)
+
+pub returns-in_err-pass : goal.returns-in_err-pass
+returns-in_err-pass c =
+    refused _ c.in_err-pass.field-0.0 c.from_residual-in_err-pass.ensures.1
+    ∙ sym
+    (row_at (goal.at.returns-in_err-pass c).After-posed_at-other
+    ∙ go (sym (c.require_pose.ensures c.args.word) ∙ c.in_ok-require_pose.was)
+    ∙ go (sym c.require_owned_clear_zones.ensures ∙ c.in_ok-require_owned_clear_zones.was)
+    ∙ go (sym c.require_allowed_pose.ensures ∙ c.in_ok-require_allowed_pose.was)
+    ∙ stop (sym (c.pass.ensures ∙ ap (λ (g : Guard). checked c.args.word (g ∷ [])) c.worn_guard.ensures) ∙ c.in_err-pass.was) _)
+
+pub returns : goal.returns
+returns c =
+    let first = c.posed_at-one.ensures ∙ ap (λ h. guards.posed_at c.args.machine c.args.pose h.0) c.hosted_zones-one.ensures in
+    let second = c.posed_at-other.ensures ∙ ap (λ h. guards.posed_at c.args.machine c.args.pose h.1) c.hosted_zones-one.ensures in
+    let written = c.and.ensures ∙ ap₂ both (c.posture_pattern.ensures ∙ ap changes.posture_pattern first) (c.posture_pattern-2.ensures ∙ ap changes.posture_pattern second) in
+    ap Ok written
+    ∙ sym
+    (row_at (goal.at.returns c).After-posed_at-other
+    ∙ go (sym (c.require_pose.ensures c.args.word) ∙ c.in_ok-require_pose.was)
+    ∙ go (sym c.require_owned_clear_zones.ensures ∙ c.in_ok-require_owned_clear_zones.was)
+    ∙ go (sym c.require_allowed_pose.ensures ∙ c.in_ok-require_allowed_pose.was)
+    ∙ go (sym (c.pass.ensures ∙ ap (λ (g : Guard). checked c.args.word (g ∷ [])) c.worn_guard.ensures) ∙ c.in_ok-pass.was))

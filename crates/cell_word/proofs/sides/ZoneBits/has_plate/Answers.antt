@@ -1,7 +1,0 @@
-use Rattle.std.proofs.Common.{◌∙◌, nat_eq, bit_and, ap}
-use Rattle.cell_word.specs.Layout as layout
-use Rattle.cell_word.proofs.Windows.{moved_down}
-use Rattle.cell_word.proofs.sides.ZoneBits.has_plate.Goals as goal
-
-pub returns : goal.returns
-returns c = ap (λ n. nat_eq (bit_and n 4) 4) c.lowest.ensures ∙ moved_down c.args.self.word (layout.zone_bit c.args.self.zone) 2 1 1

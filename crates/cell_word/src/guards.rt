@@ -1,0 +1,252 @@
+//! The guards of the calls about a zone, in the order of the refusals, and what the calls write.
+ghost use Rattle.std.specs.Prelude.{◌≡◌, ℕ, ◌∷◌, [], map, Some, IfOk};
+ghost use Rattle.cell_types.specs.declared.answer.Refusal.TheVariants.{AlreadyMine, Held, Shut};
+ghost use Rattle.cell_types.specs.declared.posture.Posture.TheVariants.{Closed, Moving};
+ghost use Rattle.cell_types.specs.Everything.{all_postures};
+ghost use Rattle.cell_types.specs.declared.call.Call.TheVariants as calls;
+ghost use Rattle.cell_word.specs.Guards as guards;
+ghost use Rattle.cell_word.specs.Changes as changes;
+ghost use Rattle.cell_word.specs.Patterns.{when, owner_is, posture_is};
+ghost use Rattle.cell_word.specs.Parties as parties;
+
+use crate::changes::{give_pattern, take_pattern};
+use crate::parties::{Party, ZoneBits, party_of, row_given};
+use crate::patterns::{Guard, Pattern};
+use crate::pose_guards::{advance, set_pose};
+use cell_rules::LAST_STAMP;
+use cell_types::{Call, Machine, Place, Posture, Refusal, Transfer, Zone};
+
+#[inline(always)]
+pub(crate) fn worn_guard() -> Guard
+    ensures { result ≡ guards.worn }
+{
+    Pattern::stamp(LAST_STAMP).refuses(Refusal::Worn)
+}
+
+#[inline(always)]
+pub(crate) fn no_room_guard(place: Place) -> Guard
+    ensures { result ≡ guards.no_room_at place }
+{
+    Pattern::place(place, true).refuses(Refusal::PlaceFull)
+}
+
+/// The caller has to be a party of the zone. Returns which one it is.
+#[inline(always)]
+fn require_party(machine: Machine, zone: Zone) -> Result<Party, Refusal>
+    ensures stranger { (word : ℕ) → guards.checked word (guards.stranger machine zone ∷ []) ≡ guards.went_on result }
+    ensures party { IfOk result (λ party. machine ≡ parties.machine_of zone party) }
+{
+    party_of(machine, zone).ok_or(Refusal::NotParty)
+}
+
+/// The caller has to hold the zone.
+#[inline(always)]
+pub(crate) fn require_held(at: ZoneBits, party: Party) -> Result<(), Refusal>
+    ensures { result ≡ guards.checked at.word (guards.unowned at.zone ∷ guards.anothers at.zone (parties.machine_of at.zone (parties.opposite party)) ∷ []) }
+{
+    let other = party.opposite();
+    if at.is_free() {
+        return Err(Refusal::NotOwner(None));
+    }
+    if at.is_owned_by(other) {
+        return Err(Refusal::NotOwner(Some(other.machine(at.zone))));
+    }
+    Ok(())
+}
+
+/// No plate may be in the zone.
+#[inline(always)]
+pub(crate) fn require_clear(at: ZoneBits) -> Result<(), Refusal>
+    ensures { result ≡ guards.checked at.word (guards.plate_in at.zone ∷ []) }
+{
+    if at.has_plate() {
+        return Err(Refusal::PlateInZone(at.zone));
+    }
+    Ok(())
+}
+
+/// The caller has to hold the zone, and no plate may be in it.
+#[inline(always)]
+fn require_held_and_clear(at: ZoneBits, party: Party) -> Result<(), Refusal>
+    ensures { result ≡ guards.checked at.word (guards.unowned at.zone ∷ guards.anothers at.zone (parties.machine_of at.zone (parties.opposite party)) ∷ guards.plate_in at.zone ∷ []) }
+{
+    require_held(at, party)?;
+    require_clear(at)
+}
+
+/// The zone must not have this posture.
+#[inline(always)]
+fn require_not_in(at: ZoneBits, posture: Posture) -> Result<(), Refusal>
+    ensures { result ≡ guards.checked at.word (guards.shut at.zone posture ∷ []) }
+{
+    if at.is(posture) {
+        return Err(Refusal::Shut(posture));
+    }
+    Ok(())
+}
+
+/// Feed may not leave z1 while it runs with a plate at its end.
+#[inline(always)]
+fn require_not_in_use(at: ZoneBits, machine: Machine) -> Result<(), Refusal>
+    ensures { result ≡ guards.checked at.word (guards.in_use machine at.zone ∷ []) }
+{
+    if machine == Machine::Feed && at.zone == Zone::Z1 {
+        return Pattern::posture(Zone::Z6, Posture::Moving)
+            .and(Pattern::place(Place::FeedEnd, true))
+            .refuses(Refusal::InUse)
+            .pass(at.word);
+    }
+    Ok(())
+}
+
+/// A zone may be left if it doesn't move, isn't in use, and a stamp is left.
+#[inline(always)]
+fn require_leavable(at: ZoneBits, machine: Machine) -> Result<(), Refusal>
+    ensures { result ≡ guards.checked at.word (guards.shut at.zone Moving ∷ guards.in_use machine at.zone ∷ guards.worn ∷ []) }
+{
+    require_not_in(at, Posture::Moving)?;
+    require_not_in_use(at, machine)?;
+    worn_guard().pass(at.word)
+}
+
+/// A plate may be moved if its place is full, its new place empty, and a stamp is left.
+#[inline(always)]
+pub(crate) fn require_movable(word: u64, from: Place, to: Place) -> Result<(), Refusal>
+    ensures { result ≡ guards.checked word (guards.no_plate_at from ∷ guards.no_room_at to ∷ guards.worn ∷ []) }
+{
+    Pattern::place(from, false)
+        .refuses(Refusal::NoPlate)
+        .pass(word)?;
+    no_room_guard(to).pass(word)?;
+    worn_guard().pass(word)
+}
+
+/// The zone has to be free.
+#[inline(always)]
+fn require_free(at: ZoneBits, party: Party) -> Result<(), Refusal>
+    ensures { result ≡ guards.unless (guards.first_refusal at.word (guards.guard (owner_is at.zone (Some (parties.machine_of at.zone party))) AlreadyMine
+        ∷ guards.guard (owner_is at.zone (Some (parties.machine_of at.zone (parties.opposite party)))) (Held (parties.machine_of at.zone (parties.opposite party)))
+        ∷ [])) tt }
+{
+    let other = party.opposite();
+    if at.is_owned_by(party) {
+        return Err(Refusal::AlreadyMine);
+    }
+    if at.is_owned_by(other) {
+        return Err(Refusal::Held(other.machine(at.zone)));
+    }
+    Ok(())
+}
+
+/// The zone has to be open to a guest.
+#[inline(always)]
+fn require_open_to(at: ZoneBits, party: Party) -> Result<(), Refusal>
+    ensures { result ≡ guards.checked at.word (guards.guard (when (parties.is_guest party) (posture_is at.zone Closed)) (Shut Closed)
+        ∷ guards.guard (when (parties.is_guest party) (posture_is at.zone Moving)) (Shut Moving) ∷ []) }
+{
+    if party == Party::Guest {
+        require_not_in(at, Posture::Closed)?;
+        require_not_in(at, Posture::Moving)?;
+    }
+    Ok(())
+}
+
+#[inline(always)]
+fn claim(word: u64, machine: Machine, zone: Zone) -> Result<Pattern, Refusal>
+    ensures { result ≡ guards.unless (guards.first_refusal word (guards.claim_guards machine zone))
+        (changes.written machine (calls.Claim zone)) }
+{
+    let party = require_party(machine, zone)?;
+    let at = ZoneBits { word, zone };
+    require_free(at, party)?;
+    require_open_to(at, party)?;
+    worn_guard().pass(word)?;
+    Ok(Pattern::owned_by(zone, party))
+}
+
+/// The zone has to be in the posture in which this party gives. Returns the row of transfers.
+#[inline(always)]
+fn require_giving(at: ZoneBits, party: Party) -> Result<Transfer, Refusal>
+    ensures way { guards.checked at.word (map (guards.wrong_way (parties.machine_of at.zone party) at.zone) all_postures) ≡ guards.went_on result }
+    ensures row { IfOk result (λ row. guards.row_given (parties.machine_of at.zone party) at.zone ≡ Some row) }
+{
+    match row_given(at.zone, party) {
+        Some(row) => {
+            if at.is(party.giving_posture()) {
+                Ok(row)
+            } else {
+                Err(Refusal::WrongWay)
+            }
+        }
+        None => Err(Refusal::WrongWay),
+    }
+}
+
+#[inline(always)]
+fn give(word: u64, machine: Machine, zone: Zone) -> Result<Pattern, Refusal>
+    ensures { result ≡ guards.unless (guards.first_refusal word (guards.give_guards machine zone))
+        (changes.written machine (calls.Give zone)) }
+{
+    let party = require_party(machine, zone)?;
+    let at = ZoneBits { word, zone };
+    require_held_and_clear(at, party)?;
+    let row = require_giving(at, party)?;
+    require_movable(word, row.from, row.to)?;
+    Ok(give_pattern(zone, party, row))
+}
+
+#[inline(always)]
+fn hand_over(word: u64, machine: Machine, zone: Zone) -> Result<Pattern, Refusal>
+    ensures { result ≡ guards.unless (guards.first_refusal word (guards.yield_guards machine zone))
+        (changes.written machine (calls.Yield zone)) }
+{
+    let party = require_party(machine, zone)?;
+    let at = ZoneBits { word, zone };
+    require_held_and_clear(at, party)?;
+    require_not_in(at, Posture::Closed)?;
+    require_leavable(at, machine)?;
+    Ok(Pattern::owned_by(zone, party.opposite()))
+}
+
+#[inline(always)]
+fn take(word: u64, machine: Machine, zone: Zone) -> Result<Pattern, Refusal>
+    ensures { result ≡ guards.unless (guards.first_refusal word (guards.take_guards machine zone))
+        (changes.written machine (calls.Take zone)) }
+{
+    let party = require_party(machine, zone)?;
+    require_held(ZoneBits { word, zone }, party)?;
+    Pattern::flag(zone, false)
+        .refuses(Refusal::NoPlate)
+        .pass(word)?;
+    worn_guard().pass(word)?;
+    Ok(take_pattern(zone, party))
+}
+
+#[inline(always)]
+fn release(word: u64, machine: Machine, zone: Zone) -> Result<Pattern, Refusal>
+    ensures { result ≡ guards.unless (guards.first_refusal word (guards.release_guards machine zone))
+        (changes.written machine (calls.Release zone)) }
+{
+    let party = require_party(machine, zone)?;
+    let at = ZoneBits { word, zone };
+    require_held_and_clear(at, party)?;
+    require_leavable(at, machine)?;
+    Ok(Pattern::owner(zone, None))
+}
+
+/// What a call writes into a word, or the refusal of the first of its guards that refuses the word.
+#[inline(always)]
+pub(crate) fn check(word: u64, machine: Machine, call: Call) -> Result<Pattern, Refusal>
+    ensures { result ≡ guards.unless (guards.first_refusal word (guards.guards_of machine call)) (changes.written machine call) }
+{
+    match call {
+        Call::Claim(zone) => claim(word, machine, zone),
+        Call::Give(zone) => give(word, machine, zone),
+        Call::Yield(zone) => hand_over(word, machine, zone),
+        Call::Take(zone) => take(word, machine, zone),
+        Call::Release(zone) => release(word, machine, zone),
+        Call::SetPose(pose) => set_pose(word, machine, pose),
+        Call::Advance => advance(word, machine),
+        Call::Inquire(_) => Ok(Pattern::ANYTHING),
+    }
+}
