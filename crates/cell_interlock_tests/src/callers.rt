@@ -1,0 +1,144 @@
+//! Callers who make their calls by single steps, so a table can say how the calls overlap.
+ghost use Rattle.std.specs.Prelude.{◌≡◌};
+ghost use Rattle.cell_interlock.specs.Fresh.{AreFresh};
+ghost use Rattle.cell_interlock_tests.specs.Held.{IsHeldAt, AreHeldAt};
+
+use cell_interlock::{Interlock, Look, Pass, Passes, Tried, Try};
+use cell_types::{Answer, Call, Machine, Reply};
+use std::mem;
+
+/// A step of a caller.
+#[derive(Clone, Copy, PartialEq, Eq, Debug)]
+pub enum Step {
+    /// A whole call.
+    Ask(Call),
+    Look(Call),
+    Attempt,
+    Abandon,
+}
+
+/// The outcome of a step.
+#[derive(Clone, Copy, PartialEq, Eq, Debug)]
+pub enum Outcome {
+    Settled(Answer, u32),
+    Busy(u8, u32),
+    Pending,
+    Lost,
+    Abandoned,
+    /// Its caller can't take this step now.
+    OutOfTurn,
+}
+
+/// What a caller holds between its steps.
+#[derive(Drop)]
+pub enum Held {
+    Idle(Pass),
+    Trying(Try),
+    Nothing,
+}
+
+impl Outcome {
+    fn of(reply: Reply) -> Outcome {
+        match reply {
+            Reply::Settled(answer, stamp) => Outcome::Settled(answer, stamp),
+            Reply::Busy { lost, stamp } => Outcome::Busy(lost, stamp),
+        }
+    }
+}
+
+fn looked(interlock: &Interlock, pass: Pass, call: Call) -> (Held, Outcome)
+    requires { pass.table ≡ interlock.now.table }
+    ensures { IsHeldAt interlock.now result.0 }
+{
+    match interlock.look(pass, call) {
+        Look::Settled(answer, stamp, pass) => (Held::Idle(pass), Outcome::Settled(answer, stamp)),
+        Look::Pending(pending) => (Held::Trying(pending), Outcome::Pending),
+    }
+}
+
+fn attempted(interlock: &Interlock, pending: Try) -> (Held, Outcome)
+    requires { pending.pass.table ≡ interlock.now.table }
+    ensures { IsHeldAt interlock.now result.0 }
+{
+    match interlock.attempt(pending) {
+        Tried::Settled(answer, stamp, pass) => (Held::Idle(pass), Outcome::Settled(answer, stamp)),
+        Tried::Lost(pending) => (Held::Trying(pending), Outcome::Lost),
+        Tried::Busy { lost, stamp, pass } => (Held::Idle(pass), Outcome::Busy(lost, stamp)),
+    }
+}
+
+/// Takes a step with what a caller holds, and returns what it holds afterwards.
+fn stepped(interlock: &Interlock, held: Held, step: Step) -> (Held, Outcome)
+    requires { IsHeldAt interlock.now held }
+    ensures { IsHeldAt interlock.now result.0 }
+{
+    match (held, step) {
+        (Held::Idle(mut pass), Step::Ask(call)) => {
+            let reply = interlock.ask(&mut pass, call);
+            (Held::Idle(pass), Outcome::of(reply))
+        }
+        (Held::Idle(pass), Step::Look(call)) => looked(interlock, pass, call),
+        (Held::Trying(pending), Step::Attempt) => attempted(interlock, pending),
+        (Held::Trying(pending), Step::Abandon) => {
+            (Held::Idle(pending.abandon()), Outcome::Abandoned)
+        }
+        (held, _) => (held, Outcome::OutOfTurn),
+    }
+}
+
+/// A caller takes a step with what it holds.
+fn take_step(interlock: &Interlock, held: &mut Held, step: Step) -> Outcome
+    requires { IsHeldAt interlock.now held.old }
+    ensures { IsHeldAt interlock.now held.new }
+{
+    let (after, outcome) = stepped(interlock, mem::replace(held, Held::Nothing), step);
+    *held = after;
+    outcome
+}
+
+/// What the callers hold, each in the field of its machine.
+#[derive(Drop)]
+pub struct Callers {
+    feed: Held,
+    table: Held,
+    robot: Held,
+    press: Held,
+    deposit: Held,
+    crane: Held,
+    watch: Held,
+}
+
+impl Callers {
+    /// Callers with their passes, which have made no call yet.
+    pub fn new(interlock: &Interlock, passes: Passes) -> Callers
+        requires { AreFresh interlock.now passes }
+        ensures { AreHeldAt interlock.now result }
+    {
+        let _ = interlock;
+        Callers {
+            feed: Held::Idle(passes.feed),
+            table: Held::Idle(passes.table),
+            robot: Held::Idle(passes.robot),
+            press: Held::Idle(passes.press),
+            deposit: Held::Idle(passes.deposit),
+            crane: Held::Idle(passes.crane),
+            watch: Held::Idle(passes.watch),
+        }
+    }
+
+    /// A machine's caller takes a step.
+    pub fn step(&mut self, interlock: &Interlock, machine: Machine, next: Step) -> Outcome
+        requires { AreHeldAt interlock.now self.old }
+        ensures { AreHeldAt interlock.now self.new }
+    {
+        match machine {
+            Machine::Feed => take_step(interlock, &mut self.feed, next),
+            Machine::Table => take_step(interlock, &mut self.table, next),
+            Machine::Robot => take_step(interlock, &mut self.robot, next),
+            Machine::Press => take_step(interlock, &mut self.press, next),
+            Machine::Deposit => take_step(interlock, &mut self.deposit, next),
+            Machine::Crane => take_step(interlock, &mut self.crane, next),
+            Machine::Watch => take_step(interlock, &mut self.watch, next),
+        }
+    }
+}

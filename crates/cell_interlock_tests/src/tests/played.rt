@@ -1,0 +1,107 @@
+//! Plays steps on a new interlock. Each outcome has to be the wanted one. It also has to be one
+//! that the calls before it give cause for, by what the test itself has noted of them.
+ghost use Rattle.cell_interlock_tests.specs.Held.{AreHeldAt};
+
+use crate::callers::{Callers, Outcome, Step};
+use cell_interlock::Interlock;
+use cell_rules::State;
+use cell_types::{Answer, Machine};
+use std::alloc::Global;
+
+/// A step that a machine has taken, and its outcome.
+pub type Taken = (Machine, Step, Outcome);
+
+fn is_change(outcome: Outcome) -> bool {
+    matches!(outcome, Outcome::Settled(Answer::Done, _))
+}
+
+/// How many calls of others were Done after a machine's last load, and after it last found the
+/// word.
+fn changes_by_others(before: &[Taken], machine: Machine) -> (u32, u32) {
+    let mut since_load = 0u32;
+    let mut since_found = 0u32;
+    for (by, step, outcome) in before {
+        if *by == machine {
+            since_found = 0;
+            if *step != Step::Attempt {
+                since_load = 0;
+            }
+        } else if is_change(*outcome) {
+            since_load = since_load.wrapping_add(1);
+            since_found = since_found.wrapping_add(1);
+        }
+    }
+    (since_load, since_found)
+}
+
+/// Whether the steps before give cause for an outcome. An exchange is lost exactly if others have
+/// changed the word since it was found; a Busy call was overtaken by as many changes as it may lose
+/// exchanges, all after its load. A call in one step can't be overtaken here.
+fn has_cause(before: &[Taken], tries: u8, taken: Taken) -> bool {
+    let (machine, step, outcome) = taken;
+    let (since_load, since_found) = changes_by_others(before, machine);
+    match (step, outcome) {
+        (Step::Attempt, Outcome::Settled(Answer::Done, _)) => since_found == 0,
+        (Step::Attempt, Outcome::Settled(_, _) | Outcome::Lost) => since_found > 0,
+        (Step::Attempt, Outcome::Busy(lost, _)) => {
+            since_found > 0 && lost == tries && since_load >= u32::from(tries)
+        }
+        (_, Outcome::Busy(_, _) | Outcome::Lost) => false,
+        _ => true,
+    }
+}
+
+/// Whether a step tells the stamp that the first stamp and the Done calls until then make.
+fn is_stamped(before: &[Taken], first: u32, outcome: Outcome) -> bool {
+    let mut now = first;
+    for (_, _, earlier) in before {
+        if is_change(*earlier) {
+            now = now.wrapping_add(1);
+        }
+    }
+    match outcome {
+        Outcome::Settled(Answer::Done, stamp) => stamp == now.wrapping_add(1),
+        Outcome::Settled(_, stamp) | Outcome::Busy(_, stamp) => stamp == now,
+        _ => true,
+    }
+}
+
+fn are_outcomes(
+    interlock: &Interlock,
+    callers: Callers,
+    limits: (u32, u8),
+    steps: &[Taken],
+    mut before: Vec<Taken>,
+) -> bool
+    requires { AreHeldAt interlock.now callers }
+{
+    let (first, tries) = limits;
+    let mut callers = callers;
+    for (machine, step, wanted) in steps {
+        let outcome = callers.step(interlock, *machine, *step);
+        let taken = (*machine, *step, outcome);
+        if outcome != *wanted
+            || !has_cause(&before, tries, taken)
+            || !is_stamped(&before, first, outcome)
+            || before.push(taken).is_err()
+        {
+            return false;
+        }
+    }
+    true
+}
+
+/// Whether these steps, taken in this order on a new interlock with this first stamp and no plates,
+/// have these outcomes.
+pub fn is_played(alloc: Global, first: u32, tries: u8, steps: &[Taken]) -> bool {
+    let Ok(opening) = State::start([false; 10], first) else {
+        return false;
+    };
+    match Interlock::new(alloc, opening, tries) {
+        Ok((interlock, passes)) => {
+            let callers = Callers::new(&interlock, passes);
+            are_outcomes(&interlock, callers, (first, tries), steps, Vec::new(alloc))
+        }
+        Err(_) => false,
+    }
+}
