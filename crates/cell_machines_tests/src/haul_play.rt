@@ -1,8 +1,8 @@
 //! Runs of a machine and its part on a bench, with calls of other machines.
-ghost use Rattle.std.specs.Prelude.{◌≡◌, false, None};
-ghost use Rattle.cell_types.specs.Same.{same_machine};
+ghost use Rattle.std.specs.Prelude.{◌≡◌, None};
 ghost use Rattle.cell_control.specs.Steps.{IsReached};
 
+use crate::common::guest_asks;
 use cell_control::{Controller, CtlFault, Part, Program};
 use cell_rules::{Bench, Line};
 use cell_types::{Answer, Call, Machine, Reply};
@@ -41,17 +41,6 @@ fn goes_on<P: Program, B: Part<Sense = P::Sense, Act = P::Act>>(
         part.tick(&act);
     }
     Ok(())
-}
-
-// Another machine asks.
-fn guest_asks<P: Program>(controller: &Controller<P>, bench: &mut Bench, guest: Machine, call: Call)
-    requires apart { same_machine guest (P.steps controller.now.program).machine ≡ false }
-    requires reached { controller.now.stopped ≡ None → IsReached (P.steps controller.now.program) bench.old.opening bench.old.history.items controller.now.progress }
-    ensures reached { controller.now.stopped ≡ None → IsReached (P.steps controller.now.program) bench.new.opening bench.new.history.items controller.now.progress }
-{
-    let _ = controller;
-    bench.seat(guest, false);
-    let _ = bench.ask(call);
 }
 
 /// The machine's turns and the others' calls, in this order.

@@ -1,6 +1,7 @@
 //! The rows of the tests. Each result was worked out by hand from the robot's program and the speed
 //! of its axes, never by the controller.
 
+use crate::common::EMPTY;
 use cell_calib::{RobotSense, SensorFault};
 use cell_control::CtlFault;
 use cell_types::{Answer, Call, Machine, Pose, Posture, Refusal, Zone};
@@ -27,8 +28,6 @@ pub struct Row {
     pub last: Option<(Call, Answer, u32)>,
     pub stopped: Option<CtlFault>,
 }
-
-const EMPTY: [bool; 10] = [false; 10];
 
 const ON_TABLE: [bool; 10] = [
     false, false, true, false, false, false, false, false, false, false,

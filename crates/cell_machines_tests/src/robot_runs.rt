@@ -1,10 +1,10 @@
 //! Runs of the robot's controller over a bench.
-ghost use Rattle.std.specs.Prelude.{◌≡◌, None, false};
+ghost use Rattle.std.specs.Prelude.{◌≡◌, None};
 ghost use Rattle.cell_types.specs.declared.machine.Machine.TheVariants.{Robot};
-ghost use Rattle.cell_types.specs.Same.{same_machine};
 ghost use Rattle.cell_control.specs.Steps.{IsReached};
 ghost use Rattle.cell_robot.specs.RobotProgram.{robot_start};
 
+use crate::common::{guest_asks, moved};
 use crate::robot::{Axes, BROKEN, GOES_ON, GOOD, Row, STOPS, TURNS_RETRACTED, WAITS};
 use cell_calib::{Calibration, Gauge, Points, RobotSense, SensorFault, line_at};
 use cell_control::{Controller, CtlFault, Program};
@@ -14,17 +14,6 @@ use cell_rules::{Answered, Bench, Line, State};
 use cell_types::{Answer, Call, Machine, Reply};
 use std::alloc::Global;
 use std::test::Fail;
-
-// A call of a machine other than the controller's.
-fn guest_asks<P: Program>(controller: &Controller<P>, bench: &mut Bench, guest: Machine, call: Call)
-    requires apart { same_machine guest (P.steps controller.now.program).machine ≡ false }
-    requires reached { controller.now.stopped ≡ None → IsReached (P.steps controller.now.program) bench.old.opening bench.old.history.items controller.now.progress }
-    ensures reached { controller.now.stopped ≡ None → IsReached (P.steps controller.now.program) bench.new.opening bench.new.history.items controller.now.progress }
-{
-    let _ = controller;
-    bench.seat(guest, false);
-    let _ = bench.ask(call);
-}
 
 // The calls of a guest, in order, if the guest isn't the robot.
 fn guest_comes<P: Program>(robot: &Controller<P>, bench: &mut Bench, guest: Machine, calls: &[Call])
@@ -39,15 +28,6 @@ fn guest_comes<P: Program>(robot: &Controller<P>, bench: &mut Bench, guest: Mach
             Machine::Deposit => guest_asks(robot, bench, Machine::Deposit, *call),
             _ => {}
         }
-    }
-}
-
-// An axis's position after a turn: it moves by 20, and stays from 0 to its end.
-fn moved(position: u16, motor: Motor, end: u16) -> u16 {
-    match motor {
-        Motor::Off => position,
-        Motor::Plus => position.saturating_add(20).min(end),
-        Motor::Minus => position.saturating_sub(20),
     }
 }
 
