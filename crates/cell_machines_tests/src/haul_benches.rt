@@ -1,7 +1,7 @@
 //! The three machines on a bench: their rows, sensors of the crane that can't be used, and a stamp
 //! at its last value.
-use crate::haul_play::{Move, last, play, stops};
 use crate::haul::{CRANE, DEPOSIT, FEED, Positions};
+use crate::haul_play::{Move, last, play, stops};
 use cell_calib::{
     Calibration, CraneSense, DepositSense, FeedSense, Gauge, Points, SensorFault, line_at,
 };

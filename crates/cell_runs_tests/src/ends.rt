@@ -1,8 +1,8 @@
 //! Ends of runs: what each machine did, the interlock, and the axes. They were worked out by hand
 //! from the programs of the controllers and the numbers of the plant.
 
-use crate::simulated_cells::{Gauges, places_of, run};
 use crate::gauges::GAUGES;
+use crate::simulated_cells::{Gauges, places_of, run};
 use cell_plant::{Counts, RunRecord, Status, Turn};
 use cell_rules::State;
 use cell_types::{Entry, Machine, Place, Posture, Zone};

@@ -1,8 +1,8 @@
 //! Long runs: plates that go round through all six machines, and a cell that comes to a standstill.
 //! The numbers come from another program, which was written from the tables of the cell alone.
 
-use crate::simulated_cells::{Gauges, places_of, run};
 use crate::gauges::GAUGES;
+use crate::simulated_cells::{Gauges, places_of, run};
 use cell_plant::{RunRecord, Status, Turn};
 use cell_types::{Machine, Place};
 use std::alloc::Global;
