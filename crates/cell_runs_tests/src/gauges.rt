@@ -64,6 +64,13 @@ const MEASURED: Pairs = Pairs {
     ],
 };
 
+/// Pairs of which the gripper's are off the line by 9, which a tolerance of 10 allows: 349 at 340,
+/// and 851 at 860.
+pub const GRIPPER_ASTRAY: Gauges = Gauges::Curves(Pairs {
+    gripper: &[(0, 0), (1360, 349), (3440, 851), (4000, 1000)],
+    ..ENDS
+});
+
 /// By each of these a run on default scales is the same.
 pub const GAUGES: [Gauges; 6] = [
     Gauges::Lines,

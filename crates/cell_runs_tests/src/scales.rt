@@ -1,7 +1,8 @@
 //! Runs on scales with no whole number of raw values for a position. The raw value is rounded down;
 //! if it were rounded up, axes would stop elsewhere.
 
-use crate::simulated_cells::{Gauges, Scales, places_of, run_with, scale_to};
+use crate::gauges::GRIPPER_ASTRAY;
+use crate::simulated_cells::{Gauges, Scales, places_of, run_with, scale_to, scales_with};
 use cell_calib::PointsFault;
 use cell_plant::{RunRecord, Status, Turn};
 use cell_types::Machine;
@@ -94,6 +95,30 @@ fn axes_stop_by_raw_values_rounded_down(rt: HostRuntime) -> Result<(), Fail> {
             assert!(rt; record.status == [Status::Fine; 7]);
             assert!(rt; stand_so(row.axes, &record));
         }
+    }
+    Ok(())
+}
+
+// What reads the gripper, the crane's turns until it has given its plate, and the gripper's height
+// then. It stops within 40 of 300 and of 900: on the line at 340 and 860, on the curve a tick later.
+const LOWERED: [(Gauges, usize, i32); 2] = [(Gauges::Lines, 160, 860), (GRIPPER_ASTRAY, 163, 880)];
+
+#[test]
+fn a_curve_moves_stops(rt: HostRuntime) -> Result<(), Fail> {
+    for (gauges, turns_of_crane, height) in LOWERED {
+        let schedule = [(Machine::Feed, 3), (Machine::Crane, turns_of_crane)];
+        let turns = turns_of(rt.alloc(), &schedule)?;
+        let record = run_with(
+            rt.alloc(),
+            gauges,
+            scales_with(10)?,
+            places_of(b"0000000001"),
+            0,
+            turns.as_slice(),
+        )??;
+        assert!(rt; record.status == [Status::Fine; 7]);
+        assert!(rt; record.counts[5].done == 2);
+        assert!(rt; stand_so(&[(6, 2000), (7, height)], &record));
     }
     Ok(())
 }

@@ -33,15 +33,15 @@ pub struct Scales {
     ghost gripper_axis: { IsAxisScale gripper_end gripper },
 }
 
-/// The scales that a configuration has if it names none: raw values from 0 to 4000, a tolerance of
-/// 5.
-fn default_scales() -> Result<Scales, PointsFault> {
+/// Raw values from 0 to 4000 for each potentiometer. A configuration that names no scales has a
+/// tolerance of 5.
+pub fn scales_with(tol: i32) -> Result<Scales, PointsFault> {
     Ok(Scales {
-        arm1: scale_to(1000, 0, 4000, 5)?,
-        arm2: scale_to(1000, 0, 4000, 5)?,
-        rotation: scale_to(2000, 0, 4000, 5)?,
-        turn: scale_to(500, 0, 4000, 5)?,
-        gripper: scale_to(1000, 0, 4000, 5)?,
+        arm1: scale_to(1000, 0, 4000, tol)?,
+        arm2: scale_to(1000, 0, 4000, tol)?,
+        rotation: scale_to(2000, 0, 4000, tol)?,
+        turn: scale_to(500, 0, 4000, tol)?,
+        gripper: scale_to(1000, 0, 4000, tol)?,
     })
 }
 
@@ -218,7 +218,7 @@ pub fn run(
     stamp: u32,
     turns: &[Turn],
 ) -> Result<Simulated, Fail> {
-    run_with(alloc, gauges, default_scales()?, places, stamp, turns)
+    run_with(alloc, gauges, scales_with(5)?, places, stamp, turns)
 }
 
 /// The places that have a plate, by their digits.
