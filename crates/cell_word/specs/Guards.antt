@@ -19,6 +19,7 @@ use Rattle.cell_types.specs.declared.call.Call.TheVariants.{Claim, Give, Yield, 
 use Rattle.cell_types.specs.declared.answer.Refusal.{Refusal}
 use Rattle.cell_types.specs.declared.answer.Refusal.TheVariants.{NotParty, Held, AlreadyMine, Shut, NotOwner, PlateInZone, NoPlate, PlaceFull, WrongWay, Jump, NotAtWork, NoPose, Worn, InUse}
 use Rattle.cell_types.specs.Tables.{host_of, guest_of, transfer_of, posture_of}
+use Rattle.cell_types.specs.Everything.{all_postures}
 use Rattle.cell_types.specs.Same.{same_machine, same_zone, same_pose}
 use Rattle.cell_rules.specs.ModelState.{last_stamp}
 use Rattle.cell_rules.specs.Sound.{is_party}
@@ -27,6 +28,8 @@ use Rattle.cell_types.specs.Refusals.{number_of}
 use Rattle.cell_rules.specs.Reply.{other_party}
 use Rattle.cell_rules.specs.RefusalLaws.{is_no_later}
 use Rattle.cell_word.specs.Patterns.{stands, anything, nothing, when, both, owner_is, flag_is, posture_is, low_differs, high_differs, place_is, stamp_is}
+use Rattle.cell_word.specs.Parties.{machine_of, opposite, is_guest}
+use Rattle.cell_word.specs.declared.parties.Party.{Party}
 use Rattle.cell_word.specs.declared.patterns.Pattern.{Pattern}
 use Rattle.cell_word.specs.declared.patterns.Guard.{Guard}
 
@@ -72,6 +75,42 @@ in_use m z = guard (when (same_machine m Feed && same_zone z Z1) (both (posture_
 abbrev pub worn : Guard
 worn = guard (stamp_is last_stamp) Worn
 
+abbrev pub no_plate_at : Place → Guard
+no_plate_at p = guard (place_is p false) NoPlate
+
+abbrev pub no_room_at : Place → Guard
+no_room_at p = guard (place_is p true) PlaceFull
+
+-- a party has to hold the zone
+abbrev pub held_guards : Zone → Party → List Guard
+held_guards z party = unowned z ∷ anothers z (machine_of z (opposite party)) ∷ []
+
+-- and to find it clear
+abbrev pub held_and_clear_guards : Zone → Party → List Guard
+held_and_clear_guards z party = held_guards z party ++ plate_in z ∷ []
+
+-- neither party may hold the zone
+abbrev pub free_guards : Zone → Party → List Guard
+free_guards z party =
+    guard (owner_is z (Some (machine_of z party))) AlreadyMine
+    ∷ guard (owner_is z (Some (machine_of z (opposite party)))) (Held (machine_of z (opposite party)))
+    ∷ []
+
+-- the zone has to be open to a guest
+abbrev pub shut_guards : Zone → Party → List Guard
+shut_guards z party =
+    guard (when (is_guest party) (posture_is z Closed)) (Shut Closed)
+    ∷ guard (when (is_guest party) (posture_is z Moving)) (Shut Moving)
+    ∷ []
+
+-- a machine may leave the zone
+abbrev pub leaving_guards : Machine → Zone → List Guard
+leaving_guards m z = shut z Moving ∷ in_use m z ∷ worn ∷ []
+
+-- a plate may go from a place to another one
+abbrev pub way_guards : Place → Place → List Guard
+way_guards from to = no_plate_at from ∷ no_room_at to ∷ worn ∷ []
+
 -- ---- the calls about a zone
 
 abbrev pub claim_guards : Machine → Zone → List Guard
@@ -90,6 +129,10 @@ row_given m z = option_or (given_by m (transfer_of z OpenIn)) (given_by m (trans
 
 abbrev pub wrong_way : Machine → Zone → Posture → Guard
 wrong_way m z q = guard (when (is_none (given_by m (transfer_of z q))) (posture_is z q)) WrongWay
+
+-- the zone has to be in the posture in which a party gives
+abbrev pub giving_guards : Zone → Party → List Guard
+giving_guards z party = map (wrong_way (machine_of z party) z) all_postures
 
 -- the place where a row begins is empty, or the place where it ends is full
 abbrev pub starts_empty : Option Transfer → Pattern
@@ -189,6 +232,9 @@ low_refuses z q r = guard (low_differs z q) r
 abbrev pub high_refuses : Zone → Posture → Refusal → Guard
 high_refuses z q r = guard (high_differs z q) r
 
+abbrev pub posture_guards : Zone → Posture → Refusal → List Guard
+posture_guards z q r = low_refuses z q r ∷ high_refuses z q r ∷ []
+
 -- the places that must be empty if a zone becomes open inward
 abbrev pub end_of : Option Transfer → List Place
 end_of None = []
@@ -227,9 +273,12 @@ run_guards m p =
     ∷ []
 
 -- a pose of a machine gives each zone that it hosts a posture, so it gives one to the first
+abbrev pub no_pose : Option (Zone × Posture) → Guard
+no_pose one = guard (when (is_none one) anything) NoPose
+
 abbrev pub pose_guards_at : Machine → Pose → Option (Zone × Posture) → Option (Zone × Posture) → List Guard
 pose_guards_at m p one other =
-    guard (when (is_none one) anything) NoPose
+    no_pose one
     ∷ (on_posed owner_guards one
     ++ on_posed owner_guards other
     ++ on_posed plate_guards one
@@ -246,12 +295,6 @@ abbrev pub pose_guards : Machine → Pose → List Guard
 pose_guards m p = pose_guards_at m p (posed_at m p (hosted_zones m).0) (posed_at m p (hosted_zones m).1)
 
 -- ---- work
-
-abbrev pub no_plate_at : Place → Guard
-no_plate_at p = guard (place_is p false) NoPlate
-
-abbrev pub no_room_at : Place → Guard
-no_room_at p = guard (place_is p true) PlaceFull
 
 abbrev pub advance_guards : Machine → List Guard
 advance_guards Feed =

@@ -1,12 +1,8 @@
 //! The guards of the calls about a zone, in the order of the refusals, and what the calls write.
-ghost use Rattle.std.specs.Prelude.{◌≡◌, ℕ, ◌∷◌, [], map, Some, IfOk};
-ghost use Rattle.cell_types.specs.declared.answer.Refusal.TheVariants.{AlreadyMine, Held, Shut};
-ghost use Rattle.cell_types.specs.declared.posture.Posture.TheVariants.{Closed, Moving};
-ghost use Rattle.cell_types.specs.Everything.{all_postures};
+ghost use Rattle.std.specs.Prelude.{◌≡◌, ℕ, ◌∷◌, [], Some, IfOk};
 ghost use Rattle.cell_types.specs.declared.call.Call.TheVariants as calls;
 ghost use Rattle.cell_word.specs.Guards as guards;
 ghost use Rattle.cell_word.specs.Changes as changes;
-ghost use Rattle.cell_word.specs.Patterns.{when, owner_is, posture_is};
 ghost use Rattle.cell_word.specs.Parties as parties;
 
 use crate::changes::{give_pattern, take_pattern};
@@ -33,7 +29,8 @@ pub(crate) fn no_room_guard(place: Place) -> Guard
 /// The caller has to be a party of the zone. Returns which one it is.
 #[inline(always)]
 fn require_party(machine: Machine, zone: Zone) -> Result<Party, Refusal>
-    ensures stranger { (word : ℕ) → guards.checked word (guards.stranger machine zone ∷ []) ≡ guards.went_on result }
+    ensures stranger { (word : ℕ)
+        → guards.checked word (guards.stranger machine zone ∷ []) ≡ guards.went_on result }
     ensures party { IfOk result (λ party. machine ≡ parties.machine_of zone party) }
 {
     party_of(machine, zone).ok_or(Refusal::NotParty)
@@ -42,7 +39,7 @@ fn require_party(machine: Machine, zone: Zone) -> Result<Party, Refusal>
 /// The caller has to hold the zone.
 #[inline(always)]
 pub(crate) fn require_held(at: ZoneBits, party: Party) -> Result<(), Refusal>
-    ensures { result ≡ guards.checked at.word (guards.unowned at.zone ∷ guards.anothers at.zone (parties.machine_of at.zone (parties.opposite party)) ∷ []) }
+    ensures { result ≡ guards.checked at.word (guards.held_guards at.zone party) }
 {
     let other = party.opposite();
     if at.is_free() {
@@ -68,7 +65,7 @@ pub(crate) fn require_clear(at: ZoneBits) -> Result<(), Refusal>
 /// The caller has to hold the zone, and no plate may be in it.
 #[inline(always)]
 fn require_held_and_clear(at: ZoneBits, party: Party) -> Result<(), Refusal>
-    ensures { result ≡ guards.checked at.word (guards.unowned at.zone ∷ guards.anothers at.zone (parties.machine_of at.zone (parties.opposite party)) ∷ guards.plate_in at.zone ∷ []) }
+    ensures { result ≡ guards.checked at.word (guards.held_and_clear_guards at.zone party) }
 {
     require_held(at, party)?;
     require_clear(at)
@@ -102,7 +99,7 @@ fn require_not_in_use(at: ZoneBits, machine: Machine) -> Result<(), Refusal>
 /// A zone may be left if it doesn't move, isn't in use, and a stamp is left.
 #[inline(always)]
 fn require_leavable(at: ZoneBits, machine: Machine) -> Result<(), Refusal>
-    ensures { result ≡ guards.checked at.word (guards.shut at.zone Moving ∷ guards.in_use machine at.zone ∷ guards.worn ∷ []) }
+    ensures { result ≡ guards.checked at.word (guards.leaving_guards machine at.zone) }
 {
     require_not_in(at, Posture::Moving)?;
     require_not_in_use(at, machine)?;
@@ -112,7 +109,7 @@ fn require_leavable(at: ZoneBits, machine: Machine) -> Result<(), Refusal>
 /// A plate may be moved if its place is full, its new place empty, and a stamp is left.
 #[inline(always)]
 pub(crate) fn require_movable(word: u64, from: Place, to: Place) -> Result<(), Refusal>
-    ensures { result ≡ guards.checked word (guards.no_plate_at from ∷ guards.no_room_at to ∷ guards.worn ∷ []) }
+    ensures { result ≡ guards.checked word (guards.way_guards from to) }
 {
     Pattern::place(from, false)
         .refuses(Refusal::NoPlate)
@@ -124,9 +121,7 @@ pub(crate) fn require_movable(word: u64, from: Place, to: Place) -> Result<(), R
 /// The zone has to be free.
 #[inline(always)]
 fn require_free(at: ZoneBits, party: Party) -> Result<(), Refusal>
-    ensures { result ≡ guards.unless (guards.first_refusal at.word (guards.guard (owner_is at.zone (Some (parties.machine_of at.zone party))) AlreadyMine
-        ∷ guards.guard (owner_is at.zone (Some (parties.machine_of at.zone (parties.opposite party)))) (Held (parties.machine_of at.zone (parties.opposite party)))
-        ∷ [])) tt }
+    ensures { result ≡ guards.checked at.word (guards.free_guards at.zone party) }
 {
     let other = party.opposite();
     if at.is_owned_by(party) {
@@ -141,8 +136,7 @@ fn require_free(at: ZoneBits, party: Party) -> Result<(), Refusal>
 /// The zone has to be open to a guest.
 #[inline(always)]
 fn require_open_to(at: ZoneBits, party: Party) -> Result<(), Refusal>
-    ensures { result ≡ guards.checked at.word (guards.guard (when (parties.is_guest party) (posture_is at.zone Closed)) (Shut Closed)
-        ∷ guards.guard (when (parties.is_guest party) (posture_is at.zone Moving)) (Shut Moving) ∷ []) }
+    ensures { result ≡ guards.checked at.word (guards.shut_guards at.zone party) }
 {
     if party == Party::Guest {
         require_not_in(at, Posture::Closed)?;
@@ -167,8 +161,9 @@ fn claim(word: u64, machine: Machine, zone: Zone) -> Result<Pattern, Refusal>
 /// The zone has to be in the posture in which this party gives. Returns the row of transfers.
 #[inline(always)]
 fn require_giving(at: ZoneBits, party: Party) -> Result<Transfer, Refusal>
-    ensures way { guards.checked at.word (map (guards.wrong_way (parties.machine_of at.zone party) at.zone) all_postures) ≡ guards.went_on result }
-    ensures row { IfOk result (λ row. guards.row_given (parties.machine_of at.zone party) at.zone ≡ Some row) }
+    ensures way { guards.checked at.word (guards.giving_guards at.zone party) ≡ guards.went_on result }
+    ensures row { IfOk result (λ row.
+        guards.row_given (parties.machine_of at.zone party) at.zone ≡ Some row) }
 {
     match row_given(at.zone, party) {
         Some(row) => {
@@ -237,7 +232,8 @@ fn release(word: u64, machine: Machine, zone: Zone) -> Result<Pattern, Refusal>
 /// What a call writes into a word, or the refusal of the first of its guards that refuses the word.
 #[inline(always)]
 pub(crate) fn check(word: u64, machine: Machine, call: Call) -> Result<Pattern, Refusal>
-    ensures { result ≡ guards.unless (guards.first_refusal word (guards.guards_of machine call)) (changes.written machine call) }
+    ensures { result ≡ guards.unless (guards.first_refusal word (guards.guards_of machine call))
+        (changes.written machine call) }
 {
     match call {
         Call::Claim(zone) => claim(word, machine, zone),

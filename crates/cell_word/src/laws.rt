@@ -27,5 +27,6 @@ pub fn words_are_distinct()
 pub fn guards_are_refusals()
     ensures first { (state : ModelState) → IsSound state → (machine : Machine) (call : Call)
         → first_refusal (packed state) (guards_of machine call) ≡ refusal state machine call }
-    ensures order { (machine : Machine) (call : Call) → IsTrue (is_ordered (order_of call) (numbers_of (guards_of machine call))) }
+    ensures order { (machine : Machine) (call : Call)
+        → IsTrue (is_ordered (order_of call) (numbers_of (guards_of machine call))) }
 {}

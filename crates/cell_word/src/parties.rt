@@ -56,7 +56,8 @@ impl Party {
     /// The code of this party as the owner.
     #[inline(always)]
     pub fn code(self) -> u64
-        ensures code { (zone : Zone) → result ≡ layout.owner_code zone (Some (parties.machine_of zone self)) }
+        ensures code { (zone : Zone)
+            → result ≡ layout.owner_code zone (Some (parties.machine_of zone self)) }
         ensures fits { result < 4 }
     {
         match self {
@@ -65,7 +66,8 @@ impl Party {
         }
     }
 
-    /// The posture in which this party gives: plates come in from the guest, and go out from the host.
+    /// The posture in which this party gives: plates come in from the guest, and go out from the
+    /// host.
     #[inline(always)]
     pub fn giving_posture(self) -> Posture
         ensures { result ≡ parties.giving_posture self }
@@ -122,7 +124,8 @@ impl ZoneBits {
 
     #[inline(always)]
     pub fn is_owned_by(self, party: Party) -> bool
-        ensures { result ≡ stands self.word (owner_is self.zone (Some (parties.machine_of self.zone party))) }
+        ensures { result ≡ stands self.word
+            (owner_is self.zone (Some (parties.machine_of self.zone party))) }
     {
         self.lowest() & 0b11 == party.code()
     }

@@ -1,12 +1,10 @@
 //! The guards of poses, and of work, and what these calls write.
-ghost use Rattle.std.specs.Prelude.{◌≡◌, ℕ, ◌∷◌, ◌++◌, [], is_none};
-ghost use Rattle.cell_types.specs.declared.answer.Refusal.TheVariants.{NoPose};
+ghost use Rattle.std.specs.Prelude.{◌≡◌, ℕ, ◌∷◌, ◌++◌, []};
 ghost use Rattle.cell_types.specs.declared.call.Call.TheVariants as calls;
 ghost use Rattle.cell_types.specs.declared.machine.Machine.TheVariants as machines;
 ghost use Rattle.cell_types.specs.declared.posture.Posture.TheVariants.{OpenIn};
 ghost use Rattle.cell_rules.specs.Refusals as refusals;
 ghost use Rattle.cell_word.specs.Changes as changes;
-ghost use Rattle.cell_word.specs.Patterns.{when, anything};
 ghost use Rattle.cell_word.specs.Guards as guards;
 
 use crate::changes::{advance_pattern, posture_pattern};
@@ -83,7 +81,7 @@ fn require_clear_zone(word: u64, posed: Option<(Zone, Posture)>) -> Result<(), R
 /// The zone has to have this posture.
 #[inline(always)]
 pub(crate) fn require_in(at: ZoneBits, posture: Posture, refusal: Refusal) -> Result<(), Refusal>
-    ensures { result ≡ guards.checked at.word (guards.low_refuses at.zone posture refusal ∷ guards.high_refuses at.zone posture refusal ∷ []) }
+    ensures { result ≡ guards.checked at.word (guards.posture_guards at.zone posture refusal) }
 {
     if at.is(posture) { Ok(()) } else { Err(refusal) }
 }
@@ -175,7 +173,7 @@ fn require_end_clear_to_run(word: u64, machine: Machine, pose: Pose) -> Result<(
 /// The machine has the pose: it gives a posture to the first zone that the machine hosts.
 #[inline(always)]
 fn require_pose(posed: Option<(Zone, Posture)>) -> Result<(), Refusal>
-    ensures { (word : ℕ) → result ≡ guards.checked word (guards.guard (when (is_none posed) anything) NoPose ∷ []) }
+    ensures { (word : ℕ) → result ≡ guards.checked word (guards.no_pose posed ∷ []) }
 {
     match posed {
         Some(_) => Ok(()),
