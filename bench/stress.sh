@@ -44,11 +44,11 @@ with open(sys.argv[1]) as it:
     text = it.read()
 exchange = """        self.table
             .shared
-            .compare_exchange::<Exchanges<A>>(&mut pass.seat, 0, old, new)
+            .compare_exchange::<ExchangeStep<A>>(&mut pass.seat, 0, old, new)
 """
-store = """        let found = self.table.shared.load::<Looks<A>>(&mut pass.seat, 0);
+store = """        let found = self.table.shared.load::<LoadStep<A>>(&mut pass.seat, 0);
         if found == old {
-            self.table.shared.store::<Exchanges<A>>(&mut pass.seat, 0, new);
+            self.table.shared.store::<ExchangeStep<A>>(&mut pass.seat, 0, new);
         }
         found
 """

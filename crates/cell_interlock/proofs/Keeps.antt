@@ -21,91 +21,91 @@ use Rattle.cell_rules.specs.Seen.{event}
 use Rattle.cell_rules.proofs.Histories.{after-append, sound-after}
 use Rattle.cell_rules.proofs.SeenLemmas.{legal-append, same_as_itself}
 use Rattle.cell_word.specs.Layout.{packed}
-use Rattle.cell_interlock.specs.declared.pass.Part.{Part}
+use Rattle.cell_interlock.specs.declared.pass.MachineView.{MachineView}
 use Rattle.cell_interlock.specs.Steps.{IsReady}
-use Rattle.cell_interlock.specs.Rule.{new_part, head_of, first_off, others_of, all_parts, Fits, AllFit, parts_of, parts_in_all, WordTellsHistory, Moment, seen_at, seen_by, after_load, after_exchange, looked, exchanged, MomentOfAll, all_see, gathered, IsSeat}
+use Rattle.cell_interlock.specs.Rule.{new_view, head_of, first_off, others_of, all_views, Fits, AllFit, times_in, times_in_all, WordTellsHistory, WordMoment, seen_at, seen_by, after_load, after_exchange, looked, exchanged, WordMomentOfAll, all_see, gathered, IsSeat}
 use Rattle.cell_rules.proofs.Quiet.{next-same}
 use Rattle.cell_interlock.proofs.Machines.{apart_back, not_own, begins-more, own-more}
 
--- a part after a step
-abbrev now : Part → List Event → List Event → ℕ → ℕ → Part
+-- a view after a step
+abbrev now : MachineView → List Event → List Event → ℕ → ℕ → MachineView
 now p seen since loads exchanges = record p { seen = seen; since = since; loads = loads; exchanges = exchanges }
 
 -- a machine that has seen the whole history
-fits_whole : (o : ModelState) (p : Part) → p.opening ≡ o → Fits o p.seen p
+fits_whole : (o : ModelState) (p : MachineView) → p.opening ≡ o → Fits o p.seen p
 fits_whole o p e = record { opening_is = e; begins = ([], sym (append-nil p.seen)); own = refl }
 
-fit-more : (o : ModelState) (h k : List Event) (m : Machine) → ((n : Machine) → same_machine n m ≡ false → own_events k n ≡ []) → (ps : List Part) → parts_of m ps ≡ 0 → AllFit o h ps → AllFit o (h ++ k) ps
+fit-more : (o : ModelState) (h k : List Event) (m : Machine) → ((n : Machine) → same_machine n m ≡ false → own_events k n ≡ []) → (ps : List MachineView) → times_in m ps ≡ 0 → AllFit o h ps → AllFit o (h ++ k) ps
 fit-more o h k m quiet [] z t = tt
 fit-more o h k m quiet (p ∷ ps) z t = go (same_machine p.machine m) refl (fit-more o h k m quiet ps)
   where
-    go : (b : Bool) → same_machine p.machine m ≡ b → (parts_of m ps ≡ 0 → AllFit o h ps → AllFit o (h ++ k) ps) → AllFit o (h ++ k) (p ∷ ps)
+    go : (b : Bool) → same_machine p.machine m ≡ b → (times_in m ps ≡ 0 → AllFit o h ps → AllFit o (h ++ k) ps) → AllFit o (h ++ k) (p ∷ ps)
     go true e again = absurd (grind (arith, e, z))
     go false e again = (record { opening_is = t.0.opening_is; begins = begins-more h k p.seen t.0.begins; own = own-more p.machine h k p.seen (quiet p.machine e) t.0.own }, again (grind (arith, e, z)) t.1)
 
-fit-first : (o : ModelState) (h : List Event) (ps : List Part) → AllFit o h ps → AllFit o h (first_off ps)
+fit-first : (o : ModelState) (h : List Event) (ps : List MachineView) → AllFit o h ps → AllFit o h (first_off ps)
 fit-first o h [] a = tt
 fit-first o h (p ∷ ps) a = (a.0, tt)
 
-fit-others : (o : ModelState) (h : List Event) (ps : List Part) → AllFit o h ps → AllFit o h (others_of ps)
+fit-others : (o : ModelState) (h : List Event) (ps : List MachineView) → AllFit o h ps → AllFit o h (others_of ps)
 fit-others o h [] a = tt
 fit-others o h (p ∷ ps) a = a.1
 
-fit-both : (o : ModelState) (h : List Event) (ps qs : List Part) → AllFit o h ps → AllFit o h qs → AllFit o h (ps ++ qs)
+fit-both : (o : ModelState) (h : List Event) (ps qs : List MachineView) → AllFit o h ps → AllFit o h qs → AllFit o h (ps ++ qs)
 fit-both o h [] qs a b = b
 fit-both o h (p ∷ ps) qs a b = (a.0, fit-both o h ps qs a.1 b)
 
-fit-all_see : (o : ModelState) (h : List Event) (ps : List Part) → AllFit o h ps → AllFit o h (all_see h ps)
+fit-all_see : (o : ModelState) (h : List Event) (ps : List MachineView) → AllFit o h ps → AllFit o h (all_see h ps)
 fit-all_see o h [] a = tt
 fit-all_see o h (p ∷ ps) a = (fits_whole o (after_load p h) a.0.opening_is, fit-all_see o h ps a.1)
 
-parts-all_see : (m : Machine) (h : List Event) (ps : List Part) → parts_of m (all_see h ps) ≡ parts_of m ps
-parts-all_see m h [] = refl
-parts-all_see m h (p ∷ ps) = ap (λ n. (if same_machine p.machine m then 1 else 0) + n) (parts-all_see m h ps)
+times-all_see : (m : Machine) (h : List Event) (ps : List MachineView) → times_in m (all_see h ps) ≡ times_in m ps
+times-all_see m h [] = refl
+times-all_see m h (p ∷ ps) = ap (λ n. (if same_machine p.machine m then 1 else 0) + n) (times-all_see m h ps)
 
-parts-append : (m : Machine) (ps qs : List Part) → parts_of m (ps ++ qs) ≡ parts_of m ps + parts_of m qs
-parts-append m [] qs = omega arith
-parts-append m (p ∷ ps) qs = omega (arith, parts-append m ps qs)
+times-append : (m : Machine) (ps qs : List MachineView) → times_in m (ps ++ qs) ≡ times_in m ps + times_in m qs
+times-append m [] qs = omega arith
+times-append m (p ∷ ps) qs = omega (arith, times-append m ps qs)
 
-parts-cut : (m : Machine) (ps : List Part) → parts_of m (first_off ps) + parts_of m (others_of ps) ≡ parts_of m ps
-parts-cut m [] = refl
-parts-cut m (p ∷ ps) = omega arith
+times-cut : (m : Machine) (ps : List MachineView) → times_in m (first_off ps) + times_in m (others_of ps) ≡ times_in m ps
+times-cut m [] = refl
+times-cut m (p ∷ ps) = omega arith
 
-total-set : (m : Machine) (vs : List (List Part)) (i : ℕ) (v w : List Part) → get_elem? vs i ≡ some v → parts_in_all m (set vs i w) + parts_of m v ≡ parts_in_all m vs + parts_of m w
+total-set : (m : Machine) (vs : List (List MachineView)) (i : ℕ) (v w : List MachineView) → get_elem? vs i ≡ some v → times_in_all m (set vs i w) + times_in m v ≡ times_in_all m vs + times_in m w
 total-set m [] i v w e = absurd (some-ne-none v (sym e))
-total-set m (x ∷ xs) zero v w e = let f : parts_of m x ≡ parts_of m v = ap (parts_of m) (some-injective x v e) in omega arith
+total-set m (x ∷ xs) zero v w e = let f : times_in m x ≡ times_in m v = ap (times_in m) (some-injective x v e) in omega arith
 total-set m (x ∷ xs) (suc i) v w e = omega (arith, total-set m xs i v w e)
 
-total-snoc : (m : Machine) (vs : List (List Part)) (w : List Part) → parts_in_all m (vs ++ w ∷ []) ≡ parts_in_all m vs + parts_of m w
+total-snoc : (m : Machine) (vs : List (List MachineView)) (w : List MachineView) → times_in_all m (vs ++ w ∷ []) ≡ times_in_all m vs + times_in m w
 total-snoc m [] w = omega arith
 total-snoc m (x ∷ xs) w = omega (arith, total-snoc m xs w)
 
-total-one : (m : Machine) (vs : List (List Part)) (i : ℕ) (v : List Part) → get_elem? vs i ≡ some v → parts_of m v ≤ parts_in_all m vs
+total-one : (m : Machine) (vs : List (List MachineView)) (i : ℕ) (v : List MachineView) → get_elem? vs i ≡ some v → times_in m v ≤ times_in_all m vs
 total-one m [] i v e = absurd (some-ne-none v (sym e))
-total-one m (x ∷ xs) zero v e = let f : parts_of m x ≡ parts_of m v = ap (parts_of m) (some-injective x v e) in omega arith
+total-one m (x ∷ xs) zero v e = let f : times_in m x ≡ times_in m v = ap (times_in m) (some-injective x v e) in omega arith
 total-one m (x ∷ xs) (suc i) v e = omega (arith, total-one m xs i v e)
 
-total-two : (m : Machine) (vs : List (List Part)) (i j : ℕ) (v w : List Part) → j ≢ i → get_elem? vs i ≡ some v → get_elem? vs j ≡ some w → parts_of m v + parts_of m w ≤ parts_in_all m vs
+total-two : (m : Machine) (vs : List (List MachineView)) (i j : ℕ) (v w : List MachineView) → j ≢ i → get_elem? vs i ≡ some v → get_elem? vs j ≡ some w → times_in m v + times_in m w ≤ times_in_all m vs
 total-two m [] i j v w n e f = absurd (some-ne-none v (sym e))
 total-two m (x ∷ xs) zero zero v w n e f = absurd (n refl)
-total-two m (x ∷ xs) zero (suc j) v w n e f = let g : parts_of m x ≡ parts_of m v = ap (parts_of m) (some-injective x v e) in omega (arith, total-one m xs j w f)
-total-two m (x ∷ xs) (suc i) zero v w n e f = let g : parts_of m x ≡ parts_of m w = ap (parts_of m) (some-injective x w f) in omega (arith, total-one m xs i v e)
+total-two m (x ∷ xs) zero (suc j) v w n e f = let g : times_in m x ≡ times_in m v = ap (times_in m) (some-injective x v e) in omega (arith, total-one m xs j w f)
+total-two m (x ∷ xs) (suc i) zero v w n e f = let g : times_in m x ≡ times_in m w = ap (times_in m) (some-injective x w f) in omega (arith, total-one m xs i v e)
 total-two m (x ∷ xs) (suc i) (suc j) v w n e f = omega (arith, total-two m xs i j v w (λ h. n (ap suc h)) e f)
 
 abbrev Views : Type 0
-Views = List (List Part)
+Views = List (List MachineView)
 
 abbrev Shop : Type 0 → Type 0
-Shop S = State S (List Part)
+Shop S = State S (List MachineView)
 
-views-stay : (o : ModelState) (h : List Event) (vs : Views) (id : ℕ) (w : List Part) → AllFit o h w → ((j : ℕ) (u : List Part) → j ≢ id → get_elem? vs j ≡ some u → AllFit o h u)
-    → (j : ℕ) (u : List Part) → get_elem? (set vs id w) j ≡ some u → AllFit o h u
+views-stay : (o : ModelState) (h : List Event) (vs : Views) (id : ℕ) (w : List MachineView) → AllFit o h w → ((j : ℕ) (u : List MachineView) → j ≢ id → get_elem? vs j ≡ some u → AllFit o h u)
+    → (j : ℕ) (u : List MachineView) → get_elem? (set vs id w) j ≡ some u → AllFit o h u
 views-stay o h vs id w here others j u e = ⊎_elim (λ (t : (j ≡ id) × (w ≡ u)). subst (AllFit o h) t.1 here) (λ (t : (j ≢ id) × (get_elem? vs j ≡ some u)). others j u t.0 t.1) (at_set vs id j w u e)
 
 module _ {S : Type 0} (o : ModelState) where
   -- seat id has a new view of the same machines, and the word may have changed
-  moved : (s : Shop S) (r : WordTellsHistory o s) (id : ℕ) (v w : List Part) → get_elem? s.views id ≡ some v → (h : List Event) → IsLegal o h → (n : ℕ) → n ≡ packed (after o h) → AllFit o h w
-      → ((j : ℕ) (u : List Part) → j ≢ id → get_elem? s.views j ≡ some u → AllFit o h u) → ((m : Machine) → parts_of m w ≡ parts_of m v) → WordTellsHistory o (stepped s 0 n id [] w keeps)
+  moved : (s : Shop S) (r : WordTellsHistory o s) (id : ℕ) (v w : List MachineView) → get_elem? s.views id ≡ some v → (h : List Event) → IsLegal o h → (n : ℕ) → n ≡ packed (after o h) → AllFit o h w
+      → ((j : ℕ) (u : List MachineView) → j ≢ id → get_elem? s.views j ≡ some u → AllFit o h u) → ((m : Machine) → times_in m w ≡ times_in m v) → WordTellsHistory o (stepped s 0 n id [] w keeps)
   moved s r id v w at h legal n is here others count = record {
     history = h;
     has_word = subst (λ (z : ℕ). 0 < z) (sym (length-set s.words 0 n)) r.has_word;
@@ -117,24 +117,24 @@ module _ {S : Type 0} (o : ModelState) where
   }
 
   -- no event, and the word stays
-  stayed : (s : Shop S) (r : WordTellsHistory o s) (id : ℕ) (v w : List Part) → get_elem? s.views id ≡ some v → AllFit o r.history w → ((m : Machine) → parts_of m w ≡ parts_of m v)
+  stayed : (s : Shop S) (r : WordTellsHistory o s) (id : ℕ) (v w : List MachineView) → get_elem? s.views id ≡ some v → AllFit o r.history w → ((m : Machine) → times_in m w ≡ times_in m v)
       → WordTellsHistory o (stepped s 0 (get_or s.words 0 0) id [] w keeps)
   stayed s r id v w at here count = moved s r id v w at r.history r.legal (get_or s.words 0 0) r.word here (λ j u _ e. r.views j u e) count
 
   -- one event of the machine whose seat it is
-  called : (s : Shop S) (r : WordTellsHistory o s) (id : ℕ) (p : Part) → get_elem? s.views id ≡ some (p ∷ []) → (c : Call) (n : ℕ) → n ≡ packed (next (after o r.history) p.machine c) → (since : List Event) (l x : ℕ)
+  called : (s : Shop S) (r : WordTellsHistory o s) (id : ℕ) (p : MachineView) → get_elem? s.views id ≡ some (p ∷ []) → (c : Call) (n : ℕ) → n ≡ packed (next (after o r.history) p.machine c) → (since : List Event) (l x : ℕ)
       → let e : Event = event p.machine c (reply (after o r.history) p.machine c) in WordTellsHistory o (stepped s 0 n id [] (now p (r.history ++ e ∷ []) since l x ∷ []) keeps)
   called s r id p at c n is since l x =
       let h : List Event = r.history in let e : Event = event p.machine c (reply (after o h) p.machine c) in let k : List Event = e ∷ [] in
       let t = r.views id (p ∷ []) at in
       let quiet : (m : Machine) → same_machine m p.machine ≡ false → own_events k m ≡ [] = λ m f. not_own e m (apart_back p.machine m f) in
-      let mine_one : parts_of p.machine (p ∷ []) ≡ 1 = ap (λ (b : Bool). (if b then 1 else 0) + 0) (same_as_itself p.machine) in
+      let mine_one : times_in p.machine (p ∷ []) ≡ 1 = ap (λ (b : Bool). (if b then 1 else 0) + 0) (same_as_itself p.machine) in
       moved s r id (p ∷ []) (now p (h ++ k) since l x ∷ []) at (h ++ k) (legal-append o h k r.legal (refl, tt)) n (is ∙ ap packed (sym (after-append o h k)))
       (fits_whole o (now p (h ++ k) since l x) t.0.opening_is, tt)
       (λ j u apart f. fit-more o h k p.machine quiet u (omega (arith, total-two p.machine s.views id j (p ∷ []) u apart at f, r.apart p.machine)) (r.views j u f))
       (λ m. refl)
 
-  point : (s : Shop S) (r : WordTellsHistory o s) (p : Part) → Fits o r.history p → Moment p (get_or s.words 0 0) r.history
+  point : (s : Shop S) (r : WordTellsHistory o s) (p : MachineView) → Fits o r.history p → WordMoment p (get_or s.words 0 0) r.history
   point s r p t = record {
     opened = subst IsSound (sym t.opening_is) r.sound;
     sound = subst (λ (z : ModelState). IsSound (after z r.history)) (sym t.opening_is) (sound-after o r.history r.sound);
@@ -145,7 +145,7 @@ module _ {S : Type 0} (o : ModelState) where
   }
 
   -- the load finds the word; the call's event is added if the call changes nothing
-  looks_at : (s : Shop S) (r : WordTellsHistory o s) (id : ℕ) (p : Part) → get_elem? s.views id ≡ some (p ∷ []) → (c : Call) (since : List Event) (l x : ℕ)
+  looks_at : (s : Shop S) (r : WordTellsHistory o s) (id : ℕ) (p : MachineView) → get_elem? s.views id ≡ some (p ∷ []) → (c : Call) (since : List Event) (l x : ℕ)
       → WordTellsHistory o (stepped s 0 (get_or s.words 0 0) id [] (now p (seen_at c p r.history) since l x ∷ []) keeps)
   looks_at s r id p at c since l x =
       let h : List Event = r.history in let t = r.views id (p ∷ []) at in
@@ -157,20 +157,20 @@ module _ {S : Type 0} (o : ModelState) where
       go true e = let t = r.views id (p ∷ []) at in stayed s r id (p ∷ []) (now p r.history since l x ∷ []) at (fits_whole o (now p r.history since l x) t.0.opening_is, tt) (λ m. refl)
       go false e = called s r id p at c (get_or s.words 0 0) (r.word ∙ ap packed (sym (next-same (after o r.history) p.machine c e))) since l x
 
-  pub looks : (slots id : ℕ) (p : Part) (c : Call) → Allows (WordTellsHistory o) slots id (p ∷ [], []) 0 (λ n. n) (looked {S = S} c (step slots 0 0 0 none) (p ∷ [], []))
+  pub looks : (slots id : ℕ) (p : MachineView) (c : Call) → Allows (WordTellsHistory o) slots id (p ∷ [], []) 0 (λ n. n) (looked {S = S} c (step slots 0 0 0 none) (p ∷ [], []))
   looks slots id p c s r _ at _ =
       let t = r.views id (p ∷ []) at in
       (after_load p (seen_at c p r.history) ∷ [], keeps, tt, looks_at s r id p at c _ _ _, (r.history, point s r p t.0, refl))
 
-  pub looks_as : (slots id : ℕ) (me : Me S (List Part)) (c : Call) → me ≡ (head_of me.0 ∷ [], []) → Allows (WordTellsHistory o) slots id me 0 (λ n. n) (looked {S = S} c (step slots 0 0 0 none) me)
-  looks_as slots id me c e = subst (λ (z : Me S (List Part)). Allows (WordTellsHistory o) slots id z 0 (λ n. n) (looked {S = S} c (step slots 0 0 0 none) z)) (sym e) (looks slots id (head_of me.0) c)
+  pub looks_as : (slots id : ℕ) (me : Me S (List MachineView)) (c : Call) → me ≡ (head_of me.0 ∷ [], []) → Allows (WordTellsHistory o) slots id me 0 (λ n. n) (looked {S = S} c (step slots 0 0 0 none) me)
+  looks_as slots id me c e = subst (λ (z : Me S (List MachineView)). Allows (WordTellsHistory o) slots id z 0 (λ n. n) (looked {S = S} c (step slots 0 0 0 none) z)) (sym e) (looks slots id (head_of me.0) c)
 
   -- the exchange is won if the word is still the one for which the call was looked up
-  pub exchanges : (slots id : ℕ) (p : Part) (c : Call) (old new : ℕ) → ((z : ModelState) → IsSound z → packed z ≡ old → (reply z p.machine c ≡ Done) × (packed (next z p.machine c) ≡ new))
+  pub exchanges : (slots id : ℕ) (p : MachineView) (c : Call) (old new : ℕ) → ((z : ModelState) → IsSound z → packed z ≡ old → (reply z p.machine c ≡ Done) × (packed (next z p.machine c) ≡ new))
       → Allows (WordTellsHistory o) slots id (p ∷ [], []) 0 (λ n. either (eqb n old) new n) (exchanged {S = S} c (step slots 0 old new none) (p ∷ [], []))
   exchanges slots id p c old new ready s r _ at _ =
       let h : List Event = r.history in let x : ℕ = get_or s.words 0 0 in let t = r.views id (p ∷ []) at in
-      let pick : Bool → List Part = λ b. after_exchange p (if b then h ++ event p.machine c Done ∷ [] else seen_at c p h) ∷ [] in
+      let pick : Bool → List MachineView = λ b. after_exchange p (if b then h ++ event p.machine c Done ∷ [] else seen_at c p h) ∷ [] in
       dite (ℕ_discrete x old)
       (λ hit. let f = ready (after o h) (sound-after o h r.sound) (sym r.word ∙ hit) in (
         pick (eqb x old),
@@ -188,23 +188,23 @@ module _ {S : Type 0} (o : ModelState) where
         (h, point s r p t.0, refl),
       ))
 
-  pub exchanges_as : (slots id : ℕ) (me : Me S (List Part)) (c : Call) (old new : ℕ) → me ≡ (head_of me.0 ∷ [], []) → ((z : ModelState) → IsSound z → packed z ≡ old → (reply z (head_of me.0).machine c ≡ Done) × (packed (next z (head_of me.0).machine c) ≡ new))
+  pub exchanges_as : (slots id : ℕ) (me : Me S (List MachineView)) (c : Call) (old new : ℕ) → me ≡ (head_of me.0 ∷ [], []) → ((z : ModelState) → IsSound z → packed z ≡ old → (reply z (head_of me.0).machine c ≡ Done) × (packed (next z (head_of me.0).machine c) ≡ new))
       → Allows (WordTellsHistory o) slots id me 0 (λ n. either (eqb n old) new n) (exchanged {S = S} c (step slots 0 old new none) me)
-  exchanges_as slots id me c old new e ready = subst (λ (z : Me S (List Part)). Allows (WordTellsHistory o) slots id z 0 (λ n. either (eqb n old) new n) (exchanged {S = S} c (step slots 0 old new none) z)) (sym e) (exchanges slots id (head_of me.0) c old new ready)
+  exchanges_as slots id me c old new e ready = subst (λ (z : Me S (List MachineView)). Allows (WordTellsHistory o) slots id z 0 (λ n. either (eqb n old) new n) (exchanged {S = S} c (step slots 0 old new none) z)) (sym e) (exchanges slots id (head_of me.0) c old new ready)
 
-  points : (s : Shop S) (r : WordTellsHistory o s) (ps : List Part) → AllFit o r.history ps → MomentOfAll ps (get_or s.words 0 0) r.history
+  points : (s : Shop S) (r : WordTellsHistory o s) (ps : List MachineView) → AllFit o r.history ps → WordMomentOfAll ps (get_or s.words 0 0) r.history
   points s r [] t = tt
   points s r (p ∷ ps) t = (point s r p t.0, points s r ps t.1)
 
-  gathers : (slots id : ℕ) (ps : List Part) → Allows (WordTellsHistory o) slots id (ps, []) 0 (λ n. n) (gathered {S = S} (step slots 0 0 0 none) (ps, []))
+  gathers : (slots id : ℕ) (ps : List MachineView) → Allows (WordTellsHistory o) slots id (ps, []) 0 (λ n. n) (gathered {S = S} (step slots 0 0 0 none) (ps, []))
   gathers slots id ps s r _ at _ =
       let h : List Event = r.history in let t = r.views id ps at in
-      (all_see h ps, keeps, tt, stayed s r id ps (all_see h ps) at (fit-all_see o h ps t) (λ m. parts-all_see m h ps), (h, points s r ps t, refl))
+      (all_see h ps, keeps, tt, stayed s r id ps (all_see h ps) at (fit-all_see o h ps t) (λ m. times-all_see m h ps), (h, points s r ps t, refl))
 
-  pub gathers_as : (slots id : ℕ) (me : Me S (List Part)) → me.1 ≡ [] → Allows (WordTellsHistory o) slots id me 0 (λ n. n) (gathered {S = S} (step slots 0 0 0 none) me)
+  pub gathers_as : (slots id : ℕ) (me : Me S (List MachineView)) → me.1 ≡ [] → Allows (WordTellsHistory o) slots id me 0 (λ n. n) (gathered {S = S} (step slots 0 0 0 none) me)
   gathers_as slots id me e = subst (λ x. Allows (WordTellsHistory o) slots id (me.0, x) 0 (λ n. n) (gathered {S = S} (step slots 0 0 0 none) (me.0, x))) (sym e) (gathers slots id me.0)
 
-  pub joins : (id : ℕ) (v : List Part) (other : ℕ) (w : List Part) → Joins {S = S} (WordTellsHistory o) id v other w (w ++ v) []
+  pub joins : (id : ℕ) (v : List MachineView) (other : ℕ) (w : List MachineView) → Joins {S = S} (WordTellsHistory o) id v other w (w ++ v) []
   joins id v other w s r at apart there =
       let both = set s.views id (w ++ v) in
       let was : get_elem? s.views other ≡ some w = ⊎_elim (λ (t : (other ≡ id) × (w ++ v ≡ w)). absurd (apart t.0)) (λ (t : (other ≢ id) × (get_elem? s.views other ≡ some w)). t.1) (at_set s.views id other (w ++ v) w there) in
@@ -215,10 +215,10 @@ module _ {S : Type 0} (o : ModelState) where
         legal = r.legal;
         word = r.word;
         views = views-stay o r.history both other [] tt (λ j u _ e. views-stay o r.history s.views id (w ++ v) t (λ i x _ f. r.views i x f) j u e);
-        apart = λ m. omega (arith, total-set m both other w [] there, total-set m s.views id v (w ++ v) at, parts-append m w v, r.apart m);
+        apart = λ m. omega (arith, total-set m both other w [] there, total-set m s.views id v (w ++ v) at, times-append m w v, r.apart m);
       }
 
-  pub splits : (id : ℕ) (v : List Part) → Splits {S = S} (WordTellsHistory o) id v (others_of v) (first_off v)
+  pub splits : (id : ℕ) (v : List MachineView) → Splits {S = S} (WordTellsHistory o) id v (others_of v) (first_off v)
   splits id v s r at = record {
     history = r.history;
     has_word = r.has_word;
@@ -227,10 +227,10 @@ module _ {S : Type 0} (o : ModelState) where
     word = r.word;
     views = λ j u e. ⊎_elim (views-stay o r.history s.views id (others_of v) (fit-others o r.history v (r.views id v at)) (λ i x _ f. r.views i x f) j u)
         (λ (t : first_off v ≡ u). subst (AllFit o r.history) t (fit-first o r.history v (r.views id v at))) (at_snoc (set s.views id (others_of v)) (first_off v) u j e);
-    apart = λ m. omega (arith, total-snoc m (set s.views id (others_of v)) (first_off v), total-set m s.views id v (others_of v) at, parts-cut m v, r.apart m);
+    apart = λ m. omega (arith, total-snoc m (set s.views id (others_of v)) (first_off v), total-set m s.views id v (others_of v) at, times-cut m v, r.apart m);
   }
 
-  pub opens : (n : ℕ) (xs : List S) → n ≡ packed o → IsSound o → WordTellsHistory o (opening (n ∷ []) xs (all_parts o))
+  pub opens : (n : ℕ) (xs : List S) → n ≡ packed o → IsSound o → WordTellsHistory o (opening (n ∷ []) xs (all_views o))
   opens n xs is sound = record {
     history = [];
     has_word = omega arith;
@@ -241,14 +241,14 @@ module _ {S : Type 0} (o : ModelState) where
     apart = once;
   }
     where
-      new : (m : Machine) → Fits o [] (new_part o m)
+      new : (m : Machine) → Fits o [] (new_view o m)
       new m = record { opening_is = refl; begins = ([], refl); own = refl }
 
-      first : (i : ℕ) (v : List Part) → get_elem? (all_parts o ∷ []) i ≡ some v → AllFit o [] v
-      first zero v e = subst (AllFit o []) (some-injective (all_parts o) v e) (new Feed, (new Table, (new Robot, (new Press, (new Deposit, (new Crane, (new Watch, tt)))))))
+      first : (i : ℕ) (v : List MachineView) → get_elem? (all_views o ∷ []) i ≡ some v → AllFit o [] v
+      first zero v e = subst (AllFit o []) (some-injective (all_views o) v e) (new Feed, (new Table, (new Robot, (new Press, (new Deposit, (new Crane, (new Watch, tt)))))))
       first (suc i) v e = absurd (some-ne-none v (sym e))
 
-      once : (m : Machine) → parts_in_all m (all_parts o ∷ []) ≤ 1
+      once : (m : Machine) → times_in_all m (all_views o ∷ []) ≤ 1
       once Feed = omega arith
       once Table = omega arith
       once Robot = omega arith
@@ -259,25 +259,25 @@ module _ {S : Type 0} (o : ModelState) where
 
 -- what was seen stays legal
 
-seen-legal : (c : Call) (p : Part) (h : List Event) → IsLegal p.opening h → IsLegal p.opening (seen_at c p h)
+seen-legal : (c : Call) (p : MachineView) (h : List Event) → IsLegal p.opening h → IsLegal p.opening (seen_at c p h)
 seen-legal c p h l = by (is_done_answer (reply (after p.opening h) p.machine c))
   where
     by : (b : Bool) → IsLegal p.opening (if b then h else h ++ event p.machine c (reply (after p.opening h) p.machine c) ∷ [])
     by true = l
     by false = legal-append p.opening h (event p.machine c (reply (after p.opening h) p.machine c) ∷ []) l (refl, tt)
 
--- a seat of one part
-seat_of : {S : Type 0} (m : Machine) (p : Part) (rest : List _) → rest ≡ [] → p.machine ≡ m → IsSound p.opening → IsLegal p.opening p.seen → IsSeat {S = S} m (p ∷ [], rest)
+-- a seat of one machine
+seat_of : {S : Type 0} (m : Machine) (p : MachineView) (rest : List _) → rest ≡ [] → p.machine ≡ m → IsSound p.opening → IsLegal p.opening p.seen → IsSeat {S = S} m (p ∷ [], rest)
 seat_of m p rest e is k l = record { one = ap (λ r. (p ∷ [], r)) e; machine = is; opened = k; legal = l }
 
-pub looked-seat : {S : Type 0} (c : Call) (m : Machine) (me me' : Me S (List Part)) (word : ℕ) → IsSeat m me → looked {S = S} c (step 0 0 0 0 none) me word me' → IsSeat m me'
+pub looked-seat : {S : Type 0} (c : Call) (m : Machine) (me me' : Me S (List MachineView)) (word : ℕ) → IsSeat m me → looked {S = S} c (step 0 0 0 0 none) me word me' → IsSeat m me'
 looked-seat c m me me' word is told =
-    let p : Part = head_of me.0 in
+    let p : MachineView = head_of me.0 in
     subst (IsSeat m) (sym told.2) (seat_of m (after_load p (seen_at c p told.0)) me.1 (ap (λ x. x.1) is.one) is.machine is.opened (seen-legal c p told.0 told.1.legal))
 
-pub exchanged-seat : {S : Type 0} (c : Call) (m : Machine) (me me' : Me S (List Part)) (old word new : ℕ) → IsSeat m me → IsReady (head_of me.0).machine c old new → exchanged {S = S} c (step 0 0 old 0 none) me word me' → IsSeat m me'
+pub exchanged-seat : {S : Type 0} (c : Call) (m : Machine) (me me' : Me S (List MachineView)) (old word new : ℕ) → IsSeat m me → IsReady (head_of me.0).machine c old new → exchanged {S = S} c (step 0 0 old 0 none) me word me' → IsSeat m me'
 exchanged-seat c m me me' old word new is ready told =
-    let p : Part = head_of me.0 in let h : List Event = told.0 in
+    let p : MachineView = head_of me.0 in let h : List Event = told.0 in
     subst (IsSeat m) (sym told.2) (seat_of m (after_exchange p (seen_by c p old word h)) me.1 (ap (λ x. x.1) is.one) is.machine is.opened
     (dite (ℕ_discrete word old)
     (λ hit. subst (λ (b : Bool). IsLegal p.opening (if b then h ++ event p.machine c Done ∷ [] else seen_at c p h)) (sym (eq-eqb word old hit))

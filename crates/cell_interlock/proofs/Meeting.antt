@@ -5,9 +5,9 @@ use Rattle.atomic_table.specs.Table.{Me, step}
 use Rattle.atomic_table.specs.Seated.{TableId}
 use Rattle.cell_types.specs.declared.machine.Machine.{Machine}
 use Rattle.cell_types.specs.declared.answer.Event.{Event}
-use Rattle.cell_interlock.specs.declared.pass.Part.{Part}
+use Rattle.cell_interlock.specs.declared.pass.MachineView.{MachineView}
 use Rattle.cell_interlock.specs.Views.{PassView, pass_of}
-use Rattle.cell_interlock.specs.Rule.{head_of, after_load, first_off, others_of, Moment, MomentOfAll, all_see, gathered, IsSeat}
+use Rattle.cell_interlock.specs.Rule.{head_of, after_load, first_off, others_of, WordMoment, WordMomentOfAll, all_see, gathered, IsSeat}
 use Rattle.cell_interlock.specs.Seen.{HasSeenMore}
 use Rattle.cell_interlock.proofs.Tells.{lawful_history}
 
@@ -16,7 +16,7 @@ abbrev LoadsOnce : PassView → PassView → Type 0
 LoadsOnce v w = (w.loads ≡ v.loads + 1) × (w.exchanges ≡ v.exchanges)
 
 -- a pass that has seen the history so far
-more_at : (v w : PassView) (t u : TableId) (p q : Part) (h : List Event) (word : ℕ) → pass_of t p ≡ v → w ≡ pass_of u q → u ≡ t → Moment p word h → q ≡ after_load p h → HasSeenMore v w × LoadsOnce v w
+more_at : (v w : PassView) (t u : TableId) (p q : MachineView) (h : List Event) (word : ℕ) → pass_of t p ≡ v → w ≡ pass_of u q → u ≡ t → WordMoment p word h → q ≡ after_load p h → HasSeenMore v w × LoadsOnce v w
 more_at v w t u p q h word from to same at is =
     subst (λ (x : PassView × PassView). HasSeenMore x.0 x.1 × LoadsOnce x.0 x.1) (λ i. (from i, sym (to ∙ ap (pass_of u) is) i)) (
       record {
@@ -28,12 +28,12 @@ more_at v w t u p q h word from to same at is =
     )
 
 -- two seats were joined, all their machines saw the history, and the first machine was split off again
-module _ {S : Type 0} (m n : Machine) (l r j j' ll rr : Me S (List Part)) (word : ℕ) (is_l : IsSeat m l) (is_r : IsSeat n r) (joined : j ≡ (r.0 ++ l.0, l.1)) (told : gathered {S = S} (step 0 0 0 0 none) j word j') (left : ll ≡ (others_of j'.0, j'.1)) (right : rr ≡ (first_off j'.0, [])) where
+module _ {S : Type 0} (m n : Machine) (l r j j' ll rr : Me S (List MachineView)) (word : ℕ) (is_l : IsSeat m l) (is_r : IsSeat n r) (joined : j ≡ (r.0 ++ l.0, l.1)) (told : gathered {S = S} (step 0 0 0 0 none) j word j') (left : ll ≡ (others_of j'.0, j'.1)) (right : rr ≡ (first_off j'.0, [])) where
   both : j.0 ≡ head_of r.0 ∷ head_of l.0 ∷ []
   both = ap (λ x. x.0) joined ∙ (λ i. (is_r.one i).0 ++ (is_l.one i).0)
 
-  at : MomentOfAll (head_of r.0 ∷ head_of l.0 ∷ []) word told.0
-  at = subst (λ ps. MomentOfAll ps word told.0) both told.1
+  at : WordMomentOfAll (head_of r.0 ∷ head_of l.0 ∷ []) word told.0
+  at = subst (λ ps. WordMomentOfAll ps word told.0) both told.1
 
   seen : j'.0 ≡ all_see told.0 (head_of r.0 ∷ head_of l.0 ∷ [])
   seen = ap (λ x. x.0) told.2 ∙ ap (all_see told.0) both

@@ -9,8 +9,8 @@ use Rattle.cell_rules.proofs.SeenLemmas.{legal-right, waits-foreign}
 use Rattle.cell_rules.proofs.Quiet.{changes-append, unchanged}
 use Rattle.cell_word.specs.Layout.{packed}
 use Rattle.cell_interlock.specs.Views.{PassView}
-use Rattle.cell_interlock.specs.Rule.{Moment}
-use Rattle.cell_interlock.specs.Steps.{part_of}
+use Rattle.cell_interlock.specs.Rule.{WordMoment}
+use Rattle.cell_interlock.specs.Steps.{view_of}
 use Rattle.cell_interlock.specs.Seen.{HasChanges}
 
 pub changes-trans : (m : Machine) (x y z : List Event) (i j : ℕ) → HasChanges m x y i → HasChanges m y z j → HasChanges m x z (i + j)
@@ -25,7 +25,7 @@ changes-trans m x y z i j f g =
 pub changes-before : (m : Machine) (x y z : List Event) (n : ℕ) → BeginsWith y x → HasChanges m y z n → HasChanges m x z n
 changes-before m x y z n b f = let g = changes-trans m x y z 0 n (record { more = b.0; is = b.1; many = omega arith }) f in record { more = g.more; is = g.is; many = omega (arith, g.many) }
 
-pub overtaken : (v : PassView) (word : ℕ) (h : List Event) (old : ℕ) → Moment (part_of v) word h → packed (after v.opening v.seen) ≡ old → word ≢ old → HasChanges v.machine v.seen h 1
+pub overtaken : (v : PassView) (word : ℕ) (h : List Event) (old : ℕ) → WordMoment (view_of v) word h → packed (after v.opening v.seen) ≡ old → word ≢ old → HasChanges v.machine v.seen h 1
 overtaken v word h old at found apart =
     let more : List Event = at.begins.0 in let e : h ≡ v.seen ++ more = at.begins.1 in
     let legal = legal-right v.opening v.seen more (subst (IsLegal v.opening) e at.legal) in

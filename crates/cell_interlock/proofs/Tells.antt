@@ -22,8 +22,8 @@ use Rattle.cell_rules.proofs.Quiet.{next-same}
 use Rattle.cell_rules.proofs.SeenLemmas.{after-push, legal-append, own-push, waits-foreign}
 use Rattle.cell_word.specs.Layout.{packed}
 use Rattle.cell_interlock.specs.Views.{PassView}
-use Rattle.cell_interlock.specs.Rule.{Moment, seen_at}
-use Rattle.cell_interlock.specs.Steps.{part_of, with_load, with_exchange, Loaded, IsReady, Exchanged}
+use Rattle.cell_interlock.specs.Rule.{WordMoment, seen_at}
+use Rattle.cell_interlock.specs.Steps.{view_of, with_load, with_exchange, Loaded, IsReady, Exchanged}
 use Rattle.cell_interlock.specs.Seen.{IsSamePass, IsSettled, IsUnmade, HasChanges, IsOvertaken}
 use Rattle.cell_interlock.specs.Going.{IsUnderWay}
 use Rattle.cell_interlock.proofs.Overtaken.{changes-trans, changes-before, overtaken}
@@ -90,45 +90,45 @@ settled v w c a stamp h k l waits same ends right stamped =
 abbrev sees : PassView → List Event → List Event → ℕ → ℕ → PassView
 sees v seen since loads exchanges = record v { seen = seen; since = since; loads = loads; exchanges = exchanges }
 
-waits_at : (v : PassView) (word : ℕ) (h : List Event) → Moment (part_of v) word h → Waits v.machine v.seen h
+waits_at : (v : PassView) (word : ℕ) (h : List Event) → WordMoment (view_of v) word h → Waits v.machine v.seen h
 waits_at v word h at = record { begins = at.begins; own = at.own }
 
 same_pass : (v w : PassView) (seen since : List Event) (l x : ℕ) → w ≡ sees v seen since l x → IsSamePass v w
 same_pass v w seen since l x is = record { table = ap (λ (x : PassView). x.table) is; opening = ap (λ (x : PassView). x.opening) is; machine = ap (λ (x : PassView). x.machine) is }
 
-settled_at : (v w : PassView) (word : ℕ) (h since : List Event) (l x : ℕ) (c : Call) (a : Answer) (stamp : ℕ) → Moment (part_of v) word h → w ≡ sees v (h ++ event v.machine c a ∷ []) since l x
+settled_at : (v w : PassView) (word : ℕ) (h since : List Event) (l x : ℕ) (c : Call) (a : Answer) (stamp : ℕ) → WordMoment (view_of v) word h → w ≡ sees v (h ++ event v.machine c a ∷ []) since l x
     → a ≡ reply (after v.opening h) v.machine c → stamp ≡ (next (after v.opening h) v.machine c).stamp → IsSettled v c a stamp w
 settled_at v w word h since l x c a stamp at is right stamped =
     let f : w.seen ≡ h ++ event v.machine c a ∷ [] = ap (λ (x : PassView). x.seen) is in
     settled v w c a stamp h at.opened at.legal (waits_at v word h at) (same_pass v w (h ++ event v.machine c a ∷ []) since l x is) f right
     (stamped ∙ sym (ap (λ (x : List Event). (after v.opening x).stamp) f ∙ ap (λ (s : ModelState). s.stamp) (after-push v.opening h (event v.machine c a))))
 
-unmade_at : (v w : PassView) (word : ℕ) (h since : List Event) (l x : ℕ) (c : Call) → Moment (part_of v) word h → w ≡ sees v h since l x → reply (after v.opening h) v.machine c ≡ Done → IsUnmade v c w
+unmade_at : (v w : PassView) (word : ℕ) (h since : List Event) (l x : ℕ) (c : Call) → WordMoment (view_of v) word h → w ≡ sees v h since l x → reply (after v.opening h) v.machine c ≡ Done → IsUnmade v c w
 unmade_at v w word h since l x c at is ready = subst (IsUnmade v c) (sym is) record {
   more = record { pass = record { table = refl; opening = refl; machine = refl }; lawful = lawful_history v.opening h at.opened at.legal; seen = waits_at v word h at };
   ready = ready;
 }
 
 -- the answer at the moment of a step
-answer_at : (v w : PassView) (word : ℕ) (h seen since : List Event) (l x : ℕ) (c : Call) (a : Answer) (new : ℕ) (m : Machine) → Moment (part_of v) word h → w ≡ sees v seen since l x → m ≡ w.machine → Says word m c a new
+answer_at : (v w : PassView) (word : ℕ) (h seen since : List Event) (l x : ℕ) (c : Call) (a : Answer) (new : ℕ) (m : Machine) → WordMoment (view_of v) word h → w ≡ sees v seen since l x → m ≡ w.machine → Says word m c a new
     → (a ≡ reply (after v.opening h) v.machine c) × (new ≡ packed (next (after v.opening h) v.machine c))
 answer_at v w word h seen since l x c a new m at is who says = let f : m ≡ v.machine = who ∙ ap (λ (x : PassView). x.machine) is in
     subst (λ (x : Machine). (a ≡ reply (after v.opening h) x c) × (new ≡ packed (next (after v.opening h) x c))) f (says (after v.opening h) at.sound at.found)
 
 -- what is seen at that moment, by the answer
-seen_refused : (v : PassView) (c : Call) (h : List Event) (a : Answer) → a ≡ reply (after v.opening h) v.machine c → is_done_answer a ≡ false → seen_at c (part_of v) h ≡ h ++ event v.machine c a ∷ []
+seen_refused : (v : PassView) (c : Call) (h : List Event) (a : Answer) → a ≡ reply (after v.opening h) v.machine c → is_done_answer a ≡ false → seen_at c (view_of v) h ≡ h ++ event v.machine c a ∷ []
 seen_refused v c h a right isnt =
     let r : Answer = reply (after v.opening h) v.machine c in
     ap (λ (b : Bool). if b then h else h ++ event v.machine c r ∷ []) (ap is_done_answer (sym right) ∙ isnt) ∙ ap (λ (x : Answer). h ++ event v.machine c x ∷ []) (sym right)
 
-seen_done : (v : PassView) (c : Call) (h : List Event) (a : Answer) → a ≡ reply (after v.opening h) v.machine c → is_done_answer a ≡ true → seen_at c (part_of v) h ≡ h
+seen_done : (v : PassView) (c : Call) (h : List Event) (a : Answer) → a ≡ reply (after v.opening h) v.machine c → is_done_answer a ≡ true → seen_at c (view_of v) h ≡ h
 seen_done v c h a right isit = ap (λ (b : Bool). if b then h else h ++ event v.machine c (reply (after v.opening h) v.machine c) ∷ []) (ap is_done_answer (sym right) ∙ isit)
 
-refused_at : (v w : PassView) (word : ℕ) (h since : List Event) (l x : ℕ) (c : Call) (a : Answer) (new stamp : ℕ) (m : Machine) → Moment (part_of v) word h → w ≡ sees v (seen_at c (part_of v) h) since l x → m ≡ w.machine
+refused_at : (v w : PassView) (word : ℕ) (h since : List Event) (l x : ℕ) (c : Call) (a : Answer) (new stamp : ℕ) (m : Machine) → WordMoment (view_of v) word h → w ≡ sees v (seen_at c (view_of v) h) since l x → m ≡ w.machine
     → Says word m c a new → Stamps word stamp → is_done_answer a ≡ false → IsSettled v c a stamp w
 refused_at v w word h since l x c a new stamp m at is who says stamps isnt =
     let s : ModelState = after v.opening h in
-    let right = (answer_at v w word h (seen_at c (part_of v) h) since l x c a new m at is who says).0 in
+    let right = (answer_at v w word h (seen_at c (view_of v) h) since l x c a new m at is who says).0 in
     settled_at v w word h since l x c a stamp at (is ∙ ap (λ (z : List Event). sees v z since l x) (seen_refused v c h a right isnt)) right
     (stamps s at.sound at.found ∙ ap (λ (x : ModelState). x.stamp) (sym (next-same s v.machine c (ap is_done_answer (sym right) ∙ isnt))))
 
@@ -154,7 +154,7 @@ ready_for m n c a word new who says isit = subst (λ (x : Machine). IsReady x c 
 pub look_ready : (v w : PassView) (word : ℕ) (c : Call) (a : Answer) (new : ℕ) (m : Machine) → Loaded c v word w → m ≡ w.machine → Says word m c a new → is_done_answer a ≡ true → IsUnmade v c w × IsUnderWay w c word new 0 × (w.since ≡ w.seen)
 look_ready v w word c a new m told who says isit =
     let h : List Event = told.0 in let at = told.1 in
-    let right = (answer_at v w word h (seen_at c (part_of v) h) _ _ _ c a new m at told.2 who says).0 in
+    let right = (answer_at v w word h (seen_at c (view_of v) h) _ _ _ c a new m at told.2 who says).0 in
     let is : w ≡ with_load v h = told.2 ∙ ap (with_load v) (seen_done v c h a right isit) in
     let machine : m ≡ v.machine = who ∙ ap (λ (x : PassView). x.machine) is in (
       unmade_at v w word h _ _ _ c at is (sym right ∙ done_answer a isit),
@@ -171,10 +171,10 @@ look_ready v w word c a new m told who says isit =
 -- ---- what an exchange shows
 
 won_at : (v w : PassView) (c : Call) (old word : ℕ) → (told : Exchanged c v old word w) → word ≡ old → w ≡ with_exchange v (told.0 ++ event v.machine c Done ∷ [])
-won_at v w c old word told hit = told.2 ∙ ap (λ (b : Bool). with_exchange v (if b then told.0 ++ event v.machine c Done ∷ [] else seen_at c (part_of v) told.0)) (eq-eqb word old hit)
+won_at v w c old word told hit = told.2 ∙ ap (λ (b : Bool). with_exchange v (if b then told.0 ++ event v.machine c Done ∷ [] else seen_at c (view_of v) told.0)) (eq-eqb word old hit)
 
-lost_at : (v w : PassView) (c : Call) (old word : ℕ) → (told : Exchanged c v old word w) → word ≢ old → w ≡ with_exchange v (seen_at c (part_of v) told.0)
-lost_at v w c old word told miss = told.2 ∙ ap (λ (b : Bool). with_exchange v (if b then told.0 ++ event v.machine c Done ∷ [] else seen_at c (part_of v) told.0)) (ne_eqb word old miss)
+lost_at : (v w : PassView) (c : Call) (old word : ℕ) → (told : Exchanged c v old word w) → word ≢ old → w ≡ with_exchange v (seen_at c (view_of v) told.0)
+lost_at v w c old word told miss = told.2 ∙ ap (λ (b : Bool). with_exchange v (if b then told.0 ++ event v.machine c Done ∷ [] else seen_at c (view_of v) told.0)) (ne_eqb word old miss)
 
 sound_seen : (v : PassView) (c : Call) (old new lost : ℕ) → IsUnderWay v c old new lost → IsSound (after v.opening v.seen)
 sound_seen v c old new lost t = sound-after v.opening v.seen t.opened
@@ -194,7 +194,7 @@ pub record Loses (v w : PassView) (c : Call) (word new lost : ℕ) : Type 0 wher
   pub changed : HasChanges v.machine v.seen w.seen 1
   pub under_way : IsUnderWay w c word new (lost + 1)
 
-loses_sees : (v w : PassView) (c : Call) (old before lost word new : ℕ) (h : List Event) → IsUnderWay v c old before lost → Moment (part_of v) word h → word ≢ old → w ≡ with_exchange v h → reply (after v.opening h) v.machine c ≡ Done
+loses_sees : (v w : PassView) (c : Call) (old before lost word new : ℕ) (h : List Event) → IsUnderWay v c old before lost → WordMoment (view_of v) word h → word ≢ old → w ≡ with_exchange v h → reply (after v.opening h) v.machine c ≡ Done
     → IsReady v.machine c word new → Loses v w c word new lost
 loses_sees v w c old before lost word new h t at miss is ready next_word =
     let one = overtaken v word h old at t.found miss in
@@ -216,7 +216,7 @@ pub attempt_lost : (v w : PassView) (c : Call) (old before lost word new : ℕ) 
 attempt_lost v w c old before lost word new a m t told miss who says isit =
     let h : List Event = told.0 in let at = told.1 in
     let is = lost_at v w c old word told miss in
-    let right = (answer_at v w word h (seen_at c (part_of v) h) _ _ _ c a new m at is who says).0 in
+    let right = (answer_at v w word h (seen_at c (view_of v) h) _ _ _ c a new m at is who says).0 in
     loses_sees v w c old before lost word new h t at miss (is ∙ ap (with_exchange v) (seen_done v c h a right isit)) (sym right ∙ done_answer a isit)
     (ready_for m v.machine c a word new (who ∙ ap (λ (x : PassView). x.machine) is) says isit)
 

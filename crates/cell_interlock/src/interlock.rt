@@ -1,7 +1,7 @@
 //! The word that the machines share.
 ghost use Rattle.std.specs.Prelude.{◌≡◌};
 
-use crate::pass::View;
+use crate::pass::SeatView;
 use crate::rule::OneHistory;
 use atomic_table::Table;
 use cell_rules::State;
@@ -12,7 +12,7 @@ use std::marker::Model;
 /// Threads share it by reference, each with its own passes.
 #[derive(Drop)]
 pub struct Interlock {
-    pub(crate) table: Table<(), View, State, OneHistory, Global>,
+    pub(crate) table: Table<(), SeatView, State, OneHistory, Global>,
     pub(crate) tries: u8,
 }
 

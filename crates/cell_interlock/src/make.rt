@@ -5,8 +5,8 @@ ghost use Rattle.cell_interlock.specs.Views.{pass_of};
 ghost use Rattle.cell_interlock.specs.Fresh.{AreFresh};
 
 use crate::interlock::Interlock;
-use crate::pass::{Pass, Passes, View};
-use crate::rule::{FirstOff, OneHistory};
+use crate::pass::{Pass, Passes, SeatView};
+use crate::rule::{OneHistory, SplitFirst};
 use atomic_table::{Seat, Table};
 use cell_rules::State;
 use cell_rules::laws::states_are_sound;
@@ -58,8 +58,8 @@ impl Interlock {
 
 // The pass of a seat's first machine; the seat keeps the others.
 fn first_pass(
-    table: &Table<(), View, State, OneHistory, Global>,
-    seat: &mut Seat<(), View>,
+    table: &Table<(), SeatView, State, OneHistory, Global>,
+    seat: &mut Seat<(), SeatView>,
     machine: Machine,
 ) -> Pass
     requires same { seat.old.table_id ≡ table.now.shared.table_id }
@@ -69,5 +69,5 @@ fn first_pass(
     ensures others { seat.new.me ≡ (others_of seat.old.me.0, seat.old.me.1) }
     ensures pass { result ≡ pass_of seat.old.table_id (head_of (first_off seat.old.me.0)) }
 {
-    Pass::of(machine, table.shared.split_seat::<FirstOff>(seat))
+    Pass::of(machine, table.shared.split_seat::<SplitFirst>(seat))
 }

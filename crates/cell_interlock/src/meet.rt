@@ -3,19 +3,19 @@ ghost use Rattle.std.specs.Prelude.{◌≡◌, ◌+◌, [], ◌++◌};
 ghost use Rattle.cell_interlock.specs.Seen.{HasSeenMore};
 
 use crate::interlock::Interlock;
-use crate::pass::{Pass, View};
-use crate::rule::{FirstOff, Gathers, Together};
+use crate::pass::{Pass, SeatView};
+use crate::rule::{JoinAll, SplitFirst, SyncStep};
 use atomic_table::Seat;
 
 impl Interlock {
     /// Joins the other seat's machines to a seat.
-    fn join(&self, seat: &mut Seat<(), View>, other: Seat<(), View>)
+    fn join(&self, seat: &mut Seat<(), SeatView>, other: Seat<(), SeatView>)
         requires same_interlock { (seat.old.table_id ≡ self.now.table) × (other.table_id ≡ self.now.table) }
         requires no_slot { other.me.1 ≡ [] }
         ensures table { seat.new.table_id ≡ seat.old.table_id }
         ensures both { seat.new.me ≡ (other.me.0 ++ seat.old.me.0, seat.old.me.1) }
     {
-        self.table.shared.join_seat::<Together>(seat, other);
+        self.table.shared.join_seat::<JoinAll>(seat, other);
     }
 
     /// Lets two passes meet: afterwards both have seen the same history, which begins with what
@@ -45,8 +45,8 @@ impl Interlock {
         } = right;
         self.join(&mut left_seat, right_seat);
         let shared = &self.table.shared;
-        shared.load::<Gathers>(&mut left_seat, 0);
-        let right_seat = shared.split_seat::<FirstOff>(&mut left_seat);
+        shared.load::<SyncStep>(&mut left_seat, 0);
+        let right_seat = shared.split_seat::<SplitFirst>(&mut left_seat);
         (
             Pass::of(left_machine, left_seat),
             Pass::of(right_machine, right_seat),

@@ -12,7 +12,7 @@ use std::marker::Model;
 /// What contracts know of one machine: the state that its interlock opened with, the history that
 /// it has seen, the part of it that it had seen right after its last load, and the numbers of its
 /// loads and exchanges. No program makes a value of it.
-pub struct Part {
+pub struct MachineView {
     /// The state that the interlock opened with.
     pub opening: State,
     /// The machine.
@@ -28,14 +28,14 @@ pub struct Part {
 }
 
 /// What contracts know of the machines of a seat.
-pub type View = LinkedList<Part>;
+pub type SeatView = LinkedList<MachineView>;
 
 /// The right to make the calls of one machine. A call borrows it exclusively or takes it, so a
 /// machine makes one call at a time. It may go from thread to thread.
 #[derive(Drop)]
 pub struct Pass {
     pub(crate) machine: Machine,
-    pub(crate) seat: Seat<(), View>,
+    pub(crate) seat: Seat<(), SeatView>,
 }
 
 impl Model for Pass {
@@ -51,7 +51,7 @@ impl Model for Pass {
 
 impl Pass {
     /// The pass of a machine that is alone on its seat.
-    pub(crate) fn of(machine: Machine, seat: Seat<(), View>) -> Pass
+    pub(crate) fn of(machine: Machine, seat: Seat<(), SeatView>) -> Pass
         requires { IsSeat machine seat.me }
         ensures { result ≡ pass_of seat.table_id (head_of seat.me.0) }
     {

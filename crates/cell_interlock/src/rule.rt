@@ -1,5 +1,5 @@
 //! The rule of the word, and what each kind of step on it shows: `specs/Rule.antt`.
-use crate::pass::View;
+use crate::pass::SeatView;
 use atomic_table::{Join, Play, Split, TableRule};
 use cell_rules::State;
 use std::marker::{Brand, PhantomData};
@@ -8,16 +8,16 @@ use std::marker::{Brand, PhantomData};
 /// of that history.
 pub struct OneHistory;
 
-impl TableRule<(), View, State> for OneHistory {
-    ghost use Rattle.cell_interlock.specs.Rule.{WordTellsHistory, all_parts};
+impl TableRule<(), SeatView, State> for OneHistory {
+    ghost use Rattle.cell_interlock.specs.Rule.{WordTellsHistory, all_views};
 
     ghost holds = { λ opening table. WordTellsHistory opening table };
 
-    ghost first = { all_parts };
+    ghost first = { all_views };
 }
 
 /// Names the call for which a step is made.
-pub trait Asked {
+pub trait NamesCall {
     ghost use Rattle.cell_types.specs.declared.call.Call.{Call};
 
     ghost call: { Call };
@@ -25,47 +25,47 @@ pub trait Asked {
 
 // The rule's own steps aren't made for a call, and this one isn't read. `load` and `exchange` name
 // the call for which they are made.
-impl Asked for Brand {
+impl NamesCall for Brand {
     ghost use Rattle.cell_types.specs.declared.call.Call.TheVariants.{Advance};
 
     ghost call = { Advance };
 }
 
 /// A load for a call.
-pub struct Looks<A> {
-    asked: PhantomData<A>,
+pub struct LoadStep<A> {
+    call: PhantomData<A>,
 }
 
-impl<A: Asked> Play<(), View> for Looks<A> {
+impl<A: NamesCall> Play<(), SeatView> for LoadStep<A> {
     ghost use Rattle.cell_interlock.specs.Rule.{looked};
 
     ghost then = { looked A.call };
 }
 
 /// An exchange for a call, won or lost.
-pub struct Exchanges<A> {
-    asked: PhantomData<A>,
+pub struct ExchangeStep<A> {
+    call: PhantomData<A>,
 }
 
-impl<A: Asked> Play<(), View> for Exchanges<A> {
+impl<A: NamesCall> Play<(), SeatView> for ExchangeStep<A> {
     ghost use Rattle.cell_interlock.specs.Rule.{exchanged};
 
     ghost then = { exchanged A.call };
 }
 
 /// A load for no call: the machines of a seat then have seen the same history.
-pub struct Gathers;
+pub struct SyncStep;
 
-impl Play<(), View> for Gathers {
+impl Play<(), SeatView> for SyncStep {
     ghost use Rattle.cell_interlock.specs.Rule.{gathered};
 
     ghost then = { gathered };
 }
 
 /// A split: the first machine of a seat gets a new seat.
-pub struct FirstOff;
+pub struct SplitFirst;
 
-impl Split<View> for FirstOff {
+impl Split<SeatView> for SplitFirst {
     ghost use Rattle.cell_interlock.specs.Rule.{first_off, others_of};
 
     ghost left = { others_of };
@@ -74,9 +74,9 @@ impl Split<View> for FirstOff {
 }
 
 /// A join: the other seat's machines are put before the machines of a seat, which then has both.
-pub struct Together;
+pub struct JoinAll;
 
-impl Join<View> for Together {
+impl Join<SeatView> for JoinAll {
     ghost use Rattle.std.specs.Prelude.{◌++◌, []};
 
     ghost both = { λ mine others. others ++ mine };
