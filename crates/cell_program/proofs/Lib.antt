@@ -5,4 +5,4 @@ mod RunLemmas
 mod LawLemmas
 mod PlaceLemmas
 mod AskLemmas
-mod ExitLemmas
+mod ServeLemmas

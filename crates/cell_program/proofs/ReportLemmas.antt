@@ -7,7 +7,6 @@ use Rattle.cell_types.specs.Journals.{journal_of}
 use Rattle.cell_rules.specs.ModelState.{ModelState}
 use Rattle.cell_report.specs.Audited.{IsAudited, HasNoHistory}
 use Rattle.cell_report.specs.AuditFaults.{IsFault}
-use Rattle.cell_text.specs.Output.{WroteFront}
 use Rattle.cell_report.specs.Report.{report_text}
 use Rattle.cell_report.specs.declared.audit_faults.AuditFault.{AuditFault}
 use Rattle.cell_report.specs.declared.audit_faults.AuditFault.TheVariants.{Memory}
@@ -35,6 +34,3 @@ report_well b r audit old new k w e a = let h = w.0 e in (h.1, (subst (AuditFind
 pub report_amiss : (b : Bool) (r : RunRecord) (audit : Option AuditFault) (old new : Option (List ℕ)) → AuditFinds r audit → IsTrue b ↔ ((audit ≡ None) × AreFine r.status) → b ≡ false
     → Appends old new (report_text r audit) → ReportTold Failed r old new
 report_amiss b r audit old new k w e a = (audit, (k, inl (a, amiss r audit (λ h. let well = w.1 h in cc))))
-
-pub report_cut : (r : RunRecord) (audit : Option AuditFault) (old new : Option (List ℕ)) → AuditFinds r audit → WroteFront old new (report_text r audit) → ReportTold Failed r old new
-report_cut r audit old new k a = (audit, (k, inr a))

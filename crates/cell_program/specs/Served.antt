@@ -1,8 +1,9 @@
 -- What a run of the program has done.
-use Rattle.std.specs.Prelude.{◌≡◌, ℕ, List, ◌++◌, codes, ◌⊎◌, Option, Some, None, Ok, Err, IfSome}
+use Rattle.std.specs.Prelude.{◌≡◌, ◌<◌, ℕ, List, ◌++◌, codes, ◌⊎◌, Option, Some, None, Ok, Err, IfSome}
 use Rattle.std.specs.Io.KnownBytes.{Appends}
 use Rattle.cell_replay.specs.Faults.{WroteFront, WroteLines}
-use Rattle.cell_replay.specs.Script.{script_lines, script_outcome, script_text}
+use Rattle.cell_text.specs.Input.{TakesAtMost}
+use Rattle.cell_replay.specs.Script.{most_bytes_read, script_lines, script_outcome, script_text}
 use Rattle.cell_report.specs.Report.{report_text}
 use Rattle.cell_replay.specs.declared.script.Outcome.TheVariants.{Clean, Refused}
 use Rattle.cell_replay.specs.declared.script.ScriptFault.{ScriptFault}
@@ -12,7 +13,7 @@ use Rattle.cell_parts.specs.Axes.{CellScales}
 use Rattle.cell_plant.specs.Cells.{TellsRun}
 use Rattle.cell_notes.specs.declared.run_record.RunRecord.{RunRecord}
 use Rattle.cell_config.specs.Configured.{Says, in_order}
-use Rattle.cell_config.specs.Settings.{Settings, settings_of}
+use Rattle.cell_config.specs.Settings.{Settings, settings_of, most_bytes_read as config_bytes_read}
 use Rattle.cell_config.specs.ConfigWords.{config_fault_text}
 use Rattle.cell_config.specs.declared.fault.ConfigFault.{ConfigFault}
 use Rattle.cell_program.specs.Ran.{TellsWorkers}
@@ -85,3 +86,25 @@ RunFails turns tries bytes old new =
     ⊎ (WroteFront old new (fault_line (codes "spawn"))
     ⊎ ((r : RunRecord) × (audit : Option AuditFault) × (TellsWorkersOf turns tries bytes r × (AuditFinds r audit
     × ((Appends old new (report_text r audit) × IsAmiss r audit) ⊎ WroteFront old new (report_text r audit)))))))
+
+-- What `serve` says of a replay: the exit status, with what was written; and what was taken of the input. Known bytes
+-- of the input are `input` before and `rest` after it; of the output, `old` and `new`.
+pub record Replays (exit : ℕ) (input rest old new : Option (List ℕ)) : Type 0 where
+  pub status : exit < 2
+  pub well : exit ≡ 0 → WasReplayed input old new
+  pub failed : exit ≡ 1 → IfSome input (λ bytes. ReplayFails bytes old new)
+  pub taken : TakesAtMost input rest most_bytes_read
+
+-- what `serve` says of a simulation
+pub record Simulates (exit : ℕ) (input rest old new : Option (List ℕ)) : Type 0 where
+  pub status : exit < 2
+  pub well : exit ≡ 0 → WasSimulated input old new
+  pub failed : exit ≡ 1 → IfSome input (λ bytes. SimFails bytes old new)
+  pub taken : TakesAtMost input rest config_bytes_read
+
+-- what `serve` says of a run by six workers
+pub record Runs (turns tries exit : ℕ) (input rest old new : Option (List ℕ)) : Type 0 where
+  pub status : exit < 2
+  pub well : exit ≡ 0 → WasRun turns tries input old new
+  pub failed : exit ≡ 1 → IfSome input (λ bytes. RunFails turns tries bytes old new)
+  pub taken : TakesAtMost input rest config_bytes_read

@@ -13,7 +13,8 @@ use std::io::Write;
 /// Prints a fault's line, as far as the writer takes it, and returns `Failed`.
 pub fn fail<W: Write, D: Display + Drop>(writer: &mut W, fault: D) -> Exit
     ensures status { result ≡ Exit.Failed }
-    ensures line { IfSome (D.output fault) (λ text. WroteFront (W.contents writer.old) (W.contents writer.new) (fault_line text)) }
+    ensures line { IfSome (D.output fault) (λ text.
+        WroteFront (W.contents writer.old) (W.contents writer.new) (fault_line text)) }
 {
     if let Ok(page) = fault_page(fault) {
         write_front(writer, page.as_bytes());

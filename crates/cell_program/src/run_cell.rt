@@ -47,7 +47,8 @@ where
     requires made { IsMadeFor opening cell }
     requires scales { AreCellScales (scales_of cell) }
     ensures tries { (result ≡ Err RunFault.Tries) ↔ ((tries < 1) ⊎ (64 < tries)) }
-    ensures work { IfOk result (λ r. TellsWork (scales_of cell) opening tries turns (G.may_answer gate.now) (but_end r)) }
+    ensures work { IfOk result (λ r.
+        TellsWork (scales_of cell) opening tries turns (G.may_answer gate.now) (but_end r)) }
     ensures end { IfOk result (λ r. EndsAsAudited r.start (journal_of r.journals) r.end) }
 {
     let run = run_workers(rt, alloc, cell, opening, tries, turns, gate)?;

@@ -1,13 +1,12 @@
 //! Serves one run of the program.
 
-ghost use Rattle.std.specs.Prelude.{◌≡◌, ◌≤◌, ◌<◌, ◌⊎◌, ℕ, codes, map, IfSome};
+ghost use Rattle.std.specs.Prelude.{◌≡◌, ◌≤◌, ◌<◌, ◌⊎◌, ℕ, codes};
 ghost use Rattle.clap.specs.Words.{kind_of};
 ghost use Rattle.cell_text.specs.Output.{WroteFront};
 ghost use Rattle.cell_text.specs.Input.{TakesAtMost};
 ghost use Rattle.cell_replay.specs.Script.{most_bytes_read};
-ghost use Rattle.cell_program.specs.Asked.{AskFor};
-ghost use Rattle.cell_program.specs.Served.{ReplayFails, RunFails, SimFails, WasReplayed, WasRun, WasSimulated, fault_line};
-ghost use Rattle.cell_config.specs.Settings as settings;
+ghost use Rattle.cell_program.specs.Asked.{AskFor, texts_of};
+ghost use Rattle.cell_program.specs.Served.{Replays, Runs, Simulates, fault_line};
 ghost use Rattle.cell_command.specs.Words.{AreTaken, AskForHelp, AskForRun};
 
 use crate::exit::Exit;
@@ -40,51 +39,38 @@ where
     T: Threads + Wait + Sync,
     ensures status { result ≤ 2 }
 
-    // With words that `clap` takes and with nothing or `replay` after the name, the status is 0 or
-    // 1. Status 0 says that the script was clean and its text was written. Status 1 says what was
-    // written of it.
-    ensures replay { AskFor Mode.Replay (map (λ w. w.now) words.now) → result < 2 }
-    ensures replayed { AskFor Mode.Replay (map (λ w. w.now) words.now) → result ≡ 0 →
-        WasReplayed (R.remaining reader.old) (W.contents writer.old) (W.contents writer.new) }
-    ensures replay_fails { AskFor Mode.Replay (map (λ w. w.now) words.now) → result ≡ 1 →
-        IfSome (R.remaining reader.old) (λ bytes. ReplayFails bytes (W.contents writer.old) (W.contents writer.new)) }
+    // Of words that `clap` takes, with nothing or `replay` after the name: status 0 says that the
+    // script was clean and its text was written, status 1 what was written of it.
+    ensures replay { AskFor Mode.Replay (texts_of words.now) →
+        Replays result (R.remaining reader.old) (R.remaining reader.new)
+        (W.contents writer.old) (W.contents writer.new) }
 
-    // With words that `clap` takes and with `sim` after the name, the status is 0 or 1. Status 0
-    // says that the run was simulated and audited, no machine was stopped and the report was
-    // written. Status 1 says what was written.
-    ensures sim { AskFor Mode.Sim (map (λ w. w.now) words.now) → result < 2 }
-    ensures simulated { AskFor Mode.Sim (map (λ w. w.now) words.now) → result ≡ 0 →
-        WasSimulated (R.remaining reader.old) (W.contents writer.old) (W.contents writer.new) }
-    ensures sim_fails { AskFor Mode.Sim (map (λ w. w.now) words.now) → result ≡ 1 →
-        IfSome (R.remaining reader.old) (λ bytes. SimFails bytes (W.contents writer.old) (W.contents writer.new)) }
+    // With `sim` after the name: status 0 says that the run was simulated and audited, no machine
+    // was stopped and the report was written, status 1 what was written.
+    ensures simulation { AskFor Mode.Sim (texts_of words.now) →
+        Simulates result (R.remaining reader.old) (R.remaining reader.new)
+        (W.contents writer.old) (W.contents writer.new) }
 
-    // With words that `clap` takes and with `run` after the name, the status is 0 or 1. Status 0
-    // says that six workers ran the cell, no machine was stopped, an audit found a history and the
-    // report was written. Status 1 says what was written.
-    ensures run { (turns tries : ℕ) → AskForRun turns tries (map (λ w. w.now) words.now) → result < 2 }
-    ensures ran { (turns tries : ℕ) → AskForRun turns tries (map (λ w. w.now) words.now) → result ≡ 0 →
-        WasRun turns tries (R.remaining reader.old) (W.contents writer.old) (W.contents writer.new) }
-    ensures run_fails { (turns tries : ℕ) → AskForRun turns tries (map (λ w. w.now) words.now) → result ≡ 1 →
-        IfSome (R.remaining reader.old) (λ bytes. RunFails turns tries bytes (W.contents writer.old) (W.contents writer.new)) }
+    // With `run` after the name: status 0 says that six workers ran the cell, no machine was
+    // stopped, an audit found a history and the report was written, status 1 what was written.
+    ensures run { (turns tries : ℕ) → AskForRun turns tries (texts_of words.now) →
+        Runs turns tries result (R.remaining reader.old) (R.remaining reader.new)
+        (W.contents writer.old) (W.contents writer.new) }
 
     // Status 0 comes only for words that `clap` takes and for words that ask for help. Status 2
     // never comes for words that it takes.
-    ensures taken { result ≡ 0 →
-        AreTaken (map (λ w. w.now) words.now) ⊎ AskForHelp (map (λ w. w.now) words.now) }
-    ensures refused { AreTaken (map (λ w. w.now) words.now) → result < 2 }
+    ensures taken { result ≡ 0 → AreTaken (texts_of words.now) ⊎ AskForHelp (texts_of words.now) }
+    ensures refused { AreTaken (texts_of words.now) → result < 2 }
 
-    // At most one byte more is read than a script may have; for a simulation and a run, at most one
-    // byte more than a configuration may have.
+    // At most one byte more is read than a script may have.
     ensures read { TakesAtMost (R.remaining reader.old) (R.remaining reader.new) most_bytes_read }
-    ensures read_sim { AskFor Mode.Sim (map (λ w. w.now) words.now) →
-        TakesAtMost (R.remaining reader.old) (R.remaining reader.new) settings.most_bytes_read }
-    ensures read_run { (turns tries : ℕ) → AskForRun turns tries (map (λ w. w.now) words.now) →
-        TakesAtMost (R.remaining reader.old) (R.remaining reader.new) settings.most_bytes_read }
 {
     match read_words(alloc, words) {
         Ok(Mode::Replay) => serve_replay(alloc, reader, writer).status(),
         Ok(Mode::Sim) => serve_sim(alloc, reader, writer).status(),
-        Ok(Mode::Run { turns, tries }) => serve_run(rt, alloc, turns, tries, reader, writer).status(),
+        Ok(Mode::Run { turns, tries }) => {
+            serve_run(rt, alloc, turns, tries, reader, writer).status()
+        }
         Err(error) => refuse(error, writer).status(),
     }
 }
@@ -92,7 +78,8 @@ where
 /// Prints that a word isn't text, as far as the writer takes it, and returns `Refused`.
 pub fn refuse_bytes<W: Write>(writer: &mut W) -> Exit
     ensures status { result ≡ Exit.Refused }
-    ensures line { WroteFront (W.contents writer.old) (W.contents writer.new) (codes "error: a word isn't UTF-8\n") }
+    ensures line { WroteFront (W.contents writer.old) (W.contents writer.new)
+        (codes "error: a word isn't UTF-8\n") }
 {
     write_front(writer, "error: a word isn't UTF-8\n".as_bytes());
     Exit::Refused
@@ -102,7 +89,8 @@ pub fn refuse_bytes<W: Write>(writer: &mut W) -> Exit
 fn refuse<W: Write>(error: clap::Error, writer: &mut W) -> Exit
     ensures help { result ≡ Exit.Well → kind_of error ≡ ErrorKind.DisplayHelp }
     ensures memory { kind_of error ≡ ErrorKind.OutOfMemory → result ≡ Exit.Failed }
-    ensures line { kind_of error ≡ ErrorKind.OutOfMemory → WroteFront (W.contents writer.old) (W.contents writer.new) (fault_line (codes "memory")) }
+    ensures line { kind_of error ≡ ErrorKind.OutOfMemory →
+        WroteFront (W.contents writer.old) (W.contents writer.new) (fault_line (codes "memory")) }
 {
     let exit = match error.kind() {
         ErrorKind::OutOfMemory => return fail(writer, "memory"),

@@ -18,7 +18,8 @@ pub fn serve_replay<R: Read, W: Write>(alloc: Global, reader: &mut R, writer: &m
     ensures well { result ≡ Exit.Well →
         WasReplayed (R.remaining reader.old) (W.contents writer.old) (W.contents writer.new) }
     ensures failed { result ≡ Exit.Failed →
-        IfSome (R.remaining reader.old) (λ bytes. ReplayFails bytes (W.contents writer.old) (W.contents writer.new)) }
+        IfSome (R.remaining reader.old) (λ bytes.
+        ReplayFails bytes (W.contents writer.old) (W.contents writer.new)) }
     ensures read { TakesAtMost (R.remaining reader.old) (R.remaining reader.new) most_bytes_read }
 {
     match replay(alloc, reader, writer) {

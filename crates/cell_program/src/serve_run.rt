@@ -42,9 +42,11 @@ where
     requires some { 1 ≤ tries }
     ensures status { result ≢ Exit.Refused }
     ensures well { result ≡ Exit.Well →
-        WasRun turns tries (R.remaining reader.old) (W.contents writer.old) (W.contents writer.new) }
+        WasRun turns tries (R.remaining reader.old)
+        (W.contents writer.old) (W.contents writer.new) }
     ensures failed { result ≡ Exit.Failed →
-        IfSome (R.remaining reader.old) (λ bytes. RunFails turns tries bytes (W.contents writer.old) (W.contents writer.new)) }
+        IfSome (R.remaining reader.old) (λ bytes.
+        RunFails turns tries bytes (W.contents writer.old) (W.contents writer.new)) }
     ensures read { TakesAtMost (R.remaining reader.old) (R.remaining reader.new) most_bytes_read }
 {
     let config = match read_config(alloc, reader) {
@@ -73,7 +75,8 @@ where
     requires curves { AreCurvesOf config.now.points config.now.curves }
     requires few { tries ≤ 64 }
     requires some { 1 ≤ tries }
-    ensures work { IfOk result (λ r. (c : CellScales) × (config.now.points ≡ in_order c) × TellsWorkers c config.now.start tries turns r) }
+    ensures work { IfOk result (λ r. (c : CellScales) × (config.now.points ≡ in_order c)
+        × TellsWorkers c config.now.start tries turns r) }
     ensures tries { result ≢ Err RunFault.Tries }
 {
     let [arm1, arm2, rotation, turn, gripper] = config.curves;

@@ -28,7 +28,8 @@ pub fn serve_sim<R: Read, W: Write>(alloc: Global, reader: &mut R, writer: &mut 
     ensures well { result ≡ Exit.Well →
         WasSimulated (R.remaining reader.old) (W.contents writer.old) (W.contents writer.new) }
     ensures failed { result ≡ Exit.Failed →
-        IfSome (R.remaining reader.old) (λ bytes. SimFails bytes (W.contents writer.old) (W.contents writer.new)) }
+        IfSome (R.remaining reader.old) (λ bytes.
+        SimFails bytes (W.contents writer.old) (W.contents writer.new)) }
     ensures read { TakesAtMost (R.remaining reader.old) (R.remaining reader.new) most_bytes_read }
 {
     let config = match read_config(alloc, reader) {
@@ -46,7 +47,8 @@ pub fn simulate_configured(alloc: Global, config: &Config) -> Result<RunRecord, 
     requires start { IsStartState config.now.start }
     requires points { AreAxisScales config.now.points }
     requires curves { AreCurvesOf config.now.points config.now.curves }
-    ensures run { IfOk result (λ r. (c : CellScales) × (config.now.points ≡ in_order c) × TellsRun c config.now.start config.now.schedule.items r) }
+    ensures run { IfOk result (λ r. (c : CellScales) × (config.now.points ≡ in_order c)
+        × TellsRun c config.now.start config.now.schedule.items r) }
 {
     let [arm1, arm2, rotation, turn, gripper] = config.curves;
     let points = CellPoints {
@@ -89,5 +91,10 @@ fn simulate_with_gauges<F1: Gauge, F2: Gauge, F3: Gauge, F4: Gauge, F5: Gauge>(
     requires scales { AreCellScales (cell_scales points) }
     ensures run { IfOk result (TellsRun (cell_scales points) start schedule.now) }
 {
-    simulate(alloc, cell_with_gauges(gauges, points, &start), start, schedule)
+    simulate(
+        alloc,
+        cell_with_gauges(gauges, points, &start),
+        start,
+        schedule,
+    )
 }

@@ -1,5 +1,5 @@
 use Rattle.cell_program.specs.Reported.{AuditFinds}
-use Rattle.cell_program.proofs.ReportLemmas.{audit_finds, report_amiss, report_cut, report_well}
+use Rattle.cell_program.proofs.ReportLemmas.{audit_finds, report_amiss, report_well}
 use Rattle.cell_program.proofs.reporting.report.Goals as goal
 
 pub returns-in-Ok-clause-told : goal.returns-in-Ok-clause-told

@@ -1,14 +1,35 @@
-use Rattle.std.proofs.Common.{map, sym}
+use Rattle.std.proofs.Common.{sym}
 use Rattle.cell_command.proofs.Asked.{run_asked}
+use Rattle.cell_program.specs.Asked.{texts_of}
 use Rattle.cell_program.proofs.AskLemmas.{no_room}
-use Rattle.cell_program.proofs.ExitLemmas.{is_failed}
-use Rattle.cell_program.proofs.FrontLemmas.{told_before}
+use Rattle.cell_program.proofs.ServeLemmas.{replay_unread, replays, run_unread, runs, sim_unread, simulates}
 use Rattle.cell_program.proofs.serve.serve.Goals as goal
 
-pub returns-in-Err-clause-replay_fails : goal.returns-in-Err-clause-replay_fails
-returns-in-Err-clause-replay_fails g c = λ k e. told_before _ _ _ (c.refuse.ensures.line (no_room _ c.in-Err.error c.in-Err.ensures.refused k.0))
+pub returns-in-Ok-Replay-clause-replay : goal.returns-in-Ok-Replay-clause-replay
+returns-in-Ok-Replay-clause-replay g c = λ k.
+    replays c.serve_replay.result _ c.status.ensures c.serve_replay.ensures.status _ _ _ _ c.serve_replay.ensures.well c.serve_replay.ensures.failed c.serve_replay.ensures.read
 
-pub returns-in-Ok-Run-clause-run_fails : goal.returns-in-Ok-Run-clause-run_fails
-returns-in-Ok-Run-clause-run_fails g c = λ turns tries k e.
-    let same = run_asked (map (λ w. w.now) c.args.words.now) c.in-Ok-Run.field-0 c.in-Ok-Run.turns c.in-Ok-Run.tries turns tries c.in-Ok-Run.field-0-is c.in-Ok-Run.ensures.mode k in
-    rw (sym same.0, sym same.1) (c.serve_run.ensures.failed (is_failed c.serve_run.result _ c.status-in-Ok-Run.ensures e))
+pub returns-in-Ok-Sim-clause-simulation : goal.returns-in-Ok-Sim-clause-simulation
+returns-in-Ok-Sim-clause-simulation g c = λ k.
+    simulates c.serve_sim.result _ c.status-in-Ok-Sim.ensures c.serve_sim.ensures.status _ _ _ _ c.serve_sim.ensures.well c.serve_sim.ensures.failed c.serve_sim.ensures.read
+
+pub returns-in-Ok-Run-clause-run : goal.returns-in-Ok-Run-clause-run
+returns-in-Ok-Run-clause-run g c = λ turns tries k.
+    let same = run_asked (texts_of c.args.words.now) c.in-Ok-Run.field-0 c.in-Ok-Run.turns c.in-Ok-Run.tries turns tries c.in-Ok-Run.field-0-is c.in-Ok-Run.ensures.mode k in
+    rw (sym same.0, sym same.1)
+    (runs c.serve_run.result _ c.status-in-Ok-Run.ensures c.serve_run.ensures.status _ _ _ _ c.in-Ok-Run.turns c.in-Ok-Run.tries c.serve_run.ensures.well c.serve_run.ensures.failed c.serve_run.ensures.read)
+
+pub returns-in-Err-clause-replay : goal.returns-in-Err-clause-replay
+returns-in-Err-clause-replay g c = λ k.
+    let none = no_room _ c.in-Err.error c.in-Err.ensures.refused k.0 in
+    replay_unread c.refuse.result _ c.status-in-Err.ensures (c.refuse.ensures.memory none) _ _ _ (c.refuse.ensures.line none)
+
+pub returns-in-Err-clause-simulation : goal.returns-in-Err-clause-simulation
+returns-in-Err-clause-simulation g c = λ k.
+    let none = no_room _ c.in-Err.error c.in-Err.ensures.refused k.0 in
+    sim_unread c.refuse.result _ c.status-in-Err.ensures (c.refuse.ensures.memory none) _ _ _ (c.refuse.ensures.line none)
+
+pub returns-in-Err-clause-run : goal.returns-in-Err-clause-run
+returns-in-Err-clause-run g c = λ turns tries k.
+    let none = no_room _ c.in-Err.error c.in-Err.ensures.refused k.0 in
+    run_unread c.refuse.result _ c.status-in-Err.ensures (c.refuse.ensures.memory none) _ _ _ (c.refuse.ensures.line none) turns tries
