@@ -11,7 +11,7 @@ use Rattle.cell_types.specs.Same.{same_machine}
 use Rattle.cell_types.specs.Ways.{keeper_of, work_of}
 use Rattle.cell_rules.specs.ModelState.{ModelState, zone_at, is_full}
 use Rattle.cell_rules.specs.Sound.{IsSound, is_party, is_received_by}
-use Rattle.cell_rules.specs.Refusals.{owns, owner_of, posture_at, gift, given_by, advance_refusal, give_refusal, take_refusal, has_no_work, press_unowned, not_at_work, nothing_to_work, no_room_for_work, worn, ◌or◌}
+use Rattle.cell_rules.specs.Refusals.{owns, owner_of, posture_at, transfer_given, given_by, advance_refusal, give_refusal, take_refusal, has_no_work, press_unowned, not_at_work, nothing_to_work, no_room_for_work, worn, ◌or◌}
 use Rattle.cell_rules.specs.Reply.{reply, next}
 use Rattle.cell_rules.proofs.Tables.{and_left, and_right}
 use Rattle.cell_rules.proofs.Done.{none_or, none_then_not, take_done, give_done}
@@ -71,7 +71,7 @@ plate_taken z m y sound e =
     handed z y m sound (owner_is (owner_of z y) m (and_left _ _ may)) (and_right _ _ may)
 
 pub plate_given : (z : ModelState) (m : Machine) (y : Zone) → reply z m (Give y) ≡ Done → is_some (given_by m (transfer_of y (posture_at z y))) ≡ true
-plate_given z m y e = fourth (is_party m y) (owns z m y) (not (zone_at z y).flag) (is_some (gift z m y)) (give_done z m y (done_none (give_refusal z m y) e)).0
+plate_given z m y e = fourth (is_party m y) (owns z m y) (not (zone_at z y).flag) (is_some (transfer_given z m y)) (give_done z m y (done_none (give_refusal z m y) e)).0
 
 pub plate_worked : (z : ModelState) (m : Machine) (from to : Place) → reply z m Advance ≡ Done → work_of m ≡ Some (from, to) → is_full z from ≡ true
 plate_worked z m from to e way =
