@@ -413,8 +413,8 @@ fn reads_no_more_than_it_may(rt: HostRuntime) {
     assert!(rt; judged(rt.alloc(), text.as_bytes()) == "well");
     let text = spaced(&rt, rt.alloc(), 2_097_132, "");
     assert!(rt; judged(rt.alloc(), text.as_bytes()) == "config long");
-    let text = spaced(&rt, rt.alloc(), 2_097_132, "behind");
-    assert!(rt; is_read_up_to(rt.alloc(), text.as_str(), "behind"));
+    let text = spaced(&rt, rt.alloc(), 2_097_132, "after");
+    assert!(rt; is_read_up_to(rt.alloc(), text.as_str(), "after"));
 }
 
 /// Whether a configuration is the one that was written, or memory ran out.

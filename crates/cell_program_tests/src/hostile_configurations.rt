@@ -280,12 +280,12 @@ type Made = (
     &'static str,
 );
 
-/// After a good start: values that are deep, and texts that are long.
+/// After a good start: values and keys that are deep.
 const MADE: &[(Made, &str)] = &[
     (("arm1.raw = ", "[", 80, "", "]"), "kind"),
     (("arm1.raw = ", "[", 81, "", "]"), "text"),
-    (("arm1.raw = ", "[", 100_000, "", "]"), "text"),
-    (("arm1.raw = ", "[", 100_000, "", ""), "text"),
+    (("arm1.raw = ", "[", 10_000, "", "]"), "text"),
+    (("arm1.raw = ", "[", 10_000, "", ""), "text"),
     (("colour = ", "[", 80, "1", "]"), "unknown"),
     (("colour = ", "[", 81, "1", "]"), "text"),
     (("arm1 = ", "{tol = ", 80, "1", "}"), "kind"),
@@ -300,19 +300,6 @@ const MADE: &[(Made, &str)] = &[
     (("[arm1", ".tol", 80, "]", ""), "text"),
     (("[[arm1", ".tol", 79, "]]", ""), "kind"),
     (("[[arm1", ".tol", 80, "]]", ""), "text"),
-    // With the start, which has 21 bytes, 2,097,152 bytes and one more.
-    (
-        ("#", "x", 2_097_120, "\nstamp = 7", ""),
-        "start 0000000000 7\n",
-    ),
-    (("#", "x", 2_097_121, "\nstamp = 7", ""), "long"),
-    // One byte more than there may be, in half as many characters, and not TOML.
-    (("\u{0}", "\u{e9}", 1_048_565, "x", ""), "long"),
-    (
-        ("schedule = \"", "F", 1_000_000, "\"", ""),
-        "start 0000000000 0\nfeed turns 1000000 done 0 read 0 refused 0 busy 1000000 ok\n",
-    ),
-    (("schedule = \"", "F", 1_000_001, "\"", ""), "range"),
 ];
 
 /// The text that is made, after a good start.
@@ -326,7 +313,7 @@ fn made(alloc: Global, parts: &Made) -> Result<String, AllocError> {
 }
 
 #[test]
-fn takes_deep_and_long_texts(rt: HostRuntime) -> Result<(), Fail> {
+fn takes_deep_values(rt: HostRuntime) -> Result<(), Fail> {
     for (parts, wanted) in MADE {
         let config = made(rt.alloc(), parts)?;
         assert!(rt;
