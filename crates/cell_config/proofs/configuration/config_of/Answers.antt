@@ -3,8 +3,8 @@ use Rattle.std.proofs.lemmas.Bool.{false≢true}
 use Rattle.cell_config.proofs.SettingsLemmas.{settings_of-long, settings_of-no_text, settings_of-table}
 use Rattle.cell_config.proofs.configuration.config_of.Goals as goal
 
-pub returns-then-bytes-gt-MOST_BYTES-clause-says : goal.returns-then-bytes-gt-MOST_BYTES-clause-says
-returns-then-bytes-gt-MOST_BYTES-clause-says c = λ _. settings_of-long c.args.bytes.now (omega arith)
+pub returns-then-bytes-gt-MAX_BYTES-clause-says : goal.returns-then-bytes-gt-MAX_BYTES-clause-says
+returns-then-bytes-gt-MAX_BYTES-clause-says c = λ _. settings_of-long c.args.bytes.now (omega arith)
 
 pub returns-in-Ok-clause-says : goal.returns-in-Ok-clause-says
 returns-in-Ok-clause-says c =

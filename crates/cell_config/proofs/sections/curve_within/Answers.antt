@@ -5,5 +5,5 @@ use Rattle.cell_config.specs.Settings.{curve_of, curve_within, measured_of}
 use Rattle.cell_config.proofs.CurveChoices.{by_fit, too_many}
 use Rattle.cell_config.proofs.sections.curve_within.Goals as goal
 
-pub returns-then-values-gt-MOST_PAIRS-clause-value : goal.returns-then-values-gt-MOST_PAIRS-clause-value
-returns-then-values-gt-MOST_PAIRS-clause-value c = too_many c.args.points c.args.values.now (omega arith)
+pub returns-then-values-gt-MAX_PAIRS-clause-value : goal.returns-then-values-gt-MAX_PAIRS-clause-value
+returns-then-values-gt-MAX_PAIRS-clause-value c = too_many c.args.points c.args.values.now (omega arith)
