@@ -1,7 +1,9 @@
 pub mod Demands
 pub mod Faults
 pub mod Rigs
+pub mod Row
 pub mod Rows
 pub mod Steps
 pub mod TurnRows
 pub mod Turns
+pub mod WaitRows

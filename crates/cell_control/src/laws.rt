@@ -1,4 +1,4 @@
-//! Laws of a turn and of a motor's demands. Each is the contract of a function with an empty body.
+//! Laws of a turn, of a motor's demands and of waiting. Each is the contract of a function with an empty body.
 ghost use Rattle.std.specs.Prelude.{List};
 ghost use Rattle.cell_types.specs.declared.machine.Machine.{Machine};
 ghost use Rattle.cell_types.specs.declared.zone.Zone.{Zone};
@@ -6,6 +6,7 @@ ghost use Rattle.cell_types.specs.declared.posture.Posture.{Posture};
 ghost use Rattle.cell_types.specs.declared.answer.Event.{Event};
 ghost use Rattle.cell_rules.specs.ModelState.{ModelState};
 ghost use Rattle.cell_control.specs.TurnRows.{TurnRows, ZoneDemandRows};
+ghost use Rattle.cell_control.specs.WaitRows.{WaitRows};
 
 use crate::program::Program;
 
@@ -22,4 +23,9 @@ pub fn turns_by_answers<P: Program>(program: &P, progress: P::Progress, sense: &
 pub fn demands_of_a_zone()
     ensures { (m : Machine) (opening : ModelState) (seen : List Event) (zone : Zone) (posture : Posture)
         → ZoneDemandRows m opening seen zone posture }
+{}
+
+/// The refusals on which a step stays, for each thing that it may wait for.
+pub fn waits_by_refusals()
+    ensures { WaitRows }
 {}

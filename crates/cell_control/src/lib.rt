@@ -7,8 +7,10 @@ pub mod fault;
 pub mod laws;
 pub mod part;
 pub mod program;
+pub mod row;
 
 pub use controller::Controller;
 pub use fault::CtlFault;
 pub use part::Part;
 pub use program::Program;
+pub use row::{Row, Waits};
