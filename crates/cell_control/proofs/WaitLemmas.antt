@@ -1,5 +1,5 @@
 -- The refusals on which a step stays.
-use Rattle.std.proofs.Common.{◌≡◌, [], ◌∷◌, refl}
+use Rattle.std.proofs.Common.{[], ◌∷◌, refl}
 use Rattle.cell_types.specs.declared.answer.Refusal.TheVariants.{Held, NotOwner, PlaceFull, Shut}
 use Rattle.cell_control.specs.declared.row.Waits.TheVariants as waits
 use Rattle.cell_control.specs.Rows.{UntilFree, UntilOwner, UntilRoom, UntilOpen}
