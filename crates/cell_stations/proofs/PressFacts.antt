@@ -19,10 +19,10 @@ use Rattle.cell_control.proofs.StepLemmas.{Knowing, reached_knows}
 use Rattle.cell_control.proofs.Facts.{Fact, Owns, Hosts, AreSo, are_foreign, seen_held, seen_in}
 use Rattle.cell_devices.specs.declared.motor.Motor.{Motor}
 use Rattle.cell_devices.specs.declared.motor.Motor.TheVariants.{Off, Plus, Minus}
-use Rattle.cell_stations.specs.declared.press_step.PressStep.{PressStep}
-use Rattle.cell_stations.specs.declared.press_step.PressStep.TheVariants.{ClaimFirst, LeaveForMiddle, MoveToMiddle, PoseMiddle, ReleaseInterior, TakePlate, LeaveForTop, MoveToTop, PoseTop, Forge, LeaveForBottom, MoveToBottom, PoseLow, GivePlate, ClaimBack}
-use Rattle.cell_stations.specs.declared.press_step.PressProgress.{PressProgress}
-use Rattle.cell_stations.specs.PressProgram.{call_of, step_after, after_motor, press_steps}
+use Rattle.cell_stations.specs.declared.press.PressStep.{PressStep}
+use Rattle.cell_stations.specs.declared.press.PressStep.TheVariants.{ClaimFirst, LeaveForMiddle, MoveToMiddle, PoseMiddle, ReleaseInterior, TakePlate, LeaveForTop, MoveToTop, PoseTop, Forge, LeaveForBottom, MoveToBottom, PoseLow, GivePlate, ClaimBack}
+use Rattle.cell_stations.specs.declared.press.PressProgress.{PressProgress}
+use Rattle.cell_stations.specs.PressProgram.{with_plates, by_plates, row_at, row_of, after_motor, press_steps}
 
 abbrev pub facts_at : PressStep → List Fact
 facts_at ClaimFirst = []
@@ -45,64 +45,64 @@ abbrev pub PressKnows : PressProgress → ModelState → Type 0
 PressKnows p z = AreSo Press z (facts_at p.step)
 
 -- after a drive
-done_drive : (s : PressStep) (loaded forged : Bool) (z : ModelState) → call_of s ≡ None → AreSo Press z (facts_at s) → AreSo Press z (facts_at (step_after s loaded forged))
-done_drive MoveToMiddle loaded forged z e k = k
-done_drive MoveToTop loaded forged z e k = k
-done_drive MoveToBottom loaded forged z e k = k
-done_drive _ loaded forged z e _ = cc
+done_drive : (s : PressStep) (p : PressProgress) (z : ModelState) → (row_at s p).call ≡ None → AreSo Press z (facts_at s) → PressKnows (row_at s p).next z
+done_drive MoveToMiddle p z e k = k
+done_drive MoveToTop p z e k = k
+done_drive MoveToBottom p z e k = k
+done_drive _ p z e _ = cc
 
-drive_on : (m : Motor) (p : PressProgress) (z : ModelState) → call_of p.step ≡ None → PressKnows p z → PressKnows (after_motor p m) z
-drive_on Off p z e k = done_drive p.step p.loaded p.forged z e k
+drive_on : (m : Motor) (p : PressProgress) (z : ModelState) → (row_of p).call ≡ None → PressKnows p z → PressKnows (after_motor p m) z
+drive_on Off p z e k = done_drive p.step p z e k
 drive_on Plus p z e k = k
 drive_on Minus p z e k = k
 
 -- after a call that is done
-at_choice : (loaded forged : Bool) (z : ModelState) → owns z Press Z3 ≡ true → AreSo Press z (facts_at (step_after ClaimFirst loaded forged))
-at_choice loaded true z o = (o, tt)
-at_choice true false z o = (o, tt)
-at_choice false false z o = (o, tt)
+at_choice : (loaded forged : Bool) (p : PressProgress) (z : ModelState) → owns z Press Z3 ≡ true → AreSo Press z (facts_at (by_plates (with_plates p loaded forged)))
+at_choice loaded true p z o = (o, tt)
+at_choice true false p z o = (o, tt)
+at_choice false false p z o = (o, tt)
 
 abbrev AfterCall : ModelState → Option Call → List Fact → Type 0
 AfterCall z None facts = ⊤
 AfterCall z (Some c) facts = reply z Press c ≡ Done → AreSo Press (changed z Press c) facts
 
-after_call : (s : PressStep) (loaded forged : Bool) (z : ModelState) → AreSo Press z (facts_at s) → AfterCall z (call_of s) (facts_at (step_after s loaded forged))
-after_call ClaimFirst loaded forged z k = λ d. at_choice loaded forged (changed z Press (Claim Z3)) refl
-after_call LeaveForMiddle loaded forged z k = λ d. (k.0, ((refl, refl), tt))
-after_call MoveToMiddle loaded forged z k = tt
-after_call PoseMiddle loaded forged z k = λ d. (k.0, ((refl, refl), tt))
-after_call ReleaseInterior loaded forged z k = λ d. (k.1.0, tt)
-after_call TakePlate loaded forged z k = λ d. (take_owned z Press Z3 d, tt)
-after_call LeaveForTop loaded forged z k = λ d. (k.0, ((refl, refl), tt))
-after_call MoveToTop loaded forged z k = tt
-after_call PoseTop loaded forged z k = λ d. (k.0, ((refl, refl), tt))
-after_call Forge loaded forged z k = λ d. (k.0, tt)
-after_call LeaveForBottom loaded forged z k = λ d. (k.0, ((refl, refl), tt))
-after_call MoveToBottom loaded forged z k = tt
-after_call PoseLow loaded forged z k = λ d. (k.0, ((refl, refl), tt))
-after_call GivePlate loaded forged z k = λ d. (k.1.0, tt)
-after_call ClaimBack loaded forged z k = λ d. (refl, tt)
+after_call : (s : PressStep) (p : PressProgress) (z : ModelState) → AreSo Press z (facts_at s) → AfterCall z (row_at s p).call (facts_at (row_at s p).next.step)
+after_call ClaimFirst p z k = λ d. at_choice p.loaded p.forged p (changed z Press (Claim Z3)) refl
+after_call LeaveForMiddle p z k = λ d. (k.0, ((refl, refl), tt))
+after_call MoveToMiddle p z k = tt
+after_call PoseMiddle p z k = λ d. (k.0, ((refl, refl), tt))
+after_call ReleaseInterior p z k = λ d. (k.1.0, tt)
+after_call TakePlate p z k = λ d. (take_owned z Press Z3 d, tt)
+after_call LeaveForTop p z k = λ d. (k.0, ((refl, refl), tt))
+after_call MoveToTop p z k = tt
+after_call PoseTop p z k = λ d. (k.0, ((refl, refl), tt))
+after_call Forge p z k = λ d. (k.0, tt)
+after_call LeaveForBottom p z k = λ d. (k.0, ((refl, refl), tt))
+after_call MoveToBottom p z k = tt
+after_call PoseLow p z k = λ d. (k.0, ((refl, refl), tt))
+after_call GivePlate p z k = λ d. (k.1.0, tt)
+after_call ClaimBack p z k = λ d. (refl, tt)
 
-done_call : (s : PressStep) (loaded forged : Bool) (c : Call) (z : ModelState) → call_of s ≡ Some c → reply z Press c ≡ Done → AreSo Press z (facts_at s) → AreSo Press (changed z Press c) (facts_at (step_after s loaded forged))
-done_call s loaded forged c z e d k = subst (λ o. AfterCall z o (facts_at (step_after s loaded forged))) e (after_call s loaded forged z k) d
+done_call : (p : PressProgress) (c : Call) (z : ModelState) → (row_of p).call ≡ Some c → reply z Press c ≡ Done → PressKnows p z → PressKnows (row_of p).next (changed z Press c)
+done_call p c z e d k = subst (λ o. AfterCall z o (facts_at (row_of p).next.step)) e (after_call p.step p z k) d
 
 pub press-knowing : Knowing press_steps PressKnows
 press-knowing = record {
   foreign = λ p z n c apart sound k. are_foreign Press n c z (facts_at p.step) apart sound k;
   after_drive = λ p s act z e d k. drive_on act.press p z e k;
-  after_done = λ p z c e d sound k. done_call p.step p.loaded p.forged c z e d k;
+  after_done = λ p z c e d sound k. done_call p c z e d k;
   after_inquiry = λ p z c owner flag posture e d sound k. k;
 }
 
 -- so in a step that drives the press holds its interior, which moves
-pub drives_at : (s : PressStep) (z : ModelState) → call_of s ≡ None → AreSo Press z (facts_at s) → (owns z Press Z3 ≡ true) × (posture_at z Z3 ≡ Moving)
-drives_at MoveToMiddle z e k = (k.0, k.1.0.1)
-drives_at MoveToTop z e k = (k.0, k.1.0.1)
-drives_at MoveToBottom z e k = (k.0, k.1.0.1)
-drives_at _ z e _ = cc
+pub drives_at : (s : PressStep) (p : PressProgress) (z : ModelState) → (row_at s p).call ≡ None → AreSo Press z (facts_at s) → (owns z Press Z3 ≡ true) × (posture_at z Z3 ≡ Moving)
+drives_at MoveToMiddle p z e k = (k.0, k.1.0.1)
+drives_at MoveToTop p z e k = (k.0, k.1.0.1)
+drives_at MoveToBottom p z e k = (k.0, k.1.0.1)
+drives_at _ p z e _ = cc
 
-pub drives-held : (opening : ModelState) (seen : List Event) (p : PressProgress) → IsSound opening → IsLegal opening seen → IsReached press_steps opening seen p → call_of p.step ≡ None
+pub drives-held : (opening : ModelState) (seen : List Event) (p : PressProgress) → IsSound opening → IsLegal opening seen → IsReached press_steps opening seen p → (row_of p).call ≡ None
     → Holds opening seen Press Z3 × PressMoves opening seen
 drives-held opening seen p sound legal r e =
-    let at = drives_at p.step (after opening seen) e (reached_knows press_steps PressKnows press-knowing opening seen p tt sound legal r) in
+    let at = drives_at p.step p (after opening seen) e (reached_knows press_steps PressKnows press-knowing opening seen p tt sound legal r) in
     (seen_held opening seen Press Z3 legal at.0, seen_in opening seen Z3 Moving legal at.1)

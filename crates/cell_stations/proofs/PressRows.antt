@@ -1,13 +1,15 @@
 -- The press's program meets the rows of the examples.
-use Rattle.std.proofs.Common.{◌≡◌, Bool, true, false, [], ◌∷◌, refl, None}
+use Rattle.std.proofs.Common.{◌≡◌, Bool, true, false, refl, None}
 use Rattle.cell_types.specs.declared.answer.Refusal.{Refusal}
-use Rattle.cell_types.specs.declared.answer.Refusal.TheVariants.{Held, NotOwner, PlaceFull}
 use Rattle.cell_devices.specs.declared.motor.Direction.{Direction}
 use Rattle.cell_rules.specs.ModelState.{ModelState}
-use Rattle.cell_control.specs.Rows.{stays_by, UntilFree, UntilOwner, UntilRoom, is_inquiry}
-use Rattle.cell_stations.specs.declared.press_step.PressStep.{PressStep}
-use Rattle.cell_stations.specs.declared.press_step.PressStep.TheVariants.{TakePlate, GivePlate, ClaimBack, ClaimFirst, MoveToMiddle, MoveToTop, MoveToBottom}
-use Rattle.cell_stations.specs.PressProgram.{stays_on, press_steps, call_of}
+use Rattle.cell_control.specs.Row.{waits_on}
+use Rattle.cell_control.specs.Rows.{is_inquiry}
+use Rattle.cell_control.proofs.WaitLemmas.{wait-rows}
+use Rattle.cell_stations.specs.declared.press.PressStep.{PressStep}
+use Rattle.cell_stations.specs.declared.press.PressStep.TheVariants.{ClaimFirst, MoveToMiddle, MoveToTop, MoveToBottom}
+use Rattle.cell_stations.specs.declared.press.PressProgress.{PressProgress}
+use Rattle.cell_stations.specs.PressProgram.{row_at, press_steps}
 use Rattle.cell_stations.specs.PressExamples.{begins_with, PressAsks, PressDrives, PressChecks, PressRowsAreMet}
 
 begins : (s : ModelState) (loaded forged : Bool) → press_steps.start (record s { full = record s.full { press_in = loaded; press_out = forged } }) ≡ begins_with loaded forged
@@ -15,18 +17,6 @@ begins s false false = refl
 begins s true false = refl
 begins s false true = refl
 begins s true true = refl
-
-stays_taking : (r : Refusal) → stays_on TakePlate r ≡ stays_by (UntilOwner ∷ []) r
-stays_taking (NotOwner _) = refl
-stays_taking _ = refl
-
-stays_giving : (r : Refusal) → stays_on GivePlate r ≡ stays_by (UntilRoom ∷ []) r
-stays_giving PlaceFull = refl
-stays_giving _ = refl
-
-stays_claiming : (r : Refusal) → stays_on ClaimBack r ≡ stays_by (UntilFree ∷ []) r
-stays_claiming (Held _) = refl
-stays_claiming _ = refl
 
 asks : (loaded forged : Bool) (d : Direction) → PressAsks loaded forged d
 asks loaded forged d = record {
@@ -36,14 +26,14 @@ asks loaded forged d = record {
   leaves_for_middle = record { asks = refl; stays = λ r. refl; leads = refl };
   poses_middle = record { asks = refl; stays = λ r. refl; leads = refl };
   releases = record { asks = refl; stays = λ r. refl; leads = refl };
-  takes = record { asks = refl; stays = stays_taking; leads = refl };
+  takes = record { asks = refl; stays = wait-rows.until_owner; leads = refl };
   leaves_for_top = record { asks = refl; stays = λ r. refl; leads = refl };
   poses_top = record { asks = refl; stays = λ r. refl; leads = refl };
   forges = record { asks = refl; stays = λ r. refl; leads = refl };
   leaves_for_bottom = record { asks = refl; stays = λ r. refl; leads = refl };
   poses_low = record { asks = refl; stays = λ r. refl; leads = refl };
-  gives = record { asks = refl; stays = stays_giving; leads = refl };
-  claims_back = record { asks = refl; stays = stays_claiming; leads = refl };
+  gives = record { asks = refl; stays = wait-rows.until_room; leads = refl };
+  claims_back = record { asks = refl; stays = wait-rows.until_free; leads = refl };
 }
 
 drives : (loaded forged : Bool) (d : Direction) → PressDrives loaded forged d
@@ -76,15 +66,15 @@ checks = record {
 }
 
 -- answers that can't come
-no_inquiry : (s : PressStep) → is_inquiry (call_of s) ≡ true → ⊥
-no_inquiry ClaimFirst e = cc
-no_inquiry _ e = cc
+no_inquiry : (s : PressStep) (p : PressProgress) → is_inquiry (row_at s p).call ≡ true → ⊥
+no_inquiry ClaimFirst p e = cc
+no_inquiry _ p e = cc
 
-never_refused : (s : PressStep) (r : Refusal) → call_of s ≡ None → stays_on s r ≡ false
-never_refused MoveToMiddle r e = refl
-never_refused MoveToTop r e = refl
-never_refused MoveToBottom r e = refl
-never_refused _ r e = cc
+never_refused : (s : PressStep) (p : PressProgress) (r : Refusal) → (row_at s p).call ≡ None → waits_on (row_at s p).waits r ≡ false
+never_refused MoveToMiddle p r e = refl
+never_refused MoveToTop p r e = refl
+never_refused MoveToBottom p r e = refl
+never_refused _ p r e = cc
 
 pub press-rows : PressRowsAreMet
 press-rows = record {
@@ -92,7 +82,7 @@ press-rows = record {
   asks = asks;
   drives = drives;
   checks = checks;
-  no_other_answers = record { not_done = λ p e. absurd (no_inquiry p.step e); not_shown = λ p owner flag posture e. refl; not_refused = λ p r e. never_refused p.step r e };
+  no_other_answers = record { not_done = λ p e. absurd (no_inquiry p.step p e); not_shown = λ p owner flag posture e. refl; not_refused = λ p r e. never_refused p.step p r e };
   rests = λ p. refl;
   demands = λ p motor opening seen on k. k on;
 }

@@ -1,36 +1,25 @@
 -- The table's program meets the rows of the examples.
-use Rattle.std.proofs.Common.{◌≡◌, ◌∙◌, sym, ap, rules, None, pos, Bool, true, false, [], ◌∷◌, refl}
+use Rattle.std.proofs.Common.{◌≡◌, ◌∙◌, sym, ap, rules, None, pos, Bool, true, false, refl}
 use Rattle.std.specs.Int.Signed.{le_z_yes, lt_z_yes}
 use Rattle.cell_types.specs.declared.answer.Refusal.{Refusal}
-use Rattle.cell_types.specs.declared.answer.Refusal.TheVariants.{Held, NotOwner, PlaceFull}
 use Rattle.cell_calib.specs.Scale.{Scale}
 use Rattle.cell_devices.specs.declared.stops.Stop.{Stop}
 use Rattle.cell_devices.specs.declared.act.TableAct.{TableAct}
 use Rattle.cell_devices.proofs.DriveLemmas.{drives_one, stops_there, goes_plus, goes_minus}
 use Rattle.cell_rules.specs.ModelState.{ModelState}
-use Rattle.cell_control.specs.Rows.{stays_by, DriveRow, UntilFree, UntilOwner, UntilRoom, is_inquiry}
-use Rattle.cell_stations.specs.declared.table_step.TableStep.{TableStep}
-use Rattle.cell_stations.specs.declared.table_step.TableStep.TheVariants.{MoveToLoading, MoveToUnloading, TakePlate, GivePlate, ClaimBack, ClaimEntry}
-use Rattle.cell_stations.specs.declared.table_step.TableReading.{TableReading}
-use Rattle.cell_stations.specs.declared.table_step.TableProgress.{TableProgress}
-use Rattle.cell_stations.specs.TableProgram.{call_of, stays_on, rotation_stop, Acts, after_act}
+use Rattle.cell_control.specs.Row.{waits_on}
+use Rattle.cell_control.specs.Rows.{DriveRow, is_inquiry}
+use Rattle.cell_control.proofs.WaitLemmas.{wait-rows}
+use Rattle.cell_stations.specs.declared.table.TableStep.{TableStep}
+use Rattle.cell_stations.specs.declared.table.TableStep.TheVariants.{MoveToLoading, MoveToUnloading, ClaimEntry}
+use Rattle.cell_stations.specs.declared.table.TableReading.{TableReading}
+use Rattle.cell_stations.specs.declared.table.TableProgress.{TableProgress}
+use Rattle.cell_stations.specs.TableProgram.{row_at, row_of, rotation_stop, Acts, after_act}
 use Rattle.cell_stations.specs.TableExamples.{begins_with, rows_by, scale, at, told, TableAsks, TableDrives, TableChecks, TableRowsAreMet}
 
 begins : (points : Scale) (s : ModelState) (loaded : Bool) → (rows_by points).start (record s { full = record s.full { table = loaded } }) ≡ begins_with loaded
 begins points s false = refl
 begins points s true = refl
-
-stays_taking : (r : Refusal) → stays_on TakePlate r ≡ stays_by (UntilOwner ∷ []) r
-stays_taking (NotOwner _) = refl
-stays_taking _ = refl
-
-stays_giving : (r : Refusal) → stays_on GivePlate r ≡ stays_by (UntilRoom ∷ []) r
-stays_giving PlaceFull = refl
-stays_giving _ = refl
-
-stays_claiming : (r : Refusal) → stays_on ClaimBack r ≡ stays_by (UntilFree ∷ []) r
-stays_claiming (Held _) = refl
-stays_claiming _ = refl
 
 asks : (points : Scale) (loaded : Bool) → TableAsks points loaded
 asks points loaded = record {
@@ -40,11 +29,11 @@ asks points loaded = record {
   leaves_for_loading = record { asks = refl; stays = λ r. refl; leads = refl };
   poses_loading = record { asks = refl; stays = λ r. refl; leads = refl };
   releases_entry = record { asks = refl; stays = λ r. refl; leads = refl };
-  takes = record { asks = refl; stays = stays_taking; leads = refl };
+  takes = record { asks = refl; stays = wait-rows.until_owner; leads = refl };
   leaves_for_unloading = record { asks = refl; stays = λ r. refl; leads = refl };
   poses_unloading = record { asks = refl; stays = λ r. refl; leads = refl };
-  gives = record { asks = refl; stays = stays_giving; leads = refl };
-  claims_back = record { asks = refl; stays = stays_claiming; leads = refl };
+  gives = record { asks = refl; stays = wait-rows.until_room; leads = refl };
+  claims_back = record { asks = refl; stays = wait-rows.until_free; leads = refl };
 }
 
 -- a step and a reading determine the commands to the two motors
@@ -54,7 +43,7 @@ acts_one points step r a b at_a at_b =
     let rotation : b.rotation ≡ a.rotation = drives_one (rotation_stop step) points.tol r.turn a.rotation b.rotation at_a.rotation at_b.rotation in
     ap (λ h. told h b.rotation) height ∙ ap (λ m. told a.height m) rotation
 
-drive_row : (loaded : Bool) (step : TableStep) (r : TableReading) (act : TableAct) (next : TableProgress) → call_of step ≡ None → Acts scale step r act → after_act (at step loaded) act ≡ next → DriveRow (rows_by scale) (at step loaded) r act next
+drive_row : (loaded : Bool) (step : TableStep) (r : TableReading) (act : TableAct) (next : TableProgress) → (row_of (at step loaded)).call ≡ None → Acts scale step r act → after_act (at step loaded) act ≡ next → DriveRow (rows_by scale) (at step loaded) r act next
 drive_row loaded step r act next asks_nothing acts leads = record { asks_nothing = asks_nothing; drives = acts; drives_only = λ other d. acts_one scale step r act other acts d; leads = leads }
 
 abbrev loading : Stop
@@ -99,14 +88,14 @@ checks = record {
 }
 
 -- answers that can't come
-no_inquiry : (s : TableStep) → is_inquiry (call_of s) ≡ true → ⊥
-no_inquiry ClaimEntry e = cc
-no_inquiry _ e = cc
+no_inquiry : (s : TableStep) (p : TableProgress) → is_inquiry (row_at s p).call ≡ true → ⊥
+no_inquiry ClaimEntry p e = cc
+no_inquiry _ p e = cc
 
-never_refused : (s : TableStep) (r : Refusal) → call_of s ≡ None → stays_on s r ≡ false
-never_refused MoveToLoading r e = refl
-never_refused MoveToUnloading r e = refl
-never_refused _ r e = cc
+never_refused : (s : TableStep) (p : TableProgress) (r : Refusal) → (row_at s p).call ≡ None → waits_on (row_at s p).waits r ≡ false
+never_refused MoveToLoading p r e = refl
+never_refused MoveToUnloading p r e = refl
+never_refused _ p r e = cc
 
 pub table-rows : TableRowsAreMet
 table-rows = record {
@@ -114,7 +103,7 @@ table-rows = record {
   asks = asks;
   drives = drives;
   checks = checks;
-  no_other_answers = λ points. record { not_done = λ p e. absurd (no_inquiry p.step e); not_shown = λ p owner flag posture e. refl; not_refused = λ p r e. never_refused p.step r e };
+  no_other_answers = λ points. record { not_done = λ p e. absurd (no_inquiry p.step p e); not_shown = λ p owner flag posture e. refl; not_refused = λ p r e. never_refused p.step p r e };
   rests = λ points p. refl;
   demands = λ points p height rotation opening seen on k. let at = k on in record { holds_entry = at.0.0; holds_exit = at.0.1; entry_moves = at.1.0; exit_moves = at.1.1 };
 }

@@ -5,7 +5,7 @@ use Rattle.cell_calib.specs.Line.{IsReading}
 use Rattle.cell_calib.specs.declared.sense.TableSense.{TableSense}
 use Rattle.cell_calib.specs.declared.sense.SensorFault.{SensorFault}
 use Rattle.cell_calib.specs.declared.sense.SensorFault.TheVariants.{Low, High, Clash}
-use Rattle.cell_stations.specs.declared.table_step.TableReading.{TableReading}
+use Rattle.cell_stations.specs.declared.table.TableReading.{TableReading}
 use Rattle.cell_stations.specs.TableProgram.{Senses}
 
 pub senses_near : (points : Scale) (gives : ℕ → ℤ → Type 0) (s : TableSense) (r : Result TableReading SensorFault) → Senses points gives s r → Senses points (IsReading points) s r

@@ -16,9 +16,9 @@ use Rattle.cell_types.specs.declared.posture.Posture.TheVariants.{Moving}
 use Rattle.cell_rules.specs.ModelState.{ModelState}
 use Rattle.cell_rules.specs.History.{Holds, posture_by_events}
 use Rattle.cell_control.specs.Rows.{AskRow, DriveRow, CheckRow, UntilFree, UntilOwner, UntilRoom, NoOtherAnswers}
-use Rattle.cell_stations.specs.declared.press_step.PressStep.{PressStep}
-use Rattle.cell_stations.specs.declared.press_step.PressStep.TheVariants.{ClaimFirst, LeaveForMiddle, MoveToMiddle, PoseMiddle, ReleaseInterior, TakePlate, LeaveForTop, MoveToTop, PoseTop, Forge, LeaveForBottom, MoveToBottom, PoseLow, GivePlate, ClaimBack}
-use Rattle.cell_stations.specs.declared.press_step.PressProgress.{PressProgress}
+use Rattle.cell_stations.specs.declared.press.PressStep.{PressStep}
+use Rattle.cell_stations.specs.declared.press.PressStep.TheVariants.{ClaimFirst, LeaveForMiddle, MoveToMiddle, PoseMiddle, ReleaseInterior, TakePlate, LeaveForTop, MoveToTop, PoseTop, Forge, LeaveForBottom, MoveToBottom, PoseLow, GivePlate, ClaimBack}
+use Rattle.cell_stations.specs.declared.press.PressProgress.{PressProgress}
 use Rattle.cell_stations.specs.PressProgram.{press_steps}
 
 abbrev pub at : PressStep → Bool → Bool → Direction → PressProgress

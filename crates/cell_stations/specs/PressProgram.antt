@@ -1,13 +1,12 @@
 -- The press's program, row by row.
-use Rattle.std.specs.Prelude.{◌≡◌, ◌≢◌, Bool, true, false, ◌&&◌, ◌||◌, if◌then◌else◌, List, Option, Some, None, Result, Ok, Err}
+use Rattle.std.specs.Prelude.{◌≡◌, ◌≢◌, Bool, true, false, ◌&&◌, ◌||◌, if◌then◌else◌, List, Result, Ok, Err}
 use Rattle.cell_types.specs.declared.machine.Machine.TheVariants.{Press}
 use Rattle.cell_types.specs.declared.zone.Zone.TheVariants.{Z3}
 use Rattle.cell_types.specs.declared.place.Place.TheVariants.{PressIn, PressOut}
+use Rattle.cell_types.specs.declared.pose.Pose.{Pose}
 use Rattle.cell_types.specs.declared.pose.Pose.TheVariants.{Travelling, Middle, Low, Top}
 use Rattle.cell_types.specs.declared.call.Call.{Call}
 use Rattle.cell_types.specs.declared.call.Call.TheVariants.{Claim, Give, Take, Release, SetPose, Advance}
-use Rattle.cell_types.specs.declared.answer.Refusal.{Refusal}
-use Rattle.cell_types.specs.declared.answer.Refusal.TheVariants.{Held, NotOwner, PlaceFull}
 use Rattle.cell_types.specs.declared.answer.Event.{Event}
 use Rattle.cell_calib.specs.declared.sense.PressSense.{PressSense}
 use Rattle.cell_calib.specs.declared.sense.SensorFault.{SensorFault}
@@ -20,72 +19,55 @@ use Rattle.cell_devices.specs.declared.act.PressAct.{PressAct}
 use Rattle.cell_devices.specs.Motors.{motor_of, latest}
 use Rattle.cell_rules.specs.ModelState.{ModelState, is_full}
 use Rattle.cell_rules.specs.History.{Holds, PressMoves}
+use Rattle.cell_control.specs.declared.row.Row.{Row}
+use Rattle.cell_control.specs.declared.row.Waits.TheVariants.{UntilFree, UntilOwner, UntilRoom}
+use Rattle.cell_control.specs.Row.{waits_on, row_that_asks, row_that_drives, with_waits}
 use Rattle.cell_control.specs.Steps.{Steps}
-use Rattle.cell_stations.specs.declared.press_step.PressStep.{PressStep}
-use Rattle.cell_stations.specs.declared.press_step.PressStep.TheVariants.{ClaimFirst, LeaveForMiddle, MoveToMiddle, PoseMiddle, ReleaseInterior, TakePlate, LeaveForTop, MoveToTop, PoseTop, Forge, LeaveForBottom, MoveToBottom, PoseLow, GivePlate, ClaimBack}
-use Rattle.cell_stations.specs.declared.press_step.PressProgress.{PressProgress}
+use Rattle.cell_stations.specs.declared.press.PressStep.{PressStep}
+use Rattle.cell_stations.specs.declared.press.PressStep.TheVariants.{ClaimFirst, LeaveForMiddle, MoveToMiddle, PoseMiddle, ReleaseInterior, TakePlate, LeaveForTop, MoveToTop, PoseTop, Forge, LeaveForBottom, MoveToBottom, PoseLow, GivePlate, ClaimBack}
+use Rattle.cell_stations.specs.declared.press.PressProgress.{PressProgress}
 
--- what each step asks; a step that asks nothing drives
-abbrev pub call_of : PressStep → Option Call
-call_of ClaimFirst = Some (Claim Z3)
-call_of LeaveForMiddle = Some (SetPose Travelling)
-call_of MoveToMiddle = None
-call_of PoseMiddle = Some (SetPose Middle)
-call_of ReleaseInterior = Some (Release Z3)
-call_of TakePlate = Some (Take Z3)
-call_of LeaveForTop = Some (SetPose Travelling)
-call_of MoveToTop = None
-call_of PoseTop = Some (SetPose Top)
-call_of Forge = Some Advance
-call_of LeaveForBottom = Some (SetPose Travelling)
-call_of MoveToBottom = None
-call_of PoseLow = Some (SetPose Low)
-call_of GivePlate = Some (Give Z3)
-call_of ClaimBack = Some (Claim Z3)
+-- the row of a step that asks, of one that sets a pose, and of one that drives, by the next step
+abbrev pub asks : PressProgress → Call → PressStep → Row PressProgress
+asks p call next = row_that_asks call (record p { step = next })
 
--- the refusals on which a step stays
-abbrev pub stays_on : PressStep → Refusal → Bool
-stays_on TakePlate (NotOwner _) = true
-stays_on GivePlate PlaceFull = true
-stays_on ClaimBack (Held _) = true
-stays_on _ _ = false
+abbrev pub poses : PressProgress → Pose → PressStep → Row PressProgress
+poses p pose next = asks p (SetPose pose) next
 
--- the next step after each that is done, by whether the press has an unforged and a forged plate
-abbrev pub step_after : PressStep → Bool → Bool → PressStep
-step_after ClaimFirst loaded forged = if forged then LeaveForBottom else (if loaded then LeaveForTop else LeaveForMiddle)
-step_after LeaveForMiddle _ _ = MoveToMiddle
-step_after MoveToMiddle _ _ = PoseMiddle
-step_after PoseMiddle _ _ = ReleaseInterior
-step_after ReleaseInterior _ _ = TakePlate
-step_after TakePlate _ _ = LeaveForTop
-step_after LeaveForTop _ _ = MoveToTop
-step_after MoveToTop _ _ = PoseTop
-step_after PoseTop _ _ = Forge
-step_after Forge _ _ = LeaveForBottom
-step_after LeaveForBottom _ _ = MoveToBottom
-step_after MoveToBottom _ _ = PoseLow
-step_after PoseLow _ _ = GivePlate
-step_after GivePlate _ _ = ClaimBack
-step_after ClaimBack _ _ = LeaveForMiddle
+abbrev pub drives : PressProgress → PressStep → Row PressProgress
+drives p next = row_that_drives (record p { step = next })
 
--- the two notes after a step
-abbrev pub loaded_after : PressStep → Bool → Bool
-loaded_after TakePlate _ = true
-loaded_after Forge _ = false
-loaded_after _ loaded = loaded
+-- with other notes: whether the press has an unforged and a forged plate
+abbrev pub with_plates : PressProgress → Bool → Bool → PressProgress
+with_plates p loaded forged = record p { loaded = loaded; forged = forged }
 
-abbrev pub forged_after : PressStep → Bool → Bool
-forged_after Forge _ = true
-forged_after GivePlate _ = false
-forged_after _ forged = forged
+-- the step after the first claim, by the plates in the press
+abbrev pub by_plates : PressProgress → PressStep
+by_plates p = if p.forged then LeaveForBottom else (if p.loaded then LeaveForTop else LeaveForMiddle)
+
+-- the row of each step: what it asks, what it waits for, and the next step with its notes
+abbrev pub row_at : PressStep → PressProgress → Row PressProgress
+row_at ClaimFirst p = asks p (Claim Z3) (by_plates p)
+row_at LeaveForMiddle p = poses p Travelling MoveToMiddle
+row_at MoveToMiddle p = drives p PoseMiddle
+row_at PoseMiddle p = poses p Middle ReleaseInterior
+row_at ReleaseInterior p = asks p (Release Z3) TakePlate
+row_at TakePlate p = with_waits (asks (with_plates p true p.forged) (Take Z3) LeaveForTop) UntilOwner
+row_at LeaveForTop p = poses p Travelling MoveToTop
+row_at MoveToTop p = drives p PoseTop
+row_at PoseTop p = poses p Top Forge
+row_at Forge p = asks (with_plates p false true) Advance LeaveForBottom
+row_at LeaveForBottom p = poses p Travelling MoveToBottom
+row_at MoveToBottom p = drives p PoseLow
+row_at PoseLow p = poses p Low GivePlate
+row_at GivePlate p = with_waits (asks (with_plates p p.loaded false) (Give Z3) ClaimBack) UntilRoom
+row_at ClaimBack p = with_waits (asks p (Claim Z3) LeaveForMiddle) UntilFree
+
+abbrev pub row_of : PressProgress → Row PressProgress
+row_of p = row_at p.step p
 
 abbrev pub after_done : PressProgress → PressProgress
-after_done p =
-    record p {
-      step = step_after p.step p.loaded p.forged;
-      loaded = loaded_after p.step p.loaded;
-      forged = forged_after p.step p.forged;
-    }
+after_done p = (row_of p).next
 
 -- at the start the press notes its places
 abbrev pub press_start : ModelState → PressProgress
@@ -132,10 +114,10 @@ press_steps =
     record {
       machine = Press;
       start = press_start;
-      call = λ p. call_of p.step;
+      call = λ p. (row_of p).call;
       after_done = after_done;
       after_inquiry = λ p owner flag posture. p;
-      stays_on = λ p r. stays_on p.step r;
+      stays_on = λ p r. waits_on (row_of p).waits r;
       senses = λ s r. r ≡ checked s;
       drives = λ p s act. act ≡ act_for p s;
       after_drive = λ p r act. after_motor p act.press;

@@ -17,10 +17,10 @@ use Rattle.cell_rules.specs.ModelState.{ModelState}
 use Rattle.cell_rules.specs.History.{Holds, posture_by_events}
 use Rattle.cell_control.specs.Steps.{Steps}
 use Rattle.cell_control.specs.Rows.{AskRow, DriveRow, UntilFree, UntilOwner, UntilRoom, NoOtherAnswers}
-use Rattle.cell_stations.specs.declared.table_step.TableStep.{TableStep}
-use Rattle.cell_stations.specs.declared.table_step.TableStep.TheVariants.{ClaimEntry, ClaimExit, LeaveForLoading, MoveToLoading, PoseLoading, ReleaseEntry, TakePlate, LeaveForUnloading, MoveToUnloading, PoseUnloading, GivePlate, ClaimBack}
-use Rattle.cell_stations.specs.declared.table_step.TableProgress.{TableProgress}
-use Rattle.cell_stations.specs.declared.table_step.TableReading.{TableReading}
+use Rattle.cell_stations.specs.declared.table.TableStep.{TableStep}
+use Rattle.cell_stations.specs.declared.table.TableStep.TheVariants.{ClaimEntry, ClaimExit, LeaveForLoading, MoveToLoading, PoseLoading, ReleaseEntry, TakePlate, LeaveForUnloading, MoveToUnloading, PoseUnloading, GivePlate, ClaimBack}
+use Rattle.cell_stations.specs.declared.table.TableProgress.{TableProgress}
+use Rattle.cell_stations.specs.declared.table.TableReading.{TableReading}
 use Rattle.cell_stations.specs.TableProgram.{table_steps}
 
 abbrev pub at : TableStep → Bool → TableProgress

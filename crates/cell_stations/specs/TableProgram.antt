@@ -3,11 +3,10 @@ use Rattle.std.specs.Prelude.{◌≡◌, ◌≢◌, ◌⊎◌, ◌<◌, ◌≤�
 use Rattle.cell_types.specs.declared.machine.Machine.TheVariants.{Table as TableMachine}
 use Rattle.cell_types.specs.declared.zone.Zone.TheVariants.{Z1, Z2}
 use Rattle.cell_types.specs.declared.place.Place.TheVariants.{Table as OnTable}
+use Rattle.cell_types.specs.declared.pose.Pose.{Pose}
 use Rattle.cell_types.specs.declared.pose.Pose.TheVariants.{Turning, Loading, Unloading}
 use Rattle.cell_types.specs.declared.call.Call.{Call}
 use Rattle.cell_types.specs.declared.call.Call.TheVariants.{Claim, Give, Take, Release, SetPose}
-use Rattle.cell_types.specs.declared.answer.Refusal.{Refusal}
-use Rattle.cell_types.specs.declared.answer.Refusal.TheVariants.{Held, NotOwner, PlaceFull}
 use Rattle.cell_types.specs.declared.answer.Event.{Event}
 use Rattle.cell_calib.specs.Scale.{Scale}
 use Rattle.cell_calib.specs.Line.{IsReading}
@@ -23,57 +22,53 @@ use Rattle.cell_devices.specs.declared.act.TableAct.{TableAct}
 use Rattle.cell_devices.specs.Drives.{DrivesTo}
 use Rattle.cell_rules.specs.ModelState.{ModelState, is_full}
 use Rattle.cell_rules.specs.History.{Holds, Moves}
+use Rattle.cell_control.specs.declared.row.Row.{Row}
+use Rattle.cell_control.specs.declared.row.Waits.TheVariants.{UntilFree, UntilOwner, UntilRoom}
+use Rattle.cell_control.specs.Row.{waits_on, row_that_asks, row_that_drives, with_waits}
 use Rattle.cell_control.specs.Steps.{Steps}
-use Rattle.cell_stations.specs.declared.table_step.TableStep.{TableStep}
-use Rattle.cell_stations.specs.declared.table_step.TableStep.TheVariants.{ClaimEntry, ClaimExit, LeaveForLoading, MoveToLoading, PoseLoading, ReleaseEntry, TakePlate, LeaveForUnloading, MoveToUnloading, PoseUnloading, GivePlate, ClaimBack}
-use Rattle.cell_stations.specs.declared.table_step.TableProgress.{TableProgress}
-use Rattle.cell_stations.specs.declared.table_step.TableReading.{TableReading}
+use Rattle.cell_stations.specs.declared.table.TableStep.{TableStep}
+use Rattle.cell_stations.specs.declared.table.TableStep.TheVariants.{ClaimEntry, ClaimExit, LeaveForLoading, MoveToLoading, PoseLoading, ReleaseEntry, TakePlate, LeaveForUnloading, MoveToUnloading, PoseUnloading, GivePlate, ClaimBack}
+use Rattle.cell_stations.specs.declared.table.TableProgress.{TableProgress}
+use Rattle.cell_stations.specs.declared.table.TableReading.{TableReading}
 
--- what each step asks; a step that asks nothing drives
-abbrev pub call_of : TableStep → Option Call
-call_of ClaimEntry = Some (Claim Z1)
-call_of ClaimExit = Some (Claim Z2)
-call_of LeaveForLoading = Some (SetPose Turning)
-call_of MoveToLoading = None
-call_of PoseLoading = Some (SetPose Loading)
-call_of ReleaseEntry = Some (Release Z1)
-call_of TakePlate = Some (Take Z1)
-call_of LeaveForUnloading = Some (SetPose Turning)
-call_of MoveToUnloading = None
-call_of PoseUnloading = Some (SetPose Unloading)
-call_of GivePlate = Some (Give Z2)
-call_of ClaimBack = Some (Claim Z2)
+-- the row of a step that asks, of one that sets a pose, and of one that drives, by the next step
+abbrev pub asks : TableProgress → Call → TableStep → Row TableProgress
+asks p call next = row_that_asks call (record p { step = next })
 
--- the refusals on which a step stays
-abbrev pub stays_on : TableStep → Refusal → Bool
-stays_on TakePlate (NotOwner _) = true
-stays_on GivePlate PlaceFull = true
-stays_on ClaimBack (Held _) = true
-stays_on _ _ = false
+abbrev pub poses : TableProgress → Pose → TableStep → Row TableProgress
+poses p pose next = asks p (SetPose pose) next
 
--- the next step after each that is done, by whether a plate is on the table
-abbrev pub step_after : TableStep → Bool → TableStep
-step_after ClaimEntry _ = ClaimExit
-step_after ClaimExit loaded = if loaded then LeaveForUnloading else LeaveForLoading
-step_after LeaveForLoading _ = MoveToLoading
-step_after MoveToLoading _ = PoseLoading
-step_after PoseLoading _ = ReleaseEntry
-step_after ReleaseEntry _ = TakePlate
-step_after TakePlate _ = LeaveForUnloading
-step_after LeaveForUnloading _ = MoveToUnloading
-step_after MoveToUnloading _ = PoseUnloading
-step_after PoseUnloading _ = GivePlate
-step_after GivePlate _ = ClaimBack
-step_after ClaimBack _ = LeaveForLoading
+abbrev pub drives : TableProgress → TableStep → Row TableProgress
+drives p next = row_that_drives (record p { step = next })
 
--- the note after a step
-abbrev pub loaded_after : TableStep → Bool → Bool
-loaded_after TakePlate _ = true
-loaded_after GivePlate _ = false
-loaded_after _ loaded = loaded
+-- with another note: whether a plate is on the table
+abbrev pub with_plate : TableProgress → Bool → TableProgress
+with_plate p loaded = record p { loaded = loaded }
+
+-- the step after the first claims, by the plate on the table
+abbrev pub by_plate : TableProgress → TableStep
+by_plate p = if p.loaded then LeaveForUnloading else LeaveForLoading
+
+-- the row of each step: what it asks, what it waits for, and the next step with its note
+abbrev pub row_at : TableStep → TableProgress → Row TableProgress
+row_at ClaimEntry p = asks p (Claim Z1) ClaimExit
+row_at ClaimExit p = asks p (Claim Z2) (by_plate p)
+row_at LeaveForLoading p = poses p Turning MoveToLoading
+row_at MoveToLoading p = drives p PoseLoading
+row_at PoseLoading p = poses p Loading ReleaseEntry
+row_at ReleaseEntry p = asks p (Release Z1) TakePlate
+row_at TakePlate p = with_waits (asks (with_plate p true) (Take Z1) LeaveForUnloading) UntilOwner
+row_at LeaveForUnloading p = poses p Turning MoveToUnloading
+row_at MoveToUnloading p = drives p PoseUnloading
+row_at PoseUnloading p = poses p Unloading GivePlate
+row_at GivePlate p = with_waits (asks (with_plate p false) (Give Z2) ClaimBack) UntilRoom
+row_at ClaimBack p = with_waits (asks p (Claim Z2) LeaveForLoading) UntilFree
+
+abbrev pub row_of : TableProgress → Row TableProgress
+row_of p = row_at p.step p
 
 abbrev pub after_done : TableProgress → TableProgress
-after_done p = record { step = step_after p.step p.loaded; loaded = loaded_after p.step p.loaded }
+after_done p = (row_of p).next
 
 -- at the start the table notes its place
 abbrev pub table_start : ModelState → TableProgress
@@ -132,10 +127,10 @@ table_steps points gives =
     record {
       machine = TableMachine;
       start = table_start;
-      call = λ p. call_of p.step;
+      call = λ p. (row_of p).call;
       after_done = after_done;
       after_inquiry = λ p owner flag posture. p;
-      stays_on = λ p r. stays_on p.step r;
+      stays_on = λ p r. waits_on (row_of p).waits r;
       senses = Senses points gives;
       drives = λ p r act. Acts points p.step r act;
       after_drive = λ p r act. after_act p act;

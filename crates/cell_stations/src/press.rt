@@ -1,12 +1,138 @@
 ghost use Rattle.std.specs.Prelude.{◌≡◌};
-ghost use Rattle.cell_stations.specs.PressProgram.{press_steps, step_motor};
+ghost use Rattle.cell_stations.specs.PressProgram as program;
 
-use crate::press_step::{PressProgress, PressStep};
 use cell_calib::{PressSense, SensorFault};
-use cell_control::{Controller, Program};
+use cell_control::{Controller, Program, Row, Waits};
 use cell_devices::{Direction, Motor, PressAct, press_to_bottom, press_to_middle, press_to_top};
 use cell_rules::State;
 use cell_types::{Call, Machine, Place, Pose, Posture, Refusal, Zone};
+
+/// A step of the press's program.
+#[derive(Clone, Copy, Debug, PartialEq, Eq)]
+pub enum PressStep {
+    /// Claims its interior for the first time.
+    ClaimFirst,
+    /// Sets out for the middle.
+    LeaveForMiddle,
+    /// Travels to the middle.
+    MoveToMiddle,
+    /// Has arrived at the middle.
+    PoseMiddle,
+    /// Lets the robot in with a plate.
+    ReleaseInterior,
+    /// Waits for the plate and takes it.
+    TakePlate,
+    /// Sets out for the top.
+    LeaveForTop,
+    /// Travels to the top.
+    MoveToTop,
+    /// Has arrived at the top.
+    PoseTop,
+    /// Forges the plate.
+    Forge,
+    /// Sets out for the bottom.
+    LeaveForBottom,
+    /// Travels to the bottom.
+    MoveToBottom,
+    /// Has arrived at the bottom.
+    PoseLow,
+    /// Lets the robot in for the plate, when its arm has room.
+    GivePlate,
+    /// Waits until the robot has left.
+    ClaimBack,
+}
+
+/// The press's step in its program, with its notes.
+#[derive(Clone, Copy, Debug, PartialEq, Eq)]
+pub struct PressProgress {
+    pub step: PressStep,
+    /// Whether a plate that isn't forged is in the press.
+    pub loaded: bool,
+    /// Whether a forged plate is in the press.
+    pub forged: bool,
+    /// The last direction of its motor.
+    pub direction: Direction,
+}
+
+impl PressProgress {
+    // The row of its step.
+    fn row(self) -> Row<PressProgress>
+        ensures { result ≡ program.row_of self }
+    {
+        match self.step {
+            PressStep::ClaimFirst => self.asks(Call::Claim(Zone::Z3), self.by_plates()),
+            PressStep::LeaveForMiddle => self.poses(Pose::Travelling, PressStep::MoveToMiddle),
+            PressStep::MoveToMiddle => self.drives(PressStep::PoseMiddle),
+            PressStep::PoseMiddle => self.poses(Pose::Middle, PressStep::ReleaseInterior),
+            PressStep::ReleaseInterior => self.asks(Call::Release(Zone::Z3), PressStep::TakePlate),
+            PressStep::TakePlate => self
+                .with_plates(true, self.forged)
+                .asks(Call::Take(Zone::Z3), PressStep::LeaveForTop)
+                .waits(Waits::UntilOwner),
+            PressStep::LeaveForTop => self.poses(Pose::Travelling, PressStep::MoveToTop),
+            PressStep::MoveToTop => self.drives(PressStep::PoseTop),
+            PressStep::PoseTop => self.poses(Pose::Top, PressStep::Forge),
+            PressStep::Forge => self
+                .with_plates(false, true)
+                .asks(Call::Advance, PressStep::LeaveForBottom),
+            PressStep::LeaveForBottom => self.poses(Pose::Travelling, PressStep::MoveToBottom),
+            PressStep::MoveToBottom => self.drives(PressStep::PoseLow),
+            PressStep::PoseLow => self.poses(Pose::Low, PressStep::GivePlate),
+            PressStep::GivePlate => self
+                .with_plates(self.loaded, false)
+                .asks(Call::Give(Zone::Z3), PressStep::ClaimBack)
+                .waits(Waits::UntilRoom),
+            PressStep::ClaimBack => self
+                .asks(Call::Claim(Zone::Z3), PressStep::LeaveForMiddle)
+                .waits(Waits::UntilFree),
+        }
+    }
+
+    // The row of a step that asks, with its next step.
+    fn asks(self, call: Call, next: PressStep) -> Row<PressProgress>
+        ensures { result ≡ program.asks self call next }
+    {
+        Row::asks(call, PressProgress { step: next, ..self })
+    }
+
+    // The row of a step that sets a pose.
+    fn poses(self, pose: Pose, next: PressStep) -> Row<PressProgress>
+        ensures { result ≡ program.poses self pose next }
+    {
+        self.asks(Call::SetPose(pose), next)
+    }
+
+    // The row of a step that drives.
+    fn drives(self, next: PressStep) -> Row<PressProgress>
+        ensures { result ≡ program.drives self next }
+    {
+        Row::drives(PressProgress { step: next, ..self })
+    }
+
+    // The same step with other notes of its plates.
+    fn with_plates(self, loaded: bool, forged: bool) -> PressProgress
+        ensures { result ≡ program.with_plates self loaded forged }
+    {
+        PressProgress {
+            loaded,
+            forged,
+            ..self
+        }
+    }
+
+    // The step after the first claim, by the plates in the press.
+    fn by_plates(self) -> PressStep
+        ensures { result ≡ program.by_plates self }
+    {
+        if self.forged {
+            PressStep::LeaveForBottom
+        } else if self.loaded {
+            PressStep::LeaveForTop
+        } else {
+            PressStep::LeaveForMiddle
+        }
+    }
+}
 
 /// The press's program.
 #[derive(Clone, Copy, Debug, PartialEq, Eq)]
@@ -24,7 +150,7 @@ impl Program for PressProgram {
 
     type Act = PressAct;
 
-    ghost steps = { λ _. press_steps };
+    ghost steps = { λ _. program.press_steps };
 
     fn start(&self, state: &State) -> PressProgress {
         PressProgress {
@@ -36,35 +162,11 @@ impl Program for PressProgram {
     }
 
     fn call(&self, progress: PressProgress) -> Option<Call> {
-        match progress.step {
-            PressStep::ClaimFirst | PressStep::ClaimBack => Some(Call::Claim(Zone::Z3)),
-            PressStep::LeaveForMiddle | PressStep::LeaveForTop | PressStep::LeaveForBottom => {
-                Some(Call::SetPose(Pose::Travelling))
-            }
-            PressStep::MoveToMiddle | PressStep::MoveToTop | PressStep::MoveToBottom => None,
-            PressStep::PoseMiddle => Some(Call::SetPose(Pose::Middle)),
-            PressStep::ReleaseInterior => Some(Call::Release(Zone::Z3)),
-            PressStep::TakePlate => Some(Call::Take(Zone::Z3)),
-            PressStep::PoseTop => Some(Call::SetPose(Pose::Top)),
-            PressStep::Forge => Some(Call::Advance),
-            PressStep::PoseLow => Some(Call::SetPose(Pose::Low)),
-            PressStep::GivePlate => Some(Call::Give(Zone::Z3)),
-        }
+        progress.row().call
     }
 
     fn after_done(&self, progress: PressProgress) -> PressProgress {
-        let PressProgress {
-            step,
-            loaded,
-            forged,
-            direction,
-        } = progress;
-        PressProgress {
-            step: step.next(loaded, forged),
-            loaded: step.loaded_after(loaded),
-            forged: step.forged_after(forged),
-            direction,
-        }
+        progress.row().next
     }
 
     fn after_inquiry(
@@ -78,12 +180,7 @@ impl Program for PressProgram {
     }
 
     fn stays_on(&self, progress: PressProgress, refusal: Refusal) -> bool {
-        matches!(
-            (progress.step, refusal),
-            (PressStep::TakePlate, Refusal::NotOwner(_))
-                | (PressStep::GivePlate, Refusal::PlaceFull)
-                | (PressStep::ClaimBack, Refusal::Held(_))
-        )
+        progress.row().waits.stays_on(refusal)
     }
 
     fn check(&self, sense: &PressSense) -> Result<PressSense, SensorFault> {
@@ -121,7 +218,7 @@ impl Program for PressProgram {
 
 // The motor's command in a step.
 fn motor(progress: PressProgress, press: PressSense) -> Motor
-    ensures { result ≡ step_motor progress.step progress.direction press }
+    ensures { result ≡ program.step_motor progress.step progress.direction press }
 {
     match progress.step {
         PressStep::MoveToMiddle => press_to_middle(&press, progress.direction),

@@ -1,13 +1,153 @@
-ghost use Rattle.std.specs.Prelude.{◌≡◌};
-ghost use Rattle.cell_devices.specs.Drives.{DrivesTo};
-ghost use Rattle.cell_stations.specs.TableProgram.{table_steps, rotation_stop};
+ghost use Rattle.std.specs.Prelude.{◌≡◌, ◌≤◌, IfSome};
+ghost use Rattle.cell_devices.specs.Drives.{DrivesTo, narrowest_half};
+ghost use Rattle.cell_stations.specs.TableProgram as program;
 
-use crate::table_step::{TableProgress, TableReading, TableStep};
 use cell_calib::{Calibration, Gauge, SensorFault, TableSense};
-use cell_control::{Controller, Program};
-use cell_devices::{Motor, TableAct, drive_to};
+use cell_control::{Controller, Program, Row, Waits};
+use cell_devices::stops::{TURN_LOADING, TURN_UNLOADING};
+use cell_devices::{Motor, Stop, TableAct, drive_to, table_to_bottom, table_to_top};
 use cell_rules::State;
 use cell_types::{Call, Machine, Place, Pose, Posture, Refusal, Zone};
+
+/// A step of the table's program.
+#[derive(Clone, Copy, Debug, PartialEq, Eq)]
+pub enum TableStep {
+    /// Claims the zone shared with the feed belt for the first time.
+    ClaimEntry,
+    /// Claims the zone shared with the robot for the first time.
+    ClaimExit,
+    /// Sets out for the feed belt.
+    LeaveForLoading,
+    /// Goes down and turns to the feed belt.
+    MoveToLoading,
+    /// Has arrived at the feed belt.
+    PoseLoading,
+    /// Lets the feed belt give a plate.
+    ReleaseEntry,
+    /// Waits for the plate and takes it.
+    TakePlate,
+    /// Sets out for the robot.
+    LeaveForUnloading,
+    /// Goes up and turns to the robot.
+    MoveToUnloading,
+    /// Has arrived at the robot.
+    PoseUnloading,
+    /// Hands the plate to the robot, when its arm has room.
+    GivePlate,
+    /// Waits until the robot has left.
+    ClaimBack,
+}
+
+/// The table's step in its program, with its note.
+#[derive(Clone, Copy, Debug, PartialEq, Eq)]
+pub struct TableProgress {
+    pub step: TableStep,
+    /// Whether a plate is on the table.
+    pub loaded: bool,
+}
+
+/// What the table's sensors say after the check.
+#[derive(Clone, Copy, Debug, PartialEq, Eq)]
+pub struct TableReading {
+    /// The switches, which don't clash, and the raw value.
+    pub sense: TableSense,
+    /// The position of the rotation, in tenths of a degree.
+    pub turn: i32,
+}
+
+impl TableProgress {
+    // The row of its step.
+    fn row(self) -> Row<TableProgress>
+        ensures { result ≡ program.row_of self }
+    {
+        match self.step {
+            TableStep::ClaimEntry => self.asks(Call::Claim(Zone::Z1), TableStep::ClaimExit),
+            TableStep::ClaimExit => self.asks(Call::Claim(Zone::Z2), self.by_plate()),
+            TableStep::LeaveForLoading => self.poses(Pose::Turning, TableStep::MoveToLoading),
+            TableStep::MoveToLoading => self.drives(TableStep::PoseLoading),
+            TableStep::PoseLoading => self.poses(Pose::Loading, TableStep::ReleaseEntry),
+            TableStep::ReleaseEntry => self.asks(Call::Release(Zone::Z1), TableStep::TakePlate),
+            TableStep::TakePlate => self
+                .with_plate(true)
+                .asks(Call::Take(Zone::Z1), TableStep::LeaveForUnloading)
+                .waits(Waits::UntilOwner),
+            TableStep::LeaveForUnloading => self.poses(Pose::Turning, TableStep::MoveToUnloading),
+            TableStep::MoveToUnloading => self.drives(TableStep::PoseUnloading),
+            TableStep::PoseUnloading => self.poses(Pose::Unloading, TableStep::GivePlate),
+            TableStep::GivePlate => self
+                .with_plate(false)
+                .asks(Call::Give(Zone::Z2), TableStep::ClaimBack)
+                .waits(Waits::UntilRoom),
+            TableStep::ClaimBack => self
+                .asks(Call::Claim(Zone::Z2), TableStep::LeaveForLoading)
+                .waits(Waits::UntilFree),
+        }
+    }
+
+    // The row of a step that asks, with its next step.
+    fn asks(self, call: Call, next: TableStep) -> Row<TableProgress>
+        ensures { result ≡ program.asks self call next }
+    {
+        Row::asks(call, TableProgress { step: next, ..self })
+    }
+
+    // The row of a step that sets a pose.
+    fn poses(self, pose: Pose, next: TableStep) -> Row<TableProgress>
+        ensures { result ≡ program.poses self pose next }
+    {
+        self.asks(Call::SetPose(pose), next)
+    }
+
+    // The row of a step that drives.
+    fn drives(self, next: TableStep) -> Row<TableProgress>
+        ensures { result ≡ program.drives self next }
+    {
+        Row::drives(TableProgress { step: next, ..self })
+    }
+
+    // The same step with another note of its plate.
+    fn with_plate(self, loaded: bool) -> TableProgress
+        ensures { result ≡ program.with_plate self loaded }
+    {
+        TableProgress { loaded, ..self }
+    }
+
+    // The step after the first claims, by the plate on the table.
+    fn by_plate(self) -> TableStep
+        ensures { result ≡ program.by_plate self }
+    {
+        if self.loaded {
+            TableStep::LeaveForUnloading
+        } else {
+            TableStep::LeaveForLoading
+        }
+    }
+}
+
+impl TableStep {
+    // The height motor's command in the step.
+    fn height(self, table: &TableSense) -> Motor
+        ensures { result ≡ program.height_for self table.now }
+    {
+        match self {
+            TableStep::MoveToLoading => table_to_bottom(table),
+            TableStep::MoveToUnloading => table_to_top(table),
+            _ => Motor::Off,
+        }
+    }
+
+    // The rotation that the step turns to.
+    fn stop(self) -> Option<Stop>
+        ensures stop { result ≡ program.rotation_stop self }
+        ensures half { IfSome result (λ s. narrowest_half ≤ s.half) }
+    {
+        match self {
+            TableStep::MoveToLoading => Some(TURN_LOADING),
+            TableStep::MoveToUnloading => Some(TURN_UNLOADING),
+            _ => None,
+        }
+    }
+}
 
 /// The table's program, with the calibration of its rotation.
 #[derive(Drop)]
@@ -36,7 +176,7 @@ impl<F: Gauge> Program for TableProgram<F> {
 
     type Act = TableAct;
 
-    ghost steps = { λ t. table_steps t.turn.points (λ raw v. F.gives t.turn.gauge raw v) };
+    ghost steps = { λ t. program.table_steps t.turn.points (λ raw v. F.gives t.turn.gauge raw v) };
 
     fn start(&self, state: &State) -> TableProgress {
         TableProgress {
@@ -46,27 +186,11 @@ impl<F: Gauge> Program for TableProgram<F> {
     }
 
     fn call(&self, progress: TableProgress) -> Option<Call> {
-        match progress.step {
-            TableStep::ClaimEntry => Some(Call::Claim(Zone::Z1)),
-            TableStep::ClaimExit | TableStep::ClaimBack => Some(Call::Claim(Zone::Z2)),
-            TableStep::LeaveForLoading | TableStep::LeaveForUnloading => {
-                Some(Call::SetPose(Pose::Turning))
-            }
-            TableStep::MoveToLoading | TableStep::MoveToUnloading => None,
-            TableStep::PoseLoading => Some(Call::SetPose(Pose::Loading)),
-            TableStep::ReleaseEntry => Some(Call::Release(Zone::Z1)),
-            TableStep::TakePlate => Some(Call::Take(Zone::Z1)),
-            TableStep::PoseUnloading => Some(Call::SetPose(Pose::Unloading)),
-            TableStep::GivePlate => Some(Call::Give(Zone::Z2)),
-        }
+        progress.row().call
     }
 
     fn after_done(&self, progress: TableProgress) -> TableProgress {
-        let TableProgress { step, loaded } = progress;
-        TableProgress {
-            step: step.next(loaded),
-            loaded: step.loaded_after(loaded),
-        }
+        progress.row().next
     }
 
     fn after_inquiry(
@@ -80,12 +204,7 @@ impl<F: Gauge> Program for TableProgram<F> {
     }
 
     fn stays_on(&self, progress: TableProgress, refusal: Refusal) -> bool {
-        matches!(
-            (progress.step, refusal),
-            (TableStep::TakePlate, Refusal::NotOwner(_))
-                | (TableStep::GivePlate, Refusal::PlaceFull)
-                | (TableStep::ClaimBack, Refusal::Held(_))
-        )
+        progress.row().waits.stays_on(refusal)
     }
 
     fn check(&self, sense: &TableSense) -> Result<TableReading, SensorFault> {
@@ -127,7 +246,7 @@ impl<F: Gauge> Program for TableProgram<F> {
 
 // The rotation motor's command in a step.
 fn rotation<F: Gauge>(turn: &Calibration<F>, step: TableStep, read: i32) -> Motor
-    ensures { DrivesTo (rotation_stop step) turn.now.points.tol read result }
+    ensures { DrivesTo (program.rotation_stop step) turn.now.points.tol read result }
 {
     drive_to(step.stop(), turn.tol(), read)
 }
