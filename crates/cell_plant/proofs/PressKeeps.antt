@@ -28,10 +28,10 @@ use Rattle.cell_rules.specs.Start.{IsStartState}
 use Rattle.cell_rules.proofs.OwnSide.{posture-foreign}
 use Rattle.cell_control.specs.declared.fault.CtlFault.{CtlFault}
 use Rattle.cell_control.specs.Turns.{Turned, Turns}
-use Rattle.cell_stations.specs.declared.press_step.PressStep.{PressStep}
-use Rattle.cell_stations.specs.declared.press_step.PressStep.TheVariants.{ClaimFirst, LeaveForMiddle, MoveToMiddle, PoseMiddle, ReleaseInterior, TakePlate, LeaveForTop, MoveToTop, PoseTop, Forge, LeaveForBottom, MoveToBottom, PoseLow, GivePlate, ClaimBack}
-use Rattle.cell_stations.specs.declared.press_step.PressProgress.{PressProgress}
-use Rattle.cell_stations.specs.PressProgram.{call_of, step_after, after_done, step_motor, act_for, after_motor, clashes, press_start, press_steps}
+use Rattle.cell_stations.specs.declared.press.PressStep.{PressStep}
+use Rattle.cell_stations.specs.declared.press.PressStep.TheVariants.{ClaimFirst, LeaveForMiddle, MoveToMiddle, PoseMiddle, ReleaseInterior, TakePlate, LeaveForTop, MoveToTop, PoseTop, Forge, LeaveForBottom, MoveToBottom, PoseLow, GivePlate, ClaimBack}
+use Rattle.cell_stations.specs.declared.press.PressProgress.{PressProgress}
+use Rattle.cell_stations.specs.PressProgram.{with_plates, by_plates, row_at, row_of, after_done, step_motor, act_for, after_motor, clashes, press_start, press_steps}
 use Rattle.cell_control.proofs.Facts.{Finds}
 use Rattle.cell_stations.proofs.PressFacts.{PressKnows, press-knowing, drives_at}
 use Rattle.cell_seat.specs.Sides.{act_or_rest}
@@ -79,42 +79,45 @@ bottom_moved : (a : Axis) → RestsAtBottom a → RestsAtBottom (moved_press a)
 bottom_moved a r = (r.0, rw r.0 r.1)
 
 -- a Done call that leaves the press open is the pose that opened it, or the press was open before
-opened_in : (s : PressStep) (c : Call) (z : ModelState) → call_of s ≡ Some c → posture_at (changed z Press c) Z3 ≡ OpenIn → (posture_at z Z3 ≡ OpenIn) ⊎ (s ≡ PoseMiddle)
-opened_in ClaimFirst (Claim Z3) z e o = inl o
-opened_in LeaveForMiddle (SetPose Travelling) z e o = cc
-opened_in PoseMiddle (SetPose Middle) z e o = inr refl
-opened_in ReleaseInterior (Release Z3) z e o = inl o
-opened_in TakePlate (Take Z3) z e o = inl o
-opened_in LeaveForTop (SetPose Travelling) z e o = cc
-opened_in PoseTop (SetPose Top) z e o = cc
-opened_in Forge Advance z e o = inl o
-opened_in LeaveForBottom (SetPose Travelling) z e o = cc
-opened_in PoseLow (SetPose Low) z e o = cc
-opened_in GivePlate (Give Z3) z e o = inl o
-opened_in ClaimBack (Claim Z3) z e o = inl o
-opened_in s c z e o = cc
+opened_in : (s : PressStep) (p : PressProgress) (c : Call) (z : ModelState) → (row_at s p).call ≡ Some c → posture_at (changed z Press c) Z3 ≡ OpenIn → (posture_at z Z3 ≡ OpenIn) ⊎ (s ≡ PoseMiddle)
+opened_in ClaimFirst p (Claim Z3) z e o = inl o
+opened_in LeaveForMiddle p (SetPose Travelling) z e o = cc
+opened_in PoseMiddle p (SetPose Middle) z e o = inr refl
+opened_in ReleaseInterior p (Release Z3) z e o = inl o
+opened_in TakePlate p (Take Z3) z e o = inl o
+opened_in LeaveForTop p (SetPose Travelling) z e o = cc
+opened_in PoseTop p (SetPose Top) z e o = cc
+opened_in Forge p Advance z e o = inl o
+opened_in LeaveForBottom p (SetPose Travelling) z e o = cc
+opened_in PoseLow p (SetPose Low) z e o = cc
+opened_in GivePlate p (Give Z3) z e o = inl o
+opened_in ClaimBack p (Claim Z3) z e o = inl o
+opened_in s p c z e o = cc
 
-opened_out : (s : PressStep) (c : Call) (z : ModelState) → call_of s ≡ Some c → posture_at (changed z Press c) Z3 ≡ OpenOut → (posture_at z Z3 ≡ OpenOut) ⊎ (s ≡ PoseLow)
-opened_out ClaimFirst (Claim Z3) z e o = inl o
-opened_out LeaveForMiddle (SetPose Travelling) z e o = cc
-opened_out PoseMiddle (SetPose Middle) z e o = cc
-opened_out ReleaseInterior (Release Z3) z e o = inl o
-opened_out TakePlate (Take Z3) z e o = inl o
-opened_out LeaveForTop (SetPose Travelling) z e o = cc
-opened_out PoseTop (SetPose Top) z e o = cc
-opened_out Forge Advance z e o = inl o
-opened_out LeaveForBottom (SetPose Travelling) z e o = cc
-opened_out PoseLow (SetPose Low) z e o = inr refl
-opened_out GivePlate (Give Z3) z e o = inl o
-opened_out ClaimBack (Claim Z3) z e o = inl o
-opened_out s c z e o = cc
+opened_out : (s : PressStep) (p : PressProgress) (c : Call) (z : ModelState) → (row_at s p).call ≡ Some c → posture_at (changed z Press c) Z3 ≡ OpenOut → (posture_at z Z3 ≡ OpenOut) ⊎ (s ≡ PoseLow)
+opened_out ClaimFirst p (Claim Z3) z e o = inl o
+opened_out LeaveForMiddle p (SetPose Travelling) z e o = cc
+opened_out PoseMiddle p (SetPose Middle) z e o = cc
+opened_out ReleaseInterior p (Release Z3) z e o = inl o
+opened_out TakePlate p (Take Z3) z e o = inl o
+opened_out LeaveForTop p (SetPose Travelling) z e o = cc
+opened_out PoseTop p (SetPose Top) z e o = cc
+opened_out Forge p Advance z e o = inl o
+opened_out LeaveForBottom p (SetPose Travelling) z e o = cc
+opened_out PoseLow p (SetPose Low) z e o = inr refl
+opened_out GivePlate p (Give Z3) z e o = inl o
+opened_out ClaimBack p (Claim Z3) z e o = inl o
+opened_out s p c z e o = cc
 
 -- the next step isn't one that is reached by a drive
-not_driven : (s : PressStep) (loaded forged : Bool) (c : Call) → call_of s ≡ Some c → (step_after s loaded forged ≡ PoseMiddle → ⊥) × (step_after s loaded forged ≡ PoseLow → ⊥)
-not_driven ClaimFirst loaded true c e = (λ q. cc, λ q. cc)
-not_driven ClaimFirst true false c e = (λ q. cc, λ q. cc)
-not_driven ClaimFirst false false c e = (λ q. cc, λ q. cc)
-not_driven s loaded forged c e = (λ q. cc, λ q. cc)
+chosen : (loaded forged : Bool) (p : PressProgress) → (by_plates (with_plates p loaded forged) ≡ PoseMiddle → ⊥) × (by_plates (with_plates p loaded forged) ≡ PoseLow → ⊥)
+chosen loaded true p = (λ q. cc, λ q. cc)
+chosen true false p = (λ q. cc, λ q. cc)
+chosen false false p = (λ q. cc, λ q. cc)
+
+not_driven : (s : PressStep) (p : PressProgress) (c : Call) → (row_at s p).call ≡ Some c → ((row_at s p).next.step ≡ PoseMiddle → ⊥) × ((row_at s p).next.step ≡ PoseLow → ⊥)
+not_driven ClaimFirst p c e = chosen p.loaded p.forged p
+not_driven s p c e = (λ q. cc, λ q. cc)
 
 -- the next step of a drive, and when it comes
 motor_at_middle : (last : Direction) (b m t : Bool) → (if m then Off else (if b then Plus else (if t then Minus else motor_of last))) ≡ Off → m ≡ true
@@ -128,23 +131,23 @@ motor_at_bottom : (b : Bool) → (if b then Off else Minus) ≡ Off → b ≡ tr
 motor_at_bottom true e = refl
 motor_at_bottom false e = cc
 
-driven_to_middle : (s : PressStep) (loaded forged : Bool) (last : Direction) (x : PressSense) → call_of s ≡ None → step_motor s last x ≡ Off → step_after s loaded forged ≡ PoseMiddle → x.middle ≡ true
-driven_to_middle MoveToMiddle loaded forged last x e m q = motor_at_middle last x.bottom x.middle x.top m
-driven_to_middle MoveToTop loaded forged last x e m q = cc
-driven_to_middle MoveToBottom loaded forged last x e m q = cc
-driven_to_middle s loaded forged last x e m q = cc
+driven_to_middle : (s : PressStep) (p : PressProgress) (last : Direction) (x : PressSense) → (row_at s p).call ≡ None → step_motor s last x ≡ Off → (row_at s p).next.step ≡ PoseMiddle → x.middle ≡ true
+driven_to_middle MoveToMiddle p last x e m q = motor_at_middle last x.bottom x.middle x.top m
+driven_to_middle MoveToTop p last x e m q = cc
+driven_to_middle MoveToBottom p last x e m q = cc
+driven_to_middle s p last x e m q = cc
 
-driven_to_bottom : (s : PressStep) (loaded forged : Bool) (last : Direction) (x : PressSense) → call_of s ≡ None → step_motor s last x ≡ Off → step_after s loaded forged ≡ PoseLow → x.bottom ≡ true
-driven_to_bottom MoveToMiddle loaded forged last x e m q = cc
-driven_to_bottom MoveToTop loaded forged last x e m q = cc
-driven_to_bottom MoveToBottom loaded forged last x e m q = motor_at_bottom x.bottom m
-driven_to_bottom s loaded forged last x e m q = cc
+driven_to_bottom : (s : PressStep) (p : PressProgress) (last : Direction) (x : PressSense) → (row_at s p).call ≡ None → step_motor s last x ≡ Off → (row_at s p).next.step ≡ PoseLow → x.bottom ≡ true
+driven_to_bottom MoveToMiddle p last x e m q = cc
+driven_to_bottom MoveToTop p last x e m q = cc
+driven_to_bottom MoveToBottom p last x e m q = motor_at_bottom x.bottom m
+driven_to_bottom s p last x e m q = cc
 
-asks_at : (s : PressStep) → call_of s ≡ None → (s ≡ PoseMiddle → ⊥) × (s ≡ PoseLow → ⊥)
-asks_at MoveToMiddle e = (λ q. cc, λ q. cc)
-asks_at MoveToTop e = (λ q. cc, λ q. cc)
-asks_at MoveToBottom e = (λ q. cc, λ q. cc)
-asks_at s e = cc
+asks_at : (s : PressStep) (p : PressProgress) → (row_at s p).call ≡ None → (s ≡ PoseMiddle → ⊥) × (s ≡ PoseLow → ⊥)
+asks_at MoveToMiddle p e = (λ q. cc, λ q. cc)
+asks_at MoveToTop p e = (λ q. cc, λ q. cc)
+asks_at MoveToBottom p e = (λ q. cc, λ q. cc)
+asks_at s p e = cc
 
 not_moving : (q : Posture) → q ≡ Moving → (q ≡ OpenIn → ⊥) × (q ≡ OpenOut → ⊥)
 not_moving q e = (λ o. cc, λ o. cc)
@@ -170,32 +173,32 @@ module _ (z : ModelState) (p : PressProgress) (a : Axis) (i : PressInv z p a) wh
   rests_bottom (inl o) = (refl, (i.open_out o).1)
   rests_bottom (inr e) = (refl, (i.at_bottom e).1)
 
-  done : (c : Call) → call_of p.step ≡ Some c → reply z Press c ≡ Done → IsSound z → PressInv (changed z Press c) (after_done p) (set_axis a Off)
+  done : (c : Call) → (row_of p).call ≡ Some c → reply z Press c ≡ Done → IsSound z → PressInv (changed z Press c) (after_done p) (set_axis a Off)
   done c e d sound =
-      let leads = not_driven p.step p.loaded p.forged c e in
+      let leads = not_driven p.step p c e in
       record {
         knows = press-knowing.after_done p z c e d sound i.knows;
         within = i.within;
-        open_in = λ o. rests_middle (opened_in p.step c z e o);
-        open_out = λ o. rests_bottom (opened_out p.step c z e o);
+        open_in = λ o. rests_middle (opened_in p.step p c z e o);
+        open_out = λ o. rests_bottom (opened_out p.step p c z e o);
         at_middle = λ q. absurd (leads.0 q);
         at_bottom = λ q. absurd (leads.1 q);
       }
 
   -- it was driven
-  module _ (x : PressSense) (shows : PressShows a x) (drives : call_of p.step ≡ None) where
+  module _ (x : PressSense) (shows : PressShows a x) (drives : (row_of p).call ≡ None) where
     is_moving : posture_at z Z3 ≡ Moving
-    is_moving = (drives_at p.step z drives i.knows).1
+    is_moving = (drives_at p.step p z drives i.knows).1
 
     driven_middle : (m : Motor) → step_motor p.step p.direction x ≡ m → (after_motor p m).step ≡ PoseMiddle → RestsAtMiddle (set_axis a m)
-    driven_middle Off e q = (refl, shows.middle.0 (driven_to_middle p.step p.loaded p.forged p.direction x drives e q))
-    driven_middle Plus e q = absurd ((asks_at p.step drives).0 q)
-    driven_middle Minus e q = absurd ((asks_at p.step drives).0 q)
+    driven_middle Off e q = (refl, shows.middle.0 (driven_to_middle p.step p p.direction x drives e q))
+    driven_middle Plus e q = absurd ((asks_at p.step p drives).0 q)
+    driven_middle Minus e q = absurd ((asks_at p.step p drives).0 q)
 
     driven_bottom : (m : Motor) → step_motor p.step p.direction x ≡ m → (after_motor p m).step ≡ PoseLow → RestsAtBottom (set_axis a m)
-    driven_bottom Off e q = (refl, shows.bottom.0 (driven_to_bottom p.step p.loaded p.forged p.direction x drives e q))
-    driven_bottom Plus e q = absurd ((asks_at p.step drives).1 q)
-    driven_bottom Minus e q = absurd ((asks_at p.step drives).1 q)
+    driven_bottom Off e q = (refl, shows.bottom.0 (driven_to_bottom p.step p p.direction x drives e q))
+    driven_bottom Plus e q = absurd ((asks_at p.step p drives).1 q)
+    driven_bottom Minus e q = absurd ((asks_at p.step p drives).1 q)
 
     drive : PressInv z (after_motor p (act_for p x).press) (set_press a (act_for p x))
     drive = record {
@@ -247,7 +250,7 @@ PressMoves = WhileOn Press IsOn (λ p. Finds Z3 Moving ∷ [])
 
 pub press-demanding : Demanding press_steps press_rig PressInv PressInv PressMoves
 press-demanding =
-    demanding_while_on press_steps press_rig PressInv PressInv IsOn (λ p. Finds Z3 Moving ∷ []) (λ p b on. on refl) (λ z p b x r act e shows senses drives i on. (drives_at p.step z e i.knows, tt)) (λ b on. on)
+    demanding_while_on press_steps press_rig PressInv PressInv IsOn (λ p. Finds Z3 Moving ∷ []) (λ p b on. on refl) (λ z p b x r act e shows senses drives i on. (drives_at p.step p z e i.knows, tt)) (λ b on. on)
 
 -- at an end of the axis its switch is on, and the motor isn't commanded to go on
 down_to_middle : (last : Direction) (b m t : Bool) → b ≡ true → m ≡ false → (if m then Off else (if b then Plus else (if t then Minus else motor_of last))) ≡ Minus → ⊥

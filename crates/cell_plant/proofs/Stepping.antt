@@ -19,7 +19,7 @@ use Rattle.cell_control.specs.Rigs.{Rig}
 use Rattle.cell_robot.specs.declared.robot_step.RobotProgress.{RobotProgress}
 use Rattle.cell_robot.specs.RobotProgram.{RobotScales, RobotGauges, near_lines, Senses as RobotSenses, robot_steps}
 use Rattle.cell_robot.proofs.RobotSenses.{senses_near as robot_senses_near}
-use Rattle.cell_stations.specs.declared.table_step.TableProgress.{TableProgress}
+use Rattle.cell_stations.specs.declared.table.TableProgress.{TableProgress}
 use Rattle.cell_control.specs.declared.fault.CtlFault.{CtlFault}
 use Rattle.cell_haul.specs.declared.crane_step.CraneProgress.{CraneProgress}
 use Rattle.cell_haul.specs.CraneProgram.{Senses as CraneSenses, crane_steps}

@@ -25,15 +25,15 @@ use Rattle.cell_rules.specs.Reply.{reply, changed}
 use Rattle.cell_rules.specs.History.{posture_given}
 use Rattle.cell_rules.proofs.OwnSide.{posture-foreign}
 use Rattle.cell_rules.proofs.Postures.{posture-changed}
-use Rattle.cell_stations.specs.declared.table_step.TableStep.{TableStep}
-use Rattle.cell_stations.specs.declared.table_step.TableStep.TheVariants.{ClaimEntry, ClaimExit, LeaveForLoading, MoveToLoading, PoseLoading, ReleaseEntry, TakePlate, LeaveForUnloading, MoveToUnloading, PoseUnloading, GivePlate, ClaimBack}
-use Rattle.cell_stations.specs.declared.table_step.TableProgress.{TableProgress}
+use Rattle.cell_stations.specs.declared.table.TableStep.{TableStep}
+use Rattle.cell_stations.specs.declared.table.TableStep.TheVariants.{ClaimEntry, ClaimExit, LeaveForLoading, MoveToLoading, PoseLoading, ReleaseEntry, TakePlate, LeaveForUnloading, MoveToUnloading, PoseUnloading, GivePlate, ClaimBack}
+use Rattle.cell_stations.specs.declared.table.TableProgress.{TableProgress}
 use Rattle.cell_parts.specs.Axes.{IsAxisScale, IsWithin, lift_end, turn_end}
 use Rattle.cell_parts.specs.Plant.{TablePlant, table_at_start, set_axis, set_table, moved_table}
 use Rattle.cell_control.specs.declared.fault.CtlFault.{CtlFault}
 use Rattle.cell_control.specs.Turns.{Turned, Turns}
-use Rattle.cell_stations.specs.declared.table_step.TableReading.{TableReading}
-use Rattle.cell_stations.specs.TableProgram.{call_of, step_after, after_done, is_off, after_act, height_for, rotation_stop, Senses, Acts, table_start, table_steps}
+use Rattle.cell_stations.specs.declared.table.TableReading.{TableReading}
+use Rattle.cell_stations.specs.TableProgram.{with_plate, by_plate, row_at, row_of, after_done, is_off, after_act, height_for, rotation_stop, Senses, Acts, table_start, table_steps}
 use Rattle.cell_control.proofs.Facts.{Finds}
 use Rattle.cell_stations.proofs.TableFacts.{TableKnows, table-knowing, drives_at}
 use Rattle.cell_seat.specs.Sides.{act_or_rest}
@@ -88,27 +88,27 @@ rests-moved t r =
     }
 
 -- among the calls of its steps only the one at the loading place opens the table to the feed belt
-opened : (s : TableStep) (c : Call) (q : Posture) (R : Type 0) → call_of s ≡ Some c → (q ≡ OpenIn → R) → (s ≡ PoseLoading → R) → posture_given TableMachine c Z1 q ≡ OpenIn → R
-opened ClaimEntry (Claim Z1) q R e f g o = f o
-opened ClaimExit (Claim Z2) q R e f g o = f o
-opened LeaveForLoading (SetPose Turning) q R e f g o = cc
-opened PoseLoading (SetPose Loading) q R e f g o = g refl
-opened ReleaseEntry (Release Z1) q R e f g o = f o
-opened TakePlate (Take Z1) q R e f g o = f o
-opened LeaveForUnloading (SetPose Turning) q R e f g o = cc
-opened PoseUnloading (SetPose Unloading) q R e f g o = cc
-opened GivePlate (Give Z2) q R e f g o = f o
-opened ClaimBack (Claim Z2) q R e f g o = f o
-opened s c q R e f g o = cc
+opened : (s : TableStep) (p : TableProgress) (c : Call) (q : Posture) (R : Type 0) → (row_at s p).call ≡ Some c → (q ≡ OpenIn → R) → (s ≡ PoseLoading → R) → posture_given TableMachine c Z1 q ≡ OpenIn → R
+opened ClaimEntry p (Claim Z1) q R e f g o = f o
+opened ClaimExit p (Claim Z2) q R e f g o = f o
+opened LeaveForLoading p (SetPose Turning) q R e f g o = cc
+opened PoseLoading p (SetPose Loading) q R e f g o = g refl
+opened ReleaseEntry p (Release Z1) q R e f g o = f o
+opened TakePlate p (Take Z1) q R e f g o = f o
+opened LeaveForUnloading p (SetPose Turning) q R e f g o = cc
+opened PoseUnloading p (SetPose Unloading) q R e f g o = cc
+opened GivePlate p (Give Z2) q R e f g o = f o
+opened ClaimBack p (Claim Z2) q R e f g o = f o
+opened s p c q R e f g o = cc
 
 -- none of these calls leads to that step
-choice_elsewhere : (loaded : Bool) → step_after ClaimExit loaded ≡ PoseLoading → ⊥
-choice_elsewhere true q = cc
-choice_elsewhere false q = cc
+choice_elsewhere : (loaded : Bool) (p : TableProgress) → by_plate (with_plate p loaded) ≡ PoseLoading → ⊥
+choice_elsewhere true p q = cc
+choice_elsewhere false p q = cc
 
-led_elsewhere : (s : TableStep) (loaded : Bool) (c : Call) → call_of s ≡ Some c → step_after s loaded ≡ PoseLoading → ⊥
-led_elsewhere ClaimExit loaded c e q = choice_elsewhere loaded q
-led_elsewhere s loaded c e q = cc
+led_elsewhere : (s : TableStep) (p : TableProgress) (c : Call) → (row_at s p).call ≡ Some c → (row_at s p).next.step ≡ PoseLoading → ⊥
+led_elsewhere ClaimExit p c e q = choice_elsewhere p.loaded p q
+led_elsewhere s p c e q = cc
 
 -- the reading is within the tolerance of the table's rotation
 turn_near : (points : Scale) (t : TablePlant) (s : TableSense) (r : TableReading) → IsAxisScale turn_end points → IsWithin turn_end t.turn.position → TableShows points t s → Senses points (IsReading points) s (Ok r) → IsNear r.turn t.turn.position points.tol
@@ -136,7 +136,7 @@ rests-loading points t s r act k within shows senses acts off =
       turned = near_loading t.turn.position r.turn points.tol (turn_near points t s r k within shows senses) (acts.rotation.off.0 off.1);
     }
 
-led_by : (b : Bool) (s : TableStep) (loaded : Bool) → call_of s ≡ None → (if b then after_done (record { step = s; loaded = loaded }) else record { step = s; loaded = loaded }).step ≡ PoseLoading → (b ≡ true) × (s ≡ MoveToLoading)
+led_by : (b : Bool) (s : TableStep) (loaded : Bool) → (row_of (record { step = s; loaded = loaded })).call ≡ None → (if b then after_done (record { step = s; loaded = loaded }) else record { step = s; loaded = loaded }).step ≡ PoseLoading → (b ≡ true) × (s ≡ MoveToLoading)
 led_by true MoveToLoading loaded e q = (refl, refl)
 led_by b s loaded e q = cc
 
@@ -153,22 +153,22 @@ at_rest z p t i = record {
 }
 
 module _ (points : Scale) (axis : IsAxisScale turn_end points) where
-  done : (z : ModelState) (p : TableProgress) (t : TablePlant) (c : Call) → call_of p.step ≡ Some c → reply z TableMachine c ≡ Done → IsSound z → TableInv z p t → TableInv (changed z TableMachine c) (after_done p) (set_table t at_rest_act)
+  done : (z : ModelState) (p : TableProgress) (t : TablePlant) (c : Call) → (row_of p).call ≡ Some c → reply z TableMachine c ≡ Done → IsSound z → TableInv z p t → TableInv (changed z TableMachine c) (after_done p) (set_table t at_rest_act)
   done z p t c e d sound i = record {
     knows = (table-knowing points (IsReading points)).after_done p z c e d sound i.knows;
     lift_within = i.lift_within;
     turn_within = i.turn_within;
-    open_in = λ o. rests-off t (opened p.step c (posture_at z Z1) (RestsAtLoading t) e i.open_in i.settled (sym (posture-changed z TableMachine c Z1) ∙ o));
-    settled = λ q. absurd (led_elsewhere p.step p.loaded c e q);
+    open_in = λ o. rests-off t (opened p.step p c (posture_at z Z1) (RestsAtLoading t) e i.open_in i.settled (sym (posture-changed z TableMachine c Z1) ∙ o));
+    settled = λ q. absurd (led_elsewhere p.step p c e q);
   }
 
-  drive : (z : ModelState) (p : TableProgress) (t : TablePlant) (s : TableSense) (r : TableReading) (act : TableAct) → call_of p.step ≡ None → TableShows points t s → Senses points (IsReading points) s (Ok r) → Acts points p.step r act → TableInv z p t
+  drive : (z : ModelState) (p : TableProgress) (t : TablePlant) (s : TableSense) (r : TableReading) (act : TableAct) → (row_of p).call ≡ None → TableShows points t s → Senses points (IsReading points) s (Ok r) → Acts points p.step r act → TableInv z p t
       → TableInv z (after_act p act) (set_table t act)
   drive z p t s r act e shows senses acts i = record {
     knows = (table-knowing points (IsReading points)).after_drive p r act z e acts i.knows;
     lift_within = i.lift_within;
     turn_within = i.turn_within;
-    open_in = λ o. absurd (moving_open (posture_at z Z1) (drives_at p.step z e i.knows).1.0 o);
+    open_in = λ o. absurd (moving_open (posture_at z Z1) (drives_at p.step p z e i.knows).1.0 o);
     settled = λ q.
         let led = led_by (is_off act.height && is_off act.rotation) p.step p.loaded e q in
         rests-loading points t s r act axis i.turn_within shows senses (subst (λ x. Acts points x r act) led.1 acts) (both_off act.height act.rotation led.0);
@@ -205,7 +205,7 @@ TableDrives = WhileOn TableMachine TableMoves (λ p. Finds Z1 Moving ∷ Finds Z
 pub table-demanding : (points : Scale) → Demanding (table_steps points (IsReading points)) (table_rig points) TableInv TableInv TableDrives
 table-demanding points =
     demanding_while_on (table_steps points (IsReading points)) (table_rig points) TableInv TableInv TableMoves (λ p. Finds Z1 Moving ∷ Finds Z2 Moving ∷ []) (λ p b on. off_stands (set_table b at_rest_act) refl refl on)
-    (λ z p b s r act e shows senses drives i on. let at = drives_at p.step z e i.knows in ((at.0.0, at.1.0), ((at.0.1, at.1.1), tt))) (λ b on. on)
+    (λ z p b s r act e shows senses drives i on. let at = drives_at p.step p z e i.knows in ((at.0.0, at.1.0), ((at.0.1, at.1.1), tt))) (λ b on. on)
 
 -- No turn of the table drives it on past an end: the height by its switches, the rotation by its reading, which is
 -- within the tolerance.

@@ -11,8 +11,8 @@ use Rattle.cell_haul.specs.DepositProgram.{deposit_start}
 use Rattle.cell_haul.specs.FeedProgram.{feed_start}
 use Rattle.cell_robot.specs.declared.robot_step.RobotProgress.{RobotProgress}
 use Rattle.cell_robot.specs.RobotProgram.{robot_start}
-use Rattle.cell_stations.specs.declared.press_step.PressProgress.{PressProgress}
-use Rattle.cell_stations.specs.declared.table_step.TableProgress.{TableProgress}
+use Rattle.cell_stations.specs.declared.press.PressProgress.{PressProgress}
+use Rattle.cell_stations.specs.declared.table.TableProgress.{TableProgress}
 use Rattle.cell_stations.specs.PressProgram.{press_start}
 use Rattle.cell_stations.specs.TableProgram.{table_start}
 use Rattle.cell_parts.specs.declared.axis.Axis.{Axis}

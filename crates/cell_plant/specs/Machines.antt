@@ -27,9 +27,9 @@ use Rattle.cell_haul.specs.FeedProgram.{feed_steps}
 use Rattle.cell_robot.specs.declared.robot_step.RobotProgress.{RobotProgress}
 use Rattle.cell_robot.specs.declared.robot_step.RobotReading.{RobotReading}
 use Rattle.cell_robot.specs.RobotProgram.{RobotScales, scales_of, near_lines, robot_steps}
-use Rattle.cell_stations.specs.declared.press_step.PressProgress.{PressProgress}
-use Rattle.cell_stations.specs.declared.table_step.TableProgress.{TableProgress}
-use Rattle.cell_stations.specs.declared.table_step.TableReading.{TableReading}
+use Rattle.cell_stations.specs.declared.press.PressProgress.{PressProgress}
+use Rattle.cell_stations.specs.declared.table.TableProgress.{TableProgress}
+use Rattle.cell_stations.specs.declared.table.TableReading.{TableReading}
 use Rattle.cell_stations.specs.PressProgram.{press_steps}
 use Rattle.cell_stations.specs.TableProgram.{table_steps}
 use Rattle.cell_parts.specs.declared.axis.Axis.{Axis}

@@ -21,8 +21,8 @@ use Rattle.cell_rules.specs.PlaceSet.{empty, insert_place}
 use Rattle.cell_rules.specs.Start.{start_state}
 use Rattle.cell_control.specs.declared.fault.CtlFault.TheVariants.{Memory}
 use Rattle.cell_haul.specs.declared.feed_step.FeedStep.TheVariants.{ClaimExit}
-use Rattle.cell_stations.specs.declared.press_step.PressStep.TheVariants.{MoveToBottom}
-use Rattle.cell_stations.specs.declared.press_step.PressProgress.{PressProgress}
+use Rattle.cell_stations.specs.declared.press.PressStep.TheVariants.{MoveToBottom}
+use Rattle.cell_stations.specs.declared.press.PressProgress.{PressProgress}
 use Rattle.cell_stations.specs.PressProgram.{press_start}
 use Rattle.cell_notes.specs.declared.schedule.Turn.{Turn}
 use Rattle.cell_seat.specs.Sides.{Side, side_of}

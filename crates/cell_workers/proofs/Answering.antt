@@ -19,7 +19,7 @@ use Rattle.cell_control.proofs.TurnMaps.{turn_either}
 use Rattle.cell_control.proofs.TurnsByAnswers.{drive_own}
 use Rattle.cell_devices.specs.declared.act.PressAct.{PressAct}
 use Rattle.cell_devices.specs.declared.motor.Motor.TheVariants.{Off, Minus}
-use Rattle.cell_stations.specs.declared.press_step.PressStep.TheVariants.{MoveToBottom}
+use Rattle.cell_stations.specs.declared.press.PressStep.TheVariants.{MoveToBottom}
 use Rattle.cell_stations.specs.PressProgram.{press_steps, checked}
 use Rattle.cell_parts.specs.Rigs.{press_rig}
 use Rattle.cell_parts.specs.Shows.{PressShows}
