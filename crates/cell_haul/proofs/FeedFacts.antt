@@ -24,10 +24,10 @@ use Rattle.cell_rules.proofs.OwnSide.{full-foreign}
 use Rattle.cell_control.specs.Steps.{IsReached}
 use Rattle.cell_control.proofs.StepLemmas.{Knowing, reached_knows}
 use Rattle.cell_control.proofs.Facts.{Fact, Owns, Hosts, Finds, AreSo, are_foreign, seen_held, seen_in, entered, posed}
-use Rattle.cell_haul.specs.declared.feed_step.FeedStep.{FeedStep}
-use Rattle.cell_haul.specs.declared.feed_step.FeedStep.TheVariants.{ClaimEntry, PoseLanding, ReleaseEntry, TakePlate, StartIn, RunIn, MoveOn, ClaimExit, StartOut, RunOut, Halt, GivePlate}
-use Rattle.cell_haul.specs.declared.feed_step.FeedProgress.{FeedProgress}
-use Rattle.cell_haul.specs.FeedProgram.{call_of, choice, step_after, entry_after, last_after, after_done, HoldsForRun, feed_steps}
+use Rattle.cell_haul.specs.declared.feed.FeedStep.{FeedStep}
+use Rattle.cell_haul.specs.declared.feed.FeedStep.TheVariants.{ClaimEntry, PoseLanding, ReleaseEntry, TakePlate, StartIn, RunIn, MoveOn, ClaimExit, StartOut, RunOut, Halt, GivePlate}
+use Rattle.cell_haul.specs.declared.feed.FeedProgress.{FeedProgress}
+use Rattle.cell_haul.specs.FeedProgram.{with_plates, by_plates, row_at, row_of, after_done, HoldsForRun, feed_steps}
 
 abbrev pub facts_at : FeedStep → List Fact
 facts_at ClaimEntry = []
@@ -72,20 +72,20 @@ pub feed_begins : (z : ModelState) → FeedKnows (feed_steps.start z) z
 feed_begins z = record { facts = tt; plates = refl; entry_noted = refl; last_noted = refl }
 
 -- after a drive
-done_drive : (s : FeedStep) (entry last : Bool) (z : ModelState) → call_of s ≡ None → KnowsAt s entry last z → KnowsAt (step_after s entry last) (entry_after s entry) (last_after s last) z
-done_drive RunIn entry last z e k = record { facts = k.facts; plates = k.plates; entry_noted = k.entry_noted; last_noted = k.last_noted }
-done_drive RunOut entry last z e k = record { facts = k.facts; plates = k.plates; entry_noted = k.entry_noted; last_noted = k.last_noted }
-done_drive _ entry last z e k = cc
+done_drive : (s : FeedStep) (p : FeedProgress) (z : ModelState) → (row_at s p).call ≡ None → KnowsAt s p.entry p.last z → FeedKnows (row_at s p).next z
+done_drive RunIn p z e k = record { facts = k.facts; plates = k.plates; entry_noted = k.entry_noted; last_noted = k.last_noted }
+done_drive RunOut p z e k = record { facts = k.facts; plates = k.plates; entry_noted = k.entry_noted; last_noted = k.last_noted }
+done_drive _ p z e k = cc
 
-drive_on : (b : Bool) (p : FeedProgress) (z : ModelState) → call_of p.step ≡ None → FeedKnows p z → FeedKnows (if b then p else after_done p) z
+drive_on : (b : Bool) (p : FeedProgress) (z : ModelState) → (row_of p).call ≡ None → FeedKnows p z → FeedKnows (if b then p else after_done p) z
 drive_on true p z e k = k
-drive_on false p z e k = done_drive p.step p.entry p.last z e k
+drive_on false p z e k = done_drive p.step p z e k
 
 -- at the first step of the next group
-at_choice : (entry last : Bool) (z : ModelState) → owns z Feed Z6 ≡ true → is_full z FeedEntry ≡ entry → is_full z FeedEnd ≡ last → KnowsAt (choice entry last) entry last z
-at_choice entry true z o e l = record { facts = (o, tt); plates = refl; entry_noted = e; last_noted = l }
-at_choice true false z o e l = record { facts = (o, tt); plates = refl; entry_noted = e; last_noted = l }
-at_choice false false z o e l = record { facts = (o, tt); plates = refl; entry_noted = e; last_noted = l }
+at_choice : (entry last : Bool) (p : FeedProgress) (z : ModelState) → owns z Feed Z6 ≡ true → is_full z FeedEntry ≡ entry → is_full z FeedEnd ≡ last → KnowsAt (by_plates (with_plates p entry last)) entry last z
+at_choice entry true p z o e l = record { facts = (o, tt); plates = refl; entry_noted = e; last_noted = l }
+at_choice true false p z o e l = record { facts = (o, tt); plates = refl; entry_noted = e; last_noted = l }
+at_choice false false p z o e l = record { facts = (o, tt); plates = refl; entry_noted = e; last_noted = l }
 
 -- the zone shared with the table opens only inward
 opens_in : (q : Posture) → is_open q ≡ true → is_of_some_pose Z1 q ≡ true → q ≡ OpenIn
@@ -102,24 +102,24 @@ given_to : (z : ModelState) → posture_at z Z1 ≡ OpenIn → (is_full (changed
 given_to z opens = (ap (λ q. has (emptied z.full (given_by Feed (transfer_of Z1 q))) FeedEntry) opens, ap (λ q. has (emptied z.full (given_by Feed (transfer_of Z1 q))) FeedEnd) opens)
 
 -- after a call that is done
-done_call : (s : FeedStep) (entry last : Bool) (c : Call) (z : ModelState) → call_of s ≡ Some c → reply z Feed c ≡ Done → IsSound z → KnowsAt s entry last z
-    → KnowsAt (step_after s entry last) (entry_after s entry) (last_after s last) (changed z Feed c)
-done_call ClaimEntry entry last (Claim Z6) z e d sound k = at_choice entry last (changed z Feed (Claim Z6)) refl k.entry_noted k.last_noted
-done_call PoseLanding entry last (SetPose Landing) z e d sound k = record { facts = (k.facts.0, ((refl, refl), tt)); plates = k.plates; entry_noted = k.entry_noted; last_noted = k.last_noted }
-done_call ReleaseEntry entry last (Release Z6) z e d sound k = record { facts = k.facts.1; plates = k.plates; entry_noted = k.entry_noted; last_noted = k.last_noted }
-done_call TakePlate entry last (Take Z6) z e d sound k =
+done_call : (s : FeedStep) (p : FeedProgress) (c : Call) (z : ModelState) → (row_at s p).call ≡ Some c → reply z Feed c ≡ Done → IsSound z → KnowsAt s p.entry p.last z
+    → FeedKnows (row_at s p).next (changed z Feed c)
+done_call ClaimEntry p (Claim Z6) z e d sound k = at_choice p.entry p.last p (changed z Feed (Claim Z6)) refl k.entry_noted k.last_noted
+done_call PoseLanding p (SetPose Landing) z e d sound k = record { facts = (k.facts.0, ((refl, refl), tt)); plates = k.plates; entry_noted = k.entry_noted; last_noted = k.last_noted }
+done_call ReleaseEntry p (Release Z6) z e d sound k = record { facts = k.facts.1; plates = k.plates; entry_noted = k.entry_noted; last_noted = k.last_noted }
+done_call TakePlate p (Take Z6) z e d sound k =
     let places = taken_from z k.facts.0.1 in
-    record { facts = (take_owned z Feed Z6 d, tt); plates = and_right (not entry) (not last) k.plates; entry_noted = places.0; last_noted = places.1 ∙ k.last_noted }
-done_call StartIn entry last (SetPose Running) z e d sound k = record { facts = (k.facts.0, ((refl, refl), tt)); plates = k.plates; entry_noted = k.entry_noted; last_noted = k.last_noted }
-done_call MoveOn entry last Advance z e d sound k = record { facts = (k.facts.0, tt); plates = refl; entry_noted = refl; last_noted = refl }
-done_call ClaimExit entry last (Claim Z1) z e d sound k =
+    record { facts = (take_owned z Feed Z6 d, tt); plates = and_right (not p.entry) (not p.last) k.plates; entry_noted = places.0; last_noted = places.1 ∙ k.last_noted }
+done_call StartIn p (SetPose Running) z e d sound k = record { facts = (k.facts.0, ((refl, refl), tt)); plates = k.plates; entry_noted = k.entry_noted; last_noted = k.last_noted }
+done_call MoveOn p Advance z e d sound k = record { facts = (k.facts.0, tt); plates = refl; entry_noted = refl; last_noted = refl }
+done_call ClaimExit p (Claim Z1) z e d sound k =
     record { facts = (k.facts.0, ((refl, opens_in (posture_at z Z1) (entered z Z1 Feed d refl) (posed z Z1 sound)), tt)); plates = k.plates; entry_noted = k.entry_noted; last_noted = k.last_noted }
-done_call StartOut entry last (SetPose Running) z e d sound k = record { facts = (k.facts.0, (k.facts.1.0, ((refl, refl), tt))); plates = k.plates; entry_noted = k.entry_noted; last_noted = k.last_noted }
-done_call Halt entry last (SetPose Halted) z e d sound k = record { facts = (k.facts.0, (k.facts.1.0, ((refl, refl), tt))); plates = k.plates; entry_noted = k.entry_noted; last_noted = k.last_noted }
-done_call GivePlate entry last (Give Z1) z e d sound k =
+done_call StartOut p (SetPose Running) z e d sound k = record { facts = (k.facts.0, (k.facts.1.0, ((refl, refl), tt))); plates = k.plates; entry_noted = k.entry_noted; last_noted = k.last_noted }
+done_call Halt p (SetPose Halted) z e d sound k = record { facts = (k.facts.0, (k.facts.1.0, ((refl, refl), tt))); plates = k.plates; entry_noted = k.entry_noted; last_noted = k.last_noted }
+done_call GivePlate p (Give Z1) z e d sound k =
     let places = given_to z k.facts.1.0.1 in
-    at_choice entry false (changed z Feed (Give Z1)) k.facts.0 (places.0 ∙ k.entry_noted) places.1
-done_call s entry last c z e d sound k = cc
+    at_choice p.entry false p (changed z Feed (Give Z1)) k.facts.0 (places.0 ∙ k.entry_noted) places.1
+done_call s p c z e d sound k = cc
 
 pub feed-knowing : Knowing feed_steps FeedKnows
 feed-knowing = record {
@@ -131,7 +131,7 @@ feed-knowing = record {
         last_noted = full-foreign z n c FeedEnd sound apart ∙ k.last_noted;
       };
   after_drive = λ p s act z e d k. drive_on act.belt p z e k;
-  after_done = λ p z c e d sound k. done_call p.step p.entry p.last c z e d sound k;
+  after_done = λ p z c e d sound k. done_call p.step p c z e d sound k;
   after_inquiry = λ p z c owner flag posture e d sound k. k;
 }
 
@@ -142,19 +142,19 @@ none_at_end b false true s f = cc
 none_at_end b entry false s f = s
 
 -- so in a step that drives the belt holds the crane's zone, which moves, and with a plate at its end the table's zone
-pub drives_at : (s : FeedStep) (entry last : Bool) (z : ModelState) → call_of s ≡ None → KnowsAt s entry last z
+pub drives_at : (s : FeedStep) (p : FeedProgress) (z : ModelState) → (row_at s p).call ≡ None → KnowsAt s p.entry p.last z
     → ((owns z Feed Z6 ≡ true) × (posture_at z Z6 ≡ Moving)) × (is_full z FeedEnd ≡ true → owns z Feed Z1 ≡ true)
-drives_at RunIn entry last z e k = ((k.facts.0, k.facts.1.0.1), λ full. let none : is_full z FeedEnd ≡ false = none_at_end _ entry last k.last_noted k.plates in cc)
-drives_at RunOut entry last z e k = ((k.facts.0, k.facts.1.1.0.1), λ full. k.facts.1.0.0)
-drives_at _ entry last z e k = cc
+drives_at RunIn p z e k = ((k.facts.0, k.facts.1.0.1), λ full. let none : is_full z FeedEnd ≡ false = none_at_end _ p.entry p.last k.last_noted k.plates in cc)
+drives_at RunOut p z e k = ((k.facts.0, k.facts.1.1.0.1), λ full. k.facts.1.0.0)
+drives_at _ p z e k = cc
 
 one_is_full : (b : Bool) → pos (one_if b) ≡ pos 1 → b ≡ true
 one_is_full true e = refl
 one_is_full false e = cc
 
-pub drives-held : (opening : ModelState) (seen : List Event) (p : FeedProgress) → IsSound opening → IsLegal opening seen → IsReached feed_steps opening seen p → call_of p.step ≡ None → HoldsForRun opening seen
+pub drives-held : (opening : ModelState) (seen : List Event) (p : FeedProgress) → IsSound opening → IsLegal opening seen → IsReached feed_steps opening seen p → (row_of p).call ≡ None → HoldsForRun opening seen
 drives-held opening seen p sound legal r e =
-    let at = drives_at p.step p.entry p.last (after opening seen) e (reached_knows feed_steps FeedKnows feed-knowing opening seen p (feed_begins opening) sound legal r) in
+    let at = drives_at p.step p (after opening seen) e (reached_knows feed_steps FeedKnows feed-knowing opening seen p (feed_begins opening) sound legal r) in
     let full : plates_at opening seen FeedEnd ≡ pos 1 → is_full (after opening seen) FeedEnd ≡ true = λ one. one_is_full _ (sym ((plates-kept opening seen sound legal).at_place FeedEnd) ∙ one) in
     record {
       entry = seen_held opening seen Feed Z6 legal at.0.0;

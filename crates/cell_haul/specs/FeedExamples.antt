@@ -12,9 +12,9 @@ use Rattle.cell_devices.specs.declared.act.FeedAct.{FeedAct}
 use Rattle.cell_rules.specs.ModelState.{ModelState}
 use Rattle.cell_rules.specs.History.{Holds, posture_by_events, plates_at}
 use Rattle.cell_control.specs.Rows.{AskRow, DriveRow, CheckRow, UntilFree, UntilOwner, UntilOpen, NoOtherAnswers}
-use Rattle.cell_haul.specs.declared.feed_step.FeedStep.{FeedStep}
-use Rattle.cell_haul.specs.declared.feed_step.FeedStep.TheVariants.{ClaimEntry, PoseLanding, ReleaseEntry, TakePlate, StartIn, RunIn, MoveOn, ClaimExit, StartOut, RunOut, Halt, GivePlate}
-use Rattle.cell_haul.specs.declared.feed_step.FeedProgress.{FeedProgress}
+use Rattle.cell_haul.specs.declared.feed.FeedStep.{FeedStep}
+use Rattle.cell_haul.specs.declared.feed.FeedStep.TheVariants.{ClaimEntry, PoseLanding, ReleaseEntry, TakePlate, StartIn, RunIn, MoveOn, ClaimExit, StartOut, RunOut, Halt, GivePlate}
+use Rattle.cell_haul.specs.declared.feed.FeedProgress.{FeedProgress}
 use Rattle.cell_haul.specs.FeedProgram.{feed_steps}
 
 -- a step, with whether a plate is at the belt's entry and at its end

@@ -1,77 +1,66 @@
 -- The feed belt's program, row by row.
-use Rattle.std.specs.Prelude.{◌≡◌, pos, Bool, true, false, not, if◌then◌else◌, List, Option, Some, None, Ok}
+use Rattle.std.specs.Prelude.{◌≡◌, pos, Bool, true, false, not, if◌then◌else◌, List, Ok}
 use Rattle.cell_types.specs.declared.machine.Machine.TheVariants.{Feed}
 use Rattle.cell_types.specs.declared.zone.Zone.TheVariants.{Z1, Z6}
 use Rattle.cell_types.specs.declared.place.Place.TheVariants.{FeedEntry, FeedEnd}
+use Rattle.cell_types.specs.declared.pose.Pose.{Pose}
 use Rattle.cell_types.specs.declared.pose.Pose.TheVariants.{Landing, Running, Halted}
 use Rattle.cell_types.specs.declared.call.Call.{Call}
 use Rattle.cell_types.specs.declared.call.Call.TheVariants.{Claim, Give, Take, Release, SetPose, Advance}
-use Rattle.cell_types.specs.declared.answer.Refusal.{Refusal}
-use Rattle.cell_types.specs.declared.answer.Refusal.TheVariants.{Held, Shut, NotOwner}
 use Rattle.cell_types.specs.declared.answer.Event.{Event}
 use Rattle.cell_calib.specs.declared.sense.FeedSense.{FeedSense}
 use Rattle.cell_devices.specs.declared.act.FeedAct.{FeedAct}
 use Rattle.cell_rules.specs.ModelState.{ModelState, is_full}
 use Rattle.cell_rules.specs.History.{Holds, Moves, plates_at}
+use Rattle.cell_control.specs.declared.row.Row.{Row}
+use Rattle.cell_control.specs.declared.row.Waits.TheVariants.{UntilOwner, UntilFreeAndOpen}
+use Rattle.cell_control.specs.Row.{waits_on, row_that_asks, row_that_drives, with_waits}
 use Rattle.cell_control.specs.Steps.{Steps}
-use Rattle.cell_haul.specs.declared.feed_step.FeedStep.{FeedStep}
-use Rattle.cell_haul.specs.declared.feed_step.FeedStep.TheVariants.{ClaimEntry, PoseLanding, ReleaseEntry, TakePlate, StartIn, RunIn, MoveOn, ClaimExit, StartOut, RunOut, Halt, GivePlate}
-use Rattle.cell_haul.specs.declared.feed_step.FeedProgress.{FeedProgress}
+use Rattle.cell_haul.specs.declared.feed.FeedStep.{FeedStep}
+use Rattle.cell_haul.specs.declared.feed.FeedStep.TheVariants.{ClaimEntry, PoseLanding, ReleaseEntry, TakePlate, StartIn, RunIn, MoveOn, ClaimExit, StartOut, RunOut, Halt, GivePlate}
+use Rattle.cell_haul.specs.declared.feed.FeedProgress.{FeedProgress}
 
--- what each step asks; a step that asks nothing drives
-abbrev pub call_of : FeedStep → Option Call
-call_of ClaimEntry = Some (Claim Z6)
-call_of PoseLanding = Some (SetPose Landing)
-call_of ReleaseEntry = Some (Release Z6)
-call_of TakePlate = Some (Take Z6)
-call_of StartIn = Some (SetPose Running)
-call_of RunIn = None
-call_of MoveOn = Some Advance
-call_of ClaimExit = Some (Claim Z1)
-call_of StartOut = Some (SetPose Running)
-call_of RunOut = None
-call_of Halt = Some (SetPose Halted)
-call_of GivePlate = Some (Give Z1)
+-- the row of a step that asks, of one that sets a pose, and of one that drives, by the next step
+abbrev pub asks : FeedProgress → Call → FeedStep → Row FeedProgress
+asks p call next = row_that_asks call (record p { step = next })
 
--- the refusals on which a step stays
-abbrev pub stays_on : FeedStep → Refusal → Bool
-stays_on TakePlate (NotOwner _) = true
-stays_on ClaimExit (Held _) = true
-stays_on ClaimExit (Shut _) = true
-stays_on _ _ = false
+abbrev pub poses : FeedProgress → Pose → FeedStep → Row FeedProgress
+poses p pose next = asks p (SetPose pose) next
 
--- the first step of the next group, by whether a plate is at the belt's entry and at its end
-abbrev pub choice : Bool → Bool → FeedStep
-choice entry last = if last then ClaimExit else (if entry then StartIn else PoseLanding)
+abbrev pub drives : FeedProgress → FeedStep → Row FeedProgress
+drives p next = row_that_drives (record p { step = next })
 
--- the next step after each that is done
-abbrev pub step_after : FeedStep → Bool → Bool → FeedStep
-step_after ClaimEntry entry last = choice entry last
-step_after PoseLanding _ _ = ReleaseEntry
-step_after ReleaseEntry _ _ = TakePlate
-step_after TakePlate _ _ = StartIn
-step_after StartIn _ _ = RunIn
-step_after RunIn _ _ = MoveOn
-step_after MoveOn _ _ = ClaimExit
-step_after ClaimExit _ _ = StartOut
-step_after StartOut _ _ = RunOut
-step_after RunOut _ _ = Halt
-step_after Halt _ _ = GivePlate
-step_after GivePlate entry _ = choice entry false
+-- with other notes: whether a plate is at the belt's entry and at its end
+abbrev pub with_plates : FeedProgress → Bool → Bool → FeedProgress
+with_plates p entry last = record p { entry = entry; last = last }
 
--- the two notes after a step
-abbrev pub entry_after : FeedStep → Bool → Bool
-entry_after TakePlate _ = true
-entry_after MoveOn _ = false
-entry_after _ entry = entry
+-- the first step of the next group, by the plates on the belt; the row of a step that asks, and leads to that group
+abbrev pub by_plates : FeedProgress → FeedStep
+by_plates p = if p.last then ClaimExit else (if p.entry then StartIn else PoseLanding)
 
-abbrev pub last_after : FeedStep → Bool → Bool
-last_after MoveOn _ = true
-last_after GivePlate _ = false
-last_after _ last = last
+abbrev pub asks_by_plates : FeedProgress → Call → Row FeedProgress
+asks_by_plates p call = asks p call (by_plates p)
+
+-- the row of each step: what it asks, what it waits for, and the next step with its notes
+abbrev pub row_at : FeedStep → FeedProgress → Row FeedProgress
+row_at ClaimEntry p = asks_by_plates p (Claim Z6)
+row_at PoseLanding p = poses p Landing ReleaseEntry
+row_at ReleaseEntry p = asks p (Release Z6) TakePlate
+row_at TakePlate p = with_waits (asks (with_plates p true p.last) (Take Z6) StartIn) UntilOwner
+row_at StartIn p = poses p Running RunIn
+row_at RunIn p = drives p MoveOn
+row_at MoveOn p = asks (with_plates p false true) Advance ClaimExit
+row_at ClaimExit p = with_waits (asks p (Claim Z1) StartOut) UntilFreeAndOpen
+row_at StartOut p = poses p Running RunOut
+row_at RunOut p = drives p Halt
+row_at Halt p = poses p Halted GivePlate
+row_at GivePlate p = asks_by_plates (with_plates p p.entry false) (Give Z1)
+
+abbrev pub row_of : FeedProgress → Row FeedProgress
+row_of p = row_at p.step p
 
 abbrev pub after_done : FeedProgress → FeedProgress
-after_done p = record { step = step_after p.step p.entry p.last; entry = entry_after p.step p.entry; last = last_after p.step p.last }
+after_done p = (row_of p).next
 
 -- at the start the belt notes its places
 abbrev pub feed_start : ModelState → FeedProgress
@@ -105,10 +94,10 @@ feed_steps =
     record {
       machine = Feed;
       start = feed_start;
-      call = λ p. call_of p.step;
+      call = λ p. (row_of p).call;
       after_done = after_done;
       after_inquiry = λ p owner flag posture. p;
-      stays_on = λ p r. stays_on p.step r;
+      stays_on = λ p r. waits_on (row_of p).waits r;
       senses = λ s r. r ≡ Ok s;
       drives = λ p s act. act ≡ act_for p s;
       after_drive = λ p s act. after_act p act;

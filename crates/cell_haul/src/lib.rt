@@ -6,7 +6,6 @@ pub mod crane_step;
 pub mod deposit;
 pub mod deposit_step;
 pub mod feed;
-pub mod feed_step;
 pub mod laws;
 
 pub use cell_control::CtlFault;
@@ -14,5 +13,4 @@ pub use crane::{CraneCtl, CraneProgram};
 pub use crane_step::{CraneProgress, CraneReading, CraneStep};
 pub use deposit::{DepositCtl, DepositProgram};
 pub use deposit_step::{DepositProgress, DepositStep};
-pub use feed::{FeedCtl, FeedProgram};
-pub use feed_step::{FeedProgress, FeedStep};
+pub use feed::{FeedCtl, FeedProgram, FeedProgress, FeedStep};

@@ -16,10 +16,10 @@ use Rattle.cell_rules.specs.Sound.{IsSound, is_received_by}
 use Rattle.cell_rules.specs.Refusals.{posture_at, given_by}
 use Rattle.cell_rules.specs.Reply.{reply, changed, emptied, filled}
 use Rattle.cell_control.proofs.Facts.{Finds}
-use Rattle.cell_haul.specs.declared.feed_step.FeedStep.{FeedStep}
-use Rattle.cell_haul.specs.declared.feed_step.FeedStep.TheVariants.{ClaimEntry, PoseLanding, ReleaseEntry, TakePlate, StartIn, MoveOn, ClaimExit, StartOut, Halt, GivePlate}
-use Rattle.cell_haul.specs.declared.feed_step.FeedProgress.{FeedProgress}
-use Rattle.cell_haul.specs.FeedProgram.{call_of, feed_start, feed_steps}
+use Rattle.cell_haul.specs.declared.feed.FeedStep.{FeedStep}
+use Rattle.cell_haul.specs.declared.feed.FeedStep.TheVariants.{ClaimEntry, PoseLanding, ReleaseEntry, TakePlate, StartIn, MoveOn, ClaimExit, StartOut, Halt, GivePlate}
+use Rattle.cell_haul.specs.declared.feed.FeedProgress.{FeedProgress}
+use Rattle.cell_haul.specs.FeedProgram.{row_at, feed_start, feed_steps}
 use Rattle.cell_haul.proofs.FeedFacts.{FeedKnows, feed_begins, feed-knowing, drives_at}
 use Rattle.cell_seat.proofs.Keeping.{Keeping}
 use Rattle.cell_seat.proofs.Demanding.{Demanding, WhileOn, demanding_while_on}
@@ -51,28 +51,28 @@ emptied_end full OpenIn e = (refl, refl)
 emptied_end full OpenOut e = cc
 
 -- after each of its calls the plates on it are those of its places
-done_plates : (s : FeedStep) (c : Call) (z : ModelState) (b : Belt) → call_of s ≡ Some c → reply z Feed c ≡ Done → IsSound z → PlatesStand z FeedEntry FeedEnd b → PlatesStand (changed z Feed c) FeedEntry FeedEnd (set_belt (feed_called b c) false)
-done_plates ClaimEntry (Claim Z6) z b e d sound k = record { entry = k.entry; end = k.end }
-done_plates PoseLanding (SetPose Landing) z b e d sound k = record { entry = k.entry; end = k.end }
-done_plates ReleaseEntry (Release Z6) z b e d sound k = record { entry = k.entry; end = k.end }
-done_plates TakePlate (Take Z6) z b e d sound k =
+done_plates : (s : FeedStep) (p : FeedProgress) (c : Call) (z : ModelState) (b : Belt) → (row_at s p).call ≡ Some c → reply z Feed c ≡ Done → IsSound z → PlatesStand z FeedEntry FeedEnd b → PlatesStand (changed z Feed c) FeedEntry FeedEnd (set_belt (feed_called b c) false)
+done_plates ClaimEntry p (Claim Z6) z b e d sound k = record { entry = k.entry; end = k.end }
+done_plates PoseLanding p (SetPose Landing) z b e d sound k = record { entry = k.entry; end = k.end }
+done_plates ReleaseEntry p (Release Z6) z b e d sound k = record { entry = k.entry; end = k.end }
+done_plates TakePlate p (Take Z6) z b e d sound k =
     let on = filled_entry z.full (posture_at z Z6) (plate_taken z Feed Z6 sound d) in
     record { entry = (λ h. on.0, λ h. refl); end = as_full b.last _ _ on.1 k.end }
-done_plates StartIn (SetPose Running) z b e d sound k = record { entry = k.entry; end = k.end }
-done_plates MoveOn Advance z b e d sound k = record { entry = (λ h. cc, λ h. cc); end = (λ h. refl, λ h. k.entry.1 (plate_worked z Feed FeedEntry FeedEnd d refl)) }
-done_plates ClaimExit (Claim Z1) z b e d sound k = record { entry = k.entry; end = k.end }
-done_plates StartOut (SetPose Running) z b e d sound k = record { entry = k.entry; end = k.end }
-done_plates Halt (SetPose Halted) z b e d sound k = record { entry = k.entry; end = k.end }
-done_plates GivePlate (Give Z1) z b e d sound k =
+done_plates StartIn p (SetPose Running) z b e d sound k = record { entry = k.entry; end = k.end }
+done_plates MoveOn p Advance z b e d sound k = record { entry = (λ h. cc, λ h. cc); end = (λ h. refl, λ h. k.entry.1 (plate_worked z Feed FeedEntry FeedEnd d refl)) }
+done_plates ClaimExit p (Claim Z1) z b e d sound k = record { entry = k.entry; end = k.end }
+done_plates StartOut p (SetPose Running) z b e d sound k = record { entry = k.entry; end = k.end }
+done_plates Halt p (SetPose Halted) z b e d sound k = record { entry = k.entry; end = k.end }
+done_plates GivePlate p (Give Z1) z b e d sound k =
     let off = emptied_end z.full (posture_at z Z1) (plate_given z Feed Z1 d) in
     record { entry = as_full b.entry _ _ off.1 k.entry; end = (λ h. cc, λ h. let none = off.0 in cc) }
-done_plates s c z b e d sound k = cc
+done_plates s p c z b e d sound k = cc
 
 pub feed-keeping : Keeping feed_steps feed_rig FeedInv FeedInv
 feed-keeping = record {
   foreign = λ z p b n c apart sound i. record { knows = feed-knowing.foreign p z n c apart sound i.knows; plates = plates_foreign z n c FeedEntry FeedEnd b sound apart apart i.plates };
   rests = λ z p b i. record { knows = i.knows; plates = plates_set z FeedEntry FeedEnd b false i.plates };
-  after_done = λ z p b c e d sound i. record { knows = feed-knowing.after_done p z c e d sound i.knows; plates = done_plates p.step c z b e d sound i.plates };
+  after_done = λ z p b c e d sound i. record { knows = feed-knowing.after_done p z c e d sound i.knows; plates = done_plates p.step p c z b e d sound i.plates };
   after_inquiry = λ z p b c owner flag posture e d sound i. record { knows = i.knows; plates = plates_set z FeedEntry FeedEnd b false i.plates };
   after_drive = λ z p b s reading act e shows senses drives i. record { knows = feed-knowing.after_drive p reading act z e drives i.knows; plates = plates_set z FeedEntry FeedEnd b act.belt i.plates };
   told = λ z p b i. i;
@@ -85,4 +85,4 @@ FeedRuns = WhileOn Feed (λ b. IsTrue b.runs) (λ p. Finds Z6 Moving ∷ [])
 
 pub feed-demanding : Demanding feed_steps feed_rig FeedInv FeedInv FeedRuns
 feed-demanding =
-    demanding_while_on feed_steps feed_rig FeedInv FeedInv (λ b. IsTrue b.runs) (λ p. Finds Z6 Moving ∷ []) (λ p b runs. cc) (λ z p b s reading act e shows senses drives i runs. ((drives_at p.step p.entry p.last z e i.knows).0, tt)) (λ b runs. sym (still_runs b) ∙ runs)
+    demanding_while_on feed_steps feed_rig FeedInv FeedInv (λ b. IsTrue b.runs) (λ p. Finds Z6 Moving ∷ []) (λ p b runs. cc) (λ z p b s reading act e shows senses drives i runs. ((drives_at p.step p z e i.knows).0, tt)) (λ b runs. sym (still_runs b) ∙ runs)

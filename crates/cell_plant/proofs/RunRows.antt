@@ -17,7 +17,7 @@ use Rattle.cell_control.specs.Rigs.{Rig}
 use Rattle.cell_control.specs.Steps.{Steps, outcome}
 use Rattle.cell_control.specs.Turns.{Performed, PerformsCall, at_rest, turned}
 use Rattle.cell_control.proofs.TurnMaps.{turn_either}
-use Rattle.cell_haul.specs.declared.feed_step.FeedProgress.{FeedProgress}
+use Rattle.cell_haul.specs.declared.feed.FeedProgress.{FeedProgress}
 use Rattle.cell_control.specs.declared.fault.CtlFault.TheVariants.{Memory}
 use Rattle.cell_stations.specs.declared.table.TableProgress.{TableProgress}
 use Rattle.cell_stations.specs.declared.press.PressProgress.{PressProgress}

@@ -5,7 +5,7 @@ use Rattle.cell_types.specs.declared.machine.Machine.TheVariants.{Feed, Table, R
 use Rattle.cell_rules.specs.ModelState.{ModelState}
 use Rattle.cell_haul.specs.declared.crane_step.CraneProgress.{CraneProgress}
 use Rattle.cell_haul.specs.declared.deposit_step.DepositProgress.{DepositProgress}
-use Rattle.cell_haul.specs.declared.feed_step.FeedProgress.{FeedProgress}
+use Rattle.cell_haul.specs.declared.feed.FeedProgress.{FeedProgress}
 use Rattle.cell_haul.specs.CraneProgram.{crane_start}
 use Rattle.cell_haul.specs.DepositProgram.{deposit_start}
 use Rattle.cell_haul.specs.FeedProgram.{feed_start}

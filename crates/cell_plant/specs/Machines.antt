@@ -20,7 +20,7 @@ use Rattle.cell_control.specs.Steps.{Steps}
 use Rattle.cell_haul.specs.declared.crane_step.CraneProgress.{CraneProgress}
 use Rattle.cell_haul.specs.declared.crane_step.CraneReading.{CraneReading}
 use Rattle.cell_haul.specs.declared.deposit_step.DepositProgress.{DepositProgress}
-use Rattle.cell_haul.specs.declared.feed_step.FeedProgress.{FeedProgress}
+use Rattle.cell_haul.specs.declared.feed.FeedProgress.{FeedProgress}
 use Rattle.cell_haul.specs.CraneProgram.{crane_steps}
 use Rattle.cell_haul.specs.DepositProgram.{deposit_steps}
 use Rattle.cell_haul.specs.FeedProgram.{feed_steps}

@@ -20,7 +20,7 @@ use Rattle.cell_rules.specs.ModelState.{ModelState}
 use Rattle.cell_rules.specs.PlaceSet.{empty, insert_place}
 use Rattle.cell_rules.specs.Start.{start_state}
 use Rattle.cell_control.specs.declared.fault.CtlFault.TheVariants.{Memory}
-use Rattle.cell_haul.specs.declared.feed_step.FeedStep.TheVariants.{ClaimExit}
+use Rattle.cell_haul.specs.declared.feed.FeedStep.TheVariants.{ClaimExit}
 use Rattle.cell_stations.specs.declared.press.PressStep.TheVariants.{MoveToBottom}
 use Rattle.cell_stations.specs.declared.press.PressProgress.{PressProgress}
 use Rattle.cell_stations.specs.PressProgram.{press_start}
