@@ -17,10 +17,10 @@ use Rattle.cell_rules.proofs.Holders.{take_owned}
 use Rattle.cell_control.specs.Steps.{IsReached}
 use Rattle.cell_control.proofs.StepLemmas.{Knowing, reached_knows}
 use Rattle.cell_control.proofs.Facts.{Fact, Owns, Hosts, AreSo, are_foreign, seen_held, seen_in}
-use Rattle.cell_haul.specs.declared.deposit_step.DepositStep.{DepositStep}
-use Rattle.cell_haul.specs.declared.deposit_step.DepositStep.TheVariants.{ClaimEntry, ClaimExit, PoseLanding, ReleaseEntry, TakePlate, StartRun, RunIn, RunOut, MoveOn, PoseOffering, GivePlate, ClaimBack}
-use Rattle.cell_haul.specs.declared.deposit_step.DepositProgress.{DepositProgress}
-use Rattle.cell_haul.specs.DepositProgram.{call_of, choice, step_after, after_done, HoldsForRun, deposit_steps}
+use Rattle.cell_haul.specs.declared.deposit.DepositStep.{DepositStep}
+use Rattle.cell_haul.specs.declared.deposit.DepositStep.TheVariants.{ClaimEntry, ClaimExit, PoseLanding, ReleaseEntry, TakePlate, StartRun, RunIn, RunOut, MoveOn, PoseOffering, GivePlate, ClaimBack}
+use Rattle.cell_haul.specs.declared.deposit.DepositProgress.{DepositProgress}
+use Rattle.cell_haul.specs.DepositProgram.{with_plates, by_plates, row_at, row_of, after_done, HoldsForRun, deposit_steps}
 
 abbrev pub facts_at : DepositStep → List Fact
 facts_at ClaimEntry = []
@@ -40,52 +40,52 @@ abbrev pub DepositKnows : DepositProgress → ModelState → Type 0
 DepositKnows p z = AreSo Deposit z (facts_at p.step)
 
 -- after a drive
-done_drive : (s : DepositStep) (entry last : Bool) (z : ModelState) → call_of s ≡ None → AreSo Deposit z (facts_at s) → AreSo Deposit z (facts_at (step_after s entry last))
-done_drive RunIn entry last z e k = k
-done_drive RunOut entry last z e k = k
-done_drive _ entry last z e k = cc
+done_drive : (s : DepositStep) (p : DepositProgress) (z : ModelState) → (row_at s p).call ≡ None → AreSo Deposit z (facts_at s) → DepositKnows (row_at s p).next z
+done_drive RunIn p z e k = k
+done_drive RunOut p z e k = k
+done_drive _ p z e k = cc
 
-drive_on : (b : Bool) (p : DepositProgress) (z : ModelState) → call_of p.step ≡ None → DepositKnows p z → DepositKnows (if b then p else after_done p) z
+drive_on : (b : Bool) (p : DepositProgress) (z : ModelState) → (row_of p).call ≡ None → DepositKnows p z → DepositKnows (if b then p else after_done p) z
 drive_on true p z e k = k
-drive_on false p z e k = done_drive p.step p.entry p.last z e k
+drive_on false p z e k = done_drive p.step p z e k
 
 -- after a call that is done
-at_choice : (entry last : Bool) (z : ModelState) → owns z Deposit Z4 ≡ true → owns z Deposit Z5 ≡ true → AreSo Deposit z (facts_at (choice entry last))
-at_choice entry true z o u = (o, (u, tt))
-at_choice true false z o u = (o, (u, tt))
-at_choice false false z o u = (o, (u, tt))
+at_choice : (entry last : Bool) (p : DepositProgress) (z : ModelState) → owns z Deposit Z4 ≡ true → owns z Deposit Z5 ≡ true → AreSo Deposit z (facts_at (by_plates (with_plates p entry last)))
+at_choice entry true p z o u = (o, (u, tt))
+at_choice true false p z o u = (o, (u, tt))
+at_choice false false p z o u = (o, (u, tt))
 
-done_call : (s : DepositStep) (entry last : Bool) (c : Call) (z : ModelState) → call_of s ≡ Some c → reply z Deposit c ≡ Done → AreSo Deposit z (facts_at s) → AreSo Deposit (changed z Deposit c) (facts_at (step_after s entry last))
-done_call ClaimEntry entry last (Claim Z4) z e d k = (refl, tt)
-done_call ClaimExit entry last (Claim Z5) z e d k = at_choice entry last (changed z Deposit (Claim Z5)) k.0 refl
-done_call PoseLanding entry last (SetPose Landing) z e d k = (k.0, (k.1.0, ((refl, refl), ((refl, refl), tt))))
-done_call ReleaseEntry entry last (Release Z4) z e d k = k.1
-done_call TakePlate entry last (Take Z4) z e d k = (take_owned z Deposit Z4 d, (k.0, tt))
-done_call StartRun entry last (SetPose Running) z e d k = (k.0, (k.1.0, ((refl, refl), ((refl, refl), tt))))
-done_call MoveOn entry last Advance z e d k = (k.0, (k.1.0, tt))
-done_call PoseOffering entry last (SetPose Offering) z e d k = (k.0, (k.1.0, ((refl, refl), ((refl, refl), tt))))
-done_call GivePlate entry last (Give Z5) z e d k = (k.0, k.1.1)
-done_call ClaimBack entry last (Claim Z5) z e d k = at_choice entry last (changed z Deposit (Claim Z5)) k.0 refl
-done_call s entry last c z e d k = cc
+done_call : (s : DepositStep) (p : DepositProgress) (c : Call) (z : ModelState) → (row_at s p).call ≡ Some c → reply z Deposit c ≡ Done → AreSo Deposit z (facts_at s) → DepositKnows (row_at s p).next (changed z Deposit c)
+done_call ClaimEntry p (Claim Z4) z e d k = (refl, tt)
+done_call ClaimExit p (Claim Z5) z e d k = at_choice p.entry p.last p (changed z Deposit (Claim Z5)) k.0 refl
+done_call PoseLanding p (SetPose Landing) z e d k = (k.0, (k.1.0, ((refl, refl), ((refl, refl), tt))))
+done_call ReleaseEntry p (Release Z4) z e d k = k.1
+done_call TakePlate p (Take Z4) z e d k = (take_owned z Deposit Z4 d, (k.0, tt))
+done_call StartRun p (SetPose Running) z e d k = (k.0, (k.1.0, ((refl, refl), ((refl, refl), tt))))
+done_call MoveOn p Advance z e d k = (k.0, (k.1.0, tt))
+done_call PoseOffering p (SetPose Offering) z e d k = (k.0, (k.1.0, ((refl, refl), ((refl, refl), tt))))
+done_call GivePlate p (Give Z5) z e d k = (k.0, k.1.1)
+done_call ClaimBack p (Claim Z5) z e d k = at_choice p.entry p.last p (changed z Deposit (Claim Z5)) k.0 refl
+done_call s p c z e d k = cc
 
 pub deposit-knowing : Knowing deposit_steps DepositKnows
 deposit-knowing = record {
   foreign = λ p z n c apart sound k. are_foreign Deposit n c z (facts_at p.step) apart sound k;
   after_drive = λ p s act z e d k. drive_on act.belt p z e k;
-  after_done = λ p z c e d sound k. done_call p.step p.entry p.last c z e d k;
+  after_done = λ p z c e d sound k. done_call p.step p c z e d k;
   after_inquiry = λ p z c owner flag posture e d sound k. k;
 }
 
 -- so in a step that drives the belt holds both its zones, which move
-pub drives_at : (s : DepositStep) (z : ModelState) → call_of s ≡ None → AreSo Deposit z (facts_at s)
+pub drives_at : (s : DepositStep) (p : DepositProgress) (z : ModelState) → (row_at s p).call ≡ None → AreSo Deposit z (facts_at s)
     → ((owns z Deposit Z4 ≡ true) × (owns z Deposit Z5 ≡ true)) × ((posture_at z Z4 ≡ Moving) × (posture_at z Z5 ≡ Moving))
-drives_at RunIn z e k = ((k.0, k.1.0), (k.1.1.0.1, k.1.1.1.0.1))
-drives_at RunOut z e k = ((k.0, k.1.0), (k.1.1.0.1, k.1.1.1.0.1))
-drives_at _ z e k = cc
+drives_at RunIn p z e k = ((k.0, k.1.0), (k.1.1.0.1, k.1.1.1.0.1))
+drives_at RunOut p z e k = ((k.0, k.1.0), (k.1.1.0.1, k.1.1.1.0.1))
+drives_at _ p z e k = cc
 
-pub drives-held : (opening : ModelState) (seen : List Event) (p : DepositProgress) → IsSound opening → IsLegal opening seen → IsReached deposit_steps opening seen p → call_of p.step ≡ None → HoldsForRun opening seen
+pub drives-held : (opening : ModelState) (seen : List Event) (p : DepositProgress) → IsSound opening → IsLegal opening seen → IsReached deposit_steps opening seen p → (row_of p).call ≡ None → HoldsForRun opening seen
 drives-held opening seen p sound legal r e =
-    let at = drives_at p.step (after opening seen) e (reached_knows deposit_steps DepositKnows deposit-knowing opening seen p tt sound legal r) in
+    let at = drives_at p.step p (after opening seen) e (reached_knows deposit_steps DepositKnows deposit-knowing opening seen p tt sound legal r) in
     record {
       entry = seen_held opening seen Deposit Z4 legal at.0.0;
       exit = seen_held opening seen Deposit Z5 legal at.0.1;

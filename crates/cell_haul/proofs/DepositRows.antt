@@ -1,12 +1,14 @@
 -- The deposit belt's program meets the rows of the examples.
-use Rattle.std.proofs.Common.{◌≡◌, Bool, true, false, [], ◌∷◌, refl, None}
+use Rattle.std.proofs.Common.{◌≡◌, Bool, true, false, refl, None}
 use Rattle.cell_types.specs.declared.answer.Refusal.{Refusal}
-use Rattle.cell_types.specs.declared.answer.Refusal.TheVariants.{Held, NotOwner, PlaceFull}
 use Rattle.cell_rules.specs.ModelState.{ModelState}
-use Rattle.cell_control.specs.Rows.{stays_by, UntilFree, UntilOwner, UntilRoom, is_inquiry}
-use Rattle.cell_haul.specs.declared.deposit_step.DepositStep.{DepositStep}
-use Rattle.cell_haul.specs.declared.deposit_step.DepositStep.TheVariants.{TakePlate, GivePlate, ClaimBack, ClaimEntry, RunIn, RunOut}
-use Rattle.cell_haul.specs.DepositProgram.{stays_on, deposit_steps, call_of}
+use Rattle.cell_control.specs.Row.{waits_on}
+use Rattle.cell_control.specs.Rows.{is_inquiry}
+use Rattle.cell_control.proofs.WaitLemmas.{wait-rows}
+use Rattle.cell_haul.specs.declared.deposit.DepositStep.{DepositStep}
+use Rattle.cell_haul.specs.declared.deposit.DepositStep.TheVariants.{ClaimEntry, RunIn, RunOut}
+use Rattle.cell_haul.specs.declared.deposit.DepositProgress.{DepositProgress}
+use Rattle.cell_haul.specs.DepositProgram.{row_at, deposit_steps}
 use Rattle.cell_haul.specs.DepositExamples.{begins_with, DepositAsks, DepositDrives, DepositRowsAreMet}
 
 begins : (s : ModelState) (entry last : Bool) → deposit_steps.start (record s { full = record s.full { dep_entry = entry; dep_end = last } }) ≡ begins_with entry last
@@ -14,18 +16,6 @@ begins s false false = refl
 begins s true false = refl
 begins s false true = refl
 begins s true true = refl
-
-stays_taking : (r : Refusal) → stays_on TakePlate r ≡ stays_by (UntilOwner ∷ []) r
-stays_taking (NotOwner _) = refl
-stays_taking _ = refl
-
-stays_giving : (r : Refusal) → stays_on GivePlate r ≡ stays_by (UntilRoom ∷ []) r
-stays_giving PlaceFull = refl
-stays_giving _ = refl
-
-stays_claiming : (r : Refusal) → stays_on ClaimBack r ≡ stays_by (UntilFree ∷ []) r
-stays_claiming (Held _) = refl
-stays_claiming _ = refl
 
 asks : (entry last : Bool) → DepositAsks entry last
 asks entry last = record {
@@ -35,14 +25,14 @@ asks entry last = record {
   claims_exit_with_plate_at_end = record { asks = refl; stays = λ r. refl; leads = refl };
   poses_landing = record { asks = refl; stays = λ r. refl; leads = refl };
   releases_entry = record { asks = refl; stays = λ r. refl; leads = refl };
-  takes = record { asks = refl; stays = stays_taking; leads = refl };
+  takes = record { asks = refl; stays = wait-rows.until_owner; leads = refl };
   starts = record { asks = refl; stays = λ r. refl; leads = refl };
   moves_on = record { asks = refl; stays = λ r. refl; leads = refl };
   poses_offering = record { asks = refl; stays = λ r. refl; leads = refl };
-  gives = record { asks = refl; stays = stays_giving; leads = refl };
-  claims_back = record { asks = refl; stays = stays_claiming; leads = refl };
-  claims_back_with_plate = record { asks = refl; stays = stays_claiming; leads = refl };
-  claims_back_with_plate_at_end = record { asks = refl; stays = stays_claiming; leads = refl };
+  gives = record { asks = refl; stays = wait-rows.until_room; leads = refl };
+  claims_back = record { asks = refl; stays = wait-rows.until_free; leads = refl };
+  claims_back_with_plate = record { asks = refl; stays = wait-rows.until_free; leads = refl };
+  claims_back_with_plate_at_end = record { asks = refl; stays = wait-rows.until_free; leads = refl };
 }
 
 drives : (entry last : Bool) → DepositDrives entry last
@@ -54,14 +44,14 @@ drives entry last = record {
 }
 
 -- answers that can't come
-no_inquiry : (s : DepositStep) → is_inquiry (call_of s) ≡ true → ⊥
-no_inquiry ClaimEntry e = cc
-no_inquiry _ e = cc
+no_inquiry : (s : DepositStep) (p : DepositProgress) → is_inquiry (row_at s p).call ≡ true → ⊥
+no_inquiry ClaimEntry p e = cc
+no_inquiry _ p e = cc
 
-never_refused : (s : DepositStep) (r : Refusal) → call_of s ≡ None → stays_on s r ≡ false
-never_refused RunIn r e = refl
-never_refused RunOut r e = refl
-never_refused _ r e = cc
+never_refused : (s : DepositStep) (p : DepositProgress) (r : Refusal) → (row_at s p).call ≡ None → waits_on (row_at s p).waits r ≡ false
+never_refused RunIn p r e = refl
+never_refused RunOut p r e = refl
+never_refused _ p r e = cc
 
 pub deposit-rows : DepositRowsAreMet
 deposit-rows = record {
@@ -69,7 +59,7 @@ deposit-rows = record {
   asks = asks;
   drives = drives;
   checks = λ s. record { says = refl; says_only = λ other k. k };
-  no_other_answers = record { not_done = λ p e. absurd (no_inquiry p.step e); not_shown = λ p owner flag posture e. refl; not_refused = λ p r e. never_refused p.step r e };
+  no_other_answers = record { not_done = λ p e. absurd (no_inquiry p.step p e); not_shown = λ p owner flag posture e. refl; not_refused = λ p r e. never_refused p.step p r e };
   rests = λ p. refl;
   demands = λ p opening seen k. let at = k refl in record { holds_entry = at.entry; holds_exit = at.exit; entry_moves = at.entry_moves; exit_moves = at.exit_moves };
 }

@@ -11,9 +11,9 @@ use Rattle.cell_devices.specs.declared.act.DepositAct.{DepositAct}
 use Rattle.cell_rules.specs.ModelState.{ModelState}
 use Rattle.cell_rules.specs.History.{Holds, posture_by_events}
 use Rattle.cell_control.specs.Rows.{AskRow, DriveRow, CheckRow, UntilFree, UntilOwner, UntilRoom, NoOtherAnswers}
-use Rattle.cell_haul.specs.declared.deposit_step.DepositStep.{DepositStep}
-use Rattle.cell_haul.specs.declared.deposit_step.DepositStep.TheVariants.{ClaimEntry, ClaimExit, PoseLanding, ReleaseEntry, TakePlate, StartRun, RunIn, RunOut, MoveOn, PoseOffering, GivePlate, ClaimBack}
-use Rattle.cell_haul.specs.declared.deposit_step.DepositProgress.{DepositProgress}
+use Rattle.cell_haul.specs.declared.deposit.DepositStep.{DepositStep}
+use Rattle.cell_haul.specs.declared.deposit.DepositStep.TheVariants.{ClaimEntry, ClaimExit, PoseLanding, ReleaseEntry, TakePlate, StartRun, RunIn, RunOut, MoveOn, PoseOffering, GivePlate, ClaimBack}
+use Rattle.cell_haul.specs.declared.deposit.DepositProgress.{DepositProgress}
 use Rattle.cell_haul.specs.DepositProgram.{deposit_steps}
 
 -- a step, with whether a plate is at the belt's entry and at its end

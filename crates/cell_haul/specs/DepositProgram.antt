@@ -1,77 +1,66 @@
 -- The deposit belt's program, row by row.
-use Rattle.std.specs.Prelude.{◌≡◌, Bool, true, false, not, if◌then◌else◌, List, Option, Some, None, Ok}
+use Rattle.std.specs.Prelude.{◌≡◌, Bool, true, false, not, if◌then◌else◌, List, Ok}
 use Rattle.cell_types.specs.declared.machine.Machine.TheVariants.{Deposit}
 use Rattle.cell_types.specs.declared.zone.Zone.TheVariants.{Z4, Z5}
 use Rattle.cell_types.specs.declared.place.Place.TheVariants.{DepEntry, DepEnd}
+use Rattle.cell_types.specs.declared.pose.Pose.{Pose}
 use Rattle.cell_types.specs.declared.pose.Pose.TheVariants.{Landing, Running, Offering}
 use Rattle.cell_types.specs.declared.call.Call.{Call}
 use Rattle.cell_types.specs.declared.call.Call.TheVariants.{Claim, Give, Take, Release, SetPose, Advance}
-use Rattle.cell_types.specs.declared.answer.Refusal.{Refusal}
-use Rattle.cell_types.specs.declared.answer.Refusal.TheVariants.{Held, NotOwner, PlaceFull}
 use Rattle.cell_types.specs.declared.answer.Event.{Event}
 use Rattle.cell_calib.specs.declared.sense.DepositSense.{DepositSense}
 use Rattle.cell_devices.specs.declared.act.DepositAct.{DepositAct}
 use Rattle.cell_rules.specs.ModelState.{ModelState, is_full}
 use Rattle.cell_rules.specs.History.{Holds, Moves}
+use Rattle.cell_control.specs.declared.row.Row.{Row}
+use Rattle.cell_control.specs.declared.row.Waits.TheVariants.{UntilFree, UntilOwner, UntilRoom}
+use Rattle.cell_control.specs.Row.{waits_on, row_that_asks, row_that_drives, with_waits}
 use Rattle.cell_control.specs.Steps.{Steps}
-use Rattle.cell_haul.specs.declared.deposit_step.DepositStep.{DepositStep}
-use Rattle.cell_haul.specs.declared.deposit_step.DepositStep.TheVariants.{ClaimEntry, ClaimExit, PoseLanding, ReleaseEntry, TakePlate, StartRun, RunIn, RunOut, MoveOn, PoseOffering, GivePlate, ClaimBack}
-use Rattle.cell_haul.specs.declared.deposit_step.DepositProgress.{DepositProgress}
+use Rattle.cell_haul.specs.declared.deposit.DepositStep.{DepositStep}
+use Rattle.cell_haul.specs.declared.deposit.DepositStep.TheVariants.{ClaimEntry, ClaimExit, PoseLanding, ReleaseEntry, TakePlate, StartRun, RunIn, RunOut, MoveOn, PoseOffering, GivePlate, ClaimBack}
+use Rattle.cell_haul.specs.declared.deposit.DepositProgress.{DepositProgress}
 
--- what each step asks; a step that asks nothing drives
-abbrev pub call_of : DepositStep → Option Call
-call_of ClaimEntry = Some (Claim Z4)
-call_of ClaimExit = Some (Claim Z5)
-call_of PoseLanding = Some (SetPose Landing)
-call_of ReleaseEntry = Some (Release Z4)
-call_of TakePlate = Some (Take Z4)
-call_of StartRun = Some (SetPose Running)
-call_of RunIn = None
-call_of RunOut = None
-call_of MoveOn = Some Advance
-call_of PoseOffering = Some (SetPose Offering)
-call_of GivePlate = Some (Give Z5)
-call_of ClaimBack = Some (Claim Z5)
+-- the row of a step that asks, of one that sets a pose, and of one that drives, by the next step
+abbrev pub asks : DepositProgress → Call → DepositStep → Row DepositProgress
+asks p call next = row_that_asks call (record p { step = next })
 
--- the refusals on which a step stays
-abbrev pub stays_on : DepositStep → Refusal → Bool
-stays_on TakePlate (NotOwner _) = true
-stays_on GivePlate PlaceFull = true
-stays_on ClaimBack (Held _) = true
-stays_on _ _ = false
+abbrev pub poses : DepositProgress → Pose → DepositStep → Row DepositProgress
+poses p pose next = asks p (SetPose pose) next
 
--- the first step of the next group, by whether a plate is at the belt's entry and at its end
-abbrev pub choice : Bool → Bool → DepositStep
-choice entry last = if last then PoseOffering else (if entry then StartRun else PoseLanding)
+abbrev pub drives : DepositProgress → DepositStep → Row DepositProgress
+drives p next = row_that_drives (record p { step = next })
 
--- the next step after each that is done
-abbrev pub step_after : DepositStep → Bool → Bool → DepositStep
-step_after ClaimEntry _ _ = ClaimExit
-step_after ClaimExit entry last = choice entry last
-step_after PoseLanding _ _ = ReleaseEntry
-step_after ReleaseEntry _ _ = TakePlate
-step_after TakePlate _ _ = StartRun
-step_after StartRun _ _ = RunIn
-step_after RunIn _ _ = RunOut
-step_after RunOut _ _ = MoveOn
-step_after MoveOn _ _ = PoseOffering
-step_after PoseOffering _ _ = GivePlate
-step_after GivePlate _ _ = ClaimBack
-step_after ClaimBack entry last = choice entry last
+-- with other notes: whether a plate is at the belt's entry and at its end
+abbrev pub with_plates : DepositProgress → Bool → Bool → DepositProgress
+with_plates p entry last = record p { entry = entry; last = last }
 
--- the two notes after a step
-abbrev pub entry_after : DepositStep → Bool → Bool
-entry_after TakePlate _ = true
-entry_after MoveOn _ = false
-entry_after _ entry = entry
+-- the first step of the next group, by the plates on the belt; the row of a step that asks, and leads to that group
+abbrev pub by_plates : DepositProgress → DepositStep
+by_plates p = if p.last then PoseOffering else (if p.entry then StartRun else PoseLanding)
 
-abbrev pub last_after : DepositStep → Bool → Bool
-last_after MoveOn _ = true
-last_after GivePlate _ = false
-last_after _ last = last
+abbrev pub asks_by_plates : DepositProgress → Call → Row DepositProgress
+asks_by_plates p call = asks p call (by_plates p)
+
+-- the row of each step: what it asks, what it waits for, and the next step with its notes
+abbrev pub row_at : DepositStep → DepositProgress → Row DepositProgress
+row_at ClaimEntry p = asks p (Claim Z4) ClaimExit
+row_at ClaimExit p = asks_by_plates p (Claim Z5)
+row_at PoseLanding p = poses p Landing ReleaseEntry
+row_at ReleaseEntry p = asks p (Release Z4) TakePlate
+row_at TakePlate p = with_waits (asks (with_plates p true p.last) (Take Z4) StartRun) UntilOwner
+row_at StartRun p = poses p Running RunIn
+row_at RunIn p = drives p RunOut
+row_at RunOut p = drives p MoveOn
+row_at MoveOn p = asks (with_plates p false true) Advance PoseOffering
+row_at PoseOffering p = poses p Offering GivePlate
+row_at GivePlate p = with_waits (asks (with_plates p p.entry false) (Give Z5) ClaimBack) UntilRoom
+row_at ClaimBack p = with_waits (asks_by_plates p (Claim Z5)) UntilFree
+
+abbrev pub row_of : DepositProgress → Row DepositProgress
+row_of p = row_at p.step p
 
 abbrev pub after_done : DepositProgress → DepositProgress
-after_done p = record { step = step_after p.step p.entry p.last; entry = entry_after p.step p.entry; last = last_after p.step p.last }
+after_done p = (row_of p).next
 
 -- at the start the belt notes its places
 abbrev pub deposit_start : ModelState → DepositProgress
@@ -106,10 +95,10 @@ deposit_steps =
     record {
       machine = Deposit;
       start = deposit_start;
-      call = λ p. call_of p.step;
+      call = λ p. (row_of p).call;
       after_done = after_done;
       after_inquiry = λ p owner flag posture. p;
-      stays_on = λ p r. stays_on p.step r;
+      stays_on = λ p r. waits_on (row_of p).waits r;
       senses = λ s r. r ≡ Ok s;
       drives = λ p s act. act ≡ act_for p s;
       after_drive = λ p s act. after_act p act;

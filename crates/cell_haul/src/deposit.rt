@@ -1,11 +1,147 @@
-ghost use Rattle.cell_haul.specs.DepositProgram.{deposit_steps};
+ghost use Rattle.std.specs.Prelude.{◌≡◌};
+ghost use Rattle.cell_haul.specs.DepositProgram as program;
 
-use crate::deposit_step::{DepositProgress, DepositStep};
 use cell_calib::{DepositSense, SensorFault};
-use cell_control::{Controller, Program};
+use cell_control::{Controller, Program, Row, Waits};
 use cell_devices::DepositAct;
 use cell_rules::State;
 use cell_types::{Call, Machine, Place, Pose, Posture, Refusal, Zone};
+
+/// A step of the deposit belt's program.
+#[derive(Clone, Copy, Debug, PartialEq, Eq)]
+pub enum DepositStep {
+    /// Claims the zone shared with the robot for the first time.
+    ClaimEntry,
+    /// Claims the zone shared with the crane for the first time.
+    ClaimExit,
+    /// Gets ready for a plate.
+    PoseLanding,
+    /// Lets the robot in with a plate.
+    ReleaseEntry,
+    /// Waits for the plate and takes it.
+    TakePlate,
+    /// Sets out to bring the plate to its end.
+    StartRun,
+    /// Runs until the plate is in the barrier.
+    RunIn,
+    /// Runs until the plate is out of the barrier.
+    RunOut,
+    /// Notes the plate at its end.
+    MoveOn,
+    /// Gets ready for the crane.
+    PoseOffering,
+    /// Hands the plate to the crane, when the crane has room.
+    GivePlate,
+    /// Waits until the crane has left.
+    ClaimBack,
+}
+
+/// The deposit belt's step in its program, with its notes.
+#[derive(Clone, Copy, Debug, PartialEq, Eq)]
+pub struct DepositProgress {
+    pub step: DepositStep,
+    /// Whether a plate is at its entry.
+    pub entry: bool,
+    /// Whether a plate is at its end.
+    pub last: bool,
+}
+
+impl DepositProgress {
+    // The row of its step.
+    fn row(self) -> Row<DepositProgress>
+        ensures { result ≡ program.row_of self }
+    {
+        match self.step {
+            DepositStep::ClaimEntry => self.asks(Call::Claim(Zone::Z4), DepositStep::ClaimExit),
+            DepositStep::ClaimExit => self.asks_by_plates(Call::Claim(Zone::Z5)),
+            DepositStep::PoseLanding => self.poses(Pose::Landing, DepositStep::ReleaseEntry),
+            DepositStep::ReleaseEntry => self.asks(Call::Release(Zone::Z4), DepositStep::TakePlate),
+            DepositStep::TakePlate => self
+                .with_plates(true, self.last)
+                .asks(Call::Take(Zone::Z4), DepositStep::StartRun)
+                .waits(Waits::UntilOwner),
+            DepositStep::StartRun => self.poses(Pose::Running, DepositStep::RunIn),
+            DepositStep::RunIn => self.drives(DepositStep::RunOut),
+            DepositStep::RunOut => self.drives(DepositStep::MoveOn),
+            DepositStep::MoveOn => self
+                .with_plates(false, true)
+                .asks(Call::Advance, DepositStep::PoseOffering),
+            DepositStep::PoseOffering => self.poses(Pose::Offering, DepositStep::GivePlate),
+            DepositStep::GivePlate => self
+                .with_plates(self.entry, false)
+                .asks(Call::Give(Zone::Z5), DepositStep::ClaimBack)
+                .waits(Waits::UntilRoom),
+            DepositStep::ClaimBack => self
+                .asks_by_plates(Call::Claim(Zone::Z5))
+                .waits(Waits::UntilFree),
+        }
+    }
+
+    // The row of a step that asks, with its next step.
+    fn asks(self, call: Call, next: DepositStep) -> Row<DepositProgress>
+        ensures { result ≡ program.asks self call next }
+    {
+        Row::asks(call, DepositProgress { step: next, ..self })
+    }
+
+    // The row of a step that asks, and leads to the next group.
+    fn asks_by_plates(self, call: Call) -> Row<DepositProgress>
+        ensures { result ≡ program.asks_by_plates self call }
+    {
+        self.asks(call, self.by_plates())
+    }
+
+    // The row of a step that sets a pose.
+    fn poses(self, pose: Pose, next: DepositStep) -> Row<DepositProgress>
+        ensures { result ≡ program.poses self pose next }
+    {
+        self.asks(Call::SetPose(pose), next)
+    }
+
+    // The row of a step that drives.
+    fn drives(self, next: DepositStep) -> Row<DepositProgress>
+        ensures { result ≡ program.drives self next }
+    {
+        Row::drives(DepositProgress { step: next, ..self })
+    }
+
+    // The same step with other notes of its plates.
+    fn with_plates(self, entry: bool, last: bool) -> DepositProgress
+        ensures { result ≡ program.with_plates self entry last }
+    {
+        DepositProgress {
+            entry,
+            last,
+            ..self
+        }
+    }
+
+    // The first step of the next group, by the plates on the belt.
+    fn by_plates(self) -> DepositStep
+        ensures { result ≡ program.by_plates self }
+    {
+        if self.last {
+            DepositStep::PoseOffering
+        } else if self.entry {
+            DepositStep::StartRun
+        } else {
+            DepositStep::PoseLanding
+        }
+    }
+}
+
+impl DepositStep {
+    // Whether the belt runs in a step that drives.
+    fn runs(self, barrier: bool) -> bool
+        ensures { result ≡ program.runs_at self barrier }
+    {
+        match self {
+            DepositStep::RunIn => !barrier,
+            DepositStep::RunOut => barrier,
+            _ => false,
+        }
+    }
+}
 
 /// The deposit belt's program.
 #[derive(Clone, Copy, Debug, PartialEq, Eq)]
@@ -23,7 +159,7 @@ impl Program for DepositProgram {
 
     type Act = DepositAct;
 
-    ghost steps = { λ _. deposit_steps };
+    ghost steps = { λ _. program.deposit_steps };
 
     fn start(&self, state: &State) -> DepositProgress {
         DepositProgress {
@@ -34,27 +170,11 @@ impl Program for DepositProgram {
     }
 
     fn call(&self, progress: DepositProgress) -> Option<Call> {
-        match progress.step {
-            DepositStep::ClaimEntry => Some(Call::Claim(Zone::Z4)),
-            DepositStep::ClaimExit | DepositStep::ClaimBack => Some(Call::Claim(Zone::Z5)),
-            DepositStep::PoseLanding => Some(Call::SetPose(Pose::Landing)),
-            DepositStep::ReleaseEntry => Some(Call::Release(Zone::Z4)),
-            DepositStep::TakePlate => Some(Call::Take(Zone::Z4)),
-            DepositStep::StartRun => Some(Call::SetPose(Pose::Running)),
-            DepositStep::RunIn | DepositStep::RunOut => None,
-            DepositStep::MoveOn => Some(Call::Advance),
-            DepositStep::PoseOffering => Some(Call::SetPose(Pose::Offering)),
-            DepositStep::GivePlate => Some(Call::Give(Zone::Z5)),
-        }
+        progress.row().call
     }
 
     fn after_done(&self, progress: DepositProgress) -> DepositProgress {
-        let DepositProgress { step, entry, last } = progress;
-        DepositProgress {
-            step: step.next(entry, last),
-            entry: step.entry_after(entry),
-            last: step.last_after(last),
-        }
+        progress.row().next
     }
 
     fn after_inquiry(
@@ -68,12 +188,7 @@ impl Program for DepositProgram {
     }
 
     fn stays_on(&self, progress: DepositProgress, refusal: Refusal) -> bool {
-        matches!(
-            (progress.step, refusal),
-            (DepositStep::TakePlate, Refusal::NotOwner(_))
-                | (DepositStep::GivePlate, Refusal::PlaceFull)
-                | (DepositStep::ClaimBack, Refusal::Held(_))
-        )
+        progress.row().waits.stays_on(refusal)
     }
 
     fn check(&self, sense: &DepositSense) -> Result<DepositSense, SensorFault> {

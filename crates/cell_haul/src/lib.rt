@@ -4,13 +4,11 @@
 pub mod crane;
 pub mod crane_step;
 pub mod deposit;
-pub mod deposit_step;
 pub mod feed;
 pub mod laws;
 
 pub use cell_control::CtlFault;
 pub use crane::{CraneCtl, CraneProgram};
 pub use crane_step::{CraneProgress, CraneReading, CraneStep};
-pub use deposit::{DepositCtl, DepositProgram};
-pub use deposit_step::{DepositProgress, DepositStep};
+pub use deposit::{DepositCtl, DepositProgram, DepositProgress, DepositStep};
 pub use feed::{FeedCtl, FeedProgram, FeedProgress, FeedStep};

@@ -16,10 +16,10 @@ use Rattle.cell_rules.specs.Sound.{IsSound, is_received_by}
 use Rattle.cell_rules.specs.Refusals.{posture_at, given_by}
 use Rattle.cell_rules.specs.Reply.{reply, changed, emptied, filled}
 use Rattle.cell_control.proofs.Facts.{Finds}
-use Rattle.cell_haul.specs.declared.deposit_step.DepositStep.{DepositStep}
-use Rattle.cell_haul.specs.declared.deposit_step.DepositStep.TheVariants.{ClaimEntry, ClaimExit, PoseLanding, ReleaseEntry, TakePlate, StartRun, MoveOn, PoseOffering, GivePlate, ClaimBack}
-use Rattle.cell_haul.specs.declared.deposit_step.DepositProgress.{DepositProgress}
-use Rattle.cell_haul.specs.DepositProgram.{call_of, deposit_start, deposit_steps}
+use Rattle.cell_haul.specs.declared.deposit.DepositStep.{DepositStep}
+use Rattle.cell_haul.specs.declared.deposit.DepositStep.TheVariants.{ClaimEntry, ClaimExit, PoseLanding, ReleaseEntry, TakePlate, StartRun, MoveOn, PoseOffering, GivePlate, ClaimBack}
+use Rattle.cell_haul.specs.declared.deposit.DepositProgress.{DepositProgress}
+use Rattle.cell_haul.specs.DepositProgram.{row_at, deposit_start, deposit_steps}
 use Rattle.cell_haul.proofs.DepositFacts.{DepositKnows, deposit-knowing, drives_at}
 use Rattle.cell_seat.proofs.Keeping.{Keeping}
 use Rattle.cell_seat.proofs.Demanding.{Demanding, WhileOn, demanding_while_on}
@@ -51,28 +51,28 @@ emptied_end full OpenIn e = cc
 emptied_end full OpenOut e = (refl, refl)
 
 -- after each of its calls the plates on it are those of its places
-done_plates : (s : DepositStep) (c : Call) (z : ModelState) (b : Belt) → call_of s ≡ Some c → reply z Deposit c ≡ Done → IsSound z → PlatesStand z DepEntry DepEnd b → PlatesStand (changed z Deposit c) DepEntry DepEnd (set_belt (deposit_called b c) false)
-done_plates ClaimEntry (Claim Z4) z b e d sound k = record { entry = k.entry; end = k.end }
-done_plates ClaimExit (Claim Z5) z b e d sound k = record { entry = k.entry; end = k.end }
-done_plates PoseLanding (SetPose Landing) z b e d sound k = record { entry = k.entry; end = k.end }
-done_plates ReleaseEntry (Release Z4) z b e d sound k = record { entry = k.entry; end = k.end }
-done_plates TakePlate (Take Z4) z b e d sound k =
+done_plates : (s : DepositStep) (p : DepositProgress) (c : Call) (z : ModelState) (b : Belt) → (row_at s p).call ≡ Some c → reply z Deposit c ≡ Done → IsSound z → PlatesStand z DepEntry DepEnd b → PlatesStand (changed z Deposit c) DepEntry DepEnd (set_belt (deposit_called b c) false)
+done_plates ClaimEntry p (Claim Z4) z b e d sound k = record { entry = k.entry; end = k.end }
+done_plates ClaimExit p (Claim Z5) z b e d sound k = record { entry = k.entry; end = k.end }
+done_plates PoseLanding p (SetPose Landing) z b e d sound k = record { entry = k.entry; end = k.end }
+done_plates ReleaseEntry p (Release Z4) z b e d sound k = record { entry = k.entry; end = k.end }
+done_plates TakePlate p (Take Z4) z b e d sound k =
     let on = filled_entry z.full (posture_at z Z4) (plate_taken z Deposit Z4 sound d) in
     record { entry = (λ h. on.0, λ h. refl); end = as_full b.last _ _ on.1 k.end }
-done_plates StartRun (SetPose Running) z b e d sound k = record { entry = k.entry; end = k.end }
-done_plates MoveOn Advance z b e d sound k = record { entry = (λ h. cc, λ h. cc); end = (λ h. refl, λ h. k.entry.1 (plate_worked z Deposit DepEntry DepEnd d refl)) }
-done_plates PoseOffering (SetPose Offering) z b e d sound k = record { entry = k.entry; end = k.end }
-done_plates GivePlate (Give Z5) z b e d sound k =
+done_plates StartRun p (SetPose Running) z b e d sound k = record { entry = k.entry; end = k.end }
+done_plates MoveOn p Advance z b e d sound k = record { entry = (λ h. cc, λ h. cc); end = (λ h. refl, λ h. k.entry.1 (plate_worked z Deposit DepEntry DepEnd d refl)) }
+done_plates PoseOffering p (SetPose Offering) z b e d sound k = record { entry = k.entry; end = k.end }
+done_plates GivePlate p (Give Z5) z b e d sound k =
     let off = emptied_end z.full (posture_at z Z5) (plate_given z Deposit Z5 d) in
     record { entry = as_full b.entry _ _ off.1 k.entry; end = (λ h. cc, λ h. let none = off.0 in cc) }
-done_plates ClaimBack (Claim Z5) z b e d sound k = record { entry = k.entry; end = k.end }
-done_plates s c z b e d sound k = cc
+done_plates ClaimBack p (Claim Z5) z b e d sound k = record { entry = k.entry; end = k.end }
+done_plates s p c z b e d sound k = cc
 
 pub deposit-keeping : Keeping deposit_steps deposit_rig DepositInv DepositInv
 deposit-keeping = record {
   foreign = λ z p b n c apart sound i. record { knows = deposit-knowing.foreign p z n c apart sound i.knows; plates = plates_foreign z n c DepEntry DepEnd b sound apart apart i.plates };
   rests = λ z p b i. record { knows = i.knows; plates = plates_set z DepEntry DepEnd b false i.plates };
-  after_done = λ z p b c e d sound i. record { knows = deposit-knowing.after_done p z c e d sound i.knows; plates = done_plates p.step c z b e d sound i.plates };
+  after_done = λ z p b c e d sound i. record { knows = deposit-knowing.after_done p z c e d sound i.knows; plates = done_plates p.step p c z b e d sound i.plates };
   after_inquiry = λ z p b c owner flag posture e d sound i. record { knows = i.knows; plates = plates_set z DepEntry DepEnd b false i.plates };
   after_drive = λ z p b s reading act e shows senses drives i. record { knows = deposit-knowing.after_drive p reading act z e drives i.knows; plates = plates_set z DepEntry DepEnd b act.belt i.plates };
   told = λ z p b i. i;
@@ -85,4 +85,4 @@ DepositRuns = WhileOn Deposit (λ b. IsTrue b.runs) (λ p. Finds Z4 Moving ∷ F
 
 pub deposit-demanding : Demanding deposit_steps deposit_rig DepositInv DepositInv DepositRuns
 deposit-demanding =
-    demanding_while_on deposit_steps deposit_rig DepositInv DepositInv (λ b. IsTrue b.runs) (λ p. Finds Z4 Moving ∷ Finds Z5 Moving ∷ []) (λ p b runs. cc) (λ z p b s reading act e shows senses drives i runs. let at = drives_at p.step z e i.knows in ((at.0.0, at.1.0), ((at.0.1, at.1.1), tt))) (λ b runs. sym (still_runs b) ∙ runs)
+    demanding_while_on deposit_steps deposit_rig DepositInv DepositInv (λ b. IsTrue b.runs) (λ p. Finds Z4 Moving ∷ Finds Z5 Moving ∷ []) (λ p b runs. cc) (λ z p b s reading act e shows senses drives i runs. let at = drives_at p.step p z e i.knows in ((at.0.0, at.1.0), ((at.0.1, at.1.1), tt))) (λ b runs. sym (still_runs b) ∙ runs)

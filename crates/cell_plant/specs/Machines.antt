@@ -19,7 +19,7 @@ use Rattle.cell_control.specs.Rigs.{Rig}
 use Rattle.cell_control.specs.Steps.{Steps}
 use Rattle.cell_haul.specs.declared.crane_step.CraneProgress.{CraneProgress}
 use Rattle.cell_haul.specs.declared.crane_step.CraneReading.{CraneReading}
-use Rattle.cell_haul.specs.declared.deposit_step.DepositProgress.{DepositProgress}
+use Rattle.cell_haul.specs.declared.deposit.DepositProgress.{DepositProgress}
 use Rattle.cell_haul.specs.declared.feed.FeedProgress.{FeedProgress}
 use Rattle.cell_haul.specs.CraneProgram.{crane_steps}
 use Rattle.cell_haul.specs.DepositProgram.{deposit_steps}
