@@ -21,10 +21,10 @@ use Rattle.cell_control.specs.Steps.{IsReached}
 use Rattle.cell_control.specs.Demands.{HoldsIn}
 use Rattle.cell_control.proofs.StepLemmas.{Knowing, reached_knows}
 use Rattle.cell_control.proofs.Facts.{Fact, Finds, AreSo, are_foreign, found, Stands, stands, handed, entered, posed}
-use Rattle.cell_haul.specs.declared.crane_step.CraneStep.{CraneStep}
-use Rattle.cell_haul.specs.declared.crane_step.CraneStep.TheVariants.{RaiseToFetch, TravelToDeposit, AwaitPlate, LowerToPlate, GripPlate, RaiseWithPlate, TakePlate, ReleaseDeposit, TravelToFeed, ClaimFeed, LowerToFeed, DropPlate, RaiseFromFeed, GivePlate}
-use Rattle.cell_haul.specs.declared.crane_step.CraneProgress.{CraneProgress}
-use Rattle.cell_haul.specs.CraneProgram.{call_of, step_after, step_after_inquiry, first_step, crane_start, after_done, is_done, gripper_zone, crane_steps}
+use Rattle.cell_haul.specs.declared.crane.CraneStep.{CraneStep}
+use Rattle.cell_haul.specs.declared.crane.CraneStep.TheVariants.{RaiseToFetch, TravelToDeposit, AwaitPlate, LowerToPlate, GripPlate, RaiseWithPlate, TakePlate, ReleaseDeposit, TravelToFeed, ClaimFeed, LowerToFeed, DropPlate, RaiseFromFeed, GivePlate}
+use Rattle.cell_haul.specs.declared.crane.CraneProgress.{CraneProgress}
+use Rattle.cell_haul.specs.CraneProgram.{row_at, row_of, step_after_inquiry, first_step, crane_start, after_done, is_done, gripper_zone, crane_steps}
 
 abbrev pub facts_at : CraneStep → List Fact
 facts_at RaiseToFetch = []
@@ -53,20 +53,20 @@ pub crane_begins : (z : ModelState) → CraneKnows (crane_start z) z
 crane_begins z = begins (is_full z OnCrane) z
 
 -- after a drive, or after switching the magnet
-done_drive : (s : CraneStep) (z : ModelState) → call_of s ≡ None → AreSo Crane z (facts_at s) → AreSo Crane z (facts_at (step_after s))
-done_drive RaiseToFetch z e k = k
-done_drive TravelToDeposit z e k = k
-done_drive LowerToPlate z e k = k
-done_drive GripPlate z e k = k
-done_drive RaiseWithPlate z e k = k
-done_drive TravelToFeed z e k = k
-done_drive LowerToFeed z e k = k
-done_drive DropPlate z e k = k
-done_drive RaiseFromFeed z e k = k
-done_drive _ z e k = cc
+done_drive : (s : CraneStep) (p : CraneProgress) (z : ModelState) → (row_at s p).call ≡ None → AreSo Crane z (facts_at s) → CraneKnows (row_at s p).next z
+done_drive RaiseToFetch p z e k = k
+done_drive TravelToDeposit p z e k = k
+done_drive LowerToPlate p z e k = k
+done_drive GripPlate p z e k = k
+done_drive RaiseWithPlate p z e k = k
+done_drive TravelToFeed p z e k = k
+done_drive LowerToFeed p z e k = k
+done_drive DropPlate p z e k = k
+done_drive RaiseFromFeed p z e k = k
+done_drive _ p z e k = cc
 
-drive_on : (b : Bool) (p : CraneProgress) (z : ModelState) → call_of p.step ≡ None → CraneKnows p z → CraneKnows (if b then after_done p else p) z
-drive_on true p z e k = done_drive p.step z e k
+drive_on : (b : Bool) (p : CraneProgress) (z : ModelState) → (row_of p).call ≡ None → CraneKnows p z → CraneKnows (if b then after_done p else p) z
+drive_on true p z e k = done_drive p.step p z e k
 drive_on false p z e k = k
 
 -- a plate comes to the crane only while the deposit belt's zone is open outward
@@ -84,29 +84,29 @@ opens_in OpenIn e f = refl
 opens_in OpenOut e f = cc
 
 -- after a call that is done
-done_call : (s : CraneStep) (c : Call) (z : ModelState) → call_of s ≡ Some c → reply z Crane c ≡ Done → IsSound z → AreSo Crane z (facts_at s) → AreSo Crane (changed z Crane c) (facts_at (step_after s))
-done_call TakePlate (Take Z5) z e d sound k = ((k.0.0, k.0.1), tt)
-done_call ReleaseDeposit (Release Z5) z e d sound k = tt
-done_call ClaimFeed (Claim Z6) z e d sound k = ((refl, opens_in (posture_at z Z6) (entered z Z6 Crane d refl) (posed z Z6 sound)), tt)
-done_call GivePlate (Give Z6) z e d sound k = tt
-done_call s c z e d sound k = cc
+done_call : (s : CraneStep) (p : CraneProgress) (c : Call) (z : ModelState) → (row_at s p).call ≡ Some c → reply z Crane c ≡ Done → IsSound z → AreSo Crane z (facts_at s) → CraneKnows (row_at s p).next (changed z Crane c)
+done_call TakePlate p (Take Z5) z e d sound k = ((k.0.0, k.0.1), tt)
+done_call ReleaseDeposit p (Release Z5) z e d sound k = tt
+done_call ClaimFeed p (Claim Z6) z e d sound k = ((refl, opens_in (posture_at z Z6) (entered z Z6 Crane d refl) (posed z Z6 sound)), tt)
+done_call GivePlate p (Give Z6) z e d sound k = tt
+done_call s p c z e d sound k = cc
 
 -- after an inquiry that showed this
 at_deposit : (z : ModelState) (o : Option Machine) (f : Bool) (q : Posture) → IsSound z → Stands z Z5 o f q → AreSo Crane z (facts_at (step_after_inquiry AwaitPlate o f))
 at_deposit z (Some Crane) true q sound k = ((ap (λ x. is_owned_by x Crane) k.owner, gives_out (posture_at z Z5) (handed z Z5 Crane sound k.owner k.flag)), tt)
 at_deposit z o f q sound k = tt
 
-shown_call : (s : CraneStep) (c : Call) (z : ModelState) (o : Option Machine) (f : Bool) (q : Posture) → call_of s ≡ Some c → reply z Crane c ≡ Shown o f q → IsSound z → AreSo Crane z (facts_at s) → AreSo Crane z (facts_at (step_after_inquiry s o f))
-shown_call AwaitPlate (Inquire Z5) z o f q e d sound k = at_deposit z o f q sound (stands z Crane Z5 o f q d)
-shown_call AwaitPlate c z o f q e d sound k = cc
-shown_call s c z o f q e d sound k = k
+shown_call : (s : CraneStep) (p : CraneProgress) (c : Call) (z : ModelState) (o : Option Machine) (f : Bool) (q : Posture) → (row_at s p).call ≡ Some c → reply z Crane c ≡ Shown o f q → IsSound z → AreSo Crane z (facts_at s) → AreSo Crane z (facts_at (step_after_inquiry s o f))
+shown_call AwaitPlate p (Inquire Z5) z o f q e d sound k = at_deposit z o f q sound (stands z Crane Z5 o f q d)
+shown_call AwaitPlate p c z o f q e d sound k = cc
+shown_call s p c z o f q e d sound k = k
 
 pub crane-knowing : (points : Scale) (gives : ℕ → ℤ → Type 0) → Knowing (crane_steps points gives) CraneKnows
 crane-knowing points gives = record {
   foreign = λ p z n c apart sound k. are_foreign Crane n c z (facts_at p.step) apart sound k;
   after_drive = λ p r act z e d k. drive_on (is_done p.step r.high act) p z e k;
-  after_done = λ p z c e d sound k. done_call p.step c z e d sound k;
-  after_inquiry = λ p z c o f q e d sound k. shown_call p.step c z o f q e d sound k;
+  after_done = λ p z c e d sound k. done_call p.step p c z e d sound k;
+  after_inquiry = λ p z c o f q e d sound k. shown_call p.step p c z o f q e d sound k;
 }
 
 -- so in each step the crane holds the gripper's zone

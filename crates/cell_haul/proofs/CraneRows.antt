@@ -1,22 +1,23 @@
 -- The crane's program meets the rows of the examples.
-use Rattle.std.proofs.Common.{◌≡◌, ◌∙◌, sym, ap, rules, ℕ, Some, None, pos, Bool, true, false, Option, [], ◌∷◌, refl}
+use Rattle.std.proofs.Common.{◌≡◌, ◌∙◌, sym, ap, rules, ℕ, Some, None, pos, Bool, true, false, Option, refl}
 use Rattle.std.specs.Int.Signed.{le_z_yes, lt_z_yes}
 use Rattle.cell_types.specs.declared.machine.Machine.{Machine}
 use Rattle.cell_types.specs.declared.machine.Machine.TheVariants.{Crane}
 use Rattle.cell_types.specs.declared.posture.Posture.{Posture}
 use Rattle.cell_types.specs.declared.answer.Refusal.{Refusal}
-use Rattle.cell_types.specs.declared.answer.Refusal.TheVariants.{Held, Shut}
 use Rattle.cell_calib.specs.Scale.{Scale}
 use Rattle.cell_devices.specs.declared.stops.Stop.{Stop}
 use Rattle.cell_devices.specs.declared.act.CraneAct.{CraneAct}
 use Rattle.cell_devices.proofs.DriveLemmas.{drives_one, stops_there, goes_plus, goes_minus}
 use Rattle.cell_rules.specs.ModelState.{ModelState}
-use Rattle.cell_control.specs.Rows.{stays_by, DriveRow, UntilFree, UntilOpen, is_inquiry}
-use Rattle.cell_haul.specs.declared.crane_step.CraneStep.{CraneStep}
-use Rattle.cell_haul.specs.declared.crane_step.CraneStep.TheVariants.{RaiseToFetch, TravelToDeposit, AwaitPlate, LowerToPlate, GripPlate, RaiseWithPlate, TravelToFeed, ClaimFeed, LowerToFeed, DropPlate, RaiseFromFeed}
-use Rattle.cell_haul.specs.declared.crane_step.CraneReading.{CraneReading}
-use Rattle.cell_haul.specs.declared.crane_step.CraneProgress.{CraneProgress}
-use Rattle.cell_haul.specs.CraneProgram.{call_of, stays_on, gripper_stop, Acts, after_act, after_done, step_after_inquiry}
+use Rattle.cell_control.specs.Row.{waits_on}
+use Rattle.cell_control.specs.Rows.{DriveRow, is_inquiry}
+use Rattle.cell_control.proofs.WaitLemmas.{wait-rows}
+use Rattle.cell_haul.specs.declared.crane.CraneStep.{CraneStep}
+use Rattle.cell_haul.specs.declared.crane.CraneStep.TheVariants.{RaiseToFetch, TravelToDeposit, AwaitPlate, LowerToPlate, GripPlate, RaiseWithPlate, TravelToFeed, LowerToFeed, DropPlate, RaiseFromFeed}
+use Rattle.cell_haul.specs.declared.crane.CraneReading.{CraneReading}
+use Rattle.cell_haul.specs.declared.crane.CraneProgress.{CraneProgress}
+use Rattle.cell_haul.specs.CraneProgram.{row_at, row_of, gripper_stop, Acts, after_act, after_done, step_after_inquiry}
 use Rattle.cell_haul.specs.CraneExamples.{begins_with, rows_by, scale, at, told, awaits, CraneAsks, GripperDrives, TravelDrives, MagnetSteps, CraneChecks, CraneRowsAreMet}
 
 begins : (points : Scale) (s : ModelState) (loaded : Bool) → (rows_by points).start (record s { full = record s.full { crane = loaded } }) ≡ begins_with loaded
@@ -27,17 +28,12 @@ leads_awaiting : (points : Scale) (magnet : Bool) (owner : Option Machine) (flag
 leads_awaiting points magnet (Some Crane) true posture = refl
 leads_awaiting points magnet _ _ posture = refl
 
-stays_claiming : (r : Refusal) → stays_on ClaimFeed r ≡ stays_by (UntilFree ∷ UntilOpen ∷ []) r
-stays_claiming (Held _) = refl
-stays_claiming (Shut _) = refl
-stays_claiming _ = refl
-
 asks : (points : Scale) (magnet : Bool) → CraneAsks points magnet
 asks points magnet = record {
   awaits_plate = record { asks = refl; stays = λ r. refl; leads = leads_awaiting points magnet };
   takes = record { asks = refl; stays = λ r. refl; leads = refl };
   releases_deposit = record { asks = refl; stays = λ r. refl; leads = refl };
-  claims_feed = record { asks = refl; stays = stays_claiming; leads = refl };
+  claims_feed = record { asks = refl; stays = wait-rows.until_free_and_open; leads = refl };
   gives = record { asks = refl; stays = λ r. refl; leads = refl };
 }
 
@@ -49,7 +45,7 @@ acts_one points p r a b at_a at_b =
     let magnet : b.magnet ≡ a.magnet = at_b.magnet ∙ sym at_a.magnet in
     ap (λ t. told t b.height b.magnet) travel ∙ ap (λ h. told a.travel h b.magnet) height ∙ ap (λ m. told a.travel a.height m) magnet
 
-drive_row : (step : CraneStep) (magnet : Bool) (r : CraneReading) (act : CraneAct) (next : CraneProgress) → call_of step ≡ None → Acts scale (at step magnet) r act → after_act (at step magnet) r act ≡ next → DriveRow (rows_by scale) (at step magnet) r act next
+drive_row : (step : CraneStep) (magnet : Bool) (r : CraneReading) (act : CraneAct) (next : CraneProgress) → (row_of (at step magnet)).call ≡ None → Acts scale (at step magnet) r act → after_act (at step magnet) r act ≡ next → DriveRow (rows_by scale) (at step magnet) r act next
 drive_row step magnet r act next asks_nothing acts leads = record { asks_nothing = asks_nothing; drives = acts; drives_only = λ other d. acts_one scale (at step magnet) r act other acts d; leads = leads }
 
 abbrev travel_stop : Stop
@@ -129,25 +125,25 @@ checks = record {
 }
 
 -- answers that can't come
-not_done : (s : CraneStep) (magnet : Bool) → is_inquiry (call_of s) ≡ true → after_done (at s magnet) ≡ at s magnet
+not_done : (s : CraneStep) (magnet : Bool) → is_inquiry (row_of (at s magnet)).call ≡ true → after_done (at s magnet) ≡ at s magnet
 not_done AwaitPlate magnet e = refl
 not_done _ magnet e = cc
 
-not_shown : (s : CraneStep) (magnet : Bool) (owner : Option Machine) (flag : Bool) → is_inquiry (call_of s) ≡ false → at (step_after_inquiry s owner flag) magnet ≡ at s magnet
+not_shown : (s : CraneStep) (magnet : Bool) (owner : Option Machine) (flag : Bool) → is_inquiry (row_of (at s magnet)).call ≡ false → at (step_after_inquiry s owner flag) magnet ≡ at s magnet
 not_shown AwaitPlate magnet owner flag e = cc
 not_shown _ magnet owner flag e = refl
 
-never_refused : (s : CraneStep) (r : Refusal) → call_of s ≡ None → stays_on s r ≡ false
-never_refused RaiseToFetch r e = refl
-never_refused TravelToDeposit r e = refl
-never_refused LowerToPlate r e = refl
-never_refused GripPlate r e = refl
-never_refused RaiseWithPlate r e = refl
-never_refused TravelToFeed r e = refl
-never_refused LowerToFeed r e = refl
-never_refused DropPlate r e = refl
-never_refused RaiseFromFeed r e = refl
-never_refused _ r e = cc
+never_refused : (s : CraneStep) (p : CraneProgress) (r : Refusal) → (row_at s p).call ≡ None → waits_on (row_at s p).waits r ≡ false
+never_refused RaiseToFetch p r e = refl
+never_refused TravelToDeposit p r e = refl
+never_refused LowerToPlate p r e = refl
+never_refused GripPlate p r e = refl
+never_refused RaiseWithPlate p r e = refl
+never_refused TravelToFeed p r e = refl
+never_refused LowerToFeed p r e = refl
+never_refused DropPlate p r e = refl
+never_refused RaiseFromFeed p r e = refl
+never_refused _ p r e = cc
 
 pub crane-rows : CraneRowsAreMet
 crane-rows = record {
@@ -157,7 +153,7 @@ crane-rows = record {
   travel = travel;
   magnet = switches;
   checks = checks;
-  no_other_answers = λ points. record { not_done = λ p e. not_done p.step p.magnet e; not_shown = λ p owner flag posture e. not_shown p.step p.magnet owner flag e; not_refused = λ p r e. never_refused p.step r e };
+  no_other_answers = λ points. record { not_done = λ p e. not_done p.step p.magnet e; not_shown = λ p owner flag posture e. not_shown p.step p.magnet owner flag e; not_refused = λ p r e. never_refused p.step p r e };
   rests = λ points step magnet. refl;
   demands = λ points magnet on travel height opening seen is_on. record { lower_to_plate = λ k. k is_on; raise_with_plate = λ k. k is_on; lower_to_feed = λ k. k is_on; raise_from_feed = λ k. k is_on };
 }

@@ -5,7 +5,7 @@ use Rattle.cell_calib.specs.Line.{IsReading}
 use Rattle.cell_calib.specs.declared.sense.CraneSense.{CraneSense}
 use Rattle.cell_calib.specs.declared.sense.SensorFault.{SensorFault}
 use Rattle.cell_calib.specs.declared.sense.SensorFault.TheVariants.{Low, High, Clash}
-use Rattle.cell_haul.specs.declared.crane_step.CraneReading.{CraneReading}
+use Rattle.cell_haul.specs.declared.crane.CraneReading.{CraneReading}
 use Rattle.cell_haul.specs.CraneProgram.{Senses}
 
 pub senses_near : (points : Scale) (gives : ℕ → ℤ → Type 0) (s : CraneSense) (r : Result CraneReading SensorFault) → Senses points gives s r → Senses points (IsReading points) s r

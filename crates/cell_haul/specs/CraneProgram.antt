@@ -9,8 +9,6 @@ use Rattle.cell_types.specs.declared.posture.Posture.{Posture}
 use Rattle.cell_types.specs.declared.posture.Posture.TheVariants.{OpenIn, OpenOut}
 use Rattle.cell_types.specs.declared.call.Call.{Call}
 use Rattle.cell_types.specs.declared.call.Call.TheVariants.{Claim, Give, Take, Release, Inquire}
-use Rattle.cell_types.specs.declared.answer.Refusal.{Refusal}
-use Rattle.cell_types.specs.declared.answer.Refusal.TheVariants.{Held, Shut}
 use Rattle.cell_types.specs.declared.answer.Event.{Event}
 use Rattle.cell_calib.specs.Scale.{Scale}
 use Rattle.cell_calib.specs.Line.{IsReading}
@@ -26,66 +24,55 @@ use Rattle.cell_devices.specs.declared.act.CraneAct.{CraneAct}
 use Rattle.cell_devices.specs.Drives.{DrivesTo}
 use Rattle.cell_devices.specs.Limits.{travel_from}
 use Rattle.cell_rules.specs.ModelState.{ModelState, is_full}
+use Rattle.cell_control.specs.declared.row.Row.{Row}
+use Rattle.cell_control.specs.declared.row.Waits.TheVariants.{UntilFreeAndOpen}
+use Rattle.cell_control.specs.Row.{waits_on, row_that_asks, row_that_drives, with_waits}
 use Rattle.cell_control.specs.Steps.{Steps}
 use Rattle.cell_control.specs.Demands.{HoldsIn}
-use Rattle.cell_haul.specs.declared.crane_step.CraneStep.{CraneStep}
-use Rattle.cell_haul.specs.declared.crane_step.CraneStep.TheVariants.{RaiseToFetch, TravelToDeposit, AwaitPlate, LowerToPlate, GripPlate, RaiseWithPlate, TakePlate, ReleaseDeposit, TravelToFeed, ClaimFeed, LowerToFeed, DropPlate, RaiseFromFeed, GivePlate}
-use Rattle.cell_haul.specs.declared.crane_step.CraneProgress.{CraneProgress}
-use Rattle.cell_haul.specs.declared.crane_step.CraneReading.{CraneReading}
+use Rattle.cell_haul.specs.declared.crane.CraneStep.{CraneStep}
+use Rattle.cell_haul.specs.declared.crane.CraneStep.TheVariants.{RaiseToFetch, TravelToDeposit, AwaitPlate, LowerToPlate, GripPlate, RaiseWithPlate, TakePlate, ReleaseDeposit, TravelToFeed, ClaimFeed, LowerToFeed, DropPlate, RaiseFromFeed, GivePlate}
+use Rattle.cell_haul.specs.declared.crane.CraneProgress.{CraneProgress}
+use Rattle.cell_haul.specs.declared.crane.CraneReading.{CraneReading}
 
--- what each step asks; a step that asks nothing drives, or switches the magnet
-abbrev pub call_of : CraneStep → Option Call
-call_of RaiseToFetch = None
-call_of TravelToDeposit = None
-call_of AwaitPlate = Some (Inquire Z5)
-call_of LowerToPlate = None
-call_of GripPlate = None
-call_of RaiseWithPlate = None
-call_of TakePlate = Some (Take Z5)
-call_of ReleaseDeposit = Some (Release Z5)
-call_of TravelToFeed = None
-call_of ClaimFeed = Some (Claim Z6)
-call_of LowerToFeed = None
-call_of DropPlate = None
-call_of RaiseFromFeed = None
-call_of GivePlate = Some (Give Z6)
+-- the row of a step that asks, and of one that drives or switches the magnet, by the next step
+abbrev pub asks : CraneProgress → Call → CraneStep → Row CraneProgress
+asks p call next = row_that_asks call (record p { step = next })
 
--- the refusals on which a step stays
-abbrev pub stays_on : CraneStep → Refusal → Bool
-stays_on ClaimFeed (Held _) = true
-stays_on ClaimFeed (Shut _) = true
-stays_on _ _ = false
+abbrev pub drives : CraneProgress → CraneStep → Row CraneProgress
+drives p next = row_that_drives (record p { step = next })
 
--- the next step after each that is done; an inquiry isn't done, and leads on by what it shows
-abbrev pub step_after : CraneStep → CraneStep
-step_after RaiseToFetch = TravelToDeposit
-step_after TravelToDeposit = AwaitPlate
-step_after AwaitPlate = AwaitPlate
-step_after LowerToPlate = GripPlate
-step_after GripPlate = RaiseWithPlate
-step_after RaiseWithPlate = TakePlate
-step_after TakePlate = ReleaseDeposit
-step_after ReleaseDeposit = TravelToFeed
-step_after TravelToFeed = ClaimFeed
-step_after ClaimFeed = LowerToFeed
-step_after LowerToFeed = DropPlate
-step_after DropPlate = RaiseFromFeed
-step_after RaiseFromFeed = GivePlate
-step_after GivePlate = RaiseToFetch
+-- with another note: whether the gripper's magnet is on
+abbrev pub with_magnet : CraneProgress → Bool → CraneProgress
+with_magnet p magnet = record p { magnet = magnet }
+
+-- the row of each step: what it asks, what it waits for, and the next step with its note; an inquiry isn't done, and
+-- leads on by what it shows
+abbrev pub row_at : CraneStep → CraneProgress → Row CraneProgress
+row_at RaiseToFetch p = drives p TravelToDeposit
+row_at TravelToDeposit p = drives p AwaitPlate
+row_at AwaitPlate p = asks p (Inquire Z5) AwaitPlate
+row_at LowerToPlate p = drives p GripPlate
+row_at GripPlate p = drives (with_magnet p true) RaiseWithPlate
+row_at RaiseWithPlate p = drives p TakePlate
+row_at TakePlate p = asks p (Take Z5) ReleaseDeposit
+row_at ReleaseDeposit p = asks p (Release Z5) TravelToFeed
+row_at TravelToFeed p = drives p ClaimFeed
+row_at ClaimFeed p = with_waits (asks p (Claim Z6) LowerToFeed) UntilFreeAndOpen
+row_at LowerToFeed p = drives p DropPlate
+row_at DropPlate p = drives (with_magnet p false) RaiseFromFeed
+row_at RaiseFromFeed p = drives p GivePlate
+row_at GivePlate p = asks p (Give Z6) RaiseToFetch
+
+abbrev pub row_of : CraneProgress → Row CraneProgress
+row_of p = row_at p.step p
+
+abbrev pub after_done : CraneProgress → CraneProgress
+after_done p = (row_of p).next
 
 -- an inquiry leads on if it shows that the zone is the crane's and has a plate
 abbrev pub step_after_inquiry : CraneStep → Option Machine → Bool → CraneStep
 step_after_inquiry AwaitPlate (Some Crane) true = LowerToPlate
 step_after_inquiry step _ _ = step
-
--- two steps switch the magnet, and the others leave it as it is
-abbrev pub magnet_by : CraneStep → Bool → Bool
-magnet_by GripPlate _ = true
-magnet_by DropPlate _ = false
-magnet_by _ magnet = magnet
-
-abbrev pub after_done : CraneProgress → CraneProgress
-after_done p = record { step = step_after p.step; magnet = magnet_by p.step p.magnet }
 
 -- with a plate the crane begins on its way to the feed belt
 abbrev pub first_step : Bool → CraneStep
@@ -133,11 +120,11 @@ travel_for TravelToDeposit high s = if high then (if s.deposit then Off else Min
 travel_for TravelToFeed high s = if high then (if s.feed then Off else Plus) else Off
 travel_for _ high s = Off
 
--- the commands to motors and magnet in a step that asks nothing
+-- the commands to motors and magnet in a step that asks nothing; the magnet is already as the next step has it
 pub record Acts (points : Scale) (p : CraneProgress) (r : CraneReading) (act : CraneAct) : Type 0 where
   pub travel : act.travel ≡ travel_for p.step r.high r.sense
   pub height : DrivesTo (gripper_stop p.step) points.tol r.gripper act.height
-  pub magnet : act.magnet ≡ magnet_by p.step p.magnet
+  pub magnet : act.magnet ≡ (row_of p).next.magnet
 
 abbrev pub is_off : Motor → Bool
 is_off Off = true
@@ -168,10 +155,10 @@ crane_steps points gives =
     record {
       machine = Crane;
       start = crane_start;
-      call = λ p. call_of p.step;
+      call = λ p. (row_of p).call;
       after_done = after_done;
       after_inquiry = λ p owner flag posture. record p { step = step_after_inquiry p.step owner flag };
-      stays_on = λ p r. stays_on p.step r;
+      stays_on = λ p r. waits_on (row_of p).waits r;
       senses = Senses points gives;
       drives = λ p r act. Acts points p r act;
       after_drive = λ p r act. after_act p r act;

@@ -1,14 +1,162 @@
-ghost use Rattle.std.specs.Prelude.{◌≡◌, ◌↔◌, IsTrue, ◌+ℤ◌, ◌≤ℤ◌};
-ghost use Rattle.cell_devices.specs.Drives.{DrivesTo};
+ghost use Rattle.std.specs.Prelude.{◌≡◌, ◌↔◌, ◌≤◌, IfSome, IsTrue, ◌+ℤ◌, ◌≤ℤ◌};
+ghost use Rattle.cell_devices.specs.Drives.{DrivesTo, narrowest_half};
 ghost use Rattle.cell_devices.specs.Limits.{travel_from};
-ghost use Rattle.cell_haul.specs.CraneProgram.{crane_steps, gripper_stop};
+ghost use Rattle.cell_haul.specs.CraneProgram as program;
 
-use crate::crane_step::{CraneProgress, CraneReading, CraneStep};
 use cell_calib::{Calibration, CraneSense, Gauge, SensorFault};
-use cell_control::{Controller, Program};
-use cell_devices::{CraneAct, Motor, drive_to, is_travel_high};
+use cell_control::{Controller, Program, Row, Waits};
+use cell_devices::stops::{GRIPPER_DEPOSIT, GRIPPER_FEED, GRIPPER_TRAVEL};
+use cell_devices::{
+    CraneAct, Motor, Stop, crane_to_deposit, crane_to_feed, drive_to, is_travel_high,
+};
 use cell_rules::State;
 use cell_types::{Call, Machine, Place, Posture, Refusal, Zone};
+
+/// A step of the crane's program.
+#[derive(Clone, Copy, Debug, PartialEq, Eq)]
+pub enum CraneStep {
+    /// Raises the empty gripper to travel.
+    RaiseToFetch,
+    /// Travels to the deposit belt.
+    TravelToDeposit,
+    /// Waits for the deposit belt to hand a plate over.
+    AwaitPlate,
+    /// Lowers the gripper to the plate.
+    LowerToPlate,
+    /// Switches the magnet on.
+    GripPlate,
+    /// Raises the gripper with the plate.
+    RaiseWithPlate,
+    /// Takes the plate.
+    TakePlate,
+    /// Leaves the deposit belt.
+    ReleaseDeposit,
+    /// Travels to the feed belt.
+    TravelToFeed,
+    /// Waits until the feed belt lets it in.
+    ClaimFeed,
+    /// Lowers the plate to the feed belt.
+    LowerToFeed,
+    /// Switches the magnet off.
+    DropPlate,
+    /// Raises the empty gripper from the feed belt.
+    RaiseFromFeed,
+    /// Hands the plate to the feed belt.
+    GivePlate,
+}
+
+/// The crane's step in its program, with its note.
+#[derive(Clone, Copy, Debug, PartialEq, Eq)]
+pub struct CraneProgress {
+    pub step: CraneStep,
+    /// Whether the gripper's magnet is on.
+    pub magnet: bool,
+}
+
+/// What the crane's sensors say after the check.
+#[derive(Clone, Copy, Debug, PartialEq, Eq)]
+pub struct CraneReading {
+    /// The switches, which don't clash, and the raw value.
+    pub sense: CraneSense,
+    /// The height of the gripper, in tenths of a millimetre.
+    pub gripper: i32,
+    /// Whether the gripper is surely high enough to travel.
+    pub high: bool,
+}
+
+impl CraneProgress {
+    // The row of its step. An inquiry isn't done: it leads on by what it shows.
+    fn row(self) -> Row<CraneProgress>
+        ensures { result ≡ program.row_of self }
+    {
+        match self.step {
+            CraneStep::RaiseToFetch => self.drives(CraneStep::TravelToDeposit),
+            CraneStep::TravelToDeposit => self.drives(CraneStep::AwaitPlate),
+            CraneStep::AwaitPlate => self.asks(Call::Inquire(Zone::Z5), CraneStep::AwaitPlate),
+            CraneStep::LowerToPlate => self.drives(CraneStep::GripPlate),
+            CraneStep::GripPlate => self.with_magnet(true).drives(CraneStep::RaiseWithPlate),
+            CraneStep::RaiseWithPlate => self.drives(CraneStep::TakePlate),
+            CraneStep::TakePlate => self.asks(Call::Take(Zone::Z5), CraneStep::ReleaseDeposit),
+            CraneStep::ReleaseDeposit => {
+                self.asks(Call::Release(Zone::Z5), CraneStep::TravelToFeed)
+            }
+            CraneStep::TravelToFeed => self.drives(CraneStep::ClaimFeed),
+            CraneStep::ClaimFeed => self
+                .asks(Call::Claim(Zone::Z6), CraneStep::LowerToFeed)
+                .waits(Waits::UntilFreeAndOpen),
+            CraneStep::LowerToFeed => self.drives(CraneStep::DropPlate),
+            CraneStep::DropPlate => self.with_magnet(false).drives(CraneStep::RaiseFromFeed),
+            CraneStep::RaiseFromFeed => self.drives(CraneStep::GivePlate),
+            CraneStep::GivePlate => self.asks(Call::Give(Zone::Z6), CraneStep::RaiseToFetch),
+        }
+    }
+
+    // The row of a step that asks, with its next step.
+    fn asks(self, call: Call, next: CraneStep) -> Row<CraneProgress>
+        ensures { result ≡ program.asks self call next }
+    {
+        Row::asks(call, CraneProgress { step: next, ..self })
+    }
+
+    // The row of a step that drives, or switches the magnet.
+    fn drives(self, next: CraneStep) -> Row<CraneProgress>
+        ensures { result ≡ program.drives self next }
+    {
+        Row::drives(CraneProgress { step: next, ..self })
+    }
+
+    // The same step with another note of its magnet.
+    fn with_magnet(self, magnet: bool) -> CraneProgress
+        ensures { result ≡ program.with_magnet self magnet }
+    {
+        CraneProgress { magnet, ..self }
+    }
+}
+
+impl CraneStep {
+    // The next step after an inquiry that showed this owner and this flag.
+    fn after_inquiry(self, owner: Option<Machine>, flag: bool) -> CraneStep
+        ensures { result ≡ program.step_after_inquiry self owner flag }
+    {
+        match (self, owner, flag) {
+            (CraneStep::AwaitPlate, Some(Machine::Crane), true) => CraneStep::LowerToPlate,
+            _ => self,
+        }
+    }
+
+    // The height that the step drives the gripper to.
+    fn gripper_stop(self) -> Option<Stop>
+        ensures stop { result ≡ program.gripper_stop self }
+        ensures half { IfSome result (λ s. narrowest_half ≤ s.half) }
+    {
+        match self {
+            CraneStep::LowerToPlate => Some(GRIPPER_DEPOSIT),
+            CraneStep::LowerToFeed => Some(GRIPPER_FEED),
+            CraneStep::RaiseToFetch | CraneStep::RaiseWithPlate | CraneStep::RaiseFromFeed => {
+                Some(GRIPPER_TRAVEL)
+            }
+            _ => None,
+        }
+    }
+
+    // Whether the crane travels in the step.
+    fn travels(self) -> bool
+        ensures { result ≡ program.travels self }
+    {
+        matches!(self, CraneStep::TravelToDeposit | CraneStep::TravelToFeed)
+    }
+
+    // The travel motor's command in the step, by whether the gripper is high.
+    fn travel(self, high: bool, crane: &CraneSense) -> Motor
+        ensures { result ≡ program.travel_for self high crane.now }
+    {
+        match self {
+            CraneStep::TravelToDeposit if high => crane_to_deposit(crane),
+            CraneStep::TravelToFeed if high => crane_to_feed(crane),
+            _ => Motor::Off,
+        }
+    }
+}
 
 /// The crane's program, with the calibration of its gripper's height.
 #[derive(Drop)]
@@ -37,7 +185,7 @@ impl<F: Gauge> Program for CraneProgram<F> {
 
     type Act = CraneAct;
 
-    ghost steps = { λ c. crane_steps c.gripper.points (λ raw v. F.gives c.gripper.gauge raw v) };
+    ghost steps = { λ c. program.crane_steps c.gripper.points (λ raw v. F.gives c.gripper.gauge raw v) };
 
     fn start(&self, state: &State) -> CraneProgress {
         let loaded = state.is_full(Place::Crane);
@@ -52,30 +200,11 @@ impl<F: Gauge> Program for CraneProgram<F> {
     }
 
     fn call(&self, progress: CraneProgress) -> Option<Call> {
-        match progress.step {
-            CraneStep::AwaitPlate => Some(Call::Inquire(Zone::Z5)),
-            CraneStep::TakePlate => Some(Call::Take(Zone::Z5)),
-            CraneStep::ReleaseDeposit => Some(Call::Release(Zone::Z5)),
-            CraneStep::ClaimFeed => Some(Call::Claim(Zone::Z6)),
-            CraneStep::GivePlate => Some(Call::Give(Zone::Z6)),
-            CraneStep::RaiseToFetch
-            | CraneStep::TravelToDeposit
-            | CraneStep::LowerToPlate
-            | CraneStep::GripPlate
-            | CraneStep::RaiseWithPlate
-            | CraneStep::TravelToFeed
-            | CraneStep::LowerToFeed
-            | CraneStep::DropPlate
-            | CraneStep::RaiseFromFeed => None,
-        }
+        progress.row().call
     }
 
     fn after_done(&self, progress: CraneProgress) -> CraneProgress {
-        let CraneProgress { step, magnet } = progress;
-        CraneProgress {
-            step: step.next(),
-            magnet: step.magnet(magnet),
-        }
+        progress.row().next
     }
 
     fn after_inquiry(
@@ -92,10 +221,7 @@ impl<F: Gauge> Program for CraneProgram<F> {
     }
 
     fn stays_on(&self, progress: CraneProgress, refusal: Refusal) -> bool {
-        matches!(
-            (progress.step, refusal),
-            (CraneStep::ClaimFeed, Refusal::Held(_)) | (CraneStep::ClaimFeed, Refusal::Shut(_))
-        )
+        progress.row().waits.stays_on(refusal)
     }
 
     fn check(&self, sense: &CraneSense) -> Result<CraneReading, SensorFault> {
@@ -117,7 +243,7 @@ impl<F: Gauge> Program for CraneProgram<F> {
         CraneAct {
             travel: step.travel(reading.high, &reading.sense),
             height: height(&self.gripper, step, reading.gripper),
-            magnet: step.magnet(progress.magnet),
+            magnet: progress.row().next.magnet,
         }
     }
 
@@ -141,7 +267,7 @@ impl<F: Gauge> Program for CraneProgram<F> {
 
 // The height motor's command in a step.
 fn height<F: Gauge>(gripper: &Calibration<F>, step: CraneStep, read: i32) -> Motor
-    ensures { DrivesTo (gripper_stop step) gripper.now.points.tol read result }
+    ensures { DrivesTo (program.gripper_stop step) gripper.now.points.tol read result }
 {
     drive_to(step.gripper_stop(), gripper.tol(), read)
 }

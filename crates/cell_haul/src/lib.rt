@@ -2,13 +2,11 @@
 #![tactic(auto)]
 
 pub mod crane;
-pub mod crane_step;
 pub mod deposit;
 pub mod feed;
 pub mod laws;
 
 pub use cell_control::CtlFault;
-pub use crane::{CraneCtl, CraneProgram};
-pub use crane_step::{CraneProgress, CraneReading, CraneStep};
+pub use crane::{CraneCtl, CraneProgram, CraneProgress, CraneReading, CraneStep};
 pub use deposit::{DepositCtl, DepositProgram, DepositProgress, DepositStep};
 pub use feed::{FeedCtl, FeedProgram, FeedProgress, FeedStep};

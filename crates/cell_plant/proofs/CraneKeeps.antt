@@ -21,11 +21,11 @@ use Rattle.cell_rules.specs.Reply.{changed}
 use Rattle.cell_control.specs.declared.fault.CtlFault.{CtlFault}
 use Rattle.cell_control.specs.Turns.{Turned, Turns}
 use Rattle.cell_control.proofs.Facts.{AreSo}
-use Rattle.cell_haul.specs.declared.crane_step.CraneStep.{CraneStep}
-use Rattle.cell_haul.specs.declared.crane_step.CraneStep.TheVariants.{RaiseToFetch, TravelToDeposit, AwaitPlate, LowerToPlate, GripPlate, RaiseWithPlate, TakePlate, ReleaseDeposit, TravelToFeed, ClaimFeed, LowerToFeed, DropPlate, RaiseFromFeed, GivePlate}
-use Rattle.cell_haul.specs.declared.crane_step.CraneProgress.{CraneProgress}
-use Rattle.cell_haul.specs.declared.crane_step.CraneReading.{CraneReading}
-use Rattle.cell_haul.specs.CraneProgram.{call_of, step_after, step_after_inquiry, magnet_by, after_done, first_step, crane_start, is_off, is_done, travels, travel_for, gripper_stop, Senses, Acts, crane_steps}
+use Rattle.cell_haul.specs.declared.crane.CraneStep.{CraneStep}
+use Rattle.cell_haul.specs.declared.crane.CraneStep.TheVariants.{RaiseToFetch, TravelToDeposit, AwaitPlate, LowerToPlate, GripPlate, RaiseWithPlate, TakePlate, ReleaseDeposit, TravelToFeed, ClaimFeed, LowerToFeed, DropPlate, RaiseFromFeed, GivePlate}
+use Rattle.cell_haul.specs.declared.crane.CraneProgress.{CraneProgress}
+use Rattle.cell_haul.specs.declared.crane.CraneReading.{CraneReading}
+use Rattle.cell_haul.specs.CraneProgram.{row_at, row_of, step_after_inquiry, after_done, first_step, crane_start, is_off, is_done, travels, travel_for, gripper_stop, Senses, Acts, crane_steps}
 use Rattle.cell_haul.proofs.CraneFacts.{facts_at, CraneKnows, crane_begins, crane-knowing}
 use Rattle.cell_seat.specs.Sides.{act_or_rest}
 use Rattle.cell_seat.proofs.Keeping.{Keeping, turn_tells}
@@ -181,29 +181,29 @@ crane-start s = record {
 }
 
 -- a step that asks leaves it where it is
-asks_level : (s : CraneStep) (c : Call) (h : ℤ) → call_of s ≡ Some c → IsAt (level_of s) h → IsAt (level_of (step_after s)) h
-asks_level AwaitPlate c h e k = k
-asks_level TakePlate c h e k = k
-asks_level ReleaseDeposit c h e k = k
-asks_level ClaimFeed c h e k = tt
-asks_level GivePlate c h e k = k
-asks_level s c h e k = cc
+asks_level : (s : CraneStep) (p : CraneProgress) (c : Call) (h : ℤ) → (row_at s p).call ≡ Some c → IsAt (level_of s) h → IsAt (level_of (row_at s p).next.step) h
+asks_level AwaitPlate p c h e k = k
+asks_level TakePlate p c h e k = k
+asks_level ReleaseDeposit p c h e k = k
+asks_level ClaimFeed p c h e k = tt
+asks_level GivePlate p c h e k = k
+asks_level s p c h e k = cc
 
-asks_stand : (s : CraneStep) (c : Call) (x : ℤ) → call_of s ≡ Some c → IsOver (stand_of s) x → IsOver (stand_of (step_after s)) x
-asks_stand AwaitPlate c x e k = k
-asks_stand TakePlate c x e k = tt
-asks_stand ReleaseDeposit c x e k = tt
-asks_stand ClaimFeed c x e k = k
-asks_stand GivePlate c x e k = tt
-asks_stand s c x e k = cc
+asks_stand : (s : CraneStep) (p : CraneProgress) (c : Call) (x : ℤ) → (row_at s p).call ≡ Some c → IsOver (stand_of s) x → IsOver (stand_of (row_at s p).next.step) x
+asks_stand AwaitPlate p c x e k = k
+asks_stand TakePlate p c x e k = tt
+asks_stand ReleaseDeposit p c x e k = tt
+asks_stand ClaimFeed p c x e k = k
+asks_stand GivePlate p c x e k = tt
+asks_stand s p c x e k = cc
 
-asks_magnet : (s : CraneStep) (c : Call) (m : Bool) → call_of s ≡ Some c → m ≡ magnet_by s m
-asks_magnet AwaitPlate c m e = refl
-asks_magnet TakePlate c m e = refl
-asks_magnet ReleaseDeposit c m e = refl
-asks_magnet ClaimFeed c m e = refl
-asks_magnet GivePlate c m e = refl
-asks_magnet s c m e = cc
+asks_magnet : (s : CraneStep) (p : CraneProgress) (c : Call) → (row_at s p).call ≡ Some c → p.magnet ≡ (row_at s p).next.magnet
+asks_magnet AwaitPlate p c e = refl
+asks_magnet TakePlate p c e = refl
+asks_magnet ReleaseDeposit p c e = refl
+asks_magnet ClaimFeed p c e = refl
+asks_magnet GivePlate p c e = refl
+asks_magnet s p c e = cc
 
 awaits_level : (o : Option Machine) (f : Bool) (h : ℤ) → pos 850 ≤ℤ h → IsAt (level_of (step_after_inquiry AwaitPlate o f)) h
 awaits_level (Some Crane) true h k = tt
@@ -231,29 +231,29 @@ lowered h read tol a b = (omega (arith, ints), omega (arith, ints))
 over : (h read tol : ℤ) → tol ≤ℤ pos 10 → IsNear read h tol → (pos 900 +ℤ (pos 50 -ℤ tol)) <ℤ read → pos 900 <ℤ h
 over h read tol a b c = omega (arith, ints)
 
-done_level : (s : CraneStep) (h read tol : ℤ) (m : Motor) → call_of s ≡ None → IsNear read h tol → DrivesTo (gripper_stop s) tol read m → m ≡ Off → IsAt (level_of s) h → IsAt (level_of (step_after s)) h
-done_level RaiseToFetch h read tol m e near drives off k = k
-done_level TravelToDeposit h read tol m e near drives off k = k
-done_level LowerToPlate h read tol m e near drives off k = tt
-done_level GripPlate h read tol m e near drives off k = tt
-done_level RaiseWithPlate h read tol m e near drives off k = raised h read tol near (drives.off.0 off)
-done_level TravelToFeed h read tol m e near drives off k = k
-done_level LowerToFeed h read tol m e near drives off k = lowered h read tol near (drives.off.0 off)
-done_level DropPlate h read tol m e near drives off k = tt
-done_level RaiseFromFeed h read tol m e near drives off k = raised h read tol near (drives.off.0 off)
-done_level s h read tol m e near drives off k = cc
+done_level : (s : CraneStep) (p : CraneProgress) (h read tol : ℤ) (m : Motor) → (row_at s p).call ≡ None → IsNear read h tol → DrivesTo (gripper_stop s) tol read m → m ≡ Off → IsAt (level_of s) h → IsAt (level_of (row_at s p).next.step) h
+done_level RaiseToFetch p h read tol m e near drives off k = k
+done_level TravelToDeposit p h read tol m e near drives off k = k
+done_level LowerToPlate p h read tol m e near drives off k = tt
+done_level GripPlate p h read tol m e near drives off k = tt
+done_level RaiseWithPlate p h read tol m e near drives off k = raised h read tol near (drives.off.0 off)
+done_level TravelToFeed p h read tol m e near drives off k = k
+done_level LowerToFeed p h read tol m e near drives off k = lowered h read tol near (drives.off.0 off)
+done_level DropPlate p h read tol m e near drives off k = tt
+done_level RaiseFromFeed p h read tol m e near drives off k = raised h read tol near (drives.off.0 off)
+done_level s p h read tol m e near drives off k = cc
 
-stays_level : (s : CraneStep) (g : Axis) (read tol : ℤ) (m : Motor) → call_of s ≡ None → tol ≤ℤ pos 10 → IsNear read g.position tol → DrivesTo (gripper_stop s) tol read m → IsAt (level_of s) g.position → IsToldAt (level_of s) (set_axis g m)
-stays_level RaiseToFetch g read tol m e small near drives k = (k, λ minus. over g.position read tol small near (drives.minus.0 minus))
-stays_level TravelToDeposit g read tol m e small near drives k = level_off Up (set_axis g m) drives k
-stays_level TravelToFeed g read tol m e small near drives k = level_off Up (set_axis g m) drives k
-stays_level DropPlate g read tol m e small near drives k = level_off Close (set_axis g m) drives k
-stays_level LowerToPlate g read tol m e small near drives k = tt
-stays_level GripPlate g read tol m e small near drives k = tt
-stays_level RaiseWithPlate g read tol m e small near drives k = tt
-stays_level LowerToFeed g read tol m e small near drives k = tt
-stays_level RaiseFromFeed g read tol m e small near drives k = tt
-stays_level s g read tol m e small near drives k = cc
+stays_level : (s : CraneStep) (p : CraneProgress) (g : Axis) (read tol : ℤ) (m : Motor) → (row_at s p).call ≡ None → tol ≤ℤ pos 10 → IsNear read g.position tol → DrivesTo (gripper_stop s) tol read m → IsAt (level_of s) g.position → IsToldAt (level_of s) (set_axis g m)
+stays_level RaiseToFetch p g read tol m e small near drives k = (k, λ minus. over g.position read tol small near (drives.minus.0 minus))
+stays_level TravelToDeposit p g read tol m e small near drives k = level_off Up (set_axis g m) drives k
+stays_level TravelToFeed p g read tol m e small near drives k = level_off Up (set_axis g m) drives k
+stays_level DropPlate p g read tol m e small near drives k = level_off Close (set_axis g m) drives k
+stays_level LowerToPlate p g read tol m e small near drives k = tt
+stays_level GripPlate p g read tol m e small near drives k = tt
+stays_level RaiseWithPlate p g read tol m e small near drives k = tt
+stays_level LowerToFeed p g read tol m e small near drives k = tt
+stays_level RaiseFromFeed p g read tol m e small near drives k = tt
+stays_level s p g read tol m e small near drives k = cc
 
 -- the travel is driven
 at_switch : (high at : Bool) (on : Motor) → high ≡ true → (if high then (if at then Off else on) else Off) ≡ Off → (on ≡ Off → ⊥) → at ≡ true
@@ -261,30 +261,30 @@ at_switch true true on e f g = refl
 at_switch true false on e f g = absurd (g f)
 at_switch false at on e f g = cc
 
-done_stand : (s : CraneStep) (x : ℤ) (high : Bool) (sense : CraneSense) (m : Motor) → call_of s ≡ None → m ≡ travel_for s high sense → m ≡ Off → (travels s ≡ true → high ≡ true)
-    → (sense.deposit ≡ true → x ≤ℤ pos 10) → (sense.feed ≡ true → pos 1990 ≤ℤ x) → IsOver (stand_of s) x → IsOver (stand_of (step_after s)) x
-done_stand RaiseToFetch x high sense m e drives off h d f k = tt
-done_stand TravelToDeposit x high sense m e drives off h d f k = d (at_switch high sense.deposit Minus (h refl) (sym drives ∙ off) (λ q. cc))
-done_stand LowerToPlate x high sense m e drives off h d f k = k
-done_stand GripPlate x high sense m e drives off h d f k = k
-done_stand RaiseWithPlate x high sense m e drives off h d f k = tt
-done_stand TravelToFeed x high sense m e drives off h d f k = f (at_switch high sense.feed Plus (h refl) (sym drives ∙ off) (λ q. cc))
-done_stand LowerToFeed x high sense m e drives off h d f k = k
-done_stand DropPlate x high sense m e drives off h d f k = k
-done_stand RaiseFromFeed x high sense m e drives off h d f k = tt
-done_stand s x high sense m e drives off h d f k = cc
+done_stand : (s : CraneStep) (p : CraneProgress) (x : ℤ) (high : Bool) (sense : CraneSense) (m : Motor) → (row_at s p).call ≡ None → m ≡ travel_for s high sense → m ≡ Off → (travels s ≡ true → high ≡ true)
+    → (sense.deposit ≡ true → x ≤ℤ pos 10) → (sense.feed ≡ true → pos 1990 ≤ℤ x) → IsOver (stand_of s) x → IsOver (stand_of (row_at s p).next.step) x
+done_stand RaiseToFetch p x high sense m e drives off h d f k = tt
+done_stand TravelToDeposit p x high sense m e drives off h d f k = d (at_switch high sense.deposit Minus (h refl) (sym drives ∙ off) (λ q. cc))
+done_stand LowerToPlate p x high sense m e drives off h d f k = k
+done_stand GripPlate p x high sense m e drives off h d f k = k
+done_stand RaiseWithPlate p x high sense m e drives off h d f k = tt
+done_stand TravelToFeed p x high sense m e drives off h d f k = f (at_switch high sense.feed Plus (h refl) (sym drives ∙ off) (λ q. cc))
+done_stand LowerToFeed p x high sense m e drives off h d f k = k
+done_stand DropPlate p x high sense m e drives off h d f k = k
+done_stand RaiseFromFeed p x high sense m e drives off h d f k = tt
+done_stand s p x high sense m e drives off h d f k = cc
 
-stays_stand : (s : CraneStep) (a : Axis) (high : Bool) (sense : CraneSense) (m : Motor) → call_of s ≡ None → m ≡ travel_for s high sense → IsOver (stand_of s) a.position → IsToldOver (stand_of s) (set_axis a m)
-stays_stand RaiseToFetch a high sense m e drives k = tt
-stays_stand TravelToDeposit a high sense m e drives k = tt
-stays_stand TravelToFeed a high sense m e drives k = tt
-stays_stand LowerToPlate a high sense m e drives k = (k, drives)
-stays_stand GripPlate a high sense m e drives k = (k, drives)
-stays_stand RaiseWithPlate a high sense m e drives k = (k, drives)
-stays_stand LowerToFeed a high sense m e drives k = (k, drives)
-stays_stand DropPlate a high sense m e drives k = (k, drives)
-stays_stand RaiseFromFeed a high sense m e drives k = (k, drives)
-stays_stand s a high sense m e drives k = cc
+stays_stand : (s : CraneStep) (p : CraneProgress) (a : Axis) (high : Bool) (sense : CraneSense) (m : Motor) → (row_at s p).call ≡ None → m ≡ travel_for s high sense → IsOver (stand_of s) a.position → IsToldOver (stand_of s) (set_axis a m)
+stays_stand RaiseToFetch p a high sense m e drives k = tt
+stays_stand TravelToDeposit p a high sense m e drives k = tt
+stays_stand TravelToFeed p a high sense m e drives k = tt
+stays_stand LowerToPlate p a high sense m e drives k = (k, drives)
+stays_stand GripPlate p a high sense m e drives k = (k, drives)
+stays_stand RaiseWithPlate p a high sense m e drives k = (k, drives)
+stays_stand LowerToFeed p a high sense m e drives k = (k, drives)
+stays_stand DropPlate p a high sense m e drives k = (k, drives)
+stays_stand RaiseFromFeed p a high sense m e drives k = (k, drives)
+stays_stand s p a high sense m e drives k = cc
 
 -- a step that switches a magnet is done in its turn
 both_off : (a b : Motor) → (is_off a && is_off b) ≡ true → (a ≡ Off) × (b ≡ Off)
@@ -295,10 +295,10 @@ not_both : (a b : Motor) → a ≡ Off → b ≡ Off → (is_off a && is_off b) 
 not_both Off Off e f g = cc
 not_both a b e f g = cc
 
-stays_magnet : (s : CraneStep) (high : Bool) (sense : CraneSense) (tol read : ℤ) (act : CraneAct) (m : Bool) → call_of s ≡ None → act.travel ≡ travel_for s high sense → DrivesTo (gripper_stop s) tol read act.height → is_done s high act ≡ false → magnet_by s m ≡ m
-stays_magnet GripPlate high sense tol read act m e travel height stays = absurd (not_both act.travel act.height travel height stays)
-stays_magnet DropPlate high sense tol read act m e travel height stays = absurd (not_both act.travel act.height travel height stays)
-stays_magnet s high sense tol read act m e travel height stays = refl
+stays_magnet : (s : CraneStep) (p : CraneProgress) (high : Bool) (sense : CraneSense) (tol read : ℤ) (act : CraneAct) → (row_at s p).call ≡ None → act.travel ≡ travel_for s high sense → DrivesTo (gripper_stop s) tol read act.height → is_done s high act ≡ false → (row_at s p).next.magnet ≡ p.magnet
+stays_magnet GripPlate p high sense tol read act e travel height stays = absurd (not_both act.travel act.height travel height stays)
+stays_magnet DropPlate p high sense tol read act e travel height stays = absurd (not_both act.travel act.height travel height stays)
+stays_magnet s p high sense tol read act e travel height stays = refl
 
 -- what a done step says of its motors
 done_when : (t high : Bool) (a b : Motor) → ((not t || high) && (is_off a && is_off b)) ≡ true → ((t ≡ true → high ≡ true) × ((a ≡ Off) × (b ≡ Off)))
@@ -329,7 +329,7 @@ at_rest y p q c i knows magnet level stand = record {
 }
 
 module _ (points : Scale) (axis : IsAxisScale gripper_end points) where
-  drive : (b : Bool) (z : ModelState) (p : CraneProgress) (c : CranePlant) (s : CraneSense) (r : CraneReading) (act : CraneAct) → is_done p.step r.high act ≡ b → call_of p.step ≡ None → CraneShows points c s → Senses points (IsReading points) s (Ok r) → Acts points p r act → CraneInv z p c
+  drive : (b : Bool) (z : ModelState) (p : CraneProgress) (c : CranePlant) (s : CraneSense) (r : CraneReading) (act : CraneAct) → is_done p.step r.high act ≡ b → (row_of p).call ≡ None → CraneShows points c s → Senses points (IsReading points) s (Ok r) → Acts points p r act → CraneInv z p c
       → CraneKnows (if b then after_done p else p) z → CraneTold z (if b then after_done p else p) (set_crane c act)
   drive true z p c s r act b e shows senses acts i knows =
       let off = done_when (travels p.step) r.high act.travel act.height b in
@@ -339,19 +339,19 @@ module _ (points : Scale) (axis : IsAxisScale gripper_end points) where
         magnet = acts.magnet;
         gripper_within = i.gripper_within;
         travel_within = i.travel_within;
-        level = level_off (level_of (step_after p.step)) (set_axis c.gripper act.height) off.1.1 (done_level p.step c.gripper.position r.gripper points.tol act.height e near acts.height off.1.1 i.level);
-        stand = stand_off (stand_of (step_after p.step)) (set_axis c.travel act.travel) off.1.0
-            (done_stand p.step c.travel.position r.high s act.travel e (acts.travel ∙ ap (λ x. travel_for p.step r.high x) senses.switches) off.1.0 off.0 (λ d. shows.deposit.0 d) (λ f. shows.feed.0 f) i.stand);
+        level = level_off (level_of (row_of p).next.step) (set_axis c.gripper act.height) off.1.1 (done_level p.step p c.gripper.position r.gripper points.tol act.height e near acts.height off.1.1 i.level);
+        stand = stand_off (stand_of (row_of p).next.step) (set_axis c.travel act.travel) off.1.0
+            (done_stand p.step p c.travel.position r.high s act.travel e (acts.travel ∙ ap (λ x. travel_for p.step r.high x) senses.switches) off.1.0 off.0 (λ d. shows.deposit.0 d) (λ f. shows.feed.0 f) i.stand);
         travelling = λ on. absurd (on off.1.0);
       }
   drive false z p c s r act b e shows senses acts i knows =
       record {
         knows = knows;
-        magnet = acts.magnet ∙ stays_magnet p.step r.high r.sense points.tol r.gripper act p.magnet e acts.travel acts.height b;
+        magnet = acts.magnet ∙ stays_magnet p.step p r.high r.sense points.tol r.gripper act e acts.travel acts.height b;
         gripper_within = i.gripper_within;
         travel_within = i.travel_within;
-        level = stays_level p.step c.gripper r.gripper points.tol act.height e axis.scale.coarsest (gripper_near points c s r axis i.gripper_within shows senses) acts.height i.level;
-        stand = stays_stand p.step c.travel r.high r.sense act.travel e acts.travel i.stand;
+        level = stays_level p.step p c.gripper r.gripper points.tol act.height e axis.scale.coarsest (gripper_near points c s r axis i.gripper_within shows senses) acts.height i.level;
+        stand = stays_stand p.step p c.travel r.high r.sense act.travel e acts.travel i.stand;
         travelling = told_travels p.step r.high r.sense act.travel acts.travel;
       }
 
@@ -368,7 +368,7 @@ module _ (points : Scale) (axis : IsAxisScale gripper_end points) where
     };
     rests = λ z p b i. at_rest z p p b i i.knows refl i.level i.stand;
     after_done = λ z p b c e d sound i.
-        at_rest (changed z Crane c) p (after_done p) b i ((crane-knowing points (IsReading points)).after_done p z c e d sound i.knows) (asks_magnet p.step c p.magnet e) (asks_level p.step c b.gripper.position e i.level) (asks_stand p.step c b.travel.position e i.stand);
+        at_rest (changed z Crane c) p (after_done p) b i ((crane-knowing points (IsReading points)).after_done p z c e d sound i.knows) (asks_magnet p.step p c e) (asks_level p.step p c b.gripper.position e i.level) (asks_stand p.step p c b.travel.position e i.stand);
     after_inquiry = λ z p b c o f q e d sound i.
         at_rest z p (record p { step = step_after_inquiry p.step o f }) b i ((crane-knowing points (IsReading points)).after_inquiry p z c o f q e d sound i.knows) refl (shows_level p.step o f b.gripper.position i.level) (shows_stand p.step o f b.travel.position i.stand);
     after_drive = λ z p b s r act e shows senses acts i. drive (is_done p.step r.high act) z p b s r act refl e shows senses acts i ((crane-knowing points (IsReading points)).after_drive p r act z e acts i.knows);
@@ -492,10 +492,10 @@ stops_within s = tt
 abbrev LetsGoThere : CranePlant → CraneAct → Type 0
 LetsGoThere c act = LetsGo c.magnet act.magnet → CraneMayLetGo (set_crane c act)
 
-lets_go_at : (s : CraneStep) (c : CranePlant) (act : CraneAct) (m : Bool) → c.magnet ≡ m → act.magnet ≡ magnet_by s m → IsAt (level_of s) c.gripper.position → IsOver (stand_of s) c.travel.position → LetsGoThere c act
-lets_go_at GripPlate c act m was is level stand go = let off = go.1 in cc
-lets_go_at DropPlate c act m was is level stand go = (stand, level)
-lets_go_at s c act m was is level stand go = absurd (still_on act.magnet c.magnet (is ∙ sym was) go)
+lets_go_at : (s : CraneStep) (p : CraneProgress) (c : CranePlant) (act : CraneAct) → c.magnet ≡ p.magnet → act.magnet ≡ (row_at s p).next.magnet → IsAt (level_of s) c.gripper.position → IsOver (stand_of s) c.travel.position → LetsGoThere c act
+lets_go_at GripPlate p c act was is level stand go = let off = go.1 in cc
+lets_go_at DropPlate p c act was is level stand go = (stand, level)
+lets_go_at s p c act was is level stand go = absurd (still_on act.magnet c.magnet (is ∙ sym was) go)
 
 module _ (points : Scale) (axis : IsAxisScale gripper_end points) (z : ModelState) (p : CraneProgress) (c : CranePlant) (i : CraneInv z p c) (s : CraneSense) (shows : CraneShows points c s) where
   acts_within : (r : CraneReading) (act : CraneAct) → Senses points (IsReading points) s (Ok r) → Acts points p r act → ¬ DrivesOut (set_crane c act)
@@ -511,4 +511,4 @@ module _ (points : Scale) (axis : IsAxisScale gripper_end points) (z : ModelStat
       → LetsGoThere c (act_or_rest ((crane_steps points (IsReading points)).rest p) w.result)
   crane-lets-go same asks stopped w k =
       turn_tells (crane_steps points (IsReading points)) same asks p s (λ act. LetsGoThere c act) (λ go. absurd (still_on p.magnet c.magnet (sym i.magnet) go))
-      (λ r act e senses drives. lets_go_at p.step c act p.magnet i.magnet drives.magnet i.level i.stand) stopped w k
+      (λ r act e senses drives. lets_go_at p.step p c act i.magnet drives.magnet i.level i.stand) stopped w k

@@ -21,8 +21,8 @@ use Rattle.cell_rules.specs.History.{IsLegal, after}
 use Rattle.cell_rules.specs.Journal.{noted}
 use Rattle.cell_control.specs.declared.fault.CtlFault.TheVariants.{Sensor as BySensor}
 use Rattle.cell_control.specs.Turns.{Performed, PerformsSensed, Turned, turned}
-use Rattle.cell_haul.specs.declared.crane_step.CraneProgress.{CraneProgress}
-use Rattle.cell_haul.specs.declared.crane_step.CraneReading.{CraneReading}
+use Rattle.cell_haul.specs.declared.crane.CraneProgress.{CraneProgress}
+use Rattle.cell_haul.specs.declared.crane.CraneReading.{CraneReading}
 use Rattle.cell_haul.specs.CraneProgram.{Senses}
 use Rattle.cell_notes.specs.declared.counts.Counts.{Counts}
 use Rattle.cell_notes.specs.declared.run_record.RunRecord.{RunRecord}

@@ -16,8 +16,8 @@ use Rattle.cell_control.specs.Steps.{Steps}
 use Rattle.cell_control.specs.Turns.{Turned}
 use Rattle.cell_calib.specs.declared.sense.CraneSense.{CraneSense}
 use Rattle.cell_devices.specs.declared.act.CraneAct.{CraneAct}
-use Rattle.cell_haul.specs.declared.crane_step.CraneProgress.{CraneProgress}
-use Rattle.cell_haul.specs.declared.crane_step.CraneReading.{CraneReading}
+use Rattle.cell_haul.specs.declared.crane.CraneProgress.{CraneProgress}
+use Rattle.cell_haul.specs.declared.crane.CraneReading.{CraneReading}
 use Rattle.cell_haul.specs.CraneProgram.{crane_steps}
 use Rattle.cell_calib.specs.declared.sense.RobotSense.{RobotSense}
 use Rattle.cell_devices.specs.declared.act.RobotAct.{RobotAct}

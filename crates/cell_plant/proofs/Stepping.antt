@@ -21,7 +21,7 @@ use Rattle.cell_robot.specs.RobotProgram.{RobotScales, RobotGauges, near_lines, 
 use Rattle.cell_robot.proofs.RobotSenses.{senses_near as robot_senses_near}
 use Rattle.cell_stations.specs.declared.table.TableProgress.{TableProgress}
 use Rattle.cell_control.specs.declared.fault.CtlFault.{CtlFault}
-use Rattle.cell_haul.specs.declared.crane_step.CraneProgress.{CraneProgress}
+use Rattle.cell_haul.specs.declared.crane.CraneProgress.{CraneProgress}
 use Rattle.cell_haul.specs.CraneProgram.{Senses as CraneSenses, crane_steps}
 use Rattle.cell_haul.proofs.CraneSenses.{senses_near as crane_senses_near}
 use Rattle.cell_haul.specs.DepositProgram.{deposit_steps}

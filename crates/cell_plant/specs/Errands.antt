@@ -3,7 +3,7 @@ use Rattle.std.specs.Prelude.{Option, Some, None}
 use Rattle.cell_types.specs.declared.zone.Zone.{Zone}
 use Rattle.cell_types.specs.declared.zone.Zone.TheVariants.{Z5, Z6}
 use Rattle.cell_types.specs.declared.posture.Posture.{Posture}
-use Rattle.cell_haul.specs.declared.crane_step.CraneStep.{CraneStep}
+use Rattle.cell_haul.specs.declared.crane.CraneStep.{CraneStep}
 use Rattle.cell_haul.specs.CraneProgram.{gripper_zone}
 use Rattle.cell_parts.specs.MotorDemands.{GripperErrand, ForTravel, AtDeposit, AtFeed}
 

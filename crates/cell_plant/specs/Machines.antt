@@ -17,8 +17,8 @@ use Rattle.cell_devices.specs.declared.act.TableAct.{TableAct}
 use Rattle.cell_calib.specs.Line.{IsReading}
 use Rattle.cell_control.specs.Rigs.{Rig}
 use Rattle.cell_control.specs.Steps.{Steps}
-use Rattle.cell_haul.specs.declared.crane_step.CraneProgress.{CraneProgress}
-use Rattle.cell_haul.specs.declared.crane_step.CraneReading.{CraneReading}
+use Rattle.cell_haul.specs.declared.crane.CraneProgress.{CraneProgress}
+use Rattle.cell_haul.specs.declared.crane.CraneReading.{CraneReading}
 use Rattle.cell_haul.specs.declared.deposit.DepositProgress.{DepositProgress}
 use Rattle.cell_haul.specs.declared.feed.FeedProgress.{FeedProgress}
 use Rattle.cell_haul.specs.CraneProgram.{crane_steps}

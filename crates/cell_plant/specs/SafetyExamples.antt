@@ -11,8 +11,8 @@ use Rattle.cell_devices.specs.declared.motor.Motor.TheVariants.{Off, Plus, Minus
 use Rattle.cell_rules.specs.ModelState.{ModelState}
 use Rattle.cell_rules.specs.PlaceSet.{empty, insert_place}
 use Rattle.cell_rules.specs.Start.{start_state}
-use Rattle.cell_haul.specs.declared.crane_step.CraneStep.{CraneStep}
-use Rattle.cell_haul.specs.declared.crane_step.CraneStep.TheVariants.{RaiseToFetch, LowerToPlate, RaiseWithPlate, LowerToFeed, RaiseFromFeed}
+use Rattle.cell_haul.specs.declared.crane.CraneStep.{CraneStep}
+use Rattle.cell_haul.specs.declared.crane.CraneStep.TheVariants.{RaiseToFetch, LowerToPlate, RaiseWithPlate, LowerToFeed, RaiseFromFeed}
 use Rattle.cell_haul.specs.DepositProgram.{deposit_start}
 use Rattle.cell_haul.specs.FeedProgram.{feed_start}
 use Rattle.cell_robot.specs.RobotProgram.{robot_start}

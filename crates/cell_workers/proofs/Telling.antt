@@ -31,8 +31,8 @@ use Rattle.cell_control.specs.Turns.{Performed, PerformsSensed, Turned, Turns, a
 use Rattle.cell_devices.specs.declared.motor.Motor.{Motor}
 use Rattle.cell_devices.specs.declared.motor.Motor.TheVariants.{Off}
 use Rattle.cell_devices.specs.declared.act.CraneAct.{CraneAct}
-use Rattle.cell_haul.specs.declared.crane_step.CraneProgress.{CraneProgress}
-use Rattle.cell_haul.specs.declared.crane_step.CraneReading.{CraneReading}
+use Rattle.cell_haul.specs.declared.crane.CraneProgress.{CraneProgress}
+use Rattle.cell_haul.specs.declared.crane.CraneReading.{CraneReading}
 use Rattle.cell_haul.specs.CraneProgram.{crane_start, crane_steps}
 use Rattle.cell_robot.specs.RobotProgram.{robot_start}
 use Rattle.cell_stations.specs.PressProgram.{press_steps}
