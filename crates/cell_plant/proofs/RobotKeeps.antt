@@ -23,13 +23,12 @@ use Rattle.cell_rules.specs.Reply.{changed}
 use Rattle.cell_control.specs.declared.fault.CtlFault.{CtlFault}
 use Rattle.cell_control.specs.Turns.{Turned, Turns}
 use Rattle.cell_control.proofs.Facts.{AreSo}
-use Rattle.cell_robot.specs.declared.robot_step.RobotStep.{RobotStep}
-use Rattle.cell_robot.specs.declared.robot_step.RobotStep.TheVariants.{TurnToTable, AwaitPlate, ReachTable, GripPlate, LeaveTable, TakePlate, ReleaseTable, TurnToLoad, ClaimPress, InspectPress, ReleasePress, ReachToLoad, DropInPress, LeaveLoaded, GiveToPress, TurnToUnload, AwaitForged, ReachToUnload, GripForged, LeaveUnloaded, TakeForged, ReleaseUnloaded, TurnToDeposit, ClaimDeposit, ReachDeposit, DropOnDeposit, LeaveDeposit, GiveToDeposit}
-use Rattle.cell_robot.specs.declared.robot_step.RobotNotes.{RobotNotes}
-use Rattle.cell_robot.specs.declared.robot_step.RobotMagnets.{RobotMagnets}
-use Rattle.cell_robot.specs.declared.robot_step.RobotProgress.{RobotProgress}
-use Rattle.cell_robot.specs.declared.robot_step.RobotReading.{RobotReading}
-use Rattle.cell_robot.specs.RobotProgram.{call_of, choice, step_after, step_after_inquiry, notes_after, magnets_by, after_done, notes_at, robot_start, RobotScales, near_lines, Senses, rotation_stop, turns_to, arm1_stop, arm2_stop, Acts, is_off, turns, is_done, robot_rest, robot_steps}
+use Rattle.cell_robot.specs.declared.robot.RobotStep.{RobotStep}
+use Rattle.cell_robot.specs.declared.robot.RobotStep.TheVariants.{TurnToTable, AwaitPlate, ReachTable, GripPlate, LeaveTable, TakePlate, ReleaseTable, TurnToLoad, ClaimPress, InspectPress, ReleasePress, ReachToLoad, DropInPress, LeaveLoaded, GiveToPress, TurnToUnload, AwaitForged, ReachToUnload, GripForged, LeaveUnloaded, TakeForged, ReleaseUnloaded, TurnToDeposit, ClaimDeposit, ReachDeposit, DropOnDeposit, LeaveDeposit, GiveToDeposit}
+use Rattle.cell_robot.specs.declared.robot.RobotNotes.{RobotNotes}
+use Rattle.cell_robot.specs.declared.robot.RobotProgress.{RobotProgress}
+use Rattle.cell_robot.specs.declared.robot.RobotReading.{RobotReading}
+use Rattle.cell_robot.specs.RobotProgram.{choice, row_at, row_of, step_after_inquiry, after_done, notes_at, robot_start, RobotScales, near_lines, Senses, rotation_stop, turns_to, arm1_stop, arm2_stop, Acts, is_off, turns, is_done, robot_rest, robot_steps}
 use Rattle.cell_robot.proofs.RobotFacts.{facts_at, RobotKnows, at_choice, robot-knowing}
 use Rattle.cell_seat.specs.Sides.{act_or_rest}
 use Rattle.cell_seat.proofs.Keeping.{Keeping, turn_tells}
@@ -175,20 +174,20 @@ ComesAll s t = Comes (arm1_at s) (arm1_stop s) (arm1_at t) × Comes (arm2_at s) 
 to_group : (n : RobotNotes) → Stays (Some RETRACTED) (arm1_at (choice n)) × Stays (Some RETRACTED) (arm2_at (choice n)) × Stays None (rotation_at (choice n))
 to_group n = let at = at_group n in (inr at.0, inr at.1, inl at.2)
 
-asks_lead : (s : RobotStep) (n : RobotNotes) (c : Call) → call_of s ≡ Some c → StaysAll s (step_after s n)
-asks_lead AwaitPlate n c e = (there, there, there)
-asks_lead TakePlate n c e = (there, there, there)
-asks_lead ReleaseTable n c e = to_group n
-asks_lead ClaimPress n c e = (there, there, there)
-asks_lead InspectPress n c e = (there, there, there)
-asks_lead ReleasePress n c e = (there, there, there)
-asks_lead GiveToPress n c e = to_group n
-asks_lead AwaitForged n c e = (there, there, there)
-asks_lead TakeForged n c e = (there, there, there)
-asks_lead ReleaseUnloaded n c e = to_group n
-asks_lead ClaimDeposit n c e = (there, anywhere, there)
-asks_lead GiveToDeposit n c e = to_group n
-asks_lead s n c e = cc
+asks_lead : (s : RobotStep) (p : RobotProgress) (c : Call) → (row_at s p).call ≡ Some c → StaysAll s (row_at s p).next.step
+asks_lead AwaitPlate p c e = (there, there, there)
+asks_lead TakePlate p c e = (there, there, there)
+asks_lead ReleaseTable p c e = to_group (row_at ReleaseTable p).next.notes
+asks_lead ClaimPress p c e = (there, there, there)
+asks_lead InspectPress p c e = (there, there, there)
+asks_lead ReleasePress p c e = (there, there, there)
+asks_lead GiveToPress p c e = to_group (row_at GiveToPress p).next.notes
+asks_lead AwaitForged p c e = (there, there, there)
+asks_lead TakeForged p c e = (there, there, there)
+asks_lead ReleaseUnloaded p c e = to_group (row_at ReleaseUnloaded p).next.notes
+asks_lead ClaimDeposit p c e = (there, anywhere, there)
+asks_lead GiveToDeposit p c e = to_group (row_at GiveToDeposit p).next.notes
+asks_lead s p c e = cc
 
 at_table : (o : Option Machine) (f : Bool) (q : Posture) → StaysAll AwaitPlate (step_after_inquiry AwaitPlate o f q)
 at_table (Some Robot) true q = (anywhere, there, there)
@@ -208,24 +207,24 @@ inquiries_lead InspectPress o f q = before_press o f q
 inquiries_lead AwaitForged o f q = at_press o f q
 inquiries_lead s o f q = (there, there, there)
 
-drives_lead : (s : RobotStep) (n : RobotNotes) → call_of s ≡ None → ComesAll s (step_after s n)
-drives_lead TurnToTable n e = (inl there, inl there, inr refl)
-drives_lead ReachTable n e = (inl anywhere, inl there, inl there)
-drives_lead GripPlate n e = (inl anywhere, inl there, inl there)
-drives_lead LeaveTable n e = (inr refl, inl there, inl anywhere)
-drives_lead TurnToLoad n e = (inl there, inl there, inr refl)
-drives_lead ReachToLoad n e = (inr refl, inl there, inl there)
-drives_lead DropInPress n e = (inl anywhere, inl there, inl there)
-drives_lead LeaveLoaded n e = (inr refl, inl there, inl anywhere)
-drives_lead TurnToUnload n e = (inl there, inl there, inr refl)
-drives_lead ReachToUnload n e = (inl there, inl anywhere, inl there)
-drives_lead GripForged n e = (inl there, inl anywhere, inl there)
-drives_lead LeaveUnloaded n e = (inl there, inr refl, inl anywhere)
-drives_lead TurnToDeposit n e = (inl there, inl there, inr refl)
-drives_lead ReachDeposit n e = (inl there, inr refl, inl there)
-drives_lead DropOnDeposit n e = (inl there, inl anywhere, inl there)
-drives_lead LeaveDeposit n e = (inl there, inr refl, inl anywhere)
-drives_lead s n e = cc
+drives_lead : (s : RobotStep) (p : RobotProgress) → (row_at s p).call ≡ None → ComesAll s (row_at s p).next.step
+drives_lead TurnToTable p e = (inl there, inl there, inr refl)
+drives_lead ReachTable p e = (inl anywhere, inl there, inl there)
+drives_lead GripPlate p e = (inl anywhere, inl there, inl there)
+drives_lead LeaveTable p e = (inr refl, inl there, inl anywhere)
+drives_lead TurnToLoad p e = (inl there, inl there, inr refl)
+drives_lead ReachToLoad p e = (inr refl, inl there, inl there)
+drives_lead DropInPress p e = (inl anywhere, inl there, inl there)
+drives_lead LeaveLoaded p e = (inr refl, inl there, inl anywhere)
+drives_lead TurnToUnload p e = (inl there, inl there, inr refl)
+drives_lead ReachToUnload p e = (inl there, inl anywhere, inl there)
+drives_lead GripForged p e = (inl there, inl anywhere, inl there)
+drives_lead LeaveUnloaded p e = (inl there, inr refl, inl anywhere)
+drives_lead TurnToDeposit p e = (inl there, inl there, inr refl)
+drives_lead ReachDeposit p e = (inl there, inr refl, inl there)
+drives_lead DropOnDeposit p e = (inl there, inl anywhere, inl there)
+drives_lead LeaveDeposit p e = (inl there, inr refl, inl anywhere)
+drives_lead s p e = cc
 
 -- what its step knows of the interlock; its magnets are as last commanded, each axis is where the step needs it, and it
 -- rotates only in steps that rotate
@@ -273,20 +272,20 @@ at_rest y p q r i knows magnets leads = record {
 }
 
 -- a step that asks switches no magnet
-asks_magnets : (s : RobotStep) (c : Call) (m : RobotMagnets) → call_of s ≡ Some c → m ≡ magnets_by s m
-asks_magnets AwaitPlate c m e = refl
-asks_magnets TakePlate c m e = refl
-asks_magnets ReleaseTable c m e = refl
-asks_magnets ClaimPress c m e = refl
-asks_magnets InspectPress c m e = refl
-asks_magnets ReleasePress c m e = refl
-asks_magnets GiveToPress c m e = refl
-asks_magnets AwaitForged c m e = refl
-asks_magnets TakeForged c m e = refl
-asks_magnets ReleaseUnloaded c m e = refl
-asks_magnets ClaimDeposit c m e = refl
-asks_magnets GiveToDeposit c m e = refl
-asks_magnets s c m e = cc
+asks_magnets : (s : RobotStep) (p : RobotProgress) (c : Call) → (row_at s p).call ≡ Some c → p.magnets ≡ (row_at s p).next.magnets
+asks_magnets AwaitPlate p c e = refl
+asks_magnets TakePlate p c e = refl
+asks_magnets ReleaseTable p c e = refl
+asks_magnets ClaimPress p c e = refl
+asks_magnets InspectPress p c e = refl
+asks_magnets ReleasePress p c e = refl
+asks_magnets GiveToPress p c e = refl
+asks_magnets AwaitForged p c e = refl
+asks_magnets TakeForged p c e = refl
+asks_magnets ReleaseUnloaded p c e = refl
+asks_magnets ClaimDeposit p c e = refl
+asks_magnets GiveToDeposit p c e = refl
+asks_magnets s p c e = cc
 
 -- what a done step says of its motors
 all_off : (a b c : Motor) → (is_off a && (is_off b && is_off c)) ≡ true → (a ≡ Off) × (b ≡ Off) × (c ≡ Off)
@@ -308,13 +307,13 @@ turned_off true tol read m k = k
 turned_off false tol read m k = k
 
 module _ (points : RobotScales) (p : RobotProgress) (rd : RobotReading) (act : RobotAct) (acts : Acts points p rd act) where
-  stays_magnets : (s : RobotStep) (m : RobotMagnets) → DrivesTo (arm1_stop s) points.arm1.tol rd.arm1 act.arm1 → DrivesTo (arm2_stop s) points.arm2.tol rd.arm2 act.arm2 → DrivesTo (turns_to s rd.retracted) points.rotation.tol rd.rotation act.rotation
-      → is_done s rd.retracted act ≡ false → magnets_by s m ≡ m
-  stays_magnets GripPlate m a b c stays = absurd (not_off act.arm1 act.arm2 act.rotation a b (turned_off rd.retracted _ _ _ c) stays)
-  stays_magnets DropInPress m a b c stays = absurd (not_off act.arm1 act.arm2 act.rotation a b (turned_off rd.retracted _ _ _ c) stays)
-  stays_magnets GripForged m a b c stays = absurd (not_off act.arm1 act.arm2 act.rotation a b (turned_off rd.retracted _ _ _ c) stays)
-  stays_magnets DropOnDeposit m a b c stays = absurd (not_off act.arm1 act.arm2 act.rotation a b (turned_off rd.retracted _ _ _ c) stays)
-  stays_magnets s m a b c stays = refl
+  stays_magnets : (s : RobotStep) → DrivesTo (arm1_stop s) points.arm1.tol rd.arm1 act.arm1 → DrivesTo (arm2_stop s) points.arm2.tol rd.arm2 act.arm2 → DrivesTo (turns_to s rd.retracted) points.rotation.tol rd.rotation act.rotation
+      → is_done s rd.retracted act ≡ false → (row_at s p).next.magnets ≡ p.magnets
+  stays_magnets GripPlate a b c stays = absurd (not_off act.arm1 act.arm2 act.rotation a b (turned_off rd.retracted _ _ _ c) stays)
+  stays_magnets DropInPress a b c stays = absurd (not_off act.arm1 act.arm2 act.rotation a b (turned_off rd.retracted _ _ _ c) stays)
+  stays_magnets GripForged a b c stays = absurd (not_off act.arm1 act.arm2 act.rotation a b (turned_off rd.retracted _ _ _ c) stays)
+  stays_magnets DropOnDeposit a b c stays = absurd (not_off act.arm1 act.arm2 act.rotation a b (turned_off rd.retracted _ _ _ c) stays)
+  stays_magnets s a b c stays = refl
 
   -- only a step that rotates commands the rotation
   told_turns : (s : RobotStep) → DrivesTo (turns_to s rd.retracted) points.rotation.tol rd.rotation act.rotation → (act.rotation ≡ Off → ⊥) → turns s ≡ true
@@ -357,12 +356,12 @@ module _ (points : RobotScales) (axes : AreRobotScales points) where
     rotation = reading_near rotation_end points.rotation r.rotation.position s.rotation rd.rotation axes.rotation i.rotation_within shows.rotation senses.rotation.1.0;
   }
 
-  drive : (b : Bool) (z : ModelState) (p : RobotProgress) (r : RobotPlant) (s : RobotSense) (rd : RobotReading) (act : RobotAct) → is_done p.step rd.retracted act ≡ b → call_of p.step ≡ None → ReadsNear points r rd → Acts points p rd act → RobotInv z p r
+  drive : (b : Bool) (z : ModelState) (p : RobotProgress) (r : RobotPlant) (s : RobotSense) (rd : RobotReading) (act : RobotAct) → is_done p.step rd.retracted act ≡ b → (row_of p).call ≡ None → ReadsNear points r rd → Acts points p rd act → RobotInv z p r
       → RobotKnows (if b then after_done p else p) z → RobotInv z (if b then after_done p else p) (set_robot r act)
   drive true z p r s rd act b e near acts i knows =
       let off = done_when (turns p.step) rd.retracted act.arm1 act.arm2 act.rotation b in
-      let leads = drives_lead p.step (notes_after p.step p.notes) e in
-      let next = step_after p.step (notes_after p.step p.notes) in
+      let leads = drives_lead p.step p e in
+      let next = (row_of p).next.step in
       record {
         knows = knows;
         magnet1 = acts.magnet1;
@@ -377,7 +376,7 @@ module _ (points : RobotScales) (axes : AreRobotScales points) where
         turning = λ on. absurd (on off.1.2);
       }
   drive false z p r s rd act b e near acts i knows =
-      let same = stays_magnets points p rd act acts p.step p.magnets acts.arm1 acts.arm2 acts.rotation b in
+      let same = stays_magnets points p rd act acts p.step acts.arm1 acts.arm2 acts.rotation b in
       record {
         knows = knows;
         magnet1 = acts.magnet1 ∙ ap (λ m. m.arm1) same;
@@ -407,7 +406,7 @@ module _ (points : RobotScales) (axes : AreRobotScales points) where
     };
     rests = λ z p b i. at_rest z p p b i i.knows refl (there, there, there);
     after_done = λ z p b c e d sound i.
-        at_rest (changed z Robot c) p (after_done p) b i ((robot-knowing points (near_lines points)).after_done p z c e d sound i.knows) (asks_magnets p.step c p.magnets e) (asks_lead p.step (notes_after p.step p.notes) c e);
+        at_rest (changed z Robot c) p (after_done p) b i ((robot-knowing points (near_lines points)).after_done p z c e d sound i.knows) (asks_magnets p.step p c e) (asks_lead p.step p c e);
     after_inquiry = λ z p b c o f q e d sound i.
         at_rest z p (record p { step = step_after_inquiry p.step o f q }) b i ((robot-knowing points (near_lines points)).after_inquiry p z c o f q e d sound i.knows) refl (inquiries_lead p.step o f q);
     after_drive = λ z p b s rd act e shows senses acts i.
@@ -526,15 +525,15 @@ turn_stops s false = tt
 abbrev LetsGoThere : RobotPlant → RobotAct → Type 0
 LetsGoThere r act = (LetsGo r.magnet1 act.magnet1 → Arm1MayLetGo (set_robot r act)) × (LetsGo r.magnet2 act.magnet2 → Arm2MayLetGo (set_robot r act))
 
-first_goes : (s : RobotStep) (r : RobotPlant) (act : RobotAct) (m : RobotMagnets) → r.magnet1 ≡ m.arm1 → act.magnet1 ≡ (magnets_by s m).arm1 → StandsAt (arm1_at s) r.arm1 → StandsAt (rotation_at s) r.rotation → LetsGo r.magnet1 act.magnet1 → Arm1MayLetGo (set_robot r act)
-first_goes GripPlate r act m was is arm at go = let off = go.1 in cc
-first_goes DropInPress r act m was is arm at go = (at.0, arm.0)
-first_goes s r act m was is arm at go = absurd (still_on act.magnet1 r.magnet1 (is ∙ sym was) go)
+first_goes : (s : RobotStep) (p : RobotProgress) (r : RobotPlant) (act : RobotAct) → r.magnet1 ≡ p.magnets.arm1 → act.magnet1 ≡ (row_at s p).next.magnets.arm1 → StandsAt (arm1_at s) r.arm1 → StandsAt (rotation_at s) r.rotation → LetsGo r.magnet1 act.magnet1 → Arm1MayLetGo (set_robot r act)
+first_goes GripPlate p r act was is arm at go = let off = go.1 in cc
+first_goes DropInPress p r act was is arm at go = (at.0, arm.0)
+first_goes s p r act was is arm at go = absurd (still_on act.magnet1 r.magnet1 (is ∙ sym was) go)
 
-second_goes : (s : RobotStep) (r : RobotPlant) (act : RobotAct) (m : RobotMagnets) → r.magnet2 ≡ m.arm2 → act.magnet2 ≡ (magnets_by s m).arm2 → StandsAt (arm2_at s) r.arm2 → StandsAt (rotation_at s) r.rotation → LetsGo r.magnet2 act.magnet2 → Arm2MayLetGo (set_robot r act)
-second_goes GripForged r act m was is arm at go = let off = go.1 in cc
-second_goes DropOnDeposit r act m was is arm at go = (at.0, arm.0)
-second_goes s r act m was is arm at go = absurd (still_on act.magnet2 r.magnet2 (is ∙ sym was) go)
+second_goes : (s : RobotStep) (p : RobotProgress) (r : RobotPlant) (act : RobotAct) → r.magnet2 ≡ p.magnets.arm2 → act.magnet2 ≡ (row_at s p).next.magnets.arm2 → StandsAt (arm2_at s) r.arm2 → StandsAt (rotation_at s) r.rotation → LetsGo r.magnet2 act.magnet2 → Arm2MayLetGo (set_robot r act)
+second_goes GripForged p r act was is arm at go = let off = go.1 in cc
+second_goes DropOnDeposit p r act was is arm at go = (at.0, arm.0)
+second_goes s p r act was is arm at go = absurd (still_on act.magnet2 r.magnet2 (is ∙ sym was) go)
 
 module _ (points : RobotScales) (axes : AreRobotScales points) (z : ModelState) (p : RobotProgress) (r : RobotPlant) (i : RobotInv z p r) (s : RobotSense) (shows : RobotShows (part_scales points) r s) where
   acts_within : (rd : RobotReading) (act : RobotAct) → Senses points (near_lines points) s (Ok rd) → Acts points p rd act → ¬ DrivesOut (set_robot r act)
@@ -553,4 +552,4 @@ module _ (points : RobotScales) (axes : AreRobotScales points) (z : ModelState) 
   robot-lets-go same asks stopped w k =
       turn_tells (robot_steps points (near_lines points)) same asks p s (λ act. LetsGoThere r act)
       (λ go. absurd (still_on p.magnets.arm1 r.magnet1 (sym i.magnet1) go), λ go. absurd (still_on p.magnets.arm2 r.magnet2 (sym i.magnet2) go))
-      (λ rd act e senses acts. (first_goes p.step r act p.magnets i.magnet1 acts.magnet1 i.arm1 i.rotation, second_goes p.step r act p.magnets i.magnet2 acts.magnet2 i.arm2 i.rotation)) stopped w k
+      (λ rd act e senses acts. (first_goes p.step p r act i.magnet1 acts.magnet1 i.arm1 i.rotation, second_goes p.step p r act i.magnet2 acts.magnet2 i.arm2 i.rotation)) stopped w k

@@ -21,8 +21,8 @@ use Rattle.cell_haul.specs.declared.crane.CraneReading.{CraneReading}
 use Rattle.cell_haul.specs.CraneProgram.{crane_steps}
 use Rattle.cell_calib.specs.declared.sense.RobotSense.{RobotSense}
 use Rattle.cell_devices.specs.declared.act.RobotAct.{RobotAct}
-use Rattle.cell_robot.specs.declared.robot_step.RobotProgress.{RobotProgress}
-use Rattle.cell_robot.specs.declared.robot_step.RobotReading.{RobotReading}
+use Rattle.cell_robot.specs.declared.robot.RobotProgress.{RobotProgress}
+use Rattle.cell_robot.specs.declared.robot.RobotReading.{RobotReading}
 use Rattle.cell_robot.specs.RobotProgram.{RobotScales, near_lines, robot_rest, robot_steps}
 use Rattle.cell_stations.specs.PressProgram.{press_steps}
 use Rattle.cell_stations.specs.TableProgram.{table_steps}

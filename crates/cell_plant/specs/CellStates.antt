@@ -9,7 +9,7 @@ use Rattle.cell_haul.specs.declared.feed.FeedProgress.{FeedProgress}
 use Rattle.cell_haul.specs.CraneProgram.{crane_start}
 use Rattle.cell_haul.specs.DepositProgram.{deposit_start}
 use Rattle.cell_haul.specs.FeedProgram.{feed_start}
-use Rattle.cell_robot.specs.declared.robot_step.RobotProgress.{RobotProgress}
+use Rattle.cell_robot.specs.declared.robot.RobotProgress.{RobotProgress}
 use Rattle.cell_robot.specs.RobotProgram.{robot_start}
 use Rattle.cell_stations.specs.declared.press.PressProgress.{PressProgress}
 use Rattle.cell_stations.specs.declared.table.TableProgress.{TableProgress}

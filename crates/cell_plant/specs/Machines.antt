@@ -24,8 +24,8 @@ use Rattle.cell_haul.specs.declared.feed.FeedProgress.{FeedProgress}
 use Rattle.cell_haul.specs.CraneProgram.{crane_steps}
 use Rattle.cell_haul.specs.DepositProgram.{deposit_steps}
 use Rattle.cell_haul.specs.FeedProgram.{feed_steps}
-use Rattle.cell_robot.specs.declared.robot_step.RobotProgress.{RobotProgress}
-use Rattle.cell_robot.specs.declared.robot_step.RobotReading.{RobotReading}
+use Rattle.cell_robot.specs.declared.robot.RobotProgress.{RobotProgress}
+use Rattle.cell_robot.specs.declared.robot.RobotReading.{RobotReading}
 use Rattle.cell_robot.specs.RobotProgram.{RobotScales, scales_of, near_lines, robot_steps}
 use Rattle.cell_stations.specs.declared.press.PressProgress.{PressProgress}
 use Rattle.cell_stations.specs.declared.table.TableProgress.{TableProgress}

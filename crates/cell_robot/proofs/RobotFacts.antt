@@ -21,11 +21,11 @@ use Rattle.cell_control.specs.Demands.{HoldsIn}
 use Rattle.cell_control.proofs.StepLemmas.{Knowing, reached_knows}
 use Rattle.cell_control.proofs.Facts.{Fact, Owns, Finds, AreSo, are_foreign, found, Stands, stands, handed, entered, posed}
 use Rattle.cell_devices.specs.declared.act.RobotAct.{RobotAct}
-use Rattle.cell_robot.specs.declared.robot_step.RobotStep.{RobotStep}
-use Rattle.cell_robot.specs.declared.robot_step.RobotStep.TheVariants.{TurnToTable, AwaitPlate, ReachTable, GripPlate, LeaveTable, TakePlate, ReleaseTable, TurnToLoad, ClaimPress, InspectPress, ReleasePress, ReachToLoad, DropInPress, LeaveLoaded, GiveToPress, TurnToUnload, AwaitForged, ReachToUnload, GripForged, LeaveUnloaded, TakeForged, ReleaseUnloaded, TurnToDeposit, ClaimDeposit, ReachDeposit, DropOnDeposit, LeaveDeposit, GiveToDeposit}
-use Rattle.cell_robot.specs.declared.robot_step.RobotNotes.{RobotNotes}
-use Rattle.cell_robot.specs.declared.robot_step.RobotProgress.{RobotProgress}
-use Rattle.cell_robot.specs.RobotProgram.{RobotScales, RobotGauges, call_of, choice, step_after, step_after_inquiry, notes_at, after_done, is_done, arm1_zone, arm2_zone, RobotDemands, robot_steps}
+use Rattle.cell_robot.specs.declared.robot.RobotStep.{RobotStep}
+use Rattle.cell_robot.specs.declared.robot.RobotStep.TheVariants.{TurnToTable, AwaitPlate, ReachTable, GripPlate, LeaveTable, TakePlate, ReleaseTable, TurnToLoad, ClaimPress, InspectPress, ReleasePress, ReachToLoad, DropInPress, LeaveLoaded, GiveToPress, TurnToUnload, AwaitForged, ReachToUnload, GripForged, LeaveUnloaded, TakeForged, ReleaseUnloaded, TurnToDeposit, ClaimDeposit, ReachDeposit, DropOnDeposit, LeaveDeposit, GiveToDeposit}
+use Rattle.cell_robot.specs.declared.robot.RobotNotes.{RobotNotes}
+use Rattle.cell_robot.specs.declared.robot.RobotProgress.{RobotProgress}
+use Rattle.cell_robot.specs.RobotProgram.{RobotScales, RobotGauges, choice, row_at, row_of, step_after_inquiry, notes_at, after_done, is_done, arm1_zone, arm2_zone, RobotDemands, robot_steps}
 
 abbrev pub facts_at : RobotStep → List Fact
 facts_at TurnToTable = []
@@ -71,27 +71,27 @@ pub at_choice : (notes : RobotNotes) (z : ModelState) → AreSo Robot z (facts_a
 at_choice notes z = by_notes notes.arm1 notes.arm2 notes.fed z
 
 -- after a drive, or after switching a magnet
-done_drive : (s : RobotStep) (notes : RobotNotes) (z : ModelState) → call_of s ≡ None → AreSo Robot z (facts_at s) → AreSo Robot z (facts_at (step_after s notes))
-done_drive TurnToTable notes z e k = k
-done_drive ReachTable notes z e k = k
-done_drive GripPlate notes z e k = k
-done_drive LeaveTable notes z e k = k
-done_drive TurnToLoad notes z e k = k
-done_drive ReachToLoad notes z e k = k
-done_drive DropInPress notes z e k = k
-done_drive LeaveLoaded notes z e k = k
-done_drive TurnToUnload notes z e k = k
-done_drive ReachToUnload notes z e k = k
-done_drive GripForged notes z e k = k
-done_drive LeaveUnloaded notes z e k = k
-done_drive TurnToDeposit notes z e k = k
-done_drive ReachDeposit notes z e k = k
-done_drive DropOnDeposit notes z e k = k
-done_drive LeaveDeposit notes z e k = k
-done_drive _ notes z e _ = cc
+done_drive : (s : RobotStep) (p : RobotProgress) (z : ModelState) → (row_at s p).call ≡ None → AreSo Robot z (facts_at s) → RobotKnows (row_at s p).next z
+done_drive TurnToTable p z e k = k
+done_drive ReachTable p z e k = k
+done_drive GripPlate p z e k = k
+done_drive LeaveTable p z e k = k
+done_drive TurnToLoad p z e k = k
+done_drive ReachToLoad p z e k = k
+done_drive DropInPress p z e k = k
+done_drive LeaveLoaded p z e k = k
+done_drive TurnToUnload p z e k = k
+done_drive ReachToUnload p z e k = k
+done_drive GripForged p z e k = k
+done_drive LeaveUnloaded p z e k = k
+done_drive TurnToDeposit p z e k = k
+done_drive ReachDeposit p z e k = k
+done_drive DropOnDeposit p z e k = k
+done_drive LeaveDeposit p z e k = k
+done_drive _ p z e _ = cc
 
-drive_on : (b : Bool) (p : RobotProgress) (z : ModelState) → call_of p.step ≡ None → RobotKnows p z → RobotKnows (if b then after_done p else p) z
-drive_on true p z e k = done_drive p.step _ z e k
+drive_on : (b : Bool) (p : RobotProgress) (z : ModelState) → (row_of p).call ≡ None → RobotKnows p z → RobotKnows (if b then after_done p else p) z
+drive_on true p z e k = done_drive p.step p z e k
 drive_on false p z e k = k
 
 -- a plate comes to the robot from the table or the press only while that zone is open outward
@@ -119,38 +119,38 @@ abbrev AfterCall : ModelState → Option Call → List Fact → Type 0
 AfterCall z None facts = ⊤
 AfterCall z (Some c) facts = reply z Robot c ≡ Done → AreSo Robot (changed z Robot c) facts
 
-after_call : (s : RobotStep) (notes : RobotNotes) (z : ModelState) → IsSound z → AreSo Robot z (facts_at s) → AfterCall z (call_of s) (facts_at (step_after s notes))
-after_call TurnToTable notes z sound k = tt
-after_call AwaitPlate notes z sound k = λ d. cc
-after_call ReachTable notes z sound k = tt
-after_call GripPlate notes z sound k = tt
-after_call LeaveTable notes z sound k = tt
-after_call TakePlate notes z sound k = λ d. ((k.0.0, k.0.1), tt)
-after_call ReleaseTable notes z sound k = λ d. at_choice notes (changed z Robot (Release Z2))
-after_call TurnToLoad notes z sound k = tt
-after_call ClaimPress notes z sound k = λ d. (refl, tt)
-after_call InspectPress notes z sound k = λ d. cc
-after_call ReleasePress notes z sound k = λ d. tt
-after_call ReachToLoad notes z sound k = tt
-after_call DropInPress notes z sound k = tt
-after_call LeaveLoaded notes z sound k = tt
-after_call GiveToPress notes z sound k = λ d. at_choice notes (changed z Robot (Give Z3))
-after_call TurnToUnload notes z sound k = tt
-after_call AwaitForged notes z sound k = λ d. cc
-after_call ReachToUnload notes z sound k = tt
-after_call GripForged notes z sound k = tt
-after_call LeaveUnloaded notes z sound k = tt
-after_call TakeForged notes z sound k = λ d. ((k.0.0, k.0.1), tt)
-after_call ReleaseUnloaded notes z sound k = λ d. at_choice notes (changed z Robot (Release Z3))
-after_call TurnToDeposit notes z sound k = tt
-after_call ClaimDeposit notes z sound k = λ d. ((refl, deposit_opens (posture_at z Z4) (entered z Z4 Robot d refl) (posed z Z4 sound)), tt)
-after_call ReachDeposit notes z sound k = tt
-after_call DropOnDeposit notes z sound k = tt
-after_call LeaveDeposit notes z sound k = tt
-after_call GiveToDeposit notes z sound k = λ d. at_choice notes (changed z Robot (Give Z4))
+after_call : (s : RobotStep) (p : RobotProgress) (z : ModelState) → IsSound z → AreSo Robot z (facts_at s) → AfterCall z (row_at s p).call (facts_at (row_at s p).next.step)
+after_call TurnToTable p z sound k = tt
+after_call AwaitPlate p z sound k = λ d. cc
+after_call ReachTable p z sound k = tt
+after_call GripPlate p z sound k = tt
+after_call LeaveTable p z sound k = tt
+after_call TakePlate p z sound k = λ d. ((k.0.0, k.0.1), tt)
+after_call ReleaseTable p z sound k = λ d. at_choice (row_at ReleaseTable p).next.notes (changed z Robot (Release Z2))
+after_call TurnToLoad p z sound k = tt
+after_call ClaimPress p z sound k = λ d. (refl, tt)
+after_call InspectPress p z sound k = λ d. cc
+after_call ReleasePress p z sound k = λ d. tt
+after_call ReachToLoad p z sound k = tt
+after_call DropInPress p z sound k = tt
+after_call LeaveLoaded p z sound k = tt
+after_call GiveToPress p z sound k = λ d. at_choice (row_at GiveToPress p).next.notes (changed z Robot (Give Z3))
+after_call TurnToUnload p z sound k = tt
+after_call AwaitForged p z sound k = λ d. cc
+after_call ReachToUnload p z sound k = tt
+after_call GripForged p z sound k = tt
+after_call LeaveUnloaded p z sound k = tt
+after_call TakeForged p z sound k = λ d. ((k.0.0, k.0.1), tt)
+after_call ReleaseUnloaded p z sound k = λ d. at_choice (row_at ReleaseUnloaded p).next.notes (changed z Robot (Release Z3))
+after_call TurnToDeposit p z sound k = tt
+after_call ClaimDeposit p z sound k = λ d. ((refl, deposit_opens (posture_at z Z4) (entered z Z4 Robot d refl) (posed z Z4 sound)), tt)
+after_call ReachDeposit p z sound k = tt
+after_call DropOnDeposit p z sound k = tt
+after_call LeaveDeposit p z sound k = tt
+after_call GiveToDeposit p z sound k = λ d. at_choice (row_at GiveToDeposit p).next.notes (changed z Robot (Give Z4))
 
-done_call : (s : RobotStep) (notes : RobotNotes) (c : Call) (z : ModelState) → call_of s ≡ Some c → reply z Robot c ≡ Done → IsSound z → AreSo Robot z (facts_at s) → AreSo Robot (changed z Robot c) (facts_at (step_after s notes))
-done_call s notes c z e d sound k = subst (λ o. AfterCall z o (facts_at (step_after s notes))) e (after_call s notes z sound k) d
+done_call : (p : RobotProgress) (c : Call) (z : ModelState) → (row_of p).call ≡ Some c → reply z Robot c ≡ Done → IsSound z → RobotKnows p z → RobotKnows (row_of p).next (changed z Robot c)
+done_call p c z e d sound k = subst (λ o. AfterCall z o (facts_at (row_of p).next.step)) e (after_call p.step p z sound k) d
 
 -- after an inquiry that showed this
 at_table : (z : ModelState) (o : Option Machine) (f : Bool) (q : Posture) → IsSound z → Stands z Z2 o f q → AreSo Robot z (facts_at (step_after_inquiry AwaitPlate o f q))
@@ -168,18 +168,18 @@ at_press z o f q sound k = tt
 asked : (a c : Call) → Some a ≡ Some c → c ≡ a
 asked a c e = cc
 
-shown_call : (s : RobotStep) (c : Call) (z : ModelState) (o : Option Machine) (f : Bool) (q : Posture) → call_of s ≡ Some c → reply z Robot c ≡ Shown o f q → IsSound z → AreSo Robot z (facts_at s) → AreSo Robot z (facts_at (step_after_inquiry s o f q))
-shown_call AwaitPlate c z o f q e d sound k = at_table z o f q sound (stands z Robot Z2 o f q (subst (λ a. reply z Robot a ≡ Shown o f q) (asked (Inquire Z2) c e) d))
-shown_call InspectPress c z o f q e d sound k = before_press z o f q k.0 (stands z Robot Z3 o f q (subst (λ a. reply z Robot a ≡ Shown o f q) (asked (Inquire Z3) c e) d))
-shown_call AwaitForged c z o f q e d sound k = at_press z o f q sound (stands z Robot Z3 o f q (subst (λ a. reply z Robot a ≡ Shown o f q) (asked (Inquire Z3) c e) d))
-shown_call s c z o f q e d sound k = k
+shown_call : (s : RobotStep) (p : RobotProgress) (c : Call) (z : ModelState) (o : Option Machine) (f : Bool) (q : Posture) → (row_at s p).call ≡ Some c → reply z Robot c ≡ Shown o f q → IsSound z → AreSo Robot z (facts_at s) → AreSo Robot z (facts_at (step_after_inquiry s o f q))
+shown_call AwaitPlate p c z o f q e d sound k = at_table z o f q sound (stands z Robot Z2 o f q (subst (λ a. reply z Robot a ≡ Shown o f q) (asked (Inquire Z2) c e) d))
+shown_call InspectPress p c z o f q e d sound k = before_press z o f q k.0 (stands z Robot Z3 o f q (subst (λ a. reply z Robot a ≡ Shown o f q) (asked (Inquire Z3) c e) d))
+shown_call AwaitForged p c z o f q e d sound k = at_press z o f q sound (stands z Robot Z3 o f q (subst (λ a. reply z Robot a ≡ Shown o f q) (asked (Inquire Z3) c e) d))
+shown_call s p c z o f q e d sound k = k
 
 pub robot-knowing : (points : RobotScales) (gives : RobotGauges) → Knowing (robot_steps points gives) RobotKnows
 robot-knowing points gives = record {
   foreign = λ p z n c apart sound k. are_foreign Robot n c z (facts_at p.step) apart sound k;
   after_drive = λ p r act z e d k. drive_on (is_done p.step r.retracted act) p z e k;
-  after_done = λ p z c e d sound k. done_call p.step _ c z e d sound k;
-  after_inquiry = λ p z c o f q e d sound k. shown_call p.step c z o f q e d sound k;
+  after_done = λ p z c e d sound k. done_call p c z e d sound k;
+  after_inquiry = λ p z c o f q e d sound k. shown_call p.step p c z o f q e d sound k;
 }
 
 -- so in each step the robot holds the zones of its arms

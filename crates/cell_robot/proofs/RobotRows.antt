@@ -1,5 +1,5 @@
 -- The robot's program meets the rows of the examples.
-use Rattle.std.proofs.Common.{◌≡◌, ◌∙◌, sym, ap, rules, ℕ, ℤ, pos, Bool, true, false, if◌then◌else◌, Option, Some, None, [], ◌∷◌, refl}
+use Rattle.std.proofs.Common.{◌≡◌, ◌∙◌, sym, ap, rules, ℕ, ℤ, pos, Bool, true, false, if◌then◌else◌, Option, Some, None, refl}
 use Rattle.std.specs.Int.Signed.{le_z_yes, lt_z_yes}
 use Rattle.cell_types.specs.declared.machine.Machine.{Machine}
 use Rattle.cell_types.specs.declared.machine.Machine.TheVariants.{Robot}
@@ -7,7 +7,6 @@ use Rattle.cell_types.specs.declared.posture.Posture.{Posture}
 use Rattle.cell_types.specs.declared.posture.Posture.TheVariants.{OpenIn}
 use Rattle.cell_types.specs.declared.call.Call.TheVariants.{Release}
 use Rattle.cell_types.specs.declared.answer.Refusal.{Refusal}
-use Rattle.cell_types.specs.declared.answer.Refusal.TheVariants.{Held, Shut}
 use Rattle.cell_types.specs.declared.zone.Zone.TheVariants.{Z2, Z3}
 use Rattle.cell_devices.specs.declared.motor.Motor.TheVariants.{Off}
 use Rattle.cell_devices.specs.declared.stops.TheConstants.{ROTATION_ARM1_TABLE, ROTATION_ARM2_PRESS, ROTATION_ARM1_PRESS, ROTATION_ARM2_DEPOSIT, ARM1_TABLE, ARM1_PRESS, ARM2_PRESS, ARM2_DEPOSIT, RETRACTED}
@@ -15,14 +14,16 @@ use Rattle.cell_devices.specs.declared.act.RobotAct.{RobotAct}
 use Rattle.cell_devices.specs.Drives.{DrivesTo}
 use Rattle.cell_devices.proofs.DriveLemmas.{drives_one, stops_there, goes_plus, goes_minus}
 use Rattle.cell_rules.specs.ModelState.{ModelState}
-use Rattle.cell_control.specs.Rows.{stays_by, DriveRow, UntilFree, UntilOpen, is_inquiry}
-use Rattle.cell_robot.specs.declared.robot_step.RobotStep.{RobotStep}
-use Rattle.cell_robot.specs.declared.robot_step.RobotStep.TheVariants.{TurnToTable, AwaitPlate, ReachTable, GripPlate, LeaveTable, TakePlate, ReleaseTable, TurnToLoad, ClaimPress, InspectPress, ReleasePress, ReachToLoad, DropInPress, LeaveLoaded, GiveToPress, TurnToUnload, AwaitForged, ReachToUnload, GripForged, LeaveUnloaded, TakeForged, ReleaseUnloaded, TurnToDeposit, ClaimDeposit, ReachDeposit, DropOnDeposit, LeaveDeposit, GiveToDeposit}
-use Rattle.cell_robot.specs.declared.robot_step.RobotNotes.{RobotNotes}
-use Rattle.cell_robot.specs.declared.robot_step.RobotMagnets.{RobotMagnets}
-use Rattle.cell_robot.specs.declared.robot_step.RobotProgress.{RobotProgress}
-use Rattle.cell_robot.specs.declared.robot_step.RobotReading.{RobotReading}
-use Rattle.cell_robot.specs.RobotProgram.{RobotScales, call_of, stays_on, step_after_inquiry, arm1_stop, arm2_stop, turns_to, Acts, after_act, after_done}
+use Rattle.cell_control.specs.Row.{waits_on}
+use Rattle.cell_control.specs.Rows.{DriveRow, is_inquiry}
+use Rattle.cell_control.proofs.WaitLemmas.{wait-rows}
+use Rattle.cell_robot.specs.declared.robot.RobotStep.{RobotStep}
+use Rattle.cell_robot.specs.declared.robot.RobotStep.TheVariants.{TurnToTable, AwaitPlate, ReachTable, GripPlate, LeaveTable, TakePlate, ReleaseTable, TurnToLoad, ClaimPress, InspectPress, ReleasePress, ReachToLoad, DropInPress, LeaveLoaded, GiveToPress, TurnToUnload, AwaitForged, ReachToUnload, GripForged, LeaveUnloaded, TakeForged, ReleaseUnloaded, TurnToDeposit, ClaimDeposit, ReachDeposit, DropOnDeposit, LeaveDeposit, GiveToDeposit}
+use Rattle.cell_robot.specs.declared.robot.RobotNotes.{RobotNotes}
+use Rattle.cell_robot.specs.declared.robot.RobotMagnets.{RobotMagnets}
+use Rattle.cell_robot.specs.declared.robot.RobotProgress.{RobotProgress}
+use Rattle.cell_robot.specs.declared.robot.RobotReading.{RobotReading}
+use Rattle.cell_robot.specs.RobotProgram.{RobotScales, row_at, row_of, step_after_inquiry, arm1_stop, arm2_stop, turns_to, Acts, after_act, after_done}
 use Rattle.cell_robot.specs.RobotExamples.{noted, magnets, at, told, rows_by, begins_with, for_plate, for_room, EndRows, RobotAsks, scales, TurnRows, Arm1Rows, Arm2Rows, Arm1BackRows, Arm2BackRows, RobotDrives, RobotChecks, RobotDemandRows, RobotRowsAreMet}
 
 begins : (points : RobotScales) (s : ModelState) (arm1 press_in press_out arm2 : Bool)
@@ -45,16 +46,6 @@ begins points s false true true true = refl
 begins points s true true true true = refl
 
 -- ---- steps that ask
-
-stays_loading : (r : Refusal) → stays_on ClaimPress r ≡ stays_by (UntilFree ∷ UntilOpen ∷ []) r
-stays_loading (Held _) = refl
-stays_loading (Shut _) = refl
-stays_loading _ = refl
-
-stays_delivering : (r : Refusal) → stays_on ClaimDeposit r ≡ stays_by (UntilFree ∷ UntilOpen ∷ []) r
-stays_delivering (Held _) = refl
-stays_delivering (Shut _) = refl
-stays_delivering _ = refl
 
 at_table : (owner : Option Machine) (flag : Bool) (posture : Posture) → step_after_inquiry AwaitPlate owner flag posture ≡ for_plate AwaitPlate ReachTable owner flag
 at_table (Some Robot) true posture = refl
@@ -89,7 +80,7 @@ asks points arm1 arm2 fed m = record {
   awaits_plate = record { asks = refl; stays = λ r. refl; leads = λ owner flag posture. ap (λ s. at s (noted arm1 arm2 fed) m) (at_table owner flag posture) };
   takes = record { asks = refl; stays = λ r. refl; leads = refl };
   releases_table = ends_at_table points m;
-  claims_press = record { asks = refl; stays = stays_loading; leads = refl };
+  claims_press = record { asks = refl; stays = wait-rows.until_free_and_open; leads = refl };
   inspects = record { asks = refl; stays = λ r. refl; leads = λ owner flag posture. ap (λ s. at s (noted arm1 arm2 fed) m) (before_press owner flag posture) };
   releases_press = record { asks = refl; stays = λ r. refl; leads = refl };
   gives_to_press = record { asks = refl; stays = λ r. refl; leads = refl };
@@ -97,7 +88,7 @@ asks points arm1 arm2 fed m = record {
   awaits_forged = record { asks = refl; stays = λ r. refl; leads = λ owner flag posture. ap (λ s. at s (noted arm1 arm2 fed) m) (at_press owner flag posture) };
   takes_forged = record { asks = refl; stays = λ r. refl; leads = refl };
   releases_unloaded = ends_at_press points m;
-  claims_deposit = record { asks = refl; stays = stays_delivering; leads = refl };
+  claims_deposit = record { asks = refl; stays = wait-rows.until_free_and_open; leads = refl };
   gives_to_deposit = record { asks = refl; stays = λ r. refl; leads = refl };
   gives_to_deposit_before_load = record { asks = refl; stays = λ r. refl; leads = refl };
   gives_to_deposit_before_unload = record { asks = refl; stays = λ r. refl; leads = refl };
@@ -119,7 +110,7 @@ acts_one points p r a b at_a at_b =
     ∙ ap (λ m. told a.arm1 a.arm2 a.rotation (magnets m b.magnet2)) magnet1
     ∙ ap (λ m. told a.arm1 a.arm2 a.rotation (magnets a.magnet1 m)) magnet2
 
-drive_row : (p q : RobotProgress) (r : RobotReading) (act : RobotAct) → call_of p.step ≡ None → Acts scales p r act → after_act p r act ≡ q → DriveRow (rows_by scales) p r act q
+drive_row : (p q : RobotProgress) (r : RobotReading) (act : RobotAct) → (row_of p).call ≡ None → Acts scales p r act → after_act p r act ≡ q → DriveRow (rows_by scales) p r act q
 drive_row p q r act asks_nothing acts leads = record { asks_nothing = asks_nothing; drives = acts; drives_only = λ other d. acts_one scales p r act other acts d; leads = leads }
 
 turns_to_table : (n : RobotNotes) (m : RobotMagnets) → TurnRows TurnToTable AwaitPlate 266 267 333 334 n m
@@ -292,36 +283,36 @@ demands = record {
 }
 
 -- answers that can't come
-not_done : (s : RobotStep) (n : RobotNotes) (m : RobotMagnets) → is_inquiry (call_of s) ≡ true → after_done (at s n m) ≡ at s n m
+not_done : (s : RobotStep) (n : RobotNotes) (m : RobotMagnets) → is_inquiry (row_of (at s n m)).call ≡ true → after_done (at s n m) ≡ at s n m
 not_done AwaitPlate n m e = refl
 not_done InspectPress n m e = refl
 not_done AwaitForged n m e = refl
 not_done _ n m e = cc
 
-not_shown : (s : RobotStep) (owner : Option Machine) (flag : Bool) (posture : Posture) → is_inquiry (call_of s) ≡ false → step_after_inquiry s owner flag posture ≡ s
-not_shown AwaitPlate owner flag posture e = cc
-not_shown InspectPress owner flag posture e = cc
-not_shown AwaitForged owner flag posture e = cc
-not_shown _ owner flag posture e = refl
+not_shown : (s : RobotStep) (p : RobotProgress) (owner : Option Machine) (flag : Bool) (posture : Posture) → is_inquiry (row_at s p).call ≡ false → step_after_inquiry s owner flag posture ≡ s
+not_shown AwaitPlate p owner flag posture e = cc
+not_shown InspectPress p owner flag posture e = cc
+not_shown AwaitForged p owner flag posture e = cc
+not_shown _ p owner flag posture e = refl
 
-never_refused : (s : RobotStep) (r : Refusal) → call_of s ≡ None → stays_on s r ≡ false
-never_refused TurnToTable r e = refl
-never_refused ReachTable r e = refl
-never_refused GripPlate r e = refl
-never_refused LeaveTable r e = refl
-never_refused TurnToLoad r e = refl
-never_refused ReachToLoad r e = refl
-never_refused DropInPress r e = refl
-never_refused LeaveLoaded r e = refl
-never_refused TurnToUnload r e = refl
-never_refused ReachToUnload r e = refl
-never_refused GripForged r e = refl
-never_refused LeaveUnloaded r e = refl
-never_refused TurnToDeposit r e = refl
-never_refused ReachDeposit r e = refl
-never_refused DropOnDeposit r e = refl
-never_refused LeaveDeposit r e = refl
-never_refused _ r e = cc
+never_refused : (s : RobotStep) (p : RobotProgress) (r : Refusal) → (row_at s p).call ≡ None → waits_on (row_at s p).waits r ≡ false
+never_refused TurnToTable p r e = refl
+never_refused ReachTable p r e = refl
+never_refused GripPlate p r e = refl
+never_refused LeaveTable p r e = refl
+never_refused TurnToLoad p r e = refl
+never_refused ReachToLoad p r e = refl
+never_refused DropInPress p r e = refl
+never_refused LeaveLoaded p r e = refl
+never_refused TurnToUnload p r e = refl
+never_refused ReachToUnload p r e = refl
+never_refused GripForged p r e = refl
+never_refused LeaveUnloaded p r e = refl
+never_refused TurnToDeposit p r e = refl
+never_refused ReachDeposit p r e = refl
+never_refused DropOnDeposit p r e = refl
+never_refused LeaveDeposit p r e = refl
+never_refused _ p r e = cc
 
 pub robot-rows : RobotRowsAreMet
 robot-rows = record {
@@ -329,7 +320,7 @@ robot-rows = record {
   asks = asks;
   drives = drives;
   checks = checks;
-  no_other_answers = λ points. record { not_done = λ p e. not_done p.step p.notes p.magnets e; not_shown = λ p owner flag posture e. ap (λ s. at s p.notes p.magnets) (not_shown p.step owner flag posture e); not_refused = λ p r e. never_refused p.step r e };
+  no_other_answers = λ points. record { not_done = λ p e. not_done p.step p.notes p.magnets e; not_shown = λ p owner flag posture e. ap (λ s. at s p.notes p.magnets) (not_shown p.step p owner flag posture e); not_refused = λ p r e. never_refused p.step p r e };
   rests = λ points step n m. refl;
   demands = demands;
 }

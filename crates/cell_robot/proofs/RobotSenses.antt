@@ -4,7 +4,7 @@ use Rattle.cell_calib.specs.Scale.{Scale}
 use Rattle.cell_calib.specs.Line.{IsReading}
 use Rattle.cell_calib.specs.declared.sense.RobotSense.{RobotSense}
 use Rattle.cell_calib.specs.declared.sense.SensorFault.{SensorFault}
-use Rattle.cell_robot.specs.declared.robot_step.RobotReading.{RobotReading}
+use Rattle.cell_robot.specs.declared.robot.RobotReading.{RobotReading}
 use Rattle.cell_robot.specs.RobotProgram.{RobotScales, RobotGauges, near_lines, ReadsAs, Senses}
 
 reads_near : (points : Scale) (gives : ℕ → ℤ → Type 0) (raw : ℕ) (read : ℤ) → ReadsAs points gives raw (Ok read) → ReadsAs points (IsReading points) raw (Ok read)

@@ -19,12 +19,12 @@ use Rattle.cell_rules.specs.ModelState.{ModelState}
 use Rattle.cell_rules.specs.History.{Holds, posture_by_events}
 use Rattle.cell_control.specs.Steps.{Steps}
 use Rattle.cell_control.specs.Rows.{AskRow, InquiryRow, DriveRow, UntilFree, UntilOpen, NoOtherAnswers}
-use Rattle.cell_robot.specs.declared.robot_step.RobotStep.{RobotStep}
-use Rattle.cell_robot.specs.declared.robot_step.RobotStep.TheVariants.{TurnToTable, AwaitPlate, ReachTable, GripPlate, LeaveTable, TakePlate, ReleaseTable, TurnToLoad, ClaimPress, InspectPress, ReleasePress, ReachToLoad, DropInPress, LeaveLoaded, GiveToPress, TurnToUnload, AwaitForged, ReachToUnload, GripForged, LeaveUnloaded, TakeForged, ReleaseUnloaded, TurnToDeposit, ClaimDeposit, ReachDeposit, DropOnDeposit, LeaveDeposit, GiveToDeposit}
-use Rattle.cell_robot.specs.declared.robot_step.RobotNotes.{RobotNotes}
-use Rattle.cell_robot.specs.declared.robot_step.RobotMagnets.{RobotMagnets}
-use Rattle.cell_robot.specs.declared.robot_step.RobotProgress.{RobotProgress}
-use Rattle.cell_robot.specs.declared.robot_step.RobotReading.{RobotReading}
+use Rattle.cell_robot.specs.declared.robot.RobotStep.{RobotStep}
+use Rattle.cell_robot.specs.declared.robot.RobotStep.TheVariants.{TurnToTable, AwaitPlate, ReachTable, GripPlate, LeaveTable, TakePlate, ReleaseTable, TurnToLoad, ClaimPress, InspectPress, ReleasePress, ReachToLoad, DropInPress, LeaveLoaded, GiveToPress, TurnToUnload, AwaitForged, ReachToUnload, GripForged, LeaveUnloaded, TakeForged, ReleaseUnloaded, TurnToDeposit, ClaimDeposit, ReachDeposit, DropOnDeposit, LeaveDeposit, GiveToDeposit}
+use Rattle.cell_robot.specs.declared.robot.RobotNotes.{RobotNotes}
+use Rattle.cell_robot.specs.declared.robot.RobotMagnets.{RobotMagnets}
+use Rattle.cell_robot.specs.declared.robot.RobotProgress.{RobotProgress}
+use Rattle.cell_robot.specs.declared.robot.RobotReading.{RobotReading}
 use Rattle.cell_robot.specs.RobotProgram.{RobotScales, robot_steps, scales_of, gauges_of, near_lines}
 
 -- a step with its notes (a plate on the first arm, on the second arm, in the press) and the magnets of both arms

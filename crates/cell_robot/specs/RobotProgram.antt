@@ -9,8 +9,6 @@ use Rattle.cell_types.specs.declared.posture.Posture.{Posture}
 use Rattle.cell_types.specs.declared.posture.Posture.TheVariants.{OpenIn, OpenOut}
 use Rattle.cell_types.specs.declared.call.Call.{Call}
 use Rattle.cell_types.specs.declared.call.Call.TheVariants.{Claim, Give, Take, Release, Inquire}
-use Rattle.cell_types.specs.declared.answer.Refusal.{Refusal}
-use Rattle.cell_types.specs.declared.answer.Refusal.TheVariants.{Held, Shut}
 use Rattle.cell_types.specs.declared.answer.Event.{Event}
 use Rattle.cell_calib.specs.Scale.{Scale}
 use Rattle.cell_calib.specs.Line.{IsReading}
@@ -25,89 +23,95 @@ use Rattle.cell_devices.specs.declared.act.RobotAct.{RobotAct}
 use Rattle.cell_devices.specs.Drives.{DrivesTo}
 use Rattle.cell_devices.specs.Limits.{retracted_to}
 use Rattle.cell_rules.specs.ModelState.{ModelState, is_full}
+use Rattle.cell_control.specs.declared.row.Row.{Row}
+use Rattle.cell_control.specs.declared.row.Waits.TheVariants.{UntilFreeAndOpen}
+use Rattle.cell_control.specs.Row.{waits_on, row_that_asks, row_that_drives, with_waits}
 use Rattle.cell_control.specs.Steps.{Steps}
 use Rattle.cell_control.specs.Demands.{HoldsIn}
-use Rattle.cell_robot.specs.declared.robot_step.RobotStep.{RobotStep}
-use Rattle.cell_robot.specs.declared.robot_step.RobotStep.TheVariants.{TurnToTable, AwaitPlate, ReachTable, GripPlate, LeaveTable, TakePlate, ReleaseTable, TurnToLoad, ClaimPress, InspectPress, ReleasePress, ReachToLoad, DropInPress, LeaveLoaded, GiveToPress, TurnToUnload, AwaitForged, ReachToUnload, GripForged, LeaveUnloaded, TakeForged, ReleaseUnloaded, TurnToDeposit, ClaimDeposit, ReachDeposit, DropOnDeposit, LeaveDeposit, GiveToDeposit}
-use Rattle.cell_robot.specs.declared.robot_step.RobotNotes.{RobotNotes}
-use Rattle.cell_robot.specs.declared.robot_step.RobotMagnets.{RobotMagnets}
-use Rattle.cell_robot.specs.declared.robot_step.RobotProgress.{RobotProgress}
-use Rattle.cell_robot.specs.declared.robot_step.RobotReading.{RobotReading}
-
--- what each step asks; a step that asks nothing drives, or switches a magnet
-abbrev pub call_of : RobotStep → Option Call
-call_of TurnToTable = None
-call_of AwaitPlate = Some (Inquire Z2)
-call_of ReachTable = None
-call_of GripPlate = None
-call_of LeaveTable = None
-call_of TakePlate = Some (Take Z2)
-call_of ReleaseTable = Some (Release Z2)
-call_of TurnToLoad = None
-call_of ClaimPress = Some (Claim Z3)
-call_of InspectPress = Some (Inquire Z3)
-call_of ReleasePress = Some (Release Z3)
-call_of ReachToLoad = None
-call_of DropInPress = None
-call_of LeaveLoaded = None
-call_of GiveToPress = Some (Give Z3)
-call_of TurnToUnload = None
-call_of AwaitForged = Some (Inquire Z3)
-call_of ReachToUnload = None
-call_of GripForged = None
-call_of LeaveUnloaded = None
-call_of TakeForged = Some (Take Z3)
-call_of ReleaseUnloaded = Some (Release Z3)
-call_of TurnToDeposit = None
-call_of ClaimDeposit = Some (Claim Z4)
-call_of ReachDeposit = None
-call_of DropOnDeposit = None
-call_of LeaveDeposit = None
-call_of GiveToDeposit = Some (Give Z4)
-
--- the refusals on which a step stays
-abbrev pub stays_on : RobotStep → Refusal → Bool
-stays_on ClaimPress (Held _) = true
-stays_on ClaimPress (Shut _) = true
-stays_on ClaimDeposit (Held _) = true
-stays_on ClaimDeposit (Shut _) = true
-stays_on _ _ = false
+use Rattle.cell_robot.specs.declared.robot.RobotStep.{RobotStep}
+use Rattle.cell_robot.specs.declared.robot.RobotStep.TheVariants.{TurnToTable, AwaitPlate, ReachTable, GripPlate, LeaveTable, TakePlate, ReleaseTable, TurnToLoad, ClaimPress, InspectPress, ReleasePress, ReachToLoad, DropInPress, LeaveLoaded, GiveToPress, TurnToUnload, AwaitForged, ReachToUnload, GripForged, LeaveUnloaded, TakeForged, ReleaseUnloaded, TurnToDeposit, ClaimDeposit, ReachDeposit, DropOnDeposit, LeaveDeposit, GiveToDeposit}
+use Rattle.cell_robot.specs.declared.robot.RobotNotes.{RobotNotes}
+use Rattle.cell_robot.specs.declared.robot.RobotMagnets.{RobotMagnets}
+use Rattle.cell_robot.specs.declared.robot.RobotProgress.{RobotProgress}
+use Rattle.cell_robot.specs.declared.robot.RobotReading.{RobotReading}
 
 -- the first step of the next group: bring a forged plate on the second arm away, else fetch a plate from the press,
 -- else bring a plate on the first arm to the press
 abbrev pub choice : RobotNotes → RobotStep
 choice notes = if notes.arm2 then TurnToDeposit else (if notes.fed then TurnToUnload else (if notes.arm1 then TurnToLoad else TurnToTable))
 
--- the next step after each that is done, by the notes after it; an inquiry isn't done, and leads on by what it shows
-abbrev pub step_after : RobotStep → RobotNotes → RobotStep
-step_after TurnToTable _ = AwaitPlate
-step_after AwaitPlate _ = AwaitPlate
-step_after ReachTable _ = GripPlate
-step_after GripPlate _ = LeaveTable
-step_after LeaveTable _ = TakePlate
-step_after TakePlate _ = ReleaseTable
-step_after ReleaseTable notes = choice notes
-step_after TurnToLoad _ = ClaimPress
-step_after ClaimPress _ = InspectPress
-step_after InspectPress _ = InspectPress
-step_after ReleasePress _ = ClaimPress
-step_after ReachToLoad _ = DropInPress
-step_after DropInPress _ = LeaveLoaded
-step_after LeaveLoaded _ = GiveToPress
-step_after GiveToPress notes = choice notes
-step_after TurnToUnload _ = AwaitForged
-step_after AwaitForged _ = AwaitForged
-step_after ReachToUnload _ = GripForged
-step_after GripForged _ = LeaveUnloaded
-step_after LeaveUnloaded _ = TakeForged
-step_after TakeForged _ = ReleaseUnloaded
-step_after ReleaseUnloaded notes = choice notes
-step_after TurnToDeposit _ = ClaimDeposit
-step_after ClaimDeposit _ = ReachDeposit
-step_after ReachDeposit _ = DropOnDeposit
-step_after DropOnDeposit _ = LeaveDeposit
-step_after LeaveDeposit _ = GiveToDeposit
-step_after GiveToDeposit notes = choice notes
+-- the row of a step that asks, of one that asks and leads to the next group, of one that claims a zone and waits until
+-- the zone lets it in, and of one that drives or switches a magnet
+abbrev pub asks : RobotProgress → Call → RobotStep → Row RobotProgress
+asks p call next = row_that_asks call (record p { step = next })
+
+abbrev pub asks_by_notes : RobotProgress → Call → Row RobotProgress
+asks_by_notes p call = asks p call (choice p.notes)
+
+abbrev pub claims : RobotProgress → Zone → RobotStep → Row RobotProgress
+claims p zone next = with_waits (asks p (Claim zone) next) UntilFreeAndOpen
+
+abbrev pub drives : RobotProgress → RobotStep → Row RobotProgress
+drives p next = row_that_drives (record p { step = next })
+
+-- with another note: whether a plate is on the first arm, on the second arm and in the press
+abbrev pub with_arm1 : RobotProgress → Bool → RobotProgress
+with_arm1 p arm1 = record p { notes = record p.notes { arm1 = arm1 } }
+
+abbrev pub with_arm2 : RobotProgress → Bool → RobotProgress
+with_arm2 p arm2 = record p { notes = record p.notes { arm2 = arm2 } }
+
+abbrev pub with_fed : RobotProgress → Bool → RobotProgress
+with_fed p fed = record p { notes = record p.notes { fed = fed } }
+
+-- with another command to a magnet
+abbrev pub with_magnet1 : RobotProgress → Bool → RobotProgress
+with_magnet1 p on = record p { magnets = record p.magnets { arm1 = on } }
+
+abbrev pub with_magnet2 : RobotProgress → Bool → RobotProgress
+with_magnet2 p on = record p { magnets = record p.magnets { arm2 = on } }
+
+-- the row of each step: what it asks, what it waits for, and the next step with its notes; an inquiry isn't done, and
+-- leads on by what it shows
+abbrev pub row_of_arm2 : RobotStep → RobotProgress → Row RobotProgress
+row_of_arm2 TurnToUnload p = drives p AwaitForged
+row_of_arm2 AwaitForged p = asks p (Inquire Z3) AwaitForged
+row_of_arm2 ReachToUnload p = drives p GripForged
+row_of_arm2 GripForged p = drives (with_magnet2 p true) LeaveUnloaded
+row_of_arm2 LeaveUnloaded p = drives p TakeForged
+row_of_arm2 TakeForged p = asks (with_fed (with_arm2 p true) false) (Take Z3) ReleaseUnloaded
+row_of_arm2 ReleaseUnloaded p = asks_by_notes p (Release Z3)
+row_of_arm2 TurnToDeposit p = drives p ClaimDeposit
+row_of_arm2 ClaimDeposit p = claims p Z4 ReachDeposit
+row_of_arm2 ReachDeposit p = drives p DropOnDeposit
+row_of_arm2 DropOnDeposit p = drives (with_magnet2 p false) LeaveDeposit
+row_of_arm2 LeaveDeposit p = drives p GiveToDeposit
+row_of_arm2 GiveToDeposit p = asks_by_notes (with_arm2 p false) (Give Z4)
+row_of_arm2 step p = drives p step
+
+abbrev pub row_at : RobotStep → RobotProgress → Row RobotProgress
+row_at TurnToTable p = drives p AwaitPlate
+row_at AwaitPlate p = asks p (Inquire Z2) AwaitPlate
+row_at ReachTable p = drives p GripPlate
+row_at GripPlate p = drives (with_magnet1 p true) LeaveTable
+row_at LeaveTable p = drives p TakePlate
+row_at TakePlate p = asks (with_arm1 p true) (Take Z2) ReleaseTable
+row_at ReleaseTable p = asks_by_notes p (Release Z2)
+row_at TurnToLoad p = drives p ClaimPress
+row_at ClaimPress p = claims p Z3 InspectPress
+row_at InspectPress p = asks p (Inquire Z3) InspectPress
+row_at ReleasePress p = asks p (Release Z3) ClaimPress
+row_at ReachToLoad p = drives p DropInPress
+row_at DropInPress p = drives (with_magnet1 p false) LeaveLoaded
+row_at LeaveLoaded p = drives p GiveToPress
+row_at GiveToPress p = asks_by_notes (with_fed (with_arm1 p false) true) (Give Z3)
+row_at step p = row_of_arm2 step p
+
+abbrev pub row_of : RobotProgress → Row RobotProgress
+row_of p = row_at p.step p
+
+abbrev pub after_done : RobotProgress → RobotProgress
+after_done p = (row_of p).next
 
 -- the next step after an inquiry: to a plate on the table or in the press if the zone is the robot's and has a plate;
 -- into the press with a plate if its zone is open inward
@@ -117,25 +121,6 @@ step_after_inquiry InspectPress _ _ OpenIn = ReachToLoad
 step_after_inquiry InspectPress _ _ _ = ReleasePress
 step_after_inquiry AwaitForged (Some Robot) true _ = ReachToUnload
 step_after_inquiry step _ _ _ = step
-
--- the notes after a step
-abbrev pub notes_after : RobotStep → RobotNotes → RobotNotes
-notes_after TakePlate notes = record notes { arm1 = true }
-notes_after GiveToPress notes = record notes { arm1 = false; fed = true }
-notes_after TakeForged notes = record notes { arm2 = true; fed = false }
-notes_after GiveToDeposit notes = record notes { arm2 = false }
-notes_after _ notes = notes
-
--- four steps switch a magnet; the others leave both as they are
-abbrev pub magnets_by : RobotStep → RobotMagnets → RobotMagnets
-magnets_by GripPlate magnets = record magnets { arm1 = true }
-magnets_by DropInPress magnets = record magnets { arm1 = false }
-magnets_by GripForged magnets = record magnets { arm2 = true }
-magnets_by DropOnDeposit magnets = record magnets { arm2 = false }
-magnets_by _ magnets = magnets
-
-abbrev pub after_done : RobotProgress → RobotProgress
-after_done p = record { step = step_after p.step (notes_after p.step p.notes); notes = notes_after p.step p.notes; magnets = magnets_by p.step p.magnets }
 
 -- at the start the robot notes its places, and the magnets of loaded arms are on
 abbrev pub notes_at : ModelState → RobotNotes
@@ -225,13 +210,13 @@ arm2_stop ReachDeposit = Some ARM2_DEPOSIT
 arm2_stop LeaveDeposit = Some RETRACTED
 arm2_stop _ = None
 
--- the commands to motors and magnets in a step that asks nothing
+-- the commands to motors and magnets in a step that asks nothing; the magnets are already as the next step has them
 pub record Acts (points : RobotScales) (p : RobotProgress) (r : RobotReading) (act : RobotAct) : Type 0 where
   pub arm1 : DrivesTo (arm1_stop p.step) points.arm1.tol r.arm1 act.arm1
   pub arm2 : DrivesTo (arm2_stop p.step) points.arm2.tol r.arm2 act.arm2
   pub rotation : DrivesTo (turns_to p.step r.retracted) points.rotation.tol r.rotation act.rotation
-  pub magnet1 : act.magnet1 ≡ (magnets_by p.step p.magnets).arm1
-  pub magnet2 : act.magnet2 ≡ (magnets_by p.step p.magnets).arm2
+  pub magnet1 : act.magnet1 ≡ (row_of p).next.magnets.arm1
+  pub magnet2 : act.magnet2 ≡ (row_of p).next.magnets.arm2
 
 abbrev pub is_off : Motor → Bool
 is_off Off = true
@@ -281,10 +266,10 @@ robot_steps points gives =
     record {
       machine = Robot;
       start = robot_start;
-      call = λ p. call_of p.step;
+      call = λ p. (row_of p).call;
       after_done = after_done;
       after_inquiry = λ p owner flag posture. record p { step = step_after_inquiry p.step owner flag posture };
-      stays_on = λ p r. stays_on p.step r;
+      stays_on = λ p r. waits_on (row_of p).waits r;
       senses = Senses points gives;
       drives = λ p r act. Acts points p r act;
       after_drive = λ p r act. after_act p r act;

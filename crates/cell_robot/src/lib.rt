@@ -3,8 +3,8 @@
 
 pub mod laws;
 pub mod robot;
-pub mod robot_step;
 
 pub use cell_control::CtlFault;
-pub use robot::{RobotCtl, RobotProgram};
-pub use robot_step::{RobotMagnets, RobotNotes, RobotProgress, RobotReading, RobotStep};
+pub use robot::{
+    RobotCtl, RobotMagnets, RobotNotes, RobotProgram, RobotProgress, RobotReading, RobotStep,
+};
