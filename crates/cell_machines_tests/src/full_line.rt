@@ -1,4 +1,4 @@
-//! A line on which every call is out of memory, and the six controllers and a seat on it.
+//! A line on which every call is out of memory, and the six controllers and a unit on it.
 ghost use Rattle.std.specs.Prelude.{◌≡◌, [], None};
 ghost use Rattle.cell_rules.specs.Sound.{IsSound};
 ghost use Rattle.cell_rules.specs.Seen.{heard_nothing};

@@ -1,4 +1,4 @@
-//! Tests of drives, parts, programs, seats and notebooks, by public calls only. They are a crate of
+//! Tests of drives, parts, programs, units and notebooks, by public calls only. They are a crate of
 //! their own, so that a change of a test doesn't prove the programs again. Each result was worked out
 //! by hand from the cell's rules and the plant's figures, never by the program.
 #![tactic(auto)]
@@ -28,6 +28,6 @@ mod robot;
 #[cfg(test)]
 mod robot_runs;
 #[cfg(test)]
-mod seats;
-#[cfg(test)]
 mod table;
+#[cfg(test)]
+mod units;

@@ -12,8 +12,8 @@ use Rattle.cell_stations.specs.PressProgram.{press_steps}
 use Rattle.cell_stations.specs.TableProgram.{table_steps}
 use Rattle.cell_parts.specs.Plant.{table_at_start}
 use Rattle.cell_parts.specs.Rigs.{feed_rig, table_rig, press_rig, deposit_rig}
-use Rattle.cell_seat.proofs.Keeping.{Keeping}
-use Rattle.cell_seat.proofs.Demanding.{With, demands_kept}
+use Rattle.cell_unit.proofs.Keeping.{Keeping}
+use Rattle.cell_unit.proofs.Demanding.{With, demands_kept}
 use Rattle.cell_parts.specs.Axes.{CellScales, AreCellScales}
 use Rattle.cell_plant.specs.Machines.{ProgressOf, PartOf, robot_points, steps_of, rig_of}
 use Rattle.cell_plant.specs.CellStates.{side_in, sides_at_start}

@@ -27,8 +27,8 @@ use Rattle.cell_haul.specs.declared.crane.CraneProgress.{CraneProgress}
 use Rattle.cell_haul.specs.declared.crane.CraneReading.{CraneReading}
 use Rattle.cell_haul.specs.CraneProgram.{row_at, row_of, step_after_inquiry, after_done, first_step, crane_start, is_off, is_done, travels, travel_for, gripper_stop, Senses, Acts, crane_steps}
 use Rattle.cell_haul.proofs.CraneFacts.{facts_at, CraneKnows, crane_begins, crane-knowing}
-use Rattle.cell_seat.specs.Sides.{act_or_rest}
-use Rattle.cell_seat.proofs.Keeping.{Keeping, turn_tells}
+use Rattle.cell_unit.specs.Sides.{act_or_rest}
+use Rattle.cell_unit.proofs.Keeping.{Keeping, turn_tells}
 use Rattle.cell_parts.specs.declared.axis.Axis.{Axis}
 use Rattle.cell_parts.specs.Axes.{IsAxisScale, IsWithin, crane_end, gripper_end, gripper_start}
 use Rattle.cell_parts.specs.Plant.{CranePlant, crane_at_start, moved_to, moved_axis, set_axis, set_crane}

@@ -21,8 +21,8 @@ use Rattle.cell_haul.specs.declared.deposit.DepositStep.TheVariants.{ClaimEntry,
 use Rattle.cell_haul.specs.declared.deposit.DepositProgress.{DepositProgress}
 use Rattle.cell_haul.specs.DepositProgram.{row_at, deposit_start, deposit_steps}
 use Rattle.cell_haul.proofs.DepositFacts.{DepositKnows, deposit-knowing, drives_at}
-use Rattle.cell_seat.proofs.Keeping.{Keeping}
-use Rattle.cell_seat.proofs.Demanding.{Demanding, WhileOn, demanding_while_on}
+use Rattle.cell_unit.proofs.Keeping.{Keeping}
+use Rattle.cell_unit.proofs.Demanding.{Demanding, WhileOn, demanding_while_on}
 use Rattle.cell_parts.specs.declared.belt.Belt.{Belt}
 use Rattle.cell_parts.specs.Plant.{deposit_at_start, set_belt, deposit_called}
 use Rattle.cell_parts.specs.Rigs.{deposit_rig}

@@ -21,8 +21,8 @@ use Rattle.cell_haul.specs.declared.feed.FeedStep.TheVariants.{ClaimEntry, PoseL
 use Rattle.cell_haul.specs.declared.feed.FeedProgress.{FeedProgress}
 use Rattle.cell_haul.specs.FeedProgram.{row_at, feed_start, feed_steps}
 use Rattle.cell_haul.proofs.FeedFacts.{FeedKnows, feed_begins, feed-knowing, drives_at}
-use Rattle.cell_seat.proofs.Keeping.{Keeping}
-use Rattle.cell_seat.proofs.Demanding.{Demanding, WhileOn, demanding_while_on}
+use Rattle.cell_unit.proofs.Keeping.{Keeping}
+use Rattle.cell_unit.proofs.Demanding.{Demanding, WhileOn, demanding_while_on}
 use Rattle.cell_parts.specs.declared.belt.Belt.{Belt}
 use Rattle.cell_parts.specs.Plant.{feed_at_start, set_belt, feed_called}
 use Rattle.cell_parts.specs.Rigs.{feed_rig}

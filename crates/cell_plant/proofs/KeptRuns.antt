@@ -8,8 +8,8 @@ use Rattle.cell_rules.specs.Sound.{IsSound}
 use Rattle.cell_rules.specs.Laws.{RunsClear}
 use Rattle.cell_rules.proofs.Clear.{clear_next}
 use Rattle.cell_rules.proofs.Soundness.{next_keeps}
-use Rattle.cell_seat.proofs.Running.{none_runs}
-use Rattle.cell_seat.proofs.Keeping.{Keeping, Changes, takes_keeps, takes_changes, others_keep, by_call}
+use Rattle.cell_unit.proofs.Running.{none_runs}
+use Rattle.cell_unit.proofs.Keeping.{Keeping, Changes, takes_keeps, takes_changes, others_keep, by_call}
 use Rattle.cell_parts.specs.Axes.{CellScales}
 use Rattle.cell_plant.specs.Machines.{ProgressOf, PartOf, steps_of, rig_of}
 use Rattle.cell_plant.specs.CellStates.{SideOf, CellState}

@@ -34,9 +34,9 @@ use Rattle.cell_stations.specs.declared.press.PressProgress.{PressProgress}
 use Rattle.cell_stations.specs.PressProgram.{with_plates, by_plates, row_at, row_of, after_done, step_motor, act_for, after_motor, clashes, press_start, press_steps}
 use Rattle.cell_control.proofs.Facts.{Finds}
 use Rattle.cell_stations.proofs.PressFacts.{PressKnows, press-knowing, drives_at}
-use Rattle.cell_seat.specs.Sides.{act_or_rest}
-use Rattle.cell_seat.proofs.Keeping.{Keeping, turn_tells}
-use Rattle.cell_seat.proofs.Demanding.{Demanding, WhileOn, demanding_while_on}
+use Rattle.cell_unit.specs.Sides.{act_or_rest}
+use Rattle.cell_unit.proofs.Keeping.{Keeping, turn_tells}
+use Rattle.cell_unit.proofs.Demanding.{Demanding, WhileOn, demanding_while_on}
 use Rattle.cell_parts.specs.declared.axis.Axis.{Axis}
 use Rattle.cell_parts.specs.Axes.{press_end, IsWithin}
 use Rattle.cell_parts.specs.Plant.{set_axis, set_press, moved_press, press_at_start}

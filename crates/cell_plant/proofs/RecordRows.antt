@@ -30,7 +30,7 @@ use Rattle.cell_notes.specs.declared.status.Status.{Status}
 use Rattle.cell_notes.specs.declared.status.Status.TheVariants.{Fine, Sensor, Memory}
 use Rattle.cell_notes.specs.declared.schedule.Turn.{Turn}
 use Rattle.cell_notes.specs.Notes.{no_counts}
-use Rattle.cell_seat.specs.Fares.{status_of}
+use Rattle.cell_unit.specs.Statuses.{status_of}
 use Rattle.cell_parts.specs.Axes.{CellScales}
 use Rattle.cell_plant.specs.Machines.{steps_of}
 use Rattle.cell_plant.specs.CellStates.{SideOf, CellState, cell_at_start}

@@ -30,8 +30,8 @@ use Rattle.cell_robot.specs.declared.robot.RobotProgress.{RobotProgress}
 use Rattle.cell_robot.specs.declared.robot.RobotReading.{RobotReading}
 use Rattle.cell_robot.specs.RobotProgram.{choice, row_at, row_of, step_after_inquiry, after_done, notes_at, robot_start, RobotScales, near_lines, Senses, rotation_stop, turns_to, arm1_stop, arm2_stop, Acts, is_off, turns, is_done, robot_rest, robot_steps}
 use Rattle.cell_robot.proofs.RobotFacts.{facts_at, RobotKnows, at_choice, robot-knowing}
-use Rattle.cell_seat.specs.Sides.{act_or_rest}
-use Rattle.cell_seat.proofs.Keeping.{Keeping, turn_tells}
+use Rattle.cell_unit.specs.Sides.{act_or_rest}
+use Rattle.cell_unit.proofs.Keeping.{Keeping, turn_tells}
 use Rattle.cell_parts.specs.declared.axis.Axis.{Axis}
 use Rattle.cell_parts.specs.Axes.{RobotScales as PartScales, IsAxisScale, IsWithin, IsIn, arm_end, rotation_end, rotation_start}
 use Rattle.cell_parts.specs.Plant.{RobotPlant, robot_at_start, moved_axis, set_axis, set_robot}

@@ -25,8 +25,8 @@ use Rattle.cell_notes.specs.declared.counts.Counts.{Counts}
 use Rattle.cell_notes.specs.declared.run_record.RunRecord.{RunRecord}
 use Rattle.cell_notes.specs.Asks.{Asked, is_done_reply, is_read_reply, is_refused_reply, is_busy_reply, came_back, settled_in, entries_in}
 use Rattle.cell_notes.specs.Notes.{Notes, no_notes, HasRoom, counts_with, notes_with}
-use Rattle.cell_seat.specs.Fares.{status_of}
-use Rattle.cell_seat.specs.SeatTurns.{Answers}
+use Rattle.cell_unit.specs.Statuses.{status_of}
+use Rattle.cell_unit.specs.UnitTurns.{Answers}
 use Rattle.cell_parts.specs.Axes.{CellScales, AreCellScales}
 use Rattle.cell_notes.specs.declared.schedule.Turn.{Turn}
 use Rattle.cell_plant.specs.Machines.{steps_of}

@@ -34,10 +34,10 @@ use Rattle.cell_notes.specs.Notes.{Notes, notes_with}
 use Rattle.cell_parts.specs.Axes.{RobotScales as PartScales, CellScales}
 use Rattle.cell_parts.specs.Plant.{TablePlant, RobotPlant, CranePlant}
 use Rattle.cell_parts.specs.Rigs.{feed_rig, table_rig, robot_rig, press_rig, deposit_rig, crane_rig}
-use Rattle.cell_seat.specs.Sides.{Side, IsReady}
-use Rattle.cell_seat.proofs.Others.{others_ready}
-use Rattle.cell_seat.proofs.Turning.{seat_turn_still}
-use Rattle.cell_seat.specs.SeatTurns.{SeatTurn, Untouched, Leads as LeadsAlone}
+use Rattle.cell_unit.specs.Sides.{Side, IsReady}
+use Rattle.cell_unit.proofs.Others.{others_ready}
+use Rattle.cell_unit.proofs.Turning.{unit_turn_still}
+use Rattle.cell_unit.specs.UnitTurns.{UnitTurn, Untouched, Leads as LeadsAlone}
 use Rattle.cell_notes.specs.declared.schedule.Turn.{Turn}
 use Rattle.cell_plant.specs.Machines.{robot_points, robot_axes, steps_of, rig_of}
 use Rattle.cell_plant.specs.CellStates.{SideOf, CellState, Sides, side_in, sides_at_start}
@@ -172,8 +172,8 @@ by_turn t u before now e k = subst (λ x. StepsOn x before now) e k
 
 -- the table's turn: its readings are any that a calibration over its scale may give
 pub table_near : (points : Scale) (gives : ℕ → ℤ → Type 0) (rig : Rig TablePlant TableSense TableAct) (busy : Bool) (old new : Desk) (before now : Side TableProgress TablePlant) (notes notes' : Notes)
-    → SeatTurn (table_steps points gives) rig busy old new before now notes notes' → SeatTurn (table_steps points (IsReading points)) rig busy old new before now notes notes'
-table_near points gives rig busy old new before now notes notes' k = seat_turn_still (table_steps points gives) rig (Senses points (IsReading points)) (senses_near points gives) busy old new before now notes notes' k
+    → UnitTurn (table_steps points gives) rig busy old new before now notes notes' → UnitTurn (table_steps points (IsReading points)) rig busy old new before now notes notes'
+table_near points gives rig busy old new before now notes notes' k = unit_turn_still (table_steps points gives) rig (Senses points (IsReading points)) (senses_near points gives) busy old new before now notes notes' k
 
 -- a turn leaves the sides and the notes of the other machines
 abbrev Others : Machine → Sides → Sides → AllNotes → AllNotes → Type 0
@@ -205,12 +205,12 @@ crane_others s x v y n apart = (refl, refl)
 
 -- likewise the robot's and the crane's
 pub robot_near : (points : RobotScales) (gives : RobotGauges) (rig : Rig RobotPlant RobotSense RobotAct) (busy : Bool) (old new : Desk) (before now : Side RobotProgress RobotPlant) (notes notes' : Notes)
-    → SeatTurn (robot_steps points gives) rig busy old new before now notes notes' → SeatTurn (robot_steps points (near_lines points)) rig busy old new before now notes notes'
-robot_near points gives rig busy old new before now notes notes' k = seat_turn_still (robot_steps points gives) rig (RobotSenses points (near_lines points)) (robot_senses_near points gives) busy old new before now notes notes' k
+    → UnitTurn (robot_steps points gives) rig busy old new before now notes notes' → UnitTurn (robot_steps points (near_lines points)) rig busy old new before now notes notes'
+robot_near points gives rig busy old new before now notes notes' k = unit_turn_still (robot_steps points gives) rig (RobotSenses points (near_lines points)) (robot_senses_near points gives) busy old new before now notes notes' k
 
 pub crane_near : (points : Scale) (gives : ℕ → ℤ → Type 0) (rig : Rig CranePlant CraneSense CraneAct) (busy : Bool) (old new : Desk) (before now : Side CraneProgress CranePlant) (notes notes' : Notes)
-    → SeatTurn (crane_steps points gives) rig busy old new before now notes notes' → SeatTurn (crane_steps points (IsReading points)) rig busy old new before now notes notes'
-crane_near points gives rig busy old new before now notes notes' k = seat_turn_still (crane_steps points gives) rig (CraneSenses points (IsReading points)) (crane_senses_near points gives) busy old new before now notes notes' k
+    → UnitTurn (crane_steps points gives) rig busy old new before now notes notes' → UnitTurn (crane_steps points (IsReading points)) rig busy old new before now notes notes'
+crane_near points gives rig busy old new before now notes notes' k = unit_turn_still (crane_steps points gives) rig (CraneSenses points (IsReading points)) (crane_senses_near points gives) busy old new before now notes notes' k
 
 module _ (before now : Moment) (busy : Bool) (asked : Asked) (scales : now.scales ≡ before.scales) (opening : now.opening ≡ before.opening) where
   -- a machine's turn, which changes its own side and leaves the others
@@ -280,7 +280,7 @@ pub record Grows (m : Machine) (old new : Desk) : Type 0 where
   pub history : new.history ≡ old.history ++ settled_in m asked
 
 pub grows : {E S Sense Reading Act State : Type 0} → (r : Result Unit E) (t : Steps S Sense Reading Act) (rig : Rig State Sense Act) (busy : Bool) (old new : Desk) (before now : Side S State) (notes notes' : Notes)
-    → OnOk r (SeatTurn t rig busy old new before now notes notes') → OnErr r (Untouched old new before now notes notes') → Grows t.machine old new
+    → OnOk r (UnitTurn t rig busy old new before now notes notes') → OnErr r (Untouched old new before now notes notes') → Grows t.machine old new
 grows (Ok x) t rig busy old new before now notes notes' k u = record { asked = k.asked; opening = k.opening; history = k.history }
 grows (Err e) t rig busy old new before now notes notes' k u = record { asked = None; opening = ap (λ (d : Desk). d.opening) u.desk; history = ap (λ (d : Desk). d.history) u.desk ∙ sym (append-nil old.history) }
 

@@ -36,9 +36,9 @@ use Rattle.cell_stations.specs.declared.table.TableReading.{TableReading}
 use Rattle.cell_stations.specs.TableProgram.{with_plate, by_plate, row_at, row_of, after_done, is_off, after_act, height_for, rotation_stop, Senses, Acts, table_start, table_steps}
 use Rattle.cell_control.proofs.Facts.{Finds}
 use Rattle.cell_stations.proofs.TableFacts.{TableKnows, table-knowing, drives_at}
-use Rattle.cell_seat.specs.Sides.{act_or_rest}
-use Rattle.cell_seat.proofs.Keeping.{Keeping, turn_tells}
-use Rattle.cell_seat.proofs.Demanding.{Demanding, WhileOn, demanding_while_on}
+use Rattle.cell_unit.specs.Sides.{act_or_rest}
+use Rattle.cell_unit.proofs.Keeping.{Keeping, turn_tells}
+use Rattle.cell_unit.proofs.Demanding.{Demanding, WhileOn, demanding_while_on}
 use Rattle.cell_parts.specs.Shows.{TableShows}
 use Rattle.cell_parts.specs.Collisions.{TableMoves, DrivesPast}
 use Rattle.cell_parts.specs.PositionDemands.{RestsAtLoading}

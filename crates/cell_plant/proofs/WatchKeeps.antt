@@ -2,7 +2,7 @@
 use Rattle.std.proofs.Common.{◌≡◌, Option, Some, None, refl}
 use Rattle.std.specs.Prelude.{⊤}
 use Rattle.cell_types.specs.declared.call.Call.{Call}
-use Rattle.cell_seat.proofs.Keeping.{Keeping}
+use Rattle.cell_unit.proofs.Keeping.{Keeping}
 use Rattle.cell_plant.specs.Machines.{no_steps, no_rig}
 
 none_asked : (o : Option Call) (c : Call) (P : Type 0) → o ≡ None → o ≡ Some c → P

@@ -18,7 +18,7 @@ use Rattle.cell_stations.specs.TableProgram.{table_start}
 use Rattle.cell_parts.specs.declared.axis.Axis.{Axis}
 use Rattle.cell_parts.specs.declared.belt.Belt.{Belt}
 use Rattle.cell_parts.specs.Plant.{TablePlant, RobotPlant, CranePlant, PlantState, feed_at_start, table_at_start, robot_at_start, press_at_start, deposit_at_start, crane_at_start}
-use Rattle.cell_seat.specs.Sides.{Side, side_of}
+use Rattle.cell_unit.specs.Sides.{Side, side_of}
 use Rattle.cell_plant.specs.Machines.{ProgressOf, PartOf}
 
 abbrev pub SideOf : Machine → Type 0

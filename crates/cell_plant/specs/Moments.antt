@@ -10,7 +10,7 @@ use Rattle.cell_rules.specs.ModelState.{ModelState}
 use Rattle.cell_notes.specs.declared.run_record.RunRecord.{RunRecord}
 use Rattle.cell_notes.specs.Asks.{settled_in}
 use Rattle.cell_notes.specs.Notes.{Notes, no_notes, notes_with}
-use Rattle.cell_seat.specs.Fares.{status_of}
+use Rattle.cell_unit.specs.Statuses.{status_of}
 use Rattle.cell_parts.specs.Axes.{CellScales}
 use Rattle.cell_notes.specs.declared.schedule.Turn.{Turn}
 use Rattle.cell_plant.specs.CellStates.{CellState, Sides, side_in, sides_at_start, plant_of}

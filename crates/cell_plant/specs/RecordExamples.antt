@@ -28,7 +28,7 @@ use Rattle.cell_notes.specs.declared.schedule.Turn.{Turn}
 use Rattle.cell_notes.specs.declared.status.Status.{Status}
 use Rattle.cell_notes.specs.declared.status.Status.TheVariants.{Fine, Worn, Sensor, Refused as WasRefused, Memory}
 use Rattle.cell_notes.specs.Notes.{no_counts}
-use Rattle.cell_seat.specs.Sides.{side_of}
+use Rattle.cell_unit.specs.Sides.{side_of}
 use Rattle.cell_parts.specs.Axes.{CellScales}
 use Rattle.cell_parts.specs.Plant.{PlantState}
 use Rattle.cell_parts.specs.Examples.{empty_cell, at, robot_at, table_at, crane_at, held_by}

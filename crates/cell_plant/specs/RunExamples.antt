@@ -25,7 +25,7 @@ use Rattle.cell_stations.specs.declared.press.PressStep.TheVariants.{MoveToBotto
 use Rattle.cell_stations.specs.declared.press.PressProgress.{PressProgress}
 use Rattle.cell_stations.specs.PressProgram.{press_start}
 use Rattle.cell_notes.specs.declared.schedule.Turn.{Turn}
-use Rattle.cell_seat.specs.Sides.{Side, side_of}
+use Rattle.cell_unit.specs.Sides.{Side, side_of}
 use Rattle.cell_parts.specs.declared.axis.Axis.{Axis}
 use Rattle.cell_parts.specs.Axes.{CellScales}
 use Rattle.cell_parts.specs.Plant.{plant_at_start, feed_at_start, press_at_start, table_at_start}

@@ -18,7 +18,7 @@ use Rattle.cell_haul.specs.FeedProgram.{feed_start}
 use Rattle.cell_robot.specs.RobotProgram.{robot_start}
 use Rattle.cell_stations.specs.PressProgram.{press_start}
 use Rattle.cell_stations.specs.TableProgram.{table_start}
-use Rattle.cell_seat.specs.Sides.{side_of}
+use Rattle.cell_unit.specs.Sides.{side_of}
 use Rattle.cell_parts.specs.declared.axis.Axis.{Axis}
 use Rattle.cell_parts.specs.Collisions.{NothingCollides}
 use Rattle.cell_parts.specs.Plant.{PlantState, StaysWithin}

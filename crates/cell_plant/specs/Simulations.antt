@@ -7,7 +7,7 @@ use Rattle.cell_haul.specs.FeedProgram.{feed_steps}
 use Rattle.cell_robot.specs.RobotProgram.{gauges_of, robot_steps}
 use Rattle.cell_stations.specs.PressProgram.{press_steps}
 use Rattle.cell_stations.specs.TableProgram.{table_steps}
-use Rattle.cell_seat.specs.Sides.{IsReady}
+use Rattle.cell_unit.specs.Sides.{IsReady}
 use Rattle.cell_plant.specs.declared.simulation.Simulation.TheInside.{Inside}
 use Rattle.cell_plant.specs.Cells.{points_of, scales_of, sides_of, IsFitted}
 use Rattle.cell_plant.specs.Moments.{Moment}

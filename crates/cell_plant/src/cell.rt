@@ -1,7 +1,7 @@
 //! The whole cell: its six machines.
 
 ghost use Rattle.std.specs.Prelude.{◌≡◌};
-ghost use Rattle.cell_seat.specs.Sides.{side_of};
+ghost use Rattle.cell_unit.specs.Sides.{side_of};
 ghost use Rattle.cell_plant.specs.Cells.{IsMadeFor, scales_of};
 ghost use Rattle.cell_plant.specs.CellStates.{sides_at_start};
 
@@ -11,42 +11,42 @@ use cell_haul::{CraneProgram, DepositProgram, FeedProgram};
 use cell_parts::{CranePart, DepositPart, FeedPart, PressPart, RobotPart, RobotPoints, TablePart};
 use cell_robot::RobotProgram;
 use cell_rules::State;
-use cell_seat::Seat;
 use cell_stations::{PressProgram, TableProgram};
+use cell_unit::MachineUnit;
 
 /// The feed belt.
-pub type FeedSeat = Seat<FeedProgram, FeedPart>;
+pub type FeedUnit = MachineUnit<FeedProgram, FeedPart>;
 
 /// The table.
-pub type TableSeat<F> = Seat<TableProgram<F>, TablePart>;
+pub type TableUnit<F> = MachineUnit<TableProgram<F>, TablePart>;
 
 /// The robot.
-pub type RobotSeat<F1, F2, F3> = Seat<RobotProgram<F1, F2, F3>, RobotPart>;
+pub type RobotUnit<F1, F2, F3> = MachineUnit<RobotProgram<F1, F2, F3>, RobotPart>;
 
 /// The press.
-pub type PressSeat = Seat<PressProgram, PressPart>;
+pub type PressUnit = MachineUnit<PressProgram, PressPart>;
 
 /// The deposit belt.
-pub type DepositSeat = Seat<DepositProgram, DepositPart>;
+pub type DepositUnit = MachineUnit<DepositProgram, DepositPart>;
 
 /// The crane.
-pub type CraneSeat<F> = Seat<CraneProgram<F>, CranePart>;
+pub type CraneUnit<F> = MachineUnit<CraneProgram<F>, CranePart>;
 
 /// The six machines of the cell, each with its controller and its part.
 #[derive(Drop)]
 pub struct Cell<F1: Gauge, F2: Gauge, F3: Gauge, F4: Gauge, F5: Gauge> {
     /// The feed belt.
-    pub feed: FeedSeat,
+    pub feed: FeedUnit,
     /// The table, with the calibration of its rotation.
-    pub table: TableSeat<F4>,
+    pub table: TableUnit<F4>,
     /// The robot, with the calibrations of its first arm, its second arm and its rotation.
-    pub robot: RobotSeat<F1, F2, F3>,
+    pub robot: RobotUnit<F1, F2, F3>,
     /// The press.
-    pub press: PressSeat,
+    pub press: PressUnit,
     /// The deposit belt.
-    pub deposit: DepositSeat,
+    pub deposit: DepositUnit,
     /// The crane, with the calibration of its gripper's height.
-    pub crane: CraneSeat<F5>,
+    pub crane: CraneUnit<F5>,
 }
 
 impl<F1: Gauge, F2: Gauge, F3: Gauge, F4: Gauge, F5: Gauge> Cell<F1, F2, F3, F4, F5> {
@@ -70,17 +70,17 @@ impl<F1: Gauge, F2: Gauge, F3: Gauge, F4: Gauge, F5: Gauge> Cell<F1, F2, F3, F4,
         ensures gripper { result.crane.controller.program.gripper ≡ gripper }
     {
         Cell {
-            feed: Seat {
+            feed: MachineUnit {
                 controller: Controller::new(state, FeedProgram),
                 part: FeedPart::start(state),
             },
             table: table_at_start(state, turn),
             robot: robot_at_start(state, arm1, arm2, rotation),
-            press: Seat {
+            press: MachineUnit {
                 controller: Controller::new(state, PressProgram),
                 part: PressPart::start(),
             },
-            deposit: Seat {
+            deposit: MachineUnit {
                 controller: Controller::new(state, DepositProgram),
                 part: DepositPart::start(state),
             },
@@ -90,13 +90,13 @@ impl<F1: Gauge, F2: Gauge, F3: Gauge, F4: Gauge, F5: Gauge> Cell<F1, F2, F3, F4,
 }
 
 // The table at its start.
-fn table_at_start<F: Gauge>(state: &State, turn: Calibration<F>) -> TableSeat<F>
+fn table_at_start<F: Gauge>(state: &State, turn: Calibration<F>) -> TableUnit<F>
     ensures side { side_of result.controller.progress result.controller.stopped result.part.plant ≡ (sides_at_start state.now).table }
     ensures turn { result.controller.program.turn ≡ turn }
     ensures scale { result.part.scale ≡ turn.points }
 {
     let part = TablePart::start(turn.points());
-    Seat {
+    MachineUnit {
         controller: Controller::new(state, TableProgram::new(turn)),
         part,
     }
@@ -108,7 +108,7 @@ fn robot_at_start<F1: Gauge, F2: Gauge, F3: Gauge>(
     arm1: Calibration<F1>,
     arm2: Calibration<F2>,
     rotation: Calibration<F3>,
-) -> RobotSeat<F1, F2, F3>
+) -> RobotUnit<F1, F2, F3>
     ensures side { side_of result.controller.progress result.controller.stopped result.part.plant ≡ (sides_at_start state.now).robot }
     ensures arm1 { result.controller.program.arm1 ≡ arm1 }
     ensures arm2 { result.controller.program.arm2 ≡ arm2 }
@@ -120,20 +120,20 @@ fn robot_at_start<F1: Gauge, F2: Gauge, F3: Gauge>(
         arm2: arm2.points(),
         rotation: rotation.points(),
     };
-    Seat {
+    MachineUnit {
         controller: Controller::new(state, RobotProgram::new(arm1, arm2, rotation)),
         part: RobotPart::start(state, points),
     }
 }
 
 // The crane at its start.
-fn crane_at_start<F: Gauge>(state: &State, gripper: Calibration<F>) -> CraneSeat<F>
+fn crane_at_start<F: Gauge>(state: &State, gripper: Calibration<F>) -> CraneUnit<F>
     ensures side { side_of result.controller.progress result.controller.stopped result.part.plant ≡ (sides_at_start state.now).crane }
     ensures gripper { result.controller.program.gripper ≡ gripper }
     ensures scale { result.part.scale ≡ gripper.points }
 {
     let part = CranePart::start(state, gripper.points());
-    Seat {
+    MachineUnit {
         controller: Controller::new(state, CraneProgram::new(gripper)),
         part,
     }

@@ -6,7 +6,7 @@ pub mod laws;
 mod notebooks;
 pub mod simulation;
 
-pub use cell::{Cell, CraneSeat, DepositSeat, FeedSeat, PressSeat, RobotSeat, TableSeat};
+pub use cell::{Cell, CraneUnit, DepositUnit, FeedUnit, PressUnit, RobotUnit, TableUnit};
 pub use cell_notes::{Counts, RunRecord, Status, Turn};
-pub use cell_seat::SimFault;
+pub use cell_unit::SimFault;
 pub use simulation::simulate;

@@ -4,7 +4,7 @@ ghost use Rattle.std.specs.Prelude.{◌≡◌, [], map, IsOk, IfOk};
 ghost use Rattle.cell_types.specs.declared.machine.Machine.{Machine};
 ghost use Rattle.cell_types.specs.Everything.{all_machines};
 ghost use Rattle.cell_rules.specs.Start.{IsStartState};
-ghost use Rattle.cell_seat.specs.Fares.{status_of as status_by};
+ghost use Rattle.cell_unit.specs.Statuses.{status_of as status_by};
 ghost use Rattle.cell_notes.specs.Notes.{HasRoom};
 ghost use Rattle.cell_parts.specs.Axes.{AreCellScales};
 ghost use Rattle.cell_plant.specs.Cells.{IsMadeFor, TellsRun, scales_of};
@@ -17,8 +17,8 @@ use crate::notebooks::Notebooks;
 use cell_calib::Gauge;
 use cell_notes::{RunRecord, Status, Turn};
 use cell_rules::{Bench, State};
-use cell_seat::{SimFault, seat_turn, status_of};
 use cell_types::Machine;
+use cell_unit::{SimFault, status_of, take_bench_turn};
 use std::alloc::Global;
 use std::marker::Model;
 
@@ -98,19 +98,19 @@ impl<F1: Gauge, F2: Gauge, F3: Gauge, F4: Gauge, F5: Gauge> Simulation<F1, F2, F
         let Turn { machine, busy } = turn;
         match machine {
             Machine::Feed => {
-                seat_turn(bench, &mut notes.feed, &mut self.cell.feed, machine, busy)
+                take_bench_turn(bench, &mut notes.feed, &mut self.cell.feed, machine, busy)
             }
             Machine::Table => {
-                seat_turn(bench, &mut notes.table, &mut self.cell.table, machine, busy)
+                take_bench_turn(bench, &mut notes.table, &mut self.cell.table, machine, busy)
             }
             Machine::Robot => {
-                seat_turn(bench, &mut notes.robot, &mut self.cell.robot, machine, busy)
+                take_bench_turn(bench, &mut notes.robot, &mut self.cell.robot, machine, busy)
             }
             Machine::Press => {
-                seat_turn(bench, &mut notes.press, &mut self.cell.press, machine, busy)
+                take_bench_turn(bench, &mut notes.press, &mut self.cell.press, machine, busy)
             }
             Machine::Deposit => {
-                seat_turn(
+                take_bench_turn(
                     bench,
                     &mut notes.deposit,
                     &mut self.cell.deposit,
@@ -119,7 +119,7 @@ impl<F1: Gauge, F2: Gauge, F3: Gauge, F4: Gauge, F5: Gauge> Simulation<F1, F2, F
                 )
             }
             Machine::Crane => {
-                seat_turn(bench, &mut notes.crane, &mut self.cell.crane, machine, busy)
+                take_bench_turn(bench, &mut notes.crane, &mut self.cell.crane, machine, busy)
             }
             Machine::Watch => Ok(()),
         }

@@ -64,29 +64,29 @@ each_fine r k before after s e = at_each before after s (subst AreFine e k)
 pub told : TurnsAreTold
 told =
     record {
-      turns = λ c opening tries limit r did fares k counts status m e.
-          let had = records_tell.turns c opening tries limit (λ n turn. true) (but_end r) did fares k.work counts status m e in
+      turns = λ c opening tries limit r did statuses k counts status m e.
+          let had = records_tell.turns c opening tries limit (λ n turn. true) (but_end r) did statuses k.work counts status m e in
           (had, λ out. let lie : true ≡ false = (had.kept_out out).1 in cc);
     }
 
-fine_in : (fares : Machine → Status) (before after : List Machine) (m : Machine) → AreFine (map fares (before ++ m ∷ after)) → fares m ≡ Fine
-fine_in fares [] after m k = All-head (λ x. x ≡ Fine) (fares m) (map fares after) k
-fine_in fares (x ∷ xs) after m k = fine_in fares xs after m (All-tail (λ y. y ≡ Fine) (fares x) (map fares (xs ++ m ∷ after)) k)
+fine_in : (statuses : Machine → Status) (before after : List Machine) (m : Machine) → AreFine (map statuses (before ++ m ∷ after)) → statuses m ≡ Fine
+fine_in statuses [] after m k = All-head (λ x. x ≡ Fine) (statuses m) (map statuses after) k
+fine_in statuses (x ∷ xs) after m k = fine_in statuses xs after m (All-tail (λ y. y ≡ Fine) (statuses x) (map statuses (xs ++ m ∷ after)) k)
 
-each_fares : (fares : Machine → Status) → AreFine (map fares all_machines) → (m : Machine) → fares m ≡ Fine
-each_fares fares k Feed = fine_in fares [] (Table ∷ Robot ∷ Press ∷ Deposit ∷ Crane ∷ Watch ∷ []) Feed k
-each_fares fares k Table = fine_in fares (Feed ∷ []) (Robot ∷ Press ∷ Deposit ∷ Crane ∷ Watch ∷ []) Table k
-each_fares fares k Robot = fine_in fares (Feed ∷ Table ∷ []) (Press ∷ Deposit ∷ Crane ∷ Watch ∷ []) Robot k
-each_fares fares k Press = fine_in fares (Feed ∷ Table ∷ Robot ∷ []) (Deposit ∷ Crane ∷ Watch ∷ []) Press k
-each_fares fares k Deposit = fine_in fares (Feed ∷ Table ∷ Robot ∷ Press ∷ []) (Crane ∷ Watch ∷ []) Deposit k
-each_fares fares k Crane = fine_in fares (Feed ∷ Table ∷ Robot ∷ Press ∷ Deposit ∷ []) (Watch ∷ []) Crane k
-each_fares fares k Watch = fine_in fares (Feed ∷ Table ∷ Robot ∷ Press ∷ Deposit ∷ Crane ∷ []) [] Watch k
+each_status : (statuses : Machine → Status) → AreFine (map statuses all_machines) → (m : Machine) → statuses m ≡ Fine
+each_status statuses k Feed = fine_in statuses [] (Table ∷ Robot ∷ Press ∷ Deposit ∷ Crane ∷ Watch ∷ []) Feed k
+each_status statuses k Table = fine_in statuses (Feed ∷ []) (Robot ∷ Press ∷ Deposit ∷ Crane ∷ Watch ∷ []) Table k
+each_status statuses k Robot = fine_in statuses (Feed ∷ Table ∷ []) (Press ∷ Deposit ∷ Crane ∷ Watch ∷ []) Robot k
+each_status statuses k Press = fine_in statuses (Feed ∷ Table ∷ Robot ∷ []) (Deposit ∷ Crane ∷ Watch ∷ []) Press k
+each_status statuses k Deposit = fine_in statuses (Feed ∷ Table ∷ Robot ∷ Press ∷ []) (Crane ∷ Watch ∷ []) Deposit k
+each_status statuses k Crane = fine_in statuses (Feed ∷ Table ∷ Robot ∷ Press ∷ Deposit ∷ []) (Watch ∷ []) Crane k
+each_status statuses k Watch = fine_in statuses (Feed ∷ Table ∷ Robot ∷ Press ∷ Deposit ∷ Crane ∷ []) [] Watch k
 
 -- a machine that is fine had all its turns
 all_turns : (c : CellScales) (opening : ModelState) (tries turns : ℕ) (r : RunRecord) → TellsWorkers c opening tries turns r → AreFine r.status → EachHadTurns turns r
 all_turns c opening tries turns r k fine did counts m e =
-    let had = told.turns c opening tries turns r did k.work.fares k counts k.work.status m e in
-    had.0.fine (each_fares k.work.fares (subst AreFine k.work.status fine) m)
+    let had = told.turns c opening tries turns r did k.work.statuses k counts k.work.status m e in
+    had.0.fine (each_status k.work.statuses (subst AreFine k.work.status fine) m)
 
 pub well : StatusZeroIsWell
 well =

@@ -134,7 +134,7 @@ const ROWS: &[Row] = &[
 
 // A machine's status, and the turns for which it has asked, by the number of turns that it was let
 // in.
-fn fares(let_in: u32, turns: u32) -> (Status, u64) {
+fn outcome(let_in: u32, turns: u32) -> (Status, u64) {
     let status = if let_in < turns {
         Status::GateLimit
     } else {
@@ -150,7 +150,7 @@ fn is_gated<R: Threads + Wait + Sync>(rt: &R, alloc: Global, row: &Row) -> Resul
     let (turns, lets) = *row;
     let gate = Doorkeeper::new(lets, lets == [6; 6]);
     let record = run_counted(rt, alloc, 0, turns, &gate)?;
-    let [feed, table, robot, press, deposit, crane] = lets.map(|let_in| fares(let_in, turns));
+    let [feed, table, robot, press, deposit, crane] = lets.map(|let_in| outcome(let_in, turns));
     let status = [
         feed.0,
         table.0,

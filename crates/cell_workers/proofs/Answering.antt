@@ -26,7 +26,7 @@ use Rattle.cell_parts.specs.Shows.{PressShows}
 use Rattle.cell_notes.specs.declared.counts.Counts.{Counts}
 use Rattle.cell_notes.specs.Asks.{Asked}
 use Rattle.cell_notes.specs.Notes.{counts_with}
-use Rattle.cell_seat.specs.Sides.{Side, Acts, side_set, side_moved}
+use Rattle.cell_unit.specs.Sides.{Side, Acts, side_set, side_moved}
 use Rattle.cell_plant.specs.CellStates.{SideOf}
 use Rattle.cell_workers.specs.Lines.{passes}
 use Rattle.cell_workers.specs.Workers.{GateOf, WorkerMoment, TakesTurn}

@@ -30,10 +30,10 @@ use Rattle.cell_notes.specs.declared.status.Status.{Status}
 use Rattle.cell_notes.specs.declared.status.Status.TheVariants.{Fine, GateLimit}
 use Rattle.cell_notes.specs.Asks.{Asked, came_back, is_busy_reply}
 use Rattle.cell_notes.specs.Notes.{counts_with}
-use Rattle.cell_seat.specs.Fares.{status_of}
+use Rattle.cell_unit.specs.Statuses.{status_of}
 use Rattle.cell_workers.specs.Lines.{passes}
 use Rattle.cell_workers.specs.Workers.{GateOf, WorkerMoment, TakesTurn, TakesTurns, HasCome, HasEnded, Ends, last_of}
-use Rattle.cell_workers.specs.Laws.{answers_in, HasAtMost, MayFare}
+use Rattle.cell_workers.specs.Laws.{answers_in, HasAtMost, HasStatusBy}
 use Rattle.cell_workers.proofs.Passes.{by_turn, all_along}
 
 -- ---- how a worker ends
@@ -67,14 +67,14 @@ module _ (gate : GateOf) (limit : ℕ) where
   ends_kept_out None turns s (inr h) e = (h.1, h.2)
   ends_kept_out (Some f) turns s h e = stopped_so ((turns < limit) × gate turns false) f s h.0 (inr e)
 
-  pub may_fare : (stopped : Option CtlFault) (turns : ℕ) (s : Status) → Ends gate limit stopped turns s → MayFare stopped s
-  may_fare None turns s (inl h) = inl h.0
-  may_fare None turns s (inr h) = inr h.0
-  may_fare (Some (fault.Sensor x)) turns s h = h.0
-  may_fare (Some (fault.Refused x)) turns s h = h.0
-  may_fare (Some fault.Worn) turns s h = h.0
-  may_fare (Some fault.Memory) turns s h = h.0
-  may_fare (Some fault.Stopped) turns s h = h.0
+  pub has_status_by : (stopped : Option CtlFault) (turns : ℕ) (s : Status) → Ends gate limit stopped turns s → HasStatusBy stopped s
+  has_status_by None turns s (inl h) = inl h.0
+  has_status_by None turns s (inr h) = inr h.0
+  has_status_by (Some (fault.Sensor x)) turns s h = h.0
+  has_status_by (Some (fault.Refused x)) turns s h = h.0
+  has_status_by (Some fault.Worn) turns s h = h.0
+  has_status_by (Some fault.Memory) turns s h = h.0
+  has_status_by (Some fault.Stopped) turns s h = h.0
 
 -- the status of a worker that has taken no turn: fine if no turn was allowed, kept out otherwise
 pub fine_at_once : (gate : GateOf) (s : Status) → Ends gate 0 None 0 s → s ≡ Fine

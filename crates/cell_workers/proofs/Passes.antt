@@ -24,8 +24,8 @@ use Rattle.cell_notes.specs.declared.counts.Counts.{Counts}
 use Rattle.cell_notes.specs.declared.status.Status.{Status}
 use Rattle.cell_notes.specs.Asks.{Asked, came_back, is_done_reply, is_read_reply, is_refused_reply}
 use Rattle.cell_notes.specs.Notes.{no_counts, counts_with}
-use Rattle.cell_seat.specs.Sides.{Acts}
-use Rattle.cell_seat.proofs.Turning.{acts_map}
+use Rattle.cell_unit.specs.Sides.{Acts}
+use Rattle.cell_unit.proofs.Turning.{acts_map}
 use Rattle.cell_workers.specs.Lines.{Lines, passes}
 use Rattle.cell_workers.specs.Workers.{WorkerMoment, worker_moment, GateOf, TakesTurn, TakesTurns, HasCome, HasEnded, IsWorkerResult, AreCountsOf, last_of, is_shown_answer, is_refused_answer}
 

@@ -34,8 +34,8 @@ use Rattle.cell_notes.specs.declared.run_record.RunRecord.{RunRecord}
 use Rattle.cell_notes.specs.declared.status.Status.{Status}
 use Rattle.cell_notes.specs.declared.status.Status.TheVariants.{Fine}
 use Rattle.cell_notes.specs.Notes.{no_counts}
-use Rattle.cell_seat.specs.Sides.{IsReady}
-use Rattle.cell_seat.proofs.Turning.{acts_still}
+use Rattle.cell_unit.specs.Sides.{IsReady}
+use Rattle.cell_unit.proofs.Turning.{acts_still}
 use Rattle.cell_parts.specs.Axes.{CellScales}
 use Rattle.cell_plant.specs.Machines.{PartOf, steps_of, rig_of}
 use Rattle.cell_plant.specs.CellStates.{SideOf, side_in, sides_at_start}
@@ -65,9 +65,9 @@ module _ {L S Sense Reading Act State : Type 0} (lines : Lines L) (t : Steps S S
   turns_still before (now ∷ later) k = (turn_still before now k.0, turns_still now later k.1)
 
 pub result_still : {S Sense Reading Act State : Type 0} → (tries : ℕ) (t : Steps S Sense Reading Act) (rig : Rig State Sense Act) (gate : GateOf) (senses : Sense → Result Reading SensorFault → Type 0) (f : (s : Sense) (r : Result Reading SensorFault) → t.senses s r → senses s r)
-    (limit : ℕ) (first : WorkerMoment PassView S State) (kept : PassView) (journal : List Entry) (did : Counts) (fares : Status) (stands : State)
-    → IsWorkerResult tries t rig gate limit first kept journal did fares stands → IsWorkerResult tries (with_senses t senses) rig gate limit first kept journal did fares stands
-result_still tries t rig gate senses f limit first kept journal did fares stands k =
+    (limit : ℕ) (first : WorkerMoment PassView S State) (kept : PassView) (journal : List Entry) (did : Counts) (status : Status) (stands : State)
+    → IsWorkerResult tries t rig gate limit first kept journal did status stands → IsWorkerResult tries (with_senses t senses) rig gate limit first kept journal did status stands
+result_still tries t rig gate senses f limit first kept journal did status stands k =
     record {
       last = k.last;
       worked = record { come = record { turns = k.worked.come.turns; taken = turns_still (passes tries) t rig gate senses f first k.worked.come.turns k.worked.come.taken; last = k.worked.come.last }; ends = k.worked.ends };
@@ -80,24 +80,24 @@ result_still tries t rig gate senses f limit first kept journal did fares stands
     }
 
 -- the table, the robot and the crane read by their scales: a reading is any that a calibration over its scale may give
-module _ (tries : ℕ) (gate : GateOf) (limit : ℕ) (kept : PassView) (journal : List Entry) (did : Counts) (fares : Status) where
+module _ (tries : ℕ) (gate : GateOf) (limit : ℕ) (kept : PassView) (journal : List Entry) (did : Counts) (status : Status) where
   pub table_near : (points scale : Scale) (gives : ℕ → ℤ → Type 0) (rig : Rig TablePlant TableSense TableAct) (first : MomentOf Table) (stands : TablePlant) → scale ≡ points
-      → IsWorkerResult tries (table_steps points gives) rig gate limit first kept journal did fares stands → IsWorkerResult tries (table_steps scale (IsReading scale)) rig gate limit first kept journal did fares stands
+      → IsWorkerResult tries (table_steps points gives) rig gate limit first kept journal did status stands → IsWorkerResult tries (table_steps scale (IsReading scale)) rig gate limit first kept journal did status stands
   table_near points scale gives rig first stands e k =
-      subst (λ s. IsWorkerResult tries (table_steps s (IsReading s)) rig gate limit first kept journal did fares stands) (sym e)
-      (result_still tries (table_steps points gives) rig gate (TableSenses points (IsReading points)) (table_senses_near points gives) limit first kept journal did fares stands k)
+      subst (λ s. IsWorkerResult tries (table_steps s (IsReading s)) rig gate limit first kept journal did status stands) (sym e)
+      (result_still tries (table_steps points gives) rig gate (TableSenses points (IsReading points)) (table_senses_near points gives) limit first kept journal did status stands k)
 
   pub robot_near : (points scales : RobotScales) (gives : RobotGauges) (rig : Rig RobotPlant RobotSense RobotAct) (first : MomentOf Robot) (stands : RobotPlant) → scales ≡ points
-      → IsWorkerResult tries (robot_steps points gives) rig gate limit first kept journal did fares stands → IsWorkerResult tries (robot_steps scales (near_lines scales)) rig gate limit first kept journal did fares stands
+      → IsWorkerResult tries (robot_steps points gives) rig gate limit first kept journal did status stands → IsWorkerResult tries (robot_steps scales (near_lines scales)) rig gate limit first kept journal did status stands
   robot_near points scales gives rig first stands e k =
-      subst (λ s. IsWorkerResult tries (robot_steps s (near_lines s)) rig gate limit first kept journal did fares stands) (sym e)
-      (result_still tries (robot_steps points gives) rig gate (RobotSenses points (near_lines points)) (robot_senses_near points gives) limit first kept journal did fares stands k)
+      subst (λ s. IsWorkerResult tries (robot_steps s (near_lines s)) rig gate limit first kept journal did status stands) (sym e)
+      (result_still tries (robot_steps points gives) rig gate (RobotSenses points (near_lines points)) (robot_senses_near points gives) limit first kept journal did status stands k)
 
   pub crane_near : (points scale : Scale) (gives : ℕ → ℤ → Type 0) (rig : Rig CranePlant CraneSense CraneAct) (first : MomentOf Crane) (stands : CranePlant) → scale ≡ points
-      → IsWorkerResult tries (crane_steps points gives) rig gate limit first kept journal did fares stands → IsWorkerResult tries (crane_steps scale (IsReading scale)) rig gate limit first kept journal did fares stands
+      → IsWorkerResult tries (crane_steps points gives) rig gate limit first kept journal did status stands → IsWorkerResult tries (crane_steps scale (IsReading scale)) rig gate limit first kept journal did status stands
   crane_near points scale gives rig first stands e k =
-      subst (λ s. IsWorkerResult tries (crane_steps s (IsReading s)) rig gate limit first kept journal did fares stands) (sym e)
-      (result_still tries (crane_steps points gives) rig gate (CraneSenses points (IsReading points)) (crane_senses_near points gives) limit first kept journal did fares stands k)
+      subst (λ s. IsWorkerResult tries (crane_steps s (IsReading s)) rig gate limit first kept journal did status stands) (sym e)
+      (result_still tries (crane_steps points gives) rig gate (CraneSenses points (IsReading points)) (crane_senses_near points gives) limit first kept journal did status stands k)
 
 -- a machine at the beginning of its program, with a fresh pass, is ready
 pub ready_at_start : {S Sense Reading Act : Type 0} → (t : Steps S Sense Reading Act) (i : InterlockView) (pass : PassView) (stopped : Option CtlFault) (progress : S) → pass ≡ fresh_pass i t.machine → progress ≡ t.start i.opening
@@ -116,11 +116,11 @@ if_some P Q f (Some x) k = f x k
 
 module _ (c : CellScales) (i : InterlockView) (limit : ℕ) (gate : Machine → GateOf) where
   -- it began with a fresh pass, at the start of its machine
-  pub is_result_of : (m : Machine) (pass : PassView) (side : SideOf m) (kept : PassView) (journal : List Entry) (did : Counts) (fares : Status) (stands : PartOf m) → pass ≡ fresh_pass i m → side ≡ side_in (sides_at_start i.opening) m
-      → IsWorkerResult i.tries (steps_of c m) (rig_of c m) (gate pass.machine) limit (worker_moment pass side no_counts) kept journal did fares stands → IsResultOf c i limit gate m kept journal did fares stands
-  is_result_of m pass side kept journal did fares stands e f k =
-      subst (λ s. IsWorkerResult i.tries (steps_of c m) (rig_of c m) (gate m) limit (worker_moment (fresh_pass i m) s no_counts) kept journal did fares stands) f
-      (subst (λ p. IsWorkerResult i.tries (steps_of c m) (rig_of c m) (gate p.machine) limit (worker_moment p side no_counts) kept journal did fares stands) e k)
+  pub is_result_of : (m : Machine) (pass : PassView) (side : SideOf m) (kept : PassView) (journal : List Entry) (did : Counts) (status : Status) (stands : PartOf m) → pass ≡ fresh_pass i m → side ≡ side_in (sides_at_start i.opening) m
+      → IsWorkerResult i.tries (steps_of c m) (rig_of c m) (gate pass.machine) limit (worker_moment pass side no_counts) kept journal did status stands → IsResultOf c i limit gate m kept journal did status stands
+  is_result_of m pass side kept journal did status stands e f k =
+      subst (λ s. IsWorkerResult i.tries (steps_of c m) (rig_of c m) (gate m) limit (worker_moment (fresh_pass i m) s no_counts) kept journal did status stands) f
+      (subst (λ p. IsWorkerResult i.tries (steps_of c m) (rig_of c m) (gate p.machine) limit (worker_moment p side no_counts) kept journal did status stands) e k)
 
   module _ (results : SixResults) (back : AreWorkerResults c i limit gate results) (r : RunRecord) where
     abbrev last : (m : Machine) → MomentOf m
@@ -132,16 +132,16 @@ module _ (c : CellScales) (i : InterlockView) (limit : ℕ) (gate : Machine → 
     last Crane = back.crane.last
     last Watch = first_moment i Watch
 
-    abbrev fares : Machine → Status
-    fares Feed = results.feed.status
-    fares Table = results.table.status
-    fares Robot = results.robot.status
-    fares Press = results.press.status
-    fares Deposit = results.deposit.status
-    fares Crane = results.crane.status
-    fares Watch = Fine
+    abbrev statuses : Machine → Status
+    statuses Feed = results.feed.status
+    statuses Table = results.table.status
+    statuses Robot = results.robot.status
+    statuses Press = results.press.status
+    statuses Deposit = results.deposit.status
+    statuses Crane = results.crane.status
+    statuses Watch = Fine
 
-    works : (m : Machine) → is_at_work m ≡ true → HasEnded (passes i.tries) (steps_of c m) (rig_of c m) (gate m) limit (first_moment i m) (last m) (fares m)
+    works : (m : Machine) → is_at_work m ≡ true → HasEnded (passes i.tries) (steps_of c m) (rig_of c m) (gate m) limit (first_moment i m) (last m) (statuses m)
     works Feed e = back.feed.worked
     works Table e = back.table.worked
     works Robot e = back.robot.worked
@@ -188,7 +188,7 @@ module _ (c : CellScales) (i : InterlockView) (limit : ℕ) (gate : Machine → 
           interlock = i;
           opened = refl;
           last = last;
-          fares = fares;
+          statuses = statuses;
           works = works;
           watch_rests = (refl, refl);
           lawful = lawful;

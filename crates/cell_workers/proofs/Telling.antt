@@ -39,7 +39,7 @@ use Rattle.cell_stations.specs.PressProgram.{press_steps}
 use Rattle.cell_parts.specs.declared.axis.Axis.{Axis}
 use Rattle.cell_parts.specs.Plant.{CranePlant, moved_to}
 use Rattle.cell_parts.specs.Rigs.{press_rig, crane_rig}
-use Rattle.cell_seat.specs.Sides.{act_or_rest, noting, side_set, side_moved}
+use Rattle.cell_unit.specs.Sides.{act_or_rest, noting, side_set, side_moved}
 use Rattle.cell_notes.specs.declared.counts.Counts.{Counts}
 use Rattle.cell_notes.specs.declared.run_record.RunRecord.{RunRecord}
 use Rattle.cell_notes.specs.declared.status.Status.{Status}
@@ -58,7 +58,7 @@ use Rattle.cell_workers.specs.Records.{MomentOf, first_moment, parts_at_ends, Te
 use Rattle.cell_workers.specs.Laws.{Rule, by_rule, TellsNothingDone, HadTurns, HasAtMost, first_call, TellsFirstTurns, RecordsTellTurns, RecordsKeepTries, WorkersEnd, TurnsAreTaken}
 use Rattle.cell_workers.proofs.Passes.{come_same, come_counts}
 use Rattle.cell_workers.proofs.Answering.{side_answered, line_unchanged, falls}
-use Rattle.cell_workers.proofs.FirstSteps.{within, ends_fine, ends_kept_out, may_fare, fine_at_once, shut_at_once, ends_begun, answers_along, let_in_along, few_along, still, shut_still, once, stays, own_at_first, noted_at_most, busy_lost, busy_counted}
+use Rattle.cell_workers.proofs.FirstSteps.{within, ends_fine, ends_kept_out, has_status_by, fine_at_once, shut_at_once, ends_begun, answers_along, let_in_along, few_along, still, shut_still, once, stays, own_at_first, noted_at_most, busy_lost, busy_counted}
 
 -- equal lists of the machines' values have equal values for each machine
 each_same : {A : Type 0} → (f g : Machine → A) → map f all_machines ≡ map g all_machines → (m : Machine) → f m ≡ g m
@@ -76,17 +76,17 @@ module _ (c : CellScales) (opening : ModelState) (tries limit : ℕ) (lets : Rul
 
   -- ---- if each machine stays at its start
 
-  module _ (fares : Status) where
+  module _ (status : Status) where
     -- a worker can only stay at its start, with this status
     abbrev Rests : Type 0
-    Rests = (m : Machine) (first last : MomentOf m) (s : Status) → first.side.stopped ≡ None → first.counts.turns ≡ 0 → HasEnded (passes tries) (steps_of c m) (rig_of c m) (by_rule lets m) limit first last s → (last ≡ first) × (s ≡ fares)
+    Rests = (m : Machine) (first last : MomentOf m) (s : Status) → first.side.stopped ≡ None → first.counts.turns ≡ 0 → HasEnded (passes tries) (steps_of c m) (rig_of c m) (by_rule lets m) limit first last s → (last ≡ first) × (s ≡ status)
 
     module _ (rests : Rests) (k : Works) where
       abbrev first : (m : Machine) → MomentOf m
       first m = first_moment k.interlock m
 
-      rest_of : (m : Machine) → is_at_work m ≡ true → (first m).side.stopped ≡ None → (k.last m ≡ first m) × (k.fares m ≡ fares)
-      rest_of m e runs = rests m (first m) (k.last m) (k.fares m) runs refl (k.works m e)
+      rest_of : (m : Machine) → is_at_work m ≡ true → (first m).side.stopped ≡ None → (k.last m ≡ first m) × (k.statuses m ≡ status)
+      rest_of m e runs = rests m (first m) (k.last m) (k.statuses m) runs refl (k.works m e)
 
       lasts : (m : Machine) → k.last m ≡ first m
       lasts Feed = (rest_of Feed refl refl).0
@@ -103,7 +103,7 @@ module _ (c : CellScales) (opening : ModelState) (tries limit : ℕ) (lets : Rul
       seen_nothing : (m : Machine) → journal_of r.journals m ≡ []
       seen_nothing m = k.journals m ∙ ap (λ (x : MomentOf m). noted opening x.line.seen m) (lasts m)
 
-      pub nothing_done : TellsNothingDone opening fares r
+      pub nothing_done : TellsNothingDone opening status r
       nothing_done =
           record {
             sound = (k.lawful Watch [] (k.last Watch).line.seen refl).stays_sound;
@@ -116,24 +116,24 @@ module _ (c : CellScales) (opening : ModelState) (tries limit : ℕ) (lets : Rul
           }
 
     -- a worker may end at once, with this status
-    abbrev fares_so : Machine → Status
-    fares_so Watch = Fine
-    fares_so _ = fares
+    abbrev statuses_so : Machine → Status
+    statuses_so Watch = Fine
+    statuses_so _ = status
 
-    module _ (ends : (m : Machine) → Ends (by_rule lets m) limit None 0 fares) (k : TellsNothingDone opening fares r) where
+    module _ (ends : (m : Machine) → Ends (by_rule lets m) limit None 0 status) (k : TellsNothingDone opening status r) where
       abbrev interlock : InterlockView
       interlock = record { table = record { words = 0; slots = 0; views_name = 0; atom = 0; block = 0; offset = 0; slot_names = [] }; opening = opening; tries = tries }
 
       abbrev at : (m : Machine) → MomentOf m
       at m = first_moment interlock m
 
-      works : (m : Machine) → is_at_work m ≡ true → HasEnded (passes tries) (steps_of c m) (rig_of c m) (by_rule lets m) limit (at m) (at m) (fares_so m)
-      works Feed e = stays tries (steps_of c Feed) (rig_of c Feed) (by_rule lets Feed) limit (at Feed) fares (ends Feed)
-      works Table e = stays tries (steps_of c Table) (rig_of c Table) (by_rule lets Table) limit (at Table) fares (ends Table)
-      works Robot e = stays tries (steps_of c Robot) (rig_of c Robot) (by_rule lets Robot) limit (at Robot) fares (ends Robot)
-      works Press e = stays tries (steps_of c Press) (rig_of c Press) (by_rule lets Press) limit (at Press) fares (ends Press)
-      works Deposit e = stays tries (steps_of c Deposit) (rig_of c Deposit) (by_rule lets Deposit) limit (at Deposit) fares (ends Deposit)
-      works Crane e = stays tries (steps_of c Crane) (rig_of c Crane) (by_rule lets Crane) limit (at Crane) fares (ends Crane)
+      works : (m : Machine) → is_at_work m ≡ true → HasEnded (passes tries) (steps_of c m) (rig_of c m) (by_rule lets m) limit (at m) (at m) (statuses_so m)
+      works Feed e = stays tries (steps_of c Feed) (rig_of c Feed) (by_rule lets Feed) limit (at Feed) status (ends Feed)
+      works Table e = stays tries (steps_of c Table) (rig_of c Table) (by_rule lets Table) limit (at Table) status (ends Table)
+      works Robot e = stays tries (steps_of c Robot) (rig_of c Robot) (by_rule lets Robot) limit (at Robot) status (ends Robot)
+      works Press e = stays tries (steps_of c Press) (rig_of c Press) (by_rule lets Press) limit (at Press) status (ends Press)
+      works Deposit e = stays tries (steps_of c Deposit) (rig_of c Deposit) (by_rule lets Deposit) limit (at Deposit) status (ends Deposit)
+      works Crane e = stays tries (steps_of c Crane) (rig_of c Crane) (by_rule lets Crane) limit (at Crane) status (ends Crane)
       works Watch e = cc
 
       pub told : Works
@@ -142,7 +142,7 @@ module _ (c : CellScales) (opening : ModelState) (tries limit : ℕ) (lets : Rul
             interlock = interlock;
             opened = refl;
             last = at;
-            fares = fares_so;
+            statuses = statuses_so;
             works = works;
             watch_rests = (refl, refl);
             lawful = λ m. throughout opening (Lawful opening) (lawful opening k.sound) [] tt;
@@ -166,22 +166,22 @@ module _ (c : CellScales) (opening : ModelState) (tries limit : ℕ) (lets : Rul
       subst (λ j. AreCountsOf j (k.last m).counts) ((λ i. noted (same.1 i) (k.last m).line.seen (same.0 i)) ∙ ap (λ o. noted o (k.last m).line.seen m) k.opened ∙ sym (k.journals m))
       (come_counts tries (steps_of c m) (rig_of c m) (by_rule lets m) first (k.last m) come refl refl)
 
-  pub had_turns : (k : Works) (m : Machine) (did : Counts) (fares : Status) → (k.last m).counts ≡ did → k.fares m ≡ fares → is_at_work m ≡ true → HadTurns limit (lets m) did fares (journal_of r.journals m)
-  had_turns k m did fares counts status e =
+  pub had_turns : (k : Works) (m : Machine) (did : Counts) (s : Status) → (k.last m).counts ≡ did → k.statuses m ≡ s → is_at_work m ≡ true → HadTurns limit (lets m) did s (journal_of r.journals m)
+  had_turns k m did s counts status e =
       let worked = k.works m e in
       let first = first_moment k.interlock m in
       let last = k.last m in
       let stopped = last.side.stopped in
-      let came : HadTurns limit (lets m) last.counts (k.fares m) (journal_of r.journals m) =
+      let came : HadTurns limit (lets m) last.counts (k.statuses m) (journal_of r.journals m) =
       record {
-        within = within (by_rule lets m) limit stopped last.counts.turns (k.fares m) worked.ends;
+        within = within (by_rule lets m) limit stopped last.counts.turns (k.statuses m) worked.ends;
         let_in = λ turn less. sym (let_in_along tries (steps_of c m) (rig_of c m) (by_rule lets m) first last worked.come refl turn less);
-        fine = ends_fine (by_rule lets m) limit stopped last.counts.turns (k.fares m) worked.ends;
-        kept_out = λ out. let kept = ends_kept_out (by_rule lets m) limit stopped last.counts.turns (k.fares m) worked.ends out in (kept.0, sym kept.1);
+        fine = ends_fine (by_rule lets m) limit stopped last.counts.turns (k.statuses m) worked.ends;
+        kept_out = λ out. let kept = ends_kept_out (by_rule lets m) limit stopped last.counts.turns (k.statuses m) worked.ends out in (kept.0, sym kept.1);
         one_answer_each = answers_along tries (steps_of c m) (rig_of c m) (by_rule lets m) first last worked.come (omega arith);
         counted = counted_by_turns k m e;
       } in
-      subst (λ d. HadTurns limit (lets m) d fares (journal_of r.journals m)) counts (subst (λ x. HadTurns limit (lets m) last.counts x (journal_of r.journals m)) status came)
+      subst (λ d. HadTurns limit (lets m) d s (journal_of r.journals m)) counts (subst (λ x. HadTurns limit (lets m) last.counts x (journal_of r.journals m)) status came)
 
 -- ---- no turn
 
@@ -226,7 +226,7 @@ module _ (c : CellScales) (tries : ℕ) (lets : Rule) (r : RunRecord) (k : Tells
   called m e is =
       subst (HasAtMost (first_call m)) (sym (k.journals m))
       (noted_at_most (first_call m) (start_state empty 0) (k.last m).line.seen m
-      (own_at_first tries (steps_of c m) (rig_of c m) (by_rule lets m) (first_call m) (begins m) (k.last m) (k.fares m) refl refl is (k.works m e)))
+      (own_at_first tries (steps_of c m) (rig_of c m) (by_rule lets m) (first_call m) (begins m) (k.last m) (k.statuses m) refl refl is (k.works m e)))
 
   calls : (m : Machine) → HasAtMost (first_call m) (journal_of r.journals m)
   calls Feed = called Feed refl refl
@@ -262,7 +262,7 @@ module _ (c : CellScales) (tries : ℕ) (lets : Rule) (r : RunRecord) (k : Tells
   stands : travelled (k.last Crane) ≡ pos 0
   stands =
       let worked = k.works Crane refl in
-      let few = within (by_rule lets Crane) 1 (k.last Crane).side.stopped (k.last Crane).counts.turns (k.fares Crane) worked.ends in
+      let few = within (by_rule lets Crane) 1 (k.last Crane).side.stopped (k.last Crane).counts.turns (k.statuses Crane) worked.ends in
       elim (once tries crane (crane_rig c.gripper) (by_rule lets Crane) (begins Crane) (k.last Crane) worked.come (omega (arith, few))) as (λ _. travelled (k.last Crane) ≡ pos 0) [
         | inl same ↦ ap travelled same
         | inr turn ↦ stands_in_turn turn
@@ -282,12 +282,12 @@ records_tell =
         λ k. nothing_done c opening tries 5 (λ m turn. false) r GateLimit (λ m first last s. never_let_in c tries m first last s) k,
         λ t. told c opening tries 5 (λ m turn. false) r GateLimit (λ m. inr (refl, omega arith, refl)) t,
       );
-      turns = λ c opening tries limit lets r did fares k counts status m e.
-          had_turns c opening tries limit lets r k m (did m) (fares m) (each_same (λ n. (k.last n).counts) did (sym k.counts ∙ counts) m) (each_same k.fares fares (sym k.status ∙ status) m) e;
+      turns = λ c opening tries limit lets r did statuses k counts status m e.
+          had_turns c opening tries limit lets r k m (did m) (statuses m) (each_same (λ n. (k.last n).counts) did (sym k.counts ∙ counts) m) (each_same k.statuses statuses (sym k.status ∙ status) m) e;
       exchanges = λ c opening tries limit lets r k m e. few_along tries (steps_of c m) (rig_of c m) (by_rule lets m) (first_moment k.interlock m) (k.last m) (k.works m e).come refl;
       once = λ c opening tries lets r k m e.
           let w = k.works m e in
-          let few = within (by_rule lets m) 1 (k.last m).side.stopped (k.last m).counts.turns (k.fares m) w.ends in
+          let few = within (by_rule lets m) 1 (k.last m).side.stopped (k.last m).counts.turns (k.statuses m) w.ends in
           once tries (steps_of c m) (rig_of c m) (by_rule lets m) (first_moment k.interlock m) (k.last m) w.come (omega (arith, few));
       first = first_turns;
     }
@@ -300,7 +300,7 @@ keep_tries gate c opening tries limit r k = (record k { interlock = record (k.in
 pub workers_end : WorkersEnd
 workers_end =
     record {
-      fares = λ c tries limit lets m first last s k. may_fare (by_rule lets m) limit last.side.stopped last.counts.turns s k.ends;
+      status = λ c tries limit lets m first last s k. has_status_by (by_rule lets m) limit last.side.stopped last.counts.turns s k.ends;
       counted = λ call c. (λ k. (k.done, k.read, k.refused), λ h. record { done = h.0; read = h.1; refused = h.2 });
     }
 

@@ -8,7 +8,7 @@ use Rattle.cell_notes.specs.declared.counts.Counts.{Counts}
 use Rattle.cell_notes.specs.Asks.{Asked}
 use Rattle.cell_notes.specs.Notes.{AreBelow, counts_with}
 use Rattle.cell_notes.proofs.CountLemmas.{below_with}
-use Rattle.cell_seat.specs.Sides.{Side}
+use Rattle.cell_unit.specs.Sides.{Side}
 use Rattle.cell_workers.specs.Lines.{Lines}
 use Rattle.cell_workers.specs.Workers.{WorkerMoment, worker_moment, GateOf, TakesTurn, TakesTurns, HasCome, last_of}
 

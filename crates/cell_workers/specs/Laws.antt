@@ -32,7 +32,7 @@ use Rattle.cell_notes.specs.declared.status.Status.{Status}
 use Rattle.cell_notes.specs.declared.status.Status.TheVariants.{Fine, GateLimit}
 use Rattle.cell_notes.specs.declared.status.Status.TheVariants as status
 use Rattle.cell_notes.specs.Notes.{no_counts}
-use Rattle.cell_seat.specs.Sides.{side_of}
+use Rattle.cell_unit.specs.Sides.{side_of}
 use Rattle.cell_parts.specs.Axes.{CellScales}
 use Rattle.cell_plant.specs.CellStates.{SideOf}
 use Rattle.cell_plant.specs.Machines.{steps_of, rig_of}
@@ -50,11 +50,11 @@ abbrev pub by_rule : Rule → Machine → GateOf
 by_rule lets m turn answer = answer ≡ lets m turn
 
 -- a record in which nothing was done, and the six machines have this status
-pub record TellsNothingDone (opening : ModelState) (fares : Status) (r : RunRecord) : Type 0 where
+pub record TellsNothingDone (opening : ModelState) (each : Status) (r : RunRecord) : Type 0 where
   pub sound : IsSound opening
   pub start : r.start ≡ opening
   pub counts : r.counts ≡ no_counts ∷ no_counts ∷ no_counts ∷ no_counts ∷ no_counts ∷ no_counts ∷ no_counts ∷ []
-  pub status : r.status ≡ fares ∷ fares ∷ fares ∷ fares ∷ fares ∷ fares ∷ Fine ∷ []
+  pub status : r.status ≡ each ∷ each ∷ each ∷ each ∷ each ∷ each ∷ Fine ∷ []
   pub journals : (m : Machine) → journal_of r.journals m ≡ []
   pub end : r.end ≡ None
   pub axes : r.axes ≡ pos 1000 ∷ pos 0 ∷ pos 0 ∷ pos 300 ∷ pos 0 ∷ pos 0 ∷ pos 0 ∷ pos 900 ∷ []
@@ -64,11 +64,11 @@ abbrev pub answers_in : Counts → ℕ
 answers_in c = c.done + c.read + c.refused + c.busy
 
 -- the turns of a machine, by the most that it may have and by those that its gate lets it begin
-pub record HadTurns (limit : ℕ) (lets : ℕ → Bool) (did : Counts) (fares : Status) (journal : List Entry) : Type 0 where
+pub record HadTurns (limit : ℕ) (lets : ℕ → Bool) (did : Counts) (s : Status) (journal : List Entry) : Type 0 where
   pub within : did.turns ≤ limit
   pub let_in : (turn : ℕ) → turn < did.turns → lets turn ≡ true
-  pub fine : fares ≡ Fine → did.turns ≡ limit
-  pub kept_out : fares ≡ GateLimit → (did.turns < limit) × (lets did.turns ≡ false)
+  pub fine : s ≡ Fine → did.turns ≡ limit
+  pub kept_out : s ≡ GateLimit → (did.turns < limit) × (lets did.turns ≡ false)
   pub one_answer_each : answers_in did ≤ did.turns
   pub counted : AreCountsOf journal did
 
@@ -93,13 +93,13 @@ pub record TellsFirstTurns (r : RunRecord) : Type 0 where
   pub crane : slice_get r.axes 6 ≡ Some (pos 0)
 
 -- the status of a worker, by what has stopped its machine
-abbrev pub MayFare : Option CtlFault → Status → Type 0
-MayFare None s = (s ≡ Fine) ⊎ (s ≡ GateLimit)
-MayFare (Some (cause.Sensor _)) s = s ≡ status.Sensor
-MayFare (Some (cause.Refused _)) s = s ≡ status.Refused
-MayFare (Some cause.Worn) s = s ≡ status.Worn
-MayFare (Some cause.Memory) s = s ≡ status.Memory
-MayFare (Some cause.Stopped) s = s ≡ status.Refused
+abbrev pub HasStatusBy : Option CtlFault → Status → Type 0
+HasStatusBy None s = (s ≡ Fine) ⊎ (s ≡ GateLimit)
+HasStatusBy (Some (cause.Sensor _)) s = s ≡ status.Sensor
+HasStatusBy (Some (cause.Refused _)) s = s ≡ status.Refused
+HasStatusBy (Some cause.Worn) s = s ≡ status.Worn
+HasStatusBy (Some cause.Memory) s = s ≡ status.Memory
+HasStatusBy (Some cause.Stopped) s = s ≡ status.Refused
 
 -- a journal of one call that was done, two that inquired, and three that were refused
 abbrev pub entry_with : Call → Answer → Entry
@@ -124,9 +124,9 @@ press_at step position motor = side_of (record { step = step; loaded = false; fo
 pub record RecordsTellTurns : Type 0 where
   pub no_turns : (c : CellScales) (opening : ModelState) (tries : ℕ) (lets : Rule) (r : RunRecord) → TellsWork c opening tries 0 (by_rule lets) r ↔ TellsNothingDone opening Fine r
   pub shut : (c : CellScales) (opening : ModelState) (tries : ℕ) (r : RunRecord) → TellsWork c opening tries 5 (by_rule (λ m turn. false)) r ↔ TellsNothingDone opening GateLimit r
-  pub turns : (c : CellScales) (opening : ModelState) (tries limit : ℕ) (lets : Rule) (r : RunRecord) (did : Machine → Counts) (fares : Machine → Status)
-      → TellsWork c opening tries limit (by_rule lets) r → r.counts ≡ map did all_machines → r.status ≡ map fares all_machines
-      → (m : Machine) → is_at_work m ≡ true → HadTurns limit (lets m) (did m) (fares m) (journal_of r.journals m)
+  pub turns : (c : CellScales) (opening : ModelState) (tries limit : ℕ) (lets : Rule) (r : RunRecord) (did : Machine → Counts) (statuses : Machine → Status)
+      → TellsWork c opening tries limit (by_rule lets) r → r.counts ≡ map did all_machines → r.status ≡ map statuses all_machines
+      → (m : Machine) → is_at_work m ≡ true → HadTurns limit (lets m) (did m) (statuses m) (journal_of r.journals m)
   pub exchanges : (c : CellScales) (opening : ModelState) (tries limit : ℕ) (lets : Rule) (r : RunRecord) (k : TellsWork c opening tries limit (by_rule lets) r)
       → (m : Machine) → is_at_work m ≡ true → (k.last m).line.exchanges ≤ (k.last m).counts.turns * tries
   pub once : (c : CellScales) (opening : ModelState) (tries : ℕ) (lets : Rule) (r : RunRecord) (k : TellsWork c opening tries 1 (by_rule lets) r)
@@ -139,8 +139,8 @@ RecordsKeepTries gate = (c : CellScales) (opening : ModelState) (tries limit : �
 
 -- How a worker ends, by what has stopped its machine. And the counts of a journal, in numbers.
 pub record WorkersEnd : Type 0 where
-  pub fares : (c : CellScales) (tries limit : ℕ) (lets : Rule) (m : Machine) (first last : MomentOf m) (s : Status)
-      → HasEnded (passes tries) (steps_of c m) (rig_of c m) (by_rule lets m) limit first last s → MayFare last.side.stopped s
+  pub status : (c : CellScales) (tries limit : ℕ) (lets : Rule) (m : Machine) (first last : MomentOf m) (s : Status)
+      → HasEnded (passes tries) (steps_of c m) (rig_of c m) (by_rule lets m) limit first last s → HasStatusBy last.side.stopped s
   pub counted : (call : Call) (c : Counts) → AreCountsOf (six_entries call) c ↔ (c.done ≡ 1) × (c.read ≡ 2) × (c.refused ≡ 3)
 
 -- What a turn is. A stopped machine takes none, nor does a machine that its gate refuses. A Busy call has lost as many

@@ -48,13 +48,13 @@ pub record TellsWork (scales : CellScales) (opening : ModelState) (tries limit :
   pub interlock : InterlockView
   pub opened : interlock.opening ≡ opening
   pub last : (m : Machine) → MomentOf m
-  pub fares : Machine → Status
-  pub works : (m : Machine) → is_at_work m ≡ true → HasEnded (passes tries) (steps_of scales m) (rig_of scales m) (gate m) limit (first_moment interlock m) (last m) (fares m)
-  pub watch_rests : (last Watch ≡ first_moment interlock Watch) × (fares Watch ≡ Fine)
+  pub statuses : Machine → Status
+  pub works : (m : Machine) → is_at_work m ≡ true → HasEnded (passes tries) (steps_of scales m) (rig_of scales m) (gate m) limit (first_moment interlock m) (last m) (statuses m)
+  pub watch_rests : (last Watch ≡ first_moment interlock Watch) × (statuses Watch ≡ Fine)
   pub lawful : (m : Machine) → LawfulThroughout opening (last m).line.seen
   pub start : r.start ≡ opening
   pub counts : r.counts ≡ map (λ m. (last m).counts) all_machines
-  pub status : r.status ≡ map fares all_machines
+  pub status : r.status ≡ map statuses all_machines
   pub journals : (m : Machine) → journal_of r.journals m ≡ noted opening (last m).line.seen m
   pub counted : (m : Machine) → AreCountsOf (journal_of r.journals m) (last m).counts
   pub end : r.end ≡ None

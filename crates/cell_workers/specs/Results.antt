@@ -50,7 +50,7 @@ parts_in results =
 -- what a machine's worker gave back, by the machine's name; it began with a fresh pass of the interlock, at its
 -- machine's start
 abbrev pub IsResultOf : CellScales → InterlockView → ℕ → (Machine → GateOf) → (m : Machine) → PassView → List Entry → Counts → Status → PartOf m → Type 0
-IsResultOf c i limit gate m kept journal did fares stands = IsWorkerResult i.tries (steps_of c m) (rig_of c m) (gate m) limit (first_moment i m) kept journal did fares stands
+IsResultOf c i limit gate m kept journal did status stands = IsWorkerResult i.tries (steps_of c m) (rig_of c m) (gate m) limit (first_moment i m) kept journal did status stands
 
 -- likewise for each of the six
 pub record AreWorkerResults (c : CellScales) (i : InterlockView) (limit : ℕ) (gate : Machine → GateOf) (results : SixResults) : Type 0 where

@@ -15,8 +15,8 @@ use Rattle.cell_notes.specs.declared.status.Status.{Status}
 use Rattle.cell_notes.specs.declared.status.Status.TheVariants.{Fine, GateLimit}
 use Rattle.cell_notes.specs.Asks.{Asked}
 use Rattle.cell_notes.specs.Notes.{counts_with}
-use Rattle.cell_seat.specs.Fares.{status_of}
-use Rattle.cell_seat.specs.Sides.{Side, ActsAndMoves, TellsByDemands}
+use Rattle.cell_unit.specs.Statuses.{status_of}
+use Rattle.cell_unit.specs.Sides.{Side, ActsAndMoves, TellsByDemands}
 use Rattle.cell_workers.specs.Lines.{Lines, passes}
 
 -- a worker between two turns: its line, its machine's side, and its counts
@@ -86,9 +86,9 @@ pub record AreCountsOf (journal : List Entry) (c : Counts) : Type 0 where
 
 -- What a worker gives back after it began at this moment: it has worked up to a last moment, with this pass, these
 -- counts and this part. What the pass has seen is lawful, and the journal has its machine's notes of it.
-pub record IsWorkerResult {S Sense Reading Act State : Type 0} (tries : ℕ) (t : Steps S Sense Reading Act) (rig : Rig State Sense Act) (gate : GateOf) (limit : ℕ) (first : WorkerMoment PassView S State) (kept : PassView) (journal : List Entry) (did : Counts) (fares : Status) (stands : State) : Type 0 where
+pub record IsWorkerResult {S Sense Reading Act State : Type 0} (tries : ℕ) (t : Steps S Sense Reading Act) (rig : Rig State Sense Act) (gate : GateOf) (limit : ℕ) (first : WorkerMoment PassView S State) (kept : PassView) (journal : List Entry) (did : Counts) (status : Status) (stands : State) : Type 0 where
   pub last : WorkerMoment PassView S State
-  pub worked : HasEnded (passes tries) t rig gate limit first last fares
+  pub worked : HasEnded (passes tries) t rig gate limit first last status
   pub pass : last.line ≡ kept
   pub counts : last.counts ≡ did
   pub part : last.side.part ≡ stands

@@ -65,14 +65,14 @@ where
         gate,
         turns,
     };
-    match run_seats(rt, &context, passes, cell) {
+    match run_units(rt, &context, passes, cell) {
         Some(results) => Ok(results.into_record(alloc, opening)),
         None => Err(RunFault::Spawn),
     }
 }
 
-// Runs the seats of a cell by workers with these passes.
-fn run_seats<R, F1, F2, F3, F4, F5, G>(
+// Runs the units of a cell by workers with these passes.
+fn run_units<R, F1, F2, F3, F4, F5, G>(
     rt: &R,
     context: &WorkerContext<'_, G>,
     passes: Passes,

@@ -4,13 +4,13 @@ use crate::gate::Gate;
 use crate::worker_result::{WorkerResult, take_turns_by_pass};
 use cell_control::{Part, Program};
 use cell_interlock::{Interlock, Pass};
-use cell_seat::Seat;
+use cell_unit::MachineUnit;
 use std::alloc::Global;
 
 /// A machine that takes its turns in a thread of its own, by a pass over an interlock.
 ///
 /// A thread can take a value of a type parameter, but no struct whose fields have bounds of their
-/// own. So a thread takes turns through this trait, and not with a seat itself.
+/// own. So a thread takes turns through this trait, and not with a unit itself.
 pub(crate) trait Worker: Drop {
     ghost use Rattle.std.specs.Prelude.{◌≡◌, ℕ, []};
     ghost use Rattle.cell_interlock.specs.Views.{PassView};
@@ -42,18 +42,18 @@ pub(crate) trait Worker: Drop {
         ensures { gives_back self pass interlock.now.tries (G.may_answer gate.now pass.machine) turns result };
 }
 
-impl<P: Program, B: Part<Sense = P::Sense, Act = P::Act>> Worker for Seat<P, B> {
+impl<P: Program, B: Part<Sense = P::Sense, Act = P::Act>> Worker for MachineUnit<P, B> {
     ghost use Rattle.std.specs.Prelude.{◌≡◌};
     ghost use Rattle.cell_notes.specs.Notes.{no_counts};
-    ghost use Rattle.cell_seat.specs.Sides.{IsReady, side_of};
+    ghost use Rattle.cell_unit.specs.Sides.{IsReady, side_of};
     ghost use Rattle.cell_workers.specs.Workers.{IsWorkerResult, worker_moment};
 
     type Part = B;
 
-    ghost is_ready = { λ seat pass. (pass.machine ≡ (P.steps seat.controller.program).machine) × IsReady (P.steps seat.controller.program) pass.opening pass.seen seat.controller.stopped seat.controller.progress };
+    ghost is_ready = { λ unit pass. (pass.machine ≡ (P.steps unit.controller.program).machine) × IsReady (P.steps unit.controller.program) pass.opening pass.seen unit.controller.stopped unit.controller.progress };
 
-    ghost gives_back = { λ seat pass tries gate limit r. IsWorkerResult tries (P.steps seat.controller.program) (B.rig (B.make seat.part)) gate limit
-        (worker_moment pass (side_of seat.controller.progress seat.controller.stopped (B.state seat.part)) no_counts) r.pass r.journal.items r.counts r.status (B.state r.part) };
+    ghost gives_back = { λ unit pass tries gate limit r. IsWorkerResult tries (P.steps unit.controller.program) (B.rig (B.make unit.part)) gate limit
+        (worker_moment pass (side_of unit.controller.progress unit.controller.stopped (B.state unit.part)) no_counts) r.pass r.journal.items r.counts r.status (B.state r.part) };
 
     fn take_turns<G: Gate>(
         self,

@@ -1,7 +1,7 @@
 //! A machine's turns by its pass, and what its worker gives back: a plain struct.
 ghost use Rattle.std.specs.Prelude.{◌≡◌, []};
 ghost use Rattle.cell_notes.specs.Notes.{no_counts};
-ghost use Rattle.cell_seat.specs.Sides.{IsReady, side_of};
+ghost use Rattle.cell_unit.specs.Sides.{IsReady, side_of};
 ghost use Rattle.cell_workers.specs.Workers.{IsWorkerResult, worker_moment};
 
 use crate::gate::Gate;
@@ -10,8 +10,8 @@ use cell_control::{Part, Program};
 use cell_interlock::{Interlock, Pass, PassLine};
 use cell_notes::{Counts, Status};
 use cell_rules::laws::lawful_histories;
-use cell_seat::Seat;
 use cell_types::Entry;
+use cell_unit::MachineUnit;
 use std::alloc::Global;
 
 /// What a worker gives back. It borrows nothing, and doesn't contain the machine's controller.
@@ -34,27 +34,27 @@ pub(crate) fn take_turns_by_pass<P: Program, B: Part<Sense = P::Sense, Act = P::
     alloc: Global,
     interlock: &Interlock,
     pass: Pass,
-    seat: Seat<P, B>,
+    unit: MachineUnit<P, B>,
     gate: &G,
     turns: u32,
 ) -> WorkerResult<B>
     requires table { pass.table ≡ interlock.now.table }
     requires fresh { pass.seen ≡ [] }
-    requires own { pass.machine ≡ (P.steps seat.controller.program).machine }
-    requires ready { IsReady (P.steps seat.controller.program) pass.opening pass.seen seat.controller.stopped seat.controller.progress }
-    ensures { IsWorkerResult interlock.now.tries (P.steps seat.controller.program) (B.rig (B.make seat.part)) (G.may_answer gate.now pass.machine) turns
-        (worker_moment pass (side_of seat.controller.progress seat.controller.stopped (B.state seat.part)) no_counts) result.pass result.journal.items result.counts result.status (B.state result.part) }
+    requires own { pass.machine ≡ (P.steps unit.controller.program).machine }
+    requires ready { IsReady (P.steps unit.controller.program) pass.opening pass.seen unit.controller.stopped unit.controller.progress }
+    ensures { IsWorkerResult interlock.now.tries (P.steps unit.controller.program) (B.rig (B.make unit.part)) (G.may_answer gate.now pass.machine) turns
+        (worker_moment pass (side_of unit.controller.progress unit.controller.stopped (B.state unit.part)) no_counts) result.pass result.journal.items result.counts result.status (B.state result.part) }
 {
     lawful_histories();
-    let mut seat = seat;
+    let mut unit = unit;
     let mut line = PassLine::new(alloc, interlock, pass);
-    let ending = take_turns(&mut seat, &mut line, gate, turns);
+    let ending = take_turns(&mut unit, &mut line, gate, turns);
     let (pass, journal) = line.into_parts();
     WorkerResult {
         pass,
         journal,
         counts: ending.counts,
         status: ending.status,
-        part: seat.part,
+        part: unit.part,
     }
 }

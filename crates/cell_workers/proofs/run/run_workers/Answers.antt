@@ -5,8 +5,8 @@ use Rattle.cell_workers.specs.Records.{TellsWork}
 use Rattle.cell_workers.proofs.Recording.{tells}
 use Rattle.cell_workers.proofs.run.run_workers.Goals as goal
 
-pub run_seats-requires-clause-made : goal.run_seats-requires-clause-made
-run_seats-requires-clause-made g c κs within = subst (λ (s : ModelState). IsMadeFor s c.args.cell) (sym c.in_ok-interlock.ensures.opening) c.requires.made
+pub run_units-requires-clause-made : goal.run_units-requires-clause-made
+run_units-requires-clause-made g c κs within = subst (λ (s : ModelState). IsMadeFor s c.args.cell) (sym c.in_ok-interlock.ensures.opening) c.requires.made
 
 pub returns-in-Some-clause-work : goal.returns-in-Some-clause-work
 returns-in-Some-clause-work g c =

@@ -13,23 +13,23 @@ use Rattle.cell_plant.specs.Moments.{Moment, notes_in}
 use Rattle.cell_plant.proofs.Stepping.{table_near, robot_near, crane_near, feed_on, table_on, robot_on, press_on, deposit_on, crane_on, idle_on, watch_rests, on_ok, grows, stays_ready, with_turn, with_robot, with_gripper, turn_is, by_turn}
 use Rattle.cell_plant.proofs.simulation.Simulation.turn.Goals as goal
 
-pub seat_turn-requires-clause-room : goal.seat_turn-requires-clause-room
-seat_turn-requires-clause-room g c = subst (λ (m : Moment). HasRoom (notes_in m.notes Feed).counts) (sym c.self.view_is) (c.requires.room Feed)
+pub take_bench_turn-requires-clause-room : goal.take_bench_turn-requires-clause-room
+take_bench_turn-requires-clause-room g c = subst (λ (m : Moment). HasRoom (notes_in m.notes Feed).counts) (sym c.self.view_is) (c.requires.room Feed)
 
-pub seat_turn-requires-in-Table-clause-room : goal.seat_turn-requires-in-Table-clause-room
-seat_turn-requires-in-Table-clause-room g c = subst (λ (m : Moment). HasRoom (notes_in m.notes Table).counts) (sym c.self.view_is) (c.requires.room Table)
+pub take_bench_turn-requires-in-Table-clause-room : goal.take_bench_turn-requires-in-Table-clause-room
+take_bench_turn-requires-in-Table-clause-room g c = subst (λ (m : Moment). HasRoom (notes_in m.notes Table).counts) (sym c.self.view_is) (c.requires.room Table)
 
-pub seat_turn-requires-in-Robot-clause-room : goal.seat_turn-requires-in-Robot-clause-room
-seat_turn-requires-in-Robot-clause-room g c = subst (λ (m : Moment). HasRoom (notes_in m.notes Robot).counts) (sym c.self.view_is) (c.requires.room Robot)
+pub take_bench_turn-requires-in-Robot-clause-room : goal.take_bench_turn-requires-in-Robot-clause-room
+take_bench_turn-requires-in-Robot-clause-room g c = subst (λ (m : Moment). HasRoom (notes_in m.notes Robot).counts) (sym c.self.view_is) (c.requires.room Robot)
 
-pub seat_turn-requires-in-Press-clause-room : goal.seat_turn-requires-in-Press-clause-room
-seat_turn-requires-in-Press-clause-room g c = subst (λ (m : Moment). HasRoom (notes_in m.notes Press).counts) (sym c.self.view_is) (c.requires.room Press)
+pub take_bench_turn-requires-in-Press-clause-room : goal.take_bench_turn-requires-in-Press-clause-room
+take_bench_turn-requires-in-Press-clause-room g c = subst (λ (m : Moment). HasRoom (notes_in m.notes Press).counts) (sym c.self.view_is) (c.requires.room Press)
 
-pub seat_turn-requires-in-Deposit-clause-room : goal.seat_turn-requires-in-Deposit-clause-room
-seat_turn-requires-in-Deposit-clause-room g c = subst (λ (m : Moment). HasRoom (notes_in m.notes Deposit).counts) (sym c.self.view_is) (c.requires.room Deposit)
+pub take_bench_turn-requires-in-Deposit-clause-room : goal.take_bench_turn-requires-in-Deposit-clause-room
+take_bench_turn-requires-in-Deposit-clause-room g c = subst (λ (m : Moment). HasRoom (notes_in m.notes Deposit).counts) (sym c.self.view_is) (c.requires.room Deposit)
 
-pub seat_turn-requires-in-Crane-clause-room : goal.seat_turn-requires-in-Crane-clause-room
-seat_turn-requires-in-Crane-clause-room g c = subst (λ (m : Moment). HasRoom (notes_in m.notes Crane).counts) (sym c.self.view_is) (c.requires.room Crane)
+pub take_bench_turn-requires-in-Crane-clause-room : goal.take_bench_turn-requires-in-Crane-clause-room
+take_bench_turn-requires-in-Crane-clause-room g c = subst (λ (m : Moment). HasRoom (notes_in m.notes Crane).counts) (sym c.self.view_is) (c.requires.room Crane)
 
 pub invariant_of-self : goal.invariant_of-self
 invariant_of-self g c =
@@ -37,8 +37,8 @@ invariant_of-self g c =
     let turn = c.self.inside.cell.table.controller.program.turn in
     let robot = c.self.inside.cell.robot.controller.program in
     let gripper = c.self.inside.cell.crane.controller.program.gripper in
-    let done = c.seat_turn.ensures in
-    let k = grows c.seat_turn.result _ _ _ _ _ _ _ _ _ done.turn done.failed in
+    let done = c.take_bench_turn.ensures in
+    let k = grows c.take_bench_turn.result _ _ _ _ _ _ _ _ _ done.turn done.failed in
     record {
       fitted = record { arm1 = old.fitted.arm1; arm2 = old.fitted.arm2; rotation = old.fitted.rotation; turn = old.fitted.turn; gripper = old.fitted.gripper };
       feed = done.ready;
@@ -54,8 +54,8 @@ invariant_of-self-in-Table g c =
     let old = c.self.invariant in
     let robot = c.self.inside.cell.robot.controller.program in
     let gripper = c.self.inside.cell.crane.controller.program.gripper in
-    let done = c.seat_turn-in-Table.ensures in
-    let k = grows c.seat_turn-in-Table.result _ _ _ _ _ _ _ _ _ done.turn done.failed in
+    let done = c.take_bench_turn-in-Table.ensures in
+    let k = grows c.take_bench_turn-in-Table.result _ _ _ _ _ _ _ _ _ done.turn done.failed in
     record {
       fitted = record {
         arm1 = old.fitted.arm1;
@@ -77,8 +77,8 @@ invariant_of-self-in-Robot g c =
     let old = c.self.invariant in
     let turn = c.self.inside.cell.table.controller.program.turn in
     let gripper = c.self.inside.cell.crane.controller.program.gripper in
-    let done = c.seat_turn-in-Robot.ensures in
-    let k = grows c.seat_turn-in-Robot.result _ _ _ _ _ _ _ _ _ done.turn done.failed in
+    let done = c.take_bench_turn-in-Robot.ensures in
+    let k = grows c.take_bench_turn-in-Robot.result _ _ _ _ _ _ _ _ _ done.turn done.failed in
     record {
       fitted = record {
         arm1 = ap (λ s. s.arm1) done.make ∙ old.fitted.arm1 ∙ sym (ap (λ p. p.arm1.points) done.program);
@@ -101,8 +101,8 @@ invariant_of-self-in-Press g c =
     let turn = c.self.inside.cell.table.controller.program.turn in
     let robot = c.self.inside.cell.robot.controller.program in
     let gripper = c.self.inside.cell.crane.controller.program.gripper in
-    let done = c.seat_turn-in-Press.ensures in
-    let k = grows c.seat_turn-in-Press.result _ _ _ _ _ _ _ _ _ done.turn done.failed in
+    let done = c.take_bench_turn-in-Press.ensures in
+    let k = grows c.take_bench_turn-in-Press.result _ _ _ _ _ _ _ _ _ done.turn done.failed in
     record {
       fitted = record { arm1 = old.fitted.arm1; arm2 = old.fitted.arm2; rotation = old.fitted.rotation; turn = old.fitted.turn; gripper = old.fitted.gripper };
       feed = stays_ready feed_steps Press _ _ k _ _ refl old.feed;
@@ -119,8 +119,8 @@ invariant_of-self-in-Deposit g c =
     let turn = c.self.inside.cell.table.controller.program.turn in
     let robot = c.self.inside.cell.robot.controller.program in
     let gripper = c.self.inside.cell.crane.controller.program.gripper in
-    let done = c.seat_turn-in-Deposit.ensures in
-    let k = grows c.seat_turn-in-Deposit.result _ _ _ _ _ _ _ _ _ done.turn done.failed in
+    let done = c.take_bench_turn-in-Deposit.ensures in
+    let k = grows c.take_bench_turn-in-Deposit.result _ _ _ _ _ _ _ _ _ done.turn done.failed in
     record {
       fitted = record { arm1 = old.fitted.arm1; arm2 = old.fitted.arm2; rotation = old.fitted.rotation; turn = old.fitted.turn; gripper = old.fitted.gripper };
       feed = stays_ready feed_steps Deposit _ _ k _ _ refl old.feed;
@@ -136,8 +136,8 @@ invariant_of-self-in-Crane g c =
     let old = c.self.invariant in
     let turn = c.self.inside.cell.table.controller.program.turn in
     let robot = c.self.inside.cell.robot.controller.program in
-    let done = c.seat_turn-in-Crane.ensures in
-    let k = grows c.seat_turn-in-Crane.result _ _ _ _ _ _ _ _ _ done.turn done.failed in
+    let done = c.take_bench_turn-in-Crane.ensures in
+    let k = grows c.take_bench_turn-in-Crane.result _ _ _ _ _ _ _ _ _ done.turn done.failed in
     record {
       fitted = record {
         arm1 = old.fitted.arm1;
@@ -156,17 +156,17 @@ invariant_of-self-in-Crane g c =
 
 pub returns-in-Feed : goal.returns-in-Feed
 returns-in-Feed g c =
-    let done = c.seat_turn.ensures in
+    let done = c.take_bench_turn.ensures in
     rw (sym c.self.view_is)
-    (on_ok c.seat_turn.result _ _ done.turn (λ turned.
+    (on_ok c.take_bench_turn.result _ _ done.turn (λ turned.
     by_turn _ c.args.turn _ _ (turn_is c.args.turn Feed c.in-Feed.is)
     (feed_on _ _ c.args.turn.busy turned.asked refl turned.opening turned.leads turned.history turned.noted refl refl)))
 
 pub returns-in-Table : goal.returns-in-Table
 returns-in-Table g c =
-    let done = c.seat_turn-in-Table.ensures in
+    let done = c.take_bench_turn-in-Table.ensures in
     rw (sym c.self.view_is)
-    (on_ok c.seat_turn-in-Table.result _ _ done.turn (λ turned.
+    (on_ok c.take_bench_turn-in-Table.result _ _ done.turn (λ turned.
     let turn = c.self.inside.cell.table.controller.program.turn in
     let near = table_near turn.points (g.F4.Gauge.gives turn.gauge) (table_rig c.self.inside.cell.table.part.scale) _ _ _ _ _ _ _ turned in
     by_turn _ c.args.turn _ _ (turn_is c.args.turn Table c.in-Table.is)
@@ -174,9 +174,9 @@ returns-in-Table g c =
 
 pub returns-in-Robot : goal.returns-in-Robot
 returns-in-Robot g c =
-    let done = c.seat_turn-in-Robot.ensures in
+    let done = c.take_bench_turn-in-Robot.ensures in
     rw (sym c.self.view_is)
-    (on_ok c.seat_turn-in-Robot.result _ _ done.turn (λ turned.
+    (on_ok c.take_bench_turn-in-Robot.result _ _ done.turn (λ turned.
     let robot = c.self.inside.cell.robot.controller.program in
     let fitted = c.self.invariant.fitted in
     let near = robot_near (points_of robot) (gauges_of (g.F1.Gauge.gives robot.arm1.gauge) (g.F2.Gauge.gives robot.arm2.gauge) (g.F3.Gauge.gives robot.rotation.gauge)) (robot_rig c.self.inside.cell.robot.part.scale) _ _ _ _ _ _ _ turned in
@@ -185,25 +185,25 @@ returns-in-Robot g c =
 
 pub returns-in-Press : goal.returns-in-Press
 returns-in-Press g c =
-    let done = c.seat_turn-in-Press.ensures in
+    let done = c.take_bench_turn-in-Press.ensures in
     rw (sym c.self.view_is)
-    (on_ok c.seat_turn-in-Press.result _ _ done.turn (λ turned.
+    (on_ok c.take_bench_turn-in-Press.result _ _ done.turn (λ turned.
     by_turn _ c.args.turn _ _ (turn_is c.args.turn Press c.in-Press.is)
     (press_on _ _ c.args.turn.busy turned.asked refl turned.opening turned.leads turned.history turned.noted refl refl)))
 
 pub returns-in-Deposit : goal.returns-in-Deposit
 returns-in-Deposit g c =
-    let done = c.seat_turn-in-Deposit.ensures in
+    let done = c.take_bench_turn-in-Deposit.ensures in
     rw (sym c.self.view_is)
-    (on_ok c.seat_turn-in-Deposit.result _ _ done.turn (λ turned.
+    (on_ok c.take_bench_turn-in-Deposit.result _ _ done.turn (λ turned.
     by_turn _ c.args.turn _ _ (turn_is c.args.turn Deposit c.in-Deposit.is)
     (deposit_on _ _ c.args.turn.busy turned.asked refl turned.opening turned.leads turned.history turned.noted refl refl)))
 
 pub returns-in-Crane : goal.returns-in-Crane
 returns-in-Crane g c =
-    let done = c.seat_turn-in-Crane.ensures in
+    let done = c.take_bench_turn-in-Crane.ensures in
     rw (sym c.self.view_is)
-    (on_ok c.seat_turn-in-Crane.result _ _ done.turn (λ turned.
+    (on_ok c.take_bench_turn-in-Crane.result _ _ done.turn (λ turned.
     let gripper = c.self.inside.cell.crane.controller.program.gripper in
     let near = crane_near gripper.points (g.F5.Gauge.gives gripper.gauge) (crane_rig c.self.inside.cell.crane.part.scale) _ _ _ _ _ _ _ turned in
     by_turn _ c.args.turn _ _ (turn_is c.args.turn Crane c.in-Crane.is)

@@ -1,4 +1,0 @@
-pub mod Fares
-pub mod Sides
-pub mod SeatTurns
-pub mod SeatRows

@@ -1,0 +1,4 @@
+pub mod Statuses
+pub mod Sides
+pub mod UnitTurns
+pub mod UnitRows

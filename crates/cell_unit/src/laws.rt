@@ -1,0 +1,32 @@
+//! Laws of a machine's status and turn. Each is the contract of a function with an empty body.
+ghost use Rattle.cell_rules.specs.Benches.{Desk};
+ghost use Rattle.cell_notes.specs.Asks.{Asked};
+ghost use Rattle.cell_notes.specs.Notes.{Notes};
+ghost use Rattle.cell_unit.specs.Sides.{Side};
+ghost use Rattle.cell_unit.specs.UnitRows.{StatusRows, SideRows, UnitRows};
+
+use crate::unit::MachineUnit;
+use cell_control::{Part, Program};
+
+/// The status of a machine, for each fault of its controller and for none.
+pub fn status_by_faults()
+    ensures { StatusRows }
+{}
+
+/// The effect of any machine's turn over any line, on its progress, its fault and its part: for
+/// each answer, a call that is out of memory, a drive, sensors that can't be used, and a controller
+/// that has stopped.
+pub fn sides_by_answers<P: Program, B: Part<Sense = P::Sense, Act = P::Act>>(
+    unit: &MachineUnit<P, B>,
+)
+    ensures { (before now : Side P.Progress B.State) (asked : Asked)
+        → SideRows (P.steps unit.now.controller.program) (B.rig (B.make unit.now.part)) before asked now }
+{}
+
+/// The effect of any machine's turn over a bench, on the machine, the bench and the notebook.
+pub fn turns_at_a_bench<P: Program, B: Part<Sense = P::Sense, Act = P::Act>>(
+    unit: &MachineUnit<P, B>,
+)
+    ensures { (old new : Desk) (before now : Side P.Progress B.State) (notes after : Notes)
+        → UnitRows (P.steps unit.now.controller.program) (B.rig (B.make unit.now.part)) old new before now notes after }
+{}

@@ -1,0 +1,64 @@
+ghost use Rattle.std.specs.Prelude.{◌≡◌, None};
+ghost use Rattle.cell_unit.specs.Sides.{ActsAndMoves, IsReady, TellsByDemands, act_or_rest, noting, side_of};
+
+use cell_control::{Controller, CtlFault, Part, Program};
+use cell_notes::{Asked, asked_between, done_event};
+use cell_rules::Line;
+use cell_types::Event;
+
+/// A machine in a run: its controller and its part.
+#[derive(Drop)]
+pub struct MachineUnit<P: Program, B: Part<Sense = P::Sense, Act = P::Act>> {
+    /// Its program, its progress in it, and what has stopped it.
+    pub controller: Controller<P>,
+    /// What it moves, and what its sensors show.
+    pub part: B,
+}
+
+impl<P: Program, B: Part<Sense = P::Sense, Act = P::Act>> MachineUnit<P, B> {
+    /// One turn. The controller has its turn, by what the sensors show. Then the part notes a call
+    /// that was done, and moves for a tick. After an error of the controller the motors are off.
+    /// Answers what was asked.
+    pub fn turn<L: Line>(&mut self, line: &mut L) -> Asked
+        requires own { self.old.controller.stopped ≡ None → L.machine line.old ≡ (P.steps self.old.controller.program).machine }
+        requires ready { IsReady (P.steps self.old.controller.program) (L.opening line.old) (L.seen line.old) self.old.controller.stopped self.old.controller.progress }
+        ensures row { ActsAndMoves (P.steps self.old.controller.program) (B.rig (B.make self.old.part)) (line.new ≡ line.old) (λ c r. L.asks line.old c r line.new)
+            (side_of self.old.controller.progress self.old.controller.stopped (B.state self.old.part)) result (side_of self.new.controller.progress self.new.controller.stopped (B.state self.new.part)) }
+        ensures motor_demands { self.new.controller.stopped ≡ None → TellsByDemands (P.steps self.old.controller.program) (B.rig (B.make self.old.part)) self.old.controller.progress (B.state self.old.part) result (B.state self.new.part) (L.opening line.new) (L.seen line.new) }
+        ensures own { L.machine line.new ≡ L.machine line.old }
+        ensures opening { L.opening line.new ≡ L.opening line.old }
+        ensures program { self.new.controller.program ≡ self.old.controller.program }
+        ensures make { B.make self.new.part ≡ B.make self.old.part }
+        ensures ready { IsReady (P.steps self.new.controller.program) (L.opening line.new) (L.seen line.new) self.new.controller.stopped self.new.controller.progress }
+    {
+        let machine = line.machine();
+        let before = line.heard();
+        let rest = self.controller.rest();
+        let turned = self.controller.turn(line, &self.part.sensors());
+        let asked = asked_between(before, line.heard());
+        let act = act_of(turned, rest);
+        note_and_tick(&mut self.part, done_event(machine, asked), &act);
+        asked
+    }
+}
+
+// The actuators' commands after a turn.
+fn act_of<A: Copy>(turned: Result<A, CtlFault>, rest: A) -> A
+    ensures { result ≡ act_or_rest rest turned }
+{
+    match turned {
+        Ok(act) => act,
+        Err(_) => rest,
+    }
+}
+
+// The part notes a call that was done, and moves for a tick.
+fn note_and_tick<B: Part>(part: &mut B, event: Option<Event>, act: &B::Act)
+    ensures state { B.state part.new ≡ (B.rig (B.make part.old)).moves ((B.rig (B.make part.old)).set (noting (B.rig (B.make part.old)) (B.state part.old) event) act.now) }
+    ensures make { B.make part.new ≡ B.make part.old }
+{
+    if let Some(event) = event {
+        part.note(&event);
+    }
+    part.tick(act);
+}
