@@ -34,7 +34,7 @@ use Rattle.cell_plant.specs.CellStates.{CellState, plant_of, cell_at_start}
 use Rattle.cell_plant.specs.Runs.{Step, TakesTurn, LeadsIf, Leads, goes_on, IsRun, end_of}
 use Rattle.cell_plant.specs.Records.{is_turn_of, is_told, counts_in, events_in, positions_in}
 use Rattle.cell_plant.specs.Cells.{TellsRun}
-use Rattle.cell_plant.specs.Moments.{Moment, StepsOn, Keeps, first_moment, state_at, notes_in}
+use Rattle.cell_plant.specs.Moments.{RunMoment, StepsOn, Keeps, first_moment, state_at, notes_in}
 use Rattle.cell_plant.proofs.KeptRuns.{own_program}
 use Rattle.cell_plant.proofs.SafeRuns.{every_run}
 
@@ -153,7 +153,7 @@ run-lawful c w [] (s ∷ ss) r = absurd r
 run-lawful c w (t ∷ ts) [] r = absurd r
 
 -- the run of the turns so far, and what was noted of it
-pub record RunSoFar (turns : List Turn) (m : Moment) : Type 0 where
+pub record RunSoFar (turns : List Turn) (m : RunMoment) : Type 0 where
   pub steps : List Step
   pub run : IsRun m.scales (cell_at_start m.opening) turns steps
   pub is_end : state_at m ≡ end_of (cell_at_start m.opening) steps
@@ -187,7 +187,7 @@ entries_if true own es k = refl
 entries_if false true es k = sym (k refl)
 entries_if false false es k = refl
 
-module _ (turns : List Turn) (t : Turn) (before now : Moment) (g : RunSoFar turns before) (o : StepsOn t before now) where
+module _ (turns : List Turn) (t : Turn) (before now : RunMoment) (g : RunSoFar turns before) (o : StepsOn t before now) where
   abbrev s : Step
   s = o.step
 
@@ -232,20 +232,20 @@ module _ (turns : List Turn) (t : Turn) (before now : Moment) (g : RunSoFar turn
         journals = λ n. journal_next n ∙ ap (λ h. noted before.opening h n) (sym o.history);
       }
 
-  abbrev by_scales : CellScales → ModelState → Moment
+  abbrev by_scales : CellScales → ModelState → RunMoment
   by_scales c z = record now { scales = c; opening = z }
 
   pub next : RunSoFar (turns ++ t ∷ []) now
   next = subst (λ z. RunSoFar (turns ++ t ∷ []) (by_scales now.scales z)) (sym o.opening) (subst (λ c. RunSoFar (turns ++ t ∷ []) (by_scales c before.opening)) (sym o.scales) next_by)
 
-pub next_more : (turns more : List Turn) (t : Turn) (before now : Moment) → more ≡ turns ++ t ∷ [] → RunSoFar turns before → StepsOn t before now → RunSoFar more now
+pub next_more : (turns more : List Turn) (t : Turn) (before now : RunMoment) → more ≡ turns ++ t ∷ [] → RunSoFar turns before → StepsOn t before now → RunSoFar more now
 next_more turns more t before now e g o = subst (λ ts. RunSoFar ts now) (sym e) (next turns t before now g o)
 
 -- there is room for one more turn
 below : (a b i : ℕ) → a ≤ b → b ≡ i → i < 18446744073709551615 → a < 18446744073709551615
 below a b i h e l = omega arith
 
-pub room_left : (turns : List Turn) (m : Moment) (i : ℕ) → RunSoFar turns m → length turns ≡ i → i < 18446744073709551615 → (n : Machine) → HasRoom (notes_in m.notes n).counts
+pub room_left : (turns : List Turn) (m : RunMoment) (i : ℕ) → RunSoFar turns m → length turns ≡ i → i < 18446744073709551615 → (n : Machine) → HasRoom (notes_in m.notes n).counts
 room_left turns m i g e l n =
     let long = run-length m.scales (cell_at_start m.opening) turns g.steps g.run ∙ e in
     let some = λ (p : Step → Bool). below (count_by p g.steps) (length g.steps) i (count_by-le-length p g.steps) long l in
@@ -259,7 +259,7 @@ taken-length i ts h = length-take-le i ts (omega arith)
 by_machine : {A : Type 0} → (f g : Machine → A) → ((n : Machine) → f n ≡ g n) → map f all_machines ≡ map g all_machines
 by_machine f g e = rw (e Feed, e Table, e Robot, e Press, e Deposit, e Crane, e Watch) refl
 
-pub tells : (turns : List Turn) (m : Moment) (r : RunRecord) → AreCellScales m.scales → IsStartState m.opening → RunSoFar turns m → Keeps m m.opening r → TellsRun m.scales m.opening turns r
+pub tells : (turns : List Turn) (m : RunMoment) (r : RunRecord) → AreCellScales m.scales → IsStartState m.opening → RunSoFar turns m → Keeps m m.opening r → TellsRun m.scales m.opening turns r
 tells turns m r scales start g k =
     let lawful = run-lawful m.scales (cell_at_start m.opening) turns g.steps g.run in
     record {
@@ -278,7 +278,7 @@ tells turns m r scales start g k =
       reached = lawful.1;
     }
 
-pub tells_all : (c : CellScales) (opening : ModelState) (turns all : List Turn) (m : Moment) (r : RunRecord) → turns ≡ all → m.scales ≡ c → m.opening ≡ opening → AreCellScales c → IsStartState opening → RunSoFar turns m → Keeps m opening r
+pub tells_all : (c : CellScales) (opening : ModelState) (turns all : List Turn) (m : RunMoment) (r : RunRecord) → turns ≡ all → m.scales ≡ c → m.opening ≡ opening → AreCellScales c → IsStartState opening → RunSoFar turns m → Keeps m opening r
     → TellsRun c opening all r
 tells_all c opening turns all m r e f o scales start g k =
     subst (λ ts. TellsRun c opening ts r) e

@@ -42,7 +42,7 @@ use Rattle.cell_notes.specs.declared.schedule.Turn.{Turn}
 use Rattle.cell_plant.specs.Machines.{robot_points, robot_axes, steps_of, rig_of}
 use Rattle.cell_plant.specs.CellStates.{SideOf, CellState, Sides, side_in, sides_at_start}
 use Rattle.cell_plant.specs.Runs.{Step, LeadsIf, is_at_work}
-use Rattle.cell_plant.specs.Moments.{Moment, AllNotes, StepsOn, state_at, notes_in, first_notes, first_moment}
+use Rattle.cell_plant.specs.Moments.{RunMoment, AllNotes, StepsOn, state_at, notes_in, first_notes, first_moment}
 
 -- two states are the same if they have the same interlock and the same side of each machine
 same_state : (w v : CellState) → w.interlock ≡ v.interlock → ((n : Machine) → w.side n ≡ v.side n) → w ≡ v
@@ -89,7 +89,7 @@ first_false : (a b : Bool) → a ≡ false → (a && b) ≡ false
 first_false a b e = rw e refl
 
 -- a turn of a working machine leaves everything else as it was
-module _ (m : Machine) (busy : Bool) (before now : Moment) (asked : Asked) (controlled : is_at_work m ≡ true)
+module _ (m : Machine) (busy : Bool) (before now : RunMoment) (asked : Asked) (controlled : is_at_work m ≡ true)
     (leads : LeadsAlone (is_none (side_in before.sides m).stopped) (steps_of before.scales m) (rig_of before.scales m) busy before.interlock (side_in before.sides m) asked now.interlock (side_in now.sides m))
     (history : now.history ≡ before.history ++ settled_in m asked)
     (noted : notes_in now.notes m ≡ (if is_none (side_in before.sides m).stopped then notes_with (notes_in before.notes m) asked else notes_in before.notes m))
@@ -150,7 +150,7 @@ module _ (m : Machine) (busy : Bool) (before now : Moment) (asked : Asked) (cont
   steps_on = on (is_none (side_in before.sides m).stopped) refl leads
 
 -- a turn of the watch
-pub idle_on : (t : Turn) (w : Moment) → is_at_work t.machine ≡ false → StepsOn t w w
+pub idle_on : (t : Turn) (w : RunMoment) → is_at_work t.machine ≡ false → StepsOn t w w
 idle_on t w k =
     let step : Step = record { machine = t.machine; taken = false; asked = None; set = state_at w; moved = state_at w } in
     record {
@@ -167,7 +167,7 @@ idle_on t w k =
 pub turn_is : (t : Turn) (m : Machine) → t.machine ≡ m → record { machine = m; busy = t.busy } ≡ t
 turn_is t m e = ap (λ (x : Machine). record { machine = x; busy = t.busy }) (sym e)
 
-pub by_turn : (t u : Turn) (before now : Moment) → t ≡ u → StepsOn t before now → StepsOn u before now
+pub by_turn : (t u : Turn) (before now : RunMoment) → t ≡ u → StepsOn t before now → StepsOn u before now
 by_turn t u before now e k = subst (λ x. StepsOn x before now) e k
 
 -- the table's turn: its readings are any that a calibration over its scale may give
@@ -212,7 +212,7 @@ pub crane_near : (points : Scale) (gives : ℕ → ℤ → Type 0) (rig : Rig Cr
     → UnitTurn (crane_steps points gives) rig busy old new before now notes notes' → UnitTurn (crane_steps points (IsReading points)) rig busy old new before now notes notes'
 crane_near points gives rig busy old new before now notes notes' k = unit_turn_still (crane_steps points gives) rig (CraneSenses points (IsReading points)) (crane_senses_near points gives) busy old new before now notes notes' k
 
-module _ (before now : Moment) (busy : Bool) (asked : Asked) (scales : now.scales ≡ before.scales) (opening : now.opening ≡ before.opening) where
+module _ (before now : RunMoment) (busy : Bool) (asked : Asked) (scales : now.scales ≡ before.scales) (opening : now.opening ≡ before.opening) where
   -- a machine's turn, which changes its own side and leaves the others
   alone_on : (m : Machine) → is_at_work m ≡ true
       → LeadsAlone (is_none (side_in before.sides m).stopped) (steps_of before.scales m) (rig_of before.scales m) busy before.interlock (side_in before.sides m) asked now.interlock (side_in now.sides m)

@@ -16,8 +16,8 @@ use Rattle.cell_plant.specs.Runs.{Step, IsRun, end_of}
 use Rattle.cell_plant.specs.Safety.{IsSafeRun}
 
 -- the points of its five potentiometers
-abbrev pub scales_of : {F1 F2 F3 F4 F5 : Type 0} {g1 : Ghosts F1} {g2 : Ghosts F2} {g3 : Ghosts F3} {g4 : Ghosts F4} {g5 : Ghosts F5} → Cell F1 F2 F3 F4 F5 g1 g2 g3 g4 g5 → CellScales
-scales_of cell =
+abbrev pub cell_scales : {F1 F2 F3 F4 F5 : Type 0} {g1 : Ghosts F1} {g2 : Ghosts F2} {g3 : Ghosts F3} {g4 : Ghosts F4} {g5 : Ghosts F5} → Cell F1 F2 F3 F4 F5 g1 g2 g3 g4 g5 → CellScales
+cell_scales cell =
     record {
       arm1 = cell.robot.part.scale.arm1;
       arm2 = cell.robot.part.scale.arm2;

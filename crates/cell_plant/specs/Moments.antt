@@ -38,7 +38,7 @@ notes_in n Watch = n.watch
 
 -- the scales and the opening, which stay; the state of the interlock, the machines' sides, the history, and each
 -- machine's notes
-pub record Moment : Type 0 where
+pub record RunMoment : Type 0 where
   pub scales : CellScales
   pub opening : ModelState
   pub interlock : ModelState
@@ -46,14 +46,14 @@ pub record Moment : Type 0 where
   pub history : List Event
   pub notes : AllNotes
 
-abbrev pub state_at : Moment → CellState
+abbrev pub state_at : RunMoment → CellState
 state_at m = record { interlock = m.interlock; side = side_in m.sides }
 
 -- before the first turn
 abbrev pub first_notes : AllNotes
 first_notes = record { feed = no_notes; table = no_notes; robot = no_notes; press = no_notes; deposit = no_notes; crane = no_notes; watch = no_notes }
 
-abbrev pub first_moment : CellScales → ModelState → Moment
+abbrev pub first_moment : CellScales → ModelState → RunMoment
 first_moment c s =
     record {
       scales = c;
@@ -65,7 +65,7 @@ first_moment c s =
     }
 
 -- a turn is a step of the run, and the machine notes what it asked
-pub record StepsOn (t : Turn) (before now : Moment) : Type 0 where
+pub record StepsOn (t : Turn) (before now : RunMoment) : Type 0 where
   pub step : Step
   pub machine : step.machine ≡ t.machine
   pub leads : Leads before.scales t.machine t.busy (state_at before) step
@@ -76,7 +76,7 @@ pub record StepsOn (t : Turn) (before now : Moment) : Type 0 where
   pub opening : now.opening ≡ before.opening
 
 -- the record of the run so far
-pub record Keeps (m : Moment) (opening : ModelState) (r : RunRecord) : Type 0 where
+pub record Keeps (m : RunMoment) (opening : ModelState) (r : RunRecord) : Type 0 where
   pub start : r.start ≡ opening
   pub counts : r.counts ≡ map (λ n. (notes_in m.notes n).counts) all_machines
   pub status : r.status ≡ map (λ n. status_of (side_in m.sides n).stopped) all_machines

@@ -9,14 +9,14 @@ use Rattle.cell_stations.specs.PressProgram.{press_steps}
 use Rattle.cell_stations.specs.TableProgram.{table_steps}
 use Rattle.cell_unit.specs.Sides.{IsReady}
 use Rattle.cell_plant.specs.declared.simulation.Simulation.TheInside.{Inside}
-use Rattle.cell_plant.specs.Cells.{points_of, scales_of, sides_of, IsFitted}
-use Rattle.cell_plant.specs.Moments.{Moment}
+use Rattle.cell_plant.specs.Cells.{cell_scales, points_of, sides_of, IsFitted}
+use Rattle.cell_plant.specs.Moments.{RunMoment}
 use Rattle.cell_plant.specs.Notebooks.{all_notes}
 
-abbrev pub moment_of : {F1 F2 F3 F4 F5 : Type 0} {g1 : Ghosts F1} {g2 : Ghosts F2} {g3 : Ghosts F3} {g4 : Ghosts F4} {g5 : Ghosts F5} → Inside F1 F2 F3 F4 F5 g1 g2 g3 g4 g5 → Moment
+abbrev pub moment_of : {F1 F2 F3 F4 F5 : Type 0} {g1 : Ghosts F1} {g2 : Ghosts F2} {g3 : Ghosts F3} {g4 : Ghosts F4} {g5 : Ghosts F5} → Inside F1 F2 F3 F4 F5 g1 g2 g3 g4 g5 → RunMoment
 moment_of s =
     record {
-      scales = scales_of s.cell;
+      scales = cell_scales s.cell;
       opening = s.bench.opening;
       interlock = s.bench.state;
       sides = sides_of s.cell;

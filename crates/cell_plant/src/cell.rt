@@ -2,7 +2,7 @@
 
 ghost use Rattle.std.specs.Prelude.{◌≡◌};
 ghost use Rattle.cell_unit.specs.Sides.{side_of};
-ghost use Rattle.cell_plant.specs.Cells.{IsMadeFor, scales_of};
+ghost use Rattle.cell_plant.specs.Cells.{IsMadeFor, cell_scales};
 ghost use Rattle.cell_plant.specs.CellStates.{sides_at_start};
 
 use cell_calib::{Calibration, Gauge};
@@ -62,7 +62,7 @@ impl<F1: Gauge, F2: Gauge, F3: Gauge, F4: Gauge, F5: Gauge> Cell<F1, F2, F3, F4,
         gripper: Calibration<F5>,
     ) -> Cell<F1, F2, F3, F4, F5>
         ensures made { IsMadeFor state.now result }
-        ensures scales { scales_of result ≡ record { arm1 = arm1.points; arm2 = arm2.points; rotation = rotation.points; turn = turn.points; gripper = gripper.points } }
+        ensures scales { cell_scales result ≡ record { arm1 = arm1.points; arm2 = arm2.points; rotation = rotation.points; turn = turn.points; gripper = gripper.points } }
         ensures arm1 { result.robot.controller.program.arm1 ≡ arm1 }
         ensures arm2 { result.robot.controller.program.arm2 ≡ arm2 }
         ensures rotation { result.robot.controller.program.rotation ≡ rotation }

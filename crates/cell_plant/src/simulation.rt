@@ -7,7 +7,7 @@ ghost use Rattle.cell_rules.specs.Start.{IsStartState};
 ghost use Rattle.cell_unit.specs.Statuses.{status_of as status_by};
 ghost use Rattle.cell_notes.specs.Notes.{HasRoom};
 ghost use Rattle.cell_parts.specs.Axes.{AreCellScales};
-ghost use Rattle.cell_plant.specs.Cells.{IsMadeFor, TellsRun, scales_of};
+ghost use Rattle.cell_plant.specs.Cells.{IsMadeFor, TellsRun, cell_scales};
 ghost use Rattle.cell_plant.specs.CellStates.{side_in, plant_of};
 ghost use Rattle.cell_plant.specs.Moments.{StepsOn, Keeps, first_moment, notes_in, state_at};
 ghost use Rattle.cell_plant.specs.Records.{positions_in};
@@ -40,8 +40,8 @@ pub fn simulate<F1: Gauge, F2: Gauge, F3: Gauge, F4: Gauge, F5: Gauge>(
 ) -> Result<RunRecord, SimFault>
     requires start { IsStartState opening }
     requires made { IsMadeFor opening cell }
-    requires scales { AreCellScales (scales_of cell) }
-    ensures run { IfOk result (TellsRun (scales_of cell) opening turns.now) }
+    requires scales { AreCellScales (cell_scales cell) }
+    ensures run { IfOk result (TellsRun (cell_scales cell) opening turns.now) }
     ensures no_turn { turns.now ≡ [] → IsOk result }
 {
     let mut simulation = Simulation::new(alloc, cell, opening);
@@ -64,9 +64,9 @@ struct Simulation<F1: Gauge, F2: Gauge, F3: Gauge, F4: Gauge, F5: Gauge> {
 
 impl<F1: Gauge, F2: Gauge, F3: Gauge, F4: Gauge, F5: Gauge> Model
     for Simulation<F1, F2, F3, F4, F5> {
-    ghost use Rattle.cell_plant.specs.Moments.{Moment};
+    ghost use Rattle.cell_plant.specs.Moments.{RunMoment};
 
-    ghost Value = { Moment };
+    ghost Value = { RunMoment };
 
     ghost use Rattle.cell_plant.specs.Simulations.{moment_of, AreReady};
 
@@ -79,7 +79,7 @@ impl<F1: Gauge, F2: Gauge, F3: Gauge, F4: Gauge, F5: Gauge> Simulation<F1, F2, F
     // A simulation before its first turn. It allocates nothing.
     fn new(alloc: Global, cell: Cell<F1, F2, F3, F4, F5>, opening: State) -> Self
         requires made { IsMadeFor opening cell }
-        ensures { result ≡ first_moment (scales_of cell) opening }
+        ensures { result ≡ first_moment (cell_scales cell) opening }
     {
         Simulation {
             cell,

@@ -1,8 +1,8 @@
 //! The five potentiometers' calibrations.
 
 ghost use Rattle.std.specs.Prelude.{◌≡◌};
-ghost use Rattle.cell_plant.specs.Cells.{IsMadeFor, scales_of};
-ghost use Rattle.cell_program.specs.Gauges.{cell_scales};
+ghost use Rattle.cell_plant.specs.Cells.{IsMadeFor, cell_scales};
+ghost use Rattle.cell_program.specs.Gauges.{scales_by_points};
 
 use cell_calib::{Calibration, Gauge, Points};
 use cell_plant::Cell;
@@ -36,7 +36,7 @@ pub(crate) fn cell_with_gauges<F1: Gauge, F2: Gauge, F3: Gauge, F4: Gauge, F5: G
     requires turn { F4.keeps gauges.3 points.turn }
     requires gripper { F5.keeps gauges.4 points.gripper }
     ensures made { IsMadeFor start.now result }
-    ensures scales { scales_of result ≡ cell_scales points }
+    ensures scales { cell_scales result ≡ scales_by_points points }
 {
     let (arm1, arm2, rotation, turn, gripper) = gauges;
     Cell::new(

@@ -5,7 +5,7 @@ ghost use Rattle.cell_types.specs.Journals.{journal_of};
 ghost use Rattle.cell_rules.specs.History.{after};
 ghost use Rattle.cell_rules.specs.Start.{IsStartState};
 ghost use Rattle.cell_parts.specs.Axes.{AreCellScales};
-ghost use Rattle.cell_plant.specs.Cells.{IsMadeFor, scales_of};
+ghost use Rattle.cell_plant.specs.Cells.{IsMadeFor, cell_scales};
 ghost use Rattle.cell_workers.specs.Records.{TellsWork};
 ghost use Rattle.cell_program.specs.Ran.{EndsAsAudited, but_end};
 
@@ -45,10 +45,10 @@ where
     G: Gate + Sync,
     requires start { IsStartState opening }
     requires made { IsMadeFor opening cell }
-    requires scales { AreCellScales (scales_of cell) }
+    requires scales { AreCellScales (cell_scales cell) }
     ensures tries { (result ≡ Err RunFault.Tries) ↔ ((tries < 1) ⊎ (64 < tries)) }
     ensures work { IfOk result (λ r.
-        TellsWork (scales_of cell) opening tries turns (G.may_answer gate.now) (but_end r)) }
+        TellsWork (cell_scales cell) opening tries turns (G.may_answer gate.now) (but_end r)) }
     ensures end { IfOk result (λ r. EndsAsAudited r.start (journal_of r.journals) r.end) }
 {
     let run = run_workers(rt, alloc, cell, opening, tries, turns, gate)?;

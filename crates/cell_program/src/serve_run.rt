@@ -8,7 +8,7 @@ ghost use Rattle.cell_config.specs.Configured.{AreAxisScales, AreCurvesOf, in_or
 ghost use Rattle.cell_config.specs.Settings.{most_bytes_read};
 ghost use Rattle.cell_program.specs.Ran.{TellsWorkers};
 ghost use Rattle.cell_program.specs.Served.{RunFails, WasRun};
-ghost use Rattle.cell_program.specs.Gauges.{cell_scales};
+ghost use Rattle.cell_program.specs.Gauges.{scales_by_points};
 
 use crate::exit::Exit;
 use crate::faults::fail;
@@ -120,10 +120,10 @@ where
     requires rotation { F3.keeps gauges.2 points.rotation }
     requires turn { F4.keeps gauges.3 points.turn }
     requires gripper { F5.keeps gauges.4 points.gripper }
-    requires scales { AreCellScales (cell_scales points) }
+    requires scales { AreCellScales (scales_by_points points) }
     requires few { tries ≤ 64 }
     requires some { 1 ≤ tries }
-    ensures work { IfOk result (TellsWorkers (cell_scales points) start tries turns) }
+    ensures work { IfOk result (TellsWorkers (scales_by_points points) start tries turns) }
     ensures tries { result ≢ Err RunFault.Tries }
 {
     let cell = cell_with_gauges(gauges, points, &start);

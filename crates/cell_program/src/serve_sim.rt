@@ -8,7 +8,7 @@ ghost use Rattle.cell_text.specs.Input.{TakesAtMost};
 ghost use Rattle.cell_config.specs.Configured.{AreAxisScales, AreCurvesOf, in_order};
 ghost use Rattle.cell_program.specs.Served.{SimFails, WasSimulated};
 ghost use Rattle.cell_config.specs.Settings.{most_bytes_read};
-ghost use Rattle.cell_program.specs.Gauges.{cell_scales};
+ghost use Rattle.cell_program.specs.Gauges.{scales_by_points};
 
 use crate::exit::Exit;
 use crate::faults::fail;
@@ -88,8 +88,8 @@ fn simulate_with_gauges<F1: Gauge, F2: Gauge, F3: Gauge, F4: Gauge, F5: Gauge>(
     requires rotation { F3.keeps gauges.2 points.rotation }
     requires turn { F4.keeps gauges.3 points.turn }
     requires gripper { F5.keeps gauges.4 points.gripper }
-    requires scales { AreCellScales (cell_scales points) }
-    ensures run { IfOk result (TellsRun (cell_scales points) start schedule.now) }
+    requires scales { AreCellScales (scales_by_points points) }
+    ensures run { IfOk result (TellsRun (scales_by_points points) start schedule.now) }
 {
     simulate(
         alloc,

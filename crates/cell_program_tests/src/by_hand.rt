@@ -3,7 +3,7 @@
 
 ghost use Rattle.cell_config.specs.Configured.{AreAxisScales};
 ghost use Rattle.cell_parts.specs.Axes.{AreCellScales};
-ghost use Rattle.cell_program.specs.Gauges.{cell_scales};
+ghost use Rattle.cell_program.specs.Gauges.{scales_by_points};
 ghost use Rattle.cell_rules.specs.Start.{IsStartState};
 
 use super::reports::{EMPTY, PRESS, PRESS_REPORT, SIX_WORKERS};
@@ -50,7 +50,7 @@ where
     requires rotation { F3.keeps gauges.2 points.rotation }
     requires turn { F4.keeps gauges.3 points.turn }
     requires gripper { F5.keeps gauges.4 points.gripper }
-    requires scales { AreCellScales (cell_scales points) }
+    requires scales { AreCellScales (scales_by_points points) }
 {
     let cell = Cell::new(
         &config.start,

@@ -3,7 +3,7 @@ ghost use Rattle.std.specs.Prelude.{◌≡◌, ◌<◌, ◌⊎◌, ◌↔◌, If
 ghost use Rattle.cell_rules.specs.Start.{IsStartState};
 ghost use Rattle.cell_interlock.specs.Fresh.{AreFresh};
 ghost use Rattle.cell_parts.specs.Axes.{AreCellScales};
-ghost use Rattle.cell_plant.specs.Cells.{IsMadeFor, scales_of};
+ghost use Rattle.cell_plant.specs.Cells.{IsMadeFor, cell_scales};
 ghost use Rattle.cell_workers.specs.Results.{AreWorkerResults};
 ghost use Rattle.cell_workers.specs.Records.{TellsWork};
 
@@ -54,9 +54,9 @@ where
     G: Gate + Sync,
     requires start { IsStartState opening }
     requires made { IsMadeFor opening cell }
-    requires scales { AreCellScales (scales_of cell) }
+    requires scales { AreCellScales (cell_scales cell) }
     ensures tries { (result ≡ Err RunFault.Tries) ↔ ((tries < 1) ⊎ (64 < tries)) }
-    ensures work { IfOk result (TellsWork (scales_of cell) opening tries turns (G.may_answer gate.now)) }
+    ensures work { IfOk result (TellsWork (cell_scales cell) opening tries turns (G.may_answer gate.now)) }
 {
     let (interlock, passes) = Interlock::new(alloc, opening, tries)?;
     let context = WorkerContext {
@@ -88,7 +88,7 @@ where
     G: Gate + Sync,
     requires fresh { AreFresh context.now.interlock.now passes }
     requires made { IsMadeFor context.now.interlock.now.opening cell }
-    ensures { IfSome result (AreWorkerResults (scales_of cell) context.now.interlock.now context.now.turns (G.may_answer context.now.gate.now)) }
+    ensures { IfSome result (AreWorkerResults (cell_scales cell) context.now.interlock.now context.now.turns (G.may_answer context.now.gate.now)) }
 {
     let workers = PerMachine {
         feed: cell.feed,

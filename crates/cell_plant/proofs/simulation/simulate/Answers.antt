@@ -1,7 +1,7 @@
 use Rattle.std.proofs.Common.{◌∙◌, ◌<◌, ◌+◌, [], take, sym, ap, subst, arith}
 use Rattle.std.proofs.lemmas.List.{take_all, take_more}
-use Rattle.cell_plant.specs.Cells.{scales_of}
-use Rattle.cell_plant.specs.Moments.{Moment}
+use Rattle.cell_plant.specs.Cells.{cell_scales}
+use Rattle.cell_plant.specs.Moments.{RunMoment}
 use Rattle.cell_plant.proofs.RunSoFar.{RunSoFar, at_start, next_more, room_left, tells_all, taken-length}
 use Rattle.cell_plant.proofs.simulation.simulate.Goals as goal
 
@@ -9,9 +9,9 @@ pub turns-init : goal.turns-init
 turns-init g c =
     let is = c.new-simulation.ensures in
     record {
-      scales = ap (λ (m : Moment). m.scales) is;
-      opening = ap (λ (m : Moment). m.opening) is;
-      run = subst (RunSoFar []) (sym is) (at_start (scales_of c.args.cell) c.args.opening);
+      scales = ap (λ (m : RunMoment). m.scales) is;
+      opening = ap (λ (m : RunMoment). m.opening) is;
+      run = subst (RunSoFar []) (sym is) (at_start (cell_scales c.args.cell) c.args.opening);
     }
 
 pub turn-requires : goal.turn-requires
@@ -35,4 +35,4 @@ pub returns-clause-run : goal.returns-clause-run
 returns-clause-run g c =
     let i = c.turns.turn-index in
     let now = c.turns.invariant in
-    tells_all (scales_of c.args.cell) c.args.opening (take i c.args.turns.now) c.args.turns.now _ _ (take_all i c.args.turns.now c.turns-test.false) now.scales now.opening c.requires.scales c.requires.start now.run c.into_record.ensures
+    tells_all (cell_scales c.args.cell) c.args.opening (take i c.args.turns.now) c.args.turns.now _ _ (take_all i c.args.turns.now c.turns-test.false) now.scales now.opening c.requires.scales c.requires.start now.run c.into_record.ensures

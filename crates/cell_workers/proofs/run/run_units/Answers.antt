@@ -9,7 +9,7 @@ use Rattle.cell_stations.specs.PressProgram.{press_steps}
 use Rattle.cell_stations.specs.TableProgram.{table_steps}
 use Rattle.cell_parts.specs.Rigs.{table_rig, robot_rig, crane_rig}
 use Rattle.cell_plant.specs.Machines.{robot_points, robot_axes}
-use Rattle.cell_plant.specs.Cells.{points_of, scales_of, sides_of}
+use Rattle.cell_plant.specs.Cells.{cell_scales, points_of, sides_of}
 use Rattle.cell_plant.specs.CellStates.{Sides}
 use Rattle.cell_workers.specs.Results.{SixResults}
 use Rattle.cell_workers.specs.Workers.{worker_moment}
@@ -45,7 +45,7 @@ run_in_threads-requires-clause-ready g c κs within =
 pub returns : goal.returns
 returns g c =
     let cell = c.args.cell in
-    let scales = scales_of cell in
+    let scales = cell_scales cell in
     let i = c.args.context.now.interlock.now in
     let gate = g.G.Gate.may_answer c.args.context.now.gate.now in
     let turns = c.args.context.now.turns in

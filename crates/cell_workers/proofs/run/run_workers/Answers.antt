@@ -1,6 +1,6 @@
 use Rattle.std.proofs.Common.{ℕ, ◌∙◌, sym, subst}
 use Rattle.cell_rules.specs.ModelState.{ModelState}
-use Rattle.cell_plant.specs.Cells.{IsMadeFor, scales_of}
+use Rattle.cell_plant.specs.Cells.{IsMadeFor, cell_scales}
 use Rattle.cell_workers.specs.Records.{TellsWork}
 use Rattle.cell_workers.proofs.Recording.{tells}
 use Rattle.cell_workers.proofs.run.run_workers.Goals as goal
@@ -10,7 +10,7 @@ run_units-requires-clause-made g c κs within = subst (λ (s : ModelState). IsMa
 
 pub returns-in-Some-clause-work : goal.returns-in-Some-clause-work
 returns-in-Some-clause-work g c =
-    let scales = scales_of c.args.cell in
+    let scales = cell_scales c.args.cell in
     let made = c.in_ok-interlock.ensures in
     let i = c.in_ok-interlock.interlock in
     let gate = g.G.Gate.may_answer c.args.gate.now in

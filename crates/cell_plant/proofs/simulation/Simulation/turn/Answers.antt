@@ -8,28 +8,28 @@ use Rattle.cell_robot.specs.RobotProgram.{gauges_of, robot_steps}
 use Rattle.cell_stations.specs.PressProgram.{press_steps}
 use Rattle.cell_stations.specs.TableProgram.{table_steps}
 use Rattle.cell_parts.specs.Rigs.{table_rig, robot_rig, crane_rig}
-use Rattle.cell_plant.specs.Cells.{points_of, scales_of}
-use Rattle.cell_plant.specs.Moments.{Moment, notes_in}
+use Rattle.cell_plant.specs.Cells.{cell_scales, points_of}
+use Rattle.cell_plant.specs.Moments.{RunMoment, notes_in}
 use Rattle.cell_plant.proofs.Stepping.{table_near, robot_near, crane_near, feed_on, table_on, robot_on, press_on, deposit_on, crane_on, idle_on, watch_rests, on_ok, grows, stays_ready, with_turn, with_robot, with_gripper, turn_is, by_turn}
 use Rattle.cell_plant.proofs.simulation.Simulation.turn.Goals as goal
 
 pub take_bench_turn-requires-clause-room : goal.take_bench_turn-requires-clause-room
-take_bench_turn-requires-clause-room g c = subst (λ (m : Moment). HasRoom (notes_in m.notes Feed).counts) (sym c.self.view_is) (c.requires.room Feed)
+take_bench_turn-requires-clause-room g c = subst (λ (m : RunMoment). HasRoom (notes_in m.notes Feed).counts) (sym c.self.view_is) (c.requires.room Feed)
 
 pub take_bench_turn-requires-in-Table-clause-room : goal.take_bench_turn-requires-in-Table-clause-room
-take_bench_turn-requires-in-Table-clause-room g c = subst (λ (m : Moment). HasRoom (notes_in m.notes Table).counts) (sym c.self.view_is) (c.requires.room Table)
+take_bench_turn-requires-in-Table-clause-room g c = subst (λ (m : RunMoment). HasRoom (notes_in m.notes Table).counts) (sym c.self.view_is) (c.requires.room Table)
 
 pub take_bench_turn-requires-in-Robot-clause-room : goal.take_bench_turn-requires-in-Robot-clause-room
-take_bench_turn-requires-in-Robot-clause-room g c = subst (λ (m : Moment). HasRoom (notes_in m.notes Robot).counts) (sym c.self.view_is) (c.requires.room Robot)
+take_bench_turn-requires-in-Robot-clause-room g c = subst (λ (m : RunMoment). HasRoom (notes_in m.notes Robot).counts) (sym c.self.view_is) (c.requires.room Robot)
 
 pub take_bench_turn-requires-in-Press-clause-room : goal.take_bench_turn-requires-in-Press-clause-room
-take_bench_turn-requires-in-Press-clause-room g c = subst (λ (m : Moment). HasRoom (notes_in m.notes Press).counts) (sym c.self.view_is) (c.requires.room Press)
+take_bench_turn-requires-in-Press-clause-room g c = subst (λ (m : RunMoment). HasRoom (notes_in m.notes Press).counts) (sym c.self.view_is) (c.requires.room Press)
 
 pub take_bench_turn-requires-in-Deposit-clause-room : goal.take_bench_turn-requires-in-Deposit-clause-room
-take_bench_turn-requires-in-Deposit-clause-room g c = subst (λ (m : Moment). HasRoom (notes_in m.notes Deposit).counts) (sym c.self.view_is) (c.requires.room Deposit)
+take_bench_turn-requires-in-Deposit-clause-room g c = subst (λ (m : RunMoment). HasRoom (notes_in m.notes Deposit).counts) (sym c.self.view_is) (c.requires.room Deposit)
 
 pub take_bench_turn-requires-in-Crane-clause-room : goal.take_bench_turn-requires-in-Crane-clause-room
-take_bench_turn-requires-in-Crane-clause-room g c = subst (λ (m : Moment). HasRoom (notes_in m.notes Crane).counts) (sym c.self.view_is) (c.requires.room Crane)
+take_bench_turn-requires-in-Crane-clause-room g c = subst (λ (m : RunMoment). HasRoom (notes_in m.notes Crane).counts) (sym c.self.view_is) (c.requires.room Crane)
 
 pub invariant_of-self : goal.invariant_of-self
 invariant_of-self g c =
@@ -170,7 +170,7 @@ returns-in-Table g c =
     let turn = c.self.inside.cell.table.controller.program.turn in
     let near = table_near turn.points (g.F4.Gauge.gives turn.gauge) (table_rig c.self.inside.cell.table.part.scale) _ _ _ _ _ _ _ turned in
     by_turn _ c.args.turn _ _ (turn_is c.args.turn Table c.in-Table.is)
-    (table_on _ _ c.args.turn.busy near.asked (ap (with_turn (scales_of c.self.inside.cell)) done.make) near.opening turn.points near.leads c.self.invariant.fitted.turn near.history near.noted refl refl)))
+    (table_on _ _ c.args.turn.busy near.asked (ap (with_turn (cell_scales c.self.inside.cell)) done.make) near.opening turn.points near.leads c.self.invariant.fitted.turn near.history near.noted refl refl)))
 
 pub returns-in-Robot : goal.returns-in-Robot
 returns-in-Robot g c =
@@ -181,7 +181,7 @@ returns-in-Robot g c =
     let fitted = c.self.invariant.fitted in
     let near = robot_near (points_of robot) (gauges_of (g.F1.Gauge.gives robot.arm1.gauge) (g.F2.Gauge.gives robot.arm2.gauge) (g.F3.Gauge.gives robot.rotation.gauge)) (robot_rig c.self.inside.cell.robot.part.scale) _ _ _ _ _ _ _ turned in
     by_turn _ c.args.turn _ _ (turn_is c.args.turn Robot c.in-Robot.is)
-    (robot_on _ _ c.args.turn.busy near.asked (ap (with_robot (scales_of c.self.inside.cell)) done.make) near.opening (points_of robot) near.leads fitted.arm1 fitted.arm2 fitted.rotation near.history near.noted refl refl)))
+    (robot_on _ _ c.args.turn.busy near.asked (ap (with_robot (cell_scales c.self.inside.cell)) done.make) near.opening (points_of robot) near.leads fitted.arm1 fitted.arm2 fitted.rotation near.history near.noted refl refl)))
 
 pub returns-in-Press : goal.returns-in-Press
 returns-in-Press g c =
@@ -207,7 +207,7 @@ returns-in-Crane g c =
     let gripper = c.self.inside.cell.crane.controller.program.gripper in
     let near = crane_near gripper.points (g.F5.Gauge.gives gripper.gauge) (crane_rig c.self.inside.cell.crane.part.scale) _ _ _ _ _ _ _ turned in
     by_turn _ c.args.turn _ _ (turn_is c.args.turn Crane c.in-Crane.is)
-    (crane_on _ _ c.args.turn.busy near.asked (ap (with_gripper (scales_of c.self.inside.cell)) done.make) near.opening gripper.points near.leads c.self.invariant.fitted.gripper near.history near.noted refl refl)))
+    (crane_on _ _ c.args.turn.busy near.asked (ap (with_gripper (cell_scales c.self.inside.cell)) done.make) near.opening gripper.points near.leads c.self.invariant.fitted.gripper near.history near.noted refl refl)))
 
 pub returns-in-Watch : goal.returns-in-Watch
 returns-in-Watch g c = rw (sym c.self.view_is) (idle_on c.args.turn _ (watch_rests c.args.turn.machine c.in-Watch.is))
