@@ -1,5 +1,6 @@
 -- What the six workers require when they start, and what they promise to give back.
-use Rattle.std.specs.Prelude.{◌≡◌, ℕ, Option, None}
+use Rattle.std.specs.declared.thread.PromisedHandle.{PromisedHandle}
+use Rattle.std.specs.Prelude.{◌≡◌, ℕ, Option, Some, None, IfSome}
 use Rattle.cell_types.specs.declared.machine.Machine.{Machine}
 use Rattle.cell_interlock.specs.Views.{PassView, InterlockView}
 use Rattle.cell_interlock.specs.declared.pass.Passes.{Passes}
@@ -57,3 +58,34 @@ pub record IsPromised {W G : Type 0} (interlock : InterlockView) (gate : G) (tur
 -- what was given back keeps the promise
 abbrev pub IsKept : {W G B : Type 0} → GivesOf W B → (G → Machine → GateOf) → WorkerPromise W G → WorkerResult B → Type 0
 IsKept gives may_answer p back = gives p.worker.value p.pass.value p.interlock.value.tries (may_answer p.gate.value p.pass.value.machine) p.turns back
+
+-- the six handles; a worker that wasn't started has none
+abbrev pub HandleOf : Type 0 → Type 0 → Type 0 → Type 0
+HandleOf W G B = Option (PromisedHandle (WorkerResult B) (WorkerPromise W G))
+
+abbrev pub SixHandles : Type 0 → Type 0 → Type 0 → Type 0 → Type 0 → Type 0 → Type 0 → Type 0
+SixHandles W1 W2 W3 W4 W5 W6 G = PerMachine (HandleOf W1 G FeedPart) (HandleOf W2 G TablePart) (HandleOf W3 G RobotPart) (HandleOf W4 G PressPart) (HandleOf W5 G DepositPart) (HandleOf W6 G CranePart)
+
+-- each worker that was started has its promise
+abbrev pub HasPromised : {W G B : Type 0} → InterlockView → G → ℕ → PassView → W → HandleOf W G B → Type 0
+HasPromised interlock gate turns pass worker handle = IfSome handle (λ h. IsPromised interlock gate turns pass worker h.promise)
+
+pub record ArePromised {W1 W2 W3 W4 W5 W6 G : Type 0} (interlock : InterlockView) (gate : G) (turns : ℕ) (passes : Passes) (workers : PerMachine W1 W2 W3 W4 W5 W6) (started : SixHandles W1 W2 W3 W4 W5 W6 G) : Type 0 where
+  pub feed : HasPromised interlock gate turns passes.feed workers.feed started.feed
+  pub table : HasPromised interlock gate turns passes.table workers.table started.table
+  pub robot : HasPromised interlock gate turns passes.robot workers.robot started.robot
+  pub press : HasPromised interlock gate turns passes.press workers.press started.press
+  pub deposit : HasPromised interlock gate turns passes.deposit workers.deposit started.deposit
+  pub crane : HasPromised interlock gate turns passes.crane workers.crane started.crane
+
+-- each was started, and what it gave back keeps its promise
+abbrev pub HasKept : {W G B : Type 0} → GivesOf W B → (G → Machine → GateOf) → HandleOf W G B → WorkerResult B → Type 0
+HasKept {W = W} {G = G} {B = B} gives may_answer handle back = (h : PromisedHandle (WorkerResult B) (WorkerPromise W G)) × (handle ≡ Some h) × IsKept gives may_answer h.promise back
+
+pub record AreKept {W1 W2 W3 W4 W5 W6 G : Type 0} (gives1 : GivesOf W1 FeedPart) (gives2 : GivesOf W2 TablePart) (gives3 : GivesOf W3 RobotPart) (gives4 : GivesOf W4 PressPart) (gives5 : GivesOf W5 DepositPart) (gives6 : GivesOf W6 CranePart) (may_answer : G → Machine → GateOf) (started : SixHandles W1 W2 W3 W4 W5 W6 G) (results : SixResults) : Type 0 where
+  pub feed : HasKept gives1 may_answer started.feed results.feed
+  pub table : HasKept gives2 may_answer started.table results.table
+  pub robot : HasKept gives3 may_answer started.robot results.robot
+  pub press : HasKept gives4 may_answer started.press results.press
+  pub deposit : HasKept gives5 may_answer started.deposit results.deposit
+  pub crane : HasKept gives6 may_answer started.crane results.crane

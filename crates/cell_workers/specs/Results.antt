@@ -1,5 +1,5 @@
 -- What six workers gave back, by machine.
-use Rattle.std.specs.Prelude.{ℕ, List, []}
+use Rattle.std.specs.Prelude.{◌≡◌, ℕ, List, [], Option, Some}
 use Rattle.cell_types.specs.declared.machine.Machine.{Machine}
 use Rattle.cell_types.specs.declared.machine.Machine.TheVariants.{Feed, Table, Robot, Press, Deposit, Crane, Watch}
 use Rattle.cell_types.specs.declared.journal.Entry.{Entry}
@@ -25,6 +25,15 @@ abbrev pub SixResults : Type 0
 SixResults =
     PerMachine (WorkerResult FeedPart) (WorkerResult TablePart) (WorkerResult RobotPart)
     (WorkerResult PressPart) (WorkerResult DepositPart) (WorkerResult CranePart)
+
+-- none is missing, and these are the six
+pub record AreAllThere {A B C D E F : Type 0} (each : PerMachine (Option A) (Option B) (Option C) (Option D) (Option E) (Option F)) (six : PerMachine A B C D E F) : Type 0 where
+  pub feed : each.feed ≡ Some six.feed
+  pub table : each.table ≡ Some six.table
+  pub robot : each.robot ≡ Some six.robot
+  pub press : each.press ≡ Some six.press
+  pub deposit : each.deposit ≡ Some six.deposit
+  pub crane : each.crane ≡ Some six.crane
 
 -- the journals; the watch's is empty
 abbrev pub journal_in : SixResults → Machine → List Entry

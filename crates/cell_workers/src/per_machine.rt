@@ -1,11 +1,11 @@
 //! A value for each of the six machines, and what six workers gave back.
-ghost use Rattle.std.specs.Prelude.{◌≡◌, IfSome, Some, None, [], ◌∷◌};
+ghost use Rattle.std.specs.Prelude.{◌≡◌, IfSome, None, [], ◌∷◌};
 ghost use Rattle.cell_types.specs.declared.machine.Machine.{Machine};
 ghost use Rattle.cell_types.specs.Journals.{journal_of};
 ghost use Rattle.cell_notes.specs.declared.status.Status.{Status};
 ghost use Rattle.cell_notes.specs.Notes.{no_counts};
 ghost use Rattle.cell_plant.specs.Records.{positions_in};
-ghost use Rattle.cell_workers.specs.Results.{journal_in, parts_in};
+ghost use Rattle.cell_workers.specs.Results.{AreAllThere, journal_in, parts_in};
 
 use crate::worker_result::WorkerResult;
 use cell_notes::{Counts, RunRecord, Status};
@@ -46,7 +46,7 @@ pub(crate) fn all_six(
         Option<WorkerResult<CranePart>>,
     >,
 ) -> Option<WorkerResults>
-    ensures { IfSome result (λ results. (each.feed ≡ Some results.feed) × (each.table ≡ Some results.table) × (each.robot ≡ Some results.robot) × (each.press ≡ Some results.press) × (each.deposit ≡ Some results.deposit) × (each.crane ≡ Some results.crane)) }
+    ensures { IfSome result (AreAllThere each) }
 {
     let belts = each.feed.zip(each.deposit);
     let tables = each.table.zip(each.press);

@@ -1,19 +1,17 @@
 //! Six workers over one interlock.
-ghost use Rattle.std.specs.Prelude.{◌≡◌, ◌<◌, ◌⊎◌, ◌↔◌, IfOk, Err, IfSome};
+ghost use Rattle.std.specs.Prelude.{◌≡◌, ◌<◌, ◌⊎◌, ◌↔◌, IfOk, Err};
 ghost use Rattle.cell_rules.specs.Start.{IsStartState};
-ghost use Rattle.cell_interlock.specs.Fresh.{AreFresh};
 ghost use Rattle.cell_parts.specs.Axes.{AreCellScales};
 ghost use Rattle.cell_plant.specs.Cells.{IsMadeFor, cell_scales};
-ghost use Rattle.cell_workers.specs.Results.{AreWorkerResults};
 ghost use Rattle.cell_workers.specs.Records.{TellsWork};
 
 use crate::fault::RunFault;
 use crate::gate::Gate;
-use crate::per_machine::{PerMachine, WorkerResults};
+use crate::per_machine::PerMachine;
 use crate::start::WorkerContext;
 use crate::threads::run_in_threads;
 use cell_calib::Gauge;
-use cell_interlock::{Interlock, Passes};
+use cell_interlock::Interlock;
 use cell_notes::RunRecord;
 use cell_plant::Cell;
 use cell_rules::State;
@@ -65,31 +63,6 @@ where
         gate,
         turns,
     };
-    match run_units(rt, &context, passes, cell) {
-        Some(results) => Ok(results.into_record(alloc, opening)),
-        None => Err(RunFault::Spawn),
-    }
-}
-
-// Runs the units of a cell by workers with these passes.
-fn run_units<R, F1, F2, F3, F4, F5, G>(
-    rt: &R,
-    context: &WorkerContext<'_, G>,
-    passes: Passes,
-    cell: Cell<F1, F2, F3, F4, F5>,
-) -> Option<WorkerResults>
-where
-    R: Threads + Wait + Sync,
-    F1: Gauge + Send,
-    F2: Gauge + Send,
-    F3: Gauge + Send,
-    F4: Gauge + Send,
-    F5: Gauge + Send,
-    G: Gate + Sync,
-    requires fresh { AreFresh context.now.interlock.now passes }
-    requires made { IsMadeFor context.now.interlock.now.opening cell }
-    ensures { IfSome result (AreWorkerResults (cell_scales cell) context.now.interlock.now context.now.turns (G.may_answer context.now.gate.now)) }
-{
     let workers = PerMachine {
         feed: cell.feed,
         table: cell.table,
@@ -98,5 +71,8 @@ where
         deposit: cell.deposit,
         crane: cell.crane,
     };
-    run_in_threads(rt, context, passes, workers)
+    match run_in_threads(rt, &context, passes, workers) {
+        Some(results) => Ok(results.into_record(alloc, opening)),
+        None => Err(RunFault::Spawn),
+    }
 }

@@ -1,7 +1,7 @@
 //! Six workers in threads.
-ghost use Rattle.std.specs.Prelude.{◌≡◌, IfSome, Some};
+ghost use Rattle.std.specs.Prelude.{IfSome};
 ghost use Rattle.cell_interlock.specs.Fresh.{AreFresh};
-ghost use Rattle.cell_workers.specs.Promises.{AreReady, AreStartedInTurn, GiveBack, IsKept, IsPromised};
+ghost use Rattle.cell_workers.specs.Promises.{AreKept, ArePromised, AreReady, AreStartedInTurn, GiveBack};
 
 use crate::gate::Gate;
 use crate::per_machine::{PerMachine, WorkerResults, all_six};
@@ -76,13 +76,8 @@ where
     G: Gate + Sync,
     requires fresh { AreFresh context.now.interlock.now passes }
     requires ready { AreReady W1.is_ready W2.is_ready W3.is_ready W4.is_ready W5.is_ready W6.is_ready workers passes }
-    ensures feed { IfSome result.feed (λ h. IsPromised context.now.interlock.now context.now.gate.now context.now.turns passes.feed workers.feed h.promise) }
-    ensures table { IfSome result.table (λ h. IsPromised context.now.interlock.now context.now.gate.now context.now.turns passes.table workers.table h.promise) }
-    ensures robot { IfSome result.robot (λ h. IsPromised context.now.interlock.now context.now.gate.now context.now.turns passes.robot workers.robot h.promise) }
-    ensures press { IfSome result.press (λ h. IsPromised context.now.interlock.now context.now.gate.now context.now.turns passes.press workers.press h.promise) }
-    ensures deposit { IfSome result.deposit (λ h. IsPromised context.now.interlock.now context.now.gate.now context.now.turns passes.deposit workers.deposit h.promise) }
+    ensures promised { ArePromised context.now.interlock.now context.now.gate.now context.now.turns passes workers result }
     ensures in_turn { AreStartedInTurn result }
-    ensures crane { IfSome result.crane (λ h. IsPromised context.now.interlock.now context.now.gate.now context.now.turns passes.crane workers.crane h.promise) }
 {
     let mut all_run = true;
     PerMachine {
@@ -124,12 +119,7 @@ where
     W5: Worker<Part = DepositPart>,
     W6: Worker<Part = CranePart>,
     G: Gate,
-    ensures feed { IfSome result (λ results. (h : _) × (started.feed ≡ Some h) × IsKept W1.gives_back G.may_answer h.promise results.feed) }
-    ensures table { IfSome result (λ results. (h : _) × (started.table ≡ Some h) × IsKept W2.gives_back G.may_answer h.promise results.table) }
-    ensures robot { IfSome result (λ results. (h : _) × (started.robot ≡ Some h) × IsKept W3.gives_back G.may_answer h.promise results.robot) }
-    ensures press { IfSome result (λ results. (h : _) × (started.press ≡ Some h) × IsKept W4.gives_back G.may_answer h.promise results.press) }
-    ensures deposit { IfSome result (λ results. (h : _) × (started.deposit ≡ Some h) × IsKept W5.gives_back G.may_answer h.promise results.deposit) }
-    ensures crane { IfSome result (λ results. (h : _) × (started.crane ≡ Some h) × IsKept W6.gives_back G.may_answer h.promise results.crane) }
+    ensures { IfSome result (AreKept W1.gives_back W2.gives_back W3.gives_back W4.gives_back W5.gives_back W6.gives_back G.may_answer started) }
 {
     all_six(PerMachine {
         feed: join(rt, started.feed),

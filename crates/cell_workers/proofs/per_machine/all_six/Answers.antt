@@ -15,4 +15,4 @@ returns c =
     let belts = both c.args.each.feed c.args.each.deposit _ _ (sym c.zip-belts.ensures ∙ first.0) in
     let tables = both c.args.each.table c.args.each.press _ _ (sym c.zip-tables.ensures ∙ first.1) in
     let arms = both c.args.each.robot c.args.each.crane _ _ (sym c.zip-arms.ensures ∙ all.1) in
-    (belts.0, tables.0, arms.0, tables.1, belts.1, arms.1)
+    record { feed = belts.0; table = tables.0; robot = arms.0; press = tables.1; deposit = belts.1; crane = arms.1 }
