@@ -18,7 +18,7 @@ use Rattle.cell_control.proofs.TurnMaps.{turn_map, turn_either}
 use Rattle.cell_control.proofs.Senses.{turns_still}
 use Rattle.cell_notes.specs.Asks.{Asked, done_in, settled_by, settled_in}
 use Rattle.cell_notes.specs.Notes.{Notes, notes_with}
-use Rattle.cell_unit.specs.Sides.{Side, Acts, ActsAndMoves, TellsByDemands, act_or_rest, noting, part_set}
+use Rattle.cell_unit.specs.Sides.{Side, Acts, ActsAndMoves, DemandsHold, TellsByDemands, act_or_rest, noting, part_set}
 use Rattle.cell_unit.specs.UnitTurns.{Answers, Leads, UnitTurn}
 
 -- a turn, by another relation to its line
@@ -64,7 +64,7 @@ module _ {S Sense Reading Act State : Type 0} (t : Steps S Sense Reading Act) (r
   grown = turn_either t ((new ≡ seated) × (asked ≡ None)) (λ q r. BenchAsks seated q r new × (asked ≡ Some (q, r))) (new.history ≡ old.history ++ settled_in t.machine asked) quiet told before.stopped before.progress acts.acts.sense acts.acts.turned acts.acts.row
 
   -- a turn that is taken
-  pub taken_on : (notes notes' : Notes) → new.opening ≡ old.opening → (now.stopped ≡ None → TellsByDemands t rig before.progress before.part asked now.part new.opening new.history) → notes' ≡ notes_with notes asked
+  pub taken_on : (notes notes' : Notes) → new.opening ≡ old.opening → DemandsHold t rig before asked now new.opening new.history → notes' ≡ notes_with notes asked
       → UnitTurn t rig busy old new before now notes notes'
   taken_on notes notes' opening motor_demands noted =
       record {

@@ -10,6 +10,7 @@ use Rattle.cell_control.specs.Rigs.{Rig}
 use Rattle.cell_control.specs.Steps.{Steps, IsReached}
 use Rattle.cell_control.specs.Turns.{Turned, Turns}
 use Rattle.cell_notes.specs.Asks.{Asked, done_in}
+use Rattle.cell_unit.specs.declared.unit.MachineUnit.{MachineUnit}
 
 pub record Side (S State : Type 0) : Type 0 where
   pub progress : S
@@ -22,6 +23,23 @@ side_of progress stopped part = record { progress = progress; stopped = stopped;
 -- a controller that runs has reached its step by its machine's events
 abbrev pub IsReady : {S Sense Reading Act : Type 0} → Steps S Sense Reading Act → ModelState → List Event → Option CtlFault → S → Type 0
 IsReady t opening seen stopped p = stopped ≡ None → IsReached t opening seen p
+
+-- a unit: its program, the table of its steps, the rig of its part, and its side
+module _ {P B S Sense Reading Act : Type 0} where
+  abbrev pub unit_program : MachineUnit P B S Sense Reading Act → P
+  unit_program unit = unit.controller.program
+
+  abbrev pub unit_table : (P → Steps S Sense Reading Act) → MachineUnit P B S Sense Reading Act → Steps S Sense Reading Act
+  unit_table steps unit = steps unit.controller.program
+
+  abbrev pub unit_rig : {Make State : Type 0} → (Make → Rig State Sense Act) → (B → Make) → MachineUnit P B S Sense Reading Act → Rig State Sense Act
+  unit_rig rig make unit = rig (make unit.part)
+
+  abbrev pub unit_side : {State : Type 0} → (B → State) → MachineUnit P B S Sense Reading Act → Side S State
+  unit_side state unit = side_of unit.controller.progress unit.controller.stopped (state unit.part)
+
+  abbrev pub UnitIsReady : (P → Steps S Sense Reading Act) → MachineUnit P B S Sense Reading Act → ModelState → List Event → Type 0
+  UnitIsReady steps unit opening seen = IsReady (steps unit.controller.program) opening seen unit.controller.stopped unit.controller.progress
 
 -- a part notes the event, if there is one
 abbrev pub noting : {State Sense Act : Type 0} → Rig State Sense Act → State → Option Event → State
@@ -63,3 +81,7 @@ pub record TellsByDemands {S Sense Reading Act State : Type 0} (t : Steps S Sens
   pub act : Act
   pub told : now ≡ rig.moves (part_set t rig before asked act)
   pub motor_demands : t.motor_demands p act opening seen
+
+-- they hold after a turn that leaves the machine running
+abbrev pub DemandsHold : {S Sense Reading Act State : Type 0} → Steps S Sense Reading Act → Rig State Sense Act → Side S State → Asked → Side S State → ModelState → List Event → Type 0
+DemandsHold t rig before asked now opening seen = now.stopped ≡ None → TellsByDemands t rig before.progress before.part asked now.part opening seen

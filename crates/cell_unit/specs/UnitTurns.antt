@@ -13,7 +13,7 @@ use Rattle.cell_control.specs.Rigs.{Rig}
 use Rattle.cell_control.specs.Steps.{Steps}
 use Rattle.cell_notes.specs.Asks.{Asked, settled_in}
 use Rattle.cell_notes.specs.Notes.{Notes, notes_with}
-use Rattle.cell_unit.specs.Sides.{Side, Acts, ActsAndMoves, TellsByDemands}
+use Rattle.cell_unit.specs.Sides.{Side, Acts, ActsAndMoves, DemandsHold}
 
 -- A call is answered by the state, and changes it. If the turn finds the interlock busy, the answer is Busy; if out of
 -- memory, the call isn't made. In both cases nothing changes.
@@ -46,7 +46,7 @@ pub record UnitTurn {S Sense Reading Act State : Type 0} (t : Steps S Sense Read
   pub leads : Leads (is_none before.stopped) t rig busy old.state before asked new.state now
   pub opening : new.opening ≡ old.opening
   pub history : new.history ≡ old.history ++ settled_in t.machine asked
-  pub motor_demands : now.stopped ≡ None → TellsByDemands t rig before.progress before.part asked now.part new.opening new.history
+  pub motor_demands : DemandsHold t rig before asked now new.opening new.history
   pub noted : notes' ≡ (if is_none before.stopped then notes_with notes asked else notes)
 
 -- nothing has changed

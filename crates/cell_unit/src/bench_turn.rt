@@ -2,7 +2,7 @@
 ghost use Rattle.std.specs.Prelude.{◌≡◌, ◌≢◌, None, IsOk, OnOk, OnErr};
 ghost use Rattle.cell_rules.specs.BenchView.{desk_of};
 ghost use Rattle.cell_notes.specs.Notes.{HasRoom, HasSpare, notes_of};
-ghost use Rattle.cell_unit.specs.Sides.{IsReady, side_of};
+ghost use Rattle.cell_unit.specs.Sides.{UnitIsReady, unit_program, unit_rig, unit_side, unit_table};
 ghost use Rattle.cell_unit.specs.UnitTurns.{UnitTurn, Untouched};
 
 use crate::fault::SimFault;
@@ -24,19 +24,17 @@ pub fn take_bench_turn<P: Program, B: Part<Sense = P::Sense, Act = P::Act>>(
     machine: Machine,
     busy: bool,
 ) -> Result<(), SimFault>
-    requires machine { (P.steps unit.old.controller.program).machine ≡ machine }
-    requires ready { IsReady (P.steps unit.old.controller.program) bench.old.opening bench.old.history.items unit.old.controller.stopped unit.old.controller.progress }
+    requires machine { (unit_table P.steps unit.old).machine ≡ machine }
+    requires ready { UnitIsReady P.steps unit.old (desk_of bench.old).opening (desk_of bench.old).history }
     requires room { HasRoom notebook.old.counts }
-    ensures turn { OnOk result (UnitTurn (P.steps unit.old.controller.program) (B.rig (B.make unit.old.part)) busy (desk_of bench.old) (desk_of bench.new)
-        (side_of unit.old.controller.progress unit.old.controller.stopped (B.state unit.old.part)) (side_of unit.new.controller.progress unit.new.controller.stopped (B.state unit.new.part))
-        (notes_of notebook.old) (notes_of notebook.new)) }
-    ensures failed { OnErr result (Untouched (desk_of bench.old) (desk_of bench.new)
-        (side_of unit.old.controller.progress unit.old.controller.stopped (B.state unit.old.part)) (side_of unit.new.controller.progress unit.new.controller.stopped (B.state unit.new.part))
-        (notes_of notebook.old) (notes_of notebook.new)) }
+    ensures turn { OnOk result (UnitTurn (unit_table P.steps unit.old) (unit_rig B.rig B.make unit.old) busy
+        (desk_of bench.old) (desk_of bench.new) (unit_side B.state unit.old) (unit_side B.state unit.new) (notes_of notebook.old) (notes_of notebook.new)) }
+    ensures failed { OnErr result (Untouched
+        (desk_of bench.old) (desk_of bench.new) (unit_side B.state unit.old) (unit_side B.state unit.new) (notes_of notebook.old) (notes_of notebook.new)) }
     ensures succeeds { HasSpare notebook.old → IsOk result }
-    ensures stopped { unit.old.controller.stopped ≢ None → IsOk result }
-    ensures ready { IsReady (P.steps unit.new.controller.program) bench.new.opening bench.new.history.items unit.new.controller.stopped unit.new.controller.progress }
-    ensures program { unit.new.controller.program ≡ unit.old.controller.program }
+    ensures stopped { (unit_side B.state unit.old).stopped ≢ None → IsOk result }
+    ensures ready { UnitIsReady P.steps unit.new (desk_of bench.new).opening (desk_of bench.new).history }
+    ensures program { unit_program unit.new ≡ unit_program unit.old }
     ensures make { B.make unit.new.part ≡ B.make unit.old.part }
 {
     if unit.controller.stopped().is_some() {

@@ -2,7 +2,7 @@
 ghost use Rattle.cell_rules.specs.Benches.{Desk};
 ghost use Rattle.cell_notes.specs.Asks.{Asked};
 ghost use Rattle.cell_notes.specs.Notes.{Notes};
-ghost use Rattle.cell_unit.specs.Sides.{Side};
+ghost use Rattle.cell_unit.specs.Sides.{Side, unit_rig, unit_table};
 ghost use Rattle.cell_unit.specs.UnitRows.{StatusRows, SideRows, UnitRows};
 
 use crate::unit::MachineUnit;
@@ -20,7 +20,7 @@ pub fn sides_by_answers<P: Program, B: Part<Sense = P::Sense, Act = P::Act>>(
     unit: &MachineUnit<P, B>,
 )
     ensures { (before now : Side P.Progress B.State) (asked : Asked)
-        → SideRows (P.steps unit.now.controller.program) (B.rig (B.make unit.now.part)) before asked now }
+        → SideRows (unit_table P.steps unit.now) (unit_rig B.rig B.make unit.now) before asked now }
 {}
 
 /// The effect of any machine's turn over a bench, on the machine, the bench and the notebook.
@@ -28,5 +28,5 @@ pub fn turns_at_a_bench<P: Program, B: Part<Sense = P::Sense, Act = P::Act>>(
     unit: &MachineUnit<P, B>,
 )
     ensures { (old new : Desk) (before now : Side P.Progress B.State) (notes after : Notes)
-        → UnitRows (P.steps unit.now.controller.program) (B.rig (B.make unit.now.part)) old new before now notes after }
+        → UnitRows (unit_table P.steps unit.now) (unit_rig B.rig B.make unit.now) old new before now notes after }
 {}

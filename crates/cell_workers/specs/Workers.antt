@@ -16,7 +16,7 @@ use Rattle.cell_notes.specs.declared.status.Status.TheVariants.{Fine, GateLimit}
 use Rattle.cell_notes.specs.Asks.{Asked}
 use Rattle.cell_notes.specs.Notes.{counts_with}
 use Rattle.cell_unit.specs.Statuses.{status_of}
-use Rattle.cell_unit.specs.Sides.{Side, ActsAndMoves, TellsByDemands}
+use Rattle.cell_unit.specs.Sides.{Side, ActsAndMoves, DemandsHold}
 use Rattle.cell_workers.specs.Lines.{Lines, passes}
 
 -- a worker between two turns: its line, its machine's side, and its counts
@@ -39,7 +39,7 @@ pub record TakesTurn {L S Sense Reading Act State : Type 0} (lines : Lines L) (t
   pub let_in : gate before.counts.turns true
   pub asked : Asked
   pub row : ActsAndMoves t rig (now.line ≡ before.line) (λ c r. lines.asks before.line c r now.line) before.side asked now.side
-  pub motor_demands : now.side.stopped ≡ None → TellsByDemands t rig before.side.progress before.side.part asked now.side.part (lines.opening now.line) (lines.seen now.line)
+  pub motor_demands : DemandsHold t rig before.side asked now.side (lines.opening now.line) (lines.seen now.line)
   pub counted : now.counts ≡ counts_with before.counts asked
 
 -- turns, each from the end of the one before it

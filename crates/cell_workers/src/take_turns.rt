@@ -2,7 +2,7 @@
 ghost use Rattle.std.specs.Prelude.{◌≡◌};
 ghost use Rattle.cell_notes.specs.Notes.{no_counts};
 ghost use Rattle.cell_unit.specs.Statuses.{status_of as status_by};
-ghost use Rattle.cell_unit.specs.Sides.{IsReady, side_of};
+ghost use Rattle.cell_unit.specs.Sides.{UnitIsReady, unit_rig, unit_side, unit_table};
 ghost use Rattle.cell_workers.specs.Workers.{HasEnded, worker_moment};
 
 use crate::gate::Gate;
@@ -28,11 +28,10 @@ pub(crate) fn take_turns<P: Program, B: Part<Sense = P::Sense, Act = P::Act>, L:
     gate: &G,
     turns: u32,
 ) -> Ending
-    requires own { L.machine line.old ≡ (P.steps unit.old.controller.program).machine }
-    requires ready { IsReady (P.steps unit.old.controller.program) (L.opening line.old) (L.seen line.old) unit.old.controller.stopped unit.old.controller.progress }
-    ensures ended { HasEnded (record { opening = L.opening; seen = L.seen; asks = L.asks }) (P.steps unit.old.controller.program) (B.rig (B.make unit.old.part)) (G.may_answer gate.now (L.machine line.old)) turns
-        (worker_moment line.old (side_of unit.old.controller.progress unit.old.controller.stopped (B.state unit.old.part)) no_counts)
-        (worker_moment line.new (side_of unit.new.controller.progress unit.new.controller.stopped (B.state unit.new.part)) result.counts) result.status }
+    requires own { L.machine line.old ≡ (unit_table P.steps unit.old).machine }
+    requires ready { UnitIsReady P.steps unit.old (L.opening line.old) (L.seen line.old) }
+    ensures ended { HasEnded (record { opening = L.opening; seen = L.seen; asks = L.asks }) (unit_table P.steps unit.old) (unit_rig B.rig B.make unit.old) (G.may_answer gate.now (L.machine line.old)) turns
+        (worker_moment line.old (unit_side B.state unit.old) no_counts) (worker_moment line.new (unit_side B.state unit.new) result.counts) result.status }
     ensures own { L.machine line.new ≡ L.machine line.old }
 {
     let machine = line.machine();

@@ -45,15 +45,15 @@ pub(crate) trait Worker: Drop {
 impl<P: Program, B: Part<Sense = P::Sense, Act = P::Act>> Worker for MachineUnit<P, B> {
     ghost use Rattle.std.specs.Prelude.{◌≡◌};
     ghost use Rattle.cell_notes.specs.Notes.{no_counts};
-    ghost use Rattle.cell_unit.specs.Sides.{IsReady, side_of};
+    ghost use Rattle.cell_unit.specs.Sides.{UnitIsReady, unit_rig, unit_side, unit_table};
     ghost use Rattle.cell_workers.specs.Workers.{IsWorkerResult, worker_moment};
 
     type Part = B;
 
-    ghost is_ready = { λ unit pass. (pass.machine ≡ (P.steps unit.controller.program).machine) × IsReady (P.steps unit.controller.program) pass.opening pass.seen unit.controller.stopped unit.controller.progress };
+    ghost is_ready = { λ unit pass. (pass.machine ≡ (unit_table P.steps unit).machine) × UnitIsReady P.steps unit pass.opening pass.seen };
 
-    ghost gives_back = { λ unit pass tries gate limit r. IsWorkerResult tries (P.steps unit.controller.program) (B.rig (B.make unit.part)) gate limit
-        (worker_moment pass (side_of unit.controller.progress unit.controller.stopped (B.state unit.part)) no_counts) r.pass r.journal.items r.counts r.status (B.state r.part) };
+    ghost gives_back = { λ unit pass tries gate limit r. IsWorkerResult tries (unit_table P.steps unit) (unit_rig B.rig B.make unit) gate limit
+        (worker_moment pass (unit_side B.state unit) no_counts) r.pass r.journal.items r.counts r.status (B.state r.part) };
 
     fn take_turns<G: Gate>(
         self,

@@ -1,7 +1,7 @@
 //! A machine's turns by its pass, and what its worker gives back: a plain struct.
 ghost use Rattle.std.specs.Prelude.{◌≡◌, []};
 ghost use Rattle.cell_notes.specs.Notes.{no_counts};
-ghost use Rattle.cell_unit.specs.Sides.{IsReady, side_of};
+ghost use Rattle.cell_unit.specs.Sides.{UnitIsReady, unit_rig, unit_side, unit_table};
 ghost use Rattle.cell_workers.specs.Workers.{IsWorkerResult, worker_moment};
 
 use crate::gate::Gate;
@@ -40,10 +40,10 @@ pub(crate) fn take_turns_by_pass<P: Program, B: Part<Sense = P::Sense, Act = P::
 ) -> WorkerResult<B>
     requires table { pass.table ≡ interlock.now.table }
     requires fresh { pass.seen ≡ [] }
-    requires own { pass.machine ≡ (P.steps unit.controller.program).machine }
-    requires ready { IsReady (P.steps unit.controller.program) pass.opening pass.seen unit.controller.stopped unit.controller.progress }
-    ensures { IsWorkerResult interlock.now.tries (P.steps unit.controller.program) (B.rig (B.make unit.part)) (G.may_answer gate.now pass.machine) turns
-        (worker_moment pass (side_of unit.controller.progress unit.controller.stopped (B.state unit.part)) no_counts) result.pass result.journal.items result.counts result.status (B.state result.part) }
+    requires own { pass.machine ≡ (unit_table P.steps unit).machine }
+    requires ready { UnitIsReady P.steps unit pass.opening pass.seen }
+    ensures { IsWorkerResult interlock.now.tries (unit_table P.steps unit) (unit_rig B.rig B.make unit) (G.may_answer gate.now pass.machine) turns
+        (worker_moment pass (unit_side B.state unit) no_counts) result.pass result.journal.items result.counts result.status (B.state result.part) }
 {
     lawful_histories();
     let mut unit = unit;
