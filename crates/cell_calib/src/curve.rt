@@ -11,7 +11,7 @@ use crate::points::Points;
 use std::marker::Model;
 
 /// The most pairs of a curve.
-const MOST_PAIRS: usize = 32;
+const MAX_PAIRS: usize = 32;
 
 /// A potentiometer's curve: 2 to 32 pairs of a raw value and the position measured there, and a
 /// straight line from each to the next.
@@ -22,7 +22,7 @@ const MOST_PAIRS: usize = 32;
 #[derive(Clone, Copy, Debug, PartialEq, Eq)]
 pub struct Curve {
     points: Points,
-    places: [(u16, i32); MOST_PAIRS],
+    places: [(u16, i32); MAX_PAIRS],
     filled: usize,
 }
 
@@ -113,11 +113,11 @@ impl Curve {
 }
 
 /// An array that begins with these pairs.
-fn placed(pairs: &[(u16, i32)]) -> [(u16, i32); MOST_PAIRS]
+fn placed(pairs: &[(u16, i32)]) -> [(u16, i32); MAX_PAIRS]
     requires { length pairs.now ≤ 32 }
     ensures { take (length pairs.now) result ≡ pairs.now }
 {
-    let mut places = [(0, 0); MOST_PAIRS];
+    let mut places = [(0, 0); MAX_PAIRS];
     places[..pairs.len()].copy_from_slice(pairs);
     places
 }
@@ -143,7 +143,7 @@ fn check(points: Points, pairs: &[(u16, i32)]) -> Result<(), CurveFault>
 fn has_count(pairs: &[(u16, i32)]) -> bool
     ensures { IsTrue result ↔ HasCount pairs.now }
 {
-    2 <= pairs.len() && pairs.len() <= MOST_PAIRS
+    2 <= pairs.len() && pairs.len() <= MAX_PAIRS
 }
 
 /// Whether the first raw value and the last are those of the points.

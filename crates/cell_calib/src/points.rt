@@ -39,10 +39,10 @@ impl Points {
     ghost use Rattle.cell_calib.specs.Scale.{IsScale};
 
     /// The farthest that a point's position may be from 0.
-    pub const FARTHEST: i32 = 100_000;
+    pub const MAX_POSITION: i32 = 100_000;
 
     /// The greatest tolerance.
-    pub const COARSEST: i32 = 10;
+    pub const MAX_TOL: i32 = 10;
 
     /// The line through (`raw_lo`, `at_lo`) and (`raw_hi`, `at_hi`) with a tolerance.
     ///
@@ -60,8 +60,8 @@ impl Points {
             ↔ ¬ (IsScale (record { raw_lo = raw_lo; raw_hi = raw_hi; at_lo = at_lo; at_hi = at_hi; tol = tol })) }
     {
         let rises = raw_lo < raw_hi && at_lo < at_hi;
-        let within = -Points::FARTHEST <= at_lo && at_hi <= Points::FARTHEST;
-        if rises && within && 1 <= tol && tol <= Points::COARSEST {
+        let within = -Points::MAX_POSITION <= at_lo && at_hi <= Points::MAX_POSITION;
+        if rises && within && 1 <= tol && tol <= Points::MAX_TOL {
             Ok(Points {
                 raw_lo,
                 raw_hi,

@@ -8,7 +8,7 @@ use Rattle.cell_types.specs.declared.call.Call.TheVariants.{Give, Take, Advance}
 use Rattle.cell_types.specs.declared.answer.Answer.TheVariants.{Done}
 use Rattle.cell_types.specs.Tables.{transfer_of}
 use Rattle.cell_types.specs.Same.{same_machine}
-use Rattle.cell_types.specs.Ways.{keeper_of, work_of}
+use Rattle.cell_types.specs.Ways.{keeper_of, own_move_of}
 use Rattle.cell_rules.specs.ModelState.{ModelState, zone_at, is_full}
 use Rattle.cell_rules.specs.Sound.{IsSound, is_party, is_received_by}
 use Rattle.cell_rules.specs.Refusals.{owns, owner_of, posture_at, transfer_given, given_by, advance_refusal, give_refusal, take_refusal, has_no_work, press_unowned, not_at_work, nothing_to_work, no_room_for_work, worn, ◌or◌}
@@ -73,9 +73,9 @@ plate_taken z m y sound e =
 pub plate_given : (z : ModelState) (m : Machine) (y : Zone) → reply z m (Give y) ≡ Done → is_some (given_by m (transfer_of y (posture_at z y))) ≡ true
 plate_given z m y e = fourth (is_party m y) (owns z m y) (not (zone_at z y).flag) (is_some (transfer_given z m y)) (give_done z m y (done_none (give_refusal z m y) e)).0
 
-pub plate_worked : (z : ModelState) (m : Machine) (from to : Place) → reply z m Advance ≡ Done → work_of m ≡ Some (from, to) → is_full z from ≡ true
+pub plate_worked : (z : ModelState) (m : Machine) (from to : Place) → reply z m Advance ≡ Done → own_move_of m ≡ Some (from, to) → is_full z from ≡ true
 plate_worked z m from to e way =
-    let way' = work_of m in
+    let way' = own_move_of m in
     let r3 = has_no_work m or press_unowned z m or not_at_work z m in
     let r4 = r3 or nothing_to_work z way' in
     let r5 = r4 or no_room_for_work z way' in

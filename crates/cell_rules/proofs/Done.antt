@@ -12,7 +12,7 @@ use Rattle.cell_types.specs.declared.answer.Refusal.{Refusal}
 use Rattle.cell_types.specs.declared.answer.Refusal.TheVariants.{Held, NoPose}
 use Rattle.cell_types.specs.Tables.{guest_of, transfer_of}
 use Rattle.cell_types.specs.Same.{same_machine, same_posture}
-use Rattle.cell_types.specs.Ways.{work_of}
+use Rattle.cell_types.specs.Ways.{own_move_of}
 use Rattle.cell_rules.specs.declared.zones.ZoneState.{ZoneState}
 use Rattle.cell_rules.specs.ModelState.{ModelState, zone_at}
 use Rattle.cell_rules.specs.Sound.{is_open, is_party, is_owned_by}
@@ -168,9 +168,9 @@ some_way None e = cc
 some_way (Some way) e = refl
 
 pub advance_done : (s : ModelState) (m : Machine) → Refusals.advance_refusal s m ≡ None
-    → (is_some (work_of m) ≡ true) × (Refusals.press_unowned s m ≡ None) × (Refusals.is_at_work s m ≡ true) × (s.stamp < 1048575)
+    → (is_some (own_move_of m) ≡ true) × (Refusals.press_unowned s m ≡ None) × (Refusals.is_at_work s m ≡ true) × (s.stamp < 1048575)
 advance_done s m e =
-    let way = work_of m in
+    let way = own_move_of m in
     let r1 = Refusals.has_no_work m in
     let r2 = Refusals.◌or◌ r1 (Refusals.press_unowned s m) in
     let r3 = Refusals.◌or◌ r2 (Refusals.not_at_work s m) in

@@ -15,7 +15,7 @@ use Rattle.cell_types.specs.declared.pose.Pose.TheVariants.{Turning, Loading, Un
 use Rattle.cell_types.specs.declared.answer.Refusal.{Refusal}
 use Rattle.cell_types.specs.declared.answer.Refusal.TheVariants.{NotOwner, PlateInZone, NoPlate, PlaceFull, Jump, NotAtWork, NoPose, Worn}
 use Rattle.cell_types.specs.Same.{same_machine, same_zone, same_posture, same_pose}
-use Rattle.cell_types.specs.Ways.{work_of}
+use Rattle.cell_types.specs.Ways.{own_move_of}
 use Rattle.cell_rules.specs.ModelState.{ModelState, is_full}
 use Rattle.cell_rules.specs.Refusals
 use Rattle.cell_rules.specs.Refusals.{◌or◌, owner_of, posture_at, owns, first_zone}
@@ -306,7 +306,7 @@ advance_named s m PlaceFull k = refl
 advance_named s m Worn k = refl
 advance_named s m _ k = cc
 
-work_tells : (s : ModelState) (m : Machine) (a b : Place) → s.stamp ≤ 1048575 → work_of m ≡ Some (a, b) → advance_cause s m NoPose ≡ false → ((o : Option Machine) → advance_cause s m (NotOwner o) ≡ (same_machine m Press && not (owns s Press Z3) && option_eq same_machine (owner_of s Z3) o))
+work_tells : (s : ModelState) (m : Machine) (a b : Place) → s.stamp ≤ 1048575 → own_move_of m ≡ Some (a, b) → advance_cause s m NoPose ≡ false → ((o : Option Machine) → advance_cause s m (NotOwner o) ≡ (same_machine m Press && not (owns s Press Z3) && option_eq same_machine (owner_of s Z3) o))
     → advance_cause s m NotAtWork ≡ not (Refusals.is_at_work s m) → advance_cause s m NoPlate ≡ not (is_full s a) → advance_cause s m PlaceFull ≡ is_full s b → TellsRight (advance_cause s m) (12 ∷ 5 ∷ 11 ∷ 7 ∷ 8 ∷ 13 ∷ []) (Refusals.advance_refusal s m)
 work_tells s m a b small way none owner idle from to =
     let causes = advance_cause s m in

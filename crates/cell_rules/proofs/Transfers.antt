@@ -7,7 +7,7 @@ use Rattle.cell_types.specs.declared.place.Place.{Place}
 use Rattle.cell_types.specs.declared.answer.Refusal.TheVariants.{NoPlate, PlaceFull, PlateInZone}
 use Rattle.cell_types.specs.Tables.{transfer_of}
 use Rattle.cell_types.specs.Same.{same_machine}
-use Rattle.cell_types.specs.Ways.{work_of}
+use Rattle.cell_types.specs.Ways.{own_move_of}
 use Rattle.cell_rules.specs.ModelState.{ModelState, zone_at, is_full}
 use Rattle.cell_rules.specs.Sound.{IsSound, is_party, is_owned_by, is_received_by, is_onto_full}
 use Rattle.cell_rules.specs.Refusals
@@ -72,17 +72,17 @@ take_finds s m z h e =
 -- ---- an advance: the plate is at its start and the end is empty
 pub record Works (s : ModelState) (m : Machine) : Type 0 where
   pub way : Place × Place
-  pub work : work_of m ≡ Some way
+  pub work : own_move_of m ≡ Some way
   pub there : is_full s way.0 ≡ true
   pub room : is_full s way.1 ≡ false
 
-works_by : (s : ModelState) (m : Machine) (way : Option (Place × Place)) → work_of m ≡ way → is_some way ≡ true → Refusals.nothing_to_work s way ≡ None → Refusals.no_room_for_work s way ≡ None → Works s m
+works_by : (s : ModelState) (m : Machine) (way : Option (Place × Place)) → own_move_of m ≡ way → is_some way ≡ true → Refusals.nothing_to_work s way ≡ None → Refusals.no_room_for_work s way ≡ None → Works s m
 works_by s m None work some there room = cc
 works_by s m (Some way) work some there room = record { way = way; work = work; there = none_then_not (is_full s way.0) NoPlate there; room = none_then (is_full s way.1) PlaceFull room }
 
 pub advance_finds : (s : ModelState) (m : Machine) → Refusals.advance_refusal s m ≡ None → Works s m
 advance_finds s m e =
-    let way = work_of m in
+    let way = own_move_of m in
     let r3 = Refusals.◌or◌ (Refusals.◌or◌ (Refusals.has_no_work m) (Refusals.press_unowned s m)) (Refusals.not_at_work s m) in
     let r4 = Refusals.◌or◌ r3 (Refusals.nothing_to_work s way) in
     let h5 = none_or (Refusals.◌or◌ r4 (Refusals.no_room_for_work s way)) (Refusals.worn s) e in

@@ -19,7 +19,7 @@ use Rattle.cell_types.specs.declared.posture.Posture.TheVariants.{Closed, Moving
 use Rattle.cell_types.specs.Tables.{posture_of, transfer_of}
 use Rattle.cell_rules.specs.Sound.{is_party}
 use Rattle.cell_rules.specs.Refusals.{owns, posture_at}
-use Rattle.cell_types.specs.Ways.{work_of}
+use Rattle.cell_types.specs.Ways.{own_move_of}
 use Rattle.cell_rules.specs.Reply.{reply, next, other_party, is_belt_of}
 
 -- the state after a history
@@ -133,12 +133,12 @@ is_place (Some q) p = same_place q p
 -- the places that a call empties and fills
 abbrev pub empties : Machine → Call → Place → Bool
 empties n (Give z) p = is_place (given_place n z) p
-empties n Advance p = is_place (option_map (λ way. way.0) (work_of n)) p
+empties n Advance p = is_place (option_map (λ way. way.0) (own_move_of n)) p
 empties n _ p = false
 
 abbrev pub fills : Machine → Call → Place → Bool
 fills n (Take z) p = is_place (taken_place n z) p
-fills n Advance p = is_place (option_map (λ way. way.1) (work_of n)) p
+fills n Advance p = is_place (option_map (λ way. way.1) (own_move_of n)) p
 fills n _ p = false
 
 abbrev pub is_filled_by : Place → Event → Bool

@@ -18,7 +18,7 @@ use Rattle.cell_types.specs.declared.answer.Refusal.{Refusal}
 use Rattle.cell_types.specs.declared.answer.Refusal.TheVariants.{NotParty, Held, AlreadyMine, Shut, NotOwner, PlateInZone, NoPlate, PlaceFull, WrongWay, Jump, NotAtWork, NoPose, Worn, InUse}
 use Rattle.cell_types.specs.Everything.{all_zones}
 use Rattle.cell_types.specs.Tables.{host_of, guest_of, transfer_of, posture_of}
-use Rattle.cell_types.specs.Ways.{work_of}
+use Rattle.cell_types.specs.Ways.{own_move_of}
 use Rattle.cell_types.specs.Same.{same_machine, same_posture, same_zone, same_pose}
 use Rattle.cell_rules.specs.ModelState.{ModelState, zone_at, is_full, last_stamp}
 use Rattle.cell_rules.specs.Sound.{is_open, is_owned_by, is_party, is_onto_full}
@@ -170,7 +170,7 @@ runs_onto_plate s m p =
     then_some (same_pose p Running && ((same_machine m Deposit && is_full s DepEnd) || (same_machine m Feed && is_full s FeedEnd && not (owns s Feed Z1)))) PlaceFull
 
 abbrev pub has_no_work : Machine → Option Refusal
-has_no_work m = then_some (is_none (work_of m)) NoPose
+has_no_work m = then_some (is_none (own_move_of m)) NoPose
 
 abbrev pub press_unowned : ModelState → Machine → Option Refusal
 press_unowned s m = then_some (same_machine m Press && not (owns s Press Z3)) (NotOwner (owner_of s Z3))
@@ -258,6 +258,6 @@ advance_refusal s m =
     has_no_work m
     or press_unowned s m
     or not_at_work s m
-    or nothing_to_work s (work_of m)
-    or no_room_for_work s (work_of m)
+    or nothing_to_work s (own_move_of m)
+    or no_room_for_work s (own_move_of m)
     or worn s

@@ -14,7 +14,7 @@ use Rattle.cell_types.specs.declared.answer.Answer.{Answer}
 use Rattle.cell_types.specs.declared.answer.Answer.TheVariants.{Done, Shown, Refused}
 use Rattle.cell_types.specs.Tables.{host_of, guest_of, transfer_of, posture_of}
 use Rattle.cell_types.specs.Same.{same_machine}
-use Rattle.cell_types.specs.Ways.{work_of}
+use Rattle.cell_types.specs.Ways.{own_move_of}
 use Rattle.cell_rules.specs.declared.zones.ZoneState.{ZoneState}
 use Rattle.cell_rules.specs.ZoneMap.{ZoneMap, put_zone, map_zones}
 use Rattle.cell_rules.specs.PlaceSet.{PlaceSet, insert_place, remove_place}
@@ -88,7 +88,7 @@ zones_after s m (Inquire z) = s.zones
 abbrev pub places_after : ModelState → Machine → Call → PlaceSet
 places_after s m (Give z) = emptied s.full (transfer_given s m z)
 places_after s m (Take z) = filled s.full (transfer_of z (posture_at s z))
-places_after s m Advance = worked s.full (work_of m)
+places_after s m Advance = worked s.full (own_move_of m)
 places_after s m _ = s.full
 
 -- the state after a call that is Done

@@ -4,7 +4,9 @@ ghost use Rattle.cell_rules.specs.Refusals as refusals;
 
 use crate::sound::is_onto_full;
 use crate::state::State;
-use cell_types::{Machine, Place, Pose, Posture, Refusal, Zone, host, posture_in, transfer, work};
+use cell_types::{
+    Machine, Place, Pose, Posture, Refusal, Zone, host, own_move, posture_in, transfer,
+};
 
 /// Whether a machine has a pose: it gives some zone a posture.
 fn has_pose(machine: Machine, pose: Pose) -> bool
@@ -30,7 +32,7 @@ fn passes_through_moving(machine: Machine) -> bool
 fn has_no_work(machine: Machine) -> Option<Refusal>
     ensures { result ≡ refusals.has_no_work machine }
 {
-    work(machine).is_none().then_some(Refusal::NoPose)
+    own_move(machine).is_none().then_some(Refusal::NoPose)
 }
 
 impl State {
@@ -203,8 +205,8 @@ impl State {
         has_no_work(machine)
             .or(self.press_unowned(machine))
             .or(self.not_at_work(machine))
-            .or(self.nothing_to_work(work(machine)))
-            .or(self.no_room_for_work(work(machine)))
+            .or(self.nothing_to_work(own_move(machine)))
+            .or(self.no_room_for_work(own_move(machine)))
             .or(self.worn_refusal())
     }
 }

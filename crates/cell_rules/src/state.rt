@@ -11,7 +11,7 @@ use crate::places::Places;
 use crate::sound::is_sound;
 use crate::stamp::LAST_STAMP;
 use crate::zones::{ZoneState, Zones};
-use cell_types::{Call, Machine, Place, Posture, Zone, transfer, work};
+use cell_types::{Call, Machine, Place, Posture, Zone, own_move, transfer};
 use std::marker::Model;
 
 /// A state of the interlock.
@@ -170,7 +170,7 @@ impl State {
         match call {
             Call::Give(zone) => self.full.after_give(self.transfer_given(machine, zone)),
             Call::Take(zone) => self.full.after_take(transfer(zone, self.posture(zone))),
-            Call::Advance => self.full.after_work(work(machine)),
+            Call::Advance => self.full.after_work(own_move(machine)),
             _ => self.full,
         }
     }

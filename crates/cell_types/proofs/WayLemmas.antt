@@ -6,7 +6,7 @@ use Rattle.cell_types.specs.declared.zone.Zone.TheVariants.{Z3}
 use Rattle.cell_types.specs.declared.place.Place.TheVariants.{FeedEntry, FeedEnd, Table, Arm1, PressIn, PressOut, Arm2, DepEntry, DepEnd, Crane}
 use Rattle.cell_types.specs.declared.posture.Posture.{Posture}
 use Rattle.cell_types.specs.declared.posture.Posture.TheVariants.{OpenIn, OpenOut}
-use Rattle.cell_types.specs.Ways.{GoesRound, JoinsKeepers, OneRowEach, all_ways, keeper_of, work_of}
+use Rattle.cell_types.specs.Ways.{GoesRound, JoinsKeepers, OneRowEach, all_ways, keeper_of, own_move_of}
 use Rattle.cell_types.specs.Tables.{transfer_of}
 use Rattle.cell_types.specs.Same.{same_place}
 use Rattle.cell_types.specs.declared.place.Place.{Place}
@@ -27,11 +27,11 @@ one_row_each = record { giver = giver_row; receiver = receiver_row }
 joined : (z : Zone) (q : Posture) → IfSome (transfer_of z q) (λ row. (keeper_of row.from ≡ row.giver) × (keeper_of row.to ≡ row.receiver))
 joined _ _ = search rules
 
-worked : (m : Machine) → IfSome (work_of m) (λ way. (keeper_of way.0 ≡ m) × (keeper_of way.1 ≡ m))
-worked _ = search rules
+moved : (m : Machine) → IfSome (own_move_of m) (λ way. (keeper_of way.0 ≡ m) × (keeper_of way.1 ≡ m))
+moved _ = search rules
 
 pub joins_keepers : JoinsKeepers
-joins_keepers = record { row = joined; work = worked }
+joins_keepers = record { row = joined; own_move = moved }
 
 left : (p : Place) → count_by (λ way. same_place way.0 p) all_ways ≡ 1
 left FeedEntry = refl

@@ -13,11 +13,11 @@ use Rattle.cell_types.specs.Same.{same_place}
 use Rattle.cell_types.specs.Tables.{transfer_of}
 
 -- the way of a plate along a belt, or from loaded to forged
-abbrev pub work_of : Machine → Option (Place × Place)
-work_of Feed = Some (FeedEntry, FeedEnd)
-work_of Deposit = Some (DepEntry, DepEnd)
-work_of Press = Some (PressIn, PressOut)
-work_of _ = None
+abbrev pub own_move_of : Machine → Option (Place × Place)
+own_move_of Feed = Some (FeedEntry, FeedEnd)
+own_move_of Deposit = Some (DepEntry, DepEnd)
+own_move_of Press = Some (PressIn, PressOut)
+own_move_of _ = None
 
 -- the machine that a place belongs to: its Take, Give or Advance changes it
 abbrev pub keeper_of : Place → Machine
@@ -42,14 +42,16 @@ pub record OneRowEach : Type 0 where
 -- own
 pub record JoinsKeepers : Type 0 where
   pub row : (z : Zone) (q : Posture) → IfSome (transfer_of z q) (λ row. (keeper_of row.from ≡ row.giver) × (keeper_of row.to ≡ row.receiver))
-  pub work : (m : Machine) → IfSome (work_of m) (λ way. (keeper_of way.0 ≡ m) × (keeper_of way.1 ≡ m))
+  pub own_move : (m : Machine) → IfSome (own_move_of m) (λ way. (keeper_of way.0 ≡ m) × (keeper_of way.1 ≡ m))
 
 -- the places where a row begins and ends
 abbrev pub way_of : Transfer → Place × Place
 way_of row = (row.from, row.to)
 
 abbrev pub all_ways : List (Place × Place)
-all_ways = flat_map (λ z. filter_map (λ q. option_map way_of (transfer_of z q)) all_postures) all_zones ++ filter_map work_of all_machines
+all_ways =
+    flat_map (λ z. filter_map (λ q. option_map way_of (transfer_of z q)) all_postures) all_zones
+    ++ filter_map own_move_of all_machines
 
 -- plates go round: exactly one way leaves each place, and one enters it
 pub record GoesRound : Type 0 where

@@ -2,7 +2,7 @@
 
 ghost use Rattle.std.specs.Prelude.{◌≡◌};
 ghost use Rattle.cell_types.specs.Tables.{host_of, guest_of, transfer_of, posture_of};
-ghost use Rattle.cell_types.specs.Ways.{work_of};
+ghost use Rattle.cell_types.specs.Ways.{own_move_of};
 
 use crate::machine::Machine;
 use crate::place::Place;
@@ -88,8 +88,8 @@ pub fn posture_in(machine: Machine, pose: Pose, zone: Zone) -> Option<Posture>
 
 /// The way of a plate by a machine's own work: along a belt, or in the press from loaded to forged; `None`
 /// for other machines.
-pub fn work(machine: Machine) -> Option<(Place, Place)>
-    ensures { result ≡ work_of machine }
+pub fn own_move(machine: Machine) -> Option<(Place, Place)>
+    ensures { result ≡ own_move_of machine }
 {
     match machine {
         Machine::Feed => Some((Place::FeedEntry, Place::FeedEnd)),

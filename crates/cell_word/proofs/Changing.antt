@@ -13,7 +13,7 @@ use Rattle.cell_types.specs.declared.call.Call.{Call}
 use Rattle.cell_types.specs.declared.call.Call.TheVariants.{Claim, Give, Yield, Take, Release, SetPose, Advance, Inquire}
 use Rattle.cell_types.specs.declared.answer.Answer.TheVariants.{Done}
 use Rattle.cell_types.specs.Tables.{transfer_of, posture_of}
-use Rattle.cell_types.specs.Ways.{work_of}
+use Rattle.cell_types.specs.Ways.{own_move_of}
 use Rattle.cell_types.specs.Same.{same_machine, same_zone, same_place, one_machine}
 use Rattle.cell_rules.specs.declared.zones.ZoneState.{ZoneState}
 use Rattle.cell_rules.specs.ZoneMap.{zone_in, put_zone}
@@ -333,7 +333,7 @@ worked_has full None at = refl
 worked_has full (Some way) at = has-put _ true way.1 at ∙ ap (cond (same_place way.1 at) true) (has-put full false way.0 at)
 
 abbrev work_place : Machine → Pattern → Place → Bool → Bool
-work_place m p at b = nat_eq (in_place p at (one_if b)) (one_if (worked_at (work_of m) at b))
+work_place m p at b = nat_eq (in_place p at (one_if b)) (one_if (worked_at (own_move_of m) at b))
 
 abbrev work_change : Machine → Pattern → Bool
 work_change m p = is_low p && (all_zones (λ z. halted_test p z (is_belt_of m z)) && all_places (λ at. all_bools (work_place m p at)))
@@ -354,11 +354,11 @@ advance_written s sound m e =
     let places = all_places (λ at. all_bools (work_place m p at)) in
     let rest = and_right low (zones && places) tests in
     let small = fresh s (none_or _ (Refusals.worn s) e).1 in
-    let at_place : (at : Place) → in_place p at (one_if (is_full s at)) ≡ one_if (worked_at (work_of m) at (is_full s at)) =
-    λ at. eqb-true (in_place p at (one_if (is_full s at))) (one_if (worked_at (work_of m) at (is_full s at))) (from_bools (work_place m p at) (from_places (λ at. all_bools (work_place m p at)) (and_right zones places rest) at) (is_full s at)) in
+    let at_place : (at : Place) → in_place p at (one_if (is_full s at)) ≡ one_if (worked_at (own_move_of m) at (is_full s at)) =
+    λ at. eqb-true (in_place p at (one_if (is_full s at))) (one_if (worked_at (own_move_of m) at (is_full s at))) (from_bools (work_place m p at) (from_places (λ at. all_bools (work_place m p at)) (and_right zones places rest) at) (is_full s at)) in
     by_parts s (changed s m Advance) p sound (and_left low (zones && places) tests) small refl
     (λ z. halted_zone p z (zone_at s z) (is_belt_of m z) (from_zones (λ z. halted_test p z (is_belt_of m z)) (and_left zones places rest) z) ∙ ap (zone_code z) (sym (zone_in-map (halted m) s.zones z)))
-    (λ at. at_place at ∙ ap one_if (sym (worked_has s.full (work_of m) at)))
+    (λ at. at_place at ∙ ap one_if (sym (worked_has s.full (own_move_of m) at)))
 
 -- ---- of every call
 changed_written : (s : ModelState) → IsSound s → (m : Machine) (c : Call) → reply s m c ≡ Done → packed (changed s m c) ≡ with_written (packed s) (written m c).mask (written m c).wanted + 2 ^ 40

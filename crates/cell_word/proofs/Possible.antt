@@ -14,7 +14,7 @@ use Rattle.cell_types.specs.declared.answer.Answer.{Answer}
 use Rattle.cell_types.specs.declared.answer.Answer.TheVariants.{Done, Shown, Refused}
 use Rattle.cell_types.specs.Tables.{host_of, transfer_of}
 use Rattle.cell_types.specs.Same.{same_machine}
-use Rattle.cell_types.specs.Ways.{work_of}
+use Rattle.cell_types.specs.Ways.{own_move_of}
 use Rattle.cell_rules.specs.declared.zones.ZoneState.{ZoneState}
 use Rattle.cell_rules.specs.ZoneMap.{put_zone, map_zones, everywhere, free_zone}
 use Rattle.cell_rules.specs.PlaceSet.{PlaceSet, empty, insert_place}
@@ -97,7 +97,7 @@ example m (Yield z) = with_zone z (at (Some m) false (way_of (transfer_of z Open
 example m (Take z) = with_zone z (at (Some m) true (way_of (received_by m (transfer_of z OpenIn)))) empty
 example m (Release z) = with_zone z (at (Some m) false (way_of (transfer_of z OpenIn))) empty
 example m (SetPose p) = hosting m Moving empty
-example m Advance = hosting m (if same_machine m Press then Closed else Moving) (begun (work_of m))
+example m Advance = hosting m (if same_machine m Press then Closed else Moving) (begun (own_move_of m))
 example m (Inquire z) = hosting m Closed empty
 
 abbrev is_done : Answer → Bool

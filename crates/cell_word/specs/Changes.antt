@@ -12,7 +12,7 @@ use Rattle.cell_types.specs.declared.posture.Posture.TheVariants.{Closed, OpenIn
 use Rattle.cell_types.specs.declared.call.Call.{Call}
 use Rattle.cell_types.specs.declared.call.Call.TheVariants.{Claim, Give, Yield, Take, Release, SetPose, Advance, Inquire}
 use Rattle.cell_types.specs.Tables.{transfer_of}
-use Rattle.cell_types.specs.Ways.{work_of}
+use Rattle.cell_types.specs.Ways.{own_move_of}
 use Rattle.cell_types.specs.Same.{same_machine}
 use Rattle.cell_rules.specs.Sound.{is_party}
 use Rattle.cell_rules.specs.Reply.{other_party}
@@ -60,5 +60,5 @@ written m (Yield z) = owner_becomes m z (Some (other_party m z))
 written m (Take z) = take_pattern z (row_received m z)
 written m (Release z) = owner_becomes m z None
 written m (SetPose p) = both (posture_pattern (posed_at m p (hosted_zones m).0)) (posture_pattern (posed_at m p (hosted_zones m).1))
-written m Advance = both (move_pattern (work_of m)) (halt_pattern m)
+written m Advance = both (move_pattern (own_move_of m)) (halt_pattern m)
 written m (Inquire z) = anything

@@ -13,7 +13,7 @@ ghost use Rattle.cell_word.specs.Parties as parties;
 use crate::parties::{Party, party_of, row_given, row_received};
 use crate::patterns::Pattern;
 use crate::pose_guards::{hosted_zones, posed_at};
-use cell_types::{Call, Machine, Place, Pose, Posture, Transfer, Zone, work};
+use cell_types::{Call, Machine, Place, Pose, Posture, Transfer, Zone, own_move};
 
 /// What a give writes: the plate is in the zone, and the zone belongs to the other party.
 #[inline(always)]
@@ -83,7 +83,7 @@ fn halt_pattern(machine: Machine) -> Pattern
 pub(crate) fn advance_pattern(machine: Machine) -> Pattern
     ensures { result ≡ changes.written machine calls.Advance }
 {
-    move_pattern(work(machine)).and(halt_pattern(machine))
+    move_pattern(own_move(machine)).and(halt_pattern(machine))
 }
 
 fn pose_pattern(machine: Machine, pose: Pose) -> Pattern
