@@ -1,6 +1,6 @@
 //! What notebooks keep of calls, and the words of statuses.
 
-use cell_notes::{Asked, Counts, Notebook, Status, asked_between, done_event};
+use cell_notes::{Counts, Notebook, Status, TurnCall, done_event, turn_call_between};
 use cell_rules::{Answered, Heard};
 use cell_types::{Answer, Call, Entry, Event, Machine, Posture, Refusal, Reply, Zone};
 
@@ -17,7 +17,7 @@ const SHOWN: Answer = Answer::Shown {
 const HELD: Answer = Answer::Refused(Refusal::Held(Machine::Robot));
 
 // A turn that asks nothing, an inquiry, and a busy, a refused and a done claim.
-const ASKED: &[Asked] = &[
+const ASKED: &[TurnCall] = &[
     None,
     Some((INQUIRE, Ok(Reply::Settled(SHOWN, 7)))),
     Some((CLAIM, Ok(Reply::Busy { lost: 1, stamp: 7 }))),
@@ -73,8 +73,8 @@ const CLAIMED: Event = Event {
 #[test]
 fn what_was_asked_is_heard(rt: HostRuntime) {
     let before = Heard::nothing();
-    let asked = asked_between(before, before.after(CLAIM, ANSWERED));
-    assert!(rt; asked_between(before, before).is_none());
+    let asked = turn_call_between(before, before.after(CLAIM, ANSWERED));
+    assert!(rt; turn_call_between(before, before).is_none());
     assert!(rt; asked == Some((CLAIM, ANSWERED)));
     assert!(rt; done_event(Machine::Press, asked) == Some(CLAIMED));
     assert!(rt; done_event(Machine::Press, None).is_none());

@@ -4,7 +4,7 @@ use super::common::EMPTY;
 use super::full_line::FullLine;
 use cell_calib::SensorFault;
 use cell_control::{Controller, CtlFault, Part, Program};
-use cell_notes::{Asked, Counts, Notebook, Status};
+use cell_notes::{Counts, Notebook, Status, TurnCall};
 use cell_rules::{Bench, Line, LineFault, State};
 use cell_types::{Call, Event, Machine, Posture, Refusal, Zone};
 use cell_unit::{MachineUnit, status_of, take_bench_turn};
@@ -214,7 +214,7 @@ fn a_unit_that_has_stopped_is_passed_over(rt: HostRuntime) {
 }
 
 // What it asks on a line that is out of memory, what in its next turn, and its state after that.
-fn asked_out_of_memory(start: State) -> (Asked, Asked, u64, Status, (bool, bool)) {
+fn asked_out_of_memory(start: State) -> (TurnCall, TurnCall, u64, Status, (bool, bool)) {
     let mut line = FullLine::new(Machine::Press, start);
     let mut unit = MachineUnit {
         controller: Controller::new(&start, ClaimThenLight),
@@ -238,7 +238,7 @@ fn asked_out_of_memory(start: State) -> (Asked, Asked, u64, Status, (bool, bool)
 #[test]
 fn a_unit_that_gets_no_memory_stops(rt: HostRuntime) {
     let start = State::start(EMPTY, 0).expect(&rt, "a start");
-    let refused: Asked = Some((Call::Claim(Zone::Z3), Err(LineFault::Memory)));
+    let refused: TurnCall = Some((Call::Claim(Zone::Z3), Err(LineFault::Memory)));
     let end = (refused, None, 1, Status::Memory, (false, false));
     assert!(rt; asked_out_of_memory(start) == end);
 }

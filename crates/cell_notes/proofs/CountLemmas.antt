@@ -2,7 +2,7 @@
 use Rattle.std.proofs.Common.{ℕ, ◌+◌, ◌<◌, Bool, true, false, arith}
 use Rattle.cell_rules.specs.ModelState.{one_if}
 use Rattle.cell_notes.specs.declared.counts.Counts.{Counts}
-use Rattle.cell_notes.specs.Asks.{Asked, came_back, is_done_reply, is_read_reply, is_refused_reply, is_busy_reply}
+use Rattle.cell_notes.specs.Asks.{TurnCall, came_back, is_done_reply, is_read_reply, is_refused_reply, is_busy_reply}
 use Rattle.cell_notes.specs.Notes.{no_counts, counts_with, AreBelow}
 
 pub none_below : AreBelow 1 no_counts
@@ -12,7 +12,7 @@ one_more : (b : Bool) (k n : ℕ) → k < n → k + one_if b < n + 1
 one_more true k n e = omega (arith, e)
 one_more false k n e = omega (arith, e)
 
-pub below_with : (n : ℕ) (c : Counts) (asked : Asked) → AreBelow n c → AreBelow (n + 1) (counts_with c asked)
+pub below_with : (n : ℕ) (c : Counts) (asked : TurnCall) → AreBelow n c → AreBelow (n + 1) (counts_with c asked)
 below_with n c asked k =
     record {
       turns = omega (arith, k.turns);

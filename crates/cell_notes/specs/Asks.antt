@@ -11,15 +11,15 @@ use Rattle.cell_rules.specs.declared.heard.LineFault.{LineFault}
 use Rattle.cell_rules.specs.Seen.{event}
 
 -- the call of a turn, if there was one, and what came back
-abbrev pub Asked : Type 0
-Asked = Option (Call × Result Reply LineFault)
+abbrev pub TurnCall : Type 0
+TurnCall = Option (Call × Result Reply LineFault)
 
 -- the event of a machine's call if it was done: the machine's part notes it
 abbrev pub done_by : Machine → Call → Result Reply LineFault → Option Event
 done_by m c (Ok (Settled Done stamp)) = Some (event m c Done)
 done_by m c _ = None
 
-abbrev pub done_in : Machine → Asked → Option Event
+abbrev pub done_in : Machine → TurnCall → Option Event
 done_in m None = None
 done_in m (Some call) = done_by m call.0 call.1
 
@@ -40,7 +40,7 @@ abbrev pub is_busy_reply : Result Reply LineFault → Bool
 is_busy_reply (Ok (Busy lost stamp)) = true
 is_busy_reply _ = false
 
-abbrev pub came_back : (Result Reply LineFault → Bool) → Asked → Bool
+abbrev pub came_back : (Result Reply LineFault → Bool) → TurnCall → Bool
 came_back test None = false
 came_back test (Some call) = test call.1
 
@@ -50,7 +50,7 @@ settled_by m c (Ok (Settled a stamp)) = event m c a ∷ []
 settled_by m c (Ok (Busy lost stamp)) = []
 settled_by m c (Err fault) = []
 
-abbrev pub settled_in : Machine → Asked → List Event
+abbrev pub settled_in : Machine → TurnCall → List Event
 settled_in m None = []
 settled_in m (Some call) = settled_by m call.0 call.1
 
@@ -60,6 +60,6 @@ entries_by c (Ok (Settled a stamp)) = record { call = c; answer = a; stamp = sta
 entries_by c (Ok (Busy lost stamp)) = []
 entries_by c (Err fault) = []
 
-abbrev pub entries_in : Asked → List Entry
+abbrev pub entries_in : TurnCall → List Entry
 entries_in None = []
 entries_in (Some call) = entries_by call.0 call.1

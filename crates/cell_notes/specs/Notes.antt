@@ -4,7 +4,7 @@ use Rattle.cell_types.specs.declared.journal.Entry.{Entry}
 use Rattle.cell_rules.specs.ModelState.{one_if}
 use Rattle.cell_notes.specs.declared.counts.Counts.{Counts}
 use Rattle.cell_notes.specs.declared.notebook.Notebook.{Notebook}
-use Rattle.cell_notes.specs.Asks.{Asked, came_back, is_done_reply, is_read_reply, is_refused_reply, is_busy_reply, entries_in}
+use Rattle.cell_notes.specs.Asks.{TurnCall, came_back, is_done_reply, is_read_reply, is_refused_reply, is_busy_reply, entries_in}
 
 -- a machine's counts and its journal
 pub record Notes : Type 0 where
@@ -22,7 +22,7 @@ abbrev pub no_notes : Notes
 no_notes = record { counts = no_counts; journal = [] }
 
 -- after another turn, in which this was asked
-abbrev pub counts_with : Counts → Asked → Counts
+abbrev pub counts_with : Counts → TurnCall → Counts
 counts_with c asked =
     record {
       turns = c.turns + 1;
@@ -32,7 +32,7 @@ counts_with c asked =
       busy = c.busy + one_if (came_back is_busy_reply asked);
     }
 
-abbrev pub notes_with : Notes → Asked → Notes
+abbrev pub notes_with : Notes → TurnCall → Notes
 notes_with n asked = record { counts = counts_with n.counts asked; journal = n.journal ++ entries_in asked }
 
 -- each count is below a number

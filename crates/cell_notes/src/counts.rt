@@ -1,7 +1,7 @@
 ghost use Rattle.std.specs.Prelude.{◌≡◌};
 ghost use Rattle.cell_notes.specs.Notes.{no_counts, counts_with, HasRoom};
 
-use crate::asked::Asked;
+use crate::turn_call::TurnCall;
 use cell_types::{Answer, Reply};
 
 /// A machine's turns and calls in a run, counted.
@@ -34,7 +34,7 @@ impl Counts {
     }
 
     /// The counts after another turn, in which this was asked.
-    pub fn with(self, asked: Asked) -> Counts
+    pub fn with(self, asked: TurnCall) -> Counts
         requires { HasRoom self }
         ensures { result ≡ counts_with self asked }
     {
@@ -45,7 +45,7 @@ impl Counts {
 
     // Counts another turn, in which this was asked. In place, so that no turn copies five counts.
     #[inline(always)]
-    pub(crate) fn add(&mut self, asked: Asked)
+    pub(crate) fn add(&mut self, asked: TurnCall)
         requires { HasRoom self.old }
         ensures { self.new ≡ counts_with self.old asked }
     {

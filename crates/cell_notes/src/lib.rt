@@ -2,17 +2,17 @@
 //! and each machine's status at the end.
 #![tactic(auto)]
 
-pub mod asked;
 pub mod counts;
 pub mod laws;
 pub mod notebook;
 pub mod run_record;
 pub mod schedule;
 pub mod status;
+pub mod turn_call;
 
-pub use asked::{Asked, asked_between, done_event};
 pub use counts::Counts;
 pub use notebook::Notebook;
 pub use run_record::RunRecord;
 pub use schedule::Turn;
 pub use status::Status;
+pub use turn_call::{TurnCall, done_event, turn_call_between};

@@ -1,8 +1,8 @@
 ghost use Rattle.std.specs.Prelude.{◌≡◌, IsOk, OnOk, OnErr};
 ghost use Rattle.cell_notes.specs.Notes.{HasRoom, HasSpare, no_notes, notes_of, notes_with};
 
-use crate::asked::{Asked, entry_of};
 use crate::counts::Counts;
+use crate::turn_call::{TurnCall, entry_of};
 use cell_types::Entry;
 use std::alloc::{AllocError, Global};
 
@@ -38,7 +38,7 @@ impl Notebook {
     /// Notes a turn of its machine, in which this was asked: counts the turn, and appends a settled
     /// call to the journal. If out of memory for the entry, it notes nothing.
     #[inline(always)]
-    pub fn note(&mut self, asked: Asked) -> Result<(), AllocError>
+    pub fn note(&mut self, asked: TurnCall) -> Result<(), AllocError>
         requires { HasRoom self.old.counts }
         ensures noted { OnOk result (notes_of self.new ≡ notes_with (notes_of self.old) asked) }
         ensures failed { OnErr result (notes_of self.new ≡ notes_of self.old) }

@@ -9,8 +9,8 @@ use Rattle.cell_control.specs.declared.fault.CtlFault.{CtlFault}
 use Rattle.cell_control.specs.Rigs.{Rig}
 use Rattle.cell_control.specs.Steps.{Steps}
 use Rattle.cell_control.specs.Turns.{Performed, Turned, Turns, turned}
-use Rattle.cell_notes.specs.Asks.{Asked, done_in}
-use Rattle.cell_unit.specs.Sides.{Side, Acts, ActsAndMoves, act_or_rest, noting, part_set}
+use Rattle.cell_notes.specs.Asks.{TurnCall, done_in}
+use Rattle.cell_seat.specs.Sides.{Side, Acts, ActsAndMoves, act_or_rest, noting, part_set}
 use Rattle.cell_parts.specs.Axes.{CellScales}
 use Rattle.cell_plant.specs.CellStates.{SideOf}
 use Rattle.cell_plant.specs.Machines.{ProgressOf, PartOf, steps_of, rig_of}
@@ -26,7 +26,7 @@ module _ {S Sense Reading Act : Type 0} (t : Steps S Sense Reading Act) (same : 
   turn_rests (Some cause) p s w fault k e = subst (λ x. act_or_rest (t.rest p) x.result ≡ t.rest p) (sym k.1) refl
 
 module _ {S Sense Reading Act State : Type 0} (t : Steps S Sense Reading Act) (rig : Rig State Sense Act) (same : Type 0) (asks : Call → Result Reply LineFault → Type 0) where
-  set_to_rest : (before set : Side S State) (asked : Asked) (fault : CtlFault) → Acts t rig same asks before asked set → set.stopped ≡ Some fault → set.part ≡ part_set t rig before.part asked (t.rest before.progress)
+  set_to_rest : (before set : Side S State) (asked : TurnCall) (fault : CtlFault) → Acts t rig same asks before asked set → set.stopped ≡ Some fault → set.part ≡ part_set t rig before.part asked (t.rest before.progress)
   set_to_rest before set asked fault k e =
       ap (λ x. x.part) k.is ∙ ap (part_set t rig before.part asked) (turn_rests t (same × (asked ≡ None)) (λ c r. asks c r × (asked ≡ Some (c, r))) before.stopped before.progress k.sense k.turned fault k.row (sym (ap (λ x. x.stopped) k.is) ∙ e))
 
@@ -49,7 +49,7 @@ module _ (c : CellScales) where
   moved_at_rest Crane p b = record { travel = refl; gripper = refl; magnet = refl }
   moved_at_rest Watch p b = tt
 
-  module _ (m : Machine) (same : Type 0) (asks : Call → Result Reply LineFault → Type 0) (before : SideOf m) (asked : Asked) (fault : CtlFault) where
+  module _ (m : Machine) (same : Type 0) (asks : Call → Result Reply LineFault → Type 0) (before : SideOf m) (asked : TurnCall) (fault : CtlFault) where
     abbrev told : PartOf m
     told = noting (rig_of c m) before.part (done_in (steps_of c m).machine asked)
 

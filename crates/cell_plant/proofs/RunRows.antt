@@ -19,11 +19,11 @@ use Rattle.cell_control.specs.Turns.{Performed, PerformsCall, at_rest, turned}
 use Rattle.cell_control.proofs.TurnMaps.{turn_either}
 use Rattle.cell_haul.specs.declared.feed.FeedProgress.{FeedProgress}
 use Rattle.cell_control.specs.declared.fault.CtlFault.TheVariants.{Memory}
-use Rattle.cell_stations.specs.declared.table.TableProgress.{TableProgress}
-use Rattle.cell_stations.specs.declared.press.PressProgress.{PressProgress}
-use Rattle.cell_notes.specs.Asks.{Asked}
-use Rattle.cell_unit.specs.Sides.{Side, side_of, side_set, side_moved}
-use Rattle.cell_unit.specs.UnitTurns.{Answers, Takes}
+use Rattle.cell_stations.specs.declared.table_step.TableProgress.{TableProgress}
+use Rattle.cell_stations.specs.declared.press_step.PressProgress.{PressProgress}
+use Rattle.cell_notes.specs.Asks.{TurnCall}
+use Rattle.cell_seat.specs.Sides.{Side, side_of, side_set, side_moved}
+use Rattle.cell_seat.specs.SeatTurns.{Answers, Takes}
 use Rattle.cell_parts.specs.declared.axis.Axis.{Axis}
 use Rattle.cell_parts.specs.declared.belt.Belt.{Belt}
 use Rattle.cell_parts.specs.Axes.{CellScales}
@@ -43,7 +43,7 @@ takes_call : {S Sense Reading Act State : Type 0} → (t : Steps S Sense Reading
     → rig.shows part sense → t.senses sense (Ok reading) → t.call p ≡ Some c → Answers z t.machine busy c r y → set ≡ side_set t rig (side_of p None part) (Some (c, r)) (turned p (at_rest (t.rest p) (outcome t p r))) → Takes t rig busy z (side_of p None part) (Some (c, r)) y set
 takes_call {S = S} {Act = Act} t rig busy z y p part c r set sense reading shows senses call answers is =
     let done : Performed S Act = at_rest (t.rest p) (outcome t p r) in
-    let asked : Asked = Some (c, r) in
+    let asked : TurnCall = Some (c, r) in
     record {
       sense = sense;
       shows = shows;
@@ -186,14 +186,14 @@ module _ (c : CellScales) where
   -- ---- turns that aren't
 
   -- what a turn asked and got back, by the states of the interlock before and after it
-  abbrev IsAnswered : ModelState → Machine → Bool → Asked → ModelState → Type 0
+  abbrev IsAnswered : ModelState → Machine → Bool → TurnCall → ModelState → Type 0
   IsAnswered z m busy None y = y ≡ z
   IsAnswered z m busy (Some call) y = Answers z m busy call.0 call.1 y
 
   answered : (m : Machine) (busy : Bool) (w : CellState) (s : Step) → TakesTurn c m busy w s → IsAnswered w.interlock (steps_of c m).machine busy s.asked s.set.interlock
   answered m busy w s k =
       let t = steps_of c m in
-      let Is : Asked → Type 0 = λ a. IsAnswered w.interlock t.machine busy a s.set.interlock in
+      let Is : TurnCall → Type 0 = λ a. IsAnswered w.interlock t.machine busy a s.set.interlock in
       turn_either t ((s.set.interlock ≡ w.interlock) × (s.asked ≡ None)) (λ q r. Answers w.interlock t.machine busy q r s.set.interlock × (s.asked ≡ Some (q, r))) (Is s.asked) (λ h. subst Is (sym h.1) h.0) (λ q r h. subst Is (sym h.1) h.0)
       (w.side m).stopped (w.side m).progress k.takes.sense k.takes.turned k.takes.row
 

@@ -23,7 +23,7 @@ use Rattle.cell_rules.proofs.SeenLemmas.{legal-append}
 use Rattle.cell_control.proofs.TurnMaps.{turn_either}
 use Rattle.cell_notes.specs.declared.counts.Counts.{Counts}
 use Rattle.cell_notes.specs.declared.run_record.RunRecord.{RunRecord}
-use Rattle.cell_notes.specs.Asks.{Asked, is_done_reply, is_read_reply, is_refused_reply, is_busy_reply, came_back, settled_in, entries_in}
+use Rattle.cell_notes.specs.Asks.{TurnCall, is_done_reply, is_read_reply, is_refused_reply, is_busy_reply, came_back, settled_in, entries_in}
 use Rattle.cell_notes.specs.Notes.{Notes, no_notes, HasRoom, counts_with, notes_with}
 use Rattle.cell_unit.specs.Statuses.{status_of}
 use Rattle.cell_unit.specs.UnitTurns.{Answers}
@@ -67,7 +67,7 @@ one_counted false = refl
 count-push : (p : Step → Bool) (ss : List Step) (s : Step) → count_by p (ss ++ s ∷ []) ≡ count_by p ss + one_if (p s)
 count-push p ss s = sum_by-append (λ x. cond (p x) 1 0) ss (s ∷ []) ∙ ap (λ n. count_by p ss + n) (sum_by-cons (λ x. cond (p x) 1 0) s [] ∙ one_counted (p s))
 
-abbrev counted : Counts → Bool → Asked → Counts
+abbrev counted : Counts → Bool → TurnCall → Counts
 counted c own asked =
     record {
       turns = c.turns + one_if own;
@@ -77,7 +77,7 @@ counted c own asked =
       busy = c.busy + one_if (own && came_back is_busy_reply asked);
     }
 
-counted_by : (c : Counts) (own : Bool) (asked : Asked) → counted c own asked ≡ (if own then counts_with c asked else c)
+counted_by : (c : Counts) (own : Bool) (asked : TurnCall) → counted c own asked ≡ (if own then counts_with c asked else c)
 counted_by c true asked = refl
 counted_by c false asked = rw (add-zero c.turns, add-zero c.done, add-zero c.read, add-zero c.refused, add-zero c.busy) refl
 
@@ -87,7 +87,7 @@ counts-push ss s m =
     (counted_by (counts_in ss m) (is_turn_of m s) s.asked)
 
 -- the replies of the interlock in a step
-pub record IsAnswered (s : ModelState) (m : Machine) (asked : Asked) (t : ModelState) : Type 0 where
+pub record IsAnswered (s : ModelState) (m : Machine) (asked : TurnCall) (t : ModelState) : Type 0 where
   pub legal : IsLegal s (settled_in m asked)
   pub reached : t ≡ after s (settled_in m asked)
   pub entries : (n : Machine) → noted s (settled_in m asked) n ≡ (if same_machine m n then entries_in asked else [])
@@ -99,7 +99,7 @@ none_noted false es e = e
 abbrev entry_at : Call → Answer → ℕ → Entry
 entry_at c a n = record { call = c; answer = a; stamp = n }
 
-answered_none : (s : ModelState) (m : Machine) (asked : Asked) (t : ModelState) → (t ≡ s) × (asked ≡ None) → IsAnswered s m asked t
+answered_none : (s : ModelState) (m : Machine) (asked : TurnCall) (t : ModelState) → (t ≡ s) × (asked ≡ None) → IsAnswered s m asked t
 answered_none s m asked t k = subst (λ a. IsAnswered s m a t) (sym k.1) (record { legal = tt; reached = k.0; entries = λ n. none_noted (same_machine m n) [] refl })
 
 one_noted : (b : Bool) (s : ModelState) (e : Event) (x : Entry) → entry_of s e ≡ x → cond b (entry_of s e ∷ []) [] ≡ (if b then x ∷ [] else [])
@@ -117,7 +117,7 @@ answered_by s m busy c (Ok (Settled a stamp)) t k =
 answered_by s m busy c (Ok (Busy lost stamp)) t k = record { legal = tt; reached = k.3; entries = λ n. none_noted (same_machine m n) [] refl }
 answered_by s m busy c (Err fault) t k = record { legal = tt; reached = k.1; entries = λ n. none_noted (same_machine m n) [] refl }
 
-answered_once : (s : ModelState) (m : Machine) (busy : Bool) (asked : Asked) (t : ModelState) (c : Call) (r : Result Reply LineFault) → Answers s m busy c r t × (asked ≡ Some (c, r)) → IsAnswered s m asked t
+answered_once : (s : ModelState) (m : Machine) (busy : Bool) (asked : TurnCall) (t : ModelState) (c : Call) (r : Result Reply LineFault) → Answers s m busy c r t × (asked ≡ Some (c, r)) → IsAnswered s m asked t
 answered_once s m busy asked t c r k = subst (λ a. IsAnswered s m a t) (sym k.1) (answered_by s m busy c r t k.0)
 
 answered_taken : (c : CellScales) (m : Machine) (busy : Bool) (w : CellState) (s : Step) → TakesTurn c m busy w s → IsAnswered w.interlock m s.asked s.moved.interlock
@@ -174,11 +174,11 @@ no_notes_yet c opening Watch = refl
 pub at_start : (c : CellScales) (opening : ModelState) → RunSoFar [] (first_moment c opening)
 at_start c opening = record { steps = []; run = tt; is_end = refl; history = refl; reached = refl; counts = λ n. ap (λ (x : Notes). x.counts) (no_notes_yet c opening n); journals = λ n. ap (λ (x : Notes). x.journal) (no_notes_yet c opening n) }
 
-journal_more : (b : Bool) (n : Notes) (asked : Asked) → (if b then notes_with n asked else n).journal ≡ n.journal ++ (if b then entries_in asked else [])
+journal_more : (b : Bool) (n : Notes) (asked : TurnCall) → (if b then notes_with n asked else n).journal ≡ n.journal ++ (if b then entries_in asked else [])
 journal_more true n asked = refl
 journal_more false n asked = sym (append-nil n.journal)
 
-counts_more : (b : Bool) (n : Notes) (asked : Asked) → (if b then notes_with n asked else n).counts ≡ (if b then counts_with n.counts asked else n.counts)
+counts_more : (b : Bool) (n : Notes) (asked : TurnCall) → (if b then notes_with n asked else n).counts ≡ (if b then counts_with n.counts asked else n.counts)
 counts_more true n asked = refl
 counts_more false n asked = refl
 

@@ -26,8 +26,8 @@ use Rattle.cell_robot.specs.declared.robot.RobotReading.{RobotReading}
 use Rattle.cell_robot.specs.RobotProgram.{RobotScales, near_lines, robot_rest, robot_steps}
 use Rattle.cell_stations.specs.PressProgram.{press_steps}
 use Rattle.cell_stations.specs.TableProgram.{table_steps}
-use Rattle.cell_notes.specs.Asks.{Asked, done_in}
-use Rattle.cell_unit.specs.Sides.{Side, noting, act_or_rest, side_set}
+use Rattle.cell_notes.specs.Asks.{TurnCall, done_in}
+use Rattle.cell_seat.specs.Sides.{Side, noting, act_or_rest, side_set}
 use Rattle.cell_parts.specs.Rigs.{table_rig, robot_rig, press_rig, crane_rig}
 use Rattle.cell_parts.specs.Axes.{CellScales, AreCellScales}
 use Rattle.cell_parts.specs.Collisions.{LetsGo, Arm1MayLetGo, Arm2MayLetGo, CraneMayLetGo, PlateFalls, DrivesPastEnd}
@@ -74,7 +74,7 @@ unnoted : {State Sense Act : Type 0} → (rig : Rig State Sense Act) → ((b : S
 unnoted rig k b None = refl
 unnoted rig k b (Some e) = k b e
 
-set_unnoted : {S Sense Reading Act State : Type 0} → (t : Steps S Sense Reading Act) (rig : Rig State Sense Act) → ((b : State) (e : Event) → rig.notes b e ≡ b) → (before : Side S State) (asked : Asked) (turned : Turned S Act) (set : Side S State)
+set_unnoted : {S Sense Reading Act State : Type 0} → (t : Steps S Sense Reading Act) (rig : Rig State Sense Act) → ((b : State) (e : Event) → rig.notes b e ≡ b) → (before : Side S State) (asked : TurnCall) (turned : Turned S Act) (set : Side S State)
     → set ≡ side_set t rig before asked turned → set.part ≡ rig.set before.part (act_or_rest (t.rest before.progress) turned.result)
 set_unnoted t rig k before asked turned set e = ap (λ x. x.part) e ∙ ap (λ b. rig.set b (act_or_rest (t.rest before.progress) turned.result)) (unnoted rig k before.part (done_in t.machine asked))
 

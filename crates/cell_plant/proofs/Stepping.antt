@@ -29,7 +29,7 @@ use Rattle.cell_haul.specs.FeedProgram.{feed_steps}
 use Rattle.cell_stations.specs.PressProgram.{press_steps}
 use Rattle.cell_stations.specs.TableProgram.{Senses, table_steps}
 use Rattle.cell_stations.proofs.TableSenses.{senses_near}
-use Rattle.cell_notes.specs.Asks.{Asked, settled_in}
+use Rattle.cell_notes.specs.Asks.{TurnCall, settled_in}
 use Rattle.cell_notes.specs.Notes.{Notes, notes_with}
 use Rattle.cell_parts.specs.Axes.{RobotScales as PartScales, CellScales}
 use Rattle.cell_parts.specs.Plant.{TablePlant, RobotPlant, CranePlant}
@@ -89,7 +89,7 @@ first_false : (a b : Bool) → a ≡ false → (a && b) ≡ false
 first_false a b e = rw e refl
 
 -- a turn of a working machine leaves everything else as it was
-module _ (m : Machine) (busy : Bool) (before now : RunMoment) (asked : Asked) (controlled : is_at_work m ≡ true)
+module _ (m : Machine) (busy : Bool) (before now : Moment) (asked : TurnCall) (controlled : is_at_work m ≡ true)
     (leads : LeadsAlone (is_none (side_in before.sides m).stopped) (steps_of before.scales m) (rig_of before.scales m) busy before.interlock (side_in before.sides m) asked now.interlock (side_in now.sides m))
     (history : now.history ≡ before.history ++ settled_in m asked)
     (noted : notes_in now.notes m ≡ (if is_none (side_in before.sides m).stopped then notes_with (notes_in before.notes m) asked else notes_in before.notes m))
@@ -212,7 +212,7 @@ pub crane_near : (points : Scale) (gives : ℕ → ℤ → Type 0) (rig : Rig Cr
     → UnitTurn (crane_steps points gives) rig busy old new before now notes notes' → UnitTurn (crane_steps points (IsReading points)) rig busy old new before now notes notes'
 crane_near points gives rig busy old new before now notes notes' k = unit_turn_still (crane_steps points gives) rig (CraneSenses points (IsReading points)) (crane_senses_near points gives) busy old new before now notes notes' k
 
-module _ (before now : RunMoment) (busy : Bool) (asked : Asked) (scales : now.scales ≡ before.scales) (opening : now.opening ≡ before.opening) where
+module _ (before now : Moment) (busy : Bool) (asked : TurnCall) (scales : now.scales ≡ before.scales) (opening : now.opening ≡ before.opening) where
   -- a machine's turn, which changes its own side and leaves the others
   alone_on : (m : Machine) → is_at_work m ≡ true
       → LeadsAlone (is_none (side_in before.sides m).stopped) (steps_of before.scales m) (rig_of before.scales m) busy before.interlock (side_in before.sides m) asked now.interlock (side_in now.sides m)
@@ -275,7 +275,7 @@ on_ok (Err e) P Q p f = tt
 
 -- after any turn, Ok or not, the bench keeps its opening, and its history grows by what was asked
 pub record Grows (m : Machine) (old new : Desk) : Type 0 where
-  pub asked : Asked
+  pub asked : TurnCall
   pub opening : new.opening ≡ old.opening
   pub history : new.history ≡ old.history ++ settled_in m asked
 

@@ -3,9 +3,9 @@ use Rattle.std.specs.Prelude.{◌≡◌, Bool, true, false, ◌&&◌, List, [], 
 use Rattle.cell_types.specs.declared.machine.Machine.{Machine}
 use Rattle.cell_types.specs.declared.machine.Machine.TheVariants.{Watch}
 use Rattle.cell_types.specs.Same.{same_machine}
-use Rattle.cell_notes.specs.Asks.{Asked}
-use Rattle.cell_unit.specs.Sides.{side_moved}
-use Rattle.cell_unit.specs.UnitTurns.{Takes}
+use Rattle.cell_notes.specs.Asks.{TurnCall}
+use Rattle.cell_seat.specs.Sides.{side_moved}
+use Rattle.cell_seat.specs.SeatTurns.{Takes}
 use Rattle.cell_parts.specs.Axes.{CellScales}
 use Rattle.cell_notes.specs.declared.schedule.Turn.{Turn}
 use Rattle.cell_plant.specs.Machines.{steps_of, rig_of}
@@ -16,7 +16,7 @@ use Rattle.cell_plant.specs.CellStates.{CellState}
 pub record Step : Type 0 where
   pub machine : Machine
   pub taken : Bool
-  pub asked : Asked
+  pub asked : TurnCall
   pub set : CellState
   pub moved : CellState
 

@@ -19,15 +19,15 @@ use Rattle.cell_control.specs.Rigs.{Rig}
 use Rattle.cell_control.specs.Steps.{Steps, outcome}
 use Rattle.cell_control.specs.Turns.{Performed, PerformsCall, PerformsSensed, Turned, Turns, turned, at_rest}
 use Rattle.cell_control.proofs.TurnMaps.{turn_either}
-use Rattle.cell_notes.specs.Asks.{Asked, done_in}
-use Rattle.cell_unit.specs.Sides.{Side, noting, part_set, act_or_rest}
-use Rattle.cell_unit.specs.UnitTurns.{Answers, Takes}
+use Rattle.cell_notes.specs.Asks.{TurnCall, done_in}
+use Rattle.cell_seat.specs.Sides.{Side, noting, part_set, act_or_rest}
+use Rattle.cell_seat.specs.SeatTurns.{Answers, Takes}
 
 -- a turn, by the state, asks nothing or one call
-abbrev pub AsksNothing : ModelState → Asked → ModelState → Type 0
+abbrev pub AsksNothing : ModelState → TurnCall → ModelState → Type 0
 AsksNothing z asked y = (y ≡ z) × (asked ≡ None)
 
-abbrev pub AsksOnce : ModelState → Machine → Bool → Asked → ModelState → Call → Result Reply LineFault → Type 0
+abbrev pub AsksOnce : ModelState → Machine → Bool → TurnCall → ModelState → Call → Result Reply LineFault → Type 0
 AsksOnce z m busy asked y c r = Answers z m busy c r y × (asked ≡ Some (c, r))
 
 -- A machine's own part of the proof that its side keeps what holds of it: Inv holds between turns; Told holds when the
@@ -47,7 +47,7 @@ pub record Keeping {S Sense Reading Act State : Type 0} (t : Steps S Sense Readi
   pub moves : (z : ModelState) (p : S) (b : State) → Told z p b → Inv z p (rig.moves b)
 
 module _ {S Sense Reading Act State : Type 0} (t : Steps S Sense Reading Act) (rig : Rig State Sense Act) (Inv Told : ModelState → S → State → Type 0) (keeps : Keeping t rig Inv Told)
-    (busy : Bool) (z y : ModelState) (asked : Asked) (p : S) (b : State) (i : Inv z p b) where
+    (busy : Bool) (z y : ModelState) (asked : TurnCall) (p : S) (b : State) (i : Inv z p b) where
   abbrev After : Turned S Act → Type 0
   After w = Told y w.progress (part_set t rig b asked (act_or_rest (t.rest p) w.result))
 
@@ -87,7 +87,7 @@ module _ {S Sense Reading Act State : Type 0} (t : Steps S Sense Reading Act) (r
 
 -- a machine's own turn keeps what holds of its side, and sets its actuators so that a tick keeps it too
 pub takes_keeps : {S Sense Reading Act State : Type 0} → (t : Steps S Sense Reading Act) (rig : Rig State Sense Act) (Inv Told : ModelState → S → State → Type 0) → Keeping t rig Inv Told
-    → (busy : Bool) (z y : ModelState) (side set : Side S State) (asked : Asked) → Takes t rig busy z side asked y set → side.stopped ≡ None → IsSound z → Inv z side.progress side.part → Told y set.progress set.part
+    → (busy : Bool) (z y : ModelState) (side set : Side S State) (asked : TurnCall) → Takes t rig busy z side asked y set → side.stopped ≡ None → IsSound z → Inv z side.progress side.part → Told y set.progress set.part
 takes_keeps t rig Inv Told keeps busy z y side set asked k runs sound i =
     subst (λ x. Told y x.progress x.part) (sym k.is) (by_row t rig Inv Told keeps busy z y asked side.progress side.part i k.sense k.shows sound side.stopped k.turned runs k.row)
 
@@ -100,7 +100,7 @@ by_answer z m busy c (Ok (Settled a stamp)) y k = inl (c, k.3)
 by_answer z m busy c (Ok (Busy lost stamp)) y k = inr k.3
 by_answer z m busy c (Err fault) y k = inr k.1
 
-pub takes_changes : {S Sense Reading Act State : Type 0} → (t : Steps S Sense Reading Act) (rig : Rig State Sense Act) (busy : Bool) (z y : ModelState) (side set : Side S State) (asked : Asked)
+pub takes_changes : {S Sense Reading Act State : Type 0} → (t : Steps S Sense Reading Act) (rig : Rig State Sense Act) (busy : Bool) (z y : ModelState) (side set : Side S State) (asked : TurnCall)
     → Takes t rig busy z side asked y set → Changes z t.machine y
 takes_changes t rig busy z y side set asked k =
     turn_either t (AsksNothing z asked y) (AsksOnce z t.machine busy asked y) (Changes z t.machine y) (λ h. inr h.0) (λ c r h. by_answer z t.machine busy c r y h.0) side.stopped side.progress k.sense k.turned k.row

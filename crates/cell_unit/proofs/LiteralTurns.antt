@@ -22,7 +22,7 @@ use Rattle.cell_control.specs.Steps.{Steps, outcome}
 use Rattle.cell_control.specs.Turns.{Turned, Turns, at_rest, turned}
 use Rattle.cell_control.specs.TurnRows.{stops_with}
 use Rattle.cell_control.proofs.TurnsByAnswers.{asked_own, drive_own, sensor_own}
-use Rattle.cell_notes.specs.Asks.{Asked, settled_in}
+use Rattle.cell_notes.specs.Asks.{TurnCall, settled_in}
 use Rattle.cell_notes.specs.Notes.{Notes, notes_with}
 use Rattle.cell_unit.specs.Sides.{Side, ActsAndMoves, part_set, side_set, side_moved}
 use Rattle.cell_unit.specs.UnitTurns.{Answers, Leads, UnitTurn}
@@ -43,15 +43,15 @@ free_answer z y m call (Ok (Settled a stamp)) k = inl (ap (λ x. Ok (Settled x s
 free_answer z y m call (Ok (Busy lost stamp)) k = let wrong : false ≡ true = k.0 in cc
 free_answer z y m call (Err line.Memory) k = inr (refl, k.1)
 
-module _ {S Sense Reading Act State : Type 0} (t : Steps S Sense Reading Act) (rig : Rig State Sense Act) (before now : Side S State) (asked : Asked) where
+module _ {S Sense Reading Act State : Type 0} (t : Steps S Sense Reading Act) (rig : Rig State Sense Act) (before now : Side S State) (asked : TurnCall) where
   -- the machine's side after a turn, by the controller's result and what was asked
-  abbrev led : Asked → Turned S Act → Side S State
+  abbrev led : TurnCall → Turned S Act → Side S State
   led a w = side_moved rig (side_set t rig before a w)
 
   abbrev answered_side : Call → Result Reply LineFault → Side S State
   answered_side call r = led (Some (call, r)) (turned before.progress (at_rest (t.rest before.progress) (outcome t before.progress r)))
 
-  ends : (same : Type 0) (asks : Call → Result Reply LineFault → Type 0) (k : ActsAndMoves t rig same asks before asked now) (w : Turned S Act) (a : Asked) → k.acts.turned ≡ w → asked ≡ a → now ≡ led a w
+  ends : (same : Type 0) (asks : Call → Result Reply LineFault → Type 0) (k : ActsAndMoves t rig same asks before asked now) (w : Turned S Act) (a : TurnCall) → k.acts.turned ≡ w → asked ≡ a → now ≡ led a w
   ends same asks k w a e f = k.moved ∙ ap (side_moved rig) k.acts.is ∙ ap (led asked) e ∙ ap (λ x. led x w) f
 
   row_from : (same : Type 0) (asks : Call → Result Reply LineFault → Type 0) (k : ActsAndMoves t rig same asks before asked now) (o : Option CtlFault) → before.stopped ≡ o
@@ -113,10 +113,10 @@ module _ {S Sense Reading Act State : Type 0} (t : Steps S Sense Reading Act) (r
   taken : (busy : Bool) → before.stopped ≡ None → (k : UnitTurn t rig busy old new before now notes notes') → ActsAndMoves t rig (new.state ≡ old.state) (λ c r. Answers old.state t.machine busy c r new.state) before k.asked now
   taken busy e k = subst (λ o. Leads (is_none o) t rig busy old.state before k.asked new.state now) e k.leads
 
-  taken_noted : (busy : Bool) (a : Asked) → before.stopped ≡ None → (k : UnitTurn t rig busy old new before now notes notes') → k.asked ≡ a → notes' ≡ notes_with notes a
+  taken_noted : (busy : Bool) (a : TurnCall) → before.stopped ≡ None → (k : SeatTurn t rig busy old new before now notes notes') → k.asked ≡ a → notes' ≡ notes_with notes a
   taken_noted busy a e k f = k.noted ∙ ap (λ o. if is_none o then notes_with notes k.asked else notes) e ∙ ap (notes_with notes) f
 
-  seen_with : (busy : Bool) (a : Asked) (k : UnitTurn t rig busy old new before now notes notes') → k.asked ≡ a → new.history ≡ old.history ++ settled_in t.machine a
+  seen_with : (busy : Bool) (a : TurnCall) (k : SeatTurn t rig busy old new before now notes notes') → k.asked ≡ a → new.history ≡ old.history ++ settled_in t.machine a
   seen_with busy a k f = k.history ∙ ap (λ x. old.history ++ settled_in t.machine x) f
 
   came_free : (reading : Reading) (call : Call) (i : IsAsking t rig before reading call) (k : UnitTurn t rig false old new before now notes notes') (r : Result Reply LineFault) → k.asked ≡ Some (call, r) → now ≡ answered_side t rig before now k.asked call r

@@ -16,14 +16,14 @@ use Rattle.cell_control.specs.Turns.{Performed, Turned, Turns, turned}
 use Rattle.cell_control.specs.declared.fault.CtlFault.{CtlFault}
 use Rattle.cell_control.proofs.TurnMaps.{turn_map, turn_either}
 use Rattle.cell_control.proofs.Senses.{turns_still}
-use Rattle.cell_notes.specs.Asks.{Asked, done_in, settled_by, settled_in}
+use Rattle.cell_notes.specs.Asks.{TurnCall, done_in, settled_by, settled_in}
 use Rattle.cell_notes.specs.Notes.{Notes, notes_with}
 use Rattle.cell_unit.specs.Sides.{Side, Acts, ActsAndMoves, DemandsHold, TellsByDemands, act_or_rest, noting, part_set}
 use Rattle.cell_unit.specs.UnitTurns.{Answers, Leads, UnitTurn}
 
 -- a turn, by another relation to its line
 pub acts_map : {S Sense Reading Act State : Type 0} → (t : Steps S Sense Reading Act) (rig : Rig State Sense Act) (same same' : Type 0) (asks asks' : Call → Result Reply LineFault → Type 0) → (same → same')
-    → ((c : Call) (r : Result Reply LineFault) → asks c r → asks' c r) → (before set : Side S State) (asked : Asked) → Acts t rig same asks before asked set → Acts t rig same' asks' before asked set
+    → ((c : Call) (r : Result Reply LineFault) → asks c r → asks' c r) → (before set : Side S State) (asked : TurnCall) → Acts t rig same asks before asked set → Acts t rig same' asks' before asked set
 acts_map t rig same same' asks asks' f g before set asked k =
     record {
       sense = k.sense;
@@ -45,7 +45,7 @@ bench_history old new m busy q (Ok (Settled a stamp)) k = ap (λ d. d.history) k
 bench_history old new m busy q (Ok (Busy lost stamp)) k = ap (λ d. d.history) k.3 ∙ sym (append-nil old.history)
 bench_history old new m busy q (Err fault) k = ap (λ d. d.history) k.1 ∙ sym (append-nil old.history)
 
-module _ {S Sense Reading Act State : Type 0} (t : Steps S Sense Reading Act) (rig : Rig State Sense Act) (m : Machine) (busy : Bool) (old seated new : Desk) (before now : Side S State) (asked : Asked)
+module _ {S Sense Reading Act State : Type 0} (t : Steps S Sense Reading Act) (rig : Rig State Sense Act) (m : Machine) (busy : Bool) (old seated new : Desk) (before now : Side S State) (asked : TurnCall)
     (own : t.machine ≡ m) (is_seated : seated ≡ record old { machine = m; busy = busy }) (runs : is_none before.stopped ≡ true)
     (acts : ActsAndMoves t rig (new ≡ seated) (λ q r. BenchAsks seated q r new) before asked now) where
   by_state : (q : Call) (r : Result Reply LineFault) → BenchAsks seated q r new → Answers old.state t.machine busy q r new.state
@@ -83,13 +83,13 @@ module _ {S Sense Reading Act State : Type 0} (t : Steps S Sense Reading Act) (r
       }
 
 -- a part notes only its own machine's events: a controller that has stopped asks nothing on any line
-pub own_done : {S Sense Reading Act : Type 0} → (t : Steps S Sense Reading Act) (same : Type 0) (asks : Call → Result Reply LineFault → Type 0) (asked : Asked) (m : Machine) (stopped : Option CtlFault) (p : S) (s : Sense) (w : Turned S Act)
+pub own_done : {S Sense Reading Act : Type 0} → (t : Steps S Sense Reading Act) (same : Type 0) (asks : Call → Result Reply LineFault → Type 0) (asked : TurnCall) (m : Machine) (stopped : Option CtlFault) (p : S) (s : Sense) (w : Turned S Act)
     → (stopped ≡ None → m ≡ t.machine) → (same → asked ≡ None) → Turns t same asks stopped p s w → done_in m asked ≡ done_in t.machine asked
 own_done t same asks asked m None p s w own nothing k = ap (λ x. done_in x asked) (own refl)
 own_done t same asks asked m (Some fault) p s w own nothing k = ap (done_in m) (nothing k.0) ∙ sym (ap (done_in t.machine) (nothing k.0))
 
 -- the actuators' commands in a turn that stopped nothing, and what they demand
-module _ {S Sense Reading Act State : Type 0} (t : Steps S Sense Reading Act) (rig : Rig State Sense Act) (p : S) (before now : State) (asked : Asked) (opening : ModelState) (seen : List Event) (done : Option Event) (w : Turned S Act)
+module _ {S Sense Reading Act State : Type 0} (t : Steps S Sense Reading Act) (rig : Rig State Sense Act) (p : S) (before now : State) (asked : TurnCall) (opening : ModelState) (seen : List Event) (done : Option Event) (w : Turned S Act)
     (own : done ≡ done_in t.machine asked) (moved : now ≡ rig.moves (rig.set (noting rig before done) (act_or_rest (t.rest p) w.result)))
     (met : IfOk w.result (λ act. t.motor_demands p act opening seen)) (runs : w.stopped ≡ None) where
   performed_tells : (r : Performed S Act) → w ≡ turned p r → TellsByDemands t rig p before asked now opening seen
@@ -107,7 +107,7 @@ module _ {S Sense Reading Act State : Type 0} (t : Steps S Sense Reading Act) (r
 
 -- with less known of the sensors, a turn is still a turn
 module _ {S Sense Reading Act State : Type 0} (t : Steps S Sense Reading Act) (rig : Rig State Sense Act) (senses : Sense → Result Reading SensorFault → Type 0) (f : (s : Sense) (r : Result Reading SensorFault) → t.senses s r → senses s r) where
-  pub acts_still : (same : Type 0) (asks : Call → Result Reply LineFault → Type 0) (before set : Side S State) (asked : Asked) → Acts t rig same asks before asked set → Acts (with_senses t senses) rig same asks before asked set
+  pub acts_still : (same : Type 0) (asks : Call → Result Reply LineFault → Type 0) (before set : Side S State) (asked : TurnCall) → Acts t rig same asks before asked set → Acts (with_senses t senses) rig same asks before asked set
   acts_still same asks before set asked k =
       record {
         sense = k.sense;
@@ -117,7 +117,7 @@ module _ {S Sense Reading Act State : Type 0} (t : Steps S Sense Reading Act) (r
         is = k.is;
       }
 
-  leads_still : (runs : Bool) (busy : Bool) (z y : _) (before now : Side S State) (asked : Asked) → Leads runs t rig busy z before asked y now → Leads runs (with_senses t senses) rig busy z before asked y now
+  leads_still : (runs : Bool) (busy : Bool) (z y : _) (before now : Side S State) (asked : TurnCall) → Leads runs t rig busy z before asked y now → Leads runs (with_senses t senses) rig busy z before asked y now
   leads_still true busy z y before now asked k = record { set = k.set; acts = acts_still _ _ before k.set asked k.acts; moved = k.moved }
   leads_still false busy z y before now asked k = k
 

@@ -9,8 +9,7 @@ use Rattle.cell_control.specs.declared.fault.CtlFault.{CtlFault}
 use Rattle.cell_control.specs.Rigs.{Rig}
 use Rattle.cell_control.specs.Steps.{Steps, IsReached}
 use Rattle.cell_control.specs.Turns.{Turned, Turns}
-use Rattle.cell_notes.specs.Asks.{Asked, done_in}
-use Rattle.cell_unit.specs.declared.unit.MachineUnit.{MachineUnit}
+use Rattle.cell_notes.specs.Asks.{TurnCall, done_in}
 
 pub record Side (S State : Type 0) : Type 0 where
   pub progress : S
@@ -52,10 +51,10 @@ act_or_rest rest (Ok act) = act
 act_or_rest rest (Err fault) = rest
 
 -- after the part has noted what was done and its actuators are set; and after the part has moved
-abbrev pub part_set : {S Sense Reading Act State : Type 0} → Steps S Sense Reading Act → Rig State Sense Act → State → Asked → Act → State
+abbrev pub part_set : {S Sense Reading Act State : Type 0} → Steps S Sense Reading Act → Rig State Sense Act → State → TurnCall → Act → State
 part_set t rig b asked act = rig.set (noting rig b (done_in t.machine asked)) act
 
-abbrev pub side_set : {S Sense Reading Act State : Type 0} → Steps S Sense Reading Act → Rig State Sense Act → Side S State → Asked → Turned S Act → Side S State
+abbrev pub side_set : {S Sense Reading Act State : Type 0} → Steps S Sense Reading Act → Rig State Sense Act → Side S State → TurnCall → Turned S Act → Side S State
 side_set t rig side asked turned = record { progress = turned.progress; stopped = turned.stopped; part = part_set t rig side.part asked (act_or_rest (t.rest side.progress) turned.result) }
 
 abbrev pub side_moved : {S Sense Act State : Type 0} → Rig State Sense Act → Side S State → Side S State
@@ -63,7 +62,7 @@ side_moved rig side = record side { part = rig.moves side.part }
 
 -- A turn until the actuators are set: the sensors are read, a row of the program is performed, and the part notes what
 -- was done. `same` says that the line stays as it is, `asks` what it was asked and what came back.
-pub record Acts {S Sense Reading Act State : Type 0} (t : Steps S Sense Reading Act) (rig : Rig State Sense Act) (same : Type 0) (asks : Call → Result Reply LineFault → Type 0) (before : Side S State) (asked : Asked) (set : Side S State) : Type 0 where
+pub record Acts {S Sense Reading Act State : Type 0} (t : Steps S Sense Reading Act) (rig : Rig State Sense Act) (same : Type 0) (asks : Call → Result Reply LineFault → Type 0) (before : Side S State) (asked : TurnCall) (set : Side S State) : Type 0 where
   pub sense : Sense
   pub shows : rig.shows before.part sense
   pub turned : Turned S Act
@@ -71,13 +70,13 @@ pub record Acts {S Sense Reading Act State : Type 0} (t : Steps S Sense Reading 
   pub is : set ≡ side_set t rig before asked turned
 
 -- then the part moves for a tick
-pub record ActsAndMoves {S Sense Reading Act State : Type 0} (t : Steps S Sense Reading Act) (rig : Rig State Sense Act) (same : Type 0) (asks : Call → Result Reply LineFault → Type 0) (before : Side S State) (asked : Asked) (now : Side S State) : Type 0 where
+pub record ActsAndMoves {S Sense Reading Act State : Type 0} (t : Steps S Sense Reading Act) (rig : Rig State Sense Act) (same : Type 0) (asks : Call → Result Reply LineFault → Type 0) (before : Side S State) (asked : TurnCall) (now : Side S State) : Type 0 where
   pub set : Side S State
   pub acts : Acts t rig same asks before asked set
   pub moved : now ≡ side_moved rig set
 
 -- the actuators' commands in a turn at this step; what they demand holds of the history
-pub record TellsByDemands {S Sense Reading Act State : Type 0} (t : Steps S Sense Reading Act) (rig : Rig State Sense Act) (p : S) (before : State) (asked : Asked) (now : State) (opening : ModelState) (seen : List Event) : Type 0 where
+pub record TellsByDemands {S Sense Reading Act State : Type 0} (t : Steps S Sense Reading Act) (rig : Rig State Sense Act) (p : S) (before : State) (asked : TurnCall) (now : State) (opening : ModelState) (seen : List Event) : Type 0 where
   pub act : Act
   pub told : now ≡ rig.moves (part_set t rig before asked act)
   pub motor_demands : t.motor_demands p act opening seen

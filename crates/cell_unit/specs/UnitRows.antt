@@ -20,7 +20,7 @@ use Rattle.cell_control.specs.Rigs.{Rig}
 use Rattle.cell_control.specs.Steps.{Steps}
 use Rattle.cell_control.specs.TurnRows.{Says}
 use Rattle.cell_notes.specs.declared.status.Status.TheVariants.{Fine, Worn, Sensor, Refused, Memory}
-use Rattle.cell_notes.specs.Asks.{Asked}
+use Rattle.cell_notes.specs.Asks.{TurnCall}
 use Rattle.cell_notes.specs.Notes.{Notes, notes_with}
 use Rattle.cell_unit.specs.Statuses.{status_of}
 use Rattle.cell_unit.specs.Sides.{Side, ActsAndMoves}
@@ -59,13 +59,13 @@ pub record IsDriving {S Sense Reading Act State : Type 0} (t : Steps S Sense Rea
   pub drives_only : (other : Act) → t.drives before.progress reading other → other ≡ act
 
 -- a turn over a line that answers so; and one over a line that is asked nothing
-abbrev pub Answered : {S Sense Reading Act State : Type 0} → Steps S Sense Reading Act → Rig State Sense Act → Side S State → Result Reply LineFault → Asked → Side S State → Type 0
+abbrev pub Answered : {S Sense Reading Act State : Type 0} → Steps S Sense Reading Act → Rig State Sense Act → Side S State → Result Reply LineFault → TurnCall → Side S State → Type 0
 Answered t rig before answered asked now = ActsAndMoves t rig ⊥ (λ call r. r ≡ answered) before asked now
 
-abbrev pub Alone : {S Sense Reading Act State : Type 0} → Steps S Sense Reading Act → Rig State Sense Act → Side S State → Asked → Side S State → Type 0
+abbrev pub Alone : {S Sense Reading Act State : Type 0} → Steps S Sense Reading Act → Rig State Sense Act → Side S State → TurnCall → Side S State → Type 0
 Alone t rig before asked now = ActsAndMoves t rig ⊤ (λ call r. ⊥) before asked now
 
-pub record SideRows {S Sense Reading Act State : Type 0} (t : Steps S Sense Reading Act) (rig : Rig State Sense Act) (before : Side S State) (asked : Asked) (now : Side S State) : Type 0 where
+pub record SideRows {S Sense Reading Act State : Type 0} (t : Steps S Sense Reading Act) (rig : Rig State Sense Act) (before : Side S State) (asked : TurnCall) (now : Side S State) : Type 0 where
   -- the part notes a call that is done
   pub done : (reading : Reading) (call : Call) (stamp : ℕ) → IsAsking t rig before reading call → Answered t rig before (Ok (Settled answer.Done stamp)) asked now
       → (asked ≡ Some (call, Ok (Settled answer.Done stamp))) × (now ≡ comes_to rig (t.after_done before.progress) None (rig.notes before.part (event t.machine call answer.Done)) (t.rest before.progress))

@@ -1,6 +1,6 @@
 //! Laws of a machine's status and turn. Each is the contract of a function with an empty body.
 ghost use Rattle.cell_rules.specs.Benches.{Desk};
-ghost use Rattle.cell_notes.specs.Asks.{Asked};
+ghost use Rattle.cell_notes.specs.Asks.{TurnCall};
 ghost use Rattle.cell_notes.specs.Notes.{Notes};
 ghost use Rattle.cell_unit.specs.Sides.{Side, unit_rig, unit_table};
 ghost use Rattle.cell_unit.specs.UnitRows.{StatusRows, SideRows, UnitRows};
@@ -16,11 +16,9 @@ pub fn status_by_faults()
 /// The effect of any machine's turn over any line, on its progress, its fault and its part: for
 /// each answer, a call that is out of memory, a drive, sensors that can't be used, and a controller
 /// that has stopped.
-pub fn sides_by_answers<P: Program, B: Part<Sense = P::Sense, Act = P::Act>>(
-    unit: &MachineUnit<P, B>,
-)
-    ensures { (before now : Side P.Progress B.State) (asked : Asked)
-        → SideRows (unit_table P.steps unit.now) (unit_rig B.rig B.make unit.now) before asked now }
+pub fn sides_by_answers<P: Program, B: Part<Sense = P::Sense, Act = P::Act>>(seat: &Seat<P, B>)
+    ensures { (before now : Side P.Progress B.State) (asked : TurnCall)
+        → SideRows (P.steps seat.now.controller.program) (B.rig (B.make seat.now.part)) before asked now }
 {}
 
 /// The effect of any machine's turn over a bench, on the machine, the bench and the notebook.

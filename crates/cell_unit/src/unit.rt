@@ -2,7 +2,7 @@ ghost use Rattle.std.specs.Prelude.{◌≡◌, None};
 ghost use Rattle.cell_unit.specs.Sides.{ActsAndMoves, DemandsHold, UnitIsReady, act_or_rest, noting, unit_program, unit_rig, unit_side, unit_table};
 
 use cell_control::{Controller, CtlFault, Part, Program};
-use cell_notes::{Asked, asked_between, done_event};
+use cell_notes::{TurnCall, done_event, turn_call_between};
 use cell_rules::Line;
 use cell_types::Event;
 
@@ -19,13 +19,12 @@ impl<P: Program, B: Part<Sense = P::Sense, Act = P::Act>> MachineUnit<P, B> {
     /// One turn. The controller has its turn, by what the sensors show. Then the part notes a call
     /// that was done, and moves for a tick. After an error of the controller the motors are off.
     /// Answers what was asked.
-    pub fn turn<L: Line>(&mut self, line: &mut L) -> Asked
-        requires own { (unit_side B.state self.old).stopped ≡ None → L.machine line.old ≡ (unit_table P.steps self.old).machine }
-        requires ready { UnitIsReady P.steps self.old (L.opening line.old) (L.seen line.old) }
-        ensures row { ActsAndMoves (unit_table P.steps self.old) (unit_rig B.rig B.make self.old) (line.new ≡ line.old) (λ c r. L.asks line.old c r line.new)
-            (unit_side B.state self.old) result (unit_side B.state self.new) }
-        ensures motor_demands { DemandsHold (unit_table P.steps self.old) (unit_rig B.rig B.make self.old)
-            (unit_side B.state self.old) result (unit_side B.state self.new) (L.opening line.new) (L.seen line.new) }
+    pub fn turn<L: Line>(&mut self, line: &mut L) -> TurnCall
+        requires own { self.old.controller.stopped ≡ None → L.machine line.old ≡ (P.steps self.old.controller.program).machine }
+        requires ready { IsReady (P.steps self.old.controller.program) (L.opening line.old) (L.seen line.old) self.old.controller.stopped self.old.controller.progress }
+        ensures row { ActsAndMoves (P.steps self.old.controller.program) (B.rig (B.make self.old.part)) (line.new ≡ line.old) (λ c r. L.asks line.old c r line.new)
+            (side_of self.old.controller.progress self.old.controller.stopped (B.state self.old.part)) result (side_of self.new.controller.progress self.new.controller.stopped (B.state self.new.part)) }
+        ensures motor_demands { self.new.controller.stopped ≡ None → TellsByDemands (P.steps self.old.controller.program) (B.rig (B.make self.old.part)) self.old.controller.progress (B.state self.old.part) result (B.state self.new.part) (L.opening line.new) (L.seen line.new) }
         ensures own { L.machine line.new ≡ L.machine line.old }
         ensures opening { L.opening line.new ≡ L.opening line.old }
         ensures program { unit_program self.new ≡ unit_program self.old }
@@ -36,7 +35,7 @@ impl<P: Program, B: Part<Sense = P::Sense, Act = P::Act>> MachineUnit<P, B> {
         let before = line.heard();
         let rest = self.controller.rest();
         let turned = self.controller.turn(line, &self.part.sensors());
-        let asked = asked_between(before, line.heard());
+        let asked = turn_call_between(before, line.heard());
         let act = act_of(turned, rest);
         note_and_tick(&mut self.part, done_event(machine, asked), &act);
         asked

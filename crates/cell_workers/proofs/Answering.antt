@@ -24,7 +24,7 @@ use Rattle.cell_stations.specs.PressProgram.{press_steps, checked}
 use Rattle.cell_parts.specs.Rigs.{press_rig}
 use Rattle.cell_parts.specs.Shows.{PressShows}
 use Rattle.cell_notes.specs.declared.counts.Counts.{Counts}
-use Rattle.cell_notes.specs.Asks.{Asked}
+use Rattle.cell_notes.specs.Asks.{TurnCall}
 use Rattle.cell_notes.specs.Notes.{counts_with}
 use Rattle.cell_unit.specs.Sides.{Side, Acts, side_set, side_moved}
 use Rattle.cell_plant.specs.CellStates.{SideOf}
@@ -35,14 +35,14 @@ use Rattle.cell_workers.specs.Laws.{press_at, answers_in}
 
 -- ---- by what came back
 
-abbrev answered : Result Reply LineFault → Asked → Result Reply LineFault
+abbrev answered : Result Reply LineFault → TurnCall → Result Reply LineFault
 answered r None = r
 answered r (Some call) = call.1
 
 nothing_is_asked : (call : Call × Result Reply LineFault) → ¬ (None ≡ Some call)
 nothing_is_asked call e = cc
 
-module _ {S Sense Reading Act : Type 0} (t : Steps S Sense Reading Act) (same : Type 0) (asks : Call → Result Reply LineFault → Type 0) (asked : Asked) (call : Call) (r : Result Reply LineFault) (is : asked ≡ Some (call, r)) where
+module _ {S Sense Reading Act : Type 0} (t : Steps S Sense Reading Act) (same : Type 0) (asks : Call → Result Reply LineFault → Type 0) (asked : TurnCall) (call : Call) (r : Result Reply LineFault) (is : asked ≡ Some (call, r)) where
   abbrev Same : Type 0
   Same = same × (asked ≡ None)
 

@@ -28,7 +28,7 @@ use Rattle.cell_control.proofs.TurnMaps.{turn_either}
 use Rattle.cell_notes.specs.declared.counts.Counts.{Counts}
 use Rattle.cell_notes.specs.declared.status.Status.{Status}
 use Rattle.cell_notes.specs.declared.status.Status.TheVariants.{Fine, GateLimit}
-use Rattle.cell_notes.specs.Asks.{Asked, came_back, is_busy_reply}
+use Rattle.cell_notes.specs.Asks.{TurnCall, came_back, is_busy_reply}
 use Rattle.cell_notes.specs.Notes.{counts_with}
 use Rattle.cell_unit.specs.Statuses.{status_of}
 use Rattle.cell_workers.specs.Lines.{passes}
@@ -87,7 +87,7 @@ shut_at_once gate s (inr h) = h.0
 
 -- ---- the reply of a turn
 
-one_answer : (c : Counts) (asked : Asked) → answers_in c ≤ c.turns → answers_in (counts_with c asked) ≤ c.turns + 1
+one_answer : (c : Counts) (asked : TurnCall) → answers_in c ≤ c.turns → answers_in (counts_with c asked) ≤ c.turns + 1
 one_answer c None k = omega (arith, k)
 one_answer c (Some (call, Ok (Settled Done stamp))) k = omega (arith, k)
 one_answer c (Some (call, Ok (Settled (Shown owner flag posture) stamp))) k = omega (arith, k)
@@ -111,7 +111,7 @@ module _ {S Sense Reading Act : Type 0} (t : Steps S Sense Reading Act) (same : 
   by_step None p e s w h = by_sensed h.1.sensed p e h.0 h.1.performs
 
 -- the reply to a call, and how many exchanges it lost
-abbrev answered : Result Reply LineFault → Asked → Result Reply LineFault
+abbrev answered : Result Reply LineFault → TurnCall → Result Reply LineFault
 answered r None = r
 answered r (Some call) = call.1
 

@@ -22,7 +22,7 @@ use Rattle.cell_control.specs.Steps.{Steps}
 use Rattle.cell_control.proofs.TurnMaps.{turn_either}
 use Rattle.cell_notes.specs.declared.counts.Counts.{Counts}
 use Rattle.cell_notes.specs.declared.status.Status.{Status}
-use Rattle.cell_notes.specs.Asks.{Asked, came_back, is_done_reply, is_read_reply, is_refused_reply}
+use Rattle.cell_notes.specs.Asks.{TurnCall, came_back, is_done_reply, is_read_reply, is_refused_reply}
 use Rattle.cell_notes.specs.Notes.{no_counts, counts_with}
 use Rattle.cell_unit.specs.Sides.{Acts}
 use Rattle.cell_unit.proofs.Turning.{acts_map}
@@ -39,8 +39,8 @@ by_pass m = worker_moment m.line.pass m.side m.counts
 module _ {S Sense Reading Act State : Type 0} (tries : ℕ) (t : Steps S Sense Reading Act) (rig : Rig State Sense Act) (gate : GateOf) where
   -- a turn asks nothing, or makes one call
   pub by_turn : {L : Type 0} → (lines : Lines L) (before now : WorkerMoment L S State) (P : Type 0) → TakesTurn lines t rig gate before now
-      → ((asked : Asked) → now.line ≡ before.line → asked ≡ None → now.counts ≡ counts_with before.counts asked → P)
-      → ((asked : Asked) (c : Call) (r : Result Reply LineFault) → lines.asks before.line c r now.line → asked ≡ Some (c, r) → now.counts ≡ counts_with before.counts asked → P) → P
+      → ((asked : TurnCall) → now.line ≡ before.line → asked ≡ None → now.counts ≡ counts_with before.counts asked → P)
+      → ((asked : TurnCall) (c : Call) (r : Result Reply LineFault) → lines.asks before.line c r now.line → asked ≡ Some (c, r) → now.counts ≡ counts_with before.counts asked → P) → P
   by_turn lines before now P k f g =
       turn_either t ((now.line ≡ before.line) × (k.asked ≡ None)) (λ c r. lines.asks before.line c r now.line × (k.asked ≡ Some (c, r))) P
       (λ h. f k.asked h.0 h.1 k.counted) (λ c r h. g k.asked c r h.0 h.1 k.counted) before.side.stopped before.side.progress k.row.acts.sense k.row.acts.turned k.row.acts.row
@@ -141,7 +141,7 @@ settled_counts journal now c a stamp k n is more old =
     }
 
 -- a turn that settles nothing is counted, but no settled call is
-quiet_counts : (journal now : List Entry) (asked : Asked) (k n : Counts) → now ≡ journal → n ≡ counts_with k asked → came_back is_done_reply asked ≡ false → came_back is_read_reply asked ≡ false → came_back is_refused_reply asked ≡ false → AreCountsOf journal k → AreCountsOf now n
+quiet_counts : (journal now : List Entry) (asked : TurnCall) (k n : Counts) → now ≡ journal → n ≡ counts_with k asked → came_back is_done_reply asked ≡ false → came_back is_read_reply asked ≡ false → came_back is_refused_reply asked ≡ false → AreCountsOf journal k → AreCountsOf now n
 quiet_counts journal now asked k n is more no_done no_read no_refusal old =
     record {
       done = ap (λ x. x.done) more ∙ ap (λ b. k.done + one_if b) no_done ∙ omega arith ∙ old.done ∙ sym (ap (count_by (λ e. is_done_answer e.answer)) is);

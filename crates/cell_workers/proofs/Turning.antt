@@ -5,7 +5,7 @@ use Rattle.cell_control.specs.declared.fault.CtlFault.{CtlFault}
 use Rattle.cell_control.specs.Rigs.{Rig}
 use Rattle.cell_control.specs.Steps.{Steps}
 use Rattle.cell_notes.specs.declared.counts.Counts.{Counts}
-use Rattle.cell_notes.specs.Asks.{Asked}
+use Rattle.cell_notes.specs.Asks.{TurnCall}
 use Rattle.cell_notes.specs.Notes.{AreBelow, counts_with}
 use Rattle.cell_notes.proofs.CountLemmas.{below_with}
 use Rattle.cell_unit.specs.Sides.{Side}
@@ -42,10 +42,10 @@ module _ {L S Sense Reading Act State P M : Type 0} (lines : Lines L) (steps : P
       comes_on lines (steps q) (rigs n) gate first before now k
       (subst (λ x. TakesTurn lines (steps q) (rigs x) gate before now) f (subst (λ x. TakesTurn lines (steps x) (rigs m) gate before now) e turn))
 
-pub few_more : (n k : ℕ) (c now : Counts) (asked : Asked) → k ≡ n + 1 → AreBelow n c → now ≡ counts_with c asked → AreBelow k now
+pub few_more : (n k : ℕ) (c now : Counts) (asked : TurnCall) → k ≡ n + 1 → AreBelow n c → now ≡ counts_with c asked → AreBelow k now
 few_more n k c now asked e b is = subst (λ x. AreBelow x now) (sym e) (subst (AreBelow (n + 1)) (sym is) (below_with n c asked b))
 
-pub one_turn_more : (n k : ℕ) (c now : Counts) (asked : Asked) → k ≡ n + 1 → c.turns ≡ n → now ≡ counts_with c asked → now.turns ≡ k
+pub one_turn_more : (n k : ℕ) (c now : Counts) (asked : TurnCall) → k ≡ n + 1 → c.turns ≡ n → now ≡ counts_with c asked → now.turns ≡ k
 one_turn_more n k c now asked e taken is = ap (λ x. x.turns) is ∙ ap (λ x. x + 1) taken ∙ sym e
 
 -- a machine that was found not to have stopped has not stopped

@@ -13,7 +13,7 @@ use Rattle.cell_control.specs.Steps.{Steps}
 use Rattle.cell_notes.specs.declared.counts.Counts.{Counts}
 use Rattle.cell_notes.specs.declared.status.Status.{Status}
 use Rattle.cell_notes.specs.declared.status.Status.TheVariants.{Fine, GateLimit}
-use Rattle.cell_notes.specs.Asks.{Asked}
+use Rattle.cell_notes.specs.Asks.{TurnCall}
 use Rattle.cell_notes.specs.Notes.{counts_with}
 use Rattle.cell_unit.specs.Statuses.{status_of}
 use Rattle.cell_unit.specs.Sides.{Side, ActsAndMoves, DemandsHold}
@@ -37,7 +37,7 @@ GateOf = ℕ → Bool → Type 0
 pub record TakesTurn {L S Sense Reading Act State : Type 0} (lines : Lines L) (t : Steps S Sense Reading Act) (rig : Rig State Sense Act) (gate : GateOf) (before now : WorkerMoment L S State) : Type 0 where
   pub runs : before.side.stopped ≡ None
   pub let_in : gate before.counts.turns true
-  pub asked : Asked
+  pub asked : TurnCall
   pub row : ActsAndMoves t rig (now.line ≡ before.line) (λ c r. lines.asks before.line c r now.line) before.side asked now.side
   pub motor_demands : DemandsHold t rig before.side asked now.side (lines.opening now.line) (lines.seen now.line)
   pub counted : now.counts ≡ counts_with before.counts asked

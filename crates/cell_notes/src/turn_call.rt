@@ -11,12 +11,13 @@ use cell_rules::{Answered, Heard};
 use cell_types::{Answer, Call, Entry, Event, Machine, Reply};
 
 /// The call that a machine asked in a turn, and what came back. `None` if it asked nothing.
-pub type Asked = Option<(Call, Answered)>;
+pub type TurnCall = Option<(Call, Answered)>;
 
 /// What was asked from `before` to `now`, if that is nothing or one call.
-pub fn asked_between(before: Heard, now: Heard) -> Asked
+pub fn turn_call_between(before: Heard, now: Heard) -> TurnCall
     ensures nothing { now ≡ before → result ≡ None }
-    ensures once { (c : Call) (r : Result Reply LineFault) → now ≡ heard_after before c r → result ≡ Some (c, r) }
+    ensures once { (c : Call) (r : Result Reply LineFault)
+        → now ≡ heard_after before c r → result ≡ Some (c, r) }
 {
     if now.asks == before.asks {
         None
@@ -26,7 +27,7 @@ pub fn asked_between(before: Heard, now: Heard) -> Asked
 }
 
 /// The event of a machine's call, if the call was done.
-pub fn done_event(machine: Machine, asked: Asked) -> Option<Event>
+pub fn done_event(machine: Machine, asked: TurnCall) -> Option<Event>
     ensures { result ≡ done_in machine asked }
 {
     match asked {
@@ -40,7 +41,7 @@ pub fn done_event(machine: Machine, asked: Asked) -> Option<Event>
 }
 
 // The journal's entry of a call that was settled.
-pub(crate) fn entry_of(asked: Asked) -> Option<Entry>
+pub(crate) fn entry_of(asked: TurnCall) -> Option<Entry>
     ensures { option_to_list result ≡ entries_in asked }
 {
     match asked {
