@@ -20,7 +20,7 @@ use Rattle.clap.specs.declared.error.kind.ErrorKind.{ErrorKind}
 use Rattle.clap.specs.declared.error.kind.ErrorKind.TheVariants.{ArgumentConflict, InvalidValue, TooManyValues, WrongNumberOfValues}
 use Rattle.clap.specs.declared.parser.matches.ValueSource.{ValueSource}
 use Rattle.clap.specs.declared.parser.matches.ValueSource.TheVariants.{CommandLine, DefaultValue}
-use Rattle.cell_command.specs.Words.{HasNumber, HasNumbers, most_tries, most_turns, number_flag, program, run_command}
+use Rattle.cell_command.specs.Words.{HasNumber, HasNumbers, max_tries, max_turns, number_flag, program, run_command}
 
 -- neither of two steps fails
 neither : (a b : Kinds) → or_else a b ≡ [] → (a ≡ []) × (b ≡ [])
@@ -47,8 +47,8 @@ pub record HasNumberFirst (r : Row) : Type 0 where
   pub others : List Text
   pub values : r.values ≡ text ∷ others
   pub reading : r.reading ≡ AsWritten
-  pub turns : bytes_eq r.id (codes "turns") ≡ true → IsUnsignedIn 1 most_turns text
-  pub tries : bytes_eq r.id (codes "tries") ≡ true → IsUnsignedIn 1 most_tries text
+  pub turns : bytes_eq r.id (codes "turns") ≡ true → IsUnsignedIn 1 max_turns text
+  pub tries : bytes_eq r.id (codes "tries") ≡ true → IsUnsignedIn 1 max_tries text
 
 abbrev AreNumbers : List Row → Type 0
 AreNumbers = AllByRecursion HasNumberFirst
@@ -283,7 +283,7 @@ has_found id (r ∷ rs) e = go (bytes_eq r.id id) (has_found id rs) e
 -- what a flag's number has to be, by the flag's name
 abbrev IsFor : Text → ℕ → Type 0
 IsFor name most =
-    (text : Text) → IsUnsignedIn 1 most text → (bytes_eq name (codes "turns") ≡ true → IsUnsignedIn 1 most_turns text) × (bytes_eq name (codes "tries") ≡ true → IsUnsignedIn 1 most_tries text)
+    (text : Text) → IsUnsignedIn 1 most text → (bytes_eq name (codes "turns") ≡ true → IsUnsignedIn 1 max_turns text) × (bytes_eq name (codes "tries") ≡ true → IsUnsignedIn 1 max_tries text)
 
 passed : (b : Bool) (k : ErrorKind) → cond b [] (k ∷ []) ≡ [] → b ≡ true
 passed true k e = refl
@@ -346,7 +346,7 @@ help_defaults rows e n = go (has_row (codes "help") rows)
 -- ---- the numbers at the end
 
 both_rows : (rows : List Row) → AreNumbers rows → has_row (codes "turns") rows ≡ true → has_row (codes "tries") rows ≡ true
-    → HasNumber (codes "turns") most_turns rows × HasNumber (codes "tries") most_tries rows
+    → HasNumber (codes "turns") max_turns rows × HasNumber (codes "tries") max_tries rows
 both_rows rows n a b =
     let turns = has_found (codes "turns") rows a in
     let tries = has_found (codes "tries") rows b in
@@ -386,40 +386,40 @@ help_keeps id rows e = go (has_row (codes "help") rows)
     go false = e
 
 abbrev turns_flag : Rule
-turns_flag = filled (number_flag (codes "turns") most_turns (codes "1000"))
+turns_flag = filled (number_flag (codes "turns") max_turns (codes "1000"))
 
 abbrev tries_flag : Rule
-tries_flag = filled (number_flag (codes "tries") most_tries (codes "8"))
+tries_flag = filled (number_flag (codes "tries") max_tries (codes "8"))
 
 abbrev run_rules : List Rule
 run_rules = turns_flag ∷ tries_flag ∷ filled help_rule ∷ []
 
 turns_there : (rows : List Row) → has_row (codes "turns") (fold with_default rows run_rules) ≡ true
-turns_there rows = help_keeps (codes "turns") (with_default (with_default rows turns_flag) tries_flag) (default_keeps (codes "turns") (codes "tries") (codes "8") most_tries (with_default rows turns_flag) (default_made (codes "turns") (codes "1000") most_turns rows refl))
+turns_there rows = help_keeps (codes "turns") (with_default (with_default rows turns_flag) tries_flag) (default_keeps (codes "turns") (codes "tries") (codes "8") max_tries (with_default rows turns_flag) (default_made (codes "turns") (codes "1000") max_turns rows refl))
 
 tries_there : (rows : List Row) → has_row (codes "tries") (fold with_default rows run_rules) ≡ true
-tries_there rows = help_keeps (codes "tries") (with_default (with_default rows turns_flag) tries_flag) (default_made (codes "tries") (codes "8") most_tries (with_default rows turns_flag) refl)
+tries_there rows = help_keeps (codes "tries") (with_default (with_default rows turns_flag) tries_flag) (default_made (codes "tries") (codes "8") max_tries (with_default rows turns_flag) refl)
 
-for_turns : IsFor (codes "turns") most_turns
+for_turns : IsFor (codes "turns") max_turns
 for_turns text n = (λ e. n, λ e. cc)
 
-for_tries : IsFor (codes "tries") most_tries
+for_tries : IsFor (codes "tries") max_tries
 for_tries text n = (λ e. cc, λ e. n)
 
 -- the word `run` as it is built
 abbrev run_shape : Shape
 run_shape = built_leaf (inherited (built program).top run_command.top)
 
-run_numbers : (words : List Text) → level_fault run_shape [] nothing_held words false [] ≡ [] → HasNumber (codes "turns") most_turns (rows_after run_shape.rules [] words) × HasNumber (codes "tries") most_tries (rows_after run_shape.rules [] words)
+run_numbers : (words : List Text) → level_fault run_shape [] nothing_held words false [] ≡ [] → HasNumber (codes "turns") max_turns (rows_after run_shape.rules [] words) × HasNumber (codes "tries") max_tries (rows_after run_shape.rules [] words)
 run_numbers words e =
-    let uses : AllByRecursion (UsesWell false) run_rules = (flag_uses (codes "turns") (codes "1000") most_turns for_turns, (flag_uses (codes "tries") (codes "8") most_tries for_tries, (help_uses, tt))) in
+    let uses : AllByRecursion (UsesWell false) run_rules = (flag_uses (codes "turns") (codes "1000") max_turns for_turns, (flag_uses (codes "tries") (codes "8") max_tries for_tries, (help_uses, tt))) in
     let held = (walk run_shape.rules [] nothing_held words).held in
     let steps = neither (walk_fault run_shape [] (walk_from nothing_held) words) _ e in
     let ends = neither (settle_fault run_shape.rules run_shape.args_override_self held) _ steps.1 in
     let defaults = neither (defaults_fault (settled run_shape.rules held).rows run_shape.rules) _ ends.1 in
     let walked = walks run_shape uses [] (walk_from nothing_held) words steps.0 tt in
     let settled_well = settles run_shape uses held ends.0 walked in
-    let given : AllByRecursion DefaultsWell run_rules = (flag_defaults (codes "turns") (codes "1000") most_turns for_turns, (flag_defaults (codes "tries") (codes "8") most_tries for_tries, (help_defaults, tt))) in
+    let given : AllByRecursion DefaultsWell run_rules = (flag_defaults (codes "turns") (codes "1000") max_turns for_turns, (flag_defaults (codes "tries") (codes "8") max_tries for_tries, (help_defaults, tt))) in
     both_rows _ (defaults_kept run_shape.rules (settled run_shape.rules held).rows given defaults.0 settled_well) (turns_there (settled run_shape.rules held).rows) (tries_there (settled run_shape.rules held).rows)
 
 -- ---- of all words
@@ -443,7 +443,7 @@ entered_well (Some p) e = found_well (λ s. answers_to p.0 (label_of s)) p.1 _ r
 pub run_has_numbers : (words : List Text) → fault_of program words ≡ [] → HasNumbers (subcommand_of program words)
 run_has_numbers words e =
     let a = built program in
-    let behind = argument_words a words in
-    let stop = stop_after a.top.rules (names_of a) behind in
-    let steps = neither (walk_fault a.top (names_of a) (walk_from nothing_held) behind) _ e in
+    let given = argument_words a words in
+    let stop = stop_after a.top.rules (names_of a) given in
+    let steps = neither (walk_fault a.top (names_of a) (walk_from nothing_held) given) _ e in
     entered_well stop (neither (entered_fault a stop) _ steps.1).0

@@ -11,7 +11,7 @@ use Rattle.clap.specs.declared.parser.matches.ArgMatches.TheViews.{out-SubComman
 use Rattle.clap.specs.declared.parser.matches.SubCommand.{SubCommand}
 use Rattle.clap.specs.declared.parser.matches.Found.{Found}
 use Rattle.clap.proofs.WalkLemmas.{one_text-rows}
-use Rattle.cell_command.specs.Words.{HasNumber, HasNumbers, most_tries, most_turns, number_in, number_of}
+use Rattle.cell_command.specs.Words.{HasNumber, HasNumbers, max_tries, max_turns, number_in, number_of}
 
 -- how a text is read as a number of 32 bits
 abbrev Gives : Text → Result ℕ ParseIntError → Type 0
@@ -25,13 +25,13 @@ number_read most t None read small n = absurd (read.1.0 (n.0, omega (arith, n.3)
 module _ {Z : Type 0} where
   -- the flags of the word `run`, if it was found
   pub flags_of_run : (sub : Option (Box SubCommand Z)) (word : Text) (rows : List Row) → Some word ≡ option_map (λ b. (out-SubCommand (box_value b)).name.now) sub → Some rows ≡ option_map (λ p. p.1) (subcommand_rows sub)
-      → word ≡ codes "run" → HasNumbers (subcommand_rows sub) → HasNumber (codes "turns") most_turns rows × HasNumber (codes "tries") most_tries rows
+      → word ≡ codes "run" → HasNumbers (subcommand_rows sub) → HasNumber (codes "turns") max_turns rows × HasNumber (codes "tries") max_tries rows
   flags_of_run None word rows name is run n = cc
   flags_of_run (Some b) word rows name is run n =
       let met = out-SubCommand (box_value b) in
       let named : word ≡ met.name.now = cc in
       let same : rows ≡ rows_of (found_of met.matches) = cc in
-      subst (λ rs. HasNumber (codes "turns") most_turns rs × HasNumber (codes "tries") most_tries rs) (sym same) (n (ap (λ w. bytes_eq w (codes "run")) (sym named ∙ run)))
+      subst (λ rs. HasNumber (codes "turns") max_turns rs × HasNumber (codes "tries") max_tries rs) (sym same) (n (ap (λ w. bytes_eq w (codes "run")) (sym named ∙ run)))
 
 module _ (r : Option ℕ) (f : Found) (flag : Text) (gives : (t : Text) → one_text f flag ≡ Some t → ReadsOne Gives t r) (most : ℕ) (small : most < 2 ^ 32) (has : HasNumber flag most (rows_of f)) where
   -- the flag is read as its number

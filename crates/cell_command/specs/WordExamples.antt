@@ -21,9 +21,9 @@ pub record WordsAreMet : Type 0 where
   pub sim : AskFor (codes "sim" ∷ []) Sim
   pub run : AskFor (codes "run" ∷ []) (Run 1000 8)
   pub one_turn : AskFor (run_with (codes "--turns") (codes "1")) (Run 1 8)
-  pub most_turns : AskFor (run_with (codes "--turns") (codes "100000")) (Run 100000 8)
+  pub max_turns : AskFor (run_with (codes "--turns") (codes "100000")) (Run 100000 8)
   pub one_try : AskFor (run_with (codes "--tries") (codes "1")) (Run 1000 1)
-  pub most_tries : AskFor (run_with (codes "--tries") (codes "64")) (Run 1000 64)
+  pub max_tries : AskFor (run_with (codes "--tries") (codes "64")) (Run 1000 64)
   pub both : AskFor (codes "run" ∷ codes "--tries=64" ∷ codes "--turns=3" ∷ []) (Run 3 64)
   pub no_turn : AreRefused (run_with (codes "--turns") (codes "0"))
   pub turn_more : AreRefused (run_with (codes "--turns") (codes "100001"))

@@ -18,15 +18,15 @@ number_flag name most default = record (new_rule name) {
   defaults = default ∷ [];
 }
 
-abbrev pub most_turns : ℕ
-most_turns = 100000
+abbrev pub max_turns : ℕ
+max_turns = 100000
 
-abbrev pub most_tries : ℕ
-most_tries = 64
+abbrev pub max_tries : ℕ
+max_tries = 64
 
 -- the word `run` with its flags
 abbrev pub run_command : App
-run_command = with_rule (with_rule (new_app (codes "run")) (number_flag (codes "turns") most_turns (codes "1000"))) (number_flag (codes "tries") most_tries (codes "8"))
+run_command = with_rule (with_rule (new_app (codes "run")) (number_flag (codes "turns") max_turns (codes "1000"))) (number_flag (codes "tries") max_tries (codes "8"))
 
 -- the program `cell`, with the words `replay`, `sim` and `run`
 abbrev pub program : App
@@ -71,11 +71,11 @@ AskForSim words = (name : Text) × (words ≡ name ∷ codes "sim" ∷ [])
 abbrev pub AskForRun : ℕ → ℕ → List Text → Type 0
 AskForRun turns tries words = AreTaken words × (mode_of words ≡ Run turns tries)
 
--- a run has from 1 to `most_turns` turns, and from 1 to `most_tries` tries
+-- a run has from 1 to `max_turns` turns, and from 1 to `max_tries` tries
 abbrev pub IsWithin : Mode → Type 0
 IsWithin Replay = ⊤
 IsWithin Sim = ⊤
-IsWithin (Run turns tries) = (1 ≤ turns) × (turns ≤ most_turns) × (1 ≤ tries) × (tries ≤ most_tries)
+IsWithin (Run turns tries) = (1 ≤ turns) × (turns ≤ max_turns) × (1 ≤ tries) × (tries ≤ max_tries)
 
 -- the flag has a number from 1 to the most
 abbrev pub HasNumber : Text → ℕ → List Row → Type 0
@@ -84,4 +84,4 @@ HasNumber flag most rows = (text : Text) × (one_of flag rows ≡ Some text) × 
 -- if the word `run` was found, its flags have their numbers
 abbrev pub HasNumbers : Option (Text × List Row) → Type 0
 HasNumbers None = ⊤
-HasNumbers (Some (word, rows)) = bytes_eq word (codes "run") ≡ true → HasNumber (codes "turns") most_turns rows × HasNumber (codes "tries") most_tries rows
+HasNumbers (Some (word, rows)) = bytes_eq word (codes "run") ≡ true → HasNumber (codes "turns") max_turns rows × HasNumber (codes "tries") max_tries rows

@@ -5,19 +5,19 @@ use Rattle.std.specs.Str.{chars}
 use Rattle.std.proofs.lemmas.List.Elements.{filter_map-append}
 use Rattle.std.proofs.lemmas.List.Folds.{list_all-append, list_all_at}
 use Rattle.cell_notes.specs.declared.schedule.Turn.{Turn}
-use Rattle.cell_config.specs.Letters.{is_letter, most_letters, turn_of, turns_of}
+use Rattle.cell_config.specs.Letters.{is_letter, max_letters, turn_of, turns_of}
 use Rattle.cell_config.specs.declared.fault.ConfigFault.TheVariants.{Range, Letter}
 
-pub turns_of-long : (text : List ℕ) → most_letters < length (chars text) → turns_of text ≡ Err Range
-turns_of-long text long = rw (lt-ltb most_letters (length (chars text)) long) refl
+pub turns_of-long : (text : List ℕ) → max_letters < length (chars text) → turns_of text ≡ Err Range
+turns_of-long text long = rw (lt-ltb max_letters (length (chars text)) long) refl
 
-pub turns_of-other : (text : List ℕ) (i letter : ℕ) → length (chars text) ≤ most_letters → i < length (chars text) → letter ≡ get_or (chars text) i letter → turn_of letter ≡ None → turns_of text ≡ Err Letter
+pub turns_of-other : (text : List ℕ) (i letter : ℕ) → length (chars text) ≤ max_letters → i < length (chars text) → letter ≡ get_or (chars text) i letter → turn_of letter ≡ None → turns_of text ≡ Err Letter
 turns_of-other text i letter short within here none =
     let other : is_letter (get_or (chars text) i letter) ≡ false = ap is_letter (sym here) ∙ ap (λ (o : Option Turn). is_some o) none in
-    rw (le-ltb most_letters (length (chars text)) short, list_all_at is_letter (chars text) i letter within other) refl
+    rw (le-ltb max_letters (length (chars text)) short, list_all_at is_letter (chars text) i letter within other) refl
 
-pub turns_of-letters : (text : List ℕ) → length (chars text) ≤ most_letters → list_all is_letter (chars text) ≡ true → turns_of text ≡ Ok (filter_map turn_of (chars text))
-turns_of-letters text short all = rw (le-ltb most_letters (length (chars text)) short, all) refl
+pub turns_of-letters : (text : List ℕ) → length (chars text) ≤ max_letters → list_all is_letter (chars text) ≡ true → turns_of text ≡ Ok (filter_map turn_of (chars text))
+turns_of-letters text short all = rw (le-ltb max_letters (length (chars text)) short, all) refl
 
 -- another letter
 turns-more : (read : List ℕ) (letter : ℕ) (turn : Turn) → turn_of letter ≡ Some turn → filter_map turn_of (read ++ letter ∷ []) ≡ filter_map turn_of read ++ turn ∷ []

@@ -36,8 +36,8 @@ settings_of-no_text bytes short refused = rw (le-leb (length bytes) byte_limit s
     by_text false e = refl
 
 -- one byte more than the limit shows whether there are more
-pub settings_of-front : (bytes : List ℕ) → settings_of (take (byte_limit + 1) bytes) ≡ settings_of bytes
-settings_of-front bytes =
+pub settings_of-prefix : (bytes : List ℕ) → settings_of (take (byte_limit + 1) bytes) ≡ settings_of bytes
+settings_of-prefix bytes =
     elim (cases_lt byte_limit (length bytes)) [
       | inl long ↦ settings_of-long (take (byte_limit + 1) bytes) (omega (arith, length-take (byte_limit + 1) bytes)) ∙ sym (settings_of-long bytes long)
       | inr short ↦ ap settings_of (take_all (byte_limit + 1) bytes (omega arith))

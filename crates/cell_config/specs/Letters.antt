@@ -7,8 +7,8 @@ use Rattle.cell_notes.specs.declared.schedule.Turn.{Turn}
 use Rattle.cell_config.specs.declared.fault.ConfigFault.{ConfigFault}
 use Rattle.cell_config.specs.declared.fault.ConfigFault.TheVariants.{Range, Letter}
 
-abbrev pub most_letters : ℕ
-most_letters = 1000000
+abbrev pub max_letters : ℕ
+max_letters = 1000000
 
 abbrev pub turn : Bool → Machine → Turn
 turn busy machine = record { machine = machine; busy = busy }
@@ -31,5 +31,5 @@ is_letter letter = is_some (turn_of letter)
 -- the turns of a text of letters
 abbrev pub turns_of : List ℕ → Result (List Turn) ConfigFault
 turns_of text =
-    if nat_lt most_letters (length (chars text)) then Err Range
+    if nat_lt max_letters (length (chars text)) then Err Range
     else if list_all is_letter (chars text) then Ok (filter_map turn_of (chars text)) else Err Letter

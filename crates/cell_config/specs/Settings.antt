@@ -23,8 +23,8 @@ abbrev pub byte_limit : ℕ
 byte_limit = 2097152
 
 -- one byte more shows whether there are more than a configuration may have
-abbrev pub most_bytes_read : ℕ
-most_bytes_read = 2097153
+abbrev pub max_bytes_read : ℕ
+max_bytes_read = 2097153
 
 -- what a configuration gives: a start, a schedule, and of arm1, arm2, rotation, turn and gripper the scales and the curves' pairs
 pub record Settings : Type 0 where

@@ -6,7 +6,7 @@ ghost use Rattle.toml.specs.View.{table_view};
 ghost use Rattle.cell_text.specs.Input.{TakesAtMost};
 ghost use Rattle.cell_rules.specs.Start.{IsStartState};
 ghost use Rattle.cell_config.specs.Configured.{AreAxisScales, AreCurvesOf, Says, shown};
-ghost use Rattle.cell_config.specs.Settings.{most_bytes_read, settings_in, settings_of};
+ghost use Rattle.cell_config.specs.Settings.{max_bytes_read, settings_in, settings_of};
 ghost use Rattle.cell_config.specs.declared.fault.ConfigFault.TheVariants.{Memory};
 
 use crate::fault::ConfigFault;
@@ -51,7 +51,7 @@ pub fn read_config<R: Read>(alloc: Global, reader: &mut R) -> Result<Config, Con
     ensures start { IfOk result (λ config. IsStartState config.start) }
     ensures points { IfOk result (λ config. AreAxisScales config.points) }
     ensures curves { IfOk result (λ config. AreCurvesOf config.points config.curves) }
-    ensures taken { TakesAtMost (R.remaining reader.old) (R.remaining reader.new) most_bytes_read }
+    ensures taken { TakesAtMost (R.remaining reader.old) (R.remaining reader.new) max_bytes_read }
 {
     let bytes = match read_up_to(alloc, reader, MAX_BYTES + 1) {
         Ok(bytes) => bytes,

@@ -65,7 +65,7 @@ fn turn_by(turns: &[Option<Turn>; ASCII], letter: char) -> Option<Turn>
 /// Whether a text has more characters than a schedule may have. It has at least as many bytes as
 /// characters.
 fn is_too_long(text: &str) -> bool
-    ensures { result ≡ nat_lt letters.most_letters (length (chars text.now)) }
+    ensures { result ≡ nat_lt letters.max_letters (length (chars text.now)) }
 {
     text.len() > MAX_LETTERS && text.chars().count() > MAX_LETTERS
 }

@@ -1,5 +1,5 @@
 mod ReportLemmas
-mod FrontLemmas
+mod PrefixLemmas
 mod SimLemmas
 mod RunLemmas
 mod LawLemmas

@@ -8,7 +8,7 @@ use Rattle.cell_rules.specs.History.{after}
 use Rattle.cell_report.specs.Audited.{HasNoHistory, IsAudited}
 use Rattle.cell_report.specs.declared.audit_faults.AuditFault.{AuditFault}
 use Rattle.cell_report.specs.declared.audit_faults.AuditFault.TheVariants.{Twice, Gap, Differs, End, Memory as AuditMemory}
-use Rattle.cell_text.specs.Output.{WroteFront}
+use Rattle.cell_text.specs.Output.{WrotePrefix}
 use Rattle.cell_parts.specs.Axes.{CellScales}
 use Rattle.cell_notes.specs.declared.run_record.RunRecord.{RunRecord}
 use Rattle.cell_config.specs.Configured.{Says, in_order, shown}
@@ -32,13 +32,13 @@ same_end : (a b : Option ModelState) → ended a ≡ ended b → a ≡ b
 same_end a b e = cc
 
 module _ (turns tries : ℕ) (old new : Option (List ℕ)) where
-  pub run_config_refused : (o : Option (List ℕ)) (fault : ConfigFault) → IfSome o (λ bytes. Says bytes (Err fault)) → WroteFront old new (fault_line (config_fault_text fault))
+  pub run_config_refused : (o : Option (List ℕ)) (fault : ConfigFault) → IfSome o (λ bytes. Says bytes (Err fault)) → WrotePrefix old new (fault_line (config_fault_text fault))
       → IfSome o (λ bytes. RunFails turns tries bytes old new)
   run_config_refused None fault k w = tt
   run_config_refused (Some bytes) fault k w = inl (fault, (k, w))
 
   -- the tries were in range, so memory ran out or a worker couldn't be started
-  pub run_refused : (o : Option (List ℕ)) (fault : RunFault) → fault ≢ Tries → WroteFront old new (fault_line (run_fault_text fault)) → IfSome o (λ bytes. RunFails turns tries bytes old new)
+  pub run_refused : (o : Option (List ℕ)) (fault : RunFault) → fault ≢ Tries → WrotePrefix old new (fault_line (run_fault_text fault)) → IfSome o (λ bytes. RunFails turns tries bytes old new)
   run_refused None fault other w = tt
   run_refused (Some bytes) Tries other w = absurd (other (λ i. Tries))
   run_refused (Some bytes) Memory other w = inr (inl w)

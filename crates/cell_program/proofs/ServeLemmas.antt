@@ -2,14 +2,14 @@
 use Rattle.std.proofs.Common.{◌≡◌, ◌≢◌, ◌<◌, inl, inr, ℕ, List, [], codes, Option, Some, None, IfSome, refl, sym, ◌∙◌, arith}
 use Rattle.std.specs.Io.KnownBytes.{Consumes}
 use Rattle.cell_text.specs.Input.{TakesAtMost}
-use Rattle.cell_text.specs.Output.{WroteFront}
-use Rattle.cell_replay.specs.Script.{most_bytes_read}
-use Rattle.cell_config.specs.Settings.{most_bytes_read as config_bytes_read}
+use Rattle.cell_text.specs.Output.{WrotePrefix}
+use Rattle.cell_replay.specs.Script.{max_bytes_read}
+use Rattle.cell_config.specs.Settings.{max_bytes_read as config_bytes_read}
 use Rattle.cell_program.specs.Exits.{exit_status}
 use Rattle.cell_program.specs.Served.{ReplayFails, Replays, RunFails, Runs, SimFails, Simulates, WasReplayed, WasRun, WasSimulated, fault_line}
 use Rattle.cell_program.specs.declared.exit.Exit.{Exit}
 use Rattle.cell_program.specs.declared.exit.Exit.TheVariants.{Well, Failed, Refused}
-use Rattle.cell_program.proofs.FrontLemmas.{told_before}
+use Rattle.cell_program.proofs.PrefixLemmas.{told_before}
 
 -- ---- exits by their statuses
 
@@ -31,7 +31,7 @@ is_below Refused n is other = absurd (other refl)
 -- ---- a mode that was served
 
 module _ (e : Exit) (n : ℕ) (is : n ≡ exit_status e) (other : e ≢ Refused) (input rest old new : Option (List ℕ)) where
-  pub replays : (e ≡ Well → WasReplayed input old new) → (e ≡ Failed → IfSome input (λ bytes. ReplayFails bytes old new)) → TakesAtMost input rest most_bytes_read
+  pub replays : (e ≡ Well → WasReplayed input old new) → (e ≡ Failed → IfSome input (λ bytes. ReplayFails bytes old new)) → TakesAtMost input rest max_bytes_read
       → Replays n input rest old new
   replays well failed taken = record { status = is_below e n is other; well = λ k. well (is_well e n is k); failed = λ k. failed (is_failed e n is k); taken = taken }
 
@@ -53,11 +53,11 @@ failed_only Refused k r = cc
 never_well : {P : Type 0} → (e : Exit) → e ≡ Failed → e ≡ Well → P
 never_well e k w = let lie : Failed ≡ Well = sym k ∙ w in cc
 
-told_sim : (o old new : Option (List ℕ)) → WroteFront old new (fault_line (codes "memory")) → IfSome o (λ bytes. SimFails bytes old new)
+told_sim : (o old new : Option (List ℕ)) → WrotePrefix old new (fault_line (codes "memory")) → IfSome o (λ bytes. SimFails bytes old new)
 told_sim None old new w = tt
 told_sim (Some bytes) old new w = inr (inl w)
 
-told_run : (turns tries : ℕ) (o old new : Option (List ℕ)) → WroteFront old new (fault_line (codes "memory")) → IfSome o (λ bytes. RunFails turns tries bytes old new)
+told_run : (turns tries : ℕ) (o old new : Option (List ℕ)) → WrotePrefix old new (fault_line (codes "memory")) → IfSome o (λ bytes. RunFails turns tries bytes old new)
 told_run turns tries None old new w = tt
 told_run turns tries (Some bytes) old new w = inr (inl w)
 
@@ -68,9 +68,9 @@ consumes_none (Some xs) = refl
 nothing_taken : (o : Option (List ℕ)) (most : ℕ) → TakesAtMost o o most
 nothing_taken o most = ([], omega arith, consumes_none o)
 
-module _ (e : Exit) (n : ℕ) (is : n ≡ exit_status e) (k : e ≡ Failed) (input old new : Option (List ℕ)) (w : WroteFront old new (fault_line (codes "memory"))) where
+module _ (e : Exit) (n : ℕ) (is : n ≡ exit_status e) (k : e ≡ Failed) (input old new : Option (List ℕ)) (w : WrotePrefix old new (fault_line (codes "memory"))) where
   pub replay_unread : Replays n input input old new
-  replay_unread = replays e n is (failed_only e k) input input old new (never_well e k) (λ f. told_before input old new w) (nothing_taken input most_bytes_read)
+  replay_unread = replays e n is (failed_only e k) input input old new (never_well e k) (λ f. told_before input old new w) (nothing_taken input max_bytes_read)
 
   pub sim_unread : Simulates n input input old new
   sim_unread = simulates e n is (failed_only e k) input input old new (never_well e k) (λ f. told_sim input old new w) (nothing_taken input config_bytes_read)

@@ -4,7 +4,7 @@ use Rattle.cell_types.specs.Journals.{journal_of}
 use Rattle.cell_rules.specs.ModelState.{ModelState}
 use Rattle.cell_rules.specs.Journal.{event_by}
 use Rattle.cell_rules.proofs.Notes.{events_of_noted}
-use Rattle.cell_text.specs.Output.{WroteFront}
+use Rattle.cell_text.specs.Output.{WrotePrefix}
 use Rattle.cell_parts.specs.Axes.{CellScales}
 use Rattle.cell_plant.specs.Cells.{TellsRun}
 use Rattle.cell_plant.specs.Records.{events_in}
@@ -47,7 +47,7 @@ amiss_is r None k (inr h) = cc
 amiss_is r (Some f) k h = inr (ap (λ x. Some x) k)
 
 module _ (old new : Option (List ℕ)) where
-  pub config_refused : (o : Option (List ℕ)) (fault : ConfigFault) → IfSome o (λ bytes. Says bytes (Err fault)) → WroteFront old new (fault_line (config_fault_text fault)) → IfSome o (λ bytes. SimFails bytes old new)
+  pub config_refused : (o : Option (List ℕ)) (fault : ConfigFault) → IfSome o (λ bytes. Says bytes (Err fault)) → WrotePrefix old new (fault_line (config_fault_text fault)) → IfSome o (λ bytes. SimFails bytes old new)
   config_refused None fault k w = tt
   config_refused (Some bytes) fault k w = inl (fault, (k, w))
 

@@ -3,7 +3,7 @@ use Rattle.std.specs.Prelude.{◌≡◌, ◌≢◌, ℕ, List, All, ◌⊎◌, O
 use Rattle.std.specs.Io.KnownBytes.{Appends}
 use Rattle.cell_types.specs.declared.answer.Event.{Event}
 use Rattle.cell_types.specs.Journals.{journal_of}
-use Rattle.cell_text.specs.Output.{WroteFront}
+use Rattle.cell_text.specs.Output.{WrotePrefix}
 use Rattle.cell_notes.specs.declared.run_record.RunRecord.{RunRecord}
 use Rattle.cell_notes.specs.declared.status.Status.{Status}
 use Rattle.cell_notes.specs.declared.status.Status.TheVariants.{Fine}
@@ -35,5 +35,5 @@ abbrev pub ReportTold : Exit → RunRecord → Option (List ℕ) → Option (Lis
 ReportTold Well r old new = AreFine r.status × (AuditFinds r None × Appends old new (report_text r None))
 ReportTold Failed r old new =
     (audit : Option AuditFault) × (AuditFinds r audit
-    × ((Appends old new (report_text r audit) × IsAmiss r audit) ⊎ WroteFront old new (report_text r audit)))
+    × ((Appends old new (report_text r audit) × IsAmiss r audit) ⊎ WrotePrefix old new (report_text r audit)))
 ReportTold Refused r old new = ⊥

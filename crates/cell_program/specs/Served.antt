@@ -1,9 +1,9 @@
 -- What a run of the program has done.
 use Rattle.std.specs.Prelude.{◌≡◌, ◌<◌, ℕ, List, ◌++◌, codes, ◌⊎◌, Option, Some, None, Ok, Err, IfSome}
 use Rattle.std.specs.Io.KnownBytes.{Appends}
-use Rattle.cell_replay.specs.Faults.{WroteFront, WroteLines}
+use Rattle.cell_replay.specs.Faults.{WrotePrefix, WroteLines}
 use Rattle.cell_text.specs.Input.{TakesAtMost}
-use Rattle.cell_replay.specs.Script.{most_bytes_read, script_lines, script_outcome, script_text}
+use Rattle.cell_replay.specs.Script.{max_bytes_read, script_lines, script_outcome, script_text}
 use Rattle.cell_report.specs.Report.{report_text}
 use Rattle.cell_replay.specs.declared.script.Outcome.TheVariants.{Clean, Refused}
 use Rattle.cell_replay.specs.declared.script.ScriptFault.{ScriptFault}
@@ -13,7 +13,7 @@ use Rattle.cell_parts.specs.Axes.{CellScales}
 use Rattle.cell_plant.specs.Cells.{TellsRun}
 use Rattle.cell_notes.specs.declared.run_record.RunRecord.{RunRecord}
 use Rattle.cell_config.specs.Configured.{Says, in_order}
-use Rattle.cell_config.specs.Settings.{Settings, settings_of, most_bytes_read as config_bytes_read}
+use Rattle.cell_config.specs.Settings.{Settings, settings_of, max_bytes_read as config_bytes_read}
 use Rattle.cell_config.specs.ConfigWords.{config_fault_text}
 use Rattle.cell_config.specs.declared.fault.ConfigFault.{ConfigFault}
 use Rattle.cell_program.specs.Ran.{TellsWorkers}
@@ -32,8 +32,8 @@ WasReplayed remaining old new = IfSome remaining (λ bytes. Appends old new (scr
 abbrev pub ReplayFails : List ℕ → Option (List ℕ) → Option (List ℕ) → Type 0
 ReplayFails bytes old new =
     (Appends old new (script_text bytes) × ((fault : ScriptFault) × (script_outcome bytes ≡ Refused fault)))
-    ⊎ (WroteFront old new (script_text bytes)
-    ⊎ ((between : Option (List ℕ)) × (WroteLines old between (script_lines bytes) × (WroteFront between new (fault_line (codes "read")) ⊎ WroteFront between new (fault_line (codes "memory"))))))
+    ⊎ (WrotePrefix old new (script_text bytes)
+    ⊎ ((between : Option (List ℕ)) × (WroteLines old between (script_lines bytes) × (WrotePrefix between new (fault_line (codes "read")) ⊎ WrotePrefix between new (fault_line (codes "memory"))))))
 
 -- a record is of the run of the configuration that the bytes give
 pub record TellsRunOf (bytes : List ℕ) (r : RunRecord) : Type 0 where
@@ -58,10 +58,10 @@ IsAuditOf (Some fault) = fault ≡ AuditMemory
 -- report was.
 abbrev pub SimFails : List ℕ → Option (List ℕ) → Option (List ℕ) → Type 0
 SimFails bytes old new =
-    ((fault : ConfigFault) × (Says bytes (Err fault) × WroteFront old new (fault_line (config_fault_text fault))))
-    ⊎ (WroteFront old new (fault_line (codes "memory"))
+    ((fault : ConfigFault) × (Says bytes (Err fault) × WrotePrefix old new (fault_line (config_fault_text fault))))
+    ⊎ (WrotePrefix old new (fault_line (codes "memory"))
     ⊎ ((r : RunRecord) × (audit : Option AuditFault) × (TellsRunOf bytes r × (IsAuditOf audit
-    × ((Appends old new (report_text r audit) × ((¬ AreFine r.status) ⊎ (audit ≡ Some AuditMemory))) ⊎ WroteFront old new (report_text r audit))))))
+    × ((Appends old new (report_text r audit) × ((¬ AreFine r.status) ⊎ (audit ≡ Some AuditMemory))) ⊎ WrotePrefix old new (report_text r audit))))))
 
 -- a record is of a run by six workers of the configuration that the bytes give
 pub record TellsWorkersOf (turns tries : ℕ) (bytes : List ℕ) (r : RunRecord) : Type 0 where
@@ -81,11 +81,11 @@ WasRun turns tries remaining old new =
 -- a prefix of the report was.
 abbrev pub RunFails : ℕ → ℕ → List ℕ → Option (List ℕ) → Option (List ℕ) → Type 0
 RunFails turns tries bytes old new =
-    ((fault : ConfigFault) × (Says bytes (Err fault) × WroteFront old new (fault_line (config_fault_text fault))))
-    ⊎ (WroteFront old new (fault_line (codes "memory"))
-    ⊎ (WroteFront old new (fault_line (codes "spawn"))
+    ((fault : ConfigFault) × (Says bytes (Err fault) × WrotePrefix old new (fault_line (config_fault_text fault))))
+    ⊎ (WrotePrefix old new (fault_line (codes "memory"))
+    ⊎ (WrotePrefix old new (fault_line (codes "spawn"))
     ⊎ ((r : RunRecord) × (audit : Option AuditFault) × (TellsWorkersOf turns tries bytes r × (AuditFinds r audit
-    × ((Appends old new (report_text r audit) × IsAmiss r audit) ⊎ WroteFront old new (report_text r audit)))))))
+    × ((Appends old new (report_text r audit) × IsAmiss r audit) ⊎ WrotePrefix old new (report_text r audit)))))))
 
 -- What `serve` says of a replay: the exit status, with what was written; and what was taken of the input. Known bytes
 -- of the input are `input` before and `rest` after it; of the output, `old` and `new`.
@@ -93,7 +93,7 @@ pub record Replays (exit : ℕ) (input rest old new : Option (List ℕ)) : Type 
   pub status : exit < 2
   pub well : exit ≡ 0 → WasReplayed input old new
   pub failed : exit ≡ 1 → IfSome input (λ bytes. ReplayFails bytes old new)
-  pub taken : TakesAtMost input rest most_bytes_read
+  pub taken : TakesAtMost input rest max_bytes_read
 
 -- what `serve` says of a simulation
 pub record Simulates (exit : ℕ) (input rest old new : Option (List ℕ)) : Type 0 where

@@ -1,7 +1,7 @@
 //! The program's fault lines.
 
 ghost use Rattle.std.specs.Prelude.{◌≡◌, IfOk, IfSome};
-ghost use Rattle.cell_text.specs.Output.{WroteFront};
+ghost use Rattle.cell_text.specs.Output.{WrotePrefix};
 ghost use Rattle.cell_program.specs.Served.{fault_line};
 
 use crate::exit::Exit;
@@ -14,10 +14,10 @@ use std::io::Write;
 pub fn fail<W: Write, D: Display + Drop>(writer: &mut W, fault: D) -> Exit
     ensures status { result ≡ Exit.Failed }
     ensures line { IfSome (D.output fault) (λ text.
-        WroteFront (W.contents writer.old) (W.contents writer.new) (fault_line text)) }
+        WrotePrefix (W.contents writer.old) (W.contents writer.new) (fault_line text)) }
 {
     if let Ok(page) = fault_page(fault) {
-        write_front(writer, page.as_bytes());
+        write_prefix(writer, page.as_bytes());
     }
     Exit::Failed
 }
@@ -32,8 +32,8 @@ fn fault_page<D: Display + Drop>(fault: D) -> Result<Page, fmt::Error>
 }
 
 /// Writes a text as far as the writer takes it.
-pub(crate) fn write_front<W: Write>(writer: &mut W, text: &[u8])
-    ensures { WroteFront (W.contents writer.old) (W.contents writer.new) text.now }
+pub(crate) fn write_prefix<W: Write>(writer: &mut W, text: &[u8])
+    ensures { WrotePrefix (W.contents writer.old) (W.contents writer.new) text.now }
 {
     let _ = write_text(writer, text);
 }

@@ -2,15 +2,15 @@
 
 ghost use Rattle.std.specs.Prelude.{◌≡◌, ◌≤◌, ◌<◌, ◌⊎◌, ℕ, codes};
 ghost use Rattle.clap.specs.Words.{kind_of};
-ghost use Rattle.cell_text.specs.Output.{WroteFront};
+ghost use Rattle.cell_text.specs.Output.{WrotePrefix};
 ghost use Rattle.cell_text.specs.Input.{TakesAtMost};
-ghost use Rattle.cell_replay.specs.Script.{most_bytes_read};
+ghost use Rattle.cell_replay.specs.Script.{max_bytes_read};
 ghost use Rattle.cell_program.specs.Asked.{AskFor, texts_of};
 ghost use Rattle.cell_program.specs.Served.{Replays, Runs, Simulates, fault_line};
 ghost use Rattle.cell_command.specs.Words.{AreTaken, AskForHelp, AskForRun};
 
 use crate::exit::Exit;
-use crate::faults::{fail, write_front};
+use crate::faults::{fail, write_prefix};
 use crate::serve_replay::serve_replay;
 use crate::serve_run::serve_run;
 use crate::serve_sim::serve_sim;
@@ -63,7 +63,7 @@ where
     ensures refused { AreTaken (texts_of words.now) → result < 2 }
 
     // At most one byte more is read than a script may have.
-    ensures read { TakesAtMost (R.remaining reader.old) (R.remaining reader.new) most_bytes_read }
+    ensures read { TakesAtMost (R.remaining reader.old) (R.remaining reader.new) max_bytes_read }
 {
     match read_words(alloc, words) {
         Ok(Mode::Replay) => serve_replay(alloc, reader, writer).status(),
@@ -78,10 +78,10 @@ where
 /// Prints that a word isn't text, as far as the writer takes it, and returns `Refused`.
 pub fn refuse_bytes<W: Write>(writer: &mut W) -> Exit
     ensures status { result ≡ Exit.Refused }
-    ensures line { WroteFront (W.contents writer.old) (W.contents writer.new)
+    ensures line { WrotePrefix (W.contents writer.old) (W.contents writer.new)
         (codes "error: a word isn't UTF-8\n") }
 {
-    write_front(writer, "error: a word isn't UTF-8\n".as_bytes());
+    write_prefix(writer, "error: a word isn't UTF-8\n".as_bytes());
     Exit::Refused
 }
 
@@ -90,7 +90,7 @@ fn refuse<W: Write>(error: clap::Error, writer: &mut W) -> Exit
     ensures help { result ≡ Exit.Well → kind_of error ≡ ErrorKind.DisplayHelp }
     ensures memory { kind_of error ≡ ErrorKind.OutOfMemory → result ≡ Exit.Failed }
     ensures line { kind_of error ≡ ErrorKind.OutOfMemory →
-        WroteFront (W.contents writer.old) (W.contents writer.new) (fault_line (codes "memory")) }
+        WrotePrefix (W.contents writer.old) (W.contents writer.new) (fault_line (codes "memory")) }
 {
     let exit = match error.kind() {
         ErrorKind::OutOfMemory => return fail(writer, "memory"),

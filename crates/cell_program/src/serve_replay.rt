@@ -2,7 +2,7 @@
 
 ghost use Rattle.std.specs.Prelude.{◌≡◌, ◌≢◌, IfSome};
 ghost use Rattle.cell_text.specs.Input.{TakesAtMost};
-ghost use Rattle.cell_replay.specs.Script.{most_bytes_read};
+ghost use Rattle.cell_replay.specs.Script.{max_bytes_read};
 ghost use Rattle.cell_program.specs.Served.{ReplayFails, WasReplayed};
 
 use crate::exit::Exit;
@@ -20,7 +20,7 @@ pub fn serve_replay<R: Read, W: Write>(alloc: Global, reader: &mut R, writer: &m
     ensures failed { result ≡ Exit.Failed →
         IfSome (R.remaining reader.old) (λ bytes.
         ReplayFails bytes (W.contents writer.old) (W.contents writer.new)) }
-    ensures read { TakesAtMost (R.remaining reader.old) (R.remaining reader.new) most_bytes_read }
+    ensures read { TakesAtMost (R.remaining reader.old) (R.remaining reader.new) max_bytes_read }
 {
     match replay(alloc, reader, writer) {
         Ok(Outcome::Clean) => Exit::Well,

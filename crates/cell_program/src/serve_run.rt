@@ -5,7 +5,7 @@ ghost use Rattle.cell_rules.specs.Start.{IsStartState};
 ghost use Rattle.cell_parts.specs.Axes.{AreCellScales, CellScales};
 ghost use Rattle.cell_text.specs.Input.{TakesAtMost};
 ghost use Rattle.cell_config.specs.Configured.{AreAxisScales, AreCurvesOf, in_order};
-ghost use Rattle.cell_config.specs.Settings.{most_bytes_read};
+ghost use Rattle.cell_config.specs.Settings.{max_bytes_read};
 ghost use Rattle.cell_program.specs.Ran.{TellsWorkers};
 ghost use Rattle.cell_program.specs.Served.{RunFails, WasRun};
 ghost use Rattle.cell_program.specs.Gauges.{scales_by_points};
@@ -47,7 +47,7 @@ where
     ensures failed { result ≡ Exit.Failed →
         IfSome (R.remaining reader.old) (λ bytes.
         RunFails turns tries bytes (W.contents writer.old) (W.contents writer.new)) }
-    ensures read { TakesAtMost (R.remaining reader.old) (R.remaining reader.new) most_bytes_read }
+    ensures read { TakesAtMost (R.remaining reader.old) (R.remaining reader.new) max_bytes_read }
 {
     let config = match read_config(alloc, reader) {
         Ok(config) => config,

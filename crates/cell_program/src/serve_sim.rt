@@ -7,8 +7,8 @@ ghost use Rattle.cell_plant.specs.Cells.{TellsRun};
 ghost use Rattle.cell_text.specs.Input.{TakesAtMost};
 ghost use Rattle.cell_config.specs.Configured.{AreAxisScales, AreCurvesOf, in_order};
 ghost use Rattle.cell_program.specs.Served.{SimFails, WasSimulated};
-ghost use Rattle.cell_config.specs.Settings.{most_bytes_read};
-ghost use Rattle.cell_program.specs.Gauges.{scales_by_points};
+ghost use Rattle.cell_config.specs.Settings.{max_bytes_read};
+ghost use Rattle.cell_program.specs.Gauges.{cell_scales};
 
 use crate::exit::Exit;
 use crate::faults::fail;
@@ -30,7 +30,7 @@ pub fn serve_sim<R: Read, W: Write>(alloc: Global, reader: &mut R, writer: &mut 
     ensures failed { result ≡ Exit.Failed →
         IfSome (R.remaining reader.old) (λ bytes.
         SimFails bytes (W.contents writer.old) (W.contents writer.new)) }
-    ensures read { TakesAtMost (R.remaining reader.old) (R.remaining reader.new) most_bytes_read }
+    ensures read { TakesAtMost (R.remaining reader.old) (R.remaining reader.new) max_bytes_read }
 {
     let config = match read_config(alloc, reader) {
         Ok(config) => config,

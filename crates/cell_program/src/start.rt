@@ -2,7 +2,7 @@
 
 ghost use Rattle.std.specs.Prelude.{◌≤◌, IfOk};
 ghost use Rattle.cell_text.specs.Input.{TakesAtMost};
-ghost use Rattle.cell_replay.specs.Script.{most_bytes_read};
+ghost use Rattle.cell_replay.specs.Script.{max_bytes_read};
 
 use crate::faults::fail;
 use crate::serve::{refuse_bytes, serve};
@@ -26,7 +26,7 @@ pub fn start<T, E: Env, R: Read, W: Write>(
 where
     T: Threads + Wait + Sync,
     ensures status { result ≤ 2 }
-    ensures read { TakesAtMost (R.remaining reader.old) (R.remaining reader.new) most_bytes_read }
+    ensures read { TakesAtMost (R.remaining reader.old) (R.remaining reader.new) max_bytes_read }
 {
     match serve_words(rt, alloc, env, reader, writer) {
         Ok(status) => status,
@@ -46,7 +46,7 @@ fn serve_words<T, E: Env, R: Read, W: Write>(
 where
     T: Threads + Wait + Sync,
     ensures status { IfOk result (λ status. status ≤ 2) }
-    ensures read { TakesAtMost (R.remaining reader.old) (R.remaining reader.new) most_bytes_read }
+    ensures read { TakesAtMost (R.remaining reader.old) (R.remaining reader.new) max_bytes_read }
 {
     let words = words_of(alloc, env)?;
     let mut texts = Vec::new(alloc);

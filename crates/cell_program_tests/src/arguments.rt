@@ -38,7 +38,7 @@ fn is_read_as(alloc: Global, arguments: &[&[u8]], wanted: &[&str]) -> bool {
 }
 
 #[test]
-fn reads_the_words_behind_the_name(rt: HostRuntime) {
+fn reads_the_words_after_the_name(rt: HostRuntime) {
     for (arguments, wanted) in WORDS {
         assert!(rt; is_read_as(rt.alloc(), arguments, wanted), "{wanted:?}");
     }

@@ -137,7 +137,7 @@ fn has_in_order(text: &str, parts: &[&str]) -> bool {
     let mut rest = text;
     for part in parts {
         match rest.split_once(*part) {
-            Some((_, behind)) => rest = behind,
+            Some((_, after)) => rest = after,
             None => return false,
         }
     }

@@ -69,8 +69,8 @@ fn is_cut<T: Threads + Wait + Sync>(
     let mut whole = Vec::new(alloc);
     run(rt, alloc, words, &mut input.as_bytes(), &mut whole);
     let status = run(rt, alloc, words, &mut input.as_bytes(), &mut writer);
-    let is_front = whole.as_slice().starts_with(writer.taken.as_slice());
-    status == 1 && is_front && writer.taken.len() == left
+    let is_prefix = whole.as_slice().starts_with(writer.taken.as_slice());
+    status == 1 && is_prefix && writer.taken.len() == left
 }
 
 // Words, an input, the number of bytes after which the writer fails, and whether it then takes
@@ -90,7 +90,7 @@ const CUT: &[(&[&str], &str, usize, bool)] = &[
 ];
 
 #[test]
-fn writes_a_front(rt: HostRuntime) {
+fn writes_a_prefix(rt: HostRuntime) {
     for (words, input, left, is_full) in CUT {
         assert!(rt;
             is_cut(&rt, rt.alloc(), words, input, *left, *is_full),

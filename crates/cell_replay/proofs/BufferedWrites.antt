@@ -7,13 +7,13 @@ use Rattle.std.proofs.Math.Seq.{drop-append_seam}
 use Rattle.std.proofs.lemmas.List.{take-append-drop, take-append-le, take_all}
 use Rattle.std.proofs.lemmas.List.Folds.{concat-append}
 use Rattle.std.proofs.lemmas.Option.{same_Some}
-use Rattle.cell_replay.specs.Faults.{WroteFront, WroteLines}
+use Rattle.cell_replay.specs.Faults.{WrotePrefix, WroteLines}
 use Rattle.cell_replay.specs.Script.{end_text, script_lines, script_outcome, script_text}
 use Rattle.cell_replay.specs.Writing.{IsGrown, WritesScript}
 use Rattle.cell_replay.specs.declared.script.Outcome.{Outcome}
 use Rattle.cell_replay.specs.declared.script.ReplayFault.{ReplayFault}
 use Rattle.cell_replay.specs.declared.script.ReplayFault.TheVariants.{Read, Write, Memory}
-use Rattle.cell_replay.proofs.Writings.{front-more, kept-none}
+use Rattle.cell_replay.proofs.Writings.{prefix-more, kept-none}
 
 -- The bytes of the output only grow.
 
@@ -47,7 +47,7 @@ append_known-none (Some xs) waiting none = ap Some (ap (λ l. xs ++ l) none ∙ 
 
 -- What was written, if what waits is a part of a text: a prefix of the text.
 
-pub prefix-out : (known old real : Option (List ℕ)) (waiting text : List ℕ) → IsGrown known real → Keeps old (append_known real waiting) → WroteFront known old text → WroteFront known real text
+pub prefix-out : (known old real : Option (List ℕ)) (waiting text : List ℕ) → IsGrown known real → Keeps old (append_known real waiting) → WrotePrefix known old text → WrotePrefix known real text
 prefix-out None old real waiting text grown keeps h = (0, tt)
 prefix-out (Some xs) None real waiting text grown keeps h = absurd h.1
 prefix-out (Some xs) (Some os) None waiting text grown keeps h = absurd keeps
@@ -59,20 +59,20 @@ prefix-out (Some xs) (Some os) (Some ys) waiting text grown keeps h =
     let all : xs ++ (part ++ waiting) ≡ xs ++ take n text = sym (append_assoc xs part waiting) ∙ ap (λ l. l ++ waiting) (sym whole) ∙ keeps ∙ h.1 in
     let rest : part ++ waiting ≡ take n text = sym (drop-append_seam xs (part ++ waiting)) ∙ ap (drop (length xs)) all ∙ drop-append_seam xs (take n text) in
     let split : text ≡ part ++ (waiting ++ drop n text) = sym (take-append-drop n text) ∙ ap (λ l. l ++ drop n text) (sym rest) ∙ append_assoc part waiting (drop n text) in
-    front-more part (waiting ++ drop n text) text (Some xs) (Some ys) split (length part, whole ∙ ap (λ l. xs ++ l) (sym (take_all (length part) part (omega arith))))
+    prefix-more part (waiting ++ drop n text) text (Some xs) (Some ys) split (length part, whole ∙ ap (λ l. xs ++ l) (sym (take_all (length part) part (omega arith))))
 
 -- What a replay wrote.
 
-lines-prefix : (lines : List (List ℕ)) (last text : List ℕ) (old new : Option (List ℕ)) → text ≡ concat lines ++ last → WroteLines old new lines → WroteFront old new text
+lines-prefix : (lines : List (List ℕ)) (last text : List ℕ) (old new : Option (List ℕ)) → text ≡ concat lines ++ last → WroteLines old new lines → WrotePrefix old new text
 lines-prefix lines last text old new whole h =
     let n = h.0 in
     let first = concat (take n lines) in
     let rest = concat (drop n lines) in
     let both : concat lines ≡ first ++ rest = ap concat (sym (take-append-drop n lines)) ∙ concat-append (take n lines) (drop n lines) in
     let split : text ≡ first ++ (rest ++ last) = whole ∙ ap (λ l. l ++ last) both ∙ append_assoc first rest last in
-    front-more first (rest ++ last) text old new split (length first, subst (Appends old new) (sym (take_all (length first) first (omega arith))) h.1)
+    prefix-more first (rest ++ last) text old new split (length first, subst (Appends old new) (sym (take_all (length first) first (omega arith))) h.1)
 
-script-prefix : (bytes : List ℕ) (old new : Option (List ℕ)) (r : Result Outcome ReplayFault) → WritesScript bytes old new r → WroteFront old new (script_text bytes)
+script-prefix : (bytes : List ℕ) (old new : Option (List ℕ)) (r : Result Outcome ReplayFault) → WritesScript bytes old new r → WrotePrefix old new (script_text bytes)
 unfolding script_text
 script-prefix bytes old new (Ok o) h =
     let text = script_text bytes in

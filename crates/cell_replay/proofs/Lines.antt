@@ -22,11 +22,11 @@ one_more [] x = refl
 one_more (y ∷ ys) x = omega (arith, one_more ys x)
 
 -- the lines of the events that follow earlier ones
-lines-behind : (s now : ModelState) (h before : List Event) (n : ℕ) (rs : List Request) → now ≡ after s before → n ≡ length before → h ≡ before ++ history_of now rs
+lines-after : (s now : ModelState) (h before : List Event) (n : ℕ) (rs : List Request) → now ≡ after s before → n ≡ length before → h ≡ before ++ history_of now rs
     → map (event_line s h) (enumerate_from (n + 1) (history_of now rs)) ≡ lines_after n now rs
 unfolding history_of lines_after
-lines-behind s now h before n [] state count whole = refl
-lines-behind s now h before n (r ∷ rs) state count whole =
+lines-after s now h before n [] state count whole = refl
+lines-after s now h before n (r ∷ rs) state count whole =
     let front : List Event = before ++ event_of now r ∷ [] in
     let rest : List Event = history_of (next now r.machine r.call) rs in
     let more : n + 1 ≡ length front = omega (arith, one_more before (event_of now r)) in
@@ -35,10 +35,10 @@ lines-behind s now h before n (r ∷ rs) state count whole =
     let there : next now r.machine r.call ≡ after s front = ap (λ t. next t r.machine r.call) state ∙ sym (after-append s before (event_of now r ∷ [])) in
     let here : after s (take (n + 1) h) ≡ next now r.machine r.call = ap (after s) taken ∙ sym there in
     ap₂ (λ line lines. line ∷ lines) (ap (λ (t : ModelState). line_of (n + 1) t.stamp (answer_text (reply now r.machine r.call))) here)
-    (lines-behind s (next now r.machine r.call) h front (n + 1) rs there more split)
+    (lines-after s (next now r.machine r.call) h front (n + 1) rs there more split)
 
 pub event_lines-after : (s : ModelState) (rs : List Request) → event_lines s (history_of s rs) ≡ lines_after 0 s rs
-event_lines-after s rs = lines-behind s s (history_of s rs) [] 0 rs refl refl refl
+event_lines-after s rs = lines-after s s (history_of s rs) [] 0 rs refl refl refl
 
 -- Another record.
 

@@ -14,7 +14,7 @@ use Rattle.cell_rules.specs.History.{IsLegal}
 use Rattle.cell_rules.specs.Start.{IsStartState, IsStart, places_of, start_state}
 use Rattle.cell_replay.specs.Requests.{Row}
 use Rattle.cell_rules.specs.StartDigits.{is_start, places_in}
-use Rattle.cell_replay.specs.Script.{event_line, event_lines, events_from, is_cut_of, lines_from, most_records, number_in, outcome_from, requests_in, rows_lines, rows_outcome, rows_start, script_events, script_lines, script_outcome, script_rows, script_start, start_fields, start_in, start_of}
+use Rattle.cell_replay.specs.Script.{event_line, event_lines, events_from, is_cut_of, lines_from, max_records, number_in, outcome_from, requests_in, rows_lines, rows_outcome, rows_start, script_events, script_lines, script_outcome, script_rows, script_start, start_fields, start_in, start_of}
 use Rattle.cell_replay.specs.declared.script.ScriptFault.{ScriptFault}
 use Rattle.cell_replay.specs.declared.script.ScriptFault.TheVariants.{NoStart, BadStart, BadRow, Long}
 use Rattle.cell_replay.specs.declared.script.Outcome.TheVariants.{Clean, Refused}
@@ -23,7 +23,7 @@ use Rattle.cell_replay.proofs.Lines.{legal-history_of, length-history_of, length
 -- The events.
 
 legal-events_from : (start : Result ModelState ScriptFault) (rows : List Row) → IfOk start (λ s. IsLegal s (events_from start rows))
-legal-events_from (Ok s) rows = legal-history_of s (requests_in (take most_records rows))
+legal-events_from (Ok s) rows = legal-history_of s (requests_in (take max_records rows))
 legal-events_from (Err fault) rows = tt
 
 pub legal-script_events : (bytes : List ℕ) → IfOk (script_start bytes) (λ s. IsLegal s (script_events bytes))
@@ -106,19 +106,19 @@ given-script_start bytes = given _ _ (rows_start-record0 (is_cut_of bytes) (scri
 
 -- The lines.
 
-length-events_from : (start : Result ModelState ScriptFault) (rows : List Row) → (length (events_from start rows) ≤ length rows) × (length (events_from start rows) ≤ most_records)
+length-events_from : (start : Result ModelState ScriptFault) (rows : List Row) → (length (events_from start rows) ≤ length rows) × (length (events_from start rows) ≤ max_records)
 length-events_from (Ok s) rows =
-    let requests = take most_records rows in
+    let requests = take max_records rows in
     let each : length (events_from (Ok s) rows) ≡ length (requests_in requests) = length-history_of s (requests_in requests) in
     let few : length (requests_in requests) ≤ length requests = length-requests_in requests in
-    let most : length requests ≡ min most_records (length rows) = length-take most_records rows in
+    let most : length requests ≡ min max_records (length rows) = length-take max_records rows in
     (omega (arith, each, few, most), omega (arith, each, few, most))
 length-events_from (Err fault) rows = (omega arith, omega arith)
 
 length-event_lines : (s : ModelState) (history : List Event) → length (event_lines s history) ≡ length history
 length-event_lines s history = length-map (enumerate_from 1 history) (event_line s history) ∙ length-enumerate_from 1 history
 
-length-lines_from : (start : Result ModelState ScriptFault) (rows : List Row) → length (lines_from start (events_from start rows)) ≤ most_records + 1
+length-lines_from : (start : Result ModelState ScriptFault) (rows : List Row) → length (lines_from start (events_from start rows)) ≤ max_records + 1
 length-lines_from (Ok s) rows = let few = length-events_from (Ok s) rows in omega (arith, length-event_lines s (events_from (Ok s) rows), few.1)
 length-lines_from (Err fault) rows = omega arith
 
@@ -137,7 +137,7 @@ lines_at_bad_row : (is_cut : Bool) (start : Result ModelState ScriptFault) (rows
     → outcome_from is_cut start (length (events_from start rows)) (length rows) ≡ Refused (BadRow number) → length (lines_from start (events_from start rows)) ≡ number
 lines_at_bad_row is_cut (Ok s) rows number h e =
     let answered = length (events_from (Ok s) rows) in
-    let is : number ≡ answered + 1 = bad_end is_cut (nat_lt answered (length rows)) (answered == most_records) answered number e in
+    let is : number ≡ answered + 1 = bad_end is_cut (nat_lt answered (length rows)) (answered == max_records) answered number e in
     omega (arith, is, length-event_lines s (events_from (Ok s) rows))
 lines_at_bad_row is_cut (Err NoStart) rows number h e = absurd (cc)
 lines_at_bad_row is_cut (Err BadStart) rows number h e = absurd (cc)
@@ -161,7 +161,7 @@ lines_of_clean : (is_cut : Bool) (start : Result ModelState ScriptFault) (rows :
     → length (lines_from start (events_from start rows)) ≡ length rows + 1
 lines_of_clean is_cut (Ok s) rows e =
     let answered = length (events_from (Ok s) rows) in
-    let all : length rows ≤ answered = not_fewer answered (length rows) (clean_end is_cut (nat_lt answered (length rows)) (answered == most_records) answered e) in
+    let all : length rows ≤ answered = not_fewer answered (length rows) (clean_end is_cut (nat_lt answered (length rows)) (answered == max_records) answered e) in
     let few = length-events_from (Ok s) rows in
     omega (arith, all, few.0, length-event_lines s (events_from (Ok s) rows))
 lines_of_clean is_cut (Err fault) rows e = absurd (cc)
@@ -195,10 +195,10 @@ lines_of_long is_cut (Ok s) rows h e =
     let answered = length (events_from (Ok s) rows) in
     let few = length-events_from (Ok s) rows in
     let lines = length-event_lines s (events_from (Ok s) rows) in
-    elim (long_end is_cut (nat_lt answered (length rows)) (answered == most_records) answered e) [
+    elim (long_end is_cut (nat_lt answered (length rows)) (answered == max_records) answered e) [
       | inl more ↦
           let lt : answered < length rows = fewer answered (length rows) more.0 in
-          let all : answered ≡ most_records = same_number answered most_records more.1 in
+          let all : answered ≡ max_records = same_number answered max_records more.1 in
           (omega (arith, lt, all, lines), inr (omega (arith, lt, all)))
       | inr cut ↦ let each : length rows ≤ answered = not_fewer answered (length rows) cut.0 in (omega (arith, each, few.0, few.1, lines), inl cut.1)
     ]

@@ -15,14 +15,14 @@ use Rattle.cell_rules.specs.ModelState.{ModelState}
 use Rattle.cell_rules.specs.Reply.{next, reply}
 use Rattle.cell_replay.specs.Requests.{Row, request_of}
 use Rattle.cell_replay.specs.declared.request.Request.{Request}
-use Rattle.cell_replay.specs.Script.{end_of, end_text, events_from, is_cut_of, script_lines, script_outcome, script_rows, script_text, line_of, lines_from, most_records, outcome_from, requests_in, rows_lines, rows_outcome, start_in, start_line}
+use Rattle.cell_replay.specs.Script.{end_of, end_text, events_from, is_cut_of, script_lines, script_outcome, script_rows, script_text, line_of, lines_from, max_records, outcome_from, requests_in, rows_lines, rows_outcome, start_in, start_line}
 use Rattle.cell_replay.specs.declared.script.ScriptFault.{ScriptFault}
 use Rattle.cell_replay.specs.declared.script.ScriptFault.TheVariants.{BadRow, Long, NoStart}
 use Rattle.cell_replay.specs.declared.script.Outcome.{Outcome}
 use Rattle.cell_replay.specs.declared.script.Outcome.TheVariants.{Refused}
 use Rattle.cell_replay.specs.declared.script.ReplayFault.{ReplayFault}
 use Rattle.cell_replay.specs.declared.script.ReplayFault.TheVariants.{Read, Write, Memory}
-use Rattle.cell_replay.specs.Faults.{Leaves, WroteFront, WroteLines, replay_fault_of}
+use Rattle.cell_replay.specs.Faults.{Leaves, WrotePrefix, WroteLines, replay_fault_of}
 use Rattle.cell_text.specs.declared.input.InputFault.{InputFault}
 use Rattle.cell_text.specs.declared.input.InputFault.TheVariants as input
 use Rattle.cell_replay.specs.Writing.{Writes, WritesEnd, WritesNext, WritesScript, lines_after, lines_left, outcome_left}
@@ -30,43 +30,43 @@ use Rattle.cell_replay.proofs.Lines.{event_lines-after, length-history_of, lines
 
 -- The records that are left.
 
-take-one : {A : Type 0} (n : ℕ) (x : A) (xs : List A) → n < most_records → take (most_records - n) (x ∷ xs) ≡ x ∷ take (most_records - (n + 1)) xs
+take-one : {A : Type 0} (n : ℕ) (x : A) (xs : List A) → n < max_records → take (max_records - n) (x ∷ xs) ≡ x ∷ take (max_records - (n + 1)) xs
 take-one n x xs few =
-    let one : most_records - n ≡ suc (most_records - (n + 1)) = omega arith in
+    let one : max_records - n ≡ suc (max_records - (n + 1)) = omega arith in
     ap (λ k. take k (x ∷ xs)) one
 
-requests-more : (n : ℕ) (row : Row) (rest : List Row) (r : Request) → n < most_records → request_of row ≡ Some r
-    → requests_in (take (most_records - n) (row ∷ rest)) ≡ r ∷ requests_in (take (most_records - (n + 1)) rest)
-requests-more n row rest r few good = ap requests_in (take-one n row rest few) ∙ requests_in-more row (take (most_records - (n + 1)) rest) r good
+requests-more : (n : ℕ) (row : Row) (rest : List Row) (r : Request) → n < max_records → request_of row ≡ Some r
+    → requests_in (take (max_records - n) (row ∷ rest)) ≡ r ∷ requests_in (take (max_records - (n + 1)) rest)
+requests-more n row rest r few good = ap requests_in (take-one n row rest few) ∙ requests_in-more row (take (max_records - (n + 1)) rest) r good
 
-requests-bad : (n : ℕ) (row : Row) (rest : List Row) → n < most_records → request_of row ≡ None → requests_in (take (most_records - n) (row ∷ rest)) ≡ []
-requests-bad n row rest few bad = ap requests_in (take-one n row rest few) ∙ requests_in-bad row (take (most_records - (n + 1)) rest) bad
+requests-bad : (n : ℕ) (row : Row) (rest : List Row) → n < max_records → request_of row ≡ None → requests_in (take (max_records - n) (row ∷ rest)) ≡ []
+requests-bad n row rest few bad = ap requests_in (take-one n row rest few) ∙ requests_in-bad row (take (max_records - (n + 1)) rest) bad
 
 requests-none : (k : ℕ) → requests_in (take k []) ≡ []
 requests-none k = ap requests_in (take-nil k) ∙ requests_in-none
 
-lines-more : (n : ℕ) (s : ModelState) (row : Row) (rest : List Row) (r : Request) → n < most_records → request_of row ≡ Some r
+lines-more : (n : ℕ) (s : ModelState) (row : Row) (rest : List Row) (r : Request) → n < max_records → request_of row ≡ Some r
     → lines_left n s (row ∷ rest) ≡ line_of (n + 1) (next s r.machine r.call).stamp (answer_text (reply s r.machine r.call)) ∷ lines_left (n + 1) (next s r.machine r.call) rest
-lines-more n s row rest r few good = ap (lines_after n s) (requests-more n row rest r few good) ∙ lines_after-more n s r (requests_in (take (most_records - (n + 1)) rest))
+lines-more n s row rest r few good = ap (lines_after n s) (requests-more n row rest r few good) ∙ lines_after-more n s r (requests_in (take (max_records - (n + 1)) rest))
 
-outcome-more : (is_cut : Bool) (n : ℕ) (row : Row) (rest : List Row) (r : Request) → n < most_records → request_of row ≡ Some r → outcome_left is_cut n (row ∷ rest) ≡ outcome_left is_cut (n + 1) rest
+outcome-more : (is_cut : Bool) (n : ℕ) (row : Row) (rest : List Row) (r : Request) → n < max_records → request_of row ≡ Some r → outcome_left is_cut n (row ∷ rest) ≡ outcome_left is_cut (n + 1) rest
 outcome-more is_cut n row rest r few good =
     let count = ap length (requests-more n row rest r few good) in
     ap₂ (end_of is_cut) (omega (arith, count)) (omega arith)
 
-lines-bad : (n : ℕ) (s : ModelState) (row : Row) (rest : List Row) → n < most_records → request_of row ≡ None → lines_left n s (row ∷ rest) ≡ []
+lines-bad : (n : ℕ) (s : ModelState) (row : Row) (rest : List Row) → n < max_records → request_of row ≡ None → lines_left n s (row ∷ rest) ≡ []
 lines-bad n s row rest few bad = ap (lines_after n s) (requests-bad n row rest few bad) ∙ lines_after-none n s
 
-end-bad : (is_cut : Bool) (n count : ℕ) → n < count → n < most_records → end_of is_cut n count ≡ Refused (BadRow (n + 1))
+end-bad : (is_cut : Bool) (n count : ℕ) → n < count → n < max_records → end_of is_cut n count ≡ Refused (BadRow (n + 1))
 end-bad is_cut n count more few =
     let lt : nat_lt n count ≡ true = grind (arith, nat_tests) in
-    let ne : (n == most_records) ≡ false = grind (arith, nat_tests) in
+    let ne : (n == max_records) ≡ false = grind (arith, nat_tests) in
     rw (lt, ne) refl
 
-outcome-bad : (is_cut : Bool) (n : ℕ) (row : Row) (rest : List Row) → n < most_records → request_of row ≡ None → outcome_left is_cut n (row ∷ rest) ≡ Refused (BadRow (n + 1))
+outcome-bad : (is_cut : Bool) (n : ℕ) (row : Row) (rest : List Row) → n < max_records → request_of row ≡ None → outcome_left is_cut n (row ∷ rest) ≡ Refused (BadRow (n + 1))
 outcome-bad is_cut n row rest few bad =
     let count = ap length (requests-bad n row rest few bad) in
-    let none : n + length (requests_in (take (most_records - n) (row ∷ rest))) ≡ n = omega (arith, count) in
+    let none : n + length (requests_in (take (max_records - n) (row ∷ rest))) ≡ n = omega (arith, count) in
     ap (λ k. end_of is_cut k (n + length (row ∷ rest))) none ∙ end-bad is_cut n (n + length (row ∷ rest)) (omega arith) few
 
 end-all : (is_cut : Bool) (n : ℕ) → end_of is_cut n n ≡ end_of is_cut 0 0
@@ -76,31 +76,31 @@ end-all is_cut n =
 
 outcome-none : (is_cut : Bool) (n : ℕ) → outcome_left is_cut n [] ≡ end_of is_cut 0 0
 outcome-none is_cut n =
-    let count = ap length (requests-none (most_records - n)) in
-    let none : n + length (requests_in (take (most_records - n) [])) ≡ n = omega (arith, count) in
+    let count = ap length (requests-none (max_records - n)) in
+    let none : n + length (requests_in (take (max_records - n) [])) ≡ n = omega (arith, count) in
     ap₂ (end_of is_cut) none (omega arith) ∙ end-all is_cut n
 
 lines-none : (n : ℕ) (s : ModelState) → lines_left n s [] ≡ []
-lines-none n s = ap (lines_after n s) (requests-none (most_records - n)) ∙ lines_after-none n s
+lines-none n s = ap (lines_after n s) (requests-none (max_records - n)) ∙ lines_after-none n s
 
-requests-full : (n : ℕ) (left : List Row) → n ≡ most_records → requests_in (take (most_records - n) left) ≡ []
+requests-full : (n : ℕ) (left : List Row) → n ≡ max_records → requests_in (take (max_records - n) left) ≡ []
 requests-full n left full =
-    let zero_left : most_records - n ≡ 0 = omega (arith, full) in
+    let zero_left : max_records - n ≡ 0 = omega (arith, full) in
     ap (λ k. requests_in (take k left)) zero_left ∙ requests_in-none
 
-pub lines-full : (n : ℕ) (s : ModelState) (left : List Row) → n ≡ most_records → lines_left n s left ≡ []
+pub lines-full : (n : ℕ) (s : ModelState) (left : List Row) → n ≡ max_records → lines_left n s left ≡ []
 lines-full n s left full = ap (lines_after n s) (requests-full n left full) ∙ lines_after-none n s
 
-end-long : (is_cut : Bool) (n count : ℕ) → n < count → n ≡ most_records → end_of is_cut n count ≡ Refused Long
+end-long : (is_cut : Bool) (n count : ℕ) → n < count → n ≡ max_records → end_of is_cut n count ≡ Refused Long
 end-long is_cut n count more full =
     let lt : nat_lt n count ≡ true = grind (arith, nat_tests) in
-    let eq : (n == most_records) ≡ true = grind (arith, nat_tests) in
+    let eq : (n == max_records) ≡ true = grind (arith, nat_tests) in
     rw (lt, eq) refl
 
-outcome-full : (is_cut : Bool) (n : ℕ) (row : Row) (rest : List Row) → n ≡ most_records → outcome_left is_cut n (row ∷ rest) ≡ Refused Long
+outcome-full : (is_cut : Bool) (n : ℕ) (row : Row) (rest : List Row) → n ≡ max_records → outcome_left is_cut n (row ∷ rest) ≡ Refused Long
 outcome-full is_cut n row rest full =
     let count = ap length (requests-full n (row ∷ rest) full) in
-    let none : n + length (requests_in (take (most_records - n) (row ∷ rest))) ≡ n = omega (arith, count) in
+    let none : n + length (requests_in (take (max_records - n) (row ∷ rest))) ≡ n = omega (arith, count) in
     ap (λ k. end_of is_cut k (n + length (row ∷ rest))) none ∙ end-long is_cut n (n + length (row ∷ rest)) (omega arith) full
 
 -- What was written.
@@ -141,8 +141,8 @@ take-min (suc k) (x ∷ a) =
     ap (λ n. take n (x ∷ a)) both ∙ ap (λ r. x ∷ r) (take-min k a)
 
 -- a prefix of a prefix is a prefix
-pub front-more : (line more all : List ℕ) (old new : Option (List ℕ)) → all ≡ line ++ more → WroteFront old new line → WroteFront old new all
-front-more line more all old new whole h =
+pub prefix-more : (line more all : List ℕ) (old new : Option (List ℕ)) → all ≡ line ++ more → WrotePrefix old new line → WrotePrefix old new all
+prefix-more line more all old new whole h =
     let n = min h.0 (length line) in
     let same : take h.0 line ≡ take n all = short h.0 line more ∙ ap (take n) (sym whole) in
     (n, subst (Appends old new) same h.1)
@@ -163,7 +163,7 @@ pub one-none : (is_cut : Bool) (n : ℕ) (s s2 : ModelState) (left : List Row) (
 one-none is_cut n s s2 left old After noted o note none is =
     (ap (lines_left n s) none ∙ lines-none n s, ap (outcome_left is_cut n) none ∙ outcome-none is_cut n ∙ sym (is ∙ ap (λ b. end_of b 0 0) note), Keeps-refl old)
 
-pub one-bad : (is_cut : Bool) (n : ℕ) (s s2 : ModelState) (left rest : List Row) (row : Row) (old : Option (List ℕ)) (After : List Row → Type 0) → n < most_records → left ≡ row ∷ rest → request_of row ≡ None
+pub one-bad : (is_cut : Bool) (n : ℕ) (s s2 : ModelState) (left rest : List Row) (row : Row) (old : Option (List ℕ)) (After : List Row → Type 0) → n < max_records → left ≡ row ∷ rest → request_of row ≡ None
     → WritesNext is_cut n s s2 left old old After (Ok (Some (Refused (BadRow (n + 1)))))
 one-bad is_cut n s s2 left rest row old After few is bad =
     (ap (lines_left n s) is ∙ lines-bad n s row rest few bad, ap (outcome_left is_cut n) is ∙ outcome-bad is_cut n row rest few bad, Keeps-refl old)
@@ -173,18 +173,18 @@ abbrev pub line_on : ℕ → ModelState → Request → List ℕ
 line_on n s r = line_of (n + 1) (next s r.machine r.call).stamp (answer_text (reply s r.machine r.call))
 
 pub one-written : (is_cut : Bool) (n : ℕ) (s s2 : ModelState) (left rest : List Row) (row : Row) (r : Request) (line : List ℕ) (old new : Option (List ℕ)) (After : List Row → Type 0)
-    → n < most_records → left ≡ row ∷ rest → request_of row ≡ Some r → s2 ≡ next s r.machine r.call → line ≡ line_on n s r → Appends old new line → After rest
+    → n < max_records → left ≡ row ∷ rest → request_of row ≡ Some r → s2 ≡ next s r.machine r.call → line ≡ line_on n s r → Appends old new line → After rest
     → WritesNext is_cut n s s2 left old new After (Ok None)
 one-written is_cut n s s2 left rest row r line old new After few is good now_s line_made wrote after =
     (rest, line, wrote, ap (lines_left n s) is ∙ lines-more n s row rest r few good ∙ ap₂ (λ l t. l ∷ lines_left (n + 1) t rest) (sym line_made) (sym now_s), ap (outcome_left is_cut n) is ∙ outcome-more is_cut n row rest r few good, after)
 
 pub one-cut : (is_cut : Bool) (n : ℕ) (s s2 : ModelState) (left rest : List Row) (row : Row) (r : Request) (line : List ℕ) (old new : Option (List ℕ)) (After : List Row → Type 0)
-    → n < most_records → left ≡ row ∷ rest → request_of row ≡ Some r → line ≡ line_on n s r → WroteFront old new line
+    → n < max_records → left ≡ row ∷ rest → request_of row ≡ Some r → line ≡ line_on n s r → WrotePrefix old new line
     → WritesNext is_cut n s s2 left old new After (Err Write)
 one-cut is_cut n s s2 left rest row r line old new After few is good line_made h =
     let lines = ap (lines_left n s) is ∙ lines-more n s row rest r few good in
     let more = concat (lines_left (n + 1) (next s r.machine r.call) rest) in
-    front-more line more (concat (lines_left n s left)) old new (ap concat lines ∙ ap (λ l. l ++ more) (sym line_made)) h
+    prefix-more line more (concat (lines_left n s left)) old new (ap concat lines ∙ ap (λ l. l ++ more) (sym line_made)) h
 
 -- the line that was made
 pub line_made : (n : ℕ) (s : ModelState) (r : Request) (stamp : ℕ) (s2 : ModelState) (answer : Answer) (bytes text empty : List ℕ) → bytes ≡ text → text ≡ empty ++ line_of (n + 1) stamp (answer_text answer) → empty ≡ []
@@ -220,7 +220,7 @@ pub lines-step : (lines rest more all : List (List ℕ)) (line : List ℕ) → l
 lines-step lines rest more all line whole is = append_assoc lines (line ∷ []) more ∙ ap (λ l. lines ++ l) (sym is) ∙ whole
 
 -- the end, if as many records are answered as may be, or none is left
-pub writes-long : (is_cut : Bool) (n : ℕ) (s : ModelState) (row : Row) (left rest : List Row) (old : Option (List ℕ)) → n ≡ most_records → left ≡ row ∷ rest → Writes (lines_left n s left) (outcome_left is_cut n left) old old (Ok (Refused Long))
+pub writes-long : (is_cut : Bool) (n : ℕ) (s : ModelState) (row : Row) (left rest : List Row) (old : Option (List ℕ)) → n ≡ max_records → left ≡ row ∷ rest → Writes (lines_left n s left) (outcome_left is_cut n left) old old (Ok (Refused Long))
 writes-long is_cut n s row left rest old full is =
     (sym (ap (outcome_left is_cut n) is ∙ outcome-full is_cut n row rest full), rw (lines-full n s left full) (Appends-nil old))
 
@@ -241,11 +241,11 @@ pub rows-refused : (is_cut : Bool) (row : Row) (left rest : List Row) (fault : S
 rows-refused is_cut row left rest fault old is bad = rw is (first-refused is_cut (start_in row) fault rest old bad)
 
 lines-started : (start : Result ModelState ScriptFault) (s : ModelState) (rest : List Row) → start ≡ Ok s → lines_from start (events_from start rest) ≡ start_line s ∷ lines_left 0 s rest
-lines-started start s rest e = rw e (ap (λ l. start_line s ∷ l) (event_lines-after s (requests_in (take most_records rest))))
+lines-started start s rest e = rw e (ap (λ l. start_line s ∷ l) (event_lines-after s (requests_in (take max_records rest))))
 
 outcome-started : (is_cut : Bool) (start : Result ModelState ScriptFault) (s : ModelState) (rest : List Row) → start ≡ Ok s → outcome_left is_cut 0 rest ≡ outcome_from is_cut start (length (events_from start rest)) (length rest)
 outcome-started is_cut start s rest e =
-    let count = length-history_of s (requests_in (take most_records rest)) in
+    let count = length-history_of s (requests_in (take max_records rest)) in
     rw e (ap₂ (end_of is_cut) (omega (arith, count)) (omega arith))
 
 pub rows-started : (is_cut : Bool) (row : Row) (left rest : List Row) (s : ModelState) (line : List ℕ) (old mid new : Option (List ℕ)) (r : Result Outcome ReplayFault) → left ≡ row ∷ rest → start_in row ≡ Ok s → line ≡ start_line s → Appends old mid line
@@ -256,11 +256,11 @@ rows-started is_cut row left rest s line old mid new r is good line_made wrote h
     let same : outcome_left is_cut 0 rest ≡ rows_outcome is_cut left = outcome-started is_cut (start_in row) s rest good ∙ sym (ap (rows_outcome is_cut) is) in
     writes-through (start_line s ∷ []) (lines_left 0 s rest) (rows_lines is_cut left) (outcome_left is_cut 0 rest) (rows_outcome is_cut left) old mid new r (subst (Appends old mid) one wrote) whole same h
 
-pub rows-unwritten : (is_cut : Bool) (row : Row) (left rest : List Row) (s : ModelState) (line : List ℕ) (old new : Option (List ℕ)) → left ≡ row ∷ rest → start_in row ≡ Ok s → line ≡ start_line s → WroteFront old new line
-    → WroteFront old new (concat (rows_lines is_cut left))
+pub rows-unwritten : (is_cut : Bool) (row : Row) (left rest : List Row) (s : ModelState) (line : List ℕ) (old new : Option (List ℕ)) → left ≡ row ∷ rest → start_in row ≡ Ok s → line ≡ start_line s → WrotePrefix old new line
+    → WrotePrefix old new (concat (rows_lines is_cut left))
 rows-unwritten is_cut row left rest s line old new is good line_made h =
     let whole : rows_lines is_cut left ≡ start_line s ∷ lines_left 0 s rest = ap (rows_lines is_cut) is ∙ lines-started (start_in row) s rest good in
-    front-more line (concat (lines_left 0 s rest)) (concat (rows_lines is_cut left)) old new (ap concat whole ∙ ap (λ l. l ++ concat (lines_left 0 s rest)) (sym line_made)) h
+    prefix-more line (concat (lines_left 0 s rest)) (concat (rows_lines is_cut left)) old new (ap concat whole ∙ ap (λ l. l ++ concat (lines_left 0 s rest)) (sym line_made)) h
 
 pub writes-residual : (r : Result Outcome ReplayFault) (fault : InputFault) (lines : List (List ℕ)) (end : Outcome) (old : Option (List ℕ)) → IsErrAnd r (λ given. given ≡ replay_fault_of fault) → Writes lines end old old r
 writes-residual (Ok o) fault lines end old h = absurd h
@@ -272,7 +272,7 @@ pub script-fails : (bytes : List ℕ) (old new : Option (List ℕ)) (fault : Rep
 unfolding script_text
 script-fails bytes old new Read h = h
 script-fails bytes old new Memory h = h
-script-fails bytes old new Write h = front-more (concat (script_lines bytes)) (end_text (script_outcome bytes)) (script_text bytes) old new refl h
+script-fails bytes old new Write h = prefix-more (concat (script_lines bytes)) (end_text (script_outcome bytes)) (script_text bytes) old new refl h
 
 pub script-ends : (bytes : List ℕ) (old mid new : Option (List ℕ)) (o : Outcome) (r : Result Outcome ReplayFault) → Writes (script_lines bytes) (script_outcome bytes) old mid (Ok o) → WritesEnd o mid new r → WritesScript bytes old new r
 unfolding script_text

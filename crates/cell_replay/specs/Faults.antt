@@ -2,7 +2,7 @@
 use Rattle.std.specs.Prelude.{ℕ, List, take, Option}
 use Rattle.std.specs.List.{concat}
 use Rattle.std.specs.Io.KnownBytes.{Appends}
-pub use Rattle.cell_text.specs.Output.{WroteFront}
+pub use Rattle.cell_text.specs.Output.{WrotePrefix}
 use Rattle.cell_replay.specs.Script.{script_lines, script_text}
 use Rattle.cell_text.specs.declared.input.InputFault.{InputFault}
 use Rattle.cell_text.specs.declared.input.InputFault.TheVariants as input
@@ -16,7 +16,7 @@ WroteLines old new lines = (n : ℕ) × Appends old new (concat (take n lines))
 abbrev pub Leaves : ReplayFault → List ℕ → Option (List ℕ) → Option (List ℕ) → Type 0
 Leaves Read bytes old new = WroteLines old new (script_lines bytes)
 Leaves Memory bytes old new = WroteLines old new (script_lines bytes)
-Leaves Write bytes old new = WroteFront old new (script_text bytes)
+Leaves Write bytes old new = WrotePrefix old new (script_text bytes)
 
 -- the fault of a replay that couldn't read its input
 abbrev pub replay_fault_of : InputFault → ReplayFault

@@ -25,12 +25,12 @@ use Rattle.cell_replay.specs.declared.script.Outcome.TheVariants.{Clean, Refused
 abbrev pub byte_limit : ℕ
 byte_limit = 4194304
 
-abbrev pub most_records : ℕ
-most_records = 65536
+abbrev pub max_records : ℕ
+max_records = 65536
 
 -- one byte more shows whether there are more than are used
-abbrev pub most_bytes_read : ℕ
-most_bytes_read = 4194305
+abbrev pub max_bytes_read : ℕ
+max_bytes_read = 4194305
 
 -- the number that more digits write, after those of a number
 abbrev pub read_on : ℕ → List ℕ → ℕ
@@ -97,7 +97,7 @@ rows_start is_cut [] = Err (if is_cut then Long else NoStart)
 rows_start is_cut (row ∷ rows) = start_in row
 
 abbrev pub events_from : Result ModelState ScriptFault → List Row → List Event
-events_from (Ok s) rows = history_of s (requests_in (take most_records rows))
+events_from (Ok s) rows = history_of s (requests_in (take max_records rows))
 events_from (Err fault) rows = []
 
 abbrev pub rows_events : Bool → List Row → List Event
@@ -113,7 +113,7 @@ rows_lines is_cut rows = lines_from (rows_start is_cut rows) (rows_events is_cut
 -- how a script ends with `count` records after record 0, if the first `answered` are answered
 abbrev pub end_of : Bool → ℕ → ℕ → Outcome
 end_of is_cut answered count =
-    if nat_lt answered count then Refused (if answered == most_records then Long else BadRow (answered + 1)) else if is_cut then Refused Long else Clean
+    if nat_lt answered count then Refused (if answered == max_records then Long else BadRow (answered + 1)) else if is_cut then Refused Long else Clean
 
 abbrev pub outcome_from : Bool → Result ModelState ScriptFault → ℕ → ℕ → Outcome
 outcome_from is_cut (Ok s) answered count = end_of is_cut answered count

@@ -8,8 +8,8 @@ use Rattle.cell_rules.specs.ModelState.{ModelState}
 use Rattle.cell_rules.specs.Reply.{next, reply}
 use Rattle.cell_replay.specs.Requests.{Row}
 use Rattle.cell_replay.specs.declared.request.Request.{Request}
-use Rattle.cell_replay.specs.Script.{end_of, end_text, script_outcome, script_text, line_of, most_records, requests_in}
-use Rattle.cell_replay.specs.Faults.{Leaves, WroteFront, WroteLines}
+use Rattle.cell_replay.specs.Script.{end_of, end_text, script_outcome, script_text, line_of, max_records, requests_in}
+use Rattle.cell_replay.specs.Faults.{Leaves, WrotePrefix, WroteLines}
 use Rattle.cell_replay.specs.declared.script.Outcome.{Outcome}
 use Rattle.cell_replay.specs.declared.script.ReplayFault.{ReplayFault}
 use Rattle.cell_replay.specs.declared.script.ReplayFault.TheVariants.{Read, Write, Memory}
@@ -22,10 +22,10 @@ lines_after done s (r ∷ rs) =
 
 -- the lines of the records that are left after a number of answered ones, and how the script ends
 abbrev pub lines_left : ℕ → ModelState → List Row → List (List ℕ)
-lines_left done s left = lines_after done s (requests_in (take (most_records - done) left))
+lines_left done s left = lines_after done s (requests_in (take (max_records - done) left))
 
 abbrev pub outcome_left : Bool → ℕ → List Row → Outcome
-outcome_left is_cut done left = end_of is_cut (done + length (requests_in (take (most_records - done) left))) (done + length left)
+outcome_left is_cut done left = end_of is_cut (done + length (requests_in (take (max_records - done) left))) (done + length left)
 
 -- a step: the line of the first record that is left is written, and the others are left; or the script ends; or the step
 -- failed
@@ -36,21 +36,21 @@ WritesNext is_cut done s new_s left old new After (Ok None) =
 WritesNext is_cut done s new_s left old new After (Ok (Some outcome)) = (lines_left done s left ≡ []) × (outcome_left is_cut done left ≡ outcome) × Keeps old new
 WritesNext is_cut done s new_s left old new After (Err Read) = Keeps old new
 WritesNext is_cut done s new_s left old new After (Err Memory) = Keeps old new
-WritesNext is_cut done s new_s left old new After (Err Write) = WroteFront old new (concat (lines_left done s left))
+WritesNext is_cut done s new_s left old new After (Err Write) = WrotePrefix old new (concat (lines_left done s left))
 
 -- these lines are written, and the script ends so; or a step failed: then some first lines, or a prefix, are written
 abbrev pub Writes : List (List ℕ) → Outcome → Option (List ℕ) → Option (List ℕ) → Result Outcome ReplayFault → Type 0
 Writes lines outcome old new (Ok o) = (o ≡ outcome) × Appends old new (concat lines)
 Writes lines outcome old new (Err Read) = WroteLines old new lines
 Writes lines outcome old new (Err Memory) = WroteLines old new lines
-Writes lines outcome old new (Err Write) = WroteFront old new (concat lines)
+Writes lines outcome old new (Err Write) = WrotePrefix old new (concat lines)
 
 -- the last line of a refused script is written; or out of memory; or a prefix of it is written
 abbrev pub WritesEnd : Outcome → Option (List ℕ) → Option (List ℕ) → Result Outcome ReplayFault → Type 0
 WritesEnd outcome old new (Ok o) = (o ≡ outcome) × Appends old new (end_text outcome)
 WritesEnd outcome old new (Err Read) = ⊥
 WritesEnd outcome old new (Err Memory) = Keeps old new
-WritesEnd outcome old new (Err Write) = WroteFront old new (end_text outcome)
+WritesEnd outcome old new (Err Write) = WrotePrefix old new (end_text outcome)
 
 -- the text of a script is written, and the outcome is the one in it; or the replay failed
 abbrev pub WritesScript : List ℕ → Option (List ℕ) → Option (List ℕ) → Result Outcome ReplayFault → Type 0

@@ -8,14 +8,14 @@ ghost use Rattle.cell_replay.specs.Limited.{bytes_left};
 ghost use Rattle.cell_replay.specs.Records.{IsPlain, RowsLeft};
 ghost use Rattle.cell_replay.specs.Requests.{Row};
 ghost use Rattle.cell_replay.specs.Script as script;
-ghost use Rattle.cell_replay.specs.Script.{is_cut_of, line_of, most_records, rows_lines, rows_outcome, start_line};
+ghost use Rattle.cell_replay.specs.Script.{is_cut_of, line_of, max_records, rows_lines, rows_outcome, start_line};
 ghost use Rattle.cell_replay.specs.Writing.{Writes, WritesNext, lines_left, outcome_left};
 
 use crate::lent::{LentReader, Origin};
 use crate::records::Records;
 use crate::request::read_request;
 use crate::script::{Outcome, ReplayFault, ScriptFault};
-use crate::start::read_start;
+use crate::script_start::read_start;
 use cell_rules::{State, apply};
 use cell_text::{WriteFault, flush, write_bytes};
 use cell_types::Answer;
@@ -117,7 +117,7 @@ fn answer_next<L: LentReader, K: Origin, W: Write>(
     writer: &mut W,
 ) -> Result<Option<Outcome>, ReplayFault>
     requires plain { IsPlain records.old.reader }
-    requires few { done < most_records }
+    requires few { done < max_records }
     ensures plain { OnOk result (IsPlain records.new.reader) }
     ensures written { (bytes : List ℕ) → K.bytes ≡ Some bytes → (left : List Row) →
         RowsLeft (λ r. bytes_left (L.left r.now.input) r.now.is_cut r.now.taken) (is_cut_of bytes)

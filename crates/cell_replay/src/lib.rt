@@ -7,10 +7,10 @@ pub mod laws;
 mod lent;
 mod limited;
 mod records;
-pub mod replays;
+pub mod replay;
 mod request;
 pub mod script;
-mod start;
+mod script_start;
 
-pub use replays::replay;
+pub use replay::replay;
 pub use script::{Outcome, ReplayFault, ScriptFault};

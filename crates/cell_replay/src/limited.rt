@@ -4,7 +4,7 @@ ghost use Rattle.std.specs.Prelude.{◌≡◌, ◌<◌, ◌≤◌, length, None,
 ghost use Rattle.std.specs.Io.{ReadsAtMost};
 ghost use Rattle.std.specs.Io.KnownBytes.{IsAtEnd, Keeps, ReadConsumes};
 ghost use Rattle.cell_text.specs.Input.{TakesAtMost};
-ghost use Rattle.cell_replay.specs.Script.{byte_limit, most_bytes_read};
+ghost use Rattle.cell_replay.specs.Script.{byte_limit, max_bytes_read};
 ghost use Rattle.cell_replay.specs.Limited.{IsNoted, IsTaken, bytes_left};
 
 use crate::lent::{LentReader, Origin};
@@ -27,7 +27,7 @@ pub struct LimitedReader<L: LentReader, K: Origin> {
     is_cut: Option<bool>,
     origin: PhantomData<K>,
     ghost same: { L.loan_of input ≡ K.reader_loan },
-    ghost within: { taken ≤ most_bytes_read },
+    ghost within: { taken ≤ max_bytes_read },
     ghost within_use: { is_cut ≡ None → taken ≤ byte_limit },
     ghost left: { IsTaken K.bytes (L.left input) taken },
     ghost noted: { IsNoted K.bytes is_cut },
@@ -68,7 +68,7 @@ impl<L: LentReader, K: Origin> LimitedReader<L, K> {
     /// The input, of which at most one byte was taken past the limit.
     pub fn into_input(self) -> L
         ensures same { L.loan_of result ≡ K.reader_loan }
-        ensures taken { TakesAtMost K.bytes (L.left result) most_bytes_read }
+        ensures taken { TakesAtMost K.bytes (L.left result) max_bytes_read }
     {
         self.input
     }

@@ -2,7 +2,7 @@
 ghost use Rattle.std.specs.Prelude.{◌≡◌, ◌∷◌, ◌++◌, [], codes, map, IfOk, OnOk, OnErr};
 ghost use Rattle.std.specs.Io.KnownBytes.{Appends};
 ghost use Rattle.cell_types.specs.Everything.{all_zones};
-ghost use Rattle.cell_text.specs.Output.{WroteFront};
+ghost use Rattle.cell_text.specs.Output.{WrotePrefix};
 ghost use Rattle.cell_report.specs.Report.{audit_line, axes_line, axis_words, end_lines, machine_line, machine_lines, places_word, report_text, spaced, stamp_line, start_line, text_of_lines, where_known, zone_line};
 
 use crate::audit_faults::AuditFault;
@@ -32,7 +32,7 @@ pub fn write_report<W: Write>(
     // The report was written, and nothing else.
     ensures text { OnOk result (Appends (W.contents writer.old) (W.contents writer.new) (report_text run.now audit)) }
     // After an error a prefix of the report was written.
-    ensures failed { OnErr result (WroteFront (W.contents writer.old) (W.contents writer.new) (report_text run.now audit)) }
+    ensures failed { OnErr result (WrotePrefix (W.contents writer.old) (W.contents writer.new) (report_text run.now audit)) }
 {
     let page = match report_page(run, audit) {
         Ok(page) => page,

@@ -1,7 +1,7 @@
 -- Examples of bytes that may be taken from a reader or written of a text, and of bytes that may not.
 use Rattle.std.specs.Prelude.{ℕ, List, [], ◌∷◌, Option, Some, None}
 use Rattle.cell_text.specs.Input.{TakesAtMost}
-use Rattle.cell_text.specs.Output.{WroteFront}
+use Rattle.cell_text.specs.Output.{WrotePrefix}
 
 -- a reader that had 1, 2 and 3 may have these left, if it may lose at most a number of bytes
 abbrev pub Leaves : Option (List ℕ) → ℕ → Type 0
@@ -9,7 +9,7 @@ Leaves left most = TakesAtMost (Some (1 ∷ 2 ∷ 3 ∷ [])) left most
 
 -- a writer that had 7 may have this after a prefix of 1 and 2 was written
 abbrev pub Has : Option (List ℕ) → Type 0
-Has written = WroteFront (Some (7 ∷ [])) written (1 ∷ 2 ∷ [])
+Has written = WrotePrefix (Some (7 ∷ [])) written (1 ∷ 2 ∷ [])
 
 pub record BytesAreMet : Type 0 where
   pub none_taken : Leaves (Some (1 ∷ 2 ∷ 3 ∷ [])) 2

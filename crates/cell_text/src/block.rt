@@ -5,12 +5,12 @@ ghost use Rattle.std.specs.Prelude.{◌≡◌, ◌≤◌, ◌-◌, List, ℕ, []
 use std::marker::Model;
 
 /// How many bytes a block has room for.
-const ROOM: usize = 8192;
+const CAPACITY: usize = 8192;
 
 /// At most 8,192 bytes, stored in place.
 #[derive(Drop)]
 pub struct Block {
-    bytes: [u8; ROOM],
+    bytes: [u8; CAPACITY],
     len: usize,
 }
 
@@ -28,7 +28,7 @@ impl Block {
         ensures { result ≡ [] }
     {
         Block {
-            bytes: [0; ROOM],
+            bytes: [0; CAPACITY],
             len: 0,
         }
     }
@@ -44,7 +44,7 @@ impl Block {
     pub fn room(&self) -> usize
         ensures { result ≡ 8192 - length self.now }
     {
-        ROOM - self.len
+        CAPACITY - self.len
     }
 
     /// Appends a part, for which there must be room.

@@ -7,12 +7,12 @@ use std::fmt::{Display, Write};
 use std::marker::Model;
 
 /// How many bytes a page has room for.
-const ROOM: usize = 2048;
+const CAPACITY: usize = 2048;
 
 /// A text of at most 2,048 bytes, stored in place.
 #[derive(Drop)]
 pub struct Page {
-    bytes: [u8; ROOM],
+    bytes: [u8; CAPACITY],
     len: usize,
 }
 
@@ -30,7 +30,7 @@ impl Page {
         ensures { result ≡ [] }
     {
         Page {
-            bytes: [0; ROOM],
+            bytes: [0; CAPACITY],
             len: 0,
         }
     }
@@ -54,7 +54,7 @@ impl Write for Page {
     ghost write_str_gives = { λ old bytes new. new ≡ old ++ bytes };
 
     fn write_str(&mut self, text: &str) -> fmt::Result {
-        if text.len() > ROOM - self.len {
+        if text.len() > CAPACITY - self.len {
             return Err(fmt::Error);
         }
         let end = self.len + text.len();

@@ -1,7 +1,7 @@
 use Rattle.std.proofs.Common.{◌∙◌, ap}
 use Rattle.std.proofs.lemmas.Option.{IfSome_then}
 use Rattle.cell_config.specs.Settings.{settings_of}
-use Rattle.cell_config.proofs.SettingsLemmas.{says_from, settings_of-front}
+use Rattle.cell_config.proofs.SettingsLemmas.{says_from, settings_of-prefix}
 use Rattle.cell_config.proofs.configuration.read_config.Goals as goal
 
 pub returns-clause-says : goal.returns-clause-says
@@ -9,4 +9,4 @@ returns-clause-says g c =
     let bytes = c.in-Ok.bytes.items in
     let answer = c.config_of.result in
     IfSome_then (g.R.Read.remaining c.args.reader.now) c.in-Ok.ensures.bytes
-    (λ read is. says_from read (settings_of bytes) answer (ap settings_of is ∙ settings_of-front read) (rw c.as_slice.ensures.value at c.config_of.ensures.says))
+    (λ read is. says_from read (settings_of bytes) answer (ap settings_of is ∙ settings_of-prefix read) (rw c.as_slice.ensures.value at c.config_of.ensures.says))

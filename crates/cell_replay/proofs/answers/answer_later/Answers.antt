@@ -2,7 +2,7 @@ use Rattle.std.proofs.Common.{◌≡◌, ◌++◌, ◌∷◌, ◌∙◌, refl, [
 use Rattle.std.proofs.KnownBytes.{Appends-kept, Appends-nil}
 use Rattle.std.specs.List.{concat}
 use Rattle.csv.specs.Records.{fields_of}
-use Rattle.cell_replay.specs.Script.{end_of, is_cut_of, most_records}
+use Rattle.cell_replay.specs.Script.{end_of, is_cut_of, max_records}
 use Rattle.cell_replay.specs.Writing.{lines_left}
 use Rattle.cell_replay.specs.declared.script.ReplayFault.TheVariants.{Write}
 use Rattle.cell_replay.proofs.RowsTaken.{gives-none, gives-some}
@@ -59,7 +59,7 @@ returns-then-branch g c = record {
       let found : c.in_ok-next.field-0 ≡ true = search rules in
       let row = fields_of c.next.new.self.row in
       let some = gives-some c.in_ok-next.field-0 row inv.1 c.next.new.self.is_cut (is_cut_of bytes) _ found (c.in_ok-next.ensures.gives bytes is inv.1 inv.2) in
-      let full : c.rows.done ≡ most_records = omega (arith, c.rows-test.false, c.rows.auto.done-end) in
+      let full : c.rows.done ≡ max_records = omega (arith, c.rows-test.false, c.rows.auto.done-end) in
       writes-through inv.0 _ _ _ _ old mid mid (Ok _) wrote inv.4 inv.5 (writes-long (is_cut_of bytes) c.rows.done c.rows.state row inv.1 some.0 mid full some.1);
 }
 

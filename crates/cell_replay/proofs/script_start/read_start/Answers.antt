@@ -3,7 +3,7 @@ use Rattle.std.specs.Str.{bytes_eq}
 use Rattle.csv.specs.Records.{field_at, fields_of}
 use Rattle.cell_replay.specs.Script.{start_of}
 use Rattle.cell_replay.proofs.Starts.{start_in-plain, start_in-stamped}
-use Rattle.cell_replay.proofs.start.read_start.Goals as goal
+use Rattle.cell_replay.proofs.script_start.read_start.Goals as goal
 
 pub returns-in_default-get-2 : goal.returns-in_default-get-2
 returns-in_default-get-2 c =

@@ -1,6 +1,6 @@
 use Rattle.std.proofs.Common.{◌≤◌, arith}
 use Rattle.cell_replay.proofs.Digits.{power, power-le}
-use Rattle.cell_replay.proofs.start.read_number.Goals as goal
+use Rattle.cell_replay.proofs.script_start.read_number.Goals as goal
 
 pub overflow_add-number : goal.overflow_add-number
 overflow_add-number c =

@@ -3,7 +3,7 @@ use Rattle.std.specs.Char.{is_ascii_digit}
 use Rattle.std.specs.List.{list_all}
 use Rattle.cell_replay.specs.Script.{read_on}
 use Rattle.cell_replay.proofs.Digits.{power}
-use Rattle.cell_replay.proofs.start.read_number.Given as goal
+use Rattle.cell_replay.proofs.script_start.read_number.Given as goal
 
 abbrev pub invariant-digits : goal.invariant-digits
 invariant-digits l = record {

@@ -4,7 +4,7 @@ ghost use Rattle.std.specs.Prelude.{◌≡◌, ◌++◌, ℕ, List, None, Some, 
 ghost use Rattle.std.specs.Io.KnownBytes.{Appends, append_known};
 ghost use Rattle.cell_replay.specs.Faults.{Leaves};
 ghost use Rattle.cell_text.specs.Input.{TakesAtMost};
-ghost use Rattle.cell_replay.specs.Script.{end_text, fault_text, most_bytes_read, script_outcome, script_text};
+ghost use Rattle.cell_replay.specs.Script.{end_text, fault_text, max_bytes_read, script_outcome, script_text};
 ghost use Rattle.cell_replay.specs.Writing.{WritesEnd, WritesScript};
 
 use crate::answers::answer_rows;
@@ -41,7 +41,7 @@ pub fn replay<R: Read, W: Write>(
         Leaves fault bytes (W.contents writer.old) (W.contents writer.new))) }
 
     // Reading stops one byte after the limit, however the replay ends.
-    ensures taken { TakesAtMost (R.remaining reader.old) (R.remaining reader.new) most_bytes_read }
+    ensures taken { TakesAtMost (R.remaining reader.old) (R.remaining reader.new) max_bytes_read }
 {
     let Replayed {
         input: _,
@@ -71,7 +71,7 @@ fn replay_lent<L: LentReader, O: LentWriter, K: Origin>(
     requires writer { O.loan_of output ≡ K.writer_loan }
     ensures reader { L.loan_of result.input ≡ L.loan_of input }
     ensures writer { O.loan_of result.output ≡ O.loan_of output }
-    ensures taken { TakesAtMost (L.left input) (L.left result.input) most_bytes_read }
+    ensures taken { TakesAtMost (L.left input) (L.left result.input) max_bytes_read }
     ensures script { (bytes : List ℕ) → L.left input ≡ Some bytes →
         WritesScript bytes (O.contents output) (O.contents result.output) result.ended }
 {
