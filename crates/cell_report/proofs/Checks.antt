@@ -54,7 +54,7 @@ within_top t ordered stamps top e f = λ k d h.
 
 pub gap_is : (start t : ℕ) (all ordered : List Noted) (stamps : List ℕ) (top s : ℕ) → InOrder all ordered → stamps ≡ done_stamps ordered → top ≡ greatest t ordered → IsGap start top (times stamps) s → IsGap start (greatest t all) (done_at all) s
 gap_is start t all ordered stamps top s o e f g = record {
-  behind = g.behind;
+  later = g.later;
   within = omega (arith, g.within, greatest_same t all ordered o, f);
   missing = sym (counted_times all ordered stamps o e s) ∙ g.missing;
   least = λ r a b. subst (λ n. 0 < n) (counted_times all ordered stamps o e r) (g.least r a b);

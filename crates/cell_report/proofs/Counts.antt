@@ -11,7 +11,7 @@ use Rattle.cell_rules.specs.History.{after, IsLegal, is_done_answer}
 use Rattle.cell_types.specs.declared.journal.Entry.{Entry}
 use Rattle.cell_report.specs.declared.ordered.Noted.{Noted}
 use Rattle.cell_rules.specs.Journal.{noted, entry_of, state_left}
-use Rattle.cell_report.specs.Order.{noted_behind, noted_from, all_noted, is_done_noted, done_at}
+use Rattle.cell_report.specs.Order.{noted_after, noted_from, all_noted, is_done_noted, done_at}
 use Rattle.cell_report.proofs.Members.{In, from_filter}
 use Rattle.cell_report.proofs.Own.{is_of, same_itself, own_entries}
 use Rattle.cell_report.proofs.Times.{tick, eq_cases}
@@ -57,7 +57,7 @@ done_in_run s (f ∷ h) r legal low high =
 
 noted_in : (m : Machine) (earlier : List Entry) (e : Entry) (es : List Entry) → In e es → (x : Noted) × In x (noted_from m earlier es) × (x.entry ≡ e)
 noted_in m earlier e [] h = absurd h
-noted_in m earlier e (d ∷ es) (inl q) = (noted_behind m earlier d, inl refl, q)
+noted_in m earlier e (d ∷ es) (inl q) = (noted_after m earlier d, inl refl, q)
 noted_in m earlier e (d ∷ es) (inr h) = let x = noted_in m (earlier ++ d ∷ []) e es h in (x.0, inr x.1, x.2)
 
 pub in_journals : (j : Machine → List Entry) (m : Machine) (e : Entry) → In e (j m) → (x : Noted) × In x (all_noted j) × (x.entry ≡ e)
@@ -123,7 +123,7 @@ done_at-from : (r : ℕ) (m : Machine) (earlier es : List Entry) → done_at (no
 done_at-from r m earlier [] = refl
 done_at-from r m earlier (e ∷ es) =
     let f : Noted → ℕ = λ y. cond (is_done_noted y && nat_eq y.entry.stamp r) 1 0 in
-    omega (arith, sum_by-cons f (noted_behind m earlier e) (noted_from m (earlier ++ e ∷ []) es), done_at-from r m (earlier ++ e ∷ []) es)
+    omega (arith, sum_by-cons f (noted_after m earlier e) (noted_from m (earlier ++ e ∷ []) es), done_at-from r m (earlier ++ e ∷ []) es)
 
 seven : (r : ℕ) (a b c d e f g : List Noted) → done_at (a ++ b ++ c ++ d ++ e ++ f ++ g) r ≡ done_at a r + done_at b r + done_at c r + done_at d r + done_at e r + done_at f r + done_at g r
 seven r a b c d e f g =

@@ -45,14 +45,14 @@ kept_in : {X : Type 0} (b : Bool) (x z : X) (ys xs : List X) → b ≡ true → 
 kept_in true x z ys xs e h = inl h
 kept_in false x z ys xs e h = cc
 
-kept_behind : {X : Type 0} (b : Bool) (x z : X) (ys : List X) → In z ys → In z (cond b (x ∷ ys) ys)
-kept_behind true x z ys h = inr h
-kept_behind false x z ys h = h
+kept_after : {X : Type 0} (b : Bool) (x z : X) (ys : List X) → In z ys → In z (cond b (x ∷ ys) ys)
+kept_after true x z ys h = inr h
+kept_after false x z ys h = h
 
 pub in_filter : {X : Type 0} (p : X → Bool) (xs : List X) (z : X) → In z xs → p z ≡ true → In z (filter p xs)
 in_filter p [] z h e = absurd h
 in_filter p (x ∷ xs) z (inl s) e = kept_in (p x) x z (filter p xs) xs (ap p s ∙ e) s
-in_filter p (x ∷ xs) z (inr h) e = kept_behind (p x) x z (filter p xs) (in_filter p xs z h e)
+in_filter p (x ∷ xs) z (inr h) e = kept_after (p x) x z (filter p xs) (in_filter p xs z h e)
 
 was_in : {X : Type 0} (p : X → Bool) (b : Bool) (x z : X) (ys xs : List X) → p x ≡ b → (In z ys → In z xs × (p z ≡ true)) → In z (cond b (x ∷ ys) ys) → In z (x ∷ xs) × (p z ≡ true)
 was_in p true x z ys xs e f (inl h) = (inl h, ap p (sym h) ∙ e)

@@ -25,13 +25,13 @@ one_twice count s t a b = neither_first s t (λ k. omega (arith, a.twice, b.leas
 
 one_gap : (start top : ℕ) (count : ℕ → ℕ) (s t : ℕ) → IsGap start top count s → IsGap start top count t → s ≡ t
 one_gap start top count s t a b =
-    neither_first s t (λ k. omega (arith, a.missing, b.least s a.behind k)) (λ k. omega (arith, b.missing, a.least t b.behind k))
+    neither_first s t (λ k. omega (arith, a.missing, b.least s a.later k)) (λ k. omega (arith, b.missing, a.least t b.later k))
 
 not_twice : {A : Type 0} (count : ℕ → ℕ) (s : ℕ) → IsTwice count s → HasNoTwice count → A
 not_twice count s a b = absurd (omega (arith, a.twice, b s))
 
 not_gap : {A : Type 0} (start top : ℕ) (count : ℕ → ℕ) (s : ℕ) → IsGap start top count s → HasNoGap start top count → A
-not_gap start top count s a b = absurd (omega (arith, a.missing, b s a.behind a.within))
+not_gap start top count s a b = absurd (omega (arith, a.missing, b s a.later a.within))
 
 -- only one entry is the first that doesn't fit
 first_misfit : (start now : ModelState) (before others : List Noted) (x y : Noted) (rest more : List Noted) → before ++ x ∷ rest ≡ others ++ y ∷ more

@@ -6,7 +6,7 @@ use Rattle.cell_types.specs.declared.machine.Machine.TheVariants.{Feed, Table, R
 use Rattle.cell_types.specs.declared.journal.Entry.{Entry}
 use Rattle.cell_types.specs.Same.{same_machine, one_machine}
 use Rattle.cell_report.specs.declared.ordered.Noted.{Noted}
-use Rattle.cell_report.specs.Order.{noted_behind, noted_from, all_noted}
+use Rattle.cell_report.specs.Order.{noted_after, noted_from, all_noted}
 
 abbrev pub is_of : Machine → Noted → Bool
 is_of m x = same_machine x.machine m
@@ -29,7 +29,7 @@ entries_of m earlier (e ∷ es) = ap (λ l. e ∷ l) (entries_of m (earlier ++ e
 
 own_kept : (m : Machine) (earlier es : List Entry) → filter (is_of m) (noted_from m earlier es) ≡ noted_from m earlier es
 own_kept m earlier [] = refl
-own_kept m earlier (e ∷ es) = rw (same_itself m) (ap (λ l. noted_behind m earlier e ∷ l) (own_kept m (earlier ++ e ∷ []) es))
+own_kept m earlier (e ∷ es) = rw (same_itself m) (ap (λ l. noted_after m earlier e ∷ l) (own_kept m (earlier ++ e ∷ []) es))
 
 other_dropped : (m n : Machine) (earlier es : List Entry) → same_machine n m ≡ false → filter (is_of m) (noted_from n earlier es) ≡ []
 other_dropped m n earlier [] e = refl

@@ -7,12 +7,12 @@ use Rattle.std.proofs.lemmas.List.Folds.{list_all_more}
 use Rattle.cell_types.specs.declared.machine.Machine.{Machine}
 use Rattle.cell_types.specs.declared.journal.Entry.{Entry}
 use Rattle.cell_report.specs.declared.ordered.Noted.{Noted}
-use Rattle.cell_report.specs.Order.{key_of, noted_behind, noted_from}
+use Rattle.cell_report.specs.Order.{key_of, noted_after, noted_from}
 
-noted_from-push : (m : Machine) (earlier es : List Entry) (e : Entry) → noted_from m earlier (es ++ e ∷ []) ≡ noted_from m earlier es ++ noted_behind m (earlier ++ es) e ∷ []
-noted_from-push m earlier [] e = ap (λ l. noted_behind m l e ∷ []) (sym (append-nil earlier))
+noted_from-push : (m : Machine) (earlier es : List Entry) (e : Entry) → noted_from m earlier (es ++ e ∷ []) ≡ noted_from m earlier es ++ noted_after m (earlier ++ es) e ∷ []
+noted_from-push m earlier [] e = ap (λ l. noted_after m l e ∷ []) (sym (append-nil earlier))
 noted_from-push m earlier (f ∷ es) e =
-    ap (λ l. noted_behind m earlier f ∷ l) (noted_from-push m (earlier ++ f ∷ []) es e ∙ ap (λ l. noted_from m (earlier ++ f ∷ []) es ++ noted_behind m l e ∷ []) (append_assoc earlier (f ∷ []) es))
+    ap (λ l. noted_after m earlier f ∷ l) (noted_from-push m (earlier ++ f ∷ []) es e ∙ ap (λ l. noted_from m (earlier ++ f ∷ []) es ++ noted_after m l e ∷ []) (append_assoc earlier (f ∷ []) es))
 
 -- the greatest key of the earlier entries: what is not below it is not below any of theirs
 abbrev pub IsLatest : ℕ → List Entry → Type 0
@@ -33,5 +33,5 @@ noted_more m es i d latest key all new before is h e all_is new_is =
     let x : Entry = get_or es i d in
     let turn : nat_le latest key ≡ list_all (λ f. nat_le (key_of f) (key_of x)) (take i es) = is key ∙ ap (λ n. list_all (λ f. nat_le (key_of f) n) (take i es)) e in
     let made : Bool → Noted = λ b. record { machine = m; entry = x; in_turn = b } in
-    let more : noted_from m [] (take (i + 1) es) ≡ noted_from m [] (take i es) ++ noted_behind m (take i es) x ∷ [] = ap (noted_from m []) (take_more es i d h) ∙ noted_from-push m [] (take i es) x in
+    let more : noted_from m [] (take (i + 1) es) ≡ noted_from m [] (take i es) ++ noted_after m (take i es) x ∷ [] = ap (noted_from m []) (take_more es i d h) ∙ noted_from-push m [] (take i es) x in
     new_is ∙ (ap (λ l. l ++ made (nat_le latest key) ∷ []) all_is ∙ (append_assoc before (noted_from m [] (take i es)) (made (nat_le latest key) ∷ []) ∙ ap (λ l. before ++ l) (ap (λ b. noted_from m [] (take i es) ++ made b ∷ []) turn ∙ sym more)))

@@ -96,8 +96,8 @@ not_again start ordered before rest x st e done q =
     omega (arith, two, once)
 
 -- a Done entry of the next stamp is after the entries before this one, and not before this one
-pub behind_next : (ordered before rest : List Noted) (x : Noted) (n : ℕ) → ordered ≡ before ++ x ∷ rest → Rises ordered → ((y : Noted) → In y before → y.entry.stamp ≤ n) → In (n + 1) (done_stamps ordered) → key_at x ≤ 2 * (n + 1)
-behind_next ordered before rest x n e up high i =
+pub after_next : (ordered before rest : List Noted) (x : Noted) (n : ℕ) → ordered ≡ before ++ x ∷ rest → Rises ordered → ((y : Noted) → In y before → y.entry.stamp ≤ n) → In (n + 1) (done_stamps ordered) → key_at x ≤ 2 * (n + 1)
+after_next ordered before rest x n e up high i =
     let d = from_done ordered (n + 1) i in
     let rank_d = done_rank d.0.entry.answer d.2 in
     let tail : Rises (x ∷ rest) = rises_rest before (x ∷ rest) (subst Rises e up) in
@@ -147,10 +147,10 @@ other_not_low s r ordered before rest x e k st f other =
       ]
     ]
 
-not_behind : (s r : ModelState) (ordered before rest : List Noted) (x : Noted) → ordered ≡ before ++ x ∷ rest → Reached s before r → Stamped s.stamp ordered → r.stamp < x.entry.stamp → key_at x ≤ 2 * (r.stamp + 1)
-not_behind s r ordered before rest x e k st l =
+not_after : (s r : ModelState) (ordered before rest : List Noted) (x : Noted) → ordered ≡ before ++ x ∷ rest → Reached s before r → Stamped s.stamp ordered → r.stamp < x.entry.stamp → key_at x ≤ 2 * (r.stamp + 1)
+not_after s r ordered before rest x e k st l =
     let in_ordered : In x ordered = subst (In x) (sym e) (in_append_right before (x ∷ rest) x (inl refl)) in
-    behind_next ordered before rest x r.stamp e st.rises k.high (st.filled x in_ordered (r.stamp + 1) (omega (arith, k.low)) (omega (arith, l)))
+    after_next ordered before rest x r.stamp e st.rises k.high (st.filled x in_ordered (r.stamp + 1) (omega (arith, k.low)) (omega (arith, l)))
 
 stamp_follows : (s r : ModelState) (ordered before rest : List Noted) (x : Noted) → ordered ≡ before ++ x ∷ rest → Reached s before r → Stamped s.stamp ordered → Fits s r x → x.entry.stamp ≡ (next r x.machine x.entry.call).stamp
 stamp_follows s r ordered before rest x e k st f =
@@ -158,7 +158,7 @@ stamp_follows s r ordered before rest x e k st f =
       | inl c ↦
           let done : is_done_noted x ≡ true = ap is_done_answer f.answer ∙ c.0 in
           let low = done_not_low s r ordered before rest x e k st f done in
-          let keys = not_behind s r ordered before rest x e k st low in
+          let keys = not_after s r ordered before rest x e k st low in
           omega (arith, keys, done_rank x.entry.answer done, low, c.1)
       | inr c ↦
           let other : is_done_noted x ≡ false = ap is_done_answer f.answer ∙ c.0 in
@@ -166,7 +166,7 @@ stamp_follows s r ordered before rest x e k st f =
           let same = ap (λ (t : ModelState). t.stamp) c.1 in
           elim (cases_lt r.stamp x.entry.stamp) [
             | inr l ↦ omega (arith, low, l, same)
-            | inl l ↦ let keys = not_behind s r ordered before rest x e k st l in absurd (omega (arith, keys, other_rank x.entry.answer other, l))
+            | inl l ↦ let keys = not_after s r ordered before rest x e k st l in absurd (omega (arith, keys, other_rank x.entry.answer other, l))
           ]
     ]
 

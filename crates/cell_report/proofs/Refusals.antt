@@ -70,7 +70,7 @@ pub refused : (s : ModelState) (j : Machine → List Entry) (end : Option ModelS
 refused s j end (Twice r) f n = λ h a. omega (arith, f.twice, at_most_once s j h r a.legal a.noted)
 refused s j end (Gap r) f n = λ h a.
     let g = f.1 in
-    let x = done_noted s j h r a.legal a.noted g.behind (omega (arith, g.within, top_within s j end h a)) in
+    let x = done_noted s j h r a.legal a.noted g.later (omega (arith, g.within, top_within s j end h a)) in
     let one = stands_in r (done_stamps (all_noted j)) (subst (λ n. In n (done_stamps (all_noted j))) x.3 (to_done (all_noted j) x.0 x.1 x.2)) in
     omega (arith, one, stands_done (all_noted j) r, g.missing)
 refused s j end (Differs r) f n = λ h a.

@@ -50,9 +50,9 @@ pub in_stands : (r : ℕ) (xs : List ℕ) → 0 < stands r xs → In r xs
 in_stands r [] h = absurd (omega arith)
 in_stands r (x ∷ xs) h = elim (eq_cases x r) [ inl k ↦ inl k.0 | inr k ↦ inr (in_stands r xs (omega (arith, k.1, h))) ]
 
-behind : (x : ℕ) (xs : List ℕ) (l : ℕ) → Ups (x ∷ xs) → l < x → (z : ℕ) → In z (x ∷ xs) → l < z
-behind x xs l u h z (inl e) = omega arith
-behind x xs l u h z (inr k) = omega (arith, u.0 z k)
+all_after : (x : ℕ) (xs : List ℕ) (l : ℕ) → Ups (x ∷ xs) → l < x → (z : ℕ) → In z (x ∷ xs) → l < z
+all_after x xs l u h z (inl e) = omega arith
+all_after x xs l u h z (inr k) = omega (arith, u.0 z k)
 
 at_most : (l : ℕ) (r t : ℕ) → t ≤ 1 → (l ≡ r → t ≡ 0) → tick (nat_eq l r) + t ≤ 1
 at_most l r t h f = elim (eq_cases l r) [ inl e ↦ omega (arith, e.1, f e.0) | inr e ↦ omega (arith, e.1, h) ]
@@ -88,7 +88,7 @@ not_twice_from l (x ∷ xs) u h =
     let k = not_twice_by (nat_eq l x) l x xs refl h in
     let rest = not_twice_from x xs u.1 k.1 in
     let low = u.0 x (inl refl) in
-    λ r. at_most l r (stands r (x ∷ xs)) (rest r) (λ e. none_low r (x ∷ xs) (behind x xs r u.1 (omega (arith, k.0, low, e))))
+    λ r. at_most l r (stands r (x ∷ xs)) (rest r) (λ e. none_low r (x ∷ xs) (all_after x xs r u.1 (omega (arith, k.0, low, e))))
 
 pub not_twice : (xs : List ℕ) → Ups xs → twice_after None xs ≡ None → OneEach xs
 not_twice [] u h = λ r. omega arith
@@ -110,11 +110,11 @@ twice_from l s (x ∷ xs) u h =
       | inl e ↦
           let a = elim (eq_cases l s) as (λ _. tick (nat_eq l s) ≡ 1) [ inl k ↦ k.1 | inr k ↦ absurd (k.0 (e.0 ∙ e.1)) ] in
           let b = elim (eq_cases x s) as (λ _. tick (nat_eq x s) ≡ 1) [ inl k ↦ k.1 | inr k ↦ absurd (k.0 e.1) ] in
-          (omega (arith, a, b), λ r low. at_most l r (stands r (x ∷ xs)) (let zero_times = none_low r (x ∷ xs) (behind x xs r u.1 (omega (arith, e.1, low))) in omega (arith, zero_times)) (λ k. none_low r (x ∷ xs) (behind x xs r u.1 (omega (arith, e.1, low)))))
+          (omega (arith, a, b), λ r low. at_most l r (stands r (x ∷ xs)) (let zero_times = none_low r (x ∷ xs) (all_after x xs r u.1 (omega (arith, e.1, low))) in omega (arith, zero_times)) (λ k. none_low r (x ∷ xs) (all_after x xs r u.1 (omega (arith, e.1, low)))))
       | inr e ↦
           let rest = twice_from x s xs u.1 e.1 in
           let low = u.0 x (inl refl) in
-          (omega (arith, rest.0), λ r k. at_most l r (stands r (x ∷ xs)) (rest.1 r k) (λ q. none_low r (x ∷ xs) (behind x xs r u.1 (omega (arith, e.0, low, q)))))
+          (omega (arith, rest.0), λ r k. at_most l r (stands r (x ∷ xs)) (rest.1 r k) (λ q. none_low r (x ∷ xs) (all_after x xs r u.1 (omega (arith, e.0, low, q)))))
     ]
 
 pub twice_found : (s : ℕ) (xs : List ℕ) → Ups xs → twice_after None xs ≡ Some s → LeastTwice xs s
@@ -144,7 +144,7 @@ no_gap last top (x ∷ xs) h r low high =
     ]
 
 pub record FirstGap (last top : ℕ) (xs : List ℕ) (s : ℕ) : Type 0 where
-  pub behind : last < s
+  pub later : last < s
   pub within : s ≤ top
   pub gap : stands s xs ≡ 0
   pub least : (r : ℕ) → last < r → r < s → 0 < stands r xs
@@ -155,7 +155,7 @@ some_is a b e = cc
 pub gap_found : (last top s : ℕ) (xs : List ℕ) → Ups xs → ((z : ℕ) → In z xs → z ≤ top) → gap_after last top xs ≡ Some s → FirstGap last top xs s
 gap_found last top s [] u f h =
     elim (end_by (nat_lt last top) last top (Some s) refl h) [
-      | inl e ↦ let is = some_is (last + 1) s e.1 in record { behind = omega arith; within = omega (arith, e.0); gap = refl; least = λ r a b. absurd (omega arith) }
+      | inl e ↦ let is = some_is (last + 1) s e.1 in record { later = omega arith; within = omega (arith, e.0); gap = refl; least = λ r a b. absurd (omega arith) }
       | inr e ↦ let bad = e.1 in cc
     ]
 gap_found last top s (x ∷ xs) u f h =
@@ -164,18 +164,18 @@ gap_found last top s (x ∷ xs) u f h =
           let is = some_is (last + 1) s e.1 in
           let far = e.0 in
           record {
-            behind = omega arith;
+            later = omega arith;
             within = omega (arith, f x (inl refl));
-            gap = none_low s (x ∷ xs) (behind x xs s u (omega arith));
+            gap = none_low s (x ∷ xs) (all_after x xs s u (omega arith));
             least = λ r a b. absurd (omega arith);
           }
       | inr e ↦
           let rest = gap_found (max last x) top s xs u.1 (λ z k. f z (inr k)) e.1 in
           let near = e.0 in
           record {
-            behind = omega (arith, rest.behind);
+            later = omega (arith, rest.later);
             within = rest.within;
-            gap = elim (eq_cases x s) [ inl k ↦ absurd (omega (arith, k.0, rest.behind)) | inr k ↦ omega (arith, k.1, rest.gap) ];
+            gap = elim (eq_cases x s) [ inl k ↦ absurd (omega (arith, k.0, rest.later)) | inr k ↦ omega (arith, k.1, rest.gap) ];
             least = λ r a b. elim (eq_cases x r) [
               | inl k ↦ omega (arith, k.1)
               | inr k ↦ let more = rest.least r (omega (arith, k.0)) b in omega (arith, more)
@@ -203,7 +203,7 @@ gap_tells start top xs up within None h = λ r a b. subst (λ n. 0 < n) (sym (ti
 gap_tells start top xs up within (Some s) h =
     let g = gap_found start top s xs (rises_from (λ n. n) xs up) (λ z k. All-contains (λ n. n ≤ top) xs z within (contains_from_in xs z k)) h in
     record {
-      behind = g.behind;
+      later = g.later;
       within = g.within;
       missing = times_is xs s ∙ g.gap;
       least = λ r a b. subst (λ n. 0 < n) (sym (times_is xs r)) (g.least r a b);

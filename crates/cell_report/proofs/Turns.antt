@@ -5,7 +5,7 @@ use Rattle.std.proofs.lemmas.Bool.{and_parts, and_from, leb-true, le-leb}
 use Rattle.cell_types.specs.declared.machine.Machine.{Machine}
 use Rattle.cell_types.specs.declared.journal.Entry.{Entry}
 use Rattle.cell_report.specs.declared.ordered.Noted.{Noted}
-use Rattle.cell_report.specs.Order.{key_of, key_at, noted_behind, noted_from}
+use Rattle.cell_report.specs.Order.{key_of, key_at, noted_after, noted_from}
 use Rattle.cell_report.proofs.Members.{In, in_append_left, in_append_right, in_append_cases}
 use Rattle.cell_report.proofs.Rising.{Rises}
 
@@ -36,12 +36,12 @@ rises_in_turn m earlier (e ∷ es) f = (
   rises_in_turn m (earlier ++ e ∷ []) es (λ z h. f z (inr h)),
 )
 
-in_turn_behind : (m : Machine) (earlier es : List Entry) → ((d : Entry) → In d earlier → (z : Noted) → In z (noted_from m earlier es) → key_of d ≤ key_at z) → Rises (noted_from m earlier es) → (z : Noted) → In z (noted_from m earlier es) → z.in_turn ≡ true
-in_turn_behind m earlier [] f r z h = absurd h
-in_turn_behind m earlier (e ∷ es) f r z (inl q) =
-    ap (λ (w : Noted). w.in_turn) (sym q) ∙ all_low earlier (key_of e) (λ d i. f d i (noted_behind m earlier e) (inl refl))
-in_turn_behind m earlier (e ∷ es) f r z (inr h) =
-    in_turn_behind m (earlier ++ e ∷ []) es
+in_turn_after : (m : Machine) (earlier es : List Entry) → ((d : Entry) → In d earlier → (z : Noted) → In z (noted_from m earlier es) → key_of d ≤ key_at z) → Rises (noted_from m earlier es) → (z : Noted) → In z (noted_from m earlier es) → z.in_turn ≡ true
+in_turn_after m earlier [] f r z h = absurd h
+in_turn_after m earlier (e ∷ es) f r z (inl q) =
+    ap (λ (w : Noted). w.in_turn) (sym q) ∙ all_low earlier (key_of e) (λ d i. f d i (noted_after m earlier e) (inl refl))
+in_turn_after m earlier (e ∷ es) f r z (inr h) =
+    in_turn_after m (earlier ++ e ∷ []) es
     (λ d i w k. elim (in_append_cases earlier (e ∷ []) d i) [
       | inl b ↦ f d b w (inr k)
       | inr b ↦ elim b [ inl q ↦ let p = ap key_of q in omega (arith, r.0 w k, p) | inr n ↦ absurd n ]
@@ -50,4 +50,4 @@ in_turn_behind m earlier (e ∷ es) f r z (inr h) =
 
 -- and the converse
 pub in_turn_from_rises : (m : Machine) (es : List Entry) → Rises (noted_from m [] es) → (z : Noted) → In z (noted_from m [] es) → z.in_turn ≡ true
-in_turn_from_rises m es r z h = in_turn_behind m [] es (λ d i. absurd i) r z h
+in_turn_from_rises m es r z h = in_turn_after m [] es (λ d i. absurd i) r z h

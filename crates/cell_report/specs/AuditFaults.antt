@@ -25,7 +25,7 @@ HasNoTwice count = (r : ℕ) → count r ≤ 1
 
 -- the least stamp after the start's, up to the top, that isn't counted
 pub record IsGap (start top : ℕ) (count : ℕ → ℕ) (stamp : ℕ) : Type 0 where
-  pub behind : start < stamp
+  pub later : start < stamp
   pub within : stamp ≤ top
   pub missing : count stamp ≡ 0
   pub least : (r : ℕ) → start < r → r < stamp → 0 < count r

@@ -23,13 +23,13 @@ abbrev pub key_of : Entry → ℕ
 key_of e = 2 * e.stamp + rank e.answer
 
 -- an entry after the earlier ones of its journal: it is in turn if none of them is later in the order
-abbrev pub noted_behind : Machine → List Entry → Entry → Noted
-noted_behind m earlier e = record { machine = m; entry = e; in_turn = list_all (λ d. nat_le (key_of d) (key_of e)) earlier }
+abbrev pub noted_after : Machine → List Entry → Entry → Noted
+noted_after m earlier e = record { machine = m; entry = e; in_turn = list_all (λ d. nat_le (key_of d) (key_of e)) earlier }
 
 -- the entries of a journal, after earlier ones
 abbrev pub noted_from : Machine → List Entry → List Entry → List Noted
 noted_from m earlier [] = []
-noted_from m earlier (e ∷ es) = noted_behind m earlier e ∷ noted_from m (earlier ++ e ∷ []) es
+noted_from m earlier (e ∷ es) = noted_after m earlier e ∷ noted_from m (earlier ++ e ∷ []) es
 
 -- all entries, by machine, and then as in the journal
 abbrev pub all_noted : (Machine → List Entry) → List Noted

@@ -1,7 +1,7 @@
 -- The first of a call's conditions that applies, and the causes that the conditions give.
 use Rattle.std.proofs.Common.{◌≡◌, ℕ, Bool, true, false, cond, ◌||◌, nat_eq, Option, Some, None, is_some, List, [], ◌∷◌, refl, sym, ap, ◌∙◌, subst}
 use Rattle.std.specs.List.{list_any}
-use Rattle.std.proofs.lemmas.Bool.{eqb-true, eq-eqb}
+use Rattle.std.proofs.lemmas.Bool.{eqb-true, eq-eqb, or_right}
 use Rattle.cell_types.specs.declared.answer.Refusal.{Refusal}
 use Rattle.cell_types.specs.Refusals.{number_of}
 use Rattle.cell_rules.specs.Refusals.{◌or◌}
@@ -51,22 +51,18 @@ is_among k ns = list_any (λ x. nat_eq x k) ns
 pub head_on : (n k : ℕ) (ns : List ℕ) → is_among k (n ∷ ns) ≡ true → is_no_later (n ∷ ns) n k ≡ true
 head_on n k ns e = ap (λ (b : Bool). is_among k (cond b (n ∷ ns) (from_on n ns))) (eq-eqb n n refl) ∙ e
 
-or_behind : (a b : Bool) → b ≡ true → (a || b) ≡ true
-or_behind true b e = refl
-or_behind false b e = e
-
 tail_on : (n a k : ℕ) (ns : List ℕ) → is_among k ns ≡ true → is_no_later ns a k ≡ true → is_no_later (n ∷ ns) a k ≡ true
 tail_on n a k ns among e =
     let At : Bool → Type 0 = λ b. is_among k (cond b (n ∷ ns) (from_on a ns)) ≡ true in
     let by : (b : Bool) → At b = λ b. elim b as At [
-      | true ↦ or_behind (nat_eq n k) (is_among k ns) among
+      | true ↦ or_right (nat_eq n k) (is_among k ns) among
       | false ↦ e
     ] in
     by (nat_eq n a)
 
-behind : (b c : Bool) → (b || c) ≡ true → b ≡ false → c ≡ true
-behind true c e f = cc
-behind false c e f = e
+right_holds : (b c : Bool) → (b || c) ≡ true → b ≡ false → c ≡ true
+right_holds true c e f = cc
+right_holds false c e f = e
 
 unheard : (n k : ℕ) → ((n ≡ k) → false ≡ true) → nat_eq n k ≡ false
 unheard n k apart =
@@ -81,7 +77,7 @@ first_at : (cause : Refusal → Bool) (l : ℕ × Option Refusal) (ls : List (�
     → (r : Refusal) → cause r ≡ true → is_among (number_of r) (numbers (l ∷ ls)) ≡ true → (is_among (number_of r) (numbers ls) ≡ true → First (numbers ls) (chain None ls) r) → First (numbers (l ∷ ls)) (chain o ls) r
 first_at cause l ls None is t r holds among rest =
     let not_here : nat_eq l.0 (number_of r) ≡ false = unheard l.0 (number_of r) (λ same. ap is_some (sym is) ∙ t.found r (sym same) holds) in
-    let later = behind (nat_eq l.0 (number_of r)) (is_among (number_of r) (numbers ls)) among not_here in
+    let later = right_holds (nat_eq l.0 (number_of r)) (is_among (number_of r) (numbers ls)) among not_here in
     let f = rest later in
     record { answered = f.answered; is = f.is; stands = tail_on l.0 (number_of f.answered) (number_of r) (numbers ls) later f.stands }
 first_at cause l ls (Some q) is t r holds among rest =

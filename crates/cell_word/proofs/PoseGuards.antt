@@ -422,10 +422,10 @@ pose_holds s sound m p =
     let one = guards.posed_at m p (guards.hosted_zones m).0 in
     let other = guards.posed_at m p (guards.hosted_zones m).1 in
     let first = guard (when (is_none one) anything) NoPose ∷ [] in
-    let behind = option_or (option_or (option_or (option_or (option_or (Refusals.first_zone (Refusals.unowned_by_pose s m p)) (Refusals.first_zone (Refusals.plate_under_pose s m p))) (Refusals.jump s m p))
+    let later = option_or (option_or (option_or (option_or (option_or (Refusals.first_zone (Refusals.unowned_by_pose s m p)) (Refusals.first_zone (Refusals.plate_under_pose s m p))) (Refusals.jump s m p))
     (Refusals.first_zone (Refusals.opens_onto_plate s m p))) (Refusals.runs_onto_plate s m p)) (Refusals.worn s) in
     first-append w first (later_guards m p one other)
-    ∙ or_next (first_refusal w first) (Refusals.lacks_pose m p) (first_refusal w (later_guards m p one other)) behind
+    ∙ or_next (first_refusal w first) (Refusals.lacks_pose m p) (first_refusal w (later_guards m p one other)) later
     (always_seen w (is_none one) ∙ ap (λ b. then_some b NoPose) (lacks m p))
     (λ e. later_seen s sound m p (none_then_not (Refusals.has_pose m p) NoPose e))
     ∙ spread (Refusals.lacks_pose m p) (Refusals.first_zone (Refusals.unowned_by_pose s m p)) (Refusals.first_zone (Refusals.plate_under_pose s m p)) (Refusals.jump s m p)

@@ -275,11 +275,11 @@ give_holds s sound m z =
     let row = guards.row_given m z in
     let here = give_here m z (zone_at s z) in
     let before = option_or (not_mine m z (zone_at s z)) (then_some (zone_at s z).flag (PlateInZone z)) in
-    let behind : first_refusal w (ends_of row ++ (guards.worn ∷ [])) ≡ option_or (option_or (Refusals.nothing_to_give s row) (Refusals.no_room s row)) (Refusals.worn s) =
+    let way_and_stamp : first_refusal w (ends_of row ++ (guards.worn ∷ [])) ≡ option_or (option_or (Refusals.nothing_to_give s row) (Refusals.no_room s row)) (Refusals.worn s) =
     first-append w (ends_of row) (guards.worn ∷ []) ∙ ap₂ option_or (ends_seen s sound row) (worn_seen s sound) in
     let same : here ≡ None → gift ≡ row = λ e. given_once m z (zone_at s z).posture (none_then (is_none gift) WrongWay (none_or before (Refusals.wrong_way gift) e).1) in
     first-append w (give_part m z) (ends_of row ++ (guards.worn ∷ []))
     ∙ or_next (first_refusal w (give_part m z)) here (first_refusal w (ends_of row ++ (guards.worn ∷ []))) (option_or (option_or (Refusals.nothing_to_give s gift) (Refusals.no_room s gift)) (Refusals.worn s))
     (zone_row give_part give_here give_table s sound m z)
-    (λ e. behind ∙ ap (λ r. option_or (option_or (Refusals.nothing_to_give s r) (Refusals.no_room s r)) (Refusals.worn s)) (sym (same e)))
+    (λ e. way_and_stamp ∙ ap (λ r. option_or (option_or (Refusals.nothing_to_give s r) (Refusals.no_room s r)) (Refusals.worn s)) (sym (same e)))
     ∙ regrouped here (Refusals.nothing_to_give s gift) (Refusals.no_room s gift) (Refusals.worn s)
