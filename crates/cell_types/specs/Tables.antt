@@ -1,16 +1,19 @@
 -- The tables of the cell: who meets in a zone, the way of a plate through it, and the postures that poses give it.
 use Rattle.std.specs.Prelude.{Option, Some, None}
 use Rattle.cell_types.specs.declared.machine.Machine.{Machine}
-use Rattle.cell_types.specs.declared.machine.Machine.TheVariants.{Feed, Robot, Press, Deposit, Table as TableMachine, Crane as CraneMachine}
+use Rattle.cell_types.specs.declared.machine.Machine.TheVariants.{Feed, Robot, Press, Deposit, Table as TableMachine}
+use Rattle.cell_types.specs.declared.machine.Machine.TheVariants.{Crane as CraneMachine}
 use Rattle.cell_types.specs.declared.zone.Zone.{Zone}
 use Rattle.cell_types.specs.declared.zone.Zone.TheVariants.{Z1, Z2, Z3, Z4, Z5, Z6}
 use Rattle.cell_types.specs.declared.place.Place.{Place}
-use Rattle.cell_types.specs.declared.place.Place.TheVariants.{FeedEntry, FeedEnd, Table, Arm1, PressIn, PressOut, Arm2, DepEntry, DepEnd, Crane}
+use Rattle.cell_types.specs.declared.place.Place.TheVariants.{FeedEntry, FeedEnd, Table, Arm1, PressIn, PressOut, Arm2}
+use Rattle.cell_types.specs.declared.place.Place.TheVariants.{DepEntry, DepEnd, Crane}
 use Rattle.cell_types.specs.declared.zone.Transfer.{Transfer}
 use Rattle.cell_types.specs.declared.posture.Posture.{Posture}
 use Rattle.cell_types.specs.declared.posture.Posture.TheVariants.{Closed, Moving, OpenIn, OpenOut}
 use Rattle.cell_types.specs.declared.pose.Pose.{Pose}
-use Rattle.cell_types.specs.declared.pose.Pose.TheVariants.{Turning, Loading, Unloading, Travelling, Middle, Low, Top, Running, Landing, Halted, Offering, Standing}
+use Rattle.cell_types.specs.declared.pose.Pose.TheVariants.{Turning, Loading, Unloading, Travelling, Middle, Low, Top}
+use Rattle.cell_types.specs.declared.pose.Pose.TheVariants.{Running, Landing, Halted, Offering, Standing}
 
 -- the machine that a zone belongs to
 abbrev pub host_of : Zone → Machine

@@ -2,10 +2,12 @@
 use Rattle.std.specs.Prelude.{◌≡◌, List, ◌++◌, Option, Some, None, option_map, IfSome, count_by}
 use Rattle.std.specs.List.{filter_map, flat_map}
 use Rattle.cell_types.specs.declared.machine.Machine.{Machine}
-use Rattle.cell_types.specs.declared.machine.Machine.TheVariants.{Feed, Robot, Press, Deposit, Table as TableMachine, Crane as CraneMachine}
+use Rattle.cell_types.specs.declared.machine.Machine.TheVariants.{Feed, Robot, Press, Deposit, Table as TableMachine}
+use Rattle.cell_types.specs.declared.machine.Machine.TheVariants.{Crane as CraneMachine}
 use Rattle.cell_types.specs.declared.zone.Zone.{Zone}
 use Rattle.cell_types.specs.declared.place.Place.{Place}
-use Rattle.cell_types.specs.declared.place.Place.TheVariants.{FeedEntry, FeedEnd, Table, Arm1, PressIn, PressOut, Arm2, DepEntry, DepEnd, Crane}
+use Rattle.cell_types.specs.declared.place.Place.TheVariants.{FeedEntry, FeedEnd, Table, Arm1, PressIn, PressOut, Arm2}
+use Rattle.cell_types.specs.declared.place.Place.TheVariants.{DepEntry, DepEnd, Crane}
 use Rattle.cell_types.specs.declared.zone.Transfer.{Transfer}
 use Rattle.cell_types.specs.declared.posture.Posture.{Posture}
 use Rattle.cell_types.specs.Everything.{all_machines, all_postures, all_zones}
@@ -35,13 +37,16 @@ keeper_of Crane = CraneMachine
 -- in one zone a machine gives in at most one row, so both determine the place that is emptied; it receives in at most
 -- one row, so both determine the place that is filled
 pub record OneRowEach : Type 0 where
-  pub giver : (z : Zone) (q r : Posture) → IfSome (transfer_of z q) (λ a. IfSome (transfer_of z r) (λ b. a.giver ≡ b.giver → q ≡ r))
-  pub receiver : (z : Zone) (q r : Posture) → IfSome (transfer_of z q) (λ a. IfSome (transfer_of z r) (λ b. a.receiver ≡ b.receiver → q ≡ r))
+  pub giver : (z : Zone) (q r : Posture)
+      → IfSome (transfer_of z q) (λ a. IfSome (transfer_of z r) (λ b. a.giver ≡ b.giver → q ≡ r))
+  pub receiver : (z : Zone) (q r : Posture)
+      → IfSome (transfer_of z q) (λ a. IfSome (transfer_of z r) (λ b. a.receiver ≡ b.receiver → q ≡ r))
 
 -- a row leads from a place of its giver to one of its receiver, and work from a place of the machine to another of its
 -- own
 pub record JoinsKeepers : Type 0 where
-  pub row : (z : Zone) (q : Posture) → IfSome (transfer_of z q) (λ row. (keeper_of row.from ≡ row.giver) × (keeper_of row.to ≡ row.receiver))
+  pub row : (z : Zone) (q : Posture)
+      → IfSome (transfer_of z q) (λ row. (keeper_of row.from ≡ row.giver) × (keeper_of row.to ≡ row.receiver))
   pub own_move : (m : Machine) → IfSome (own_move_of m) (λ way. (keeper_of way.0 ≡ m) × (keeper_of way.1 ≡ m))
 
 -- the places where a row begins and ends

@@ -128,7 +128,8 @@ impl Refusal {
 
     /// The refusal with this text, or `None` if none has it.
     pub fn read(word: &[u8]) -> Option<Refusal>
-        ensures { (refusal : Refusal) → (result ≡ Some refusal) ↔ (word.now ≡ refusal_word refusal) }
+        ensures { (refusal : Refusal)
+            → (result ≡ Some refusal) ↔ (word.now ≡ refusal_word refusal) }
     {
         find_by_word(&Refusal::ALL, word)
     }

@@ -45,7 +45,8 @@ impl Call {
 
     /// The call that a verb and the field after it spell; `None` if they spell none.
     pub fn read(verb: &[u8], object: Option<&[u8]>) -> Option<Call>
-        ensures { (call : Call) → (result ≡ Some call) ↔ (with_object verb.now (option_map (λ s. s.now) object.entry) ≡ call_fields call) }
+        ensures { (call : Call) → (result ≡ Some call)
+            ↔ (with_object verb.now (option_map (λ s. s.now) object.entry) ≡ call_fields call) }
     {
         match object {
             None if verb == b"advance".as_slice() => Some(Call::Advance),
@@ -56,7 +57,8 @@ impl Call {
 }
 
 fn read_with(verb: &[u8], object: &[u8]) -> Option<Call>
-    ensures { (call : Call) → (result ≡ Some call) ↔ (verb.now ∷ object.now ∷ [] ≡ call_fields call) }
+    ensures { (call : Call)
+        → (result ≡ Some call) ↔ (verb.now ∷ object.now ∷ [] ≡ call_fields call) }
 {
     if verb == b"pose".as_slice() {
         return Pose::read(object).map(Call::SetPose);

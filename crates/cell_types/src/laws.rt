@@ -7,8 +7,8 @@ pub fn one_row_each()
     ensures { OneRowEach }
 {}
 
-/// A transfer row leads from a place of its giver to a place of its receiver, and work from a place of
-/// a machine to another of its own.
+/// A transfer row leads from a place of its giver to a place of its receiver, and work from a place
+/// of a machine to another of its own.
 pub fn rows_join_keepers()
     ensures { JoinsKeepers }
 {}

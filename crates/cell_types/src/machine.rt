@@ -51,7 +51,8 @@ impl Machine {
 
     /// The machine with this word, or `None` if none has it.
     pub fn read(word: &[u8]) -> Option<Machine>
-        ensures { (machine : Machine) → (result ≡ Some machine) ↔ (word.now ≡ machine_word machine) }
+        ensures { (machine : Machine)
+            → (result ≡ Some machine) ↔ (word.now ≡ machine_word machine) }
     {
         find_by_word(&Machine::ALL, word)
     }

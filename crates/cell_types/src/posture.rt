@@ -39,7 +39,8 @@ impl Posture {
 
     /// The posture with this word, or `None` if none has it.
     pub fn read(word: &[u8]) -> Option<Posture>
-        ensures { (posture : Posture) → (result ≡ Some posture) ↔ (word.now ≡ posture_word posture) }
+        ensures { (posture : Posture)
+            → (result ≡ Some posture) ↔ (word.now ≡ posture_word posture) }
     {
         find_by_word(&Posture::ALL, word)
     }

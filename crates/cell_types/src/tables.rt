@@ -86,8 +86,8 @@ pub fn posture_in(machine: Machine, pose: Pose, zone: Zone) -> Option<Posture>
     }
 }
 
-/// The way of a plate by a machine's own work: along a belt, or in the press from loaded to forged; `None`
-/// for other machines.
+/// The way of a plate by a machine's own work: along a belt, or in the press from loaded to forged;
+/// `None` for other machines.
 pub fn own_move(machine: Machine) -> Option<(Place, Place)>
     ensures { result ≡ own_move_of machine }
 {
