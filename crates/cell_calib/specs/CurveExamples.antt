@@ -57,7 +57,8 @@ pub record FaultExamples : Type 0 where
   pub pair_too_many : IsFirstFault even (steps 33) Count
   pub first_end : IsFirstFault quarters ((1, pos 0) ∷ (1000, pos 254) ∷ (2000, pos 500) ∷ (4000, pos 1000) ∷ []) Ends
   pub last_end : IsFirstFault quarters ((0, pos 0) ∷ (1000, pos 254) ∷ (2000, pos 500) ∷ (3999, pos 1000) ∷ []) Ends
-  pub ends_before_others : IsFirstFault quarters ((1, pos 0) ∷ (1000, pos 255) ∷ (1000, pos 500) ∷ (4000, pos 1000) ∷ []) Ends
+  pub ends_before_others :
+      IsFirstFault quarters ((1, pos 0) ∷ (1000, pos 255) ∷ (1000, pos 500) ∷ (4000, pos 1000) ∷ []) Ends
   pub equal_raws : IsFirstFault quarters ((0, pos 0) ∷ (1000, pos 254) ∷ (1000, pos 500) ∷ (4000, pos 1000) ∷ []) Order
   pub far : IsFirstFault quarters ((0, pos 0) ∷ (1000, pos 255) ∷ (2000, pos 500) ∷ (4000, pos 1000) ∷ []) OffLine
   pub far_below : IsFirstFault quarters ((0, pos 0) ∷ (1000, pos 245) ∷ (2000, pos 500) ∷ (4000, pos 1000) ∷ []) OffLine

@@ -1,12 +1,15 @@
 -- Whether pairs make a curve, as tests that compute.
-use Rattle.std.specs.Prelude.{ℕ, ◌-◌, ℤ, pos, ◌+ℤ◌, ◌-ℤ◌, ◌*ℤ◌, Bool, true, ◌&&◌, ◌==◌, nat_le, nat_lt, int_le, List, [], ◌∷◌, length}
+use Rattle.std.specs.Prelude.{ℕ, ◌-◌, ℤ, pos, ◌+ℤ◌, ◌-ℤ◌, ◌*ℤ◌, Bool, true, ◌&&◌, ◌==◌, nat_le, nat_lt, int_le, List}
+use Rattle.std.specs.Prelude.{[], ◌∷◌, length}
 use Rattle.std.specs.List.{list_all}
 use Rattle.cell_calib.specs.Scale.{Scale}
 use Rattle.cell_calib.specs.Line.{raw_width, height_of, line_height}
 use Rattle.cell_calib.specs.Curve.{Pair, raw_at}
 
 abbrev pub is_line_near : Scale → ℕ → ℤ → ℤ → Bool
-is_line_near s raw v d = int_le (height_of s v) (line_height s raw +ℤ d *ℤ raw_width s) && int_le (line_height s raw) (height_of s v +ℤ d *ℤ raw_width s)
+is_line_near s raw v d =
+    int_le (height_of s v) (line_height s raw +ℤ d *ℤ raw_width s)
+    && int_le (line_height s raw) (height_of s v +ℤ d *ℤ raw_width s)
 
 abbrev pub is_near_pair : Scale → Pair → Bool
 is_near_pair s pair = is_line_near s pair.0 pair.1 (s.tol -ℤ pos 1) && (int_le s.at_lo pair.1 && int_le pair.1 s.at_hi)

@@ -5,7 +5,8 @@ use Rattle.cell_calib.specs.Line.{IsLineRoundedDown, IsRawAt}
 
 -- a scale by its two raw values and the positions there
 abbrev pub scale_of : ℕ → ℕ → ℤ → ℤ → Scale
-scale_of raw_lo raw_hi at_lo at_hi = record { raw_lo = raw_lo; raw_hi = raw_hi; at_lo = at_lo; at_hi = at_hi; tol = pos 5 }
+scale_of raw_lo raw_hi at_lo at_hi =
+    record { raw_lo = raw_lo; raw_hi = raw_hi; at_lo = at_lo; at_hi = at_hi; tol = pos 5 }
 
 -- an ideal sensor gives this raw value at a position and no other
 abbrev pub GivesRaw : Scale → ℤ → ℕ → Type 0
@@ -13,7 +14,8 @@ GivesRaw s position raw = IsRawAt s position raw × ((other : ℕ) → IsRawAt s
 
 -- the line at a raw value, rounded down, is this position and no other
 abbrev pub LiesAt : Scale → ℕ → ℤ → Type 0
-LiesAt s raw position = IsLineRoundedDown s raw position × ((other : ℤ) → IsLineRoundedDown s raw other → other ≡ position)
+LiesAt s raw position =
+    IsLineRoundedDown s raw position × ((other : ℤ) → IsLineRoundedDown s raw other → other ≡ position)
 
 -- three raw values for two positions
 abbrev pub three_for_two : Scale

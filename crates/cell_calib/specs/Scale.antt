@@ -8,6 +8,11 @@ pub record Scale : Type 0 where
   pub at_hi : ℤ
   pub tol : ℤ
 
+-- the scale of these figures
+abbrev pub scale_by : ℕ → ℕ → ℤ → ℤ → ℤ → Scale
+scale_by raw_lo raw_hi at_lo at_hi tol =
+    record { raw_lo = raw_lo; raw_hi = raw_hi; at_lo = at_lo; at_hi = at_hi; tol = tol }
+
 -- the limits that every scale keeps
 pub record IsScale (s : Scale) : Type 0 where
   pub raws_rise : s.raw_lo < s.raw_hi

@@ -13,7 +13,9 @@ TableClashes s = IsTrue s.bottom × IsTrue s.top
 
 -- the switches at two positions of the press are on
 abbrev pub PressClashes : PressSense → Type 0
-PressClashes s = ((IsTrue s.bottom × IsTrue s.middle) ⊎ (IsTrue s.bottom × IsTrue s.top)) ⊎ (IsTrue s.middle × IsTrue s.top)
+PressClashes s =
+    ((IsTrue s.bottom × IsTrue s.middle) ⊎ (IsTrue s.bottom × IsTrue s.top))
+    ⊎ (IsTrue s.middle × IsTrue s.top)
 
 -- the switches at both ends of the crane's travel are on
 abbrev pub CraneClashes : CraneSense → Type 0

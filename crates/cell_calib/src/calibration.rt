@@ -53,7 +53,8 @@ impl<F: Gauge> Calibration<F> {
     /// The position at a raw value, as the closure gives it. A raw value below `raw_lo` is `Low`,
     /// one above `raw_hi` is `High`.
     pub fn read(&self, raw: u16) -> Result<i32, SensorFault>
-        ensures ok { IsOk result ↔ ((self.now.points.raw_lo ≤ raw) × (raw ≤ self.now.points.raw_hi)) }
+        ensures ok { IsOk result
+            ↔ ((self.now.points.raw_lo ≤ raw) × (raw ≤ self.now.points.raw_hi)) }
         ensures low { (result ≡ Err SensorFault.Low) ↔ (raw < self.now.points.raw_lo) }
         ensures high { (result ≡ Err SensorFault.High) ↔ (self.now.points.raw_hi < raw) }
         ensures reading { IfOk result (λ v. IsReading self.now.points raw v) }

@@ -1,10 +1,13 @@
 //! Curves: a potentiometer's positions by measured pairs, with a straight line from each to the
 //! next.
 
-ghost use Rattle.std.specs.Prelude.{◌≡◌, ◌+◌, ◌-◌, ◌*◌, ◌/◌, ◌<◌, ◌≤◌, ◌↔◌, ℕ, ℤ, pos, ◌+ℤ◌, ◌-ℤ◌, ◌≤ℤ◌, IsTrue, IsOk, IfOk, IfErr, length, take};
+ghost use Rattle.std.specs.Prelude.{◌≡◌, ◌+◌, ◌-◌, ◌*◌, ◌/◌, ◌<◌, ◌≤◌, ◌↔◌, ℕ, ℤ, pos, ◌+ℤ◌, ◌-ℤ◌, ◌≤ℤ◌};
+ghost use Rattle.std.specs.Prelude.{IsTrue, IsOk, IfOk, IfErr, length, take};
 ghost use Rattle.cell_calib.specs.Scale.{IsScale};
 ghost use Rattle.cell_calib.specs.Line.{IsReading, IsLineRoundedDown};
-ghost use Rattle.cell_calib.specs.Curve.{AreNearLine, AreNeighbours, HasCount, HasEnds, IsCurve, IsNearPair, IsOnCurve, IsRising, ends_of, line_through, pair_at, pairs_of, raw_at};
+ghost use Rattle.cell_calib.specs.Curve.{AreNearLine, AreNeighbours, HasCount, HasEnds, IsCurve, IsNearPair};
+ghost use Rattle.cell_calib.specs.Curve.{IsOnCurve, IsRising, ends_of, line_through, pair_at, pairs_of};
+ghost use Rattle.cell_calib.specs.Curve.{raw_at};
 ghost use Rattle.cell_calib.specs.CurveFaults.{IsFirstFault};
 
 use crate::points::Points;

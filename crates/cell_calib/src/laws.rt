@@ -12,14 +12,16 @@ ghost use Rattle.cell_calib.specs.declared.curve.CurveFault.{CurveFault};
 /// If a reading is within a window less the tolerance, the exact line is within the window.
 pub fn line_in_window()
     ensures { (s : Scale) (raw : ℕ) (v target half : ℤ) → IsScale s
-        → IsWithinTolerance s raw v → IsNear v target (half -ℤ s.tol) → IsLineNear s raw target half }
+        → IsWithinTolerance s raw v → IsNear v target (half -ℤ s.tol)
+        → IsLineNear s raw target half }
 {}
 
 /// An ideal sensor gives a raw value at a position, rounded down. A reading of that raw value is
 /// within the tolerance of the position, if the scale has at least as many raw values as positions.
 pub fn near_position()
-    ensures { (s : Scale) (position v : ℤ) (raw : ℕ) → IsScale s → (s.at_hi -ℤ s.at_lo) ≤ℤ raw_width s
-        → IsRawAt s position raw → IsWithinTolerance s raw v → IsNear v position s.tol }
+    ensures { (s : Scale) (position v : ℤ) (raw : ℕ) → IsScale s
+        → (s.at_hi -ℤ s.at_lo) ≤ℤ raw_width s → IsRawAt s position raw
+        → IsWithinTolerance s raw v → IsNear v position s.tol }
 {}
 
 /// Rounding down, in figures, on scales with no whole number of raw values for a position: the raw

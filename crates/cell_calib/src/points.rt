@@ -17,15 +17,21 @@ pub struct Points {
 }
 
 impl Model for Points {
-    ghost use Rattle.cell_calib.specs.Scale.{Scale, IsScale};
+    ghost use Rattle.cell_calib.specs.Scale.{Scale, IsScale, scale_by};
 
     ghost Value = { Scale };
 
-    ghost view = { λ p. record { raw_lo = p.raw_lo; raw_hi = p.raw_hi; at_lo = p.at_lo; at_hi = p.at_hi; tol = p.tol } };
+    ghost view = { λ p. scale_by p.raw_lo p.raw_hi p.at_lo p.at_hi p.tol };
 
-    ghost invariant = { λ p. IsScale (record { raw_lo = p.raw_lo; raw_hi = p.raw_hi; at_lo = p.at_lo; at_hi = p.at_hi; tol = p.tol }) };
+    ghost invariant = { λ p. IsScale (scale_by p.raw_lo p.raw_hi p.at_lo p.at_hi p.tol) };
 
-    ghost inverse = { λ s. record { raw_lo = s.raw_lo; raw_hi = s.raw_hi; at_lo = s.at_lo; at_hi = s.at_hi; tol = s.tol } };
+    ghost inverse = { λ s. record {
+      raw_lo = s.raw_lo;
+      raw_hi = s.raw_hi;
+      at_lo = s.at_lo;
+      at_hi = s.at_hi;
+      tol = s.tol;
+    } };
 }
 
 /// Why there is no line through two points.
@@ -36,7 +42,7 @@ pub enum PointsFault {
 }
 
 impl Points {
-    ghost use Rattle.cell_calib.specs.Scale.{IsScale};
+    ghost use Rattle.cell_calib.specs.Scale.{IsScale, scale_by};
 
     /// The farthest that a point's position may be from 0.
     pub const MAX_POSITION: i32 = 100_000;
@@ -54,10 +60,10 @@ impl Points {
         at_hi: i32,
         tol: i32,
     ) -> Result<Points, PointsFault>
-        ensures ok { (result ≡ Ok (record { raw_lo = raw_lo; raw_hi = raw_hi; at_lo = at_lo; at_hi = at_hi; tol = tol }))
-            ↔ IsScale (record { raw_lo = raw_lo; raw_hi = raw_hi; at_lo = at_lo; at_hi = at_hi; tol = tol }) }
+        ensures ok { (result ≡ Ok (scale_by raw_lo raw_hi at_lo at_hi tol))
+            ↔ IsScale (scale_by raw_lo raw_hi at_lo at_hi tol) }
         ensures range { (result ≡ Err PointsFault.Range)
-            ↔ ¬ (IsScale (record { raw_lo = raw_lo; raw_hi = raw_hi; at_lo = at_lo; at_hi = at_hi; tol = tol })) }
+            ↔ ¬ (IsScale (scale_by raw_lo raw_hi at_lo at_hi tol)) }
     {
         let rises = raw_lo < raw_hi && at_lo < at_hi;
         let within = -Points::MAX_POSITION <= at_lo && at_hi <= Points::MAX_POSITION;

@@ -1,5 +1,7 @@
 ghost use Rattle.std.specs.Prelude.{◌≡◌, ◌↔◌, IsOk};
-ghost use Rattle.cell_calib.specs.Sensors.{TableClashes, PressClashes, CraneClashes, SwitchesClash, feed_part, table_part, robot_part, press_part, deposit_part, crane_part};
+ghost use Rattle.cell_calib.specs.Sensors.{TableClashes, PressClashes, CraneClashes, SwitchesClash};
+ghost use Rattle.cell_calib.specs.Sensors.{feed_part, table_part, robot_part, press_part, deposit_part};
+ghost use Rattle.cell_calib.specs.Sensors.{crane_part};
 
 /// Why a machine's sensors can't be used.
 #[derive(Clone, Copy, Debug, PartialEq, Eq)]
