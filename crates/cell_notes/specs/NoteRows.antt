@@ -23,7 +23,10 @@ entry call a stamp = record { call = call; answer = a; stamp = stamp }
 -- ---- the notebook: the counts of turns, calls done, inquiries, refusals and busy calls; and the journal
 
 abbrev pub noted : ℕ → ℕ → ℕ → ℕ → ℕ → List Entry → Notes
-noted turns done read refused busy journal = record { counts = record { turns = turns; done = done; read = read; refused = refused; busy = busy }; journal = journal }
+noted turns done read refused busy journal = record {
+  counts = record { turns = turns; done = done; read = read; refused = refused; busy = busy };
+  journal = journal;
+}
 
 -- a notebook after a claim that was done and ten other turns: its one entry, and the whole
 abbrev pub kept : Entry
@@ -36,8 +39,12 @@ pub record CountRows (call : Call) : Type 0 where
   pub at_first : no_notes ≡ noted 0 0 0 0 0 []
   pub nothing : notes_with before None ≡ noted 12 1 2 3 4 (kept ∷ [])
   pub done : notes_with before (Some (call, Ok (Settled Done 7))) ≡ noted 12 2 2 3 4 (kept ∷ entry call Done 7 ∷ [])
-  pub shown : (owner : Option Machine) (flag : Bool) (posture : Posture) → notes_with before (Some (call, Ok (Settled (Shown owner flag posture) 7))) ≡ noted 12 1 3 3 4 (kept ∷ entry call (Shown owner flag posture) 7 ∷ [])
-  pub refused : (r : Refusal) → notes_with before (Some (call, Ok (Settled (Refused r) 7))) ≡ noted 12 1 2 4 4 (kept ∷ entry call (Refused r) 7 ∷ [])
+  pub shown : (owner : Option Machine) (flag : Bool) (posture : Posture)
+      → notes_with before (Some (call, Ok (Settled (Shown owner flag posture) 7)))
+      ≡ noted 12 1 3 3 4 (kept ∷ entry call (Shown owner flag posture) 7 ∷ [])
+  pub refused : (r : Refusal)
+      → notes_with before (Some (call, Ok (Settled (Refused r) 7)))
+      ≡ noted 12 1 2 4 4 (kept ∷ entry call (Refused r) 7 ∷ [])
   pub busy : (lost : ℕ) → notes_with before (Some (call, Ok (Busy lost 7))) ≡ noted 12 1 2 3 5 (kept ∷ [])
   pub out_of_memory : notes_with before (Some (call, Err line.Memory)) ≡ noted 12 1 2 3 4 (kept ∷ [])
 
@@ -46,7 +53,8 @@ pub record CountRows (call : Call) : Type 0 where
 pub record EventRows (m : Machine) (call : Call) (stamp : ℕ) : Type 0 where
   pub nothing_done : done_in m None ≡ None
   pub done : done_in m (Some (call, Ok (Settled Done stamp))) ≡ Some (event m call Done)
-  pub shown_is_not_done : (owner : Option Machine) (flag : Bool) (posture : Posture) → done_in m (Some (call, Ok (Settled (Shown owner flag posture) stamp))) ≡ None
+  pub shown_is_not_done : (owner : Option Machine) (flag : Bool) (posture : Posture)
+      → done_in m (Some (call, Ok (Settled (Shown owner flag posture) stamp))) ≡ None
   pub refused_is_not_done : (r : Refusal) → done_in m (Some (call, Ok (Settled (Refused r) stamp))) ≡ None
   pub busy_is_not_done : (lost : ℕ) → done_in m (Some (call, Ok (Busy lost stamp))) ≡ None
   pub out_of_memory_is_not_done : done_in m (Some (call, Err line.Memory)) ≡ None

@@ -4,7 +4,8 @@ use Rattle.cell_types.specs.declared.journal.Entry.{Entry}
 use Rattle.cell_rules.specs.ModelState.{one_if}
 use Rattle.cell_notes.specs.declared.counts.Counts.{Counts}
 use Rattle.cell_notes.specs.declared.notebook.Notebook.{Notebook}
-use Rattle.cell_notes.specs.Asks.{TurnCall, came_back, is_done_reply, is_read_reply, is_refused_reply, is_busy_reply, entries_in}
+use Rattle.cell_notes.specs.Asks.{TurnCall, came_back, is_done_reply, is_read_reply, is_refused_reply, is_busy_reply}
+use Rattle.cell_notes.specs.Asks.{entries_in}
 
 -- a machine's counts and its journal
 pub record Notes : Type 0 where
