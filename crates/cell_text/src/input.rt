@@ -32,7 +32,8 @@ pub fn read_up_to<R: Read>(
     reader: &mut R,
     most: usize,
 ) -> Result<Vec<u8>, InputFault>
-    ensures bytes { IfOk result (λ v. IfSome (R.remaining reader.old) (λ bytes. v.items ≡ take most bytes)) }
+    ensures bytes { IfOk result
+        (λ v. IfSome (R.remaining reader.old) (λ bytes. v.items ≡ take most bytes)) }
     // At most this many bytes are taken from the reader, after an error too.
     ensures taken { TakesAtMost (R.remaining reader.old) (R.remaining reader.new) most }
 {

@@ -17,7 +17,8 @@ pub enum WriteFault {
 /// An interrupted write or flush is tried again.
 pub fn write_text<W: Write>(writer: &mut W, text: &[u8]) -> Result<(), WriteFault>
     ensures ok { OnOk result (Appends (W.contents writer.old) (W.contents writer.new) text.now) }
-    ensures err { OnErr result (WrotePrefix (W.contents writer.old) (W.contents writer.new) text.now) }
+    ensures err { OnErr result
+        (WrotePrefix (W.contents writer.old) (W.contents writer.new) text.now) }
 {
     match write_bytes(writer, text) {
         Ok(()) => flush(writer),
@@ -29,7 +30,8 @@ pub fn write_text<W: Write>(writer: &mut W, text: &[u8]) -> Result<(), WriteFaul
 /// interrupted write is tried again.
 pub fn write_bytes<W: Write>(writer: &mut W, text: &[u8]) -> Result<(), WriteFault>
     ensures ok { OnOk result (Appends (W.contents writer.old) (W.contents writer.new) text.now) }
-    ensures err { OnErr result (WrotePrefix (W.contents writer.old) (W.contents writer.new) text.now) }
+    ensures err { OnErr result
+        (WrotePrefix (W.contents writer.old) (W.contents writer.new) text.now) }
 {
     write_counted(writer, text).1
 }
