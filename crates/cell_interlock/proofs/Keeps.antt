@@ -5,7 +5,7 @@ use mathlib.Core.Option.{none, some, some-ne-none, some-injective}
 use native.Mathlib.Decide.{ℕ_discrete}
 use lib.ListN.{get_elem?}
 use prog.Atomic.{either}
-use Rattle.atomic_table.specs.Table.{State, Me, step, keeps, stepped, Allows, Splits, Joins, opening}
+use Rattle.atomic_table.specs.Table.{State, step, keeps, stepped, Allows, Splits, Joins, opening}
 use Rattle.atomic_table.proofs.Lists.{at_set, at_snoc}
 use Rattle.cell_types.specs.declared.machine.Machine.{Machine}
 use Rattle.cell_types.specs.declared.machine.Machine.TheVariants.{Feed, Table, Robot, Press, Deposit, Crane, Watch}
@@ -23,7 +23,7 @@ use Rattle.cell_rules.proofs.SeenLemmas.{legal-append, same_as_itself}
 use Rattle.cell_word.specs.Layout.{packed}
 use Rattle.cell_interlock.specs.declared.pass.MachineView.{MachineView}
 use Rattle.cell_interlock.specs.Steps.{IsReady}
-use Rattle.cell_interlock.specs.Rule.{new_view, head_of, first_off, others_of, all_views, Fits, AllFit, times_in, times_in_all, WordTellsHistory, WordMoment, seen_at, seen_by, after_load, after_exchange, looked, exchanged, WordMomentOfAll, all_see, gathered, IsSeat}
+use Rattle.cell_interlock.specs.Rule.{OwnSeat, new_view, head_of, first_off, others_of, all_views, Fits, AllFit, times_in, times_in_all, WordTellsHistory, WordMoment, seen_at, seen_by, after_load, after_exchange, looked, exchanged, WordMomentOfAll, all_see, gathered, IsSeat}
 use Rattle.cell_rules.proofs.Quiet.{next-same}
 use Rattle.cell_interlock.proofs.Machines.{apart_back, not_own, begins-more, own-more}
 
@@ -162,8 +162,8 @@ module _ {S : Type 0} (o : ModelState) where
       let t = r.views id (p ∷ []) at in
       (after_load p (seen_at c p r.history) ∷ [], keeps, tt, looks_at s r id p at c _ _ _, (r.history, point s r p t.0, refl))
 
-  pub looks_as : (slots id : ℕ) (me : Me S (List MachineView)) (c : Call) → me ≡ (head_of me.0 ∷ [], []) → Allows (WordTellsHistory o) slots id me 0 (λ n. n) (looked {S = S} c (step slots 0 0 0 none) me)
-  looks_as slots id me c e = subst (λ (z : Me S (List MachineView)). Allows (WordTellsHistory o) slots id z 0 (λ n. n) (looked {S = S} c (step slots 0 0 0 none) z)) (sym e) (looks slots id (head_of me.0) c)
+  pub looks_as : (slots id : ℕ) (me : OwnSeat S) (c : Call) → me ≡ (head_of me.0 ∷ [], []) → Allows (WordTellsHistory o) slots id me 0 (λ n. n) (looked {S = S} c (step slots 0 0 0 none) me)
+  looks_as slots id me c e = subst (λ (z : OwnSeat S). Allows (WordTellsHistory o) slots id z 0 (λ n. n) (looked {S = S} c (step slots 0 0 0 none) z)) (sym e) (looks slots id (head_of me.0) c)
 
   -- the exchange is won if the word is still the one for which the call was looked up
   pub exchanges : (slots id : ℕ) (p : MachineView) (c : Call) (old new : ℕ) → ((z : ModelState) → IsSound z → packed z ≡ old → (reply z p.machine c ≡ Done) × (packed (next z p.machine c) ≡ new))
@@ -188,9 +188,9 @@ module _ {S : Type 0} (o : ModelState) where
         (h, point s r p t.0, refl),
       ))
 
-  pub exchanges_as : (slots id : ℕ) (me : Me S (List MachineView)) (c : Call) (old new : ℕ) → me ≡ (head_of me.0 ∷ [], []) → ((z : ModelState) → IsSound z → packed z ≡ old → (reply z (head_of me.0).machine c ≡ Done) × (packed (next z (head_of me.0).machine c) ≡ new))
+  pub exchanges_as : (slots id : ℕ) (me : OwnSeat S) (c : Call) (old new : ℕ) → me ≡ (head_of me.0 ∷ [], []) → ((z : ModelState) → IsSound z → packed z ≡ old → (reply z (head_of me.0).machine c ≡ Done) × (packed (next z (head_of me.0).machine c) ≡ new))
       → Allows (WordTellsHistory o) slots id me 0 (λ n. either (eqb n old) new n) (exchanged {S = S} c (step slots 0 old new none) me)
-  exchanges_as slots id me c old new e ready = subst (λ (z : Me S (List MachineView)). Allows (WordTellsHistory o) slots id z 0 (λ n. either (eqb n old) new n) (exchanged {S = S} c (step slots 0 old new none) z)) (sym e) (exchanges slots id (head_of me.0) c old new ready)
+  exchanges_as slots id me c old new e ready = subst (λ (z : OwnSeat S). Allows (WordTellsHistory o) slots id z 0 (λ n. either (eqb n old) new n) (exchanged {S = S} c (step slots 0 old new none) z)) (sym e) (exchanges slots id (head_of me.0) c old new ready)
 
   points : (s : Shop S) (r : WordTellsHistory o s) (ps : List MachineView) → AllFit o r.history ps → WordMomentOfAll ps (get_or s.words 0 0) r.history
   points s r [] t = tt
@@ -201,7 +201,7 @@ module _ {S : Type 0} (o : ModelState) where
       let h : List Event = r.history in let t = r.views id ps at in
       (all_see h ps, keeps, tt, stayed s r id ps (all_see h ps) at (fit-all_see o h ps t) (λ m. times-all_see m h ps), (h, points s r ps t, refl))
 
-  pub gathers_as : (slots id : ℕ) (me : Me S (List MachineView)) → me.1 ≡ [] → Allows (WordTellsHistory o) slots id me 0 (λ n. n) (gathered {S = S} (step slots 0 0 0 none) me)
+  pub gathers_as : (slots id : ℕ) (me : OwnSeat S) → me.1 ≡ [] → Allows (WordTellsHistory o) slots id me 0 (λ n. n) (gathered {S = S} (step slots 0 0 0 none) me)
   gathers_as slots id me e = subst (λ x. Allows (WordTellsHistory o) slots id (me.0, x) 0 (λ n. n) (gathered {S = S} (step slots 0 0 0 none) (me.0, x))) (sym e) (gathers slots id me.0)
 
   pub joins : (id : ℕ) (v : List MachineView) (other : ℕ) (w : List MachineView) → Joins {S = S} (WordTellsHistory o) id v other w (w ++ v) []
@@ -270,12 +270,12 @@ seen-legal c p h l = by (is_done_answer (reply (after p.opening h) p.machine c))
 seat_of : {S : Type 0} (m : Machine) (p : MachineView) (rest : List _) → rest ≡ [] → p.machine ≡ m → IsSound p.opening → IsLegal p.opening p.seen → IsSeat {S = S} m (p ∷ [], rest)
 seat_of m p rest e is k l = record { one = ap (λ r. (p ∷ [], r)) e; machine = is; opened = k; legal = l }
 
-pub looked-seat : {S : Type 0} (c : Call) (m : Machine) (me me' : Me S (List MachineView)) (word : ℕ) → IsSeat m me → looked {S = S} c (step 0 0 0 0 none) me word me' → IsSeat m me'
+pub looked-seat : {S : Type 0} (c : Call) (m : Machine) (me me' : OwnSeat S) (word : ℕ) → IsSeat m me → looked {S = S} c (step 0 0 0 0 none) me word me' → IsSeat m me'
 looked-seat c m me me' word is told =
     let p : MachineView = head_of me.0 in
     subst (IsSeat m) (sym told.2) (seat_of m (after_load p (seen_at c p told.0)) me.1 (ap (λ x. x.1) is.one) is.machine is.opened (seen-legal c p told.0 told.1.legal))
 
-pub exchanged-seat : {S : Type 0} (c : Call) (m : Machine) (me me' : Me S (List MachineView)) (old word new : ℕ) → IsSeat m me → IsReady (head_of me.0).machine c old new → exchanged {S = S} c (step 0 0 old 0 none) me word me' → IsSeat m me'
+pub exchanged-seat : {S : Type 0} (c : Call) (m : Machine) (me me' : OwnSeat S) (old word new : ℕ) → IsSeat m me → IsReady (head_of me.0).machine c old new → exchanged {S = S} c (step 0 0 old 0 none) me word me' → IsSeat m me'
 exchanged-seat c m me me' old word new is ready told =
     let p : MachineView = head_of me.0 in let h : List Event = told.0 in
     subst (IsSeat m) (sym told.2) (seat_of m (after_exchange p (seen_by c p old word h)) me.1 (ap (λ x. x.1) is.one) is.machine is.opened

@@ -1,13 +1,13 @@
 -- What two passes have seen after they met.
 use Rattle.std.proofs.Common.{◌≡◌, ℕ, ◌+◌, List, [], ◌∷◌, ◌++◌, refl, sym, ap, ◌∙◌, subst}
 use mathlib.Core.Option.{none}
-use Rattle.atomic_table.specs.Table.{Me, step}
+use Rattle.atomic_table.specs.Table.{step}
 use Rattle.atomic_table.specs.Seated.{TableId}
 use Rattle.cell_types.specs.declared.machine.Machine.{Machine}
 use Rattle.cell_types.specs.declared.answer.Event.{Event}
 use Rattle.cell_interlock.specs.declared.pass.MachineView.{MachineView}
 use Rattle.cell_interlock.specs.Views.{PassView, pass_of}
-use Rattle.cell_interlock.specs.Rule.{head_of, after_load, first_off, others_of, WordMoment, WordMomentOfAll, all_see, gathered, IsSeat}
+use Rattle.cell_interlock.specs.Rule.{OwnSeat, head_of, after_load, first_off, others_of, WordMoment, WordMomentOfAll, all_see, gathered, IsSeat}
 use Rattle.cell_interlock.specs.Seen.{HasSeenMore}
 use Rattle.cell_interlock.proofs.Tells.{lawful_history}
 
@@ -28,7 +28,7 @@ more_at v w t u p q h word from to same at is =
     )
 
 -- two seats were joined, all their machines saw the history, and the first machine was split off again
-module _ {S : Type 0} (m n : Machine) (l r j j' ll rr : Me S (List MachineView)) (word : ℕ) (is_l : IsSeat m l) (is_r : IsSeat n r) (joined : j ≡ (r.0 ++ l.0, l.1)) (told : gathered {S = S} (step 0 0 0 0 none) j word j') (left : ll ≡ (others_of j'.0, j'.1)) (right : rr ≡ (first_off j'.0, [])) where
+module _ {S : Type 0} (m n : Machine) (l r j j' ll rr : OwnSeat S) (word : ℕ) (is_l : IsSeat m l) (is_r : IsSeat n r) (joined : j ≡ (r.0 ++ l.0, l.1)) (told : gathered {S = S} (step 0 0 0 0 none) j word j') (left : ll ≡ (others_of j'.0, j'.1)) (right : rr ≡ (first_off j'.0, [])) where
   both : j.0 ≡ head_of r.0 ∷ head_of l.0 ∷ []
   both = ap (λ x. x.0) joined ∙ (λ i. (is_r.one i).0 ++ (is_l.one i).0)
 

@@ -64,7 +64,15 @@ feed_refused = event Feed claim (Refused NotParty)
 
 -- the press's pass
 abbrev pub press_pass : TableId → List Event → List Event → ℕ → ℕ → PassView
-press_pass t seen since loads exchanges = record { table = t; opening = opened; machine = Press; seen = seen; since = since; loads = loads; exchanges = exchanges }
+press_pass t seen since loads exchanges = record {
+  table = t;
+  opening = opened;
+  machine = Press;
+  seen = seen;
+  since = since;
+  loads = loads;
+  exchanges = exchanges;
+}
 
 -- the pass before the call; after a claim that is Done; after a look that leaves it pending; after its first lost
 -- exchange; after its second
@@ -103,7 +111,8 @@ pub record AskExamples (t : TableId) : Type 0 where
   pub three_exchanges : ¬ Claims (before t) (Settled Done 1) (record (after_claim t) { exchanges = 8 })
   pub busy : Claims (before t) (Busy 2 2) (lost_both t)
   pub busy_with_other_stamp : ¬ Claims (before t) (Busy 2 1) (lost_both t)
-  pub busy_with_an_event : ¬ Claims (before t) (Busy 2 2) (record (lost_both t) { seen = by_feed ∷ again_by_feed ∷ read ∷ [] })
+  pub busy_with_an_event :
+      ¬ Claims (before t) (Busy 2 2) (record (lost_both t) { seen = by_feed ∷ again_by_feed ∷ read ∷ [] })
   pub busy_after_one_exchange : ¬ Claims (before t) (Busy 2 2) (record (lost_both t) { exchanges = 6 })
   pub busy_having_lost_one : ¬ Claims (before t) (Busy 1 2) (record (lost_both t) { exchanges = 6 })
   pub busy_though_refused : ¬ Claims (before t) (Busy 2 2) (record (lost_both t) { seen = by_feed ∷ by_robot ∷ [] })
@@ -119,7 +128,8 @@ pub record LookExamples (t : TableId) : Type 0 where
   pub pending : Looked (before t) claim 2 (Pending (under_way (looked t) 0))
   pub settles_done : ¬ Looked (before t) claim 2 (LookSettled Done 1 (after_claim t))
   pub has_own_event : ¬ Looked (before t) claim 2 (Pending (under_way (press_pass t (read ∷ []) (read ∷ []) 4 5) 0))
-  pub though_refused : ¬ Looked (before t) claim 2 (Pending (under_way (press_pass t (by_robot ∷ []) (by_robot ∷ []) 4 5) 0))
+  pub though_refused :
+      ¬ Looked (before t) claim 2 (Pending (under_way (press_pass t (by_robot ∷ []) (by_robot ∷ []) 4 5) 0))
   pub other_call : ¬ Looked (before t) claim 2 (Pending (record (under_way (looked t) 0) { call = Release Z3 }))
   pub other_tries : ¬ Looked (before t) claim 2 (Pending (record (under_way (looked t) 0) { tries = 3 }))
   pub has_lost_one : ¬ Looked (before t) claim 2 (Pending (under_way (looked t) 1))
@@ -129,22 +139,30 @@ pub record LookExamples (t : TableId) : Type 0 where
 
 pub record AttemptExamples (t : TableId) : Type 0 where
   pub lost : Attempted (under_way (looked t) 0) (Lost (under_way (lost_one t) 1))
-  pub has_own_event : ¬ Attempted (under_way (looked t) 0) (Lost (under_way (record (lost_one t) { seen = by_feed ∷ read ∷ [] }) 1))
-  pub though_refused : ¬ Attempted (under_way (looked t) 0) (Lost (under_way (record (lost_one t) { seen = by_robot ∷ [] }) 1))
+  pub has_own_event :
+      ¬ Attempted (under_way (looked t) 0) (Lost (under_way (record (lost_one t) { seen = by_feed ∷ read ∷ [] }) 1))
+  pub though_refused :
+      ¬ Attempted (under_way (looked t) 0) (Lost (under_way (record (lost_one t) { seen = by_robot ∷ [] }) 1))
   pub other_call : ¬ Attempted (under_way (looked t) 0) (Lost (record (under_way (lost_one t) 1) { call = Release Z3 }))
   pub other_tries : ¬ Attempted (under_way (looked t) 0) (Lost (record (under_way (lost_one t) 1) { tries = 3 }))
-  pub other_since : ¬ Attempted (under_way (looked t) 0) (Lost (under_way (record (lost_one t) { since = by_feed ∷ [] }) 1))
+  pub other_since :
+      ¬ Attempted (under_way (looked t) 0) (Lost (under_way (record (lost_one t) { since = by_feed ∷ [] }) 1))
   pub lost_none : ¬ Attempted (under_way (looked t) 0) (Lost (under_way (lost_one t) 0))
-  pub lost_two : ¬ Attempted (record (under_way (looked t) 0) { tries = 4 }) (Lost (record (under_way (lost_one t) 2) { tries = 4 }))
+  pub lost_two :
+      ¬ Attempted (record (under_way (looked t) 0) { tries = 4 })
+      (Lost (record (under_way (lost_one t) 2) { tries = 4 }))
   pub lost_last : ¬ Attempted (under_way (lost_one t) 1) (Lost (under_way (lost_both t) 2))
   pub no_change : ¬ Attempted (under_way (looked t) 0) (Lost (under_way (record (lost_one t) { seen = [] }) 1))
   pub busy : Attempted (under_way (lost_one t) 1) (TriedBusy 2 2 (lost_both t))
   pub busy_with_other_stamp : ¬ Attempted (under_way (lost_one t) 1) (TriedBusy 2 1 (lost_both t))
   pub busy_early : ¬ Attempted (under_way (looked t) 0) (TriedBusy 2 2 (lost_both t))
   pub busy_having_lost_one : ¬ Attempted (under_way (lost_one t) 1) (TriedBusy 1 2 (lost_both t))
-  pub busy_though_refused : ¬ Attempted (under_way (lost_one t) 1) (TriedBusy 2 2 (record (lost_both t) { seen = by_feed ∷ by_robot ∷ [] }))
-  pub busy_by_changes_before_its_look : ¬ Attempted (under_way (record (lost_one t) { since = by_feed ∷ [] }) 1) (TriedBusy 2 2 (lost_both t))
-  pub busy_forgets : ¬ Attempted (under_way (lost_one t) 1) (TriedBusy 2 2 (record (lost_both t) { seen = by_table ∷ by_feed ∷ [] }))
+  pub busy_though_refused :
+      ¬ Attempted (under_way (lost_one t) 1) (TriedBusy 2 2 (record (lost_both t) { seen = by_feed ∷ by_robot ∷ [] }))
+  pub busy_by_changes_before_its_look :
+      ¬ Attempted (under_way (record (lost_one t) { since = by_feed ∷ [] }) 1) (TriedBusy 2 2 (lost_both t))
+  pub busy_forgets :
+      ¬ Attempted (under_way (lost_one t) 1) (TriedBusy 2 2 (record (lost_both t) { seen = by_table ∷ by_feed ∷ [] }))
   pub settled : Attempted (under_way (looked t) 0) (TriedSettled Done 1 (after_claim t))
   pub settled_with_other_stamp : ¬ Attempted (under_way (looked t) 0) (TriedSettled Done 2 (after_claim t))
   pub pass_of_lost : after_attempt (Lost (under_way (lost_one t) 1)) ≡ lost_one t
@@ -174,8 +192,10 @@ pub record ChangeExamples : Type 0 where
 
 -- the answer is the sequential interlock's; a machine that holds a zone keeps it
 pub record AnswerExamples (t : TableId) : Type 0 where
-  pub other_answer : ¬ AnswersAtItsPoint (before t) claim (Refused Worn) (press_pass t (event Press claim (Refused Worn) ∷ []) [] 4 5)
-  pub loses_what_it_held : ¬ LastingRight (after_claim t) claim Done (press_pass t (claimed ∷ released ∷ claimed ∷ []) [] 5 7)
+  pub other_answer :
+      ¬ AnswersAtItsPoint (before t) claim (Refused Worn) (press_pass t (event Press claim (Refused Worn) ∷ []) [] 4 5)
+  pub loses_what_it_held :
+      ¬ LastingRight (after_claim t) claim Done (press_pass t (claimed ∷ released ∷ claimed ∷ []) [] 5 7)
   pub is_disowned : ¬ LastingRight (after_claim t) (Release Z3) (Refused (NotOwner None)) (after_claim t)
 
 -- ---- a new interlock
@@ -185,7 +205,16 @@ pub record FreshExamples (i : InterlockView) (p : Passes) : Type 0 where
   pub feed : p.feed.machine ≡ Feed
   pub table : p.table.machine ≡ Table
   pub robot : p.robot.machine ≡ Robot
-  pub press : p.press ≡ record { table = i.table; opening = i.opening; machine = Press; seen = []; since = []; loads = 0; exchanges = 0 }
+  pub press :
+      p.press ≡ record {
+        table = i.table;
+        opening = i.opening;
+        machine = Press;
+        seen = [];
+        since = [];
+        loads = 0;
+        exchanges = 0;
+      }
   pub deposit : p.deposit.machine ≡ Deposit
   pub crane : p.crane.machine ≡ Crane
   pub watch : p.watch.machine ≡ Watch

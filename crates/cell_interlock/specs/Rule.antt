@@ -27,6 +27,10 @@ use Rattle.cell_interlock.specs.declared.pass.MachineView.{MachineView}
 abbrev pub new_view : ModelState → Machine → MachineView
 new_view opening m = record { opening = opening; machine = m; seen = []; since = []; loads = 0; exchanges = 0 }
 
+-- a seat as its own steps see it: the views of its machines, and its slots
+abbrev pub OwnSeat : Type 0 → Type 0
+OwnSeat S = Me S (List MachineView)
+
 -- the default for a seat without machines
 abbrev pub nobody : MachineView
 nobody = new_view (start_state empty 0) Watch
@@ -46,7 +50,9 @@ others_of (p ∷ rest) = rest
 
 -- the view of the first seat, which has every machine; none has seen anything
 abbrev pub all_views : ModelState → List MachineView
-all_views s = new_view s Feed ∷ new_view s Table ∷ new_view s Robot ∷ new_view s Press ∷ new_view s Deposit ∷ new_view s Crane ∷ new_view s Watch ∷ []
+all_views s =
+    new_view s Feed ∷ new_view s Table ∷ new_view s Robot ∷ new_view s Press ∷ new_view s Deposit
+    ∷ new_view s Crane ∷ new_view s Watch ∷ []
 
 -- ---- the rule
 
@@ -96,7 +102,8 @@ pub record WordMoment (p : MachineView) (word : ℕ) (history : List Event) : Ty
 -- refused or inquires
 abbrev pub seen_at : Call → MachineView → List Event → List Event
 seen_at c p history =
-    if is_done_answer (reply (after p.opening history) p.machine c) then history else history ++ event p.machine c (reply (after p.opening history) p.machine c) ∷ []
+    if is_done_answer (reply (after p.opening history) p.machine c) then history
+    else history ++ event p.machine c (reply (after p.opening history) p.machine c) ∷ []
 
 -- what a machine sees by an exchange of the old word for a call: if it is won, the history so far and then the call's
 -- Done event; if it is lost, what a load shows
@@ -112,12 +119,12 @@ abbrev pub after_exchange : MachineView → List Event → MachineView
 after_exchange p seen = record p { seen = seen; exchanges = p.exchanges + 1 }
 
 -- a load for a call
-abbrev pub looked : {S : Type 0} → Call → Step S → Me S (List MachineView) → ℕ → Me S (List MachineView) → Type 0
+abbrev pub looked : {S : Type 0} → Call → Step S → OwnSeat S → ℕ → OwnSeat S → Type 0
 looked c st me word me' = (history : List Event) × WordMoment (head_of me.0) word history
     × (me' ≡ (after_load (head_of me.0) (seen_at c (head_of me.0) history) ∷ [], me.1))
 
 -- an exchange for a call, won or lost
-abbrev pub exchanged : {S : Type 0} → Call → Step S → Me S (List MachineView) → ℕ → Me S (List MachineView) → Type 0
+abbrev pub exchanged : {S : Type 0} → Call → Step S → OwnSeat S → ℕ → OwnSeat S → Type 0
 exchanged c st me word me' = (history : List Event) × WordMoment (head_of me.0) word history
     × (me' ≡ (after_exchange (head_of me.0) (seen_by c (head_of me.0) st.first word history) ∷ [], me.1))
 
@@ -132,11 +139,12 @@ all_see history [] = []
 all_see history (p ∷ rest) = after_load p history ∷ all_see history rest
 
 -- a load for no call: each machine of the seat sees the history so far
-abbrev pub gathered : {S : Type 0} → Step S → Me S (List MachineView) → ℕ → Me S (List MachineView) → Type 0
-gathered st me word me' = (history : List Event) × WordMomentOfAll me.0 word history × (me' ≡ (all_see history me.0, me.1))
+abbrev pub gathered : {S : Type 0} → Step S → OwnSeat S → ℕ → OwnSeat S → Type 0
+gathered st me word me' =
+    (history : List Event) × WordMomentOfAll me.0 word history × (me' ≡ (all_see history me.0, me.1))
 
 -- the seat of one machine, whose interlock opened soundly and which has seen a legal history
-pub record IsSeat {S : Type 0} (m : Machine) (me : Me S (List MachineView)) : Type 0 where
+pub record IsSeat {S : Type 0} (m : Machine) (me : OwnSeat S) : Type 0 where
   pub one : me ≡ (head_of me.0 ∷ [], [])
   pub machine : (head_of me.0).machine ≡ m
   pub opened : IsSound (head_of me.0).opening

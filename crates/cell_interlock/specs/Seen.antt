@@ -21,12 +21,15 @@ pub record IsSamePass (v w : PassView) : Type 0 where
 -- The point of a call is the history before its event, which is the last that its caller sees. There the sequential
 -- interlock gives this answer.
 abbrev pub AnswersAtItsPoint : PassView → Call → Answer → PassView → Type 0
-AnswersAtItsPoint v c a w = (point : List Event) → w.seen ≡ point ++ event v.machine c a ∷ [] → a ≡ reply (after v.opening point) v.machine c
+AnswersAtItsPoint v c a w =
+    (point : List Event) → w.seen ≡ point ++ event v.machine c a ∷ []
+    → a ≡ reply (after v.opening point) v.machine c
 
 -- At the point of its call a machine still has what it had before. If it held each zone that the call needs, it isn't
 -- refused because of a zone's owner.
 pub record LastingRight (v : PassView) (c : Call) (a : Answer) (w : PassView) : Type 0 where
-  pub keeps : (point : List Event) → w.seen ≡ point ++ event v.machine c a ∷ [] → KeepsItsOwn v.opening v.machine v.seen point
+  pub keeps : (point : List Event) → w.seen ≡ point ++ event v.machine c a ∷ []
+      → KeepsItsOwn v.opening v.machine v.seen point
   pub never_disowned : IsNeverDisowned v.opening v.machine c a v.seen
 
 -- a call was answered

@@ -7,7 +7,8 @@ ghost use Rattle.cell_rules.specs.History.{is_done_answer};
 ghost use Rattle.cell_rules.specs.Laws.{LawfulThroughout};
 ghost use Rattle.cell_rules.specs.Seen.{SeenAfter};
 ghost use Rattle.cell_word.specs.Layout.{packed};
-ghost use Rattle.cell_interlock.specs.Seen.{IsSamePass, AnswersAtItsPoint, LastingRight, HasChanges, IsOvertaken};
+ghost use Rattle.cell_interlock.specs.Seen.{IsSamePass, AnswersAtItsPoint, LastingRight};
+ghost use Rattle.cell_interlock.specs.Seen.{HasChanges, IsOvertaken};
 ghost use Rattle.cell_interlock.specs.Calls.{IfSettled, IfBusy};
 ghost use Rattle.cell_interlock.specs.Tries.{Looked, Attempted, after_look, after_attempt};
 
@@ -58,10 +59,13 @@ impl Interlock {
         requires same_interlock { pass.old.table ≡ self.now.table }
         ensures pass { IsSamePass pass.old pass.new }
         ensures lawful { LawfulThroughout pass.old.opening pass.new.seen }
-        ensures seen { SeenAfter pass.old.machine call (Ok result) pass.old.opening pass.old.seen pass.new.seen }
-        ensures answer { IfSettled result (λ answer. AnswersAtItsPoint pass.old call answer pass.new) }
+        ensures seen { SeenAfter pass.old.machine call (Ok result)
+            pass.old.opening pass.old.seen pass.new.seen }
+        ensures answer { IfSettled result
+            (λ answer. AnswersAtItsPoint pass.old call answer pass.new) }
         ensures right { IfSettled result (λ answer. LastingRight pass.old call answer pass.new) }
-        ensures busy { IfBusy result (λ lost. IsOvertaken pass.old pass.old.seen call self.now.tries lost pass.new) }
+        ensures busy { IfBusy result (λ lost.
+            IsOvertaken pass.old pass.old.seen call self.now.tries lost pass.new) }
         ensures one_load { pass.new.loads ≡ pass.old.loads + 1 }
         ensures few_exchanges { pass.new.exchanges ≤ pass.old.exchanges + self.now.tries }
         ensures all_lost { IfBusy result (λ n. pass.new.exchanges ≡ pass.old.exchanges + n) }

@@ -22,8 +22,12 @@ impl Model for Interlock {
 
     ghost Value = { InterlockView };
 
-    ghost view = { λ i. record { table = i.table.shared.table_id; opening = i.table.shared.key; tries = i.tries } };
+    ghost view = { λ i. record {
+      table = i.table.shared.table_id;
+      opening = i.table.shared.key;
+      tries = i.tries;
+    } };
 
-    ghost invariant = { λ i. (i.table.shared.table_id.words ≡ 1) × (i.table.shared.table_id.slots ≡ 0)
-        × (1 ≤ i.tries) × (i.tries ≤ 64) };
+    ghost invariant = { λ i. (i.table.shared.table_id.words ≡ 1)
+        × (i.table.shared.table_id.slots ≡ 0) × (1 ≤ i.tries) × (i.tries ≤ 64) };
 }

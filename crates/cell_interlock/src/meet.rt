@@ -10,7 +10,8 @@ use atomic_table::Seat;
 impl Interlock {
     /// Joins the other seat's machines to a seat.
     fn join(&self, seat: &mut Seat<(), SeatView>, other: Seat<(), SeatView>)
-        requires same_interlock { (seat.old.table_id ≡ self.now.table) × (other.table_id ≡ self.now.table) }
+        requires same_interlock { (seat.old.table_id ≡ self.now.table)
+            × (other.table_id ≡ self.now.table) }
         requires no_slot { other.me.1 ≡ [] }
         ensures table { seat.new.table_id ≡ seat.old.table_id }
         ensures both { seat.new.me ≡ (other.me.0 ++ seat.old.me.0, seat.old.me.1) }

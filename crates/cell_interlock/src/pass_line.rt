@@ -32,7 +32,13 @@ impl<'a> Model for PassLine<'a> {
 
     ghost Value = { LineView };
 
-    ghost view = { λ l. record { pass = l.pass; journal = l.journal.items; heard = l.heard; tries = l.interlock.now.tries; kept = l.kept } };
+    ghost view = { λ l. record {
+      pass = l.pass;
+      journal = l.journal.items;
+      heard = l.heard;
+      tries = l.interlock.now.tries;
+      kept = l.kept;
+    } };
 }
 
 impl<'a> PassLine<'a> {
