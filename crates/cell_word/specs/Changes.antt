@@ -10,7 +10,8 @@ use Rattle.cell_types.specs.declared.zone.Transfer.{Transfer}
 use Rattle.cell_types.specs.declared.posture.Posture.{Posture}
 use Rattle.cell_types.specs.declared.posture.Posture.TheVariants.{Closed, OpenIn, OpenOut}
 use Rattle.cell_types.specs.declared.call.Call.{Call}
-use Rattle.cell_types.specs.declared.call.Call.TheVariants.{Claim, Give, Yield, Take, Release, SetPose, Advance, Inquire}
+use Rattle.cell_types.specs.declared.call.Call.TheVariants.{Claim, Give, Yield, Take, Release, SetPose, Advance}
+use Rattle.cell_types.specs.declared.call.Call.TheVariants.{Inquire}
 use Rattle.cell_types.specs.Tables.{transfer_of}
 use Rattle.cell_types.specs.Ways.{own_move_of}
 use Rattle.cell_types.specs.Same.{same_machine}
@@ -33,7 +34,8 @@ owner_becomes m z o = if is_party m z then owner_is z o else anything
 
 abbrev pub give_pattern : Machine → Zone → Option Transfer → Pattern
 give_pattern m z None = anything
-give_pattern m z (Some row) = both (place_is row.from false) (both (flag_is z true) (owner_is z (Some (other_party m z))))
+give_pattern m z (Some row) =
+    both (place_is row.from false) (both (flag_is z true) (owner_is z (Some (other_party m z))))
 
 abbrev pub take_pattern : Zone → Option Transfer → Pattern
 take_pattern z None = anything
@@ -59,6 +61,7 @@ written m (Give z) = give_pattern m z (row_given m z)
 written m (Yield z) = owner_becomes m z (Some (other_party m z))
 written m (Take z) = take_pattern z (row_received m z)
 written m (Release z) = owner_becomes m z None
-written m (SetPose p) = both (posture_pattern (posed_at m p (hosted_zones m).0)) (posture_pattern (posed_at m p (hosted_zones m).1))
+written m (SetPose p) =
+    both (posture_pattern (posed_at m p (hosted_zones m).0)) (posture_pattern (posed_at m p (hosted_zones m).1))
 written m Advance = both (move_pattern (own_move_of m)) (halt_pattern m)
 written m (Inquire z) = anything

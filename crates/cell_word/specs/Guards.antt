@@ -1,6 +1,7 @@
 -- The guards of each machine and call: patterns that refuse the call, each with its refusal, in the order of the
 -- refusals.
-use Rattle.std.specs.Prelude.{ℕ, Bool, true, false, ◌&&◌, not, Option, Some, None, is_none, option_map, Result, Ok, Err, List, [], ◌∷◌, ◌++◌, map, if◌then◌else◌}
+use Rattle.std.specs.Prelude.{ℕ, Bool, true, false, ◌&&◌, not, Option, Some, None, is_none, option_map, Result, Ok, Err}
+use Rattle.std.specs.Prelude.{List, [], ◌∷◌, ◌++◌, map, if◌then◌else◌}
 use Rattle.std.specs.Option.{option_or}
 use Rattle.std.specs.List.{find, flat_map, list_all}
 use Rattle.cell_types.specs.declared.machine.Machine.{Machine}
@@ -15,9 +16,12 @@ use Rattle.cell_types.specs.declared.posture.Posture.TheVariants.{Closed, Moving
 use Rattle.cell_types.specs.declared.pose.Pose.{Pose}
 use Rattle.cell_types.specs.declared.pose.Pose.TheVariants.{Running}
 use Rattle.cell_types.specs.declared.call.Call.{Call}
-use Rattle.cell_types.specs.declared.call.Call.TheVariants.{Claim, Give, Yield, Take, Release, SetPose, Advance, Inquire}
+use Rattle.cell_types.specs.declared.call.Call.TheVariants.{Claim, Give, Yield, Take, Release, SetPose, Advance}
+use Rattle.cell_types.specs.declared.call.Call.TheVariants.{Inquire}
 use Rattle.cell_types.specs.declared.answer.Refusal.{Refusal}
-use Rattle.cell_types.specs.declared.answer.Refusal.TheVariants.{NotParty, Held, AlreadyMine, Shut, NotOwner, PlateInZone, NoPlate, PlaceFull, WrongWay, Jump, NotAtWork, NoPose, Worn, InUse}
+use Rattle.cell_types.specs.declared.answer.Refusal.TheVariants.{NotParty, Held, AlreadyMine, Shut, NotOwner}
+use Rattle.cell_types.specs.declared.answer.Refusal.TheVariants.{PlateInZone, NoPlate, PlaceFull, WrongWay, Jump}
+use Rattle.cell_types.specs.declared.answer.Refusal.TheVariants.{NotAtWork, NoPose, Worn, InUse}
 use Rattle.cell_types.specs.Tables.{host_of, guest_of, transfer_of, posture_of}
 use Rattle.cell_types.specs.Everything.{all_postures}
 use Rattle.cell_types.specs.Same.{same_machine, same_zone, same_pose}
@@ -27,7 +31,8 @@ use Rattle.cell_rules.specs.Refusals.{given_by, is_moving_pose, passes_through_m
 use Rattle.cell_types.specs.Refusals.{number_of}
 use Rattle.cell_rules.specs.Reply.{other_party}
 use Rattle.cell_rules.specs.RefusalLaws.{is_no_later}
-use Rattle.cell_word.specs.Patterns.{stands, anything, nothing, when, both, owner_is, flag_is, posture_is, low_differs, high_differs, place_is, stamp_is}
+use Rattle.cell_word.specs.Patterns.{stands, anything, nothing, when, both, owner_is, flag_is, posture_is, low_differs}
+use Rattle.cell_word.specs.Patterns.{high_differs, place_is, stamp_is}
 use Rattle.cell_word.specs.Parties.{machine_of, opposite, is_guest}
 use Rattle.cell_word.specs.declared.parties.Party.{Party}
 use Rattle.cell_word.specs.declared.patterns.Pattern.{Pattern}
@@ -70,7 +75,8 @@ abbrev pub shut : Zone → Posture → Guard
 shut z q = guard (posture_is z q) (Shut q)
 
 abbrev pub in_use : Machine → Zone → Guard
-in_use m z = guard (when (same_machine m Feed && same_zone z Z1) (both (posture_is Z6 Moving) (place_is FeedEnd true))) InUse
+in_use m z =
+    guard (when (same_machine m Feed && same_zone z Z1) (both (posture_is Z6 Moving) (place_is FeedEnd true))) InUse
 
 abbrev pub worn : Guard
 worn = guard (stamp_is last_stamp) Worn
@@ -256,7 +262,10 @@ opening_guards z _ = []
 
 -- table and press take a pose only from one that moves, unless the new pose moves too
 abbrev pub jump_guards : Machine → Pose → Zone → Posture → List Guard
-jump_guards m p z q = if passes_through_moving m && not (is_moving_pose p) then low_refuses z Moving Jump ∷ high_refuses z Moving Jump ∷ [] else []
+jump_guards m p z q =
+    if passes_through_moving m && not (is_moving_pose p)
+    then low_refuses z Moving Jump ∷ high_refuses z Moving Jump ∷ []
+    else []
 
 -- a belt doesn't run with a plate at its end; feed may if it owns z1
 abbrev pub deposit_runs : Machine → Pose → Bool

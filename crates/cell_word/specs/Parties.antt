@@ -11,7 +11,8 @@ use Rattle.cell_word.specs.declared.parties.Party.TheVariants.{Host, Guest}
 
 -- which party of a zone a machine is, if it is one
 abbrev pub party_of : Machine → Zone → Option Party
-party_of m z = if same_machine m (host_of z) then Some Host else if same_machine m (guest_of z) then Some Guest else None
+party_of m z =
+    if same_machine m (host_of z) then Some Host else if same_machine m (guest_of z) then Some Guest else None
 
 abbrev pub machine_of : Zone → Party → Machine
 machine_of z Host = host_of z

@@ -4,7 +4,8 @@ use Rattle.cell_types.specs.declared.machine.Machine.{Machine}
 use Rattle.cell_types.specs.declared.zone.Zone.{Zone}
 use Rattle.cell_types.specs.declared.zone.Zone.TheVariants.{Z1, Z2, Z3, Z4, Z5, Z6}
 use Rattle.cell_types.specs.declared.place.Place.{Place}
-use Rattle.cell_types.specs.declared.place.Place.TheVariants.{FeedEntry, FeedEnd, Table, Arm1, PressIn, PressOut, Arm2, DepEntry, DepEnd, Crane}
+use Rattle.cell_types.specs.declared.place.Place.TheVariants.{FeedEntry, FeedEnd, Table, Arm1, PressIn, PressOut, Arm2}
+use Rattle.cell_types.specs.declared.place.Place.TheVariants.{DepEntry, DepEnd, Crane}
 use Rattle.cell_types.specs.declared.posture.Posture.{Posture}
 use Rattle.cell_types.specs.declared.posture.Posture.TheVariants.{Closed, Moving, OpenIn, OpenOut}
 use Rattle.cell_types.specs.Tables.{host_of, guest_of}
@@ -35,15 +36,17 @@ zone_told w z = record {
 }
 
 abbrev pub zones_told : ℕ → ZoneMap
-zones_told w = zone_map (zone_told w Z1) (zone_told w Z2) (zone_told w Z3) (zone_told w Z4) (zone_told w Z5) (zone_told w Z6)
+zones_told w =
+    zone_map (zone_told w Z1) (zone_told w Z2) (zone_told w Z3) (zone_told w Z4) (zone_told w Z5) (zone_told w Z6)
 
 abbrev pub is_told_full : ℕ → Place → Bool
 is_told_full w p = is_bit_set w (place_bit p)
 
 abbrev pub places_told : ℕ → PlaceSet
 places_told w =
-    place_set (is_told_full w FeedEntry) (is_told_full w FeedEnd) (is_told_full w Table) (is_told_full w Arm1) (is_told_full w PressIn)
-    (is_told_full w PressOut) (is_told_full w Arm2) (is_told_full w DepEntry) (is_told_full w DepEnd) (is_told_full w Crane)
+    place_set (is_told_full w FeedEntry) (is_told_full w FeedEnd) (is_told_full w Table) (is_told_full w Arm1)
+    (is_told_full w PressIn) (is_told_full w PressOut) (is_told_full w Arm2) (is_told_full w DepEntry)
+    (is_told_full w DepEnd) (is_told_full w Crane)
 
 abbrev pub state_told : ℕ → ModelState
 state_told w = model_state (zones_told w) (places_told w) (bits_of w stamp_bit 20)

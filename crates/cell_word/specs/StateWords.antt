@@ -29,7 +29,9 @@ abbrev pub codes_if : ℕ → Option Transfer → ℕ
 codes_if codes row = if is_some row then codes else 0
 
 abbrev pub zone_codes : Zone → ℕ
-zone_codes z = bit_or shut_codes (bit_or (codes_if inward_codes (transfer_of z OpenIn)) (codes_if outward_codes (transfer_of z OpenOut)))
+zone_codes z =
+    bit_or shut_codes
+    (bit_or (codes_if inward_codes (transfer_of z OpenIn)) (codes_if outward_codes (transfer_of z OpenOut)))
 
 -- a plate is on its way to a full place
 abbrev pub onto_full : Zone → Posture → Option Transfer → Pattern

@@ -130,7 +130,8 @@ fn written_by(machine: Machine, call: Call) -> Pattern
 /// adds one to the stamp. Both are zero for a call that is never Done, such as an inquiry.
 pub fn masks(machine: Machine, call: Call) -> (u64, u64)
     ensures change { (state : ModelState) → IsSound state → reply state machine call ≡ Done
-        → packed (next state machine call) ≡ with_written (packed state) result.0 result.1 + 2 ^ 40 }
+        → packed (next state machine call)
+        ≡ with_written (packed state) result.0 result.1 + 2 ^ 40 }
     ensures below_stamp { (result.0 < 2 ^ 40) × (result.1 < 2 ^ 40) }
     ensures never { ((state : ModelState) → IsSound state → reply state machine call ≢ Done)
         → result ≡ (0, 0) }

@@ -161,7 +161,8 @@ fn claim(word: u64, machine: Machine, zone: Zone) -> Result<Pattern, Refusal>
 /// The zone has to be in the posture in which this party gives. Returns the row of transfers.
 #[inline(always)]
 fn require_giving(at: ZoneBits, party: Party) -> Result<Transfer, Refusal>
-    ensures way { guards.checked at.word (guards.giving_guards at.zone party) ≡ guards.went_on result }
+    ensures way { guards.checked at.word (guards.giving_guards at.zone party)
+        ≡ guards.went_on result }
     ensures row { IfOk result (λ row.
         guards.row_given (parties.machine_of at.zone party) at.zone ≡ Some row) }
 {
@@ -219,7 +220,8 @@ fn take(word: u64, machine: Machine, zone: Zone) -> Result<Pattern, Refusal>
 
 #[inline(always)]
 fn release(word: u64, machine: Machine, zone: Zone) -> Result<Pattern, Refusal>
-    ensures { result ≡ guards.unless (guards.first_refusal word (guards.release_guards machine zone))
+    ensures { result ≡ guards.unless
+        (guards.first_refusal word (guards.release_guards machine zone))
         (changes.written machine (calls.Release zone)) }
 {
     let party = require_party(machine, zone)?;

@@ -100,7 +100,8 @@ fn require_no_jump(
     pose: Pose,
     posed: Option<(Zone, Posture)>,
 ) -> Result<(), Refusal>
-    ensures { result ≡ guards.checked word (guards.on_posed (guards.jump_guards machine pose) posed) }
+    ensures { result
+        ≡ guards.checked word (guards.on_posed (guards.jump_guards machine pose) posed) }
 {
     let passes_through_moving = machine == Machine::Table || machine == Machine::Press;
     if !passes_through_moving || is_moving_pose(pose) {
@@ -255,7 +256,8 @@ pub(crate) fn set_pose(word: u64, machine: Machine, pose: Pose) -> Result<Patter
 /// Why the work of the feed belt is refused at a word, or what it writes.
 #[inline(always)]
 fn advance_feed(word: u64) -> Result<Pattern, Refusal>
-    ensures { result ≡ guards.unless (guards.first_refusal word (guards.advance_guards machines.Feed))
+    ensures { result ≡ guards.unless
+        (guards.first_refusal word (guards.advance_guards machines.Feed))
         (changes.written machines.Feed calls.Advance) }
 {
     let z6 = ZoneBits {
@@ -270,7 +272,8 @@ fn advance_feed(word: u64) -> Result<Pattern, Refusal>
 /// Why the work of the deposit belt is refused at a word, or what it writes.
 #[inline(always)]
 fn advance_deposit(word: u64) -> Result<Pattern, Refusal>
-    ensures { result ≡ guards.unless (guards.first_refusal word (guards.advance_guards machines.Deposit))
+    ensures { result ≡ guards.unless
+        (guards.first_refusal word (guards.advance_guards machines.Deposit))
         (changes.written machines.Deposit calls.Advance) }
 {
     let z4 = ZoneBits {
@@ -290,7 +293,8 @@ fn advance_deposit(word: u64) -> Result<Pattern, Refusal>
 /// Why the work of the press is refused at a word, or what it writes.
 #[inline(always)]
 fn advance_press(word: u64) -> Result<Pattern, Refusal>
-    ensures { result ≡ guards.unless (guards.first_refusal word (guards.advance_guards machines.Press))
+    ensures { result ≡ guards.unless
+        (guards.first_refusal word (guards.advance_guards machines.Press))
         (changes.written machines.Press calls.Advance) }
 {
     let z3 = ZoneBits {

@@ -14,7 +14,8 @@ use cell_types::{Answer, Call, Machine, Zone};
 /// The state of a zone.
 fn show_zone(word: u64, zone: Zone) -> Answer
     ensures { (state : ModelState) → IsSound state → packed state ≡ word
-        → result ≡ Shown (zone_at state zone).owner (zone_at state zone).flag (zone_at state zone).posture }
+        → result ≡ Shown (zone_at state zone).owner (zone_at state zone).flag
+        (zone_at state zone).posture }
 {
     let at = zone_told(word, zone);
     Answer::Shown {
