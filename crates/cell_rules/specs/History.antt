@@ -1,6 +1,7 @@
 -- Histories: lists of events, the oldest first. Each definition over a history takes the opening, the state that it
 -- begins with.
-use Rattle.std.specs.Prelude.{◌≡◌, ℕ, ◌+◌, ℤ, pos, ◌-ℤ◌, Bool, true, false, ◌&&◌, not, ◌⊎◌, List, [], ◌∷◌, ◌++◌, filter, count_by, All, unwrap_or, if◌then◌else◌, Option, Some, None, option_map, IsTrue, ⊤}
+use Rattle.std.specs.Prelude.{◌≡◌, ℕ, ◌+◌, ℤ, pos, ◌-ℤ◌, Bool, true, false, ◌&&◌, not, ◌⊎◌, List, [], ◌∷◌, ◌++◌, filter}
+use Rattle.std.specs.Prelude.{count_by, All, unwrap_or, if◌then◌else◌, Option, Some, None, option_map, IsTrue, ⊤}
 use Rattle.std.specs.Option.{option_or}
 use Rattle.cell_types.specs.declared.place.Place.{Place}
 use Rattle.cell_types.specs.declared.zone.Transfer.{Transfer}
@@ -103,7 +104,8 @@ posture_given n _ z now = now
 
 abbrev pub posture_since : Posture → List Event → Zone → Posture
 posture_since now [] z = now
-posture_since now (e ∷ history) z = posture_since (if is_done e then posture_given e.machine e.call z now else now) history z
+posture_since now (e ∷ history) z =
+    posture_since (if is_done e then posture_given e.machine e.call z now else now) history z
 
 -- the posture that a zone's host gave it by its last pose; Closed if the host, a belt, has advanced since; at first the
 -- opening's
@@ -149,7 +151,8 @@ is_emptied_by p e = is_done e && empties e.machine e.call p
 
 -- how many plates a place has by the events: 1 if it was full in the opening, plus what fills it, minus what empties it
 abbrev pub plates_at : ModelState → List Event → Place → ℤ
-plates_at s history p = pos (one_if (is_full s p) + count_by (is_filled_by p) history) -ℤ pos (count_by (is_emptied_by p) history)
+plates_at s history p =
+    pos (one_if (is_full s p) + count_by (is_filled_by p) history) -ℤ pos (count_by (is_emptied_by p) history)
 
 -- a call gives a plate into a zone, or takes one from it
 abbrev pub gives : Call → Zone → Bool
@@ -168,7 +171,8 @@ is_taken_from z e = is_done e && takes e.call z
 
 -- how many plates are in a zone by the events: 1 if its flag was set in the opening, plus the gives, minus the takes
 abbrev pub plates_in_transfer : ModelState → List Event → Zone → ℤ
-plates_in_transfer s history z = pos (one_if (zone_at s z).flag + count_by (is_given_into z) history) -ℤ pos (count_by (is_taken_from z) history)
+plates_in_transfer s history z =
+    pos (one_if (zone_at s z).flag + count_by (is_given_into z) history) -ℤ pos (count_by (is_taken_from z) history)
 
 -- a zone moves, by the events
 abbrev pub Moves : ModelState → List Event → Zone → Type 0

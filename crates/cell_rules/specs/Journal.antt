@@ -18,7 +18,9 @@ entry_of s e = record { call = e.call; answer = e.answer; stamp = (state_left s 
 -- a machine's entries of a history
 abbrev pub noted : ModelState → List Event → Machine → List Entry
 noted s [] m = []
-noted s (e ∷ history) m = if same_machine e.machine m then entry_of s e ∷ noted (state_left s e) history m else noted (state_left s e) history m
+noted s (e ∷ history) m =
+    if same_machine e.machine m then entry_of s e ∷ noted (state_left s e) history m
+    else noted (state_left s e) history m
 
 -- the event of a machine's entry
 abbrev pub event_by : Machine → Entry → Event

@@ -20,7 +20,8 @@ use Rattle.cell_types.specs.Ways.{keeper_of}
 use Rattle.cell_rules.specs.ModelState.{ModelState, zone_at, is_full, plates_of, one_if}
 use Rattle.cell_rules.specs.Sound.{IsSound, is_party, is_open}
 use Rattle.cell_rules.specs.Refusals.{owns, posture_at, is_moving_pose, passes_through_moving}
-use Rattle.cell_rules.specs.History.{after, IsLegal, own_events, done_count, changes_by_others, Holds, Moves, PressMoves, posture_by_events, plates_at, plates_in_transfer}
+use Rattle.cell_rules.specs.History.{after, IsLegal, own_events, done_count, changes_by_others, Holds, Moves}
+use Rattle.cell_rules.specs.History.{PressMoves, posture_by_events, plates_at, plates_in_transfer}
 use Rattle.cell_rules.specs.RefusalLaws.{RefusalsTellAlong}
 
 -- a law holds of each prefix of a history
@@ -71,9 +72,12 @@ pub record BeltsRunClear (s : ModelState) (h : List Event) : Type 0 where
 -- postures of the zones that it hosts, held or not
 pub record RightLasts (s : ModelState) (before more : List Event) : Type 0 where
   pub held : (m : Machine) (z : Zone) → own_events more m ≡ [] → Holds s before m z → Holds s (before ++ more) m z
-  pub zone : (m : Machine) (z : Zone) → own_events more m ≡ [] → Holds s before m z → zone_at (after s (before ++ more)) z ≡ zone_at (after s before) z
-  pub places : (p : Place) → own_events more (keeper_of p) ≡ [] → is_full (after s (before ++ more)) p ≡ is_full (after s before) p
-  pub posture : (z : Zone) → own_events more (host_of z) ≡ [] → posture_by_events s (before ++ more) z ≡ posture_by_events s before z
+  pub zone : (m : Machine) (z : Zone) → own_events more m ≡ [] → Holds s before m z
+      → zone_at (after s (before ++ more)) z ≡ zone_at (after s before) z
+  pub places : (p : Place) → own_events more (keeper_of p) ≡ []
+      → is_full (after s (before ++ more)) p ≡ is_full (after s before) p
+  pub posture : (z : Zone) → own_events more (host_of z) ≡ []
+      → posture_by_events s (before ++ more) z ≡ posture_by_events s before z
 
 -- the posture by the events is the one in the state after
 abbrev pub PostureByEvents : ModelState → List Event → Type 0
@@ -88,23 +92,40 @@ done m c = record { machine = m; call = c; answer = Done }
 -- what holds in the state before a Done event
 pub record EventsFit (s : ModelState) (h : List Event) : Type 0 where
   -- table and press take a pose that isn't moving only while all their zones move
-  pub no_jump : (before rest : List Event) (m : Machine) (p : Pose) → h ≡ before ++ done m (SetPose p) ∷ rest → IsTrue (passes_through_moving m) → IsTrue (not (is_moving_pose p)) → (z : Zone) → host_of z ≡ m → posture_at (after s before) z ≡ Moving
+  pub no_jump : (before rest : List Event) (m : Machine) (p : Pose)
+      → h ≡ before ++ done m (SetPose p) ∷ rest → IsTrue (passes_through_moving m)
+      → IsTrue (not (is_moving_pose p)) → (z : Zone) → host_of z ≡ m
+      → posture_at (after s before) z ≡ Moving
   -- a zone becomes open inward only while the place that a plate would come to is empty
-  pub opens_onto_empty : (before rest : List Event) (m : Machine) (p : Pose) → h ≡ before ++ done m (SetPose p) ∷ rest → (z : Zone) (row : Transfer) → posture_of m p z ≡ Some OpenIn → posture_at (after s before) z ≢ OpenIn → transfer_of z OpenIn ≡ Some row → is_full (after s before) row.to ≡ false
+  pub opens_onto_empty : (before rest : List Event) (m : Machine) (p : Pose)
+      → h ≡ before ++ done m (SetPose p) ∷ rest → (z : Zone) (row : Transfer)
+      → posture_of m p z ≡ Some OpenIn → posture_at (after s before) z ≢ OpenIn
+      → transfer_of z OpenIn ≡ Some row → is_full (after s before) row.to ≡ false
   -- the press opens inward only while both its places are empty
-  pub press_opens_empty : (before rest : List Event) (m : Machine) (p : Pose) → h ≡ before ++ done m (SetPose p) ∷ rest → posture_of m p Z3 ≡ Some OpenIn → posture_at (after s before) Z3 ≢ OpenIn → (is_full (after s before) PressIn ≡ false) × (is_full (after s before) PressOut ≡ false)
+  pub press_opens_empty : (before rest : List Event) (m : Machine) (p : Pose)
+      → h ≡ before ++ done m (SetPose p) ∷ rest → posture_of m p Z3 ≡ Some OpenIn
+      → posture_at (after s before) Z3 ≢ OpenIn
+      → (is_full (after s before) PressIn ≡ false) × (is_full (after s before) PressOut ≡ false)
   -- a machine changes the posture of a zone only while it holds it
-  pub pose_by_holder : (before rest : List Event) (m : Machine) (p : Pose) → h ≡ before ++ done m (SetPose p) ∷ rest → (z : Zone) (q : Posture) → posture_of m p z ≡ Some q → posture_at (after s before) z ≢ q → Holds s before m z
+  pub pose_by_holder : (before rest : List Event) (m : Machine) (p : Pose)
+      → h ≡ before ++ done m (SetPose p) ∷ rest → (z : Zone) (q : Posture) → posture_of m p z ≡ Some q
+      → posture_at (after s before) z ≢ q → Holds s before m z
   -- a plate comes to a belt's end only while the belt runs
-  pub feed_works_running : (before rest : List Event) → h ≡ before ++ done Feed Advance ∷ rest → posture_at (after s before) Z6 ≡ Moving
-  pub deposit_works_running : (before rest : List Event) → h ≡ before ++ done Deposit Advance ∷ rest → (posture_at (after s before) Z4 ≡ Moving) × (posture_at (after s before) Z5 ≡ Moving)
+  pub feed_works_running : (before rest : List Event) → h ≡ before ++ done Feed Advance ∷ rest
+      → posture_at (after s before) Z6 ≡ Moving
+  pub deposit_works_running : (before rest : List Event) → h ≡ before ++ done Deposit Advance ∷ rest
+      → (posture_at (after s before) Z4 ≡ Moving) × (posture_at (after s before) Z5 ≡ Moving)
   -- the press forges only while it holds its interior and is Closed
-  pub press_works_closed : (before rest : List Event) → h ≡ before ++ done Press Advance ∷ rest → Holds s before Press Z3 × (posture_at (after s before) Z3 ≡ Closed)
+  pub press_works_closed : (before rest : List Event) → h ≡ before ++ done Press Advance ∷ rest
+      → Holds s before Press Z3 × (posture_at (after s before) Z3 ≡ Closed)
 
 -- the table takes any pose but turning, and the press any but travelling, only while all its zones move
 pub record NoJump (s : ModelState) (h : List Event) : Type 0 where
-  pub table : (before rest : List Event) (p : Pose) → h ≡ before ++ done TableMachine (SetPose p) ∷ rest → p ≢ Turning → ((zone_at (after s before) Z1).posture ≡ Moving) × ((zone_at (after s before) Z2).posture ≡ Moving)
-  pub press : (before rest : List Event) (p : Pose) → h ≡ before ++ done Press (SetPose p) ∷ rest → p ≢ Travelling → (zone_at (after s before) Z3).posture ≡ Moving
+  pub table : (before rest : List Event) (p : Pose) → h ≡ before ++ done TableMachine (SetPose p) ∷ rest
+      → p ≢ Turning
+      → ((zone_at (after s before) Z1).posture ≡ Moving) × ((zone_at (after s before) Z2).posture ≡ Moving)
+  pub press : (before rest : List Event) (p : Pose) → h ≡ before ++ done Press (SetPose p) ∷ rest
+      → p ≢ Travelling → (zone_at (after s before) Z3).posture ≡ Moving
 
 -- a machine holds a zone by its events, and owns it in the state after them
 abbrev pub HasZone : ModelState → List Event → Machine → Zone → Type 0
@@ -112,10 +133,14 @@ HasZone s before m z = Holds s before m z × ((zone_at (after s before) z).owner
 
 -- a machine has the zone that it hands over, takes a plate from, or leaves
 pub record HandoverByHolder (s : ModelState) (h : List Event) : Type 0 where
-  pub give : (before rest : List Event) (m : Machine) (z : Zone) → h ≡ before ++ done m (Give z) ∷ rest → HasZone s before m z
-  pub yield : (before rest : List Event) (m : Machine) (z : Zone) → h ≡ before ++ done m (Yield z) ∷ rest → HasZone s before m z
-  pub take : (before rest : List Event) (m : Machine) (z : Zone) → h ≡ before ++ done m (Take z) ∷ rest → HasZone s before m z
-  pub release : (before rest : List Event) (m : Machine) (z : Zone) → h ≡ before ++ done m (Release z) ∷ rest → HasZone s before m z
+  pub give : (before rest : List Event) (m : Machine) (z : Zone) → h ≡ before ++ done m (Give z) ∷ rest
+      → HasZone s before m z
+  pub yield : (before rest : List Event) (m : Machine) (z : Zone) → h ≡ before ++ done m (Yield z) ∷ rest
+      → HasZone s before m z
+  pub take : (before rest : List Event) (m : Machine) (z : Zone) → h ≡ before ++ done m (Take z) ∷ rest
+      → HasZone s before m z
+  pub release : (before rest : List Event) (m : Machine) (z : Zone)
+      → h ≡ before ++ done m (Release z) ∷ rest → HasZone s before m z
 
 -- the Done events are a machine's own and those of the others
 abbrev pub ChangesAreCounted : List Event → Type 0

@@ -18,7 +18,8 @@ pub record ZonesAreAMap : Type 0 where
   pub put_here : (m : ZoneMap) (z : Zone) (v : ZoneState) → zone_in (put_zone m z v) z ≡ v
   pub put_elsewhere : (m : ZoneMap) (z y : Zone) (v : ZoneState) → y ≢ z → zone_in (put_zone m z v) y ≡ zone_in m y
   pub one_map : (m n : ZoneMap) → ((z : Zone) → zone_in m z ≡ zone_in n z) → m ≡ n
-  pub mapped : (f : Zone → ZoneState → ZoneState) (m : ZoneMap) (z : Zone) → zone_in (map_zones f m) z ≡ f z (zone_in m z)
+  pub mapped : (f : Zone → ZoneState → ZoneState) (m : ZoneMap) (z : Zone)
+      → zone_in (map_zones f m) z ≡ f z (zone_in m z)
   pub at_every_zone : (v : ZoneState) (z : Zone) → zone_in (everywhere v) z ≡ v
 
 -- membership after an insertion and a removal; and two sets with the same members are equal

@@ -5,7 +5,8 @@ use mir.Val.{bool_byte}
 use Rattle.cell_types.specs.declared.zone.Zone.{Zone}
 use Rattle.cell_types.specs.declared.zone.Zone.TheVariants.{Z1, Z2, Z3, Z4, Z5, Z6}
 use Rattle.cell_types.specs.declared.place.Place.{Place}
-use Rattle.cell_types.specs.declared.place.Place.TheVariants.{FeedEntry, FeedEnd, Table, Arm1, PressIn, PressOut, Arm2, DepEntry, DepEnd, Crane}
+use Rattle.cell_types.specs.declared.place.Place.TheVariants.{FeedEntry, FeedEnd, Table, Arm1, PressIn, PressOut, Arm2}
+use Rattle.cell_types.specs.declared.place.Place.TheVariants.{DepEntry, DepEnd, Crane}
 use Rattle.cell_rules.specs.declared.zones.ZoneState.{ZoneState}
 use Rattle.cell_rules.specs.ZoneMap.{ZoneMap, zone_in}
 use Rattle.cell_rules.specs.PlaceSet.{PlaceSet, has}
@@ -34,8 +35,9 @@ one_if b = bool_byte b
 -- how many places the set has
 abbrev pub size_of : PlaceSet → ℕ
 size_of set =
-    one_if (has set FeedEntry) + one_if (has set FeedEnd) + one_if (has set Table) + one_if (has set Arm1) + one_if (has set PressIn)
-    + one_if (has set PressOut) + one_if (has set Arm2) + one_if (has set DepEntry) + one_if (has set DepEnd) + one_if (has set Crane)
+    one_if (has set FeedEntry) + one_if (has set FeedEnd) + one_if (has set Table) + one_if (has set Arm1)
+    + one_if (has set PressIn) + one_if (has set PressOut) + one_if (has set Arm2) + one_if (has set DepEntry)
+    + one_if (has set DepEnd) + one_if (has set Crane)
 
 -- how many zones have their flag set
 abbrev pub flags_of : ZoneMap → ℕ

@@ -1,7 +1,8 @@
 -- Sets of the ten places. A set is read by membership, and changed by insertion and removal alone.
 use Rattle.std.specs.Prelude.{Bool, true, false}
 use Rattle.cell_types.specs.declared.place.Place.{Place}
-use Rattle.cell_types.specs.declared.place.Place.TheVariants.{FeedEntry, FeedEnd, Table, Arm1, PressIn, PressOut, Arm2, DepEntry, DepEnd, Crane}
+use Rattle.cell_types.specs.declared.place.Place.TheVariants.{FeedEntry, FeedEnd, Table, Arm1, PressIn, PressOut, Arm2}
+use Rattle.cell_types.specs.declared.place.Place.TheVariants.{DepEntry, DepEnd, Crane}
 
 pub record PlaceSet : Type 0 where
   pub feed_entry : Bool
@@ -16,7 +17,18 @@ pub record PlaceSet : Type 0 where
   pub crane : Bool
 
 abbrev pub place_set : Bool → Bool → Bool → Bool → Bool → Bool → Bool → Bool → Bool → Bool → PlaceSet
-place_set a b c d e f g h i j = record { feed_entry = a; feed_end = b; table = c; arm1 = d; press_in = e; press_out = f; arm2 = g; dep_entry = h; dep_end = i; crane = j }
+place_set a b c d e f g h i j = record {
+  feed_entry = a;
+  feed_end = b;
+  table = c;
+  arm1 = d;
+  press_in = e;
+  press_out = f;
+  arm2 = g;
+  dep_entry = h;
+  dep_end = i;
+  crane = j;
+}
 
 -- membership
 abbrev pub has : PlaceSet → Place → Bool

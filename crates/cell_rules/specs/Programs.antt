@@ -26,7 +26,8 @@ MovesIn {S = S} p (suc n) s t = (u : S) × p.moves s u × MovesIn p n u t
 abbrev pub Reached : {S : Type 0} → Program S → S → List Event → S → Type 0
 Reached {S = S} p s [] t = (n : ℕ) × MovesIn p n s t
 Reached {S = S} p s (e ∷ events) t =
-    (at : S) × (next : S) × ((n : ℕ) × MovesIn p n s at) × (p.call at ≡ Some e.call) × p.leads at e.answer next × Reached p next events t
+    (at : S) × (next : S) × ((n : ℕ) × MovesIn p n s at) × (p.call at ≡ Some e.call)
+    × p.leads at e.answer next × Reached p next events t
 
 -- a call is heard once, and a turn without a call hears nothing
 abbrev pub Hears : Option Call → Heard → Heard → Type 0

@@ -30,12 +30,16 @@ pub record IsRefusedBy (s : ModelState) (m : Machine) (c : Call) (r : Refusal) :
 
 -- each refusal has its cause; and if a cause holds, the call is refused for it or for one that comes before it
 pub record RefusalsTell : Type 0 where
-  pub cause : (s : ModelState) (m : Machine) (c : Call) (r : Refusal) → IsSound s → reply s m c ≡ Refused r → IsTrue (is_cause s m c r)
-  pub first : (s : ModelState) (m : Machine) (c : Call) (r : Refusal) → IsSound s → IsTrue (is_cause s m c r) → IsRefusedBy s m c r
+  pub cause : (s : ModelState) (m : Machine) (c : Call) (r : Refusal) → IsSound s → reply s m c ≡ Refused r
+      → IsTrue (is_cause s m c r)
+  pub first : (s : ModelState) (m : Machine) (c : Call) (r : Refusal) → IsSound s
+      → IsTrue (is_cause s m c r) → IsRefusedBy s m c r
 
 abbrev pub refused : Machine → Call → Refusal → Event
 refused m c r = record { machine = m; call = c; answer = Refused r }
 
 -- each refusal in a history has its cause in the state at that point
 abbrev pub RefusalsTellAlong : ModelState → List Event → Type 0
-RefusalsTellAlong s h = (before rest : List Event) (m : Machine) (c : Call) (r : Refusal) → h ≡ before ++ refused m c r ∷ rest → IsTrue (is_cause (after s before) m c r)
+RefusalsTellAlong s h =
+    (before rest : List Event) (m : Machine) (c : Call) (r : Refusal) → h ≡ before ++ refused m c r ∷ rest
+    → IsTrue (is_cause (after s before) m c r)

@@ -1,5 +1,6 @@
 -- Why a call is refused: each condition by itself, and for each call the order of its conditions.
-use Rattle.std.specs.Prelude.{Bool, false, ◌||◌, ◌&&◌, not, nat_lt, Option, Some, None, is_none, is_some, unwrap_or, if◌then◌else◌}
+use Rattle.std.specs.Prelude.{Bool, false, ◌||◌, ◌&&◌, not, nat_lt, Option, Some, None, is_none, is_some, unwrap_or}
+use Rattle.std.specs.Prelude.{if◌then◌else◌}
 use Rattle.std.specs.Option.{option_or}
 use Rattle.std.specs.Bool.{then_some}
 use Rattle.std.specs.List.{list_any, list_all}
@@ -15,7 +16,9 @@ use Rattle.cell_types.specs.declared.posture.Posture.TheVariants.{Closed, Moving
 use Rattle.cell_types.specs.declared.pose.Pose.{Pose}
 use Rattle.cell_types.specs.declared.pose.Pose.TheVariants.{Turning, Travelling, Running}
 use Rattle.cell_types.specs.declared.answer.Refusal.{Refusal}
-use Rattle.cell_types.specs.declared.answer.Refusal.TheVariants.{NotParty, Held, AlreadyMine, Shut, NotOwner, PlateInZone, NoPlate, PlaceFull, WrongWay, Jump, NotAtWork, NoPose, Worn, InUse}
+use Rattle.cell_types.specs.declared.answer.Refusal.TheVariants.{NotParty, Held, AlreadyMine, Shut, NotOwner}
+use Rattle.cell_types.specs.declared.answer.Refusal.TheVariants.{PlateInZone, NoPlate, PlaceFull, WrongWay, Jump}
+use Rattle.cell_types.specs.declared.answer.Refusal.TheVariants.{NotAtWork, NoPose, Worn, InUse}
 use Rattle.cell_types.specs.Everything.{all_zones}
 use Rattle.cell_types.specs.Tables.{host_of, guest_of, transfer_of, posture_of}
 use Rattle.cell_types.specs.Ways.{own_move_of}
@@ -75,7 +78,10 @@ shut_while_moving s z = then_some (same_posture (posture_at s z) Moving) (Shut M
 
 -- feed would leave z1 while its belt runs with a plate at its end
 abbrev pub in_use : ModelState → Machine → Zone → Option Refusal
-in_use s m z = then_some (same_machine m Feed && same_zone z Z1 && same_posture (posture_at s Z6) Moving && is_full s FeedEnd) InUse
+in_use s m z =
+    then_some
+    (same_machine m Feed && same_zone z Z1 && same_posture (posture_at s Z6) Moving && is_full s FeedEnd)
+    InUse
 
 -- a zone that is not open
 abbrev pub shut : ModelState → Zone → Option Refusal
@@ -128,7 +134,9 @@ posture_with s m p z = unwrap_or (posture_of m p z) (posture_at s z)
 -- the zones that a machine must own, and free of plates, to take a pose: of those that it hosts all if the pose moves,
 -- else those that get another posture
 abbrev pub is_concerned : ModelState → Machine → Pose → Zone → Bool
-is_concerned s m p z = same_machine (host_of z) m && (is_moving_pose p || not (same_posture (posture_with s m p z) (posture_at s z)))
+is_concerned s m p z =
+    same_machine (host_of z) m
+    && (is_moving_pose p || not (same_posture (posture_with s m p z) (posture_at s z)))
 
 abbrev pub unowned_by_pose : ModelState → Machine → Pose → Zone → Option Refusal
 unowned_by_pose s m p z = then_some (is_concerned s m p z && not (owns s m z)) (NotOwner (owner_of s z))
@@ -167,7 +175,11 @@ opens_onto_plate s m p z = then_some (opens s m p z && is_blocked s z) PlaceFull
 -- a belt would run with a plate at its end; feed may if it owns z1
 abbrev pub runs_onto_plate : ModelState → Machine → Pose → Option Refusal
 runs_onto_plate s m p =
-    then_some (same_pose p Running && ((same_machine m Deposit && is_full s DepEnd) || (same_machine m Feed && is_full s FeedEnd && not (owns s Feed Z1)))) PlaceFull
+    then_some
+    (same_pose p Running
+    && ((same_machine m Deposit && is_full s DepEnd)
+    || (same_machine m Feed && is_full s FeedEnd && not (owns s Feed Z1))))
+    PlaceFull
 
 abbrev pub has_no_work : Machine → Option Refusal
 has_no_work m = then_some (is_none (own_move_of m)) NoPose

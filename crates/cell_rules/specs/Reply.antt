@@ -8,7 +8,8 @@ use Rattle.cell_types.specs.declared.zone.Transfer.{Transfer}
 use Rattle.cell_types.specs.declared.posture.Posture.TheVariants.{Closed}
 use Rattle.cell_types.specs.declared.pose.Pose.{Pose}
 use Rattle.cell_types.specs.declared.call.Call.{Call}
-use Rattle.cell_types.specs.declared.call.Call.TheVariants.{Claim, Give, Yield, Take, Release, SetPose, Advance, Inquire}
+use Rattle.cell_types.specs.declared.call.Call.TheVariants.{Claim, Give, Yield, Take, Release, SetPose, Advance}
+use Rattle.cell_types.specs.declared.call.Call.TheVariants.{Inquire}
 use Rattle.cell_types.specs.declared.answer.Refusal.{Refusal}
 use Rattle.cell_types.specs.declared.answer.Answer.{Answer}
 use Rattle.cell_types.specs.declared.answer.Answer.TheVariants.{Done, Shown, Refused}
@@ -19,7 +20,8 @@ use Rattle.cell_rules.specs.declared.zones.ZoneState.{ZoneState}
 use Rattle.cell_rules.specs.ZoneMap.{ZoneMap, put_zone, map_zones}
 use Rattle.cell_rules.specs.PlaceSet.{PlaceSet, insert_place, remove_place}
 use Rattle.cell_rules.specs.ModelState.{ModelState, zone_at}
-use Rattle.cell_rules.specs.Refusals.{claim_refusal, give_refusal, yield_refusal, take_refusal, release_refusal, pose_refusal, advance_refusal, transfer_given, posture_at}
+use Rattle.cell_rules.specs.Refusals.{claim_refusal, give_refusal, yield_refusal, take_refusal, release_refusal}
+use Rattle.cell_rules.specs.Refusals.{pose_refusal, advance_refusal, transfer_given, posture_at}
 
 -- the first refusal of a call
 abbrev pub refusal : ModelState → Machine → Call → Option Refusal

@@ -72,7 +72,9 @@ is_of_some_pose z q = same_posture q Closed || list_any (is_given_by z q) all_po
 
 -- at most one press place is full, and not the forged one while the press opens inward
 abbrev pub has_one_plate : PlaceSet → ZoneState → Bool
-has_one_plate full v = not (has full PressIn && has full PressOut) && implies (same_posture v.posture OpenIn) (not (has full PressOut))
+has_one_plate full v =
+    not (has full PressIn && has full PressOut)
+    && implies (same_posture v.posture OpenIn) (not (has full PressOut))
 
 pub record IsSound (s : ModelState) : Type 0 where
   pub stamp_in_range : s.stamp ≤ last_stamp

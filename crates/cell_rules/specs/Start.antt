@@ -8,8 +8,10 @@ use Rattle.cell_rules.specs.ModelState.{ModelState, model_state, size_of, last_s
 -- the set that ten flags give, in the order of the places
 abbrev pub places_of : List Bool → PlaceSet
 places_of flags =
-    place_set (slice_index_or flags 0 false) (slice_index_or flags 1 false) (slice_index_or flags 2 false) (slice_index_or flags 3 false) (slice_index_or flags 4 false)
-    (slice_index_or flags 5 false) (slice_index_or flags 6 false) (slice_index_or flags 7 false) (slice_index_or flags 8 false) (slice_index_or flags 9 false)
+    place_set (slice_index_or flags 0 false) (slice_index_or flags 1 false) (slice_index_or flags 2 false)
+    (slice_index_or flags 3 false) (slice_index_or flags 4 false) (slice_index_or flags 5 false)
+    (slice_index_or flags 6 false) (slice_index_or flags 7 false) (slice_index_or flags 8 false)
+    (slice_index_or flags 9 false)
 
 -- at most six plates, not both places of the press, and a stamp in range
 pub record IsStart (full : PlaceSet) (stamp : ℕ) : Type 0 where

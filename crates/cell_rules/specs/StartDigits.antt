@@ -1,5 +1,6 @@
 -- A start as it is written: a digit for each place.
-use Rattle.std.specs.Prelude.{ℕ, ◌==◌, ◌&&◌, ◌||◌, Bool, not, List, length, map, nat_le, Option, Some, None, if◌then◌else◌}
+use Rattle.std.specs.Prelude.{ℕ, ◌==◌, ◌&&◌, ◌||◌, Bool, not, List, length, map, nat_le, Option, Some, None}
+use Rattle.std.specs.Prelude.{if◌then◌else◌}
 use Rattle.std.specs.List.{list_all}
 use Rattle.cell_types.specs.declared.place.Place.TheVariants.{PressIn, PressOut}
 use Rattle.cell_rules.specs.PlaceSet.{PlaceSet, has}
@@ -13,7 +14,8 @@ abbrev pub flag_in : ℕ → Option Bool
 flag_in digit = if is_flag digit then Some (digit == 49) else None
 
 abbrev pub places_in : List ℕ → Option (List Bool)
-places_in field = if (length field == 10) && list_all is_flag field then Some (map (λ digit. digit == 49) field) else None
+places_in field =
+    if (length field == 10) && list_all is_flag field then Some (map (λ digit. digit == 49) field) else None
 
 -- at most six plates, not both places of the press, and a stamp in range
 abbrev pub is_start : PlaceSet → ℕ → Bool

@@ -23,4 +23,5 @@ IsSound-prop s = hlevel props
 
 pub IsLegal-prop : (s : ModelState) (h : List Event) → IsProp (IsLegal s h)
 IsLegal-prop s [] = Unit-prop
-IsLegal-prop s (e ∷ h) = ×_prop (answer_prop e.answer (reply s e.machine e.call)) (IsLegal-prop (next s e.machine e.call) h)
+IsLegal-prop s (e ∷ h) =
+    ×_prop (answer_prop e.answer (reply s e.machine e.call)) (IsLegal-prop (next s e.machine e.call) h)

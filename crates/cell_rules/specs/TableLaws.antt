@@ -2,7 +2,8 @@
 use Rattle.std.specs.Prelude.{◌≡◌, Bool, true, false, [], ◌∷◌, Some, IsTrue}
 use Rattle.cell_types.specs.declared.machine.Machine.{Machine}
 use Rattle.cell_types.specs.declared.zone.Zone.{Zone}
-use Rattle.cell_types.specs.declared.place.Place.TheVariants.{FeedEntry, FeedEnd, Table, Arm1, PressIn, PressOut, Arm2, DepEntry, DepEnd, Crane}
+use Rattle.cell_types.specs.declared.place.Place.TheVariants.{FeedEntry, FeedEnd, Table, Arm1, PressIn, PressOut, Arm2}
+use Rattle.cell_types.specs.declared.place.Place.TheVariants.{DepEntry, DepEnd, Crane}
 use Rattle.cell_types.specs.declared.posture.Posture.TheVariants.{Moving}
 use Rattle.cell_types.specs.declared.pose.Pose.{Pose}
 use Rattle.cell_types.specs.declared.pose.Pose.TheVariants.{Turning, Travelling, Running}
@@ -37,4 +38,6 @@ pub record HasDigits (full : PlaceSet) (a b c d e f g h i j : Bool) : Type 0 whe
   pub crane : has full Crane ≡ j
 
 abbrev pub DigitsArePlaces : Type 0
-DigitsArePlaces = (a b c d e f g h i j : Bool) → HasDigits (places_of (a ∷ b ∷ c ∷ d ∷ e ∷ f ∷ g ∷ h ∷ i ∷ j ∷ [])) a b c d e f g h i j
+DigitsArePlaces =
+    (a b c d e f g h i j : Bool)
+    → HasDigits (places_of (a ∷ b ∷ c ∷ d ∷ e ∷ f ∷ g ∷ h ∷ i ∷ j ∷ [])) a b c d e f g h i j

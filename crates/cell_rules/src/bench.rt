@@ -32,7 +32,13 @@ impl Bench {
 
     /// A bench that opens with this state. It allocates nothing until the first call.
     pub fn new(alloc: Global, opening: State) -> Bench
-        ensures desk { desk_of result ≡ record { opening = opening; state = opening; history = []; machine = Machine.Watch; busy = false } }
+        ensures desk { desk_of result ≡ record {
+          opening = opening;
+          state = opening;
+          history = [];
+          machine = Machine.Watch;
+          busy = false;
+        } }
         ensures heard { result.heard ≡ heard_nothing }
     {
         let _ = &opening.stamp;
@@ -49,7 +55,8 @@ impl Bench {
     /// Chooses the caller until the next seating, and whether the caller finds the bench busy: its
     /// calls are then not made, and answered `Busy` with one failed try.
     pub fn seat(&mut self, machine: Machine, busy: bool)
-        ensures desk { desk_of self.new ≡ record (desk_of self.old) { machine = machine; busy = busy } }
+        ensures desk { desk_of self.new
+            ≡ record (desk_of self.old) { machine = machine; busy = busy } }
         ensures heard { self.new.heard ≡ self.old.heard }
     {
         self.machine = machine;
@@ -76,7 +83,8 @@ impl Bench {
     #[inline(always)]
     fn make(&mut self, call: Call) -> Result<Reply, LineFault>
         ensures asks { BenchAsks (desk_of self.old) call result (desk_of self.new) }
-        ensures seen { SeenAfter self.old.machine call result self.old.opening self.old.history.items self.new.history.items }
+        ensures seen { SeenAfter self.old.machine call result
+            self.old.opening self.old.history.items self.new.history.items }
         ensures heard { self.new.heard ≡ self.old.heard }
     {
         if self.busy {

@@ -99,16 +99,16 @@ pub fn stays_sound(opening: &State, history: &[Event])
     let _ = &opening.stamp;
 }
 
-/// Table and press don't jump to a pose, a zone opens inward only onto an empty place, a pose changes
-/// only what its machine holds, a plate comes to a belt's end only while the belt runs, and the press
-/// forges only while it holds its interior and is Closed.
+/// Table and press don't jump to a pose, a zone opens inward only onto an empty place, a pose
+/// changes only what its machine holds, a plate comes to a belt's end only while the belt runs, and
+/// the press forges only while it holds its interior and is Closed.
 pub fn events_fit(opening: &State, history: &[Event])
     requires { IsLegal opening.now history.now }
     ensures { law.EventsFit opening.now history.now }
 {}
 
-/// The table takes any pose but turning only while z1 and z2 move, and the press any but travelling only
-/// while z3 moves.
+/// The table takes any pose but turning only while z1 and z2 move, and the press any but travelling
+/// only while z3 moves.
 pub fn no_jump(opening: &State, history: &[Event])
     requires { IsLegal opening.now history.now }
     ensures { law.NoJump opening.now history.now }
@@ -140,7 +140,8 @@ pub fn refusals_tell_causes()
     ensures { RefusalsTell }
 {}
 
-/// The poses that move are turning, travelling and running: exactly those that give some zone Moving.
+/// The poses that move are turning, travelling and running: exactly those that give some zone
+/// Moving.
 pub fn poses_that_move()
     ensures { PosesThatMove }
 {}

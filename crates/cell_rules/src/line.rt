@@ -47,7 +47,8 @@ pub trait Line {
         ensures asks { asks self.old call result self.new }
         ensures machine { machine self.new ≡ machine self.old }
         ensures opening { opening self.new ≡ opening self.old }
-        ensures seen { SeenAfter (machine self.old) call result (opening self.old) (seen self.old) (seen self.new) }
+        ensures seen { SeenAfter (machine self.old) call result
+            (opening self.old) (seen self.old) (seen self.new) }
         ensures heard { heard self.new ≡ heard_after (heard self.old) call result };
 
     // The interlock opened with a sound state.

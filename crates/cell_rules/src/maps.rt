@@ -19,8 +19,8 @@ pub fn zones_are_std_map()
     ensures { law.ZonesAreStdMap }
 {}
 
-/// The set of the places has the membership, the insertions and the removals of std's finite set, and
-/// its empty set.
+/// The set of the places has the membership, the insertions and the removals of std's finite set,
+/// and its empty set.
 pub fn places_are_std_set()
     ensures { law.PlacesAreStdSet }
 {}

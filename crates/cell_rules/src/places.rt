@@ -26,9 +26,21 @@ impl Model for Places {
 
     ghost Value = { PlaceSet };
 
-    ghost view = { λ a. place_set a.feed_entry a.feed_end a.table a.arm1 a.press_in a.press_out a.arm2 a.dep_entry a.dep_end a.crane };
+    ghost view = { λ a. place_set a.feed_entry a.feed_end a.table a.arm1 a.press_in a.press_out
+        a.arm2 a.dep_entry a.dep_end a.crane };
 
-    ghost inverse = { λ s. record { feed_entry = s.feed_entry; feed_end = s.feed_end; table = s.table; arm1 = s.arm1; press_in = s.press_in; press_out = s.press_out; arm2 = s.arm2; dep_entry = s.dep_entry; dep_end = s.dep_end; crane = s.crane } };
+    ghost inverse = { λ s. record {
+      feed_entry = s.feed_entry;
+      feed_end = s.feed_end;
+      table = s.table;
+      arm1 = s.arm1;
+      press_in = s.press_in;
+      press_out = s.press_out;
+      arm2 = s.arm2;
+      dep_entry = s.dep_entry;
+      dep_end = s.dep_end;
+      crane = s.crane;
+    } };
 }
 
 impl Places {

@@ -50,7 +50,14 @@ impl Model for Zones {
 
     ghost view = { λ a. zone_map a.z1 a.z2 a.z3 a.z4 a.z5 a.z6 };
 
-    ghost inverse = { λ m. record { z1 = m.at_z1; z2 = m.at_z2; z3 = m.at_z3; z4 = m.at_z4; z5 = m.at_z5; z6 = m.at_z6 } };
+    ghost inverse = { λ m. record {
+      z1 = m.at_z1;
+      z2 = m.at_z2;
+      z3 = m.at_z3;
+      z4 = m.at_z4;
+      z5 = m.at_z5;
+      z6 = m.at_z6;
+    } };
 }
 
 impl Zones {
