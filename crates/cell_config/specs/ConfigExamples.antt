@@ -37,14 +37,21 @@ abbrev pub by_default : Settings
 by_default = record {
   start = start_state empty 0;
   schedule = [];
-  points = scale 0 4000 1000 5 ∷ scale 0 4000 1000 5 ∷ scale 0 4000 2000 5 ∷ scale 0 4000 500 5 ∷ scale 0 4000 1000 5 ∷ [];
-  curves = of_lines (scale 0 4000 1000 5 ∷ scale 0 4000 1000 5 ∷ scale 0 4000 2000 5 ∷ scale 0 4000 500 5 ∷ scale 0 4000 1000 5 ∷ []);
+  points =
+      scale 0 4000 1000 5 ∷ scale 0 4000 1000 5 ∷ scale 0 4000 2000 5 ∷ scale 0 4000 500 5
+      ∷ scale 0 4000 1000 5 ∷ [];
+  curves =
+      of_lines (scale 0 4000 1000 5 ∷ scale 0 4000 1000 5 ∷ scale 0 4000 2000 5 ∷ scale 0 4000 500 5
+      ∷ scale 0 4000 1000 5 ∷ []);
 }
 
 abbrev pub all_given : List ℕ
 all_given =
-    codes "gripper.raw = [64535, 65535]\narm2.tol = 2\narm2.points = [[0, 0], [2000, 501], [4000, 1000]]\nturn = { points = [[100, 0], [101, 0], [599, 490], [600, 500]], tol = 10, raw = [100, 600] }\nrotation.raw = [1, 2001]\n"
-    ++ codes "arm1 = { raw = [10, 1010], tol = 1, points = [[10, 0], [1010, 1000]] }\nschedule = 'ftrpdcFTRPDC'\nstamp = 1048575\nstart = '0100000001'\n"
+    codes "gripper.raw = [64535, 65535]\narm2.tol = 2\narm2.points = [[0, 0], [2000, 501], [4000, 1000]]\n"
+    ++ codes "turn = { points = [[100, 0], [101, 0], [599, 490], [600, 500]], tol = 10, raw = [100, 600] }\n"
+    ++ codes "rotation.raw = [1, 2001]\n"
+    ++ codes "arm1 = { raw = [10, 1010], tol = 1, points = [[10, 0], [1010, 1000]] }\nschedule = 'ftrpdcFTRPDC'\n"
+    ++ codes "stamp = 1048575\nstart = '0100000001'\n"
 
 abbrev pub as_given : Settings
 as_given = record {
@@ -52,9 +59,12 @@ as_given = record {
   schedule =
       turn Feed false ∷ turn Table false ∷ turn Robot false ∷ turn Press false ∷ turn Deposit false ∷ turn Crane false
       ∷ turn Feed true ∷ turn Table true ∷ turn Robot true ∷ turn Press true ∷ turn Deposit true ∷ turn Crane true ∷ [];
-  points = scale 10 1010 1000 1 ∷ scale 0 4000 1000 2 ∷ scale 1 2001 2000 5 ∷ scale 100 600 500 10 ∷ scale 64535 65535 1000 5 ∷ [];
+  points =
+      scale 10 1010 1000 1 ∷ scale 0 4000 1000 2 ∷ scale 1 2001 2000 5 ∷ scale 100 600 500 10
+      ∷ scale 64535 65535 1000 5 ∷ [];
   curves =
-      ((10, pos 0) ∷ (1010, pos 1000) ∷ []) ∷ ((0, pos 0) ∷ (2000, pos 501) ∷ (4000, pos 1000) ∷ []) ∷ ends_of (scale 1 2001 2000 5)
+      ((10, pos 0) ∷ (1010, pos 1000) ∷ []) ∷ ((0, pos 0) ∷ (2000, pos 501) ∷ (4000, pos 1000) ∷ [])
+      ∷ ends_of (scale 1 2001 2000 5)
       ∷ ((100, pos 0) ∷ (101, pos 0) ∷ (599, pos 490) ∷ (600, pos 500) ∷ []) ∷ ends_of (scale 64535 65535 1000 5) ∷ [];
 }
 

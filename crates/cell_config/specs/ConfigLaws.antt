@@ -11,8 +11,10 @@ use Rattle.cell_config.specs.declared.fault.ConfigFault.TheVariants.{Long, Text,
 pub record TextLimits (bytes : List ℕ) : Type 0 where
   pub too_long : 2097152 < length bytes → settings_of bytes ≡ Err Long
   pub not_utf8 : length bytes ≤ 2097152 → is_utf8 bytes ≡ false → settings_of bytes ≡ Err Text
-  pub not_toml : length bytes ≤ 2097152 → is_utf8 bytes ≡ true → parse_document bytes ≡ None → settings_of bytes ≡ Err Text
-  pub read : length bytes ≤ 2097152 → is_utf8 bytes ≡ true → (table : Members) → parse_document bytes ≡ Some table → settings_of bytes ≡ settings_in table
+  pub not_toml : length bytes ≤ 2097152 → is_utf8 bytes ≡ true → parse_document bytes ≡ None
+      → settings_of bytes ≡ Err Text
+  pub read : length bytes ≤ 2097152 → is_utf8 bytes ≡ true → (table : Members)
+      → parse_document bytes ≡ Some table → settings_of bytes ≡ settings_in table
 
 -- a schedule is out of range exactly if it has too many letters, whatever they are
 pub record LetterLimits (text : List ℕ) : Type 0 where

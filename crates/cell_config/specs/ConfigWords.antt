@@ -1,7 +1,8 @@
 -- The text of a configuration's fault.
 use Rattle.std.specs.Prelude.{ℕ, List, codes}
 use Rattle.cell_config.specs.declared.fault.ConfigFault.{ConfigFault}
-use Rattle.cell_config.specs.declared.fault.ConfigFault.TheVariants.{Read, Long, Text, Unknown, Missing, Kind, Start, Range, Letter, Memory}
+use Rattle.cell_config.specs.declared.fault.ConfigFault.TheVariants.{Read, Long, Text, Unknown, Missing, Kind, Start}
+use Rattle.cell_config.specs.declared.fault.ConfigFault.TheVariants.{Range, Letter, Memory}
 
 abbrev pub config_fault_text : ConfigFault → List ℕ
 config_fault_text Read = codes "read"

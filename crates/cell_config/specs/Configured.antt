@@ -10,7 +10,12 @@ use Rattle.cell_config.specs.declared.fault.ConfigFault.TheVariants.{Read, Memor
 
 -- the settings that a configuration holds
 abbrev pub shown : Config → Settings
-shown config = record { start = config.start; schedule = config.schedule.items; points = config.points; curves = map pairs_of config.curves }
+shown config = record {
+  start = config.start;
+  schedule = config.schedule.items;
+  points = config.points;
+  curves = map pairs_of config.curves;
+}
 
 -- An error is the first fault of the bytes, a failed read and out of memory apart.
 abbrev pub Refuses : List ℕ → ConfigFault → Type 0

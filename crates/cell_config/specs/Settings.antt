@@ -1,9 +1,11 @@
 -- What a configuration says, or its first fault.
-use Rattle.std.specs.Prelude.{ℕ, ℤ, pos, negsuc, ◌-ℤ◌, ◌<ℤ◌, ◌≤ℤ◌, Bool, List, [], ◌∷◌, length, codes, nat_le, int_lt, int_le, ◌&&◌, map, is_some, Option, Some, None, Result, Ok, Err, if◌then◌else◌}
+use Rattle.std.specs.Prelude.{ℕ, ℤ, pos, negsuc, ◌-ℤ◌, ◌<ℤ◌, ◌≤ℤ◌, Bool, List, [], ◌∷◌, length, codes, nat_le, int_lt}
+use Rattle.std.specs.Prelude.{int_le, ◌&&◌, map, is_some, Option, Some, None, Result, Ok, Err, if◌then◌else◌}
 use Rattle.std.specs.List.{filter_map, list_all}
 use Rattle.std.specs.Option.{ok_or, option_and_then}
 use Rattle.std.specs.Str.{is_utf8}
-use Rattle.toml.specs.Data.{Data, Items, Members, array, integer, item, no_items, as_integer, as_str, as_table, get_member}
+use Rattle.toml.specs.Data.{Data, Items, Members, array, integer, item, no_items, as_integer, as_str, as_table}
+use Rattle.toml.specs.Data.{get_member}
 use Rattle.toml.specs.Parse.{parse_document}
 use Rattle.cell_rules.specs.ModelState.{ModelState, last_stamp}
 use Rattle.cell_rules.specs.Start.{places_of, start_state}
@@ -26,7 +28,8 @@ byte_limit = 2097152
 abbrev pub max_bytes_read : ℕ
 max_bytes_read = 2097153
 
--- what a configuration gives: a start, a schedule, and of arm1, arm2, rotation, turn and gripper the scales and the curves' pairs
+-- what a configuration gives: a start, a schedule, and of arm1, arm2, rotation, turn and gripper the scales and the
+-- curves' pairs
 pub record Settings : Type 0 where
   pub start : ModelState
   pub schedule : List Turn
@@ -40,14 +43,17 @@ number_within least most (negsuc n) = Err Range
 
 -- ten digits 0 or 1: for each place whether it is full
 abbrev pub places_at : Members → Result (List Bool) ConfigFault
-places_at ms = required (get_member (codes "start") ms) Missing (λ value. of_kind (as_str value) (λ text. ok_or (places_in text) Start))
+places_at ms =
+    required (get_member (codes "start") ms) Missing
+    (λ value. of_kind (as_str value) (λ text. ok_or (places_in text) Start))
 
 abbrev pub stamp_at : Members → Result ℕ ConfigFault
 stamp_at = at_key (codes "stamp") as_integer 0 (number_within 0 last_stamp)
 
 -- the start with these places and this stamp
 abbrev pub start_of : List Bool → ℕ → Result ModelState ConfigFault
-start_of places stamp = if is_start (places_of places) stamp then Ok (start_state (places_of places) stamp) else Err Start
+start_of places stamp =
+    if is_start (places_of places) stamp then Ok (start_state (places_of places) stamp) else Err Start
 
 -- both keys, and then their start
 abbrev pub start_at : Members → Result ModelState ConfigFault
@@ -70,7 +76,8 @@ abbrev pub wide_enough : ℤ → ℕ → ℕ → Result (ℕ × ℕ) ConfigFault
 wide_enough end low high = if int_lt (pos high -ℤ pos low) end then Err Range else Ok (low, high)
 
 abbrev pub raw_within : ℤ → ℤ × ℤ → Result (ℕ × ℕ) ConfigFault
-raw_within end (first, last) = number_within 0 65535 first >>= (λ low. number_within 0 65535 last >>= (λ high. wide_enough end low high))
+raw_within end (first, last) =
+    number_within 0 65535 first >>= (λ low. number_within 0 65535 last >>= (λ high. wide_enough end low high))
 
 abbrev pub raw_at : ℤ → Members → Result (ℕ × ℕ) ConfigFault
 raw_at end = at_key (codes "raw") pair_of (0, 4000) (raw_within end)
@@ -131,7 +138,8 @@ abbrev pub section_by : Scale → Members → Result Section ConfigFault
 section_by s section = pairs_at s section >>= (λ pairs. Ok (s, pairs))
 
 abbrev pub section_of : ℤ → Members → Result Section ConfigFault
-section_of end section = raw_at end section >>= (λ raw. tol_at section >>= (λ tol. section_by (axis_scale end raw tol) section))
+section_of end section =
+    raw_at end section >>= (λ raw. tol_at section >>= (λ tol. section_by (axis_scale end raw tol) section))
 
 abbrev pub default_section : ℤ → Section
 default_section end = (axis_scale end (0, 4000) 5, ends_of (axis_scale end (0, 4000) 5))
@@ -156,7 +164,12 @@ settings_in ms =
     start_at ms >>= (λ start.
     schedule_at ms >>= (λ schedule.
     sections_at ms >>= (λ sections.
-    Ok (record { start = start; schedule = schedule; points = map (λ section. section.0) sections; curves = map (λ section. section.1) sections })))))
+    Ok (record {
+      start = start;
+      schedule = schedule;
+      points = map (λ section. section.0) sections;
+      curves = map (λ section. section.1) sections;
+    })))))
 
 -- The settings in some bytes, or their first fault.
 unfoldable pub settings_of : List ℕ → Result Settings ConfigFault

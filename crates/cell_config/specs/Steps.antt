@@ -30,5 +30,6 @@ optional None default read = Ok default
 optional (Some value) default read = read value
 
 -- what is read at a key whose value has a kind, or a default if the key is absent
-abbrev pub at_key : {A B : Type 0} → List ℕ → (Data → Option A) → B → (A → Result B ConfigFault) → Members → Result B ConfigFault
+abbrev pub at_key : {A B : Type 0} → List ℕ → (Data → Option A) → B → (A → Result B ConfigFault) → Members
+    → Result B ConfigFault
 at_key key kind default read members = optional (get_member key members) default (λ value. of_kind (kind value) read)

@@ -1,6 +1,7 @@
 //! The schedule: a text with a letter for each turn.
 
-ghost use Rattle.std.specs.Prelude.{◌≡◌, ◌≢◌, ◌<◌, ℕ, None, Ok, Err, MatchResult, length, chars, nat_lt, slice_index_or};
+ghost use Rattle.std.specs.Prelude.{◌≡◌, ◌≢◌, ◌<◌, ℕ, None, Ok, Err, MatchResult, length, chars, nat_lt};
+ghost use Rattle.std.specs.Prelude.{slice_index_or};
 ghost use Rattle.toml.specs.View.{table_view};
 ghost use Rattle.cell_config.specs.Letters as letters;
 ghost use Rattle.cell_config.specs.Settings as settings;

@@ -1,6 +1,7 @@
 //! The sections: how the five potentiometers are calibrated.
 
-ghost use Rattle.std.specs.Prelude.{◌≡◌, pos, ◌-ℤ◌, ◌≤ℤ◌, ◌≤◌, true, false, Ok, Err, IfOk, MatchOption, MatchResult, length, map, option_map, take};
+ghost use Rattle.std.specs.Prelude.{◌≡◌, pos, ◌-ℤ◌, ◌≤ℤ◌, ◌≤◌, true, false, Ok, Err, IfOk, MatchOption};
+ghost use Rattle.std.specs.Prelude.{MatchResult, length, map, option_map, take};
 ghost use Rattle.std.specs.List.{filter_map, list_all};
 ghost use Rattle.cell_calib.specs.Curve.{pairs_of};
 ghost use Rattle.toml.specs.View.{table_view, view};
@@ -115,7 +116,8 @@ fn are_pairs(values: &[Value]) -> bool
 
 /// The values of an array of pairs of whole numbers.
 fn pairs_in(value: &Value) -> Option<&[Value]>
-    ensures { option_map (λ values. map view values.now) result ≡ settings.pairs_in (view value.now) }
+    ensures { option_map (λ values. map view values.now) result
+        ≡ settings.pairs_in (view value.now) }
 {
     let items = value.as_array()?;
     let values = items.as_slice();
@@ -132,7 +134,8 @@ fn measured_pairs(values: &[Value]) -> Option<[(u16, i32); MAX_PAIRS]>
     ensures { MatchOption result
         (list_all settings.is_measured (map view values.now) ≡ false)
         (λ pairs. (list_all settings.is_measured (map view values.now) ≡ true)
-        × (take (length values.now) pairs ≡ filter_map settings.measured_of (map view values.now))) }
+        × (take (length values.now) pairs
+        ≡ filter_map settings.measured_of (map view values.now))) }
 {
     let mut pairs = [(0, 0); MAX_PAIRS];
     'values: for i in 0..values.len() {
@@ -230,7 +233,8 @@ fn section_at(table: &Table, key: &str, end: i32) -> Result<Curve, ConfigFault>
 /// The curves of the potentiometers arm1, arm2, rotation, turn and gripper, in this order.
 pub fn curves_at(table: &Table) -> Result<[Curve; 5], ConfigFault>
     ensures value { MatchResult result
-        (λ curves. settings.sections_at (table_view table.now) ≡ Ok (map (λ c. (c.scale, pairs_of c)) curves))
+        (λ curves. settings.sections_at (table_view table.now)
+        ≡ Ok (map (λ c. (c.scale, pairs_of c)) curves))
         (λ fault. settings.sections_at (table_view table.now) ≡ Err fault) }
     ensures axes { IfOk result (λ curves. AreAxisScales (map (λ c. c.scale) curves)) }
 {

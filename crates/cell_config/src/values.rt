@@ -38,7 +38,8 @@ pub fn number_at(
     default: u32,
 ) -> Result<u32, ConfigFault>
     requires { (least ≤ default) × (default ≤ most) }
-    ensures value { result ≡ at_key key.now as_integer default (number_within least most) (table_view table.now) }
+    ensures value { result
+        ≡ at_key key.now as_integer default (number_within least most) (table_view table.now) }
     ensures limits { IfOk result (λ n. (least ≤ n) × (n ≤ most)) }
 {
     match value_at(table, key) {
