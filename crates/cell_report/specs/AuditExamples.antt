@@ -63,17 +63,21 @@ abbrev pub shown : ℕ → Entry
 shown stamp = entry (Inquire Z3) free stamp
 
 abbrev pub unordered : List Note
-unordered = (Press, claimed 6) ∷ (Press, refused 6) ∷ (Press, shown 6) ∷ (Press, refused 5) ∷ (Press, claimed 6) ∷ (Press, claimed 7) ∷ []
+unordered =
+    (Press, claimed 6) ∷ (Press, refused 6) ∷ (Press, shown 6) ∷ (Press, refused 5) ∷ (Press, claimed 6)
+    ∷ (Press, claimed 7) ∷ []
 
 pub record OrderExamples : Type 0 where
   pub by_stamp : key_of (refused 6) < key_of (claimed 7)
   pub done_first : key_of (claimed 6) < key_of (refused 6)
   pub others_alike : key_of (refused 6) ≡ key_of (shown 6)
   pub by_machine : AreInOrder (journals_of backwards)
-      (event Feed (Inquire Z3) free ∷ event Table (Inquire Z3) free ∷ event Robot (Inquire Z3) free ∷ event Press (Inquire Z3) free
-      ∷ event Deposit (Inquire Z3) free ∷ event Crane (Inquire Z3) free ∷ event Watch (Inquire Z3) free ∷ [])
+      (event Feed (Inquire Z3) free ∷ event Table (Inquire Z3) free ∷ event Robot (Inquire Z3) free
+      ∷ event Press (Inquire Z3) free ∷ event Deposit (Inquire Z3) free
+      ∷ event Crane (Inquire Z3) free ∷ event Watch (Inquire Z3) free ∷ [])
   pub in_turn : all_noted (journals_of unordered)
-      ≡ noted Press (claimed 6) true ∷ noted Press (refused 6) true ∷ noted Press (shown 6) true ∷ noted Press (refused 5) false
+      ≡ noted Press (claimed 6) true ∷ noted Press (refused 6) true ∷ noted Press (shown 6) true
+      ∷ noted Press (refused 5) false
       ∷ noted Press (claimed 6) false ∷ noted Press (claimed 7) true ∷ []
 
 -- ---- the faults, if the start's stamp is 5

@@ -1,5 +1,6 @@
 -- Why an audit refuses journals: the least stamp of each refusal, over all entries.
-use Rattle.std.specs.Prelude.{◌≡◌, ℕ, ◌<◌, ◌≤◌, nat_eq, max, count_by, List, [], ◌∷◌, ◌++◌, map, Option, Some, None, IsTrue, ◌⊎◌, ⊤}
+use Rattle.std.specs.Prelude.{◌≡◌, ℕ, ◌<◌, ◌≤◌, nat_eq, max, count_by, List, [], ◌∷◌, ◌++◌, map, Option, Some, None}
+use Rattle.std.specs.Prelude.{IsTrue, ◌⊎◌, ⊤}
 use Rattle.cell_types.specs.declared.machine.Machine.{Machine}
 use Rattle.cell_types.specs.declared.journal.Entry.{Entry}
 use Rattle.cell_rules.specs.ModelState.{ModelState}
@@ -88,9 +89,14 @@ IsStampFault start top all Memory = ⊤
 -- what each fault says, if no fault before it applies
 abbrev pub IsFaultOf : ModelState → Option ModelState → List Noted → AuditFault → Type 0
 IsFaultOf start end all (Twice stamp) = IsTwice (done_at all) stamp
-IsFaultOf start end all (Gap stamp) = HasNoTwice (done_at all) × IsGap start.stamp (top_of start end all) (done_at all) stamp
-IsFaultOf start end all (Differs stamp) = (ordered : List Noted) × HasStamps start.stamp (top_of start end all) all ordered × IsMisfit start ordered stamp
-IsFaultOf start end all End = (ordered : List Noted) × HasStamps start.stamp (top_of start end all) all ordered × MissesEnd start ordered end
+IsFaultOf start end all (Gap stamp) =
+    HasNoTwice (done_at all) × IsGap start.stamp (top_of start end all) (done_at all) stamp
+IsFaultOf start end all (Differs stamp) =
+    (ordered : List Noted) × HasStamps start.stamp (top_of start end all) all ordered
+    × IsMisfit start ordered stamp
+IsFaultOf start end all End =
+    (ordered : List Noted) × HasStamps start.stamp (top_of start end all) all ordered
+    × MissesEnd start ordered end
 IsFaultOf start end all Memory = ⊤
 
 abbrev pub IsFault : ModelState → (Machine → List Entry) → Option ModelState → AuditFault → Type 0

@@ -13,7 +13,8 @@ EndsIn reached None = ⊤
 EndsIn reached (Some end) = reached ≡ end
 
 -- a legal history that leads to the end; each machine's journal has the machine's events, with the stamp after each
-pub record IsAudited (start : ModelState) (journals : Machine → List Entry) (end : Option ModelState) (history : List Event) : Type 0 where
+pub record IsAudited (start : ModelState) (journals : Machine → List Entry) (end : Option ModelState)
+    (history : List Event) : Type 0 where
   pub legal : IsLegal start history
   pub own : (m : Machine) → own_events history m ≡ map (event_by m) (journals m)
   pub noted : (m : Machine) → noted start history m ≡ journals m

@@ -1,5 +1,6 @@
 -- The entries of all journals, and the order in which an audit looks at them.
-use Rattle.std.specs.Prelude.{◌≡◌, ℕ, ◌+◌, ◌*◌, Bool, ◌&&◌, nat_eq, nat_le, max, fold, count_by, List, [], ◌∷◌, ◌++◌, map, filter}
+use Rattle.std.specs.Prelude.{◌≡◌, ℕ, ◌+◌, ◌*◌, Bool, ◌&&◌, nat_eq, nat_le, max, fold, count_by, List, [], ◌∷◌, ◌++◌}
+use Rattle.std.specs.Prelude.{map, filter}
 use Rattle.std.specs.List.{list_all}
 use Rattle.std.specs.List.Sorted.{IsNonDecreasingBy, IsStableByKey, IsPermutation}
 use Rattle.std.specs.Ordering.{nat_cmp}
@@ -24,7 +25,8 @@ key_of e = 2 * e.stamp + rank e.answer
 
 -- an entry after the earlier ones of its journal: it is in turn if none of them is later in the order
 abbrev pub noted_after : Machine → List Entry → Entry → Noted
-noted_after m earlier e = record { machine = m; entry = e; in_turn = list_all (λ d. nat_le (key_of d) (key_of e)) earlier }
+noted_after m earlier e =
+    record { machine = m; entry = e; in_turn = list_all (λ d. nat_le (key_of d) (key_of e)) earlier }
 
 -- the entries of a journal, after earlier ones
 abbrev pub noted_from : Machine → List Entry → List Entry → List Noted
@@ -56,7 +58,8 @@ event_of x = event_by x.machine x.entry
 
 -- the events are those of all entries in the order
 abbrev pub AreInOrder : (Machine → List Entry) → List Event → Type 0
-AreInOrder journals history = (ordered : List Noted) × InOrder (all_noted journals) ordered × (history ≡ map event_of ordered)
+AreInOrder journals history =
+    (ordered : List Noted) × InOrder (all_noted journals) ordered × (history ≡ map event_of ordered)
 
 abbrev pub is_done_noted : Noted → Bool
 is_done_noted x = is_done_answer x.entry.answer

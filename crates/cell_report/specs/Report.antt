@@ -29,23 +29,29 @@ start_line s = spaced (codes "start" ∷ places_word s ∷ decimal s.stamp ∷ [
 -- what a machine did, and its status
 abbrev pub machine_line : Machine → Counts → Status → List ℕ
 machine_line m n s =
-    spaced (machine_word m ∷ codes "turns" ∷ decimal n.turns ∷ codes "done" ∷ decimal n.done ∷ codes "read" ∷ decimal n.read
-    ∷ codes "refused" ∷ decimal n.refused ∷ codes "busy" ∷ decimal n.busy ∷ status_word s ∷ [])
+    spaced (machine_word m ∷ codes "turns" ∷ decimal n.turns ∷ codes "done" ∷ decimal n.done
+    ∷ codes "read" ∷ decimal n.read ∷ codes "refused" ∷ decimal n.refused
+    ∷ codes "busy" ∷ decimal n.busy ∷ status_word s ∷ [])
 
 -- each machine that works: all but the watch, which is the last
 abbrev pub machine_lines : List Counts → List Status → List (List ℕ)
-machine_lines counts status = map (λ (m, row). machine_line m row.0 row.1) (take 6 (zip all_machines (zip counts status)))
+machine_lines counts status =
+    map (λ (m, row). machine_line m row.0 row.1) (take 6 (zip all_machines (zip counts status)))
 
 -- the state of a zone
 abbrev pub zone_line : ModelState → Zone → List ℕ
-zone_line s z = spaced (codes "zone" ∷ zone_word z ∷ owner_word (zone_at s z).owner ∷ flag_word (zone_at s z).flag ∷ posture_word (zone_at s z).posture ∷ [])
+zone_line s z =
+    spaced (codes "zone" ∷ zone_word z ∷ owner_word (zone_at s z).owner ∷ flag_word (zone_at s z).flag
+    ∷ posture_word (zone_at s z).posture ∷ [])
 
 abbrev pub places_line : ModelState → List ℕ
 places_line s = spaced (codes "places" ∷ places_word s ∷ [])
 
 -- the position of each axis
 abbrev pub axis_names : List (List ℕ)
-axis_names = codes "press" ∷ codes "arm1" ∷ codes "arm2" ∷ codes "rotation" ∷ codes "lift" ∷ codes "turn" ∷ codes "crane" ∷ codes "gripper" ∷ []
+axis_names =
+    codes "press" ∷ codes "arm1" ∷ codes "arm2" ∷ codes "rotation" ∷ codes "lift" ∷ codes "turn"
+    ∷ codes "crane" ∷ codes "gripper" ∷ []
 
 abbrev pub axis_words : List ℕ × ℤ → List (List ℕ)
 axis_words (name, position) = name ∷ signed_decimal position ∷ []

@@ -10,7 +10,8 @@ use Rattle.cell_rules.specs.ZoneMap.{everywhere, free_zone, zone_map}
 use Rattle.cell_rules.specs.PlaceSet.{place_set}
 use Rattle.cell_rules.specs.ModelState.{ModelState, model_state}
 use Rattle.cell_notes.specs.declared.counts.Counts.{Counts}
-use Rattle.cell_notes.specs.declared.status.Status.TheVariants.{Fine, Worn, Sensor, Refused, Memory as NoMemory, GateLimit}
+use Rattle.cell_notes.specs.declared.status.Status.TheVariants.{Fine, Worn, Sensor, Refused, Memory as NoMemory}
+use Rattle.cell_notes.specs.declared.status.Status.TheVariants.{GateLimit}
 use Rattle.cell_notes.specs.declared.run_record.RunRecord.{RunRecord}
 use Rattle.cell_report.specs.declared.audit_faults.AuditFault.TheVariants.{Twice, Gap, Differs, End, Memory}
 use Rattle.cell_report.specs.Report.{audit_line, report_text}
@@ -29,14 +30,17 @@ first = model_state (everywhere free_zone) (place_set true false true false fals
 abbrev pub last : ModelState
 last =
     model_state
-    (zone_map (zone (Some Table) false Moving) (zone (Some Robot) true OpenOut) (zone None false OpenIn) (zone (Some Robot) false OpenIn) (zone (Some Crane) true OpenOut) (zone (Some Feed) false Closed))
+    (zone_map (zone (Some Table) false Moving) (zone (Some Robot) true OpenOut) (zone None false OpenIn)
+    (zone (Some Robot) false OpenIn) (zone (Some Crane) true OpenOut) (zone (Some Feed) false Closed))
     (place_set true true false false true false true false false false) 1048575
 
 -- a run with the counts of seven machines, the watch's last
 abbrev pub run : Option ModelState → Journals → RunRecord
 run end journals = record {
   start = first;
-  counts = counts 10 11 12 13 14 ∷ counts 20 21 22 23 24 ∷ counts 30 31 32 33 34 ∷ counts 40 41 42 43 44 ∷ counts 50 51 52 53 54 ∷ counts 60 61 62 63 18446744073709551615 ∷ counts 70 71 72 73 74 ∷ [];
+  counts =
+      counts 10 11 12 13 14 ∷ counts 20 21 22 23 24 ∷ counts 30 31 32 33 34 ∷ counts 40 41 42 43 44
+      ∷ counts 50 51 52 53 54 ∷ counts 60 61 62 63 18446744073709551615 ∷ counts 70 71 72 73 74 ∷ [];
   status = Worn ∷ Sensor ∷ Refused ∷ NoMemory ∷ GateLimit ∷ Fine ∷ Worn ∷ [];
   journals = journals;
   end = end;
@@ -69,7 +73,8 @@ axes = codes "axes press 0 arm1 1 arm2 20 rotation 300 lift -4 turn 500 crane 20
 pub record ReportsAreMet : Type 0 where
   pub with_end : (journals : Journals) → report_text (run (Some last) journals) None
       ≡ start_and_machines ++ zones_and_places ++ axes ++ codes "stamp 1048575 plates 6\n" ++ codes "audit ok\n"
-  pub without_end : (journals : Journals) → report_text (run None journals) (Some (Gap 17)) ≡ start_and_machines ++ axes ++ codes "audit gap 17\n"
+  pub without_end : (journals : Journals)
+      → report_text (run None journals) (Some (Gap 17)) ≡ start_and_machines ++ axes ++ codes "audit gap 17\n"
   pub ok : audit_line None ≡ codes "audit ok"
   pub gap : audit_line (Some (Gap 0)) ≡ codes "audit gap 0"
   pub twice : audit_line (Some (Twice 1048575)) ≡ codes "audit twice 1048575"

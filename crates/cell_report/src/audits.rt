@@ -57,7 +57,8 @@ fn audit_in_order(
     end: Option<&State>,
 ) -> Result<Vec<Event>, AuditFault>
     ensures ok { IfOk result
-        (λ events. IsAudited start.now (journal_of journals.now) (option_copied end.entry) events.items) }
+        (λ events.
+        IsAudited start.now (journal_of journals.now) (option_copied end.entry) events.items) }
     ensures order { IfOk result (λ events. AreInOrder (journal_of journals.now) events.items) }
     ensures fault { IfErr result
         (λ fault. IsFault start.now (journal_of journals.now) (option_copied end.entry) fault) }
@@ -90,7 +91,8 @@ pub fn audit(
     end: Option<&State>,
 ) -> Result<Vec<Event>, AuditFault>
     ensures ok { IfOk result
-        (λ events. IsAudited start.now (journal_of journals.now) (option_copied end.entry) events.items) }
+        (λ events.
+        IsAudited start.now (journal_of journals.now) (option_copied end.entry) events.items) }
     ensures lawful { IfOk result (λ events. LawfulThroughout start.now events.items) }
     ensures order { IfOk result (λ events. AreInOrder (journal_of journals.now) events.items) }
     ensures refused { IfErr result

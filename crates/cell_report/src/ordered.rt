@@ -65,7 +65,8 @@ impl Noted {
 }
 
 fn push_journal(all: &mut Vec<Noted>, machine: Machine, journal: &[Entry]) -> Result<(), AllocError>
-    ensures { IfOk result (λ _. all.new.items ≡ all.old.items ++ order.noted_from machine [] journal.now) }
+    ensures { IfOk result
+        (λ _. all.new.items ≡ all.old.items ++ order.noted_from machine [] journal.now) }
 {
     let mut latest = 0;
     for entry in journal {
@@ -96,7 +97,8 @@ fn all_noted(alloc: Global, journals: &Journals) -> Result<Vec<Noted>, AllocErro
 
 /// All entries in the order of an audit. The cost for n entries is about n log n.
 pub fn in_order(alloc: Global, journals: &Journals) -> Result<Vec<Noted>, AllocError>
-    ensures { IfOk result (λ ordered. order.InOrder (order.all_noted (journal_of journals.now)) ordered.items) }
+    ensures { IfOk result
+        (λ ordered. order.InOrder (order.all_noted (journal_of journals.now)) ordered.items) }
 {
     let mut ordered = all_noted(alloc, journals)?;
     ordered.sort_by_key(|noted| noted.key())?;

@@ -3,7 +3,9 @@ ghost use Rattle.std.specs.Prelude.{◌≡◌, ◌∷◌, ◌++◌, [], codes, m
 ghost use Rattle.std.specs.Io.KnownBytes.{Appends};
 ghost use Rattle.cell_types.specs.Everything.{all_zones};
 ghost use Rattle.cell_text.specs.Output.{WrotePrefix};
-ghost use Rattle.cell_report.specs.Report.{audit_line, axes_line, axis_words, end_lines, machine_line, machine_lines, places_word, report_text, spaced, stamp_line, start_line, text_of_lines, where_known, zone_line};
+ghost use Rattle.cell_report.specs.Report.{audit_line, axes_line, axis_words, end_lines, machine_line};
+ghost use Rattle.cell_report.specs.Report.{machine_lines, places_word, report_text, spaced, stamp_line};
+ghost use Rattle.cell_report.specs.Report.{start_line, text_of_lines, where_known, zone_line};
 
 use crate::audit_faults::AuditFault;
 use cell_notes::{Counts, RunRecord, Status};
@@ -30,9 +32,11 @@ pub fn write_report<W: Write>(
     writer: &mut W,
 ) -> Result<(), WriteFault>
     // The report was written, and nothing else.
-    ensures text { OnOk result (Appends (W.contents writer.old) (W.contents writer.new) (report_text run.now audit)) }
+    ensures text { OnOk result
+        (Appends (W.contents writer.old) (W.contents writer.new) (report_text run.now audit)) }
     // After an error a prefix of the report was written.
-    ensures failed { OnErr result (WrotePrefix (W.contents writer.old) (W.contents writer.new) (report_text run.now audit)) }
+    ensures failed { OnErr result
+        (WrotePrefix (W.contents writer.old) (W.contents writer.new) (report_text run.now audit)) }
 {
     let page = match report_page(run, audit) {
         Ok(page) => page,
@@ -79,7 +83,8 @@ fn push_places(page: &mut Page, state: &State) -> fmt::Result
 
 /// Adds the line of each machine that works.
 fn push_machines(page: &mut Page, counts: &[Counts; 7], status: &[Status; 7]) -> fmt::Result
-    ensures { OnOk result (page.new ≡ page.old ++ text_of_lines (machine_lines counts.now status.now)) }
+    ensures { OnOk result
+        (page.new ≡ page.old ++ text_of_lines (machine_lines counts.now status.now)) }
 {
     'machines: for (index, machine) in Machine::ALL[..AT_WORK].iter().enumerate() {
         push_machine(page, *machine, &counts[index], status[index])?;
@@ -89,7 +94,8 @@ fn push_machines(page: &mut Page, counts: &[Counts; 7], status: &[Status; 7]) ->
 
 /// Adds the line of a machine.
 fn push_machine(page: &mut Page, machine: Machine, counts: &Counts, status: Status) -> fmt::Result
-    ensures { OnOk result (page.new ≡ page.old ++ (machine_line machine counts.now status ++ codes "\n")) }
+    ensures { OnOk result
+        (page.new ≡ page.old ++ (machine_line machine counts.now status ++ codes "\n")) }
 {
     let machine = machine.word();
     let Counts {
@@ -121,7 +127,8 @@ fn push_end(page: &mut Page, end: Option<State>) -> fmt::Result
 
 /// Adds the line of each zone.
 fn push_zones(page: &mut Page, state: &State) -> fmt::Result
-    ensures { OnOk result (page.new ≡ page.old ++ text_of_lines (map (zone_line state.now) all_zones)) }
+    ensures { OnOk result
+        (page.new ≡ page.old ++ text_of_lines (map (zone_line state.now) all_zones)) }
 {
     'zones: for zone in Zone::ALL {
         push_zone(page, state, zone)?;
@@ -160,7 +167,8 @@ fn push_axis(page: &mut Page, word: &str, position: i32) -> fmt::Result
 
 /// Adds the line of the stamp and the number of plates at the end, if the end is known.
 fn push_stamp(page: &mut Page, end: Option<State>) -> fmt::Result
-    ensures { OnOk result (page.new ≡ page.old ++ text_of_lines (where_known end (λ s. stamp_line s ∷ []))) }
+    ensures { OnOk result
+        (page.new ≡ page.old ++ text_of_lines (where_known end (λ s. stamp_line s ∷ []))) }
 {
     let Some(end) = end else {
         return Ok(());

@@ -15,7 +15,9 @@ pub fn retrace(
     ordered: &[Noted],
     start: &State,
 ) -> Result<(Vec<Event>, State), AuditFault>
-    ensures { MatchResult result (λ r. Retraced start.now ordered.now r.0.items r.1) (λ fault. IsRetraceFault start.now ordered.now fault) }
+    ensures { MatchResult result
+        (λ r. Retraced start.now ordered.now r.0.items r.1)
+        (λ fault. IsRetraceFault start.now ordered.now fault) }
 {
     let mut state = *start;
     let mut events = Vec::new(alloc);

@@ -39,7 +39,8 @@ pub fn least_twice(stamps: &[u32]) -> Option<u32>
 pub fn least_gap(stamps: &[u32], start: u32, top: u32) -> Option<u32>
     requires rising { IsNonDecreasing stamps.now }
     requires within { All (λ stamp. stamp ≤ top) stamps.now }
-    ensures { MatchOption result (HasNoGap start top (times stamps.now)) (IsGap start top (times stamps.now)) }
+    ensures { MatchOption result
+        (HasNoGap start top (times stamps.now)) (IsGap start top (times stamps.now)) }
 {
     let mut last = start;
     for stamp in stamps {
