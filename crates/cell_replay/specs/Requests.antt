@@ -4,7 +4,8 @@ use Rattle.std.specs.Str.{bytes_eq}
 use Rattle.std.specs.Cmp.Lexicographic.{pointwise}
 use Rattle.cell_types.specs.declared.machine.Machine.{Machine}
 use Rattle.cell_types.specs.declared.call.Call.{Call}
-use Rattle.cell_types.specs.declared.call.Call.TheVariants.{Claim, Give, Yield, Take, Release, SetPose, Advance, Inquire}
+use Rattle.cell_types.specs.declared.call.Call.TheVariants.{Claim, Give, Yield, Take, Release, SetPose, Advance}
+use Rattle.cell_types.specs.declared.call.Call.TheVariants.{Inquire}
 use Rattle.cell_types.specs.Words.{machine_word}
 use Rattle.cell_types.specs.CallWords.{call_fields}
 use Rattle.cell_types.specs.Everything.{all_machines, all_zones, all_poses}
@@ -22,7 +23,9 @@ abbrev pub request : Machine → Call → Request
 request machine call = record { machine = machine; call = call }
 
 abbrev pub all_calls : List Call
-all_calls = map Claim all_zones ++ map Give all_zones ++ map Yield all_zones ++ map Take all_zones ++ map Release all_zones ++ map SetPose all_poses ++ map Inquire all_zones ++ Advance ∷ []
+all_calls =
+    map Claim all_zones ++ map Give all_zones ++ map Yield all_zones ++ map Take all_zones ++ map Release all_zones
+    ++ map SetPose all_poses ++ map Inquire all_zones ++ Advance ∷ []
 
 -- the machine with this word
 unfoldable pub machine_of : List ℕ → Option Machine

@@ -1,5 +1,6 @@
 -- The answer to a script.
-use Rattle.std.specs.Prelude.{ℕ, ◌+◌, ◌-◌, ◌*◌, ◌==◌, ◌&&◌, Bool, List, [], ◌∷◌, ◌++◌, length, map, take, drop, codes, nat_lt, nat_le, Option, Some, None, Result, Ok, Err, if◌then◌else◌}
+use Rattle.std.specs.Prelude.{ℕ, ◌+◌, ◌-◌, ◌*◌, ◌==◌, ◌&&◌, Bool, List, [], ◌∷◌, ◌++◌, length, map, take, drop, codes}
+use Rattle.std.specs.Prelude.{nat_lt, nat_le, Option, Some, None, Result, Ok, Err, if◌then◌else◌}
 use Rattle.std.specs.Char.{is_ascii_digit}
 use Rattle.std.specs.Fmt.{decimal}
 use Rattle.std.specs.List.{concat, enumerate_from, list_all}
@@ -71,7 +72,8 @@ requests_in (row ∷ rows) = option_map_or (λ request. request ∷ requests_in 
 
 -- the history of requests that are made in order
 abbrev pub event_of : ModelState → Request → Event
-event_of s request = record { machine = request.machine; call = request.call; answer = reply s request.machine request.call }
+event_of s request =
+    record { machine = request.machine; call = request.call; answer = reply s request.machine request.call }
 
 unfoldable pub history_of : ModelState → List Request → List Event
 history_of s [] = []
@@ -113,14 +115,16 @@ rows_lines is_cut rows = lines_from (rows_start is_cut rows) (rows_events is_cut
 -- how a script ends with `count` records after record 0, if the first `answered` are answered
 abbrev pub end_of : Bool → ℕ → ℕ → Outcome
 end_of is_cut answered count =
-    if nat_lt answered count then Refused (if answered == max_records then Long else BadRow (answered + 1)) else if is_cut then Refused Long else Clean
+    if nat_lt answered count then Refused (if answered == max_records then Long else BadRow (answered + 1))
+    else if is_cut then Refused Long else Clean
 
 abbrev pub outcome_from : Bool → Result ModelState ScriptFault → ℕ → ℕ → Outcome
 outcome_from is_cut (Ok s) answered count = end_of is_cut answered count
 outcome_from is_cut (Err fault) answered count = Refused fault
 
 abbrev pub rows_outcome : Bool → List Row → Outcome
-rows_outcome is_cut rows = outcome_from is_cut (rows_start is_cut rows) (length (rows_events is_cut rows)) (length (drop 1 rows))
+rows_outcome is_cut rows =
+    outcome_from is_cut (rows_start is_cut rows) (length (rows_events is_cut rows)) (length (drop 1 rows))
 
 abbrev pub fault_text : ScriptFault → List ℕ
 fault_text NoStart = codes "nostart"

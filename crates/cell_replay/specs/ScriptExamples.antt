@@ -21,7 +21,8 @@ opened = codes "0 0 start 0\n"
 pub record AnswerExamples : Type 0 where
   pub stamp_rises : IsAnswered (codes "start,0100000000,7\nfeed,claim,z1\ntable,claim,z1\nwatch,inquire,z1\n")
       (codes "0 7 start 1\n1 7 shut closed\n2 8 done\n3 8 zone table 0 closed\n") Clean
-  pub pose_and_give : IsAnswered (opens ++ codes "press,claim,z3\npress,pose,travelling\npress,advance\npress,give,z3\n")
+  pub pose_and_give :
+      IsAnswered (opens ++ codes "press,claim,z3\npress,pose,travelling\npress,advance\npress,give,z3\n")
       (opened ++ codes "1 1 done\n2 2 done\n3 2 notatwork\n4 2 wrongway\n") Clean
   pub hand_back : IsAnswered (opens ++ codes "deposit,claim,z4\ndeposit,take,z4\ndeposit,yield,z4\ndeposit,release,z4")
       (opened ++ codes "1 1 done\n2 1 noplate\n3 1 shut closed\n4 2 done\n") Clean
@@ -32,7 +33,8 @@ pub record AnswerExamples : Type 0 where
 -- ---- record 0
 
 abbrev pub HasStamp : List ℕ → List ℕ → Type 0
-HasStamp stamp number = IsAnswered (codes "start,0000000000," ++ stamp ++ codes "\n") (codes "0 " ++ number ++ codes " start 0\n") Clean
+HasStamp stamp number =
+    IsAnswered (codes "start,0000000000," ++ stamp ++ codes "\n") (codes "0 " ++ number ++ codes " start 0\n") Clean
 
 abbrev pub HasNoStart : List ℕ → Type 0
 HasNoStart script = IsAnswered script (codes "fault nostart\n") (Refused NoStart)

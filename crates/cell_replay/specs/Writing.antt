@@ -1,5 +1,6 @@
 -- What is written for the records of a script that are left.
-use Rattle.std.specs.Prelude.{ℕ, ◌≡◌, ◌+◌, ◌-◌, Bool, List, [], ◌∷◌, length, take, option_map, Option, Some, None, Result, Ok, Err}
+use Rattle.std.specs.Prelude.{ℕ, ◌≡◌, ◌+◌, ◌-◌, Bool, List, [], ◌∷◌, length, take, option_map, Option, Some, None}
+use Rattle.std.specs.Prelude.{Result, Ok, Err}
 use Rattle.std.specs.List.{concat}
 use Rattle.std.specs.Option.{ForSome}
 use Rattle.std.specs.Io.KnownBytes.{Appends, Keeps}
@@ -18,22 +19,27 @@ use Rattle.cell_replay.specs.declared.script.ReplayFault.TheVariants.{Read, Writ
 unfoldable pub lines_after : ℕ → ModelState → List Request → List (List ℕ)
 lines_after done s [] = []
 lines_after done s (r ∷ rs) =
-    line_of (done + 1) (next s r.machine r.call).stamp (answer_text (reply s r.machine r.call)) ∷ lines_after (done + 1) (next s r.machine r.call) rs
+    line_of (done + 1) (next s r.machine r.call).stamp (answer_text (reply s r.machine r.call))
+    ∷ lines_after (done + 1) (next s r.machine r.call) rs
 
 -- the lines of the records that are left after a number of answered ones, and how the script ends
 abbrev pub lines_left : ℕ → ModelState → List Row → List (List ℕ)
 lines_left done s left = lines_after done s (requests_in (take (max_records - done) left))
 
 abbrev pub outcome_left : Bool → ℕ → List Row → Outcome
-outcome_left is_cut done left = end_of is_cut (done + length (requests_in (take (max_records - done) left))) (done + length left)
+outcome_left is_cut done left =
+    end_of is_cut (done + length (requests_in (take (max_records - done) left))) (done + length left)
 
--- a step: the line of the first record that is left is written, and the others are left; or the script ends; or the step
--- failed
-abbrev pub WritesNext : Bool → ℕ → ModelState → ModelState → List Row → Option (List ℕ) → Option (List ℕ) → (List Row → Type 0) → Result (Option Outcome) ReplayFault → Type 0
+-- a step: the line of the first record that is left is written, and the others are left; or the script ends; or the
+-- step failed
+abbrev pub WritesNext : Bool → ℕ → ModelState → ModelState → List Row → Option (List ℕ) → Option (List ℕ)
+    → (List Row → Type 0) → Result (Option Outcome) ReplayFault → Type 0
 WritesNext is_cut done s new_s left old new After (Ok None) =
-    (rest : List Row) × (line : List ℕ) × Appends old new line × (lines_left done s left ≡ line ∷ lines_left (done + 1) new_s rest)
+    (rest : List Row) × (line : List ℕ) × Appends old new line
+    × (lines_left done s left ≡ line ∷ lines_left (done + 1) new_s rest)
     × (outcome_left is_cut done left ≡ outcome_left is_cut (done + 1) rest) × After rest
-WritesNext is_cut done s new_s left old new After (Ok (Some outcome)) = (lines_left done s left ≡ []) × (outcome_left is_cut done left ≡ outcome) × Keeps old new
+WritesNext is_cut done s new_s left old new After (Ok (Some outcome)) =
+    (lines_left done s left ≡ []) × (outcome_left is_cut done left ≡ outcome) × Keeps old new
 WritesNext is_cut done s new_s left old new After (Err Read) = Keeps old new
 WritesNext is_cut done s new_s left old new After (Err Memory) = Keeps old new
 WritesNext is_cut done s new_s left old new After (Err Write) = WrotePrefix old new (concat (lines_left done s left))

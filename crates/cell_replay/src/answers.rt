@@ -125,7 +125,8 @@ fn answer_next<L: LentReader, K: Origin, W: Write>(
         WritesNext (is_cut_of bytes) done state.old state.new left
         (W.contents writer.old) (W.contents writer.new)
         (RowsLeft (λ r. bytes_left (L.left r.now.input) r.now.is_cut r.now.taken) (is_cut_of bytes)
-        records.new.reader records.new.holds (fields_of records.new.held) records.new.is_cut) result }
+        records.new.reader records.new.holds (fields_of records.new.held) records.new.is_cut)
+        result }
 {
     if !records.next()? {
         return Ok(Some(end(records.is_cut())));
@@ -165,7 +166,8 @@ fn push_start(text: &mut String, start: &State) -> Result<(), AllocError>
 
 /// Adds the line of a later record.
 fn push_line(text: &mut String, number: u32, stamp: u32, answer: Answer) -> Result<(), AllocError>
-    ensures { OnOk result (string_bytes text.new ≡ string_bytes text.old ++ line_of number stamp (answer_text answer)) }
+    ensures { OnOk result (string_bytes text.new
+        ≡ string_bytes text.old ++ line_of number stamp (answer_text answer)) }
 {
     writeln!(text, "{number} {stamp} {answer}")
 }

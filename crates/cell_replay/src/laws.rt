@@ -20,7 +20,8 @@ pub fn events_are_legal(script: &[u8])
 /// 65,537 if there are more.
 pub fn lines_are_counted(script: &[u8])
     ensures most { length (script_lines script.now) ≤ 65537 }
-    ensures bad_row { (number : ℕ) → script_outcome script.now ≡ Outcome.Refused (ScriptFault.BadRow number) →
+    ensures bad_row { (number : ℕ) →
+        script_outcome script.now ≡ Outcome.Refused (ScriptFault.BadRow number) →
         length (script_lines script.now) ≡ number }
     ensures clean { script_outcome script.now ≡ Outcome.Clean →
         length (script_lines script.now) ≡ length (script_rows script.now) }

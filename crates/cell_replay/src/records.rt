@@ -102,7 +102,8 @@ impl<'f, L: LentReader, K: Origin> Records<'f, L, K> {
         ensures left { OnOk result ((bytes : List ℕ) → K.bytes ≡ Some bytes → (rows : List Row) →
             HasRows (λ r. bytes_left (L.left r.now.input) r.now.is_cut r.now.taken)
             self.old.reader rows →
-            RowsLeft (λ r. bytes_left (L.left r.now.input) r.now.is_cut r.now.taken) (is_cut_of bytes)
+            RowsLeft (λ r. bytes_left (L.left r.now.input) r.now.is_cut r.now.taken)
+            (is_cut_of bytes)
             self.new.reader self.new.holds (fields_of self.new.held) self.new.is_cut
             (used (is_cut_of bytes) rows)) }
     {
@@ -116,10 +117,12 @@ impl<'f, L: LentReader, K: Origin> Records<'f, L, K> {
         ensures plain { OnOk result (IsPlain self.new.reader) }
         ensures gives { IfOk result (λ found. (bytes : List ℕ) → K.bytes ≡ Some bytes →
             (left : List Row) →
-            RowsLeft (λ r. bytes_left (L.left r.now.input) r.now.is_cut r.now.taken) (is_cut_of bytes)
+            RowsLeft (λ r. bytes_left (L.left r.now.input) r.now.is_cut r.now.taken)
+            (is_cut_of bytes)
             self.old.reader self.old.holds (fields_of self.old.held) self.old.is_cut left →
             GivesRow found (fields_of self.new.row) left self.new.is_cut (is_cut_of bytes)
-            (RowsLeft (λ r. bytes_left (L.left r.now.input) r.now.is_cut r.now.taken) (is_cut_of bytes)
+            (RowsLeft (λ r. bytes_left (L.left r.now.input) r.now.is_cut r.now.taken)
+            (is_cut_of bytes)
             self.new.reader self.new.holds (fields_of self.new.held) self.new.is_cut)) }
     {
         if !self.holds {

@@ -33,7 +33,8 @@ pub fn replay<R: Read, W: Write>(
     ensures text { OnOk result (IfSome (R.remaining reader.old) (λ bytes.
         Appends (W.contents writer.old) (W.contents writer.new) (script_text bytes))) }
     // The outcome is the one in that text.
-    ensures outcome { IfOk result (λ o. IfSome (R.remaining reader.old) (λ bytes. o ≡ script_outcome bytes)) }
+    ensures outcome { IfOk result
+        (λ o. IfSome (R.remaining reader.old) (λ bytes. o ≡ script_outcome bytes)) }
 
     // After a failed read, or out of memory: some first lines, each whole. After a failed write: a
     // prefix.

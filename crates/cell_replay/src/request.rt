@@ -16,7 +16,8 @@ pub struct Request {
 
 /// The request in a record, or `None` if the record has none.
 pub fn read_request(row: &ByteRecord) -> Option<Request>
-    ensures written { (request : Request) → (result ≡ Some request) ↔ (fields_of row.now ≡ request_fields request) }
+    ensures written { (request : Request)
+        → (result ≡ Some request) ↔ (fields_of row.now ≡ request_fields request) }
     ensures same { result ≡ request_of (fields_of row.now) }
 {
     if row.len() > 3 {
