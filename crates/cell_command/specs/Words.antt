@@ -1,9 +1,11 @@
 -- The program's words, as `clap` reads them.
-use Rattle.std.specs.Prelude.{◌≡◌, ◌≤◌, ℕ, List, [], ◌∷◌, codes, ◌⊎◌, Option, Some, None, true, ⊤, if◌then◌else◌}
+use Rattle.std.specs.Prelude.{◌≡◌, ◌≤◌, ℕ, List, [], ◌∷◌, map, codes, ◌⊎◌, Option, Some, None, true, ⊤, if◌then◌else◌}
+use Rattle.std.specs.Borrow.{Bor}
 use Rattle.std.specs.Option.{option_map_or}
 use Rattle.std.specs.Str.{bytes_eq}
 use Rattle.std.specs.Str.Parse.{digits_value, without_leading_plus}
-use Rattle.clap.specs.Words.{App, IsAmong, IsUnsignedIn, Row, Rule, Text, fault_of, new_app, new_rule, one_of, subcommand_of, with_rule, with_subcommand}
+use Rattle.clap.specs.Words.{App, IsAmong, IsUnsignedIn, Row, Rule, Text, fault_of, new_app, new_rule, one_of}
+use Rattle.clap.specs.Words.{subcommand_of, with_rule, with_subcommand}
 use Rattle.clap.specs.declared.builder.value_parser.ValueParser.TheVariants.{Unsigned}
 use Rattle.clap.specs.declared.error.kind.ErrorKind.TheVariants.{DisplayHelp}
 use Rattle.cell_command.specs.declared.words.Mode.{Mode}
@@ -26,11 +28,18 @@ max_tries = 64
 
 -- the word `run` with its flags
 abbrev pub run_command : App
-run_command = with_rule (with_rule (new_app (codes "run")) (number_flag (codes "turns") max_turns (codes "1000"))) (number_flag (codes "tries") max_tries (codes "8"))
+run_command =
+    with_rule (with_rule (new_app (codes "run")) (number_flag (codes "turns") max_turns (codes "1000")))
+    (number_flag (codes "tries") max_tries (codes "8"))
 
 -- the program `cell`, with the words `replay`, `sim` and `run`
 abbrev pub program : App
-program = with_subcommand (with_subcommand (with_subcommand (new_app (codes "cell")) (new_app (codes "replay")).top) (new_app (codes "sim")).top) run_command.top
+program =
+    with_subcommand
+    (with_subcommand
+    (with_subcommand (new_app (codes "cell")) (new_app (codes "replay")).top)
+    (new_app (codes "sim")).top)
+    run_command.top
 
 -- the number that a text spells, perhaps after a plus
 abbrev pub number_of : Text → ℕ
@@ -51,6 +60,10 @@ mode_named (Some (word, rows)) =
 abbrev pub mode_of : List Text → Mode
 mode_of words = mode_named (subcommand_of program words)
 
+-- the texts of words
+abbrev pub texts_of : List (Bor Text) → List Text
+texts_of words = map (λ w. w.now) words
+
 -- `clap` accepts the words; the first is the program's name
 abbrev pub AreTaken : List Text → Type 0
 AreTaken words = fault_of program words ≡ []
@@ -66,6 +79,11 @@ AskForReplay words = (name : Text) × ((words ≡ name ∷ []) ⊎ (words ≡ na
 -- they ask for a simulation: the program's name with the word `sim` after it
 abbrev pub AskForSim : List Text → Type 0
 AskForSim words = (name : Text) × (words ≡ name ∷ codes "sim" ∷ [])
+
+-- the program's name alone, or with one of its words after it
+abbrev pub AreBare : List Text → Type 0
+AreBare words =
+    AskForReplay words ⊎ (AskForSim words ⊎ ((name : Text) × (words ≡ name ∷ codes "run" ∷ [])))
 
 -- they ask for a run with these turns and tries: `clap` accepts them, and the word `run` follows the program's name
 abbrev pub AskForRun : ℕ → ℕ → List Text → Type 0
@@ -84,4 +102,6 @@ HasNumber flag most rows = (text : Text) × (one_of flag rows ≡ Some text) × 
 -- if the word `run` was found, its flags have their numbers
 abbrev pub HasNumbers : Option (Text × List Row) → Type 0
 HasNumbers None = ⊤
-HasNumbers (Some (word, rows)) = bytes_eq word (codes "run") ≡ true → HasNumber (codes "turns") max_turns rows × HasNumber (codes "tries") max_tries rows
+HasNumbers (Some (word, rows)) =
+    bytes_eq word (codes "run") ≡ true
+    → HasNumber (codes "turns") max_turns rows × HasNumber (codes "tries") max_tries rows

@@ -34,7 +34,8 @@ impl<E: Env> Env for WithoutName<'_, E> {
 ///
 /// `InvalidData` if a word after the name isn't UTF-8, and `OutOfMemory` if memory ran out.
 pub fn words_of<E: Env>(alloc: Global, env: &E) -> io::Result<Vec<String>>
-    ensures { IfOk result (λ words. (rest : List (List ℕ)) × (map string_bytes words.items ≡ codes "cell" ∷ rest)) }
+    ensures { IfOk result
+        (λ words. (rest : List (List ℕ)) × (map string_bytes words.items ≡ codes "cell" ∷ rest)) }
 {
     let arguments = (WithoutName { env }, alloc);
     let mut rest: Vec<String> = env::args(&arguments)?.collect(alloc)?;

@@ -1,10 +1,12 @@
 //! The program's words.
 
-ghost use Rattle.std.specs.Prelude.{◌≡◌, ◌<◌, ◌^◌, [], ◌∷◌, ℕ, List, map, codes, false, IfErr, IfOk, OnOk};
-ghost use Rattle.clap.specs.Words.{app_of, fault_of, found_of, kind_of, new_app, rows_of, rule_of, subcommand_rows_of, with_subcommand, HasKind};
+ghost use Rattle.std.specs.Prelude.{◌≡◌, ◌<◌, ◌^◌, [], ◌∷◌, ℕ, List, codes, false, IfErr, IfOk, OnOk};
+ghost use Rattle.clap.specs.Words.{app_of, fault_of, found_of, kind_of, new_app, rows_of, rule_of};
+ghost use Rattle.clap.specs.Words.{subcommand_rows_of, with_subcommand, HasKind};
 ghost use Rattle.clap.specs.declared.builder.command.Command.TheViews.{out-Command as fields_of};
 ghost use Rattle.cell_command.specs.Words as words;
-ghost use Rattle.cell_command.specs.Words.{AreTaken, HasNumber, HasNumbers, IsWithin, mode_of, number_in, program, run_command};
+ghost use Rattle.cell_command.specs.Words.{AreBare, AreTaken, HasNumber, HasNumbers, IsWithin, mode_of};
+ghost use Rattle.cell_command.specs.Words.{number_in, program, run_command, texts_of};
 ghost use Rattle.cell_command.specs.declared.words.Mode.TheVariants.{Run};
 
 use crate::help;
@@ -37,26 +39,20 @@ const MAX_TRIES: u64 = 64;
 pub fn read_words(alloc: Global, words: &[&str]) -> Result<Mode, Error>
     // The mode is that of the word after the name, with the numbers of its flags, as `clap` finds
     // them.
-    ensures mode { IfOk result (λ mode. mode ≡ mode_of (map (λ w. w.now) words.now)) }
+    ensures mode { IfOk result (λ mode. mode ≡ mode_of (texts_of words.now)) }
     // A run has 1 to 100,000 turns and 1 to 64 tries.
     ensures within { IfOk result IsWithin }
     // `clap` accepts the words.
-    ensures taken { OnOk result (AreTaken (map (λ w. w.now) words.now)) }
+    ensures taken { OnOk result (AreTaken (texts_of words.now)) }
     // `clap` refuses the words for this, or memory ran out.
-    ensures refused { IfErr result (HasKind (fault_of program (map (λ w. w.now) words.now))) }
+    ensures refused { IfErr result (HasKind (fault_of program (texts_of words.now))) }
 
     // With the program's name alone, or with one word after it, the only error is out of memory.
-    ensures plain { (name : List ℕ) → map (λ w. w.now) words.now ≡ name ∷ [] →
-        IfErr result (λ e. kind_of e ≡ ErrorKind.OutOfMemory) }
-    ensures replay { (name : List ℕ) → map (λ w. w.now) words.now ≡ name ∷ codes "replay" ∷ [] →
-        IfErr result (λ e. kind_of e ≡ ErrorKind.OutOfMemory) }
-    ensures sim { (name : List ℕ) → map (λ w. w.now) words.now ≡ name ∷ codes "sim" ∷ [] →
-        IfErr result (λ e. kind_of e ≡ ErrorKind.OutOfMemory) }
-    ensures run { (name : List ℕ) → map (λ w. w.now) words.now ≡ name ∷ codes "run" ∷ [] →
+    ensures bare { AreBare (texts_of words.now) →
         IfErr result (λ e. kind_of e ≡ ErrorKind.OutOfMemory) }
 
     // Without flags a run has 1,000 turns and 8 tries.
-    ensures defaults { (name : List ℕ) → map (λ w. w.now) words.now ≡ name ∷ codes "run" ∷ [] →
+    ensures defaults { (name : List ℕ) → texts_of words.now ≡ name ∷ codes "run" ∷ [] →
         IfOk result (λ mode. mode ≡ Run 1000 8) }
 {
     let command = command(alloc)?;
@@ -84,7 +80,8 @@ fn with_word<'a>(
     before: &'a str,
     after: &'a str,
 ) -> Result<Command<'a>, AllocError>
-    ensures { IfOk result (λ r. app_of r ≡ with_subcommand (app_of command.entry) (new_app name.now).top) }
+    ensures { IfOk result
+        (λ r. app_of r ≡ with_subcommand (app_of command.entry) (new_app name.now).top) }
 {
     command.subcommand(command_with_help(alloc, name, before, after))
 }
@@ -157,7 +154,8 @@ fn mode_of(matches: &ArgMatches<'_>) -> Mode
 
 /// The number of a flag, or its default.
 fn number_in(flags: &ArgMatches<'_>, flag: &str) -> u32
-    requires { (most : ℕ) × (most < 2 ^ 32) × HasNumber flag.now most (rows_of (found_of flags.now)) }
+    requires { (most : ℕ) × (most < 2 ^ 32)
+        × HasNumber flag.now most (rows_of (found_of flags.now)) }
     ensures { result ≡ words.number_in flag.now (rows_of (found_of flags.now)) }
 {
     let Some(number) = flags.get_one::<u32>(flag) else {

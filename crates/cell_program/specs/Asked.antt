@@ -1,14 +1,9 @@
 -- What words ask for.
-use Rattle.std.specs.Prelude.{◌≡◌, List, [], ◌∷◌, codes, map}
-use Rattle.std.specs.Borrow.{Bor}
+use Rattle.std.specs.Prelude.{◌≡◌, List, [], ◌∷◌, codes}
 use Rattle.clap.specs.Words.{Text}
 use Rattle.cell_command.specs.Words.{AreTaken, AskForReplay, AskForSim, mode_of}
 use Rattle.cell_command.specs.declared.words.Mode.{Mode}
 use Rattle.cell_command.specs.declared.words.Mode.TheVariants.{Replay, Sim}
-
--- the texts of words
-abbrev pub texts_of : List (Bor Text) → List Text
-texts_of words = map (λ w. w.now) words
 
 -- `clap` accepts the words, and they ask for this
 abbrev pub AskFor : Mode → List Text → Type 0

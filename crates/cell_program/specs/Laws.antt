@@ -43,15 +43,18 @@ press_released _ = []
 -- The end of a run is left open only if no history gives its journals. It is the start if no machine noted anything. It
 -- is left open if the press noted a release of a zone that it never held.
 pub record EndsAreFound : Type 0 where
-  pub known : (start : ModelState) (journals : Machine → List Entry) (history : List Event) → IsAudited start journals None history → ¬ EndsAsAudited start journals None
+  pub known : (start : ModelState) (journals : Machine → List Entry) (history : List Event)
+      → IsAudited start journals None history → ¬ EndsAsAudited start journals None
   pub nothing : (start : ModelState) (end : Option ModelState) → EndsAsAudited start no_journals end → end ≡ Some start
   pub differs : (end : Option ModelState) → EndsAsAudited (start_state empty 0) press_released end → end ≡ None
 
 -- in a run by six workers each machine takes its turns, and no gate keeps it out
 pub record TurnsAreTold : Type 0 where
-  pub turns : (c : CellScales) (opening : ModelState) (tries limit : ℕ) (r : RunRecord) (did : Machine → Counts) (statuses : Machine → Status)
-      → TellsWorkers c opening tries limit r → r.counts ≡ map did all_machines → r.status ≡ map statuses all_machines
-      → (m : Machine) → is_at_work m ≡ true → HadTurns limit (λ turn. true) (did m) (statuses m) (journal_of r.journals m) × (statuses m ≢ GateLimit)
+  pub turns : (c : CellScales) (opening : ModelState) (tries limit : ℕ) (r : RunRecord)
+      → (did : Machine → Counts) (fares : Machine → Status)
+      → TellsWorkers c opening tries limit r → r.counts ≡ map did all_machines → r.status ≡ map fares all_machines
+      → (m : Machine) → is_at_work m ≡ true
+      → HadTurns limit (λ turn. true) (did m) (fares m) (journal_of r.journals m) × (fares m ≢ GateLimit)
 
 -- every machine is fine
 abbrev pub EachIsFine : RunRecord → Type 0
@@ -63,16 +66,21 @@ IsWell r = EachIsFine r × ((history : List Event) × IsAudited r.start (journal
 
 -- each machine that works had this number of turns
 abbrev pub EachHadTurns : ℕ → RunRecord → Type 0
-EachHadTurns turns r = (did : Machine → Counts) → r.counts ≡ map did all_machines → (m : Machine) → is_at_work m ≡ true → (did m).turns ≡ turns
+EachHadTurns turns r =
+    (did : Machine → Counts) → r.counts ≡ map did all_machines → (m : Machine) → is_at_work m ≡ true
+    → (did m).turns ≡ turns
 
 -- Status 0, by the text that was written: of a clean script; or the report of a simulation or a run in which every
 -- machine is fine, with `audit ok`. In a run each machine had all its turns, and the audit found a history.
 pub record StatusZeroIsWell : Type 0 where
   pub reported : (r : RunRecord) (old new : Option (List ℕ)) → ReportTold Well r old new → IsWell r
-  pub replayed : (bytes text : List ℕ) → WasReplayed (Some bytes) (Some []) (Some text) → (text ≡ script_text bytes) × (script_outcome bytes ≡ Clean)
-  pub simulated : (bytes text : List ℕ) → WasSimulated (Some bytes) (Some []) (Some text) → (r : RunRecord) × TellsRunOf bytes r × (text ≡ report_text r None) × EachIsFine r
+  pub replayed : (bytes text : List ℕ) → WasReplayed (Some bytes) (Some []) (Some text)
+      → (text ≡ script_text bytes) × (script_outcome bytes ≡ Clean)
+  pub simulated : (bytes text : List ℕ) → WasSimulated (Some bytes) (Some []) (Some text)
+      → (r : RunRecord) × TellsRunOf bytes r × (text ≡ report_text r None) × EachIsFine r
   pub ran : (turns tries : ℕ) (bytes text : List ℕ) → WasRun turns tries (Some bytes) (Some []) (Some text)
-      → (r : RunRecord) × TellsWorkersOf turns tries bytes r × (text ≡ report_text r None) × IsWell r × EachHadTurns turns r
+      → (r : RunRecord) × TellsWorkersOf turns tries bytes r × (text ≡ report_text r None) × IsWell r
+      × EachHadTurns turns r
 
 -- lines of faults
 pub record FaultLinesAreMet : Type 0 where

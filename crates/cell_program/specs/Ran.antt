@@ -16,7 +16,9 @@ but_end r = record r { end = None }
 
 -- the end is the state after a legal history that gives the journals; if it is left open, no history gives them
 abbrev pub EndsAsAudited : ModelState → (Machine → List Entry) → Option ModelState → Type 0
-EndsAsAudited start journals end = MatchOption end (HasNoHistory start journals None) (λ reached. (history : List Event) × IsAudited start journals (Some reached) history)
+EndsAsAudited start journals end =
+    MatchOption end (HasNoHistory start journals None)
+    (λ reached. (history : List Event) × IsAudited start journals (Some reached) history)
 
 -- a record says what six workers did with a gate that is always open, and in which state they left the cell
 pub record TellsWorkers (scales : CellScales) (opening : ModelState) (tries turns : ℕ) (r : RunRecord) : Type 0 where

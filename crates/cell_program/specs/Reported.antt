@@ -23,7 +23,9 @@ AreFine status = All (λ s. s ≡ Fine) status
 -- and then, unless memory ran out, there is no such history
 abbrev pub AuditFinds : RunRecord → Option AuditFault → Type 0
 AuditFinds r None = (history : List Event) × IsAudited r.start (journal_of r.journals) r.end history
-AuditFinds r (Some fault) = IsFault r.start (journal_of r.journals) r.end fault × (fault ≢ AuditMemory → HasNoHistory r.start (journal_of r.journals) r.end)
+AuditFinds r (Some fault) =
+    IsFault r.start (journal_of r.journals) r.end fault
+    × (fault ≢ AuditMemory → HasNoHistory r.start (journal_of r.journals) r.end)
 
 -- a machine was stopped, or the audit rejected the run
 abbrev pub IsAmiss : RunRecord → Option AuditFault → Type 0

@@ -25,7 +25,8 @@ fault_line text = codes "fault " ++ (text ++ codes "\n")
 
 -- the rest of the input is a clean script, and its text was written
 abbrev pub WasReplayed : Option (List ℕ) → Option (List ℕ) → Option (List ℕ) → Type 0
-WasReplayed remaining old new = IfSome remaining (λ bytes. Appends old new (script_text bytes) × (script_outcome bytes ≡ Clean))
+WasReplayed remaining old new =
+    IfSome remaining (λ bytes. Appends old new (script_text bytes) × (script_outcome bytes ≡ Clean))
 
 -- The replay failed: the script was refused, and its whole text was written, which says so; or a prefix of its text was
 -- written; or some of its lines, each whole, and then a prefix of the fault's line, for a failed read or for memory.
@@ -33,7 +34,8 @@ abbrev pub ReplayFails : List ℕ → Option (List ℕ) → Option (List ℕ) �
 ReplayFails bytes old new =
     (Appends old new (script_text bytes) × ((fault : ScriptFault) × (script_outcome bytes ≡ Refused fault)))
     ⊎ (WrotePrefix old new (script_text bytes)
-    ⊎ ((between : Option (List ℕ)) × (WroteLines old between (script_lines bytes) × (WrotePrefix between new (fault_line (codes "read")) ⊎ WrotePrefix between new (fault_line (codes "memory"))))))
+    ⊎ ((between : Option (List ℕ)) × (WroteLines old between (script_lines bytes)
+    × (WrotePrefix between new (fault_line (codes "read")) ⊎ WrotePrefix between new (fault_line (codes "memory"))))))
 
 -- a record is of the run of the configuration that the bytes give
 pub record TellsRunOf (bytes : List ℕ) (r : RunRecord) : Type 0 where
@@ -46,7 +48,9 @@ pub record TellsRunOf (bytes : List ℕ) (r : RunRecord) : Type 0 where
 -- the cell was simulated, no machine was stopped, and the report was written, with the line that the audit found a
 -- history
 abbrev pub WasSimulated : Option (List ℕ) → Option (List ℕ) → Option (List ℕ) → Type 0
-WasSimulated remaining old new = IfSome remaining (λ bytes. (r : RunRecord) × (TellsRunOf bytes r × (AreFine r.status × Appends old new (report_text r None))))
+WasSimulated remaining old new =
+    IfSome remaining (λ bytes. (r : RunRecord)
+    × (TellsRunOf bytes r × (AreFine r.status × Appends old new (report_text r None))))
 
 -- the audit fails only if memory runs out
 abbrev pub IsAuditOf : Option AuditFault → Type 0
@@ -61,7 +65,8 @@ SimFails bytes old new =
     ((fault : ConfigFault) × (Says bytes (Err fault) × WrotePrefix old new (fault_line (config_fault_text fault))))
     ⊎ (WrotePrefix old new (fault_line (codes "memory"))
     ⊎ ((r : RunRecord) × (audit : Option AuditFault) × (TellsRunOf bytes r × (IsAuditOf audit
-    × ((Appends old new (report_text r audit) × ((¬ AreFine r.status) ⊎ (audit ≡ Some AuditMemory))) ⊎ WrotePrefix old new (report_text r audit))))))
+    × ((Appends old new (report_text r audit) × ((¬ AreFine r.status) ⊎ (audit ≡ Some AuditMemory)))
+    ⊎ WrotePrefix old new (report_text r audit))))))
 
 -- a record is of a run by six workers of the configuration that the bytes give
 pub record TellsWorkersOf (turns tries : ℕ) (bytes : List ℕ) (r : RunRecord) : Type 0 where
@@ -74,7 +79,8 @@ pub record TellsWorkersOf (turns tries : ℕ) (bytes : List ℕ) (r : RunRecord)
 -- the cell was run, no machine was stopped, the audit found a history, and the report was written
 abbrev pub WasRun : ℕ → ℕ → Option (List ℕ) → Option (List ℕ) → Option (List ℕ) → Type 0
 WasRun turns tries remaining old new =
-    IfSome remaining (λ bytes. (r : RunRecord) × (TellsWorkersOf turns tries bytes r × (AreFine r.status × (AuditFinds r None × Appends old new (report_text r None)))))
+    IfSome remaining (λ bytes. (r : RunRecord) × (TellsWorkersOf turns tries bytes r
+    × (AreFine r.status × (AuditFinds r None × Appends old new (report_text r None)))))
 
 -- The run failed: the configuration was refused, memory ran out, or a worker couldn't be started, and a prefix of the
 -- fault's line was written; or a machine was stopped or the audit rejected the run, and the report was written; or only

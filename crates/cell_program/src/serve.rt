@@ -5,9 +5,9 @@ ghost use Rattle.clap.specs.Words.{kind_of};
 ghost use Rattle.cell_text.specs.Output.{WrotePrefix};
 ghost use Rattle.cell_text.specs.Input.{TakesAtMost};
 ghost use Rattle.cell_replay.specs.Script.{max_bytes_read};
-ghost use Rattle.cell_program.specs.Asked.{AskFor, texts_of};
+ghost use Rattle.cell_program.specs.Asked.{AskFor};
 ghost use Rattle.cell_program.specs.Served.{Replays, Runs, Simulates, fault_line};
-ghost use Rattle.cell_command.specs.Words.{AreTaken, AskForHelp, AskForRun};
+ghost use Rattle.cell_command.specs.Words.{AreTaken, AskForHelp, AskForRun, texts_of};
 
 use crate::exit::Exit;
 use crate::faults::{fail, write_prefix};

@@ -1,10 +1,10 @@
-use Rattle.std.proofs.Common.{ap, ap₂, refl, sym, codes, true, map, List, [], ◌∷◌, ◌≡◌, ◌∙◌, subst, inl, Result, Ok, Err, IfErr, rules}
+use Rattle.std.proofs.Common.{ap, ap₂, refl, sym, codes, true, List, [], ◌∷◌, ◌≡◌, ◌∙◌, subst, inl, inr, Result, Ok, Err, IfErr, rules}
 use Rattle.clap.specs.Words.{App, HasKind, HasMatchesOf, Kinds, Text, fault_of, is_simple, is_simple_and_free, kind_of, subcommand_of, subcommand_rows_of, takes}
 use Rattle.clap.specs.declared.parser.matches.ArgMatches.{ArgMatches}
 use Rattle.clap.specs.declared.error.Error.{Error}
 use Rattle.clap.specs.declared.error.kind.ErrorKind.TheVariants as ErrorKind
 use Rattle.clap.proofs.OnLiterals.{clap_on_literals}
-use Rattle.cell_command.specs.Words.{HasNumbers, mode_named, mode_of, program}
+use Rattle.cell_command.specs.Words.{AreBare, HasNumbers, mode_named, mode_of, program, texts_of}
 use Rattle.cell_command.specs.declared.words.Mode.{Mode}
 use Rattle.cell_command.specs.declared.words.Mode.TheVariants.{Run}
 use Rattle.cell_command.proofs.FlagLemmas.{run_has_numbers}
@@ -34,6 +34,12 @@ run_is_taken : (name : Text) → takes program (name ∷ codes "run" ∷ []) ≡
 unfolding clap_on_literals
 run_is_taken name = refl
 
+bare_are_taken : (words : List Text) → AreBare words → takes program words ≡ true
+bare_are_taken words (inl (name, inl e)) = ap (takes program) e ∙ plain_is_taken name
+bare_are_taken words (inl (name, inr e)) = ap (takes program) e ∙ replay_is_taken name
+bare_are_taken words (inr (inl (name, e))) = ap (takes program) e ∙ sim_is_taken name
+bare_are_taken words (inr (inr (name, e))) = ap (takes program) e ∙ run_is_taken name
+
 run_by_default : (name : Text) → mode_of (name ∷ codes "run" ∷ []) ≡ Run 1000 8
 unfolding clap_on_literals
 run_by_default name = refl
@@ -49,7 +55,7 @@ met_alike a words m same h = (subst (λ x. HasMatchesOf x words m) same h progra
 pub mode_of-requires : goal.mode_of-requires
 mode_of-requires c =
     let clean = clean_alike _ _ _ c.in_ok-command.ensures (c.in-Ok.ensures.kinds (ap is_simple_and_free c.in_ok-command.ensures ∙ program_is_free)) in
-    subst HasNumbers (sym (met_alike _ _ _ c.in_ok-command.ensures c.in-Ok.ensures.matches)) (run_has_numbers (map (λ w. w.now) c.args.words.now) clean)
+    subst HasNumbers (sym (met_alike _ _ _ c.in_ok-command.ensures c.in-Ok.ensures.matches)) (run_has_numbers (texts_of c.args.words.now) clean)
 
 pub returns-in-Ok-clause-taken : goal.returns-in-Ok-clause-taken
 returns-in-Ok-clause-taken c = clean_alike _ _ _ c.in_ok-command.ensures (c.in-Ok.ensures.kinds (ap is_simple_and_free c.in_ok-command.ensures ∙ program_is_free))
@@ -57,17 +63,8 @@ returns-in-Ok-clause-taken c = clean_alike _ _ _ c.in_ok-command.ensures (c.in-O
 pub returns-in-Ok-clause-defaults : goal.returns-in-Ok-clause-defaults
 returns-in-Ok-clause-defaults c = λ name e. c.mode_of.ensures.mode ∙ (ap mode_named (met_alike _ _ _ c.in_ok-command.ensures c.in-Ok.ensures.matches) ∙ (ap mode_of e ∙ run_by_default name))
 
-pub returns-in-Err-clause-plain : goal.returns-in-Err-clause-plain
-returns-in-Err-clause-plain c = λ name e. c.in-Err.ensures.passes (ap₂ takes c.in_ok-command.ensures e ∙ plain_is_taken name)
-
-pub returns-in-Err-clause-replay : goal.returns-in-Err-clause-replay
-returns-in-Err-clause-replay c = λ name e. c.in-Err.ensures.passes (ap₂ takes c.in_ok-command.ensures e ∙ replay_is_taken name)
-
-pub returns-in-Err-clause-sim : goal.returns-in-Err-clause-sim
-returns-in-Err-clause-sim c = λ name e. c.in-Err.ensures.passes (ap₂ takes c.in_ok-command.ensures e ∙ sim_is_taken name)
-
-pub returns-in-Err-clause-run : goal.returns-in-Err-clause-run
-returns-in-Err-clause-run c = λ name e. c.in-Err.ensures.passes (ap₂ takes c.in_ok-command.ensures e ∙ run_is_taken name)
+pub returns-in-Err-clause-bare : goal.returns-in-Err-clause-bare
+returns-in-Err-clause-bare c = λ k. c.in-Err.ensures.passes (ap₂ takes c.in_ok-command.ensures refl ∙ bare_are_taken (texts_of c.args.words.now) k)
 
 pub returns-in-Ok-clause-mode : goal.returns-in-Ok-clause-mode
 returns-in-Ok-clause-mode c = c.mode_of.ensures.mode ∙ ap mode_named (met_alike _ _ _ c.in_ok-command.ensures c.in-Ok.ensures.matches)
@@ -76,7 +73,7 @@ pub returns-in-Ok-clause-within : goal.returns-in-Ok-clause-within
 returns-in-Ok-clause-within c = c.mode_of.ensures.within
 
 pub returns-in-Err-clause-refused : goal.returns-in-Err-clause-refused
-returns-in-Err-clause-refused c = subst (λ a. HasKind (fault_of a (map (λ w. w.now) c.args.words.now)) c.in-Err.error) c.in_ok-command.ensures (c.in-Err.ensures.kinds (ap is_simple_and_free c.in_ok-command.ensures ∙ program_is_free))
+returns-in-Err-clause-refused c = subst (λ a. HasKind (fault_of a (texts_of c.args.words.now)) c.in-Err.error) c.in_ok-command.ensures (c.in-Err.ensures.kinds (ap is_simple_and_free c.in_ok-command.ensures ∙ program_is_free))
 
 -- without room for the command the error is out of memory
 no_room : (c : goal.After-from_residual) → IfErr c.from_residual.result (λ e. kind_of e ≡ ErrorKind.OutOfMemory)
@@ -87,16 +84,7 @@ has_kind (Ok mode) kinds h = tt
 has_kind (Err e) kinds h = inl h
 
 pub returns-in_err-command-clause-refused : goal.returns-in_err-command-clause-refused
-returns-in_err-command-clause-refused c = has_kind c.from_residual.result (fault_of program (map (λ w. w.now) c.args.words.now)) (no_room c)
+returns-in_err-command-clause-refused c = has_kind c.from_residual.result (fault_of program (texts_of c.args.words.now)) (no_room c)
 
-pub returns-in_err-command-clause-plain : goal.returns-in_err-command-clause-plain
-returns-in_err-command-clause-plain c = λ name e. no_room c
-
-pub returns-in_err-command-clause-replay : goal.returns-in_err-command-clause-replay
-returns-in_err-command-clause-replay c = λ name e. no_room c
-
-pub returns-in_err-command-clause-sim : goal.returns-in_err-command-clause-sim
-returns-in_err-command-clause-sim c = λ name e. no_room c
-
-pub returns-in_err-command-clause-run : goal.returns-in_err-command-clause-run
-returns-in_err-command-clause-run c = λ name e. no_room c
+pub returns-in_err-command-clause-bare : goal.returns-in_err-command-clause-bare
+returns-in_err-command-clause-bare c = λ k. no_room c

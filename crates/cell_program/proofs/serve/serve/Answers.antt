@@ -1,6 +1,6 @@
 use Rattle.std.proofs.Common.{sym}
 use Rattle.cell_command.proofs.Asked.{run_asked}
-use Rattle.cell_program.specs.Asked.{texts_of}
+use Rattle.cell_command.specs.Words.{texts_of}
 use Rattle.cell_program.proofs.AskLemmas.{no_room}
 use Rattle.cell_program.proofs.ServeLemmas.{replay_unread, replays, run_unread, runs, sim_unread, simulates}
 use Rattle.cell_program.proofs.serve.serve.Goals as goal
