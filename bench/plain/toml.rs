@@ -4,7 +4,7 @@
 use std::collections::BTreeMap;
 
 /// The most parts of a key, and the most arrays and inline tables in one another.
-const MOST_DEEP: usize = 80;
+const MAX_DEPTH: usize = 80;
 
 pub enum Value {
     Text(String),
@@ -118,7 +118,7 @@ pub fn read(bytes: &[u8]) -> Option<Table> {
             reader.wants(if is_array { "]]" } else { "]" })?;
             root.open(&header, is_array)?;
         } else {
-            let (key, value) = reader.pair(MOST_DEEP)?;
+            let (key, value) = reader.pair(MAX_DEPTH)?;
             root.passed(&header)?.put(key, value)?;
         }
         reader.spaces();
@@ -192,7 +192,7 @@ impl<'a> Reader<'a> {
             parts.push(part);
             self.spaces();
             if !self.takes(".") {
-                return (parts.len() <= MOST_DEEP).then_some(parts);
+                return (parts.len() <= MAX_DEPTH).then_some(parts);
             }
             self.spaces();
         }
