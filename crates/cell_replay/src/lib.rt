@@ -7,10 +7,10 @@ pub mod laws;
 mod lent;
 mod limited;
 mod records;
-pub mod replay;
+pub mod replay_script;
 mod request;
 pub mod script;
 mod script_start;
 
-pub use replay::replay;
+pub use replay_script::replay;
 pub use script::{Outcome, ReplayFault, ScriptFault};

@@ -1,7 +1,7 @@
 use Rattle.std.proofs.KnownBytes.{Keeps-refl}
 use Rattle.std.specs.Io.KnownBytes.{append_known}
 use Rattle.cell_replay.proofs.BufferedWrites.{script-cut}
-use Rattle.cell_replay.proofs.replay.finish.Goals as goal
+use Rattle.cell_replay.proofs.replay_script.finish.Goals as goal
 
 pub returns-then-eq : goal.returns-then-eq
 returns-then-eq g c = record {

@@ -1,4 +1,4 @@
-use Rattle.cell_replay.proofs.replay.replay.Given as goal
+use Rattle.cell_replay.proofs.replay_script.replay.Given as goal
 
 abbrev pub ghosts-replay_lent : goal.ghosts-replay_lent
 ghosts-replay_lent g a = record {

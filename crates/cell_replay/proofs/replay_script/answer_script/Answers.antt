@@ -2,7 +2,7 @@ use Rattle.std.proofs.Common.{Ok, Err, refl, take}
 use Rattle.csv.specs.Reading.{default_config, records, strip_bom}
 use Rattle.cell_replay.specs.Script.{byte_limit, script_rows}
 use Rattle.cell_replay.proofs.Writings.{script-ends, script-fails, script-stops, script-written}
-use Rattle.cell_replay.proofs.replay.answer_script.Goals as goal
+use Rattle.cell_replay.proofs.replay_script.answer_script.Goals as goal
 
 pub returns-in_err-begin : goal.returns-in_err-begin
 returns-in_err-begin g c = record {

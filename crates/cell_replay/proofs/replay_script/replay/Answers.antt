@@ -1,6 +1,6 @@
 use Rattle.std.proofs.Common.{rules}
 use Rattle.cell_replay.proofs.Writings.{written-outcome, written-text}
-use Rattle.cell_replay.proofs.replay.replay.Goals as goal
+use Rattle.cell_replay.proofs.replay_script.replay.Goals as goal
 
 pub returns-clause-text : goal.returns-clause-text
 returns-clause-text g c =

@@ -1,6 +1,6 @@
 use Rattle.std.proofs.Common.{sym, ap, refl, ◌∙◌}
 use Rattle.cell_replay.proofs.BufferedWrites.{append_known-none, script-same}
-use Rattle.cell_replay.proofs.replay.replay_lent.Goals as goal
+use Rattle.cell_replay.proofs.replay_script.replay_lent.Goals as goal
 
 pub returns-clause-script : goal.returns-clause-script
 returns-clause-script g c bytes is =
