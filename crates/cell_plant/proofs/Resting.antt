@@ -10,7 +10,7 @@ use Rattle.cell_control.specs.Rigs.{Rig}
 use Rattle.cell_control.specs.Steps.{Steps}
 use Rattle.cell_control.specs.Turns.{Performed, Turned, Turns, turned}
 use Rattle.cell_notes.specs.Asks.{TurnCall, done_in}
-use Rattle.cell_seat.specs.Sides.{Side, Acts, ActsAndMoves, act_or_rest, noting, part_set}
+use Rattle.cell_unit.specs.Sides.{Side, Acts, ActsAndMoves, act_or_rest, noting, part_set}
 use Rattle.cell_parts.specs.Axes.{CellScales}
 use Rattle.cell_plant.specs.CellStates.{SideOf}
 use Rattle.cell_plant.specs.Machines.{ProgressOf, PartOf, steps_of, rig_of}

@@ -19,11 +19,11 @@ use Rattle.cell_control.specs.Turns.{Performed, PerformsCall, at_rest, turned}
 use Rattle.cell_control.proofs.TurnMaps.{turn_either}
 use Rattle.cell_haul.specs.declared.feed.FeedProgress.{FeedProgress}
 use Rattle.cell_control.specs.declared.fault.CtlFault.TheVariants.{Memory}
-use Rattle.cell_stations.specs.declared.table_step.TableProgress.{TableProgress}
-use Rattle.cell_stations.specs.declared.press_step.PressProgress.{PressProgress}
+use Rattle.cell_stations.specs.declared.table.TableProgress.{TableProgress}
+use Rattle.cell_stations.specs.declared.press.PressProgress.{PressProgress}
 use Rattle.cell_notes.specs.Asks.{TurnCall}
-use Rattle.cell_seat.specs.Sides.{Side, side_of, side_set, side_moved}
-use Rattle.cell_seat.specs.SeatTurns.{Answers, Takes}
+use Rattle.cell_unit.specs.Sides.{Side, side_of, side_set, side_moved}
+use Rattle.cell_unit.specs.UnitTurns.{Answers, Takes}
 use Rattle.cell_parts.specs.declared.axis.Axis.{Axis}
 use Rattle.cell_parts.specs.declared.belt.Belt.{Belt}
 use Rattle.cell_parts.specs.Axes.{CellScales}

@@ -27,7 +27,7 @@ use Rattle.cell_robot.specs.RobotProgram.{RobotScales, near_lines, robot_rest, r
 use Rattle.cell_stations.specs.PressProgram.{press_steps}
 use Rattle.cell_stations.specs.TableProgram.{table_steps}
 use Rattle.cell_notes.specs.Asks.{TurnCall, done_in}
-use Rattle.cell_seat.specs.Sides.{Side, noting, act_or_rest, side_set}
+use Rattle.cell_unit.specs.Sides.{Side, noting, act_or_rest, side_set}
 use Rattle.cell_parts.specs.Rigs.{table_rig, robot_rig, press_rig, crane_rig}
 use Rattle.cell_parts.specs.Axes.{CellScales, AreCellScales}
 use Rattle.cell_parts.specs.Collisions.{LetsGo, Arm1MayLetGo, Arm2MayLetGo, CraneMayLetGo, PlateFalls, DrivesPastEnd}

@@ -89,7 +89,7 @@ first_false : (a b : Bool) → a ≡ false → (a && b) ≡ false
 first_false a b e = rw e refl
 
 -- a turn of a working machine leaves everything else as it was
-module _ (m : Machine) (busy : Bool) (before now : Moment) (asked : TurnCall) (controlled : is_at_work m ≡ true)
+module _ (m : Machine) (busy : Bool) (before now : RunMoment) (asked : TurnCall) (controlled : is_at_work m ≡ true)
     (leads : LeadsAlone (is_none (side_in before.sides m).stopped) (steps_of before.scales m) (rig_of before.scales m) busy before.interlock (side_in before.sides m) asked now.interlock (side_in now.sides m))
     (history : now.history ≡ before.history ++ settled_in m asked)
     (noted : notes_in now.notes m ≡ (if is_none (side_in before.sides m).stopped then notes_with (notes_in before.notes m) asked else notes_in before.notes m))
@@ -212,7 +212,7 @@ pub crane_near : (points : Scale) (gives : ℕ → ℤ → Type 0) (rig : Rig Cr
     → UnitTurn (crane_steps points gives) rig busy old new before now notes notes' → UnitTurn (crane_steps points (IsReading points)) rig busy old new before now notes notes'
 crane_near points gives rig busy old new before now notes notes' k = unit_turn_still (crane_steps points gives) rig (CraneSenses points (IsReading points)) (crane_senses_near points gives) busy old new before now notes notes' k
 
-module _ (before now : Moment) (busy : Bool) (asked : TurnCall) (scales : now.scales ≡ before.scales) (opening : now.opening ≡ before.opening) where
+module _ (before now : RunMoment) (busy : Bool) (asked : TurnCall) (scales : now.scales ≡ before.scales) (opening : now.opening ≡ before.opening) where
   -- a machine's turn, which changes its own side and leaves the others
   alone_on : (m : Machine) → is_at_work m ≡ true
       → LeadsAlone (is_none (side_in before.sides m).stopped) (steps_of before.scales m) (rig_of before.scales m) busy before.interlock (side_in before.sides m) asked now.interlock (side_in now.sides m)

@@ -4,8 +4,8 @@ use Rattle.cell_types.specs.declared.machine.Machine.{Machine}
 use Rattle.cell_types.specs.declared.machine.Machine.TheVariants.{Watch}
 use Rattle.cell_types.specs.Same.{same_machine}
 use Rattle.cell_notes.specs.Asks.{TurnCall}
-use Rattle.cell_seat.specs.Sides.{side_moved}
-use Rattle.cell_seat.specs.SeatTurns.{Takes}
+use Rattle.cell_unit.specs.Sides.{side_moved}
+use Rattle.cell_unit.specs.UnitTurns.{Takes}
 use Rattle.cell_parts.specs.Axes.{CellScales}
 use Rattle.cell_notes.specs.declared.schedule.Turn.{Turn}
 use Rattle.cell_plant.specs.Machines.{steps_of, rig_of}

@@ -3,11 +3,5 @@ use Rattle.cell_parts.specs.Axes.{CellScales}
 use Rattle.cell_program.specs.declared.gauges.CellPoints.{CellPoints}
 
 -- the scales of the curves that go through these points
-abbrev pub cell_scales : CellPoints → CellScales
-cell_scales points = record {
-  arm1 = points.arm1;
-  arm2 = points.arm2;
-  rotation = points.rotation;
-  turn = points.turn;
-  gripper = points.gripper;
-}
+abbrev pub scales_by_points : CellPoints → CellScales
+scales_by_points points = record { arm1 = points.arm1; arm2 = points.arm2; rotation = points.rotation; turn = points.turn; gripper = points.gripper }

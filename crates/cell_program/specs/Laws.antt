@@ -50,11 +50,9 @@ pub record EndsAreFound : Type 0 where
 
 -- in a run by six workers each machine takes its turns, and no gate keeps it out
 pub record TurnsAreTold : Type 0 where
-  pub turns : (c : CellScales) (opening : ModelState) (tries limit : ℕ) (r : RunRecord)
-      → (did : Machine → Counts) (fares : Machine → Status)
-      → TellsWorkers c opening tries limit r → r.counts ≡ map did all_machines → r.status ≡ map fares all_machines
-      → (m : Machine) → is_at_work m ≡ true
-      → HadTurns limit (λ turn. true) (did m) (fares m) (journal_of r.journals m) × (fares m ≢ GateLimit)
+  pub turns : (c : CellScales) (opening : ModelState) (tries limit : ℕ) (r : RunRecord) (did : Machine → Counts) (statuses : Machine → Status)
+      → TellsWorkers c opening tries limit r → r.counts ≡ map did all_machines → r.status ≡ map statuses all_machines
+      → (m : Machine) → is_at_work m ≡ true → HadTurns limit (λ turn. true) (did m) (statuses m) (journal_of r.journals m) × (statuses m ≢ GateLimit)
 
 -- every machine is fine
 abbrev pub EachIsFine : RunRecord → Type 0

@@ -8,7 +8,7 @@ ghost use Rattle.cell_text.specs.Input.{TakesAtMost};
 ghost use Rattle.cell_config.specs.Configured.{AreAxisScales, AreCurvesOf, in_order};
 ghost use Rattle.cell_program.specs.Served.{SimFails, WasSimulated};
 ghost use Rattle.cell_config.specs.Settings.{max_bytes_read};
-ghost use Rattle.cell_program.specs.Gauges.{cell_scales};
+ghost use Rattle.cell_program.specs.Gauges.{scales_by_points};
 
 use crate::exit::Exit;
 use crate::faults::fail;

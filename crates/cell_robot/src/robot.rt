@@ -180,9 +180,7 @@ impl RobotProgress {
             RobotStep::ReachDeposit => self.drives(RobotStep::DropOnDeposit),
             RobotStep::DropOnDeposit => self.with_magnet2(false).drives(RobotStep::LeaveDeposit),
             RobotStep::LeaveDeposit => self.drives(RobotStep::GiveToDeposit),
-            RobotStep::GiveToDeposit => self
-                .with_arm2(false)
-                .asks_by_notes(Call::Give(Zone::Z4)),
+            RobotStep::GiveToDeposit => self.with_arm2(false).asks_by_notes(Call::Give(Zone::Z4)),
             _ => self.drives(self.step),
         }
     }
@@ -275,12 +273,7 @@ impl RobotProgress {
 
 impl RobotStep {
     // The next step after an inquiry that showed this of a zone.
-    fn after_inquiry(
-        self,
-        owner: Option<Machine>,
-        flag: bool,
-        posture: Posture,
-    ) -> RobotStep
+    fn after_inquiry(self, owner: Option<Machine>, flag: bool, posture: Posture) -> RobotStep
         ensures { result ≡ program.step_after_inquiry self owner flag posture }
     {
         match (self, owner, flag, posture) {

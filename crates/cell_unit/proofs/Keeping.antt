@@ -20,8 +20,8 @@ use Rattle.cell_control.specs.Steps.{Steps, outcome}
 use Rattle.cell_control.specs.Turns.{Performed, PerformsCall, PerformsSensed, Turned, Turns, turned, at_rest}
 use Rattle.cell_control.proofs.TurnMaps.{turn_either}
 use Rattle.cell_notes.specs.Asks.{TurnCall, done_in}
-use Rattle.cell_seat.specs.Sides.{Side, noting, part_set, act_or_rest}
-use Rattle.cell_seat.specs.SeatTurns.{Answers, Takes}
+use Rattle.cell_unit.specs.Sides.{Side, noting, part_set, act_or_rest}
+use Rattle.cell_unit.specs.UnitTurns.{Answers, Takes}
 
 -- a turn, by the state, asks nothing or one call
 abbrev pub AsksNothing : ModelState → TurnCall → ModelState → Type 0

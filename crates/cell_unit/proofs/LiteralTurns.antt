@@ -113,10 +113,10 @@ module _ {S Sense Reading Act State : Type 0} (t : Steps S Sense Reading Act) (r
   taken : (busy : Bool) → before.stopped ≡ None → (k : UnitTurn t rig busy old new before now notes notes') → ActsAndMoves t rig (new.state ≡ old.state) (λ c r. Answers old.state t.machine busy c r new.state) before k.asked now
   taken busy e k = subst (λ o. Leads (is_none o) t rig busy old.state before k.asked new.state now) e k.leads
 
-  taken_noted : (busy : Bool) (a : TurnCall) → before.stopped ≡ None → (k : SeatTurn t rig busy old new before now notes notes') → k.asked ≡ a → notes' ≡ notes_with notes a
+  taken_noted : (busy : Bool) (a : TurnCall) → before.stopped ≡ None → (k : UnitTurn t rig busy old new before now notes notes') → k.asked ≡ a → notes' ≡ notes_with notes a
   taken_noted busy a e k f = k.noted ∙ ap (λ o. if is_none o then notes_with notes k.asked else notes) e ∙ ap (notes_with notes) f
 
-  seen_with : (busy : Bool) (a : TurnCall) (k : SeatTurn t rig busy old new before now notes notes') → k.asked ≡ a → new.history ≡ old.history ++ settled_in t.machine a
+  seen_with : (busy : Bool) (a : TurnCall) (k : UnitTurn t rig busy old new before now notes notes') → k.asked ≡ a → new.history ≡ old.history ++ settled_in t.machine a
   seen_with busy a k f = k.history ∙ ap (λ x. old.history ++ settled_in t.machine x) f
 
   came_free : (reading : Reading) (call : Call) (i : IsAsking t rig before reading call) (k : UnitTurn t rig false old new before now notes notes') (r : Result Reply LineFault) → k.asked ≡ Some (call, r) → now ≡ answered_side t rig before now k.asked call r

@@ -14,7 +14,7 @@ use Rattle.cell_rules.proofs.SeenLemmas.{own-append}
 use Rattle.cell_control.specs.declared.fault.CtlFault.{CtlFault}
 use Rattle.cell_control.specs.Steps.{Steps, program_of}
 use Rattle.cell_notes.specs.Asks.{TurnCall, settled_by, settled_in}
-use Rattle.cell_seat.specs.Sides.{IsReady}
+use Rattle.cell_unit.specs.Sides.{IsReady}
 
 -- another machine's call is no event of this machine
 settled_foreign : (m n : Machine) (c : Call) (r : Result Reply LineFault) → same_machine m n ≡ false → own_events (settled_by m c r) n ≡ []

@@ -10,6 +10,7 @@ use Rattle.cell_control.specs.Rigs.{Rig}
 use Rattle.cell_control.specs.Steps.{Steps, IsReached}
 use Rattle.cell_control.specs.Turns.{Turned, Turns}
 use Rattle.cell_notes.specs.Asks.{TurnCall, done_in}
+use Rattle.cell_unit.specs.declared.unit.MachineUnit.{MachineUnit}
 
 pub record Side (S State : Type 0) : Type 0 where
   pub progress : S
@@ -82,5 +83,5 @@ pub record TellsByDemands {S Sense Reading Act State : Type 0} (t : Steps S Sens
   pub motor_demands : t.motor_demands p act opening seen
 
 -- they hold after a turn that leaves the machine running
-abbrev pub DemandsHold : {S Sense Reading Act State : Type 0} → Steps S Sense Reading Act → Rig State Sense Act → Side S State → Asked → Side S State → ModelState → List Event → Type 0
+abbrev pub DemandsHold : {S Sense Reading Act State : Type 0} → Steps S Sense Reading Act → Rig State Sense Act → Side S State → TurnCall → Side S State → ModelState → List Event → Type 0
 DemandsHold t rig before asked now opening seen = now.stopped ≡ None → TellsByDemands t rig before.progress before.part asked now.part opening seen

@@ -41,7 +41,7 @@ Leads true t rig busy z before asked y now = Taken t rig busy z before asked y n
 Leads false t rig busy z before asked y now = PassedOver z before asked y now
 
 -- over a bench: the history has what was asked, the notebook a turn that is taken, and the motors' demands hold
-pub record SeatTurn {S Sense Reading Act State : Type 0} (t : Steps S Sense Reading Act) (rig : Rig State Sense Act) (busy : Bool) (old new : Desk) (before now : Side S State) (notes notes' : Notes) : Type 0 where
+pub record UnitTurn {S Sense Reading Act State : Type 0} (t : Steps S Sense Reading Act) (rig : Rig State Sense Act) (busy : Bool) (old new : Desk) (before now : Side S State) (notes notes' : Notes) : Type 0 where
   pub asked : TurnCall
   pub leads : Leads (is_none before.stopped) t rig busy old.state before asked new.state now
   pub opening : new.opening ≡ old.opening

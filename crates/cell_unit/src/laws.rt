@@ -16,9 +16,11 @@ pub fn status_by_faults()
 /// The effect of any machine's turn over any line, on its progress, its fault and its part: for
 /// each answer, a call that is out of memory, a drive, sensors that can't be used, and a controller
 /// that has stopped.
-pub fn sides_by_answers<P: Program, B: Part<Sense = P::Sense, Act = P::Act>>(seat: &Seat<P, B>)
+pub fn sides_by_answers<P: Program, B: Part<Sense = P::Sense, Act = P::Act>>(
+    unit: &MachineUnit<P, B>,
+)
     ensures { (before now : Side P.Progress B.State) (asked : TurnCall)
-        → SideRows (P.steps seat.now.controller.program) (B.rig (B.make seat.now.part)) before asked now }
+        → SideRows (unit_table P.steps unit.now) (unit_rig B.rig B.make unit.now) before asked now }
 {}
 
 /// The effect of any machine's turn over a bench, on the machine, the bench and the notebook.

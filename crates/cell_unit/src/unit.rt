@@ -20,11 +20,12 @@ impl<P: Program, B: Part<Sense = P::Sense, Act = P::Act>> MachineUnit<P, B> {
     /// that was done, and moves for a tick. After an error of the controller the motors are off.
     /// Answers what was asked.
     pub fn turn<L: Line>(&mut self, line: &mut L) -> TurnCall
-        requires own { self.old.controller.stopped ≡ None → L.machine line.old ≡ (P.steps self.old.controller.program).machine }
-        requires ready { IsReady (P.steps self.old.controller.program) (L.opening line.old) (L.seen line.old) self.old.controller.stopped self.old.controller.progress }
-        ensures row { ActsAndMoves (P.steps self.old.controller.program) (B.rig (B.make self.old.part)) (line.new ≡ line.old) (λ c r. L.asks line.old c r line.new)
-            (side_of self.old.controller.progress self.old.controller.stopped (B.state self.old.part)) result (side_of self.new.controller.progress self.new.controller.stopped (B.state self.new.part)) }
-        ensures motor_demands { self.new.controller.stopped ≡ None → TellsByDemands (P.steps self.old.controller.program) (B.rig (B.make self.old.part)) self.old.controller.progress (B.state self.old.part) result (B.state self.new.part) (L.opening line.new) (L.seen line.new) }
+        requires own { (unit_side B.state self.old).stopped ≡ None → L.machine line.old ≡ (unit_table P.steps self.old).machine }
+        requires ready { UnitIsReady P.steps self.old (L.opening line.old) (L.seen line.old) }
+        ensures row { ActsAndMoves (unit_table P.steps self.old) (unit_rig B.rig B.make self.old) (line.new ≡ line.old) (λ c r. L.asks line.old c r line.new)
+            (unit_side B.state self.old) result (unit_side B.state self.new) }
+        ensures motor_demands { DemandsHold (unit_table P.steps self.old) (unit_rig B.rig B.make self.old)
+            (unit_side B.state self.old) result (unit_side B.state self.new) (L.opening line.new) (L.seen line.new) }
         ensures own { L.machine line.new ≡ L.machine line.old }
         ensures opening { L.opening line.new ≡ L.opening line.old }
         ensures program { unit_program self.new ≡ unit_program self.old }
