@@ -31,6 +31,7 @@ pub struct Row<P> {
 
 impl Waits {
     /// Whether the step stays on a refusal.
+    #[inline(always)]
     pub fn stays_on(self, refusal: Refusal) -> bool
         ensures { result ≡ waits_on self refusal }
     {
@@ -47,6 +48,7 @@ impl Waits {
 
 impl<P: Copy> Row<P> {
     /// The row of a step that asks a call and waits for nothing.
+    #[inline(always)]
     pub fn asks(call: Call, next: P) -> Row<P>
         ensures { result ≡ row_that_asks call next }
     {
@@ -58,6 +60,7 @@ impl<P: Copy> Row<P> {
     }
 
     /// The row of a step that drives.
+    #[inline(always)]
     pub fn drives(next: P) -> Row<P>
         ensures { result ≡ row_that_drives next }
     {
@@ -69,6 +72,7 @@ impl<P: Copy> Row<P> {
     }
 
     /// The same row, of a step that waits.
+    #[inline(always)]
     pub fn waits(self, waits: Waits) -> Row<P>
         ensures { result ≡ with_waits self waits }
     {

@@ -66,6 +66,7 @@ pub struct CraneReading {
 
 impl CraneProgress {
     // The row of its step. An inquiry isn't done: it leads on by what it shows.
+    #[inline(always)]
     fn row(self) -> Row<CraneProgress>
         ensures { result ≡ program.row_of self }
     {
@@ -92,6 +93,7 @@ impl CraneProgress {
     }
 
     // The row of a step that asks, with its next step.
+    #[inline(always)]
     fn asks(self, call: Call, next: CraneStep) -> Row<CraneProgress>
         ensures { result ≡ program.asks self call next }
     {
@@ -99,6 +101,7 @@ impl CraneProgress {
     }
 
     // The row of a step that drives, or switches the magnet.
+    #[inline(always)]
     fn drives(self, next: CraneStep) -> Row<CraneProgress>
         ensures { result ≡ program.drives self next }
     {
@@ -106,6 +109,7 @@ impl CraneProgress {
     }
 
     // The same step with another note of its magnet.
+    #[inline(always)]
     fn with_magnet(self, magnet: bool) -> CraneProgress
         ensures { result ≡ program.with_magnet self magnet }
     {
@@ -199,10 +203,12 @@ impl<F: Gauge> Program for CraneProgram<F> {
         }
     }
 
+    #[inline(always)]
     fn call(&self, progress: CraneProgress) -> Option<Call> {
         progress.row().call
     }
 
+    #[inline(always)]
     fn after_done(&self, progress: CraneProgress) -> CraneProgress {
         progress.row().next
     }
@@ -220,6 +226,7 @@ impl<F: Gauge> Program for CraneProgram<F> {
         }
     }
 
+    #[inline(always)]
     fn stays_on(&self, progress: CraneProgress, refusal: Refusal) -> bool {
         progress.row().waits.stays_on(refusal)
     }

@@ -48,6 +48,7 @@ pub struct DepositProgress {
 
 impl DepositProgress {
     // The row of its step.
+    #[inline(always)]
     fn row(self) -> Row<DepositProgress>
         ensures { result ≡ program.row_of self }
     {
@@ -78,6 +79,7 @@ impl DepositProgress {
     }
 
     // The row of a step that asks, with its next step.
+    #[inline(always)]
     fn asks(self, call: Call, next: DepositStep) -> Row<DepositProgress>
         ensures { result ≡ program.asks self call next }
     {
@@ -85,6 +87,7 @@ impl DepositProgress {
     }
 
     // The row of a step that asks, and leads to the next group.
+    #[inline(always)]
     fn asks_by_plates(self, call: Call) -> Row<DepositProgress>
         ensures { result ≡ program.asks_by_plates self call }
     {
@@ -92,6 +95,7 @@ impl DepositProgress {
     }
 
     // The row of a step that sets a pose.
+    #[inline(always)]
     fn poses(self, pose: Pose, next: DepositStep) -> Row<DepositProgress>
         ensures { result ≡ program.poses self pose next }
     {
@@ -99,6 +103,7 @@ impl DepositProgress {
     }
 
     // The row of a step that drives.
+    #[inline(always)]
     fn drives(self, next: DepositStep) -> Row<DepositProgress>
         ensures { result ≡ program.drives self next }
     {
@@ -106,6 +111,7 @@ impl DepositProgress {
     }
 
     // The same step with other notes of its plates.
+    #[inline(always)]
     fn with_plates(self, entry: bool, last: bool) -> DepositProgress
         ensures { result ≡ program.with_plates self entry last }
     {
@@ -117,6 +123,7 @@ impl DepositProgress {
     }
 
     // The first step of the next group, by the plates on the belt.
+    #[inline(always)]
     fn by_plates(self) -> DepositStep
         ensures { result ≡ program.by_plates self }
     {
@@ -169,10 +176,12 @@ impl Program for DepositProgram {
         }
     }
 
+    #[inline(always)]
     fn call(&self, progress: DepositProgress) -> Option<Call> {
         progress.row().call
     }
 
+    #[inline(always)]
     fn after_done(&self, progress: DepositProgress) -> DepositProgress {
         progress.row().next
     }
@@ -187,6 +196,7 @@ impl Program for DepositProgram {
         progress
     }
 
+    #[inline(always)]
     fn stays_on(&self, progress: DepositProgress, refusal: Refusal) -> bool {
         progress.row().waits.stays_on(refusal)
     }

@@ -48,6 +48,7 @@ pub struct FeedProgress {
 
 impl FeedProgress {
     // The row of its step.
+    #[inline(always)]
     fn row(self) -> Row<FeedProgress>
         ensures { result ≡ program.row_of self }
     {
@@ -77,6 +78,7 @@ impl FeedProgress {
     }
 
     // The row of a step that asks, with its next step.
+    #[inline(always)]
     fn asks(self, call: Call, next: FeedStep) -> Row<FeedProgress>
         ensures { result ≡ program.asks self call next }
     {
@@ -84,6 +86,7 @@ impl FeedProgress {
     }
 
     // The row of a step that asks, and leads to the next group.
+    #[inline(always)]
     fn asks_by_plates(self, call: Call) -> Row<FeedProgress>
         ensures { result ≡ program.asks_by_plates self call }
     {
@@ -91,6 +94,7 @@ impl FeedProgress {
     }
 
     // The row of a step that sets a pose.
+    #[inline(always)]
     fn poses(self, pose: Pose, next: FeedStep) -> Row<FeedProgress>
         ensures { result ≡ program.poses self pose next }
     {
@@ -98,6 +102,7 @@ impl FeedProgress {
     }
 
     // The row of a step that drives.
+    #[inline(always)]
     fn drives(self, next: FeedStep) -> Row<FeedProgress>
         ensures { result ≡ program.drives self next }
     {
@@ -105,6 +110,7 @@ impl FeedProgress {
     }
 
     // The same step with other notes of its plates.
+    #[inline(always)]
     fn with_plates(self, entry: bool, last: bool) -> FeedProgress
         ensures { result ≡ program.with_plates self entry last }
     {
@@ -116,6 +122,7 @@ impl FeedProgress {
     }
 
     // The first step of the next group, by the plates on the belt.
+    #[inline(always)]
     fn by_plates(self) -> FeedStep
         ensures { result ≡ program.by_plates self }
     {
@@ -168,10 +175,12 @@ impl Program for FeedProgram {
         }
     }
 
+    #[inline(always)]
     fn call(&self, progress: FeedProgress) -> Option<Call> {
         progress.row().call
     }
 
+    #[inline(always)]
     fn after_done(&self, progress: FeedProgress) -> FeedProgress {
         progress.row().next
     }
@@ -186,6 +195,7 @@ impl Program for FeedProgram {
         progress
     }
 
+    #[inline(always)]
     fn stays_on(&self, progress: FeedProgress, refusal: Refusal) -> bool {
         progress.row().waits.stays_on(refusal)
     }

@@ -7,7 +7,7 @@ use Rattle.cell_notes.specs.declared.run_record.RunRecord.{RunRecord}
 use Rattle.cell_unit.specs.Sides.{side_of}
 use Rattle.cell_parts.specs.Axes.{CellScales}
 use Rattle.cell_robot.specs.declared.robot.RobotProgram.{RobotProgram}
-use Rattle.cell_robot.specs.RobotProgram.{RobotScales, scales_of as robot_scales}
+use Rattle.cell_robot.specs.RobotProgram.{RobotScales, robot_scales}
 use Rattle.cell_plant.specs.declared.cell.Cell.{Cell}
 use Rattle.cell_notes.specs.declared.schedule.Turn.{Turn}
 use Rattle.cell_plant.specs.CellStates.{Sides, sides_at_start, cell_at_start}

@@ -26,7 +26,7 @@ use Rattle.cell_haul.specs.DepositProgram.{deposit_steps}
 use Rattle.cell_haul.specs.FeedProgram.{feed_steps}
 use Rattle.cell_robot.specs.declared.robot.RobotProgress.{RobotProgress}
 use Rattle.cell_robot.specs.declared.robot.RobotReading.{RobotReading}
-use Rattle.cell_robot.specs.RobotProgram.{RobotScales, scales_of, near_lines, robot_steps}
+use Rattle.cell_robot.specs.RobotProgram.{RobotScales, robot_scales, near_lines, robot_steps}
 use Rattle.cell_stations.specs.declared.press.PressProgress.{PressProgress}
 use Rattle.cell_stations.specs.declared.table.TableProgress.{TableProgress}
 use Rattle.cell_stations.specs.declared.table.TableReading.{TableReading}
@@ -109,7 +109,7 @@ no_rig = record { shows = λ a s. ⊤; notes = λ a e. a; set = λ a act. a; mov
 
 -- the robot's scales, as its program and as its part names them
 abbrev pub robot_points : CellScales → RobotScales
-robot_points c = scales_of c.arm1 c.arm2 c.rotation
+robot_points c = robot_scales c.arm1 c.arm2 c.rotation
 
 abbrev pub robot_axes : CellScales → PartScales
 robot_axes c = record { arm1 = c.arm1; arm2 = c.arm2; rotation = c.rotation }

@@ -25,7 +25,7 @@ use Rattle.cell_robot.specs.declared.robot.RobotNotes.{RobotNotes}
 use Rattle.cell_robot.specs.declared.robot.RobotMagnets.{RobotMagnets}
 use Rattle.cell_robot.specs.declared.robot.RobotProgress.{RobotProgress}
 use Rattle.cell_robot.specs.declared.robot.RobotReading.{RobotReading}
-use Rattle.cell_robot.specs.RobotProgram.{RobotScales, robot_steps, scales_of, gauges_of, near_lines}
+use Rattle.cell_robot.specs.RobotProgram.{RobotScales, robot_steps, robot_scales, gauges_of, near_lines}
 
 -- a step with its notes (a plate on the first arm, on the second arm, in the press) and the magnets of both arms
 abbrev pub noted : Bool → Bool → Bool → RobotNotes
@@ -122,7 +122,7 @@ abbrev pub scale_to : ℕ → ℕ → Scale
 scale_to end tol = record { raw_lo = 100; raw_hi = 4100; at_lo = pos 0; at_hi = pos end; tol = pos tol }
 
 abbrev pub scales : RobotScales
-scales = scales_of (scale_to 1000 5) (scale_to 1000 6) (scale_to 2000 7)
+scales = robot_scales (scale_to 1000 5) (scale_to 1000 6) (scale_to 2000 7)
 
 abbrev pub Drives : RobotStep → RobotReading → RobotAct → RobotStep → RobotNotes → RobotMagnets → Type 0
 Drives step reading act next n m = DriveRow (rows_by scales) (at step n m) reading act (at next n m)

@@ -154,8 +154,8 @@ pub record RobotGauges : Type 1 where
   pub arm2 : ℕ → ℤ → Type 0
   pub rotation : ℕ → ℤ → Type 0
 
-abbrev pub scales_of : Scale → Scale → Scale → RobotScales
-scales_of first second turn = record { arm1 = first; arm2 = second; rotation = turn }
+abbrev pub robot_scales : Scale → Scale → Scale → RobotScales
+robot_scales first second turn = record { arm1 = first; arm2 = second; rotation = turn }
 
 abbrev pub gauges_of : (ℕ → ℤ → Type 0) → (ℕ → ℤ → Type 0) → (ℕ → ℤ → Type 0) → RobotGauges
 gauges_of first second turn = record { arm1 = first; arm2 = second; rotation = turn }

@@ -115,6 +115,7 @@ pub struct RobotReading {
 
 impl RobotNotes {
     // The first step of the next group, by the notes.
+    #[inline(always)]
     fn choice(self) -> RobotStep
         ensures { result ≡ program.choice self }
     {
@@ -132,6 +133,7 @@ impl RobotNotes {
 
 impl RobotProgress {
     // The row of its step. An inquiry isn't done: it leads on by what it shows.
+    #[inline(always)]
     fn row(self) -> Row<RobotProgress>
         ensures { result ≡ program.row_of self }
     {
@@ -161,6 +163,7 @@ impl RobotProgress {
     }
 
     // The row of a step of the second arm. A step of the first arm has its row above.
+    #[inline(always)]
     fn row_of_arm2(self) -> Row<RobotProgress>
         ensures { result ≡ program.row_of_arm2 self.step self }
     {
@@ -186,6 +189,7 @@ impl RobotProgress {
     }
 
     // The row of a step that asks, with its next step.
+    #[inline(always)]
     fn asks(self, call: Call, next: RobotStep) -> Row<RobotProgress>
         ensures { result ≡ program.asks self call next }
     {
@@ -193,6 +197,7 @@ impl RobotProgress {
     }
 
     // The row of a step that asks, and leads to the next group.
+    #[inline(always)]
     fn asks_by_notes(self, call: Call) -> Row<RobotProgress>
         ensures { result ≡ program.asks_by_notes self call }
     {
@@ -200,6 +205,7 @@ impl RobotProgress {
     }
 
     // The row of a step that claims a zone, and waits until the zone lets it in.
+    #[inline(always)]
     fn claims(self, zone: Zone, next: RobotStep) -> Row<RobotProgress>
         ensures { result ≡ program.claims self zone next }
     {
@@ -208,6 +214,7 @@ impl RobotProgress {
     }
 
     // The row of a step that drives, or switches a magnet.
+    #[inline(always)]
     fn drives(self, next: RobotStep) -> Row<RobotProgress>
         ensures { result ≡ program.drives self next }
     {
@@ -215,6 +222,7 @@ impl RobotProgress {
     }
 
     // The same step with another note of the first arm's plate.
+    #[inline(always)]
     fn with_arm1(self, arm1: bool) -> RobotProgress
         ensures { result ≡ program.with_arm1 self arm1 }
     {
@@ -225,6 +233,7 @@ impl RobotProgress {
     }
 
     // The same step with another note of the second arm's plate.
+    #[inline(always)]
     fn with_arm2(self, arm2: bool) -> RobotProgress
         ensures { result ≡ program.with_arm2 self arm2 }
     {
@@ -235,6 +244,7 @@ impl RobotProgress {
     }
 
     // The same step with another note of the press's plate.
+    #[inline(always)]
     fn with_fed(self, fed: bool) -> RobotProgress
         ensures { result ≡ program.with_fed self fed }
     {
@@ -245,6 +255,7 @@ impl RobotProgress {
     }
 
     // The same step with another command to the first magnet.
+    #[inline(always)]
     fn with_magnet1(self, on: bool) -> RobotProgress
         ensures { result ≡ program.with_magnet1 self on }
     {
@@ -258,6 +269,7 @@ impl RobotProgress {
     }
 
     // The same step with another command to the second magnet.
+    #[inline(always)]
     fn with_magnet2(self, on: bool) -> RobotProgress
         ensures { result ≡ program.with_magnet2 self on }
     {
@@ -378,7 +390,7 @@ impl<F1: Gauge, F2: Gauge, F3: Gauge> Program for RobotProgram<F1, F2, F3> {
 
     type Act = RobotAct;
 
-    ghost steps = { λ r. program.robot_steps (program.scales_of r.arm1.points r.arm2.points r.rotation.points) (program.gauges_of (λ raw v. F1.gives r.arm1.gauge raw v) (λ raw v. F2.gives r.arm2.gauge raw v) (λ raw v. F3.gives r.rotation.gauge raw v)) };
+    ghost steps = { λ r. program.robot_steps (program.robot_scales r.arm1.points r.arm2.points r.rotation.points) (program.gauges_of (λ raw v. F1.gives r.arm1.gauge raw v) (λ raw v. F2.gives r.arm2.gauge raw v) (λ raw v. F3.gives r.rotation.gauge raw v)) };
 
     fn start(&self, state: &State) -> RobotProgress {
         let notes = RobotNotes {
@@ -396,10 +408,12 @@ impl<F1: Gauge, F2: Gauge, F3: Gauge> Program for RobotProgram<F1, F2, F3> {
         }
     }
 
+    #[inline(always)]
     fn call(&self, progress: RobotProgress) -> Option<Call> {
         progress.row().call
     }
 
+    #[inline(always)]
     fn after_done(&self, progress: RobotProgress) -> RobotProgress {
         progress.row().next
     }
@@ -417,6 +431,7 @@ impl<F1: Gauge, F2: Gauge, F3: Gauge> Program for RobotProgram<F1, F2, F3> {
         }
     }
 
+    #[inline(always)]
     fn stays_on(&self, progress: RobotProgress, refusal: Refusal) -> bool {
         progress.row().waits.stays_on(refusal)
     }

@@ -56,6 +56,7 @@ pub struct PressProgress {
 
 impl PressProgress {
     // The row of its step.
+    #[inline(always)]
     fn row(self) -> Row<PressProgress>
         ensures { result ≡ program.row_of self }
     {
@@ -89,6 +90,7 @@ impl PressProgress {
     }
 
     // The row of a step that asks, with its next step.
+    #[inline(always)]
     fn asks(self, call: Call, next: PressStep) -> Row<PressProgress>
         ensures { result ≡ program.asks self call next }
     {
@@ -96,6 +98,7 @@ impl PressProgress {
     }
 
     // The row of a step that sets a pose.
+    #[inline(always)]
     fn poses(self, pose: Pose, next: PressStep) -> Row<PressProgress>
         ensures { result ≡ program.poses self pose next }
     {
@@ -103,6 +106,7 @@ impl PressProgress {
     }
 
     // The row of a step that drives.
+    #[inline(always)]
     fn drives(self, next: PressStep) -> Row<PressProgress>
         ensures { result ≡ program.drives self next }
     {
@@ -110,6 +114,7 @@ impl PressProgress {
     }
 
     // The same step with other notes of its plates.
+    #[inline(always)]
     fn with_plates(self, loaded: bool, forged: bool) -> PressProgress
         ensures { result ≡ program.with_plates self loaded forged }
     {
@@ -121,6 +126,7 @@ impl PressProgress {
     }
 
     // The step after the first claim, by the plates in the press.
+    #[inline(always)]
     fn by_plates(self) -> PressStep
         ensures { result ≡ program.by_plates self }
     {
@@ -161,10 +167,12 @@ impl Program for PressProgram {
         }
     }
 
+    #[inline(always)]
     fn call(&self, progress: PressProgress) -> Option<Call> {
         progress.row().call
     }
 
+    #[inline(always)]
     fn after_done(&self, progress: PressProgress) -> PressProgress {
         progress.row().next
     }
@@ -179,6 +187,7 @@ impl Program for PressProgram {
         progress
     }
 
+    #[inline(always)]
     fn stays_on(&self, progress: PressProgress, refusal: Refusal) -> bool {
         progress.row().waits.stays_on(refusal)
     }

@@ -57,6 +57,7 @@ pub struct TableReading {
 
 impl TableProgress {
     // The row of its step.
+    #[inline(always)]
     fn row(self) -> Row<TableProgress>
         ensures { result ≡ program.row_of self }
     {
@@ -85,6 +86,7 @@ impl TableProgress {
     }
 
     // The row of a step that asks, with its next step.
+    #[inline(always)]
     fn asks(self, call: Call, next: TableStep) -> Row<TableProgress>
         ensures { result ≡ program.asks self call next }
     {
@@ -92,6 +94,7 @@ impl TableProgress {
     }
 
     // The row of a step that sets a pose.
+    #[inline(always)]
     fn poses(self, pose: Pose, next: TableStep) -> Row<TableProgress>
         ensures { result ≡ program.poses self pose next }
     {
@@ -99,6 +102,7 @@ impl TableProgress {
     }
 
     // The row of a step that drives.
+    #[inline(always)]
     fn drives(self, next: TableStep) -> Row<TableProgress>
         ensures { result ≡ program.drives self next }
     {
@@ -106,6 +110,7 @@ impl TableProgress {
     }
 
     // The same step with another note of its plate.
+    #[inline(always)]
     fn with_plate(self, loaded: bool) -> TableProgress
         ensures { result ≡ program.with_plate self loaded }
     {
@@ -113,6 +118,7 @@ impl TableProgress {
     }
 
     // The step after the first claims, by the plate on the table.
+    #[inline(always)]
     fn by_plate(self) -> TableStep
         ensures { result ≡ program.by_plate self }
     {
@@ -185,10 +191,12 @@ impl<F: Gauge> Program for TableProgram<F> {
         }
     }
 
+    #[inline(always)]
     fn call(&self, progress: TableProgress) -> Option<Call> {
         progress.row().call
     }
 
+    #[inline(always)]
     fn after_done(&self, progress: TableProgress) -> TableProgress {
         progress.row().next
     }
@@ -203,6 +211,7 @@ impl<F: Gauge> Program for TableProgram<F> {
         progress
     }
 
+    #[inline(always)]
     fn stays_on(&self, progress: TableProgress, refusal: Refusal) -> bool {
         progress.row().waits.stays_on(refusal)
     }
