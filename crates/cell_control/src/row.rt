@@ -35,14 +35,13 @@ impl Waits {
     pub fn stays_on(self, refusal: Refusal) -> bool
         ensures { result ≡ waits_on self refusal }
     {
-        matches!(
-            (self, refusal),
-            (Waits::UntilFree, Refusal::Held(_))
-                | (Waits::UntilOwner, Refusal::NotOwner(_))
-                | (Waits::UntilRoom, Refusal::PlaceFull)
-                | (Waits::UntilFreeAndOpen, Refusal::Held(_))
-                | (Waits::UntilFreeAndOpen, Refusal::Shut(_))
-        )
+        match refusal {
+            Refusal::Held(_) => matches!(self, Waits::UntilFree | Waits::UntilFreeAndOpen),
+            Refusal::Shut(_) => matches!(self, Waits::UntilFreeAndOpen),
+            Refusal::NotOwner(_) => matches!(self, Waits::UntilOwner),
+            Refusal::PlaceFull => matches!(self, Waits::UntilRoom),
+            _ => false,
+        }
     }
 }
 
