@@ -9,18 +9,18 @@ use std::thread;
 use std::time::Instant;
 
 #[derive(Clone, Copy, PartialEq, Eq, Debug)]
-enum Machine { Feed, Table, Robot, Press, Deposit, Crane }
+enum Machine { Feed, Table, Robot, Press, Deposit, Crane, Watch }
 use Machine::*;
 
 #[derive(Clone, Copy, PartialEq, Eq, Debug)]
-enum Refusal { NotParty, Held(Machine), AlreadyMine, Shut(u8), NotOwner(Option<Machine>), PlateInZone(usize), NoPlate, PlaceFull, WrongWay, Jump, NotAtWork, NoPose, Worn, InUse }
+enum Refusal { NotParty, Held(Machine), AlreadyMine, Shut(u8), NotOwner(Option<Machine>), PlateInZone(usize), NoPlate, PlaceFull, WrongWay, Jump, NotAtWork, NoPose, Worn, Stopped, NotStopped, InUse }
 use Refusal::*;
 
 #[derive(Clone, Copy, PartialEq, Eq, Debug)]
 enum Answer { Done, Shown { owner: Option<Machine>, flag: bool, posture: u8 }, Refused(Refusal) }
 
 #[derive(Clone, Copy, PartialEq, Eq, Debug)]
-enum Call { Claim(usize), Give(usize), Yield(usize), Take(usize), Release(usize), SetPose(usize), Advance, Inquire(usize) }
+enum Call { Claim(usize), Give(usize), Yield(usize), Take(usize), Release(usize), SetPose(usize), Advance, Inquire(usize), Stop, Resume }
 use Call::*;
 
 #[derive(Clone, Copy, PartialEq, Eq, Debug)]
@@ -37,6 +37,7 @@ const FEED_END: u64 = 1 << 31;
 const DEP_END: u64 = 1 << 38;
 const STAMP: u64 = 1 << 40;
 const LAST: u64 = 1_048_575 << 40;
+const MARK: u64 = 1 << 60;
 
 // Giver, receiver, and the bits of the giving and the receiving place.
 type Row = (Machine, Machine, u32, u32);
@@ -100,10 +101,12 @@ fn in_use(w: u64, m: Machine, z: usize) -> Result<(), Refusal> {
 
 fn unless(refused: bool, r: Refusal) -> Result<(), Refusal> { if refused { Err(r) } else { Ok(()) } }
 fn bump(w: u64) -> Result<u64, Refusal> { unless(w & LAST == LAST, Worn)?; Ok(w + STAMP) }
+fn not_stopped(w: u64) -> Result<(), Refusal> { unless(w & MARK != 0, Stopped) }
 
 fn claim(w: u64, m: Machine, z: usize) -> Result<u64, Refusal> {
     let mine = code(m, z);
     unless(mine == 0, NotParty)?;
+    not_stopped(w)?;
     unless(owner(w, z) == mine, AlreadyMine)?;
     if let Some(other) = who(w, z) { return Err(Held(other)); }
     unless(mine == 2 && posture(w, z) < IN, Shut(posture(w, z)))?;
@@ -111,6 +114,8 @@ fn claim(w: u64, m: Machine, z: usize) -> Result<u64, Refusal> {
 }
 
 fn give(w: u64, m: Machine, z: usize) -> Result<u64, Refusal> {
+    unless(code(m, z) == 0, NotParty)?;
+    not_stopped(w)?;
     let mine = held(w, m, z)?;
     unless(flag(w, z), PlateInZone(z))?;
     let Some((_, _, from, to)) = row(z, posture(w, z)).filter(|row| row.0 == m) else { return Err(WrongWay); };
@@ -146,6 +151,7 @@ fn set_pose(w: u64, m: Machine, pose: usize) -> Result<u64, Refusal> {
     let zones = postures(m, pose);
     unless(zones.is_empty(), NoPose)?;
     let moves = zones[0].1 == MOVING;
+    if moves { not_stopped(w)?; }
     let concerns = |z: usize, p: u8| moves || posture(w, z) != p;
     for &(z, p) in zones {
         if concerns(z, p) { unless(owner(w, z) != 1, NotOwner(who(w, z)))?; }
@@ -188,6 +194,18 @@ fn advance(w: u64, m: Machine) -> Result<u64, Refusal> {
     })
 }
 
+fn stop(w: u64, m: Machine) -> Result<u64, Refusal> {
+    unless(m != Watch, NotParty)?;
+    not_stopped(w)?;
+    bump(w | MARK)
+}
+
+fn resume(w: u64, m: Machine) -> Result<u64, Refusal> {
+    unless(m != Watch, NotParty)?;
+    unless(w & MARK == 0, NotStopped)?;
+    bump(w & !MARK)
+}
+
 fn step(w: u64, m: Machine, call: Call) -> (Answer, u64) {
     let next = match call {
         Claim(z) => claim(w, m, z),
@@ -197,12 +215,14 @@ fn step(w: u64, m: Machine, call: Call) -> (Answer, u64) {
         Release(z) => release(w, m, z),
         SetPose(pose) => set_pose(w, m, pose),
         Advance => advance(w, m),
+        Stop => stop(w, m),
+        Resume => resume(w, m),
         Inquire(z) => return (Answer::Shown { owner: who(w, z), flag: flag(w, z), posture: posture(w, z) }, w),
     };
     match next { Ok(next) => (Answer::Done, next), Err(refusal) => (Answer::Refused(refusal), w) }
 }
 
-fn stamp(w: u64) -> u32 { (w >> 40) as u32 }
+fn stamp(w: u64) -> u32 { (w >> 40 & 0xF_FFFF) as u32 }
 
 trait Shared: Sync {
     fn ask(&self, m: Machine, call: Call) -> Reply;
@@ -309,6 +329,15 @@ impl Numbers {
             _ => Inquire(zone),
         }
     }
+
+    // Who calls, and what: now and then the watch stops all or resumes.
+    fn asked(&mut self) -> (Machine, Call) {
+        match self.below(64) {
+            0 => (Watch, Stop),
+            1 | 2 => (Watch, Resume),
+            _ => (MACHINES[self.below(6)], self.call()),
+        }
+    }
 }
 
 fn number(answer: Answer) -> u32 {
@@ -331,6 +360,8 @@ fn number(answer: Answer) -> u32 {
             NotAtWork => 11,
             NoPose => 12,
             Worn => 13,
+            Stopped => 14,
+            NotStopped => 15,
             InUse => 16,
         },
     }
@@ -342,8 +373,7 @@ fn digest(word: u64) -> u32 {
     let mut numbers = Numbers(1995);
     let mut digest = 0u32;
     for _ in 0..2_000_000 {
-        let machine = MACHINES[numbers.below(6)];
-        let call = numbers.call();
+        let (machine, call) = numbers.asked();
         if let Reply::Settled(answer, stamp) = shared.ask(machine, call) {
             digest = digest.wrapping_mul(31).wrapping_add(number(answer)).wrapping_mul(31).wrapping_add(stamp);
         }

@@ -68,7 +68,7 @@ impl<P: Program> Seat<P> {
                 log.refused += 1;
                 if refusal == Refusal::Worn {
                     log.status = Status::Worn;
-                } else if !waits(refusal) {
+                } else if refusal != Refusal::Stopped && !waits(refusal) {
                     log.status = Status::Refused;
                 }
             }

@@ -169,10 +169,12 @@ pub enum Call {
     Inquire(Zone),
     SetPose(Pose),
     Advance,
+    Stop,
+    Resume,
 }
 
 impl Call {
-    /// The call of these words, if they are one.
+    /// The call of these words, if they are one of a script. (Scripts don't stop the cell.)
     pub fn read(verb: &str, object: Option<&str>) -> Option<Call> {
         let zone = || object.and_then(|word| Zone::ALL.into_iter().find(|zone| zone.word() == word));
         Some(match verb {
@@ -204,6 +206,8 @@ pub enum Refusal {
     NotAtWork,
     NoPose,
     Worn,
+    Stopped,
+    NotStopped,
     InUse,
 }
 
@@ -229,6 +233,7 @@ pub struct State {
     pub zones: [At; 6],
     pub full: [bool; 10],
     pub stamp: u32,
+    pub stopped: bool,
 }
 
 impl State {
@@ -242,7 +247,7 @@ impl State {
             *place = digit == b'1';
         }
         let free = At { owner: None, flag: false, posture: Closed };
-        let state = State { zones: [free; 6], full, stamp };
+        let state = State { zones: [free; 6], full, stamp, stopped: false };
         (state.plates() <= 6 && !(full[PRESS_IN] && full[PRESS_OUT]) && stamp <= LAST_STAMP).then_some(state)
     }
 
@@ -299,6 +304,10 @@ impl State {
         check(self.stamp < LAST_STAMP, Refusal::Worn)
     }
 
+    fn not_stopped(&self) -> Checked {
+        check(!self.stopped, Refusal::Stopped)
+    }
+
     fn can_move(&self, from: usize, to: usize) -> Checked {
         check(self.full[from], Refusal::NoPlate)?;
         check(!self.full[to], Refusal::PlaceFull)?;
@@ -307,6 +316,7 @@ impl State {
 
     fn claim(&mut self, machine: Machine, zone: Zone) -> Checked {
         Self::is_party(machine, zone)?;
+        self.not_stopped()?;
         match self.at(zone).owner {
             Some(owner) if owner == machine => return Err(Refusal::Already),
             Some(owner) => return Err(Refusal::Held(owner)),
@@ -322,6 +332,7 @@ impl State {
 
     fn give(&mut self, machine: Machine, zone: Zone) -> Checked {
         Self::is_party(machine, zone)?;
+        self.not_stopped()?;
         self.owns(machine, zone)?;
         self.no_plate_in(zone)?;
         let giver = if self.at(zone).posture == OpenIn { zone.guest() } else { zone.host() };
@@ -370,6 +381,9 @@ impl State {
     fn set_pose(&mut self, machine: Machine, pose: Pose) -> Checked {
         let postures = pose.postures(machine).ok_or(Refusal::NoPose)?;
         let moves = postures[0].1 == Moving;
+        if moves {
+            self.not_stopped()?;
+        }
         for &(zone, _) in postures.iter().filter(|(zone, posture)| moves || self.at(*zone).posture != *posture) {
             self.owns(machine, zone)?;
         }
@@ -427,6 +441,24 @@ impl State {
         Ok(())
     }
 
+    /// The watch stops the cell.
+    fn stop(&mut self, machine: Machine) -> Checked {
+        check(machine == Watch, Refusal::NotParty)?;
+        self.not_stopped()?;
+        self.not_worn()?;
+        self.stopped = true;
+        Ok(())
+    }
+
+    /// The watch lifts its stop.
+    fn resume(&mut self, machine: Machine) -> Checked {
+        check(machine == Watch, Refusal::NotParty)?;
+        check(self.stopped, Refusal::NotStopped)?;
+        self.not_worn()?;
+        self.stopped = false;
+        Ok(())
+    }
+
     /// Answers the call, and changes the state if it is done.
     pub fn apply(&mut self, machine: Machine, call: Call) -> Answer {
         let checked = match call {
@@ -438,6 +470,8 @@ impl State {
             Call::Inquire(zone) => return Answer::Shown(*self.at(zone)),
             Call::SetPose(pose) => self.set_pose(machine, pose),
             Call::Advance => self.advance(machine),
+            Call::Stop => self.stop(machine),
+            Call::Resume => self.resume(machine),
         };
         match checked {
             Ok(()) => {

@@ -38,6 +38,8 @@ fn write_refusal(text: &mut Formatter<'_>, refusal: Refusal) -> fmt::Result {
         Refusal::NotAtWork => "notatwork",
         Refusal::NoPose => "nopose",
         Refusal::Worn => "worn",
+        Refusal::Stopped => "stopped",
+        Refusal::NotStopped => "notstopped",
         Refusal::InUse => "inuse",
     })
 }

@@ -45,13 +45,12 @@ POSE_OF = {
 ADVANCES = {FEED: (FEED_ENTRY, FEED_END, MOVING), DEPOSIT: (DEP_ENTRY, DEP_END, MOVING), PRESS: (PRESS_IN, PRESS_OUT, CLOSED)}
 
 CALLS = [f"{verb} z{zone + 1}" for verb in ("claim", "give", "yield", "take", "release", "inquire") for zone in range(6)]
-CALLS += [f"pose {pose}" for pose in POSES] + ["advance"]
+CALLS += [f"pose {pose}" for pose in POSES] + ["advance", "stop", "resume"]
 
 # The numbers of the refusals.
-NOTPARTY, HELD, ALREADY, SHUT, NOTOWNER, PLATEIN, NOPLATE, PLACEFULL, WRONGWAY, JUMP, NOTATWORK, NOPOSE, WORN = range(1, 14)
-INUSE = 16
-REFUSALS = dict(zip(range(1, 14), "notparty held already shut notowner platein noplate placefull wrongway jump notatwork nopose worn".split()))
-REFUSALS[INUSE] = "inuse"
+NOTPARTY, HELD, ALREADY, SHUT, NOTOWNER, PLATEIN, NOPLATE, PLACEFULL, WRONGWAY, JUMP, NOTATWORK, NOPOSE, WORN, STOPPED, NOTSTOPPED, INUSE = range(1, 17)
+NAMES = "notparty held already shut notowner platein noplate placefull wrongway jump notatwork nopose worn stopped notstopped inuse"
+REFUSALS = dict(zip(range(1, 17), NAMES.split()))
 DONE = 0
 
 
@@ -83,12 +82,12 @@ def words(answer):
 
 
 class State:
-    """Owners, flags and postures of the zones, and the full places; the stamp is kept beside it."""
+    """Owners, flags and postures of the zones, the full places, and whether it is stopped; the stamp is kept beside it."""
 
-    __slots__ = ("owner", "flag", "posture", "full", "told")
+    __slots__ = ("owner", "flag", "posture", "full", "stopped", "told")
 
-    def __init__(self, owner, flag, posture, full):
-        self.owner, self.flag, self.posture, self.full = owner, flag, posture, full
+    def __init__(self, owner, flag, posture, full, stopped=False):
+        self.owner, self.flag, self.posture, self.full, self.stopped = owner, flag, posture, full, stopped
         # What calls were answered here before, by machine and call: the answer's number, or the state after the call if it is done.
         self.told = {}
 
@@ -101,7 +100,7 @@ class State:
 
     def key(self):
         """All that it says."""
-        return self.owner, self.flag, self.posture, self.full
+        return self.owner, self.flag, self.posture, self.full, self.stopped
 
     def plates(self):
         """How many plates there are."""
@@ -137,10 +136,16 @@ class State:
             for number, value in dict(changes).items():
                 part[number] = value
             parts.append(tuple(part))
-        return State(*parts)
+        return State(*parts, self.stopped)
+
+    def with_mark(self, stopped):
+        """The state, stopped or not."""
+        return State(self.owner, self.flag, self.posture, self.full, stopped)
 
     def answer(self, machine, call):
         """The number of the answer to a call, or the state after it if it is done. (It is worn where the stamp is the last.)"""
+        if call >= 49:
+            return self.mark(machine, call == 49)
         if call == 48:
             return self.advance(machine)
         if call >= 36:
@@ -150,6 +155,8 @@ class State:
             return zone_answer(self.owner[zone], self.flag[zone], self.posture[zone])
         if machine not in (HOST[zone], GUEST[zone]):
             return refusal(NOTPARTY)
+        if self.stopped and verb in (0, 1):
+            return refusal(STOPPED)
         if verb == 0:
             return self.claim(machine, zone)
         if self.owner[zone] != machine:
@@ -221,6 +228,8 @@ class State:
             return refusal(NOPOSE)
         zones = HOSTED[machine]
         moves = MOVING in postures
+        if moves and self.stopped:
+            return refusal(STOPPED)
         looked_at = [zone for zone, posture in zip(zones, postures) if moves or self.posture[zone] != posture]
         for zone in looked_at:
             if self.owner[zone] != machine:
@@ -254,3 +263,11 @@ class State:
             return refusal(PLACEFULL)
         closed = {} if machine == PRESS else {zone: CLOSED for zone in HOSTED[machine]}
         return self.with_changes(posture=closed, full={begin: False, end: True})
+
+    def mark(self, machine, stops):
+        """Stop and Resume."""
+        if machine != WATCH:
+            return refusal(NOTPARTY)
+        if stops == self.stopped:
+            return refusal(STOPPED if stops else NOTSTOPPED)
+        return self.with_mark(stops)

@@ -18,7 +18,7 @@ use Rattle.cell_rules.specs.Seen.{SeenAfter}
 use Rattle.cell_rules.proofs.ProgramLemmas.{Keeps, reached-settles, reached-waits, reached-moves, reached-knows}
 use Rattle.cell_control.specs.declared.fault.CtlFault.{CtlFault}
 use Rattle.cell_control.specs.Faults.{fault_of}
-use Rattle.cell_control.specs.Steps.{Steps, Drives, after_answer, outcome, program_of, IsReached}
+use Rattle.cell_control.specs.Steps.{Steps, Drives, waits_out, after_answer, outcome, program_of, IsReached}
 
 -- a turn that asks
 pub reached_ask : {S Sense Reading Act : Type 0} → (t : Steps S Sense Reading Act) (p q : S) (c : Call) (r : Result Reply LineFault) (o : ModelState) (before now : List Event)
@@ -49,7 +49,7 @@ own_answer : {S Sense Reading Act : Type 0} → (t : Steps S Sense Reading Act) 
 own_answer t Knows k Done p q z c e l d sound h =
     let same : t.after_done p ≡ q = cc in
     subst (λ x. Knows x (changed z t.machine c)) same (k.after_done p z c e d sound h)
-own_answer t Knows k (Refused r) p q z c e l d sound h = subst (λ x. Knows x z) (ok_same (t.stays_on p r) p q (fault_of r) l) h
+own_answer t Knows k (Refused r) p q z c e l d sound h = subst (λ x. Knows x z) (ok_same (waits_out t p r) p q (fault_of r) l) h
 own_answer t Knows k (Shown o f x) p q z c e l d sound h =
     let same : t.after_inquiry p o f x ≡ q = cc in
     subst (λ y. Knows y z) same (k.after_inquiry p z c o f x e d sound h)

@@ -1,8 +1,10 @@
 -- A turn has the effect that its rows say.
 use Rattle.std.proofs.Common.{◌≡◌, ◌∙◌, ap, sym, subst, refl, zero, suc, List, Bool, true, false, if◌then◌else◌, ℕ, Option, Some, None, Result, Ok, Err}
-use Rattle.std.specs.Prelude.{⊤}
+use Rattle.std.specs.Prelude.{⊤, ◌||◌}
+use Rattle.std.proofs.Math.Bool.{or-true}
 use Rattle.cell_types.specs.declared.call.Call.{Call}
 use Rattle.cell_types.specs.declared.answer.Refusal.{Refusal}
+use Rattle.cell_types.specs.declared.answer.Refusal.TheVariants.{Stopped}
 use Rattle.cell_types.specs.declared.answer.Answer.TheVariants.{Refused}
 use Rattle.cell_types.specs.declared.answer.Event.{Event}
 use Rattle.cell_types.specs.declared.reply.Reply.{Reply}
@@ -14,7 +16,7 @@ use Rattle.cell_rules.specs.Programs.{Hears, MovesIn, Reached}
 use Rattle.cell_rules.specs.ModelState.{ModelState}
 use Rattle.cell_control.specs.declared.fault.CtlFault.TheVariants as fault
 use Rattle.cell_control.specs.Faults.{fault_of}
-use Rattle.cell_control.specs.Steps.{Steps, after_answer, outcome, program_of}
+use Rattle.cell_control.specs.Steps.{Steps, is_while_stopped, waits_out, after_answer, outcome, program_of}
 use Rattle.cell_control.specs.Turns.{Performed, PerformsCall, PerformsSensed, Turned, Turns, at_rest, turned, asked_at}
 use Rattle.cell_control.specs.TurnRows.{Says, Answered, stops_with, AnswerRows, SilentRows, HeardRows, AsksAlways, ReachedRows, TurnRows}
 
@@ -31,29 +33,31 @@ module _ {S Sense Reading Act : Type 0} (t : Steps S Sense Reading Act) (p : S) 
   led_by : (answered : Result Reply LineFault) (w : Turned S Act) → Answered t p s answered w → w ≡ turned p (at_rest (t.rest p) (outcome t p answered))
   led_by answered w k = k.2 ∙ ap (turned p) (asked_sensed k.1.sensed answered k.0 k.1.performs)
 
-  refused_by : (b : Bool) (r : Refusal) (stamp : ℕ) (w : Turned S Act) → t.stays_on p r ≡ b → Answered t p s (Ok (Settled (Refused r) stamp)) w → w ≡ turned p (at_rest (t.rest p) (if b then Ok p else Err (fault_of r)))
+  refused_by : (b : Bool) (r : Refusal) (stamp : ℕ) (w : Turned S Act) → waits_out t p r ≡ b → Answered t p s (Ok (Settled (Refused r) stamp)) w → w ≡ turned p (at_rest (t.rest p) (if b then Ok p else Err (fault_of r)))
   refused_by b r stamp w e k = led_by _ w k ∙ ap (λ x. turned p (at_rest (t.rest p) (if x then Ok p else Err (fault_of r)))) e
 
   answers : (w : Turned S Act) → AnswerRows t p s w
   answers w = record {
     done = λ stamp k. led_by _ w k;
     shown = λ owner flag posture stamp k. led_by _ w k;
-    waits = λ r stamp e k. refused_by true r stamp w e k;
+    waits = λ r stamp e k. refused_by true r stamp w (ap (λ x. x || is_while_stopped r) e) k;
+    while_stopped = λ stamp k. refused_by true _ stamp w (or-true (t.stays_on p Stopped)) k;
     busy = λ lost stamp k. led_by _ w k;
-    not_party = λ stamp e k. refused_by false _ stamp w e k;
-    held = λ m stamp e k. refused_by false _ stamp w e k;
-    already_mine = λ stamp e k. refused_by false _ stamp w e k;
-    shut = λ posture stamp e k. refused_by false _ stamp w e k;
-    not_owner = λ owner stamp e k. refused_by false _ stamp w e k;
-    plate_in_zone = λ zone stamp e k. refused_by false _ stamp w e k;
-    no_plate = λ stamp e k. refused_by false _ stamp w e k;
-    place_full = λ stamp e k. refused_by false _ stamp w e k;
-    wrong_way = λ stamp e k. refused_by false _ stamp w e k;
-    jump = λ stamp e k. refused_by false _ stamp w e k;
-    not_at_work = λ stamp e k. refused_by false _ stamp w e k;
-    no_pose = λ stamp e k. refused_by false _ stamp w e k;
-    in_use = λ stamp e k. refused_by false _ stamp w e k;
-    worn = λ stamp e k. refused_by false _ stamp w e k;
+    not_party = λ stamp e k. refused_by false _ stamp w (ap (λ x. x || false) e) k;
+    held = λ m stamp e k. refused_by false _ stamp w (ap (λ x. x || false) e) k;
+    already_mine = λ stamp e k. refused_by false _ stamp w (ap (λ x. x || false) e) k;
+    shut = λ posture stamp e k. refused_by false _ stamp w (ap (λ x. x || false) e) k;
+    not_owner = λ owner stamp e k. refused_by false _ stamp w (ap (λ x. x || false) e) k;
+    plate_in_zone = λ zone stamp e k. refused_by false _ stamp w (ap (λ x. x || false) e) k;
+    no_plate = λ stamp e k. refused_by false _ stamp w (ap (λ x. x || false) e) k;
+    place_full = λ stamp e k. refused_by false _ stamp w (ap (λ x. x || false) e) k;
+    wrong_way = λ stamp e k. refused_by false _ stamp w (ap (λ x. x || false) e) k;
+    jump = λ stamp e k. refused_by false _ stamp w (ap (λ x. x || false) e) k;
+    not_at_work = λ stamp e k. refused_by false _ stamp w (ap (λ x. x || false) e) k;
+    no_pose = λ stamp e k. refused_by false _ stamp w (ap (λ x. x || false) e) k;
+    in_use = λ stamp e k. refused_by false _ stamp w (ap (λ x. x || false) e) k;
+    not_stopped = λ stamp e k. refused_by false _ stamp w (ap (λ x. x || false) e) k;
+    worn = λ stamp e k. refused_by false _ stamp w (ap (λ x. x || false) e) k;
     out_of_memory = λ k. led_by _ w k;
   }
 

@@ -1,8 +1,12 @@
 -- The refusals on which a step stays.
-use Rattle.std.proofs.Common.{[], ◌∷◌, refl}
-use Rattle.cell_types.specs.declared.answer.Refusal.TheVariants.{Held, NotOwner, PlaceFull, Shut}
+use Rattle.std.proofs.Common.{◌≡◌, ◌||◌, ◌∙◌, ap, List, [], ◌∷◌, refl}
+use Rattle.cell_types.specs.declared.answer.Refusal.{Refusal}
+use Rattle.cell_types.specs.declared.answer.Refusal.TheVariants.{Held, NotOwner, PlaceFull, Shut, Stopped}
+use Rattle.cell_control.specs.declared.row.Waits.{Waits}
 use Rattle.cell_control.specs.declared.row.Waits.TheVariants as waits
-use Rattle.cell_control.specs.Rows.{UntilFree, UntilOwner, UntilRoom, UntilOpen}
+use Rattle.cell_control.specs.Row.{waits_on}
+use Rattle.cell_control.specs.Steps.{is_while_stopped}
+use Rattle.cell_control.specs.Rows.{Wait, is_among, is_waited_out, stays_by, UntilFree, UntilOwner, UntilRoom, UntilOpen, UntilResumed}
 use Rattle.cell_control.specs.WaitRows.{StaysOn, WaitRows}
 
 until_free : StaysOn waits.UntilFree (UntilFree ∷ [])
@@ -22,6 +26,10 @@ until_free_and_open (Held _) = refl
 until_free_and_open (Shut _) = refl
 until_free_and_open _ = refl
 
+until_resumed : (r : Refusal) → is_while_stopped r ≡ is_waited_out UntilResumed r
+until_resumed Stopped = refl
+until_resumed _ = refl
+
 pub wait-rows : WaitRows
 wait-rows = record {
   never = λ r. refl;
@@ -29,4 +37,27 @@ wait-rows = record {
   until_owner = until_owner;
   until_room = until_room;
   until_free_and_open = until_free_and_open;
+  until_resumed = until_resumed;
 }
+
+-- so a step stays by its row, and in a stopped cell
+abbrev pub Stays : Waits → List Wait → Type 0
+Stays w ws = (r : Refusal) → (waits_on w r || is_while_stopped r) ≡ stays_by ws r
+
+stays : (w : Waits) (ws : List Wait) → StaysOn w ws → Stays w ws
+stays w ws k r = ap (λ x. x || is_while_stopped r) (k r) ∙ ap (λ x. is_among ws r || x) (until_resumed r)
+
+pub stays_never : Stays waits.Never []
+stays_never = stays waits.Never [] wait-rows.never
+
+pub stays_until_free : Stays waits.UntilFree (UntilFree ∷ [])
+stays_until_free = stays waits.UntilFree (UntilFree ∷ []) wait-rows.until_free
+
+pub stays_until_owner : Stays waits.UntilOwner (UntilOwner ∷ [])
+stays_until_owner = stays waits.UntilOwner (UntilOwner ∷ []) wait-rows.until_owner
+
+pub stays_until_room : Stays waits.UntilRoom (UntilRoom ∷ [])
+stays_until_room = stays waits.UntilRoom (UntilRoom ∷ []) wait-rows.until_room
+
+pub stays_until_free_and_open : Stays waits.UntilFreeAndOpen (UntilFree ∷ UntilOpen ∷ [])
+stays_until_free_and_open = stays waits.UntilFreeAndOpen (UntilFree ∷ UntilOpen ∷ []) wait-rows.until_free_and_open

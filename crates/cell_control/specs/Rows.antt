@@ -6,9 +6,9 @@ use Rattle.cell_types.specs.declared.posture.Posture.{Posture}
 use Rattle.cell_types.specs.declared.call.Call.{Call}
 use Rattle.cell_types.specs.declared.call.Call.TheVariants.{Inquire}
 use Rattle.cell_types.specs.declared.answer.Refusal.{Refusal}
-use Rattle.cell_types.specs.declared.answer.Refusal.TheVariants.{Held, NotOwner, PlaceFull, Shut}
+use Rattle.cell_types.specs.declared.answer.Refusal.TheVariants.{Held, NotOwner, PlaceFull, Shut, Stopped}
 use Rattle.cell_calib.specs.declared.sense.SensorFault.{SensorFault}
-use Rattle.cell_control.specs.Steps.{Steps}
+use Rattle.cell_control.specs.Steps.{Steps, waits_out}
 
 -- what a step may wait for: each is a refusal on which it stays
 pub data Wait : Type 0 where
@@ -16,28 +16,34 @@ pub data Wait : Type 0 where
   UntilOwner : Wait
   UntilRoom : Wait
   UntilOpen : Wait
+  UntilResumed : Wait
 
 abbrev pub is_waited_out : Wait → Refusal → Bool
 is_waited_out UntilFree (Held _) = true
 is_waited_out UntilOwner (NotOwner _) = true
 is_waited_out UntilRoom PlaceFull = true
 is_waited_out UntilOpen (Shut _) = true
+is_waited_out UntilResumed Stopped = true
 is_waited_out _ _ = false
 
-abbrev pub stays_by : List Wait → Refusal → Bool
-stays_by [] r = false
-stays_by (w ∷ ws) r = is_waited_out w r || stays_by ws r
+abbrev pub is_among : List Wait → Refusal → Bool
+is_among [] r = false
+is_among (w ∷ ws) r = is_waited_out w r || is_among ws r
 
--- a step asks this call, stays on exactly these refusals, and leads to `next` when the call is done
+-- each step that asks also stays in a stopped cell
+abbrev pub stays_by : List Wait → Refusal → Bool
+stays_by ws r = is_among ws r || is_waited_out UntilResumed r
+
+-- a step asks this call, stays on exactly these refusals and in a stopped cell, and leads to `next` when the call is done
 pub record AskRow {S Sense Reading Act : Type 0} (t : Steps S Sense Reading Act) (p : S) (call : Call) (waits : List Wait) (next : S) : Type 0 where
   pub asks : t.call p ≡ Some call
-  pub stays : (r : Refusal) → t.stays_on p r ≡ stays_by waits r
+  pub stays : (r : Refusal) → waits_out t p r ≡ stays_by waits r
   pub leads : t.after_done p ≡ next
 
--- a step inquires a zone, stays on no refusal, and leads on by the zone's owner, flag and posture
+-- a step inquires a zone, stays only in a stopped cell, and leads on by the zone's owner, flag and posture
 pub record InquiryRow {S Sense Reading Act : Type 0} (t : Steps S Sense Reading Act) (p : S) (zone : Zone) (next : Option Machine → Bool → Posture → S) : Type 0 where
   pub asks : t.call p ≡ Some (Inquire zone)
-  pub stays : (r : Refusal) → t.stays_on p r ≡ false
+  pub stays : (r : Refusal) → waits_out t p r ≡ stays_by [] r
   pub leads : (owner : Option Machine) (flag : Bool) (posture : Posture) → t.after_inquiry p owner flag posture ≡ next owner flag posture
 
 -- a step asks nothing; by this reading it sets the actuators to `act` and nothing else, and leads to `next`

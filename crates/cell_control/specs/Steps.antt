@@ -1,9 +1,10 @@
 -- A machine's program, as a table of its steps.
-use Rattle.std.specs.Prelude.{◌≡◌, Bool, if◌then◌else◌, List, Option, None, Result, Ok, Err}
+use Rattle.std.specs.Prelude.{◌≡◌, Bool, true, false, ◌||◌, if◌then◌else◌, List, Option, None, Result, Ok, Err}
 use Rattle.cell_types.specs.declared.machine.Machine.{Machine}
 use Rattle.cell_types.specs.declared.posture.Posture.{Posture}
 use Rattle.cell_types.specs.declared.call.Call.{Call}
 use Rattle.cell_types.specs.declared.answer.Refusal.{Refusal}
+use Rattle.cell_types.specs.declared.answer.Refusal.TheVariants.{Stopped}
 use Rattle.cell_types.specs.declared.answer.Answer.{Answer}
 use Rattle.cell_types.specs.declared.answer.Answer.TheVariants.{Done, Shown, Refused}
 use Rattle.cell_types.specs.declared.answer.Event.{Event}
@@ -38,9 +39,17 @@ pub record Steps (S Sense Reading Act : Type 0) : Type 1 where
   -- what must hold of the history while a step has set the actuators so
   pub motor_demands : S → Act → ModelState → List Event → Type 0
 
+-- in a stopped cell a step that asks stays, whatever else it waits for
+abbrev pub is_while_stopped : Refusal → Bool
+is_while_stopped Stopped = true
+is_while_stopped _ = false
+
+abbrev pub waits_out : {S Sense Reading Act : Type 0} → Steps S Sense Reading Act → S → Refusal → Bool
+waits_out t p r = t.stays_on p r || is_while_stopped r
+
 -- the next step after an answer; on a refusal the step stays, or the controller stops
 abbrev pub after_refusal : {S Sense Reading Act : Type 0} → Steps S Sense Reading Act → S → Refusal → Result S CtlFault
-after_refusal t p r = if t.stays_on p r then Ok p else Err (fault_of r)
+after_refusal t p r = if waits_out t p r then Ok p else Err (fault_of r)
 
 abbrev pub after_answer : {S Sense Reading Act : Type 0} → Steps S Sense Reading Act → S → Answer → Result S CtlFault
 after_answer t p Done = Ok (t.after_done p)

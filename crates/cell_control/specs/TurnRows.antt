@@ -5,7 +5,7 @@ use Rattle.cell_types.specs.declared.zone.Zone.{Zone}
 use Rattle.cell_types.specs.declared.posture.Posture.{Posture}
 use Rattle.cell_types.specs.declared.call.Call.{Call}
 use Rattle.cell_types.specs.declared.answer.Refusal.{Refusal}
-use Rattle.cell_types.specs.declared.answer.Refusal.TheVariants.{NotParty, Held, AlreadyMine, Shut, NotOwner, PlateInZone, NoPlate, PlaceFull, WrongWay, Jump, NotAtWork, NoPose, Worn, InUse}
+use Rattle.cell_types.specs.declared.answer.Refusal.TheVariants.{NotParty, Held, AlreadyMine, Shut, NotOwner, PlateInZone, NoPlate, PlaceFull, WrongWay, Jump, NotAtWork, NoPose, Worn, InUse, Stopped, NotStopped}
 use Rattle.cell_types.specs.declared.answer.Answer.TheVariants.{Done, Shown, Refused}
 use Rattle.cell_types.specs.declared.answer.Event.{Event}
 use Rattle.cell_types.specs.declared.reply.Reply.{Reply}
@@ -47,6 +47,7 @@ pub record AnswerRows {S Sense Reading Act : Type 0} (t : Steps S Sense Reading 
   pub done : (stamp : ℕ) → Answered t p s (Ok (Settled Done stamp)) w → w ≡ leads_to t p (t.after_done p)
   pub shown : (owner : Option Machine) (flag : Bool) (posture : Posture) (stamp : ℕ) → Answered t p s (Ok (Settled (Shown owner flag posture) stamp)) w → w ≡ leads_to t p (t.after_inquiry p owner flag posture)
   pub waits : (r : Refusal) (stamp : ℕ) → t.stays_on p r ≡ true → Answered t p s (Ok (Settled (Refused r) stamp)) w → w ≡ leads_to t p p
+  pub while_stopped : (stamp : ℕ) → Answered t p s (Ok (Settled (Refused Stopped) stamp)) w → w ≡ leads_to t p p
   pub busy : (lost stamp : ℕ) → Answered t p s (Ok (Busy lost stamp)) w → w ≡ leads_to t p p
   pub not_party : Stops t p s w NotParty (fault.Refused NotParty)
   pub held : (m : Machine) → Stops t p s w (Held m) (fault.Refused (Held m))
@@ -61,6 +62,7 @@ pub record AnswerRows {S Sense Reading Act : Type 0} (t : Steps S Sense Reading 
   pub not_at_work : Stops t p s w NotAtWork (fault.Refused NotAtWork)
   pub no_pose : Stops t p s w NoPose (fault.Refused NoPose)
   pub in_use : Stops t p s w InUse (fault.Refused InUse)
+  pub not_stopped : Stops t p s w NotStopped (fault.Refused NotStopped)
   pub worn : Stops t p s w Worn fault.Worn
   pub out_of_memory : Answered t p s (Err line.Memory) w → w ≡ stops_with p fault.Memory
 

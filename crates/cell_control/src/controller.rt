@@ -144,7 +144,7 @@ fn after_refusal<P: Program>(
 ) -> Result<P::Progress, CtlFault>
     ensures { result ≡ refused_at (P.steps program.now) progress refusal }
 {
-    if program.stays_on(progress, refusal) {
+    if program.stays_on(progress, refusal) || matches!(refusal, Refusal::Stopped) {
         Ok(progress)
     } else {
         Err(CtlFault::from(refusal))

@@ -11,9 +11,10 @@ ghost use Rattle.cell_control.specs.WaitRows.{WaitRows};
 use crate::program::Program;
 
 /// The effect of a turn, at any step of any program: after each answer, a refusal on which the step
-/// stays, each refusal on which it doesn't, a Busy, and a call that is out of memory. Sensors that
-/// can't be used stop the controller, and a stopped controller stays so. Also what each of these
-/// turns asks, and the machine's progress by none of its events, and by one.
+/// stays, each refusal on which it doesn't, the refusal in a stopped cell, on which each step stays,
+/// a Busy, and a call that is out of memory. Sensors that can't be used stop the controller, and a
+/// stopped controller stays so. Also what each of these turns asks, and the machine's progress by
+/// none of its events, and by one.
 pub fn turns_by_answers<P: Program>(program: &P, progress: P::Progress, sense: &P::Sense)
     ensures { TurnRows (P.steps program.now) progress sense.now }
 {}

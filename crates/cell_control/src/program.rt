@@ -8,7 +8,8 @@ use cell_types::{Call, Machine, Posture, Refusal};
 ///
 /// - A step with a call asks it once and sets the actuators to `rest`. When the call is done, the
 ///   step leads to `after_done`; an inquiry leads to `after_inquiry`, by what it showed. On a
-///   refusal the step stays if `stays_on` says so. Otherwise the controller stops.
+///   refusal the step stays if `stays_on` says so, and always while the cell is stopped. Otherwise
+///   the controller stops.
 /// - A step without a call drives: it sets the actuators to `drive` and leads to `after_drive`.
 ///   That is the step itself until its motors are off. A step that only switches a magnet drives
 ///   too: its motors are off, so it leads on at once.
@@ -60,7 +61,8 @@ pub trait Program: Drop {
     ) -> Self::Progress
         ensures { result ≡ (steps self.now).after_inquiry progress owner flag posture };
 
-    /// Whether a step waits for a refusal to pass.
+    /// Whether a step waits for a refusal to pass. Each step waits while the cell is stopped, so it
+    /// needn't say so.
     fn stays_on(&self, progress: Self::Progress, refusal: Refusal) -> bool
         ensures { result ≡ (steps self.now).stays_on progress refusal };
 

@@ -12,7 +12,7 @@ use Rattle.cell_devices.proofs.DriveLemmas.{drives_one, stops_there, goes_plus, 
 use Rattle.cell_rules.specs.ModelState.{ModelState}
 use Rattle.cell_control.specs.Row.{waits_on}
 use Rattle.cell_control.specs.Rows.{DriveRow, is_inquiry}
-use Rattle.cell_control.proofs.WaitLemmas.{wait-rows}
+use Rattle.cell_control.proofs.WaitLemmas.{stays_never, stays_until_free_and_open}
 use Rattle.cell_haul.specs.declared.crane.CraneStep.{CraneStep}
 use Rattle.cell_haul.specs.declared.crane.CraneStep.TheVariants.{RaiseToFetch, TravelToDeposit, AwaitPlate, LowerToPlate, GripPlate, RaiseWithPlate, TravelToFeed, LowerToFeed, DropPlate, RaiseFromFeed}
 use Rattle.cell_haul.specs.declared.crane.CraneReading.{CraneReading}
@@ -30,11 +30,11 @@ leads_awaiting points magnet _ _ posture = refl
 
 asks : (points : Scale) (magnet : Bool) → CraneAsks points magnet
 asks points magnet = record {
-  awaits_plate = record { asks = refl; stays = λ r. refl; leads = leads_awaiting points magnet };
-  takes = record { asks = refl; stays = λ r. refl; leads = refl };
-  releases_deposit = record { asks = refl; stays = λ r. refl; leads = refl };
-  claims_feed = record { asks = refl; stays = wait-rows.until_free_and_open; leads = refl };
-  gives = record { asks = refl; stays = λ r. refl; leads = refl };
+  awaits_plate = record { asks = refl; stays = stays_never; leads = leads_awaiting points magnet };
+  takes = record { asks = refl; stays = stays_never; leads = refl };
+  releases_deposit = record { asks = refl; stays = stays_never; leads = refl };
+  claims_feed = record { asks = refl; stays = stays_until_free_and_open; leads = refl };
+  gives = record { asks = refl; stays = stays_never; leads = refl };
 }
 
 -- a step and a reading determine the commands to motors and magnet

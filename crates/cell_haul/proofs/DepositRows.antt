@@ -4,7 +4,7 @@ use Rattle.cell_types.specs.declared.answer.Refusal.{Refusal}
 use Rattle.cell_rules.specs.ModelState.{ModelState}
 use Rattle.cell_control.specs.Row.{waits_on}
 use Rattle.cell_control.specs.Rows.{is_inquiry}
-use Rattle.cell_control.proofs.WaitLemmas.{wait-rows}
+use Rattle.cell_control.proofs.WaitLemmas.{stays_never, stays_until_free, stays_until_owner, stays_until_room}
 use Rattle.cell_haul.specs.declared.deposit.DepositStep.{DepositStep}
 use Rattle.cell_haul.specs.declared.deposit.DepositStep.TheVariants.{ClaimEntry, RunIn, RunOut}
 use Rattle.cell_haul.specs.declared.deposit.DepositProgress.{DepositProgress}
@@ -19,20 +19,20 @@ begins s true true = refl
 
 asks : (entry last : Bool) → DepositAsks entry last
 asks entry last = record {
-  claims_entry = record { asks = refl; stays = λ r. refl; leads = refl };
-  claims_exit = record { asks = refl; stays = λ r. refl; leads = refl };
-  claims_exit_with_plate = record { asks = refl; stays = λ r. refl; leads = refl };
-  claims_exit_with_plate_at_end = record { asks = refl; stays = λ r. refl; leads = refl };
-  poses_landing = record { asks = refl; stays = λ r. refl; leads = refl };
-  releases_entry = record { asks = refl; stays = λ r. refl; leads = refl };
-  takes = record { asks = refl; stays = wait-rows.until_owner; leads = refl };
-  starts = record { asks = refl; stays = λ r. refl; leads = refl };
-  moves_on = record { asks = refl; stays = λ r. refl; leads = refl };
-  poses_offering = record { asks = refl; stays = λ r. refl; leads = refl };
-  gives = record { asks = refl; stays = wait-rows.until_room; leads = refl };
-  claims_back = record { asks = refl; stays = wait-rows.until_free; leads = refl };
-  claims_back_with_plate = record { asks = refl; stays = wait-rows.until_free; leads = refl };
-  claims_back_with_plate_at_end = record { asks = refl; stays = wait-rows.until_free; leads = refl };
+  claims_entry = record { asks = refl; stays = stays_never; leads = refl };
+  claims_exit = record { asks = refl; stays = stays_never; leads = refl };
+  claims_exit_with_plate = record { asks = refl; stays = stays_never; leads = refl };
+  claims_exit_with_plate_at_end = record { asks = refl; stays = stays_never; leads = refl };
+  poses_landing = record { asks = refl; stays = stays_never; leads = refl };
+  releases_entry = record { asks = refl; stays = stays_never; leads = refl };
+  takes = record { asks = refl; stays = stays_until_owner; leads = refl };
+  starts = record { asks = refl; stays = stays_never; leads = refl };
+  moves_on = record { asks = refl; stays = stays_never; leads = refl };
+  poses_offering = record { asks = refl; stays = stays_never; leads = refl };
+  gives = record { asks = refl; stays = stays_until_room; leads = refl };
+  claims_back = record { asks = refl; stays = stays_until_free; leads = refl };
+  claims_back_with_plate = record { asks = refl; stays = stays_until_free; leads = refl };
+  claims_back_with_plate_at_end = record { asks = refl; stays = stays_until_free; leads = refl };
 }
 
 drives : (entry last : Bool) → DepositDrives entry last

@@ -1,13 +1,14 @@
 -- The examples of what a call may and may not leave of its pass.
-use Rattle.std.proofs.Common.{◌≡◌, ℕ, ◌+◌, ◌<◌, ◌≤◌, true, false, List, [], ◌∷◌, ◌++◌, length, None, inr, refl, ap, ◌∙◌, arith}
+use Rattle.std.proofs.Common.{◌≡◌, ℕ, ◌+◌, ◌<◌, ◌≤◌, true, false, List, [], ◌∷◌, length, None, inr, refl, ap, ◌∙◌, arith}
 use Rattle.std.proofs.lemmas.List.{same_from_push}
 use Rattle.atomic_table.specs.Seated.{TableId}
 use Rattle.cell_types.specs.declared.machine.Machine.{Machine}
 use Rattle.cell_types.specs.declared.machine.Machine.TheVariants.{Feed, Table, Press, Watch}
 use Rattle.cell_types.specs.declared.zone.Zone.{Zone}
 use Rattle.cell_types.specs.declared.zone.Zone.TheVariants.{Z3}
-use Rattle.cell_types.specs.declared.call.Call.TheVariants.{Release}
-use Rattle.cell_types.specs.declared.answer.Answer.TheVariants.{Done}
+use Rattle.cell_types.specs.declared.call.Call.TheVariants.{Release, Stop}
+use Rattle.cell_types.specs.declared.answer.Answer.TheVariants.{Done, Refused}
+use Rattle.cell_types.specs.declared.answer.Refusal.TheVariants.{Stopped}
 use Rattle.cell_types.specs.declared.answer.Event.{Event}
 use Rattle.cell_rules.specs.declared.zones.ZoneState.{ZoneState}
 use Rattle.cell_rules.specs.ModelState.{ModelState}
@@ -21,7 +22,7 @@ use Rattle.cell_rules.proofs.Quiet.{changes-append}
 use Rattle.cell_interlock.specs.Views.{PassView, InterlockView}
 use Rattle.cell_interlock.specs.Fresh.{IsFresh, AreFresh}
 use Rattle.cell_interlock.specs.Seen.{IsSettled, HasSeenMore, HasChanges}
-use Rattle.cell_interlock.specs.OutcomeExamples.{opened, claim, claimed, released, by_feed, again_by_feed, press_pass, after_claim, AskExamples, LookExamples, AttemptExamples, MoreExamples, ChangeExamples, AnswerExamples, FreshExamples, LineExamples, OutcomeExamples}
+use Rattle.cell_interlock.specs.OutcomeExamples.{opened, claim, claimed, released, by_feed, again_by_feed, by_watch, barred, press_pass, watch_pass, after_claim, AskExamples, LookExamples, AttemptExamples, MoreExamples, ChangeExamples, AnswerExamples, FreshExamples, LineExamples, OutcomeExamples}
 use Rattle.cell_interlock.specs.declared.pass.Passes.{Passes}
 use Rattle.cell_interlock.proofs.Tells.{lawful_history, settled}
 
@@ -59,6 +60,16 @@ saw_nothing = record { begins = ([], refl); own = refl }
 claim_done : (t : TableId) (l x : ℕ) → IsSettled (press_pass t [] [] l x) claim Done 1 (after_claim t)
 claim_done t l x = settled (press_pass t [] [] l x) (after_claim t) claim Done 1 [] sound tt saw_nothing (record { table = refl; opening = refl; machine = refl }) refl refl refl
 
+-- a stop that is Done
+stop_done : (t : TableId) → IsSettled (watch_pass t [] 3 5) Stop Done 1 (watch_pass t (by_watch ∷ []) 4 6)
+stop_done t = settled (watch_pass t [] 3 5) (watch_pass t (by_watch ∷ []) 4 6) Stop Done 1 [] sound tt (record { begins = ([], refl); own = refl }) (record { table = refl; opening = refl; machine = refl }) refl refl refl
+
+-- a claim that is refused after the stop
+claim_barred : (t : TableId) → IsSettled (press_pass t [] [] 4 5) claim (Refused Stopped) 1 (press_pass t (by_watch ∷ barred ∷ []) [] 4 6)
+claim_barred t =
+    settled (press_pass t [] [] 4 5) (press_pass t (by_watch ∷ barred ∷ []) [] 4 6) claim (Refused Stopped) 1 (by_watch ∷ []) sound (refl, tt) (record { begins = (by_watch ∷ [], refl); own = refl })
+    (record { table = refl; opening = refl; machine = refl }) refl refl refl
+
 -- others have made changes meanwhile
 more : (t : TableId) (seen now : List Event) (since : List Event) (l x k y : ℕ) → IsLegal opened now → Waits Press seen now → HasSeenMore (press_pass t seen since l x) (press_pass t now since k y)
 more t seen now since l x k y legal waits = record { pass = record { table = refl; opening = refl; machine = refl }; lawful = lawful_history opened now sound legal; seen = waits }
@@ -71,6 +82,18 @@ both_by_feed = record { more = by_feed ∷ again_by_feed ∷ []; is = refl; many
 ask : (t : TableId) → AskExamples t
 ask t = record {
   done = (let s = claim_done t 3 5 in record {
+    pass = s.pass;
+    lawful = s.lawful;
+    seen = (s.seen, s.stamped);
+    answer = s.answer;
+    right = s.right;
+    busy = tt;
+    one_load = refl;
+    few_exchanges = omega arith;
+    all_lost = tt;
+    since = tt;
+  });
+  stops = (let s = stop_done t in record {
     pass = s.pass;
     lawful = s.lawful;
     seen = (s.seen, s.stamped);
@@ -173,6 +196,9 @@ attempt t = record {
   pass_of_settled = refl;
   settled = claim_done t 4 5;
   settled_with_other_stamp = λ r. let e : 2 ≡ 1 = r.stamped in omega arith;
+  stopped = claim_barred t;
+  done_while_stopped = λ r. let e = (r.lawful (by_watch ∷ claimed ∷ []) [] refl).legal.1.0 in cc;
+  lost_while_stopped = λ r. let e = r.unmade.ready in cc;
 }
 
 -- ---- effects of calls

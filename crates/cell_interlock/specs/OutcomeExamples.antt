@@ -2,15 +2,13 @@
 -- thing. The press claims z3, which is open inward and free in the opening. A call may lose two exchanges.
 use Rattle.std.specs.Prelude.{◌≡◌, ◌≢◌, ℕ, false, List, [], ◌∷◌, None, Err}
 use Rattle.atomic_table.specs.Seated.{TableId}
-use Rattle.cell_types.specs.declared.machine.Machine.{Machine}
 use Rattle.cell_types.specs.declared.machine.Machine.TheVariants.{Feed, Table, Robot, Press, Deposit, Crane, Watch}
 use Rattle.cell_types.specs.declared.zone.Zone.TheVariants.{Z1, Z3, Z6}
 use Rattle.cell_types.specs.declared.posture.Posture.TheVariants.{OpenIn}
 use Rattle.cell_types.specs.declared.call.Call.{Call}
-use Rattle.cell_types.specs.declared.call.Call.TheVariants.{Claim, Release, Inquire}
-use Rattle.cell_types.specs.declared.answer.Answer.{Answer}
+use Rattle.cell_types.specs.declared.call.Call.TheVariants.{Claim, Release, Inquire, Stop}
 use Rattle.cell_types.specs.declared.answer.Answer.TheVariants.{Done, Shown, Refused}
-use Rattle.cell_types.specs.declared.answer.Refusal.TheVariants.{NotOwner, NotParty, Worn}
+use Rattle.cell_types.specs.declared.answer.Refusal.TheVariants.{NotOwner, NotParty, Worn, Stopped}
 use Rattle.cell_types.specs.declared.answer.Event.{Event}
 use Rattle.cell_types.specs.declared.reply.Reply.{Reply}
 use Rattle.cell_types.specs.declared.reply.Reply.TheVariants.{Settled, Busy}
@@ -30,7 +28,7 @@ use Rattle.cell_interlock.specs.declared.tries.Look.TheVariants.{Settled as Look
 use Rattle.cell_interlock.specs.declared.tries.Tried.TheVariants.{Settled as TriedSettled, Lost, Busy as TriedBusy}
 
 abbrev pub opened : ModelState
-opened = model_state (put_zone (everywhere free_zone) Z3 (record free_zone { posture = OpenIn })) empty 0
+opened = model_state (put_zone (everywhere free_zone) Z3 (record free_zone { posture = OpenIn })) empty 0 false
 
 abbrev pub claim : Call
 claim = Claim Z3
@@ -57,6 +55,13 @@ by_table = event Table (Claim Z1) Done
 
 abbrev pub by_robot : Event
 by_robot = event Robot claim Done
+
+-- the watch stops the cell, and so the press is refused
+abbrev pub by_watch : Event
+by_watch = event Watch Stop Done
+
+abbrev pub barred : Event
+barred = event Press claim (Refused Stopped)
 
 -- a refusal of another machine, which changes nothing
 abbrev pub feed_refused : Event
@@ -91,6 +96,10 @@ lost_one t = press_pass t (by_feed ∷ []) [] 4 6
 abbrev pub lost_both : TableId → PassView
 lost_both t = press_pass t (by_feed ∷ again_by_feed ∷ []) [] 4 7
 
+-- the watch's pass
+abbrev pub watch_pass : TableId → List Event → ℕ → ℕ → PassView
+watch_pass t seen loads exchanges = record (press_pass t seen [] loads exchanges) { machine = Watch }
+
 -- ---- a whole call
 
 abbrev pub Claims : PassView → Reply → PassView → Type 0
@@ -109,6 +118,7 @@ pub record AskExamples (t : TableId) : Type 0 where
   pub no_load : ¬ Claims (before t) (Settled Done 1) (record (after_claim t) { loads = 3 })
   pub two_loads : ¬ Claims (before t) (Settled Done 1) (record (after_claim t) { loads = 5 })
   pub three_exchanges : ¬ Claims (before t) (Settled Done 1) (record (after_claim t) { exchanges = 8 })
+  pub stops : Replied (watch_pass t [] 3 5) Stop 2 (Settled Done 1) (watch_pass t (by_watch ∷ []) 4 6)
   pub busy : Claims (before t) (Busy 2 2) (lost_both t)
   pub busy_with_other_stamp : ¬ Claims (before t) (Busy 2 1) (lost_both t)
   pub busy_with_an_event :
@@ -165,6 +175,14 @@ pub record AttemptExamples (t : TableId) : Type 0 where
       ¬ Attempted (under_way (lost_one t) 1) (TriedBusy 2 2 (record (lost_both t) { seen = by_table ∷ by_feed ∷ [] }))
   pub settled : Attempted (under_way (looked t) 0) (TriedSettled Done 1 (after_claim t))
   pub settled_with_other_stamp : ¬ Attempted (under_way (looked t) 0) (TriedSettled Done 2 (after_claim t))
+  pub stopped :
+      Attempted (under_way (looked t) 0)
+      (TriedSettled (Refused Stopped) 1 (press_pass t (by_watch ∷ barred ∷ []) [] 4 6))
+  pub done_while_stopped :
+      ¬ Attempted (under_way (looked t) 0)
+      (TriedSettled Done 2 (press_pass t (by_watch ∷ claimed ∷ []) [] 4 6))
+  pub lost_while_stopped :
+      ¬ Attempted (under_way (looked t) 0) (Lost (under_way (record (lost_one t) { seen = by_watch ∷ [] }) 1))
   pub pass_of_lost : after_attempt (Lost (under_way (lost_one t) 1)) ≡ lost_one t
   pub pass_of_busy : after_attempt (TriedBusy 2 2 (lost_both t)) ≡ lost_both t
   pub pass_of_settled : after_attempt (TriedSettled Done 1 (after_claim t)) ≡ after_claim t

@@ -28,6 +28,8 @@ const NO_ROOM: Answer = Answer::Refused(Refusal::PlaceFull);
 
 const CLOSED: Answer = Answer::Refused(Refusal::Shut(Posture::Closed));
 
+const STOPPED: Answer = Answer::Refused(Refusal::Stopped);
+
 const HELD_BY_FEED: Answer = Answer::Refused(Refusal::Held(Machine::Feed));
 
 const HELD_BY_TABLE: Answer = Answer::Refused(Refusal::Held(Machine::Table));
@@ -68,6 +70,11 @@ const LANDING: Call = Call::SetPose(Pose::Landing);
 const OFFERING: Call = Call::SetPose(Pose::Offering);
 
 const HALTED: Call = Call::SetPose(Pose::Halted);
+
+// The watch stops the cell, and lifts the stop.
+const WATCH_STOPS: Move = Asks(Machine::Watch, Call::Stop);
+
+const WATCH_RESUMES: Move = Asks(Machine::Watch, Call::Resume);
 
 // The crane lays a plate on the feed belt.
 const CRANE_COMES: Move = Asks(Machine::Crane, CLAIM_Z6);
@@ -442,5 +449,150 @@ pub const CRANE: &[Row] = &[
         moves: &[Turns(102), FEED_CLAIMS, FEED_LANDS, FEED_OPENS, Turns(162)],
         last: (INQUIRE_Z5, NOTHING),
         at: (Some(0), Some(860)),
+    },
+];
+
+/// The feed belt while the cell is stopped: it waits where it would claim or run, a belt that runs
+/// brings its plate to the end, and after the resume it goes on.
+pub const STOPPED_FEED: &[Row] = &[
+    Row {
+        places: b"0000000000",
+        moves: &[WATCH_STOPS, Turns(1)],
+        last: (CLAIM_Z6, STOPPED),
+        at: (None, None),
+    },
+    Row {
+        places: b"0000000000",
+        moves: &[WATCH_STOPS, Turns(20)],
+        last: (CLAIM_Z6, STOPPED),
+        at: (None, None),
+    },
+    Row {
+        places: b"0000000000",
+        moves: &[WATCH_STOPS, Turns(20), WATCH_RESUMES, Turns(4)],
+        last: (TAKE_Z6, NOT_YET),
+        at: (None, None),
+    },
+    // it may land and let the crane in
+    Row {
+        places: b"0000000000",
+        moves: &[Turns(1), WATCH_STOPS, Turns(20)],
+        last: (TAKE_Z6, NOT_YET),
+        at: (None, None),
+    },
+    Row {
+        places: b"1000000000",
+        moves: &[Turns(1), WATCH_STOPS, Turns(20)],
+        last: (RUNNING, STOPPED),
+        at: (Some(0), None),
+    },
+    Row {
+        places: b"1000000000",
+        moves: &[Turns(1), WATCH_STOPS, Turns(20), WATCH_RESUMES, Turns(2)],
+        last: (RUNNING, DONE),
+        at: (Some(20), None),
+    },
+    Row {
+        places: b"1000000000",
+        moves: &[Turns(3), WATCH_STOPS, Turns(45)],
+        last: (Call::Stop, DONE),
+        at: (Some(900), None),
+    },
+    Row {
+        places: b"1000000000",
+        moves: &[Turns(3), WATCH_STOPS, Turns(46)],
+        last: (Call::Advance, DONE),
+        at: (None, Some(900)),
+    },
+    Row {
+        places: b"1000000000",
+        moves: &[Turns(3), WATCH_STOPS, Turns(60)],
+        last: (CLAIM_Z1, STOPPED),
+        at: (None, Some(900)),
+    },
+    Row {
+        places: b"1000000000",
+        moves: &[Turns(3), WATCH_STOPS, Turns(60), WATCH_RESUMES, Turns(1)],
+        last: (CLAIM_Z1, CLOSED),
+        at: (None, Some(900)),
+    },
+];
+
+/// The deposit belt while the cell is stopped: it waits where it would claim, run or give, and after
+/// the resume it goes on.
+pub const STOPPED_DEPOSIT: &[Row] = &[
+    Row {
+        places: b"0000000000",
+        moves: &[WATCH_STOPS, Turns(20)],
+        last: (Call::Claim(Zone::Z4), STOPPED),
+        at: (None, None),
+    },
+    Row {
+        places: b"0000000000",
+        moves: &[WATCH_STOPS, Turns(20), WATCH_RESUMES, Turns(5)],
+        last: (TAKE_Z4, NOT_YET),
+        at: (None, None),
+    },
+    Row {
+        places: b"0000000100",
+        moves: &[Turns(2), WATCH_STOPS, Turns(20)],
+        last: (RUNNING, STOPPED),
+        at: (Some(0), None),
+    },
+    Row {
+        places: b"0000000100",
+        moves: &[Turns(2), WATCH_STOPS, Turns(20), WATCH_RESUMES, Turns(2)],
+        last: (RUNNING, DONE),
+        at: (Some(20), None),
+    },
+    // there is no room for its plate, which is looked at later
+    Row {
+        places: b"0000000011",
+        moves: &[Turns(4), WATCH_STOPS, Turns(20)],
+        last: (GIVE_Z5, STOPPED),
+        at: (None, Some(1000)),
+    },
+    Row {
+        places: b"0000000011",
+        moves: &[Turns(4), WATCH_STOPS, Turns(20), WATCH_RESUMES, Turns(1)],
+        last: (GIVE_Z5, NO_ROOM),
+        at: (None, Some(1000)),
+    },
+];
+
+/// The crane while the cell is stopped: it looks for plates, travels and takes as ever, waits where
+/// it would claim, and after the resume it goes on.
+pub const STOPPED_CRANE: &[Row] = &[
+    Row {
+        places: b"0000000000",
+        moves: &[WATCH_STOPS, Turns(20)],
+        last: (INQUIRE_Z5, NOTHING),
+        at: OVER_DEPOSIT,
+    },
+    Row {
+        places: b"0000000010",
+        moves: &[
+            Turns(3),
+            DEPOSIT_CLAIMS,
+            DEPOSIT_CLAIMS_Z5,
+            DEPOSIT_OFFERS,
+            DEPOSIT_GIVES,
+            WATCH_STOPS,
+            Turns(80),
+        ],
+        last: (Call::Release(Zone::Z5), DONE),
+        at: (Some(0), Some(860)),
+    },
+    Row {
+        places: b"0000000001",
+        moves: &[WATCH_STOPS, Turns(102)],
+        last: (CLAIM_Z6, STOPPED),
+        at: OVER_FEED,
+    },
+    Row {
+        places: b"0000000001",
+        moves: &[WATCH_STOPS, Turns(120), WATCH_RESUMES, Turns(1)],
+        last: (CLAIM_Z6, CLOSED),
+        at: OVER_FEED,
     },
 ];

@@ -1,6 +1,6 @@
 //! The three machines on a bench: their rows, sensors of the crane that can't be used, and a stamp
 //! at its last value.
-use crate::haul::{CRANE, DEPOSIT, FEED, Positions};
+use crate::haul::{CRANE, DEPOSIT, FEED, Positions, STOPPED_CRANE, STOPPED_DEPOSIT, STOPPED_FEED};
 use crate::haul_play::{Move, last, play, stops};
 use cell_calib::{
     Calibration, CraneSense, DepositSense, FeedSense, Gauge, Points, SensorFault, line_at,
@@ -31,9 +31,11 @@ fn feed(alloc: Global, places: &[u8; 10], moves: &[Move]) -> Option<End> {
 
 #[test]
 fn the_feed_belt_waits_and_goes_on(rt: HostRuntime) {
-    for row in FEED {
-        let end = feed(rt.alloc(), row.places, row.moves);
-        assert!(rt; end == Some((Some(row.last), row.at)), "{row:?}");
+    for rows in [FEED, STOPPED_FEED] {
+        for row in rows {
+            let end = feed(rt.alloc(), row.places, row.moves);
+            assert!(rt; end == Some((Some(row.last), row.at)), "{row:?}");
+        }
     }
 }
 
@@ -48,9 +50,11 @@ fn deposit(alloc: Global, places: &[u8; 10], moves: &[Move]) -> Option<End> {
 
 #[test]
 fn the_deposit_belt_waits_and_goes_on(rt: HostRuntime) {
-    for row in DEPOSIT {
-        let end = deposit(rt.alloc(), row.places, row.moves);
-        assert!(rt; end == Some((Some(row.last), row.at)), "{row:?}");
+    for rows in [DEPOSIT, STOPPED_DEPOSIT] {
+        for row in rows {
+            let end = deposit(rt.alloc(), row.places, row.moves);
+            assert!(rt; end == Some((Some(row.last), row.at)), "{row:?}");
+        }
     }
 }
 
@@ -76,10 +80,12 @@ fn the_crane_waits_and_goes_on(rt: HostRuntime) {
     let Ok(points) = Points::new(0, 4000, 0, 1000, 5) else {
         panic!(rt; "points are points")
     };
-    for row in CRANE {
-        let gauge = move |raw: u16| line_at(&points, raw);
-        let end = crane(rt.alloc(), gauge, points, row.places, row.moves);
-        assert!(rt; end == Some((Some(row.last), row.at)), "{row:?}");
+    for rows in [CRANE, STOPPED_CRANE] {
+        for row in rows {
+            let gauge = move |raw: u16| line_at(&points, raw);
+            let end = crane(rt.alloc(), gauge, points, row.places, row.moves);
+            assert!(rt; end == Some((Some(row.last), row.at)), "{row:?}");
+        }
     }
 }
 

@@ -8,7 +8,7 @@ use super::common::{EMPTY, NO_ROOM, NOT_YET, ROBOTS, guest_asks, is_last, moved,
 use cell_calib::{PressSense, SensorFault};
 use cell_rules::{Bench, Heard, Line, State};
 use cell_stations::{CtlFault, PressCtl, PressProgram};
-use cell_types::{Answer, Call, Machine, Pose, Posture, Zone};
+use cell_types::{Answer, Call, Machine, Pose, Posture, Refusal, Zone};
 use std::alloc::Global;
 
 const DONE: Answer = Answer::Done;
@@ -189,6 +189,110 @@ fn the_press_goes_on_once_the_robot_has_been_there(rt: HostRuntime) {
         let run = visited(rt.alloc(), start, *turns, *calls, *more).expect(&rt, "a run");
         assert!(rt; run.position == *position, "after {more}");
         assert!(rt; is_last(&run.heard, *call, *answer, *stamp), "after {more}");
+    }
+}
+
+/// The end of a run in which the watch stops the cell after a number of turns, more turns follow,
+/// the watch resumes if it has to, and the last turns follow.
+fn stopped(
+    alloc: Global,
+    start: State,
+    turns: u32,
+    waits: u32,
+    resumes: bool,
+    more: u32,
+) -> Option<Run> {
+    let mut press = PressCtl::new(&start, PressProgram);
+    let mut bench = Bench::new(alloc, start);
+    let stops_at = go_on(&mut press, &mut bench, 1000, turns).unwrap_or(0);
+    guest_asks(&press, &mut bench, Machine::Watch, Call::Stop);
+    let waits_at = go_on(&mut press, &mut bench, stops_at, waits).unwrap_or(0);
+    if resumes {
+        guest_asks(&press, &mut bench, Machine::Watch, Call::Resume);
+    }
+    let stands = go_on(&mut press, &mut bench, waits_at, more);
+    end_of(&bench, stands)
+}
+
+const STOPPED: Answer = Answer::Refused(Refusal::Stopped);
+
+// A start, turns, turns while the cell is stopped, whether the watch resumes and more turns, then
+// the press's position, its last call, its answer, the stamp.
+const STOPS: &[([bool; 10], u32, u32, bool, u32, u16, Call, Answer, u32)] = &[
+    // no claim is begun
+    (
+        EMPTY,
+        0,
+        20,
+        false,
+        0,
+        1000,
+        Call::Claim(Zone::Z3),
+        STOPPED,
+        1,
+    ),
+    (EMPTY, 0, 20, true, 1, 1000, Call::Claim(Zone::Z3), DONE, 3),
+    // and no movement
+    (
+        EMPTY,
+        1,
+        20,
+        false,
+        0,
+        1000,
+        Call::SetPose(Pose::Travelling),
+        STOPPED,
+        2,
+    ),
+    (
+        EMPTY,
+        1,
+        20,
+        true,
+        1,
+        1000,
+        Call::SetPose(Pose::Travelling),
+        DONE,
+        4,
+    ),
+    // a press that moves comes to its middle, and lets the robot in
+    (
+        EMPTY,
+        10,
+        30,
+        false,
+        0,
+        500,
+        Call::Take(Zone::Z3),
+        NOT_YET,
+        5,
+    ),
+    // it begins no handover
+    (
+        FORGED,
+        30,
+        40,
+        false,
+        0,
+        0,
+        Call::Give(Zone::Z3),
+        STOPPED,
+        4,
+    ),
+    (FORGED, 30, 40, true, 1, 0, Call::Give(Zone::Z3), DONE, 6),
+];
+
+#[test]
+fn the_press_waits_while_the_cell_is_stopped(rt: HostRuntime) {
+    for (places, turns, waits, resumes, more, position, call, answer, stamp) in STOPS {
+        let start = start_of(&rt, *places);
+        let run = stopped(rt.alloc(), start, *turns, *waits, *resumes, *more);
+        let run = run.expect(&rt, "a run");
+        assert!(rt; run.position == *position, "{turns} {waits}");
+        assert!(rt;
+            is_last(&run.heard, *call, *answer, *stamp),
+            "{turns} {waits}"
+        );
     }
 }
 

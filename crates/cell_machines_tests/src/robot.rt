@@ -367,6 +367,55 @@ pub const STOPS: &[Row] = &[Row {
     ..TO_LOAD
 }];
 
+const STOPPED: Answer = Answer::Refused(Refusal::Stopped);
+
+/// While the watch has stopped the cell, the robot looks as ever, and waits where it would claim.
+/// After the resume it is answered as before.
+pub const STOPPED_CELL: &[Row] = &[
+    Row {
+        calls: &[Call::Stop],
+        more: 3,
+        asks: 5,
+        last: Some((ASK_TABLE, FREE, 1)),
+        ..AT_TABLE
+    },
+    Row {
+        calls: &[Call::Stop],
+        more: 3,
+        asks: 5,
+        last: Some((CLAIM_PRESS, STOPPED, 1)),
+        ..TO_LOAD
+    },
+    Row {
+        calls: &[Call::Stop, Call::Resume],
+        more: 1,
+        asks: 4,
+        last: Some((CLAIM_PRESS, SHUT, 2)),
+        ..TO_LOAD
+    },
+    Row {
+        calls: &[Call::Stop],
+        more: 2,
+        asks: 4,
+        last: Some((ASK_PRESS, FREE, 1)),
+        ..TO_UNLOAD
+    },
+    Row {
+        calls: &[Call::Stop],
+        more: 2,
+        asks: 4,
+        last: Some((CLAIM_DEPOSIT, STOPPED, 1)),
+        ..TO_DEPOSIT
+    },
+    Row {
+        calls: &[Call::Stop, Call::Resume, Call::Stop],
+        more: 2,
+        asks: 6,
+        last: Some((CLAIM_DEPOSIT, STOPPED, 3)),
+        ..TO_DEPOSIT
+    },
+];
+
 /// Sensors that can be used, with raw values from 100 to 4100.
 pub const GOOD: RobotSense = RobotSense {
     arm1: 100,

@@ -5,7 +5,7 @@ ghost use Rattle.cell_control.specs.Steps.{IsReached};
 ghost use Rattle.cell_robot.specs.RobotProgram.{robot_start};
 
 use crate::common::{guest_asks, moved};
-use crate::robot::{Axes, BROKEN, GOES_ON, GOOD, Row, STOPS, TURNS_RETRACTED, WAITS};
+use crate::robot::{Axes, BROKEN, GOES_ON, GOOD, Row, STOPPED_CELL, STOPS, TURNS_RETRACTED, WAITS};
 use cell_calib::{Calibration, Gauge, Points, RobotSense, SensorFault, line_at};
 use cell_control::{Controller, CtlFault, Program};
 use cell_devices::{Motor, RobotAct};
@@ -26,6 +26,7 @@ fn guest_comes<P: Program>(robot: &Controller<P>, bench: &mut Bench, guest: Mach
             Machine::Table => guest_asks(robot, bench, Machine::Table, *call),
             Machine::Press => guest_asks(robot, bench, Machine::Press, *call),
             Machine::Deposit => guest_asks(robot, bench, Machine::Deposit, *call),
+            Machine::Watch => guest_asks(robot, bench, Machine::Watch, *call),
             _ => {}
         }
     }
@@ -158,7 +159,7 @@ fn is_met(alloc: Global, row: &Row) -> Result<bool, Fail> {
 
 #[test]
 fn the_robot_goes_through_its_program(rt: HostRuntime) -> Result<(), Fail> {
-    for rows in [WAITS, GOES_ON, TURNS_RETRACTED, STOPS] {
+    for rows in [WAITS, GOES_ON, TURNS_RETRACTED, STOPS, STOPPED_CELL] {
         for row in rows {
             assert!(rt; is_met(rt.alloc(), row)?, "{row:?}");
         }

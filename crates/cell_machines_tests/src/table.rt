@@ -11,7 +11,7 @@ use cell_calib::{Calibration, Gauge, Points, SensorFault, TableSense, line_at};
 use cell_devices::Motor;
 use cell_rules::{Bench, Heard, Line, State};
 use cell_stations::{CtlFault, TableCtl, TableProgram};
-use cell_types::{Answer, Call, Machine, Pose, Posture, Zone};
+use cell_types::{Answer, Call, Machine, Pose, Posture, Refusal, Zone};
 use std::alloc::Global;
 use std::process::Abort;
 
@@ -250,6 +250,65 @@ fn the_table_goes_on_once_the_robot_has_been_there(rt: HostRuntime) {
         let run = run.expect(&rt, "a run");
         assert!(rt; run.at == *at, "after {more}");
         assert!(rt; is_last(&run.heard, *call, *answer, *stamp), "after {more}");
+    }
+}
+
+// The watch's calls between the table's turns: it stops the cell, and may resume at once. The stop
+// is refused a second time.
+const STOPS: (Call, Call) = (Call::Stop, Call::Stop);
+
+const STOPS_SHORTLY: (Call, Call) = (Call::Stop, Call::Resume);
+
+const STOPPED: Answer = Answer::Refused(Refusal::Stopped);
+
+// Turns, the watch's calls and more turns, then the same.
+const STOPPED_TURNS: &[(u32, (Call, Call), u32, At, Call, Answer, u32)] = &[
+    (0, STOPS, 20, (0, 0), Call::Claim(Zone::Z1), STOPPED, 1),
+    (0, STOPS_SHORTLY, 1, (0, 0), Call::Claim(Zone::Z1), DONE, 3),
+    (1, STOPS, 20, (0, 0), Call::Claim(Zone::Z2), STOPPED, 2),
+    (
+        2,
+        STOPS,
+        20,
+        (0, 0),
+        Call::SetPose(Pose::Turning),
+        STOPPED,
+        3,
+    ),
+    (
+        2,
+        STOPS_SHORTLY,
+        1,
+        (0, 0),
+        Call::SetPose(Pose::Turning),
+        DONE,
+        5,
+    ),
+    // a table that turns comes to rest, with its plate
+    (10, STOPS, 40, (600, 500), Call::Give(Zone::Z2), STOPPED, 5),
+    (
+        35,
+        STOPS_SHORTLY,
+        1,
+        (600, 500),
+        Call::Give(Zone::Z2),
+        DONE,
+        7,
+    ),
+];
+
+#[test]
+fn the_table_waits_while_the_cell_is_stopped(rt: HostRuntime) {
+    let start = start_of(&rt, LOADED);
+    let watch = Machine::Watch;
+    for (turns, calls, more, at, call, answer, stamp) in STOPPED_TURNS {
+        let run = visited(rt.alloc(), scale(&rt), start, *turns, watch, *calls, *more);
+        let run = run.expect(&rt, "a run");
+        assert!(rt; run.at == *at, "{turns} {more}");
+        assert!(rt;
+            is_last(&run.heard, *call, *answer, *stamp),
+            "{turns} {more}"
+        );
     }
 }
 

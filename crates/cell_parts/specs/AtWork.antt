@@ -14,7 +14,7 @@ use Rattle.cell_parts.specs.Examples.{zone_of, at, driven_at, robot_at, table_at
 
 -- each zone moves, held by its host
 abbrev pub all_moving : ModelState
-all_moving = model_state (zone_map (zone_of Table Moving) (zone_of Table Moving) (zone_of Press Moving) (zone_of Deposit Moving) (zone_of Deposit Moving) (zone_of Feed Moving)) empty 0
+all_moving = model_state (zone_map (zone_of Table Moving) (zone_of Table Moving) (zone_of Press Moving) (zone_of Deposit Moving) (zone_of Deposit Moving) (zone_of Feed Moving)) empty 0 false
 
 -- both belts run, table and press move, the robot rotates, and the crane travels and drives its gripper to its
 -- travelling height
@@ -32,7 +32,7 @@ all_driven = record {
 abbrev pub guests_inside : ModelState
 guests_inside =
     model_state (zone_map (zone_of Feed OpenIn) (zone_of Table Closed) (zone_of Robot OpenOut) (zone_of Deposit Closed) (zone_of Crane OpenOut) (zone_of Feed Moving))
-    (insert_place (insert_place empty place.FeedEnd) place.DepEnd) 0
+    (insert_place (insert_place empty place.FeedEnd) place.DepEnd) 0 false
 
 -- the feed belt runs with a plate at its end, the second arm goes into the press, and the gripper goes down to the
 -- deposit belt

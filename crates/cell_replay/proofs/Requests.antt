@@ -1,8 +1,10 @@
--- A record has a request exactly if its fields write that request.
-use Rattle.std.proofs.Common.{ℕ, ◌≡◌, ◌<◌, ◌≤◌, Bool, true, false, cond, List, [], ◌∷◌, length, Option, Some, None, refl, sym, ◌∙◌, ap, ap₂, ◌↔◌, arith}
-use Rattle.std.specs.List.{find}
+-- A record has a request exactly if its fields write that request, and the first version has its call.
+use Rattle.std.proofs.Common.{ℕ, ◌≡◌, ◌<◌, ◌≤◌, Bool, true, false, cond, List, [], ◌∷◌, length, Option, Some, None, MatchOption, refl, sym, ◌∙◌, ap, ap₂, ◌↔◌, arith, subst}
+use Rattle.std.specs.Bool.{then_some}
+use Rattle.std.specs.List.{find, list_all}
 use Rattle.std.specs.Str.{bytes_eq}
 use Rattle.std.specs.Cmp.Lexicographic.{pointwise}
+use Rattle.std.proofs.lemmas.Bool.{and_parts}
 use Rattle.std.proofs.lemmas.Option.{same_Some}
 use Rattle.std.proofs.lemmas.Slice.Eq.{bytes_eq-Decides, slice_eq-Decides}
 use Rattle.csv.specs.Records.{field_at}
@@ -13,10 +15,11 @@ use Rattle.cell_types.specs.declared.zone.Zone.TheVariants.{Z1, Z2, Z3, Z4, Z5, 
 use Rattle.cell_types.specs.declared.pose.Pose.{Pose}
 use Rattle.cell_types.specs.declared.pose.Pose.TheVariants.{Turning, Loading, Unloading, Travelling, Middle, Low, Top, Running, Landing, Halted, Offering, Standing}
 use Rattle.cell_types.specs.declared.call.Call.{Call}
-use Rattle.cell_types.specs.declared.call.Call.TheVariants.{Claim, Give, Yield, Take, Release, SetPose, Advance, Inquire}
+use Rattle.cell_types.specs.declared.call.Call.TheVariants.{Claim, Give, Yield, Take, Release, SetPose, Advance, Inquire, Stop, Resume}
 use Rattle.cell_types.specs.Words.{machine_word}
 use Rattle.cell_types.specs.CallWords.{call_fields, object_of, verb_of, with_object}
 use Rattle.cell_types.specs.Everything.{all_machines}
+use Rattle.cell_rules.specs.FirstVersion.{has_call}
 use Rattle.cell_replay.specs.Requests.{Row, all_calls, call_of, machine_of, request, request_by, request_fields, request_of}
 use Rattle.cell_replay.specs.declared.request.Request.{Request}
 
@@ -30,6 +33,15 @@ found_step test y x ys false is e rest = rest e
 found_passes : {A : Type 0} (test : A → Bool) (xs : List A) (x : A) → find test xs ≡ Some x → test x ≡ true
 found_passes test [] x e = absurd (cc)
 found_passes test (y ∷ ys) x e = found_step test y x ys (test y) refl e (found_passes test ys x)
+
+has_step : {A : Type 0} (test has : A → Bool) (y x : A) (ys : List A) (b : Bool) → cond b (Some y) (find test ys) ≡ Some x → has y ≡ true → (find test ys ≡ Some x → has x ≡ true) → has x ≡ true
+has_step test has y x ys true e first rest = rw (← same_Some y x e) first
+has_step test has y x ys false e first rest = rest e
+
+-- it has what each element has
+found_has : {A : Type 0} (test has : A → Bool) (xs : List A) (x : A) → list_all has xs ≡ true → find test xs ≡ Some x → has x ≡ true
+found_has test has [] x all e = absurd (cc)
+found_has test has (y ∷ ys) x all e = (let parts = and_parts (has y) (list_all has ys) all in has_step test has y x ys (test y) e parts.0 (found_has test has ys x parts.1))
 
 -- Machines.
 
@@ -73,20 +85,26 @@ call_of-pose Halted = refl
 call_of-pose Offering = refl
 call_of-pose Standing = refl
 
-call_of-fields : (call : Call) → call_of (call_fields call) ≡ Some call
+call_of-fields : (call : Call) → has_call call ≡ true → call_of (call_fields call) ≡ Some call
 unfolding call_of
-call_of-fields (Claim z) = call_of-zone Claim refl refl refl refl refl refl z
-call_of-fields (Give z) = call_of-zone Give refl refl refl refl refl refl z
-call_of-fields (Yield z) = call_of-zone Yield refl refl refl refl refl refl z
-call_of-fields (Take z) = call_of-zone Take refl refl refl refl refl refl z
-call_of-fields (Release z) = call_of-zone Release refl refl refl refl refl refl z
-call_of-fields (SetPose pose) = call_of-pose pose
-call_of-fields Advance = refl
-call_of-fields (Inquire z) = call_of-zone Inquire refl refl refl refl refl refl z
+call_of-fields (Claim z) h = call_of-zone Claim refl refl refl refl refl refl z
+call_of-fields (Give z) h = call_of-zone Give refl refl refl refl refl refl z
+call_of-fields (Yield z) h = call_of-zone Yield refl refl refl refl refl refl z
+call_of-fields (Take z) h = call_of-zone Take refl refl refl refl refl refl z
+call_of-fields (Release z) h = call_of-zone Release refl refl refl refl refl refl z
+call_of-fields (SetPose pose) h = call_of-pose pose
+call_of-fields Advance h = refl
+call_of-fields (Inquire z) h = call_of-zone Inquire refl refl refl refl refl refl z
+call_of-fields Stop h = absurd (cc)
+call_of-fields Resume h = absurd (cc)
 
 call_of-is : (fields : Row) (call : Call) → call_of fields ≡ Some call → fields ≡ call_fields call
 unfolding call_of
 call_of-is fields call e = sym ((slice_eq-Decides bytes_eq-Decides (call_fields call) fields _ refl).0 (found_passes (λ c. pointwise bytes_eq (call_fields c) fields) all_calls call e))
+
+call_of-has : (fields : Row) (call : Call) → call_of fields ≡ Some call → has_call call ≡ true
+unfolding call_of
+call_of-has fields call e = found_has (λ c. pointwise bytes_eq (call_fields c) fields) has_call all_calls call refl e
 
 -- Requests.
 
@@ -95,25 +113,54 @@ request_by-is None p r e = absurd (cc)
 request_by-is (Some machine) None r e = absurd (cc)
 request_by-is (Some machine) (Some call) r e = let same = same_Some (request machine call) r e in (ap (λ (x : Request). Some x.machine) same, ap (λ (x : Request). Some x.call) same)
 
-pub request_of-written : (fields : Row) (r : Request) → (request_of fields ≡ Some r) ↔ (fields ≡ request_fields r)
+request_of-written : (fields : Row) (r : Request) → (request_of fields ≡ Some r) ↔ ((fields ≡ request_fields r) × (has_call r.call ≡ true))
 unfolding request_of
-request_of-written [] r = (λ e. absurd (cc), λ e. absurd (cc))
+request_of-written [] r = (λ e. absurd (cc), λ w. let e = w.0 in absurd (cc))
 request_of-written (word ∷ fields) r = (
-  λ e. let is = request_by-is (machine_of word) (call_of fields) r e in ap₂ (λ w fs. w ∷ fs) (machine_of-is word r.machine is.0) (call_of-is fields r.call is.1),
   λ e.
+      let is = request_by-is (machine_of word) (call_of fields) r e in
+      (ap₂ (λ w fs. w ∷ fs) (machine_of-is word r.machine is.0) (call_of-is fields r.call is.1), call_of-has fields r.call is.1),
+  λ w.
+      let e = w.0 in
       let machine : machine_of word ≡ Some r.machine = (let same : word ≡ machine_word r.machine = cc in ap machine_of same ∙ machine_of-word r.machine) in
-      let call : call_of fields ≡ Some r.call = (let same : fields ≡ call_fields r.call = cc in ap call_of same ∙ call_of-fields r.call) in
+      let call : call_of fields ≡ Some r.call = (let same : fields ≡ call_fields r.call = cc in ap call_of same ∙ call_of-fields r.call w.1) in
       rw (machine, call) refl,
 )
 
 -- two options are the same if they have the same values
-pub same_answer : {A : Type 0} (o p : Option A) → ((x : A) → (o ≡ Some x) ↔ (p ≡ Some x)) → o ≡ p
+same_answer : {A : Type 0} (o p : Option A) → ((x : A) → (o ≡ Some x) ↔ (p ≡ Some x)) → o ≡ p
 same_answer None None h = refl
 same_answer None (Some y) h = (h y).1 refl
 same_answer (Some x) p h = sym ((h x).0 refl)
 
-pub same_request : (fields : Row) (o : Option Request) → ((r : Request) → (o ≡ Some r) ↔ (fields ≡ request_fields r)) → o ≡ request_of fields
-same_request fields o h = same_answer o (request_of fields) (λ r. (λ e. (request_of-written fields r).1 ((h r).0 e), λ e. (h r).1 ((request_of-written fields r).0 e)))
+-- The requests of the first version.
+
+abbrev pub of_first_version : Option Request → Option Request
+of_first_version None = None
+of_first_version (Some r) = then_some (has_call r.call) r
+
+kept_if : (b : Bool) (x r : Request) → then_some b x ≡ Some r → (b ≡ true) × (x ≡ r)
+kept_if true x r e = (refl, same_Some x r e)
+kept_if false x r e = absurd (cc)
+
+kept : (o : Option Request) (r : Request) → (of_first_version o ≡ Some r) ↔ ((o ≡ Some r) × (has_call r.call ≡ true))
+kept None r = (λ e. absurd (cc), λ w. let e = w.0 in absurd (cc))
+kept (Some x) r = (
+  λ e. let is = kept_if (has_call x.call) x r e in (ap Some is.1, subst (λ (y : Request). has_call y.call ≡ true) is.1 is.0),
+  λ w. let same = same_Some x r w.0 in rw (same, w.1) refl,
+)
+
+-- a test keeps the requests of the first version
+kept_by : (Says : Request → Bool → Type 0) (o p : Option Request) → ((x : Request) (b : Bool) → Says x b → b ≡ has_call x.call) → MatchOption o (p ≡ None) (λ x. (b : Bool) × Says x b × (p ≡ then_some b x)) → p ≡ of_first_version o
+kept_by Says None p tells none = none
+kept_by Says (Some x) p tells some = some.2 ∙ ap (λ b. then_some b x) (tells x some.0 some.1)
+
+pub first_version-same : (Says : Request → Bool → Type 0) (fields : Row) (o p : Option Request) → ((r : Request) → (o ≡ Some r) ↔ (fields ≡ request_fields r)) → ((x : Request) (b : Bool) → Says x b → b ≡ has_call x.call)
+    → MatchOption o (p ≡ None) (λ x. (b : Bool) × Says x b × (p ≡ then_some b x)) → p ≡ request_of fields
+first_version-same Says fields o p read tells is = kept_by Says o p tells is ∙ same_answer (of_first_version o) (request_of fields) (λ r. (
+  λ e. let both = (kept o r).0 e in (request_of-written fields r).1 ((read r).0 both.0, both.1),
+  λ e. let both = (request_of-written fields r).0 e in (kept o r).1 ((read r).1 both.0, both.1),
+))
 
 -- What the code has read of a record.
 

@@ -14,6 +14,8 @@ answers = record {
   hand_back = (refl, refl);
   start_alone = (refl, refl);
   no_request = (refl, refl);
+  no_stop = (refl, refl);
+  no_resume = (refl, refl);
 }
 
 starts : StartExamples

@@ -22,6 +22,7 @@ request_fields request = machine_word request.machine ∷ call_fields request.ca
 abbrev pub request : Machine → Call → Request
 request machine call = record { machine = machine; call = call }
 
+-- the calls of the first version, which alone are in scripts
 abbrev pub all_calls : List Call
 all_calls =
     map Claim all_zones ++ map Give all_zones ++ map Yield all_zones ++ map Take all_zones ++ map Release all_zones

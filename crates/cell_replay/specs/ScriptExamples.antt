@@ -29,6 +29,8 @@ pub record AnswerExamples : Type 0 where
   pub start_alone : IsAnswered (codes "start,1010010101,1048570\n") (codes "0 1048570 start 5\n") Clean
   pub no_request : IsAnswered (opens ++ codes "watch,inquire,z2\nfeed,claim,z7\nwatch,inquire,z2\n")
       (opened ++ codes "1 0 zone free 0 closed\nfault badrow 2\n") (Refused (BadRow 2))
+  pub no_stop : IsAnswered (opens ++ codes "watch,stop\n") (opened ++ codes "fault badrow 1\n") (Refused (BadRow 1))
+  pub no_resume : IsAnswered (opens ++ codes "watch,resume\n") (opened ++ codes "fault badrow 1\n") (Refused (BadRow 1))
 
 -- ---- record 0
 

@@ -136,4 +136,5 @@ faults = record {
   zones_of_end = (_, stamps_row 5 6 (all_noted (journals_of (feed_claims 6 ∷ []))) refl refl refl, misses (start_state empty 6) (λ e. let bad : Some Feed ≡ None = ap (λ (s : ModelState). (zone_at s Z6).owner) e in cc));
   places_of_end = (_, stamps_row 5 6 (all_noted (journals_of (feed_claims 6 ∷ []))) refl refl refl, misses with_plate (λ e. let bad : false ≡ true = ap (λ (s : ModelState). is_full s place.Crane) e in cc));
   stamp_of_end = (_, stamps_row 5 5 (all_noted (journals_of (feed_claims 6 ∷ []))) refl refl refl, misses (record reached { stamp = 5 }) (λ e. let bad : 6 ≡ 5 = ap (λ (s : ModelState). s.stamp) e in omega (arith, bad)));
+  mark_of_end = (_, stamps_row 5 6 (all_noted (journals_of (feed_claims 6 ∷ []))) refl refl refl, misses (record reached { stopped = true }) (λ e. let bad : false ≡ true = ap (λ (s : ModelState). s.stopped) e in cc));
 }

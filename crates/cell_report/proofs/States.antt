@@ -1,4 +1,4 @@
--- Two states are the same if they have the same at each zone and place, and the same stamp.
+-- Two states are the same if they have the same at each zone and place, the same stamp, and the same mark.
 use Rattle.std.proofs.Common.{◌≡◌, ◌↔◌, ℕ, ◌<◌, Bool, true, false, MatchBool, List, length, All, IsTrue, refl, sym, ◌∙◌, arith}
 use Rattle.std.specs.List.{AllWithin, HoldsAt}
 use Rattle.std.proofs.lemmas.Bool.{false≢true}
@@ -55,16 +55,16 @@ same_set a b h =
     let same : set_of a.feed_entry a.feed_end a.table a.arm1 a.press_in a.press_out a.arm2 a.dep_entry a.dep_end a.crane ≡ set_of b.feed_entry b.feed_end b.table b.arm1 b.press_in b.press_out b.arm2 b.dep_entry b.dep_end b.crane = cc in
     sym (set_itself a) ∙ same ∙ set_itself b
 
-state_of : ZoneMap → PlaceSet → ℕ → ModelState
-state_of zones full stamp = model_state zones full stamp
+state_of : ZoneMap → PlaceSet → ℕ → Bool → ModelState
+state_of zones full stamp stopped = model_state zones full stamp stopped
 
-state_itself : (s : ModelState) → state_of s.zones s.full s.stamp ≡ s
+state_itself : (s : ModelState) → state_of s.zones s.full s.stamp s.stopped ≡ s
 unfolding state_of
 state_itself s = refl
 
-pub same_state : (a b : ModelState) → All (λ z. zone_at a z ≡ zone_at b z) all_zones → All (λ p. is_full a p ≡ is_full b p) all_places → a.stamp ≡ b.stamp → a ≡ b
-same_state a b zones places stamp =
+pub same_state : (a b : ModelState) → All (λ z. zone_at a z ≡ zone_at b z) all_zones → All (λ p. is_full a p ≡ is_full b p) all_places → a.stamp ≡ b.stamp → a.stopped ≡ b.stopped → a ≡ b
+same_state a b zones places stamp stopped =
     let z = same_map a.zones b.zones zones in
     let p = same_set a.full b.full places in
-    let same : state_of a.zones a.full a.stamp ≡ state_of b.zones b.full b.stamp = cc in
+    let same : state_of a.zones a.full a.stamp a.stopped ≡ state_of b.zones b.full b.stamp b.stopped = cc in
     sym (state_itself a) ∙ same ∙ state_itself b

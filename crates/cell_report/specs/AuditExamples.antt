@@ -151,3 +151,4 @@ pub record FaultExamples : Type 0 where
   pub zones_of_end : IsRefused (feed_claims 6 ∷ []) (Some (start_state empty 6)) End
   pub places_of_end : IsRefused (feed_claims 6 ∷ []) (Some with_plate) End
   pub stamp_of_end : IsRefused (feed_claims 6 ∷ []) (Some (record reached { stamp = 5 })) End
+  pub mark_of_end : IsRefused (feed_claims 6 ∷ []) (Some (record reached { stopped = true })) End

@@ -24,7 +24,8 @@ zone owner flag posture = record { owner = owner; flag = flag; posture = posture
 
 -- five plates at the start
 abbrev pub first : ModelState
-first = model_state (everywhere free_zone) (place_set true false true false false true false true false true) 1048570
+first =
+    model_state (everywhere free_zone) (place_set true false true false false true false true false true) 1048570 false
 
 -- six at the end, two of them in zones
 abbrev pub last : ModelState
@@ -32,7 +33,7 @@ last =
     model_state
     (zone_map (zone (Some Table) false Moving) (zone (Some Robot) true OpenOut) (zone None false OpenIn)
     (zone (Some Robot) false OpenIn) (zone (Some Crane) true OpenOut) (zone (Some Feed) false Closed))
-    (place_set true true false false true false true false false false) 1048575
+    (place_set true true false false true false true false false false) 1048575 false
 
 -- a run with the counts of seven machines, the watch's last
 abbrev pub run : Option ModelState → Journals → RunRecord

@@ -35,9 +35,13 @@ fn has_same_places(a: &State, b: &State) -> bool
         .all(|place| a.is_full(*place) == b.is_full(*place))
 }
 
-/// Whether two states are the same: their zones, their full places and their stamps.
+/// Whether two states are the same: their zones, their full places, their stamps, and whether they
+/// are stopped.
 pub fn is_same_state(a: &State, b: &State) -> bool
     ensures { IsTrue result ↔ (a.now ≡ b.now) }
 {
-    has_same_zones(a, b) && has_same_places(a, b) && a.stamp() == b.stamp()
+    has_same_zones(a, b)
+        && has_same_places(a, b)
+        && a.stamp() == b.stamp()
+        && a.stopped() == b.stopped()
 }

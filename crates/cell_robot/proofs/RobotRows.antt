@@ -16,7 +16,7 @@ use Rattle.cell_devices.proofs.DriveLemmas.{drives_one, stops_there, goes_plus, 
 use Rattle.cell_rules.specs.ModelState.{ModelState}
 use Rattle.cell_control.specs.Row.{waits_on}
 use Rattle.cell_control.specs.Rows.{DriveRow, is_inquiry}
-use Rattle.cell_control.proofs.WaitLemmas.{wait-rows}
+use Rattle.cell_control.proofs.WaitLemmas.{stays_never, stays_until_free_and_open}
 use Rattle.cell_robot.specs.declared.robot.RobotStep.{RobotStep}
 use Rattle.cell_robot.specs.declared.robot.RobotStep.TheVariants.{TurnToTable, AwaitPlate, ReachTable, GripPlate, LeaveTable, TakePlate, ReleaseTable, TurnToLoad, ClaimPress, InspectPress, ReleasePress, ReachToLoad, DropInPress, LeaveLoaded, GiveToPress, TurnToUnload, AwaitForged, ReachToUnload, GripForged, LeaveUnloaded, TakeForged, ReleaseUnloaded, TurnToDeposit, ClaimDeposit, ReachDeposit, DropOnDeposit, LeaveDeposit, GiveToDeposit}
 use Rattle.cell_robot.specs.declared.robot.RobotNotes.{RobotNotes}
@@ -61,37 +61,37 @@ before_press owner flag _ = refl
 
 ends_at_table : (points : RobotScales) (m : RobotMagnets) → EndRows points ReleaseTable (Release Z2) m
 ends_at_table points m = record {
-  to_deposit = λ arm1 fed. record { asks = refl; stays = λ r. refl; leads = refl };
-  to_unload = λ arm1. record { asks = refl; stays = λ r. refl; leads = refl };
-  to_load = record { asks = refl; stays = λ r. refl; leads = refl };
-  to_table = record { asks = refl; stays = λ r. refl; leads = refl };
+  to_deposit = λ arm1 fed. record { asks = refl; stays = stays_never; leads = refl };
+  to_unload = λ arm1. record { asks = refl; stays = stays_never; leads = refl };
+  to_load = record { asks = refl; stays = stays_never; leads = refl };
+  to_table = record { asks = refl; stays = stays_never; leads = refl };
 }
 
 ends_at_press : (points : RobotScales) (m : RobotMagnets) → EndRows points ReleaseUnloaded (Release Z3) m
 ends_at_press points m = record {
-  to_deposit = λ arm1 fed. record { asks = refl; stays = λ r. refl; leads = refl };
-  to_unload = λ arm1. record { asks = refl; stays = λ r. refl; leads = refl };
-  to_load = record { asks = refl; stays = λ r. refl; leads = refl };
-  to_table = record { asks = refl; stays = λ r. refl; leads = refl };
+  to_deposit = λ arm1 fed. record { asks = refl; stays = stays_never; leads = refl };
+  to_unload = λ arm1. record { asks = refl; stays = stays_never; leads = refl };
+  to_load = record { asks = refl; stays = stays_never; leads = refl };
+  to_table = record { asks = refl; stays = stays_never; leads = refl };
 }
 
 asks : (points : RobotScales) (arm1 arm2 fed : Bool) (m : RobotMagnets) → RobotAsks points arm1 arm2 fed m
 asks points arm1 arm2 fed m = record {
-  awaits_plate = record { asks = refl; stays = λ r. refl; leads = λ owner flag posture. ap (λ s. at s (noted arm1 arm2 fed) m) (at_table owner flag posture) };
-  takes = record { asks = refl; stays = λ r. refl; leads = refl };
+  awaits_plate = record { asks = refl; stays = stays_never; leads = λ owner flag posture. ap (λ s. at s (noted arm1 arm2 fed) m) (at_table owner flag posture) };
+  takes = record { asks = refl; stays = stays_never; leads = refl };
   releases_table = ends_at_table points m;
-  claims_press = record { asks = refl; stays = wait-rows.until_free_and_open; leads = refl };
-  inspects = record { asks = refl; stays = λ r. refl; leads = λ owner flag posture. ap (λ s. at s (noted arm1 arm2 fed) m) (before_press owner flag posture) };
-  releases_press = record { asks = refl; stays = λ r. refl; leads = refl };
-  gives_to_press = record { asks = refl; stays = λ r. refl; leads = refl };
-  gives_to_press_beside_forged = record { asks = refl; stays = λ r. refl; leads = refl };
-  awaits_forged = record { asks = refl; stays = λ r. refl; leads = λ owner flag posture. ap (λ s. at s (noted arm1 arm2 fed) m) (at_press owner flag posture) };
-  takes_forged = record { asks = refl; stays = λ r. refl; leads = refl };
+  claims_press = record { asks = refl; stays = stays_until_free_and_open; leads = refl };
+  inspects = record { asks = refl; stays = stays_never; leads = λ owner flag posture. ap (λ s. at s (noted arm1 arm2 fed) m) (before_press owner flag posture) };
+  releases_press = record { asks = refl; stays = stays_never; leads = refl };
+  gives_to_press = record { asks = refl; stays = stays_never; leads = refl };
+  gives_to_press_beside_forged = record { asks = refl; stays = stays_never; leads = refl };
+  awaits_forged = record { asks = refl; stays = stays_never; leads = λ owner flag posture. ap (λ s. at s (noted arm1 arm2 fed) m) (at_press owner flag posture) };
+  takes_forged = record { asks = refl; stays = stays_never; leads = refl };
   releases_unloaded = ends_at_press points m;
-  claims_deposit = record { asks = refl; stays = wait-rows.until_free_and_open; leads = refl };
-  gives_to_deposit = record { asks = refl; stays = λ r. refl; leads = refl };
-  gives_to_deposit_before_load = record { asks = refl; stays = λ r. refl; leads = refl };
-  gives_to_deposit_before_unload = record { asks = refl; stays = λ r. refl; leads = refl };
+  claims_deposit = record { asks = refl; stays = stays_until_free_and_open; leads = refl };
+  gives_to_deposit = record { asks = refl; stays = stays_never; leads = refl };
+  gives_to_deposit_before_load = record { asks = refl; stays = stays_never; leads = refl };
+  gives_to_deposit_before_unload = record { asks = refl; stays = stays_never; leads = refl };
 }
 
 -- ---- steps that drive

@@ -22,7 +22,7 @@ release_out_of_use s m z e =
 pub pose_fits : (s : ModelState) (m : Machine) (p : Pose) → Refusals.pose_refusal s m p ≡ None
     → (Refusals.jump s m p ≡ None) × (Refusals.first_zone (Refusals.opens_onto_plate s m p) ≡ None) × (Refusals.runs_onto_plate s m p ≡ None)
 pose_fits s m p e =
-    let r2 = Refusals.◌or◌ (Refusals.lacks_pose m p) (Refusals.first_zone (Refusals.unowned_by_pose s m p)) in
+    let r2 = Refusals.◌or◌ (Refusals.◌or◌ (Refusals.lacks_pose m p) (Refusals.moves_while_stopped s p)) (Refusals.first_zone (Refusals.unowned_by_pose s m p)) in
     let r3 = Refusals.◌or◌ r2 (Refusals.first_zone (Refusals.plate_under_pose s m p)) in
     let r4 = Refusals.◌or◌ r3 (Refusals.jump s m p) in
     let r5 = Refusals.◌or◌ r4 (Refusals.first_zone (Refusals.opens_onto_plate s m p)) in

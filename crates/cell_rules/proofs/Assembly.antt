@@ -14,6 +14,7 @@ use Rattle.cell_rules.proofs.Conserved.{plates-kept}
 use Rattle.cell_rules.proofs.Stamps.{stamp-after}
 use Rattle.cell_rules.proofs.Clear.{clear-after, belts_by_events}
 use Rattle.cell_rules.proofs.Fitting.{OwnersHold, fits}
+use Rattle.cell_rules.proofs.Stopping.{stopped_along}
 use Rattle.cell_rules.proofs.Handing.{no_jump_along, handover_along, refusals_along, changes_counted}
 
 pub posture_by_events : (s : ModelState) (h : List Event) → IsLegal s h → PostureByEvents s h
@@ -43,6 +44,7 @@ lawful s k h l = record {
   events_fit = events_fit s h l;
   no_jump = no_jump_along s h l;
   handover_by_holder = handover_by_holder s h l;
+  stopped_until_resumed = stopped_along s h l;
   changes_are_counted = changes_counted h;
   refusals_tell = refusals_along s h k l;
 }

@@ -2,7 +2,7 @@
 use Rattle.std.proofs.Common.{◌≡◌, ◌≤◌, ℕ, Bool, true, false, ◌&&◌, not, nat_lt, Option, Some, None, option_map, is_none, List, [], ◌∷◌, refl, ap, ◌∙◌}
 use Rattle.std.specs.Option.{option_eq}
 use Rattle.cell_types.specs.declared.machine.Machine.{Machine}
-use Rattle.cell_types.specs.declared.machine.Machine.TheVariants.{Feed}
+use Rattle.cell_types.specs.declared.machine.Machine.TheVariants.{Feed, Watch}
 use Rattle.cell_types.specs.declared.zone.Zone.{Zone}
 use Rattle.cell_types.specs.declared.zone.Zone.TheVariants.{Z1, Z2, Z3, Z4, Z5, Z6}
 use Rattle.cell_types.specs.declared.zone.Transfer.{Transfer}
@@ -11,7 +11,7 @@ use Rattle.cell_types.specs.declared.place.Place.TheVariants.{FeedEnd}
 use Rattle.cell_types.specs.declared.posture.Posture.{Posture}
 use Rattle.cell_types.specs.declared.posture.Posture.TheVariants.{Moving}
 use Rattle.cell_types.specs.declared.answer.Refusal.{Refusal}
-use Rattle.cell_types.specs.declared.answer.Refusal.TheVariants.{NotParty, Held, AlreadyMine, Shut, NotOwner, PlateInZone, NoPlate, PlaceFull, WrongWay, Worn, InUse}
+use Rattle.cell_types.specs.declared.answer.Refusal.TheVariants.{NotParty, Held, AlreadyMine, Shut, NotOwner, PlateInZone, NoPlate, PlaceFull, WrongWay, Worn, Stopped, NotStopped, InUse}
 use Rattle.cell_types.specs.Refusals.{number_of}
 use Rattle.cell_types.specs.Tables.{guest_of, transfer_of}
 use Rattle.cell_types.specs.Ways.{way_of}
@@ -21,7 +21,7 @@ use Rattle.cell_rules.specs.PlaceSet.{has}
 use Rattle.cell_rules.specs.Sound.{is_party}
 use Rattle.cell_rules.specs.Refusals
 use Rattle.cell_rules.specs.Refusals.{owner_of, posture_at, owns, given_by, transfer_given}
-use Rattle.cell_rules.specs.Causes.{parties_of, gift_of, is_stranger, is_in_use, is_shut, on_way, claim_cause, give_cause, yield_cause, take_cause, release_cause}
+use Rattle.cell_rules.specs.Causes.{parties_of, gift_of, is_stranger, is_in_use, is_shut, on_way, claim_cause, give_cause, yield_cause, take_cause, release_cause, stop_cause, resume_cause}
 use Rattle.cell_rules.proofs.Tables.{and_left, and_right, all_machines, from_machines, all_zones, from_zones, all_postures, from_postures}
 use Rattle.cell_rules.proofs.Chains.{chain, numbers, Tells, TellEach, First, is_among, told_by, first_by}
 use Rattle.cell_rules.proofs.Tellings.{plain, names_owner, names_zone, names_holder, names_posture, names_moving, worn_at}
@@ -100,27 +100,31 @@ to_fill causes s (Some row) same = plain causes PlaceFull (is_full s row.to) ref
 
 -- ---- claim
 
-claim_named : (s : ModelState) (m : Machine) (z : Zone) → AllNamed (claim_cause s m z) (1 ∷ 3 ∷ 2 ∷ 4 ∷ 13 ∷ [])
+claim_named : (s : ModelState) (m : Machine) (z : Zone) → AllNamed (claim_cause s m z) (1 ∷ 14 ∷ 3 ∷ 2 ∷ 4 ∷ 13 ∷ [])
 claim_named s m z NotParty k = refl
 claim_named s m z AlreadyMine k = refl
 claim_named s m z (Held o) k = refl
 claim_named s m z (Shut q) k = refl
 claim_named s m z Worn k = refl
+claim_named s m z Stopped k = refl
 claim_named s m z _ k = cc
 
-pub claim_tells : (s : ModelState) (m : Machine) (z : Zone) → s.stamp ≤ 1048575 → TellsRight (claim_cause s m z) (1 ∷ 3 ∷ 2 ∷ 4 ∷ 13 ∷ []) (Refusals.claim_refusal s m z)
+pub claim_tells : (s : ModelState) (m : Machine) (z : Zone) → s.stamp ≤ 1048575 → TellsRight (claim_cause s m z) (1 ∷ 14 ∷ 3 ∷ 2 ∷ 4 ∷ 13 ∷ []) (Refusals.claim_refusal s m z)
 claim_tells s m z small =
     let causes = claim_cause s m z in
-    let lines : List (ℕ × Option Refusal) = (1, Refusals.not_party m z) ∷ (3, Refusals.already_mine s m z) ∷ (2, Refusals.held s m z) ∷ (4, Refusals.shut_to_guest s m z) ∷ (13, Refusals.worn s) ∷ [] in
+    let lines : List (ℕ × Option Refusal) = (1, Refusals.not_party m z) ∷ (14, Refusals.while_stopped s) ∷ (3, Refusals.already_mine s m z) ∷ (2, Refusals.held s m z) ∷ (4, Refusals.shut_to_guest s m z) ∷ (13, Refusals.worn s) ∷ [] in
     by_lines causes lines (
       plain causes NotParty (not (is_party m z)) refl (stranger m z),
       (
-        plain causes AlreadyMine (owns s m z) refl refl,
+        plain causes Stopped s.stopped refl refl,
         (
-          names_holder causes (owner_of s z) m (λ o. refl),
+          plain causes AlreadyMine (owns s m z) refl refl,
           (
-            names_posture causes (posture_at s z) (same_machine m (guest_of z)) (λ p. ap (λ b. b && same_posture (posture_at s z) p && is_shut p) (guest m z)),
-            (plain causes Worn (not (nat_lt s.stamp 1048575)) refl (worn_at s.stamp small), tt),
+            names_holder causes (owner_of s z) m (λ o. refl),
+            (
+              names_posture causes (posture_at s z) (same_machine m (guest_of z)) (λ p. ap (λ b. b && same_posture (posture_at s z) p && is_shut p) (guest m z)),
+              (plain causes Worn (not (nat_lt s.stamp 1048575)) refl (worn_at s.stamp small), tt),
+            ),
           ),
         ),
       ),
@@ -128,7 +132,7 @@ claim_tells s m z small =
 
 -- ---- give
 
-give_named : (s : ModelState) (m : Machine) (z : Zone) → AllNamed (give_cause s m z) (1 ∷ 5 ∷ 6 ∷ 9 ∷ 7 ∷ 8 ∷ 13 ∷ [])
+give_named : (s : ModelState) (m : Machine) (z : Zone) → AllNamed (give_cause s m z) (1 ∷ 14 ∷ 5 ∷ 6 ∷ 9 ∷ 7 ∷ 8 ∷ 13 ∷ [])
 give_named s m z NotParty k = refl
 give_named s m z (NotOwner o) k = refl
 give_named s m z (PlateInZone y) k = refl
@@ -136,27 +140,31 @@ give_named s m z WrongWay k = refl
 give_named s m z NoPlate k = refl
 give_named s m z PlaceFull k = refl
 give_named s m z Worn k = refl
+give_named s m z Stopped k = refl
 give_named s m z _ k = cc
 
-pub give_tells : (s : ModelState) (m : Machine) (z : Zone) → s.stamp ≤ 1048575 → TellsRight (give_cause s m z) (1 ∷ 5 ∷ 6 ∷ 9 ∷ 7 ∷ 8 ∷ 13 ∷ []) (Refusals.give_refusal s m z)
+pub give_tells : (s : ModelState) (m : Machine) (z : Zone) → s.stamp ≤ 1048575 → TellsRight (give_cause s m z) (1 ∷ 14 ∷ 5 ∷ 6 ∷ 9 ∷ 7 ∷ 8 ∷ 13 ∷ []) (Refusals.give_refusal s m z)
 give_tells s m z small =
     let causes = give_cause s m z in
     let row = transfer_given s m z in
     let way = gift_is m z (posture_at s z) in
-    let lines : List (ℕ × Option Refusal) = (1, Refusals.not_party m z) ∷ (5, Refusals.not_owner s m z) ∷ (6, Refusals.plate_in_zone s z) ∷ (9, Refusals.wrong_way row) ∷ (7, Refusals.nothing_to_give s row) ∷ (8, Refusals.no_room s row) ∷ (13, Refusals.worn s) ∷ [] in
+    let lines : List (ℕ × Option Refusal) = (1, Refusals.not_party m z) ∷ (14, Refusals.while_stopped s) ∷ (5, Refusals.not_owner s m z) ∷ (6, Refusals.plate_in_zone s z) ∷ (9, Refusals.wrong_way row) ∷ (7, Refusals.nothing_to_give s row) ∷ (8, Refusals.no_room s row) ∷ (13, Refusals.worn s) ∷ [] in
     by_lines causes lines (
       plain causes NotParty (not (is_party m z)) refl (stranger m z),
       (
-        names_owner causes (owner_of s z) (not (owns s m z)) (λ o. refl),
+        plain causes Stopped s.stopped refl refl,
         (
-          names_zone causes z (zone_at s z).flag (λ y. refl),
+          names_owner causes (owner_of s z) (not (owns s m z)) (λ o. refl),
           (
-            plain causes WrongWay (is_none row) refl (ap is_none way ∙ none_map row),
+            names_zone causes z (zone_at s z).flag (λ y. refl),
             (
-              to_give causes s row (ap (λ o. on_way o (λ w. not (has s.full w.0))) way),
+              plain causes WrongWay (is_none row) refl (ap is_none way ∙ none_map row),
               (
-                to_fill causes s row (ap (λ o. on_way o (λ w. has s.full w.1)) way),
-                (plain causes Worn (not (nat_lt s.stamp 1048575)) refl (worn_at s.stamp small), tt),
+                to_give causes s row (ap (λ o. on_way o (λ w. not (has s.full w.0))) way),
+                (
+                  to_fill causes s row (ap (λ o. on_way o (λ w. has s.full w.1)) way),
+                  (plain causes Worn (not (nat_lt s.stamp 1048575)) refl (worn_at s.stamp small), tt),
+                ),
               ),
             ),
           ),
@@ -251,3 +259,39 @@ release_tells s m z small =
         ),
       ),
     ) (release_named s m z)
+
+-- ---- stop and resume
+
+stop_named : (s : ModelState) (m : Machine) → AllNamed (stop_cause s m) (1 ∷ 14 ∷ 13 ∷ [])
+stop_named s m NotParty k = refl
+stop_named s m Stopped k = refl
+stop_named s m Worn k = refl
+stop_named s m _ k = cc
+
+pub stop_tells : (s : ModelState) (m : Machine) → s.stamp ≤ 1048575 → TellsRight (stop_cause s m) (1 ∷ 14 ∷ 13 ∷ []) (Refusals.stop_refusal s m)
+stop_tells s m small =
+    let causes = stop_cause s m in
+    by_lines causes ((1, Refusals.not_watch m) ∷ (14, Refusals.while_stopped s) ∷ (13, Refusals.worn s) ∷ []) (
+      plain causes NotParty (not (same_machine m Watch)) refl refl,
+      (
+        plain causes Stopped s.stopped refl refl,
+        (plain causes Worn (not (nat_lt s.stamp 1048575)) refl (worn_at s.stamp small), tt),
+      ),
+    ) (stop_named s m)
+
+resume_named : (s : ModelState) (m : Machine) → AllNamed (resume_cause s m) (1 ∷ 15 ∷ 13 ∷ [])
+resume_named s m NotParty k = refl
+resume_named s m NotStopped k = refl
+resume_named s m Worn k = refl
+resume_named s m _ k = cc
+
+pub resume_tells : (s : ModelState) (m : Machine) → s.stamp ≤ 1048575 → TellsRight (resume_cause s m) (1 ∷ 15 ∷ 13 ∷ []) (Refusals.resume_refusal s m)
+resume_tells s m small =
+    let causes = resume_cause s m in
+    by_lines causes ((1, Refusals.not_watch m) ∷ (15, Refusals.not_stopped s) ∷ (13, Refusals.worn s) ∷ []) (
+      plain causes NotParty (not (same_machine m Watch)) refl refl,
+      (
+        plain causes NotStopped (not s.stopped) refl refl,
+        (plain causes Worn (not (nat_lt s.stamp 1048575)) refl (worn_at s.stamp small), tt),
+      ),
+    ) (resume_named s m)

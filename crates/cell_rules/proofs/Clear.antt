@@ -12,7 +12,7 @@ use Rattle.cell_types.specs.declared.posture.Posture.TheVariants.{Closed, Moving
 use Rattle.cell_types.specs.declared.pose.Pose.{Pose}
 use Rattle.cell_types.specs.declared.pose.Pose.TheVariants.{Running}
 use Rattle.cell_types.specs.declared.call.Call.{Call}
-use Rattle.cell_types.specs.declared.call.Call.TheVariants.{Claim, Give, Yield, Take, Release, SetPose, Advance, Inquire}
+use Rattle.cell_types.specs.declared.call.Call.TheVariants.{Claim, Give, Yield, Take, Release, SetPose, Advance, Inquire, Stop, Resume}
 use Rattle.cell_types.specs.declared.answer.Answer.{Answer}
 use Rattle.cell_types.specs.declared.answer.Answer.TheVariants.{Done, Shown, Refused}
 use Rattle.cell_types.specs.declared.answer.Event.{Event}
@@ -116,6 +116,8 @@ feed_clear s m (SetPose p) r e moving full =
 feed_clear s Feed Advance r e moving full = cc
 feed_clear s m Advance r e moving full = r.feed moving full
 feed_clear s m (Inquire z) r e moving full = r.feed moving full
+feed_clear s m Stop r e moving full = r.feed moving full
+feed_clear s m Resume r e moving full = r.feed moving full
 
 -- while a zone of the deposit belt moves, the belt's end is empty
 abbrev EndIsEmpty : ModelState → Zone → Type 0
@@ -149,6 +151,8 @@ deposit_clear z host table s Deposit Advance r e moving = stopped (is_belt_of De
 deposit_clear z host table s Feed Advance r e moving = r (moved_on (is_belt_of Feed z) (posture_at s z) (ap (λ n. same_machine n Feed) host) moving)
 deposit_clear z host table s m Advance r e moving = r moving
 deposit_clear z host table s m (Inquire y) r e moving = r moving
+deposit_clear z host table s m Stop r e moving = r moving
+deposit_clear z host table s m Resume r e moving = r moving
 
 clear_changed : (s : ModelState) (m : Machine) (c : Call) → RunsClear s → reply s m c ≡ Done → RunsClear (changed s m c)
 clear_changed s m c r e = record {

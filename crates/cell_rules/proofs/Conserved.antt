@@ -6,7 +6,7 @@ use Rattle.cell_types.specs.declared.zone.Zone.{Zone}
 use Rattle.cell_types.specs.declared.zone.Zone.TheVariants.{Z1, Z2, Z3, Z4, Z5, Z6}
 use Rattle.cell_types.specs.declared.place.Place.{Place}
 use Rattle.cell_types.specs.declared.call.Call.{Call}
-use Rattle.cell_types.specs.declared.call.Call.TheVariants.{Claim, Give, Yield, Take, Release, SetPose, Advance, Inquire}
+use Rattle.cell_types.specs.declared.call.Call.TheVariants.{Claim, Give, Yield, Take, Release, SetPose, Advance, Inquire, Stop, Resume}
 use Rattle.cell_types.specs.declared.answer.Answer.TheVariants.{Done}
 use Rattle.cell_types.specs.declared.answer.Event.{Event}
 use Rattle.cell_rules.specs.declared.zones.ZoneState.{ZoneState}
@@ -70,6 +70,8 @@ plates-changed s n Advance h e =
     let way = ap (λ w. size_of (worked s.full w)) found.work in
     omega (arith, way, flags-halted s n, size-worked s.full found.way found.there found.room)
 plates-changed s n (Inquire y) h e = cc
+plates-changed s n Stop h e = refl
+plates-changed s n Resume h e = refl
 
 abbrev never : Machine → Call → Bool
 never n c = false

@@ -10,7 +10,7 @@ use Rattle.cell_types.specs.declared.place.Place.{Place}
 use Rattle.cell_types.specs.declared.zone.Transfer.{Transfer}
 use Rattle.cell_types.specs.declared.posture.Posture.{Posture}
 use Rattle.cell_types.specs.declared.call.Call.{Call}
-use Rattle.cell_types.specs.declared.call.Call.TheVariants.{Claim, Give, Yield, Take, Release, SetPose, Advance, Inquire}
+use Rattle.cell_types.specs.declared.call.Call.TheVariants.{Claim, Give, Yield, Take, Release, SetPose, Advance, Inquire, Stop, Resume}
 use Rattle.cell_types.specs.declared.answer.Answer.{Answer}
 use Rattle.cell_types.specs.declared.answer.Answer.TheVariants.{Done, Shown, Refused}
 use Rattle.cell_types.specs.declared.answer.Event.{Event}
@@ -150,6 +150,8 @@ place-changed p s n Advance h e =
     ≡ one_if (has (worked s.full w) p) + cond (is_place (option_map (λ (way : Place × Place). way.0) w) p) 1 0 in
     subst W (sym found.work) (one_moved s.full found.way p found.there found.room)
 place-changed p s n (Inquire y) h e = cc
+place-changed p s n Stop h e = refl
+place-changed p s n Resume h e = refl
 
 pub places-counted : (s : ModelState) (h : List Event) (p : Place) → IsSound s → IsLegal s h → one_if (is_full s p) + count_by (is_filled_by p) h ≡ one_if (is_full (after s h) p) + count_by (is_emptied_by p) h
 places-counted s h p k l = counted (λ x. one_if (is_full x p)) (λ m d. fills m d p) (λ m d. empties m d p) (place-changed p) s h k l

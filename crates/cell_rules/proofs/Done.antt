@@ -2,6 +2,7 @@
 use Rattle.std.proofs.Common.{◌≡◌, ◌<◌, Bool, true, false, ◌&&◌, not, nat_lt, Option, Some, None, refl, is_none, is_some, ltb-true}
 use Rattle.std.specs.Bool.{then_some}
 use Rattle.cell_types.specs.declared.machine.Machine.{Machine}
+use Rattle.cell_types.specs.declared.machine.Machine.TheVariants.{Watch}
 use Rattle.cell_types.specs.declared.zone.Zone.{Zone}
 use Rattle.cell_types.specs.declared.zone.Zone.TheVariants.{Z1, Z2, Z3, Z4, Z5, Z6}
 use Rattle.cell_types.specs.declared.place.Place.{Place}
@@ -60,9 +61,10 @@ may_give v m z = is_party m z && (is_owned_by v.owner m && (not v.flag && is_som
 abbrev pub may_take : ZoneState → Machine → Zone → Bool
 may_take v m z = is_party m z && (is_owned_by v.owner m && v.flag)
 
-pub claim_done : (s : ModelState) (m : Machine) (z : Zone) → Refusals.claim_refusal s m z ≡ None → (may_claim (zone_at s z) m z ≡ true) × (s.stamp < 1048575)
+pub claim_done : (s : ModelState) (m : Machine) (z : Zone) → Refusals.claim_refusal s m z ≡ None → (may_claim (zone_at s z) m z ≡ true) × (s.stamp < 1048575) × (s.stopped ≡ false)
 claim_done s m z e =
-    let r1 = Refusals.not_party m z in
+    let claim_by_stranger = Refusals.not_party m z in
+    let r1 = Refusals.◌or◌ claim_by_stranger (Refusals.while_stopped s) in
     let r2 = Refusals.◌or◌ r1 (Refusals.already_mine s m z) in
     let r3 = Refusals.◌or◌ r2 (Refusals.held s m z) in
     let r4 = Refusals.◌or◌ r3 (Refusals.shut_to_guest s m z) in
@@ -70,7 +72,8 @@ claim_done s m z e =
     let h3 = none_or r3 (Refusals.shut_to_guest s m z) h4.0 in
     let h2 = none_or r2 (Refusals.held s m z) h3.0 in
     let h1 = none_or r1 (Refusals.already_mine s m z) h2.0 in
-    (and_both _ _ (none_then_not _ _ h1.0) (and_both _ _ (free _ m (none_then _ _ h1.1) h2.1) (not_true _ (none_then _ _ h3.1))), fresh s h4.1)
+    let h0 = none_or claim_by_stranger (Refusals.while_stopped s) h1.0 in
+    (and_both _ _ (none_then_not _ _ h0.0) (and_both _ _ (free _ m (none_then _ _ h1.1) h2.1) (not_true _ (none_then _ _ h3.1))), fresh s h4.1, none_then _ _ h0.1)
 
 pub yield_done : (s : ModelState) (m : Machine) (z : Zone) → Refusals.yield_refusal s m z ≡ None → (may_yield (zone_at s z) m z ≡ true) × (s.stamp < 1048575)
 yield_done s m z e =
@@ -114,10 +117,11 @@ pub some_unless : (o : Option Transfer) → Refusals.wrong_way o ≡ None → is
 some_unless None e = cc
 some_unless (Some row) e = refl
 
-pub give_done : (s : ModelState) (m : Machine) (z : Zone) → Refusals.give_refusal s m z ≡ None → (may_give (zone_at s z) m z ≡ true) × (Refusals.no_room s (Refusals.transfer_given s m z) ≡ None) × (s.stamp < 1048575)
+pub give_done : (s : ModelState) (m : Machine) (z : Zone) → Refusals.give_refusal s m z ≡ None → (may_give (zone_at s z) m z ≡ true) × (Refusals.no_room s (Refusals.transfer_given s m z) ≡ None) × (s.stamp < 1048575) × (s.stopped ≡ false)
 give_done s m z e =
     let row = Refusals.transfer_given s m z in
-    let r1 = Refusals.not_party m z in
+    let give_by_stranger = Refusals.not_party m z in
+    let r1 = Refusals.◌or◌ give_by_stranger (Refusals.while_stopped s) in
     let r2 = Refusals.◌or◌ r1 (Refusals.not_owner s m z) in
     let r3 = Refusals.◌or◌ r2 (Refusals.plate_in_zone s z) in
     let r4 = Refusals.◌or◌ r3 (Refusals.wrong_way row) in
@@ -129,13 +133,15 @@ give_done s m z e =
     let h3 = none_or r3 (Refusals.wrong_way row) h4.0 in
     let h2 = none_or r2 (Refusals.plate_in_zone s z) h3.0 in
     let h1 = none_or r1 (Refusals.not_owner s m z) h2.0 in
-    (and_both _ _ (none_then_not _ _ h1.0) (and_both _ _ (none_then_not _ _ h1.1) (and_both _ _ (not_true _ (none_then _ _ h2.1)) (some_unless row h3.1))), h5.1, fresh s h6.1)
+    let h0 = none_or give_by_stranger (Refusals.while_stopped s) h1.0 in
+    (and_both _ _ (none_then_not _ _ h0.0) (and_both _ _ (none_then_not _ _ h1.1) (and_both _ _ (not_true _ (none_then _ _ h2.1)) (some_unless row h3.1))), h5.1, fresh s h6.1, none_then _ _ h0.1)
 
 pub pose_done : (s : ModelState) (m : Machine) (p : Pose) → Refusals.pose_refusal s m p ≡ None
     → (Refusals.first_zone (Refusals.unowned_by_pose s m p) ≡ None) × (Refusals.first_zone (Refusals.plate_under_pose s m p) ≡ None)
-    × (Refusals.first_zone (Refusals.opens_onto_plate s m p) ≡ None) × (s.stamp < 1048575)
+    × (Refusals.first_zone (Refusals.opens_onto_plate s m p) ≡ None) × (s.stamp < 1048575) × ((Refusals.is_moving_pose p && s.stopped) ≡ false)
 pose_done s m p e =
-    let r1 = Refusals.lacks_pose m p in
+    let r0 = Refusals.lacks_pose m p in
+    let r1 = Refusals.◌or◌ r0 (Refusals.moves_while_stopped s p) in
     let r2 = Refusals.◌or◌ r1 (Refusals.first_zone (Refusals.unowned_by_pose s m p)) in
     let r3 = Refusals.◌or◌ r2 (Refusals.first_zone (Refusals.plate_under_pose s m p)) in
     let r4 = Refusals.◌or◌ r3 (Refusals.jump s m p) in
@@ -147,7 +153,8 @@ pose_done s m p e =
     let h3 = none_or r3 (Refusals.jump s m p) h4.0 in
     let h2 = none_or r2 (Refusals.first_zone (Refusals.plate_under_pose s m p)) h3.0 in
     let h1 = none_or r1 (Refusals.first_zone (Refusals.unowned_by_pose s m p)) h2.0 in
-    (h1.1, h2.1, h4.1, fresh s h6.1)
+    let h0 = none_or r0 (Refusals.moves_while_stopped s p) h1.0 in
+    (h1.1, h2.1, h4.1, fresh s h6.1, none_then _ _ h0.1)
 
 -- if the zones have no first refusal, no zone refuses
 pub no_zone : (f : Zone → Option Refusal) → Refusals.first_zone f ≡ None → (z : Zone) → f z ≡ None
@@ -182,3 +189,17 @@ advance_done s m e =
     let h2 = none_or r2 (Refusals.not_at_work s m) h3.0 in
     let h1 = none_or r1 (Refusals.press_unowned s m) h2.0 in
     (some_way way h1.0, h1.1, none_then_not _ _ h2.1, fresh s h5.1)
+
+pub stop_done : (s : ModelState) (m : Machine) → Refusals.stop_refusal s m ≡ None → (same_machine m Watch ≡ true) × (s.stopped ≡ false) × (s.stamp < 1048575)
+stop_done s m e =
+    let r1 = Refusals.not_watch m in
+    let h2 = none_or (Refusals.◌or◌ r1 (Refusals.while_stopped s)) (Refusals.worn s) e in
+    let h1 = none_or r1 (Refusals.while_stopped s) h2.0 in
+    (none_then_not _ _ h1.0, none_then _ _ h1.1, fresh s h2.1)
+
+pub resume_done : (s : ModelState) (m : Machine) → Refusals.resume_refusal s m ≡ None → (same_machine m Watch ≡ true) × (s.stopped ≡ true) × (s.stamp < 1048575)
+resume_done s m e =
+    let r1 = Refusals.not_watch m in
+    let h2 = none_or (Refusals.◌or◌ r1 (Refusals.not_stopped s)) (Refusals.worn s) e in
+    let h1 = none_or r1 (Refusals.not_stopped s) h2.0 in
+    (none_then_not _ _ h1.0, none_then_not _ _ h1.1, fresh s h2.1)

@@ -5,7 +5,7 @@ use Rattle.cell_types.specs.declared.machine.Machine.{Machine}
 use Rattle.cell_types.specs.declared.zone.Zone.{Zone}
 use Rattle.cell_types.specs.declared.posture.Posture.TheVariants.{Closed}
 use Rattle.cell_types.specs.declared.call.Call.{Call}
-use Rattle.cell_types.specs.declared.call.Call.TheVariants.{Claim, Give, Yield, Take, Release, SetPose, Advance, Inquire}
+use Rattle.cell_types.specs.declared.call.Call.TheVariants.{Claim, Give, Yield, Take, Release, SetPose, Advance, Inquire, Stop, Resume}
 use Rattle.cell_types.specs.declared.answer.Answer.TheVariants.{Done}
 use Rattle.cell_types.specs.declared.answer.Event.{Event}
 use Rattle.cell_types.specs.Same.{same_zone}
@@ -50,6 +50,8 @@ flag-changed z s n (Release y) h e = kept _ _ (put-keeps s y z (released (zone_a
 flag-changed z s n (SetPose p) h e = kept _ _ (ap (λ (v : ZoneState). v.flag) (zone_in-map (posed n p) s.zones z))
 flag-changed z s n Advance h e = kept _ _ (ap (λ (v : ZoneState). v.flag) (zone_in-map (halted n) s.zones z) ∙ halted-flag (is_belt_of n z) (zone_at s z))
 flag-changed z s n (Inquire y) h e = cc
+flag-changed z s n Stop h e = refl
+flag-changed z s n Resume h e = refl
 
 pub flags-counted : (s : ModelState) (h : List Event) (z : Zone) → IsSound s → IsLegal s h → one_if (zone_at s z).flag + count_by (is_given_into z) h ≡ one_if (zone_at (after s h) z).flag + count_by (is_taken_from z) h
 flags-counted s h z k l = counted (λ x. one_if (zone_at x z).flag) (λ m d. gives d z) (λ m d. takes d z) (flag-changed z) s h k l

@@ -5,7 +5,7 @@ use Rattle.cell_types.specs.declared.machine.Machine.{Machine}
 use Rattle.cell_types.specs.declared.zone.Zone.{Zone}
 use Rattle.cell_types.specs.declared.posture.Posture.TheVariants.{Closed}
 use Rattle.cell_types.specs.declared.call.Call.{Call}
-use Rattle.cell_types.specs.declared.call.Call.TheVariants.{Claim, Give, Yield, Take, Release, SetPose, Advance, Inquire}
+use Rattle.cell_types.specs.declared.call.Call.TheVariants.{Claim, Give, Yield, Take, Release, SetPose, Advance, Inquire, Stop, Resume}
 use Rattle.cell_types.specs.declared.answer.Answer.{Answer}
 use Rattle.cell_types.specs.declared.answer.Answer.TheVariants.{Done, Shown, Refused}
 use Rattle.cell_types.specs.declared.answer.Event.{Event}
@@ -122,6 +122,8 @@ owns-changed s n (SetPose p) m z e = ap (λ (v : ZoneState). is_owned_by v.owner
 owns-changed s n Advance m z e =
     ap (λ (v : ZoneState). is_owned_by v.owner m) (zone_in-map (halted n) s.zones z) ∙ ap (λ o. is_owned_by o m) (owner-halted (is_belt_of n z) (zone_at s z)) ∙ sym (and-true (owns s m z))
 owns-changed s n (Inquire y) m z e = cc
+owns-changed s n Stop m z e = sym (and-true (owns s m z))
+owns-changed s n Resume m z e = sym (and-true (owns s m z))
 
 owns-by : (a : Answer) (s : ModelState) (n : Machine) (c : Call) (m : Machine) (z : Zone) → (a ≡ Done → owns (changed s n c) m z ≡ (gains n c m z || (owns s m z && not (loses n c m z))))
     → owns (next_by a s n c) m z ≡ ((is_done_answer a && gains n c m z) || (owns s m z && not (is_done_answer a && loses n c m z)))

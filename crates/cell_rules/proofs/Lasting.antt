@@ -7,7 +7,7 @@ use Rattle.cell_types.specs.declared.zone.Zone.{Zone}
 use Rattle.cell_types.specs.declared.posture.Posture.{Posture}
 use Rattle.cell_types.specs.declared.posture.Posture.TheVariants.{Closed, Moving, OpenIn, OpenOut}
 use Rattle.cell_types.specs.declared.call.Call.{Call}
-use Rattle.cell_types.specs.declared.call.Call.TheVariants.{Claim, Give, Yield, Take, Release, SetPose, Advance, Inquire}
+use Rattle.cell_types.specs.declared.call.Call.TheVariants.{Claim, Give, Yield, Take, Release, SetPose, Advance, Inquire, Stop, Resume}
 use Rattle.cell_types.specs.declared.answer.Answer.{Answer}
 use Rattle.cell_types.specs.declared.answer.Answer.TheVariants.{Done, Shown, Refused}
 use Rattle.cell_types.specs.declared.answer.Event.{Event}
@@ -82,6 +82,8 @@ zone_at-changed s n Advance m z k d o e =
     let same : owns s m z ≡ same_machine n m = owned_as v.owner n m own in cc) in
     zone_in-map (halted n) s.zones z ∙ halted_not (is_belt_of n z) v no_belt
 zone_at-changed s n (Inquire y) m z k d o e = cc
+zone_at-changed s n Stop m z k d o e = refl
+zone_at-changed s n Resume m z k d o e = refl
 
 zone_at-by : (a : Answer) (s : ModelState) (n : Machine) (c : Call) (z : Zone) → (a ≡ Done → zone_at (changed s n c) z ≡ zone_at s z) → zone_at (next_by a s n c) z ≡ zone_at s z
 zone_at-by Done s n c z k = k refl

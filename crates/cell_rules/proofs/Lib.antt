@@ -29,10 +29,13 @@ pub mod Tellings
 pub mod Causing
 pub mod Posing
 pub mod Refusing
+pub mod Unbarred
 pub mod Clear
 pub mod Fitting
 pub mod TablesHold
 pub mod Handing
+pub mod Stopping
+pub mod FirstVersion
 pub mod Assembly
 pub mod Owners
 pub mod Quiet

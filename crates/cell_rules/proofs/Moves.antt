@@ -214,7 +214,7 @@ belt_or false F v b e = e
 advance_by : (s : ModelState) (m : Machine) (from to : Place) → IsSound s → is_at_work s m ≡ true → ((z : Zone) (q : Posture) → comes_from to (transfer_of z q) ≡ false) → s.stamp < 1048575
     → (let full = put_place (put_place s.full from false) to true in has full PressIn ≡ press_if m false (has s.full PressIn))
     → (let full = put_place (put_place s.full from false) to true in has full PressOut ≡ press_if m true (has s.full PressOut))
-    → IsSound (record { zones = map_zones (halted m) s.zones; full = put_place (put_place s.full from false) to true; stamp = s.stamp + 1 })
+    → IsSound (record { zones = map_zones (halted m) s.zones; full = put_place (put_place s.full from false) to true; stamp = s.stamp + 1; stopped = s.stopped })
 advance_by s m from to h work apart small_stamp press_in press_out =
     let small : s.stamp + 1 ≤ 1048575 = omega arith in
     let full = put_place (put_place s.full from false) to true in
@@ -238,7 +238,7 @@ advance_by s m from to h work apart small_stamp press_in press_out =
     let H : Bool → Type 0 = λ x. is_lawful c (press_if m false i) x z (halted m z v) ≡ true in
     subst G (sym press_in) (subst H (sym press_out) there) in
     let At : Zone → Type 0 = λ z. lawful_in full z (zone_in (map_zones (halted m) s.zones) z) ≡ true in
-    sound_from (record { zones = map_zones (halted m) s.zones; full = full; stamp = s.stamp + 1 }) small (each_zone At (at Z1) (at Z2) (at Z3) (at Z4) (at Z5) (at Z6))
+    sound_from (record { zones = map_zones (halted m) s.zones; full = full; stamp = s.stamp + 1; stopped = s.stopped }) small (each_zone At (at Z1) (at Z2) (at Z3) (at Z4) (at Z5) (at Z6))
 
 abbrev end_test : Place → Bool
 end_test to = all_zones (λ z. all_postures (λ q. not (comes_from to (transfer_of z q))))

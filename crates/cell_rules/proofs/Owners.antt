@@ -8,7 +8,7 @@ use Rattle.cell_types.specs.declared.zone.Zone.TheVariants.{Z3}
 use Rattle.cell_types.specs.declared.posture.Posture.{Posture}
 use Rattle.cell_types.specs.declared.pose.Pose.{Pose}
 use Rattle.cell_types.specs.declared.call.Call.{Call}
-use Rattle.cell_types.specs.declared.call.Call.TheVariants.{Claim, Give, Yield, Take, Release, SetPose, Advance, Inquire}
+use Rattle.cell_types.specs.declared.call.Call.TheVariants.{Claim, Give, Yield, Take, Release, SetPose, Advance, Inquire, Stop, Resume}
 use Rattle.cell_types.specs.declared.answer.Refusal.TheVariants.{NotOwner}
 use Rattle.cell_types.specs.declared.answer.Answer.{Answer}
 use Rattle.cell_types.specs.declared.answer.Event.{Event}
@@ -71,6 +71,8 @@ no_cause s m (Take z) o own = not_anothers (owns s m z) (is_owned_as s z o) (own
 no_cause s m (Release z) o own = not_anothers (owns s m z) (is_owned_as s z o) (own z (itself z))
 no_cause s m (SetPose p) o own = none_fails s m o (zones_posed m p) own (all_hosted m p)
 no_cause s m (Inquire z) o own = refl
+no_cause s m Stop o own = refl
+no_cause s m Resume o own = refl
 no_cause s m Advance o own =
     let By : Bool → Type 0 = λ b. b ≡ same_machine m Press → (b && is_anothers s Press Z3 o) ≡ false in
     let by : (b : Bool) → By b = λ b. elim b as By [

@@ -13,13 +13,13 @@ use Rattle.cell_types.specs.declared.posture.Posture.TheVariants.{Moving, OpenIn
 use Rattle.cell_types.specs.declared.pose.Pose.{Pose}
 use Rattle.cell_types.specs.declared.pose.Pose.TheVariants.{Turning, Loading, Unloading, Travelling, Middle, Low, Top, Running, Landing, Halted, Offering, Standing}
 use Rattle.cell_types.specs.declared.answer.Refusal.{Refusal}
-use Rattle.cell_types.specs.declared.answer.Refusal.TheVariants.{NotOwner, PlateInZone, NoPlate, PlaceFull, Jump, NotAtWork, NoPose, Worn}
+use Rattle.cell_types.specs.declared.answer.Refusal.TheVariants.{NotOwner, PlateInZone, NoPlate, PlaceFull, Jump, NotAtWork, NoPose, Worn, Stopped}
 use Rattle.cell_types.specs.Same.{same_machine, same_zone, same_posture, same_pose}
 use Rattle.cell_types.specs.Ways.{own_move_of}
 use Rattle.cell_rules.specs.ModelState.{ModelState, is_full}
 use Rattle.cell_rules.specs.Refusals
 use Rattle.cell_rules.specs.Refusals.{◌or◌, owner_of, posture_at, owns, first_zone}
-use Rattle.cell_rules.specs.Causes.{zones_posed, is_changed, is_owned_as, has_plate, on_zone, lowest, jumps, lacks_room, pose_cause, advance_cause}
+use Rattle.cell_rules.specs.Causes.{zones_posed, is_changed, is_owned_as, has_plate, on_zone, lowest, jumps, is_moving, lacks_room, pose_cause, advance_cause}
 use Rattle.cell_rules.proofs.Chains.{chain, Tells, head_on}
 use Rattle.cell_rules.proofs.Tellings.{plain, names_owner, names_zone, worn_at}
 use Rattle.cell_rules.proofs.Causing.{TellsRight, AllNamed, by_lines}
@@ -98,7 +98,7 @@ tells_plate causes (Some row) same = names_zone causes row.0 true (λ y. same y 
 -- ---- a pose
 
 abbrev pub order : List ℕ
-order = 12 ∷ 5 ∷ 6 ∷ 10 ∷ 8 ∷ 13 ∷ []
+order = 12 ∷ 14 ∷ 5 ∷ 6 ∷ 10 ∷ 8 ∷ 13 ∷ []
 
 named : (s : ModelState) (m : Machine) (p : Pose) → AllNamed (pose_cause s m p) order
 named s m p NoPose k = refl
@@ -107,6 +107,7 @@ named s m p (PlateInZone y) k = refl
 named s m p Jump k = refl
 named s m p PlaceFull k = refl
 named s m p Worn k = refl
+named s m p Stopped k = refl
 named s m p _ k = cc
 
 abbrev pub unowned_rows : ModelState → Machine → Pose → Option Refusal
@@ -122,6 +123,7 @@ no_room s m p = first_zone (Refusals.opens_onto_plate s m p) or Refusals.runs_on
 pub record Poses (s : ModelState) (m : Machine) (p : Pose) : Type 0 where
   pub has : Refusals.lacks_pose m p ≡ None
   pub has_zones : pose_cause s m p NoPose ≡ false
+  pub barred : Refusals.moves_while_stopped s p ≡ then_some (is_moving p && s.stopped) Stopped
   pub unowned : from_right (Refusals.unowned_by_pose s m p) ≡ unowned_rows s m p
   pub plate : from_right (Refusals.plate_under_pose s m p) ≡ plate_rows s m p
   pub jump : Refusals.jump s m p ≡ then_some (jumps s m p) Jump
@@ -129,13 +131,13 @@ pub record Poses (s : ModelState) (m : Machine) (p : Pose) : Type 0 where
 
 abbrev pose_lines : ModelState → Machine → Pose → List (ℕ × Option Refusal)
 pose_lines s m p =
-    (12, None) ∷ (5, made (λ z. NotOwner (owner_of s z)) (lowest (λ z. not (owns s m z)) (filter (is_changed s) (zones_posed m p))))
+    (12, None) ∷ (14, then_some (is_moving p && s.stopped) Stopped) ∷ (5, made (λ z. NotOwner (owner_of s z)) (lowest (λ z. not (owns s m z)) (filter (is_changed s) (zones_posed m p))))
     ∷ (6, made PlateInZone (lowest (has_plate s) (filter (is_changed s) (zones_posed m p)))) ∷ (10, then_some (jumps s m p) Jump) ∷ (8, then_some (lacks_room s m p) PlaceFull) ∷ (13, Refusals.worn s) ∷ []
 
-alike : (a b c d e a1 b1 c1 d1 e1 w : Option Refusal) → a ≡ a1 → b ≡ b1 → c ≡ c1 → d ≡ d1 → e ≡ e1 → a or b or c or d or e or w ≡ a1 or b1 or c1 or d1 or e1 or w
-alike a b c d e a1 b1 c1 d1 e1 w ka kb kc kd ke =
-    ap (λ x. x or b or c or d or e or w) ka ∙ ap (λ x. a1 or x or c or d or e or w) kb ∙ ap (λ x. a1 or b1 or x or d or e or w) kc
-    ∙ ap (λ x. a1 or b1 or c1 or x or e or w) kd ∙ ap (λ x. a1 or b1 or c1 or d1 or x or w) ke
+alike : (a s b c d e a1 s1 b1 c1 d1 e1 w : Option Refusal) → a ≡ a1 → s ≡ s1 → b ≡ b1 → c ≡ c1 → d ≡ d1 → e ≡ e1 → a or s or b or c or d or e or w ≡ a1 or s1 or b1 or c1 or d1 or e1 or w
+alike a s b c d e a1 s1 b1 c1 d1 e1 w ka ks kb kc kd ke =
+    ap (λ x. x or s or b or c or d or e or w) ka ∙ ap (λ x. a1 or x or b or c or d or e or w) ks ∙ ap (λ x. a1 or s1 or x or c or d or e or w) kb ∙ ap (λ x. a1 or s1 or b1 or x or d or e or w) kc
+    ∙ ap (λ x. a1 or s1 or b1 or c1 or x or e or w) kd ∙ ap (λ x. a1 or s1 or b1 or c1 or d1 or x or w) ke
 
 pose_chain : (s : ModelState) (m : Machine) (p : Pose) → Poses s m p → Refusals.pose_refusal s m p ≡ chain None (pose_lines s m p)
 unfolding from_right
@@ -149,11 +151,12 @@ pose_chain s m p h =
     let w = Refusals.worn s in
     let j = Refusals.jump s m p in
     let a = Refusals.lacks_pose m p in
+    let barred = Refusals.moves_while_stopped s p in
     let first = first_zone f in
     let second = first_zone g in
-    ap (λ x. x or w) (or_assoc (a or first or second or j) o r)
-    ∙ alike a first second j (o or r) None (made (λ z. NotOwner (owner_of s z)) (lowest (λ z. not (owns s m z)) (filter (is_changed s) (zones_posed m p))))
-    (made PlateInZone (lowest (has_plate s) (filter (is_changed s) (zones_posed m p)))) (then_some (jumps s m p) Jump) (then_some (lacks_room s m p) PlaceFull) w h.has un pl h.jump h.room
+    ap (λ x. x or w) (or_assoc (a or barred or first or second or j) o r)
+    ∙ alike a barred first second j (o or r) None (then_some (is_moving p && s.stopped) Stopped) (made (λ z. NotOwner (owner_of s z)) (lowest (λ z. not (owns s m z)) (filter (is_changed s) (zones_posed m p))))
+    (made PlateInZone (lowest (has_plate s) (filter (is_changed s) (zones_posed m p)))) (then_some (jumps s m p) Jump) (then_some (lacks_room s m p) PlaceFull) w h.has h.barred un pl h.jump h.room
 
 pose_by : (s : ModelState) (m : Machine) (p : Pose) → s.stamp ≤ 1048575 → Poses s m p → TellsRight (pose_cause s m p) order (Refusals.pose_refusal s m p)
 pose_by s m p small h =
@@ -162,14 +165,17 @@ pose_by s m p small h =
     subst (TellsRight causes order) (sym (pose_chain s m p h)) (by_lines causes (pose_lines s m p) (
       plain causes NoPose false refl h.has_zones,
       (
-        tells_owner causes s (lowest (λ z. not (owns s m z)) those) (λ o. refl),
+        plain causes Stopped (is_moving p && s.stopped) refl refl,
         (
-          tells_plate causes (lowest (has_plate s) those) (λ y. refl),
+          tells_owner causes s (lowest (λ z. not (owns s m z)) those) (λ o. refl),
           (
-            plain causes Jump (jumps s m p) refl refl,
+            tells_plate causes (lowest (has_plate s) those) (λ y. refl),
             (
-              plain causes PlaceFull (lacks_room s m p) refl refl,
-              (plain causes Worn (not (nat_lt s.stamp 1048575)) refl (worn_at s.stamp small), tt),
+              plain causes Jump (jumps s m p) refl refl,
+              (
+                plain causes PlaceFull (lacks_room s m p) refl refl,
+                (plain causes Worn (not (nat_lt s.stamp 1048575)) refl (worn_at s.stamp small), tt),
+              ),
             ),
           ),
         ),
@@ -252,9 +258,9 @@ moving_both s y z = ap (λ b. then_some (not (same_posture (posture_at s y) Movi
 moving_one : (s : ModelState) (z : Zone) → then_some (not (same_posture (posture_at s z) Moving && true)) Jump ≡ then_some (not (same_posture (posture_at s z) Moving)) Jump
 moving_one s z = ap (λ b. then_some (not b) Jump) (and_true (same_posture (posture_at s z) Moving))
 
-posed : (s : ModelState) (m : Machine) (p : Pose) → Refusals.lacks_pose m p ≡ None → pose_cause s m p NoPose ≡ false → from_right (Refusals.unowned_by_pose s m p) ≡ unowned_rows s m p → from_right (Refusals.plate_under_pose s m p) ≡ plate_rows s m p
+posed : (s : ModelState) (m : Machine) (p : Pose) → Refusals.lacks_pose m p ≡ None → pose_cause s m p NoPose ≡ false → Refusals.moves_while_stopped s p ≡ then_some (is_moving p && s.stopped) Stopped → from_right (Refusals.unowned_by_pose s m p) ≡ unowned_rows s m p → from_right (Refusals.plate_under_pose s m p) ≡ plate_rows s m p
     → Refusals.jump s m p ≡ then_some (jumps s m p) Jump → any_test s m p ≡ lacks_room s m p → Poses s m p
-posed s m p a b c d e f = record { has = a; has_zones = b; unowned = c; plate = d; jump = e; room = room_by s m p f }
+posed s m p a b g c d e f = record { has = a; has_zones = b; barred = g; unowned = c; plate = d; jump = e; room = room_by s m p f }
 
 press_room : (s : ModelState) (p : Pose) → opening s Press p Z1 ≡ false → opening s Press p Z2 ≡ false → opening s Press p Z4 ≡ false → opening s Press p Z5 ≡ false → opening s Press p Z6 ≡ false → running s Press p ≡ false → any_test s Press p ≡ opening s Press p Z3
 unfolding any_test
@@ -278,22 +284,22 @@ feed_room s p z1 z2 z3 z4 z5 z6 = at_7 _ _ _ _ _ _ (running s Feed p) z1 z2 z3 z
 
 pub pose_tells : (s : ModelState) (m : Machine) (p : Pose) → s.stamp ≤ 1048575 → TellsRight (pose_cause s m p) order (Refusals.pose_refusal s m p)
 unfolding from_right rows_refusal
-pose_tells s TableMachine Turning k = pose_by s TableMachine Turning k (posed s TableMachine Turning refl refl refl refl refl (table_room s Turning refl (stays s Z3) (stays s Z4) (stays s Z5) (stays s Z6) refl))
-pose_tells s TableMachine Loading k = pose_by s TableMachine Loading k (posed s TableMachine Loading refl refl refl refl (moving_both s Z1 Z2) (table_room s Loading refl (stays s Z3) (stays s Z4) (stays s Z5) (stays s Z6) refl))
-pose_tells s TableMachine Unloading k = pose_by s TableMachine Unloading k (posed s TableMachine Unloading refl refl refl refl (moving_both s Z1 Z2) (table_room s Unloading refl (stays s Z3) (stays s Z4) (stays s Z5) (stays s Z6) refl))
-pose_tells s Press Travelling k = pose_by s Press Travelling k (posed s Press Travelling refl refl refl refl refl (press_room s Travelling (stays s Z1) (stays s Z2) (stays s Z4) (stays s Z5) (stays s Z6) refl))
-pose_tells s Press Middle k = pose_by s Press Middle k (posed s Press Middle refl refl refl refl (moving_one s Z3) (press_room s Middle (stays s Z1) (stays s Z2) (stays s Z4) (stays s Z5) (stays s Z6) refl))
-pose_tells s Press Low k = pose_by s Press Low k (posed s Press Low refl refl refl refl (moving_one s Z3) (press_room s Low (stays s Z1) (stays s Z2) (stays s Z4) (stays s Z5) (stays s Z6) refl))
-pose_tells s Press Top k = pose_by s Press Top k (posed s Press Top refl refl refl refl (moving_one s Z3) (press_room s Top (stays s Z1) (stays s Z2) (stays s Z4) (stays s Z5) (stays s Z6) refl))
-pose_tells s Feed Running k = pose_by s Feed Running k (posed s Feed Running refl refl refl refl refl (feed_room s Running (stays s Z1) (stays s Z2) (stays s Z3) (stays s Z4) (stays s Z5) refl))
-pose_tells s Feed Landing k = pose_by s Feed Landing k (posed s Feed Landing refl refl refl refl refl (feed_lands s Landing (stays s Z1) (stays s Z2) (stays s Z3) (stays s Z4) (stays s Z5) refl))
-pose_tells s Feed Halted k = pose_by s Feed Halted k (posed s Feed Halted refl refl refl refl refl (feed_room s Halted (stays s Z1) (stays s Z2) (stays s Z3) (stays s Z4) (stays s Z5) refl))
-pose_tells s Deposit Running k = pose_by s Deposit Running k (posed s Deposit Running refl refl refl refl refl (deposit_room s Running (stays s Z1) (stays s Z2) (stays s Z3) refl refl (stays s Z6) ∙ or_none (is_full s DepEnd) false refl))
-pose_tells s Deposit Landing k = pose_by s Deposit Landing k (posed s Deposit Landing refl refl refl refl refl (landing_room s Landing (stays s Z1) (stays s Z2) (stays s Z3) refl (stays s Z6) refl))
-pose_tells s Deposit Offering k = pose_by s Deposit Offering k (posed s Deposit Offering refl refl refl refl refl (deposit_room s Offering (stays s Z1) (stays s Z2) (stays s Z3) refl refl (stays s Z6)))
-pose_tells s Deposit Standing k = pose_by s Deposit Standing k (posed s Deposit Standing refl refl refl refl refl (landing_room s Standing (stays s Z1) (stays s Z2) (stays s Z3) refl (stays s Z6) refl))
-pose_tells s Deposit Halted k = pose_by s Deposit Halted k (posed s Deposit Halted refl refl refl refl refl (deposit_room s Halted (stays s Z1) (stays s Z2) (stays s Z3) refl refl (stays s Z6)))
-pose_tells s m p k = lacks (pose_cause s m p) (5 ∷ 6 ∷ 10 ∷ 8 ∷ 13 ∷ []) refl (named s m p)
+pose_tells s TableMachine Turning k = pose_by s TableMachine Turning k (posed s TableMachine Turning refl refl refl refl refl refl (table_room s Turning refl (stays s Z3) (stays s Z4) (stays s Z5) (stays s Z6) refl))
+pose_tells s TableMachine Loading k = pose_by s TableMachine Loading k (posed s TableMachine Loading refl refl refl refl refl (moving_both s Z1 Z2) (table_room s Loading refl (stays s Z3) (stays s Z4) (stays s Z5) (stays s Z6) refl))
+pose_tells s TableMachine Unloading k = pose_by s TableMachine Unloading k (posed s TableMachine Unloading refl refl refl refl refl (moving_both s Z1 Z2) (table_room s Unloading refl (stays s Z3) (stays s Z4) (stays s Z5) (stays s Z6) refl))
+pose_tells s Press Travelling k = pose_by s Press Travelling k (posed s Press Travelling refl refl refl refl refl refl (press_room s Travelling (stays s Z1) (stays s Z2) (stays s Z4) (stays s Z5) (stays s Z6) refl))
+pose_tells s Press Middle k = pose_by s Press Middle k (posed s Press Middle refl refl refl refl refl (moving_one s Z3) (press_room s Middle (stays s Z1) (stays s Z2) (stays s Z4) (stays s Z5) (stays s Z6) refl))
+pose_tells s Press Low k = pose_by s Press Low k (posed s Press Low refl refl refl refl refl (moving_one s Z3) (press_room s Low (stays s Z1) (stays s Z2) (stays s Z4) (stays s Z5) (stays s Z6) refl))
+pose_tells s Press Top k = pose_by s Press Top k (posed s Press Top refl refl refl refl refl (moving_one s Z3) (press_room s Top (stays s Z1) (stays s Z2) (stays s Z4) (stays s Z5) (stays s Z6) refl))
+pose_tells s Feed Running k = pose_by s Feed Running k (posed s Feed Running refl refl refl refl refl refl (feed_room s Running (stays s Z1) (stays s Z2) (stays s Z3) (stays s Z4) (stays s Z5) refl))
+pose_tells s Feed Landing k = pose_by s Feed Landing k (posed s Feed Landing refl refl refl refl refl refl (feed_lands s Landing (stays s Z1) (stays s Z2) (stays s Z3) (stays s Z4) (stays s Z5) refl))
+pose_tells s Feed Halted k = pose_by s Feed Halted k (posed s Feed Halted refl refl refl refl refl refl (feed_room s Halted (stays s Z1) (stays s Z2) (stays s Z3) (stays s Z4) (stays s Z5) refl))
+pose_tells s Deposit Running k = pose_by s Deposit Running k (posed s Deposit Running refl refl refl refl refl refl (deposit_room s Running (stays s Z1) (stays s Z2) (stays s Z3) refl refl (stays s Z6) ∙ or_none (is_full s DepEnd) false refl))
+pose_tells s Deposit Landing k = pose_by s Deposit Landing k (posed s Deposit Landing refl refl refl refl refl refl (landing_room s Landing (stays s Z1) (stays s Z2) (stays s Z3) refl (stays s Z6) refl))
+pose_tells s Deposit Offering k = pose_by s Deposit Offering k (posed s Deposit Offering refl refl refl refl refl refl (deposit_room s Offering (stays s Z1) (stays s Z2) (stays s Z3) refl refl (stays s Z6)))
+pose_tells s Deposit Standing k = pose_by s Deposit Standing k (posed s Deposit Standing refl refl refl refl refl refl (landing_room s Standing (stays s Z1) (stays s Z2) (stays s Z3) refl (stays s Z6) refl))
+pose_tells s Deposit Halted k = pose_by s Deposit Halted k (posed s Deposit Halted refl refl refl refl refl refl (deposit_room s Halted (stays s Z1) (stays s Z2) (stays s Z3) refl refl (stays s Z6)))
+pose_tells s m p k = lacks (pose_cause s m p) (14 ∷ 5 ∷ 6 ∷ 10 ∷ 8 ∷ 13 ∷ []) refl (named s m p)
 
 -- ---- an advance
 

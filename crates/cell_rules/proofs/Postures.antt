@@ -4,7 +4,7 @@ use Rattle.cell_types.specs.declared.machine.Machine.{Machine}
 use Rattle.cell_types.specs.declared.zone.Zone.{Zone}
 use Rattle.cell_types.specs.declared.posture.Posture.TheVariants.{Closed}
 use Rattle.cell_types.specs.declared.call.Call.{Call}
-use Rattle.cell_types.specs.declared.call.Call.TheVariants.{Claim, Give, Yield, Take, Release, SetPose, Advance, Inquire}
+use Rattle.cell_types.specs.declared.call.Call.TheVariants.{Claim, Give, Yield, Take, Release, SetPose, Advance, Inquire, Stop, Resume}
 use Rattle.cell_types.specs.declared.answer.Answer.{Answer}
 use Rattle.cell_types.specs.declared.answer.Answer.TheVariants.{Done, Shown, Refused}
 use Rattle.cell_types.specs.declared.answer.Event.{Event}
@@ -35,6 +35,8 @@ posture-changed s n (Release y) z = put_kept s y (released (zone_at s y) n y) re
 posture-changed s n (SetPose p) z = ap (λ (v : ZoneState). v.posture) (zone_in-map (posed n p) s.zones z)
 posture-changed s n Advance z = ap (λ (v : ZoneState). v.posture) (zone_in-map (halted n) s.zones z) ∙ posture-halted (is_belt_of n z) (zone_at s z)
 posture-changed s n (Inquire y) z = refl
+posture-changed s n Stop z = refl
+posture-changed s n Resume z = refl
 
 posture_by : (a : Answer) (s : ModelState) (n : Machine) (c : Call) (z : Zone) → posture_at (next_by a s n c) z ≡ (if is_done_answer a then posture_given n c z (posture_at s z) else posture_at s z)
 posture_by Done s n c z = posture-changed s n c z

@@ -2,16 +2,16 @@
 use Rattle.std.proofs.Common.{◌≡◌, Option, Some, None, ap}
 use Rattle.cell_types.specs.declared.machine.Machine.{Machine}
 use Rattle.cell_types.specs.declared.call.Call.{Call}
-use Rattle.cell_types.specs.declared.call.Call.TheVariants.{Claim, Give, Yield, Take, Release, SetPose, Advance, Inquire}
+use Rattle.cell_types.specs.declared.call.Call.TheVariants.{Claim, Give, Yield, Take, Release, SetPose, Advance, Inquire, Stop, Resume}
 use Rattle.cell_types.specs.declared.answer.Refusal.{Refusal}
 use Rattle.cell_types.specs.declared.answer.Answer.TheVariants.{Refused}
 use Rattle.cell_rules.specs.ModelState.{ModelState}
 use Rattle.cell_rules.specs.Sound.{IsSound}
-use Rattle.cell_rules.specs.Refusals.{claim_refusal, give_refusal, yield_refusal, take_refusal, release_refusal, pose_refusal, advance_refusal}
+use Rattle.cell_rules.specs.Refusals.{claim_refusal, give_refusal, yield_refusal, take_refusal, release_refusal, pose_refusal, advance_refusal, stop_refusal, resume_refusal}
 use Rattle.cell_rules.specs.Reply.{reply, refusal, done_unless}
 use Rattle.cell_rules.specs.Causes.{is_cause, order_of}
 use Rattle.cell_rules.specs.RefusalLaws.{RefusalsTell}
-use Rattle.cell_rules.proofs.Causing.{TellsRight, claim_tells, give_tells, yield_tells, take_tells, release_tells}
+use Rattle.cell_rules.proofs.Causing.{TellsRight, claim_tells, give_tells, yield_tells, take_tells, release_tells, stop_tells, resume_tells}
 use Rattle.cell_rules.proofs.Posing.{pose_tells, advance_tells}
 
 call_tells : (s : ModelState) (m : Machine) (c : Call) → IsSound s → TellsRight (is_cause s m c) (order_of c) (refusal s m c)
@@ -22,6 +22,8 @@ call_tells s m (Take z) h = take_tells s m z h.stamp_in_range
 call_tells s m (Release z) h = release_tells s m z h.stamp_in_range
 call_tells s m (SetPose p) h = pose_tells s m p h.stamp_in_range
 call_tells s m Advance h = advance_tells s m h.stamp_in_range
+call_tells s m Stop h = stop_tells s m h.stamp_in_range
+call_tells s m Resume h = resume_tells s m h.stamp_in_range
 call_tells s m (Inquire z) h = record { cause = λ r e. cc; first = λ r k. cc }
 
 refused_some : (o : Option Refusal) (r : Refusal) → done_unless o ≡ Refused r → o ≡ Some r
@@ -40,6 +42,8 @@ refusal_of_reply s m (Release z) r e = refused_some (release_refusal s m z) r e
 refusal_of_reply s m (SetPose p) r e = refused_some (pose_refusal s m p) r e
 refusal_of_reply s m Advance r e = refused_some (advance_refusal s m) r e
 refusal_of_reply s m (Inquire z) r e = cc
+refusal_of_reply s m Stop r e = refused_some (stop_refusal s m) r e
+refusal_of_reply s m Resume r e = refused_some (resume_refusal s m) r e
 
 reply_of_refusal : (s : ModelState) (m : Machine) (c : Call) (r : Refusal) → refusal s m c ≡ Some r → reply s m c ≡ Refused r
 reply_of_refusal s m (Claim z) r e = some_refused (claim_refusal s m z) r e
@@ -50,6 +54,8 @@ reply_of_refusal s m (Release z) r e = some_refused (release_refusal s m z) r e
 reply_of_refusal s m (SetPose p) r e = some_refused (pose_refusal s m p) r e
 reply_of_refusal s m Advance r e = some_refused (advance_refusal s m) r e
 reply_of_refusal s m (Inquire z) r e = cc
+reply_of_refusal s m Stop r e = some_refused (stop_refusal s m) r e
+reply_of_refusal s m Resume r e = some_refused (resume_refusal s m) r e
 
 pub refusals_tell : RefusalsTell
 refusals_tell = record {

@@ -8,7 +8,7 @@ use Rattle.cell_types.specs.declared.zone.Zone.{Zone}
 use Rattle.cell_types.specs.declared.posture.Posture.{Posture}
 use Rattle.cell_types.specs.declared.posture.Posture.TheVariants.{Closed, Moving, OpenIn, OpenOut}
 use Rattle.cell_types.specs.declared.answer.Refusal.{Refusal}
-use Rattle.cell_types.specs.declared.answer.Refusal.TheVariants.{NotParty, Held, AlreadyMine, Shut, NotOwner, PlateInZone, NoPlate, PlaceFull, WrongWay, Jump, NotAtWork, NoPose, Worn, InUse}
+use Rattle.cell_types.specs.declared.answer.Refusal.TheVariants.{NotParty, Held, AlreadyMine, Shut, NotOwner, PlateInZone, NoPlate, PlaceFull, WrongWay, Jump, NotAtWork, NoPose, Worn, Stopped, NotStopped, InUse}
 use Rattle.cell_types.specs.Refusals.{number_of}
 use Rattle.cell_types.specs.Same.{same_machine, same_zone, same_posture, one_machine, one_posture}
 use Rattle.cell_rules.specs.Sound.{is_open}
@@ -45,6 +45,8 @@ alone Jump Jump p e = refl
 alone NotAtWork NotAtWork p e = refl
 alone NoPose NoPose p e = refl
 alone Worn Worn p e = refl
+alone Stopped Stopped p e = refl
+alone NotStopped NotStopped p e = refl
 alone InUse InUse p e = refl
 alone _ _ p e = cc
 

@@ -29,7 +29,7 @@ gives_by s m z (Some row) way some there clear = record { row = row; way = way; 
 pub give_finds : (s : ModelState) (m : Machine) (z : Zone) → Refusals.give_refusal s m z ≡ None → Gives s m z
 give_finds s m z e =
     let row = Refusals.transfer_given s m z in
-    let r2 = Refusals.◌or◌ (Refusals.not_party m z) (Refusals.not_owner s m z) in
+    let r2 = Refusals.◌or◌ (Refusals.◌or◌ (Refusals.not_party m z) (Refusals.while_stopped s)) (Refusals.not_owner s m z) in
     let r3 = Refusals.◌or◌ r2 (Refusals.plate_in_zone s z) in
     let r4 = Refusals.◌or◌ r3 (Refusals.wrong_way row) in
     let r5 = Refusals.◌or◌ r4 (Refusals.nothing_to_give s row) in

@@ -6,7 +6,7 @@ use Rattle.std.specs.Option.{option_eq}
 use Rattle.std.specs.List.{find}
 use Rattle.cell_types.specs.declared.machine.Machine.{Machine}
 use Rattle.cell_types.specs.declared.machine.Machine.TheVariants.{Feed, Robot, Press, Deposit, Table as TableMachine}
-use Rattle.cell_types.specs.declared.machine.Machine.TheVariants.{Crane as CraneMachine}
+use Rattle.cell_types.specs.declared.machine.Machine.TheVariants.{Crane as CraneMachine, Watch}
 use Rattle.cell_types.specs.declared.zone.Zone.{Zone}
 use Rattle.cell_types.specs.declared.zone.Zone.TheVariants.{Z1, Z2, Z3, Z4, Z5, Z6}
 use Rattle.cell_types.specs.declared.place.Place.{Place}
@@ -19,11 +19,11 @@ use Rattle.cell_types.specs.declared.pose.Pose.TheVariants.{Turning, Loading, Un
 use Rattle.cell_types.specs.declared.pose.Pose.TheVariants.{Running, Landing, Halted, Offering, Standing}
 use Rattle.cell_types.specs.declared.call.Call.{Call}
 use Rattle.cell_types.specs.declared.call.Call.TheVariants.{Claim, Give, Yield, Take, Release, SetPose, Advance}
-use Rattle.cell_types.specs.declared.call.Call.TheVariants.{Inquire}
+use Rattle.cell_types.specs.declared.call.Call.TheVariants.{Inquire, Stop, Resume}
 use Rattle.cell_types.specs.declared.answer.Refusal.{Refusal}
 use Rattle.cell_types.specs.declared.answer.Refusal.TheVariants.{NotParty, Held, AlreadyMine, Shut, NotOwner}
 use Rattle.cell_types.specs.declared.answer.Refusal.TheVariants.{PlateInZone, NoPlate, PlaceFull, WrongWay, Jump}
-use Rattle.cell_types.specs.declared.answer.Refusal.TheVariants.{NotAtWork, NoPose, Worn, InUse}
+use Rattle.cell_types.specs.declared.answer.Refusal.TheVariants.{NotAtWork, NoPose, Worn, Stopped, NotStopped, InUse}
 use Rattle.cell_types.specs.Same.{same_machine, same_zone, same_posture}
 use Rattle.cell_rules.specs.ZoneMap.{zone_in}
 use Rattle.cell_rules.specs.PlaceSet.{has}
@@ -31,14 +31,16 @@ use Rattle.cell_rules.specs.ModelState.{ModelState}
 
 -- the orders, as lists of the refusals' numbers
 abbrev pub order_of : Call → List ℕ
-order_of (Claim _) = 1 ∷ 3 ∷ 2 ∷ 4 ∷ 13 ∷ []
-order_of (Give _) = 1 ∷ 5 ∷ 6 ∷ 9 ∷ 7 ∷ 8 ∷ 13 ∷ []
+order_of (Claim _) = 1 ∷ 14 ∷ 3 ∷ 2 ∷ 4 ∷ 13 ∷ []
+order_of (Give _) = 1 ∷ 14 ∷ 5 ∷ 6 ∷ 9 ∷ 7 ∷ 8 ∷ 13 ∷ []
 order_of (Yield _) = 1 ∷ 5 ∷ 6 ∷ 4 ∷ 16 ∷ 13 ∷ []
 order_of (Take _) = 1 ∷ 5 ∷ 7 ∷ 13 ∷ []
 order_of (Release _) = 1 ∷ 5 ∷ 6 ∷ 4 ∷ 16 ∷ 13 ∷ []
-order_of (SetPose _) = 12 ∷ 5 ∷ 6 ∷ 10 ∷ 8 ∷ 13 ∷ []
+order_of (SetPose _) = 12 ∷ 14 ∷ 5 ∷ 6 ∷ 10 ∷ 8 ∷ 13 ∷ []
 order_of Advance = 12 ∷ 5 ∷ 11 ∷ 7 ∷ 8 ∷ 13 ∷ []
 order_of (Inquire _) = []
+order_of Stop = 1 ∷ 14 ∷ 13 ∷ []
+order_of Resume = 1 ∷ 15 ∷ 13 ∷ []
 
 -- the machines that meet in a zone: the host, then the guest
 abbrev pub parties_of : Zone → Machine × Machine
@@ -124,6 +126,7 @@ claim_cause s m z AlreadyMine = is_owner s z m
 claim_cause s m z (Held o) = is_owner s z o && not (same_machine o m)
 claim_cause s m z (Shut q) = same_machine m (parties_of z).1 && is_in s z q && is_shut q
 claim_cause s m z Worn = is_worn s
+claim_cause s m z Stopped = s.stopped
 claim_cause s m z _ = false
 
 abbrev pub give_cause : ModelState → Machine → Zone → Refusal → Bool
@@ -134,6 +137,7 @@ give_cause s m z WrongWay = is_none (gift_of m z (zone_in s.zones z).posture)
 give_cause s m z NoPlate = on_way (gift_of m z (zone_in s.zones z).posture) (λ way. not (has s.full way.0))
 give_cause s m z PlaceFull = on_way (gift_of m z (zone_in s.zones z).posture) (λ way. has s.full way.1)
 give_cause s m z Worn = is_worn s
+give_cause s m z Stopped = s.stopped
 give_cause s m z _ = false
 
 abbrev pub yield_cause : ModelState → Machine → Zone → Refusal → Bool
@@ -196,6 +200,13 @@ lacks_room s Deposit Standing = not (is_in s Z4 OpenIn) && has s.full DepEntry
 lacks_room s Deposit Running = has s.full DepEnd
 lacks_room s _ _ = false
 
+-- the poses that move
+abbrev pub is_moving : Pose → Bool
+is_moving Turning = true
+is_moving Travelling = true
+is_moving Running = true
+is_moving _ = false
+
 abbrev pub has_none : List (Zone × Posture) → Bool
 has_none [] = true
 has_none (row ∷ rows) = false
@@ -207,6 +218,7 @@ pose_cause s m p (PlateInZone y) = on_zone (lowest (has_plate s) (concerned s m 
 pose_cause s m p Jump = jumps s m p
 pose_cause s m p PlaceFull = lacks_room s m p
 pose_cause s m p Worn = is_worn s
+pose_cause s m p Stopped = is_moving p && s.stopped
 pose_cause s m p _ = false
 
 -- a machine isn't at work: its belt doesn't run, or its press isn't closed
@@ -232,6 +244,19 @@ advance_cause s m PlaceFull = on_way (work_at m) (λ way. has s.full way.1)
 advance_cause s m Worn = is_worn s
 advance_cause s m _ = false
 
+-- the watch alone stops and resumes, in turn
+abbrev pub stop_cause : ModelState → Machine → Refusal → Bool
+stop_cause s m NotParty = not (same_machine m Watch)
+stop_cause s m Stopped = s.stopped
+stop_cause s m Worn = is_worn s
+stop_cause s m _ = false
+
+abbrev pub resume_cause : ModelState → Machine → Refusal → Bool
+resume_cause s m NotParty = not (same_machine m Watch)
+resume_cause s m NotStopped = not s.stopped
+resume_cause s m Worn = is_worn s
+resume_cause s m _ = false
+
 -- what a refusal of a call says of the state
 abbrev pub is_cause : ModelState → Machine → Call → Refusal → Bool
 is_cause s m (Claim z) r = claim_cause s m z r
@@ -242,3 +267,5 @@ is_cause s m (Release z) r = release_cause s m z r
 is_cause s m (SetPose p) r = pose_cause s m p r
 is_cause s m Advance r = advance_cause s m r
 is_cause s m (Inquire z) r = false
+is_cause s m Stop r = stop_cause s m r
+is_cause s m Resume r = resume_cause s m r

@@ -10,6 +10,7 @@ use Rattle.cell_types.specs.declared.zone.Zone.{Zone}
 use Rattle.cell_types.specs.declared.zone.Zone.TheVariants.{Z3}
 use Rattle.cell_types.specs.declared.call.Call.{Call}
 use Rattle.cell_types.specs.declared.call.Call.TheVariants.{Claim, Give, Yield, Take, Release, SetPose, Advance}
+use Rattle.cell_types.specs.declared.call.Call.TheVariants.{Stop, Resume}
 use Rattle.cell_types.specs.declared.answer.Answer.{Answer}
 use Rattle.cell_types.specs.declared.answer.Answer.TheVariants.{Done, Shown, Refused}
 use Rattle.cell_types.specs.declared.answer.Event.{Event}
@@ -95,6 +96,37 @@ pub record GainsAndKeeps (history : List Event) (m : Machine) (z : Zone) : Type 
 -- it since
 abbrev pub Holds : ModelState → List Event → Machine → Zone → Type 0
 Holds s history m z = (IsTrue (owns s m z) × LosesNothing history m z) ⊎ GainsAndKeeps history m z
+
+-- which calls stop and resume
+abbrev pub stops : Call → Bool
+stops Stop = true
+stops _ = false
+
+abbrev pub resumes : Call → Bool
+resumes Resume = true
+resumes _ = false
+
+abbrev pub is_stop : Event → Bool
+is_stop e = is_done e && stops e.call
+
+abbrev pub is_resume : Event → Bool
+is_resume e = is_done e && resumes e.call
+
+abbrev pub NeverResumes : List Event → Type 0
+NeverResumes history = All (λ e. ¬ IsTrue (is_resume e)) history
+
+-- a history with a Done stop, and no Done resume after it
+pub record StopsAndStays (history : List Event) : Type 0 where
+  pub before : List Event
+  pub stop : Event
+  pub since : List Event
+  pub split : history ≡ before ++ stop ∷ since
+  pub stopped : IsTrue (is_stop stop)
+  pub kept : NeverResumes since
+
+-- the cell is stopped after a history: the opening is stopped or a Done stop comes, with no Done resume after it
+abbrev pub IsStopped : ModelState → List Event → Type 0
+IsStopped s history = (IsTrue s.stopped × NeverResumes history) ⊎ StopsAndStays history
 
 -- the posture that one Done event leaves
 abbrev pub posture_given : Machine → Call → Zone → Posture → Posture

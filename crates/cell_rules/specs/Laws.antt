@@ -1,18 +1,19 @@
 -- Laws of every legal history from a sound opening.
-use Rattle.std.specs.Prelude.{◌≡◌, ◌≢◌, ◌+◌, pos, false, not, List, [], ◌∷◌, ◌++◌, Some, IsTrue, ◌↔◌}
+use Rattle.std.specs.Prelude.{◌≡◌, ◌≢◌, ◌+◌, pos, Bool, true, false, not, List, [], ◌∷◌, ◌++◌, Some, IsTrue, ◌↔◌}
 use Rattle.cell_types.specs.declared.place.Place.{Place}
 use Rattle.cell_types.specs.declared.place.Place.TheVariants.{FeedEnd, PressIn, PressOut, DepEnd}
 use Rattle.cell_types.specs.declared.machine.Machine.{Machine}
-use Rattle.cell_types.specs.declared.machine.Machine.TheVariants.{Feed, Robot, Press, Deposit, Table as TableMachine}
+use Rattle.cell_types.specs.declared.machine.Machine.TheVariants.{Feed, Robot, Press, Deposit, Table as TableMachine, Watch}
 use Rattle.cell_types.specs.declared.zone.Zone.{Zone}
 use Rattle.cell_types.specs.declared.zone.Zone.TheVariants.{Z1, Z2, Z3, Z4, Z5, Z6}
 use Rattle.cell_types.specs.declared.zone.Transfer.{Transfer}
 use Rattle.cell_types.specs.declared.posture.Posture.{Posture}
 use Rattle.cell_types.specs.declared.posture.Posture.TheVariants.{Closed, Moving, OpenIn}
 use Rattle.cell_types.specs.declared.pose.Pose.{Pose}
-use Rattle.cell_types.specs.declared.pose.Pose.TheVariants.{Turning, Travelling}
+use Rattle.cell_types.specs.declared.pose.Pose.TheVariants.{Turning, Travelling, Running}
 use Rattle.cell_types.specs.declared.call.Call.{Call}
-use Rattle.cell_types.specs.declared.call.Call.TheVariants.{Give, Yield, Take, Release, SetPose, Advance}
+use Rattle.cell_types.specs.declared.call.Call.TheVariants.{Claim, Give, Yield, Take, Release, SetPose, Advance}
+use Rattle.cell_types.specs.declared.call.Call.TheVariants.{Stop, Resume}
 use Rattle.cell_types.specs.declared.answer.Answer.TheVariants.{Done}
 use Rattle.cell_types.specs.declared.answer.Event.{Event}
 use Rattle.cell_types.specs.Tables.{host_of, guest_of, transfer_of, posture_of}
@@ -21,7 +22,7 @@ use Rattle.cell_rules.specs.ModelState.{ModelState, zone_at, is_full, plates_of,
 use Rattle.cell_rules.specs.Sound.{IsSound, is_party, is_open}
 use Rattle.cell_rules.specs.Refusals.{owns, posture_at, is_moving_pose, passes_through_moving}
 use Rattle.cell_rules.specs.History.{after, IsLegal, own_events, done_count, changes_by_others, Holds, Moves}
-use Rattle.cell_rules.specs.History.{PressMoves, posture_by_events, plates_at, plates_in_transfer}
+use Rattle.cell_rules.specs.History.{PressMoves, posture_by_events, plates_at, plates_in_transfer, IsStopped}
 use Rattle.cell_rules.specs.RefusalLaws.{RefusalsTellAlong}
 
 -- a law holds of each prefix of a history
@@ -142,6 +143,26 @@ pub record HandoverByHolder (s : ModelState) (h : List Event) : Type 0 where
   pub release : (before rest : List Event) (m : Machine) (z : Zone)
       → h ≡ before ++ done m (Release z) ∷ rest → HasZone s before m z
 
+-- the calls that are barred while the cell is stopped: claims, handovers of plates and movements
+abbrev pub is_barred : Call → Bool
+is_barred (Claim _) = true
+is_barred (Give _) = true
+is_barred (SetPose Turning) = true
+is_barred (SetPose Travelling) = true
+is_barred (SetPose Running) = true
+is_barred _ = false
+
+-- the state after is stopped exactly if the events say so; while the cell is stopped, no barred call is Done; the watch
+-- alone stops and resumes, in turn
+pub record StoppedUntilResumed (s : ModelState) (h : List Event) : Type 0 where
+  pub mark : IsStopped s h ↔ IsTrue (after s h).stopped
+  pub barred : (before rest : List Event) (m : Machine) (c : Call) → h ≡ before ++ done m c ∷ rest
+      → IsStopped s before → is_barred c ≡ false
+  pub stop : (before rest : List Event) (m : Machine) → h ≡ before ++ done m Stop ∷ rest
+      → (m ≡ Watch) × ¬ IsStopped s before
+  pub resume : (before rest : List Event) (m : Machine) → h ≡ before ++ done m Resume ∷ rest
+      → (m ≡ Watch) × IsStopped s before
+
 -- the Done events are a machine's own and those of the others
 abbrev pub ChangesAreCounted : List Event → Type 0
 ChangesAreCounted h = (m : Machine) → done_count (own_events h m) + changes_by_others h m ≡ done_count h
@@ -161,6 +182,7 @@ pub record Lawful (s : ModelState) (h : List Event) : Type 0 where
   pub events_fit : EventsFit s h
   pub no_jump : NoJump s h
   pub handover_by_holder : HandoverByHolder s h
+  pub stopped_until_resumed : StoppedUntilResumed s h
   pub changes_are_counted : ChangesAreCounted h
   pub refusals_tell : RefusalsTellAlong s h
 

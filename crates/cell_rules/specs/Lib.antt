@@ -6,11 +6,13 @@ pub mod Sound
 pub mod SoundTest
 pub mod Refusals
 pub mod Reply
+pub mod FirstVersion
 pub mod History
 pub mod Laws
 pub mod Rights
 pub mod Causes
 pub mod RefusalLaws
+pub mod StopLaws
 pub mod Start
 pub mod StartDigits
 pub mod TableLaws

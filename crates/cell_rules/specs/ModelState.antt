@@ -1,5 +1,5 @@
 -- A state of the interlock: each zone's owner, flag (whether a plate is in it) and posture, as a map; the set of the
--- places that are full; and the stamp.
+-- places that are full; the stamp; and whether the cell is stopped.
 use Rattle.std.specs.Prelude.{ℕ, ◌+◌, Bool}
 use mir.Val.{bool_byte}
 use Rattle.cell_types.specs.declared.zone.Zone.{Zone}
@@ -15,9 +15,10 @@ pub record ModelState : Type 0 where
   pub zones : ZoneMap
   pub full : PlaceSet
   pub stamp : ℕ
+  pub stopped : Bool
 
-abbrev pub model_state : ZoneMap → PlaceSet → ℕ → ModelState
-model_state zones full stamp = record { zones = zones; full = full; stamp = stamp }
+abbrev pub model_state : ZoneMap → PlaceSet → ℕ → Bool → ModelState
+model_state zones full stamp stopped = record { zones = zones; full = full; stamp = stamp; stopped = stopped }
 
 -- the last stamp
 abbrev pub last_stamp : ℕ

@@ -5,7 +5,7 @@ use Rattle.std.specs.Option.{option_or}
 use Rattle.std.specs.Bool.{then_some}
 use Rattle.std.specs.List.{list_any, list_all}
 use Rattle.cell_types.specs.declared.machine.Machine.{Machine}
-use Rattle.cell_types.specs.declared.machine.Machine.TheVariants.{Feed, Press, Deposit, Table as TableMachine}
+use Rattle.cell_types.specs.declared.machine.Machine.TheVariants.{Feed, Press, Deposit, Table as TableMachine, Watch}
 use Rattle.cell_types.specs.declared.zone.Zone.{Zone}
 use Rattle.cell_types.specs.declared.zone.Zone.TheVariants.{Z1, Z2, Z3, Z4, Z5, Z6}
 use Rattle.cell_types.specs.declared.place.Place.{Place}
@@ -18,7 +18,7 @@ use Rattle.cell_types.specs.declared.pose.Pose.TheVariants.{Turning, Travelling,
 use Rattle.cell_types.specs.declared.answer.Refusal.{Refusal}
 use Rattle.cell_types.specs.declared.answer.Refusal.TheVariants.{NotParty, Held, AlreadyMine, Shut, NotOwner}
 use Rattle.cell_types.specs.declared.answer.Refusal.TheVariants.{PlateInZone, NoPlate, PlaceFull, WrongWay, Jump}
-use Rattle.cell_types.specs.declared.answer.Refusal.TheVariants.{NotAtWork, NoPose, Worn, InUse}
+use Rattle.cell_types.specs.declared.answer.Refusal.TheVariants.{NotAtWork, NoPose, Worn, Stopped, NotStopped, InUse}
 use Rattle.cell_types.specs.Everything.{all_zones}
 use Rattle.cell_types.specs.Tables.{host_of, guest_of, transfer_of, posture_of}
 use Rattle.cell_types.specs.Ways.{own_move_of}
@@ -63,6 +63,17 @@ shut_to_guest s m z = then_some (same_machine m (guest_of z) && not (is_open (po
 -- the stamp is the last one
 abbrev pub worn : ModelState → Option Refusal
 worn s = then_some (not (nat_lt s.stamp last_stamp)) Worn
+
+-- the cell is stopped, or isn't
+abbrev pub while_stopped : ModelState → Option Refusal
+while_stopped s = then_some s.stopped Stopped
+
+abbrev pub not_stopped : ModelState → Option Refusal
+not_stopped s = then_some (not s.stopped) NotStopped
+
+-- the watch alone stops and resumes
+abbrev pub not_watch : Machine → Option Refusal
+not_watch m = then_some (not (same_machine m Watch)) NotParty
 
 -- the call is about a zone that the caller doesn't own; the refusal names the owner
 abbrev pub not_owner : ModelState → Machine → Zone → Option Refusal
@@ -126,6 +137,10 @@ lacks_pose m p = then_some (not (has_pose m p)) NoPose
 
 abbrev pub is_moving_pose : Pose → Bool
 is_moving_pose p = same_pose p Turning || same_pose p Travelling || same_pose p Running
+
+-- a pose that moves, while the cell is stopped
+abbrev pub moves_while_stopped : ModelState → Pose → Option Refusal
+moves_while_stopped s p = then_some (is_moving_pose p && s.stopped) Stopped
 
 -- the posture of a zone after a pose
 abbrev pub posture_with : ModelState → Machine → Pose → Zone → Posture
@@ -210,7 +225,7 @@ no_room_for_work s (Some way) = then_some (is_full s way.1) PlaceFull
 abbrev pub claim_refusal : ModelState → Machine → Zone → Option Refusal
 claim_refusal s m z =
     not_party m z
-    or already_mine s m z
+    or while_stopped s or already_mine s m z
     or held s m z
     or shut_to_guest s m z
     or worn s
@@ -222,7 +237,7 @@ way_refusal s row = wrong_way row or nothing_to_give s row or no_room s row or w
 abbrev pub give_refusal : ModelState → Machine → Zone → Option Refusal
 give_refusal s m z =
     not_party m z
-    or not_owner s m z
+    or while_stopped s or not_owner s m z
     or plate_in_zone s z
     or wrong_way (transfer_given s m z)
     or nothing_to_give s (transfer_given s m z)
@@ -258,6 +273,7 @@ release_refusal s m z =
 abbrev pub pose_refusal : ModelState → Machine → Pose → Option Refusal
 pose_refusal s m p =
     lacks_pose m p
+    or moves_while_stopped s p
     or first_zone (unowned_by_pose s m p)
     or first_zone (plate_under_pose s m p)
     or jump s m p
@@ -273,3 +289,9 @@ advance_refusal s m =
     or nothing_to_work s (own_move_of m)
     or no_room_for_work s (own_move_of m)
     or worn s
+
+abbrev pub stop_refusal : ModelState → Machine → Option Refusal
+stop_refusal s m = not_watch m or while_stopped s or worn s
+
+abbrev pub resume_refusal : ModelState → Machine → Option Refusal
+resume_refusal s m = not_watch m or not_stopped s or worn s

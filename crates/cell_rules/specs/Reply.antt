@@ -9,7 +9,7 @@ use Rattle.cell_types.specs.declared.posture.Posture.TheVariants.{Closed}
 use Rattle.cell_types.specs.declared.pose.Pose.{Pose}
 use Rattle.cell_types.specs.declared.call.Call.{Call}
 use Rattle.cell_types.specs.declared.call.Call.TheVariants.{Claim, Give, Yield, Take, Release, SetPose, Advance}
-use Rattle.cell_types.specs.declared.call.Call.TheVariants.{Inquire}
+use Rattle.cell_types.specs.declared.call.Call.TheVariants.{Inquire, Stop, Resume}
 use Rattle.cell_types.specs.declared.answer.Refusal.{Refusal}
 use Rattle.cell_types.specs.declared.answer.Answer.{Answer}
 use Rattle.cell_types.specs.declared.answer.Answer.TheVariants.{Done, Shown, Refused}
@@ -21,7 +21,7 @@ use Rattle.cell_rules.specs.ZoneMap.{ZoneMap, put_zone, map_zones}
 use Rattle.cell_rules.specs.PlaceSet.{PlaceSet, insert_place, remove_place}
 use Rattle.cell_rules.specs.ModelState.{ModelState, zone_at}
 use Rattle.cell_rules.specs.Refusals.{claim_refusal, give_refusal, yield_refusal, take_refusal, release_refusal}
-use Rattle.cell_rules.specs.Refusals.{pose_refusal, advance_refusal, transfer_given, posture_at}
+use Rattle.cell_rules.specs.Refusals.{pose_refusal, advance_refusal, stop_refusal, resume_refusal, transfer_given, posture_at}
 
 -- the first refusal of a call
 abbrev pub refusal : ModelState → Machine → Call → Option Refusal
@@ -33,6 +33,8 @@ refusal s m (Release z) = release_refusal s m z
 refusal s m (SetPose p) = pose_refusal s m p
 refusal s m Advance = advance_refusal s m
 refusal s m (Inquire z) = None
+refusal s m Stop = stop_refusal s m
+refusal s m Resume = resume_refusal s m
 
 abbrev pub done_unless : Option Refusal → Answer
 done_unless None = Done
@@ -85,7 +87,7 @@ zones_after s m (Take z) = put_zone s.zones z (record (zone_at s z) { flag = fal
 zones_after s m (Release z) = put_zone s.zones z (record (zone_at s z) { owner = None })
 zones_after s m (SetPose p) = map_zones (posed m p) s.zones
 zones_after s m Advance = map_zones (halted m) s.zones
-zones_after s m (Inquire z) = s.zones
+zones_after s m _ = s.zones
 
 abbrev pub places_after : ModelState → Machine → Call → PlaceSet
 places_after s m (Give z) = emptied s.full (transfer_given s m z)
@@ -93,9 +95,20 @@ places_after s m (Take z) = filled s.full (transfer_of z (posture_at s z))
 places_after s m Advance = worked s.full (own_move_of m)
 places_after s m _ = s.full
 
+-- whether the cell is stopped after a Done call
+abbrev pub stopped_after : ModelState → Call → Bool
+stopped_after s Stop = true
+stopped_after s Resume = false
+stopped_after s _ = s.stopped
+
 -- the state after a call that is Done
 abbrev pub changed : ModelState → Machine → Call → ModelState
-changed s m c = record { zones = zones_after s m c; full = places_after s m c; stamp = s.stamp + 1 }
+changed s m c = record {
+  zones = zones_after s m c;
+  full = places_after s m c;
+  stamp = s.stamp + 1;
+  stopped = stopped_after s c;
+}
 
 -- the state after a call, by its answer
 abbrev pub next_by : Answer → ModelState → Machine → Call → ModelState

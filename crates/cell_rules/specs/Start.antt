@@ -19,9 +19,9 @@ pub record IsStart (full : PlaceSet) (stamp : ℕ) : Type 0 where
   pub one_in_press_at_most : IsFalse (has full PressIn && has full PressOut)
   pub stamp_in_range : stamp ≤ last_stamp
 
--- all zones free and Closed, with no plate in them
+-- all zones free and Closed, with no plate in them, and not stopped
 abbrev pub start_state : PlaceSet → ℕ → ModelState
-start_state full stamp = model_state (everywhere free_zone) full stamp
+start_state full stamp = model_state (everywhere free_zone) full stamp false
 
 -- a state is the start with its own places and stamp
 pub record IsStartState (s : ModelState) : Type 0 where

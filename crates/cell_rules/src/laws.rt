@@ -9,6 +9,8 @@ ghost use Rattle.cell_rules.specs.RefusalLaws.{RefusalsTell, RefusalsTellAlong};
 ghost use Rattle.cell_rules.specs.TableLaws.{PosesThatMove, DigitsArePlaces};
 ghost use Rattle.cell_rules.specs.Laws.{Throughout, RunsClear};
 ghost use Rattle.cell_rules.specs.Start.{IsStartState};
+ghost use Rattle.cell_rules.specs.FirstVersion.{FirstVersionStays};
+ghost use Rattle.cell_rules.specs.StopLaws.{WhatMovesMayStop};
 
 use crate::state::State;
 use cell_types::Event;
@@ -118,6 +120,26 @@ pub fn no_jump(opening: &State, history: &[Event])
 pub fn handover_by_holder(opening: &State, history: &[Event])
     requires { IsLegal opening.now history.now }
     ensures { law.HandoverByHolder opening.now history.now }
+{}
+
+/// After each prefix of a history the cell is stopped, in the state, exactly if it was stopped at first
+/// or by a Done stop, with no Done resume since. While it is stopped, no claim, no handover of a plate
+/// and no movement is Done. The watch alone stops and resumes, in turn.
+pub fn stopped_until_resumed(opening: &State, history: &[Event])
+    requires { IsLegal opening.now history.now }
+    ensures { Throughout (law.StoppedUntilResumed opening.now) history.now }
+{}
+
+/// While the cell isn't stopped, every call but stop and resume has the reply of the interlock that
+/// couldn't be stopped, and leaves its state.
+pub fn first_version_stays()
+    ensures { FirstVersionStays }
+{}
+
+/// A call that isn't barred is answered as if the cell weren't stopped. So what moves may stop: a
+/// standing pose, a take, a release, a yield and an advance are never refused as stopped.
+pub fn what_moves_may_stop()
+    ensures { WhatMovesMayStop }
 {}
 
 /// The Done events of a history are a machine's own and those of the others, each counted once.

@@ -50,6 +50,12 @@ impl State {
                 || self.posture_with(machine, pose, zone) != self.posture(zone))
     }
 
+    fn moves_while_stopped(&self, pose: Pose) -> Option<Refusal>
+        ensures { result ≡ refusals.moves_while_stopped self.now pose }
+    {
+        (is_moving_pose(pose) && self.stopped()).then_some(Refusal::Stopped)
+    }
+
     fn unowned_by_pose(&self, machine: Machine, pose: Pose, zone: Zone) -> Option<Refusal>
         ensures { result ≡ refusals.unowned_by_pose self.now machine pose zone }
     {
@@ -151,6 +157,7 @@ impl State {
     {
         (!has_pose(machine, pose))
             .then_some(Refusal::NoPose)
+            .or(self.moves_while_stopped(pose))
             .or(self.any_unowned_by_pose(machine, pose))
             .or(self.any_plate_under_pose(machine, pose))
             .or(self.jump(machine, pose))

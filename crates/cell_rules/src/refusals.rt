@@ -46,6 +46,12 @@ fn wrong_way(row: Option<Transfer>) -> Option<Refusal>
     row.is_none().then_some(Refusal::WrongWay)
 }
 
+fn not_watch(machine: Machine) -> Option<Refusal>
+    ensures { result ≡ refusals.not_watch machine }
+{
+    (machine != Machine::Watch).then_some(Refusal::NotParty)
+}
+
 impl State {
     /// Whether a machine owns a zone.
     pub(crate) fn owns(&self, machine: Machine, zone: Zone) -> bool
@@ -80,6 +86,18 @@ impl State {
         ensures { result ≡ refusals.worn self.now }
     {
         (!(self.stamp() < LAST_STAMP)).then_some(Refusal::Worn)
+    }
+
+    pub(crate) fn while_stopped(&self) -> Option<Refusal>
+        ensures { result ≡ refusals.while_stopped self.now }
+    {
+        self.stopped().then_some(Refusal::Stopped)
+    }
+
+    fn not_stopped(&self) -> Option<Refusal>
+        ensures { result ≡ refusals.not_stopped self.now }
+    {
+        (!self.stopped()).then_some(Refusal::NotStopped)
     }
 
     fn not_owner(&self, machine: Machine, zone: Zone) -> Option<Refusal>
@@ -163,6 +181,7 @@ impl State {
     {
         first!(
             not_party(machine, zone),
+            self.while_stopped(),
             self.already_mine(machine, zone),
             self.held_refusal(machine, zone),
             self.shut_to_guest(machine, zone),
@@ -175,6 +194,7 @@ impl State {
     {
         first!(
             not_party(machine, zone),
+            self.while_stopped(),
             self.not_owner(machine, zone),
             self.plate_in_zone(zone),
             self.way_refusal(self.transfer_given(machine, zone))
@@ -216,5 +236,21 @@ impl State {
             self.in_use(machine, zone),
             self.worn_refusal()
         )
+    }
+
+    pub(crate) fn stop_refusal(&self, machine: Machine) -> Option<Refusal>
+        ensures { result ≡ refusals.stop_refusal self.now machine }
+    {
+        first!(
+            not_watch(machine),
+            self.while_stopped(),
+            self.worn_refusal()
+        )
+    }
+
+    pub(crate) fn resume_refusal(&self, machine: Machine) -> Option<Refusal>
+        ensures { result ≡ refusals.resume_refusal self.now machine }
+    {
+        first!(not_watch(machine), self.not_stopped(), self.worn_refusal())
     }
 }

@@ -1,5 +1,5 @@
 //! Whether zones, places and a stamp make a sound state.
-ghost use Rattle.std.specs.Prelude.{◌≡◌};
+ghost use Rattle.std.specs.Prelude.{◌≡◌, Bool};
 ghost use Rattle.std.specs.List.{list_any};
 ghost use Rattle.cell_types.specs.Everything.{all_poses};
 ghost use Rattle.cell_rules.specs.Sound as sound;
@@ -111,7 +111,7 @@ fn all_lawful(full: &Places, zones: &Zones) -> bool
 
 /// Whether zones, places and a stamp make a sound state.
 pub fn is_sound(zones: &Zones, full: &Places, stamp: u32) -> bool
-    ensures { result ≡ tests.is_sound (model_state zones.now full.now stamp) }
+    ensures { (stopped : Bool) → result ≡ tests.is_sound (model_state zones.now full.now stamp stopped) }
 {
     stamp <= LAST_STAMP && all_lawful(full, zones) && has_one_plate(full, zones.get(Zone::Z3))
 }

@@ -18,6 +18,7 @@ use std::marker::Model;
 #[derive(Clone, Copy, Debug, PartialEq, Eq)]
 pub struct State {
     pub(crate) stamp: u32,
+    stopped: bool,
     zones: Zones,
     full: Places,
 }
@@ -28,11 +29,11 @@ impl Model for State {
 
     ghost Value = { ModelState };
 
-    ghost view = { λ a. model_state a.zones a.full a.stamp };
+    ghost view = { λ a. model_state a.zones a.full a.stamp a.stopped };
 
-    ghost invariant = { λ a. IsSound (model_state a.zones a.full a.stamp) };
+    ghost invariant = { λ a. IsSound (model_state a.zones a.full a.stamp a.stopped) };
 
-    ghost inverse = { λ s. record { zones = s.zones; full = s.full; stamp = s.stamp } };
+    ghost inverse = { λ s. record { zones = s.zones; full = s.full; stamp = s.stamp; stopped = s.stopped } };
 }
 
 /// Why a start is refused.
@@ -58,19 +59,25 @@ impl State {
                 stamp,
                 zones: Zones::all_free(),
                 full,
+                stopped: false,
             })
         } else {
             Err(StartFault::BadStart)
         }
     }
 
-    /// The state of these zones, places and stamp, if they are sound.
-    pub fn checked(zones: Zones, full: Places, stamp: u32) -> Option<State>
-        ensures some { IsSome result ↔ IsSound (model_state zones full stamp) }
-        ensures value { IfSome result (λ s. s ≡ model_state zones full stamp) }
+    /// The state of these zones, places and stamp, stopped or not, if they are sound.
+    pub fn checked(zones: Zones, full: Places, stamp: u32, stopped: bool) -> Option<State>
+        ensures some { IsSome result ↔ IsSound (model_state zones full stamp stopped) }
+        ensures value { IfSome result (λ s. s ≡ model_state zones full stamp stopped) }
     {
         if is_sound(&zones, &full, stamp) {
-            Some(State { stamp, zones, full })
+            Some(State {
+                stamp,
+                zones,
+                full,
+                stopped,
+            })
         } else {
             None
         }
@@ -133,6 +140,13 @@ impl State {
         self.full.contains(place)
     }
 
+    /// Whether the cell is stopped.
+    pub fn stopped(&self) -> bool
+        ensures { result ≡ self.now.stopped }
+    {
+        self.stopped
+    }
+
     /// The first stamp plus the number of Done calls.
     pub fn stamp(&self) -> u32
         ensures stamp { result ≡ self.now.stamp }
@@ -159,7 +173,7 @@ impl State {
             Call::Release(zone) => zones.set(zone, self.zone(zone).with_owner(None)),
             Call::SetPose(pose) => zones = zones.after_pose(machine, pose),
             Call::Advance => zones = zones.after_halt(machine),
-            Call::Inquire(_) => {}
+            Call::Inquire(_) | Call::Stop | Call::Resume => {}
         }
         zones
     }
@@ -175,6 +189,16 @@ impl State {
         }
     }
 
+    fn stopped_after(&self, call: Call) -> bool
+        ensures { result ≡ replies.stopped_after self.now call }
+    {
+        match call {
+            Call::Stop => true,
+            Call::Resume => false,
+            _ => self.stopped,
+        }
+    }
+
     /// The state after a call that is Done.
     pub(crate) fn after_call(&self, machine: Machine, call: Call) -> State
         requires { replies.reply self.now machine call ≡ Done }
@@ -184,6 +208,7 @@ impl State {
             stamp: self.stamp + 1,
             zones: self.zones_after(machine, call),
             full: self.places_after(machine, call),
+            stopped: self.stopped_after(call),
         }
     }
 }

@@ -16,6 +16,10 @@ mod readings;
 #[cfg(test)]
 mod states;
 #[cfg(test)]
+mod stopped_rounds;
+#[cfg(test)]
+mod stops;
+#[cfg(test)]
 mod tables;
 #[cfg(test)]
 mod word_calls;

@@ -119,7 +119,7 @@ fn words(rt: HostRuntime) {
     }
 }
 
-// The fourteen numbers of the refusals; 14 and 15 aren't used.
+// The sixteen numbers of the refusals.
 const REFUSALS: &[(u8, Refusal, &str)] = &[
     (1, Refusal::NotParty, "notparty"),
     (2, Refusal::Held(Machine::Press), "held press"),
@@ -135,6 +135,8 @@ const REFUSALS: &[(u8, Refusal, &str)] = &[
     (11, Refusal::NotAtWork, "notatwork"),
     (12, Refusal::NoPose, "nopose"),
     (13, Refusal::Worn, "worn"),
+    (14, Refusal::Stopped, "stopped"),
+    (15, Refusal::NotStopped, "notstopped"),
     (16, Refusal::InUse, "inuse"),
 ];
 
@@ -165,6 +167,8 @@ const CALLS: &[(&str, Option<&str>, Call)] = &[
     ("pose", Some("low"), Call::SetPose(Pose::Low)),
     ("advance", None, Call::Advance),
     ("inquire", Some("z6"), Call::Inquire(Zone::Z6)),
+    ("stop", None, Call::Stop),
+    ("resume", None, Call::Resume),
 ];
 
 const NO_CALLS: &[(&str, Option<&str>)] = &[
@@ -174,6 +178,9 @@ const NO_CALLS: &[(&str, Option<&str>)] = &[
     ("pose", Some("z1")),
     ("pose", None),
     ("advance", Some("z1")),
+    ("stop", Some("z1")),
+    ("resume", Some("")),
+    ("stopped", None),
     ("Claim", Some("z1")),
     ("", Some("z1")),
 ];

@@ -6,7 +6,7 @@ use cell_types::{Answer, Call, Machine, Place, Pose, Posture, Refusal, Zone};
 const EMPTY: [bool; 10] = [false; 10];
 
 // At the feed belt's entry alone.
-const AT_ENTRY: [bool; 10] = [
+pub const AT_ENTRY: [bool; 10] = [
     true, false, false, false, false, false, false, false, false, false,
 ];
 
@@ -60,7 +60,7 @@ fn checked_owner(machine: Machine) -> Option<Option<Machine>> {
     let mut held = zones.get(Zone::Z1);
     held.owner = Some(machine);
     zones.set(Zone::Z1, held);
-    let checked = State::checked(zones, state.full(), 8)?;
+    let checked = State::checked(zones, state.full(), 8, false)?;
     Some(checked.owner(Zone::Z1))
 }
 
@@ -71,7 +71,7 @@ fn checks_states(rt: HostRuntime) {
 }
 
 // One plate goes once round the cell, through each zone and each pose.
-const ROUND: [(Machine, Call); 55] = [
+pub const ROUND: [(Machine, Call); 55] = [
     (Machine::Feed, Call::Claim(Zone::Z6)),
     (Machine::Feed, Call::SetPose(Pose::Running)),
     (Machine::Feed, Call::Advance),

@@ -23,12 +23,16 @@ const MASKS: &[(Machine, Call, u64, u64)] = &[
         0x188_0000,
     ),
     (Machine::Feed, Call::Advance, 0xF000_0000, 0x8000_0000),
+    (Machine::Watch, Call::Stop, 1 << 60, 1 << 60),
+    (Machine::Watch, Call::Resume, 1 << 60, 0),
     // never Done
     (Machine::Watch, Call::Claim(Zone::Z1), 0, 0),
     (Machine::Table, Call::Take(Zone::Z2), 0, 0),
     (Machine::Feed, Call::SetPose(Pose::Middle), 0, 0),
     (Machine::Crane, Call::Advance, 0, 0),
     (Machine::Press, Call::Inquire(Zone::Z3), 0, 0),
+    (Machine::Press, Call::Stop, 0, 0),
+    (Machine::Feed, Call::Resume, 0, 0),
 ];
 
 #[test]

@@ -106,11 +106,10 @@ fn a_state_of_a_word(rt: HostRuntime) {
 }
 
 const NO_STATES: &[u64] = &[
-    // each bit above the stamp
+    // each bit above the mark
     0x8000_0000_8000_0000,
     0x4000_0000_8000_0000,
     0x2000_0000_8000_0000,
-    0x1000_0000_8000_0000,
     // the spare code of an owner
     0x0000_0000_8000_0003,
     // z1 is its guest's, and Closed

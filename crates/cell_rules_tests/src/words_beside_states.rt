@@ -42,7 +42,8 @@ fn agrees_for(word: u64, told: &Option<State>, machine: Machine) -> bool {
     let zones = Zone::ALL
         .iter()
         .all(|zone| agrees_about(word, told, machine, *zone));
-    poses && zones && agrees(word, told, machine, Call::Advance)
+    let others = [Call::Advance, Call::Stop, Call::Resume];
+    poses && zones && others.iter().all(|call| agrees(word, told, machine, *call))
 }
 
 fn agrees_at(word: u64) -> bool {
@@ -76,12 +77,12 @@ fn likely_word(number: u64) -> u64 {
         | INWARD[pick(16)] << 15
         | OUTWARD[pick(21)] << 20
         | INWARD[pick(26)] << 25;
-    let last = if number >> 60 == 0 {
+    let last = if number >> 61 == 0 {
         0x0FFF_FF00_0000_0000
     } else {
         0
     };
-    zones | number & 0x0FFF_FFFF_C000_0000 | last
+    zones | number & 0x1FFF_FFFF_C000_0000 | last
 }
 
 #[test]

@@ -5,7 +5,7 @@ use Rattle.cell_devices.specs.declared.motor.Direction.{Direction}
 use Rattle.cell_rules.specs.ModelState.{ModelState}
 use Rattle.cell_control.specs.Row.{waits_on}
 use Rattle.cell_control.specs.Rows.{is_inquiry}
-use Rattle.cell_control.proofs.WaitLemmas.{wait-rows}
+use Rattle.cell_control.proofs.WaitLemmas.{stays_never, stays_until_free, stays_until_owner, stays_until_room}
 use Rattle.cell_stations.specs.declared.press.PressStep.{PressStep}
 use Rattle.cell_stations.specs.declared.press.PressStep.TheVariants.{ClaimFirst, MoveToMiddle, MoveToTop, MoveToBottom}
 use Rattle.cell_stations.specs.declared.press.PressProgress.{PressProgress}
@@ -20,20 +20,20 @@ begins s true true = refl
 
 asks : (loaded forged : Bool) (d : Direction) → PressAsks loaded forged d
 asks loaded forged d = record {
-  claims = record { asks = refl; stays = λ r. refl; leads = refl };
-  claims_loaded = record { asks = refl; stays = λ r. refl; leads = refl };
-  claims_forged = record { asks = refl; stays = λ r. refl; leads = refl };
-  leaves_for_middle = record { asks = refl; stays = λ r. refl; leads = refl };
-  poses_middle = record { asks = refl; stays = λ r. refl; leads = refl };
-  releases = record { asks = refl; stays = λ r. refl; leads = refl };
-  takes = record { asks = refl; stays = wait-rows.until_owner; leads = refl };
-  leaves_for_top = record { asks = refl; stays = λ r. refl; leads = refl };
-  poses_top = record { asks = refl; stays = λ r. refl; leads = refl };
-  forges = record { asks = refl; stays = λ r. refl; leads = refl };
-  leaves_for_bottom = record { asks = refl; stays = λ r. refl; leads = refl };
-  poses_low = record { asks = refl; stays = λ r. refl; leads = refl };
-  gives = record { asks = refl; stays = wait-rows.until_room; leads = refl };
-  claims_back = record { asks = refl; stays = wait-rows.until_free; leads = refl };
+  claims = record { asks = refl; stays = stays_never; leads = refl };
+  claims_loaded = record { asks = refl; stays = stays_never; leads = refl };
+  claims_forged = record { asks = refl; stays = stays_never; leads = refl };
+  leaves_for_middle = record { asks = refl; stays = stays_never; leads = refl };
+  poses_middle = record { asks = refl; stays = stays_never; leads = refl };
+  releases = record { asks = refl; stays = stays_never; leads = refl };
+  takes = record { asks = refl; stays = stays_until_owner; leads = refl };
+  leaves_for_top = record { asks = refl; stays = stays_never; leads = refl };
+  poses_top = record { asks = refl; stays = stays_never; leads = refl };
+  forges = record { asks = refl; stays = stays_never; leads = refl };
+  leaves_for_bottom = record { asks = refl; stays = stays_never; leads = refl };
+  poses_low = record { asks = refl; stays = stays_never; leads = refl };
+  gives = record { asks = refl; stays = stays_until_room; leads = refl };
+  claims_back = record { asks = refl; stays = stays_until_free; leads = refl };
 }
 
 drives : (loaded forged : Bool) (d : Direction) → PressDrives loaded forged d

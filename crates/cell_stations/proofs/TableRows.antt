@@ -9,7 +9,7 @@ use Rattle.cell_devices.proofs.DriveLemmas.{drives_one, stops_there, goes_plus, 
 use Rattle.cell_rules.specs.ModelState.{ModelState}
 use Rattle.cell_control.specs.Row.{waits_on}
 use Rattle.cell_control.specs.Rows.{DriveRow, is_inquiry}
-use Rattle.cell_control.proofs.WaitLemmas.{wait-rows}
+use Rattle.cell_control.proofs.WaitLemmas.{stays_never, stays_until_free, stays_until_owner, stays_until_room}
 use Rattle.cell_stations.specs.declared.table.TableStep.{TableStep}
 use Rattle.cell_stations.specs.declared.table.TableStep.TheVariants.{MoveToLoading, MoveToUnloading, ClaimEntry}
 use Rattle.cell_stations.specs.declared.table.TableReading.{TableReading}
@@ -23,17 +23,17 @@ begins points s true = refl
 
 asks : (points : Scale) (loaded : Bool) → TableAsks points loaded
 asks points loaded = record {
-  claims_entry = record { asks = refl; stays = λ r. refl; leads = refl };
-  claims_exit = record { asks = refl; stays = λ r. refl; leads = refl };
-  claims_exit_loaded = record { asks = refl; stays = λ r. refl; leads = refl };
-  leaves_for_loading = record { asks = refl; stays = λ r. refl; leads = refl };
-  poses_loading = record { asks = refl; stays = λ r. refl; leads = refl };
-  releases_entry = record { asks = refl; stays = λ r. refl; leads = refl };
-  takes = record { asks = refl; stays = wait-rows.until_owner; leads = refl };
-  leaves_for_unloading = record { asks = refl; stays = λ r. refl; leads = refl };
-  poses_unloading = record { asks = refl; stays = λ r. refl; leads = refl };
-  gives = record { asks = refl; stays = wait-rows.until_room; leads = refl };
-  claims_back = record { asks = refl; stays = wait-rows.until_free; leads = refl };
+  claims_entry = record { asks = refl; stays = stays_never; leads = refl };
+  claims_exit = record { asks = refl; stays = stays_never; leads = refl };
+  claims_exit_loaded = record { asks = refl; stays = stays_never; leads = refl };
+  leaves_for_loading = record { asks = refl; stays = stays_never; leads = refl };
+  poses_loading = record { asks = refl; stays = stays_never; leads = refl };
+  releases_entry = record { asks = refl; stays = stays_never; leads = refl };
+  takes = record { asks = refl; stays = stays_until_owner; leads = refl };
+  leaves_for_unloading = record { asks = refl; stays = stays_never; leads = refl };
+  poses_unloading = record { asks = refl; stays = stays_never; leads = refl };
+  gives = record { asks = refl; stays = stays_until_room; leads = refl };
+  claims_back = record { asks = refl; stays = stays_until_free; leads = refl };
 }
 
 -- a step and a reading determine the commands to the two motors

@@ -3,7 +3,7 @@ use Rattle.std.proofs.Common.{ℕ, ◌≡◌, List, [], ◌∷◌, Some, refl, s
 use Rattle.std.specs.Str.{bytes_eq}
 use Rattle.cell_types.specs.declared.zone.Zone.{Zone}
 use Rattle.cell_types.specs.declared.call.Call.{Call}
-use Rattle.cell_types.specs.declared.call.Call.TheVariants.{Claim, Give, Yield, Take, Release, SetPose, Advance, Inquire}
+use Rattle.cell_types.specs.declared.call.Call.TheVariants.{Claim, Give, Yield, Take, Release, SetPose, Advance, Inquire, Stop, Resume}
 use Rattle.cell_types.specs.CallWords.{call_fields, verb_of}
 use Rattle.cell_types.specs.Words.{named, zone_word}
 use Rattle.cell_types.proofs.WordLemmas.{has_word, holds_of_found, same_zone}
@@ -34,6 +34,8 @@ written zone verb other (Release z) e = found Release zone z verb refl e
 written zone verb other (SetPose p) e = let pose : verb ≡ codes "pose" = cc in absurd (other pose)
 written zone verb other Advance e = cc
 written zone verb other (Inquire z) e = found Inquire zone z verb refl e
+written zone verb other Stop e = cc
+written zone verb other Resume e = cc
 
 -- among a zone's calls, a verb determines the call, and the call its verb
 pub zone_call_read : (zone : Zone) (verb : List ℕ) → (verb ≡ codes "pose" → ⊥) → (call : Call) → (named verb_of (zone_calls zone) verb ≡ Some call) ↔ (verb ∷ zone_word zone ∷ [] ≡ call_fields call)

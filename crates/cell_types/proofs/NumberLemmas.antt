@@ -1,7 +1,7 @@
 -- The numbers of the refusals, compared.
 use Rattle.std.proofs.Common.{◌≡◌, true, refl}
 use Rattle.cell_types.specs.declared.answer.Refusal.{Refusal}
-use Rattle.cell_types.specs.declared.answer.Refusal.TheVariants.{NotParty, Held, AlreadyMine, Shut, NotOwner, PlateInZone, NoPlate, PlaceFull, WrongWay, Jump, NotAtWork, NoPose, Worn, InUse}
+use Rattle.cell_types.specs.declared.answer.Refusal.TheVariants.{NotParty, Held, AlreadyMine, Shut, NotOwner, PlateInZone, NoPlate, PlaceFull, WrongWay, Jump, NotAtWork, NoPose, Worn, Stopped, NotStopped, InUse}
 use Rattle.cell_types.specs.Refusals.{number_of}
 use Rattle.cell_types.specs.Numbers.{NumbersOfRefusals, is_same_but}
 
@@ -19,6 +19,8 @@ differ Jump Jump e = refl
 differ NotAtWork NotAtWork e = refl
 differ NoPose NoPose e = refl
 differ Worn Worn e = refl
+differ Stopped Stopped e = refl
+differ NotStopped NotStopped e = refl
 differ InUse InUse e = refl
 differ _ _ e = cc
 
@@ -37,6 +39,8 @@ numbers_of_refusals = record {
   not_at_work = refl;
   no_pose = refl;
   worn = refl;
+  stopped = refl;
+  not_stopped = refl;
   in_use = refl;
   differ = differ;
 }

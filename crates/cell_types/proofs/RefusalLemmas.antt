@@ -4,7 +4,7 @@ use Rattle.cell_types.specs.declared.machine.Machine.TheVariants.{Feed, Table as
 use Rattle.cell_types.specs.declared.posture.Posture.TheVariants.{Closed, Moving, OpenIn, OpenOut}
 use Rattle.cell_types.specs.declared.zone.Zone.TheVariants.{Z1, Z2, Z3, Z4, Z5, Z6}
 use Rattle.cell_types.specs.declared.answer.Refusal.{Refusal}
-use Rattle.cell_types.specs.declared.answer.Refusal.TheVariants.{NotParty, Held, AlreadyMine, Shut, NotOwner, PlateInZone, NoPlate, PlaceFull, WrongWay, Jump, NotAtWork, NoPose, Worn, InUse}
+use Rattle.cell_types.specs.declared.answer.Refusal.TheVariants.{NotParty, Held, AlreadyMine, Shut, NotOwner, PlateInZone, NoPlate, PlaceFull, WrongWay, Jump, NotAtWork, NoPose, Worn, Stopped, NotStopped, InUse}
 use Rattle.cell_types.specs.Answers.{refusal_word}
 use Rattle.cell_types.specs.Everything.{all_machines, all_postures, all_zones}
 use Rattle.cell_types.specs.Words.{named}
@@ -13,7 +13,7 @@ use Rattle.cell_types.proofs.WordLemmas.{read_by}
 abbrev pub refusals : List Refusal
 refusals =
     NotParty ∷ map Held all_machines ++ AlreadyMine ∷ map Shut all_postures ++ NotOwner None ∷ map (λ m. NotOwner (Some m)) all_machines
-    ++ map PlateInZone all_zones ++ NoPlate ∷ PlaceFull ∷ WrongWay ∷ Jump ∷ NotAtWork ∷ NoPose ∷ Worn ∷ InUse ∷ []
+    ++ map PlateInZone all_zones ++ NoPlate ∷ PlaceFull ∷ WrongWay ∷ Jump ∷ NotAtWork ∷ NoPose ∷ Worn ∷ Stopped ∷ NotStopped ∷ InUse ∷ []
 
 found : (r : Refusal) → named refusal_word refusals (refusal_word r) ≡ Some r
 found NotParty = refl
@@ -50,6 +50,8 @@ found Jump = refl
 found NotAtWork = refl
 found NoPose = refl
 found Worn = refl
+found Stopped = refl
+found NotStopped = refl
 found InUse = refl
 
 pub refusal_read : (word : List ℕ) (r : Refusal) → (named refusal_word refusals word ≡ Some r) ↔ (word ≡ refusal_word r)

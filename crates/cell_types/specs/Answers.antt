@@ -4,7 +4,7 @@ use Rattle.cell_types.specs.declared.machine.Machine.{Machine}
 use Rattle.cell_types.specs.declared.answer.Refusal.{Refusal}
 use Rattle.cell_types.specs.declared.answer.Refusal.TheVariants.{NotParty, Held, AlreadyMine, Shut, NotOwner}
 use Rattle.cell_types.specs.declared.answer.Refusal.TheVariants.{PlateInZone, NoPlate, PlaceFull, WrongWay, Jump}
-use Rattle.cell_types.specs.declared.answer.Refusal.TheVariants.{NotAtWork, NoPose, Worn, InUse}
+use Rattle.cell_types.specs.declared.answer.Refusal.TheVariants.{NotAtWork, NoPose, Worn, Stopped, NotStopped, InUse}
 use Rattle.cell_types.specs.declared.answer.Answer.{Answer}
 use Rattle.cell_types.specs.declared.answer.Answer.TheVariants.{Done, Shown, Refused}
 use Rattle.cell_types.specs.Words.{machine_word, zone_word, posture_word}
@@ -33,6 +33,8 @@ refusal_word Jump = codes "jump"
 refusal_word NotAtWork = codes "notatwork"
 refusal_word NoPose = codes "nopose"
 refusal_word Worn = codes "worn"
+refusal_word Stopped = codes "stopped"
+refusal_word NotStopped = codes "notstopped"
 refusal_word InUse = codes "inuse"
 
 abbrev pub answer_text : Answer → List ℕ

@@ -2,7 +2,7 @@
 use Rattle.std.specs.Prelude.{ℕ, List, [], ◌∷◌, codes, Option, Some, None}
 use Rattle.cell_types.specs.declared.call.Call.{Call}
 use Rattle.cell_types.specs.declared.call.Call.TheVariants.{Claim, Give, Yield, Take, Release, SetPose, Advance}
-use Rattle.cell_types.specs.declared.call.Call.TheVariants.{Inquire}
+use Rattle.cell_types.specs.declared.call.Call.TheVariants.{Inquire, Stop, Resume}
 use Rattle.cell_types.specs.Words.{pose_word, zone_word}
 
 abbrev pub verb_of : Call → List ℕ
@@ -14,6 +14,8 @@ verb_of (Release _) = codes "release"
 verb_of (SetPose _) = codes "pose"
 verb_of Advance = codes "advance"
 verb_of (Inquire _) = codes "inquire"
+verb_of Stop = codes "stop"
+verb_of Resume = codes "resume"
 
 -- the zone or the pose that a call names
 abbrev pub object_of : Call → Option (List ℕ)
@@ -25,6 +27,8 @@ object_of (Release z) = Some (zone_word z)
 object_of (SetPose p) = Some (pose_word p)
 object_of Advance = None
 object_of (Inquire z) = Some (zone_word z)
+object_of Stop = None
+object_of Resume = None
 
 -- a verb, and the field after it if there is one
 abbrev pub with_object : List ℕ → Option (List ℕ) → List (List ℕ)

@@ -1,4 +1,4 @@
--- The fourteen numbers of the refusals, written out, and that they are distinct.
+-- The sixteen numbers of the refusals, written out, and that they are distinct.
 use Rattle.std.specs.Prelude.{◌≡◌, Bool, true, false, Option, IsTrue}
 use Rattle.cell_types.specs.declared.machine.Machine.{Machine}
 use Rattle.cell_types.specs.declared.zone.Zone.{Zone}
@@ -6,7 +6,7 @@ use Rattle.cell_types.specs.declared.posture.Posture.{Posture}
 use Rattle.cell_types.specs.declared.answer.Refusal.{Refusal}
 use Rattle.cell_types.specs.declared.answer.Refusal.TheVariants.{NotParty, Held, AlreadyMine, Shut, NotOwner}
 use Rattle.cell_types.specs.declared.answer.Refusal.TheVariants.{PlateInZone, NoPlate, PlaceFull, WrongWay, Jump}
-use Rattle.cell_types.specs.declared.answer.Refusal.TheVariants.{NotAtWork, NoPose, Worn, InUse}
+use Rattle.cell_types.specs.declared.answer.Refusal.TheVariants.{NotAtWork, NoPose, Worn, Stopped, NotStopped, InUse}
 use Rattle.cell_types.specs.Refusals.{number_of}
 
 -- two refusals differ in nothing but what they name
@@ -24,6 +24,8 @@ is_same_but Jump Jump = true
 is_same_but NotAtWork NotAtWork = true
 is_same_but NoPose NoPose = true
 is_same_but Worn Worn = true
+is_same_but Stopped Stopped = true
+is_same_but NotStopped NotStopped = true
 is_same_but InUse InUse = true
 is_same_but _ _ = false
 
@@ -42,5 +44,7 @@ pub record NumbersOfRefusals : Type 0 where
   pub not_at_work : number_of NotAtWork ≡ 11
   pub no_pose : number_of NoPose ≡ 12
   pub worn : number_of Worn ≡ 13
+  pub stopped : number_of Stopped ≡ 14
+  pub not_stopped : number_of NotStopped ≡ 15
   pub in_use : number_of InUse ≡ 16
   pub differ : (a b : Refusal) → number_of a ≡ number_of b → IsTrue (is_same_but a b)

@@ -38,13 +38,17 @@ pub enum Refusal {
     NoPose,
     /// The call would be Done, but the stamp has reached its last value.
     Worn,
+    /// The cell is stopped.
+    Stopped,
+    /// The cell isn't stopped.
+    NotStopped,
     /// The feed belt runs with a plate at its end, and so may not leave the table's zone.
     InUse,
 }
 
 impl Refusal {
     /// All refusals, with every value that each can name, in the order of their numbers.
-    pub const ALL: [Refusal; 35] = [
+    pub const ALL: [Refusal; 37] = [
         Refusal::NotParty,
         Refusal::Held(Machine::Feed),
         Refusal::Held(Machine::Table),
@@ -79,6 +83,8 @@ impl Refusal {
         Refusal::NotAtWork,
         Refusal::NoPose,
         Refusal::Worn,
+        Refusal::Stopped,
+        Refusal::NotStopped,
         Refusal::InUse,
     ];
 
@@ -100,6 +106,8 @@ impl Refusal {
             Refusal::NotAtWork => 11,
             Refusal::NoPose => 12,
             Refusal::Worn => 13,
+            Refusal::Stopped => 14,
+            Refusal::NotStopped => 15,
             Refusal::InUse => 16,
         }
     }
@@ -122,6 +130,8 @@ impl Refusal {
             Refusal::NotAtWork => "notatwork",
             Refusal::NoPose => "nopose",
             Refusal::Worn => "worn",
+            Refusal::Stopped => "stopped",
+            Refusal::NotStopped => "notstopped",
             Refusal::InUse => "inuse",
         }
     }

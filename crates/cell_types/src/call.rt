@@ -24,6 +24,10 @@ pub enum Call {
     Advance,
     /// To be shown a zone.
     Inquire(Zone),
+    /// To bar new claims, handovers of plates and movements.
+    Stop,
+    /// To let them go on.
+    Resume,
 }
 
 impl Call {
@@ -40,6 +44,8 @@ impl Call {
             Call::SetPose(_) => "pose",
             Call::Advance => "advance",
             Call::Inquire(_) => "inquire",
+            Call::Stop => "stop",
+            Call::Resume => "resume",
         }
     }
 
@@ -50,6 +56,8 @@ impl Call {
     {
         match object {
             None if verb == b"advance".as_slice() => Some(Call::Advance),
+            None if verb == b"stop".as_slice() => Some(Call::Stop),
+            None if verb == b"resume".as_slice() => Some(Call::Resume),
             None => None,
             Some(object) => read_with(verb, object),
         }

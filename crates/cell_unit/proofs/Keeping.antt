@@ -16,7 +16,7 @@ use Rattle.cell_rules.specs.Reply.{reply, next, next_by, changed}
 use Rattle.cell_control.specs.declared.fault.CtlFault.{CtlFault}
 use Rattle.cell_control.specs.Faults.{fault_of}
 use Rattle.cell_control.specs.Rigs.{Rig}
-use Rattle.cell_control.specs.Steps.{Steps, outcome}
+use Rattle.cell_control.specs.Steps.{Steps, waits_out, outcome}
 use Rattle.cell_control.specs.Turns.{Performed, PerformsCall, PerformsSensed, Turned, Turns, turned, at_rest}
 use Rattle.cell_control.proofs.TurnMaps.{turn_either}
 use Rattle.cell_notes.specs.Asks.{TurnCall, done_in}
@@ -65,7 +65,7 @@ module _ {S Sense Reading Act State : Type 0} (t : Steps S Sense Reading Act) (r
       let is : y ≡ changed z t.machine c = k.3 ∙ ap (λ x. next_by x z t.machine c) done in
       subst (λ x. Told y (t.after_done p) (part_set t rig b x (t.rest p))) (sym a)
       (subst (λ x. Told x (t.after_done p) (rig.set (rig.notes b (event t.machine c Done)) (t.rest p))) (sym is) (keeps.after_done z p b c e done sound i))
-  asked_for c (Ok (Settled (Refused r) stamp)) e sound k a = stays (t.stays_on p r) (fault_of r) (k.3 ∙ ap (λ x. next_by x z t.machine c) (sym k.1)) (ap (done_in t.machine) a)
+  asked_for c (Ok (Settled (Refused r) stamp)) e sound k a = stays (waits_out t p r) (fault_of r) (k.3 ∙ ap (λ x. next_by x z t.machine c) (sym k.1)) (ap (done_in t.machine) a)
   asked_for c (Ok (Settled (Shown o f q) stamp)) e sound k a =
       quiet (t.after_inquiry p o f q) (t.rest p) (k.3 ∙ ap (λ x. next_by x z t.machine c) (sym k.1)) (ap (done_in t.machine) a) (keeps.after_inquiry z p b c o f q e (sym k.1) sound i)
   asked_for c (Ok (Busy lost stamp)) e sound k a = quiet p (t.rest p) k.3 (ap (done_in t.machine) a) (keeps.rests z p b i)

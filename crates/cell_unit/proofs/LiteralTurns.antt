@@ -1,10 +1,12 @@
 -- A machine's status and its turn meet the rows.
 use Rattle.std.proofs.Common.{◌≡◌, ◌∙◌, refl, ap, subst, ◌⊎◌, inl, inr, ℕ, Bool, true, false, if◌then◌else◌, ◌++◌, append-nil, Option, Some, None, Result, Ok, Err}
-use Rattle.std.specs.Prelude.{⊤}
+use Rattle.std.specs.Prelude.{⊤, ◌||◌}
+use Rattle.std.proofs.Math.Bool.{or-true}
 use Rattle.std.specs.Option.{is_none}
 use Rattle.cell_types.specs.declared.machine.Machine.{Machine}
 use Rattle.cell_types.specs.declared.call.Call.{Call}
 use Rattle.cell_types.specs.declared.answer.Refusal.{Refusal}
+use Rattle.cell_types.specs.declared.answer.Refusal.TheVariants.{Stopped}
 use Rattle.cell_types.specs.declared.answer.Answer.TheVariants as answer
 use Rattle.cell_types.specs.declared.reply.Reply.{Reply}
 use Rattle.cell_types.specs.declared.reply.Reply.TheVariants.{Settled, Busy}
@@ -18,7 +20,7 @@ use Rattle.cell_control.specs.declared.fault.CtlFault.{CtlFault}
 use Rattle.cell_control.specs.declared.fault.CtlFault.TheVariants as fault
 use Rattle.cell_control.specs.Faults.{fault_of}
 use Rattle.cell_control.specs.Rigs.{Rig}
-use Rattle.cell_control.specs.Steps.{Steps, outcome}
+use Rattle.cell_control.specs.Steps.{Steps, is_while_stopped, waits_out, outcome}
 use Rattle.cell_control.specs.Turns.{Turned, Turns, at_rest, turned}
 use Rattle.cell_control.specs.TurnRows.{stops_with}
 use Rattle.cell_control.proofs.TurnsByAnswers.{asked_own, drive_own, sensor_own}
@@ -87,7 +89,7 @@ module _ {S Sense Reading Act State : Type 0} (t : Steps S Sense Reading Act) (r
       let own = asked_end ⊥ (λ c r. r ≡ answered) reading call i k in
       subst (λ r. (asked ≡ Some (call, r)) × (now ≡ answered_side call r)) own.1 (own.2, own.3)
 
-  refused_end : (b : Bool) (r : Refusal) (stamp : ℕ) (reading : Reading) (call : Call) → t.stays_on before.progress r ≡ b → IsAsking t rig before reading call → Answered t rig before (Ok (Settled (answer.Refused r) stamp)) asked now
+  refused_end : (b : Bool) (r : Refusal) (stamp : ℕ) (reading : Reading) (call : Call) → waits_out t before.progress r ≡ b → IsAsking t rig before reading call → Answered t rig before (Ok (Settled (answer.Refused r) stamp)) asked now
       → (asked ≡ Some (call, Ok (Settled (answer.Refused r) stamp))) × (now ≡ led None (turned before.progress (at_rest (t.rest before.progress) (if b then Ok before.progress else Err (fault_of r)))))
   refused_end b r stamp reading call e i k =
       let own = answered_end (Ok (Settled (answer.Refused r) stamp)) reading call i k in
@@ -97,9 +99,10 @@ module _ {S Sense Reading Act State : Type 0} (t : Steps S Sense Reading Act) (r
   side-rows = record {
     done = λ reading call stamp i k. answered_end _ reading call i k;
     shown = λ reading call owner flag posture stamp i k. answered_end _ reading call i k;
-    waits = λ reading call r stamp e i k. refused_end true r stamp reading call e i k;
-    refused = λ reading call stamp e i k. refused_end false _ stamp reading call e i k;
-    worn = λ reading call stamp e i k. refused_end false _ stamp reading call e i k;
+    waits = λ reading call r stamp e i k. refused_end true r stamp reading call (ap (λ x. x || is_while_stopped r) e) i k;
+    while_stopped = λ reading call stamp i k. refused_end true _ stamp reading call (or-true (t.stays_on before.progress Stopped)) i k;
+    refused = λ reading call stamp e i k. refused_end false _ stamp reading call (ap (λ x. x || false) e) i k;
+    worn = λ reading call stamp e i k. refused_end false _ stamp reading call (ap (λ x. x || false) e) i k;
     busy = λ reading call lost stamp i k. answered_end _ reading call i k;
     out_of_memory = λ reading call i k. answered_end _ reading call i k;
     drives = λ reading act i k. let own = drive_end ⊤ (λ c r. ⊥) reading act i k in (own.1, own.2);

@@ -4,7 +4,7 @@ use Rattle.cell_types.specs.declared.machine.Machine.{Machine}
 use Rattle.cell_types.specs.declared.posture.Posture.{Posture}
 use Rattle.cell_types.specs.declared.call.Call.{Call}
 use Rattle.cell_types.specs.declared.answer.Refusal.{Refusal}
-use Rattle.cell_types.specs.declared.answer.Refusal.TheVariants.{Jump, Worn as NoStamp}
+use Rattle.cell_types.specs.declared.answer.Refusal.TheVariants.{Jump, Worn as NoStamp, Stopped}
 use Rattle.cell_types.specs.declared.answer.Answer.TheVariants as answer
 use Rattle.cell_types.specs.declared.reply.Reply.{Reply}
 use Rattle.cell_types.specs.declared.reply.Reply.TheVariants.{Settled, Busy}
@@ -74,6 +74,8 @@ pub record SideRows {S Sense Reading Act State : Type 0} (t : Steps S Sense Read
       → (asked ≡ Some (call, Ok (Settled (answer.Shown owner flag posture) stamp))) × (now ≡ comes_to rig (t.after_inquiry before.progress owner flag posture) None before.part (t.rest before.progress))
   pub waits : (reading : Reading) (call : Call) (r : Refusal) (stamp : ℕ) → t.stays_on before.progress r ≡ true → IsAsking t rig before reading call → Answered t rig before (Ok (Settled (answer.Refused r) stamp)) asked now
       → (asked ≡ Some (call, Ok (Settled (answer.Refused r) stamp))) × (now ≡ comes_to rig before.progress None before.part (t.rest before.progress))
+  pub while_stopped : (reading : Reading) (call : Call) (stamp : ℕ) → IsAsking t rig before reading call → Answered t rig before (Ok (Settled (answer.Refused Stopped) stamp)) asked now
+      → (asked ≡ Some (call, Ok (Settled (answer.Refused Stopped) stamp))) × (now ≡ comes_to rig before.progress None before.part (t.rest before.progress))
   pub refused : (reading : Reading) (call : Call) (stamp : ℕ) → t.stays_on before.progress Jump ≡ false → IsAsking t rig before reading call → Answered t rig before (Ok (Settled (answer.Refused Jump) stamp)) asked now
       → (asked ≡ Some (call, Ok (Settled (answer.Refused Jump) stamp))) × (now ≡ comes_to rig before.progress (Some (fault.Refused Jump)) before.part (t.rest before.progress))
   pub worn : (reading : Reading) (call : Call) (stamp : ℕ) → t.stays_on before.progress NoStamp ≡ false → IsAsking t rig before reading call → Answered t rig before (Ok (Settled (answer.Refused NoStamp) stamp)) asked now

@@ -3,6 +3,7 @@ use Rattle.std.proofs.Common.{◌≡◌, ℕ, ◌+◌, ◌*◌, ◌^◌, ◌<◌
 use Rattle.std.specs.Prelude.{bit_and, bit_or}
 use Rattle.std.proofs.lemmas.Nat.{and_mask, or_comm, or_shifted}
 use Rattle.cell_types.specs.declared.machine.Machine.{Machine}
+use Rattle.cell_types.specs.declared.machine.Machine.TheVariants.{Watch}
 use Rattle.cell_types.specs.declared.zone.Zone.{Zone}
 use Rattle.cell_types.specs.declared.zone.Transfer.{Transfer}
 use Rattle.cell_types.specs.declared.place.Place.{Place}
@@ -10,7 +11,7 @@ use Rattle.cell_types.specs.declared.posture.Posture.{Posture}
 use Rattle.cell_types.specs.declared.posture.Posture.TheVariants.{Closed}
 use Rattle.cell_types.specs.declared.pose.Pose.{Pose}
 use Rattle.cell_types.specs.declared.call.Call.{Call}
-use Rattle.cell_types.specs.declared.call.Call.TheVariants.{Claim, Give, Yield, Take, Release, SetPose, Advance, Inquire}
+use Rattle.cell_types.specs.declared.call.Call.TheVariants.{Claim, Give, Yield, Take, Release, SetPose, Advance, Inquire, Stop, Resume}
 use Rattle.cell_types.specs.declared.answer.Answer.TheVariants.{Done}
 use Rattle.cell_types.specs.Tables.{transfer_of, posture_of}
 use Rattle.cell_types.specs.Ways.{own_move_of}
@@ -18,22 +19,23 @@ use Rattle.cell_types.specs.Same.{same_machine, same_zone, same_place, one_machi
 use Rattle.cell_rules.specs.declared.zones.ZoneState.{ZoneState}
 use Rattle.cell_rules.specs.ZoneMap.{zone_in, put_zone}
 use Rattle.cell_rules.specs.PlaceSet.{PlaceSet, has}
-use Rattle.cell_rules.specs.ModelState.{ModelState, zone_at, is_full, one_if}
+use Rattle.cell_rules.specs.ModelState.{ModelState, model_state, zone_at, is_full, one_if}
 use Rattle.cell_rules.specs.Sound.{IsSound, implies, is_party, is_owned_by}
 use Rattle.cell_rules.specs.Refusals
 use Rattle.cell_rules.specs.Reply.{reply, changed, next, next_by, other_party, emptied, filled, worked, posed, halted, is_belt_of}
 use Rattle.cell_rules.proofs.Tables.{and_left, and_right, and_both, implied, all_bools, from_bools, all_machines, from_machines, all_zones, from_zones, all_postures, from_postures, all_poses, from_poses, all_places, from_places, all_states, from_states}
 use Rattle.cell_rules.proofs.Puts.{put_cases, zone_in-map, has-put}
-use Rattle.cell_rules.proofs.Done.{none_or, fresh, may_claim, may_give, may_yield, may_take, may_release, claim_done, give_done, yield_done, take_done, release_done}
+use Rattle.cell_rules.proofs.Done.{none_or, fresh, may_claim, may_give, may_yield, may_take, may_release, claim_done, give_done, yield_done, take_done, release_done, stop_done, resume_done}
 use Rattle.cell_rules.proofs.Soundness.{done_none}
 use Rattle.cell_rules.proofs.Transfers.{take_finds}
-use Rattle.cell_word.specs.Layout.{zone_bit, place_bit, owner_code, posture_code, packed}
+use Rattle.cell_word.specs.Layout.{zone_bit, place_bit, mark_bit, owner_code, posture_code, packed}
 use Rattle.cell_word.specs.Reading.{bits_of}
-use Rattle.cell_word.specs.Patterns.{with_written}
+use Rattle.cell_word.specs.Patterns.{with_written, anything, mark_is}
+use Rattle.cell_word.specs.Laws.{IsOffStamp}
 use Rattle.cell_word.specs.Guards as guards
-use Rattle.cell_word.specs.Changes.{written, received_by, row_received}
+use Rattle.cell_word.specs.Changes.{written, received_by, row_received, mark_becomes}
 use Rattle.cell_word.specs.declared.patterns.Pattern.{Pattern}
-use Rattle.cell_word.proofs.RoundTrip.{laid_out, place_field_read, stamp_read, owner_fits, flag_fits, posture_fits}
+use Rattle.cell_word.proofs.RoundTrip.{laid_out, place_field_read, stamp_read, mark_read, owner_fits, flag_fits, posture_fits}
 use Rattle.cell_word.proofs.SameAnswer.{same_row, one_row}
 use Rattle.cell_word.proofs.Seen.{zone_code, zone_five, is_lawful, lawful_at}
 use Rattle.cell_word.proofs.ZoneGuards.{either_way, given_once}
@@ -49,6 +51,9 @@ in_zone p z c = rewritten c (kept_at p (zone_bit z) 5) (bits_of p.wanted (zone_b
 abbrev in_place : Pattern → Place → ℕ → ℕ
 in_place p at b = rewritten b (kept_at p (place_bit at) 1) (bits_of p.wanted (place_bit at) 1)
 
+abbrev in_mark : Pattern → Bool → ℕ
+in_mark p b = rewritten (one_if b) (kept_at p mark_bit 1) (bits_of p.wanted mark_bit 1)
+
 abbrev writes_at : Pattern → ℕ → ℕ → ℕ → ℕ → Bool
 writes_at p lowest width keep set = nat_eq (kept_at p lowest width) keep && nat_eq (bits_of p.wanted lowest width) set
 
@@ -58,7 +63,7 @@ leaves_zone p z = writes_at p (zone_bit z) 5 31 0
 abbrev leaves_place : Pattern → Place → Bool
 leaves_place p at = writes_at p (place_bit at) 1 1 0
 
--- the stamp and the bits above it are unchanged
+-- the stamp and the mark are unchanged
 abbrev is_low : Pattern → Bool
 is_low p = nat_lt p.mask 0x10000000000 && nat_lt p.wanted 0x10000000000
 
@@ -99,17 +104,38 @@ zone_posed p z v q e =
 
 -- ---- the word after, from what each zone and each place has
 
-by_parts : (s after : ModelState) (p : Pattern) → IsSound s → is_low p ≡ true → s.stamp < 1048575 → after.stamp ≡ s.stamp + 1
+by_fields : (s after : ModelState) (p : Pattern) → IsSound s → IsOffStamp p.mask × IsOffStamp p.wanted → s.stamp < 1048575 → after.stamp ≡ s.stamp + 1
+    → ((z : Zone) → in_zone p z (zone_code z (zone_at s z)) ≡ zone_code z (zone_at after z))
+    → ((at : Place) → in_place p at (one_if (is_full s at)) ≡ one_if (is_full after at))
+    → in_mark p s.stopped ≡ one_if after.stopped
+    → packed after ≡ with_written (packed s) p.mask p.wanted + 2 ^ 40
+by_fields s after p sound off small next zone place mark =
+    written_word (packed s) p.mask p.wanted after s.stamp (laid_out s sound).bound off.0 off.1 (stamp_read s sound) small next
+    (λ z. ap (in_zone p z) (zone_five s sound z) ∙ zone z)
+    (λ at. ap (in_place p at) (place_field_read s sound at) ∙ place at)
+    (ap (λ n. rewritten n (kept_at p mark_bit 1) (bits_of p.wanted mark_bit 1)) (mark_read s sound) ∙ mark)
+
+low_off : (n : ℕ) → n < 2 ^ 40 → IsOffStamp n
+low_off n low = (omega arith, omega arith)
+
+low_kept : (mask : ℕ) → mask < 2 ^ 40 → bits_of (complement mask) mark_bit 1 ≡ 1
+low_kept mask low = omega arith
+
+low_clear : (set : ℕ) → set < 2 ^ 40 → bits_of set mark_bit 1 ≡ 0
+low_clear set low = omega arith
+
+-- a pattern below the stamp leaves the mark
+by_parts : (s after : ModelState) (p : Pattern) → IsSound s → is_low p ≡ true → s.stamp < 1048575 → after.stamp ≡ s.stamp + 1 → after.stopped ≡ s.stopped
     → ((z : Zone) → in_zone p z (zone_code z (zone_at s z)) ≡ zone_code z (zone_at after z))
     → ((at : Place) → in_place p at (one_if (is_full s at)) ≡ one_if (is_full after at))
     → packed after ≡ with_written (packed s) p.mask p.wanted + 2 ^ 40
-by_parts s after p sound low small next zone place =
+by_parts s after p sound low small next stays zone place =
     let m = nat_lt p.mask 0x10000000000 in
     let t = nat_lt p.wanted 0x10000000000 in
-    written_word (packed s) p.mask p.wanted after s.stamp (laid_out s sound).bound (ltb-true p.mask 0x10000000000 (and_left m t low)) (ltb-true p.wanted 0x10000000000 (and_right m t low))
-    (stamp_read s sound) small next
-    (λ z. ap (in_zone p z) (zone_five s sound z) ∙ zone z)
-    (λ at. ap (in_place p at) (place_field_read s sound at) ∙ place at)
+    let mask_low : p.mask < 2 ^ 40 = ltb-true p.mask 0x10000000000 (and_left m t low) in
+    let set_low : p.wanted < 2 ^ 40 = ltb-true p.wanted 0x10000000000 (and_right m t low) in
+    by_fields s after p sound (low_off p.mask mask_low, low_off p.wanted set_low) small next zone place
+    (ap₂ (rewritten (one_if s.stopped)) (low_kept p.mask mask_low) (low_clear p.wanted set_low) ∙ unchanged (one_if s.stopped) 1 (flag_fits s.stopped) ∙ ap one_if (sym stays))
 
 -- ---- calls about a zone
 abbrev here_test : (ZoneState → Machine → Zone → Bool) → (Machine → Zone → ZoneState → ZoneState) → Machine → Zone → Pattern → ZoneState → Bool
@@ -173,21 +199,21 @@ release_table = refl
 claim_written : (s : ModelState) → IsSound s → (m : Machine) (z : Zone) → Refusals.claim_refusal s m z ≡ None → packed (changed s m (Claim z)) ≡ with_written (packed s) (written m (Claim z)).mask (written m (Claim z)).wanted + 2 ^ 40
 claim_written s sound m z e =
     let done = claim_done s m z e in
-    by_parts s (changed s m (Claim z)) (written m (Claim z)) sound (low_for Claim refl m z) done.1 refl
+    by_parts s (changed s m (Claim z)) (written m (Claim z)) sound (low_for Claim refl m z) done.1 refl refl
     (zones_by may_claim claimed Claim claim_table s sound m z done.0)
     (λ at. place_left (written m (Claim z)) at (is_full s at) (leaves_for Claim refl m z at))
 
 yield_written : (s : ModelState) → IsSound s → (m : Machine) (z : Zone) → Refusals.yield_refusal s m z ≡ None → packed (changed s m (Yield z)) ≡ with_written (packed s) (written m (Yield z)).mask (written m (Yield z)).wanted + 2 ^ 40
 yield_written s sound m z e =
     let done = yield_done s m z e in
-    by_parts s (changed s m (Yield z)) (written m (Yield z)) sound (low_for Yield refl m z) done.1 refl
+    by_parts s (changed s m (Yield z)) (written m (Yield z)) sound (low_for Yield refl m z) done.1 refl refl
     (zones_by may_yield yielded Yield yield_table s sound m z done.0)
     (λ at. place_left (written m (Yield z)) at (is_full s at) (leaves_for Yield refl m z at))
 
 release_written : (s : ModelState) → IsSound s → (m : Machine) (z : Zone) → Refusals.release_refusal s m z ≡ None → packed (changed s m (Release z)) ≡ with_written (packed s) (written m (Release z)).mask (written m (Release z)).wanted + 2 ^ 40
 release_written s sound m z e =
     let done = release_done s m z e in
-    by_parts s (changed s m (Release z)) (written m (Release z)) sound (low_for Release refl m z) done.1 refl
+    by_parts s (changed s m (Release z)) (written m (Release z)) sound (low_for Release refl m z) done.1 refl refl
     (zones_by may_release released Release release_table s sound m z done.0)
     (λ at. place_left (written m (Release z)) at (is_full s at) (leaves_for Release refl m z at))
 
@@ -232,7 +258,7 @@ give_written s sound m z e =
     let at_place : (at : Place) → in_place p at (one_if (is_full s at)) ≡ one_if (emptied_at (guards.row_given m z) at (is_full s at)) =
     λ at. eqb-true (in_place p at (one_if (is_full s at))) (one_if (emptied_at (guards.row_given m z) at (is_full s at)))
     (either_way (is_none (guards.row_given m z)) (nat_eq (in_place p at (one_if (is_full s at))) (one_if (emptied_at (guards.row_given m z) at (is_full s at)))) (from_bools (give_place m z p at) (table at) (is_full s at)) (ap is_none (sym same) ∙ some)) in
-    by_parts s (changed s m (Give z)) p sound (low_for Give refl m z) done.2 refl
+    by_parts s (changed s m (Give z)) p sound (low_for Give refl m z) done.2 refl refl
     (zones_by may_give given Give give_table s sound m z done.0)
     (λ at. at_place at ∙ ap (λ row. one_if (emptied_at row at (is_full s at))) (sym same) ∙ ap one_if (sym (emptied_has s.full gift at)))
 
@@ -287,7 +313,7 @@ take_written s sound m z e =
     let at_place : (at : Place) → in_place p at (one_if (is_full s at)) ≡ one_if (filled_at (row_received m z) at (is_full s at)) =
     λ at. eqb-true (in_place p at (one_if (is_full s at))) (one_if (filled_at (row_received m z) at (is_full s at)))
     (either_way (is_none (row_received m z)) (nat_eq (in_place p at (one_if (is_full s at))) (one_if (filled_at (row_received m z) at (is_full s at)))) (from_bools (take_place m z p at) (table at) (is_full s at)) (ap is_none (sym same ∙ found.way))) in
-    by_parts s (changed s m (Take z)) p sound (low_for Take refl m z) done.1 refl
+    by_parts s (changed s m (Take z)) p sound (low_for Take refl m z) done.1 refl refl
     (zones_by may_take taken Take take_table s sound m z done.0)
     (λ at. at_place at ∙ ap (λ row. one_if (filled_at row at (is_full s at))) (sym same) ∙ ap one_if (sym (filled_has s.full row at)))
 
@@ -315,7 +341,7 @@ pose_written s sound m p e =
     let places = all_places (leaves_place pattern) in
     let rest = and_right low (zones && places) tests in
     let small = fresh s (none_or _ (Refusals.worn s) e).1 in
-    by_parts s (changed s m (SetPose p)) pattern sound (and_left low (zones && places) tests) small refl
+    by_parts s (changed s m (SetPose p)) pattern sound (and_left low (zones && places) tests) small refl refl
     (λ z. pose_zone pattern z (zone_at s z) (posture_of m p z) (from_zones (λ z. posed_test pattern z (posture_of m p z)) (and_left zones places rest) z) ∙ ap (zone_code z) (sym (zone_in-map (posed m p) s.zones z)))
     (λ at. place_left pattern at (is_full s at) (from_places (leaves_place pattern) (and_right zones places rest) at))
 
@@ -356,9 +382,51 @@ advance_written s sound m e =
     let small = fresh s (none_or _ (Refusals.worn s) e).1 in
     let at_place : (at : Place) → in_place p at (one_if (is_full s at)) ≡ one_if (worked_at (own_move_of m) at (is_full s at)) =
     λ at. eqb-true (in_place p at (one_if (is_full s at))) (one_if (worked_at (own_move_of m) at (is_full s at))) (from_bools (work_place m p at) (from_places (λ at. all_bools (work_place m p at)) (and_right zones places rest) at) (is_full s at)) in
-    by_parts s (changed s m Advance) p sound (and_left low (zones && places) tests) small refl
+    by_parts s (changed s m Advance) p sound (and_left low (zones && places) tests) small refl refl
     (λ z. halted_zone p z (zone_at s z) (is_belt_of m z) (from_zones (λ z. halted_test p z (is_belt_of m z)) (and_left zones places rest) z) ∙ ap (zone_code z) (sym (zone_in-map (halted m) s.zones z)))
     (λ at. at_place at ∙ ap one_if (sym (worked_has s.full (own_move_of m) at)))
+
+-- ---- stops and resumptions
+abbrev leaves_fields : Pattern → Bool
+leaves_fields p = all_zones (leaves_zone p) && all_places (leaves_place p)
+
+mark_leaves : (b : Bool) → leaves_fields (mark_is b) ≡ true
+mark_leaves true = refl
+mark_leaves false = refl
+
+mark_off : (b : Bool) → IsOffStamp (mark_is b).mask × IsOffStamp (mark_is b).wanted
+mark_off true = ((omega arith, refl), (omega arith, refl))
+mark_off false = ((omega arith, refl), (omega arith, refl))
+
+mark_set : (b before : Bool) → in_mark (mark_is b) before ≡ one_if b
+mark_set true true = refl
+mark_set true false = refl
+mark_set false true = refl
+mark_set false false = refl
+
+-- the state in which only the mark and the stamp are others
+mark_written : (s : ModelState) (b : Bool) → IsSound s → s.stamp < 1048575 → packed (model_state s.zones s.full (s.stamp + 1) b) ≡ with_written (packed s) (mark_is b).mask (mark_is b).wanted + 2 ^ 40
+mark_written s b sound small =
+    let p = mark_is b in
+    let zones = all_zones (leaves_zone p) in
+    let places = all_places (leaves_place p) in
+    by_fields s (model_state s.zones s.full (s.stamp + 1) b) p sound (mark_off b) small refl
+    (λ z. zone_left p z (zone_at s z) (from_zones (leaves_zone p) (and_left zones places (mark_leaves b)) z))
+    (λ at. place_left p at (is_full s at) (from_places (leaves_place p) (and_right zones places (mark_leaves b)) at))
+    (mark_set b s.stopped)
+
+by_watch : (m : Machine) (b : Bool) → same_machine m Watch ≡ true → mark_becomes m b ≡ mark_is b
+by_watch m b e = ap (λ t. if t then mark_is b else anything) e
+
+stop_written : (s : ModelState) → IsSound s → (m : Machine) → Refusals.stop_refusal s m ≡ None → packed (changed s m Stop) ≡ with_written (packed s) (written m Stop).mask (written m Stop).wanted + 2 ^ 40
+stop_written s sound m e =
+    let done = stop_done s m e in
+    mark_written s true sound done.2 ∙ ap (λ (p : Pattern). with_written (packed s) p.mask p.wanted + 2 ^ 40) (sym (by_watch m true done.0))
+
+resume_written : (s : ModelState) → IsSound s → (m : Machine) → Refusals.resume_refusal s m ≡ None → packed (changed s m Resume) ≡ with_written (packed s) (written m Resume).mask (written m Resume).wanted + 2 ^ 40
+resume_written s sound m e =
+    let done = resume_done s m e in
+    mark_written s false sound done.2 ∙ ap (λ (p : Pattern). with_written (packed s) p.mask p.wanted + 2 ^ 40) (sym (by_watch m false done.0))
 
 -- ---- of every call
 changed_written : (s : ModelState) → IsSound s → (m : Machine) (c : Call) → reply s m c ≡ Done → packed (changed s m c) ≡ with_written (packed s) (written m c).mask (written m c).wanted + 2 ^ 40
@@ -370,6 +438,8 @@ changed_written s sound m (Release z) e = release_written s sound m z (done_none
 changed_written s sound m (SetPose p) e = pose_written s sound m p (done_none (Refusals.pose_refusal s m p) e)
 changed_written s sound m Advance e = advance_written s sound m (done_none (Refusals.advance_refusal s m) e)
 changed_written s sound m (Inquire z) e = cc
+changed_written s sound m Stop e = stop_written s sound m (done_none (Refusals.stop_refusal s m) e)
+changed_written s sound m Resume e = resume_written s sound m (done_none (Refusals.resume_refusal s m) e)
 
 pub done_written : (s : ModelState) → IsSound s → (m : Machine) (c : Call) → reply s m c ≡ Done → packed (next s m c) ≡ with_written (packed s) (written m c).mask (written m c).wanted + 2 ^ 40
 done_written s sound m c e = ap (λ a. packed (next_by a s m c)) e ∙ changed_written s sound m c e

@@ -2,7 +2,7 @@
 use Rattle.std.proofs.Common.{◌≡◌, Bool, true, refl}
 use Rattle.cell_types.specs.declared.machine.Machine.{Machine}
 use Rattle.cell_types.specs.declared.call.Call.{Call}
-use Rattle.cell_types.specs.declared.call.Call.TheVariants.{Claim, Give, Yield, Take, Release, SetPose, Advance, Inquire}
+use Rattle.cell_types.specs.declared.call.Call.TheVariants.{Claim, Give, Yield, Take, Release, SetPose, Advance, Inquire, Stop, Resume}
 use Rattle.cell_rules.specs.ModelState.{ModelState}
 use Rattle.cell_rules.specs.Sound.{IsSound}
 use Rattle.cell_rules.specs.Reply.{refusal}
@@ -11,7 +11,7 @@ use Rattle.cell_rules.proofs.Tables.{all_machines, from_machines}
 use Rattle.cell_word.specs.Layout.{packed}
 use Rattle.cell_word.specs.Guards.{first_refusal, guards_of, numbers_of, is_ordered}
 use Rattle.cell_word.proofs.Possible.{all_calls, from_calls}
-use Rattle.cell_word.proofs.ZoneGuards.{claim_holds, give_holds, yield_holds, take_holds, release_holds}
+use Rattle.cell_word.proofs.ZoneGuards.{claim_holds, give_holds, yield_holds, take_holds, release_holds, stop_holds, resume_holds}
 use Rattle.cell_word.proofs.PoseGuards.{pose_holds, advance_holds}
 
 pub guards_hold : (s : ModelState) → IsSound s → (m : Machine) (c : Call) → first_refusal (packed s) (guards_of m c) ≡ refusal s m c
@@ -23,6 +23,8 @@ guards_hold s sound m (Release z) = release_holds s sound m z
 guards_hold s sound m (SetPose p) = pose_holds s sound m p
 guards_hold s sound m Advance = advance_holds s sound m
 guards_hold s sound m (Inquire z) = refl
+guards_hold s sound m Stop = stop_holds s sound m
+guards_hold s sound m Resume = resume_holds s sound m
 
 -- and the guards of a row are in that order
 abbrev ordered_test : Machine → Call → Bool

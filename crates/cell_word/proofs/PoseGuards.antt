@@ -16,7 +16,7 @@ use Rattle.cell_types.specs.declared.posture.Posture.TheVariants.{Closed, Moving
 use Rattle.cell_types.specs.declared.pose.Pose.{Pose}
 use Rattle.cell_types.specs.declared.pose.Pose.TheVariants.{Running}
 use Rattle.cell_types.specs.declared.answer.Refusal.{Refusal}
-use Rattle.cell_types.specs.declared.answer.Refusal.TheVariants.{NotOwner, PlateInZone, NoPlate, PlaceFull, Jump, NotAtWork, NoPose}
+use Rattle.cell_types.specs.declared.answer.Refusal.TheVariants.{NotOwner, PlateInZone, NoPlate, PlaceFull, Jump, NotAtWork, NoPose, Stopped}
 use Rattle.cell_types.specs.Tables.{host_of, guest_of, posture_of}
 use Rattle.cell_types.specs.Same.{same_machine, same_posture, same_pose, one_machine}
 use Rattle.cell_rules.specs.declared.zones.ZoneState.{ZoneState}
@@ -26,14 +26,14 @@ use Rattle.cell_rules.specs.Refusals
 use Rattle.cell_rules.proofs.Tables.{and_left, and_right, and_both, implied, all_bools, from_bools, all_machines, from_machines, all_zones, from_zones, all_postures, from_postures, all_poses, from_poses, all_states, from_states}
 use Rattle.cell_rules.proofs.Done.{none_then_not}
 use Rattle.cell_word.specs.Layout.{packed}
-use Rattle.cell_word.specs.Patterns.{anything, when, both, owner_is, place_is}
+use Rattle.cell_word.specs.Patterns.{anything, nothing, when, both, owner_is, place_is, mark_is}
 use Rattle.cell_word.specs.Guards as guards
 use Rattle.cell_word.specs.Guards.{guard, first_refusal}
 use Rattle.cell_word.specs.declared.patterns.Guard.{Guard}
 use Rattle.cell_word.proofs.SameAnswer.{same_bool, one_bool, same_answer, one_answer}
 use Rattle.cell_word.proofs.Windows.{and_or, first-append, all_within, first-window}
 use Rattle.cell_word.proofs.Seen.{zone_window, zone_word, place_window, place_word, zone_shown, place_shown, zone_and_place_shown, is_lawful, lawful_at}
-use Rattle.cell_word.proofs.ZoneGuards.{or_none, or_assoc, or_next, always_seen, way_seen, worn_seen, zone_seen, zone_tests}
+use Rattle.cell_word.proofs.ZoneGuards.{or_none, or_assoc, or_next, blind, always_seen, mark_seen, way_seen, worn_seen, zone_seen, zone_tests}
 
 -- ---- guards on the five bits of a zone, for each zone and posture
 abbrev posed_test : (Zone → Posture → List Guard) → (Zone → Posture → ZoneState → Option Refusal) → Zone → Posture → ZoneState → Bool
@@ -356,6 +356,14 @@ run_seen s sound r d f =
 runs_seen : (s : ModelState) → IsSound s → (m : Machine) (p : Pose) → first_refusal (packed s) (guards.run_guards m p) ≡ Refusals.runs_onto_plate s m p
 runs_seen s sound m p = run_seen s sound (same_pose p Running) (same_machine m Deposit) (same_machine m Feed)
 
+-- ---- a pose that moves while the cell is stopped
+moving_by : (s : ModelState) → IsSound s → (moving : Bool) → first_refusal (packed s) (guard (when moving (mark_is true)) Stopped ∷ []) ≡ then_some (moving && s.stopped) Stopped
+moving_by s sound true = mark_seen s sound true Stopped
+moving_by s sound false = blind (packed s) (guard nothing Stopped ∷ []) refl
+
+moving_seen : (s : ModelState) → IsSound s → (p : Pose) → first_refusal (packed s) (guards.moves_while_stopped p ∷ []) ≡ Refusals.moves_while_stopped s p
+moving_seen s sound p = moving_by s sound (Refusals.is_moving_pose p)
+
 -- ---- the whole row
 abbrev later_guards : Machine → Pose → Option (Zone × Posture) → Option (Zone × Posture) → List Guard
 later_guards m p one other =
@@ -411,10 +419,12 @@ later_seen s sound m p has =
     let e8 = appended w (o1 ++ o2 ++ p1 ++ p2 ++ j1 ++ j2 ++ n1 ++ n2) _ (guards.run_guards m p) _ e7 (runs_seen s sound m p) in
     appended w (o1 ++ o2 ++ p1 ++ p2 ++ j1 ++ j2 ++ n1 ++ n2 ++ guards.run_guards m p) _ (guards.worn ∷ []) _ e8 (worn_seen s sound)
 
-spread : (l u p j o r w : Option Refusal)
-    → option_or l (option_or (option_or (option_or (option_or (option_or u p) j) o) r) w) ≡ option_or (option_or (option_or (option_or (option_or (option_or l u) p) j) o) r) w
-spread None u p j o r w = refl
-spread (Some x) u p j o r w = refl
+spread : (l k u p j o r w : Option Refusal)
+    → option_or l (option_or k (option_or (option_or (option_or (option_or (option_or u p) j) o) r) w))
+    ≡ option_or (option_or (option_or (option_or (option_or (option_or (option_or l k) u) p) j) o) r) w
+spread None None u p j o r w = refl
+spread None (Some x) u p j o r w = refl
+spread (Some x) k u p j o r w = refl
 
 pub pose_holds : (s : ModelState) → IsSound s → (m : Machine) (p : Pose) → first_refusal (packed s) (guards.pose_guards m p) ≡ Refusals.pose_refusal s m p
 pose_holds s sound m p =
@@ -422,13 +432,14 @@ pose_holds s sound m p =
     let one = guards.posed_at m p (guards.hosted_zones m).0 in
     let other = guards.posed_at m p (guards.hosted_zones m).1 in
     let first = guard (when (is_none one) anything) NoPose ∷ [] in
+    let mark = guards.moves_while_stopped p ∷ [] in
     let later = option_or (option_or (option_or (option_or (option_or (Refusals.first_zone (Refusals.unowned_by_pose s m p)) (Refusals.first_zone (Refusals.plate_under_pose s m p))) (Refusals.jump s m p))
     (Refusals.first_zone (Refusals.opens_onto_plate s m p))) (Refusals.runs_onto_plate s m p)) (Refusals.worn s) in
-    first-append w first (later_guards m p one other)
-    ∙ or_next (first_refusal w first) (Refusals.lacks_pose m p) (first_refusal w (later_guards m p one other)) later
-    (always_seen w (is_none one) ∙ ap (λ b. then_some b NoPose) (lacks m p))
-    (λ e. later_seen s sound m p (none_then_not (Refusals.has_pose m p) NoPose e))
-    ∙ spread (Refusals.lacks_pose m p) (Refusals.first_zone (Refusals.unowned_by_pose s m p)) (Refusals.first_zone (Refusals.plate_under_pose s m p)) (Refusals.jump s m p)
+    first-append w first (mark ++ later_guards m p one other)
+    ∙ or_next (first_refusal w first) (Refusals.lacks_pose m p) (first_refusal w (mark ++ later_guards m p one other)) (option_or (Refusals.moves_while_stopped s p) later)
+    (always_seen w (is_none one) NoPose ∙ ap (λ b. then_some b NoPose) (lacks m p))
+    (λ e. appended w mark (Refusals.moves_while_stopped s p) (later_guards m p one other) later (moving_seen s sound p) (later_seen s sound m p (none_then_not (Refusals.has_pose m p) NoPose e)))
+    ∙ spread (Refusals.lacks_pose m p) (Refusals.moves_while_stopped s p) (Refusals.first_zone (Refusals.unowned_by_pose s m p)) (Refusals.first_zone (Refusals.plate_under_pose s m p)) (Refusals.jump s m p)
     (Refusals.first_zone (Refusals.opens_onto_plate s m p)) (Refusals.runs_onto_plate s m p) (Refusals.worn s)
 
 -- ---- work
@@ -474,7 +485,7 @@ advance_holds s sound Press =
     ended s sound (press_row Press Z3 ++ differing NotAtWork Z3 Closed) (option_or (press_here Press Z3 (zone_at s Z3)) (Refusals.not_at_work s Press)) PressIn PressOut
     (first-append (packed s) (press_row Press Z3) (differing NotAtWork Z3 Closed)
     ∙ ap₂ option_or (zone_seen press_row press_here s sound Press Z3 press_tests) (posed_seen (differing NotAtWork) (differs_here NotAtWork) work_table s sound Z3 Closed))
-advance_holds s sound TableMachine = always_seen (packed s) true
-advance_holds s sound Robot = always_seen (packed s) true
-advance_holds s sound CraneMachine = always_seen (packed s) true
-advance_holds s sound Watch = always_seen (packed s) true
+advance_holds s sound TableMachine = always_seen (packed s) true NoPose
+advance_holds s sound Robot = always_seen (packed s) true NoPose
+advance_holds s sound CraneMachine = always_seen (packed s) true NoPose
+advance_holds s sound Watch = always_seen (packed s) true NoPose

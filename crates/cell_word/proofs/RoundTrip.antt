@@ -15,7 +15,7 @@ use Rattle.cell_types.specs.Everything.{all_zones, all_places}
 use Rattle.cell_rules.specs.declared.zones.ZoneState.{ZoneState}
 use Rattle.cell_rules.specs.ModelState.{ModelState, zone_at, is_full, one_if, last_stamp}
 use Rattle.cell_rules.specs.Sound.{IsSound, has_lawful_owner, is_owned_by}
-use Rattle.cell_word.specs.Layout.{Field, field, zone_bit, place_bit, stamp_bit, owner_code, posture_code, zone_fields, fields_at, place_field, fields_of, packed}
+use Rattle.cell_word.specs.Layout.{Field, field, zone_bit, place_bit, stamp_bit, mark_bit, owner_code, posture_code, zone_fields, fields_at, place_field, last_fields, fields_of, packed}
 use Rattle.cell_word.specs.Reading.{bits_of, owner_of_code, posture_of_code, is_bit_set, is_told_full, zone_told, state_told}
 use Rattle.cell_word.specs.Laws.{Fits, SideBySide, ReadsBack, IsLaidOut}
 use Rattle.cell_word.proofs.Fields.{whole_word_below, whole_word_back}
@@ -51,11 +51,12 @@ fields_fit : (s : ModelState) → s.stamp ≤ last_stamp → All Fits (fields_of
 fields_fit s small =
     let zones : All Fits (flat_map (fields_at s) all_zones) = All-flat_map Fits (fields_at s) all_zones (λ z. zone_fits z (zone_at s z)) in
     let places : All Fits (map (place_field s) all_places) = All-map Fits (place_field s) all_places (λ k d inside. flag_fits (is_full s (get_or all_places k d))) in
-    let stamp : All Fits (field stamp_bit 20 s.stamp ∷ []) = All-cons Fits (field stamp_bit 20 s.stamp) [] (omega arith) (All-nil Fits) in
-    All-append Fits (flat_map (fields_at s) all_zones ++ map (place_field s) all_places) (field stamp_bit 20 s.stamp ∷ [])
-    (All-append Fits (flat_map (fields_at s) all_zones) (map (place_field s) all_places) zones places) stamp
+    let mark : All Fits (field mark_bit 1 (one_if s.stopped) ∷ []) = All-cons Fits (field mark_bit 1 (one_if s.stopped)) [] (flag_fits s.stopped) (All-nil Fits) in
+    let last : All Fits (last_fields s) = All-cons Fits (field stamp_bit 20 s.stamp) (field mark_bit 1 (one_if s.stopped) ∷ []) (omega arith) mark in
+    All-append Fits (flat_map (fields_at s) all_zones ++ map (place_field s) all_places) (last_fields s)
+    (All-append Fits (flat_map (fields_at s) all_zones) (map (place_field s) all_places) zones places) last
 
-pub side_by_side : (s : ModelState) → SideBySide 0 60 (fields_of s)
+pub side_by_side : (s : ModelState) → SideBySide 0 61 (fields_of s)
 side_by_side s = search rules
 
 pub laid_out : (s : ModelState) → IsSound s → IsLaidOut s
@@ -65,8 +66,8 @@ laid_out s sound =
     record {
       fits = fit;
       side_by_side = side_by_side s;
-      reads_back = whole_word_back 60 (fields_of s) (side_by_side s) fit;
-      bound = whole_word_below 60 (fields_of s) (side_by_side s) fit;
+      reads_back = whole_word_back 61 (fields_of s) (side_by_side s) fit;
+      bound = whole_word_below 61 (fields_of s) (side_by_side s) fit;
     }
 
 -- ---- the codes
@@ -99,11 +100,11 @@ zone_back w z v h by_owner by_flag by_posture =
     let posture : (zone_told w z).posture ≡ v.posture = ap posture_of_code by_posture ∙ posture_back v.posture in
     λ i. record { owner = owner i; flag = flag i; posture = posture i }
 
-place_back : (w bit : ℕ) (b : Bool) → bits_of w bit 1 ≡ one_if b → is_bit_set w bit ≡ b
-place_back w bit b e = ap (λ n. nat_eq n 1) e ∙ flag_back b
+bit_back : (w bit : ℕ) (b : Bool) → bits_of w bit 1 ≡ one_if b → is_bit_set w bit ≡ b
+bit_back w bit b e = ap (λ n. nat_eq n 1) e ∙ flag_back b
 
 -- the field at an index reads back
-read : (s : ModelState) → IsSound s → (k : ℕ) → k < 29 → ReadsBack (packed s) (get_or (fields_of s) k (field 0 0 0))
+read : (s : ModelState) → IsSound s → (k : ℕ) → k < 30 → ReadsBack (packed s) (get_or (fields_of s) k (field 0 0 0))
 read s sound k inside = (laid_out s sound).reads_back k (field 0 0 0) inside
 
 pub record ZoneRead (w : ℕ) (z : Zone) (v : ZoneState) : Type 0 where
@@ -135,16 +136,20 @@ place_field_read s sound DepEnd = read s sound 26 (omega arith)
 place_field_read s sound Crane = read s sound 27 (omega arith)
 
 place_read : (s : ModelState) → IsSound s → (p : Place) → is_told_full (packed s) p ≡ is_full s p
-place_read s sound p = place_back (packed s) (place_bit p) (is_full s p) (place_field_read s sound p)
+place_read s sound p = bit_back (packed s) (place_bit p) (is_full s p) (place_field_read s sound p)
 
 pub stamp_read : (s : ModelState) → IsSound s → bits_of (packed s) stamp_bit 20 ≡ s.stamp
 stamp_read s sound = read s sound 28 (omega arith)
+
+pub mark_read : (s : ModelState) → IsSound s → bits_of (packed s) mark_bit 1 ≡ one_if s.stopped
+mark_read s sound = read s sound 29 (omega arith)
 
 pub told_back : (s : ModelState) → IsSound s → state_told (packed s) ≡ s
 told_back s sound =
     let zone = zone_read s sound in
     let place = place_read s sound in
     let stamp = stamp_read s sound in
+    let stopped = bit_back (packed s) mark_bit s.stopped (mark_read s sound) in
     λ i. record {
       zones = record { at_z1 = zone Z1 i; at_z2 = zone Z2 i; at_z3 = zone Z3 i; at_z4 = zone Z4 i; at_z5 = zone Z5 i; at_z6 = zone Z6 i };
       full = record {
@@ -160,6 +165,7 @@ told_back s sound =
         crane = place Crane i;
       };
       stamp = stamp i;
+      stopped = stopped i;
     }
 
 pub one_state : (s t : ModelState) → IsSound s → IsSound t → packed s ≡ packed t → s ≡ t

@@ -3,7 +3,7 @@ use Rattle.std.proofs.Common.{◌≡◌, Bool, true, false, ◌&&◌, not, Optio
 use Rattle.cell_types.specs.declared.machine.Machine.{Machine}
 use Rattle.cell_types.specs.declared.zone.Transfer.{Transfer}
 use Rattle.cell_types.specs.declared.answer.Refusal.{Refusal}
-use Rattle.cell_types.specs.declared.answer.Refusal.TheVariants.{NotParty, Held, AlreadyMine, Shut, NotOwner, PlateInZone, NoPlate, PlaceFull, WrongWay, Jump, NotAtWork, NoPose, Worn, InUse}
+use Rattle.cell_types.specs.declared.answer.Refusal.TheVariants.{NotParty, Held, AlreadyMine, Shut, NotOwner, PlateInZone, NoPlate, PlaceFull, WrongWay, Jump, NotAtWork, NoPose, Worn, InUse, Stopped, NotStopped}
 use Rattle.cell_types.specs.Same.{same_machine, same_zone, same_place, same_posture, one_machine, one_zone, one_place, one_posture}
 use Rattle.cell_rules.proofs.Tables.{and_left, and_right}
 
@@ -28,6 +28,8 @@ same_refusal NotAtWork NotAtWork = true
 same_refusal NoPose NoPose = true
 same_refusal Worn Worn = true
 same_refusal InUse InUse = true
+same_refusal Stopped Stopped = true
+same_refusal NotStopped NotStopped = true
 same_refusal (Held m) (Held n) = same_machine m n
 same_refusal (Shut p) (Shut q) = same_posture p q
 same_refusal (NotOwner None) (NotOwner None) = true
@@ -46,6 +48,8 @@ one_refusal NotAtWork NotAtWork e = refl
 one_refusal NoPose NoPose e = refl
 one_refusal Worn Worn e = refl
 one_refusal InUse InUse e = refl
+one_refusal Stopped Stopped e = refl
+one_refusal NotStopped NotStopped e = refl
 one_refusal (Held m) (Held n) e = ap Held (one_machine m n e)
 one_refusal (Shut p) (Shut q) e = ap Shut (one_posture p q e)
 one_refusal (NotOwner None) (NotOwner None) e = refl

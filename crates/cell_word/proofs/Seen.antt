@@ -1,4 +1,4 @@
--- What the word of a sound state shows through windows on its zones, its places and its stamp.
+-- What the word of a sound state shows through windows on its zones, its places, its stamp and its mark.
 use Rattle.std.proofs.Common.{◌≡◌, ℕ, ◌+◌, ◌*◌, ◌^◌, Bool, true, false, ◌&&◌, refl, ap, ◌∙◌}
 use Rattle.std.specs.Prelude.{bit_and, bit_or}
 use Rattle.cell_types.specs.declared.zone.Zone.{Zone}
@@ -8,9 +8,9 @@ use Rattle.cell_rules.specs.declared.zones.ZoneState.{ZoneState}
 use Rattle.cell_rules.specs.ModelState.{ModelState, zone_at, is_full, one_if}
 use Rattle.cell_rules.specs.Sound.{IsSound, implies, has_lawful_owner, is_lawful_plate, is_received_by, is_onto_full, is_open_to_guest, moves_by_host, is_of_some_pose}
 use Rattle.cell_rules.proofs.Tables.{and_both}
-use Rattle.cell_word.specs.Layout.{zone_bit, place_bit, stamp_bit, owner_code, posture_code, packed}
+use Rattle.cell_word.specs.Layout.{zone_bit, place_bit, stamp_bit, mark_bit, owner_code, posture_code, packed}
 use Rattle.cell_word.specs.Reading.{bits_of}
-use Rattle.cell_word.proofs.RoundTrip.{zone_fields_read, place_field_read, stamp_read}
+use Rattle.cell_word.proofs.RoundTrip.{zone_fields_read, place_field_read, stamp_read, mark_read}
 use Rattle.cell_word.proofs.Windows.{and_or, field_shown, five_bits}
 
 -- the five bits of a zone
@@ -32,6 +32,12 @@ place_word p b = one_if b * 2 ^ place_bit p
 abbrev pub stamp_window : ℕ
 stamp_window = 1048575 * 2 ^ stamp_bit
 
+abbrev pub mark_window : ℕ
+mark_window = 1 * 2 ^ mark_bit
+
+abbrev pub mark_word : Bool → ℕ
+mark_word b = one_if b * 2 ^ mark_bit
+
 pub zone_five : (s : ModelState) → IsSound s → (z : Zone) → bits_of (packed s) (zone_bit z) 5 ≡ zone_code z (zone_at s z)
 zone_five s sound z =
     let r = zone_fields_read s sound z in
@@ -48,6 +54,9 @@ place_shown s sound p = field_shown (packed s) (place_bit p) 1 ∙ ap (λ n. n *
 
 pub stamp_shown : (s : ModelState) → IsSound s → bit_and (packed s) stamp_window ≡ s.stamp * 2 ^ stamp_bit
 stamp_shown s sound = field_shown (packed s) stamp_bit 20 ∙ ap (λ n. n * 2 ^ stamp_bit) (stamp_read s sound)
+
+pub mark_shown : (s : ModelState) → IsSound s → bit_and (packed s) mark_window ≡ mark_word s.stopped
+mark_shown s sound = field_shown (packed s) mark_bit 1 ∙ ap (λ n. n * 2 ^ mark_bit) (mark_read s sound)
 
 -- a zone and a place at once
 pub zone_and_place_shown : (s : ModelState) → IsSound s → (z : Zone) (p : Place)

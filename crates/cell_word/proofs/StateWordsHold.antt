@@ -19,7 +19,7 @@ use Rattle.cell_rules.specs.PlaceSet.{PlaceSet}
 use Rattle.cell_rules.specs.ModelState.{ModelState, zone_at, is_full, one_if}
 use Rattle.cell_rules.specs.Sound.{IsSound, implies, has_lawful_owner, is_lawful_plate, is_onto_full, is_open_to_guest, moves_by_host, is_of_some_pose, has_one_plate, is_received_by}
 use Rattle.cell_rules.proofs.Tables.{and_left, and_right, and_both, implied, all_bools, from_bools, all_zones, from_zones, all_postures, from_postures, all_states, from_states, all_pass}
-use Rattle.cell_word.specs.Layout.{zone_bit, place_bit, packed}
+use Rattle.cell_word.specs.Layout.{zone_bit, place_bit, mark_bit, packed}
 use Rattle.cell_word.specs.Reading.{bits_of, is_bit_set, owner_of_code, posture_of_code, zone_told, state_told}
 use Rattle.cell_word.specs.Patterns.{stands, both, nothing, posture_is, place_is, field_is}
 use Rattle.cell_word.specs.StateWords.{zone_codes, onto_full, is_lawful_zone, is_lawful_press, is_state_word}
@@ -76,6 +76,9 @@ one_bit (suc (suc n)) h = absurd (omega arith)
 
 place_is_told : (w : ℕ) (p : Place) → bits_of w (place_bit p) 1 ≡ one_if (is_full (state_told w) p)
 place_is_told w p = one_bit (bits_of w (place_bit p) 1) (mod_below (w / 2 ^ place_bit p) 2 (omega arith)) ∙ ap one_if (sym (full_of_state w p))
+
+mark_is_told : (w : ℕ) → bits_of w mark_bit 1 ≡ one_if (state_told w).stopped
+mark_is_told w = one_bit (bits_of w mark_bit 1) (mod_below (w / 2 ^ mark_bit) 2 (omega arith))
 
 -- ---- patterns on a zone and a place, and on two places, at any word
 seen_both : (w : ℕ) (z : Zone) (p : Place) → bit_and w (bit_or (zone_window z) (place_window p)) ≡ bit_or (bits_of w (zone_bit z) 5 * 2 ^ zone_bit z) (place_word p (is_full (state_told w) p))
@@ -233,15 +236,15 @@ not_sent full z o true q r e =
 in_range : (w : ℕ) → w / 2 ^ 40 % 2 ^ 20 ≤ 1048575
 in_range w = omega arith
 
-top_clear : (w : ℕ) → w < 2 ^ 64 → stands w (field_is 60 4 0) ≡ true → w < 2 ^ 60
+top_clear : (w : ℕ) → w < 2 ^ 64 → stands w (field_is 61 3 0) ≡ true → w < 2 ^ 61
 top_clear w fits e =
-    let none : bits_of w 60 4 * 2 ^ 60 ≡ 0 = sym (field_shown w 60 4) ∙ eqb-true (bit_and w 17293822569102704640) 0 e in
+    let none : bits_of w 61 3 * 2 ^ 61 ≡ 0 = sym (field_shown w 61 3) ∙ eqb-true (bit_and w 16140901064495857664) 0 e in
     omega arith
 
-clear_top : (w : ℕ) → w < 2 ^ 60 → stands w (field_is 60 4 0) ≡ true
+clear_top : (w : ℕ) → w < 2 ^ 61 → stands w (field_is 61 3 0) ≡ true
 clear_top w small =
-    let none : bits_of w 60 4 * 2 ^ 60 ≡ 0 = omega arith in
-    eq-eqb (bit_and w 17293822569102704640) 0 (field_shown w 60 4 ∙ none)
+    let none : bits_of w 61 3 * 2 ^ 61 ≡ 0 = omega arith in
+    eq-eqb (bit_and w 16140901064495857664) 0 (field_shown w 61 3 ∙ none)
 
 either_not : (a b : Bool) → not (a && b) ≡ implies a (not b)
 either_not true b = refl
@@ -259,14 +262,14 @@ zone_parts w z e =
 pub sound_by_masks : (w : ℕ) → w < 2 ^ 64 → is_state_word w ≡ true → IsSound (state_told w) × (packed (state_told w) ≡ w)
 sound_by_masks w fits e =
     let t = state_told w in
-    let top = stands w (field_is 60 4 0) in
+    let top = stands w (field_is 61 3 0) in
     let zones = list_all (is_lawful_zone w) every_zone in
     let press = is_lawful_press w in
     let front = and_left (top && zones) press e in
-    let small : w < 2 ^ 60 = top_clear w fits (and_left top zones front) in
+    let small : w < 2 ^ 61 = top_clear w fits (and_left top zones front) in
     let parts = λ (z : Zone). zone_parts w z (from_zones (is_lawful_zone w) (and_right top zones front) z) in
     let code = λ (z : Zone). by_code w z (parts z).0 in
-    let same : w ≡ packed t = is_word_of w t small (λ z. (code z).0) (place_is_told w) refl in
+    let same : w ≡ packed t = is_word_of w t small (λ z. (code z).0) (place_is_told w) refl (mark_is_told w) in
     let v = λ (z : Zone). zone_at t z in
     let owner = λ (z : Zone). has_lawful_owner z (v z) in
     let plate = λ (z : Zone). is_lawful_plate false z (v z) in

@@ -12,9 +12,9 @@ use Rattle.cell_types.specs.declared.place.Place.TheVariants.{FeedEntry, FeedEnd
 use Rattle.cell_types.specs.Everything.{all_zones, all_places}
 use Rattle.cell_rules.specs.declared.zones.ZoneState.{ZoneState}
 use Rattle.cell_rules.specs.ModelState.{ModelState, zone_at, is_full, one_if}
-use Rattle.cell_word.specs.Layout.{Field, field, word_of, zone_bit, place_bit, stamp_bit, owner_code, posture_code, zone_fields, fields_at, place_field, fields_of, packed}
+use Rattle.cell_word.specs.Layout.{Field, field, word_of, zone_bit, place_bit, stamp_bit, mark_bit, owner_code, posture_code, zone_fields, fields_at, place_field, last_fields, fields_of, packed}
 use Rattle.cell_word.specs.Reading.{bits_of}
-use Rattle.cell_word.specs.Laws.{SideBySide, ReadsBack}
+use Rattle.cell_word.specs.Laws.{SideBySide, ReadsBack, IsOffStamp}
 use Rattle.cell_word.specs.Patterns.{with_written}
 use Rattle.cell_word.proofs.Fields.{word-cons, arranged}
 use Rattle.cell_word.proofs.RoundTrip.{ZoneRead, owner_fits, flag_fits, posture_fits, All-flat_map, all_three, side_by_side}
@@ -55,18 +55,19 @@ zone_reads : (x : ℕ) (z : Zone) (v : ZoneState) → ZoneRead x z v → All (Re
 zone_reads x z v r =
     all_three (ReadsBack x) (field (zone_bit z) 2 (owner_code z v.owner)) (field (zone_bit z + 2) 1 (one_if v.flag)) (field (zone_bit z + 3) 2 (posture_code v.posture)) r.owner r.flag r.posture
 
--- a number below 2 to the 60 with the zones, places and stamp of a state is its word
-pub is_word_of : (x : ℕ) (s : ModelState) → x < 2 ^ 60 → ((z : Zone) → bits_of x (zone_bit z) 5 ≡ zone_code z (zone_at s z)) → ((p : Place) → bits_of x (place_bit p) 1 ≡ one_if (is_full s p))
-    → bits_of x stamp_bit 20 ≡ s.stamp → x ≡ packed s
+-- a number below 2 to the 61 with the zones, places, stamp and mark of a state is its word
+pub is_word_of : (x : ℕ) (s : ModelState) → x < 2 ^ 61 → ((z : Zone) → bits_of x (zone_bit z) 5 ≡ zone_code z (zone_at s z)) → ((p : Place) → bits_of x (place_bit p) 1 ≡ one_if (is_full s p))
+    → bits_of x stamp_bit 20 ≡ s.stamp → bits_of x mark_bit 1 ≡ one_if s.stopped → x ≡ packed s
 unfolding packed
-is_word_of x s below zone place stamp =
+is_word_of x s below zone place stamp mark =
     let zones : All (ReadsBack x) (flat_map (fields_at s) all_zones) = All-flat_map (ReadsBack x) (fields_at s) all_zones (λ z. zone_reads x z (zone_at s z) (zone_told_by x z (zone_at s z) (zone z))) in
     let places : All (ReadsBack x) (map (place_field s) all_places) = All-map (ReadsBack x) (place_field s) all_places (λ k d inside. place (get_or all_places k d)) in
-    let last : All (ReadsBack x) (field stamp_bit 20 s.stamp ∷ []) = All-cons (ReadsBack x) (field stamp_bit 20 s.stamp) [] stamp (All-nil (ReadsBack x)) in
+    let highest : All (ReadsBack x) (field mark_bit 1 (one_if s.stopped) ∷ []) = All-cons (ReadsBack x) (field mark_bit 1 (one_if s.stopped)) [] mark (All-nil (ReadsBack x)) in
+    let last : All (ReadsBack x) (last_fields s) = All-cons (ReadsBack x) (field stamp_bit 20 s.stamp) (field mark_bit 1 (one_if s.stopped) ∷ []) stamp highest in
     let reads : All (ReadsBack x) (fields_of s) =
-    All-append (ReadsBack x) (flat_map (fields_at s) all_zones ++ map (place_field s) all_places) (field stamp_bit 20 s.stamp ∷ [])
+    All-append (ReadsBack x) (flat_map (fields_at s) all_zones ++ map (place_field s) all_places) (last_fields s)
     (All-append (ReadsBack x) (flat_map (fields_at s) all_zones) (map (place_field s) all_places) zones places) last in
-    let whole : x / 2 ^ 0 * 2 ^ 0 ≡ word_of (fields_of s) = upper_part 0 60 x (fields_of s) (side_by_side s) reads below in
+    let whole : x / 2 ^ 0 * 2 ^ 0 ≡ word_of (fields_of s) = upper_part 0 61 x (fields_of s) (side_by_side s) reads below in
     let same : x ≡ x / 2 ^ 0 * 2 ^ 0 = omega arith in
     same ∙ whole
 
@@ -122,28 +123,30 @@ place_below y DepEntry = omega arith
 place_below y DepEnd = omega arith
 place_below y Crane = omega arith
 
-stamp_up : (y n : ℕ) → y < 2 ^ 60 → bits_of y 40 20 ≡ n → n < 1048575 → (bits_of (y + 2 ^ 40) 40 20 ≡ n + 1) × (y + 2 ^ 40 < 2 ^ 60)
-stamp_up y n below e small = (omega arith, omega arith)
+-- it adds one to the stamp, and the mark stays, since the stamp isn't the last one
+stamp_up : (y n : ℕ) → y < 2 ^ 61 → bits_of y 40 20 ≡ n → n < 1048575 → (bits_of (y + 2 ^ 40) 40 20 ≡ n + 1) × (y + 2 ^ 40 < 2 ^ 61) × (bits_of (y + 2 ^ 40) 60 1 ≡ bits_of y 60 1)
+stamp_up y n below e small = (omega arith, omega arith, omega arith)
 
--- the word of the state after, from what is written into each zone and each place
-pub written_word : (w mask set : ℕ) (s : ModelState) (n : ℕ) → w < 2 ^ 60 → mask < 2 ^ 40 → set < 2 ^ 40 → bits_of w stamp_bit 20 ≡ n → n < 1048575 → s.stamp ≡ n + 1
+-- the word of the state after, from what is written into each zone, each place and the mark
+pub written_word : (w mask set : ℕ) (s : ModelState) (n : ℕ) → w < 2 ^ 61 → IsOffStamp mask → IsOffStamp set → bits_of w stamp_bit 20 ≡ n → n < 1048575 → s.stamp ≡ n + 1
     → ((z : Zone) → rewritten (bits_of w (zone_bit z) 5) (bits_of (complement mask) (zone_bit z) 5) (bits_of set (zone_bit z) 5) ≡ zone_code z (zone_at s z))
     → ((p : Place) → rewritten (bits_of w (place_bit p) 1) (bits_of (complement mask) (place_bit p) 1) (bits_of set (place_bit p) 1) ≡ one_if (is_full s p))
+    → rewritten (bits_of w mark_bit 1) (bits_of (complement mask) mark_bit 1) (bits_of set mark_bit 1) ≡ one_if s.stopped
     → packed s ≡ with_written w mask set + 2 ^ 40
-written_word w mask set s n below mask_low set_low stamp small next zone place =
+written_word w mask set s n below mask_off set_off stamp small next zone place mark =
     let y = with_written w mask set in
     let small_word : w < 2 ^ 64 = omega arith in
-    let small_mask : mask < 2 ^ 64 = omega arith in
-    let low : y < 2 ^ 60 = or_lt 60 (w - bit_and w mask) set (omega arith) (omega arith) in
-    let kept : bits_of (complement mask) 40 20 ≡ 2 ^ 20 - 1 = omega arith in
-    let none : bits_of set 40 20 ≡ 0 = omega arith in
+    let small_mask : mask < 2 ^ 64 = omega (arith, mask_off.0) in
+    let low : y < 2 ^ 61 = or_lt 61 (w - bit_and w mask) set (omega arith) set_off.0 in
+    let kept : bits_of (complement mask) 40 20 ≡ 2 ^ 20 - 1 = omega (arith, mask_off.0, mask_off.1) in
     let stays : bits_of y 40 20 ≡ n =
     field_written w mask set 40 20 small_word small_mask
-    ∙ ap₂ (rewritten (bits_of w 40 20)) kept none
+    ∙ ap₂ (rewritten (bits_of w 40 20)) kept set_off.1
     ∙ unchanged (bits_of w 40 20) 20 (mod_below (w / 2 ^ 40) (2 ^ 20) (omega arith))
     ∙ stamp in
     let up = stamp_up y n low stays small in
     sym (is_word_of (y + 2 ^ 40) s up.1
     (λ z. zone_below y z ∙ field_written w mask set (zone_bit z) 5 small_word small_mask ∙ zone z)
     (λ p. place_below y p ∙ field_written w mask set (place_bit p) 1 small_word small_mask ∙ place p)
-    (up.0 ∙ sym next))
+    (up.0 ∙ sym next)
+    (up.2 ∙ field_written w mask set mark_bit 1 small_word small_mask ∙ mark))

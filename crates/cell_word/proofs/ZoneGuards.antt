@@ -6,7 +6,7 @@ use Rattle.std.specs.Bool.{then_some}
 use Rattle.std.proofs.lemmas.Nat.{and_le_r}
 use Rattle.std.proofs.lemmas.Bool.Decides.{nat_tests}
 use Rattle.cell_types.specs.declared.machine.Machine.{Machine}
-use Rattle.cell_types.specs.declared.machine.Machine.TheVariants.{Feed}
+use Rattle.cell_types.specs.declared.machine.Machine.TheVariants.{Feed, Watch}
 use Rattle.cell_types.specs.declared.zone.Zone.{Zone}
 use Rattle.cell_types.specs.declared.zone.Zone.TheVariants.{Z1, Z6}
 use Rattle.cell_types.specs.declared.zone.Transfer.{Transfer}
@@ -15,24 +15,24 @@ use Rattle.cell_types.specs.declared.place.Place.TheVariants.{FeedEnd}
 use Rattle.cell_types.specs.declared.posture.Posture.{Posture}
 use Rattle.cell_types.specs.declared.posture.Posture.TheVariants.{Closed, Moving, OpenIn, OpenOut}
 use Rattle.cell_types.specs.declared.answer.Refusal.{Refusal}
-use Rattle.cell_types.specs.declared.answer.Refusal.TheVariants.{Held, AlreadyMine, Shut, NotOwner, PlateInZone, NoPlate, PlaceFull, WrongWay, NoPose, InUse}
+use Rattle.cell_types.specs.declared.answer.Refusal.TheVariants.{NotParty, Held, AlreadyMine, Shut, NotOwner, PlateInZone, NoPlate, PlaceFull, WrongWay, InUse, Stopped, NotStopped}
 use Rattle.cell_types.specs.Tables.{guest_of, transfer_of}
 use Rattle.cell_types.specs.Same.{same_machine, same_zone, same_posture}
 use Rattle.cell_rules.specs.declared.zones.ZoneState.{ZoneState}
 use Rattle.cell_rules.specs.ModelState.{ModelState, zone_at, is_full, last_stamp}
-use Rattle.cell_rules.specs.Sound.{IsSound, implies, is_open, is_owned_by}
+use Rattle.cell_rules.specs.Sound.{IsSound, implies, is_open, is_owned_by, is_party}
 use Rattle.cell_rules.specs.Refusals
 use Rattle.cell_rules.specs.Reply.{other_party}
 use Rattle.cell_rules.proofs.Tables.{and_left, and_right, implied, all_bools, from_bools, all_machines, from_machines, all_zones, from_zones, all_postures, from_postures, all_places, from_places, all_states, from_states}
 use Rattle.cell_rules.proofs.Done.{none_or, none_then}
 use Rattle.cell_word.specs.Layout.{packed}
-use Rattle.cell_word.specs.Patterns.{stands, anything, nothing, when, both, owner_is, flag_is, posture_is, place_is}
+use Rattle.cell_word.specs.Patterns.{stands, anything, nothing, when, both, owner_is, flag_is, posture_is, place_is, mark_is}
 use Rattle.cell_word.specs.Guards as guards
 use Rattle.cell_word.specs.Guards.{guard, first_refusal}
 use Rattle.cell_word.specs.declared.patterns.Guard.{Guard}
 use Rattle.cell_word.proofs.SameAnswer.{same_bool, one_bool, same_answer, one_answer, same_row, one_row}
 use Rattle.cell_word.proofs.Windows.{first-append, all_within, first-window}
-use Rattle.cell_word.proofs.Seen.{zone_window, zone_word, place_window, place_word, zone_shown, place_shown, stamp_shown, zone_and_place_shown, is_lawful, lawful_at}
+use Rattle.cell_word.proofs.Seen.{zone_window, zone_word, place_window, place_word, mark_word, zone_shown, place_shown, stamp_shown, mark_shown, zone_and_place_shown, is_lawful, lawful_at}
 
 -- ---- one refusal or another
 pub or_none : (a : Option Refusal) → option_or a None ≡ a
@@ -65,9 +65,9 @@ and_zero w = omega (arith, and_le_r w 0)
 pub blind : (w : ℕ) (row : List Guard) → all_within 0 row ≡ true → first_refusal w row ≡ first_refusal 0 row
 blind w row inside = first-window w 0 row inside ∙ ap (λ n. first_refusal n row) (and_zero w)
 
-pub always_seen : (w : ℕ) (b : Bool) → first_refusal w (guard (when b anything) NoPose ∷ []) ≡ then_some b NoPose
-always_seen w true = blind w (guard anything NoPose ∷ []) refl
-always_seen w false = blind w (guard nothing NoPose ∷ []) refl
+pub always_seen : (w : ℕ) (b : Bool) (r : Refusal) → first_refusal w (guard (when b anything) r ∷ []) ≡ then_some b r
+always_seen w true r = blind w (guard anything r ∷ []) refl
+always_seen w false r = blind w (guard nothing r ∷ []) refl
 
 at_last : (n : ℕ) → n ≤ 1048575 → nat_eq (n * 2 ^ 40) (1048575 * 2 ^ 40) ≡ not (nat_lt n 1048575)
 at_last n h = grind (arith, nat_tests)
@@ -76,6 +76,21 @@ pub worn_seen : (s : ModelState) → IsSound s → first_refusal (packed s) (gua
 worn_seen s sound =
     let last : stands (packed s) guards.worn.pattern ≡ not (nat_lt s.stamp last_stamp) = ap (λ n. nat_eq n (1048575 * 2 ^ 40)) (stamp_shown s sound) ∙ at_last s.stamp sound.stamp_in_range in
     ap (λ b. option_map (λ (g : Guard). g.refusal) (cond b (Some guards.worn) None)) last ∙ one_guard (not (nat_lt s.stamp last_stamp)) guards.worn
+
+-- the mark of a stopped cell
+abbrev mark_test : Bool → Bool → Bool
+mark_test stopped b = same_bool (nat_eq (mark_word stopped) (mark_word b)) (same_bool stopped b)
+
+mark_table : all_bools (λ stopped. all_bools (mark_test stopped)) ≡ true
+mark_table = refl
+
+pub mark_seen : (s : ModelState) → IsSound s → (b : Bool) (r : Refusal) → first_refusal (packed s) (guard (mark_is b) r ∷ []) ≡ then_some (same_bool s.stopped b) r
+mark_seen s sound b r =
+    let stopped = s.stopped in
+    let here : stands (packed s) (mark_is b) ≡ same_bool stopped b =
+    ap (λ n. nat_eq n (mark_word b)) (mark_shown s sound)
+    ∙ one_bool (nat_eq (mark_word stopped) (mark_word b)) (same_bool stopped b) (from_bools (mark_test stopped) (from_bools (λ stopped. all_bools (mark_test stopped)) mark_table stopped) b) in
+    ap (λ t. option_map (λ (g : Guard). g.refusal) (cond t (Some (guard (mark_is b) r)) None)) here ∙ one_guard (same_bool stopped b) (guard (mark_is b) r)
 
 abbrev place_test : Place → Bool → Bool → Bool
 place_test p full b = same_bool (nat_eq (place_word p full) (place_word p b)) (same_bool full b)
@@ -122,15 +137,35 @@ zone_row : (row : Machine → Zone → List Guard) (here : Machine → Zone → 
     → first_refusal (packed s) (row m z) ≡ here m z (zone_at s z)
 zone_row row here table s sound m z = zone_seen row here s sound m z (from_zones (zone_tests row here m) (from_machines (λ m. all_zones (zone_tests row here m)) table m) z)
 
+-- ---- the mark's guard comes after the stranger's, and the zone's guards after both
+inserted : (x k y a b : Option Refusal) → x ≡ a → option_or x y ≡ option_or a b → option_or x (option_or k y) ≡ option_or (option_or a k) b
+inserted None k y None b e f = ap (option_or k) f
+inserted (Some q) k y (Some r) b e f = e
+inserted None k y (Some r) b e f = cc
+inserted (Some q) k y None b e f = cc
+
+marked : (s : ModelState) → IsSound s → (m : Machine) (z : Zone) (rest : List Guard) (here : Option Refusal)
+    → first_refusal (packed s) (guards.stranger m z ∷ rest) ≡ option_or (Refusals.not_party m z) here
+    → first_refusal (packed s) (guards.stranger m z ∷ guards.stopped ∷ rest) ≡ option_or (option_or (Refusals.not_party m z) (Refusals.while_stopped s)) here
+marked s sound m z rest here e =
+    let w = packed s in
+    let first = guards.stranger m z ∷ [] in
+    let mark = guards.stopped ∷ [] in
+    first-append w first (mark ++ rest)
+    ∙ ap (option_or (first_refusal w first)) (first-append w mark rest ∙ ap (λ o. option_or o (first_refusal w rest)) (mark_seen s sound true Stopped))
+    ∙ inserted (first_refusal w first) (Refusals.while_stopped s) (first_refusal w rest) (Refusals.not_party m z) here (always_seen w (not (is_party m z)) NotParty) (sym (first-append w first rest) ∙ e)
+
 -- ---- Claim
-abbrev claim_part : Machine → Zone → List Guard
-claim_part m z =
-    guards.stranger m z
-    ∷ guard (owner_is z (Some m)) AlreadyMine
+abbrev claim_rest : Machine → Zone → List Guard
+claim_rest m z =
+    guard (owner_is z (Some m)) AlreadyMine
     ∷ guard (owner_is z (Some (other_party m z))) (Held (other_party m z))
     ∷ guard (when (same_machine m (guest_of z)) (posture_is z Closed)) (Shut Closed)
     ∷ guard (when (same_machine m (guest_of z)) (posture_is z Moving)) (Shut Moving)
     ∷ []
+
+abbrev claim_part : Machine → Zone → List Guard
+claim_part m z = guards.stranger m z ∷ claim_rest m z
 
 abbrev claim_here : Machine → Zone → ZoneState → Option Refusal
 claim_here m z v =
@@ -140,9 +175,20 @@ claim_here m z v =
 claim_table : zone_table claim_part claim_here ≡ true
 claim_table = refl
 
+four_in_order : (x a b c d : Option Refusal) → option_or x (option_or (option_or (option_or a b) c) d) ≡ option_or (option_or (option_or (option_or x a) b) c) d
+four_in_order None a b c d = refl
+four_in_order (Some r) a b c d = refl
+
 pub claim_holds : (s : ModelState) → IsSound s → (m : Machine) (z : Zone) → first_refusal (packed s) (guards.claim_guards m z) ≡ Refusals.claim_refusal s m z
 claim_holds s sound m z =
-    first-append (packed s) (claim_part m z) (guards.worn ∷ []) ∙ ap₂ option_or (zone_row claim_part claim_here claim_table s sound m z) (worn_seen s sound)
+    let stranger = Refusals.not_party m z in
+    let mine = Refusals.already_mine s m z in
+    let held = Refusals.held s m z in
+    let shut = Refusals.shut_to_guest s m z in
+    let worn = Refusals.worn s in
+    marked s sound m z (claim_rest m z ++ (guards.worn ∷ [])) (option_or (option_or (option_or mine held) shut) worn)
+    (first-append (packed s) (claim_part m z) (guards.worn ∷ []) ∙ ap₂ option_or (zone_row claim_part claim_here claim_table s sound m z) (worn_seen s sound) ∙ sym (four_in_order stranger mine held shut worn))
+    ∙ four_in_order (option_or stranger (Refusals.while_stopped s)) mine held shut worn
 
 -- ---- Take
 abbrev not_mine : Machine → Zone → ZoneState → Option Refusal
@@ -222,10 +268,9 @@ pub release_holds : (s : ModelState) → IsSound s → (m : Machine) (z : Zone) 
 release_holds s sound m z = left_by s sound m z (release_part m z) (release_here m z (zone_at s z)) (zone_row release_part release_here release_table s sound m z)
 
 -- ---- Give
-abbrev give_part : Machine → Zone → List Guard
-give_part m z =
-    guards.stranger m z
-    ∷ guards.unowned z
+abbrev give_rest : Machine → Zone → List Guard
+give_rest m z =
+    guards.unowned z
     ∷ guards.anothers z (other_party m z)
     ∷ guards.plate_in z
     ∷ guards.wrong_way m z Closed
@@ -233,6 +278,9 @@ give_part m z =
     ∷ guards.wrong_way m z OpenIn
     ∷ guards.wrong_way m z OpenOut
     ∷ []
+
+abbrev give_part : Machine → Zone → List Guard
+give_part m z = guards.stranger m z ∷ give_rest m z
 
 abbrev give_here : Machine → Zone → ZoneState → Option Refusal
 give_here m z v = option_or (option_or (not_mine m z v) (then_some v.flag (PlateInZone z))) (Refusals.wrong_way (Refusals.given_by m (transfer_of z v.posture)))
@@ -268,8 +316,11 @@ regrouped : (a b c d : Option Refusal) → option_or a (option_or (option_or b c
 regrouped None b c d = refl
 regrouped (Some r) b c d = refl
 
-pub give_holds : (s : ModelState) → IsSound s → (m : Machine) (z : Zone) → first_refusal (packed s) (guards.give_guards m z) ≡ Refusals.give_refusal s m z
-give_holds s sound m z =
+-- in a cell that isn't stopped
+give_unmarked : (s : ModelState) → IsSound s → (m : Machine) (z : Zone)
+    → first_refusal (packed s) (give_part m z ++ (ends_of (guards.row_given m z) ++ (guards.worn ∷ [])))
+    ≡ option_or (option_or (option_or (give_here m z (zone_at s z)) (Refusals.nothing_to_give s (Refusals.transfer_given s m z))) (Refusals.no_room s (Refusals.transfer_given s m z))) (Refusals.worn s)
+give_unmarked s sound m z =
     let w = packed s in
     let gift = Refusals.transfer_given s m z in
     let row = guards.row_given m z in
@@ -283,3 +334,38 @@ give_holds s sound m z =
     (zone_row give_part give_here give_table s sound m z)
     (λ e. way_and_stamp ∙ ap (λ r. option_or (option_or (Refusals.nothing_to_give s r) (Refusals.no_room s r)) (Refusals.worn s)) (sym (same e)))
     ∙ regrouped here (Refusals.nothing_to_give s gift) (Refusals.no_room s gift) (Refusals.worn s)
+
+six_in_order : (x a b c d e f : Option Refusal)
+    → option_or x (option_or (option_or (option_or (option_or (option_or a b) c) d) e) f) ≡ option_or (option_or (option_or (option_or (option_or (option_or x a) b) c) d) e) f
+six_in_order None a b c d e f = refl
+six_in_order (Some r) a b c d e f = refl
+
+pub give_holds : (s : ModelState) → IsSound s → (m : Machine) (z : Zone) → first_refusal (packed s) (guards.give_guards m z) ≡ Refusals.give_refusal s m z
+give_holds s sound m z =
+    let gift = Refusals.transfer_given s m z in
+    let stranger = Refusals.not_party m z in
+    let owner = Refusals.not_owner s m z in
+    let plate = Refusals.plate_in_zone s z in
+    let way = Refusals.wrong_way gift in
+    let empty = Refusals.nothing_to_give s gift in
+    let full = Refusals.no_room s gift in
+    let worn = Refusals.worn s in
+    marked s sound m z (give_rest m z ++ (ends_of (guards.row_given m z) ++ (guards.worn ∷ []))) (option_or (option_or (option_or (option_or (option_or owner plate) way) empty) full) worn)
+    (give_unmarked s sound m z ∙ sym (six_in_order stranger owner plate way empty full worn))
+    ∙ six_in_order (option_or stranger (Refusals.while_stopped s)) owner plate way empty full worn
+
+-- ---- Stop and Resume
+by_watch : (s : ModelState) → IsSound s → (m : Machine) (b : Bool) (r : Refusal)
+    → first_refusal (packed s) (guards.not_watch m ∷ guard (mark_is b) r ∷ guards.worn ∷ []) ≡ option_or (option_or (Refusals.not_watch m) (then_some (same_bool s.stopped b) r)) (Refusals.worn s)
+by_watch s sound m b r =
+    let w = packed s in
+    let first = guards.not_watch m ∷ [] in
+    let mark = guard (mark_is b) r ∷ [] in
+    first-append w (first ++ mark) (guards.worn ∷ [])
+    ∙ ap₂ option_or (first-append w first mark ∙ ap₂ option_or (always_seen w (not (same_machine m Watch)) NotParty) (mark_seen s sound b r)) (worn_seen s sound)
+
+pub stop_holds : (s : ModelState) → IsSound s → (m : Machine) → first_refusal (packed s) (guards.stop_guards m) ≡ Refusals.stop_refusal s m
+stop_holds s sound m = by_watch s sound m true Stopped
+
+pub resume_holds : (s : ModelState) → IsSound s → (m : Machine) → first_refusal (packed s) (guards.resume_guards m) ≡ Refusals.resume_refusal s m
+resume_holds s sound m = by_watch s sound m false NotStopped

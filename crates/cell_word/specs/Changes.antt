@@ -1,8 +1,8 @@
 -- The bits that a Done call writes.
-use Rattle.std.specs.Prelude.{true, false, Option, Some, None, if◌then◌else◌}
+use Rattle.std.specs.Prelude.{Bool, true, false, Option, Some, None, if◌then◌else◌}
 use Rattle.std.specs.Option.{option_or}
 use Rattle.cell_types.specs.declared.machine.Machine.{Machine}
-use Rattle.cell_types.specs.declared.machine.Machine.TheVariants.{Feed, Deposit}
+use Rattle.cell_types.specs.declared.machine.Machine.TheVariants.{Feed, Deposit, Watch}
 use Rattle.cell_types.specs.declared.zone.Zone.{Zone}
 use Rattle.cell_types.specs.declared.zone.Zone.TheVariants.{Z4, Z5, Z6}
 use Rattle.cell_types.specs.declared.place.Place.{Place}
@@ -11,13 +11,13 @@ use Rattle.cell_types.specs.declared.posture.Posture.{Posture}
 use Rattle.cell_types.specs.declared.posture.Posture.TheVariants.{Closed, OpenIn, OpenOut}
 use Rattle.cell_types.specs.declared.call.Call.{Call}
 use Rattle.cell_types.specs.declared.call.Call.TheVariants.{Claim, Give, Yield, Take, Release, SetPose, Advance}
-use Rattle.cell_types.specs.declared.call.Call.TheVariants.{Inquire}
+use Rattle.cell_types.specs.declared.call.Call.TheVariants.{Inquire, Stop, Resume}
 use Rattle.cell_types.specs.Tables.{transfer_of}
 use Rattle.cell_types.specs.Ways.{own_move_of}
 use Rattle.cell_types.specs.Same.{same_machine}
 use Rattle.cell_rules.specs.Sound.{is_party}
 use Rattle.cell_rules.specs.Reply.{other_party}
-use Rattle.cell_word.specs.Patterns.{anything, both, owner_is, flag_is, posture_is, place_is}
+use Rattle.cell_word.specs.Patterns.{anything, both, owner_is, flag_is, posture_is, place_is, mark_is}
 use Rattle.cell_word.specs.Guards.{row_given, hosted_zones, posed_at}
 use Rattle.cell_word.specs.declared.patterns.Pattern.{Pattern}
 
@@ -54,6 +54,10 @@ halt_pattern Feed = posture_is Z6 Closed
 halt_pattern Deposit = both (posture_is Z4 Closed) (posture_is Z5 Closed)
 halt_pattern _ = anything
 
+-- the watch alone stops the cell, and lets it go on
+abbrev pub mark_becomes : Machine → Bool → Pattern
+mark_becomes m b = if same_machine m Watch then mark_is b else anything
+
 -- what a machine's call writes; no bits if it can never be Done
 abbrev pub written : Machine → Call → Pattern
 written m (Claim z) = owner_becomes m z (Some m)
@@ -65,3 +69,5 @@ written m (SetPose p) =
     both (posture_pattern (posed_at m p (hosted_zones m).0)) (posture_pattern (posed_at m p (hosted_zones m).1))
 written m Advance = both (move_pattern (own_move_of m)) (halt_pattern m)
 written m (Inquire z) = anything
+written m Stop = mark_becomes m true
+written m Resume = mark_becomes m false

@@ -5,7 +5,7 @@ use Rattle.std.specs.Prelude.{List, [], ◌∷◌, ◌++◌, map, if◌then◌el
 use Rattle.std.specs.Option.{option_or}
 use Rattle.std.specs.List.{find, flat_map, list_all}
 use Rattle.cell_types.specs.declared.machine.Machine.{Machine}
-use Rattle.cell_types.specs.declared.machine.Machine.TheVariants.{Feed, Press, Deposit, Table as TableMachine}
+use Rattle.cell_types.specs.declared.machine.Machine.TheVariants.{Feed, Press, Deposit, Table as TableMachine, Watch}
 use Rattle.cell_types.specs.declared.zone.Zone.{Zone}
 use Rattle.cell_types.specs.declared.zone.Zone.TheVariants.{Z1, Z2, Z3, Z4, Z5, Z6}
 use Rattle.cell_types.specs.declared.place.Place.{Place}
@@ -17,11 +17,11 @@ use Rattle.cell_types.specs.declared.pose.Pose.{Pose}
 use Rattle.cell_types.specs.declared.pose.Pose.TheVariants.{Running}
 use Rattle.cell_types.specs.declared.call.Call.{Call}
 use Rattle.cell_types.specs.declared.call.Call.TheVariants.{Claim, Give, Yield, Take, Release, SetPose, Advance}
-use Rattle.cell_types.specs.declared.call.Call.TheVariants.{Inquire}
+use Rattle.cell_types.specs.declared.call.Call.TheVariants.{Inquire, Stop, Resume}
 use Rattle.cell_types.specs.declared.answer.Refusal.{Refusal}
 use Rattle.cell_types.specs.declared.answer.Refusal.TheVariants.{NotParty, Held, AlreadyMine, Shut, NotOwner}
 use Rattle.cell_types.specs.declared.answer.Refusal.TheVariants.{PlateInZone, NoPlate, PlaceFull, WrongWay, Jump}
-use Rattle.cell_types.specs.declared.answer.Refusal.TheVariants.{NotAtWork, NoPose, Worn, InUse}
+use Rattle.cell_types.specs.declared.answer.Refusal.TheVariants.{NotAtWork, NoPose, Worn, InUse, Stopped, NotStopped}
 use Rattle.cell_types.specs.Tables.{host_of, guest_of, transfer_of, posture_of}
 use Rattle.cell_types.specs.Everything.{all_postures}
 use Rattle.cell_types.specs.Same.{same_machine, same_zone, same_pose}
@@ -32,7 +32,7 @@ use Rattle.cell_types.specs.Refusals.{number_of}
 use Rattle.cell_rules.specs.Reply.{other_party}
 use Rattle.cell_rules.specs.RefusalLaws.{is_no_later}
 use Rattle.cell_word.specs.Patterns.{stands, anything, nothing, when, both, owner_is, flag_is, posture_is, low_differs}
-use Rattle.cell_word.specs.Patterns.{high_differs, place_is, stamp_is}
+use Rattle.cell_word.specs.Patterns.{high_differs, place_is, stamp_is, mark_is}
 use Rattle.cell_word.specs.Parties.{machine_of, opposite, is_guest}
 use Rattle.cell_word.specs.declared.parties.Party.{Party}
 use Rattle.cell_word.specs.declared.patterns.Pattern.{Pattern}
@@ -81,6 +81,13 @@ in_use m z =
 abbrev pub worn : Guard
 worn = guard (stamp_is last_stamp) Worn
 
+-- the cell is stopped, or isn't
+abbrev pub stopped : Guard
+stopped = guard (mark_is true) Stopped
+
+abbrev pub not_stopped : Guard
+not_stopped = guard (mark_is false) NotStopped
+
 abbrev pub no_plate_at : Place → Guard
 no_plate_at p = guard (place_is p false) NoPlate
 
@@ -122,6 +129,7 @@ way_guards from to = no_plate_at from ∷ no_room_at to ∷ worn ∷ []
 abbrev pub claim_guards : Machine → Zone → List Guard
 claim_guards m z =
     stranger m z
+    ∷ stopped
     ∷ guard (owner_is z (Some m)) AlreadyMine
     ∷ guard (owner_is z (Some (other_party m z))) (Held (other_party m z))
     ∷ guard (when (same_machine m (guest_of z)) (posture_is z Closed)) (Shut Closed)
@@ -152,6 +160,7 @@ ends_full (Some row) = place_is row.to true
 abbrev pub give_guards : Machine → Zone → List Guard
 give_guards m z =
     stranger m z
+    ∷ stopped
     ∷ unowned z
     ∷ anothers z (other_party m z)
     ∷ plate_in z
@@ -285,9 +294,14 @@ run_guards m p =
 abbrev pub no_pose : Option (Zone × Posture) → Guard
 no_pose one = guard (when (is_none one) anything) NoPose
 
+-- while the cell is stopped no pose may move
+abbrev pub moves_while_stopped : Pose → Guard
+moves_while_stopped p = guard (when (is_moving_pose p) (mark_is true)) Stopped
+
 abbrev pub pose_guards_at : Machine → Pose → Option (Zone × Posture) → Option (Zone × Posture) → List Guard
 pose_guards_at m p one other =
     no_pose one
+    ∷ moves_while_stopped p
     ∷ (on_posed owner_guards one
     ++ on_posed owner_guards other
     ++ on_posed plate_guards one
@@ -333,6 +347,18 @@ advance_guards Press =
     ∷ []
 advance_guards _ = guard anything NoPose ∷ []
 
+-- ---- stopping the cell, and letting it go on
+
+-- the watch alone may
+abbrev pub not_watch : Machine → Guard
+not_watch m = guard (when (not (same_machine m Watch)) anything) NotParty
+
+abbrev pub stop_guards : Machine → List Guard
+stop_guards m = not_watch m ∷ stopped ∷ worn ∷ []
+
+abbrev pub resume_guards : Machine → List Guard
+resume_guards m = not_watch m ∷ not_stopped ∷ worn ∷ []
+
 -- the guards of a machine and a call
 abbrev pub guards_of : Machine → Call → List Guard
 guards_of m (Claim z) = claim_guards m z
@@ -343,6 +369,8 @@ guards_of m (Release z) = release_guards m z
 guards_of m (SetPose p) = pose_guards m p
 guards_of m Advance = advance_guards m
 guards_of m (Inquire z) = []
+guards_of m Stop = stop_guards m
+guards_of m Resume = resume_guards m
 
 -- the numbers of the refusals of guards, and whether they are in an order
 abbrev pub numbers_of : List Guard → List ℕ

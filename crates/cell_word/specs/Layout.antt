@@ -1,5 +1,5 @@
 -- The word of a state: fields side by side, from the lowest bit up. Each zone has five bits, each place one, both in
--- their order; then the stamp has twenty. The bits above are zero.
+-- their order; then the stamp has twenty, and the mark of a stopped cell one. The bits above are zero.
 use Rattle.std.specs.Prelude.{ℕ, ◌+◌, ◌*◌, ◌^◌, List, [], ◌∷◌, ◌++◌, map, sum_by, Option, Some, None, if◌then◌else◌}
 use Rattle.std.specs.List.{flat_map}
 use Rattle.cell_types.specs.declared.machine.Machine.{Machine}
@@ -51,6 +51,10 @@ place_bit Crane = 39
 abbrev pub stamp_bit : ℕ
 stamp_bit = 40
 
+-- the bit that is set while the cell is stopped
+abbrev pub mark_bit : ℕ
+mark_bit = 60
+
 -- a zone is free, its host's, or its guest's: 0, 1 or 2
 abbrev pub owner_code : Zone → Option Machine → ℕ
 owner_code z None = 0
@@ -77,9 +81,13 @@ place_field s p = field (place_bit p) 1 (one_if (is_full s p))
 abbrev pub fields_at : ModelState → Zone → List Field
 fields_at s z = zone_fields z (zone_at s z)
 
--- the zones in order, the places in order, and then the stamp
+-- the stamp, and the mark above it
+abbrev pub last_fields : ModelState → List Field
+last_fields s = field stamp_bit 20 s.stamp ∷ field mark_bit 1 (one_if s.stopped) ∷ []
+
+-- the zones in order, the places in order, then the stamp and the mark
 abbrev pub fields_of : ModelState → List Field
-fields_of s = flat_map (fields_at s) all_zones ++ map (place_field s) all_places ++ field stamp_bit 20 s.stamp ∷ []
+fields_of s = flat_map (fields_at s) all_zones ++ map (place_field s) all_places ++ last_fields s
 
 -- what a field adds to its word
 abbrev pub term_of : Field → ℕ

@@ -5,7 +5,7 @@ use Rattle.cell_types.specs.declared.zone.Zone.{Zone}
 use Rattle.cell_types.specs.declared.place.Place.{Place}
 use Rattle.cell_types.specs.declared.posture.Posture.{Posture}
 use Rattle.cell_rules.specs.ModelState.{one_if}
-use Rattle.cell_word.specs.Layout.{zone_bit, place_bit, stamp_bit, owner_code, posture_code}
+use Rattle.cell_word.specs.Layout.{zone_bit, place_bit, stamp_bit, mark_bit, owner_code, posture_code}
 use Rattle.cell_word.specs.declared.patterns.Pattern.{Pattern}
 
 abbrev pub pattern : ℕ → ℕ → Pattern
@@ -61,3 +61,7 @@ place_is p b = field_is (place_bit p) 1 (one_if b)
 
 abbrev pub stamp_is : ℕ → Pattern
 stamp_is n = field_is stamp_bit 20 n
+
+-- the cell is stopped, or isn't
+abbrev pub mark_is : Bool → Pattern
+mark_is b = field_is mark_bit 1 (one_if b)

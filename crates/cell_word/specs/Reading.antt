@@ -13,7 +13,7 @@ use Rattle.cell_rules.specs.declared.zones.ZoneState.{ZoneState}
 use Rattle.cell_rules.specs.ZoneMap.{ZoneMap, zone_map}
 use Rattle.cell_rules.specs.PlaceSet.{PlaceSet, place_set}
 use Rattle.cell_rules.specs.ModelState.{ModelState, model_state}
-use Rattle.cell_word.specs.Layout.{zone_bit, place_bit, stamp_bit}
+use Rattle.cell_word.specs.Layout.{zone_bit, place_bit, stamp_bit, mark_bit}
 
 -- the number in some bits of a word
 abbrev pub bits_of : ℕ → ℕ → ℕ → ℕ
@@ -49,4 +49,4 @@ places_told w =
     (is_told_full w DepEnd) (is_told_full w Crane)
 
 abbrev pub state_told : ℕ → ModelState
-state_told w = model_state (zones_told w) (places_told w) (bits_of w stamp_bit 20)
+state_told w = model_state (zones_told w) (places_told w) (bits_of w stamp_bit 20) (is_bit_set w mark_bit)

@@ -51,4 +51,4 @@ is_lawful_press w =
     && not (stands w (both (posture_is Z3 OpenIn) (place_is PressOut true)))
 
 abbrev pub is_state_word : ℕ → Bool
-is_state_word w = stands w (field_is 60 4 0) && list_all (is_lawful_zone w) all_zones && is_lawful_press w
+is_state_word w = stands w (field_is 61 3 0) && list_all (is_lawful_zone w) all_zones && is_lawful_press w

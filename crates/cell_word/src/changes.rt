@@ -1,17 +1,19 @@
 //! The bits that a Done call writes.
-ghost use Rattle.std.specs.Prelude.{◌≡◌, ◌≢◌, ◌+◌, ◌<◌, ◌^◌, Some};
+ghost use Rattle.std.specs.Prelude.{◌≡◌, ◌≢◌, ◌+◌, ◌<◌, ◌^◌, Some, IsTrue};
 ghost use Rattle.cell_types.specs.declared.answer.Answer.TheVariants.{Done};
 ghost use Rattle.cell_rules.specs.ModelState.{ModelState};
 ghost use Rattle.cell_rules.specs.Sound.{IsSound};
 ghost use Rattle.cell_rules.specs.Reply.{reply, next};
+ghost use Rattle.cell_rules.specs.FirstVersion.{has_call};
 ghost use Rattle.cell_word.specs.Layout.{packed};
 ghost use Rattle.cell_word.specs.Patterns.{with_written};
+ghost use Rattle.cell_word.specs.Laws.{IsOffStamp};
 ghost use Rattle.cell_types.specs.declared.call.Call.TheVariants as calls;
 ghost use Rattle.cell_word.specs.Changes as changes;
 ghost use Rattle.cell_word.specs.Parties as parties;
 
 use crate::parties::{Party, party_of, row_given, row_received};
-use crate::patterns::Pattern;
+use crate::patterns::{Pattern, mark_pattern};
 use crate::pose_guards::{hosted_zones, posed_at};
 use cell_types::{Call, Machine, Place, Pose, Posture, Transfer, Zone, own_move};
 
@@ -95,6 +97,18 @@ fn pose_pattern(machine: Machine, pose: Pose) -> Pattern
     )))
 }
 
+/// What the watch writes to stop the cell, or to let it go on; no other machine does.
+#[inline(always)]
+fn mark_becomes(machine: Machine, stopped: bool) -> Pattern
+    ensures { result ≡ changes.mark_becomes machine stopped }
+{
+    if machine == Machine::Watch {
+        mark_pattern(stopped)
+    } else {
+        Pattern::ANYTHING
+    }
+}
+
 /// What a call of a machine writes.
 fn written_by(machine: Machine, call: Call) -> Pattern
     ensures { result ≡ changes.written machine call }
@@ -123,6 +137,8 @@ fn written_by(machine: Machine, call: Call) -> Pattern
         Call::SetPose(pose) => pose_pattern(machine, pose),
         Call::Advance => advance_pattern(machine),
         Call::Inquire(_) => Pattern::ANYTHING,
+        Call::Stop => mark_becomes(machine, true),
+        Call::Resume => mark_becomes(machine, false),
     }
 }
 
@@ -132,7 +148,8 @@ pub fn masks(machine: Machine, call: Call) -> (u64, u64)
     ensures change { (state : ModelState) → IsSound state → reply state machine call ≡ Done
         → packed (next state machine call)
         ≡ with_written (packed state) result.0 result.1 + 2 ^ 40 }
-    ensures below_stamp { (result.0 < 2 ^ 40) × (result.1 < 2 ^ 40) }
+    ensures off_stamp { IsOffStamp result.0 × IsOffStamp result.1 }
+    ensures below_stamp { IsTrue (has_call call) → (result.0 < 2 ^ 40) × (result.1 < 2 ^ 40) }
     ensures never { ((state : ModelState) → IsSound state → reply state machine call ≢ Done)
         → result ≡ (0, 0) }
 {

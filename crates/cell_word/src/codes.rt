@@ -9,6 +9,9 @@ use cell_types::{Machine, Place, Posture, Zone, guest, host};
 /// The lowest bit of the stamp.
 pub const STAMP_BIT: u32 = 40;
 
+/// The bit that is set while the cell is stopped.
+pub const MARK_BIT: u32 = 60;
+
 /// The lowest of the five bits of a zone.
 #[inline(always)]
 pub fn zone_bit(zone: Zone) -> u32

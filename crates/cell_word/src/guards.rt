@@ -1,13 +1,14 @@
 //! The guards of the calls about a zone, in the order of the refusals, and what the calls write.
 ghost use Rattle.std.specs.Prelude.{◌≡◌, ℕ, ◌∷◌, [], Some, IfOk};
 ghost use Rattle.cell_types.specs.declared.call.Call.TheVariants as calls;
+ghost use Rattle.cell_types.specs.declared.machine.Machine.TheVariants as machines;
 ghost use Rattle.cell_word.specs.Guards as guards;
 ghost use Rattle.cell_word.specs.Changes as changes;
 ghost use Rattle.cell_word.specs.Parties as parties;
 
 use crate::changes::{give_pattern, take_pattern};
 use crate::parties::{Party, ZoneBits, party_of, row_given};
-use crate::patterns::{Guard, Pattern};
+use crate::patterns::{Guard, Pattern, mark_pattern};
 use crate::pose_guards::{advance, set_pose};
 use cell_rules::LAST_STAMP;
 use cell_types::{Call, Machine, Place, Posture, Refusal, Transfer, Zone};
@@ -24,6 +25,14 @@ pub(crate) fn no_room_guard(place: Place) -> Guard
     ensures { result ≡ guards.no_room_at place }
 {
     Pattern::place(place, true).refuses(Refusal::PlaceFull)
+}
+
+/// The cell must not be stopped.
+#[inline(always)]
+fn require_running(word: u64) -> Result<(), Refusal>
+    ensures { result ≡ guards.checked word (guards.stopped ∷ []) }
+{
+    mark_pattern(true).refuses(Refusal::Stopped).pass(word)
 }
 
 /// The caller has to be a party of the zone. Returns which one it is.
@@ -151,6 +160,7 @@ fn claim(word: u64, machine: Machine, zone: Zone) -> Result<Pattern, Refusal>
         (changes.written machine (calls.Claim zone)) }
 {
     let party = require_party(machine, zone)?;
+    require_running(word)?;
     let at = ZoneBits { word, zone };
     require_free(at, party)?;
     require_open_to(at, party)?;
@@ -184,6 +194,7 @@ fn give(word: u64, machine: Machine, zone: Zone) -> Result<Pattern, Refusal>
         (changes.written machine (calls.Give zone)) }
 {
     let party = require_party(machine, zone)?;
+    require_running(word)?;
     let at = ZoneBits { word, zone };
     require_held_and_clear(at, party)?;
     let row = require_giving(at, party)?;
@@ -231,6 +242,50 @@ fn release(word: u64, machine: Machine, zone: Zone) -> Result<Pattern, Refusal>
     Ok(Pattern::owner(zone, None))
 }
 
+/// The caller has to be the watch.
+#[inline(always)]
+fn require_watch(machine: Machine) -> Result<(), Refusal>
+    ensures stranger { (word : ℕ)
+        → result ≡ guards.checked word (guards.not_watch machine ∷ []) }
+    ensures watch { IfOk result (λ _. machine ≡ machines.Watch) }
+{
+    if machine == Machine::Watch {
+        Ok(())
+    } else {
+        Err(Refusal::NotParty)
+    }
+}
+
+/// The cell has to be stopped.
+#[inline(always)]
+fn require_stopped(word: u64) -> Result<(), Refusal>
+    ensures { result ≡ guards.checked word (guards.not_stopped ∷ []) }
+{
+    mark_pattern(false).refuses(Refusal::NotStopped).pass(word)
+}
+
+#[inline(always)]
+fn stop(word: u64, machine: Machine) -> Result<Pattern, Refusal>
+    ensures { result ≡ guards.unless (guards.first_refusal word (guards.stop_guards machine))
+        (changes.written machine calls.Stop) }
+{
+    require_watch(machine)?;
+    require_running(word)?;
+    worn_guard().pass(word)?;
+    Ok(mark_pattern(true))
+}
+
+#[inline(always)]
+fn resume(word: u64, machine: Machine) -> Result<Pattern, Refusal>
+    ensures { result ≡ guards.unless (guards.first_refusal word (guards.resume_guards machine))
+        (changes.written machine calls.Resume) }
+{
+    require_watch(machine)?;
+    require_stopped(word)?;
+    worn_guard().pass(word)?;
+    Ok(mark_pattern(false))
+}
+
 /// What a call writes into a word, or the refusal of the first of its guards that refuses the word.
 #[inline(always)]
 pub(crate) fn check(word: u64, machine: Machine, call: Call) -> Result<Pattern, Refusal>
@@ -246,5 +301,7 @@ pub(crate) fn check(word: u64, machine: Machine, call: Call) -> Result<Pattern, 
         Call::SetPose(pose) => set_pose(word, machine, pose),
         Call::Advance => advance(word, machine),
         Call::Inquire(_) => Ok(Pattern::ANYTHING),
+        Call::Stop => stop(word, machine),
+        Call::Resume => resume(word, machine),
     }
 }

@@ -10,8 +10,8 @@ ghost use Rattle.cell_word.specs.Layout.{packed};
 ghost use Rattle.cell_word.specs.Guards.{first_refusal, guards_of, numbers_of, is_ordered};
 ghost use Rattle.cell_word.specs.Laws.{IsLaidOut};
 
-/// The fields of a sound state fill the bits 0 to 59 of its word, side by side and without overlap.
-/// Each value fits its width and reads back, and the word is below 2 to the 60.
+/// The fields of a sound state fill the bits 0 to 60 of its word, side by side and without overlap.
+/// Each value fits its width and reads back, and the word is below 2 to the 61.
 pub fn word_is_laid_out()
     ensures { (state : ModelState) → IsSound state → IsLaidOut state }
 {}

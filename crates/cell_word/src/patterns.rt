@@ -4,7 +4,7 @@ ghost use Rattle.cell_word.specs.Patterns as patterns;
 ghost use Rattle.cell_word.specs.Guards as guards;
 ghost use Rattle.cell_word.specs.Parties as parties;
 
-use crate::codes::{STAMP_BIT, owner_code, place_bit, posture_code, zone_bit};
+use crate::codes::{MARK_BIT, STAMP_BIT, owner_code, place_bit, posture_code, zone_bit};
 use crate::parties::Party;
 use cell_types::{Machine, Place, Posture, Refusal, Zone};
 
@@ -121,6 +121,14 @@ impl Pattern {
             refusal,
         }
     }
+}
+
+/// The cell is stopped, or isn't.
+#[inline(always)]
+pub(crate) fn mark_pattern(stopped: bool) -> Pattern
+    ensures { result ≡ patterns.mark_is stopped }
+{
+    Pattern::field(MARK_BIT, 1, u64::from(stopped))
 }
 
 /// What refuses a call: a pattern, and the refusal of the words that match it.

@@ -10,7 +10,7 @@ ghost use Rattle.cell_word.specs.Guards as guards;
 use crate::changes::{advance_pattern, posture_pattern};
 use crate::guards::{no_room_guard, require_clear, require_held, require_movable, worn_guard};
 use crate::parties::{Party, ZoneBits};
-use crate::patterns::Pattern;
+use crate::patterns::{Pattern, mark_pattern};
 use cell_types::{Machine, Place, Pose, Posture, Refusal, Zone, host, posture_in, transfer};
 
 /// The zones that a machine hosts.
@@ -182,6 +182,16 @@ fn require_pose(posed: Option<(Zone, Posture)>) -> Result<(), Refusal>
     }
 }
 
+/// While the cell is stopped no pose may move.
+fn require_running_to_move(word: u64, pose: Pose) -> Result<(), Refusal>
+    ensures { result ≡ guards.checked word (guards.moves_while_stopped pose ∷ []) }
+{
+    if mark_pattern(true).stands_in(word) && is_moving_pose(pose) {
+        return Err(Refusal::Stopped);
+    }
+    Ok(())
+}
+
 /// The zones that get another posture have to be their host's, and free of plates.
 #[inline(always)]
 fn require_owned_clear_zones(
@@ -223,7 +233,8 @@ fn require_allowed_pose(
     require_end_clear_to_run(word, machine, pose)
 }
 
-#[inline(always)]
+// `always` would be dropped from a function of this size.
+#[inline]
 fn set_pose_of(word: u64, machine: Machine, pose: Pose) -> Result<Pattern, Refusal>
     ensures { result ≡ guards.unless (guards.first_refusal word (guards.pose_guards machine pose))
         (changes.written machine (calls.SetPose pose)) }
@@ -232,6 +243,7 @@ fn set_pose_of(word: u64, machine: Machine, pose: Pose) -> Result<Pattern, Refus
     let one = posed_at(machine, pose, one);
     let other = posed_at(machine, pose, other);
     require_pose(one)?;
+    require_running_to_move(word, pose)?;
     require_owned_clear_zones(word, one, other)?;
     require_allowed_pose(word, machine, pose, one, other)?;
     worn_guard().pass(word)?;

@@ -77,11 +77,11 @@ fn are_lawful_zones(word: u64) -> bool
     Zone::ALL.iter().all(|zone| is_lawful_zone(word, *zone))
 }
 
-/// Whether the bits above the stamp, the zones and the press are as the masks allow.
+/// Whether the bits above the mark, the zones and the press are as the masks allow.
 fn keeps_masks(word: u64) -> bool
     ensures { result ≡ words.is_state_word word }
 {
-    Pattern::field(60, 4, 0).stands_in(word) && are_lawful_zones(word) && is_lawful_press(word)
+    Pattern::field(61, 3, 0).stands_in(word) && are_lawful_zones(word) && is_lawful_press(word)
 }
 
 /// Whether a word is a sound state's.

@@ -8,7 +8,8 @@ ghost use Rattle.cell_word.specs.Reading.{state_told};
 
 use crate::bits::{bits, with_bits};
 use crate::codes::{
-    STAMP_BIT, owner_code, owner_of_code, place_bit, posture_code, posture_of_code, zone_bit,
+    MARK_BIT, STAMP_BIT, owner_code, owner_of_code, place_bit, posture_code, posture_of_code,
+    zone_bit,
 };
 use cell_rules::{Places, State, ZoneState, Zones};
 use cell_types::{Place, Zone};
@@ -37,7 +38,7 @@ fn with_place(word: u64, place: Place, full: bool) -> u64
 /// The word of a state. From the lowest bit on each zone has five bits, in the order of the zones:
 /// two for its owner (0 free, 1 the host, 2 the guest), one for its flag, two for its posture
 /// (Closed 0, Moving 1, OpenIn 2, OpenOut 3). The bits 30 to 39 are the places in their order, the
-/// bits 40 to 59 the stamp, and the bits 60 to 63 are zero.
+/// bits 40 to 59 the stamp, bit 60 is set while the cell is stopped, and bits 61 to 63 are zero.
 pub fn pack(state: &State) -> u64
     ensures { result ≡ packed state.now }
 {
@@ -48,7 +49,8 @@ pub fn pack(state: &State) -> u64
     for place in Place::ALL {
         word = with_place(word, place, state.is_full(place));
     }
-    with_bits(word, STAMP_BIT, 20, u64::from(state.stamp()))
+    let word = with_bits(word, STAMP_BIT, 20, u64::from(state.stamp()));
+    with_bits(word, MARK_BIT, 1, u64::from(state.stopped()))
 }
 
 pub(crate) fn zone_told(word: u64, zone: Zone) -> ZoneState
@@ -93,10 +95,11 @@ fn sound_state_told(word: u64) -> Option<State>
     ensures some { IsSome result ↔ IsSound (state_told word) }
     ensures value { IfSome result (λ state. state ≡ state_told word) }
 {
-    State::checked(zones_told(word), places_told(word), stamp_of(word))
+    let stopped = bits(word, MARK_BIT, 1) == 1;
+    State::checked(zones_told(word), places_told(word), stamp_of(word), stopped)
 }
 
-/// The sound state that packs to a word, or `None` if there is none: a bit above the stamp is set,
+/// The sound state that packs to a word, or `None` if there is none: a bit above the mark is set,
 /// an owner has the spare code 3, or the encoded state isn't sound.
 pub fn unpack(word: u64) -> Option<State>
     ensures some { (state : ModelState)

@@ -25,6 +25,10 @@ const IDLE: Answer = Answer::Refused(Refusal::NotAtWork);
 
 const SHUT: Answer = Answer::Refused(Refusal::Shut(Posture::Closed));
 
+const STOPPED: Answer = Answer::Refused(Refusal::Stopped);
+
+const NOT_STOPPED: Answer = Answer::Refused(Refusal::NotStopped);
+
 const STRANGER: Answer = Answer::Refused(Refusal::NotParty);
 
 const WORN: Answer = Answer::Refused(Refusal::Worn);
@@ -165,6 +169,69 @@ const WORN_LATE: &[Taken] = &[
         Machine::Table,
         Step::Attempt,
         Outcome::Settled(WORN, 1_048_575),
+    ),
+];
+
+// The stop comes between a look and its exchange.
+const STOPPED_LATE: &[Taken] = &[
+    (Machine::Press, Step::Look(CLAIM_3), Outcome::Pending),
+    (Machine::Watch, Step::Ask(Call::Stop), DONE_1),
+    (Machine::Press, Step::Attempt, Outcome::Settled(STOPPED, 1)),
+];
+
+// While the cell is stopped a machine may leave its zone, but not go on.
+const LEFT_WHILE_STOPPED: &[Taken] = &[
+    PRESS_CLAIMS,
+    (Machine::Watch, Step::Ask(Call::Stop), DONE_2),
+    (
+        Machine::Press,
+        Step::Ask(Call::SetPose(Pose::Travelling)),
+        Outcome::Settled(STOPPED, 2),
+    ),
+    (Machine::Press, Step::Ask(RELEASE_3), DONE_3),
+    (
+        Machine::Press,
+        Step::Look(CLAIM_3),
+        Outcome::Settled(STOPPED, 3),
+    ),
+    (
+        Machine::Press,
+        Step::Ask(Call::Resume),
+        Outcome::Settled(STRANGER, 3),
+    ),
+    (
+        Machine::Watch,
+        Step::Ask(Call::Stop),
+        Outcome::Settled(STOPPED, 3),
+    ),
+    (Machine::Watch, Step::Ask(Call::Resume), DONE_4),
+    (
+        Machine::Watch,
+        Step::Ask(Call::Resume),
+        Outcome::Settled(NOT_STOPPED, 4),
+    ),
+    (Machine::Press, Step::Ask(CLAIM_3), DONE_5),
+];
+
+// A stop that was lifted again refuses nothing, but the exchange is lost.
+const RESUMED_BETWEEN: &[Taken] = &[
+    TABLE_LOOKS,
+    (Machine::Watch, Step::Ask(Call::Stop), DONE_1),
+    (Machine::Watch, Step::Ask(Call::Resume), DONE_2),
+    TABLE_LOSES,
+    (Machine::Table, Step::Attempt, DONE_3),
+];
+
+// A stop may lose exchanges, too.
+const STOP_LOST_ONCE: &[Taken] = &[
+    (Machine::Watch, Step::Look(Call::Stop), Outcome::Pending),
+    PRESS_CLAIMS,
+    (Machine::Watch, Step::Attempt, Outcome::Lost),
+    (Machine::Watch, Step::Attempt, DONE_2),
+    (
+        Machine::Table,
+        Step::Ask(CLAIM_1),
+        Outcome::Settled(STOPPED, 2),
     ),
 ];
 
@@ -422,6 +489,10 @@ const ROWS: &[(&str, u8, u32, &[Taken])] = &[
     ("both pending", 1, 0, BOTH_PENDING),
     ("free again", 2, 0, FREE_AGAIN),
     ("worn late", 1, 1_048_574, WORN_LATE),
+    ("stopped late", 1, 0, STOPPED_LATE),
+    ("left while stopped", 1, 0, LEFT_WHILE_STOPPED),
+    ("resumed between", 2, 0, RESUMED_BETWEEN),
+    ("stop lost once", 2, 0, STOP_LOST_ONCE),
     ("undisturbed", 1, 0, UNDISTURBED),
     ("left alone", 1, 0, LEFT_ALONE),
     ("refused between", 2, 0, REFUSED_BETWEEN),

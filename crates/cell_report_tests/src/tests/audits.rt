@@ -171,6 +171,35 @@ const ROWS: &[Row] = &[
         &[PRESS_CLAIMS],
         Some(AuditFault::Differs(1)),
     ),
+    // While the watch has stopped the cell, a claim is refused.
+    (0, &STOPPED, &[WATCH_RESUMES, CLAIMS_AGAIN], None),
+    (
+        0,
+        &STOPPED,
+        &[(Machine::Press, Call::Claim(Zone::Z3), DONE, 2)],
+        Some(AuditFault::Differs(2)),
+    ),
+    (
+        0,
+        &[
+            WATCH_STOPS,
+            (Machine::Press, Call::Claim(Zone::Z3), DONE, 2),
+        ],
+        &[],
+        Some(AuditFault::Differs(2)),
+    ),
+    (
+        0,
+        &[WATCH_RESUMES],
+        &[PRESS_CLAIMS],
+        Some(AuditFault::Differs(2)),
+    ),
+    (
+        0,
+        &[(Machine::Press, Call::Stop, DONE, 1)],
+        &[],
+        Some(AuditFault::Differs(1)),
+    ),
     // There is nothing before the start.
     (7, &[CRANE_ASKS], &[], None),
     (
@@ -194,6 +223,23 @@ const ROWS: &[Row] = &[
 
 /// The press claims its zone and releases it; between the two the table claims its own.
 const THREE: [Note; 3] = [PRESS_CLAIMS, PRESS_RELEASES, TABLE_CLAIMS];
+
+const WATCH_STOPS: Note = (Machine::Watch, Call::Stop, DONE, 1);
+
+const WATCH_RESUMES: Note = (Machine::Watch, Call::Resume, DONE, 2);
+
+const CLAIMS_AGAIN: Note = (Machine::Press, Call::Claim(Zone::Z3), DONE, 3);
+
+/// The watch stops the cell, and the press's claim is refused.
+const STOPPED: [Note; 2] = [
+    WATCH_STOPS,
+    (
+        Machine::Press,
+        Call::Claim(Zone::Z3),
+        Answer::Refused(Refusal::Stopped),
+        1,
+    ),
+];
 
 /// The journal of a machine.
 pub fn journal_mut(journals: &mut Journals, machine: Machine) -> &mut Vec<Entry> {
@@ -309,21 +355,37 @@ fn puts_machines_in_order(rt: HostRuntime) {
 }
 
 #[test]
+fn compares_the_mark_of_the_end(rt: HostRuntime) {
+    let start = start_at(&rt, EMPTY, 0);
+    let journals = journals_of(&rt, rt.alloc(), &STOPPED, &[]);
+    for (stopped, fault) in [(true, None), (false, Some(AuditFault::End))] {
+        let end = State::checked(start.zones(), start.full(), 1, stopped).expect(&rt, "an end");
+        let got = fault_of(rt.alloc(), &journals, &start, Some(&end));
+        assert!(rt; got == fault, "{fault:?}");
+    }
+}
+
+#[test]
 fn compares_the_end_whole(rt: HostRuntime) {
     let start = start_at(&rt, EMPTY, 0);
     let journals = journals_of(&rt, rt.alloc(), &THREE, &[]);
     let end = end_of_three_calls(&start);
     let mut full = end.full();
     full.set(Place::Crane, true);
-    let late = State::checked(start.zones(), start.full(), 3).expect(&rt, "the start's zones");
-    let later = State::checked(start.zones(), start.full(), 5).expect(&rt, "a later one");
-    let fuller = State::checked(end.zones(), full, 3).expect(&rt, "one plate more");
+    let late = State::checked(start.zones(), start.full(), 3, false).expect(
+        &rt,
+        "the start's zones",
+    );
+    let later = State::checked(start.zones(), start.full(), 5, false).expect(&rt, "a later one");
+    let fuller = State::checked(end.zones(), full, 3, false).expect(&rt, "one plate more");
+    let stopped = State::checked(end.zones(), end.full(), 3, true).expect(&rt, "a stopped one");
     for (end, fault) in [
         (&end, None),
         (&late, Some(AuditFault::End)),
         (&start, Some(AuditFault::End)),
         (&later, Some(AuditFault::Gap(4))),
         (&fuller, Some(AuditFault::End)),
+        (&stopped, Some(AuditFault::End)),
     ] {
         let got = fault_of(rt.alloc(), &journals, &start, Some(end));
         assert!(rt; got == fault, "{fault:?}");

@@ -88,6 +88,22 @@ const REFUSED: &[(&str, &str, Outcome)] = &[
         "0 0 start 0\n1 1 done\n2 2 done\n3 3 done\n4 3 wrongway\n5 3 nopose\n6 3 notparty\n7 3 already\nfault badrow 8\n",
         Outcome::Refused(ScriptFault::BadRow(8)),
     ),
+    // A script doesn't stop the cell.
+    (
+        "start,0000000000\nwatch,stop\n",
+        "0 0 start 0\nfault badrow 1\n",
+        Outcome::Refused(ScriptFault::BadRow(1)),
+    ),
+    (
+        "start,0000000000\nwatch,inquire,z3\nwatch,resume\n",
+        "0 0 start 0\n1 0 zone free 0 closed\nfault badrow 2\n",
+        Outcome::Refused(ScriptFault::BadRow(2)),
+    ),
+    (
+        "start,0000000000\npress,stop\n",
+        "0 0 start 0\nfault badrow 1\n",
+        Outcome::Refused(ScriptFault::BadRow(1)),
+    ),
 ];
 
 // Through every zone and every pose, along every way of a plate.

@@ -1,48 +1,7 @@
-use Rattle.std.proofs.Common.{◌≡◌, List, ℕ, Option, None, Some, sym, arith, rules, option_map, Bor}
+use Rattle.std.proofs.Common.{rules, tests}
 use Rattle.csv.specs.Records.{fields_of}
-use Rattle.cell_replay.proofs.Requests.{read_alone, read_empty, read_long, read_other, read_whole, same_request}
+use Rattle.cell_replay.proofs.Requests.{first_version-same}
 use Rattle.cell_replay.proofs.request.read_request.Goals as goal
 
-pub returns-then-len-gt3-clause-written : goal.returns-then-len-gt3-clause-written
-returns-then-len-gt3-clause-written c = read_long (fields_of c.args.row.now) (omega arith)
-
-pub returns-then-len-gt3-clause-same : goal.returns-then-len-gt3-clause-same
-returns-then-len-gt3-clause-same c = same_request (fields_of c.args.row.now) None (read_long (fields_of c.args.row.now) (omega arith))
-
-pub returns-in_err-get : goal.returns-in_err-get
-returns-in_err-get c =
-    let fields = fields_of c.args.row.now in
-    let none : c.from_residual.result ≡ None = search rules in
-    let written = read_empty fields (sym c.in_err-get.ensures.value) in
-    rw none (record { written = written; same = same_request fields None written })
-
-pub returns-in_err-machine : goal.returns-in_err-machine
-returns-in_err-machine c =
-    let fields = fields_of c.args.row.now in
-    let none : c.from_residual-in_err-machine.result ≡ None = search rules in
-    let written = read_other fields c.in_ok-get.field-0.now (sym c.in_ok-get.ensures.value) c.in_err-machine.ensures in
-    rw none (record { written = written; same = same_request fields None written })
-
-pub returns-in_err-get-2 : goal.returns-in_err-get-2
-returns-in_err-get-2 c =
-    let fields = fields_of c.args.row.now in
-    let none : c.from_residual-in_err-get-2.result ≡ None = search rules in
-    let written = read_alone fields (sym c.in_err-get-2.ensures.value) in
-    rw none (record { written = written; same = same_request fields None written })
-
-pub returns-in_err-call : goal.returns-in_err-call
-returns-in_err-call c =
-    let fields = fields_of c.args.row.now in
-    let none : c.from_residual-in_err-call.result ≡ None = search rules in
-    let object : Option (List ℕ) = option_map (λ (s : Bor (List ℕ)). s.now) c.get-3.result in
-    let written = read_whole fields c.in_ok-get.field-0.now c.in_ok-get-2.field-0.now object c.in_ok-machine.machine None (omega arith) (sym c.in_ok-get.ensures.value) (sym c.in_ok-get-2.ensures.value) c.get-3.ensures.value
-    c.in_ok-machine.ensures c.in_err-call.ensures in
-    rw none (record { written = written; same = same_request fields None written })
-
-pub returns : goal.returns
-returns c =
-    let fields = fields_of c.args.row.now in
-    let object : Option (List ℕ) = option_map (λ (s : Bor (List ℕ)). s.now) c.get-3.result in
-    let written = read_whole fields c.in_ok-get.field-0.now c.in_ok-get-2.field-0.now object c.in_ok-machine.machine (Some c.in_ok-call.call) (omega arith) (sym c.in_ok-get.ensures.value) (sym c.in_ok-get-2.ensures.value) c.get-3.ensures.value
-    c.in_ok-machine.ensures c.in_ok-call.ensures in
-    record { written = written; same = same_request fields _ written }
+pub returns-clause-same : goal.returns-clause-same
+returns-clause-same c = first_version-same _ (fields_of c.args.row.now) c.read_any_request.result c.filter.result c.read_any_request.ensures (λ x b says. search (rules, tests)) c.filter.ensures

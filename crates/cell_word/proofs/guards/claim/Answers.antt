@@ -21,7 +21,8 @@ use Rattle.cell_word.proofs.guards.claim.Goals.{In_ok-party}
 -- the parts of the row after its first guard
 abbrev rest : Zone → Machine → Machine → Bool → List (List Guard)
 rest z m o is_guest =
-    (guard (owner_is z (Some m)) AlreadyMine ∷ guard (owner_is z (Some o)) (Held o) ∷ [])
+    (guards.stopped ∷ [])
+    ∷ (guard (owner_is z (Some m)) AlreadyMine ∷ guard (owner_is z (Some o)) (Held o) ∷ [])
     ∷ (guard (when is_guest (posture_is z Closed)) (Shut Closed) ∷ guard (when is_guest (posture_is z Moving)) (Shut Moving) ∷ [])
     ∷ (guards.worn ∷ [])
     ∷ []
@@ -52,11 +53,19 @@ returns-in_err-party c =
     (by_parts c.args.word (parts c.args.machine c.args.zone) (written c.args.machine (Claim c.args.zone))
     ∙ stop (c.require_party.ensures.stranger c.args.word ∙ ap went_on c.in_err-party.was) _)
 
+pub returns-in_err-require_running : goal.returns-in_err-require_running
+returns-in_err-require_running c =
+    refused _ c.in_err-require_running.field-0.0 c.from_residual-in_err-require_running.ensures.1
+    ∙ sym
+    (row_at (goal.at.returns-in_err-require_running c).In_ok-party
+    ∙ stop (sym c.require_running.ensures ∙ c.in_err-require_running.was) _)
+
 pub returns-in_err-require_free : goal.returns-in_err-require_free
 returns-in_err-require_free c =
     refused _ c.in_err-require_free.field-0.0 c.from_residual-in_err-require_free.ensures.1
     ∙ sym
     (row_at (goal.at.returns-in_err-require_free c).In_ok-party
+    ∙ go (sym c.require_running.ensures ∙ c.in_ok-require_running.was)
     ∙ stop (sym c.require_free.ensures ∙ c.in_err-require_free.was) _)
 
 pub returns-in_err-require_open_to : goal.returns-in_err-require_open_to
@@ -64,6 +73,7 @@ returns-in_err-require_open_to c =
     refused _ c.in_err-require_open_to.field-0.0 c.from_residual-in_err-require_open_to.ensures.1
     ∙ sym
     (row_at (goal.at.returns-in_err-require_open_to c).In_ok-party
+    ∙ go (sym c.require_running.ensures ∙ c.in_ok-require_running.was)
     ∙ go (sym c.require_free.ensures ∙ c.in_ok-require_free.was)
     ∙ stop (sym c.require_open_to.ensures ∙ c.in_err-require_open_to.was) _)
 
@@ -72,6 +82,7 @@ returns-in_err-pass c =
     refused _ c.in_err-pass.field-0.0 c.from_residual-in_err-pass.ensures.1
     ∙ sym
     (row_at (goal.at.returns-in_err-pass c).In_ok-party
+    ∙ go (sym c.require_running.ensures ∙ c.in_ok-require_running.was)
     ∙ go (sym c.require_free.ensures ∙ c.in_ok-require_free.was)
     ∙ go (sym c.require_open_to.ensures ∙ c.in_ok-require_open_to.was)
     ∙ stop (ap (λ g. checked c.args.word (g ∷ [])) (sym c.worn_guard.ensures) ∙ sym c.pass.ensures ∙ c.in_err-pass.was) _)
@@ -85,6 +96,7 @@ returns c =
     ap Ok (c.owned_by.ensures ∙ ap (λ m. owner_is z (Some m)) (sym party) ∙ sym (owner_by m z s (Some m) party))
     ∙ sym
     (row_at (goal.at.returns c).In_ok-party
+    ∙ go (sym c.require_running.ensures ∙ c.in_ok-require_running.was)
     ∙ go (sym c.require_free.ensures ∙ c.in_ok-require_free.was)
     ∙ go (sym c.require_open_to.ensures ∙ c.in_ok-require_open_to.was)
     ∙ go (ap (λ g. checked c.args.word (g ∷ [])) (sym c.worn_guard.ensures) ∙ sym c.pass.ensures ∙ c.in_ok-pass.was))

@@ -19,7 +19,8 @@ use Rattle.cell_word.proofs.guards.give.Goals.{In_ok-party}
 -- the parts of the row after its first guard
 abbrev rest : Machine → Zone → Machine → Option Transfer → List (List Guard)
 rest m z o row =
-    (guards.unowned z ∷ guards.anothers z o ∷ guards.plate_in z ∷ [])
+    (guards.stopped ∷ [])
+    ∷ (guards.unowned z ∷ guards.anothers z o ∷ guards.plate_in z ∷ [])
     ∷ map (guards.wrong_way m z) all_postures
     ∷ (guard (guards.starts_empty row) NoPlate ∷ guard (guards.ends_full row) PlaceFull ∷ guards.worn ∷ [])
     ∷ []
@@ -46,11 +47,19 @@ returns-in_err-party c =
     (by_parts c.args.word (parts c.args.machine c.args.zone) (changes.written c.args.machine (Give c.args.zone))
     ∙ stop (c.require_party.ensures.stranger c.args.word ∙ ap went_on c.in_err-party.was) _)
 
+pub returns-in_err-require_running : goal.returns-in_err-require_running
+returns-in_err-require_running c =
+    refused _ c.in_err-require_running.field-0.0 c.from_residual-in_err-require_running.ensures.1
+    ∙ sym
+    (row_at (goal.at.returns-in_err-require_running c).In_ok-party
+    ∙ stop (sym c.require_running.ensures ∙ c.in_err-require_running.was) _)
+
 pub returns-in_err-require_held_and_clear : goal.returns-in_err-require_held_and_clear
 returns-in_err-require_held_and_clear c =
     refused _ c.in_err-require_held_and_clear.field-0.0 c.from_residual-in_err-require_held_and_clear.ensures.1
     ∙ sym
     (row_at (goal.at.returns-in_err-require_held_and_clear c).In_ok-party
+    ∙ go (sym c.require_running.ensures ∙ c.in_ok-require_running.was)
     ∙ stop (sym c.require_held_and_clear.ensures ∙ c.in_err-require_held_and_clear.was) _)
 
 pub returns-in_err-row : goal.returns-in_err-row
@@ -58,6 +67,7 @@ returns-in_err-row c =
     refused _ c.in_err-row.field-0.0 c.from_residual-in_err-row.ensures.1
     ∙ sym
     (row_at (goal.at.returns-in_err-row c).In_ok-party
+    ∙ go (sym c.require_running.ensures ∙ c.in_ok-require_running.was)
     ∙ go (sym c.require_held_and_clear.ensures ∙ c.in_ok-require_held_and_clear.was)
     ∙ stop (ap (λ m. checked c.args.word (map (guards.wrong_way m c.args.zone) all_postures)) c.in_ok-party.ensures.party ∙ c.require_giving.ensures.way ∙ ap went_on c.in_err-row.was) _)
 
@@ -68,6 +78,7 @@ returns-in_err-require_movable c =
     ∙ sym
     (row_at (goal.at.returns-in_err-require_movable c).In_ok-party
     ∙ ap (λ row. part_by_part c.args.word (rest c.args.machine c.args.zone (machine_of c.args.zone (opposite c.in_ok-party.party)) row) (changes.written c.args.machine (Give c.args.zone))) row_given
+    ∙ go (sym c.require_running.ensures ∙ c.in_ok-require_running.was)
     ∙ go (sym c.require_held_and_clear.ensures ∙ c.in_ok-require_held_and_clear.was)
     ∙ go (ap (λ m. checked c.args.word (map (guards.wrong_way m c.args.zone) all_postures)) c.in_ok-party.ensures.party ∙ c.require_giving.ensures.way ∙ ap went_on c.in_ok-row.was)
     ∙ stop (sym c.require_movable.ensures ∙ c.in_err-require_movable.was) _)
@@ -81,6 +92,7 @@ returns c =
     ∙ sym
     (row_at (goal.at.returns c).In_ok-party
     ∙ ap (λ row. part_by_part c.args.word (rest c.args.machine z (machine_of c.args.zone (opposite c.in_ok-party.party)) row) (changes.written c.args.machine (Give c.args.zone))) row_given
+    ∙ go (sym c.require_running.ensures ∙ c.in_ok-require_running.was)
     ∙ go (sym c.require_held_and_clear.ensures ∙ c.in_ok-require_held_and_clear.was)
     ∙ go (ap (λ m. checked c.args.word (map (guards.wrong_way m c.args.zone) all_postures)) c.in_ok-party.ensures.party ∙ c.require_giving.ensures.way ∙ ap went_on c.in_ok-row.was)
     ∙ go (sym c.require_movable.ensures ∙ c.in_ok-require_movable.was))

@@ -18,6 +18,7 @@ use Rattle.cell_word.proofs.pose_guards.set_pose_of.Goals.{After-posed_at-other}
 abbrev parts : Machine → Pose → Option (Zone × Posture) → Option (Zone × Posture) → List (List Guard)
 parts m p one other =
     (guard (when (is_none one) anything) NoPose ∷ [])
+    ∷ (guards.moves_while_stopped p ∷ [])
     ∷ (guards.on_posed guards.owner_guards one ++ (guards.on_posed guards.owner_guards other ++ (guards.on_posed guards.plate_guards one ++ guards.on_posed guards.plate_guards other)))
     ∷ (guards.on_posed (guards.jump_guards m p) one ++ (guards.on_posed (guards.jump_guards m p) other ++ (guards.on_posed guards.opening_guards one ++ (guards.on_posed guards.opening_guards other ++ guards.run_guards m p))))
     ∷ (guards.worn ∷ [])
@@ -31,7 +32,7 @@ row_is : (w : ℕ) (m : Machine) (p : Pose) (one other : Option (Zone × Posture
     → unless (first_refusal w (guards.pose_guards m p)) written ≡ part_by_part w (parts m p one other) written
 row_is w m p one other written first second =
     ap₂ (λ a b. unless (first_refusal w (guards.pose_guards_at m p a b)) written) (sym first) (sym second)
-    ∙ ap (λ (row : List Guard). unless (first_refusal w (guard (when (is_none one) anything) NoPose ∷ row)) written)
+    ∙ ap (λ (row : List Guard). unless (first_refusal w (guard (when (is_none one) anything) NoPose ∷ guards.moves_while_stopped p ∷ row)) written)
     (regrouped (guards.on_posed guards.owner_guards one) (guards.on_posed guards.owner_guards other) (guards.on_posed guards.plate_guards one) (guards.on_posed guards.plate_guards other)
     (guards.on_posed (guards.jump_guards m p) one) (guards.on_posed (guards.jump_guards m p) other) (guards.on_posed guards.opening_guards one) (guards.on_posed guards.opening_guards other)
     (guards.run_guards m p) (guards.worn ∷ []))
@@ -49,12 +50,21 @@ pub returns-in_err-require_pose : goal.returns-in_err-require_pose
 returns-in_err-require_pose c =
     refused _ c.in_err-require_pose.field-0.0 c.from_residual.ensures.1 ∙ sym (row_at (goal.at.returns-in_err-require_pose c).After-posed_at-other ∙ stop (sym (c.require_pose.ensures c.args.word) ∙ c.in_err-require_pose.was) _)
 
+pub returns-in_err-require_running_to_move : goal.returns-in_err-require_running_to_move
+returns-in_err-require_running_to_move c =
+    refused _ c.in_err-require_running_to_move.field-0.0 c.from_residual-in_err-require_running_to_move.ensures.1
+    ∙ sym
+    (row_at (goal.at.returns-in_err-require_running_to_move c).After-posed_at-other
+    ∙ go (sym (c.require_pose.ensures c.args.word) ∙ c.in_ok-require_pose.was)
+    ∙ stop (sym c.require_running_to_move.ensures ∙ c.in_err-require_running_to_move.was) _)
+
 pub returns-in_err-require_owned_clear_zones : goal.returns-in_err-require_owned_clear_zones
 returns-in_err-require_owned_clear_zones c =
     refused _ c.in_err-require_owned_clear_zones.field-0.0 c.from_residual-in_err-require_owned_clear_zones.ensures.1
     ∙ sym
     (row_at (goal.at.returns-in_err-require_owned_clear_zones c).After-posed_at-other
     ∙ go (sym (c.require_pose.ensures c.args.word) ∙ c.in_ok-require_pose.was)
+    ∙ go (sym c.require_running_to_move.ensures ∙ c.in_ok-require_running_to_move.was)
     ∙ stop (sym c.require_owned_clear_zones.ensures ∙ c.in_err-require_owned_clear_zones.was) _)
 
 pub returns-in_err-require_allowed_pose : goal.returns-in_err-require_allowed_pose
@@ -63,6 +73,7 @@ returns-in_err-require_allowed_pose c =
     ∙ sym
     (row_at (goal.at.returns-in_err-require_allowed_pose c).After-posed_at-other
     ∙ go (sym (c.require_pose.ensures c.args.word) ∙ c.in_ok-require_pose.was)
+    ∙ go (sym c.require_running_to_move.ensures ∙ c.in_ok-require_running_to_move.was)
     ∙ go (sym c.require_owned_clear_zones.ensures ∙ c.in_ok-require_owned_clear_zones.was)
     ∙ stop (sym c.require_allowed_pose.ensures ∙ c.in_err-require_allowed_pose.was) _)
 
@@ -72,6 +83,7 @@ returns-in_err-pass c =
     ∙ sym
     (row_at (goal.at.returns-in_err-pass c).After-posed_at-other
     ∙ go (sym (c.require_pose.ensures c.args.word) ∙ c.in_ok-require_pose.was)
+    ∙ go (sym c.require_running_to_move.ensures ∙ c.in_ok-require_running_to_move.was)
     ∙ go (sym c.require_owned_clear_zones.ensures ∙ c.in_ok-require_owned_clear_zones.was)
     ∙ go (sym c.require_allowed_pose.ensures ∙ c.in_ok-require_allowed_pose.was)
     ∙ stop (sym (c.pass.ensures ∙ ap (λ (g : Guard). checked c.args.word (g ∷ [])) c.worn_guard.ensures) ∙ c.in_err-pass.was) _)
@@ -85,6 +97,7 @@ returns c =
     ∙ sym
     (row_at (goal.at.returns c).After-posed_at-other
     ∙ go (sym (c.require_pose.ensures c.args.word) ∙ c.in_ok-require_pose.was)
+    ∙ go (sym c.require_running_to_move.ensures ∙ c.in_ok-require_running_to_move.was)
     ∙ go (sym c.require_owned_clear_zones.ensures ∙ c.in_ok-require_owned_clear_zones.was)
     ∙ go (sym c.require_allowed_pose.ensures ∙ c.in_ok-require_allowed_pose.was)
     ∙ go (sym (c.pass.ensures ∙ ap (λ (g : Guard). checked c.args.word (g ∷ [])) c.worn_guard.ensures) ∙ c.in_ok-pass.was))

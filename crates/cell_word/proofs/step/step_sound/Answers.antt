@@ -2,7 +2,7 @@ use Rattle.std.proofs.Common.{◌≡◌, ℕ, ◌+◌, ◌^◌, arith, Option, S
 use Rattle.cell_types.specs.declared.machine.Machine.{Machine}
 use Rattle.cell_types.specs.declared.zone.Zone.{Zone}
 use Rattle.cell_types.specs.declared.call.Call.{Call}
-use Rattle.cell_types.specs.declared.call.Call.TheVariants.{Claim, Give, Yield, Take, Release, SetPose, Advance, Inquire}
+use Rattle.cell_types.specs.declared.call.Call.TheVariants.{Claim, Give, Yield, Take, Release, SetPose, Advance, Inquire, Stop, Resume}
 use Rattle.cell_types.specs.declared.answer.Refusal.{Refusal}
 use Rattle.cell_types.specs.declared.answer.Answer.{Answer}
 use Rattle.cell_types.specs.declared.answer.Answer.TheVariants.{Refused, Done}
@@ -30,6 +30,8 @@ reply_by s m (Take z) other = refl
 reply_by s m (Release z) other = refl
 reply_by s m (SetPose p) other = refl
 reply_by s m Advance other = refl
+reply_by s m Stop other = refl
+reply_by s m Resume other = refl
 reply_by s m (Inquire z) other = absurd (other z refl)
 
 reply_found : (s : ModelState) → IsSound s → (m : Machine) (c : Call) → ((z : Zone) → c ≡ Inquire z → ⊥) → (w : ℕ) → packed s ≡ w → (found : Option Refusal) → first_refusal w (guards_of m c) ≡ found

@@ -1,6 +1,7 @@
-use Rattle.std.proofs.Common.{◌≡◌, ◌+◌, ◌*◌, ◌<◌, ◌^◌, ◌++◌, map, take, ap, ◌∙◌, subst, arith}
+use Rattle.std.proofs.Common.{◌≡◌, ◌+◌, ◌*◌, ◌<◌, ◌^◌, ◌++◌, map, take, ap, ap₂, ◌∙◌, subst, arith}
 use Rattle.std.specs.List.{flat_map}
 use Rattle.cell_types.specs.Everything.{all_zones, all_places}
+use Rattle.cell_rules.specs.ModelState.{one_if}
 use Rattle.cell_word.specs.Layout.{word_of, fields_at, place_field, packed}
 use Rattle.cell_word.proofs.Growing.{bit_of_zone, zone_step, zone_step_below, place_step, place_step_below}
 use Rattle.cell_word.proofs.word.pack.Goals as goal
@@ -35,8 +36,8 @@ loop-place-preserved c =
       below = place_step_below i _ c.with_place-word.result inside c.with_place-word.ensures.below;
     }
 
-pub with_bits-requires-clause-below : goal.with_bits-requires-clause-below
-with_bits-requires-clause-below c =
+pub with_bits-word-requires-clause-below : goal.with_bits-word-requires-clause-below
+with_bits-word-requires-clause-below c =
     let all : c.loop-place.place-index ≡ 10 = omega arith in
     subst (λ n. c.loop-place.word < 2 ^ (30 + n)) all c.loop-place.invariant.below
 
@@ -48,5 +49,6 @@ returns c =
     let below : c.loop-place.word ≡ word_of (flat_map (fields_at s) all_zones ++ map (place_field s) all_places) =
     subst (λ n. c.loop-place.word ≡ word_of (flat_map (fields_at s) all_zones ++ map (place_field s) (take n all_places))) all c.loop-place.invariant.word in
     c.with_bits.ensures.value
-    ∙ ap (λ n. c.loop-place.word + n * 2 ^ 40) (c.from.ensures ∙ c.stamp.ensures.stamp)
-    ∙ ap (λ n. n + s.stamp * 2 ^ 40) below
+    ∙ ap₂ (λ n b. n + b * 2 ^ 60) c.with_bits-word.ensures.value (c.from-2.ensures ∙ ap one_if c.stopped.ensures)
+    ∙ ap (λ n. c.loop-place.word + n * 2 ^ 40 + one_if s.stopped * 2 ^ 60) (c.from.ensures ∙ c.stamp.ensures.stamp)
+    ∙ ap (λ n. n + s.stamp * 2 ^ 40 + one_if s.stopped * 2 ^ 60) below

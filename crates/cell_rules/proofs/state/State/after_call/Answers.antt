@@ -9,4 +9,4 @@ pub invariant_of-result : goal.invariant_of-result
 invariant_of-result c =
     let sound : IsSound c.args.self.now = subst IsSound c.self.view_is c.self.invariant in
     let kept : IsSound (replies.changed c.args.self.now c.args.machine c.args.call) = changed_keeps c.args.self.now c.args.machine c.args.call sound c.requires in
-    rw (c.zones_after.ensures, c.places_after.ensures, ap (λ (s : ModelState). s.stamp) c.self.view_is) kept
+    rw (c.zones_after.ensures, c.places_after.ensures, c.stopped_after.ensures, ap (λ (s : ModelState). s.stamp) c.self.view_is) kept

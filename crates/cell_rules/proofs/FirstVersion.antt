@@ -1,0 +1,78 @@
+-- While the cell isn't stopped, no condition that asks for it applies.
+use Rattle.std.proofs.Common.{◌≡◌, ◌+◌, Bool, true, false, ◌&&◌, Option, Some, None, refl, ap, ◌∙◌}
+use Rattle.std.specs.Bool.{then_some}
+use Rattle.cell_types.specs.declared.machine.Machine.{Machine}
+use Rattle.cell_types.specs.declared.call.Call.{Call}
+use Rattle.cell_types.specs.declared.call.Call.TheVariants.{Claim, Give, Yield, Take, Release, SetPose, Advance, Inquire, Stop, Resume}
+use Rattle.cell_types.specs.declared.answer.Refusal.{Refusal}
+use Rattle.cell_types.specs.declared.answer.Refusal.TheVariants.{Stopped}
+use Rattle.cell_rules.specs.ModelState.{ModelState}
+use Rattle.cell_rules.specs.Refusals
+use Rattle.cell_types.specs.declared.answer.Answer.{Answer}
+use Rattle.cell_types.specs.declared.answer.Answer.TheVariants.{Done, Shown, Refused}
+use Rattle.cell_rules.specs.Reply.{refusal, reply, next_by, done_unless, zones_after, places_after, stopped_after}
+use Rattle.cell_rules.specs.FirstVersion as first
+
+-- what is asked second never applies
+passed : (a : Option Refusal) (b : Bool) → b ≡ false → Refusals.◌or◌ a (then_some b Stopped) ≡ a
+passed None true e = cc
+passed None false e = refl
+passed (Some r) b e = refl
+
+no_move : (a b : Bool) → b ≡ false → (a && b) ≡ false
+no_move true b e = e
+no_move false b e = refl
+
+same_refusal : (s : ModelState) (m : Machine) (c : Call) → s.stopped ≡ false → first.has_call c ≡ true → refusal s m c ≡ first.refusal s m c
+same_refusal s m (Claim z) e k =
+    ap (λ o. Refusals.◌or◌ (Refusals.◌or◌ (Refusals.◌or◌ (Refusals.◌or◌ o (Refusals.already_mine s m z)) (Refusals.held s m z)) (Refusals.shut_to_guest s m z)) (Refusals.worn s)) (passed (Refusals.not_party m z) s.stopped e)
+same_refusal s m (Give z) e k =
+    let row = Refusals.transfer_given s m z in
+    ap (λ o. Refusals.◌or◌ (Refusals.◌or◌ (Refusals.◌or◌ (Refusals.◌or◌ (Refusals.◌or◌ (Refusals.◌or◌ o (Refusals.not_owner s m z)) (Refusals.plate_in_zone s z)) (Refusals.wrong_way row)) (Refusals.nothing_to_give s row)) (Refusals.no_room s row)) (Refusals.worn s)) (passed (Refusals.not_party m z) s.stopped e)
+same_refusal s m (SetPose p) e k =
+    ap (λ o. Refusals.◌or◌ (Refusals.◌or◌ (Refusals.◌or◌ (Refusals.◌or◌ (Refusals.◌or◌ (Refusals.◌or◌ o (Refusals.first_zone (Refusals.unowned_by_pose s m p))) (Refusals.first_zone (Refusals.plate_under_pose s m p))) (Refusals.jump s m p)) (Refusals.first_zone (Refusals.opens_onto_plate s m p))) (Refusals.runs_onto_plate s m p)) (Refusals.worn s))
+    (passed (Refusals.lacks_pose m p) (Refusals.is_moving_pose p && s.stopped) (no_move (Refusals.is_moving_pose p) s.stopped e))
+same_refusal s m (Yield z) e k = refl
+same_refusal s m (Take z) e k = refl
+same_refusal s m (Release z) e k = refl
+same_refusal s m Advance e k = refl
+same_refusal s m (Inquire z) e k = refl
+same_refusal s m Stop e k = cc
+same_refusal s m Resume e k = cc
+
+same_reply : (s : ModelState) (m : Machine) (c : Call) → s.stopped ≡ false → first.has_call c ≡ true → reply s m c ≡ first.reply s m c
+same_reply s m (Inquire z) e k = refl
+same_reply s m (Claim z) e k = ap done_unless (same_refusal s m (Claim z) e k)
+same_reply s m (Give z) e k = ap done_unless (same_refusal s m (Give z) e k)
+same_reply s m (SetPose p) e k = ap done_unless (same_refusal s m (SetPose p) e k)
+same_reply s m (Yield z) e k = refl
+same_reply s m (Take z) e k = refl
+same_reply s m (Release z) e k = refl
+same_reply s m Advance e k = refl
+same_reply s m Stop e k = cc
+same_reply s m Resume e k = cc
+
+-- none of these calls touches the mark
+mark_kept : (s : ModelState) (c : Call) → first.has_call c ≡ true → stopped_after s c ≡ s.stopped
+mark_kept s Stop k = cc
+mark_kept s Resume k = cc
+mark_kept s _ k = refl
+
+left_by : (a : Answer) (s : ModelState) (m : Machine) (c : Call) → first.has_call c ≡ true → next_by a s m c ≡ first.next_by a s m c
+left_by Done s m c k = λ i. record { zones = zones_after s m c; full = places_after s m c; stamp = s.stamp + 1; stopped = mark_kept s c k i }
+left_by (Shown o f q) s m c k = refl
+left_by (Refused r) s m c k = refl
+
+mark_left : (a : Answer) (s : ModelState) (m : Machine) (c : Call) → s.stopped ≡ false → first.has_call c ≡ true → (next_by a s m c).stopped ≡ false
+mark_left Done s m c e k = mark_kept s c k ∙ e
+mark_left (Shown o f q) s m c e k = e
+mark_left (Refused r) s m c e k = e
+
+pub first_version : first.FirstVersionStays
+first_version s m c e k =
+    let answer = same_reply s m c e k in
+    record {
+      answer = answer;
+      left = left_by (reply s m c) s m c k ∙ ap (λ a. first.next_by a s m c) answer;
+      unmarked = mark_left (reply s m c) s m c e k;
+    }

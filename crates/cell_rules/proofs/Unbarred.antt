@@ -1,0 +1,56 @@
+-- A call that isn't barred doesn't ask whether the cell is stopped.
+use Rattle.std.proofs.Common.{◌≡◌, Bool, true, false, Option, refl, ap, ◌∙◌, sym}
+use Rattle.cell_types.specs.declared.machine.Machine.{Machine}
+use Rattle.cell_types.specs.declared.pose.Pose.{Pose}
+use Rattle.cell_types.specs.declared.pose.Pose.TheVariants.{Turning, Loading, Unloading, Travelling, Middle, Low, Top, Running, Landing, Halted, Offering, Standing}
+use Rattle.cell_types.specs.declared.call.Call.{Call}
+use Rattle.cell_types.specs.declared.call.Call.TheVariants.{Claim, Give, Yield, Take, Release, SetPose, Advance, Inquire, Stop, Resume}
+use Rattle.cell_types.specs.declared.answer.Refusal.TheVariants.{Stopped}
+use Rattle.cell_types.specs.declared.answer.Answer.{Answer}
+use Rattle.cell_types.specs.declared.answer.Answer.TheVariants.{Refused}
+use Rattle.cell_rules.specs.ModelState.{ModelState}
+use Rattle.cell_rules.specs.Sound.{IsSound}
+use Rattle.cell_rules.specs.Reply.{reply}
+use Rattle.cell_rules.specs.FirstVersion.{has_call}
+use Rattle.cell_rules.specs.Laws.{is_barred}
+use Rattle.cell_rules.specs.StopLaws.{running, WhatMovesMayStop}
+use Rattle.cell_rules.specs.Causes.{is_cause}
+use Rattle.cell_rules.proofs.Refusing.{refusals_tell}
+
+posed_same : (s : ModelState) (m : Machine) (p : Pose) → is_barred (SetPose p) ≡ false → reply s m (SetPose p) ≡ reply (running s) m (SetPose p)
+posed_same s m Turning k = cc
+posed_same s m Travelling k = cc
+posed_same s m Running k = cc
+posed_same s m _ k = refl
+
+same : (s : ModelState) (m : Machine) (c : Call) → has_call c ≡ true → is_barred c ≡ false → reply s m c ≡ reply (running s) m c
+same s m (Claim z) h k = cc
+same s m (Give z) h k = cc
+same s m (SetPose p) h k = posed_same s m p k
+same s m (Yield z) h k = refl
+same s m (Take z) h k = refl
+same s m (Release z) h k = refl
+same s m Advance h k = refl
+same s m (Inquire z) h k = refl
+same s m Stop h k = cc
+same s m Resume h k = cc
+
+no_cause-posed : (s : ModelState) (m : Machine) (p : Pose) → is_barred (SetPose p) ≡ false → is_cause s m (SetPose p) Stopped ≡ false
+no_cause-posed s m Turning k = cc
+no_cause-posed s m Travelling k = cc
+no_cause-posed s m Running k = cc
+no_cause-posed s m _ k = refl
+
+no_cause : (s : ModelState) (m : Machine) (c : Call) → has_call c ≡ true → is_barred c ≡ false → is_cause s m c Stopped ≡ false
+no_cause s m (Claim z) h k = cc
+no_cause s m (Give z) h k = cc
+no_cause s m (SetPose p) h k = no_cause-posed s m p k
+no_cause s m Stop h k = cc
+no_cause s m Resume h k = cc
+no_cause s m _ h k = refl
+
+pub what_moves_may_stop : WhatMovesMayStop
+what_moves_may_stop s m c sound h k = record {
+  same = same s m c h k;
+  never_stopped = λ e. let told = refusals_tell.cause s m c Stopped sound e in let none = no_cause s m c h k in cc;
+}
