@@ -73,7 +73,8 @@ class Building:
 
     def reading(self):
         """The words by which rattle reads the crate over the libraries below it."""
-        words = ["--crate-name", self.name, "src/main.rt" if self.name == PROGRAM else "src/lib.rt"]
+        main = "src/main.rt"
+        words = ["--crate-name", self.name, main if os.path.isfile(f"{self.crate}/{main}") else "src/lib.rt"]
         for it in [f"{KIT}/rlibs/std.rlib", *self.rlibs]:
             words += ["--extern", f"{os.path.basename(it).removesuffix('.rlib')}={it}"]
         for it in [f"{KIT}/rlibs", *self.kept]:

@@ -4,7 +4,7 @@
 use crate::audit::{Entry, audit};
 use crate::config::{Config, read_config};
 use crate::interlock::{Answer, Call, Machine, Refusal, State, owner_word};
-use crate::machines::{Crane, Deposit, Feed, Press, Program, Robot, Table};
+use crate::machines::{Crane, Deposit, Feed, Press, Program, Robot, Table, Watch};
 use std::fmt::Write as _;
 use std::io::{Read, Write};
 use std::process::ExitCode;
@@ -83,6 +83,7 @@ pub struct Cell {
     pub press: Seat<Press>,
     pub deposit: Seat<Deposit>,
     pub crane: Seat<Crane>,
+    pub watch: Seat<Watch>,
 }
 
 impl Cell {
@@ -95,10 +96,11 @@ impl Cell {
             press: Seat::new(Press::new(start)),
             deposit: Seat::new(Deposit::new(start)),
             crane: Seat::new(Crane::new(start, gripper)),
+            watch: Seat::new(Watch::new()),
         }
     }
 
-    fn logs(&self) -> [(Machine, &Log); 6] {
+    fn logs(&self) -> [(Machine, &Log); 7] {
         [
             (Machine::Feed, &self.feed.log),
             (Machine::Table, &self.table.log),
@@ -106,12 +108,14 @@ impl Cell {
             (Machine::Press, &self.press.log),
             (Machine::Deposit, &self.deposit.log),
             (Machine::Crane, &self.crane.log),
+            (Machine::Watch, &self.watch.log),
         ]
     }
 
     /// The report of a run, and whether it succeeded.
     pub fn report(&self, start: &State, end: &State) -> (String, bool) {
         let mut text = String::new();
+        let _ = writeln!(text, "version 2");
         let _ = writeln!(text, "start {} {}", digits(&start.full), start.stamp);
         for (machine, log) in self.logs() {
             let status = match log.status {
@@ -132,7 +136,7 @@ impl Cell {
             "axes press {} arm1 {} arm2 {} rotation {} lift {} turn {} crane {} gripper {}",
             self.press.program.position, robot.arm1, robot.arm2, robot.rotation, table.lift, table.turn, crane.travel, crane.gripper
         );
-        let _ = writeln!(text, "stamp {} plates {}", end.stamp, end.plates());
+        let _ = writeln!(text, "stamp {} plates {} stopped {}", end.stamp, end.plates(), u8::from(end.stopped));
         let journals = self.logs().map(|(machine, log)| (machine, &log.journal[..]));
         let audited = audit(&journals, start, end);
         let _ = writeln!(text, "audit {}", audited.as_ref().err().map_or("ok", String::as_str));

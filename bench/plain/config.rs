@@ -71,7 +71,7 @@ fn schedule_of(text: &str) -> Result<String, &'static str> {
     if text.chars().count() > 1_000_000 {
         return Err("range");
     }
-    let is_lawful = text.bytes().all(|letter| b"ftrpdcFTRPDC".contains(&letter));
+    let is_lawful = text.bytes().all(|letter| b"ftrpdcwFTRPDCW".contains(&letter));
     is_lawful.then(|| text.to_string()).ok_or("letter")
 }
 

@@ -174,7 +174,7 @@ pub enum Call {
 }
 
 impl Call {
-    /// The call of these words, if they are one of a script. (Scripts don't stop the cell.)
+    /// The call of these words, if they are one.
     pub fn read(verb: &str, object: Option<&str>) -> Option<Call> {
         let zone = || object.and_then(|word| Zone::ALL.into_iter().find(|zone| zone.word() == word));
         Some(match verb {
@@ -186,6 +186,8 @@ impl Call {
             "inquire" => Call::Inquire(zone()?),
             "pose" => Call::SetPose(Pose::WORDS.iter().find(|(word, _)| Some(*word) == object)?.1),
             "advance" if object.is_none() => Call::Advance,
+            "stop" if object.is_none() => Call::Stop,
+            "resume" if object.is_none() => Call::Resume,
             _ => return None,
         })
     }

@@ -594,3 +594,28 @@ impl Program for Robot {
         }
     }
 }
+
+/// The watch stops the cell, and resumes it in its next turn.
+pub struct Watch {
+    has_stopped: bool,
+}
+
+impl Watch {
+    pub fn new() -> Watch {
+        Watch { has_stopped: false }
+    }
+}
+
+impl Program for Watch {
+    const MACHINE: Machine = Machine::Watch;
+
+    fn asks(&self) -> Option<(Call, Waits)> {
+        Some((if self.has_stopped { Call::Resume } else { Call::Stop }, never))
+    }
+
+    fn done(&mut self) {
+        self.has_stopped = !self.has_stopped;
+    }
+
+    fn drive(&mut self) {}
+}

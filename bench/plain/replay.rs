@@ -48,7 +48,35 @@ fn word_of(field: &[u8]) -> Option<&str> {
     std::str::from_utf8(field).ok()
 }
 
-/// The start in record 0, after the word `start`.
+/// The version of a script. Only scripts of the second can stop the cell.
+#[derive(Clone, Copy, PartialEq, Eq)]
+enum Version {
+    First,
+    Second,
+}
+
+impl Version {
+    const ALL: [Version; 2] = [Version::First, Version::Second];
+
+    /// The first field of record 0.
+    fn word(self) -> &'static str {
+        match self {
+            Version::First => "start",
+            Version::Second => "start2",
+        }
+    }
+
+    fn of(record: &Record) -> Option<Version> {
+        let word = word_of(record.field(0)?)?;
+        Version::ALL.into_iter().find(|version| version.word() == word)
+    }
+
+    fn has(self, call: Call) -> bool {
+        self == Version::Second || !matches!(call, Call::Stop | Call::Resume)
+    }
+}
+
+/// The start in record 0, after its first field.
 fn start(record: &Record) -> Option<State> {
     let places = word_of(record.field(1)?)?;
     let stamp = word_of(record.field(2).unwrap_or(b"0"))?;
@@ -58,15 +86,17 @@ fn start(record: &Record) -> Option<State> {
     State::start(places, stamp.parse().ok().filter(|stamp| *stamp <= LAST_STAMP)?)
 }
 
-fn call_of(record: &Record) -> Option<(Machine, Call)> {
+/// The call in a record of a script of this version, and the machine that makes it.
+fn call_of(version: Version, record: &Record) -> Option<(Machine, Call)> {
     let machine = word_of(record.field(0)?)?;
     let machine = Machine::ALL.into_iter().find(|it| it.word() == machine)?;
     let verb = word_of(record.field(1)?)?;
-    match record.len() {
-        2 => Some((machine, Call::read(verb, None)?)),
-        3 => Some((machine, Call::read(verb, Some(word_of(record.field(2)?)?))?)),
-        _ => None,
-    }
+    let call = match record.len() {
+        2 => Call::read(verb, None)?,
+        3 => Call::read(verb, Some(word_of(record.field(2)?)?))?,
+        _ => return None,
+    };
+    version.has(call).then_some((machine, call))
 }
 
 /// Why a replay ends early.
@@ -122,13 +152,13 @@ fn tell(input: impl Read, output: &mut impl Write) -> Result<(), Fault> {
     if !records.next(&mut record).map_err(|_| Fault::Read)? {
         return script(if records.is_cut { "long" } else { "nostart" });
     }
-    if record.field(0) != Some(b"start") {
+    let Some(version) = Version::of(&record) else {
         return script("nostart");
-    }
+    };
     let Some(mut state) = start(&record) else {
         return script("badstart");
     };
-    writeln!(output, "0 {} start {}", state.stamp, state.plates()).map_err(|_| Fault::Write)?;
+    writeln!(output, "0 {} {} {}", state.stamp, version.word(), state.plates()).map_err(|_| Fault::Write)?;
     for number in 1.. {
         if cfg!(flush_each_line) || !records.records.has_line() {
             output.flush().map_err(|_| Fault::Write)?;
@@ -139,7 +169,7 @@ fn tell(input: impl Read, output: &mut impl Write) -> Result<(), Fault> {
         if number > 65_536 {
             return script("long");
         }
-        let Some((machine, call)) = call_of(&record) else {
+        let Some((machine, call)) = call_of(version, &record) else {
             return Err(Fault::Script(format!("badrow {number}")));
         };
         let answer = state.apply(machine, call);

@@ -40,7 +40,8 @@ fn run(config: &Config, cell: &mut Cell) -> State {
             b'r' => cell.robot.turn(ask),
             b'p' => cell.press.turn(ask),
             b'd' => cell.deposit.turn(ask),
-            _ => cell.crane.turn(ask),
+            b'c' => cell.crane.turn(ask),
+            _ => cell.watch.turn(ask),
         }
     }
     std::hint::black_box(history);

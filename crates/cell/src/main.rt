@@ -4,10 +4,9 @@
 
 pub use cell_command::{Mode, read_words};
 pub use cell_config::{Config, ConfigFault, read_config};
-pub use cell_program::run_cell::run_cell;
 pub use cell_program::serve::serve;
 use cell_program::start::start;
-pub use cell_workers::{Gate, RunFault};
+pub use cell_workers::{Gate, RunFault, run_cell};
 use std::process::ExitCode;
 
 fn main(rt: HostRuntime) -> ExitCode {

@@ -1,7 +1,7 @@
 -- Configurations and what they say, or why they are refused: the first of several faults.
 use Rattle.std.specs.Prelude.{◌≡◌, ℕ, pos, Bool, true, false, List, [], ◌∷◌, ◌++◌, map, codes, Ok, Err}
 use Rattle.cell_types.specs.declared.machine.Machine.{Machine}
-use Rattle.cell_types.specs.declared.machine.Machine.TheVariants.{Feed, Table, Robot, Press, Deposit, Crane}
+use Rattle.cell_types.specs.declared.machine.Machine.TheVariants.{Feed, Table, Robot, Press, Deposit, Crane, Watch}
 use Rattle.cell_rules.specs.PlaceSet.{empty, place_set}
 use Rattle.cell_rules.specs.Start.{start_state}
 use Rattle.cell_calib.specs.Scale.{Scale}
@@ -50,7 +50,7 @@ all_given =
     codes "gripper.raw = [64535, 65535]\narm2.tol = 2\narm2.points = [[0, 0], [2000, 501], [4000, 1000]]\n"
     ++ codes "turn = { points = [[100, 0], [101, 0], [599, 490], [600, 500]], tol = 10, raw = [100, 600] }\n"
     ++ codes "rotation.raw = [1, 2001]\n"
-    ++ codes "arm1 = { raw = [10, 1010], tol = 1, points = [[10, 0], [1010, 1000]] }\nschedule = 'ftrpdcFTRPDC'\n"
+    ++ codes "arm1 = { raw = [10, 1010], tol = 1, points = [[10, 0], [1010, 1000]] }\nschedule = 'ftrpdcwFTRPDCW'\n"
     ++ codes "stamp = 1048575\nstart = '0100000001'\n"
 
 abbrev pub as_given : Settings
@@ -58,7 +58,8 @@ as_given = record {
   start = start_state (place_set false true false false false false false false false true) 1048575;
   schedule =
       turn Feed false ∷ turn Table false ∷ turn Robot false ∷ turn Press false ∷ turn Deposit false ∷ turn Crane false
-      ∷ turn Feed true ∷ turn Table true ∷ turn Robot true ∷ turn Press true ∷ turn Deposit true ∷ turn Crane true ∷ [];
+      ∷ turn Watch false ∷ turn Feed true ∷ turn Table true ∷ turn Robot true ∷ turn Press true ∷ turn Deposit true
+      ∷ turn Crane true ∷ turn Watch true ∷ [];
   points =
       scale 10 1010 1000 1 ∷ scale 0 4000 1000 2 ∷ scale 1 2001 2000 5 ∷ scale 100 600 500 10
       ∷ scale 64535 65535 1000 5 ∷ [];
@@ -100,7 +101,7 @@ pub record ValueExamples : Type 0 where
   pub stamp_below : IsNo (codes "stamp = -1") Range
   pub stamp_above : IsNo (codes "stamp = 1048576") Range
   pub schedule_kind : IsNo (codes "schedule = ['p']") Kind
-  pub schedule_letter : IsNo (codes "schedule = 'pw'") Letter
+  pub schedule_letter : IsNo (codes "schedule = 'pv'") Letter
   pub section_kind : IsNo (codes "turn = 5") Kind
   pub raw_kind : IsNo (codes "turn.raw = 4000") Kind
   pub raw_of_one : IsNo (codes "turn.raw = [0]") Kind

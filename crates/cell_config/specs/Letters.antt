@@ -1,9 +1,10 @@
 -- The letters of schedules.
-use Rattle.std.specs.Prelude.{ℕ, ◌==◌, List, [], ◌∷◌, ◌++◌, length, map, find, chars, codes, nat_lt, Bool, true, false}
+use Rattle.std.specs.Prelude.{ℕ, ◌==◌, List, ◌++◌, length, map, find, chars, codes, nat_lt}
+use Rattle.std.specs.Prelude.{Bool, true, false}
 use Rattle.std.specs.Prelude.{is_some, Option, option_map, Result, Ok, Err, if◌then◌else◌}
 use Rattle.std.specs.List.{filter_map, list_all, zip}
 use Rattle.cell_types.specs.declared.machine.Machine.{Machine}
-use Rattle.cell_types.specs.declared.machine.Machine.TheVariants.{Feed, Table, Robot, Press, Deposit, Crane}
+use Rattle.cell_types.specs.Everything.{all_machines}
 use Rattle.cell_notes.specs.declared.schedule.Turn.{Turn}
 use Rattle.cell_config.specs.declared.fault.ConfigFault.{ConfigFault}
 use Rattle.cell_config.specs.declared.fault.ConfigFault.TheVariants.{Range, Letter}
@@ -14,13 +15,10 @@ max_letters = 1000000
 abbrev pub turn : Bool → Machine → Turn
 turn busy machine = record { machine = machine; busy = busy }
 
--- the machines that have letters
-abbrev pub lettered : List Machine
-lettered = Feed ∷ Table ∷ Robot ∷ Press ∷ Deposit ∷ Crane ∷ []
-
 -- each letter with its turn: in the turn of a capital letter a call is Busy
 abbrev pub letters : List (ℕ × Turn)
-letters = zip (codes "ftrpdcFTRPDC") (map (turn false) lettered ++ map (turn true) lettered)
+letters =
+    zip (codes "ftrpdcwFTRPDCW") (map (turn false) all_machines ++ map (turn true) all_machines)
 
 -- the turn of a letter
 abbrev pub turn_of : ℕ → Option Turn

@@ -31,6 +31,7 @@ fn turn_of(letter: char) -> Option<Turn>
         'p' | 'P' => Machine::Press,
         'd' | 'D' => Machine::Deposit,
         'c' | 'C' => Machine::Crane,
+        'w' | 'W' => Machine::Watch,
         _ => return None,
     };
     Some(Turn {

@@ -34,7 +34,8 @@ is_among (w ∷ ws) r = is_waited_out w r || is_among ws r
 abbrev pub stays_by : List Wait → Refusal → Bool
 stays_by ws r = is_among ws r || is_waited_out UntilResumed r
 
--- a step asks this call, stays on exactly these refusals and in a stopped cell, and leads to `next` when the call is done
+-- a step asks this call, stays on exactly these refusals and in a stopped cell, and leads to `next` when the call is
+-- done
 pub record AskRow {S Sense Reading Act : Type 0} (t : Steps S Sense Reading Act) (p : S) (call : Call) (waits : List Wait) (next : S) : Type 0 where
   pub asks : t.call p ≡ Some call
   pub stays : (r : Refusal) → waits_out t p r ≡ stays_by waits r

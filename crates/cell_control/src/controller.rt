@@ -38,6 +38,13 @@ impl<P: Program> Controller<P> {
         self.stopped
     }
 
+    /// Its step in its program, with its notes.
+    pub fn progress(&self) -> P::Progress
+        ensures { result ≡ self.now.progress }
+    {
+        self.progress
+    }
+
     /// The actuators' commands in a step that asks or can't go on: all motors are off.
     pub fn rest(&self) -> P::Act
         ensures { result ≡ (P.steps self.now.program).rest self.now.progress }

@@ -73,9 +73,8 @@ pub trait Program: Drop {
     /// The actuators' commands in a step that drives. Every legal history that reaches the step
     /// meets what its motors demand.
     fn drive(&self, progress: Self::Progress, reading: Self::Reading) -> Self::Act
-        requires asks_nothing { (steps self.now).call progress ≡ None }
         ensures drives { (steps self.now).drives progress reading result }
-        ensures motor_demands { (opening : ModelState) (seen : List Event) → IsSound opening → IsLegal opening seen → IsReached (steps self.now) opening seen progress → (steps self.now).motor_demands progress result opening seen };
+        ensures motor_demands { (steps self.now).call progress ≡ None → (opening : ModelState) (seen : List Event) → IsSound opening → IsLegal opening seen → IsReached (steps self.now) opening seen progress → (steps self.now).motor_demands progress result opening seen };
 
     /// The next step after a drive, by its reading and its commands.
     fn after_drive(

@@ -17,16 +17,12 @@ use Rattle.cell_rules.specs.History.{after, IsLegal, own_events}
 use Rattle.cell_rules.specs.Journal.{entry_of, noted}
 use Rattle.cell_rules.specs.Seen.{event, Waits, SeenAfter}
 use Rattle.cell_rules.proofs.Notes.{noted-append, noted-foreign}
-use Rattle.cell_rules.proofs.SeenLemmas.{same_as_itself, waits-foreign, after-push}
+use Rattle.cell_rules.proofs.SeenLemmas.{same_as_itself, after-push}
+use Rattle.cell_rules.proofs.Told.{noted-waits}
 use Rattle.cell_interlock.specs.Views.{PassView}
 use Rattle.cell_interlock.specs.Seen.{IsSamePass}
 use Rattle.cell_interlock.specs.Lines.{IsLine, Replied, PassAsks}
 use Rattle.cell_interlock.proofs.Tells.{point_waits}
-
-noted-waits : (s : ModelState) (m : Machine) (before now : List Event) → Waits m before now → noted s now m ≡ noted s before m
-noted-waits s m before now w =
-    ap (λ (h : List Event). noted s h m) w.begins.1 ∙ noted-append s before w.begins.0 m
-    ∙ ap (λ (l : List Entry). noted s before m ++ l) (noted-foreign (after s before) w.begins.0 m (waits-foreign m before now w)) ∙ append-nil (noted s before m)
 
 -- the journal of a pass
 abbrev pub journal_by : PassView → List Entry

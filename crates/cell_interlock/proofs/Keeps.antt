@@ -275,6 +275,13 @@ looked-seat c m me me' word is told =
     let p : MachineView = head_of me.0 in
     subst (IsSeat m) (sym told.2) (seat_of m (after_load p (seen_at c p told.0)) me.1 (ap (λ x. x.1) is.one) is.machine is.opened (seen-legal c p told.0 told.1.legal))
 
+pub gathered-seat : {S : Type 0} (m : Machine) (me me' : OwnSeat S) (word : ℕ) → IsSeat m me → gathered {S = S} (step 0 0 0 0 none) me word me' → IsSeat m me'
+gathered-seat m me me' word is told =
+    let p : MachineView = head_of me.0 in
+    let at : WordMomentOfAll (p ∷ []) word told.0 = subst (λ ps. WordMomentOfAll ps word told.0) (ap (λ x. x.0) is.one) told.1 in
+    let one : me' ≡ (after_load p told.0 ∷ [], me.1) = told.2 ∙ ap (λ (ps : List MachineView). (all_see told.0 ps, me.1)) (ap (λ x. x.0) is.one) in
+    subst (IsSeat m) (sym one) (seat_of m (after_load p told.0) me.1 (ap (λ x. x.1) is.one) is.machine is.opened at.0.legal)
+
 pub exchanged-seat : {S : Type 0} (c : Call) (m : Machine) (me me' : OwnSeat S) (old word new : ℕ) → IsSeat m me → IsReady (head_of me.0).machine c old new → exchanged {S = S} c (step 0 0 old 0 none) me word me' → IsSeat m me'
 exchanged-seat c m me me' old word new is ready told =
     let p : MachineView = head_of me.0 in let h : List Event = told.0 in

@@ -5,3 +5,4 @@ pub mod Tells
 pub mod Journals
 pub mod Meeting
 pub mod Outcomes
+pub mod Closing

@@ -1,10 +1,13 @@
--- What two passes have seen after they met.
+-- What two passes have seen after they met, and one after it looked.
 use Rattle.std.proofs.Common.{◌≡◌, ℕ, ◌+◌, List, [], ◌∷◌, ◌++◌, refl, sym, ap, ◌∙◌, subst}
 use mathlib.Core.Option.{none}
 use Rattle.atomic_table.specs.Table.{step}
 use Rattle.atomic_table.specs.Seated.{TableId}
 use Rattle.cell_types.specs.declared.machine.Machine.{Machine}
 use Rattle.cell_types.specs.declared.answer.Event.{Event}
+use Rattle.cell_rules.specs.Sound.{IsSound}
+use Rattle.cell_rules.specs.History.{after}
+use Rattle.cell_word.specs.Layout.{packed}
 use Rattle.cell_interlock.specs.declared.pass.MachineView.{MachineView}
 use Rattle.cell_interlock.specs.Views.{PassView, pass_of}
 use Rattle.cell_interlock.specs.Rule.{OwnSeat, head_of, after_load, first_off, others_of, WordMoment, WordMomentOfAll, all_see, gathered, IsSeat}
@@ -43,3 +46,18 @@ module _ {S : Type 0} (m n : Machine) (l r j j' ll rr : OwnSeat S) (word : ℕ) 
 
   pub right_more : (v w : PassView) (t u : TableId) → pass_of t (head_of r.0) ≡ v → w ≡ pass_of u (head_of rr.0) → u ≡ t → HasSeenMore v w × LoadsOnce v w
   right_more v w t u from to same = more_at v w t u (head_of r.0) (head_of rr.0) told.0 word from to same at.0 (ap (λ x. head_of x.0) right ∙ ap (λ ps. head_of (first_off ps)) seen)
+
+-- a pass that was alone on its seat saw the history
+module _ {S : Type 0} (m : Machine) (me me' : OwnSeat S) (word : ℕ) (is : IsSeat m me) (told : gathered {S = S} (step 0 0 0 0 none) me word me') where
+  point : WordMoment (head_of me.0) word told.0
+  point = (subst (λ ps. WordMomentOfAll ps word told.0) (ap (λ x. x.0) is.one) told.1).0
+
+  now : head_of me'.0 ≡ after_load (head_of me.0) told.0
+  now = ap (λ x. head_of x.0) told.2 ∙ ap (λ ps. head_of (all_see told.0 ps)) (ap (λ x. x.0) is.one)
+
+  pub alone_more : (v w : PassView) (t u : TableId) → pass_of t (head_of me.0) ≡ v → w ≡ pass_of u (head_of me'.0) → u ≡ t → HasSeenMore v w × LoadsOnce v w
+  alone_more v w t u from to same = more_at v w t u (head_of me.0) (head_of me'.0) told.0 word from to same point now
+
+  -- the word is that of the state after what it has seen
+  pub alone_state : IsSound (after (head_of me'.0).opening (head_of me'.0).seen) × (packed (after (head_of me'.0).opening (head_of me'.0).seen) ≡ word)
+  alone_state = subst (λ (p : MachineView). IsSound (after p.opening p.seen) × (packed (after p.opening p.seen) ≡ word)) (sym now) (point.sound, point.found)

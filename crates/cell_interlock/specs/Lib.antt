@@ -7,4 +7,5 @@ pub mod Going
 pub mod Calls
 pub mod Tries
 pub mod Lines
+pub mod Ends
 pub mod OutcomeExamples

@@ -2,6 +2,7 @@
 #![tactic(auto)]
 
 mod calls;
+pub mod close;
 pub mod interlock;
 pub mod laws;
 pub mod make;
@@ -10,8 +11,10 @@ pub mod pass;
 pub mod pass_line;
 pub mod rule;
 mod steps;
+mod survey;
 pub mod tries;
 
+pub use close::Ended;
 pub use interlock::Interlock;
 pub use make::MakeFault;
 pub use pass::{Pass, Passes};

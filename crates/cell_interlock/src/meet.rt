@@ -9,7 +9,7 @@ use atomic_table::Seat;
 
 impl Interlock {
     /// Joins the other seat's machines to a seat.
-    fn join(&self, seat: &mut Seat<(), SeatView>, other: Seat<(), SeatView>)
+    pub(crate) fn join(&self, seat: &mut Seat<(), SeatView>, other: Seat<(), SeatView>)
         requires same_interlock { (seat.old.table_id ≡ self.now.table)
             × (other.table_id ≡ self.now.table) }
         requires no_slot { other.me.1 ≡ [] }

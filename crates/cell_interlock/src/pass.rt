@@ -58,6 +58,15 @@ impl Pass {
         Pass { machine, seat }
     }
 
+    /// Its seat.
+    pub(crate) fn into_seat(self) -> Seat<(), SeatView>
+        ensures pass { self ≡ pass_of result.table_id (head_of result.me.0) }
+        ensures own { IsSeat self.machine result.me }
+    {
+        let Pass { machine: _, seat } = self;
+        seat
+    }
+
     /// The machine whose calls it makes.
     pub fn machine(&self) -> Machine
         ensures { result ≡ self.now.machine }

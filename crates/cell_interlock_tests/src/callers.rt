@@ -1,5 +1,6 @@
 //! Callers who make their calls by single steps, so a table can say how the calls overlap.
-ghost use Rattle.std.specs.Prelude.{◌≡◌};
+ghost use Rattle.std.specs.Prelude.{◌≡◌, IfSome};
+ghost use Rattle.cell_interlock.specs.Ends.{ArePassesOf, IsPassOf};
 ghost use Rattle.cell_interlock.specs.Fresh.{AreFresh};
 ghost use Rattle.cell_interlock_tests.specs.Held.{IsHeldAt, AreHeldAt};
 
@@ -96,6 +97,24 @@ fn take_step(interlock: &Interlock, held: &mut Held, step: Step) -> Outcome
     outcome
 }
 
+/// The pass of a machine's caller. A pending call is abandoned.
+fn pass_in(interlock: &Interlock, held: Held, machine: Machine) -> Option<Pass>
+    requires { IsHeldAt interlock.now held }
+    ensures { IfSome result (IsPassOf interlock.now machine) }
+{
+    let _ = interlock;
+    let pass = match held {
+        Held::Idle(pass) => pass,
+        Held::Trying(pending) => pending.abandon(),
+        Held::Nothing => return None,
+    };
+    if pass.machine() == machine {
+        Some(pass)
+    } else {
+        None
+    }
+}
+
 /// What the callers hold, each in the field of its machine.
 #[derive(Drop)]
 pub struct Callers {
@@ -140,5 +159,20 @@ impl Callers {
             Machine::Crane => take_step(interlock, &mut self.crane, next),
             Machine::Watch => take_step(interlock, &mut self.watch, next),
         }
+    }
+    /// The passes of the callers. Pending calls are abandoned.
+    pub fn into_passes(self, interlock: &Interlock) -> Option<Passes>
+        requires { AreHeldAt interlock.now self }
+        ensures { IfSome result (ArePassesOf interlock.now) }
+    {
+        Some(Passes {
+            feed: pass_in(interlock, self.feed, Machine::Feed)?,
+            table: pass_in(interlock, self.table, Machine::Table)?,
+            robot: pass_in(interlock, self.robot, Machine::Robot)?,
+            press: pass_in(interlock, self.press, Machine::Press)?,
+            deposit: pass_in(interlock, self.deposit, Machine::Deposit)?,
+            crane: pass_in(interlock, self.crane, Machine::Crane)?,
+            watch: pass_in(interlock, self.watch, Machine::Watch)?,
+        })
     }
 }

@@ -1,6 +1,8 @@
+mod closing;
 mod limits;
 mod lines;
 mod overtaken;
 mod played;
 mod steps;
+mod surveys;
 mod threads;

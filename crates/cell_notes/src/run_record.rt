@@ -9,7 +9,7 @@ use cell_types::Journals;
 pub struct RunRecord {
     /// The state that the run began with.
     pub start: State,
-    /// Each machine's counts. The watch's stay 0.
+    /// Each machine's counts.
     pub counts: [Counts; 7],
     /// Each machine's status at the end.
     pub status: [Status; 7],

@@ -19,7 +19,8 @@ use Rattle.cell_rules.specs.Laws.{RunsClear}
 use Rattle.cell_rules.proofs.Tables.{implied}
 use Rattle.cell_rules.proofs.Holders.{owner_is}
 use Rattle.cell_parts.specs.Axes.{Span, IsIn}
-use Rattle.cell_parts.specs.Plant.{RobotPlant, PlantState}
+use Rattle.cell_parts.specs.declared.plant.RobotPlant.{RobotPlant}
+use Rattle.cell_parts.specs.declared.plant.PlantState.{PlantState}
 use Rattle.cell_parts.specs.Shows.{IsTableBottom}
 use Rattle.cell_parts.specs.Collisions.{arm1_at_table, arm2_in_press, arm1_in_press, arm2_at_deposit, over_deposit_to, over_feed_from, loads_to, IsOn, TableMoves, IsOut, IsArm1AtTable, IsArm1InPress, IsArm2InPress, IsArm2AtDeposit, IsGripperDown, IsOverDeposit, IsOverFeed, ArmHitsPress, TableHitsArm, DepositBeltPulls, FeedBeltPulls, PlateMissesTable}
 use Rattle.cell_parts.specs.PositionDemands.{RestsAtLoading, EndPlatesStand, PositionDemands}

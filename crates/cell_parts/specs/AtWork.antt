@@ -7,14 +7,25 @@ use Rattle.cell_devices.specs.declared.motor.Motor.TheVariants.{Plus, Minus}
 use Rattle.cell_rules.specs.PlaceSet.{empty, insert_place}
 use Rattle.cell_rules.specs.ZoneMap.{zone_map}
 use Rattle.cell_rules.specs.ModelState.{ModelState, model_state}
-use Rattle.cell_parts.specs.Plant.{PlantState}
+use Rattle.cell_parts.specs.declared.plant.PlantState.{PlantState}
 use Rattle.cell_parts.specs.MotorDemands.{ForTravel, AtDeposit}
 use Rattle.cell_parts.specs.Laws.{AllDemandsMet}
 use Rattle.cell_parts.specs.Examples.{zone_of, at, driven_at, robot_at, table_at, crane_at, belt_with}
 
 -- each zone moves, held by its host
 abbrev pub all_moving : ModelState
-all_moving = model_state (zone_map (zone_of Table Moving) (zone_of Table Moving) (zone_of Press Moving) (zone_of Deposit Moving) (zone_of Deposit Moving) (zone_of Feed Moving)) empty 0 false
+all_moving =
+    model_state
+    (zone_map
+    (zone_of Table Moving)
+    (zone_of Table Moving)
+    (zone_of Press Moving)
+    (zone_of Deposit Moving)
+    (zone_of Deposit Moving)
+    (zone_of Feed Moving))
+    empty
+    0
+    false
 
 -- both belts run, table and press move, the robot rotates, and the crane travels and drives its gripper to its
 -- travelling height

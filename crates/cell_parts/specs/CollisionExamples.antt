@@ -6,7 +6,7 @@ use Rattle.cell_types.specs.declared.machine.Machine.TheVariants.{Table, Robot, 
 use Rattle.cell_devices.specs.declared.motor.Motor.{Motor}
 use Rattle.cell_devices.specs.declared.motor.Motor.TheVariants.{Off, Plus, Minus}
 use Rattle.cell_parts.specs.declared.axis.Axis.{Axis}
-use Rattle.cell_parts.specs.Plant.{PlantState}
+use Rattle.cell_parts.specs.declared.plant.PlantState.{PlantState}
 use Rattle.cell_parts.specs.Collisions.{ArmHitsPress, TableHitsArm, DepositBeltPulls, FeedBeltPulls, CraneTravelsLow, RobotTurnsWithArmOut, PlateMissesTable, PlateFalls, DrivesPastEnd, NothingCollides, NothingCollidesWhenSet}
 use Rattle.cell_parts.specs.Examples.{FromTo, IsDriven, empty_cell, driven_at, at, robot_with, robot_at, table_at, crane_with, crane_at, belt_of, with_press, with_robot, with_arm1, with_arm2, with_rotation, with_lift, with_turn, with_crane, with_travel, with_gripper}
 

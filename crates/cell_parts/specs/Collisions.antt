@@ -8,7 +8,10 @@ use Rattle.cell_devices.specs.declared.stops.TheConstants.{ROTATION_ARM1_PRESS, 
 use Rattle.cell_devices.specs.Limits.{retracted_to, travel_from}
 use Rattle.cell_parts.specs.declared.axis.Axis.{Axis}
 use Rattle.cell_parts.specs.Axes.{press_end, arm_end, rotation_end, lift_end, turn_end, crane_end, gripper_end, Span, IsIn}
-use Rattle.cell_parts.specs.Plant.{TablePlant, RobotPlant, CranePlant, PlantState}
+use Rattle.cell_parts.specs.declared.plant.TablePlant.{TablePlant}
+use Rattle.cell_parts.specs.declared.plant.RobotPlant.{RobotPlant}
+use Rattle.cell_parts.specs.declared.plant.CranePlant.{CranePlant}
+use Rattle.cell_parts.specs.declared.plant.PlantState.{PlantState}
 use Rattle.cell_parts.specs.Shows.{IsPressBottom, IsPressMiddle, IsTableBottom, IsCraneAtFeed}
 
 abbrev pub IsOn : Axis → Type 0

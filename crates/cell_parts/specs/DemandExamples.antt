@@ -17,7 +17,7 @@ use Rattle.cell_rules.specs.ModelState.{ModelState}
 use Rattle.cell_rules.specs.Start.{start_state}
 use Rattle.cell_rules.specs.Refusals.{posture_at}
 use Rattle.cell_parts.specs.declared.belt.Belt.{Belt}
-use Rattle.cell_parts.specs.Plant.{PlantState}
+use Rattle.cell_parts.specs.declared.plant.PlantState.{PlantState}
 use Rattle.cell_parts.specs.PositionDemands.{RestsAtLoading, Arm1OutDemands, Arm2OutDemands, PressStands, TableStands, GripperDownDemands, EndPlatesStand, PositionDemands}
 use Rattle.cell_parts.specs.MotorDemands.{PressMotorDemands, TableMotorDemands, FeedMotorDemands, DepositMotorDemands, Arm1MotorDemands, Arm2MotorDemands, GripperErrand, ForTravel, AtDeposit, AtFeed, GripperMotorDemands, MotorDemands, TravelsHigh, RotatesRetracted, DrivesIn, Rests}
 use Rattle.cell_parts.specs.Examples.{FromTo, IsDriven, empty_cell, cell_with_plate_at, driven_at, at, robot_at, table_at, crane_at, belt_of, with_feed, with_deposit, with_table, with_robot, with_crane, with_press, with_lift, all_free, with_zone, held_by}

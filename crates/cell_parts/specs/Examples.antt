@@ -13,7 +13,11 @@ use Rattle.cell_rules.specs.ModelState.{ModelState}
 use Rattle.cell_rules.specs.Start.{start_state}
 use Rattle.cell_parts.specs.declared.axis.Axis.{Axis}
 use Rattle.cell_parts.specs.declared.belt.Belt.{Belt}
-use Rattle.cell_parts.specs.Plant.{TablePlant, RobotPlant, CranePlant, PlantState, plant_at_start}
+use Rattle.cell_parts.specs.declared.plant.TablePlant.{TablePlant}
+use Rattle.cell_parts.specs.declared.plant.RobotPlant.{RobotPlant}
+use Rattle.cell_parts.specs.declared.plant.CranePlant.{CranePlant}
+use Rattle.cell_parts.specs.declared.plant.PlantState.{PlantState}
+use Rattle.cell_parts.specs.Plant.{plant_at_start}
 
 -- numbers from a first to a last, both included
 abbrev pub FromTo : ℕ → ℕ → ℕ → Type 0

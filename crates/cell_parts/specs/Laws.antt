@@ -7,7 +7,7 @@ use Rattle.cell_rules.specs.ModelState.{ModelState}
 use Rattle.cell_rules.specs.Sound.{IsSound, is_open}
 use Rattle.cell_rules.specs.Refusals.{owns, posture_at}
 use Rattle.cell_rules.specs.Laws.{RunsClear}
-use Rattle.cell_parts.specs.Plant.{PlantState}
+use Rattle.cell_parts.specs.declared.plant.PlantState.{PlantState}
 use Rattle.cell_parts.specs.Collisions.{NothingCollides}
 use Rattle.cell_parts.specs.PositionDemands.{EndPlatesStand, PositionDemands}
 use Rattle.cell_parts.specs.MotorDemands.{GripperErrand, MotorDemands, TravelsHigh, RotatesRetracted, DrivesIn, Rests}

@@ -10,7 +10,9 @@ use Rattle.cell_types.specs.declared.place.Place.TheVariants.{FeedEnd}
 use Rattle.cell_devices.specs.declared.motor.Motor.TheVariants.{Off}
 use Rattle.cell_rules.specs.ModelState.{ModelState, is_full}
 use Rattle.cell_rules.specs.Refusals.{owns}
-use Rattle.cell_parts.specs.Plant.{RobotPlant, CranePlant, PlantState}
+use Rattle.cell_parts.specs.declared.plant.RobotPlant.{RobotPlant}
+use Rattle.cell_parts.specs.declared.plant.CranePlant.{CranePlant}
+use Rattle.cell_parts.specs.declared.plant.PlantState.{PlantState}
 use Rattle.cell_parts.specs.Collisions.{IsOn, IsOut, IsArm1AtTable, IsArm2InPress, IsArm1InPress, IsArm2AtDeposit, IsGripperDown, TableMoves}
 use Rattle.cell_parts.specs.PositionDemands.{HoldsIn, Arm1HasTable, Arm1HasPress, Arm2HasPress, Arm2HasDeposit, CraneHasDeposit, CraneHasFeed}
 

@@ -20,38 +20,16 @@ use Rattle.cell_rules.specs.ModelState.{ModelState, is_full}
 use Rattle.cell_rules.specs.History.{is_done}
 use Rattle.cell_parts.specs.declared.axis.Axis.{Axis}
 use Rattle.cell_parts.specs.declared.belt.Belt.{Belt}
+use Rattle.cell_parts.specs.declared.plant.TablePlant.{TablePlant}
+use Rattle.cell_parts.specs.declared.plant.RobotPlant.{RobotPlant}
+use Rattle.cell_parts.specs.declared.plant.CranePlant.{CranePlant}
+use Rattle.cell_parts.specs.declared.plant.PlantState.{PlantState}
 use Rattle.cell_parts.specs.Axes.{press_end, arm_end, rotation_end, lift_end, turn_end, crane_end, gripper_end, speed, rotation_start, gripper_start, belt_end, feed_plate_start, deposit_plate_start, IsWithin}
-
--- the table: its height and its rotation
-pub record TablePlant : Type 0 where
-  pub lift : Axis
-  pub turn : Axis
-
-pub record RobotPlant : Type 0 where
-  pub arm1 : Axis
-  pub arm2 : Axis
-  pub rotation : Axis
-  pub magnet1 : Bool
-  pub magnet2 : Bool
-
--- the crane: its travel and the height of its gripper
-pub record CranePlant : Type 0 where
-  pub travel : Axis
-  pub gripper : Axis
-  pub magnet : Bool
 
 -- a machine's part of the plant, with the scales of its potentiometers
 pub record Scaled (Plant Scales : Type 0) : Type 0 where
   pub plant : Plant
   pub scale : Scales
-
-pub record PlantState : Type 0 where
-  pub feed : Belt
-  pub table : TablePlant
-  pub robot : RobotPlant
-  pub press : Axis
-  pub deposit : Belt
-  pub crane : CranePlant
 
 -- The start: every motor and belt is off, each full place has its plate, and the magnet of an arm or a crane is on if
 -- it has a plate.

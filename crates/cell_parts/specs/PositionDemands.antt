@@ -10,7 +10,8 @@ use Rattle.cell_types.specs.declared.place.Place.TheVariants.{FeedEnd, DepEnd}
 use Rattle.cell_devices.specs.declared.motor.Motor.TheVariants.{Off}
 use Rattle.cell_rules.specs.ModelState.{ModelState, is_full}
 use Rattle.cell_rules.specs.Refusals.{owns, posture_at}
-use Rattle.cell_parts.specs.Plant.{TablePlant, PlantState}
+use Rattle.cell_parts.specs.declared.plant.TablePlant.{TablePlant}
+use Rattle.cell_parts.specs.declared.plant.PlantState.{PlantState}
 use Rattle.cell_parts.specs.Shows.{IsTableBottom}
 use Rattle.cell_parts.specs.Collisions.{IsOut, IsArm1AtTable, IsArm2InPress, IsArm1InPress, IsArm2AtDeposit, IsGripperDown, IsOverDeposit, IsOverFeed, RestsAtMiddle, RestsAtBottom, loads_to}
 

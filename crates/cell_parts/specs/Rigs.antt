@@ -16,7 +16,10 @@ use Rattle.cell_control.specs.Rigs.{Rig}
 use Rattle.cell_parts.specs.declared.axis.Axis.{Axis}
 use Rattle.cell_parts.specs.declared.belt.Belt.{Belt}
 use Rattle.cell_parts.specs.Axes.{RobotScales}
-use Rattle.cell_parts.specs.Plant.{TablePlant, RobotPlant, CranePlant, set_feed, set_table, set_robot, set_press, set_deposit, set_crane, moved_belt, moved_table, moved_robot, moved_press, moved_crane, noted_by_feed, noted_by_deposit}
+use Rattle.cell_parts.specs.declared.plant.TablePlant.{TablePlant}
+use Rattle.cell_parts.specs.declared.plant.RobotPlant.{RobotPlant}
+use Rattle.cell_parts.specs.declared.plant.CranePlant.{CranePlant}
+use Rattle.cell_parts.specs.Plant.{set_feed, set_table, set_robot, set_press, set_deposit, set_crane, moved_belt, moved_table, moved_robot, moved_press, moved_crane, noted_by_feed, noted_by_deposit}
 use Rattle.cell_parts.specs.Shows.{FeedShows, TableShows, RobotShows, PressShows, DepositShows, CraneShows}
 
 abbrev pub feed_rig : Rig Belt FeedSense FeedAct

@@ -6,8 +6,10 @@ pub mod axis;
 pub mod belt;
 pub mod laws;
 pub mod parts;
+pub mod plant;
 mod potentiometer;
 
 pub use axis::Axis;
 pub use belt::Belt;
 pub use parts::{CranePart, DepositPart, FeedPart, PressPart, RobotPart, RobotPoints, TablePart};
+pub use plant::{CranePlant, PlantState, RobotPlant, TablePlant};

@@ -1,6 +1,5 @@
 -- The invariant of each machine's side; it holds in every state of a run of the cell.
-use Rattle.std.proofs.Common.{refl}
-use Rattle.std.specs.Prelude.{⊤}
+use Rattle.std.proofs.Common.{refl, sym, ap}
 use Rattle.cell_types.specs.declared.machine.Machine.{Machine}
 use Rattle.cell_types.specs.declared.machine.Machine.TheVariants.{Feed, Table, Robot, Press, Deposit, Crane, Watch}
 use Rattle.cell_rules.specs.ModelState.{ModelState}
@@ -23,7 +22,7 @@ use Rattle.cell_plant.proofs.FeedKeeps.{FeedInv, FeedRuns, feed-start, feed-keep
 use Rattle.cell_plant.proofs.PressKeeps.{PressInv, PressMoves, press-start, press-keeping, press-demanding}
 use Rattle.cell_plant.proofs.TableKeeps.{TableInv, TableDrives, off_stands, table-start, table-keeping, table-demanding}
 use Rattle.cell_plant.proofs.RobotKeeps.{RobotInv, robot-start, robot-keeping}
-use Rattle.cell_plant.proofs.WatchKeeps.{watch-keeping}
+use Rattle.cell_plant.proofs.WatchKeeps.{WatchInv, watch-keeping}
 
 abbrev pub InvOf : (m : Machine) → ModelState → ProgressOf m → PartOf m → Type 0
 InvOf Feed = With FeedInv FeedRuns
@@ -32,7 +31,7 @@ InvOf Robot = RobotInv
 InvOf Press = With PressInv PressMoves
 InvOf Deposit = With DepositInv DepositRuns
 InvOf Crane = CraneInv
-InvOf Watch = λ z p b. ⊤
+InvOf Watch = WatchInv
 
 -- after their motors' commands; only for the crane more is known then: where its axes will stay
 abbrev pub ToldOf : (m : Machine) → ModelState → ProgressOf m → PartOf m → Type 0
@@ -55,4 +54,4 @@ starts s k Robot = robot-start s
 starts s k Press = (press-start s k, λ on. absurd (on refl))
 starts s k Deposit = (deposit-start s, λ runs. cc)
 starts s k Crane = crane-start s
-starts s k Watch = tt
+starts s k Watch = sym (ap (λ (z : ModelState). z.stopped) k.same)

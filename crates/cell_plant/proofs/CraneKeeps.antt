@@ -31,7 +31,8 @@ use Rattle.cell_unit.specs.Sides.{act_or_rest}
 use Rattle.cell_unit.proofs.Keeping.{Keeping, turn_tells}
 use Rattle.cell_parts.specs.declared.axis.Axis.{Axis}
 use Rattle.cell_parts.specs.Axes.{IsAxisScale, IsWithin, crane_end, gripper_end, gripper_start}
-use Rattle.cell_parts.specs.Plant.{CranePlant, crane_at_start, moved_to, moved_axis, set_axis, set_crane}
+use Rattle.cell_parts.specs.declared.plant.CranePlant.{CranePlant}
+use Rattle.cell_parts.specs.Plant.{crane_at_start, moved_to, moved_axis, set_axis, set_crane}
 use Rattle.cell_parts.specs.Rigs.{crane_rig}
 use Rattle.cell_parts.specs.Shows.{CraneShows}
 use Rattle.cell_parts.specs.Collisions.{IsOn, IsGripperDown, IsOverDeposit, IsOverFeed, over_deposit_to, over_feed_from, LetsGo, CraneMayLetGo, DrivesPast}

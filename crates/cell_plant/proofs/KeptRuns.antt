@@ -1,5 +1,5 @@
 -- Each machine's invariant holds of its side in every state of a run.
-use Rattle.std.proofs.Common.{◌≡◌, Bool, true, false, ◌&&◌, None, is_none, refl, sym, ap, ◌∙◌, subst}
+use Rattle.std.proofs.Common.{◌≡◌, Bool, true, false, None, refl, sym, ap, ◌∙◌, subst}
 use Rattle.cell_types.specs.declared.machine.Machine.{Machine}
 use Rattle.cell_types.specs.declared.machine.Machine.TheVariants.{Feed, Table, Robot, Press, Deposit, Crane, Watch}
 use Rattle.cell_types.specs.Same.{same_machine, one_machine}
@@ -13,7 +13,7 @@ use Rattle.cell_unit.proofs.Keeping.{Keeping, Changes, takes_keeps, takes_change
 use Rattle.cell_parts.specs.Axes.{CellScales}
 use Rattle.cell_plant.specs.Machines.{ProgressOf, PartOf, steps_of, rig_of}
 use Rattle.cell_plant.specs.CellStates.{SideOf, CellState}
-use Rattle.cell_plant.specs.Runs.{Step, TakesTurn, LeadsIf, is_at_work, goes_on}
+use Rattle.cell_plant.specs.Runs.{Step, TakesTurn, LeadsIf, goes_on}
 
 -- each program is its machine's
 pub own_program : (c : CellScales) (m : Machine) → (steps_of c m).machine ≡ m
@@ -24,10 +24,6 @@ own_program c Press = refl
 own_program c Deposit = refl
 own_program c Crane = refl
 own_program c Watch = refl
-
-second_true : (a b : Bool) → (a && b) ≡ true → b ≡ true
-second_true true b e = e
-second_true false b e = cc
 
 module _ (c : CellScales) (InvOf ToldOf : (m : Machine) → ModelState → ProgressOf m → PartOf m → Type 0) (keeping : (m : Machine) → Keeping (steps_of c m) (rig_of c m) (InvOf m) (ToldOf m)) where
   abbrev Holds : (n : Machine) → ModelState → SideOf n → Type 0
@@ -87,7 +83,7 @@ module _ (c : CellScales) (InvOf ToldOf : (m : Machine) → ModelState → Progr
   -- a step keeps the invariants, in both of its states
   pub step_keeps : (b : Bool) (m : Machine) (busy : Bool) (w : CellState) (s : Step) → goes_on w m ≡ b → LeadsIf b c m busy w s → CellInv w → CellInv s.set × CellInv s.moved
   step_keeps true m busy w s e k i =
-      let runs = none_runs (w.side m).stopped (second_true (is_at_work m) (is_none (w.side m).stopped) e) in
+      let runs = none_runs (w.side m).stopped e in
       let set = set_keeps m busy w s k runs i in
       (set, moved_keeps m busy w s k runs i set)
   step_keeps false m busy w s e k i = (subst CellInv (sym k.set) i, subst CellInv (sym k.moved) i)

@@ -13,6 +13,9 @@ pub mod KeptRuns
 pub mod CellKeeps
 pub mod SafeRuns
 pub mod RunSoFar
+pub mod Watched
+mod FilmsSafe
+mod FrameRows
 pub mod Stepping
 mod Deciding
 mod SafetyDecided
@@ -20,3 +23,5 @@ mod SafetyRows
 pub mod Resting
 mod RunRows
 mod RecordRows
+mod WatchRows
+mod WatchRight

@@ -3,12 +3,14 @@ use Rattle.std.proofs.Common.{◌≡◌, ◌≢◌, ℕ, ◌+◌, ℤ, pos, Bool
 use Rattle.cell_types.specs.declared.machine.Machine.{Machine}
 use Rattle.cell_types.specs.declared.machine.Machine.TheVariants.{Feed, Table, Robot, Press, Deposit, Crane, Watch}
 use Rattle.cell_types.specs.declared.call.Call.{Call}
+use Rattle.cell_types.specs.declared.call.Call.TheVariants.{Stop}
 use Rattle.cell_types.specs.declared.answer.Answer.TheVariants.{Done, Refused}
 use Rattle.cell_types.specs.declared.answer.Refusal.TheVariants.{Shut}
 use Rattle.cell_types.specs.declared.posture.Posture.TheVariants.{Closed}
 use Rattle.cell_types.specs.declared.journal.Entry.{Entry}
 use Rattle.cell_types.specs.declared.journal.Journals.{Journals}
 use Rattle.cell_types.specs.declared.reply.Reply.{Reply}
+use Rattle.cell_types.specs.declared.reply.Reply.TheVariants.{Settled}
 use Rattle.cell_types.specs.Everything.{all_machines}
 use Rattle.cell_types.specs.Same.{same_machine}
 use Rattle.cell_calib.specs.Line.{IsReading}
@@ -30,18 +32,20 @@ use Rattle.cell_notes.specs.declared.status.Status.{Status}
 use Rattle.cell_notes.specs.declared.status.Status.TheVariants.{Fine, Sensor, Memory}
 use Rattle.cell_notes.specs.declared.schedule.Turn.{Turn}
 use Rattle.cell_notes.specs.Notes.{no_counts}
+use Rattle.cell_unit.specs.Sides.{side_of}
 use Rattle.cell_unit.specs.Statuses.{status_of}
 use Rattle.cell_parts.specs.Axes.{CellScales}
-use Rattle.cell_plant.specs.Machines.{steps_of}
-use Rattle.cell_plant.specs.CellStates.{SideOf, CellState, cell_at_start}
+use Rattle.cell_plant.specs.Machines.{steps_of, rig_of}
+use Rattle.cell_plant.specs.CellStates.{SideOf, CellState, sides_at_start, cell_at_start}
 use Rattle.cell_plant.specs.Cells.{TellsRun}
+use Rattle.cell_plant.specs.Watch.{watch_noting}
 use Rattle.cell_plant.specs.Records.{IsRecordOf, is_turn_of, counts_in, events_in}
 use Rattle.cell_plant.specs.Runs.{Step, TakesTurn, IsRun, end_of}
 use Rattle.cell_plant.specs.Safety.{IsSafeState, IsSafeRun}
-use Rattle.cell_plant.specs.RunExamples.{opening, at_first, schedule, steps, turn_of, passes}
-use Rattle.cell_plant.specs.RecordExamples.{IsOfLiteralRun, IsOfApart, WrongRecords, IsOfLegalHistory, RecordExamples, IsRecord, IsOfNoTurn, IsUnread, AreJournals, counts_of, counts_by, journal_by, done_entry, refused_entry, steps_apart, last_apart, journals_apart, with_feed_counts, with_watch_counted, open_too_early}
+use Rattle.cell_plant.specs.RunExamples.{opening, at_first, cell_of, schedule, steps, turn_of, asks}
+use Rattle.cell_plant.specs.RecordExamples.{IsOfLiteralRun, IsOfApart, WrongRecords, IsOfLegalHistory, RecordExamples, IsRecord, IsOfNoTurn, IsUnread, AreJournals, IsOfOneStop, counts_of, counts_by, journal_by, done_entry, refused_entry, stop_entry, first_stop, steps_apart, last_apart, journals_apart, with_feed_counts, open_too_early}
 use Rattle.cell_plant.proofs.Deciding.{so, not_so, equals, same_number}
-use Rattle.cell_plant.proofs.RunRows.{run_examples}
+use Rattle.cell_plant.proofs.RunRows.{takes_call, watch_apart, run_examples}
 use Rattle.cell_plant.proofs.SafetyDecided.{is_safe, is_safe_run}
 
 -- ---- one thing is wrong
@@ -78,6 +82,7 @@ module _ (r : RunRecord) where
     refused = λ k. not_so (same_number _ _) refl (feed_count (λ c. c.refused) _ k);
     busy = λ k. not_so (same_number _ _) refl (feed_count (λ c. c.busy) _ k);
     counts_of_others = λ k. not_so (same_number _ _) refl (ap (λ (counts : List Counts). (get_or counts 0 no_counts).done) k.counts);
+    watch_uncounted = λ k. not_so (same_number _ _) refl (ap (turns_at 6) k.counts);
     status = λ k. fine_memory (ap (λ (status : List Status). get_or status 3 Fine) k.status);
     status_of_another = λ k. fine_memory (ap (λ (status : List Status). get_or status 3 Fine) k.status);
     end = λ k. ends_apart _ _ (not_so (same_number _ _) refl) k.end;
@@ -92,8 +97,9 @@ module _ (r : RunRecord) where
 
   -- ---- the record of the literal run
 
-  noted_is : (m : Machine) → noted opening (events_in steps) m ≡ journal_by (done_entry ∷ refused_entry ∷ []) m
+  noted_is : (m : Machine) → noted opening (events_in steps) m ≡ journal_by (done_entry ∷ refused_entry ∷ []) (stop_entry ∷ []) m
   noted_is Feed = refl
+  noted_is Watch = refl
   noted_is _ = refl
 
   figures : IsRecord r → IsOfLiteralRun r
@@ -110,6 +116,7 @@ module _ (r : RunRecord) where
   apart_is Feed = refl
   apart_is Table = refl
   apart_is Robot = refl
+  apart_is Watch = refl
   apart_is _ = refl
 
   apart : IsRecordOf opening steps_apart last_apart r → IsOfApart r
@@ -145,16 +152,37 @@ module _ (r : RunRecord) where
     }
 
     of_run : IsOfLiteralRun r → TellsRun c opening schedule r
-    of_run f = run_by schedule steps (run_examples c).runs.run (recorded f) (so (is_safe_run at_first steps) refl) (refl, (refl, tt)) refl
+    of_run f = run_by schedule steps (run_examples c).runs.run (recorded f) (so (is_safe_run at_first steps) refl) (refl, (refl, (refl, tt))) refl
 
     of_no_turn : IsOfNoTurn opening r → TellsRun c opening [] r
     of_no_turn n = run_by [] [] tt n (so (is_safe_run at_first []) refl) tt refl
 
-    of_the_watch : IsOfNoTurn opening r → TellsRun c opening (turn_of Watch ∷ []) r
+    -- the watch stops the cell
+    abbrev stopped_first : CellState
+    stopped_first = cell_of (record opening { stamp = 1; stopped = true }) (record (sides_at_start opening) { watch = side_of (watch_noting true) None tt })
+
+    abbrev one_stop : List Step
+    one_stop = asks Watch Stop (Ok (Settled Done 1)) stopped_first ∷ []
+
+    first_stop_is : (m : Machine) → noted opening (events_in one_stop) m ≡ first_stop m
+    first_stop_is Watch = refl
+    first_stop_is _ = refl
+
+    turn_stops : TakesTurn c Watch false at_first (asks Watch Stop (Ok (Settled Done 1)) stopped_first)
+    turn_stops = record {
+      taken = refl;
+      takes = takes_call (steps_of c Watch) (rig_of c Watch) _ _ _ _ _ _ _ _ _ _ tt refl refl (refl, refl, refl, refl) refl;
+      others_set = watch_apart _ _;
+      moved = refl;
+      others_moved = λ n e. refl;
+      interlock = refl;
+    }
+
+    of_the_watch : IsOfOneStop r → TellsRun c opening (turn_of Watch ∷ []) r
     of_the_watch n =
-        run_by (turn_of Watch ∷ []) (passes Watch at_first ∷ []) (refl, (record { not_taken = refl; asked = refl; set = refl; moved = refl }, tt))
-        (record { start = n.start; counts = n.counts; status = n.status; journals = n.journals; end = n.end; axes = n.axes })
-        (so (is_safe_run at_first (passes Watch at_first ∷ [])) refl) tt refl
+        run_by (turn_of Watch ∷ []) one_stop (refl, (turn_stops, tt))
+        (record { start = n.start; counts = n.counts; status = n.status; journals = λ m. n.journals m ∙ sym (first_stop_is m); end = n.end; axes = n.axes })
+        (so (is_safe_run at_first one_stop) refl) (refl, tt) refl
 
     of_none_only : (ss : List Step) → IsRun c at_first [] ss → IsRecordOf opening ss (end_of at_first ss) r → IsOfNoTurn opening r
     of_none_only [] run told = told
@@ -200,28 +228,24 @@ module _ (r : RunRecord) where
     }
 
     -- with no turn there are no steps, and so no counts
-    two_turns_of_none : (ss : List Step) → IsRun c at_first [] ss → counts_by (counts_of 2 1 0 1 0) (counts_of 2 0 0 0 1) ≢ map (counts_in ss) all_machines
+    two_turns_of_none : (ss : List Step) → IsRun c at_first [] ss → counts_by (counts_of 2 1 0 1 0) (counts_of 2 0 0 0 1) (counts_of 1 1 0 0 0) ≢ map (counts_in ss) all_machines
     two_turns_of_none [] run e = not_so (same_number _ _) refl (ap (turns_at 0) e)
     two_turns_of_none (s ∷ ss) run e = run
 
-    -- a turn of the feed belt is counted, and one of the watch isn't
+    -- a turn of the feed belt is counted, and one of the watch
     counted_once : (b : Bool) → b ≡ true → 0 ≢ 0 + cond b 1 0
     counted_once true is e = cc
     counted_once false is e = cc
-
-    not_counted : (b : Bool) → b ≡ false → 1 ≢ 0 + cond b 1 0
-    not_counted true is e = cc
-    not_counted false is e = cc
 
     no_turn_of_one : (ss : List Step) → IsRun c at_first (turn_of Feed ∷ []) ss → map (counts_in []) all_machines ≢ map (counts_in ss) all_machines
     no_turn_of_one [] run e = run
     no_turn_of_one (s ∷ x ∷ ss) run e = run.1.1
     no_turn_of_one (s ∷ []) run e = counted_once (is_turn_of Feed s) (ap (λ taken. taken && same_machine s.machine Feed) run.1.0.taken ∙ ap (λ m. same_machine m Feed) run.0) (ap (turns_at 0) e)
 
-    turn_of_watch : (ss : List Step) → IsRun c at_first (turn_of Watch ∷ []) ss → (with_watch_counted r).counts ≢ map (counts_in ss) all_machines
-    turn_of_watch [] run e = run
-    turn_of_watch (s ∷ x ∷ ss) run e = run.1.1
-    turn_of_watch (s ∷ []) run e = not_counted (is_turn_of Watch s) (ap (λ taken. taken && same_machine s.machine Watch) run.1.0.not_taken) (ap (turns_at 6) e)
+    no_turn_of_watch : (ss : List Step) → IsRun c at_first (turn_of Watch ∷ []) ss → map (counts_in []) all_machines ≢ map (counts_in ss) all_machines
+    no_turn_of_watch [] run e = run
+    no_turn_of_watch (s ∷ x ∷ ss) run e = run.1.1
+    no_turn_of_watch (s ∷ []) run e = counted_once (is_turn_of Watch s) (ap (λ taken. taken && same_machine s.machine Watch) run.1.0.taken ∙ ap (λ m. same_machine m Watch) run.0) (ap (turns_at 6) e)
 
     safe_with_no_turn : (w : CellState) (ss : List Step) → IsRun c w [] ss → IsSafeRun w ss → IsSafeState w
     safe_with_no_turn w [] run safe = safe
@@ -242,6 +266,6 @@ record_examples c r = record {
   lawful = lawful r c;
   made_up = λ k t. two_turns_of_none r c t.steps t.run (sym k.counts ∙ t.told.counts);
   left_out = λ k t. no_turn_of_one r c t.steps t.run (sym k.counts ∙ t.told.counts);
-  watch_counted = λ t. turn_of_watch r c t.steps t.run t.told.counts;
+  watch_left_out = λ k t. no_turn_of_watch r c t.steps t.run (sym k.counts ∙ t.told.counts);
   begins_unsafely = λ t. not_so (is_safe (cell_at_start open_too_early)) refl (safe_with_no_turn r c _ t.steps t.run t.safe);
 }

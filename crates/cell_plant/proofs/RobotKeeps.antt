@@ -34,7 +34,8 @@ use Rattle.cell_unit.specs.Sides.{act_or_rest}
 use Rattle.cell_unit.proofs.Keeping.{Keeping, turn_tells}
 use Rattle.cell_parts.specs.declared.axis.Axis.{Axis}
 use Rattle.cell_parts.specs.Axes.{RobotScales as PartScales, IsAxisScale, IsWithin, IsIn, arm_end, rotation_end, rotation_start}
-use Rattle.cell_parts.specs.Plant.{RobotPlant, robot_at_start, moved_axis, set_axis, set_robot}
+use Rattle.cell_parts.specs.declared.plant.RobotPlant.{RobotPlant}
+use Rattle.cell_parts.specs.Plant.{robot_at_start, moved_axis, set_axis, set_robot}
 use Rattle.cell_parts.specs.Rigs.{robot_rig}
 use Rattle.cell_parts.specs.Shows.{RobotShows}
 use Rattle.cell_parts.specs.Collisions.{IsOn, IsOut, IsArm1AtTable, IsArm1InPress, IsArm2InPress, IsArm2AtDeposit, LetsGo, Arm1MayLetGo, Arm2MayLetGo, DrivesPast}

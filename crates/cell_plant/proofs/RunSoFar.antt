@@ -187,7 +187,7 @@ entries_if true own es k = refl
 entries_if false true es k = sym (k refl)
 entries_if false false es k = refl
 
-module _ (turns : List Turn) (t : Turn) (before now : RunMoment) (g : RunSoFar turns before) (o : StepsOn t before now) where
+module _ (turns : List Turn) (t : Turn) (before now : RunMoment) (asked : TurnCall) (g : RunSoFar turns before) (o : StepsOn t before now asked) where
   abbrev s : Step
   s = o.step
 
@@ -232,14 +232,9 @@ module _ (turns : List Turn) (t : Turn) (before now : RunMoment) (g : RunSoFar t
         journals = λ n. journal_next n ∙ ap (λ h. noted before.opening h n) (sym o.history);
       }
 
-  abbrev by_scales : CellScales → ModelState → RunMoment
-  by_scales c z = record now { scales = c; opening = z }
-
-  pub next : RunSoFar (turns ++ t ∷ []) now
-  next = subst (λ z. RunSoFar (turns ++ t ∷ []) (by_scales now.scales z)) (sym o.opening) (subst (λ c. RunSoFar (turns ++ t ∷ []) (by_scales c before.opening)) (sym o.scales) next_by)
-
-pub next_more : (turns more : List Turn) (t : Turn) (before now : RunMoment) → more ≡ turns ++ t ∷ [] → RunSoFar turns before → StepsOn t before now → RunSoFar more now
-next_more turns more t before now e g o = subst (λ ts. RunSoFar ts now) (sym e) (next turns t before now g o)
+  pub next_steps : next_by.steps ≡ g.steps ++ s ∷ []
+  unfolding next_by
+  next_steps = refl
 
 -- there is room for one more turn
 below : (a b i : ℕ) → a ≤ b → b ≡ i → i < 18446744073709551615 → a < 18446744073709551615
@@ -278,9 +273,6 @@ tells turns m r scales start g k =
       reached = lawful.1;
     }
 
-pub tells_all : (c : CellScales) (opening : ModelState) (turns all : List Turn) (m : RunMoment) (r : RunRecord) → turns ≡ all → m.scales ≡ c → m.opening ≡ opening → AreCellScales c → IsStartState opening → RunSoFar turns m → Keeps m opening r
-    → TellsRun c opening all r
-tells_all c opening turns all m r e f o scales start g k =
-    subst (λ ts. TellsRun c opening ts r) e
-    (subst (λ z. TellsRun c z turns r) o
-    (subst (λ x. TellsRun x m.opening turns r) f (tells turns m r (subst AreCellScales (sym f) scales) (subst IsStartState (sym o) start) g (subst (λ z. Keeps m z r) (sym o) k))))
+pub told_steps : (turns : List Turn) (m : RunMoment) (r : RunRecord) (scales : AreCellScales m.scales) (starts : IsStartState m.opening) (g : RunSoFar turns m) (k : Keeps m m.opening r) → (tells turns m r scales starts g k).steps ≡ g.steps
+unfolding tells
+told_steps turns m r scales starts g k = refl

@@ -1,4 +1,4 @@
--- Every state of a run is safe: together the six machines' invariants meet all demands, so nothing collides.
+-- Every state of a run is safe: together the machines' invariants meet all demands, so nothing collides.
 use Rattle.std.proofs.Common.{◌≡◌, Bool, true, false, ◌&&◌, not, inl, inr, Option, Some, None, List, [], ◌∷◌, refl, sym, ap, ◌∙◌, subst}
 use Rattle.cell_types.specs.declared.machine.Machine.{Machine}
 use Rattle.cell_types.specs.declared.machine.Machine.TheVariants.{Feed, Table, Robot, Press, Deposit, Crane, Watch}
@@ -60,13 +60,13 @@ sound_free full stamp k =
     let free = start_state full stamp in
     sound_from free k.stamp_in_range (each_zone (λ z. lawful_in full z (zone_at free z) ≡ true) refl refl (one_place_empty _ k.one_in_press_at_most) refl refl refl)
 
-sound_start : (s : ModelState) → IsStartState s → IsSound s
+pub sound_start : (s : ModelState) → IsStartState s → IsSound s
 sound_start s k = subst IsSound (sym k.same) (sound_free s.full s.stamp k.start)
 
 clear_free : (full : PlaceSet) (stamp : _) → RunsClear (start_state full stamp)
 clear_free full stamp = record { feed = λ e. cc; entry = λ e. cc; end = λ e. cc }
 
-clear_start : (s : ModelState) → IsStartState s → RunsClear s
+pub clear_start : (s : ModelState) → IsStartState s → RunsClear s
 clear_start s k = subst RunsClear (sym k.same) (clear_free s.full s.stamp)
 
 -- an event doesn't change a part that notes nothing

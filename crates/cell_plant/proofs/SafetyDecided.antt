@@ -16,7 +16,10 @@ use Rattle.cell_parts.specs.declared.axis.Axis.{Axis}
 use Rattle.cell_parts.specs.Axes.{press_end, arm_end, rotation_end, lift_end, turn_end, crane_end, gripper_end, Span, IsIn, IsWithin}
 use Rattle.cell_parts.specs.Collisions.{IsOn, IsOut, IsGripperDown, IsOverDeposit, IsOverFeed, RestsAtMiddle, RestsAtBottom, TableMoves, LetsGo, IsAt, PlateFalls, DrivesPast, DrivesPastEnd, NothingCollides, NothingCollidesWhenSet, arm1_at_table, arm2_in_press, arm1_in_press, arm2_at_deposit, over_deposit_to, over_feed_from, loads_to}
 use Rattle.cell_parts.specs.MotorDemands.{GripperErrand, ForTravel, AtDeposit, AtFeed, ErrandDemands, MotorDemands}
-use Rattle.cell_parts.specs.Plant.{TablePlant, CranePlant, PlantState, StaysWithin}
+use Rattle.cell_parts.specs.declared.plant.TablePlant.{TablePlant}
+use Rattle.cell_parts.specs.declared.plant.CranePlant.{CranePlant}
+use Rattle.cell_parts.specs.declared.plant.PlantState.{PlantState}
+use Rattle.cell_parts.specs.Plant.{StaysWithin}
 use Rattle.cell_parts.specs.PositionDemands.{HoldsIn, Arm1HasTable, Arm1HasPress, Arm2HasPress, Arm2HasDeposit, RestsAtLoading, PositionDemands}
 use Rattle.cell_parts.specs.Shows.{press_middle, press_bottom_to, table_bottom_to, crane_feed_from}
 use Rattle.cell_parts.specs.Examples.{at}

@@ -32,16 +32,19 @@ use Rattle.cell_stations.proofs.TableSenses.{senses_near}
 use Rattle.cell_notes.specs.Asks.{TurnCall, settled_in}
 use Rattle.cell_notes.specs.Notes.{Notes, notes_with}
 use Rattle.cell_parts.specs.Axes.{RobotScales as PartScales, CellScales}
-use Rattle.cell_parts.specs.Plant.{TablePlant, RobotPlant, CranePlant}
+use Rattle.cell_parts.specs.declared.plant.TablePlant.{TablePlant}
+use Rattle.cell_parts.specs.declared.plant.RobotPlant.{RobotPlant}
+use Rattle.cell_parts.specs.declared.plant.CranePlant.{CranePlant}
 use Rattle.cell_parts.specs.Rigs.{feed_rig, table_rig, robot_rig, press_rig, deposit_rig, crane_rig}
 use Rattle.cell_unit.specs.Sides.{Side, IsReady}
 use Rattle.cell_unit.proofs.Others.{others_ready}
 use Rattle.cell_unit.proofs.Turning.{unit_turn_still}
 use Rattle.cell_unit.specs.UnitTurns.{UnitTurn, Untouched, Leads as LeadsAlone}
 use Rattle.cell_notes.specs.declared.schedule.Turn.{Turn}
+use Rattle.cell_plant.specs.Watch.{watch_steps, watch_rig}
 use Rattle.cell_plant.specs.Machines.{robot_points, robot_axes, steps_of, rig_of}
 use Rattle.cell_plant.specs.CellStates.{SideOf, CellState, Sides, side_in, sides_at_start}
-use Rattle.cell_plant.specs.Runs.{Step, LeadsIf, is_at_work}
+use Rattle.cell_plant.specs.Runs.{Step, LeadsIf}
 use Rattle.cell_plant.specs.Moments.{RunMoment, AllNotes, StepsOn, state_at, notes_in, first_notes, first_moment}
 
 -- two states are the same if they have the same interlock and the same side of each machine
@@ -78,25 +81,15 @@ put_other Crane Crane x f e = cc
 put_other Watch Watch x f e = cc
 put_other m n x f e = refl
 
-both_true : (a b : Bool) → a ≡ true → b ≡ true → (a && b) ≡ true
-both_true a b e f = rw (e, f) refl
-
-last_false : (a b : Bool) → b ≡ false → (a && b) ≡ false
-last_false true b e = e
-last_false false b e = refl
-
-first_false : (a b : Bool) → a ≡ false → (a && b) ≡ false
-first_false a b e = rw e refl
-
--- a turn of a working machine leaves everything else as it was
-module _ (m : Machine) (busy : Bool) (before now : RunMoment) (asked : TurnCall) (controlled : is_at_work m ≡ true)
+-- a turn of a machine leaves everything else as it was
+module _ (m : Machine) (busy : Bool) (before now : RunMoment) (asked : TurnCall)
     (leads : LeadsAlone (is_none (side_in before.sides m).stopped) (steps_of before.scales m) (rig_of before.scales m) busy before.interlock (side_in before.sides m) asked now.interlock (side_in now.sides m))
     (history : now.history ≡ before.history ++ settled_in m asked)
     (noted : notes_in now.notes m ≡ (if is_none (side_in before.sides m).stopped then notes_with (notes_in before.notes m) asked else notes_in before.notes m))
     (others : (n : Machine) → same_machine m n ≡ false → (side_in now.sides n ≡ side_in before.sides n) × (notes_in now.notes n ≡ notes_in before.notes n))
     (scales : now.scales ≡ before.scales) (opening : now.opening ≡ before.opening) where
   abbrev Goal : Type 0
-  Goal = StepsOn (record { machine = m; busy = busy }) before now
+  Goal = StepsOn (record { machine = m; busy = busy }) before now asked
 
   same_side : (b : Bool) (n : Machine) → same_machine m n ≡ b → side_in now.sides m ≡ side_in before.sides m → side_in now.sides n ≡ side_in before.sides n
   same_side true n e k = subst (λ x. side_in now.sides x ≡ side_in before.sides x) (one_machine m n e) k
@@ -117,8 +110,9 @@ module _ (m : Machine) (busy : Bool) (before now : RunMoment) (asked : TurnCall)
       let step : Step = record { machine = m; taken = true; asked = asked; set = record { interlock = now.interlock; side = put m k.set (side_in before.sides) }; moved = state_at now } in
       record {
         step = step;
+        is_asked = refl;
         machine = refl;
-        leads = subst (λ x. LeadsIf x before.scales m busy (state_at before) step) (sym (both_true (is_at_work m) (is_none (side_in before.sides m).stopped) controlled e))
+        leads = subst (λ x. LeadsIf x before.scales m busy (state_at before) step) (sym e)
             (record {
               taken = refl;
               takes = rw (put_same m k.set (side_in before.sides)) k.acts;
@@ -137,8 +131,9 @@ module _ (m : Machine) (busy : Bool) (before now : RunMoment) (asked : TurnCall)
       let step : Step = record { machine = m; taken = false; asked = asked; set = state_at before; moved = state_at before } in
       record {
         step = step;
+        is_asked = refl;
         machine = refl;
-        leads = subst (λ x. LeadsIf x before.scales m busy (state_at before) step) (sym (last_false (is_at_work m) (is_none (side_in before.sides m).stopped) e)) (record { not_taken = refl; asked = k.asked_nothing; set = refl; moved = refl });
+        leads = subst (λ x. LeadsIf x before.scales m busy (state_at before) step) (sym e) (record { not_taken = refl; asked = k.asked_nothing; set = refl; moved = refl });
         state = same_state (state_at now) (state_at before) k.same (λ n. same_side (same_machine m n) n refl k.stays);
         history = history;
         notes = λ n. noted_by false (same_machine m n) n refl e;
@@ -149,31 +144,16 @@ module _ (m : Machine) (busy : Bool) (before now : RunMoment) (asked : TurnCall)
   pub steps_on : Goal
   steps_on = on (is_none (side_in before.sides m).stopped) refl leads
 
--- a turn of the watch
-pub idle_on : (t : Turn) (w : RunMoment) → is_at_work t.machine ≡ false → StepsOn t w w
-idle_on t w k =
-    let step : Step = record { machine = t.machine; taken = false; asked = None; set = state_at w; moved = state_at w } in
-    record {
-      step = step;
-      machine = refl;
-      leads = subst (λ x. LeadsIf x w.scales t.machine t.busy (state_at w) step) (sym (first_false (is_at_work t.machine) (is_none (side_in w.sides t.machine).stopped) k)) (record { not_taken = refl; asked = refl; set = refl; moved = refl });
-      state = refl;
-      history = sym (append-nil w.history);
-      notes = λ n. refl;
-      scales = refl;
-      opening = refl;
-    }
-
 pub turn_is : (t : Turn) (m : Machine) → t.machine ≡ m → record { machine = m; busy = t.busy } ≡ t
 turn_is t m e = ap (λ (x : Machine). record { machine = x; busy = t.busy }) (sym e)
 
-pub by_turn : (t u : Turn) (before now : RunMoment) → t ≡ u → StepsOn t before now → StepsOn u before now
-by_turn t u before now e k = subst (λ x. StepsOn x before now) e k
+pub by_turn : (t u : Turn) (before now : RunMoment) (asked : TurnCall) → t ≡ u → StepsOn t before now asked → StepsOn u before now asked
+by_turn t u before now asked e k = subst (λ x. StepsOn x before now asked) e k
 
 -- the table's turn: its readings are any that a calibration over its scale may give
-pub table_near : (points : Scale) (gives : ℕ → ℤ → Type 0) (rig : Rig TablePlant TableSense TableAct) (busy : Bool) (old new : Desk) (before now : Side TableProgress TablePlant) (notes notes' : Notes)
-    → UnitTurn (table_steps points gives) rig busy old new before now notes notes' → UnitTurn (table_steps points (IsReading points)) rig busy old new before now notes notes'
-table_near points gives rig busy old new before now notes notes' k = unit_turn_still (table_steps points gives) rig (Senses points (IsReading points)) (senses_near points gives) busy old new before now notes notes' k
+pub table_near : (points : Scale) (gives : ℕ → ℤ → Type 0) (rig : Rig TablePlant TableSense TableAct) (busy : Bool) (old new : Desk) (before now : Side TableProgress TablePlant) (notes notes' : Notes) (asked : TurnCall)
+    → UnitTurn (table_steps points gives) rig busy old new before now notes notes' asked → UnitTurn (table_steps points (IsReading points)) rig busy old new before now notes notes' asked
+table_near points gives rig busy old new before now notes notes' asked k = unit_turn_still (table_steps points gives) rig (Senses points (IsReading points)) (senses_near points gives) busy old new before now notes notes' asked k
 
 -- a turn leaves the sides and the notes of the other machines
 abbrev Others : Machine → Sides → Sides → AllNotes → AllNotes → Type 0
@@ -203,74 +183,81 @@ crane_others : (s : Sides) (x : SideOf Crane) (v : AllNotes) (y : Notes) → Oth
 crane_others s x v y Crane apart = cc
 crane_others s x v y n apart = (refl, refl)
 
--- likewise the robot's and the crane's
-pub robot_near : (points : RobotScales) (gives : RobotGauges) (rig : Rig RobotPlant RobotSense RobotAct) (busy : Bool) (old new : Desk) (before now : Side RobotProgress RobotPlant) (notes notes' : Notes)
-    → UnitTurn (robot_steps points gives) rig busy old new before now notes notes' → UnitTurn (robot_steps points (near_lines points)) rig busy old new before now notes notes'
-robot_near points gives rig busy old new before now notes notes' k = unit_turn_still (robot_steps points gives) rig (RobotSenses points (near_lines points)) (robot_senses_near points gives) busy old new before now notes notes' k
+watch_others : (s : Sides) (x : SideOf Watch) (v : AllNotes) (y : Notes) → Others Watch s (record s { watch = x }) v (record v { watch = y })
+watch_others s x v y Watch apart = cc
+watch_others s x v y n apart = (refl, refl)
 
-pub crane_near : (points : Scale) (gives : ℕ → ℤ → Type 0) (rig : Rig CranePlant CraneSense CraneAct) (busy : Bool) (old new : Desk) (before now : Side CraneProgress CranePlant) (notes notes' : Notes)
-    → UnitTurn (crane_steps points gives) rig busy old new before now notes notes' → UnitTurn (crane_steps points (IsReading points)) rig busy old new before now notes notes'
-crane_near points gives rig busy old new before now notes notes' k = unit_turn_still (crane_steps points gives) rig (CraneSenses points (IsReading points)) (crane_senses_near points gives) busy old new before now notes notes' k
+-- likewise the robot's and the crane's
+pub robot_near : (points : RobotScales) (gives : RobotGauges) (rig : Rig RobotPlant RobotSense RobotAct) (busy : Bool) (old new : Desk) (before now : Side RobotProgress RobotPlant) (notes notes' : Notes) (asked : TurnCall)
+    → UnitTurn (robot_steps points gives) rig busy old new before now notes notes' asked → UnitTurn (robot_steps points (near_lines points)) rig busy old new before now notes notes' asked
+robot_near points gives rig busy old new before now notes notes' asked k = unit_turn_still (robot_steps points gives) rig (RobotSenses points (near_lines points)) (robot_senses_near points gives) busy old new before now notes notes' asked k
+
+pub crane_near : (points : Scale) (gives : ℕ → ℤ → Type 0) (rig : Rig CranePlant CraneSense CraneAct) (busy : Bool) (old new : Desk) (before now : Side CraneProgress CranePlant) (notes notes' : Notes) (asked : TurnCall)
+    → UnitTurn (crane_steps points gives) rig busy old new before now notes notes' asked → UnitTurn (crane_steps points (IsReading points)) rig busy old new before now notes notes' asked
+crane_near points gives rig busy old new before now notes notes' asked k = unit_turn_still (crane_steps points gives) rig (CraneSenses points (IsReading points)) (crane_senses_near points gives) busy old new before now notes notes' asked k
 
 module _ (before now : RunMoment) (busy : Bool) (asked : TurnCall) (scales : now.scales ≡ before.scales) (opening : now.opening ≡ before.opening) where
   -- a machine's turn, which changes its own side and leaves the others
-  alone_on : (m : Machine) → is_at_work m ≡ true
+  alone_on : (m : Machine)
       → LeadsAlone (is_none (side_in before.sides m).stopped) (steps_of before.scales m) (rig_of before.scales m) busy before.interlock (side_in before.sides m) asked now.interlock (side_in now.sides m)
       → now.history ≡ before.history ++ settled_in m asked
       → notes_in now.notes m ≡ (if is_none (side_in before.sides m).stopped then notes_with (notes_in before.notes m) asked else notes_in before.notes m)
-      → (s : Sides) (v : AllNotes) → now.sides ≡ s → now.notes ≡ v → Others m before.sides s before.notes v → StepsOn (record { machine = m; busy = busy }) before now
-  alone_on m controlled leads history noted s v e f others =
-      steps_on m busy before now asked controlled leads history noted (λ n apart. (ap (λ x. side_in x n) e ∙ (others n apart).0, ap (λ x. notes_in x n) f ∙ (others n apart).1)) scales opening
+      → (s : Sides) (v : AllNotes) → now.sides ≡ s → now.notes ≡ v → Others m before.sides s before.notes v → StepsOn (record { machine = m; busy = busy }) before now asked
+  alone_on m leads history noted s v e f others =
+      steps_on m busy before now asked leads history noted (λ n apart. (ap (λ x. side_in x n) e ∙ (others n apart).0, ap (λ x. notes_in x n) f ∙ (others n apart).1)) scales opening
 
   pub feed_on : LeadsAlone (is_none before.sides.feed.stopped) feed_steps feed_rig busy before.interlock before.sides.feed asked now.interlock now.sides.feed
       → now.history ≡ before.history ++ settled_in Feed asked
       → now.notes.feed ≡ (if is_none before.sides.feed.stopped then notes_with before.notes.feed asked else before.notes.feed)
-      → now.sides ≡ record before.sides { feed = now.sides.feed } → now.notes ≡ record before.notes { feed = now.notes.feed } → StepsOn (record { machine = Feed; busy = busy }) before now
-  feed_on leads history noted e f = alone_on Feed refl leads history noted _ _ e f (feed_others before.sides now.sides.feed before.notes now.notes.feed)
+      → now.sides ≡ record before.sides { feed = now.sides.feed } → now.notes ≡ record before.notes { feed = now.notes.feed } → StepsOn (record { machine = Feed; busy = busy }) before now asked
+  feed_on leads history noted e f = alone_on Feed leads history noted _ _ e f (feed_others before.sides now.sides.feed before.notes now.notes.feed)
 
   pub table_on : (points : Scale) → LeadsAlone (is_none before.sides.table.stopped) (table_steps points (IsReading points)) (table_rig before.scales.turn) busy before.interlock before.sides.table asked now.interlock now.sides.table
       → before.scales.turn ≡ points → now.history ≡ before.history ++ settled_in Table asked
       → now.notes.table ≡ (if is_none before.sides.table.stopped then notes_with before.notes.table asked else before.notes.table)
-      → now.sides ≡ record before.sides { table = now.sides.table } → now.notes ≡ record before.notes { table = now.notes.table } → StepsOn (record { machine = Table; busy = busy }) before now
+      → now.sides ≡ record before.sides { table = now.sides.table } → now.notes ≡ record before.notes { table = now.notes.table } → StepsOn (record { machine = Table; busy = busy }) before now asked
   table_on points leads fits history noted e f =
       let led = subst (λ (s : Scale). LeadsAlone (is_none before.sides.table.stopped) (table_steps s (IsReading s)) (table_rig before.scales.turn) busy before.interlock before.sides.table asked now.interlock now.sides.table) (sym fits) leads in
-      alone_on Table refl led history noted _ _ e f (table_others before.sides now.sides.table before.notes now.notes.table)
+      alone_on Table led history noted _ _ e f (table_others before.sides now.sides.table before.notes now.notes.table)
 
   pub robot_on : (points : RobotScales) → LeadsAlone (is_none before.sides.robot.stopped) (robot_steps points (near_lines points)) (robot_rig (robot_axes before.scales)) busy before.interlock before.sides.robot asked now.interlock now.sides.robot
       → before.scales.arm1 ≡ points.arm1 → before.scales.arm2 ≡ points.arm2 → before.scales.rotation ≡ points.rotation → now.history ≡ before.history ++ settled_in Robot asked
       → now.notes.robot ≡ (if is_none before.sides.robot.stopped then notes_with before.notes.robot asked else before.notes.robot)
-      → now.sides ≡ record before.sides { robot = now.sides.robot } → now.notes ≡ record before.notes { robot = now.notes.robot } → StepsOn (record { machine = Robot; busy = busy }) before now
+      → now.sides ≡ record before.sides { robot = now.sides.robot } → now.notes ≡ record before.notes { robot = now.notes.robot } → StepsOn (record { machine = Robot; busy = busy }) before now asked
   robot_on points leads a b d history noted e f =
       let fits : points ≡ robot_points before.scales = λ i. record { arm1 = sym a i; arm2 = sym b i; rotation = sym d i } in
       let led = subst (λ (s : RobotScales). LeadsAlone (is_none before.sides.robot.stopped) (robot_steps s (near_lines s)) (robot_rig (robot_axes before.scales)) busy before.interlock before.sides.robot asked now.interlock now.sides.robot) fits leads in
-      alone_on Robot refl led history noted _ _ e f (robot_others before.sides now.sides.robot before.notes now.notes.robot)
+      alone_on Robot led history noted _ _ e f (robot_others before.sides now.sides.robot before.notes now.notes.robot)
 
   pub press_on : LeadsAlone (is_none before.sides.press.stopped) press_steps press_rig busy before.interlock before.sides.press asked now.interlock now.sides.press
       → now.history ≡ before.history ++ settled_in Press asked
       → now.notes.press ≡ (if is_none before.sides.press.stopped then notes_with before.notes.press asked else before.notes.press)
-      → now.sides ≡ record before.sides { press = now.sides.press } → now.notes ≡ record before.notes { press = now.notes.press } → StepsOn (record { machine = Press; busy = busy }) before now
-  press_on leads history noted e f = alone_on Press refl leads history noted _ _ e f (press_others before.sides now.sides.press before.notes now.notes.press)
+      → now.sides ≡ record before.sides { press = now.sides.press } → now.notes ≡ record before.notes { press = now.notes.press } → StepsOn (record { machine = Press; busy = busy }) before now asked
+  press_on leads history noted e f = alone_on Press leads history noted _ _ e f (press_others before.sides now.sides.press before.notes now.notes.press)
 
   pub deposit_on : LeadsAlone (is_none before.sides.deposit.stopped) deposit_steps deposit_rig busy before.interlock before.sides.deposit asked now.interlock now.sides.deposit
       → now.history ≡ before.history ++ settled_in Deposit asked
       → now.notes.deposit ≡ (if is_none before.sides.deposit.stopped then notes_with before.notes.deposit asked else before.notes.deposit)
-      → now.sides ≡ record before.sides { deposit = now.sides.deposit } → now.notes ≡ record before.notes { deposit = now.notes.deposit } → StepsOn (record { machine = Deposit; busy = busy }) before now
-  deposit_on leads history noted e f = alone_on Deposit refl leads history noted _ _ e f (deposit_others before.sides now.sides.deposit before.notes now.notes.deposit)
+      → now.sides ≡ record before.sides { deposit = now.sides.deposit } → now.notes ≡ record before.notes { deposit = now.notes.deposit } → StepsOn (record { machine = Deposit; busy = busy }) before now asked
+  deposit_on leads history noted e f = alone_on Deposit leads history noted _ _ e f (deposit_others before.sides now.sides.deposit before.notes now.notes.deposit)
 
   pub crane_on : (points : Scale) → LeadsAlone (is_none before.sides.crane.stopped) (crane_steps points (IsReading points)) (crane_rig before.scales.gripper) busy before.interlock before.sides.crane asked now.interlock now.sides.crane
       → before.scales.gripper ≡ points → now.history ≡ before.history ++ settled_in Crane asked
       → now.notes.crane ≡ (if is_none before.sides.crane.stopped then notes_with before.notes.crane asked else before.notes.crane)
-      → now.sides ≡ record before.sides { crane = now.sides.crane } → now.notes ≡ record before.notes { crane = now.notes.crane } → StepsOn (record { machine = Crane; busy = busy }) before now
+      → now.sides ≡ record before.sides { crane = now.sides.crane } → now.notes ≡ record before.notes { crane = now.notes.crane } → StepsOn (record { machine = Crane; busy = busy }) before now asked
   crane_on points leads fits history noted e f =
       let led = subst (λ (s : Scale). LeadsAlone (is_none before.sides.crane.stopped) (crane_steps s (IsReading s)) (crane_rig before.scales.gripper) busy before.interlock before.sides.crane asked now.interlock now.sides.crane) (sym fits) leads in
-      alone_on Crane refl led history noted _ _ e f (crane_others before.sides now.sides.crane before.notes now.notes.crane)
+      alone_on Crane led history noted _ _ e f (crane_others before.sides now.sides.crane before.notes now.notes.crane)
 
-pub watch_rests : (m : Machine) → m ≡ Watch → is_at_work m ≡ false
-watch_rests m e = ap is_at_work e
+  pub watch_on : LeadsAlone (is_none before.sides.watch.stopped) watch_steps watch_rig busy before.interlock before.sides.watch asked now.interlock now.sides.watch
+      → now.history ≡ before.history ++ settled_in Watch asked
+      → now.notes.watch ≡ (if is_none before.sides.watch.stopped then notes_with before.notes.watch asked else before.notes.watch)
+      → now.sides ≡ record before.sides { watch = now.sides.watch } → now.notes ≡ record before.notes { watch = now.notes.watch } → StepsOn (record { machine = Watch; busy = busy }) before now asked
+  watch_on leads history noted e f = alone_on Watch leads history noted _ _ e f (watch_others before.sides now.sides.watch before.notes now.notes.watch)
 
 -- what holds if a turn was Ok
-pub on_ok : {A E : Type 0} → (r : Result A E) (P Q : Type 0) → OnOk r P → (P → Q) → IfOk r (λ x. Q)
-on_ok (Ok x) P Q p f = f p
+pub on_ok : {A E : Type 0} → (r : Result A E) (P Q : A → Type 0) → IfOk r P → ((x : A) → P x → Q x) → IfOk r Q
+on_ok (Ok x) P Q p f = f x p
 on_ok (Err e) P Q p f = tt
 
 -- after any turn, Ok or not, the bench keeps its opening, and its history grows by what was asked
@@ -279,9 +266,9 @@ pub record Grows (m : Machine) (old new : Desk) : Type 0 where
   pub opening : new.opening ≡ old.opening
   pub history : new.history ≡ old.history ++ settled_in m asked
 
-pub grows : {E S Sense Reading Act State : Type 0} → (r : Result Unit E) (t : Steps S Sense Reading Act) (rig : Rig State Sense Act) (busy : Bool) (old new : Desk) (before now : Side S State) (notes notes' : Notes)
-    → OnOk r (UnitTurn t rig busy old new before now notes notes') → OnErr r (Untouched old new before now notes notes') → Grows t.machine old new
-grows (Ok x) t rig busy old new before now notes notes' k u = record { asked = k.asked; opening = k.opening; history = k.history }
+pub grows : {E S Sense Reading Act State : Type 0} → (r : Result TurnCall E) (t : Steps S Sense Reading Act) (rig : Rig State Sense Act) (busy : Bool) (old new : Desk) (before now : Side S State) (notes notes' : Notes)
+    → IfOk r (UnitTurn t rig busy old new before now notes notes') → OnErr r (Untouched old new before now notes notes') → Grows t.machine old new
+grows (Ok asked) t rig busy old new before now notes notes' k u = record { asked = asked; opening = k.opening; history = k.history }
 grows (Err e) t rig busy old new before now notes notes' k u = record { asked = None; opening = ap (λ (d : Desk). d.opening) u.desk; history = ap (λ (d : Desk). d.history) u.desk ∙ sym (append-nil old.history) }
 
 -- the other machines' controllers stay ready

@@ -29,7 +29,8 @@ use Rattle.cell_stations.specs.declared.table.TableStep.{TableStep}
 use Rattle.cell_stations.specs.declared.table.TableStep.TheVariants.{ClaimEntry, ClaimExit, LeaveForLoading, MoveToLoading, PoseLoading, ReleaseEntry, TakePlate, LeaveForUnloading, MoveToUnloading, PoseUnloading, GivePlate, ClaimBack}
 use Rattle.cell_stations.specs.declared.table.TableProgress.{TableProgress}
 use Rattle.cell_parts.specs.Axes.{IsAxisScale, IsWithin, lift_end, turn_end}
-use Rattle.cell_parts.specs.Plant.{TablePlant, table_at_start, set_axis, set_table, moved_table}
+use Rattle.cell_parts.specs.declared.plant.TablePlant.{TablePlant}
+use Rattle.cell_parts.specs.Plant.{table_at_start, set_axis, set_table, moved_table}
 use Rattle.cell_control.specs.declared.fault.CtlFault.{CtlFault}
 use Rattle.cell_control.specs.Turns.{Turned, Turns}
 use Rattle.cell_stations.specs.declared.table.TableReading.{TableReading}

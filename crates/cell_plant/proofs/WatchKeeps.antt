@@ -1,20 +1,52 @@
--- The watch has no invariant to keep.
-use Rattle.std.proofs.Common.{◌≡◌, Option, Some, None, refl}
-use Rattle.std.specs.Prelude.{⊤}
+-- What the watch keeps: its note is the mark of the interlock.
+use Rattle.std.proofs.Common.{◌≡◌, Bool, true, false, not, if◌then◌else◌, Some, refl, sym, ◌∙◌}
+use Rattle.cell_types.specs.declared.machine.Machine.{Machine}
+use Rattle.cell_types.specs.declared.machine.Machine.TheVariants.{Watch}
 use Rattle.cell_types.specs.declared.call.Call.{Call}
+use Rattle.cell_types.specs.declared.call.Call.TheVariants.{Stop, Resume}
+use Rattle.cell_types.specs.declared.answer.Answer.{Answer}
+use Rattle.cell_types.specs.declared.answer.Answer.TheVariants.{Done, Shown, Refused}
+use Rattle.cell_types.specs.Same.{same_machine}
+use Rattle.cell_rules.specs.ModelState.{ModelState}
+use Rattle.cell_rules.specs.Refusals.{stop_refusal, resume_refusal}
+use Rattle.cell_rules.specs.Reply.{reply, next, next_by, stopped_after}
+use Rattle.cell_rules.proofs.Done.{stop_done, resume_done}
+use Rattle.cell_rules.proofs.Soundness.{done_none}
 use Rattle.cell_unit.proofs.Keeping.{Keeping}
-use Rattle.cell_plant.specs.Machines.{no_steps, no_rig}
+use Rattle.cell_plant.specs.declared.watch.WatchProgress.{WatchProgress}
+use Rattle.cell_plant.specs.Watch.{watch_steps, watch_rig}
 
-none_asked : (o : Option Call) (c : Call) (P : Type 0) → o ≡ None → o ≡ Some c → P
-none_asked o c P e k = cc
+abbrev pub WatchInv : ModelState → WatchProgress → Unit {0} → Type 0
+WatchInv z p b = p.has_stopped ≡ z.stopped
 
-pub watch-keeping : Keeping no_steps no_rig (λ z p b. ⊤) (λ z p b. ⊤)
+no_watch : (b : Bool) (P : Type 0) → b ≡ true → b ≡ false → P
+no_watch true P e apart = cc
+no_watch false P e apart = cc
+
+-- no other machine changes the mark
+mark_by : (a : Answer) (z : ModelState) (n : Machine) (c : Call) → reply z n c ≡ a → same_machine n Watch ≡ false → (next_by a z n c).stopped ≡ z.stopped
+mark_by Done z n Stop e apart = no_watch (same_machine n Watch) _ (stop_done z n (done_none (stop_refusal z n) e)).0 apart
+mark_by Done z n Resume e apart = no_watch (same_machine n Watch) _ (resume_done z n (done_none (resume_refusal z n) e)).0 apart
+mark_by Done z n _ e apart = refl
+mark_by (Refused r) z n c e apart = refl
+mark_by (Shown owner flag posture) z n c e apart = refl
+
+pub mark_stays : (z : ModelState) (n : Machine) (c : Call) → same_machine n Watch ≡ false → (next z n c).stopped ≡ z.stopped
+mark_stays z n c apart = mark_by (reply z n c) z n c refl apart
+
+-- its own call turns both
+turns_both : (b : Bool) (c : Call) (z : ModelState) → Some (if b then Resume else Stop) ≡ Some c → not b ≡ stopped_after z c
+turns_both true Resume z e = refl
+turns_both false Stop z e = refl
+turns_both b c z e = cc
+
+pub watch-keeping : Keeping watch_steps watch_rig WatchInv WatchInv
 watch-keeping = record {
-  foreign = λ z p b n c apart sound i. tt;
-  rests = λ z p b i. tt;
-  after_done = λ z p b c e d sound i. none_asked None c _ refl e;
-  after_inquiry = λ z p b c owner flag posture e d sound i. none_asked None c _ refl e;
-  after_drive = λ z p b s reading act e shows senses drives i. tt;
+  foreign = λ z p b n c apart sound i. i ∙ sym (mark_stays z n c apart);
+  rests = λ z p b i. i;
+  after_done = λ z p b c e d sound i. turns_both p.has_stopped c z e;
+  after_inquiry = λ z p b c owner flag posture e d sound i. i;
+  after_drive = λ z p b s reading act e shows senses drives i. i;
   told = λ z p b i. i;
-  moves = λ z p b i. tt;
+  moves = λ z p b i. i;
 }

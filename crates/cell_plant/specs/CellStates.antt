@@ -17,9 +17,15 @@ use Rattle.cell_stations.specs.PressProgram.{press_start}
 use Rattle.cell_stations.specs.TableProgram.{table_start}
 use Rattle.cell_parts.specs.declared.axis.Axis.{Axis}
 use Rattle.cell_parts.specs.declared.belt.Belt.{Belt}
-use Rattle.cell_parts.specs.Plant.{TablePlant, RobotPlant, CranePlant, PlantState, feed_at_start, table_at_start, robot_at_start, press_at_start, deposit_at_start, crane_at_start}
+use Rattle.cell_parts.specs.declared.plant.TablePlant.{TablePlant}
+use Rattle.cell_parts.specs.declared.plant.RobotPlant.{RobotPlant}
+use Rattle.cell_parts.specs.declared.plant.CranePlant.{CranePlant}
+use Rattle.cell_parts.specs.declared.plant.PlantState.{PlantState}
+use Rattle.cell_parts.specs.Plant.{feed_at_start, table_at_start, robot_at_start, press_at_start, deposit_at_start, crane_at_start}
 use Rattle.cell_unit.specs.Sides.{Side, side_of}
+use Rattle.cell_plant.specs.declared.watch.WatchProgress.{WatchProgress}
 use Rattle.cell_plant.specs.Machines.{ProgressOf, PartOf}
+use Rattle.cell_plant.specs.Watch.{watch_at_start}
 
 abbrev pub SideOf : Machine → Type 0
 SideOf m = Side (ProgressOf m) (PartOf m)
@@ -40,7 +46,7 @@ plant_of w =
       crane = (w.side Crane).part;
     }
 
--- what is known of the six machines, and the side of each
+-- what is known of the machines, and the side of each
 pub record Sides : Type 0 where
   pub feed : Side FeedProgress Belt
   pub table : Side TableProgress TablePlant
@@ -48,6 +54,7 @@ pub record Sides : Type 0 where
   pub press : Side PressProgress Axis
   pub deposit : Side DepositProgress Belt
   pub crane : Side CraneProgress CranePlant
+  pub watch : Side WatchProgress (Unit {0})
 
 abbrev pub side_in : Sides → (m : Machine) → SideOf m
 side_in s Feed = s.feed
@@ -56,7 +63,7 @@ side_in s Robot = s.robot
 side_in s Press = s.press
 side_in s Deposit = s.deposit
 side_in s Crane = s.crane
-side_in s Watch = side_of tt None tt
+side_in s Watch = s.watch
 
 -- the cell at the start: each controller at the beginning of its program, and each part at its start
 abbrev pub sides_at_start : ModelState → Sides
@@ -68,6 +75,7 @@ sides_at_start s =
       press = side_of (press_start s) None press_at_start;
       deposit = side_of (deposit_start s) None (deposit_at_start s);
       crane = side_of (crane_start s) None (crane_at_start s);
+      watch = watch_at_start;
     }
 
 abbrev pub cell_at_start : ModelState → CellState

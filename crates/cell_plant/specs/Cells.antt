@@ -4,16 +4,18 @@ use Rattle.cell_calib.specs.declared.gauge.Gauge.{Ghosts}
 use Rattle.cell_rules.specs.ModelState.{ModelState}
 use Rattle.cell_rules.specs.History.{IsLegal, after}
 use Rattle.cell_notes.specs.declared.run_record.RunRecord.{RunRecord}
-use Rattle.cell_unit.specs.Sides.{side_of}
+use Rattle.cell_unit.specs.Sides.{Side, side_of}
 use Rattle.cell_parts.specs.Axes.{CellScales}
 use Rattle.cell_robot.specs.declared.robot.RobotProgram.{RobotProgram}
 use Rattle.cell_robot.specs.RobotProgram.{RobotScales, robot_scales}
 use Rattle.cell_plant.specs.declared.cell.Cell.{Cell}
+use Rattle.cell_plant.specs.declared.watch.WatchProgress.{WatchProgress}
 use Rattle.cell_notes.specs.declared.schedule.Turn.{Turn}
 use Rattle.cell_plant.specs.CellStates.{Sides, sides_at_start, cell_at_start}
 use Rattle.cell_plant.specs.Records.{IsRecordOf, events_in}
 use Rattle.cell_plant.specs.Runs.{Step, IsRun, end_of}
 use Rattle.cell_plant.specs.Safety.{IsSafeRun}
+use Rattle.cell_plant.specs.Watch.{watch_at_start}
 
 -- the points of its five potentiometers
 abbrev pub cell_scales : {F1 F2 F3 F4 F5 : Type 0} {g1 : Ghosts F1} {g2 : Ghosts F2} {g3 : Ghosts F3} {g4 : Ghosts F4} {g5 : Ghosts F5} → Cell F1 F2 F3 F4 F5 g1 g2 g3 g4 g5 → CellScales
@@ -30,9 +32,9 @@ cell_scales cell =
 abbrev pub points_of : {F1 F2 F3 : Type 0} {g1 : Ghosts F1} {g2 : Ghosts F2} {g3 : Ghosts F3} → RobotProgram F1 F2 F3 g1 g2 g3 → RobotScales
 points_of robot = robot_scales robot.arm1.points robot.arm2.points robot.rotation.points
 
--- its six machines
-abbrev pub sides_of : {F1 F2 F3 F4 F5 : Type 0} {g1 : Ghosts F1} {g2 : Ghosts F2} {g3 : Ghosts F3} {g4 : Ghosts F4} {g5 : Ghosts F5} → Cell F1 F2 F3 F4 F5 g1 g2 g3 g4 g5 → Sides
-sides_of cell =
+-- its six machines, and the watch
+abbrev pub sides_of : {F1 F2 F3 F4 F5 : Type 0} {g1 : Ghosts F1} {g2 : Ghosts F2} {g3 : Ghosts F3} {g4 : Ghosts F4} {g5 : Ghosts F5} → Cell F1 F2 F3 F4 F5 g1 g2 g3 g4 g5 → Side WatchProgress (Unit {0}) → Sides
+sides_of cell watch =
     record {
       feed = side_of cell.feed.controller.progress cell.feed.controller.stopped cell.feed.part.belt;
       table = side_of cell.table.controller.progress cell.table.controller.stopped cell.table.part.plant;
@@ -40,6 +42,7 @@ sides_of cell =
       press = side_of cell.press.controller.progress cell.press.controller.stopped cell.press.part;
       deposit = side_of cell.deposit.controller.progress cell.deposit.controller.stopped cell.deposit.part.belt;
       crane = side_of cell.crane.controller.progress cell.crane.controller.stopped cell.crane.part.plant;
+      watch = watch;
     }
 
 -- each potentiometer has the points of its calibration
@@ -52,7 +55,7 @@ pub record IsFitted {F1 F2 F3 F4 F5 : Type 0} {g1 : Ghosts F1} {g2 : Ghosts F2} 
 
 -- a cell that was made for a state: each controller is at the beginning of its program, and each part at its start
 pub record IsMadeFor {F1 F2 F3 F4 F5 : Type 0} {g1 : Ghosts F1} {g2 : Ghosts F2} {g3 : Ghosts F3} {g4 : Ghosts F4} {g5 : Ghosts F5} (s : ModelState) (cell : Cell F1 F2 F3 F4 F5 g1 g2 g3 g4 g5) : Type 0 where
-  pub begins : sides_of cell ≡ sides_at_start s
+  pub begins : sides_of cell watch_at_start ≡ sides_at_start s
   pub fitted : IsFitted cell
 
 -- A record is of a run of a schedule from an opening. Nothing collides in that run, and its events are a legal history

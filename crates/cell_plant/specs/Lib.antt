@@ -1,3 +1,4 @@
+pub mod Watch
 pub mod Machines
 pub mod CellStates
 pub mod Runs
@@ -7,8 +8,12 @@ pub mod Errands
 pub mod Safety
 pub mod SafetyExamples
 pub mod Cells
+pub mod Frames
 pub mod RunExamples
 pub mod RecordExamples
+pub mod FrameExamples
 pub mod Moments
 pub mod Notebooks
 pub mod Simulations
+pub mod WatchExamples
+pub mod WatchLaws

@@ -1,5 +1,4 @@
--- The machines of the cell, looked up by name: what each consists of. The watch has neither a controller nor a part.
-use Rattle.std.specs.Prelude.{false, None, ⊤}
+-- The machines of the cell, looked up by name: what each consists of. The watch has nothing to move.
 use Rattle.cell_types.specs.declared.machine.Machine.{Machine}
 use Rattle.cell_types.specs.declared.machine.Machine.TheVariants.{Feed, Table, Robot, Press, Deposit, Crane, Watch}
 use Rattle.cell_calib.specs.declared.sense.CraneSense.{CraneSense}
@@ -35,8 +34,12 @@ use Rattle.cell_stations.specs.TableProgram.{table_steps}
 use Rattle.cell_parts.specs.declared.axis.Axis.{Axis}
 use Rattle.cell_parts.specs.declared.belt.Belt.{Belt}
 use Rattle.cell_parts.specs.Axes.{RobotScales as PartScales, CellScales}
-use Rattle.cell_parts.specs.Plant.{TablePlant, RobotPlant, CranePlant}
+use Rattle.cell_parts.specs.declared.plant.TablePlant.{TablePlant}
+use Rattle.cell_parts.specs.declared.plant.RobotPlant.{RobotPlant}
+use Rattle.cell_parts.specs.declared.plant.CranePlant.{CranePlant}
 use Rattle.cell_parts.specs.Rigs.{feed_rig, table_rig, robot_rig, press_rig, deposit_rig, crane_rig}
+use Rattle.cell_plant.specs.declared.watch.WatchProgress.{WatchProgress}
+use Rattle.cell_plant.specs.Watch.{watch_steps, watch_rig}
 
 -- its steps with their notes
 abbrev pub ProgressOf : Machine → Type 0
@@ -46,7 +49,7 @@ ProgressOf Robot = RobotProgress
 ProgressOf Press = PressProgress
 ProgressOf Deposit = DepositProgress
 ProgressOf Crane = CraneProgress
-ProgressOf Watch = Unit {0}
+ProgressOf Watch = WatchProgress
 
 -- what its sensors show, and what the checked sensors say
 abbrev pub SenseOf : Machine → Type 0
@@ -87,26 +90,6 @@ PartOf Deposit = Belt
 PartOf Crane = CranePlant
 PartOf Watch = Unit {0}
 
--- the watch: a program with no step that does anything, and a part that takes no commands
-abbrev pub no_steps : Steps (Unit {0}) (Unit {0}) (Unit {0}) (Unit {0})
-no_steps =
-    record {
-      machine = Watch;
-      start = λ s. tt;
-      call = λ p. None;
-      after_done = λ p. p;
-      after_inquiry = λ p owner flag posture. p;
-      stays_on = λ p r. false;
-      senses = λ s r. ⊤;
-      drives = λ p r act. ⊤;
-      after_drive = λ p r act. p;
-      rest = λ p. tt;
-      motor_demands = λ p act opening seen. ⊤;
-    }
-
-abbrev pub no_rig : Rig (Unit {0}) (Unit {0}) (Unit {0})
-no_rig = record { shows = λ a s. ⊤; notes = λ a e. a; set = λ a act. a; moves = λ a. a }
-
 -- the robot's scales, as its program and as its part names them
 abbrev pub robot_points : CellScales → RobotScales
 robot_points c = robot_scales c.arm1 c.arm2 c.rotation
@@ -123,7 +106,7 @@ steps_of c Robot = robot_steps (robot_points c) (near_lines (robot_points c))
 steps_of c Press = press_steps
 steps_of c Deposit = deposit_steps
 steps_of c Crane = crane_steps c.gripper (IsReading c.gripper)
-steps_of c Watch = no_steps
+steps_of c Watch = watch_steps
 
 abbrev pub rig_of : CellScales → (m : Machine) → Rig (PartOf m) (SenseOf m) (ActOf m)
 rig_of c Feed = feed_rig
@@ -132,4 +115,4 @@ rig_of c Robot = robot_rig (robot_axes c)
 rig_of c Press = press_rig
 rig_of c Deposit = deposit_rig
 rig_of c Crane = crane_rig c.gripper
-rig_of c Watch = no_rig
+rig_of c Watch = watch_rig

@@ -8,7 +8,7 @@ use Rattle.cell_types.specs.Journals.{journal_of}
 use Rattle.cell_types.specs.Same.{same_machine}
 use Rattle.cell_rules.specs.ModelState.{ModelState}
 use Rattle.cell_notes.specs.declared.run_record.RunRecord.{RunRecord}
-use Rattle.cell_notes.specs.Asks.{settled_in}
+use Rattle.cell_notes.specs.Asks.{TurnCall, settled_in}
 use Rattle.cell_notes.specs.Notes.{Notes, no_notes, notes_with}
 use Rattle.cell_unit.specs.Statuses.{status_of}
 use Rattle.cell_parts.specs.Axes.{CellScales}
@@ -65,8 +65,9 @@ first_moment c s =
     }
 
 -- a turn is a step of the run, and the machine notes what it asked
-pub record StepsOn (t : Turn) (before now : RunMoment) : Type 0 where
+pub record StepsOn (t : Turn) (before now : RunMoment) (asked : TurnCall) : Type 0 where
   pub step : Step
+  pub is_asked : step.asked ≡ asked
   pub machine : step.machine ≡ t.machine
   pub leads : Leads before.scales t.machine t.busy (state_at before) step
   pub state : state_at now ≡ step.moved

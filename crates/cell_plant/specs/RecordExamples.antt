@@ -4,7 +4,7 @@ use Rattle.cell_types.specs.declared.machine.Machine.{Machine}
 use Rattle.cell_types.specs.declared.machine.Machine.TheVariants.{Feed, Table, Robot, Press, Deposit, Crane, Watch}
 use Rattle.cell_types.specs.declared.zone.Zone.TheVariants.{Z1, Z2, Z3, Z4, Z6}
 use Rattle.cell_types.specs.declared.posture.Posture.TheVariants.{Closed, OpenIn}
-use Rattle.cell_types.specs.declared.call.Call.TheVariants.{Claim, Inquire}
+use Rattle.cell_types.specs.declared.call.Call.TheVariants.{Claim, Inquire, Stop, Resume}
 use Rattle.cell_types.specs.declared.answer.Answer.TheVariants.{Done, Refused, Shown}
 use Rattle.cell_types.specs.declared.answer.Refusal.TheVariants.{Shut, Jump}
 use Rattle.cell_types.specs.declared.answer.Event.{Event}
@@ -30,13 +30,14 @@ use Rattle.cell_notes.specs.declared.status.Status.TheVariants.{Fine, Worn, Sens
 use Rattle.cell_notes.specs.Notes.{no_counts}
 use Rattle.cell_unit.specs.Sides.{side_of}
 use Rattle.cell_parts.specs.Axes.{CellScales}
-use Rattle.cell_parts.specs.Plant.{PlantState}
+use Rattle.cell_parts.specs.declared.plant.PlantState.{PlantState}
 use Rattle.cell_parts.specs.Examples.{empty_cell, at, robot_at, table_at, crane_at, held_by}
 use Rattle.cell_plant.specs.CellStates.{CellState, Sides, sides_at_start, cell_at_start}
 use Rattle.cell_plant.specs.Cells.{TellsRun}
 use Rattle.cell_plant.specs.Records.{IsRecordOf, positions_in}
 use Rattle.cell_plant.specs.Runs.{Step}
-use Rattle.cell_plant.specs.RunExamples.{opening, entered, at_first, at_last, cell_of, asks, passes, schedule, steps, turn_of}
+use Rattle.cell_plant.specs.RunExamples.{opening, entered, stopped, at_first, at_last, cell_of, asks, passes, schedule, steps, turn_of}
+use Rattle.cell_plant.specs.Watch.{watch_noting}
 
 -- ---- the record of the literal run
 
@@ -44,12 +45,12 @@ use Rattle.cell_plant.specs.RunExamples.{opening, entered, at_first, at_last, ce
 abbrev pub axes_apart : PlantState
 axes_apart = record empty_cell { press = at 1; robot = robot_at (at 2) (at 3) (at 4); table = table_at (at 5) (at 6); crane = crane_at (at 7) (at 8) }
 
--- the counts of a machine; those of all machines, by what feed and press did
+-- the counts of a machine; those of all machines, by what feed, press and watch did
 abbrev pub counts_of : ℕ → ℕ → ℕ → ℕ → ℕ → Counts
 counts_of turns done read refused busy = record { turns = turns; done = done; read = read; refused = refused; busy = busy }
 
-abbrev pub counts_by : Counts → Counts → List Counts
-counts_by feed press = feed ∷ no_counts ∷ no_counts ∷ press ∷ no_counts ∷ no_counts ∷ no_counts ∷ []
+abbrev pub counts_by : Counts → Counts → Counts → List Counts
+counts_by feed press watch = feed ∷ no_counts ∷ no_counts ∷ press ∷ no_counts ∷ no_counts ∷ watch ∷ []
 
 abbrev pub status_by : Status → Status → List Status
 status_by feed press = feed ∷ Fine ∷ Fine ∷ press ∷ Fine ∷ Fine ∷ Fine ∷ []
@@ -64,19 +65,24 @@ done_entry = record { call = Claim Z6; answer = Done; stamp = 1 }
 abbrev pub refused_entry : Entry
 refused_entry = record { call = Claim Z1; answer = Refused (Shut Closed); stamp = 1 }
 
-abbrev pub journal_by : List Entry → Machine → List Entry
-journal_by feed Feed = feed
-journal_by feed _ = []
+abbrev pub stop_entry : Entry
+stop_entry = record { call = Stop; answer = Done; stamp = 2 }
+
+-- the feed belt's journal and the watch's
+abbrev pub journal_by : List Entry → List Entry → Machine → List Entry
+journal_by feed watch Feed = feed
+journal_by feed watch Watch = watch
+journal_by feed watch _ = []
 
 abbrev pub AreJournals : Journals → List Entry → Type 0
-AreJournals journals feed = (m : Machine) → journal_of journals m ≡ journal_by feed m
+AreJournals journals feed = (m : Machine) → journal_of journals m ≡ journal_by feed (stop_entry ∷ []) m
 
 pub record IsOfLiteralRun (r : RunRecord) : Type 0 where
   pub start : r.start ≡ opening
-  pub counts : r.counts ≡ counts_by (counts_of 2 1 0 1 0) (counts_of 2 0 0 0 1)
+  pub counts : r.counts ≡ counts_by (counts_of 2 1 0 1 0) (counts_of 2 0 0 0 1) (counts_of 1 1 0 0 0)
   pub status : r.status ≡ status_by Fine Memory
   pub journals : AreJournals r.journals (done_entry ∷ refused_entry ∷ [])
-  pub end : r.end ≡ Some entered
+  pub end : r.end ≡ Some stopped
   pub axes : r.axes ≡ axes_by 1000 300 900
 
 -- ---- the record of steps and of a last state in which the machines differ; they aren't of a run
@@ -90,7 +96,8 @@ steps_apart =
     ∷ asks Deposit (Claim Z4) (Err NoRoom) at_first
     ∷ record (passes Crane at_first) { taken = true }
     ∷ record (passes Crane at_first) { taken = true }
-    ∷ passes Watch at_first
+    ∷ asks Watch Stop (Ok (Settled Done 2)) at_first
+    ∷ asks Watch Resume (Ok (Settled Done 3)) at_first
     ∷ []
 
 abbrev pub sides_apart : Sides
@@ -100,6 +107,7 @@ sides_apart =
       robot = side_of (robot_start opening) (Some (fault.Sensor Low)) axes_apart.robot;
       press = side_of (press_start opening) (Some (fault.Refused Jump)) axes_apart.press;
       crane = side_of (crane_start opening) (Some fault.Memory) axes_apart.crane;
+      watch = side_of (watch_noting true) (Some fault.Worn) tt;
     }
 
 abbrev pub last_apart : CellState
@@ -109,11 +117,12 @@ abbrev pub journals_apart : Machine → List Entry
 journals_apart Feed = done_entry ∷ []
 journals_apart Table = record { call = Inquire Z2; answer = Shown None false Closed; stamp = 1 } ∷ []
 journals_apart Robot = record { call = Claim Z2; answer = Refused (Shut Closed); stamp = 1 } ∷ []
+journals_apart Watch = stop_entry ∷ record { call = Resume; answer = Done; stamp = 3 } ∷ []
 journals_apart _ = []
 
 pub record IsOfApart (r : RunRecord) : Type 0 where
-  pub counts : r.counts ≡ counts_of 1 1 0 0 0 ∷ counts_of 1 0 1 0 0 ∷ counts_of 1 0 0 1 0 ∷ counts_of 1 0 0 0 1 ∷ counts_of 1 0 0 0 0 ∷ counts_of 2 0 0 0 0 ∷ no_counts ∷ []
-  pub status : r.status ≡ Fine ∷ Worn ∷ Sensor ∷ WasRefused ∷ Fine ∷ Memory ∷ Fine ∷ []
+  pub counts : r.counts ≡ counts_of 1 1 0 0 0 ∷ counts_of 1 0 1 0 0 ∷ counts_of 1 0 0 1 0 ∷ counts_of 1 0 0 0 1 ∷ counts_of 1 0 0 0 0 ∷ counts_of 2 0 0 0 0 ∷ counts_of 2 2 0 0 0 ∷ []
+  pub status : r.status ≡ Fine ∷ Worn ∷ Sensor ∷ WasRefused ∷ Fine ∷ Memory ∷ Worn ∷ []
   pub journals : (m : Machine) → journal_of r.journals m ≡ journals_apart m
   pub end : r.end ≡ Some entered
   pub axes : r.axes ≡ pos 1 ∷ pos 2 ∷ pos 3 ∷ pos 4 ∷ pos 5 ∷ pos 6 ∷ pos 7 ∷ pos 8 ∷ []
@@ -124,7 +133,7 @@ abbrev pub IsRecord : RunRecord → Type 0
 IsRecord r = IsRecordOf opening steps at_last r
 
 abbrev pub with_feed_counts : RunRecord → Counts → RunRecord
-with_feed_counts r feed = record r { counts = counts_by feed (counts_of 2 0 0 0 1) }
+with_feed_counts r feed = record r { counts = counts_by feed (counts_of 2 0 0 0 1) (counts_of 1 1 0 0 0) }
 
 pub record WrongRecords (r : RunRecord) : Type 0 where
   pub start : ¬ IsRecord (record r { start = entered })
@@ -133,7 +142,8 @@ pub record WrongRecords (r : RunRecord) : Type 0 where
   pub read : ¬ IsRecord (with_feed_counts r (counts_of 2 1 1 1 0))
   pub refused : ¬ IsRecord (with_feed_counts r (counts_of 2 1 0 0 0))
   pub busy : ¬ IsRecord (with_feed_counts r (counts_of 2 1 0 1 1))
-  pub counts_of_others : ¬ IsRecord (record r { counts = counts_by (counts_of 2 0 0 0 1) (counts_of 2 1 0 1 0) })
+  pub counts_of_others : ¬ IsRecord (record r { counts = counts_by (counts_of 2 0 0 0 1) (counts_of 2 1 0 1 0) (counts_of 1 1 0 0 0) })
+  pub watch_uncounted : ¬ IsRecord (record r { counts = counts_by (counts_of 2 1 0 1 0) (counts_of 2 0 0 0 1) no_counts })
   pub status : ¬ IsRecord (record r { status = status_by Fine Fine })
   pub status_of_another : ¬ IsRecord (record r { status = status_by Memory Fine })
   pub end : ¬ IsRecord (record r { end = Some opening })
@@ -169,9 +179,18 @@ IsUnread c = c.gripper.raw_hi < c.gripper.raw_lo
 abbrev pub HasBlindCrane : RunRecord → Type 0
 HasBlindCrane r = r.status ≡ Fine ∷ Fine ∷ Fine ∷ Fine ∷ Fine ∷ Sensor ∷ Fine ∷ []
 
--- the record with a turn of the watch counted
-abbrev pub with_watch_counted : RunRecord → RunRecord
-with_watch_counted r = record r { counts = no_counts ∷ no_counts ∷ no_counts ∷ no_counts ∷ no_counts ∷ no_counts ∷ counts_of 1 0 0 0 0 ∷ [] }
+-- the record of a run in which the watch stops the cell, and no other machine has a turn
+abbrev pub first_stop : Machine → List Entry
+first_stop Watch = record { call = Stop; answer = Done; stamp = 1 } ∷ []
+first_stop _ = []
+
+pub record IsOfOneStop (r : RunRecord) : Type 0 where
+  pub start : r.start ≡ opening
+  pub counts : r.counts ≡ counts_by no_counts no_counts (counts_of 1 1 0 0 0)
+  pub status : r.status ≡ status_by Fine Fine
+  pub journals : (m : Machine) → journal_of r.journals m ≡ first_stop m
+  pub end : r.end ≡ Some (record opening { stamp = 1; stopped = true })
+  pub axes : r.axes ≡ axes_by 1000 300 900
 
 pub record RecordExamples (c : CellScales) (r : RunRecord) : Type 0 where
   pub axes : positions_in axes_apart ≡ pos 1 ∷ pos 2 ∷ pos 3 ∷ pos 4 ∷ pos 5 ∷ pos 6 ∷ pos 7 ∷ pos 8 ∷ []
@@ -181,12 +200,12 @@ pub record RecordExamples (c : CellScales) (r : RunRecord) : Type 0 where
   pub wrong : WrongRecords r
   pub of_run : IsOfLiteralRun r → TellsRun c opening schedule r
   pub of_no_turn : IsOfNoTurn opening r → TellsRun c opening [] r
-  pub of_the_watch : IsOfNoTurn opening r → TellsRun c opening (turn_of Watch ∷ []) r
+  pub of_the_watch : IsOfOneStop r → TellsRun c opening (turn_of Watch ∷ []) r
   pub only_no_turn : TellsRun c opening [] r → IsOfNoTurn opening r
   pub unread : IsUnread c → TellsRun c opening (turn_of Crane ∷ []) r → HasBlindCrane r
   pub lawful : (s : ModelState) (turns : List Turn) → TellsRun c s turns r → IsOfLegalHistory s r
-  -- turns were made up; one was left out; one of the watch is counted; the run begins unsafely
+  -- turns were made up; one was left out, or one of the watch; the run begins unsafely
   pub made_up : IsOfLiteralRun r → ¬ TellsRun c opening [] r
   pub left_out : IsOfNoTurn opening r → ¬ TellsRun c opening (turn_of Feed ∷ []) r
-  pub watch_counted : ¬ TellsRun c opening (turn_of Watch ∷ []) (with_watch_counted r)
+  pub watch_left_out : IsOfNoTurn opening r → ¬ TellsRun c opening (turn_of Watch ∷ []) r
   pub begins_unsafely : ¬ TellsRun c open_too_early [] r

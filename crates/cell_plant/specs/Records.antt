@@ -13,7 +13,7 @@ use Rattle.cell_notes.specs.declared.counts.Counts.{Counts}
 use Rattle.cell_notes.specs.declared.run_record.RunRecord.{RunRecord}
 use Rattle.cell_notes.specs.Asks.{came_back, is_done_reply, is_read_reply, is_refused_reply, is_busy_reply, settled_in}
 use Rattle.cell_unit.specs.Statuses.{status_of}
-use Rattle.cell_parts.specs.Plant.{PlantState}
+use Rattle.cell_parts.specs.declared.plant.PlantState.{PlantState}
 use Rattle.cell_plant.specs.CellStates.{CellState, plant_of}
 use Rattle.cell_plant.specs.Runs.{Step}
 

@@ -6,7 +6,9 @@ use Rattle.cell_devices.specs.declared.motor.Motor.TheVariants.{Off}
 use Rattle.cell_control.specs.declared.fault.CtlFault.{CtlFault}
 use Rattle.cell_robot.specs.declared.robot.RobotMagnets.{RobotMagnets}
 use Rattle.cell_parts.specs.Axes.{CellScales}
-use Rattle.cell_parts.specs.Plant.{TablePlant, RobotPlant, CranePlant}
+use Rattle.cell_parts.specs.declared.plant.TablePlant.{TablePlant}
+use Rattle.cell_parts.specs.declared.plant.RobotPlant.{RobotPlant}
+use Rattle.cell_parts.specs.declared.plant.CranePlant.{CranePlant}
 use Rattle.cell_plant.specs.CellStates.{CellState}
 use Rattle.cell_plant.specs.Machines.{ProgressOf, PartOf}
 use Rattle.cell_plant.specs.Runs.{Step, TakesTurn}

@@ -6,9 +6,9 @@ use Rattle.cell_types.specs.declared.zone.Zone.TheVariants.{Z1, Z3, Z6}
 use Rattle.cell_types.specs.declared.place.Place.TheVariants.{FeedEnd}
 use Rattle.cell_types.specs.declared.posture.Posture.TheVariants.{Closed, Moving}
 use Rattle.cell_types.specs.declared.call.Call.{Call}
-use Rattle.cell_types.specs.declared.call.Call.TheVariants.{Claim}
+use Rattle.cell_types.specs.declared.call.Call.TheVariants.{Claim, Stop, Resume}
 use Rattle.cell_types.specs.declared.answer.Answer.TheVariants.{Done, Refused}
-use Rattle.cell_types.specs.declared.answer.Refusal.TheVariants.{Shut}
+use Rattle.cell_types.specs.declared.answer.Refusal.TheVariants.{Shut, Stopped, NotStopped}
 use Rattle.cell_types.specs.declared.reply.Reply.{Reply}
 use Rattle.cell_types.specs.declared.reply.Reply.TheVariants.{Settled, Busy}
 use Rattle.cell_types.specs.Everything.{all_machines}
@@ -32,6 +32,7 @@ use Rattle.cell_parts.specs.Plant.{plant_at_start, feed_at_start, press_at_start
 use Rattle.cell_parts.specs.Examples.{at, driven_at, belt_with, with_zone, all_free, held_by}
 use Rattle.cell_plant.specs.CellStates.{CellState, Sides, plant_of, side_in, sides_at_start, cell_at_start}
 use Rattle.cell_plant.specs.Runs.{Step, TakesTurn, IsPassedOver, IsRun, goes_on, end_of}
+use Rattle.cell_plant.specs.Watch.{watch_noting}
 
 -- the run begins with a plate at the end of the feed belt
 abbrev pub opening : ModelState
@@ -45,8 +46,18 @@ abbrev pub sides_entered : Sides
 sides_entered = record (sides_at_start opening) { feed = side_of (record { step = ClaimExit; entry = false; last = true }) None (feed_at_start opening) }
 
 -- after the press has stopped, too
-abbrev pub sides_stopped : Sides
-sides_stopped = record sides_entered { press = side_of (press_start opening) (Some Memory) press_at_start }
+abbrev pub sides_press_stopped : Sides
+sides_press_stopped = record sides_entered { press = side_of (press_start opening) (Some Memory) press_at_start }
+
+-- after the watch has stopped the cell, too; and after it has resumed it
+abbrev pub stopped : ModelState
+stopped = record entered { stamp = 2; stopped = true }
+
+abbrev pub sides_last : Sides
+sides_last = record sides_press_stopped { watch = side_of (watch_noting true) None tt }
+
+abbrev pub resumed : ModelState
+resumed = record entered { stamp = 3 }
 
 abbrev pub cell_of : ModelState → Sides → CellState
 cell_of s sides = record { interlock = s; side = side_in sides }
@@ -57,8 +68,14 @@ at_first = cell_at_start opening
 abbrev pub at_entered : CellState
 at_entered = cell_of entered sides_entered
 
+abbrev pub at_press_stopped : CellState
+at_press_stopped = cell_of entered sides_press_stopped
+
 abbrev pub at_last : CellState
-at_last = cell_of entered sides_stopped
+at_last = cell_of stopped sides_last
+
+abbrev pub at_resumed : CellState
+at_resumed = cell_of resumed sides_press_stopped
 
 -- a turn in which this was asked and came back, and no part moves; a turn that is passed over
 abbrev pub asks : Machine → Call → Result Reply LineFault → CellState → Step
@@ -68,7 +85,7 @@ abbrev pub passes : Machine → CellState → Step
 passes m w = record { machine = m; taken = false; asked = None; set = w; moved = w }
 
 -- Six turns: the feed belt claims its entry; the press finds the interlock busy; the feed belt is refused its exit;
--- there is no room for the press's claim; so the press has stopped; the watch takes no turn.
+-- there is no room for the press's claim; so the press has stopped; the watch stops the cell.
 abbrev pub claims_entry : Step
 claims_entry = asks Feed (Claim Z6) (Ok (Settled Done 1)) at_entered
 
@@ -79,7 +96,17 @@ abbrev pub is_refused : Step
 is_refused = asks Feed (Claim Z1) (Ok (Settled (Refused (Shut Closed)) 1)) at_entered
 
 abbrev pub finds_no_room : Step
-finds_no_room = asks Press (Claim Z3) (Err NoRoom) at_last
+finds_no_room = asks Press (Claim Z3) (Err NoRoom) at_press_stopped
+
+abbrev pub stops_cell : Step
+stops_cell = asks Watch Stop (Ok (Settled Done 2)) at_last
+
+-- then the watch would resume
+abbrev pub resumes_cell : Step
+resumes_cell = asks Watch Resume (Ok (Settled Done 3)) at_resumed
+
+abbrev pub watch_finds_busy : Step
+watch_finds_busy = asks Watch Resume (Ok (Busy 1 2)) at_last
 
 abbrev pub turn_of : Machine → Turn
 turn_of m = record { machine = m; busy = false }
@@ -91,7 +118,7 @@ abbrev pub schedule : List Turn
 schedule = turn_of Feed ∷ busy_turn_of Press ∷ turn_of Feed ∷ turn_of Press ∷ turn_of Press ∷ turn_of Watch ∷ []
 
 abbrev pub steps : List Step
-steps = claims_entry ∷ finds_busy ∷ is_refused ∷ finds_no_room ∷ passes Press at_last ∷ passes Watch at_last ∷ []
+steps = claims_entry ∷ finds_busy ∷ is_refused ∷ finds_no_room ∷ passes Press at_press_stopped ∷ stops_cell ∷ []
 
 -- the press goes down from its top
 abbrev pub falling : Axis → Side PressProgress Axis
@@ -113,6 +140,16 @@ belt_waits a = cell_of (with_zone entered Press Z3 Moving) (record sides_entered
 abbrev pub waits : Step
 waits = asks Feed (Claim Z1) (Ok (Settled (Refused (Shut Closed)) 1)) (belt_waits (driven_at 980 Minus))
 
+-- The watch stops a stopped cell again; it resumes, and still notes the stop; it resumes before its first stop.
+abbrev pub stops_again : Step
+stops_again = asks Watch Stop (Ok (Settled (Refused Stopped) 2)) at_last
+
+abbrev pub resumes_unnoted : Step
+resumes_unnoted = asks Watch Resume (Ok (Settled Done 3)) (cell_of resumed sides_last)
+
+abbrev pub resumes_at_first : Step
+resumes_at_first = asks Watch Resume (Ok (Settled (Refused NotStopped) 1)) at_press_stopped
+
 -- ---- one turn
 
 -- the first step leads to these states instead
@@ -133,6 +170,9 @@ pub record TurnExamples (c : CellScales) : Type 0 where
   pub no_room : TakesTurn c Press false at_entered finds_no_room
   pub drives : TakesTurn c Press false (press_falls (at 1000)) (falls_to (driven_at 980 Minus))
   pub meanwhile : TakesTurn c Feed false (belt_waits (driven_at 980 Minus)) waits
+  pub stops : TakesTurn c Watch false at_press_stopped stops_cell
+  pub resumes : TakesTurn c Watch false at_last resumes_cell
+  pub watch_busy : TakesTurn c Watch true at_last watch_finds_busy
   -- each is wrong in one thing
   pub not_taken : ¬ TakesTurn c Feed false at_first (record claims_entry { taken = false })
   pub asks_nothing : ¬ TakesTurn c Feed false at_first (record claims_entry { asked = None })
@@ -149,13 +189,16 @@ pub record TurnExamples (c : CellScales) : Type 0 where
   pub stays_though_set : ¬ TakesTurn c Press false (press_falls (at 1000)) (falls_to (driven_at 1000 Minus))
   pub moves_too_far : ¬ TakesTurn c Press false (press_falls (at 1000)) (falls_to (driven_at 960 Minus))
   pub interlock_changes : ¬ TakesTurn c Feed false at_first (claims_leading_to at_entered (cell_of opening sides_entered))
+  pub stops_twice : ¬ TakesTurn c Watch false at_last stops_again
+  pub resumes_first : ¬ TakesTurn c Watch false at_press_stopped resumes_at_first
+  pub watch_notes_nothing : ¬ TakesTurn c Watch false at_last resumes_unnoted
 
 pub record PassExamples : Type 0 where
-  pub passed : IsPassedOver at_last (passes Press at_last)
-  pub taken : ¬ IsPassedOver at_last (record (passes Press at_last) { taken = true })
-  pub asks : ¬ IsPassedOver at_last (record (passes Press at_last) { asked = Some (Claim Z3, Err NoRoom) })
-  pub is_set : ¬ IsPassedOver at_last (record (passes Press at_last) { set = at_entered })
-  pub moves : ¬ IsPassedOver at_last (record (passes Press at_last) { moved = at_entered })
+  pub passed : IsPassedOver at_press_stopped (passes Press at_press_stopped)
+  pub taken : ¬ IsPassedOver at_press_stopped (record (passes Press at_press_stopped) { taken = true })
+  pub asks : ¬ IsPassedOver at_press_stopped (record (passes Press at_press_stopped) { asked = Some (Claim Z3, Err NoRoom) })
+  pub is_set : ¬ IsPassedOver at_press_stopped (record (passes Press at_press_stopped) { set = at_entered })
+  pub moves : ¬ IsPassedOver at_press_stopped (record (passes Press at_press_stopped) { moved = at_entered })
 
 -- ---- runs
 
@@ -164,15 +207,17 @@ pub record ScheduleExamples (c : CellScales) : Type 0 where
   pub run : IsRun c at_first schedule steps
   pub ends : end_of at_first steps ≡ at_last
   -- who takes a turn: at the start, and once the press has stopped
-  pub all_go_on : map (goes_on at_first) all_machines ≡ true ∷ true ∷ true ∷ true ∷ true ∷ true ∷ false ∷ []
-  pub others_go_on : map (goes_on at_last) all_machines ≡ true ∷ true ∷ true ∷ false ∷ true ∷ true ∷ false ∷ []
+  pub all_go_on : map (goes_on at_first) all_machines ≡ true ∷ true ∷ true ∷ true ∷ true ∷ true ∷ true ∷ []
+  pub others_go_on : map (goes_on at_last) all_machines ≡ true ∷ true ∷ true ∷ false ∷ true ∷ true ∷ true ∷ []
   pub no_turn : IsRun c at_first [] []
   pub two_turns : IsRun c at_entered (busy_turn_of Press ∷ turn_of Press ∷ []) (finds_busy ∷ finds_no_room ∷ [])
   pub two_ticks : IsRun c (press_falls (at 1000)) (turn_of Press ∷ turn_of Press ∷ []) (falls_to (driven_at 980 Minus) ∷ falls (driven_at 980 Minus) (driven_at 960 Minus) ∷ [])
+  pub stop_and_resume :
+      IsRun c at_press_stopped (turn_of Watch ∷ turn_of Watch ∷ []) (stops_cell ∷ resumes_cell ∷ [])
   -- two turns, or their steps, swapped; a turn left out; a step too many, and no step
   pub turns_swapped : ¬ IsRun c at_entered (turn_of Press ∷ busy_turn_of Press ∷ []) (finds_busy ∷ finds_no_room ∷ [])
   pub steps_swapped : ¬ IsRun c at_first (turn_of Feed ∷ turn_of Feed ∷ []) (is_refused ∷ claims_entry ∷ [])
-  pub turn_left_out : ¬ IsRun c at_first schedule (claims_entry ∷ is_refused ∷ finds_no_room ∷ passes Press at_last ∷ passes Watch at_last ∷ [])
+  pub turn_left_out : ¬ IsRun c at_first schedule (claims_entry ∷ is_refused ∷ finds_no_room ∷ passes Press at_press_stopped ∷ stops_cell ∷ [])
   pub last_left_out : ¬ IsRun c at_first (turn_of Feed ∷ turn_of Watch ∷ []) (claims_entry ∷ [])
   pub step_too_many : ¬ IsRun c at_first (turn_of Feed ∷ []) (claims_entry ∷ passes Watch at_entered ∷ [])
   pub all_left_out : ¬ IsRun c at_first (turn_of Feed ∷ []) []
@@ -180,10 +225,10 @@ pub record ScheduleExamples (c : CellScales) : Type 0 where
   pub of_another : (m : Machine) → m ≢ Press → ¬ IsRun c at_entered (busy_turn_of Press ∷ []) (record finds_busy { machine = m } ∷ [])
   pub passed_by_another : (m : Machine) → m ≢ Press → ¬ IsRun c at_last (turn_of Press ∷ []) (passes m at_last ∷ [])
   pub from_elsewhere : ¬ IsRun c at_first (turn_of Feed ∷ busy_turn_of Press ∷ []) (claims_entry ∷ asks Press (Claim Z3) (Ok (Busy 1 0)) at_first ∷ [])
-  -- a stopped machine asks, or takes a turn; the watch takes one; and a machine that goes on is passed over
+  -- a stopped machine asks, or takes a turn; and a machine, or the watch, that goes on is passed over
   pub stopped_asks : ¬ IsRun c at_last (turn_of Press ∷ []) (finds_no_room ∷ [])
   pub stopped_goes_on : ¬ IsRun c at_last (turn_of Press ∷ []) (record (passes Press at_last) { taken = true } ∷ [])
-  pub watch_goes_on : ¬ IsRun c at_last (turn_of Watch ∷ []) (record (passes Watch at_last) { taken = true } ∷ [])
+  pub watch_passed_over : ¬ IsRun c at_last (turn_of Watch ∷ []) (passes Watch at_last ∷ [])
   pub passed_over : ¬ IsRun c at_entered (turn_of Press ∷ []) (passes Press at_entered ∷ [])
 
 -- ---- all of these

@@ -1,7 +1,6 @@
 -- Runs of the cell: what each turn of a schedule leads to.
-use Rattle.std.specs.Prelude.{◌≡◌, Bool, true, false, ◌&&◌, List, [], ◌∷◌, None, is_none, ⊤}
+use Rattle.std.specs.Prelude.{◌≡◌, Bool, true, false, List, [], ◌∷◌, None, is_none, ⊤}
 use Rattle.cell_types.specs.declared.machine.Machine.{Machine}
-use Rattle.cell_types.specs.declared.machine.Machine.TheVariants.{Watch}
 use Rattle.cell_types.specs.Same.{same_machine}
 use Rattle.cell_notes.specs.Asks.{TurnCall}
 use Rattle.cell_unit.specs.Sides.{side_moved}
@@ -40,13 +39,9 @@ abbrev pub LeadsIf : Bool → CellScales → Machine → Bool → CellState → 
 LeadsIf true c m busy w s = TakesTurn c m busy w s
 LeadsIf false c m busy w s = IsPassedOver w s
 
--- a machine takes its turn unless it has stopped; the watch takes none
-abbrev pub is_at_work : Machine → Bool
-is_at_work Watch = false
-is_at_work _ = true
-
+-- a machine takes its turn unless it has stopped
 abbrev pub goes_on : CellState → Machine → Bool
-goes_on w m = is_at_work m && is_none (w.side m).stopped
+goes_on w m = is_none (w.side m).stopped
 
 abbrev pub Leads : CellScales → Machine → Bool → CellState → Step → Type 0
 Leads c m busy w s = LeadsIf (goes_on w m) c m busy w s

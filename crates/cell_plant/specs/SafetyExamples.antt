@@ -21,7 +21,8 @@ use Rattle.cell_stations.specs.TableProgram.{table_start}
 use Rattle.cell_unit.specs.Sides.{side_of}
 use Rattle.cell_parts.specs.declared.axis.Axis.{Axis}
 use Rattle.cell_parts.specs.Collisions.{NothingCollides}
-use Rattle.cell_parts.specs.Plant.{PlantState, StaysWithin}
+use Rattle.cell_parts.specs.declared.plant.PlantState.{PlantState}
+use Rattle.cell_parts.specs.Plant.{StaysWithin}
 use Rattle.cell_parts.specs.PositionDemands.{PositionDemands}
 use Rattle.cell_parts.specs.MotorDemands.{MotorDemands}
 use Rattle.cell_parts.specs.Examples.{empty_cell, cell_with_plate_at, driven_at, at, robot_with, robot_at, table_at, crane_with, crane_at, belt_with, with_press, with_arm1, with_arm2, with_rotation, with_lift, with_turn, with_travel, with_gripper, all_free, with_zone, held_by}
@@ -29,6 +30,7 @@ use Rattle.cell_plant.specs.CellStates.{CellState, plant_of, side_in}
 use Rattle.cell_plant.specs.Errands.{errand_of}
 use Rattle.cell_plant.specs.Runs.{Step}
 use Rattle.cell_plant.specs.Safety.{IsSafeState, IsSafelySet, IsSafeRun}
+use Rattle.cell_plant.specs.Watch.{watch_at_start}
 
 -- a state by the step of the crane's program, the interlock and the plant; the other programs are at their start, and
 -- no machine has stopped
@@ -43,6 +45,7 @@ cell_at step s p =
         press = side_of (press_start s) None p.press;
         deposit = side_of (deposit_start s) None p.deposit;
         crane = side_of (record { step = step; magnet = p.crane.magnet }) None p.crane;
+        watch = watch_at_start;
       });
     }
 

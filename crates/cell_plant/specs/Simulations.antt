@@ -7,11 +7,12 @@ use Rattle.cell_haul.specs.FeedProgram.{feed_steps}
 use Rattle.cell_robot.specs.RobotProgram.{gauges_of, robot_steps}
 use Rattle.cell_stations.specs.PressProgram.{press_steps}
 use Rattle.cell_stations.specs.TableProgram.{table_steps}
-use Rattle.cell_unit.specs.Sides.{IsReady}
+use Rattle.cell_unit.specs.Sides.{IsReady, side_of}
 use Rattle.cell_plant.specs.declared.simulation.Simulation.TheInside.{Inside}
 use Rattle.cell_plant.specs.Cells.{cell_scales, points_of, sides_of, IsFitted}
 use Rattle.cell_plant.specs.Moments.{RunMoment}
 use Rattle.cell_plant.specs.Notebooks.{all_notes}
+use Rattle.cell_plant.specs.Watch.{watch_steps}
 
 abbrev pub moment_of : {F1 F2 F3 F4 F5 : Type 0} {g1 : Ghosts F1} {g2 : Ghosts F2} {g3 : Ghosts F3} {g4 : Ghosts F4} {g5 : Ghosts F5} → Inside F1 F2 F3 F4 F5 g1 g2 g3 g4 g5 → RunMoment
 moment_of s =
@@ -19,7 +20,7 @@ moment_of s =
       scales = cell_scales s.cell;
       opening = s.bench.opening;
       interlock = s.bench.state;
-      sides = sides_of s.cell;
+      sides = sides_of s.cell (side_of s.watch.controller.progress s.watch.controller.stopped tt);
       history = s.bench.history.items;
       notes = all_notes s.notebooks;
     }
@@ -43,3 +44,4 @@ pub record AreReady {F1 F2 F3 F4 F5 : Type 0} {g1 : Ghosts F1} {g2 : Ghosts F2} 
   pub press : IsReady press_steps s.bench.opening s.bench.history.items s.cell.press.controller.stopped s.cell.press.controller.progress
   pub deposit : IsReady deposit_steps s.bench.opening s.bench.history.items s.cell.deposit.controller.stopped s.cell.deposit.controller.progress
   pub crane : IsReady (crane_steps s.cell.crane.controller.program.gripper.points (gives.gripper s.cell.crane.controller.program.gripper.gauge)) s.bench.opening s.bench.history.items s.cell.crane.controller.stopped s.cell.crane.controller.progress
+  pub watch : IsReady watch_steps s.bench.opening s.bench.history.items s.watch.controller.stopped s.watch.controller.progress

@@ -2,11 +2,15 @@
 //! its contract is the law.
 ghost use Rattle.cell_notes.specs.declared.run_record.RunRecord.{RunRecord};
 ghost use Rattle.cell_parts.specs.Axes.{CellScales};
+ghost use Rattle.cell_plant.specs.FrameExamples.{FrameExamples};
+ghost use Rattle.cell_plant.specs.Frames.{FilmsAreSafe};
 ghost use Rattle.cell_plant.specs.RecordExamples.{RecordExamples};
 ghost use Rattle.cell_plant.specs.Resting.{StoppedMachinesRest};
 ghost use Rattle.cell_plant.specs.RunExamples.{RunExamples};
 ghost use Rattle.cell_plant.specs.Safety.{EveryRunIsSafe};
 ghost use Rattle.cell_plant.specs.SafetyExamples.{SafetyExamples};
+ghost use Rattle.cell_plant.specs.WatchExamples.{WatchRowsAreMet};
+ghost use Rattle.cell_plant.specs.WatchLaws.{WatchNotesTheMark};
 
 /// Nothing collides in any run of any schedule, neither once motors are set nor once a part has
 /// moved. Each axis stays within its ends, and the interlock meets what positions and motors
@@ -14,6 +18,13 @@ ghost use Rattle.cell_plant.specs.SafetyExamples.{SafetyExamples};
 /// allocations anywhere, and any reading that a calibration may give.
 pub fn every_run_is_safe()
     ensures { EveryRunIsSafe }
+{}
+
+/// No frame of a run shows a collision, whatever the schedule, the start and the calibrations. In
+/// each frame every axis is within its ends, and the interlock meets what positions and motors
+/// demand.
+pub fn films_are_safe()
+    ensures { FilmsAreSafe }
 {}
 
 /// Examples of safe states, steps and runs, and of unsafe ones. Most of these are wrong in one
@@ -27,7 +38,7 @@ pub fn unsafe_runs_are_refused()
 /// Examples of turns and of runs, over any scales, and of what isn't one. These are wrong in one
 /// thing: a step that isn't a turn of its machine, a turn left out or added, two turns or their
 /// steps swapped, a step with another machine's name, a step that begins elsewhere, or a stopped
-/// machine that goes on. The six machines go on until they stop.
+/// machine that goes on. The watch stops the cell and resumes it, in turn.
 pub fn wrong_runs_are_refused()
     ensures { (c : CellScales) → RunExamples c }
 {}
@@ -45,4 +56,24 @@ pub fn stopped_machines_rest()
 /// record of any run keeps a legal history, which leads to its end.
 pub fn wrong_records_are_refused()
     ensures { (c : CellScales) (r : RunRecord) → RecordExamples c r }
+{}
+
+/// Examples of the frames of one literal run, and of wrong films: a frame shows the state or the
+/// step before the turn, it tells nothing of the call, a busy turn is told as refused or as not
+/// busy, a frame is left out, shown twice or too early, or two machines' axes are swapped. A watcher
+/// that keeps what it is shown has these frames; one that fails is shown no more.
+pub fn wrong_films_are_refused()
+    ensures { FrameExamples }
+{}
+
+/// The rows of the watch's program, by examples: it begins with a stop, resumes after it, and stops
+/// again. No refusal makes it wait, except while the cell is stopped.
+pub fn watch_rows_are_met()
+    ensures { WatchRowsAreMet }
+{}
+
+/// In each state of a run from a start, once the actuators are set as well, the watch has noted a
+/// stop exactly while the cell is stopped. So no call of the watch is refused except as worn.
+pub fn watch_notes_the_mark()
+    ensures { WatchNotesTheMark }
 {}

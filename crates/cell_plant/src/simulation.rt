@@ -1,6 +1,6 @@
 //! Runs a schedule on a cell over a bench.
 
-ghost use Rattle.std.specs.Prelude.{◌≡◌, [], map, IsOk, IfOk};
+ghost use Rattle.std.specs.Prelude.{◌≡◌, [], map, IsOk, IfOk, IfErr};
 ghost use Rattle.cell_types.specs.declared.machine.Machine.{Machine};
 ghost use Rattle.cell_types.specs.Everything.{all_machines};
 ghost use Rattle.cell_rules.specs.Start.{IsStartState};
@@ -9,13 +9,18 @@ ghost use Rattle.cell_notes.specs.Notes.{HasRoom};
 ghost use Rattle.cell_parts.specs.Axes.{AreCellScales};
 ghost use Rattle.cell_plant.specs.Cells.{IsMadeFor, TellsRun, cell_scales};
 ghost use Rattle.cell_plant.specs.CellStates.{side_in, plant_of};
+ghost use Rattle.cell_plant.specs.Frames.{SeesRun, SeesBeginning, frame_of, steps_in};
 ghost use Rattle.cell_plant.specs.Moments.{StepsOn, Keeps, first_moment, notes_in, state_at};
 ghost use Rattle.cell_plant.specs.Records.{positions_in};
 
 use crate::cell::Cell;
+use crate::frame::{Frame, MachineSteps};
 use crate::notebooks::Notebooks;
+use crate::watch::{WatchUnit, watch_at_start};
+use crate::watcher::{NoWatcher, SeenFault, Watcher};
 use cell_calib::Gauge;
-use cell_notes::{RunRecord, Status, Turn};
+use cell_notes::{RunRecord, Status, Turn, TurnCall};
+use cell_parts::PlantState;
 use cell_rules::{Bench, State};
 use cell_types::Machine;
 use cell_unit::{SimFault, status_of, take_bench_turn};
@@ -26,9 +31,10 @@ use std::marker::Model;
 /// a turn the controller of the turn's machine takes a step, and then its part moves for a tick;
 /// the other parts rest.
 ///
-/// A turn whose `busy` is set finds the bench busy. A turn of the watch, or of a machine that has
-/// stopped, does nothing and isn't counted. If the bench has no room for a machine's call, that
-/// machine stops with `Status::Memory`, and the run goes on.
+/// A turn whose `busy` is set finds the bench busy. In its turns the watch stops the cell and
+/// resumes it, and moves nothing. A turn of a machine that has stopped does nothing and isn't
+/// counted. If the bench has no room for a machine's call, that machine stops with
+/// `Status::Memory`, and the run goes on.
 ///
 /// `Memory` if there is no memory for a journal's next entry, which is allocated before each turn.
 /// A run of no turn succeeds.
@@ -44,20 +50,53 @@ pub fn simulate<F1: Gauge, F2: Gauge, F3: Gauge, F4: Gauge, F5: Gauge>(
     ensures run { IfOk result (TellsRun (cell_scales cell) opening turns.now) }
     ensures no_turn { turns.now ≡ [] → IsOk result }
 {
+    match simulate_seen(alloc, cell, opening, turns, &mut NoWatcher) {
+        Ok(record) => Ok(record),
+        Err(SeenFault::Memory) => Err(SimFault::Memory),
+        Err(SeenFault::Watcher(never)) => match never {},
+    }
+}
+
+/// Does what `simulate` does, and shows it to a watcher: a frame of the start, and then one after
+/// each turn, also after a turn that isn't taken.
+///
+/// Errors:
+/// - `Memory` as in `simulate`; the watcher has seen the turns before.
+/// - `Watcher` if the watcher fails; it is shown nothing more.
+pub fn simulate_seen<F1: Gauge, F2: Gauge, F3: Gauge, F4: Gauge, F5: Gauge, W: Watcher>(
+    alloc: Global,
+    cell: Cell<F1, F2, F3, F4, F5>,
+    opening: State,
+    turns: &[Turn],
+    watcher: &mut W,
+) -> Result<RunRecord, SeenFault<W::Fault>>
+    requires start { IsStartState opening }
+    requires made { IsMadeFor opening cell }
+    requires scales { AreCellScales (cell_scales cell) }
+    ensures run { IfOk result (SeesRun W.sees (cell_scales cell) opening turns.now watcher.old watcher.new) }
+    ensures ended { IfErr result (SeesBeginning W.sees (cell_scales cell) opening turns.now watcher.old watcher.new) }
+{
     let mut simulation = Simulation::new(alloc, cell, opening);
+    if let Err(fault) = simulation.show(None, None, watcher) {
+        return Err(SeenFault::Watcher(fault));
+    }
     'turns: for turn in turns {
-        if let Err(fault) = simulation.turn(*turn) {
-            return Err(fault);
+        let Ok(asked) = simulation.turn(*turn) else {
+            return Err(SeenFault::Memory);
+        };
+        if let Err(fault) = simulation.show(Some(*turn), asked, watcher) {
+            return Err(SeenFault::Watcher(fault));
         }
     }
     Ok(simulation.into_record(opening))
 }
 
-// A cell that runs over a bench, and what its machines note. As a value it is a moment of a run:
-// the controllers' progress follows from their events.
+// A cell that runs over a bench under its watch, and what the machines note. As a value it is a
+// moment of a run: the controllers' progress follows from their events.
 #[derive(Drop)]
 struct Simulation<F1: Gauge, F2: Gauge, F3: Gauge, F4: Gauge, F5: Gauge> {
     cell: Cell<F1, F2, F3, F4, F5>,
+    watch: WatchUnit,
     bench: Bench,
     notebooks: Notebooks,
 }
@@ -83,15 +122,17 @@ impl<F1: Gauge, F2: Gauge, F3: Gauge, F4: Gauge, F5: Gauge> Simulation<F1, F2, F
     {
         Simulation {
             cell,
+            watch: watch_at_start(&opening),
             bench: Bench::new(alloc, opening),
             notebooks: Notebooks::new(alloc),
         }
     }
 
-    // One turn of the schedule.
-    fn turn(&mut self, turn: Turn) -> Result<(), SimFault>
+    // One turn of the schedule: what was asked. It is called in one loop, and inlined there.
+    #[inline(always)]
+    fn turn(&mut self, turn: Turn) -> Result<TurnCall, SimFault>
         requires room { (m : Machine) → HasRoom (notes_in self.old.notes m).counts }
-        ensures { IfOk result (λ _. StepsOn turn self.old self.new) }
+        ensures { IfOk result (StepsOn turn self.old self.new) }
     {
         let bench = &mut self.bench;
         let notes = &mut self.notebooks;
@@ -121,7 +162,68 @@ impl<F1: Gauge, F2: Gauge, F3: Gauge, F4: Gauge, F5: Gauge> Simulation<F1, F2, F
             Machine::Crane => {
                 take_bench_turn(bench, &mut notes.crane, &mut self.cell.crane, machine, busy)
             }
-            Machine::Watch => Ok(()),
+            Machine::Watch => {
+                take_bench_turn(bench, &mut notes.watch, &mut self.watch, machine, busy)
+            }
+        }
+    }
+
+    // Shows a watcher the state after this turn. For one that doesn't look, no frame is made.
+    #[inline(always)]
+    fn show<W: Watcher>(
+        &self,
+        turn: Option<Turn>,
+        asked: TurnCall,
+        watcher: &mut W,
+    ) -> Result<(), W::Fault>
+        ensures { W.sees watcher.old (frame_of turn asked (state_at self.now)) result watcher.new }
+    {
+        if W::LOOKS {
+            watcher.see(&self.frame(turn, asked))
+        } else {
+            Ok(())
+        }
+    }
+
+    // The frame after this turn.
+    fn frame(&self, turn: Option<Turn>, asked: TurnCall) -> Frame
+        ensures { result ≡ frame_of turn asked (state_at self.now) }
+    {
+        Frame {
+            turn,
+            asked,
+            steps: self.steps(),
+            status: self.status(),
+            state: self.bench.state(),
+            plant: self.plant(),
+        }
+    }
+
+    // The step that each machine is at.
+    fn steps(&self) -> MachineSteps
+        ensures { result ≡ steps_in (state_at self.now) }
+    {
+        MachineSteps {
+            feed: self.cell.feed.controller.progress().step,
+            table: self.cell.table.controller.progress().step,
+            robot: self.cell.robot.controller.progress().step,
+            press: self.cell.press.controller.progress().step,
+            deposit: self.cell.deposit.controller.progress().step,
+            crane: self.cell.crane.controller.progress().step,
+        }
+    }
+
+    // The parts of the six machines.
+    fn plant(&self) -> PlantState
+        ensures { result ≡ plant_of (state_at self.now) }
+    {
+        PlantState {
+            feed: self.cell.feed.part.belt,
+            table: self.cell.table.part.plant(),
+            robot: self.cell.robot.part.plant(),
+            press: self.cell.press.part.plant(),
+            deposit: self.cell.deposit.part.belt,
+            crane: self.cell.crane.part.plant(),
         }
     }
 
@@ -153,7 +255,7 @@ impl<F1: Gauge, F2: Gauge, F3: Gauge, F4: Gauge, F5: Gauge> Simulation<F1, F2, F
             status_of(self.cell.press.controller.stopped()),
             status_of(self.cell.deposit.controller.stopped()),
             status_of(self.cell.crane.controller.stopped()),
-            status_of(None),
+            status_of(self.watch.controller.stopped()),
         ]
     }
 

@@ -1,5 +1,6 @@
 mod ReportLemmas
 mod PrefixLemmas
+mod AuditLemmas
 mod SimLemmas
 mod RunLemmas
 mod LawLemmas

@@ -5,7 +5,7 @@ use Rattle.std.specs.Io.KnownBytes.{Appends}
 use Rattle.cell_types.specs.declared.answer.Event.{Event}
 use Rattle.cell_types.specs.Journals.{journal_of}
 use Rattle.cell_rules.specs.ModelState.{ModelState}
-use Rattle.cell_report.specs.Audited.{IsAudited, HasNoHistory}
+use Rattle.cell_rules.specs.Audited.{IsAudited, HasNoHistory}
 use Rattle.cell_report.specs.AuditFaults.{IsFault}
 use Rattle.cell_report.specs.Report.{report_text}
 use Rattle.cell_report.specs.declared.audit_faults.AuditFault.{AuditFault}

@@ -1,5 +1,5 @@
 -- What is said of a simulation.
-use Rattle.std.proofs.Common.{◌≡◌, ◌⊎◌, inl, inr, List, ℕ, Option, Some, None, Ok, Err, IfSome, map, refl, sym, ap, ◌∙◌, subst, ⊎_elim}
+use Rattle.std.proofs.Common.{◌≡◌, inl, inr, List, ℕ, Option, Some, None, Ok, Err, IfSome, map, sym, ap, ◌∙◌, subst}
 use Rattle.cell_types.specs.Journals.{journal_of}
 use Rattle.cell_rules.specs.ModelState.{ModelState}
 use Rattle.cell_rules.specs.Journal.{event_by}
@@ -15,12 +15,11 @@ use Rattle.cell_config.specs.Settings.{settings_of}
 use Rattle.cell_config.specs.ConfigWords.{config_fault_text}
 use Rattle.cell_config.specs.declared.configuration.Config.{Config}
 use Rattle.cell_config.specs.declared.fault.ConfigFault.{ConfigFault}
-use Rattle.cell_report.specs.Audited.{EndsIn, IsAudited}
-use Rattle.cell_report.specs.declared.audit_faults.AuditFault.{AuditFault}
-use Rattle.cell_report.specs.declared.audit_faults.AuditFault.TheVariants.{Twice, Gap, Differs, End, Memory}
+use Rattle.cell_rules.specs.Audited.{EndsIn, IsAudited}
 use Rattle.cell_program.specs.declared.exit.Exit.TheVariants.{Well, Failed}
-use Rattle.cell_program.specs.Reported.{AreFine, AuditFinds, IsAmiss, ReportTold}
-use Rattle.cell_program.specs.Served.{IsAuditOf, SimFails, TellsRunOf, WasSimulated, fault_line}
+use Rattle.cell_program.specs.Reported.{ReportTold}
+use Rattle.cell_program.specs.Served.{SimFails, TellsRunOf, WasSimulated, fault_line}
+use Rattle.cell_program.proofs.AuditLemmas.{report_fails}
 
 -- the history of a run is one that an audit of its journals looks for
 audited_run : (c : CellScales) (opening : ModelState) (turns : List Turn) (r : RunRecord) (t : TellsRun c opening turns r) → IsAudited r.start (journal_of r.journals) r.end (events_in t.steps)
@@ -30,21 +29,6 @@ audited_run c opening turns r t = subst (λ s. IsAudited s (journal_of r.journal
   noted = λ m. sym (t.told.journals m);
   ends = subst (EndsIn _) (sym t.told.end) (sym t.reached);
 })
-
--- so the audit rejects it only if memory runs out
-audit_is : (c : CellScales) (opening : ModelState) (turns : List Turn) (r : RunRecord) (audit : Option AuditFault) → TellsRun c opening turns r → AuditFinds r audit → IsAuditOf audit
-audit_is c opening turns r None t k = tt
-audit_is c opening turns r (Some (Twice s)) t k = absurd (k.1 (λ e. cc) (events_in t.steps) (audited_run c opening turns r t))
-audit_is c opening turns r (Some (Gap s)) t k = absurd (k.1 (λ e. cc) (events_in t.steps) (audited_run c opening turns r t))
-audit_is c opening turns r (Some (Differs s)) t k = absurd (k.1 (λ e. cc) (events_in t.steps) (audited_run c opening turns r t))
-audit_is c opening turns r (Some End) t k = absurd (k.1 (λ e. cc) (events_in t.steps) (audited_run c opening turns r t))
-audit_is c opening turns r (Some Memory) t k = refl
-
--- what is wrong if the audit had enough memory
-amiss_is : (r : RunRecord) (audit : Option AuditFault) → IsAuditOf audit → IsAmiss r audit → (¬ AreFine r.status) ⊎ (audit ≡ Some Memory)
-amiss_is r None k (inl h) = inl h
-amiss_is r None k (inr h) = cc
-amiss_is r (Some f) k h = inr (ap (λ x. Some x) k)
 
 module _ (old new : Option (List ℕ)) where
   pub config_refused : (o : Option (List ℕ)) (fault : ConfigFault) → IfSome o (λ bytes. Says bytes (Err fault)) → WrotePrefix old new (fault_line (config_fault_text fault)) → IfSome o (λ bytes. SimFails bytes old new)
@@ -62,7 +46,4 @@ module _ (old new : Option (List ℕ)) where
   pub sim_failed : (o : Option (List ℕ)) (config : Config) (r : RunRecord) (c : CellScales) → IfSome o (λ bytes. Says bytes (Ok config)) → config.points ≡ in_order c → TellsRun c config.start config.schedule.items r
       → ReportTold Failed r old new → IfSome o (λ bytes. SimFails bytes old new)
   sim_failed None config r c k points run told = tt
-  sim_failed (Some bytes) config r c k points run told =
-      let audited = audit_is c config.start config.schedule.items r told.0 run told.1.0 in
-      let ends = ⊎_elim (λ h. inl (h.0, amiss_is r told.0 audited h.1)) (λ w. inr w) told.1.1 in
-      inr (inr (r, told.0, (tells_of bytes config r c k points run, (audited, ends))))
+  sim_failed (Some bytes) config r c k points run told = inr (inr (r, (tells_of bytes config r c k points run, report_fails r (events_in run.steps) (audited_run c config.start config.schedule.items r run) old new told)))

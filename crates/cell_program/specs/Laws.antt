@@ -1,75 +1,51 @@
 -- Laws of runs: the statements.
 use Rattle.std.specs.Prelude.{◌≡◌, ◌≢◌, ℕ, true, List, [], ◌∷◌, ◌++◌, codes, map, Option, Some, None}
 use Rattle.cell_types.specs.declared.machine.Machine.{Machine}
-use Rattle.cell_types.specs.declared.machine.Machine.TheVariants.{Press}
-use Rattle.cell_types.specs.declared.zone.Zone.TheVariants.{Z3}
-use Rattle.cell_types.specs.declared.call.Call.TheVariants.{Release}
-use Rattle.cell_types.specs.declared.answer.Answer.TheVariants.{Done}
 use Rattle.cell_types.specs.declared.answer.Event.{Event}
-use Rattle.cell_types.specs.declared.journal.Entry.{Entry}
 use Rattle.cell_types.specs.Everything.{all_machines}
 use Rattle.cell_types.specs.Journals.{journal_of}
 use Rattle.cell_rules.specs.ModelState.{ModelState}
-use Rattle.cell_rules.specs.PlaceSet.{empty}
-use Rattle.cell_rules.specs.Start.{start_state}
 use Rattle.cell_notes.specs.declared.counts.Counts.{Counts}
 use Rattle.cell_notes.specs.declared.run_record.RunRecord.{RunRecord}
 use Rattle.cell_notes.specs.declared.status.Status.{Status}
 use Rattle.cell_notes.specs.declared.status.Status.TheVariants.{Fine, GateLimit}
 use Rattle.cell_parts.specs.Axes.{CellScales}
-use Rattle.cell_plant.specs.Runs.{is_at_work}
 use Rattle.cell_config.specs.ConfigWords.{config_fault_text}
 use Rattle.cell_config.specs.declared.fault.ConfigFault.TheVariants.{Missing}
 use Rattle.cell_replay.specs.Script.{script_outcome, script_text}
 use Rattle.cell_replay.specs.declared.script.Outcome.TheVariants.{Clean}
-use Rattle.cell_report.specs.Audited.{IsAudited}
+use Rattle.cell_rules.specs.Audited.{IsAudited}
 use Rattle.cell_report.specs.Report.{report_text}
 use Rattle.cell_workers.specs.Faults.{run_fault_text}
 use Rattle.cell_workers.specs.declared.fault.RunFault.TheVariants.{Spawn}
 use Rattle.cell_workers.specs.Laws.{HadTurns}
-use Rattle.cell_program.specs.Ran.{EndsAsAudited, TellsWorkers}
+use Rattle.cell_workers.specs.Records.{has_worker}
 use Rattle.cell_program.specs.declared.exit.Exit.TheVariants.{Well}
 use Rattle.cell_program.specs.Reported.{ReportTold}
-use Rattle.cell_program.specs.Served.{TellsRunOf, TellsWorkersOf, WasReplayed, WasRun, WasSimulated, fault_line}
-
--- no machine noted anything; the press alone noted one entry, that it released its interior
-abbrev pub no_journals : Machine → List Entry
-no_journals m = []
-
-abbrev pub press_released : Machine → List Entry
-press_released Press = record { call = Release Z3; answer = Done; stamp = 1 } ∷ []
-press_released _ = []
-
--- The end of a run is left open only if no history gives its journals. It is the start if no machine noted anything. It
--- is left open if the press noted a release of a zone that it never held.
-pub record EndsAreFound : Type 0 where
-  pub known : (start : ModelState) (journals : Machine → List Entry) (history : List Event)
-      → IsAudited start journals None history → ¬ EndsAsAudited start journals None
-  pub nothing : (start : ModelState) (end : Option ModelState) → EndsAsAudited start no_journals end → end ≡ Some start
-  pub differs : (end : Option ModelState) → EndsAsAudited (start_state empty 0) press_released end → end ≡ None
+use Rattle.cell_program.specs.Served.{TellsRunOf, TellsWorkers, TellsWorkersOf, WasReplayed, WasRun, WasSimulated, fault_line}
 
 -- in a run by six workers each machine takes its turns, and no gate keeps it out
 pub record TurnsAreTold : Type 0 where
   pub turns : (c : CellScales) (opening : ModelState) (tries limit : ℕ) (r : RunRecord) (did : Machine → Counts) (statuses : Machine → Status)
       → TellsWorkers c opening tries limit r → r.counts ≡ map did all_machines → r.status ≡ map statuses all_machines
-      → (m : Machine) → is_at_work m ≡ true → HadTurns limit (λ turn. true) (did m) (statuses m) (journal_of r.journals m) × (statuses m ≢ GateLimit)
+      → (m : Machine) → has_worker m ≡ true → HadTurns limit (λ turn. true) (did m) (statuses m) (journal_of r.journals m) × (statuses m ≢ GateLimit)
 
 -- every machine is fine
 abbrev pub EachIsFine : RunRecord → Type 0
 EachIsFine r = (before after : List Status) (s : Status) → r.status ≡ before ++ s ∷ after → s ≡ Fine
 
--- every machine is fine, and the audit found a history
+-- every machine is fine, and a history gives the journals and leads to the end
 abbrev pub IsWell : RunRecord → Type 0
 IsWell r = EachIsFine r × ((history : List Event) × IsAudited r.start (journal_of r.journals) r.end history)
 
 -- each machine that works had this number of turns
 abbrev pub EachHadTurns : ℕ → RunRecord → Type 0
 EachHadTurns turns r =
-    (did : Machine → Counts) → r.counts ≡ map did all_machines → (m : Machine) → is_at_work m ≡ true
+    (did : Machine → Counts) → r.counts ≡ map did all_machines → (m : Machine) → has_worker m ≡ true
     → (did m).turns ≡ turns
 
 -- Status 0, by the text that was written: of a clean script; or the report of a simulation or a run in which every
--- machine is fine, with `audit ok`. In a run each machine had all its turns, and the audit found a history.
+-- machine is fine, with `audit ok`. In a run each machine had all its turns, and a history gives the journals.
 pub record StatusZeroIsWell : Type 0 where
   pub reported : (r : RunRecord) (old new : Option (List ℕ)) → ReportTold Well r old new → IsWell r
   pub replayed : (bytes text : List ℕ) → WasReplayed (Some bytes) (Some []) (Some text)

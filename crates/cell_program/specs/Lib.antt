@@ -1,6 +1,5 @@
 pub mod Exits
 pub mod Reported
-pub mod Ran
 pub mod Served
 pub mod Asked
 pub mod Gauges

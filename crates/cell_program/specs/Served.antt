@@ -1,5 +1,5 @@
 -- What a run of the program has done.
-use Rattle.std.specs.Prelude.{◌≡◌, ◌<◌, ℕ, List, ◌++◌, codes, ◌⊎◌, Option, Some, None, Ok, Err, IfSome}
+use Rattle.std.specs.Prelude.{◌≡◌, ◌<◌, ℕ, true, List, ◌++◌, codes, ◌⊎◌, Option, Some, None, Ok, Err, IfSome}
 use Rattle.std.specs.Io.KnownBytes.{Appends}
 use Rattle.cell_replay.specs.Faults.{WrotePrefix, WroteLines}
 use Rattle.cell_text.specs.Input.{TakesAtMost}
@@ -9,6 +9,7 @@ use Rattle.cell_replay.specs.declared.script.Outcome.TheVariants.{Clean, Refused
 use Rattle.cell_replay.specs.declared.script.ScriptFault.{ScriptFault}
 use Rattle.cell_report.specs.declared.audit_faults.AuditFault.{AuditFault}
 use Rattle.cell_report.specs.declared.audit_faults.AuditFault.TheVariants.{Memory as AuditMemory}
+use Rattle.cell_rules.specs.ModelState.{ModelState}
 use Rattle.cell_parts.specs.Axes.{CellScales}
 use Rattle.cell_plant.specs.Cells.{TellsRun}
 use Rattle.cell_notes.specs.declared.run_record.RunRecord.{RunRecord}
@@ -16,8 +17,8 @@ use Rattle.cell_config.specs.Configured.{Says, in_order}
 use Rattle.cell_config.specs.Settings.{Settings, settings_of, max_bytes_read as config_bytes_read}
 use Rattle.cell_config.specs.ConfigWords.{config_fault_text}
 use Rattle.cell_config.specs.declared.fault.ConfigFault.{ConfigFault}
-use Rattle.cell_program.specs.Ran.{TellsWorkers}
-use Rattle.cell_program.specs.Reported.{AreFine, AuditFinds, IsAmiss}
+use Rattle.cell_workers.specs.Records.{TellsWork}
+use Rattle.cell_program.specs.Reported.{AreFine}
 
 -- the line of a fault
 abbrev pub fault_line : List ℕ → List ℕ
@@ -57,16 +58,25 @@ abbrev pub IsAuditOf : Option AuditFault → Type 0
 IsAuditOf None = Unit
 IsAuditOf (Some fault) = fault ≡ AuditMemory
 
+-- the report of a run with a stopped machine was written, or one that says that the audit ran out of memory; or only a
+-- prefix of a report was
+abbrev pub ReportFails : RunRecord → Option (List ℕ) → Option (List ℕ) → Type 0
+ReportFails r old new =
+    (audit : Option AuditFault) × (IsAuditOf audit
+    × ((Appends old new (report_text r audit) × ((¬ AreFine r.status) ⊎ (audit ≡ Some AuditMemory)))
+    ⊎ WrotePrefix old new (report_text r audit)))
+
 -- The simulation failed: the configuration was refused, or memory ran out, and a prefix of the fault's line was
--- written; or a machine was stopped or the audit ran out of memory, and the report was written; or only a prefix of the
--- report was.
+-- written; or its report is one of a failure.
 abbrev pub SimFails : List ℕ → Option (List ℕ) → Option (List ℕ) → Type 0
 SimFails bytes old new =
     ((fault : ConfigFault) × (Says bytes (Err fault) × WrotePrefix old new (fault_line (config_fault_text fault))))
     ⊎ (WrotePrefix old new (fault_line (codes "memory"))
-    ⊎ ((r : RunRecord) × (audit : Option AuditFault) × (TellsRunOf bytes r × (IsAuditOf audit
-    × ((Appends old new (report_text r audit) × ((¬ AreFine r.status) ⊎ (audit ≡ Some AuditMemory)))
-    ⊎ WrotePrefix old new (report_text r audit))))))
+    ⊎ ((r : RunRecord) × (TellsRunOf bytes r × ReportFails r old new)))
+
+-- a record is of six workers with a gate that is always open
+abbrev pub TellsWorkers : CellScales → ModelState → ℕ → ℕ → RunRecord → Type 0
+TellsWorkers scales opening tries turns r = TellsWork scales opening tries turns (λ machine turn answer. answer ≡ true) r
 
 -- a record is of a run by six workers of the configuration that the bytes give
 pub record TellsWorkersOf (turns tries : ℕ) (bytes : List ℕ) (r : RunRecord) : Type 0 where
@@ -76,22 +86,20 @@ pub record TellsWorkersOf (turns tries : ℕ) (bytes : List ℕ) (r : RunRecord)
   pub points : settings.points ≡ in_order scales
   pub run : TellsWorkers scales settings.start tries turns r
 
--- the cell was run, no machine was stopped, the audit found a history, and the report was written
+-- the cell was run, no machine was stopped, and the report was written, with the line that the audit found a history
 abbrev pub WasRun : ℕ → ℕ → Option (List ℕ) → Option (List ℕ) → Option (List ℕ) → Type 0
 WasRun turns tries remaining old new =
     IfSome remaining (λ bytes. (r : RunRecord) × (TellsWorkersOf turns tries bytes r
-    × (AreFine r.status × (AuditFinds r None × Appends old new (report_text r None)))))
+    × (AreFine r.status × Appends old new (report_text r None))))
 
 -- The run failed: the configuration was refused, memory ran out, or a worker couldn't be started, and a prefix of the
--- fault's line was written; or a machine was stopped or the audit rejected the run, and the report was written; or only
--- a prefix of the report was.
+-- fault's line was written; or its report is one of a failure.
 abbrev pub RunFails : ℕ → ℕ → List ℕ → Option (List ℕ) → Option (List ℕ) → Type 0
 RunFails turns tries bytes old new =
     ((fault : ConfigFault) × (Says bytes (Err fault) × WrotePrefix old new (fault_line (config_fault_text fault))))
     ⊎ (WrotePrefix old new (fault_line (codes "memory"))
     ⊎ (WrotePrefix old new (fault_line (codes "spawn"))
-    ⊎ ((r : RunRecord) × (audit : Option AuditFault) × (TellsWorkersOf turns tries bytes r × (AuditFinds r audit
-    × ((Appends old new (report_text r audit) × IsAmiss r audit) ⊎ WrotePrefix old new (report_text r audit)))))))
+    ⊎ ((r : RunRecord) × (TellsWorkersOf turns tries bytes r × ReportFails r old new))))
 
 -- What `serve` says of a replay: the exit status, with what was written; and what was taken of the input. Known bytes
 -- of the input are `input` before and `rest` after it; of the output, `old` and `new`.

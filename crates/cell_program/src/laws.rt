@@ -1,13 +1,6 @@
 //! Laws of runs. Each is a function that does nothing: its contract is the law.
 ghost use Rattle.cell_program.specs.Asked.{WordsAreServed};
-ghost use Rattle.cell_program.specs.Laws.{EndsAreFound, FaultLinesAreMet, StatusZeroIsWell, TurnsAreTold};
-
-/// The end of a run is left open only if no history gives its journals. The end is the start if no
-/// machine noted anything. It is left open if the press noted a release of a zone that it never
-/// held.
-pub fn ends_are_found()
-    ensures { EndsAreFound }
-{}
+ghost use Rattle.cell_program.specs.Laws.{FaultLinesAreMet, StatusZeroIsWell, TurnsAreTold};
 
 /// In a run by six workers a machine takes no more turns than it may, and all of them if its status
 /// is `Fine`. Each turn has at most one answer, and no gate keeps a machine out.
@@ -16,8 +9,8 @@ pub fn turns_are_told()
 {}
 
 /// Status 0 says that the script was clean; or that each machine's status is `Fine`, and the report
-/// with `audit ok` was written. Of a run by six workers it also says that the audit found a history,
-/// and that each machine had all its turns.
+/// with `audit ok` was written. Of a run by six workers it also says that a history gives its
+/// journals and leads to its end, and that each machine had all its turns.
 pub fn status_zero_is_well()
     ensures { StatusZeroIsWell }
 {}

@@ -7,7 +7,6 @@ pub mod faults;
 pub mod gauges;
 pub mod laws;
 pub mod reporting;
-pub mod run_cell;
 pub mod serve;
 pub mod serve_replay;
 pub mod serve_run;

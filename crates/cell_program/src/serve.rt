@@ -52,7 +52,7 @@ where
         (W.contents writer.old) (W.contents writer.new) }
 
     // With `run` after the name: status 0 says that six workers ran the cell, no machine was
-    // stopped, an audit found a history and the report was written, status 1 what was written.
+    // stopped and the report with `audit ok` was written, status 1 what was written.
     ensures run { (turns tries : ℕ) → AskForRun turns tries (texts_of words.now) →
         Runs turns tries result (R.remaining reader.old) (R.remaining reader.new)
         (W.contents writer.old) (W.contents writer.new) }

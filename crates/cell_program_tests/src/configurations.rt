@@ -105,8 +105,8 @@ const VALUES: &[(&str, &str)] = &[
     ("schedule = 5", "config kind"),
     ("schedule = [\"p\"]", "config kind"),
     ("schedule = \"x\"", "config letter"),
-    ("schedule = \"w\"", "config letter"),
-    ("schedule = \"pW\"", "config letter"),
+    ("schedule = \"v\"", "config letter"),
+    ("schedule = \"wV\"", "config letter"),
     ("schedule = \"p p\"", "config letter"),
     ("schedule = \"pé\"", "config letter"),
     ("arm1 = 3", "config kind"),
@@ -197,7 +197,7 @@ const FORMS: &[(&str, &str)] = &[
     ("\"stamp\" = 1", "well"),
     ("'stamp' = 1", "well"),
     ("stamp = 1\r\nschedule = 'p'", "well"),
-    ("schedule = 'ftrpdc'", "well"),
+    ("schedule = 'ftrpdcw'", "well"),
     ("schedule = \"\"\"\nft\\\n  rp\"\"\"", "well"),
     ("schedule = '''\nft'''", "well"),
     ("schedule = '''f\nt'''", "config letter"),
@@ -319,7 +319,7 @@ fn gives_what_is_written(rt: HostRuntime) -> Result<(), Fail> {
     Ok(())
 }
 
-/// The turns of the letters `ftrpdcFTRPDC`: in the last six the machine gets Busy.
+/// The turns of the letters `ftrpdcwFTRPDCW`: in the last seven the machine gets Busy.
 const LETTERED: &[(Machine, bool)] = &[
     (Machine::Feed, false),
     (Machine::Table, false),
@@ -327,12 +327,14 @@ const LETTERED: &[(Machine, bool)] = &[
     (Machine::Press, false),
     (Machine::Deposit, false),
     (Machine::Crane, false),
+    (Machine::Watch, false),
     (Machine::Feed, true),
     (Machine::Table, true),
     (Machine::Robot, true),
     (Machine::Press, true),
     (Machine::Deposit, true),
     (Machine::Crane, true),
+    (Machine::Watch, true),
 ];
 
 /// The number of turns that agree with their letters, each in its place.
@@ -348,10 +350,10 @@ fn lettered(turns: &[Turn]) -> u32 {
 
 #[test]
 fn reads_letters(rt: HostRuntime) {
-    let text = "start = \"0000000000\"\nschedule = \"ftrpdcFTRPDC\"";
+    let text = "start = \"0000000000\"\nschedule = \"ftrpdcwFTRPDCW\"";
     let config = read(rt.alloc(), &mut text.as_bytes()).expect(&rt, "a configuration");
-    assert!(rt; config.schedule.len() == 12);
-    assert!(rt; lettered(config.schedule.as_slice()) == 12);
+    assert!(rt; config.schedule.len() == 14);
+    assert!(rt; lettered(config.schedule.as_slice()) == 14);
 }
 
 /// The number of turns that a schedule of one repeated letter gives, or its fault.

@@ -45,6 +45,15 @@ impl Doorkeeper {
             && are_noted(&self.found, &[robot, robot, robot, table, crane])
     }
 
+    /// Whether some first machines have asked for these turns, and the others for none.
+    pub fn has_let_in_the_first(&self, notes: u64) -> bool {
+        self.asked
+            .iter()
+            .map(|asked| asked.load(Ordering::SeqCst))
+            .skip_while(|asked| *asked == notes)
+            .all(|asked| asked == 0)
+    }
+
     // Whether all six have asked for this turn, once for each turn up to it.
     fn are_all_at(&self, turn: u32) -> bool {
         match NOTES.get(turn as usize + 1) {

@@ -10,10 +10,11 @@ use std::test::Fail;
 use std::thread::Threads;
 
 /// How a report begins if no place is full and the first stamp is 0.
-pub const NO_PLATES: &str = "start 0000000000 0\n";
+pub const NO_PLATES: &str = "version 2\nstart 0000000000 0\n";
 
-/// The report's first two lines if the feed belt's two turns find the interlock busy.
-const TWO_BUSY: &str = "start 0000000000 0\nfeed turns 2 done 0 read 0 refused 0 busy 2 ok\n";
+/// The report's first three lines if the feed belt's two turns find the interlock busy.
+const TWO_BUSY: &str =
+    "version 2\nstart 0000000000 0\nfeed turns 2 done 0 read 0 refused 0 busy 2 ok\n";
 
 /// Whether `cell sim` refuses a configuration with this word, or answers it with a report that begins
 /// with this text.
@@ -64,11 +65,11 @@ const SENT: &[(&str, &str)] = &[
     // Line ends of Windows, also within a text, and with none at the end.
     (
         "start = \"0000000000\"\r\nstamp = 1\r\n[turn]\r\ntol = 3\r\n",
-        "start 0000000000 1\n",
+        "version 2\nstart 0000000000 1\n",
     ),
     (
         "# no plates\r\nstart = \"0000000000\" # none\r\n\r\nstamp = 1",
-        "start 0000000000 1\n",
+        "version 2\nstart 0000000000 1\n",
     ),
     (
         "start = \"0000000000\"\r\nschedule = \"\"\"\r\nF\\\r\n  F\"\"\"\r\n",
@@ -205,7 +206,7 @@ const KEYS: &[(&str, &str)] = &[
     ("turn.tol = 3\nturn.raw = [0, 4000]", NO_PLATES),
     (
         "turn.tol = 3\nstamp = 1\nturn.raw = [0, 4000]",
-        "start 0000000000 1\n",
+        "version 2\nstart 0000000000 1\n",
     ),
     ("turn = {tol = 3}\nturn.raw = [0, 4000]", "text"),
     ("turn.tol = 3\nturn = {raw = [0, 4000]}", "text"),

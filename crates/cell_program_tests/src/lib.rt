@@ -12,8 +12,6 @@ mod configurations;
 #[cfg(test)]
 mod doubles;
 #[cfg(test)]
-mod ends;
-#[cfg(test)]
 mod gated;
 #[cfg(test)]
 mod gates;

@@ -39,7 +39,7 @@ const ROWS: &[Row] = &[
 
 // Whether a text is a report that memory ran out, for a machine or for the audit.
 fn tells_want(written: &str) -> bool {
-    written.starts_with("start 0000000000 0\n")
+    written.starts_with("version 2\nstart 0000000000 0\n")
         && (written.contains(" memory\n") && written.contains("\naudit "))
 }
 

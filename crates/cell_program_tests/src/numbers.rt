@@ -8,8 +8,8 @@ use std::test::Fail;
 const STAMPS: &[(&str, &str)] = &[
     ("stamp = 0", NO_PLATES),
     ("stamp = -0", NO_PLATES),
-    ("stamp = 1048575", "start 0000000000 1048575\n"),
-    ("stamp = 0xF_FFFF", "start 0000000000 1048575\n"),
+    ("stamp = 1048575", "version 2\nstart 0000000000 1048575\n"),
+    ("stamp = 0xF_FFFF", "version 2\nstart 0000000000 1048575\n"),
     ("stamp = -1", "range"),
     ("stamp = 1048576", "range"),
     ("stamp = 4294967295", "range"),

@@ -6,6 +6,7 @@ pub const PRESS: &str = "start = \"0000000000\"\nschedule = \"pppppppppppppppppp
 
 /// The report if neither table nor press has moved.
 pub const STILL: &str = "\
+version 2
 start 0000000000 0
 feed turns 0 done 0 read 0 refused 0 busy 0 ok
 table turns 0 done 0 read 0 refused 0 busy 0 ok
@@ -13,6 +14,7 @@ robot turns 0 done 0 read 0 refused 0 busy 0 ok
 press turns 0 done 0 read 0 refused 0 busy 0 ok
 deposit turns 0 done 0 read 0 refused 0 busy 0 ok
 crane turns 0 done 0 read 0 refused 0 busy 0 ok
+watch turns 0 done 0 read 0 refused 0 busy 0 ok
 zone z1 free 0 closed
 zone z2 free 0 closed
 zone z3 free 0 closed
@@ -21,12 +23,13 @@ zone z5 free 0 closed
 zone z6 free 0 closed
 places 0000000000
 axes press 1000 arm1 0 arm2 0 rotation 300 lift 0 turn 0 crane 0 gripper 900
-stamp 0 plates 0
+stamp 0 plates 0 stopped 0
 audit ok
 ";
 
 /// The report if the press's call found the interlock busy.
 pub const BUSY: &str = "\
+version 2
 start 0000000000 0
 feed turns 0 done 0 read 0 refused 0 busy 0 ok
 table turns 0 done 0 read 0 refused 0 busy 0 ok
@@ -34,6 +37,7 @@ robot turns 0 done 0 read 0 refused 0 busy 0 ok
 press turns 1 done 0 read 0 refused 0 busy 1 ok
 deposit turns 0 done 0 read 0 refused 0 busy 0 ok
 crane turns 0 done 0 read 0 refused 0 busy 0 ok
+watch turns 0 done 0 read 0 refused 0 busy 0 ok
 zone z1 free 0 closed
 zone z2 free 0 closed
 zone z3 free 0 closed
@@ -42,12 +46,59 @@ zone z5 free 0 closed
 zone z6 free 0 closed
 places 0000000000
 axes press 1000 arm1 0 arm2 0 rotation 300 lift 0 turn 0 crane 0 gripper 900
-stamp 0 plates 0
+stamp 0 plates 0 stopped 0
+audit ok
+";
+
+/// The report if the watch stops the cell before the press's first turn, and doesn't resume it.
+pub const STOP: &str = "\
+version 2
+start 0000000000 0
+feed turns 0 done 0 read 0 refused 0 busy 0 ok
+table turns 0 done 0 read 0 refused 0 busy 0 ok
+robot turns 0 done 0 read 0 refused 0 busy 0 ok
+press turns 1 done 0 read 0 refused 1 busy 0 ok
+deposit turns 0 done 0 read 0 refused 0 busy 0 ok
+crane turns 0 done 0 read 0 refused 0 busy 0 ok
+watch turns 1 done 1 read 0 refused 0 busy 0 ok
+zone z1 free 0 closed
+zone z2 free 0 closed
+zone z3 free 0 closed
+zone z4 free 0 closed
+zone z5 free 0 closed
+zone z6 free 0 closed
+places 0000000000
+axes press 1000 arm1 0 arm2 0 rotation 300 lift 0 turn 0 crane 0 gripper 900
+stamp 1 plates 0 stopped 1
+audit ok
+";
+
+/// The report if the watch stops the cell and resumes it, each before a turn of the press.
+pub const STOP_AND_RESUME: &str = "\
+version 2
+start 0000000000 0
+feed turns 0 done 0 read 0 refused 0 busy 0 ok
+table turns 0 done 0 read 0 refused 0 busy 0 ok
+robot turns 0 done 0 read 0 refused 0 busy 0 ok
+press turns 2 done 1 read 0 refused 1 busy 0 ok
+deposit turns 0 done 0 read 0 refused 0 busy 0 ok
+crane turns 0 done 0 read 0 refused 0 busy 0 ok
+watch turns 2 done 2 read 0 refused 0 busy 0 ok
+zone z1 free 0 closed
+zone z2 free 0 closed
+zone z3 press 0 closed
+zone z4 free 0 closed
+zone z5 free 0 closed
+zone z6 free 0 closed
+places 0000000000
+axes press 1000 arm1 0 arm2 0 rotation 300 lift 0 turn 0 crane 0 gripper 900
+stamp 3 plates 0 stopped 0
 audit ok
 ";
 
 /// The report if the table waits for the feed belt's plate.
 pub const WAITS: &str = "\
+version 2
 start 0000000000 0
 feed turns 0 done 0 read 0 refused 0 busy 0 ok
 table turns 7 done 5 read 0 refused 1 busy 0 ok
@@ -55,6 +106,7 @@ robot turns 0 done 0 read 0 refused 0 busy 0 ok
 press turns 0 done 0 read 0 refused 0 busy 0 ok
 deposit turns 0 done 0 read 0 refused 0 busy 0 ok
 crane turns 0 done 0 read 0 refused 0 busy 0 ok
+watch turns 0 done 0 read 0 refused 0 busy 0 ok
 zone z1 free 0 openin
 zone z2 table 0 closed
 zone z3 free 0 closed
@@ -63,12 +115,13 @@ zone z5 free 0 closed
 zone z6 free 0 closed
 places 0000000000
 axes press 1000 arm1 0 arm2 0 rotation 300 lift 0 turn 0 crane 0 gripper 900
-stamp 5 plates 0
+stamp 5 plates 0 stopped 0
 audit ok
 ";
 
 /// The report if the table has gone to the top, and waits for the robot to take its plate.
 pub const HANDS_OVER: &str = "\
+version 2
 start 0010000000 0
 feed turns 0 done 0 read 0 refused 0 busy 0 ok
 table turns 37 done 5 read 0 refused 1 busy 0 ok
@@ -76,6 +129,7 @@ robot turns 0 done 0 read 0 refused 0 busy 0 ok
 press turns 0 done 0 read 0 refused 0 busy 0 ok
 deposit turns 0 done 0 read 0 refused 0 busy 0 ok
 crane turns 0 done 0 read 0 refused 0 busy 0 ok
+watch turns 0 done 0 read 0 refused 0 busy 0 ok
 zone z1 table 0 closed
 zone z2 robot 1 openout
 zone z3 free 0 closed
@@ -84,12 +138,13 @@ zone z5 free 0 closed
 zone z6 free 0 closed
 places 0000000000
 axes press 1000 arm1 0 arm2 0 rotation 300 lift 600 turn 500 crane 0 gripper 900
-stamp 5 plates 1
+stamp 5 plates 1 stopped 0
 audit ok
 ";
 
 /// The report if the press has gone to its middle, opened its interior and released it.
 pub const PRESS_REPORT: &str = "\
+version 2
 start 0000000000 0
 feed turns 0 done 0 read 0 refused 0 busy 0 ok
 table turns 0 done 0 read 0 refused 0 busy 0 ok
@@ -97,6 +152,7 @@ robot turns 0 done 0 read 0 refused 0 busy 0 ok
 press turns 31 done 4 read 0 refused 1 busy 0 ok
 deposit turns 0 done 0 read 0 refused 0 busy 0 ok
 crane turns 0 done 0 read 0 refused 0 busy 0 ok
+watch turns 0 done 0 read 0 refused 0 busy 0 ok
 zone z1 free 0 closed
 zone z2 free 0 closed
 zone z3 free 0 openin
@@ -105,12 +161,13 @@ zone z5 free 0 closed
 zone z6 free 0 closed
 places 0000000000
 axes press 500 arm1 0 arm2 0 rotation 300 lift 0 turn 0 crane 0 gripper 900
-stamp 4 plates 0
+stamp 4 plates 0 stopped 0
 audit ok
 ";
 
 /// The report if the last stamp stops the table before its first call is done.
 pub const WORN: &str = "\
+version 2
 start 0000000000 1048575
 feed turns 0 done 0 read 0 refused 0 busy 0 ok
 table turns 1 done 0 read 0 refused 1 busy 0 worn
@@ -118,6 +175,7 @@ robot turns 0 done 0 read 0 refused 0 busy 0 ok
 press turns 1 done 0 read 0 refused 0 busy 1 ok
 deposit turns 0 done 0 read 0 refused 0 busy 0 ok
 crane turns 0 done 0 read 0 refused 0 busy 0 ok
+watch turns 0 done 0 read 0 refused 0 busy 0 ok
 zone z1 free 0 closed
 zone z2 free 0 closed
 zone z3 free 0 closed
@@ -126,13 +184,14 @@ zone z5 free 0 closed
 zone z6 free 0 closed
 places 0000000000
 axes press 1000 arm1 0 arm2 0 rotation 300 lift 0 turn 0 crane 0 gripper 900
-stamp 1048575 plates 0
+stamp 1048575 plates 0 stopped 0
 audit ok
 ";
 
 /// The report after 10,000 turns each of table and press, one after the other. Both wait for the
 /// robot, the table from its 37th turn on, the press from its 31st.
 pub const LONG: &str = "\
+version 2
 start 0010000000 0
 feed turns 0 done 0 read 0 refused 0 busy 0 ok
 table turns 10000 done 5 read 0 refused 9964 busy 0 ok
@@ -140,6 +199,7 @@ robot turns 0 done 0 read 0 refused 0 busy 0 ok
 press turns 10000 done 4 read 0 refused 9970 busy 0 ok
 deposit turns 0 done 0 read 0 refused 0 busy 0 ok
 crane turns 0 done 0 read 0 refused 0 busy 0 ok
+watch turns 0 done 0 read 0 refused 0 busy 0 ok
 zone z1 table 0 closed
 zone z2 robot 1 openout
 zone z3 free 0 openin
@@ -148,13 +208,14 @@ zone z5 free 0 closed
 zone z6 free 0 closed
 places 0000000000
 axes press 500 arm1 0 arm2 0 rotation 300 lift 600 turn 500 crane 0 gripper 900
-stamp 9 plates 1
+stamp 9 plates 1 stopped 0
 audit ok
 ";
 
 /// The report if each machine has had one turn, and another one that found the interlock busy if it
 /// asked.
 pub const ONE_TURN_EACH: &str = "\
+version 2
 start 0000000000 0
 feed turns 2 done 1 read 0 refused 0 busy 1 ok
 table turns 2 done 1 read 0 refused 0 busy 1 ok
@@ -162,6 +223,7 @@ robot turns 2 done 0 read 0 refused 0 busy 1 ok
 press turns 2 done 1 read 0 refused 0 busy 1 ok
 deposit turns 2 done 1 read 0 refused 0 busy 1 ok
 crane turns 2 done 0 read 0 refused 0 busy 0 ok
+watch turns 0 done 0 read 0 refused 0 busy 0 ok
 zone z1 table 0 closed
 zone z2 free 0 closed
 zone z3 press 0 closed
@@ -170,12 +232,13 @@ zone z5 free 0 closed
 zone z6 feed 0 closed
 places 0000000000
 axes press 1000 arm1 0 arm2 0 rotation 300 lift 0 turn 0 crane 0 gripper 900
-stamp 4 plates 0
+stamp 4 plates 0 stopped 0
 audit ok
 ";
 
 /// The report if the feed belt has pushed its plate onto the table, and the table has taken it.
 pub const FEED_TO_TABLE: &str = "\
+version 2
 start 0100000000 0
 feed turns 11 done 5 read 0 refused 0 busy 0 ok
 table turns 7 done 6 read 0 refused 0 busy 0 ok
@@ -183,6 +246,7 @@ robot turns 0 done 0 read 0 refused 0 busy 0 ok
 press turns 0 done 0 read 0 refused 0 busy 0 ok
 deposit turns 0 done 0 read 0 refused 0 busy 0 ok
 crane turns 0 done 0 read 0 refused 0 busy 0 ok
+watch turns 0 done 0 read 0 refused 0 busy 0 ok
 zone z1 table 0 openin
 zone z2 table 0 closed
 zone z3 free 0 closed
@@ -191,12 +255,13 @@ zone z5 free 0 closed
 zone z6 feed 0 closed
 places 0010000000
 axes press 1000 arm1 0 arm2 0 rotation 300 lift 0 turn 0 crane 0 gripper 900
-stamp 11 plates 1
+stamp 11 plates 1 stopped 0
 audit ok
 ";
 
 /// The report if the robot has put its plate into the press, and the press has taken it.
 pub const ARM_TO_PRESS: &str = "\
+version 2
 start 0001000000 0
 feed turns 0 done 0 read 0 refused 0 busy 0 ok
 table turns 0 done 0 read 0 refused 0 busy 0 ok
@@ -204,6 +269,7 @@ robot turns 143 done 2 read 1 refused 0 busy 0 ok
 press turns 31 done 5 read 0 refused 0 busy 0 ok
 deposit turns 0 done 0 read 0 refused 0 busy 0 ok
 crane turns 0 done 0 read 0 refused 0 busy 0 ok
+watch turns 0 done 0 read 0 refused 0 busy 0 ok
 zone z1 free 0 closed
 zone z2 free 0 closed
 zone z3 press 0 openin
@@ -212,12 +278,13 @@ zone z5 free 0 closed
 zone z6 free 0 closed
 places 0000100000
 axes press 500 arm1 20 arm2 0 rotation 1480 lift 0 turn 0 crane 0 gripper 900
-stamp 7 plates 1
+stamp 7 plates 1 stopped 0
 audit ok
 ";
 
 /// The report if the crane has brought its plate back to the feed belt.
 pub const CRANE_TO_FEED: &str = "\
+version 2
 start 0000000001 0
 feed turns 4 done 4 read 0 refused 0 busy 0 ok
 table turns 0 done 0 read 0 refused 0 busy 0 ok
@@ -225,6 +292,7 @@ robot turns 0 done 0 read 0 refused 0 busy 0 ok
 press turns 0 done 0 read 0 refused 0 busy 0 ok
 deposit turns 0 done 0 read 0 refused 0 busy 0 ok
 crane turns 160 done 2 read 0 refused 0 busy 0 ok
+watch turns 0 done 0 read 0 refused 0 busy 0 ok
 zone z1 free 0 closed
 zone z2 free 0 closed
 zone z3 free 0 closed
@@ -233,12 +301,13 @@ zone z5 free 0 closed
 zone z6 feed 0 openin
 places 1000000000
 axes press 1000 arm1 0 arm2 0 rotation 300 lift 0 turn 0 crane 2000 gripper 860
-stamp 6 plates 1
+stamp 6 plates 1 stopped 0
 audit ok
 ";
 
 /// The report if one plate has gone once round the cell, and no machine has waited.
 pub const CARRIED_ROUND: &str = "\
+version 2
 start 1000000000 0
 feed turns 62 done 10 read 0 refused 0 busy 0 ok
 table turns 76 done 13 read 0 refused 0 busy 0 ok
@@ -246,6 +315,7 @@ robot turns 527 done 8 read 3 refused 0 busy 0 ok
 press turns 144 done 15 read 0 refused 0 busy 0 ok
 deposit turns 61 done 9 read 0 refused 0 busy 0 ok
 crane turns 342 done 4 read 1 refused 0 busy 0 ok
+watch turns 0 done 0 read 0 refused 0 busy 0 ok
 zone z1 free 0 openin
 zone z2 table 0 closed
 zone z3 free 0 openin
@@ -254,13 +324,14 @@ zone z5 free 0 openout
 zone z6 feed 0 openin
 places 1000000000
 axes press 500 arm1 20 arm2 20 rotation 320 lift 0 turn 0 crane 0 gripper 860
-stamp 59 plates 1
+stamp 59 plates 1 stopped 0
 audit ok
 ";
 
 /// The report if one plate has gone once round, and the first arm and the gripper have lines of their
 /// own, by which they stop elsewhere.
 pub const LINES_OF_THEIR_OWN: &str = "\
+version 2
 start 1000000000 0
 feed turns 62 done 10 read 0 refused 0 busy 0 ok
 table turns 76 done 13 read 0 refused 0 busy 0 ok
@@ -268,6 +339,7 @@ robot turns 527 done 8 read 6 refused 0 busy 0 ok
 press turns 144 done 15 read 0 refused 0 busy 0 ok
 deposit turns 61 done 9 read 0 refused 0 busy 0 ok
 crane turns 342 done 4 read 1 refused 0 busy 0 ok
+watch turns 0 done 0 read 0 refused 0 busy 0 ok
 zone z1 free 0 openin
 zone z2 table 0 closed
 zone z3 free 0 openin
@@ -276,12 +348,13 @@ zone z5 free 0 openout
 zone z6 feed 0 openin
 places 1000000000
 axes press 500 arm1 40 arm2 20 rotation 320 lift 0 turn 0 crane 40 gripper 880
-stamp 59 plates 1
+stamp 59 plates 1 stopped 0
 audit ok
 ";
 
 /// The report if four plates have gone round in 20,000 turns, taken one after another.
 pub const FOUR_PLATES: &str = "\
+version 2
 start 1010100010 0
 feed turns 3334 done 56 read 0 refused 2948 busy 0 ok
 table turns 3334 done 52 read 0 refused 2879 busy 0 ok
@@ -289,6 +362,7 @@ robot turns 3333 done 47 read 257 refused 0 busy 0 ok
 press turns 3333 done 66 read 0 refused 2674 busy 0 ok
 deposit turns 3333 done 52 read 0 refused 2969 busy 0 ok
 crane turns 3333 done 24 read 7 refused 1383 busy 0 ok
+watch turns 0 done 0 read 0 refused 0 busy 0 ok
 zone z1 table 0 closed
 zone z2 table 0 openout
 zone z3 robot 0 openin
@@ -297,12 +371,13 @@ zone z5 crane 1 openout
 zone z6 feed 0 moving
 places 1011000000
 axes press 500 arm1 360 arm2 20 rotation 1480 lift 600 turn 500 crane 1640 gripper 860
-stamp 297 plates 4
+stamp 297 plates 4 stopped 0
 audit ok
 ";
 
 /// The report if five machines with a plate each wait for one another, in a ring.
 pub const STANDSTILL: &str = "\
+version 2
 start 1011101010 0
 feed turns 400 done 3 read 0 refused 351 busy 0 ok
 table turns 400 done 4 read 0 refused 365 busy 0 ok
@@ -310,6 +385,7 @@ robot turns 400 done 4 read 1 refused 63 busy 0 ok
 press turns 400 done 11 read 0 refused 311 busy 0 ok
 deposit turns 400 done 11 read 0 refused 337 busy 0 ok
 crane turns 400 done 2 read 2 refused 216 busy 0 ok
+watch turns 0 done 0 read 0 refused 0 busy 0 ok
 zone z1 table 0 closed
 zone z2 table 0 openout
 zone z3 free 0 openin
@@ -318,7 +394,7 @@ zone z5 deposit 0 openout
 zone z6 feed 0 closed
 places 0111001011
 axes press 500 arm1 0 arm2 20 rotation 1780 lift 600 turn 500 crane 2000 gripper 860
-stamp 35 plates 6
+stamp 35 plates 6 stopped 0
 audit ok
 ";
 
@@ -327,6 +403,7 @@ pub const EMPTY: &str = "start = \"0000000000\"\n";
 
 /// The report if six workers take three turns each, and no call is Busy.
 pub const SIX_WORKERS: &str = "\
+version 2
 start 0000000000 0
 feed turns 3 done 3 read 0 refused 0 busy 0 ok
 table turns 3 done 3 read 0 refused 0 busy 0 ok
@@ -334,6 +411,7 @@ robot turns 3 done 0 read 2 refused 0 busy 0 ok
 press turns 3 done 2 read 0 refused 0 busy 0 ok
 deposit turns 3 done 3 read 0 refused 0 busy 0 ok
 crane turns 3 done 0 read 1 refused 0 busy 0 ok
+watch turns 0 done 0 read 0 refused 0 busy 0 ok
 zone z1 table 0 moving
 zone z2 table 0 moving
 zone z3 press 0 moving
@@ -342,6 +420,6 @@ zone z5 deposit 0 closed
 zone z6 free 0 openin
 places 0000000000
 axes press 980 arm1 0 arm2 0 rotation 300 lift 0 turn 0 crane 0 gripper 900
-stamp 11 plates 0
+stamp 11 plates 0 stopped 0
 audit ok
 ";

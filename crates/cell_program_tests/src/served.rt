@@ -21,6 +21,12 @@ const SERVED: &[(&[&str], &str, u8, &str)] = &[
     (&["cell", "--"], SCRIPT, 0, TEXT),
     (&["cell"], "", 1, "fault nostart\n"),
     (&["cell", "replay"], "start,1\n", 1, "fault badstart\n"),
+    (
+        &["cell"],
+        "start2,0000000000\nwatch,stop\n",
+        0,
+        "0 0 start2 0\n1 1 done\n",
+    ),
 ];
 
 #[test]

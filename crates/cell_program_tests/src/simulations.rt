@@ -2,7 +2,8 @@
 
 use super::doubles::{is_served, run};
 use super::reports::{
-    BUSY, HANDS_OVER, LONG, ONE_TURN_EACH, PRESS, PRESS_REPORT, STILL, WAITS, WORN,
+    BUSY, HANDS_OVER, LONG, ONE_TURN_EACH, PRESS, PRESS_REPORT, STILL, STOP, STOP_AND_RESUME,
+    WAITS, WORN,
 };
 use std::alloc::{AllocError, Global};
 use std::process::Abort;
@@ -20,6 +21,11 @@ const REPORTS: &[(&str, &str)] = &[
         ONE_TURN_EACH,
     ),
     ("start = \"0000000000\"\nschedule = \"P\"", BUSY),
+    ("start = \"0000000000\"\nschedule = \"wp\"", STOP),
+    (
+        "start = \"0000000000\"\nschedule = \"wpwp\"",
+        STOP_AND_RESUME,
+    ),
     ("start = \"0000000000\"\nschedule = \"ttttttt\"", WAITS),
     (
         "start = \"0010000000\"\nschedule = \"ttttttttttttttttttttttttttttttttttttt\"",
@@ -112,8 +118,8 @@ fn simulates_20000_turns(rt: HostRuntime) -> Result<(), Fail> {
 
 // Letters of all machines; the capitals are turns that find the interlock busy.
 const LETTERS: [&str; 16] = [
-    "f", "t", "r", "p", "d", "c", "f", "t", //
-    "r", "p", "F", "T", "R", "P", "D", "C",
+    "f", "t", "r", "p", "d", "c", "w", "w", //
+    "F", "T", "R", "P", "D", "C", "W", "r",
 ];
 
 // A schedule of this number of turns of all machines.

@@ -5,6 +5,7 @@ pub mod RecordLemmas
 pub mod Requests
 pub mod Starts
 pub mod Scripts
+pub mod FirstScripts
 pub mod ScriptRows
 pub mod RowsTaken
 pub mod Writings

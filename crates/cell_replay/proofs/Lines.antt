@@ -11,6 +11,7 @@ use Rattle.cell_rules.specs.History.{IsLegal, after}
 use Rattle.cell_replay.specs.Requests.{Row, request_of}
 use Rattle.cell_replay.specs.Script.{event_line, event_lines, event_of, history_of, line_of, requests_in}
 use Rattle.cell_replay.specs.declared.request.Request.{Request}
+use Rattle.cell_replay.specs.declared.version.Version.{Version}
 use Rattle.cell_replay.specs.Writing.{lines_after}
 
 after-append : (s : ModelState) (a b : List Event) → after s (a ++ b) ≡ after (after s a) b
@@ -42,17 +43,17 @@ event_lines-after s rs = lines-after s s (history_of s rs) [] 0 rs refl refl ref
 
 -- Another record.
 
-pub requests_in-none : requests_in [] ≡ []
+pub requests_in-none : (version : Version) → requests_in version [] ≡ []
 unfolding requests_in
-requests_in-none = refl
+requests_in-none version = refl
 
-pub requests_in-bad : (row : Row) (rows : List Row) → request_of row ≡ None → requests_in (row ∷ rows) ≡ []
+pub requests_in-bad : (version : Version) (row : Row) (rows : List Row) → request_of version row ≡ None → requests_in version (row ∷ rows) ≡ []
 unfolding requests_in
-requests_in-bad row rows bad = rw bad refl
+requests_in-bad version row rows bad = rw bad refl
 
-pub requests_in-more : (row : Row) (rows : List Row) (r : Request) → request_of row ≡ Some r → requests_in (row ∷ rows) ≡ r ∷ requests_in rows
+pub requests_in-more : (version : Version) (row : Row) (rows : List Row) (r : Request) → request_of version row ≡ Some r → requests_in version (row ∷ rows) ≡ r ∷ requests_in version rows
 unfolding requests_in
-requests_in-more row rows r good = rw good refl
+requests_in-more version row rows r good = rw good refl
 
 pub lines_after-none : (done : ℕ) (s : ModelState) → lines_after done s [] ≡ []
 unfolding lines_after
@@ -69,10 +70,10 @@ length-first : (o : Option Request) (rs : List Request) (n : ℕ) → length rs 
 length-first None rs n h = omega arith
 length-first (Some r) rs n h = omega arith
 
-pub length-requests_in : (rows : List Row) → length (requests_in rows) ≤ length rows
+pub length-requests_in : (version : Version) (rows : List Row) → length (requests_in version rows) ≤ length rows
 unfolding requests_in
-length-requests_in [] = omega arith
-length-requests_in (row ∷ rows) = length-first (request_of row) (requests_in rows) (length rows) (length-requests_in rows)
+length-requests_in version [] = omega arith
+length-requests_in version (row ∷ rows) = length-first (request_of version row) (requests_in version rows) (length rows) (length-requests_in version rows)
 
 pub length-history_of : (s : ModelState) (rs : List Request) → length (history_of s rs) ≡ length rs
 unfolding history_of

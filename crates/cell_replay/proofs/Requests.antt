@@ -1,4 +1,4 @@
--- A record has a request exactly if its fields write that request, and the first version has its call.
+-- A record has a request of a version exactly if its fields write that request, and the version has its call.
 use Rattle.std.proofs.Common.{ℕ, ◌≡◌, ◌<◌, ◌≤◌, Bool, true, false, cond, List, [], ◌∷◌, length, Option, Some, None, MatchOption, refl, sym, ◌∙◌, ap, ap₂, ◌↔◌, arith, subst}
 use Rattle.std.specs.Bool.{then_some}
 use Rattle.std.specs.List.{find, list_all}
@@ -19,9 +19,11 @@ use Rattle.cell_types.specs.declared.call.Call.TheVariants.{Claim, Give, Yield, 
 use Rattle.cell_types.specs.Words.{machine_word}
 use Rattle.cell_types.specs.CallWords.{call_fields, object_of, verb_of, with_object}
 use Rattle.cell_types.specs.Everything.{all_machines}
-use Rattle.cell_rules.specs.FirstVersion.{has_call}
-use Rattle.cell_replay.specs.Requests.{Row, all_calls, call_of, machine_of, request, request_by, request_fields, request_of}
+use Rattle.cell_replay.specs.Versions.{has_call}
+use Rattle.cell_replay.specs.Requests.{Row, calls_of, call_of, machine_of, request, request_by, request_fields, request_of}
 use Rattle.cell_replay.specs.declared.request.Request.{Request}
+use Rattle.cell_replay.specs.declared.version.Version.{Version}
+use Rattle.cell_replay.specs.declared.version.Version.TheVariants.{First, Second}
 
 -- What is found.
 
@@ -61,50 +63,53 @@ machine_of-is word machine e = sym ((bytes_eq-Decides (machine_word machine) wor
 
 -- Calls.
 
-call_of-zone : (make : Zone → Call) → call_of (call_fields (make Z1)) ≡ Some (make Z1) → call_of (call_fields (make Z2)) ≡ Some (make Z2) → call_of (call_fields (make Z3)) ≡ Some (make Z3)
-    → call_of (call_fields (make Z4)) ≡ Some (make Z4) → call_of (call_fields (make Z5)) ≡ Some (make Z5) → call_of (call_fields (make Z6)) ≡ Some (make Z6) → (z : Zone) → call_of (call_fields (make z)) ≡ Some (make z)
-call_of-zone make a b c d e f Z1 = a
-call_of-zone make a b c d e f Z2 = b
-call_of-zone make a b c d e f Z3 = c
-call_of-zone make a b c d e f Z4 = d
-call_of-zone make a b c d e f Z5 = e
-call_of-zone make a b c d e f Z6 = f
+call_of-zone : (version : Version) (make : Zone → Call) → call_of version (call_fields (make Z1)) ≡ Some (make Z1) → call_of version (call_fields (make Z2)) ≡ Some (make Z2) → call_of version (call_fields (make Z3)) ≡ Some (make Z3)
+    → call_of version (call_fields (make Z4)) ≡ Some (make Z4) → call_of version (call_fields (make Z5)) ≡ Some (make Z5) → call_of version (call_fields (make Z6)) ≡ Some (make Z6) → (z : Zone) → call_of version (call_fields (make z)) ≡ Some (make z)
+call_of-zone version make a b c d e f Z1 = a
+call_of-zone version make a b c d e f Z2 = b
+call_of-zone version make a b c d e f Z3 = c
+call_of-zone version make a b c d e f Z4 = d
+call_of-zone version make a b c d e f Z5 = e
+call_of-zone version make a b c d e f Z6 = f
 
-call_of-pose : (pose : Pose) → call_of (call_fields (SetPose pose)) ≡ Some (SetPose pose)
+call_of-pose : (version : Version) (pose : Pose) → call_of version (call_fields (SetPose pose)) ≡ Some (SetPose pose)
 unfolding call_of
-call_of-pose Turning = refl
-call_of-pose Loading = refl
-call_of-pose Unloading = refl
-call_of-pose Travelling = refl
-call_of-pose Middle = refl
-call_of-pose Low = refl
-call_of-pose Top = refl
-call_of-pose Running = refl
-call_of-pose Landing = refl
-call_of-pose Halted = refl
-call_of-pose Offering = refl
-call_of-pose Standing = refl
+call_of-pose version Turning = refl
+call_of-pose version Loading = refl
+call_of-pose version Unloading = refl
+call_of-pose version Travelling = refl
+call_of-pose version Middle = refl
+call_of-pose version Low = refl
+call_of-pose version Top = refl
+call_of-pose version Running = refl
+call_of-pose version Landing = refl
+call_of-pose version Halted = refl
+call_of-pose version Offering = refl
+call_of-pose version Standing = refl
 
-call_of-fields : (call : Call) → has_call call ≡ true → call_of (call_fields call) ≡ Some call
+call_of-fields : (version : Version) (call : Call) → has_call version call ≡ true → call_of version (call_fields call) ≡ Some call
 unfolding call_of
-call_of-fields (Claim z) h = call_of-zone Claim refl refl refl refl refl refl z
-call_of-fields (Give z) h = call_of-zone Give refl refl refl refl refl refl z
-call_of-fields (Yield z) h = call_of-zone Yield refl refl refl refl refl refl z
-call_of-fields (Take z) h = call_of-zone Take refl refl refl refl refl refl z
-call_of-fields (Release z) h = call_of-zone Release refl refl refl refl refl refl z
-call_of-fields (SetPose pose) h = call_of-pose pose
-call_of-fields Advance h = refl
-call_of-fields (Inquire z) h = call_of-zone Inquire refl refl refl refl refl refl z
-call_of-fields Stop h = absurd (cc)
-call_of-fields Resume h = absurd (cc)
+call_of-fields version (Claim z) h = call_of-zone version Claim refl refl refl refl refl refl z
+call_of-fields version (Give z) h = call_of-zone version Give refl refl refl refl refl refl z
+call_of-fields version (Yield z) h = call_of-zone version Yield refl refl refl refl refl refl z
+call_of-fields version (Take z) h = call_of-zone version Take refl refl refl refl refl refl z
+call_of-fields version (Release z) h = call_of-zone version Release refl refl refl refl refl refl z
+call_of-fields version (SetPose pose) h = call_of-pose version pose
+call_of-fields version Advance h = refl
+call_of-fields version (Inquire z) h = call_of-zone version Inquire refl refl refl refl refl refl z
+call_of-fields First Stop h = absurd (cc)
+call_of-fields Second Stop h = refl
+call_of-fields First Resume h = absurd (cc)
+call_of-fields Second Resume h = refl
 
-call_of-is : (fields : Row) (call : Call) → call_of fields ≡ Some call → fields ≡ call_fields call
+call_of-is : (version : Version) (fields : Row) (call : Call) → call_of version fields ≡ Some call → fields ≡ call_fields call
 unfolding call_of
-call_of-is fields call e = sym ((slice_eq-Decides bytes_eq-Decides (call_fields call) fields _ refl).0 (found_passes (λ c. pointwise bytes_eq (call_fields c) fields) all_calls call e))
+call_of-is version fields call e = sym ((slice_eq-Decides bytes_eq-Decides (call_fields call) fields _ refl).0 (found_passes (λ c. pointwise bytes_eq (call_fields c) fields) (calls_of version) call e))
 
-call_of-has : (fields : Row) (call : Call) → call_of fields ≡ Some call → has_call call ≡ true
+pub call_of-has : (version : Version) (fields : Row) (call : Call) → call_of version fields ≡ Some call → has_call version call ≡ true
 unfolding call_of
-call_of-has fields call e = found_has (λ c. pointwise bytes_eq (call_fields c) fields) has_call all_calls call refl e
+call_of-has First fields call e = found_has (λ c. pointwise bytes_eq (call_fields c) fields) (has_call First) (calls_of First) call refl e
+call_of-has Second fields call e = found_has (λ c. pointwise bytes_eq (call_fields c) fields) (has_call Second) (calls_of Second) call refl e
 
 -- Requests.
 
@@ -113,17 +118,17 @@ request_by-is None p r e = absurd (cc)
 request_by-is (Some machine) None r e = absurd (cc)
 request_by-is (Some machine) (Some call) r e = let same = same_Some (request machine call) r e in (ap (λ (x : Request). Some x.machine) same, ap (λ (x : Request). Some x.call) same)
 
-request_of-written : (fields : Row) (r : Request) → (request_of fields ≡ Some r) ↔ ((fields ≡ request_fields r) × (has_call r.call ≡ true))
+pub request_of-written : (version : Version) (fields : Row) (r : Request) → (request_of version fields ≡ Some r) ↔ ((fields ≡ request_fields r) × (has_call version r.call ≡ true))
 unfolding request_of
-request_of-written [] r = (λ e. absurd (cc), λ w. let e = w.0 in absurd (cc))
-request_of-written (word ∷ fields) r = (
+request_of-written version [] r = (λ e. absurd (cc), λ w. let e = w.0 in absurd (cc))
+request_of-written version (word ∷ fields) r = (
   λ e.
-      let is = request_by-is (machine_of word) (call_of fields) r e in
-      (ap₂ (λ w fs. w ∷ fs) (machine_of-is word r.machine is.0) (call_of-is fields r.call is.1), call_of-has fields r.call is.1),
+      let is = request_by-is (machine_of word) (call_of version fields) r e in
+      (ap₂ (λ w fs. w ∷ fs) (machine_of-is word r.machine is.0) (call_of-is version fields r.call is.1), call_of-has version fields r.call is.1),
   λ w.
       let e = w.0 in
       let machine : machine_of word ≡ Some r.machine = (let same : word ≡ machine_word r.machine = cc in ap machine_of same ∙ machine_of-word r.machine) in
-      let call : call_of fields ≡ Some r.call = (let same : fields ≡ call_fields r.call = cc in ap call_of same ∙ call_of-fields r.call w.1) in
+      let call : call_of version fields ≡ Some r.call = (let same : fields ≡ call_fields r.call = cc in ap (call_of version) same ∙ call_of-fields version r.call w.1) in
       rw (machine, call) refl,
 )
 
@@ -133,34 +138,41 @@ same_answer None None h = refl
 same_answer None (Some y) h = (h y).1 refl
 same_answer (Some x) p h = sym ((h x).0 refl)
 
--- The requests of the first version.
+-- The requests of a version.
 
-abbrev pub of_first_version : Option Request → Option Request
-of_first_version None = None
-of_first_version (Some r) = then_some (has_call r.call) r
+abbrev pub of_version : Version → Option Request → Option Request
+of_version version None = None
+of_version version (Some r) = then_some (has_call version r.call) r
 
 kept_if : (b : Bool) (x r : Request) → then_some b x ≡ Some r → (b ≡ true) × (x ≡ r)
 kept_if true x r e = (refl, same_Some x r e)
 kept_if false x r e = absurd (cc)
 
-kept : (o : Option Request) (r : Request) → (of_first_version o ≡ Some r) ↔ ((o ≡ Some r) × (has_call r.call ≡ true))
-kept None r = (λ e. absurd (cc), λ w. let e = w.0 in absurd (cc))
-kept (Some x) r = (
-  λ e. let is = kept_if (has_call x.call) x r e in (ap Some is.1, subst (λ (y : Request). has_call y.call ≡ true) is.1 is.0),
+kept : (version : Version) (o : Option Request) (r : Request) → (of_version version o ≡ Some r) ↔ ((o ≡ Some r) × (has_call version r.call ≡ true))
+kept version None r = (λ e. absurd (cc), λ w. let e = w.0 in absurd (cc))
+kept version (Some x) r = (
+  λ e. let is = kept_if (has_call version x.call) x r e in (ap Some is.1, subst (λ (y : Request). has_call version y.call ≡ true) is.1 is.0),
   λ w. let same = same_Some x r w.0 in rw (same, w.1) refl,
 )
 
--- a test keeps the requests of the first version
-kept_by : (Says : Request → Bool → Type 0) (o p : Option Request) → ((x : Request) (b : Bool) → Says x b → b ≡ has_call x.call) → MatchOption o (p ≡ None) (λ x. (b : Bool) × Says x b × (p ≡ then_some b x)) → p ≡ of_first_version o
-kept_by Says None p tells none = none
-kept_by Says (Some x) p tells some = some.2 ∙ ap (λ b. then_some b x) (tells x some.0 some.1)
+-- a test keeps the requests of the version
+kept_by : (version : Version) (Says : Request → Bool → Type 0) (o p : Option Request) → ((x : Request) (b : Bool) → Says x b → b ≡ has_call version x.call) → MatchOption o (p ≡ None) (λ x. (b : Bool) × Says x b × (p ≡ then_some b x)) → p ≡ of_version version o
+kept_by version Says None p tells none = none
+kept_by version Says (Some x) p tells some = some.2 ∙ ap (λ b. then_some b x) (tells x some.0 some.1)
 
-pub first_version-same : (Says : Request → Bool → Type 0) (fields : Row) (o p : Option Request) → ((r : Request) → (o ≡ Some r) ↔ (fields ≡ request_fields r)) → ((x : Request) (b : Bool) → Says x b → b ≡ has_call x.call)
-    → MatchOption o (p ≡ None) (λ x. (b : Bool) × Says x b × (p ≡ then_some b x)) → p ≡ request_of fields
-first_version-same Says fields o p read tells is = kept_by Says o p tells is ∙ same_answer (of_first_version o) (request_of fields) (λ r. (
-  λ e. let both = (kept o r).0 e in (request_of-written fields r).1 ((read r).0 both.0, both.1),
-  λ e. let both = (request_of-written fields r).0 e in (kept o r).1 ((read r).1 both.0, both.1),
+pub version-same : (version : Version) (Says : Request → Bool → Type 0) (fields : Row) (o p : Option Request) → ((r : Request) → (o ≡ Some r) ↔ (fields ≡ request_fields r)) → ((x : Request) (b : Bool) → Says x b → b ≡ has_call version x.call)
+    → MatchOption o (p ≡ None) (λ x. (b : Bool) × Says x b × (p ≡ then_some b x)) → p ≡ request_of version fields
+version-same version Says fields o p read tells is = kept_by version Says o p tells is ∙ same_answer (of_version version o) (request_of version fields) (λ r. (
+  λ e. let both = (kept version o r).0 e in (request_of-written version fields r).1 ((read r).0 both.0, both.1),
+  λ e. let both = (request_of-written version fields r).0 e in (kept version o r).1 ((read r).1 both.0, both.1),
 ))
+
+-- the requests of a version are those whose fields write them, of the calls that it has
+pub version-written : (version : Version) (fields : Row) (o : Option Request) (r : Request) → o ≡ request_of version fields → has_call version r.call ≡ true → (o ≡ Some r) ↔ (fields ≡ request_fields r)
+version-written version fields o r same has = (
+  λ e. ((request_of-written version fields r).0 (sym same ∙ e)).0,
+  λ e. same ∙ (request_of-written version fields r).1 (e, has),
+)
 
 -- What the code has read of a record.
 

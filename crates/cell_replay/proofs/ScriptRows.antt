@@ -4,7 +4,7 @@ use Rattle.std.specs.Fmt.{digits}
 use Rattle.csv.proofs.OnLiterals.{csv_on_literals}
 use Rattle.cell_replay.specs.Requests.{call_of, machine_of, request_of}
 use Rattle.cell_replay.specs.Script.{history_of, requests_in, script_events, script_lines, script_outcome, script_start, script_text, start_in}
-use Rattle.cell_replay.specs.ScriptExamples.{AnswerExamples, CutExamples, ScriptsAreMet, StartExamples}
+use Rattle.cell_replay.specs.ScriptExamples.{AnswerExamples, CutExamples, ScriptsAreMet, StartExamples, StopExamples}
 
 answers : AnswerExamples
 unfolding csv_on_literals digits call_of machine_of request_of history_of requests_in script_events script_lines script_outcome script_start script_text start_in
@@ -41,6 +41,22 @@ starts = record {
   field_more = (refl, refl);
 }
 
+stops : StopExamples
+unfolding csv_on_literals digits call_of machine_of request_of history_of requests_in script_events script_lines script_outcome script_start script_text start_in
+stops = record {
+  stop_lasts_until_resumed = (refl, refl);
+  stop_by_another = (refl, refl);
+  stop_of_a_zone = (refl, refl);
+  start_alone = (refl, refl);
+  no_places = (refl, refl);
+  nine_places = (refl, refl);
+  seven_plates = (refl, refl);
+  beyond_last = (refl, refl);
+  field_more = (refl, refl);
+  other_version = (refl, refl);
+  longer_word = (refl, refl);
+}
+
 cuts : CutExamples
 unfolding digits call_of machine_of request_of history_of requests_in start_in
 cuts = record {
@@ -54,4 +70,4 @@ cuts = record {
 }
 
 pub scripts_are_met : ScriptsAreMet
-scripts_are_met = record { answers = answers; starts = starts; cuts = cuts }
+scripts_are_met = record { answers = answers; starts = starts; stops = stops; cuts = cuts }

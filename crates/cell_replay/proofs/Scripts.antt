@@ -1,8 +1,7 @@
 -- Facts of every script.
-use Rattle.std.proofs.Common.{ℕ, ◌≡◌, ◌<◌, ◌≤◌, ◌+◌, Bool, true, false, cond, List, [], ◌∷◌, Result, Ok, Err, IfOk, length, take, drop, min, nat_lt, nat_le, refl, ◌∙◌, arith, Option, Some, None, ◌==◌, ◌&&◌, not, codes, MatchResult, ◌⊎◌, inl, inr}
+use Rattle.std.proofs.Common.{ℕ, ◌≡◌, ◌<◌, ◌≤◌, ◌+◌, Bool, true, false, cond, List, [], ◌∷◌, Result, Ok, Err, IfOk, length, take, drop, min, nat_lt, nat_le, refl, ◌∙◌, arith, Option, Some, None, ◌==◌, ◌&&◌, not, MatchResult, ◌⊎◌, inl, inr}
 use Rattle.std.specs.Prelude.{⊤}
 use Rattle.std.specs.List.{enumerate_from}
-use Rattle.std.specs.Str.{bytes_eq}
 use Rattle.std.proofs.lemmas.Bool.Decides.{nat_tests}
 use Rattle.std.proofs.lemmas.List.{length-take, length-map}
 use Rattle.std.proofs.lemmas.List.FromFn.{length-enumerate_from}
@@ -14,7 +13,10 @@ use Rattle.cell_rules.specs.History.{IsLegal}
 use Rattle.cell_rules.specs.Start.{IsStartState, IsStart, places_of, start_state}
 use Rattle.cell_replay.specs.Requests.{Row}
 use Rattle.cell_rules.specs.StartDigits.{is_start, places_in}
-use Rattle.cell_replay.specs.Script.{event_line, event_lines, events_from, is_cut_of, lines_from, max_records, number_in, outcome_from, requests_in, rows_lines, rows_outcome, rows_start, script_events, script_lines, script_outcome, script_rows, script_start, start_fields, start_in, start_of}
+use Rattle.cell_replay.specs.Versions.{version_of}
+use Rattle.cell_replay.specs.declared.version.Version.{Version}
+use Rattle.cell_replay.specs.declared.script_start.Start.{Start}
+use Rattle.cell_replay.specs.Script.{event_line, event_lines, events_from, is_cut_of, lines_from, max_records, number_in, outcome_from, requests_in, rows_lines, rows_outcome, rows_start, script_events, script_lines, script_outcome, script_rows, script_start, start_by, start_fields, start_in, start_of, start_of_version}
 use Rattle.cell_replay.specs.declared.script.ScriptFault.{ScriptFault}
 use Rattle.cell_replay.specs.declared.script.ScriptFault.TheVariants.{NoStart, BadStart, BadRow, Long}
 use Rattle.cell_replay.specs.declared.script.Outcome.TheVariants.{Clean, Refused}
@@ -22,11 +24,11 @@ use Rattle.cell_replay.proofs.Lines.{legal-history_of, length-history_of, length
 
 -- The events.
 
-legal-events_from : (start : Result ModelState ScriptFault) (rows : List Row) → IfOk start (λ s. IsLegal s (events_from start rows))
-legal-events_from (Ok s) rows = legal-history_of s (requests_in (take max_records rows))
+legal-events_from : (start : Result Start ScriptFault) (rows : List Row) → IfOk start (λ given. IsLegal given.state (events_from start rows))
+legal-events_from (Ok start) rows = legal-history_of start.state (requests_in start.version (take max_records rows))
 legal-events_from (Err fault) rows = tt
 
-pub legal-script_events : (bytes : List ℕ) → IfOk (script_start bytes) (λ s. IsLegal s (script_events bytes))
+pub legal-script_events : (bytes : List ℕ) → IfOk (script_start bytes) (λ start. IsLegal start.state (script_events bytes))
 unfolding script_start script_events
 legal-script_events bytes = legal-events_from (rows_start (is_cut_of bytes) (script_rows bytes)) (drop 1 (script_rows bytes))
 
@@ -61,32 +63,39 @@ IsEarly is_cut BadStart = ⊤
 IsEarly is_cut (BadRow number) = ⊥
 IsEarly is_cut Long = is_cut ≡ true
 
-abbrev pub IsRecord0 : Bool → Result ModelState ScriptFault → Type 0
-IsRecord0 is_cut start = MatchResult start IsStartState (IsEarly is_cut)
+abbrev pub IsState0 : Bool → Result ModelState ScriptFault → Type 0
+IsState0 is_cut state = MatchResult state IsStartState (IsEarly is_cut)
 
-start_tested_at : (is_cut : Bool) (full : PlaceSet) (stamp : ℕ) (b : Bool) → is_start full stamp ≡ b → IsRecord0 is_cut (cond b (Ok (start_state full stamp)) (Err BadStart))
+abbrev pub IsRecord0 : Bool → Result Start ScriptFault → Type 0
+IsRecord0 is_cut start = MatchResult start (λ given. IsStartState given.state) (IsEarly is_cut)
+
+start_tested_at : (is_cut : Bool) (full : PlaceSet) (stamp : ℕ) (b : Bool) → is_start full stamp ≡ b → IsState0 is_cut (cond b (Ok (start_state full stamp)) (Err BadStart))
 start_tested_at is_cut full stamp true e = record { start = start_tested full stamp e; same = refl }
 start_tested_at is_cut full stamp false e = tt
 
-start_of-record0 : (is_cut : Bool) (flags : Option (List Bool)) (stamp : Option ℕ) → IsRecord0 is_cut (start_of flags stamp)
+start_of-record0 : (is_cut : Bool) (flags : Option (List Bool)) (stamp : Option ℕ) → IsState0 is_cut (start_of flags stamp)
 start_of-record0 is_cut (Some flags) (Some stamp) = start_tested_at is_cut (places_of flags) stamp (is_start (places_of flags) stamp) refl
 start_of-record0 is_cut (Some flags) None = tt
 start_of-record0 is_cut None stamp = tt
 
-start_fields-record0 : (is_cut : Bool) (fields : Row) → IsRecord0 is_cut (start_fields fields)
+pub start_fields-record0 : (is_cut : Bool) (fields : Row) → IsState0 is_cut (start_fields fields)
 start_fields-record0 is_cut [] = tt
 start_fields-record0 is_cut (places ∷ []) = start_of-record0 is_cut (places_in places) (Some 0)
 start_fields-record0 is_cut (places ∷ stamp ∷ []) = start_of-record0 is_cut (places_in places) (number_in stamp)
 start_fields-record0 is_cut (places ∷ stamp ∷ more ∷ rest) = tt
 
-by_word : (is_cut b : Bool) (start : Result ModelState ScriptFault) → IsRecord0 is_cut start → IsRecord0 is_cut (cond b start (Err NoStart))
-by_word is_cut true start h = h
-by_word is_cut false start h = tt
+of_version : (is_cut : Bool) (version : Version) (state : Result ModelState ScriptFault) → IsState0 is_cut state → IsRecord0 is_cut (start_of_version version state)
+of_version is_cut version (Ok s) h = h
+of_version is_cut version (Err fault) h = h
+
+by_word : (is_cut : Bool) (version : Option Version) (fields : Row) → IsRecord0 is_cut (start_by version fields)
+by_word is_cut (Some version) fields = of_version is_cut version (start_fields fields) (start_fields-record0 is_cut fields)
+by_word is_cut None fields = tt
 
 start_in-record0 : (is_cut : Bool) (row : Row) → IsRecord0 is_cut (start_in row)
 unfolding start_in
 start_in-record0 is_cut [] = tt
-start_in-record0 is_cut (word ∷ fields) = by_word is_cut (bytes_eq word (codes "start")) (start_fields fields) (start_fields-record0 is_cut fields)
+start_in-record0 is_cut (word ∷ fields) = by_word is_cut (version_of word) fields
 
 no_records : (is_cut : Bool) → IsEarly is_cut (cond is_cut Long NoStart)
 no_records true = refl
@@ -96,21 +105,21 @@ rows_start-record0 : (is_cut : Bool) (rows : List Row) → IsRecord0 is_cut (row
 rows_start-record0 is_cut [] = no_records is_cut
 rows_start-record0 is_cut (row ∷ rows) = start_in-record0 is_cut row
 
-given : (is_cut : Bool) (start : Result ModelState ScriptFault) → IsRecord0 is_cut start → IfOk start IsStartState
+given : (is_cut : Bool) (start : Result Start ScriptFault) → IsRecord0 is_cut start → IfOk start (λ s. IsStartState s.state)
 given is_cut (Ok s) h = h
 given is_cut (Err fault) h = tt
 
-pub given-script_start : (bytes : List ℕ) → IfOk (script_start bytes) IsStartState
+pub given-script_start : (bytes : List ℕ) → IfOk (script_start bytes) (λ start. IsStartState start.state)
 unfolding script_start
 given-script_start bytes = given _ _ (rows_start-record0 (is_cut_of bytes) (script_rows bytes))
 
 -- The lines.
 
-length-events_from : (start : Result ModelState ScriptFault) (rows : List Row) → (length (events_from start rows) ≤ length rows) × (length (events_from start rows) ≤ max_records)
-length-events_from (Ok s) rows =
+length-events_from : (start : Result Start ScriptFault) (rows : List Row) → (length (events_from start rows) ≤ length rows) × (length (events_from start rows) ≤ max_records)
+length-events_from (Ok start) rows =
     let requests = take max_records rows in
-    let each : length (events_from (Ok s) rows) ≡ length (requests_in requests) = length-history_of s (requests_in requests) in
-    let few : length (requests_in requests) ≤ length requests = length-requests_in requests in
+    let each : length (events_from (Ok start) rows) ≡ length (requests_in start.version requests) = length-history_of start.state (requests_in start.version requests) in
+    let few : length (requests_in start.version requests) ≤ length requests = length-requests_in start.version requests in
     let most : length requests ≡ min max_records (length rows) = length-take max_records rows in
     (omega (arith, each, few, most), omega (arith, each, few, most))
 length-events_from (Err fault) rows = (omega arith, omega arith)
@@ -118,8 +127,8 @@ length-events_from (Err fault) rows = (omega arith, omega arith)
 length-event_lines : (s : ModelState) (history : List Event) → length (event_lines s history) ≡ length history
 length-event_lines s history = length-map (enumerate_from 1 history) (event_line s history) ∙ length-enumerate_from 1 history
 
-length-lines_from : (start : Result ModelState ScriptFault) (rows : List Row) → length (lines_from start (events_from start rows)) ≤ max_records + 1
-length-lines_from (Ok s) rows = let few = length-events_from (Ok s) rows in omega (arith, length-event_lines s (events_from (Ok s) rows), few.1)
+length-lines_from : (start : Result Start ScriptFault) (rows : List Row) → length (lines_from start (events_from start rows)) ≤ max_records + 1
+length-lines_from (Ok s) rows = let few = length-events_from (Ok s) rows in omega (arith, length-event_lines s.state (events_from (Ok s) rows), few.1)
 length-lines_from (Err fault) rows = omega arith
 
 pub length-script_lines : (bytes : List ℕ) → length (script_lines bytes) ≤ 65537
@@ -133,12 +142,12 @@ bad_end is_cut true false answered number e = cc
 bad_end true false full answered number e = absurd (cc)
 bad_end false false full answered number e = absurd (cc)
 
-lines_at_bad_row : (is_cut : Bool) (start : Result ModelState ScriptFault) (rows : List Row) (number : ℕ) → IsRecord0 is_cut start
+lines_at_bad_row : (is_cut : Bool) (start : Result Start ScriptFault) (rows : List Row) (number : ℕ) → IsRecord0 is_cut start
     → outcome_from is_cut start (length (events_from start rows)) (length rows) ≡ Refused (BadRow number) → length (lines_from start (events_from start rows)) ≡ number
 lines_at_bad_row is_cut (Ok s) rows number h e =
     let answered = length (events_from (Ok s) rows) in
     let is : number ≡ answered + 1 = bad_end is_cut (nat_lt answered (length rows)) (answered == max_records) answered number e in
-    omega (arith, is, length-event_lines s (events_from (Ok s) rows))
+    omega (arith, is, length-event_lines s.state (events_from (Ok s) rows))
 lines_at_bad_row is_cut (Err NoStart) rows number h e = absurd (cc)
 lines_at_bad_row is_cut (Err BadStart) rows number h e = absurd (cc)
 lines_at_bad_row is_cut (Err (BadRow other)) rows number h e = absurd h
@@ -157,13 +166,13 @@ clean_end is_cut false full answered e = refl
 not_fewer : (a b : ℕ) → nat_lt a b ≡ false → b ≤ a
 not_fewer a b e = grind (arith, nat_tests)
 
-lines_of_clean : (is_cut : Bool) (start : Result ModelState ScriptFault) (rows : List Row) → outcome_from is_cut start (length (events_from start rows)) (length rows) ≡ Clean
+lines_of_clean : (is_cut : Bool) (start : Result Start ScriptFault) (rows : List Row) → outcome_from is_cut start (length (events_from start rows)) (length rows) ≡ Clean
     → length (lines_from start (events_from start rows)) ≡ length rows + 1
 lines_of_clean is_cut (Ok s) rows e =
     let answered = length (events_from (Ok s) rows) in
     let all : length rows ≤ answered = not_fewer answered (length rows) (clean_end is_cut (nat_lt answered (length rows)) (answered == max_records) answered e) in
     let few = length-events_from (Ok s) rows in
-    omega (arith, all, few.0, length-event_lines s (events_from (Ok s) rows))
+    omega (arith, all, few.0, length-event_lines s.state (events_from (Ok s) rows))
 lines_of_clean is_cut (Err fault) rows e = absurd (cc)
 
 rows_of_clean : (is_cut : Bool) (rows : List Row) → rows_outcome is_cut rows ≡ Clean → length (rows_lines is_cut rows) ≡ length rows
@@ -188,13 +197,13 @@ fewer a b e = grind (arith, nat_tests)
 same_number : (a b : ℕ) → (a == b) ≡ true → a ≡ b
 same_number a b e = grind (arith, nat_tests)
 
-lines_of_long : (is_cut : Bool) (start : Result ModelState ScriptFault) (rows : List Row) → IsRecord0 false start
+lines_of_long : (is_cut : Bool) (start : Result Start ScriptFault) (rows : List Row) → IsRecord0 false start
     → outcome_from is_cut start (length (events_from start rows)) (length rows) ≡ Refused Long
     → (length (lines_from start (events_from start rows)) ≡ min 65537 (length rows + 1)) × ((is_cut ≡ true) ⊎ (65537 ≤ length rows))
 lines_of_long is_cut (Ok s) rows h e =
     let answered = length (events_from (Ok s) rows) in
     let few = length-events_from (Ok s) rows in
-    let lines = length-event_lines s (events_from (Ok s) rows) in
+    let lines = length-event_lines s.state (events_from (Ok s) rows) in
     elim (long_end is_cut (nat_lt answered (length rows)) (answered == max_records) answered e) [
       | inl more ↦
           let lt : answered < length rows = fewer answered (length rows) more.0 in

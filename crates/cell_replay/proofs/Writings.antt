@@ -15,6 +15,8 @@ use Rattle.cell_rules.specs.ModelState.{ModelState}
 use Rattle.cell_rules.specs.Reply.{next, reply}
 use Rattle.cell_replay.specs.Requests.{Row, request_of}
 use Rattle.cell_replay.specs.declared.request.Request.{Request}
+use Rattle.cell_replay.specs.declared.version.Version.{Version}
+use Rattle.cell_replay.specs.declared.script_start.Start.{Start}
 use Rattle.cell_replay.specs.Script.{end_of, end_text, events_from, is_cut_of, script_lines, script_outcome, script_rows, script_text, line_of, lines_from, max_records, outcome_from, requests_in, rows_lines, rows_outcome, start_in, start_line}
 use Rattle.cell_replay.specs.declared.script.ScriptFault.{ScriptFault}
 use Rattle.cell_replay.specs.declared.script.ScriptFault.TheVariants.{BadRow, Long, NoStart}
@@ -35,27 +37,27 @@ take-one n x xs few =
     let one : max_records - n ≡ suc (max_records - (n + 1)) = omega arith in
     ap (λ k. take k (x ∷ xs)) one
 
-requests-more : (n : ℕ) (row : Row) (rest : List Row) (r : Request) → n < max_records → request_of row ≡ Some r
-    → requests_in (take (max_records - n) (row ∷ rest)) ≡ r ∷ requests_in (take (max_records - (n + 1)) rest)
-requests-more n row rest r few good = ap requests_in (take-one n row rest few) ∙ requests_in-more row (take (max_records - (n + 1)) rest) r good
+requests-more : (v : Version) (n : ℕ) (row : Row) (rest : List Row) (r : Request) → n < max_records → request_of v row ≡ Some r
+    → requests_in v (take (max_records - n) (row ∷ rest)) ≡ r ∷ requests_in v (take (max_records - (n + 1)) rest)
+requests-more v n row rest r few good = ap (requests_in v) (take-one n row rest few) ∙ requests_in-more v row (take (max_records - (n + 1)) rest) r good
 
-requests-bad : (n : ℕ) (row : Row) (rest : List Row) → n < max_records → request_of row ≡ None → requests_in (take (max_records - n) (row ∷ rest)) ≡ []
-requests-bad n row rest few bad = ap requests_in (take-one n row rest few) ∙ requests_in-bad row (take (max_records - (n + 1)) rest) bad
+requests-bad : (v : Version) (n : ℕ) (row : Row) (rest : List Row) → n < max_records → request_of v row ≡ None → requests_in v (take (max_records - n) (row ∷ rest)) ≡ []
+requests-bad v n row rest few bad = ap (requests_in v) (take-one n row rest few) ∙ requests_in-bad v row (take (max_records - (n + 1)) rest) bad
 
-requests-none : (k : ℕ) → requests_in (take k []) ≡ []
-requests-none k = ap requests_in (take-nil k) ∙ requests_in-none
+requests-none : (v : Version) (k : ℕ) → requests_in v (take k []) ≡ []
+requests-none v k = ap (requests_in v) (take-nil k) ∙ requests_in-none v
 
-lines-more : (n : ℕ) (s : ModelState) (row : Row) (rest : List Row) (r : Request) → n < max_records → request_of row ≡ Some r
-    → lines_left n s (row ∷ rest) ≡ line_of (n + 1) (next s r.machine r.call).stamp (answer_text (reply s r.machine r.call)) ∷ lines_left (n + 1) (next s r.machine r.call) rest
-lines-more n s row rest r few good = ap (lines_after n s) (requests-more n row rest r few good) ∙ lines_after-more n s r (requests_in (take (max_records - (n + 1)) rest))
+lines-more : (v : Version) (n : ℕ) (s : ModelState) (row : Row) (rest : List Row) (r : Request) → n < max_records → request_of v row ≡ Some r
+    → lines_left v n s (row ∷ rest) ≡ line_of (n + 1) (next s r.machine r.call).stamp (answer_text (reply s r.machine r.call)) ∷ lines_left v (n + 1) (next s r.machine r.call) rest
+lines-more v n s row rest r few good = ap (lines_after n s) (requests-more v n row rest r few good) ∙ lines_after-more n s r (requests_in v (take (max_records - (n + 1)) rest))
 
-outcome-more : (is_cut : Bool) (n : ℕ) (row : Row) (rest : List Row) (r : Request) → n < max_records → request_of row ≡ Some r → outcome_left is_cut n (row ∷ rest) ≡ outcome_left is_cut (n + 1) rest
-outcome-more is_cut n row rest r few good =
-    let count = ap length (requests-more n row rest r few good) in
+outcome-more : (v : Version) (is_cut : Bool) (n : ℕ) (row : Row) (rest : List Row) (r : Request) → n < max_records → request_of v row ≡ Some r → outcome_left v is_cut n (row ∷ rest) ≡ outcome_left v is_cut (n + 1) rest
+outcome-more v is_cut n row rest r few good =
+    let count = ap length (requests-more v n row rest r few good) in
     ap₂ (end_of is_cut) (omega (arith, count)) (omega arith)
 
-lines-bad : (n : ℕ) (s : ModelState) (row : Row) (rest : List Row) → n < max_records → request_of row ≡ None → lines_left n s (row ∷ rest) ≡ []
-lines-bad n s row rest few bad = ap (lines_after n s) (requests-bad n row rest few bad) ∙ lines_after-none n s
+lines-bad : (v : Version) (n : ℕ) (s : ModelState) (row : Row) (rest : List Row) → n < max_records → request_of v row ≡ None → lines_left v n s (row ∷ rest) ≡ []
+lines-bad v n s row rest few bad = ap (lines_after n s) (requests-bad v n row rest few bad) ∙ lines_after-none n s
 
 end-bad : (is_cut : Bool) (n count : ℕ) → n < count → n < max_records → end_of is_cut n count ≡ Refused (BadRow (n + 1))
 end-bad is_cut n count more few =
@@ -63,10 +65,10 @@ end-bad is_cut n count more few =
     let ne : (n == max_records) ≡ false = grind (arith, nat_tests) in
     rw (lt, ne) refl
 
-outcome-bad : (is_cut : Bool) (n : ℕ) (row : Row) (rest : List Row) → n < max_records → request_of row ≡ None → outcome_left is_cut n (row ∷ rest) ≡ Refused (BadRow (n + 1))
-outcome-bad is_cut n row rest few bad =
-    let count = ap length (requests-bad n row rest few bad) in
-    let none : n + length (requests_in (take (max_records - n) (row ∷ rest))) ≡ n = omega (arith, count) in
+outcome-bad : (v : Version) (is_cut : Bool) (n : ℕ) (row : Row) (rest : List Row) → n < max_records → request_of v row ≡ None → outcome_left v is_cut n (row ∷ rest) ≡ Refused (BadRow (n + 1))
+outcome-bad v is_cut n row rest few bad =
+    let count = ap length (requests-bad v n row rest few bad) in
+    let none : n + length (requests_in v (take (max_records - n) (row ∷ rest))) ≡ n = omega (arith, count) in
     ap (λ k. end_of is_cut k (n + length (row ∷ rest))) none ∙ end-bad is_cut n (n + length (row ∷ rest)) (omega arith) few
 
 end-all : (is_cut : Bool) (n : ℕ) → end_of is_cut n n ≡ end_of is_cut 0 0
@@ -74,22 +76,22 @@ end-all is_cut n =
     let lt : nat_lt n n ≡ false = grind (arith, nat_tests) in
     rw lt refl
 
-outcome-none : (is_cut : Bool) (n : ℕ) → outcome_left is_cut n [] ≡ end_of is_cut 0 0
-outcome-none is_cut n =
-    let count = ap length (requests-none (max_records - n)) in
-    let none : n + length (requests_in (take (max_records - n) [])) ≡ n = omega (arith, count) in
+outcome-none : (v : Version) (is_cut : Bool) (n : ℕ) → outcome_left v is_cut n [] ≡ end_of is_cut 0 0
+outcome-none v is_cut n =
+    let count = ap length (requests-none v (max_records - n)) in
+    let none : n + length (requests_in v (take (max_records - n) [])) ≡ n = omega (arith, count) in
     ap₂ (end_of is_cut) none (omega arith) ∙ end-all is_cut n
 
-lines-none : (n : ℕ) (s : ModelState) → lines_left n s [] ≡ []
-lines-none n s = ap (lines_after n s) (requests-none (max_records - n)) ∙ lines_after-none n s
+lines-none : (v : Version) (n : ℕ) (s : ModelState) → lines_left v n s [] ≡ []
+lines-none v n s = ap (lines_after n s) (requests-none v (max_records - n)) ∙ lines_after-none n s
 
-requests-full : (n : ℕ) (left : List Row) → n ≡ max_records → requests_in (take (max_records - n) left) ≡ []
-requests-full n left full =
+requests-full : (v : Version) (n : ℕ) (left : List Row) → n ≡ max_records → requests_in v (take (max_records - n) left) ≡ []
+requests-full v n left full =
     let zero_left : max_records - n ≡ 0 = omega (arith, full) in
-    ap (λ k. requests_in (take k left)) zero_left ∙ requests_in-none
+    ap (λ k. requests_in v (take k left)) zero_left ∙ requests_in-none v
 
-pub lines-full : (n : ℕ) (s : ModelState) (left : List Row) → n ≡ max_records → lines_left n s left ≡ []
-lines-full n s left full = ap (lines_after n s) (requests-full n left full) ∙ lines_after-none n s
+pub lines-full : (v : Version) (n : ℕ) (s : ModelState) (left : List Row) → n ≡ max_records → lines_left v n s left ≡ []
+lines-full v n s left full = ap (lines_after n s) (requests-full v n left full) ∙ lines_after-none n s
 
 end-long : (is_cut : Bool) (n count : ℕ) → n < count → n ≡ max_records → end_of is_cut n count ≡ Refused Long
 end-long is_cut n count more full =
@@ -97,10 +99,10 @@ end-long is_cut n count more full =
     let eq : (n == max_records) ≡ true = grind (arith, nat_tests) in
     rw (lt, eq) refl
 
-outcome-full : (is_cut : Bool) (n : ℕ) (row : Row) (rest : List Row) → n ≡ max_records → outcome_left is_cut n (row ∷ rest) ≡ Refused Long
-outcome-full is_cut n row rest full =
-    let count = ap length (requests-full n (row ∷ rest) full) in
-    let none : n + length (requests_in (take (max_records - n) (row ∷ rest))) ≡ n = omega (arith, count) in
+outcome-full : (v : Version) (is_cut : Bool) (n : ℕ) (row : Row) (rest : List Row) → n ≡ max_records → outcome_left v is_cut n (row ∷ rest) ≡ Refused Long
+outcome-full v is_cut n row rest full =
+    let count = ap length (requests-full v n (row ∷ rest) full) in
+    let none : n + length (requests_in v (take (max_records - n) (row ∷ rest))) ≡ n = omega (arith, count) in
     ap (λ k. end_of is_cut k (n + length (row ∷ rest))) none ∙ end-long is_cut n (n + length (row ∷ rest)) (omega arith) full
 
 -- What was written.
@@ -154,37 +156,37 @@ prefix-more line more all old new whole h =
 
 -- One record.
 
-pub one-input : (fault : InputFault) (is_cut : Bool) (n : ℕ) (s s2 : ModelState) (left : List Row) (old : Option (List ℕ)) (After : List Row → Type 0) → WritesNext is_cut n s s2 left old old After (Err (replay_fault_of fault))
-one-input input.Read is_cut n s s2 left old After = Keeps-refl old
-one-input input.Memory is_cut n s s2 left old After = Keeps-refl old
+pub one-input : (v : Version) (fault : InputFault) (is_cut : Bool) (n : ℕ) (s s2 : ModelState) (left : List Row) (old : Option (List ℕ)) (After : List Row → Type 0) → WritesNext v is_cut n s s2 left old old After (Err (replay_fault_of fault))
+one-input v input.Read is_cut n s s2 left old After = Keeps-refl old
+one-input v input.Memory is_cut n s s2 left old After = Keeps-refl old
 
-pub one-none : (is_cut : Bool) (n : ℕ) (s s2 : ModelState) (left : List Row) (old : Option (List ℕ)) (After : List Row → Type 0) (noted : Bool) (o : Outcome) → noted ≡ is_cut → left ≡ [] → o ≡ end_of noted 0 0
-    → WritesNext is_cut n s s2 left old old After (Ok (Some o))
-one-none is_cut n s s2 left old After noted o note none is =
-    (ap (lines_left n s) none ∙ lines-none n s, ap (outcome_left is_cut n) none ∙ outcome-none is_cut n ∙ sym (is ∙ ap (λ b. end_of b 0 0) note), Keeps-refl old)
+pub one-none : (v : Version) (is_cut : Bool) (n : ℕ) (s s2 : ModelState) (left : List Row) (old : Option (List ℕ)) (After : List Row → Type 0) (noted : Bool) (o : Outcome) → noted ≡ is_cut → left ≡ [] → o ≡ end_of noted 0 0
+    → WritesNext v is_cut n s s2 left old old After (Ok (Some o))
+one-none v is_cut n s s2 left old After noted o note none is =
+    (ap (lines_left v n s) none ∙ lines-none v n s, ap (outcome_left v is_cut n) none ∙ outcome-none v is_cut n ∙ sym (is ∙ ap (λ b. end_of b 0 0) note), Keeps-refl old)
 
-pub one-bad : (is_cut : Bool) (n : ℕ) (s s2 : ModelState) (left rest : List Row) (row : Row) (old : Option (List ℕ)) (After : List Row → Type 0) → n < max_records → left ≡ row ∷ rest → request_of row ≡ None
-    → WritesNext is_cut n s s2 left old old After (Ok (Some (Refused (BadRow (n + 1)))))
-one-bad is_cut n s s2 left rest row old After few is bad =
-    (ap (lines_left n s) is ∙ lines-bad n s row rest few bad, ap (outcome_left is_cut n) is ∙ outcome-bad is_cut n row rest few bad, Keeps-refl old)
+pub one-bad : (v : Version) (is_cut : Bool) (n : ℕ) (s s2 : ModelState) (left rest : List Row) (row : Row) (old : Option (List ℕ)) (After : List Row → Type 0) → n < max_records → left ≡ row ∷ rest → request_of v row ≡ None
+    → WritesNext v is_cut n s s2 left old old After (Ok (Some (Refused (BadRow (n + 1)))))
+one-bad v is_cut n s s2 left rest row old After few is bad =
+    (ap (lines_left v n s) is ∙ lines-bad v n s row rest few bad, ap (outcome_left v is_cut n) is ∙ outcome-bad v is_cut n row rest few bad, Keeps-refl old)
 
 -- the line of a request
 abbrev pub line_on : ℕ → ModelState → Request → List ℕ
 line_on n s r = line_of (n + 1) (next s r.machine r.call).stamp (answer_text (reply s r.machine r.call))
 
-pub one-written : (is_cut : Bool) (n : ℕ) (s s2 : ModelState) (left rest : List Row) (row : Row) (r : Request) (line : List ℕ) (old new : Option (List ℕ)) (After : List Row → Type 0)
-    → n < max_records → left ≡ row ∷ rest → request_of row ≡ Some r → s2 ≡ next s r.machine r.call → line ≡ line_on n s r → Appends old new line → After rest
-    → WritesNext is_cut n s s2 left old new After (Ok None)
-one-written is_cut n s s2 left rest row r line old new After few is good now_s line_made wrote after =
-    (rest, line, wrote, ap (lines_left n s) is ∙ lines-more n s row rest r few good ∙ ap₂ (λ l t. l ∷ lines_left (n + 1) t rest) (sym line_made) (sym now_s), ap (outcome_left is_cut n) is ∙ outcome-more is_cut n row rest r few good, after)
+pub one-written : (v : Version) (is_cut : Bool) (n : ℕ) (s s2 : ModelState) (left rest : List Row) (row : Row) (r : Request) (line : List ℕ) (old new : Option (List ℕ)) (After : List Row → Type 0)
+    → n < max_records → left ≡ row ∷ rest → request_of v row ≡ Some r → s2 ≡ next s r.machine r.call → line ≡ line_on n s r → Appends old new line → After rest
+    → WritesNext v is_cut n s s2 left old new After (Ok None)
+one-written v is_cut n s s2 left rest row r line old new After few is good now_s line_made wrote after =
+    (rest, line, wrote, ap (lines_left v n s) is ∙ lines-more v n s row rest r few good ∙ ap₂ (λ l t. l ∷ lines_left v (n + 1) t rest) (sym line_made) (sym now_s), ap (outcome_left v is_cut n) is ∙ outcome-more v is_cut n row rest r few good, after)
 
-pub one-cut : (is_cut : Bool) (n : ℕ) (s s2 : ModelState) (left rest : List Row) (row : Row) (r : Request) (line : List ℕ) (old new : Option (List ℕ)) (After : List Row → Type 0)
-    → n < max_records → left ≡ row ∷ rest → request_of row ≡ Some r → line ≡ line_on n s r → WrotePrefix old new line
-    → WritesNext is_cut n s s2 left old new After (Err Write)
-one-cut is_cut n s s2 left rest row r line old new After few is good line_made h =
-    let lines = ap (lines_left n s) is ∙ lines-more n s row rest r few good in
-    let more = concat (lines_left (n + 1) (next s r.machine r.call) rest) in
-    prefix-more line more (concat (lines_left n s left)) old new (ap concat lines ∙ ap (λ l. l ++ more) (sym line_made)) h
+pub one-cut : (v : Version) (is_cut : Bool) (n : ℕ) (s s2 : ModelState) (left rest : List Row) (row : Row) (r : Request) (line : List ℕ) (old new : Option (List ℕ)) (After : List Row → Type 0)
+    → n < max_records → left ≡ row ∷ rest → request_of v row ≡ Some r → line ≡ line_on n s r → WrotePrefix old new line
+    → WritesNext v is_cut n s s2 left old new After (Err Write)
+one-cut v is_cut n s s2 left rest row r line old new After few is good line_made h =
+    let lines = ap (lines_left v n s) is ∙ lines-more v n s row rest r few good in
+    let more = concat (lines_left v (n + 1) (next s r.machine r.call) rest) in
+    prefix-more line more (concat (lines_left v n s left)) old new (ap concat lines ∙ ap (λ l. l ++ more) (sym line_made)) h
 
 -- the line that was made
 pub line_made : (n : ℕ) (s : ModelState) (r : Request) (stamp : ℕ) (s2 : ModelState) (answer : Answer) (bytes text empty : List ℕ) → bytes ≡ text → text ≡ empty ++ line_of (n + 1) stamp (answer_text answer) → empty ≡ []
@@ -193,22 +195,22 @@ line_made n s r stamp s2 answer bytes text empty is made none now_stamp now_s re
     is ∙ made ∙ ap (λ b. b ++ line_of (n + 1) stamp (answer_text answer)) none ∙ ap₂ (λ t a. line_of (n + 1) t (answer_text a)) (now_stamp ∙ ap (λ (t : ModelState). t.stamp) now_s) replied
 
 -- what a step wrote, by its result
-pub one-goes : (is_cut : Bool) (n : ℕ) (s s2 : ModelState) (left : List Row) (old new : Option (List ℕ)) (After : List Row → Type 0) (r : Result (Option Outcome) ReplayFault) → r ≡ Ok None → WritesNext is_cut n s s2 left old new After r
-    → WritesNext is_cut n s s2 left old new After (Ok None)
-one-goes is_cut n s s2 left old new After r e h = rw e at h
+pub one-goes : (v : Version) (is_cut : Bool) (n : ℕ) (s s2 : ModelState) (left : List Row) (old new : Option (List ℕ)) (After : List Row → Type 0) (r : Result (Option Outcome) ReplayFault) → r ≡ Ok None → WritesNext v is_cut n s s2 left old new After r
+    → WritesNext v is_cut n s s2 left old new After (Ok None)
+one-goes v is_cut n s s2 left old new After r e h = rw e at h
 
-pub one-stops : (is_cut : Bool) (n : ℕ) (s s2 : ModelState) (left : List Row) (old new : Option (List ℕ)) (After : List Row → Type 0) (r : Result (Option Outcome) ReplayFault) (o : Outcome) → r ≡ Ok (Some o) → WritesNext is_cut n s s2 left old new After r
-    → Writes (lines_left n s left) (outcome_left is_cut n left) old new (Ok o)
-one-stops is_cut n s s2 left old new After r o e h = stop (rw e at h)
+pub one-stops : (v : Version) (is_cut : Bool) (n : ℕ) (s s2 : ModelState) (left : List Row) (old new : Option (List ℕ)) (After : List Row → Type 0) (r : Result (Option Outcome) ReplayFault) (o : Outcome) → r ≡ Ok (Some o) → WritesNext v is_cut n s s2 left old new After r
+    → Writes (lines_left v n s left) (outcome_left v is_cut n left) old new (Ok o)
+one-stops v is_cut n s s2 left old new After r o e h = stop (rw e at h)
   where
-    stop : WritesNext is_cut n s s2 left old new After (Ok (Some o)) → Writes (lines_left n s left) (outcome_left is_cut n left) old new (Ok o)
+    stop : WritesNext v is_cut n s s2 left old new After (Ok (Some o)) → Writes (lines_left v n s left) (outcome_left v is_cut n left) old new (Ok o)
     stop h = (sym h.1, rw h.0 (kept-none old new h.2))
 
-pub one-fails : (is_cut : Bool) (n : ℕ) (s s2 : ModelState) (left : List Row) (old new : Option (List ℕ)) (After : List Row → Type 0) (r : Result (Option Outcome) ReplayFault) (fault : ReplayFault) → r ≡ Err fault → WritesNext is_cut n s s2 left old new After r
-    → Writes (lines_left n s left) (outcome_left is_cut n left) old new (Err fault)
-one-fails is_cut n s s2 left old new After r Read e h = (0, kept-none old new (rw e at h))
-one-fails is_cut n s s2 left old new After r Memory e h = (0, kept-none old new (rw e at h))
-one-fails is_cut n s s2 left old new After r Write e h = rw e at h
+pub one-fails : (v : Version) (is_cut : Bool) (n : ℕ) (s s2 : ModelState) (left : List Row) (old new : Option (List ℕ)) (After : List Row → Type 0) (r : Result (Option Outcome) ReplayFault) (fault : ReplayFault) → r ≡ Err fault → WritesNext v is_cut n s s2 left old new After r
+    → Writes (lines_left v n s left) (outcome_left v is_cut n left) old new (Err fault)
+one-fails v is_cut n s s2 left old new After r Read e h = (0, kept-none old new (rw e at h))
+one-fails v is_cut n s s2 left old new After r Memory e h = (0, kept-none old new (rw e at h))
+one-fails v is_cut n s s2 left old new After r Write e h = rw e at h
 
 -- another line was written
 pub line-more : (lines : List (List ℕ)) (line : List ℕ) (old mid new : Option (List ℕ)) → Appends old mid (concat lines) → Appends mid new line → Appends old new (concat (lines ++ line ∷ []))
@@ -220,47 +222,47 @@ pub lines-step : (lines rest more all : List (List ℕ)) (line : List ℕ) → l
 lines-step lines rest more all line whole is = append_assoc lines (line ∷ []) more ∙ ap (λ l. lines ++ l) (sym is) ∙ whole
 
 -- the end, if as many records are answered as may be, or none is left
-pub writes-long : (is_cut : Bool) (n : ℕ) (s : ModelState) (row : Row) (left rest : List Row) (old : Option (List ℕ)) → n ≡ max_records → left ≡ row ∷ rest → Writes (lines_left n s left) (outcome_left is_cut n left) old old (Ok (Refused Long))
-writes-long is_cut n s row left rest old full is =
-    (sym (ap (outcome_left is_cut n) is ∙ outcome-full is_cut n row rest full), rw (lines-full n s left full) (Appends-nil old))
+pub writes-long : (v : Version) (is_cut : Bool) (n : ℕ) (s : ModelState) (row : Row) (left rest : List Row) (old : Option (List ℕ)) → n ≡ max_records → left ≡ row ∷ rest → Writes (lines_left v n s left) (outcome_left v is_cut n left) old old (Ok (Refused Long))
+writes-long v is_cut n s row left rest old full is =
+    (sym (ap (outcome_left v is_cut n) is ∙ outcome-full v is_cut n row rest full), rw (lines-full v n s left full) (Appends-nil old))
 
-pub writes-end : (is_cut : Bool) (n : ℕ) (s : ModelState) (left : List Row) (noted : Bool) (o : Outcome) (old : Option (List ℕ)) → noted ≡ is_cut → left ≡ [] → o ≡ end_of noted 0 0 → Writes (lines_left n s left) (outcome_left is_cut n left) old old (Ok o)
-writes-end is_cut n s left noted o old note none is =
-    (is ∙ ap (λ b. end_of b 0 0) note ∙ sym (ap (outcome_left is_cut n) none ∙ outcome-none is_cut n), rw (ap (lines_left n s) none ∙ lines-none n s) (Appends-nil old))
+pub writes-end : (v : Version) (is_cut : Bool) (n : ℕ) (s : ModelState) (left : List Row) (noted : Bool) (o : Outcome) (old : Option (List ℕ)) → noted ≡ is_cut → left ≡ [] → o ≡ end_of noted 0 0 → Writes (lines_left v n s left) (outcome_left v is_cut n left) old old (Ok o)
+writes-end v is_cut n s left noted o old note none is =
+    (is ∙ ap (λ b. end_of b 0 0) note ∙ sym (ap (outcome_left v is_cut n) none ∙ outcome-none v is_cut n), rw (ap (lines_left v n s) none ∙ lines-none v n s) (Appends-nil old))
 
 -- Record 0.
 
 pub rows-empty : (is_cut noted : Bool) (left : List Row) (fault : ScriptFault) (old : Option (List ℕ)) → noted ≡ is_cut → left ≡ [] → fault ≡ cond noted Long NoStart → Writes (rows_lines is_cut left) (rows_outcome is_cut left) old old (Ok (Refused fault))
 rows-empty is_cut noted left fault old note none is = rw (none, ← note) (ap Refused is, Appends-nil old)
 
-first-refused : (is_cut : Bool) (start : Result ModelState ScriptFault) (fault : ScriptFault) (rest : List Row) (old : Option (List ℕ)) → start ≡ Err fault
+first-refused : (is_cut : Bool) (start : Result Start ScriptFault) (fault : ScriptFault) (rest : List Row) (old : Option (List ℕ)) → start ≡ Err fault
     → Writes (lines_from start (events_from start rest)) (outcome_from is_cut start (length (events_from start rest)) (length rest)) old old (Ok (Refused fault))
 first-refused is_cut start fault rest old e = rw e (refl, Appends-nil old)
 
 pub rows-refused : (is_cut : Bool) (row : Row) (left rest : List Row) (fault : ScriptFault) (old : Option (List ℕ)) → left ≡ row ∷ rest → start_in row ≡ Err fault → Writes (rows_lines is_cut left) (rows_outcome is_cut left) old old (Ok (Refused fault))
 rows-refused is_cut row left rest fault old is bad = rw is (first-refused is_cut (start_in row) fault rest old bad)
 
-lines-started : (start : Result ModelState ScriptFault) (s : ModelState) (rest : List Row) → start ≡ Ok s → lines_from start (events_from start rest) ≡ start_line s ∷ lines_left 0 s rest
-lines-started start s rest e = rw e (ap (λ l. start_line s ∷ l) (event_lines-after s (requests_in (take max_records rest))))
+lines-started : (start : Result Start ScriptFault) (s : Start) (rest : List Row) → start ≡ Ok s → lines_from start (events_from start rest) ≡ start_line s ∷ lines_left s.version 0 s.state rest
+lines-started start s rest e = rw e (ap (λ l. start_line s ∷ l) (event_lines-after s.state (requests_in s.version (take max_records rest))))
 
-outcome-started : (is_cut : Bool) (start : Result ModelState ScriptFault) (s : ModelState) (rest : List Row) → start ≡ Ok s → outcome_left is_cut 0 rest ≡ outcome_from is_cut start (length (events_from start rest)) (length rest)
+outcome-started : (is_cut : Bool) (start : Result Start ScriptFault) (s : Start) (rest : List Row) → start ≡ Ok s → outcome_left s.version is_cut 0 rest ≡ outcome_from is_cut start (length (events_from start rest)) (length rest)
 outcome-started is_cut start s rest e =
-    let count = length-history_of s (requests_in (take max_records rest)) in
+    let count = length-history_of s.state (requests_in s.version (take max_records rest)) in
     rw e (ap₂ (end_of is_cut) (omega (arith, count)) (omega arith))
 
-pub rows-started : (is_cut : Bool) (row : Row) (left rest : List Row) (s : ModelState) (line : List ℕ) (old mid new : Option (List ℕ)) (r : Result Outcome ReplayFault) → left ≡ row ∷ rest → start_in row ≡ Ok s → line ≡ start_line s → Appends old mid line
-    → Writes (lines_left 0 s rest) (outcome_left is_cut 0 rest) mid new r → Writes (rows_lines is_cut left) (rows_outcome is_cut left) old new r
+pub rows-started : (is_cut : Bool) (row : Row) (left rest : List Row) (s : Start) (line : List ℕ) (old mid new : Option (List ℕ)) (r : Result Outcome ReplayFault) → left ≡ row ∷ rest → start_in row ≡ Ok s → line ≡ start_line s → Appends old mid line
+    → Writes (lines_left s.version 0 s.state rest) (outcome_left s.version is_cut 0 rest) mid new r → Writes (rows_lines is_cut left) (rows_outcome is_cut left) old new r
 rows-started is_cut row left rest s line old mid new r is good line_made wrote h =
     let one : line ≡ concat (start_line s ∷ []) = line_made ∙ sym (append-nil (start_line s)) in
-    let whole : start_line s ∷ lines_left 0 s rest ≡ rows_lines is_cut left = sym (ap (rows_lines is_cut) is ∙ lines-started (start_in row) s rest good) in
-    let same : outcome_left is_cut 0 rest ≡ rows_outcome is_cut left = outcome-started is_cut (start_in row) s rest good ∙ sym (ap (rows_outcome is_cut) is) in
-    writes-through (start_line s ∷ []) (lines_left 0 s rest) (rows_lines is_cut left) (outcome_left is_cut 0 rest) (rows_outcome is_cut left) old mid new r (subst (Appends old mid) one wrote) whole same h
+    let whole : start_line s ∷ lines_left s.version 0 s.state rest ≡ rows_lines is_cut left = sym (ap (rows_lines is_cut) is ∙ lines-started (start_in row) s rest good) in
+    let same : outcome_left s.version is_cut 0 rest ≡ rows_outcome is_cut left = outcome-started is_cut (start_in row) s rest good ∙ sym (ap (rows_outcome is_cut) is) in
+    writes-through (start_line s ∷ []) (lines_left s.version 0 s.state rest) (rows_lines is_cut left) (outcome_left s.version is_cut 0 rest) (rows_outcome is_cut left) old mid new r (subst (Appends old mid) one wrote) whole same h
 
-pub rows-unwritten : (is_cut : Bool) (row : Row) (left rest : List Row) (s : ModelState) (line : List ℕ) (old new : Option (List ℕ)) → left ≡ row ∷ rest → start_in row ≡ Ok s → line ≡ start_line s → WrotePrefix old new line
+pub rows-unwritten : (is_cut : Bool) (row : Row) (left rest : List Row) (s : Start) (line : List ℕ) (old new : Option (List ℕ)) → left ≡ row ∷ rest → start_in row ≡ Ok s → line ≡ start_line s → WrotePrefix old new line
     → WrotePrefix old new (concat (rows_lines is_cut left))
 rows-unwritten is_cut row left rest s line old new is good line_made h =
-    let whole : rows_lines is_cut left ≡ start_line s ∷ lines_left 0 s rest = ap (rows_lines is_cut) is ∙ lines-started (start_in row) s rest good in
-    prefix-more line (concat (lines_left 0 s rest)) (concat (rows_lines is_cut left)) old new (ap concat whole ∙ ap (λ l. l ++ concat (lines_left 0 s rest)) (sym line_made)) h
+    let whole : rows_lines is_cut left ≡ start_line s ∷ lines_left s.version 0 s.state rest = ap (rows_lines is_cut) is ∙ lines-started (start_in row) s rest good in
+    prefix-more line (concat (lines_left s.version 0 s.state rest)) (concat (rows_lines is_cut left)) old new (ap concat whole ∙ ap (λ l. l ++ concat (lines_left s.version 0 s.state rest)) (sym line_made)) h
 
 pub writes-residual : (r : Result Outcome ReplayFault) (fault : InputFault) (lines : List (List ℕ)) (end : Outcome) (old : Option (List ℕ)) → IsErrAnd r (λ given. given ≡ replay_fault_of fault) → Writes lines end old old r
 writes-residual (Ok o) fault lines end old h = absurd h

@@ -1,5 +1,7 @@
+pub mod Versions
 pub mod Requests
 pub mod Script
+pub mod FirstVersion
 pub mod Faults
 pub mod ScriptExamples
 pub mod Limited

@@ -9,7 +9,9 @@ use Rattle.cell_types.specs.declared.call.Call.TheVariants.{Inquire}
 use Rattle.cell_types.specs.Words.{machine_word}
 use Rattle.cell_types.specs.CallWords.{call_fields}
 use Rattle.cell_types.specs.Everything.{all_machines, all_zones, all_poses}
+use Rattle.cell_replay.specs.Versions.{further_calls}
 use Rattle.cell_replay.specs.declared.request.Request.{Request}
+use Rattle.cell_replay.specs.declared.version.Version.{Version}
 
 -- a record is its fields
 abbrev pub Row : Type 0
@@ -22,26 +24,26 @@ request_fields request = machine_word request.machine ∷ call_fields request.ca
 abbrev pub request : Machine → Call → Request
 request machine call = record { machine = machine; call = call }
 
--- the calls of the first version, which alone are in scripts
-abbrev pub all_calls : List Call
-all_calls =
+-- the calls of a version
+abbrev pub calls_of : Version → List Call
+calls_of version =
     map Claim all_zones ++ map Give all_zones ++ map Yield all_zones ++ map Take all_zones ++ map Release all_zones
-    ++ map SetPose all_poses ++ map Inquire all_zones ++ Advance ∷ []
+    ++ map SetPose all_poses ++ map Inquire all_zones ++ Advance ∷ further_calls version
 
 -- the machine with this word
 unfoldable pub machine_of : List ℕ → Option Machine
 machine_of word = find (λ machine. bytes_eq (machine_word machine) word) all_machines
 
--- the call with these fields
-unfoldable pub call_of : Row → Option Call
-call_of fields = find (λ call. pointwise bytes_eq (call_fields call) fields) all_calls
+-- the call of a version with these fields
+unfoldable pub call_of : Version → Row → Option Call
+call_of version fields = find (λ call. pointwise bytes_eq (call_fields call) fields) (calls_of version)
 
 abbrev pub request_by : Option Machine → Option Call → Option Request
 request_by (Some machine) (Some call) = Some (request machine call)
 request_by (Some machine) None = None
 request_by None call = None
 
--- the request with these fields
-unfoldable pub request_of : Row → Option Request
-request_of [] = None
-request_of (word ∷ fields) = request_by (machine_of word) (call_of fields)
+-- the request of a version with these fields
+unfoldable pub request_of : Version → Row → Option Request
+request_of version [] = None
+request_of version (word ∷ fields) = request_by (machine_of word) (call_of version fields)

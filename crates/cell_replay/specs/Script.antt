@@ -1,11 +1,10 @@
--- The answer to a script.
+-- The answer to a script, by its version.
 use Rattle.std.specs.Prelude.{ℕ, ◌+◌, ◌-◌, ◌*◌, ◌==◌, ◌&&◌, Bool, List, [], ◌∷◌, ◌++◌, length, map, take, drop, codes}
 use Rattle.std.specs.Prelude.{nat_lt, nat_le, Option, Some, None, Result, Ok, Err, if◌then◌else◌}
 use Rattle.std.specs.Char.{is_ascii_digit}
 use Rattle.std.specs.Fmt.{decimal}
 use Rattle.std.specs.List.{concat, enumerate_from, list_all}
 use Rattle.std.specs.Option.{option_map_or}
-use Rattle.std.specs.Str.{bytes_eq}
 use Rattle.csv.specs.Reading.{default_config, records, strip_bom}
 use Rattle.cell_types.specs.declared.answer.Event.{Event}
 use Rattle.cell_types.specs.Answers.{answer_text}
@@ -16,7 +15,10 @@ use Rattle.cell_rules.specs.StartDigits.{places_in, is_start}
 use Rattle.cell_rules.specs.Reply.{next, reply}
 use Rattle.cell_rules.specs.History.{after}
 use Rattle.cell_replay.specs.Requests.{Row, request_of}
+use Rattle.cell_replay.specs.Versions.{version_of, version_word}
 use Rattle.cell_replay.specs.declared.request.Request.{Request}
+use Rattle.cell_replay.specs.declared.version.Version.{Version}
+use Rattle.cell_replay.specs.declared.script_start.Start.{Start}
 use Rattle.cell_replay.specs.declared.script.ScriptFault.{ScriptFault}
 use Rattle.cell_replay.specs.declared.script.ScriptFault.TheVariants.{NoStart, BadStart, BadRow, Long}
 use Rattle.cell_replay.specs.declared.script.Outcome.{Outcome}
@@ -53,22 +55,32 @@ start_of (Some flags) (Some stamp) = start_at (places_of flags) stamp
 start_of (Some flags) None = Err BadStart
 start_of None stamp = Err BadStart
 
--- the start in the fields after the word `start`: the places, and the stamp, which is 0 if it is absent
+-- the start in the fields after the first: the places, and the stamp, which is 0 if it is absent
 abbrev pub start_fields : Row → Result ModelState ScriptFault
 start_fields [] = Err BadStart
 start_fields (places ∷ []) = start_of (places_in places) (Some 0)
 start_fields (places ∷ stamp ∷ []) = start_of (places_in places) (number_in stamp)
 start_fields (places ∷ stamp ∷ more ∷ rest) = Err BadStart
 
--- the start in record 0
-unfoldable pub start_in : Row → Result ModelState ScriptFault
+-- a start of a version
+abbrev pub start_of_version : Version → Result ModelState ScriptFault → Result Start ScriptFault
+start_of_version version (Ok s) = Ok (record { version = version; state = s })
+start_of_version version (Err fault) = Err fault
+
+abbrev pub start_by : Option Version → Row → Result Start ScriptFault
+start_by (Some version) fields = start_of_version version (start_fields fields)
+start_by None fields = Err NoStart
+
+-- the start in record 0: its first field says the version
+unfoldable pub start_in : Row → Result Start ScriptFault
 start_in [] = Err NoStart
-start_in (word ∷ fields) = if bytes_eq word (codes "start") then start_fields fields else Err NoStart
+start_in (word ∷ fields) = start_by (version_of word) fields
 
 -- the requests of the records, up to the first record that has none
-unfoldable pub requests_in : List Row → List Request
-requests_in [] = []
-requests_in (row ∷ rows) = option_map_or (λ request. request ∷ requests_in rows) (request_of row) []
+unfoldable pub requests_in : Version → List Row → List Request
+requests_in version [] = []
+requests_in version (row ∷ rows) =
+    option_map_or (λ request. request ∷ requests_in version rows) (request_of version row) []
 
 -- the history of requests that are made in order
 abbrev pub event_of : ModelState → Request → Event
@@ -83,8 +95,8 @@ history_of s (request ∷ requests) = event_of s request ∷ history_of (next s 
 abbrev pub line_of : ℕ → ℕ → List ℕ → List ℕ
 line_of number stamp text = decimal number ++ 32 ∷ (decimal stamp ++ 32 ∷ (text ++ 10 ∷ []))
 
-abbrev pub start_line : ModelState → List ℕ
-start_line s = line_of 0 s.stamp (codes "start " ++ decimal (plates_of s))
+abbrev pub start_line : Start → List ℕ
+start_line start = line_of 0 start.state.stamp (version_word start.version ++ 32 ∷ decimal (plates_of start.state))
 
 -- the line of the event with this number; the first is 1
 abbrev pub event_line : ModelState → List Event → ℕ × Event → List ℕ
@@ -94,19 +106,19 @@ abbrev pub event_lines : ModelState → List Event → List (List ℕ)
 event_lines s history = map (event_line s history) (enumerate_from 1 history)
 
 -- A script as records, the first of which is record 0: its start, its events, its lines, and how it ends.
-abbrev pub rows_start : Bool → List Row → Result ModelState ScriptFault
+abbrev pub rows_start : Bool → List Row → Result Start ScriptFault
 rows_start is_cut [] = Err (if is_cut then Long else NoStart)
 rows_start is_cut (row ∷ rows) = start_in row
 
-abbrev pub events_from : Result ModelState ScriptFault → List Row → List Event
-events_from (Ok s) rows = history_of s (requests_in (take max_records rows))
+abbrev pub events_from : Result Start ScriptFault → List Row → List Event
+events_from (Ok start) rows = history_of start.state (requests_in start.version (take max_records rows))
 events_from (Err fault) rows = []
 
 abbrev pub rows_events : Bool → List Row → List Event
 rows_events is_cut rows = events_from (rows_start is_cut rows) (drop 1 rows)
 
-abbrev pub lines_from : Result ModelState ScriptFault → List Event → List (List ℕ)
-lines_from (Ok s) history = start_line s ∷ event_lines s history
+abbrev pub lines_from : Result Start ScriptFault → List Event → List (List ℕ)
+lines_from (Ok start) history = start_line start ∷ event_lines start.state history
 lines_from (Err fault) history = []
 
 abbrev pub rows_lines : Bool → List Row → List (List ℕ)
@@ -118,8 +130,8 @@ end_of is_cut answered count =
     if nat_lt answered count then Refused (if answered == max_records then Long else BadRow (answered + 1))
     else if is_cut then Refused Long else Clean
 
-abbrev pub outcome_from : Bool → Result ModelState ScriptFault → ℕ → ℕ → Outcome
-outcome_from is_cut (Ok s) answered count = end_of is_cut answered count
+abbrev pub outcome_from : Bool → Result Start ScriptFault → ℕ → ℕ → Outcome
+outcome_from is_cut (Ok start) answered count = end_of is_cut answered count
 outcome_from is_cut (Err fault) answered count = Refused fault
 
 abbrev pub rows_outcome : Bool → List Row → Outcome
@@ -152,7 +164,7 @@ abbrev pub script_rows : List ℕ → List Row
 script_rows bytes = used (is_cut_of bytes) (records default_config (strip_bom (take byte_limit bytes)))
 
 -- A script as bytes.
-unfoldable pub script_start : List ℕ → Result ModelState ScriptFault
+unfoldable pub script_start : List ℕ → Result Start ScriptFault
 script_start bytes = rows_start (is_cut_of bytes) (script_rows bytes)
 
 unfoldable pub script_events : List ℕ → List Event

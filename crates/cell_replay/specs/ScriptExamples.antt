@@ -67,6 +67,39 @@ pub record StartExamples : Type 0 where
   pub beyond_last : HasBadStamp (codes "1048576")
   pub field_more : HasBadStamp (codes "5,\n")
 
+-- ---- the second version
+
+abbrev pub opens2 : List ℕ
+opens2 = codes "start2,0000000000\n"
+
+abbrev pub opened2 : List ℕ
+opened2 = codes "0 0 start2 0\n"
+
+abbrev pub stop_and_resume : List ℕ
+stop_and_resume =
+    opens2 ++ codes "press,claim,z3\nwatch,stop\npress,pose,travelling\nrobot,claim,z1\n"
+    ++ codes "press,release,z3\nwatch,stop\npress,resume\nwatch,resume\nwatch,resume\n"
+
+abbrev pub stopped_and_resumed : List ℕ
+stopped_and_resumed =
+    opened2 ++ codes "1 1 done\n2 2 done\n3 2 stopped\n4 2 notparty\n"
+    ++ codes "5 3 done\n6 3 stopped\n7 3 notparty\n8 4 done\n9 4 notstopped\n"
+
+pub record StopExamples : Type 0 where
+  pub stop_lasts_until_resumed : IsAnswered stop_and_resume stopped_and_resumed Clean
+  pub stop_by_another : IsAnswered (opens2 ++ codes "press,stop\n")
+      (opened2 ++ codes "1 0 notparty\n") Clean
+  pub stop_of_a_zone : IsAnswered (opens2 ++ codes "watch,stop,z1\n")
+      (opened2 ++ codes "fault badrow 1\n") (Refused (BadRow 1))
+  pub start_alone : IsAnswered (codes "start2,0100000000,7\n") (codes "0 7 start2 1\n") Clean
+  pub no_places : HasBadStart (codes "start2\n")
+  pub nine_places : HasBadStart (codes "start2,000000000\n")
+  pub seven_plates : HasBadStart (codes "start2,1111101001\n")
+  pub beyond_last : HasBadStart (codes "start2,0000000000,1048576\n")
+  pub field_more : HasBadStart (codes "start2,0000000000,5,\n")
+  pub other_version : HasNoStart (codes "start3,0000000000\n")
+  pub longer_word : HasNoStart (codes "start22,0000000000\n")
+
 -- ---- cut scripts: the last record isn't used
 
 abbrev pub first : Row
@@ -93,4 +126,5 @@ pub record CutExamples : Type 0 where
 pub record ScriptsAreMet : Type 0 where
   pub answers : AnswerExamples
   pub starts : StartExamples
+  pub stops : StopExamples
   pub cuts : CutExamples

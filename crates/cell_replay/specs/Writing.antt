@@ -9,6 +9,7 @@ use Rattle.cell_rules.specs.ModelState.{ModelState}
 use Rattle.cell_rules.specs.Reply.{next, reply}
 use Rattle.cell_replay.specs.Requests.{Row}
 use Rattle.cell_replay.specs.declared.request.Request.{Request}
+use Rattle.cell_replay.specs.declared.version.Version.{Version}
 use Rattle.cell_replay.specs.Script.{end_of, end_text, script_outcome, script_text, line_of, max_records, requests_in}
 use Rattle.cell_replay.specs.Faults.{Leaves, WrotePrefix, WroteLines}
 use Rattle.cell_replay.specs.declared.script.Outcome.{Outcome}
@@ -22,27 +23,32 @@ lines_after done s (r ∷ rs) =
     line_of (done + 1) (next s r.machine r.call).stamp (answer_text (reply s r.machine r.call))
     ∷ lines_after (done + 1) (next s r.machine r.call) rs
 
--- the lines of the records that are left after a number of answered ones, and how the script ends
-abbrev pub lines_left : ℕ → ModelState → List Row → List (List ℕ)
-lines_left done s left = lines_after done s (requests_in (take (max_records - done) left))
+-- the requests in the records that are left after a number of answered ones
+abbrev pub requests_left : Version → ℕ → List Row → List Request
+requests_left version done left = requests_in version (take (max_records - done) left)
 
-abbrev pub outcome_left : Bool → ℕ → List Row → Outcome
-outcome_left is_cut done left =
-    end_of is_cut (done + length (requests_in (take (max_records - done) left))) (done + length left)
+-- the lines of these records, and how the script ends
+abbrev pub lines_left : Version → ℕ → ModelState → List Row → List (List ℕ)
+lines_left version done s left = lines_after done s (requests_left version done left)
+
+abbrev pub outcome_left : Version → Bool → ℕ → List Row → Outcome
+outcome_left version is_cut done left =
+    end_of is_cut (done + length (requests_left version done left)) (done + length left)
 
 -- a step: the line of the first record that is left is written, and the others are left; or the script ends; or the
 -- step failed
-abbrev pub WritesNext : Bool → ℕ → ModelState → ModelState → List Row → Option (List ℕ) → Option (List ℕ)
+abbrev pub WritesNext : Version → Bool → ℕ → ModelState → ModelState → List Row → Option (List ℕ) → Option (List ℕ)
     → (List Row → Type 0) → Result (Option Outcome) ReplayFault → Type 0
-WritesNext is_cut done s new_s left old new After (Ok None) =
+WritesNext version is_cut done s new_s left old new After (Ok None) =
     (rest : List Row) × (line : List ℕ) × Appends old new line
-    × (lines_left done s left ≡ line ∷ lines_left (done + 1) new_s rest)
-    × (outcome_left is_cut done left ≡ outcome_left is_cut (done + 1) rest) × After rest
-WritesNext is_cut done s new_s left old new After (Ok (Some outcome)) =
-    (lines_left done s left ≡ []) × (outcome_left is_cut done left ≡ outcome) × Keeps old new
-WritesNext is_cut done s new_s left old new After (Err Read) = Keeps old new
-WritesNext is_cut done s new_s left old new After (Err Memory) = Keeps old new
-WritesNext is_cut done s new_s left old new After (Err Write) = WrotePrefix old new (concat (lines_left done s left))
+    × (lines_left version done s left ≡ line ∷ lines_left version (done + 1) new_s rest)
+    × (outcome_left version is_cut done left ≡ outcome_left version is_cut (done + 1) rest) × After rest
+WritesNext version is_cut done s new_s left old new After (Ok (Some outcome)) =
+    (lines_left version done s left ≡ []) × (outcome_left version is_cut done left ≡ outcome) × Keeps old new
+WritesNext version is_cut done s new_s left old new After (Err Read) = Keeps old new
+WritesNext version is_cut done s new_s left old new After (Err Memory) = Keeps old new
+WritesNext version is_cut done s new_s left old new After (Err Write) =
+    WrotePrefix old new (concat (lines_left version done s left))
 
 -- these lines are written, and the script ends so; or a step failed: then some first lines, or a prefix, are written
 abbrev pub Writes : List (List ℕ) → Outcome → Option (List ℕ) → Option (List ℕ) → Result Outcome ReplayFault → Type 0

@@ -15,7 +15,8 @@ use crate::lent::{LentReader, Origin};
 use crate::records::Records;
 use crate::request::read_request;
 use crate::script::{Outcome, ReplayFault, ScriptFault};
-use crate::script_start::read_start;
+use crate::script_start::{Start, read_start};
+use crate::version::Version;
 use cell_rules::{State, apply};
 use cell_text::{WriteFault, flush, write_bytes};
 use cell_types::Answer;
@@ -63,23 +64,24 @@ pub fn answer_rows<L: LentReader, K: Origin, W: Write>(
 fn answer_later<L: LentReader, K: Origin, W: Write>(
     alloc: Global,
     records: &mut Records<'_, L, K>,
-    start: State,
+    start: Start,
     writer: &mut W,
 ) -> Result<Outcome, ReplayFault>
     requires { IsPlain records.old.reader }
     ensures written { (bytes : List ℕ) → K.bytes ≡ Some bytes → (left : List Row) →
         RowsLeft (λ r. bytes_left (L.left r.now.input) r.now.is_cut r.now.taken) (is_cut_of bytes)
         records.old.reader records.old.holds (fields_of records.old.held) records.old.is_cut left →
-        Writes (lines_left 0 start left) (outcome_left (is_cut_of bytes) 0 left)
+        Writes (lines_left start.version 0 start.state left)
+        (outcome_left start.version (is_cut_of bytes) 0 left)
         (W.contents writer.old) (W.contents writer.new) result }
 {
-    let mut state = start;
+    let Start { version, mut state } = start;
     let mut line = String::new(alloc);
     'rows: for done in 0..MAX_RECORDS {
         if flush_at_pause(records, writer).is_err() {
             return Err(ReplayFault::Write);
         }
-        match answer_next(records, &mut state, done, &mut line, writer) {
+        match answer_next(records, version, &mut state, done, &mut line, writer) {
             Ok(None) => {}
             Ok(Some(outcome)) => return Ok(outcome),
             Err(fault) => return Err(fault),
@@ -111,6 +113,7 @@ fn flush_at_pause<L: LentReader, K: Origin, W: Write>(
 /// after record 0 are answered. `line` is room for the line.
 fn answer_next<L: LentReader, K: Origin, W: Write>(
     records: &mut Records<'_, L, K>,
+    version: Version,
     state: &mut State,
     done: u32,
     line: &mut String,
@@ -122,7 +125,7 @@ fn answer_next<L: LentReader, K: Origin, W: Write>(
     ensures written { (bytes : List ℕ) → K.bytes ≡ Some bytes → (left : List Row) →
         RowsLeft (λ r. bytes_left (L.left r.now.input) r.now.is_cut r.now.taken) (is_cut_of bytes)
         records.old.reader records.old.holds (fields_of records.old.held) records.old.is_cut left →
-        WritesNext (is_cut_of bytes) done state.old state.new left
+        WritesNext version (is_cut_of bytes) done state.old state.new left
         (W.contents writer.old) (W.contents writer.new)
         (RowsLeft (λ r. bytes_left (L.left r.now.input) r.now.is_cut r.now.taken) (is_cut_of bytes)
         records.new.reader records.new.holds (fields_of records.new.held) records.new.is_cut)
@@ -131,7 +134,7 @@ fn answer_next<L: LentReader, K: Origin, W: Write>(
     if !records.next()? {
         return Ok(Some(end(records.is_cut())));
     }
-    let Some(request) = read_request(records.row()) else {
+    let Some(request) = read_request(version, records.row()) else {
         return Ok(Some(Outcome::Refused(ScriptFault::BadRow(done + 1))));
     };
     let answer = apply(state, request.machine, request.call);
@@ -155,13 +158,14 @@ fn end(is_cut: bool) -> Outcome
 }
 
 /// Adds the line of record 0.
-fn push_start(text: &mut String, start: &State) -> Result<(), AllocError>
+fn push_start(text: &mut String, start: &Start) -> Result<(), AllocError>
     ensures { OnOk result (string_bytes text.new ≡ string_bytes text.old ++ start_line start.now) }
 {
     let number = 0u32;
-    let stamp = start.stamp();
-    let plates = start.plates();
-    writeln!(text, "{number} {stamp} start {plates}")
+    let stamp = start.state.stamp();
+    let word = start.version.word();
+    let plates = start.state.plates();
+    writeln!(text, "{number} {stamp} {word} {plates}")
 }
 
 /// Adds the line of a later record.

@@ -3,15 +3,18 @@
 ghost use Rattle.std.specs.Prelude.{◌≡◌, ◌≤◌, ℕ, length, min, IfOk};
 ghost use Rattle.cell_rules.specs.History.{IsLegal};
 ghost use Rattle.cell_rules.specs.Start.{IsStartState};
-ghost use Rattle.cell_replay.specs.Script.{script_events, script_lines, script_outcome, script_rows, script_start};
+ghost use Rattle.cell_replay.specs.Script.{script_events, script_lines, script_outcome, script_rows, script_start, script_text};
+ghost use Rattle.cell_replay.specs.FirstVersion as first;
+ghost use Rattle.cell_replay.specs.FirstVersion.{IsOfFirstVersion};
 ghost use Rattle.cell_replay.specs.ScriptExamples.{ScriptsAreMet};
 
 use crate::script::{Outcome, ScriptFault};
 
 /// A script's events are a legal history from the start in record 0, which is a valid start.
 pub fn events_are_legal(script: &[u8])
-    ensures legal { IfOk (script_start script.now) (λ s. IsLegal s (script_events script.now)) }
-    ensures start { IfOk (script_start script.now) IsStartState }
+    ensures legal { IfOk (script_start script.now)
+        (λ start. IsLegal start.state (script_events script.now)) }
+    ensures start { IfOk (script_start script.now) (λ start. IsStartState start.state) }
 {}
 
 /// The number of a script's lines is at most 65,537: one for record 0 and one for each event. If
@@ -31,7 +34,14 @@ pub fn lines_are_counted(script: &[u8])
         length (script_lines script.now) ≡ min 65537 (length (script_rows script.now)) }
 {}
 
-/// Example scripts with their whole answers: calls, each form of record 0, and cut scripts.
+/// A script whose record 0 doesn't begin with `start2` has the text of the first version.
+pub fn first_version_stays(script: &[u8])
+    ensures { IsOfFirstVersion script.now →
+        script_text script.now ≡ first.script_text script.now }
+{}
+
+/// Example scripts with their whole answers: calls, each form of record 0, scripts that stop the
+/// cell, and cut scripts.
 pub fn scripts_are_met()
     ensures { ScriptsAreMet }
 {}

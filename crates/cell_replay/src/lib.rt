@@ -11,6 +11,7 @@ pub mod replay_script;
 mod request;
 pub mod script;
 mod script_start;
+mod version;
 
 pub use replay_script::replay;
 pub use script::{Outcome, ReplayFault, ScriptFault};

@@ -4,6 +4,8 @@ ghost use Rattle.std.specs.Prelude.{◌≡◌, ◌++◌, ℕ, List, None, Some, 
 ghost use Rattle.std.specs.Io.KnownBytes.{Appends, append_known};
 ghost use Rattle.cell_replay.specs.Faults.{Leaves};
 ghost use Rattle.cell_text.specs.Input.{TakesAtMost};
+ghost use Rattle.cell_replay.specs.FirstVersion as first;
+ghost use Rattle.cell_replay.specs.FirstVersion.{IsOfFirstVersion};
 ghost use Rattle.cell_replay.specs.Script.{end_text, fault_text, max_bytes_read, script_outcome, script_text};
 ghost use Rattle.cell_replay.specs.Writing.{WritesEnd, WritesScript};
 
@@ -32,6 +34,10 @@ pub fn replay<R: Read, W: Write>(
     // The answer to the script was written, and nothing else.
     ensures text { OnOk result (IfSome (R.remaining reader.old) (λ bytes.
         Appends (W.contents writer.old) (W.contents writer.new) (script_text bytes))) }
+    // If record 0 doesn't begin with `start2`, that text is the first version's.
+    ensures first_version { OnOk result (IfSome (R.remaining reader.old) (λ bytes.
+        IsOfFirstVersion bytes →
+        Appends (W.contents writer.old) (W.contents writer.new) (first.script_text bytes))) }
     // The outcome is the one in that text.
     ensures outcome { IfOk result
         (λ o. IfSome (R.remaining reader.old) (λ bytes. o ≡ script_outcome bytes)) }

@@ -2,9 +2,10 @@
 
 ghost use Rattle.std.specs.Prelude.{◌≡◌, ◌↔◌, Some, IsTrue};
 ghost use Rattle.csv.specs.Records.{fields_of};
-ghost use Rattle.cell_rules.specs.FirstVersion.{has_call};
 ghost use Rattle.cell_replay.specs.Requests.{request_fields, request_of};
+ghost use Rattle.cell_replay.specs.Versions.{has_call};
 
+use crate::version::Version;
 use cell_types::{Call, Machine};
 use csv::ByteRecord;
 
@@ -13,13 +14,6 @@ use csv::ByteRecord;
 pub struct Request {
     pub machine: Machine,
     pub call: Call,
-}
-
-/// Whether the first version of the interlock has this call.
-fn is_of_first_version(call: Call) -> bool
-    ensures { result ≡ has_call call }
-{
-    !matches!(call, Call::Stop | Call::Resume)
 }
 
 /// The request in a record, or `None` if the record has none. It may be of any version.
@@ -35,11 +29,11 @@ fn read_any_request(row: &ByteRecord) -> Option<Request>
     Some(Request { machine, call })
 }
 
-/// The request in a record, or `None` if the record has none of the first version.
-pub fn read_request(row: &ByteRecord) -> Option<Request>
-    ensures written { (request : Request) → IsTrue (has_call request.call)
+/// The request in a record of a script, or `None` if the record has none of the script's version.
+pub fn read_request(version: Version, row: &ByteRecord) -> Option<Request>
+    ensures written { (request : Request) → IsTrue (has_call version request.call)
         → (result ≡ Some request) ↔ (fields_of row.now ≡ request_fields request) }
-    ensures same { result ≡ request_of (fields_of row.now) }
+    ensures same { result ≡ request_of version (fields_of row.now) }
 {
-    read_any_request(row).filter(|request| is_of_first_version(request.call))
+    read_any_request(row).filter(|request| version.has(request.call))
 }

@@ -12,9 +12,9 @@ use std::fmt;
 /// Why a script was refused.
 #[derive(Clone, Copy, PartialEq, Eq, Debug)]
 pub enum ScriptFault {
-    /// There is no record 0, or its first field isn't `start`.
+    /// There is no record 0, or its first field is neither `start` nor `start2`.
     NoStart,
-    /// Record 0 begins with `start`, but the rest of it is no valid start.
+    /// Record 0 begins with `start` or `start2`, but the rest of it is no valid start.
     BadStart,
     /// The record with this number is no request. Record 0 is the start, so 1 is the least number.
     BadRow(u32),

@@ -62,3 +62,10 @@ gap_is start t all ordered stamps top s o e f g = record {
 
 pub gapless : (start t : ℕ) (all ordered : List Noted) (stamps : List ℕ) (top : ℕ) → InOrder all ordered → stamps ≡ done_stamps ordered → top ≡ greatest t ordered → HasNoGap start top (times stamps) → HasNoGap start (greatest t all) (done_at all)
 gapless start t all ordered stamps top o e f g = λ r a b. subst (λ n. 0 < n) (counted_times all ordered stamps o e r) (g r a (omega (arith, b, greatest_same t all ordered o, f)))
+
+-- the same from a start with this stamp
+pub gap_from : (a b top s : ℕ) (count : ℕ → ℕ) → a ≡ b → IsGap a top count s → IsGap b top count s
+gap_from a b top s count e g = subst (λ n. IsGap n top count s) e g
+
+pub gapless_from : (a b top : ℕ) (count : ℕ → ℕ) → a ≡ b → HasNoGap a top count → HasNoGap b top count
+gapless_from a b top count e g = subst (λ n. HasNoGap n top count) e g

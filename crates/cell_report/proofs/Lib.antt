@@ -5,7 +5,11 @@ pub mod Turns
 pub mod Placed
 pub mod States
 pub mod Retraces
+pub mod Traced
 pub mod Classes
+pub mod Puts
+pub mod NextLeast
+pub mod Told
 pub mod Times
 pub mod Checks
 pub mod Runs

@@ -1,5 +1,6 @@
 -- The entries of one machine among all.
-use Rattle.std.proofs.Common.{◌≡◌, Bool, true, false, cond, List, [], ◌∷◌, ◌++◌, map, filter, refl, sym, ap, subst, append-nil}
+use Rattle.std.proofs.Common.{◌≡◌, suc, ◌+◌, length, Bool, true, false, cond, List, [], ◌∷◌, ◌++◌, map, filter, refl, sym, ap, subst, append-nil}
+use Rattle.std.proofs.lemmas.List.{length-append}
 use Rattle.std.proofs.lemmas.List.Elements.{filter-append}
 use Rattle.cell_types.specs.declared.machine.Machine.{Machine}
 use Rattle.cell_types.specs.declared.machine.Machine.TheVariants.{Feed, Table, Robot, Press, Deposit, Crane, Watch}
@@ -56,3 +57,11 @@ collapse j Watch = refl
 
 pub own_entries : (j : Machine → List Entry) (m : Machine) → filter (is_of m) (all_noted j) ≡ noted_from m [] (j m)
 own_entries j m = simp (filter-append, part) (collapse j m)
+
+noted_length : (m : Machine) (earlier es : List Entry) → length (noted_from m earlier es) ≡ length es
+noted_length m earlier [] = refl
+noted_length m earlier (e ∷ es) = ap suc (noted_length m (earlier ++ e ∷ []) es)
+
+-- as many as in the seven journals
+pub all_length : (j : Machine → List Entry) → length (all_noted j) ≡ length (j Feed) + length (j Table) + length (j Robot) + length (j Press) + length (j Deposit) + length (j Crane) + length (j Watch)
+all_length j = simp (length-append, noted_length)

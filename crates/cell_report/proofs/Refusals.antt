@@ -11,7 +11,7 @@ use Rattle.cell_rules.specs.Journal.{noted}
 use Rattle.cell_report.specs.declared.ordered.Noted.{Noted}
 use Rattle.cell_report.specs.declared.audit_faults.AuditFault.{AuditFault}
 use Rattle.cell_report.specs.declared.audit_faults.AuditFault.TheVariants.{Twice, Gap, Differs, End, Memory}
-use Rattle.cell_report.specs.Audited.{IsAudited, EndsIn, HasNoHistory}
+use Rattle.cell_rules.specs.Audited.{IsAudited, EndsIn, HasNoHistory}
 use Rattle.cell_report.specs.Order.{all_noted, event_of, greatest, is_done_noted, done_stamps}
 use Rattle.cell_report.specs.AuditFaults.{Fits, AllFit, HasStamps, IsFault, end_stamp, top_of}
 use Rattle.cell_report.proofs.Members.{In, in_permutation, in_permutation_back}

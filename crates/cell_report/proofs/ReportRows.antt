@@ -8,6 +8,7 @@ pub reports_are_met : ReportsAreMet
 unfolding report_text digits
 reports_are_met = record {
   with_end = λ journals. refl;
+  with_stopped_end = λ journals. refl;
   without_end = λ journals. refl;
   ok = refl;
   gap = refl;

@@ -1,12 +1,11 @@
 -- The lines of a report, in order.
 use Rattle.std.proofs.Common.{ℕ, ℤ, pos, ◌≡◌, ◌<◌, ◌+◌, List, [], ◌∷◌, ◌++◌, length, map, drop, get_or, codes, refl, sym, ap, ap₂, ◌∙◌, append_assoc}
 use Rattle.std.proofs.lemmas.List.{append-nil, drop_more}
-use Rattle.cell_types.specs.Everything.{all_zones}
+use Rattle.cell_types.specs.Everything.{all_machines, all_zones}
 use Rattle.cell_rules.specs.ModelState.{ModelState}
 use Rattle.std.specs.List.{concat, flat_map, zip}
 use Rattle.std.specs.Fmt.{signed_decimal}
 use Rattle.cell_types.specs.declared.machine.Machine.{Machine}
-use Rattle.cell_types.specs.declared.machine.Machine.TheVariants.{Feed, Table, Robot, Press, Deposit, Crane}
 use Rattle.cell_notes.specs.declared.counts.Counts.{Counts}
 use Rattle.cell_notes.specs.declared.status.Status.{Status}
 use Rattle.cell_report.specs.Report.{axes_line, axis_names, axis_words, end_lines, machine_line, places_line, places_word, spaced, text_of_lines, zone_line}
@@ -36,12 +35,9 @@ spaced_axes word ((name, at) ∷ rows) =
 pub axes_told : (page : List ℕ) (axes : List ℤ) → (page ++ (codes "axes" ++ axes_from 0 axes)) ++ codes "\n" ≡ page ++ (axes_line axes ++ codes "\n")
 axes_told page axes = append_assoc page (codes "axes" ++ axes_from 0 axes) (codes "\n") ∙ ap (λ line. page ++ (line ++ codes "\n")) (sym (spaced_axes (codes "axes") (zip axis_names axes)))
 
-abbrev pub at_work : List Machine
-at_work = Feed ∷ Table ∷ Robot ∷ Press ∷ Deposit ∷ Crane ∷ []
-
 -- the lines of the machines from an index on
 abbrev pub machines_from : ℕ → List Counts → List Status → List (List ℕ)
-machines_from i counts status = map (λ (m, row). machine_line m row.0 row.1) (zip (drop i at_work) (zip (drop i counts) (drop i status)))
+machines_from i counts status = map (λ (m, row). machine_line m row.0 row.1) (zip (drop i all_machines) (zip (drop i counts) (drop i status)))
 
 -- another line is written
 pub told_more : (old new line rest all more : List ℕ) → new ≡ old ++ line → more ≡ line ++ rest → old ++ more ≡ all → new ++ rest ≡ all
@@ -51,10 +47,10 @@ told_more old new line rest all more wrote is told = rw (wrote, append_assoc) (r
 pub one_more : (old new text all : List ℕ) → new ≡ old ++ text → old ≡ all → new ≡ all ++ text
 one_more old new text all more so_far = more ∙ ap (λ page. page ++ text) so_far
 
-pub machines_from-more : (i : ℕ) (counts : List Counts) (status : List Status) (m : Machine) (n : Counts) (s : Status) → i < 6 → i < length counts → i < length status
-    → text_of_lines (machines_from i counts status) ≡ (machine_line (get_or at_work i m) (get_or counts i n) (get_or status i s) ++ codes "\n") ++ text_of_lines (machines_from (i + 1) counts status)
+pub machines_from-more : (i : ℕ) (counts : List Counts) (status : List Status) (m : Machine) (n : Counts) (s : Status) → i < 7 → i < length counts → i < length status
+    → text_of_lines (machines_from i counts status) ≡ (machine_line (get_or all_machines i m) (get_or counts i n) (get_or status i s) ++ codes "\n") ++ text_of_lines (machines_from (i + 1) counts status)
 machines_from-more i counts status m n s few in_counts in_status =
-    ap (λ rows. text_of_lines (map (λ (m, row). machine_line m row.0 row.1) rows)) (ap₂ zip (drop_more at_work i m few) (ap₂ zip (drop_more counts i n in_counts) (drop_more status i s in_status)))
+    ap (λ rows. text_of_lines (map (λ (m, row). machine_line m row.0 row.1) rows)) (ap₂ zip (drop_more all_machines i m few) (ap₂ zip (drop_more counts i n in_counts) (drop_more status i s in_status)))
 
 -- the end's lines, and the whole report's
 
@@ -70,11 +66,12 @@ end_told page s =
 abbrev pub with_feed : List ℕ → List ℕ
 with_feed line = line ++ codes "\n"
 
-pub report_told : (start axes audit : List ℕ) (machines end stamp : List (List ℕ))
-    → with_feed start ++ text_of_lines machines ++ text_of_lines end ++ with_feed axes ++ text_of_lines stamp ++ with_feed audit
-    ≡ text_of_lines (start ∷ [] ++ machines ++ end ++ axes ∷ [] ++ stamp ++ audit ∷ [])
-report_told start axes audit machines end stamp =
-    sym (text_of_lines-append (start ∷ [] ++ machines ++ end ++ axes ∷ [] ++ stamp) (audit ∷ [])
-    ∙ ap₂ (λ front text. front ++ text) (text_of_lines-append (start ∷ [] ++ machines ++ end ++ axes ∷ []) stamp) (append-nil (with_feed audit))
-    ∙ ap (λ front. front ++ text_of_lines stamp ++ with_feed audit) (text_of_lines-append (start ∷ [] ++ machines ++ end) (axes ∷ [])
-    ∙ ap₂ (λ front text. front ++ text) (text_of_lines-append (start ∷ [] ++ machines) end) (append-nil (with_feed axes))))
+pub report_told : (version start axes audit : List ℕ) (machines end stamp : List (List ℕ))
+    → with_feed version ++ with_feed start ++ text_of_lines machines ++ text_of_lines end ++ with_feed axes ++ text_of_lines stamp ++ with_feed audit
+    ≡ text_of_lines (version ∷ start ∷ [] ++ machines ++ end ++ axes ∷ [] ++ stamp ++ audit ∷ [])
+report_told version start axes audit machines end stamp =
+    sym (text_of_lines-append (version ∷ start ∷ [] ++ machines ++ end ++ axes ∷ [] ++ stamp) (audit ∷ [])
+    ∙ ap₂ (λ front text. front ++ text) (text_of_lines-append (version ∷ start ∷ [] ++ machines ++ end ++ axes ∷ []) stamp) (append-nil (with_feed audit))
+    ∙ ap (λ front. front ++ text_of_lines stamp ++ with_feed audit) (text_of_lines-append (version ∷ start ∷ [] ++ machines ++ end) (axes ∷ [])
+    ∙ ap₂ (λ front text. front ++ text) (text_of_lines-append (version ∷ start ∷ [] ++ machines) end
+    ∙ ap (λ front. front ++ text_of_lines end) (sym (append_assoc (with_feed version) (with_feed start) (text_of_lines machines)))) (append-nil (with_feed axes))))

@@ -1,5 +1,6 @@
 -- Entries that each fit are a legal history, and each machine noted its own.
-use Rattle.std.proofs.Common.{◌≡◌, max, Option, Some, None, option_map, ℕ, Bool, true, false, cond, inl, inr, List, [], ◌∷◌, map, filter, refl, sym, ap, ◌∙◌, subst}
+use Rattle.std.specs.Option.{MatchOption}
+use Rattle.std.proofs.Common.{◌≡◌, Option, Some, None, option_map, ℕ, Bool, true, false, cond, inl, inr, List, [], ◌∷◌, map, filter, refl, sym, ap, ◌∙◌, subst}
 use Rattle.cell_types.specs.declared.machine.Machine.{Machine}
 use Rattle.cell_types.specs.declared.answer.Event.{Event}
 use Rattle.cell_types.specs.declared.journal.Entry.{Entry}
@@ -10,10 +11,12 @@ use Rattle.cell_rules.specs.History.{after, IsLegal}
 use Rattle.cell_rules.specs.Journal.{noted, entry_of, event_by}
 use Rattle.cell_rules.proofs.Notes.{events_of_noted}
 use Rattle.cell_report.specs.declared.ordered.Noted.{Noted}
-use Rattle.cell_report.specs.Audited.{IsAudited, EndsIn}
+use Rattle.cell_rules.specs.Audited.{IsAudited, EndsIn}
+use Rattle.cell_report.specs.declared.traces.Trace.{Trace}
 use Rattle.cell_report.specs.Order.{noted_from, all_noted, event_of, greatest, key_at, InOrder}
-use Rattle.cell_report.specs.AuditFaults.{AllFit, HasStamps, MissesEnd}
+use Rattle.cell_report.specs.AuditFaults.{AllFit, HasStamps, IsMisfit}
 use Rattle.cell_report.specs.Retraced.{Retraced}
+use Rattle.cell_report.specs.Traces.{IsTrace}
 use Rattle.cell_report.proofs.Members.{In, in_permutation, from_filter}
 use Rattle.cell_report.proofs.Own.{is_of, entry_in, entries_of, own_entries}
 use Rattle.cell_report.proofs.Rising.{Rises, rises_from}
@@ -66,12 +69,6 @@ audited s j end t ordered now history reached k e r ends =
       ends = subst (λ u. EndsIn u end) (r.reached ∙ ap (after s) (sym r.events)) ends;
     }
 
-pub misses_end : (s : ModelState) (end : Option ModelState) (ordered now : List Noted) (history : List Event) (reached : ModelState) → now ≡ ordered → Retraced s now history reached → ¬ EndsIn reached end → MissesEnd s ordered end
-misses_end s end ordered now history reached e r not = subst (λ l. MissesEnd s l end) e (record {
-  fit = r.fit;
-  misses = λ h. not (subst (λ t. EndsIn t end) (sym r.reached) h);
-})
-
 pub ends_some : {X : Type 0} (f : X → ModelState) (o : Option X) (x : X) (reached : ModelState) → o ≡ Some x → reached ≡ f x → EndsIn reached (option_map f o)
 ends_some f o x reached e h = subst (λ p. EndsIn reached (option_map f p)) (sym e) h
 
@@ -81,5 +78,5 @@ ends_none f o reached e = subst (λ p. EndsIn reached (option_map f p)) (sym e) 
 pub from_ends : {X : Type 0} (f : X → ModelState) (o : Option X) (x : X) (reached : ModelState) → o ≡ Some x → EndsIn reached (option_map f o) → reached ≡ f x
 from_ends f o x reached e h = subst (λ p. EndsIn reached (option_map f p)) e h
 
-pub stamps_are : (a s e t : ℕ) (all ordered : List Noted) → a ≡ s → e ≡ t → HasStamps a (greatest (max a e) all) all ordered → HasStamps s (greatest (max s t) all) all ordered
-stamps_are a s e t all ordered p q h = subst (λ n. HasStamps s (greatest (max s n) all) all ordered) q (subst (λ n. HasStamps n (greatest (max n e) all) all ordered) p h)
+pub retraced : (s : ModelState) (least : ℕ) (ordered : List Noted) (t : Trace) → t.misfit ≡ None → IsTrace s least ordered t → Retraced s ordered t.events.items t.state
+retraced s least ordered t e is = subst (λ o. MatchOption o (Retraced s ordered t.events.items t.state) (IsMisfit s ordered)) e is.fit

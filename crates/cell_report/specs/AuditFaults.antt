@@ -9,7 +9,7 @@ use Rattle.cell_rules.specs.History.{after}
 use Rattle.cell_report.specs.declared.ordered.Noted.{Noted}
 use Rattle.cell_report.specs.declared.audit_faults.AuditFault.{AuditFault}
 use Rattle.cell_report.specs.declared.audit_faults.AuditFault.TheVariants.{Twice, Gap, Differs, End, Memory}
-use Rattle.cell_report.specs.Audited.{EndsIn}
+use Rattle.cell_rules.specs.Audited.{EndsIn}
 use Rattle.cell_report.specs.Order.{all_noted, InOrder, event_of, stamp_of, is_done_noted, done_at, greatest}
 
 -- how often a stamp occurs in a list of stamps

@@ -1,7 +1,9 @@
-pub mod Audited
 pub mod Order
+pub mod InTurn
+pub mod Merged
 pub mod AuditFaults
 pub mod Retraced
+pub mod Traces
 pub mod Report
 pub mod ReportExamples
 pub mod AuditLaws

@@ -1,5 +1,5 @@
 -- The entries of all journals, and the order in which an audit looks at them.
-use Rattle.std.specs.Prelude.{◌≡◌, ℕ, ◌+◌, ◌*◌, Bool, ◌&&◌, nat_eq, nat_le, max, fold, count_by, List, [], ◌∷◌, ◌++◌}
+use Rattle.std.specs.Prelude.{◌≡◌, ℕ, ◌+◌, ◌*◌, Bool, ◌&&◌, nat_eq, nat_le, if◌then◌else◌, max, fold, count_by, List, [], ◌∷◌, ◌++◌}
 use Rattle.std.specs.Prelude.{map, filter}
 use Rattle.std.specs.List.{list_all}
 use Rattle.std.specs.List.Sorted.{IsNonDecreasingBy, IsStableByKey, IsPermutation}
@@ -78,3 +78,17 @@ done_at xs s = count_by (λ x. is_done_noted x && nat_eq (stamp_of x) s) xs
 -- the greatest of a stamp and those of the entries
 abbrev pub greatest : ℕ → List Noted → ℕ
 greatest least xs = fold (λ t x. max t (stamp_of x)) least xs
+
+-- each journal's keys don't fall
+abbrev pub AreInTurn : (Machine → List Entry) → Type 0
+AreInTurn journals = (machine : Machine) → IsNonDecreasingBy key_of (journals machine)
+
+-- an entry before the first one in the list that it isn't after
+abbrev pub put : Noted → List Noted → List Noted
+put x [] = x ∷ []
+put x (y ∷ ys) = if nat_le (key_at x) (key_at y) then x ∷ y ∷ ys else y ∷ put x ys
+
+-- the entries in the order
+abbrev pub in_order : List Noted → List Noted
+in_order [] = []
+in_order (x ∷ xs) = put x (in_order xs)

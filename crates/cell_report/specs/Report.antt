@@ -1,5 +1,5 @@
 -- The report of a run.
-use Rattle.std.specs.Prelude.{ℕ, ℤ, List, [], ◌∷◌, ◌++◌, codes, map, take, Option, Some, None}
+use Rattle.std.specs.Prelude.{ℕ, ℤ, List, [], ◌∷◌, ◌++◌, codes, map, Option, Some, None}
 use Rattle.std.specs.Fmt.{decimal, signed_decimal}
 use Rattle.std.specs.List.{concat, flat_map, join_with_byte, zip}
 use Rattle.cell_types.specs.declared.machine.Machine.{Machine}
@@ -23,6 +23,9 @@ spaced words = join_with_byte 32 words
 abbrev pub places_word : ModelState → List ℕ
 places_word s = concat (map (λ p. flag_word (is_full s p)) all_places)
 
+abbrev pub version_line : List ℕ
+version_line = codes "version 2"
+
 abbrev pub start_line : ModelState → List ℕ
 start_line s = spaced (codes "start" ∷ places_word s ∷ decimal s.stamp ∷ [])
 
@@ -33,10 +36,10 @@ machine_line m n s =
     ∷ codes "read" ∷ decimal n.read ∷ codes "refused" ∷ decimal n.refused
     ∷ codes "busy" ∷ decimal n.busy ∷ status_word s ∷ [])
 
--- each machine that works: all but the watch, which is the last
+-- each machine
 abbrev pub machine_lines : List Counts → List Status → List (List ℕ)
 machine_lines counts status =
-    map (λ (m, row). machine_line m row.0 row.1) (take 6 (zip all_machines (zip counts status)))
+    map (λ (m, row). machine_line m row.0 row.1) (zip all_machines (zip counts status))
 
 -- the state of a zone
 abbrev pub zone_line : ModelState → Zone → List ℕ
@@ -59,8 +62,11 @@ axis_words (name, position) = name ∷ signed_decimal position ∷ []
 abbrev pub axes_line : List ℤ → List ℕ
 axes_line axes = spaced (codes "axes" ∷ flat_map axis_words (zip axis_names axes))
 
+-- the stamp, how many plates there are, and whether the cell is stopped
 abbrev pub stamp_line : ModelState → List ℕ
-stamp_line s = spaced (codes "stamp" ∷ decimal s.stamp ∷ codes "plates" ∷ decimal (plates_of s) ∷ [])
+stamp_line s =
+    spaced (codes "stamp" ∷ decimal s.stamp ∷ codes "plates" ∷ decimal (plates_of s)
+    ∷ codes "stopped" ∷ flag_word s.stopped ∷ [])
 
 -- the fault that the audit found
 abbrev pub audit_fault_text : AuditFault → List ℕ
@@ -84,7 +90,7 @@ end_lines s = map (zone_line s) all_zones ++ places_line s ∷ []
 
 abbrev pub report_lines : RunRecord → Option AuditFault → List (List ℕ)
 report_lines r audit =
-    start_line r.start ∷ []
+    version_line ∷ start_line r.start ∷ []
     ++ machine_lines r.counts r.status
     ++ where_known r.end end_lines
     ++ axes_line r.axes ∷ []

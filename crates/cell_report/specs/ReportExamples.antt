@@ -1,4 +1,4 @@
--- Whole reports of two runs, in which no number and no word is the same as its neighbour, and the line of each audit.
+-- Whole reports of runs, in which no number and no word is the same as its neighbour, and the line of each audit.
 use Rattle.std.specs.Prelude.{◌≡◌, ℕ, pos, negsuc, Bool, true, false, List, [], ◌∷◌, ◌++◌, codes, Option, Some, None}
 use Rattle.cell_types.specs.declared.machine.Machine.{Machine}
 use Rattle.cell_types.specs.declared.machine.Machine.TheVariants.{Feed, Table, Robot, Crane}
@@ -27,15 +27,15 @@ abbrev pub first : ModelState
 first =
     model_state (everywhere free_zone) (place_set true false true false false true false true false true) 1048570 false
 
--- six at the end, two of them in zones
-abbrev pub last : ModelState
-last =
+-- six at the end, two of them in zones, and the cell is stopped or not
+abbrev pub last : Bool → ModelState
+last stopped =
     model_state
     (zone_map (zone (Some Table) false Moving) (zone (Some Robot) true OpenOut) (zone None false OpenIn)
     (zone (Some Robot) false OpenIn) (zone (Some Crane) true OpenOut) (zone (Some Feed) false Closed))
-    (place_set true true false false true false true false false false) 1048575 false
+    (place_set true true false false true false true false false false) 1048575 stopped
 
--- a run with the counts of seven machines, the watch's last
+-- a run with the counts of seven machines
 abbrev pub run : Option ModelState → Journals → RunRecord
 run end journals = record {
   start = first;
@@ -50,13 +50,15 @@ run end journals = record {
 
 abbrev pub start_and_machines : List ℕ
 start_and_machines =
-    codes "start 1010010101 1048570\n"
+    codes "version 2\n"
+    ++ codes "start 1010010101 1048570\n"
     ++ codes "feed turns 10 done 11 read 12 refused 13 busy 14 worn\n"
     ++ codes "table turns 20 done 21 read 22 refused 23 busy 24 sensor\n"
     ++ codes "robot turns 30 done 31 read 32 refused 33 busy 34 refused\n"
     ++ codes "press turns 40 done 41 read 42 refused 43 busy 44 memory\n"
     ++ codes "deposit turns 50 done 51 read 52 refused 53 busy 54 gatelimit\n"
     ++ codes "crane turns 60 done 61 read 62 refused 63 busy 18446744073709551615 ok\n"
+    ++ codes "watch turns 70 done 71 read 72 refused 73 busy 74 worn\n"
 
 abbrev pub zones_and_places : List ℕ
 zones_and_places =
@@ -72,8 +74,12 @@ abbrev pub axes : List ℕ
 axes = codes "axes press 0 arm1 1 arm2 20 rotation 300 lift -4 turn 500 crane 2000 gripper -2147483648\n"
 
 pub record ReportsAreMet : Type 0 where
-  pub with_end : (journals : Journals) → report_text (run (Some last) journals) None
-      ≡ start_and_machines ++ zones_and_places ++ axes ++ codes "stamp 1048575 plates 6\n" ++ codes "audit ok\n"
+  pub with_end : (journals : Journals) → report_text (run (Some (last false)) journals) None
+      ≡ start_and_machines ++ zones_and_places ++ axes
+      ++ codes "stamp 1048575 plates 6 stopped 0\n" ++ codes "audit ok\n"
+  pub with_stopped_end : (journals : Journals) → report_text (run (Some (last true)) journals) None
+      ≡ start_and_machines ++ zones_and_places ++ axes
+      ++ codes "stamp 1048575 plates 6 stopped 1\n" ++ codes "audit ok\n"
   pub without_end : (journals : Journals)
       → report_text (run None journals) (Some (Gap 17)) ≡ start_and_machines ++ axes ++ codes "audit gap 17\n"
   pub ok : audit_line None ≡ codes "audit ok"

@@ -1,22 +1,24 @@
 //! The audit: whether one legal history explains the journals of the machines.
-ghost use Rattle.std.specs.Prelude.{◌≡◌, ◌≢◌, MatchResult, IfErr, IfOk, max};
+ghost use Rattle.std.specs.Prelude.{◌≡◌, ◌≢◌, ◌≤◌, MatchResult, IfErr, IfOk, length};
 ghost use Rattle.std.specs.Option.{option_copied};
 ghost use Rattle.cell_types.specs.Journals.{journal_of};
 ghost use Rattle.cell_rules.specs.Laws.{LawfulThroughout};
-ghost use Rattle.cell_report.specs.Audited.{IsAudited, HasNoHistory};
+ghost use Rattle.cell_rules.specs.Audited.{IsAudited, HasNoHistory};
 ghost use Rattle.cell_report.specs.Order.{all_noted, greatest, AreInOrder};
-ghost use Rattle.cell_report.specs.AuditFaults.{IsFault, IsStampFault, HasStamps, end_stamp};
+ghost use Rattle.cell_report.specs.AuditFaults.{IsFault, IsStampFault, end_stamp};
+ghost use Rattle.cell_report.specs.Traces.{IsTraceOf, IsStampedTrace};
 ghost use Rattle.cell_report.specs.declared.audit_faults.AuditFault.TheVariants.{Memory};
 
 use crate::audit_faults::AuditFault;
-use crate::ordered::{Noted, in_order};
-use crate::retraced::retrace;
+use crate::merged::{Merge, are_in_turn};
+use crate::ordered::{Sorted, all_sorted};
 use crate::same::is_same_state;
-use crate::stamps::{least_gap, least_twice, stamps_done, top};
+use crate::stamps::{least_gap, least_twice};
+use crate::traces::Trace;
 use cell_rules::State;
 use cell_rules::laws::lawful_throughout;
 use cell_types::{Event, Journals};
-use std::alloc::Global;
+use std::alloc::{AllocError, Global};
 
 fn stamp_of_end(end: Option<&State>) -> u32
     ensures { result ≡ end_stamp (option_copied end.entry) }
@@ -24,30 +26,59 @@ fn stamp_of_end(end: Option<&State>) -> u32
     end.map_or(0, |end| end.stamp())
 }
 
-/// All entries in the order of an audit, if each stamp after the start's, up to the greatest,
-/// belongs to exactly one Done entry.
-fn checked_order(
+// A number of entries that isn't greater than that of all journals: the same, unless it overflows.
+fn room(journals: &Journals) -> usize
+    ensures { result ≤ length (all_noted (journal_of journals.now)) }
+{
+    journals
+        .feed
+        .len()
+        .saturating_add(journals.table.len())
+        .saturating_add(journals.robot.len())
+        .saturating_add(journals.press.len())
+        .saturating_add(journals.deposit.len())
+        .saturating_add(journals.crane.len())
+        .saturating_add(journals.watch.len())
+}
+
+/// What all entries come to. Journals that are each in turn are merged, others sorted.
+fn trace_of(
     alloc: Global,
     journals: &Journals,
-    start: u32,
-    end: u32,
-) -> Result<Vec<Noted>, AuditFault>
-    ensures { let all = all_noted (journal_of journals.now) in
-        let top = greatest (max start end) all in
-        MatchResult result
-        (λ ordered. HasStamps start top all ordered.items)
-        (λ fault. IsStampFault start top all fault) }
+    start: &State,
+    least: u32,
+) -> Result<Trace, AllocError>
+    ensures { IfOk result (IsTraceOf start.now least (all_noted (journal_of journals.now))) }
 {
-    let ordered = in_order(alloc, journals)?;
-    let stamps = stamps_done(alloc, &ordered)?;
-    if let Some(stamp) = least_twice(&stamps) {
+    let trace = Trace::new(alloc, start, least, room(journals))?;
+    if are_in_turn(journals) {
+        return trace.follow(start, Merge::new(journals));
+    }
+    let sorted = all_sorted(alloc, journals)?;
+    trace.follow(start, Sorted { rest: &sorted })
+}
+
+/// What all entries come to, if each stamp after the start's, up to the greatest, belongs to
+/// exactly one Done entry.
+fn checked_trace(
+    alloc: Global,
+    journals: &Journals,
+    start: &State,
+    least: u32,
+) -> Result<Trace, AuditFault>
+    ensures { let all = all_noted (journal_of journals.now) in
+        MatchResult result
+        (λ trace. IsStampedTrace start.now least all trace)
+        (λ fault. IsStampFault start.now.stamp (greatest least all) all fault) }
+{
+    let trace = trace_of(alloc, journals, start, least)?;
+    if let Some(stamp) = least_twice(&trace.stamps) {
         return Err(AuditFault::Twice(stamp));
     }
-    let top = top(&ordered, start.max(end));
-    if let Some(stamp) = least_gap(&stamps, start, top) {
+    if let Some(stamp) = least_gap(&trace.stamps, start.stamp(), trace.top) {
         return Err(AuditFault::Gap(stamp));
     }
-    Ok(ordered)
+    Ok(trace)
 }
 
 fn audit_in_order(
@@ -63,20 +94,24 @@ fn audit_in_order(
     ensures fault { IfErr result
         (λ fault. IsFault start.now (journal_of journals.now) (option_copied end.entry) fault) }
 {
-    let ordered = checked_order(alloc, journals, start.stamp(), stamp_of_end(end))?;
-    let (events, reached) = retrace(alloc, &ordered, start)?;
+    let least = start.stamp().max(stamp_of_end(end));
+    let trace = checked_trace(alloc, journals, start, least)?;
+    if let Some(stamp) = trace.misfit {
+        return Err(AuditFault::Differs(stamp));
+    }
     if let Some(end) = end {
-        if !is_same_state(&reached, end) {
+        if !is_same_state(&trace.state, end) {
             return Err(AuditFault::End);
         }
     }
-    Ok(events)
+    Ok(trace.events)
 }
 
 /// Finds the legal history that explains the journals: it begins at the start, each journal is what
 /// its machine noted of it, and it ends at the end, if one is given. Its events are in the order of
 /// their stamps. At one stamp the Done event is first; the others are by machine, and then in the
-/// order of the journal. The cost for n entries is about n log n.
+/// order of the journal. The cost is linear in the number of entries. If an entry isn't in turn, they
+/// are sorted, and the cost for n entries is about n log n.
 ///
 /// # Errors
 ///

@@ -18,8 +18,8 @@ pub fn audits_are_met()
     ensures fault { FaultExamples }
 {}
 
-/// Examples: two runs with their whole reports, one with an end and one without, and the line of
-/// each audit.
+/// Examples: runs with their whole reports, two with an end, of which one is stopped, and one
+/// without, and the line of each audit.
 pub fn reports_are_met()
     ensures { ReportsAreMet }
 {}

@@ -5,11 +5,13 @@
 pub mod audit_faults;
 pub mod audits;
 pub mod laws;
+mod merged;
 mod ordered;
 pub mod report;
-mod retraced;
+mod rests;
 mod same;
 mod stamps;
+mod traces;
 
 pub use audit_faults::AuditFault;
 pub use audits::audit;

@@ -1,15 +1,20 @@
 //! The entries of all journals, in the order of an audit.
-ghost use Rattle.std.specs.Prelude.{◌≡◌, ◌++◌, ◌↔◌, IfOk, [], IsTrue};
+ghost use Rattle.std.specs.Prelude.{◌≡◌, ◌<◌, ◌++◌, ◌↔◌, IfOk, [], IsTrue};
 ghost use Rattle.cell_types.specs.Journals.{journal_of};
 ghost use Rattle.cell_report.specs.Order as order;
-ghost use Rattle.cell_report.specs.AuditFaults.{IsTooEarly};
+ghost use Rattle.cell_rules.specs.ModelState.{ModelState};
+ghost use Rattle.cell_rules.specs.Reply.{reply};
+ghost use Rattle.cell_report.specs.AuditFaults.{IsTooEarly, Fits};
 
+use crate::same::is_same_answer;
+use cell_rules::State;
 use cell_types::{Answer, Entry, Event, Journals, Machine};
 use std::alloc::{AllocError, Global};
 
 /// The key of the order: the stamp, and at one stamp Done before the other answers.
-fn key(entry: &Entry) -> u64
-    ensures { result ≡ order.key_of entry.now }
+pub fn key(entry: &Entry) -> u64
+    ensures key { result ≡ order.key_of entry.now }
+    ensures below { result < u64.MAX }
 {
     let rank = match entry.answer {
         Answer::Done => 0,
@@ -50,6 +55,16 @@ impl Noted {
         } else {
             self.entry.stamp < start
         }
+    }
+
+    /// Whether the entry is in turn, isn't too early after a start, and has this answer.
+    pub fn fits(&self, start: &State, answer: &Answer) -> bool
+        ensures { (now : ModelState) → answer.now ≡ reply now self.now.machine self.now.entry.call
+            → (IsTrue result ↔ Fits start.now now self.now) }
+    {
+        self.in_turn
+            && !self.is_too_early(start.stamp())
+            && is_same_answer(&self.entry.answer, answer)
     }
 
     /// The event that the machine noted.
@@ -95,12 +110,43 @@ fn all_noted(alloc: Global, journals: &Journals) -> Result<Vec<Noted>, AllocErro
     Ok(all)
 }
 
-/// All entries in the order of an audit. The cost for n entries is about n log n.
-pub fn in_order(alloc: Global, journals: &Journals) -> Result<Vec<Noted>, AllocError>
+/// Entries that come one by one.
+pub trait Entries: Copy {
+    ghost use Rattle.std.specs.Prelude.{◌≡◌, ◌∷◌, [], List, MatchOption};
+    ghost use Rattle.cell_report.specs.declared.ordered.Noted.{Noted};
+
+    // The entries that are still to come.
+    ghost rest: { Self → List Noted };
+
+    /// The next entry, or `None` after the last.
+    fn next_noted(&mut self) -> Option<Noted>
+        ensures { MatchOption result (rest self.old ≡ [])
+            (λ noted. rest self.old ≡ noted ∷ rest self.new) };
+}
+
+/// Sorts all entries into the order of an audit. The cost for n entries is about n log n.
+pub fn all_sorted(alloc: Global, journals: &Journals) -> Result<Vec<Noted>, AllocError>
     ensures { IfOk result
-        (λ ordered. order.InOrder (order.all_noted (journal_of journals.now)) ordered.items) }
+        (λ sorted. order.InOrder (order.all_noted (journal_of journals.now)) sorted.items) }
 {
-    let mut ordered = all_noted(alloc, journals)?;
-    ordered.sort_by_key(|noted| noted.key())?;
-    Ok(ordered)
+    let mut sorted = all_noted(alloc, journals)?;
+    sorted.sort_by_key(|noted| noted.key())?;
+    Ok(sorted)
+}
+
+/// Sorted entries, from the first to the last.
+#[derive(Clone, Copy)]
+pub struct Sorted<'a> {
+    /// Those that are still to come.
+    pub rest: &'a [Noted],
+}
+
+impl Entries for Sorted<'_> {
+    ghost rest = { λ sorted. sorted.rest.now };
+
+    fn next_noted(&mut self) -> Option<Noted> {
+        let (first, others) = self.rest.split_first()?;
+        self.rest = others;
+        Some(*first)
+    }
 }

@@ -5,7 +5,8 @@ ghost use Rattle.cell_types.specs.Everything.{all_zones};
 ghost use Rattle.cell_text.specs.Output.{WrotePrefix};
 ghost use Rattle.cell_report.specs.Report.{audit_line, axes_line, axis_words, end_lines, machine_line};
 ghost use Rattle.cell_report.specs.Report.{machine_lines, places_word, report_text, spaced, stamp_line};
-ghost use Rattle.cell_report.specs.Report.{start_line, text_of_lines, where_known, zone_line};
+ghost use Rattle.cell_report.specs.Report.{start_line, text_of_lines, version_line, where_known};
+ghost use Rattle.cell_report.specs.Report.{zone_line};
 
 use crate::audit_faults::AuditFault;
 use cell_notes::{Counts, RunRecord, Status};
@@ -14,9 +15,6 @@ use cell_text::{Page, WriteFault, write_text};
 use cell_types::{Machine, Place, Zone, owner_word_of};
 use std::fmt;
 use std::io::Write;
-
-/// How many machines work: all but the watch.
-const AT_WORK: usize = 6;
 
 /// The names of the axes, in the order of a record of a run.
 const AXIS_NAMES: [&str; 8] = [
@@ -51,6 +49,7 @@ fn report_page(run: &RunRecord, audit: Option<AuditFault>) -> Result<Page, fmt::
     ensures { IfOk result (λ page. page ≡ report_text run.now audit) }
 {
     let mut page = Page::new();
+    push_version(&mut page)?;
     push_start(&mut page, &run.start)?;
     push_machines(&mut page, &run.counts, &run.status)?;
     push_end(&mut page, run.end)?;
@@ -58,6 +57,13 @@ fn report_page(run: &RunRecord, audit: Option<AuditFault>) -> Result<Page, fmt::
     push_stamp(&mut page, run.end)?;
     push_audit(&mut page, audit)?;
     Ok(page)
+}
+
+/// Adds the line of the report's version.
+fn push_version(page: &mut Page) -> fmt::Result
+    ensures { OnOk result (page.new ≡ page.old ++ (version_line ++ codes "\n")) }
+{
+    writeln!(page, "version 2")
 }
 
 /// Adds the line of the start.
@@ -81,12 +87,12 @@ fn push_places(page: &mut Page, state: &State) -> fmt::Result
     Ok(())
 }
 
-/// Adds the line of each machine that works.
+/// Adds the line of each machine.
 fn push_machines(page: &mut Page, counts: &[Counts; 7], status: &[Status; 7]) -> fmt::Result
     ensures { OnOk result
         (page.new ≡ page.old ++ text_of_lines (machine_lines counts.now status.now)) }
 {
-    'machines: for (index, machine) in Machine::ALL[..AT_WORK].iter().enumerate() {
+    'machines: for (index, machine) in Machine::ALL.iter().enumerate() {
         push_machine(page, *machine, &counts[index], status[index])?;
     }
     Ok(())
@@ -165,7 +171,7 @@ fn push_axis(page: &mut Page, word: &str, position: i32) -> fmt::Result
     write!(page, " {word} {position}")
 }
 
-/// Adds the line of the stamp and the number of plates at the end, if the end is known.
+/// Adds the line of the stamp, the plates and whether the cell is stopped, if the end is known.
 fn push_stamp(page: &mut Page, end: Option<State>) -> fmt::Result
     ensures { OnOk result
         (page.new ≡ page.old ++ text_of_lines (where_known end (λ s. stamp_line s ∷ []))) }
@@ -175,7 +181,8 @@ fn push_stamp(page: &mut Page, end: Option<State>) -> fmt::Result
     };
     let stamp = end.stamp();
     let plates = end.plates();
-    writeln!(page, "stamp {stamp} plates {plates}")
+    let stopped = if end.stopped() { "1" } else { "0" };
+    writeln!(page, "stamp {stamp} plates {plates} stopped {stopped}")
 }
 
 /// Adds the line of the audit.

@@ -1,24 +1,7 @@
 //! The stamps of the Done entries: which one occurs twice, and which one is missing.
-ghost use Rattle.std.specs.Prelude.{◌≡◌, ◌≤◌, All, IfOk, MatchOption};
+ghost use Rattle.std.specs.Prelude.{◌≡◌, ◌≤◌, All, MatchOption};
 ghost use Rattle.std.specs.List.Sorted.{IsNonDecreasing};
-ghost use Rattle.cell_report.specs.Order.{done_stamps, greatest};
 ghost use Rattle.cell_report.specs.AuditFaults.{times, IsTwice, HasNoTwice, IsGap, HasNoGap};
-
-use crate::ordered::Noted;
-use std::alloc::{AllocError, Global};
-
-/// The stamps of the Done entries.
-pub fn stamps_done(alloc: Global, ordered: &[Noted]) -> Result<Vec<u32>, AllocError>
-    ensures { IfOk result (λ stamps. stamps.items ≡ done_stamps ordered.now) }
-{
-    let mut stamps = Vec::new(alloc);
-    for noted in ordered {
-        if noted.is_done() {
-            stamps.push(noted.entry.stamp)?;
-        }
-    }
-    Ok(stamps)
-}
 
 /// The least stamp that occurs twice in a non-decreasing list.
 pub fn least_twice(stamps: &[u32]) -> Option<u32>
@@ -50,15 +33,4 @@ pub fn least_gap(stamps: &[u32], start: u32, top: u32) -> Option<u32>
         last = last.max(*stamp);
     }
     if last < top { Some(last + 1) } else { None }
-}
-
-/// The greatest of a stamp and those of the entries.
-pub fn top(ordered: &[Noted], least: u32) -> u32
-    ensures { result ≡ greatest least ordered.now }
-{
-    let mut top = least;
-    for noted in ordered {
-        top = top.max(noted.entry.stamp);
-    }
-    top
 }

@@ -41,5 +41,6 @@ pub mod Owners
 pub mod Quiet
 pub mod Notes
 pub mod SeenLemmas
+pub mod Told
 pub mod OwnSide
 pub mod ProgramLemmas

@@ -17,6 +17,7 @@ pub mod Start
 pub mod StartDigits
 pub mod TableLaws
 pub mod Journal
+pub mod Audited
 pub mod Seen
 pub mod Stored
 pub mod Benches

@@ -45,8 +45,11 @@ abbrev pub not_party : Machine → Zone → Option Refusal
 not_party m z = then_some (not (is_party m z)) NotParty
 
 -- the zone is the caller's already
+abbrev pub mine_by : Option Machine → Machine → Option Refusal
+mine_by owner m = then_some (is_owned_by owner m) AlreadyMine
+
 abbrev pub already_mine : ModelState → Machine → Zone → Option Refusal
-already_mine s m z = then_some (owns s m z) AlreadyMine
+already_mine s m z = mine_by (owner_of s z) m
 
 -- another machine owns it
 abbrev pub held_by : Option Machine → Machine → Option Refusal

@@ -21,7 +21,8 @@ use Rattle.cell_rules.specs.ZoneMap.{ZoneMap, put_zone, map_zones}
 use Rattle.cell_rules.specs.PlaceSet.{PlaceSet, insert_place, remove_place}
 use Rattle.cell_rules.specs.ModelState.{ModelState, zone_at}
 use Rattle.cell_rules.specs.Refusals.{claim_refusal, give_refusal, yield_refusal, take_refusal, release_refusal}
-use Rattle.cell_rules.specs.Refusals.{pose_refusal, advance_refusal, stop_refusal, resume_refusal, transfer_given, posture_at}
+use Rattle.cell_rules.specs.Refusals.{pose_refusal, advance_refusal, transfer_given, posture_at}
+use Rattle.cell_rules.specs.Refusals.{stop_refusal, resume_refusal}
 
 -- the first refusal of a call
 abbrev pub refusal : ModelState → Machine → Call → Option Refusal

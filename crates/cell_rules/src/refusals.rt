@@ -52,27 +52,27 @@ fn not_watch(machine: Machine) -> Option<Refusal>
     (machine != Machine::Watch).then_some(Refusal::NotParty)
 }
 
+fn already_mine(owner: Option<Machine>, machine: Machine) -> Option<Refusal>
+    ensures { result ≡ refusals.mine_by owner machine }
+{
+    (owner == Some(machine)).then_some(Refusal::AlreadyMine)
+}
+
+fn held_refusal(owner: Option<Machine>, machine: Machine) -> Option<Refusal>
+    ensures { result ≡ refusals.held_by owner machine }
+{
+    match owner {
+        Some(owner) if owner != machine => Some(Refusal::Held(owner)),
+        _ => None,
+    }
+}
+
 impl State {
     /// Whether a machine owns a zone.
     pub(crate) fn owns(&self, machine: Machine, zone: Zone) -> bool
         ensures { result ≡ refusals.owns self.now machine zone }
     {
         self.owner(zone) == Some(machine)
-    }
-
-    fn already_mine(&self, machine: Machine, zone: Zone) -> Option<Refusal>
-        ensures { result ≡ refusals.already_mine self.now machine zone }
-    {
-        self.owns(machine, zone).then_some(Refusal::AlreadyMine)
-    }
-
-    fn held_refusal(&self, machine: Machine, zone: Zone) -> Option<Refusal>
-        ensures { result ≡ refusals.held self.now machine zone }
-    {
-        match self.owner(zone) {
-            Some(owner) if owner != machine => Some(Refusal::Held(owner)),
-            _ => None,
-        }
     }
 
     fn shut_to_guest(&self, machine: Machine, zone: Zone) -> Option<Refusal>
@@ -179,11 +179,12 @@ impl State {
     pub(crate) fn claim_refusal(&self, machine: Machine, zone: Zone) -> Option<Refusal>
         ensures { result ≡ refusals.claim_refusal self.now machine zone }
     {
+        let owner = self.owner(zone);
         first!(
             not_party(machine, zone),
             self.while_stopped(),
-            self.already_mine(machine, zone),
-            self.held_refusal(machine, zone),
+            already_mine(owner, machine),
+            held_refusal(owner, machine),
             self.shut_to_guest(machine, zone),
             self.worn_refusal()
         )

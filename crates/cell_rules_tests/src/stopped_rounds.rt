@@ -81,8 +81,8 @@ fn is_next_right(bench: &mut Bench, count: usize) -> bool {
     }
 }
 
-/// Whether the bench is stopped and resumed after so many calls of the round, and all is right
-/// between the two.
+/// Stops the bench after `count` calls of the round, tries every call, and resumes it. Whether each
+/// answer was right.
 fn is_stopped_well(bench: &mut Bench, count: usize) -> bool {
     let open = bench.state();
     let stops = asked(bench, Machine::Watch, Call::Stop) == Some(Answer::Done);

@@ -212,7 +212,7 @@ const ROWS: &[Row] = &[
         press_noted: 0,
         stays: true,
     },
-    // turns of the watch leave everything as it was
+    // the watch stops the cell and resumes it, and changes nothing else
     Row {
         start: b"0010000000",
         start_stamp: 3,
@@ -224,16 +224,99 @@ const ROWS: &[Row] = &[
             (3, [0; 5]),
             (4, [0; 5]),
             (5, [0; 5]),
-            (6, [0; 5]),
+            (6, [2, 2, 0, 0, 0]),
         ],
         status: FINE,
         zones: &[],
         places: b"0010000000",
         plates: 1,
-        stamp: 3,
+        stamp: 5,
         axes: &[],
         press_noted: 0,
-        stays: true,
+        stays: false,
+    },
+    // between the two the press is refused its claim
+    Row {
+        start: b"0000000000",
+        start_stamp: 0,
+        schedule: &[
+            (Machine::Watch, false, 1),
+            (Machine::Press, false, 1),
+            (Machine::Watch, false, 1),
+            (Machine::Press, false, 1),
+        ],
+        did: &[(3, [2, 1, 0, 1, 0]), (6, [2, 2, 0, 0, 0])],
+        status: FINE,
+        zones: &[(Zone::Z3, Some(Machine::Press), false, Posture::Closed)],
+        places: b"0000000000",
+        plates: 0,
+        stamp: 3,
+        axes: &[(0, 1000)],
+        press_noted: 2,
+        stays: false,
+    },
+    // a press that moves when the cell is stopped arrives, and lets the robot in
+    Row {
+        start: b"0000000000",
+        start_stamp: 0,
+        schedule: &[
+            (Machine::Press, false, 3),
+            (Machine::Watch, false, 1),
+            (Machine::Press, false, 28),
+        ],
+        did: &[(3, [31, 4, 0, 1, 0]), (6, [1, 1, 0, 0, 0])],
+        status: FINE,
+        zones: &[(Zone::Z3, None, false, Posture::OpenIn)],
+        places: b"0000000000",
+        plates: 0,
+        stamp: 5,
+        axes: &[(0, 500)],
+        press_noted: 5,
+        stays: false,
+    },
+    // a busy turn of the watch is counted, and the next one stops the cell
+    Row {
+        start: b"0000000000",
+        start_stamp: 0,
+        schedule: &[
+            (Machine::Watch, true, 2),
+            (Machine::Watch, false, 1),
+            (Machine::Watch, true, 1),
+            (Machine::Crane, false, 1),
+            (Machine::Table, false, 1),
+        ],
+        did: &[(1, [1, 0, 0, 1, 0]), (6, [4, 1, 0, 0, 3])],
+        status: FINE,
+        zones: &[(Zone::Z1, None, false, Posture::Closed)],
+        places: b"0000000000",
+        plates: 0,
+        stamp: 1,
+        axes: &[],
+        press_noted: 0,
+        stays: false,
+    },
+    // a worn watch is stopped: its first call is the last that is done
+    Row {
+        start: b"0000000000",
+        start_stamp: 1_048_574,
+        schedule: &[(Machine::Watch, false, 3), (Machine::Press, false, 2)],
+        did: &[(3, [2, 0, 0, 2, 0]), (6, [2, 1, 0, 1, 0])],
+        status: [
+            Status::Fine,
+            Status::Fine,
+            Status::Fine,
+            Status::Fine,
+            Status::Fine,
+            Status::Fine,
+            Status::Worn,
+        ],
+        zones: &[],
+        places: b"0000000000",
+        plates: 0,
+        stamp: 1_048_575,
+        axes: &[],
+        press_noted: 2,
+        stays: false,
     },
 ];
 
@@ -355,14 +438,16 @@ fn busy_turns_stop_nobody(rt: HostRuntime) -> Result<(), Fail> {
     Ok(())
 }
 
-// Two turns of each machine.
-const TWICE: [Machine; 12] = [
+// Two turns of each machine. The watch stops the cell, and soon resumes.
+const TWICE: [Machine; 14] = [
     Machine::Feed,
     Machine::Table,
     Machine::Robot,
     Machine::Press,
     Machine::Deposit,
     Machine::Crane,
+    Machine::Watch,
+    Machine::Watch,
     Machine::Feed,
     Machine::Table,
     Machine::Robot,
@@ -372,14 +457,25 @@ const TWICE: [Machine; 12] = [
 ];
 
 // The done calls and the inquiries of each machine in two turns.
-const ASKED: [(u64, u64); 7] = [(2, 0), (2, 0), (0, 1), (2, 0), (2, 0), (0, 0), (0, 0)];
+const ASKED: [(u64, u64); 7] = [(2, 0), (2, 0), (0, 1), (2, 0), (2, 0), (0, 0), (2, 0)];
 
 // Whether each machine that is fine has asked all that it should, and each other machine stopped
-// for memory.
+// for memory. If the watch had no memory to resume, the others may be refused.
 fn lacks_but_memory(record: &RunRecord) -> bool {
+    let stays_stopped = record.end.is_some_and(|end| end.stopped());
     ASKED.iter().enumerate().all(|(machine, wanted)| {
-        let Counts { done, read, .. } = record.counts[machine];
-        let has_all = (done, read) == *wanted;
+        let Counts {
+            done,
+            read,
+            refused,
+            ..
+        } = record.counts[machine];
+        let answered = if stays_stopped {
+            done.saturating_add(refused)
+        } else {
+            done
+        };
+        let has_all = (answered, read) == *wanted;
         record.status[machine]
             == (if has_all {
                 Status::Fine

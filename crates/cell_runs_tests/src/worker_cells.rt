@@ -8,7 +8,7 @@ use cell_calib::{Calibration, Gauge, Points, PointsFault, line_at};
 use cell_notes::RunRecord;
 use cell_plant::Cell;
 use cell_rules::State;
-use cell_workers::{OpenGate, RunFault, run_workers};
+use cell_workers::{OpenGate, RunFault, run_cell};
 use std::alloc::Global;
 use std::sync::Wait;
 use std::test::Fail;
@@ -76,7 +76,7 @@ where
         Calibration::new(turn, points.turn),
         Calibration::new(gripper, points.arm),
     );
-    run_workers(
+    run_cell(
         rt,
         alloc,
         cell,

@@ -1,9 +1,10 @@
-//! Runs of six workers, and what their records say.
+//! Runs of six workers, and what their records say: of the machines, and of the interlock's end.
 
 use crate::worker_cells::{Limits, work};
 use cell_notes::{Counts, RunRecord, Status};
 use cell_report::audit;
 use cell_rules::{State, apply};
+use cell_types::{Machine, Posture, Zone};
 use cell_workers::RunFault;
 use std::alloc::Global;
 use std::test::Fail;
@@ -45,11 +46,27 @@ fn first_steps() -> [Counts; 7] {
     ]
 }
 
+// The zones after these steps: owners and postures.
+const ZONES_THEN: [(Zone, Option<Machine>, Posture); 6] = [
+    (Zone::Z1, Some(Machine::Table), Posture::Moving),
+    (Zone::Z2, Some(Machine::Table), Posture::Moving),
+    (Zone::Z3, Some(Machine::Press), Posture::Moving),
+    (Zone::Z4, Some(Machine::Deposit), Posture::OpenIn),
+    (Zone::Z5, Some(Machine::Deposit), Posture::Closed),
+    (Zone::Z6, None, Posture::OpenIn),
+];
+
+fn ends_so(end: &State) -> bool {
+    ZONES_THEN.iter().all(|(zone, owner, posture)| end.owner(*zone) == *owner
+        && end.posture(*zone) == *posture)
+        && (end.stamp(), end.plates(), end.stopped()) == (11, 0, false)
+}
+
 fn is_first_steps(record: &RunRecord) -> bool {
     record.counts == first_steps()
         && record.status == [Status::Fine; 7]
         && record.axes == [980, 0, 0, 300, 0, 0, 0, 900]
-        && record.end.is_none()
+        && record.end.is_some_and(|end| ends_so(&end))
 }
 
 #[test]
@@ -74,14 +91,29 @@ fn tries_have_limits(rt: HostRuntime) -> Result<(), Fail> {
     Ok(())
 }
 
-// The number of plates after the events of the journals.
-fn plates_told(alloc: Global, record: &RunRecord) -> Result<u32, Fail> {
-    let events = audit(alloc, &record.journals, &record.start, None)?;
+// Whether an audit finds a history from the start to the end, with the journals, and its events lead
+// to that end.
+fn is_audited(alloc: Global, record: &RunRecord) -> Result<bool, Fail> {
+    let events = audit(alloc, &record.journals, &record.start, record.end.as_ref())?;
     let mut state = record.start;
     for event in &events {
         apply(&mut state, event.machine, event.call);
     }
-    Ok(state.plates())
+    Ok(record.end == Some(state))
+}
+
+// In each of a thousand runs, in whichever order the workers go on.
+#[test]
+fn an_audit_finds_each_end(rt: HostRuntime) -> Result<(), Fail> {
+    for round in 0..1000u32 {
+        let limits = Limits {
+            tries: 2,
+            turns: round % 200,
+        };
+        let record = work(&rt, rt.alloc(), FOUR, limits)??;
+        assert!(rt; is_audited(rt.alloc(), &record)?, "{round}");
+    }
+    Ok(())
 }
 
 // No machine stops, and the number of plates stays the same.
@@ -98,7 +130,8 @@ fn long_runs_keep_their_plates(rt: HostRuntime) -> Result<(), Fail> {
             record.counts.map(|counts| counts.turns)[..6] == [20_000; 6],
             "{tries}"
         );
-        assert!(rt; plates_told(rt.alloc(), &record)? == 4, "{tries}");
+        assert!(rt; is_audited(rt.alloc(), &record)?, "{tries}");
+        assert!(rt; record.end.is_some_and(|end| end.plates() == 4), "{tries}");
     }
     Ok(())
 }

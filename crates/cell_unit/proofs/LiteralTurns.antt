@@ -111,55 +111,59 @@ module _ {S Sense Reading Act State : Type 0} (t : Steps S Sense Reading Act) (r
   }
 
 -- over a bench
-module _ {S Sense Reading Act State : Type 0} (t : Steps S Sense Reading Act) (rig : Rig State Sense Act) (old new : Desk) (before now : Side S State) (notes notes' : Notes) where
+module _ {S Sense Reading Act State : Type 0} (t : Steps S Sense Reading Act) (rig : Rig State Sense Act) (old new : Desk) (before now : Side S State) (notes notes' : Notes) (asked : TurnCall) where
   -- a turn that is taken, with its notes
-  taken : (busy : Bool) → before.stopped ≡ None → (k : UnitTurn t rig busy old new before now notes notes') → ActsAndMoves t rig (new.state ≡ old.state) (λ c r. Answers old.state t.machine busy c r new.state) before k.asked now
-  taken busy e k = subst (λ o. Leads (is_none o) t rig busy old.state before k.asked new.state now) e k.leads
+  taken : (busy : Bool) → before.stopped ≡ None → (k : UnitTurn t rig busy old new before now notes notes' asked) → ActsAndMoves t rig (new.state ≡ old.state) (λ c r. Answers old.state t.machine busy c r new.state) before asked now
+  taken busy e k = subst (λ o. Leads (is_none o) t rig busy old.state before asked new.state now) e k.leads
 
-  taken_noted : (busy : Bool) (a : TurnCall) → before.stopped ≡ None → (k : UnitTurn t rig busy old new before now notes notes') → k.asked ≡ a → notes' ≡ notes_with notes a
-  taken_noted busy a e k f = k.noted ∙ ap (λ o. if is_none o then notes_with notes k.asked else notes) e ∙ ap (notes_with notes) f
+  taken_noted : (busy : Bool) (a : TurnCall) → before.stopped ≡ None → (k : UnitTurn t rig busy old new before now notes notes' asked) → asked ≡ a → notes' ≡ notes_with notes a
+  taken_noted busy a e k f = k.noted ∙ ap (λ o. if is_none o then notes_with notes asked else notes) e ∙ ap (notes_with notes) f
 
-  seen_with : (busy : Bool) (a : TurnCall) (k : UnitTurn t rig busy old new before now notes notes') → k.asked ≡ a → new.history ≡ old.history ++ settled_in t.machine a
+  seen_with : (busy : Bool) (a : TurnCall) (k : UnitTurn t rig busy old new before now notes notes' asked) → asked ≡ a → new.history ≡ old.history ++ settled_in t.machine a
   seen_with busy a k f = k.history ∙ ap (λ x. old.history ++ settled_in t.machine x) f
 
-  came_free : (reading : Reading) (call : Call) (i : IsAsking t rig before reading call) (k : UnitTurn t rig false old new before now notes notes') (r : Result Reply LineFault) → k.asked ≡ Some (call, r) → now ≡ answered_side t rig before now k.asked call r
+  came_free : (reading : Reading) (call : Call) (i : IsAsking t rig before reading call) (k : UnitTurn t rig false old new before now notes notes' asked) (r : Result Reply LineFault) → asked ≡ Some (call, r) → now ≡ answered_side t rig before now asked call r
       → ((r ≡ Ok (Settled (reply old.state t.machine call) new.state.stamp)) × (new.state ≡ next old.state t.machine call)) ⊎ ((r ≡ Err line.Memory) × (new.state ≡ old.state))
-      → IsAnswered t.machine call old new notes notes' ⊎ IsRefusedMemory t rig call old new before now notes notes'
+      → IsAnswered t.machine call old new notes notes' asked ⊎ IsRefusedMemory t rig call old new before now notes notes' asked
   came_free reading call i k r e side (inl came) =
-      let asked : k.asked ≡ Some (call, Ok (Settled (reply old.state t.machine call) new.state.stamp)) = e ∙ ap (λ x. Some (call, x)) came.0 in
-      inl (record { opening = k.opening; state = came.1; history = seen_with false _ k asked; noted = taken_noted false _ i.runs k asked })
+      let told : asked ≡ Some (call, Ok (Settled (reply old.state t.machine call) new.state.stamp)) = e ∙ ap (λ x. Some (call, x)) came.0 in
+      inl (record { told = told; opening = k.opening; state = came.1; history = seen_with false _ k told; noted = taken_noted false _ i.runs k told })
   came_free reading call i k r e side (inr came) =
-      let asked : k.asked ≡ Some (call, Err line.Memory) = e ∙ ap (λ x. Some (call, x)) came.0 in
+      let told : asked ≡ Some (call, Err line.Memory) = e ∙ ap (λ x. Some (call, x)) came.0 in
       inr (record {
-        bench = record { opening = k.opening; state = came.1; history = seen_with false _ k asked ∙ append-nil old.history };
-        side = side ∙ ap (answered_side t rig before now k.asked call) came.0;
-        noted = taken_noted false _ i.runs k asked;
+        told = told;
+        bench = record { opening = k.opening; state = came.1; history = seen_with false _ k told ∙ append-nil old.history };
+        side = side ∙ ap (answered_side t rig before now asked call) came.0;
+        noted = taken_noted false _ i.runs k told;
       })
 
-  pub unit-rows : UnitRows t rig old new before now notes notes'
+  pub unit-rows : UnitRows t rig old new before now notes notes' asked
   unit-rows = record {
     stopped = λ f busy e k.
-        let led = subst (λ o. Leads (is_none o) t rig busy old.state before k.asked new.state now) e k.leads in
+        let led = subst (λ o. Leads (is_none o) t rig busy old.state before asked new.state now) e k.leads in
         record {
+          asks_nothing = led.asked_nothing;
           bench = record { opening = k.opening; state = led.same; history = seen_with busy None k led.asked_nothing ∙ append-nil old.history };
           side = led.stays;
-          noted = k.noted ∙ ap (λ o. if is_none o then notes_with notes k.asked else notes) e;
+          noted = k.noted ∙ ap (λ o. if is_none o then notes_with notes asked else notes) e;
         };
     busy = λ reading call i k.
-        let own = asked_end t rig before now k.asked (new.state ≡ old.state) (λ c r. Answers old.state t.machine true c r new.state) reading call i (taken true i.runs k) in
+        let own = asked_end t rig before now asked (new.state ≡ old.state) (λ c r. Answers old.state t.machine true c r new.state) reading call i (taken true i.runs k) in
         let came = busy_answer old.state new.state t.machine call own.0 own.1 in
-        let asked : k.asked ≡ Some (call, Ok (Busy 1 old.state.stamp)) = own.2 ∙ ap (λ r. Some (call, r)) came.0 in
+        let told : asked ≡ Some (call, Ok (Busy 1 old.state.stamp)) = own.2 ∙ ap (λ r. Some (call, r)) came.0 in
         record {
-          bench = record { opening = k.opening; state = came.1; history = seen_with true _ k asked ∙ append-nil old.history };
-          side = own.3 ∙ ap (answered_side t rig before now k.asked call) came.0;
-          noted = taken_noted true _ i.runs k asked;
+          told = told;
+          bench = record { opening = k.opening; state = came.1; history = seen_with true _ k told ∙ append-nil old.history };
+          side = own.3 ∙ ap (answered_side t rig before now asked call) came.0;
+          noted = taken_noted true _ i.runs k told;
         };
     asks = λ reading call i k.
-        let own = asked_end t rig before now k.asked (new.state ≡ old.state) (λ c r. Answers old.state t.machine false c r new.state) reading call i (taken false i.runs k) in
+        let own = asked_end t rig before now asked (new.state ≡ old.state) (λ c r. Answers old.state t.machine false c r new.state) reading call i (taken false i.runs k) in
         came_free reading call i k own.0 own.2 own.3 (free_answer old.state new.state t.machine call own.0 own.1);
     drives = λ reading act busy i k.
-        let own = drive_end t rig before now k.asked (new.state ≡ old.state) (λ c r. Answers old.state t.machine busy c r new.state) reading act i (taken busy i.runs k) in
+        let own = drive_end t rig before now asked (new.state ≡ old.state) (λ c r. Answers old.state t.machine busy c r new.state) reading act i (taken busy i.runs k) in
         record {
+          asks_nothing = own.1;
           bench = record { opening = k.opening; state = own.0; history = seen_with busy None k own.1 ∙ append-nil old.history };
           side = own.2;
           noted = taken_noted busy None i.runs k own.1;

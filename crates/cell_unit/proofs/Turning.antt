@@ -65,10 +65,9 @@ module _ {S Sense Reading Act State : Type 0} (t : Steps S Sense Reading Act) (r
 
   -- a turn that is taken
   pub taken_on : (notes notes' : Notes) → new.opening ≡ old.opening → DemandsHold t rig before asked now new.opening new.history → notes' ≡ notes_with notes asked
-      → UnitTurn t rig busy old new before now notes notes'
+      → UnitTurn t rig busy old new before now notes notes' asked
   taken_on notes notes' opening motor_demands noted =
       record {
-        asked = asked;
         leads = subst (λ b. Leads b t rig busy old.state before asked new.state now) (sym runs)
             (record {
               set = acts.set;
@@ -121,11 +120,11 @@ module _ {S Sense Reading Act State : Type 0} (t : Steps S Sense Reading Act) (r
   leads_still true busy z y before now asked k = record { set = k.set; acts = acts_still _ _ before k.set asked k.acts; moved = k.moved }
   leads_still false busy z y before now asked k = k
 
-  pub unit_turn_still : (busy : Bool) (old new : Desk) (before now : Side S State) (notes notes' : Notes) → UnitTurn t rig busy old new before now notes notes' → UnitTurn (with_senses t senses) rig busy old new before now notes notes'
-  unit_turn_still busy old new before now notes notes' k =
+  pub unit_turn_still : (busy : Bool) (old new : Desk) (before now : Side S State) (notes notes' : Notes) (asked : TurnCall)
+      → UnitTurn t rig busy old new before now notes notes' asked → UnitTurn (with_senses t senses) rig busy old new before now notes notes' asked
+  unit_turn_still busy old new before now notes notes' asked k =
       record {
-        asked = k.asked;
-        leads = leads_still (is_none before.stopped) busy old.state new.state before now k.asked k.leads;
+        leads = leads_still (is_none before.stopped) busy old.state new.state before now asked k.leads;
         opening = k.opening;
         history = k.history;
         motor_demands = λ e. let tells = k.motor_demands e in record { act = tells.act; told = tells.told; motor_demands = tells.motor_demands };

@@ -74,8 +74,10 @@ pub record SideRows {S Sense Reading Act State : Type 0} (t : Steps S Sense Read
       → (asked ≡ Some (call, Ok (Settled (answer.Shown owner flag posture) stamp))) × (now ≡ comes_to rig (t.after_inquiry before.progress owner flag posture) None before.part (t.rest before.progress))
   pub waits : (reading : Reading) (call : Call) (r : Refusal) (stamp : ℕ) → t.stays_on before.progress r ≡ true → IsAsking t rig before reading call → Answered t rig before (Ok (Settled (answer.Refused r) stamp)) asked now
       → (asked ≡ Some (call, Ok (Settled (answer.Refused r) stamp))) × (now ≡ comes_to rig before.progress None before.part (t.rest before.progress))
-  pub while_stopped : (reading : Reading) (call : Call) (stamp : ℕ) → IsAsking t rig before reading call → Answered t rig before (Ok (Settled (answer.Refused Stopped) stamp)) asked now
-      → (asked ≡ Some (call, Ok (Settled (answer.Refused Stopped) stamp))) × (now ≡ comes_to rig before.progress None before.part (t.rest before.progress))
+  pub while_stopped : (reading : Reading) (call : Call) (stamp : ℕ) → IsAsking t rig before reading call
+      → Answered t rig before (Ok (Settled (answer.Refused Stopped) stamp)) asked now
+      → (asked ≡ Some (call, Ok (Settled (answer.Refused Stopped) stamp)))
+      × (now ≡ comes_to rig before.progress None before.part (t.rest before.progress))
   pub refused : (reading : Reading) (call : Call) (stamp : ℕ) → t.stays_on before.progress Jump ≡ false → IsAsking t rig before reading call → Answered t rig before (Ok (Settled (answer.Refused Jump) stamp)) asked now
       → (asked ≡ Some (call, Ok (Settled (answer.Refused Jump) stamp))) × (now ≡ comes_to rig before.progress (Some (fault.Refused Jump)) before.part (t.rest before.progress))
   pub worn : (reading : Reading) (call : Call) (stamp : ℕ) → t.stays_on before.progress NoStamp ≡ false → IsAsking t rig before reading call → Answered t rig before (Ok (Settled (answer.Refused NoStamp) stamp)) asked now
@@ -101,36 +103,41 @@ pub record BenchStays (old new : Desk) : Type 0 where
   pub history : new.history ≡ old.history
 
 -- the call has its answer by the state; or it is out of memory
-pub record IsAnswered (m : Machine) (call : Call) (old new : Desk) (notes notes' : Notes) : Type 0 where
+pub record IsAnswered (m : Machine) (call : Call) (old new : Desk) (notes notes' : Notes) (asked : TurnCall) : Type 0 where
+  pub told : asked ≡ Some (call, Ok (Settled (reply old.state m call) new.state.stamp))
   pub opening : new.opening ≡ old.opening
   pub state : new.state ≡ next old.state m call
   pub history : new.history ≡ old.history ++ event m call (reply old.state m call) ∷ []
   pub noted : notes' ≡ notes_with notes (Some (call, Ok (Settled (reply old.state m call) new.state.stamp)))
 
-pub record IsRefusedMemory {S Sense Reading Act State : Type 0} (t : Steps S Sense Reading Act) (rig : Rig State Sense Act) (call : Call) (old new : Desk) (before now : Side S State) (notes notes' : Notes) : Type 0 where
+pub record IsRefusedMemory {S Sense Reading Act State : Type 0} (t : Steps S Sense Reading Act) (rig : Rig State Sense Act) (call : Call) (old new : Desk) (before now : Side S State) (notes notes' : Notes) (asked : TurnCall) : Type 0 where
+  pub told : asked ≡ Some (call, Err line.Memory)
   pub bench : BenchStays old new
   pub side : now ≡ comes_to rig before.progress (Some fault.Memory) before.part (t.rest before.progress)
   pub noted : notes' ≡ notes_with notes (Some (call, Err line.Memory))
 
-pub record PassedOver {S State : Type 0} (old new : Desk) (before now : Side S State) (notes notes' : Notes) : Type 0 where
+pub record PassedOver {S State : Type 0} (old new : Desk) (before now : Side S State) (notes notes' : Notes) (asked : TurnCall) : Type 0 where
+  pub asks_nothing : asked ≡ None
   pub bench : BenchStays old new
   pub side : now ≡ before
   pub noted : notes' ≡ notes
 
-pub record FindsBusy {S Sense Reading Act State : Type 0} (t : Steps S Sense Reading Act) (rig : Rig State Sense Act) (call : Call) (old new : Desk) (before now : Side S State) (notes notes' : Notes) : Type 0 where
+pub record FindsBusy {S Sense Reading Act State : Type 0} (t : Steps S Sense Reading Act) (rig : Rig State Sense Act) (call : Call) (old new : Desk) (before now : Side S State) (notes notes' : Notes) (asked : TurnCall) : Type 0 where
+  pub told : asked ≡ Some (call, Ok (Busy 1 old.state.stamp))
   pub bench : BenchStays old new
   pub side : now ≡ comes_to rig before.progress None before.part (t.rest before.progress)
   pub noted : notes' ≡ notes_with notes (Some (call, Ok (Busy 1 old.state.stamp)))
 
-pub record Drives {S Sense Reading Act State : Type 0} (t : Steps S Sense Reading Act) (rig : Rig State Sense Act) (reading : Reading) (act : Act) (old new : Desk) (before now : Side S State) (notes notes' : Notes) : Type 0 where
+pub record Drives {S Sense Reading Act State : Type 0} (t : Steps S Sense Reading Act) (rig : Rig State Sense Act) (reading : Reading) (act : Act) (old new : Desk) (before now : Side S State) (notes notes' : Notes) (asked : TurnCall) : Type 0 where
+  pub asks_nothing : asked ≡ None
   pub bench : BenchStays old new
   pub side : now ≡ comes_to rig (t.after_drive before.progress reading act) None before.part act
   pub noted : notes' ≡ notes_with notes None
   pub demanded : now.stopped ≡ None → (set : Act) × (now.part ≡ rig.moves (rig.set before.part set)) × t.motor_demands before.progress set new.opening new.history
 
-pub record UnitRows {S Sense Reading Act State : Type 0} (t : Steps S Sense Reading Act) (rig : Rig State Sense Act) (old new : Desk) (before now : Side S State) (notes notes' : Notes) : Type 0 where
-  pub stopped : (f : CtlFault) (busy : Bool) → before.stopped ≡ Some f → UnitTurn t rig busy old new before now notes notes' → PassedOver old new before now notes notes'
-  pub busy : (reading : Reading) (call : Call) → IsAsking t rig before reading call → UnitTurn t rig true old new before now notes notes' → FindsBusy t rig call old new before now notes notes'
-  pub asks : (reading : Reading) (call : Call) → IsAsking t rig before reading call → UnitTurn t rig false old new before now notes notes'
-      → IsAnswered t.machine call old new notes notes' ⊎ IsRefusedMemory t rig call old new before now notes notes'
-  pub drives : (reading : Reading) (act : Act) (busy : Bool) → IsDriving t rig before reading act → UnitTurn t rig busy old new before now notes notes' → Drives t rig reading act old new before now notes notes'
+pub record UnitRows {S Sense Reading Act State : Type 0} (t : Steps S Sense Reading Act) (rig : Rig State Sense Act) (old new : Desk) (before now : Side S State) (notes notes' : Notes) (asked : TurnCall) : Type 0 where
+  pub stopped : (f : CtlFault) (busy : Bool) → before.stopped ≡ Some f → UnitTurn t rig busy old new before now notes notes' asked → PassedOver old new before now notes notes' asked
+  pub busy : (reading : Reading) (call : Call) → IsAsking t rig before reading call → UnitTurn t rig true old new before now notes notes' asked → FindsBusy t rig call old new before now notes notes' asked
+  pub asks : (reading : Reading) (call : Call) → IsAsking t rig before reading call → UnitTurn t rig false old new before now notes notes' asked
+      → IsAnswered t.machine call old new notes notes' asked ⊎ IsRefusedMemory t rig call old new before now notes notes' asked
+  pub drives : (reading : Reading) (act : Act) (busy : Bool) → IsDriving t rig before reading act → UnitTurn t rig busy old new before now notes notes' asked → Drives t rig reading act old new before now notes notes' asked

@@ -40,9 +40,8 @@ abbrev pub Leads : {S Sense Reading Act State : Type 0} → Bool → Steps S Sen
 Leads true t rig busy z before asked y now = Taken t rig busy z before asked y now
 Leads false t rig busy z before asked y now = PassedOver z before asked y now
 
--- over a bench: the history has what was asked, the notebook a turn that is taken, and the motors' demands hold
-pub record UnitTurn {S Sense Reading Act State : Type 0} (t : Steps S Sense Reading Act) (rig : Rig State Sense Act) (busy : Bool) (old new : Desk) (before now : Side S State) (notes notes' : Notes) : Type 0 where
-  pub asked : TurnCall
+-- over a bench, by what was asked: the history has it, the notebook a turn that is taken, and the motors' demands hold
+pub record UnitTurn {S Sense Reading Act State : Type 0} (t : Steps S Sense Reading Act) (rig : Rig State Sense Act) (busy : Bool) (old new : Desk) (before now : Side S State) (notes notes' : Notes) (asked : TurnCall) : Type 0 where
   pub leads : Leads (is_none before.stopped) t rig busy old.state before asked new.state now
   pub opening : new.opening ≡ old.opening
   pub history : new.history ≡ old.history ++ settled_in t.machine asked

@@ -23,10 +23,11 @@ pub fn sides_by_answers<P: Program, B: Part<Sense = P::Sense, Act = P::Act>>(
         → SideRows (unit_table P.steps unit.now) (unit_rig B.rig B.make unit.now) before asked now }
 {}
 
-/// The effect of any machine's turn over a bench, on the machine, the bench and the notebook.
+/// The effect of any machine's turn over a bench, on the machine, the bench and the notebook, and
+/// what it answers.
 pub fn turns_at_a_bench<P: Program, B: Part<Sense = P::Sense, Act = P::Act>>(
     unit: &MachineUnit<P, B>,
 )
-    ensures { (old new : Desk) (before now : Side P.Progress B.State) (notes after : Notes)
-        → UnitRows (unit_table P.steps unit.now) (unit_rig B.rig B.make unit.now) old new before now notes after }
+    ensures { (old new : Desk) (before now : Side P.Progress B.State) (notes after : Notes) (asked : TurnCall)
+        → UnitRows (unit_table P.steps unit.now) (unit_rig B.rig B.make unit.now) old new before now notes after asked }
 {}

@@ -116,6 +116,10 @@ shut_guards z party =
     ∷ guard (when (is_guest party) (posture_is z Moving)) (Shut Moving)
     ∷ []
 
+-- a party may enter the zone
+abbrev pub entering_guards : Zone → Party → List Guard
+entering_guards z party = free_guards z party ++ shut_guards z party
+
 -- a machine may leave the zone
 abbrev pub leaving_guards : Machine → Zone → List Guard
 leaving_guards m z = shut z Moving ∷ in_use m z ∷ worn ∷ []

@@ -7,6 +7,7 @@ ghost use Rattle.cell_word.specs.Changes as changes;
 ghost use Rattle.cell_word.specs.Parties as parties;
 
 use crate::changes::{give_pattern, take_pattern};
+use crate::codes::STAMP_BIT;
 use crate::parties::{Party, ZoneBits, party_of, row_given};
 use crate::patterns::{Guard, Pattern, mark_pattern};
 use crate::pose_guards::{advance, set_pose};
@@ -33,6 +34,25 @@ fn require_running(word: u64) -> Result<(), Refusal>
     ensures { result ≡ guards.checked word (guards.stopped ∷ []) }
 {
     mark_pattern(true).refuses(Refusal::Stopped).pass(word)
+}
+
+/// As `require_stamp`, but by the stamp's bits alone. It is rarely asked, so it isn't inlined.
+#[inline(never)]
+fn require_stamp_by_its_bits(word: u64) -> Result<(), Refusal>
+    ensures { result ≡ guards.checked word (guards.worn ∷ []) }
+{
+    worn_guard().pass(word)
+}
+
+/// A stamp has to be left. One comparison finds that out where the cell isn't stopped.
+#[inline(always)]
+fn require_stamp(word: u64) -> Result<(), Refusal>
+    ensures { result ≡ guards.checked word (guards.worn ∷ []) }
+{
+    if word >> STAMP_BIT < u64::from(LAST_STAMP) {
+        return Ok(());
+    }
+    require_stamp_by_its_bits(word)
 }
 
 /// The caller has to be a party of the zone. Returns which one it is.
@@ -142,16 +162,19 @@ fn require_free(at: ZoneBits, party: Party) -> Result<(), Refusal>
     Ok(())
 }
 
-/// The zone has to be open to a guest.
+/// The zone has to be free, and open to a guest.
 #[inline(always)]
-fn require_open_to(at: ZoneBits, party: Party) -> Result<(), Refusal>
-    ensures { result ≡ guards.checked at.word (guards.shut_guards at.zone party) }
+fn require_enterable(at: ZoneBits, party: Party) -> Result<(), Refusal>
+    ensures { result ≡ guards.checked at.word (guards.entering_guards at.zone party) }
 {
-    if party == Party::Guest {
-        require_not_in(at, Posture::Closed)?;
-        require_not_in(at, Posture::Moving)?;
+    match party {
+        Party::Host => require_free(at, Party::Host),
+        Party::Guest => {
+            require_free(at, Party::Guest)?;
+            require_not_in(at, Posture::Closed)?;
+            require_not_in(at, Posture::Moving)
+        }
     }
-    Ok(())
 }
 
 #[inline(always)]
@@ -162,9 +185,8 @@ fn claim(word: u64, machine: Machine, zone: Zone) -> Result<Pattern, Refusal>
     let party = require_party(machine, zone)?;
     require_running(word)?;
     let at = ZoneBits { word, zone };
-    require_free(at, party)?;
-    require_open_to(at, party)?;
-    worn_guard().pass(word)?;
+    require_enterable(at, party)?;
+    require_stamp(word)?;
     Ok(Pattern::owned_by(zone, party))
 }
 

@@ -1,7 +1,6 @@
 -- A worker's turns over a line to an interlock, stated for its pass; and their effect on its journal.
 use Rattle.std.proofs.Common.{◌≡◌, ℕ, ◌+◌, Bool, true, false, cond, List, [], ◌∷◌, ◌++◌, map, count_by, Some, None, Result, Ok, Err, refl, sym, ap, subst, ◌∙◌, arith}
 use Rattle.std.proofs.lemmas.List.Sums.{sum_by-append}
-use Rattle.std.proofs.Math.Logic.{∥∥₁_elim}
 use Rattle.cell_types.specs.declared.call.Call.{Call}
 use Rattle.cell_types.specs.declared.answer.Answer.{Answer}
 use Rattle.cell_types.specs.declared.answer.Answer.TheVariants.{Done, Shown, Refused}
@@ -10,12 +9,11 @@ use Rattle.cell_types.specs.declared.reply.Reply.{Reply}
 use Rattle.cell_types.specs.declared.reply.Reply.TheVariants.{Settled, Busy}
 use Rattle.cell_rules.specs.declared.heard.LineFault.{LineFault}
 use Rattle.cell_rules.specs.ModelState.{one_if}
-use Rattle.cell_rules.specs.Stored.{IsSound-prop, IsLegal-prop}
 use Rattle.cell_rules.specs.History.{is_done_answer}
 use Rattle.cell_rules.specs.Journal.{noted}
-use Rattle.cell_rules.specs.Laws.{LawfulThroughout, EveryLegalHistoryIsLawful}
 use Rattle.cell_interlock.specs.Views.{PassView}
-use Rattle.cell_interlock.specs.Lines.{IsLine, LineView, LineAsks, PassAsks}
+use Rattle.cell_interlock.specs.Lines.{LineView, LineAsks, PassAsks}
+use Rattle.cell_interlock.specs.Seen.{IsSamePass}
 use Rattle.cell_interlock.proofs.Journals.{journal_by, journal-settled, journal-busy}
 use Rattle.cell_control.specs.Rigs.{Rig}
 use Rattle.cell_control.specs.Steps.{Steps}
@@ -35,6 +33,12 @@ line_views = record { opening = λ l. l.pass.opening; seen = λ l. l.pass.seen; 
 
 abbrev pub by_pass : {S State : Type 0} → WorkerMoment LineView S State → WorkerMoment PassView S State
 by_pass m = worker_moment m.line.pass m.side m.counts
+
+unchanged_pass : (v w : PassView) → w ≡ v → IsSamePass v w
+unchanged_pass v w e = record { table = ap (λ x. x.table) e; opening = ap (λ x. x.opening) e; machine = ap (λ x. x.machine) e }
+
+same_after : (u v w : PassView) → IsSamePass u v → IsSamePass v w → IsSamePass u w
+same_after u v w one two = record { table = two.table ∙ one.table; opening = two.opening ∙ one.opening; machine = two.machine ∙ one.machine }
 
 module _ {S Sense Reading Act State : Type 0} (tries : ℕ) (t : Steps S Sense Reading Act) (rig : Rig State Sense Act) (gate : GateOf) where
   -- a turn asks nothing, or makes one call
@@ -88,19 +92,19 @@ module _ {S Sense Reading Act State : Type 0} (tries : ℕ) (t : Steps S Sense R
     pub all_along : (first now : WorkerMoment PassView S State) → HasCome (passes tries) t rig gate first now → Q first → Q now
     all_along first now k q = subst Q k.last (along first k.turns k.taken q)
 
-  asks_same : (v w : PassView) (c : Call) (r : Result Reply LineFault) → PassAsks tries v c r w → (w.machine ≡ v.machine) × (w.opening ≡ v.opening)
-  asks_same v w c (Ok reply) k = (k.pass.machine, k.pass.opening)
-  asks_same v w c (Err fault) k = (ap (λ x. x.machine) k, ap (λ x. x.opening) k)
+  asks_same : (v w : PassView) (c : Call) (r : Result Reply LineFault) → PassAsks tries v c r w → IsSamePass v w
+  asks_same v w c (Ok reply) k = k.pass
+  asks_same v w c (Err fault) k = unchanged_pass v w k
 
-  turn_same : (before now : WorkerMoment PassView S State) → TakesTurn (passes tries) t rig gate before now → (now.line.machine ≡ before.line.machine) × (now.line.opening ≡ before.line.opening)
+  turn_same : (before now : WorkerMoment PassView S State) → TakesTurn (passes tries) t rig gate before now → IsSamePass before.line now.line
   turn_same before now k =
-      by_turn (passes tries) before now _ k (λ asked same nothing counted. (ap (λ x. x.machine) same, ap (λ x. x.opening) same)) (λ asked c r asks is counted. asks_same before.line now.line c r asks)
+      by_turn (passes tries) before now _ k (λ asked same nothing counted. unchanged_pass before.line now.line same) (λ asked c r asks is counted. asks_same before.line now.line c r asks)
 
-  -- the pass remains its machine's, and its interlock's opening remains the same
-  pub come_same : (first now : WorkerMoment PassView S State) → HasCome (passes tries) t rig gate first now → (now.line.machine ≡ first.line.machine) × (now.line.opening ≡ first.line.opening)
+  -- the pass remains the same: of its interlock and its machine
+  pub come_same : (first now : WorkerMoment PassView S State) → HasCome (passes tries) t rig gate first now → IsSamePass first.line now.line
   come_same first now k =
-      all_along (λ m. (m.line.machine ≡ first.line.machine) × (m.line.opening ≡ first.line.opening)) (λ before after step q. let same = turn_same before after step in (same.0 ∙ q.0, same.1 ∙ q.1))
-      first now k (refl, refl)
+      all_along (λ m. IsSamePass first.line m.line) (λ before after step old. same_after first.line before.line after.line old (turn_same before after step))
+      first now k (unchanged_pass first.line first.line refl)
 
 -- ---- counts
 
@@ -169,23 +173,19 @@ module _ {S Sense Reading Act State : Type 0} (tries : ℕ) (t : Steps S Sense R
       (subst (λ j. AreCountsOf j first.counts) (sym empty) (subst (AreCountsOf []) (sym counts) (record { done = refl; read = refl; refused = refl })))
 
   -- what a worker gives back
-  pub gives_back : (law : EveryLegalHistoryIsLawful) (limit : ℕ) (first last : WorkerMoment LineView S State) (status : Status) → first.line.tries ≡ tries → first.line.pass.seen ≡ [] → first.counts ≡ no_counts → HasEnded line_views t rig gate limit first last status
-      → (kept : ∥ IsLine last.line.pass last.line.journal ∥₁) (pass : PassView) (journal : List Entry) (counts : Counts) (part : State) → pass ≡ last.line.pass → journal ≡ noted pass.opening pass.seen pass.machine → counts ≡ last.counts → part ≡ last.side.part
+  pub gives_back : (limit : ℕ) (first last : WorkerMoment LineView S State) (status : Status) → first.line.tries ≡ tries → first.line.pass.seen ≡ [] → first.counts ≡ no_counts → HasEnded line_views t rig gate limit first last status
+      → (pass : PassView) (journal : List Entry) (counts : Counts) (part : State) → pass ≡ last.line.pass → journal ≡ noted pass.opening pass.seen pass.machine → counts ≡ last.counts → part ≡ last.side.part
       → IsWorkerResult tries t rig gate limit (by_pass first) pass journal counts status part
-  gives_back law limit first last status e seen none worked kept pass journal counts part is noted_all counted stands =
+  gives_back limit first last status e seen none worked pass journal counts part is noted_all counted stands =
       let come = come_by_pass tries t rig gate first last e worked.come in
-      let same = come_same tries t rig gate (by_pass first) (by_pass last) come in
-      let opening : pass.opening ≡ first.line.pass.opening = ap (λ v. v.opening) is ∙ same.1 in
-      let machine : pass.machine ≡ first.line.pass.machine = ap (λ v. v.machine) is ∙ same.0 in
-      let sound = ∥∥₁_elim kept (IsSound-prop last.line.pass.opening) (λ k. k.sound) in
-      let legal = ∥∥₁_elim kept (IsLegal-prop last.line.pass.opening last.line.pass.seen) (λ k. k.legal) in
+      let same : IsSamePass first.line.pass pass = subst (IsSamePass first.line.pass) (sym is) (come_same tries t rig gate (by_pass first) (by_pass last) come) in
       record {
         last = by_pass last;
         worked = record { come = come; ends = worked.ends };
         pass = sym is;
+        same = same;
         counts = sym counted;
         part = sym stands;
-        lawful = subst (λ v. LawfulThroughout first.line.pass.opening v.seen) (sym is) (subst (λ o. LawfulThroughout o last.line.pass.seen) same.1 (law last.line.pass.opening last.line.pass.seen sound legal));
-        journal_is = noted_all ∙ (λ i. noted (opening i) pass.seen (machine i));
+        journal_is = noted_all ∙ (λ i. noted (same.opening i) pass.seen (same.machine i));
         counted = subst (λ j. AreCountsOf j counts) (ap journal_by (sym is) ∙ sym noted_all) (subst (AreCountsOf (journal_by last.line.pass)) (sym counted) (come_counts (by_pass first) (by_pass last) come seen none));
       }

@@ -1,18 +1,20 @@
 -- What six workers gave back, stated for their machines by name; and the record of it.
-use Rattle.std.proofs.Common.{◌≡◌, ℕ, ℤ, true, List, [], ◌∷◌, Option, Some, None, IfSome, Result, refl, sym, ap, subst, ◌∙◌}
+use Rattle.std.proofs.Common.{◌≡◌, ℕ, ℤ, true, List, [], ◌∷◌, map, Option, Some, None, IfSome, Result, refl, sym, ap, subst, ◌∙◌}
 use Rattle.cell_types.specs.declared.machine.Machine.{Machine}
 use Rattle.cell_types.specs.declared.machine.Machine.TheVariants.{Feed, Table, Robot, Press, Deposit, Crane, Watch}
-use Rattle.cell_types.specs.declared.answer.Event.{Event}
 use Rattle.cell_types.specs.declared.journal.Entry.{Entry}
 use Rattle.cell_types.specs.Journals.{journal_of}
 use Rattle.cell_calib.specs.declared.sense.SensorFault.{SensorFault}
 use Rattle.cell_calib.specs.Scale.{Scale}
 use Rattle.cell_calib.specs.Line.{IsReading}
 use Rattle.cell_rules.specs.ModelState.{ModelState}
-use Rattle.cell_rules.specs.Journal.{noted}
-use Rattle.cell_rules.specs.Laws.{LawfulThroughout}
+use Rattle.cell_rules.specs.Journal.{noted, event_by}
+use Rattle.cell_rules.specs.Seen.{Waits}
+use Rattle.cell_rules.specs.History.{after}
+use Rattle.cell_rules.specs.Audited.{EndsIn, IsAudited}
 use Rattle.cell_interlock.specs.Views.{PassView, InterlockView}
-use Rattle.cell_interlock.specs.Fresh.{fresh_pass}
+use Rattle.cell_interlock.specs.Fresh.{IsFresh, fresh_pass}
+use Rattle.cell_interlock.specs.Ends.{IsEnd, pass_in}
 use Rattle.cell_control.specs.declared.fault.CtlFault.{CtlFault}
 use Rattle.cell_control.specs.Rigs.{Rig}
 use Rattle.cell_control.specs.Steps.{Steps, IsReached, with_senses}
@@ -28,7 +30,9 @@ use Rattle.cell_robot.specs.RobotProgram.{RobotScales, RobotGauges, near_lines, 
 use Rattle.cell_robot.proofs.RobotSenses.{senses_near as robot_senses_near}
 use Rattle.cell_stations.specs.TableProgram.{Senses as TableSenses, table_steps}
 use Rattle.cell_stations.proofs.TableSenses.{senses_near as table_senses_near}
-use Rattle.cell_parts.specs.Plant.{TablePlant, RobotPlant, CranePlant}
+use Rattle.cell_parts.specs.declared.plant.TablePlant.{TablePlant}
+use Rattle.cell_parts.specs.declared.plant.RobotPlant.{RobotPlant}
+use Rattle.cell_parts.specs.declared.plant.CranePlant.{CranePlant}
 use Rattle.cell_notes.specs.declared.counts.Counts.{Counts}
 use Rattle.cell_notes.specs.declared.run_record.RunRecord.{RunRecord}
 use Rattle.cell_notes.specs.declared.status.Status.{Status}
@@ -40,12 +44,11 @@ use Rattle.cell_parts.specs.Axes.{CellScales}
 use Rattle.cell_plant.specs.Machines.{PartOf, steps_of, rig_of}
 use Rattle.cell_plant.specs.CellStates.{SideOf, side_in, sides_at_start}
 use Rattle.cell_plant.specs.Records.{positions_in}
-use Rattle.cell_plant.specs.Runs.{is_at_work}
 use Rattle.cell_workers.specs.Lines.{Lines, passes}
 use Rattle.cell_workers.specs.Workers.{WorkerMoment, worker_moment, GateOf, TakesTurn, TakesTurns, HasEnded, IsWorkerResult, AreCountsOf}
 use Rattle.cell_workers.specs.Results.{SixResults}
-use Rattle.cell_workers.specs.Results.{IsResultOf, AreWorkerResults, journal_in, parts_in}
-use Rattle.cell_workers.specs.Records.{MomentOf, first_moment, TellsWork}
+use Rattle.cell_workers.specs.Results.{IsResultOf, AreWorkerResults, journal_in, parts_in, passes_in}
+use Rattle.cell_workers.specs.Records.{MomentOf, first_moment, TellsWork, has_worker}
 
 -- if less is known of the sensors, a worker has still worked
 module _ {L S Sense Reading Act State : Type 0} (lines : Lines L) (t : Steps S Sense Reading Act) (rig : Rig State Sense Act) (gate : GateOf) (senses : Sense → Result Reading SensorFault → Type 0) (f : (s : Sense) (r : Result Reading SensorFault) → t.senses s r → senses s r) where
@@ -74,7 +77,7 @@ result_still tries t rig gate senses f limit first kept journal did status stand
       pass = k.pass;
       counts = k.counts;
       part = k.part;
-      lawful = k.lawful;
+      same = k.same;
       journal_is = k.journal_is;
       counted = k.counted;
     }
@@ -103,11 +106,6 @@ module _ (tries : ℕ) (gate : GateOf) (limit : ℕ) (kept : PassView) (journal 
 pub ready_at_start : {S Sense Reading Act : Type 0} → (t : Steps S Sense Reading Act) (i : InterlockView) (pass : PassView) (stopped : Option CtlFault) (progress : S) → pass ≡ fresh_pass i t.machine → progress ≡ t.start i.opening
     → (pass.machine ≡ t.machine) × IsReady t pass.opening pass.seen stopped progress
 ready_at_start t i pass stopped progress e begins = (ap (λ (v : PassView). v.machine) e, λ runs. subst (λ (v : PassView). IsReached t v.opening v.seen progress) (sym e) (0, sym begins))
-
--- if a history is lawful, so is the empty one
-nothing_yet : (s : ModelState) (h : List Event) → LawfulThroughout s h → LawfulThroughout s []
-nothing_yet s h k [] more e = k [] h refl
-nothing_yet s h k (x ∷ xs) more e = cc
 
 -- what follows from a value, if there is one
 pub if_some : {A : Type 0} → (P Q : A → Type 0) → ((x : A) → P x → Q x) → (r : Option A) → IfSome r P → IfSome r Q
@@ -141,7 +139,7 @@ module _ (c : CellScales) (i : InterlockView) (limit : ℕ) (gate : Machine → 
     statuses Crane = results.crane.status
     statuses Watch = Fine
 
-    works : (m : Machine) → is_at_work m ≡ true → HasEnded (passes i.tries) (steps_of c m) (rig_of c m) (gate m) limit (first_moment i m) (last m) (statuses m)
+    works : (m : Machine) → has_worker m ≡ true → HasEnded (passes i.tries) (steps_of c m) (rig_of c m) (gate m) limit (first_moment i m) (last m) (statuses m)
     works Feed e = back.feed.worked
     works Table e = back.table.worked
     works Robot e = back.robot.worked
@@ -149,18 +147,6 @@ module _ (c : CellScales) (i : InterlockView) (limit : ℕ) (gate : Machine → 
     works Deposit e = back.deposit.worked
     works Crane e = back.crane.worked
     works Watch e = cc
-
-    of_last : (m : Machine) (w : PassView) (k : PassView) → w ≡ k → LawfulThroughout i.opening k.seen → LawfulThroughout i.opening w.seen
-    of_last m w k e l = subst (λ v. LawfulThroughout i.opening v.seen) (sym e) l
-
-    lawful : (m : Machine) → LawfulThroughout i.opening (last m).line.seen
-    lawful Feed = of_last Feed _ _ back.feed.pass back.feed.lawful
-    lawful Table = of_last Table _ _ back.table.pass back.table.lawful
-    lawful Robot = of_last Robot _ _ back.robot.pass back.robot.lawful
-    lawful Press = of_last Press _ _ back.press.pass back.press.lawful
-    lawful Deposit = of_last Deposit _ _ back.deposit.pass back.deposit.lawful
-    lawful Crane = of_last Crane _ _ back.crane.pass back.crane.lawful
-    lawful Watch = nothing_yet i.opening _ back.feed.lawful
 
     journal_is : (m : Machine) → journal_in results m ≡ noted i.opening (last m).line.seen m
     journal_is Feed = back.feed.journal_is ∙ ap (λ v. noted i.opening v.seen Feed) (sym back.feed.pass)
@@ -180,23 +166,59 @@ module _ (c : CellScales) (i : InterlockView) (limit : ℕ) (gate : Machine → 
     counted Crane = subst (AreCountsOf results.crane.journal.items) (sym back.crane.counts) back.crane.counted
     counted Watch = record { done = refl; read = refl; refused = refl }
 
-    -- the record of what they gave back
-    pub tells : r.start ≡ i.opening → r.counts ≡ results.feed.counts ∷ results.table.counts ∷ results.robot.counts ∷ results.press.counts ∷ results.deposit.counts ∷ results.crane.counts ∷ no_counts ∷ [] → r.status ≡ results.feed.status ∷ results.table.status ∷ results.robot.status ∷ results.press.status ∷ results.deposit.status ∷ results.crane.status ∷ Fine ∷ [] → ((m : Machine) → journal_of r.journals m ≡ journal_in results m) → r.end ≡ None
-        → r.axes ≡ positions_in (parts_in results) → TellsWork c i.opening i.tries limit gate r
-    tells start counts status journals end axes =
-        record {
-          interlock = i;
-          opened = refl;
-          last = last;
-          statuses = statuses;
-          works = works;
-          watch_rests = (refl, refl);
-          lawful = lawful;
-          start = start;
-          counts = counts ∙ (λ x. sym back.feed.counts x ∷ sym back.table.counts x ∷ sym back.robot.counts x ∷ sym back.press.counts x ∷ sym back.deposit.counts x ∷ sym back.crane.counts x ∷ no_counts ∷ []);
-          status = status;
-          journals = λ m. journals m ∙ journal_is m;
-          counted = λ m. subst (λ j. AreCountsOf j (last m).counts) (sym (journals m)) (counted m);
-          end = end;
-          axes = axes ∙ (λ x. positions_in (record { feed = sym back.feed.part x; table = sym back.table.part x; robot = sym back.robot.part x; press = sym back.press.part x; deposit = sym back.deposit.part x; crane = sym back.crane.part x }));
-        }
+    -- the passes that came back, with the watch's
+    module _ (watch : PassView) (fresh : IsFresh i Watch watch) where
+      abbrev passes_back : Machine → PassView
+      passes_back = pass_in (passes_in results watch)
+
+      -- each machine's last pass
+      last_pass : (m : Machine) → (last m).line ≡ passes_back m
+      last_pass Feed = back.feed.pass
+      last_pass Table = back.table.pass
+      last_pass Robot = back.robot.pass
+      last_pass Press = back.press.pass
+      last_pass Deposit = back.deposit.pass
+      last_pass Crane = back.crane.pass
+      last_pass Watch = sym fresh
+
+      -- the record of what they gave back, with the end of the interlock
+      module _ (s : ModelState) (closed : IsEnd i.opening (passes_in results watch) s) where
+        seen : (m : Machine) → Waits m (last m).line.seen closed.history
+        seen m = subst (λ (v : PassView). Waits m v.seen closed.history) (sym (last_pass m)) (closed.passes m).seen
+
+        module _ (journals : (m : Machine) → journal_of r.journals m ≡ journal_in results m) (end : r.end ≡ Some s) where
+          noted_by : (m : Machine) → noted i.opening (passes_back m).seen m ≡ journal_of r.journals m
+          noted_by m = sym (journals m ∙ journal_is m ∙ ap (λ (v : PassView). noted i.opening v.seen m) (last_pass m))
+
+          audited : IsAudited i.opening (journal_of r.journals) r.end closed.history
+          audited =
+              let k = closed.audited in
+              record {
+                legal = k.legal;
+                own = λ m. k.own m ∙ ap (map (event_by m)) (noted_by m);
+                noted = λ m. k.noted m ∙ noted_by m;
+                ends = subst (EndsIn (after i.opening closed.history)) (sym end) k.ends;
+              }
+
+          pub tells : r.start ≡ i.opening → r.counts ≡ results.feed.counts ∷ results.table.counts ∷ results.robot.counts ∷ results.press.counts ∷ results.deposit.counts ∷ results.crane.counts ∷ no_counts ∷ [] → r.status ≡ results.feed.status ∷ results.table.status ∷ results.robot.status ∷ results.press.status ∷ results.deposit.status ∷ results.crane.status ∷ Fine ∷ []
+              → r.axes ≡ positions_in (parts_in results) → TellsWork c i.opening i.tries limit gate r
+          tells start counts status axes =
+              record {
+                interlock = i;
+                opened = refl;
+                last = last;
+                statuses = statuses;
+                works = works;
+                watch_rests = (refl, refl);
+                history = closed.history;
+                lawful = closed.lawful;
+                seen = seen;
+                start = start;
+                counts = counts ∙ (λ x. sym back.feed.counts x ∷ sym back.table.counts x ∷ sym back.robot.counts x ∷ sym back.press.counts x ∷ sym back.deposit.counts x ∷ sym back.crane.counts x ∷ no_counts ∷ []);
+                status = status;
+                journals = λ m. journals m ∙ journal_is m;
+                counted = λ m. subst (λ j. AreCountsOf j (last m).counts) (sym (journals m)) (counted m);
+                audited = audited;
+                end = end ∙ ap (λ x. Some x) closed.reached;
+                axes = axes ∙ (λ x. positions_in (record { feed = sym back.feed.part x; table = sym back.table.part x; robot = sym back.robot.part x; press = sym back.press.part x; deposit = sym back.deposit.part x; crane = sym back.crane.part x }));
+              }

@@ -20,7 +20,8 @@ use Rattle.cell_rules.specs.declared.heard.LineFault.{LineFault}
 use Rattle.cell_rules.specs.ModelState.{ModelState}
 use Rattle.cell_rules.specs.PlaceSet.{empty}
 use Rattle.cell_rules.specs.Start.{start_state}
-use Rattle.cell_rules.specs.Journal.{noted}
+use Rattle.cell_rules.specs.Journal.{noted, event_by}
+use Rattle.cell_rules.specs.Audited.{EndsIn}
 use Rattle.cell_rules.specs.Laws.{Lawful}
 use Rattle.cell_rules.proofs.Assembly.{lawful}
 use Rattle.cell_rules.proofs.Histories.{throughout}
@@ -37,7 +38,8 @@ use Rattle.cell_haul.specs.CraneProgram.{crane_start, crane_steps}
 use Rattle.cell_robot.specs.RobotProgram.{robot_start}
 use Rattle.cell_stations.specs.PressProgram.{press_steps}
 use Rattle.cell_parts.specs.declared.axis.Axis.{Axis}
-use Rattle.cell_parts.specs.Plant.{CranePlant, moved_to}
+use Rattle.cell_parts.specs.declared.plant.CranePlant.{CranePlant}
+use Rattle.cell_parts.specs.Plant.{moved_to}
 use Rattle.cell_parts.specs.Rigs.{press_rig, crane_rig}
 use Rattle.cell_unit.specs.Sides.{act_or_rest, noting, side_set, side_moved}
 use Rattle.cell_notes.specs.declared.counts.Counts.{Counts}
@@ -50,13 +52,13 @@ use Rattle.cell_parts.specs.Axes.{CellScales, crane_end}
 use Rattle.cell_plant.specs.CellStates.{SideOf}
 use Rattle.cell_plant.specs.Machines.{steps_of, rig_of}
 use Rattle.cell_plant.specs.Records.{positions_in}
-use Rattle.cell_plant.specs.Runs.{is_at_work}
 use Rattle.cell_plant.proofs.Resting.{moves_rest}
 use Rattle.cell_workers.specs.Lines.{passes}
 use Rattle.cell_workers.specs.Workers.{GateOf, TakesTurn, HasEnded, Ends, AreCountsOf}
-use Rattle.cell_workers.specs.Records.{MomentOf, first_moment, parts_at_ends, TellsWork}
+use Rattle.cell_workers.specs.Records.{MomentOf, first_moment, parts_at_ends, TellsWork, has_worker}
 use Rattle.cell_workers.specs.Laws.{Rule, by_rule, TellsNothingDone, HadTurns, HasAtMost, first_call, TellsFirstTurns, RecordsTellTurns, RecordsKeepTries, WorkersEnd, TurnsAreTaken}
 use Rattle.cell_workers.proofs.Passes.{come_same, come_counts}
+use Rattle.cell_workers.proofs.Ending.{ended_at_opening}
 use Rattle.cell_workers.proofs.Answering.{side_answered, line_unchanged, falls}
 use Rattle.cell_workers.proofs.FirstSteps.{within, ends_fine, ends_kept_out, has_status_by, fine_at_once, shut_at_once, ends_begun, answers_along, let_in_along, few_along, still, shut_still, once, stays, own_at_first, noted_at_most, busy_lost, busy_counted}
 
@@ -85,7 +87,7 @@ module _ (c : CellScales) (opening : ModelState) (tries limit : ℕ) (lets : Rul
       abbrev first : (m : Machine) → MomentOf m
       first m = first_moment k.interlock m
 
-      rest_of : (m : Machine) → is_at_work m ≡ true → (first m).side.stopped ≡ None → (k.last m ≡ first m) × (k.statuses m ≡ status)
+      rest_of : (m : Machine) → has_worker m ≡ true → (first m).side.stopped ≡ None → (k.last m ≡ first m) × (k.statuses m ≡ status)
       rest_of m e runs = rests m (first m) (k.last m) (k.statuses m) runs refl (k.works m e)
 
       lasts : (m : Machine) → k.last m ≡ first m
@@ -106,12 +108,12 @@ module _ (c : CellScales) (opening : ModelState) (tries limit : ℕ) (lets : Rul
       pub nothing_done : TellsNothingDone opening status r
       nothing_done =
           record {
-            sound = (k.lawful Watch [] (k.last Watch).line.seen refl).stays_sound;
+            sound = (k.lawful [] k.history refl).stays_sound;
             start = k.start;
             counts = k.counts ∙ (λ x. counted Feed x ∷ counted Table x ∷ counted Robot x ∷ counted Press x ∷ counted Deposit x ∷ counted Crane x ∷ counted Watch x ∷ []);
             status = k.status ∙ (λ x. (rest_of Feed refl refl).1 x ∷ (rest_of Table refl refl).1 x ∷ (rest_of Robot refl refl).1 x ∷ (rest_of Press refl refl).1 x ∷ (rest_of Deposit refl refl).1 x ∷ (rest_of Crane refl refl).1 x ∷ k.watch_rests.1 x ∷ []);
             journals = seen_nothing;
-            end = k.end;
+            end = ended_at_opening c opening tries limit (by_rule lets) r k seen_nothing;
             axes = k.axes ∙ (λ x. positions_in (parts_at_ends (λ m. lasts m x)));
           }
 
@@ -127,7 +129,7 @@ module _ (c : CellScales) (opening : ModelState) (tries limit : ℕ) (lets : Rul
       abbrev at : (m : Machine) → MomentOf m
       at m = first_moment interlock m
 
-      works : (m : Machine) → is_at_work m ≡ true → HasEnded (passes tries) (steps_of c m) (rig_of c m) (by_rule lets m) limit (at m) (at m) (statuses_so m)
+      works : (m : Machine) → has_worker m ≡ true → HasEnded (passes tries) (steps_of c m) (rig_of c m) (by_rule lets m) limit (at m) (at m) (statuses_so m)
       works Feed e = stays tries (steps_of c Feed) (rig_of c Feed) (by_rule lets Feed) limit (at Feed) status (ends Feed)
       works Table e = stays tries (steps_of c Table) (rig_of c Table) (by_rule lets Table) limit (at Table) status (ends Table)
       works Robot e = stays tries (steps_of c Robot) (rig_of c Robot) (by_rule lets Robot) limit (at Robot) status (ends Robot)
@@ -145,12 +147,15 @@ module _ (c : CellScales) (opening : ModelState) (tries limit : ℕ) (lets : Rul
             statuses = statuses_so;
             works = works;
             watch_rests = (refl, refl);
-            lawful = λ m. throughout opening (Lawful opening) (lawful opening k.sound) [] tt;
+            history = [];
+            lawful = throughout opening (Lawful opening) (lawful opening k.sound) [] tt;
+            seen = λ m. record { begins = ([], refl); own = refl };
             start = k.start;
             counts = k.counts;
             status = k.status;
             journals = k.journals;
             counted = λ m. subst (λ j. AreCountsOf j no_counts) (sym (k.journals m)) (record { done = refl; read = refl; refused = refl });
+            audited = record { legal = tt; own = λ m. sym (ap (map (event_by m)) (k.journals m)); noted = λ m. sym (k.journals m); ends = subst (EndsIn opening) (sym k.end) refl };
             end = k.end;
             axes = k.axes;
           }
@@ -158,15 +163,15 @@ module _ (c : CellScales) (opening : ModelState) (tries limit : ℕ) (lets : Rul
   -- ---- the turns of a machine
 
   -- its counts agree with its journal; so `counted` follows from the other fields
-  counted_by_turns : (k : Works) (m : Machine) → is_at_work m ≡ true → AreCountsOf (journal_of r.journals m) (k.last m).counts
+  counted_by_turns : (k : Works) (m : Machine) → has_worker m ≡ true → AreCountsOf (journal_of r.journals m) (k.last m).counts
   counted_by_turns k m e =
       let first = first_moment k.interlock m in
       let come = (k.works m e).come in
       let same = come_same tries (steps_of c m) (rig_of c m) (by_rule lets m) first (k.last m) come in
-      subst (λ j. AreCountsOf j (k.last m).counts) ((λ i. noted (same.1 i) (k.last m).line.seen (same.0 i)) ∙ ap (λ o. noted o (k.last m).line.seen m) k.opened ∙ sym (k.journals m))
+      subst (λ j. AreCountsOf j (k.last m).counts) ((λ i. noted (same.opening i) (k.last m).line.seen (same.machine i)) ∙ ap (λ o. noted o (k.last m).line.seen m) k.opened ∙ sym (k.journals m))
       (come_counts tries (steps_of c m) (rig_of c m) (by_rule lets m) first (k.last m) come refl refl)
 
-  pub had_turns : (k : Works) (m : Machine) (did : Counts) (s : Status) → (k.last m).counts ≡ did → k.statuses m ≡ s → is_at_work m ≡ true → HadTurns limit (lets m) did s (journal_of r.journals m)
+  pub had_turns : (k : Works) (m : Machine) (did : Counts) (s : Status) → (k.last m).counts ≡ did → k.statuses m ≡ s → has_worker m ≡ true → HadTurns limit (lets m) did s (journal_of r.journals m)
   had_turns k m did s counts status e =
       let worked = k.works m e in
       let first = first_moment k.interlock m in
@@ -222,7 +227,7 @@ module _ (c : CellScales) (tries : ℕ) (lets : Rule) (r : RunRecord) (k : Tells
   abbrev begins : (m : Machine) → MomentOf m
   begins m = first_moment k.interlock m
 
-  called : (m : Machine) → is_at_work m ≡ true → (steps_of c m).call (begins m).side.progress ≡ first_call m → HasAtMost (first_call m) (journal_of r.journals m)
+  called : (m : Machine) → has_worker m ≡ true → (steps_of c m).call (begins m).side.progress ≡ first_call m → HasAtMost (first_call m) (journal_of r.journals m)
   called m e is =
       subst (HasAtMost (first_call m)) (sym (k.journals m))
       (noted_at_most (first_call m) (start_state empty 0) (k.last m).line.seen m

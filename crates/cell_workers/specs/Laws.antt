@@ -5,7 +5,7 @@ use Rattle.cell_types.specs.declared.machine.Machine.TheVariants.{Feed, Table, R
 use Rattle.cell_types.specs.declared.zone.Zone.TheVariants.{Z1, Z3, Z4, Z6}
 use Rattle.cell_types.specs.declared.posture.Posture.TheVariants.{Closed}
 use Rattle.cell_types.specs.declared.call.Call.{Call}
-use Rattle.cell_types.specs.declared.call.Call.TheVariants.{Claim}
+use Rattle.cell_types.specs.declared.call.Call.TheVariants.{Claim, Release}
 use Rattle.cell_types.specs.declared.answer.Answer.{Answer}
 use Rattle.cell_types.specs.declared.answer.Answer.TheVariants as answer
 use Rattle.cell_types.specs.declared.answer.Refusal.TheVariants.{NotParty}
@@ -19,6 +19,8 @@ use Rattle.cell_rules.specs.PlaceSet.{empty}
 use Rattle.cell_rules.specs.Start.{start_state}
 use Rattle.cell_rules.specs.Sound.{IsSound}
 use Rattle.cell_rules.specs.History.{Holds, PressMoves}
+use Rattle.cell_rules.specs.Audited.{HasNoHistory}
+use Rattle.cell_rules.specs.Seen.{BeginsWith}
 use Rattle.cell_control.specs.declared.fault.CtlFault.{CtlFault}
 use Rattle.cell_control.specs.declared.fault.CtlFault.TheVariants as cause
 use Rattle.cell_devices.specs.declared.motor.Direction.TheVariants.{Minus as Downward}
@@ -37,10 +39,9 @@ use Rattle.cell_parts.specs.Axes.{CellScales}
 use Rattle.cell_plant.specs.CellStates.{SideOf}
 use Rattle.cell_plant.specs.Machines.{steps_of, rig_of}
 use Rattle.cell_plant.specs.Resting.{IsAtRest}
-use Rattle.cell_plant.specs.Runs.{is_at_work}
 use Rattle.cell_workers.specs.Lines.{passes}
 use Rattle.cell_workers.specs.Workers.{GateOf, TakesTurn, HasEnded, AreCountsOf}
-use Rattle.cell_workers.specs.Records.{MomentOf, first_moment, TellsWork}
+use Rattle.cell_workers.specs.Records.{MomentOf, has_worker, first_moment, TellsWork}
 
 -- gates by a rule: which of its turns a machine may begin
 abbrev pub Rule : Type 0
@@ -56,7 +57,7 @@ pub record TellsNothingDone (opening : ModelState) (each : Status) (r : RunRecor
   pub counts : r.counts ≡ no_counts ∷ no_counts ∷ no_counts ∷ no_counts ∷ no_counts ∷ no_counts ∷ no_counts ∷ []
   pub status : r.status ≡ each ∷ each ∷ each ∷ each ∷ each ∷ each ∷ Fine ∷ []
   pub journals : (m : Machine) → journal_of r.journals m ≡ []
-  pub end : r.end ≡ None
+  pub end : r.end ≡ Some opening
   pub axes : r.axes ≡ pos 1000 ∷ pos 0 ∷ pos 0 ∷ pos 300 ∷ pos 0 ∷ pos 0 ∷ pos 0 ∷ pos 900 ∷ []
 
 -- the number of replies
@@ -114,6 +115,11 @@ refused = answer.Refused NotParty
 abbrev pub six_entries : Call → List Entry
 six_entries call = map (entry_with call) (answer.Done ∷ shown ∷ shown ∷ refused ∷ refused ∷ refused ∷ [])
 
+-- the press alone noted one entry, that it released its interior
+abbrev pub press_released : Machine → List Entry
+press_released Press = record { call = Release Z3; answer = answer.Done; stamp = 1 } ∷ []
+press_released _ = []
+
 -- the press at this step without plates, at this position
 abbrev pub press_at : PressStep → ℕ → Motor → SideOf Press
 press_at step position motor = side_of (record { step = step; loaded = false; forged = false; direction = Downward }) None (record { position = pos position; motor = motor })
@@ -126,16 +132,28 @@ pub record RecordsTellTurns : Type 0 where
   pub shut : (c : CellScales) (opening : ModelState) (tries : ℕ) (r : RunRecord) → TellsWork c opening tries 5 (by_rule (λ m turn. false)) r ↔ TellsNothingDone opening GateLimit r
   pub turns : (c : CellScales) (opening : ModelState) (tries limit : ℕ) (lets : Rule) (r : RunRecord) (did : Machine → Counts) (statuses : Machine → Status)
       → TellsWork c opening tries limit (by_rule lets) r → r.counts ≡ map did all_machines → r.status ≡ map statuses all_machines
-      → (m : Machine) → is_at_work m ≡ true → HadTurns limit (lets m) (did m) (statuses m) (journal_of r.journals m)
+      → (m : Machine) → has_worker m ≡ true → HadTurns limit (lets m) (did m) (statuses m) (journal_of r.journals m)
   pub exchanges : (c : CellScales) (opening : ModelState) (tries limit : ℕ) (lets : Rule) (r : RunRecord) (k : TellsWork c opening tries limit (by_rule lets) r)
-      → (m : Machine) → is_at_work m ≡ true → (k.last m).line.exchanges ≤ (k.last m).counts.turns * tries
+      → (m : Machine) → has_worker m ≡ true → (k.last m).line.exchanges ≤ (k.last m).counts.turns * tries
   pub once : (c : CellScales) (opening : ModelState) (tries : ℕ) (lets : Rule) (r : RunRecord) (k : TellsWork c opening tries 1 (by_rule lets) r)
-      → (m : Machine) → is_at_work m ≡ true → (k.last m ≡ first_moment k.interlock m) ⊎ TakesTurn (passes tries) (steps_of c m) (rig_of c m) (by_rule lets m) (first_moment k.interlock m) (k.last m)
+      → (m : Machine) → has_worker m ≡ true → (k.last m ≡ first_moment k.interlock m) ⊎ TakesTurn (passes tries) (steps_of c m) (rig_of c m) (by_rule lets m) (first_moment k.interlock m) (k.last m)
   pub first : (c : CellScales) (tries : ℕ) (lets : Rule) (r : RunRecord) → TellsWork c (start_state empty 0) tries 1 (by_rule lets) r → TellsFirstTurns r
 
 -- A record's interlock may lose as many exchanges in a call as its passes may.
 abbrev pub RecordsKeepTries : (Machine → GateOf) → Type 0
 RecordsKeepTries gate = (c : CellScales) (opening : ModelState) (tries limit : ℕ) (r : RunRecord) → TellsWork c opening tries limit gate r → (k : TellsWork c opening tries limit gate r) × (k.interlock.tries ≡ tries)
+
+-- What a record says of its one history. Of any two machines one has seen all that the other has. The end is the opening
+-- if no machine noted anything. A history gives the journals and leads to the end, so an audit has no cause to reject
+-- them. They don't say that the press released an interior that it never held.
+pub record EndsAreReached : Type 0 where
+  pub one_history : (c : CellScales) (opening : ModelState) (tries limit : ℕ) (lets : Rule) (r : RunRecord) (k : TellsWork c opening tries limit (by_rule lets) r) (m n : Machine)
+      → BeginsWith (k.last m).line.seen (k.last n).line.seen ⊎ BeginsWith (k.last n).line.seen (k.last m).line.seen
+  pub nothing : (c : CellScales) (opening : ModelState) (tries limit : ℕ) (lets : Rule) (r : RunRecord) → TellsWork c opening tries limit (by_rule lets) r
+      → ((m : Machine) → journal_of r.journals m ≡ []) → r.end ≡ Some opening
+  pub accepted : (c : CellScales) (opening : ModelState) (tries limit : ℕ) (lets : Rule) (r : RunRecord) → TellsWork c opening tries limit (by_rule lets) r → ¬ HasNoHistory r.start (journal_of r.journals) r.end
+  pub never_held : (c : CellScales) (tries limit : ℕ) (lets : Rule) (r : RunRecord) → TellsWork c (start_state empty 0) tries limit (by_rule lets) r
+      → ¬ ((m : Machine) → journal_of r.journals m ≡ press_released m)
 
 -- How a worker ends, by what has stopped its machine. And the counts of a journal, in numbers.
 pub record WorkersEnd : Type 0 where

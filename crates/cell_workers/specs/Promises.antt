@@ -2,8 +2,9 @@
 use Rattle.std.specs.declared.thread.PromisedHandle.{PromisedHandle}
 use Rattle.std.specs.Prelude.{◌≡◌, ℕ, Option, Some, None, IfSome}
 use Rattle.cell_types.specs.declared.machine.Machine.{Machine}
+use Rattle.cell_types.specs.declared.machine.Machine.TheVariants.{Feed, Table, Robot, Press, Deposit, Crane}
 use Rattle.cell_interlock.specs.Views.{PassView, InterlockView}
-use Rattle.cell_interlock.specs.declared.pass.Passes.{Passes}
+use Rattle.cell_interlock.specs.Fresh.{IsFresh}
 use Rattle.cell_parts.specs.declared.parts.feed.FeedPart.{FeedPart}
 use Rattle.cell_parts.specs.declared.parts.table.TablePart.{TablePart}
 use Rattle.cell_parts.specs.declared.parts.robot.RobotPart.{RobotPart}
@@ -21,8 +22,21 @@ use Rattle.cell_workers.specs.declared.worker_result.WorkerResult.{WorkerResult}
 abbrev pub GivesOf : Type 0 → Type 0 → Type 1
 GivesOf W B = W → PassView → ℕ → GateOf → ℕ → WorkerResult B → Type 0
 
+-- the passes of the six: `SixPasses`, since antt has no name for an alias
+abbrev pub SixPasses : Type 0
+SixPasses = PerMachine PassView PassView PassView PassView PassView PassView
+
+-- each is a fresh pass of its machine
+pub record AreAllFresh (i : InterlockView) (passes : SixPasses) : Type 0 where
+  pub feed : IsFresh i Feed passes.feed
+  pub table : IsFresh i Table passes.table
+  pub robot : IsFresh i Robot passes.robot
+  pub press : IsFresh i Press passes.press
+  pub deposit : IsFresh i Deposit passes.deposit
+  pub crane : IsFresh i Crane passes.crane
+
 -- each worker's progress follows from what its pass has seen
-pub record AreReady {W1 W2 W3 W4 W5 W6 : Type 0} (ready1 : W1 → PassView → Type 0) (ready2 : W2 → PassView → Type 0) (ready3 : W3 → PassView → Type 0) (ready4 : W4 → PassView → Type 0) (ready5 : W5 → PassView → Type 0) (ready6 : W6 → PassView → Type 0) (workers : PerMachine W1 W2 W3 W4 W5 W6) (passes : Passes) : Type 0 where
+pub record AreReady {W1 W2 W3 W4 W5 W6 : Type 0} (ready1 : W1 → PassView → Type 0) (ready2 : W2 → PassView → Type 0) (ready3 : W3 → PassView → Type 0) (ready4 : W4 → PassView → Type 0) (ready5 : W5 → PassView → Type 0) (ready6 : W6 → PassView → Type 0) (workers : PerMachine W1 W2 W3 W4 W5 W6) (passes : SixPasses) : Type 0 where
   pub feed : ready1 workers.feed passes.feed
   pub table : ready2 workers.table passes.table
   pub robot : ready3 workers.robot passes.robot
@@ -31,7 +45,7 @@ pub record AreReady {W1 W2 W3 W4 W5 W6 : Type 0} (ready1 : W1 → PassView → T
   pub crane : ready6 workers.crane passes.crane
 
 -- each worker keeps its own promise
-pub record GiveBack {W1 W2 W3 W4 W5 W6 : Type 0} (gives1 : GivesOf W1 FeedPart) (gives2 : GivesOf W2 TablePart) (gives3 : GivesOf W3 RobotPart) (gives4 : GivesOf W4 PressPart) (gives5 : GivesOf W5 DepositPart) (gives6 : GivesOf W6 CranePart) (workers : PerMachine W1 W2 W3 W4 W5 W6) (passes : Passes) (tries : ℕ) (gate : Machine → GateOf) (turns : ℕ) (results : SixResults) : Type 0 where
+pub record GiveBack {W1 W2 W3 W4 W5 W6 : Type 0} (gives1 : GivesOf W1 FeedPart) (gives2 : GivesOf W2 TablePart) (gives3 : GivesOf W3 RobotPart) (gives4 : GivesOf W4 PressPart) (gives5 : GivesOf W5 DepositPart) (gives6 : GivesOf W6 CranePart) (workers : PerMachine W1 W2 W3 W4 W5 W6) (passes : SixPasses) (tries : ℕ) (gate : Machine → GateOf) (turns : ℕ) (results : SixResults) : Type 0 where
   pub feed : gives1 workers.feed passes.feed tries (gate passes.feed.machine) turns results.feed
   pub table : gives2 workers.table passes.table tries (gate passes.table.machine) turns results.table
   pub robot : gives3 workers.robot passes.robot tries (gate passes.robot.machine) turns results.robot
@@ -70,7 +84,7 @@ SixHandles W1 W2 W3 W4 W5 W6 G = PerMachine (HandleOf W1 G FeedPart) (HandleOf W
 abbrev pub HasPromised : {W G B : Type 0} → InterlockView → G → ℕ → PassView → W → HandleOf W G B → Type 0
 HasPromised interlock gate turns pass worker handle = IfSome handle (λ h. IsPromised interlock gate turns pass worker h.promise)
 
-pub record ArePromised {W1 W2 W3 W4 W5 W6 G : Type 0} (interlock : InterlockView) (gate : G) (turns : ℕ) (passes : Passes) (workers : PerMachine W1 W2 W3 W4 W5 W6) (started : SixHandles W1 W2 W3 W4 W5 W6 G) : Type 0 where
+pub record ArePromised {W1 W2 W3 W4 W5 W6 G : Type 0} (interlock : InterlockView) (gate : G) (turns : ℕ) (passes : SixPasses) (workers : PerMachine W1 W2 W3 W4 W5 W6) (started : SixHandles W1 W2 W3 W4 W5 W6 G) : Type 0 where
   pub feed : HasPromised interlock gate turns passes.feed workers.feed started.feed
   pub table : HasPromised interlock gate turns passes.table workers.table started.table
   pub robot : HasPromised interlock gate turns passes.robot workers.robot started.robot

@@ -1,12 +1,16 @@
 -- What a record says of six workers over one interlock.
-use Rattle.std.specs.Prelude.{◌≡◌, ℕ, true, map, None}
+use Rattle.std.specs.Prelude.{◌≡◌, ℕ, Bool, true, false, List, map, Some}
 use Rattle.cell_types.specs.declared.machine.Machine.{Machine}
 use Rattle.cell_types.specs.declared.machine.Machine.TheVariants.{Feed, Table, Robot, Press, Deposit, Crane, Watch}
+use Rattle.cell_types.specs.declared.answer.Event.{Event}
 use Rattle.cell_types.specs.Everything.{all_machines}
 use Rattle.cell_types.specs.Journals.{journal_of}
 use Rattle.cell_rules.specs.ModelState.{ModelState}
+use Rattle.cell_rules.specs.History.{after}
 use Rattle.cell_rules.specs.Journal.{noted}
+use Rattle.cell_rules.specs.Seen.{Waits}
 use Rattle.cell_rules.specs.Laws.{LawfulThroughout}
+use Rattle.cell_rules.specs.Audited.{IsAudited}
 use Rattle.cell_interlock.specs.Views.{PassView, InterlockView}
 use Rattle.cell_interlock.specs.Fresh.{fresh_pass}
 use Rattle.cell_notes.specs.declared.run_record.RunRecord.{RunRecord}
@@ -14,13 +18,17 @@ use Rattle.cell_notes.specs.declared.status.Status.{Status}
 use Rattle.cell_notes.specs.declared.status.Status.TheVariants.{Fine}
 use Rattle.cell_notes.specs.Notes.{no_counts}
 use Rattle.cell_parts.specs.Axes.{CellScales}
-use Rattle.cell_parts.specs.Plant.{PlantState}
+use Rattle.cell_parts.specs.declared.plant.PlantState.{PlantState}
 use Rattle.cell_plant.specs.Machines.{ProgressOf, PartOf, steps_of, rig_of}
 use Rattle.cell_plant.specs.CellStates.{side_in, sides_at_start}
 use Rattle.cell_plant.specs.Records.{positions_in}
-use Rattle.cell_plant.specs.Runs.{is_at_work}
 use Rattle.cell_workers.specs.Lines.{passes}
 use Rattle.cell_workers.specs.Workers.{GateOf, WorkerMoment, HasEnded, AreCountsOf}
+
+-- the six machines have workers, the watch none
+abbrev pub has_worker : Machine → Bool
+has_worker Watch = false
+has_worker _ = true
 
 abbrev pub MomentOf : Machine → Type 0
 MomentOf m = WorkerMoment PassView (ProgressOf m) (PartOf m)
@@ -42,20 +50,23 @@ parts_at_ends last =
     }
 
 -- A record is of six workers, one for each machine, over one interlock. It gives the turns of each, from its machine's
--- start to its last moment. What each has seen is then a lawful history, and its journal has its machine's notes of it.
--- The watch does nothing.
+-- start to its last moment; the watch does nothing. There is one history, lawful throughout: each has seen a prefix of
+-- it, with all events of its machine; the journals are those of this history, and the end is the state after it.
 pub record TellsWork (scales : CellScales) (opening : ModelState) (tries limit : ℕ) (gate : Machine → GateOf) (r : RunRecord) : Type 0 where
   pub interlock : InterlockView
   pub opened : interlock.opening ≡ opening
   pub last : (m : Machine) → MomentOf m
   pub statuses : Machine → Status
-  pub works : (m : Machine) → is_at_work m ≡ true → HasEnded (passes tries) (steps_of scales m) (rig_of scales m) (gate m) limit (first_moment interlock m) (last m) (statuses m)
+  pub works : (m : Machine) → has_worker m ≡ true → HasEnded (passes tries) (steps_of scales m) (rig_of scales m) (gate m) limit (first_moment interlock m) (last m) (statuses m)
   pub watch_rests : (last Watch ≡ first_moment interlock Watch) × (statuses Watch ≡ Fine)
-  pub lawful : (m : Machine) → LawfulThroughout opening (last m).line.seen
+  pub history : List Event
+  pub lawful : LawfulThroughout opening history
+  pub seen : (m : Machine) → Waits m (last m).line.seen history
   pub start : r.start ≡ opening
   pub counts : r.counts ≡ map (λ m. (last m).counts) all_machines
   pub status : r.status ≡ map statuses all_machines
   pub journals : (m : Machine) → journal_of r.journals m ≡ noted opening (last m).line.seen m
   pub counted : (m : Machine) → AreCountsOf (journal_of r.journals m) (last m).counts
-  pub end : r.end ≡ None
+  pub audited : IsAudited opening (journal_of r.journals) r.end history
+  pub end : r.end ≡ Some (after opening history)
   pub axes : r.axes ≡ positions_in (parts_at_ends last)

@@ -4,10 +4,11 @@ use Rattle.cell_types.specs.declared.machine.Machine.{Machine}
 use Rattle.cell_types.specs.declared.machine.Machine.TheVariants.{Feed, Table, Robot, Press, Deposit, Crane, Watch}
 use Rattle.cell_types.specs.declared.journal.Entry.{Entry}
 use Rattle.cell_interlock.specs.Views.{PassView, InterlockView}
+use Rattle.cell_interlock.specs.declared.pass.Passes.{Passes}
 use Rattle.cell_notes.specs.declared.counts.Counts.{Counts}
 use Rattle.cell_notes.specs.declared.status.Status.{Status}
 use Rattle.cell_parts.specs.Axes.{CellScales}
-use Rattle.cell_parts.specs.Plant.{PlantState}
+use Rattle.cell_parts.specs.declared.plant.PlantState.{PlantState}
 use Rattle.cell_plant.specs.Machines.{PartOf, steps_of, rig_of}
 use Rattle.cell_workers.specs.Workers.{GateOf, IsWorkerResult}
 use Rattle.cell_workers.specs.Records.{first_moment}
@@ -44,6 +45,19 @@ journal_in results Press = results.press.journal.items
 journal_in results Deposit = results.deposit.journal.items
 journal_in results Crane = results.crane.journal.items
 journal_in results Watch = []
+
+-- the passes, with the watch's
+abbrev pub passes_in : SixResults → PassView → Passes
+passes_in results watch =
+    record {
+      feed = results.feed.pass;
+      table = results.table.pass;
+      robot = results.robot.pass;
+      press = results.press.pass;
+      deposit = results.deposit.pass;
+      crane = results.crane.pass;
+      watch = watch;
+    }
 
 abbrev pub parts_in : SixResults → PlantState
 parts_in results =

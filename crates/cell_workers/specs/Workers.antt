@@ -5,8 +5,8 @@ use Rattle.cell_types.specs.declared.answer.Answer.TheVariants.{Shown, Refused}
 use Rattle.cell_types.specs.declared.journal.Entry.{Entry}
 use Rattle.cell_rules.specs.History.{is_done_answer}
 use Rattle.cell_rules.specs.Journal.{noted}
-use Rattle.cell_rules.specs.Laws.{LawfulThroughout}
 use Rattle.cell_interlock.specs.Views.{PassView}
+use Rattle.cell_interlock.specs.Seen.{IsSamePass}
 use Rattle.cell_control.specs.declared.fault.CtlFault.{CtlFault}
 use Rattle.cell_control.specs.Rigs.{Rig}
 use Rattle.cell_control.specs.Steps.{Steps}
@@ -84,14 +84,14 @@ pub record AreCountsOf (journal : List Entry) (c : Counts) : Type 0 where
   pub read : c.read ≡ count_by (λ e. is_shown_answer e.answer) journal
   pub refused : c.refused ≡ count_by (λ e. is_refused_answer e.answer) journal
 
--- What a worker gives back after it began at this moment: it has worked up to a last moment, with this pass, these
--- counts and this part. What the pass has seen is lawful, and the journal has its machine's notes of it.
+-- What a worker gives back after it began at this moment: it has worked up to a last moment, with these counts and this
+-- part. The pass is the one that it got, and the journal has its machine's notes of what this pass has seen.
 pub record IsWorkerResult {S Sense Reading Act State : Type 0} (tries : ℕ) (t : Steps S Sense Reading Act) (rig : Rig State Sense Act) (gate : GateOf) (limit : ℕ) (first : WorkerMoment PassView S State) (kept : PassView) (journal : List Entry) (did : Counts) (status : Status) (stands : State) : Type 0 where
   pub last : WorkerMoment PassView S State
   pub worked : HasEnded (passes tries) t rig gate limit first last status
   pub pass : last.line ≡ kept
+  pub same : IsSamePass first.line kept
   pub counts : last.counts ≡ did
   pub part : last.side.part ≡ stands
-  pub lawful : LawfulThroughout first.line.opening kept.seen
   pub journal_is : journal ≡ noted first.line.opening kept.seen first.line.machine
   pub counted : AreCountsOf journal did

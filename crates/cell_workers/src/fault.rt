@@ -13,8 +13,7 @@ use thiserror::Error;
 pub enum RunFault {
     /// The number of exchanges that a call may lose isn't 1 to 64. No worker has begun.
     Tries,
-    /// Memory ran out: for the interlock, before any worker had begun, or for an audit, after all
-    /// workers had ended.
+    /// There is no memory for the interlock. No worker has begun.
     Memory,
     /// A thread couldn't be started. The workers that had begun have ended.
     Spawn,

@@ -14,4 +14,4 @@ mod worker_result;
 
 pub use fault::RunFault;
 pub use gate::{Gate, OpenGate};
-pub use run::run_workers;
+pub use run::run_cell;

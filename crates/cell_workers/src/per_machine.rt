@@ -5,9 +5,10 @@ ghost use Rattle.cell_types.specs.Journals.{journal_of};
 ghost use Rattle.cell_notes.specs.declared.status.Status.{Status};
 ghost use Rattle.cell_notes.specs.Notes.{no_counts};
 ghost use Rattle.cell_plant.specs.Records.{positions_in};
-ghost use Rattle.cell_workers.specs.Results.{AreAllThere, journal_in, parts_in};
+ghost use Rattle.cell_workers.specs.Results.{AreAllThere, journal_in, parts_in, passes_in};
 
 use crate::worker_result::WorkerResult;
+use cell_interlock::{Pass, Passes};
 use cell_notes::{Counts, RunRecord, Status};
 use cell_parts::{CranePart, DepositPart, FeedPart, PressPart, RobotPart, TablePart};
 use cell_rules::State;
@@ -24,6 +25,9 @@ pub(crate) struct PerMachine<A, B, C, D, E, F> {
     pub deposit: E,
     pub crane: F,
 }
+
+/// The pass of each.
+pub(crate) type SixPasses = PerMachine<Pass, Pass, Pass, Pass, Pass, Pass>;
 
 /// What each worker gave back.
 pub(crate) type WorkerResults = PerMachine<
@@ -63,26 +67,30 @@ pub(crate) fn all_six(
 }
 
 impl WorkerResults {
-    /// The record of a run that began with this state. Its end is left open.
-    pub(crate) fn into_record(self, alloc: Global, start: State) -> RunRecord
-        ensures start { result.start ≡ start }
-        ensures counts { result.counts ≡ self.feed.counts ∷ self.table.counts ∷ self.robot.counts ∷ self.press.counts ∷ self.deposit.counts ∷ self.crane.counts ∷ no_counts ∷ [] }
-        ensures status { result.status ≡ self.feed.status ∷ self.table.status ∷ self.robot.status ∷ self.press.status ∷ self.deposit.status ∷ self.crane.status ∷ Status.Fine ∷ [] }
-        ensures journals { (m : Machine) → journal_of result.journals m ≡ journal_in self m }
-        ensures end { result.end ≡ None }
-        ensures axes { result.axes ≡ positions_in (parts_in self) }
+    /// The record of a run that began with this state, its end left open; and the six passes, with
+    /// the watch's.
+    pub(crate) fn into_record(self, alloc: Global, start: State, watch: Pass) -> (RunRecord, Passes)
+        ensures start { result.0.start ≡ start }
+        ensures counts { result.0.counts ≡ self.feed.counts ∷ self.table.counts ∷ self.robot.counts ∷ self.press.counts ∷ self.deposit.counts ∷ self.crane.counts ∷ no_counts ∷ [] }
+        ensures status { result.0.status ≡ self.feed.status ∷ self.table.status ∷ self.robot.status ∷ self.press.status ∷ self.deposit.status ∷ self.crane.status ∷ Status.Fine ∷ [] }
+        ensures journals { (m : Machine) → journal_of result.0.journals m ≡ journal_in self m }
+        ensures end { result.0.end ≡ None }
+        ensures axes { result.0.axes ≡ positions_in (parts_in self) }
+        ensures passes { result.1 ≡ passes_in self watch }
     {
         let counts = self.counts();
         let status = self.status();
         let axes = self.axes();
-        RunRecord {
+        let (journals, passes) = self.into_parts(alloc, watch);
+        let record = RunRecord {
             start,
             counts,
             status,
-            journals: self.into_journals(alloc),
+            journals,
             end: None,
             axes,
-        }
+        };
+        (record, passes)
     }
 
     // The counts of each machine, in the order of `Machine::ALL`.
@@ -131,9 +139,10 @@ impl WorkerResults {
         ]
     }
 
-    // Each machine's journal. The watch's is empty, and isn't allocated.
-    fn into_journals(self, alloc: Global) -> Journals
-        ensures { (m : Machine) → journal_of result m ≡ journal_in self m }
+    // Each machine's journal and pass. The watch's journal is empty, and isn't allocated.
+    fn into_parts(self, alloc: Global, watch: Pass) -> (Journals, Passes)
+        ensures journals { (m : Machine) → journal_of result.0 m ≡ journal_in self m }
+        ensures passes { result.1 ≡ passes_in self watch }
     {
         let PerMachine {
             feed,
@@ -143,7 +152,7 @@ impl WorkerResults {
             deposit,
             crane,
         } = self;
-        Journals {
+        let journals = Journals {
             feed: feed.journal,
             table: table.journal,
             robot: robot.journal,
@@ -151,6 +160,16 @@ impl WorkerResults {
             deposit: deposit.journal,
             crane: crane.journal,
             watch: Vec::new(alloc),
-        }
+        };
+        let passes = Passes {
+            feed: feed.pass,
+            table: table.pass,
+            robot: robot.pass,
+            press: press.pass,
+            deposit: deposit.pass,
+            crane: crane.pass,
+            watch,
+        };
+        (journals, passes)
     }
 }

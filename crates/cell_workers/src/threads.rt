@@ -1,14 +1,12 @@
 //! Six workers in threads.
 ghost use Rattle.std.specs.Prelude.{IfSome};
-ghost use Rattle.cell_interlock.specs.Fresh.{AreFresh};
-ghost use Rattle.cell_workers.specs.Promises.{AreKept, ArePromised, AreReady, AreStartedInTurn, GiveBack};
+ghost use Rattle.cell_workers.specs.Promises.{AreAllFresh, AreKept, ArePromised, AreReady, AreStartedInTurn, GiveBack};
 
 use crate::gate::Gate;
-use crate::per_machine::{PerMachine, WorkerResults, all_six};
+use crate::per_machine::{PerMachine, SixPasses, WorkerResults, all_six};
 use crate::start::{WorkerContext, WorkerPromise, join, start};
 use crate::worker::Worker;
 use crate::worker_result::WorkerResult;
-use cell_interlock::Passes;
 use cell_parts::{CranePart, DepositPart, FeedPart, PressPart, RobotPart, TablePart};
 use std::sync::Wait;
 use std::thread;
@@ -23,7 +21,7 @@ type WorkerHandle<B, W, G> = Option<PromisedHandle<WorkerResult<B>, WorkerPromis
 pub(crate) fn run_in_threads<R, W1, W2, W3, W4, W5, W6, G>(
     rt: &R,
     context: &WorkerContext<'_, G>,
-    passes: Passes,
+    passes: SixPasses,
     workers: PerMachine<W1, W2, W3, W4, W5, W6>,
 ) -> Option<WorkerResults>
 where
@@ -35,7 +33,7 @@ where
     W5: Worker<Part = DepositPart> + Send,
     W6: Worker<Part = CranePart> + Send,
     G: Gate + Sync,
-    requires fresh { AreFresh context.now.interlock.now passes }
+    requires fresh { AreAllFresh context.now.interlock.now passes }
     requires ready { AreReady W1.is_ready W2.is_ready W3.is_ready W4.is_ready W5.is_ready W6.is_ready workers passes }
     ensures { IfSome result (GiveBack W1.gives_back W2.gives_back W3.gives_back W4.gives_back W5.gives_back W6.gives_back workers passes context.now.interlock.now.tries (G.may_answer context.now.gate.now) context.now.turns) }
 {
@@ -43,7 +41,7 @@ where
         thread::scope_env(),
         rt,
         move |scope| -> Option<WorkerResults>
-            requires { AreFresh context.now.interlock.now passes × AreReady W1.is_ready W2.is_ready W3.is_ready W4.is_ready W5.is_ready W6.is_ready workers passes }
+            requires { AreAllFresh context.now.interlock.now passes × AreReady W1.is_ready W2.is_ready W3.is_ready W4.is_ready W5.is_ready W6.is_ready workers passes }
             ensures { IfSome result (GiveBack W1.gives_back W2.gives_back W3.gives_back W4.gives_back W5.gives_back W6.gives_back workers passes context.entry.now.interlock.now.tries (G.may_answer context.entry.now.gate.now) context.entry.now.turns) }
         {
             let started = start_six(scope, context, passes, workers);
@@ -56,7 +54,7 @@ where
 fn start_six<'s, E, W1, W2, W3, W4, W5, W6, G>(
     scope: &Scope<'s, E>,
     context: &WorkerContext<'s, G>,
-    passes: Passes,
+    passes: SixPasses,
     workers: PerMachine<W1, W2, W3, W4, W5, W6>,
 ) -> PerMachine<
     WorkerHandle<FeedPart, W1, G>,
@@ -74,7 +72,7 @@ where
     W5: Worker<Part = DepositPart> + Send + 's,
     W6: Worker<Part = CranePart> + Send + 's,
     G: Gate + Sync,
-    requires fresh { AreFresh context.now.interlock.now passes }
+    requires fresh { AreAllFresh context.now.interlock.now passes }
     requires ready { AreReady W1.is_ready W2.is_ready W3.is_ready W4.is_ready W5.is_ready W6.is_ready workers passes }
     ensures promised { ArePromised context.now.interlock.now context.now.gate.now context.now.turns passes workers result }
     ensures in_turn { AreStartedInTurn result }

@@ -9,7 +9,6 @@ use crate::take_turns::take_turns;
 use cell_control::{Part, Program};
 use cell_interlock::{Interlock, Pass, PassLine};
 use cell_notes::{Counts, Status};
-use cell_rules::laws::lawful_histories;
 use cell_types::Entry;
 use cell_unit::MachineUnit;
 use std::alloc::Global;
@@ -45,7 +44,6 @@ pub(crate) fn take_turns_by_pass<P: Program, B: Part<Sense = P::Sense, Act = P::
     ensures { IsWorkerResult interlock.now.tries (unit_table P.steps unit) (unit_rig B.rig B.make unit) (G.may_answer gate.now pass.machine) turns
         (worker_moment pass (unit_side B.state unit) no_counts) result.pass result.journal.items result.counts result.status (B.state result.part) }
 {
-    lawful_histories();
     let mut unit = unit;
     let mut line = PassLine::new(alloc, interlock, pass);
     let ending = take_turns(&mut unit, &mut line, gate, turns);

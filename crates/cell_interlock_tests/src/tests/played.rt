@@ -1,5 +1,6 @@
 //! Plays steps on a new interlock. Each outcome has to be the wanted one. It also has to be one
 //! that the calls before it give cause for, by what the test itself has noted of them.
+ghost use Rattle.std.specs.Prelude.{IfSome};
 ghost use Rattle.cell_interlock_tests.specs.Held.{AreHeldAt};
 
 use crate::callers::{Callers, Outcome, Step};
@@ -66,14 +67,16 @@ fn is_stamped(before: &[Taken], first: u32, outcome: Outcome) -> bool {
     }
 }
 
-fn are_outcomes(
+/// The callers after these steps, if they have these outcomes.
+fn after_steps(
     interlock: &Interlock,
     callers: Callers,
     limits: (u32, u8),
     steps: &[Taken],
     mut before: Vec<Taken>,
-) -> bool
+) -> Option<Callers>
     requires { AreHeldAt interlock.now callers }
+    ensures { IfSome result (AreHeldAt interlock.now) }
 {
     let (first, tries) = limits;
     let mut callers = callers;
@@ -85,23 +88,26 @@ fn are_outcomes(
             || !is_stamped(&before, first, outcome)
             || before.push(taken).is_err()
         {
-            return false;
+            return None;
         }
     }
-    true
+    Some(callers)
 }
 
-/// Whether these steps, taken in this order on a new interlock with this first stamp and no plates,
-/// have these outcomes.
+/// The state that an interlock leaves if these steps are taken in this order, and then it is
+/// closed. It is a new one with this first stamp and no plates. `None` if the steps haven't these
+/// outcomes.
+pub fn state_left(alloc: Global, first: u32, tries: u8, steps: &[Taken]) -> Option<State> {
+    let opening = State::start([false; 10], first).ok()?;
+    let (interlock, passes) = Interlock::new(alloc, opening, tries).ok()?;
+    let callers = Callers::new(&interlock, passes);
+    let callers = after_steps(&interlock, callers, (first, tries), steps, Vec::new(alloc))?;
+    let passes = callers.into_passes(&interlock)?;
+    Some(interlock.close(passes).state)
+}
+
+/// Whether these steps have these outcomes, if they are taken in this order on a new interlock with
+/// this first stamp and no plates.
 pub fn is_played(alloc: Global, first: u32, tries: u8, steps: &[Taken]) -> bool {
-    let Ok(opening) = State::start([false; 10], first) else {
-        return false;
-    };
-    match Interlock::new(alloc, opening, tries) {
-        Ok((interlock, passes)) => {
-            let callers = Callers::new(&interlock, passes);
-            are_outcomes(&interlock, callers, (first, tries), steps, Vec::new(alloc))
-        }
-        Err(_) => false,
-    }
+    state_left(alloc, first, tries, steps).is_some()
 }

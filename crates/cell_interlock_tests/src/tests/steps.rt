@@ -59,11 +59,11 @@ const DONE_6: Outcome = Outcome::Settled(Answer::Done, 6);
 
 const DONE_7: Outcome = Outcome::Settled(Answer::Done, 7);
 
-const TABLE_LOOKS: Taken = (Machine::Table, Step::Look(CLAIM_1), Outcome::Pending);
+pub const TABLE_LOOKS: Taken = (Machine::Table, Step::Look(CLAIM_1), Outcome::Pending);
 
 const TABLE_LOSES: Taken = (Machine::Table, Step::Attempt, Outcome::Lost);
 
-const PRESS_CLAIMS: Taken = (Machine::Press, Step::Ask(CLAIM_3), DONE_1);
+pub const PRESS_CLAIMS: Taken = (Machine::Press, Step::Ask(CLAIM_3), DONE_1);
 
 const PRESS_RELEASES: Taken = (Machine::Press, Step::Ask(RELEASE_3), DONE_2);
 
@@ -96,7 +96,7 @@ const APART: &[Taken] = &[
 ];
 
 // The zones are as they were, but the word isn't.
-const OVERTAKEN: &[Taken] = &[
+pub const OVERTAKEN: &[Taken] = &[
     (Machine::Table, Step::Look(CLAIM_1), Outcome::Pending),
     (Machine::Press, Step::Ask(CLAIM_3), DONE_1),
     (Machine::Table, Step::Attempt, Outcome::Lost),
@@ -236,7 +236,7 @@ const STOP_LOST_ONCE: &[Taken] = &[
 ];
 
 // No call of others comes between.
-const ALONE: &[Taken] = &[TABLE_LOOKS, (Machine::Table, Step::Attempt, DONE_1)];
+pub const ALONE: &[Taken] = &[TABLE_LOOKS, (Machine::Table, Step::Attempt, DONE_1)];
 
 const LOST_ONCE: &[Taken] = &[
     TABLE_LOOKS,
@@ -447,7 +447,7 @@ const OTHERS_ARE_BUSY: &[Taken] = &[
 ];
 
 // The abandoned call was never made.
-const ABANDONED: &[Taken] = &[
+pub const ABANDONED: &[Taken] = &[
     TABLE_LOOKS,
     (Machine::Table, Step::Abandon, Outcome::Abandoned),
     (Machine::Table, Step::Ask(Call::Claim(Zone::Z2)), DONE_1),
@@ -460,7 +460,7 @@ const ABANDONED: &[Taken] = &[
 ];
 
 // The next call has lost no exchange yet.
-const ABANDONED_LATE: &[Taken] = &[
+pub const ABANDONED_LATE: &[Taken] = &[
     TABLE_LOOKS,
     PRESS_CLAIMS,
     TABLE_LOSES,

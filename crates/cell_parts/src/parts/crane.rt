@@ -3,6 +3,7 @@ ghost use Rattle.cell_parts.specs.Axes.{IsWithin, crane_end, gripper_end};
 ghost use Rattle.cell_parts.specs.Plant.{crane_at_start};
 
 use crate::axis::Axis;
+use crate::plant::CranePlant;
 use crate::potentiometer::raw_at;
 use cell_calib::{CraneSense, Points};
 use cell_control::Part;
@@ -40,7 +41,8 @@ pub struct CranePart {
 impl Model for CranePart {
     ghost use Rattle.cell_calib.specs.Scale.{Scale};
     ghost use Rattle.cell_parts.specs.Axes.{IsWithin, crane_end, gripper_end};
-    ghost use Rattle.cell_parts.specs.Plant.{CranePlant, Scaled};
+    ghost use Rattle.cell_parts.specs.declared.plant.CranePlant.{CranePlant};
+    ghost use Rattle.cell_parts.specs.Plant.{Scaled};
 
     ghost Value = { Scaled CranePlant Scale };
 
@@ -66,6 +68,17 @@ impl CranePart {
         }
     }
 
+    /// Its axes, with their motors, and its magnet.
+    pub fn plant(&self) -> CranePlant
+        ensures { result ≡ self.now.plant }
+    {
+        CranePlant {
+            travel: self.travel,
+            gripper: self.gripper,
+            magnet: self.magnet,
+        }
+    }
+
     /// Its distance from the deposit belt, in tenths of a millimetre.
     pub fn travel(&self) -> i32
         ensures value { result ≡ self.now.plant.travel.position }
@@ -85,7 +98,7 @@ impl CranePart {
 
 impl Part for CranePart {
     ghost use Rattle.cell_calib.specs.Scale.{Scale};
-    ghost use Rattle.cell_parts.specs.Plant.{CranePlant};
+    ghost use Rattle.cell_parts.specs.declared.plant.CranePlant.{CranePlant};
     ghost use Rattle.cell_parts.specs.Rigs.{crane_rig};
 
     type Sense = CraneSense;

@@ -53,6 +53,13 @@ impl PressPart {
         }
     }
 
+    /// Its axis, with its motor.
+    pub fn plant(&self) -> Axis
+        ensures { result ≡ self.now }
+    {
+        self.axis
+    }
+
     /// Its position, in tenths of a millimetre.
     pub fn position(&self) -> i32
         ensures value { result ≡ self.now.position }

@@ -3,6 +3,7 @@ ghost use Rattle.cell_parts.specs.Axes.{IsWithin, arm_end, rotation_end};
 ghost use Rattle.cell_parts.specs.Plant.{robot_at_start};
 
 use crate::axis::Axis;
+use crate::plant::RobotPlant;
 use crate::potentiometer::raw_at;
 use cell_calib::{Points, RobotSense};
 use cell_control::Part;
@@ -45,7 +46,8 @@ pub struct RobotPart {
 
 impl Model for RobotPart {
     ghost use Rattle.cell_parts.specs.Axes.{IsWithin, RobotScales, arm_end, rotation_end};
-    ghost use Rattle.cell_parts.specs.Plant.{RobotPlant, Scaled};
+    ghost use Rattle.cell_parts.specs.declared.plant.RobotPlant.{RobotPlant};
+    ghost use Rattle.cell_parts.specs.Plant.{Scaled};
 
     ghost Value = { Scaled RobotPlant RobotScales };
 
@@ -83,6 +85,19 @@ impl RobotPart {
         }
     }
 
+    /// Its axes, with their motors, and its magnets.
+    pub fn plant(&self) -> RobotPlant
+        ensures { result ≡ self.now.plant }
+    {
+        RobotPlant {
+            arm1: self.arm1,
+            arm2: self.arm2,
+            rotation: self.rotation,
+            magnet1: self.magnet1,
+            magnet2: self.magnet2,
+        }
+    }
+
     /// The first arm's extension, in tenths of a millimetre.
     pub fn arm1(&self) -> i32
         ensures value { result ≡ self.now.plant.arm1.position }
@@ -110,7 +125,7 @@ impl RobotPart {
 
 impl Part for RobotPart {
     ghost use Rattle.cell_parts.specs.Axes.{RobotScales};
-    ghost use Rattle.cell_parts.specs.Plant.{RobotPlant};
+    ghost use Rattle.cell_parts.specs.declared.plant.RobotPlant.{RobotPlant};
     ghost use Rattle.cell_parts.specs.Rigs.{robot_rig};
 
     type Sense = RobotSense;

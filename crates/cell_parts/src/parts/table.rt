@@ -3,6 +3,7 @@ ghost use Rattle.cell_parts.specs.Axes.{IsWithin, lift_end, turn_end};
 ghost use Rattle.cell_parts.specs.Plant.{table_at_start};
 
 use crate::axis::Axis;
+use crate::plant::TablePlant;
 use crate::potentiometer::raw_at;
 use cell_calib::{Points, TableSense};
 use cell_control::Part;
@@ -34,7 +35,8 @@ pub struct TablePart {
 impl Model for TablePart {
     ghost use Rattle.cell_calib.specs.Scale.{Scale};
     ghost use Rattle.cell_parts.specs.Axes.{IsWithin, lift_end, turn_end};
-    ghost use Rattle.cell_parts.specs.Plant.{TablePlant, Scaled};
+    ghost use Rattle.cell_parts.specs.declared.plant.TablePlant.{TablePlant};
+    ghost use Rattle.cell_parts.specs.Plant.{Scaled};
 
     ghost Value = { Scaled TablePlant Scale };
 
@@ -59,6 +61,16 @@ impl TablePart {
         }
     }
 
+    /// Its axes, with their motors.
+    pub fn plant(&self) -> TablePlant
+        ensures { result ≡ self.now.plant }
+    {
+        TablePlant {
+            lift: self.lift,
+            turn: self.turn,
+        }
+    }
+
     /// Its height, in tenths of a millimetre.
     pub fn lift(&self) -> i32
         ensures value { result ≡ self.now.plant.lift.position }
@@ -78,7 +90,7 @@ impl TablePart {
 
 impl Part for TablePart {
     ghost use Rattle.cell_calib.specs.Scale.{Scale};
-    ghost use Rattle.cell_parts.specs.Plant.{TablePlant};
+    ghost use Rattle.cell_parts.specs.declared.plant.TablePlant.{TablePlant};
     ghost use Rattle.cell_parts.specs.Rigs.{table_rig};
 
     type Sense = TableSense;

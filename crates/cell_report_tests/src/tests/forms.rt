@@ -108,10 +108,14 @@ const NO_STARTS: &[&str] = &[
     "Start,0000000000\n",
     "start \n",
     ",0000000000\n",
-    "start2,0000000000\n",
+    "start3,0000000000\n",
+    "start22,0000000000\n",
+    "start 2,0000000000\n",
+    "START2,0000000000\n",
     // Quotes aren't part of a field, and a field is compared whole.
     "\"start,0000000000\"\n",
-    "\"start\"2,0000000000\n",
+    "\"start2,0000000000\"\n",
+    "\"start\"3,0000000000\n",
     "\r\n\r\n\r\n",
     "\u{feff}\u{feff}start,0000000000\n",
     "\n\u{feff}start,0000000000\n",
@@ -152,6 +156,17 @@ const BAD_STARTS: &[&str] = &[
     "start,0000000000,00000000\n",
     "start,0000000000,\u{665}\n",
     "start,\"0000000000\npress,claim,z3\n",
+    // In the second version as in the first.
+    "start2\n",
+    "start2,\n",
+    "start2,000000000\n",
+    "start2,0000000002\n",
+    "start2,0000110000\n",
+    "start2,0000000000,\n",
+    "start2,0000000000,1048576\n",
+    "start2,0000000000,00000000\n",
+    "start2,0000000000,5,\n",
+    "start2,start,0000000000\n",
 ];
 
 const STAMPS: &[(&str, &str)] = &[
@@ -159,6 +174,12 @@ const STAMPS: &[(&str, &str)] = &[
     ("start,0000010001,1048575\n", "0 1048575 start 2\n"),
     ("start,0000000000,0000000\r\n", "0 0 start 0\n"),
     ("start,0000000000,\"0000005", "0 5 start 0\n"),
+    ("start2,0000000000\n", "0 0 start2 0\n"),
+    ("\"start\"2,0000000000\n", "0 0 start2 0\n"),
+    (
+        "\u{feff}start2,0000010001,1048575\r\n",
+        "0 1048575 start2 2\n",
+    ),
 ];
 
 /// Groups of scripts with the same answer.

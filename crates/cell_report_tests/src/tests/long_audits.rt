@@ -173,12 +173,14 @@ const PLACES: [bool; 10] = [
 ];
 
 #[test]
-fn audits_twenty_thousand_entries(rt: HostRuntime) {
+fn audits_many_entries(rt: HostRuntime) {
     let start = start_at(&rt, PLACES, 100);
-    let (mut journals, end) = run(&rt, rt.alloc(), &mut Numbers(1995), &start, 20_000);
-    let events = audit(rt.alloc(), &journals, &start, Some(&end)).expect(&rt, "a history");
-    assert!(rt; events.len() == 20_000);
-    assert!(rt; is_explained(&mut journals, &start, &events));
+    for calls in [1_000, 10_000, 100_000] {
+        let (mut journals, end) = run(&rt, rt.alloc(), &mut Numbers(1995), &start, calls);
+        let events = audit(rt.alloc(), &journals, &start, Some(&end)).expect(&rt, "a history");
+        assert!(rt; events.len() == calls as usize, "{calls} entries");
+        assert!(rt; is_explained(&mut journals, &start, &events), "{calls} entries");
+    }
 }
 
 #[test]

@@ -4,7 +4,7 @@ use super::{EMPTY, start_at};
 use crate::doubles::{Failure, InterruptedWriter};
 use cell_notes::{Counts, RunRecord, Status};
 use cell_report::{AuditFault, WriteFault, write_report};
-use cell_rules::apply;
+use cell_rules::{State, apply};
 use cell_types::{Call, Journals, Machine, Pose, Zone};
 use std::alloc::Global;
 use std::process::Abort;
@@ -50,13 +50,15 @@ fn press_alone(rt: &impl Abort, alloc: Global) -> RunRecord {
     }
 }
 
-const PRESS_ALONE: &str = "start 0000000000 0
+const PRESS_ALONE: &str = "version 2
+start 0000000000 0
 feed turns 0 done 0 read 0 refused 0 busy 0 ok
 table turns 0 done 0 read 0 refused 0 busy 0 ok
 robot turns 0 done 0 read 0 refused 0 busy 0 ok
 press turns 31 done 4 read 0 refused 1 busy 0 ok
 deposit turns 0 done 0 read 0 refused 0 busy 0 ok
 crane turns 0 done 0 read 0 refused 0 busy 0 ok
+watch turns 0 done 0 read 0 refused 0 busy 0 ok
 zone z1 free 0 closed
 zone z2 free 0 closed
 zone z3 free 0 openin
@@ -65,7 +67,7 @@ zone z5 free 0 closed
 zone z6 free 0 closed
 places 0000000000
 axes press 500 arm1 0 arm2 0 rotation 300 lift 0 turn 0 crane 0 gripper 900
-stamp 4 plates 0
+stamp 4 plates 0 stopped 0
 audit ok
 ";
 
@@ -115,13 +117,15 @@ fn mixed(rt: &impl Abort, alloc: Global) -> RunRecord {
 }
 
 /// Its report without the line of the audit.
-const MIXED: &str = "start 1010010101 1048575
+const MIXED: &str = "version 2
+start 1010010101 1048575
 feed turns 10 done 2 read 3 refused 4 busy 5 worn
 table turns 20 done 2 read 3 refused 4 busy 5 sensor
 robot turns 30 done 2 read 3 refused 4 busy 5 refused
 press turns 40 done 2 read 3 refused 4 busy 5 memory
 deposit turns 50 done 2 read 3 refused 4 busy 5 gatelimit
 crane turns 60 done 2 read 3 refused 4 busy 5 ok
+watch turns 70 done 2 read 3 refused 4 busy 5 worn
 axes press 1 arm1 2 arm2 3 rotation 4 lift 5 turn 6 crane 7 gripper 8
 ";
 
@@ -162,25 +166,37 @@ const BUSY_PLACES: [bool; 10] = [
     false, true, false, true, false, true, false, false, true, true,
 ];
 
-/// A run that ends after the calls of `BUSY`, with three of five plates in zones.
-fn busy(rt: &impl Abort, alloc: Global) -> RunRecord {
+/// The run of the press, but from this start and with the end after these calls.
+fn ends_after(
+    rt: &impl Abort,
+    alloc: Global,
+    start: State,
+    calls: &[(Machine, Call)],
+) -> RunRecord {
     let mut run = press_alone(rt, alloc);
-    run.start = start_at(rt, BUSY_PLACES, 1000);
-    let mut end = run.start;
-    for (machine, call) in BUSY {
+    let mut end = start;
+    for (machine, call) in calls {
         apply(&mut end, *machine, *call);
     }
+    run.start = start;
     run.end = Some(end);
     run
 }
 
-const BUSY_TEXT: &str = "start 0101010011 1000
+/// A run that ends after the calls of `BUSY`, with three of five plates in zones.
+fn busy(rt: &impl Abort, alloc: Global) -> RunRecord {
+    ends_after(rt, alloc, start_at(rt, BUSY_PLACES, 1000), BUSY)
+}
+
+const BUSY_TEXT: &str = "version 2
+start 0101010011 1000
 feed turns 0 done 0 read 0 refused 0 busy 0 ok
 table turns 0 done 0 read 0 refused 0 busy 0 ok
 robot turns 0 done 0 read 0 refused 0 busy 0 ok
 press turns 31 done 4 read 0 refused 1 busy 0 ok
 deposit turns 0 done 0 read 0 refused 0 busy 0 ok
 crane turns 0 done 0 read 0 refused 0 busy 0 ok
+watch turns 0 done 0 read 0 refused 0 busy 0 ok
 zone z1 table 1 openin
 zone z2 table 0 closed
 zone z3 press 0 moving
@@ -189,7 +205,7 @@ zone z5 crane 1 openout
 zone z6 feed 1 openin
 places 0001010000
 axes press 500 arm1 0 arm2 0 rotation 300 lift 0 turn 0 crane 0 gripper 900
-stamp 1018 plates 5
+stamp 1018 plates 5 stopped 0
 audit ok
 ";
 
@@ -201,9 +217,28 @@ const MOST: Counts = Counts {
     busy: u64::MAX,
 };
 
-/// The run of the press with the longest numbers and words; a page has room for it.
+/// Calls after which no line of a zone can be longer, and the cell is stopped.
+const LONGEST_LINES: &[(Machine, Call)] = &[
+    (Machine::Table, Call::Claim(Zone::Z1)),
+    (Machine::Table, Call::Claim(Zone::Z2)),
+    (Machine::Table, Call::SetPose(Pose::Turning)),
+    (Machine::Table, Call::SetPose(Pose::Unloading)),
+    (Machine::Press, Call::Claim(Zone::Z3)),
+    (Machine::Press, Call::SetPose(Pose::Travelling)),
+    (Machine::Press, Call::SetPose(Pose::Low)),
+    (Machine::Deposit, Call::Claim(Zone::Z4)),
+    (Machine::Deposit, Call::Claim(Zone::Z5)),
+    (Machine::Deposit, Call::SetPose(Pose::Offering)),
+    (Machine::Feed, Call::Claim(Zone::Z6)),
+    (Machine::Feed, Call::SetPose(Pose::Landing)),
+    (Machine::Feed, Call::Release(Zone::Z6)),
+    (Machine::Crane, Call::Claim(Zone::Z6)),
+    (Machine::Watch, Call::Stop),
+];
+
+/// A run with the longest numbers and words, up to the last stamp; a page has room for it.
 fn largest(rt: &impl Abort, alloc: Global) -> RunRecord {
-    let mut run = press_alone(rt, alloc);
+    let mut run = ends_after(rt, alloc, start_at(rt, EMPTY, 1_048_560), LONGEST_LINES);
     run.counts = [MOST; 7];
     run.status = [Status::GateLimit; 7];
     run.axes = [i32::MIN; 8];
@@ -211,22 +246,24 @@ fn largest(rt: &impl Abort, alloc: Global) -> RunRecord {
 }
 
 /// Its report without the line of the audit.
-const LARGEST: &str = "start 0000000000 0
+const LARGEST: &str = "version 2
+start 0000000000 1048560
 feed turns 18446744073709551615 done 18446744073709551615 read 18446744073709551615 refused 18446744073709551615 busy 18446744073709551615 gatelimit
 table turns 18446744073709551615 done 18446744073709551615 read 18446744073709551615 refused 18446744073709551615 busy 18446744073709551615 gatelimit
 robot turns 18446744073709551615 done 18446744073709551615 read 18446744073709551615 refused 18446744073709551615 busy 18446744073709551615 gatelimit
 press turns 18446744073709551615 done 18446744073709551615 read 18446744073709551615 refused 18446744073709551615 busy 18446744073709551615 gatelimit
 deposit turns 18446744073709551615 done 18446744073709551615 read 18446744073709551615 refused 18446744073709551615 busy 18446744073709551615 gatelimit
 crane turns 18446744073709551615 done 18446744073709551615 read 18446744073709551615 refused 18446744073709551615 busy 18446744073709551615 gatelimit
-zone z1 free 0 closed
-zone z2 free 0 closed
-zone z3 free 0 openin
-zone z4 free 0 closed
-zone z5 free 0 closed
-zone z6 free 0 closed
+watch turns 18446744073709551615 done 18446744073709551615 read 18446744073709551615 refused 18446744073709551615 busy 18446744073709551615 gatelimit
+zone z1 table 0 closed
+zone z2 table 0 openout
+zone z3 press 0 openout
+zone z4 deposit 0 closed
+zone z5 deposit 0 openout
+zone z6 crane 0 openin
 places 0000000000
 axes press -2147483648 arm1 -2147483648 arm2 -2147483648 rotation -2147483648 lift -2147483648 turn -2147483648 crane -2147483648 gripper -2147483648
-stamp 4 plates 0
+stamp 1048575 plates 0 stopped 1
 ";
 
 /// Whether the report of a run and an audit is this text and then this line.
@@ -256,6 +293,7 @@ fn tells_runs(rt: HostRuntime) {
     }
     let differs = Some(AuditFault::Differs(u32::MAX));
     let line = "audit differs 4294967295\n";
+    assert!(rt; LARGEST.len().saturating_add(line.len()) == 1_457);
     assert!(rt; is_reported(alloc, &largest(&rt, alloc), differs, LARGEST, line));
 }
 

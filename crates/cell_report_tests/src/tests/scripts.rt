@@ -67,6 +67,26 @@ const ANSWERED: &[(&str, &str)] = &[
     ),
     // A plate goes round.
     (ROUND, ROUND_TEXT),
+    // The watch stops the cell and resumes it.
+    (
+        "start2,0000000000\npress,claim,z3\nwatch,stop\npress,pose,travelling\nrobot,claim,z1\npress,release,z3\nwatch,stop\npress,resume\nwatch,resume\nwatch,resume\n",
+        "0 0 start2 0\n1 1 done\n2 2 done\n3 2 stopped\n4 2 notparty\n5 3 done\n6 3 stopped\n7 3 notparty\n8 4 done\n9 4 notstopped\n",
+    ),
+    // A stopped press comes to rest. Then it doesn't move again, and no other machine may claim.
+    (
+        "start2,0000000000\npress,claim,z3\npress,pose,travelling\nwatch,stop\npress,pose,middle\npress,pose,travelling\npress,release,z3\nrobot,claim,z3\nwatch,resume\nrobot,claim,z3\n",
+        "0 0 start2 0\n1 1 done\n2 2 done\n3 3 done\n4 4 done\n5 4 stopped\n6 5 done\n7 5 stopped\n8 6 done\n9 7 done\n",
+    ),
+    // A plate that was given before the stop is taken; no further one is given.
+    (
+        "start2,0100000000\ntable,claim,z1\ntable,claim,z2\ntable,pose,turning\ntable,pose,loading\ntable,release,z1\nfeed,claim,z1\nfeed,give,z1\nwatch,stop\ntable,take,z1\ntable,give,z2\nwatch,inquire,z1\n",
+        "0 0 start2 1\n1 1 done\n2 2 done\n3 3 done\n4 4 done\n5 5 done\n6 6 done\n7 7 done\n8 8 done\n9 9 done\n10 9 stopped\n11 9 zone table 0 openin\n",
+    ),
+    // At the last stamp the watch can't stop the cell; nor can it resume a cell that isn't stopped.
+    (
+        "start2,0000000000,1048575\nwatch,stop\nwatch,resume\nfeed,stop\n",
+        "0 1048575 start2 0\n1 1048575 worn\n2 1048575 notstopped\n3 1048575 notparty\n",
+    ),
 ];
 
 const REFUSED: &[(&str, &str, Outcome)] = &[
@@ -88,7 +108,7 @@ const REFUSED: &[(&str, &str, Outcome)] = &[
         "0 0 start 0\n1 1 done\n2 2 done\n3 3 done\n4 3 wrongway\n5 3 nopose\n6 3 notparty\n7 3 already\nfault badrow 8\n",
         Outcome::Refused(ScriptFault::BadRow(8)),
     ),
-    // A script doesn't stop the cell.
+    // A script of the first version doesn't stop the cell.
     (
         "start,0000000000\nwatch,stop\n",
         "0 0 start 0\nfault badrow 1\n",
@@ -102,6 +122,17 @@ const REFUSED: &[(&str, &str, Outcome)] = &[
     (
         "start,0000000000\npress,stop\n",
         "0 0 start 0\nfault badrow 1\n",
+        Outcome::Refused(ScriptFault::BadRow(1)),
+    ),
+    // One of the second does, by two fields.
+    (
+        "start2,0000000000\nwatch,stop\nwatch,resume,z1\n",
+        "0 0 start2 0\n1 1 done\nfault badrow 2\n",
+        Outcome::Refused(ScriptFault::BadRow(2)),
+    ),
+    (
+        "start2,0000000000\nwatch,stop,\n",
+        "0 0 start2 0\nfault badrow 1\n",
         Outcome::Refused(ScriptFault::BadRow(1)),
     ),
 ];

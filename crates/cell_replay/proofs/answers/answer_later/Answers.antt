@@ -21,7 +21,7 @@ rows-preserved g c = record {
       let mid = g.W.Write.contents c.flush_at_pause.new.writer in
       let wrote = Appends-kept old (g.W.Write.contents c.rows.writer) mid (concat inv.0) inv.3 c.flush_at_pause.ensures in
       let new = g.W.Write.contents c.answer_next.new.writer in
-      let h = one-goes (is_cut_of bytes) c.rows.done c.rows.state c.answer_next.new.state inv.1 mid new _ c.answer_next.result (c.in-Ok-None.is ∙ ap Ok c.in-Ok-None.field-0-is) (c.answer_next.ensures.written bytes is inv.1 inv.2) in
+      let h = one-goes c.args.start.version (is_cut_of bytes) c.rows.done c.rows.state c.answer_next.new.state inv.1 mid new _ c.answer_next.result (c.in-Ok-None.is ∙ ap Ok c.in-Ok-None.field-0-is) (c.answer_next.ensures.written bytes is inv.1 inv.2) in
       (inv.0 ++ h.1 ∷ [], h.0, h.5, line-more inv.0 h.1 old mid new wrote h.2, lines-step inv.0 _ _ _ h.1 inv.4 h.3, sym h.4 ∙ inv.5);
 }
 
@@ -33,7 +33,7 @@ returns-in-Ok-Some g c = record {
       let mid = g.W.Write.contents c.flush_at_pause.new.writer in
       let wrote = Appends-kept old (g.W.Write.contents c.rows.writer) mid (concat inv.0) inv.3 c.flush_at_pause.ensures in
       let new = g.W.Write.contents c.answer_next.new.writer in
-      let h = one-stops (is_cut_of bytes) c.rows.done c.rows.state c.answer_next.new.state inv.1 mid new _ c.answer_next.result c.in-Ok-Some.outcome (c.in-Ok-Some.is ∙ ap Ok c.in-Ok-Some.field-0-is) (c.answer_next.ensures.written bytes is inv.1 inv.2) in
+      let h = one-stops c.args.start.version (is_cut_of bytes) c.rows.done c.rows.state c.answer_next.new.state inv.1 mid new _ c.answer_next.result c.in-Ok-Some.outcome (c.in-Ok-Some.is ∙ ap Ok c.in-Ok-Some.field-0-is) (c.answer_next.ensures.written bytes is inv.1 inv.2) in
       writes-through inv.0 _ _ _ _ old mid new (Ok c.in-Ok-Some.outcome) wrote inv.4 inv.5 h;
 }
 
@@ -45,7 +45,7 @@ returns-in-Err g c = record {
       let mid = g.W.Write.contents c.flush_at_pause.new.writer in
       let wrote = Appends-kept old (g.W.Write.contents c.rows.writer) mid (concat inv.0) inv.3 c.flush_at_pause.ensures in
       let new = g.W.Write.contents c.answer_next.new.writer in
-      let h = one-fails (is_cut_of bytes) c.rows.done c.rows.state c.answer_next.new.state inv.1 mid new _ c.answer_next.result c.in-Err.fault c.in-Err.is (c.answer_next.ensures.written bytes is inv.1 inv.2) in
+      let h = one-fails c.args.start.version (is_cut_of bytes) c.rows.done c.rows.state c.answer_next.new.state inv.1 mid new _ c.answer_next.result c.in-Err.fault c.in-Err.is (c.answer_next.ensures.written bytes is inv.1 inv.2) in
       writes-through inv.0 _ _ _ _ old mid new (Err c.in-Err.fault) wrote inv.4 inv.5 h;
 }
 
@@ -60,7 +60,7 @@ returns-then-branch g c = record {
       let row = fields_of c.next.new.self.row in
       let some = gives-some c.in_ok-next.field-0 row inv.1 c.next.new.self.is_cut (is_cut_of bytes) _ found (c.in_ok-next.ensures.gives bytes is inv.1 inv.2) in
       let full : c.rows.done ≡ max_records = omega (arith, c.rows-test.false, c.rows.auto.done-end) in
-      writes-through inv.0 _ _ _ _ old mid mid (Ok _) wrote inv.4 inv.5 (writes-long (is_cut_of bytes) c.rows.done c.rows.state row inv.1 some.0 mid full some.1);
+      writes-through inv.0 _ _ _ _ old mid mid (Ok _) wrote inv.4 inv.5 (writes-long c.args.start.version (is_cut_of bytes) c.rows.done c.rows.state row inv.1 some.0 mid full some.1);
 }
 
 pub returns : goal.returns
@@ -73,7 +73,7 @@ returns g c = record {
       let found : c.in_ok-next.field-0 ≡ false = search rules in
       let none = gives-none c.in_ok-next.field-0 _ inv.1 c.next.new.self.is_cut (is_cut_of bytes) _ found (c.in_ok-next.ensures.gives bytes is inv.1 inv.2) in
       writes-through inv.0 _ _ _ _ old mid mid (Ok c.end.result) wrote inv.4 inv.5
-      (writes-end (is_cut_of bytes) c.rows.done c.rows.state inv.1 c.next.new.self.is_cut c.end.result mid none.0 none.1 (c.end.ensures ∙ ap (λ b. end_of b 0 0) c.is_cut.ensures));
+      (writes-end c.args.start.version (is_cut_of bytes) c.rows.done c.rows.state inv.1 c.next.new.self.is_cut c.end.result mid none.0 none.1 (c.end.ensures ∙ ap (λ b. end_of b 0 0) c.is_cut.ensures));
 }
 
 pub returns-in_err-next : goal.returns-in_err-next
@@ -83,7 +83,7 @@ returns-in_err-next g c = record {
       let old = g.W.Write.contents c.args.writer.now in
       let mid = g.W.Write.contents c.flush_at_pause-2.new.writer in
       let wrote = Appends-kept old (g.W.Write.contents c.rows.writer) mid (concat inv.0) inv.3 c.flush_at_pause-2.ensures in
-      writes-through inv.0 _ _ _ _ old mid mid c.from_residual.result wrote inv.4 inv.5 (writes-residual c.from_residual.result c.in_err-next.field-0.0 (lines_left c.rows.done c.rows.state inv.1) _ mid c.from_residual.ensures.1);
+      writes-through inv.0 _ _ _ _ old mid mid c.from_residual.result wrote inv.4 inv.5 (writes-residual c.from_residual.result c.in_err-next.field-0.0 (lines_left c.args.start.version c.rows.done c.rows.state inv.1) _ mid c.from_residual.ensures.1);
 }
 
 pub returns-then-is_err : goal.returns-then-is_err

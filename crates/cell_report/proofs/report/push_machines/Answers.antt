@@ -7,5 +7,5 @@ machines-preserved c =
     let counts : length c.args.counts.now ≡ 7 = search rules in
     let status : length c.args.status.now ≡ 7 = search rules in
     let i = c.machines.index in
-    let few : i < 6 = search rules in
+    let few : i < 7 = search rules in
     told_more _ _ _ _ _ _ c.in_ok-push_machine.ensures (machines_from-more i c.args.counts.now c.args.status.now _ _ _ few (omega arith) (omega arith)) c.machines.invariant

@@ -22,8 +22,8 @@ use Rattle.cell_word.proofs.guards.claim.Goals.{In_ok-party}
 abbrev rest : Zone → Machine → Machine → Bool → List (List Guard)
 rest z m o is_guest =
     (guards.stopped ∷ [])
-    ∷ (guard (owner_is z (Some m)) AlreadyMine ∷ guard (owner_is z (Some o)) (Held o) ∷ [])
-    ∷ (guard (when is_guest (posture_is z Closed)) (Shut Closed) ∷ guard (when is_guest (posture_is z Moving)) (Shut Moving) ∷ [])
+    ∷ (guard (owner_is z (Some m)) AlreadyMine ∷ guard (owner_is z (Some o)) (Held o)
+    ∷ guard (when is_guest (posture_is z Closed)) (Shut Closed) ∷ guard (when is_guest (posture_is z Moving)) (Shut Moving) ∷ [])
     ∷ (guards.worn ∷ [])
     ∷ []
 
@@ -60,32 +60,22 @@ returns-in_err-require_running c =
     (row_at (goal.at.returns-in_err-require_running c).In_ok-party
     ∙ stop (sym c.require_running.ensures ∙ c.in_err-require_running.was) _)
 
-pub returns-in_err-require_free : goal.returns-in_err-require_free
-returns-in_err-require_free c =
-    refused _ c.in_err-require_free.field-0.0 c.from_residual-in_err-require_free.ensures.1
+pub returns-in_err-require_enterable : goal.returns-in_err-require_enterable
+returns-in_err-require_enterable c =
+    refused _ c.in_err-require_enterable.field-0.0 c.from_residual-in_err-require_enterable.ensures.1
     ∙ sym
-    (row_at (goal.at.returns-in_err-require_free c).In_ok-party
+    (row_at (goal.at.returns-in_err-require_enterable c).In_ok-party
     ∙ go (sym c.require_running.ensures ∙ c.in_ok-require_running.was)
-    ∙ stop (sym c.require_free.ensures ∙ c.in_err-require_free.was) _)
+    ∙ stop (sym c.require_enterable.ensures ∙ c.in_err-require_enterable.was) _)
 
-pub returns-in_err-require_open_to : goal.returns-in_err-require_open_to
-returns-in_err-require_open_to c =
-    refused _ c.in_err-require_open_to.field-0.0 c.from_residual-in_err-require_open_to.ensures.1
+pub returns-in_err-require_stamp : goal.returns-in_err-require_stamp
+returns-in_err-require_stamp c =
+    refused _ c.in_err-require_stamp.field-0.0 c.from_residual-in_err-require_stamp.ensures.1
     ∙ sym
-    (row_at (goal.at.returns-in_err-require_open_to c).In_ok-party
+    (row_at (goal.at.returns-in_err-require_stamp c).In_ok-party
     ∙ go (sym c.require_running.ensures ∙ c.in_ok-require_running.was)
-    ∙ go (sym c.require_free.ensures ∙ c.in_ok-require_free.was)
-    ∙ stop (sym c.require_open_to.ensures ∙ c.in_err-require_open_to.was) _)
-
-pub returns-in_err-pass : goal.returns-in_err-pass
-returns-in_err-pass c =
-    refused _ c.in_err-pass.field-0.0 c.from_residual-in_err-pass.ensures.1
-    ∙ sym
-    (row_at (goal.at.returns-in_err-pass c).In_ok-party
-    ∙ go (sym c.require_running.ensures ∙ c.in_ok-require_running.was)
-    ∙ go (sym c.require_free.ensures ∙ c.in_ok-require_free.was)
-    ∙ go (sym c.require_open_to.ensures ∙ c.in_ok-require_open_to.was)
-    ∙ stop (ap (λ g. checked c.args.word (g ∷ [])) (sym c.worn_guard.ensures) ∙ sym c.pass.ensures ∙ c.in_err-pass.was) _)
+    ∙ go (sym c.require_enterable.ensures ∙ c.in_ok-require_enterable.was)
+    ∙ stop (sym c.require_stamp.ensures ∙ c.in_err-require_stamp.was) _)
 
 pub returns : goal.returns
 returns c =
@@ -97,6 +87,5 @@ returns c =
     ∙ sym
     (row_at (goal.at.returns c).In_ok-party
     ∙ go (sym c.require_running.ensures ∙ c.in_ok-require_running.was)
-    ∙ go (sym c.require_free.ensures ∙ c.in_ok-require_free.was)
-    ∙ go (sym c.require_open_to.ensures ∙ c.in_ok-require_open_to.was)
-    ∙ go (ap (λ g. checked c.args.word (g ∷ [])) (sym c.worn_guard.ensures) ∙ sym c.pass.ensures ∙ c.in_ok-pass.was))
+    ∙ go (sym c.require_enterable.ensures ∙ c.in_ok-require_enterable.was)
+    ∙ go (sym c.require_stamp.ensures ∙ c.in_ok-require_stamp.was))

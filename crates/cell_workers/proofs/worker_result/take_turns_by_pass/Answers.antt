@@ -17,6 +17,6 @@ returns g c =
     let now = side_of done.new.unit.controller.progress done.new.unit.controller.stopped (g.B.Part.state done.new.unit.part) in
     subst (λ (v : PassView). IsWorkerResult c.args.interlock.now.tries steps rig (g.G.Gate.may_answer c.args.gate.now v.machine) c.args.turns (worker_moment v side no_counts) c.into_parts-pass.result.0 c.into_parts-pass.result.1.items done.result.counts done.result.status (g.B.Part.state done.new.unit.part))
     line.ensures.pass
-    (gives_back c.args.interlock.now.tries steps rig (g.G.Gate.may_answer c.args.gate.now line.result.pass.machine) c.lawful_histories.ensures c.args.turns
+    (gives_back c.args.interlock.now.tries steps rig (g.G.Gate.may_answer c.args.gate.now line.result.pass.machine) c.args.turns
     (worker_moment line.result side no_counts) (worker_moment done.new.line now done.result.counts) done.result.status line.ensures.tries (ap (λ v. v.seen) line.ensures.pass ∙ c.requires.fresh) refl done.ensures.ended
-    done.new.line.kept _ _ _ _ c.into_parts-pass.ensures.pass c.into_parts-pass.ensures.journal refl refl)
+    _ _ _ _ c.into_parts-pass.ensures.pass c.into_parts-pass.ensures.journal refl refl)

@@ -1,5 +1,5 @@
 use Rattle.std.proofs.Common.{◌∙◌, refl, sym, ap, subst}
-use Rattle.cell_types.specs.declared.machine.Machine.TheVariants.{Feed, Table, Robot, Press, Deposit, Crane}
+use Rattle.cell_types.specs.declared.machine.Machine.TheVariants.{Feed, Table, Robot, Press, Deposit, Crane, Watch}
 use Rattle.cell_notes.specs.Notes.{HasRoom}
 use Rattle.cell_haul.specs.CraneProgram.{crane_steps}
 use Rattle.cell_haul.specs.DepositProgram.{deposit_steps}
@@ -10,7 +10,8 @@ use Rattle.cell_stations.specs.TableProgram.{table_steps}
 use Rattle.cell_parts.specs.Rigs.{table_rig, robot_rig, crane_rig}
 use Rattle.cell_plant.specs.Cells.{cell_scales, points_of}
 use Rattle.cell_plant.specs.Moments.{RunMoment, notes_in}
-use Rattle.cell_plant.proofs.Stepping.{table_near, robot_near, crane_near, feed_on, table_on, robot_on, press_on, deposit_on, crane_on, idle_on, watch_rests, on_ok, grows, stays_ready, with_turn, with_robot, with_gripper, turn_is, by_turn}
+use Rattle.cell_plant.specs.Watch.{watch_steps}
+use Rattle.cell_plant.proofs.Stepping.{table_near, robot_near, crane_near, feed_on, table_on, robot_on, press_on, deposit_on, crane_on, watch_on, on_ok, grows, stays_ready, with_turn, with_robot, with_gripper, turn_is, by_turn}
 use Rattle.cell_plant.proofs.simulation.Simulation.turn.Goals as goal
 
 pub take_bench_turn-requires-clause-room : goal.take_bench_turn-requires-clause-room
@@ -31,6 +32,9 @@ take_bench_turn-requires-in-Deposit-clause-room g c = subst (λ (m : RunMoment).
 pub take_bench_turn-requires-in-Crane-clause-room : goal.take_bench_turn-requires-in-Crane-clause-room
 take_bench_turn-requires-in-Crane-clause-room g c = subst (λ (m : RunMoment). HasRoom (notes_in m.notes Crane).counts) (sym c.self.view_is) (c.requires.room Crane)
 
+pub take_bench_turn-requires-in-Watch-clause-room : goal.take_bench_turn-requires-in-Watch-clause-room
+take_bench_turn-requires-in-Watch-clause-room g c = subst (λ (m : RunMoment). HasRoom (notes_in m.notes Watch).counts) (sym c.self.view_is) (c.requires.room Watch)
+
 pub invariant_of-self : goal.invariant_of-self
 invariant_of-self g c =
     let old = c.self.invariant in
@@ -47,6 +51,7 @@ invariant_of-self g c =
       press = stays_ready press_steps Feed _ _ k _ _ refl old.press;
       deposit = stays_ready deposit_steps Feed _ _ k _ _ refl old.deposit;
       crane = stays_ready (crane_steps gripper.points (g.F5.Gauge.gives gripper.gauge)) Feed _ _ k _ _ refl old.crane;
+      watch = stays_ready watch_steps Feed _ _ k _ _ refl old.watch;
     }
 
 pub invariant_of-self-in-Table : goal.invariant_of-self-in-Table
@@ -70,6 +75,7 @@ invariant_of-self-in-Table g c =
       press = stays_ready press_steps Table _ _ k _ _ refl old.press;
       deposit = stays_ready deposit_steps Table _ _ k _ _ refl old.deposit;
       crane = stays_ready (crane_steps gripper.points (g.F5.Gauge.gives gripper.gauge)) Table _ _ k _ _ refl old.crane;
+      watch = stays_ready watch_steps Table _ _ k _ _ refl old.watch;
     }
 
 pub invariant_of-self-in-Robot : goal.invariant_of-self-in-Robot
@@ -93,6 +99,7 @@ invariant_of-self-in-Robot g c =
       press = stays_ready press_steps Robot _ _ k _ _ refl old.press;
       deposit = stays_ready deposit_steps Robot _ _ k _ _ refl old.deposit;
       crane = stays_ready (crane_steps gripper.points (g.F5.Gauge.gives gripper.gauge)) Robot _ _ k _ _ refl old.crane;
+      watch = stays_ready watch_steps Robot _ _ k _ _ refl old.watch;
     }
 
 pub invariant_of-self-in-Press : goal.invariant_of-self-in-Press
@@ -111,6 +118,7 @@ invariant_of-self-in-Press g c =
       press = done.ready;
       deposit = stays_ready deposit_steps Press _ _ k _ _ refl old.deposit;
       crane = stays_ready (crane_steps gripper.points (g.F5.Gauge.gives gripper.gauge)) Press _ _ k _ _ refl old.crane;
+      watch = stays_ready watch_steps Press _ _ k _ _ refl old.watch;
     }
 
 pub invariant_of-self-in-Deposit : goal.invariant_of-self-in-Deposit
@@ -129,6 +137,7 @@ invariant_of-self-in-Deposit g c =
       press = stays_ready press_steps Deposit _ _ k _ _ refl old.press;
       deposit = done.ready;
       crane = stays_ready (crane_steps gripper.points (g.F5.Gauge.gives gripper.gauge)) Deposit _ _ k _ _ refl old.crane;
+      watch = stays_ready watch_steps Deposit _ _ k _ _ refl old.watch;
     }
 
 pub invariant_of-self-in-Crane : goal.invariant_of-self-in-Crane
@@ -152,62 +161,87 @@ invariant_of-self-in-Crane g c =
       press = stays_ready press_steps Crane _ _ k _ _ refl old.press;
       deposit = stays_ready deposit_steps Crane _ _ k _ _ refl old.deposit;
       crane = done.ready;
+      watch = stays_ready watch_steps Crane _ _ k _ _ refl old.watch;
+    }
+
+pub invariant_of-self-in-Watch : goal.invariant_of-self-in-Watch
+invariant_of-self-in-Watch g c =
+    let old = c.self.invariant in
+    let turn = c.self.inside.cell.table.controller.program.turn in
+    let robot = c.self.inside.cell.robot.controller.program in
+    let gripper = c.self.inside.cell.crane.controller.program.gripper in
+    let done = c.take_bench_turn-in-Watch.ensures in
+    let k = grows c.take_bench_turn-in-Watch.result _ _ _ _ _ _ _ _ _ done.turn done.failed in
+    record {
+      fitted = record { arm1 = old.fitted.arm1; arm2 = old.fitted.arm2; rotation = old.fitted.rotation; turn = old.fitted.turn; gripper = old.fitted.gripper };
+      feed = stays_ready feed_steps Watch _ _ k _ _ refl old.feed;
+      table = stays_ready (table_steps turn.points (g.F4.Gauge.gives turn.gauge)) Watch _ _ k _ _ refl old.table;
+      robot = stays_ready (robot_steps (points_of robot) (gauges_of (g.F1.Gauge.gives robot.arm1.gauge) (g.F2.Gauge.gives robot.arm2.gauge) (g.F3.Gauge.gives robot.rotation.gauge))) Watch _ _ k _ _ refl old.robot;
+      press = stays_ready press_steps Watch _ _ k _ _ refl old.press;
+      deposit = stays_ready deposit_steps Watch _ _ k _ _ refl old.deposit;
+      crane = stays_ready (crane_steps gripper.points (g.F5.Gauge.gives gripper.gauge)) Watch _ _ k _ _ refl old.crane;
+      watch = done.ready;
     }
 
 pub returns-in-Feed : goal.returns-in-Feed
 returns-in-Feed g c =
     let done = c.take_bench_turn.ensures in
     rw (sym c.self.view_is)
-    (on_ok c.take_bench_turn.result _ _ done.turn (λ turned.
-    by_turn _ c.args.turn _ _ (turn_is c.args.turn Feed c.in-Feed.is)
-    (feed_on _ _ c.args.turn.busy turned.asked refl turned.opening turned.leads turned.history turned.noted refl refl)))
+    (on_ok c.take_bench_turn.result _ _ done.turn (λ asked turned.
+    by_turn _ c.args.turn _ _ asked (turn_is c.args.turn Feed c.in-Feed.is)
+    (feed_on _ _ c.args.turn.busy asked refl turned.opening turned.leads turned.history turned.noted refl refl)))
 
 pub returns-in-Table : goal.returns-in-Table
 returns-in-Table g c =
     let done = c.take_bench_turn-in-Table.ensures in
     rw (sym c.self.view_is)
-    (on_ok c.take_bench_turn-in-Table.result _ _ done.turn (λ turned.
+    (on_ok c.take_bench_turn-in-Table.result _ _ done.turn (λ asked turned.
     let turn = c.self.inside.cell.table.controller.program.turn in
-    let near = table_near turn.points (g.F4.Gauge.gives turn.gauge) (table_rig c.self.inside.cell.table.part.scale) _ _ _ _ _ _ _ turned in
-    by_turn _ c.args.turn _ _ (turn_is c.args.turn Table c.in-Table.is)
-    (table_on _ _ c.args.turn.busy near.asked (ap (with_turn (cell_scales c.self.inside.cell)) done.make) near.opening turn.points near.leads c.self.invariant.fitted.turn near.history near.noted refl refl)))
+    let near = table_near turn.points (g.F4.Gauge.gives turn.gauge) (table_rig c.self.inside.cell.table.part.scale) _ _ _ _ _ _ _ _ turned in
+    by_turn _ c.args.turn _ _ asked (turn_is c.args.turn Table c.in-Table.is)
+    (table_on _ _ c.args.turn.busy asked (ap (with_turn (cell_scales c.self.inside.cell)) done.make) near.opening turn.points near.leads c.self.invariant.fitted.turn near.history near.noted refl refl)))
 
 pub returns-in-Robot : goal.returns-in-Robot
 returns-in-Robot g c =
     let done = c.take_bench_turn-in-Robot.ensures in
     rw (sym c.self.view_is)
-    (on_ok c.take_bench_turn-in-Robot.result _ _ done.turn (λ turned.
+    (on_ok c.take_bench_turn-in-Robot.result _ _ done.turn (λ asked turned.
     let robot = c.self.inside.cell.robot.controller.program in
     let fitted = c.self.invariant.fitted in
-    let near = robot_near (points_of robot) (gauges_of (g.F1.Gauge.gives robot.arm1.gauge) (g.F2.Gauge.gives robot.arm2.gauge) (g.F3.Gauge.gives robot.rotation.gauge)) (robot_rig c.self.inside.cell.robot.part.scale) _ _ _ _ _ _ _ turned in
-    by_turn _ c.args.turn _ _ (turn_is c.args.turn Robot c.in-Robot.is)
-    (robot_on _ _ c.args.turn.busy near.asked (ap (with_robot (cell_scales c.self.inside.cell)) done.make) near.opening (points_of robot) near.leads fitted.arm1 fitted.arm2 fitted.rotation near.history near.noted refl refl)))
+    let near = robot_near (points_of robot) (gauges_of (g.F1.Gauge.gives robot.arm1.gauge) (g.F2.Gauge.gives robot.arm2.gauge) (g.F3.Gauge.gives robot.rotation.gauge)) (robot_rig c.self.inside.cell.robot.part.scale) _ _ _ _ _ _ _ _ turned in
+    by_turn _ c.args.turn _ _ asked (turn_is c.args.turn Robot c.in-Robot.is)
+    (robot_on _ _ c.args.turn.busy asked (ap (with_robot (cell_scales c.self.inside.cell)) done.make) near.opening (points_of robot) near.leads fitted.arm1 fitted.arm2 fitted.rotation near.history near.noted refl refl)))
 
 pub returns-in-Press : goal.returns-in-Press
 returns-in-Press g c =
     let done = c.take_bench_turn-in-Press.ensures in
     rw (sym c.self.view_is)
-    (on_ok c.take_bench_turn-in-Press.result _ _ done.turn (λ turned.
-    by_turn _ c.args.turn _ _ (turn_is c.args.turn Press c.in-Press.is)
-    (press_on _ _ c.args.turn.busy turned.asked refl turned.opening turned.leads turned.history turned.noted refl refl)))
+    (on_ok c.take_bench_turn-in-Press.result _ _ done.turn (λ asked turned.
+    by_turn _ c.args.turn _ _ asked (turn_is c.args.turn Press c.in-Press.is)
+    (press_on _ _ c.args.turn.busy asked refl turned.opening turned.leads turned.history turned.noted refl refl)))
 
 pub returns-in-Deposit : goal.returns-in-Deposit
 returns-in-Deposit g c =
     let done = c.take_bench_turn-in-Deposit.ensures in
     rw (sym c.self.view_is)
-    (on_ok c.take_bench_turn-in-Deposit.result _ _ done.turn (λ turned.
-    by_turn _ c.args.turn _ _ (turn_is c.args.turn Deposit c.in-Deposit.is)
-    (deposit_on _ _ c.args.turn.busy turned.asked refl turned.opening turned.leads turned.history turned.noted refl refl)))
+    (on_ok c.take_bench_turn-in-Deposit.result _ _ done.turn (λ asked turned.
+    by_turn _ c.args.turn _ _ asked (turn_is c.args.turn Deposit c.in-Deposit.is)
+    (deposit_on _ _ c.args.turn.busy asked refl turned.opening turned.leads turned.history turned.noted refl refl)))
 
 pub returns-in-Crane : goal.returns-in-Crane
 returns-in-Crane g c =
     let done = c.take_bench_turn-in-Crane.ensures in
     rw (sym c.self.view_is)
-    (on_ok c.take_bench_turn-in-Crane.result _ _ done.turn (λ turned.
+    (on_ok c.take_bench_turn-in-Crane.result _ _ done.turn (λ asked turned.
     let gripper = c.self.inside.cell.crane.controller.program.gripper in
-    let near = crane_near gripper.points (g.F5.Gauge.gives gripper.gauge) (crane_rig c.self.inside.cell.crane.part.scale) _ _ _ _ _ _ _ turned in
-    by_turn _ c.args.turn _ _ (turn_is c.args.turn Crane c.in-Crane.is)
-    (crane_on _ _ c.args.turn.busy near.asked (ap (with_gripper (cell_scales c.self.inside.cell)) done.make) near.opening gripper.points near.leads c.self.invariant.fitted.gripper near.history near.noted refl refl)))
+    let near = crane_near gripper.points (g.F5.Gauge.gives gripper.gauge) (crane_rig c.self.inside.cell.crane.part.scale) _ _ _ _ _ _ _ _ turned in
+    by_turn _ c.args.turn _ _ asked (turn_is c.args.turn Crane c.in-Crane.is)
+    (crane_on _ _ c.args.turn.busy asked (ap (with_gripper (cell_scales c.self.inside.cell)) done.make) near.opening gripper.points near.leads c.self.invariant.fitted.gripper near.history near.noted refl refl)))
 
 pub returns-in-Watch : goal.returns-in-Watch
-returns-in-Watch g c = rw (sym c.self.view_is) (idle_on c.args.turn _ (watch_rests c.args.turn.machine c.in-Watch.is))
+returns-in-Watch g c =
+    let done = c.take_bench_turn-in-Watch.ensures in
+    rw (sym c.self.view_is)
+    (on_ok c.take_bench_turn-in-Watch.result _ _ done.turn (λ asked turned.
+    by_turn _ c.args.turn _ _ asked (turn_is c.args.turn Watch c.in-Watch.is)
+    (watch_on _ _ c.args.turn.busy asked refl turned.opening turned.leads turned.history turned.noted refl refl)))

@@ -1,0 +1,116 @@
+//! Interlocks that are closed, and the states that they leave.
+ghost use Rattle.std.specs.Prelude.{◌≡◌};
+ghost use Rattle.cell_interlock.specs.Ends.{ArePassesOf};
+
+use super::played::{Taken, state_left};
+use super::steps::{ABANDONED, ABANDONED_LATE, ALONE, OVERTAKEN, PRESS_CLAIMS, TABLE_LOOKS};
+use crate::callers::{Outcome, Step};
+use cell_interlock::{Interlock, Passes};
+use cell_rules::{Places, State, ZoneState, Zones};
+use cell_types::{Answer, Call, Machine, Posture, Refusal, Reply, Zone};
+
+pub(super) type Owned = (Zone, Machine);
+
+const TABLE_1: &[Owned] = &[(Zone::Z1, Machine::Table)];
+
+const TABLE_2: &[Owned] = &[(Zone::Z2, Machine::Table)];
+
+pub(super) const PRESS_3: &[Owned] = &[(Zone::Z3, Machine::Press)];
+
+/// The state without plates in which these zones are owned and all zones are closed.
+pub(super) fn state_of(stamp: u32, owned: &[Owned], stopped: bool) -> Option<State> {
+    let mut zones = Zones::all_free();
+    for (zone, owner) in owned {
+        let held = ZoneState {
+            owner: Some(*owner),
+            flag: false,
+            posture: Posture::Closed,
+        };
+        zones.set(*zone, held);
+    }
+    State::checked(zones, Places::from_flags([false; 10]), stamp, stopped)
+}
+
+const STOPPED: Outcome = Outcome::Settled(Answer::Refused(Refusal::Stopped), 2);
+
+const WATCH_STOPS: Taken = (
+    Machine::Watch,
+    Step::Ask(Call::Stop),
+    Outcome::Settled(Answer::Done, 2),
+);
+
+// A pending claim is refused once the cell is stopped.
+const STOPS: &[Taken] = &[
+    PRESS_CLAIMS,
+    TABLE_LOOKS,
+    WATCH_STOPS,
+    (Machine::Table, Step::Attempt, STOPPED),
+];
+
+const RESUMES: &[Taken] = &[
+    PRESS_CLAIMS,
+    WATCH_STOPS,
+    (
+        Machine::Watch,
+        Step::Ask(Call::Resume),
+        Outcome::Settled(Answer::Done, 3),
+    ),
+];
+
+// What the row shows, the number of exchanges that a call may lose, the steps, and of the state that
+// they leave the stamp, the owned zones, and whether the cell is stopped.
+const ROWS: &[(&str, u8, &[Taken], u32, &[Owned], bool)] = &[
+    ("at once", 1, &[], 0, &[], false),
+    ("one call", 1, ALONE, 1, TABLE_1, false),
+    ("overtaken", 2, OVERTAKEN, 3, TABLE_1, false),
+    ("stopped", 1, STOPS, 2, PRESS_3, true),
+    ("resumed", 1, RESUMES, 3, PRESS_3, false),
+    ("abandoned", 1, ABANDONED, 1, TABLE_2, false),
+    ("abandoned late", 2, ABANDONED_LATE, 3, TABLE_1, false),
+    ("pending at the end", 1, &[TABLE_LOOKS], 0, &[], false),
+];
+
+#[test]
+fn interlocks_close(rt: HostRuntime) {
+    for (shown, tries, steps, stamp, owned, stopped) in ROWS {
+        let left = state_of(*stamp, owned, *stopped);
+        assert!(rt; left.is_some(), "{shown}");
+        assert!(rt; state_left(rt.alloc(), 0, *tries, steps) == left, "{shown}");
+    }
+}
+
+/// Whether an interlock closes after press and robot have asked for a zone and met.
+fn is_closed_after_meeting(interlock: Interlock, mut passes: Passes) -> bool
+    requires { ArePassesOf interlock passes }
+{
+    let claim = Call::Claim(Zone::Z3);
+    let shown = Answer::Shown {
+        owner: Some(Machine::Press),
+        flag: false,
+        posture: Posture::Closed,
+    };
+    let held = Answer::Refused(Refusal::Held(Machine::Press));
+    let first = interlock.ask(&mut passes.press, claim);
+    let second = interlock.ask(&mut passes.press, Call::Inquire(Zone::Z3));
+    let third = interlock.ask(&mut passes.robot, claim);
+    let (press, robot) = interlock.meet(passes.press, passes.robot);
+    let passes = Passes {
+        press,
+        robot,
+        ..passes
+    };
+    let wanted = state_of(1, PRESS_3, false);
+    first == Reply::Settled(Answer::Done, 1)
+        && second == Reply::Settled(shown, 1)
+        && third == Reply::Settled(held, 1)
+        && wanted == Some(interlock.close(passes).state)
+}
+
+#[test]
+fn an_interlock_closes_after_a_meeting(rt: HostRuntime) {
+    let opening = State::start([false; 10], 0).expect(&rt, "a start without plates");
+    let Ok((interlock, passes)) = Interlock::new(rt.alloc(), opening, 1) else {
+        panic!(rt; "no interlock");
+    };
+    assert!(rt; is_closed_after_meeting(interlock, passes));
+}

@@ -1,0 +1,167 @@
+-- The watch's note is the mark in every state of a run, so the watch is refused only as worn.
+use Rattle.std.proofs.Common.{◌≡◌, ℕ, Bool, true, false, if◌then◌else◌, List, [], ◌∷◌, Option, Some, None, Result, Ok, Err, refl, sym, ap, ◌∙◌, subst}
+use Rattle.std.specs.Prelude.{⊤, not, nat_lt}
+use Rattle.std.specs.Bool.{then_some}
+use Rattle.cell_types.specs.declared.machine.Machine.{Machine}
+use Rattle.cell_types.specs.declared.machine.Machine.TheVariants.{Feed, Table, Robot, Press, Deposit, Crane, Watch}
+use Rattle.cell_types.specs.declared.call.Call.{Call}
+use Rattle.cell_types.specs.declared.call.Call.TheVariants.{Stop, Resume}
+use Rattle.cell_types.specs.declared.answer.Answer.TheVariants.{Refused}
+use Rattle.cell_types.specs.declared.answer.Answer.{Answer}
+use Rattle.cell_types.specs.declared.answer.Refusal.{Refusal}
+use Rattle.cell_types.specs.declared.answer.Refusal.TheVariants.{Worn, Stopped, NotStopped}
+use Rattle.cell_types.specs.declared.reply.Reply.{Reply}
+use Rattle.cell_types.specs.declared.reply.Reply.TheVariants.{Settled}
+use Rattle.cell_calib.specs.declared.sense.SensorFault.{SensorFault}
+use Rattle.cell_rules.specs.declared.heard.LineFault.{LineFault}
+use Rattle.cell_rules.specs.ModelState.{ModelState, last_stamp}
+use Rattle.cell_rules.specs.Refusals.{◌or◌}
+use Rattle.cell_rules.specs.Reply.{reply, done_unless}
+use Rattle.cell_rules.specs.Start.{IsStartState}
+use Rattle.cell_control.specs.declared.fault.CtlFault.{CtlFault}
+use Rattle.cell_control.specs.Rigs.{Rig}
+use Rattle.cell_control.specs.Steps.{Steps}
+use Rattle.cell_control.specs.Turns.{Performed, PerformsCall, PerformsSensed, Turned, Turns}
+use Rattle.cell_notes.specs.declared.schedule.Turn.{Turn}
+use Rattle.cell_notes.specs.Asks.{TurnCall}
+use Rattle.cell_unit.specs.UnitTurns.{Answers}
+use Rattle.cell_unit.proofs.Keeping.{Keeping}
+use Rattle.cell_parts.specs.Axes.{CellScales}
+use Rattle.cell_plant.specs.Machines.{ProgressOf, PartOf, steps_of, rig_of}
+use Rattle.cell_plant.specs.CellStates.{CellState, cell_at_start}
+use Rattle.cell_plant.specs.Runs.{Step, LeadsIf, IsRun, goes_on}
+use Rattle.cell_plant.specs.Watch.{watch_steps}
+use Rattle.cell_plant.specs.WatchLaws.{NotesTheMark, NotesThroughout, IsRefusedAsWorn, AreRefusedAsWorn, WatchNotesTheMark}
+use Rattle.cell_plant.proofs.KeptRuns.{CellInv, step_keeps}
+use Rattle.cell_plant.proofs.SafeRuns.{sound_start, clear_start}
+use Rattle.cell_plant.proofs.WatchKeeps.{WatchInv, watch-keeping}
+
+-- of the other machines nothing need be known
+abbrev InvOf : (m : Machine) → ModelState → ProgressOf m → PartOf m → Type 0
+InvOf Watch = WatchInv
+InvOf m = λ z p b. ⊤
+
+keeps_nothing : {S Sense Reading Act State : Type 0} → (t : Steps S Sense Reading Act) (rig : Rig State Sense Act) → Keeping t rig (λ z p b. ⊤) (λ z p b. ⊤)
+keeps_nothing t rig = record {
+  foreign = λ z p b n c apart sound i. tt;
+  rests = λ z p b i. tt;
+  after_done = λ z p b c e d sound i. tt;
+  after_inquiry = λ z p b c owner flag posture e d sound i. tt;
+  after_drive = λ z p b s reading act e shows senses drives i. tt;
+  told = λ z p b i. tt;
+  moves = λ z p b i. tt;
+}
+
+keeping_of : (c : CellScales) (m : Machine) → Keeping (steps_of c m) (rig_of c m) (InvOf m) (InvOf m)
+keeping_of c Watch = watch-keeping
+keeping_of c Feed = keeps_nothing _ _
+keeping_of c Table = keeps_nothing _ _
+keeping_of c Robot = keeps_nothing _ _
+keeping_of c Press = keeps_nothing _ _
+keeping_of c Deposit = keeps_nothing _ _
+keeping_of c Crane = keeps_nothing _ _
+
+starts : (s : ModelState) → IsStartState s → (m : Machine) → InvOf m s ((cell_at_start s).side m).progress ((cell_at_start s).side m).part
+starts s k Watch = sym (ap (λ (z : ModelState). z.stopped) k.same)
+starts s k Feed = tt
+starts s k Table = tt
+starts s k Robot = tt
+starts s k Press = tt
+starts s k Deposit = tt
+starts s k Crane = tt
+
+-- a call that nothing bars is refused only as worn
+abbrev answer_by : Bool → Bool → Refusal → Answer
+answer_by barred fresh why = done_unless (then_some barred why or then_some (not fresh) Worn)
+
+refused_by : (barred fresh : Bool) (why r : Refusal) → barred ≡ false → Refused r ≡ answer_by barred fresh why → r ≡ Worn
+refused_by false false why r e k = cc
+refused_by false true why r e k = cc
+refused_by true fresh why r e k = cc
+
+abbrev refused_with : Refusal → ℕ → Result Reply LineFault
+refused_with r stamp = Ok (Settled (Refused r) stamp)
+
+pub none_some : {A : Type 0} (a : A) (P : Type 0) → None ≡ Some a → P
+none_some a P e = cc
+
+-- a turn asks one call and gets one answer
+abbrev Answered : Type 0
+Answered = Call × Result Reply LineFault
+
+same_of : (asked : TurnCall) (a b : Answered) → asked ≡ Some a → asked ≡ Some b → a ≡ b
+same_of asked a b e f = cc
+
+pub one_call : (asked : TurnCall) (q call : Call) (x y : Result Reply LineFault) → asked ≡ Some (q, x) → asked ≡ Some (call, y) → q ≡ call
+one_call asked q call x y e f = ap (λ (a : Answered). a.0) (same_of asked (q, x) (call, y) e f)
+
+pub one_answer : (asked : TurnCall) (q call : Call) (x y : Result Reply LineFault) → asked ≡ Some (q, x) → asked ≡ Some (call, y) → x ≡ y
+one_answer asked q call x y e f = ap (λ (a : Answered). a.1) (same_of asked (q, x) (call, y) e f)
+
+-- what a turn asks is what its step asks
+module _ {S Sense Reading Act : Type 0} (t : Steps S Sense Reading Act) (same : Type 0) (asks : Call → Result Reply LineFault → Type 0) (p : S) (P : Type 0) (f : same → P) (g : (c : Call) (r : Result Reply LineFault) → t.call p ≡ Some c → asks c r → P) where
+  call_own : (o : Option Call) (reading : Reading) (r : Performed S Act) → t.call p ≡ o → PerformsCall t o same asks p reading r → P
+  call_own None reading r e h = f h.0
+  call_own (Some c) reading r e h = g c h.0 e h.1
+
+  sensed_own : (sensed : Result Reading SensorFault) (r : Performed S Act) → PerformsSensed t sensed same asks p r → P
+  sensed_own (Err fault) r h = f h.0
+  sensed_own (Ok reading) r h = call_own (t.call p) reading r refl h
+
+  pub turn_own : (stopped : Option CtlFault) (s : Sense) (w : Turned S Act) → Turns t same asks stopped p s w → P
+  turn_own (Some fault) s w h = f h.0
+  turn_own None s w h = sensed_own h.1.sensed h.0 h.1.performs
+
+module _ (c : CellScales) where
+  abbrev Kept : CellState → Type 0
+  Kept w = CellInv c InvOf InvOf (keeping_of c) w
+
+  -- a state with its note refuses its call only as worn
+  refused_at : (b : Bool) (z : ModelState) (call : Call) (r : Refusal) → b ≡ z.stopped → Some (if b then Resume else Stop) ≡ Some call → Refused r ≡ reply z Watch call → r ≡ Worn
+  refused_at true z Resume r e own k = refused_by (not z.stopped) (nat_lt z.stamp last_stamp) NotStopped r (sym (ap not e)) k
+  refused_at false z Stop r e own k = refused_by z.stopped (nat_lt z.stamp last_stamp) Stopped r (sym e) k
+  refused_at b z call r e own k = cc
+
+  refused_if : (b busy : Bool) (w : CellState) (s : Step) → LeadsIf b c Watch busy w s → NotesTheMark w → (call : Call) (r : Refusal) (stamp : ℕ) → s.asked ≡ Some (call, refused_with r stamp) → r ≡ Worn
+  refused_if false busy w s k notes call r stamp e = none_some _ _ (sym k.asked ∙ e)
+  refused_if true busy w s k notes call r stamp e =
+      let z = w.interlock in
+      let y = s.set.interlock in
+      let p = (w.side Watch).progress in
+      turn_own watch_steps ((y ≡ z) × (s.asked ≡ None)) (λ q x. Answers z Watch busy q x y × (s.asked ≡ Some (q, x))) p (r ≡ Worn)
+      (λ h. none_some _ _ (sym h.1 ∙ e))
+      (λ q x own h.
+      let same : x ≡ refused_with r stamp = one_answer s.asked q call x _ h.1 e in
+      refused_at p.has_stopped z q r notes own (subst (λ a. Answers z Watch busy q a y) same h.0).1)
+      (w.side Watch).stopped k.takes.sense k.takes.turned k.takes.row
+
+  module _ (w : CellState) (t : Turn) (s : Step) (i : Kept w) (own : s.machine ≡ t.machine) (leads : LeadsIf (goes_on w t.machine) c t.machine t.busy w s) where
+    kept : Kept s.set × Kept s.moved
+    kept = step_keeps c InvOf InvOf (keeping_of c) (goes_on w t.machine) t.machine t.busy w s refl leads i
+
+    worn_only : IsRefusedAsWorn s
+    worn_only call r stamp e asked =
+        refused_if (goes_on w Watch) t.busy w s (subst (λ m. LeadsIf (goes_on w m) c m t.busy w s) (sym own ∙ e) leads) (i.each Watch) call r stamp asked
+
+  notes_throughout : (w : CellState) (turns : List Turn) (steps : List Step) → Kept w → IsRun c w turns steps → NotesThroughout w steps
+  notes_throughout w [] [] i r = i.each Watch
+  notes_throughout w (t ∷ ts) (s ∷ ss) i r =
+      let on = kept w t s i r.0 r.1.0 in
+      (i.each Watch, (on.0.each Watch, notes_throughout s.moved ts ss on.1 r.1.1))
+  notes_throughout w [] (s ∷ ss) i r = absurd r
+  notes_throughout w (t ∷ ts) [] i r = absurd r
+
+  refused_as_worn : (w : CellState) (turns : List Turn) (steps : List Step) → Kept w → IsRun c w turns steps → AreRefusedAsWorn steps
+  refused_as_worn w [] [] i r = tt
+  refused_as_worn w (t ∷ ts) (s ∷ ss) i r = (worn_only w t s i r.0 r.1.0, refused_as_worn s.moved ts ss (kept w t s i r.0 r.1.0).1 r.1.1)
+  refused_as_worn w [] (s ∷ ss) i r = absurd r
+  refused_as_worn w (t ∷ ts) [] i r = absurd r
+
+  at_start : (s : ModelState) → IsStartState s → Kept (cell_at_start s)
+  at_start s k = record { sound = sound_start s k; clear = clear_start s k; each = starts s k }
+
+pub watch-notes : WatchNotesTheMark
+watch-notes = record {
+  noted = λ c opening turns steps start run. notes_throughout c (cell_at_start opening) turns steps (at_start c opening start) run;
+  refused = λ c opening turns steps start run. refused_as_worn c (cell_at_start opening) turns steps (at_start c opening start) run;
+}

@@ -1,0 +1,232 @@
+-- The next entry of several journals that are in turn.
+use Rattle.std.specs.Option.{MatchOption}
+use Rattle.std.proofs.lemmas.Bool.{cases_lt}
+use Rattle.std.proofs.Common.{◌+◌, Bool, true, Option, None, Some, append-nil, ◌≡◌, ℕ, zero, suc, ◌<◌, ◌≤◌, inl, inr, List, [], ◌∷◌, ◌++◌, length, map, get_or, set, refl, sym, ap, ◌∙◌, subst, arith, append_assoc}
+use Rattle.std.specs.List.Sorted.{IsNonDecreasingBy}
+use Rattle.cell_types.specs.declared.machine.Machine.{Machine}
+use Rattle.cell_types.specs.declared.machine.Machine.TheVariants.{Feed, Table, Robot, Press, Deposit, Crane, Watch}
+use Rattle.cell_types.specs.declared.journal.Entry.{Entry}
+use Rattle.cell_report.specs.declared.ordered.Noted.{Noted}
+use Rattle.cell_report.specs.declared.rests.Rest.{Rest}
+use Rattle.cell_report.specs.Order.{key_of, key_at, in_order, noted_after, noted_from, all_noted, AreInTurn}
+use Rattle.cell_report.specs.InTurn.{noted_in_turn, all_in_turn, first_key, last_key, IsFirstLeast}
+use Rattle.cell_report.specs.Merged.{left_of, left_of_all}
+use Rattle.cell_report.proofs.Members.{In, in_append_cases}
+use Rattle.cell_report.proofs.Rising.{RisesBy, Rises, rises_from, from_rises}
+use Rattle.cell_report.proofs.Turns.{in_turn_from_rises}
+use Rattle.cell_report.proofs.Puts.{first_in_order}
+
+entry_in : (m : Machine) (es : List Entry) (z : Noted) → In z (all_in_turn m es) → In z.entry es
+entry_in m [] z i = absurd i
+entry_in m (e ∷ es) z (inl q) = inl (ap (λ (w : Noted). w.entry) q)
+entry_in m (e ∷ es) z (inr i) = inr (entry_in m es z i)
+
+low : (m : Machine) (es : List Entry) (z : Noted) → IsNonDecreasingBy key_of es → In z (all_in_turn m es) → first_key es ≤ key_at z
+low m [] z up i = absurd i
+low m (e ∷ es) z up (inl q) = let k = ap key_at q in omega (arith, k)
+low m (e ∷ es) z up (inr i) = (rises_from key_of (e ∷ es) up).0 z.entry (entry_in m es z i)
+
+key_low : (r : Rest) (z : Noted) → In z (left_of r) → r.key ≤ key_at z
+key_low r z i = subst (λ k. k ≤ key_at z) (sym r.first) (low r.machine r.entries.now z r.in_turn i)
+
+first_is : (m : Machine) (es : List Entry) (x : Noted) (more : List Noted) → all_in_turn m es ≡ x ∷ more → first_key es ≡ key_at x
+first_is m [] x more e = cc
+first_is m (d ∷ es) x more e = let same : noted_in_turn m d ≡ x = cc in ap key_at same
+
+key_is : (r : Rest) (x : Noted) (more : List Noted) → left_of r ≡ x ∷ more → r.key ≡ key_at x
+key_is r x more e = r.first ∙ first_is r.machine r.entries.now x more e
+
+-- x is the first of the least entries, and goes
+record Goes (x : Noted) (old new : List Noted) : Type 0 where
+  before : List Noted
+  after : List Noted
+  old_is : old ≡ before ++ x ∷ after
+  new_is : new ≡ before ++ after
+  below : (z : Noted) → In z before → key_at x < key_at z
+  above : (z : Noted) → In z after → key_at x ≤ key_at z
+
+others : (rs : List Rest) (n : ℕ) (z : Noted) → ((j : ℕ) → j < length rs → (d : Rest) → n ≤ (get_or rs j d).key) → In z (left_of_all rs) → n ≤ key_at z
+others [] n z f i = absurd i
+others (r ∷ rs) n z f i = elim (in_append_cases (left_of r) (left_of_all rs) z i) [
+  | inl k ↦ let p : n ≤ r.key = f 0 (omega arith) r in omega (arith, p, key_low r z k)
+  | inr k ↦ others rs n z (λ j h d. f (suc j) (omega (arith, h)) d) k
+]
+
+goes : (rs : List Rest) (i : ℕ) (d new : Rest) (x : Noted) → i < length rs → left_of (get_or rs i d) ≡ x ∷ left_of new
+    → ((j : ℕ) → j < length rs → (e : Rest) → key_at x ≤ (get_or rs j e).key) → ((j : ℕ) → j < i → (e : Rest) → key_at x < (get_or rs j e).key)
+    → ((z : Noted) → In z (left_of new) → key_at x ≤ key_at z)
+    → Goes x (left_of_all rs) (left_of_all (set rs i new))
+goes [] i d new x h is all below own = absurd (omega (arith, h))
+goes (r ∷ rs) zero d new x h is all below own = record {
+  before = [];
+  after = left_of new ++ left_of_all rs;
+  old_is = ap (λ l. l ++ left_of_all rs) is;
+  new_is = refl;
+  below = λ z i. absurd i;
+  above = λ z i. elim (in_append_cases (left_of new) (left_of_all rs) z i) [
+    | inl k ↦ own z k
+    | inr k ↦ others rs (key_at x) z (λ j l e. all (suc j) (omega (arith, l)) e) k
+  ];
+}
+goes (r ∷ rs) (suc i) d new x h is all below own =
+    let g : Goes x (left_of_all rs) (left_of_all (set rs i new)) =
+    goes rs i d new x (omega (arith, h)) is (λ j l e. all (suc j) (omega (arith, l)) e) (λ j l e. below (suc j) (omega (arith, l)) e) own in
+    record {
+      before = left_of r ++ g.before;
+      after = g.after;
+      old_is = ap (λ l. left_of r ++ l) g.old_is ∙ sym (append_assoc (left_of r) g.before (x ∷ g.after));
+      new_is = ap (λ l. left_of r ++ l) g.new_is ∙ sym (append_assoc (left_of r) g.before g.after);
+      below = λ z k. elim (in_append_cases (left_of r) g.before z k) [
+        | inl l ↦ let p : key_at x < r.key = below 0 (omega arith) r in omega (arith, p, key_low r z l)
+        | inr l ↦ g.below z l
+      ];
+      above = g.above;
+    }
+
+tail_low : (m : Machine) (es : List Entry) (x : Noted) (more : List Noted) (z : Noted) → IsNonDecreasingBy key_of es → all_in_turn m es ≡ x ∷ more → In z more → key_at x ≤ key_at z
+tail_low m es x more z up e i = subst (λ k. k ≤ key_at z) (first_is m es x more e) (low m es z up (subst (In z) (sym e) (inr i)))
+
+abbrev pub keys_of : List Rest → List ℕ
+keys_of rs = map (λ (r : Rest). r.key) rs
+
+key_at_place : (rs : List Rest) (i : ℕ) (d : Rest) → i < length rs → get_or (keys_of rs) i 0 ≡ (get_or rs i d).key
+key_at_place [] i d h = absurd (omega (arith, h))
+key_at_place (r ∷ rs) zero d h = refl
+key_at_place (r ∷ rs) (suc i) d h = key_at_place rs i d (omega (arith, h))
+
+keys_length : (rs : List Rest) → length (keys_of rs) ≡ length rs
+keys_length [] = refl
+keys_length (r ∷ rs) = ap suc (keys_length rs)
+
+-- the first entry of the rest with the least key is the next in the order
+pub next_is : (rs : List Rest) (i : ℕ) (d new : Rest) (x : Noted) → i < length rs → IsFirstLeast (keys_of rs) i → left_of (get_or rs i d) ≡ x ∷ left_of new
+    → in_order (left_of_all rs) ≡ x ∷ in_order (left_of_all (set rs i new))
+next_is rs i d new x h least is =
+    let r : Rest = get_or rs i d in
+    let k : r.key ≡ key_at x = key_is r x (left_of new) is in
+    let same : (j : ℕ) → j < length rs → (e : Rest) → get_or (keys_of rs) j 0 ≡ (get_or rs j e).key = λ j l e. key_at_place rs j e l in
+    let g : Goes x (left_of_all rs) (left_of_all (set rs i new)) =
+    goes rs i d new x h is
+    (λ j l e. omega (arith, least.least j (omega (arith, l, keys_length rs)), same j l e, same i h d, k))
+    (λ j l e. omega (arith, least.first j l, same j (omega (arith, l, h)) e, same i h d, k))
+    (λ z m. tail_low r.machine r.entries.now x (left_of new) z r.in_turn is m) in
+    ap in_order g.old_is ∙ (first_in_order g.before g.after x g.below g.above ∙ ap (λ l. x ∷ in_order l) (sym g.new_is))
+
+nothing : (m : Machine) (es : List Entry) → length es ≡ 0 → all_in_turn m es ≡ []
+nothing m [] e = refl
+nothing m (d ∷ es) e = absurd (omega (arith, e))
+
+gone : (m : Machine) (es : List Entry) → all_in_turn m es ≡ [] → first_key es ≡ last_key
+gone m [] e = refl
+gone m (d ∷ es) e = cc
+
+all_gone : (rs : List Rest) → ((j : ℕ) → j < length rs → (e : Rest) → last_key ≤ (get_or rs j e).key) → left_of_all rs ≡ []
+all_gone [] f = refl
+all_gone (r ∷ rs) f =
+    ap (λ l. l ++ left_of_all rs) (nothing r.machine r.entries.now (r.none (f 0 (omega arith) r)))
+    ∙ all_gone rs (λ j h e. f (suc j) (omega (arith, h)) e)
+
+-- if the rest with the least key is at its end, all are
+pub none_left : (rs : List Rest) (i : ℕ) (d : Rest) → i < length rs → IsFirstLeast (keys_of rs) i → left_of (get_or rs i d) ≡ [] → left_of_all rs ≡ []
+none_left rs i d h least is =
+    let r : Rest = get_or rs i d in
+    let k : r.key ≡ last_key = r.first ∙ gone r.machine r.entries.now is in
+    all_gone rs (λ j l e. omega (arith, least.least j (omega (arith, l, keys_length rs)), key_at_place rs j e l, key_at_place rs i d h, k))
+
+next_told : (rs : List Rest) (i : ℕ) (d new : Rest) (o : Option Noted) → i < length rs → IsFirstLeast (keys_of rs) i → MatchOption o (left_of (get_or rs i d) ≡ []) (λ x. left_of (get_or rs i d) ≡ x ∷ left_of new)
+    → MatchOption o (in_order (left_of_all rs) ≡ []) (λ x. in_order (left_of_all rs) ≡ x ∷ in_order (left_of_all (set rs i new)))
+next_told rs i d new None h least is = ap in_order (none_left rs i d h least is)
+next_told rs i d new (Some x) h least is = next_is rs i d new x h least is
+
+pub next_from : (rs : List Rest) (i : ℕ) (d new : Rest) (o : Option Noted) → IsFirstLeast (keys_of rs) i → MatchOption o (left_of (get_or rs i d) ≡ []) (λ x. left_of (get_or rs i d) ≡ x ∷ left_of new)
+    → MatchOption o (in_order (left_of_all rs) ≡ []) (λ x. in_order (left_of_all rs) ≡ x ∷ in_order (left_of_all (set rs i new)))
+next_from rs i d new o least is = next_told rs i d new o (omega (arith, least.within, keys_length rs)) least is
+
+-- the least of the first ones
+pub record IsLeastUpTo (ns : List ℕ) (n place : ℕ) : Type 0 where
+  pub within : place < length ns
+  pub least : (i : ℕ) → i < n → get_or ns place 0 ≤ get_or ns i 0
+  pub first : (i : ℕ) → i < place → get_or ns place 0 < get_or ns i 0
+  pub before : place < n
+
+pub least_first : (rs : List Rest) → 0 < length rs → IsLeastUpTo (keys_of rs) 1 0
+least_first rs h = record {
+  within = omega (arith, h, keys_length rs);
+  least = λ i l. let z : i ≡ 0 = omega (arith, l) in subst (λ k. get_or (keys_of rs) 0 0 ≤ get_or (keys_of rs) k 0) (sym z) (omega arith);
+  first = λ i l. absurd (omega (arith, l));
+  before = omega arith;
+}
+
+same_or_before : (ns : List ℕ) (n i m : ℕ) → ((j : ℕ) → j < n → m ≤ get_or ns j 0) → m ≤ get_or ns n 0 → i < n + 1 → m ≤ get_or ns i 0
+same_or_before ns n i m f last h = elim (cases_lt i n) [
+  | inl l ↦ f i l
+  | inr l ↦ let e : i ≡ n = omega (arith, h, l) in subst (λ k. m ≤ get_or ns k 0) (sym e) last
+]
+
+pub least_moves : (rs : List Rest) (n place : ℕ) (d e : Rest) → IsLeastUpTo (keys_of rs) n place → n < length rs → (get_or rs n d).key < (get_or rs place e).key → IsLeastUpTo (keys_of rs) (n + 1) n
+least_moves rs n place d e old h below =
+    let ns : List ℕ = keys_of rs in
+    let a : get_or ns n 0 ≡ (get_or rs n d).key = key_at_place rs n d h in
+    let b : get_or ns place 0 ≡ (get_or rs place e).key = key_at_place rs place e (omega (arith, old.within, keys_length rs)) in
+    record {
+      within = omega (arith, h, keys_length rs);
+      least = λ i l. same_or_before ns n i (get_or ns n 0) (λ j k. omega (arith, old.least j k, a, b, below)) (omega arith) l;
+      first = λ i l. omega (arith, old.least i l, a, b, below);
+      before = omega arith;
+    }
+
+pub least_stays : (rs : List Rest) (n place : ℕ) (d e : Rest) → IsLeastUpTo (keys_of rs) n place → n < length rs → (get_or rs place e).key ≤ (get_or rs n d).key → IsLeastUpTo (keys_of rs) (n + 1) place
+least_stays rs n place d e old h low =
+    let ns : List ℕ = keys_of rs in
+    let a : get_or ns n 0 ≡ (get_or rs n d).key = key_at_place rs n d h in
+    let b : get_or ns place 0 ≡ (get_or rs place e).key = key_at_place rs place e (omega (arith, old.within, keys_length rs)) in
+    record {
+      within = old.within;
+      least = λ i l. same_or_before ns n i (get_or ns place 0) old.least (omega (arith, a, b, low)) l;
+      first = old.first;
+      before = omega (arith, old.before);
+    }
+
+pub least_of_all : (rs : List Rest) (n place : ℕ) → IsLeastUpTo (keys_of rs) n place → length rs ≤ n → IsFirstLeast (keys_of rs) place
+least_of_all rs n place old h = record {
+  within = old.within;
+  least = λ i l. old.least i (omega (arith, l, h, keys_length rs));
+  first = old.first;
+}
+
+-- all entries of journals that are in turn
+in_from : (m : Machine) (earlier es : List Entry) (z : Noted) → In z (noted_from m earlier es) → In z.entry es
+in_from m earlier [] z i = absurd i
+in_from m earlier (e ∷ es) z (inl q) = inl (ap (λ (w : Noted). w.entry) q)
+in_from m earlier (e ∷ es) z (inr i) = inr (in_from m (earlier ++ e ∷ []) es z i)
+
+noted_rise : (m : Machine) (earlier es : List Entry) → RisesBy key_of es → Rises (noted_from m earlier es)
+noted_rise m earlier [] r = tt
+noted_rise m earlier (e ∷ es) r = (λ z i. r.0 z.entry (in_from m (earlier ++ e ∷ []) es z i), noted_rise m (earlier ++ e ∷ []) es r.1)
+
+plain : (m : Machine) (earlier es : List Entry) → ((z : Noted) → In z (noted_from m earlier es) → z.in_turn ≡ true) → all_in_turn m es ≡ noted_from m earlier es
+plain m earlier [] f = refl
+plain m earlier (e ∷ es) f =
+    let t : (noted_after m earlier e).in_turn ≡ true = f (noted_after m earlier e) (inl refl) in
+    let make : Bool → Noted = λ b. record { machine = m; entry = e; in_turn = b } in
+    ap (λ b. make b ∷ all_in_turn m es) (sym t) ∙ ap (λ l. noted_after m earlier e ∷ l) (plain m (earlier ++ e ∷ []) es (λ z i. f z (inr i)))
+
+left_is : (r : Rest) (m : Machine) (es : List Entry) → IsNonDecreasingBy key_of es → r.machine ≡ m → r.entries.now ≡ es → left_of r ≡ noted_from m [] es
+left_is r m es up p q =
+    ap (λ n. all_in_turn n r.entries.now) p ∙ (ap (all_in_turn m) q ∙ plain m [] es (in_turn_from_rises m es (noted_rise m [] es (rises_from key_of es up))))
+
+seven : (a b c d e f g : List Noted) → a ++ (b ++ (c ++ (d ++ (e ++ (f ++ (g ++ [])))))) ≡ a ++ b ++ c ++ d ++ e ++ f ++ g
+seven a b c d e f g = simp (append_assoc, append-nil)
+
+pub all_left : (j : Machine → List Entry) (a b c d e f g : Rest) → AreInTurn j → a.machine ≡ Feed → a.entries.now ≡ j Feed → b.machine ≡ Table → b.entries.now ≡ j Table → c.machine ≡ Robot → c.entries.now ≡ j Robot → d.machine ≡ Press → d.entries.now ≡ j Press → e.machine ≡ Deposit → e.entries.now ≡ j Deposit
+    → f.machine ≡ Crane → f.entries.now ≡ j Crane → g.machine ≡ Watch → g.entries.now ≡ j Watch → left_of_all (a ∷ b ∷ c ∷ d ∷ e ∷ f ∷ g ∷ []) ≡ all_noted j
+all_left j a b c d e f g turn am ae bm be cm ce dm de em ee fm fe gm ge =
+    seven (left_of a) (left_of b) (left_of c) (left_of d) (left_of e) (left_of f) (left_of g)
+    ∙ same_seven (left_is a Feed (j Feed) (turn Feed) am ae) (left_is b Table (j Table) (turn Table) bm be) (left_is c Robot (j Robot) (turn Robot) cm ce) (left_is d Press (j Press) (turn Press) dm de) (left_is e Deposit (j Deposit) (turn Deposit) em ee) (left_is f Crane (j Crane) (turn Crane) fm fe)
+    (left_is g Watch (j Watch) (turn Watch) gm ge)
+  where
+    same_seven : {a b c d e f g k l m n o p q : List Noted} → a ≡ k → b ≡ l → c ≡ m → d ≡ n → e ≡ o → f ≡ p → g ≡ q → a ++ b ++ c ++ d ++ e ++ f ++ g ≡ k ++ l ++ m ++ n ++ o ++ p ++ q
+    same_seven r s t u v w x = cc
+
+pub others_rise : (es : List Entry) (e : Entry) (others : List Entry) → es ≡ e ∷ others → IsNonDecreasingBy key_of es → IsNonDecreasingBy key_of others
+others_rise es e others q up = from_rises key_of others (rises_from key_of (e ∷ others) (subst (IsNonDecreasingBy key_of) q up)).1

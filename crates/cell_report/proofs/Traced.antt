@@ -1,0 +1,85 @@
+-- One entry more of a trace.
+use Rattle.std.specs.Option.{MatchOption, is_some}
+use Rattle.std.specs.Result.{IfOk}
+use Rattle.std.proofs.Common.{Result, Ok, Err, append-nil, not, ◌≡◌, ℕ, max, Bool, true, false, Option, Some, None, List, [], ◌∷◌, ◌++◌, refl, sym, ap, ◌∙◌, append_assoc}
+use Rattle.cell_report.specs.declared.ordered.Noted.{Noted}
+use Rattle.cell_types.specs.declared.answer.Event.{Event}
+use Rattle.cell_rules.specs.ModelState.{ModelState}
+use Rattle.cell_rules.specs.Reply.{next}
+use Rattle.cell_report.specs.declared.traces.Trace.{Trace}
+use Rattle.cell_report.specs.AuditFaults.{Fits, IsMisfit}
+use Rattle.cell_report.specs.Retraced.{Retraced}
+use Rattle.cell_report.specs.Traces.{IsTrace, IsTraceOf}
+use Rattle.cell_report.proofs.Retraces.{retraced_more, misfit_stays}
+use Rattle.cell_report.specs.Order.{InOrder, event_of, stamp_of, is_done_noted, done_stamps, greatest}
+
+pub greatest_more : (least : ℕ) (before : List Noted) (x : Noted) → greatest least (before ++ x ∷ []) ≡ max (greatest least before) (stamp_of x)
+greatest_more least [] x = refl
+greatest_more least (y ∷ before) x = greatest_more (max least (stamp_of y)) before x
+
+done_by : (b : Bool) (y : Noted) (before : List Noted) (x : Noted) (more : List ℕ) → done_stamps (before ++ x ∷ []) ≡ done_stamps before ++ more → is_done_noted y ≡ b → done_stamps (y ∷ before ++ x ∷ []) ≡ done_stamps (y ∷ before) ++ more
+done_by true y before x more h e = rw e (ap (λ l. stamp_of y ∷ l) h)
+done_by false y before x more h e = rw e h
+
+pub done_more : (before : List Noted) (x : Noted) → is_done_noted x ≡ true → done_stamps (before ++ x ∷ []) ≡ done_stamps before ++ stamp_of x ∷ []
+done_more [] x e = rw e refl
+done_more (y ∷ before) x e = done_by (is_done_noted y) y before x (stamp_of x ∷ []) (done_more before x e) refl
+
+pub done_same : (before : List Noted) (x : Noted) → is_done_noted x ≡ false → done_stamps (before ++ x ∷ []) ≡ done_stamps before ++ []
+done_same [] x e = rw e refl
+done_same (y ∷ before) x e = done_by (is_done_noted y) y before x [] (done_same before x e) refl
+
+-- the entries that are still to come, after one of them
+pub come_more : (all before rest more : List Noted) (x : Noted) → all ≡ before ++ rest → rest ≡ x ∷ more → all ≡ (before ++ x ∷ []) ++ more
+come_more all before rest more x e f = e ∙ (ap (λ l. before ++ l) f ∙ sym (append_assoc before (x ∷ []) more))
+
+-- a trace whose stamps have one entry more than what fits
+pub record IsStamped (start : ModelState) (least : ℕ) (before : List Noted) (x : Noted) (t : Trace) : Type 0 where
+  pub stamps : t.stamps.items ≡ done_stamps (before ++ x ∷ [])
+  pub top : t.top ≡ greatest least (before ++ x ∷ [])
+  pub fit : MatchOption t.misfit (Retraced start before t.events.items t.state) (IsMisfit start before)
+
+carried : (start : ModelState) (before : List Noted) (s t : Trace) → MatchOption s.misfit (Retraced start before s.events.items s.state) (IsMisfit start before) → t.misfit ≡ s.misfit → t.events.items ≡ s.events.items → t.state ≡ s.state
+    → MatchOption t.misfit (Retraced start before t.events.items t.state) (IsMisfit start before)
+carried start before s t f m e u = rw (m, e, u) f
+
+pub stamped_done : (start : ModelState) (least : ℕ) (before : List Noted) (x : Noted) (s t : Trace) → IsTrace start least before s → is_done_noted x ≡ true → t.stamps.items ≡ s.stamps.items ++ stamp_of x ∷ [] → t.top ≡ max s.top (stamp_of x) → t.misfit ≡ s.misfit → t.events.items ≡ s.events.items → t.state ≡ s.state
+    → IsStamped start least before x t
+stamped_done start least before x s t is done stamps top m e u = record {
+  stamps = stamps ∙ (ap (λ l. l ++ stamp_of x ∷ []) is.stamps ∙ sym (done_more before x done));
+  top = top ∙ (ap (λ n. max n (stamp_of x)) is.top ∙ sym (greatest_more least before x));
+  fit = carried start before s t is.fit m e u;
+}
+
+pub stamped_same : (start : ModelState) (least : ℕ) (before : List Noted) (x : Noted) (s t : Trace) → IsTrace start least before s → is_done_noted x ≡ false → t.stamps.items ≡ s.stamps.items → t.top ≡ max s.top (stamp_of x) → t.misfit ≡ s.misfit → t.events.items ≡ s.events.items → t.state ≡ s.state
+    → IsStamped start least before x t
+stamped_same start least before x s t is done stamps top m e u = record {
+  stamps = stamps ∙ (is.stamps ∙ (sym (append-nil (done_stamps before)) ∙ sym (done_same before x done)));
+  top = top ∙ (ap (λ n. max n (stamp_of x)) is.top ∙ sym (greatest_more least before x));
+  fit = carried start before s t is.fit m e u;
+}
+
+pub fit_more : (start : ModelState) (before : List Noted) (x : Noted) (m : Option ℕ) (events more : List Event) (now new : ModelState) → m ≡ None → MatchOption m (Retraced start before events now) (IsMisfit start before) → Fits start now x → more ≡ events ++ event_of x ∷ [] → new ≡ next now x.machine x.entry.call
+    → MatchOption m (Retraced start (before ++ x ∷ []) more new) (IsMisfit start (before ++ x ∷ []))
+fit_more start before x None events more now new none r fits e n = rw (e, n) (retraced_more start before x events now r fits)
+fit_more start before x (Some stamp) events more now new none r fits e n = cc
+
+pub fit_stays : (start : ModelState) (before : List Noted) (x : Noted) (m : Option ℕ) (events : List Event) (now : ModelState) → ¬ (m ≡ None) → MatchOption m (Retraced start before events now) (IsMisfit start before)
+    → MatchOption m (Retraced start (before ++ x ∷ []) events now) (IsMisfit start (before ++ x ∷ []))
+fit_stays start before x None events now some f = absurd (some refl)
+fit_stays start before x (Some stamp) events now some f = misfit_stays start before (x ∷ []) stamp f
+
+pub none_told : (m : Option ℕ) (b : Bool) → is_some m ≡ not b → b ≡ true → m ≡ None
+none_told None b e t = refl
+none_told (Some n) true e t = cc
+none_told (Some n) false e t = cc
+
+pub some_told : (m : Option ℕ) (b : Bool) → is_some m ≡ not b → b ≡ false → ¬ (m ≡ None)
+some_told None true e t = cc
+some_told None false e t = cc
+some_told (Some n) b e t = λ q. cc
+
+-- what a trace of no entry comes to, after all entries in the order
+pub trace_in_order : {E : Type 0} (start : ModelState) (least : ℕ) (all ordered : List Noted) (first : Trace) (r : Result Trace E) → InOrder all ordered → IsTrace start least [] first → IfOk r (λ t. (n : ℕ) → IsTrace start n [] first → IsTrace start n ordered t) → IfOk r (IsTraceOf start least all)
+trace_in_order start least all ordered first (Ok t) order none f = record { ordered = ordered; order = order; is = f least none }
+trace_in_order start least all ordered first (Err e) order none f = tt

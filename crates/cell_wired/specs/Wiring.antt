@@ -1,0 +1,40 @@
+-- A controller at the end of its line, and its turns.
+use Rattle.std.specs.Prelude.{◌≡◌, List, Option, Some, None, Result, Ok, Err}
+use Rattle.cell_types.specs.declared.machine.Machine.{Machine}
+use Rattle.cell_types.specs.declared.call.Call.{Call}
+use Rattle.cell_types.specs.declared.answer.Event.{Event}
+use Rattle.cell_types.specs.declared.reply.Reply.{Reply}
+use Rattle.cell_rules.specs.declared.heard.LineFault.{LineFault}
+use Rattle.cell_rules.specs.declared.heard.Heard.{Heard}
+use Rattle.cell_rules.specs.ModelState.{ModelState}
+use Rattle.cell_rules.specs.Seen.{heard_after}
+use Rattle.cell_control.specs.declared.fault.CtlFault.{CtlFault}
+use Rattle.cell_control.specs.Steps.{Steps, IsReached}
+use Rattle.cell_control.specs.Turns.{Turns}
+use Rattle.cell_wired.specs.declared.told.Told.{Told}
+
+-- a program, the progress in it, what has stopped it, and the line on which it asks
+pub record Wiring (P S L : Type 0) : Type 0 where
+  pub program : P
+  pub progress : S
+  pub stopped : Option CtlFault
+  pub line : L
+
+abbrev pub wiring_of : {P S L : Type 0} → P → S → Option CtlFault → L → Wiring P S L
+wiring_of program progress stopped line = record { program = program; progress = progress; stopped = stopped; line = line }
+
+-- the line is the program's machine's, and a controller that runs has reached its step by what the line has seen
+pub record IsWired {S Sense Reading Act : Type 0} (t : Steps S Sense Reading Act) (machine : Machine) (opening : ModelState) (seen : List Event) (stopped : Option CtlFault) (p : S) : Type 0 where
+  pub own : machine ≡ t.machine
+  pub reached : stopped ≡ None → IsReached t opening seen p
+
+-- what a controller's turn has answered, by what the actuators are told
+abbrev pub answered : {Act : Type 0} → Act → Option CtlFault → Result Act CtlFault
+answered act None = Ok act
+answered act (Some fault) = Err fault
+
+-- a turn is the controller's turn on its line
+abbrev pub TurnsWired : {P S Sense Reading Act L : Type 0} → Steps S Sense Reading Act → (L → Call → Result Reply LineFault → L → Type 0) → (L → Heard) → Wiring P S L → Sense → Told Act → Wiring P S L → Type 0
+TurnsWired t asks heard w s told w' =
+    Turns t (w'.line ≡ w.line) (λ c r. asks w.line c r w'.line × (heard w'.line ≡ heard_after (heard w.line) c r))
+    w.stopped w.progress s (record { result = answered told.act told.fault; progress = w'.progress; stopped = w'.stopped })

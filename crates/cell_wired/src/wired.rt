@@ -1,0 +1,94 @@
+ghost use Rattle.std.specs.Prelude.{◌≡◌, ◌≢◌, [], None};
+ghost use Rattle.cell_rules.specs.History.{own_events};
+ghost use Rattle.cell_wired.specs.Wiring.{TurnsWired};
+
+use crate::told::Told;
+use cell_control::{Controller, CtlFault, Program};
+use cell_rules::{Line, State};
+use std::marker::Model;
+
+/// A machine's controller at the end of its line.
+///
+/// The line is its machine's, and the controller has come so far by what the line has seen. Both
+/// stay so, so a turn asks nothing of its caller.
+#[derive(Drop)]
+pub struct Wired<P: Program, L: Line> {
+    controller: Controller<P>,
+    line: L,
+}
+
+impl<P: Program, L: Line> Model for Wired<P, L> {
+    ghost use Rattle.cell_wired.specs.Wiring.{Wiring, IsWired, wiring_of};
+
+    ghost Value = { Wiring P P.Progress L };
+
+    ghost view = { λ w. wiring_of w.controller.program w.controller.progress w.controller.stopped w.line };
+
+    ghost invariant = { λ w. IsWired (P.steps w.controller.program) (L.machine w.line)
+        (L.opening w.line) (L.seen w.line) w.controller.stopped w.controller.progress };
+}
+
+impl<P: Program, L: Line> Wired<P, L> {
+    /// A machine at the start of its program, by its full places. The line is the machine's, opened
+    /// with this state, and has settled no call yet.
+    pub fn new(program: P, opening: &State, line: L) -> Wired<P, L>
+        requires own { L.machine line ≡ (P.steps program).machine }
+        requires opening { L.opening line ≡ opening.now }
+        requires settled_none { own_events (L.seen line) (L.machine line) ≡ [] }
+        ensures program { result.program ≡ program }
+        ensures progress { result.progress ≡ (P.steps program).start opening.now }
+        ensures running { result.stopped ≡ None }
+        ensures line { result.line ≡ line }
+    {
+        Wired {
+            controller: Controller::new(opening, program),
+            line,
+        }
+    }
+
+    /// One turn, by what the sensors show: checks them and performs one step of the program. It
+    /// asks the line once or drives. Answers what the actuators are told, also after a fault.
+    ///
+    /// After any fault the machine has stopped: its motors are off, and in each later turn too.
+    pub fn turn(&mut self, sense: &P::Sense) -> Told<P::Act>
+        ensures row { TurnsWired (P.steps self.old.program) L.asks L.heard self.old sense.now result self.new }
+        ensures rest { result.fault ≢ None → result.act ≡ (P.steps self.old.program).rest self.old.progress }
+        ensures motor_demands { result.fault ≡ None → (P.steps self.old.program).motor_demands
+            self.old.progress result.act (L.opening self.new.line) (L.seen self.new.line) }
+        ensures program { self.new.program ≡ self.old.program }
+        ensures opening { L.opening self.new.line ≡ L.opening self.old.line }
+    {
+        match self.controller.turn(&mut self.line, sense) {
+            Ok(act) => Told { act, fault: None },
+            Err(fault) => Told {
+                act: self.controller.rest(),
+                fault: Some(fault),
+            },
+        }
+    }
+
+    /// What has stopped the machine; `None` while it runs.
+    pub fn stopped(&self) -> Option<CtlFault>
+        ensures { result ≡ self.now.stopped }
+    {
+        self.controller.stopped()
+    }
+
+    /// The line, to be read: its machine, and what it has heard.
+    pub fn line(&self) -> &L
+        ensures { result.now ≡ self.now.line }
+    {
+        &self.line
+    }
+
+    /// Ends the machine's turns, and gives back its line.
+    pub fn into_line(self) -> L
+        ensures { result ≡ self.line }
+    {
+        let Wired {
+            controller: _,
+            line,
+        } = self;
+        line
+    }
+}
