@@ -179,7 +179,10 @@ fn audits_many_entries(rt: HostRuntime) {
         let (mut journals, end) = run(&rt, rt.alloc(), &mut Numbers(1995), &start, calls);
         let events = audit(rt.alloc(), &journals, &start, Some(&end)).expect(&rt, "a history");
         assert!(rt; events.len() == calls as usize, "{calls} entries");
-        assert!(rt; is_explained(&mut journals, &start, &events), "{calls} entries");
+        assert!(rt;
+            is_explained(&mut journals, &start, &events),
+            "{calls} entries"
+        );
     }
 }
 
