@@ -1,5 +1,5 @@
 //! The texts of the switches and the motor.
-ghost use Rattle.std.specs.Prelude.{◌≡◌, Some, IfSome};
+ghost use Rattle.std.specs.Prelude.{◌≡◌, Bool, Some, IfSome};
 ghost use Rattle.press_by_hand.specs.Texts.{switch_digit, switch_digits, motor_word as word_of};
 ghost use Rattle.cell_calib.specs.declared.sense.PressSense.{PressSense};
 
@@ -25,7 +25,7 @@ pub fn read_switches(text: &[u8]) -> Option<PressSense>
 // A switch by its digit: 1 is on.
 fn read_switch(digit: u8) -> Option<bool>
     ensures right { IfSome result (λ on. digit ≡ switch_digit on) }
-    ensures all { (on : bool) → digit ≡ switch_digit on → result ≡ Some on }
+    ensures all { (on : Bool) → digit ≡ switch_digit on → result ≡ Some on }
 {
     match digit {
         b'0' => Some(false),
