@@ -1,5 +1,5 @@
 -- How a call is written: the fields of a record after the machine's word.
-use Rattle.std.specs.Prelude.{ℕ, List, [], ◌∷◌, codes, Option, Some, None}
+use Rattle.std.specs.Prelude.{ℕ, List, [], ◌∷◌, ◌++◌, codes, Option, Some, None}
 use Rattle.cell_types.specs.declared.call.Call.{Call}
 use Rattle.cell_types.specs.declared.call.Call.TheVariants.{Claim, Give, Yield, Take, Release, SetPose, Advance}
 use Rattle.cell_types.specs.declared.call.Call.TheVariants.{Inquire, Stop, Resume}
@@ -37,3 +37,11 @@ with_object verb (Some object) = verb ∷ object ∷ []
 
 abbrev pub call_fields : Call → List (List ℕ)
 call_fields call = with_object (verb_of call) (object_of call)
+
+-- a call in one line of text, with a blank between verb and object
+abbrev pub with_blank : List ℕ → Option (List ℕ) → List ℕ
+with_blank verb None = verb
+with_blank verb (Some object) = verb ++ 32 ∷ object
+
+abbrev pub call_text : Call → List ℕ
+call_text call = with_blank (verb_of call) (object_of call)

@@ -237,6 +237,16 @@ pub struct Event {
     pub answer: Answer,
 }
 
+impl fmt::Display for Refusal {
+    ghost use Rattle.cell_types.specs.Answers.{refusal_word};
+
+    ghost output = { λ refusal. Some (refusal_word refusal) };
+
+    fn fmt<W: fmt::Write>(&self, f: &mut fmt::Formatter<W>) -> fmt::Result {
+        f.write_str(self.word())
+    }
+}
+
 impl fmt::Display for Answer {
     ghost output = { λ answer. Some (answer_text answer) };
 

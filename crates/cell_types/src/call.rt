@@ -4,6 +4,7 @@ ghost use Rattle.cell_types.specs.CallWords.{call_fields, verb_of, with_object};
 use crate::pose::Pose;
 use crate::words::{Worded, find_by_word};
 use crate::zone::Zone;
+use std::fmt;
 
 /// What a machine asks of the interlock.
 #[derive(Clone, Copy, Debug, PartialEq, Eq)]
@@ -90,5 +91,31 @@ impl Worded for Call {
 
     fn own_word(self) -> &'static str {
         self.verb()
+    }
+}
+
+impl fmt::Display for Call {
+    ghost use Rattle.cell_types.specs.CallWords.{call_text};
+
+    ghost output = { λ call. Some (call_text call) };
+
+    fn fmt<W: fmt::Write>(&self, f: &mut fmt::Formatter<W>) -> fmt::Result {
+        let verb = self.verb();
+        match self {
+            Call::Advance | Call::Stop | Call::Resume => f.write_str(verb),
+            Call::SetPose(pose) => {
+                let pose = pose.word();
+                write!(f, "{verb} {pose}")
+            }
+            Call::Claim(zone)
+            | Call::Give(zone)
+            | Call::Yield(zone)
+            | Call::Take(zone)
+            | Call::Release(zone)
+            | Call::Inquire(zone) => {
+                let zone = zone.word();
+                write!(f, "{verb} {zone}")
+            }
+        }
     }
 }
