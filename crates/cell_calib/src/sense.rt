@@ -3,14 +3,19 @@ ghost use Rattle.cell_calib.specs.Sensors.{TableClashes, PressClashes, CraneClas
 ghost use Rattle.cell_calib.specs.Sensors.{feed_part, table_part, robot_part, press_part, deposit_part};
 ghost use Rattle.cell_calib.specs.Sensors.{crane_part};
 
+use thiserror::Error;
+
 /// Why a machine's sensors can't be used.
-#[derive(Clone, Copy, Debug, PartialEq, Eq)]
+#[derive(Clone, Copy, Debug, PartialEq, Eq, Error)]
 pub enum SensorFault {
     /// A raw value is below the least of its calibration.
+    #[error("a raw value is below the least of its calibration")]
     Low,
     /// A raw value is above the greatest of its calibration.
+    #[error("a raw value is above the greatest of its calibration")]
     High,
     /// Two switches are on that exclude each other.
+    #[error("two switches are on that exclude each other")]
     Clash,
 }
 

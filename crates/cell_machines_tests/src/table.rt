@@ -400,3 +400,28 @@ fn a_table_whose_sensors_are_wrong_stops(rt: HostRuntime) {
         assert!(rt; is_stopped(rt.alloc(), points, start, broken, *fault));
     }
 }
+
+const FAULTS: &[(CtlFault, &str)] = &[
+    (
+        CtlFault::Sensor(SensorFault::Clash),
+        "the sensors can't be used: two switches are on that exclude each other",
+    ),
+    (
+        CtlFault::Refused(Refusal::NotOwner(None)),
+        "a call was refused: notowner free",
+    ),
+    (
+        CtlFault::Worn,
+        "the interlock's stamp has reached its last value",
+    ),
+    (CtlFault::Memory, "out of memory"),
+    (CtlFault::Stopped, "stopped in an earlier turn"),
+];
+
+#[test]
+fn faults_are_printed(rt: HostRuntime) {
+    for (fault, text) in FAULTS {
+        let printed = fault.to_string(rt.alloc()).expect(&rt, "memory");
+        assert!(rt; printed.as_str() == *text, "{text}");
+    }
+}

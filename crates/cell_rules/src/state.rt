@@ -13,6 +13,7 @@ use crate::stamp::LAST_STAMP;
 use crate::zones::{ZoneState, Zones};
 use cell_types::{Call, Machine, Place, Posture, Zone, own_move, transfer};
 use std::marker::Model;
+use thiserror::Error;
 
 /// A state of the interlock.
 #[derive(Clone, Copy, Debug, PartialEq, Eq)]
@@ -37,9 +38,10 @@ impl Model for State {
 }
 
 /// Why a start is refused.
-#[derive(Clone, Copy, Debug, PartialEq, Eq)]
+#[derive(Clone, Copy, Debug, PartialEq, Eq, Error)]
 pub enum StartFault {
     /// More than six places have plates, or both of the press, or the stamp is past the last one.
+    #[error("more than six plates, both places of the press full, or a stamp past the last")]
     BadStart,
 }
 

@@ -1,7 +1,10 @@
 //! The words of scripts and reports, and the numbers of the refusals.
 
+use cell_calib::SensorFault;
+use cell_rules::StartFault;
 use cell_types::{Answer, Call, Machine, Place, Pose, Posture, Refusal, Zone};
 use std::alloc::Global;
+use std::fmt;
 
 const MACHINES: &[(&str, Option<Machine>)] = &[
     ("feed", Some(Machine::Feed)),
@@ -224,8 +227,39 @@ const ANSWERS: &[(Answer, &str)] = &[
     ),
 ];
 
-fn is_printed(alloc: Global, answer: Answer, text: &str) -> bool {
-    match format!(in alloc; "{answer}") {
+const CALL_TEXTS: &[(Call, &str)] = &[
+    (Call::Claim(Zone::Z1), "claim z1"),
+    (Call::Give(Zone::Z2), "give z2"),
+    (Call::Yield(Zone::Z3), "yield z3"),
+    (Call::Take(Zone::Z4), "take z4"),
+    (Call::Release(Zone::Z5), "release z5"),
+    (Call::Inquire(Zone::Z6), "inquire z6"),
+    (Call::SetPose(Pose::Travelling), "pose travelling"),
+    (Call::Advance, "advance"),
+    (Call::Stop, "stop"),
+    (Call::Resume, "resume"),
+];
+
+const SENSOR_FAULTS: &[(SensorFault, &str)] = &[
+    (
+        SensorFault::Low,
+        "a raw value is below the least of its calibration",
+    ),
+    (
+        SensorFault::High,
+        "a raw value is above the greatest of its calibration",
+    ),
+    (
+        SensorFault::Clash,
+        "two switches are on that exclude each other",
+    ),
+];
+
+const START_FAULT: &str =
+    "more than six plates, both places of the press full, or a stamp past the last";
+
+fn is_printed<T: fmt::Display>(alloc: Global, value: &T, text: &str) -> bool {
+    match format!(in alloc; "{value}") {
         Ok(printed) => printed.as_str() == text,
         Err(_) => false,
     }
@@ -234,6 +268,21 @@ fn is_printed(alloc: Global, answer: Answer, text: &str) -> bool {
 #[test]
 fn answers_are_printed(rt: HostRuntime) {
     for (answer, text) in ANSWERS {
-        assert!(rt; is_printed(rt.alloc(), *answer, text), "{text}");
+        assert!(rt; is_printed(rt.alloc(), answer, text), "{text}");
     }
+}
+
+#[test]
+fn calls_are_printed(rt: HostRuntime) {
+    for (call, text) in CALL_TEXTS {
+        assert!(rt; is_printed(rt.alloc(), call, text), "{text}");
+    }
+}
+
+#[test]
+fn faults_are_printed(rt: HostRuntime) {
+    for (fault, text) in SENSOR_FAULTS {
+        assert!(rt; is_printed(rt.alloc(), fault, text), "{text}");
+    }
+    assert!(rt; is_printed(rt.alloc(), &StartFault::BadStart, START_FAULT));
 }

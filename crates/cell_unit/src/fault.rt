@@ -1,9 +1,11 @@
 use std::alloc::AllocError;
+use thiserror::Error;
 
 /// Why a cell wasn't simulated.
-#[derive(Clone, Copy, Debug, PartialEq, Eq)]
+#[derive(Clone, Copy, Debug, PartialEq, Eq, Error)]
 pub enum SimFault {
     /// Out of memory for a journal's entry.
+    #[error("out of memory")]
     Memory,
 }
 
