@@ -1,6 +1,6 @@
 ghost use Rattle.std.specs.Prelude.{◌≡◌, ◌≢◌, [], None};
 ghost use Rattle.cell_rules.specs.History.{own_events};
-ghost use Rattle.cell_wired.specs.Wiring.{TurnsWired};
+ghost use Rattle.cell_wired.specs.Wiring.{TurnsWired, answered};
 
 use crate::told::Told;
 use cell_control::{Controller, CtlFault, Program};
@@ -58,13 +58,8 @@ impl<P: Program, L: Line> Wired<P, L> {
         ensures program { self.new.program ≡ self.old.program }
         ensures opening { L.opening self.new.line ≡ L.opening self.old.line }
     {
-        match self.controller.turn(&mut self.line, sense) {
-            Ok(act) => Told { act, fault: None },
-            Err(fault) => Told {
-                act: self.controller.rest(),
-                fault: Some(fault),
-            },
-        }
+        let turned = self.controller.turn(&mut self.line, sense);
+        told_of(turned, self.controller.rest())
     }
 
     /// What has stopped the machine; `None` while it runs.
@@ -90,5 +85,19 @@ impl<P: Program, L: Line> Wired<P, L> {
             line,
         } = self;
         line
+    }
+}
+
+// What the actuators are told after the controller's turn: at rest after a fault.
+fn told_of<A: Copy>(turned: Result<A, CtlFault>, rest: A) -> Told<A>
+    ensures answered { answered result.act result.fault ≡ turned }
+    ensures rest { result.fault ≢ None → result.act ≡ rest }
+{
+    match turned {
+        Ok(act) => Told { act, fault: None },
+        Err(fault) => Told {
+            act: rest,
+            fault: Some(fault),
+        },
     }
 }
