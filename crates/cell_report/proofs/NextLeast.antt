@@ -142,6 +142,21 @@ pub next_from : (rs : List Rest) (i : ℕ) (d new : Rest) (o : Option Noted) →
     → MatchOption o (in_order (left_of_all rs) ≡ []) (λ x. in_order (left_of_all rs) ≡ x ∷ in_order (left_of_all (set rs i new)))
 next_from rs i d new o least is = next_told rs i d new o (omega (arith, least.within, keys_length rs)) least is
 
+-- the same, where the rest was copied
+pub next_of_copy : (rs : List Rest) (i : ℕ) (old new : Rest) (o : Option Noted) → IsFirstLeast (keys_of rs) i → old ≡ get_or rs i old → MatchOption o (left_of old ≡ []) (λ x. left_of old ≡ x ∷ left_of new)
+    → MatchOption o (in_order (left_of_all rs) ≡ []) (λ x. in_order (left_of_all rs) ≡ x ∷ in_order (left_of_all (set rs i new)))
+next_of_copy rs i old new o least is told = next_from rs i old new o least (subst (λ r. MatchOption o (left_of r ≡ []) (λ x. left_of r ≡ x ∷ left_of new)) is told)
+
+-- a key that stays leaves all keys as they were
+keys_stay : (rs : List Rest) (i : ℕ) (d new : Rest) → new.key ≡ (get_or rs i d).key → keys_of (set rs i new) ≡ keys_of rs
+keys_stay [] i d new e = refl
+keys_stay (r ∷ rs) zero d new e = ap (λ k. k ∷ keys_of rs) e
+keys_stay (r ∷ rs) (suc i) d new e = ap (λ l. r.key ∷ l) (keys_stay rs i d new e)
+
+-- and so the same rest has the least key
+pub still_first : (rs : List Rest) (i : ℕ) (d new : Rest) → IsFirstLeast (keys_of rs) i → new.key ≡ (get_or rs i d).key → IsFirstLeast (keys_of (set rs i new)) i
+still_first rs i d new least e = subst (λ ks. IsFirstLeast ks i) (sym (keys_stay rs i d new e)) least
+
 -- the least of the first ones
 pub record IsLeastUpTo (ns : List ℕ) (n place : ℕ) : Type 0 where
   pub within : place < length ns

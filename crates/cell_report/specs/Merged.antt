@@ -2,7 +2,7 @@
 use Rattle.std.specs.Prelude.{List, [], ◌∷◌, ◌++◌}
 use Rattle.cell_report.specs.declared.ordered.Noted.{Noted}
 use Rattle.cell_report.specs.declared.rests.Rest.{Rest}
-use Rattle.cell_report.specs.declared.merged.Merge.{Merge}
+use Rattle.cell_report.specs.declared.rests.Merge.{Merge}
 use Rattle.cell_report.specs.Order.{in_order}
 use Rattle.cell_report.specs.InTurn.{all_in_turn}
 

@@ -10,8 +10,9 @@ ghost use Rattle.cell_report.specs.Traces.{IsTraceOf, IsStampedTrace};
 ghost use Rattle.cell_report.specs.declared.audit_faults.AuditFault.TheVariants.{Memory};
 
 use crate::audit_faults::AuditFault;
-use crate::merged::{Merge, are_in_turn};
+use crate::merged::are_in_turn;
 use crate::ordered::{Sorted, all_sorted};
+use crate::rests::Merge;
 use crate::same::is_same_state;
 use crate::stamps::{least_gap, least_twice};
 use crate::traces::Trace;

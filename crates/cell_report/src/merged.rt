@@ -7,7 +7,7 @@ ghost use Rattle.cell_report.specs.InTurn as turn;
 ghost use Rattle.cell_report.specs.Merged as merged;
 
 use crate::ordered::{Entries, Noted, key};
-use crate::rests::Rest;
+use crate::rests::{Merge, Rest};
 use cell_types::{Entry, Journals, Machine};
 
 fn is_in_turn(journal: &[Entry]) -> bool
@@ -43,28 +43,31 @@ fn least(rests: &[Rest<'_>]) -> usize
     least
 }
 
-/// What is left of the journals, by machine.
-#[derive(Clone, Copy)]
-pub struct Merge<'a> {
-    rests: [Rest<'a>; 7],
-}
-
 impl Merge<'_> {
     /// All entries of journals that are each in turn.
     pub fn new(journals: &Journals) -> Merge<'_>
         requires { order.AreInTurn (journal_of journals.now) }
         ensures { merged.rest_of result ≡ order.in_order (order.all_noted (journal_of journals.now)) }
     {
-        Merge {
-            rests: [
-                Rest::new(Machine::Feed, &journals.feed),
-                Rest::new(Machine::Table, &journals.table),
-                Rest::new(Machine::Robot, &journals.robot),
-                Rest::new(Machine::Press, &journals.press),
-                Rest::new(Machine::Deposit, &journals.deposit),
-                Rest::new(Machine::Crane, &journals.crane),
-                Rest::new(Machine::Watch, &journals.watch),
-            ],
+        let rests = [
+            Rest::new(Machine::Feed, &journals.feed),
+            Rest::new(Machine::Table, &journals.table),
+            Rest::new(Machine::Robot, &journals.robot),
+            Rest::new(Machine::Press, &journals.press),
+            Rest::new(Machine::Deposit, &journals.deposit),
+            Rest::new(Machine::Crane, &journals.crane),
+            Rest::new(Machine::Watch, &journals.watch),
+        ];
+        Merge { rests, place: None }
+    }
+
+    // The place of the rest whose first entry is the next in the order.
+    fn next_place(&self) -> usize
+        ensures { turn.IsFirstLeast (map (λ r. r.key) self.now.rests) result }
+    {
+        match self.place {
+            Some(place) => place,
+            None => least(&self.rests),
         }
     }
 }
@@ -74,9 +77,19 @@ impl Entries for Merge<'_> {
 
     ghost rest = { λ merge. merged.rest_of merge };
 
+    // While the key stays, so does the place, and no other rest is looked at.
     fn next_noted(&mut self) -> Option<Noted> {
-        let rests = &mut self.rests[..];
-        let least = least(rests);
-        rests[least].next()
+        let place = self.next_place();
+        let rests = &self.rests[..];
+        let mut rest = rests[place];
+        let key = rest.key;
+        let noted = rest.next();
+        let stays = rest.key == key;
+        self.place = None;
+        self.rests[place] = rest;
+        if stays {
+            self.place = Some(place);
+        }
+        noted
     }
 }

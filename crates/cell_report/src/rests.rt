@@ -1,5 +1,6 @@
-//! What is left of a journal that is in turn.
-ghost use Rattle.std.specs.Prelude.{◌≡◌, ◌∷◌, [], ◌≤◌, MatchOption, length};
+//! What is left of journals that are in turn.
+ghost use Rattle.std.specs.Prelude.{◌≡◌, ◌∷◌, [], ◌≤◌, MatchOption, length, map};
+ghost use Rattle.std.specs.Option.{ForSome};
 ghost use Rattle.std.specs.List.Sorted.{IsNonDecreasingBy};
 ghost use Rattle.cell_report.specs.Order as order;
 ghost use Rattle.cell_report.specs.InTurn as turn;
@@ -19,6 +20,16 @@ pub struct Rest<'a> {
     ghost in_turn: { IsNonDecreasingBy order.key_of entries.now },
     ghost first: { key ≡ turn.first_key entries.now },
     ghost none: { turn.last_key ≤ key → length entries.now ≡ 0 },
+}
+
+/// What is left of all journals.
+#[derive(Clone, Copy)]
+pub struct Merge<'a> {
+    /// What is left of each journal, in the order of `Machine::ALL`.
+    pub(crate) rests: [Rest<'a>; 7],
+    /// The place of the rest whose first entry is the next in the order, if it is known.
+    pub(crate) place: Option<usize>,
+    ghost first: { ForSome place (λ p. turn.IsFirstLeast (map (λ r. r.key) rests) p) },
 }
 
 impl Rest<'_> {

@@ -44,6 +44,8 @@ impl Trace {
         })
     }
 
+    // Inline, so that no entry passes through memory.
+    #[inline(always)]
     fn take(&mut self, start: &State, noted: &Noted) -> Result<(), AllocError>
         ensures { IfOk result (λ _. (least : ℕ) → (before : List Noted)
             → IsTrace start.now least before self.old

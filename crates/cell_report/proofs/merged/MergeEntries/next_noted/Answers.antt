@@ -1,7 +1,24 @@
-use Rattle.cell_report.proofs.NextLeast.{next_from}
+use Rattle.std.proofs.Common.{◌≡◌, ap, subst, arith}
+use Rattle.cell_report.specs.declared.rests.Rest.{Rest}
+use Rattle.cell_report.specs.InTurn.{IsFirstLeast}
+use Rattle.cell_report.proofs.NextLeast.{next_of_copy, still_first}
 use Rattle.cell_report.proofs.merged.MergeEntries.next_noted.Goals as goal
 
-pub returns : goal.returns
-returns c =
-    next_from c.args.self.now.rests c.least-least.result c.index-rests-least.result c.next.new.self c.next.result
-    c.least-least.ensures c.next.ensures
+pub invariant_of-self-then-stays : goal.invariant_of-self-then-stays
+invariant_of-self-then-stays c =
+    let rests = c.args.self.now.rests in
+    let place = c.next_place-place.result in
+    let old = c.index-rests-place.result in
+    let same = ap (λ (r : Rest). r.key) c.index-rests-place.is in
+    let first = still_first rests place old c.next-noted.new.self c.next_place-place.ensures (omega (arith, same, c.if-stays.true)) in
+    record { first = λ x e. let is : place ≡ x = cc in subst (IsFirstLeast _) is first }
+
+pub returns-then-stays : goal.returns-then-stays
+returns-then-stays c =
+    next_of_copy c.args.self.now.rests c.next_place-place.result c.index-rests-place.result c.next-noted.new.self c.next-noted.result
+    c.next_place-place.ensures c.index-rests-place.is c.next-noted.ensures
+
+pub returns-else-stays : goal.returns-else-stays
+returns-else-stays c =
+    next_of_copy c.args.self.now.rests c.next_place-place.result c.index-rests-place.result c.next-noted.new.self c.next-noted.result
+    c.next_place-place.ensures c.index-rests-place.is c.next-noted.ensures

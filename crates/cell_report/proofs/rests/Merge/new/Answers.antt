@@ -4,7 +4,7 @@ use Rattle.cell_types.specs.declared.machine.Machine.TheVariants.{Feed, Table, R
 use Rattle.cell_report.specs.Order.{key_of, in_order}
 use Rattle.cell_types.specs.Journals.{journal_of}
 use Rattle.cell_report.proofs.NextLeast.{all_left}
-use Rattle.cell_report.proofs.merged.Merge.new.Goals as goal
+use Rattle.cell_report.proofs.rests.Merge.new.Goals as goal
 
 pub new-requires : goal.new-requires
 new-requires c = subst (IsNonDecreasingBy key_of) (sym c.deref.ensures.value) (c.requires Feed)
