@@ -1,0 +1,13 @@
+use Rattle.std.proofs.Common.{ap, ◌∙◌}
+use Rattle.std.proofs.lemmas.Option.{IfSome_then}
+use Rattle.std.proofs.lemmas.Result.{IfOk-weaker}
+use Rattle.cell_config.specs.Settings.{settings_of}
+use Rattle.cell_explain.proofs.Prefixes.{settings_of-prefix}
+use Rattle.cell_explain.proofs.explain.explain_configuration.Goals as goal
+
+pub returns-clause-says : goal.returns-clause-says
+returns-clause-says g c =
+    IfOk-weaker c.explain_configuration_bytes.result _ _
+    (λ verdict said. IfSome_then (g.R.Read.remaining c.args.reader.now) c.in_ok-bytes.ensures.bytes
+    (λ read is. rw (ap settings_of (c.as_slice.ensures.value ∙ is) ∙ settings_of-prefix read) at said))
+    c.explain_configuration_bytes.ensures.says

@@ -1,0 +1,152 @@
+//! What is wrong with a later record of a script.
+
+use crate::fields::{Field, look};
+use crate::records::{Record, record_at};
+use crate::start_words::{field_of, is_version};
+use cell_types::{Call, Machine, Pose, Zone};
+use std::alloc::{AllocError, Global};
+
+/// The most fields of a call.
+const MOST_FIELDS: usize = 3;
+
+/// What stands after a verb.
+#[derive(Clone, Copy, PartialEq, Eq)]
+enum Object {
+    Nothing,
+    Zone,
+    Pose,
+}
+
+/// The verbs that take a zone.
+fn zone_verbs() -> [&'static str; 6] {
+    let zone = Zone::Z1;
+    [
+        Call::Claim(zone).verb(),
+        Call::Give(zone).verb(),
+        Call::Yield(zone).verb(),
+        Call::Take(zone).verb(),
+        Call::Release(zone).verb(),
+        Call::Inquire(zone).verb(),
+    ]
+}
+
+/// All verbs.
+fn verbs() -> [&'static str; 10] {
+    let [claim, give, hand_back, take, release, inquire] = zone_verbs();
+    let pose = Call::SetPose(Pose::Low).verb();
+    let advance = Call::Advance.verb();
+    let stop = Call::Stop.verb();
+    let resume = Call::Resume.verb();
+    [
+        claim, give, hand_back, take, release, inquire, pose, advance, stop, resume,
+    ]
+}
+
+/// What stands after this verb; `None` if it is no verb.
+fn object_of(verb: &[u8]) -> Option<Object> {
+    if zone_verbs().iter().any(|word| word.as_bytes() == verb) {
+        return Some(Object::Zone);
+    }
+    if verb == b"pose".as_slice() {
+        return Some(Object::Pose);
+    }
+    if verbs().iter().any(|word| word.as_bytes() == verb) {
+        return Some(Object::Nothing);
+    }
+    None
+}
+
+/// Adds why the record with this number is no call.
+pub fn push_bad_row(
+    alloc: Global,
+    words: &mut String,
+    script: &[u8],
+    number: u32,
+) -> Result<(), AllocError> {
+    let Some(record) = record_at(alloc, script, number) else {
+        return words.push_str("it is no call");
+    };
+    let Some(machine) = field_of(&record, 0) else {
+        return words.push_str("it is no call");
+    };
+    if machine.bytes.starts_with(b"#".as_slice()) {
+        return machine.push_wrong(words, ": a script has no comments; delete the line");
+    }
+    if is_version(machine.bytes) {
+        return machine.push_wrong(words, " begins a script; it stands in record 0 alone");
+    }
+    if Machine::read(machine.bytes).is_none() {
+        let machines = Machine::ALL.map(|machine| machine.word());
+        return machine.push_unknown(alloc, words, "machine", &machines);
+    }
+    push_bad_call(alloc, words, &record, is_first_version(alloc, script))
+}
+
+/// Whether a script can't stop the cell.
+fn is_first_version(alloc: Global, script: &[u8]) -> bool {
+    match record_at(alloc, script, 0) {
+        Some(record) => record.row.get(0) == Some(b"start".as_slice()),
+        None => false,
+    }
+}
+
+/// Adds why the fields after the machine's are no call.
+fn push_bad_call(
+    alloc: Global,
+    words: &mut String,
+    record: &Record,
+    is_first: bool,
+) -> Result<(), AllocError> {
+    let line = record.line;
+    let Some(verb) = field_of(record, 1) else {
+        return write!(
+            words,
+            "line {line}: a verb is missing after the machine, such as claim"
+        );
+    };
+    let Some(object) = object_of(verb.bytes) else {
+        return verb.push_unknown(alloc, words, "verb", &verbs());
+    };
+    if is_first && (verb.bytes == b"stop".as_slice() || verb.bytes == b"resume".as_slice()) {
+        verb.push_place(words)?;
+        return words.push_str(" needs a script that begins with start2, not with start");
+    }
+    if let Some(more) = field_of(record, MOST_FIELDS) {
+        return more.push_wrong(words, "; a call has at most three fields");
+    }
+    push_bad_object(alloc, words, verb, object, field_of(record, 2))
+}
+
+/// Adds why a field is no object of a verb.
+fn push_bad_object(
+    alloc: Global,
+    words: &mut String,
+    verb: Field<'_>,
+    wanted: Object,
+    found: Option<Field<'_>>,
+) -> Result<(), AllocError> {
+    match (wanted, found) {
+        (Object::Nothing, Some(more)) => {
+            more.push_place(words)?;
+            words.push_str(look(more.bytes))?;
+            words.push_str("; no field follows this verb")
+        }
+        (Object::Zone, Some(zone)) => {
+            let zones = Zone::ALL.map(|zone| zone.word());
+            zone.push_unknown(alloc, words, "zone", &zones)
+        }
+        (Object::Pose, Some(pose)) => {
+            let poses = Pose::ALL.map(|pose| pose.word());
+            pose.push_unknown(alloc, words, "pose", &poses)
+        }
+        (Object::Zone, None) => {
+            verb.push_place(words)?;
+            words.push_str(" needs a zone after it, z1 to z6")
+        }
+        (Object::Pose, None) => {
+            verb.push_place(words)?;
+            words.push_str(" needs a pose after it, such as middle")
+        }
+        (Object::Nothing, None) => words.push_str("it is no call"),
+    }
+}

@@ -1,0 +1,21 @@
+//! Explains why `cell` refuses a script or a configuration, in words. It is silent just where `cell`
+//! doesn't refuse its input.
+#![tactic(auto)]
+
+mod call_words;
+mod config_words;
+pub mod explain;
+pub mod fault;
+mod fields;
+mod nearest;
+mod quoted;
+mod records;
+mod report;
+mod script_words;
+mod sink;
+mod start_words;
+pub mod verdict;
+
+pub use explain::{explain_configuration, explain_script};
+pub use fault::ExplainFault;
+pub use verdict::Verdict;

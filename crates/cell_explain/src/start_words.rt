@@ -1,0 +1,155 @@
+//! What is wrong with record 0 of a script.
+
+use crate::fields::Field;
+use crate::records::{Record, record_at};
+use cell_rules::read_places;
+use cell_types::Machine;
+use std::alloc::{AllocError, Global};
+
+/// What a start looks like.
+const EXAMPLE: &str = "a script begins with a start, such as start,0000000000";
+
+/// The words that begin a script.
+const VERSIONS: [&str; 2] = ["start", "start2"];
+
+/// The most fields of a start.
+const MOST_FIELDS: usize = 3;
+
+/// The most plates of a start.
+const MOST_PLATES: usize = 6;
+
+/// Adds why a script has no start.
+pub fn push_no_start(alloc: Global, words: &mut String, script: &[u8]) -> Result<(), AllocError> {
+    if is_utf16(script) {
+        return words.push_str("line 1: the script seems to be UTF-16; save it as UTF-8");
+    }
+    let Some(record) = record_at(alloc, script, 0) else {
+        write!(words, "line 1: there is none; {EXAMPLE}")?;
+        return Ok(());
+    };
+    let Some(first) = field_of(&record, 0) else {
+        return words.push_str(EXAMPLE);
+    };
+    if first.bytes.starts_with(b"#".as_slice()) {
+        return first.push_wrong(words, ": a script has no comments; delete the line");
+    }
+    if Machine::read(first.bytes).is_some() {
+        first.push_place(words)?;
+        return write!(words, " begins a call, but {EXAMPLE}");
+    }
+    if is_header(alloc, script) {
+        return first.push_wrong(words, ": a script has no header; delete the line");
+    }
+    first.push_unknown(alloc, words, "word that begins a script", &VERSIONS)?;
+    write!(words, "; {EXAMPLE}")
+}
+
+/// Whether a text seems to be UTF-16.
+fn is_utf16(script: &[u8]) -> bool {
+    script.starts_with(b"\xff\xfe".as_slice()) || script.starts_with(b"\xfe\xff".as_slice())
+}
+
+/// Whether record 1 begins a script.
+fn is_header(alloc: Global, script: &[u8]) -> bool {
+    match record_at(alloc, script, 1) {
+        Some(record) => record.row.get(0).is_some_and(is_version),
+        None => false,
+    }
+}
+
+/// Whether a field begins a script.
+pub fn is_version(field: &[u8]) -> bool {
+    VERSIONS.iter().any(|word| word.as_bytes() == field)
+}
+
+/// The field with this index.
+pub fn field_of(record: &Record, index: usize) -> Option<Field<'_>> {
+    let bytes = record.row.get(index)?;
+    Some(Field {
+        line: record.line,
+        number: index.saturating_add(1),
+        bytes,
+    })
+}
+
+/// Adds why record 0 is no start.
+pub fn push_bad_start(alloc: Global, words: &mut String, script: &[u8]) -> Result<(), AllocError> {
+    let Some(record) = record_at(alloc, script, 0) else {
+        return words.push_str(EXAMPLE);
+    };
+    let line = record.line;
+    if record.row.len() > MOST_FIELDS {
+        return match field_of(&record, MOST_FIELDS) {
+            Some(field) => field.push_wrong(words, "; a start has at most three fields"),
+            None => words.push_str(EXAMPLE),
+        };
+    }
+    match (field_of(&record, 1), field_of(&record, 2)) {
+        (None, _) => write!(
+            words,
+            "line {line}: the places are missing: ten digits 0 or 1, one for each of p1 to p10"
+        ),
+        (Some(places), stamp) => {
+            if read_places(places.bytes).is_none() {
+                return push_places(words, places);
+            }
+            match stamp {
+                Some(stamp) if !is_stamp(stamp.bytes) => push_stamp(words, stamp),
+                _ => push_plates(words, places),
+            }
+        }
+    }
+}
+
+/// Adds why a field isn't ten digits.
+fn push_places(words: &mut String, places: Field<'_>) -> Result<(), AllocError> {
+    let count = places.bytes.len();
+    let are_digits = places.bytes.iter().all(|byte| byte.is_ascii_digit());
+    if are_digits && count < 10 && count > 0 {
+        places.push_place(words)?;
+        return write!(
+            words,
+            " has {count} of ten digits; a spreadsheet drops zeros at the front, so make the field a text"
+        );
+    }
+    if are_digits && count > 10 {
+        places.push_place(words)?;
+        return write!(
+            words,
+            " has {count} digits; there are ten places, p1 to p10"
+        );
+    }
+    places.push_wrong(
+        words,
+        "; the places are ten digits 0 or 1, one for each of p1 to p10",
+    )
+}
+
+/// Whether a field is a stamp within its limit.
+fn is_stamp(field: &[u8]) -> bool {
+    let are_digits = field.iter().all(|byte| byte.is_ascii_digit());
+    are_digits && !field.is_empty() && field.len() <= 7 && field <= b"1048575".as_slice()
+}
+
+/// Adds why a field is no stamp.
+fn push_stamp(words: &mut String, stamp: Field<'_>) -> Result<(), AllocError> {
+    stamp.push_wrong(
+        words,
+        "; a stamp has one to seven digits and is from 0 to 1048575",
+    )
+}
+
+/// Adds why places with plates make no start.
+fn push_plates(words: &mut String, places: Field<'_>) -> Result<(), AllocError> {
+    places.push_place(words)?;
+    push_plate_count(words, places.bytes)
+}
+
+/// Adds why these digits make no start.
+pub fn push_plate_count(words: &mut String, digits: &[u8]) -> Result<(), AllocError> {
+    let plates = digits.iter().filter(|digit| **digit == b'1').count();
+    if plates > MOST_PLATES {
+        return write!(words, " has {plates} plates; a start has at most six");
+    }
+    words.push_str(" has plates in both p5 and p6; the press holds one")
+}
