@@ -12,6 +12,7 @@ mod quoted;
 mod records;
 mod report;
 mod script_words;
+pub mod serve;
 mod sink;
 mod start_words;
 pub mod verdict;
