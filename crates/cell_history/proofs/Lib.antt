@@ -1,0 +1,4 @@
+mod Lines
+mod Reading
+mod Openings
+mod Answering

@@ -1,0 +1,5 @@
+use Rattle.cell_history.proofs.Answering.{histories_answered}
+use Rattle.cell_history.proofs.laws.histories_are_answered.Goals as goal
+
+pub returns : goal.returns
+returns c = histories_answered
