@@ -32,16 +32,16 @@ def text_of(path):
 
 @contextlib.contextmanager
 def alone(say):
-    """Keeps other builds of this repository waiting, and hands out the folder of what is built of the program."""
+    """Keeps other builds of this repository waiting."""
     out = f"{ROOT}/crates/{PROGRAM}/out"
     os.makedirs(out, exist_ok=True)
     with open(f"{out}/build.lock", "w", encoding="ascii") as held:
         try:
             fcntl.flock(held, fcntl.LOCK_EX | fcntl.LOCK_NB)
         except BlockingIOError:
-            say("waiting until another ./cell or tools/over in this clone has finished building")
+            say("waiting until another build in this clone has finished")
             fcntl.flock(held, fcntl.LOCK_EX)
-        yield out
+        yield
 
 
 class Building:
@@ -51,7 +51,8 @@ class Building:
     def __init__(self, root, listed, name, folder):
         self.name, self.folder, self.crate = name, folder, f"{root}/crates/{name}"
         self.below, self.home = crates.below(listed, name), f"{root}/crates/{name}/out/{BUILT}"
-        self.made = f"{folder}/{BUILT}/{name}" + (".o" if name == PROGRAM else ".rlib")
+        self.is_program = crates.is_program(root, name)
+        self.made = f"{folder}/{BUILT}/{name}" + (".o" if self.is_program else ".rlib")
         self.libraries = crates.rows(root)[name]
         self.kept = [f"{root}/crates/{it}/out/{BUILT}" for it in self.below]
         self.rlibs = [f"{root}/crates/{it}/out/{BUILT}/{it}.rlib" if it in self.below else f"{KIT}/rlibs/{it}.rlib" for it in self.libraries]
@@ -73,8 +74,7 @@ class Building:
 
     def reading(self):
         """The words by which rattle reads the crate over the libraries below it."""
-        main = "src/main.rt"
-        words = ["--crate-name", self.name, main if os.path.isfile(f"{self.crate}/{main}") else "src/lib.rt"]
+        words = ["--crate-name", self.name, "src/main.rt" if self.is_program else "src/lib.rt"]
         for it in [f"{KIT}/rlibs/std.rlib", *self.rlibs]:
             words += ["--extern", f"{os.path.basename(it).removesuffix('.rlib')}={it}"]
         for it in [f"{KIT}/rlibs", *self.kept]:
@@ -83,7 +83,7 @@ class Building:
         return [*words, "--links", f"{self.name}="]
 
     def words(self, _side_by_side):
-        how = ["--toolchain", f"{KIT}/toolchain"] if self.name == PROGRAM else ["--statements"]
+        how = ["--toolchain", f"{KIT}/toolchain"] if self.is_program else ["--statements"]
         return ["rattle", "build", *self.reading(), *how, "--jobs", "1", "-o", self.made]
 
     def leave(self, proved=False):

@@ -47,6 +47,11 @@ def below(crates, name):
     return found
 
 
+def is_program(root, name):
+    """Whether a crate is a program, and no library."""
+    return os.path.isfile(f"{root}/crates/{name}/src/main.rt")
+
+
 def processors():
     """The processors that there are to use: those of this process, or fewer by the quota of its control group."""
     found = len(os.sched_getaffinity(0))
