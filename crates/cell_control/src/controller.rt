@@ -84,7 +84,8 @@ impl<P: Program> Controller<P> {
     }
 }
 
-// Performs the step: the next step, and the actuators' commands.
+// Performs the step: the next step, and the actuators' commands. A step that asks needs no reading,
+// so none is computed there.
 fn perform<P: Program, L: Line>(
     program: &P,
     progress: P::Progress,
@@ -100,19 +101,21 @@ fn perform<P: Program, L: Line>(
     ensures reached { IfOk result (λ led. IsReached (P.steps program.now) (L.opening line.new) (L.seen line.new) led.0) }
     ensures motor_demands { IfOk result (λ led. (P.steps program.now).motor_demands progress led.1 (L.opening line.new) (L.seen line.new)) }
 {
-    let reading = match program.check(sense) {
-        Ok(reading) => reading,
-        Err(fault) => return Err(CtlFault::Sensor(fault)),
-    };
     match program.call(progress) {
-        Some(call) => match after_call(program, progress, line.ask(call)) {
-            Ok(led) => Ok((led, program.rest(progress))),
-            Err(fault) => Err(fault),
+        Some(call) => match program.check(sense) {
+            Ok(_) => match after_call(program, progress, line.ask(call)) {
+                Ok(led) => Ok((led, program.rest(progress))),
+                Err(fault) => Err(fault),
+            },
+            Err(fault) => Err(CtlFault::Sensor(fault)),
         },
-        None => {
-            let act = program.drive(progress, reading);
-            Ok((program.after_drive(progress, reading, act), act))
-        }
+        None => match program.check(sense) {
+            Ok(reading) => {
+                let act = program.drive(progress, reading);
+                Ok((program.after_drive(progress, reading, act), act))
+            }
+            Err(fault) => Err(CtlFault::Sensor(fault)),
+        },
     }
 }
 

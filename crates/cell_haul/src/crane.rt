@@ -231,6 +231,8 @@ impl<F: Gauge> Program for CraneProgram<F> {
         progress.row().waits.stays_on(refusal)
     }
 
+    // inline, so that a turn that asks computes no reading
+    #[inline(always)]
     fn check(&self, sense: &CraneSense) -> Result<CraneReading, SensorFault> {
         if let Err(fault) = sense.agree() {
             return Err(fault);

@@ -436,6 +436,8 @@ impl<F1: Gauge, F2: Gauge, F3: Gauge> Program for RobotProgram<F1, F2, F3> {
         progress.row().waits.stays_on(refusal)
     }
 
+    // inline, so that a turn that asks computes no reading
+    #[inline(always)]
     fn check(&self, sense: &RobotSense) -> Result<RobotReading, SensorFault> {
         let arm1 = read(&self.arm1, sense.arm1)?;
         let arm2 = read(&self.arm2, sense.arm2)?;

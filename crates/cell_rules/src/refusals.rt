@@ -15,7 +15,7 @@ macro_rules! first {
     ($refusal:expr, $($more:expr),+) => {
         match $refusal {
             None => first!($($more),+),
-            refused => refused,
+            Some(refusal) => Some(refusal),
         }
     };
 }
@@ -176,6 +176,7 @@ impl State {
         (!self.flag(zone)).then_some(Refusal::NoPlate)
     }
 
+    #[inline(always)]
     pub(crate) fn claim_refusal(&self, machine: Machine, zone: Zone) -> Option<Refusal>
         ensures { result ≡ refusals.claim_refusal self.now machine zone }
     {
@@ -190,6 +191,7 @@ impl State {
         )
     }
 
+    #[inline(always)]
     pub(crate) fn give_refusal(&self, machine: Machine, zone: Zone) -> Option<Refusal>
         ensures { result ≡ refusals.give_refusal self.now machine zone }
     {
@@ -202,6 +204,7 @@ impl State {
         )
     }
 
+    #[inline(always)]
     pub(crate) fn yield_refusal(&self, machine: Machine, zone: Zone) -> Option<Refusal>
         ensures { result ≡ refusals.yield_refusal self.now machine zone }
     {
@@ -215,6 +218,7 @@ impl State {
         )
     }
 
+    #[inline(always)]
     pub(crate) fn take_refusal(&self, machine: Machine, zone: Zone) -> Option<Refusal>
         ensures { result ≡ refusals.take_refusal self.now machine zone }
     {
@@ -226,6 +230,7 @@ impl State {
         )
     }
 
+    #[inline(always)]
     pub(crate) fn release_refusal(&self, machine: Machine, zone: Zone) -> Option<Refusal>
         ensures { result ≡ refusals.release_refusal self.now machine zone }
     {
@@ -239,6 +244,7 @@ impl State {
         )
     }
 
+    #[inline(always)]
     pub(crate) fn stop_refusal(&self, machine: Machine) -> Option<Refusal>
         ensures { result ≡ refusals.stop_refusal self.now machine }
     {
@@ -249,6 +255,7 @@ impl State {
         )
     }
 
+    #[inline(always)]
     pub(crate) fn resume_refusal(&self, machine: Machine) -> Option<Refusal>
         ensures { result ≡ refusals.resume_refusal self.now machine }
     {

@@ -216,6 +216,8 @@ impl<F: Gauge> Program for TableProgram<F> {
         progress.row().waits.stays_on(refusal)
     }
 
+    // inline, so that a turn that asks computes no reading
+    #[inline(always)]
     fn check(&self, sense: &TableSense) -> Result<TableReading, SensorFault> {
         if let Err(fault) = sense.agree() {
             return Err(fault);

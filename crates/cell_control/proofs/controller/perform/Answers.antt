@@ -9,14 +9,14 @@ returns-in-Ok-after_call-clause-reached g c =
     (sym c.call.ensures ∙ c.in-Some.is) (rw c.requires.own at c.ask.ensures.seen) c.requires.reached (sym c.after_call.ensures ∙ c.in-Ok-after_call.is)
     )
 
-pub returns-in-None-clause-reached : goal.returns-in-None-clause-reached
-returns-in-None-clause-reached g c =
+pub returns-in-Ok-check-clause-reached : goal.returns-in-Ok-check-clause-reached
+returns-in-Ok-check-clause-reached g c =
     reached_drive (g.P.Program.steps c.args.program.now) c.args.progress c.after_drive.result (g.L.Line.opening c.args.line.now) (g.L.Line.seen c.args.line.now)
     (record {
       asks_nothing = sym c.call.ensures ∙ c.in-None.is;
       sense = c.args.sense.now;
-      reading = c.in-Ok.reading;
-      senses = c.in-Ok.ensures;
+      reading = c.in-Ok-check.reading;
+      senses = c.in-Ok-check.ensures;
       act = c.drive-act.result;
       drives = c.drive-act.ensures.drives;
       is = c.after_drive.ensures;
