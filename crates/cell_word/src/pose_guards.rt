@@ -233,12 +233,62 @@ fn require_allowed_pose(
     require_end_clear_to_run(word, machine, pose)
 }
 
-// `always` would be dropped from a function of this size.
-#[inline]
-fn set_pose_of(word: u64, machine: Machine, pose: Pose) -> Result<Pattern, Refusal>
-    ensures { result ≡ guards.unless (guards.first_refusal word (guards.pose_guards machine pose))
-        (changes.written machine (calls.SetPose pose)) }
+/// A machine that hosts zones, as a type. So each has its own copy of the code for poses, in which the
+/// compiler knows its zones.
+trait Host {
+    ghost use Rattle.cell_types.specs.declared.machine.Machine.{Machine};
+
+    ghost MACHINE: { Machine };
+
+    const MACHINE: Machine;
+}
+
+struct Feed;
+
+impl Host for Feed {
+    ghost use Rattle.cell_types.specs.declared.machine.Machine.TheVariants as machines;
+
+    ghost MACHINE = { machines.Feed };
+
+    const MACHINE: Machine = Machine::Feed;
+}
+
+struct Table;
+
+impl Host for Table {
+    ghost use Rattle.cell_types.specs.declared.machine.Machine.TheVariants as machines;
+
+    ghost MACHINE = { machines.Table };
+
+    const MACHINE: Machine = Machine::Table;
+}
+
+struct Press;
+
+impl Host for Press {
+    ghost use Rattle.cell_types.specs.declared.machine.Machine.TheVariants as machines;
+
+    ghost MACHINE = { machines.Press };
+
+    const MACHINE: Machine = Machine::Press;
+}
+
+struct Deposit;
+
+impl Host for Deposit {
+    ghost use Rattle.cell_types.specs.declared.machine.Machine.TheVariants as machines;
+
+    ghost MACHINE = { machines.Deposit };
+
+    const MACHINE: Machine = Machine::Deposit;
+}
+
+/// Why a pose of this machine is refused at a word, or what it writes.
+fn set_pose_of<H: Host>(word: u64, pose: Pose) -> Result<Pattern, Refusal>
+    ensures { result ≡ guards.unless (guards.first_refusal word (guards.pose_guards H.MACHINE pose))
+        (changes.written H.MACHINE (calls.SetPose pose)) }
 {
+    let machine = H::MACHINE;
     let (one, other) = hosted_zones(machine);
     let one = posed_at(machine, pose, one);
     let other = posed_at(machine, pose, other);
@@ -250,17 +300,17 @@ fn set_pose_of(word: u64, machine: Machine, pose: Pose) -> Result<Pattern, Refus
     Ok(posture_pattern(one).and(posture_pattern(other)))
 }
 
-/// One case for each machine, so that the compiler knows its zones.
+/// Why a pose is refused at a word, or what it writes.
 #[inline(always)]
 pub(crate) fn set_pose(word: u64, machine: Machine, pose: Pose) -> Result<Pattern, Refusal>
     ensures { result ≡ guards.unless (guards.first_refusal word (guards.pose_guards machine pose))
         (changes.written machine (calls.SetPose pose)) }
 {
     match machine {
-        Machine::Feed => set_pose_of(word, Machine::Feed, pose),
-        Machine::Table => set_pose_of(word, Machine::Table, pose),
-        Machine::Press => set_pose_of(word, Machine::Press, pose),
-        Machine::Deposit => set_pose_of(word, Machine::Deposit, pose),
+        Machine::Feed => set_pose_of::<Feed>(word, pose),
+        Machine::Table => set_pose_of::<Table>(word, pose),
+        Machine::Press => set_pose_of::<Press>(word, pose),
+        Machine::Deposit => set_pose_of::<Deposit>(word, pose),
         Machine::Robot | Machine::Crane | Machine::Watch => Err(Refusal::NoPose),
     }
 }

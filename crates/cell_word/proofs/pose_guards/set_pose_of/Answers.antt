@@ -1,9 +1,10 @@
-use Rattle.std.proofs.Common.{◌≡◌, ℕ, Ok, Option, is_none, List, [], ◌∷◌, ◌++◌, append_assoc, refl, sym, ap, ap₂, ◌∙◌}
+use Rattle.std.proofs.Common.{◌≡◌, ℕ, Result, Ok, Option, is_none, List, [], ◌∷◌, ◌++◌, append_assoc, refl, sym, ap, ap₂, subst, ◌∙◌}
 use Rattle.cell_types.specs.declared.machine.Machine.{Machine}
 use Rattle.cell_types.specs.declared.zone.Zone.{Zone}
 use Rattle.cell_types.specs.declared.pose.Pose.{Pose}
 use Rattle.cell_types.specs.declared.posture.Posture.{Posture}
 use Rattle.cell_types.specs.declared.call.Call.TheVariants.{SetPose}
+use Rattle.cell_types.specs.declared.answer.Refusal.{Refusal}
 use Rattle.cell_types.specs.declared.answer.Refusal.TheVariants.{NoPose}
 use Rattle.cell_word.specs.Changes as changes
 use Rattle.cell_word.specs.Patterns.{when, anything, both}
@@ -13,7 +14,6 @@ use Rattle.cell_word.specs.declared.patterns.Pattern.{Pattern}
 use Rattle.cell_word.specs.declared.patterns.Guard.{Guard}
 use Rattle.cell_word.proofs.Trying.{refused, go, stop, part_by_part, by_parts}
 use Rattle.cell_word.proofs.pose_guards.set_pose_of.Goals as goal
-use Rattle.cell_word.proofs.pose_guards.set_pose_of.Goals.{After-posed_at-other}
 
 abbrev parts : Machine → Pose → Option (Zone × Posture) → Option (Zone × Posture) → List (List Guard)
 parts m p one other =
@@ -39,65 +39,73 @@ row_is w m p one other written first second =
     ∙ by_parts w (parts m p one other) written
 
 -- the row if the zones are known
-row_at : (c : After-posed_at-other) → unless (first_refusal c.args.word (guards.pose_guards c.args.machine c.args.pose)) (changes.written c.args.machine (SetPose c.args.pose))
-    ≡ part_by_part c.args.word (parts c.args.machine c.args.pose c.posed_at-one.result c.posed_at-other.result) (changes.written c.args.machine (SetPose c.args.pose))
-row_at c =
-    let first = c.posed_at-one.ensures ∙ ap (λ h. guards.posed_at c.args.machine c.args.pose h.0) c.hosted_zones-one.ensures in
-    let second = c.posed_at-other.ensures ∙ ap (λ h. guards.posed_at c.args.machine c.args.pose h.1) c.hosted_zones-one.ensures in
-    row_is c.args.word c.args.machine c.args.pose c.posed_at-one.result c.posed_at-other.result (changes.written c.args.machine (SetPose c.args.pose)) first second
+row_at : (w : ℕ) (m : Machine) (p : Pose) (zones : Option Zone × Option Zone) (one other : Option (Zone × Posture)) → zones ≡ guards.hosted_zones m → one ≡ guards.posed_at m p zones.0 → other ≡ guards.posed_at m p zones.1
+    → unless (first_refusal w (guards.pose_guards m p)) (changes.written m (SetPose p)) ≡ part_by_part w (parts m p one other) (changes.written m (SetPose p))
+row_at w m p zones one other hosts first second =
+    row_is w m p one other (changes.written m (SetPose p)) (first ∙ ap (λ h. guards.posed_at m p h.0) hosts) (second ∙ ap (λ h. guards.posed_at m p h.1) hosts)
+
+-- the machine by its other name
+by_name : (w : ℕ) (p : Pose) {m n : Machine} {r : Result Pattern Refusal} → m ≡ n → r ≡ unless (first_refusal w (guards.pose_guards m p)) (changes.written m (SetPose p)) → r ≡ unless (first_refusal w (guards.pose_guards n p)) (changes.written n (SetPose p))
+by_name w p {m} {n} {r} same answers = subst (λ x. r ≡ unless (first_refusal w (guards.pose_guards x p)) (changes.written x (SetPose p))) same answers
 
 pub returns-in_err-require_pose : goal.returns-in_err-require_pose
-returns-in_err-require_pose c =
-    refused _ c.in_err-require_pose.field-0.0 c.from_residual.ensures.1 ∙ sym (row_at (goal.at.returns-in_err-require_pose c).After-posed_at-other ∙ stop (sym (c.require_pose.ensures c.args.word) ∙ c.in_err-require_pose.was) _)
+returns-in_err-require_pose g c =
+    by_name c.args.word c.args.pose c.MACHINE-machine.ensures (
+    refused _ c.in_err-require_pose.field-0.0 c.from_residual.ensures.1 ∙ sym (row_at _ _ _ _ _ _ c.hosted_zones-one.ensures c.posed_at-one.ensures c.posed_at-other.ensures ∙ stop (sym (c.require_pose.ensures c.args.word) ∙ c.in_err-require_pose.was) _))
 
 pub returns-in_err-require_running_to_move : goal.returns-in_err-require_running_to_move
-returns-in_err-require_running_to_move c =
+returns-in_err-require_running_to_move g c =
+    by_name c.args.word c.args.pose c.MACHINE-machine.ensures (
     refused _ c.in_err-require_running_to_move.field-0.0 c.from_residual-in_err-require_running_to_move.ensures.1
     ∙ sym
-    (row_at (goal.at.returns-in_err-require_running_to_move c).After-posed_at-other
+    (row_at _ _ _ _ _ _ c.hosted_zones-one.ensures c.posed_at-one.ensures c.posed_at-other.ensures
     ∙ go (sym (c.require_pose.ensures c.args.word) ∙ c.in_ok-require_pose.was)
-    ∙ stop (sym c.require_running_to_move.ensures ∙ c.in_err-require_running_to_move.was) _)
+    ∙ stop (sym c.require_running_to_move.ensures ∙ c.in_err-require_running_to_move.was) _))
 
 pub returns-in_err-require_owned_clear_zones : goal.returns-in_err-require_owned_clear_zones
-returns-in_err-require_owned_clear_zones c =
+returns-in_err-require_owned_clear_zones g c =
+    by_name c.args.word c.args.pose c.MACHINE-machine.ensures (
     refused _ c.in_err-require_owned_clear_zones.field-0.0 c.from_residual-in_err-require_owned_clear_zones.ensures.1
     ∙ sym
-    (row_at (goal.at.returns-in_err-require_owned_clear_zones c).After-posed_at-other
+    (row_at _ _ _ _ _ _ c.hosted_zones-one.ensures c.posed_at-one.ensures c.posed_at-other.ensures
     ∙ go (sym (c.require_pose.ensures c.args.word) ∙ c.in_ok-require_pose.was)
     ∙ go (sym c.require_running_to_move.ensures ∙ c.in_ok-require_running_to_move.was)
-    ∙ stop (sym c.require_owned_clear_zones.ensures ∙ c.in_err-require_owned_clear_zones.was) _)
+    ∙ stop (sym c.require_owned_clear_zones.ensures ∙ c.in_err-require_owned_clear_zones.was) _))
 
 pub returns-in_err-require_allowed_pose : goal.returns-in_err-require_allowed_pose
-returns-in_err-require_allowed_pose c =
+returns-in_err-require_allowed_pose g c =
+    by_name c.args.word c.args.pose c.MACHINE-machine.ensures (
     refused _ c.in_err-require_allowed_pose.field-0.0 c.from_residual-in_err-require_allowed_pose.ensures.1
     ∙ sym
-    (row_at (goal.at.returns-in_err-require_allowed_pose c).After-posed_at-other
+    (row_at _ _ _ _ _ _ c.hosted_zones-one.ensures c.posed_at-one.ensures c.posed_at-other.ensures
     ∙ go (sym (c.require_pose.ensures c.args.word) ∙ c.in_ok-require_pose.was)
     ∙ go (sym c.require_running_to_move.ensures ∙ c.in_ok-require_running_to_move.was)
     ∙ go (sym c.require_owned_clear_zones.ensures ∙ c.in_ok-require_owned_clear_zones.was)
-    ∙ stop (sym c.require_allowed_pose.ensures ∙ c.in_err-require_allowed_pose.was) _)
+    ∙ stop (sym c.require_allowed_pose.ensures ∙ c.in_err-require_allowed_pose.was) _))
 
 pub returns-in_err-pass : goal.returns-in_err-pass
-returns-in_err-pass c =
+returns-in_err-pass g c =
+    by_name c.args.word c.args.pose c.MACHINE-machine.ensures (
     refused _ c.in_err-pass.field-0.0 c.from_residual-in_err-pass.ensures.1
     ∙ sym
-    (row_at (goal.at.returns-in_err-pass c).After-posed_at-other
+    (row_at _ _ _ _ _ _ c.hosted_zones-one.ensures c.posed_at-one.ensures c.posed_at-other.ensures
     ∙ go (sym (c.require_pose.ensures c.args.word) ∙ c.in_ok-require_pose.was)
     ∙ go (sym c.require_running_to_move.ensures ∙ c.in_ok-require_running_to_move.was)
     ∙ go (sym c.require_owned_clear_zones.ensures ∙ c.in_ok-require_owned_clear_zones.was)
     ∙ go (sym c.require_allowed_pose.ensures ∙ c.in_ok-require_allowed_pose.was)
-    ∙ stop (sym (c.pass.ensures ∙ ap (λ (g : Guard). checked c.args.word (g ∷ [])) c.worn_guard.ensures) ∙ c.in_err-pass.was) _)
+    ∙ stop (sym (c.pass.ensures ∙ ap (λ (g : Guard). checked c.args.word (g ∷ [])) c.worn_guard.ensures) ∙ c.in_err-pass.was) _))
 
 pub returns : goal.returns
-returns c =
-    let first = c.posed_at-one.ensures ∙ ap (λ h. guards.posed_at c.args.machine c.args.pose h.0) c.hosted_zones-one.ensures in
-    let second = c.posed_at-other.ensures ∙ ap (λ h. guards.posed_at c.args.machine c.args.pose h.1) c.hosted_zones-one.ensures in
+returns g c =
+    by_name c.args.word c.args.pose c.MACHINE-machine.ensures (
+    let first = c.posed_at-one.ensures ∙ ap (λ h. guards.posed_at c.MACHINE-machine.result c.args.pose h.0) c.hosted_zones-one.ensures in
+    let second = c.posed_at-other.ensures ∙ ap (λ h. guards.posed_at c.MACHINE-machine.result c.args.pose h.1) c.hosted_zones-one.ensures in
     let written = c.and.ensures ∙ ap₂ both (c.posture_pattern.ensures ∙ ap changes.posture_pattern first) (c.posture_pattern-2.ensures ∙ ap changes.posture_pattern second) in
     ap Ok written
     ∙ sym
-    (row_at (goal.at.returns c).After-posed_at-other
+    (row_at _ _ _ _ _ _ c.hosted_zones-one.ensures c.posed_at-one.ensures c.posed_at-other.ensures
     ∙ go (sym (c.require_pose.ensures c.args.word) ∙ c.in_ok-require_pose.was)
     ∙ go (sym c.require_running_to_move.ensures ∙ c.in_ok-require_running_to_move.was)
     ∙ go (sym c.require_owned_clear_zones.ensures ∙ c.in_ok-require_owned_clear_zones.was)
     ∙ go (sym c.require_allowed_pose.ensures ∙ c.in_ok-require_allowed_pose.was)
-    ∙ go (sym (c.pass.ensures ∙ ap (λ (g : Guard). checked c.args.word (g ∷ [])) c.worn_guard.ensures) ∙ c.in_ok-pass.was))
+    ∙ go (sym (c.pass.ensures ∙ ap (λ (g : Guard). checked c.args.word (g ∷ [])) c.worn_guard.ensures) ∙ c.in_ok-pass.was)))
