@@ -80,7 +80,7 @@ IsFilm turns steps frames = frames_of opening turns steps ≡ frames
 abbrev pub FirstIs : Frame → Type 0
 FirstIs f = IsFilm (turn_of Feed ∷ []) (claims_entry ∷ []) (starts ∷ f ∷ [])
 
--- machines that differ; the table's height in place of the robot's first arm, and the other way round
+-- machines that differ; the table's height instead of the robot's first arm, and the other way round
 abbrev pub shown_apart : PlantState
 shown_apart = record axes_apart { feed = belt_with (Some 900) false }
 
