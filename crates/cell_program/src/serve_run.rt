@@ -6,7 +6,8 @@ ghost use Rattle.cell_parts.specs.Axes.{AreCellScales, CellScales};
 ghost use Rattle.cell_text.specs.Input.{TakesAtMost};
 ghost use Rattle.cell_config.specs.Configured.{AreAxisScales, AreCurvesOf, in_order};
 ghost use Rattle.cell_config.specs.Settings.{max_bytes_read};
-ghost use Rattle.cell_program.specs.Served.{RunFails, TellsWorkers, WasRun};
+ghost use Rattle.cell_program.specs.Served.{RunFails, WasRun};
+ghost use Rattle.cell_workers.specs.Records.{TellsWork};
 ghost use Rattle.cell_program.specs.Gauges.{scales_by_points};
 
 use crate::exit::Exit;
@@ -17,7 +18,7 @@ use cell_calib::Gauge;
 use cell_config::{Config, read_config};
 use cell_notes::RunRecord;
 use cell_rules::State;
-use cell_workers::{OpenGate, RunFault, run_cell};
+use cell_workers::{Gate, OpenGate, RunFault, run_cell};
 use std::alloc::Global;
 use std::io::{Read, Write};
 use std::sync::Wait;
@@ -51,20 +52,21 @@ where
         Ok(config) => config,
         Err(fault) => return fail(writer, fault.text()),
     };
-    match run_configured(rt, alloc, &config, turns, tries) {
+    match run_configured(rt, alloc, &config, turns, tries, &OpenGate) {
         Ok(run) => report(alloc, &run, writer),
         Err(fault) => fail(writer, fault.text()),
     }
 }
 
-/// Runs a configuration by six workers, with a closure over each of its curves, and a gate that is
-/// always open. Its schedule isn't used.
-pub fn run_configured<T>(
+/// Runs a configuration by six workers, with a closure over each of its curves. The gate lets them
+/// begin their turns. The configuration's schedule isn't used.
+pub fn run_configured<T, G: Gate + Sync>(
     rt: &T,
     alloc: Global,
     config: &Config,
     turns: u32,
     tries: u8,
+    gate: &G,
 ) -> Result<RunRecord, RunFault>
 where
     T: Threads + Wait + Sync,
@@ -74,7 +76,7 @@ where
     requires few { tries ≤ 64 }
     requires some { 1 ≤ tries }
     ensures work { IfOk result (λ r. (c : CellScales) × (config.now.points ≡ in_order c)
-        × TellsWorkers c config.now.start tries turns r) }
+        × TellsWork c config.now.start tries turns (G.may_answer gate.now) r) }
     ensures tries { result ≢ Err RunFault.Tries }
 {
     let [arm1, arm2, rotation, turn, gripper] = config.curves;
@@ -92,11 +94,11 @@ where
         move |raw: u16| turn.at(raw),
         move |raw: u16| gripper.at(raw),
     );
-    run_with_gauges(rt, alloc, gauges, points, config.start, turns, tries)
+    run_with_gauges(rt, alloc, gauges, points, config.start, turns, tries, gate)
 }
 
 /// A run by six workers with these closures.
-fn run_with_gauges<T, F1, F2, F3, F4, F5>(
+fn run_with_gauges<T, F1, F2, F3, F4, F5, G>(
     rt: &T,
     alloc: Global,
     gauges: (F1, F2, F3, F4, F5),
@@ -104,6 +106,7 @@ fn run_with_gauges<T, F1, F2, F3, F4, F5>(
     start: State,
     turns: u32,
     tries: u8,
+    gate: &G,
 ) -> Result<RunRecord, RunFault>
 where
     T: Threads + Wait + Sync,
@@ -112,6 +115,7 @@ where
     F3: Gauge + Send,
     F4: Gauge + Send,
     F5: Gauge + Send,
+    G: Gate + Sync,
     requires start { IsStartState start }
     requires arm1 { F1.keeps gauges.0 points.arm1 }
     requires arm2 { F2.keeps gauges.1 points.arm2 }
@@ -121,9 +125,10 @@ where
     requires scales { AreCellScales (scales_by_points points) }
     requires few { tries ≤ 64 }
     requires some { 1 ≤ tries }
-    ensures work { IfOk result (TellsWorkers (scales_by_points points) start tries turns) }
+    ensures work { IfOk result
+        (TellsWork (scales_by_points points) start tries turns (G.may_answer gate.now)) }
     ensures tries { result ≢ Err RunFault.Tries }
 {
     let cell = cell_with_gauges(gauges, points, &start);
-    run_cell(rt, alloc, cell, start, tries, turns, &OpenGate)
+    run_cell(rt, alloc, cell, start, tries, turns, gate)
 }

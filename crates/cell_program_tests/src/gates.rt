@@ -19,6 +19,8 @@ pub struct Doorkeeper {
     meets: bool,
     // The turns for which each machine has asked, one digit each: 1 for turn 0.
     asked: [AtomicU64; 7],
+    // How often the gate was told that each machine takes no more turns: 1 for once, 11 for twice.
+    ended: [AtomicU64; 7],
     /// The number of calls of each closure.
     pub calls: [AtomicU64; 5],
     // That number at each ask of its machine, one digit each: 1 for none.
@@ -31,17 +33,19 @@ impl Doorkeeper {
         Doorkeeper {
             lets: [feed, table, robot, press, deposit, crane, 0],
             meets,
-            asked: [zero(), zero(), zero(), zero(), zero(), zero(), zero()],
+            asked: seven_zeros(),
+            ended: seven_zeros(),
             calls: five_zeros(),
             found: five_zeros(),
         }
     }
 
-    /// Whether the six machines have asked for these turns and the watch for none, and each closure
-    /// was called once between two asks of its machine.
+    /// Whether the six machines have asked for these turns and the watch for none, the gate was told
+    /// of each end once, and each closure was called once between two asks of its machine.
     pub fn has_noted(&self, notes: &[u64; 6]) -> bool {
         let [feed, table, robot, press, deposit, crane] = *notes;
         are_noted(&self.asked, &[feed, table, robot, press, deposit, crane, 0])
+            && are_noted(&self.ended, &[1, 1, 1, 1, 1, 1, 0])
             && are_noted(&self.found, &[robot, robot, robot, table, crane])
     }
 
@@ -74,6 +78,10 @@ fn are_noted(found: &[AtomicU64], wanted: &[u64]) -> bool {
 
 fn zero() -> AtomicU64 {
     AtomicU64::new(0)
+}
+
+fn seven_zeros() -> [AtomicU64; 7] {
+    [zero(), zero(), zero(), zero(), zero(), zero(), zero()]
 }
 
 fn five_zeros() -> [AtomicU64; 5] {
@@ -134,5 +142,9 @@ impl Gate for Doorkeeper {
             }
         }
         false
+    }
+
+    fn end(&self, machine: Machine) {
+        note(&self.ended[place_of(machine)], 1);
     }
 }

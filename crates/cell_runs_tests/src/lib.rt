@@ -13,6 +13,8 @@ mod scales;
 #[cfg(test)]
 mod simulated_cells;
 #[cfg(test)]
+mod wired_workers;
+#[cfg(test)]
 mod worker_cells;
 #[cfg(test)]
 mod workers;

@@ -34,7 +34,8 @@ use Rattle.cell_unit.specs.Statuses.{status_of}
 use Rattle.cell_workers.specs.Lines.{passes}
 use Rattle.cell_workers.specs.Workers.{GateOf, WorkerMoment, TakesTurn, TakesTurns, HasCome, HasEnded, Ends, last_of}
 use Rattle.cell_workers.specs.Laws.{answers_in, HasAtMost, HasStatusBy}
-use Rattle.cell_workers.proofs.Passes.{by_turn, all_along}
+use Rattle.cell_workers.proofs.Passes.{by_turn}
+use Rattle.cell_workers.proofs.Turning.{all_along}
 
 -- ---- how a worker ends
 
@@ -166,12 +167,12 @@ module _ {S Sense Reading Act State : Type 0} (tries : ℕ) (t : Steps S Sense R
 
   pub answers_along : (first now : WorkerMoment PassView S State) → HasCome (passes tries) t rig gate first now → answers_in first.counts ≤ first.counts.turns → answers_in now.counts ≤ now.counts.turns
   answers_along first now k few =
-      all_along tries t rig gate (λ m. answers_in m.counts ≤ m.counts.turns)
+      all_along (TakesTurn (passes tries) t rig gate) (λ m. answers_in m.counts ≤ m.counts.turns)
       (λ before after turn q. subst (λ c. answers_in c ≤ c.turns) (sym turn.counted) (one_answer before.counts turn.asked q)) first now k few
 
   pub let_in_along : (first now : WorkerMoment PassView S State) → HasCome (passes tries) t rig gate first now → first.counts.turns ≡ 0 → (turn : ℕ) → turn < now.counts.turns → gate turn true
   let_in_along first now k none =
-      all_along tries t rig gate (λ m. (turn : ℕ) → turn < m.counts.turns → gate turn true)
+      all_along (TakesTurn (passes tries) t rig gate) (λ m. (turn : ℕ) → turn < m.counts.turns → gate turn true)
       (λ before after turn q. subst (λ c. (n : ℕ) → n < c.turns → gate n true) (sym turn.counted) (below_more (λ n. gate n true) before.counts.turns q turn.let_in))
       first now k (λ turn less. absurd (omega (arith, less, none)))
 
@@ -209,7 +210,7 @@ module _ {S Sense Reading Act State : Type 0} (tries : ℕ) (t : Steps S Sense R
       omega (arith, few, more, turns)
 
   pub few_along : (first now : WorkerMoment PassView S State) → HasCome (passes tries) t rig gate first now → first.line.exchanges ≡ 0 → now.line.exchanges ≤ now.counts.turns * tries
-  few_along first now k none = all_along tries t rig gate (λ m. m.line.exchanges ≤ m.counts.turns * tries) few_after_turn first now k (omega (arith, none))
+  few_along first now k none = all_along (TakesTurn (passes tries) t rig gate) (λ m. m.line.exchanges ≤ m.counts.turns * tries) few_after_turn first now k (omega (arith, none))
 
   pub still : (first last : WorkerMoment PassView S State) → HasCome (passes tries) t rig gate first last → last.counts.turns ≤ first.counts.turns → last ≡ first
   still first last k few = still_by first last k.turns k.taken k.last few

@@ -25,6 +25,7 @@ use Rattle.cell_notes.specs.Notes.{no_counts, counts_with}
 use Rattle.cell_unit.specs.Sides.{Acts}
 use Rattle.cell_unit.proofs.Turning.{acts_map}
 use Rattle.cell_workers.specs.Lines.{Lines, passes}
+use Rattle.cell_workers.proofs.Turning.{all_along}
 use Rattle.cell_workers.specs.Workers.{WorkerMoment, worker_moment, GateOf, TakesTurn, TakesTurns, HasCome, HasEnded, IsWorkerResult, AreCountsOf, last_of, is_shown_answer, is_refused_answer}
 
 -- the opening, the history seen and the calls of a worker's line
@@ -34,11 +35,16 @@ line_views = record { opening = λ l. l.pass.opening; seen = λ l. l.pass.seen; 
 abbrev pub by_pass : {S State : Type 0} → WorkerMoment LineView S State → WorkerMoment PassView S State
 by_pass m = worker_moment m.line.pass m.side m.counts
 
-unchanged_pass : (v w : PassView) → w ≡ v → IsSamePass v w
+pub unchanged_pass : (v w : PassView) → w ≡ v → IsSamePass v w
 unchanged_pass v w e = record { table = ap (λ x. x.table) e; opening = ap (λ x. x.opening) e; machine = ap (λ x. x.machine) e }
 
-same_after : (u v w : PassView) → IsSamePass u v → IsSamePass v w → IsSamePass u w
+pub same_after : (u v w : PassView) → IsSamePass u v → IsSamePass v w → IsSamePass u w
 same_after u v w one two = record { table = two.table ∙ one.table; opening = two.opening ∙ one.opening; machine = two.machine ∙ one.machine }
+
+-- a call leaves its pass the same
+pub asks_same : (tries : ℕ) (v w : PassView) (c : Call) (r : Result Reply LineFault) → PassAsks tries v c r w → IsSamePass v w
+asks_same tries v w c (Ok reply) k = k.pass
+asks_same tries v w c (Err fault) k = unchanged_pass v w k
 
 module _ {S Sense Reading Act State : Type 0} (tries : ℕ) (t : Steps S Sense Reading Act) (rig : Rig State Sense Act) (gate : GateOf) where
   -- a turn asks nothing, or makes one call
@@ -82,28 +88,16 @@ module _ {S Sense Reading Act State : Type 0} (tries : ℕ) (t : Steps S Sense R
   pub come_by_pass : (first now : WorkerMoment LineView S State) → first.line.tries ≡ tries → HasCome line_views t rig gate first now → HasCome (passes tries) t rig gate (by_pass first) (by_pass now)
   come_by_pass first now e k = record { turns = map by_pass k.turns; taken = turns_by_pass first k.turns e k.taken; last = last_by_pass first k.turns ∙ ap by_pass k.last }
 
-  -- ---- invariants of all turns
-
-  module _ (Q : WorkerMoment PassView S State → Type 0) (keeps : (before now : WorkerMoment PassView S State) → TakesTurn (passes tries) t rig gate before now → Q before → Q now) where
-    along : (first : WorkerMoment PassView S State) (turns : List (WorkerMoment PassView S State)) → TakesTurns (passes tries) t rig gate first turns → Q first → Q (last_of first turns)
-    along first [] k q = q
-    along first (now ∷ later) k q = along now later k.1 (keeps first now k.0 q)
-
-    pub all_along : (first now : WorkerMoment PassView S State) → HasCome (passes tries) t rig gate first now → Q first → Q now
-    all_along first now k q = subst Q k.last (along first k.turns k.taken q)
-
-  asks_same : (v w : PassView) (c : Call) (r : Result Reply LineFault) → PassAsks tries v c r w → IsSamePass v w
-  asks_same v w c (Ok reply) k = k.pass
-  asks_same v w c (Err fault) k = unchanged_pass v w k
+  -- ---- what all turns keep
 
   turn_same : (before now : WorkerMoment PassView S State) → TakesTurn (passes tries) t rig gate before now → IsSamePass before.line now.line
   turn_same before now k =
-      by_turn (passes tries) before now _ k (λ asked same nothing counted. unchanged_pass before.line now.line same) (λ asked c r asks is counted. asks_same before.line now.line c r asks)
+      by_turn (passes tries) before now _ k (λ asked same nothing counted. unchanged_pass before.line now.line same) (λ asked c r asks is counted. asks_same tries before.line now.line c r asks)
 
   -- the pass remains the same: of its interlock and its machine
   pub come_same : (first now : WorkerMoment PassView S State) → HasCome (passes tries) t rig gate first now → IsSamePass first.line now.line
   come_same first now k =
-      all_along (λ m. IsSamePass first.line m.line) (λ before after step old. same_after first.line before.line after.line old (turn_same before after step))
+      all_along (TakesTurn (passes tries) t rig gate) (λ m. IsSamePass first.line m.line) (λ before after step old. same_after first.line before.line after.line old (turn_same before after step))
       first now k (unchanged_pass first.line first.line refl)
 
 -- ---- counts
@@ -169,7 +163,7 @@ module _ {S Sense Reading Act State : Type 0} (tries : ℕ) (t : Steps S Sense R
   pub come_counts : (first now : WorkerMoment PassView S State) → HasCome (passes tries) t rig gate first now → first.line.seen ≡ [] → first.counts ≡ no_counts → AreCountsOf (journal_by now.line) now.counts
   come_counts first now k seen counts =
       let empty : journal_by first.line ≡ [] = ap (λ h. noted first.line.opening h first.line.machine) seen in
-      all_along tries t rig gate (λ m. AreCountsOf (journal_by m.line) m.counts) turn_counts first now k
+      all_along (TakesTurn (passes tries) t rig gate) (λ m. AreCountsOf (journal_by m.line) m.counts) turn_counts first now k
       (subst (λ j. AreCountsOf j first.counts) (sym empty) (subst (AreCountsOf []) (sym counts) (record { done = refl; read = refl; refused = refl })))
 
   -- what a worker gives back

@@ -1,20 +1,20 @@
--- What six workers gave back, stated for their machines by name; and the record of it.
-use Rattle.std.proofs.Common.{◌≡◌, ℕ, ℤ, true, List, [], ◌∷◌, map, Option, Some, None, IfSome, Result, refl, sym, ap, subst, ◌∙◌}
+-- What the six workers of a cell gave back, stated for their machines by name; and the record of it.
+use Rattle.std.proofs.Common.{◌≡◌, ℕ, ℤ, true, List, [], ◌∷◌, Option, Some, None, IfSome, Result, refl, sym, ap, subst, ◌∙◌}
 use Rattle.cell_types.specs.declared.machine.Machine.{Machine}
 use Rattle.cell_types.specs.declared.machine.Machine.TheVariants.{Feed, Table, Robot, Press, Deposit, Crane, Watch}
+use Rattle.cell_types.specs.declared.answer.Event.{Event}
 use Rattle.cell_types.specs.declared.journal.Entry.{Entry}
 use Rattle.cell_types.specs.Journals.{journal_of}
 use Rattle.cell_calib.specs.declared.sense.SensorFault.{SensorFault}
 use Rattle.cell_calib.specs.Scale.{Scale}
 use Rattle.cell_calib.specs.Line.{IsReading}
-use Rattle.cell_rules.specs.ModelState.{ModelState}
-use Rattle.cell_rules.specs.Journal.{noted, event_by}
+use Rattle.cell_rules.specs.Journal.{noted}
 use Rattle.cell_rules.specs.Seen.{Waits}
 use Rattle.cell_rules.specs.History.{after}
-use Rattle.cell_rules.specs.Audited.{EndsIn, IsAudited}
+use Rattle.cell_rules.specs.Audited.{IsAudited}
+use Rattle.cell_rules.specs.Laws.{LawfulThroughout}
 use Rattle.cell_interlock.specs.Views.{PassView, InterlockView}
-use Rattle.cell_interlock.specs.Fresh.{IsFresh, fresh_pass}
-use Rattle.cell_interlock.specs.Ends.{IsEnd, pass_in}
+use Rattle.cell_interlock.specs.Fresh.{fresh_pass}
 use Rattle.cell_control.specs.declared.fault.CtlFault.{CtlFault}
 use Rattle.cell_control.specs.Rigs.{Rig}
 use Rattle.cell_control.specs.Steps.{Steps, IsReached, with_senses}
@@ -46,8 +46,7 @@ use Rattle.cell_plant.specs.CellStates.{SideOf, side_in, sides_at_start}
 use Rattle.cell_plant.specs.Records.{positions_in}
 use Rattle.cell_workers.specs.Lines.{Lines, passes}
 use Rattle.cell_workers.specs.Workers.{WorkerMoment, worker_moment, GateOf, TakesTurn, TakesTurns, HasEnded, IsWorkerResult, AreCountsOf}
-use Rattle.cell_workers.specs.Results.{SixResults}
-use Rattle.cell_workers.specs.Results.{IsResultOf, AreWorkerResults, journal_in, parts_in, passes_in}
+use Rattle.cell_workers.specs.Results.{CellResults, IsResultOf, AreWorkerResults, journal_in, outcomes_in, parts_in, seen_in}
 use Rattle.cell_workers.specs.Records.{MomentOf, first_moment, TellsWork, has_worker}
 
 -- if less is known of the sensors, a worker has still worked
@@ -120,7 +119,7 @@ module _ (c : CellScales) (i : InterlockView) (limit : ℕ) (gate : Machine → 
       subst (λ s. IsWorkerResult i.tries (steps_of c m) (rig_of c m) (gate m) limit (worker_moment (fresh_pass i m) s no_counts) kept journal did status stands) f
       (subst (λ p. IsWorkerResult i.tries (steps_of c m) (rig_of c m) (gate p.machine) limit (worker_moment p side no_counts) kept journal did status stands) e k)
 
-  module _ (results : SixResults) (back : AreWorkerResults c i limit gate results) (r : RunRecord) where
+  module _ (results : CellResults) (back : AreWorkerResults c i limit gate results) (r : RunRecord) where
     abbrev last : (m : Machine) → MomentOf m
     last Feed = back.feed.last
     last Table = back.table.last
@@ -131,12 +130,12 @@ module _ (c : CellScales) (i : InterlockView) (limit : ℕ) (gate : Machine → 
     last Watch = first_moment i Watch
 
     abbrev statuses : Machine → Status
-    statuses Feed = results.feed.status
-    statuses Table = results.table.status
-    statuses Robot = results.robot.status
-    statuses Press = results.press.status
-    statuses Deposit = results.deposit.status
-    statuses Crane = results.crane.status
+    statuses Feed = results.feed.outcome.status
+    statuses Table = results.table.outcome.status
+    statuses Robot = results.robot.outcome.status
+    statuses Press = results.press.outcome.status
+    statuses Deposit = results.deposit.outcome.status
+    statuses Crane = results.crane.outcome.status
     statuses Watch = Fine
 
     works : (m : Machine) → has_worker m ≡ true → HasEnded (passes i.tries) (steps_of c m) (rig_of c m) (gate m) limit (first_moment i m) (last m) (statuses m)
@@ -148,13 +147,23 @@ module _ (c : CellScales) (i : InterlockView) (limit : ℕ) (gate : Machine → 
     works Crane e = back.crane.worked
     works Watch e = cc
 
-    journal_is : (m : Machine) → journal_in results m ≡ noted i.opening (last m).line.seen m
-    journal_is Feed = back.feed.journal_is ∙ ap (λ v. noted i.opening v.seen Feed) (sym back.feed.pass)
-    journal_is Table = back.table.journal_is ∙ ap (λ v. noted i.opening v.seen Table) (sym back.table.pass)
-    journal_is Robot = back.robot.journal_is ∙ ap (λ v. noted i.opening v.seen Robot) (sym back.robot.pass)
-    journal_is Press = back.press.journal_is ∙ ap (λ v. noted i.opening v.seen Press) (sym back.press.pass)
-    journal_is Deposit = back.deposit.journal_is ∙ ap (λ v. noted i.opening v.seen Deposit) (sym back.deposit.pass)
-    journal_is Crane = back.crane.journal_is ∙ ap (λ v. noted i.opening v.seen Crane) (sym back.crane.pass)
+    -- what each machine's last pass has seen
+    last_seen : (m : Machine) → (last m).line.seen ≡ seen_in results m
+    last_seen Feed = ap (λ v. v.seen) back.feed.pass
+    last_seen Table = ap (λ v. v.seen) back.table.pass
+    last_seen Robot = ap (λ v. v.seen) back.robot.pass
+    last_seen Press = ap (λ v. v.seen) back.press.pass
+    last_seen Deposit = ap (λ v. v.seen) back.deposit.pass
+    last_seen Crane = ap (λ v. v.seen) back.crane.pass
+    last_seen Watch = refl
+
+    journal_is : (m : Machine) → journal_in results m ≡ noted i.opening (seen_in results m) m
+    journal_is Feed = back.feed.journal_is
+    journal_is Table = back.table.journal_is
+    journal_is Robot = back.robot.journal_is
+    journal_is Press = back.press.journal_is
+    journal_is Deposit = back.deposit.journal_is
+    journal_is Crane = back.crane.journal_is
     journal_is Watch = refl
 
     counted : (m : Machine) → AreCountsOf (journal_in results m) (last m).counts
@@ -166,59 +175,30 @@ module _ (c : CellScales) (i : InterlockView) (limit : ℕ) (gate : Machine → 
     counted Crane = subst (AreCountsOf results.crane.journal.items) (sym back.crane.counts) back.crane.counted
     counted Watch = record { done = refl; read = refl; refused = refl }
 
-    -- the passes that came back, with the watch's
-    module _ (watch : PassView) (fresh : IsFresh i Watch watch) where
-      abbrev passes_back : Machine → PassView
-      passes_back = pass_in (passes_in results watch)
-
-      -- each machine's last pass
-      last_pass : (m : Machine) → (last m).line ≡ passes_back m
-      last_pass Feed = back.feed.pass
-      last_pass Table = back.table.pass
-      last_pass Robot = back.robot.pass
-      last_pass Press = back.press.pass
-      last_pass Deposit = back.deposit.pass
-      last_pass Crane = back.crane.pass
-      last_pass Watch = sym fresh
-
-      -- the record of what they gave back, with the end of the interlock
-      module _ (s : ModelState) (closed : IsEnd i.opening (passes_in results watch) s) where
-        seen : (m : Machine) → Waits m (last m).line.seen closed.history
-        seen m = subst (λ (v : PassView). Waits m v.seen closed.history) (sym (last_pass m)) (closed.passes m).seen
-
-        module _ (journals : (m : Machine) → journal_of r.journals m ≡ journal_in results m) (end : r.end ≡ Some s) where
-          noted_by : (m : Machine) → noted i.opening (passes_back m).seen m ≡ journal_of r.journals m
-          noted_by m = sym (journals m ∙ journal_is m ∙ ap (λ (v : PassView). noted i.opening v.seen m) (last_pass m))
-
-          audited : IsAudited i.opening (journal_of r.journals) r.end closed.history
-          audited =
-              let k = closed.audited in
-              record {
-                legal = k.legal;
-                own = λ m. k.own m ∙ ap (map (event_by m)) (noted_by m);
-                noted = λ m. k.noted m ∙ noted_by m;
-                ends = subst (EndsIn (after i.opening closed.history)) (sym end) k.ends;
-              }
-
-          pub tells : r.start ≡ i.opening → r.counts ≡ results.feed.counts ∷ results.table.counts ∷ results.robot.counts ∷ results.press.counts ∷ results.deposit.counts ∷ results.crane.counts ∷ no_counts ∷ [] → r.status ≡ results.feed.status ∷ results.table.status ∷ results.robot.status ∷ results.press.status ∷ results.deposit.status ∷ results.crane.status ∷ Fine ∷ []
-              → r.axes ≡ positions_in (parts_in results) → TellsWork c i.opening i.tries limit gate r
-          tells start counts status axes =
-              record {
-                interlock = i;
-                opened = refl;
-                last = last;
-                statuses = statuses;
-                works = works;
-                watch_rests = (refl, refl);
-                history = closed.history;
-                lawful = closed.lawful;
-                seen = seen;
-                start = start;
-                counts = counts ∙ (λ x. sym back.feed.counts x ∷ sym back.table.counts x ∷ sym back.robot.counts x ∷ sym back.press.counts x ∷ sym back.deposit.counts x ∷ sym back.crane.counts x ∷ no_counts ∷ []);
-                status = status;
-                journals = λ m. journals m ∙ journal_is m;
-                counted = λ m. subst (λ j. AreCountsOf j (last m).counts) (sym (journals m)) (counted m);
-                audited = audited;
-                end = end ∙ ap (λ x. Some x) closed.reached;
-                axes = axes ∙ (λ x. positions_in (record { feed = sym back.feed.part x; table = sym back.table.part x; robot = sym back.robot.part x; press = sym back.press.part x; deposit = sym back.deposit.part x; crane = sym back.crane.part x }));
-              }
+    -- the record of what they gave back, with the one history
+    module _ (history : List Event) (lawful : LawfulThroughout i.opening history) (seen : (m : Machine) → Waits m (seen_in results m) history)
+        (journals : (m : Machine) → journal_of r.journals m ≡ noted i.opening (seen_in results m) m) (audited : IsAudited i.opening (journal_of r.journals) r.end history) where
+      pub tells : r.start ≡ i.opening → r.end ≡ Some (after i.opening history)
+          → r.counts ≡ results.feed.outcome.counts ∷ results.table.outcome.counts ∷ results.robot.outcome.counts ∷ results.press.outcome.counts ∷ results.deposit.outcome.counts ∷ results.crane.outcome.counts ∷ no_counts ∷ []
+          → r.status ≡ results.feed.outcome.status ∷ results.table.outcome.status ∷ results.robot.outcome.status ∷ results.press.outcome.status ∷ results.deposit.outcome.status ∷ results.crane.outcome.status ∷ Fine ∷ []
+          → r.axes ≡ positions_in (parts_in (outcomes_in results)) → TellsWork c i.opening i.tries limit gate r
+      tells start end counts status axes =
+          record {
+            interlock = i;
+            opened = refl;
+            last = last;
+            statuses = statuses;
+            works = works;
+            watch_rests = (refl, refl);
+            history = history;
+            lawful = lawful;
+            seen = λ m. subst (λ h. Waits m h history) (sym (last_seen m)) (seen m);
+            start = start;
+            counts = counts ∙ (λ x. sym back.feed.counts x ∷ sym back.table.counts x ∷ sym back.robot.counts x ∷ sym back.press.counts x ∷ sym back.deposit.counts x ∷ sym back.crane.counts x ∷ no_counts ∷ []);
+            status = status;
+            journals = λ m. journals m ∙ ap (λ h. noted i.opening h m) (sym (last_seen m));
+            counted = λ m. subst (λ j. AreCountsOf j (last m).counts) (journal_is m ∙ sym (journals m)) (counted m);
+            audited = audited;
+            end = end;
+            axes = axes ∙ (λ x. positions_in (record { feed = sym back.feed.part x; table = sym back.table.part x; robot = sym back.robot.part x; press = sym back.press.part x; deposit = sym back.deposit.part x; crane = sym back.crane.part x }));
+          }

@@ -1,7 +1,11 @@
 pub mod Faults
+pub mod Paces
 pub mod Lines
 pub mod Workers
+pub mod WiredWorkers
 pub mod Records
 pub mod Results
 pub mod Promises
+pub mod Six
 pub mod Laws
+pub mod WiredLaws

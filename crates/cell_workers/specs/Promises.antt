@@ -5,13 +5,7 @@ use Rattle.cell_types.specs.declared.machine.Machine.{Machine}
 use Rattle.cell_types.specs.declared.machine.Machine.TheVariants.{Feed, Table, Robot, Press, Deposit, Crane}
 use Rattle.cell_interlock.specs.Views.{PassView, InterlockView}
 use Rattle.cell_interlock.specs.Fresh.{IsFresh}
-use Rattle.cell_parts.specs.declared.parts.feed.FeedPart.{FeedPart}
-use Rattle.cell_parts.specs.declared.parts.table.TablePart.{TablePart}
-use Rattle.cell_parts.specs.declared.parts.robot.RobotPart.{RobotPart}
-use Rattle.cell_parts.specs.declared.parts.press.PressPart.{PressPart}
-use Rattle.cell_parts.specs.declared.parts.deposit.DepositPart.{DepositPart}
-use Rattle.cell_parts.specs.declared.parts.crane.CranePart.{CranePart}
-use Rattle.cell_workers.specs.Workers.{GateOf}
+use Rattle.cell_workers.specs.Workers.{GateOf, IsGivenBack}
 use Rattle.cell_workers.specs.declared.start.WorkerPromise.{WorkerPromise}
 use Rattle.cell_workers.specs.declared.per_machine.PerMachine.{PerMachine}
 use Rattle.cell_workers.specs.Results.{SixResults}
@@ -44,14 +38,19 @@ pub record AreReady {W1 W2 W3 W4 W5 W6 : Type 0} (ready1 : W1 → PassView → T
   pub deposit : ready5 workers.deposit passes.deposit
   pub crane : ready6 workers.crane passes.crane
 
+-- a worker gives back its pass and its journal, and what it promises
+abbrev pub GivesBack : {W B : Type 0} → GivesOf W B → GivesOf W B
+GivesBack gives worker pass tries gate turns result =
+    IsGivenBack pass result.pass result.journal.items × gives worker pass tries gate turns result
+
 -- each worker keeps its own promise
-pub record GiveBack {W1 W2 W3 W4 W5 W6 : Type 0} (gives1 : GivesOf W1 FeedPart) (gives2 : GivesOf W2 TablePart) (gives3 : GivesOf W3 RobotPart) (gives4 : GivesOf W4 PressPart) (gives5 : GivesOf W5 DepositPart) (gives6 : GivesOf W6 CranePart) (workers : PerMachine W1 W2 W3 W4 W5 W6) (passes : SixPasses) (tries : ℕ) (gate : Machine → GateOf) (turns : ℕ) (results : SixResults) : Type 0 where
-  pub feed : gives1 workers.feed passes.feed tries (gate passes.feed.machine) turns results.feed
-  pub table : gives2 workers.table passes.table tries (gate passes.table.machine) turns results.table
-  pub robot : gives3 workers.robot passes.robot tries (gate passes.robot.machine) turns results.robot
-  pub press : gives4 workers.press passes.press tries (gate passes.press.machine) turns results.press
-  pub deposit : gives5 workers.deposit passes.deposit tries (gate passes.deposit.machine) turns results.deposit
-  pub crane : gives6 workers.crane passes.crane tries (gate passes.crane.machine) turns results.crane
+pub record GiveBack {W1 W2 W3 W4 W5 W6 A B C D E F : Type 0} (gives1 : GivesOf W1 A) (gives2 : GivesOf W2 B) (gives3 : GivesOf W3 C) (gives4 : GivesOf W4 D) (gives5 : GivesOf W5 E) (gives6 : GivesOf W6 F) (workers : PerMachine W1 W2 W3 W4 W5 W6) (passes : SixPasses) (tries : ℕ) (gate : Machine → GateOf) (turns : ℕ) (results : SixResults A B C D E F) : Type 0 where
+  pub feed : GivesBack gives1 workers.feed passes.feed tries (gate passes.feed.machine) turns results.feed
+  pub table : GivesBack gives2 workers.table passes.table tries (gate passes.table.machine) turns results.table
+  pub robot : GivesBack gives3 workers.robot passes.robot tries (gate passes.robot.machine) turns results.robot
+  pub press : GivesBack gives4 workers.press passes.press tries (gate passes.press.machine) turns results.press
+  pub deposit : GivesBack gives5 workers.deposit passes.deposit tries (gate passes.deposit.machine) turns results.deposit
+  pub crane : GivesBack gives6 workers.crane passes.crane tries (gate passes.crane.machine) turns results.crane
 
 -- workers are started one after another; after the first that couldn't be started, none is
 pub record AreStartedInTurn {A B C D E F : Type 0} (started : PerMachine (Option A) (Option B) (Option C) (Option D) (Option E) (Option F)) : Type 0 where
@@ -71,20 +70,20 @@ pub record IsPromised {W G : Type 0} (interlock : InterlockView) (gate : G) (tur
 
 -- what was given back keeps the promise
 abbrev pub IsKept : {W G B : Type 0} → GivesOf W B → (G → Machine → GateOf) → WorkerPromise W G → WorkerResult B → Type 0
-IsKept gives may_answer p back = gives p.worker.value p.pass.value p.interlock.value.tries (may_answer p.gate.value p.pass.value.machine) p.turns back
+IsKept gives may_answer p back = GivesBack gives p.worker.value p.pass.value p.interlock.value.tries (may_answer p.gate.value p.pass.value.machine) p.turns back
 
 -- the six handles; a worker that wasn't started has none
 abbrev pub HandleOf : Type 0 → Type 0 → Type 0 → Type 0
 HandleOf W G B = Option (PromisedHandle (WorkerResult B) (WorkerPromise W G))
 
-abbrev pub SixHandles : Type 0 → Type 0 → Type 0 → Type 0 → Type 0 → Type 0 → Type 0 → Type 0
-SixHandles W1 W2 W3 W4 W5 W6 G = PerMachine (HandleOf W1 G FeedPart) (HandleOf W2 G TablePart) (HandleOf W3 G RobotPart) (HandleOf W4 G PressPart) (HandleOf W5 G DepositPart) (HandleOf W6 G CranePart)
+abbrev pub SixHandles : Type 0 → Type 0 → Type 0 → Type 0 → Type 0 → Type 0 → Type 0 → Type 0 → Type 0 → Type 0 → Type 0 → Type 0 → Type 0 → Type 0
+SixHandles W1 W2 W3 W4 W5 W6 A B C D E F G = PerMachine (HandleOf W1 G A) (HandleOf W2 G B) (HandleOf W3 G C) (HandleOf W4 G D) (HandleOf W5 G E) (HandleOf W6 G F)
 
 -- each worker that was started has its promise
 abbrev pub HasPromised : {W G B : Type 0} → InterlockView → G → ℕ → PassView → W → HandleOf W G B → Type 0
 HasPromised interlock gate turns pass worker handle = IfSome handle (λ h. IsPromised interlock gate turns pass worker h.promise)
 
-pub record ArePromised {W1 W2 W3 W4 W5 W6 G : Type 0} (interlock : InterlockView) (gate : G) (turns : ℕ) (passes : SixPasses) (workers : PerMachine W1 W2 W3 W4 W5 W6) (started : SixHandles W1 W2 W3 W4 W5 W6 G) : Type 0 where
+pub record ArePromised {W1 W2 W3 W4 W5 W6 A B C D E F G : Type 0} (interlock : InterlockView) (gate : G) (turns : ℕ) (passes : SixPasses) (workers : PerMachine W1 W2 W3 W4 W5 W6) (started : SixHandles W1 W2 W3 W4 W5 W6 A B C D E F G) : Type 0 where
   pub feed : HasPromised interlock gate turns passes.feed workers.feed started.feed
   pub table : HasPromised interlock gate turns passes.table workers.table started.table
   pub robot : HasPromised interlock gate turns passes.robot workers.robot started.robot
@@ -96,7 +95,7 @@ pub record ArePromised {W1 W2 W3 W4 W5 W6 G : Type 0} (interlock : InterlockView
 abbrev pub HasKept : {W G B : Type 0} → GivesOf W B → (G → Machine → GateOf) → HandleOf W G B → WorkerResult B → Type 0
 HasKept {W = W} {G = G} {B = B} gives may_answer handle back = (h : PromisedHandle (WorkerResult B) (WorkerPromise W G)) × (handle ≡ Some h) × IsKept gives may_answer h.promise back
 
-pub record AreKept {W1 W2 W3 W4 W5 W6 G : Type 0} (gives1 : GivesOf W1 FeedPart) (gives2 : GivesOf W2 TablePart) (gives3 : GivesOf W3 RobotPart) (gives4 : GivesOf W4 PressPart) (gives5 : GivesOf W5 DepositPart) (gives6 : GivesOf W6 CranePart) (may_answer : G → Machine → GateOf) (started : SixHandles W1 W2 W3 W4 W5 W6 G) (results : SixResults) : Type 0 where
+pub record AreKept {W1 W2 W3 W4 W5 W6 A B C D E F G : Type 0} (gives1 : GivesOf W1 A) (gives2 : GivesOf W2 B) (gives3 : GivesOf W3 C) (gives4 : GivesOf W4 D) (gives5 : GivesOf W5 E) (gives6 : GivesOf W6 F) (may_answer : G → Machine → GateOf) (started : SixHandles W1 W2 W3 W4 W5 W6 A B C D E F G) (results : SixResults A B C D E F) : Type 0 where
   pub feed : HasKept gives1 may_answer started.feed results.feed
   pub table : HasKept gives2 may_answer started.table results.table
   pub robot : HasKept gives3 may_answer started.robot results.robot

@@ -2,6 +2,7 @@
 use Rattle.std.specs.Prelude.{◌≡◌, ℕ, List, [], Option, Some}
 use Rattle.cell_types.specs.declared.machine.Machine.{Machine}
 use Rattle.cell_types.specs.declared.machine.Machine.TheVariants.{Feed, Table, Robot, Press, Deposit, Crane, Watch}
+use Rattle.cell_types.specs.declared.answer.Event.{Event}
 use Rattle.cell_types.specs.declared.journal.Entry.{Entry}
 use Rattle.cell_interlock.specs.Views.{PassView, InterlockView}
 use Rattle.cell_interlock.specs.declared.pass.Passes.{Passes}
@@ -19,13 +20,25 @@ use Rattle.cell_parts.specs.declared.parts.press.PressPart.{PressPart}
 use Rattle.cell_parts.specs.declared.parts.deposit.DepositPart.{DepositPart}
 use Rattle.cell_parts.specs.declared.parts.crane.CranePart.{CranePart}
 use Rattle.cell_workers.specs.declared.worker_result.WorkerResult.{WorkerResult}
+use Rattle.cell_workers.specs.declared.worker_result.UnitOutcome.{UnitOutcome}
 use Rattle.cell_workers.specs.declared.per_machine.PerMachine.{PerMachine}
 
--- what the six workers gave back: `WorkerResults`, since antt has no name for an alias
-abbrev pub SixResults : Type 0
-SixResults =
-    PerMachine (WorkerResult FeedPart) (WorkerResult TablePart) (WorkerResult RobotPart)
-    (WorkerResult PressPart) (WorkerResult DepositPart) (WorkerResult CranePart)
+-- what six workers gave back
+abbrev pub SixResults : Type 0 → Type 0 → Type 0 → Type 0 → Type 0 → Type 0 → Type 0
+SixResults A B C D E F =
+    PerMachine (WorkerResult A) (WorkerResult B) (WorkerResult C) (WorkerResult D) (WorkerResult E) (WorkerResult F)
+
+-- what is left of the machines of a cell
+abbrev pub CellOutcomes : Type 0
+CellOutcomes =
+    PerMachine (UnitOutcome FeedPart) (UnitOutcome TablePart) (UnitOutcome RobotPart)
+    (UnitOutcome PressPart) (UnitOutcome DepositPart) (UnitOutcome CranePart)
+
+-- what the workers of a cell gave back
+abbrev pub CellResults : Type 0
+CellResults =
+    SixResults (UnitOutcome FeedPart) (UnitOutcome TablePart) (UnitOutcome RobotPart)
+    (UnitOutcome PressPart) (UnitOutcome DepositPart) (UnitOutcome CranePart)
 
 -- none is missing, and these are the six
 pub record AreAllThere {A B C D E F : Type 0} (each : PerMachine (Option A) (Option B) (Option C) (Option D) (Option E) (Option F)) (six : PerMachine A B C D E F) : Type 0 where
@@ -36,38 +49,61 @@ pub record AreAllThere {A B C D E F : Type 0} (each : PerMachine (Option A) (Opt
   pub deposit : each.deposit ≡ Some six.deposit
   pub crane : each.crane ≡ Some six.crane
 
--- the journals; the watch's is empty
-abbrev pub journal_in : SixResults → Machine → List Entry
-journal_in results Feed = results.feed.journal.items
-journal_in results Table = results.table.journal.items
-journal_in results Robot = results.robot.journal.items
-journal_in results Press = results.press.journal.items
-journal_in results Deposit = results.deposit.journal.items
-journal_in results Crane = results.crane.journal.items
-journal_in results Watch = []
+module _ {A B C D E F : Type 0} where
+  -- the journals; the watch's is empty
+  abbrev pub journal_in : SixResults A B C D E F → Machine → List Entry
+  journal_in results Feed = results.feed.journal.items
+  journal_in results Table = results.table.journal.items
+  journal_in results Robot = results.robot.journal.items
+  journal_in results Press = results.press.journal.items
+  journal_in results Deposit = results.deposit.journal.items
+  journal_in results Crane = results.crane.journal.items
+  journal_in results Watch = []
 
--- the passes, with the watch's
-abbrev pub passes_in : SixResults → PassView → Passes
-passes_in results watch =
-    record {
-      feed = results.feed.pass;
-      table = results.table.pass;
-      robot = results.robot.pass;
-      press = results.press.pass;
-      deposit = results.deposit.pass;
-      crane = results.crane.pass;
-      watch = watch;
-    }
+  -- what each pass has seen; the watch's has seen nothing
+  abbrev pub seen_in : SixResults A B C D E F → Machine → List Event
+  seen_in results Feed = results.feed.pass.seen
+  seen_in results Table = results.table.pass.seen
+  seen_in results Robot = results.robot.pass.seen
+  seen_in results Press = results.press.pass.seen
+  seen_in results Deposit = results.deposit.pass.seen
+  seen_in results Crane = results.crane.pass.seen
+  seen_in results Watch = []
 
-abbrev pub parts_in : SixResults → PlantState
-parts_in results =
+  -- the passes, with the watch's
+  abbrev pub passes_in : SixResults A B C D E F → PassView → Passes
+  passes_in results watch =
+      record {
+        feed = results.feed.pass;
+        table = results.table.pass;
+        robot = results.robot.pass;
+        press = results.press.pass;
+        deposit = results.deposit.pass;
+        crane = results.crane.pass;
+        watch = watch;
+      }
+
+  -- what else each gave
+  abbrev pub outcomes_in : SixResults A B C D E F → PerMachine A B C D E F
+  outcomes_in results =
+      record {
+        feed = results.feed.outcome;
+        table = results.table.outcome;
+        robot = results.robot.outcome;
+        press = results.press.outcome;
+        deposit = results.deposit.outcome;
+        crane = results.crane.outcome;
+      }
+
+abbrev pub parts_in : CellOutcomes → PlantState
+parts_in each =
     record {
-      feed = results.feed.part.belt;
-      table = results.table.part.plant;
-      robot = results.robot.part.plant;
-      press = results.press.part;
-      deposit = results.deposit.part.belt;
-      crane = results.crane.part.plant;
+      feed = each.feed.part.belt;
+      table = each.table.part.plant;
+      robot = each.robot.part.plant;
+      press = each.press.part;
+      deposit = each.deposit.part.belt;
+      crane = each.crane.part.plant;
     }
 
 -- what a machine's worker gave back, by the machine's name; it began with a fresh pass of the interlock, at its
@@ -76,10 +112,10 @@ abbrev pub IsResultOf : CellScales → InterlockView → ℕ → (Machine → Ga
 IsResultOf c i limit gate m kept journal did status stands = IsWorkerResult i.tries (steps_of c m) (rig_of c m) (gate m) limit (first_moment i m) kept journal did status stands
 
 -- likewise for each of the six
-pub record AreWorkerResults (c : CellScales) (i : InterlockView) (limit : ℕ) (gate : Machine → GateOf) (results : SixResults) : Type 0 where
-  pub feed : IsResultOf c i limit gate Feed results.feed.pass results.feed.journal.items results.feed.counts results.feed.status results.feed.part.belt
-  pub table : IsResultOf c i limit gate Table results.table.pass results.table.journal.items results.table.counts results.table.status results.table.part.plant
-  pub robot : IsResultOf c i limit gate Robot results.robot.pass results.robot.journal.items results.robot.counts results.robot.status results.robot.part.plant
-  pub press : IsResultOf c i limit gate Press results.press.pass results.press.journal.items results.press.counts results.press.status results.press.part
-  pub deposit : IsResultOf c i limit gate Deposit results.deposit.pass results.deposit.journal.items results.deposit.counts results.deposit.status results.deposit.part.belt
-  pub crane : IsResultOf c i limit gate Crane results.crane.pass results.crane.journal.items results.crane.counts results.crane.status results.crane.part.plant
+pub record AreWorkerResults (c : CellScales) (i : InterlockView) (limit : ℕ) (gate : Machine → GateOf) (results : CellResults) : Type 0 where
+  pub feed : IsResultOf c i limit gate Feed results.feed.pass results.feed.journal.items results.feed.outcome.counts results.feed.outcome.status results.feed.outcome.part.belt
+  pub table : IsResultOf c i limit gate Table results.table.pass results.table.journal.items results.table.outcome.counts results.table.outcome.status results.table.outcome.part.plant
+  pub robot : IsResultOf c i limit gate Robot results.robot.pass results.robot.journal.items results.robot.outcome.counts results.robot.outcome.status results.robot.outcome.part.plant
+  pub press : IsResultOf c i limit gate Press results.press.pass results.press.journal.items results.press.outcome.counts results.press.outcome.status results.press.outcome.part
+  pub deposit : IsResultOf c i limit gate Deposit results.deposit.pass results.deposit.journal.items results.deposit.outcome.counts results.deposit.outcome.status results.deposit.outcome.part.belt
+  pub crane : IsResultOf c i limit gate Crane results.crane.pass results.crane.journal.items results.crane.outcome.counts results.crane.outcome.status results.crane.outcome.part.plant

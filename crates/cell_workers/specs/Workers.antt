@@ -42,20 +42,28 @@ pub record TakesTurn {L S Sense Reading Act State : Type 0} (lines : Lines L) (t
   pub motor_demands : DemandsHold t rig before.side asked now.side (lines.opening now.line) (lines.seen now.line)
   pub counted : now.counts ≡ counts_with before.counts asked
 
--- turns, each from the end of the one before it
-abbrev pub TakesTurns : {L S Sense Reading Act State : Type 0} → Lines L → Steps S Sense Reading Act → Rig State Sense Act → GateOf → WorkerMoment L S State → List (WorkerMoment L S State) → Type 0
-TakesTurns lines t rig gate before [] = ⊤
-TakesTurns lines t rig gate before (now ∷ later) = TakesTurn lines t rig gate before now × TakesTurns lines t rig gate now later
+-- turns, each from the end of the one before it, by what a turn is
+abbrev pub AreTaken : {M : Type 0} → (M → M → Type 0) → M → List M → Type 0
+AreTaken Turn before [] = ⊤
+AreTaken Turn before (now ∷ later) = Turn before now × AreTaken Turn now later
 
 abbrev pub last_of : {A : Type 0} → A → List A → A
 last_of first [] = first
 last_of first (now ∷ later) = last_of now later
 
--- a worker has gone from one moment to another by turns
-pub record HasCome {L S Sense Reading Act State : Type 0} (lines : Lines L) (t : Steps S Sense Reading Act) (rig : Rig State Sense Act) (gate : GateOf) (first now : WorkerMoment L S State) : Type 0 where
-  pub turns : List (WorkerMoment L S State)
-  pub taken : TakesTurns lines t rig gate first turns
+-- from one moment to another by turns
+pub record ComesBy {M : Type 0} (Turn : M → M → Type 0) (first now : M) : Type 0 where
+  pub turns : List M
+  pub taken : AreTaken Turn first turns
   pub last : last_of first turns ≡ now
+
+-- a worker's turns
+abbrev pub TakesTurns : {L S Sense Reading Act State : Type 0} → Lines L → Steps S Sense Reading Act → Rig State Sense Act → GateOf → WorkerMoment L S State → List (WorkerMoment L S State) → Type 0
+TakesTurns lines t rig gate = AreTaken (TakesTurn lines t rig gate)
+
+-- a worker has gone from one moment to another by turns
+abbrev pub HasCome : {L S Sense Reading Act State : Type 0} → Lines L → Steps S Sense Reading Act → Rig State Sense Act → GateOf → WorkerMoment L S State → WorkerMoment L S State → Type 0
+HasCome lines t rig gate = ComesBy (TakesTurn lines t rig gate)
 
 -- A machine that hasn't stopped ends fine after all its turns, or earlier if its gate says no. A stopped machine ends
 -- with its fault.
@@ -83,6 +91,11 @@ pub record AreCountsOf (journal : List Entry) (c : Counts) : Type 0 where
   pub done : c.done ≡ count_by (λ e. is_done_answer e.answer) journal
   pub read : c.read ≡ count_by (λ e. is_shown_answer e.answer) journal
   pub refused : c.refused ≡ count_by (λ e. is_refused_answer e.answer) journal
+
+-- a worker gives back the pass that it got, and the journal has its machine's notes of what this pass has seen
+pub record IsGivenBack (got kept : PassView) (journal : List Entry) : Type 0 where
+  pub same : IsSamePass got kept
+  pub journal_is : journal ≡ noted got.opening kept.seen got.machine
 
 -- What a worker gives back after it began at this moment: it has worked up to a last moment, with these counts and this
 -- part. The pass is the one that it got, and the journal has its machine's notes of what this pass has seen.

@@ -14,6 +14,9 @@ pub trait Gate {
     /// once for each turn, in order.
     fn pass(&self, machine: Machine, turn: u32) -> bool
         ensures { may_answer self.now machine turn result };
+
+    /// Told that the machine takes no more turns: its worker has ended, or couldn't be started.
+    fn end(&self, _machine: Machine) {}
 }
 
 /// The gate that lets every machine begin every turn.

@@ -4,14 +4,23 @@
 pub mod fault;
 pub mod gate;
 pub mod laws;
-mod per_machine;
+pub mod paced;
+pub mod per_machine;
 pub mod run;
+pub mod six;
 mod start;
 mod take_turns;
 mod threads;
-mod worker;
-mod worker_result;
+pub mod wired_worker;
+pub mod worker;
+pub mod worker_result;
 
 pub use fault::RunFault;
 pub use gate::{Gate, OpenGate};
+pub use paced::PacedGate;
+pub use per_machine::PerMachine;
 pub use run::run_cell;
+pub use six::{SixRecord, run_workers};
+pub use wired_worker::{Devices, WiredOutcome, WiredWorker};
+pub use worker::Worker;
+pub use worker_result::{UnitOutcome, WorkerResult};

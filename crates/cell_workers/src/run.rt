@@ -1,25 +1,47 @@
-//! Six workers over one interlock.
-ghost use Rattle.std.specs.Prelude.{◌≡◌, ◌<◌, ◌⊎◌, ◌↔◌, IfOk, IfSome, Err};
+//! Six workers over one interlock, whose machines are those of a cell.
+ghost use Rattle.std.specs.Prelude.{◌≡◌, ◌<◌, ◌⊎◌, ◌↔◌, IfOk, Err, Some, [], ◌∷◌};
 ghost use Rattle.cell_rules.specs.Start.{IsStartState};
-ghost use Rattle.cell_interlock.specs.Fresh.{AreFresh};
+ghost use Rattle.cell_notes.specs.declared.status.Status.{Status};
+ghost use Rattle.cell_notes.specs.Notes.{no_counts};
 ghost use Rattle.cell_parts.specs.Axes.{AreCellScales};
 ghost use Rattle.cell_plant.specs.Cells.{IsMadeFor, cell_scales};
+ghost use Rattle.cell_plant.specs.Records.{positions_in};
 ghost use Rattle.cell_workers.specs.Records.{TellsWork};
-ghost use Rattle.cell_workers.specs.Results.{AreWorkerResults};
+ghost use Rattle.cell_workers.specs.Results.{parts_in};
 
 use crate::fault::RunFault;
 use crate::gate::Gate;
-use crate::per_machine::{PerMachine, WorkerResults};
-use crate::start::WorkerContext;
-use crate::threads::run_in_threads;
+use crate::per_machine::PerMachine;
+use crate::six::{SixRecord, run_workers};
+use crate::worker_result::UnitOutcome;
 use cell_calib::Gauge;
-use cell_interlock::{Interlock, Pass, Passes};
-use cell_notes::RunRecord;
+use cell_notes::{Counts, RunRecord, Status};
+use cell_parts::{CranePart, DepositPart, FeedPart, PressPart, RobotPart, TablePart};
 use cell_plant::Cell;
 use cell_rules::State;
 use std::alloc::Global;
 use std::sync::Wait;
 use std::thread::Threads;
+
+// What is left of the machines of a cell.
+type CellOutcomes = PerMachine<
+    UnitOutcome<FeedPart>,
+    UnitOutcome<TablePart>,
+    UnitOutcome<RobotPart>,
+    UnitOutcome<PressPart>,
+    UnitOutcome<DepositPart>,
+    UnitOutcome<CranePart>,
+>;
+
+// The record of six workers that are a cell's machines.
+type CellRecord = SixRecord<
+    UnitOutcome<FeedPart>,
+    UnitOutcome<TablePart>,
+    UnitOutcome<RobotPart>,
+    UnitOutcome<PressPart>,
+    UnitOutcome<DepositPart>,
+    UnitOutcome<CranePart>,
+>;
 
 /// Runs a cell that was made for a start. Each machine takes up to `turns` turns in a thread of its
 /// own. All six share one interlock, which opens with that start and on which a call may lose
@@ -59,63 +81,6 @@ where
     ensures tries { (result ≡ Err RunFault.Tries) ↔ ((tries < 1) ⊎ (64 < tries)) }
     ensures work { IfOk result (TellsWork (cell_scales cell) opening tries turns (G.may_answer gate.now)) }
 {
-    let (interlock, passes) = Interlock::new(alloc, opening, tries)?;
-    let context = WorkerContext {
-        alloc,
-        interlock: &interlock,
-        gate,
-        turns,
-    };
-    let Some((results, watch)) = run_workers(rt, &context, passes, cell) else {
-        return Err(RunFault::Spawn);
-    };
-    let (record, passes) = results.into_record(alloc, opening, watch);
-    let ended = interlock.close(passes);
-    Ok(RunRecord {
-        end: Some(ended.state),
-        ..record
-    })
-}
-
-// What the six workers of a cell gave back, and the watch's pass, by which nobody works.
-//
-// Returns `None` if a thread couldn't be started; the workers that had begun have ended.
-fn run_workers<R, F1, F2, F3, F4, F5, G>(
-    rt: &R,
-    context: &WorkerContext<'_, G>,
-    passes: Passes,
-    cell: Cell<F1, F2, F3, F4, F5>,
-) -> Option<(WorkerResults, Pass)>
-where
-    R: Threads + Wait + Sync,
-    F1: Gauge + Send,
-    F2: Gauge + Send,
-    F3: Gauge + Send,
-    F4: Gauge + Send,
-    F5: Gauge + Send,
-    G: Gate + Sync,
-    requires fresh { AreFresh context.now.interlock.now passes }
-    requires made { IsMadeFor context.now.interlock.now.opening cell }
-    ensures worked { IfSome result (λ back. AreWorkerResults (cell_scales cell) context.now.interlock.now context.now.turns (G.may_answer context.now.gate.now) back.0) }
-    ensures watch { IfSome result (λ back. back.1 ≡ passes.watch) }
-{
-    let Passes {
-        feed,
-        table,
-        robot,
-        press,
-        deposit,
-        crane,
-        watch,
-    } = passes;
-    let passes = PerMachine {
-        feed,
-        table,
-        robot,
-        press,
-        deposit,
-        crane,
-    };
     let workers = PerMachine {
         feed: cell.feed,
         table: cell.table,
@@ -124,6 +89,73 @@ where
         deposit: cell.deposit,
         crane: cell.crane,
     };
-    let results = run_in_threads(rt, context, passes, workers)?;
-    Some((results, watch))
+    match run_workers(rt, alloc, workers, opening, tries, turns, gate) {
+        Ok(six) => Ok(run_record_of(six)),
+        Err(fault) => Err(fault),
+    }
+}
+
+// The record of a run, by that of its six workers.
+fn run_record_of(six: CellRecord) -> RunRecord
+    ensures start { result.start ≡ six.start }
+    ensures counts { result.counts ≡ six.outcomes.feed.counts ∷ six.outcomes.table.counts ∷ six.outcomes.robot.counts ∷ six.outcomes.press.counts ∷ six.outcomes.deposit.counts ∷ six.outcomes.crane.counts ∷ no_counts ∷ [] }
+    ensures status { result.status ≡ six.outcomes.feed.status ∷ six.outcomes.table.status ∷ six.outcomes.robot.status ∷ six.outcomes.press.status ∷ six.outcomes.deposit.status ∷ six.outcomes.crane.status ∷ Status.Fine ∷ [] }
+    ensures journals { result.journals ≡ six.journals }
+    ensures end { result.end ≡ Some six.end }
+    ensures axes { result.axes ≡ positions_in (parts_in six.outcomes) }
+{
+    RunRecord {
+        start: six.start,
+        counts: counts_of(&six.outcomes),
+        status: status_of(&six.outcomes),
+        axes: axes_of(&six.outcomes),
+        end: Some(six.end),
+        journals: six.journals,
+    }
+}
+
+// The counts of each machine, in the order of `Machine::ALL`.
+fn counts_of(each: &CellOutcomes) -> [Counts; 7]
+    ensures { result ≡ each.now.feed.counts ∷ each.now.table.counts ∷ each.now.robot.counts ∷ each.now.press.counts ∷ each.now.deposit.counts ∷ each.now.crane.counts ∷ no_counts ∷ [] }
+{
+    [
+        each.feed.counts,
+        each.table.counts,
+        each.robot.counts,
+        each.press.counts,
+        each.deposit.counts,
+        each.crane.counts,
+        Counts::none(),
+    ]
+}
+
+// The status of each machine, in the same order.
+fn status_of(each: &CellOutcomes) -> [Status; 7]
+    ensures { result ≡ each.now.feed.status ∷ each.now.table.status ∷ each.now.robot.status ∷ each.now.press.status ∷ each.now.deposit.status ∷ each.now.crane.status ∷ Status.Fine ∷ [] }
+{
+    [
+        each.feed.status,
+        each.table.status,
+        each.robot.status,
+        each.press.status,
+        each.deposit.status,
+        each.crane.status,
+        Status::Fine,
+    ]
+}
+
+// The positions of the axes, in the order of reports.
+fn axes_of(each: &CellOutcomes) -> [i32; 8]
+    ensures { result ≡ positions_in (parts_in each.now) }
+{
+    [
+        each.press.part.position(),
+        each.robot.part.arm1(),
+        each.robot.part.arm2(),
+        each.robot.part.rotation(),
+        each.table.part.lift(),
+        each.table.part.turn(),
+        each.crane.part.travel(),
+        each.crane.part.gripper(),
+    ]
 }

@@ -33,8 +33,10 @@ pub(crate) struct WorkerPromise<W, G> {
     turns: u32,
 }
 
-impl<W: Worker, G: Gate> Promise<WorkerResult<W::Part>> for WorkerPromise<W, G> {
-    ghost kept_by = { λ p r. W.gives_back p.worker.value p.pass.value p.interlock.value.tries (G.may_answer p.gate.value p.pass.value.machine) p.turns r };
+impl<W: Worker, G: Gate> Promise<WorkerResult<W::Outcome>> for WorkerPromise<W, G> {
+    ghost use Rattle.cell_workers.specs.Promises.{GivesBack};
+
+    ghost kept_by = { λ p r. GivesBack W.gives_back p.worker.value p.pass.value p.interlock.value.tries (G.may_answer p.gate.value p.pass.value.machine) p.turns r };
 }
 
 /// Starts a worker, unless an earlier one couldn't be started.
@@ -46,9 +48,9 @@ pub(crate) fn start<'s, E, W: Worker + Send + 's, G: Gate + Sync>(
     all_run: &mut bool,
     pass: Pass,
     worker: W,
-) -> Option<PromisedHandle<WorkerResult<W::Part>, WorkerPromise<W, G>>>
+) -> Option<PromisedHandle<WorkerResult<W::Outcome>, WorkerPromise<W, G>>>
 where
-    W::Part: Send,
+    W::Outcome: Send,
     requires table { pass.table ≡ context.now.interlock.now.table }
     requires fresh { pass.seen ≡ [] }
     requires ready { W.is_ready worker pass }
@@ -57,15 +59,17 @@ where
     ensures none_after { all_run.old ≡ false → result ≡ None }
     ensures promised { IfSome result (λ h. IsPromised context.now.interlock.now context.now.gate.now context.now.turns pass worker h.promise) }
 {
-    if !*all_run {
-        return None;
-    }
     let WorkerContext {
         alloc,
         interlock,
         gate,
         turns,
     } = *context;
+    let machine = pass.machine();
+    if !*all_run {
+        gate.end(machine);
+        return None;
+    }
     let promise = WorkerPromise {
         interlock: Snapshot::of(interlock),
         pass: Snapshot::of(&pass),
@@ -74,12 +78,16 @@ where
         turns,
     };
     let started = scope
-        .spawn_with(
-            promise,
-            move || worker.take_turns(alloc, interlock, pass, gate, turns),
-        )
+        .spawn_with(promise, move || {
+            let result = worker.take_turns(alloc, interlock, pass, gate, turns);
+            gate.end(machine);
+            result
+        })
         .ok();
     *all_run = started.is_some();
+    if !*all_run {
+        gate.end(machine);
+    }
     started
 }
 

@@ -3,17 +3,16 @@ ghost use Rattle.std.specs.Prelude.{IfSome};
 ghost use Rattle.cell_workers.specs.Promises.{AreAllFresh, AreKept, ArePromised, AreReady, AreStartedInTurn, GiveBack};
 
 use crate::gate::Gate;
-use crate::per_machine::{PerMachine, SixPasses, WorkerResults, all_six};
+use crate::per_machine::{PerMachine, SixPasses, SixResults, all_six};
 use crate::start::{WorkerContext, WorkerPromise, join, start};
 use crate::worker::Worker;
 use crate::worker_result::WorkerResult;
-use cell_parts::{CranePart, DepositPart, FeedPart, PressPart, RobotPart, TablePart};
 use std::sync::Wait;
 use std::thread;
 use std::thread::{PromisedHandle, Scope, Threads};
 
 // A worker's handle, or `None` if it wasn't started.
-type WorkerHandle<B, W, G> = Option<PromisedHandle<WorkerResult<B>, WorkerPromise<W, G>>>;
+type WorkerHandle<T, W, G> = Option<PromisedHandle<WorkerResult<T>, WorkerPromise<W, G>>>;
 
 /// Starts six workers, each in a thread of its own, and joins them.
 ///
@@ -23,15 +22,23 @@ pub(crate) fn run_in_threads<R, W1, W2, W3, W4, W5, W6, G>(
     context: &WorkerContext<'_, G>,
     passes: SixPasses,
     workers: PerMachine<W1, W2, W3, W4, W5, W6>,
-) -> Option<WorkerResults>
+) -> Option<
+    SixResults<W1::Outcome, W2::Outcome, W3::Outcome, W4::Outcome, W5::Outcome, W6::Outcome>,
+>
 where
     R: Threads + Wait + Sync,
-    W1: Worker<Part = FeedPart> + Send,
-    W2: Worker<Part = TablePart> + Send,
-    W3: Worker<Part = RobotPart> + Send,
-    W4: Worker<Part = PressPart> + Send,
-    W5: Worker<Part = DepositPart> + Send,
-    W6: Worker<Part = CranePart> + Send,
+    W1: Worker + Send,
+    W2: Worker + Send,
+    W3: Worker + Send,
+    W4: Worker + Send,
+    W5: Worker + Send,
+    W6: Worker + Send,
+    W1::Outcome: Send,
+    W2::Outcome: Send,
+    W3::Outcome: Send,
+    W4::Outcome: Send,
+    W5::Outcome: Send,
+    W6::Outcome: Send,
     G: Gate + Sync,
     requires fresh { AreAllFresh context.now.interlock.now passes }
     requires ready { AreReady W1.is_ready W2.is_ready W3.is_ready W4.is_ready W5.is_ready W6.is_ready workers passes }
@@ -40,7 +47,16 @@ where
     thread::scope(
         thread::scope_env(),
         rt,
-        move |scope| -> Option<WorkerResults>
+        move |scope| -> Option<
+            SixResults<
+                W1::Outcome,
+                W2::Outcome,
+                W3::Outcome,
+                W4::Outcome,
+                W5::Outcome,
+                W6::Outcome,
+            >,
+        >
             requires { AreAllFresh context.now.interlock.now passes × AreReady W1.is_ready W2.is_ready W3.is_ready W4.is_ready W5.is_ready W6.is_ready workers passes }
             ensures { IfSome result (GiveBack W1.gives_back W2.gives_back W3.gives_back W4.gives_back W5.gives_back W6.gives_back workers passes context.entry.now.interlock.now.tries (G.may_answer context.entry.now.gate.now) context.entry.now.turns) }
         {
@@ -57,20 +73,26 @@ fn start_six<'s, E, W1, W2, W3, W4, W5, W6, G>(
     passes: SixPasses,
     workers: PerMachine<W1, W2, W3, W4, W5, W6>,
 ) -> PerMachine<
-    WorkerHandle<FeedPart, W1, G>,
-    WorkerHandle<TablePart, W2, G>,
-    WorkerHandle<RobotPart, W3, G>,
-    WorkerHandle<PressPart, W4, G>,
-    WorkerHandle<DepositPart, W5, G>,
-    WorkerHandle<CranePart, W6, G>,
+    WorkerHandle<W1::Outcome, W1, G>,
+    WorkerHandle<W2::Outcome, W2, G>,
+    WorkerHandle<W3::Outcome, W3, G>,
+    WorkerHandle<W4::Outcome, W4, G>,
+    WorkerHandle<W5::Outcome, W5, G>,
+    WorkerHandle<W6::Outcome, W6, G>,
 >
 where
-    W1: Worker<Part = FeedPart> + Send + 's,
-    W2: Worker<Part = TablePart> + Send + 's,
-    W3: Worker<Part = RobotPart> + Send + 's,
-    W4: Worker<Part = PressPart> + Send + 's,
-    W5: Worker<Part = DepositPart> + Send + 's,
-    W6: Worker<Part = CranePart> + Send + 's,
+    W1: Worker + Send + 's,
+    W2: Worker + Send + 's,
+    W3: Worker + Send + 's,
+    W4: Worker + Send + 's,
+    W5: Worker + Send + 's,
+    W6: Worker + Send + 's,
+    W1::Outcome: Send,
+    W2::Outcome: Send,
+    W3::Outcome: Send,
+    W4::Outcome: Send,
+    W5::Outcome: Send,
+    W6::Outcome: Send,
     G: Gate + Sync,
     requires fresh { AreAllFresh context.now.interlock.now passes }
     requires ready { AreReady W1.is_ready W2.is_ready W3.is_ready W4.is_ready W5.is_ready W6.is_ready workers passes }
@@ -100,22 +122,24 @@ where
 fn join_six<R, W1, W2, W3, W4, W5, W6, G>(
     rt: &R,
     started: PerMachine<
-        WorkerHandle<FeedPart, W1, G>,
-        WorkerHandle<TablePart, W2, G>,
-        WorkerHandle<RobotPart, W3, G>,
-        WorkerHandle<PressPart, W4, G>,
-        WorkerHandle<DepositPart, W5, G>,
-        WorkerHandle<CranePart, W6, G>,
+        WorkerHandle<W1::Outcome, W1, G>,
+        WorkerHandle<W2::Outcome, W2, G>,
+        WorkerHandle<W3::Outcome, W3, G>,
+        WorkerHandle<W4::Outcome, W4, G>,
+        WorkerHandle<W5::Outcome, W5, G>,
+        WorkerHandle<W6::Outcome, W6, G>,
     >,
-) -> Option<WorkerResults>
+) -> Option<
+    SixResults<W1::Outcome, W2::Outcome, W3::Outcome, W4::Outcome, W5::Outcome, W6::Outcome>,
+>
 where
     R: Threads,
-    W1: Worker<Part = FeedPart>,
-    W2: Worker<Part = TablePart>,
-    W3: Worker<Part = RobotPart>,
-    W4: Worker<Part = PressPart>,
-    W5: Worker<Part = DepositPart>,
-    W6: Worker<Part = CranePart>,
+    W1: Worker,
+    W2: Worker,
+    W3: Worker,
+    W4: Worker,
+    W5: Worker,
+    W6: Worker,
     G: Gate,
     ensures { IfSome result (AreKept W1.gives_back W2.gives_back W3.gives_back W4.gives_back W5.gives_back W6.gives_back G.may_answer started) }
 {

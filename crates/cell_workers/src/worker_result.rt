@@ -13,13 +13,20 @@ use cell_types::Entry;
 use cell_unit::MachineUnit;
 use std::alloc::Global;
 
-/// What a worker gives back. It borrows nothing, and doesn't contain the machine's controller.
+/// What a worker gives back. It borrows nothing.
 #[derive(Drop)]
-pub(crate) struct WorkerResult<B> {
+pub struct WorkerResult<T> {
     /// The machine's pass.
     pub pass: Pass,
-    /// An entry for each call that it settled.
+    /// An entry for each call that was settled by the pass, the oldest first.
     pub journal: Vec<Entry>,
+    /// What else the worker has to give.
+    pub outcome: T,
+}
+
+/// What is left of a machine of a `Cell` after its turns.
+#[derive(Drop)]
+pub struct UnitOutcome<B> {
     /// Its counts of turns and replies.
     pub counts: Counts,
     /// Its status at the end.
@@ -36,13 +43,13 @@ pub(crate) fn take_turns_by_pass<P: Program, B: Part<Sense = P::Sense, Act = P::
     unit: MachineUnit<P, B>,
     gate: &G,
     turns: u32,
-) -> WorkerResult<B>
+) -> WorkerResult<UnitOutcome<B>>
     requires table { pass.table ≡ interlock.now.table }
     requires fresh { pass.seen ≡ [] }
     requires own { pass.machine ≡ (unit_table P.steps unit).machine }
     requires ready { UnitIsReady P.steps unit pass.opening pass.seen }
     ensures { IsWorkerResult interlock.now.tries (unit_table P.steps unit) (unit_rig B.rig B.make unit) (G.may_answer gate.now pass.machine) turns
-        (worker_moment pass (unit_side B.state unit) no_counts) result.pass result.journal.items result.counts result.status (B.state result.part) }
+        (worker_moment pass (unit_side B.state unit) no_counts) result.pass result.journal.items result.outcome.counts result.outcome.status (B.state result.outcome.part) }
 {
     let mut unit = unit;
     let mut line = PassLine::new(alloc, interlock, pass);
@@ -51,8 +58,10 @@ pub(crate) fn take_turns_by_pass<P: Program, B: Part<Sense = P::Sense, Act = P::
     WorkerResult {
         pass,
         journal,
-        counts: ending.counts,
-        status: ending.status,
-        part: unit.part,
+        outcome: UnitOutcome {
+            counts: ending.counts,
+            status: ending.status,
+            part: unit.part,
+        },
     }
 }

@@ -35,7 +35,7 @@ fn main(rt: HostRuntime) -> Result<(), PressFault> {
         let motor = motor_word(told.act.press);
         match told.fault {
             None => println!(rt; "{motor}")?,
-            Some(fault) => println!(rt; "{motor} {fault:?}")?,
+            Some(fault) => println!(rt; "{motor}: {fault}")?,
         }
     }
     let (_, journal) = press.into_line().into_parts();

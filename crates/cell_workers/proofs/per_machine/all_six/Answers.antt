@@ -9,7 +9,7 @@ both (Some a) None x y e = cc
 both {A = A} {B = B} (Some a) (Some b) x y e = let same : (a, b) ≡ (x, y) = cc in (ap (λ (p : A × B). Some p.0) same, ap (λ (p : A × B). Some p.1) same)
 
 pub returns : goal.returns
-returns c =
+returns g c =
     let all = both c.zip.result c.zip-arms.result _ _ (sym c.zip-2.ensures ∙ c.in_ok-feed.was) in
     let first = both c.zip-belts.result c.zip-tables.result _ _ (sym c.zip.ensures ∙ all.0) in
     let belts = both c.args.each.feed c.args.each.deposit _ _ (sym c.zip-belts.ensures ∙ first.0) in

@@ -1,25 +1,87 @@
-use Rattle.std.proofs.Common.{ℕ, Some, ◌∙◌, refl, sym, subst}
+use Rattle.std.proofs.Common.{◌≡◌, ℕ, [], ◌∷◌, Some, ◌∙◌, refl, sym, ap, subst}
+use Rattle.cell_types.specs.declared.machine.Machine.TheVariants.{Feed, Table, Robot, Press, Deposit, Crane}
+use Rattle.cell_types.specs.declared.journal.Journals.{Journals}
+use Rattle.cell_types.specs.Journals.{journal_of}
 use Rattle.cell_rules.specs.ModelState.{ModelState}
-use Rattle.cell_interlock.specs.Ends.{IsEnd}
-use Rattle.cell_interlock.specs.declared.pass.Passes.{Passes}
-use Rattle.cell_notes.specs.declared.run_record.RunRecord.{RunRecord}
-use Rattle.cell_plant.specs.Cells.{cell_scales}
+use Rattle.cell_rules.specs.History.{after}
+use Rattle.cell_rules.specs.Journal.{noted}
+use Rattle.cell_rules.specs.Laws.{LawfulThroughout}
+use Rattle.cell_rules.specs.Audited.{IsAudited}
+use Rattle.cell_interlock.specs.Fresh.{fresh_pass}
+use Rattle.cell_haul.specs.FeedProgram.{feed_steps}
+use Rattle.cell_haul.specs.DepositProgram.{deposit_steps}
+use Rattle.cell_haul.specs.CraneProgram.{crane_steps}
+use Rattle.cell_notes.specs.declared.status.Status.TheVariants.{Fine}
+use Rattle.cell_notes.specs.Notes.{no_counts}
+use Rattle.cell_robot.specs.RobotProgram.{gauges_of, robot_steps}
+use Rattle.cell_stations.specs.PressProgram.{press_steps}
+use Rattle.cell_stations.specs.TableProgram.{table_steps}
+use Rattle.cell_parts.specs.Rigs.{table_rig, robot_rig, crane_rig}
+use Rattle.cell_plant.specs.Machines.{robot_points, robot_axes}
+use Rattle.cell_plant.specs.Records.{positions_in}
+use Rattle.cell_plant.specs.Watch.{watch_at_start}
+use Rattle.cell_plant.specs.Cells.{cell_scales, points_of, sides_of}
+use Rattle.cell_plant.specs.CellStates.{Sides, sides_at_start}
 use Rattle.cell_workers.specs.Records.{TellsWork}
-use Rattle.cell_workers.proofs.Recording.{tells}
+use Rattle.cell_workers.specs.Results.{AreWorkerResults, CellOutcomes, parts_in, seen_in}
+use Rattle.cell_workers.specs.Workers.{worker_moment}
+use Rattle.cell_workers.proofs.Recording.{is_result_of, table_near, robot_near, crane_near, ready_at_start, tells}
 use Rattle.cell_workers.proofs.run.run_cell.Goals as goal
 
-pub returns-clause-work : goal.returns-clause-work
-returns-clause-work g c =
-    let i = c.in_ok-interlock.interlock in
-    let new = c.in_ok-interlock.ensures in
-    let back = c.in-Some in
-    let scales = cell_scales c.args.cell in
+pub run_workers-requires-clause-ready : goal.run_workers-requires-clause-ready
+run_workers-requires-clause-ready g c κs within = λ i e.
+    let cell = c.args.cell in
+    let begins = c.requires.made.begins ∙ ap sides_at_start (sym e) in
+    record {
+      feed = let side = cell.feed.controller in ready_at_start feed_steps i (fresh_pass i Feed) side.stopped side.progress refl (ap (λ (s : Sides). s.feed.progress) begins);
+      table = let p = cell.table.controller.program in let side = cell.table.controller in ready_at_start (table_steps p.turn.points (g.F4.Gauge.gives p.turn.gauge)) i (fresh_pass i Table) side.stopped side.progress refl (ap (λ (s : Sides). s.table.progress) begins);
+      robot = let p = cell.robot.controller.program in let side = cell.robot.controller in ready_at_start (robot_steps (points_of p) (gauges_of (g.F1.Gauge.gives p.arm1.gauge) (g.F2.Gauge.gives p.arm2.gauge) (g.F3.Gauge.gives p.rotation.gauge))) i (fresh_pass i Robot) side.stopped side.progress refl (ap (λ (s : Sides). s.robot.progress) begins);
+      press = let side = cell.press.controller in ready_at_start press_steps i (fresh_pass i Press) side.stopped side.progress refl (ap (λ (s : Sides). s.press.progress) begins);
+      deposit = let side = cell.deposit.controller in ready_at_start deposit_steps i (fresh_pass i Deposit) side.stopped side.progress refl (ap (λ (s : Sides). s.deposit.progress) begins);
+      crane = let p = cell.crane.controller.program in let side = cell.crane.controller in ready_at_start (crane_steps p.gripper.points (g.F5.Gauge.gives p.gripper.gauge)) i (fresh_pass i Crane) side.stopped side.progress refl (ap (λ (s : Sides). s.crane.progress) begins);
+    }
+
+pub returns-in-Ok-clause-work : goal.returns-in-Ok-clause-work
+returns-in-Ok-clause-work g c =
+    let k = c.in-Ok.ensures.work in
+    let cell = c.args.cell in
+    let scales = cell_scales cell in
+    let i = k.interlock in
     let gate = g.G.Gate.may_answer c.args.gate.now in
-    let made = c.into_record-record in
-    let r = made.ensures in
-    let end = c.close-ended.result.state in
-    let run : RunRecord = record (made.result.0) { end = Some end } in
-    let closed = subst (λ (p : Passes). IsEnd i.opening p end) r.passes c.close-ended.ensures.end in
-    subst (λ (n : ℕ). TellsWork scales c.args.opening n c.args.turns gate run) new.limit
-    (subst (λ (s : ModelState). TellsWork scales s i.tries c.args.turns gate run) new.opening
-    (tells scales i c.args.turns gate back.results back.ensures.worked run back.watch (back.ensures.watch ∙ new.passes.watch) end closed r.journals refl (r.start ∙ sym new.opening) r.counts r.status r.axes))
+    let turns = c.args.turns in
+    let fits = c.requires.made.fitted in
+    let begins = c.requires.made.begins ∙ ap sides_at_start (sym k.opened) in
+    let turn = cell.table.controller.program.turn in
+    let robot = cell.robot.controller.program in
+    let gripper = cell.crane.controller.program.gripper in
+    let robot_fits : robot_points scales ≡ points_of robot = λ x. record { arm1 = fits.arm1 x; arm2 = fits.arm2 x; rotation = fits.rotation x } in
+    let sides = sides_of cell watch_at_start in
+    let results = k.results in
+    let given = k.given in
+    let back : AreWorkerResults scales i turns gate results =
+    record {
+      feed = is_result_of scales i turns gate Feed (fresh_pass i Feed) sides.feed results.feed.pass results.feed.journal.items results.feed.outcome.counts results.feed.outcome.status results.feed.outcome.part.belt refl (ap (λ (s : Sides). s.feed) begins) given.feed.1;
+      table = is_result_of scales i turns gate Table (fresh_pass i Table) sides.table results.table.pass results.table.journal.items results.table.outcome.counts results.table.outcome.status results.table.outcome.part.plant refl (ap (λ (s : Sides). s.table) begins) (table_near i.tries (gate Table) turns results.table.pass results.table.journal.items results.table.outcome.counts results.table.outcome.status turn.points scales.turn (g.F4.Gauge.gives turn.gauge) (table_rig scales.turn) (worker_moment (fresh_pass i Table) sides.table no_counts) results.table.outcome.part.plant fits.turn given.table.1);
+      robot = is_result_of scales i turns gate Robot (fresh_pass i Robot) sides.robot results.robot.pass results.robot.journal.items results.robot.outcome.counts results.robot.outcome.status results.robot.outcome.part.plant refl (ap (λ (s : Sides). s.robot) begins) (robot_near i.tries (gate Robot) turns results.robot.pass results.robot.journal.items results.robot.outcome.counts results.robot.outcome.status (points_of robot) (robot_points scales) (gauges_of (g.F1.Gauge.gives robot.arm1.gauge) (g.F2.Gauge.gives robot.arm2.gauge) (g.F3.Gauge.gives robot.rotation.gauge)) (robot_rig (robot_axes scales)) (worker_moment (fresh_pass i Robot) sides.robot no_counts) results.robot.outcome.part.plant robot_fits given.robot.1);
+      press = is_result_of scales i turns gate Press (fresh_pass i Press) sides.press results.press.pass results.press.journal.items results.press.outcome.counts results.press.outcome.status results.press.outcome.part refl (ap (λ (s : Sides). s.press) begins) given.press.1;
+      deposit = is_result_of scales i turns gate Deposit (fresh_pass i Deposit) sides.deposit results.deposit.pass results.deposit.journal.items results.deposit.outcome.counts results.deposit.outcome.status results.deposit.outcome.part.belt refl (ap (λ (s : Sides). s.deposit) begins) given.deposit.1;
+      crane = is_result_of scales i turns gate Crane (fresh_pass i Crane) sides.crane results.crane.pass results.crane.journal.items results.crane.outcome.counts results.crane.outcome.status results.crane.outcome.part.plant refl (ap (λ (s : Sides). s.crane) begins) (crane_near i.tries (gate Crane) turns results.crane.pass results.crane.journal.items results.crane.outcome.counts results.crane.outcome.status gripper.points scales.gripper (g.F5.Gauge.gives gripper.gauge) (crane_rig scales.gripper) (worker_moment (fresh_pass i Crane) sides.crane no_counts) results.crane.outcome.part.plant fits.gripper given.crane.1);
+    } in
+    let told = c.run_record_of.ensures in
+    let six = c.in-Ok.six in
+    let run' = c.run_record_of.result in
+    let history = k.history in
+    subst (λ (n : ℕ). TellsWork scales c.args.opening n turns gate run') k.losing
+    (subst (λ (s : ModelState). TellsWork scales s i.tries turns gate run') k.opened
+    (tells scales i turns gate results back run' history
+    (subst (λ s. LawfulThroughout s history) (sym k.opened) k.lawful)
+    k.seen
+    (λ m. ap (λ (j : Journals). journal_of j m) told.journals ∙ k.journals m ∙ ap (λ s. noted s (seen_in results m) m) (sym k.opened))
+    (subst (λ s. IsAudited s (journal_of run'.journals) run'.end history) (sym k.opened)
+    (subst (λ (j : Journals). IsAudited c.args.opening (journal_of j) run'.end history) (sym told.journals)
+    (subst (λ e. IsAudited c.args.opening (journal_of six.journals) e history) (sym told.end) k.audited)))
+    (told.start ∙ k.start ∙ sym k.opened)
+    (told.end ∙ ap (λ s. Some s) k.end ∙ ap (λ s. Some (after s history)) (sym k.opened))
+    (told.counts ∙ ap (λ (x : CellOutcomes). x.feed.counts ∷ x.table.counts ∷ x.robot.counts ∷ x.press.counts ∷ x.deposit.counts ∷ x.crane.counts ∷ no_counts ∷ []) k.outcomes)
+    (told.status ∙ ap (λ (x : CellOutcomes). x.feed.status ∷ x.table.status ∷ x.robot.status ∷ x.press.status ∷ x.deposit.status ∷ x.crane.status ∷ Fine ∷ []) k.outcomes)
+    (told.axes ∙ ap (λ (x : CellOutcomes). positions_in (parts_in x)) k.outcomes)))

@@ -1,0 +1,266 @@
+//! Runs of six workers with devices of their own. In some the press's switches clash.
+ghost use Rattle.std.specs.Prelude.{◌≡◌};
+ghost use Rattle.cell_rules.specs.Start.{IsStartState};
+
+use cell_calib::{
+    Calibration, CraneSense, DepositSense, FeedSense, Gauge, Points, PressSense, RobotSense,
+    SensorFault, TableSense, line_at,
+};
+use cell_control::{CtlFault, Program};
+use cell_devices::{CraneAct, DepositAct, FeedAct, Motor, PressAct, RobotAct, TableAct};
+use cell_haul::{CraneProgram, DepositProgram, FeedProgram};
+use cell_notes::Status;
+use cell_robot::RobotProgram;
+use cell_rules::State;
+use cell_stations::{PressProgram, TableProgram};
+use cell_wired::Told;
+use cell_workers::{
+    Devices, OpenGate, PerMachine, RunFault, SixRecord, WiredOutcome, WiredWorker, run_workers,
+};
+use std::alloc::Global;
+use std::sync::Wait;
+use std::test::Fail;
+use std::thread::Threads;
+
+/// Devices that show one sense for some reads, and another one from then on. They count their calls
+/// and keep what they were last told.
+#[derive(Drop)]
+struct Recorder<S, A> {
+    shows: S,
+    // How many reads more show it.
+    left: u32,
+    then: S,
+    reads: u32,
+    sets: u32,
+    last: Option<Told<A>>,
+}
+
+impl<S: Copy, A: Copy> Devices for Recorder<S, A> {
+    ghost use Rattle.std.specs.Prelude.{◌≡◌, ◌⊎◌, Some};
+
+    type Sense = S;
+
+    type Act = A;
+
+    ghost shows = { λ devices sense _. (sense ≡ devices.shows) ⊎ (sense ≡ devices.then) };
+
+    ghost sets = { λ _ told now. now.last ≡ Some told };
+
+    fn read(&mut self) -> S {
+        self.reads = self.reads.saturating_add(1);
+        if self.left == 0 {
+            return self.then;
+        }
+        self.left -= 1;
+        self.shows
+    }
+
+    fn set(&mut self, told: &Told<A>) {
+        self.sets = self.sets.saturating_add(1);
+        self.last = Some(*told);
+    }
+}
+
+impl<S, A> Recorder<S, A> {
+    fn new(shows: S, left: u32, then: S) -> Recorder<S, A> {
+        Recorder {
+            shows,
+            left,
+            then,
+            reads: 0,
+            sets: 0,
+            last: None,
+        }
+    }
+}
+
+// A machine at the start of its program, whose sensors show the same in each turn.
+fn still<P: Program>(
+    program: P,
+    opening: State,
+    sense: P::Sense,
+) -> WiredWorker<P, Recorder<P::Sense, P::Act>>
+    ensures program { result.program ≡ program }
+    ensures opening { result.opening ≡ opening }
+{
+    WiredWorker {
+        program,
+        opening,
+        devices: Recorder::new(sense, 0, sense),
+    }
+}
+
+/// What is left of the six machines.
+type SixOutcomes = SixRecord<
+    WiredOutcome<Recorder<FeedSense, FeedAct>>,
+    WiredOutcome<Recorder<TableSense, TableAct>>,
+    WiredOutcome<Recorder<RobotSense, RobotAct>>,
+    WiredOutcome<Recorder<PressSense, PressAct>>,
+    WiredOutcome<Recorder<DepositSense, DepositAct>>,
+    WiredOutcome<Recorder<CraneSense, CraneAct>>,
+>;
+
+// The points of the arms and the gripper, of the robot's rotation, and of the table's.
+#[derive(Clone, Copy)]
+struct AxisPoints {
+    arm: Points,
+    rotation: Points,
+    turn: Points,
+}
+
+// Six workers at the start; only the press's sensors change.
+fn run_by<R, F1, F2, F3, F4, F5>(
+    rt: &R,
+    alloc: Global,
+    opening: State,
+    gauges: (F1, F2, F3, F4, F5),
+    points: AxisPoints,
+    press: Recorder<PressSense, PressAct>,
+    turns: u32,
+) -> Result<SixOutcomes, RunFault>
+where
+    R: Threads + Wait + Sync,
+    F1: Gauge + Send,
+    F2: Gauge + Send,
+    F3: Gauge + Send,
+    F4: Gauge + Send,
+    F5: Gauge + Send,
+    requires start { IsStartState opening }
+    requires arm1 { F1.keeps gauges.0 points.arm }
+    requires arm2 { F2.keeps gauges.1 points.arm }
+    requires rotation { F3.keeps gauges.2 points.rotation }
+    requires turn { F4.keeps gauges.3 points.turn }
+    requires gripper { F5.keeps gauges.4 points.arm }
+{
+    let (arm1, arm2, rotation, turn, gripper) = gauges;
+    let robot = RobotProgram::new(
+        Calibration::new(arm1, points.arm),
+        Calibration::new(arm2, points.arm),
+        Calibration::new(rotation, points.rotation),
+    );
+    let table = TableProgram::new(Calibration::new(turn, points.turn));
+    let crane = CraneProgram::new(Calibration::new(gripper, points.arm));
+    let workers = PerMachine {
+        feed: still(FeedProgram, opening, FeedSense { barrier: false }),
+        table: still(table, opening, AT_BOTTOM),
+        robot: still(robot, opening, AT_TABLE),
+        press: WiredWorker {
+            program: PressProgram,
+            opening,
+            devices: press,
+        },
+        deposit: still(DepositProgram, opening, DepositSense { barrier: false }),
+        crane: still(crane, opening, AT_DEPOSIT),
+    };
+    run_workers(rt, alloc, workers, opening, 64, turns, &OpenGate)
+}
+
+const AT_BOTTOM: TableSense = TableSense {
+    bottom: true,
+    top: false,
+    turn: 0,
+};
+
+const AT_TABLE: RobotSense = RobotSense {
+    arm1: 0,
+    arm2: 0,
+    rotation: 300,
+};
+
+const AT_DEPOSIT: CraneSense = CraneSense {
+    deposit: true,
+    feed: false,
+    gripper: 900,
+};
+
+const AT_TOP: PressSense = PressSense {
+    bottom: false,
+    middle: false,
+    top: true,
+};
+
+const BOTH_ON: PressSense = PressSense {
+    bottom: true,
+    middle: false,
+    top: true,
+};
+
+// A run from a start without plates. The press's switches clash after some turns.
+fn run_until_clash<R: Threads + Wait + Sync>(
+    rt: &R,
+    alloc: Global,
+    good: u32,
+    turns: u32,
+) -> Result<Result<SixOutcomes, RunFault>, Fail> {
+    let opening = State::start([false; 10], 0)?;
+    let points = AxisPoints {
+        arm: Points::new(0, 1000, 0, 1000, 5)?,
+        rotation: Points::new(0, 2000, 0, 2000, 5)?,
+        turn: Points::new(0, 500, 0, 500, 5)?,
+    };
+    let gauges = (
+        move |raw: u16| line_at(&points.arm, raw),
+        move |raw: u16| line_at(&points.arm, raw),
+        move |raw: u16| line_at(&points.rotation, raw),
+        move |raw: u16| line_at(&points.turn, raw),
+        move |raw: u16| line_at(&points.arm, raw),
+    );
+    let press = Recorder::new(AT_TOP, good, BOTH_ON);
+    Ok(run_by(rt, alloc, opening, gauges, points, press, turns))
+}
+
+/// How many turns the press has before its switches clash, and the greatest number of turns of each
+/// machine. Then how the press ends: its turns, its status, and what its motor was last told, with
+/// the fault.
+type Row = (u32, u32, (u32, Status, Motor, Option<CtlFault>));
+
+const CLASH: Option<CtlFault> = Some(CtlFault::Sensor(SensorFault::Clash));
+
+// The press claims its interior and tells that it moves; from its third turn on it drives down. Its
+// switches are good throughout; or they clash in its first turn, while its motor is on, or in its
+// last turn.
+const ROWS: &[Row] = &[
+    (9, 3, (3, Status::Fine, Motor::Minus, None)),
+    (0, 6, (1, Status::Sensor, Motor::Off, CLASH)),
+    (3, 6, (4, Status::Sensor, Motor::Off, CLASH)),
+    (5, 6, (6, Status::Sensor, Motor::Off, CLASH)),
+];
+
+// Whether a machine has had all its turns, in each of which its devices were read and set once, and
+// is fine.
+fn has_gone_on<S, A>(outcome: &WiredOutcome<Recorder<S, A>>, turns: u32) -> bool {
+    let devices = &outcome.devices;
+    (outcome.turns, devices.reads, devices.sets) == (turns, turns, turns)
+        && outcome.status == Status::Fine
+}
+
+// Whether the press ends so, and its devices were neither read nor set after its last turn. The
+// others go on.
+fn ends_so<R: Threads + Wait + Sync>(rt: &R, alloc: Global, row: &Row) -> Result<bool, Fail> {
+    let (good, limit, (turns, status, motor, fault)) = *row;
+    let run = run_until_clash(rt, alloc, good, limit)??;
+    let six = &run.outcomes;
+    let press = &six.press;
+    let devices = &press.devices;
+    let is_told = devices
+        .last
+        .is_some_and(|told| told.act.press == motor && told.fault == fault);
+    Ok(
+        is_told
+            && (press.turns, devices.reads, devices.sets) == (turns, turns, turns)
+            && press.status == status
+            && has_gone_on(&six.feed, limit)
+            && has_gone_on(&six.table, limit)
+            && has_gone_on(&six.robot, limit)
+            && has_gone_on(&six.deposit, limit)
+            && has_gone_on(&six.crane, limit),
+    )
+}
+
+#[test]
+fn is_told_to_rest_when_its_sensors_clash(rt: HostRuntime) -> Result<(), Fail> {
+    for row in ROWS {
+        assert!(rt; ends_so(&rt, rt.alloc(), row)?, "{row:?}");
+    }
+    Ok(())
+}

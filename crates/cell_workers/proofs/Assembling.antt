@@ -1,0 +1,90 @@
+-- The record of what six workers gave back, whichever they are.
+use Rattle.std.proofs.Common.{◌≡◌, ℕ, Some, refl, sym, ap, subst, ◌∙◌, map}
+use Rattle.cell_types.specs.declared.machine.Machine.{Machine}
+use Rattle.cell_types.specs.declared.machine.Machine.TheVariants.{Feed, Table, Robot, Press, Deposit, Crane, Watch}
+use Rattle.cell_types.specs.Journals.{journal_of}
+use Rattle.cell_rules.specs.ModelState.{ModelState}
+use Rattle.cell_rules.specs.Journal.{noted, event_by}
+use Rattle.cell_rules.specs.Seen.{Waits}
+use Rattle.cell_rules.specs.Audited.{IsAudited}
+use Rattle.cell_interlock.specs.Views.{PassView, InterlockView}
+use Rattle.cell_interlock.specs.Fresh.{IsFresh}
+use Rattle.cell_interlock.specs.Ends.{ArePassesOf, IsEnd, pass_in}
+use Rattle.cell_workers.specs.Workers.{GateOf}
+use Rattle.cell_workers.specs.Results.{SixResults, journal_in, outcomes_in, passes_in, seen_in}
+use Rattle.cell_workers.specs.Promises.{AreAllFresh, GiveBack, GivesOf, SixPasses}
+use Rattle.cell_workers.specs.Six.{TellsSix, six_fresh}
+use Rattle.cell_workers.specs.declared.per_machine.PerMachine.{PerMachine}
+use Rattle.cell_workers.specs.declared.six.SixRecord.{SixRecord}
+
+-- six fresh passes are those of the interlock
+pub fresh_six : (i : InterlockView) (passes : SixPasses) → AreAllFresh i passes → passes ≡ six_fresh i
+fresh_six i passes k = λ x. record { feed = k.feed x; table = k.table x; robot = k.robot x; press = k.press x; deposit = k.deposit x; crane = k.crane x }
+
+module _ {W1 W2 W3 W4 W5 W6 A B C D E F : Type 0} (gives1 : GivesOf W1 A) (gives2 : GivesOf W2 B) (gives3 : GivesOf W3 C) (gives4 : GivesOf W4 D) (gives5 : GivesOf W5 E) (gives6 : GivesOf W6 F)
+    (workers : PerMachine W1 W2 W3 W4 W5 W6) (i : InterlockView) (limit : ℕ) (gate : Machine → GateOf) (results : SixResults A B C D E F)
+    (given : GiveBack gives1 gives2 gives3 gives4 gives5 gives6 workers (six_fresh i) i.tries gate limit results) (watch : PassView) (fresh : IsFresh i Watch watch) where
+  -- the passes that came back are the interlock's
+  pub own_passes : ArePassesOf i (passes_in results watch)
+  own_passes =
+      record {
+        feed = record { table = given.feed.0.same.table; machine = given.feed.0.same.machine };
+        table = record { table = given.table.0.same.table; machine = given.table.0.same.machine };
+        robot = record { table = given.robot.0.same.table; machine = given.robot.0.same.machine };
+        press = record { table = given.press.0.same.table; machine = given.press.0.same.machine };
+        deposit = record { table = given.deposit.0.same.table; machine = given.deposit.0.same.machine };
+        crane = record { table = given.crane.0.same.table; machine = given.crane.0.same.machine };
+        watch = record { table = ap (λ (v : PassView). v.table) fresh; machine = ap (λ (v : PassView). v.machine) fresh };
+      }
+
+  journal_is : (m : Machine) → journal_in results m ≡ noted i.opening (seen_in results m) m
+  journal_is Feed = given.feed.0.journal_is
+  journal_is Table = given.table.0.journal_is
+  journal_is Robot = given.robot.0.journal_is
+  journal_is Press = given.press.0.journal_is
+  journal_is Deposit = given.deposit.0.journal_is
+  journal_is Crane = given.crane.0.journal_is
+  journal_is Watch = refl
+
+  seen_back : (m : Machine) → seen_in results m ≡ (pass_in (passes_in results watch) m).seen
+  seen_back Feed = refl
+  seen_back Table = refl
+  seen_back Robot = refl
+  seen_back Press = refl
+  seen_back Deposit = refl
+  seen_back Crane = refl
+  seen_back Watch = sym (ap (λ (v : PassView). v.seen) fresh)
+
+  -- the record, with the end of the interlock
+  module _ (r : SixRecord A B C D E F) (closed : IsEnd i.opening (passes_in results watch) r.end) (journals : (m : Machine) → journal_of r.journals m ≡ journal_in results m) where
+    noted_by : (m : Machine) → noted i.opening (pass_in (passes_in results watch) m).seen m ≡ journal_of r.journals m
+    noted_by m = sym (journals m ∙ journal_is m ∙ ap (λ h. noted i.opening h m) (seen_back m))
+
+    audited : IsAudited i.opening (journal_of r.journals) (Some r.end) closed.history
+    audited =
+        let k = closed.audited in
+        record { legal = k.legal; own = λ m. k.own m ∙ ap (map (event_by m)) (noted_by m); noted = λ m. k.noted m ∙ noted_by m; ends = k.ends }
+
+    told : r.start ≡ i.opening → r.outcomes ≡ outcomes_in results → TellsSix gives1 gives2 gives3 gives4 gives5 gives6 workers i.opening i.tries limit gate r
+    told start outcomes =
+        record {
+          interlock = i;
+          opened = refl;
+          losing = refl;
+          results = results;
+          given = given;
+          outcomes = outcomes;
+          history = closed.history;
+          lawful = closed.lawful;
+          seen = λ m. subst (λ h. Waits m h closed.history) (sym (seen_back m)) (closed.passes m).seen;
+          start = start;
+          journals = λ m. journals m ∙ journal_is m;
+          audited = audited;
+          end = closed.reached;
+        }
+
+    pub tells_six : (opening : ModelState) (tries : ℕ) → i.opening ≡ opening → i.tries ≡ tries → r.start ≡ opening → r.outcomes ≡ outcomes_in results
+        → TellsSix gives1 gives2 gives3 gives4 gives5 gives6 workers opening tries limit gate r
+    tells_six opening tries opened losing start outcomes =
+        subst (λ n. TellsSix gives1 gives2 gives3 gives4 gives5 gives6 workers opening n limit gate r) losing
+        (subst (λ s. TellsSix gives1 gives2 gives3 gives4 gives5 gives6 workers s i.tries limit gate r) opened (told (start ∙ sym opened) outcomes))

@@ -1,0 +1,47 @@
+-- A worker with devices of one's own: its machine's turns, and how they end.
+use Rattle.std.specs.Prelude.{◌≡◌, ◌≢◌, ◌+◌, ℕ, true, Option, None}
+use Rattle.cell_interlock.specs.Views.{PassView}
+use Rattle.cell_interlock.specs.Lines.{PassAsks}
+use Rattle.cell_control.specs.declared.fault.CtlFault.{CtlFault}
+use Rattle.cell_control.specs.Steps.{Steps}
+use Rattle.cell_control.specs.Turns.{Turns}
+use Rattle.cell_wired.specs.declared.told.Told.{Told}
+use Rattle.cell_wired.specs.Wiring.{answered}
+use Rattle.cell_notes.specs.declared.status.Status.{Status}
+use Rattle.cell_workers.specs.Workers.{GateOf, ComesBy, Ends}
+
+-- between two turns: the pass, the progress in the program, what has stopped the machine, its devices, and how many
+-- turns it has had
+pub record WiredMoment (S D : Type 0) : Type 0 where
+  pub pass : PassView
+  pub progress : S
+  pub stopped : Option CtlFault
+  pub devices : D
+  pub turns : ℕ
+
+abbrev pub wired_moment : {S D : Type 0} → PassView → S → Option CtlFault → D → ℕ → WiredMoment S D
+wired_moment pass progress stopped devices turns = record { pass = pass; progress = progress; stopped = stopped; devices = devices; turns = turns }
+
+-- A turn of a machine that hasn't stopped, once its gate has let it in. Its sensors are read; it performs a row of its
+-- program, with one call by its pass or none; its actuators are set as it is told. If the turn stops it, it is told to
+-- rest: motors are off. Else what its motors demand holds of what its pass has seen.
+pub record TakesWiredTurn {S Sense Reading Act D : Type 0} (tries : ℕ) (t : Steps S Sense Reading Act) (shows : D → Sense → D → Type 0) (sets : D → Told Act → D → Type 0) (gate : GateOf) (before now : WiredMoment S D) : Type 0 where
+  pub runs : before.stopped ≡ None
+  pub let_in : gate before.turns true
+  pub sense : Sense
+  pub read : D
+  pub shown : shows before.devices sense read
+  pub told : Told Act
+  pub row : Turns t (now.pass ≡ before.pass) (λ c r. PassAsks tries before.pass c r now.pass) before.stopped before.progress sense (record { result = answered told.act told.fault; progress = now.progress; stopped = now.stopped })
+  pub rest : told.fault ≢ None → told.act ≡ t.rest before.progress
+  pub motor_demands : told.fault ≡ None → t.motor_demands before.progress told.act now.pass.opening now.pass.seen
+  pub set : sets read told now.devices
+  pub counted : now.turns ≡ before.turns + 1
+
+-- What a worker with devices gives back that began at this moment: by its turns, and by nothing else, it has come to
+-- this pass, this number of turns and these devices. It ends with this status.
+pub record IsWiredResult {S Sense Reading Act D : Type 0} (tries : ℕ) (t : Steps S Sense Reading Act) (shows : D → Sense → D → Type 0) (sets : D → Told Act → D → Type 0) (gate : GateOf) (limit : ℕ) (first : WiredMoment S D) (kept : PassView) (turns : ℕ) (status : Status) (devices : D) : Type 0 where
+  pub progress : S
+  pub stopped : Option CtlFault
+  pub come : ComesBy (TakesWiredTurn tries t shows sets gate) first (wired_moment kept progress stopped devices turns)
+  pub ends : Ends gate limit stopped turns status

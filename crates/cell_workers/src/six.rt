@@ -1,0 +1,151 @@
+//! Six workers over one interlock.
+ghost use Rattle.std.specs.Prelude.{◌≡◌, ◌<◌, ◌⊎◌, ◌↔◌, IfOk, IfSome, Err};
+ghost use Rattle.cell_rules.specs.Start.{IsStartState};
+ghost use Rattle.cell_interlock.specs.Fresh.{AreFresh};
+ghost use Rattle.cell_workers.specs.Six.{AreReadyAt, TellsSix, six_fresh};
+ghost use Rattle.cell_workers.specs.Promises.{AreReady, GiveBack};
+
+use crate::fault::RunFault;
+use crate::gate::Gate;
+use crate::per_machine::{PerMachine, SixResults, into_parts};
+use crate::start::WorkerContext;
+use crate::threads::run_in_threads;
+use crate::worker::Worker;
+use cell_interlock::{Interlock, Pass, Passes};
+use cell_rules::State;
+use cell_types::Journals;
+use std::alloc::Global;
+use std::sync::Wait;
+use std::thread::Threads;
+
+/// The record of six workers over one interlock.
+#[derive(Drop)]
+pub struct SixRecord<A, B, C, D, E, F> {
+    /// The state that the interlock opened with.
+    pub start: State,
+    /// What each machine noted of its settled calls; the watch's journal is empty.
+    pub journals: Journals,
+    /// The state that the interlock closed with.
+    pub end: State,
+    /// What else each worker gave back.
+    pub outcomes: PerMachine<A, B, C, D, E, F>,
+}
+
+/// Runs six workers, whose machines are the six. Each takes up to `turns` turns in a thread of its
+/// own. All six share one interlock, which opens with a start and on which a call may lose `tries`
+/// exchanges. After joining all six it closes the interlock, whose last state is the record's end.
+///
+/// The gate is told of each machine that takes no more turns: its worker has ended, or its thread
+/// couldn't be started.
+///
+/// Errors:
+/// - `Tries` if `tries` isn't 1 to 64; it is checked first;
+/// - `Memory` if there is no memory for the interlock;
+/// - `Spawn` if a thread couldn't be started; the workers that had begun have ended, and nothing is
+///   closed.
+pub fn run_workers<R, W1, W2, W3, W4, W5, W6, G>(
+    rt: &R,
+    alloc: Global,
+    workers: PerMachine<W1, W2, W3, W4, W5, W6>,
+    opening: State,
+    tries: u8,
+    turns: u32,
+    gate: &G,
+) -> Result<
+    SixRecord<W1::Outcome, W2::Outcome, W3::Outcome, W4::Outcome, W5::Outcome, W6::Outcome>,
+    RunFault,
+>
+where
+    R: Threads + Wait + Sync,
+    W1: Worker + Send,
+    W2: Worker + Send,
+    W3: Worker + Send,
+    W4: Worker + Send,
+    W5: Worker + Send,
+    W6: Worker + Send,
+    W1::Outcome: Send,
+    W2::Outcome: Send,
+    W3::Outcome: Send,
+    W4::Outcome: Send,
+    W5::Outcome: Send,
+    W6::Outcome: Send,
+    G: Gate + Sync,
+    requires start { IsStartState opening }
+    requires ready { AreReadyAt W1.is_ready W2.is_ready W3.is_ready W4.is_ready W5.is_ready W6.is_ready opening workers }
+    ensures tries { (result ≡ Err RunFault.Tries) ↔ ((tries < 1) ⊎ (64 < tries)) }
+    ensures work { IfOk result (TellsSix W1.gives_back W2.gives_back W3.gives_back W4.gives_back W5.gives_back W6.gives_back workers opening tries turns (G.may_answer gate.now)) }
+{
+    let (interlock, passes) = Interlock::new(alloc, opening, tries)?;
+    let context = WorkerContext {
+        alloc,
+        interlock: &interlock,
+        gate,
+        turns,
+    };
+    let Some((results, watch)) = work(rt, &context, passes, workers) else {
+        return Err(RunFault::Spawn);
+    };
+    let (journals, passes, outcomes) = into_parts(alloc, results, watch);
+    let ended = interlock.close(passes);
+    Ok(SixRecord {
+        start: opening,
+        journals,
+        end: ended.state,
+        outcomes,
+    })
+}
+
+// What six workers gave back, and the watch's pass, by which nobody works.
+//
+// Returns `None` if a thread couldn't be started; the workers that had begun have ended.
+fn work<R, W1, W2, W3, W4, W5, W6, G>(
+    rt: &R,
+    context: &WorkerContext<'_, G>,
+    passes: Passes,
+    workers: PerMachine<W1, W2, W3, W4, W5, W6>,
+) -> Option<
+    (
+        SixResults<W1::Outcome, W2::Outcome, W3::Outcome, W4::Outcome, W5::Outcome, W6::Outcome>,
+        Pass,
+    ),
+>
+where
+    R: Threads + Wait + Sync,
+    W1: Worker + Send,
+    W2: Worker + Send,
+    W3: Worker + Send,
+    W4: Worker + Send,
+    W5: Worker + Send,
+    W6: Worker + Send,
+    W1::Outcome: Send,
+    W2::Outcome: Send,
+    W3::Outcome: Send,
+    W4::Outcome: Send,
+    W5::Outcome: Send,
+    W6::Outcome: Send,
+    G: Gate + Sync,
+    requires fresh { AreFresh context.now.interlock.now passes }
+    requires ready { AreReady W1.is_ready W2.is_ready W3.is_ready W4.is_ready W5.is_ready W6.is_ready workers (six_fresh context.now.interlock.now) }
+    ensures worked { IfSome result (λ back. GiveBack W1.gives_back W2.gives_back W3.gives_back W4.gives_back W5.gives_back W6.gives_back workers (six_fresh context.now.interlock.now) context.now.interlock.now.tries (G.may_answer context.now.gate.now) context.now.turns back.0) }
+    ensures watch { IfSome result (λ back. back.1 ≡ passes.watch) }
+{
+    let Passes {
+        feed,
+        table,
+        robot,
+        press,
+        deposit,
+        crane,
+        watch,
+    } = passes;
+    let passes = PerMachine {
+        feed,
+        table,
+        robot,
+        press,
+        deposit,
+        crane,
+    };
+    let results = run_in_threads(rt, context, passes, workers)?;
+    Some((results, watch))
+}

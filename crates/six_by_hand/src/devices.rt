@@ -1,0 +1,218 @@
+//! The sensors and actuators of the six machines, as somebody built them who knows nothing of the
+//! simulated plant.
+use crate::axis::Axis;
+use cell_calib::{CraneSense, DepositSense, FeedSense, PressSense, RobotSense, TableSense};
+use cell_devices::{CraneAct, DepositAct, FeedAct, PressAct, RobotAct, TableAct};
+use cell_wired::Told;
+use cell_workers::Devices;
+
+/// A belt that carries one plate at a time past a light barrier.
+#[derive(Clone, Copy, Debug, Drop)]
+pub struct Belt {
+    // How far the belt has carried its plate, in tenths of a millimetre.
+    plate: u16,
+}
+
+impl Belt {
+    /// A belt with a plate at its entry, or one that waits for its plate.
+    pub fn new() -> Belt {
+        Belt { plate: 0 }
+    }
+
+    fn barrier(&self) -> bool {
+        (900..=999).contains(&self.plate)
+    }
+
+    // Runs for a turn. When it stops after the barrier, its plate has left, and the next one comes.
+    fn run(&mut self, runs: bool) {
+        if runs {
+            self.plate = self.plate.saturating_add(20);
+        } else if self.plate > 999 {
+            self.plate = 0;
+        }
+    }
+}
+
+/// The feed belt.
+#[derive(Drop)]
+pub struct FeedBelt(pub Belt);
+
+impl Devices for FeedBelt {
+    type Sense = FeedSense;
+
+    type Act = FeedAct;
+
+    fn read(&mut self) -> FeedSense {
+        FeedSense {
+            barrier: self.0.barrier(),
+        }
+    }
+
+    fn set(&mut self, told: &Told<FeedAct>) {
+        self.0.run(told.act.belt);
+    }
+}
+
+/// The deposit belt.
+#[derive(Drop)]
+pub struct DepositBelt(pub Belt);
+
+impl Devices for DepositBelt {
+    type Sense = DepositSense;
+
+    type Act = DepositAct;
+
+    fn read(&mut self) -> DepositSense {
+        DepositSense {
+            barrier: self.0.barrier(),
+        }
+    }
+
+    fn set(&mut self, told: &Told<DepositAct>) {
+        self.0.run(told.act.belt);
+    }
+}
+
+/// The elevating rotary table.
+#[derive(Drop)]
+pub struct Table {
+    height: Axis,
+    turn: Axis,
+}
+
+impl Table {
+    /// The table where its program begins: at the bottom, turned to the feed belt.
+    pub fn standing() -> Table {
+        Table {
+            height: Axis::new(0, 600),
+            turn: Axis::new(0, 500),
+        }
+    }
+}
+
+impl Devices for Table {
+    type Sense = TableSense;
+
+    type Act = TableAct;
+
+    fn read(&mut self) -> TableSense {
+        TableSense {
+            bottom: self.height.is_between(0, 10),
+            top: self.height.is_between(590, 600),
+            turn: self.turn.at(),
+        }
+    }
+
+    fn set(&mut self, told: &Told<TableAct>) {
+        self.height.drive(told.act.height);
+        self.turn.drive(told.act.rotation);
+    }
+}
+
+/// The robot. Its magnets have no sensors.
+#[derive(Drop)]
+pub struct Robot {
+    arm1: Axis,
+    arm2: Axis,
+    rotation: Axis,
+}
+
+impl Robot {
+    /// The robot where its program begins: both arms in, turned to the table.
+    pub fn standing() -> Robot {
+        Robot {
+            arm1: Axis::new(0, 1000),
+            arm2: Axis::new(0, 1000),
+            rotation: Axis::new(300, 2000),
+        }
+    }
+}
+
+impl Devices for Robot {
+    type Sense = RobotSense;
+
+    type Act = RobotAct;
+
+    fn read(&mut self) -> RobotSense {
+        RobotSense {
+            arm1: self.arm1.at(),
+            arm2: self.arm2.at(),
+            rotation: self.rotation.at(),
+        }
+    }
+
+    fn set(&mut self, told: &Told<RobotAct>) {
+        self.arm1.drive(told.act.arm1);
+        self.arm2.drive(told.act.arm2);
+        self.rotation.drive(told.act.rotation);
+    }
+}
+
+/// The press.
+#[derive(Drop)]
+pub struct Press {
+    height: Axis,
+}
+
+impl Press {
+    /// The press where its program begins: at the top.
+    pub fn standing() -> Press {
+        Press {
+            height: Axis::new(1000, 1000),
+        }
+    }
+}
+
+impl Devices for Press {
+    type Sense = PressSense;
+
+    type Act = PressAct;
+
+    fn read(&mut self) -> PressSense {
+        PressSense {
+            bottom: self.height.is_between(0, 10),
+            middle: self.height.is_between(490, 510),
+            top: self.height.is_between(990, 1000),
+        }
+    }
+
+    fn set(&mut self, told: &Told<PressAct>) {
+        self.height.drive(told.act.press);
+    }
+}
+
+/// The travelling crane. Its magnet has no sensor.
+#[derive(Drop)]
+pub struct Crane {
+    travel: Axis,
+    gripper: Axis,
+}
+
+impl Crane {
+    /// The crane where its program begins: over the deposit belt, its gripper up.
+    pub fn standing() -> Crane {
+        Crane {
+            travel: Axis::new(0, 2000),
+            gripper: Axis::new(900, 1000),
+        }
+    }
+}
+
+impl Devices for Crane {
+    type Sense = CraneSense;
+
+    type Act = CraneAct;
+
+    fn read(&mut self) -> CraneSense {
+        CraneSense {
+            deposit: self.travel.is_between(0, 10),
+            feed: self.travel.is_between(1990, 2000),
+            gripper: self.gripper.at(),
+        }
+    }
+
+    fn set(&mut self, told: &Told<CraneAct>) {
+        self.travel.drive(told.act.travel);
+        self.gripper.drive(told.act.height);
+    }
+}
