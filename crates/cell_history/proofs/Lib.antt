@@ -1,4 +1,4 @@
 mod Lines
 mod Reading
 mod Openings
-mod Answering
+pub mod Answering

@@ -1,0 +1,3 @@
+mod TellLemmas
+mod ServeLemmas
+mod LawLemmas

@@ -1,0 +1,30 @@
+use Rattle.std.proofs.Common.{◌≡◌, ◌∙◌, sym, subst, ap}
+use Rattle.cell_command.proofs.Asked.{run_asked}
+use Rattle.cell_command.specs.Words.{AskForRun, texts_of}
+use Rattle.cell_command.specs.declared.words.Mode.TheVariants.{Replay, Sim, Run}
+use Rattle.cell_recorder.proofs.ServeLemmas.{no_room, other_mode, records, unread}
+use Rattle.cell_recorder.proofs.serve.serve.Goals as goal
+
+pub returns-in_default-clause-records : goal.returns-in_default-clause-records
+returns-in_default-clause-records g c = λ turns tries k.
+    unread c.fail.result _ c.status.ensures c.fail.ensures.status _ _ _ c.fail.ensures.line turns tries
+
+pub returns-in-Ok-Run-clause-records : goal.returns-in-Ok-Run-clause-records
+returns-in-Ok-Run-clause-records g c = λ turns tries k.
+    let same = run_asked (texts_of c.as_slice.result.now) c.in-Ok-Run.field-0 c.in-Ok-Run.turns c.in-Ok-Run.tries turns tries c.in-Ok-Run.field-0-is c.in-Ok-Run.ensures.mode (subst (AskForRun turns tries) (sym (ap texts_of c.as_slice.ensures.value ∙ c.in-Ok.ensures)) k) in
+    rw (sym same.0, sym same.1)
+    (records c.record.result _ c.status-in-Ok-Run.ensures _ _ _ _ c.in-Ok-Run.turns c.in-Ok-Run.tries c.record.ensures.status c.record.ensures.well c.record.ensures.failed c.record.ensures.read)
+
+pub returns-in-Ok-Replay-clause-records : goal.returns-in-Ok-Replay-clause-records
+returns-in-Ok-Replay-clause-records g c = λ turns tries k.
+    other_mode (texts_of c.as_slice.result.now) c.in-Ok-Replay.field-0 turns tries (λ e. let lie : Replay ≡ Run turns tries = sym c.in-Ok-Replay.field-0-is ∙ e in cc) c.in-Ok-Replay.ensures.mode (subst (AskForRun turns tries) (sym (ap texts_of c.as_slice.ensures.value ∙ c.in-Ok.ensures)) k)
+
+pub returns-in-Ok-Sim-clause-records : goal.returns-in-Ok-Sim-clause-records
+returns-in-Ok-Sim-clause-records g c = λ turns tries k.
+    other_mode (texts_of c.as_slice.result.now) c.in-Ok-Sim.field-0 turns tries (λ e. let lie : Sim ≡ Run turns tries = sym c.in-Ok-Sim.field-0-is ∙ e in cc) c.in-Ok-Sim.ensures.mode (subst (AskForRun turns tries) (sym (ap texts_of c.as_slice.ensures.value ∙ c.in-Ok.ensures)) k)
+
+pub returns-clause-records : goal.returns-clause-records
+returns-clause-records g c = λ turns tries k.
+    let asked = subst (AskForRun turns tries) (sym (ap texts_of c.as_slice.ensures.value ∙ c.in-Ok.ensures)) k in
+    let none = no_room _ c.in-Err.error c.in-Err.ensures.refused asked.0 in
+    unread c.refuse.result _ c.status-in-Err.ensures (c.refuse.ensures.memory none) _ _ _ (c.refuse.ensures.line none) turns tries

@@ -1,0 +1,150 @@
+//! What the program `history` does.
+
+ghost use Rattle.std.specs.Prelude.{◌≡◌, ◌≤◌, ◌<◌, ℕ, codes, IfOk};
+ghost use Rattle.clap.specs.Words.{kind_of};
+ghost use Rattle.cell_text.specs.Input.{TakesAtMost};
+ghost use Rattle.cell_text.specs.Output.{WrotePrefix};
+ghost use Rattle.cell_config.specs.Settings.{max_bytes_read};
+ghost use Rattle.cell_command.specs.Words.{texts_of};
+ghost use Rattle.cell_program.specs.Served.{fault_line};
+ghost use Rattle.cell_recorder.specs.Served.{AskForHistory, Records, run_words as run_words_of};
+
+use crate::record::record;
+use cell_command::{Mode, read_words, words_of};
+use cell_program::exit::Exit;
+use cell_program::faults::fail;
+use cell_program::serve::refuse_bytes;
+use cell_text::write_text;
+use clap::error::ErrorKind;
+use std::alloc::{AllocError, Global};
+use std::env::Env;
+use std::io;
+use std::io::{Read, Write};
+use std::sync::Wait;
+use std::thread::Threads;
+
+/// The help.
+const HELP: &str = "\
+Runs the six machines in six threads, all at one pace, and writes what they asked
+of the interlock as a script, which `cell replay` answers as they were answered.
+
+Usage: history [--turns N] [--tries N]
+
+Reads a configuration, as `cell sim` does. Its schedule is checked but not used.
+  --turns N  Maximum of turns per machine, 1 to 100000 [default: 1000]
+  --tries N  Maximum of compare-exchanges per call, 1 to 64 [default: 8]
+Exit status: 0 on success and for help; 2 for bad arguments; otherwise 1: a refused
+input, a machine stopped by a fault, a history of more than 65536 calls, a failed
+read, write or start of a thread, or no memory.
+
+Example:
+  history < examples/six_workers.toml
+";
+
+/// Does what the words ask for, and returns the exit status. The first word is the program's name;
+/// the others are those that may follow the word `run` of `cell`. It waits until all threads have
+/// ended. The status is
+/// - 0 if all went well, and for help;
+/// - 1 for a refused input, a stopped machine, a history that is too long for a script, a failed
+///   read or write, a thread that couldn't be started, and if memory ran out;
+/// - 2 for words that `clap` refuses.
+pub fn serve<T, R: Read, W: Write>(
+    rt: &T,
+    alloc: Global,
+    words: &[&str],
+    reader: &mut R,
+    writer: &mut W,
+) -> u8
+where
+    T: Threads + Wait + Sync,
+    ensures status { result ≤ 2 }
+
+    // Of words that `clap` takes: status 0 says that the cell was run, no machine was stopped, and
+    // the script of the run's history was written, status 1 what was written.
+    ensures records { (turns tries : ℕ) → AskForHistory turns tries (texts_of words.now) →
+        Records turns tries result (R.remaining reader.old) (R.remaining reader.new)
+        (W.contents writer.old) (W.contents writer.new) }
+    ensures read { TakesAtMost (R.remaining reader.old) (R.remaining reader.new) max_bytes_read }
+{
+    let Ok(words) = run_words(alloc, words) else {
+        return fail(writer, "memory").status();
+    };
+    match read_words(alloc, words.as_slice()) {
+        Ok(Mode::Run { turns, tries }) => record(rt, alloc, turns, tries, reader, writer).status(),
+        Ok(Mode::Replay) => Exit::Refused.status(),
+        Ok(Mode::Sim) => Exit::Refused.status(),
+        Err(error) => refuse(error, writer).status(),
+    }
+}
+
+/// The words of `cell` that ask for a run with these flags.
+fn run_words<'a>(alloc: Global, words: &[&'a str]) -> Result<Vec<&'a str>, AllocError>
+    ensures { IfOk result (λ all. texts_of all.items ≡ run_words_of (texts_of words.now)) }
+{
+    let mut all = Vec::new(alloc);
+    all.push("cell")?;
+    all.push("run")?;
+    let [_, flags @ ..] = words else {
+        return Ok(all);
+    };
+    all.extend_from_slice(flags)?;
+    Ok(all)
+}
+
+/// Prints help, or why the words were refused, as far as the writer takes it.
+fn refuse<W: Write>(error: clap::Error, writer: &mut W) -> Exit
+    ensures memory { kind_of error ≡ ErrorKind.OutOfMemory → result ≡ Exit.Failed }
+    ensures line { kind_of error ≡ ErrorKind.OutOfMemory →
+        WrotePrefix (W.contents writer.old) (W.contents writer.new) (fault_line (codes "memory")) }
+{
+    let (printed, exit) = match error.kind() {
+        ErrorKind::OutOfMemory => return fail(writer, "memory"),
+        ErrorKind::DisplayHelp => (write_text(writer, HELP.as_bytes()).is_ok(), Exit::Well),
+        _ => (write!(writer, "{error}").is_ok(), Exit::Refused),
+    };
+    if printed { exit } else { Exit::Failed }
+}
+
+/// Runs the program with the words that it was started with, its input and its output, and returns
+/// the exit status.
+pub fn start<T, E: Env, R: Read, W: Write>(
+    rt: &T,
+    alloc: Global,
+    env: &E,
+    reader: &mut R,
+    writer: &mut W,
+) -> u8
+where
+    T: Threads + Wait + Sync,
+    ensures status { result ≤ 2 }
+    ensures read { TakesAtMost (R.remaining reader.old) (R.remaining reader.new) max_bytes_read }
+{
+    match serve_words(rt, alloc, env, reader, writer) {
+        Ok(status) => status,
+        Err(error) if error.kind() == io::ErrorKind::OutOfMemory => {
+            fail(writer, "memory").status()
+        }
+        Err(_) => refuse_bytes(writer).status(),
+    }
+}
+
+/// Runs the program with words that are text.
+fn serve_words<T, E: Env, R: Read, W: Write>(
+    rt: &T,
+    alloc: Global,
+    env: &E,
+    reader: &mut R,
+    writer: &mut W,
+) -> io::Result<u8>
+where
+    T: Threads + Wait + Sync,
+    ensures status { IfOk result (λ status. status ≤ 2) }
+    ensures read { TakesAtMost (R.remaining reader.old) (R.remaining reader.new) max_bytes_read }
+{
+    let words = words_of(alloc, env)?;
+    let mut texts = Vec::new(alloc);
+    for word in &words {
+        texts.push(word.as_str())?;
+    }
+    Ok(serve(rt, alloc, texts.as_slice(), reader, writer))
+}

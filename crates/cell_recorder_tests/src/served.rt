@@ -1,0 +1,53 @@
+//! The program's words, exit statuses and fault lines.
+
+use cell_recorder::serve::serve;
+use std::alloc::Global;
+use std::sync::Wait;
+use std::thread::Threads;
+
+/// Words, an input, the status, and what is written, or what it begins with if the status is 2 or
+/// help is asked for.
+type Row = (&'static [&'static str], &'static str, u8, &'static str);
+
+// With the last stamp each claim is worn, whichever thread comes first.
+const WORN: &str = "start = \"0000000000\"\nstamp = 1048575\n";
+
+// Four machines stop in their first turn. The others go on: the robot looks three times, the crane
+// twice.
+const WORN_SCRIPT: &str = "start,0000000000,1048575\nfeed,claim,z6\ntable,claim,z1\n\
+    robot,inquire,z2\nrobot,inquire,z2\nrobot,inquire,z2\npress,claim,z3\ndeposit,claim,z4\n\
+    crane,inquire,z5\ncrane,inquire,z5\n";
+
+const EMPTY: &str = "start = \"0000000000\"\n";
+
+const ROWS: &[Row] = &[
+    (&["history", "--turns", "4"], WORN, 1, WORN_SCRIPT),
+    (&["history"], "", 1, "fault config missing\n"),
+    (
+        &["history", "--turns=30000", "--tries=64"],
+        EMPTY,
+        1,
+        "fault long\n",
+    ),
+    (&["history", "--help"], EMPTY, 0, "Runs the six machines"),
+    (&["history", "--turns", "0"], EMPTY, 2, "error: "),
+    (&["history", "run"], EMPTY, 2, "error: "),
+    (&["history", "--tries", "65"], EMPTY, 2, "error: "),
+];
+
+// Whether the words are served so.
+fn is_served<T: Threads + Wait + Sync>(rt: &T, alloc: Global, row: &Row) -> bool {
+    let (words, input, status, text) = *row;
+    let mut written = Vec::new(alloc);
+    let found = serve(rt, alloc, words, &mut input.as_bytes(), &mut written);
+    let is_whole = status == 1;
+    let has_text = written.as_slice().starts_with(text.as_bytes());
+    found == status && has_text && (!is_whole || written.len() == text.len())
+}
+
+#[test]
+fn is_served_as_cell_serves(rt: HostRuntime) {
+    for row in ROWS {
+        assert!(rt; is_served(&rt, rt.alloc(), row), "{row:?}");
+    }
+}
