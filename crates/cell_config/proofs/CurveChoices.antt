@@ -7,7 +7,7 @@ use Rattle.toml.specs.Data.{Data, Items, string, integer, float, boolean, dateti
 use Rattle.toml.specs.View.{view, items_of, items_view}
 use Rattle.toml.specs.declared.value.Value.{Value}
 use Rattle.cell_calib.specs.Scale.{Scale}
-use Rattle.cell_calib.specs.Curve.{Pair, IsCurve, Curved, pairs_of}
+use Rattle.cell_calib.specs.Curve.{Pair, HasCount, IsCurve, Curved, pairs_of}
 use Rattle.cell_calib.specs.CurveTests.{is_curve}
 use Rattle.cell_calib.proofs.CurveTestLemmas.{passes_as_curve, curve_of_pass}
 use Rattle.cell_config.specs.Settings.{curve_of, curve_within, is_measured, is_pair, measured_of, pairs_in, values_in}
@@ -46,11 +46,15 @@ all_counted : (values : List Data) → list_all is_measured values ≡ true → 
 all_counted [] h = refl
 all_counted (value ∷ more) h = length_put (measured_of value) (filter_map measured_of more) (left _ _ h) ∙ ap suc (all_counted more (right _ _ h))
 
+-- more values than a curve has pairs, all of which fit, are too many pairs
+pub beyond_count : (vs : List Value) → 32 < length vs → list_all is_measured (map view vs) ≡ true → HasCount (filter_map measured_of (map view vs)) → ⊥
+beyond_count vs h all count = absurd (omega (arith, count.most, all_counted (map view vs) all, length-map vs view))
+
 pub too_many : (s : Scale) (vs : List Value) → 32 < length vs → curve_within s (map view vs) ≡ Err Range
 too_many s vs h = by_cases (list_all is_measured (map view vs)) refl
   where
     by_cases : (b : Bool) → list_all is_measured (map view vs) ≡ b → curve_within s (map view vs) ≡ Err Range
-    by_cases true all = by_fit s (map view vs) true all ∙ no_curve s (filter_map measured_of (map view vs)) (λ curve. absurd (omega (arith, curve.number.most, all_counted (map view vs) all, length-map vs view)))
+    by_cases true all = by_fit s (map view vs) true all ∙ no_curve s (filter_map measured_of (map view vs)) (λ curve. beyond_count vs h all curve.number)
     by_cases false some = by_fit s (map view vs) false some
 
 -- ---- arrays of values

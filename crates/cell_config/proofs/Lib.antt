@@ -2,5 +2,6 @@ mod LetterLemmas
 mod SettingsLemmas
 mod MeasuredLemmas
 mod CurveChoices
+pub mod SectionOrder
 pub mod ConfigRows
 pub mod LimitLaws

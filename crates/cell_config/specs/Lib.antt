@@ -2,6 +2,7 @@ pub mod Steps
 pub mod Letters
 pub mod Keys
 pub mod Settings
+pub mod RefusedSections
 pub mod Configured
 pub mod ConfigWords
 pub mod ConfigExamples

@@ -6,6 +6,7 @@ pub mod configuration;
 pub mod fault;
 mod keys;
 pub mod laws;
+pub mod refused_sections;
 mod schedules;
 mod sections;
 mod starts;
@@ -13,3 +14,4 @@ mod values;
 
 pub use configuration::{Config, read_config};
 pub use fault::ConfigFault;
+pub use refused_sections::{SectionFault, SectionKey, check_sections};

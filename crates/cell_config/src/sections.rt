@@ -24,7 +24,7 @@ const RAW: (u16, u16) = (0, 4000);
 const TOL: u32 = 5;
 
 /// The most pairs of a curve.
-const MAX_PAIRS: usize = 32;
+pub const MAX_PAIRS: usize = 32;
 
 /// The numbers of an array of exactly two whole numbers.
 fn pair_of(value: &Value) -> Option<(i64, i64)>
@@ -60,7 +60,7 @@ fn raw_within(pair: (i64, i64), end: i32) -> Result<(u16, u16), ConfigFault>
 }
 
 /// The raw values in a section's key `raw`.
-fn raw_at(section: &Table, end: i32) -> Result<(u16, u16), ConfigFault>
+pub fn raw_at(section: &Table, end: i32) -> Result<(u16, u16), ConfigFault>
     requires { settings.IsAxisEnd end }
     ensures value { result ≡ settings.raw_at end (table_view section.now) }
     ensures wide { IfOk result (λ raw. end ≤ℤ (pos raw.1 -ℤ pos raw.0)) }
@@ -74,8 +74,16 @@ fn raw_at(section: &Table, end: i32) -> Result<(u16, u16), ConfigFault>
     raw_within(pair, end)
 }
 
+/// The tolerance in a section's key `tol`.
+pub fn tol_at(section: &Table) -> Result<u32, ConfigFault>
+    ensures value { result ≡ settings.tol_at (table_view section.now) }
+    ensures limits { IfOk result (λ tol. (1 ≤ tol) × (tol ≤ 10)) }
+{
+    number_at(section, "tol", 1, 10, TOL)
+}
+
 /// The points of an axis from 0 to its end.
-fn points_of(raw: (u16, u16), end: i32, tol: u32) -> Points
+pub fn points_of(raw: (u16, u16), end: i32, tol: u32) -> Points
     requires end { settings.IsAxisEnd end }
     requires wide { end ≤ℤ (pos raw.1 -ℤ pos raw.0) }
     requires tol { (1 ≤ tol) × (tol ≤ 10) }
@@ -115,7 +123,7 @@ fn are_pairs(values: &[Value]) -> bool
 }
 
 /// The values of an array of pairs of whole numbers.
-fn pairs_in(value: &Value) -> Option<&[Value]>
+pub fn pairs_in(value: &Value) -> Option<&[Value]>
     ensures { option_map (λ values. map view values.now) result
         ≡ settings.pairs_in (view value.now) }
 {
@@ -129,7 +137,7 @@ fn pairs_in(value: &Value) -> Option<&[Value]>
 }
 
 /// An array that begins with the measured pairs of some values, or none if one doesn't fit.
-fn measured_pairs(values: &[Value]) -> Option<[(u16, i32); MAX_PAIRS]>
+pub fn measured_pairs(values: &[Value]) -> Option<[(u16, i32); MAX_PAIRS]>
     requires { length values.now ≤ 32 }
     ensures { MatchOption result
         (list_all settings.is_measured (map view values.now) ≡ false)
@@ -181,7 +189,7 @@ fn curve_within(points: Points, values: &[Value]) -> Result<Curve, ConfigFault>
 ///
 /// `Kind` if the value is no array of pairs of whole numbers; `Range` if a number doesn't fit, or
 /// the pairs make no curve near the line of `points`.
-fn curve_at(section: &Table, points: Points) -> Result<Curve, ConfigFault>
+pub fn curve_at(section: &Table, points: Points) -> Result<Curve, ConfigFault>
     ensures value { MatchResult result
         (λ c. settings.pairs_at points (table_view section.now) ≡ Ok (pairs_of c))
         (λ fault. settings.pairs_at points (table_view section.now) ≡ Err fault) }
@@ -205,7 +213,7 @@ fn section_of(section: &Table, end: i32) -> Result<Curve, ConfigFault>
     ensures axis { IfOk result (λ c. IsAxisScale end c.scale) }
 {
     let raw = raw_at(section, end)?;
-    let tol = number_at(section, "tol", 1, 10, TOL)?;
+    let tol = tol_at(section)?;
     curve_at(section, points_of(raw, end, tol))
 }
 

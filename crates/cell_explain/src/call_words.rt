@@ -63,14 +63,14 @@ pub fn push_bad_row(
     script: &[u8],
     number: u32,
 ) -> Result<(), AllocError> {
-    let Some(record) = record_at(alloc, script, number) else {
+    let Some(record) = record_at(alloc, script, number)? else {
         return words.push_str("it is no call");
     };
     let Some(machine) = field_of(&record, 0) else {
         return words.push_str("it is no call");
     };
     if machine.bytes.starts_with(b"#".as_slice()) {
-        return machine.push_wrong(words, ": a script has no comments; delete the line");
+        return machine.push_comment(words);
     }
     if is_version(machine.bytes) {
         return machine.push_wrong(words, " begins a script; it stands in record 0 alone");
@@ -79,14 +79,15 @@ pub fn push_bad_row(
         let machines = Machine::ALL.map(|machine| machine.word());
         return machine.push_unknown(alloc, words, "machine", &machines);
     }
-    push_bad_call(alloc, words, &record, is_first_version(alloc, script))
+    let is_first = is_first_version(alloc, script)?;
+    push_bad_call(alloc, words, &record, is_first)
 }
 
 /// Whether a script can't stop the cell.
-fn is_first_version(alloc: Global, script: &[u8]) -> bool {
-    match record_at(alloc, script, 0) {
-        Some(record) => record.row.get(0) == Some(b"start".as_slice()),
-        None => false,
+fn is_first_version(alloc: Global, script: &[u8]) -> Result<bool, AllocError> {
+    match record_at(alloc, script, 0)? {
+        Some(record) => Ok(record.row.get(0) == Some(b"start".as_slice())),
+        None => Ok(false),
     }
 }
 

@@ -1,248 +1,209 @@
 //! What is wrong with a configuration, in words. They are only tested: no contract says what they
 //! say.
 
-use crate::nearest::push_suggestion;
-use crate::quoted::push_quoted;
+use crate::key_places::{KeyPlace, Source, key_places};
+use crate::quoted::{push_quoted, push_quoted_char};
 use crate::records::line_at;
+use crate::section_words::push_refused_section;
 use crate::start_words::push_plate_count;
-use cell_config::ConfigFault;
-use cell_rules::read_places;
+use crate::unknown_keys::push_unknown;
+use cell_config::{ConfigFault, check_sections};
+use cell_rules::{LAST_STAMP, read_places};
 use std::alloc::{AllocError, Global};
-use toml::{Table, Value};
+use std::str;
+use toml::Table;
 
-/// The keys outside of sections, with those of the sections.
-const KEYS: [&str; 8] = [
-    "start", "stamp", "schedule", "arm1", "arm2", "rotation", "turn", "gripper",
-];
-
-/// The keys of the sections.
-const SECTIONS: [&str; 5] = ["arm1", "arm2", "rotation", "turn", "gripper"];
-
-/// The keys of a section.
-const INNER_KEYS: [&str; 3] = ["raw", "tol", "points"];
+/// The most letters of a schedule.
+const MOST_LETTERS: usize = 1_000_000;
 
 /// The letters of a schedule.
 const LETTERS: &[u8] = b"ftrpdcwFTRPDCW";
 
+/// What the key `start` takes.
+const START_TAKES: &str = "start takes a text of ten digits; put quotes round them";
+
+/// What the key `stamp` takes.
+const STAMP_TAKES: &str = "stamp takes a whole number, without quotes";
+
+/// What the key `schedule` takes.
+const SCHEDULE_TAKES: &str = "schedule takes a text; put quotes round the letters";
+
 /// What is wrong with a configuration that is refused for this fault: a line.
 pub fn config_words(alloc: Global, bytes: &[u8], fault: ConfigFault) -> Result<String, AllocError> {
     let mut words = String::new(alloc);
-    match toml::table_from_slice(alloc, bytes) {
-        Ok(table) => push_table_words(alloc, &mut words, bytes, &table, fault)?,
-        Err(error) => {
-            if fault == ConfigFault::Long {
-                words.push_str("it has more than 2097152 bytes")?;
-            } else {
-                let start = error.span().map_or(0, |span| span.start);
-                let line = line_at(bytes, start);
-                let message = error.message();
-                write!(words, "line {line}: it is no TOML: {message}")?;
-            }
-        }
+    if fault == ConfigFault::Long {
+        words.push_str("it has more than 2097152 bytes")?;
+    } else {
+        push_text_words(alloc, &mut words, bytes, fault)?;
     }
     words.push('\n')?;
     Ok(words)
+}
+
+/// Adds what is wrong with a text that isn't too long.
+fn push_text_words(
+    alloc: Global,
+    words: &mut String,
+    bytes: &[u8],
+    fault: ConfigFault,
+) -> Result<(), AllocError> {
+    let places = match str::from_utf8(bytes) {
+        Ok(text) => key_places(alloc, text)?,
+        Err(_) => Vec::new(alloc),
+    };
+    let source = Source {
+        bytes,
+        places: places.as_slice(),
+    };
+    match toml::table_from_slice(alloc, bytes) {
+        Ok(table) => push_table_words(alloc, words, source, &table, fault),
+        Err(error) if error.is_memory() => Err(AllocError),
+        Err(error) => {
+            let before = error.span().map_or(0, |span| span.start);
+            push_no_toml(words, source, before, error.message())
+        }
+    }
+}
+
+/// Adds why a text is no TOML, and the line on which that is found: that of the byte after this
+/// number of bytes. In the value of a key it adds where that begins, or what the key takes.
+fn push_no_toml(
+    words: &mut String,
+    source: Source<'_>,
+    before: usize,
+    message: &str,
+) -> Result<(), AllocError> {
+    source.push_line_at(words, before)?;
+    write!(words, "it is no TOML: {message}")?;
+    let Some(place) = source.place_around(before) else {
+        return Ok(());
+    };
+    let line = line_at(source.bytes, place.key);
+    if line < line_at(source.bytes, before) {
+        return push_open_value(words, place, line);
+    }
+    match taken_by(place) {
+        Some(takes) => write!(words, "; {takes}"),
+        None => Ok(()),
+    }
+}
+
+/// Adds that a key's value begins on an earlier line.
+fn push_open_value(words: &mut String, place: &KeyPlace, line: usize) -> Result<(), AllocError> {
+    let name = place.names.last().map_or("", |name| name.as_str());
+    words.push_str("; the value of ")?;
+    push_quoted(words, name.as_bytes())?;
+    write!(words, " begins on line {line}")
+}
+
+/// What a key outside of sections takes, if it is one.
+fn taken_by(place: &KeyPlace) -> Option<&'static str> {
+    let [name] = place.names.as_slice() else {
+        return None;
+    };
+    match name.as_str() {
+        "start" => Some(START_TAKES),
+        "stamp" => Some(STAMP_TAKES),
+        "schedule" => Some(SCHEDULE_TAKES),
+        _ => None,
+    }
 }
 
 /// Adds what is wrong with a table.
 fn push_table_words(
     alloc: Global,
     words: &mut String,
-    bytes: &[u8],
+    source: Source<'_>,
     table: &Table,
     fault: ConfigFault,
 ) -> Result<(), AllocError> {
     match fault {
-        ConfigFault::Long => words.push_str("it has more than 2097152 bytes"),
-        ConfigFault::Unknown => push_unknown(alloc, words, bytes, table),
+        ConfigFault::Unknown => push_unknown(alloc, words, source, table),
         ConfigFault::Missing => {
             words.push_str("there is no key start, such as start = \"0000000000\"")
         }
-        ConfigFault::Kind => push_wrong_key(words, bytes, wrong_kind(table)),
-        ConfigFault::Range => push_wrong_key(words, bytes, wrong_range(table)),
-        ConfigFault::Start => push_wrong_start(words, bytes, table),
-        ConfigFault::Letter => push_wrong_letter(words, bytes, table),
-        ConfigFault::Text | ConfigFault::Read | ConfigFault::Memory => {
+        ConfigFault::Kind => push_wrong_kind(words, source, table),
+        ConfigFault::Range => push_wrong_range(words, source, table),
+        ConfigFault::Start => push_wrong_start(words, source, table),
+        ConfigFault::Letter => push_wrong_letter(words, source, table),
+        ConfigFault::Long | ConfigFault::Text | ConfigFault::Read | ConfigFault::Memory => {
             words.push_str("it is no TOML")
         }
     }
 }
 
-/// Adds the line on which a text first stands.
-fn push_line(words: &mut String, bytes: &[u8], part: &[u8]) -> Result<(), AllocError> {
-    let line = line_of(bytes, part);
-    write!(words, "line {line}: ")
-}
-
-/// The line on which a text first stands; the first line, if it doesn't.
-fn line_of(bytes: &[u8], part: &[u8]) -> usize {
-    for before in 0..bytes.len() {
-        if bytes[before..].starts_with(part) {
-            return line_at(bytes, before);
-        }
-    }
-    1
-}
-
-/// Adds the first key that is unknown, and the nearest known one.
-fn push_unknown(
-    alloc: Global,
+/// Adds the first key whose value has another kind.
+fn push_wrong_kind(
     words: &mut String,
-    bytes: &[u8],
+    source: Source<'_>,
     table: &Table,
 ) -> Result<(), AllocError> {
-    for (key, value) in table.iter() {
-        let key = key.as_str();
-        if !KEYS.contains(&key) {
-            return push_unknown_key(alloc, words, bytes, key, &KEYS);
-        }
-        if let Some(section) = value.as_table() {
-            for (inner, _) in section.iter() {
-                let inner = inner.as_str();
-                if KEYS.contains(&inner) {
-                    push_line(words, bytes, inner.as_bytes())?;
-                    return write!(
-                        words,
-                        "{inner} stands in the section {key}; move it above the first section"
-                    );
-                }
-                if !INNER_KEYS.contains(&inner) {
-                    return push_unknown_key(alloc, words, bytes, inner, &INNER_KEYS);
-                }
-            }
-        }
+    if has_value(table, "start") && text_at(table, "start").is_none() {
+        source.push_line(words, &["start"])?;
+        return words.push_str(START_TAKES);
     }
-    words.push_str("a key is unknown")
+    if has_value(table, "stamp") && number_at(table, "stamp").is_none() {
+        source.push_line(words, &["stamp"])?;
+        return words.push_str(STAMP_TAKES);
+    }
+    if has_value(table, "schedule") && text_at(table, "schedule").is_none() {
+        source.push_line(words, &["schedule"])?;
+        return words.push_str(SCHEDULE_TAKES);
+    }
+    match check_sections(table) {
+        Err((section, fault)) => push_refused_section(words, source, section, fault),
+        Ok(()) => words.push_str("a value isn't of its key's kind"),
+    }
 }
 
-/// Adds that a key is unknown.
-fn push_unknown_key(
-    alloc: Global,
+/// Adds the first key whose value is out of range.
+fn push_wrong_range(
     words: &mut String,
-    bytes: &[u8],
-    key: &str,
-    known: &[&'static str],
+    source: Source<'_>,
+    table: &Table,
 ) -> Result<(), AllocError> {
-    push_line(words, bytes, key.as_bytes())?;
-    push_quoted(words, key.as_bytes())?;
-    words.push_str(" is no key here")?;
-    push_suggestion(alloc, words, key.as_bytes(), known)
-}
-
-/// A key whose value is wrong, and what it takes.
-#[derive(Clone, Copy)]
-struct WrongKey {
-    key: &'static str,
-    takes: &'static str,
-}
-
-fn wrong(key: &'static str, takes: &'static str) -> WrongKey {
-    WrongKey { key, takes }
-}
-
-/// Adds a key whose value is wrong, and what it takes.
-fn push_wrong_key(words: &mut String, bytes: &[u8], found: WrongKey) -> Result<(), AllocError> {
-    let WrongKey { key, takes } = found;
-    push_line(words, bytes, key.as_bytes())?;
-    write!(words, "{key} {takes}")
-}
-
-/// The first key whose value has another kind.
-fn wrong_kind(table: &Table) -> WrongKey {
-    if table
-        .get("start")
-        .is_some_and(|value| value.as_str().is_none())
-    {
-        return wrong("start", "takes a text of ten digits; put quotes round them");
+    let last = i64::from(LAST_STAMP);
+    if number_at(table, "stamp").is_some_and(|stamp| !(0..=last).contains(&stamp)) {
+        source.push_line(words, &["stamp"])?;
+        return write!(words, "stamp is out of range: it takes 0 to {last}");
     }
-    if table
-        .get("stamp")
-        .is_some_and(|value| value.as_integer().is_none())
-    {
-        return wrong("stamp", "takes a whole number, without quotes");
+    if text_at(table, "schedule").is_some_and(|text| text.chars().count() > MOST_LETTERS) {
+        source.push_line(words, &["schedule"])?;
+        return write!(
+            words,
+            "schedule is too long: it takes at most {MOST_LETTERS} letters"
+        );
     }
-    if table
-        .get("schedule")
-        .is_some_and(|value| value.as_str().is_none())
-    {
-        return wrong("schedule", "takes a text; put quotes round the letters");
-    }
-    for key in SECTIONS {
-        let Some(value) = table.get(key) else {
-            continue;
-        };
-        let Some(section) = value.as_table() else {
-            return wrong(key, "takes a section with the keys raw, tol and points");
-        };
-        if section.get("raw").is_some_and(|raw| !is_pair(raw)) {
-            return wrong(
-                key,
-                "has a wrong raw: it takes two whole numbers, such as [0, 4000]",
-            );
-        }
-        if section
-            .get("tol")
-            .is_some_and(|tol| tol.as_integer().is_none())
-        {
-            return wrong(key, "has a wrong tol: it takes a whole number, 1 to 10");
-        }
-    }
-    wrong(
-        "points",
-        "takes pairs of whole numbers, such as [[0, 0], [4000, 1000]]",
-    )
-}
-
-/// Whether a value is two whole numbers.
-fn is_pair(value: &Value) -> bool {
-    match value.as_array() {
-        Some(items) => match items.as_slice() {
-            [low, high] => low.as_integer().is_some() && high.as_integer().is_some(),
-            _ => false,
-        },
-        None => false,
+    match check_sections(table) {
+        Err((section, fault)) => push_refused_section(words, source, section, fault),
+        Ok(()) => words.push_str("a value is out of range"),
     }
 }
 
-/// The first key whose value is out of range.
-fn wrong_range(table: &Table) -> WrongKey {
-    let stamp = table.get("stamp").and_then(|value| value.as_integer());
-    if stamp.is_some_and(|stamp| !(0..=1_048_575).contains(&stamp)) {
-        return wrong("stamp", "is out of range: it takes 0 to 1048575");
-    }
-    let schedule = table.get("schedule").and_then(|value| value.as_str());
-    if schedule.is_some_and(|text| text.len() > 1_000_000) {
-        return wrong("schedule", "is too long: it takes at most 1000000 letters");
-    }
-    for key in SECTIONS {
-        let Some(section) = table.get(key).and_then(|value| value.as_table()) else {
-            continue;
-        };
-        let tol = section.get("tol").and_then(|value| value.as_integer());
-        if tol.is_some_and(|tol| !(1..=10).contains(&tol)) {
-            return wrong(key, "has a tol out of range: it takes 1 to 10");
-        }
-        if section.get("points").is_some() {
-            return wrong(
-                key,
-                "has raw or points out of range: 2 to 32 pairs, raw rising from end to end, positions near the line",
-            );
-        }
-        if section.get("raw").is_some() {
-            return wrong(
-                key,
-                "has raw out of range: 0 to 65535, the second greater by the axis' length or more",
-            );
-        }
-    }
-    wrong("points", "are out of range")
+/// Whether there is a key at the top.
+fn has_value(table: &Table, key: &str) -> bool {
+    table.get(key).is_some()
+}
+
+/// The text at a key, if there is one.
+fn text_at<'a>(table: &'a Table, key: &str) -> Option<&'a str> {
+    table.get(key)?.as_str()
+}
+
+/// The whole number at a key, if there is one.
+fn number_at(table: &Table, key: &str) -> Option<i64> {
+    table.get(key)?.as_integer()
 }
 
 /// Adds why `start` is none.
-fn push_wrong_start(words: &mut String, bytes: &[u8], table: &Table) -> Result<(), AllocError> {
-    push_line(words, bytes, b"start")?;
-    let Some(text) = table.get("start").and_then(|value| value.as_str()) else {
-        return words.push_str("start takes ten digits");
+fn push_wrong_start(
+    words: &mut String,
+    source: Source<'_>,
+    table: &Table,
+) -> Result<(), AllocError> {
+    source.push_line(words, &["start"])?;
+    let Some(text) = text_at(table, "start") else {
+        return words.push_str(START_TAKES);
     };
     push_quoted(words, text.as_bytes())?;
     if read_places(text.as_bytes()).is_some() {
@@ -255,19 +216,60 @@ fn push_wrong_start(words: &mut String, bytes: &[u8], table: &Table) -> Result<(
     )
 }
 
-/// Adds the first character of the schedule that is no letter.
-fn push_wrong_letter(words: &mut String, bytes: &[u8], table: &Table) -> Result<(), AllocError> {
-    push_line(words, bytes, b"schedule")?;
-    let Some(text) = table.get("schedule").and_then(|value| value.as_str()) else {
-        return words.push_str("the schedule has a wrong letter");
-    };
-    for (i, letter) in text.as_bytes().iter().enumerate() {
-        if !LETTERS.contains(letter) {
+/// Adds the first character of the schedule that is no letter, and its line.
+fn push_wrong_letter(
+    words: &mut String,
+    source: Source<'_>,
+    table: &Table,
+) -> Result<(), AllocError> {
+    if let Some(place) = source.place_of(&["schedule"]) {
+        let value = source.bytes.get(place.value..).unwrap_or(&[]);
+        let letters = letters_before(value);
+        source.push_line_at(words, place.value.saturating_add(letters))?;
+    }
+    let text = text_at(table, "schedule").unwrap_or("");
+    for (i, letter) in text.chars().enumerate() {
+        if !is_letter(letter) {
             let number = i.saturating_add(1);
             write!(words, "character {number} of the schedule, ")?;
-            push_quoted(words, &[*letter])?;
+            push_quoted_char(words, letter)?;
             return words.push_str(", is no letter: known are f t r p d c w and their capitals");
         }
     }
     words.push_str("the schedule has a wrong letter")
+}
+
+/// Whether a character is a letter of a schedule.
+fn is_letter(letter: char) -> bool {
+    LETTERS.iter().any(|known| char::from(*known) == letter)
+}
+
+/// How many bytes of a text in quotes are before its first character that is no letter. The text may
+/// have several lines.
+fn letters_before(value: &[u8]) -> usize {
+    let mut rest = after_opening(value);
+    for _ in 0..value.len() {
+        rest = match rest {
+            [b'\\', b' ' | b'\t' | b'\r' | b'\n', ..] if value.first() == Some(&b'"') => {
+                rest[1..].trim_ascii_start()
+            }
+            [byte, more @ ..] if LETTERS.contains(byte) => more,
+            _ => break,
+        };
+    }
+    value.len().saturating_sub(rest.len())
+}
+
+/// What follows the quotes that open a text, and the line end after three of them.
+fn after_opening(value: &[u8]) -> &[u8] {
+    match value {
+        [b'"', b'"', b'"', b'\r', b'\n', rest @ ..] => rest,
+        [b'\'', b'\'', b'\'', b'\r', b'\n', rest @ ..] => rest,
+        [b'"', b'"', b'"', b'\n', rest @ ..] => rest,
+        [b'\'', b'\'', b'\'', b'\n', rest @ ..] => rest,
+        [b'"', b'"', b'"', rest @ ..] => rest,
+        [b'\'', b'\'', b'\'', rest @ ..] => rest,
+        [_, rest @ ..] => rest,
+        [] => value,
+    }
 }

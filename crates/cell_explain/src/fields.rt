@@ -4,7 +4,7 @@ use crate::nearest::push_suggestion;
 use crate::quoted::push_quoted;
 use std::alloc::{AllocError, Global};
 
-/// A field, and where it is: the line of its record, and its number. The first field is 1.
+/// A field, and where it is: the line on which it begins, and its number. The first field is 1.
 #[derive(Clone, Copy)]
 pub struct Field<'a> {
     pub line: usize,
@@ -35,6 +35,12 @@ impl Field<'_> {
         push_suggestion(alloc, words, self.bytes, known)
     }
 
+    /// Adds that the field begins a comment.
+    pub fn push_comment(self, words: &mut String) -> Result<(), AllocError> {
+        self.push_place(words)?;
+        words.push_str(": a script has no comments; delete the line")
+    }
+
     /// Adds what is wrong with the field, and what it is to be.
     pub fn push_wrong(self, words: &mut String, wrong: &str) -> Result<(), AllocError> {
         self.push_place(words)?;
@@ -51,6 +57,9 @@ pub fn look(field: &[u8]) -> &'static str {
     if field.starts_with(b"\xef\xbb\xbf".as_slice()) {
         return ": it begins with a byte order mark";
     }
+    if field.contains(&0) {
+        return ": it has bytes 0; is the file UTF-16? Save it as UTF-8";
+    }
     if field.contains(&b'\n') || field.contains(&b'\r') {
         return ": it goes past the end of a line; is a quote left open?";
     }
@@ -63,7 +72,7 @@ pub fn look(field: &[u8]) -> &'static str {
     look_at_blanks(field)
 }
 
-/// What catches the eye in a field with blanks, capitals or bytes that aren't ASCII.
+/// What catches the eye in a field with blanks or capitals.
 fn look_at_blanks(field: &[u8]) -> &'static str {
     if field.trim_ascii_start().len() < field.len() {
         return ": it begins with a blank";
@@ -79,9 +88,6 @@ fn look_at_blanks(field: &[u8]) -> &'static str {
     }
     if field.iter().any(|byte| byte.is_ascii_uppercase()) {
         return ": words are lower case";
-    }
-    if field.contains(&0) {
-        return ": it has bytes 0; is the file UTF-16? Save it as UTF-8";
     }
     ""
 }

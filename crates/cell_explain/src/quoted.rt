@@ -17,6 +17,13 @@ pub fn push_quoted(text: &mut String, part: &[u8]) -> Result<(), AllocError> {
     text.push_str(if is_cut { "..\"" } else { "\"" })
 }
 
+/// Adds a character of the input between quotes.
+pub fn push_quoted_char(text: &mut String, letter: char) -> Result<(), AllocError> {
+    text.push('"')?;
+    push_char(text, letter)?;
+    text.push('"')
+}
+
 /// Adds the first characters. Returns whether there are more.
 fn push_chars(text: &mut String, chars: &str) -> Result<bool, AllocError> {
     for letter in chars.chars().take(MOST_SHOWN) {

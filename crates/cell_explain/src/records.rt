@@ -1,7 +1,10 @@
 //! Finds a record of a script again.
 
-use csv::{ByteRecord, ReaderBuilder};
-use std::alloc::Global;
+use csv::{ByteRecord, Reader, ReaderBuilder};
+use std::alloc::{AllocError, Global};
+
+/// The byte order mark, which is dropped at the very start of a script.
+const BYTE_ORDER_MARK: &[u8] = b"\xef\xbb\xbf";
 
 /// A record of a script, and the line on which it begins. The first line is 1.
 #[derive(Drop)]
@@ -10,33 +13,48 @@ pub struct Record {
     pub line: usize,
 }
 
-/// The record with this number, if it can be found again.
-pub fn record_at(alloc: Global, script: &[u8], number: u32) -> Option<Record> {
+/// The record with this number, if there is one.
+pub fn record_at(alloc: Global, script: &[u8], number: u32) -> Result<Option<Record>, AllocError> {
     let mut reader = ReaderBuilder::new()
         .has_headers(false)
         .flexible(true)
         .from_reader(alloc, script);
     let mut row = ByteRecord::new(alloc);
     for _ in 0..number {
-        if !reader.read_byte_record(&mut row).ok()? {
-            return None;
+        if !read_next(&mut reader, &mut row)? {
+            return Ok(None);
         }
     }
-    if !reader.read_byte_record(&mut row).ok()? {
-        return None;
+    if !read_next(&mut reader, &mut row)? {
+        return Ok(None);
     }
-    let before = row.position()?.byte() as usize;
+    let before = match row.position() {
+        Some(position) => position.byte() as usize,
+        None => 0,
+    };
     let line = line_after(script, before);
-    Some(Record { row, line })
+    Ok(Some(Record { row, line }))
 }
 
-/// The line of the first byte that ends no line, after this number of bytes.
+/// Reads the next record. Returns whether there is one. Memory alone can run out: a slice is always
+/// read, and a record may have any number of fields and any bytes.
+fn read_next(reader: &mut Reader<&[u8]>, row: &mut ByteRecord) -> Result<bool, AllocError> {
+    match reader.read_byte_record(row) {
+        Ok(found) => Ok(found),
+        Err(_) => Err(AllocError),
+    }
+}
+
+/// The line of the first byte that ends no line, after this number of bytes and a byte order mark.
 fn line_after(script: &[u8], before: usize) -> usize {
-    let before = before.min(script.len());
-    let (skipped, rest) = script.split_at(before);
+    let before = if script.starts_with(BYTE_ORDER_MARK) {
+        before.max(BYTE_ORDER_MARK.len())
+    } else {
+        before
+    };
+    let rest = script.get(before..).unwrap_or(&[]);
     let blank = rest.iter().take_while(|byte| is_line_end(**byte)).count();
-    let ends = line_ends(skipped).saturating_add(line_ends(&rest[..blank]));
-    ends.saturating_add(1)
+    line_at(script, before.saturating_add(blank))
 }
 
 /// The line of the byte after this number of bytes.
@@ -44,12 +62,13 @@ pub fn line_at(bytes: &[u8], before: usize) -> usize {
     line_ends(&bytes[..before.min(bytes.len())]).saturating_add(1)
 }
 
+/// Whether a byte ends a line.
 fn is_line_end(byte: u8) -> bool {
     byte == b'\n' || byte == b'\r'
 }
 
 /// How many lines end in these bytes, by LF, CR or CRLF.
-fn line_ends(bytes: &[u8]) -> usize {
+pub fn line_ends(bytes: &[u8]) -> usize {
     let mut count = 0usize;
     let mut last = b' ';
     for byte in bytes {

@@ -1,8 +1,8 @@
 //! What is wrong with record 0 of a script.
 
 use crate::fields::Field;
-use crate::records::{Record, record_at};
-use cell_rules::read_places;
+use crate::records::{Record, line_ends, record_at};
+use cell_rules::{LAST_STAMP, read_places};
 use cell_types::Machine;
 use std::alloc::{AllocError, Global};
 
@@ -15,6 +15,9 @@ const VERSIONS: [&str; 2] = ["start", "start2"];
 /// The most fields of a start.
 const MOST_FIELDS: usize = 3;
 
+/// The most digits of a stamp.
+const MOST_DIGITS: usize = 7;
+
 /// The most plates of a start.
 const MOST_PLATES: usize = 6;
 
@@ -23,22 +26,22 @@ pub fn push_no_start(alloc: Global, words: &mut String, script: &[u8]) -> Result
     if is_utf16(script) {
         return words.push_str("line 1: the script seems to be UTF-16; save it as UTF-8");
     }
-    let Some(record) = record_at(alloc, script, 0) else {
-        write!(words, "line 1: there is none; {EXAMPLE}")?;
-        return Ok(());
+    let Some(record) = record_at(alloc, script, 0)? else {
+        return write!(words, "line 1: there is none; {EXAMPLE}");
     };
     let Some(first) = field_of(&record, 0) else {
         return words.push_str(EXAMPLE);
     };
     if first.bytes.starts_with(b"#".as_slice()) {
-        return first.push_wrong(words, ": a script has no comments; delete the line");
+        return first.push_comment(words);
     }
     if Machine::read(first.bytes).is_some() {
         first.push_place(words)?;
         return write!(words, " begins a call, but {EXAMPLE}");
     }
-    if is_header(alloc, script) {
-        return first.push_wrong(words, ": a script has no header; delete the line");
+    if is_header(alloc, script)? {
+        first.push_place(words)?;
+        return words.push_str(": a script has no header; delete the line");
     }
     first.push_unknown(alloc, words, "word that begins a script", &VERSIONS)?;
     write!(words, "; {EXAMPLE}")
@@ -50,10 +53,10 @@ fn is_utf16(script: &[u8]) -> bool {
 }
 
 /// Whether record 1 begins a script.
-fn is_header(alloc: Global, script: &[u8]) -> bool {
-    match record_at(alloc, script, 1) {
-        Some(record) => record.row.get(0).is_some_and(is_version),
-        None => false,
+fn is_header(alloc: Global, script: &[u8]) -> Result<bool, AllocError> {
+    match record_at(alloc, script, 1)? {
+        Some(record) => Ok(record.row.get(0).is_some_and(is_version)),
+        None => Ok(false),
     }
 }
 
@@ -65,8 +68,14 @@ pub fn is_version(field: &[u8]) -> bool {
 /// The field with this index.
 pub fn field_of(record: &Record, index: usize) -> Option<Field<'_>> {
     let bytes = record.row.get(index)?;
+    let mut line = record.line;
+    for before in 0..index {
+        if let Some(field) = record.row.get(before) {
+            line = line.saturating_add(line_ends(field));
+        }
+    }
     Some(Field {
-        line: record.line,
+        line,
         number: index.saturating_add(1),
         bytes,
     })
@@ -74,7 +83,7 @@ pub fn field_of(record: &Record, index: usize) -> Option<Field<'_>> {
 
 /// Adds why record 0 is no start.
 pub fn push_bad_start(alloc: Global, words: &mut String, script: &[u8]) -> Result<(), AllocError> {
-    let Some(record) = record_at(alloc, script, 0) else {
+    let Some(record) = record_at(alloc, script, 0)? else {
         return words.push_str(EXAMPLE);
     };
     let line = record.line;
@@ -125,10 +134,18 @@ fn push_places(words: &mut String, places: Field<'_>) -> Result<(), AllocError> 
     )
 }
 
-/// Whether a field is a stamp within its limit.
+/// Whether a field is a stamp within its limit: one to seven digits, of which the first may be 0.
 fn is_stamp(field: &[u8]) -> bool {
     let are_digits = field.iter().all(|byte| byte.is_ascii_digit());
-    are_digits && !field.is_empty() && field.len() <= 7 && field <= b"1048575".as_slice()
+    if !are_digits || field.is_empty() || field.len() > MOST_DIGITS {
+        return false;
+    }
+    let mut stamp = 0u32;
+    for digit in field {
+        let value = u32::from(digit.saturating_sub(b'0'));
+        stamp = stamp.saturating_mul(10).saturating_add(value);
+    }
+    stamp <= LAST_STAMP
 }
 
 /// Adds why a field is no stamp.

@@ -5,4 +5,10 @@
 #[cfg(test)]
 mod configurations;
 #[cfg(test)]
+mod keys;
+#[cfg(test)]
 mod scripts;
+#[cfg(test)]
+mod sections;
+#[cfg(test)]
+mod served;

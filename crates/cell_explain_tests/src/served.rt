@@ -1,0 +1,100 @@
+//! Words of the program `explain`: which input they explain, and the exit status.
+
+use cell_explain::serve::serve;
+use std::alloc::Global;
+
+/// A script that is taken. As a configuration it is no TOML.
+const SCRIPT: &str = "start,0000000000\npress,claim,z3\n";
+
+/// A script that is refused.
+const BAD_SCRIPT: &str = "start,0000000000\npress,clam,z3\n";
+
+const OF_BAD_SCRIPT: &str =
+    "record 1, line 2, field 2: \"clam\" is no verb; did you mean \"claim\"?\n";
+
+/// A configuration that is taken. As a script it has no start.
+const CONFIG: &str = "start = \"0100000000\"\n";
+
+const CONFIG_AS_SCRIPT: &str =
+    "record 0, line 1, field 1: \"start = \\\"0100000000\\\"\" is no word that begins a script: it has a quote; known are: start start2; a script begins with a start, such as start,0000000000\n";
+
+const SCRIPT_AS_CONFIG: &str =
+    "config text: line 1: it is no TOML: key with no value, expected `=`\n";
+
+/// A configuration that is refused.
+const BAD_CONFIG: &str = "start = \"0100000000\"\nstamp = -1\n";
+
+const OF_BAD_CONFIG: &str = "config range: line 2: stamp is out of range: it takes 0 to 1048575\n";
+
+/// Words, an input, the exit status and the text.
+const SERVED: &[(&[&str], &str, u8, &str)] = &[
+    (&["explain"], SCRIPT, 0, ""),
+    (&["explain"], BAD_SCRIPT, 1, OF_BAD_SCRIPT),
+    (&["explain"], CONFIG, 1, CONFIG_AS_SCRIPT),
+    (&["explain", "replay"], SCRIPT, 0, ""),
+    (&["explain", "replay"], BAD_SCRIPT, 1, OF_BAD_SCRIPT),
+    (&["explain", "replay"], CONFIG, 1, CONFIG_AS_SCRIPT),
+    (&["explain", "sim"], CONFIG, 0, ""),
+    (&["explain", "sim"], BAD_CONFIG, 1, OF_BAD_CONFIG),
+    (&["explain", "sim"], SCRIPT, 1, SCRIPT_AS_CONFIG),
+    (&["explain", "run"], CONFIG, 0, ""),
+    (&["explain", "run"], BAD_CONFIG, 1, OF_BAD_CONFIG),
+    (&["explain", "run"], SCRIPT, 1, SCRIPT_AS_CONFIG),
+    (
+        &["explain", "run", "--turns", "3"],
+        BAD_CONFIG,
+        1,
+        OF_BAD_CONFIG,
+    ),
+];
+
+/// Whether words and an input are answered with this status and this text.
+fn is_served(alloc: Global, words: &[&str], input: &str, status: u8, text: &str) -> bool {
+    let mut reader = input.as_bytes();
+    let mut written = Vec::new(alloc);
+    let answered = serve(alloc, words, &mut reader, &mut written);
+    answered == status && written.as_slice() == text.as_bytes()
+}
+
+#[test]
+fn serves(rt: HostRuntime) {
+    for (words, input, status, text) in SERVED {
+        assert!(rt;
+            is_served(rt.alloc(), words, input, *status, text),
+            "{words:?} {input}"
+        );
+    }
+}
+
+/// Words that explain nothing, the exit status, and how the text begins.
+const OTHERS: &[(&[&str], u8, &str)] = &[
+    (
+        &["explain", "--help"],
+        0,
+        "Says what is wrong with an input that `cell` refuses",
+    ),
+    (
+        &["explain", "sim", "--help"],
+        0,
+        "Says what is wrong with an input that `cell` refuses",
+    ),
+    (&["explain", "simulate"], 2, "error: "),
+    (&["explain", "replay", "replay"], 2, "error: "),
+    (&["explain", "run", "--turns", "0"], 2, "error: "),
+];
+
+/// Whether words are answered with this status and a text that begins so, and nothing is read.
+fn is_told(alloc: Global, words: &[&str], status: u8, begins: &str) -> bool {
+    let mut reader = BAD_SCRIPT.as_bytes();
+    let mut written = Vec::new(alloc);
+    let answered = serve(alloc, words, &mut reader, &mut written);
+    let is_unread = reader.len() == BAD_SCRIPT.len();
+    answered == status && is_unread && written.as_slice().starts_with(begins.as_bytes())
+}
+
+#[test]
+fn serves_other_words(rt: HostRuntime) {
+    for (words, status, begins) in OTHERS {
+        assert!(rt; is_told(rt.alloc(), words, *status, begins), "{words:?}");
+    }
+}
