@@ -10,10 +10,20 @@ use std::io::{Read, Write};
 use std::process::ExitCode;
 
 #[derive(Clone, Copy, PartialEq, Eq)]
-enum Status {
+pub enum Status {
     Fine,
     Worn,
     Refused,
+}
+
+impl Status {
+    pub fn word(self) -> &'static str {
+        match self {
+            Status::Fine => "ok",
+            Status::Worn => "worn",
+            Status::Refused => "refused",
+        }
+    }
 }
 
 /// What is stored of a machine: its counts, its status, and its settled calls.
@@ -28,7 +38,7 @@ struct Log {
 }
 
 pub struct Seat<P> {
-    program: P,
+    pub program: P,
     log: Log,
 }
 
@@ -36,6 +46,10 @@ impl<P: Program> Seat<P> {
     fn new(program: P) -> Seat<P> {
         let log = Log { turns: 0, done: 0, read: 0, refused: 0, busy: 0, status: Status::Fine, journal: Vec::new() };
         Seat { program, log }
+    }
+
+    pub fn status(&self) -> Status {
+        self.log.status
     }
 
     /// A turn of its program: a step with a call, or one that drives. The call is answered with the
@@ -118,12 +132,8 @@ impl Cell {
         let _ = writeln!(text, "version 2");
         let _ = writeln!(text, "start {} {}", digits(&start.full), start.stamp);
         for (machine, log) in self.logs() {
-            let status = match log.status {
-                Status::Fine => "ok",
-                Status::Worn => "worn",
-                Status::Refused => "refused",
-            };
             let Log { turns, done, read, refused, busy, .. } = log;
+            let status = log.status.word();
             let _ = writeln!(text, "{} turns {turns} done {done} read {read} refused {refused} busy {busy} {status}", machine.word());
         }
         for (number, at) in (1..).zip(&end.zones) {
@@ -149,17 +159,19 @@ fn digits(full: &[bool; 10]) -> String {
     full.iter().map(|full| if *full { '1' } else { '0' }).collect()
 }
 
+/// The configuration on standard input, or the line that says why there is none.
+pub fn read_input() -> Result<Config, String> {
+    let mut bytes = Vec::new();
+    std::io::stdin().take(2_097_153).read_to_end(&mut bytes).map_err(|_| "fault read".to_string())?;
+    read_config(&bytes).map_err(|fault| format!("fault config {fault}"))
+}
+
 /// Reads the configuration from standard input, runs it, and writes the report.
 pub fn served(run: impl FnOnce(&Config, &mut Cell) -> State) -> ExitCode {
-    let mut bytes = Vec::new();
-    if std::io::stdin().take(2_097_153).read_to_end(&mut bytes).is_err() {
-        println!("fault read");
-        return 1.into();
-    }
-    let config = match read_config(&bytes) {
+    let config = match read_input() {
         Ok(config) => config,
         Err(fault) => {
-            println!("fault config {fault}");
+            println!("{fault}");
             return 1.into();
         }
     };

@@ -49,7 +49,7 @@ impl Zone {
         ["z1", "z2", "z3", "z4", "z5", "z6"][self as usize]
     }
 
-    fn host(self) -> Machine {
+    pub fn host(self) -> Machine {
         match self {
             Z1 | Z2 => Table,
             Z3 => Press,
@@ -121,7 +121,7 @@ pub enum Pose {
 }
 
 impl Pose {
-    const WORDS: [(&'static str, Pose); 12] = [
+    pub const WORDS: [(&'static str, Pose); 12] = [
         ("turning", Pose::Turning),
         ("loading", Pose::Loading),
         ("unloading", Pose::Unloading),

@@ -123,9 +123,9 @@ impl Gauge {
 }
 
 /// A belt with the two plates that it may have.
-struct Belt {
-    entry: Option<i32>,
-    last: Option<i32>,
+pub struct Belt {
+    pub entry: Option<i32>,
+    pub last: Option<i32>,
 }
 
 impl Belt {
@@ -141,10 +141,10 @@ impl Belt {
 }
 
 pub struct Feed {
-    step: u32,
+    pub step: u32,
     entry: bool,
     last: bool,
-    belt: Belt,
+    pub belt: Belt,
 }
 
 impl Feed {
@@ -207,10 +207,10 @@ impl Program for Feed {
 }
 
 pub struct Deposit {
-    step: u32,
+    pub step: u32,
     entry: bool,
     last: bool,
-    belt: Belt,
+    pub belt: Belt,
 }
 
 impl Deposit {
@@ -273,7 +273,7 @@ impl Program for Deposit {
 }
 
 pub struct Table {
-    step: u32,
+    pub step: u32,
     loaded: bool,
     gauge: Gauge,
     pub lift: i32,
@@ -328,7 +328,7 @@ impl Program for Table {
 }
 
 pub struct Press {
-    step: u32,
+    pub step: u32,
     loaded: bool,
     forged: bool,
     before: Motor,
@@ -389,7 +389,7 @@ impl Program for Press {
 }
 
 pub struct Crane {
-    step: u32,
+    pub step: u32,
     gauge: Gauge,
     pub travel: i32,
     pub gripper: i32,
@@ -456,10 +456,10 @@ impl Program for Crane {
 
 /// The steps of the robot: four groups, each of which ends by choosing the next.
 pub struct Robot {
-    group: Group,
-    step: u32,
-    arm1_loaded: bool,
-    arm2_loaded: bool,
+    pub group: Group,
+    pub step: u32,
+    pub arm1_loaded: bool,
+    pub arm2_loaded: bool,
     fed: bool,
     gauges: [Gauge; 3],
     pub arm1: i32,
@@ -468,7 +468,7 @@ pub struct Robot {
 }
 
 #[derive(Clone, Copy, PartialEq, Eq)]
-enum Group {
+pub enum Group {
     Grasp,
     Load,
     Unload,

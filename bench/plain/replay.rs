@@ -4,45 +4,11 @@
 mod csv;
 #[allow(dead_code, reason = "each program uses a part of it")]
 mod interlock;
+mod words;
 
 use csv::{Record, Records};
-use interlock::{Answer, Call, LAST_STAMP, Machine, Refusal, State, owner_word};
-use std::fmt::{self, Display, Formatter};
+use interlock::{Call, LAST_STAMP, Machine, State};
 use std::io::{self, BufWriter, Read, Write};
-
-/// An answer, as a replay writes it.
-struct Words(Answer);
-
-impl Display for Words {
-    fn fmt(&self, text: &mut Formatter<'_>) -> fmt::Result {
-        match self.0 {
-            Answer::Done => text.write_str("done"),
-            Answer::Shown(at) => write!(text, "zone {} {} {}", owner_word(at.owner), u8::from(at.flag), at.posture.word()),
-            Answer::Refused(refusal) => write_refusal(text, refusal),
-        }
-    }
-}
-
-fn write_refusal(text: &mut Formatter<'_>, refusal: Refusal) -> fmt::Result {
-    text.write_str(match refusal {
-        Refusal::Held(machine) => return write!(text, "held {}", machine.word()),
-        Refusal::NotOwner(owner) => return write!(text, "notowner {}", owner_word(owner)),
-        Refusal::Shut(posture) => return write!(text, "shut {}", posture.word()),
-        Refusal::PlateIn(zone) => return write!(text, "platein {}", zone.word()),
-        Refusal::NotParty => "notparty",
-        Refusal::Already => "already",
-        Refusal::NoPlate => "noplate",
-        Refusal::PlaceFull => "placefull",
-        Refusal::WrongWay => "wrongway",
-        Refusal::Jump => "jump",
-        Refusal::NotAtWork => "notatwork",
-        Refusal::NoPose => "nopose",
-        Refusal::Worn => "worn",
-        Refusal::Stopped => "stopped",
-        Refusal::NotStopped => "notstopped",
-        Refusal::InUse => "inuse",
-    })
-}
 
 fn word_of(field: &[u8]) -> Option<&str> {
     std::str::from_utf8(field).ok()
@@ -173,7 +139,7 @@ fn tell(input: impl Read, output: &mut impl Write) -> Result<(), Fault> {
             return Err(Fault::Script(format!("badrow {number}")));
         };
         let answer = state.apply(machine, call);
-        writeln!(output, "{number} {} {}", state.stamp, Words(answer)).map_err(|_| Fault::Write)?;
+        writeln!(output, "{number} {} {}", state.stamp, answer).map_err(|_| Fault::Write)?;
     }
     if records.is_cut { script("long") } else { Ok(()) }
 }

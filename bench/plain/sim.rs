@@ -3,6 +3,7 @@
 //! audits the journals.
 
 mod audit;
+#[allow(dead_code, reason = "each program uses a part of it")]
 mod cell;
 mod config;
 #[allow(dead_code, reason = "each program uses a part of it")]

@@ -1,0 +1,7 @@
+mod Places
+pub mod Shown
+pub mod PlainLemmas
+pub mod PlainLines
+pub mod LineRows
+pub mod Serving
+pub mod Looping

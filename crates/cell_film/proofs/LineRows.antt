@@ -1,0 +1,24 @@
+-- The examples of lines.
+use Rattle.std.proofs.Common.{refl}
+use Rattle.std.specs.Fmt.{digits}
+use Rattle.cell_word.specs.Layout.{packed}
+use Rattle.cell_film.specs.LineExamples.{LineExamples}
+use Rattle.cell_film.specs.Lines.{machine_text}
+use Rattle.cell_film.specs.Pages.{max_turns}
+
+pub line-examples : LineExamples
+unfolding digits packed max_turns machine_text
+line-examples = record {
+  none = refl;
+  literal = refl;
+  waiting = refl;
+  feed = refl;
+  table = refl;
+  robot = refl;
+  press = refl;
+  deposit = refl;
+  crane = refl;
+  watch = refl;
+  uncut = refl;
+  cut = refl;
+}

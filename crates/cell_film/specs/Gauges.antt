@@ -1,0 +1,7 @@
+-- The five potentiometers' curves.
+use Rattle.cell_parts.specs.Axes.{CellScales}
+use Rattle.cell_film.specs.declared.gauges.CellPoints.{CellPoints}
+
+-- the scales of the curves that go through these points
+abbrev pub scales_by_points : CellPoints → CellScales
+scales_by_points points = record { arm1 = points.arm1; arm2 = points.arm2; rotation = points.rotation; turn = points.turn; gripper = points.gripper }

@@ -1,0 +1,67 @@
+-- The page of a film.
+use Rattle.std.specs.Prelude.{◌≡◌, ℕ, List, [], ◌++◌, length, take, codes, nat_lt, Option, Ok, Err, IfSome, ◌⊎◌, if◌then◌else◌}
+use Rattle.std.specs.Fmt.{decimal}
+use Rattle.std.specs.Io.KnownBytes.{Appends}
+use Rattle.cell_text.specs.Output.{WrotePrefix}
+use Rattle.cell_notes.specs.declared.schedule.Turn.{Turn}
+use Rattle.cell_rules.specs.ModelState.{ModelState}
+use Rattle.cell_calib.specs.Scale.{Scale}
+use Rattle.cell_parts.specs.Axes.{CellScales}
+use Rattle.cell_plant.specs.CellStates.{cell_at_start}
+use Rattle.cell_plant.specs.Frames.{frames_of}
+use Rattle.cell_plant.specs.Runs.{Step, IsRun}
+use Rattle.cell_config.specs.Configured.{Says, in_order}
+use Rattle.cell_config.specs.ConfigWords.{config_fault_text}
+use Rattle.cell_config.specs.Settings.{Settings, settings_of}
+use Rattle.cell_config.specs.declared.fault.ConfigFault.{ConfigFault}
+use Rattle.cell_film.specs.Lines.{film_lines}
+use Rattle.cell_film.specs.declared.page_head.TheConstants.{PAGE_HEAD}
+use Rattle.cell_film.specs.declared.page_tail.TheConstants.{PAGE_TAIL}
+
+-- the most turns that a film shows
+unfoldable pub max_turns : ℕ
+max_turns = 100000
+
+-- the line of a schedule that has more turns, which says how many
+abbrev pub cut_line : ℕ → List ℕ
+cut_line turns = if nat_lt max_turns turns then codes "cut " ++ (decimal turns ++ codes "\n") else []
+
+-- the page of a film: its head, the lines of its frames, the line of a cut schedule, its tail
+unfoldable pub page_text : List ℕ → ℕ → List ℕ
+page_text lines turns = PAGE_HEAD.now ++ (lines ++ (cut_line turns ++ PAGE_TAIL.now))
+
+-- lines are those of the frames of a run
+pub record ShowsRun (c : CellScales) (opening : ModelState) (turns : List Turn) (lines : List ℕ) : Type 0 where
+  pub steps : List Step
+  pub run : IsRun c (cell_at_start opening) turns steps
+  pub shown : lines ≡ film_lines (frames_of opening turns steps)
+
+-- lines are those of a run of a schedule up to the most turns, by scales with these points
+pub record ShowsConfigured (points : List Scale) (opening : ModelState) (schedule : List Turn) (lines : List ℕ) : Type 0 where
+  pub scales : CellScales
+  pub fits : points ≡ in_order scales
+  pub shown : ShowsRun scales opening (take max_turns schedule) lines
+
+-- a text is the page of a run of the configuration that the bytes give
+pub record IsFilmOf (bytes text : List ℕ) : Type 0 where
+  pub settings : Settings
+  pub said : settings_of bytes ≡ Ok settings
+  pub lines : List ℕ
+  pub shown : ShowsConfigured settings.points settings.start settings.schedule lines
+  pub page : text ≡ page_text lines (length settings.schedule)
+
+-- the line of a fault
+abbrev pub fault_line : List ℕ → List ℕ
+fault_line text = codes "fault " ++ (text ++ codes "\n")
+
+-- the page was written
+abbrev pub WasFilmed : Option (List ℕ) → Option (List ℕ) → Option (List ℕ) → Type 0
+WasFilmed remaining old new = IfSome remaining (λ bytes. (text : List ℕ) × (IsFilmOf bytes text × Appends old new text))
+
+-- No page was written, or a prefix of it: the configuration was refused, or memory ran out, and a prefix of the fault's
+-- line was written; or the writer failed.
+abbrev pub FilmFails : List ℕ → Option (List ℕ) → Option (List ℕ) → Type 0
+FilmFails bytes old new =
+    ((fault : ConfigFault) × (Says bytes (Err fault) × WrotePrefix old new (fault_line (config_fault_text fault))))
+    ⊎ (WrotePrefix old new (fault_line (codes "memory"))
+    ⊎ ((text : List ℕ) × (IsFilmOf bytes text × WrotePrefix old new text)))

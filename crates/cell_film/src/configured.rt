@@ -1,0 +1,120 @@
+//! The film of a configuration's run.
+
+ghost use Rattle.std.specs.Prelude.{◌≡◌, ◌++◌, List, ℕ, IfOk, IfErr, OnOk, length, take, string_bytes};
+ghost use Rattle.cell_rules.specs.Start.{IsStartState};
+ghost use Rattle.cell_parts.specs.Axes.{CellScales};
+ghost use Rattle.cell_plant.specs.Frames.{SeesBeginning, SeesRun};
+ghost use Rattle.cell_config.specs.Configured.{AreAxisScales, AreCurvesOf, in_order};
+ghost use Rattle.cell_film.specs.Pages.{ShowsConfigured, cut_line, max_turns, page_text};
+
+use crate::film::FilmWriter;
+use crate::gauges::{CellPoints, show_with_gauges};
+use crate::page_head::PAGE_HEAD;
+use crate::page_tail::PAGE_TAIL;
+use cell_config::Config;
+use cell_plant::{RunRecord, SeenFault, Turn, Watcher};
+use std::alloc::{AllocError, Global};
+
+/// The most turns that a film shows.
+const MAX_TURNS: usize = 100_000;
+
+/// The page of a film of a configuration's schedule, or of its first 100,000 turns if there are
+/// more. An error says that memory ran out.
+pub fn film_configured(alloc: Global, config: &Config) -> Result<String, AllocError>
+    requires start { IsStartState config.now.start }
+    requires points { AreAxisScales config.now.points }
+    requires curves { AreCurvesOf config.now.points config.now.curves }
+    ensures { IfOk result (λ page. (lines : List ℕ)
+        × (ShowsConfigured config.now.points config.now.start config.now.schedule.items lines
+        × (string_bytes page ≡ page_text lines (length config.now.schedule.items)))) }
+{
+    let lines = lines_configured(alloc, config)?;
+    page_with(alloc, &lines, config.schedule.len())
+}
+
+/// The lines of that film. An error says that memory ran out.
+pub fn lines_configured(alloc: Global, config: &Config) -> Result<String, AllocError>
+    requires start { IsStartState config.now.start }
+    requires points { AreAxisScales config.now.points }
+    requires curves { AreCurvesOf config.now.points config.now.curves }
+    ensures { IfOk result (λ lines. ShowsConfigured config.now.points config.now.start
+        config.now.schedule.items (string_bytes lines)) }
+{
+    let mut film = FilmWriter::new(alloc);
+    match show_configured(alloc, config, &mut film) {
+        Ok(_) => Ok(film.into_lines()),
+        Err(SeenFault::Memory) => Err(AllocError),
+        Err(SeenFault::Watcher(error)) => Err(error),
+    }
+}
+
+/// Simulates a configuration's schedule, or its first 100,000 turns if there are more, and shows it
+/// to a watcher. The errors are those of `simulate_seen`.
+pub fn show_configured<W: Watcher>(
+    alloc: Global,
+    config: &Config,
+    watcher: &mut W,
+) -> Result<RunRecord, SeenFault<W::Fault>>
+    requires start { IsStartState config.now.start }
+    requires points { AreAxisScales config.now.points }
+    requires curves { AreCurvesOf config.now.points config.now.curves }
+    ensures run { IfOk result (λ run. (c : CellScales) × ((config.now.points ≡ in_order c)
+        × SeesRun W.sees c config.now.start (take max_turns config.now.schedule.items)
+        watcher.old watcher.new run)) }
+    ensures ended { IfErr result (λ fault. (c : CellScales) × ((config.now.points ≡ in_order c)
+        × SeesBeginning W.sees c config.now.start (take max_turns config.now.schedule.items)
+        watcher.old watcher.new fault)) }
+{
+    let [arm1, arm2, rotation, turn, gripper] = config.curves;
+    let points = CellPoints {
+        arm1: arm1.points(),
+        arm2: arm2.points(),
+        rotation: rotation.points(),
+        turn: turn.points(),
+        gripper: gripper.points(),
+    };
+    let gauges = (
+        move |raw: u16| arm1.at(raw),
+        move |raw: u16| arm2.at(raw),
+        move |raw: u16| rotation.at(raw),
+        move |raw: u16| turn.at(raw),
+        move |raw: u16| gripper.at(raw),
+    );
+    let shown = first_turns(config.schedule.as_slice());
+    show_with_gauges(alloc, gauges, points, config.start, shown, watcher)
+}
+
+/// The turns that a film shows.
+#[tactic(auto, unfolding(crate::specs::Pages::max_turns))]
+fn first_turns(schedule: &[Turn]) -> &[Turn]
+    ensures { result.now ≡ take max_turns schedule.now }
+{
+    if schedule.len() > MAX_TURNS {
+        &schedule[..MAX_TURNS]
+    } else {
+        schedule
+    }
+}
+
+/// The page with these lines, of a schedule with this number of turns.
+fn page_with(alloc: Global, lines: &str, turns: usize) -> Result<String, AllocError>
+    ensures { IfOk result (λ page. string_bytes page ≡ page_text lines.now turns) }
+{
+    let mut page = String::from_str(alloc, PAGE_HEAD)?;
+    page.push_str(lines)?;
+    push_cut(&mut page, turns)?;
+    page.push_str(PAGE_TAIL)?;
+    Ok(page)
+}
+
+/// Adds the line of a schedule with more turns than a film shows.
+#[tactic(auto, unfolding(crate::specs::Pages::max_turns))]
+fn push_cut(page: &mut String, turns: usize) -> Result<(), AllocError>
+    ensures { OnOk result (string_bytes page.new ≡ string_bytes page.old ++ cut_line turns) }
+{
+    if turns > MAX_TURNS {
+        writeln!(page, "cut {turns}")
+    } else {
+        Ok(())
+    }
+}

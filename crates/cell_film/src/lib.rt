@@ -1,0 +1,23 @@
+//! A film of a run: a page on which the cell moves, with a line for each turn.
+#![tactic(auto)]
+
+pub mod configured;
+mod faults;
+mod fields;
+pub mod film;
+mod gauges;
+pub mod laws;
+pub mod looped;
+mod page_head;
+mod page_tail;
+mod parts;
+pub mod request;
+pub mod said;
+pub mod serve;
+mod words;
+
+pub use configured::{film_configured, lines_configured, show_configured};
+pub use film::FilmWriter;
+pub use looped::loop_configured;
+pub use said::LastCalls;
+pub use serve::{serve_film, serve_loop};

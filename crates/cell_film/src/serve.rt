@@ -1,0 +1,154 @@
+//! What the program `film` does.
+
+ghost use Rattle.std.specs.Prelude.{◌≡◌, ◌≤◌, ◌<◌, Some, None, IfOk};
+ghost use Rattle.cell_text.specs.Input.{TakesAtMost};
+ghost use Rattle.cell_command.specs.Words.{texts_of};
+ghost use Rattle.cell_config.specs.Settings.{max_bytes_read};
+ghost use Rattle.cell_film.specs.Served.{Films, Loops, Prints, request_of};
+
+use crate::configured::film_configured;
+use crate::faults::fail;
+use crate::looped::loop_configured;
+use crate::request;
+use crate::request::Request;
+use cell_command::words_of;
+use cell_config::read_config;
+use cell_text::write_text;
+use std::alloc::Global;
+use std::env::Env;
+use std::io;
+use std::io::{ErrorKind, Read, Write};
+
+/// The help.
+const HELP: &str = "\
+Reads a configuration, as `cell sim` does, and writes a page on which the cell moves.
+Open it in a browser: film < examples/four_plates.toml > film.html
+The page shows the first 100,000 turns.
+--loop writes a picture that loops instead, from one plate that the feed belt takes to the next:
+film --loop < examples/three_plates.toml > cell.svg
+Exit status: 0 on success and for help; 2 for bad arguments; otherwise 1: a refused
+configuration, a failed read or write, or no memory.
+";
+
+/// Writes the page of a film of the configuration that it reads, or prints a fault. The page is
+/// made whole before any of it is written. Returns the exit status: 0 if it was written, 1
+/// otherwise.
+pub fn serve_film<R: Read, W: Write>(alloc: Global, reader: &mut R, writer: &mut W) -> u8
+    ensures { Films result (R.remaining reader.old) (R.remaining reader.new)
+        (W.contents writer.old) (W.contents writer.new) }
+{
+    let config = match read_config(alloc, reader) {
+        Ok(config) => config,
+        Err(fault) => return fail(writer, fault.text()),
+    };
+    let Ok(page) = film_configured(alloc, &config) else {
+        return fail(writer, "memory");
+    };
+    print(writer, &page)
+}
+
+/// Writes the picture that loops, of the configuration that it reads, or prints a fault. The picture
+/// is made whole before any of it is written. Returns the exit status: 0 if it was written, 1
+/// otherwise.
+pub fn serve_loop<R: Read, W: Write>(alloc: Global, reader: &mut R, writer: &mut W) -> u8
+    ensures { Loops result (R.remaining reader.old) (R.remaining reader.new)
+        (W.contents writer.old) (W.contents writer.new) }
+{
+    let config = match read_config(alloc, reader) {
+        Ok(config) => config,
+        Err(fault) => return fail(writer, fault.text()),
+    };
+    let Ok(picture) = loop_configured(alloc, &config) else {
+        return fail(writer, "memory");
+    };
+    print(writer, &picture)
+}
+
+/// Does what the words ask for, and returns the exit status: 0 if the page or the picture was
+/// written, and for help; 1 for a refused configuration, a failed read or write, and if memory ran out; 2 for other
+/// words.
+pub fn serve<R: Read, W: Write>(alloc: Global, words: &[&str], reader: &mut R, writer: &mut W) -> u8
+    ensures status { result ≤ 2 }
+
+    // With the program's name alone: status 0 says that the page was written, status 1 what was.
+    ensures film { request_of (texts_of words.now) ≡ Some Request.Film →
+        Films result (R.remaining reader.old) (R.remaining reader.new)
+        (W.contents writer.old) (W.contents writer.new) }
+
+    // With `--loop` after it: status 0 says that the picture was written, status 1 what was.
+    ensures looped { request_of (texts_of words.now) ≡ Some Request.Loop →
+        Loops result (R.remaining reader.old) (R.remaining reader.new)
+        (W.contents writer.old) (W.contents writer.new) }
+
+    // With `--help` after it: status 0 says that help was printed, status 1 that a prefix was.
+    ensures help { request_of (texts_of words.now) ≡ Some Request.Help →
+        Prints result (W.contents writer.old) (W.contents writer.new) HELP.now }
+
+    // Status 2 comes exactly for other words.
+    ensures refused { result ≡ 2 → request_of (texts_of words.now) ≡ None }
+    ensures other { request_of (texts_of words.now) ≡ None → result ≡ 2 }
+
+    // At most one byte more is read than a configuration may have.
+    ensures read { TakesAtMost (R.remaining reader.old) (R.remaining reader.new) max_bytes_read }
+{
+    match request::request_of(words) {
+        Some(Request::Film) => serve_film(alloc, reader, writer),
+        Some(Request::Loop) => serve_loop(alloc, reader, writer),
+        Some(Request::Help) => print(writer, HELP),
+        None => refuse(writer, "the only argument is --help or --loop"),
+    }
+}
+
+/// Prints a text. Returns the exit status: 0 if it was written, 1 otherwise.
+fn print<W: Write>(writer: &mut W, text: &str) -> u8
+    ensures { Prints result (W.contents writer.old) (W.contents writer.new) text.now }
+{
+    match write_text(writer, text.as_bytes()) {
+        Ok(()) => 0,
+        Err(_) => 1,
+    }
+}
+
+/// Prints why words are refused, as far as the writer takes it, and returns the exit status 2.
+fn refuse<W: Write>(writer: &mut W, why: &str) -> u8
+    ensures { result ≡ 2 }
+{
+    let _ = writeln!(writer, "error: {why}");
+    2
+}
+
+/// Runs the program with the words that it was started with, its input and its output, and returns
+/// the exit status.
+pub fn start<E: Env, R: Read, W: Write>(
+    alloc: Global,
+    env: &E,
+    reader: &mut R,
+    writer: &mut W,
+) -> u8
+    ensures status { result ≤ 2 }
+    ensures read { TakesAtMost (R.remaining reader.old) (R.remaining reader.new) max_bytes_read }
+{
+    match serve_words(alloc, env, reader, writer) {
+        Ok(status) => status,
+        Err(error) if error.kind() == ErrorKind::OutOfMemory => fail(writer, "memory"),
+        Err(_) => refuse(writer, "a word isn't UTF-8"),
+    }
+}
+
+/// Runs the program with words that are text.
+fn serve_words<E: Env, R: Read, W: Write>(
+    alloc: Global,
+    env: &E,
+    reader: &mut R,
+    writer: &mut W,
+) -> io::Result<u8>
+    ensures status { IfOk result (λ status. status ≤ 2) }
+    ensures read { TakesAtMost (R.remaining reader.old) (R.remaining reader.new) max_bytes_read }
+{
+    let words = words_of(alloc, env)?;
+    let mut texts = Vec::new(alloc);
+    for word in &words {
+        texts.push(word.as_str())?;
+    }
+    Ok(serve(alloc, texts.as_slice(), reader, writer))
+}

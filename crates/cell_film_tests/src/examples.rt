@@ -1,0 +1,178 @@
+//! Configurations, most of them those of `examples/`.
+
+use std::alloc::{AllocError, Global};
+
+/// A configuration: its start, its schedule, and its other lines. The schedule has letters, and how
+/// often each text of them comes in a row.
+pub struct Example {
+    pub start: &'static str,
+    pub schedule: &'static [(usize, &'static str)],
+    pub others: &'static str,
+}
+
+/// The text of a configuration.
+pub fn config_text(alloc: Global, example: &Example) -> Result<String, AllocError> {
+    let start = example.start;
+    let others = example.others;
+    let mut text = format!(in alloc; "{others}start = \"{start}\"\nschedule = \"")?;
+    for (count, letters) in example.schedule {
+        for _ in 0..*count {
+            text.push_str(letters)?;
+        }
+    }
+    text.push_str("\"\n")?;
+    Ok(text)
+}
+
+/// `examples/press.toml`
+pub const PRESS: Example = Example {
+    start: "0000000000",
+    schedule: &[(31, "p")],
+    others: "",
+};
+
+/// `examples/table.toml`
+pub const TABLE: Example = Example {
+    start: "0010000000",
+    schedule: &[(37, "t")],
+    others: "",
+};
+
+/// `examples/both.toml`
+pub const BOTH: Example = Example {
+    start: "0010100000",
+    schedule: &[(2, "TPtptptptptptptptptptp"), (16, "tp"), (23, "p")],
+    others: "",
+};
+
+/// `examples/stop_and_resume.toml`
+pub const STOP_AND_RESUME: Example = Example {
+    start: "0010100000",
+    schedule: &[(4, "tp"), (1, "w"), (45, "tp"), (1, "w"), (25, "tp")],
+    others: "",
+};
+
+/// `examples/carried_round.toml`
+pub const CARRIED_ROUND: Example = Example {
+    start: "1000000000",
+    schedule: ONE_ROUND,
+    others: "",
+};
+
+/// `examples/four_plates.toml`
+pub const FOUR_PLATES: Example = Example {
+    start: "1010100010",
+    schedule: &[(1000, "ftrpdc")],
+    others: "",
+};
+
+/// `examples/three_plates.toml`
+pub const THREE_PLATES: Example = Example {
+    start: "1001000010",
+    schedule: &[(1283, "ftrpdc")],
+    others: "",
+};
+
+/// `examples/standstill.toml`
+pub const STANDSTILL: Example = Example {
+    start: "1011101010",
+    schedule: &[(400, "ftrpdc")],
+    others: "",
+};
+
+/// `examples/measured_curves.toml`
+pub const MEASURED_CURVES: Example = Example {
+    start: "1000000000",
+    schedule: ONE_ROUND,
+    others: "\
+arm1 = { tol = 10, points = [[0, 0], [80, 29], [160, 31], [3200, 809], [4000, 1000]] }
+arm2 = { tol = 10, points = [[0, 9], [2400, 591], [4000, 1000]] }
+rotation = { tol = 10, points = [[0, 9], [600, 309], [1200, 591], [2900, 1459], [4000, 2000]] }
+turn = { tol = 10, points = [[0, 0], [80, 19], [2000, 241], [4000, 491]] }
+gripper = { tol = 10, points = [[0, 0], [1000, 241], [3440, 851], [3600, 891], [4000, 1000]] }
+",
+};
+
+/// `examples/rounded_down.toml`
+pub const ROUNDED_DOWN: Example = Example {
+    start: "1000000000",
+    schedule: &[
+        (6, "t"),
+        (61, "f"),
+        (1, "r"),
+        (30, "p"),
+        (4, "d"),
+        (2, "c"),
+        (35, "t"),
+        (245, "r"),
+        (84, "p"),
+        (35, "t"),
+        (272, "r"),
+        (30, "p"),
+        (57, "d"),
+        (343, "c"),
+        (1, "f"),
+    ],
+    others: "\
+arm1 = { raw = [0, 1501], tol = 1 }
+arm2 = { raw = [3, 2004], tol = 1 }
+rotation = { raw = [7, 4094], tol = 1 }
+turn = { raw = [1, 1000], tol = 1 }
+gripper = { raw = [5, 1508], tol = 10 }
+",
+};
+
+/// All machines ask, the press and the feed belt also in busy turns; the watch stops the cell and
+/// resumes it.
+pub const STOPPED: Example = Example {
+    start: "0100000000",
+    schedule: &[(1, "fpPfpwtrdcftpwFfff")],
+    others: "",
+};
+
+/// The second call takes the last stamp. Machines that are worn then have further turns.
+pub const WORN: Example = Example {
+    start: "0100000000",
+    schedule: &[(1, "fpPtwfpPrrw")],
+    others: "stamp = 1048574\n",
+};
+
+/// Nothing happens.
+pub const NO_TURN: Example = Example {
+    start: "0000000000",
+    schedule: &[],
+    others: "",
+};
+
+/// The robot comes to the press with a plate while the press has its interior.
+pub const HELD_PRESS: Example = Example {
+    start: "0001000000",
+    schedule: &[(2, "p"), (62, "r")],
+    others: "",
+};
+
+/// One turn more than a film shows. The interlock is busy in all of them.
+pub const TOO_LONG: Example = Example {
+    start: "0000000000",
+    schedule: &[(100_001, "P")],
+    others: "",
+};
+
+/// One plate goes round the cell, and each machine has turns for as long as it can work.
+const ONE_ROUND: &[(usize, &str)] = &[
+    (6, "t"),
+    (61, "f"),
+    (1, "r"),
+    (30, "p"),
+    (4, "d"),
+    (2, "c"),
+    (35, "t"),
+    (249, "r"),
+    (84, "p"),
+    (35, "t"),
+    (277, "r"),
+    (30, "p"),
+    (57, "d"),
+    (340, "c"),
+    (1, "f"),
+];

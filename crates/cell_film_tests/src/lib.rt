@@ -1,0 +1,26 @@
+//! Rows of films: the lines of the examples, what a watcher sees, and what the program answers. The
+//! lines come from plain Rust. They use public calls only.
+#![tactic(auto)]
+
+#[cfg(test)]
+mod doubles;
+#[cfg(test)]
+mod examples;
+#[cfg(test)]
+mod expected;
+#[cfg(test)]
+mod frames;
+#[cfg(test)]
+mod keeper;
+#[cfg(test)]
+mod lines;
+#[cfg(test)]
+mod memory;
+#[cfg(test)]
+mod pages;
+#[cfg(test)]
+mod pictures;
+#[cfg(test)]
+mod served;
+#[cfg(test)]
+mod sights;

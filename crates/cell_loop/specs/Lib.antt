@@ -1,0 +1,6 @@
+pub mod Ramps
+pub mod Spots
+pub mod Values
+pub mod Columns
+pub mod Parts
+pub mod Pictures
