@@ -5,6 +5,7 @@
 mod audit;
 #[allow(dead_code, reason = "each program uses a part of it")]
 mod cell;
+#[allow(dead_code, reason = "each program uses a part of it")]
 mod config;
 #[allow(dead_code, reason = "each program uses a part of it")]
 mod interlock;

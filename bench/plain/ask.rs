@@ -1,8 +1,14 @@
 //! The interlock in plain Rust, three times: its rules on the bits of the word, with a load, a
 //! match and a compare-exchange; the same rules on a word under a Mutex; and a bare load and
-//! compare-exchange without rules.
+//! compare-exchange without rules. Reads letters, each of which says what is done next, and writes a
+//! line for each: its name, the nanoseconds that it took, and the digest, or 0.
+//!
+//! `d` is a digest of the replies to random calls. 1,000,000 times: `w` asks on the word, `m` under
+//! the Mutex, `b` without rules; `s` makes a step of a word. By `W` and `M` six threads ask 150,000
+//! times each.
 
 use std::hint::black_box;
+use std::io::Read;
 use std::sync::Mutex;
 use std::sync::atomic::{AtomicU64, Ordering::SeqCst};
 use std::thread;
@@ -282,18 +288,15 @@ const PAIRS: [(Machine, [Call; 2]); 6] = [
     (Crane, [Inquire(4), Claim(4)]),
 ];
 
-// Nanoseconds a call, over 1,000,000 calls that no other overtakes.
-fn alone<S: Shared>(shared: S) -> f64 {
-    let begun = Instant::now();
+// 1,000,000 calls that no other overtakes.
+fn alone<S: Shared>(shared: S) {
     for n in 0..1_000_000 {
         black_box(shared.ask(black_box(Press), black_box(ROUND[n % 8])));
     }
-    begun.elapsed().as_nanos() as f64 / 1e6
 }
 
-// Calls a second, with six threads of 150,000 calls each.
-fn six<S: Shared>(shared: S) -> f64 {
-    let begun = Instant::now();
+// Six threads of 150,000 calls each.
+fn six<S: Shared>(shared: S) {
     thread::scope(|scope| {
         for (machine, pair) in PAIRS {
             let shared = &shared;
@@ -304,7 +307,14 @@ fn six<S: Shared>(shared: S) -> f64 {
             });
         }
     });
-    900_000.0 / begun.elapsed().as_secs_f64()
+}
+
+// The press's calls on words alone.
+fn steps() {
+    let mut word = 0;
+    for n in 0..1_000_000 {
+        word = black_box(step(word, black_box(Press), black_box(ROUND[n % 8]))).1;
+    }
 }
 
 // Random numbers from a seed.
@@ -381,12 +391,27 @@ fn digest(word: u64) -> u32 {
     digest
 }
 
-fn main() {
-    // plates at FeedEnd, Table and PressIn
-    println!("digest {}", digest(1 << 31 | 1 << 32 | 1 << 34));
-    println!("word_alone {:.2}", alone(Word(AtomicU64::new(0))));
-    println!("mutex_alone {:.2}", alone(Locked(Mutex::new(0))));
-    println!("bare_alone {:.2}", alone(Bare(AtomicU64::new(0))));
-    println!("word_six {:.0}", six(Word(AtomicU64::new(0))));
-    println!("mutex_six {:.0}", six(Locked(Mutex::new(0))));
+fn main() -> std::io::Result<()> {
+    let mut letters = String::new();
+    std::io::stdin().read_to_string(&mut letters)?;
+    for letter in letters.chars() {
+        let begun = Instant::now();
+        let mut sum = 0;
+        let name = match letter {
+            'd' => {
+                // plates at FeedEnd, Table and PressIn
+                sum = digest(1 << 31 | 1 << 32 | 1 << 34);
+                "digest"
+            }
+            's' => { steps(); "step" }
+            'w' => { alone(Word(AtomicU64::new(0))); "word" }
+            'm' => { alone(Locked(Mutex::new(0))); "mutex" }
+            'b' => { alone(Bare(AtomicU64::new(0))); "bare" }
+            'W' => { six(Word(AtomicU64::new(0))); "word_six" }
+            'M' => { six(Locked(Mutex::new(0))); "mutex_six" }
+            _ => continue,
+        };
+        println!("{name} {} {sum}", begun.elapsed().as_nanos());
+    }
+    Ok(())
 }
