@@ -65,8 +65,8 @@ pub fn serve_loop<R: Read, W: Write>(alloc: Global, reader: &mut R, writer: &mut
 }
 
 /// Does what the words ask for, and returns the exit status: 0 if the page or the picture was
-/// written, and for help; 1 for a refused configuration, a failed read or write, and if memory ran out; 2 for other
-/// words.
+/// written, and for help; 1 for a refused configuration, a failed read or write, and if memory ran
+/// out; 2 for other words.
 pub fn serve<R: Read, W: Write>(alloc: Global, words: &[&str], reader: &mut R, writer: &mut W) -> u8
     ensures status { result ≤ 2 }
 

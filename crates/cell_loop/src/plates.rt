@@ -18,29 +18,35 @@ const BARRIER: i32 = 900;
 /// The position at which a plate leaves a belt.
 const OFF: i32 = 1000;
 
+/// How far right of the table a plate on the feed belt is, up to the light barrier.
 const UP_TO_BARRIER: Ramp = Ramp {
     base: 350,
     rise: -160,
 };
 
+/// The same in the light barrier, by the position from there on.
 const PAST_BARRIER: Ramp = Ramp {
     base: 62,
     rise: -310,
 };
 
+/// How far right of its entry a plate on the deposit belt is.
 const ALONG_DEPOSIT: Ramp = Ramp { base: 0, rise: 175 };
 
+/// How far from the robot's axis an arm's magnet is.
 const ARM: Ramp = Ramp { base: 70, rise: 55 };
 
+/// The direction of the first arm, in degrees.
 const ROBOT_TURN: Ramp = Ramp {
     base: -30,
     rise: -50,
 };
 
+/// How far down the crane is from the deposit belt.
 const CRANE_WAY: Ramp = Ramp { base: 0, rise: -59 };
 
-/// Where a plate is: so far from the robot's axis in a direction, clockwise from the right, and
-/// from there so far to the right and down.
+/// Where a plate is: a way from the robot's axis in a direction, clockwise from the right, and then
+/// a way to the right and down.
 #[derive(Clone, Copy, Debug, PartialEq, Eq)]
 pub(crate) struct Spot {
     /// The direction, in degrees.
@@ -69,6 +75,7 @@ pub(crate) fn crane_way(frame: &Frame) -> i32
     CRANE_WAY.at(frame.plant.crane.travel.position)
 }
 
+/// At the table, or this far right of it on the feed belt.
 fn at_table(right: i32) -> Spot
     ensures { result ≡ spots.at_table right }
 {
@@ -81,6 +88,7 @@ fn at_table(right: i32) -> Spot
     }
 }
 
+/// At the deposit belt's entry, or from there this far right and down.
 fn at_deposit(right: i32, down: i32) -> Spot
     ensures { result ≡ spots.at_deposit right down }
 {
@@ -93,6 +101,7 @@ fn at_deposit(right: i32, down: i32) -> Spot
     }
 }
 
+/// In the press.
 fn in_press(is_forged: bool) -> Spot
     ensures { result ≡ spots.in_press is_forged }
 {
@@ -122,6 +131,7 @@ fn is_open_out(posture: Posture) -> bool
     }
 }
 
+/// On the feed belt.
 #[tactic(auto, unfolding(crate::specs::Spots::on_feed))]
 fn on_feed(plate: Option<i32>) -> Spot
     ensures { result ≡ spots.on_feed plate }
@@ -135,6 +145,7 @@ fn on_feed(plate: Option<i32>) -> Spot
     at_table(right)
 }
 
+/// On the deposit belt.
 #[tactic(auto, unfolding(crate::specs::Spots::on_deposit))]
 fn on_deposit(plate: Option<i32>) -> Spot
     ensures { result ≡ spots.on_deposit plate }

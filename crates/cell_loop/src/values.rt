@@ -9,20 +9,25 @@ use cell_plant::Frame;
 use cell_types::{Machine, Zone};
 use std::fmt;
 
+/// The table's rotation, in degrees.
 const TABLE_TURN: Ramp = Ramp { base: 0, rise: 120 };
 
+/// The table's height.
 const TABLE_HEIGHT: Ramp = Ramp {
     base: 124,
     rise: -40,
 };
 
+/// The press's height.
 const PRESS_HEIGHT: Ramp = Ramp {
     base: 444,
     rise: -38,
 };
 
+/// How far an arm is extended.
 const ARM: Ramp = Ramp { base: 0, rise: 55 };
 
+/// The gripper's height.
 const GRIPPER_HEIGHT: Ramp = Ramp {
     base: 312,
     rise: -70,
