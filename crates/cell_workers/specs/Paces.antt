@@ -20,7 +20,7 @@ abbrev pub begun_none : Machine → Pace
 begun_none Watch = Ended
 begun_none _ = Had 0
 
--- a machine has had so many turns, or takes no more
+-- a machine has had this number of turns, or takes no more
 abbrev pub HasHad : ℕ → Pace → Type 0
 HasHad turns (Had had) = turns ≤ had
 HasHad turns Ended = ⊤

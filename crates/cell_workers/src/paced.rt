@@ -17,7 +17,7 @@ pub(crate) enum Pace {
 }
 
 impl Pace {
-    /// Whether it has had so many turns, or takes no more.
+    /// Whether it has had this number of turns, or takes no more.
     fn has_had(self, turns: u32) -> bool
         ensures { IsTrue result ↔ HasHad turns self }
     {
@@ -70,7 +70,7 @@ impl Paces {
         }
     }
 
-    /// Whether each machine has had so many turns, or takes no more.
+    /// Whether each machine has had this number of turns, or takes no more.
     fn have_had(&self, turns: u32) -> bool
         ensures { IsTrue result ↔ HaveHad turns self.now }
     {

@@ -20,7 +20,7 @@ const PLACES: [bool; 10] = [
     true, false, false, false, false, false, false, false, false, false,
 ];
 
-// In so many turns the plate gets round once, and not twice, in whichever order the threads go on.
+// In this number of turns the plate gets round once, and not twice, in whichever order the threads go on.
 const TURNS: u32 = 1200;
 
 // How often the crane gave a plate back to the feed belt.
