@@ -1,17 +1,15 @@
 -- Whether the pairs of some values make a curve.
-use Rattle.std.proofs.Common.{◌≡◌, ℕ, suc, ◌+◌, ◌<◌, ◌≤◌, ◌∙◌, ◌&&◌, ◌∷◌, [], List, length, map, cond, nat_le, Bool, true, false, Option, Some, None, is_some, Result, Ok, Err, sym, ap, refl, arith}
+use Rattle.std.proofs.Common.{◌≡◌, suc, ◌<◌, ◌∙◌, ◌&&◌, ◌∷◌, [], List, length, map, cond, Bool, true, false, Option, Some, None, is_some, Ok, Err, sym, ap, refl, arith}
 use Rattle.std.specs.List.{filter_map, list_all, cons_option}
-use Rattle.std.proofs.lemmas.Bool.Decides.{nat_tests}
 use Rattle.std.proofs.lemmas.List.{length-map}
 use Rattle.toml.specs.Data.{Data, Items, string, integer, float, boolean, datetime, array, table, as_array}
 use Rattle.toml.specs.View.{view, items_of, items_view}
 use Rattle.toml.specs.declared.value.Value.{Value}
 use Rattle.cell_calib.specs.Scale.{Scale}
-use Rattle.cell_calib.specs.Curve.{Pair, HasCount, IsCurve, Curved, pairs_of}
+use Rattle.cell_calib.specs.Curve.{Pair, HasCount, IsCurve}
 use Rattle.cell_calib.specs.CurveTests.{is_curve}
 use Rattle.cell_calib.proofs.CurveTestLemmas.{passes_as_curve, curve_of_pass}
 use Rattle.cell_config.specs.Settings.{curve_of, curve_within, is_measured, is_pair, measured_of, pairs_in, values_in}
-use Rattle.cell_config.specs.declared.fault.ConfigFault.{ConfigFault}
 use Rattle.cell_config.specs.declared.fault.ConfigFault.TheVariants.{Range}
 
 pub by_fit : (s : Scale) (values : List Data) (b : Bool) → list_all is_measured values ≡ b → curve_within s values ≡ cond b (curve_of s (filter_map measured_of values)) (Err Range)

@@ -1,7 +1,9 @@
--- A text of letters, and one with a character that is no letter.
-use Rattle.std.proofs.Common.{ℕ, ◌≡◌, ◌<◌, ◌≤◌, ◌∙◌, ◌++◌, ◌∷◌, [], ◌&&◌, List, length, get_or, true, false, Option, Some, None, is_some, Ok, Err, sym, ap, ap₂, refl, lt-ltb, le-ltb}
-use Rattle.std.specs.List.{filter_map, list_all, cons_option}
-use Rattle.std.specs.Str.{chars}
+-- A text of letters, and one with a character that is no letter. Every letter is ASCII.
+use Rattle.std.proofs.Common.{arith, zero, suc, subst, take, take_all, Bool, ◌+◌, ℕ, ◌≡◌, ◌<◌, ◌≤◌, ◌∙◌, ◌++◌, ◌∷◌, [], ◌&&◌, List, length, get_or, true, false, Option, Some, None, is_some, Ok, Err, sym, ap, ap₂, refl, lt-ltb, le-ltb}
+use Rattle.std.specs.List.{filter_map, list_all, cons_option, slice_index}
+use Rattle.std.specs.Str.{chars, IsAscii, IsUtf8}
+use Rattle.std.proofs.lemmas.Str.{chars-IsAscii, encodes-IsAscii, encodes-chars}
+use Rattle.std.proofs.lemmas.List.{take_more}
 use Rattle.std.proofs.lemmas.List.Elements.{filter_map-append}
 use Rattle.std.proofs.lemmas.List.Folds.{list_all-append, list_all_at}
 use Rattle.cell_notes.specs.declared.schedule.Turn.{Turn}
@@ -11,21 +13,66 @@ use Rattle.cell_config.specs.declared.fault.ConfigFault.TheVariants.{Range, Lett
 pub turns_of-long : (text : List ℕ) → max_letters < length (chars text) → turns_of text ≡ Err Range
 turns_of-long text long = rw (lt-ltb max_letters (length (chars text)) long) refl
 
-pub turns_of-other : (text : List ℕ) (i letter : ℕ) → length (chars text) ≤ max_letters → i < length (chars text) → letter ≡ get_or (chars text) i letter → turn_of letter ≡ None → turns_of text ≡ Err Letter
-turns_of-other text i letter short within here none =
-    let other : is_letter (get_or (chars text) i letter) ≡ false = ap is_letter (sym here) ∙ ap (λ (o : Option Turn). is_some o) none in
-    rw (le-ltb max_letters (length (chars text)) short, list_all_at is_letter (chars text) i letter within other) refl
-
-pub turns_of-letters : (text : List ℕ) → length (chars text) ≤ max_letters → list_all is_letter (chars text) ≡ true → turns_of text ≡ Ok (filter_map turn_of (chars text))
-turns_of-letters text short all = rw (le-ltb max_letters (length (chars text)) short, all) refl
-
 -- another letter
 turns-more : (read : List ℕ) (letter : ℕ) (turn : Turn) → turn_of letter ≡ Some turn → filter_map turn_of (read ++ letter ∷ []) ≡ filter_map turn_of read ++ turn ∷ []
 turns-more read letter turn e = filter_map-append turn_of read (letter ∷ []) ∙ ap (λ (o : Option Turn). filter_map turn_of read ++ cons_option o []) e
 
 -- the turn of another letter is added to those before it
-pub turns-pushed : (read : List ℕ) (letter : ℕ) (turn : Turn) (before after : List Turn) → turn_of letter ≡ Some turn → before ≡ filter_map turn_of read → after ≡ before ++ turn ∷ [] → after ≡ filter_map turn_of (read ++ letter ∷ [])
+turns-pushed : (read : List ℕ) (letter : ℕ) (turn : Turn) (before after : List Turn) → turn_of letter ≡ Some turn → before ≡ filter_map turn_of read → after ≡ before ++ turn ∷ [] → after ≡ filter_map turn_of (read ++ letter ∷ [])
 turns-pushed read letter turn before after e so_far pushed = pushed ∙ ap (λ items. items ++ turn ∷ []) so_far ∙ sym (turns-more read letter turn e)
 
-pub letters-more : (read : List ℕ) (letter : ℕ) (turn : Turn) → turn_of letter ≡ Some turn → list_all is_letter read ≡ true → list_all is_letter (read ++ letter ∷ []) ≡ true
+letters-more : (read : List ℕ) (letter : ℕ) (turn : Turn) → turn_of letter ≡ Some turn → list_all is_letter read ≡ true → list_all is_letter (read ++ letter ∷ []) ≡ true
 letters-more read letter turn e all = list_all-append is_letter read (letter ∷ []) ∙ ap₂ (λ a (o : Option Turn). a && (is_some o && true)) all e
+
+letter_is_ascii : (letter : ℕ) → is_letter letter ≡ true → letter < 128
+letter_is_ascii letter is = grind arith
+
+and_left : (a b : Bool) → (a && b) ≡ true → a ≡ true
+and_left true b e = refl
+and_left false b e = cc
+
+and_right : (a b : Bool) → (a && b) ≡ true → b ≡ true
+and_right true b e = e
+and_right false b e = cc
+
+letters_are_ascii : (read : List ℕ) → list_all is_letter read ≡ true → IsAscii read
+letters_are_ascii [] all i = omega arith
+letters_are_ascii (letter ∷ read) all zero = letter_is_ascii letter (and_left (is_letter letter) (list_all is_letter read) all)
+letters_are_ascii (letter ∷ read) all (suc i) = letters_are_ascii read (and_right (is_letter letter) (list_all is_letter read) all) i
+
+-- a text whose characters are letters has a byte for each
+bytes_are_letters : (text : List ℕ) → IsUtf8 text → list_all is_letter (chars text) ≡ true → chars text ≡ text
+bytes_are_letters text utf8 all = sym (encodes-IsAscii (chars text) (letters_are_ascii (chars text) all)) ∙ encodes-chars text utf8
+
+not_letters : (b : Bool) → ¬ (b ≡ true) → b ≡ false
+not_letters true other = absurd (other refl)
+not_letters false other = refl
+
+-- so a text that isn't ASCII has another character
+pub turns_of-not_ascii : (text : List ℕ) → IsUtf8 text → length (chars text) ≤ max_letters → ¬ IsAscii text → turns_of text ≡ Err Letter
+turns_of-not_ascii text utf8 short other =
+    let none : list_all is_letter (chars text) ≡ false =
+    not_letters (list_all is_letter (chars text)) (λ all. other (subst IsAscii (bytes_are_letters text utf8 all) (letters_are_ascii (chars text) all)))
+    in
+    rw (le-ltb max_letters (length (chars text)) short, none) refl
+
+-- a byte of an ASCII text that is no letter
+pub turns_of-other_byte : (text : List ℕ) (i : ℕ) → IsAscii text → length (chars text) ≤ max_letters → i < length text → turn_of (slice_index text i) ≡ None → turns_of text ≡ Err Letter
+turns_of-other_byte text i ascii short within none =
+    let same = chars-IsAscii text ascii in
+    let other : is_letter (get_or text i 0) ≡ false = ap (λ (o : Option Turn). is_some o) none in
+    rw (le-ltb max_letters (length (chars text)) short, same, list_all_at is_letter text i 0 within other) refl
+
+-- one letter more, and all letters, of an ASCII text
+pub byte_pushed : (text : List ℕ) (i : ℕ) (turn : Turn) (before after : List Turn) → i < length text → turn_of (slice_index text i) ≡ Some turn → before ≡ filter_map turn_of (take i text) → after ≡ before ++ turn ∷ [] → after ≡ filter_map turn_of (take (i + 1) text)
+byte_pushed text i turn before after within e so_far pushed = turns-pushed (take i text) (slice_index text i) turn before after e so_far pushed ∙ ap (filter_map turn_of) (sym (take_more text i 0 within))
+
+pub byte_is_letter : (text : List ℕ) (i : ℕ) (turn : Turn) → i < length text → turn_of (slice_index text i) ≡ Some turn → list_all is_letter (take i text) ≡ true → list_all is_letter (take (i + 1) text) ≡ true
+byte_is_letter text i turn within e all = ap (list_all is_letter) (take_more text i 0 within) ∙ letters-more (take i text) (slice_index text i) turn e all
+
+pub turns_of-bytes : (text : List ℕ) (i : ℕ) (turns : List Turn) → IsAscii text → length (chars text) ≤ max_letters → length text ≤ i → list_all is_letter (take i text) ≡ true → turns ≡ filter_map turn_of (take i text) → turns_of text ≡ Ok turns
+turns_of-bytes text i turns ascii short whole all are =
+    let same = chars-IsAscii text ascii in
+    let letters : list_all is_letter text ≡ true = ap (list_all is_letter) (sym (take_all i text whole)) ∙ all in
+    let read : turns ≡ filter_map turn_of text = are ∙ ap (filter_map turn_of) (take_all i text whole) in
+    rw (le-ltb max_letters (length (chars text)) short, same, letters, read) refl

@@ -1,5 +1,5 @@
 -- Values that are read one after another.
-use Rattle.std.proofs.Common.{◌≡◌, ℕ, ◌+◌, ◌<◌, ◌∙◌, ◌++◌, ◌∷◌, [], ◌&&◌, List, length, map, take, get_or, set, Bool, true, false, Option, Some, None, is_some, sym, ap, ap₂, refl, arith}
+use Rattle.std.proofs.Common.{◌≡◌, ℕ, ◌+◌, ◌<◌, ◌∙◌, ◌++◌, ◌∷◌, [], ◌&&◌, List, length, map, take, get_or, set, Bool, true, false, Option, Some, sym, ap, ap₂, arith}
 use Rattle.std.specs.List.{filter_map, list_all, cons_option}
 use Rattle.std.proofs.lemmas.List.{length-map, get_or-map, take_more, take_more_set}
 use Rattle.std.proofs.lemmas.List.Elements.{filter_map-append}

@@ -40,8 +40,8 @@ fn turn_of(letter: char) -> Option<Turn>
     })
 }
 
-/// The turn of each ASCII character. A table replaces the match in `turn_of`, whose branch no
-/// processor predicts.
+/// The turn of each ASCII character; every letter is one. A table replaces the match in `turn_of`,
+/// whose branch no processor predicts.
 fn ascii_turns() -> [Option<Turn>; ASCII]
     ensures { (code : ℕ) → code < 128 → slice_index_or result code None ≡ letters.turn_of code }
 {
@@ -50,18 +50,6 @@ fn ascii_turns() -> [Option<Turn>; ASCII]
         turns[usize::from(code)] = turn_of(char::from(code));
     }
     turns
-}
-
-/// The turn of a letter, from the turns of the ASCII characters.
-fn turn_by(turns: &[Option<Turn>; ASCII], letter: char) -> Option<Turn>
-    requires { (code : ℕ) → code < 128 → slice_index_or turns.now code None ≡ letters.turn_of code }
-    ensures { result ≡ letters.turn_of letter }
-{
-    if letter.is_ascii() {
-        turns[letter as usize]
-    } else {
-        turn_of(letter)
-    }
 }
 
 /// Whether a text has more characters than a schedule may have. It has at least as many bytes as
@@ -84,10 +72,13 @@ fn turns_of(alloc: Global, text: &str) -> Result<Vec<Turn>, ConfigFault>
     if is_too_long(text) {
         return Err(ConfigFault::Range);
     }
+    if !text.is_ascii() {
+        return Err(ConfigFault::Letter);
+    }
     let mut turns = Vec::with_capacity(alloc, text.len())?;
     let ascii = ascii_turns();
-    'letters: for letter in text.chars() {
-        let Some(turn) = turn_by(&ascii, letter) else {
+    'letters: for letter in text.as_bytes() {
+        let Some(turn) = ascii[usize::from(*letter)] else {
             return Err(ConfigFault::Letter);
         };
         turns.push(turn)?;

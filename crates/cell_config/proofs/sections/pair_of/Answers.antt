@@ -1,5 +1,5 @@
-use Rattle.std.proofs.Common.{List, [], ◌∷◌, ◌≡◌, ◌<◌, ◌≤◌, ◌∙◌, Option, Some, None, ℤ, length, refl, sym, ap, arith}
-use Rattle.toml.specs.Data.{Data, Items, string, integer, float, boolean, datetime, array, table, item, no_items, as_array}
+use Rattle.std.proofs.Common.{List, [], ◌∷◌, ◌≡◌, ◌<◌, ◌≤◌, ◌∙◌, Option, None, ℤ, length, refl, sym, ap, arith}
+use Rattle.toml.specs.Data.{Data, Items, string, integer, float, boolean, datetime, array, table, item, no_items}
 use Rattle.toml.specs.View.{items_view, view}
 use Rattle.toml.specs.declared.value.Value.{Value}
 use Rattle.cell_config.specs.Settings.{pair_of}
