@@ -1,5 +1,5 @@
 -- Journals that an audit refuses have no history.
-use Rattle.std.proofs.Common.{◌≡◌, ◌≢◌, ℕ, ◌<◌, ◌≤◌, max, inl, inr, List, ◌∷◌, ◌++◌, [], map, Option, Some, None, Result, Ok, Err, IfErr, refl, ap, ◌∙◌, subst, arith, true}
+use Rattle.std.proofs.Common.{◌≡◌, ◌≢◌, ℕ, ◌<◌, ◌≤◌, max, inl, inr, List, ◌∷◌, ◌++◌, [], map, Option, Some, None, Result, Ok, Err, IfErr, IfSome, refl, ap, ◌∙◌, subst, arith, true}
 use Rattle.std.proofs.lemmas.Bool.{cases_lt}
 use Rattle.cell_types.specs.declared.machine.Machine.{Machine}
 use Rattle.cell_types.specs.declared.answer.Event.{Event}
@@ -82,3 +82,7 @@ refused s j end Memory f n = absurd (n refl)
 pub refused_if : {X : Type 0} (s : ModelState) (j : Machine → List Entry) (end : Option ModelState) (r : Result X AuditFault) → IfErr r (λ fault. IsFault s j end fault) → IfErr r (λ fault. fault ≢ Memory → HasNoHistory s j end)
 refused_if s j end (Ok x) f = tt
 refused_if s j end (Err e) f = refused s j end e f
+
+pub refused_if_some : (s : ModelState) (j : Machine → List Entry) (end : Option ModelState) (o : Option AuditFault) → IfSome o (λ fault. IsFault s j end fault) → IfSome o (λ fault. fault ≢ Memory → HasNoHistory s j end)
+refused_if_some s j end None f = tt
+refused_if_some s j end (Some e) f = refused s j end e f

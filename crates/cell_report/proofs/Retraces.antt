@@ -18,12 +18,12 @@ all_fit-push : (start now : ModelState) (xs : List Noted) (x : Noted) → AllFit
 all_fit-push start now [] x all fits = (fits, tt)
 all_fit-push start now (y ∷ ys) x all fits = (all.0, all_fit-push start (next now y.machine y.entry.call) ys x all.1 fits)
 
-pub retraced_more : (start : ModelState) (before : List Noted) (x : Noted) (history : List Event) (now : ModelState) → Retraced start before history now → Fits start now x → Retraced start (before ++ x ∷ []) (history ++ event_of x ∷ []) (next now x.machine x.entry.call)
-retraced_more start before x history now r fits =
+pub retraced_more : (old new : List Event → Type 0) (start : ModelState) (before : List Noted) (x : Noted) (now : ModelState) → Retraced old start before now → Fits start now x → ((held : List Event) → old held → new (held ++ event_of x ∷ [])) → Retraced new start (before ++ x ∷ []) (next now x.machine x.entry.call)
+retraced_more old new start before x now r fits keeps =
     let events : map event_of (before ++ x ∷ []) ≡ map event_of before ++ event_of x ∷ [] = map-append event_of before (x ∷ []) in
     record {
       fit = all_fit-push start start before x r.fit (subst (λ s. Fits start s x) r.reached fits);
-      events = ap (λ h. h ++ event_of x ∷ []) r.events ∙ sym events;
+      kept = subst new (sym events) (keeps (map event_of before) r.kept);
       reached = ap (λ s. next s x.machine x.entry.call) r.reached ∙ sym (ap (after start) events ∙ after-append start (map event_of before) (event_of x ∷ []));
     }
 

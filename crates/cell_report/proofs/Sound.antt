@@ -7,7 +7,7 @@ use Rattle.cell_types.specs.declared.journal.Entry.{Entry}
 use Rattle.cell_types.specs.Same.{same_machine}
 use Rattle.cell_rules.specs.ModelState.{ModelState}
 use Rattle.cell_rules.specs.Reply.{next}
-use Rattle.cell_rules.specs.History.{after, IsLegal}
+use Rattle.cell_rules.specs.History.{IsLegal}
 use Rattle.cell_rules.specs.Journal.{noted, entry_of, event_by}
 use Rattle.cell_rules.proofs.Notes.{events_of_noted}
 use Rattle.cell_report.specs.declared.ordered.Noted.{Noted}
@@ -15,7 +15,7 @@ use Rattle.cell_rules.specs.Audited.{IsAudited, EndsIn}
 use Rattle.cell_report.specs.declared.traces.Trace.{Trace}
 use Rattle.cell_report.specs.Order.{noted_from, all_noted, event_of, greatest, key_at, InOrder}
 use Rattle.cell_report.specs.AuditFaults.{AllFit, HasStamps, IsMisfit}
-use Rattle.cell_report.specs.Retraced.{Retraced}
+use Rattle.cell_report.specs.Retraced.{Retraced, Retraces}
 use Rattle.cell_report.specs.Traces.{IsTrace}
 use Rattle.cell_report.proofs.Members.{In, in_permutation, from_filter}
 use Rattle.cell_report.proofs.Own.{is_of, entry_in, entries_of, own_entries}
@@ -56,18 +56,24 @@ fit_own s j ordered m o fit =
     (rises_in_turn m [] (j m)
     (λ z i. turn_of_fit s s ordered z fit (in_permutation (all_noted j) ordered z o.same (from_filter (is_of m) (all_noted j) z (subst (In z) (sym (own_entries j m)) i)).0)))
 
-pub audited : (s : ModelState) (j : Machine → List Entry) (end : Option ModelState) (t : ℕ) (ordered now : List Noted) (history : List Event) (reached : ModelState) → HasStamps s.stamp (greatest t (all_noted j)) (all_noted j) ordered → now ≡ ordered → Retraced s now history reached → EndsIn reached end → IsAudited s j end history
-audited s j end t ordered now history reached k e r ends =
-    let fit : AllFit s s ordered = subst (AllFit s s) e r.fit in
-    let at : AllFitAt s ordered = all_fit_at s ordered [] ordered s refl (stamped s.stamp t (all_noted j) ordered k) (reached_first s) fit in
-    let is : map event_of ordered ≡ history = ap (map event_of) (sym e) ∙ sym r.events in
-    let own : (m : Machine) → noted s history m ≡ j m = λ m. subst (λ h. noted s h m ≡ j m) is (fit_noted s ordered m at ∙ (ap (map entry_in) (fit_own s j ordered m k.order fit) ∙ entries_of m [] (j m))) in
+pub audited : (holds : List Event → Type 0) (s : ModelState) (j : Machine → List Entry) (end : Option ModelState) (t : ℕ) (ordered : List Noted) (reached : ModelState) → HasStamps s.stamp (greatest t (all_noted j)) (all_noted j) ordered → Retraced holds s ordered reached → EndsIn reached end → IsAudited s j end (map event_of ordered)
+audited holds s j end t ordered reached k r ends =
+    let at : AllFitAt s ordered = all_fit_at s ordered [] ordered s refl (stamped s.stamp t (all_noted j) ordered k) (reached_first s) r.fit in
+    let own : (m : Machine) → noted s (map event_of ordered) m ≡ j m = λ m. fit_noted s ordered m at ∙ (ap (map entry_in) (fit_own s j ordered m k.order r.fit) ∙ entries_of m [] (j m)) in
     record {
-      legal = subst (IsLegal s) is (fit_legal s ordered at);
-      own = λ m. sym (events_of_noted s history m) ∙ ap (map (event_by m)) (own m);
+      legal = fit_legal s ordered at;
+      own = λ m. sym (events_of_noted s (map event_of ordered) m) ∙ ap (map (event_by m)) (own m);
       noted = own;
-      ends = subst (λ u. EndsIn u end) (r.reached ∙ ap (after s) (sym r.events)) ends;
+      ends = subst (λ u. EndsIn u end) r.reached ends;
     }
+
+pub retraces : (holds : List Event → Type 0) (s : ModelState) (j : Machine → List Entry) (end : Option ModelState) (t : ℕ) (ordered : List Noted) (reached : ModelState) → HasStamps s.stamp (greatest t (all_noted j)) (all_noted j) ordered → Retraced holds s ordered reached → EndsIn reached end → Retraces holds s j end
+retraces holds s j end t ordered reached k r ends = record {
+  history = map event_of ordered;
+  audited = audited holds s j end t ordered reached k r ends;
+  order = (ordered, k.order, refl);
+  kept = r.kept;
+}
 
 pub ends_some : {X : Type 0} (f : X → ModelState) (o : Option X) (x : X) (reached : ModelState) → o ≡ Some x → reached ≡ f x → EndsIn reached (option_map f o)
 ends_some f o x reached e h = subst (λ p. EndsIn reached (option_map f p)) (sym e) h
@@ -78,5 +84,5 @@ ends_none f o reached e = subst (λ p. EndsIn reached (option_map f p)) (sym e) 
 pub from_ends : {X : Type 0} (f : X → ModelState) (o : Option X) (x : X) (reached : ModelState) → o ≡ Some x → EndsIn reached (option_map f o) → reached ≡ f x
 from_ends f o x reached e h = subst (λ p. EndsIn reached (option_map f p)) e h
 
-pub retraced : (s : ModelState) (least : ℕ) (ordered : List Noted) (t : Trace) → t.misfit ≡ None → IsTrace s least ordered t → Retraced s ordered t.events.items t.state
-retraced s least ordered t e is = subst (λ o. MatchOption o (Retraced s ordered t.events.items t.state) (IsMisfit s ordered)) e is.fit
+pub retraced : (holds : List Event → Type 0) (s : ModelState) (least : ℕ) (ordered : List Noted) (t : Trace) → t.misfit ≡ None → IsTrace holds s least ordered t → Retraced holds s ordered t.state
+retraced holds s least ordered t e is = subst (λ o. MatchOption o (Retraced holds s ordered t.state) (IsMisfit s ordered)) e is.fit

@@ -34,40 +34,40 @@ pub come_more : (all before rest more : List Noted) (x : Noted) → all ≡ befo
 come_more all before rest more x e f = e ∙ (ap (λ l. before ++ l) f ∙ sym (append_assoc before (x ∷ []) more))
 
 -- a trace whose stamps have one entry more than what fits
-pub record IsStamped (start : ModelState) (least : ℕ) (before : List Noted) (x : Noted) (t : Trace) : Type 0 where
+pub record IsStamped (holds : List Event → Type 0) (start : ModelState) (least : ℕ) (before : List Noted) (x : Noted) (t : Trace) : Type 0 where
   pub stamps : t.stamps.items ≡ done_stamps (before ++ x ∷ [])
   pub top : t.top ≡ greatest least (before ++ x ∷ [])
-  pub fit : MatchOption t.misfit (Retraced start before t.events.items t.state) (IsMisfit start before)
+  pub fit : MatchOption t.misfit (Retraced holds start before t.state) (IsMisfit start before)
 
-carried : (start : ModelState) (before : List Noted) (s t : Trace) → MatchOption s.misfit (Retraced start before s.events.items s.state) (IsMisfit start before) → t.misfit ≡ s.misfit → t.events.items ≡ s.events.items → t.state ≡ s.state
-    → MatchOption t.misfit (Retraced start before t.events.items t.state) (IsMisfit start before)
-carried start before s t f m e u = rw (m, e, u) f
+carried : (holds : List Event → Type 0) (start : ModelState) (before : List Noted) (s t : Trace) → MatchOption s.misfit (Retraced holds start before s.state) (IsMisfit start before) → t.misfit ≡ s.misfit → t.state ≡ s.state
+    → MatchOption t.misfit (Retraced holds start before t.state) (IsMisfit start before)
+carried holds start before s t f m u = rw (m, u) f
 
-pub stamped_done : (start : ModelState) (least : ℕ) (before : List Noted) (x : Noted) (s t : Trace) → IsTrace start least before s → is_done_noted x ≡ true → t.stamps.items ≡ s.stamps.items ++ stamp_of x ∷ [] → t.top ≡ max s.top (stamp_of x) → t.misfit ≡ s.misfit → t.events.items ≡ s.events.items → t.state ≡ s.state
-    → IsStamped start least before x t
-stamped_done start least before x s t is done stamps top m e u = record {
+pub stamped_done : (holds : List Event → Type 0) (start : ModelState) (least : ℕ) (before : List Noted) (x : Noted) (s t : Trace) → IsTrace holds start least before s → is_done_noted x ≡ true → t.stamps.items ≡ s.stamps.items ++ stamp_of x ∷ [] → t.top ≡ max s.top (stamp_of x) → t.misfit ≡ s.misfit → t.state ≡ s.state
+    → IsStamped holds start least before x t
+stamped_done holds start least before x s t is done stamps top m u = record {
   stamps = stamps ∙ (ap (λ l. l ++ stamp_of x ∷ []) is.stamps ∙ sym (done_more before x done));
   top = top ∙ (ap (λ n. max n (stamp_of x)) is.top ∙ sym (greatest_more least before x));
-  fit = carried start before s t is.fit m e u;
+  fit = carried holds start before s t is.fit m u;
 }
 
-pub stamped_same : (start : ModelState) (least : ℕ) (before : List Noted) (x : Noted) (s t : Trace) → IsTrace start least before s → is_done_noted x ≡ false → t.stamps.items ≡ s.stamps.items → t.top ≡ max s.top (stamp_of x) → t.misfit ≡ s.misfit → t.events.items ≡ s.events.items → t.state ≡ s.state
-    → IsStamped start least before x t
-stamped_same start least before x s t is done stamps top m e u = record {
+pub stamped_same : (holds : List Event → Type 0) (start : ModelState) (least : ℕ) (before : List Noted) (x : Noted) (s t : Trace) → IsTrace holds start least before s → is_done_noted x ≡ false → t.stamps.items ≡ s.stamps.items → t.top ≡ max s.top (stamp_of x) → t.misfit ≡ s.misfit → t.state ≡ s.state
+    → IsStamped holds start least before x t
+stamped_same holds start least before x s t is done stamps top m u = record {
   stamps = stamps ∙ (is.stamps ∙ (sym (append-nil (done_stamps before)) ∙ sym (done_same before x done)));
   top = top ∙ (ap (λ n. max n (stamp_of x)) is.top ∙ sym (greatest_more least before x));
-  fit = carried start before s t is.fit m e u;
+  fit = carried holds start before s t is.fit m u;
 }
 
-pub fit_more : (start : ModelState) (before : List Noted) (x : Noted) (m : Option ℕ) (events more : List Event) (now new : ModelState) → m ≡ None → MatchOption m (Retraced start before events now) (IsMisfit start before) → Fits start now x → more ≡ events ++ event_of x ∷ [] → new ≡ next now x.machine x.entry.call
-    → MatchOption m (Retraced start (before ++ x ∷ []) more new) (IsMisfit start (before ++ x ∷ []))
-fit_more start before x None events more now new none r fits e n = rw (e, n) (retraced_more start before x events now r fits)
-fit_more start before x (Some stamp) events more now new none r fits e n = cc
+pub fit_more : (old new : List Event → Type 0) (start : ModelState) (before : List Noted) (x : Noted) (m : Option ℕ) (now then : ModelState) → m ≡ None → MatchOption m (Retraced old start before now) (IsMisfit start before) → Fits start now x → ((held : List Event) → old held → new (held ++ event_of x ∷ [])) → then ≡ next now x.machine x.entry.call
+    → MatchOption m (Retraced new start (before ++ x ∷ []) then) (IsMisfit start (before ++ x ∷ []))
+fit_more old new start before x None now then none r fits keeps n = rw n (retraced_more old new start before x now r fits keeps)
+fit_more old new start before x (Some stamp) now then none r fits keeps n = cc
 
-pub fit_stays : (start : ModelState) (before : List Noted) (x : Noted) (m : Option ℕ) (events : List Event) (now : ModelState) → ¬ (m ≡ None) → MatchOption m (Retraced start before events now) (IsMisfit start before)
-    → MatchOption m (Retraced start (before ++ x ∷ []) events now) (IsMisfit start (before ++ x ∷ []))
-fit_stays start before x None events now some f = absurd (some refl)
-fit_stays start before x (Some stamp) events now some f = misfit_stays start before (x ∷ []) stamp f
+pub fit_stays : (holds : List Event → Type 0) (start : ModelState) (before : List Noted) (x : Noted) (m : Option ℕ) (now : ModelState) → ¬ (m ≡ None) → MatchOption m (Retraced holds start before now) (IsMisfit start before)
+    → MatchOption m (Retraced holds start (before ++ x ∷ []) now) (IsMisfit start (before ++ x ∷ []))
+fit_stays holds start before x None now some f = absurd (some refl)
+fit_stays holds start before x (Some stamp) now some f = misfit_stays start before (x ∷ []) stamp f
 
 pub none_told : (m : Option ℕ) (b : Bool) → is_some m ≡ not b → b ≡ true → m ≡ None
 none_told None b e t = refl
@@ -80,6 +80,6 @@ some_told None false e t = cc
 some_told (Some n) b e t = λ q. cc
 
 -- what a trace of no entry comes to, after all entries in the order
-pub trace_in_order : {E : Type 0} (start : ModelState) (least : ℕ) (all ordered : List Noted) (first : Trace) (r : Result Trace E) → InOrder all ordered → IsTrace start least [] first → IfOk r (λ t. (n : ℕ) → IsTrace start n [] first → IsTrace start n ordered t) → IfOk r (IsTraceOf start least all)
-trace_in_order start least all ordered first (Ok t) order none f = record { ordered = ordered; order = order; is = f least none }
-trace_in_order start least all ordered first (Err e) order none f = tt
+pub trace_in_order : {E : Type 0} (old new : List Event → Type 0) (start : ModelState) (least : ℕ) (all ordered : List Noted) (first : Trace) (r : Result Trace E) → InOrder all ordered → IsTrace old start least [] first → IfOk r (λ t. (n : ℕ) → IsTrace old start n [] first → IsTrace new start n ordered t) → IfOk r (IsTraceOf new start least all)
+trace_in_order old new start least all ordered first (Ok t) order none f = record { ordered = ordered; order = order; is = f least none }
+trace_in_order old new start least all ordered first (Err e) order none f = tt

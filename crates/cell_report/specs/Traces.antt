@@ -1,5 +1,6 @@
 -- What entries in their order come to.
 use Rattle.std.specs.Prelude.{◌≡◌, ℕ, List, MatchOption}
+use Rattle.cell_types.specs.declared.answer.Event.{Event}
 use Rattle.cell_rules.specs.ModelState.{ModelState}
 use Rattle.cell_report.specs.declared.ordered.Noted.{Noted}
 use Rattle.cell_report.specs.declared.traces.Trace.{Trace}
@@ -7,19 +8,20 @@ use Rattle.cell_report.specs.Order.{InOrder, done_stamps, greatest}
 use Rattle.cell_report.specs.AuditFaults.{HasStamps, IsMisfit}
 use Rattle.cell_report.specs.Retraced.{Retraced}
 
-pub record IsTrace (start : ModelState) (least : ℕ) (ordered : List Noted) (trace : Trace) : Type 0 where
+-- holds: what the keeper has
+pub record IsTrace (holds : List Event → Type 0) (start : ModelState) (least : ℕ) (ordered : List Noted) (trace : Trace) : Type 0 where
   pub stamps : trace.stamps.items ≡ done_stamps ordered
   pub top : trace.top ≡ greatest least ordered
-  pub fit : MatchOption trace.misfit (Retraced start ordered trace.events.items trace.state) (IsMisfit start ordered)
+  pub fit : MatchOption trace.misfit (Retraced holds start ordered trace.state) (IsMisfit start ordered)
 
 -- of all entries, in the order
-pub record IsTraceOf (start : ModelState) (least : ℕ) (all : List Noted) (trace : Trace) : Type 0 where
+pub record IsTraceOf (holds : List Event → Type 0) (start : ModelState) (least : ℕ) (all : List Noted) (trace : Trace) : Type 0 where
   pub ordered : List Noted
   pub order : InOrder all ordered
-  pub is : IsTrace start least ordered trace
+  pub is : IsTrace holds start least ordered trace
 
 -- and each stamp after the start's, up to the top, belongs to exactly one Done entry
-pub record IsStampedTrace (start : ModelState) (least : ℕ) (all : List Noted) (trace : Trace) : Type 0 where
+pub record IsStampedTrace (holds : List Event → Type 0) (start : ModelState) (least : ℕ) (all : List Noted) (trace : Trace) : Type 0 where
   pub ordered : List Noted
   pub stamps : HasStamps start.stamp (greatest least all) all ordered
-  pub is : IsTrace start least ordered trace
+  pub is : IsTrace holds start least ordered trace

@@ -1,15 +1,18 @@
 //! The audit: whether one legal history explains the journals of the machines.
-ghost use Rattle.std.specs.Prelude.{◌≡◌, ◌≢◌, ◌≤◌, MatchResult, IfErr, IfOk, length};
+ghost use Rattle.std.specs.Prelude.{◌≡◌, ◌≢◌, ◌≤◌, List, None, MatchResult, IfErr, IfOk, IfSome, length};
+ghost use Rattle.cell_types.specs.declared.answer.Event.{Event};
 ghost use Rattle.std.specs.Option.{option_copied};
 ghost use Rattle.cell_types.specs.Journals.{journal_of};
 ghost use Rattle.cell_rules.specs.Laws.{LawfulThroughout};
 ghost use Rattle.cell_rules.specs.Audited.{IsAudited, HasNoHistory};
 ghost use Rattle.cell_report.specs.Order.{all_noted, greatest, AreInOrder};
 ghost use Rattle.cell_report.specs.AuditFaults.{IsFault, IsStampFault, end_stamp};
+ghost use Rattle.cell_report.specs.Retraced.{Retraces};
 ghost use Rattle.cell_report.specs.Traces.{IsTraceOf, IsStampedTrace};
 ghost use Rattle.cell_report.specs.declared.audit_faults.AuditFault.TheVariants.{Memory};
 
 use crate::audit_faults::AuditFault;
+use crate::keepers::{Keeper, NoEvents};
 use crate::merged::are_in_turn;
 use crate::ordered::{Sorted, all_sorted};
 use crate::rests::Merge;
@@ -43,36 +46,39 @@ fn room(journals: &Journals) -> usize
 }
 
 /// What all entries come to. Journals that are each in turn are merged, others sorted.
-fn trace_of(
+fn trace_of<K: Keeper>(
     alloc: Global,
     journals: &Journals,
     start: &State,
     least: u32,
+    keeper: &mut K,
 ) -> Result<Trace, AllocError>
-    ensures { IfOk result (IsTraceOf start.now least (all_noted (journal_of journals.now))) }
+    ensures { IfOk result
+        (IsTraceOf (K.holds keeper.new) start.now least (all_noted (journal_of journals.now))) }
 {
-    let trace = Trace::new(alloc, start, least, room(journals))?;
+    let trace = Trace::new(alloc, start, least, keeper);
     if are_in_turn(journals) {
-        return trace.follow(start, Merge::new(journals));
+        return trace.follow(start, Merge::new(journals), keeper);
     }
     let sorted = all_sorted(alloc, journals)?;
-    trace.follow(start, Sorted { rest: &sorted })
+    trace.follow(start, Sorted { rest: &sorted }, keeper)
 }
 
 /// What all entries come to, if each stamp after the start's, up to the greatest, belongs to
 /// exactly one Done entry.
-fn checked_trace(
+fn checked_trace<K: Keeper>(
     alloc: Global,
     journals: &Journals,
     start: &State,
     least: u32,
+    keeper: &mut K,
 ) -> Result<Trace, AuditFault>
     ensures { let all = all_noted (journal_of journals.now) in
         MatchResult result
-        (λ trace. IsStampedTrace start.now least all trace)
+        (λ trace. IsStampedTrace (K.holds keeper.new) start.now least all trace)
         (λ fault. IsStampFault start.now.stamp (greatest least all) all fault) }
 {
-    let trace = trace_of(alloc, journals, start, least)?;
+    let trace = trace_of(alloc, journals, start, least, keeper)?;
     if let Some(stamp) = least_twice(&trace.stamps) {
         return Err(AuditFault::Twice(stamp));
     }
@@ -82,21 +88,22 @@ fn checked_trace(
     Ok(trace)
 }
 
-fn audit_in_order(
+/// Finds the legal history that explains the journals, and gives its events to the keeper.
+fn retrace<K: Keeper>(
     alloc: Global,
     journals: &Journals,
     start: &State,
     end: Option<&State>,
-) -> Result<Vec<Event>, AuditFault>
-    ensures ok { IfOk result
-        (λ events.
-        IsAudited start.now (journal_of journals.now) (option_copied end.entry) events.items) }
-    ensures order { IfOk result (λ events. AreInOrder (journal_of journals.now) events.items) }
+    keeper: &mut K,
+) -> Result<(), AuditFault>
+    ensures ok { let journals = journal_of journals.now in
+        IfOk result (λ _. Retraces (K.holds keeper.new) start.now journals
+        (option_copied end.entry)) }
     ensures fault { IfErr result
         (λ fault. IsFault start.now (journal_of journals.now) (option_copied end.entry) fault) }
 {
     let least = start.stamp().max(stamp_of_end(end));
-    let trace = checked_trace(alloc, journals, start, least)?;
+    let trace = checked_trace(alloc, journals, start, least, keeper)?;
     if let Some(stamp) = trace.misfit {
         return Err(AuditFault::Differs(stamp));
     }
@@ -105,7 +112,7 @@ fn audit_in_order(
             return Err(AuditFault::End);
         }
     }
-    Ok(trace.events)
+    Ok(())
 }
 
 /// Finds the legal history that explains the journals: it begins at the start, each journal is what
@@ -137,7 +144,33 @@ pub fn audit(
     ensures fault { IfErr result
         (λ fault. IsFault start.now (journal_of journals.now) (option_copied end.entry) fault) }
 {
-    let events = audit_in_order(alloc, journals, start, end)?;
+    let mut events = Vec::new(alloc);
+    events.reserve(room(journals))?;
+    retrace(alloc, journals, start, end, &mut events)?;
     lawful_throughout(start, &events);
     Ok(events)
+}
+
+/// Finds out why `audit` would refuse the journals, if it would. It keeps no events, and so needs
+/// less room and time.
+///
+/// Returns `None` if a legal history explains the journals, which begins at the start, and ends at
+/// the end, if one is given. After any fault but `Memory` there is no such history. The fault is
+/// that of `audit`, unless memory runs out.
+pub fn find_fault(
+    alloc: Global,
+    journals: &Journals,
+    start: &State,
+    end: Option<&State>,
+) -> Option<AuditFault>
+    ensures none { result ≡ None → (history : List Event)
+        × IsAudited start.now (journal_of journals.now) (option_copied end.entry) history
+        × AreInOrder (journal_of journals.now) history }
+    ensures refused { IfSome result
+        (λ fault. fault ≢ Memory
+        → HasNoHistory start.now (journal_of journals.now) (option_copied end.entry)) }
+    ensures fault { IfSome result
+        (λ fault. IsFault start.now (journal_of journals.now) (option_copied end.entry) fault) }
+{
+    retrace(alloc, journals, start, end, &mut NoEvents).err()
 }

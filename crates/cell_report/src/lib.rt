@@ -1,9 +1,10 @@
 //! Audits and reports of runs: `audit` finds the one history that explains the journals of the
-//! machines, and `write_report` writes the report.
+//! machines, `find_fault` only whether there is one, and `write_report` writes the report.
 #![tactic(auto)]
 
 pub mod audit_faults;
 pub mod audits;
+mod keepers;
 pub mod laws;
 mod merged;
 mod ordered;
@@ -14,6 +15,6 @@ mod stamps;
 mod traces;
 
 pub use audit_faults::AuditFault;
-pub use audits::audit;
+pub use audits::{audit, find_fault};
 pub use cell_text::WriteFault;
 pub use report::write_report;

@@ -8,7 +8,7 @@ ghost use Rattle.cell_report.specs.AuditFaults.{IsTooEarly, Fits};
 
 use crate::same::is_same_answer;
 use cell_rules::State;
-use cell_types::{Answer, Entry, Event, Journals, Machine};
+use cell_types::{Answer, Entry, Journals, Machine};
 use std::alloc::{AllocError, Global};
 
 /// The key of the order: the stamp, and at one stamp Done before the other answers.
@@ -65,17 +65,6 @@ impl Noted {
         self.in_turn
             && !self.is_too_early(start.stamp())
             && is_same_answer(&self.entry.answer, answer)
-    }
-
-    /// The event that the machine noted.
-    pub fn event(&self) -> Event
-        ensures { result ≡ order.event_of self.now }
-    {
-        Event {
-            machine: self.machine,
-            call: self.entry.call,
-            answer: self.entry.answer,
-        }
     }
 }
 

@@ -3,5 +3,5 @@ use Rattle.cell_types.specs.Journals.{journal_of}
 use Rattle.cell_report.proofs.Refusals.{refused_if}
 use Rattle.cell_report.proofs.audits.audit.Goals as goal
 
-pub returns-in_err-events-clause-refused : goal.returns-in_err-events-clause-refused
-returns-in_err-events-clause-refused c = refused_if c.args.start.now (journal_of c.args.journals.now) (option_map (λ s. s.now) c.args.end) c.from_residual.result (search rules)
+pub returns-in_err-retrace-clause-refused : goal.returns-in_err-retrace-clause-refused
+returns-in_err-retrace-clause-refused c = refused_if c.args.start.now (journal_of c.args.journals.now) (option_map (λ s. s.now) c.args.end) c.from_residual-in_err-retrace.result (search rules)

@@ -6,7 +6,7 @@ use Rattle.cell_report.proofs.traces.Trace.follow.Given as goal
 abbrev pub invariant-loop-noted : goal.invariant-loop-noted
 invariant-loop-noted g l =
     (before : List Noted) × (g.E.Entries.rest l.initial.entries ≡ before ++ g.E.Entries.rest l.entries)
-    × ((least : ℕ) → IsTrace l.start least [] l.initial.trace → IsTrace l.start least before l.trace)
+    × ((least : ℕ) → IsTrace (g.K.Keeper.holds l.initial.keeper) l.start least [] l.initial.trace → IsTrace (g.K.Keeper.holds l.keeper) l.start least before l.trace)
 
 abbrev pub decreases-loop-noted : goal.decreases-loop-noted
 decreases-loop-noted g l = length (g.E.Entries.rest l.entries)
