@@ -9,7 +9,6 @@ pub mod Traced
 pub mod Classes
 pub mod Puts
 pub mod NextLeast
-pub mod Told
 pub mod Times
 pub mod Checks
 pub mod Runs

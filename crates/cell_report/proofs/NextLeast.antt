@@ -1,17 +1,18 @@
--- The next entry of several journals that are in turn.
+-- The next run of several journals.
 use Rattle.std.specs.Option.{MatchOption}
 use Rattle.std.proofs.lemmas.Bool.{cases_lt}
-use Rattle.std.proofs.Common.{◌+◌, Bool, true, Option, None, Some, append-nil, ◌≡◌, ℕ, zero, suc, ◌<◌, ◌≤◌, inl, inr, List, [], ◌∷◌, ◌++◌, length, map, get_or, set, refl, sym, ap, ◌∙◌, subst, arith, append_assoc}
+use Rattle.std.proofs.Common.{◌+◌, Bool, true, Option, None, Some, append-nil, ◌≡◌, ℕ, zero, suc, ◌<◌, ◌≤◌, inl, inr, List, [], ◌∷◌, ◌++◌, length, replicate, map, get_or, set, refl, sym, ap, ◌∙◌, subst, arith, append_assoc, length-append}
 use Rattle.std.specs.List.Sorted.{IsNonDecreasingBy}
 use Rattle.cell_types.specs.declared.machine.Machine.{Machine}
 use Rattle.cell_types.specs.declared.machine.Machine.TheVariants.{Feed, Table, Robot, Press, Deposit, Crane, Watch}
 use Rattle.cell_types.specs.declared.journal.Entry.{Entry}
 use Rattle.cell_report.specs.declared.ordered.Noted.{Noted}
+use Rattle.cell_report.specs.declared.rests.Run.{Run}
 use Rattle.cell_report.specs.declared.rests.Rest.{Rest}
-use Rattle.cell_report.specs.Order.{key_of, key_at, in_order, noted_after, noted_from, all_noted, AreInTurn}
+use Rattle.cell_report.specs.Order.{key_of, key_at, in_order, noted_after, noted_from, all_noted}
 use Rattle.cell_report.specs.InTurn.{noted_in_turn, all_in_turn, first_key, last_key, IsFirstLeast}
-use Rattle.cell_report.specs.Merged.{left_of, left_of_all}
-use Rattle.cell_report.proofs.Members.{In, in_append_cases}
+use Rattle.cell_report.specs.Merged.{left_of, left_of_all, AllRise, IsRun, IsMerged}
+use Rattle.cell_report.proofs.Members.{In, in_append_right, in_append_cases}
 use Rattle.cell_report.proofs.Rising.{RisesBy, Rises, rises_from, from_rises}
 use Rattle.cell_report.proofs.Turns.{in_turn_from_rises}
 use Rattle.cell_report.proofs.Puts.{first_in_order}
@@ -26,8 +27,8 @@ low m [] z up i = absurd i
 low m (e ∷ es) z up (inl q) = let k = ap key_at q in omega (arith, k)
 low m (e ∷ es) z up (inr i) = (rises_from key_of (e ∷ es) up).0 z.entry (entry_in m es z i)
 
-key_low : (r : Rest) (z : Noted) → In z (left_of r) → r.key ≤ key_at z
-key_low r z i = subst (λ k. k ≤ key_at z) (sym r.first) (low r.machine r.entries.now z r.in_turn i)
+key_low : (r : Rest) (z : Noted) → IsNonDecreasingBy key_of r.entries.now → In z (left_of r) → r.key ≤ key_at z
+key_low r z up i = subst (λ k. k ≤ key_at z) (sym r.first) (low r.machine r.entries.now z up i)
 
 first_is : (m : Machine) (es : List Entry) (x : Noted) (more : List Noted) → all_in_turn m es ≡ x ∷ more → first_key es ≡ key_at x
 first_is m [] x more e = cc
@@ -36,48 +37,63 @@ first_is m (d ∷ es) x more e = let same : noted_in_turn m d ≡ x = cc in ap k
 key_is : (r : Rest) (x : Noted) (more : List Noted) → left_of r ≡ x ∷ more → r.key ≡ key_at x
 key_is r x more e = r.first ∙ first_is r.machine r.entries.now x more e
 
--- x is the first of the least entries, and goes
-record Goes (x : Noted) (old new : List Noted) : Type 0 where
+rise_at : (rs : List Rest) (i : ℕ) (d : Rest) → AllRise rs → i < length rs → IsNonDecreasingBy key_of (get_or rs i d).entries.now
+rise_at [] i d up h = absurd (omega (arith, h))
+rise_at (r ∷ rs) zero d up h = up.0
+rise_at (r ∷ rs) (suc i) d up h = rise_at rs i d up.1 (omega (arith, h))
+
+rise_set : (rs : List Rest) (i : ℕ) (new : Rest) → AllRise rs → IsNonDecreasingBy key_of new.entries.now → AllRise (set rs i new)
+rise_set [] i new up own = tt
+rise_set (r ∷ rs) zero new up own = (own, up.1)
+rise_set (r ∷ rs) (suc i) new up own = (up.0, rise_set rs i new up.1 own)
+
+rise_back : (rs : List Rest) (i : ℕ) (d new : Rest) → AllRise (set rs i new) → (IsNonDecreasingBy key_of new.entries.now → IsNonDecreasingBy key_of (get_or rs i d).entries.now) → AllRise rs
+rise_back [] i d new up f = tt
+rise_back (r ∷ rs) zero d new up f = (f up.0, up.1)
+rise_back (r ∷ rs) (suc i) d new up f = (up.0, rise_back rs i d new up.1 f)
+
+-- x is the first of the least entries, comes n times, and goes
+record Goes (n : ℕ) (x : Noted) (old new : List Noted) : Type 0 where
   before : List Noted
   after : List Noted
-  old_is : old ≡ before ++ x ∷ after
+  old_is : old ≡ before ++ (replicate n x ++ after)
   new_is : new ≡ before ++ after
   below : (z : Noted) → In z before → key_at x < key_at z
   above : (z : Noted) → In z after → key_at x ≤ key_at z
 
-others : (rs : List Rest) (n : ℕ) (z : Noted) → ((j : ℕ) → j < length rs → (d : Rest) → n ≤ (get_or rs j d).key) → In z (left_of_all rs) → n ≤ key_at z
-others [] n z f i = absurd i
-others (r ∷ rs) n z f i = elim (in_append_cases (left_of r) (left_of_all rs) z i) [
-  | inl k ↦ let p : n ≤ r.key = f 0 (omega arith) r in omega (arith, p, key_low r z k)
-  | inr k ↦ others rs n z (λ j h d. f (suc j) (omega (arith, h)) d) k
+others : (rs : List Rest) (n : ℕ) (z : Noted) → AllRise rs → ((j : ℕ) → j < length rs → (d : Rest) → n ≤ (get_or rs j d).key) → In z (left_of_all rs) → n ≤ key_at z
+others [] n z up f i = absurd i
+others (r ∷ rs) n z up f i = elim (in_append_cases (left_of r) (left_of_all rs) z i) [
+  | inl k ↦ let p : n ≤ r.key = f 0 (omega arith) r in omega (arith, p, key_low r z up.0 k)
+  | inr k ↦ others rs n z up.1 (λ j h d. f (suc j) (omega (arith, h)) d) k
 ]
 
-goes : (rs : List Rest) (i : ℕ) (d new : Rest) (x : Noted) → i < length rs → left_of (get_or rs i d) ≡ x ∷ left_of new
+goes : (rs : List Rest) (i : ℕ) (d new : Rest) (n : ℕ) (x : Noted) → AllRise rs → i < length rs → left_of (get_or rs i d) ≡ replicate n x ++ left_of new
     → ((j : ℕ) → j < length rs → (e : Rest) → key_at x ≤ (get_or rs j e).key) → ((j : ℕ) → j < i → (e : Rest) → key_at x < (get_or rs j e).key)
     → ((z : Noted) → In z (left_of new) → key_at x ≤ key_at z)
-    → Goes x (left_of_all rs) (left_of_all (set rs i new))
-goes [] i d new x h is all below own = absurd (omega (arith, h))
-goes (r ∷ rs) zero d new x h is all below own = record {
+    → Goes n x (left_of_all rs) (left_of_all (set rs i new))
+goes [] i d new n x up h is all below own = absurd (omega (arith, h))
+goes (r ∷ rs) zero d new n x up h is all below own = record {
   before = [];
   after = left_of new ++ left_of_all rs;
-  old_is = ap (λ l. l ++ left_of_all rs) is;
+  old_is = ap (λ l. l ++ left_of_all rs) is ∙ append_assoc (replicate n x) (left_of new) (left_of_all rs);
   new_is = refl;
   below = λ z i. absurd i;
   above = λ z i. elim (in_append_cases (left_of new) (left_of_all rs) z i) [
     | inl k ↦ own z k
-    | inr k ↦ others rs (key_at x) z (λ j l e. all (suc j) (omega (arith, l)) e) k
+    | inr k ↦ others rs (key_at x) z up.1 (λ j l e. all (suc j) (omega (arith, l)) e) k
   ];
 }
-goes (r ∷ rs) (suc i) d new x h is all below own =
-    let g : Goes x (left_of_all rs) (left_of_all (set rs i new)) =
-    goes rs i d new x (omega (arith, h)) is (λ j l e. all (suc j) (omega (arith, l)) e) (λ j l e. below (suc j) (omega (arith, l)) e) own in
+goes (r ∷ rs) (suc i) d new n x up h is all below own =
+    let g : Goes n x (left_of_all rs) (left_of_all (set rs i new)) =
+    goes rs i d new n x up.1 (omega (arith, h)) is (λ j l e. all (suc j) (omega (arith, l)) e) (λ j l e. below (suc j) (omega (arith, l)) e) own in
     record {
       before = left_of r ++ g.before;
       after = g.after;
-      old_is = ap (λ l. left_of r ++ l) g.old_is ∙ sym (append_assoc (left_of r) g.before (x ∷ g.after));
+      old_is = ap (λ l. left_of r ++ l) g.old_is ∙ sym (append_assoc (left_of r) g.before (replicate n x ++ g.after));
       new_is = ap (λ l. left_of r ++ l) g.new_is ∙ sym (append_assoc (left_of r) g.before g.after);
       below = λ z k. elim (in_append_cases (left_of r) g.before z k) [
-        | inl l ↦ let p : key_at x < r.key = below 0 (omega arith) r in omega (arith, p, key_low r z l)
+        | inl l ↦ let p : key_at x < r.key = below 0 (omega arith) r in omega (arith, p, key_low r z up.0 l)
         | inr l ↦ g.below z l
       ];
       above = g.above;
@@ -98,19 +114,35 @@ keys_length : (rs : List Rest) → length (keys_of rs) ≡ length rs
 keys_length [] = refl
 keys_length (r ∷ rs) = ap suc (keys_length rs)
 
--- the first entry of the rest with the least key is the next in the order
-pub next_is : (rs : List Rest) (i : ℕ) (d new : Rest) (x : Noted) → i < length rs → IsFirstLeast (keys_of rs) i → left_of (get_or rs i d) ≡ x ∷ left_of new
-    → in_order (left_of_all rs) ≡ x ∷ in_order (left_of_all (set rs i new))
-next_is rs i d new x h least is =
+in_replicate : {X : Type 0} (n : ℕ) (x z : X) → In z (replicate n x) → x ≡ z
+in_replicate zero x z i = absurd i
+in_replicate (suc n) x z (inl q) = q
+in_replicate (suc n) x z (inr i) = in_replicate n x z i
+
+run_first : (n : ℕ) (x : Noted) (before after : List Noted) → ((z : Noted) → In z before → key_at x < key_at z) → ((z : Noted) → In z after → key_at x ≤ key_at z)
+    → in_order (before ++ (replicate n x ++ after)) ≡ replicate n x ++ in_order (before ++ after)
+run_first zero x before after f g = refl
+run_first (suc n) x before after f g =
+    first_in_order before (replicate n x ++ after) x f
+    (λ z i. elim (in_append_cases (replicate n x) after z i) [
+      | inl k ↦ let e = ap key_at (in_replicate n x z k) in omega (arith, e)
+      | inr k ↦ g z k
+    ])
+    ∙ ap (λ l. x ∷ l) (run_first n x before after f g)
+
+-- the run at the beginning of the rest with the least key is the next in the order
+next_is : (rs : List Rest) (i : ℕ) (d new : Rest) (n : ℕ) (x : Noted) → AllRise rs → i < length rs → IsFirstLeast (keys_of rs) i → left_of (get_or rs i d) ≡ replicate (suc n) x ++ left_of new
+    → in_order (left_of_all rs) ≡ replicate (suc n) x ++ in_order (left_of_all (set rs i new))
+next_is rs i d new n x up h least is =
     let r : Rest = get_or rs i d in
-    let k : r.key ≡ key_at x = key_is r x (left_of new) is in
+    let k : r.key ≡ key_at x = key_is r x (replicate n x ++ left_of new) is in
     let same : (j : ℕ) → j < length rs → (e : Rest) → get_or (keys_of rs) j 0 ≡ (get_or rs j e).key = λ j l e. key_at_place rs j e l in
-    let g : Goes x (left_of_all rs) (left_of_all (set rs i new)) =
-    goes rs i d new x h is
+    let g : Goes (suc n) x (left_of_all rs) (left_of_all (set rs i new)) =
+    goes rs i d new (suc n) x up h is
     (λ j l e. omega (arith, least.least j (omega (arith, l, keys_length rs)), same j l e, same i h d, k))
     (λ j l e. omega (arith, least.first j l, same j (omega (arith, l, h)) e, same i h d, k))
-    (λ z m. tail_low r.machine r.entries.now x (left_of new) z r.in_turn is m) in
-    ap in_order g.old_is ∙ (first_in_order g.before g.after x g.below g.above ∙ ap (λ l. x ∷ in_order l) (sym g.new_is))
+    (λ z m. tail_low r.machine r.entries.now x (replicate n x ++ left_of new) z (rise_at rs i d up h) is (in_append_right (replicate n x) (left_of new) z m)) in
+    ap in_order g.old_is ∙ (run_first (suc n) x g.before g.after g.below g.above ∙ ap (λ l. replicate (suc n) x ++ in_order l) (sym g.new_is))
 
 nothing : (m : Machine) (es : List Entry) → length es ≡ 0 → all_in_turn m es ≡ []
 nothing m [] e = refl
@@ -133,19 +165,81 @@ none_left rs i d h least is =
     let k : r.key ≡ last_key = r.first ∙ gone r.machine r.entries.now is in
     all_gone rs (λ j l e. omega (arith, least.least j (omega (arith, l, keys_length rs)), key_at_place rs j e l, key_at_place rs i d h, k))
 
-next_told : (rs : List Rest) (i : ℕ) (d new : Rest) (o : Option Noted) → i < length rs → IsFirstLeast (keys_of rs) i → MatchOption o (left_of (get_or rs i d) ≡ []) (λ x. left_of (get_or rs i d) ≡ x ∷ left_of new)
-    → MatchOption o (in_order (left_of_all rs) ≡ []) (λ x. in_order (left_of_all rs) ≡ x ∷ in_order (left_of_all (set rs i new)))
-next_told rs i d new None h least is = ap in_order (none_left rs i d h least is)
-next_told rs i d new (Some x) h least is = next_is rs i d new x h least is
+fewer : (rs : List Rest) (i : ℕ) (d new : Rest) (x : Noted) (more : List Noted) → i < length rs → left_of (get_or rs i d) ≡ x ∷ more ++ left_of new → length (left_of_all (set rs i new)) < length (left_of_all rs)
+fewer [] i d new x more h is = absurd (omega (arith, h))
+fewer (r ∷ rs) zero d new x more h is =
+    let e = ap length is in
+    omega (arith, e, length-append more (left_of new), length-append (left_of r) (left_of_all rs), length-append (left_of new) (left_of_all rs))
+fewer (r ∷ rs) (suc i) d new x more h is =
+    omega (arith, fewer rs i d new x more (omega (arith, h)) is, length-append (left_of r) (left_of_all rs), length-append (left_of r) (left_of_all (set rs i new)))
 
-pub next_from : (rs : List Rest) (i : ℕ) (d new : Rest) (o : Option Noted) → IsFirstLeast (keys_of rs) i → MatchOption o (left_of (get_or rs i d) ≡ []) (λ x. left_of (get_or rs i d) ≡ x ∷ left_of new)
-    → MatchOption o (in_order (left_of_all rs) ≡ []) (λ x. in_order (left_of_all rs) ≡ x ∷ in_order (left_of_all (set rs i new)))
-next_from rs i d new o least is = next_told rs i d new o (omega (arith, least.within, keys_length rs)) least is
+run_left : (m : Machine) (n : ℕ) (e : Entry) (es : List Entry) → all_in_turn m (replicate n e ++ es) ≡ replicate n (noted_in_turn m e) ++ all_in_turn m es
+run_left m zero e es = refl
+run_left m (suc n) e es = ap (λ l. noted_in_turn m e ∷ l) (run_left m n e es)
 
--- the same, where the rest was copied
-pub next_of_copy : (rs : List Rest) (i : ℕ) (old new : Rest) (o : Option Noted) → IsFirstLeast (keys_of rs) i → old ≡ get_or rs i old → MatchOption o (left_of old ≡ []) (λ x. left_of old ≡ x ∷ left_of new)
-    → MatchOption o (in_order (left_of_all rs) ≡ []) (λ x. in_order (left_of_all rs) ≡ x ∷ in_order (left_of_all (set rs i new)))
-next_of_copy rs i old new o least is told = next_from rs i old new o least (subst (λ r. MatchOption o (left_of r ≡ []) (λ x. left_of r ≡ x ∷ left_of new)) is told)
+run_falls : (n : ℕ) (e : Entry) (es : List Entry) → RisesBy key_of (replicate n e ++ es) → RisesBy key_of es
+run_falls zero e es up = up
+run_falls (suc n) e es up = run_falls n e es up.1
+
+first_low : (es : List Entry) (z : Entry) → RisesBy key_of es → In z es → first_key es ≤ key_of z
+first_low [] z up i = absurd i
+first_low (e ∷ es) z up (inl q) = let k = ap key_of q in omega (arith, k)
+first_low (e ∷ es) z up (inr i) = up.0 z i
+
+run_rises : (n : ℕ) (e : Entry) (es : List Entry) → key_of e ≤ first_key es → RisesBy key_of es → RisesBy key_of (replicate n e ++ es)
+run_rises zero e es h up = up
+run_rises (suc n) e es h up = (
+  λ z i. elim (in_append_cases (replicate n e) es z i) [
+    | inl k ↦ let q = ap key_of (in_replicate n e z k) in omega (arith, q)
+    | inr k ↦ omega (arith, h, first_low es z up k)
+  ],
+  run_rises n e es h up,
+)
+
+merged_at : (rs : List Rest) (i : ℕ) (d new : Rest) (run : Run) (n : ℕ) → run.count ≡ suc n → i < length rs → IsFirstLeast (keys_of rs) i → IsRun (get_or rs i d) new run → IsMerged rs (set rs i new) run
+merged_at rs i d new run n count h least is =
+    let old : Rest = get_or rs i d in
+    let x : Noted = noted_in_turn run.machine run.entry.now in
+    let split : old.entries.now ≡ replicate (suc n) run.entry.now ++ new.entries.now = is.split ∙ ap (λ k. replicate k run.entry.now ++ new.entries.now) count in
+    let left : left_of old ≡ replicate (suc n) x ++ left_of new =
+    ap (all_in_turn old.machine) split
+    ∙ (run_left old.machine (suc n) run.entry.now new.entries.now
+    ∙ (ap (λ m. replicate (suc n) (noted_in_turn m run.entry.now) ++ all_in_turn old.machine new.entries.now) (sym is.machine)
+    ∙ ap (λ m. replicate (suc n) x ++ all_in_turn m new.entries.now) (sym is.stays))) in
+    record {
+      in_order = λ up. next_is rs i d new n x up h least left ∙ ap (λ k. replicate k x ++ in_order (left_of_all (set rs i new))) (sym count);
+      falls = λ up. rise_set rs i new up (from_rises key_of new.entries.now (run_falls (suc n) run.entry.now new.entries.now (rises_from key_of (replicate (suc n) run.entry.now ++ new.entries.now) (subst (IsNonDecreasingBy key_of) split (rise_at rs i d up h)))));
+      rises = λ turn up. rise_back rs i d new up
+          (λ own. subst (IsNonDecreasingBy key_of) (sym split)
+          (from_rises key_of (replicate (suc n) run.entry.now ++ new.entries.now) (run_rises (suc n) run.entry.now new.entries.now (subst (λ k. key_of run.entry.now ≤ k) new.first (is.in_turn turn)) (rises_from key_of new.entries.now own))));
+      shorter = fewer rs i d new x (replicate n x) h left;
+    }
+
+merged_by : (rs : List Rest) (i : ℕ) (d new : Rest) (run : Run) (n : ℕ) → run.count ≡ n → i < length rs → IsFirstLeast (keys_of rs) i → IsRun (get_or rs i d) new run → IsMerged rs (set rs i new) run
+merged_by rs i d new run zero count h least is = absurd (omega (arith, count, is.some))
+merged_by rs i d new run (suc n) count h least is = merged_at rs i d new run n count h least is
+
+next_told : (rs : List Rest) (i : ℕ) (d new : Rest) (o : Option Run) → i < length rs → IsFirstLeast (keys_of rs) i → MatchOption o ((get_or rs i d).entries.now ≡ []) (λ run. IsRun (get_or rs i d) new run)
+    → MatchOption o (left_of_all rs ≡ []) (λ run. IsMerged rs (set rs i new) run)
+next_told rs i d new None h least is = none_left rs i d h least (ap (all_in_turn (get_or rs i d).machine) is)
+next_told rs i d new (Some run) h least is = merged_by rs i d new run run.count refl h least is
+
+-- the next run, where the rest was copied
+pub next_of_copy : (rs : List Rest) (i : ℕ) (old new : Rest) (o : Option Run) → IsFirstLeast (keys_of rs) i → old ≡ get_or rs i old → MatchOption o (old.entries.now ≡ []) (λ run. IsRun old new run)
+    → MatchOption o (left_of_all rs ≡ []) (λ run. IsMerged rs (set rs i new) run)
+next_of_copy rs i old new o least is told =
+    next_told rs i old new o (omega (arith, least.within, keys_length rs)) least (subst (λ r. MatchOption o (r.entries.now ≡ []) (λ run. IsRun r new run)) is told)
+
+none_by : (m : Machine) (es : List Entry) (l : List Noted) → all_in_turn m es ++ l ≡ [] → (es ≡ []) × (l ≡ [])
+none_by m [] l e = (refl, e)
+none_by m (d ∷ es) l e = cc
+
+-- if nothing is left, it is in turn
+pub none_rise : (rs : List Rest) → left_of_all rs ≡ [] → AllRise rs
+none_rise [] e = tt
+none_rise (r ∷ rs) e =
+    let p = none_by r.machine r.entries.now (left_of_all rs) e in
+    (subst (IsNonDecreasingBy key_of) (sym p.0) (from_rises key_of [] tt), none_rise rs p.1)
 
 -- a key that stays leaves all keys as they were
 keys_stay : (rs : List Rest) (i : ℕ) (d new : Rest) → new.key ≡ (get_or rs i d).key → keys_of (set rs i new) ≡ keys_of rs
@@ -226,22 +320,20 @@ plain m earlier (e ∷ es) f =
     let make : Bool → Noted = λ b. record { machine = m; entry = e; in_turn = b } in
     ap (λ b. make b ∷ all_in_turn m es) (sym t) ∙ ap (λ l. noted_after m earlier e ∷ l) (plain m (earlier ++ e ∷ []) es (λ z i. f z (inr i)))
 
-left_is : (r : Rest) (m : Machine) (es : List Entry) → IsNonDecreasingBy key_of es → r.machine ≡ m → r.entries.now ≡ es → left_of r ≡ noted_from m [] es
+left_is : (r : Rest) (m : Machine) (es : List Entry) → IsNonDecreasingBy key_of r.entries.now → r.machine ≡ m → r.entries.now ≡ es → left_of r ≡ noted_from m [] es
 left_is r m es up p q =
-    ap (λ n. all_in_turn n r.entries.now) p ∙ (ap (all_in_turn m) q ∙ plain m [] es (in_turn_from_rises m es (noted_rise m [] es (rises_from key_of es up))))
+    ap (λ n. all_in_turn n r.entries.now) p
+    ∙ (plain m [] r.entries.now (in_turn_from_rises m r.entries.now (noted_rise m [] r.entries.now (rises_from key_of r.entries.now up))) ∙ ap (noted_from m []) q)
 
 seven : (a b c d e f g : List Noted) → a ++ (b ++ (c ++ (d ++ (e ++ (f ++ (g ++ [])))))) ≡ a ++ b ++ c ++ d ++ e ++ f ++ g
 seven a b c d e f g = simp (append_assoc, append-nil)
 
-pub all_left : (j : Machine → List Entry) (a b c d e f g : Rest) → AreInTurn j → a.machine ≡ Feed → a.entries.now ≡ j Feed → b.machine ≡ Table → b.entries.now ≡ j Table → c.machine ≡ Robot → c.entries.now ≡ j Robot → d.machine ≡ Press → d.entries.now ≡ j Press → e.machine ≡ Deposit → e.entries.now ≡ j Deposit
+pub all_left : (j : Machine → List Entry) (a b c d e f g : Rest) → AllRise (a ∷ b ∷ c ∷ d ∷ e ∷ f ∷ g ∷ []) → a.machine ≡ Feed → a.entries.now ≡ j Feed → b.machine ≡ Table → b.entries.now ≡ j Table → c.machine ≡ Robot → c.entries.now ≡ j Robot → d.machine ≡ Press → d.entries.now ≡ j Press → e.machine ≡ Deposit → e.entries.now ≡ j Deposit
     → f.machine ≡ Crane → f.entries.now ≡ j Crane → g.machine ≡ Watch → g.entries.now ≡ j Watch → left_of_all (a ∷ b ∷ c ∷ d ∷ e ∷ f ∷ g ∷ []) ≡ all_noted j
-all_left j a b c d e f g turn am ae bm be cm ce dm de em ee fm fe gm ge =
+all_left j a b c d e f g up am ae bm be cm ce dm de em ee fm fe gm ge =
     seven (left_of a) (left_of b) (left_of c) (left_of d) (left_of e) (left_of f) (left_of g)
-    ∙ same_seven (left_is a Feed (j Feed) (turn Feed) am ae) (left_is b Table (j Table) (turn Table) bm be) (left_is c Robot (j Robot) (turn Robot) cm ce) (left_is d Press (j Press) (turn Press) dm de) (left_is e Deposit (j Deposit) (turn Deposit) em ee) (left_is f Crane (j Crane) (turn Crane) fm fe)
-    (left_is g Watch (j Watch) (turn Watch) gm ge)
+    ∙ same_seven (left_is a Feed (j Feed) up.0 am ae) (left_is b Table (j Table) up.1.0 bm be) (left_is c Robot (j Robot) up.1.1.0 cm ce) (left_is d Press (j Press) up.1.1.1.0 dm de) (left_is e Deposit (j Deposit) up.1.1.1.1.0 em ee) (left_is f Crane (j Crane) up.1.1.1.1.1.0 fm fe)
+    (left_is g Watch (j Watch) up.1.1.1.1.1.1.0 gm ge)
   where
     same_seven : {a b c d e f g k l m n o p q : List Noted} → a ≡ k → b ≡ l → c ≡ m → d ≡ n → e ≡ o → f ≡ p → g ≡ q → a ++ b ++ c ++ d ++ e ++ f ++ g ≡ k ++ l ++ m ++ n ++ o ++ p ++ q
     same_seven r s t u v w x = cc
-
-pub others_rise : (es : List Entry) (e : Entry) (others : List Entry) → es ≡ e ∷ others → IsNonDecreasingBy key_of es → IsNonDecreasingBy key_of others
-others_rise es e others q up = from_rises key_of others (rises_from key_of (e ∷ others) (subst (IsNonDecreasingBy key_of) q up)).1

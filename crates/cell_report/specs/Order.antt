@@ -79,10 +79,6 @@ done_at xs s = count_by (λ x. is_done_noted x && nat_eq (stamp_of x) s) xs
 abbrev pub greatest : ℕ → List Noted → ℕ
 greatest least xs = fold (λ t x. max t (stamp_of x)) least xs
 
--- each journal's keys don't fall
-abbrev pub AreInTurn : (Machine → List Entry) → Type 0
-AreInTurn journals = (machine : Machine) → IsNonDecreasingBy key_of (journals machine)
-
 -- an entry before the first one in the list that it isn't after
 abbrev pub put : Noted → List Noted → List Noted
 put x [] = x ∷ []

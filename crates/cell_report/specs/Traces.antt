@@ -1,11 +1,12 @@
 -- What entries in their order come to.
-use Rattle.std.specs.Prelude.{◌≡◌, ℕ, List, MatchOption}
+use Rattle.std.specs.Prelude.{◌≡◌, ℕ, ◌≤◌, List, None, false, MatchOption}
 use Rattle.cell_types.specs.declared.answer.Event.{Event}
 use Rattle.cell_rules.specs.ModelState.{ModelState}
+use Rattle.cell_rules.specs.Reply.{next}
 use Rattle.cell_report.specs.declared.ordered.Noted.{Noted}
 use Rattle.cell_report.specs.declared.traces.Trace.{Trace}
-use Rattle.cell_report.specs.Order.{InOrder, done_stamps, greatest}
-use Rattle.cell_report.specs.AuditFaults.{HasStamps, IsMisfit}
+use Rattle.cell_report.specs.Order.{InOrder, is_done_noted, stamp_of, done_stamps, greatest}
+use Rattle.cell_report.specs.AuditFaults.{HasStamps, Fits, IsMisfit}
 use Rattle.cell_report.specs.Retraced.{Retraced}
 
 -- holds: what the keeper has
@@ -25,3 +26,11 @@ pub record IsStampedTrace (holds : List Event → Type 0) (start : ModelState) (
   pub ordered : List Noted
   pub stamps : HasStamps start.stamp (greatest least all) all ordered
   pub is : IsTrace holds start least ordered trace
+
+-- after an entry was taken: it fits again, and changes nothing
+pub record Repeats (start : ModelState) (x : Noted) (trace : Trace) : Type 0 where
+  pub fitted : trace.misfit ≡ None
+  pub fits : Fits start trace.state x
+  pub same : next trace.state x.machine x.entry.call ≡ trace.state
+  pub other : is_done_noted x ≡ false
+  pub within : stamp_of x ≤ trace.top

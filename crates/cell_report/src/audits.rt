@@ -13,9 +13,7 @@ ghost use Rattle.cell_report.specs.declared.audit_faults.AuditFault.TheVariants.
 
 use crate::audit_faults::AuditFault;
 use crate::keepers::{Keeper, NoEvents};
-use crate::merged::are_in_turn;
-use crate::ordered::{Sorted, all_sorted};
-use crate::rests::Merge;
+use crate::ordered::all_sorted;
 use crate::same::is_same_state;
 use crate::stamps::{least_gap, least_twice};
 use crate::traces::Trace;
@@ -57,11 +55,11 @@ fn trace_of<K: Keeper>(
         (IsTraceOf (K.holds keeper.new) start.now least (all_noted (journal_of journals.now))) }
 {
     let trace = Trace::new(alloc, start, least, keeper);
-    if are_in_turn(journals) {
-        return trace.follow(start, Merge::new(journals), keeper);
+    if let Some(trace) = trace.follow_merged(start, journals, keeper)? {
+        return Ok(trace);
     }
     let sorted = all_sorted(alloc, journals)?;
-    trace.follow(start, Sorted { rest: &sorted }, keeper)
+    Trace::new(alloc, start, least, keeper).follow_sorted(start, &sorted, keeper)
 }
 
 /// What all entries come to, if each stamp after the start's, up to the greatest, belongs to

@@ -4,7 +4,7 @@ use std::alloc::AllocError;
 
 /// Keeps the events of a history, or as much of them as its caller needs.
 pub trait Keeper {
-    ghost use Rattle.std.specs.Prelude.{◌++◌, ◌∷◌, [], List, IfOk};
+    ghost use Rattle.std.specs.Prelude.{◌++◌, [], List, replicate, IfOk};
     ghost use Rattle.cell_types.specs.declared.answer.Event.{Event};
     ghost use Rattle.cell_rules.specs.Journal.{event_by};
 
@@ -15,10 +15,10 @@ pub trait Keeper {
     fn clear(&mut self)
         ensures { holds self.new [] };
 
-    /// Keeps the event of a machine's entry, after those that it has.
-    fn keep(&mut self, machine: Machine, entry: &Entry) -> Result<(), AllocError>
+    /// Keeps the event of a machine's entry, so many times, after those that it has.
+    fn keep(&mut self, machine: Machine, entry: &Entry, count: usize) -> Result<(), AllocError>
         ensures { IfOk result (λ _. (held : List Event) → holds self.old held
-            → holds self.new (held ++ event_by machine entry.now ∷ [])) };
+            → holds self.new (held ++ replicate count (event_by machine entry.now))) };
 }
 
 impl Keeper for Vec<Event> {
@@ -30,12 +30,15 @@ impl Keeper for Vec<Event> {
         self.clear();
     }
 
-    fn keep(&mut self, machine: Machine, entry: &Entry) -> Result<(), AllocError> {
-        self.push(Event {
+    fn keep(&mut self, machine: Machine, entry: &Entry, count: usize) -> Result<(), AllocError> {
+        let event = Event {
             machine,
             call: entry.call,
             answer: entry.answer,
-        })?;
+        };
+        for _ in 0..count {
+            self.push(event)?;
+        }
         Ok(())
     }
 }
@@ -51,7 +54,7 @@ impl Keeper for NoEvents {
 
     fn clear(&mut self) {}
 
-    fn keep(&mut self, _machine: Machine, _entry: &Entry) -> Result<(), AllocError> {
+    fn keep(&mut self, _machine: Machine, _entry: &Entry, _count: usize) -> Result<(), AllocError> {
         Ok(())
     }
 }

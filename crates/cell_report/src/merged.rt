@@ -1,32 +1,43 @@
-//! Merges journals that are each in turn: their entries come in the order of an audit.
-ghost use Rattle.std.specs.Prelude.{◌≡◌, ◌<◌, ◌↔◌, IsTrue, length, map};
-ghost use Rattle.std.specs.List.Sorted.{IsNonDecreasingBy};
+//! Merges journals: if they are each in turn, their entries come in the order of an audit.
+ghost use Rattle.std.specs.Prelude.{◌≡◌, ◌<◌, ◌≤◌, [], MatchOption, length, map, replicate, take};
 ghost use Rattle.cell_types.specs.Journals.{journal_of};
 ghost use Rattle.cell_report.specs.Order as order;
 ghost use Rattle.cell_report.specs.InTurn as turn;
 ghost use Rattle.cell_report.specs.Merged as merged;
 
-use crate::ordered::{Entries, Noted, key};
-use crate::rests::{Merge, Rest};
+use crate::rests::{Merge, Rest, Run};
+use crate::same::is_same_entry;
 use cell_types::{Entry, Journals, Machine};
 
-fn is_in_turn(journal: &[Entry]) -> bool
-    ensures { IsTrue result ↔ IsNonDecreasingBy order.key_of journal.now }
+/// How many entries at the beginning are the same as this one.
+fn count_same(entries: &[Entry], entry: &Entry) -> usize
+    ensures within { result ≤ length entries.now }
+    ensures same { take result entries.now ≡ replicate result entry.now }
 {
-    journal.is_sorted_by_key(key)
+    let mut count = 0;
+    while count < entries.len() && is_same_entry(&entries[count], entry) {
+        count += 1;
+    }
+    count
 }
 
-/// Whether each journal is in turn: none of its entries comes after one that is later in the order.
-pub fn are_in_turn(journals: &Journals) -> bool
-    ensures { IsTrue result ↔ order.AreInTurn (journal_of journals.now) }
-{
-    is_in_turn(&journals.feed)
-        && is_in_turn(&journals.table)
-        && is_in_turn(&journals.robot)
-        && is_in_turn(&journals.press)
-        && is_in_turn(&journals.deposit)
-        && is_in_turn(&journals.crane)
-        && is_in_turn(&journals.watch)
+impl<'a> Rest<'a> {
+    /// The next run of the journal, or `None` after the last.
+    pub fn next_run(&mut self) -> Option<Run<'a>>
+        ensures { MatchOption result (self.old.entries.now ≡ [])
+            (λ run. merged.IsRun self.old self.new run) }
+    {
+        let (entry, others) = self.entries.split_first()?;
+        let again = count_same(others, entry);
+        let before = self.key;
+        *self = Rest::new(self.machine, &others[again..]);
+        Some(Run {
+            machine: self.machine,
+            entry,
+            count: again + 1,
+            in_turn: before <= self.key,
+        })
+    }
 }
 
 /// The place of the rest whose first entry is the next in the order: the first with the least key.
@@ -43,11 +54,11 @@ fn least(rests: &[Rest<'_>]) -> usize
     least
 }
 
-impl Merge<'_> {
-    /// All entries of journals that are each in turn.
-    pub fn new(journals: &Journals) -> Merge<'_>
-        requires { order.AreInTurn (journal_of journals.now) }
-        ensures { merged.rest_of result ≡ order.in_order (order.all_noted (journal_of journals.now)) }
+impl<'a> Merge<'a> {
+    /// All entries of journals.
+    pub fn new(journals: &'a Journals) -> Merge<'a>
+        ensures { merged.IsInTurn result
+            → merged.rest_of result ≡ order.in_order (order.all_noted (journal_of journals.now)) }
     {
         let rests = [
             Rest::new(Machine::Feed, &journals.feed),
@@ -70,26 +81,24 @@ impl Merge<'_> {
             None => least(&self.rests),
         }
     }
-}
 
-impl Entries for Merge<'_> {
-    ghost use Rattle.cell_report.specs.Merged as merged;
-
-    ghost rest = { λ merge. merged.rest_of merge };
-
+    /// The next run in the order, or `None` after the last.
     // While the key stays, so does the place, and no other rest is looked at.
-    fn next_noted(&mut self) -> Option<Noted> {
+    pub fn next_run(&mut self) -> Option<Run<'a>>
+        ensures { MatchOption result (merged.left_of_all self.old.rests ≡ [])
+            (λ run. merged.IsMerged self.old.rests self.new.rests run) }
+    {
         let place = self.next_place();
         let rests = &self.rests[..];
         let mut rest = rests[place];
         let key = rest.key;
-        let noted = rest.next();
+        let run = rest.next_run();
         let stays = rest.key == key;
         self.place = None;
         self.rests[place] = rest;
         if stays {
             self.place = Some(place);
         }
-        noted
+        run
     }
 }

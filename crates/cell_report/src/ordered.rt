@@ -99,20 +99,6 @@ fn all_noted(alloc: Global, journals: &Journals) -> Result<Vec<Noted>, AllocErro
     Ok(all)
 }
 
-/// Entries that come one by one.
-pub trait Entries: Copy {
-    ghost use Rattle.std.specs.Prelude.{◌≡◌, ◌∷◌, [], List, MatchOption};
-    ghost use Rattle.cell_report.specs.declared.ordered.Noted.{Noted};
-
-    // The entries that are still to come.
-    ghost rest: { Self → List Noted };
-
-    /// The next entry, or `None` after the last.
-    fn next_noted(&mut self) -> Option<Noted>
-        ensures { MatchOption result (rest self.old ≡ [])
-            (λ noted. rest self.old ≡ noted ∷ rest self.new) };
-}
-
 /// Sorts all entries into the order of an audit. The cost for n entries is about n log n.
 pub fn all_sorted(alloc: Global, journals: &Journals) -> Result<Vec<Noted>, AllocError>
     ensures { IfOk result
@@ -121,21 +107,4 @@ pub fn all_sorted(alloc: Global, journals: &Journals) -> Result<Vec<Noted>, Allo
     let mut sorted = all_noted(alloc, journals)?;
     sorted.sort_by_key(|noted| noted.key())?;
     Ok(sorted)
-}
-
-/// Sorted entries, from the first to the last.
-#[derive(Clone, Copy)]
-pub struct Sorted<'a> {
-    /// Those that are still to come.
-    pub rest: &'a [Noted],
-}
-
-impl Entries for Sorted<'_> {
-    ghost rest = { λ sorted. sorted.rest.now };
-
-    fn next_noted(&mut self) -> Option<Noted> {
-        let (first, others) = self.rest.split_first()?;
-        self.rest = others;
-        Some(*first)
-    }
 }

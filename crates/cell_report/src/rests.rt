@@ -1,14 +1,25 @@
-//! What is left of journals that are in turn.
-ghost use Rattle.std.specs.Prelude.{◌≡◌, ◌∷◌, [], ◌≤◌, MatchOption, length, map};
+//! What is left of the journals that are merged.
+ghost use Rattle.std.specs.Prelude.{◌≡◌, ◌≤◌, length, map};
 ghost use Rattle.std.specs.Option.{ForSome};
-ghost use Rattle.std.specs.List.Sorted.{IsNonDecreasingBy};
-ghost use Rattle.cell_report.specs.Order as order;
 ghost use Rattle.cell_report.specs.InTurn as turn;
 
-use crate::ordered::{Noted, key};
+use crate::ordered::key;
 use cell_types::{Entry, Machine};
 
-/// What is left of a journal that is in turn.
+/// An entry that a machine noted several times in a row, as it does while it waits.
+#[derive(Clone, Copy)]
+pub struct Run<'a> {
+    /// Whose journal it is.
+    pub machine: Machine,
+    /// The entry.
+    pub entry: &'a Entry,
+    /// How often it comes.
+    pub count: usize,
+    /// Whether the entry after the run is in turn: it isn't earlier in the order.
+    pub in_turn: bool,
+}
+
+/// What is left of a journal.
 #[derive(Clone, Copy)]
 pub struct Rest<'a> {
     /// Whose journal it is.
@@ -17,7 +28,6 @@ pub struct Rest<'a> {
     pub entries: &'a [Entry],
     /// The key of the first entry; if none is left, a key that is greater than any entry's.
     pub key: u64,
-    ghost in_turn: { IsNonDecreasingBy order.key_of entries.now },
     ghost first: { key ≡ turn.first_key entries.now },
     ghost none: { turn.last_key ≤ key → length entries.now ≡ 0 },
 }
@@ -32,10 +42,9 @@ pub struct Merge<'a> {
     ghost first: { ForSome place (λ p. turn.IsFirstLeast (map (λ r. r.key) rests) p) },
 }
 
-impl Rest<'_> {
+impl<'a> Rest<'a> {
     /// The whole of a journal, or what is left of it.
-    pub fn new(machine: Machine, entries: &[Entry]) -> Rest<'_>
-        requires { IsNonDecreasingBy order.key_of entries.now }
+    pub fn new(machine: Machine, entries: &'a [Entry]) -> Rest<'a>
         ensures machine { result.machine ≡ machine }
         ensures entries { result.entries.now ≡ entries.now }
     {
@@ -48,21 +57,5 @@ impl Rest<'_> {
             entries,
             key,
         }
-    }
-
-    /// The next entry of the journal, or `None` after the last.
-    pub fn next(&mut self) -> Option<Noted>
-        ensures { let left = turn.all_in_turn self.old.machine self.old.entries.now in
-            MatchOption result (left ≡ [])
-            (λ noted. left ≡ noted ∷ turn.all_in_turn self.new.machine self.new.entries.now) }
-    {
-        let (first, others) = self.entries.split_first()?;
-        let noted = Noted {
-            machine: self.machine,
-            entry: *first,
-            in_turn: true,
-        };
-        *self = Rest::new(self.machine, others);
-        Some(noted)
     }
 }

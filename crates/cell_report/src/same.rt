@@ -1,16 +1,29 @@
-//! Whether two answers, or two states, are the same.
+//! Whether two answers, two entries or two states are the same.
 ghost use Rattle.std.specs.Prelude.{◌≡◌, ◌↔◌, IsTrue, All};
 ghost use Rattle.cell_types.specs.Everything.{all_zones, all_places};
 ghost use Rattle.cell_rules.specs.ModelState.{zone_at, is_full};
 
 use cell_rules::{State, ZoneState};
-use cell_types::{Answer, Place, Zone};
+use cell_types::{Answer, Call, Entry, Place, Zone};
 
 /// Whether two answers are the same.
 pub fn is_same_answer(a: &Answer, b: &Answer) -> bool
     ensures { IsTrue result ↔ (a.now ≡ b.now) }
 {
     a == b
+}
+
+fn is_same_call(a: &Call, b: &Call) -> bool
+    ensures { IsTrue result ↔ (a.now ≡ b.now) }
+{
+    a == b
+}
+
+/// Whether two entries are the same.
+pub fn is_same_entry(a: &Entry, b: &Entry) -> bool
+    ensures { IsTrue result ↔ (a.now ≡ b.now) }
+{
+    a.stamp == b.stamp && is_same_call(&a.call, &b.call) && is_same_answer(&a.answer, &b.answer)
 }
 
 fn is_same_zone(a: &ZoneState, b: &ZoneState) -> bool

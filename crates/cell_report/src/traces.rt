@@ -1,11 +1,16 @@
 //! Makes the calls of the entries again, in order.
-ghost use Rattle.std.specs.Prelude.{◌++◌, ◌∷◌, [], ℕ, List, IfOk};
+ghost use Rattle.std.specs.Prelude.{◌++◌, ◌∷◌, [], ℕ, List, IsTrue, IfOk, IfSome};
 ghost use Rattle.cell_report.specs.declared.ordered.Noted.{Noted};
-ghost use Rattle.cell_report.specs.Traces.{IsTrace};
+ghost use Rattle.cell_types.specs.Journals.{journal_of};
+ghost use Rattle.cell_report.specs.Order.{all_noted, in_order};
+ghost use Rattle.cell_report.specs.Merged.{run_of};
+ghost use Rattle.cell_report.specs.Traces.{IsTrace, Repeats};
 
 use crate::keepers::Keeper;
-use crate::ordered::{Entries, Noted};
+use crate::ordered::Noted;
+use crate::rests::{Merge, Run};
 use cell_rules::{State, apply};
+use cell_types::Journals;
 use std::alloc::{AllocError, Global};
 
 /// What entries come to that are taken one by one, in the order of an audit. A keeper has the
@@ -36,48 +41,99 @@ impl Trace {
         }
     }
 
-    // Inline, so that no entry passes through memory.
+    // Takes an entry. Returns whether the same entry would fit again, and change nothing.
     #[inline(always)]
     fn take<K: Keeper>(
         &mut self,
         start: &State,
         noted: &Noted,
         keeper: &mut K,
+    ) -> Result<bool, AllocError>
+        ensures trace { IfOk result (λ _. (least : ℕ) → (before : List Noted)
+            → IsTrace (K.holds keeper.old) start.now least before self.old
+            → IsTrace (K.holds keeper.new) start.now least (before ++ noted.now ∷ []) self.new) }
+        ensures repeats { IfOk result (λ repeats. IsTrue repeats
+            → Repeats start.now noted.now self.new) }
+    {
+        let is_done = noted.is_done();
+        self.top = self.top.max(noted.entry.stamp);
+        if is_done {
+            self.stamps.push(noted.entry.stamp)?;
+        }
+        if self.misfit.is_some() {
+            return Ok(false);
+        }
+        let answer = apply(&mut self.state, noted.machine, noted.entry.call);
+        if !noted.fits(start, &answer) {
+            self.misfit = Some(noted.entry.stamp);
+            return Ok(false);
+        }
+        keeper.keep(noted.machine, &noted.entry, 1)?;
+        Ok(!is_done)
+    }
+
+    // Takes a run. Once its entry has fitted and changed nothing, the interlock isn't asked again.
+    fn take_run<K: Keeper>(
+        &mut self,
+        start: &State,
+        run: &Run<'_>,
+        keeper: &mut K,
     ) -> Result<(), AllocError>
         ensures { IfOk result (λ _. (least : ℕ) → (before : List Noted)
             → IsTrace (K.holds keeper.old) start.now least before self.old
-            → IsTrace (K.holds keeper.new) start.now least (before ++ noted.now ∷ []) self.new) }
+            → IsTrace (K.holds keeper.new) start.now least (before ++ run_of run.now) self.new) }
     {
-        self.top = self.top.max(noted.entry.stamp);
-        if noted.is_done() {
-            self.stamps.push(noted.entry.stamp)?;
-        }
-        if self.misfit.is_none() {
-            let answer = apply(&mut self.state, noted.machine, noted.entry.call);
-            if noted.fits(start, &answer) {
-                keeper.keep(noted.machine, &noted.entry)?;
-            } else {
-                self.misfit = Some(noted.entry.stamp);
+        let noted = Noted {
+            machine: run.machine,
+            entry: *run.entry,
+            in_turn: true,
+        };
+        for taken in 0..run.count {
+            if self.take(start, &noted, keeper)? {
+                return keeper.keep(run.machine, run.entry, run.count - taken - 1);
             }
         }
         Ok(())
     }
 
-    /// What all entries come to, if none has been taken yet.
-    pub fn follow<K: Keeper, E: Entries>(
+    /// What the entries of journals come to, if none has been taken yet; `None` if one of them isn't
+    /// in turn.
+    pub fn follow_merged<K: Keeper>(
         self,
         start: &State,
-        entries: E,
+        journals: &Journals,
+        keeper: &mut K,
+    ) -> Result<Option<Trace>, AllocError>
+        ensures { let ordered = in_order (all_noted (journal_of journals.now)) in
+            IfOk result (λ merged. IfSome merged (λ trace. (least : ℕ)
+            → IsTrace (K.holds keeper.old) start.now least [] self
+            → IsTrace (K.holds keeper.new) start.now least ordered trace)) }
+    {
+        let mut trace = self;
+        let mut left = Merge::new(journals);
+        while let Some(run) = left.next_run() {
+            if !run.in_turn {
+                return Ok(None);
+            }
+            trace.take_run(start, &run, keeper)?;
+        }
+        Ok(Some(trace))
+    }
+
+    /// What sorted entries come to, if none has been taken yet.
+    pub fn follow_sorted<K: Keeper>(
+        self,
+        start: &State,
+        sorted: &[Noted],
         keeper: &mut K,
     ) -> Result<Trace, AllocError>
         ensures { IfOk result (λ trace. (least : ℕ)
             → IsTrace (K.holds keeper.old) start.now least [] self
-            → IsTrace (K.holds keeper.new) start.now least (E.rest entries) trace) }
+            → IsTrace (K.holds keeper.new) start.now least sorted.now trace) }
     {
         let mut trace = self;
-        let mut entries = entries;
-        while let Some(noted) = entries.next_noted() {
-            trace.take(start, &noted, keeper)?;
+        for noted in sorted {
+            trace.take(start, noted, keeper)?;
         }
         Ok(trace)
     }

@@ -1,0 +1,16 @@
+use Rattle.std.proofs.Common.{sym, subst}
+use Rattle.std.proofs.lemmas.List.{take_more, take_all}
+use Rattle.cell_report.specs.Traces.{IsTrace}
+use Rattle.cell_report.proofs.traces.Trace.follow_sorted.Goals as goal
+
+pub loop-noted-preserved : goal.loop-noted-preserved
+loop-noted-preserved g c = λ least is.
+    subst (λ l. IsTrace (g.K.Keeper.holds c.take.new.keeper) c.args.start.now least l c.take.new.self)
+    (sym (take_more c.args.sorted.now c.loop-noted.noted-index _ c.loop-noted-test.true))
+    (c.in_ok-take.ensures.trace least _ (c.loop-noted.invariant least is))
+
+pub returns : goal.returns
+returns g c = λ least is.
+    subst (λ l. IsTrace (g.K.Keeper.holds c.loop-noted.keeper) c.args.start.now least l c.loop-noted.trace)
+    (take_all c.loop-noted.noted-index c.args.sorted.now c.loop-noted-test.false)
+    (c.loop-noted.invariant least is)

@@ -1,0 +1,8 @@
+use Rattle.std.proofs.Common.{ℕ, [], take}
+use Rattle.cell_report.specs.Traces.{IsTrace}
+use Rattle.cell_report.proofs.traces.Trace.follow_sorted.Given as goal
+
+abbrev pub invariant-loop-noted : goal.invariant-loop-noted
+invariant-loop-noted g l =
+    (least : ℕ) → IsTrace (g.K.Keeper.holds l.initial.keeper) l.start least [] l.initial.trace
+    → IsTrace (g.K.Keeper.holds l.keeper) l.start least (take l.noted-index l.sorted) l.trace
