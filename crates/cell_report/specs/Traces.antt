@@ -10,19 +10,22 @@ use Rattle.cell_report.specs.AuditFaults.{HasStamps, Fits, IsMisfit}
 use Rattle.cell_report.specs.Retraced.{Retraced}
 
 -- holds: what the keeper has
-pub record IsTrace (holds : List Event → Type 0) (start : ModelState) (least : ℕ) (ordered : List Noted) (trace : Trace) : Type 0 where
+pub record IsTrace (holds : List Event → Type 0) (start : ModelState) (least : ℕ) (ordered : List Noted)
+    (trace : Trace) : Type 0 where
   pub stamps : trace.stamps.items ≡ done_stamps ordered
   pub top : trace.top ≡ greatest least ordered
   pub fit : MatchOption trace.misfit (Retraced holds start ordered trace.state) (IsMisfit start ordered)
 
 -- of all entries, in the order
-pub record IsTraceOf (holds : List Event → Type 0) (start : ModelState) (least : ℕ) (all : List Noted) (trace : Trace) : Type 0 where
+pub record IsTraceOf (holds : List Event → Type 0) (start : ModelState) (least : ℕ) (all : List Noted)
+    (trace : Trace) : Type 0 where
   pub ordered : List Noted
   pub order : InOrder all ordered
   pub is : IsTrace holds start least ordered trace
 
 -- and each stamp after the start's, up to the top, belongs to exactly one Done entry
-pub record IsStampedTrace (holds : List Event → Type 0) (start : ModelState) (least : ℕ) (all : List Noted) (trace : Trace) : Type 0 where
+pub record IsStampedTrace (holds : List Event → Type 0) (start : ModelState) (least : ℕ) (all : List Noted)
+    (trace : Trace) : Type 0 where
   pub ordered : List Noted
   pub stamps : HasStamps start.stamp (greatest least all) all ordered
   pub is : IsTrace holds start least ordered trace

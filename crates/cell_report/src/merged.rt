@@ -10,12 +10,14 @@ use crate::same::is_same_entry;
 use cell_types::{Entry, Journals, Machine};
 
 /// How many entries at the beginning are the same as this one.
-fn count_same(entries: &[Entry], entry: &Entry) -> usize
+// The entry is a copy, so that it isn't read again for each other one.
+#[inline(always)]
+fn count_same(entries: &[Entry], entry: Entry) -> usize
     ensures within { result ≤ length entries.now }
-    ensures same { take result entries.now ≡ replicate result entry.now }
+    ensures same { take result entries.now ≡ replicate result entry }
 {
     let mut count = 0;
-    while count < entries.len() && is_same_entry(&entries[count], entry) {
+    while count < entries.len() && is_same_entry(&entry, &entries[count]) {
         count += 1;
     }
     count
@@ -23,12 +25,14 @@ fn count_same(entries: &[Entry], entry: &Entry) -> usize
 
 impl<'a> Rest<'a> {
     /// The next run of the journal, or `None` after the last.
+    // Inline, so that no run passes through memory.
+    #[inline(always)]
     pub fn next_run(&mut self) -> Option<Run<'a>>
         ensures { MatchOption result (self.old.entries.now ≡ [])
             (λ run. merged.IsRun self.old self.new run) }
     {
         let (entry, others) = self.entries.split_first()?;
-        let again = count_same(others, entry);
+        let again = count_same(others, *entry);
         let before = self.key;
         *self = Rest::new(self.machine, &others[again..]);
         Some(Run {
@@ -84,6 +88,7 @@ impl<'a> Merge<'a> {
 
     /// The next run in the order, or `None` after the last.
     // While the key stays, so does the place, and no other rest is looked at.
+    #[inline(always)]
     pub fn next_run(&mut self) -> Option<Run<'a>>
         ensures { MatchOption result (merged.left_of_all self.old.rests ≡ [])
             (λ run. merged.IsMerged self.old.rests self.new.rests run) }

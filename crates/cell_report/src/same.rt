@@ -4,15 +4,27 @@ ghost use Rattle.cell_types.specs.Everything.{all_zones, all_places};
 ghost use Rattle.cell_rules.specs.ModelState.{zone_at, is_full};
 
 use cell_rules::{State, ZoneState};
-use cell_types::{Answer, Call, Entry, Place, Zone};
+use cell_types::{Answer, Call, Entry, Place, Refusal, Zone};
+
+#[inline(always)]
+fn is_same_refusal(a: &Refusal, b: &Refusal) -> bool
+    ensures { IsTrue result ↔ (a.now ≡ b.now) }
+{
+    *a == *b
+}
 
 /// Whether two answers are the same.
+#[inline(always)]
 pub fn is_same_answer(a: &Answer, b: &Answer) -> bool
     ensures { IsTrue result ↔ (a.now ≡ b.now) }
 {
-    a == b
+    match (a, b) {
+        (Answer::Refused(a), Answer::Refused(b)) => is_same_refusal(a, b),
+        _ => *a == *b,
+    }
 }
 
+#[inline(always)]
 fn is_same_call(a: &Call, b: &Call) -> bool
     ensures { IsTrue result ↔ (a.now ≡ b.now) }
 {
@@ -20,6 +32,8 @@ fn is_same_call(a: &Call, b: &Call) -> bool
 }
 
 /// Whether two entries are the same.
+// Inline, as what it calls: it is asked of each entry.
+#[inline(always)]
 pub fn is_same_entry(a: &Entry, b: &Entry) -> bool
     ensures { IsTrue result ↔ (a.now ≡ b.now) }
 {

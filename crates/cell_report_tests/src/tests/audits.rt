@@ -1,7 +1,7 @@
 //! Audits of a few entries, each journal made by hand.
 
 use super::{EMPTY, start_at};
-use cell_report::{AuditFault, audit};
+use cell_report::{AuditFault, audit, find_fault};
 use cell_rules::{State, apply};
 use cell_types::{
     Answer, Call, Entry, Event, Journals, Machine, Place, Pose, Posture, Refusal, Zone,
@@ -135,6 +135,28 @@ const ROWS: &[Row] = &[
         &[INQUIRY, PRESS_CLAIMS, ALREADY],
         &[(Machine::Press, Call::Release(Zone::Z3), DONE, 2)],
         Some(AuditFault::Differs(1)),
+    ),
+    // The press asks again and again, and once more after it has released the zone.
+    (0, &[PRESS_CLAIMS, ALREADY, ALREADY], &[ALREADY], None),
+    (
+        0,
+        &[PRESS_CLAIMS, ALREADY, ALREADY],
+        &[
+            (Machine::Press, Call::Release(Zone::Z3), DONE, 2),
+            (
+                Machine::Press,
+                Call::Claim(Zone::Z3),
+                Answer::Refused(Refusal::AlreadyMine),
+                2,
+            ),
+        ],
+        Some(AuditFault::Differs(2)),
+    ),
+    (
+        0,
+        &[PRESS_CLAIMS, PRESS_CLAIMS],
+        &[],
+        Some(AuditFault::Twice(1)),
     ),
     // Two entries differ: the first one's stamp is the answer.
     (
@@ -273,14 +295,20 @@ fn journals_of(rt: &impl Abort, alloc: Global, notes: &[Note], more: &[Note]) ->
     journals
 }
 
-/// The fault for which an audit refuses the journals.
+/// The fault for which an audit refuses the journals, with its events or without them.
 fn fault_of(
+    rt: &impl Abort,
     alloc: Global,
     journals: &Journals,
     start: &State,
     end: Option<&State>,
 ) -> Option<AuditFault> {
-    audit(alloc, journals, start, end).err()
+    let fault = audit(alloc, journals, start, end).err();
+    assert!(rt;
+        find_fault(alloc, journals, start, end) == fault,
+        "{fault:?}"
+    );
+    fault
 }
 
 #[test]
@@ -288,10 +316,10 @@ fn refuses_what_no_history_wrote(rt: HostRuntime) {
     for (stamp, notes, more, fault) in ROWS {
         let start = start_at(&rt, EMPTY, *stamp);
         let journals = journals_of(&rt, rt.alloc(), notes, more);
-        let got = fault_of(rt.alloc(), &journals, &start, None);
+        let got = fault_of(&rt, rt.alloc(), &journals, &start, None);
         assert!(rt; got == *fault, "{fault:?}");
         // A wrong end comes last.
-        let got = fault_of(rt.alloc(), &journals, &start, Some(&start));
+        let got = fault_of(&rt, rt.alloc(), &journals, &start, Some(&start));
         assert!(rt; fault.is_none() || got == *fault, "{fault:?}");
     }
 }
@@ -360,7 +388,7 @@ fn compares_the_mark_of_the_end(rt: HostRuntime) {
     let journals = journals_of(&rt, rt.alloc(), &STOPPED, &[]);
     for (stopped, fault) in [(true, None), (false, Some(AuditFault::End))] {
         let end = State::checked(start.zones(), start.full(), 1, stopped).expect(&rt, "an end");
-        let got = fault_of(rt.alloc(), &journals, &start, Some(&end));
+        let got = fault_of(&rt, rt.alloc(), &journals, &start, Some(&end));
         assert!(rt; got == fault, "{fault:?}");
     }
 }
@@ -387,7 +415,7 @@ fn compares_the_end_whole(rt: HostRuntime) {
         (&fuller, Some(AuditFault::End)),
         (&stopped, Some(AuditFault::End)),
     ] {
-        let got = fault_of(rt.alloc(), &journals, &start, Some(end));
+        let got = fault_of(&rt, rt.alloc(), &journals, &start, Some(end));
         assert!(rt; got == fault, "{fault:?}");
     }
 }
@@ -406,4 +434,6 @@ fn wants_memory_or_answers(rt: HostRuntime) {
         Err(fault) => fault == AuditFault::Memory,
     };
     assert!(rt; is_right);
+    let fault = find_fault(rt.alloc(), &journals, &start, Some(&end));
+    assert!(rt; fault.is_none() || fault == Some(AuditFault::Memory));
 }
