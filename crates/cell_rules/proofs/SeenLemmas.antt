@@ -1,8 +1,9 @@
 -- What a call adds to a history, and to what its caller has seen.
-use Rattle.std.proofs.Common.{◌≡◌, cond, true, List, [], ◌∷◌, ◌++◌, refl, sym, ap, ◌∙◌, append-nil}
+use Rattle.std.proofs.Common.{arith, ◌≡◌, cond, true, ◌-◌, List, [], ◌∷◌, ◌++◌, length, Some, refl, sym, ap, ◌∙◌, append-nil}
+use Rattle.std.specs.Prelude.{slice_get}
 use Rattle.std.proofs.Props.{props}
 use Rattle.std.proofs.Math.Logic.{∥∥₁_elim}
-use Rattle.std.proofs.lemmas.List.{append_cancel_left}
+use Rattle.std.proofs.lemmas.List.{append_cancel_left, length-append}
 use Rattle.std.proofs.lemmas.List.Elements.{filter-append}
 use Rattle.cell_types.specs.declared.machine.Machine.{Machine}
 use Rattle.cell_types.specs.declared.call.Call.{Call}
@@ -14,6 +15,7 @@ use Rattle.cell_rules.specs.Reply.{reply, next}
 use Rattle.cell_rules.specs.History.{after, IsLegal, own_events}
 use Rattle.cell_rules.specs.Seen.{event, Settles, Waits}
 use Rattle.cell_rules.specs.Stored.{IsHistory}
+use Rattle.cell_rules.specs.BenchView.{last_event}
 use Rattle.cell_rules.proofs.Tables.{from_machines}
 use Rattle.cell_rules.proofs.Histories.{after-append}
 
@@ -66,3 +68,14 @@ foreign_between m before more e =
 
 pub waits-foreign : (m : Machine) (before now : List Event) (w : Waits m before now) → own_events w.begins.0 m ≡ []
 waits-foreign m before now w = foreign_between m before w.begins.0 (ap (λ h. own_events h m) (sym w.begins.1) ∙ w.own)
+
+-- a history's last event is the one that was added last
+at_end : (h : List Event) (e : Event) → slice_get (h ++ e ∷ []) (length h) ≡ Some e
+at_end [] e = refl
+at_end (x ∷ h) e = at_end h e
+
+length-push : (h : List Event) (e : Event) → length (h ++ e ∷ []) - 1 ≡ length h
+length-push h e = rw (length-append h (e ∷ [])) (grind (arith))
+
+pub last-push : (h : List Event) (e : Event) → last_event (h ++ e ∷ []) ≡ Some e
+last-push h e = ap (slice_get (h ++ e ∷ [])) (length-push h e) ∙ at_end h e

@@ -1,5 +1,5 @@
 -- The journals of callers who each have seen a prefix of one legal history, with all their own events, tell that history.
-use Rattle.std.proofs.Common.{◌≡◌, List, [], ◌∷◌, ◌++◌, map, Some, refl, sym, ap, ◌∙◌, append-nil}
+use Rattle.std.proofs.Common.{◌≡◌, List, ◌++◌, map, Some, refl, sym, ap, ◌∙◌, append-nil}
 use Rattle.cell_types.specs.declared.machine.Machine.{Machine}
 use Rattle.cell_types.specs.declared.answer.Event.{Event}
 use Rattle.cell_types.specs.declared.journal.Entry.{Entry}

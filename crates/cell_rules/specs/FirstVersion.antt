@@ -4,8 +4,6 @@
 -- changes are those of `Refusals` and `Reply`, which `refusals_tell_causes` and the other laws hold.
 use Rattle.std.specs.Prelude.{◌≡◌, ◌+◌, Bool, true, false, Option, None, IsTrue}
 use Rattle.cell_types.specs.declared.machine.Machine.{Machine}
-use Rattle.cell_types.specs.declared.zone.Zone.{Zone}
-use Rattle.cell_types.specs.declared.pose.Pose.{Pose}
 use Rattle.cell_types.specs.declared.call.Call.{Call}
 use Rattle.cell_types.specs.declared.call.Call.TheVariants.{Claim, Give, Yield, Take, Release, SetPose, Advance}
 use Rattle.cell_types.specs.declared.call.Call.TheVariants.{Inquire, Stop, Resume}

@@ -1,11 +1,20 @@
 ghost use Rattle.cell_rules.specs.Stored.{IsHistory};
 
 use crate::answers::{answer, apply_answer};
-use crate::heard::{Heard, LineFault};
+use crate::heard::{Answered, Heard, LineFault};
 use crate::line::Line;
 use crate::state::State;
 use cell_types::{Call, Event, Machine, Reply};
 use std::alloc::Global;
+
+// How the last call ended. A call that was settled is the last event of the history.
+#[derive(Clone, Copy)]
+enum Outcome {
+    Nothing,
+    Settled,
+    Busy(Call),
+    OutOfMemory(Call),
+}
 
 /// A sequential interlock that stores its history and the state that it opened with.
 ///
@@ -18,7 +27,8 @@ pub struct Bench {
     history: Vec<Event>,
     machine: Machine,
     busy: bool,
-    heard: Heard,
+    asks: u64,
+    outcome: Outcome,
     ghost kept: { ∥ IsHistory opening state history.items ∥₁ },
 }
 
@@ -26,9 +36,8 @@ impl Bench {
     ghost use Rattle.std.specs.Prelude.{◌≡◌, false, []};
     ghost use Rattle.cell_rules.specs.History.{after};
     ghost use Rattle.cell_rules.specs.Laws.{LawfulThroughout};
-    ghost use Rattle.cell_rules.specs.Seen.{SeenAfter, heard_nothing};
-    ghost use Rattle.cell_rules.specs.Benches.{BenchAsks};
-    ghost use Rattle.cell_rules.specs.BenchView.{desk_of};
+    ghost use Rattle.cell_rules.specs.Seen.{heard_nothing};
+    ghost use Rattle.cell_rules.specs.BenchView.{desk_of, heard_of};
 
     /// A bench that opens with this state. It allocates nothing until the first call.
     pub fn new(alloc: Global, opening: State) -> Bench
@@ -39,7 +48,7 @@ impl Bench {
           machine = Machine.Watch;
           busy = false;
         } }
-        ensures heard { result.heard ≡ heard_nothing }
+        ensures heard { heard_of result ≡ heard_nothing }
     {
         let _ = &opening.stamp;
         Bench {
@@ -48,7 +57,8 @@ impl Bench {
             history: Vec::new(alloc),
             machine: Machine::Watch,
             busy: false,
-            heard: Heard::nothing(),
+            asks: 0,
+            outcome: Outcome::Nothing,
         }
     }
 
@@ -57,7 +67,7 @@ impl Bench {
     pub fn seat(&mut self, machine: Machine, busy: bool)
         ensures desk { desk_of self.new
             ≡ record (desk_of self.old) { machine = machine; busy = busy } }
-        ensures heard { self.new.heard ≡ self.old.heard }
+        ensures heard { heard_of self.new ≡ heard_of self.old }
     {
         self.machine = machine;
         self.busy = busy;
@@ -79,15 +89,62 @@ impl Bench {
         &self.history
     }
 
-    // The call itself. `ask` then records it in `heard`.
-    #[inline(always)]
-    fn make(&mut self, call: Call) -> Result<Reply, LineFault>
-        ensures asks { BenchAsks (desk_of self.old) call result (desk_of self.new) }
-        ensures seen { SeenAfter self.old.machine call result
-            self.old.opening self.old.history.items self.new.history.items }
-        ensures heard { self.new.heard ≡ self.old.heard }
+    // The last call, and what came back. Only a bench's own calls change its state, so the stamp that
+    // came back is that of the state.
+    fn last_heard(&self) -> Option<(Call, Answered)>
+        ensures { result ≡ (heard_of self.now).last }
     {
+        let stamp = self.state.stamp();
+        match self.outcome {
+            Outcome::Nothing => None,
+            Outcome::Settled => match self.history.last() {
+                Some(event) => Some((event.call, Ok(Reply::Settled(event.answer, stamp)))),
+                None => None,
+            },
+            Outcome::Busy(call) => Some((call, Ok(Reply::Busy { lost: 1, stamp }))),
+            Outcome::OutOfMemory(call) => Some((call, Err(LineFault::Memory))),
+        }
+    }
+}
+
+impl Line for Bench {
+    ghost use Rattle.std.proofs.Math.Logic.{∥∥₁_elim};
+    ghost use Rattle.cell_rules.specs.Stored.{IsSound-prop, IsLegal-prop};
+    ghost use Rattle.cell_rules.specs.Benches.{BenchAsks};
+    ghost use Rattle.cell_rules.specs.BenchView.{desk_of, heard_of};
+
+    ghost machine = { λ b. b.machine };
+
+    ghost opening = { λ b. b.opening };
+
+    ghost seen = { λ b. b.history.items };
+
+    ghost heard = { heard_of };
+
+    // What a call answers and leaves; Busy exactly if `seat` said so.
+    ghost asks = { λ b call r d. BenchAsks (desk_of b) call r (desk_of d) };
+
+    ghost sound = { λ b. ∥∥₁_elim b.kept (IsSound-prop b.opening) (λ k. k.sound) };
+
+    ghost legal = { λ b. ∥∥₁_elim b.kept (IsLegal-prop b.opening b.history.items) (λ k. k.legal) };
+
+    fn machine(&self) -> Machine {
+        self.machine
+    }
+
+    fn heard(&self) -> Heard {
+        Heard {
+            asks: self.asks,
+            last: self.last_heard(),
+        }
+    }
+
+    // inline, so that the answer need not pass through memory
+    #[inline(always)]
+    fn ask(&mut self, call: Call) -> Result<Reply, LineFault> {
+        self.asks = self.asks.wrapping_add(1);
         if self.busy {
+            self.outcome = Outcome::Busy(call);
             return Ok(Reply::Busy {
                 lost: 1,
                 stamp: self.state.stamp(),
@@ -103,47 +160,13 @@ impl Bench {
         match self.history.push(event) {
             Ok(()) => {
                 apply_answer(&mut self.state, machine, call, answer);
+                self.outcome = Outcome::Settled;
                 Ok(Reply::Settled(answer, self.state.stamp()))
             }
-            Err(_) => Err(LineFault::Memory),
+            Err(_) => {
+                self.outcome = Outcome::OutOfMemory(call);
+                Err(LineFault::Memory)
+            }
         }
-    }
-}
-
-impl Line for Bench {
-    ghost use Rattle.std.proofs.Math.Logic.{∥∥₁_elim};
-    ghost use Rattle.cell_rules.specs.Stored.{IsSound-prop, IsLegal-prop};
-    ghost use Rattle.cell_rules.specs.Benches.{BenchAsks};
-    ghost use Rattle.cell_rules.specs.BenchView.{desk_of};
-
-    ghost machine = { λ b. b.machine };
-
-    ghost opening = { λ b. b.opening };
-
-    ghost seen = { λ b. b.history.items };
-
-    ghost heard = { λ b. b.heard };
-
-    // What a call answers and leaves; Busy exactly if `seat` said so.
-    ghost asks = { λ b call r d. BenchAsks (desk_of b) call r (desk_of d) };
-
-    ghost sound = { λ b. ∥∥₁_elim b.kept (IsSound-prop b.opening) (λ k. k.sound) };
-
-    ghost legal = { λ b. ∥∥₁_elim b.kept (IsLegal-prop b.opening b.history.items) (λ k. k.legal) };
-
-    fn machine(&self) -> Machine {
-        self.machine
-    }
-
-    fn heard(&self) -> Heard {
-        self.heard
-    }
-
-    // inline, so that the answer need not pass through memory
-    #[inline(always)]
-    fn ask(&mut self, call: Call) -> Result<Reply, LineFault> {
-        let answered = self.make(call);
-        self.heard = self.heard.after(call, answered);
-        answered
     }
 }

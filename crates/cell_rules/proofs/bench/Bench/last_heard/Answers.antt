@@ -1,0 +1,8 @@
+use Rattle.std.proofs.Common.{ap, ◌∙◌}
+use Rattle.std.specs.Option.{option_map}
+use Rattle.cell_rules.specs.BenchView.{last_event, settled_at}
+use Rattle.cell_rules.proofs.bench.Bench.last_heard.Goals as goal
+
+pub returns-in-Some : goal.returns-in-Some
+returns-in-Some c =
+    rw (c.in-Settled.is, c.stamp-stamp.ensures.stamp) (ap (option_map (settled_at c.args.self.now.state)) (c.in-Some.ensures.value ∙ ap last_event c.deref.ensures.value))
