@@ -1,7 +1,63 @@
 ghost use Rattle.std.specs.Prelude.{◌≡◌, ◌*◌, ◌/◌, ◌≤◌, ◌<◌, ◌≤ℤ◌, pos, ◌<ℤ◌, ◌-ℤ◌};
+ghost use Rattle.cell_parts.specs.Axes.{IsWithin, rotation_end};
+ghost use Rattle.cell_parts.specs.Plant.{standing, set_axis, moved_axis};
 ghost use Rattle.cell_parts.specs.Shows.{ShowsRaw};
 
+use crate::axis::Axis;
 use cell_calib::Points;
+use cell_devices::Motor;
+
+/// An axis with a potentiometer. It keeps what the sensor shows, which changes only when the axis
+/// moves.
+#[derive(Drop, Debug)]
+pub(crate) struct MeasuredAxis {
+    /// The axis.
+    pub(crate) axis: Axis,
+    /// The points of its potentiometer.
+    points: Points,
+    // What the potentiometer shows.
+    raw: u16,
+    // The raw value is the position's.
+    ghost shows: { ShowsRaw points axis.position raw },
+}
+
+impl MeasuredAxis {
+    /// An axis at rest at a position. These are the points of its potentiometer.
+    pub(crate) fn standing(position: i32, points: Points) -> MeasuredAxis
+        ensures axis { result.axis ≡ standing position }
+        ensures points { result.points ≡ points }
+    {
+        MeasuredAxis {
+            axis: Axis::standing(position),
+            points,
+            raw: raw_at(&points, position),
+        }
+    }
+
+    /// What the potentiometer shows: the raw value of its position.
+    pub(crate) fn raw(&self) -> u16
+        ensures { ShowsRaw self.now.points self.now.axis.position result }
+    {
+        self.raw
+    }
+
+    /// Sets its motor, and moves for a tick. A new raw value is worked out only if the axis has
+    /// moved.
+    pub(crate) fn tick(&mut self, motor: Motor, end: i32)
+        requires within { IsWithin end self.old.axis.position }
+        requires length { end ≤ℤ rotation_end }
+        ensures axis { self.new.axis ≡ moved_axis end (set_axis self.old.axis motor) }
+        ensures points { self.new.points ≡ self.old.points }
+        ensures within { IsWithin end self.new.axis.position }
+    {
+        let position = self.axis.set(motor).after_tick(end).position;
+        self.axis.motor = motor;
+        if position != self.axis.position {
+            self.axis.position = position;
+            self.raw = raw_at(&self.points, position);
+        }
+    }
+}
 
 /// The raw value that an ideal sensor gives at a position, rounded down. Beyond the points it is
 /// the nearer point's.

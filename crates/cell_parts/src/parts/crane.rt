@@ -4,7 +4,7 @@ ghost use Rattle.cell_parts.specs.Plant.{crane_at_start};
 
 use crate::axis::Axis;
 use crate::plant::CranePlant;
-use crate::potentiometer::raw_at;
+use crate::potentiometer::MeasuredAxis;
 use cell_calib::{CraneSense, Points};
 use cell_control::Part;
 use cell_devices::CraneAct;
@@ -30,12 +30,11 @@ pub const CRANE_FEED_FROM: i32 = 1990;
 /// The crane. Its travel goes from 0, over the deposit belt, to 2000, over the feed belt, with a
 /// switch at each end. Its gripper's height goes from 0 to 1000, with a potentiometer. Its gripper
 /// has a magnet.
-#[derive(Clone, Copy, Debug)]
+#[derive(Drop, Debug)]
 pub struct CranePart {
     travel: Axis,
-    gripper: Axis,
+    gripper: MeasuredAxis,
     magnet: bool,
-    points: Points,
 }
 
 impl Model for CranePart {
@@ -46,11 +45,9 @@ impl Model for CranePart {
 
     ghost Value = { Scaled CranePlant Scale };
 
-    ghost view = { λ c. record { plant = record { travel = c.travel; gripper = c.gripper; magnet = c.magnet }; scale = c.points } };
+    ghost view = { λ c. record { plant = record { travel = c.travel; gripper = c.gripper.axis; magnet = c.magnet }; scale = c.gripper.points } };
 
-    ghost invariant = { λ c. IsWithin crane_end c.travel.position × IsWithin gripper_end c.gripper.position };
-
-    ghost inverse = { λ v. record { travel = v.plant.travel; gripper = v.plant.gripper; magnet = v.plant.magnet; points = v.scale } };
+    ghost invariant = { λ c. IsWithin crane_end c.travel.position × IsWithin gripper_end c.gripper.axis.position };
 }
 
 impl CranePart {
@@ -62,9 +59,8 @@ impl CranePart {
     {
         CranePart {
             travel: Axis::standing(0),
-            gripper: Axis::standing(GRIPPER_START),
+            gripper: MeasuredAxis::standing(GRIPPER_START, points),
             magnet: state.is_full(Place::Crane),
-            points,
         }
     }
 
@@ -74,7 +70,7 @@ impl CranePart {
     {
         CranePlant {
             travel: self.travel,
-            gripper: self.gripper,
+            gripper: self.gripper.axis,
             magnet: self.magnet,
         }
     }
@@ -92,7 +88,7 @@ impl CranePart {
         ensures value { result ≡ self.now.plant.gripper.position }
         ensures within { IsWithin gripper_end result }
     {
-        self.gripper.position
+        self.gripper.axis.position
     }
 }
 
@@ -120,7 +116,7 @@ impl Part for CranePart {
         CraneSense {
             deposit: travel <= CRANE_DEPOSIT_TO,
             feed: CRANE_FEED_FROM <= travel,
-            gripper: raw_at(&self.points, self.gripper.position),
+            gripper: self.gripper.raw(),
         }
     }
 
@@ -128,7 +124,7 @@ impl Part for CranePart {
 
     fn tick(&mut self, act: &CraneAct) {
         self.travel = self.travel.set(act.travel).after_tick(CRANE_END);
-        self.gripper = self.gripper.set(act.height).after_tick(GRIPPER_END);
+        self.gripper.tick(act.height, GRIPPER_END);
         self.magnet = act.magnet;
     }
 }

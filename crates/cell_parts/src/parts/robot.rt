@@ -2,9 +2,8 @@ ghost use Rattle.std.specs.Prelude.{◌≡◌};
 ghost use Rattle.cell_parts.specs.Axes.{IsWithin, arm_end, rotation_end};
 ghost use Rattle.cell_parts.specs.Plant.{robot_at_start};
 
-use crate::axis::Axis;
 use crate::plant::RobotPlant;
-use crate::potentiometer::raw_at;
+use crate::potentiometer::MeasuredAxis;
 use cell_calib::{Points, RobotSense};
 use cell_control::Part;
 use cell_devices::RobotAct;
@@ -34,14 +33,13 @@ pub struct RobotPoints {
 
 /// The robot. Its arms go from 0 to 1000, its rotation from 0 to 2000, each with a potentiometer.
 /// Each arm has a magnet.
-#[derive(Clone, Copy, Debug)]
+#[derive(Drop, Debug)]
 pub struct RobotPart {
-    arm1: Axis,
-    arm2: Axis,
-    rotation: Axis,
+    arm1: MeasuredAxis,
+    arm2: MeasuredAxis,
+    rotation: MeasuredAxis,
     magnet1: bool,
     magnet2: bool,
-    points: RobotPoints,
 }
 
 impl Model for RobotPart {
@@ -52,20 +50,11 @@ impl Model for RobotPart {
     ghost Value = { Scaled RobotPlant RobotScales };
 
     ghost view = { λ r. record {
-      plant = record { arm1 = r.arm1; arm2 = r.arm2; rotation = r.rotation; magnet1 = r.magnet1; magnet2 = r.magnet2 };
-      scale = record { arm1 = r.points.arm1; arm2 = r.points.arm2; rotation = r.points.rotation };
+      plant = record { arm1 = r.arm1.axis; arm2 = r.arm2.axis; rotation = r.rotation.axis; magnet1 = r.magnet1; magnet2 = r.magnet2 };
+      scale = record { arm1 = r.arm1.points; arm2 = r.arm2.points; rotation = r.rotation.points };
     } };
 
-    ghost invariant = { λ r. IsWithin arm_end r.arm1.position × (IsWithin arm_end r.arm2.position × IsWithin rotation_end r.rotation.position) };
-
-    ghost inverse = { λ v. record {
-      arm1 = v.plant.arm1;
-      arm2 = v.plant.arm2;
-      rotation = v.plant.rotation;
-      magnet1 = v.plant.magnet1;
-      magnet2 = v.plant.magnet2;
-      points = record { arm1 = v.scale.arm1; arm2 = v.scale.arm2; rotation = v.scale.rotation };
-    } };
+    ghost invariant = { λ r. IsWithin arm_end r.arm1.axis.position × (IsWithin arm_end r.arm2.axis.position × IsWithin rotation_end r.rotation.axis.position) };
 }
 
 impl RobotPart {
@@ -76,12 +65,11 @@ impl RobotPart {
         ensures scale { result.scale ≡ record { arm1 = points.arm1; arm2 = points.arm2; rotation = points.rotation } }
     {
         RobotPart {
-            arm1: Axis::standing(0),
-            arm2: Axis::standing(0),
-            rotation: Axis::standing(ROTATION_START),
+            arm1: MeasuredAxis::standing(0, points.arm1),
+            arm2: MeasuredAxis::standing(0, points.arm2),
+            rotation: MeasuredAxis::standing(ROTATION_START, points.rotation),
             magnet1: state.is_full(Place::Arm1),
             magnet2: state.is_full(Place::Arm2),
-            points,
         }
     }
 
@@ -90,9 +78,9 @@ impl RobotPart {
         ensures { result ≡ self.now.plant }
     {
         RobotPlant {
-            arm1: self.arm1,
-            arm2: self.arm2,
-            rotation: self.rotation,
+            arm1: self.arm1.axis,
+            arm2: self.arm2.axis,
+            rotation: self.rotation.axis,
             magnet1: self.magnet1,
             magnet2: self.magnet2,
         }
@@ -103,7 +91,7 @@ impl RobotPart {
         ensures value { result ≡ self.now.plant.arm1.position }
         ensures within { IsWithin arm_end result }
     {
-        self.arm1.position
+        self.arm1.axis.position
     }
 
     /// The second arm's extension, in tenths of a millimetre.
@@ -111,7 +99,7 @@ impl RobotPart {
         ensures value { result ≡ self.now.plant.arm2.position }
         ensures within { IsWithin arm_end result }
     {
-        self.arm2.position
+        self.arm2.axis.position
     }
 
     /// Its rotation, in tenths of a degree.
@@ -119,7 +107,7 @@ impl RobotPart {
         ensures value { result ≡ self.now.plant.rotation.position }
         ensures within { IsWithin rotation_end result }
     {
-        self.rotation.position
+        self.rotation.axis.position
     }
 }
 
@@ -144,18 +132,18 @@ impl Part for RobotPart {
 
     fn sensors(&self) -> RobotSense {
         RobotSense {
-            arm1: raw_at(&self.points.arm1, self.arm1.position),
-            arm2: raw_at(&self.points.arm2, self.arm2.position),
-            rotation: raw_at(&self.points.rotation, self.rotation.position),
+            arm1: self.arm1.raw(),
+            arm2: self.arm2.raw(),
+            rotation: self.rotation.raw(),
         }
     }
 
     fn note(&mut self, _event: &Event) {}
 
     fn tick(&mut self, act: &RobotAct) {
-        self.arm1 = self.arm1.set(act.arm1).after_tick(ARM_END);
-        self.arm2 = self.arm2.set(act.arm2).after_tick(ARM_END);
-        self.rotation = self.rotation.set(act.rotation).after_tick(ROTATION_END);
+        self.arm1.tick(act.arm1, ARM_END);
+        self.arm2.tick(act.arm2, ARM_END);
+        self.rotation.tick(act.rotation, ROTATION_END);
         self.magnet1 = act.magnet1;
         self.magnet2 = act.magnet2;
     }

@@ -4,7 +4,7 @@ ghost use Rattle.cell_parts.specs.Plant.{table_at_start};
 
 use crate::axis::Axis;
 use crate::plant::TablePlant;
-use crate::potentiometer::raw_at;
+use crate::potentiometer::MeasuredAxis;
 use cell_calib::{Points, TableSense};
 use cell_control::Part;
 use cell_devices::TableAct;
@@ -25,11 +25,10 @@ pub const TABLE_TOP_FROM: i32 = 590;
 
 /// The table. Its height goes from 0 to 600, with a switch at each end; its rotation goes from 0 to
 /// 500, with a potentiometer.
-#[derive(Clone, Copy, Debug)]
+#[derive(Drop, Debug)]
 pub struct TablePart {
     lift: Axis,
-    turn: Axis,
-    points: Points,
+    turn: MeasuredAxis,
 }
 
 impl Model for TablePart {
@@ -40,11 +39,9 @@ impl Model for TablePart {
 
     ghost Value = { Scaled TablePlant Scale };
 
-    ghost view = { λ t. record { plant = record { lift = t.lift; turn = t.turn }; scale = t.points } };
+    ghost view = { λ t. record { plant = record { lift = t.lift; turn = t.turn.axis }; scale = t.turn.points } };
 
-    ghost invariant = { λ t. IsWithin lift_end t.lift.position × IsWithin turn_end t.turn.position };
-
-    ghost inverse = { λ r. record { lift = r.plant.lift; turn = r.plant.turn; points = r.scale } };
+    ghost invariant = { λ t. IsWithin lift_end t.lift.position × IsWithin turn_end t.turn.axis.position };
 }
 
 impl TablePart {
@@ -56,8 +53,7 @@ impl TablePart {
     {
         TablePart {
             lift: Axis::standing(0),
-            turn: Axis::standing(0),
-            points,
+            turn: MeasuredAxis::standing(0, points),
         }
     }
 
@@ -67,7 +63,7 @@ impl TablePart {
     {
         TablePlant {
             lift: self.lift,
-            turn: self.turn,
+            turn: self.turn.axis,
         }
     }
 
@@ -84,7 +80,7 @@ impl TablePart {
         ensures value { result ≡ self.now.plant.turn.position }
         ensures within { IsWithin turn_end result }
     {
-        self.turn.position
+        self.turn.axis.position
     }
 }
 
@@ -112,7 +108,7 @@ impl Part for TablePart {
         TableSense {
             bottom: height <= TABLE_BOTTOM_TO,
             top: TABLE_TOP_FROM <= height,
-            turn: raw_at(&self.points, self.turn.position),
+            turn: self.turn.raw(),
         }
     }
 
@@ -120,6 +116,6 @@ impl Part for TablePart {
 
     fn tick(&mut self, act: &TableAct) {
         self.lift = self.lift.set(act.height).after_tick(LIFT_END);
-        self.turn = self.turn.set(act.rotation).after_tick(TURN_END);
+        self.turn.tick(act.rotation, TURN_END);
     }
 }
