@@ -6,7 +6,7 @@ ghost use Rattle.cell_control.specs.Turns.{Performs, Turns, HearsTurn, HearsOnce
 use crate::fault::CtlFault;
 use crate::program::Program;
 use cell_rules::{Answered, Line, State};
-use cell_types::{Answer, Refusal, Reply};
+use cell_types::{Answer, Call, Refusal, Reply};
 
 /// A machine's controller: its program, its progress in it, and what has stopped it.
 #[derive(Drop)]
@@ -68,53 +68,112 @@ impl<P: Program> Controller<P> {
         ensures reached { self.new.stopped ≡ None → IsReached (P.steps self.new.program) (L.opening line.new) (L.seen line.new) self.new.progress }
         ensures motor_demands { IfOk result (λ act. (P.steps self.old.program).motor_demands self.old.progress act (L.opening line.new) (L.seen line.new)) }
     {
+        self.take_turn(line, sense).act
+    }
+
+    /// The same turn, with what it asked.
+    ///
+    /// Errors and what they leave are those of [`Controller::turn`]. A call that was made is told
+    /// after an error too; a controller that had stopped asks nothing.
+    pub fn take_turn<L: Line>(&mut self, line: &mut L, sense: &P::Sense) -> TakenTurn<P::Act>
+        requires own { self.old.stopped ≡ None
+            → L.machine line.old ≡ (P.steps self.old.program).machine }
+        requires reached { self.old.stopped ≡ None → IsReached (P.steps self.old.program)
+            (L.opening line.old) (L.seen line.old) self.old.progress }
+        ensures row { Turns (P.steps self.old.program)
+            ((line.new ≡ line.old) × (result.asked ≡ None))
+            (λ c r. (L.asks line.old c r line.new × (L.heard line.new ≡ heard_after (L.heard line.old) c r))
+            × (result.asked ≡ Some (c, r)))
+            self.old.stopped self.old.progress sense.now
+            (record { result = result.act; progress = self.new.progress; stopped = self.new.stopped }) }
+        ensures heard { HearsTurn (P.steps self.old.program) self.old.stopped self.old.progress
+            sense.now (L.heard line.old) (L.heard line.new) }
+        ensures own { L.machine line.new ≡ L.machine line.old }
+        ensures opening { L.opening line.new ≡ L.opening line.old }
+        ensures program { self.new.program ≡ self.old.program }
+        ensures reached { self.new.stopped ≡ None → IsReached (P.steps self.new.program)
+            (L.opening line.new) (L.seen line.new) self.new.progress }
+        ensures motor_demands { IfOk result.act (λ act. (P.steps self.old.program).motor_demands
+            self.old.progress act (L.opening line.new) (L.seen line.new)) }
+    {
         if self.stopped.is_some() {
-            return Err(CtlFault::Stopped);
+            return TakenTurn {
+                asked: None,
+                act: Err(CtlFault::Stopped),
+            };
         }
-        match perform(&self.program, self.progress, line, sense) {
+        let (asked, performed) = perform(&self.program, self.progress, line, sense);
+        match performed {
             Ok((progress, act)) => {
                 self.progress = progress;
-                Ok(act)
+                TakenTurn {
+                    asked,
+                    act: Ok(act),
+                }
             }
             Err(fault) => {
                 self.stopped = Some(fault);
-                Err(fault)
+                TakenTurn {
+                    asked,
+                    act: Err(fault),
+                }
             }
         }
     }
 }
 
-// Performs the step: the next step, and the actuators' commands. A step that asks needs no reading,
-// so none is computed there.
+/// A turn that a controller has taken.
+#[derive(Clone, Copy)]
+pub struct TakenTurn<A: Copy> {
+    /// The call that was asked, and what came back. `None` if nothing was asked.
+    pub asked: Option<(Call, Answered)>,
+    /// The actuators' commands, or why there are none: then all motors are to be off.
+    pub act: Result<A, CtlFault>,
+}
+
+// Performs the step: what it asked; the next step, and the actuators' commands. A step that asks
+// needs no reading, so none is computed there.
 fn perform<P: Program, L: Line>(
     program: &P,
     progress: P::Progress,
     line: &mut L,
     sense: &P::Sense,
-) -> Result<(P::Progress, P::Act), CtlFault>
+) -> (
+    Option<(Call, Answered)>,
+    Result<(P::Progress, P::Act), CtlFault>,
+)
     requires own { L.machine line.old ≡ (P.steps program.now).machine }
     requires reached { IsReached (P.steps program.now) (L.opening line.old) (L.seen line.old) progress }
-    ensures row { Performs (P.steps program.now) (line.new ≡ line.old) (λ c r. L.asks line.old c r line.new × (L.heard line.new ≡ heard_after (L.heard line.old) c r)) progress sense.now result }
+    ensures row { Performs (P.steps program.now) ((line.new ≡ line.old) × (result.0 ≡ None))
+        (λ c r. (L.asks line.old c r line.new × (L.heard line.new ≡ heard_after (L.heard line.old) c r))
+        × (result.0 ≡ Some (c, r)))
+        progress sense.now result.1 }
     ensures heard { HearsOnce (P.steps program.now) progress sense.now (L.heard line.old) (L.heard line.new) }
     ensures own { L.machine line.new ≡ L.machine line.old }
     ensures opening { L.opening line.new ≡ L.opening line.old }
-    ensures reached { IfOk result (λ led. IsReached (P.steps program.now) (L.opening line.new) (L.seen line.new) led.0) }
-    ensures motor_demands { IfOk result (λ led. (P.steps program.now).motor_demands progress led.1 (L.opening line.new) (L.seen line.new)) }
+    ensures reached { IfOk result.1 (λ led. IsReached (P.steps program.now)
+        (L.opening line.new) (L.seen line.new) led.0) }
+    ensures motor_demands { IfOk result.1 (λ led. (P.steps program.now).motor_demands
+        progress led.1 (L.opening line.new) (L.seen line.new)) }
 {
     match program.call(progress) {
         Some(call) => match program.check(sense) {
-            Ok(_) => match after_call(program, progress, line.ask(call)) {
-                Ok(led) => Ok((led, program.rest(progress))),
-                Err(fault) => Err(fault),
-            },
-            Err(fault) => Err(CtlFault::Sensor(fault)),
+            Ok(_) => {
+                let answered = line.ask(call);
+                let asked = Some((call, answered));
+                match after_call(program, progress, answered) {
+                    Ok(led) => (asked, Ok((led, program.rest(progress)))),
+                    Err(fault) => (asked, Err(fault)),
+                }
+            }
+            Err(fault) => (None, Err(CtlFault::Sensor(fault))),
         },
         None => match program.check(sense) {
             Ok(reading) => {
                 let act = program.drive(progress, reading);
-                Ok((program.after_drive(progress, reading, act), act))
+                (None, Ok((program.after_drive(progress, reading, act), act)))
             }
-            Err(fault) => Err(CtlFault::Sensor(fault)),
+            Err(fault) => (None, Err(CtlFault::Sensor(fault))),
         },
     }
 }

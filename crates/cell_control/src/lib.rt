@@ -9,7 +9,7 @@ pub mod part;
 pub mod program;
 pub mod row;
 
-pub use controller::Controller;
+pub use controller::{Controller, TakenTurn};
 pub use fault::CtlFault;
 pub use part::Part;
 pub use program::Program;

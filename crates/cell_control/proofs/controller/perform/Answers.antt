@@ -4,9 +4,9 @@ use Rattle.cell_control.proofs.controller.perform.Goals as goal
 
 pub returns-in-Ok-after_call-clause-reached : goal.returns-in-Ok-after_call-clause-reached
 returns-in-Ok-after_call-clause-reached g c =
-    rw c.ask.ensures.opening (
-    reached_ask (g.P.Program.steps c.args.program.now) c.args.progress c.in-Ok-after_call.led c.in-Some.call c.ask.result (g.L.Line.opening c.args.line.now) (g.L.Line.seen c.args.line.now) (g.L.Line.seen c.ask.new.self)
-    (sym c.call.ensures ∙ c.in-Some.is) (rw c.requires.own at c.ask.ensures.seen) c.requires.reached (sym c.after_call.ensures ∙ c.in-Ok-after_call.is)
+    rw c.ask-answered.ensures.opening (
+    reached_ask (g.P.Program.steps c.args.program.now) c.args.progress c.in-Ok-after_call.led c.in-Some.call c.ask-answered.result (g.L.Line.opening c.args.line.now) (g.L.Line.seen c.args.line.now) (g.L.Line.seen c.ask-answered.new.self)
+    (sym c.call.ensures ∙ c.in-Some.is) (rw c.requires.own at c.ask-answered.ensures.seen) c.requires.reached (sym c.after_call.ensures ∙ c.in-Ok-after_call.is)
     )
 
 pub returns-in-Ok-check-clause-reached : goal.returns-in-Ok-check-clause-reached
