@@ -1,7 +1,7 @@
 //! What notebooks keep of calls, and the words of statuses.
 
-use cell_notes::{Counts, Notebook, Status, TurnCall, done_event, turn_call_between};
-use cell_rules::{Answered, Heard};
+use cell_notes::{Counts, Notebook, Status, TurnCall, done_event};
+use cell_rules::Answered;
 use cell_types::{Answer, Call, Entry, Event, Machine, Posture, Refusal, Reply, Zone};
 
 const INQUIRE: Call = Call::Inquire(Zone::Z3);
@@ -71,12 +71,8 @@ const CLAIMED: Event = Event {
 };
 
 #[test]
-fn what_was_asked_is_heard(rt: HostRuntime) {
-    let before = Heard::nothing();
-    let asked = turn_call_between(before, before.after(CLAIM, ANSWERED));
-    assert!(rt; turn_call_between(before, before).is_none());
-    assert!(rt; asked == Some((CLAIM, ANSWERED)));
-    assert!(rt; done_event(Machine::Press, asked) == Some(CLAIMED));
+fn a_done_call_is_an_event(rt: HostRuntime) {
+    assert!(rt; done_event(Machine::Press, Some((CLAIM, ANSWERED))) == Some(CLAIMED));
     assert!(rt; done_event(Machine::Press, None).is_none());
 }
 

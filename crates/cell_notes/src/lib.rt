@@ -15,4 +15,4 @@ pub use notebook::Notebook;
 pub use run_record::RunRecord;
 pub use schedule::Turn;
 pub use status::Status;
-pub use turn_call::{TurnCall, done_event, turn_call_between};
+pub use turn_call::{TurnCall, done_event};

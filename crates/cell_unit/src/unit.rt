@@ -2,7 +2,7 @@ ghost use Rattle.std.specs.Prelude.{◌≡◌, None};
 ghost use Rattle.cell_unit.specs.Sides.{ActsAndMoves, DemandsHold, UnitIsReady, act_or_rest, noting, unit_program, unit_rig, unit_side, unit_table};
 
 use cell_control::{Controller, CtlFault, Part, Program};
-use cell_notes::{TurnCall, done_event, turn_call_between};
+use cell_notes::{TurnCall, done_event};
 use cell_rules::Line;
 use cell_types::Event;
 
@@ -33,13 +33,11 @@ impl<P: Program, B: Part<Sense = P::Sense, Act = P::Act>> MachineUnit<P, B> {
         ensures ready { UnitIsReady P.steps self.new (L.opening line.new) (L.seen line.new) }
     {
         let machine = line.machine();
-        let before = line.heard();
         let rest = self.controller.rest();
-        let turned = self.controller.turn(line, &self.part.sensors());
-        let asked = turn_call_between(before, line.heard());
-        let act = act_of(turned, rest);
-        note_and_tick(&mut self.part, done_event(machine, asked), &act);
-        asked
+        let taken = self.controller.take_turn(line, &self.part.sensors());
+        let act = act_of(taken.act, rest);
+        note_and_tick(&mut self.part, done_event(machine, taken.asked), &act);
+        taken.asked
     }
 }
 
