@@ -1,12 +1,12 @@
 -- What the report of a run says.
-use Rattle.std.proofs.Common.{◌≡◌, ◌≢◌, Bool, true, false, inl, inr, ℕ, IsTrue, ◌↔◌, List, Option, Some, None, Result, Ok, Err, IfErr, IfOk, refl, subst}
-use Rattle.std.specs.Result.{result_err}
+use Rattle.std.proofs.Common.{◌≡◌, ◌≢◌, Bool, true, false, inl, inr, ℕ, IsTrue, ◌↔◌, List, Option, Some, None, IfSome, refl, subst}
 use Rattle.std.specs.Io.KnownBytes.{Appends}
 use Rattle.cell_types.specs.declared.answer.Event.{Event}
 use Rattle.cell_types.specs.Journals.{journal_of}
 use Rattle.cell_rules.specs.ModelState.{ModelState}
 use Rattle.cell_rules.specs.Audited.{IsAudited, HasNoHistory}
 use Rattle.cell_report.specs.AuditFaults.{IsFault}
+use Rattle.cell_report.specs.Order.{AreInOrder}
 use Rattle.cell_report.specs.Report.{report_text}
 use Rattle.cell_report.specs.declared.audit_faults.AuditFault.{AuditFault}
 use Rattle.cell_report.specs.declared.audit_faults.AuditFault.TheVariants.{Memory}
@@ -14,13 +14,13 @@ use Rattle.cell_notes.specs.declared.run_record.RunRecord.{RunRecord}
 use Rattle.cell_program.specs.declared.exit.Exit.TheVariants.{Well, Failed}
 use Rattle.cell_program.specs.Reported.{AreFine, AuditFinds, IsAmiss, ReportTold}
 
--- what `audit` answers of a record
-pub audit_finds : {A : Type 0} (events : A → List Event) (res : Result A AuditFault) (r : RunRecord) (end : Option ModelState) → end ≡ r.end
-    → IfOk res (λ x. IsAudited r.start (journal_of r.journals) end (events x)) → IfErr res (λ f. IsFault r.start (journal_of r.journals) end f)
-    → IfErr res (λ f. f ≢ Memory → HasNoHistory r.start (journal_of r.journals) end) → AuditFinds r (result_err res)
-audit_finds events (Ok x) r end e ok fault none = (events x, subst (λ o. IsAudited r.start (journal_of r.journals) o (events x)) e ok)
-audit_finds events (Err f) r end e ok fault none =
-    (subst (λ o. IsFault r.start (journal_of r.journals) o f) e fault, λ other. subst (λ o. HasNoHistory r.start (journal_of r.journals) o) e (none other))
+-- what `find_fault` answers of a record
+pub fault_found : (found : Option AuditFault) (r : RunRecord) (end : Option ModelState) → end ≡ r.end
+    → (found ≡ None → (history : List Event) × IsAudited r.start (journal_of r.journals) end history × AreInOrder (journal_of r.journals) history)
+    → IfSome found (λ f. IsFault r.start (journal_of r.journals) end f) → IfSome found (λ f. f ≢ Memory → HasNoHistory r.start (journal_of r.journals) end) → AuditFinds r found
+fault_found None r end e none fault refused = let h = none refl in (h.0, subst (λ o. IsAudited r.start (journal_of r.journals) o h.0) e h.1)
+fault_found (Some f) r end e none fault refused =
+    (subst (λ o. IsFault r.start (journal_of r.journals) o f) e fault, λ other. subst (λ o. HasNoHistory r.start (journal_of r.journals) o) e (refused other))
 
 -- once the report is written
 amiss : (r : RunRecord) (audit : Option AuditFault) → (((audit ≡ None) × AreFine r.status) → ⊥) → IsAmiss r audit

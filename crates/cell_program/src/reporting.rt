@@ -5,7 +5,7 @@ ghost use Rattle.cell_program.specs.Reported.{AreFine, ReportTold};
 
 use crate::exit::Exit;
 use cell_notes::{RunRecord, Status};
-use cell_report::{AuditFault, audit, write_report};
+use cell_report::{AuditFault, find_fault, write_report};
 use std::alloc::Global;
 use std::io::Write;
 
@@ -15,7 +15,7 @@ pub fn report<W: Write>(alloc: Global, run: &RunRecord, writer: &mut W) -> Exit
     ensures status { result ≢ Exit.Refused }
     ensures told { ReportTold result run.now (W.contents writer.old) (W.contents writer.new) }
 {
-    let audited = audit(alloc, &run.journals, &run.start, run.end.as_ref()).err();
+    let audited = find_fault(alloc, &run.journals, &run.start, run.end.as_ref());
     match write_report(run, audited, writer) {
         Ok(()) if is_well(run, audited) => Exit::Well,
         Ok(()) | Err(_) => Exit::Failed,
