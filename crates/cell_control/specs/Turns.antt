@@ -62,3 +62,7 @@ pub record HearsOnce {S Sense Reading Act : Type 0} (t : Steps S Sense Reading A
 abbrev pub HearsTurn : {S Sense Reading Act : Type 0} → Steps S Sense Reading Act → Option CtlFault → S → Sense → Heard → Heard → Type 0
 HearsTurn t (Some fault) p s before now = now ≡ before
 HearsTurn t None p s before now = HearsOnce t p s before now
+
+-- something holds of what the sensors showed
+abbrev pub Reads : {Sense : Type 0} → (Sense → Type 0) → (Sense → Type 0) → Type 0
+Reads {Sense = Sense} shows holds = (sense : Sense) × shows sense × holds sense

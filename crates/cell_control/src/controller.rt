@@ -1,9 +1,10 @@
 ghost use Rattle.std.specs.Prelude.{◌≡◌, Some, None, IfOk};
 ghost use Rattle.cell_rules.specs.Seen.{heard_after};
 ghost use Rattle.cell_control.specs.Steps.{IsReached, outcome, after_refusal as refused_at};
-ghost use Rattle.cell_control.specs.Turns.{Performs, Turns, HearsTurn, HearsOnce};
+ghost use Rattle.cell_control.specs.Turns.{Performs, Reads, Turns, HearsTurn, HearsOnce};
 
 use crate::fault::CtlFault;
+use crate::part::{Sensors, Values};
 use crate::program::Program;
 use cell_rules::{Answered, Line, State};
 use cell_types::{Answer, Call, Refusal, Reply};
@@ -68,26 +69,30 @@ impl<P: Program> Controller<P> {
         ensures reached { self.new.stopped ≡ None → IsReached (P.steps self.new.program) (L.opening line.new) (L.seen line.new) self.new.progress }
         ensures motor_demands { IfOk result (λ act. (P.steps self.old.program).motor_demands self.old.progress act (L.opening line.new) (L.seen line.new)) }
     {
-        self.take_turn(line, sense).act
+        self.take_turn(line, &Values { sense: *sense }).act
     }
 
-    /// The same turn, with what it asked.
+    /// The same turn by any sensors, with what it asked.
     ///
     /// Errors and what they leave are those of [`Controller::turn`]. A call that was made is told
     /// after an error too; a controller that had stopped asks nothing.
-    pub fn take_turn<L: Line>(&mut self, line: &mut L, sense: &P::Sense) -> TakenTurn<P::Act>
+    pub fn take_turn<L: Line, S: Sensors<Sense = P::Sense>>(
+        &mut self,
+        line: &mut L,
+        sensors: &S,
+    ) -> TakenTurn<P::Act>
         requires own { self.old.stopped ≡ None
             → L.machine line.old ≡ (P.steps self.old.program).machine }
         requires reached { self.old.stopped ≡ None → IsReached (P.steps self.old.program)
             (L.opening line.old) (L.seen line.old) self.old.progress }
-        ensures row { Turns (P.steps self.old.program)
+        ensures row { Reads (S.shows sensors.now) (λ sense. Turns (P.steps self.old.program)
             ((line.new ≡ line.old) × (result.asked ≡ None))
             (λ c r. (L.asks line.old c r line.new × (L.heard line.new ≡ heard_after (L.heard line.old) c r))
             × (result.asked ≡ Some (c, r)))
-            self.old.stopped self.old.progress sense.now
-            (record { result = result.act; progress = self.new.progress; stopped = self.new.stopped }) }
-        ensures heard { HearsTurn (P.steps self.old.program) self.old.stopped self.old.progress
-            sense.now (L.heard line.old) (L.heard line.new) }
+            self.old.stopped self.old.progress sense
+            (record { result = result.act; progress = self.new.progress; stopped = self.new.stopped })) }
+        ensures heard { Reads (S.shows sensors.now) (λ sense. HearsTurn (P.steps self.old.program)
+            self.old.stopped self.old.progress sense (L.heard line.old) (L.heard line.new)) }
         ensures own { L.machine line.new ≡ L.machine line.old }
         ensures opening { L.opening line.new ≡ L.opening line.old }
         ensures program { self.new.program ≡ self.old.program }
@@ -97,26 +102,19 @@ impl<P: Program> Controller<P> {
             self.old.progress act (L.opening line.new) (L.seen line.new)) }
     {
         if self.stopped.is_some() {
-            return TakenTurn {
-                asked: None,
-                act: Err(CtlFault::Stopped),
-            };
+            // each turn reads its sensors
+            let _ = sensors.read();
+            return TakenTurn::new(None, Err(CtlFault::Stopped));
         }
-        let (asked, performed) = perform(&self.program, self.progress, line, sense);
+        let (asked, performed) = perform(&self.program, self.progress, line, sensors);
         match performed {
             Ok((progress, act)) => {
                 self.progress = progress;
-                TakenTurn {
-                    asked,
-                    act: Ok(act),
-                }
+                TakenTurn::new(asked, Ok(act))
             }
             Err(fault) => {
                 self.stopped = Some(fault);
-                TakenTurn {
-                    asked,
-                    act: Err(fault),
-                }
+                TakenTurn::new(asked, Err(fault))
             }
         }
     }
@@ -131,24 +129,34 @@ pub struct TakenTurn<A: Copy> {
     pub act: Result<A, CtlFault>,
 }
 
+impl<A: Copy> TakenTurn<A> {
+    fn new(asked: Option<(Call, Answered)>, act: Result<A, CtlFault>) -> TakenTurn<A>
+        ensures { result ≡ record { asked = asked; act = act } }
+    {
+        TakenTurn { asked, act }
+    }
+}
+
 // Performs the step: what it asked; the next step, and the actuators' commands. A step that asks
 // needs no reading, so none is computed there.
-fn perform<P: Program, L: Line>(
+fn perform<P: Program, L: Line, S: Sensors<Sense = P::Sense>>(
     program: &P,
     progress: P::Progress,
     line: &mut L,
-    sense: &P::Sense,
+    sensors: &S,
 ) -> (
     Option<(Call, Answered)>,
     Result<(P::Progress, P::Act), CtlFault>,
 )
     requires own { L.machine line.old ≡ (P.steps program.now).machine }
     requires reached { IsReached (P.steps program.now) (L.opening line.old) (L.seen line.old) progress }
-    ensures row { Performs (P.steps program.now) ((line.new ≡ line.old) × (result.0 ≡ None))
+    ensures row { Reads (S.shows sensors.now) (λ sense. Performs (P.steps program.now)
+        ((line.new ≡ line.old) × (result.0 ≡ None))
         (λ c r. (L.asks line.old c r line.new × (L.heard line.new ≡ heard_after (L.heard line.old) c r))
         × (result.0 ≡ Some (c, r)))
-        progress sense.now result.1 }
-    ensures heard { HearsOnce (P.steps program.now) progress sense.now (L.heard line.old) (L.heard line.new) }
+        progress sense result.1) }
+    ensures heard { Reads (S.shows sensors.now) (λ sense. HearsOnce (P.steps program.now) progress
+        sense (L.heard line.old) (L.heard line.new)) }
     ensures own { L.machine line.new ≡ L.machine line.old }
     ensures opening { L.opening line.new ≡ L.opening line.old }
     ensures reached { IfOk result.1 (λ led. IsReached (P.steps program.now)
@@ -157,7 +165,7 @@ fn perform<P: Program, L: Line>(
         progress led.1 (L.opening line.new) (L.seen line.new)) }
 {
     match program.call(progress) {
-        Some(call) => match program.check(sense) {
+        Some(call) => match program.check(&sensors.read()) {
             Ok(_) => {
                 let answered = line.ask(call);
                 let asked = Some((call, answered));
@@ -168,7 +176,7 @@ fn perform<P: Program, L: Line>(
             }
             Err(fault) => (None, Err(CtlFault::Sensor(fault))),
         },
-        None => match program.check(sense) {
+        None => match program.check(&sensors.read()) {
             Ok(reading) => {
                 let act = program.drive(progress, reading);
                 (None, Ok((program.after_drive(progress, reading, act), act)))

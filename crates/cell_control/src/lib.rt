@@ -11,6 +11,6 @@ pub mod row;
 
 pub use controller::{Controller, TakenTurn};
 pub use fault::CtlFault;
-pub use part::Part;
+pub use part::{Part, PartSensors, Sensors, Values};
 pub use program::Program;
 pub use row::{Row, Waits};

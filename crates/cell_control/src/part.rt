@@ -39,3 +39,53 @@ pub trait Part: Drop {
         ensures state { state self.new ≡ (rig (make self.old)).moves ((rig (make self.old)).set (state self.old) act.now) }
         ensures make { make self.new ≡ make self.old };
 }
+
+/// Whatever shows a machine's sensors: its part, or values that were read elsewhere. A step that asks
+/// reads them only for their check, so the compiler can leave out what the check doesn't need.
+pub trait Sensors {
+    /// What the sensors show.
+    type Sense: Copy;
+
+    // What they may show.
+    ghost shows: { Self → Self.Sense → Type 0 };
+
+    /// Reads the sensors.
+    fn read(&self) -> Self::Sense
+        ensures { shows self.now result };
+}
+
+/// Values of sensors that were read elsewhere.
+#[derive(Clone, Copy)]
+pub struct Values<S: Copy> {
+    /// What the sensors showed.
+    pub sense: S,
+}
+
+impl<S: Copy> Sensors for Values<S> {
+    ghost use Rattle.std.specs.Prelude.{◌≡◌};
+
+    type Sense = S;
+
+    ghost shows = { λ values sense. sense ≡ values.sense };
+
+    fn read(&self) -> S {
+        self.sense
+    }
+}
+
+/// The sensors of a part.
+#[derive(Drop)]
+pub struct PartSensors<'a, B: Part> {
+    /// The part.
+    pub part: &'a B,
+}
+
+impl<B: Part> Sensors for PartSensors<'_, B> {
+    type Sense = B::Sense;
+
+    ghost shows = { λ s sense. (B.rig (B.make s.part.now)).shows (B.state s.part.now) sense };
+
+    fn read(&self) -> B::Sense {
+        self.part.sensors()
+    }
+}

@@ -1,7 +1,7 @@
 ghost use Rattle.std.specs.Prelude.{◌≡◌, None};
 ghost use Rattle.cell_unit.specs.Sides.{ActsAndMoves, DemandsHold, UnitIsReady, act_or_rest, noting, unit_program, unit_rig, unit_side, unit_table};
 
-use cell_control::{Controller, CtlFault, Part, Program};
+use cell_control::{Controller, CtlFault, Part, PartSensors, Program};
 use cell_notes::{TurnCall, done_event};
 use cell_rules::Line;
 use cell_types::Event;
@@ -34,7 +34,8 @@ impl<P: Program, B: Part<Sense = P::Sense, Act = P::Act>> MachineUnit<P, B> {
     {
         let machine = line.machine();
         let rest = self.controller.rest();
-        let taken = self.controller.take_turn(line, &self.part.sensors());
+        let sensors = PartSensors { part: &self.part };
+        let taken = self.controller.take_turn(line, &sensors);
         let act = act_of(taken.act, rest);
         note_and_tick(&mut self.part, done_event(machine, taken.asked), &act);
         taken.asked

@@ -14,7 +14,7 @@ returns-in-Ok-check-clause-reached g c =
     reached_drive (g.P.Program.steps c.args.program.now) c.args.progress c.after_drive.result (g.L.Line.opening c.args.line.now) (g.L.Line.seen c.args.line.now)
     (record {
       asks_nothing = sym c.call.ensures ∙ c.in-None.is;
-      sense = c.args.sense.now;
+      sense = c.read-in-None.result;
       reading = c.in-Ok-check.reading;
       senses = c.in-Ok-check.ensures;
       act = c.drive-act.result;

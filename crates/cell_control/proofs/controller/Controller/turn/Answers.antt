@@ -1,6 +1,9 @@
-use Rattle.cell_control.proofs.TurnMaps.{turn_map}
+use Rattle.std.proofs.Common.{rules}
+use Rattle.cell_control.proofs.TurnMaps.{turn_map, turn_of_sense}
 use Rattle.cell_control.proofs.controller.Controller.turn.Goals as goal
 
 pub returns-clause-row : goal.returns-clause-row
 returns-clause-row g c =
-    turn_map (g.P.Program.steps c.args.self.now.program) _ _ _ _ (λ same. same.0) (λ call r asked. asked.0) _ _ _ _ c.take_turn.ensures.row
+    let row = c.take_turn.ensures.row in
+    turn_map (g.P.Program.steps c.args.self.now.program) _ _ _ _ (λ same. same.0) (λ call r asked. asked.0) _ _ _ _
+    (turn_of_sense (g.P.Program.steps c.args.self.now.program) _ _ _ _ row.0 c.args.sense.now _ (search rules) row.2)
