@@ -15,7 +15,7 @@ pub trait Keeper {
     fn clear(&mut self)
         ensures { holds self.new [] };
 
-    /// Keeps the event of a machine's entry, so many times, after those that it has.
+    /// Keeps the event of a machine's entry `count` times, after those that it has.
     fn keep(&mut self, machine: Machine, entry: &Entry, count: usize) -> Result<(), AllocError>
         ensures { IfOk result (λ _. (held : List Event) → holds self.old held
             → holds self.new (held ++ replicate count (event_by machine entry.now))) };

@@ -45,7 +45,10 @@ impl Model for CranePart {
 
     ghost Value = { Scaled CranePlant Scale };
 
-    ghost view = { λ c. record { plant = record { travel = c.travel; gripper = c.gripper.axis; magnet = c.magnet }; scale = c.gripper.points } };
+    ghost view = { λ c. record {
+      plant = record { travel = c.travel; gripper = c.gripper.axis; magnet = c.magnet };
+      scale = c.gripper.points;
+    } };
 
     ghost invariant = { λ c. IsWithin crane_end c.travel.position × IsWithin gripper_end c.gripper.axis.position };
 }

@@ -136,7 +136,7 @@ const ROWS: &[Row] = &[
         &[(Machine::Press, Call::Release(Zone::Z3), DONE, 2)],
         Some(AuditFault::Differs(1)),
     ),
-    // The press asks again and again, and once more after it has released the zone.
+    // The press asks several times, and again after it has released the zone.
     (0, &[PRESS_CLAIMS, ALREADY, ALREADY], &[ALREADY], None),
     (
         0,
