@@ -3,6 +3,7 @@ pub mod CurveExamples
 pub mod CurveFaults
 pub mod CurveTests
 pub mod Examples
+pub mod Faults
 pub mod Line
 pub mod Scale
 pub mod Sensors

@@ -1,22 +1,41 @@
-ghost use Rattle.std.specs.Prelude.{◌≡◌, ◌↔◌, IsOk};
+ghost use Rattle.std.specs.Prelude.{◌≡◌, ◌↔◌, IsOk, Some};
+ghost use Rattle.cell_calib.specs.Faults.{sensor_fault_text};
 ghost use Rattle.cell_calib.specs.Sensors.{TableClashes, PressClashes, CraneClashes, SwitchesClash};
 ghost use Rattle.cell_calib.specs.Sensors.{feed_part, table_part, robot_part, press_part, deposit_part};
 ghost use Rattle.cell_calib.specs.Sensors.{crane_part};
 
-use thiserror::Error;
+use std::fmt;
 
 /// Why a machine's sensors can't be used.
-#[derive(Clone, Copy, Debug, PartialEq, Eq, Error)]
+#[derive(Clone, Copy, Debug, PartialEq, Eq)]
 pub enum SensorFault {
     /// A raw value is below the least of its calibration.
-    #[error("a raw value is below the least of its calibration")]
     Low,
     /// A raw value is above the greatest of its calibration.
-    #[error("a raw value is above the greatest of its calibration")]
     High,
     /// Two switches are on that exclude each other.
-    #[error("two switches are on that exclude each other")]
     Clash,
+}
+
+impl SensorFault {
+    /// What is wrong, in words.
+    pub fn text(self) -> &'static str
+        ensures { result.now ≡ sensor_fault_text self }
+    {
+        match self {
+            SensorFault::Low => "a raw value is below the least of its calibration",
+            SensorFault::High => "a raw value is above the greatest of its calibration",
+            SensorFault::Clash => "two switches are on that exclude each other",
+        }
+    }
+}
+
+impl fmt::Display for SensorFault {
+    ghost output = { λ fault. Some (sensor_fault_text fault) };
+
+    fn fmt<W: fmt::Write>(&self, f: &mut fmt::Formatter<W>) -> fmt::Result {
+        f.write_str(self.text())
+    }
 }
 
 /// The feed belt's sensors.

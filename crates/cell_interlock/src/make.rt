@@ -13,16 +13,13 @@ use cell_rules::laws::states_are_sound;
 use cell_types::Machine;
 use cell_word::pack;
 use std::alloc::Global;
-use thiserror::Error;
 
 /// Why an interlock wasn't made.
-#[derive(Clone, Copy, PartialEq, Eq, Debug, Error)]
+#[derive(Clone, Copy, PartialEq, Eq, Debug)]
 pub enum MakeFault {
     /// The number of exchanges that a call may lose isn't 1 to 64.
-    #[error("the number of exchanges that a call may lose isn't 1 to 64")]
     Tries,
     /// There was no memory for the word.
-    #[error("out of memory")]
     Memory,
 }
 

@@ -13,7 +13,6 @@ use crate::stamp::LAST_STAMP;
 use crate::zones::{ZoneState, Zones};
 use cell_types::{Call, Machine, Place, Posture, Zone, own_move, transfer};
 use std::marker::Model;
-use thiserror::Error;
 
 /// A state of the interlock.
 #[derive(Clone, Copy, Debug, PartialEq, Eq)]
@@ -38,10 +37,9 @@ impl Model for State {
 }
 
 /// Why a start is refused.
-#[derive(Clone, Copy, Debug, PartialEq, Eq, Error)]
+#[derive(Clone, Copy, Debug, PartialEq, Eq)]
 pub enum StartFault {
     /// More than six places have plates, or both of the press, or the stamp is past the last one.
-    #[error("more than six plates, both places of the press full, or a stamp past the last")]
     BadStart,
 }
 

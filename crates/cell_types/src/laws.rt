@@ -18,8 +18,8 @@ pub fn plates_go_round()
     ensures { GoesRound }
 {}
 
-/// The numbers of the refusals are 1 to 13 and 16, as in the table. Two refusals share a number
-/// only if they differ in nothing but what they name.
+/// The numbers of the refusals are 1 to 16, as in the table. Two refusals share a number only if
+/// they differ in nothing but what they name.
 pub fn numbers_of_refusals()
     ensures { NumbersOfRefusals }
 {}

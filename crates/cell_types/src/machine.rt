@@ -3,7 +3,8 @@ ghost use Rattle.cell_types.specs.Words.{machine_word};
 
 use crate::words::{Worded, find_by_word};
 
-/// A machine of the production cell (LNCS 891). The watch is an observer: it only inquires.
+/// A machine of the production cell (LNCS 891), or the watch: an observer, which inquires, stops the
+/// cell and resumes it.
 #[derive(Clone, Copy, Debug, PartialEq, Eq, PartialOrd, Ord)]
 pub enum Machine {
     /// The feed belt.
@@ -18,7 +19,7 @@ pub enum Machine {
     Deposit,
     /// The travelling crane.
     Crane,
-    /// An observer, which only inquires.
+    /// An observer, which inquires, stops the cell and resumes it.
     Watch,
 }
 

@@ -1,11 +1,9 @@
 use std::alloc::AllocError;
-use thiserror::Error;
 
 /// Why a cell wasn't simulated.
-#[derive(Clone, Copy, Debug, PartialEq, Eq, Error)]
+#[derive(Clone, Copy, Debug, PartialEq, Eq)]
 pub enum SimFault {
     /// Out of memory for a journal's entry.
-    #[error("out of memory")]
     Memory,
 }
 
