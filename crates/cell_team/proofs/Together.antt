@@ -1,0 +1,104 @@
+-- None of the six machines is refused.
+use Rattle.std.proofs.Common.{◌≡◌, Bool, true, false, ◌&&◌, not, List, refl, sym, subst}
+use Rattle.cell_types.specs.declared.machine.Machine.TheVariants.{Feed, Table, Robot, Press, Deposit, Crane, Watch}
+use Rattle.cell_types.specs.declared.answer.Event.{Event}
+use Rattle.cell_calib.specs.Line.{IsReading}
+use Rattle.cell_rules.specs.PlaceSet.{PlaceSet}
+use Rattle.cell_rules.specs.ModelState.{ModelState, zone_at}
+use Rattle.cell_rules.specs.Sound.{IsSound}
+use Rattle.cell_rules.specs.History.{after, IsLegal, own_events}
+use Rattle.cell_rules.specs.Start.{IsStart, IsStartState, start_state}
+use Rattle.cell_rules.proofs.Lawful.{lawful_in, sound_from}
+use Rattle.cell_rules.proofs.Puts.{each_zone}
+use Rattle.cell_rules.proofs.Histories.{sound-after}
+use Rattle.cell_parts.specs.Axes.{CellScales}
+use Rattle.cell_haul.specs.CraneProgram.{crane_start, crane_steps}
+use Rattle.cell_haul.specs.DepositProgram.{deposit_start, deposit_steps}
+use Rattle.cell_haul.specs.FeedProgram.{feed_start, feed_steps}
+use Rattle.cell_robot.specs.RobotProgram.{robot_start, notes_at, near_lines, robot_steps}
+use Rattle.cell_stations.specs.PressProgram.{press_start, press_steps}
+use Rattle.cell_stations.specs.TableProgram.{table_start, table_steps}
+use Rattle.cell_haul.proofs.CraneFacts as crane_facts
+use Rattle.cell_haul.proofs.DepositFacts as deposit_facts
+use Rattle.cell_haul.proofs.FeedFacts as feed_facts
+use Rattle.cell_robot.proofs.RobotFacts as robot_facts
+use Rattle.cell_stations.proofs.PressFacts as press_facts
+use Rattle.cell_stations.proofs.TableFacts as table_facts
+use Rattle.cell_team.specs.Team.{Team, robot_points, programs_of, program_with_stops, HaveCome}
+use Rattle.cell_team.specs.Heeded.{AreHeeded, NoMachineIsRefused}
+use Rattle.cell_team.proofs.Waiting.{heeded}
+use Rattle.cell_team.proofs.Reaching.{OwnYieldless, AreYieldless, own_yieldless, yieldless, reached_both}
+use Rattle.cell_team.proofs.CraneTeam as crane
+use Rattle.cell_team.proofs.DepositTeam as deposit
+use Rattle.cell_team.proofs.FeedTeam as feed
+use Rattle.cell_team.proofs.PressTeam as press
+use Rattle.cell_team.proofs.RobotTeam as robot
+use Rattle.cell_team.proofs.TableTeam as table
+
+-- a start is sound, since its zones are free
+one_place_empty : (b : Bool) → b ≡ false → (not b && true) ≡ true
+one_place_empty false e = refl
+one_place_empty true e = cc
+
+sound_free : (full : PlaceSet) (stamp : _) → IsStart full stamp → IsSound (start_state full stamp)
+sound_free full stamp k =
+    let free = start_state full stamp in
+    sound_from free k.stamp_in_range (each_zone (λ z. lawful_in full z (zone_at free z) ≡ true) refl refl (one_place_empty _ k.one_in_press_at_most) refl refl refl)
+
+sound_start : (s : ModelState) → IsStartState s → IsSound s
+sound_start s k = subst IsSound (sym k.same) (sound_free s.full s.stamp k.start)
+
+module _ (c : CellScales) (opening : ModelState) (h : List Event) (team : Team) (start : IsStartState opening) (legal : IsLegal opening h) (by : HaveCome (programs_of c) opening h team) where
+  abbrev z : ModelState
+  z = after opening h
+
+  begins : IsSound opening
+  begins = sound_start opening start
+
+  sound : IsSound z
+  sound = sound-after opening h begins
+
+  -- nobody hands over an empty zone
+  own : OwnYieldless h
+  own Feed e = own_yieldless (program_with_stops feed_steps) (feed_start opening) team.feed (own_events h Feed) (λ p. feed.never_yields p.step p) by.feed
+  own Table e = own_yieldless (program_with_stops (table_steps c.turn (IsReading c.turn))) (table_start opening) team.table (own_events h Table) (λ p. table.never_yields p.step p) by.table
+  own Robot e = own_yieldless (program_with_stops (robot_steps (robot_points c) (near_lines (robot_points c)))) (robot_start opening) team.robot (own_events h Robot) (λ p. robot.never_yields p.step p) by.robot
+  own Press e = own_yieldless (program_with_stops press_steps) (press_start opening) team.press (own_events h Press) (λ p. press.never_yields p.step p) by.press
+  own Deposit e = own_yieldless (program_with_stops deposit_steps) (deposit_start opening) team.deposit (own_events h Deposit) (λ p. deposit.never_yields p.step p) by.deposit
+  own Crane e = own_yieldless (program_with_stops (crane_steps c.gripper (IsReading c.gripper))) (crane_start opening) team.crane (own_events h Crane) (λ p. crane.never_yields p.step p) by.crane
+  own Watch e = cc
+
+  polite : AreYieldless opening h
+  polite = yieldless opening h own
+
+  -- what each machine knows at its step
+  feed_both : feed_facts.FeedKnows team.feed z × feed.FeedMore team.feed z
+  feed_both = reached_both feed_steps feed_facts.FeedKnows feed.FeedMore feed_facts.feed-knowing feed.feed-more (feed_start opening) team.feed opening h begins legal polite (feed_facts.feed_begins opening, feed.feed_begins opening start) by.feed
+
+  table_both : table_facts.TableKnows team.table z × table.TableMore team.table z
+  table_both = reached_both (table_steps c.turn (IsReading c.turn)) table_facts.TableKnows table.TableMore (table_facts.table-knowing c.turn (IsReading c.turn)) (table.table-more c.turn (IsReading c.turn)) (table_start opening) team.table opening h begins legal polite (tt, table.table_begins opening start) by.table
+
+  robot_both : robot_facts.RobotKnows team.robot z × robot.RobotMore team.robot z
+  robot_both = reached_both (robot_steps (robot_points c) (near_lines (robot_points c))) robot_facts.RobotKnows robot.RobotMore (robot_facts.robot-knowing (robot_points c) (near_lines (robot_points c))) (robot.robot-more (robot_points c) (near_lines (robot_points c))) (robot_start opening) team.robot opening h begins legal polite (robot_facts.at_choice (notes_at opening) opening, robot.robot_begins opening start) by.robot
+
+  press_both : press_facts.PressKnows team.press z × press.PressMore team.press z
+  press_both = reached_both press_steps press_facts.PressKnows press.PressMore press_facts.press-knowing press.press-more (press_start opening) team.press opening h begins legal polite (tt, press.press_begins opening start) by.press
+
+  deposit_both : deposit_facts.DepositKnows team.deposit z × deposit.DepositMore team.deposit z
+  deposit_both = reached_both deposit_steps deposit_facts.DepositKnows deposit.DepositMore deposit_facts.deposit-knowing deposit.deposit-more (deposit_start opening) team.deposit opening h begins legal polite (tt, deposit.deposit_begins opening start) by.deposit
+
+  crane_both : crane_facts.CraneKnows team.crane z × crane.CraneMore team.crane z
+  crane_both = reached_both (crane_steps c.gripper (IsReading c.gripper)) crane_facts.CraneKnows crane.CraneMore (crane_facts.crane-knowing c.gripper (IsReading c.gripper)) (crane.crane-more c.gripper (IsReading c.gripper)) (crane_start opening) team.crane opening h begins legal polite (crane_facts.crane_begins opening, crane.crane_begins opening start) by.crane
+
+  heeded_all : AreHeeded (programs_of c) z team
+  heeded_all = record {
+    feed = λ call r e f. heeded _ z Feed _ call r (feed.feed_heeds team.feed z sound (table.table_room team.table z table_both.1) feed_both.0 feed_both.1) e f;
+    table = λ call r e f. heeded _ z Table _ call r (table.table_heeds team.table z sound table_both.0 table_both.1) e f;
+    robot = λ call r e f. heeded _ z Robot _ call r (robot.robot_heeds team.robot z sound (deposit.deposit_room team.deposit z deposit_both.1) robot_both.0 robot_both.1) e f;
+    press = λ call r e f. heeded _ z Press _ call r (press.press_heeds team.press z sound press_both.0 press_both.1) e f;
+    deposit = λ call r e f. heeded _ z Deposit _ call r (deposit.deposit_heeds team.deposit z sound deposit_both.0 deposit_both.1) e f;
+    crane = λ call r e f. heeded _ z Crane _ call r (crane.crane_heeds team.crane z sound (feed.feed_room team.feed z feed_both.0 feed_both.1) crane_both.0 crane_both.1) e f;
+  }
+
+pub none-refused : NoMachineIsRefused
+none-refused c opening h team start legal by = heeded_all c opening h team start legal by
