@@ -1,0 +1,368 @@
+"""The interlock of the production cell, over its library for C.
+
+    from bagunjoki import Word
+    cell = Word()
+    cell.ask("press", "claim", "z3")        # done
+    cell.ask("robot", "claim", "z3")        # held press
+    cell.show()
+
+A script, line by line:
+
+    python3 -m bagunjoki [--show] [--answers] [SCRIPT]
+
+--show prints the state after each line, --answers the answers alone, as `cell replay` does. The library is the file that
+the variable BAGUNJOKI names, or else libbagunjoki.so beside this file, one folder above, or where the system finds it.
+"""
+
+import csv
+import ctypes
+import ctypes.util
+import enum
+import io
+import os
+import sys
+import threading
+from typing import NamedTuple, Optional
+
+
+class Machine(enum.IntEnum):
+    """Who calls. NOBODY is an owner, and makes no calls."""
+
+    NOBODY = 0
+    FEED = 1
+    TABLE = 2
+    ROBOT = 3
+    PRESS = 4
+    DEPOSIT = 5
+    CRANE = 6
+    WATCH = 7
+
+
+class Zone(enum.IntEnum):
+    """The spaces that two machines use."""
+
+    Z1 = 1
+    Z2 = 2
+    Z3 = 3
+    Z4 = 4
+    Z5 = 5
+    Z6 = 6
+
+
+class Place(enum.IntEnum):
+    """Where plates are: p1 to p10."""
+
+    FEED_ENTRY = 1
+    FEED_END = 2
+    TABLE = 3
+    ARM1 = 4
+    PRESS_IN = 5
+    PRESS_OUT = 6
+    ARM2 = 7
+    DEP_ENTRY = 8
+    DEP_END = 9
+    CRANE = 10
+
+
+class Posture(enum.IntEnum):
+    """Of a zone."""
+
+    CLOSED = 0
+    MOVING = 1
+    OPEN_IN = 2
+    OPEN_OUT = 3
+
+
+class Pose(enum.IntEnum):
+    """Of a machine: it gives the machine's zones their postures."""
+
+    TURNING = 1
+    LOADING = 2
+    UNLOADING = 3
+    TRAVELLING = 4
+    MIDDLE = 5
+    LOW = 6
+    TOP = 7
+    RUNNING = 8
+    LANDING = 9
+    HALTED = 10
+    OFFERING = 11
+    STANDING = 12
+
+
+class Verb(enum.IntEnum):
+    """What is asked."""
+
+    CLAIM = 1
+    GIVE = 2
+    YIELD = 3
+    TAKE = 4
+    RELEASE = 5
+    SET_POSE = 6
+    ADVANCE = 7
+    INQUIRE = 8
+    STOP = 9
+    RESUME = 10
+
+
+class Answer(enum.IntEnum):
+    """What is answered. Only DONE changes the word; 1 to 16 are refusals."""
+
+    DONE = 0
+    NOT_PARTY = 1
+    HELD = 2
+    ALREADY_MINE = 3
+    SHUT = 4
+    NOT_OWNER = 5
+    PLATE_IN_ZONE = 6
+    NO_PLATE = 7
+    PLACE_FULL = 8
+    WRONG_WAY = 9
+    JUMP = 10
+    NOT_AT_WORK = 11
+    NO_POSE = 12
+    WORN = 13
+    STOPPED = 14
+    NOT_STOPPED = 15
+    IN_USE = 16
+    SHOWN = 32
+    NO_CALL = 64
+    NO_STATE = 65
+
+
+# The word that no state has, and the last stamp.
+NO_WORD = 2**64 - 1
+LAST_STAMP = 1_048_575
+# Words of scripts and answers that aren't the letters of the name.
+OTHER_WORDS = {"NOBODY": "free", "SET_POSE": "pose", "ALREADY_MINE": "already", "PLATE_IN_ZONE": "platein", "SHOWN": "zone"}
+WITHOUT_OBJECT = (Verb.ADVANCE, Verb.STOP, Verb.RESUME)
+
+
+def word_of(name):
+    """The word of a name in scripts and answers."""
+    if isinstance(name, Place):
+        return f"p{name.value}"
+    return OTHER_WORDS.get(name.name) or name.name.lower().replace("_", "")
+
+
+def named(kind, name):
+    """The name of this kind that is meant by a name, a number or a word of scripts."""
+    if isinstance(name, str):
+        for it in kind:
+            if word_of(it) == name and it is not Machine.NOBODY:
+                return it
+        raise ValueError(f"{name} is no {kind.__name__.lower()}")
+    return kind(name)
+
+
+class RawReply(ctypes.Structure):
+    """What the library gives back from a call."""
+
+    _fields_ = [
+        ("next", ctypes.c_uint64),
+        ("answer", ctypes.c_uint8),
+        ("owner", ctypes.c_uint8),
+        ("zone", ctypes.c_uint8),
+        ("posture", ctypes.c_uint8),
+        ("plate", ctypes.c_bool),
+    ]
+
+
+def library_path():
+    """Where the library is."""
+    here = os.path.dirname(os.path.realpath(__file__))
+    if "BAGUNJOKI" in os.environ:
+        return os.path.realpath(os.environ["BAGUNJOKI"])
+    for folder in (here, os.path.dirname(here), f"{here}/out/lib"):
+        if os.path.exists(f"{folder}/libbagunjoki.so"):
+            return f"{folder}/libbagunjoki.so"
+    found = ctypes.util.find_library("bagunjoki")
+    if not found:
+        raise OSError("there is no libbagunjoki.so: tools/bindings makes it")
+    return found
+
+
+def load_library(path=None):
+    """The library, with the types of its functions."""
+    library = ctypes.CDLL(path or library_path())
+    word, byte = ctypes.c_uint64, ctypes.c_uint8
+    for name, result, arguments in [
+        ("step", RawReply, [word, byte, byte, byte]),
+        ("start", word, [ctypes.c_char_p, ctypes.c_size_t, ctypes.c_uint32]),
+        ("is_state", ctypes.c_bool, [word]),
+        ("stamp", ctypes.c_uint32, [word]),
+        ("is_stopped", ctypes.c_bool, [word]),
+        ("is_full", ctypes.c_bool, [word, byte]),
+    ]:
+        function = getattr(library, f"bagunjoki_{name}")
+        function.restype, function.argtypes = result, arguments
+    return library
+
+
+class Reply(NamedTuple):
+    """An answer, what it names, and the stamp after it. As a text it has the words of `cell replay`."""
+
+    answer: Answer
+    stamp: int
+    owner: Optional[Machine] = None
+    zone: Optional[Zone] = None
+    posture: Optional[Posture] = None
+    plate: Optional[bool] = None
+
+    def __str__(self):
+        words = [word_of(self.answer)]
+        if self.owner is not None:
+            words.append(word_of(self.owner))
+        if self.plate is not None:
+            words.append(str(int(self.plate)))
+        words += [word_of(it) for it in (self.zone, self.posture) if it is not None]
+        return " ".join(words)
+
+
+def reply_of(raw, stamp):
+    """The reply, with what its answer names and no more."""
+    answer = Answer(raw.answer)
+    names = {
+        Answer.HELD: {"owner": Machine(raw.owner)},
+        Answer.NOT_OWNER: {"owner": Machine(raw.owner)},
+        Answer.SHUT: {"posture": Posture(raw.posture)},
+        Answer.SHOWN: {"owner": Machine(raw.owner), "posture": Posture(raw.posture), "plate": raw.plate},
+    }.get(answer, {})
+    if answer == Answer.PLATE_IN_ZONE:
+        names = {"zone": Zone(raw.zone)}
+    return Reply(answer, stamp, **names)
+
+
+class Word:
+    """An interlock, whose state is one word. Threads of one program may share it: a lock keeps their calls apart."""
+
+    def __init__(self, places="0000000000", stamp=0, library=None):
+        """A start: ten digits, 1 where there is a plate, and the first stamp."""
+        self.library = library or load_library()
+        digits = places.encode()
+        self.value = self.library.bagunjoki_start(digits, len(digits), stamp) if 0 <= stamp <= LAST_STAMP else NO_WORD
+        self.lock = threading.Lock()
+        if self.value == NO_WORD:
+            raise ValueError(f"no start has the places {places} and the stamp {stamp}")
+
+    def ask(self, machine, verb, thing=None):
+        """Makes a call, by names, numbers or words of scripts, and gives the reply."""
+        machine, verb = named(Machine, machine), named(Verb, verb)
+        if (verb in WITHOUT_OBJECT) != (thing is None):
+            raise ValueError(f"{word_of(verb)} takes {'no' if thing else 'an'} object")
+        about = 0 if thing is None else named(Pose if verb == Verb.SET_POSE else Zone, thing)
+        with self.lock:
+            raw = self.library.bagunjoki_step(self.value, machine, verb, about)
+            if raw.answer in (Answer.NO_CALL, Answer.NO_STATE):
+                raise ValueError(f"{word_of(Answer(raw.answer))}: {machine}, {verb}, {about}, {self.value:#x}")
+            self.value = raw.next
+        return reply_of(raw, self.library.bagunjoki_stamp(raw.next))
+
+    @property
+    def stamp(self):
+        """How many calls were done, after the first stamp."""
+        return self.library.bagunjoki_stamp(self.value)
+
+    @property
+    def is_stopped(self):
+        """Whether the watch has stopped the cell."""
+        return self.library.bagunjoki_is_stopped(self.value)
+
+    def is_full(self, place):
+        """Whether a plate is at the place."""
+        return self.library.bagunjoki_is_full(self.value, named(Place, place))
+
+    def full_places(self):
+        """The places that are full."""
+        return [it for it in Place if self.is_full(it)]
+
+    def zone(self, zone):
+        """Owner, plate and posture of a zone."""
+        return self.ask(Machine.WATCH, Verb.INQUIRE, zone)
+
+    def plates(self):
+        """How many plates there are, in places and in zones."""
+        return len(self.full_places()) + sum(self.zone(it).plate for it in Zone)
+
+    def bits(self):
+        """The word's fields from the highest bit down: name, value in words, bits."""
+        fields = [("unused", "", 61, 3), ("mark", "stopped" if self.is_stopped else "", 60, 1), ("stamp", str(self.stamp), 40, 20)]
+        fields.append(("p10 to p1", " ".join(word_of(it) for it in reversed(self.full_places())), 30, 10))
+        for it in reversed(Zone):
+            shown = self.zone(it)
+            fields.append((word_of(it), f"{word_of(shown.owner)} {word_of(shown.posture)}{' plate' * shown.plate}", 5 * (it - 1), 5))
+        return [(name, said, f"{self.value >> low & (1 << count) - 1:0{count}b}") for name, said, low, count in fields]
+
+    def table(self):
+        """The state as a text: zones, places and stamp as a film has them, and the word's bits."""
+        lines = [f"zone {word_of(it)} {str(self.zone(it)).partition(' ')[2]}" for it in Zone]
+        lines.append("places " + "".join(str(int(self.is_full(it))) for it in Place))
+        lines.append(f"stamp {self.stamp} plates {self.plates()} stopped {int(self.is_stopped)}")
+        lines.append(f"word {self.value:#018x}")
+        lines += [f"  {bits:>20}  {name:<10}{said}".rstrip() for name, said, bits in self.bits()]
+        return "\n".join(lines)
+
+    def show(self):
+        """Prints the state."""
+        print(self.table())
+
+
+class Fault(Exception):
+    """A script that isn't one; its text is the line that `cell replay` writes."""
+
+
+def start_of(record, library):
+    """The word of a script's first record."""
+    if not record or record[0] not in ("start", "start2"):
+        raise Fault("fault nostart")
+    stamp = record[2] if len(record) == 3 else "0"
+    is_stamp = stamp.isascii() and stamp.isdigit() and len(stamp) <= 7
+    try:
+        if not is_stamp or len(record) not in (2, 3):
+            raise ValueError
+        return Word(record[1], int(stamp), library)
+    except ValueError:
+        raise Fault("fault badstart") from None
+
+
+def answers_of(script, library=None):
+    """Plays a script: for each record of it the text, the answer as `cell replay` writes it, and the word after it."""
+    cell = version = None
+    records = (it for it in csv.reader(script) if it)
+    for number, record in enumerate(records):
+        if cell is None:
+            cell, version = start_of(record, library), record[0]
+            said = f"{version} {cell.plates()}"
+        else:
+            try:
+                if version == "start" and record[1:2] in (["stop"], ["resume"]) or not 2 <= len(record) <= 3:
+                    raise ValueError
+                said = cell.ask(*record)
+            except ValueError:
+                raise Fault(f"fault badrow {number}") from None
+        yield ",".join(record), f"{number} {cell.stamp} {said}", cell
+    if cell is None:
+        raise Fault("fault nostart")
+
+
+def main(words):
+    """Plays a script, and gives the exit status."""
+    flags, files = [it for it in words if it.startswith("--")], [it for it in words if not it.startswith("--")]
+    if set(flags) - {"--show", "--answers"} or len(files) > 1:
+        print(__doc__, file=sys.stderr)
+        return 2
+    source = open(files[0], "rb") if files else sys.stdin.buffer
+    try:
+        with io.TextIOWrapper(source, encoding="utf-8-sig", errors="replace", newline="") as script:
+            for record, answer, cell in answers_of(script):
+                print(answer if "--answers" in flags else f"{record:<22}{answer}", flush=True)
+                if "--show" in flags:
+                    print(cell.table() + "\n", flush=True)
+    except Fault as fault:
+        print(fault)
+        return 1
+    return 0
+
+
+if __name__ == "__main__":
+    sys.exit(main(sys.argv[1:]))
