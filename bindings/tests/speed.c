@@ -1,6 +1,6 @@
 /* Times calls by bagunjoki.h and by plain C (plain.h), after 20,000,000 calls that look random in which both have to
    answer alike. Writes lines: what, and the nanoseconds of a call, at the best of many short runs that take turns. With
-   a letter as its argument it makes only 1,000,000 calls of that kind, for a count of instructions. */
+   `agree` it only compares, with a letter it makes only 1,000,000 calls of that kind, for a count of instructions. */
 #define _POSIX_C_SOURCE 200809L
 #include "plain.h"
 #include <stdio.h>
@@ -97,6 +97,7 @@ static const struct { char letter; const char *name; double (*time)(unsigned); }
 #define KINDS (sizeof kinds / sizeof *kinds)
 
 int main(int count, char **words) {
+    if (count > 1 && strcmp(words[1], "agree") == 0) return !all_agree();
     if (count > 1) {
         for (size_t k = 0; k < KINDS; k++)
             if (words[1][0] == kinds[k].letter) return kinds[k].time(1000000) < 0;

@@ -1,0 +1,247 @@
+"""Tries the library with the compilers and the versions of Python that are there."""
+
+import glob
+import itertools
+import os
+import re
+import shutil
+import subprocess
+import sys
+import tempfile
+import time
+
+STRICT = ["-O2", "-Wall", "-Wextra", "-Werror", "-pedantic"]
+C, CPP = ["-std=c11", *STRICT], ["-std=c++17", *STRICT]
+PYTHONS = range(9, 30)
+INTERIOR = """press claims: answer 0, owner 0, posture 0, stamp 1
+robot claims: answer 2, owner 4, posture 0, stamp 1
+press releases: answer 0, owner 0, posture 0, stamp 2
+robot claims: answer 4, owner 0, posture 0, stamp 2
+watch inquires: answer 32, owner 0, posture 0, stamp 2
+"""
+SHOWN = """zone z1 free 0 closed
+zone z2 free 0 closed
+zone z3 press 0 closed
+zone z4 free 0 closed
+zone z5 free 0 closed
+zone z6 free 0 closed
+places 0000000000
+stamp 1 plates 0 stopped 0
+word 0x0000010000000400
+                   000  unused
+                     0  mark
+  00000000000000000001  stamp     1
+            0000000000  p10 to p1
+                 00000  z6        free closed
+                 00000  z5        free closed
+                 00000  z4        free closed
+                 00001  z3        press closed
+                 00000  z2        free closed
+                 00000  z1        free closed
+"""
+
+
+class Failed(Exception):
+    """A trial that shows something wrong."""
+
+
+class Trials:
+    """Runs trials one after another, and counts them."""
+
+    def __init__(self, root, prefix, room):
+        self.root, self.prefix, self.room, self.here = root, prefix, room, f"{root}/bindings"
+        self.passed, self.failed, self.absent = 0, 0, []
+        self.numbers = itertools.count()
+
+    def attempt(self, what, trial, *given):
+        """Runs a trial, and says what came of it."""
+        begun = time.monotonic()
+        try:
+            said = trial(*given)
+        except Failed as failed:
+            self.failed += 1
+            print(f"FAILED  {what}: {failed}", flush=True)
+        else:
+            self.passed += 1
+            print(f"passed  {what}, {time.monotonic() - begun:.0f} s{said and ': ' + said}", flush=True)
+
+    def run(self, words, source="", status=0, **environment):
+        """What a program writes, if its status is the one that is wanted."""
+        how = {"stdout": subprocess.PIPE, "stderr": subprocess.STDOUT, "text": True, "check": False, "input": source}
+        ran = subprocess.run(words, env={**os.environ, **environment}, **how)
+        if status is not None and ran.returncode != status:
+            raise Failed(f"{' '.join(words)}: status {ran.returncode}\n{ran.stdout}")
+        return ran.stdout
+
+    def compiled(self, compiler, source, *flags):
+        """A program of this source."""
+        to = f"{self.room}/{next(self.numbers)}_{os.path.basename(source).partition('.')[0]}"
+        language = CPP if compiler in ("g++", "clang++") else C
+        its_own = ["-pthread", *flags, f"-I{self.prefix}/include", f"{self.here}/{source}", f"{self.prefix}/lib/libbagunjoki.a"]
+        self.run([compiler, *language, *its_own, "-o", to])
+        return to
+
+    def there(self, *programs):
+        """Those of the programs that are there; the others are noted."""
+        self.absent += [it for it in programs if not shutil.which(it)]
+        return [it for it in programs if shutil.which(it)]
+
+
+def wants(found, wanted):
+    """Compares a text."""
+    if found != wanted:
+        raise Failed(f"it writes\n{found}and not\n{wanted}")
+    return ""
+
+
+# Examples
+
+
+def example_in_c(trials, compiler, source):
+    return wants(trials.run([trials.compiled(compiler, source)]), INTERIOR)
+
+
+def example_by_pkg_config(trials):
+    """As a user compiles it, with the shared library."""
+    said = trials.run(["pkg-config", "--cflags", "--libs", "bagunjoki"], PKG_CONFIG_PATH=f"{trials.prefix}/lib/pkgconfig")
+    to = f"{trials.room}/by_pkg_config"
+    trials.run(["cc", f"{trials.here}/examples/interior.c", *said.split(), "-o", to])
+    return wants(trials.run([to], LD_LIBRARY_PATH=f"{trials.prefix}/lib"), INTERIOR)
+
+
+def example_in_rust(trials):
+    to = f"{trials.room}/in_rust"
+    words = ["rustc", "-O", "--edition", "2021", f"{trials.here}/examples/interior.rs", "-L", f"{trials.prefix}/lib"]
+    trials.run([*words, "-l", "static=bagunjoki", "-o", to])
+    return wants(trials.run([to]), INTERIOR)
+
+
+def press_in_c(trials, compiler):
+    """The motor of examples/press.c is told the same as that of the crate press_by_hand."""
+    crate = f"{trials.root}/crates/press_by_hand"
+    with open(f"{crate}/stdin", encoding="ascii") as lines, open(f"{crate}/stdout", encoding="ascii") as answers:
+        found = trials.run([trials.compiled(compiler, "examples/press.c")], lines.read())
+        wanted = [it for it in answers.read().split("\n") if not it.endswith("calls")]
+    first = lambda lines: "".join(re.match(r"\w*", it)[0] + "\n" for it in lines)
+    return wants(first(found.split("\n")), first(wanted))
+
+
+# Scripts
+
+
+def scripts(trials, words, **environment):
+    """Each script of examples/, answered as there."""
+    count = 0
+    for script in sorted(glob.glob(f"{trials.root}/examples/*.csv")):
+        with open(script, encoding="utf-8") as it, open(f"{script[:-4]}.out", encoding="utf-8") as answers:
+            wanted = answers.read()
+            wants(trials.run(words, it.read(), int("\nfault" in f"\n{wanted}"), **environment), wanted)
+        count += 1
+    if not count:
+        raise Failed("there are no scripts")
+    return f"{count} scripts"
+
+
+def python(trials, version):
+    """Example, scripts, the table of a state, and refusals of what is no call."""
+    module = {"PYTHONPATH": f"{trials.prefix}/lib/python", "PYTHONDONTWRITEBYTECODE": "1", "PYTHONWARNINGS": "error"}
+    wants(trials.run([version, f"{trials.here}/examples/interior.py"], **module), INTERIOR)
+    shows = "from bagunjoki import Word; cell = Word(); cell.ask('press', 'claim', 'z3'); cell.show()"
+    wants(trials.run([version, "-c", shows], **module), SHOWN)
+    for call in ("'press', 'clam', 'z3'", "'free', 'claim', 'z3'", "'press', 'claim'", "'press', 'advance', 'z3'", "8, 1, 3", "4, 'claim', 7"):
+        said = trials.run([version, "-c", f"from bagunjoki import Word; Word().ask({call})"], status=1, **module)
+        if "ValueError" not in said:
+            raise Failed(f"ask({call}): {said}")
+    return scripts(trials, [version, "-m", "bagunjoki", "--answers"], **module)
+
+
+def pythons():
+    """Each version of Python from 3.9 on, also those of pyenv."""
+    found = {}
+    names = [f"python3.{it}" for it in PYTHONS] + [sys.executable]
+    for path in [shutil.which(it) for it in names] + sorted(glob.glob(os.path.expanduser("~/.pyenv/versions/3.*/bin/python3"))):
+        ran = path and subprocess.run([path, "-c", "import sys; print(*sys.version_info[:2])"], stdout=subprocess.PIPE, stderr=subprocess.DEVNULL, text=True, check=False)
+        version = ran and tuple(map(int, ran.stdout.split())) or (0, 0)
+        if version >= (3, PYTHONS[0]):
+            found.setdefault(version, path)
+    return [(f"{major}.{minor}", path) for (major, minor), path in sorted(found.items())]
+
+
+# Loads
+
+
+def load(trials, program, calls, ways, **environment):
+    """About so many calls, of which check.py makes one legal history."""
+    words = [sys.executable, "-B", f"{trials.root}/bench/stress/check.py", "1", str(calls), str(min(420_000, calls)), program, *ways]
+    said = trials.run(words, **environment)
+    return said.strip().split("\n")[-1]
+
+
+def planted(trials, program, ways):
+    """A plain store in place of the exchange has to be found."""
+    words = [sys.executable, "-B", f"{trials.root}/bench/stress/check.py", "1", "1000000", "70000", program, *ways]
+    said = trials.run(words, status=1)
+    if not re.search(r"^wrong, in", said, re.M):
+        raise Failed(f"check.py says\n{said}")
+    return "it was found"
+
+
+def sanitized(trials, compiler, which, calls):
+    """Scripts and a load under a sanitizer, which sees what is compiled here, and not within the library."""
+    flags = ["-g", "-fno-omit-frame-pointer", f"-fsanitize={which}", "-fno-sanitize-recover=all"]
+    replay = trials.compiled(compiler, "tests/replay.c", *flags)
+    stress = trials.compiled(compiler, "tests/stress.c", *flags)
+    scripts(trials, [replay])
+    return load(trials, stress, calls, [], TSAN_OPTIONS="halt_on_error=1 exitcode=66")
+
+
+def can_sanitize(compiler, which):
+    words = [compiler, f"-fsanitize={which}", "-x", "c", "-", "-o", "/dev/null"]
+    return subprocess.run(words, input=b"int main(void) { return 0; }", stderr=subprocess.DEVNULL, check=False).returncode == 0
+
+
+# All
+
+
+def in_all_languages(trials, compilers):
+    """Examples and scripts."""
+    for compiler in compilers:
+        trials.attempt(f"interior.c by {compiler}", example_in_c, trials, compiler, "examples/interior.c")
+        trials.attempt(f"press.c by {compiler}", press_in_c, trials, compiler)
+        trials.attempt(f"scripts by replay.c, {compiler}", lambda it: scripts(trials, [trials.compiled(it, "tests/replay.c")]), compiler)
+        trials.attempt(f"40,000,000 calls as in plain C, {compiler}", lambda it: trials.run([trials.compiled(it, "tests/speed.c"), "agree"]), compiler)
+    for compiler in trials.there("g++", "clang++"):
+        trials.attempt(f"interior.cpp by {compiler}", example_in_c, trials, compiler, "examples/interior.cpp")
+    if trials.there("pkg-config", "cc"):
+        trials.attempt("interior.c by pkg-config", example_by_pkg_config, trials)
+    if trials.there("rustc"):
+        trials.attempt("interior.rs", example_in_rust, trials)
+    for version, path in pythons():
+        trials.attempt(f"Python {version}", python, trials, path)
+
+
+def under_load(trials, compilers, calls):
+    """Threads and processes on one word."""
+    for compiler, ways in itertools.product(compilers, ([], ["processes"])):
+        share = calls if compiler == compilers[0] else max(calls // 10, 7)
+        name = f"three processes, {compiler}" if ways else f"seven threads, {compiler}"
+        trials.attempt(name, load, trials, trials.compiled(compiler, "tests/stress.c"), share, ways)
+        trials.attempt(f"{name}, with a plain store", planted, trials, trials.compiled(compiler, "tests/stress.c", "-DPLANTED"), ways)
+    for compiler, which in itertools.product(compilers, ("address,undefined", "thread")):
+        if can_sanitize(compiler, which):
+            trials.attempt(f"{which} sanitizer, {compiler}", sanitized, trials, compiler, which, max(calls // 20, 7))
+        else:
+            trials.absent.append(f"{which} sanitizer of {compiler}")
+
+
+def run(root, prefix, calls):
+    """All trials; the status is 0 only if none has failed."""
+    with tempfile.TemporaryDirectory() as room:
+        trials = Trials(root, prefix, room)
+        compilers = trials.there("gcc", "clang")
+        in_all_languages(trials, compilers)
+        under_load(trials, compilers, calls)
+    if trials.absent:
+        print(f"not tried, since it isn't here: {', '.join(trials.absent)}")
+    print(f"{trials.passed} passed, {trials.failed} failed")
+    return 1 if trials.failed or not compilers else 0
