@@ -10,8 +10,9 @@ A script, line by line:
 
     python3 -m bagunjoki [--show] [--answers] [SCRIPT]
 
---show prints the state after each line, --answers the answers alone, as `cell replay` does. The library is the file that
-the variable BAGUNJOKI names, or else libbagunjoki.so beside this file, one folder above, or where the system finds it.
+--show prints the state after each line, --answers the answers alone, as `cell replay` does. The library is the file
+that the variable BAGUNJOKI names, or else libbagunjoki.so beside this file, one folder above, or where the system
+finds it.
 """
 
 import csv
@@ -134,7 +135,13 @@ class Answer(enum.IntEnum):
 NO_WORD = 2**64 - 1
 LAST_STAMP = 1_048_575
 # Words of scripts and answers that aren't the letters of the name.
-OTHER_WORDS = {"NOBODY": "free", "SET_POSE": "pose", "ALREADY_MINE": "already", "PLATE_IN_ZONE": "platein", "SHOWN": "zone"}
+OTHER_WORDS = {
+    "NOBODY": "free",
+    "SET_POSE": "pose",
+    "ALREADY_MINE": "already",
+    "PLATE_IN_ZONE": "platein",
+    "SHOWN": "zone",
+}
 WITHOUT_OBJECT = (Verb.ADVANCE, Verb.STOP, Verb.RESUME)
 
 
@@ -286,12 +293,15 @@ class Word:
 
     def bits(self):
         """The word's fields from the highest bit down: name, value in words, bits."""
-        fields = [("unused", "", 61, 3), ("mark", "stopped" if self.is_stopped else "", 60, 1), ("stamp", str(self.stamp), 40, 20)]
-        fields.append(("p10 to p1", " ".join(word_of(it) for it in reversed(self.full_places())), 30, 10))
+        full = " ".join(word_of(it) for it in reversed(self.full_places()))
+        fields = [("unused", "", 61, 3), ("mark", "stopped" * self.is_stopped, 60, 1)]
+        fields += [("stamp", str(self.stamp), 40, 20), ("p10 to p1", full, 30, 10)]
         for it in reversed(Zone):
             shown = self.zone(it)
-            fields.append((word_of(it), f"{word_of(shown.owner)} {word_of(shown.posture)}{' plate' * shown.plate}", 5 * (it - 1), 5))
-        return [(name, said, f"{self.value >> low & (1 << count) - 1:0{count}b}") for name, said, low, count in fields]
+            said = f"{word_of(shown.owner)} {word_of(shown.posture)}{' plate' * shown.plate}"
+            fields.append((word_of(it), said, 5 * (it - 1), 5))
+        cut = lambda low, count: f"{self.value >> low & (1 << count) - 1:0{count}b}"
+        return [(name, said, cut(low, count)) for name, said, low, count in fields]
 
     def table(self):
         """The state as a text: zones, places and stamp as a film has them, and the word's bits."""

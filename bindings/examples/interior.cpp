@@ -5,7 +5,7 @@
 #include <string>
 
 class Interlock {
-public:
+  public:
     explicit Interlock(const std::string &places) {
         const uint64_t start = bagunjoki_start(reinterpret_cast<const uint8_t *>(places.data()), places.size(), 0);
         if (start == BAGUNJOKI_NO_WORD) throw std::invalid_argument("no start: " + places);
@@ -16,7 +16,7 @@ public:
         return bagunjoki_ask(&word, machine, verb, zone, 8);
     }
 
-private:
+  private:
     bagunjoki_word word;
 };
 
@@ -24,8 +24,8 @@ int main() {
     Interlock cell("0000000000");
     const auto ask = [&cell](const char *what, bagunjoki_machine machine, bagunjoki_verb verb) {
         const bagunjoki_reply reply = cell.ask(machine, verb, BAGUNJOKI_Z3);
-        std::cout << what << ": answer " << int(reply.answer) << ", owner " << int(reply.owner) << ", posture " << int(reply.posture)
-                  << ", stamp " << bagunjoki_stamp(reply.next) << "\n";
+        std::cout << what << ": answer " << int(reply.answer) << ", owner " << int(reply.owner) << ", posture "
+                  << int(reply.posture) << ", stamp " << bagunjoki_stamp(reply.next) << "\n";
     };
     ask("press claims", BAGUNJOKI_PRESS, BAGUNJOKI_CLAIM);
     ask("robot claims", BAGUNJOKI_ROBOT, BAGUNJOKI_CLAIM);

@@ -1,13 +1,15 @@
 /* The press: a loop over sensors, motor and interlock. docs/PROGRAMS.md has its program.
 
-   Lines of text are its sensors: three digits for the switches bottom, middle and top, 1 is on. It writes what its motor
-   is told. The crate press_by_hand does the same, proved.   cc press.c $(pkg-config --cflags --libs bagunjoki) */
+   Lines of text are its sensors: three digits for the switches bottom, middle and top, 1 is on. It writes what its
+   motor is told. The crate press_by_hand does the same, proved.   cc press.c $(pkg-config --cflags --libs bagunjoki) */
 #include <bagunjoki.h>
 #include <stdio.h>
 
 /* The plant's side. Yours reads inputs and writes outputs here, with the barriers that your devices ask for. */
 
-struct switches { bool bottom, middle, top; };
+struct switches {
+    bool bottom, middle, top;
+};
 
 enum motor { OFF, UP, DOWN };
 
@@ -31,7 +33,10 @@ static void set_motor(enum motor motor, const char *why) {
 
 enum target { NOWHERE, BOTTOM, MIDDLE, TOP };
 
-struct step { uint8_t verb, object, waits_on; enum target target; };
+struct step {
+    uint8_t verb, object, waits_on;
+    enum target target;
+};
 
 enum { LEAVE_FOR_MIDDLE = 1, LEAVE_FOR_TOP = 6, LAST = 14 };
 
@@ -64,7 +69,12 @@ static enum motor drive(enum target target, struct switches now, enum motor last
 }
 
 /* One machine's view of the cell. */
-struct press { bagunjoki_word *cell; unsigned at; enum motor last; bool has_stopped; };
+struct press {
+    bagunjoki_word *cell;
+    unsigned at;
+    enum motor last;
+    bool has_stopped;
+};
 
 static void go_on(struct press *press) {
     bool has_plate = bagunjoki_is_full(*press->cell, BAGUNJOKI_AT_PRESS_IN);
@@ -83,8 +93,7 @@ static enum motor turn(struct press *press, struct switches now) {
         return motor;
     }
     bagunjoki_reply reply = bagunjoki_ask(press->cell, BAGUNJOKI_PRESS, step->verb, step->object, 8);
-    if (reply.answer == BAGUNJOKI_DONE)
-        go_on(press);
+    if (reply.answer == BAGUNJOKI_DONE) go_on(press);
     else if (reply.answer != BAGUNJOKI_BUSY && reply.answer != BAGUNJOKI_STOPPED && reply.answer != step->waits_on)
         press->has_stopped = true; /* a refusal that the program doesn't know: the motor stays off */
     return OFF;

@@ -53,13 +53,14 @@ def of_header(root):
     found = {}
     for kind, cases in re.findall(r"^enum bagunjoki_(\w+) \{(.*?)\};", text, re.M | re.S):
         names = {name: int(number) for name, number in re.findall(r"BAGUNJOKI_(\w+) = (\d+)", cases)}
+        of_loop = OF_THE_LOOP.get(kind, {})
+        names = {it: number for it, number in names.items() if of_loop.get(it) != number}
         found[kind] = {it.removeprefix("AT_"): number for it, number in names.items()} if kind == "place" else names
-        found[kind] = {it: number for it, number in found[kind].items() if OF_THE_LOOP.get(kind, {}).get(it) != number}
     limits = {name: int(number) for name, number in re.findall(r"#define BAGUNJOKI_(\w+) (\d+)$", text, re.M)}
     if re.search(r"#define BAGUNJOKI_NO_WORD UINT64_MAX$", text, re.M):
         limits["NO_WORD"] = 2**64 - 1
     struct = re.search(r"typedef struct bagunjoki_reply \{(.*?)\}", text, re.S)[1]
-    return found, limits, [(name, TYPES[kind]) for kind, name in re.findall(r"^    (\w+) (\w+);", struct, re.M)]
+    return found, limits, [(name, TYPES.get(kind, kind)) for kind, name in re.findall(r"^    (\w+) (\w+);", struct, re.M)]
 
 
 def module(root):
@@ -73,17 +74,18 @@ def module(root):
 def of_module(root):
     """The same as the module has them."""
     from_file = module(root)
-    kinds = [from_file.Machine, from_file.Zone, from_file.Place, from_file.Posture, from_file.Pose, from_file.Verb, from_file.Answer]
+    names = ("Machine", "Zone", "Place", "Posture", "Pose", "Verb", "Answer")
+    kinds = [getattr(from_file, it) for it in names]
     found = {kind.__name__.lower(): {it.name: it.value for it in kind} for kind in kinds}
     limits = {"NO_WORD": from_file.NO_WORD, "LAST_STAMP": from_file.LAST_STAMP}
-    return found, limits, [(name, TYPES[kind.__name__]) for name, kind in from_file.RawReply._fields_]
+    return found, limits, [(name, TYPES.get(kind.__name__, kind.__name__)) for name, kind in from_file.RawReply._fields_]
 
 
 def wrong_words(root):
     """Names whose word isn't the one that cell_types has."""
     from_file, said, count = module(root), [], 0
-    kinds = {"Machine": from_file.Machine, "Zone": from_file.Zone, "Place": from_file.Place, "Posture": from_file.Posture}
-    kinds |= {"Pose": from_file.Pose, "Call": from_file.Verb, "Refusal": from_file.Answer}
+    kinds = {it: getattr(from_file, it) for it in ("Machine", "Zone", "Place", "Posture", "Pose")}
+    kinds |= {"Call": from_file.Verb, "Refusal": from_file.Answer}
     for path in WORDS:
         for kind, name, word in re.findall(r'\b(\w+)::(\w+)(?:\(_\))? => "(\w+)"', text_of(f"{root}/{path}")):
             count += 1
@@ -97,7 +99,8 @@ def differences(root):
     """A line for each difference."""
     numbers, limits, fields = wanted(root)
     said = wrong_words(root)
-    for where, (its_numbers, its_limits, its_fields) in (("bagunjoki.h", of_header(root)), ("bagunjoki.py", of_module(root))):
+    for where, its in (("bagunjoki.h", of_header(root)), ("bagunjoki.py", of_module(root))):
+        its_numbers, its_limits, its_fields = its
         for kind in sorted({*numbers, *its_numbers}):
             here, there = numbers.get(kind, {}), its_numbers.get(kind, {})
             for name in sorted({*here, *there}):

@@ -5,13 +5,15 @@
 #include <string.h>
 
 static const char *const machines[] = {"free", "feed", "table", "robot", "press", "deposit", "crane", "watch"};
-static const char *const verbs[] = {"", "claim", "give", "yield", "take", "release", "pose", "advance", "inquire", "stop", "resume"};
-static const char *const poses[] = {"", "turning", "loading", "unloading", "travelling", "middle", "low",
-                                    "top", "running", "landing", "halted", "offering", "standing"};
+static const char *const verbs[] = {"",     "claim",   "give",    "yield", "take",  "release",
+                                    "pose", "advance", "inquire", "stop",  "resume"};
+static const char *const poses[] = {"",    "turning", "loading", "unloading", "travelling", "middle",  "low",
+                                    "top", "running", "landing", "halted",    "offering",   "standing"};
 static const char *const postures[] = {"closed", "moving", "openin", "openout"};
 static const char *const zones[] = {"", "z1", "z2", "z3", "z4", "z5", "z6"};
-static const char *const answers[] = {"done", "notparty", "held", "already", "shut", "notowner", "platein", "noplate", "placefull",
-                                      "wrongway", "jump", "notatwork", "nopose", "worn", "stopped", "notstopped", "inuse"};
+static const char *const answers[] = {"done",    "notparty", "held",      "already",    "shut", "notowner",
+                                      "platein", "noplate",  "placefull", "wrongway",   "jump", "notatwork",
+                                      "nopose",  "worn",     "stopped",   "notstopped", "inuse"};
 #define FIND(table, word) find(table, sizeof table / sizeof *table, word)
 
 /* The number of a word, or 0. */
@@ -36,14 +38,16 @@ static int fields_of(char *line, char **field) {
 /* The word of the first record's start, or NO_WORD. */
 static uint64_t start_of(char **field, int count) {
     if (count < 2 || count > 3) return BAGUNJOKI_NO_WORD;
-    if (count == 3 && (!*field[2] || strlen(field[2]) > 7 || field[2][strspn(field[2], "0123456789")])) return BAGUNJOKI_NO_WORD;
+    if (count == 3 && (!*field[2] || strlen(field[2]) > 7 || field[2][strspn(field[2], "0123456789")]))
+        return BAGUNJOKI_NO_WORD;
     uint32_t stamp = count == 3 ? (uint32_t)strtoul(field[2], NULL, 10) : 0;
     return bagunjoki_start((const uint8_t *)field[1], strlen(field[1]), stamp);
 }
 
 static unsigned plates_of(uint64_t word) {
     unsigned plates = 0;
-    for (uint8_t place = BAGUNJOKI_AT_FEED_ENTRY; place <= BAGUNJOKI_AT_CRANE; place++) plates += bagunjoki_is_full(word, place);
+    for (uint8_t place = BAGUNJOKI_AT_FEED_ENTRY; place <= BAGUNJOKI_AT_CRANE; place++)
+        plates += bagunjoki_is_full(word, place);
     return plates;
 }
 
@@ -52,12 +56,9 @@ static void print_answer(bagunjoki_reply reply) {
         printf("zone %s %d %s\n", machines[reply.owner], reply.plate, postures[reply.posture]);
     else if (reply.answer == BAGUNJOKI_HELD || reply.answer == BAGUNJOKI_NOT_OWNER)
         printf("%s %s\n", answers[reply.answer], machines[reply.owner]);
-    else if (reply.answer == BAGUNJOKI_SHUT)
-        printf("%s %s\n", answers[reply.answer], postures[reply.posture]);
-    else if (reply.answer == BAGUNJOKI_PLATE_IN_ZONE)
-        printf("%s %s\n", answers[reply.answer], zones[reply.zone]);
-    else
-        puts(answers[reply.answer]);
+    else if (reply.answer == BAGUNJOKI_SHUT) printf("%s %s\n", answers[reply.answer], postures[reply.posture]);
+    else if (reply.answer == BAGUNJOKI_PLATE_IN_ZONE) printf("%s %s\n", answers[reply.answer], zones[reply.zone]);
+    else puts(answers[reply.answer]);
 }
 
 /* Makes a record's call, and answers whether it is one. */
@@ -86,7 +87,10 @@ int main(void) {
             may_stop = strcmp(field[0], "start2") == 0;
             if (!may_stop && strcmp(field[0], "start") != 0) break;
             uint64_t start = start_of(field, count);
-            if (start == BAGUNJOKI_NO_WORD) { puts("fault badstart"); return 1; }
+            if (start == BAGUNJOKI_NO_WORD) {
+                puts("fault badstart");
+                return 1;
+            }
             bagunjoki_open(&shared, start);
             printf("0 %u %s %u\n", (unsigned)bagunjoki_stamp(start), field[0], plates_of(start));
         } else if (!call(&shared, record, field, count, may_stop)) {
@@ -95,6 +99,9 @@ int main(void) {
         }
         record++;
     }
-    if (record == 0) { puts("fault nostart"); return 1; }
+    if (record == 0) {
+        puts("fault nostart");
+        return 1;
+    }
     return 0;
 }

@@ -19,17 +19,28 @@
 enum { MACHINES = 7, ZONES = 6, CHECK_BUSY = 140, CHECK_SHOWN = 192 };
 
 /* What a run is asked for. */
-struct plan { uint64_t places, stamp, tries, calls, by_steps, wait, ahead, seed; };
+struct plan {
+    uint64_t places, stamp, tries, calls, by_steps, wait, ahead, seed;
+};
 
 /* A machine that calls: what it may hold by what it was told last, and its notes. */
-struct caller { uint8_t machine; uint64_t numbers, held; bool has_stopped; uint64_t *notes; };
+struct caller {
+    uint8_t machine;
+    uint64_t numbers, held;
+    bool has_stopped;
+    uint64_t *notes;
+};
 
 /* In memory that all share. */
-static struct shared { bagunjoki_word word; _Atomic uint64_t there, made; } *shared;
+static struct shared {
+    bagunjoki_word word;
+    _Atomic uint64_t there, made;
+} * shared;
 static struct plan plan;
 static struct caller callers[MACHINES];
 
-static const uint8_t own_zones[MACHINES][ZONES + 1] = {{1, 6}, {1, 2}, {2, 3, 4}, {3}, {4, 5}, {5, 6}, {1, 2, 3, 4, 5, 6}};
+static const uint8_t own_zones[MACHINES][ZONES + 1] = {{1, 6}, {1, 2}, {2, 3, 4},         {3},
+                                                       {4, 5}, {5, 6}, {1, 2, 3, 4, 5, 6}};
 static const uint8_t own_poses[MACHINES][6] = {{8, 9, 10}, {1, 2, 3}, {0}, {4, 5, 6, 7}, {8, 9, 11, 12, 10}, {0}, {0}};
 
 static uint64_t below(struct caller *it, uint64_t end) {
@@ -39,7 +50,9 @@ static uint64_t below(struct caller *it, uint64_t end) {
 
 static uint8_t one_of(struct caller *it, const uint8_t *some) { return some[below(it, strlen((const char *)some))]; }
 
-struct call { uint8_t verb, object; };
+struct call {
+    uint8_t verb, object;
+};
 
 static struct call zone_call(uint8_t verb, uint8_t zone) { return (struct call){verb, zone}; }
 
@@ -58,11 +71,13 @@ static struct call own_pose(struct caller *it, uint8_t zone) {
 
 /* Mostly a call that the machine has a use for: in eighths of one, by whether it holds the zone. */
 static struct call next_call(struct caller *it) {
-    static const uint8_t free_verbs[] = {1, 1, 1, 1, 1, 1, 1, 1, 4, 4, 4, 8, 8, 2, 7, 6, 0}, held_verbs[] = {2, 2, 2, 4, 3, 5, 5, 5, 5, 1, 7, 6, 6, 6, 6, 6, 0};
+    static const uint8_t free_verbs[] = {1, 1, 1, 1, 1, 1, 1, 1, 4, 4, 4, 8, 8, 2, 7, 6, 0},
+                         held_verbs[] = {2, 2, 2, 4, 3, 5, 5, 5, 5, 1, 7, 6, 6, 6, 6, 6, 0};
     if (below(it, 16) == 0) return any_call(it);
     uint8_t zone = one_of(it, own_zones[it->machine - 1]);
     if (it->machine == BAGUNJOKI_WATCH) {
-        if (below(it, 16) < (it->has_stopped ? 8 : 1)) return zone_call(it->has_stopped ? BAGUNJOKI_RESUME : BAGUNJOKI_STOP, 0);
+        if (below(it, 16) < (it->has_stopped ? 8 : 1))
+            return zone_call(it->has_stopped ? BAGUNJOKI_RESUME : BAGUNJOKI_STOP, 0);
         return zone_call(BAGUNJOKI_INQUIRE, zone);
     }
     uint8_t verb = one_of(it, it->held >> zone & 1 ? held_verbs : free_verbs);
@@ -91,8 +106,10 @@ static uint64_t check_answer(bagunjoki_reply reply) {
     switch (reply.answer) {
     case BAGUNJOKI_DONE: return 0;
     case BAGUNJOKI_BUSY: return CHECK_BUSY;
-    case BAGUNJOKI_SHOWN: return CHECK_SHOWN | check_owner(reply.owner) << 3 | (uint64_t)reply.plate << 2 | reply.posture;
-    case BAGUNJOKI_HELD: case BAGUNJOKI_NOT_OWNER: named = check_owner(reply.owner); break;
+    case BAGUNJOKI_SHOWN:
+        return CHECK_SHOWN | check_owner(reply.owner) << 3 | (uint64_t)reply.plate << 2 | reply.posture;
+    case BAGUNJOKI_HELD:
+    case BAGUNJOKI_NOT_OWNER: named = check_owner(reply.owner); break;
     case BAGUNJOKI_SHUT: named = reply.posture; break;
     case BAGUNJOKI_PLATE_IN_ZONE: named = reply.zone - 1u; break;
     }
@@ -101,7 +118,8 @@ static uint64_t check_answer(bagunjoki_reply reply) {
 
 /* The lowest bits first: stamp 20, answer 8, call 6, lost exchanges that were seen 7, whether by steps 1. */
 static uint64_t note_of(struct call call, bagunjoki_reply reply, uint64_t lost, bool by_steps) {
-    return bagunjoki_stamp(reply.next) | check_answer(reply) << 20 | check_call(call) << 28 | lost << 34 | (uint64_t)by_steps << 41;
+    return bagunjoki_stamp(reply.next) | check_answer(reply) << 20 | check_call(call) << 28 | lost << 34 |
+           (uint64_t)by_steps << 41;
 }
 
 static bool exchange(uint64_t *word, uint64_t next) {
@@ -138,8 +156,9 @@ static uint64_t ask(struct caller *it, struct call call, bool by_steps) {
 #ifdef PLANTED
     bagunjoki_reply reply = ask_by_steps(it, call, &lost);
 #else
-    bagunjoki_reply reply = by_steps ? ask_by_steps(it, call, &lost)
-                                     : bagunjoki_ask(&shared->word, it->machine, call.verb, call.object, (unsigned)plan.tries);
+    bagunjoki_reply reply =
+        by_steps ? ask_by_steps(it, call, &lost)
+                 : bagunjoki_ask(&shared->word, it->machine, call.verb, call.object, (unsigned)plan.tries);
 #endif
     if (reply.answer == BAGUNJOKI_BUSY) lost = plan.tries;
     learn(it, call, reply.answer);
@@ -229,7 +248,8 @@ static void write_notes(const uint64_t *notes, uint64_t count) {
 }
 
 int main(int count, char **words) {
-    uint64_t *fields[] = {&plan.places, &plan.stamp, &plan.tries, &plan.calls, &plan.by_steps, &plan.wait, &plan.ahead, &plan.seed};
+    uint64_t *fields[] = {&plan.places,   &plan.stamp, &plan.tries, &plan.calls,
+                          &plan.by_steps, &plan.wait,  &plan.ahead, &plan.seed};
     for (size_t k = 0; k < sizeof fields / sizeof *fields; k++) {
         unsigned long long number;
         if (scanf("%llu", &number) != 1) return 2;
@@ -239,7 +259,8 @@ int main(int count, char **words) {
     bool is_good = count > 1 && strcmp(words[1], "processes") == 0 ? run_processes() : run_threads();
     for (unsigned k = 0; k < MACHINES; k++) write_notes(callers[k].notes, plan.calls);
     uint64_t last[ZONES];
-    for (uint8_t zone = 1; zone <= ZONES; zone++) last[zone - 1] = ask(&callers[MACHINES - 1], zone_call(BAGUNJOKI_INQUIRE, zone), false);
+    for (uint8_t zone = 1; zone <= ZONES; zone++)
+        last[zone - 1] = ask(&callers[MACHINES - 1], zone_call(BAGUNJOKI_INQUIRE, zone), false);
     write_notes(last, ZONES);
     return is_good && fflush(stdout) == 0 ? 0 : 1;
 }

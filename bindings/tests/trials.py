@@ -19,6 +19,8 @@ press releases: answer 0, owner 0, posture 0, stamp 2
 robot claims: answer 4, owner 0, posture 0, stamp 2
 watch inquires: answer 32, owner 0, posture 0, stamp 2
 """
+NO_CALLS = ["'press', 'clam', 'z3'", "'free', 'claim', 'z3'", "'press', 'claim'", "'press', 'advance', 'z3'"]
+NO_CALLS += ["8, 1, 3", "4, 'claim', 7", "0, 'claim', 3"]
 SHOWN = """zone z1 free 0 closed
 zone z2 free 0 closed
 zone z3 press 0 closed
@@ -77,8 +79,8 @@ class Trials:
         """A program of this source."""
         to = f"{self.room}/{next(self.numbers)}_{os.path.basename(source).partition('.')[0]}"
         language = CPP if compiler in ("g++", "clang++") else C
-        its_own = ["-pthread", *flags, f"-I{self.prefix}/include", f"{self.here}/{source}", f"{self.prefix}/lib/libbagunjoki.a"]
-        self.run([compiler, *language, *its_own, "-o", to])
+        its_own = ["-pthread", *flags, f"-I{self.prefix}/include", f"{self.here}/{source}"]
+        self.run([compiler, *language, *its_own, f"{self.prefix}/lib/libbagunjoki.a", "-o", to])
         return to
 
     def there(self, *programs):
@@ -103,7 +105,8 @@ def example_in_c(trials, compiler, source):
 
 def example_by_pkg_config(trials):
     """As a user compiles it, with the shared library."""
-    said = trials.run(["pkg-config", "--cflags", "--libs", "bagunjoki"], PKG_CONFIG_PATH=f"{trials.prefix}/lib/pkgconfig")
+    found = {"PKG_CONFIG_PATH": f"{trials.prefix}/lib/pkgconfig"}
+    said = trials.run(["pkg-config", "--cflags", "--libs", "bagunjoki"], **found)
     to = f"{trials.room}/by_pkg_config"
     trials.run(["cc", f"{trials.here}/examples/interior.c", *said.split(), "-o", to])
     return wants(trials.run([to], LD_LIBRARY_PATH=f"{trials.prefix}/lib"), INTERIOR)
@@ -119,8 +122,9 @@ def example_in_rust(trials):
 def press_in_c(trials, compiler):
     """The motor of examples/press.c is told the same as that of the crate press_by_hand."""
     crate = f"{trials.root}/crates/press_by_hand"
+    program = trials.compiled(compiler, "examples/press.c")
     with open(f"{crate}/stdin", encoding="ascii") as lines, open(f"{crate}/stdout", encoding="ascii") as answers:
-        found = trials.run([trials.compiled(compiler, "examples/press.c")], lines.read())
+        found = trials.run([program], lines.read())
         wanted = [it for it in answers.read().split("\n") if not it.endswith("calls")]
     first = lambda lines: "".join(re.match(r"\w*", it)[0] + "\n" for it in lines)
     return wants(first(found.split("\n")), first(wanted))
@@ -142,13 +146,23 @@ def scripts(trials, words, **environment):
     return f"{count} scripts"
 
 
+def scripts_in_c(trials, compiler):
+    return scripts(trials, [trials.compiled(compiler, "tests/replay.c")])
+
+
+def as_in_plain_c(trials, compiler):
+    return trials.run([trials.compiled(compiler, "tests/speed.c"), "agree"])
+
+
 def python(trials, version):
-    """Example, scripts, the table of a state, and refusals of what is no call."""
+    """Example, scripts, the table of a state, the session of docs/FROM_C.md, and what is no call."""
     module = {"PYTHONPATH": f"{trials.prefix}/lib/python", "PYTHONDONTWRITEBYTECODE": "1", "PYTHONWARNINGS": "error"}
     wants(trials.run([version, f"{trials.here}/examples/interior.py"], **module), INTERIOR)
     shows = "from bagunjoki import Word; cell = Word(); cell.ask('press', 'claim', 'z3'); cell.show()"
     wants(trials.run([version, "-c", shows], **module), SHOWN)
-    for call in ("'press', 'clam', 'z3'", "'free', 'claim', 'z3'", "'press', 'claim'", "'press', 'advance', 'z3'", "8, 1, 3", "4, 'claim', 7"):
+    session = "import doctest, sys; sys.exit(doctest.testfile(sys.argv[1], module_relative=False).failed)"
+    trials.run([version, "-c", session, f"{trials.root}/docs/FROM_C.md"], **module)
+    for call in NO_CALLS:
         said = trials.run([version, "-c", f"from bagunjoki import Word; Word().ask({call})"], status=1, **module)
         if "ValueError" not in said:
             raise Failed(f"ask({call}): {said}")
@@ -158,12 +172,14 @@ def python(trials, version):
 def pythons():
     """Each version of Python from 3.9 on, also those of pyenv."""
     found = {}
-    names = [f"python3.{it}" for it in PYTHONS] + [sys.executable]
-    for path in [shutil.which(it) for it in names] + sorted(glob.glob(os.path.expanduser("~/.pyenv/versions/3.*/bin/python3"))):
-        ran = path and subprocess.run([path, "-c", "import sys; print(*sys.version_info[:2])"], stdout=subprocess.PIPE, stderr=subprocess.DEVNULL, text=True, check=False)
-        version = ran and tuple(map(int, ran.stdout.split())) or (0, 0)
-        if version >= (3, PYTHONS[0]):
-            found.setdefault(version, path)
+    paths = [shutil.which(it) for it in (*(f"python3.{it}" for it in PYTHONS), sys.executable)]
+    for path in paths + sorted(glob.glob(os.path.expanduser("~/.pyenv/versions/3.*/bin/python3"))):
+        if path:
+            words = [path, "-c", "import sys; print(*sys.version_info[:2])"]
+            how = {"stdout": subprocess.PIPE, "stderr": subprocess.DEVNULL, "text": True, "check": False}
+            version = tuple(map(int, subprocess.run(words, **how).stdout.split()))
+            if version >= (3, PYTHONS[0]):
+                found.setdefault(version, path)
     return [(f"{major}.{minor}", path) for (major, minor), path in sorted(found.items())]
 
 
@@ -172,15 +188,15 @@ def pythons():
 
 def load(trials, program, calls, ways, **environment):
     """About so many calls, of which check.py makes one legal history."""
-    words = [sys.executable, "-B", f"{trials.root}/bench/stress/check.py", "1", str(calls), str(min(420_000, calls)), program, *ways]
-    said = trials.run(words, **environment)
+    checker = [sys.executable, "-B", f"{trials.root}/bench/stress/check.py"]
+    said = trials.run([*checker, "1", str(calls), str(min(420_000, calls)), program, *ways], **environment)
     return said.strip().split("\n")[-1]
 
 
 def planted(trials, program, ways):
     """A plain store in place of the exchange has to be found."""
-    words = [sys.executable, "-B", f"{trials.root}/bench/stress/check.py", "1", "1000000", "70000", program, *ways]
-    said = trials.run(words, status=1)
+    checker = [sys.executable, "-B", f"{trials.root}/bench/stress/check.py"]
+    said = trials.run([*checker, "1", "1000000", "70000", program, *ways], status=1)
     if not re.search(r"^wrong, in", said, re.M):
         raise Failed(f"check.py says\n{said}")
     return "it was found"
@@ -197,7 +213,8 @@ def sanitized(trials, compiler, which, calls):
 
 def can_sanitize(compiler, which):
     words = [compiler, f"-fsanitize={which}", "-x", "c", "-", "-o", "/dev/null"]
-    return subprocess.run(words, input=b"int main(void) { return 0; }", stderr=subprocess.DEVNULL, check=False).returncode == 0
+    how = {"input": b"int main(void) { return 0; }", "stderr": subprocess.DEVNULL, "check": False}
+    return subprocess.run(words, **how).returncode == 0
 
 
 # All
@@ -208,8 +225,8 @@ def in_all_languages(trials, compilers):
     for compiler in compilers:
         trials.attempt(f"interior.c by {compiler}", example_in_c, trials, compiler, "examples/interior.c")
         trials.attempt(f"press.c by {compiler}", press_in_c, trials, compiler)
-        trials.attempt(f"scripts by replay.c, {compiler}", lambda it: scripts(trials, [trials.compiled(it, "tests/replay.c")]), compiler)
-        trials.attempt(f"40,000,000 calls as in plain C, {compiler}", lambda it: trials.run([trials.compiled(it, "tests/speed.c"), "agree"]), compiler)
+        trials.attempt(f"scripts by replay.c, {compiler}", scripts_in_c, trials, compiler)
+        trials.attempt(f"40,000,000 calls as in plain C, {compiler}", as_in_plain_c, trials, compiler)
     for compiler in trials.there("g++", "clang++"):
         trials.attempt(f"interior.cpp by {compiler}", example_in_c, trials, compiler, "examples/interior.cpp")
     if trials.there("pkg-config", "cc"):
@@ -226,10 +243,12 @@ def under_load(trials, compilers, calls):
         share = calls if compiler == compilers[0] else max(calls // 10, 7)
         name = f"three processes, {compiler}" if ways else f"seven threads, {compiler}"
         trials.attempt(name, load, trials, trials.compiled(compiler, "tests/stress.c"), share, ways)
-        trials.attempt(f"{name}, with a plain store", planted, trials, trials.compiled(compiler, "tests/stress.c", "-DPLANTED"), ways)
+        wrong = trials.compiled(compiler, "tests/stress.c", "-DPLANTED")
+        trials.attempt(f"{name}, with a plain store", planted, trials, wrong, ways)
     for compiler, which in itertools.product(compilers, ("address,undefined", "thread")):
         if can_sanitize(compiler, which):
-            trials.attempt(f"{which} sanitizer, {compiler}", sanitized, trials, compiler, which, max(calls // 20, 7))
+            some = max(calls // 20, 7)
+            trials.attempt(f"{which} sanitizer, {compiler}", sanitized, trials, compiler, which, some)
         else:
             trials.absent.append(f"{which} sanitizer of {compiler}")
 
