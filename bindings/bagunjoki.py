@@ -159,6 +159,8 @@ def named(kind, name):
             if word_of(it) == name and it is not Machine.NOBODY:
                 return it
         raise ValueError(f"{name} is no {kind.__name__.lower()}")
+    if isinstance(name, enum.Enum) and not isinstance(name, kind):
+        raise ValueError(f"{name!r} is no {kind.__name__.lower()}")
     return kind(name)
 
 

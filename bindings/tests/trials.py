@@ -11,7 +11,7 @@ import tempfile
 import time
 
 STRICT = ["-O2", "-Wall", "-Wextra", "-Werror", "-pedantic"]
-C, CPP = ["-std=c11", *STRICT], ["-std=c++17", *STRICT]
+C, CPP = ["-std=c11", *STRICT], ["-std=c++11", *STRICT]
 PYTHONS = range(9, 30)
 INTERIOR = """press claims: answer 0, owner 0, posture 0, stamp 1
 robot claims: answer 2, owner 4, posture 0, stamp 1
@@ -20,7 +20,7 @@ robot claims: answer 4, owner 0, posture 0, stamp 2
 watch inquires: answer 32, owner 0, posture 0, stamp 2
 """
 NO_CALLS = ["'press', 'clam', 'z3'", "'free', 'claim', 'z3'", "'press', 'claim'", "'press', 'advance', 'z3'"]
-NO_CALLS += ["8, 1, 3", "4, 'claim', 7", "0, 'claim', 3"]
+NO_CALLS += ["8, 1, 3", "4, 'claim', 7", "0, 'claim', 3", "4, 'claim', Machine.ROBOT"]
 SHOWN = """zone z1 free 0 closed
 zone z2 free 0 closed
 zone z3 press 0 closed
@@ -163,7 +163,7 @@ def python(trials, version):
     session = "import doctest, sys; sys.exit(doctest.testfile(sys.argv[1], module_relative=False).failed)"
     trials.run([version, "-c", session, f"{trials.root}/docs/FROM_C.md"], **module)
     for call in NO_CALLS:
-        said = trials.run([version, "-c", f"from bagunjoki import Word; Word().ask({call})"], status=1, **module)
+        said = trials.run([version, "-c", f"from bagunjoki import *; Word().ask({call})"], status=1, **module)
         if "ValueError" not in said:
             raise Failed(f"ask({call}): {said}")
     return scripts(trials, [version, "-m", "bagunjoki", "--answers"], **module)
