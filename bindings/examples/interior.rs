@@ -2,7 +2,7 @@
 //!
 //!     rustc -O --edition 2021 interior.rs -L PREFIX/lib -l static=bagunjoki
 //!
-//! Only `Interlock::ask` writes the word, which is private: safe Rust can't spoil it.
+//! It needs Rust 1.82. Only `Interlock::ask` writes the word, which is private: safe Rust can't spoil it.
 use std::sync::atomic::{AtomicU64, Ordering::SeqCst};
 
 const ROBOT: u8 = 3;

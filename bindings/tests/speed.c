@@ -78,12 +78,6 @@ static inline bagunjoki_reply plain(uint8_t machine, uint8_t verb, uint8_t objec
 static inline bagunjoki_reply tested(uint8_t machine, uint8_t verb, uint8_t object) {
     return plain_ask(plain_tested_step, &shared, machine, verb, object, 64);
 }
-static inline bagunjoki_reply bare(uint8_t machine, uint8_t verb, uint8_t object) {
-    bagunjoki_reply reply = {atomic_load(&shared), machine, verb, object, 0, false};
-    atomic_compare_exchange_strong(&shared, &reply.next, reply.next + PLAIN_STAMP);
-    return reply;
-}
-
 /* The nanoseconds of a call by one of these, which is inlined: calls that are done, or the robot's refused claim. */
 static inline __attribute__((always_inline)) double by(asks *ask, bool is_refused, unsigned calls) {
     struct timespec from, to;
@@ -111,7 +105,6 @@ static inline __attribute__((always_inline)) double by(asks *ask, bool is_refuse
 TIMED(done_ours, ours, false)
 TIMED(done_plain, plain, false)
 TIMED(done_tested, tested, false)
-TIMED(done_bare, bare, false)
 TIMED(refused_ours, ours, true)
 TIMED(refused_plain, plain, true)
 TIMED(refused_tested, tested, true)
@@ -124,7 +117,6 @@ static const struct {
     {'o', "done", done_ours},
     {'p', "done, plain C", done_plain},
     {'t', "done, plain C that tests its word", done_tested},
-    {'b', "a bare exchange", done_bare},
     {'O', "refused", refused_ours},
     {'P', "refused, plain C", refused_plain},
     {'T', "refused, plain C that tests its word", refused_tested},

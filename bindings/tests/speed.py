@@ -10,7 +10,6 @@ import tempfile
 ROWS = [
     ("a call that is done", "o", "p", "plain C"),
     ("a call that is done", "o", "t", "plain C that tests its word"),
-    ("a call that is done", "o", "b", "a bare exchange"),
     ("a call that is refused", "O", "P", "plain C"),
     ("a call that is refused", "O", "T", "plain C that tests its word"),
 ]
