@@ -16,11 +16,11 @@
 #include <sys/wait.h>
 #include <unistd.h>
 
-enum { MACHINES = 7, ZONES = 6, CHECK_BUSY = 140, CHECK_SHOWN = 192 };
+enum { MACHINES = 7, ZONES = 6, CHECK_BUSY = 140, CHECK_LETTER = 142, CHECK_SHOWN = 192 };
 
 /* What a run is asked for. */
 struct plan {
-    uint64_t places, stamp, tries, calls, by_steps, wait, ahead, seed;
+    uint64_t places, stamp, tries, calls, by_steps, wait, ahead, letters, seed;
 };
 
 /* A machine that calls: what it may hold by what it was told last, and its notes. */
@@ -31,11 +31,12 @@ struct caller {
     uint64_t *notes;
 };
 
-/* In memory that all share. */
-static struct shared {
+/* In memory that all share. `told` has the stamp that each machine was told last: its letter to the others. */
+struct shared {
     bagunjoki_word word;
-    _Atomic uint64_t there, made;
-} * shared;
+    _Atomic uint64_t there, made, told[MACHINES];
+};
+static struct shared *shared;
 static struct plan plan;
 static struct caller callers[MACHINES];
 
@@ -176,14 +177,22 @@ static void keep_pace(uint64_t own) {
     for (unsigned k = 0; k < 200 && own > atomic_load(&shared->made) / MACHINES + plan.ahead; k++) sched_yield();
 }
 
-static void call_once(struct caller *it, uint64_t number) {
+/* The first number of the notes is how many there are. */
+static void add_note(struct caller *it, uint64_t note) { it->notes[++it->notes[0]] = note; }
+
+/* A call. Before it, the machine may read a letter: it mustn't be told a lower stamp then. */
+static void call_once(struct caller *it) {
+    if (plan.letters && below(it, 100) < plan.letters)
+        add_note(it, atomic_load(&shared->told[below(it, MACHINES)]) | (uint64_t)CHECK_LETTER << 20);
     struct call call = next_call(it);
-    it->notes[number] = ask(it, call, below(it, 100) < plan.by_steps);
+    uint64_t note = ask(it, call, below(it, 100) < plan.by_steps);
+    add_note(it, note);
+    atomic_store(&shared->told[it->machine - 1], note & BAGUNJOKI_LAST_STAMP);
 }
 
 static void *in_thread(void *caller) {
     gather();
-    for (uint64_t k = 0; k < plan.calls; k++) keep_pace(k), call_once(caller, k);
+    for (uint64_t k = 0; k < plan.calls; k++) keep_pace(k), call_once(caller);
     return NULL;
 }
 
@@ -192,7 +201,7 @@ static void in_process(unsigned from, unsigned to) {
     for (unsigned k = from; k < to; k++) atomic_fetch_add(&shared->there, 1);
     for (unsigned k = 0; k < 1000000 && atomic_load(&shared->there) < MACHINES; k++) sched_yield();
     for (uint64_t k = 0; k < plan.calls; k++)
-        for (unsigned machine = from; machine < to; machine++) keep_pace(k), call_once(&callers[machine], k);
+        for (unsigned machine = from; machine < to; machine++) keep_pace(k), call_once(&callers[machine]);
 }
 
 static bool run_threads(void) {
@@ -238,29 +247,42 @@ static void prepare(void) {
     for (unsigned k = 0; k < MACHINES; k++) {
         callers[k].machine = (uint8_t)(k + 1);
         callers[k].numbers = (plan.seed * 7 + k) * 0x9E3779B97F4A7C15u;
-        callers[k].notes = memory_for_all((size_t)(plan.calls + 1) * sizeof(uint64_t));
+        callers[k].notes = memory_for_all((size_t)(2 * plan.calls + 1) * sizeof(uint64_t));
+        atomic_store(&shared->told[k], plan.stamp);
     }
 }
 
-static void write_notes(const uint64_t *notes, uint64_t count) {
-    fwrite(&count, sizeof count, 1, stdout);
-    fwrite(notes, sizeof *notes, (size_t)count, stdout);
+/* Reads the plan: eight numbers in a line, or nine with how many calls of a hundred come after a letter. */
+static bool read_plan(void) {
+    uint64_t *fields[] = {&plan.places, &plan.stamp, &plan.tries, &plan.calls, &plan.by_steps, &plan.wait, &plan.ahead};
+    uint64_t numbers[9] = {0};
+    char line[256], *at = line;
+    unsigned count = 0;
+    if (!fgets(line, sizeof line, stdin)) return false;
+    for (char *end; count < 9; count++, at = end) {
+        numbers[count] = strtoull(at, &end, 10);
+        if (end == at) break;
+    }
+    for (unsigned k = 0; k < 7; k++) *fields[k] = numbers[k];
+    plan.letters = count == 9 ? numbers[7] : 0;
+    plan.seed = numbers[count == 9 ? 8 : 7];
+    return count >= 8;
+}
+
+/* What the watch is told of each zone in the end. */
+static void look_last(uint64_t *last) {
+    last[0] = ZONES;
+    for (uint8_t zone = 1; zone <= ZONES; zone++)
+        last[zone] = ask(&callers[MACHINES - 1], zone_call(BAGUNJOKI_INQUIRE, zone), false);
 }
 
 int main(int count, char **words) {
-    uint64_t *fields[] = {&plan.places,   &plan.stamp, &plan.tries, &plan.calls,
-                          &plan.by_steps, &plan.wait,  &plan.ahead, &plan.seed};
-    for (size_t k = 0; k < sizeof fields / sizeof *fields; k++) {
-        unsigned long long number;
-        if (scanf("%llu", &number) != 1) return 2;
-        *fields[k] = number;
-    }
+    if (!read_plan()) return 2;
     prepare();
     bool is_good = count > 1 && strcmp(words[1], "processes") == 0 ? run_processes() : run_threads();
-    for (unsigned k = 0; k < MACHINES; k++) write_notes(callers[k].notes, plan.calls);
-    uint64_t last[ZONES];
-    for (uint8_t zone = 1; zone <= ZONES; zone++)
-        last[zone - 1] = ask(&callers[MACHINES - 1], zone_call(BAGUNJOKI_INQUIRE, zone), false);
-    write_notes(last, ZONES);
+    uint64_t last[ZONES + 1];
+    look_last(last);
+    for (unsigned k = 0; k < MACHINES; k++) fwrite(callers[k].notes, sizeof(uint64_t), callers[k].notes[0] + 1, stdout);
+    fwrite(last, sizeof *last, ZONES + 1, stdout);
     return is_good && fflush(stdout) == 0 ? 0 : 1;
 }
