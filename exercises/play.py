@@ -1,0 +1,144 @@
+#!/usr/bin/env python3
+"""Plays steps or a script on the interlock, and says what each caller was told. It needs Python 3.9 alone.
+
+  exercises/play.py FILE [KIND] [--words]      a steps.csv, or a script as in examples/; - is standard input
+  exercises/play.py --class PLACES TRIES [KIND] one step a line as you type it: each student is a machine, one sits at the keys
+
+KIND is a wrong word: --store puts each word there, whatever is there now; --word-per-pass gives each caller a word of its own;
+--busy-after-one gives a call up after its first lost exchange. --words adds the word after each step, as docs/WORD.md has its bits.
+In a class a line is such as 'press look claim z3', 'press attempt', 'press ask claim z3' or 'press meet robot'. 'seen' shows what
+each has been told. After each step it looks for one legal history of all answers.
+"""
+
+import sys
+
+import steps
+from steps import CALLS, DONE, KINDS, LAST_STAMP, MACHINES, RIGHT, WORN, Cell, State, answer_words, call_of, fault_of, kept, refusal, reply_at, words
+
+
+class Play:
+    """A cell, and what each caller was told."""
+
+    def __init__(self, kind, word, tries):
+        self.word, self.tries = word, tries
+        self.cell = Cell.start(kind, word, tries)
+        self.journals = [(machine, []) for machine in range(7)]
+
+    def step(self, fields):
+        """Takes the step of a line, and answers what it says of it."""
+        if not fields or fields[0] not in MACHINES:
+            return "no machine"
+        machine = MACHINES.index(fields[0])
+        step, call = fields[1] if len(fields) > 1 else "", call_of(fields[2:])
+        pending = self.cell.held[machine]
+        if step == "ask" and call is not None and not pending:
+            return self.after("", machine, *self.cell.ask(machine, call))
+        if step == "look" and call is not None and not pending:
+            return self.after("pending", machine, *self.cell.look(machine, call))
+        if step == "attempt" and len(fields) == 2 and pending:
+            return self.after("lost", machine, *self.cell.attempt(machine))
+        if step == "meet" and not pending and len(fields) == 3 and fields[2] in MACHINES:
+            other = MACHINES.index(fields[2])
+            return "met" if other != machine and not self.cell.held[other] else "no step"
+        return "no step"
+
+    def after(self, untold, machine, cell, told):
+        """Goes on in this cell, and answers what the caller was told, if anything."""
+        self.cell = cell
+        if told is None:
+            return untold
+        self.journals[machine][1].append(told)
+        return answer_words(told)
+
+    def shown(self, fields):
+        """The word that the machine of a line has now."""
+        return steps.shown(self.cell.word(MACHINES.index(fields[0]))) if fields and fields[0] in MACHINES else ""
+
+
+def play_steps(rows, kind, with_words):
+    """The lines that steps are answered with, or None if the first row is no start."""
+    begun = steps.start_of(rows[0])
+    if not begun:
+        return None
+    play, lines = Play(kind, *begun), []
+    for number, fields in enumerate(rows[1:], 1):
+        line = f"{number} {play.step(fields)}"
+        lines.append(f"{line:<32} {play.shown(fields)}" if with_words else line)
+    return lines
+
+
+def play_script(rows, with_words=False):
+    """The lines that a script is answered with (docs/SCRIPTS.md), and whether it is accepted."""
+    if not rows or rows[0][0] not in ("start", "start2"):
+        return ["fault nostart"], False
+    version, *rest = rows[0]
+    digits, first = rest[0] if rest else "", rest[1] if len(rest) == 2 else "0"
+    is_start = len(rest) in (1, 2) and len(digits) == 10 and not set(digits) - set("01")
+    state = State.start([it == "1" for it in digits]) if is_start else None
+    if state is None or not (first.isascii() and first.isdigit()) or len(first) > 7 or int(first) > LAST_STAMP:
+        return ["fault badstart"], False
+    word = (kept(state), int(first))
+    lines = [f"0 {word[1]} {version} {state.plates()}"]
+    for number, fields in enumerate(rows[1:], 1):
+        call = call_of(fields[1:])
+        if fields[0] not in MACHINES or call is None or version == "start" and CALLS[call] in ("stop", "resume"):
+            return [*lines, f"fault badrow {number}"], False
+        answer, word = reply_at(word, MACHINES.index(fields[0]), call)
+        line = f"{number} {word[1]} {words(answer)}"
+        lines.append(f"{line:<32} {steps.shown(word)}" if with_words else line)
+    return lines, True
+
+
+def is_steps(rows):
+    """Whether these are steps, and not a script's calls."""
+    return any(len(it) > 1 and it[1] in ("ask", "look", "attempt", "meet") for it in rows[1:])
+
+
+def play_class(play):
+    """Plays what is typed, line by line."""
+    prompt, number = "> " if sys.stdin.isatty() else "", 0
+    while True:
+        print(prompt, end="", flush=True)
+        line = sys.stdin.readline()
+        fields = line.replace(",", " ").split()
+        if not line:
+            return
+        if fields == ["seen"]:
+            for machine, journal in play.journals:
+                for told in journal:
+                    print(f"    {MACHINES[machine]:<8} {CALLS[told.call]:<16} {answer_words(told)}")
+        elif fields:
+            number += 1
+            print(f"{number} {play.step(fields)}\n    word {play.shown(fields)}")
+            fault = fault_of(play.word, play.tries, play.journals)
+            if fault:
+                print(f"    no legal history: {fault}")
+
+
+def main():
+    words_ = sys.argv[1:]
+    kinds = [it[2:] for it in words_ if it[2:] in KINDS and it[:2] == "--"]
+    rest = [it for it in words_ if it[2:] not in kinds and it not in ("--words", "--class")]
+    kind, is_class = (kinds or [RIGHT])[0], "--class" in words_
+    if len(kinds) > 1 or len(rest) != (2 if is_class else 1) or any(it.startswith("--") for it in rest):
+        sys.exit(__doc__)
+    if is_class:
+        begun = steps.start_of(["start", *rest])
+        if not begun:
+            sys.exit("PLACES is ten digits, 0 or 1, that make a start; TRIES is from 1 to 64")
+        return play_class(Play(kind, *begun))
+    rows, accepted = steps.records(rest[0]), True
+    if is_steps(rows):
+        lines = play_steps(rows, kind, "--words" in words_)
+        if lines is None:
+            sys.exit("the first line isn't 'start', ten digits that make a start, and tries from 1 to 64")
+    elif kind != RIGHT:
+        sys.exit("a script has no steps, so no word can be wrong in it")
+    else:
+        lines, accepted = play_script(rows, "--words" in words_)
+    print("\n".join(lines))
+    sys.exit(0 if accepted else 1)
+
+
+if __name__ == "__main__":
+    main()

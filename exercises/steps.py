@@ -1,0 +1,180 @@
+"""Callers who take steps on one word: loads and exchanges. What a call is answered is in bench/stress/model.py.
+
+A word is a pair: a state and its stamp. A caller has a Try while its call is pending. The kinds of words are the right one and
+three wrong ones, as in the exercises plain_store, word_per_pass and busy_after_one.
+"""
+
+import csv
+import os
+import sys
+from collections import namedtuple
+
+sys.dont_write_bytecode = True
+ROOT = os.path.dirname(os.path.dirname(os.path.realpath(__file__)))
+sys.path.insert(0, f"{ROOT}/bench/stress")
+from model import CALLS, DONE, LAST_STAMP, MACHINES, NOBODY, HOST, POSTURES, WORN, State, refusal, words
+
+RIGHT, STORE, WORD_PER_PASS, BUSY_AFTER_ONE = "right", "store", "word-per-pass", "busy-after-one"
+KINDS = (RIGHT, STORE, WORD_PER_PASS, BUSY_AFTER_ONE)
+BUSY = -1
+PLACES = "FeedEntry FeedEnd Table Arm1 PressIn PressOut Arm2 DepEntry DepEnd Crane".split()
+
+Try = namedtuple("Try", "call old new lost since")
+# What a caller was told: the answer's number or BUSY, the stamp, and how many exchanges it lost; if it was BUSY, the stamp of its load.
+Told = namedtuple("Told", "call answer stamp lost since", defaults=[None])
+
+KEPT = {}
+
+
+def kept(state):
+    """The same state, as it was met first. So equal states are one object."""
+    return KEPT.setdefault(state.key(), state)
+
+
+def start_of(fields):
+    """The word and the number of tries that the first line of a list of steps says, or None."""
+    digits = fields[1] if len(fields) > 1 else ""
+    tries = fields[2] if len(fields) > 2 else "1"
+    if fields[0] != "start" or len(digits) != 10 or set(digits) - set("01") or not tries.isdigit() or not 1 <= int(tries) <= 64:
+        return None
+    state = State.start([it == "1" for it in digits])
+    return state and ((kept(state), 0), int(tries))
+
+
+def call_of(fields):
+    """The number of the call that these words say, or None."""
+    text = " ".join(fields)
+    return CALLS.index(text) if text in CALLS and len(fields) == len(text.split()) else None
+
+
+def reply_at(word, machine, call):
+    """The answer in a word's state, and the word after the call."""
+    state, stamp = word
+    found = state.answer(machine, call)
+    if not isinstance(found, State):
+        return found, word
+    return (refusal(WORN), word) if stamp == LAST_STAMP else (DONE, (kept(found), stamp + 1))
+
+
+class Cell:
+    """The word, or a word for each caller, and what callers hold. Steps change nothing: they give another cell."""
+
+    __slots__ = ("kind", "tries", "words", "held")
+
+    def __init__(self, kind, tries, words_, held=(None,) * 7):
+        self.kind, self.tries, self.words, self.held = kind, tries, words_, held
+
+    @staticmethod
+    def start(kind, word, tries):
+        """The cell before the first step."""
+        return Cell(kind, tries, (word,) * (7 if kind == WORD_PER_PASS else 1))
+
+    def at(self, machine):
+        """Which word is the machine's."""
+        return machine if self.kind == WORD_PER_PASS else 0
+
+    def word(self, machine):
+        """The word that the machine loads."""
+        return self.words[self.at(machine)]
+
+    def holding(self, machine, pending):
+        """The cell in which the machine has this pending call, or none."""
+        held = self.held[:machine] + (pending,) + self.held[machine + 1 :]
+        return Cell(self.kind, self.tries, self.words, held)
+
+    def look(self, machine, call):
+        """A load. It gives the cell, and what the caller is told, if anything."""
+        word = self.word(machine)
+        answer, new = reply_at(word, machine, call)
+        if answer == DONE:
+            return self.holding(machine, Try(call, word, new, 0, word[1])), None
+        return self, Told(call, answer, word[1], 0)
+
+    def attempt(self, machine):
+        """An exchange of the machine's pending call. It gives the cell, and what the caller is told, if anything."""
+        call, old, new, lost, since = self.held[machine]
+        at = self.at(machine)
+        found = self.words[at]
+        free = self.holding(machine, None)
+        if found == old or self.kind == STORE:
+            free.words = self.words[:at] + (new,) + self.words[at + 1 :]
+        if found == old:
+            return free, Told(call, DONE, new[1], lost)
+        lost += 1
+        answer, new = reply_at(found, machine, call)
+        if answer != DONE:
+            return free, Told(call, answer, found[1], lost)
+        if lost == (1 if self.kind == BUSY_AFTER_ONE else self.tries):
+            return free, Told(call, BUSY, found[1], lost, since)
+        return free.holding(machine, Try(call, found, new, lost, since)), None
+
+    def ask(self, machine, call):
+        """A whole call, with no other step in it. So it loses no exchange."""
+        cell, told = self.look(machine, call)
+        return (cell, told) if told else cell.attempt(machine)
+
+
+def answer_words(told):
+    """What a caller is told, in words."""
+    return f"{told.stamp} busy {told.lost}" if told.answer == BUSY else f"{told.stamp} {words(told.answer)}"
+
+
+def fault_of(word, tries, journals):
+    """Why no legal history fits the journals, each a machine with what it was told; or None.
+
+    A done call is the change with its stamp. A refusal, an inquiry or a Busy call comes right after the change with its stamp.
+    """
+    events = []
+    for machine, journal in journals:
+        seen = word[1]
+        for told in journal:
+            changed = told.answer == DONE
+            if told.stamp < seen + told.lost + changed:
+                return f"{sentence(machine, told)}, but it had seen stamp {seen}" + (f" and lost {told.lost}" if told.lost else "")
+            if told.answer == BUSY and not tries == told.lost <= told.stamp - told.since:
+                return f"{sentence(machine, told)}, but a call may lose {tries} exchanges, and others made {told.stamp - told.since} changes"
+            seen = told.stamp
+            events.append((told.stamp, not changed, machine, told))
+    for stamp, is_told, machine, told in sorted(events):
+        if stamp != word[1] + (not is_told):
+            return f"{sentence(machine, told)}, but " + (f"nobody made change {word[1] + 1}" if stamp > word[1] else "another made that change")
+        answer, after = reply_at(word, machine, told.call)
+        if answer != (DONE if told.answer == BUSY else told.answer):
+            return f"{sentence(machine, told)}, but by the calls that were done before it is {words(answer)}"
+        word = word if is_told else after
+    return None
+
+
+def sentence(machine, told):
+    """Who was told what, as a sentence's beginning."""
+    return f"{MACHINES[machine]}, {CALLS[told.call]} was told '{answer_words(told)}'"
+
+
+def packed(word):
+    """The 64 bits of docs/WORD.md."""
+    state, stamp = word
+    bits = stamp << 40 | state.stopped << 60
+    for zone in range(6):
+        owner = 0 if state.owner[zone] == NOBODY else 1 if state.owner[zone] == HOST[zone] else 2
+        bits |= (owner | state.flag[zone] << 2 | state.posture[zone] << 3) << 5 * zone
+    return bits | sum(1 << 30 + place for place in range(10) if state.full[place])
+
+
+def shown(word):
+    """A word for people: its bits, its stamp, and the zones and places that aren't as in an empty start."""
+    state, stamp = word
+    parts = [f"stamp {stamp}"]
+    for zone in range(6):
+        owner, posture = state.owner[zone], POSTURES[state.posture[zone]]
+        if owner != NOBODY or posture != "closed":
+            parts.append(f"z{zone + 1} {'free' if owner == NOBODY else MACHINES[owner]} {posture}" + " plate" * state.flag[zone])
+    parts += [PLACES[place] for place in range(10) if state.full[place]] + ["stopped"] * state.stopped
+    return f"{packed(word):016x}  {', '.join(parts)}"
+
+
+def records(path):
+    """The records of a file, or of standard input for '-'."""
+    if path == "-":
+        return [it for it in csv.reader(sys.stdin) if it]
+    with open(path, newline="", encoding="utf-8") as file:
+        return [it for it in csv.reader(file) if it]
