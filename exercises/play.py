@@ -29,15 +29,15 @@ class Play:
         if not fields or fields[0] not in MACHINES:
             return "no machine"
         machine = MACHINES.index(fields[0])
-        step, call = fields[1] if len(fields) > 1 else "", call_of(fields[2:])
+        step, call = fields[1] if len(fields) > 1 else "", call_of([it for it in fields[2:4] if it])
         pending = self.cell.held[machine]
         if step == "ask" and call is not None and not pending:
             return self.after("", machine, *self.cell.ask(machine, call))
         if step == "look" and call is not None and not pending:
             return self.after("pending", machine, *self.cell.look(machine, call))
-        if step == "attempt" and len(fields) == 2 and pending:
+        if step == "attempt" and call is None and pending:
             return self.after("lost", machine, *self.cell.attempt(machine))
-        if step == "meet" and not pending and len(fields) == 3 and fields[2] in MACHINES:
+        if step == "meet" and not pending and len(fields) > 2 and fields[2] in MACHINES:
             other = MACHINES.index(fields[2])
             return "met" if other != machine and not self.cell.held[other] else "no step"
         return "no step"

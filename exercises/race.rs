@@ -3,7 +3,7 @@
 //!
 //!   rustc --edition 2024 -O -o race exercises/race.rs && ./race
 //!
-//! Each makes 200,000 calls. The stamp in the word counts changes, so at the end it should be as
+//! Each makes 500,000 calls. The stamp in the word counts changes, so at the end it should be as
 //! many as the callers were told `done`. Neither touches the other's bits; so whoever was told that
 //! its claim is done should find its own bit set at its release.
 
@@ -15,7 +15,7 @@ use std::thread;
 const TABLE: u64 = 1;
 const PRESS: u64 = 1 << 10;
 const STAMP: u64 = 1 << 40;
-const CALLS: u64 = 200_000;
+const CALLS: u64 = 500_000;
 
 /// Puts `new` in place of `old`, and returns whether it says so.
 type Put = fn(&AtomicU64, u64, u64) -> bool;
