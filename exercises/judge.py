@@ -54,7 +54,7 @@ def judged(rows):
     (state, stamp), tries = begun
     plan = SimpleNamespace(full=state.full, stamp=stamp, tries=tries)
     try:
-        check.check(plan, journals, {"lost": 0, "answers": collections.Counter()})
+        check.check(plan, journals, collections.defaultdict(int, answers=collections.Counter()))
     except check.Wrong as wrong:
         return len(rows) - 1, str(wrong)
     return len(rows) - 1, None

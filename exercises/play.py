@@ -4,16 +4,17 @@
   exercises/play.py FILE [KIND] [--words]      a steps.csv, or a script as in examples/; - is standard input
   exercises/play.py --class PLACES TRIES [KIND] one step a line as you type it: each student is a machine, one sits at the keys
 
-KIND is a wrong word: --store puts each word there, whatever is there now; --word-per-pass gives each caller a word of its own;
---busy-after-one gives a call up after its first lost exchange. --words adds the word after each step, as docs/WORD.md has its bits.
-In a class a line is such as 'press look claim z3', 'press attempt', 'press ask claim z3' or 'press meet robot'. 'seen' shows what
+KIND is a wrong interlock: --store puts each word there, whatever is there now; --word-per-pass gives each caller a word of its own;
+--busy-after-one gives a call up after its first lost exchange; --accept-forgets answers by the word that a caller found last, if that
+refuses the call, and forgets what the caller was told by others. --words adds the word after each step, as docs/WORD.md has its bits.
+In a class a line is such as 'press look claim z3', 'press attempt', 'press ask claim z3', 'press tell robot' or 'press meet robot'. 'seen' shows what
 each has been told. After each step it looks for one legal history of all answers.
 """
 
 import sys
 
 import steps
-from steps import CALLS, DONE, KINDS, LAST_STAMP, MACHINES, RIGHT, WORN, Cell, State, answer_words, call_of, fault_of, kept, refusal, reply_at, words
+from steps import CALLS, KINDS, LAST_STAMP, LETTER, MACHINES, RIGHT, Cell, State, Told, answer_words, call_of, fault_of, kept, reply_at, words
 
 
 class Play:
@@ -37,10 +38,27 @@ class Play:
             return self.after("pending", machine, *self.cell.look(machine, call))
         if step == "attempt" and call is None and pending:
             return self.after("lost", machine, *self.cell.attempt(machine))
-        if step == "meet" and not pending and len(fields) > 2 and fields[2] in MACHINES:
+        if step in ("meet", "tell") and call is None and not pending and len(fields) > 2 and fields[2] in MACHINES:
             other = MACHINES.index(fields[2])
-            return "met" if other != machine and not self.cell.held[other] else "no step"
+            if other != machine and not self.cell.held[other]:
+                return self.met(machine, other) if step == "meet" else self.told(machine, other)
         return "no step"
+
+    def told(self, machine, other):
+        """A receipt of the machine goes to the other."""
+        self.journals[other][1].append(Told(None, LETTER, self.seen(machine), 0))
+        return "told"
+
+    def met(self, machine, other):
+        """Each tells the other, and loads."""
+        self.told(machine, other)
+        self.told(other, machine)
+        self.cell = self.cell.finding(machine, None).finding(other, None)
+        return "met"
+
+    def seen(self, machine):
+        """The stamp that the machine has seen."""
+        return max((it.stamp for it in self.journals[machine][1]), default=self.word[1])
 
     def after(self, untold, machine, cell, told):
         """Goes on in this cell, and answers what the caller was told, if anything."""
@@ -91,7 +109,7 @@ def play_script(rows, with_words=False):
 
 def is_steps(rows):
     """Whether these are steps, and not a script's calls."""
-    return any(len(it) > 1 and it[1] in ("ask", "look", "attempt", "meet") for it in rows[1:])
+    return any(len(it) > 1 and it[1] in ("ask", "look", "attempt", "meet", "tell") for it in rows[1:])
 
 
 def play_class(play):
@@ -106,7 +124,8 @@ def play_class(play):
         if fields == ["seen"]:
             for machine, journal in play.journals:
                 for told in journal:
-                    print(f"    {MACHINES[machine]:<8} {CALLS[told.call]:<16} {answer_words(told)}")
+                    what = f"{'was told of':<16} {told.stamp}" if told.answer == LETTER else f"{CALLS[told.call]:<16} {answer_words(told)}"
+                    print(f"    {MACHINES[machine]:<8} {what}")
         elif fields:
             number += 1
             print(f"{number} {play.step(fields)}\n    word {play.shown(fields)}")

@@ -1,7 +1,7 @@
 """Callers who take steps on one word: loads and exchanges. What a call is answered is in bench/stress/model.py.
 
-A word is a pair: a state and its stamp. A caller has a Try while its call is pending. The kinds of words are the right one and
-three wrong ones, as in the exercises plain_store, word_per_pass and busy_after_one.
+A word is a pair: a state and its stamp. A caller has a Try while its call is pending. The kinds of interlocks are the right one and
+four wrong ones, as in the exercises plain_store, word_per_pass, busy_after_one and accept_forgets.
 """
 
 import csv
@@ -14,13 +14,13 @@ ROOT = os.path.dirname(os.path.dirname(os.path.realpath(__file__)))
 sys.path.insert(0, f"{ROOT}/bench/stress")
 from model import CALLS, DONE, LAST_STAMP, MACHINES, NOBODY, HOST, POSTURES, WORN, State, refusal, words
 
-RIGHT, STORE, WORD_PER_PASS, BUSY_AFTER_ONE = "right", "store", "word-per-pass", "busy-after-one"
-KINDS = (RIGHT, STORE, WORD_PER_PASS, BUSY_AFTER_ONE)
-BUSY = -1
+KINDS = RIGHT, STORE, WORD_PER_PASS, BUSY_AFTER_ONE, ACCEPT_FORGETS = "right", "store", "word-per-pass", "busy-after-one", "accept-forgets"
+BUSY, LETTER = -1, -2
 PLACES = "FeedEntry FeedEnd Table Arm1 PressIn PressOut Arm2 DepEntry DepEnd Crane".split()
 
 Try = namedtuple("Try", "call old new lost since")
 # What a caller was told: the answer's number or BUSY, the stamp, and how many exchanges it lost; if it was BUSY, the stamp of its load.
+# A LETTER is what another had seen, as it comes by `tell` or `meet`.
 Told = namedtuple("Told", "call answer stamp lost since", defaults=[None])
 
 KEPT = {}
@@ -59,10 +59,12 @@ def reply_at(word, machine, call):
 class Cell:
     """The word, or a word for each caller, and what callers hold. Steps change nothing: they give another cell."""
 
-    __slots__ = ("kind", "tries", "words", "held")
+    __slots__ = ("kind", "tries", "words", "held", "found")
 
-    def __init__(self, kind, tries, words_, held=(None,) * 7):
+    def __init__(self, kind, tries, words_, held=(None,) * 7, found=(None,) * 7):
         self.kind, self.tries, self.words, self.held = kind, tries, words_, held
+        # ACCEPT_FORGETS: the word that each caller found last, which may answer its calls.
+        self.found = found
 
     @staticmethod
     def start(kind, word, tries):
@@ -80,22 +82,30 @@ class Cell:
     def holding(self, machine, pending):
         """The cell in which the machine has this pending call, or none."""
         held = self.held[:machine] + (pending,) + self.held[machine + 1 :]
-        return Cell(self.kind, self.tries, self.words, held)
+        return Cell(self.kind, self.tries, self.words, held, self.found)
+
+    def finding(self, machine, word):
+        """The cell in which the machine has found this word last."""
+        found = self.found[:machine] + (word,) + self.found[machine + 1 :] if self.kind == ACCEPT_FORGETS else self.found
+        return Cell(self.kind, self.tries, self.words, self.held, found)
 
     def look(self, machine, call):
         """A load. It gives the cell, and what the caller is told, if anything."""
-        word = self.word(machine)
+        word = self.found[machine] or self.word(machine)
+        if reply_at(word, machine, call)[0] == DONE:
+            word = self.word(machine)
+        cell = self.finding(machine, word)
         answer, new = reply_at(word, machine, call)
         if answer == DONE:
-            return self.holding(machine, Try(call, word, new, 0, word[1])), None
-        return self, Told(call, answer, word[1], 0)
+            return cell.holding(machine, Try(call, word, new, 0, word[1])), None
+        return cell, Told(call, answer, word[1], 0)
 
     def attempt(self, machine):
         """An exchange of the machine's pending call. It gives the cell, and what the caller is told, if anything."""
         call, old, new, lost, since = self.held[machine]
         at = self.at(machine)
         found = self.words[at]
-        free = self.holding(machine, None)
+        free = self.holding(machine, None).finding(machine, new if found == old else found)
         if found == old or self.kind == STORE:
             free.words = self.words[:at] + (new,) + self.words[at + 1 :]
         if found == old:
@@ -128,6 +138,9 @@ def fault_of(word, tries, journals):
     for machine, journal in journals:
         seen = word[1]
         for told in journal:
+            if told.answer == LETTER:
+                seen = max(seen, told.stamp)
+                continue
             changed = told.answer == DONE
             if told.stamp < seen + told.lost + changed:
                 return f"{sentence(machine, told)}, but it had seen stamp {seen}" + (f" and lost {told.lost}" if told.lost else "")
