@@ -5,7 +5,7 @@
    told is kept in made, holder and fault, which no step looks at. To run it, with TLA+'s tools (they weren't at hand where this
    was written, so it was never translated or run; word.pml was):
 
-     java -cp tla2tools.jar pcal.trans Word.tla
+     java -cp tla2tools.jar pcal.trans -nocfg Word.tla
      java -cp tla2tools.jar tlc2.TLC Word             no error is expected
    and then with Store = TRUE in Word.cfg: NoFault is expected to be violated, as of word.pml with the store. *)
 EXTENDS Integers

@@ -3,9 +3,10 @@
 //!
 //!   rustc --edition 2024 -O -o race exercises/race.rs && ./race
 //!
-//! Each makes 500,000 calls. The stamp in the word counts changes, so at the end it should be as
-//! many as the callers were told `done`. Neither touches the other's bits; so whoever was told that
-//! its claim is done should find its own bit set at its release.
+//! Each makes 500,000 calls, and lets the other go on after the load of every 64th. The stamp in the
+//! word counts changes, so at the end it should be as many as the callers were told `done`. Neither
+//! touches the other's bits; so whoever was told that its claim is done should find its own bit set
+//! at its release.
 
 use std::sync::Barrier;
 use std::sync::atomic::{AtomicU64, Ordering::SeqCst};
@@ -17,19 +18,16 @@ const PRESS: u64 = 1 << 10;
 const STAMP: u64 = 1 << 40;
 const CALLS: u64 = 500_000;
 
-/// Puts `new` in place of `old`, and returns whether it says so.
+/// Puts `new` in place of `old`, and returns whether it has.
 type Put = fn(&AtomicU64, u64, u64) -> bool;
 
 fn exchange(word: &AtomicU64, old: u64, new: u64) -> bool {
     word.compare_exchange(old, new, SeqCst, SeqCst).is_ok()
 }
 
-fn store(word: &AtomicU64, old: u64, new: u64) -> bool {
-    let same = word.load(SeqCst) == old;
-    if same {
-        word.store(new, SeqCst);
-    }
-    same
+fn store(word: &AtomicU64, _old: u64, new: u64) -> bool {
+    word.store(new, SeqCst);
+    true
 }
 
 /// Claims and releases. Returns the calls that were done, the lost exchanges, and how often its zone
@@ -43,6 +41,10 @@ fn calls(word: &AtomicU64, own: u64, put: Put) -> [u64; 3] {
             if (old & own == 0) != claims {
                 wrong += 1;
                 break;
+            }
+            // (so that it is seen on one processor too, or on a busy one)
+            if number % 64 == 0 {
+                thread::yield_now();
             }
             if put(word, old, (old ^ own) + STAMP) {
                 done += 1;
