@@ -33,9 +33,8 @@ def kept(state):
 
 def start_of(fields):
     """The word and the number of tries that the first line of a list of steps says, or None."""
-    digits = fields[1] if len(fields) > 1 else ""
-    tries = fields[2] if len(fields) > 2 else "1"
-    if fields[0] != "start" or len(digits) != 10 or set(digits) - set("01") or not tries.isdigit() or not 1 <= int(tries) <= 64:
+    _, digits, tries = (*fields[:3], *("", "", "1")[len(fields[:3]) :])
+    if fields[:1] != ["start"] or len(digits) != 10 or set(digits) - set("01") or tries not in map(str, range(1, 65)):
         return None
     state = State.start([it == "1" for it in digits])
     return state and ((kept(state), 0), int(tries))
@@ -187,7 +186,8 @@ def shown(word):
 
 def records(path):
     """The records of a file, or of standard input for '-'."""
-    if path == "-":
-        return [it for it in csv.reader(sys.stdin) if it]
-    with open(path, newline="", encoding="utf-8") as file:
-        return [it for it in csv.reader(file) if it]
+    try:
+        with sys.stdin if path == "-" else open(path, newline="", encoding="utf-8") as file:
+            return [it for it in csv.reader(file) if it]
+    except (OSError, UnicodeDecodeError, csv.Error) as why:
+        sys.exit(f"{path}: {why}")
