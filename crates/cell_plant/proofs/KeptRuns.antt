@@ -11,19 +11,22 @@ use Rattle.cell_rules.proofs.Soundness.{next_keeps}
 use Rattle.cell_unit.proofs.Running.{none_runs}
 use Rattle.cell_unit.proofs.Keeping.{Keeping, Changes, takes_keeps, takes_changes, others_keep, by_call}
 use Rattle.cell_parts.specs.Axes.{CellScales}
-use Rattle.cell_plant.specs.Machines.{ProgressOf, PartOf, steps_of, rig_of}
+use Rattle.cell_plant.specs.Machines.{CellGauges, ProgressOf, PartOf, any_near, steps_by, steps_of, rig_of}
 use Rattle.cell_plant.specs.CellStates.{SideOf, CellState}
 use Rattle.cell_plant.specs.Runs.{Step, TakesTurn, LeadsIf, goes_on}
 
 -- each program is its machine's
+pub own_program_by : (c : CellScales) (gives : CellGauges) (m : Machine) → (steps_by c gives m).machine ≡ m
+own_program_by c gives Feed = refl
+own_program_by c gives Table = refl
+own_program_by c gives Robot = refl
+own_program_by c gives Press = refl
+own_program_by c gives Deposit = refl
+own_program_by c gives Crane = refl
+own_program_by c gives Watch = refl
+
 pub own_program : (c : CellScales) (m : Machine) → (steps_of c m).machine ≡ m
-own_program c Feed = refl
-own_program c Table = refl
-own_program c Robot = refl
-own_program c Press = refl
-own_program c Deposit = refl
-own_program c Crane = refl
-own_program c Watch = refl
+own_program c m = own_program_by c (any_near c) m
 
 module _ (c : CellScales) (InvOf ToldOf : (m : Machine) → ModelState → ProgressOf m → PartOf m → Type 0) (keeping : (m : Machine) → Keeping (steps_of c m) (rig_of c m) (InvOf m) (ToldOf m)) where
   abbrev Holds : (n : Machine) → ModelState → SideOf n → Type 0

@@ -12,6 +12,7 @@ pub mod WatchKeeps
 pub mod KeptRuns
 pub mod CellKeeps
 pub mod SafeRuns
+pub mod Gauged
 pub mod RunSoFar
 pub mod Watched
 mod FilmsSafe

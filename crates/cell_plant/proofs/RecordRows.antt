@@ -37,13 +37,12 @@ use Rattle.cell_unit.specs.Statuses.{status_of}
 use Rattle.cell_parts.specs.Axes.{CellScales}
 use Rattle.cell_plant.specs.Machines.{steps_of, rig_of}
 use Rattle.cell_plant.specs.CellStates.{SideOf, CellState, sides_at_start, cell_at_start}
-use Rattle.cell_plant.specs.Cells.{TellsRun}
 use Rattle.cell_plant.specs.Watch.{watch_noting}
 use Rattle.cell_plant.specs.Records.{IsRecordOf, is_turn_of, counts_in, events_in}
 use Rattle.cell_plant.specs.Runs.{Step, TakesTurn, IsRun, end_of}
 use Rattle.cell_plant.specs.Safety.{IsSafeState, IsSafeRun}
 use Rattle.cell_plant.specs.RunExamples.{opening, at_first, cell_of, schedule, steps, turn_of, asks}
-use Rattle.cell_plant.specs.RecordExamples.{IsOfLiteralRun, IsOfApart, WrongRecords, IsOfLegalHistory, RecordExamples, IsRecord, IsOfNoTurn, IsUnread, AreJournals, IsOfOneStop, counts_of, counts_by, journal_by, done_entry, refused_entry, stop_entry, first_stop, steps_apart, last_apart, journals_apart, with_feed_counts, open_too_early}
+use Rattle.cell_plant.specs.RecordExamples.{IsOfLiteralRun, IsOfApart, WrongRecords, IsOfLegalHistory, RecordExamples, IsRecord, IsOfNoTurn, IsUnread, Tells, AreJournals, IsOfOneStop, counts_of, counts_by, journal_by, done_entry, refused_entry, stop_entry, first_stop, steps_apart, last_apart, journals_apart, with_feed_counts, open_too_early}
 use Rattle.cell_plant.proofs.Deciding.{so, not_so, equals, same_number}
 use Rattle.cell_plant.proofs.RunRows.{takes_call, watch_apart, run_examples}
 use Rattle.cell_plant.proofs.SafetyDecided.{is_safe, is_safe_run}
@@ -141,7 +140,7 @@ module _ (r : RunRecord) where
   -- ---- records of runs of a schedule, and records that are of no such run
 
   module _ (c : CellScales) where
-    run_by : (turns : List Turn) (ss : List Step) → IsRun c at_first turns ss → IsRecordOf opening ss (end_of at_first ss) r → IsSafeRun at_first ss → IsLegal opening (events_in ss) → (end_of at_first ss).interlock ≡ after opening (events_in ss) → TellsRun c opening turns r
+    run_by : (turns : List Turn) (ss : List Step) → IsRun c at_first turns ss → IsRecordOf opening ss (end_of at_first ss) r → IsSafeRun at_first ss → IsLegal opening (events_in ss) → (end_of at_first ss).interlock ≡ after opening (events_in ss) → Tells c opening turns r
     run_by turns ss run told safe legal reached = record {
       steps = ss;
       run = run;
@@ -151,10 +150,10 @@ module _ (r : RunRecord) where
       reached = reached;
     }
 
-    of_run : IsOfLiteralRun r → TellsRun c opening schedule r
+    of_run : IsOfLiteralRun r → Tells c opening schedule r
     of_run f = run_by schedule steps (run_examples c).runs.run (recorded f) (so (is_safe_run at_first steps) refl) (refl, (refl, (refl, tt))) refl
 
-    of_no_turn : IsOfNoTurn opening r → TellsRun c opening [] r
+    of_no_turn : IsOfNoTurn opening r → Tells c opening [] r
     of_no_turn n = run_by [] [] tt n (so (is_safe_run at_first []) refl) tt refl
 
     -- the watch stops the cell
@@ -178,7 +177,7 @@ module _ (r : RunRecord) where
       interlock = refl;
     }
 
-    of_the_watch : IsOfOneStop r → TellsRun c opening (turn_of Watch ∷ []) r
+    of_the_watch : IsOfOneStop r → Tells c opening (turn_of Watch ∷ []) r
     of_the_watch n =
         run_by (turn_of Watch ∷ []) one_stop (refl, (turn_stops, tt))
         (record { start = n.start; counts = n.counts; status = n.status; journals = λ m. n.journals m ∙ sym (first_stop_is m); end = n.end; axes = n.axes })
@@ -219,7 +218,7 @@ module _ (r : RunRecord) where
         let k = run.1.0 in
         rw (goes_fine Feed s refl k, goes_fine Table s refl k, goes_fine Robot s refl k, goes_fine Press s refl k, goes_fine Deposit s refl k, (stops_blind s unread k).1, goes_fine Watch s refl k) refl
 
-    lawful : (s : ModelState) (turns : List Turn) → TellsRun c s turns r → IsOfLegalHistory s r
+    lawful : (s : ModelState) (turns : List Turn) → Tells c s turns r → IsOfLegalHistory s r
     lawful s turns t = record {
       seen = events_in t.steps;
       legal = t.legal;

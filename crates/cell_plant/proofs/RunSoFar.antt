@@ -29,31 +29,32 @@ use Rattle.cell_unit.specs.Statuses.{status_of}
 use Rattle.cell_unit.specs.UnitTurns.{Answers}
 use Rattle.cell_parts.specs.Axes.{CellScales, AreCellScales}
 use Rattle.cell_notes.specs.declared.schedule.Turn.{Turn}
-use Rattle.cell_plant.specs.Machines.{steps_of}
+use Rattle.cell_plant.specs.Machines.{CellGauges, steps_by}
 use Rattle.cell_plant.specs.CellStates.{CellState, plant_of, cell_at_start}
-use Rattle.cell_plant.specs.Runs.{Step, TakesTurn, LeadsIf, Leads, goes_on, IsRun, end_of}
+use Rattle.cell_plant.specs.Runs.{Step, TakesTurnBy, LeadsIfBy, LeadsBy, goes_on, IsRunBy, end_of}
 use Rattle.cell_plant.specs.Records.{is_turn_of, is_told, counts_in, events_in, positions_in}
 use Rattle.cell_plant.specs.Cells.{TellsRun}
 use Rattle.cell_plant.specs.Moments.{RunMoment, StepsOn, Keeps, first_moment, state_at, notes_in}
-use Rattle.cell_plant.proofs.KeptRuns.{own_program}
+use Rattle.cell_plant.proofs.Gauged.{run_near}
+use Rattle.cell_plant.proofs.KeptRuns.{own_program_by}
 use Rattle.cell_plant.proofs.SafeRuns.{every_run}
 
 -- a run is extended by a turn
-pub run-push : (c : CellScales) (w : CellState) (ts : List Turn) (ss : List Step) (t : Turn) (s : Step) → IsRun c w ts ss → s.machine ≡ t.machine → Leads c t.machine t.busy (end_of w ss) s → IsRun c w (ts ++ t ∷ []) (ss ++ s ∷ [])
-run-push c w [] [] t s r e l = (e, (l, tt))
-run-push c w (u ∷ ts) (x ∷ ss) t s r e l = (r.0, (r.1.0, run-push c x.moved ts ss t s r.1.1 e l))
-run-push c w [] (x ∷ ss) t s r e l = absurd r
-run-push c w (u ∷ ts) [] t s r e l = absurd r
+pub run-push : (c : CellScales) (gives : CellGauges) (w : CellState) (ts : List Turn) (ss : List Step) (t : Turn) (s : Step) → IsRunBy c gives w ts ss → s.machine ≡ t.machine → LeadsBy c gives t.machine t.busy (end_of w ss) s → IsRunBy c gives w (ts ++ t ∷ []) (ss ++ s ∷ [])
+run-push c gives w [] [] t s r e l = (e, (l, tt))
+run-push c gives w (u ∷ ts) (x ∷ ss) t s r e l = (r.0, (r.1.0, run-push c gives x.moved ts ss t s r.1.1 e l))
+run-push c gives w [] (x ∷ ss) t s r e l = absurd r
+run-push c gives w (u ∷ ts) [] t s r e l = absurd r
 
 pub end-push : (w : CellState) (ss : List Step) (s : Step) → end_of w (ss ++ s ∷ []) ≡ s.moved
 end-push w [] s = refl
 end-push w (x ∷ ss) s = end-push x.moved ss s
 
-pub run-length : (c : CellScales) (w : CellState) (ts : List Turn) (ss : List Step) → IsRun c w ts ss → length ss ≡ length ts
-run-length c w [] [] r = refl
-run-length c w (t ∷ ts) (s ∷ ss) r = ap (λ n. suc n) (run-length c s.moved ts ss r.1.1)
-run-length c w [] (s ∷ ss) r = absurd r
-run-length c w (t ∷ ts) [] r = absurd r
+pub run-length : (c : CellScales) (gives : CellGauges) (w : CellState) (ts : List Turn) (ss : List Step) → IsRunBy c gives w ts ss → length ss ≡ length ts
+run-length c gives w [] [] r = refl
+run-length c gives w (t ∷ ts) (s ∷ ss) r = ap (λ n. suc n) (run-length c gives s.moved ts ss r.1.1)
+run-length c gives w [] (s ∷ ss) r = absurd r
+run-length c gives w (t ∷ ts) [] r = absurd r
 
 events-push : (ss : List Step) (s : Step) → events_in (ss ++ s ∷ []) ≡ events_in ss ++ settled_in s.machine s.asked
 events-push [] s = append-nil (settled_in s.machine s.asked)
@@ -120,59 +121,59 @@ answered_by s m busy c (Err fault) t k = record { legal = tt; reached = k.1; ent
 answered_once : (s : ModelState) (m : Machine) (busy : Bool) (asked : TurnCall) (t : ModelState) (c : Call) (r : Result Reply LineFault) → Answers s m busy c r t × (asked ≡ Some (c, r)) → IsAnswered s m asked t
 answered_once s m busy asked t c r k = subst (λ a. IsAnswered s m a t) (sym k.1) (answered_by s m busy c r t k.0)
 
-answered_taken : (c : CellScales) (m : Machine) (busy : Bool) (w : CellState) (s : Step) → TakesTurn c m busy w s → IsAnswered w.interlock m s.asked s.moved.interlock
-answered_taken c m busy w s k =
-    let t = steps_of c m in
+answered_taken : (c : CellScales) (gives : CellGauges) (m : Machine) (busy : Bool) (w : CellState) (s : Step) → TakesTurnBy c gives m busy w s → IsAnswered w.interlock m s.asked s.moved.interlock
+answered_taken c gives m busy w s k =
+    let t = steps_by c gives m in
     let z = w.interlock in
     let y = s.set.interlock in
     subst (λ x. IsAnswered z m s.asked x) (sym k.interlock)
-    (subst (λ x. IsAnswered z x s.asked y) (own_program c m)
+    (subst (λ x. IsAnswered z x s.asked y) (own_program_by c gives m)
     (turn_either t ((y ≡ z) × (s.asked ≡ None)) (λ q r. Answers z t.machine busy q r y × (s.asked ≡ Some (q, r))) (IsAnswered z t.machine s.asked y) (answered_none z t.machine s.asked y) (answered_once z t.machine busy s.asked y) (w.side m).stopped (w.side m).progress
     k.takes.sense k.takes.turned k.takes.row))
 
-answered_if : (b : Bool) (c : CellScales) (m : Machine) (busy : Bool) (w : CellState) (s : Step) → LeadsIf b c m busy w s → IsAnswered w.interlock m s.asked s.moved.interlock
-answered_if true c m busy w s k = answered_taken c m busy w s k
-answered_if false c m busy w s k = answered_none w.interlock m s.asked s.moved.interlock (ap (λ x. x.interlock) k.moved, k.asked)
+answered_if : (b : Bool) (c : CellScales) (gives : CellGauges) (m : Machine) (busy : Bool) (w : CellState) (s : Step) → LeadsIfBy b c gives m busy w s → IsAnswered w.interlock m s.asked s.moved.interlock
+answered_if true c gives m busy w s k = answered_taken c gives m busy w s k
+answered_if false c gives m busy w s k = answered_none w.interlock m s.asked s.moved.interlock (ap (λ x. x.interlock) k.moved, k.asked)
 
 -- a turn that isn't taken asks nothing
-none_asked : (b : Bool) (c : CellScales) (m : Machine) (busy : Bool) (w : CellState) (s : Step) → LeadsIf b c m busy w s → s.taken ≡ false → entries_in s.asked ≡ []
-none_asked true c m busy w s k e = let f : true ≡ false = sym k.taken ∙ e in cc
-none_asked false c m busy w s k e = ap entries_in k.asked
+none_asked : (b : Bool) (c : CellScales) (gives : CellGauges) (m : Machine) (busy : Bool) (w : CellState) (s : Step) → LeadsIfBy b c gives m busy w s → s.taken ≡ false → entries_in s.asked ≡ []
+none_asked true c gives m busy w s k e = let f : true ≡ false = sym k.taken ∙ e in cc
+none_asked false c gives m busy w s k e = ap entries_in k.asked
 
 -- the events of a run are a legal history, which leads to its end
-pub run-lawful : (c : CellScales) (w : CellState) (ts : List Turn) (ss : List Step) → IsRun c w ts ss → IsLegal w.interlock (events_in ss) × ((end_of w ss).interlock ≡ after w.interlock (events_in ss))
-run-lawful c w [] [] r = (tt, refl)
-run-lawful c w (t ∷ ts) (s ∷ ss) r =
+pub run-lawful : (c : CellScales) (gives : CellGauges) (w : CellState) (ts : List Turn) (ss : List Step) → IsRunBy c gives w ts ss → IsLegal w.interlock (events_in ss) × ((end_of w ss).interlock ≡ after w.interlock (events_in ss))
+run-lawful c gives w [] [] r = (tt, refl)
+run-lawful c gives w (t ∷ ts) (s ∷ ss) r =
     let own = settled_in s.machine s.asked in
-    let k = subst (λ m. IsAnswered w.interlock m s.asked s.moved.interlock) (sym r.0) (answered_if (goes_on w t.machine) c t.machine t.busy w s r.1.0) in
-    let more = run-lawful c s.moved ts ss r.1.1 in (
+    let k = subst (λ m. IsAnswered w.interlock m s.asked s.moved.interlock) (sym r.0) (answered_if (goes_on w t.machine) c gives t.machine t.busy w s r.1.0) in
+    let more = run-lawful c gives s.moved ts ss r.1.1 in (
       legal-append w.interlock own (events_in ss) k.legal (subst (λ z. IsLegal z (events_in ss)) k.reached more.0),
       more.1 ∙ ap (λ z. after z (events_in ss)) k.reached ∙ sym (after-append w.interlock own (events_in ss)),
     )
-run-lawful c w [] (s ∷ ss) r = absurd r
-run-lawful c w (t ∷ ts) [] r = absurd r
+run-lawful c gives w [] (s ∷ ss) r = absurd r
+run-lawful c gives w (t ∷ ts) [] r = absurd r
 
 -- the run of the turns so far, and what was noted of it
-pub record RunSoFar (turns : List Turn) (m : RunMoment) : Type 0 where
+pub record RunSoFar {G : Type 0} (gives : G → CellGauges) (turns : List Turn) (m : RunMoment G) : Type 0 where
   pub steps : List Step
-  pub run : IsRun m.scales (cell_at_start m.opening) turns steps
+  pub run : IsRunBy m.scales (gives m.gauges) (cell_at_start m.opening) turns steps
   pub is_end : state_at m ≡ end_of (cell_at_start m.opening) steps
   pub history : m.history ≡ events_in steps
   pub reached : m.interlock ≡ after m.opening m.history
   pub counts : (n : Machine) → (notes_in m.notes n).counts ≡ counts_in steps n
   pub journals : (n : Machine) → (notes_in m.notes n).journal ≡ noted m.opening m.history n
 
-no_notes_yet : (c : CellScales) (opening : ModelState) (n : Machine) → notes_in (first_moment c opening).notes n ≡ no_notes
-no_notes_yet c opening Feed = refl
-no_notes_yet c opening Table = refl
-no_notes_yet c opening Robot = refl
-no_notes_yet c opening Press = refl
-no_notes_yet c opening Deposit = refl
-no_notes_yet c opening Crane = refl
-no_notes_yet c opening Watch = refl
+no_notes_yet : {G : Type 0} → (c : CellScales) (five : G) (opening : ModelState) (n : Machine) → notes_in (first_moment c five opening).notes n ≡ no_notes
+no_notes_yet c five opening Feed = refl
+no_notes_yet c five opening Table = refl
+no_notes_yet c five opening Robot = refl
+no_notes_yet c five opening Press = refl
+no_notes_yet c five opening Deposit = refl
+no_notes_yet c five opening Crane = refl
+no_notes_yet c five opening Watch = refl
 
-pub at_start : (c : CellScales) (opening : ModelState) → RunSoFar [] (first_moment c opening)
-at_start c opening = record { steps = []; run = tt; is_end = refl; history = refl; reached = refl; counts = λ n. ap (λ (x : Notes). x.counts) (no_notes_yet c opening n); journals = λ n. ap (λ (x : Notes). x.journal) (no_notes_yet c opening n) }
+pub at_start : {G : Type 0} → (gives : G → CellGauges) (c : CellScales) (five : G) (opening : ModelState) → RunSoFar gives [] (first_moment c five opening)
+at_start gives c five opening = record { steps = []; run = tt; is_end = refl; history = refl; reached = refl; counts = λ n. ap (λ (x : Notes). x.counts) (no_notes_yet c five opening n); journals = λ n. ap (λ (x : Notes). x.journal) (no_notes_yet c five opening n) }
 
 journal_more : (b : Bool) (n : Notes) (asked : TurnCall) → (if b then notes_with n asked else n).journal ≡ n.journal ++ (if b then entries_in asked else [])
 journal_more true n asked = refl
@@ -187,7 +188,10 @@ entries_if true own es k = refl
 entries_if false true es k = sym (k refl)
 entries_if false false es k = refl
 
-module _ (turns : List Turn) (t : Turn) (before now : RunMoment) (asked : TurnCall) (g : RunSoFar turns before) (o : StepsOn t before now asked) where
+module _ {G : Type 0} (gives : G → CellGauges) (turns : List Turn) (t : Turn) (before now : RunMoment G) (asked : TurnCall) (g : RunSoFar gives turns before) (o : StepsOn gives t before now asked) where
+  abbrev given : CellGauges
+  given = gives before.gauges
+
   abbrev s : Step
   s = o.step
 
@@ -195,7 +199,7 @@ module _ (turns : List Turn) (t : Turn) (before now : RunMoment) (asked : TurnCa
   start = cell_at_start before.opening
 
   answered : IsAnswered before.interlock t.machine s.asked s.moved.interlock
-  answered = answered_if (goes_on (state_at before) t.machine) before.scales t.machine t.busy (state_at before) s o.leads
+  answered = answered_if (goes_on (state_at before) t.machine) before.scales given t.machine t.busy (state_at before) s o.leads
 
   count_next : (n : Machine) → (notes_in now.notes n).counts ≡ counts_in (g.steps ++ s ∷ []) n
   count_next n =
@@ -209,17 +213,17 @@ module _ (turns : List Turn) (t : Turn) (before now : RunMoment) (asked : TurnCa
   journal_next n =
       ap (λ (x : Notes). x.journal) (o.notes n)
       ∙ journal_more (s.taken && same_machine t.machine n) (notes_in before.notes n) s.asked
-      ∙ ap (λ es. (notes_in before.notes n).journal ++ es) (entries_if s.taken (same_machine t.machine n) (entries_in s.asked) (none_asked (goes_on (state_at before) t.machine) before.scales t.machine t.busy (state_at before) s o.leads) ∙ sym (answered.entries n))
+      ∙ ap (λ es. (notes_in before.notes n).journal ++ es) (entries_if s.taken (same_machine t.machine n) (entries_in s.asked) (none_asked (goes_on (state_at before) t.machine) before.scales given t.machine t.busy (state_at before) s o.leads) ∙ sym (answered.entries n))
       ∙ ap (λ es. es ++ noted before.interlock (settled_in t.machine s.asked) n) (g.journals n)
       ∙ ap (λ z. noted before.opening before.history n ++ noted z (settled_in t.machine s.asked) n) g.reached
       ∙ sym (noted-append before.opening before.history (settled_in t.machine s.asked) n)
 
-  -- the same, by the opening and the scales of the beginning
-  pub next_by : RunSoFar (turns ++ t ∷ []) (record now { scales = before.scales; opening = before.opening })
+  -- the same, by the opening, the scales and the gauges of the beginning
+  pub next_by : RunSoFar gives (turns ++ t ∷ []) (record now { scales = before.scales; gauges = before.gauges; opening = before.opening })
   next_by =
       record {
         steps = g.steps ++ s ∷ [];
-        run = run-push before.scales start turns g.steps t s g.run o.machine (subst (λ w. Leads before.scales t.machine t.busy w s) g.is_end o.leads);
+        run = run-push before.scales given start turns g.steps t s g.run o.machine (subst (λ w. LeadsBy before.scales given t.machine t.busy w s) g.is_end o.leads);
         is_end = o.state ∙ sym (end-push start g.steps s);
         history = o.history ∙ ap (λ x. x ++ settled_in t.machine s.asked) g.history ∙ ap (λ m. events_in g.steps ++ settled_in m s.asked) (sym o.machine) ∙ sym (events-push g.steps s);
         reached =
@@ -240,9 +244,9 @@ module _ (turns : List Turn) (t : Turn) (before now : RunMoment) (asked : TurnCa
 below : (a b i : ℕ) → a ≤ b → b ≡ i → i < 18446744073709551615 → a < 18446744073709551615
 below a b i h e l = omega arith
 
-pub room_left : (turns : List Turn) (m : RunMoment) (i : ℕ) → RunSoFar turns m → length turns ≡ i → i < 18446744073709551615 → (n : Machine) → HasRoom (notes_in m.notes n).counts
-room_left turns m i g e l n =
-    let long = run-length m.scales (cell_at_start m.opening) turns g.steps g.run ∙ e in
+pub room_left : {G : Type 0} → (gives : G → CellGauges) (turns : List Turn) (m : RunMoment G) (i : ℕ) → RunSoFar gives turns m → length turns ≡ i → i < 18446744073709551615 → (n : Machine) → HasRoom (notes_in m.notes n).counts
+room_left gives turns m i g e l n =
+    let long = run-length m.scales (gives m.gauges) (cell_at_start m.opening) turns g.steps g.run ∙ e in
     let some = λ (p : Step → Bool). below (count_by p g.steps) (length g.steps) i (count_by-le-length p g.steps) long l in
     subst HasRoom (sym (g.counts n))
     (record { turns = some (is_turn_of n); done = some (is_told is_done_reply n); read = some (is_told is_read_reply n); refused = some (is_told is_refused_reply n); busy = some (is_told is_busy_reply n) })
@@ -254,9 +258,9 @@ taken-length i ts h = length-take-le i ts (omega arith)
 by_machine : {A : Type 0} → (f g : Machine → A) → ((n : Machine) → f n ≡ g n) → map f all_machines ≡ map g all_machines
 by_machine f g e = rw (e Feed, e Table, e Robot, e Press, e Deposit, e Crane, e Watch) refl
 
-pub tells : (turns : List Turn) (m : RunMoment) (r : RunRecord) → AreCellScales m.scales → IsStartState m.opening → RunSoFar turns m → Keeps m m.opening r → TellsRun m.scales m.opening turns r
-tells turns m r scales start g k =
-    let lawful = run-lawful m.scales (cell_at_start m.opening) turns g.steps g.run in
+pub tells : {G : Type 0} → (gives : G → CellGauges) (turns : List Turn) (m : RunMoment G) (r : RunRecord) → AreCellScales m.scales → IsStartState m.opening → RunSoFar gives turns m → Keeps m m.opening r → TellsRun m.scales (gives m.gauges) m.opening turns r
+tells gives turns m r scales start g k =
+    let lawful = run-lawful m.scales (gives m.gauges) (cell_at_start m.opening) turns g.steps g.run in
     record {
       steps = g.steps;
       run = g.run;
@@ -268,11 +272,11 @@ tells turns m r scales start g k =
         end = k.end ∙ ap (λ (w : CellState). Some w.interlock) g.is_end;
         axes = k.axes ∙ ap (λ (w : CellState). positions_in (plant_of w)) g.is_end;
       };
-      safe = every_run m.scales m.opening turns g.steps scales start g.run;
+      safe = every_run m.scales m.opening turns g.steps scales start (run_near m.scales (gives m.gauges) (cell_at_start m.opening) turns g.steps g.run);
       legal = lawful.0;
       reached = lawful.1;
     }
 
-pub told_steps : (turns : List Turn) (m : RunMoment) (r : RunRecord) (scales : AreCellScales m.scales) (starts : IsStartState m.opening) (g : RunSoFar turns m) (k : Keeps m m.opening r) → (tells turns m r scales starts g k).steps ≡ g.steps
+pub told_steps : {G : Type 0} → (gives : G → CellGauges) (turns : List Turn) (m : RunMoment G) (r : RunRecord) (scales : AreCellScales m.scales) (starts : IsStartState m.opening) (g : RunSoFar gives turns m) (k : Keeps m m.opening r) → (tells gives turns m r scales starts g k).steps ≡ g.steps
 unfolding tells
-told_steps turns m r scales starts g k = refl
+told_steps gives turns m r scales starts g k = refl

@@ -4,47 +4,30 @@ use Rattle.cell_types.specs.declared.machine.Machine.{Machine}
 use Rattle.cell_types.specs.declared.machine.Machine.TheVariants.{Feed, Table, Robot, Press, Deposit, Crane, Watch}
 use Rattle.cell_types.specs.Same.{same_machine, one_machine}
 use Rattle.cell_calib.specs.Scale.{Scale}
-use Rattle.cell_calib.specs.Line.{IsReading}
-use Rattle.cell_calib.specs.declared.sense.CraneSense.{CraneSense}
-use Rattle.cell_calib.specs.declared.sense.RobotSense.{RobotSense}
-use Rattle.cell_calib.specs.declared.sense.TableSense.{TableSense}
-use Rattle.cell_devices.specs.declared.act.CraneAct.{CraneAct}
-use Rattle.cell_devices.specs.declared.act.RobotAct.{RobotAct}
-use Rattle.cell_devices.specs.declared.act.TableAct.{TableAct}
 use Rattle.cell_types.specs.declared.answer.Event.{Event}
 use Rattle.cell_rules.specs.ModelState.{ModelState}
 use Rattle.cell_rules.specs.Benches.{Desk}
 use Rattle.cell_control.specs.Steps.{Steps}
 use Rattle.cell_control.specs.Rigs.{Rig}
-use Rattle.cell_robot.specs.declared.robot.RobotProgress.{RobotProgress}
-use Rattle.cell_robot.specs.RobotProgram.{RobotScales, RobotGauges, near_lines, Senses as RobotSenses, robot_steps}
-use Rattle.cell_robot.proofs.RobotSenses.{senses_near as robot_senses_near}
-use Rattle.cell_stations.specs.declared.table.TableProgress.{TableProgress}
+use Rattle.cell_robot.specs.RobotProgram.{RobotScales, robot_steps}
 use Rattle.cell_control.specs.declared.fault.CtlFault.{CtlFault}
-use Rattle.cell_haul.specs.declared.crane.CraneProgress.{CraneProgress}
-use Rattle.cell_haul.specs.CraneProgram.{Senses as CraneSenses, crane_steps}
-use Rattle.cell_haul.proofs.CraneSenses.{senses_near as crane_senses_near}
+use Rattle.cell_haul.specs.CraneProgram.{crane_steps}
 use Rattle.cell_haul.specs.DepositProgram.{deposit_steps}
 use Rattle.cell_haul.specs.FeedProgram.{feed_steps}
 use Rattle.cell_stations.specs.PressProgram.{press_steps}
-use Rattle.cell_stations.specs.TableProgram.{Senses, table_steps}
-use Rattle.cell_stations.proofs.TableSenses.{senses_near}
+use Rattle.cell_stations.specs.TableProgram.{table_steps}
 use Rattle.cell_notes.specs.Asks.{TurnCall, settled_in}
 use Rattle.cell_notes.specs.Notes.{Notes, notes_with}
 use Rattle.cell_parts.specs.Axes.{RobotScales as PartScales, CellScales}
-use Rattle.cell_parts.specs.declared.plant.TablePlant.{TablePlant}
-use Rattle.cell_parts.specs.declared.plant.RobotPlant.{RobotPlant}
-use Rattle.cell_parts.specs.declared.plant.CranePlant.{CranePlant}
 use Rattle.cell_parts.specs.Rigs.{feed_rig, table_rig, robot_rig, press_rig, deposit_rig, crane_rig}
 use Rattle.cell_unit.specs.Sides.{Side, IsReady}
 use Rattle.cell_unit.proofs.Others.{others_ready}
-use Rattle.cell_unit.proofs.Turning.{unit_turn_still}
 use Rattle.cell_unit.specs.UnitTurns.{UnitTurn, Untouched, Leads as LeadsAlone}
 use Rattle.cell_notes.specs.declared.schedule.Turn.{Turn}
 use Rattle.cell_plant.specs.Watch.{watch_steps, watch_rig}
-use Rattle.cell_plant.specs.Machines.{robot_points, robot_axes, steps_of, rig_of}
+use Rattle.cell_plant.specs.Machines.{CellGauges, robot_gauges, robot_points, robot_axes, steps_by, rig_of}
 use Rattle.cell_plant.specs.CellStates.{SideOf, CellState, Sides, side_in, sides_at_start}
-use Rattle.cell_plant.specs.Runs.{Step, LeadsIf}
+use Rattle.cell_plant.specs.Runs.{Step, LeadsIfBy}
 use Rattle.cell_plant.specs.Moments.{RunMoment, AllNotes, StepsOn, state_at, notes_in, first_notes, first_moment}
 
 -- two states are the same if they have the same interlock and the same side of each machine
@@ -82,14 +65,14 @@ put_other Watch Watch x f e = cc
 put_other m n x f e = refl
 
 -- a turn of a machine leaves everything else as it was
-module _ (m : Machine) (busy : Bool) (before now : RunMoment) (asked : TurnCall)
-    (leads : LeadsAlone (is_none (side_in before.sides m).stopped) (steps_of before.scales m) (rig_of before.scales m) busy before.interlock (side_in before.sides m) asked now.interlock (side_in now.sides m))
+module _ {G : Type 0} (gives : G → CellGauges) (m : Machine) (busy : Bool) (before now : RunMoment G) (asked : TurnCall)
+    (leads : LeadsAlone (is_none (side_in before.sides m).stopped) (steps_by before.scales (gives before.gauges) m) (rig_of before.scales m) busy before.interlock (side_in before.sides m) asked now.interlock (side_in now.sides m))
     (history : now.history ≡ before.history ++ settled_in m asked)
     (noted : notes_in now.notes m ≡ (if is_none (side_in before.sides m).stopped then notes_with (notes_in before.notes m) asked else notes_in before.notes m))
     (others : (n : Machine) → same_machine m n ≡ false → (side_in now.sides n ≡ side_in before.sides n) × (notes_in now.notes n ≡ notes_in before.notes n))
-    (scales : now.scales ≡ before.scales) (opening : now.opening ≡ before.opening) where
+    (scales : now.scales ≡ before.scales) (gauges : now.gauges ≡ before.gauges) (opening : now.opening ≡ before.opening) where
   abbrev Goal : Type 0
-  Goal = StepsOn (record { machine = m; busy = busy }) before now asked
+  Goal = StepsOn gives (record { machine = m; busy = busy }) before now asked
 
   same_side : (b : Bool) (n : Machine) → same_machine m n ≡ b → side_in now.sides m ≡ side_in before.sides m → side_in now.sides n ≡ side_in before.sides n
   same_side true n e k = subst (λ x. side_in now.sides x ≡ side_in before.sides x) (one_machine m n e) k
@@ -105,14 +88,14 @@ module _ (m : Machine) (busy : Bool) (before now : RunMoment) (asked : TurnCall)
   noted_by false false n e k = (others n e).1
 
   on : (b : Bool) → is_none (side_in before.sides m).stopped ≡ b
-      → LeadsAlone b (steps_of before.scales m) (rig_of before.scales m) busy before.interlock (side_in before.sides m) asked now.interlock (side_in now.sides m) → Goal
+      → LeadsAlone b (steps_by before.scales (gives before.gauges) m) (rig_of before.scales m) busy before.interlock (side_in before.sides m) asked now.interlock (side_in now.sides m) → Goal
   on true e k =
       let step : Step = record { machine = m; taken = true; asked = asked; set = record { interlock = now.interlock; side = put m k.set (side_in before.sides) }; moved = state_at now } in
       record {
         step = step;
         is_asked = refl;
         machine = refl;
-        leads = subst (λ x. LeadsIf x before.scales m busy (state_at before) step) (sym e)
+        leads = subst (λ x. LeadsIfBy x before.scales (gives before.gauges) m busy (state_at before) step) (sym e)
             (record {
               taken = refl;
               takes = rw (put_same m k.set (side_in before.sides)) k.acts;
@@ -125,6 +108,7 @@ module _ (m : Machine) (busy : Bool) (before now : RunMoment) (asked : TurnCall)
         history = history;
         notes = λ n. noted_by true (same_machine m n) n refl e;
         scales = scales;
+        gauges = gauges;
         opening = opening;
       }
   on false e k =
@@ -133,11 +117,12 @@ module _ (m : Machine) (busy : Bool) (before now : RunMoment) (asked : TurnCall)
         step = step;
         is_asked = refl;
         machine = refl;
-        leads = subst (λ x. LeadsIf x before.scales m busy (state_at before) step) (sym e) (record { not_taken = refl; asked = k.asked_nothing; set = refl; moved = refl });
+        leads = subst (λ x. LeadsIfBy x before.scales (gives before.gauges) m busy (state_at before) step) (sym e) (record { not_taken = refl; asked = k.asked_nothing; set = refl; moved = refl });
         state = same_state (state_at now) (state_at before) k.same (λ n. same_side (same_machine m n) n refl k.stays);
         history = history;
         notes = λ n. noted_by false (same_machine m n) n refl e;
         scales = scales;
+        gauges = gauges;
         opening = opening;
       }
 
@@ -147,13 +132,8 @@ module _ (m : Machine) (busy : Bool) (before now : RunMoment) (asked : TurnCall)
 pub turn_is : (t : Turn) (m : Machine) → t.machine ≡ m → record { machine = m; busy = t.busy } ≡ t
 turn_is t m e = ap (λ (x : Machine). record { machine = x; busy = t.busy }) (sym e)
 
-pub by_turn : (t u : Turn) (before now : RunMoment) (asked : TurnCall) → t ≡ u → StepsOn t before now asked → StepsOn u before now asked
-by_turn t u before now asked e k = subst (λ x. StepsOn x before now asked) e k
-
--- the table's turn: its readings are any that a calibration over its scale may give
-pub table_near : (points : Scale) (gives : ℕ → ℤ → Type 0) (rig : Rig TablePlant TableSense TableAct) (busy : Bool) (old new : Desk) (before now : Side TableProgress TablePlant) (notes notes' : Notes) (asked : TurnCall)
-    → UnitTurn (table_steps points gives) rig busy old new before now notes notes' asked → UnitTurn (table_steps points (IsReading points)) rig busy old new before now notes notes' asked
-table_near points gives rig busy old new before now notes notes' asked k = unit_turn_still (table_steps points gives) rig (Senses points (IsReading points)) (senses_near points gives) busy old new before now notes notes' asked k
+pub by_turn : {G : Type 0} → (gives : G → CellGauges) (t u : Turn) (before now : RunMoment G) (asked : TurnCall) → t ≡ u → StepsOn gives t before now asked → StepsOn gives u before now asked
+by_turn gives t u before now asked e k = subst (λ x. StepsOn gives x before now asked) e k
 
 -- a turn leaves the sides and the notes of the other machines
 abbrev Others : Machine → Sides → Sides → AllNotes → AllNotes → Type 0
@@ -187,72 +167,63 @@ watch_others : (s : Sides) (x : SideOf Watch) (v : AllNotes) (y : Notes) → Oth
 watch_others s x v y Watch apart = cc
 watch_others s x v y n apart = (refl, refl)
 
--- likewise the robot's and the crane's
-pub robot_near : (points : RobotScales) (gives : RobotGauges) (rig : Rig RobotPlant RobotSense RobotAct) (busy : Bool) (old new : Desk) (before now : Side RobotProgress RobotPlant) (notes notes' : Notes) (asked : TurnCall)
-    → UnitTurn (robot_steps points gives) rig busy old new before now notes notes' asked → UnitTurn (robot_steps points (near_lines points)) rig busy old new before now notes notes' asked
-robot_near points gives rig busy old new before now notes notes' asked k = unit_turn_still (robot_steps points gives) rig (RobotSenses points (near_lines points)) (robot_senses_near points gives) busy old new before now notes notes' asked k
-
-pub crane_near : (points : Scale) (gives : ℕ → ℤ → Type 0) (rig : Rig CranePlant CraneSense CraneAct) (busy : Bool) (old new : Desk) (before now : Side CraneProgress CranePlant) (notes notes' : Notes) (asked : TurnCall)
-    → UnitTurn (crane_steps points gives) rig busy old new before now notes notes' asked → UnitTurn (crane_steps points (IsReading points)) rig busy old new before now notes notes' asked
-crane_near points gives rig busy old new before now notes notes' asked k = unit_turn_still (crane_steps points gives) rig (CraneSenses points (IsReading points)) (crane_senses_near points gives) busy old new before now notes notes' asked k
-
-module _ (before now : RunMoment) (busy : Bool) (asked : TurnCall) (scales : now.scales ≡ before.scales) (opening : now.opening ≡ before.opening) where
+module _ {G : Type 0} (gives : G → CellGauges) (before now : RunMoment G) (busy : Bool) (asked : TurnCall) (scales : now.scales ≡ before.scales) (gauges : now.gauges ≡ before.gauges) (opening : now.opening ≡ before.opening) where
   -- a machine's turn, which changes its own side and leaves the others
   alone_on : (m : Machine)
-      → LeadsAlone (is_none (side_in before.sides m).stopped) (steps_of before.scales m) (rig_of before.scales m) busy before.interlock (side_in before.sides m) asked now.interlock (side_in now.sides m)
+      → LeadsAlone (is_none (side_in before.sides m).stopped) (steps_by before.scales (gives before.gauges) m) (rig_of before.scales m) busy before.interlock (side_in before.sides m) asked now.interlock (side_in now.sides m)
       → now.history ≡ before.history ++ settled_in m asked
       → notes_in now.notes m ≡ (if is_none (side_in before.sides m).stopped then notes_with (notes_in before.notes m) asked else notes_in before.notes m)
-      → (s : Sides) (v : AllNotes) → now.sides ≡ s → now.notes ≡ v → Others m before.sides s before.notes v → StepsOn (record { machine = m; busy = busy }) before now asked
+      → (s : Sides) (v : AllNotes) → now.sides ≡ s → now.notes ≡ v → Others m before.sides s before.notes v → StepsOn gives (record { machine = m; busy = busy }) before now asked
   alone_on m leads history noted s v e f others =
-      steps_on m busy before now asked leads history noted (λ n apart. (ap (λ x. side_in x n) e ∙ (others n apart).0, ap (λ x. notes_in x n) f ∙ (others n apart).1)) scales opening
+      steps_on gives m busy before now asked leads history noted (λ n apart. (ap (λ x. side_in x n) e ∙ (others n apart).0, ap (λ x. notes_in x n) f ∙ (others n apart).1)) scales gauges opening
 
   pub feed_on : LeadsAlone (is_none before.sides.feed.stopped) feed_steps feed_rig busy before.interlock before.sides.feed asked now.interlock now.sides.feed
       → now.history ≡ before.history ++ settled_in Feed asked
       → now.notes.feed ≡ (if is_none before.sides.feed.stopped then notes_with before.notes.feed asked else before.notes.feed)
-      → now.sides ≡ record before.sides { feed = now.sides.feed } → now.notes ≡ record before.notes { feed = now.notes.feed } → StepsOn (record { machine = Feed; busy = busy }) before now asked
+      → now.sides ≡ record before.sides { feed = now.sides.feed } → now.notes ≡ record before.notes { feed = now.notes.feed } → StepsOn gives (record { machine = Feed; busy = busy }) before now asked
   feed_on leads history noted e f = alone_on Feed leads history noted _ _ e f (feed_others before.sides now.sides.feed before.notes now.notes.feed)
 
-  pub table_on : (points : Scale) → LeadsAlone (is_none before.sides.table.stopped) (table_steps points (IsReading points)) (table_rig before.scales.turn) busy before.interlock before.sides.table asked now.interlock now.sides.table
+  pub table_on : (points : Scale) → LeadsAlone (is_none before.sides.table.stopped) (table_steps points (gives before.gauges).turn) (table_rig before.scales.turn) busy before.interlock before.sides.table asked now.interlock now.sides.table
       → before.scales.turn ≡ points → now.history ≡ before.history ++ settled_in Table asked
       → now.notes.table ≡ (if is_none before.sides.table.stopped then notes_with before.notes.table asked else before.notes.table)
-      → now.sides ≡ record before.sides { table = now.sides.table } → now.notes ≡ record before.notes { table = now.notes.table } → StepsOn (record { machine = Table; busy = busy }) before now asked
+      → now.sides ≡ record before.sides { table = now.sides.table } → now.notes ≡ record before.notes { table = now.notes.table } → StepsOn gives (record { machine = Table; busy = busy }) before now asked
   table_on points leads fits history noted e f =
-      let led = subst (λ (s : Scale). LeadsAlone (is_none before.sides.table.stopped) (table_steps s (IsReading s)) (table_rig before.scales.turn) busy before.interlock before.sides.table asked now.interlock now.sides.table) (sym fits) leads in
+      let led = subst (λ (s : Scale). LeadsAlone (is_none before.sides.table.stopped) (table_steps s (gives before.gauges).turn) (table_rig before.scales.turn) busy before.interlock before.sides.table asked now.interlock now.sides.table) (sym fits) leads in
       alone_on Table led history noted _ _ e f (table_others before.sides now.sides.table before.notes now.notes.table)
 
-  pub robot_on : (points : RobotScales) → LeadsAlone (is_none before.sides.robot.stopped) (robot_steps points (near_lines points)) (robot_rig (robot_axes before.scales)) busy before.interlock before.sides.robot asked now.interlock now.sides.robot
+  pub robot_on : (points : RobotScales) → LeadsAlone (is_none before.sides.robot.stopped) (robot_steps points (robot_gauges (gives before.gauges))) (robot_rig (robot_axes before.scales)) busy before.interlock before.sides.robot asked now.interlock now.sides.robot
       → before.scales.arm1 ≡ points.arm1 → before.scales.arm2 ≡ points.arm2 → before.scales.rotation ≡ points.rotation → now.history ≡ before.history ++ settled_in Robot asked
       → now.notes.robot ≡ (if is_none before.sides.robot.stopped then notes_with before.notes.robot asked else before.notes.robot)
-      → now.sides ≡ record before.sides { robot = now.sides.robot } → now.notes ≡ record before.notes { robot = now.notes.robot } → StepsOn (record { machine = Robot; busy = busy }) before now asked
+      → now.sides ≡ record before.sides { robot = now.sides.robot } → now.notes ≡ record before.notes { robot = now.notes.robot } → StepsOn gives (record { machine = Robot; busy = busy }) before now asked
   robot_on points leads a b d history noted e f =
       let fits : points ≡ robot_points before.scales = λ i. record { arm1 = sym a i; arm2 = sym b i; rotation = sym d i } in
-      let led = subst (λ (s : RobotScales). LeadsAlone (is_none before.sides.robot.stopped) (robot_steps s (near_lines s)) (robot_rig (robot_axes before.scales)) busy before.interlock before.sides.robot asked now.interlock now.sides.robot) fits leads in
+      let led = subst (λ (s : RobotScales). LeadsAlone (is_none before.sides.robot.stopped) (robot_steps s (robot_gauges (gives before.gauges))) (robot_rig (robot_axes before.scales)) busy before.interlock before.sides.robot asked now.interlock now.sides.robot) fits leads in
       alone_on Robot led history noted _ _ e f (robot_others before.sides now.sides.robot before.notes now.notes.robot)
 
   pub press_on : LeadsAlone (is_none before.sides.press.stopped) press_steps press_rig busy before.interlock before.sides.press asked now.interlock now.sides.press
       → now.history ≡ before.history ++ settled_in Press asked
       → now.notes.press ≡ (if is_none before.sides.press.stopped then notes_with before.notes.press asked else before.notes.press)
-      → now.sides ≡ record before.sides { press = now.sides.press } → now.notes ≡ record before.notes { press = now.notes.press } → StepsOn (record { machine = Press; busy = busy }) before now asked
+      → now.sides ≡ record before.sides { press = now.sides.press } → now.notes ≡ record before.notes { press = now.notes.press } → StepsOn gives (record { machine = Press; busy = busy }) before now asked
   press_on leads history noted e f = alone_on Press leads history noted _ _ e f (press_others before.sides now.sides.press before.notes now.notes.press)
 
   pub deposit_on : LeadsAlone (is_none before.sides.deposit.stopped) deposit_steps deposit_rig busy before.interlock before.sides.deposit asked now.interlock now.sides.deposit
       → now.history ≡ before.history ++ settled_in Deposit asked
       → now.notes.deposit ≡ (if is_none before.sides.deposit.stopped then notes_with before.notes.deposit asked else before.notes.deposit)
-      → now.sides ≡ record before.sides { deposit = now.sides.deposit } → now.notes ≡ record before.notes { deposit = now.notes.deposit } → StepsOn (record { machine = Deposit; busy = busy }) before now asked
+      → now.sides ≡ record before.sides { deposit = now.sides.deposit } → now.notes ≡ record before.notes { deposit = now.notes.deposit } → StepsOn gives (record { machine = Deposit; busy = busy }) before now asked
   deposit_on leads history noted e f = alone_on Deposit leads history noted _ _ e f (deposit_others before.sides now.sides.deposit before.notes now.notes.deposit)
 
-  pub crane_on : (points : Scale) → LeadsAlone (is_none before.sides.crane.stopped) (crane_steps points (IsReading points)) (crane_rig before.scales.gripper) busy before.interlock before.sides.crane asked now.interlock now.sides.crane
+  pub crane_on : (points : Scale) → LeadsAlone (is_none before.sides.crane.stopped) (crane_steps points (gives before.gauges).gripper) (crane_rig before.scales.gripper) busy before.interlock before.sides.crane asked now.interlock now.sides.crane
       → before.scales.gripper ≡ points → now.history ≡ before.history ++ settled_in Crane asked
       → now.notes.crane ≡ (if is_none before.sides.crane.stopped then notes_with before.notes.crane asked else before.notes.crane)
-      → now.sides ≡ record before.sides { crane = now.sides.crane } → now.notes ≡ record before.notes { crane = now.notes.crane } → StepsOn (record { machine = Crane; busy = busy }) before now asked
+      → now.sides ≡ record before.sides { crane = now.sides.crane } → now.notes ≡ record before.notes { crane = now.notes.crane } → StepsOn gives (record { machine = Crane; busy = busy }) before now asked
   crane_on points leads fits history noted e f =
-      let led = subst (λ (s : Scale). LeadsAlone (is_none before.sides.crane.stopped) (crane_steps s (IsReading s)) (crane_rig before.scales.gripper) busy before.interlock before.sides.crane asked now.interlock now.sides.crane) (sym fits) leads in
+      let led = subst (λ (s : Scale). LeadsAlone (is_none before.sides.crane.stopped) (crane_steps s (gives before.gauges).gripper) (crane_rig before.scales.gripper) busy before.interlock before.sides.crane asked now.interlock now.sides.crane) (sym fits) leads in
       alone_on Crane led history noted _ _ e f (crane_others before.sides now.sides.crane before.notes now.notes.crane)
 
   pub watch_on : LeadsAlone (is_none before.sides.watch.stopped) watch_steps watch_rig busy before.interlock before.sides.watch asked now.interlock now.sides.watch
       → now.history ≡ before.history ++ settled_in Watch asked
       → now.notes.watch ≡ (if is_none before.sides.watch.stopped then notes_with before.notes.watch asked else before.notes.watch)
-      → now.sides ≡ record before.sides { watch = now.sides.watch } → now.notes ≡ record before.notes { watch = now.notes.watch } → StepsOn (record { machine = Watch; busy = busy }) before now asked
+      → now.sides ≡ record before.sides { watch = now.sides.watch } → now.notes ≡ record before.notes { watch = now.notes.watch } → StepsOn gives (record { machine = Watch; busy = busy }) before now asked
   watch_on leads history noted e f = alone_on Watch leads history noted _ _ e f (watch_others before.sides now.sides.watch before.notes now.notes.watch)
 
 -- what holds if a turn was Ok
@@ -287,7 +258,7 @@ abbrev pub with_robot : CellScales → PartScales → CellScales
 with_robot c s = record c { arm1 = s.arm1; arm2 = s.arm2; rotation = s.rotation }
 
 -- a simulation before its first turn
-pub first_is : (c : CellScales) (s opening interlock : ModelState) (sides : Sides) (history : List Event) (notes : AllNotes)
+pub first_is : {G : Type 0} → (c : CellScales) (gauges : G) (s opening interlock : ModelState) (sides : Sides) (history : List Event) (notes : AllNotes)
     → opening ≡ s → interlock ≡ s → sides ≡ sides_at_start s → history ≡ [] → notes ≡ first_notes
-    → record { scales = c; opening = opening; interlock = interlock; sides = sides; history = history; notes = notes } ≡ first_moment c s
-first_is c s opening interlock sides history notes a b d e f = λ i. record { scales = c; opening = a i; interlock = b i; sides = d i; history = e i; notes = f i }
+    → record { scales = c; gauges = gauges; opening = opening; interlock = interlock; sides = sides; history = history; notes = notes } ≡ first_moment c gauges s
+first_is c gauges s opening interlock sides history notes a b d e f = λ i. record { scales = c; gauges = gauges; opening = a i; interlock = b i; sides = d i; history = e i; notes = f i }

@@ -12,7 +12,8 @@ use Rattle.cell_plant.specs.declared.watcher.SeenFault.{SeenFault}
 use Rattle.cell_plant.specs.CellStates.{CellState, cell_at_start}
 use Rattle.cell_plant.specs.Frames.{SeesRun, SeesBeginning, IsShown, IsCut, result_of, frame_of, frames_of, frames_after}
 use Rattle.cell_plant.specs.Moments.{RunMoment, StepsOn, Keeps, first_moment, state_at}
-use Rattle.cell_plant.specs.Runs.{Step, IsRun}
+use Rattle.cell_plant.specs.Machines.{CellGauges}
+use Rattle.cell_plant.specs.Runs.{Step, IsRunBy}
 use Rattle.cell_plant.proofs.RunSoFar.{RunSoFar, at_start, next_by, next_steps, tells, told_steps}
 
 -- some turns are left
@@ -23,63 +24,67 @@ pub some_left : (i : ℕ) (ts : List Turn) → i < length ts → drop i ts ≢ [
 some_left i ts l e = left_none (length ts) i l (sym (length-drop i ts) ∙ ap (λ (xs : List Turn). length xs) e)
 
 -- the frames of a run with one more turn
-frames_push : (c : CellScales) (w : CellState) (ts : List Turn) (ss : List Step) (t : Turn) (s : Step) → IsRun c w ts ss → frames_after (ts ++ t ∷ []) (ss ++ s ∷ []) ≡ frames_after ts ss ++ frame_of (Some t) s.asked s.moved ∷ []
-frames_push c w [] [] t s r = refl
-frames_push c w (u ∷ ts) (x ∷ ss) t s r = ap (λ fs. frame_of (Some u) x.asked x.moved ∷ fs) (frames_push c x.moved ts ss t s r.1.1)
-frames_push c w [] (x ∷ ss) t s r = absurd r
-frames_push c w (u ∷ ts) [] t s r = absurd r
+frames_push : (c : CellScales) (gives : CellGauges) (w : CellState) (ts : List Turn) (ss : List Step) (t : Turn) (s : Step) → IsRunBy c gives w ts ss → frames_after (ts ++ t ∷ []) (ss ++ s ∷ []) ≡ frames_after ts ss ++ frame_of (Some t) s.asked s.moved ∷ []
+frames_push c gives w [] [] t s r = refl
+frames_push c gives w (u ∷ ts) (x ∷ ss) t s r = ap (λ fs. frame_of (Some u) x.asked x.moved ∷ fs) (frames_push c gives x.moved ts ss t s r.1.1)
+frames_push c gives w [] (x ∷ ss) t s r = absurd r
+frames_push c gives w (u ∷ ts) [] t s r = absurd r
 
-module _ {W E : Type 0} (sees : W → Frame → Result (Unit {0}) E → W → Type 0) where
+module _ {W E G : Type 0} (sees : W → Frame → Result (Unit {0}) E → W → Type 0) (gives : G → CellGauges) where
   -- one more frame is shown
   shown_next : (w u v : W) (f g : Frame) (fs : List Frame) (result : Result (Unit {0}) E) → IsShown sees w (f ∷ fs) (Ok tt) u → sees u g result v → IsShown sees w (f ∷ fs ++ g ∷ []) result v
   shown_next w u v f g [] result k next = (u, (k, next))
   shown_next w u v f g (h ∷ fs) result k next = (k.0, (k.1.0, shown_next k.0 u v h g fs result k.1.1 next))
 
   -- what a watcher has seen of the run so far
-  pub record Watched (w v : W) (turns : List Turn) (result : Result (Unit {0}) E) (m : RunMoment) : Type 0 where
-    pub run : RunSoFar turns m
+  pub record Watched (w v : W) (turns : List Turn) (result : Result (Unit {0}) E) (m : RunMoment G) : Type 0 where
+    pub run : RunSoFar gives turns m
     pub seen : IsShown sees w (frames_of m.opening turns run.steps) result v
 
-  pub starts_watched : (c : CellScales) (opening : ModelState) (w v : W) (result : Result (Unit {0}) E) → sees w (frame_of None None (cell_at_start opening)) result v → Watched w v [] result (first_moment c opening)
-  starts_watched c opening w v result k = record { run = at_start c opening; seen = k }
+  pub starts_watched : (c : CellScales) (five : G) (opening : ModelState) (w v : W) (result : Result (Unit {0}) E) → sees w (frame_of None None (cell_at_start opening)) result v → Watched w v [] result (first_moment c five opening)
+  starts_watched c five opening w v result k = record { run = at_start gives c five opening; seen = k }
 
-  module _ (turns : List Turn) (t : Turn) (before now : RunMoment) (asked : TurnCall) (w u v : W) (result : Result (Unit {0}) E) (g : Watched w u turns (Ok tt) before) (o : StepsOn t before now asked)
+  module _ (turns : List Turn) (t : Turn) (before now : RunMoment G) (asked : TurnCall) (w u v : W) (result : Result (Unit {0}) E) (g : Watched w u turns (Ok tt) before) (o : StepsOn gives t before now asked)
       (k : sees u (frame_of (Some t) asked (state_at now)) result v) where
-    abbrev by : CellScales → ModelState → RunMoment
-    by c z = record now { scales = c; opening = z }
+    abbrev by : CellScales → G → ModelState → RunMoment G
+    by c five z = record now { scales = c; gauges = five; opening = z }
 
     shown : sees u (frame_of (Some t) o.step.asked o.step.moved) result v
     shown = subst (λ w'. sees u (frame_of (Some t) o.step.asked w') result v) o.state (subst (λ a. sees u (frame_of (Some t) a (state_at now)) result v) (sym o.is_asked) k)
 
-    next_watched : Watched w v (turns ++ t ∷ []) result (by before.scales before.opening)
+    next_watched : Watched w v (turns ++ t ∷ []) result (by before.scales before.gauges before.opening)
     next_watched =
         record {
-          run = next_by turns t before now asked g.run o;
-          seen = rw (next_steps turns t before now asked g.run o, frames_push before.scales (cell_at_start before.opening) turns g.run.steps t o.step g.run.run)
+          run = next_by gives turns t before now asked g.run o;
+          seen = rw (next_steps gives turns t before now asked g.run o, frames_push before.scales (gives before.gauges) (cell_at_start before.opening) turns g.run.steps t o.step g.run.run)
               (shown_next w u v (frame_of None None (cell_at_start before.opening)) (frame_of (Some t) o.step.asked o.step.moved) (frames_after turns g.run.steps) result g.seen shown);
         }
 
     pub goes_on_watched : (more : List Turn) → more ≡ turns ++ t ∷ [] → Watched w v more result now
     goes_on_watched more e =
         subst (λ ts. Watched w v ts result now) (sym e)
-        (subst (λ z. Watched w v (turns ++ t ∷ []) result (by now.scales z)) (sym o.opening) (subst (λ c. Watched w v (turns ++ t ∷ []) result (by c before.opening)) (sym o.scales) next_watched))
+        (subst (λ z. Watched w v (turns ++ t ∷ []) result (by now.scales now.gauges z)) (sym o.opening)
+        (subst (λ five. Watched w v (turns ++ t ∷ []) result (by now.scales five before.opening)) (sym o.gauges)
+        (subst (λ c. Watched w v (turns ++ t ∷ []) result (by c before.gauges before.opening)) (sym o.scales) next_watched)))
 
   -- the whole run, and a run that is cut
-  sees_whole : (turns : List Turn) (m : RunMoment) (w v : W) (r : RunRecord) → AreCellScales m.scales → IsStartState m.opening → Watched w v turns (Ok tt) m → Keeps m m.opening r → SeesRun sees m.scales m.opening turns w v r
+  sees_whole : (turns : List Turn) (m : RunMoment G) (w v : W) (r : RunRecord) → AreCellScales m.scales → IsStartState m.opening → Watched w v turns (Ok tt) m → Keeps m m.opening r → SeesRun sees m.scales (gives m.gauges) m.opening turns w v r
   sees_whole turns m w v r scales start g k =
-      record { tells = tells turns m r scales start g.run k; seen = rw (told_steps turns m r scales start g.run k) g.seen }
+      record { tells = tells gives turns m r scales start g.run k; seen = rw (told_steps gives turns m r scales start g.run k) g.seen }
 
-  pub sees_all : (c : CellScales) (opening : ModelState) (turns all : List Turn) (m : RunMoment) (w v : W) (r : RunRecord) → turns ≡ all → m.scales ≡ c → m.opening ≡ opening → AreCellScales c → IsStartState opening
-      → Watched w v turns (Ok tt) m → Keeps m opening r → SeesRun sees c opening all w v r
-  sees_all c opening turns all m w v r e f o scales start g k =
-      subst (λ ts. SeesRun sees c opening ts w v r) e
-      (subst (λ z. SeesRun sees c z turns w v r) o
-      (subst (λ x. SeesRun sees x m.opening turns w v r) f
-      (sees_whole turns m w v r (subst AreCellScales (sym f) scales) (subst IsStartState (sym o) start) g (subst (λ z. Keeps m z r) (sym o) k))))
+  pub sees_all : (c : CellScales) (five : G) (opening : ModelState) (turns all : List Turn) (m : RunMoment G) (w v : W) (r : RunRecord) → turns ≡ all → m.scales ≡ c → m.gauges ≡ five → m.opening ≡ opening → AreCellScales c → IsStartState opening
+      → Watched w v turns (Ok tt) m → Keeps m opening r → SeesRun sees c (gives five) opening all w v r
+  sees_all c five opening turns all m w v r e f fits o scales start g k =
+      subst (λ ts. SeesRun sees c (gives five) opening ts w v r) e
+      (subst (λ z. SeesRun sees c (gives five) z turns w v r) o
+      (subst (λ x. SeesRun sees c (gives x) m.opening turns w v r) fits
+      (subst (λ x. SeesRun sees x (gives m.gauges) m.opening turns w v r) f
+      (sees_whole turns m w v r (subst AreCellScales (sym f) scales) (subst IsStartState (sym o) start) g (subst (λ z. Keeps m z r) (sym o) k)))))
 
-  pub sees_some : (c : CellScales) (opening : ModelState) (turns rest all : List Turn) (m : RunMoment) (w v : W) (fault : SeenFault E) → all ≡ turns ++ rest → IsCut fault rest → m.scales ≡ c → m.opening ≡ opening
-      → Watched w v turns (result_of fault) m → SeesBeginning sees c opening all w v fault
-  sees_some c opening turns rest all m w v fault e cut f o g =
-      subst (λ z. SeesBeginning sees c z all w v fault) o
-      (subst (λ x. SeesBeginning sees x m.opening all w v fault) f
-      (record { taken = turns; rest = rest; begins = e; cut = cut; steps = g.run.steps; run = g.run.run; seen = g.seen }))
+  pub sees_some : (c : CellScales) (five : G) (opening : ModelState) (turns rest all : List Turn) (m : RunMoment G) (w v : W) (fault : SeenFault E) → all ≡ turns ++ rest → IsCut fault rest → m.scales ≡ c → m.gauges ≡ five → m.opening ≡ opening
+      → Watched w v turns (result_of fault) m → SeesBeginning sees c (gives five) opening all w v fault
+  sees_some c five opening turns rest all m w v fault e cut f fits o g =
+      subst (λ z. SeesBeginning sees c (gives five) z all w v fault) o
+      (subst (λ x. SeesBeginning sees c (gives x) m.opening all w v fault) fits
+      (subst (λ x. SeesBeginning sees x (gives m.gauges) m.opening all w v fault) f
+      (record { taken = turns; rest = rest; begins = e; cut = cut; steps = g.run.steps; run = g.run.run; seen = g.seen })))

@@ -13,7 +13,8 @@ use Rattle.cell_plant.specs.declared.watch.WatchProgress.{WatchProgress}
 use Rattle.cell_notes.specs.declared.schedule.Turn.{Turn}
 use Rattle.cell_plant.specs.CellStates.{Sides, sides_at_start, cell_at_start}
 use Rattle.cell_plant.specs.Records.{IsRecordOf, events_in}
-use Rattle.cell_plant.specs.Runs.{Step, IsRun, end_of}
+use Rattle.cell_plant.specs.Machines.{CellGauges}
+use Rattle.cell_plant.specs.Runs.{Step, IsRunBy, end_of}
 use Rattle.cell_plant.specs.Safety.{IsSafeRun}
 use Rattle.cell_plant.specs.Watch.{watch_at_start}
 
@@ -26,6 +27,35 @@ cell_scales cell =
       rotation = cell.robot.part.scale.rotation;
       turn = cell.table.part.scale;
       gripper = cell.crane.part.scale;
+    }
+
+-- its five gauges
+pub record FiveGauges (F1 F2 F3 F4 F5 : Type 0) : Type 0 where
+  pub arm1 : F1
+  pub arm2 : F2
+  pub rotation : F3
+  pub turn : F4
+  pub gripper : F5
+
+abbrev pub five_gauges : {F1 F2 F3 F4 F5 : Type 0} {g1 : Ghosts F1} {g2 : Ghosts F2} {g3 : Ghosts F3} {g4 : Ghosts F4} {g5 : Ghosts F5} → Cell F1 F2 F3 F4 F5 g1 g2 g3 g4 g5 → FiveGauges F1 F2 F3 F4 F5
+five_gauges cell =
+    record {
+      arm1 = cell.robot.controller.program.arm1.gauge;
+      arm2 = cell.robot.controller.program.arm2.gauge;
+      rotation = cell.robot.controller.program.rotation.gauge;
+      turn = cell.table.controller.program.turn.gauge;
+      gripper = cell.crane.controller.program.gripper.gauge;
+    }
+
+-- what they may give at a raw value
+abbrev pub cell_gauges : {F1 F2 F3 F4 F5 : Type 0} {g1 : Ghosts F1} {g2 : Ghosts F2} {g3 : Ghosts F3} {g4 : Ghosts F4} {g5 : Ghosts F5} → Cell F1 F2 F3 F4 F5 g1 g2 g3 g4 g5 → CellGauges
+cell_gauges {g1 = g1} {g2 = g2} {g3 = g3} {g4 = g4} {g5 = g5} cell =
+    record {
+      arm1 = g1.gives cell.robot.controller.program.arm1.gauge;
+      arm2 = g2.gives cell.robot.controller.program.arm2.gauge;
+      rotation = g3.gives cell.robot.controller.program.rotation.gauge;
+      turn = g4.gives cell.table.controller.program.turn.gauge;
+      gripper = g5.gives cell.crane.controller.program.gripper.gauge;
     }
 
 -- the points of the robot's calibrations
@@ -58,11 +88,11 @@ pub record IsMadeFor {F1 F2 F3 F4 F5 : Type 0} {g1 : Ghosts F1} {g2 : Ghosts F2}
   pub begins : sides_of cell watch_at_start ≡ sides_at_start s
   pub fitted : IsFitted cell
 
--- A record is of a run of a schedule from an opening. Nothing collides in that run, and its events are a legal history
--- that leads to its end.
-pub record TellsRun (c : CellScales) (opening : ModelState) (turns : List Turn) (r : RunRecord) : Type 0 where
+-- A record is of a run of a schedule from an opening, by what the gauges may give. Nothing collides in that run, and its
+-- events are a legal history that leads to its end.
+pub record TellsRun (c : CellScales) (gives : CellGauges) (opening : ModelState) (turns : List Turn) (r : RunRecord) : Type 0 where
   pub steps : List Step
-  pub run : IsRun c (cell_at_start opening) turns steps
+  pub run : IsRunBy c gives (cell_at_start opening) turns steps
   pub told : IsRecordOf opening steps (end_of (cell_at_start opening) steps) r
   pub safe : IsSafeRun (cell_at_start opening) steps
   pub legal : IsLegal opening (events_in steps)

@@ -20,7 +20,8 @@ use Rattle.cell_plant.specs.declared.watcher.SeenFault.TheVariants.{Memory, Watc
 use Rattle.cell_plant.specs.Cells.{TellsRun}
 use Rattle.cell_plant.specs.CellStates.{CellState, plant_of, cell_at_start}
 use Rattle.cell_plant.specs.Errands.{errand_of}
-use Rattle.cell_plant.specs.Runs.{Step, IsRun}
+use Rattle.cell_plant.specs.Machines.{CellGauges}
+use Rattle.cell_plant.specs.Runs.{Step, IsRun, IsRunBy}
 
 -- the step that each machine is at
 abbrev pub steps_in : CellState → MachineSteps
@@ -61,8 +62,8 @@ IsShown sees w (f ∷ []) result v = sees w f result v
 IsShown {W = W} sees w (f ∷ g ∷ fs) result v = (u : W) × (sees w f (Ok tt) u × IsShown sees u (g ∷ fs) result v)
 
 -- a watcher has seen the whole run that a record tells
-pub record SeesRun {W E : Type 0} (sees : W → Frame → Result (Unit {0}) E → W → Type 0) (c : CellScales) (opening : ModelState) (turns : List Turn) (w v : W) (r : RunRecord) : Type 0 where
-  pub tells : TellsRun c opening turns r
+pub record SeesRun {W E : Type 0} (sees : W → Frame → Result (Unit {0}) E → W → Type 0) (c : CellScales) (gives : CellGauges) (opening : ModelState) (turns : List Turn) (w v : W) (r : RunRecord) : Type 0 where
+  pub tells : TellsRun c gives opening turns r
   pub seen : IsShown sees w (frames_of opening turns tells.steps) (Ok tt) v
 
 -- A run ends early: after some first turns the watcher failed at the frame of the last of them, or in the next turn
@@ -75,13 +76,13 @@ abbrev pub result_of : {E : Type 0} → SeenFault E → Result (Unit {0}) E
 result_of Memory = Ok tt
 result_of (Watcher e) = Err e
 
-pub record SeesBeginning {W E : Type 0} (sees : W → Frame → Result (Unit {0}) E → W → Type 0) (c : CellScales) (opening : ModelState) (turns : List Turn) (w v : W) (fault : SeenFault E) : Type 0 where
+pub record SeesBeginning {W E : Type 0} (sees : W → Frame → Result (Unit {0}) E → W → Type 0) (c : CellScales) (gives : CellGauges) (opening : ModelState) (turns : List Turn) (w v : W) (fault : SeenFault E) : Type 0 where
   pub taken : List Turn
   pub rest : List Turn
   pub begins : turns ≡ taken ++ rest
   pub cut : IsCut fault rest
   pub steps : List Step
-  pub run : IsRun c (cell_at_start opening) taken steps
+  pub run : IsRunBy c gives (cell_at_start opening) taken steps
   pub seen : IsShown sees w (frames_of opening taken steps) (result_of fault) v
 
 -- nothing collides in the cell that a frame shows, each axis is within its ends, and the interlock meets what positions

@@ -1,4 +1,5 @@
 -- The machines of the cell, looked up by name: what each consists of. The watch has nothing to move.
+use Rattle.std.specs.Prelude.{ℕ, ℤ}
 use Rattle.cell_types.specs.declared.machine.Machine.{Machine}
 use Rattle.cell_types.specs.declared.machine.Machine.TheVariants.{Feed, Table, Robot, Press, Deposit, Crane, Watch}
 use Rattle.cell_calib.specs.declared.sense.CraneSense.{CraneSense}
@@ -25,7 +26,7 @@ use Rattle.cell_haul.specs.DepositProgram.{deposit_steps}
 use Rattle.cell_haul.specs.FeedProgram.{feed_steps}
 use Rattle.cell_robot.specs.declared.robot.RobotProgress.{RobotProgress}
 use Rattle.cell_robot.specs.declared.robot.RobotReading.{RobotReading}
-use Rattle.cell_robot.specs.RobotProgram.{RobotScales, robot_scales, near_lines, robot_steps}
+use Rattle.cell_robot.specs.RobotProgram.{RobotGauges, RobotScales, gauges_of, robot_scales, robot_steps}
 use Rattle.cell_stations.specs.declared.press.PressProgress.{PressProgress}
 use Rattle.cell_stations.specs.declared.table.TableProgress.{TableProgress}
 use Rattle.cell_stations.specs.declared.table.TableReading.{TableReading}
@@ -97,17 +98,43 @@ robot_points c = robot_scales c.arm1 c.arm2 c.rotation
 abbrev pub robot_axes : CellScales → PartScales
 robot_axes c = record { arm1 = c.arm1; arm2 = c.arm2; rotation = c.rotation }
 
--- its program and its part's behaviour, by the scales of the cell: a reading is any that a calibration over its scale
--- may give
-abbrev pub steps_of : CellScales → (m : Machine) → Steps (ProgressOf m) (SenseOf m) (ReadingOf m) (ActOf m)
-steps_of c Feed = feed_steps
-steps_of c Table = table_steps c.turn (IsReading c.turn)
-steps_of c Robot = robot_steps (robot_points c) (near_lines (robot_points c))
-steps_of c Press = press_steps
-steps_of c Deposit = deposit_steps
-steps_of c Crane = crane_steps c.gripper (IsReading c.gripper)
-steps_of c Watch = watch_steps
+-- what the gauges of the five potentiometers may give at a raw value
+pub record CellGauges : Type 1 where
+  pub arm1 : ℕ → ℤ → Type 0
+  pub arm2 : ℕ → ℤ → Type 0
+  pub rotation : ℕ → ℤ → Type 0
+  pub turn : ℕ → ℤ → Type 0
+  pub gripper : ℕ → ℤ → Type 0
 
+abbrev pub robot_gauges : CellGauges → RobotGauges
+robot_gauges gives = gauges_of gives.arm1 gives.arm2 gives.rotation
+
+-- gauges that may give any position near their lines
+abbrev pub any_near : CellScales → CellGauges
+any_near c =
+    record {
+      arm1 = IsReading c.arm1;
+      arm2 = IsReading c.arm2;
+      rotation = IsReading c.rotation;
+      turn = IsReading c.turn;
+      gripper = IsReading c.gripper;
+    }
+
+-- its program, by the scales of the cell and what its gauges may give
+abbrev pub steps_by : CellScales → CellGauges → (m : Machine) → Steps (ProgressOf m) (SenseOf m) (ReadingOf m) (ActOf m)
+steps_by c gives Feed = feed_steps
+steps_by c gives Table = table_steps c.turn gives.turn
+steps_by c gives Robot = robot_steps (robot_points c) (robot_gauges gives)
+steps_by c gives Press = press_steps
+steps_by c gives Deposit = deposit_steps
+steps_by c gives Crane = crane_steps c.gripper gives.gripper
+steps_by c gives Watch = watch_steps
+
+-- its program where a reading is any that a calibration over its scale may give
+abbrev pub steps_of : CellScales → (m : Machine) → Steps (ProgressOf m) (SenseOf m) (ReadingOf m) (ActOf m)
+steps_of c m = steps_by c (any_near c) m
+
+-- its part's behaviour
 abbrev pub rig_of : CellScales → (m : Machine) → Rig (PartOf m) (SenseOf m) (ActOf m)
 rig_of c Feed = feed_rig
 rig_of c Table = table_rig c.turn

@@ -15,7 +15,8 @@ use Rattle.cell_parts.specs.Axes.{CellScales}
 use Rattle.cell_notes.specs.declared.schedule.Turn.{Turn}
 use Rattle.cell_plant.specs.CellStates.{CellState, Sides, side_in, sides_at_start, plant_of}
 use Rattle.cell_plant.specs.Records.{positions_in}
-use Rattle.cell_plant.specs.Runs.{Step, Leads}
+use Rattle.cell_plant.specs.Machines.{CellGauges}
+use Rattle.cell_plant.specs.Runs.{Step, LeadsBy}
 
 -- what the machines have noted
 pub record AllNotes : Type 0 where
@@ -36,27 +37,29 @@ notes_in n Deposit = n.deposit
 notes_in n Crane = n.crane
 notes_in n Watch = n.watch
 
--- the scales and the opening, which stay; the state of the interlock, the machines' sides, the history, and each
--- machine's notes
-pub record RunMoment : Type 0 where
+-- the scales, the gauges and the opening, which stay; the state of the interlock, the machines' sides, the history,
+-- and each machine's notes
+pub record RunMoment (G : Type 0) : Type 0 where
   pub scales : CellScales
+  pub gauges : G
   pub opening : ModelState
   pub interlock : ModelState
   pub sides : Sides
   pub history : List Event
   pub notes : AllNotes
 
-abbrev pub state_at : RunMoment → CellState
+abbrev pub state_at : {G : Type 0} → RunMoment G → CellState
 state_at m = record { interlock = m.interlock; side = side_in m.sides }
 
 -- before the first turn
 abbrev pub first_notes : AllNotes
 first_notes = record { feed = no_notes; table = no_notes; robot = no_notes; press = no_notes; deposit = no_notes; crane = no_notes; watch = no_notes }
 
-abbrev pub first_moment : CellScales → ModelState → RunMoment
-first_moment c s =
+abbrev pub first_moment : {G : Type 0} → CellScales → G → ModelState → RunMoment G
+first_moment c gauges s =
     record {
       scales = c;
+      gauges = gauges;
       opening = s;
       interlock = s;
       sides = sides_at_start s;
@@ -64,20 +67,21 @@ first_moment c s =
       notes = first_notes;
     }
 
--- a turn is a step of the run, and the machine notes what it asked
-pub record StepsOn (t : Turn) (before now : RunMoment) (asked : TurnCall) : Type 0 where
+-- a turn is a step of the run by what the gauges may give, and the machine notes what it asked
+pub record StepsOn {G : Type 0} (gives : G → CellGauges) (t : Turn) (before now : RunMoment G) (asked : TurnCall) : Type 0 where
   pub step : Step
   pub is_asked : step.asked ≡ asked
   pub machine : step.machine ≡ t.machine
-  pub leads : Leads before.scales t.machine t.busy (state_at before) step
+  pub leads : LeadsBy before.scales (gives before.gauges) t.machine t.busy (state_at before) step
   pub state : state_at now ≡ step.moved
   pub history : now.history ≡ before.history ++ settled_in t.machine step.asked
   pub notes : (n : Machine) → notes_in now.notes n ≡ (if step.taken && same_machine t.machine n then notes_with (notes_in before.notes n) step.asked else notes_in before.notes n)
   pub scales : now.scales ≡ before.scales
+  pub gauges : now.gauges ≡ before.gauges
   pub opening : now.opening ≡ before.opening
 
 -- the record of the run so far
-pub record Keeps (m : RunMoment) (opening : ModelState) (r : RunRecord) : Type 0 where
+pub record Keeps {G : Type 0} (m : RunMoment G) (opening : ModelState) (r : RunRecord) : Type 0 where
   pub start : r.start ≡ opening
   pub counts : r.counts ≡ map (λ n. (notes_in m.notes n).counts) all_machines
   pub status : r.status ≡ map (λ n. status_of (side_in m.sides n).stopped) all_machines

@@ -34,6 +34,7 @@ use Rattle.cell_parts.specs.declared.plant.PlantState.{PlantState}
 use Rattle.cell_parts.specs.Examples.{empty_cell, at, robot_at, table_at, crane_at, held_by}
 use Rattle.cell_plant.specs.CellStates.{CellState, Sides, sides_at_start, cell_at_start}
 use Rattle.cell_plant.specs.Cells.{TellsRun}
+use Rattle.cell_plant.specs.Machines.{any_near}
 use Rattle.cell_plant.specs.Records.{IsRecordOf, positions_in}
 use Rattle.cell_plant.specs.Runs.{Step}
 use Rattle.cell_plant.specs.RunExamples.{opening, entered, stopped, at_first, at_last, cell_of, asks, passes, schedule, steps, turn_of}
@@ -192,20 +193,24 @@ pub record IsOfOneStop (r : RunRecord) : Type 0 where
   pub end : r.end ≡ Some (record opening { stamp = 1; stopped = true })
   pub axes : r.axes ≡ axes_by 1000 300 900
 
+-- by gauges that may give any position near their lines
+abbrev pub Tells : CellScales → ModelState → List Turn → RunRecord → Type 0
+Tells c = TellsRun c (any_near c)
+
 pub record RecordExamples (c : CellScales) (r : RunRecord) : Type 0 where
   pub axes : positions_in axes_apart ≡ pos 1 ∷ pos 2 ∷ pos 3 ∷ pos 4 ∷ pos 5 ∷ pos 6 ∷ pos 7 ∷ pos 8 ∷ []
   pub figures : IsRecord r → IsOfLiteralRun r
   pub recorded : IsOfLiteralRun r → IsRecord r
   pub apart : IsRecordOf opening steps_apart last_apart r → IsOfApart r
   pub wrong : WrongRecords r
-  pub of_run : IsOfLiteralRun r → TellsRun c opening schedule r
-  pub of_no_turn : IsOfNoTurn opening r → TellsRun c opening [] r
-  pub of_the_watch : IsOfOneStop r → TellsRun c opening (turn_of Watch ∷ []) r
-  pub only_no_turn : TellsRun c opening [] r → IsOfNoTurn opening r
-  pub unread : IsUnread c → TellsRun c opening (turn_of Crane ∷ []) r → HasBlindCrane r
-  pub lawful : (s : ModelState) (turns : List Turn) → TellsRun c s turns r → IsOfLegalHistory s r
+  pub of_run : IsOfLiteralRun r → Tells c opening schedule r
+  pub of_no_turn : IsOfNoTurn opening r → Tells c opening [] r
+  pub of_the_watch : IsOfOneStop r → Tells c opening (turn_of Watch ∷ []) r
+  pub only_no_turn : Tells c opening [] r → IsOfNoTurn opening r
+  pub unread : IsUnread c → Tells c opening (turn_of Crane ∷ []) r → HasBlindCrane r
+  pub lawful : (s : ModelState) (turns : List Turn) → Tells c s turns r → IsOfLegalHistory s r
   -- turns were made up; one was left out, or one of the watch; the run begins unsafely
-  pub made_up : IsOfLiteralRun r → ¬ TellsRun c opening [] r
-  pub left_out : IsOfNoTurn opening r → ¬ TellsRun c opening (turn_of Feed ∷ []) r
-  pub watch_left_out : IsOfNoTurn opening r → ¬ TellsRun c opening (turn_of Watch ∷ []) r
-  pub begins_unsafely : ¬ TellsRun c open_too_early [] r
+  pub made_up : IsOfLiteralRun r → ¬ Tells c opening [] r
+  pub left_out : IsOfNoTurn opening r → ¬ Tells c opening (turn_of Feed ∷ []) r
+  pub watch_left_out : IsOfNoTurn opening r → ¬ Tells c opening (turn_of Watch ∷ []) r
+  pub begins_unsafely : ¬ Tells c open_too_early [] r

@@ -7,11 +7,12 @@ ghost use Rattle.cell_rules.specs.Start.{IsStartState};
 ghost use Rattle.cell_unit.specs.Statuses.{status_of as status_by};
 ghost use Rattle.cell_notes.specs.Notes.{HasRoom};
 ghost use Rattle.cell_parts.specs.Axes.{AreCellScales};
-ghost use Rattle.cell_plant.specs.Cells.{IsMadeFor, TellsRun, cell_scales};
+ghost use Rattle.cell_plant.specs.Cells.{IsMadeFor, TellsRun, cell_gauges, cell_scales, five_gauges};
 ghost use Rattle.cell_plant.specs.CellStates.{side_in, plant_of};
 ghost use Rattle.cell_plant.specs.Frames.{SeesRun, SeesBeginning, frame_of, steps_in};
 ghost use Rattle.cell_plant.specs.Moments.{StepsOn, Keeps, first_moment, notes_in, state_at};
 ghost use Rattle.cell_plant.specs.Records.{positions_in};
+ghost use Rattle.cell_plant.specs.Simulations.{given_by};
 
 use crate::cell::Cell;
 use crate::frame::{Frame, MachineSteps};
@@ -47,7 +48,7 @@ pub fn simulate<F1: Gauge, F2: Gauge, F3: Gauge, F4: Gauge, F5: Gauge>(
     requires start { IsStartState opening }
     requires made { IsMadeFor opening cell }
     requires scales { AreCellScales (cell_scales cell) }
-    ensures run { IfOk result (TellsRun (cell_scales cell) opening turns.now) }
+    ensures run { IfOk result (TellsRun (cell_scales cell) (cell_gauges cell) opening turns.now) }
     ensures no_turn { turns.now ≡ [] → IsOk result }
 {
     match simulate_seen(alloc, cell, opening, turns, &mut NoWatcher) {
@@ -73,8 +74,8 @@ pub fn simulate_seen<F1: Gauge, F2: Gauge, F3: Gauge, F4: Gauge, F5: Gauge, W: W
     requires start { IsStartState opening }
     requires made { IsMadeFor opening cell }
     requires scales { AreCellScales (cell_scales cell) }
-    ensures run { IfOk result (SeesRun W.sees (cell_scales cell) opening turns.now watcher.old watcher.new) }
-    ensures ended { IfErr result (SeesBeginning W.sees (cell_scales cell) opening turns.now watcher.old watcher.new) }
+    ensures run { IfOk result (SeesRun W.sees (cell_scales cell) (cell_gauges cell) opening turns.now watcher.old watcher.new) }
+    ensures ended { IfErr result (SeesBeginning W.sees (cell_scales cell) (cell_gauges cell) opening turns.now watcher.old watcher.new) }
 {
     let mut simulation = Simulation::new(alloc, cell, opening);
     if let Err(fault) = simulation.show(None, None, watcher) {
@@ -104,8 +105,9 @@ struct Simulation<F1: Gauge, F2: Gauge, F3: Gauge, F4: Gauge, F5: Gauge> {
 impl<F1: Gauge, F2: Gauge, F3: Gauge, F4: Gauge, F5: Gauge> Model
     for Simulation<F1, F2, F3, F4, F5> {
     ghost use Rattle.cell_plant.specs.Moments.{RunMoment};
+    ghost use Rattle.cell_plant.specs.Cells.{FiveGauges};
 
-    ghost Value = { RunMoment };
+    ghost Value = { RunMoment (FiveGauges F1 F2 F3 F4 F5) };
 
     ghost use Rattle.cell_plant.specs.Simulations.{moment_of, AreReady};
 
@@ -118,7 +120,7 @@ impl<F1: Gauge, F2: Gauge, F3: Gauge, F4: Gauge, F5: Gauge> Simulation<F1, F2, F
     // A simulation before its first turn. It allocates nothing.
     fn new(alloc: Global, cell: Cell<F1, F2, F3, F4, F5>, opening: State) -> Self
         requires made { IsMadeFor opening cell }
-        ensures { result ≡ first_moment (cell_scales cell) opening }
+        ensures { result ≡ first_moment (cell_scales cell) (five_gauges cell) opening }
     {
         Simulation {
             cell,
@@ -132,7 +134,8 @@ impl<F1: Gauge, F2: Gauge, F3: Gauge, F4: Gauge, F5: Gauge> Simulation<F1, F2, F
     #[inline(always)]
     fn turn(&mut self, turn: Turn) -> Result<TurnCall, SimFault>
         requires room { (m : Machine) → HasRoom (notes_in self.old.notes m).counts }
-        ensures { IfOk result (StepsOn turn self.old self.new) }
+        ensures { IfOk result (StepsOn (given_by (record { arm1 = F1.gives; arm2 = F2.gives; rotation = F3.gives; turn = F4.gives; gripper = F5.gives }))
+            turn self.old self.new) }
     {
         let bench = &mut self.bench;
         let notes = &mut self.notebooks;

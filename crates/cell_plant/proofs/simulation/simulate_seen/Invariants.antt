@@ -1,11 +1,13 @@
 use Rattle.std.proofs.Common.{◌≡◌, take, Ok}
-use Rattle.cell_plant.specs.Cells.{cell_scales}
+use Rattle.cell_plant.specs.Cells.{cell_scales, five_gauges}
+use Rattle.cell_plant.specs.Simulations.{given_by}
 use Rattle.cell_plant.proofs.Watched.{Watched}
 use Rattle.cell_plant.proofs.simulation.simulate_seen.Given as goal
 
 abbrev pub invariant-turns : goal.invariant-turns
 invariant-turns g l = record {
   scales : l.simulation.scales ≡ cell_scales l.fn.cell;
+  gauges : l.simulation.gauges ≡ five_gauges l.fn.cell;
   opening : l.simulation.opening ≡ l.opening;
-  watched : Watched (g.W.Watcher.sees) l.fn.watcher l.watcher (take l.turn-index l.turns) (Ok tt) l.simulation;
+  watched : Watched g.W.Watcher.sees (given_by (record { arm1 = g.F1.Gauge.gives; arm2 = g.F2.Gauge.gives; rotation = g.F3.Gauge.gives; turn = g.F4.Gauge.gives; gripper = g.F5.Gauge.gives })) l.fn.watcher l.watcher (take l.turn-index l.turns) (Ok tt) l.simulation;
 }

@@ -7,33 +7,33 @@ use Rattle.cell_haul.specs.FeedProgram.{feed_steps}
 use Rattle.cell_robot.specs.RobotProgram.{gauges_of, robot_steps}
 use Rattle.cell_stations.specs.PressProgram.{press_steps}
 use Rattle.cell_stations.specs.TableProgram.{table_steps}
-use Rattle.cell_parts.specs.Rigs.{table_rig, robot_rig, crane_rig}
-use Rattle.cell_plant.specs.Cells.{cell_scales, points_of}
+use Rattle.cell_plant.specs.Cells.{cell_scales, five_gauges, points_of}
 use Rattle.cell_plant.specs.Moments.{RunMoment, notes_in}
+use Rattle.cell_plant.specs.Simulations.{given_by}
 use Rattle.cell_plant.specs.Watch.{watch_steps}
-use Rattle.cell_plant.proofs.Stepping.{table_near, robot_near, crane_near, feed_on, table_on, robot_on, press_on, deposit_on, crane_on, watch_on, on_ok, grows, stays_ready, with_turn, with_robot, with_gripper, turn_is, by_turn}
+use Rattle.cell_plant.proofs.Stepping.{feed_on, table_on, robot_on, press_on, deposit_on, crane_on, watch_on, on_ok, grows, stays_ready, with_turn, with_robot, with_gripper, turn_is, by_turn}
 use Rattle.cell_plant.proofs.simulation.Simulation.turn.Goals as goal
 
 pub take_bench_turn-requires-clause-room : goal.take_bench_turn-requires-clause-room
-take_bench_turn-requires-clause-room g c = subst (λ (m : RunMoment). HasRoom (notes_in m.notes Feed).counts) (sym c.self.view_is) (c.requires.room Feed)
+take_bench_turn-requires-clause-room g c = subst (λ (m : RunMoment _). HasRoom (notes_in m.notes Feed).counts) (sym c.self.view_is) (c.requires.room Feed)
 
 pub take_bench_turn-requires-in-Table-clause-room : goal.take_bench_turn-requires-in-Table-clause-room
-take_bench_turn-requires-in-Table-clause-room g c = subst (λ (m : RunMoment). HasRoom (notes_in m.notes Table).counts) (sym c.self.view_is) (c.requires.room Table)
+take_bench_turn-requires-in-Table-clause-room g c = subst (λ (m : RunMoment _). HasRoom (notes_in m.notes Table).counts) (sym c.self.view_is) (c.requires.room Table)
 
 pub take_bench_turn-requires-in-Robot-clause-room : goal.take_bench_turn-requires-in-Robot-clause-room
-take_bench_turn-requires-in-Robot-clause-room g c = subst (λ (m : RunMoment). HasRoom (notes_in m.notes Robot).counts) (sym c.self.view_is) (c.requires.room Robot)
+take_bench_turn-requires-in-Robot-clause-room g c = subst (λ (m : RunMoment _). HasRoom (notes_in m.notes Robot).counts) (sym c.self.view_is) (c.requires.room Robot)
 
 pub take_bench_turn-requires-in-Press-clause-room : goal.take_bench_turn-requires-in-Press-clause-room
-take_bench_turn-requires-in-Press-clause-room g c = subst (λ (m : RunMoment). HasRoom (notes_in m.notes Press).counts) (sym c.self.view_is) (c.requires.room Press)
+take_bench_turn-requires-in-Press-clause-room g c = subst (λ (m : RunMoment _). HasRoom (notes_in m.notes Press).counts) (sym c.self.view_is) (c.requires.room Press)
 
 pub take_bench_turn-requires-in-Deposit-clause-room : goal.take_bench_turn-requires-in-Deposit-clause-room
-take_bench_turn-requires-in-Deposit-clause-room g c = subst (λ (m : RunMoment). HasRoom (notes_in m.notes Deposit).counts) (sym c.self.view_is) (c.requires.room Deposit)
+take_bench_turn-requires-in-Deposit-clause-room g c = subst (λ (m : RunMoment _). HasRoom (notes_in m.notes Deposit).counts) (sym c.self.view_is) (c.requires.room Deposit)
 
 pub take_bench_turn-requires-in-Crane-clause-room : goal.take_bench_turn-requires-in-Crane-clause-room
-take_bench_turn-requires-in-Crane-clause-room g c = subst (λ (m : RunMoment). HasRoom (notes_in m.notes Crane).counts) (sym c.self.view_is) (c.requires.room Crane)
+take_bench_turn-requires-in-Crane-clause-room g c = subst (λ (m : RunMoment _). HasRoom (notes_in m.notes Crane).counts) (sym c.self.view_is) (c.requires.room Crane)
 
 pub take_bench_turn-requires-in-Watch-clause-room : goal.take_bench_turn-requires-in-Watch-clause-room
-take_bench_turn-requires-in-Watch-clause-room g c = subst (λ (m : RunMoment). HasRoom (notes_in m.notes Watch).counts) (sym c.self.view_is) (c.requires.room Watch)
+take_bench_turn-requires-in-Watch-clause-room g c = subst (λ (m : RunMoment _). HasRoom (notes_in m.notes Watch).counts) (sym c.self.view_is) (c.requires.room Watch)
 
 pub invariant_of-self : goal.invariant_of-self
 invariant_of-self g c =
@@ -185,63 +185,69 @@ invariant_of-self-in-Watch g c =
 
 pub returns-in-Feed : goal.returns-in-Feed
 returns-in-Feed g c =
+    let gives = given_by (record { arm1 = g.F1.Gauge.gives; arm2 = g.F2.Gauge.gives; rotation = g.F3.Gauge.gives; turn = g.F4.Gauge.gives; gripper = g.F5.Gauge.gives }) in
     let done = c.take_bench_turn.ensures in
     rw (sym c.self.view_is)
     (on_ok c.take_bench_turn.result _ _ done.turn (λ asked turned.
-    by_turn _ c.args.turn _ _ asked (turn_is c.args.turn Feed c.in-Feed.is)
-    (feed_on _ _ c.args.turn.busy asked refl turned.opening turned.leads turned.history turned.noted refl refl)))
+    by_turn gives _ c.args.turn _ _ asked (turn_is c.args.turn Feed c.in-Feed.is)
+    (feed_on gives _ _ c.args.turn.busy asked refl refl turned.opening turned.leads turned.history turned.noted refl refl)))
 
 pub returns-in-Table : goal.returns-in-Table
 returns-in-Table g c =
+    let gives = given_by (record { arm1 = g.F1.Gauge.gives; arm2 = g.F2.Gauge.gives; rotation = g.F3.Gauge.gives; turn = g.F4.Gauge.gives; gripper = g.F5.Gauge.gives }) in
     let done = c.take_bench_turn-in-Table.ensures in
+    let cell = c.self.inside.cell in
+    let fitted = c.self.invariant.fitted in
     rw (sym c.self.view_is)
     (on_ok c.take_bench_turn-in-Table.result _ _ done.turn (λ asked turned.
-    let turn = c.self.inside.cell.table.controller.program.turn in
-    let near = table_near turn.points (g.F4.Gauge.gives turn.gauge) (table_rig c.self.inside.cell.table.part.scale) _ _ _ _ _ _ _ _ turned in
-    by_turn _ c.args.turn _ _ asked (turn_is c.args.turn Table c.in-Table.is)
-    (table_on _ _ c.args.turn.busy asked (ap (with_turn (cell_scales c.self.inside.cell)) done.make) near.opening turn.points near.leads c.self.invariant.fitted.turn near.history near.noted refl refl)))
+    by_turn gives _ c.args.turn _ _ asked (turn_is c.args.turn Table c.in-Table.is)
+    (table_on gives _ _ c.args.turn.busy asked (ap (with_turn (cell_scales cell)) done.make) (ap (λ p. record (five_gauges cell) { turn = p.turn.gauge }) done.program) turned.opening cell.table.controller.program.turn.points turned.leads fitted.turn turned.history turned.noted refl refl)))
 
 pub returns-in-Robot : goal.returns-in-Robot
 returns-in-Robot g c =
+    let gives = given_by (record { arm1 = g.F1.Gauge.gives; arm2 = g.F2.Gauge.gives; rotation = g.F3.Gauge.gives; turn = g.F4.Gauge.gives; gripper = g.F5.Gauge.gives }) in
     let done = c.take_bench_turn-in-Robot.ensures in
+    let cell = c.self.inside.cell in
+    let fitted = c.self.invariant.fitted in
     rw (sym c.self.view_is)
     (on_ok c.take_bench_turn-in-Robot.result _ _ done.turn (λ asked turned.
-    let robot = c.self.inside.cell.robot.controller.program in
-    let fitted = c.self.invariant.fitted in
-    let near = robot_near (points_of robot) (gauges_of (g.F1.Gauge.gives robot.arm1.gauge) (g.F2.Gauge.gives robot.arm2.gauge) (g.F3.Gauge.gives robot.rotation.gauge)) (robot_rig c.self.inside.cell.robot.part.scale) _ _ _ _ _ _ _ _ turned in
-    by_turn _ c.args.turn _ _ asked (turn_is c.args.turn Robot c.in-Robot.is)
-    (robot_on _ _ c.args.turn.busy asked (ap (with_robot (cell_scales c.self.inside.cell)) done.make) near.opening (points_of robot) near.leads fitted.arm1 fitted.arm2 fitted.rotation near.history near.noted refl refl)))
+    by_turn gives _ c.args.turn _ _ asked (turn_is c.args.turn Robot c.in-Robot.is)
+    (robot_on gives _ _ c.args.turn.busy asked (ap (with_robot (cell_scales cell)) done.make) (ap (λ p. record (five_gauges cell) { arm1 = p.arm1.gauge; arm2 = p.arm2.gauge; rotation = p.rotation.gauge }) done.program) turned.opening (points_of cell.robot.controller.program) turned.leads fitted.arm1 fitted.arm2 fitted.rotation turned.history turned.noted refl refl)))
 
 pub returns-in-Press : goal.returns-in-Press
 returns-in-Press g c =
+    let gives = given_by (record { arm1 = g.F1.Gauge.gives; arm2 = g.F2.Gauge.gives; rotation = g.F3.Gauge.gives; turn = g.F4.Gauge.gives; gripper = g.F5.Gauge.gives }) in
     let done = c.take_bench_turn-in-Press.ensures in
     rw (sym c.self.view_is)
     (on_ok c.take_bench_turn-in-Press.result _ _ done.turn (λ asked turned.
-    by_turn _ c.args.turn _ _ asked (turn_is c.args.turn Press c.in-Press.is)
-    (press_on _ _ c.args.turn.busy asked refl turned.opening turned.leads turned.history turned.noted refl refl)))
+    by_turn gives _ c.args.turn _ _ asked (turn_is c.args.turn Press c.in-Press.is)
+    (press_on gives _ _ c.args.turn.busy asked refl refl turned.opening turned.leads turned.history turned.noted refl refl)))
 
 pub returns-in-Deposit : goal.returns-in-Deposit
 returns-in-Deposit g c =
+    let gives = given_by (record { arm1 = g.F1.Gauge.gives; arm2 = g.F2.Gauge.gives; rotation = g.F3.Gauge.gives; turn = g.F4.Gauge.gives; gripper = g.F5.Gauge.gives }) in
     let done = c.take_bench_turn-in-Deposit.ensures in
     rw (sym c.self.view_is)
     (on_ok c.take_bench_turn-in-Deposit.result _ _ done.turn (λ asked turned.
-    by_turn _ c.args.turn _ _ asked (turn_is c.args.turn Deposit c.in-Deposit.is)
-    (deposit_on _ _ c.args.turn.busy asked refl turned.opening turned.leads turned.history turned.noted refl refl)))
+    by_turn gives _ c.args.turn _ _ asked (turn_is c.args.turn Deposit c.in-Deposit.is)
+    (deposit_on gives _ _ c.args.turn.busy asked refl refl turned.opening turned.leads turned.history turned.noted refl refl)))
 
 pub returns-in-Crane : goal.returns-in-Crane
 returns-in-Crane g c =
+    let gives = given_by (record { arm1 = g.F1.Gauge.gives; arm2 = g.F2.Gauge.gives; rotation = g.F3.Gauge.gives; turn = g.F4.Gauge.gives; gripper = g.F5.Gauge.gives }) in
     let done = c.take_bench_turn-in-Crane.ensures in
+    let cell = c.self.inside.cell in
+    let fitted = c.self.invariant.fitted in
     rw (sym c.self.view_is)
     (on_ok c.take_bench_turn-in-Crane.result _ _ done.turn (λ asked turned.
-    let gripper = c.self.inside.cell.crane.controller.program.gripper in
-    let near = crane_near gripper.points (g.F5.Gauge.gives gripper.gauge) (crane_rig c.self.inside.cell.crane.part.scale) _ _ _ _ _ _ _ _ turned in
-    by_turn _ c.args.turn _ _ asked (turn_is c.args.turn Crane c.in-Crane.is)
-    (crane_on _ _ c.args.turn.busy asked (ap (with_gripper (cell_scales c.self.inside.cell)) done.make) near.opening gripper.points near.leads c.self.invariant.fitted.gripper near.history near.noted refl refl)))
+    by_turn gives _ c.args.turn _ _ asked (turn_is c.args.turn Crane c.in-Crane.is)
+    (crane_on gives _ _ c.args.turn.busy asked (ap (with_gripper (cell_scales cell)) done.make) (ap (λ p. record (five_gauges cell) { gripper = p.gripper.gauge }) done.program) turned.opening cell.crane.controller.program.gripper.points turned.leads fitted.gripper turned.history turned.noted refl refl)))
 
 pub returns-in-Watch : goal.returns-in-Watch
 returns-in-Watch g c =
+    let gives = given_by (record { arm1 = g.F1.Gauge.gives; arm2 = g.F2.Gauge.gives; rotation = g.F3.Gauge.gives; turn = g.F4.Gauge.gives; gripper = g.F5.Gauge.gives }) in
     let done = c.take_bench_turn-in-Watch.ensures in
     rw (sym c.self.view_is)
     (on_ok c.take_bench_turn-in-Watch.result _ _ done.turn (λ asked turned.
-    by_turn _ c.args.turn _ _ asked (turn_is c.args.turn Watch c.in-Watch.is)
-    (watch_on _ _ c.args.turn.busy asked refl turned.opening turned.leads turned.history turned.noted refl refl)))
+    by_turn gives _ c.args.turn _ _ asked (turn_is c.args.turn Watch c.in-Watch.is)
+    (watch_on gives _ _ c.args.turn.busy asked refl refl turned.opening turned.leads turned.history turned.noted refl refl)))
