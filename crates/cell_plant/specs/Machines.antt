@@ -1,5 +1,5 @@
 -- The machines of the cell, looked up by name: what each consists of. The watch has nothing to move.
-use Rattle.std.specs.Prelude.{ℕ, ℤ}
+use Rattle.std.specs.Prelude.{ℕ, ℤ, List, [], slice_index_or}
 use Rattle.cell_types.specs.declared.machine.Machine.{Machine}
 use Rattle.cell_types.specs.declared.machine.Machine.TheVariants.{Feed, Table, Robot, Press, Deposit, Crane, Watch}
 use Rattle.cell_calib.specs.declared.sense.CraneSense.{CraneSense}
@@ -15,6 +15,7 @@ use Rattle.cell_devices.specs.declared.act.PressAct.{PressAct}
 use Rattle.cell_devices.specs.declared.act.RobotAct.{RobotAct}
 use Rattle.cell_devices.specs.declared.act.TableAct.{TableAct}
 use Rattle.cell_calib.specs.Line.{IsReading}
+use Rattle.cell_calib.specs.Curve.{Pair, IsOnCurve}
 use Rattle.cell_control.specs.Rigs.{Rig}
 use Rattle.cell_control.specs.Steps.{Steps}
 use Rattle.cell_haul.specs.declared.crane.CraneProgress.{CraneProgress}
@@ -118,6 +119,20 @@ any_near c =
       rotation = IsReading c.rotation;
       turn = IsReading c.turn;
       gripper = IsReading c.gripper;
+    }
+
+-- gauges on curves, which are those of arm1, arm2, rotation, turn and gripper
+abbrev pub on_curve : List (List Pair) → ℕ → ℕ → ℤ → Type 0
+on_curve curves i raw v = IsOnCurve (slice_index_or curves i []) raw v
+
+abbrev pub on_curves : List (List Pair) → CellGauges
+on_curves curves =
+    record {
+      arm1 = on_curve curves 0;
+      arm2 = on_curve curves 1;
+      rotation = on_curve curves 2;
+      turn = on_curve curves 3;
+      gripper = on_curve curves 4;
     }
 
 -- its program, by the scales of the cell and what its gauges may give
