@@ -111,6 +111,7 @@ run_near c gives = run_as c gives (any_near c) (record { arm1 = λ raw v near gi
 -- likewise for what a watcher sees
 module _ {W E : Type 0} (sees : W → Frame → Result (Unit {0}) E → W → Type 0) (c : CellScales) (gives other : CellGauges) (f : GiveAsMuch c gives other) (opening : ModelState) (turns : List Turn) (w v : W) where
   pub sees_as : (r : RunRecord) → SeesRun sees c gives opening turns w v r → SeesRun sees c other opening turns w v r
+  unfolding tells_as
   sees_as r k = record { tells = tells_as c gives other f opening turns r k.tells; seen = k.seen }
 
   pub beginning_as : (fault : SeenFault E) → SeesBeginning sees c gives opening turns w v fault → SeesBeginning sees c other opening turns w v fault
