@@ -30,6 +30,7 @@ use Rattle.cell_plant.specs.Cells.{TellsRun}
 use Rattle.cell_plant.specs.Machines.{CellGauges, any_near, robot_axes, robot_gauges, robot_points, steps_by, rig_of}
 use Rattle.cell_plant.specs.CellStates.{SideOf, CellState, cell_at_start}
 use Rattle.cell_plant.specs.Frames.{SeesRun, SeesBeginning}
+use Rattle.cell_plant.specs.GaugeLaws.{RunsAreByGauges}
 use Rattle.cell_plant.specs.Runs.{Step, TakesTurnBy, LeadsIfBy, goes_on, IsRun, IsRunBy}
 
 -- near a line, what one gauge gives another gives
@@ -117,3 +118,11 @@ module _ {W E : Type 0} (sees : W → Frame → Result (Unit {0}) E → W → Ty
   pub beginning_as : (fault : SeenFault E) → SeesBeginning sees c gives opening turns w v fault → SeesBeginning sees c other opening turns w v fault
   beginning_as fault k =
       record { taken = k.taken; rest = k.rest; begins = k.begins; cut = k.cut; steps = k.steps; run = run_as c gives other f (cell_at_start opening) k.taken k.steps k.run; seen = k.seen }
+
+pub by_gauges : (c : CellScales) (gives : CellGauges) → RunsAreByGauges c gives
+by_gauges c gives =
+    record {
+      reads = record { turn = λ s r k. k.given; gripper = λ s r k. k.given; arm1 = λ s r k. k.arm1.1.1; arm2 = λ s r k. k.arm2.1.1; rotation = λ s r k. k.rotation.1.1 };
+      curves = λ arm1 arm2 rotation turn gripper raw v. record { first = (λ k. k, λ k. k); second = (λ k. k, λ k. k); third = (λ k. k, λ k. k); fourth = (λ k. k, λ k. k); fifth = (λ k. k, λ k. k) };
+      near = run_near c gives;
+    }

@@ -22,6 +22,11 @@ mod Deciding
 mod SafetyDecided
 mod SafetyRows
 pub mod Resting
+pub mod OneTurn
+pub mod OneSense
+pub mod OneRun
+pub mod FineRuns
+pub mod OneRecord
 mod RunRows
 mod RecordRows
 mod WatchRows

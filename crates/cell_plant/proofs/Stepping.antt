@@ -31,7 +31,7 @@ use Rattle.cell_plant.specs.Runs.{Step, LeadsIfBy}
 use Rattle.cell_plant.specs.Moments.{RunMoment, AllNotes, StepsOn, state_at, notes_in, first_notes, first_moment}
 
 -- two states are the same if they have the same interlock and the same side of each machine
-same_state : (w v : CellState) → w.interlock ≡ v.interlock → ((n : Machine) → w.side n ≡ v.side n) → w ≡ v
+pub same_state : (w v : CellState) → w.interlock ≡ v.interlock → ((n : Machine) → w.side n ≡ v.side n) → w ≡ v
 same_state w v e k = λ i. record { interlock = e i; side = λ n. k n i }
 
 -- the sides, with one machine's replaced

@@ -2,6 +2,7 @@ pub mod Watch
 pub mod Machines
 pub mod CellStates
 pub mod Runs
+pub mod GaugeLaws
 pub mod Resting
 pub mod Records
 pub mod Errands

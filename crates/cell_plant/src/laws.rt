@@ -2,8 +2,10 @@
 //! its contract is the law.
 ghost use Rattle.cell_notes.specs.declared.run_record.RunRecord.{RunRecord};
 ghost use Rattle.cell_parts.specs.Axes.{CellScales};
+ghost use Rattle.cell_plant.specs.Cells.{cell_gauges, cell_scales};
 ghost use Rattle.cell_plant.specs.FrameExamples.{FrameExamples};
 ghost use Rattle.cell_plant.specs.Frames.{FilmsAreSafe};
+ghost use Rattle.cell_plant.specs.GaugeLaws.{RunsAreByGauges, RunsAreOne};
 ghost use Rattle.cell_plant.specs.RecordExamples.{RecordExamples};
 ghost use Rattle.cell_plant.specs.Resting.{StoppedMachinesRest};
 ghost use Rattle.cell_plant.specs.RunExamples.{RunExamples};
@@ -12,12 +14,32 @@ ghost use Rattle.cell_plant.specs.SafetyExamples.{SafetyExamples};
 ghost use Rattle.cell_plant.specs.WatchExamples.{WatchRowsAreMet};
 ghost use Rattle.cell_plant.specs.WatchLaws.{WatchNotesTheMark};
 
+use crate::cell::Cell;
+use cell_calib::Gauge;
+
 /// Nothing collides in any run of any schedule, neither once motors are set nor once a part has
 /// moved. Each axis stays within its ends, and the interlock meets what positions and motors
 /// demand, also for motors that an earlier turn left on. A run may have busy turns and failed
 /// allocations anywhere, and any reading that a calibration may give.
 pub fn every_run_is_safe()
     ensures { EveryRunIsSafe }
+{}
+
+/// A run by what the calibrations' closures give is one by readings near the lines, so it is safe.
+/// Each machine reads by its own closures. Closures over five curves are in the order of the curves.
+pub fn runs_are_by_gauges<F1: Gauge, F2: Gauge, F3: Gauge, F4: Gauge, F5: Gauge>(
+    _cell: &Cell<F1, F2, F3, F4, F5>,
+)
+    ensures { RunsAreByGauges (cell_scales _cell.now) (cell_gauges _cell.now) }
+{}
+
+/// By closures that give one position at a raw value, a schedule has one run from a state: two runs
+/// have the same steps, if none of their calls is out of memory. None is, if no machine is stopped at
+/// the end. Then their records say the same.
+pub fn runs_are_one<F1: Gauge, F2: Gauge, F3: Gauge, F4: Gauge, F5: Gauge>(
+    _cell: &Cell<F1, F2, F3, F4, F5>,
+)
+    ensures { RunsAreOne (cell_scales _cell.now) (cell_gauges _cell.now) }
 {}
 
 /// No frame of a run shows a collision, whatever the schedule, the start and the calibrations. In
