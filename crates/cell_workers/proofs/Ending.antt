@@ -22,7 +22,7 @@ use Rattle.cell_rules.proofs.Lasting.{own_head}
 use Rattle.cell_notes.specs.declared.run_record.RunRecord.{RunRecord}
 use Rattle.cell_parts.specs.Axes.{CellScales}
 use Rattle.cell_workers.specs.Workers.{GateOf}
-use Rattle.cell_workers.specs.Records.{TellsWork}
+use Rattle.cell_workers.specs.Records.{TellsAnyWork}
 use Rattle.cell_workers.specs.Laws.{EndsAreReached, by_rule, press_released}
 
 same_itself : (m : Machine) → same_machine m m ≡ true
@@ -46,7 +46,7 @@ no_events [] k = refl
 no_events (e ∷ h) k = absurd (is_own e h (k e.machine))
 
 -- without notes there is no history, and the end is the opening
-pub ended_at_opening : (c : CellScales) (opening : ModelState) (tries limit : ℕ) (gate : Machine → GateOf) (r : RunRecord) → TellsWork c opening tries limit gate r → ((m : Machine) → journal_of r.journals m ≡ []) → r.end ≡ Some opening
+pub ended_at_opening : (c : CellScales) (opening : ModelState) (tries limit : ℕ) (gate : Machine → GateOf) (r : RunRecord) → TellsAnyWork c opening tries limit gate r → ((m : Machine) → journal_of r.journals m ≡ []) → r.end ≡ Some opening
 ended_at_opening c opening tries limit gate r k none =
     let nothing = no_events k.history (λ m. k.audited.own m ∙ ap (map (event_by m)) (none m)) in
     k.end ∙ ap (λ h. Some (after opening h)) nothing

@@ -6,10 +6,9 @@ use Rattle.cell_types.specs.declared.answer.Event.{Event}
 use Rattle.cell_types.specs.declared.journal.Entry.{Entry}
 use Rattle.cell_types.specs.Journals.{journal_of}
 use Rattle.cell_calib.specs.declared.sense.SensorFault.{SensorFault}
-use Rattle.cell_calib.specs.Scale.{Scale}
-use Rattle.cell_calib.specs.Line.{IsReading}
 use Rattle.cell_rules.specs.Journal.{noted}
 use Rattle.cell_rules.specs.Seen.{Waits}
+use Rattle.cell_rules.specs.ModelState.{ModelState}
 use Rattle.cell_rules.specs.History.{after}
 use Rattle.cell_rules.specs.Audited.{IsAudited}
 use Rattle.cell_rules.specs.Laws.{LawfulThroughout}
@@ -18,21 +17,9 @@ use Rattle.cell_interlock.specs.Fresh.{fresh_pass}
 use Rattle.cell_control.specs.declared.fault.CtlFault.{CtlFault}
 use Rattle.cell_control.specs.Rigs.{Rig}
 use Rattle.cell_control.specs.Steps.{Steps, IsReached, with_senses}
-use Rattle.cell_calib.specs.declared.sense.CraneSense.{CraneSense}
-use Rattle.cell_calib.specs.declared.sense.RobotSense.{RobotSense}
-use Rattle.cell_calib.specs.declared.sense.TableSense.{TableSense}
-use Rattle.cell_devices.specs.declared.act.CraneAct.{CraneAct}
-use Rattle.cell_devices.specs.declared.act.RobotAct.{RobotAct}
-use Rattle.cell_devices.specs.declared.act.TableAct.{TableAct}
 use Rattle.cell_haul.specs.CraneProgram.{Senses as CraneSenses, crane_steps}
-use Rattle.cell_haul.proofs.CraneSenses.{senses_near as crane_senses_near}
-use Rattle.cell_robot.specs.RobotProgram.{RobotScales, RobotGauges, near_lines, Senses as RobotSenses, robot_steps}
-use Rattle.cell_robot.proofs.RobotSenses.{senses_near as robot_senses_near}
+use Rattle.cell_robot.specs.RobotProgram.{Senses as RobotSenses, robot_steps}
 use Rattle.cell_stations.specs.TableProgram.{Senses as TableSenses, table_steps}
-use Rattle.cell_stations.proofs.TableSenses.{senses_near as table_senses_near}
-use Rattle.cell_parts.specs.declared.plant.TablePlant.{TablePlant}
-use Rattle.cell_parts.specs.declared.plant.RobotPlant.{RobotPlant}
-use Rattle.cell_parts.specs.declared.plant.CranePlant.{CranePlant}
 use Rattle.cell_notes.specs.declared.counts.Counts.{Counts}
 use Rattle.cell_notes.specs.declared.run_record.RunRecord.{RunRecord}
 use Rattle.cell_notes.specs.declared.status.Status.{Status}
@@ -41,13 +28,15 @@ use Rattle.cell_notes.specs.Notes.{no_counts}
 use Rattle.cell_unit.specs.Sides.{IsReady}
 use Rattle.cell_unit.proofs.Turning.{acts_still}
 use Rattle.cell_parts.specs.Axes.{CellScales}
-use Rattle.cell_plant.specs.Machines.{PartOf, steps_of, rig_of}
+use Rattle.cell_parts.specs.Rigs.{table_rig, robot_rig, crane_rig}
+use Rattle.cell_plant.specs.Machines.{CellGauges, PartOf, any_near, robot_axes, robot_gauges, robot_points, steps_by, rig_of}
 use Rattle.cell_plant.specs.CellStates.{SideOf, side_in, sides_at_start}
 use Rattle.cell_plant.specs.Records.{positions_in}
+use Rattle.cell_plant.proofs.Gauged.{GiveAsMuch, table_as, robot_as, crane_as}
 use Rattle.cell_workers.specs.Lines.{Lines, passes}
 use Rattle.cell_workers.specs.Workers.{WorkerMoment, worker_moment, GateOf, TakesTurn, TakesTurns, HasEnded, IsWorkerResult, AreCountsOf}
 use Rattle.cell_workers.specs.Results.{CellResults, IsResultOf, AreWorkerResults, journal_in, outcomes_in, parts_in, seen_in}
-use Rattle.cell_workers.specs.Records.{MomentOf, first_moment, TellsWork, has_worker}
+use Rattle.cell_workers.specs.Records.{MomentOf, first_moment, TellsAnyWork, TellsWork, has_worker}
 
 -- if less is known of the sensors, a worker has still worked
 module _ {L S Sense Reading Act State : Type 0} (lines : Lines L) (t : Steps S Sense Reading Act) (rig : Rig State Sense Act) (gate : GateOf) (senses : Sense → Result Reading SensorFault → Type 0) (f : (s : Sense) (r : Result Reading SensorFault) → t.senses s r → senses s r) where
@@ -66,40 +55,58 @@ module _ {L S Sense Reading Act State : Type 0} (lines : Lines L) (t : Steps S S
   turns_still before [] k = tt
   turns_still before (now ∷ later) k = (turn_still before now k.0, turns_still now later k.1)
 
-pub result_still : {S Sense Reading Act State : Type 0} → (tries : ℕ) (t : Steps S Sense Reading Act) (rig : Rig State Sense Act) (gate : GateOf) (senses : Sense → Result Reading SensorFault → Type 0) (f : (s : Sense) (r : Result Reading SensorFault) → t.senses s r → senses s r)
-    (limit : ℕ) (first : WorkerMoment PassView S State) (kept : PassView) (journal : List Entry) (did : Counts) (status : Status) (stands : State)
-    → IsWorkerResult tries t rig gate limit first kept journal did status stands → IsWorkerResult tries (with_senses t senses) rig gate limit first kept journal did status stands
-result_still tries t rig gate senses f limit first kept journal did status stands k =
-    record {
-      last = k.last;
-      worked = record { come = record { turns = k.worked.come.turns; taken = turns_still (passes tries) t rig gate senses f first k.worked.come.turns k.worked.come.taken; last = k.worked.come.last }; ends = k.worked.ends };
-      pass = k.pass;
-      counts = k.counts;
-      part = k.part;
-      same = k.same;
-      journal_is = k.journal_is;
-      counted = k.counted;
-    }
+-- workers by what gauges may give are workers by what others may give that give as much
+module _ (c : CellScales) (gives other : CellGauges) (f : GiveAsMuch c gives other) where
+  taken_as : (tries : ℕ) (gate : GateOf) (m : Machine) (before : MomentOf m) (turns : List (MomentOf m))
+      → TakesTurns (passes tries) (steps_by c gives m) (rig_of c m) gate before turns → TakesTurns (passes tries) (steps_by c other m) (rig_of c m) gate before turns
+  taken_as tries gate Feed before turns k = k
+  taken_as tries gate Table before turns k =
+      turns_still (passes tries) (table_steps c.turn gives.turn) (table_rig c.turn) gate (TableSenses c.turn other.turn) (table_as c.turn gives.turn other.turn f.turn) before turns k
+  taken_as tries gate Robot before turns k =
+      turns_still (passes tries) (robot_steps (robot_points c) (robot_gauges gives)) (robot_rig (robot_axes c)) gate (RobotSenses (robot_points c) (robot_gauges other))
+      (robot_as (robot_points c) (robot_gauges gives) (robot_gauges other) f.arm1 f.arm2 f.rotation) before turns k
+  taken_as tries gate Press before turns k = k
+  taken_as tries gate Deposit before turns k = k
+  taken_as tries gate Crane before turns k =
+      turns_still (passes tries) (crane_steps c.gripper gives.gripper) (crane_rig c.gripper) gate (CraneSenses c.gripper other.gripper) (crane_as c.gripper gives.gripper other.gripper f.gripper) before turns k
+  taken_as tries gate Watch before turns k = k
 
--- the table, the robot and the crane read by their scales: a reading is any that a calibration over its scale may give
-module _ (tries : ℕ) (gate : GateOf) (limit : ℕ) (kept : PassView) (journal : List Entry) (did : Counts) (status : Status) where
-  pub table_near : (points scale : Scale) (gives : ℕ → ℤ → Type 0) (rig : Rig TablePlant TableSense TableAct) (first : MomentOf Table) (stands : TablePlant) → scale ≡ points
-      → IsWorkerResult tries (table_steps points gives) rig gate limit first kept journal did status stands → IsWorkerResult tries (table_steps scale (IsReading scale)) rig gate limit first kept journal did status stands
-  table_near points scale gives rig first stands e k =
-      subst (λ s. IsWorkerResult tries (table_steps s (IsReading s)) rig gate limit first kept journal did status stands) (sym e)
-      (result_still tries (table_steps points gives) rig gate (TableSenses points (IsReading points)) (table_senses_near points gives) limit first kept journal did status stands k)
+  ended_as : (tries : ℕ) (gate : GateOf) (limit : ℕ) (m : Machine) (first last : MomentOf m) (status : Status)
+      → HasEnded (passes tries) (steps_by c gives m) (rig_of c m) gate limit first last status → HasEnded (passes tries) (steps_by c other m) (rig_of c m) gate limit first last status
+  ended_as tries gate limit m first last status k =
+      record { come = record { turns = k.come.turns; taken = taken_as tries gate m first k.come.turns k.come.taken; last = k.come.last }; ends = k.ends }
 
-  pub robot_near : (points scales : RobotScales) (gives : RobotGauges) (rig : Rig RobotPlant RobotSense RobotAct) (first : MomentOf Robot) (stands : RobotPlant) → scales ≡ points
-      → IsWorkerResult tries (robot_steps points gives) rig gate limit first kept journal did status stands → IsWorkerResult tries (robot_steps scales (near_lines scales)) rig gate limit first kept journal did status stands
-  robot_near points scales gives rig first stands e k =
-      subst (λ s. IsWorkerResult tries (robot_steps s (near_lines s)) rig gate limit first kept journal did status stands) (sym e)
-      (result_still tries (robot_steps points gives) rig gate (RobotSenses points (near_lines points)) (robot_senses_near points gives) limit first kept journal did status stands k)
+  pub work_as : (opening : ModelState) (tries limit : ℕ) (gate : Machine → GateOf) (r : RunRecord) → TellsWork c gives opening tries limit gate r → TellsWork c other opening tries limit gate r
+  work_as opening tries limit gate r k =
+      record {
+        interlock = k.interlock;
+        opened = k.opened;
+        last = k.last;
+        statuses = k.statuses;
+        works = λ m e. ended_as tries (gate m) limit m (first_moment k.interlock m) (k.last m) (k.statuses m) (k.works m e);
+        watch_rests = k.watch_rests;
+        history = k.history;
+        lawful = k.lawful;
+        seen = k.seen;
+        start = k.start;
+        counts = k.counts;
+        status = k.status;
+        journals = k.journals;
+        counted = k.counted;
+        audited = k.audited;
+        end = k.end;
+        axes = k.axes;
+      }
 
-  pub crane_near : (points scale : Scale) (gives : ℕ → ℤ → Type 0) (rig : Rig CranePlant CraneSense CraneAct) (first : MomentOf Crane) (stands : CranePlant) → scale ≡ points
-      → IsWorkerResult tries (crane_steps points gives) rig gate limit first kept journal did status stands → IsWorkerResult tries (crane_steps scale (IsReading scale)) rig gate limit first kept journal did status stands
-  crane_near points scale gives rig first stands e k =
-      subst (λ s. IsWorkerResult tries (crane_steps s (IsReading s)) rig gate limit first kept journal did status stands) (sym e)
-      (result_still tries (crane_steps points gives) rig gate (CraneSenses points (IsReading points)) (crane_senses_near points gives) limit first kept journal did status stands k)
+-- so they are workers by readings near the lines
+pub work_near : (c : CellScales) (gives : CellGauges) (opening : ModelState) (tries limit : ℕ) (gate : Machine → GateOf) (r : RunRecord) → TellsWork c gives opening tries limit gate r → TellsAnyWork c opening tries limit gate r
+work_near c gives = work_as c gives (any_near c) (record { arm1 = λ raw v near given. near; arm2 = λ raw v near given. near; rotation = λ raw v near given. near; turn = λ raw v near given. near; gripper = λ raw v near given. near })
+
+-- a result by scales that are the same
+pub fitted_result : {T S Sense Reading Act State : Type 0} → (tries : ℕ) (t : T → Steps S Sense Reading Act) (rig : Rig State Sense Act) (gate : GateOf) (limit : ℕ) (first : WorkerMoment PassView S State) (kept : PassView) (journal : List Entry) (did : Counts) (status : Status) (stands : State) (points scale : T)
+    → scale ≡ points → IsWorkerResult tries (t points) rig gate limit first kept journal did status stands → IsWorkerResult tries (t scale) rig gate limit first kept journal did status stands
+fitted_result tries t rig gate limit first kept journal did status stands points scale e k =
+    subst (λ s. IsWorkerResult tries (t s) rig gate limit first kept journal did status stands) (sym e) k
 
 -- a machine at the beginning of its program, with a fresh pass, is ready
 pub ready_at_start : {S Sense Reading Act : Type 0} → (t : Steps S Sense Reading Act) (i : InterlockView) (pass : PassView) (stopped : Option CtlFault) (progress : S) → pass ≡ fresh_pass i t.machine → progress ≡ t.start i.opening
@@ -111,15 +118,15 @@ pub if_some : {A : Type 0} → (P Q : A → Type 0) → ((x : A) → P x → Q x
 if_some P Q f None k = tt
 if_some P Q f (Some x) k = f x k
 
-module _ (c : CellScales) (i : InterlockView) (limit : ℕ) (gate : Machine → GateOf) where
+module _ (c : CellScales) (gives : CellGauges) (i : InterlockView) (limit : ℕ) (gate : Machine → GateOf) where
   -- it began with a fresh pass, at the start of its machine
   pub is_result_of : (m : Machine) (pass : PassView) (side : SideOf m) (kept : PassView) (journal : List Entry) (did : Counts) (status : Status) (stands : PartOf m) → pass ≡ fresh_pass i m → side ≡ side_in (sides_at_start i.opening) m
-      → IsWorkerResult i.tries (steps_of c m) (rig_of c m) (gate pass.machine) limit (worker_moment pass side no_counts) kept journal did status stands → IsResultOf c i limit gate m kept journal did status stands
+      → IsWorkerResult i.tries (steps_by c gives m) (rig_of c m) (gate pass.machine) limit (worker_moment pass side no_counts) kept journal did status stands → IsResultOf c gives i limit gate m kept journal did status stands
   is_result_of m pass side kept journal did status stands e f k =
-      subst (λ s. IsWorkerResult i.tries (steps_of c m) (rig_of c m) (gate m) limit (worker_moment (fresh_pass i m) s no_counts) kept journal did status stands) f
-      (subst (λ p. IsWorkerResult i.tries (steps_of c m) (rig_of c m) (gate p.machine) limit (worker_moment p side no_counts) kept journal did status stands) e k)
+      subst (λ s. IsWorkerResult i.tries (steps_by c gives m) (rig_of c m) (gate m) limit (worker_moment (fresh_pass i m) s no_counts) kept journal did status stands) f
+      (subst (λ p. IsWorkerResult i.tries (steps_by c gives m) (rig_of c m) (gate p.machine) limit (worker_moment p side no_counts) kept journal did status stands) e k)
 
-  module _ (results : CellResults) (back : AreWorkerResults c i limit gate results) (r : RunRecord) where
+  module _ (results : CellResults) (back : AreWorkerResults c gives i limit gate results) (r : RunRecord) where
     abbrev last : (m : Machine) → MomentOf m
     last Feed = back.feed.last
     last Table = back.table.last
@@ -138,7 +145,7 @@ module _ (c : CellScales) (i : InterlockView) (limit : ℕ) (gate : Machine → 
     statuses Crane = results.crane.outcome.status
     statuses Watch = Fine
 
-    works : (m : Machine) → has_worker m ≡ true → HasEnded (passes i.tries) (steps_of c m) (rig_of c m) (gate m) limit (first_moment i m) (last m) (statuses m)
+    works : (m : Machine) → has_worker m ≡ true → HasEnded (passes i.tries) (steps_by c gives m) (rig_of c m) (gate m) limit (first_moment i m) (last m) (statuses m)
     works Feed e = back.feed.worked
     works Table e = back.table.worked
     works Robot e = back.robot.worked
@@ -181,7 +188,7 @@ module _ (c : CellScales) (i : InterlockView) (limit : ℕ) (gate : Machine → 
       pub tells : r.start ≡ i.opening → r.end ≡ Some (after i.opening history)
           → r.counts ≡ results.feed.outcome.counts ∷ results.table.outcome.counts ∷ results.robot.outcome.counts ∷ results.press.outcome.counts ∷ results.deposit.outcome.counts ∷ results.crane.outcome.counts ∷ no_counts ∷ []
           → r.status ≡ results.feed.outcome.status ∷ results.table.outcome.status ∷ results.robot.outcome.status ∷ results.press.outcome.status ∷ results.deposit.outcome.status ∷ results.crane.outcome.status ∷ Fine ∷ []
-          → r.axes ≡ positions_in (parts_in (outcomes_in results)) → TellsWork c i.opening i.tries limit gate r
+          → r.axes ≡ positions_in (parts_in (outcomes_in results)) → TellsWork c gives i.opening i.tries limit gate r
       tells start end counts status axes =
           record {
             interlock = i;

@@ -55,7 +55,7 @@ use Rattle.cell_plant.specs.Records.{positions_in}
 use Rattle.cell_plant.proofs.Resting.{moves_rest}
 use Rattle.cell_workers.specs.Lines.{passes}
 use Rattle.cell_workers.specs.Workers.{GateOf, TakesTurn, HasEnded, Ends, AreCountsOf}
-use Rattle.cell_workers.specs.Records.{MomentOf, first_moment, parts_at_ends, TellsWork, has_worker}
+use Rattle.cell_workers.specs.Records.{MomentOf, first_moment, parts_at_ends, TellsAnyWork, has_worker}
 use Rattle.cell_workers.specs.Laws.{Rule, by_rule, TellsNothingDone, HadTurns, HasAtMost, first_call, TellsFirstTurns, RecordsTellTurns, RecordsKeepTries, WorkersEnd, TurnsAreTaken}
 use Rattle.cell_workers.proofs.Passes.{come_same, come_counts}
 use Rattle.cell_workers.proofs.Ending.{ended_at_opening}
@@ -74,7 +74,7 @@ each_same f g e Watch = ap (λ xs. get_or xs 6 (f Watch)) e
 
 module _ (c : CellScales) (opening : ModelState) (tries limit : ℕ) (lets : Rule) (r : RunRecord) where
   abbrev Works : Type 0
-  Works = TellsWork c opening tries limit (by_rule lets) r
+  Works = TellsAnyWork c opening tries limit (by_rule lets) r
 
   -- ---- if each machine stays at its start
 
@@ -223,7 +223,7 @@ module _ (scale : Scale) where
   noted_by_crane b None = refl
   noted_by_crane b (Some e) = refl
 
-module _ (c : CellScales) (tries : ℕ) (lets : Rule) (r : RunRecord) (k : TellsWork c (start_state empty 0) tries 1 (by_rule lets) r) where
+module _ (c : CellScales) (tries : ℕ) (lets : Rule) (r : RunRecord) (k : TellsAnyWork c (start_state empty 0) tries 1 (by_rule lets) r) where
   abbrev begins : (m : Machine) → MomentOf m
   begins m = first_moment k.interlock m
 

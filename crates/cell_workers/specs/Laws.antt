@@ -37,11 +37,11 @@ use Rattle.cell_notes.specs.Notes.{no_counts}
 use Rattle.cell_unit.specs.Sides.{side_of}
 use Rattle.cell_parts.specs.Axes.{CellScales}
 use Rattle.cell_plant.specs.CellStates.{SideOf}
-use Rattle.cell_plant.specs.Machines.{steps_of, rig_of}
+use Rattle.cell_plant.specs.Machines.{CellGauges, steps_of, rig_of}
 use Rattle.cell_plant.specs.Resting.{IsAtRest}
 use Rattle.cell_workers.specs.Lines.{passes}
 use Rattle.cell_workers.specs.Workers.{GateOf, TakesTurn, HasEnded, AreCountsOf}
-use Rattle.cell_workers.specs.Records.{MomentOf, has_worker, first_moment, TellsWork}
+use Rattle.cell_workers.specs.Records.{MomentOf, has_worker, first_moment, TellsAnyWork, TellsWork}
 
 -- gates by a rule: which of its turns a machine may begin
 abbrev pub Rule : Type 0
@@ -128,31 +128,37 @@ press_at step position motor = side_of (record { step = step; loaded = false; fo
 -- Then: the turns of each working machine, in each of which it loses no more exchanges than a call may; a single turn
 -- is one by this cell's scales; and the first turns in a cell without plates.
 pub record RecordsTellTurns : Type 0 where
-  pub no_turns : (c : CellScales) (opening : ModelState) (tries : ℕ) (lets : Rule) (r : RunRecord) → TellsWork c opening tries 0 (by_rule lets) r ↔ TellsNothingDone opening Fine r
-  pub shut : (c : CellScales) (opening : ModelState) (tries : ℕ) (r : RunRecord) → TellsWork c opening tries 5 (by_rule (λ m turn. false)) r ↔ TellsNothingDone opening GateLimit r
+  pub no_turns : (c : CellScales) (opening : ModelState) (tries : ℕ) (lets : Rule) (r : RunRecord) → TellsAnyWork c opening tries 0 (by_rule lets) r ↔ TellsNothingDone opening Fine r
+  pub shut : (c : CellScales) (opening : ModelState) (tries : ℕ) (r : RunRecord) → TellsAnyWork c opening tries 5 (by_rule (λ m turn. false)) r ↔ TellsNothingDone opening GateLimit r
   pub turns : (c : CellScales) (opening : ModelState) (tries limit : ℕ) (lets : Rule) (r : RunRecord) (did : Machine → Counts) (statuses : Machine → Status)
-      → TellsWork c opening tries limit (by_rule lets) r → r.counts ≡ map did all_machines → r.status ≡ map statuses all_machines
+      → TellsAnyWork c opening tries limit (by_rule lets) r → r.counts ≡ map did all_machines → r.status ≡ map statuses all_machines
       → (m : Machine) → has_worker m ≡ true → HadTurns limit (lets m) (did m) (statuses m) (journal_of r.journals m)
-  pub exchanges : (c : CellScales) (opening : ModelState) (tries limit : ℕ) (lets : Rule) (r : RunRecord) (k : TellsWork c opening tries limit (by_rule lets) r)
+  pub exchanges : (c : CellScales) (opening : ModelState) (tries limit : ℕ) (lets : Rule) (r : RunRecord) (k : TellsAnyWork c opening tries limit (by_rule lets) r)
       → (m : Machine) → has_worker m ≡ true → (k.last m).line.exchanges ≤ (k.last m).counts.turns * tries
-  pub once : (c : CellScales) (opening : ModelState) (tries : ℕ) (lets : Rule) (r : RunRecord) (k : TellsWork c opening tries 1 (by_rule lets) r)
+  pub once : (c : CellScales) (opening : ModelState) (tries : ℕ) (lets : Rule) (r : RunRecord) (k : TellsAnyWork c opening tries 1 (by_rule lets) r)
       → (m : Machine) → has_worker m ≡ true → (k.last m ≡ first_moment k.interlock m) ⊎ TakesTurn (passes tries) (steps_of c m) (rig_of c m) (by_rule lets m) (first_moment k.interlock m) (k.last m)
-  pub first : (c : CellScales) (tries : ℕ) (lets : Rule) (r : RunRecord) → TellsWork c (start_state empty 0) tries 1 (by_rule lets) r → TellsFirstTurns r
+  pub first : (c : CellScales) (tries : ℕ) (lets : Rule) (r : RunRecord) → TellsAnyWork c (start_state empty 0) tries 1 (by_rule lets) r → TellsFirstTurns r
+
+-- what gauges give is near their lines, so a record by gauges is one by any readings near the lines
+abbrev pub RecordsAreNear : CellScales → CellGauges → (Machine → GateOf) → Type 0
+RecordsAreNear c gives gate =
+    (opening : ModelState) (tries limit : ℕ) (r : RunRecord)
+    → TellsWork c gives opening tries limit gate r → TellsAnyWork c opening tries limit gate r
 
 -- A record's interlock may lose as many exchanges in a call as its passes may.
 abbrev pub RecordsKeepTries : (Machine → GateOf) → Type 0
-RecordsKeepTries gate = (c : CellScales) (opening : ModelState) (tries limit : ℕ) (r : RunRecord) → TellsWork c opening tries limit gate r → (k : TellsWork c opening tries limit gate r) × (k.interlock.tries ≡ tries)
+RecordsKeepTries gate = (c : CellScales) (opening : ModelState) (tries limit : ℕ) (r : RunRecord) → TellsAnyWork c opening tries limit gate r → (k : TellsAnyWork c opening tries limit gate r) × (k.interlock.tries ≡ tries)
 
 -- What a record says of its one history. Of any two machines one has seen all that the other has. The end is the opening
 -- if no machine noted anything. A history gives the journals and leads to the end, so an audit has no cause to reject
 -- them. They don't say that the press released an interior that it never held.
 pub record EndsAreReached : Type 0 where
-  pub one_history : (c : CellScales) (opening : ModelState) (tries limit : ℕ) (lets : Rule) (r : RunRecord) (k : TellsWork c opening tries limit (by_rule lets) r) (m n : Machine)
+  pub one_history : (c : CellScales) (opening : ModelState) (tries limit : ℕ) (lets : Rule) (r : RunRecord) (k : TellsAnyWork c opening tries limit (by_rule lets) r) (m n : Machine)
       → BeginsWith (k.last m).line.seen (k.last n).line.seen ⊎ BeginsWith (k.last n).line.seen (k.last m).line.seen
-  pub nothing : (c : CellScales) (opening : ModelState) (tries limit : ℕ) (lets : Rule) (r : RunRecord) → TellsWork c opening tries limit (by_rule lets) r
+  pub nothing : (c : CellScales) (opening : ModelState) (tries limit : ℕ) (lets : Rule) (r : RunRecord) → TellsAnyWork c opening tries limit (by_rule lets) r
       → ((m : Machine) → journal_of r.journals m ≡ []) → r.end ≡ Some opening
-  pub accepted : (c : CellScales) (opening : ModelState) (tries limit : ℕ) (lets : Rule) (r : RunRecord) → TellsWork c opening tries limit (by_rule lets) r → ¬ HasNoHistory r.start (journal_of r.journals) r.end
-  pub never_held : (c : CellScales) (tries limit : ℕ) (lets : Rule) (r : RunRecord) → TellsWork c (start_state empty 0) tries limit (by_rule lets) r
+  pub accepted : (c : CellScales) (opening : ModelState) (tries limit : ℕ) (lets : Rule) (r : RunRecord) → TellsAnyWork c opening tries limit (by_rule lets) r → ¬ HasNoHistory r.start (journal_of r.journals) r.end
+  pub never_held : (c : CellScales) (tries limit : ℕ) (lets : Rule) (r : RunRecord) → TellsAnyWork c (start_state empty 0) tries limit (by_rule lets) r
       → ¬ ((m : Machine) → journal_of r.journals m ≡ press_released m)
 
 -- How a worker ends, by what has stopped its machine. And the counts of a journal, in numbers.

@@ -19,7 +19,7 @@ use Rattle.cell_notes.specs.declared.status.Status.TheVariants.{Fine}
 use Rattle.cell_notes.specs.Notes.{no_counts}
 use Rattle.cell_parts.specs.Axes.{CellScales}
 use Rattle.cell_parts.specs.declared.plant.PlantState.{PlantState}
-use Rattle.cell_plant.specs.Machines.{ProgressOf, PartOf, steps_of, rig_of}
+use Rattle.cell_plant.specs.Machines.{CellGauges, ProgressOf, PartOf, any_near, steps_by, rig_of}
 use Rattle.cell_plant.specs.CellStates.{side_in, sides_at_start}
 use Rattle.cell_plant.specs.Records.{positions_in}
 use Rattle.cell_workers.specs.Lines.{passes}
@@ -49,15 +49,15 @@ parts_at_ends last =
       crane = (last Crane).side.part;
     }
 
--- A record is of six workers, one for each machine, over one interlock. It gives the turns of each, from its machine's
--- start to its last moment; the watch does nothing. There is one history, lawful throughout: each has seen a prefix of
+-- A record is of six workers, one for each machine, over one interlock. It gives the turns of each, by what the gauges
+-- may give, from its machine's start to its last moment; the watch does nothing. There is one history, lawful throughout: each has seen a prefix of
 -- it, with all events of its machine; the journals are those of this history, and the end is the state after it.
-pub record TellsWork (scales : CellScales) (opening : ModelState) (tries limit : ℕ) (gate : Machine → GateOf) (r : RunRecord) : Type 0 where
+pub record TellsWork (scales : CellScales) (gives : CellGauges) (opening : ModelState) (tries limit : ℕ) (gate : Machine → GateOf) (r : RunRecord) : Type 0 where
   pub interlock : InterlockView
   pub opened : interlock.opening ≡ opening
   pub last : (m : Machine) → MomentOf m
   pub statuses : Machine → Status
-  pub works : (m : Machine) → has_worker m ≡ true → HasEnded (passes tries) (steps_of scales m) (rig_of scales m) (gate m) limit (first_moment interlock m) (last m) (statuses m)
+  pub works : (m : Machine) → has_worker m ≡ true → HasEnded (passes tries) (steps_by scales gives m) (rig_of scales m) (gate m) limit (first_moment interlock m) (last m) (statuses m)
   pub watch_rests : (last Watch ≡ first_moment interlock Watch) × (statuses Watch ≡ Fine)
   pub history : List Event
   pub lawful : LawfulThroughout opening history
@@ -70,3 +70,7 @@ pub record TellsWork (scales : CellScales) (opening : ModelState) (tries limit :
   pub audited : IsAudited opening (journal_of r.journals) r.end history
   pub end : r.end ≡ Some (after opening history)
   pub axes : r.axes ≡ positions_in (parts_at_ends last)
+
+-- likewise by gauges that may give any position near their lines
+abbrev pub TellsAnyWork : CellScales → ModelState → ℕ → ℕ → (Machine → GateOf) → RunRecord → Type 0
+TellsAnyWork scales = TellsWork scales (any_near scales)

@@ -4,7 +4,7 @@ ghost use Rattle.cell_rules.specs.Start.{IsStartState};
 ghost use Rattle.cell_notes.specs.declared.status.Status.{Status};
 ghost use Rattle.cell_notes.specs.Notes.{no_counts};
 ghost use Rattle.cell_parts.specs.Axes.{AreCellScales};
-ghost use Rattle.cell_plant.specs.Cells.{IsMadeFor, cell_scales};
+ghost use Rattle.cell_plant.specs.Cells.{IsMadeFor, cell_gauges, cell_scales};
 ghost use Rattle.cell_plant.specs.Records.{positions_in};
 ghost use Rattle.cell_workers.specs.Records.{TellsWork};
 ghost use Rattle.cell_workers.specs.Results.{parts_in};
@@ -79,7 +79,7 @@ where
     requires made { IsMadeFor opening cell }
     requires scales { AreCellScales (cell_scales cell) }
     ensures tries { (result ≡ Err RunFault.Tries) ↔ ((tries < 1) ⊎ (64 < tries)) }
-    ensures work { IfOk result (TellsWork (cell_scales cell) opening tries turns (G.may_answer gate.now)) }
+    ensures work { IfOk result (TellsWork (cell_scales cell) (cell_gauges cell) opening tries turns (G.may_answer gate.now)) }
 {
     let workers = PerMachine {
         feed: cell.feed,

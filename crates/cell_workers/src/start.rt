@@ -39,7 +39,9 @@ impl<W: Worker, G: Gate> Promise<WorkerResult<W::Outcome>> for WorkerPromise<W, 
     ghost kept_by = { λ p r. GivesBack W.gives_back p.worker.value p.pass.value p.interlock.value.tries (G.may_answer p.gate.value p.pass.value.machine) p.turns r };
 }
 
-/// Starts a worker, unless an earlier one couldn't be started.
+/// Starts a worker, unless an earlier one couldn't be started. A gate is told of each machine that has
+/// no worker, so that no other waits for it. No double of `Threads` refuses a thread, so no test sees
+/// this.
 ///
 /// Returns `None` if it isn't started; then `all_run` is false. Otherwise it stays true.
 pub(crate) fn start<'s, E, W: Worker + Send + 's, G: Gate + Sync>(

@@ -17,15 +17,15 @@ use Rattle.cell_robot.specs.RobotProgram.{gauges_of, robot_steps}
 use Rattle.cell_stations.specs.PressProgram.{press_steps}
 use Rattle.cell_stations.specs.TableProgram.{table_steps}
 use Rattle.cell_parts.specs.Rigs.{table_rig, robot_rig, crane_rig}
-use Rattle.cell_plant.specs.Machines.{robot_points, robot_axes}
+use Rattle.cell_plant.specs.Machines.{robot_gauges, robot_points, robot_axes}
 use Rattle.cell_plant.specs.Records.{positions_in}
 use Rattle.cell_plant.specs.Watch.{watch_at_start}
-use Rattle.cell_plant.specs.Cells.{cell_scales, points_of, sides_of}
+use Rattle.cell_plant.specs.Cells.{cell_gauges, cell_scales, points_of, sides_of}
 use Rattle.cell_plant.specs.CellStates.{Sides, sides_at_start}
 use Rattle.cell_workers.specs.Records.{TellsWork}
 use Rattle.cell_workers.specs.Results.{AreWorkerResults, CellOutcomes, parts_in, seen_in}
 use Rattle.cell_workers.specs.Workers.{worker_moment}
-use Rattle.cell_workers.proofs.Recording.{is_result_of, table_near, robot_near, crane_near, ready_at_start, tells}
+use Rattle.cell_workers.proofs.Recording.{fitted_result, is_result_of, ready_at_start, tells}
 use Rattle.cell_workers.proofs.run.run_cell.Goals as goal
 
 pub run_workers-requires-clause-ready : goal.run_workers-requires-clause-ready
@@ -46,6 +46,7 @@ returns-in-Ok-clause-work g c =
     let k = c.in-Ok.ensures.work in
     let cell = c.args.cell in
     let scales = cell_scales cell in
+    let gives = cell_gauges cell in
     let i = k.interlock in
     let gate = g.G.Gate.may_answer c.args.gate.now in
     let turns = c.args.turns in
@@ -58,22 +59,22 @@ returns-in-Ok-clause-work g c =
     let sides = sides_of cell watch_at_start in
     let results = k.results in
     let given = k.given in
-    let back : AreWorkerResults scales i turns gate results =
+    let back : AreWorkerResults scales gives i turns gate results =
     record {
-      feed = is_result_of scales i turns gate Feed (fresh_pass i Feed) sides.feed results.feed.pass results.feed.journal.items results.feed.outcome.counts results.feed.outcome.status results.feed.outcome.part.belt refl (ap (λ (s : Sides). s.feed) begins) given.feed.1;
-      table = is_result_of scales i turns gate Table (fresh_pass i Table) sides.table results.table.pass results.table.journal.items results.table.outcome.counts results.table.outcome.status results.table.outcome.part.plant refl (ap (λ (s : Sides). s.table) begins) (table_near i.tries (gate Table) turns results.table.pass results.table.journal.items results.table.outcome.counts results.table.outcome.status turn.points scales.turn (g.F4.Gauge.gives turn.gauge) (table_rig scales.turn) (worker_moment (fresh_pass i Table) sides.table no_counts) results.table.outcome.part.plant fits.turn given.table.1);
-      robot = is_result_of scales i turns gate Robot (fresh_pass i Robot) sides.robot results.robot.pass results.robot.journal.items results.robot.outcome.counts results.robot.outcome.status results.robot.outcome.part.plant refl (ap (λ (s : Sides). s.robot) begins) (robot_near i.tries (gate Robot) turns results.robot.pass results.robot.journal.items results.robot.outcome.counts results.robot.outcome.status (points_of robot) (robot_points scales) (gauges_of (g.F1.Gauge.gives robot.arm1.gauge) (g.F2.Gauge.gives robot.arm2.gauge) (g.F3.Gauge.gives robot.rotation.gauge)) (robot_rig (robot_axes scales)) (worker_moment (fresh_pass i Robot) sides.robot no_counts) results.robot.outcome.part.plant robot_fits given.robot.1);
-      press = is_result_of scales i turns gate Press (fresh_pass i Press) sides.press results.press.pass results.press.journal.items results.press.outcome.counts results.press.outcome.status results.press.outcome.part refl (ap (λ (s : Sides). s.press) begins) given.press.1;
-      deposit = is_result_of scales i turns gate Deposit (fresh_pass i Deposit) sides.deposit results.deposit.pass results.deposit.journal.items results.deposit.outcome.counts results.deposit.outcome.status results.deposit.outcome.part.belt refl (ap (λ (s : Sides). s.deposit) begins) given.deposit.1;
-      crane = is_result_of scales i turns gate Crane (fresh_pass i Crane) sides.crane results.crane.pass results.crane.journal.items results.crane.outcome.counts results.crane.outcome.status results.crane.outcome.part.plant refl (ap (λ (s : Sides). s.crane) begins) (crane_near i.tries (gate Crane) turns results.crane.pass results.crane.journal.items results.crane.outcome.counts results.crane.outcome.status gripper.points scales.gripper (g.F5.Gauge.gives gripper.gauge) (crane_rig scales.gripper) (worker_moment (fresh_pass i Crane) sides.crane no_counts) results.crane.outcome.part.plant fits.gripper given.crane.1);
+      feed = is_result_of scales gives i turns gate Feed (fresh_pass i Feed) sides.feed results.feed.pass results.feed.journal.items results.feed.outcome.counts results.feed.outcome.status results.feed.outcome.part.belt refl (ap (λ (s : Sides). s.feed) begins) given.feed.1;
+      table = is_result_of scales gives i turns gate Table (fresh_pass i Table) sides.table results.table.pass results.table.journal.items results.table.outcome.counts results.table.outcome.status results.table.outcome.part.plant refl (ap (λ (s : Sides). s.table) begins) (fitted_result i.tries (λ s. table_steps s gives.turn) (table_rig scales.turn) (gate Table) turns (worker_moment (fresh_pass i Table) sides.table no_counts) results.table.pass results.table.journal.items results.table.outcome.counts results.table.outcome.status results.table.outcome.part.plant turn.points scales.turn fits.turn given.table.1);
+      robot = is_result_of scales gives i turns gate Robot (fresh_pass i Robot) sides.robot results.robot.pass results.robot.journal.items results.robot.outcome.counts results.robot.outcome.status results.robot.outcome.part.plant refl (ap (λ (s : Sides). s.robot) begins) (fitted_result i.tries (λ s. robot_steps s (robot_gauges gives)) (robot_rig (robot_axes scales)) (gate Robot) turns (worker_moment (fresh_pass i Robot) sides.robot no_counts) results.robot.pass results.robot.journal.items results.robot.outcome.counts results.robot.outcome.status results.robot.outcome.part.plant (points_of robot) (robot_points scales) robot_fits given.robot.1);
+      press = is_result_of scales gives i turns gate Press (fresh_pass i Press) sides.press results.press.pass results.press.journal.items results.press.outcome.counts results.press.outcome.status results.press.outcome.part refl (ap (λ (s : Sides). s.press) begins) given.press.1;
+      deposit = is_result_of scales gives i turns gate Deposit (fresh_pass i Deposit) sides.deposit results.deposit.pass results.deposit.journal.items results.deposit.outcome.counts results.deposit.outcome.status results.deposit.outcome.part.belt refl (ap (λ (s : Sides). s.deposit) begins) given.deposit.1;
+      crane = is_result_of scales gives i turns gate Crane (fresh_pass i Crane) sides.crane results.crane.pass results.crane.journal.items results.crane.outcome.counts results.crane.outcome.status results.crane.outcome.part.plant refl (ap (λ (s : Sides). s.crane) begins) (fitted_result i.tries (λ s. crane_steps s gives.gripper) (crane_rig scales.gripper) (gate Crane) turns (worker_moment (fresh_pass i Crane) sides.crane no_counts) results.crane.pass results.crane.journal.items results.crane.outcome.counts results.crane.outcome.status results.crane.outcome.part.plant gripper.points scales.gripper fits.gripper given.crane.1);
     } in
     let told = c.run_record_of.ensures in
     let six = c.in-Ok.six in
     let run' = c.run_record_of.result in
     let history = k.history in
-    subst (λ (n : ℕ). TellsWork scales c.args.opening n turns gate run') k.losing
-    (subst (λ (s : ModelState). TellsWork scales s i.tries turns gate run') k.opened
-    (tells scales i turns gate results back run' history
+    subst (λ (n : ℕ). TellsWork scales gives c.args.opening n turns gate run') k.losing
+    (subst (λ (s : ModelState). TellsWork scales gives s i.tries turns gate run') k.opened
+    (tells scales gives i turns gate results back run' history
     (subst (λ s. LawfulThroughout s history) (sym k.opened) k.lawful)
     k.seen
     (λ m. ap (λ (j : Journals). journal_of j m) told.journals ∙ k.journals m ∙ ap (λ s. noted s (seen_in results m) m) (sym k.opened))
