@@ -11,3 +11,4 @@ pub mod RobotTeam
 pub mod Together
 pub mod Stopping
 pub mod Turned
+pub mod WrongRows

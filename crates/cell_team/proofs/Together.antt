@@ -45,7 +45,7 @@ sound_free full stamp k =
     let free = start_state full stamp in
     sound_from free k.stamp_in_range (each_zone (λ z. lawful_in full z (zone_at free z) ≡ true) refl refl (one_place_empty _ k.one_in_press_at_most) refl refl refl)
 
-sound_start : (s : ModelState) → IsStartState s → IsSound s
+pub sound_start : (s : ModelState) → IsStartState s → IsSound s
 sound_start s k = subst IsSound (sym k.same) (sound_free s.full s.stamp k.start)
 
 module _ (c : CellScales) (opening : ModelState) (h : List Event) (team : Team) (start : IsStartState opening) (legal : IsLegal opening h) (by : HaveCome (programs_of c) opening h team) where

@@ -1,5 +1,5 @@
 -- Each turn over a line keeps that its machine stands at a step of its program.
-use Rattle.std.proofs.Common.{◌≡◌, ◌≢◌, Bool, true, false, if◌then◌else◌, inl, inr, List, [], ◌∷◌, ◌++◌, Option, Some, None, Result, Ok, Err, refl, sym, ap, ◌∙◌, subst}
+use Rattle.std.proofs.Common.{◌≡◌, ◌≢◌, Bool, true, false, if◌then◌else◌, inl, inr, List, [], ◌∷◌, ◌++◌, append_assoc, Option, Some, None, Result, Ok, Err, refl, sym, ap, ◌∙◌, subst}
 use Rattle.std.proofs.lemmas.List.{append_cancel_right}
 use Rattle.cell_types.specs.declared.machine.Machine.{Machine}
 use Rattle.cell_types.specs.declared.call.Call.{Call}
@@ -112,3 +112,25 @@ module _ {S Sense Reading Act : Type 0} (t : Steps S Sense Reading Act) (o : Mod
 
     pub stands_on : (p : S) (sense : Sense) (w : Turned S Act) → Turns t same asks None p sense w → HasCome t o before p → StandsAs now w
     stands_on p sense w h k = subst (λ x. StandsAs now x) (sym h.2) (by_sensed h.1.sensed p h.0 h.1.performs k)
+
+-- ---- later
+
+-- what a machine's own events say, a longer history without more of them says too
+module _ {S Sense Reading Act : Type 0} (t : Steps S Sense Reading Act) (o : ModelState) (seen history : List Event) (w : Waits t.machine seen history) where
+  come_later : (p : S) → HasCome t o seen p → HasCome t o history p
+  come_later p k = subst (λ h. Reached (program_with_stops t) (t.start o) h p) (sym w.own) k
+
+  stopped_later : (p : S) (f : CtlFault) → IsStoppedBy t o seen p f → IsStoppedBy t o history p f
+  stopped_later p f s = record {
+    before = s.before;
+    rest = s.rest ++ w.begins.0;
+    call = s.call;
+    refusal = s.refusal;
+    split = w.begins.1 ∙ ap (λ h. h ++ w.begins.0) s.split ∙ append_assoc s.before _ w.begins.0;
+    come = s.come;
+    asks = s.asks;
+    stops = s.stops;
+  }
+
+  pub stands_later : (stopped : Option CtlFault) (p : S) → Stands t o seen stopped p → Stands t o history stopped p
+  stands_later stopped p k = record { come = come_later p k.come; stopped_by = λ r e. stopped_later p (fault.Refused r) (k.stopped_by r e); not_again = k.not_again }

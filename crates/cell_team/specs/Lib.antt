@@ -1,2 +1,3 @@
 pub mod Team
 pub mod Heeded
+pub mod WrongPrograms

@@ -1,5 +1,6 @@
 //! Laws of the six programs together. Each is the contract of a function with an empty body.
 ghost use Rattle.cell_team.specs.Heeded.{NoMachineIsRefused, NoMachineIsStopped};
+ghost use Rattle.cell_team.specs.WrongPrograms.{WrongProgramsAreRefused};
 
 /// From every start, in each legal history in which each of the six machines has come by its own
 /// events to a step of its program, whatever the order of the calls and whatever the watch does: the
@@ -12,4 +13,11 @@ pub fn no_machine_is_refused()
 /// So in such a history no refusal has ever stopped a machine, but a worn one.
 pub fn no_machine_is_stopped()
     ensures { NoMachineIsStopped }
+{}
+
+/// The first law holds of the cell's programs, and fails of programs that are wrong in one row: of a
+/// feed belt that takes before it has released, a table that waits for a free zone where it gives, a
+/// robot that claims a zone which it has, a press that moves before it has claimed back, and others.
+pub fn wrong_programs_are_refused()
+    ensures { WrongProgramsAreRefused }
 {}

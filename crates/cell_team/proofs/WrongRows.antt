@@ -1,0 +1,562 @@
+-- For each wrong row a history from a start in which it is refused.
+use Rattle.std.proofs.Common.{◌≡◌, ◌≤◌, pos, ◌≤ℤ◌, ◌-ℤ◌, Bool, true, false, ◌&&◌, inl, List, [], ◌∷◌, Some, None, refl, arith}
+use Rattle.std.specs.Int.Signed.{le_z_yes}
+use Rattle.std.proofs.lemmas.Int.{ints}
+use Rattle.cell_types.specs.declared.machine.Machine.{Machine}
+use Rattle.cell_types.specs.declared.machine.Machine.TheVariants as machine
+use Rattle.cell_types.specs.declared.zone.Zone.TheVariants.{Z1, Z2, Z3, Z4, Z5, Z6}
+use Rattle.cell_types.specs.declared.place.Place.TheVariants as place
+use Rattle.cell_types.specs.declared.posture.Posture.TheVariants.{Closed, OpenOut}
+use Rattle.cell_types.specs.declared.pose.Pose.TheVariants.{Turning, Loading, Travelling, Middle, Low, Landing, Running, Offering, Unloading}
+use Rattle.cell_types.specs.declared.call.Call.{Call}
+use Rattle.cell_types.specs.declared.call.Call.TheVariants.{Claim, Give, Take, Release, SetPose, Inquire}
+use Rattle.cell_types.specs.declared.answer.Refusal.TheVariants.{Held, AlreadyMine, Shut, NotOwner, PlateInZone, NoPlate, PlaceFull}
+use Rattle.cell_types.specs.declared.answer.Answer.TheVariants.{Done, Shown}
+use Rattle.cell_types.specs.declared.answer.Event.{Event}
+use Rattle.cell_rules.specs.ModelState.{ModelState, size_of}
+use Rattle.cell_rules.specs.PlaceSet.{PlaceSet, empty, insert_place, has}
+use Rattle.cell_rules.specs.Seen.{event}
+use Rattle.cell_rules.specs.Start.{IsStartState, start_state}
+use Rattle.cell_devices.specs.declared.motor.Motor.TheVariants.{Off}
+use Rattle.cell_devices.specs.declared.motor.Direction.TheVariants.{Minus as Downward}
+use Rattle.cell_devices.specs.declared.stops.Stop.{Stop}
+use Rattle.cell_devices.specs.declared.stops.TheConstants.{TURN_LOADING, TURN_UNLOADING, ROTATION_ARM1_PRESS, ROTATION_ARM2_DEPOSIT, GRIPPER_TRAVEL, GRIPPER_DEPOSIT}
+use Rattle.cell_devices.specs.Drives.{StopsAt}
+use Rattle.cell_devices.proofs.DriveLemmas.{stops_there}
+use Rattle.cell_haul.specs.declared.crane.CraneProgress.{CraneProgress}
+use Rattle.cell_haul.specs.declared.crane.CraneStep.{CraneStep}
+use Rattle.cell_haul.specs.declared.crane.CraneStep.TheVariants as crane_step
+use Rattle.cell_haul.specs.declared.deposit.DepositProgress.{DepositProgress}
+use Rattle.cell_haul.specs.declared.deposit.DepositStep.{DepositStep}
+use Rattle.cell_haul.specs.declared.deposit.DepositStep.TheVariants as deposit_step
+use Rattle.cell_haul.specs.declared.feed.FeedProgress.{FeedProgress}
+use Rattle.cell_haul.specs.declared.feed.FeedStep.{FeedStep}
+use Rattle.cell_haul.specs.declared.feed.FeedStep.TheVariants as feed_step
+use Rattle.cell_robot.specs.declared.robot.RobotProgress.{RobotProgress}
+use Rattle.cell_robot.specs.declared.robot.RobotStep.{RobotStep}
+use Rattle.cell_robot.specs.declared.robot.RobotStep.TheVariants as robot_step
+use Rattle.cell_stations.specs.declared.press.PressProgress.{PressProgress}
+use Rattle.cell_stations.specs.declared.press.PressStep.{PressStep}
+use Rattle.cell_stations.specs.declared.press.PressStep.TheVariants as press_step
+use Rattle.cell_stations.specs.declared.table.TableProgress.{TableProgress}
+use Rattle.cell_stations.specs.declared.table.TableStep.{TableStep}
+use Rattle.cell_stations.specs.declared.table.TableStep.TheVariants as table_step
+use Rattle.cell_team.specs.Team.{Programs, Team}
+use Rattle.cell_team.specs.Heeded.{NoneIsRefused}
+use Rattle.cell_team.specs.WrongPrograms as wrong
+use Rattle.cell_team.specs.WrongPrograms.{scales, by_feed, by_table, by_robot, by_press, by_deposit, by_crane, RightRows, WrongRows, WrongProgramsAreRefused}
+use Rattle.cell_team.proofs.Together.{none-refused}
+
+-- a start with these plates, and the machines there
+starts : (full : PlaceSet) → size_of full ≤ 6 → (has full place.PressIn && has full place.PressOut) ≡ false → IsStartState (start_state full 0)
+starts full few one = record { start = record { six_plates_at_most = few; one_in_press_at_most = one; stamp_in_range = omega arith }; same = refl }
+
+abbrev team_at : Programs → ModelState → Team
+team_at t o = record { feed = t.feed.start o; table = t.table.start o; robot = t.robot.start o; press = t.press.start o; deposit = t.deposit.start o; crane = t.crane.start o }
+
+-- calls of one machine, all of them done
+abbrev done_by : Machine → List Call → List Event
+done_by m [] = []
+done_by m (c ∷ cs) = event m c Done ∷ done_by m cs
+
+-- a motor is off at its target
+off : (stop : Stop) → pos 0 ≤ℤ (pos stop.half -ℤ pos 1) → StopsAt stop (pos 1) stop.target Off
+off stop wide = stops_there stop (pos 1) stop.target (record { not_below = omega (arith, ints); not_above = omega (arith, ints) })
+
+-- ---- the feed belt
+
+abbrev feed_at : FeedStep → Bool → Bool → FeedProgress
+feed_at step entry last = record { step = step; entry = entry; last = last }
+
+takes_unreleased : ¬ NoneIsRefused (by_feed wrong.takes_unreleased)
+takes_unreleased law =
+    let o = start_state empty 0 in
+    let heeds =
+    law o (done_by machine.Feed (Claim Z6 ∷ SetPose Landing ∷ [])) (record (team_at (by_feed wrong.takes_unreleased) o) { feed = feed_at feed_step.ReleaseEntry false false }) (starts _ (omega arith) refl) (refl, (refl, tt))
+    (record {
+      feed = (
+        feed_at feed_step.ClaimEntry false false,
+        feed_at feed_step.PoseLanding false false,
+        (0, refl),
+        refl,
+        inl refl,
+        (
+          feed_at feed_step.PoseLanding false false,
+          feed_at feed_step.ReleaseEntry false false,
+          (0, refl),
+          refl,
+          inl refl,
+          (0, refl),
+        ),
+      );
+      table = (0, refl);
+      robot = (0, refl);
+      press = (0, refl);
+      deposit = (0, refl);
+      crane = (0, refl);
+    }) in
+    let lie : false ≡ true = heeds.feed (Take Z6) NoPlate refl refl in
+    cc
+
+runs_onto_plate : ¬ NoneIsRefused (by_feed wrong.runs_onto_plate)
+runs_onto_plate law =
+    let o = start_state (insert_place (insert_place empty place.FeedEntry) place.FeedEnd) 0 in
+    let heeds =
+    law o (done_by machine.Feed (Claim Z6 ∷ [])) (record (team_at (by_feed wrong.runs_onto_plate) o) { feed = feed_at feed_step.ClaimExit true true }) (starts _ (omega arith) refl) (refl, tt)
+    (record {
+      feed = (
+        feed_at feed_step.ClaimEntry true true,
+        feed_at feed_step.ClaimExit true true,
+        (0, refl),
+        refl,
+        inl refl,
+        (0, refl),
+      );
+      table = (0, refl);
+      robot = (0, refl);
+      press = (0, refl);
+      deposit = (0, refl);
+      crane = (0, refl);
+    }) in
+    let lie : false ≡ true = heeds.feed (SetPose Running) PlaceFull refl refl in
+    cc
+
+-- ---- the table
+
+abbrev table_at : TableStep → TableProgress
+table_at step = record { step = step; loaded = true }
+
+gives_until_free : ¬ NoneIsRefused (by_table wrong.gives_until_free)
+gives_until_free law =
+    let o = start_state (insert_place (insert_place empty place.Table) place.Arm1) 0 in
+    let heeds =
+    law o (done_by machine.Table (Claim Z1 ∷ Claim Z2 ∷ SetPose Turning ∷ SetPose Unloading ∷ [])) (record (team_at (by_table wrong.gives_until_free) o) { table = table_at table_step.GivePlate }) (starts _ (omega arith) refl) (refl, (refl, (refl, (refl, tt))))
+    (record {
+      feed = (0, refl);
+      table = (
+        table_at table_step.ClaimEntry,
+        table_at table_step.ClaimExit,
+        (0, refl),
+        refl,
+        inl refl,
+        (
+          table_at table_step.ClaimExit,
+          table_at table_step.LeaveForUnloading,
+          (0, refl),
+          refl,
+          inl refl,
+          (
+            table_at table_step.LeaveForUnloading,
+            table_at table_step.MoveToUnloading,
+            (0, refl),
+            refl,
+            inl refl,
+            (
+              table_at table_step.PoseUnloading,
+              table_at table_step.GivePlate,
+              (1, (table_at table_step.PoseUnloading, record { asks_nothing = refl; reading = record { sense = record { bottom = false; top = true; turn = 0 }; turn = pos 500 }; act = record { height = Off; rotation = Off }; drives = record { height = refl; rotation = off TURN_UNLOADING (le_z_yes tt) }; is = refl }, refl)),
+              refl,
+              inl refl,
+              (0, refl),
+            ),
+          ),
+        ),
+      );
+      robot = (0, refl);
+      press = (0, refl);
+      deposit = (0, refl);
+      crane = (0, refl);
+    }) in
+    let lie : false ≡ true = heeds.table (Give Z2) PlaceFull refl refl in
+    cc
+
+loads_a_full_table : ¬ NoneIsRefused (by_table wrong.loads_a_full_table)
+loads_a_full_table law =
+    let o = start_state (insert_place empty place.Table) 0 in
+    let heeds =
+    law o (done_by machine.Table (Claim Z1 ∷ Claim Z2 ∷ SetPose Turning ∷ [])) (record (team_at (by_table wrong.loads_a_full_table) o) { table = table_at table_step.PoseLoading }) (starts _ (omega arith) refl) (refl, (refl, (refl, tt)))
+    (record {
+      feed = (0, refl);
+      table = (
+        table_at table_step.ClaimEntry,
+        table_at table_step.ClaimExit,
+        (0, refl),
+        refl,
+        inl refl,
+        (
+          table_at table_step.ClaimExit,
+          table_at table_step.LeaveForUnloading,
+          (0, refl),
+          refl,
+          inl refl,
+          (
+            table_at table_step.LeaveForUnloading,
+            table_at table_step.MoveToLoading,
+            (0, refl),
+            refl,
+            inl refl,
+            (1, (table_at table_step.PoseLoading, record { asks_nothing = refl; reading = record { sense = record { bottom = true; top = false; turn = 0 }; turn = pos 0 }; act = record { height = Off; rotation = Off }; drives = record { height = refl; rotation = off TURN_LOADING (le_z_yes tt) }; is = refl }, refl)),
+          ),
+        ),
+      );
+      robot = (0, refl);
+      press = (0, refl);
+      deposit = (0, refl);
+      crane = (0, refl);
+    }) in
+    let lie : false ≡ true = heeds.table (SetPose Loading) PlaceFull refl refl in
+    cc
+
+-- ---- the press
+
+abbrev press_at : PressStep → Bool → PressProgress
+press_at step forged = record { step = step; loaded = false; forged = forged; direction = Downward }
+
+claims_back_at_once : ¬ NoneIsRefused (by_press wrong.claims_back_at_once)
+claims_back_at_once law =
+    let o = start_state (insert_place empty place.PressOut) 0 in
+    let heeds =
+    law o (done_by machine.Press (Claim Z3 ∷ SetPose Travelling ∷ SetPose Low ∷ Give Z3 ∷ [])) (record (team_at (by_press wrong.claims_back_at_once) o) { press = press_at press_step.ClaimBack false }) (starts _ (omega arith) refl) (refl, (refl, (refl, (refl, tt))))
+    (record {
+      feed = (0, refl);
+      table = (0, refl);
+      robot = (0, refl);
+      press = (
+        press_at press_step.ClaimFirst true,
+        press_at press_step.LeaveForBottom true,
+        (0, refl),
+        refl,
+        inl refl,
+        (
+          press_at press_step.LeaveForBottom true,
+          press_at press_step.MoveToBottom true,
+          (0, refl),
+          refl,
+          inl refl,
+          (
+            press_at press_step.PoseLow true,
+            press_at press_step.GivePlate true,
+            (1, (press_at press_step.PoseLow true, record { asks_nothing = refl; reading = record { bottom = true; middle = false; top = false }; act = record { press = Off }; drives = refl; is = refl }, refl)),
+            refl,
+            inl refl,
+            (
+              press_at press_step.GivePlate true,
+              press_at press_step.ClaimBack false,
+              (0, refl),
+              refl,
+              inl refl,
+              (0, refl),
+            ),
+          ),
+        ),
+      );
+      deposit = (0, refl);
+      crane = (0, refl);
+    }) in
+    let lie : false ≡ true = heeds.press (Claim Z3) (Held machine.Robot) refl refl in
+    cc
+
+moves_unclaimed : ¬ NoneIsRefused (by_press wrong.moves_unclaimed)
+moves_unclaimed law =
+    let o = start_state (insert_place empty place.PressOut) 0 in
+    let heeds =
+    law o (done_by machine.Press (Claim Z3 ∷ SetPose Travelling ∷ SetPose Low ∷ Give Z3 ∷ [])) (record (team_at (by_press wrong.moves_unclaimed) o) { press = press_at press_step.ClaimBack false }) (starts _ (omega arith) refl) (refl, (refl, (refl, (refl, tt))))
+    (record {
+      feed = (0, refl);
+      table = (0, refl);
+      robot = (0, refl);
+      press = (
+        press_at press_step.ClaimFirst true,
+        press_at press_step.LeaveForBottom true,
+        (0, refl),
+        refl,
+        inl refl,
+        (
+          press_at press_step.LeaveForBottom true,
+          press_at press_step.MoveToBottom true,
+          (0, refl),
+          refl,
+          inl refl,
+          (
+            press_at press_step.PoseLow true,
+            press_at press_step.GivePlate true,
+            (1, (press_at press_step.PoseLow true, record { asks_nothing = refl; reading = record { bottom = true; middle = false; top = false }; act = record { press = Off }; drives = refl; is = refl }, refl)),
+            refl,
+            inl refl,
+            (
+              press_at press_step.GivePlate true,
+              press_at press_step.ClaimBack false,
+              (0, refl),
+              refl,
+              inl refl,
+              (0, refl),
+            ),
+          ),
+        ),
+      );
+      deposit = (0, refl);
+      crane = (0, refl);
+    }) in
+    let lie : false ≡ true = heeds.press (SetPose Travelling) (NotOwner (Some machine.Robot)) refl refl in
+    cc
+
+rises_empty : ¬ NoneIsRefused (by_press wrong.rises_empty)
+rises_empty law =
+    let o = start_state empty 0 in
+    let heeds =
+    law o (done_by machine.Press (Claim Z3 ∷ SetPose Travelling ∷ SetPose Middle ∷ Release Z3 ∷ [])) (record (team_at (by_press wrong.rises_empty) o) { press = press_at press_step.TakePlate false }) (starts _ (omega arith) refl) (refl, (refl, (refl, (refl, tt))))
+    (record {
+      feed = (0, refl);
+      table = (0, refl);
+      robot = (0, refl);
+      press = (
+        press_at press_step.ClaimFirst false,
+        press_at press_step.LeaveForMiddle false,
+        (0, refl),
+        refl,
+        inl refl,
+        (
+          press_at press_step.LeaveForMiddle false,
+          press_at press_step.MoveToMiddle false,
+          (0, refl),
+          refl,
+          inl refl,
+          (
+            press_at press_step.PoseMiddle false,
+            press_at press_step.ReleaseInterior false,
+            (1, (press_at press_step.PoseMiddle false, record { asks_nothing = refl; reading = record { bottom = false; middle = true; top = false }; act = record { press = Off }; drives = refl; is = refl }, refl)),
+            refl,
+            inl refl,
+            (
+              press_at press_step.ReleaseInterior false,
+              press_at press_step.TakePlate false,
+              (0, refl),
+              refl,
+              inl refl,
+              (0, refl),
+            ),
+          ),
+        ),
+      );
+      deposit = (0, refl);
+      crane = (0, refl);
+    }) in
+    let lie : false ≡ true = heeds.press (SetPose Travelling) (NotOwner None) refl refl in
+    cc
+
+-- ---- the robot
+
+abbrev robot_at : RobotStep → Bool → Bool → RobotProgress
+robot_at step first second = record { step = step; notes = record { arm1 = first; arm2 = second; fed = false }; magnets = record { arm1 = first; arm2 = second } }
+
+claims_what_it_has : ¬ NoneIsRefused (by_robot wrong.claims_what_it_has)
+claims_what_it_has law =
+    let o = start_state (insert_place empty place.Arm1) 0 in
+    let heeds =
+    law o (event machine.Press (Claim Z3) Done ∷ event machine.Press (SetPose Travelling) Done ∷ event machine.Press (SetPose Middle) Done ∷ event machine.Press (Release Z3) Done ∷ event machine.Robot (Claim Z3) Done ∷ []) (record (team_at (by_robot wrong.claims_what_it_has) o) { press = press_at press_step.TakePlate false; robot = robot_at robot_step.InspectPress true false }) (starts _ (omega arith) refl) (refl, (refl, (refl, (refl, (refl, tt)))))
+    (record {
+      feed = (0, refl);
+      table = (0, refl);
+      robot = (
+        robot_at robot_step.ClaimPress true false,
+        robot_at robot_step.InspectPress true false,
+        (1, (robot_at robot_step.ClaimPress true false, record { asks_nothing = refl; reading = record { arm1 = pos 0; arm2 = pos 0; rotation = pos 1500; retracted = true }; act = record { arm1 = Off; arm2 = Off; rotation = Off; magnet1 = true; magnet2 = false }; drives = record { arm1 = refl; arm2 = refl; rotation = off ROTATION_ARM1_PRESS (le_z_yes tt); magnet1 = refl; magnet2 = refl }; is = refl }, refl)),
+        refl,
+        inl refl,
+        (0, refl),
+      );
+      press = (
+        press_at press_step.ClaimFirst false,
+        press_at press_step.LeaveForMiddle false,
+        (0, refl),
+        refl,
+        inl refl,
+        (
+          press_at press_step.LeaveForMiddle false,
+          press_at press_step.MoveToMiddle false,
+          (0, refl),
+          refl,
+          inl refl,
+          (
+            press_at press_step.PoseMiddle false,
+            press_at press_step.ReleaseInterior false,
+            (1, (press_at press_step.PoseMiddle false, record { asks_nothing = refl; reading = record { bottom = false; middle = true; top = false }; act = record { press = Off }; drives = refl; is = refl }, refl)),
+            refl,
+            inl refl,
+            (
+              press_at press_step.ReleaseInterior false,
+              press_at press_step.TakePlate false,
+              (0, refl),
+              refl,
+              inl refl,
+              (0, refl),
+            ),
+          ),
+        ),
+      );
+      deposit = (0, refl);
+      crane = (0, refl);
+    }) in
+    let lie : false ≡ true = heeds.robot (Claim Z3) AlreadyMine refl refl in
+    cc
+
+enters_a_shut_zone : ¬ NoneIsRefused (by_robot wrong.enters_a_shut_zone)
+enters_a_shut_zone law =
+    let o = start_state (insert_place empty place.Arm2) 0 in
+    let heeds =
+    law o ([]) (record (team_at (by_robot wrong.enters_a_shut_zone) o) { robot = robot_at robot_step.ClaimDeposit false true }) (starts _ (omega arith) refl) tt
+    (record {
+      feed = (0, refl);
+      table = (0, refl);
+      robot = (1, (robot_at robot_step.ClaimDeposit false true, record { asks_nothing = refl; reading = record { arm1 = pos 0; arm2 = pos 0; rotation = pos 1800; retracted = true }; act = record { arm1 = Off; arm2 = Off; rotation = Off; magnet1 = false; magnet2 = true }; drives = record { arm1 = refl; arm2 = refl; rotation = off ROTATION_ARM2_DEPOSIT (le_z_yes tt); magnet1 = refl; magnet2 = refl }; is = refl }, refl));
+      press = (0, refl);
+      deposit = (0, refl);
+      crane = (0, refl);
+    }) in
+    let lie : false ≡ true = heeds.robot (Claim Z4) (Shut Closed) refl refl in
+    cc
+
+-- ---- the deposit belt
+
+abbrev deposit_at : DepositStep → Bool → Bool → DepositProgress
+deposit_at step entry last = record { step = step; entry = entry; last = last }
+
+offers_before_it_moves_on : ¬ NoneIsRefused (by_deposit wrong.offers_before_it_moves_on)
+offers_before_it_moves_on law =
+    let o = start_state (insert_place empty place.DepEntry) 0 in
+    let heeds =
+    law o (done_by machine.Deposit (Claim Z4 ∷ Claim Z5 ∷ SetPose Running ∷ SetPose Offering ∷ [])) (record (team_at (by_deposit wrong.offers_before_it_moves_on) o) { deposit = deposit_at deposit_step.GivePlate true false }) (starts _ (omega arith) refl) (refl, (refl, (refl, (refl, tt))))
+    (record {
+      feed = (0, refl);
+      table = (0, refl);
+      robot = (0, refl);
+      press = (0, refl);
+      deposit = (
+        deposit_at deposit_step.ClaimEntry true false,
+        deposit_at deposit_step.ClaimExit true false,
+        (0, refl),
+        refl,
+        inl refl,
+        (
+          deposit_at deposit_step.ClaimExit true false,
+          deposit_at deposit_step.StartRun true false,
+          (0, refl),
+          refl,
+          inl refl,
+          (
+            deposit_at deposit_step.StartRun true false,
+            deposit_at deposit_step.RunIn true false,
+            (0, refl),
+            refl,
+            inl refl,
+            (
+              deposit_at deposit_step.MoveOn true false,
+              deposit_at deposit_step.GivePlate true false,
+              (2, (deposit_at deposit_step.RunOut true false, record { asks_nothing = refl; reading = record { barrier = true }; act = record { belt = false }; drives = refl; is = refl }, (deposit_at deposit_step.MoveOn true false, record { asks_nothing = refl; reading = record { barrier = false }; act = record { belt = false }; drives = refl; is = refl }, refl))),
+              refl,
+              inl refl,
+              (0, refl),
+            ),
+          ),
+        ),
+      );
+      crane = (0, refl);
+    }) in
+    let lie : false ≡ true = heeds.deposit (Give Z5) NoPlate refl refl in
+    cc
+
+-- ---- the crane
+
+abbrev crane_at : CraneStep → Bool → CraneProgress
+crane_at step magnet = record { step = step; magnet = magnet }
+
+releases_its_plate : ¬ NoneIsRefused (by_crane wrong.releases_its_plate)
+releases_its_plate law =
+    let o = start_state (insert_place empty place.DepEnd) 0 in
+    let heeds =
+    law o (event machine.Deposit (Claim Z4) Done ∷ event machine.Deposit (Claim Z5) Done ∷ event machine.Deposit (SetPose Offering) Done ∷ event machine.Deposit (Give Z5) Done ∷ event machine.Crane (Inquire Z5) (Shown (Some machine.Crane) true OpenOut) ∷ []) (record (team_at (by_crane wrong.releases_its_plate) o) { deposit = deposit_at deposit_step.ClaimBack false false; crane = crane_at crane_step.TakePlate true }) (starts _ (omega arith) refl) (refl, (refl, (refl, (refl, (refl, tt)))))
+    (record {
+      feed = (0, refl);
+      table = (0, refl);
+      robot = (0, refl);
+      press = (0, refl);
+      deposit = (
+        deposit_at deposit_step.ClaimEntry false true,
+        deposit_at deposit_step.ClaimExit false true,
+        (0, refl),
+        refl,
+        inl refl,
+        (
+          deposit_at deposit_step.ClaimExit false true,
+          deposit_at deposit_step.PoseOffering false true,
+          (0, refl),
+          refl,
+          inl refl,
+          (
+            deposit_at deposit_step.PoseOffering false true,
+            deposit_at deposit_step.GivePlate false true,
+            (0, refl),
+            refl,
+            inl refl,
+            (
+              deposit_at deposit_step.GivePlate false true,
+              deposit_at deposit_step.ClaimBack false false,
+              (0, refl),
+              refl,
+              inl refl,
+              (0, refl),
+            ),
+          ),
+        ),
+      );
+      crane = (
+        crane_at crane_step.AwaitPlate false,
+        crane_at crane_step.LowerToPlate false,
+        (2, (crane_at crane_step.TravelToDeposit false, record { asks_nothing = refl; reading = record { sense = record { deposit = false; feed = false; gripper = 0 }; gripper = pos 900; high = true }; act = record { travel = Off; height = Off; magnet = false }; drives = record { travel = refl; height = off GRIPPER_TRAVEL (le_z_yes tt); magnet = refl }; is = refl }, (crane_at crane_step.AwaitPlate false, record { asks_nothing = refl; reading = record { sense = record { deposit = true; feed = false; gripper = 0 }; gripper = pos 900; high = true }; act = record { travel = Off; height = Off; magnet = false }; drives = record { travel = refl; height = refl; magnet = refl }; is = refl }, refl))),
+        refl,
+        inl refl,
+        (3, (crane_at crane_step.GripPlate false, record { asks_nothing = refl; reading = record { sense = record { deposit = true; feed = false; gripper = 0 }; gripper = pos 100; high = true }; act = record { travel = Off; height = Off; magnet = false }; drives = record { travel = refl; height = off GRIPPER_DEPOSIT (le_z_yes tt); magnet = refl }; is = refl }, (crane_at crane_step.RaiseWithPlate true, record { asks_nothing = refl; reading = record { sense = record { deposit = true; feed = false; gripper = 0 }; gripper = pos 100; high = true }; act = record { travel = Off; height = Off; magnet = true }; drives = record { travel = refl; height = refl; magnet = refl }; is = refl }, (crane_at crane_step.TakePlate true, record { asks_nothing = refl; reading = record { sense = record { deposit = true; feed = false; gripper = 0 }; gripper = pos 900; high = true }; act = record { travel = Off; height = Off; magnet = true }; drives = record { travel = refl; height = off GRIPPER_TRAVEL (le_z_yes tt); magnet = refl }; is = refl }, refl)))),
+      );
+    }) in
+    let lie : false ≡ true = heeds.crane (Release Z5) (PlateInZone Z5) refl refl in
+    cc
+
+lands_in_a_shut_zone : ¬ NoneIsRefused (by_crane wrong.lands_in_a_shut_zone)
+lands_in_a_shut_zone law =
+    let o = start_state (insert_place empty place.Crane) 0 in
+    let heeds =
+    law o ([]) (record (team_at (by_crane wrong.lands_in_a_shut_zone) o) { crane = crane_at crane_step.ClaimFeed true }) (starts _ (omega arith) refl) tt
+    (record {
+      feed = (0, refl);
+      table = (0, refl);
+      robot = (0, refl);
+      press = (0, refl);
+      deposit = (0, refl);
+      crane = (1, (crane_at crane_step.ClaimFeed true, record { asks_nothing = refl; reading = record { sense = record { deposit = false; feed = true; gripper = 0 }; gripper = pos 900; high = true }; act = record { travel = Off; height = Off; magnet = true }; drives = record { travel = refl; height = refl; magnet = refl }; is = refl }, refl));
+    }) in
+    let lie : false ≡ true = heeds.crane (Claim Z6) (Shut Closed) refl refl in
+    cc
+
+-- ---- all of these
+
+right-rows : RightRows
+right-rows = record { feed = none-refused scales; table = none-refused scales; robot = none-refused scales; press = none-refused scales; deposit = none-refused scales; crane = none-refused scales }
+
+pub wrong-refused : WrongProgramsAreRefused
+wrong-refused = record {
+  right = right-rows;
+  wrong = record {
+    takes_unreleased = takes_unreleased;
+    runs_onto_plate = runs_onto_plate;
+    gives_until_free = gives_until_free;
+    loads_a_full_table = loads_a_full_table;
+    claims_what_it_has = claims_what_it_has;
+    enters_a_shut_zone = enters_a_shut_zone;
+    claims_back_at_once = claims_back_at_once;
+    moves_unclaimed = moves_unclaimed;
+    rises_empty = rises_empty;
+    offers_before_it_moves_on = offers_before_it_moves_on;
+    releases_its_plate = releases_its_plate;
+    lands_in_a_shut_zone = lands_in_a_shut_zone;
+  };
+}
