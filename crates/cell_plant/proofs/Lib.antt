@@ -31,3 +31,5 @@ mod RunRows
 mod RecordRows
 mod WatchRows
 mod WatchRight
+pub mod Standing
+pub mod Unrefused

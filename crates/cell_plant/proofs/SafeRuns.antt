@@ -1,14 +1,11 @@
 -- Every state of a run is safe: together the machines' invariants meet all demands, so nothing collides.
-use Rattle.std.proofs.Common.{◌≡◌, Bool, true, false, ◌&&◌, not, inl, inr, Option, Some, None, List, [], ◌∷◌, refl, sym, ap, ◌∙◌, subst}
+use Rattle.std.proofs.Common.{◌≡◌, Bool, true, false, inl, inr, Option, Some, None, List, [], ◌∷◌, refl, sym, ap, ◌∙◌, subst}
 use Rattle.cell_types.specs.declared.machine.Machine.{Machine}
 use Rattle.cell_types.specs.declared.machine.Machine.TheVariants.{Feed, Table, Robot, Press, Deposit, Crane, Watch}
 use Rattle.cell_rules.specs.PlaceSet.{PlaceSet}
-use Rattle.cell_rules.specs.ModelState.{ModelState, zone_at}
-use Rattle.cell_rules.specs.Sound.{IsSound}
+use Rattle.cell_rules.specs.ModelState.{ModelState}
 use Rattle.cell_rules.specs.Laws.{RunsClear}
-use Rattle.cell_rules.specs.Start.{IsStart, IsStartState, start_state}
-use Rattle.cell_rules.proofs.Puts.{each_zone}
-use Rattle.cell_rules.proofs.Lawful.{lawful_in, sound_from}
+use Rattle.cell_rules.specs.Start.{IsStartState, start_state}
 use Rattle.cell_types.specs.declared.answer.Event.{Event}
 use Rattle.cell_calib.specs.Line.{IsReading}
 use Rattle.cell_control.specs.Rigs.{Rig}
@@ -36,6 +33,7 @@ use Rattle.cell_parts.specs.PositionDemands.{PositionDemands}
 use Rattle.cell_parts.specs.MotorDemands.{GripperErrand, MotorDemands}
 use Rattle.cell_parts.specs.Laws.{AllDemandsMet}
 use Rattle.cell_parts.proofs.NoCollision.{nothing_collides}
+use Rattle.cell_team.proofs.Together.{sound_start}
 use Rattle.cell_notes.specs.declared.schedule.Turn.{Turn}
 use Rattle.cell_plant.specs.Machines.{robot_points, robot_axes}
 use Rattle.cell_plant.specs.CellStates.{CellState, plant_of, cell_at_start}
@@ -50,19 +48,7 @@ use Rattle.cell_plant.proofs.PressKeeps.{press-ends}
 use Rattle.cell_plant.proofs.RobotKeeps.{AreRobotScales, arm1-has, arm2-has, rotates-retracted, robot-ends, robot-lets-go}
 use Rattle.cell_plant.proofs.TableKeeps.{table-ends}
 
--- a start is sound, since its zones are free, and its belts don't run
-one_place_empty : (b : Bool) → b ≡ false → (not b && true) ≡ true
-one_place_empty false e = refl
-one_place_empty true e = cc
-
-sound_free : (full : PlaceSet) (stamp : _) → IsStart full stamp → IsSound (start_state full stamp)
-sound_free full stamp k =
-    let free = start_state full stamp in
-    sound_from free k.stamp_in_range (each_zone (λ z. lawful_in full z (zone_at free z) ≡ true) refl refl (one_place_empty _ k.one_in_press_at_most) refl refl refl)
-
-pub sound_start : (s : ModelState) → IsStartState s → IsSound s
-sound_start s k = subst IsSound (sym k.same) (sound_free s.full s.stamp k.start)
-
+-- at a start the belts don't run
 clear_free : (full : PlaceSet) (stamp : _) → RunsClear (start_state full stamp)
 clear_free full stamp = record { feed = λ e. cc; entry = λ e. cc; end = λ e. cc }
 

@@ -33,7 +33,8 @@ use Rattle.cell_plant.specs.Runs.{Step, LeadsIf, IsRun, goes_on}
 use Rattle.cell_plant.specs.Watch.{watch_steps}
 use Rattle.cell_plant.specs.WatchLaws.{NotesTheMark, NotesThroughout, IsRefusedAsWorn, AreRefusedAsWorn, WatchNotesTheMark}
 use Rattle.cell_plant.proofs.KeptRuns.{CellInv, step_keeps}
-use Rattle.cell_plant.proofs.SafeRuns.{sound_start, clear_start}
+use Rattle.cell_team.proofs.Together.{sound_start}
+use Rattle.cell_plant.proofs.SafeRuns.{clear_start}
 use Rattle.cell_plant.proofs.WatchKeeps.{WatchInv, watch-keeping}
 
 -- of the other machines nothing need be known

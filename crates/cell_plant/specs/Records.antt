@@ -1,5 +1,6 @@
 -- The record of a run.
-use Rattle.std.specs.Prelude.{◌≡◌, ℤ, Bool, ◌&&◌, List, [], ◌∷◌, ◌++◌, map, count_by, Some, Result}
+use Rattle.std.specs.Prelude.{◌≡◌, ◌≢◌, ℤ, Bool, ◌&&◌, List, [], ◌∷◌, ◌++◌, map, count_by, Some, Result}
+use Rattle.std.specs.List.{All}
 use Rattle.cell_types.specs.declared.machine.Machine.{Machine}
 use Rattle.cell_types.specs.declared.answer.Event.{Event}
 use Rattle.cell_types.specs.declared.reply.Reply.{Reply}
@@ -11,6 +12,7 @@ use Rattle.cell_rules.specs.ModelState.{ModelState}
 use Rattle.cell_rules.specs.Journal.{noted}
 use Rattle.cell_notes.specs.declared.counts.Counts.{Counts}
 use Rattle.cell_notes.specs.declared.run_record.RunRecord.{RunRecord}
+use Rattle.cell_notes.specs.declared.status.Status.TheVariants.{Refused}
 use Rattle.cell_notes.specs.Asks.{came_back, is_done_reply, is_read_reply, is_refused_reply, is_busy_reply, settled_in}
 use Rattle.cell_unit.specs.Statuses.{status_of}
 use Rattle.cell_parts.specs.declared.plant.PlantState.{PlantState}
@@ -61,3 +63,7 @@ pub record IsRecordOf (opening : ModelState) (steps : List Step) (last : CellSta
   pub journals : (m : Machine) → journal_of r.journals m ≡ noted opening (events_in steps) m
   pub end : r.end ≡ Some last.interlock
   pub axes : r.axes ≡ positions_in (plant_of last)
+
+-- no machine has been stopped by a refusal, nor the watch
+abbrev pub NoneRefused : RunRecord → Type 0
+NoneRefused r = All (λ s. s ≢ Refused) r.status

@@ -11,7 +11,7 @@ ghost use Rattle.cell_plant.specs.Cells.{IsMadeFor, TellsRun, cell_gauges, cell_
 ghost use Rattle.cell_plant.specs.CellStates.{side_in, plant_of};
 ghost use Rattle.cell_plant.specs.Frames.{SeesRun, SeesBeginning, frame_of, steps_in};
 ghost use Rattle.cell_plant.specs.Moments.{StepsOn, Keeps, first_moment, notes_in, state_at};
-ghost use Rattle.cell_plant.specs.Records.{positions_in};
+ghost use Rattle.cell_plant.specs.Records.{NoneRefused, positions_in};
 ghost use Rattle.cell_plant.specs.Simulations.{given_by};
 
 use crate::cell::Cell;
@@ -49,6 +49,7 @@ pub fn simulate<F1: Gauge, F2: Gauge, F3: Gauge, F4: Gauge, F5: Gauge>(
     requires made { IsMadeFor opening cell }
     requires scales { AreCellScales (cell_scales cell) }
     ensures run { IfOk result (TellsRun (cell_scales cell) (cell_gauges cell) opening turns.now) }
+    ensures none_refused { IfOk result NoneRefused }
     ensures no_turn { turns.now ≡ [] → IsOk result }
 {
     match simulate_seen(alloc, cell, opening, turns, &mut NoWatcher) {

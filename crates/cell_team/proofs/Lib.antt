@@ -12,3 +12,4 @@ pub mod Together
 pub mod Stopping
 pub mod Turned
 pub mod WrongRows
+pub mod Sensed
