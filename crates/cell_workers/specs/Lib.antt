@@ -9,3 +9,4 @@ pub mod Promises
 pub mod Six
 pub mod Laws
 pub mod WiredLaws
+pub mod WiredTeams

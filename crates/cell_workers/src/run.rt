@@ -5,7 +5,7 @@ ghost use Rattle.cell_notes.specs.declared.status.Status.{Status};
 ghost use Rattle.cell_notes.specs.Notes.{no_counts};
 ghost use Rattle.cell_parts.specs.Axes.{AreCellScales};
 ghost use Rattle.cell_plant.specs.Cells.{IsMadeFor, cell_gauges, cell_scales};
-ghost use Rattle.cell_plant.specs.Records.{positions_in};
+ghost use Rattle.cell_plant.specs.Records.{NoneRefused, positions_in};
 ghost use Rattle.cell_workers.specs.Records.{TellsWork};
 ghost use Rattle.cell_workers.specs.Results.{parts_in};
 
@@ -80,6 +80,7 @@ where
     requires scales { AreCellScales (cell_scales cell) }
     ensures tries { (result ≡ Err RunFault.Tries) ↔ ((tries < 1) ⊎ (64 < tries)) }
     ensures work { IfOk result (TellsWork (cell_scales cell) (cell_gauges cell) opening tries turns (G.may_answer gate.now)) }
+    ensures none_refused { IfOk result NoneRefused }
 {
     let workers = PerMachine {
         feed: cell.feed,

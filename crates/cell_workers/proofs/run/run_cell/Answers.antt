@@ -26,6 +26,7 @@ use Rattle.cell_workers.specs.Records.{TellsWork}
 use Rattle.cell_workers.specs.Results.{AreWorkerResults, CellOutcomes, parts_in, seen_in}
 use Rattle.cell_workers.specs.Workers.{worker_moment}
 use Rattle.cell_workers.proofs.Recording.{fitted_result, is_result_of, ready_at_start, tells}
+use Rattle.cell_workers.proofs.Unrefused.{work-unrefused}
 use Rattle.cell_workers.proofs.run.run_cell.Goals as goal
 
 pub run_workers-requires-clause-ready : goal.run_workers-requires-clause-ready
@@ -86,3 +87,8 @@ returns-in-Ok-clause-work g c =
     (told.counts ∙ ap (λ (x : CellOutcomes). x.feed.counts ∷ x.table.counts ∷ x.robot.counts ∷ x.press.counts ∷ x.deposit.counts ∷ x.crane.counts ∷ no_counts ∷ []) k.outcomes)
     (told.status ∙ ap (λ (x : CellOutcomes). x.feed.status ∷ x.table.status ∷ x.robot.status ∷ x.press.status ∷ x.deposit.status ∷ x.crane.status ∷ Fine ∷ []) k.outcomes)
     (told.axes ∙ ap (λ (x : CellOutcomes). positions_in (parts_in x)) k.outcomes)))
+
+pub returns-in-Ok-clause-none_refused : goal.returns-in-Ok-clause-none_refused
+returns-in-Ok-clause-none_refused g c =
+    let cell = c.args.cell in
+    work-unrefused (cell_scales cell) (cell_gauges cell) c.args.opening c.args.tries c.args.turns (g.G.Gate.may_answer c.args.gate.now) c.run_record_of.result c.requires.start (returns-in-Ok-clause-work g c)
