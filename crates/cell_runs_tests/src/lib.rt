@@ -5,6 +5,8 @@
 #[cfg(test)]
 mod ends;
 #[cfg(test)]
+mod every_start;
+#[cfg(test)]
 mod gauges;
 #[cfg(test)]
 mod rounds;
