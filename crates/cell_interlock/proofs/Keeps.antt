@@ -23,7 +23,9 @@ use Rattle.cell_rules.proofs.SeenLemmas.{legal-append, same_as_itself}
 use Rattle.cell_word.specs.Layout.{packed}
 use Rattle.cell_interlock.specs.declared.pass.MachineView.{MachineView}
 use Rattle.cell_interlock.specs.Steps.{IsReady}
-use Rattle.cell_interlock.specs.Rule.{OwnSeat, new_view, head_of, first_off, others_of, all_views, Fits, AllFit, times_in, times_in_all, WordTellsHistory, WordMoment, seen_at, seen_by, after_load, after_exchange, looked, exchanged, WordMomentOfAll, all_see, gathered, IsSeat}
+use Rattle.cell_interlock.specs.declared.pass.SeatView.{SeatView}
+use Rattle.cell_interlock.specs.declared.pass.HistoryView.{HistoryView}
+use Rattle.cell_interlock.specs.Rule.{OwnSeat, new_view, head_of, spent, machine_alone, first_only, but_first, first_off, others_of, seen_in, receipts_of, together, all_views, Fits, AllFit, Tells, AllTell, TellFirst, SeatFits, times_in, times_in_all, WordTellsHistory, WordMoment, seen_at, seen_by, after_load, after_exchange, looked, exchanged, WordMomentOfAll, all_see, after_gathering, gathered, IsSeat}
 use Rattle.cell_rules.proofs.Quiet.{next-same}
 use Rattle.cell_interlock.proofs.Machines.{apart_back, not_own, begins-more, own-more}
 
@@ -43,17 +45,36 @@ fit-more o h k m quiet (p ∷ ps) z t = go (same_machine p.machine m) refl (fit-
     go true e again = absurd (grind (arith, e, z))
     go false e again = (record { opening_is = t.0.opening_is; begins = begins-more h k p.seen t.0.begins; own = own-more p.machine h k p.seen (quiet p.machine e) t.0.own }, again (grind (arith, e, z)) t.1)
 
-fit-first : (o : ModelState) (h : List Event) (ps : List MachineView) → AllFit o h ps → AllFit o h (first_off ps)
+fit-first : (o : ModelState) (h : List Event) (ps : List MachineView) → AllFit o h ps → AllFit o h (first_only ps)
 fit-first o h [] a = tt
 fit-first o h (p ∷ ps) a = (a.0, tt)
 
-fit-others : (o : ModelState) (h : List Event) (ps : List MachineView) → AllFit o h ps → AllFit o h (others_of ps)
+fit-others : (o : ModelState) (h : List Event) (ps : List MachineView) → AllFit o h ps → AllFit o h (but_first ps)
 fit-others o h [] a = tt
 fit-others o h (p ∷ ps) a = a.1
 
 fit-both : (o : ModelState) (h : List Event) (ps qs : List MachineView) → AllFit o h ps → AllFit o h qs → AllFit o h (ps ++ qs)
 fit-both o h [] qs a b = b
 fit-both o h (p ∷ ps) qs a b = (a.0, fit-both o h ps qs a.1 b)
+
+-- receipts tell prefixes of a history that grows
+tell-more : (o : ModelState) (h k : List Event) (rs : List HistoryView) → AllTell o h rs → AllTell o (h ++ k) rs
+tell-more o h k [] a = tt
+tell-more o h k (r ∷ rs) a = (record { opening_is = a.0.opening_is; begins = begins-more h k r.seen a.0.begins }, tell-more o h k rs a.1)
+
+tell-both : (o : ModelState) (h : List Event) (rs qs : List HistoryView) → AllTell o h rs → AllTell o h qs → AllTell o h (rs ++ qs)
+tell-both o h [] qs a b = b
+tell-both o h (r ∷ rs) qs a b = (a.0, tell-both o h rs qs a.1 b)
+
+-- what the machines of a seat have seen
+tell-seen : (o : ModelState) (h : List Event) (ps : List MachineView) → AllFit o h ps → AllTell o h (seen_in ps)
+tell-seen o h [] a = tt
+tell-seen o h (p ∷ ps) a = (record { opening_is = a.0.opening_is; begins = a.0.begins }, tell-seen o h ps a.1)
+
+-- a seat's machines have its opening
+tell-first : (o : ModelState) (h : List Event) (ps : List MachineView) (rs : List HistoryView) → AllFit o h ps → AllTell o h rs → TellFirst ps h rs
+tell-first o h [] rs a b = tt
+tell-first o h (p ∷ ps) rs a b = subst (λ (z : ModelState). AllTell z h rs) (sym a.0.opening_is) b
 
 fit-all_see : (o : ModelState) (h : List Event) (ps : List MachineView) → AllFit o h ps → AllFit o h (all_see h ps)
 fit-all_see o h [] a = tt
@@ -67,45 +88,42 @@ times-append : (m : Machine) (ps qs : List MachineView) → times_in m (ps ++ qs
 times-append m [] qs = omega arith
 times-append m (p ∷ ps) qs = omega (arith, times-append m ps qs)
 
-times-cut : (m : Machine) (ps : List MachineView) → times_in m (first_off ps) + times_in m (others_of ps) ≡ times_in m ps
+times-cut : (m : Machine) (ps : List MachineView) → times_in m (first_only ps) + times_in m (but_first ps) ≡ times_in m ps
 times-cut m [] = refl
 times-cut m (p ∷ ps) = omega arith
 
-total-set : (m : Machine) (vs : List (List MachineView)) (i : ℕ) (v w : List MachineView) → get_elem? vs i ≡ some v → times_in_all m (set vs i w) + times_in m v ≡ times_in_all m vs + times_in m w
+total-set : (m : Machine) (vs : List SeatView) (i : ℕ) (v w : SeatView) → get_elem? vs i ≡ some v → times_in_all m (set vs i w) + times_in m v.machines ≡ times_in_all m vs + times_in m w.machines
 total-set m [] i v w e = absurd (some-ne-none v (sym e))
-total-set m (x ∷ xs) zero v w e = let f : times_in m x ≡ times_in m v = ap (times_in m) (some-injective x v e) in omega arith
+total-set m (x ∷ xs) zero v w e = let f : times_in m x.machines ≡ times_in m v.machines = ap (λ (z : SeatView). times_in m z.machines) (some-injective x v e) in omega arith
 total-set m (x ∷ xs) (suc i) v w e = omega (arith, total-set m xs i v w e)
 
-total-snoc : (m : Machine) (vs : List (List MachineView)) (w : List MachineView) → times_in_all m (vs ++ w ∷ []) ≡ times_in_all m vs + times_in m w
+total-snoc : (m : Machine) (vs : List SeatView) (w : SeatView) → times_in_all m (vs ++ w ∷ []) ≡ times_in_all m vs + times_in m w.machines
 total-snoc m [] w = omega arith
 total-snoc m (x ∷ xs) w = omega (arith, total-snoc m xs w)
 
-total-one : (m : Machine) (vs : List (List MachineView)) (i : ℕ) (v : List MachineView) → get_elem? vs i ≡ some v → times_in m v ≤ times_in_all m vs
+total-one : (m : Machine) (vs : List SeatView) (i : ℕ) (v : SeatView) → get_elem? vs i ≡ some v → times_in m v.machines ≤ times_in_all m vs
 total-one m [] i v e = absurd (some-ne-none v (sym e))
-total-one m (x ∷ xs) zero v e = let f : times_in m x ≡ times_in m v = ap (times_in m) (some-injective x v e) in omega arith
+total-one m (x ∷ xs) zero v e = let f : times_in m x.machines ≡ times_in m v.machines = ap (λ (z : SeatView). times_in m z.machines) (some-injective x v e) in omega arith
 total-one m (x ∷ xs) (suc i) v e = omega (arith, total-one m xs i v e)
 
-total-two : (m : Machine) (vs : List (List MachineView)) (i j : ℕ) (v w : List MachineView) → j ≢ i → get_elem? vs i ≡ some v → get_elem? vs j ≡ some w → times_in m v + times_in m w ≤ times_in_all m vs
+total-two : (m : Machine) (vs : List SeatView) (i j : ℕ) (v w : SeatView) → j ≢ i → get_elem? vs i ≡ some v → get_elem? vs j ≡ some w → times_in m v.machines + times_in m w.machines ≤ times_in_all m vs
 total-two m [] i j v w n e f = absurd (some-ne-none v (sym e))
 total-two m (x ∷ xs) zero zero v w n e f = absurd (n refl)
-total-two m (x ∷ xs) zero (suc j) v w n e f = let g : times_in m x ≡ times_in m v = ap (times_in m) (some-injective x v e) in omega (arith, total-one m xs j w f)
-total-two m (x ∷ xs) (suc i) zero v w n e f = let g : times_in m x ≡ times_in m w = ap (times_in m) (some-injective x w f) in omega (arith, total-one m xs i v e)
+total-two m (x ∷ xs) zero (suc j) v w n e f = let g : times_in m x.machines ≡ times_in m v.machines = ap (λ (z : SeatView). times_in m z.machines) (some-injective x v e) in omega (arith, total-one m xs j w f)
+total-two m (x ∷ xs) (suc i) zero v w n e f = let g : times_in m x.machines ≡ times_in m w.machines = ap (λ (z : SeatView). times_in m z.machines) (some-injective x w f) in omega (arith, total-one m xs i v e)
 total-two m (x ∷ xs) (suc i) (suc j) v w n e f = omega (arith, total-two m xs i j v w (λ h. n (ap suc h)) e f)
 
-abbrev Views : Type 0
-Views = List (List MachineView)
-
 abbrev Shop : Type 0 → Type 0
-Shop S = State S (List MachineView)
+Shop S = State S SeatView
 
-views-stay : (o : ModelState) (h : List Event) (vs : Views) (id : ℕ) (w : List MachineView) → AllFit o h w → ((j : ℕ) (u : List MachineView) → j ≢ id → get_elem? vs j ≡ some u → AllFit o h u)
-    → (j : ℕ) (u : List MachineView) → get_elem? (set vs id w) j ≡ some u → AllFit o h u
-views-stay o h vs id w here others j u e = ⊎_elim (λ (t : (j ≡ id) × (w ≡ u)). subst (AllFit o h) t.1 here) (λ (t : (j ≢ id) × (get_elem? vs j ≡ some u)). others j u t.0 t.1) (at_set vs id j w u e)
+views-stay : (o : ModelState) (h : List Event) (vs : List SeatView) (id : ℕ) (w : SeatView) → SeatFits o h w → ((j : ℕ) (u : SeatView) → j ≢ id → get_elem? vs j ≡ some u → SeatFits o h u)
+    → (j : ℕ) (u : SeatView) → get_elem? (set vs id w) j ≡ some u → SeatFits o h u
+views-stay o h vs id w here others j u e = ⊎_elim (λ (t : (j ≡ id) × (w ≡ u)). subst (SeatFits o h) t.1 here) (λ (t : (j ≢ id) × (get_elem? vs j ≡ some u)). others j u t.0 t.1) (at_set vs id j w u e)
 
 module _ {S : Type 0} (o : ModelState) where
   -- seat id has a new view of the same machines, and the word may have changed
-  moved : (s : Shop S) (r : WordTellsHistory o s) (id : ℕ) (v w : List MachineView) → get_elem? s.views id ≡ some v → (h : List Event) → IsLegal o h → (n : ℕ) → n ≡ packed (after o h) → AllFit o h w
-      → ((j : ℕ) (u : List MachineView) → j ≢ id → get_elem? s.views j ≡ some u → AllFit o h u) → ((m : Machine) → times_in m w ≡ times_in m v) → WordTellsHistory o (stepped s 0 n id [] w keeps)
+  moved : (s : Shop S) (r : WordTellsHistory o s) (id : ℕ) (v w : SeatView) → get_elem? s.views id ≡ some v → (h : List Event) → IsLegal o h → (n : ℕ) → n ≡ packed (after o h) → SeatFits o h w
+      → ((j : ℕ) (u : SeatView) → j ≢ id → get_elem? s.views j ≡ some u → SeatFits o h u) → ((m : Machine) → times_in m w.machines ≡ times_in m v.machines) → WordTellsHistory o (stepped s 0 n id [] w keeps)
   moved s r id v w at h legal n is here others count = record {
     history = h;
     has_word = subst (λ (z : ℕ). 0 < z) (sym (length-set s.words 0 n)) r.has_word;
@@ -117,21 +135,21 @@ module _ {S : Type 0} (o : ModelState) where
   }
 
   -- no event, and the word stays
-  stayed : (s : Shop S) (r : WordTellsHistory o s) (id : ℕ) (v w : List MachineView) → get_elem? s.views id ≡ some v → AllFit o r.history w → ((m : Machine) → times_in m w ≡ times_in m v)
+  stayed : (s : Shop S) (r : WordTellsHistory o s) (id : ℕ) (v w : SeatView) → get_elem? s.views id ≡ some v → SeatFits o r.history w → ((m : Machine) → times_in m w.machines ≡ times_in m v.machines)
       → WordTellsHistory o (stepped s 0 (get_or s.words 0 0) id [] w keeps)
   stayed s r id v w at here count = moved s r id v w at r.history r.legal (get_or s.words 0 0) r.word here (λ j u _ e. r.views j u e) count
 
   -- one event of the machine whose seat it is
-  called : (s : Shop S) (r : WordTellsHistory o s) (id : ℕ) (p : MachineView) → get_elem? s.views id ≡ some (p ∷ []) → (c : Call) (n : ℕ) → n ≡ packed (next (after o r.history) p.machine c) → (since : List Event) (l x : ℕ)
-      → let e : Event = event p.machine c (reply (after o r.history) p.machine c) in WordTellsHistory o (stepped s 0 n id [] (now p (r.history ++ e ∷ []) since l x ∷ []) keeps)
+  called : (s : Shop S) (r : WordTellsHistory o s) (id : ℕ) (p : MachineView) → get_elem? s.views id ≡ some (machine_alone p) → (c : Call) (n : ℕ) → n ≡ packed (next (after o r.history) p.machine c) → (since : List Event) (l x : ℕ)
+      → let e : Event = event p.machine c (reply (after o r.history) p.machine c) in WordTellsHistory o (stepped s 0 n id [] (machine_alone (now p (r.history ++ e ∷ []) since l x)) keeps)
   called s r id p at c n is since l x =
       let h : List Event = r.history in let e : Event = event p.machine c (reply (after o h) p.machine c) in let k : List Event = e ∷ [] in
-      let t = r.views id (p ∷ []) at in
+      let t = r.views id (machine_alone p) at in
       let quiet : (m : Machine) → same_machine m p.machine ≡ false → own_events k m ≡ [] = λ m f. not_own e m (apart_back p.machine m f) in
       let mine_one : times_in p.machine (p ∷ []) ≡ 1 = ap (λ (b : Bool). (if b then 1 else 0) + 0) (same_as_itself p.machine) in
-      moved s r id (p ∷ []) (now p (h ++ k) since l x ∷ []) at (h ++ k) (legal-append o h k r.legal (refl, tt)) n (is ∙ ap packed (sym (after-append o h k)))
-      (fits_whole o (now p (h ++ k) since l x) t.0.opening_is, tt)
-      (λ j u apart f. fit-more o h k p.machine quiet u (omega (arith, total-two p.machine s.views id j (p ∷ []) u apart at f, r.apart p.machine)) (r.views j u f))
+      moved s r id (machine_alone p) (machine_alone (now p (h ++ k) since l x)) at (h ++ k) (legal-append o h k r.legal (refl, tt)) n (is ∙ ap packed (sym (after-append o h k)))
+      ((fits_whole o (now p (h ++ k) since l x) t.0.0.opening_is, tt), tt)
+      (λ j u apart f. (fit-more o h k p.machine quiet u.machines (omega (arith, mine_one, total-two p.machine s.views id j (machine_alone p) u apart at f, r.apart p.machine)) (r.views j u f).0, tell-more o h k u.receipts (r.views j u f).1))
       (λ m. refl)
 
   point : (s : Shop S) (r : WordTellsHistory o s) (p : MachineView) → Fits o r.history p → WordMoment p (get_or s.words 0 0) r.history
@@ -145,50 +163,50 @@ module _ {S : Type 0} (o : ModelState) where
   }
 
   -- the load finds the word; the call's event is added if the call changes nothing
-  looks_at : (s : Shop S) (r : WordTellsHistory o s) (id : ℕ) (p : MachineView) → get_elem? s.views id ≡ some (p ∷ []) → (c : Call) (since : List Event) (l x : ℕ)
-      → WordTellsHistory o (stepped s 0 (get_or s.words 0 0) id [] (now p (seen_at c p r.history) since l x ∷ []) keeps)
+  looks_at : (s : Shop S) (r : WordTellsHistory o s) (id : ℕ) (p : MachineView) → get_elem? s.views id ≡ some (machine_alone p) → (c : Call) (since : List Event) (l x : ℕ)
+      → WordTellsHistory o (stepped s 0 (get_or s.words 0 0) id [] (machine_alone (now p (seen_at c p r.history) since l x)) keeps)
   looks_at s r id p at c since l x =
-      let h : List Event = r.history in let t = r.views id (p ∷ []) at in
-      subst (λ (z : ModelState). WordTellsHistory o (stepped s 0 (get_or s.words 0 0) id [] (now p (if is_done_answer (reply (after z h) p.machine c) then h else h ++ event p.machine c (reply (after z h) p.machine c) ∷ []) since l x ∷ []) keeps)) (sym t.0.opening_is)
+      let h : List Event = r.history in let t = r.views id (machine_alone p) at in
+      subst (λ (z : ModelState). WordTellsHistory o (stepped s 0 (get_or s.words 0 0) id [] (machine_alone (now p (if is_done_answer (reply (after z h) p.machine c) then h else h ++ event p.machine c (reply (after z h) p.machine c) ∷ []) since l x)) keeps)) (sym t.0.0.opening_is)
       (go (is_done_answer (reply (after o h) p.machine c)) refl)
     where
       go : (b : Bool) → is_done_answer (reply (after o r.history) p.machine c) ≡ b
-          → WordTellsHistory o (stepped s 0 (get_or s.words 0 0) id [] (now p (if b then r.history else r.history ++ event p.machine c (reply (after o r.history) p.machine c) ∷ []) since l x ∷ []) keeps)
-      go true e = let t = r.views id (p ∷ []) at in stayed s r id (p ∷ []) (now p r.history since l x ∷ []) at (fits_whole o (now p r.history since l x) t.0.opening_is, tt) (λ m. refl)
+          → WordTellsHistory o (stepped s 0 (get_or s.words 0 0) id [] (machine_alone (now p (if b then r.history else r.history ++ event p.machine c (reply (after o r.history) p.machine c) ∷ []) since l x)) keeps)
+      go true e = let t = r.views id (machine_alone p) at in stayed s r id (machine_alone p) (machine_alone (now p r.history since l x)) at ((fits_whole o (now p r.history since l x) t.0.0.opening_is, tt), tt) (λ m. refl)
       go false e = called s r id p at c (get_or s.words 0 0) (r.word ∙ ap packed (sym (next-same (after o r.history) p.machine c e))) since l x
 
-  pub looks : (slots id : ℕ) (p : MachineView) (c : Call) → Allows (WordTellsHistory o) slots id (p ∷ [], []) 0 (λ n. n) (looked {S = S} c (step slots 0 0 0 none) (p ∷ [], []))
+  pub looks : (slots id : ℕ) (p : MachineView) (c : Call) → Allows (WordTellsHistory o) slots id (machine_alone p, []) 0 (λ n. n) (looked {S = S} c (step slots 0 0 0 none) (machine_alone p, []))
   looks slots id p c s r _ at _ =
-      let t = r.views id (p ∷ []) at in
-      (after_load p (seen_at c p r.history) ∷ [], keeps, tt, looks_at s r id p at c _ _ _, (r.history, point s r p t.0, refl))
+      let t = r.views id (machine_alone p) at in
+      (machine_alone (after_load p (seen_at c p r.history)), keeps, tt, looks_at s r id p at c _ _ _, (r.history, point s r p t.0.0, refl))
 
-  pub looks_as : (slots id : ℕ) (me : OwnSeat S) (c : Call) → me ≡ (head_of me.0 ∷ [], []) → Allows (WordTellsHistory o) slots id me 0 (λ n. n) (looked {S = S} c (step slots 0 0 0 none) me)
+  pub looks_as : (slots id : ℕ) (me : OwnSeat S) (c : Call) → me ≡ (machine_alone (head_of me.0), []) → Allows (WordTellsHistory o) slots id me 0 (λ n. n) (looked {S = S} c (step slots 0 0 0 none) me)
   looks_as slots id me c e = subst (λ (z : OwnSeat S). Allows (WordTellsHistory o) slots id z 0 (λ n. n) (looked {S = S} c (step slots 0 0 0 none) z)) (sym e) (looks slots id (head_of me.0) c)
 
   -- the exchange is won if the word is still the one for which the call was looked up
   pub exchanges : (slots id : ℕ) (p : MachineView) (c : Call) (old new : ℕ) → ((z : ModelState) → IsSound z → packed z ≡ old → (reply z p.machine c ≡ Done) × (packed (next z p.machine c) ≡ new))
-      → Allows (WordTellsHistory o) slots id (p ∷ [], []) 0 (λ n. either (eqb n old) new n) (exchanged {S = S} c (step slots 0 old new none) (p ∷ [], []))
+      → Allows (WordTellsHistory o) slots id (machine_alone p, []) 0 (λ n. either (eqb n old) new n) (exchanged {S = S} c (step slots 0 old new none) (machine_alone p, []))
   exchanges slots id p c old new ready s r _ at _ =
-      let h : List Event = r.history in let x : ℕ = get_or s.words 0 0 in let t = r.views id (p ∷ []) at in
-      let pick : Bool → List MachineView = λ b. after_exchange p (if b then h ++ event p.machine c Done ∷ [] else seen_at c p h) ∷ [] in
+      let h : List Event = r.history in let x : ℕ = get_or s.words 0 0 in let t = r.views id (machine_alone p) at in
+      let pick : Bool → SeatView = λ b. machine_alone (after_exchange p (if b then h ++ event p.machine c Done ∷ [] else seen_at c p h)) in
       dite (ℕ_discrete x old)
       (λ hit. let f = ready (after o h) (sound-after o h r.sound) (sym r.word ∙ hit) in (
         pick (eqb x old),
         keeps,
         tt,
         subst (λ (b : Bool). WordTellsHistory o (stepped s 0 (either b new x) id [] (pick b) keeps)) (sym (eq-eqb x old hit))
-            (subst (λ a. WordTellsHistory o (stepped s 0 new id [] (after_exchange p (h ++ event p.machine c a ∷ []) ∷ []) keeps)) f.0 (called s r id p at c new (sym f.1) _ _ _)),
-        (h, point s r p t.0, refl),
+            (subst (λ a. WordTellsHistory o (stepped s 0 new id [] (machine_alone (after_exchange p (h ++ event p.machine c a ∷ []))) keeps)) f.0 (called s r id p at c new (sym f.1) _ _ _)),
+        (h, point s r p t.0.0, refl),
       ))
       (λ miss. (
         pick (eqb x old),
         keeps,
         tt,
         subst (λ (b : Bool). WordTellsHistory o (stepped s 0 (either b new x) id [] (pick b) keeps)) (sym (ne_eqb x old miss)) (looks_at s r id p at c _ _ _),
-        (h, point s r p t.0, refl),
+        (h, point s r p t.0.0, refl),
       ))
 
-  pub exchanges_as : (slots id : ℕ) (me : OwnSeat S) (c : Call) (old new : ℕ) → me ≡ (head_of me.0 ∷ [], []) → ((z : ModelState) → IsSound z → packed z ≡ old → (reply z (head_of me.0).machine c ≡ Done) × (packed (next z (head_of me.0).machine c) ≡ new))
+  pub exchanges_as : (slots id : ℕ) (me : OwnSeat S) (c : Call) (old new : ℕ) → me ≡ (machine_alone (head_of me.0), []) → ((z : ModelState) → IsSound z → packed z ≡ old → (reply z (head_of me.0).machine c ≡ Done) × (packed (next z (head_of me.0).machine c) ≡ new))
       → Allows (WordTellsHistory o) slots id me 0 (λ n. either (eqb n old) new n) (exchanged {S = S} c (step slots 0 old new none) me)
   exchanges_as slots id me c old new e ready = subst (λ (z : OwnSeat S). Allows (WordTellsHistory o) slots id z 0 (λ n. either (eqb n old) new n) (exchanged {S = S} c (step slots 0 old new none) z)) (sym e) (exchanges slots id (head_of me.0) c old new ready)
 
@@ -196,39 +214,49 @@ module _ {S : Type 0} (o : ModelState) where
   points s r [] t = tt
   points s r (p ∷ ps) t = (point s r p t.0, points s r ps t.1)
 
-  gathers : (slots id : ℕ) (ps : List MachineView) → Allows (WordTellsHistory o) slots id (ps, []) 0 (λ n. n) (gathered {S = S} (step slots 0 0 0 none) (ps, []))
-  gathers slots id ps s r _ at _ =
-      let h : List Event = r.history in let t = r.views id ps at in
-      (all_see h ps, keeps, tt, stayed s r id ps (all_see h ps) at (fit-all_see o h ps t) (λ m. times-all_see m h ps), (h, points s r ps t, refl))
+  gathers : (slots id : ℕ) (v : SeatView) → Allows (WordTellsHistory o) slots id (v, []) 0 (λ n. n) (gathered {S = S} (step slots 0 0 0 none) (v, []))
+  gathers slots id v s r _ at _ =
+      let h : List Event = r.history in let t = r.views id v at in
+      (after_gathering h v, keeps, tt, stayed s r id v (after_gathering h v) at (fit-all_see o h v.machines t.0, tt) (λ m. times-all_see m h v.machines), (h, points s r v.machines t.0, tell-first o h v.machines v.receipts t.0 t.1, refl))
 
   pub gathers_as : (slots id : ℕ) (me : OwnSeat S) → me.1 ≡ [] → Allows (WordTellsHistory o) slots id me 0 (λ n. n) (gathered {S = S} (step slots 0 0 0 none) me)
   gathers_as slots id me e = subst (λ x. Allows (WordTellsHistory o) slots id (me.0, x) 0 (λ n. n) (gathered {S = S} (step slots 0 0 0 none) (me.0, x))) (sym e) (gathers slots id me.0)
 
-  pub joins : (id : ℕ) (v : List MachineView) (other : ℕ) (w : List MachineView) → Joins {S = S} (WordTellsHistory o) id v other w (w ++ v) []
+  pub joins : (id : ℕ) (v : SeatView) (other : ℕ) (w : SeatView) → Joins {S = S} (WordTellsHistory o) id v other w (together v w) spent
   joins id v other w s r at apart there =
-      let both = set s.views id (w ++ v) in
-      let was : get_elem? s.views other ≡ some w = ⊎_elim (λ (t : (other ≡ id) × (w ++ v ≡ w)). absurd (apart t.0)) (λ (t : (other ≢ id) × (get_elem? s.views other ≡ some w)). t.1) (at_set s.views id other (w ++ v) w there) in
-      let t = fit-both o r.history w v (r.views other w was) (r.views id v at) in record {
+      let all = set s.views id (together v w) in
+      let was : get_elem? s.views other ≡ some w = ⊎_elim (λ (t : (other ≡ id) × (together v w ≡ w)). absurd (apart t.0)) (λ (t : (other ≢ id) × (get_elem? s.views other ≡ some w)). t.1) (at_set s.views id other (together v w) w there) in
+      let tw = r.views other w was in
+      let tv = r.views id v at in
+      let t : SeatFits o r.history (together v w) = (fit-both o r.history w.machines v.machines tw.0 tv.0, tell-both o r.history w.receipts v.receipts tw.1 tv.1) in record {
         history = r.history;
         has_word = r.has_word;
         sound = r.sound;
         legal = r.legal;
         word = r.word;
-        views = views-stay o r.history both other [] tt (λ j u _ e. views-stay o r.history s.views id (w ++ v) t (λ i x _ f. r.views i x f) j u e);
-        apart = λ m. omega (arith, total-set m both other w [] there, total-set m s.views id v (w ++ v) at, times-append m w v, r.apart m);
+        views = views-stay o r.history all other spent (tt, tt) (λ j u _ e. views-stay o r.history s.views id (together v w) t (λ i x _ f. r.views i x f) j u e);
+        apart = λ m. omega (arith, total-set m all other w spent there, total-set m s.views id v (together v w) at, times-append m w.machines v.machines, r.apart m);
       }
 
-  pub splits : (id : ℕ) (v : List MachineView) → Splits {S = S} (WordTellsHistory o) id v (others_of v) (first_off v)
-  splits id v s r at = record {
+  -- a seat is split into two that have seen no more, and no other machine
+  cuts : (id : ℕ) (v left right : SeatView) → ((h : List Event) → SeatFits o h v → SeatFits o h left × SeatFits o h right) → ((m : Machine) → times_in m right.machines + times_in m left.machines ≡ times_in m v.machines)
+      → Splits {S = S} (WordTellsHistory o) id v left right
+  cuts id v left right fit count s r at = let t = fit r.history (r.views id v at) in record {
     history = r.history;
     has_word = r.has_word;
     sound = r.sound;
     legal = r.legal;
     word = r.word;
-    views = λ j u e. ⊎_elim (views-stay o r.history s.views id (others_of v) (fit-others o r.history v (r.views id v at)) (λ i x _ f. r.views i x f) j u)
-        (λ (t : first_off v ≡ u). subst (AllFit o r.history) t (fit-first o r.history v (r.views id v at))) (at_snoc (set s.views id (others_of v)) (first_off v) u j e);
-    apart = λ m. omega (arith, total-snoc m (set s.views id (others_of v)) (first_off v), total-set m s.views id v (others_of v) at, times-cut m v, r.apart m);
+    views = λ j u e. ⊎_elim (views-stay o r.history s.views id left t.0 (λ i x _ f. r.views i x f) j u)
+        (λ (same : right ≡ u). subst (SeatFits o r.history) same t.1) (at_snoc (set s.views id left) right u j e);
+    apart = λ m. omega (arith, total-snoc m (set s.views id left) right, total-set m s.views id v left at, count m, r.apart m);
   }
+
+  pub splits : (id : ℕ) (v : SeatView) → Splits {S = S} (WordTellsHistory o) id v (others_of v) (first_off v)
+  splits id v = cuts id v (others_of v) (first_off v) (λ h t. ((fit-others o h v.machines t.0, t.1), (fit-first o h v.machines t.0, tt))) (λ m. times-cut m v.machines)
+
+  pub receipts : (id : ℕ) (v : SeatView) → Splits {S = S} (WordTellsHistory o) id v v (receipts_of v)
+  receipts id v = cuts id v v (receipts_of v) (λ h t. (t, (tt, tell-both o h (seen_in v.machines) v.receipts (tell-seen o h v.machines t.0) t.1))) (λ m. omega arith)
 
   pub opens : (n : ℕ) (xs : List S) → n ≡ packed o → IsSound o → WordTellsHistory o (opening (n ∷ []) xs (all_views o))
   opens n xs is sound = record {
@@ -244,8 +272,8 @@ module _ {S : Type 0} (o : ModelState) where
       new : (m : Machine) → Fits o [] (new_view o m)
       new m = record { opening_is = refl; begins = ([], refl); own = refl }
 
-      first : (i : ℕ) (v : List MachineView) → get_elem? (all_views o ∷ []) i ≡ some v → AllFit o [] v
-      first zero v e = subst (AllFit o []) (some-injective (all_views o) v e) (new Feed, (new Table, (new Robot, (new Press, (new Deposit, (new Crane, (new Watch, tt)))))))
+      first : (i : ℕ) (v : SeatView) → get_elem? (all_views o ∷ []) i ≡ some v → SeatFits o [] v
+      first zero v e = subst (SeatFits o []) (some-injective (all_views o) v e) ((new Feed, (new Table, (new Robot, (new Press, (new Deposit, (new Crane, (new Watch, tt))))))), tt)
       first (suc i) v e = absurd (some-ne-none v (sym e))
 
       once : (m : Machine) → times_in_all m (all_views o ∷ []) ≤ 1
@@ -267,8 +295,8 @@ seen-legal c p h l = by (is_done_answer (reply (after p.opening h) p.machine c))
     by false = legal-append p.opening h (event p.machine c (reply (after p.opening h) p.machine c) ∷ []) l (refl, tt)
 
 -- a seat of one machine
-seat_of : {S : Type 0} (m : Machine) (p : MachineView) (rest : List _) → rest ≡ [] → p.machine ≡ m → IsSound p.opening → IsLegal p.opening p.seen → IsSeat {S = S} m (p ∷ [], rest)
-seat_of m p rest e is k l = record { one = ap (λ r. (p ∷ [], r)) e; machine = is; opened = k; legal = l }
+seat_of : {S : Type 0} (m : Machine) (p : MachineView) (rest : List _) → rest ≡ [] → p.machine ≡ m → IsSound p.opening → IsLegal p.opening p.seen → IsSeat {S = S} m (machine_alone p, rest)
+seat_of m p rest e is k l = record { one = ap (λ r. (machine_alone p, r)) e; machine = is; opened = k; legal = l }
 
 pub looked-seat : {S : Type 0} (c : Call) (m : Machine) (me me' : OwnSeat S) (word : ℕ) → IsSeat m me → looked {S = S} c (step 0 0 0 0 none) me word me' → IsSeat m me'
 looked-seat c m me me' word is told =
@@ -278,8 +306,8 @@ looked-seat c m me me' word is told =
 pub gathered-seat : {S : Type 0} (m : Machine) (me me' : OwnSeat S) (word : ℕ) → IsSeat m me → gathered {S = S} (step 0 0 0 0 none) me word me' → IsSeat m me'
 gathered-seat m me me' word is told =
     let p : MachineView = head_of me.0 in
-    let at : WordMomentOfAll (p ∷ []) word told.0 = subst (λ ps. WordMomentOfAll ps word told.0) (ap (λ x. x.0) is.one) told.1 in
-    let one : me' ≡ (after_load p told.0 ∷ [], me.1) = told.2 ∙ ap (λ (ps : List MachineView). (all_see told.0 ps, me.1)) (ap (λ x. x.0) is.one) in
+    let at : WordMomentOfAll (p ∷ []) word told.0 = subst (λ (v : SeatView). WordMomentOfAll v.machines word told.0) (ap (λ x. x.0) is.one) told.1 in
+    let one : me' ≡ (machine_alone (after_load p told.0), me.1) = told.3 ∙ ap (λ (v : SeatView). (after_gathering told.0 v, me.1)) (ap (λ x. x.0) is.one) in
     subst (IsSeat m) (sym one) (seat_of m (after_load p told.0) me.1 (ap (λ x. x.1) is.one) is.machine is.opened at.0.legal)
 
 pub exchanged-seat : {S : Type 0} (c : Call) (m : Machine) (me me' : OwnSeat S) (old word new : ℕ) → IsSeat m me → IsReady (head_of me.0).machine c old new → exchanged {S = S} c (step 0 0 old 0 none) me word me' → IsSeat m me'

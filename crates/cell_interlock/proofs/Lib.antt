@@ -4,5 +4,6 @@ pub mod Overtaken
 pub mod Tells
 pub mod Journals
 pub mod Meeting
+pub mod Order
 pub mod Outcomes
 pub mod Closing

@@ -1,5 +1,5 @@
 -- The examples of what a call may and may not leave of its pass.
-use Rattle.std.proofs.Common.{◌≡◌, ℕ, ◌+◌, ◌<◌, ◌≤◌, true, false, List, [], ◌∷◌, length, None, inr, refl, ap, ◌∙◌, arith}
+use Rattle.std.proofs.Common.{◌≡◌, ℕ, ◌+◌, ◌<◌, ◌≤◌, true, false, List, [], ◌∷◌, ◌++◌, length, None, inr, refl, sym, ap, ◌∙◌, arith}
 use Rattle.std.proofs.lemmas.List.{same_from_push}
 use Rattle.atomic_table.specs.Seated.{TableId}
 use Rattle.cell_types.specs.declared.machine.Machine.{Machine}
@@ -22,7 +22,8 @@ use Rattle.cell_rules.proofs.Quiet.{changes-append}
 use Rattle.cell_interlock.specs.Views.{PassView, InterlockView}
 use Rattle.cell_interlock.specs.Fresh.{IsFresh, AreFresh}
 use Rattle.cell_interlock.specs.Seen.{IsSettled, HasSeenMore, HasChanges}
-use Rattle.cell_interlock.specs.OutcomeExamples.{opened, claim, claimed, released, by_feed, again_by_feed, by_watch, barred, press_pass, watch_pass, after_claim, AskExamples, LookExamples, AttemptExamples, MoreExamples, ChangeExamples, AnswerExamples, FreshExamples, LineExamples, OutcomeExamples}
+use Rattle.cell_interlock.specs.Order.{StandsBefore}
+use Rattle.cell_interlock.specs.OutcomeExamples.{opened, claim, claimed, released, by_feed, again_by_feed, by_table, by_robot, by_watch, barred, press_pass, watch_pass, after_claim, AskExamples, LookExamples, AttemptExamples, MoreExamples, ChangeExamples, AnswerExamples, OrderExamples, FreshExamples, LineExamples, OutcomeExamples}
 use Rattle.cell_interlock.specs.declared.pass.Passes.{Passes}
 use Rattle.cell_interlock.proofs.Tells.{lawful_history, settled}
 
@@ -240,6 +241,28 @@ answers t = record {
   is_disowned = λ f. f.never_disowned holds_what_it_needs None refl;
 }
 
+-- ---- calls in order
+
+-- a history of one event
+single : (x e : Event) (point between : List Event) → x ∷ [] ≡ point ++ e ∷ between → (point ≡ []) × (x ≡ e)
+single x e [] between f = (refl, cc)
+single x e (y ∷ []) between f = cc
+single x e (y ∷ z ∷ zs) between f = cc
+
+-- what stands before the last event of two
+alone_before : (seen : List Event) (x e last : Event) → StandsBefore seen e last (x ∷ last ∷ []) → (x ≡ e) × ((more : List Event) × ([] ≡ seen ++ more))
+alone_before seen x e last r =
+    let f = single x e r.point r.between (same_from_push (x ∷ []) (r.point ++ e ∷ r.between) last last r.is).0 in (f.1, (r.begins.0, sym f.0 ∙ r.begins.1))
+
+order : OrderExamples
+order = record {
+  before = record { point = by_table ∷ []; between = by_robot ∷ []; is = refl; begins = ([], refl); new = refl };
+  after = λ r. let e : Press ≡ Feed = ap (λ (x : Event). x.machine) (same_from_push (by_feed ∷ []) (r.point ++ claimed ∷ r.between) claimed by_feed r.is).1 in cc;
+  missing = λ r. let e : Table ≡ Press = ap (λ (x : Event). x.machine) (alone_before [] by_table claimed by_feed r).0 in cc;
+  forgets = λ r. let e = (alone_before (by_table ∷ []) claimed claimed by_feed r).1.1 in cc;
+  seen_earlier = λ r. let e = (alone_before (claimed ∷ []) claimed claimed by_feed r).1.1 in cc;
+}
+
 -- ---- a new interlock
 
 fresh : (i : InterlockView) (p : Passes) → AreFresh i p → FreshExamples i p
@@ -265,4 +288,4 @@ lines t = record {
 }
 
 pub outcomes_are_known : OutcomeExamples
-outcomes_are_known = record { ask = ask; look = look; attempt = attempt; more = grows; changes = changes; answers = answers; fresh = fresh; lines = lines }
+outcomes_are_known = record { ask = ask; look = look; attempt = attempt; more = grows; changes = changes; answers = answers; order = order; fresh = fresh; lines = lines }

@@ -43,7 +43,7 @@ Stamps word stamp = (s : ModelState) → IsSound s → packed s ≡ word → sta
 pub lawful_history : (o : ModelState) (h : List Event) → IsSound o → IsLegal o h → LawfulThroughout o h
 lawful_history o h k l = throughout o (Lawful o) (lawful o k) h l
 
-begins-trans : (x y z : List Event) → BeginsWith y x → BeginsWith z y → BeginsWith z x
+pub begins-trans : (x y z : List Event) → BeginsWith y x → BeginsWith z y → BeginsWith z x
 begins-trans x y z f g = (f.0 ++ g.0, g.1 ∙ (ap (λ (l : List Event). l ++ g.0) f.1 ∙ append_assoc x f.0 g.0))
 
 -- events of others leave a machine its zones

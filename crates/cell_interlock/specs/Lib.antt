@@ -3,8 +3,9 @@ pub mod Fresh
 pub mod Rule
 pub mod Steps
 pub mod Seen
-pub mod Going
 pub mod Calls
+pub mod Order
+pub mod Going
 pub mod Tries
 pub mod Lines
 pub mod Ends

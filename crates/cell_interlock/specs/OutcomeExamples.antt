@@ -21,6 +21,7 @@ use Rattle.cell_rules.specs.declared.heard.LineFault.TheVariants.{Memory}
 use Rattle.cell_interlock.specs.Views.{PassView, InterlockView, TryView}
 use Rattle.cell_interlock.specs.Fresh.{AreFresh}
 use Rattle.cell_interlock.specs.Seen.{AnswersAtItsPoint, LastingRight, HasSeenMore, HasChanges}
+use Rattle.cell_interlock.specs.Order.{StandsBefore}
 use Rattle.cell_interlock.specs.Tries.{Looked, Attempted, after_look, after_attempt}
 use Rattle.cell_interlock.specs.Lines.{Replied, PassAsks, LineView, LineAsks}
 use Rattle.cell_interlock.specs.declared.pass.Passes.{Passes}
@@ -216,6 +217,16 @@ pub record AnswerExamples (t : TableId) : Type 0 where
       ¬ LastingRight (after_claim t) claim Done (press_pass t (claimed ∷ released ∷ claimed ∷ []) [] 5 7)
   pub is_disowned : ¬ LastingRight (after_claim t) (Release Z3) (Refused (NotOwner None)) (after_claim t)
 
+-- ---- calls in order
+
+-- an event stands before the last one, and is new
+pub record OrderExamples : Type 0 where
+  pub before : StandsBefore (by_table ∷ []) claimed by_feed (by_table ∷ claimed ∷ by_robot ∷ by_feed ∷ [])
+  pub after : ¬ StandsBefore [] claimed by_feed (by_feed ∷ claimed ∷ [])
+  pub missing : ¬ StandsBefore [] claimed by_feed (by_table ∷ by_feed ∷ [])
+  pub forgets : ¬ StandsBefore (by_table ∷ []) claimed by_feed (claimed ∷ by_feed ∷ [])
+  pub seen_earlier : ¬ StandsBefore (claimed ∷ []) claimed by_feed (claimed ∷ by_feed ∷ [])
+
 -- ---- a new interlock
 
 -- each field has its machine's pass, and the passes have made no step
@@ -250,5 +261,6 @@ pub record OutcomeExamples : Type 0 where
   pub more : (t : TableId) → MoreExamples t
   pub changes : ChangeExamples
   pub answers : (t : TableId) → AnswerExamples t
+  pub order : OrderExamples
   pub fresh : (i : InterlockView) (p : Passes) → AreFresh i p → FreshExamples i p
   pub lines : (t : TableId) → LineExamples t

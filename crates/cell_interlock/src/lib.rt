@@ -9,9 +9,11 @@ pub mod make;
 mod meet;
 pub mod pass;
 pub mod pass_line;
+pub mod receipt;
 pub mod rule;
 mod steps;
 mod survey;
+mod told;
 pub mod tries;
 
 pub use close::Ended;
@@ -19,4 +21,5 @@ pub use interlock::Interlock;
 pub use make::MakeFault;
 pub use pass::{Pass, Passes};
 pub use pass_line::PassLine;
+pub use receipt::Receipt;
 pub use tries::{Look, Tried, Try};

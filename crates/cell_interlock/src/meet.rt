@@ -1,5 +1,6 @@
 //! Passes that meet.
-ghost use Rattle.std.specs.Prelude.{◌≡◌, ◌+◌, [], ◌++◌};
+ghost use Rattle.std.specs.Prelude.{◌≡◌, ◌+◌, []};
+ghost use Rattle.cell_interlock.specs.Rule.{together};
 ghost use Rattle.cell_interlock.specs.Seen.{HasSeenMore};
 
 use crate::interlock::Interlock;
@@ -8,13 +9,13 @@ use crate::rule::{JoinAll, SplitFirst, SyncStep};
 use atomic_table::Seat;
 
 impl Interlock {
-    /// Joins the other seat's machines to a seat.
+    /// Joins the other seat's machines and receipts to a seat.
     pub(crate) fn join(&self, seat: &mut Seat<(), SeatView>, other: Seat<(), SeatView>)
         requires same_interlock { (seat.old.table_id ≡ self.now.table)
             × (other.table_id ≡ self.now.table) }
         requires no_slot { other.me.1 ≡ [] }
         ensures table { seat.new.table_id ≡ seat.old.table_id }
-        ensures both { seat.new.me ≡ (other.me.0 ++ seat.old.me.0, seat.old.me.1) }
+        ensures both { seat.new.me ≡ (together seat.old.me.0 other.me.0, seat.old.me.1) }
     {
         self.table.shared.join_seat::<JoinAll>(seat, other);
     }

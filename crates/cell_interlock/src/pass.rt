@@ -27,8 +27,23 @@ pub struct MachineView {
     pub exchanges: u64,
 }
 
-/// What contracts know of the machines of a seat.
-pub type SeatView = LinkedList<MachineView>;
+/// What contracts know of one receipt: the state that its interlock opened with, and the history that
+/// it tells. No program makes a value of it.
+pub struct HistoryView {
+    /// The state that the interlock opened with.
+    pub opening: State,
+    /// The history that the receipt tells.
+    pub seen: LinkedList<Event>,
+}
+
+/// What contracts know of a seat: of each of its machines, and of each of its receipts. No program
+/// makes a value of it.
+pub struct SeatView {
+    /// The machines.
+    pub machines: LinkedList<MachineView>,
+    /// The receipts.
+    pub receipts: LinkedList<HistoryView>,
+}
 
 /// The right to make the calls of one machine. A call borrows it exclusively or takes it, so a
 /// machine makes one call at a time. It may go from thread to thread.

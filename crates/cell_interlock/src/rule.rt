@@ -53,7 +53,8 @@ impl<A: NamesCall> Play<(), SeatView> for ExchangeStep<A> {
     ghost then = { exchanged A.call };
 }
 
-/// A load for no call: the machines of a seat then have seen the same history.
+/// A load for no call: the machines of a seat then have seen the same history, and all that its
+/// receipts tell.
 pub struct SyncStep;
 
 impl Play<(), SeatView> for SyncStep {
@@ -73,13 +74,25 @@ impl Split<SeatView> for SplitFirst {
     ghost right = { first_off };
 }
 
-/// A join: the other seat's machines are put before the machines of a seat, which then has both.
+/// A split: a new seat gets receipts of all that a seat has seen, and no machine.
+pub struct SplitReceipts;
+
+impl Split<SeatView> for SplitReceipts {
+    ghost use Rattle.cell_interlock.specs.Rule.{receipts_of};
+
+    ghost left = { λ view. view };
+
+    ghost right = { receipts_of };
+}
+
+/// A join: the other seat's machines and receipts are put before those of a seat, which then has
+/// both.
 pub struct JoinAll;
 
 impl Join<SeatView> for JoinAll {
-    ghost use Rattle.std.specs.Prelude.{◌++◌, []};
+    ghost use Rattle.cell_interlock.specs.Rule.{spent, together};
 
-    ghost both = { λ mine others. others ++ mine };
+    ghost both = { together };
 
-    ghost spent = { [] };
+    ghost spent = { spent };
 }

@@ -3,5 +3,6 @@
 #![tactic(auto)]
 
 pub mod callers;
+pub mod letters;
 #[cfg(test)]
 mod tests;

@@ -3,6 +3,7 @@ mod limits;
 mod lines;
 mod overtaken;
 mod played;
+mod receipts;
 mod steps;
 mod surveys;
 mod threads;

@@ -1,0 +1,83 @@
+//! Receipts, by which one caller tells another what it has seen.
+ghost use Rattle.std.specs.Prelude.{◌≡◌, ◌+◌};
+ghost use Rattle.cell_rules.specs.Seen.{BeginsWith};
+ghost use Rattle.cell_interlock.specs.Views.{receipt_of};
+ghost use Rattle.cell_interlock.specs.Seen.{HasSeenMore};
+
+use crate::interlock::Interlock;
+use crate::pass::{Pass, SeatView};
+use crate::rule::{SplitReceipts, SyncStep};
+use atomic_table::Seat;
+use std::marker::Model;
+
+/// Tells what a pass had seen. A caller sends it to another one by any channel; it has no bytes. Who
+/// accepts it makes all later calls after everything in it. It is no right to make calls.
+#[derive(Drop)]
+pub struct Receipt {
+    pub(crate) seat: Seat<(), SeatView>,
+}
+
+impl Model for Receipt {
+    ghost use Rattle.cell_interlock.specs.Views.{ReceiptView, receipt_with};
+    ghost use Rattle.cell_interlock.specs.Rule.{IsReceipt, first_receipt};
+
+    ghost Value = { ReceiptView };
+
+    ghost view = { λ r. receipt_with r.seat.table_id (first_receipt r.seat.me.0.receipts) };
+
+    ghost invariant = { λ r. IsReceipt r.seat.me };
+}
+
+impl Interlock {
+    /// A receipt of all that a pass has seen. The pass stays as it is: this counts as no load, and
+    /// no call is made.
+    ///
+    /// The pass was made with this interlock.
+    pub fn receipt(&self, pass: &mut Pass) -> Receipt
+        requires same_interlock { pass.old.table ≡ self.now.table }
+        ensures pass { pass.new ≡ pass.old }
+        ensures receipt { result ≡ receipt_of pass.old }
+    {
+        Receipt {
+            seat: self
+                .table
+                .shared
+                .split_seat::<SplitReceipts>(&mut pass.seat),
+        }
+    }
+
+    /// A second receipt of the same, for another reader.
+    ///
+    /// The receipt is of a pass that was made with this interlock.
+    pub fn copy_receipt(&self, receipt: &mut Receipt) -> Receipt
+        requires same_interlock { receipt.old.table ≡ self.now.table }
+        ensures receipt { receipt.new ≡ receipt.old }
+        ensures copy { result ≡ receipt.old }
+    {
+        Receipt {
+            seat: self
+                .table
+                .shared
+                .split_seat::<SplitReceipts>(&mut receipt.seat),
+        }
+    }
+
+    /// Accepts a receipt: afterwards the pass has seen all that the receipt tells (`told`), and what
+    /// it had seen. It has no new event of its own machine (`more`). No call is made: this is one
+    /// load.
+    ///
+    /// The pass was made with this interlock, and so was the receipt's.
+    pub fn accept(&self, pass: &mut Pass, receipt: Receipt)
+        requires same_interlock { (pass.old.table ≡ self.now.table)
+            × (receipt.table ≡ self.now.table) }
+        ensures more { HasSeenMore pass.old pass.new }
+        ensures told { BeginsWith pass.new.seen receipt.seen }
+        ensures opening { receipt.opening ≡ pass.old.opening }
+        ensures one_load { pass.new.loads ≡ pass.old.loads + 1 }
+        ensures no_exchange { pass.new.exchanges ≡ pass.old.exchanges }
+    {
+        let Receipt { seat } = receipt;
+        self.join(&mut pass.seat, seat);
+        self.table.shared.load::<SyncStep>(&mut pass.seat, 0);
+    }
+}

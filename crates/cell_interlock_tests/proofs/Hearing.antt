@@ -1,0 +1,24 @@
+-- A call after a letter comes after what it tells.
+use Rattle.std.proofs.Common.{◌≡◌, List, [], ◌∷◌, ◌++◌, Ok, ap, ◌∙◌, subst, append_assoc}
+use Rattle.cell_types.specs.declared.machine.Machine.{Machine}
+use Rattle.cell_types.specs.declared.call.Call.{Call}
+use Rattle.cell_types.specs.declared.answer.Event.{Event}
+use Rattle.cell_types.specs.declared.reply.Reply.{Reply}
+use Rattle.cell_types.specs.declared.reply.Reply.TheVariants.{Settled, Busy}
+use Rattle.cell_rules.specs.ModelState.{ModelState}
+use Rattle.cell_rules.specs.Seen.{event, BeginsWith, SeenAfter}
+use Rattle.cell_interlock.specs.Views.{PassView}
+use Rattle.cell_interlock.specs.Calls.{IfSettled}
+use Rattle.cell_interlock.specs.Seen.{HasSeenMore}
+use Rattle.cell_interlock_tests.specs.Letters.{HasEvent, ComesLater}
+
+still_has : (e : Event) (h k : List Event) → BeginsWith k h → HasEvent h e → HasEvent k e
+still_has e h k b f = record { before = f.before; later = f.later ++ b.0; is = b.1 ∙ (ap (λ (l : List Event). l ++ b.0) f.is ∙ append_assoc f.before (e ∷ f.later) b.0) }
+
+by_reply : (e : Event) (heard now : List Event) (n : Machine) (d : Call) (y : Reply) (o : ModelState) → HasEvent heard e → SeenAfter n d (Ok y) o heard now → IfSettled y (λ b. ComesLater e (event n d b) now)
+by_reply e heard now n d (Settled b t) o f it = record { point = it.0.point; ends = it.0.ends; first = still_has e heard it.0.point it.0.begins f }
+by_reply e heard now n d (Busy l t) o f it = tt
+
+pub comes_later : (e : Event) (told : List Event) (w heard : PassView) (d : Call) (y : Reply) (now : List Event) → HasEvent told e → BeginsWith heard.seen told → HasSeenMore w heard → SeenAfter heard.machine d (Ok y) heard.opening heard.seen now → IfSettled y (λ b. ComesLater e (event w.machine d b) now)
+comes_later e told w heard d y now f b more it =
+    by_reply e heard.seen now w.machine d y heard.opening (still_has e told heard.seen b f) (subst (λ (m : Machine). SeenAfter m d (Ok y) heard.opening heard.seen now) more.pass.machine it)

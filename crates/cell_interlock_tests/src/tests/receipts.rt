@@ -1,0 +1,110 @@
+//! Receipts, in one thread and between two.
+ghost use Rattle.std.specs.Prelude.{◌≡◌};
+ghost use Rattle.cell_types.specs.declared.answer.Answer.TheVariants.{Done};
+ghost use Rattle.cell_rules.specs.Seen.{event};
+ghost use Rattle.cell_interlock.specs.Ends.{ArePassesOf};
+
+use super::closing::{PRESS_3, state_of};
+use crate::letters::{News, two_threads};
+use cell_interlock::{Interlock, Pass, Passes};
+use cell_rules::State;
+use cell_types::{Answer, Call, Machine, Refusal, Reply, Zone};
+use std::alloc::Global;
+use std::marker::Brand;
+use std::sync::Wait;
+use std::thread::Threads;
+
+const PRESS_HAS_IT: Reply = Reply::Settled(Answer::Refused(Refusal::Held(Machine::Press)), 1);
+
+/// Whether a receipt and its copy are accepted, and an interlock closes while a receipt is left.
+fn are_accepted(interlock: Interlock, mut passes: Passes) -> bool
+    requires { ArePassesOf interlock passes }
+{
+    let claim = Call::Claim(Zone::Z3);
+    let claimed = interlock.ask(&mut passes.press, claim);
+    let mut receipt = interlock.receipt(&mut passes.press);
+    let copy = interlock.copy_receipt(&mut receipt);
+    interlock.accept(&mut passes.robot, receipt);
+    let refused = interlock.ask(&mut passes.robot, claim);
+    interlock.accept(&mut passes.crane, copy);
+    let surveyed = interlock.survey(&mut passes.crane);
+    let left_over = interlock.receipt(&mut passes.table);
+    let ended = interlock.close(passes);
+    drop(left_over);
+    claimed == Reply::Settled(Answer::Done, 1)
+        && refused == PRESS_HAS_IT
+        && Some(surveyed) == state_of(1, PRESS_3, false)
+        && ended.state == surveyed
+}
+
+#[test]
+fn receipts_are_accepted(rt: HostRuntime) {
+    let opening = State::start([false; 10], 0).expect(&rt, "a start without plates");
+    let Ok((interlock, passes)) = Interlock::new(rt.alloc(), opening, 1) else {
+        panic!(rt; "no interlock");
+    };
+    assert!(rt; are_accepted(interlock, passes));
+}
+
+/// Whether the second of two calls, made after the first was told of, finds what the first did.
+fn is_told(interlock: &Interlock, mut passes: Passes) -> bool
+    requires { ArePassesOf interlock.now passes }
+{
+    let claim = Call::Claim(Zone::Z3);
+    let replies = interlock.told(&mut passes.press, claim, &mut passes.robot, claim);
+    let next = interlock.told(
+        &mut passes.table,
+        Call::Claim(Zone::Z1),
+        &mut passes.feed,
+        Call::Claim(Zone::Z6),
+    );
+    replies == (Reply::Settled(Answer::Done, 1), PRESS_HAS_IT)
+        && next
+            == (
+                Reply::Settled(Answer::Done, 2),
+                Reply::Settled(Answer::Done, 3),
+            )
+}
+
+#[test]
+fn callers_are_told(rt: HostRuntime) {
+    let opening = State::start([false; 10], 0).expect(&rt, "a start without plates");
+    let Ok((interlock, passes)) = Interlock::new(rt.alloc(), opening, 1) else {
+        panic!(rt; "no interlock");
+    };
+    assert!(rt; is_told(&interlock, passes));
+}
+
+/// Whether a caller in one thread hears of the other's call in another, and then gets a higher
+/// stamp.
+fn is_heard<N: News + Send + Sync, R: Threads + Wait + Sync>(
+    rt: &R,
+    alloc: Global,
+    interlock: &Interlock,
+    first: (Pass, Call),
+    second: (Pass, Call),
+) -> bool
+    requires same_interlock { (first.0.table ≡ interlock.now.table)
+        × (second.0.table ≡ interlock.now.table) }
+    requires table { interlock.now.table ≡ N.table }
+    requires news { N.event ≡ event first.0.machine first.1 Done }
+{
+    match two_threads::<N, R>(rt, alloc, interlock, first, second) {
+        Ok((told, Some((heard, _)))) => {
+            told == Reply::Settled(Answer::Done, 1) && heard == Reply::Settled(Answer::Done, 2)
+        }
+        _ => false,
+    }
+}
+
+#[test]
+fn a_letter_is_heard(rt: HostRuntime) {
+    let opening = State::start([false; 10], 0).expect(&rt, "a start without plates");
+    let Ok((interlock, passes)) = Interlock::new(rt.alloc(), opening, 2) else {
+        panic!(rt; "no interlock");
+    };
+    let Passes { table, press, .. } = passes;
+    let first = (press, Call::Claim(Zone::Z3));
+    let second = (table, Call::Claim(Zone::Z1));
+    assert!(rt; is_heard::<Brand, HostRuntime>(&rt, rt.alloc(), &interlock, first, second));
+}
