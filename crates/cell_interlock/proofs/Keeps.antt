@@ -25,7 +25,7 @@ use Rattle.cell_interlock.specs.declared.pass.MachineView.{MachineView}
 use Rattle.cell_interlock.specs.Steps.{IsReady}
 use Rattle.cell_interlock.specs.declared.pass.SeatView.{SeatView}
 use Rattle.cell_interlock.specs.declared.pass.HistoryView.{HistoryView}
-use Rattle.cell_interlock.specs.Rule.{OwnSeat, new_view, head_of, spent, machine_alone, first_only, but_first, first_off, others_of, seen_in, receipts_of, together, all_views, Fits, AllFit, Tells, AllTell, TellFirst, SeatFits, times_in, times_in_all, WordTellsHistory, WordMoment, seen_at, seen_by, after_load, after_exchange, looked, exchanged, WordMomentOfAll, all_see, after_gathering, gathered, IsSeat}
+use Rattle.cell_interlock.specs.Rule.{OwnSeat, new_view, head_of, spent, machine_alone, first_only, but_first, first_off, others_of, seen_in, receipts_of, together, all_views, Fits, AllFit, AllTell, TellFirst, SeatFits, times_in, times_in_all, WordTellsHistory, WordMoment, seen_at, seen_by, after_load, after_exchange, looked, exchanged, WordMomentOfAll, all_see, after_gathering, gathered, IsSeat}
 use Rattle.cell_rules.proofs.Quiet.{next-same}
 use Rattle.cell_interlock.proofs.Machines.{apart_back, not_own, begins-more, own-more}
 

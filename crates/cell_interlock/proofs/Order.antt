@@ -1,5 +1,5 @@
 -- Receipts put calls in order.
-use Rattle.std.proofs.Common.{◌≡◌, ℕ, ◌+◌, ◌<◌, ◌≤◌, cond, List, [], ◌∷◌, ◌++◌, Ok, refl, sym, ap, ◌∙◌, subst, arith, append_assoc, append-nil}
+use Rattle.std.proofs.Common.{◌≡◌, ℕ, ◌+◌, ◌≤◌, cond, List, [], ◌∷◌, ◌++◌, Ok, sym, ap, ◌∙◌, subst, arith, append_assoc, append-nil}
 use Rattle.cell_types.specs.declared.machine.Machine.{Machine}
 use Rattle.cell_types.specs.declared.call.Call.{Call}
 use Rattle.cell_types.specs.declared.answer.Answer.{Answer}
@@ -64,15 +64,15 @@ stamped_after o n d (Settled b t) known heard now f it l =
     let least = stamp_grows o it.0.point now (event n d b ∷ [], it.0.ends) l in (
       omega (arith, point_least, least, it.1),
       λ is.
-      let ends : now ≡ it.0.point ++ event n d Done ∷ [] = it.0.ends ∙ ap (λ (a : Answer). it.0.point ++ event n d a ∷ []) is in
-      omega (arith, point_least, it.1, ap (λ (k : List Event). (after o k).stamp) ends, done_raises o it.0.point n d (subst (IsLegal o) ends l)),
+          let ends : now ≡ it.0.point ++ event n d Done ∷ [] = it.0.ends ∙ ap (λ (a : Answer). it.0.point ++ event n d a ∷ []) is in
+          omega (arith, point_least, it.1, ap (λ (k : List Event). (after o k).stamp) ends, done_raises o it.0.point n d (subst (IsLegal o) ends l)),
     )
 stamped_after o n d (Busy lost t) known heard now f it l = omega (arith, stamp_grows o known now (begins-trans known heard now f it.0.begins) l, it.1)
 
 pub receipts_raise_stamps : ReceiptsRaiseStamps
 receipts_raise_stamps o m n c d x y seen answered receipt accepted heard now first took took_in later second legal =
     subst (λ (s : ℕ). IsStampedAfter s y) (sym (stamp_seen m c x o seen answered first)) (stamped_after o n d y answered heard now
-      (begins-trans answered accepted heard (begins-trans answered receipt accepted took took_in) later) second legal)
+    (begins-trans answered accepted heard (begins-trans answered receipt accepted took took_in) later) second legal)
 
 -- ---- two calls
 

@@ -23,7 +23,7 @@ use Rattle.cell_interlock.specs.Views.{PassView, InterlockView}
 use Rattle.cell_interlock.specs.Fresh.{IsFresh, AreFresh}
 use Rattle.cell_interlock.specs.Seen.{IsSettled, HasSeenMore, HasChanges}
 use Rattle.cell_interlock.specs.Order.{StandsBefore}
-use Rattle.cell_interlock.specs.OutcomeExamples.{opened, claim, claimed, released, by_feed, again_by_feed, by_table, by_robot, by_watch, barred, press_pass, watch_pass, after_claim, AskExamples, LookExamples, AttemptExamples, MoreExamples, ChangeExamples, AnswerExamples, OrderExamples, FreshExamples, LineExamples, OutcomeExamples}
+use Rattle.cell_interlock.specs.OutcomeExamples.{opened, claim, claimed, released, by_feed, again_by_feed, by_table, by_robot, by_watch, barred, press_pass, watch_pass, after_claim, AskExamples, LookExamples, AttemptExamples, MoreExamples, ChangeExamples, AnswerExamples, OrderExamples, StampExamples, ReceiptExamples, FreshExamples, LineExamples, OutcomeExamples}
 use Rattle.cell_interlock.specs.declared.pass.Passes.{Passes}
 use Rattle.cell_interlock.proofs.Tells.{lawful_history, settled}
 
@@ -263,6 +263,19 @@ order = record {
   seen_earlier = λ r. let e = (alone_before (claimed ∷ []) claimed claimed by_feed r).1.1 in cc;
 }
 
+stamps : StampExamples
+stamps = record {
+  done = (omega arith, λ is. omega arith);
+  done_with_same_stamp = λ f. let less : 2 < 2 = f.1 refl in omega (arith, less);
+  refused = (omega arith, λ is. cc);
+  refused_with_lower_stamp = λ f. let least : 2 ≤ 1 = f.0 in omega (arith, least);
+  busy = omega arith;
+  busy_with_lower_stamp = λ f. let least : 2 ≤ 1 = f in omega (arith, least);
+}
+
+receipts : (t : TableId) → ReceiptExamples t
+receipts t = record { seen = refl }
+
 -- ---- a new interlock
 
 fresh : (i : InterlockView) (p : Passes) → AreFresh i p → FreshExamples i p
@@ -288,4 +301,4 @@ lines t = record {
 }
 
 pub outcomes_are_known : OutcomeExamples
-outcomes_are_known = record { ask = ask; look = look; attempt = attempt; more = grows; changes = changes; answers = answers; order = order; fresh = fresh; lines = lines }
+outcomes_are_known = record { ask = ask; look = look; attempt = attempt; more = grows; changes = changes; answers = answers; order = order; stamps = stamps; receipts = receipts; fresh = fresh; lines = lines }

@@ -18,9 +18,10 @@ use Rattle.cell_rules.specs.ModelState.{ModelState, model_state}
 use Rattle.cell_rules.specs.Start.{start_state}
 use Rattle.cell_rules.specs.Seen.{event}
 use Rattle.cell_rules.specs.declared.heard.LineFault.TheVariants.{Memory}
-use Rattle.cell_interlock.specs.Views.{PassView, InterlockView, TryView}
+use Rattle.cell_interlock.specs.Views.{PassView, InterlockView, TryView, receipt_of}
 use Rattle.cell_interlock.specs.Fresh.{AreFresh}
 use Rattle.cell_interlock.specs.Seen.{AnswersAtItsPoint, LastingRight, HasSeenMore, HasChanges}
+use Rattle.cell_interlock.specs.Calls.{IsStampedAfter}
 use Rattle.cell_interlock.specs.Order.{StandsBefore}
 use Rattle.cell_interlock.specs.Tries.{Looked, Attempted, after_look, after_attempt}
 use Rattle.cell_interlock.specs.Lines.{Replied, PassAsks, LineView, LineAsks}
@@ -227,6 +228,19 @@ pub record OrderExamples : Type 0 where
   pub forgets : ¬ StandsBefore (by_table ∷ []) claimed by_feed (claimed ∷ by_feed ∷ [])
   pub seen_earlier : ¬ StandsBefore (claimed ∷ []) claimed by_feed (claimed ∷ by_feed ∷ [])
 
+-- no lower stamp, and a higher one if the call is Done
+pub record StampExamples : Type 0 where
+  pub done : IsStampedAfter 1 (Settled Done 2)
+  pub done_with_same_stamp : ¬ IsStampedAfter 2 (Settled Done 2)
+  pub refused : IsStampedAfter 2 (Settled (Refused Stopped) 2)
+  pub refused_with_lower_stamp : ¬ IsStampedAfter 2 (Settled (Refused Stopped) 1)
+  pub busy : IsStampedAfter 2 (Busy 1 2)
+  pub busy_with_lower_stamp : ¬ IsStampedAfter 2 (Busy 1 1)
+
+-- a receipt tells all that its pass has seen
+pub record ReceiptExamples (t : TableId) : Type 0 where
+  pub seen : receipt_of (after_claim t) ≡ record { table = t; opening = opened; seen = claimed ∷ [] }
+
 -- ---- a new interlock
 
 -- each field has its machine's pass, and the passes have made no step
@@ -262,5 +276,7 @@ pub record OutcomeExamples : Type 0 where
   pub changes : ChangeExamples
   pub answers : (t : TableId) → AnswerExamples t
   pub order : OrderExamples
+  pub stamps : StampExamples
+  pub receipts : (t : TableId) → ReceiptExamples t
   pub fresh : (i : InterlockView) (p : Passes) → AreFresh i p → FreshExamples i p
   pub lines : (t : TableId) → LineExamples t
