@@ -1,6 +1,7 @@
 //! Makes an interlock.
-ghost use Rattle.std.specs.Prelude.{◌≡◌, ◌<◌, IfOk, Err, ◌⊎◌, ◌↔◌};
-ghost use Rattle.cell_interlock.specs.Rule.{IsSeat, first_off, head_of, others_of};
+ghost use Rattle.std.specs.Prelude.{◌≡◌, ◌<◌, IfOk, IfSome, Err, [], ◌⊎◌, ◌↔◌};
+ghost use Rattle.cell_types.specs.declared.machine.Machine.TheVariants.{Feed};
+ghost use Rattle.cell_interlock.specs.Rule.{IsSeat, all_views, first_off, head_of, others_of};
 ghost use Rattle.cell_interlock.specs.Views.{pass_of};
 ghost use Rattle.cell_interlock.specs.Fresh.{AreFresh};
 
@@ -38,9 +39,7 @@ impl Interlock {
         if tries < 1 || tries > 64 {
             return Err(MakeFault::Tries);
         }
-        states_are_sound(&opening);
-        let words = [pack(&opening)];
-        let Ok((table, mut seat)) = Table::of_words(alloc, &words, &opening) else {
+        let Some((table, mut seat)) = open_table(alloc, &opening) else {
             return Err(MakeFault::Memory);
         };
         let passes = Passes {
@@ -54,6 +53,24 @@ impl Interlock {
         };
         Ok((Interlock { table, tries }, passes))
     }
+}
+
+// A table whose one word holds the opening, and its first seat, which has every machine. Or nothing,
+// if there is no memory for it.
+fn open_table(
+    alloc: Global,
+    opening: &State,
+) -> Option<(Table<(), SeatView, State, OneHistory, Global>, Seat<(), SeatView>)>
+    ensures words { IfSome result (λ made. made.0.shared.table_id.words ≡ 1) }
+    ensures slots { IfSome result (λ made. made.0.shared.table_id.slots ≡ 0) }
+    ensures key { IfSome result (λ made. made.0.shared.key ≡ opening.now) }
+    ensures same { IfSome result (λ made. made.1.table_id ≡ made.0.shared.table_id) }
+    ensures own { IfSome result (λ made. made.1.me ≡ (all_views opening.now, [])) }
+    ensures first { IfSome result (λ made. IsSeat Feed (first_off made.1.me.0, made.1.me.1)) }
+{
+    states_are_sound(opening);
+    let words = [pack(opening)];
+    Table::of_words(alloc, &words, opening).ok()
 }
 
 // The pass of a seat's first machine; the seat keeps the others.
