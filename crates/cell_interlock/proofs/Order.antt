@@ -51,7 +51,7 @@ done_raises o h m c l =
     let k : List Event = event m c Done ∷ [] in
     omega (arith, ap (λ (s : ModelState). s.stamp) (after-append o h k), stamp-after (after o h) k (legal-right o h k l), sum_by-cons (λ (x : Event). cond (is_done x) 1 0) (event m c Done) [])
 
-stamp_seen : (m : Machine) (c : Call) (x : Reply) (o : ModelState) (seen now : List Event) → SeenAfter m c (Ok x) o seen now → stamp_in x ≡ (after o now).stamp
+pub stamp_seen : (m : Machine) (c : Call) (x : Reply) (o : ModelState) (seen now : List Event) → SeenAfter m c (Ok x) o seen now → stamp_in x ≡ (after o now).stamp
 stamp_seen m c (Settled a s) o seen now it = it.1
 stamp_seen m c (Busy l s) o seen now it = it.1
 

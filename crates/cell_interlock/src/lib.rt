@@ -13,7 +13,7 @@ pub mod receipt;
 pub mod rule;
 mod steps;
 mod survey;
-mod told;
+mod tell;
 pub mod tries;
 
 pub use close::Ended;

@@ -60,7 +60,12 @@ impl Interlock {
 fn open_table(
     alloc: Global,
     opening: &State,
-) -> Option<(Table<(), SeatView, State, OneHistory, Global>, Seat<(), SeatView>)>
+) -> Option<
+    (
+        Table<(), SeatView, State, OneHistory, Global>,
+        Seat<(), SeatView>,
+    ),
+>
     ensures words { IfSome result (λ made. made.0.shared.table_id.words ≡ 1) }
     ensures slots { IfSome result (λ made. made.0.shared.table_id.slots ≡ 0) }
     ensures key { IfSome result (λ made. made.0.shared.key ≡ opening.now) }

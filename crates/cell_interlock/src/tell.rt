@@ -1,4 +1,4 @@
-//! The order that a receipt makes.
+//! Two calls in order, by a receipt.
 ghost use Rattle.std.specs.Prelude.{◌≡◌, Ok};
 ghost use Rattle.cell_rules.specs.Laws.{LawfulThroughout};
 ghost use Rattle.cell_rules.specs.Seen.{event, SeenAfter};
@@ -18,7 +18,7 @@ impl Interlock {
     ///
     /// Both passes were made with this interlock. Between these four steps any others may come, and
     /// the receipt may go from thread to thread: `laws::receipts_order_calls`.
-    pub fn told(
+    pub fn tell(
         &self,
         first: &mut Pass,
         call: Call,

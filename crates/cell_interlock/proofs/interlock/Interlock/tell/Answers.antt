@@ -2,7 +2,7 @@ use Rattle.std.proofs.Common.{rules, subst}
 use Rattle.cell_rules.specs.ModelState.{ModelState}
 use Rattle.cell_rules.specs.Laws.{LawfulThroughout}
 use Rattle.cell_interlock.proofs.Order.{asked_after, same_after, told_in_order, told_stamps}
-use Rattle.cell_interlock.proofs.interlock.Interlock.told.Goals as goal
+use Rattle.cell_interlock.proofs.interlock.Interlock.tell.Goals as goal
 
 pub returns-clause-passes : goal.returns-clause-passes
 returns-clause-passes c = (search rules, same_after _ _ _ c.accept.ensures.more c.ask-later.ensures.pass)
