@@ -1,18 +1,30 @@
 #!/usr/bin/env bash
-# Drives the interlock from seven threads, and looks for one legal history of all that they were told.
+# Drives the interlock from seven threads, and looks for one legal history of all that they were told. They send each
+# other letters with receipts, and who accepts one has to be answered after it.
 #
-#   bench/stress.sh [SEED [CALLS]]             1 and 10,000,000 if absent
-#   bench/stress.sh planted [SEED [CALLS]]     the same with a planted bug, which has to be found
+#   bench/stress.sh [SEED [CALLS]]               1 and 10,000,000 if absent
+#   bench/stress.sh planted BUG [SEED [CALLS]]   the same with a planted bug, which has to be found
 #
 # The program in bench/stress is proved and built in a copy of the repository, since it isn't part of it; check.py there
-# runs and checks it. The planted bug is a load and a plain store in place of the compare-exchange. The prover refuses
-# such bugs (must-fail/plain_store.edit of cell_interlock), so the program is then run unproved.
+# runs and checks it. A bug is planted by the edits of bench/stress/planted (docs/ATTACKS.md has their form). The prover
+# refuses such bugs, so the program is then run unproved. The bugs:
+#
+# - plain_store: a load and a plain store in place of the compare-exchange;
+# - receipt_tells_nothing, accept_forgets: of a lazy interlock, where a receipt carries no word, or accept keeps none;
+# - lazy: nothing is wrong with it for its callers, so nothing is found, and the status is 1. A call that the word which
+#   its pass found last would answer without a change is answered so, with no load. A receipt carries that word, and
+#   accept keeps the later of two. All answers fit one history, in the order of each caller, after the letters it read.
+#   In the two bugs above they still fit one history. Only the letters show that it isn't the right one.
 set -euo pipefail
 top=$(cd "$(dirname "$0")/.." && pwd)
-planted=
+planted=()
 if [ "${1:-}" = planted ]; then
-    planted=yes
-    shift
+    case ${2:-} in
+        plain_store | lazy) planted=("$2") ;;
+        receipt_tells_nothing | accept_forgets) planted=(lazy "$2") ;;
+        *) sed -n '2,/^set/{/^#/s/^# \{0,1\}//p}' "$0"; exit 2 ;;
+    esac
+    shift 2
 fi
 seed=${1:-1}
 calls=${2:-10000000}
@@ -27,36 +39,31 @@ cp "$top/HANDLES" "$work"
 here=$work/crates/bench_stress
 mkdir -p "$here/src"
 # its files have other names here: the gate accepts sources and proofs only in crates
-for it in main caller notes; do
+for it in main caller letters notes; do
     cp "$top/bench/stress/$it.txt" "$here/src/$it.rt"
 done
-for it in work by_steps last_looks; do
+for it in work by_steps last_looks run; do
     mkdir -p "$here/proofs/$it"
     cp "$top/bench/stress/$it.txt" "$here/proofs/$it/Invariants.antt"
 done
-echo 'bench_stress: cell_interlock cell_rules cell_types' >> "$work/crates.txt"
+echo 'bench_stress: cell_interlock cell_rules cell_types atomic_table crossbeam_channel' >> "$work/crates.txt"
 cd "$here"
 
-if [ -n "$planted" ]; then
-    python3 - "$work/crates/cell_interlock/src/steps.rt" <<'END'
+if [ ${#planted[@]} != 0 ]; then
+    for bug in "${planted[@]}"; do
+        python3 - "$top/tools" "$work/crates/cell_interlock" "$top/bench/stress/planted/$bug.txt" <<'END'
 import sys
-with open(sys.argv[1]) as it:
-    text = it.read()
-exchange = """        self.table
-            .shared
-            .compare_exchange::<ExchangeStep<A>>(&mut pass.seat, 0, old, new)
-"""
-store = """        let found = self.table.shared.load::<LoadStep<A>>(&mut pass.seat, 0);
-        if found == old {
-            self.table.shared.store::<ExchangeStep<A>>(&mut pass.seat, 0, new);
-        }
-        found
-"""
-if text.count(exchange) != 1:
-    sys.exit("the exchange isn't there")
-with open(sys.argv[1], "w") as it:
-    it.write(text.replace(exchange, store))
+sys.dont_write_bytecode = True
+sys.path.insert(0, sys.argv[1])
+import edits
+texts, why = edits.edited(sys.argv[2], sys.argv[3])
+if why:
+    sys.exit(f"{sys.argv[3]}: {why}")
+for path, text in texts.items():
+    with open(f"{sys.argv[2]}/{path}", "w", encoding="utf-8") as it:
+        it.write(text)
 END
+    done
     # what an unproved run writes is cut at 1 MiB, so these are short
     status=0
     python3 "$top/bench/stress/check.py" "$seed" "$calls" 70000 "${RT:-rt}" try > "$work/said" || status=$?
@@ -69,7 +76,7 @@ END
     exit 1
 fi
 
-if ! "${RT:-rt}" run <<< '3 0 2 100 50 100 8 1' > "$work/built" 2>&1; then
+if ! "${RT:-rt}" run <<< '3 0 2 100 50 100 8 20 1' > "$work/built" 2>&1; then
     cat "$work/built"
     exit 1
 fi
