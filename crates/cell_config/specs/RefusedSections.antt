@@ -1,5 +1,6 @@
 -- Which section is refused, and why.
-use Rattle.std.specs.Prelude.{◌≡◌, ℕ, ℤ, List, [], ◌∷◌, codes, find, is_err, true, Option, Some, None, IfSome, IsOk}
+use Rattle.std.specs.Prelude.{◌≡◌, ◌≤◌, ◌<◌, ℕ, ℤ, List, [], ◌∷◌, length, codes, find, is_err, true, false}
+use Rattle.std.specs.Prelude.{Option, Some, None, IfSome, IsOk}
 use Rattle.std.specs.Prelude.{Result, Ok, Err}
 use Rattle.std.specs.List.{filter_map, list_all}
 use Rattle.std.specs.Option.{option_and_then}
@@ -8,6 +9,7 @@ use Rattle.cell_calib.specs.Scale.{Scale}
 use Rattle.cell_calib.specs.Curve.{Pair, IsCurve}
 use Rattle.cell_calib.specs.CurveFaults.{IsFirstFault as IsFirstCurveFault}
 use Rattle.cell_calib.specs.declared.curve.CurveFault.{CurveFault}
+use Rattle.cell_calib.specs.declared.curve.CurveFault.TheVariants.{Count}
 use Rattle.cell_parts.specs.Axes.{arm_end, rotation_end, turn_end, gripper_end}
 use Rattle.cell_config.specs.Settings.{axis_scale, is_measured, measured_of, pairs_at, pairs_in, raw_at, section_at, sections_at}
 use Rattle.cell_config.specs.Settings.{Section, tol_at}
@@ -52,9 +54,15 @@ abbrev pub HasCurveFault : Scale → List Pair → Option CurveFault → Type 0
 HasCurveFault line pairs None = IsCurve line pairs
 HasCurveFault line pairs (Some fault) = IsFirstCurveFault line pairs fault
 
-abbrev pub IsCurveFault : Scale → List Data → Option CurveFault → Type 0
-IsCurveFault line values curve =
-    list_all is_measured values ≡ true → HasCurveFault line (filter_map measured_of values) curve
+-- the most pairs of a curve
+abbrev pub max_pairs : ℕ
+max_pairs = 32
+
+-- Too many values are told first. Else pairs of which a number doesn't fit have no fault as a curve.
+pub record IsCurveFault (line : Scale) (values : List Data) (curve : Option CurveFault) : Type 0 where
+  pub fits : list_all is_measured values ≡ true → HasCurveFault line (filter_map measured_of values) curve
+  pub many : max_pairs < length values → curve ≡ Some Count
+  pub unfit : length values ≤ max_pairs → list_all is_measured values ≡ false → curve ≡ None
 
 -- the values of a section's pairs
 abbrev pub pairs_given : Members → Option (List Data)
