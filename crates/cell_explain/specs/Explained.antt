@@ -1,14 +1,15 @@
 -- What is written of an input.
-use Rattle.std.specs.Prelude.{ℕ, ◌≡◌, List, ◌++◌, codes, Option, Result, Ok, Err}
+use Rattle.std.specs.Prelude.{ℕ, ◌≡◌, List, ◌++◌, codes, Option, Result, Ok, Err, IfSome}
 use Rattle.std.specs.Fmt.{decimal}
 use Rattle.std.specs.Io.KnownBytes.{Appends, Keeps}
 use Rattle.cell_text.specs.Output.{WrotePrefix}
+use Rattle.cell_replay.specs.Script.{script_outcome}
 use Rattle.cell_replay.specs.declared.script.Outcome.{Outcome}
 use Rattle.cell_replay.specs.declared.script.Outcome.TheVariants as outcome
 use Rattle.cell_replay.specs.declared.script.ScriptFault.{ScriptFault}
 use Rattle.cell_replay.specs.declared.script.ScriptFault.TheVariants.{NoStart, BadStart, BadRow, Long}
 use Rattle.cell_config.specs.ConfigWords.{config_fault_text}
-use Rattle.cell_config.specs.Settings.{Settings}
+use Rattle.cell_config.specs.Settings.{Settings, settings_of}
 use Rattle.cell_config.specs.declared.fault.ConfigFault.{ConfigFault}
 use Rattle.cell_explain.specs.declared.fault.ExplainFault.{ExplainFault}
 use Rattle.cell_explain.specs.declared.fault.ExplainFault.TheVariants.{Read, Write, Memory}
@@ -40,8 +41,26 @@ abbrev pub SaysOfConfig : Result Settings ConfigFault → Verdict → Option (Li
 SaysOfConfig (Ok settings) verdict old new = (verdict ≡ Taken) × Keeps old new
 SaysOfConfig (Err fault) verdict old new = (verdict ≡ Refused) × WroteUnder (config_heading fault) old new
 
--- After a failed read, or out of memory, nothing was written. After a failed write a prefix of something was.
-abbrev pub LeavesUnsaid : ExplainFault → Option (List ℕ) → Option (List ℕ) → Type 0
-LeavesUnsaid Read old new = Keeps old new
-LeavesUnsaid Memory old new = Keeps old new
-LeavesUnsaid Write old new = (text : List ℕ) × WrotePrefix old new text
+-- the explanation of a refused script begins with the heading of its fault
+abbrev pub IsTextOfOutcome : Outcome → List ℕ → Type 0
+IsTextOfOutcome outcome.Clean text = ⊥
+IsTextOfOutcome (outcome.Refused fault) text = (words : List ℕ) × (text ≡ script_heading fault ++ words)
+
+-- so does that of a refused configuration
+abbrev pub IsTextOfSettings : Result Settings ConfigFault → List ℕ → Type 0
+IsTextOfSettings (Ok settings) text = ⊥
+IsTextOfSettings (Err fault) text = (words : List ℕ) × (text ≡ config_heading fault ++ words)
+
+-- a text explains why the script is refused that these known bytes are
+abbrev pub IsTextOfScript : Option (List ℕ) → List ℕ → Type 0
+IsTextOfScript input text = IfSome input (λ bytes. IsTextOfOutcome (script_outcome bytes) text)
+
+-- a text explains why the configuration is refused
+abbrev pub IsTextOfConfig : Option (List ℕ) → List ℕ → Type 0
+IsTextOfConfig input text = IfSome input (λ bytes. IsTextOfSettings (settings_of bytes) text)
+
+-- After a failed read, or out of memory, nothing was written. After a failed write a prefix of such a text was.
+abbrev pub LeavesUnsaid : (List ℕ → Type 0) → ExplainFault → Option (List ℕ) → Option (List ℕ) → Type 0
+LeavesUnsaid IsText Read old new = Keeps old new
+LeavesUnsaid IsText Memory old new = Keeps old new
+LeavesUnsaid IsText Write old new = (text : List ℕ) × (IsText text × WrotePrefix old new text)

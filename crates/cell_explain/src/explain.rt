@@ -1,11 +1,13 @@
 //! Explains a script or a configuration.
 
-ghost use Rattle.std.specs.Prelude.{◌≡◌, ℕ, List, Option, Err, IfErr, IfOk, IfSome};
+ghost use Rattle.std.specs.Prelude.{◌≡◌, ◌≢◌, ℕ, List, Err, IfErr, IfOk, IfSome};
 ghost use Rattle.cell_text.specs.Input.{TakesAtMost};
 ghost use Rattle.cell_replay.specs.Script.{max_bytes_read, script_outcome};
 ghost use Rattle.cell_config.specs.Configured.{Refuses};
 ghost use Rattle.cell_config.specs.Settings.{max_bytes_read as config_bytes_read, settings_of};
-ghost use Rattle.cell_explain.specs.Explained.{LeavesUnsaid, SaysOfConfig, SaysOfScript};
+ghost use Rattle.cell_explain.specs.Explained.{IsTextOfConfig, IsTextOfOutcome, IsTextOfScript};
+ghost use Rattle.cell_explain.specs.Explained.{IsTextOfSettings, LeavesUnsaid, SaysOfConfig, SaysOfScript};
+ghost use Rattle.cell_explain.specs.declared.fault.ExplainFault.TheVariants.{Write};
 
 use crate::fault::ExplainFault;
 use crate::report::{report_configuration, report_script};
@@ -34,8 +36,8 @@ pub fn explain_script<R: Read, W: Write>(
 ) -> Result<Verdict, ExplainFault>
     ensures says { IfOk result (λ verdict. IfSome (R.remaining reader.old) (λ bytes. SaysOfScript
         (script_outcome bytes) verdict (W.contents writer.old) (W.contents writer.new))) }
-    ensures failed { IfErr result
-        (λ fault. LeavesUnsaid fault (W.contents writer.old) (W.contents writer.new)) }
+    ensures failed { IfErr result (λ fault. LeavesUnsaid (IsTextOfScript (R.remaining reader.old))
+        fault (W.contents writer.old) (W.contents writer.new)) }
     ensures taken { TakesAtMost (R.remaining reader.old) (R.remaining reader.new) max_bytes_read }
 {
     let bytes = read_up_to(alloc, reader, MAX_SCRIPT_BYTES)?;
@@ -51,15 +53,16 @@ fn explain_script_bytes<W: Write>(
     ensures says { IfOk result (λ verdict. SaysOfScript (script_outcome script.now) verdict
         (W.contents writer.old) (W.contents writer.new)) }
     ensures failed { IfErr result
-        (λ fault. LeavesUnsaid fault (W.contents writer.old) (W.contents writer.new)) }
+        (λ fault. LeavesUnsaid (IsTextOfOutcome (script_outcome script.now)) fault
+        (W.contents writer.old) (W.contents writer.new)) }
 {
     let mut reader = script;
     let fault = match replay(alloc, &mut reader, &mut Sink) {
         Ok(Outcome::Clean) => return Ok(Verdict::Taken),
         Ok(Outcome::Refused(fault)) => fault,
         Err(ReplayFault::Read) => return Err(ExplainFault::Read),
-        Err(ReplayFault::Write) => return Err(ExplainFault::Write),
-        Err(ReplayFault::Memory) => return Err(ExplainFault::Memory),
+        // (a `Sink` takes all that it is given, so this is never `Write`)
+        Err(ReplayFault::Memory | ReplayFault::Write) => return Err(ExplainFault::Memory),
     };
     let text = report_script(alloc, script, fault)?;
     match write_text(writer, text.as_str().as_bytes()) {
@@ -79,8 +82,8 @@ pub fn explain_configuration<R: Read, W: Write>(
 ) -> Result<Verdict, ExplainFault>
     ensures says { IfOk result (λ verdict. IfSome (R.remaining reader.old) (λ bytes. SaysOfConfig
         (settings_of bytes) verdict (W.contents writer.old) (W.contents writer.new))) }
-    ensures failed { IfErr result
-        (λ fault. LeavesUnsaid fault (W.contents writer.old) (W.contents writer.new)) }
+    ensures failed { IfErr result (λ fault. LeavesUnsaid (IsTextOfConfig (R.remaining reader.old))
+        fault (W.contents writer.old) (W.contents writer.new)) }
     ensures taken { TakesAtMost (R.remaining reader.old) (R.remaining reader.new)
         config_bytes_read }
 {
@@ -89,6 +92,7 @@ pub fn explain_configuration<R: Read, W: Write>(
 }
 
 /// Explains the bytes of a configuration.
+#[tactic(auto, using(crate::proofs::Unsaid::left_unsaid))]
 fn explain_configuration_bytes<W: Write>(
     alloc: Global,
     bytes: &[u8],
@@ -97,7 +101,8 @@ fn explain_configuration_bytes<W: Write>(
     ensures says { IfOk result (λ verdict. SaysOfConfig (settings_of bytes.now) verdict
         (W.contents writer.old) (W.contents writer.new)) }
     ensures failed { IfErr result
-        (λ fault. LeavesUnsaid fault (W.contents writer.old) (W.contents writer.new)) }
+        (λ fault. LeavesUnsaid (IsTextOfSettings (settings_of bytes.now)) fault
+        (W.contents writer.old) (W.contents writer.new)) }
 {
     let mut reader = bytes;
     let fault = match read_config(alloc, &mut reader) {
@@ -115,8 +120,7 @@ fn explain_configuration_bytes<W: Write>(
 fn fault_of_bytes(fault: ConfigFault) -> Result<ConfigFault, ExplainFault>
     ensures first { IfOk result (λ first. (bytes : List ℕ) → Refuses bytes fault →
         settings_of bytes ≡ Err first) }
-    ensures unsaid { IfErr result (λ fault. (known : Option (List ℕ)) →
-        LeavesUnsaid fault known known) }
+    ensures unsaid { IfErr result (λ fault. fault ≢ Write) }
 {
     match fault {
         ConfigFault::Read => Err(ExplainFault::Read),

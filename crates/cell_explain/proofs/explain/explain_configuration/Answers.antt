@@ -3,6 +3,8 @@ use Rattle.std.proofs.lemmas.Option.{IfSome_then}
 use Rattle.std.proofs.lemmas.Result.{IfOk-weaker}
 use Rattle.cell_config.specs.Settings.{settings_of}
 use Rattle.cell_explain.proofs.Prefixes.{settings_of-prefix}
+use Rattle.cell_explain.specs.Explained.{IsTextOfSettings, IsTextOfConfig}
+use Rattle.cell_explain.proofs.Unsaid.{unsaid_after}
 use Rattle.cell_explain.proofs.explain.explain_configuration.Goals as goal
 
 pub returns-clause-says : goal.returns-clause-says
@@ -11,3 +13,10 @@ returns-clause-says g c =
     (λ verdict said. IfSome_then (g.R.Read.remaining c.args.reader.now) c.in_ok-bytes.ensures.bytes
     (λ read is. rw (ap settings_of (c.as_slice.ensures.value ∙ is) ∙ settings_of-prefix read) at said))
     c.explain_configuration_bytes.ensures.says
+
+pub returns-clause-failed : goal.returns-clause-failed
+returns-clause-failed g c =
+    unsaid_after (IsTextOfSettings (settings_of c.as_slice.result.now)) (IsTextOfConfig (g.R.Read.remaining c.args.reader.now))
+    (λ text k. IfSome_then (g.R.Read.remaining c.args.reader.now) c.in_ok-bytes.ensures.bytes
+    (λ read is. rw (ap settings_of (c.as_slice.ensures.value ∙ is) ∙ settings_of-prefix read) at k))
+    c.explain_configuration_bytes.result _ _ c.explain_configuration_bytes.ensures.failed
