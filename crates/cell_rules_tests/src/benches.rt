@@ -65,6 +65,25 @@ fn is_served_out(bench: &Bench) -> bool {
         && bench.history() == EVENTS
 }
 
+/// Whether the press's next calls, by which it releases its zone and claims it in turn, are all done
+/// and kept.
+fn serves_on(bench: &mut Bench, calls: u32) -> bool {
+    bench.seat(Machine::Press, false);
+    let before = bench.history().len();
+    for at in 0..calls {
+        let call = if at % 2 == 0 {
+            Call::Release(Zone::Z3)
+        } else {
+            CLAIM
+        };
+        let stamp = at.saturating_add(9);
+        if bench.ask(call) != Ok(Reply::Settled(Answer::Done, stamp)) {
+            return false;
+        }
+    }
+    bench.history().len() == before.saturating_add(calls as usize)
+}
+
 #[test]
 fn a_bench_serves_who_is_seated(rt: HostRuntime) {
     let start = State::start(EMPTY, 7).expect(&rt, "a start without plates");
@@ -78,6 +97,7 @@ fn a_bench_serves_who_is_seated(rt: HostRuntime) {
         );
     }
     assert!(rt; is_served_out(&bench));
+    assert!(rt; serves_on(&mut bench, 200_000));
 }
 
 /// Whether the bench, after this answer to its second call, is as the answer says.

@@ -1,7 +1,6 @@
 //! The words of scripts and reports, and the numbers of the refusals.
 
 use cell_calib::SensorFault;
-use cell_rules::StartFault;
 use cell_types::{Answer, Call, Machine, Place, Pose, Posture, Refusal, Zone};
 use std::alloc::Global;
 use std::fmt;
@@ -255,9 +254,6 @@ const SENSOR_FAULTS: &[(SensorFault, &str)] = &[
     ),
 ];
 
-const START_FAULT: &str =
-    "more than six plates, both places of the press full, or a stamp past the last";
-
 fn is_printed<T: fmt::Display>(alloc: Global, value: &T, text: &str) -> bool {
     match format!(in alloc; "{value}") {
         Ok(printed) => printed.as_str() == text,
@@ -284,5 +280,4 @@ fn faults_are_printed(rt: HostRuntime) {
     for (fault, text) in SENSOR_FAULTS {
         assert!(rt; is_printed(rt.alloc(), fault, text), "{text}");
     }
-    assert!(rt; is_printed(rt.alloc(), &StartFault::BadStart, START_FAULT));
 }
