@@ -6,24 +6,27 @@ use std::io;
 use std::io::{ErrorKind, Read, Write};
 
 /// Gives the bytes of a text, a limited number at a time, and fails after a number of them. It is
-/// interrupted twice before each part, the end and the failure.
+/// interrupted a number of times before each part, the end and the failure.
 #[derive(Drop)]
 pub struct InterruptedReader<'a> {
     bytes: &'a [u8],
     left: usize,
     at_once: usize,
+    /// How often it is interrupted each time.
+    pub times: u32,
     // How many reads were interrupted since the last one that wasn't.
     interrupted: u32,
 }
 
 impl<'a> InterruptedReader<'a> {
     /// A reader of these bytes that fails after it has given `left` of them, at most `at_once` at a
-    /// time.
+    /// time. It is interrupted twice each time.
     pub fn new(bytes: &'a [u8], left: usize, at_once: usize) -> InterruptedReader<'a> {
         InterruptedReader {
             bytes,
             left,
             at_once,
+            times: 2,
             interrupted: 0,
         }
     }
@@ -31,7 +34,7 @@ impl<'a> InterruptedReader<'a> {
 
 impl Read for InterruptedReader<'_> {
     fn read(&mut self, buf: &mut [u8]) -> io::Result<usize> {
-        if self.interrupted < 2 {
+        if self.interrupted < self.times {
             self.interrupted += 1;
             return Err(io::Error::from(ErrorKind::Interrupted));
         }
@@ -76,7 +79,7 @@ pub enum Failure {
 }
 
 /// Takes a limited number of bytes, a limited number at a time, and then fails in a given way. It
-/// is interrupted before each part and each flush.
+/// is interrupted a number of times before each part and each flush.
 #[derive(Drop)]
 pub struct InterruptedWriter {
     /// The bytes that it has taken.
@@ -84,28 +87,33 @@ pub struct InterruptedWriter {
     at_once: usize,
     left: usize,
     failure: Failure,
-    // Whether the last write or flush was interrupted.
-    is_resumed: bool,
+    /// How often it is interrupted each time.
+    pub times: u32,
+    // How many writes or flushes were interrupted since the last one that wasn't.
+    interrupted: u32,
 }
 
 impl InterruptedWriter {
-    /// A writer with room for `room` bytes, which takes at most `at_once` at a time.
+    /// A writer with room for `room` bytes, which takes at most `at_once` at a time. It is
+    /// interrupted once each time.
     pub fn new(alloc: Global, room: usize, at_once: usize, failure: Failure) -> InterruptedWriter {
         InterruptedWriter {
             taken: Vec::new(alloc),
             at_once,
             left: room,
             failure,
-            is_resumed: false,
+            times: 1,
+            interrupted: 0,
         }
     }
 
-    /// Interrupts every second call.
+    /// Interrupts as many calls as it should before the next one that isn't.
     fn interrupt(&mut self) -> io::Result<()> {
-        self.is_resumed = !self.is_resumed;
-        if self.is_resumed {
+        if self.interrupted < self.times {
+            self.interrupted += 1;
             return Err(io::Error::from(ErrorKind::Interrupted));
         }
+        self.interrupted = 0;
         Ok(())
     }
 }

@@ -60,6 +60,17 @@ fn lines_before_failed_flush<R: Read>(alloc: Global, reader: &mut R) -> Option<u
     (failed && is_whole_lines(written)).then(|| count_lines(written))
 }
 
+/// Whether the replay is as ever if its reader and its writer are interrupted so often before each
+/// byte.
+fn goes_on(alloc: Global, times: u32) -> bool {
+    let mut reader = InterruptedReader::new(SCRIPT.as_bytes(), usize::MAX, 1);
+    let mut writer = InterruptedWriter::new(alloc, usize::MAX, 1, Failure::Write);
+    reader.times = times;
+    writer.times = times;
+    replay(alloc, &mut reader, &mut writer) == Ok(Outcome::Clean)
+        && writer.taken.as_slice() == TEXT.as_bytes()
+}
+
 /// How many bytes a reader gives at a time.
 const PARTS: &[usize] = &[1, 7, usize::MAX];
 
@@ -90,6 +101,9 @@ fn fails_with_its_writer(rt: HostRuntime) {
         );
     }
     assert!(rt; is_written(rt.alloc(), usize::MAX, Failure::Write, Ok(Outcome::Clean)));
+    for times in [0, 1, 1_000, 100_000] {
+        assert!(rt; goes_on(rt.alloc(), times), "{times}");
+    }
 }
 
 // The writer is flushed when no further line is at hand: of a script that is read at once, when all

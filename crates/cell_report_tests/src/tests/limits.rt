@@ -130,9 +130,29 @@ fn has_most_lines(text: &[u8], first: &str, last: &str) -> bool {
         && text.iter().filter(|byte| **byte == b'\n').count() == 65_537
 }
 
+/// The script of 65,536 inquiries, which blank lines fill to the most bytes.
+fn largest(rt: &impl Abort, alloc: Global) -> Vec<u8> {
+    let mut script = Vec::new(alloc);
+    script
+        .extend_from_slice(inquiries(rt, alloc, 65_536, "").as_bytes())
+        .expect(rt, "memory");
+    script.resize(4_194_304, b'\n').expect(rt, "memory");
+    script
+}
+
+/// Whether the largest script has this text, if it is read and written a byte at a time, with
+/// interruptions before each.
+fn is_told_bytewise(rt: &impl Abort, alloc: Global, text: &[u8]) -> bool {
+    let script = largest(rt, alloc);
+    let mut reader = InterruptedReader::new(script.as_slice(), usize::MAX, 1);
+    let mut writer = InterruptedWriter::new(alloc, usize::MAX, 1, Failure::Write);
+    replay(alloc, &mut reader, &mut writer) == Ok(Outcome::Clean) && writer.taken.as_slice() == text
+}
+
 const TOO_MANY: &[&str] = &["watch,inquire,z1\n", "nothing\n"];
 
-// As many records as may be answered are clean. One more may hold anything.
+// As many records as may be answered are clean, of as many bytes as may be read. One more record may
+// hold anything.
 #[test]
 fn answers_most_records(rt: HostRuntime) {
     let alloc = rt.alloc();
@@ -140,6 +160,7 @@ fn answers_most_records(rt: HostRuntime) {
     let first = "0 0 start 0\n1 0 zone free 0 closed\n2 0 zone free 0 closed\n";
     let last = "\n65536 0 zone free 0 closed\n";
     assert!(rt; has_most_lines(text.as_slice(), first, last));
+    assert!(rt; is_told_bytewise(&rt, alloc, text.as_slice()));
     text.extend_from_slice("fault long\n".as_bytes())
         .expect(&rt, "memory");
     for last in TOO_MANY {

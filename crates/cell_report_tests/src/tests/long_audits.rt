@@ -3,7 +3,7 @@ ghost use Rattle.std.specs.Prelude.{◌<◌};
 
 use super::audits::journal_mut;
 use super::start_at;
-use cell_report::{AuditFault, audit};
+use cell_report::{AuditFault, audit, find_fault};
 use cell_rules::{State, apply};
 use cell_types::{Answer, Call, Entry, Event, Journals, Machine, Pose, Refusal, Zone};
 use std::alloc::{AllocError, Global};
@@ -175,12 +175,16 @@ const PLACES: [bool; 10] = [
 #[test]
 fn audits_many_entries(rt: HostRuntime) {
     let start = start_at(&rt, PLACES, 100);
-    for calls in [1_000, 10_000, 100_000] {
+    for calls in [1_000, 10_000, 100_000, 1_000_000] {
         let (mut journals, end) = run(&rt, rt.alloc(), &mut Numbers(1995), &start, calls);
         let events = audit(rt.alloc(), &journals, &start, Some(&end)).expect(&rt, "a history");
         assert!(rt; events.len() == calls as usize, "{calls} entries");
         assert!(rt;
             is_explained(&mut journals, &start, &events),
+            "{calls} entries"
+        );
+        assert!(rt;
+            find_fault(rt.alloc(), &journals, &start, Some(&end)).is_none(),
             "{calls} entries"
         );
     }
