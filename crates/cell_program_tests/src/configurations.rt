@@ -1,6 +1,6 @@
 //! Configurations: what they give, and why they are refused.
 
-use super::doubles::read;
+use super::doubles::{FailingReader, read};
 use cell_calib::{Curve, Points};
 use cell_config::{Config, ConfigFault};
 use cell_plant::Turn;
@@ -413,6 +413,11 @@ fn reads_no_more_than_it_may(rt: HostRuntime) {
     let text = spaced(&rt, rt.alloc(), 2_097_131, "");
     assert!(rt; text.len() == 2_097_152);
     assert!(rt; judged(rt.alloc(), text.as_bytes()) == "well");
+    let mut bytewise = FailingReader {
+        bytes: text.as_bytes(),
+        left: usize::MAX,
+    };
+    assert!(rt; read(rt.alloc(), &mut bytewise).is_ok());
     let text = spaced(&rt, rt.alloc(), 2_097_132, "");
     assert!(rt; judged(rt.alloc(), text.as_bytes()) == "config long");
     let text = spaced(&rt, rt.alloc(), 2_097_132, "after");

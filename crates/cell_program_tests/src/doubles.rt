@@ -90,19 +90,25 @@ impl Read for LineReader<'_> {
     }
 }
 
-/// Gives a text, at most seven bytes at a time, and is interrupted before each part and the end.
+// How often readers and writers are interrupted each time.
+const TIMES: u32 = 1_000;
+
+/// Gives a text, at most seven bytes at a time, and is interrupted a thousand times before each part
+/// and the end.
 #[derive(Drop)]
 pub struct InterruptedReader<'a> {
     pub bytes: &'a [u8],
-    pub is_ready: bool,
+    /// How many reads were interrupted since the last one that wasn't.
+    pub interrupted: u32,
 }
 
 impl Read for InterruptedReader<'_> {
     fn read(&mut self, buf: &mut [u8]) -> io::Result<usize> {
-        self.is_ready = !self.is_ready;
-        if self.is_ready {
+        if self.interrupted < TIMES {
+            self.interrupted += 1;
             return Err(io::Error::from(ErrorKind::Interrupted));
         }
+        self.interrupted = 0;
         let count = buf.len().min(self.bytes.len()).min(7);
         let (part, rest) = self.bytes.split_at(count);
         buf[..count].copy_from_slice(part);
@@ -138,29 +144,33 @@ impl Write for FailingWriter {
     }
 }
 
-/// Takes all bytes, at most seven at a time, and is interrupted before each part and each flush.
+/// Takes all bytes, at most seven at a time, and is interrupted a thousand times before each part and
+/// each flush.
 #[derive(Drop)]
 pub struct InterruptedWriter {
     pub taken: Vec<u8>,
-    pub is_ready: bool,
+    /// How many writes and flushes were interrupted since the last one that wasn't.
+    pub interrupted: u32,
 }
 
 impl Write for InterruptedWriter {
     fn write(&mut self, buf: &[u8]) -> io::Result<usize> {
-        self.is_ready = !self.is_ready;
-        if self.is_ready {
+        if self.interrupted < TIMES {
+            self.interrupted += 1;
             return Err(io::Error::from(ErrorKind::Interrupted));
         }
+        self.interrupted = 0;
         let count = buf.len().min(7);
         self.taken.extend_from_slice(&buf[..count])?;
         Ok(count)
     }
 
     fn flush(&mut self) -> io::Result<()> {
-        self.is_ready = !self.is_ready;
-        if self.is_ready {
+        if self.interrupted < TIMES {
+            self.interrupted += 1;
             return Err(io::Error::from(ErrorKind::Interrupted));
         }
+        self.interrupted = 0;
         Ok(())
     }
 }

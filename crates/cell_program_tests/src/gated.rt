@@ -4,11 +4,12 @@ ghost use Rattle.cell_calib.specs.Line.{IsReading};
 ghost use Rattle.cell_parts.specs.Axes.{IsAxisScale, arm_end, rotation_end, turn_end};
 ghost use Rattle.cell_rules.specs.Start.{IsStartState};
 
-use super::gates::{Doorkeeper, NOTES};
+use super::gates::{Doorkeeper, NOTES, Rule};
 use cell_calib::{Calibration, Gauge, Points, PointsFault, line_at};
 use cell_notes::{RunRecord, Status};
 use cell_plant::Cell;
 use cell_rules::State;
+use cell_types::Machine;
 use cell_workers::{Gate, RunFault, run_cell};
 use std::alloc::Global;
 use std::sync::Wait;
@@ -111,39 +112,41 @@ fn counted(calls: &AtomicU64, points: Points, raw: u16) -> i32
     line_at(&points, raw)
 }
 
-/// The greatest number of turns of each worker, and the number that the gate lets each machine
-/// begin.
-type Row = (u32, [u32; 6]);
+/// The greatest number of turns of each worker, the gate's rule, and the number of turns that each
+/// machine takes.
+type Row = (u32, Rule, [u32; 6]);
 
-// All machines are let in, and all work at once; none is let in; each machine is shut out at another
-// turn.
 const ROWS: &[Row] = &[
-    (0, [6; 6]),
-    (1, [6; 6]),
-    (6, [6; 6]),
-    (6, [0; 6]),
-    (6, [5, 4, 3, 2, 1, 0]),
+    // all machines are let in, and all work at once
+    (0, Rule::Meet, [0; 6]),
+    (1, Rule::Meet, [1; 6]),
+    (6, Rule::Meet, [6; 6]),
+    // they meet at turn 1 alone
+    (3, Rule::MeetAt(1), [3; 6]),
+    // the feed belt is shut out of turn 1 alone
+    (3, Rule::AllBut(Machine::Feed, 1), [1, 3, 3, 3, 3, 3]),
+    // none is let in; each machine is shut out at another turn
+    (6, Rule::First([0; 6]), [0; 6]),
+    (6, Rule::First([5, 4, 3, 2, 1, 0]), [5, 4, 3, 2, 1, 0]),
 ];
 
-// A machine's status, and the turns for which it has asked, by the number of turns that it was let
-// in.
-fn outcome(let_in: u32, turns: u32) -> (Status, u64) {
-    let status = if let_in < turns {
+// A machine's status, and the turns for which it has asked, by the number of turns that it took.
+fn outcome(taken: u32, turns: u32) -> (Status, u64) {
+    let status = if taken < turns {
         Status::GateLimit
     } else {
         Status::Fine
     };
-    let asked = let_in.saturating_add(1).min(turns);
+    let asked = taken.saturating_add(1).min(turns);
     (status, NOTES.get(asked as usize).copied().unwrap_or(0))
 }
 
-// Whether each machine takes exactly the turns that it is let in, and asks for these and the next
-// one, once each.
+// Whether each machine takes exactly these turns, and asks for them and the next one, once each.
 fn is_gated<R: Threads + Wait + Sync>(rt: &R, alloc: Global, row: &Row) -> Result<bool, Fail> {
-    let (turns, lets) = *row;
-    let gate = Doorkeeper::new(lets, lets == [6; 6]);
+    let (turns, rule, taken) = *row;
+    let gate = Doorkeeper::new(rule);
     let record = run_counted(rt, alloc, 0, turns, &gate)??;
-    let [feed, table, robot, press, deposit, crane] = lets.map(|let_in| outcome(let_in, turns));
+    let [feed, table, robot, press, deposit, crane] = taken.map(|taken| outcome(taken, turns));
     let status = [
         feed.0,
         table.0,
@@ -154,8 +157,11 @@ fn is_gated<R: Threads + Wait + Sync>(rt: &R, alloc: Global, row: &Row) -> Resul
         Status::Fine,
     ];
     let notes = [feed.1, table.1, robot.1, press.1, deposit.1, crane.1];
-    let took_turns = record.counts.iter().zip(lets.iter()).all(|(counts, let_in)| counts.turns
-        == u64::from((*let_in).min(turns)));
+    let took_turns = record
+        .counts
+        .iter()
+        .zip(taken.iter())
+        .all(|(counts, taken)| counts.turns == u64::from(*taken));
     Ok(took_turns && record.status == status && record.end.is_some() && gate.has_noted(&notes))
 }
 
@@ -174,7 +180,8 @@ fn one_machine_is_shut_out(rt: HostRuntime) -> Result<(), Fail> {
         for turn in 0..6u32 {
             let mut lets = [6; 6];
             lets[machine] = turn;
-            assert!(rt; is_gated(&rt, rt.alloc(), &(6, lets))?, "{machine} {turn}");
+            let row = (6, Rule::First(lets), lets);
+            assert!(rt; is_gated(&rt, rt.alloc(), &row)?, "{machine} {turn}");
         }
     }
     Ok(())
@@ -184,7 +191,7 @@ fn one_machine_is_shut_out(rt: HostRuntime) -> Result<(), Fail> {
 // returns. A run with threads for all has an end.
 #[test]
 fn nothing_is_left_running(rt: HostRuntime) -> Result<(), Fail> {
-    let gate = Doorkeeper::new([9; 6], false);
+    let gate = Doorkeeper::new(Rule::First([9; 6]));
     match run_counted(&rt, rt.alloc(), 0, 3, &gate)? {
         Ok(record) => assert!(rt; record.end.is_some()),
         Err(_) => assert!(rt; gate.has_let_in_the_first(NOTES[3])),
@@ -196,7 +203,7 @@ fn nothing_is_left_running(rt: HostRuntime) -> Result<(), Fail> {
 // again.
 #[test]
 fn worn_machines_ask_no_more(rt: HostRuntime) -> Result<(), Fail> {
-    let gate = Doorkeeper::new([9; 6], false);
+    let gate = Doorkeeper::new(Rule::First([9; 6]));
     let record = run_counted(&rt, rt.alloc(), 1_048_575, 6, &gate)??;
     let (worn, fine) = (Status::Worn, Status::Fine);
     assert!(rt; record.status == [worn, worn, fine, worn, worn, fine, fine]);

@@ -9,14 +9,24 @@ use std::sync::atomic::{AtomicU64, Ordering};
 /// each once and in this order.
 pub const NOTES: [u64; 8] = [0, 1, 12, 123, 1234, 12_345, 123_456, 1_234_567];
 
-/// Lets each machine begin a number of turns, and notes the turns for which it asked. If `meets` is
-/// set, a machine may begin a turn once all six have asked for it; it waits for a bounded time.
+/// Which turns a gate lets machines begin. A machine that meets the others begins its turn once all
+/// six have asked for it; it waits for a bounded time.
+#[derive(Clone, Copy, PartialEq, Eq, Debug)]
+pub enum Rule {
+    /// The first ones of each machine: how many.
+    First([u32; 6]),
+    /// All turns; the machines meet at each.
+    Meet,
+    /// All turns; the machines meet at one alone.
+    MeetAt(u32),
+    /// All turns but one of one machine.
+    AllBut(Machine, u32),
+}
+
+/// Lets machines begin turns by a rule, and notes the turns for which each has asked.
 #[derive(Drop)]
 pub struct Doorkeeper {
-    // How many turns each machine may begin. The watch has none.
-    lets: [u32; 7],
-    // Whether the machines wait for one another.
-    meets: bool,
+    rule: Rule,
     // The turns for which each machine has asked, one digit each: 1 for turn 0.
     asked: [AtomicU64; 7],
     // How often the gate was told that each machine takes no more turns: 1 for once, 11 for twice.
@@ -28,11 +38,9 @@ pub struct Doorkeeper {
 }
 
 impl Doorkeeper {
-    pub fn new(lets: [u32; 6], meets: bool) -> Doorkeeper {
-        let [feed, table, robot, press, deposit, crane] = lets;
+    pub fn new(rule: Rule) -> Doorkeeper {
         Doorkeeper {
-            lets: [feed, table, robot, press, deposit, crane, 0],
-            meets,
+            rule,
             asked: seven_zeros(),
             ended: seven_zeros(),
             calls: five_zeros(),
@@ -66,6 +74,16 @@ impl Doorkeeper {
                 .all(|asked| asked.load(Ordering::SeqCst) >= *wanted),
             None => false,
         }
+    }
+
+    // Whether they all are within some time.
+    fn do_all_meet(&self, turn: u32) -> bool {
+        for _ in 0..100_000_000u32 {
+            if self.are_all_at(turn) {
+                return true;
+            }
+        }
+        false
     }
 }
 
@@ -133,15 +151,12 @@ impl Gate for Doorkeeper {
                 note(found, calls.load(Ordering::SeqCst).wrapping_add(1));
             }
         }
-        if !self.meets {
-            return turn < self.lets[at];
+        match self.rule {
+            Rule::First(lets) => at < lets.len() && turn < lets[at],
+            Rule::Meet => self.do_all_meet(turn),
+            Rule::MeetAt(met) => turn != met || self.do_all_meet(turn),
+            Rule::AllBut(shut_out, shut) => (machine, turn) != (shut_out, shut),
         }
-        for _ in 0..100_000_000u32 {
-            if self.are_all_at(turn) {
-                return true;
-            }
-        }
-        false
     }
 
     fn end(&self, machine: Machine) {

@@ -212,6 +212,29 @@ stamp 9 plates 1 stopped 0
 audit ok
 ";
 
+/// So it is after 500,000 turns each.
+pub const LONGEST: &str = "\
+version 2
+start 0010000000 0
+feed turns 0 done 0 read 0 refused 0 busy 0 ok
+table turns 500000 done 5 read 0 refused 499964 busy 0 ok
+robot turns 0 done 0 read 0 refused 0 busy 0 ok
+press turns 500000 done 4 read 0 refused 499970 busy 0 ok
+deposit turns 0 done 0 read 0 refused 0 busy 0 ok
+crane turns 0 done 0 read 0 refused 0 busy 0 ok
+watch turns 0 done 0 read 0 refused 0 busy 0 ok
+zone z1 table 0 closed
+zone z2 robot 1 openout
+zone z3 free 0 openin
+zone z4 free 0 closed
+zone z5 free 0 closed
+zone z6 free 0 closed
+places 0000000000
+axes press 500 arm1 0 arm2 0 rotation 300 lift 600 turn 500 crane 0 gripper 900
+stamp 9 plates 1 stopped 0
+audit ok
+";
+
 /// The report if each machine has had one turn, and another one that found the interlock busy if it
 /// asked.
 pub const ONE_TURN_EACH: &str = "\

@@ -2,8 +2,8 @@
 
 use super::doubles::{is_served, run};
 use super::reports::{
-    BUSY, HANDS_OVER, LONG, ONE_TURN_EACH, PRESS, PRESS_REPORT, STILL, STOP, STOP_AND_RESUME,
-    WAITS, WORN,
+    BUSY, HANDS_OVER, LONG, LONGEST, ONE_TURN_EACH, PRESS, PRESS_REPORT, STILL, STOP,
+    STOP_AND_RESUME, WAITS, WORN,
 };
 use std::alloc::{AllocError, Global};
 use std::process::Abort;
@@ -103,16 +103,21 @@ pub fn scheduled(alloc: Global, start: &str, schedule: &str) -> Result<String, A
     Ok(config)
 }
 
-// Nearly every turn asks, so nearly 20,000 entries are audited.
+// How many turns table and press have each, and the report. Nearly every turn asks, so nearly as
+// many entries are audited. The last schedule is as long as one may be.
+const LONG_RUNS: &[(usize, &str)] = &[(10_000, LONG), (500_000, LONGEST)];
+
 #[test]
-fn simulates_20000_turns(rt: HostRuntime) -> Result<(), Fail> {
+fn simulates_long_schedules(rt: HostRuntime) -> Result<(), Fail> {
     let alloc = rt.alloc();
-    let mut schedule = String::new(alloc);
-    for _ in 0..10_000u32 {
-        schedule.push_str("tp")?;
+    for (turns, report) in LONG_RUNS {
+        let schedule = "tp".repeat(alloc, *turns)?;
+        let config = scheduled(alloc, "0010000000", schedule.as_str())?;
+        assert!(rt;
+            is_served(&rt, alloc, SIM, config.as_str(), 0, report),
+            "{turns}"
+        );
     }
-    let config = scheduled(alloc, "0010000000", schedule.as_str())?;
-    assert!(rt; is_served(&rt, alloc, SIM, config.as_str(), 0, LONG));
     Ok(())
 }
 

@@ -99,7 +99,8 @@ fn writes_a_prefix(rt: HostRuntime) {
     }
 }
 
-/// Whether it makes no difference if input and output are interrupted before each part.
+/// Whether it makes no difference if input and output are interrupted a thousand times before each
+/// part.
 fn is_served_in_parts<T: Threads + Wait + Sync>(
     rt: &T,
     alloc: Global,
@@ -110,11 +111,11 @@ fn is_served_in_parts<T: Threads + Wait + Sync>(
 ) -> bool {
     let mut reader = InterruptedReader {
         bytes: input.as_bytes(),
-        is_ready: false,
+        interrupted: 0,
     };
     let mut writer = InterruptedWriter {
         taken: Vec::new(alloc),
-        is_ready: false,
+        interrupted: 0,
     };
     let answered = run(rt, alloc, words, &mut reader, &mut writer);
     answered == status && writer.taken.as_slice() == text
@@ -201,11 +202,11 @@ fn tells_a_failed_flush(rt: HostRuntime) {
     assert!(rt; writer.flushed == 26);
 }
 
-/// What is read of a text in parts; the reader is interrupted before each.
+/// What is read of a text in parts; the reader is interrupted a thousand times before each.
 fn read_in_parts(alloc: Global, text: &str) -> Result<Config, ConfigFault> {
     let mut reader = InterruptedReader {
         bytes: text.as_bytes(),
-        is_ready: false,
+        interrupted: 0,
     };
     read(alloc, &mut reader)
 }
