@@ -485,9 +485,44 @@ fn lacks_but_memory(record: &RunRecord) -> bool {
     })
 }
 
-// Whichever allocation fails, the run has a record, or the fault says why not.
+// The first run's turns; `turns_of` makes them too, but takes memory.
+fn first_turns() -> [Turn; 18] {
+    let turn_of = |machine| Turn {
+        machine,
+        busy: false,
+    };
+    let mut turns = [turn_of(Machine::Feed); 18];
+    turns[..6].fill(turn_of(Machine::Table));
+    turns[17] = turn_of(Machine::Table);
+    turns
+}
+
+// Whether the record is the row's, or no machine stopped but for memory, and one did.
+fn ends_or_lacks(row: &Row, record: &RunRecord) -> bool {
+    if record.status == FINE {
+        return starts_so(row, record)
+            && has_done(row, record)
+            && record.end.is_some_and(|end| ends_so(row, &end));
+    }
+    record
+        .status
+        .iter()
+        .all(|status| [Status::Fine, Status::Memory].contains(status))
+}
+
+// Whichever allocation fails, each run has a record, or the fault says why not.
 #[test]
 fn a_run_without_memory(rt: HostRuntime) -> Result<(), Fail> {
+    let row = &ROWS[0];
+    if let Ok(record) = run(
+        rt.alloc(),
+        Gauges::Lines,
+        places_of(row.start),
+        0,
+        &first_turns(),
+    )? {
+        assert!(rt; ends_or_lacks(row, &record));
+    }
     let turns = TWICE.map(|machine| Turn {
         machine,
         busy: false,
