@@ -125,6 +125,10 @@ const NO_TOML: &[(&[u8], &str)] = &[
         "config text: line 1: it is no TOML: invalid value, expected a string, number, boolean, date-time, array or inline table; start takes a text of ten digits; put quotes round them\n",
     ),
     (
+        b"start = \"0100000000\"\nstamp = 007\n",
+        "config text: line 2: it is no TOML: invalid value, expected a string, number, boolean, date-time, array or inline table; stamp takes a whole number, without quotes\n",
+    ),
+    (
         b"start = \"0100000000\"\nschedule = \"tf\nstamp = 3\n",
         "config text: line 2: it is no TOML: invalid string; schedule takes a text; put quotes round the letters\n",
     ),

@@ -5,7 +5,11 @@
 #[cfg(test)]
 mod configurations;
 #[cfg(test)]
+mod doubles;
+#[cfg(test)]
 mod keys;
+#[cfg(test)]
+mod long;
 #[cfg(test)]
 mod scripts;
 #[cfg(test)]

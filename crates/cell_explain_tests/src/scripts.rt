@@ -124,8 +124,133 @@ const STARTS: &[(&[u8], &str)] = &[
         "record 0, line 1, field 2: \"2111111000\"; the places are ten digits 0 or 1, one for each of p1 to p10\n",
     ),
     (
+        b"press,claim,z3\n",
+        "record 0, line 1, field 1: \"press\" begins a call, but a script begins with a start, such as start,0000000000\n",
+    ),
+    (
+        b"# a comment\nstart,0000000000\n",
+        "record 0, line 1, field 1: \"# a comment\": a script has no comments; delete the line\n",
+    ),
+    (
+        b"Start,0000000000\n",
+        "record 0, line 1, field 1: \"Start\" is no word that begins a script: words are lower case; did you mean \"start\"?; a script begins with a start, such as start,0000000000\n",
+    ),
+    (
+        b"start,0000000000,5,6\n",
+        "record 0, line 1, field 4: \"6\"; a start has at most three fields\n",
+    ),
+    (
+        b"start2\n",
+        "record 0, line 1: the places are missing: ten digits 0 or 1, one for each of p1 to p10\n",
+    ),
+    (
+        b"start,\n",
+        "record 0, line 1, field 2: \"\": it is empty; a comma too many makes an empty field; the places are ten digits 0 or 1, one for each of p1 to p10\n",
+    ),
+    (
+        b"start,010000000\n",
+        "record 0, line 1, field 2: \"010000000\" has 9 of ten digits; a spreadsheet drops zeros at the front, so make the field a text\n",
+    ),
+    (
+        b"start,01000000000\n",
+        "record 0, line 1, field 2: \"01000000000\" has 11 digits; there are ten places, p1 to p10\n",
+    ),
+    (
         b"Machine,Verb\nstart,0000000000\n",
         "record 0, line 1, field 1: \"Machine\": a script has no header; delete the line\n",
+    ),
+];
+
+/// Calls: what is wrong with a machine, a verb, and what stands after the verb.
+const CALLS: &[(&[u8], &str)] = &[
+    (
+        b"start,0000000000\nbelt,claim,z1\n",
+        "record 1, line 2, field 1: \"belt\" is no machine; known are: feed table robot press deposit crane watch\n",
+    ),
+    (
+        b"start,0000000000\nstart2,0000000000\n",
+        "record 1, line 2, field 1: \"start2\" begins a script; it stands in record 0 alone\n",
+    ),
+    (
+        b"start,0000000000\npress,claim,z3\nstart,0000000000\n",
+        "record 2, line 3, field 1: \"start\" begins a script; it stands in record 0 alone\n",
+    ),
+    (
+        b"start,0000000000\npress\n",
+        "record 1, line 2: a verb is missing after the machine, such as claim\n",
+    ),
+    (
+        b"start,0000000000\npress,grab,z3\n",
+        "record 1, line 2, field 2: \"grab\" is no verb; known are: claim give yield take release inquire pose advance stop resume\n",
+    ),
+    (
+        b"start,0000000000\nwatch,resume\n",
+        "record 1, line 2, field 2: \"resume\" needs a script that begins with start2, not with start\n",
+    ),
+    (
+        b"start2,0000000000\nwatch,resume,z1\n",
+        "record 1, line 2, field 3: \"z1\"; no field follows this verb\n",
+    ),
+    (
+        b"start,0000000000\nrobot,advance,\n",
+        "record 1, line 2, field 3: \"\": it is empty; a comma too many makes an empty field; no field follows this verb\n",
+    ),
+    (
+        b"start,0000000000\nrobot,pose\n",
+        "record 1, line 2, field 2: \"pose\" needs a pose after it, such as middle\n",
+    ),
+    (
+        b"start,0000000000\nrobot,pose,midle\n",
+        "record 1, line 2, field 3: \"midle\" is no pose; did you mean \"middle\"?\n",
+    ),
+    (
+        b"start,0000000000\nrobot,pose,up\n",
+        "record 1, line 2, field 3: \"up\" is no pose; known are: turning loading unloading travelling middle low top running landing halted offering standing\n",
+    ),
+    (
+        b"start,0000000000\npress,claim,z3,z4\n",
+        "record 1, line 2, field 4: \"z4\"; a call has at most three fields\n",
+    ),
+];
+
+/// What catches the eye in a field, and how much of a field is shown: 40 characters, or bytes of what
+/// isn't UTF-8.
+const LOOKS: &[(&[u8], &str)] = &[
+    (
+        b"start,0000000000\npress;claim;z3\n",
+        "record 1, line 2, field 1: \"press;claim;z3\" is no machine: a comma separates fields, not a semicolon; known are: feed table robot press deposit crane watch\n",
+    ),
+    (
+        b"start,0000000000\npress\tclaim\tz3\n",
+        "record 1, line 2, field 1: \"press\\tclaim\\tz3\" is no machine: a comma separates fields, not a tab; known are: feed table robot press deposit crane watch\n",
+    ),
+    (
+        b"start,0000000000\npress claim z3\n",
+        "record 1, line 2, field 1: \"press claim z3\" is no machine: a comma separates fields, not a blank; known are: feed table robot press deposit crane watch\n",
+    ),
+    (
+        b"start,0000000000\npress,claim,z3 \n",
+        "record 1, line 2, field 3: \"z3 \" is no zone: it ends with a blank; did you mean \"z3\"?\n",
+    ),
+    (
+        b"start,0000000000\npress,\"cla\rim\",z3\n",
+        "record 1, line 2, field 2: \"cla\\rim\" is no verb: it goes past the end of a line; is a quote left open?; did you mean \"claim\"?\n",
+    ),
+    (
+        b"start,0000000000\naaaaaaaaaaaaaaaaaaaaaaaaaaaaaaaaaaaaaaaa,claim,z3\n",
+        "record 1, line 2, field 1: \"aaaaaaaaaaaaaaaaaaaaaaaaaaaaaaaaaaaaaaaa\" is no machine; known are: feed table robot press deposit crane watch\n",
+    ),
+    (
+        b"start,0000000000\naaaaaaaaaaaaaaaaaaaaaaaaaaaaaaaaaaaaaaaaa,claim,z3\n",
+        "record 1, line 2, field 1: \"aaaaaaaaaaaaaaaaaaaaaaaaaaaaaaaaaaaaaaaa..\" is no machine; known are: feed table robot press deposit crane watch\n",
+    ),
+    (
+        b"start,0000000000\n\xffaaaaaaaaaaaaaaaaaaaaaaaaaaaaaaaaaaaaaaa,claim,z3\n",
+        "record 1, line 2, field 1: \"\\xffaaaaaaaaaaaaaaaaaaaaaaaaaaaaaaaaaaaaaaa\" is no machine; known are: feed table robot press deposit crane watch\n",
+    ),
+    (
+        b"start,0000000000\n\xffaaaaaaaaaaaaaaaaaaaaaaaaaaaaaaaaaaaaaaaa,claim,z3\n",
+        "record 1, line 2, field 1: \"\\xffaaaaaaaaaaaaaaaaaaaaaaaaaaaaaaaaaaaaaaa..\" is no machine; known are: feed table robot press deposit crane watch\n",
     ),
 ];
 
@@ -177,7 +302,7 @@ fn explains_scripts(rt: HostRuntime) {
 }
 
 /// Whether a script gets this explanation; empty for one that isn't refused.
-fn is_explained(alloc: Global, script: &[u8], wanted: &str) -> bool {
+pub fn is_explained(alloc: Global, script: &[u8], wanted: &str) -> bool {
     let mut reader = script;
     let mut written = Vec::new(alloc);
     let verdict = explain_script(alloc, &mut reader, &mut written);
@@ -195,6 +320,20 @@ fn tells_the_line(rt: HostRuntime) {
 #[test]
 fn explains_starts(rt: HostRuntime) {
     for (script, wanted) in STARTS {
+        assert!(rt; is_explained(rt.alloc(), script, wanted), "{wanted}");
+    }
+}
+
+#[test]
+fn explains_calls(rt: HostRuntime) {
+    for (script, wanted) in CALLS {
+        assert!(rt; is_explained(rt.alloc(), script, wanted), "{wanted}");
+    }
+}
+
+#[test]
+fn tells_what_catches_the_eye(rt: HostRuntime) {
+    for (script, wanted) in LOOKS {
         assert!(rt; is_explained(rt.alloc(), script, wanted), "{wanted}");
     }
 }

@@ -49,6 +49,13 @@ const ROWS: &[(&str, &str)] = &[
         "config range: line 2: points of arm2 takes 2 to 32 pairs\n",
     ),
     (
+        "arm2.points = [[-1, 0], [0, 0], [0, 0], [0, 0], [0, 0], [0, 0], [0, 0], [0, 0], \
+         [0, 0], [0, 0], [0, 0], [0, 0], [0, 0], [0, 0], [0, 0], [0, 0], \
+         [0, 0], [0, 0], [0, 0], [0, 0], [0, 0], [0, 0], [0, 0], [0, 0], \
+         [0, 0], [0, 0], [0, 0], [0, 0], [0, 0], [0, 0], [0, 0], [0, 0], [0, 0]]\n",
+        "config range: line 2: points of arm2 takes 2 to 32 pairs\n",
+    ),
+    (
         "[arm2]\npoints = [[-1, 0], [4000, 1000]]\n",
         "config range: line 3: points of arm2 has a number out of range: raw values are from 0 to 65535, positions from 0 to 1000\n",
     ),

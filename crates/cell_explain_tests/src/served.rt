@@ -1,6 +1,7 @@
 //! Words of the program `explain`: which input they explain, and the exit status.
 
-use cell_explain::serve::serve;
+use super::doubles::{FailingReader, FailingWriter, Given};
+use cell_explain::serve::{serve, start};
 use std::alloc::Global;
 
 /// A script that is taken. As a configuration it is no TOML.
@@ -96,5 +97,83 @@ fn is_told(alloc: Global, words: &[&str], status: u8, begins: &str) -> bool {
 fn serves_other_words(rt: HostRuntime) {
     for (words, status, begins) in OTHERS {
         assert!(rt; is_told(rt.alloc(), words, *status, begins), "{words:?}");
+    }
+}
+
+/// The status and the text after a read that fails when these bytes are read.
+fn is_silent(alloc: Global, words: &[&str], bytes: &str) -> bool {
+    let mut reader = FailingReader {
+        bytes: bytes.as_bytes(),
+    };
+    let mut written = Vec::new(alloc);
+    let answered = serve(alloc, words, &mut reader, &mut written);
+    answered == 3 && written.is_empty()
+}
+
+/// Words and an input, of which something is written: all that a writer takes that takes less.
+const WRITTEN: &[(&[&str], &str, &str)] = &[
+    (&["explain"], BAD_SCRIPT, OF_BAD_SCRIPT),
+    (&["explain", "sim"], BAD_CONFIG, OF_BAD_CONFIG),
+    (
+        &["explain", "--help"],
+        "",
+        "Says what is wrong with an input",
+    ),
+    (&["explain", "simulate"], "", "error: "),
+];
+
+/// Whether the status is 3 for a writer that takes this number of bytes, and it got the first of this
+/// text.
+fn is_cut(alloc: Global, words: &[&str], input: &str, text: &str, left: usize) -> bool {
+    let mut writer = FailingWriter {
+        taken: Vec::new(alloc),
+        left,
+    };
+    let answered = serve(alloc, words, &mut input.as_bytes(), &mut writer);
+    answered == 3
+        && writer.taken.len() == left
+        && text.as_bytes().starts_with(writer.taken.as_slice())
+}
+
+#[test]
+fn fails_with_reader_and_writer(rt: HostRuntime) {
+    assert!(rt; is_silent(rt.alloc(), &["explain"], BAD_SCRIPT));
+    assert!(rt; is_silent(rt.alloc(), &["explain", "sim"], BAD_CONFIG));
+    for (words, input, text) in WRITTEN {
+        assert!(rt; is_cut(rt.alloc(), words, input, text, 0), "{words:?}");
+        assert!(rt; is_cut(rt.alloc(), words, input, text, 7), "{words:?}");
+    }
+}
+
+/// Arguments, an input, the exit status and the text.
+const STARTED: &[(&[&[u8]], &str, u8, &str)] = &[
+    (&[b"./explain"], SCRIPT, 0, ""),
+    (&[b"bad\xff", b"replay"], BAD_SCRIPT, 1, OF_BAD_SCRIPT),
+    (&[b"./explain", b"sim"], CONFIG, 0, ""),
+    (&[b"./explain", b"sim"], BAD_CONFIG, 1, OF_BAD_CONFIG),
+    (
+        &[b"./explain", b"run", b"--turns", b"3"],
+        SCRIPT,
+        1,
+        SCRIPT_AS_CONFIG,
+    ),
+    (&[b"./explain", b"\xff"], BAD_SCRIPT, 2, ""),
+];
+
+/// Whether the program, started with these arguments, answers so.
+fn is_started(alloc: Global, arguments: &[&[u8]], input: &str, status: u8, text: &str) -> bool {
+    let mut written = Vec::new(alloc);
+    let env = Given { arguments };
+    let answered = start(alloc, &env, &mut input.as_bytes(), &mut written);
+    answered == status && written.as_slice() == text.as_bytes()
+}
+
+#[test]
+fn starts(rt: HostRuntime) {
+    for (arguments, input, status, text) in STARTED {
+        assert!(rt;
+            is_started(rt.alloc(), arguments, input, *status, text),
+            "{arguments:?}"
+        );
     }
 }
