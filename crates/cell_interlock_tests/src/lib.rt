@@ -4,5 +4,6 @@
 
 pub mod callers;
 pub mod letters;
+pub mod ring;
 #[cfg(test)]
 mod tests;

@@ -24,19 +24,3 @@ fn a_call_may_lose_from_one_to_sixty_four(rt: HostRuntime) {
         );
     }
 }
-
-const FAULTS: &[(MakeFault, &str)] = &[
-    (
-        MakeFault::Tries,
-        "the number of exchanges that a call may lose isn't 1 to 64",
-    ),
-    (MakeFault::Memory, "out of memory"),
-];
-
-#[test]
-fn faults_are_printed(rt: HostRuntime) {
-    for (fault, text) in FAULTS {
-        let printed = fault.to_string(rt.alloc()).expect(&rt, "memory");
-        assert!(rt; printed.as_str() == *text, "{text}");
-    }
-}

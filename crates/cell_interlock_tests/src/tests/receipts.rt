@@ -1,11 +1,13 @@
 //! Receipts, in one thread and between two.
 ghost use Rattle.std.specs.Prelude.{◌≡◌};
+ghost use Rattle.std.specs.Thread.{IsSync};
 ghost use Rattle.cell_types.specs.declared.answer.Answer.TheVariants.{Done};
 ghost use Rattle.cell_rules.specs.Seen.{event};
 ghost use Rattle.cell_interlock.specs.Ends.{ArePassesOf};
 
 use super::closing::{PRESS_3, state_of};
 use crate::letters::{News, two_threads};
+use crate::ring::{OfTable, three_threads};
 use cell_interlock::{Interlock, Pass, Passes};
 use cell_rules::State;
 use cell_types::{Answer, Call, Machine, Refusal, Reply, Zone};
@@ -16,7 +18,8 @@ use std::thread::Threads;
 
 const PRESS_HAS_IT: Reply = Reply::Settled(Answer::Refused(Refusal::Held(Machine::Press)), 1);
 
-/// Whether a receipt and its copy are accepted, and an interlock closes while a receipt is left.
+/// Whether a receipt and its copy are accepted, and an interlock closes while one more receipt is
+/// alive, and after one was dropped. Nobody accepts these two.
 fn are_accepted(interlock: Interlock, mut passes: Passes) -> bool
     requires { ArePassesOf interlock passes }
 {
@@ -28,6 +31,8 @@ fn are_accepted(interlock: Interlock, mut passes: Passes) -> bool
     let refused = interlock.ask(&mut passes.robot, claim);
     interlock.accept(&mut passes.crane, copy);
     let surveyed = interlock.survey(&mut passes.crane);
+    let unread = interlock.receipt(&mut passes.deposit);
+    drop(unread);
     let left_over = interlock.receipt(&mut passes.table);
     let ended = interlock.close(passes);
     drop(left_over);
@@ -51,8 +56,8 @@ fn is_told(interlock: &Interlock, mut passes: Passes) -> bool
     requires { ArePassesOf interlock.now passes }
 {
     let claim = Call::Claim(Zone::Z3);
-    let replies = interlock.told(&mut passes.press, claim, &mut passes.robot, claim);
-    let next = interlock.told(
+    let replies = interlock.tell(&mut passes.press, claim, &mut passes.robot, claim);
+    let next = interlock.tell(
         &mut passes.table,
         Call::Claim(Zone::Z1),
         &mut passes.feed,
@@ -107,4 +112,35 @@ fn a_letter_is_heard(rt: HostRuntime) {
     let first = (press, Call::Claim(Zone::Z3));
     let second = (table, Call::Claim(Zone::Z1));
     assert!(rt; is_heard::<Brand, HostRuntime>(&rt, rt.alloc(), &interlock, first, second));
+}
+
+/// Whether letters go round three threads, and each caller is told higher stamps than its letters'.
+fn go_round<N: OfTable + Send + Sync, R: Threads + Wait + Sync>(
+    rt: &R,
+    alloc: Global,
+    interlock: &Interlock,
+    passes: Passes,
+) -> bool
+    requires same_interlock { ArePassesOf interlock.now passes }
+    requires table { interlock.now.table ≡ N.table }
+    requires sync { IsSync R.row }
+{
+    let callers = (
+        (passes.table, Zone::Z1),
+        (passes.press, Zone::Z3),
+        (passes.crane, Zone::Z6),
+    );
+    match three_threads::<N, R>(rt, alloc, interlock, callers) {
+        Ok(were_told) => were_told == [true; 3],
+        Err(_) => false,
+    }
+}
+
+#[test]
+fn letters_go_round(rt: HostRuntime) {
+    let opening = State::start([false; 10], 0).expect(&rt, "a start without plates");
+    let Ok((interlock, passes)) = Interlock::new(rt.alloc(), opening, 64) else {
+        panic!(rt; "no interlock");
+    };
+    assert!(rt; go_round::<Brand, HostRuntime>(&rt, rt.alloc(), &interlock, passes));
 }
