@@ -9,6 +9,8 @@ use Rattle.cell_notes.specs.declared.run_record.RunRecord.{RunRecord}
 use Rattle.cell_notes.specs.declared.status.Status.{Status}
 use Rattle.cell_notes.specs.declared.status.Status.TheVariants.{Fine}
 use Rattle.cell_parts.specs.Axes.{CellScales}
+use Rattle.cell_plant.specs.Machines.{CellGauges, on_curves}
+use Rattle.cell_workers.proofs.Recording.{work_near}
 use Rattle.cell_workers.proofs.Telling.{records_tell}
 use Rattle.cell_program.specs.Reported.{AreFine}
 use Rattle.cell_program.specs.Served.{TellsWorkers}
@@ -46,9 +48,10 @@ each_status statuses k Crane = fine_in statuses (Feed ∷ Table ∷ Robot ∷ Pr
 each_status statuses k Watch = fine_in statuses (Feed ∷ Table ∷ Robot ∷ Press ∷ Deposit ∷ Crane ∷ []) [] Watch k
 
 -- a machine that is fine had all its turns
-all_turns : (c : CellScales) (opening : ModelState) (tries turns : ℕ) (r : RunRecord) → TellsWorkers c opening tries turns r → AreFine r.status → EachHadTurns turns r
-all_turns c opening tries turns r k fine did counts m e =
-    let had = told.turns c opening tries turns r did k.statuses k counts k.status m e in
+all_turns : (c : CellScales) (gives : CellGauges) (opening : ModelState) (tries turns : ℕ) (r : RunRecord) → TellsWorkers c gives opening tries turns r → AreFine r.status → EachHadTurns turns r
+all_turns c gives opening tries turns r k fine did counts m e =
+    let any = work_near c gives opening tries turns (λ n turn answer. answer ≡ true) r k in
+    let had = told.turns c opening tries turns r did k.statuses any counts k.status m e in
     had.0.fine (each_status k.statuses (subst AreFine k.status fine) m)
 
 pub well : StatusZeroIsWell
@@ -59,7 +62,7 @@ well =
       simulated = λ bytes text k. (k.0, k.1.0, k.1.1.1, each_fine k.0 k.1.1.0);
       ran = λ turns tries bytes text k.
           let tells = k.1.0 in
-          (k.0, tells, k.1.1.1, (each_fine k.0 k.1.1.0, (tells.run.history, audited_work tells.scales tells.settings.start tries turns k.0 tells.run)), all_turns tells.scales tells.settings.start tries turns k.0 tells.run k.1.1.0);
+          (k.0, tells, k.1.1.1, (each_fine k.0 k.1.1.0, (tells.run.history, audited_work tells.scales (on_curves tells.settings.curves) tells.settings.start tries turns k.0 tells.run)), all_turns tells.scales (on_curves tells.settings.curves) tells.settings.start tries turns k.0 tells.run k.1.1.0);
     }
 
 -- ---- lines

@@ -4,6 +4,7 @@ mod AuditLemmas
 mod SimLemmas
 mod RunLemmas
 mod LawLemmas
+mod TextLemmas
 mod PlaceLemmas
 mod AskLemmas
 mod ServeLemmas

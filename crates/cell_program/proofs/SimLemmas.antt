@@ -6,7 +6,9 @@ use Rattle.cell_rules.specs.Journal.{event_by}
 use Rattle.cell_rules.proofs.Notes.{events_of_noted}
 use Rattle.cell_text.specs.Output.{WrotePrefix}
 use Rattle.cell_parts.specs.Axes.{CellScales}
+use Rattle.cell_calib.specs.Curve.{pairs_of}
 use Rattle.cell_plant.specs.Cells.{TellsRun}
+use Rattle.cell_plant.specs.Machines.{CellGauges, on_curves}
 use Rattle.cell_plant.specs.Records.{events_in}
 use Rattle.cell_notes.specs.declared.run_record.RunRecord.{RunRecord}
 use Rattle.cell_notes.specs.declared.schedule.Turn.{Turn}
@@ -22,28 +24,32 @@ use Rattle.cell_program.specs.Served.{SimFails, TellsRunOf, WasSimulated, fault_
 use Rattle.cell_program.proofs.AuditLemmas.{report_fails}
 
 -- the history of a run is one that an audit of its journals looks for
-audited_run : (c : CellScales) (opening : ModelState) (turns : List Turn) (r : RunRecord) (t : TellsRun c opening turns r) → IsAudited r.start (journal_of r.journals) r.end (events_in t.steps)
-audited_run c opening turns r t = subst (λ s. IsAudited s (journal_of r.journals) r.end (events_in t.steps)) (sym t.told.start) (record {
+audited_run : (c : CellScales) (gives : CellGauges) (opening : ModelState) (turns : List Turn) (r : RunRecord) (t : TellsRun c gives opening turns r) → IsAudited r.start (journal_of r.journals) r.end (events_in t.steps)
+audited_run c gives opening turns r t = subst (λ s. IsAudited s (journal_of r.journals) r.end (events_in t.steps)) (sym t.told.start) (record {
   legal = t.legal;
   own = λ m. sym (events_of_noted opening (events_in t.steps) m) ∙ ap (map (event_by m)) (sym (t.told.journals m));
   noted = λ m. sym (t.told.journals m);
   ends = subst (EndsIn _) (sym t.told.end) (sym t.reached);
 })
 
+-- what the gauges on the curves of a configuration give
+abbrev given : Config → CellGauges
+given config = on_curves (map pairs_of config.curves)
+
 module _ (old new : Option (List ℕ)) where
   pub config_refused : (o : Option (List ℕ)) (fault : ConfigFault) → IfSome o (λ bytes. Says bytes (Err fault)) → WrotePrefix old new (fault_line (config_fault_text fault)) → IfSome o (λ bytes. SimFails bytes old new)
   config_refused None fault k w = tt
   config_refused (Some bytes) fault k w = inl (fault, (k, w))
 
-  tells_of : (bytes : List ℕ) (config : Config) (r : RunRecord) (c : CellScales) → settings_of bytes ≡ Ok (shown config) → config.points ≡ in_order c → TellsRun c config.start config.schedule.items r → TellsRunOf bytes r
+  tells_of : (bytes : List ℕ) (config : Config) (r : RunRecord) (c : CellScales) → settings_of bytes ≡ Ok (shown config) → config.points ≡ in_order c → TellsRun c (given config) config.start config.schedule.items r → TellsRunOf bytes r
   tells_of bytes config r c k points run = record { settings = shown config; said = k; scales = c; points = points; run = run }
 
-  pub sim_well : (o : Option (List ℕ)) (config : Config) (r : RunRecord) (c : CellScales) → IfSome o (λ bytes. Says bytes (Ok config)) → config.points ≡ in_order c → TellsRun c config.start config.schedule.items r
+  pub sim_well : (o : Option (List ℕ)) (config : Config) (r : RunRecord) (c : CellScales) → IfSome o (λ bytes. Says bytes (Ok config)) → config.points ≡ in_order c → TellsRun c (given config) config.start config.schedule.items r
       → ReportTold Well r old new → WasSimulated o old new
   sim_well None config r c k points run told = tt
   sim_well (Some bytes) config r c k points run told = (r, (tells_of bytes config r c k points run, (told.0, told.1.1)))
 
-  pub sim_failed : (o : Option (List ℕ)) (config : Config) (r : RunRecord) (c : CellScales) → IfSome o (λ bytes. Says bytes (Ok config)) → config.points ≡ in_order c → TellsRun c config.start config.schedule.items r
+  pub sim_failed : (o : Option (List ℕ)) (config : Config) (r : RunRecord) (c : CellScales) → IfSome o (λ bytes. Says bytes (Ok config)) → config.points ≡ in_order c → TellsRun c (given config) config.start config.schedule.items r
       → ReportTold Failed r old new → IfSome o (λ bytes. SimFails bytes old new)
   sim_failed None config r c k points run told = tt
-  sim_failed (Some bytes) config r c k points run told = inr (inr (r, (tells_of bytes config r c k points run, report_fails r (events_in run.steps) (audited_run c config.start config.schedule.items r run) old new told)))
+  sim_failed (Some bytes) config r c k points run told = inr (inr (r, (tells_of bytes config r c k points run, report_fails r (events_in run.steps) (audited_run c (given config) config.start config.schedule.items r run) old new told)))

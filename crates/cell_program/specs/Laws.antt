@@ -10,6 +10,7 @@ use Rattle.cell_notes.specs.declared.run_record.RunRecord.{RunRecord}
 use Rattle.cell_notes.specs.declared.status.Status.{Status}
 use Rattle.cell_notes.specs.declared.status.Status.TheVariants.{Fine, GateLimit}
 use Rattle.cell_parts.specs.Axes.{CellScales}
+use Rattle.cell_plant.specs.Machines.{any_near}
 use Rattle.cell_config.specs.ConfigWords.{config_fault_text}
 use Rattle.cell_config.specs.declared.fault.ConfigFault.TheVariants.{Missing}
 use Rattle.cell_replay.specs.Script.{script_outcome, script_text}
@@ -27,7 +28,7 @@ use Rattle.cell_program.specs.Served.{TellsRunOf, TellsWorkers, TellsWorkersOf, 
 -- in a run by six workers each machine takes its turns, and no gate keeps it out
 pub record TurnsAreTold : Type 0 where
   pub turns : (c : CellScales) (opening : ModelState) (tries limit : ℕ) (r : RunRecord) (did : Machine → Counts) (statuses : Machine → Status)
-      → TellsWorkers c opening tries limit r → r.counts ≡ map did all_machines → r.status ≡ map statuses all_machines
+      → TellsWorkers c (any_near c) opening tries limit r → r.counts ≡ map did all_machines → r.status ≡ map statuses all_machines
       → (m : Machine) → has_worker m ≡ true → HadTurns limit (λ turn. true) (did m) (statuses m) (journal_of r.journals m) × (statuses m ≢ GateLimit)
 
 -- every machine is fine

@@ -4,3 +4,4 @@ pub mod Served
 pub mod Asked
 pub mod Gauges
 pub mod Laws
+pub mod OneText

@@ -12,6 +12,7 @@ use Rattle.cell_report.specs.declared.audit_faults.AuditFault.TheVariants.{Memor
 use Rattle.cell_rules.specs.ModelState.{ModelState}
 use Rattle.cell_parts.specs.Axes.{CellScales}
 use Rattle.cell_plant.specs.Cells.{TellsRun}
+use Rattle.cell_plant.specs.Machines.{CellGauges, on_curves}
 use Rattle.cell_notes.specs.declared.run_record.RunRecord.{RunRecord}
 use Rattle.cell_config.specs.Configured.{Says, in_order}
 use Rattle.cell_config.specs.Settings.{Settings, settings_of, max_bytes_read as config_bytes_read}
@@ -38,13 +39,13 @@ ReplayFails bytes old new =
     ⊎ ((between : Option (List ℕ)) × (WroteLines old between (script_lines bytes)
     × (WrotePrefix between new (fault_line (codes "read")) ⊎ WrotePrefix between new (fault_line (codes "memory"))))))
 
--- a record is of the run of the configuration that the bytes give
+-- a record is of the run of the configuration that the bytes give: each reading is the one on the configuration's curve
 pub record TellsRunOf (bytes : List ℕ) (r : RunRecord) : Type 0 where
   pub settings : Settings
   pub said : settings_of bytes ≡ Ok settings
   pub scales : CellScales
   pub points : settings.points ≡ in_order scales
-  pub run : TellsRun scales settings.start settings.schedule r
+  pub run : TellsRun scales (on_curves settings.curves) settings.start settings.schedule r
 
 -- the cell was simulated, no machine was stopped, and the report was written, with the line that the audit found a
 -- history
@@ -75,16 +76,17 @@ SimFails bytes old new =
     ⊎ ((r : RunRecord) × (TellsRunOf bytes r × ReportFails r old new)))
 
 -- a record is of six workers with a gate that is always open
-abbrev pub TellsWorkers : CellScales → ModelState → ℕ → ℕ → RunRecord → Type 0
-TellsWorkers scales opening tries turns r = TellsWork scales opening tries turns (λ machine turn answer. answer ≡ true) r
+abbrev pub TellsWorkers : CellScales → CellGauges → ModelState → ℕ → ℕ → RunRecord → Type 0
+TellsWorkers scales gives opening tries turns r = TellsWork scales gives opening tries turns (λ machine turn answer. answer ≡ true) r
 
--- a record is of a run by six workers of the configuration that the bytes give
+-- a record is of a run by six workers of the configuration that the bytes give: each reading is the one on the
+-- configuration's curve
 pub record TellsWorkersOf (turns tries : ℕ) (bytes : List ℕ) (r : RunRecord) : Type 0 where
   pub settings : Settings
   pub said : settings_of bytes ≡ Ok settings
   pub scales : CellScales
   pub points : settings.points ≡ in_order scales
-  pub run : TellsWorkers scales settings.start tries turns r
+  pub run : TellsWorkers scales (on_curves settings.curves) settings.start tries turns r
 
 -- the cell was run, no machine was stopped, and the report was written, with the line that the audit found a history
 abbrev pub WasRun : ℕ → ℕ → Option (List ℕ) → Option (List ℕ) → Option (List ℕ) → Type 0

@@ -1,7 +1,7 @@
 //! The five potentiometers' calibrations.
 
 ghost use Rattle.std.specs.Prelude.{◌≡◌};
-ghost use Rattle.cell_plant.specs.Cells.{IsMadeFor, cell_scales};
+ghost use Rattle.cell_plant.specs.Cells.{IsMadeFor, cell_scales, five_gauges};
 ghost use Rattle.cell_program.specs.Gauges.{scales_by_points};
 
 use cell_calib::{Calibration, Gauge, Points};
@@ -37,6 +37,13 @@ pub(crate) fn cell_with_gauges<F1: Gauge, F2: Gauge, F3: Gauge, F4: Gauge, F5: G
     requires gripper { F5.keeps gauges.4 points.gripper }
     ensures made { IsMadeFor start.now result }
     ensures scales { cell_scales result ≡ scales_by_points points }
+    ensures gauges { five_gauges result ≡ record {
+      arm1 = gauges.0;
+      arm2 = gauges.1;
+      rotation = gauges.2;
+      turn = gauges.3;
+      gripper = gauges.4;
+    } }
 {
     let (arm1, arm2, rotation, turn, gripper) = gauges;
     Cell::new(

@@ -1,5 +1,6 @@
 //! Laws of runs. Each is a function that does nothing: its contract is the law.
 ghost use Rattle.cell_program.specs.Asked.{WordsAreServed};
+ghost use Rattle.cell_program.specs.OneText.{ReportsAreOne};
 ghost use Rattle.cell_program.specs.Laws.{FaultLinesAreMet, StatusZeroIsWell, TurnsAreTold};
 
 /// In a run by six workers a machine takes no more turns than it may, and all of them if its status
@@ -13,6 +14,12 @@ pub fn turns_are_told()
 /// journals and leads to its end, and that each machine had all its turns.
 pub fn status_zero_is_well()
     ensures { StatusZeroIsWell }
+{}
+
+/// Two simulations of one schedule from one start by the same curves have one report, if no machine
+/// is stopped in them. So of status 0 there is one text.
+pub fn reports_are_one()
+    ensures { ReportsAreOne }
 {}
 
 /// What is said of `serve` for words that ask for a replay or a simulation holds for the program's

@@ -1,6 +1,8 @@
 //! Runs the cell by six workers for the program.
 
-ghost use Rattle.std.specs.Prelude.{◌≡◌, ◌≢◌, ◌≤◌, IfOk, IfSome, Err};
+ghost use Rattle.std.specs.Prelude.{◌≡◌, ◌≢◌, ◌≤◌, map, IfOk, IfSome, Err};
+ghost use Rattle.cell_calib.specs.Curve.{pairs_of};
+ghost use Rattle.cell_plant.specs.Machines.{on_curves};
 ghost use Rattle.cell_rules.specs.Start.{IsStartState};
 ghost use Rattle.cell_parts.specs.Axes.{AreCellScales, CellScales};
 ghost use Rattle.cell_text.specs.Input.{TakesAtMost};
@@ -58,8 +60,8 @@ where
     }
 }
 
-/// Runs a configuration by six workers, with a closure over each of its curves. The gate lets them
-/// begin their turns. The configuration's schedule isn't used.
+/// Runs a configuration by six workers, with a closure over each of its curves. So each reading is the
+/// one on the curve. The gate lets them begin their turns. The configuration's schedule isn't used.
 pub fn run_configured<T, G: Gate + Sync>(
     rt: &T,
     alloc: Global,
@@ -76,7 +78,8 @@ where
     requires few { tries ≤ 64 }
     requires some { 1 ≤ tries }
     ensures work { IfOk result (λ r. (c : CellScales) × (config.now.points ≡ in_order c)
-        × TellsWork c config.now.start tries turns (G.may_answer gate.now) r) }
+        × TellsWork c (on_curves (map pairs_of config.now.curves))
+        config.now.start tries turns (G.may_answer gate.now) r) }
     ensures tries { result ≢ Err RunFault.Tries }
 {
     let [arm1, arm2, rotation, turn, gripper] = config.curves;
@@ -126,7 +129,15 @@ where
     requires few { tries ≤ 64 }
     requires some { 1 ≤ tries }
     ensures work { IfOk result
-        (TellsWork (scales_by_points points) start tries turns (G.may_answer gate.now)) }
+        (TellsWork (scales_by_points points)
+        (record {
+          arm1 = F1.gives gauges.0;
+          arm2 = F2.gives gauges.1;
+          rotation = F3.gives gauges.2;
+          turn = F4.gives gauges.3;
+          gripper = F5.gives gauges.4;
+        })
+        start tries turns (G.may_answer gate.now)) }
     ensures tries { result ≢ Err RunFault.Tries }
 {
     let cell = cell_with_gauges(gauges, points, &start);

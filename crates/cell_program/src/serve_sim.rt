@@ -1,9 +1,11 @@
 //! Simulates the cell for the program.
 
-ghost use Rattle.std.specs.Prelude.{◌≡◌, ◌≢◌, IfOk, IfSome};
+ghost use Rattle.std.specs.Prelude.{◌≡◌, ◌≢◌, map, IfOk, IfSome};
 ghost use Rattle.cell_rules.specs.Start.{IsStartState};
 ghost use Rattle.cell_parts.specs.Axes.{AreCellScales, CellScales};
+ghost use Rattle.cell_calib.specs.Curve.{pairs_of};
 ghost use Rattle.cell_plant.specs.Cells.{TellsRun};
+ghost use Rattle.cell_plant.specs.Machines.{on_curves};
 ghost use Rattle.cell_text.specs.Input.{TakesAtMost};
 ghost use Rattle.cell_config.specs.Configured.{AreAxisScales, AreCurvesOf, in_order};
 ghost use Rattle.cell_program.specs.Served.{SimFails, WasSimulated};
@@ -42,13 +44,15 @@ pub fn serve_sim<R: Read, W: Write>(alloc: Global, reader: &mut R, writer: &mut 
     }
 }
 
-/// Runs a configuration's schedule, with a closure over each of its curves.
+/// Runs a configuration's schedule, with a closure over each of its curves. So each reading is the one
+/// on the curve.
 pub fn simulate_configured(alloc: Global, config: &Config) -> Result<RunRecord, SimFault>
     requires start { IsStartState config.now.start }
     requires points { AreAxisScales config.now.points }
     requires curves { AreCurvesOf config.now.points config.now.curves }
     ensures run { IfOk result (λ r. (c : CellScales) × (config.now.points ≡ in_order c)
-        × TellsRun c config.now.start config.now.schedule.items r) }
+        × TellsRun c (on_curves (map pairs_of config.now.curves))
+        config.now.start config.now.schedule.items r) }
 {
     let [arm1, arm2, rotation, turn, gripper] = config.curves;
     let points = CellPoints {
@@ -89,7 +93,15 @@ fn simulate_with_gauges<F1: Gauge, F2: Gauge, F3: Gauge, F4: Gauge, F5: Gauge>(
     requires turn { F4.keeps gauges.3 points.turn }
     requires gripper { F5.keeps gauges.4 points.gripper }
     requires scales { AreCellScales (scales_by_points points) }
-    ensures run { IfOk result (TellsRun (scales_by_points points) start schedule.now) }
+    ensures run { IfOk result (TellsRun (scales_by_points points)
+        (record {
+          arm1 = F1.gives gauges.0;
+          arm2 = F2.gives gauges.1;
+          rotation = F3.gives gauges.2;
+          turn = F4.gives gauges.3;
+          gripper = F5.gives gauges.4;
+        })
+        start schedule.now) }
 {
     simulate(
         alloc,
