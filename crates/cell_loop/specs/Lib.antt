@@ -4,3 +4,4 @@ pub mod Values
 pub mod Columns
 pub mod Parts
 pub mod Pictures
+pub mod PictureExamples

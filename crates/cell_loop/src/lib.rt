@@ -2,6 +2,7 @@
 #![tactic(auto)]
 
 pub mod frames;
+pub mod laws;
 pub mod picture;
 mod pieces;
 mod plates;
