@@ -128,7 +128,7 @@ fn go_round<N: OfTable + Send + Sync, R: Threads + Wait + Sync>(
     let callers = (
         (passes.table, Zone::Z1),
         (passes.press, Zone::Z3),
-        (passes.crane, Zone::Z6),
+        (passes.feed, Zone::Z6),
     );
     match three_threads::<N, R>(rt, alloc, interlock, callers) {
         Ok(were_told) => were_told == [true; 3],
