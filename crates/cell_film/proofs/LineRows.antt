@@ -12,6 +12,7 @@ line-examples = record {
   none = refl;
   literal = refl;
   waiting = refl;
+  busy = refl;
   feed = refl;
   table = refl;
   robot = refl;

@@ -1,5 +1,5 @@
 -- What a watcher that keeps frames has after a run, and what `serve` says of a picture that loops.
-use Rattle.std.proofs.Common.{◌≡◌, ℕ, List, [], ◌∷◌, ◌++◌, append-nil, append_assoc, inr, Option, Some, None, Result, Ok, Err, OnOk, IfOk, IfSome, take, sym, ◌∙◌, subst}
+use Rattle.std.proofs.Common.{◌≡◌, ℕ, List, [], ◌∷◌, ◌++◌, append-nil, append_assoc, inr, Option, Some, None, Result, Ok, Err, OnOk, IfOk, IfSome, map, take, sym, ◌∙◌, subst}
 use Rattle.std.specs.Io.KnownBytes.{Appends}
 use Rattle.std.specs.declared.alloc.AllocError.{AllocError}
 use Rattle.cell_text.specs.Input.{TakesAtMost}
@@ -7,11 +7,13 @@ use Rattle.cell_text.specs.Output.{WrotePrefix}
 use Rattle.cell_notes.specs.declared.schedule.Turn.{Turn}
 use Rattle.cell_notes.specs.declared.run_record.RunRecord.{RunRecord}
 use Rattle.cell_rules.specs.ModelState.{ModelState}
+use Rattle.cell_calib.specs.Curve.{Pair, pairs_of}
 use Rattle.cell_calib.specs.Scale.{Scale}
 use Rattle.cell_parts.specs.Axes.{CellScales}
 use Rattle.cell_config.specs.Configured.{Says, in_order, shown}
 use Rattle.cell_config.specs.Settings.{max_bytes_read}
 use Rattle.cell_config.specs.declared.configuration.Config.{Config}
+use Rattle.cell_plant.specs.Machines.{on_curves}
 use Rattle.cell_plant.specs.Frames.{IsShown, SeesRun, frames_of}
 use Rattle.cell_plant.specs.declared.frame.Frame.{Frame}
 use Rattle.cell_loop.specs.Pictures.{IsPictureOf}
@@ -31,11 +33,11 @@ kept w v (f ∷ []) k = k
 kept w v (f ∷ g ∷ fs) k =
     subst (λ (u : List Frame). v ≡ u ++ (g ∷ fs)) k.1.0 (kept k.0 v (g ∷ fs) k.1.1) ∙ append_assoc w (f ∷ []) (g ∷ fs)
 
-pub frames_kept : (points : List Scale) (opening : ModelState) (schedule : List Turn) (w v : List Frame) (r : RunRecord) → w ≡ []
-    → ((x : CellScales) × ((points ≡ in_order x) × SeesRun Keeps x opening (take max_turns schedule) w v r)) → AreFramesOf points opening schedule v
-frames_kept points opening schedule w v r new k =
+pub frames_kept : (points : List Scale) (curves : List (List Pair)) (opening : ModelState) (schedule : List Turn) (w v : List Frame) (r : RunRecord) → w ≡ []
+    → ((x : CellScales) × ((points ≡ in_order x) × SeesRun Keeps x (on_curves curves) opening (take max_turns schedule) w v r)) → AreFramesOf points curves opening schedule v
+frames_kept points curves opening schedule w v r new k =
     let turns = take max_turns schedule in
-    let sees = subst (λ x. SeesRun Keeps k.0 opening turns x v r) new k.1.1 in
+    let sees = subst (λ x. SeesRun Keeps k.0 (on_curves curves) opening turns x v r) new k.1.1 in
     record {
       scales = k.0;
       fits = k.1.0;
@@ -46,14 +48,14 @@ frames_kept points opening schedule w v r new k =
 
 -- ---- the picture of a configuration
 
-pub picture_kept : {S : Type 0} (bytes : S → List ℕ) (points : List Scale) (opening : ModelState) (schedule : List Turn) (given frames : List Frame) (r : Result S AllocError)
-    → AreFramesOf points opening schedule frames → given ≡ frames → IfOk r (λ text. IsPictureOf given (bytes text))
-    → IfOk r (λ text. (x : List Frame) × (AreFramesOf points opening schedule x × IsPictureOf x (bytes text)))
-picture_kept bytes points opening schedule given frames (Ok text) seen same k = (frames, (seen, subst (λ x. IsPictureOf x (bytes text)) same k))
-picture_kept bytes points opening schedule given frames (Err e) seen same k = tt
+pub picture_kept : {S : Type 0} (bytes : S → List ℕ) (points : List Scale) (curves : List (List Pair)) (opening : ModelState) (schedule : List Turn) (given frames : List Frame) (r : Result S AllocError)
+    → AreFramesOf points curves opening schedule frames → given ≡ frames → IfOk r (λ text. IsPictureOf given (bytes text))
+    → IfOk r (λ text. (x : List Frame) × (AreFramesOf points curves opening schedule x × IsPictureOf x (bytes text)))
+picture_kept bytes points curves opening schedule given frames (Ok text) seen same k = (frames, (seen, subst (λ x. IsPictureOf x (bytes text)) same k))
+picture_kept bytes points curves opening schedule given frames (Err e) seen same k = tt
 
 abbrev pub IsPictureFrom : Config → List ℕ → Type 0
-IsPictureFrom config text = (frames : List Frame) × (AreFramesOf config.points config.start config.schedule.items frames × IsPictureOf frames text)
+IsPictureFrom config text = (frames : List Frame) × (AreFramesOf config.points (map pairs_of config.curves) config.start config.schedule.items frames × IsPictureOf frames text)
 
 loop_of : (bytes : List ℕ) (config : Config) (text : List ℕ) → Says bytes (Ok config) → IsPictureFrom config text → IsLoopOf bytes text
 loop_of bytes config text says k = record { settings = shown config; said = says; frames = k.0; seen = k.1.0; picture = k.1.1 }

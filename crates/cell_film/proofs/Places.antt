@@ -1,9 +1,11 @@
 -- A configuration's curves, each in its axis's place, as in `cell_program`.
-use Rattle.std.proofs.Common.{◌≡◌, List, [], ◌∷◌, map, sym, ◌∙◌, subst}
+use Rattle.std.proofs.Common.{◌≡◌, ℕ, ℤ, List, [], ◌∷◌, map, sym, ◌∙◌, subst}
 use lib.ListN.{get_or}
 use Rattle.cell_calib.specs.Scale.{Scale}
-use Rattle.cell_calib.specs.Curve.{Curved}
+use Rattle.cell_calib.specs.Curve.{Curved, IsOnCurve, pairs_of}
 use Rattle.cell_parts.specs.Axes.{AreCellScales, CellScales, IsAxisScale, arm_end, rotation_end, turn_end, gripper_end}
+use Rattle.cell_plant.specs.Machines.{CellGauges, on_curves}
+use Rattle.cell_plant.proofs.Gauged.{GiveAsMuch}
 use Rattle.cell_config.specs.Configured.{AreAxisScales, AreCurvesOf, in_order}
 
 -- the scales of the curves at the five places; what a place gives beyond the last curve doesn't matter
@@ -63,3 +65,32 @@ curves_fit points curves fits at a b c d e cell k = fit_alike fits.0 cell (in_pl
 -- so the points are theirs, in order
 pub curves_in_order : (points : List Scale) (curves : List Curved) → AreAxisScales points → AreCurvesOf points curves → (a b c d e : Curved) (cell : CellScales) → AreScalesAt curves a b c d e cell → points ≡ in_order cell
 curves_in_order points curves fits at a b c d e cell k = fits.1 ∙ in_places fits.0 cell a b c d e curves (at ∙ fits.1) k
+
+-- what the curves at the five places give is on the curves
+pub record AreOnCurvesAt (curves : List Curved) (a b c d e : Curved) (gives : CellGauges) : Type 0 where
+  pub arm1 : (raw : ℕ) (v : ℤ) → gives.arm1 raw v → IsOnCurve (pairs_of (get_or curves 0 a)) raw v
+  pub arm2 : (raw : ℕ) (v : ℤ) → gives.arm2 raw v → IsOnCurve (pairs_of (get_or curves 1 b)) raw v
+  pub rotation : (raw : ℕ) (v : ℤ) → gives.rotation raw v → IsOnCurve (pairs_of (get_or curves 2 c)) raw v
+  pub turn : (raw : ℕ) (v : ℤ) → gives.turn raw v → IsOnCurve (pairs_of (get_or curves 3 d)) raw v
+  pub gripper : (raw : ℕ) (v : ℤ) → gives.gripper raw v → IsOnCurve (pairs_of (get_or curves 4 e)) raw v
+
+module _ (cell : CellScales) (a b c d e : Curved) (scales : CellScales) (gives : CellGauges) where
+  as_placed : (curves : List Curved) → map (λ curve. curve.scale) curves ≡ in_order cell → AreOnCurvesAt curves a b c d e gives → GiveAsMuch scales gives (on_curves (map pairs_of curves))
+  as_placed [] at k = cc
+  as_placed (v ∷ []) at k = cc
+  as_placed (v ∷ w ∷ []) at k = cc
+  as_placed (v ∷ w ∷ x ∷ []) at k = cc
+  as_placed (v ∷ w ∷ x ∷ y ∷ []) at k = cc
+  as_placed (v ∷ w ∷ x ∷ y ∷ z ∷ []) at k =
+      record {
+        arm1 = λ raw n near given. k.arm1 raw n given;
+        arm2 = λ raw n near given. k.arm2 raw n given;
+        rotation = λ raw n near given. k.rotation raw n given;
+        turn = λ raw n near given. k.turn raw n given;
+        gripper = λ raw n near given. k.gripper raw n given;
+      }
+  as_placed (v ∷ w ∷ x ∷ y ∷ z ∷ more ∷ rest) at k = cc
+
+pub on_curves_as : (points : List Scale) (curves : List Curved) → AreAxisScales points → AreCurvesOf points curves → (a b c d e : Curved) (scales : CellScales) (gives : CellGauges) → AreOnCurvesAt curves a b c d e gives
+    → GiveAsMuch scales gives (on_curves (map pairs_of curves))
+on_curves_as points curves fits at a b c d e scales gives k = as_placed fits.0 a b c d e scales gives curves (at ∙ fits.1) k

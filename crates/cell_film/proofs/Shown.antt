@@ -3,9 +3,12 @@ use Rattle.std.proofs.Common.{◌≡◌, ℕ, List, [], ◌∷◌, ◌++◌, app
 use Rattle.cell_notes.specs.declared.schedule.Turn.{Turn}
 use Rattle.cell_notes.specs.declared.run_record.RunRecord.{RunRecord}
 use Rattle.cell_rules.specs.ModelState.{ModelState}
+use Rattle.cell_calib.specs.Curve.{Pair}
 use Rattle.cell_calib.specs.Scale.{Scale}
 use Rattle.cell_parts.specs.Axes.{CellScales}
 use Rattle.cell_config.specs.Configured.{in_order}
+use Rattle.cell_plant.specs.Machines.{CellGauges, on_curves}
+use Rattle.cell_plant.proofs.Gauged.{GiveAsMuch, sees_as, beginning_as}
 use Rattle.cell_plant.specs.Frames.{IsShown, SeesBeginning, SeesRun, frames_of}
 use Rattle.cell_plant.specs.declared.watcher.SeenFault.{SeenFault}
 use Rattle.cell_plant.specs.declared.frame.Frame.{Frame}
@@ -25,30 +28,30 @@ has_lines s v (f ∷ g ∷ fs) k =
     ∙ append_assoc s.lines (frame_line s.before s.said f) (lines_after (Some f) (said_after s.said f) (g ∷ fs))
 
 -- what it has seen of a whole run
-pub shows_run : (c : CellScales) (opening : ModelState) (turns : List Turn) (v : FilmSoFar) (r : RunRecord) → SeesRun Sees c opening turns no_film v r → ShowsRun c opening turns v.lines
-shows_run c opening turns v r k =
+pub shows_run : (c : CellScales) (gives : CellGauges) (opening : ModelState) (turns : List Turn) (v : FilmSoFar) (r : RunRecord) → SeesRun Sees c gives opening turns no_film v r → ShowsRun c gives opening turns v.lines
+shows_run c gives opening turns v r k =
     record { steps = k.tells.steps; run = k.tells.run; shown = has_lines no_film v (frames_of opening turns k.tells.steps) k.seen }
 
-pub shows_configured : (points : List Scale) (opening : ModelState) (schedule : List Turn) (w v : FilmSoFar) (r : RunRecord) (lines : List ℕ) → w ≡ no_film
-    → ((x : CellScales) × ((points ≡ in_order x) × SeesRun Sees x opening (take max_turns schedule) w v r)) → lines ≡ v.lines → ShowsConfigured points opening schedule lines
-shows_configured points opening schedule w v r lines new k same =
+pub shows_configured : (points : List Scale) (curves : List (List Pair)) (opening : ModelState) (schedule : List Turn) (w v : FilmSoFar) (r : RunRecord) (lines : List ℕ) → w ≡ no_film
+    → ((x : CellScales) × ((points ≡ in_order x) × SeesRun Sees x (on_curves curves) opening (take max_turns schedule) w v r)) → lines ≡ v.lines → ShowsConfigured points curves opening schedule lines
+shows_configured points curves opening schedule w v r lines new k same =
     record {
       scales = k.0;
       fits = k.1.0;
-      shown = subst (ShowsRun k.0 opening (take max_turns schedule)) (sym same)
-          (shows_run k.0 opening (take max_turns schedule) v r (subst (λ x. SeesRun Sees k.0 opening (take max_turns schedule) x v r) new k.1.1));
+      shown = subst (ShowsRun k.0 (on_curves curves) opening (take max_turns schedule)) (sym same)
+          (shows_run k.0 (on_curves curves) opening (take max_turns schedule) v r (subst (λ x. SeesRun Sees k.0 (on_curves curves) opening (take max_turns schedule) x v r) new k.1.1));
     }
 
 -- ---- any watcher
 
-module _ {W E : Type 0} (sees : W → Frame → Result (Unit {0}) E → W → Type 0) (c : CellScales) (points : List Scale) (opening : ModelState) (shown turns : List Turn) (w v : W) (fits : points ≡ in_order c) (same : shown ≡ turns) where
-  pub sees_run : (r : Result RunRecord (SeenFault E)) → IfOk r (SeesRun sees c opening shown w v) → IfOk r (λ run. (x : CellScales) × ((points ≡ in_order x) × SeesRun sees x opening turns w v run))
-  sees_run (Ok run) k = (c, (fits, subst (λ ts. SeesRun sees c opening ts w v run) same k))
-  sees_run (Err fault) k = tt
+module _ {W E : Type 0} (sees : W → Frame → Result (Unit {0}) E → W → Type 0) (c : CellScales) (gives other : CellGauges) (points : List Scale) (opening : ModelState) (shown turns : List Turn) (w v : W) (fits : points ≡ in_order c) (same : shown ≡ turns) where
+  pub sees_run : (r : Result RunRecord (SeenFault E)) → IfOk r (SeesRun sees c gives opening shown w v) → GiveAsMuch c gives other → IfOk r (λ run. (x : CellScales) × ((points ≡ in_order x) × SeesRun sees x other opening turns w v run))
+  sees_run (Ok run) k much = (c, (fits, subst (λ ts. SeesRun sees c other opening ts w v run) same (sees_as sees c gives other much opening shown w v run k)))
+  sees_run (Err fault) k much = tt
 
-  pub sees_beginning : (r : Result RunRecord (SeenFault E)) → IfErr r (SeesBeginning sees c opening shown w v) → IfErr r (λ fault. (x : CellScales) × ((points ≡ in_order x) × SeesBeginning sees x opening turns w v fault))
-  sees_beginning (Ok run) k = tt
-  sees_beginning (Err fault) k = (c, (fits, subst (λ ts. SeesBeginning sees c opening ts w v fault) same k))
+  pub sees_beginning : (r : Result RunRecord (SeenFault E)) → IfErr r (SeesBeginning sees c gives opening shown w v) → GiveAsMuch c gives other → IfErr r (λ fault. (x : CellScales) × ((points ≡ in_order x) × SeesBeginning sees x other opening turns w v fault))
+  sees_beginning (Ok run) k much = tt
+  sees_beginning (Err fault) k much = (c, (fits, subst (λ ts. SeesBeginning sees c other opening ts w v fault) same (beginning_as sees c gives other much opening shown w v fault k)))
 
 -- ---- a page, made part by part
 

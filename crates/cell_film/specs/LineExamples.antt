@@ -4,6 +4,7 @@ use Rattle.std.specs.List.{concat}
 use Rattle.cell_types.specs.declared.answer.Answer.TheVariants.{Refused}
 use Rattle.cell_types.specs.declared.answer.Refusal.TheVariants.{Held}
 use Rattle.cell_types.specs.declared.call.Call.TheVariants.{Claim}
+use Rattle.cell_types.specs.declared.machine.Machine.{Machine}
 use Rattle.cell_types.specs.declared.machine.Machine.TheVariants.{Feed, Table, Robot, Press, Deposit, Crane, Watch}
 use Rattle.cell_types.specs.declared.reply.Reply.TheVariants.{Settled}
 use Rattle.cell_types.specs.declared.zone.Zone.TheVariants.{Z3}
@@ -62,6 +63,19 @@ waits_text =
     ∷ codes "r"
     ∷ [])
 
+-- Busy turns have capital letters. In them nothing is asked, and nothing changes.
+abbrev pub busy_turn : Machine → Frame
+busy_turn m = record starts { turn = Some (busy_turn_of m) }
+
+abbrev pub busy_turns : List Frame
+busy_turns = starts ∷ map busy_turn (Feed ∷ Table ∷ Robot ∷ Press ∷ Deposit ∷ Crane ∷ Watch ∷ [])
+
+abbrev pub busy_text : List ℕ
+busy_text =
+    text_of
+    (codes "start;80000000;claim entry,,900,0;claim entry,0,0;turn to table,0,0,300,0,0;claim first,1000;claim entry,,,0;raise to fetch,0,900,0"
+    ∷ codes "F" ∷ codes "T" ∷ codes "R" ∷ codes "P" ∷ codes "D" ∷ codes "C" ∷ codes "W" ∷ [])
+
 -- no two axes, plates or switches of a part are alike
 abbrev pub axis : ℕ → Axis
 axis n = record { position = pos n; motor = Off }
@@ -81,6 +95,7 @@ pub record LineExamples : Type 0 where
   pub none : film_lines [] ≡ []
   pub literal : film_lines film ≡ film_text
   pub waiting : film_lines waits ≡ waits_text
+  pub busy : film_lines busy_turns ≡ busy_text
   pub feed : part_text Feed apart ≡ codes "20,,1"
   pub table : part_text Table apart ≡ codes "40+,60-"
   pub robot : part_text Robot apart ≡ codes "80,100+,120-,1,0"

@@ -4,11 +4,13 @@ use Rattle.std.specs.Io.KnownBytes.{Appends}
 use Rattle.cell_text.specs.Output.{WrotePrefix}
 use Rattle.cell_notes.specs.declared.schedule.Turn.{Turn}
 use Rattle.cell_rules.specs.ModelState.{ModelState}
+use Rattle.cell_calib.specs.Curve.{Pair}
 use Rattle.cell_calib.specs.Scale.{Scale}
 use Rattle.cell_parts.specs.Axes.{CellScales}
 use Rattle.cell_plant.specs.CellStates.{cell_at_start}
 use Rattle.cell_plant.specs.Frames.{frames_of}
-use Rattle.cell_plant.specs.Runs.{Step, IsRun}
+use Rattle.cell_plant.specs.Machines.{on_curves}
+use Rattle.cell_plant.specs.Runs.{Step, IsRunBy}
 use Rattle.cell_plant.specs.declared.frame.Frame.{Frame}
 use Rattle.cell_loop.specs.Pictures.{IsPictureOf}
 use Rattle.cell_config.specs.Configured.{Says, in_order}
@@ -17,20 +19,21 @@ use Rattle.cell_config.specs.Settings.{Settings, settings_of}
 use Rattle.cell_config.specs.declared.fault.ConfigFault.{ConfigFault}
 use Rattle.cell_film.specs.Pages.{fault_line, max_turns}
 
--- frames are those of a run of a schedule up to the most turns, by scales with these points
-pub record AreFramesOf (points : List Scale) (opening : ModelState) (schedule : List Turn) (frames : List Frame) : Type 0 where
+-- frames are those of the run of a schedule up to the most turns, by scales with these points: each reading is the one on
+-- its curve
+pub record AreFramesOf (points : List Scale) (curves : List (List Pair)) (opening : ModelState) (schedule : List Turn) (frames : List Frame) : Type 0 where
   pub scales : CellScales
   pub fits : points ≡ in_order scales
   pub steps : List Step
-  pub run : IsRun scales (cell_at_start opening) (take max_turns schedule) steps
+  pub run : IsRunBy scales (on_curves curves) (cell_at_start opening) (take max_turns schedule) steps
   pub seen : frames ≡ frames_of opening (take max_turns schedule) steps
 
--- a text is the picture of the frames of a run of the configuration that the bytes give
+-- a text is the picture of the frames of the run of the configuration that the bytes give
 pub record IsLoopOf (bytes text : List ℕ) : Type 0 where
   pub settings : Settings
   pub said : settings_of bytes ≡ Ok settings
   pub frames : List Frame
-  pub seen : AreFramesOf settings.points settings.start settings.schedule frames
+  pub seen : AreFramesOf settings.points settings.curves settings.start settings.schedule frames
   pub picture : IsPictureOf frames text
 
 -- the picture was written

@@ -5,11 +5,13 @@ use Rattle.std.specs.Io.KnownBytes.{Appends}
 use Rattle.cell_text.specs.Output.{WrotePrefix}
 use Rattle.cell_notes.specs.declared.schedule.Turn.{Turn}
 use Rattle.cell_rules.specs.ModelState.{ModelState}
+use Rattle.cell_calib.specs.Curve.{Pair}
 use Rattle.cell_calib.specs.Scale.{Scale}
 use Rattle.cell_parts.specs.Axes.{CellScales}
 use Rattle.cell_plant.specs.CellStates.{cell_at_start}
 use Rattle.cell_plant.specs.Frames.{frames_of}
-use Rattle.cell_plant.specs.Runs.{Step, IsRun}
+use Rattle.cell_plant.specs.Machines.{CellGauges, on_curves}
+use Rattle.cell_plant.specs.Runs.{Step, IsRunBy}
 use Rattle.cell_config.specs.Configured.{Says, in_order}
 use Rattle.cell_config.specs.ConfigWords.{config_fault_text}
 use Rattle.cell_config.specs.Settings.{Settings, settings_of}
@@ -30,24 +32,25 @@ cut_line turns = if nat_lt max_turns turns then codes "cut " ++ (decimal turns +
 unfoldable pub page_text : List ℕ → ℕ → List ℕ
 page_text lines turns = PAGE_HEAD.now ++ (lines ++ (cut_line turns ++ PAGE_TAIL.now))
 
--- lines are those of the frames of a run
-pub record ShowsRun (c : CellScales) (opening : ModelState) (turns : List Turn) (lines : List ℕ) : Type 0 where
+-- lines are those of the frames of a run, by what the gauges may give
+pub record ShowsRun (c : CellScales) (gives : CellGauges) (opening : ModelState) (turns : List Turn) (lines : List ℕ) : Type 0 where
   pub steps : List Step
-  pub run : IsRun c (cell_at_start opening) turns steps
+  pub run : IsRunBy c gives (cell_at_start opening) turns steps
   pub shown : lines ≡ film_lines (frames_of opening turns steps)
 
--- lines are those of a run of a schedule up to the most turns, by scales with these points
-pub record ShowsConfigured (points : List Scale) (opening : ModelState) (schedule : List Turn) (lines : List ℕ) : Type 0 where
+-- lines are those of the run of a schedule up to the most turns, by scales with these points: each reading is the one on
+-- its curve
+pub record ShowsConfigured (points : List Scale) (curves : List (List Pair)) (opening : ModelState) (schedule : List Turn) (lines : List ℕ) : Type 0 where
   pub scales : CellScales
   pub fits : points ≡ in_order scales
-  pub shown : ShowsRun scales opening (take max_turns schedule) lines
+  pub shown : ShowsRun scales (on_curves curves) opening (take max_turns schedule) lines
 
--- a text is the page of a run of the configuration that the bytes give
+-- a text is the page of the run of the configuration that the bytes give
 pub record IsFilmOf (bytes text : List ℕ) : Type 0 where
   pub settings : Settings
   pub said : settings_of bytes ≡ Ok settings
   pub lines : List ℕ
-  pub shown : ShowsConfigured settings.points settings.start settings.schedule lines
+  pub shown : ShowsConfigured settings.points settings.curves settings.start settings.schedule lines
   pub page : text ≡ page_text lines (length settings.schedule)
 
 -- the line of a fault

@@ -1,9 +1,12 @@
 //! The film of a configuration's run.
 
-ghost use Rattle.std.specs.Prelude.{◌≡◌, ◌++◌, List, ℕ, IfOk, IfErr, OnOk, length, take, string_bytes};
+ghost use Rattle.std.specs.Prelude.{◌≡◌, ◌++◌, List, ℕ, IfOk, IfErr, OnOk, length, map, take};
+ghost use Rattle.std.specs.Prelude.{string_bytes};
+ghost use Rattle.cell_calib.specs.Curve.{pairs_of};
 ghost use Rattle.cell_rules.specs.Start.{IsStartState};
 ghost use Rattle.cell_parts.specs.Axes.{CellScales};
 ghost use Rattle.cell_plant.specs.Frames.{SeesBeginning, SeesRun};
+ghost use Rattle.cell_plant.specs.Machines.{on_curves};
 ghost use Rattle.cell_config.specs.Configured.{AreAxisScales, AreCurvesOf, in_order};
 ghost use Rattle.cell_film.specs.Pages.{ShowsConfigured, cut_line, max_turns, page_text};
 
@@ -25,7 +28,8 @@ pub fn film_configured(alloc: Global, config: &Config) -> Result<String, AllocEr
     requires points { AreAxisScales config.now.points }
     requires curves { AreCurvesOf config.now.points config.now.curves }
     ensures { IfOk result (λ page. (lines : List ℕ)
-        × (ShowsConfigured config.now.points config.now.start config.now.schedule.items lines
+        × (ShowsConfigured config.now.points (map pairs_of config.now.curves)
+        config.now.start config.now.schedule.items lines
         × (string_bytes page ≡ page_text lines (length config.now.schedule.items)))) }
 {
     let lines = lines_configured(alloc, config)?;
@@ -37,8 +41,9 @@ pub fn lines_configured(alloc: Global, config: &Config) -> Result<String, AllocE
     requires start { IsStartState config.now.start }
     requires points { AreAxisScales config.now.points }
     requires curves { AreCurvesOf config.now.points config.now.curves }
-    ensures { IfOk result (λ lines. ShowsConfigured config.now.points config.now.start
-        config.now.schedule.items (string_bytes lines)) }
+    ensures { IfOk result (λ lines. ShowsConfigured config.now.points
+        (map pairs_of config.now.curves) config.now.start config.now.schedule.items
+        (string_bytes lines)) }
 {
     let mut film = FilmWriter::new(alloc);
     match show_configured(alloc, config, &mut film) {
@@ -48,8 +53,8 @@ pub fn lines_configured(alloc: Global, config: &Config) -> Result<String, AllocE
     }
 }
 
-/// Simulates a configuration's schedule, or its first 100,000 turns if there are more, and shows it
-/// to a watcher. The errors are those of `simulate_seen`.
+/// Simulates a configuration's schedule, or its first 100,000 turns if there are more, with a
+/// closure over each of its curves, and shows it to a watcher. The errors are those of `simulate_seen`.
 pub fn show_configured<W: Watcher>(
     alloc: Global,
     config: &Config,
@@ -59,11 +64,11 @@ pub fn show_configured<W: Watcher>(
     requires points { AreAxisScales config.now.points }
     requires curves { AreCurvesOf config.now.points config.now.curves }
     ensures run { IfOk result (λ run. (c : CellScales) × ((config.now.points ≡ in_order c)
-        × SeesRun W.sees c config.now.start (take max_turns config.now.schedule.items)
-        watcher.old watcher.new run)) }
+        × SeesRun W.sees c (on_curves (map pairs_of config.now.curves)) config.now.start
+        (take max_turns config.now.schedule.items) watcher.old watcher.new run)) }
     ensures ended { IfErr result (λ fault. (c : CellScales) × ((config.now.points ≡ in_order c)
-        × SeesBeginning W.sees c config.now.start (take max_turns config.now.schedule.items)
-        watcher.old watcher.new fault)) }
+        × SeesBeginning W.sees c (on_curves (map pairs_of config.now.curves)) config.now.start
+        (take max_turns config.now.schedule.items) watcher.old watcher.new fault)) }
 {
     let [arm1, arm2, rotation, turn, gripper] = config.curves;
     let points = CellPoints {

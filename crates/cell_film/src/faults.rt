@@ -31,7 +31,7 @@ fn fault_page<D: Display + Drop>(fault: D) -> Result<Page, fmt::Error>
 }
 
 /// Writes a text as far as the writer takes it.
-fn write_prefix<W: Write>(writer: &mut W, text: &[u8])
+pub(crate) fn write_prefix<W: Write>(writer: &mut W, text: &[u8])
     ensures { WrotePrefix (W.contents writer.old) (W.contents writer.new) text.now }
 {
     let _ = write_text(writer, text);

@@ -4,7 +4,7 @@ ghost use Rattle.std.specs.Prelude.{IfErr, IfOk};
 ghost use Rattle.cell_rules.specs.Start.{IsStartState};
 ghost use Rattle.cell_parts.specs.Axes.{AreCellScales};
 ghost use Rattle.cell_plant.specs.Frames.{SeesBeginning, SeesRun};
-ghost use Rattle.cell_film.specs.Gauges.{scales_by_points};
+ghost use Rattle.cell_film.specs.Gauges.{gauges_by, scales_by_points};
 
 use cell_calib::{Calibration, Gauge, Points};
 use cell_plant::{Cell, RunRecord, SeenFault, Turn, Watcher, simulate_seen};
@@ -42,10 +42,14 @@ pub(crate) fn show_with_gauges<F1: Gauge, F2: Gauge, F3: Gauge, F4: Gauge, F5: G
     requires turn { F4.keeps gauges.3 points.turn }
     requires gripper { F5.keeps gauges.4 points.gripper }
     requires scales { AreCellScales (scales_by_points points) }
-    ensures run { IfOk result
-        (SeesRun W.sees (scales_by_points points) start schedule.now watcher.old watcher.new) }
-    ensures ended { IfErr result
-        (SeesBeginning W.sees (scales_by_points points) start schedule.now watcher.old watcher.new) }
+    ensures run { IfOk result (SeesRun W.sees (scales_by_points points)
+        (gauges_by (F1.gives gauges.0) (F2.gives gauges.1) (F3.gives gauges.2)
+        (F4.gives gauges.3) (F5.gives gauges.4))
+        start schedule.now watcher.old watcher.new) }
+    ensures ended { IfErr result (SeesBeginning W.sees (scales_by_points points)
+        (gauges_by (F1.gives gauges.0) (F2.gives gauges.1) (F3.gives gauges.2)
+        (F4.gives gauges.3) (F5.gives gauges.4))
+        start schedule.now watcher.old watcher.new) }
 {
     let (arm1, arm2, rotation, turn, gripper) = gauges;
     let cell = Cell::new(

@@ -1,6 +1,7 @@
 //! The picture that loops, of a configuration's run.
 
-ghost use Rattle.std.specs.Prelude.{List, IfOk, string_bytes};
+ghost use Rattle.std.specs.Prelude.{List, IfOk, map, string_bytes};
+ghost use Rattle.cell_calib.specs.Curve.{pairs_of};
 ghost use Rattle.cell_rules.specs.Start.{IsStartState};
 ghost use Rattle.cell_config.specs.Configured.{AreAxisScales, AreCurvesOf};
 ghost use Rattle.cell_plant.specs.declared.frame.Frame.{Frame};
@@ -13,14 +14,15 @@ use cell_loop::{LoopFrames, loop_picture};
 use cell_plant::SeenFault;
 use std::alloc::{AllocError, Global};
 
-/// The picture that loops, of a run of a configuration's schedule, or of its first 100,000 turns if
+/// The picture that loops, of the run of a configuration's schedule, or of its first 100,000 turns if
 /// there are more. An error says that memory ran out.
 pub fn loop_configured(alloc: Global, config: &Config) -> Result<String, AllocError>
     requires start { IsStartState config.now.start }
     requires points { AreAxisScales config.now.points }
     requires curves { AreCurvesOf config.now.points config.now.curves }
     ensures { IfOk result (λ text. (frames : List Frame)
-        × (AreFramesOf config.now.points config.now.start config.now.schedule.items frames
+        × (AreFramesOf config.now.points (map pairs_of config.now.curves) config.now.start
+        config.now.schedule.items frames
         × IsPictureOf frames (string_bytes text))) }
 {
     let mut frames = LoopFrames::new(alloc);

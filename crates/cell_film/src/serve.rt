@@ -2,12 +2,13 @@
 
 ghost use Rattle.std.specs.Prelude.{◌≡◌, ◌≤◌, ◌<◌, Some, None, IfOk};
 ghost use Rattle.cell_text.specs.Input.{TakesAtMost};
+ghost use Rattle.cell_text.specs.Output.{WrotePrefix};
 ghost use Rattle.cell_command.specs.Words.{texts_of};
 ghost use Rattle.cell_config.specs.Settings.{max_bytes_read};
 ghost use Rattle.cell_film.specs.Served.{Films, Loops, Prints, request_of};
 
 use crate::configured::film_configured;
-use crate::faults::fail;
+use crate::faults::{fail, write_prefix};
 use crate::looped::loop_configured;
 use crate::request;
 use crate::request::Request;
@@ -29,6 +30,12 @@ film --loop < examples/three_plates.toml > cell.svg
 Exit status: 0 on success and for help; 2 for bad arguments; otherwise 1: a refused
 configuration, a failed read or write, or no memory.
 ";
+
+/// What is printed for other words.
+const OTHER_WORDS: &str = "error: the only argument is --help or --loop\n";
+
+/// What is printed for a word that isn't text.
+const NO_TEXT: &str = "error: a word isn't UTF-8\n";
 
 /// Writes the page of a film of the configuration that it reads, or prints a fault. The page is
 /// made whole before any of it is written. Returns the exit status: 0 if it was written, 1
@@ -84,9 +91,11 @@ pub fn serve<R: Read, W: Write>(alloc: Global, words: &[&str], reader: &mut R, w
     ensures help { request_of (texts_of words.now) ≡ Some Request.Help →
         Prints result (W.contents writer.old) (W.contents writer.new) HELP.now }
 
-    // Status 2 comes exactly for other words.
+    // Status 2 comes exactly for other words, of which a line was printed, or a prefix of it.
     ensures refused { result ≡ 2 → request_of (texts_of words.now) ≡ None }
     ensures other { request_of (texts_of words.now) ≡ None → result ≡ 2 }
+    ensures line { request_of (texts_of words.now) ≡ None →
+        WrotePrefix (W.contents writer.old) (W.contents writer.new) OTHER_WORDS.now }
 
     // At most one byte more is read than a configuration may have.
     ensures read { TakesAtMost (R.remaining reader.old) (R.remaining reader.new) max_bytes_read }
@@ -95,7 +104,7 @@ pub fn serve<R: Read, W: Write>(alloc: Global, words: &[&str], reader: &mut R, w
         Some(Request::Film) => serve_film(alloc, reader, writer),
         Some(Request::Loop) => serve_loop(alloc, reader, writer),
         Some(Request::Help) => print(writer, HELP),
-        None => refuse(writer, "the only argument is --help or --loop"),
+        None => refuse(writer, OTHER_WORDS),
     }
 }
 
@@ -110,10 +119,11 @@ fn print<W: Write>(writer: &mut W, text: &str) -> u8
 }
 
 /// Prints why words are refused, as far as the writer takes it, and returns the exit status 2.
-fn refuse<W: Write>(writer: &mut W, why: &str) -> u8
-    ensures { result ≡ 2 }
+fn refuse<W: Write>(writer: &mut W, line: &str) -> u8
+    ensures status { result ≡ 2 }
+    ensures line { WrotePrefix (W.contents writer.old) (W.contents writer.new) line.now }
 {
-    let _ = writeln!(writer, "error: {why}");
+    write_prefix(writer, line.as_bytes());
     2
 }
 
@@ -131,7 +141,7 @@ pub fn start<E: Env, R: Read, W: Write>(
     match serve_words(alloc, env, reader, writer) {
         Ok(status) => status,
         Err(error) if error.kind() == ErrorKind::OutOfMemory => fail(writer, "memory"),
-        Err(_) => refuse(writer, "a word isn't UTF-8"),
+        Err(_) => refuse(writer, NO_TEXT),
     }
 }
 

@@ -137,6 +137,13 @@ pub const WORN: Example = Example {
     others: "stamp = 1048574\n",
 };
 
+/// Busy turns of the deposit belt, the crane and the watch.
+pub const BUSY: Example = Example {
+    start: "0000000000",
+    schedule: &[(1, "DCW")],
+    others: "",
+};
+
 /// Nothing happens.
 pub const NO_TURN: Example = Example {
     start: "0000000000",

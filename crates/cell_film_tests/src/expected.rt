@@ -340,3 +340,12 @@ p;;;;;540-
 t
 p;;;;;520-
 ";
+
+/// Those of busy turns, worked out by hand.
+pub const BUSY_LINES: &str = "\
+start;0;claim entry,,,0;claim entry,0,0;turn to table,0,0,300,0,0;\
+claim first,1000;claim entry,,,0;raise to fetch,0,900,0
+D;;claim z4;busy;;
+C;travel to deposit;;;;
+W;;stop;busy;;
+";

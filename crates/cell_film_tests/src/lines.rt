@@ -1,10 +1,10 @@
 //! The lines of the examples are those that plain Rust writes.
 
 use super::examples::{
-    BOTH, CARRIED_ROUND, Example, FOUR_PLATES, MEASURED_CURVES, PRESS, ROUNDED_DOWN, STANDSTILL,
-    STOP_AND_RESUME, TABLE, THREE_PLATES, config_text,
+    BOTH, BUSY, CARRIED_ROUND, Example, FOUR_PLATES, MEASURED_CURVES, PRESS, ROUNDED_DOWN,
+    STANDSTILL, STOP_AND_RESUME, TABLE, THREE_PLATES, config_text,
 };
-use super::expected::{BOTH_LINES, PRESS_LINES, STOP_AND_RESUME_LINES, TABLE_LINES};
+use super::expected::{BOTH_LINES, BUSY_LINES, PRESS_LINES, STOP_AND_RESUME_LINES, TABLE_LINES};
 use cell_config::read_config;
 use cell_film::lines_configured;
 use std::alloc::Global;
@@ -22,6 +22,7 @@ const WHOLE: &[(&Example, &str)] = &[
     (&TABLE, TABLE_LINES),
     (&BOTH, BOTH_LINES),
     (&STOP_AND_RESUME, STOP_AND_RESUME_LINES),
+    (&BUSY, BUSY_LINES),
 ];
 
 #[test]

@@ -1,6 +1,7 @@
 //! Pages: their lines stand between the same head and tail.
 
-use super::examples::{Example, NO_TURN, PRESS, STANDSTILL, TOO_LONG, config_text};
+use super::examples::{BUSY, Example, NO_TURN, PRESS, STANDSTILL, TOO_LONG, config_text};
+use super::expected::BUSY_LINES;
 use super::lines::{Figures, has_figures};
 use cell_config::read_config;
 use cell_film::film_configured;
@@ -61,6 +62,8 @@ const ROWS: &[(&Example, Figures)] = &[
 fn puts_lines_between_head_and_tail(rt: HostRuntime) -> Result<(), Fail> {
     let first = page_of(rt.alloc(), &NO_TURN)?;
     let (head, _, tail) = parts_of(&first).ok_or("no lines")?;
+    let busy = page_of(rt.alloc(), &BUSY)?;
+    assert!(rt; parts_of(&busy) == Some((head, BUSY_LINES, tail)));
     for (example, figures) in ROWS {
         let page = page_of(rt.alloc(), example)?;
         let (before, lines, after) = parts_of(&page).ok_or("no lines")?;

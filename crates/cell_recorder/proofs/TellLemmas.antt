@@ -1,5 +1,5 @@
 -- What is said of a run that was told, and of a recording.
-use Rattle.std.proofs.Common.{◌≡◌, ◌≢◌, ◌<◌, ◌≤◌, Bool, true, false, inl, inr, ℕ, IsTrue, ◌↔◌, List, codes, length, Option, Some, None, Ok, Err, IfSome, sym, subst, ◌∙◌}
+use Rattle.std.proofs.Common.{◌≡◌, ◌≢◌, ◌<◌, ◌≤◌, Bool, true, false, inl, inr, ℕ, IsTrue, ◌↔◌, List, codes, length, Option, Some, None, Ok, Err, IfSome, map, sym, subst, ◌∙◌}
 use Rattle.std.specs.Io.KnownBytes.{Appends}
 use Rattle.cell_types.specs.declared.answer.Event.{Event}
 use Rattle.cell_types.specs.Journals.{journal_of}
@@ -8,6 +8,8 @@ use Rattle.cell_rules.specs.Start.{IsStartState}
 use Rattle.cell_rules.specs.Audited.{HasNoHistory, IsAudited}
 use Rattle.cell_text.specs.Output.{WrotePrefix}
 use Rattle.cell_parts.specs.Axes.{CellScales}
+use Rattle.cell_calib.specs.Curve.{pairs_of}
+use Rattle.cell_plant.specs.Machines.{CellGauges, on_curves}
 use Rattle.cell_notes.specs.declared.run_record.RunRecord.{RunRecord}
 use Rattle.cell_replay.specs.Script.{max_records}
 use Rattle.cell_history.specs.Scripts.{script_of}
@@ -39,8 +41,12 @@ pub history_of : (r : RunRecord) (end : Option ModelState) (history : List Event
 history_of r end history e k = subst (λ o. IsAudited r.start (journal_of r.journals) o history) e k
 
 -- a record of a run by six workers tells its history
-pub some_history : (c : CellScales) (opening : ModelState) (tries turns : ℕ) (r : RunRecord) → TellsWorkers c opening tries turns r → (history : List Event) × IsHistoryOf r history
-some_history c opening tries turns r k = (k.history, subst (λ s. IsAudited s (journal_of r.journals) r.end k.history) (sym k.start) k.audited)
+pub some_history : (c : CellScales) (gives : CellGauges) (opening : ModelState) (tries turns : ℕ) (r : RunRecord) → TellsWorkers c gives opening tries turns r → (history : List Event) × IsHistoryOf r history
+some_history c gives opening tries turns r k = (k.history, subst (λ s. IsAudited s (journal_of r.journals) r.end k.history) (sym k.start) k.audited)
+
+-- what the gauges on the curves of a configuration give
+abbrev given : Config → CellGauges
+given config = on_curves (map pairs_of config.curves)
 
 module _ (turns tries : ℕ) (old new : Option (List ℕ)) where
   pub config_refused : (o : Option (List ℕ)) (fault : ConfigFault) → IfSome o (λ bytes. Says bytes (Err fault)) → WrotePrefix old new (fault_line (config_fault_text fault))
@@ -55,11 +61,11 @@ module _ (turns tries : ℕ) (old new : Option (List ℕ)) where
   run_refused (Some bytes) Memory other w = inr (inl w)
   run_refused (Some bytes) Spawn other w = inr (inr (inl w))
 
-  tells : (bytes : List ℕ) (config : Config) (r : RunRecord) (c : CellScales) → settings_of bytes ≡ Ok (shown config) → config.points ≡ in_order c → IsStartState config.start → TellsWorkers c config.start tries turns r
+  tells : (bytes : List ℕ) (config : Config) (r : RunRecord) (c : CellScales) → settings_of bytes ≡ Ok (shown config) → config.points ≡ in_order c → IsStartState config.start → TellsWorkers c (given config) config.start tries turns r
       → TellsPacedRun turns tries bytes r
   tells bytes config r c k points start run = record { run = record { settings = shown config; said = k; scales = c; points = points; run = run }; start = subst IsStartState (sym run.start) start }
 
-  module _ (config : Config) (r : RunRecord) (c : CellScales) (points : config.points ≡ in_order c) (start : IsStartState config.start) (run : TellsWorkers c config.start tries turns r) where
+  module _ (config : Config) (r : RunRecord) (c : CellScales) (points : config.points ≡ in_order c) (start : IsStartState config.start) (run : TellsWorkers c (given config) config.start tries turns r) where
     pub recorded_well : (o : Option (List ℕ)) → IfSome o (λ bytes. Says bytes (Ok config)) → IsTold r Well old new → WasRecorded turns tries o old new
     recorded_well None k told = tt
     recorded_well (Some bytes) k told = (r, (tells bytes config r c k points start run, told))

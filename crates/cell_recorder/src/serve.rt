@@ -1,11 +1,12 @@
 //! What the program `history` does.
 
-ghost use Rattle.std.specs.Prelude.{◌≡◌, ◌≤◌, ◌<◌, ℕ, codes, IfOk};
+ghost use Rattle.std.specs.Prelude.{◌≡◌, ◌≤◌, ◌<◌, ◌⊎◌, ℕ, codes, IfOk};
+ghost use Rattle.std.specs.Io.KnownBytes.{Appends};
 ghost use Rattle.clap.specs.Words.{kind_of};
 ghost use Rattle.cell_text.specs.Input.{TakesAtMost};
 ghost use Rattle.cell_text.specs.Output.{WrotePrefix};
 ghost use Rattle.cell_config.specs.Settings.{max_bytes_read};
-ghost use Rattle.cell_command.specs.Words.{texts_of};
+ghost use Rattle.cell_command.specs.Words.{AreTaken, AskForHelp, texts_of};
 ghost use Rattle.cell_program.specs.Served.{fault_line};
 ghost use Rattle.cell_recorder.specs.Served.{AskForHistory, Records, run_words as run_words_of};
 
@@ -60,10 +61,23 @@ where
     ensures status { result ≤ 2 }
 
     // Of words that `clap` takes: status 0 says that the cell was run, no machine was stopped, and
-    // the script of the run's history was written, status 1 what was written.
+    // the script of the run's history was written. Status 1 says what was written: with a stopped
+    // machine that is the script all the same.
     ensures records { (turns tries : ℕ) → AskForHistory turns tries (texts_of words.now) →
         Records turns tries result (R.remaining reader.old) (R.remaining reader.new)
         (W.contents writer.old) (W.contents writer.new) }
+
+    // Status 0 comes only for words that `clap` takes and for words that ask for help. Status 2
+    // never comes for words that it takes.
+    ensures taken { result ≡ 0 → AreTaken (run_words_of (texts_of words.now))
+        ⊎ AskForHelp (run_words_of (texts_of words.now)) }
+    ensures refused { AreTaken (run_words_of (texts_of words.now)) → result < 2 }
+
+    // For words that `clap` doesn't take, status 0 says that the help was written.
+    ensures help { ¬ AreTaken (run_words_of (texts_of words.now)) → result ≡ 0 →
+        Appends (W.contents writer.old) (W.contents writer.new) HELP.now }
+
+    // At most one byte more is read than a configuration may have.
     ensures read { TakesAtMost (R.remaining reader.old) (R.remaining reader.new) max_bytes_read }
 {
     let Ok(words) = run_words(alloc, words) else {
@@ -71,8 +85,8 @@ where
     };
     match read_words(alloc, words.as_slice()) {
         Ok(Mode::Run { turns, tries }) => record(rt, alloc, turns, tries, reader, writer).status(),
-        Ok(Mode::Replay) => Exit::Refused.status(),
-        Ok(Mode::Sim) => Exit::Refused.status(),
+        // (never: the word `run` stands before the flags)
+        Ok(Mode::Replay | Mode::Sim) => Exit::Failed.status(),
         Err(error) => refuse(error, writer).status(),
     }
 }
@@ -93,6 +107,8 @@ fn run_words<'a>(alloc: Global, words: &[&'a str]) -> Result<Vec<&'a str>, Alloc
 
 /// Prints help, or why the words were refused, as far as the writer takes it.
 fn refuse<W: Write>(error: clap::Error, writer: &mut W) -> Exit
+    ensures help { result ≡ Exit.Well → (kind_of error ≡ ErrorKind.DisplayHelp)
+        × Appends (W.contents writer.old) (W.contents writer.new) HELP.now }
     ensures memory { kind_of error ≡ ErrorKind.OutOfMemory → result ≡ Exit.Failed }
     ensures line { kind_of error ≡ ErrorKind.OutOfMemory →
         WrotePrefix (W.contents writer.old) (W.contents writer.new) (fault_line (codes "memory")) }

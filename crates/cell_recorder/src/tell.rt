@@ -17,8 +17,9 @@ use std::io::Write;
 /// The most events of a script.
 const MAX_EVENTS: usize = 65_536;
 
-/// Finds the history of a run in its journals, and writes the history's script. Returns `Well` if
-/// no machine was stopped and the script was written, `Failed` otherwise.
+/// Finds the history of a run in its journals, and writes the history's script, with a stopped
+/// machine too. Returns `Well` if no machine was stopped and the script was written, `Failed`
+/// otherwise.
 ///
 /// Prints a fault's line if memory runs out, or if a script has no room for all events. The audit
 /// has no other cause to reject the journals, since some history gives them.

@@ -2,6 +2,8 @@
 #![tactic(auto)]
 
 #[cfg(test)]
+mod doubles;
+#[cfg(test)]
 mod recordings;
 #[cfg(test)]
 mod served;

@@ -1,6 +1,7 @@
 //! The program's words, exit statuses and fault lines.
 
-use cell_recorder::serve::serve;
+use super::doubles::Given;
+use cell_recorder::serve::{serve, start};
 use std::alloc::Global;
 use std::sync::Wait;
 use std::thread::Threads;
@@ -29,6 +30,7 @@ const ROWS: &[Row] = &[
         1,
         "fault long\n",
     ),
+    (&["history", "--turns", "1"], EMPTY, 0, "start,0000000000"),
     (&["history", "--help"], EMPTY, 0, "Runs the six machines"),
     (&["history", "--turns", "0"], EMPTY, 2, "error: "),
     (&["history", "run"], EMPTY, 2, "error: "),
@@ -49,5 +51,39 @@ fn is_served<T: Threads + Wait + Sync>(rt: &T, alloc: Global, row: &Row) -> bool
 fn is_served_as_cell_serves(rt: HostRuntime) {
     for row in ROWS {
         assert!(rt; is_served(&rt, rt.alloc(), row), "{row:?}");
+    }
+}
+
+/// Arguments, an input, the status, and what is written, or what it begins with if the status is 0.
+type Started = (&'static [&'static [u8]], &'static str, u8, &'static str);
+
+const STARTED: &[Started] = &[
+    (&[b"./history", b"--turns", b"4"], WORN, 1, WORN_SCRIPT),
+    (&[b"bad\xff", b"--turns=4"], WORN, 1, WORN_SCRIPT),
+    (&[b"./history"], "", 1, "fault config missing\n"),
+    (&[b"", b"--turns", b"1"], EMPTY, 0, "start,0000000000"),
+    (&[b"./history", b"--help"], "", 0, "Runs the six machines"),
+    (
+        &[b"./history", b"\xff"],
+        WORN,
+        2,
+        "error: a word isn't UTF-8\n",
+    ),
+];
+
+// Whether the program, started with these arguments, answers so.
+fn is_started<T: Threads + Wait + Sync>(rt: &T, alloc: Global, row: &Started) -> bool {
+    let (arguments, input, status, text) = *row;
+    let mut written = Vec::new(alloc);
+    let env = Given { arguments };
+    let found = start(rt, alloc, &env, &mut input.as_bytes(), &mut written);
+    let has_text = written.as_slice().starts_with(text.as_bytes());
+    found == status && has_text && (status == 0 || written.len() == text.len())
+}
+
+#[test]
+fn starts(rt: HostRuntime) {
+    for row in STARTED {
+        assert!(rt; is_started(&rt, rt.alloc(), row), "{row:?}");
     }
 }

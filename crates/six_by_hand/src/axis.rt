@@ -1,4 +1,8 @@
 //! An axis with a motor.
+
+ghost use Rattle.std.specs.Prelude.{◌≡◌};
+ghost use Rattle.six_by_hand.specs.Devices as devices;
+
 use cell_devices::Motor;
 
 /// How far an axis goes in a turn.
@@ -18,17 +22,23 @@ impl Axis {
     }
 
     /// Its position, in tenths of a millimetre or of a degree.
-    pub fn at(&self) -> u16 {
+    pub fn at(&self) -> u16
+        ensures { result ≡ self.now.at }
+    {
         self.at
     }
 
     /// Whether a switch from `first` to `last` is on.
-    pub fn is_between(&self, first: u16, last: u16) -> bool {
+    pub fn is_between(&self, first: u16, last: u16) -> bool
+        ensures { result ≡ devices.is_between first last self.now }
+    {
         first <= self.at && self.at <= last
     }
 
     /// Goes a step as its motor is told, and not past its ends.
-    pub fn drive(&mut self, motor: Motor) {
+    pub fn drive(&mut self, motor: Motor)
+        ensures { self.new ≡ devices.driven motor self.old }
+    {
         self.at = match motor {
             Motor::Off => self.at,
             Motor::Plus => self.at.saturating_add(STEP).min(self.end),

@@ -1,5 +1,9 @@
 //! The sensors and actuators of the six machines, as somebody built them who knows nothing of the
 //! simulated plant.
+
+ghost use Rattle.std.specs.Prelude.{◌≡◌};
+ghost use Rattle.six_by_hand.specs.Devices as devices;
+
 use crate::axis::Axis;
 use cell_calib::{CraneSense, DepositSense, FeedSense, PressSense, RobotSense, TableSense};
 use cell_devices::{CraneAct, DepositAct, FeedAct, PressAct, RobotAct, TableAct};
@@ -19,12 +23,16 @@ impl Belt {
         Belt { plate: 0 }
     }
 
-    fn barrier(&self) -> bool {
+    fn barrier(&self) -> bool
+        ensures { result ≡ devices.is_in_barrier self.now }
+    {
         (900..=999).contains(&self.plate)
     }
 
     // Runs for a turn. When it stops after the barrier, its plate has left, and the next one comes.
-    fn run(&mut self, runs: bool) {
+    fn run(&mut self, runs: bool)
+        ensures { self.new ≡ devices.carried runs self.old }
+    {
         if runs {
             self.plate = self.plate.saturating_add(20);
         } else if self.plate > 999 {
@@ -38,9 +46,16 @@ impl Belt {
 pub struct FeedBelt(pub Belt);
 
 impl Devices for FeedBelt {
+    ghost use Rattle.std.specs.Prelude.{◌≡◌};
+    ghost use Rattle.six_by_hand.specs.Devices.{carried, is_in_barrier};
+
     type Sense = FeedSense;
 
     type Act = FeedAct;
+
+    ghost shows = { λ old sense new. (sense.barrier ≡ is_in_barrier old.0) × (new ≡ old) };
+
+    ghost sets = { λ old told new. new.0 ≡ carried told.act.belt old.0 };
 
     fn read(&mut self) -> FeedSense {
         FeedSense {
@@ -58,9 +73,16 @@ impl Devices for FeedBelt {
 pub struct DepositBelt(pub Belt);
 
 impl Devices for DepositBelt {
+    ghost use Rattle.std.specs.Prelude.{◌≡◌};
+    ghost use Rattle.six_by_hand.specs.Devices.{carried, is_in_barrier};
+
     type Sense = DepositSense;
 
     type Act = DepositAct;
+
+    ghost shows = { λ old sense new. (sense.barrier ≡ is_in_barrier old.0) × (new ≡ old) };
+
+    ghost sets = { λ old told new. new.0 ≡ carried told.act.belt old.0 };
 
     fn read(&mut self) -> DepositSense {
         DepositSense {
@@ -91,9 +113,16 @@ impl Table {
 }
 
 impl Devices for Table {
+    ghost use Rattle.std.specs.Prelude.{◌≡◌};
+    ghost use Rattle.six_by_hand.specs.Devices.{table_after, table_sense};
+
     type Sense = TableSense;
 
     type Act = TableAct;
+
+    ghost shows = { λ old sense new. (sense ≡ table_sense old) × (new ≡ old) };
+
+    ghost sets = { λ old told new. new ≡ table_after told.act old };
 
     fn read(&mut self) -> TableSense {
         TableSense {
@@ -129,9 +158,16 @@ impl Robot {
 }
 
 impl Devices for Robot {
+    ghost use Rattle.std.specs.Prelude.{◌≡◌};
+    ghost use Rattle.six_by_hand.specs.Devices.{robot_after, robot_sense};
+
     type Sense = RobotSense;
 
     type Act = RobotAct;
+
+    ghost shows = { λ old sense new. (sense ≡ robot_sense old) × (new ≡ old) };
+
+    ghost sets = { λ old told new. new ≡ robot_after told.act old };
 
     fn read(&mut self) -> RobotSense {
         RobotSense {
@@ -164,9 +200,16 @@ impl Press {
 }
 
 impl Devices for Press {
+    ghost use Rattle.std.specs.Prelude.{◌≡◌};
+    ghost use Rattle.six_by_hand.specs.Devices.{press_after, press_sense};
+
     type Sense = PressSense;
 
     type Act = PressAct;
+
+    ghost shows = { λ old sense new. (sense ≡ press_sense old) × (new ≡ old) };
+
+    ghost sets = { λ old told new. new ≡ press_after told.act old };
 
     fn read(&mut self) -> PressSense {
         PressSense {
@@ -199,9 +242,16 @@ impl Crane {
 }
 
 impl Devices for Crane {
+    ghost use Rattle.std.specs.Prelude.{◌≡◌};
+    ghost use Rattle.six_by_hand.specs.Devices.{crane_after, crane_sense};
+
     type Sense = CraneSense;
 
     type Act = CraneAct;
+
+    ghost shows = { λ old sense new. (sense ≡ crane_sense old) × (new ≡ old) };
+
+    ghost sets = { λ old told new. new ≡ crane_after told.act old };
 
     fn read(&mut self) -> CraneSense {
         CraneSense {

@@ -5,7 +5,7 @@ use Rattle.cell_recorder.proofs.record.record.Goals as goal
 pub tell-requires : goal.tell-requires
 tell-requires g c =
     let k = c.in-Ok-run_configured.ensures.work in
-    record { history = some_history k.0 c.in-Ok.config.start c.args.tries c.args.turns c.in-Ok-run_configured.run' k.2 }
+    record { history = some_history k.0 _ c.in-Ok.config.start c.args.tries c.args.turns c.in-Ok-run_configured.run' k.2 }
 
 pub returns-in-Err-clause-failed : goal.returns-in-Err-clause-failed
 returns-in-Err-clause-failed g c = λ e. config_refused _ _ _ _ _ c.in-Err.fault c.in-Err.ensures.says (rw c.text.ensures at c.fail.ensures.line)

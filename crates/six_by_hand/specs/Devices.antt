@@ -1,0 +1,78 @@
+-- What the sensors of the six machines show, and how their actuators move them.
+use Rattle.std.specs.Prelude.{ℕ, ◌+◌, ◌-◌, min, Bool, true, false, ◌&&◌, nat_le, nat_lt, if◌then◌else◌}
+use Rattle.cell_devices.specs.declared.motor.Motor.{Motor}
+use Rattle.cell_devices.specs.declared.motor.Motor.TheVariants.{Off, Plus, Minus}
+use Rattle.cell_calib.specs.declared.sense.CraneSense.{CraneSense}
+use Rattle.cell_calib.specs.declared.sense.PressSense.{PressSense}
+use Rattle.cell_calib.specs.declared.sense.RobotSense.{RobotSense}
+use Rattle.cell_calib.specs.declared.sense.TableSense.{TableSense}
+use Rattle.cell_devices.specs.declared.act.CraneAct.{CraneAct}
+use Rattle.cell_devices.specs.declared.act.PressAct.{PressAct}
+use Rattle.cell_devices.specs.declared.act.RobotAct.{RobotAct}
+use Rattle.cell_devices.specs.declared.act.TableAct.{TableAct}
+use Rattle.six_by_hand.specs.declared.axis.Axis.{Axis}
+use Rattle.six_by_hand.specs.declared.devices.Belt.{Belt}
+use Rattle.six_by_hand.specs.declared.devices.Crane.{Crane}
+use Rattle.six_by_hand.specs.declared.devices.Press.{Press}
+use Rattle.six_by_hand.specs.declared.devices.Robot.{Robot}
+use Rattle.six_by_hand.specs.declared.devices.Table.{Table}
+
+-- an axis after a turn: it goes a step as its motor is told, and not past its ends
+abbrev pub driven : Motor → Axis → Axis
+driven Off a = a
+driven Plus a = record a { at = min (a.at + 20) a.end }
+driven Minus a = record a { at = a.at - 20 }
+
+-- a switch from the first position to the last is on
+abbrev pub is_between : ℕ → ℕ → Axis → Bool
+is_between first last a = nat_le first a.at && nat_le a.at last
+
+-- a belt's plate is in its light barrier
+abbrev pub is_in_barrier : Belt → Bool
+is_in_barrier b = nat_le 900 b.plate && nat_le b.plate 999
+
+-- a belt after a turn: when it stops after the barrier, its plate has left, and the next one comes
+abbrev pub carried : Bool → Belt → Belt
+carried true b = record { plate = min (b.plate + 20) 65535 }
+carried false b = if nat_lt 999 b.plate then record { plate = 0 } else b
+
+-- what the sensors of a machine show
+abbrev pub table_sense : Table → TableSense
+table_sense d = record { bottom = is_between 0 10 d.height; top = is_between 590 600 d.height; turn = d.turn.at }
+
+abbrev pub robot_sense : Robot → RobotSense
+robot_sense d = record { arm1 = d.arm1.at; arm2 = d.arm2.at; rotation = d.rotation.at }
+
+abbrev pub press_sense : Press → PressSense
+press_sense d =
+    record {
+      bottom = is_between 0 10 d.height;
+      middle = is_between 490 510 d.height;
+      top = is_between 990 1000 d.height;
+    }
+
+abbrev pub crane_sense : Crane → CraneSense
+crane_sense d =
+    record {
+      deposit = is_between 0 10 d.travel;
+      feed = is_between 1990 2000 d.travel;
+      gripper = d.gripper.at;
+    }
+
+-- a machine after a turn in which it is told this
+abbrev pub table_after : TableAct → Table → Table
+table_after told d = record { height = driven told.height d.height; turn = driven told.rotation d.turn }
+
+abbrev pub robot_after : RobotAct → Robot → Robot
+robot_after told d =
+    record {
+      arm1 = driven told.arm1 d.arm1;
+      arm2 = driven told.arm2 d.arm2;
+      rotation = driven told.rotation d.rotation;
+    }
+
+abbrev pub press_after : PressAct → Press → Press
+press_after told d = record { height = driven told.press d.height }
+
+abbrev pub crane_after : CraneAct → Crane → Crane
+crane_after told d = record { travel = driven told.travel d.travel; gripper = driven told.height d.gripper }
