@@ -20,6 +20,8 @@ mod hostile_configurations;
 #[cfg(test)]
 mod lines_as_curves;
 #[cfg(test)]
+mod measured_curves;
+#[cfg(test)]
 mod memory;
 #[cfg(test)]
 mod numbers;
