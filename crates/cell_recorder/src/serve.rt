@@ -86,7 +86,8 @@ where
     match read_words(alloc, words.as_slice()) {
         Ok(Mode::Run { turns, tries }) => record(rt, alloc, turns, tries, reader, writer).status(),
         // (never: the word `run` stands before the flags)
-        Ok(Mode::Replay | Mode::Sim) => Exit::Failed.status(),
+        Ok(Mode::Replay) => Exit::Failed.status(),
+        Ok(Mode::Sim) => Exit::Failed.status(),
         Err(error) => refuse(error, writer).status(),
     }
 }
