@@ -44,3 +44,4 @@ pub mod SeenLemmas
 pub mod Told
 pub mod OwnSide
 pub mod ProgramLemmas
+pub mod Restamps

@@ -14,6 +14,7 @@ pub mod Causes
 pub mod RefusalLaws
 pub mod StopLaws
 pub mod Start
+pub mod Restamping
 pub mod StartDigits
 pub mod TableLaws
 pub mod Journal

@@ -3,6 +3,7 @@
 //! first. `let _ = &opening.stamp;` reads the opening, so the prover knows that it is sound.
 ghost use Rattle.std.specs.Prelude.{◌++◌};
 ghost use Rattle.cell_rules.specs.Sound.{IsSound};
+ghost use Rattle.cell_rules.specs.ModelState.{ModelState};
 ghost use Rattle.cell_rules.specs.History.{IsLegal};
 ghost use Rattle.cell_rules.specs.Laws as law;
 ghost use Rattle.cell_rules.specs.RefusalLaws.{RefusalsTell, RefusalsTellAlong};
@@ -11,6 +12,7 @@ ghost use Rattle.cell_rules.specs.Laws.{Throughout, RunsClear};
 ghost use Rattle.cell_rules.specs.Start.{IsStartState};
 ghost use Rattle.cell_rules.specs.FirstVersion.{FirstVersionStays};
 ghost use Rattle.cell_rules.specs.StopLaws.{WhatMovesMayStop};
+ghost use Rattle.cell_rules.specs.Restamping.{StampsOnlyWear, EndsAreSame};
 
 use crate::state::State;
 use cell_types::Event;
@@ -185,3 +187,15 @@ pub fn lawful_throughout(opening: &State, history: &[Event])
 {
     let _ = &opening.stamp;
 }
+
+/// All that a stamp does is to wear: with another stamp a state is as sound, and answers each call
+/// that isn't worn alike.
+pub fn stamps_only_wear()
+    ensures { (s : ModelState) → StampsOnlyWear s }
+{}
+
+/// The state at the end of an interlock is the same for a machine that has seen all its own events,
+/// also with another stamp.
+pub fn ends_are_same()
+    ensures { EndsAreSame }
+{}

@@ -1,4 +1,5 @@
 use crate::heard::{Heard, LineFault};
+use crate::state::State;
 use cell_types::{Call, Machine, Reply};
 
 /// A machine's line to an interlock.
@@ -56,4 +57,23 @@ pub trait Line {
 
     // What the caller has seen is a legal history.
     ghost legal: { (l : Self) → IsLegal (opening l) (seen l) };
+}
+
+/// A line whose caller can see the whole state, as on the screen of a plant.
+pub trait Survey: Line {
+    ghost use Rattle.std.specs.Prelude.{◌≡◌};
+    ghost use Rattle.cell_rules.specs.History.{after};
+    ghost use Rattle.cell_rules.specs.Seen.{Waits};
+
+    // What else holds of a survey: the line before it, and after it.
+    ghost surveys: { Self → Self → Type 0 };
+
+    /// The whole state after all that the caller has now seen. No call is made.
+    fn survey(&mut self) -> State
+        ensures surveys { surveys self.old self.new }
+        ensures machine { Self.machine self.new ≡ Self.machine self.old }
+        ensures opening { Self.opening self.new ≡ Self.opening self.old }
+        ensures heard { Self.heard self.new ≡ Self.heard self.old }
+        ensures seen { Waits (Self.machine self.old) (Self.seen self.old) (Self.seen self.new) }
+        ensures state { result ≡ after (Self.opening self.new) (Self.seen self.new) };
 }

@@ -1,5 +1,6 @@
 ghost use Rattle.std.specs.Prelude.{◌≡◌, ◌≤◌, ◌↔◌, IsSome, IfSome, IsOk, IfOk};
 ghost use Rattle.cell_rules.specs.Start.{places_of, IsStart, start_state};
+ghost use Rattle.cell_rules.specs.Restamping.{restamped};
 ghost use Rattle.cell_rules.specs.Sound.{IsSound};
 ghost use Rattle.cell_types.specs.declared.answer.Answer.TheVariants.{Done};
 ghost use Rattle.cell_rules.specs.ModelState.{zone_at, is_full, model_state, plates_of};
@@ -153,6 +154,15 @@ impl State {
         ensures small { result ≤ 1048575 }
     {
         self.stamp
+    }
+
+    /// The same zones, places and stop, with another stamp: what an interlock opens with that goes
+    /// on where another has ended.
+    pub fn restamped(&self, stamp: u32) -> State
+        requires small { stamp ≤ 1048575 }
+        ensures { result ≡ restamped self.now stamp }
+    {
+        State { stamp, ..*self }
     }
 
     fn zones_after(&self, machine: Machine, call: Call) -> Zones

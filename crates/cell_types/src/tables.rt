@@ -2,7 +2,7 @@
 
 ghost use Rattle.std.specs.Prelude.{◌≡◌};
 ghost use Rattle.cell_types.specs.Tables.{host_of, guest_of, transfer_of, posture_of};
-ghost use Rattle.cell_types.specs.Ways.{own_move_of};
+ghost use Rattle.cell_types.specs.Ways.{keeper_of, own_move_of};
 
 use crate::machine::Machine;
 use crate::place::Place;
@@ -30,6 +30,20 @@ pub fn guest(zone: Zone) -> Machine
         Zone::Z1 => Machine::Feed,
         Zone::Z2 | Zone::Z3 | Zone::Z4 => Machine::Robot,
         Zone::Z5 | Zone::Z6 => Machine::Crane,
+    }
+}
+
+/// The machine that a place belongs to: its calls alone fill or empty the place.
+pub fn keeper(place: Place) -> Machine
+    ensures { result ≡ keeper_of place }
+{
+    match place {
+        Place::FeedEntry | Place::FeedEnd => Machine::Feed,
+        Place::Table => Machine::Table,
+        Place::Arm1 | Place::Arm2 => Machine::Robot,
+        Place::PressIn | Place::PressOut => Machine::Press,
+        Place::DepEntry | Place::DepEnd => Machine::Deposit,
+        Place::Crane => Machine::Crane,
     }
 }
 
