@@ -15,6 +15,7 @@ use Rattle.cell_rules.specs.Seen.{event}
 use Rattle.cell_rules.specs.Benches.{Desk, BenchAsks}
 use Rattle.cell_rules.proofs.SeenLemmas.{own-append}
 use Rattle.cell_control.specs.Steps.{Steps, program_of, IsReached}
+use Rattle.cell_control.proofs.StepLemmas.{reached_by}
 
 none_own : (n m : Machine) (c : Call) (a : Answer) → same_machine n m ≡ false → own_events (event n c a ∷ []) m ≡ []
 none_own n m c a apart = ap (λ b. cond b (event n c a ∷ []) []) apart
@@ -26,4 +27,4 @@ asks_others b d c (Ok (Busy lost stamp)) m h apart = ap (λ x. own_events x.hist
 asks_others b d c (Err fault) m h apart = ap (λ x. own_events x.history m) h.1
 
 pub reached_others : {S Sense Reading Act : Type 0} → (t : Steps S Sense Reading Act) (o : ModelState) (before now : List Event) (p : S) → own_events now t.machine ≡ own_events before t.machine → IsReached t o before p → IsReached t o now p
-reached_others t o before now p same k = subst (λ h. Reached (program_of t) (t.start o) h p) (sym same) k
+reached_others t o before now p same k = reached_by t p p o before now (λ first come. subst (λ h. Reached (program_of t) first h p) (sym same) come) k

@@ -1,5 +1,5 @@
 -- What a turn of any program keeps: that its step is reached, and what its steps know of the state.
-use Rattle.std.proofs.Common.{◌≡◌, Bool, true, false, if◌then◌else◌, List, Option, Some, None, Result, Ok, Err, refl, sym, subst}
+use Rattle.std.proofs.Common.{◌≡◌, ℕ, zero, suc, Bool, true, false, if◌then◌else◌, List, [], Option, Some, None, Result, Ok, Err, refl, sym, subst}
 use Rattle.cell_types.specs.declared.machine.Machine.{Machine}
 use Rattle.cell_types.specs.declared.posture.Posture.{Posture}
 use Rattle.cell_types.specs.declared.call.Call.{Call}
@@ -15,30 +15,53 @@ use Rattle.cell_rules.specs.Sound.{IsSound}
 use Rattle.cell_rules.specs.Reply.{reply, next, next_by, changed}
 use Rattle.cell_rules.specs.History.{after, IsLegal, own_events}
 use Rattle.cell_rules.specs.Seen.{SeenAfter}
+use Rattle.cell_rules.specs.Programs.{Reached}
+use Rattle.cell_rules.specs.Restamping.{IsSameFor}
 use Rattle.cell_rules.proofs.ProgramLemmas.{Keeps, reached-settles, reached-waits, reached-moves, reached-knows}
 use Rattle.cell_control.specs.declared.fault.CtlFault.{CtlFault}
 use Rattle.cell_control.specs.Faults.{fault_of}
-use Rattle.cell_control.specs.Steps.{Steps, Drives, waits_out, after_answer, outcome, program_of, IsReached}
+use Rattle.cell_control.specs.Steps.{Steps, Drives, waits_out, after_answer, outcome, program_of, InStepAfter, IsReached}
+
+-- a program that has come from one step goes on from there
+pub reached_by : {S Sense Reading Act : Type 0} → (t : Steps S Sense Reading Act) (p q : S) (o : ModelState) (before now : List Event)
+    → ((first : S) → Reached (program_of t) first (own_events before t.machine) p → Reached (program_of t) first (own_events now t.machine) q) → IsReached t o before p → IsReached t o now q
+reached_by t p q o before now f k = record { renewals = k.renewals; first = k.first; in_step = k.in_step; come = f k.first k.come }
+
+-- a program at its start
+pub reached_first : {S Sense Reading Act : Type 0} → (t : Steps S Sense Reading Act) (p : S) (o : ModelState) (seen : List Event) → own_events seen t.machine ≡ [] → p ≡ t.start o → IsReached t o seen p
+reached_first t p o seen none begins = record { renewals = zero; first = p; in_step = begins; come = subst (λ h. Reached (program_of t) p h p) (sym none) (zero, refl) }
 
 -- a turn that asks
 pub reached_ask : {S Sense Reading Act : Type 0} → (t : Steps S Sense Reading Act) (p q : S) (c : Call) (r : Result Reply LineFault) (o : ModelState) (before now : List Event)
     → t.call p ≡ Some c → SeenAfter t.machine c r o before now → IsReached t o before p → outcome t p r ≡ Ok q → IsReached t o now q
-reached_ask t p q c (Ok (Settled a stamp)) o before now e seen k l = reached-settles (program_of t) (t.start o) p q t.machine c a before now seen.0 k e l
+reached_ask t p q c (Ok (Settled a stamp)) o before now e seen k l = reached_by t p q o before now (λ first come. reached-settles (program_of t) first p q t.machine c a before now seen.0 come e l) k
 reached_ask t p q c (Ok (Busy lost stamp)) o before now e seen k l =
     let same : p ≡ q = cc in
-    subst (λ x. IsReached t o now x) same (reached-waits (program_of t) (t.start o) p t.machine before now seen.0 k)
+    subst (λ x. IsReached t o now x) same (reached_by t p p o before now (λ first come. reached-waits (program_of t) first p t.machine before now seen.0 come) k)
 reached_ask t p q c (Err fault) o before now e seen k l = cc
 
 -- a turn that drives
 pub reached_drive : {S Sense Reading Act : Type 0} → (t : Steps S Sense Reading Act) (p q : S) (o : ModelState) (seen : List Event) → Drives t p q → IsReached t o seen p → IsReached t o seen q
-reached_drive t p q o seen d k = reached-moves (program_of t) (t.start o) p q (own_events seen t.machine) k d
+reached_drive t p q o seen d k = reached_by t p q o seen seen (λ first come. reached-moves (program_of t) first p q (own_events seen t.machine) come d) k
 
--- what the steps know of the state is kept by others' calls, by drives, and by own calls that are done or show a zone
+-- an interlock that opens with the same state for the machine
+pub reached_carried : {S Sense Reading Act : Type 0} → (t : Steps S Sense Reading Act) (p : S) (o opened : ModelState) (before now : List Event)
+    → IsSound o → IsLegal o before → IsSameFor t.machine (after o before) opened → own_events now t.machine ≡ [] → IsReached t o before p → IsReached t opened now p
+reached_carried t p o opened before now sound legal same none k = record {
+  renewals = suc k.renewals;
+  first = p;
+  in_step = record { opening = o; sound = sound; seen = before; legal = legal; first = k.first; in_step = k.in_step; come = k.come; same = same };
+  come = subst (λ h. Reached (program_of t) p h p) (sym none) (zero, refl);
+}
+
+-- what the steps know of the state is kept by others' calls, by drives, and by own calls that are done or show a zone; and
+-- it is only of what the machine knows
 pub record Knowing {S Sense Reading Act : Type 0} (t : Steps S Sense Reading Act) (Knows : S → ModelState → Type 0) : Type 0 where
   pub foreign : (p : S) (z : ModelState) (n : Machine) (c : Call) → same_machine n t.machine ≡ false → IsSound z → Knows p z → Knows p (next z n c)
   pub after_drive : (p : S) (reading : _) (act : _) (z : ModelState) → t.call p ≡ None → t.drives p reading act → Knows p z → Knows (t.after_drive p reading act) z
   pub after_done : (p : S) (z : ModelState) (c : Call) → t.call p ≡ Some c → reply z t.machine c ≡ Done → IsSound z → Knows p z → Knows (t.after_done p) (changed z t.machine c)
   pub after_inquiry : (p : S) (z : ModelState) (c : Call) (owner : Option Machine) (flag : Bool) (posture : Posture) → t.call p ≡ Some c → reply z t.machine c ≡ Shown owner flag posture → IsSound z → Knows p z → Knows (t.after_inquiry p owner flag posture) z
+  pub same_for : (p : S) (z w : ModelState) → IsSameFor t.machine z w → Knows p z → Knows p w
 
 ok_same : {S : Type 0} → (b : Bool) (p q : S) (f : CtlFault) → (if b then Ok p else Err f) ≡ Ok q → p ≡ q
 ok_same true p q f e = cc
@@ -61,7 +84,16 @@ keeps_by t Knows k = record {
   own = λ p q z c e l sound h. own_answer t Knows k (reply z t.machine c) p q z c e l refl sound h;
 }
 
+-- what a step knows of each state that it is in step with
+in_step_knows : {S Sense Reading Act : Type 0} → (t : Steps S Sense Reading Act) (Knows : S → ModelState → Type 0) → Knowing t Knows → ((z : ModelState) → Knows (t.start z) z) → (renewals : ℕ) (p : S) (z : ModelState)
+    → InStepAfter t renewals p z → Knows p z
+in_step_knows t Knows k begins zero p z e = subst (λ x. Knows x z) (sym e) (begins z)
+in_step_knows t Knows k begins (suc renewals) p z r =
+    k.same_for p (after r.opening r.seen) z r.same
+    (reached-knows (program_of t) Knows (keeps_by t Knows k) r.first p r.opening r.seen r.sound r.legal (in_step_knows t Knows k begins renewals r.first r.opening r.in_step) r.come)
+
 -- what a reached step knows of the state after the history
-pub reached_knows : {S Sense Reading Act : Type 0} → (t : Steps S Sense Reading Act) (Knows : S → ModelState → Type 0) → Knowing t Knows → (opening : ModelState) (seen : List Event) (p : S)
-    → Knows (t.start opening) opening → IsSound opening → IsLegal opening seen → IsReached t opening seen p → Knows p (after opening seen)
-reached_knows t Knows k opening seen p begins sound legal r = reached-knows (program_of t) Knows (keeps_by t Knows k) (t.start opening) p opening seen sound legal begins r
+pub reached_knows : {S Sense Reading Act : Type 0} → (t : Steps S Sense Reading Act) (Knows : S → ModelState → Type 0) → Knowing t Knows → ((z : ModelState) → Knows (t.start z) z) → (opening : ModelState) (seen : List Event) (p : S)
+    → IsSound opening → IsLegal opening seen → IsReached t opening seen p → Knows p (after opening seen)
+reached_knows t Knows k begins opening seen p sound legal r =
+    reached-knows (program_of t) Knows (keeps_by t Knows k) r.first p opening seen sound legal (in_step_knows t Knows k begins r.renewals r.first opening r.in_step) r.come

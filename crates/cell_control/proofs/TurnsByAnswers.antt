@@ -1,5 +1,5 @@
 -- A turn has the effect that its rows say.
-use Rattle.std.proofs.Common.{◌≡◌, ◌∙◌, ap, sym, subst, refl, zero, suc, List, Bool, true, false, if◌then◌else◌, ℕ, Option, Some, None, Result, Ok, Err}
+use Rattle.std.proofs.Common.{◌≡◌, ◌∙◌, ap, sym, subst, refl, zero, suc, List, [], Bool, true, false, if◌then◌else◌, ℕ, Option, Some, None, Result, Ok, Err}
 use Rattle.std.specs.Prelude.{⊤, ◌||◌}
 use Rattle.std.proofs.Math.Bool.{or-true}
 use Rattle.cell_types.specs.declared.call.Call.{Call}
@@ -16,7 +16,8 @@ use Rattle.cell_rules.specs.Programs.{Hears, MovesIn, Reached}
 use Rattle.cell_rules.specs.ModelState.{ModelState}
 use Rattle.cell_control.specs.declared.fault.CtlFault.TheVariants as fault
 use Rattle.cell_control.specs.Faults.{fault_of}
-use Rattle.cell_control.specs.Steps.{Steps, is_while_stopped, waits_out, after_answer, outcome, program_of}
+use Rattle.cell_control.proofs.StepLemmas.{reached_first, reached_carried}
+use Rattle.cell_control.specs.Steps.{InStepAfter, Steps, is_while_stopped, waits_out, after_answer, outcome, program_of}
 use Rattle.cell_control.specs.Turns.{Performed, PerformsCall, PerformsSensed, Turned, Turns, at_rest, turned, asked_at}
 use Rattle.cell_control.specs.TurnRows.{Says, Answered, stops_with, AnswerRows, SilentRows, HeardRows, AsksAlways, ReachedRows, TurnRows}
 
@@ -129,15 +130,16 @@ module _ {S Sense Reading Act : Type 0} (t : Steps S Sense Reading Act) (p : S) 
 
   reached : (opening : ModelState) (seen : List Event) → ReachedRows t p opening seen
   reached opening seen = record {
-    at_first = (zero, refl);
+    at_first = reached_first t (t.start opening) opening [] refl refl;
     by_none = λ always none k.
-        let moved = subst (λ h. Reached (program_of t) (t.start opening) h p) none k in
-        sym (no_moves always moved.0 (t.start opening) p moved.1);
+        let moved = subst (λ h. Reached (program_of t) k.first h p) none k.come in
+        (k.renewals, subst (λ q. InStepAfter t k.renewals q opening) (no_moves always moved.0 k.first p moved.1) k.in_step);
     by_one = λ e always one k.
-        let led = subst (λ h. Reached (program_of t) (t.start opening) h p) one k in
-        let first = no_moves always led.2.0 (t.start opening) led.0 led.2.1 in
+        let led = subst (λ h. Reached (program_of t) k.first h p) one k.come in
+        let first = no_moves always led.2.0 k.first led.0 led.2.1 in
         let last = no_moves always led.5.0 led.1 p led.5.1 in
-        (ap t.call first ∙ led.3, ap (λ x. after_answer t x e.answer) first ∙ led.4 ∙ ap (λ x. Ok x) last);
+        (k.first, (k.renewals, k.in_step), ap t.call first ∙ led.3, ap (λ x. after_answer t x e.answer) first ∙ led.4 ∙ ap (λ x. Ok x) last);
+    carried_over = λ opened sound legal same k. reached_carried t p opening opened seen [] sound legal same refl k;
   }
 
   pub turn-rows : TurnRows t p s

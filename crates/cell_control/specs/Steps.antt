@@ -1,5 +1,5 @@
 -- A machine's program, as a table of its steps.
-use Rattle.std.specs.Prelude.{◌≡◌, Bool, true, false, ◌||◌, if◌then◌else◌, List, Option, None, Result, Ok, Err}
+use Rattle.std.specs.Prelude.{◌≡◌, ℕ, zero, suc, Bool, true, false, ◌||◌, if◌then◌else◌, List, Option, None, Result, Ok, Err}
 use Rattle.cell_types.specs.declared.machine.Machine.{Machine}
 use Rattle.cell_types.specs.declared.posture.Posture.{Posture}
 use Rattle.cell_types.specs.declared.call.Call.{Call}
@@ -13,7 +13,9 @@ use Rattle.cell_types.specs.declared.reply.Reply.TheVariants.{Settled, Busy}
 use Rattle.cell_calib.specs.declared.sense.SensorFault.{SensorFault}
 use Rattle.cell_rules.specs.declared.heard.LineFault.{LineFault}
 use Rattle.cell_rules.specs.ModelState.{ModelState}
-use Rattle.cell_rules.specs.History.{own_events}
+use Rattle.cell_rules.specs.Sound.{IsSound}
+use Rattle.cell_rules.specs.History.{after, IsLegal, own_events}
+use Rattle.cell_rules.specs.Restamping.{IsSameFor}
 use Rattle.cell_rules.specs.Programs.{Program, Reached}
 use Rattle.cell_control.specs.declared.fault.CtlFault.{CtlFault}
 use Rattle.cell_control.specs.declared.fault.CtlFault.TheVariants.{Memory}
@@ -74,9 +76,30 @@ pub record Drives {S Sense Reading Act : Type 0} (t : Steps S Sense Reading Act)
 abbrev pub program_of : {S Sense Reading Act : Type 0} → Steps S Sense Reading Act → Program S
 program_of t = record { machine = t.machine; call = t.call; leads = λ p a q. after_answer t p a ≡ Ok q; moves = Drives t }
 
--- the step is one that the machine reaches by its events in a history
-abbrev pub IsReached : {S Sense Reading Act : Type 0} → Steps S Sense Reading Act → ModelState → List Event → S → Type 0
-IsReached t opening seen p = Reached (program_of t) (t.start opening) (own_events seen t.machine) p
+-- Carried over from an interlock before: there the program was in step with the opening, and by what its machine saw it
+-- has come to this step. What the machine knows of the state that it saw last is so in this one.
+pub record IsCarriedOver {S Sense Reading Act : Type 0} (t : Steps S Sense Reading Act) (InStep : S → ModelState → Type 0) (p : S) (s : ModelState) : Type 0 where
+  pub opening : ModelState
+  pub sound : IsSound opening
+  pub seen : List Event
+  pub legal : IsLegal opening seen
+  pub first : S
+  pub in_step : InStep first opening
+  pub come : Reached (program_of t) first (own_events seen t.machine) p
+  pub same : IsSameFor t.machine (after opening seen) s
+
+-- A step is in step with a state if it is the first of the program there, with its notes; or, after this many renewals of
+-- the interlock, if it was carried over.
+abbrev pub InStepAfter : {S Sense Reading Act : Type 0} → Steps S Sense Reading Act → ℕ → S → ModelState → Type 0
+InStepAfter t zero p s = p ≡ t.start s
+InStepAfter t (suc renewals) p s = IsCarriedOver t (InStepAfter t renewals) p s
+
+-- the machine reaches the step by its events in a history, from a step that was in step with the opening
+pub record IsReached {S Sense Reading Act : Type 0} (t : Steps S Sense Reading Act) (opening : ModelState) (seen : List Event) (p : S) : Type 0 where
+  pub renewals : ℕ
+  pub first : S
+  pub in_step : InStepAfter t renewals first opening
+  pub come : Reached (program_of t) first (own_events seen t.machine) p
 
 -- the same program with another check of the sensors
 abbrev pub with_senses : {S Sense Reading Act : Type 0} → Steps S Sense Reading Act → (Sense → Result Reading SensorFault → Type 0) → Steps S Sense Reading Act

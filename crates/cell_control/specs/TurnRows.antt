@@ -17,12 +17,14 @@ use Rattle.cell_rules.specs.declared.heard.LineFault.{LineFault}
 use Rattle.cell_rules.specs.declared.heard.LineFault.TheVariants as line
 use Rattle.cell_rules.specs.declared.heard.Heard.{Heard}
 use Rattle.cell_rules.specs.ModelState.{ModelState}
-use Rattle.cell_rules.specs.History.{Holds, posture_by_events, own_events}
+use Rattle.cell_rules.specs.Sound.{IsSound}
+use Rattle.cell_rules.specs.History.{after, IsLegal, Holds, posture_by_events, own_events}
 use Rattle.cell_rules.specs.Seen.{heard_after}
+use Rattle.cell_rules.specs.Restamping.{IsSameFor}
 use Rattle.cell_control.specs.declared.fault.CtlFault.{CtlFault}
 use Rattle.cell_control.specs.declared.fault.CtlFault.TheVariants as fault
 use Rattle.cell_control.specs.Demands.{HoldsIn}
-use Rattle.cell_control.specs.Steps.{Steps, outcome, IsReached}
+use Rattle.cell_control.specs.Steps.{Steps, outcome, InStepAfter, IsReached}
 use Rattle.cell_control.specs.Turns.{Turned, Turns, HearsTurn}
 
 -- the sensors say nothing but this
@@ -103,11 +105,16 @@ pub record HeardRows {S Sense Reading Act : Type 0} (t : Steps S Sense Reading A
 abbrev pub AsksAlways : {S Sense Reading Act : Type 0} → Steps S Sense Reading Act → Type 0
 AsksAlways {S = S} t = (q : S) → (call : Call) × (t.call q ≡ Some call)
 
+-- the step that it begins with is the first, or was carried over from an interlock before this one
+abbrev pub IsInStep : {S Sense Reading Act : Type 0} → Steps S Sense Reading Act → S → ModelState → Type 0
+IsInStep t first opening = (renewals : ℕ) × InStepAfter t renewals first opening
+
 pub record ReachedRows {S Sense Reading Act : Type 0} (t : Steps S Sense Reading Act) (p : S) (opening : ModelState) (seen : List Event) : Type 0 where
   pub at_first : IsReached t opening [] (t.start opening)
-  pub by_none : AsksAlways t → own_events seen t.machine ≡ [] → IsReached t opening seen p → p ≡ t.start opening
+  pub by_none : AsksAlways t → own_events seen t.machine ≡ [] → IsReached t opening seen p → IsInStep t p opening
   pub by_one : (e : Event) → AsksAlways t → own_events seen t.machine ≡ e ∷ [] → IsReached t opening seen p
-      → (t.call (t.start opening) ≡ Some e.call) × (outcome t (t.start opening) (Ok (Settled e.answer 0)) ≡ Ok p)
+      → (first : S) × IsInStep t first opening × (t.call first ≡ Some e.call) × (outcome t first (Ok (Settled e.answer 0)) ≡ Ok p)
+  pub carried_over : (opened : ModelState) → IsSound opening → IsLegal opening seen → IsSameFor t.machine (after opening seen) opened → IsReached t opening seen p → IsReached t opened [] p
 
 -- all rows
 pub record TurnRows {S Sense Reading Act : Type 0} (t : Steps S Sense Reading Act) (p : S) (s : Sense) : Type 0 where

@@ -20,7 +20,7 @@ use Rattle.cell_rules.specs.History.{after, IsLegal}
 use Rattle.cell_control.specs.Steps.{IsReached}
 use Rattle.cell_control.specs.Demands.{HoldsIn}
 use Rattle.cell_control.proofs.StepLemmas.{Knowing, reached_knows}
-use Rattle.cell_control.proofs.Facts.{Fact, Finds, AreSo, are_foreign, found, Stands, stands, handed, entered, posed}
+use Rattle.cell_control.proofs.Facts.{Fact, Finds, AreSo, are_foreign, are_same, found, Stands, stands, handed, entered, posed}
 use Rattle.cell_haul.specs.declared.crane.CraneStep.{CraneStep}
 use Rattle.cell_haul.specs.declared.crane.CraneStep.TheVariants.{RaiseToFetch, TravelToDeposit, AwaitPlate, LowerToPlate, GripPlate, RaiseWithPlate, TakePlate, ReleaseDeposit, TravelToFeed, ClaimFeed, LowerToFeed, DropPlate, RaiseFromFeed, GivePlate}
 use Rattle.cell_haul.specs.declared.crane.CraneProgress.{CraneProgress}
@@ -107,6 +107,7 @@ crane-knowing points gives = record {
   after_drive = λ p r act z e d k. drive_on (is_done p.step r.high act) p z e k;
   after_done = λ p z c e d sound k. done_call p.step p c z e d sound k;
   after_inquiry = λ p z c o f q e d sound k. shown_call p.step p c z o f q e d sound k;
+  same_for = λ p z w same k. are_same Crane z w (facts_at p.step) same k;
 }
 
 -- so in each step the crane holds the gripper's zone
@@ -120,4 +121,4 @@ holds_at _ o h legal k = tt
 pub holds-zone : (points : Scale) (gives : ℕ → ℤ → Type 0) (opening : ModelState) (seen : List Event) (p : CraneProgress) → IsSound opening → IsLegal opening seen → IsReached (crane_steps points gives) opening seen p
     → HoldsIn Crane opening seen (gripper_zone p.step)
 holds-zone points gives opening seen p sound legal r =
-    holds_at p.step opening seen legal (reached_knows (crane_steps points gives) CraneKnows (crane-knowing points gives) opening seen p (crane_begins opening) sound legal r)
+    holds_at p.step opening seen legal (reached_knows (crane_steps points gives) CraneKnows (crane-knowing points gives) crane_begins opening seen p sound legal r)

@@ -16,7 +16,7 @@ use Rattle.cell_rules.specs.History.{after, IsLegal}
 use Rattle.cell_rules.proofs.Holders.{take_owned}
 use Rattle.cell_control.specs.Steps.{IsReached}
 use Rattle.cell_control.proofs.StepLemmas.{Knowing, reached_knows}
-use Rattle.cell_control.proofs.Facts.{Fact, Owns, Hosts, AreSo, are_foreign, seen_held, seen_in}
+use Rattle.cell_control.proofs.Facts.{Fact, Owns, Hosts, AreSo, are_foreign, are_same, seen_held, seen_in}
 use Rattle.cell_haul.specs.declared.deposit.DepositStep.{DepositStep}
 use Rattle.cell_haul.specs.declared.deposit.DepositStep.TheVariants.{ClaimEntry, ClaimExit, PoseLanding, ReleaseEntry, TakePlate, StartRun, RunIn, RunOut, MoveOn, PoseOffering, GivePlate, ClaimBack}
 use Rattle.cell_haul.specs.declared.deposit.DepositProgress.{DepositProgress}
@@ -74,6 +74,7 @@ deposit-knowing = record {
   after_drive = λ p s act z e d k. drive_on act.belt p z e k;
   after_done = λ p z c e d sound k. done_call p.step p c z e d k;
   after_inquiry = λ p z c owner flag posture e d sound k. k;
+  same_for = λ p z w same k. are_same Deposit z w (facts_at p.step) same k;
 }
 
 -- so in a step that drives the belt holds both its zones, which move
@@ -85,7 +86,7 @@ drives_at _ p z e k = cc
 
 pub drives-held : (opening : ModelState) (seen : List Event) (p : DepositProgress) → IsSound opening → IsLegal opening seen → IsReached deposit_steps opening seen p → (row_of p).call ≡ None → HoldsForRun opening seen
 drives-held opening seen p sound legal r e =
-    let at = drives_at p.step p (after opening seen) e (reached_knows deposit_steps DepositKnows deposit-knowing opening seen p tt sound legal r) in
+    let at = drives_at p.step p (after opening seen) e (reached_knows deposit_steps DepositKnows deposit-knowing (λ z. tt) opening seen p sound legal r) in
     record {
       entry = seen_held opening seen Deposit Z4 legal at.0.0;
       exit = seen_held opening seen Deposit Z5 legal at.0.1;

@@ -23,7 +23,7 @@ use Rattle.cell_rules.proofs.Conserved.{plates-kept}
 use Rattle.cell_rules.proofs.OwnSide.{full-foreign}
 use Rattle.cell_control.specs.Steps.{IsReached}
 use Rattle.cell_control.proofs.StepLemmas.{Knowing, reached_knows}
-use Rattle.cell_control.proofs.Facts.{Fact, Owns, Hosts, Finds, AreSo, are_foreign, seen_held, seen_in, entered, posed}
+use Rattle.cell_control.proofs.Facts.{Fact, Owns, Hosts, Finds, AreSo, are_foreign, are_same, seen_held, seen_in, entered, posed}
 use Rattle.cell_haul.specs.declared.feed.FeedStep.{FeedStep}
 use Rattle.cell_haul.specs.declared.feed.FeedStep.TheVariants.{ClaimEntry, PoseLanding, ReleaseEntry, TakePlate, StartIn, RunIn, MoveOn, ClaimExit, StartOut, RunOut, Halt, GivePlate}
 use Rattle.cell_haul.specs.declared.feed.FeedProgress.{FeedProgress}
@@ -133,6 +133,13 @@ feed-knowing = record {
   after_drive = λ p s act z e d k. drive_on act.belt p z e k;
   after_done = λ p z c e d sound k. done_call p.step p c z e d sound k;
   after_inquiry = λ p z c owner flag posture e d sound k. k;
+  same_for = λ p z w same k.
+      record {
+        facts = are_same Feed z w (facts_at p.step) same k.facts;
+        plates = k.plates;
+        entry_noted = same.places FeedEntry refl ∙ k.entry_noted;
+        last_noted = same.places FeedEnd refl ∙ k.last_noted;
+      };
 }
 
 -- while the belt runs in, no plate is at its end
@@ -154,7 +161,7 @@ one_is_full false e = cc
 
 pub drives-held : (opening : ModelState) (seen : List Event) (p : FeedProgress) → IsSound opening → IsLegal opening seen → IsReached feed_steps opening seen p → (row_of p).call ≡ None → HoldsForRun opening seen
 drives-held opening seen p sound legal r e =
-    let at = drives_at p.step p (after opening seen) e (reached_knows feed_steps FeedKnows feed-knowing opening seen p (feed_begins opening) sound legal r) in
+    let at = drives_at p.step p (after opening seen) e (reached_knows feed_steps FeedKnows feed-knowing feed_begins opening seen p sound legal r) in
     let full : plates_at opening seen FeedEnd ≡ pos 1 → is_full (after opening seen) FeedEnd ≡ true = λ one. one_is_full _ (sym ((plates-kept opening seen sound legal).at_place FeedEnd) ∙ one) in
     record {
       entry = seen_held opening seen Feed Z6 legal at.0.0;

@@ -20,7 +20,7 @@ use Rattle.cell_rules.proofs.Notes.{noted-append, noted-foreign}
 use Rattle.cell_rules.proofs.SeenLemmas.{same_as_itself, after-push}
 use Rattle.cell_rules.proofs.Told.{noted-waits}
 use Rattle.cell_interlock.specs.Views.{PassView}
-use Rattle.cell_interlock.specs.Seen.{IsSamePass}
+use Rattle.cell_interlock.specs.Seen.{IsSamePass, HasSeenMore}
 use Rattle.cell_interlock.specs.Lines.{IsLine, Replied, PassAsks}
 use Rattle.cell_interlock.proofs.Tells.{point_waits}
 
@@ -82,6 +82,17 @@ asks-table tries v w c (Err fault) f = ap (λ (x : PassView). x.table) f
 -- a line remains a line after a call
 pub line_kept : (tries : ℕ) (v w : PassView) (j k : List Entry) (c : Call) (r : Result Reply LineFault) → ∥ IsLine v j ∥₁ → PassAsks tries v c r w → k ≡ journal_by w → ∥ IsLine w k ∥₁
 line_kept tries v w j k c r l f e = ∥∥₁_map l (λ x. line_after tries v w j k c r x f e)
+
+-- nor does it cease to be one when its pass has seen more
+line_seen : (v w : PassView) (j : List Entry) → HasSeenMore v w → IsLine v j → IsLine w j
+line_seen v w j more l = record {
+  sound = subst IsSound (sym more.pass.opening) l.sound;
+  legal = subst (λ (o : ModelState). IsLegal o w.seen) (sym more.pass.opening) (more.lawful w.seen [] (sym (append-nil w.seen))).legal;
+  noted_all = l.noted_all ∙ sym (entry-busy v w more.pass more.seen);
+}
+
+pub line_surveys : (v w : PassView) (j : List Entry) → HasSeenMore v w → ∥ IsLine v j ∥₁ → ∥ IsLine w j ∥₁
+line_surveys v w j more l = ∥∥₁_map l (λ x. line_seen v w j more x)
 
 -- a pass that has settled nothing makes a line with an empty journal
 pub line_new : (v u : PassView) (j : List Entry) → u ≡ v → own_events v.seen v.machine ≡ [] → IsSound u.opening → IsLegal u.opening u.seen → j ≡ [] → ∥ IsLine v j ∥₁

@@ -11,7 +11,7 @@ use Rattle.cell_rules.specs.Laws.{LawfulThroughout}
 use Rattle.cell_rules.specs.Journal.{noted}
 use Rattle.cell_rules.specs.Seen.{SeenAfter}
 use Rattle.cell_interlock.specs.Views.{PassView}
-use Rattle.cell_interlock.specs.Seen.{IsSamePass, AnswersAtItsPoint, LastingRight, HasChanges, IsOvertaken}
+use Rattle.cell_interlock.specs.Seen.{IsSamePass, HasSeenMore, AnswersAtItsPoint, LastingRight, HasChanges, IsOvertaken}
 use Rattle.cell_interlock.specs.Calls.{IfSettled, IfBusy}
 
 -- a pass has seen a legal history from a sound opening, and the journal has an entry for each call that it settled
@@ -50,4 +50,9 @@ PassAsks tries v c (Err fault) w = w ≡ v
 -- a line's call: it is made by its pass, and a later one may lose as many exchanges
 pub record LineAsks (l : LineView) (c : Call) (r : Result Reply LineFault) (d : LineView) : Type 0 where
   pub call : PassAsks l.tries l.pass c r d.pass
+  pub tries : d.tries ≡ l.tries
+
+-- a line's survey: its pass has seen more, and a later call may lose as many exchanges
+pub record LineSurveys (l d : LineView) : Type 0 where
+  pub more : HasSeenMore l.pass d.pass
   pub tries : d.tries ≡ l.tries

@@ -7,7 +7,7 @@ ghost use Rattle.cell_interlock.specs.Lines.{IsLine, PassAsks};
 
 use crate::interlock::Interlock;
 use crate::pass::Pass;
-use cell_rules::{Heard, Line, LineFault};
+use cell_rules::{Heard, Line, LineFault, State, Survey};
 use cell_types::{Call, Entry, Machine, Reply};
 use std::alloc::Global;
 use std::marker::Model;
@@ -135,5 +135,16 @@ impl<'a> Line for PassLine<'a> {
         let answered = ask_and_note(self.interlock, &mut self.pass, &mut self.journal, call);
         self.heard = self.heard.after(call, answered);
         answered
+    }
+}
+
+impl<'a> Survey for PassLine<'a> {
+    ghost use Rattle.cell_interlock.specs.Lines.{LineSurveys};
+
+    // Its pass has seen more; the interlock stays the same.
+    ghost surveys = { λ l d. LineSurveys l d };
+
+    fn survey(&mut self) -> State {
+        self.interlock.survey(&mut self.pass)
     }
 }

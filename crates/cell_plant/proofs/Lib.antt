@@ -33,3 +33,4 @@ mod WatchRows
 mod WatchRight
 pub mod Standing
 pub mod Unrefused
+pub mod Starting

@@ -19,7 +19,7 @@ use Rattle.cell_rules.specs.History.{after, IsLegal}
 use Rattle.cell_control.specs.Steps.{IsReached}
 use Rattle.cell_control.specs.Demands.{HoldsIn}
 use Rattle.cell_control.proofs.StepLemmas.{Knowing, reached_knows}
-use Rattle.cell_control.proofs.Facts.{Fact, Owns, Finds, AreSo, are_foreign, found, Stands, stands, handed, entered, posed}
+use Rattle.cell_control.proofs.Facts.{Fact, Owns, Finds, AreSo, are_foreign, are_same, found, Stands, stands, handed, entered, posed}
 use Rattle.cell_devices.specs.declared.act.RobotAct.{RobotAct}
 use Rattle.cell_robot.specs.declared.robot.RobotStep.{RobotStep}
 use Rattle.cell_robot.specs.declared.robot.RobotStep.TheVariants.{TurnToTable, AwaitPlate, ReachTable, GripPlate, LeaveTable, TakePlate, ReleaseTable, TurnToLoad, ClaimPress, InspectPress, ReleasePress, ReachToLoad, DropInPress, LeaveLoaded, GiveToPress, TurnToUnload, AwaitForged, ReachToUnload, GripForged, LeaveUnloaded, TakeForged, ReleaseUnloaded, TurnToDeposit, ClaimDeposit, ReachDeposit, DropOnDeposit, LeaveDeposit, GiveToDeposit}
@@ -180,6 +180,7 @@ robot-knowing points gives = record {
   after_drive = λ p r act z e d k. drive_on (is_done p.step r.retracted act) p z e k;
   after_done = λ p z c e d sound k. done_call p c z e d sound k;
   after_inquiry = λ p z c o f q e d sound k. shown_call p.step p c z o f q e d sound k;
+  same_for = λ p z w same k. are_same Robot z w (facts_at p.step) same k;
 }
 
 -- so in each step the robot holds the zones of its arms
@@ -199,5 +200,5 @@ second_holds _ o h legal k = tt
 
 pub meets-demands : (points : RobotScales) (gives : RobotGauges) (opening : ModelState) (seen : List Event) (p : RobotProgress) (act : RobotAct) → IsSound opening → IsLegal opening seen → IsReached (robot_steps points gives) opening seen p → RobotDemands p.step act opening seen
 meets-demands points gives opening seen p act sound legal r =
-    let known = reached_knows (robot_steps points gives) RobotKnows (robot-knowing points gives) opening seen p (at_choice (notes_at opening) opening) sound legal r in
+    let known = reached_knows (robot_steps points gives) RobotKnows (robot-knowing points gives) (λ z. at_choice (notes_at z) z) opening seen p sound legal r in
     record { arm1 = λ on. first_holds p.step opening seen legal known; arm2 = λ on. second_holds p.step opening seen legal known }

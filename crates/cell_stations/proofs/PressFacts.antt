@@ -16,7 +16,7 @@ use Rattle.cell_rules.specs.History.{after, IsLegal, Holds, PressMoves}
 use Rattle.cell_rules.proofs.Holders.{take_owned}
 use Rattle.cell_control.specs.Steps.{IsReached}
 use Rattle.cell_control.proofs.StepLemmas.{Knowing, reached_knows}
-use Rattle.cell_control.proofs.Facts.{Fact, Owns, Hosts, AreSo, are_foreign, seen_held, seen_in}
+use Rattle.cell_control.proofs.Facts.{Fact, Owns, Hosts, AreSo, are_foreign, are_same, seen_held, seen_in}
 use Rattle.cell_devices.specs.declared.motor.Motor.{Motor}
 use Rattle.cell_devices.specs.declared.motor.Motor.TheVariants.{Off, Plus, Minus}
 use Rattle.cell_stations.specs.declared.press.PressStep.{PressStep}
@@ -92,6 +92,7 @@ press-knowing = record {
   after_drive = λ p s act z e d k. drive_on act.press p z e k;
   after_done = λ p z c e d sound k. done_call p c z e d k;
   after_inquiry = λ p z c owner flag posture e d sound k. k;
+  same_for = λ p z w same k. are_same Press z w (facts_at p.step) same k;
 }
 
 -- so in a step that drives the press holds its interior, which moves
@@ -104,5 +105,5 @@ drives_at _ p z e _ = cc
 pub drives-held : (opening : ModelState) (seen : List Event) (p : PressProgress) → IsSound opening → IsLegal opening seen → IsReached press_steps opening seen p → (row_of p).call ≡ None
     → Holds opening seen Press Z3 × PressMoves opening seen
 drives-held opening seen p sound legal r e =
-    let at = drives_at p.step p (after opening seen) e (reached_knows press_steps PressKnows press-knowing opening seen p tt sound legal r) in
+    let at = drives_at p.step p (after opening seen) e (reached_knows press_steps PressKnows press-knowing (λ z. tt) opening seen p sound legal r) in
     (seen_held opening seen Press Z3 legal at.0, seen_in opening seen Z3 Moving legal at.1)

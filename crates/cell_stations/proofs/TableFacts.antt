@@ -17,7 +17,7 @@ use Rattle.cell_rules.specs.History.{after, IsLegal, Holds, Moves}
 use Rattle.cell_rules.proofs.Holders.{take_owned}
 use Rattle.cell_control.specs.Steps.{IsReached}
 use Rattle.cell_control.proofs.StepLemmas.{Knowing, reached_knows}
-use Rattle.cell_control.proofs.Facts.{Fact, Owns, Hosts, AreSo, are_foreign, seen_held, seen_in}
+use Rattle.cell_control.proofs.Facts.{Fact, Owns, Hosts, AreSo, are_foreign, are_same, seen_held, seen_in}
 use Rattle.cell_stations.specs.declared.table.TableStep.{TableStep}
 use Rattle.cell_stations.specs.declared.table.TableStep.TheVariants.{ClaimEntry, ClaimExit, LeaveForLoading, MoveToLoading, PoseLoading, ReleaseEntry, TakePlate, LeaveForUnloading, MoveToUnloading, PoseUnloading, GivePlate, ClaimBack}
 use Rattle.cell_stations.specs.declared.table.TableProgress.{TableProgress}
@@ -82,6 +82,7 @@ table-knowing points gives = record {
   after_drive = λ p r act z e d k. drive_on (is_off act.height && is_off act.rotation) p z e k;
   after_done = λ p z c e d sound k. done_call p c z e d k;
   after_inquiry = λ p z c owner flag posture e d sound k. k;
+  same_for = λ p z w same k. are_same TableMachine z w (facts_at p.step) same k;
 }
 
 -- so in a step that drives the table holds both its zones, which move
@@ -94,5 +95,5 @@ drives_at _ p z e _ = cc
 pub drives-held : (points : Scale) (gives : ℕ → ℤ → Type 0) (opening : ModelState) (seen : List Event) (p : TableProgress) → IsSound opening → IsLegal opening seen → IsReached (table_steps points gives) opening seen p → (row_of p).call ≡ None
     → (Holds opening seen TableMachine Z1 × Holds opening seen TableMachine Z2) × (Moves opening seen Z1 × Moves opening seen Z2)
 drives-held points gives opening seen p sound legal r e =
-    let at = drives_at p.step p (after opening seen) e (reached_knows (table_steps points gives) TableKnows (table-knowing points gives) opening seen p tt sound legal r) in
+    let at = drives_at p.step p (after opening seen) e (reached_knows (table_steps points gives) TableKnows (table-knowing points gives) (λ z. tt) opening seen p sound legal r) in
     ((seen_held opening seen TableMachine Z1 legal at.0.0, seen_held opening seen TableMachine Z2 legal at.0.1), (seen_in opening seen Z1 Moving legal at.1.0, seen_in opening seen Z2 Moving legal at.1.1))

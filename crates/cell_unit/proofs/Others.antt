@@ -1,5 +1,5 @@
 -- A machine's turn leaves the other controllers ready.
-use Rattle.std.proofs.Common.{◌≡◌, false, List, [], ◌∷◌, ◌++◌, append-nil, Option, Some, None, Result, Ok, Err, refl, sym, ap, ◌∙◌, subst, cond}
+use Rattle.std.proofs.Common.{◌≡◌, false, List, [], ◌∷◌, ◌++◌, append-nil, Option, Some, None, Result, Ok, Err, refl, ap, ◌∙◌, cond}
 use Rattle.cell_types.specs.declared.machine.Machine.{Machine}
 use Rattle.cell_types.specs.declared.call.Call.{Call}
 use Rattle.cell_types.specs.declared.answer.Event.{Event}
@@ -9,10 +9,10 @@ use Rattle.cell_types.specs.Same.{same_machine}
 use Rattle.cell_rules.specs.declared.heard.LineFault.{LineFault}
 use Rattle.cell_rules.specs.ModelState.{ModelState}
 use Rattle.cell_rules.specs.History.{own_events}
-use Rattle.cell_rules.specs.Programs.{Reached}
 use Rattle.cell_rules.proofs.SeenLemmas.{own-append}
 use Rattle.cell_control.specs.declared.fault.CtlFault.{CtlFault}
-use Rattle.cell_control.specs.Steps.{Steps, program_of}
+use Rattle.cell_control.specs.Steps.{Steps}
+use Rattle.cell_control.proofs.BenchLemmas.{reached_others}
 use Rattle.cell_notes.specs.Asks.{TurnCall, settled_by, settled_in}
 use Rattle.cell_unit.specs.Sides.{IsReady}
 
@@ -34,4 +34,4 @@ own_stays m n before now asked apart e =
 pub others_ready : {S Sense Reading Act : Type 0} → (t : Steps S Sense Reading Act) (m : Machine) (opening : ModelState) (before now : List Event) (asked : TurnCall) (stopped : Option CtlFault) (p : S)
     → same_machine m t.machine ≡ false → now ≡ before ++ settled_in m asked → IsReady t opening before stopped p → IsReady t opening now stopped p
 others_ready t m opening before now asked stopped p apart e ready runs =
-    subst (λ events. Reached (program_of t) (t.start opening) events p) (sym (own_stays m t.machine before now asked apart e)) (ready runs)
+    reached_others t opening before now p (own_stays m t.machine before now asked apart e) (ready runs)

@@ -1,5 +1,5 @@
 -- A controller at the end of its line, and its turns.
-use Rattle.std.specs.Prelude.{◌≡◌, List, Option, Some, None, Result, Ok, Err}
+use Rattle.std.specs.Prelude.{◌≡◌, List, [], Option, Some, None, Result, Ok, Err}
 use Rattle.cell_types.specs.declared.machine.Machine.{Machine}
 use Rattle.cell_types.specs.declared.call.Call.{Call}
 use Rattle.cell_types.specs.declared.answer.Event.{Event}
@@ -7,6 +7,7 @@ use Rattle.cell_types.specs.declared.reply.Reply.{Reply}
 use Rattle.cell_rules.specs.declared.heard.LineFault.{LineFault}
 use Rattle.cell_rules.specs.declared.heard.Heard.{Heard}
 use Rattle.cell_rules.specs.ModelState.{ModelState}
+use Rattle.cell_rules.specs.Sound.{IsSound}
 use Rattle.cell_rules.specs.Seen.{heard_after}
 use Rattle.cell_control.specs.declared.fault.CtlFault.{CtlFault}
 use Rattle.cell_control.specs.Steps.{Steps, IsReached}
@@ -27,6 +28,19 @@ wiring_of program progress stopped line = record { program = program; progress =
 pub record IsWired {S Sense Reading Act : Type 0} (t : Steps S Sense Reading Act) (machine : Machine) (opening : ModelState) (seen : List Event) (stopped : Option CtlFault) (p : S) : Type 0 where
   pub own : machine ≡ t.machine
   pub reached : stopped ≡ None → IsReached t opening seen p
+
+-- a machine off its line: its program, the progress in it, what has stopped it, and the state that it has left
+pub record Unwiring (P S : Type 0) : Type 0 where
+  pub program : P
+  pub progress : S
+  pub stopped : Option CtlFault
+  pub left : ModelState
+
+-- the program is this machine's, and a controller that runs may go on where an interlock opens with the state that it has left
+pub record IsUnwired {S Sense Reading Act : Type 0} (t : Steps S Sense Reading Act) (machine : Machine) (left : ModelState) (stopped : Option CtlFault) (p : S) : Type 0 where
+  pub own : machine ≡ t.machine
+  pub sound : IsSound left
+  pub reached : stopped ≡ None → IsReached t left [] p
 
 -- what a controller's turn has answered, by what the actuators are told
 abbrev pub answered : {Act : Type 0} → Act → Option CtlFault → Result Act CtlFault

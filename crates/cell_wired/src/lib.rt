@@ -2,7 +2,9 @@
 #![tactic(auto)]
 
 pub mod told;
+pub mod unwired;
 pub mod wired;
 
 pub use told::Told;
+pub use unwired::Unwired;
 pub use wired::Wired;

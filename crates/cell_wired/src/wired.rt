@@ -1,10 +1,13 @@
 ghost use Rattle.std.specs.Prelude.{◌≡◌, ◌≢◌, [], None};
-ghost use Rattle.cell_rules.specs.History.{own_events};
+ghost use Rattle.cell_rules.specs.History.{after, own_events};
+ghost use Rattle.cell_rules.specs.Seen.{Waits};
+ghost use Rattle.cell_control.specs.Steps.{IsReached};
 ghost use Rattle.cell_wired.specs.Wiring.{TurnsWired, answered};
 
 use crate::told::Told;
+use crate::unwired::Unwired;
 use cell_control::{Controller, CtlFault, Program};
-use cell_rules::{Line, State};
+use cell_rules::{Line, State, Survey};
 use std::marker::Model;
 
 /// A machine's controller at the end of its line.
@@ -46,6 +49,19 @@ impl<P: Program, L: Line> Wired<P, L> {
         }
     }
 
+    // A controller that has come so far by what this line has seen.
+    pub(crate) fn of(controller: Controller<P>, line: L) -> Wired<P, L>
+        requires own { L.machine line ≡ (P.steps controller.program).machine }
+        requires reached { controller.stopped ≡ None
+            → IsReached (P.steps controller.program) (L.opening line) (L.seen line) controller.progress }
+        ensures program { result.program ≡ controller.program }
+        ensures progress { result.progress ≡ controller.progress }
+        ensures stopped { result.stopped ≡ controller.stopped }
+        ensures line { result.line ≡ line }
+    {
+        Wired { controller, line }
+    }
+
     /// One turn, by what the sensors show: checks them and performs one step of the program. It
     /// asks the line once or drives. Answers what the actuators are told, also after a fault.
     ///
@@ -74,6 +90,36 @@ impl<P: Program, L: Line> Wired<P, L> {
         ensures { result.now ≡ self.now.line }
     {
         &self.line
+    }
+
+    /// Takes the machine off its line in the middle of its program, and gives back the line. The
+    /// machine has left the state after all that the line has now seen.
+    pub fn unwire(self) -> (Unwired<P>, L)
+    where
+        L: Survey,
+        ensures program { result.0.program ≡ self.program }
+        ensures progress { result.0.progress ≡ self.progress }
+        ensures stopped { result.0.stopped ≡ self.stopped }
+        ensures surveys { L.surveys self.line result.1 }
+        ensures own { L.machine result.1 ≡ L.machine self.line }
+        ensures opening { L.opening result.1 ≡ L.opening self.line }
+        ensures seen { Waits (L.machine self.line) (L.seen self.line) (L.seen result.1) }
+        ensures left { result.0.left ≡ after (L.opening result.1) (L.seen result.1) }
+    {
+        let Wired {
+            controller,
+            mut line,
+        } = self;
+        let left = line.survey();
+        let machine = line.machine();
+        (
+            Unwired {
+                controller,
+                machine,
+                left,
+            },
+            line,
+        )
     }
 
     /// Ends the machine's turns, and gives back its line.
