@@ -1,3 +1,4 @@
+-- The exact line of a scale and readings near it. Heights are times the raw width, so nothing is divided.
 use Rattle.std.specs.Prelude.{ℕ, ◌+◌, ◌≤◌, ℤ, pos, ◌+ℤ◌, ◌-ℤ◌, ◌*ℤ◌, ◌≤ℤ◌, ◌<ℤ◌}
 use Rattle.cell_calib.specs.Scale.{Scale}
 

@@ -1,3 +1,4 @@
+-- What contracts see of points: a line by two points, a tolerance, and their limits.
 use Rattle.std.specs.Prelude.{ℕ, ◌<◌, ℤ, pos, ◌+ℤ◌, ◌≤ℤ◌, ◌<ℤ◌}
 
 -- the two points of a sensor's line, and how far a reading may be off it

@@ -1,3 +1,4 @@
+-- The sensors by machine, and the switches that exclude each other.
 use Rattle.std.specs.Prelude.{IsTrue, ◌⊎◌}
 use Rattle.cell_calib.specs.declared.sense.TableSense.{TableSense}
 use Rattle.cell_calib.specs.declared.sense.PressSense.{PressSense}

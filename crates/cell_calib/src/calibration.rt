@@ -1,3 +1,4 @@
+//! A potentiometer's calibration, a closure that stays near a line, and what it reads.
 ghost use Rattle.std.specs.Prelude.{◌≡◌, ◌≤◌, ◌<◌, ◌↔◌, IsOk, IfOk};
 ghost use Rattle.cell_calib.specs.Scale.{IsScale};
 ghost use Rattle.cell_calib.specs.Line.{IsReading, IsLineRoundedDown};

@@ -1,3 +1,4 @@
+//! The trait by which a calibration calls its closure, and knows what the closure keeps.
 ghost use Rattle.std.specs.Prelude.{ℕ, ℤ, ◌≤◌};
 ghost use Rattle.cell_calib.specs.Scale.{Scale};
 ghost use Rattle.cell_calib.specs.Line.{KeepsCalibration, IsReading};

@@ -1,3 +1,4 @@
+//! The line of a calibration in whole numbers, for closures that are exactly that line.
 ghost use Rattle.std.specs.Prelude.{◌≡◌, ◌+◌, ◌*◌, ◌/◌, ◌≤◌, ◌<◌};
 ghost use Rattle.cell_calib.specs.Line.{IsLineRoundedDown, IsReading};
 

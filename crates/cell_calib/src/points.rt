@@ -1,3 +1,4 @@
+//! What a calibration is measured by: two points, a tolerance, and the limits of all numbers.
 ghost use Rattle.std.specs.Prelude.{◌≡◌, ◌<◌, ◌↔◌};
 
 use std::marker::Model;

@@ -1,3 +1,4 @@
+//! The sensors of each machine and of the whole cell, and why they can't be used.
 ghost use Rattle.std.specs.Prelude.{◌≡◌, ◌↔◌, IsOk, Some};
 ghost use Rattle.cell_calib.specs.Faults.{sensor_fault_text};
 ghost use Rattle.cell_calib.specs.Sensors.{TableClashes, PressClashes, CraneClashes, SwitchesClash};

@@ -1,3 +1,4 @@
+-- Drives to a stop by a reading: what the motor does, and where the exact line then is.
 use Rattle.std.specs.Prelude.{◌≡◌, ◌↔◌, ℕ, ℤ, pos, ◌+ℤ◌, ◌-ℤ◌, ◌<ℤ◌, Option, Some, None}
 use Rattle.cell_calib.specs.Scale.{Scale, IsScale}
 use Rattle.cell_calib.specs.Line.{IsNear, IsWithinTolerance, IsLineNear, IsLineBelow, IsLineAbove}

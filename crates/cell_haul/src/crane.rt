@@ -1,3 +1,4 @@
+//! The crane's program: its steps, a row for each, and what its motors and its magnet do.
 ghost use Rattle.std.specs.Prelude.{◌≡◌, ◌↔◌, ◌≤◌, IfSome, IsTrue, ◌+ℤ◌, ◌≤ℤ◌};
 ghost use Rattle.cell_devices.specs.Drives.{DrivesTo, narrowest_half};
 ghost use Rattle.cell_devices.specs.Limits.{travel_from};

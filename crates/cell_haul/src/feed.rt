@@ -1,3 +1,4 @@
+//! The feed belt's program: its steps, a row for each, and when the belt runs.
 ghost use Rattle.std.specs.Prelude.{◌≡◌};
 ghost use Rattle.cell_haul.specs.FeedProgram as program;
 

@@ -1,3 +1,5 @@
+//! Tests of the interlock, a file for each subject.
+
 mod closing;
 mod limits;
 mod lines;

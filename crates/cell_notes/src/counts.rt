@@ -1,3 +1,4 @@
+//! How many turns a machine had, and how its calls ended.
 ghost use Rattle.std.specs.Prelude.{◌≡◌};
 ghost use Rattle.cell_notes.specs.Notes.{no_counts, counts_with, HasRoom};
 

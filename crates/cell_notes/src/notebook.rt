@@ -1,3 +1,4 @@
+//! The notebook of a machine, for whoever gives the machine its turns.
 ghost use Rattle.std.specs.Prelude.{◌≡◌, IsOk, OnOk, OnErr};
 ghost use Rattle.cell_notes.specs.Notes.{HasRoom, HasSpare, no_notes, notes_of, notes_with};
 

@@ -1,3 +1,5 @@
+//! What every run gives back, whether in turns or by threads, for reports and audits.
+
 use crate::counts::Counts;
 use crate::status::Status;
 use cell_rules::State;

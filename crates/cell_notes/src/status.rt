@@ -1,3 +1,4 @@
+//! What has stopped a machine, for records and reports.
 ghost use Rattle.std.specs.Prelude.{◌≡◌};
 ghost use Rattle.cell_notes.specs.Statuses.{status_word};
 

@@ -1,3 +1,4 @@
+//! An axis that its motor moves, for all parts but the belts.
 ghost use Rattle.std.specs.Prelude.{◌≡◌, ◌≤ℤ◌};
 ghost use Rattle.cell_parts.specs.Axes.{IsWithin, rotation_end};
 ghost use Rattle.cell_parts.specs.Plant.{standing, set_axis, moved_axis};

@@ -1,3 +1,4 @@
+//! A belt that carries plates past a light barrier, for the parts of both belts.
 ghost use Rattle.std.specs.Prelude.{◌≡◌, ◌↔◌, IsTrue, pos, false};
 ghost use Rattle.cell_rules.specs.ModelState.{is_full};
 ghost use Rattle.cell_parts.specs.Plant.{feed_at_start, deposit_at_start, plate_if, set_belt, moved_plate, moved_belt, loaded_belt, advanced, unloaded_belt};

@@ -1,3 +1,4 @@
+//! An axis with a potentiometer, for the parts of table, robot and crane.
 ghost use Rattle.std.specs.Prelude.{◌≡◌, ◌*◌, ◌/◌, ◌≤◌, ◌<◌, ◌≤ℤ◌, pos, ◌<ℤ◌, ◌-ℤ◌};
 ghost use Rattle.cell_parts.specs.Axes.{IsWithin, rotation_end};
 ghost use Rattle.cell_parts.specs.Plant.{standing, set_axis, moved_axis};

@@ -1,3 +1,4 @@
+//! The faults of audits, with their texts.
 ghost use Rattle.std.specs.Prelude.{◌≡◌, Some};
 ghost use Rattle.cell_report.specs.declared.audit_faults.AuditFault.TheVariants.{Memory};
 ghost use Rattle.cell_report.specs.Report.{audit_fault_text};

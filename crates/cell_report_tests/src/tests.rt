@@ -1,3 +1,5 @@
+//! Tests of replays, audits and reports, a file for each subject, and what several of them use.
+
 use cell_replay::{Outcome, replay};
 use cell_rules::State;
 use std::alloc::Global;

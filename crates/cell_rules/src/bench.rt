@@ -1,3 +1,4 @@
+//! A bench: the sequential interlock with its history, for simulations and tests.
 ghost use Rattle.cell_rules.specs.Stored.{IsHistory};
 
 use crate::answers::{answer, apply_answer};

@@ -1,3 +1,4 @@
+//! What a caller remembers of its calls, and why a call couldn't be made.
 ghost use Rattle.std.specs.Prelude.{◌≡◌};
 ghost use Rattle.cell_rules.specs.Seen.{heard_nothing, heard_after};
 

@@ -1,3 +1,5 @@
+//! The traits of a caller's line to an interlock, whichever interlock it is.
+
 use crate::heard::{Heard, LineFault};
 use crate::state::State;
 use cell_types::{Call, Machine, Reply};

@@ -1,3 +1,4 @@
+//! Sets of places; a state keeps its plates as one.
 ghost use Rattle.std.specs.Prelude.{◌≡◌, ◌≤◌};
 ghost use Rattle.cell_rules.specs.PlaceSet.{has, put_place};
 ghost use Rattle.cell_rules.specs.ModelState.{size_of};

@@ -1,3 +1,4 @@
+//! States of the interlock, which are always sound: how they begin, and what they show.
 ghost use Rattle.std.specs.Prelude.{◌≡◌, ◌≤◌, ◌↔◌, IsSome, IfSome, IsOk, IfOk};
 ghost use Rattle.cell_rules.specs.Start.{places_of, IsStart, start_state};
 ghost use Rattle.cell_rules.specs.Restamping.{restamped};

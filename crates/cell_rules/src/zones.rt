@@ -1,3 +1,4 @@
+//! The state of a zone, and the map that a state keeps of all six.
 ghost use Rattle.std.specs.Prelude.{◌≡◌, ◌≤◌};
 ghost use Rattle.cell_rules.specs.ModelState.{flags_of};
 ghost use Rattle.cell_rules.specs.ZoneMap.{zone_in, put_zone, everywhere, free_zone};

@@ -1,3 +1,4 @@
+//! The press's program: its steps, a row for each, and what its motor does.
 ghost use Rattle.std.specs.Prelude.{◌≡◌};
 ghost use Rattle.cell_stations.specs.PressProgram as program;
 

@@ -1,3 +1,4 @@
+//! The table's program: its steps, a row for each, and what its motors do.
 ghost use Rattle.std.specs.Prelude.{◌≡◌, ◌≤◌, IfSome};
 ghost use Rattle.cell_devices.specs.Drives.{DrivesTo, narrowest_half};
 ghost use Rattle.cell_stations.specs.TableProgram as program;

@@ -1,3 +1,4 @@
+//! Refusals, answers and events, with the words and numbers of refusals.
 ghost use Rattle.std.specs.Prelude.{◌≡◌, ◌↔◌, Some};
 ghost use Rattle.cell_types.specs.Refusals.{number_of};
 ghost use Rattle.cell_types.specs.Answers.{answer_text, owner_word, refusal_word};

@@ -1,3 +1,4 @@
+//! The calls, with their words, for scripts and for every interlock.
 ghost use Rattle.std.specs.Prelude.{◌≡◌, ◌↔◌, ◌∷◌, [], Some, option_map};
 ghost use Rattle.cell_types.specs.CallWords.{call_fields, verb_of, with_object};
 

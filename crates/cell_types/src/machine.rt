@@ -1,3 +1,4 @@
+//! The machines and the watch, with their words.
 ghost use Rattle.std.specs.Prelude.{◌≡◌, ◌↔◌};
 ghost use Rattle.cell_types.specs.Words.{machine_word};
 

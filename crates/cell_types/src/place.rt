@@ -1,3 +1,4 @@
+//! The places of plates, with their words.
 ghost use Rattle.std.specs.Prelude.{◌≡◌, ◌↔◌};
 ghost use Rattle.cell_types.specs.Words.{place_word};
 

@@ -1,3 +1,4 @@
+//! The poses of machines, with their words.
 ghost use Rattle.std.specs.Prelude.{◌≡◌, ◌↔◌};
 ghost use Rattle.cell_types.specs.Words.{pose_word};
 

@@ -1,3 +1,4 @@
+//! The postures of zones, with their words.
 ghost use Rattle.std.specs.Prelude.{◌≡◌, ◌↔◌};
 ghost use Rattle.cell_types.specs.Words.{posture_word};
 

@@ -1,3 +1,5 @@
+//! What a call gives back to its caller: an answer and a stamp, or that it wasn't made.
+
 use crate::answer::Answer;
 
 /// What comes back from a call of the interlock.

@@ -1,3 +1,4 @@
+//! The zones, with their words, and how a plate passes through one.
 ghost use Rattle.std.specs.Prelude.{◌≡◌, ◌↔◌};
 ghost use Rattle.cell_types.specs.Words.{zone_word};
 

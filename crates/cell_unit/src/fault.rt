@@ -1,3 +1,5 @@
+//! The fault of a simulation.
+
 use std::alloc::AllocError;
 
 /// Why a cell wasn't simulated.

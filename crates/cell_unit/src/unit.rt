@@ -1,3 +1,4 @@
+//! One machine in a run, over any line: its controller, its part, and a turn of both.
 ghost use Rattle.std.specs.Prelude.{◌≡◌, None};
 ghost use Rattle.cell_unit.specs.Sides.{ActsAndMoves, DemandsHold, UnitIsReady, act_or_rest, noting, unit_program, unit_rig, unit_side, unit_table};
 

@@ -1,3 +1,4 @@
+//! Calls on a word: the answer, and the word after it.
 ghost use Rattle.std.specs.Prelude.{◌≡◌, ◌≢◌, ◌↔◌, Some, IsNone};
 ghost use Rattle.cell_types.specs.declared.answer.Answer.TheVariants.{Done, Shown};
 ghost use Rattle.cell_rules.specs.ModelState.{ModelState, zone_at};

@@ -1,3 +1,4 @@
+//! The word of a state, and the state of a word.
 ghost use Rattle.std.specs.Prelude.{◌≡◌, ◌≢◌, ◌+◌, ◌*◌, ◌<◌, ◌^◌, ◌↔◌, Some, IsSome, IfSome, IsNone};
 ghost use Rattle.cell_rules.specs.ModelState.{ModelState, one_if};
 ghost use Rattle.cell_rules.specs.Sound.{IsSound};

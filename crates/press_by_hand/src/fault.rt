@@ -1,3 +1,5 @@
+//! What ends the program early: a bad start, no interlock, or a line that fails.
+
 use cell_interlock::MakeFault;
 use cell_rules::StartFault;
 use std::io;

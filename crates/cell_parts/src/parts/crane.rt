@@ -1,3 +1,4 @@
+//! The crane as a part: travel, gripper and magnet, and what its sensors show.
 ghost use Rattle.std.specs.Prelude.{◌≡◌};
 ghost use Rattle.cell_parts.specs.Axes.{IsWithin, crane_end, gripper_end};
 ghost use Rattle.cell_parts.specs.Plant.{crane_at_start};

@@ -1,3 +1,4 @@
+//! The deposit belt as a part: it carries plates, and notes the calls that bring and take them.
 ghost use Rattle.std.specs.Prelude.{◌≡◌};
 ghost use Rattle.cell_parts.specs.Plant.{deposit_at_start, deposit_called};
 

@@ -1,3 +1,4 @@
+//! The feed belt as a part: it carries plates, and notes the calls that bring and take them.
 ghost use Rattle.std.specs.Prelude.{◌≡◌};
 ghost use Rattle.cell_parts.specs.Plant.{feed_at_start, feed_called};
 

@@ -1,3 +1,4 @@
+//! The press as a part: its axis, and what its three switches show.
 ghost use Rattle.std.specs.Prelude.{◌≡◌};
 ghost use Rattle.cell_parts.specs.Axes.{IsWithin, press_end};
 ghost use Rattle.cell_parts.specs.Plant.{press_at_start};

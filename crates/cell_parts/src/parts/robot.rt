@@ -1,3 +1,4 @@
+//! The robot as a part: arms, rotation and magnets, and what its potentiometers show.
 ghost use Rattle.std.specs.Prelude.{◌≡◌};
 ghost use Rattle.cell_parts.specs.Axes.{IsWithin, arm_end, rotation_end};
 ghost use Rattle.cell_parts.specs.Plant.{robot_at_start};

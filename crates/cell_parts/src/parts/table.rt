@@ -1,3 +1,4 @@
+//! The table as a part: height and rotation, and what its sensors show.
 ghost use Rattle.std.specs.Prelude.{◌≡◌};
 ghost use Rattle.cell_parts.specs.Axes.{IsWithin, lift_end, turn_end};
 ghost use Rattle.cell_parts.specs.Plant.{table_at_start};
