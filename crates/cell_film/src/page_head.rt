@@ -63,6 +63,8 @@ canvas { width: 100%; height: 217px; display: block; cursor: col-resize; touch-a
 .bit { display: inline-block; width: 11px; height: 19px; text-align: center; border: 1px solid var(--line); }
 .bit { margin-left: -1px; }
 .bit.flip { border-color: var(--ink); box-shadow: 0 -3px var(--ink), 0 3px var(--ink); position: relative; z-index: 1; }
+.alone #cellbox, .alone #side, .alone #time .soft, .alone #statebox { display: none; }
+.alone #word { font-size: 22px; gap: 14px; } .alone .bit { width: 21px; height: 36px; } .alone canvas { display: none; }
 .unseen { position: absolute; clip-path: inset(50%); width: 1px; height: 1px; overflow: hidden; white-space: nowrap; }
 @media (max-width: 900px) {
   main { grid-template-columns: minmax(0, 1fr); grid-template-areas: "head" "cell" "time" "side" "word" "state"; }
@@ -87,8 +89,9 @@ canvas { width: 100%; height: 217px; display: block; cursor: col-resize; touch-a
 <section id="cellbox">
   <svg id="cell" viewBox="0 0 790 470" role="img"></svg>
   <p class="soft">A zone has the colour of its owner, grey if it is free. Its border: full is closed, dashed is open,
-  dotted and hatched is moving. A plate is grey as a blank and brown with a ring once forged; a thick circle is a magnet
-  that is on. A red arrow: waits for, by its last call; full arrows are a standstill.</p>
+  dotted and hatched is moving. Open is in (openin: plates come to the host) or out (openout: plates leave it); a dot is
+  a plate on its way. A plate is grey as a blank and brown with a ring once forged; a thick circle is a magnet that is
+  on. A red arrow: waits for, by its last call; full arrows are a standstill.</p>
 </section>
 <section id="side">
   <table aria-label="Machines"><tbody id="machines"></tbody></table>
@@ -108,9 +111,15 @@ canvas { width: 100%; height: 217px; display: block; cursor: col-resize; touch-a
   </div>
   <canvas id="lanes" role="slider" tabindex="0" aria-label="Turn" aria-valuemin="0"></canvas>
   <p class="soft">A row a zone: its host's time above, its guest's below, never both; a stripe is a plate on its way,
-  hatched is moving. A row a machine: tall is done, middle drives, low waits. Shaded: the cell is stopped.</p>
+  hatched is moving. A row a machine: tall is done, middle drives, low waits, flat is busy. In a simulation nobody calls
+  at the same time: a capital letter in the schedule makes the interlock answer busy. Shaded: the cell is stopped.</p>
 </section>
-<section id="wordbox"><div id="word"></div></section>
+<section id="wordbox">
+  <div id="word"></div>
+  <p class="soft">The whole interlock, bit by bit; a framed bit has changed in this turn. A zone has its posture (closed
+  00, moving 01, in 10, out 11), a bit for a plate on its way, and its owner (free 00, host 01, guest 10). mark: the
+  cell is stopped. -: always 0. To project it alone: <a href="#word">#word</a>.</p>
+</section>
 <section id="statebox">
   <details open><summary>This state in the words of a report</summary><pre id="state"></pre></details>
 </section>

@@ -583,7 +583,8 @@ function draw() {
   get("state").textContent = reportOf(frame);
   get("banner").textContent = bannerOf(frame);
   const plates = frame.state.plates + (frame.state.plates === 1 ? " plate" : " plates");
-  get("where").textContent = `turn ${now} of ${film.last}, stamp ${frame.state.stamp}, ${plates}`;
+  const deed = isAlone() ? "; " + sentence(frame, now) : "";
+  get("where").textContent = `turn ${now} of ${film.last}, stamp ${frame.state.stamp}, ${plates}${deed}`;
   drawLanes();
 }
 
@@ -595,7 +596,7 @@ function tell() {
   get("lanes").setAttribute("aria-valuenow", now);
   get("lanes").setAttribute("aria-valuetext", text);
   clearTimeout(linking);
-  linking = setTimeout(() => history.replaceState(null, "", "#t=" + now), 200);
+  linking = setTimeout(() => history.replaceState(null, "", (isAlone() ? "#word,t=" : "#t=") + now), 200);
 }
 
 function go(turn) {
@@ -642,9 +643,15 @@ function onKey(event) {
   event.preventDefault();
 }
 
+// The word alone, large, with the keys and the calls of the turn: for a wall.
+function isAlone() {
+  return document.body.classList.contains("alone");
+}
+
 function atLink() {
-  const turn = Number(location.hash.replace("#t=", ""));
-  go(location.hash && turn >= 0 ? turn : 0);
+  document.body.classList.toggle("alone", location.hash.startsWith("#word"));
+  const turn = /t=([0-9]+)$/.exec(location.hash);
+  go(turn ? Number(turn[1]) : now);
 }
 
 function redraw() {
