@@ -49,7 +49,7 @@ all ms one two three four five =
     let e = given (section_by_key Gripper ms) five in
     rw (a.1, b.1, c.1, d.1, e.1) refl
 
--- what is told of a refusal
+-- what is said of a refusal
 named : (ms : Members) (key : SectionKey) (refused : SectionKey × SectionFault) → refused.0 ≡ key → IsFirstRefusal ms key refused.1
     → IsFirstRefusal ms refused.0 refused.1
 named ms key refused same first = rw same first

@@ -58,7 +58,7 @@ HasCurveFault line pairs (Some fault) = IsFirstCurveFault line pairs fault
 abbrev pub max_pairs : ℕ
 max_pairs = 32
 
--- Too many values are told first. Else pairs of which a number doesn't fit have no fault as a curve.
+-- Too many values come first. Else pairs of which a number doesn't fit have no fault as a curve.
 pub record IsCurveFault (line : Scale) (values : List Data) (curve : Option CurveFault) : Type 0 where
   pub fits : list_all is_measured values ≡ true → HasCurveFault line (filter_map measured_of values) curve
   pub many : max_pairs < length values → curve ≡ Some Count

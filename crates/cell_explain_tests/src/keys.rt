@@ -37,7 +37,7 @@ const ROWS: &[(&str, &str)] = &[
         "start = \"0100000000\"\n[ Turn ]\ntol = 3\n",
         "config unknown: line 2: \"Turn\" is no key here; did you mean \"turn\"?\n",
     ),
-    // The first in the text is told. In an array of tables no keys are looked at.
+    // The first in the text is named. In an array of tables no keys are looked at.
     (
         "start = \"0100000000\"\n[turn]\nspeed = 1\n[colour]\n",
         "config unknown: line 3: \"speed\" is no key here; known are: raw tol points\n",

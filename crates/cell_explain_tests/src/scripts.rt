@@ -47,7 +47,7 @@ const ROWS: &[(&str, &str)] = &[
 ];
 
 /// Scripts with other line ends, with empty lines, quoted line ends and byte order marks: which line
-/// is told.
+/// is named.
 const LINES: &[(&[u8], &str)] = &[
     (
         b"start,0000000000\r\npress,clam,z3\r\n",

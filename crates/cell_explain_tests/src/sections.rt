@@ -3,7 +3,7 @@
 use super::configurations::is_explained;
 use std::alloc::{AllocError, Global};
 
-/// A section's text, and what is told of it.
+/// A section's text, and what is said of it.
 const ROWS: &[(&str, &str)] = &[
     // The first section that is refused, in the order arm1, arm2, rotation, turn, gripper.
     (

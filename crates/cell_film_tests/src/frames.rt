@@ -78,7 +78,7 @@ fn ends_with_its_watcher(rt: HostRuntime) -> Result<(), Fail> {
     Ok(())
 }
 
-/// What a frame tells: whose turn led to it and whether it was a busy one, what was asked and the
+/// What a frame shows: whose turn led to it and whether it was a busy one, what was asked and the
 /// word of what came back, the stamp, whether the cell is stopped, and the status of the turn's
 /// machine.
 type Told = (Option<Turn>, Option<Call>, &'static str, u32, bool, Status);
@@ -187,7 +187,7 @@ const OF_WORN: &[Told] = &[
     (WATCH, None, "", LAST, false, Status::Worn),
 ];
 
-/// What a frame tells.
+/// What a frame shows.
 fn told_by(frame: &Frame) -> Told {
     let status = match frame.turn {
         Some(turn) => frame.status[turn.machine as usize],

@@ -51,7 +51,7 @@ impl Watcher for Keeper {
 /// What a run came to.
 pub type Shown = Result<RunRecord, SeenFault<KeeperFault>>;
 
-/// What the run of an example comes to if its watcher fails at a frame, and the frames that were
+/// How the run of an example ends if its watcher fails at a frame, and the frames that were
 /// shown, the failed one too.
 pub fn shown_up_to(
     alloc: Global,

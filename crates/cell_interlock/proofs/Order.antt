@@ -55,7 +55,7 @@ pub stamp_seen : (m : Machine) (c : Call) (x : Reply) (o : ModelState) (seen now
 stamp_seen m c (Settled a s) o seen now it = it.1
 stamp_seen m c (Busy l s) o seen now it = it.1
 
--- a call of one who has seen a history is told no lower stamp than that history's
+-- a call of one who has seen a history gets no lower stamp than that history's
 pub stamped_after : (o : ModelState) (n : Machine) (d : Call) (y : Reply) (known heard now : List Event) → BeginsWith heard known → SeenAfter n d (Ok y) o heard now → IsLegal o now → IsStampedAfter (after o known).stamp y
 stamped_after o n d (Settled b t) known heard now f it l =
     let g : BeginsWith it.0.point known = begins-trans known heard it.0.point f it.0.begins in

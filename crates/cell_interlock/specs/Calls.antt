@@ -15,12 +15,12 @@ abbrev pub IfBusy : Reply → (ℕ → Type 0) → Type 0
 IfBusy (Settled answer stamp) holds = ⊤
 IfBusy (Busy lost stamp) holds = holds lost
 
--- the stamp that a reply tells
+-- the stamp in a reply
 abbrev pub stamp_in : Reply → ℕ
 stamp_in (Settled answer stamp) = stamp
 stamp_in (Busy lost stamp) = stamp
 
--- a reply tells at least this stamp, and a higher one if the call is Done
+-- a reply has at least this stamp, and a higher one if the call is Done
 abbrev pub IsStampedAfter : ℕ → Reply → Type 0
 IsStampedAfter told (Settled answer stamp) = (told ≤ stamp) × (answer ≡ Done → told < stamp)
 IsStampedAfter told (Busy lost stamp) = told ≤ stamp

@@ -19,8 +19,9 @@ pub record StandsBefore (seen : List Event) (e last : Event) (history : List Eve
   pub begins : BeginsWith point seen
   pub new : own_events point e.machine ≡ own_events seen e.machine
 
--- A call was answered, and then its caller, or one who was told by it, took a receipt. Another caller accepted that and
--- has seen more since. If a call of it is answered now, then in what it sees the first call's event stands before it.
+-- A call was answered, and then its caller, or one who knew of it by receipts, took a receipt. Another caller accepted
+-- that, and has seen more since. If a call of it is answered now, then in what it sees the first call's event stands
+-- before it.
 abbrev pub ReceiptsOrderCalls : Type 0
 ReceiptsOrderCalls =
     (m n : Machine) (c d : Call) (a b : Answer) (seen answered receipt accepted heard now : List Event)
@@ -28,7 +29,7 @@ ReceiptsOrderCalls =
     → BeginsWith heard accepted → Settles n d b heard now
     → StandsBefore seen (event m c a) (event n d b) now
 
--- The same steps, in any interlock: the later call is told no lower stamp than the first one, and a higher one if it is
+-- The same steps, in any interlock: the later call gets no lower stamp than the first one, and a higher one if it is
 -- Done.
 abbrev pub ReceiptsRaiseStamps : Type 0
 ReceiptsRaiseStamps =

@@ -9,7 +9,7 @@ pub fn outcomes_are_known()
 {}
 
 /// A call that is made after a receipt was accepted comes after each call that was answered before
-/// the receipt was taken, whatever else happens between these steps (`order`). It is told no lower
+/// the receipt was taken, whatever else happens between these steps (`order`). It gets no lower
 /// stamp, and a higher one if it is Done (`stamps`).
 pub fn receipts_order_calls()
     ensures order { ReceiptsOrderCalls }

@@ -63,7 +63,7 @@ impl Interlock {
     }
 
     /// Accepts a receipt: afterwards the pass has seen all that the receipt tells (`told`), and what
-    /// it had seen. It has no new event of its own machine (`more`). No call is made: this is one
+    /// it had seen. It has no new event of its machine (`more`). No call is made: this is one
     /// load.
     ///
     /// The pass was made with this interlock, and so was the receipt's.

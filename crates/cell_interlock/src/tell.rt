@@ -13,8 +13,8 @@ use cell_types::{Call, Reply};
 impl Interlock {
     /// Two calls in order, by a receipt: the first caller makes a call and takes a receipt; the
     /// second accepts it and makes its own call. If both calls are answered, the first one's event
-    /// stands before the second one's in what the second caller then sees (`order`). The second is
-    /// told no lower stamp than the first, and a higher one if its call is Done (`stamps`).
+    /// stands before the second one's in what the second caller then sees (`order`). The second
+    /// gets no lower stamp than the first, and a higher one if its call is Done (`stamps`).
     ///
     /// Both passes were made with this interlock. Between these four steps any others may come, and
     /// the receipt may go from thread to thread: `laws::receipts_order_calls`.

@@ -26,7 +26,7 @@ pub comes_later : (e : Event) (told : List Event) (w heard : PassView) (d : Call
 comes_later e told w heard d y now f b more it =
     by_reply e heard.seen now w.machine d y heard.opening (still_has e told heard.seen b f) (subst (λ (m : Machine). SeenAfter m d (Ok y) heard.opening heard.seen now) more.pass.machine it)
 
--- a call after a letter with a stamp is told no lower stamp
+-- a call after a letter with a stamp gets no lower stamp
 pub stamped_later : (r : ReceiptView) (stamp : ℕ) (w heard : PassView) (d : Call) (y : Reply) (now : List Event) → HasItsStamp r stamp → r.opening ≡ w.opening → BeginsWith heard.seen r.seen → HasSeenMore w heard → SeenAfter heard.machine d (Ok y) heard.opening heard.seen now → LawfulThroughout heard.opening now → IsStampedAfter stamp y
 stamped_later r stamp w heard d y now is opens b more it lawful =
     subst (λ (s : ℕ). IsStampedAfter s y) (sym (is ∙ ap (λ (o : ModelState). (after o r.seen).stamp) (opens ∙ sym more.pass.opening)))

@@ -110,8 +110,8 @@ fn hear_and_call<N: News, R: Wait>(
     Some((reply, pass))
 }
 
-/// Two callers in two threads: the second one's call comes after the first one's, of which it was
-/// told by a letter. It makes none if the first call isn't Done.
+/// Two callers in two threads: the second one's call comes after the first one's, of which a
+/// letter tells it. It makes none if the first call isn't Done.
 ///
 /// Errors: no memory for the channel.
 pub fn two_threads<N: News + Send + Sync, R: Threads + Wait + Sync>(

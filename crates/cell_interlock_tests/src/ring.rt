@@ -1,5 +1,5 @@
-//! Letters that go round three threads. A letter is a receipt with the stamp that its sender was told
-//! last. Each caller answers a letter by a call, and sends the next caller one of its own.
+//! Letters that go round three threads. A letter is a receipt with the stamp that its sender got
+//! last. Each caller answers a letter by a call, and sends the next caller another letter.
 ghost use Rattle.std.specs.Prelude.{◌≡◌};
 ghost use Rattle.std.specs.Thread.{IsSync};
 ghost use Rattle.cell_rules.specs.History.{after};
@@ -67,7 +67,7 @@ fn stamp_of(reply: Reply) -> u32
     }
 }
 
-/// Accepts a letter, and then makes a call. It is told no lower stamp than the letter's, and a higher
+/// Accepts a letter, and then makes a call. It gets no lower stamp than the letter's, and a higher
 /// one if it is Done.
 pub fn answer_letter<N: OfTable>(
     interlock: &Interlock,
@@ -90,7 +90,7 @@ pub fn answer_letter<N: OfTable>(
     interlock.ask(pass, call)
 }
 
-/// Sends a letter with the stamp that the pass was told last.
+/// Sends a letter with the stamp that the pass got last.
 fn send_letter<N: OfTable, R: Wait>(
     rt: &R,
     interlock: &Interlock,
@@ -113,7 +113,7 @@ fn send_letter<N: OfTable, R: Wait>(
     let _ = to.send(rt, letter);
 }
 
-/// Writes a first letter, and then answers each letter that comes by a claim or a release of its own
+/// Writes a first letter, and then answers each letter that comes by a claim or a release of its
 /// zone. Says whether each of these calls was Done, with a higher stamp than its letter's.
 fn go_round<N: OfTable, R: Wait>(
     rt: &R,

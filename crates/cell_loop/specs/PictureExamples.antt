@@ -1,4 +1,4 @@
--- What a picture tells of frames, in literal numbers and text.
+-- What a picture shows of frames, in literal numbers and text.
 use Rattle.std.specs.Prelude.{◌≡◌, ℕ, pos, neg_ℤ, ℤ, Bool, true, false, List, [], ◌∷◌, ◌++◌, codes, Some, None, Ok}
 use Rattle.cell_types.specs.declared.answer.Answer.TheVariants.{Done, Refused}
 use Rattle.cell_types.specs.declared.answer.Refusal.TheVariants.{NoPlate}

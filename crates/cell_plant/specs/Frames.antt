@@ -55,7 +55,7 @@ frames_after _ _ = []
 abbrev pub frames_of : ModelState → List Turn → List Step → List Frame
 frames_of opening turns steps = frame_of None None (cell_at_start opening) ∷ frames_after turns steps
 
--- a watcher is shown frames, one by one, and comes to this; the result is that of the last one
+-- a watcher is shown frames, one by one, and then is this one; the result is that of the last frame
 abbrev pub IsShown : {W E : Type 0} → (W → Frame → Result (Unit {0}) E → W → Type 0) → W → List Frame → Result (Unit {0}) E → W → Type 0
 IsShown sees w [] result v = (result ≡ Ok tt) × (v ≡ w)
 IsShown sees w (f ∷ []) result v = sees w f result v

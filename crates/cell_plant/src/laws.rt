@@ -81,7 +81,7 @@ pub fn wrong_records_are_refused()
 {}
 
 /// Examples of the frames of one literal run, and of wrong films: a frame shows the state or the
-/// step before the turn, it tells nothing of the call, a busy turn is told as refused or as not
+/// step before the turn, it shows nothing of the call, a busy turn is shown as refused or as not
 /// busy, a frame is left out, shown twice or too early, or two machines' axes are swapped. A watcher
 /// that keeps what it is shown has these frames; one that fails is shown no more.
 pub fn wrong_films_are_refused()

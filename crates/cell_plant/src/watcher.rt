@@ -17,7 +17,7 @@ pub trait Watcher {
     /// Whether it looks. No frame is made for one that doesn't.
     const LOOKS: bool;
 
-    // What it may come to: the watcher before, the frame, what came back, the watcher after.
+    // What a frame does to it: the watcher before, the frame, what came back, the watcher after.
     ghost sees: { Self → Frame → Result (Unit {0}) Self.Fault → Self → Type 0 };
 
     /// Sees the next frame. An error ends the run.

@@ -29,7 +29,7 @@ pub struct Doorkeeper {
     rule: Rule,
     // The turns for which each machine has asked, one digit each: 1 for turn 0.
     asked: [AtomicU64; 7],
-    // How often the gate was told that each machine takes no more turns: 1 for once, 11 for twice.
+    // How often `end` said that each machine takes no more turns: 1 for once, 11 for twice.
     ended: [AtomicU64; 7],
     /// The number of calls of each closure.
     pub calls: [AtomicU64; 5],
@@ -48,8 +48,8 @@ impl Doorkeeper {
         }
     }
 
-    /// Whether the six machines have asked for these turns and the watch for none, the gate was told
-    /// of each end once, and each closure was called once between two asks of its machine.
+    /// Whether the six machines have asked for these turns and the watch for none, `end` was
+    /// called once for each, and each closure was called once between two asks of its machine.
     pub fn has_noted(&self, notes: &[u64; 6]) -> bool {
         let [feed, table, robot, press, deposit, crane] = *notes;
         are_noted(&self.asked, &[feed, table, robot, press, deposit, crane, 0])

@@ -38,7 +38,7 @@ fn beside_start(alloc: Global, more: &str) -> Result<String, AllocError> {
     Ok(config)
 }
 
-/// Checks what is told of each text after a good start.
+/// Checks the fault of each text after a good start.
 pub fn are_told_beside_start<T: Abort + Threads + Wait + Sync>(
     rt: &T,
     alloc: Global,

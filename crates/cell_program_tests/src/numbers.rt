@@ -254,7 +254,7 @@ fn takes_pairs_near_the_line(rt: HostRuntime) -> Result<(), Fail> {
 }
 
 /// How many pairs on the line of the first arm there are before the last one, what follows them all, and
-/// what is told.
+/// the fault.
 const COUNTED: &[(u32, &str, &str)] = &[
     (0, "", "range"),
     (1, "", NO_PLATES),

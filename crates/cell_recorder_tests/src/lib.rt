@@ -1,4 +1,4 @@
-//! Tests of recordings, by public calls only: runs at one pace, and the scripts that tell them.
+//! Tests of recordings, by public calls only: runs at one pace, and their scripts.
 #![tactic(auto)]
 
 #[cfg(test)]

@@ -80,7 +80,7 @@ some_told None true e t = cc
 some_told None false e t = cc
 some_told (Some n) b e t = λ q. cc
 
--- what a trace of no entry comes to, after all entries in the order
+-- a trace of no entries, after all entries in the order
 pub trace_in_order : {E : Type 0} (old new : List Event → Type 0) (start : ModelState) (least : ℕ) (all ordered : List Noted) (first : Trace) (r : Result Trace E) → InOrder all ordered → IsTrace old start least [] first → IfOk r (λ t. (n : ℕ) → IsTrace old start n [] first → IsTrace new start n ordered t) → IfOk r (IsTraceOf new start least all)
 trace_in_order old new start least all ordered first (Ok t) order none f = record { ordered = ordered; order = order; is = f least none }
 trace_in_order old new start least all ordered first (Err e) order none f = tt

@@ -1,4 +1,4 @@
--- What entries in their order come to.
+-- The trace of entries in their order: their stamps, their events, and the state after them.
 use Rattle.std.specs.Prelude.{◌≡◌, ℕ, ◌≤◌, List, None, false, MatchOption}
 use Rattle.cell_types.specs.declared.answer.Event.{Event}
 use Rattle.cell_rules.specs.ModelState.{ModelState}

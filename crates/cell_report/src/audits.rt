@@ -43,7 +43,7 @@ fn room(journals: &Journals) -> usize
         .saturating_add(journals.watch.len())
 }
 
-/// What all entries come to. Journals that are each in turn are merged, others sorted.
+/// The trace of all entries. Journals that are each in turn are merged, others sorted.
 fn trace_of<K: Keeper>(
     alloc: Global,
     journals: &Journals,
@@ -62,7 +62,7 @@ fn trace_of<K: Keeper>(
     Trace::new(alloc, start, least, keeper).follow_sorted(start, &sorted, keeper)
 }
 
-/// What all entries come to, if each stamp after the start's, up to the greatest, belongs to
+/// The trace of all entries, if each stamp after the start's, up to the greatest, belongs to
 /// exactly one Done entry.
 fn checked_trace<K: Keeper>(
     alloc: Global,

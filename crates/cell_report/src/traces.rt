@@ -13,7 +13,7 @@ use cell_rules::{State, apply};
 use cell_types::Journals;
 use std::alloc::{AllocError, Global};
 
-/// What entries come to that are taken one by one, in the order of an audit. A keeper has the
+/// The trace of entries that are taken one by one, in the order of an audit. A keeper has the
 /// events, up to the first entry that doesn't fit.
 #[derive(Drop)]
 pub struct Trace {
@@ -28,7 +28,7 @@ pub struct Trace {
 }
 
 impl Trace {
-    /// What no entry comes to: the start, and a stamp. The keeper forgets what it has.
+    /// The trace of no entries, from a start and a stamp. The keeper forgets what it has.
     pub fn new<K: Keeper>(alloc: Global, start: &State, least: u32, keeper: &mut K) -> Trace
         ensures { IsTrace (K.holds keeper.new) start.now least [] result }
     {
@@ -96,7 +96,7 @@ impl Trace {
         Ok(())
     }
 
-    /// What the entries of journals come to, if none has been taken yet; `None` if one of them isn't
+    /// The trace of all entries of journals, if none has been taken yet; `None` if one of them isn't
     /// in turn.
     pub fn follow_merged<K: Keeper>(
         self,
@@ -120,7 +120,7 @@ impl Trace {
         Ok(Some(trace))
     }
 
-    /// What sorted entries come to, if none has been taken yet.
+    /// The trace of sorted entries, if none has been taken yet.
     pub fn follow_sorted<K: Keeper>(
         self,
         start: &State,

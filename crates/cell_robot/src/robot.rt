@@ -110,7 +110,7 @@ pub struct RobotReading {
     pub arm2: i32,
     /// How far the robot is turned, in tenths of a degree.
     pub rotation: i32,
-    /// Whether both arms are surely drawn back, so that it may turn.
+    /// Whether both arms are surely retracted, so that it may turn.
     pub retracted: bool,
 }
 

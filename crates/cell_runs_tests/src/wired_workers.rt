@@ -23,7 +23,7 @@ use std::test::Fail;
 use std::thread::Threads;
 
 /// Devices that show one sense for some reads, and another one from then on. They count their calls
-/// and keep what they were last told.
+/// and keep the last command.
 #[derive(Drop)]
 struct Recorder<S, A> {
     shows: S,
@@ -210,7 +210,7 @@ fn run_until_clash<R: Threads + Wait + Sync>(
 }
 
 /// How many turns the press has before its switches clash, and the greatest number of turns of each
-/// machine. Then how the press ends: its turns, its status, and what its motor was last told, with
+/// machine. Then how the press ends: its turns, its status, and its motor's last command, with
 /// the fault.
 type Row = (u32, u32, (u32, Status, Motor, Option<CtlFault>));
 

@@ -25,8 +25,8 @@ use Rattle.cell_control.specs.Turns.{Performed, PerformsCall, PerformsSensed, Tu
 use Rattle.cell_team.specs.Team.{HasCome, DrivesOn, program_with_stops}
 use Rattle.cell_team.specs.Heeded.{IsStoppedBy}
 
--- a machine has come to its step by its events; if a refusal has stopped it, then at this step; and no later
--- turn of it is told
+-- a machine has come to its step by its events; if a refusal has stopped it, then at this step; and it has no later
+-- turn
 pub record Stands {S Sense Reading Act : Type 0} (t : Steps S Sense Reading Act) (opening : ModelState) (history : List Event) (stopped : Option CtlFault) (p : S) : Type 0 where
   pub come : HasCome t opening history p
   pub stopped_by : (r : Refusal) → stopped ≡ Some (fault.Refused r) → IsStoppedBy t opening history p (fault.Refused r)
@@ -94,7 +94,7 @@ module _ {S Sense Reading Act : Type 0} (t : Steps S Sense Reading Act) (o : Mod
   answered p c (Ok (Busy lost stamp)) before now e seen k = fine now None p (reached-waits (program_with_stops t) (t.start o) p t.machine before now seen k) (λ x f. cc) (λ f. cc)
   answered p c (Err why) before now e seen k = fine now (Some fault.Memory) p (subst (λ h. HasCome t o h p) (sym seen) k) (λ x f. cc) (λ f. cc)
 
-  -- a turn, of which the line tells what it has seen
+  -- a turn, by what its line has seen
   module _ (before now : List Event) (same : Type 0) (asks : Call → Result Reply LineFault → Type 0) (stays : same → now ≡ before) (sees : (c : Call) (r : Result Reply LineFault) → asks c r → Sees t.machine c r before now) where
     still : (p : S) → same → HasCome t o before p → HasCome t o now p
     still p s k = subst (λ h. HasCome t o h p) (sym (stays s)) k

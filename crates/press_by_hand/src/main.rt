@@ -1,5 +1,5 @@
-//! The press, driven by lines of text as its switches and its motor: a machine with sensors and
-//! motors of one's own.
+//! The press, driven by lines of text as its switches and its motor: a machine with your own
+//! sensors and motors.
 #![tactic(auto)]
 
 mod fault;

@@ -51,7 +51,7 @@ fn receipts_are_accepted(rt: HostRuntime) {
     assert!(rt; are_accepted(interlock, passes));
 }
 
-/// Whether the second of two calls, made after the first was told of, finds what the first did.
+/// Whether the second of two calls, made after a letter from the first, finds what the first did.
 fn is_told(interlock: &Interlock, mut passes: Passes) -> bool
     requires { ArePassesOf interlock.now passes }
 {
@@ -114,7 +114,7 @@ fn a_letter_is_heard(rt: HostRuntime) {
     assert!(rt; is_heard::<Brand, HostRuntime>(&rt, rt.alloc(), &interlock, first, second));
 }
 
-/// Whether letters go round three threads, and each caller is told higher stamps than its letters'.
+/// Whether letters go round three threads, and each caller gets higher stamps than its letters'.
 fn go_round<N: OfTable + Send + Sync, R: Threads + Wait + Sync>(
     rt: &R,
     alloc: Global,
