@@ -20,29 +20,28 @@ use Rattle.cell_rules.specs.Restamping.{IsSameFor}
 use Rattle.cell_rules.proofs.ProgramLemmas.{Keeps, reached-settles, reached-waits, reached-moves, reached-knows}
 use Rattle.cell_control.specs.declared.fault.CtlFault.{CtlFault}
 use Rattle.cell_control.specs.Faults.{fault_of}
-use Rattle.cell_control.specs.Steps.{Steps, Drives, waits_out, after_answer, outcome, program_of, InStepAfter, IsReached}
+use Rattle.cell_control.specs.Steps.{Steps, Drives, waits_out, after_answer, outcome, program_of, ComesFrom, GoesOn, InStepAfter, IsReached}
 
--- a program that has come from one step goes on from there
-pub reached_by : {S Sense Reading Act : Type 0} → (t : Steps S Sense Reading Act) (p q : S) (o : ModelState) (before now : List Event)
-    → ((first : S) → Reached (program_of t) first (own_events before t.machine) p → Reached (program_of t) first (own_events now t.machine) q) → IsReached t o before p → IsReached t o now q
-reached_by t p q o before now f k = record { renewals = k.renewals; first = k.first; in_step = k.in_step; come = f k.first k.come }
+-- a program that goes on stays reached
+pub reached_by : {S Sense Reading Act : Type 0} → (t : Steps S Sense Reading Act) (p q : S) (o : ModelState) (before now : List Event) → GoesOn t before p now q → IsReached t o before p → IsReached t o now q
+reached_by t p q o before now on k = record { renewals = k.renewals; first = k.first; in_step = k.in_step; come = on k.first k.come }
 
 -- a program at its start
 pub reached_first : {S Sense Reading Act : Type 0} → (t : Steps S Sense Reading Act) (p : S) (o : ModelState) (seen : List Event) → own_events seen t.machine ≡ [] → p ≡ t.start o → IsReached t o seen p
 reached_first t p o seen none begins = record { renewals = zero; first = p; in_step = begins; come = subst (λ h. Reached (program_of t) p h p) (sym none) (zero, refl) }
 
 -- a turn that asks
-pub reached_ask : {S Sense Reading Act : Type 0} → (t : Steps S Sense Reading Act) (p q : S) (c : Call) (r : Result Reply LineFault) (o : ModelState) (before now : List Event)
-    → t.call p ≡ Some c → SeenAfter t.machine c r o before now → IsReached t o before p → outcome t p r ≡ Ok q → IsReached t o now q
-reached_ask t p q c (Ok (Settled a stamp)) o before now e seen k l = reached_by t p q o before now (λ first come. reached-settles (program_of t) first p q t.machine c a before now seen.0 come e l) k
-reached_ask t p q c (Ok (Busy lost stamp)) o before now e seen k l =
+pub asks_on : {S Sense Reading Act : Type 0} → (t : Steps S Sense Reading Act) (p q : S) (c : Call) (r : Result Reply LineFault) (o : ModelState) (before now : List Event)
+    → t.call p ≡ Some c → SeenAfter t.machine c r o before now → outcome t p r ≡ Ok q → GoesOn t before p now q
+asks_on t p q c (Ok (Settled a stamp)) o before now e seen l first come = reached-settles (program_of t) first p q t.machine c a before now seen.0 come e l
+asks_on t p q c (Ok (Busy lost stamp)) o before now e seen l first come =
     let same : p ≡ q = cc in
-    subst (λ x. IsReached t o now x) same (reached_by t p p o before now (λ first come. reached-waits (program_of t) first p t.machine before now seen.0 come) k)
-reached_ask t p q c (Err fault) o before now e seen k l = cc
+    subst (λ x. ComesFrom t first now x) same (reached-waits (program_of t) first p t.machine before now seen.0 come)
+asks_on t p q c (Err fault) o before now e seen l first come = cc
 
 -- a turn that drives
-pub reached_drive : {S Sense Reading Act : Type 0} → (t : Steps S Sense Reading Act) (p q : S) (o : ModelState) (seen : List Event) → Drives t p q → IsReached t o seen p → IsReached t o seen q
-reached_drive t p q o seen d k = reached_by t p q o seen seen (λ first come. reached-moves (program_of t) first p q (own_events seen t.machine) come d) k
+pub drives_on : {S Sense Reading Act : Type 0} → (t : Steps S Sense Reading Act) (p q : S) (seen : List Event) → Drives t p q → GoesOn t seen p seen q
+drives_on t p q seen d first come = reached-moves (program_of t) first p q (own_events seen t.machine) come d
 
 -- an interlock that opens with the same state for the machine
 pub reached_carried : {S Sense Reading Act : Type 0} → (t : Steps S Sense Reading Act) (p : S) (o opened : ModelState) (before now : List Event)

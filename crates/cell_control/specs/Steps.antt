@@ -76,6 +76,14 @@ pub record Drives {S Sense Reading Act : Type 0} (t : Steps S Sense Reading Act)
 abbrev pub program_of : {S Sense Reading Act : Type 0} → Steps S Sense Reading Act → Program S
 program_of t = record { machine = t.machine; call = t.call; leads = λ p a q. after_answer t p a ≡ Ok q; moves = Drives t }
 
+-- by its machine's events in a history, and by turns that drive between them, a program has come from one step to another
+abbrev pub ComesFrom : {S Sense Reading Act : Type 0} → Steps S Sense Reading Act → S → List Event → S → Type 0
+ComesFrom t first seen p = Reached (program_of t) first (own_events seen t.machine) p
+
+-- from each step from which the program had come before, it has come now
+abbrev pub GoesOn : {S Sense Reading Act : Type 0} → Steps S Sense Reading Act → List Event → S → List Event → S → Type 0
+GoesOn {S = S} t before p now q = (first : S) → ComesFrom t first before p → ComesFrom t first now q
+
 -- Carried over from an interlock before: there the program was in step with the opening, and by what its machine saw it
 -- has come to this step. What the machine knows of the state that it saw last is so in this one.
 pub record IsCarriedOver {S Sense Reading Act : Type 0} (t : Steps S Sense Reading Act) (InStep : S → ModelState → Type 0) (p : S) (s : ModelState) : Type 0 where
@@ -85,7 +93,7 @@ pub record IsCarriedOver {S Sense Reading Act : Type 0} (t : Steps S Sense Readi
   pub legal : IsLegal opening seen
   pub first : S
   pub in_step : InStep first opening
-  pub come : Reached (program_of t) first (own_events seen t.machine) p
+  pub come : ComesFrom t first seen p
   pub same : IsSameFor t.machine (after opening seen) s
 
 -- A step is in step with a state if it is the first of the program there, with its notes; or, after this many renewals of
@@ -99,7 +107,7 @@ pub record IsReached {S Sense Reading Act : Type 0} (t : Steps S Sense Reading A
   pub renewals : ℕ
   pub first : S
   pub in_step : InStepAfter t renewals first opening
-  pub come : Reached (program_of t) first (own_events seen t.machine) p
+  pub come : ComesFrom t first seen p
 
 -- the same program with another check of the sensors
 abbrev pub with_senses : {S Sense Reading Act : Type 0} → Steps S Sense Reading Act → (Sense → Result Reading SensorFault → Type 0) → Steps S Sense Reading Act

@@ -1,6 +1,6 @@
-ghost use Rattle.std.specs.Prelude.{◌≡◌, Some, None, IfOk};
+ghost use Rattle.std.specs.Prelude.{◌≡◌, Some, None, [], IfOk};
 ghost use Rattle.cell_rules.specs.Seen.{heard_after};
-ghost use Rattle.cell_control.specs.Steps.{IsReached, outcome, after_refusal as refused_at};
+ghost use Rattle.cell_control.specs.Steps.{GoesOn, IsReached, outcome, after_refusal as refused_at};
 ghost use Rattle.cell_control.specs.Turns.{Performs, Reads, Turns, HearsTurn, HearsOnce};
 
 use crate::fault::CtlFault;
@@ -23,6 +23,7 @@ impl<P: Program> Controller<P> {
         ensures program { result.program ≡ program }
         ensures progress { result.progress ≡ (P.steps program).start state.now }
         ensures running { result.stopped ≡ None }
+        ensures reached { IsReached (P.steps program) state.now [] result.progress }
     {
         let progress = program.start(state);
         Controller {
@@ -67,6 +68,7 @@ impl<P: Program> Controller<P> {
         ensures opening { L.opening line.new ≡ L.opening line.old }
         ensures program { self.new.program ≡ self.old.program }
         ensures reached { self.new.stopped ≡ None → IsReached (P.steps self.new.program) (L.opening line.new) (L.seen line.new) self.new.progress }
+        ensures goes_on { self.new.stopped ≡ None → GoesOn (P.steps self.old.program) (L.seen line.old) self.old.progress (L.seen line.new) self.new.progress }
         ensures motor_demands { IfOk result (λ act. (P.steps self.old.program).motor_demands self.old.progress act (L.opening line.new) (L.seen line.new)) }
     {
         self.take_turn(line, &Values { sense: *sense }).act
@@ -98,6 +100,8 @@ impl<P: Program> Controller<P> {
         ensures program { self.new.program ≡ self.old.program }
         ensures reached { self.new.stopped ≡ None → IsReached (P.steps self.new.program)
             (L.opening line.new) (L.seen line.new) self.new.progress }
+        ensures goes_on { self.new.stopped ≡ None → GoesOn (P.steps self.old.program)
+            (L.seen line.old) self.old.progress (L.seen line.new) self.new.progress }
         ensures motor_demands { IfOk result.act (λ act. (P.steps self.old.program).motor_demands
             self.old.progress act (L.opening line.new) (L.seen line.new)) }
     {
@@ -161,6 +165,8 @@ fn perform<P: Program, L: Line, S: Sensors<Sense = P::Sense>>(
     ensures opening { L.opening line.new ≡ L.opening line.old }
     ensures reached { IfOk result.1 (λ led. IsReached (P.steps program.now)
         (L.opening line.new) (L.seen line.new) led.0) }
+    ensures goes_on { IfOk result.1 (λ led. GoesOn (P.steps program.now)
+        (L.seen line.old) progress (L.seen line.new) led.0) }
     ensures motor_demands { IfOk result.1 (λ led. (P.steps program.now).motor_demands
         progress led.1 (L.opening line.new) (L.seen line.new)) }
 {
