@@ -4,7 +4,7 @@ ghost use Rattle.cell_rules.specs.Start.{places_of, IsStart, start_state};
 ghost use Rattle.cell_rules.specs.Restamping.{restamped};
 ghost use Rattle.cell_rules.specs.Sound.{IsSound};
 ghost use Rattle.cell_types.specs.declared.answer.Answer.TheVariants.{Done};
-ghost use Rattle.cell_rules.specs.ModelState.{zone_at, is_full, model_state, plates_of};
+ghost use Rattle.cell_rules.specs.ModelState.{zone_at, is_full, model_state, plates_of, last_stamp};
 ghost use Rattle.cell_rules.specs.Refusals.{owner_of, posture_at};
 ghost use Rattle.cell_rules.specs.Reply as replies;
 
@@ -157,10 +157,10 @@ impl State {
         self.stamp
     }
 
-    /// The same zones, places and stop, with another stamp: what an interlock opens with that goes
-    /// on where another has ended.
+    /// The same zones, places and stop, with another stamp, which is at most `LAST_STAMP`: what an
+    /// interlock opens with that goes on where another has ended.
     pub fn restamped(&self, stamp: u32) -> State
-        requires small { stamp ≤ 1048575 }
+        requires small { stamp ≤ last_stamp }
         ensures { result ≡ restamped self.now stamp }
     {
         State { stamp, ..*self }
