@@ -13,3 +13,4 @@ pub mod Stopping
 pub mod Turned
 pub mod WrongRows
 pub mod Sensed
+pub mod Renewed

@@ -24,7 +24,8 @@ use Rattle.cell_haul.proofs.FeedFacts as feed_facts
 use Rattle.cell_robot.proofs.RobotFacts as robot_facts
 use Rattle.cell_stations.proofs.PressFacts as press_facts
 use Rattle.cell_stations.proofs.TableFacts as table_facts
-use Rattle.cell_team.specs.Team.{Team, robot_points, programs_of, program_with_stops, HaveCome}
+use Rattle.cell_team.specs.Team.{Team, robot_points, programs_of, program_with_stops}
+use Rattle.cell_team.specs.Renewals.{HaveComeFrom, first_team}
 use Rattle.cell_team.specs.Heeded.{AreHeeded, NoMachineIsRefused}
 use Rattle.cell_team.proofs.Waiting.{heeded}
 use Rattle.cell_team.proofs.Reaching.{OwnYieldless, AreYieldless, own_yieldless, yieldless, reached_both}
@@ -48,57 +49,64 @@ sound_free full stamp k =
 pub sound_start : (s : ModelState) → IsStartState s → IsSound s
 sound_start s k = subst IsSound (sym k.same) (sound_free s.full s.stamp k.start)
 
-module _ (c : CellScales) (opening : ModelState) (h : List Event) (team : Team) (start : IsStartState opening) (legal : IsLegal opening h) (by : HaveCome (programs_of c) opening h team) where
-  abbrev z : ModelState
-  z = after opening h
+-- what each machine knows at its step, of its zones and of the plates in them
+pub record AllKnow (team : Team) (z : ModelState) : Type 0 where
+  pub feed : feed_facts.FeedKnows team.feed z × feed.FeedMore team.feed z
+  pub table : table_facts.TableKnows team.table z × table.TableMore team.table z
+  pub robot : robot_facts.RobotKnows team.robot z × robot.RobotMore team.robot z
+  pub press : press_facts.PressKnows team.press z × press.PressMore team.press z
+  pub deposit : deposit_facts.DepositKnows team.deposit z × deposit.DepositMore team.deposit z
+  pub crane : crane_facts.CraneKnows team.crane z × crane.CraneMore team.crane z
 
-  begins : IsSound opening
-  begins = sound_start opening start
+pub all_begin : (c : CellScales) (opening : ModelState) → IsStartState opening → AllKnow (first_team (programs_of c) opening) opening
+all_begin c opening start = record {
+  feed = (feed_facts.feed_begins opening, feed.feed_begins opening start);
+  table = (tt, table.table_begins opening start);
+  robot = (robot_facts.at_choice (notes_at opening) opening, robot.robot_begins opening start);
+  press = (tt, press.press_begins opening start);
+  deposit = (tt, deposit.deposit_begins opening start);
+  crane = (crane_facts.crane_begins opening, crane.crane_begins opening start);
+}
 
-  sound : IsSound z
-  sound = sound-after opening h begins
+-- so the next call of each is heeded
+pub all_heeded : (c : CellScales) (z : ModelState) (team : Team) → IsSound z → AllKnow team z → AreHeeded (programs_of c) z team
+all_heeded c z team sound k = record {
+  feed = λ call r e f. heeded _ z Feed _ call r (feed.feed_heeds team.feed z sound (table.table_room team.table z k.table.1) k.feed.0 k.feed.1) e f;
+  table = λ call r e f. heeded _ z Table _ call r (table.table_heeds team.table z sound k.table.0 k.table.1) e f;
+  robot = λ call r e f. heeded _ z Robot _ call r (robot.robot_heeds team.robot z sound (deposit.deposit_room team.deposit z k.deposit.1) k.robot.0 k.robot.1) e f;
+  press = λ call r e f. heeded _ z Press _ call r (press.press_heeds team.press z sound k.press.0 k.press.1) e f;
+  deposit = λ call r e f. heeded _ z Deposit _ call r (deposit.deposit_heeds team.deposit z sound k.deposit.0 k.deposit.1) e f;
+  crane = λ call r e f. heeded _ z Crane _ call r (crane.crane_heeds team.crane z sound (feed.feed_room team.feed z k.feed.0 k.feed.1) k.crane.0 k.crane.1) e f;
+}
 
+module _ (c : CellScales) (opening : ModelState) (h : List Event) (first team : Team) (sound : IsSound opening) (legal : IsLegal opening h) (by : HaveComeFrom (programs_of c) first h team) where
   -- nobody hands over an empty zone
   own : OwnYieldless h
-  own Feed e = own_yieldless (program_with_stops feed_steps) (feed_start opening) team.feed (own_events h Feed) (λ p. feed.never_yields p.step p) by.feed
-  own Table e = own_yieldless (program_with_stops (table_steps c.turn (IsReading c.turn))) (table_start opening) team.table (own_events h Table) (λ p. table.never_yields p.step p) by.table
-  own Robot e = own_yieldless (program_with_stops (robot_steps (robot_points c) (near_lines (robot_points c)))) (robot_start opening) team.robot (own_events h Robot) (λ p. robot.never_yields p.step p) by.robot
-  own Press e = own_yieldless (program_with_stops press_steps) (press_start opening) team.press (own_events h Press) (λ p. press.never_yields p.step p) by.press
-  own Deposit e = own_yieldless (program_with_stops deposit_steps) (deposit_start opening) team.deposit (own_events h Deposit) (λ p. deposit.never_yields p.step p) by.deposit
-  own Crane e = own_yieldless (program_with_stops (crane_steps c.gripper (IsReading c.gripper))) (crane_start opening) team.crane (own_events h Crane) (λ p. crane.never_yields p.step p) by.crane
+  own Feed e = own_yieldless (program_with_stops feed_steps) first.feed team.feed (own_events h Feed) (λ p. feed.never_yields p.step p) by.feed
+  own Table e = own_yieldless (program_with_stops (table_steps c.turn (IsReading c.turn))) first.table team.table (own_events h Table) (λ p. table.never_yields p.step p) by.table
+  own Robot e = own_yieldless (program_with_stops (robot_steps (robot_points c) (near_lines (robot_points c)))) first.robot team.robot (own_events h Robot) (λ p. robot.never_yields p.step p) by.robot
+  own Press e = own_yieldless (program_with_stops press_steps) first.press team.press (own_events h Press) (λ p. press.never_yields p.step p) by.press
+  own Deposit e = own_yieldless (program_with_stops deposit_steps) first.deposit team.deposit (own_events h Deposit) (λ p. deposit.never_yields p.step p) by.deposit
+  own Crane e = own_yieldless (program_with_stops (crane_steps c.gripper (IsReading c.gripper))) first.crane team.crane (own_events h Crane) (λ p. crane.never_yields p.step p) by.crane
   own Watch e = cc
 
   polite : AreYieldless opening h
   polite = yieldless opening h own
 
-  -- what each machine knows at its step
-  feed_both : feed_facts.FeedKnows team.feed z × feed.FeedMore team.feed z
-  feed_both = reached_both feed_steps feed_facts.FeedKnows feed.FeedMore feed_facts.feed-knowing feed.feed-more (feed_start opening) team.feed opening h begins legal polite (feed_facts.feed_begins opening, feed.feed_begins opening start) by.feed
-
-  table_both : table_facts.TableKnows team.table z × table.TableMore team.table z
-  table_both = reached_both (table_steps c.turn (IsReading c.turn)) table_facts.TableKnows table.TableMore (table_facts.table-knowing c.turn (IsReading c.turn)) (table.table-more c.turn (IsReading c.turn)) (table_start opening) team.table opening h begins legal polite (tt, table.table_begins opening start) by.table
-
-  robot_both : robot_facts.RobotKnows team.robot z × robot.RobotMore team.robot z
-  robot_both = reached_both (robot_steps (robot_points c) (near_lines (robot_points c))) robot_facts.RobotKnows robot.RobotMore (robot_facts.robot-knowing (robot_points c) (near_lines (robot_points c))) (robot.robot-more (robot_points c) (near_lines (robot_points c))) (robot_start opening) team.robot opening h begins legal polite (robot_facts.at_choice (notes_at opening) opening, robot.robot_begins opening start) by.robot
-
-  press_both : press_facts.PressKnows team.press z × press.PressMore team.press z
-  press_both = reached_both press_steps press_facts.PressKnows press.PressMore press_facts.press-knowing press.press-more (press_start opening) team.press opening h begins legal polite (tt, press.press_begins opening start) by.press
-
-  deposit_both : deposit_facts.DepositKnows team.deposit z × deposit.DepositMore team.deposit z
-  deposit_both = reached_both deposit_steps deposit_facts.DepositKnows deposit.DepositMore deposit_facts.deposit-knowing deposit.deposit-more (deposit_start opening) team.deposit opening h begins legal polite (tt, deposit.deposit_begins opening start) by.deposit
-
-  crane_both : crane_facts.CraneKnows team.crane z × crane.CraneMore team.crane z
-  crane_both = reached_both (crane_steps c.gripper (IsReading c.gripper)) crane_facts.CraneKnows crane.CraneMore (crane_facts.crane-knowing c.gripper (IsReading c.gripper)) (crane.crane-more c.gripper (IsReading c.gripper)) (crane_start opening) team.crane opening h begins legal polite (crane_facts.crane_begins opening, crane.crane_begins opening start) by.crane
-
-  heeded_all : AreHeeded (programs_of c) z team
-  heeded_all = record {
-    feed = λ call r e f. heeded _ z Feed _ call r (feed.feed_heeds team.feed z sound (table.table_room team.table z table_both.1) feed_both.0 feed_both.1) e f;
-    table = λ call r e f. heeded _ z Table _ call r (table.table_heeds team.table z sound table_both.0 table_both.1) e f;
-    robot = λ call r e f. heeded _ z Robot _ call r (robot.robot_heeds team.robot z sound (deposit.deposit_room team.deposit z deposit_both.1) robot_both.0 robot_both.1) e f;
-    press = λ call r e f. heeded _ z Press _ call r (press.press_heeds team.press z sound press_both.0 press_both.1) e f;
-    deposit = λ call r e f. heeded _ z Deposit _ call r (deposit.deposit_heeds team.deposit z sound deposit_both.0 deposit_both.1) e f;
-    crane = λ call r e f. heeded _ z Crane _ call r (crane.crane_heeds team.crane z sound (feed.feed_room team.feed z feed_both.0 feed_both.1) crane_both.0 crane_both.1) e f;
+  -- what each machine knew it knows at its step
+  pub all_know : AllKnow first opening → AllKnow team (after opening h)
+  all_know k = record {
+    feed = reached_both feed_steps feed_facts.FeedKnows feed.FeedMore feed_facts.feed-knowing feed.feed-more first.feed team.feed opening h sound legal polite k.feed by.feed;
+    table = reached_both (table_steps c.turn (IsReading c.turn)) table_facts.TableKnows table.TableMore (table_facts.table-knowing c.turn (IsReading c.turn)) (table.table-more c.turn (IsReading c.turn)) first.table team.table opening h sound legal polite k.table by.table;
+    robot = reached_both (robot_steps (robot_points c) (near_lines (robot_points c))) robot_facts.RobotKnows robot.RobotMore (robot_facts.robot-knowing (robot_points c) (near_lines (robot_points c))) (robot.robot-more (robot_points c) (near_lines (robot_points c))) first.robot team.robot opening h sound legal polite k.robot by.robot;
+    press = reached_both press_steps press_facts.PressKnows press.PressMore press_facts.press-knowing press.press-more first.press team.press opening h sound legal polite k.press by.press;
+    deposit = reached_both deposit_steps deposit_facts.DepositKnows deposit.DepositMore deposit_facts.deposit-knowing deposit.deposit-more first.deposit team.deposit opening h sound legal polite k.deposit by.deposit;
+    crane = reached_both (crane_steps c.gripper (IsReading c.gripper)) crane_facts.CraneKnows crane.CraneMore (crane_facts.crane-knowing c.gripper (IsReading c.gripper)) (crane.crane-more c.gripper (IsReading c.gripper)) first.crane team.crane opening h sound legal polite k.crane by.crane;
   }
 
+-- from a start
 pub none-refused : NoMachineIsRefused
-none-refused c opening h team start legal by = heeded_all c opening h team start legal by
+none-refused c opening h team start legal by =
+    let sound = sound_start opening start in
+    let come : HaveComeFrom (programs_of c) (first_team (programs_of c) opening) h team = record { feed = by.feed; table = by.table; robot = by.robot; press = by.press; deposit = by.deposit; crane = by.crane } in
+    all_heeded c (after opening h) team (sound-after opening h sound) (all_know c opening h (first_team (programs_of c) opening) team sound legal come (all_begin c opening start))

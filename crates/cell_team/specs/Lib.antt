@@ -1,3 +1,4 @@
 pub mod Team
 pub mod Heeded
 pub mod WrongPrograms
+pub mod Renewals

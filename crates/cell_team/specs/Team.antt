@@ -83,9 +83,13 @@ pub record DrivesOn {S Sense Reading Act : Type 0} (t : Steps S Sense Reading Ac
 abbrev pub program_with_stops : {S Sense Reading Act : Type 0} → Steps S Sense Reading Act → Program S
 program_with_stops t = record { machine = t.machine; call = t.call; leads = LeadsOrStays t; moves = DrivesOn t }
 
--- a machine has come to a step by its own events in a history, and may have stopped there
+-- a machine has come from one step to another by its own events in a history, and may have stopped there
+abbrev pub HasComeFrom : {S Sense Reading Act : Type 0} → Steps S Sense Reading Act → S → List Event → S → Type 0
+HasComeFrom t first history p = Reached (program_with_stops t) first (own_events history t.machine) p
+
+-- likewise from its start
 abbrev pub HasCome : {S Sense Reading Act : Type 0} → Steps S Sense Reading Act → ModelState → List Event → S → Type 0
-HasCome t opening history p = Reached (program_with_stops t) (t.start opening) (own_events history t.machine) p
+HasCome t opening history p = HasComeFrom t (t.start opening) history p
 
 -- each machine has come to its step
 pub record HaveCome (t : Programs) (opening : ModelState) (history : List Event) (team : Team) : Type 0 where

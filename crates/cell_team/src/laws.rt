@@ -1,5 +1,6 @@
 //! Laws of the six programs together. Each is the contract of a function with an empty body.
 ghost use Rattle.cell_team.specs.Heeded.{NoMachineIsRefused, NoMachineIsStopped};
+ghost use Rattle.cell_team.specs.Renewals.{NoRenewedMachineIsRefused};
 ghost use Rattle.cell_team.specs.WrongPrograms.{WrongProgramsAreRefused};
 
 /// From every start, in each legal history in which each of the six machines has come by its own
@@ -8,6 +9,12 @@ ghost use Rattle.cell_team.specs.WrongPrograms.{WrongProgramsAreRefused};
 /// for, or as worn.
 pub fn no_machine_is_refused()
     ensures { NoMachineIsRefused }
+{}
+
+/// So it is after any number of renewals of the interlock, each of which opened with the state that
+/// the one before it left, but for the stamp, and with each machine at the step to which it had come.
+pub fn no_renewed_machine_is_refused()
+    ensures { NoRenewedMachineIsRefused }
 {}
 
 /// So in such a history no refusal has ever stopped a machine, but a worn one.

@@ -1,0 +1,57 @@
+-- Six machines that go on over one interlock after another, each of which opens where the one before it ended.
+use Rattle.std.specs.Prelude.{◌≡◌, ◌≤◌, ℕ, zero, suc, List}
+use Rattle.cell_types.specs.declared.answer.Event.{Event}
+use Rattle.cell_rules.specs.ModelState.{ModelState, last_stamp}
+use Rattle.cell_rules.specs.Restamping.{restamped}
+use Rattle.cell_rules.specs.History.{after, IsLegal}
+use Rattle.cell_rules.specs.Start.{IsStartState}
+use Rattle.cell_parts.specs.Axes.{CellScales}
+use Rattle.cell_team.specs.Team.{Programs, Team, programs_of, HasComeFrom}
+use Rattle.cell_team.specs.Heeded.{AreHeeded}
+
+-- the first step of each program, by the places that are full
+abbrev pub first_team : Programs → ModelState → Team
+first_team t opening =
+    record {
+      feed = t.feed.start opening;
+      table = t.table.start opening;
+      robot = t.robot.start opening;
+      press = t.press.start opening;
+      deposit = t.deposit.start opening;
+      crane = t.crane.start opening;
+    }
+
+-- each machine has come from its step to another
+pub record HaveComeFrom (t : Programs) (first : Team) (history : List Event) (team : Team) : Type 0 where
+  pub feed : HasComeFrom t.feed first.feed history team.feed
+  pub table : HasComeFrom t.table first.table history team.table
+  pub robot : HasComeFrom t.robot first.robot history team.robot
+  pub press : HasComeFrom t.press first.press history team.press
+  pub deposit : HasComeFrom t.deposit first.deposit history team.deposit
+  pub crane : HasComeFrom t.crane first.crane history team.crane
+
+-- An interlock was renewed: these steps are those to which the machines had come over the one before, which ended with
+-- this state but for the stamp.
+pub record IsRenewed (t : Programs) (Stand : ModelState → Team → Type 0) (opening : ModelState) (team : Team) : Type 0 where
+  pub before : ModelState
+  pub first : Team
+  pub stood : Stand before first
+  pub history : List Event
+  pub legal : IsLegal before history
+  pub come : HaveComeFrom t first history team
+  pub stamp : ℕ
+  pub in_range : stamp ≤ last_stamp
+  pub opens : opening ≡ restamped (after before history) stamp
+
+-- after this many renewals an interlock opens so, with the machines at these steps; the first one opened with a start
+abbrev pub StandAfter : Programs → ℕ → ModelState → Team → Type 0
+StandAfter t zero opening team = IsStartState opening × (team ≡ first_team t opening)
+StandAfter t (suc renewals) opening team = IsRenewed t (StandAfter t renewals) opening team
+
+-- by the cell's programs, after any number of renewals, whatever the order of the calls: the next call of each machine
+-- is heeded
+abbrev pub NoRenewedMachineIsRefused : Type 0
+NoRenewedMachineIsRefused =
+    (c : CellScales) (renewals : ℕ) (opening : ModelState) (history : List Event) (first team : Team)
+    → StandAfter (programs_of c) renewals opening first → IsLegal opening history → HaveComeFrom (programs_of c) first history team
+    → AreHeeded (programs_of c) (after opening history) team
