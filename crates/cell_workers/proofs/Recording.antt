@@ -17,6 +17,7 @@ use Rattle.cell_interlock.specs.Fresh.{fresh_pass}
 use Rattle.cell_control.specs.declared.fault.CtlFault.{CtlFault}
 use Rattle.cell_control.specs.Rigs.{Rig}
 use Rattle.cell_control.specs.Steps.{Steps, IsReached, with_senses}
+use Rattle.cell_control.proofs.StepLemmas.{reached_first}
 use Rattle.cell_haul.specs.CraneProgram.{Senses as CraneSenses, crane_steps}
 use Rattle.cell_robot.specs.RobotProgram.{Senses as RobotSenses, robot_steps}
 use Rattle.cell_stations.specs.TableProgram.{Senses as TableSenses, table_steps}
@@ -111,7 +112,7 @@ fitted_result tries t rig gate limit first kept journal did status stands points
 -- a machine at the beginning of its program, with a fresh pass, is ready
 pub ready_at_start : {S Sense Reading Act : Type 0} → (t : Steps S Sense Reading Act) (i : InterlockView) (pass : PassView) (stopped : Option CtlFault) (progress : S) → pass ≡ fresh_pass i t.machine → progress ≡ t.start i.opening
     → (pass.machine ≡ t.machine) × IsReady t pass.opening pass.seen stopped progress
-ready_at_start t i pass stopped progress e begins = (ap (λ (v : PassView). v.machine) e, λ runs. subst (λ (v : PassView). IsReached t v.opening v.seen progress) (sym e) (0, sym begins))
+ready_at_start t i pass stopped progress e begins = (ap (λ (v : PassView). v.machine) e, λ runs. subst (λ (v : PassView). IsReached t v.opening v.seen progress) (sym e) (reached_first t progress i.opening [] refl begins))
 
 -- what follows from a value, if there is one
 pub if_some : {A : Type 0} → (P Q : A → Type 0) → ((x : A) → P x → Q x) → (r : Option A) → IfSome r P → IfSome r Q
