@@ -5,3 +5,4 @@ mod CurveChoices
 pub mod SectionOrder
 pub mod ConfigRows
 pub mod LimitLaws
+pub mod CalibratedLaws

@@ -1,14 +1,22 @@
 //! Laws of configurations, each the contract of a function that does nothing.
 
-ghost use Rattle.std.specs.Prelude.{ℕ, List};
+ghost use Rattle.std.specs.Prelude.{◌≡◌, ℕ, List, Ok};
 ghost use Rattle.cell_config.specs.ConfigExamples.{ConfigsAreMet};
-ghost use Rattle.cell_config.specs.ConfigLaws.{LetterLimits, TextLimits};
+ghost use Rattle.cell_config.specs.ConfigLaws.{AreCalibrated, LetterLimits, TextLimits};
+ghost use Rattle.cell_config.specs.Settings.{Settings, settings_of};
 
 /// A text of more than 2,097,152 bytes is too long, and a schedule of more than 1,000,000 letters
 /// out of range, whatever else they contain.
 pub fn limits_come_first()
     ensures bytes { (bytes : List ℕ) → TextLimits bytes }
     ensures letters { (text : List ℕ) → LetterLimits text }
+{}
+
+/// A configuration that is taken gives five scales that fit their axes, and of each its line or a
+/// curve near it.
+pub fn settings_are_calibrated()
+    ensures { (bytes : List ℕ) (settings : Settings) → settings_of bytes ≡ Ok settings
+        → AreCalibrated settings }
 {}
 
 /// Examples: configurations and what they say, or why they are refused: each key, each kind, both
