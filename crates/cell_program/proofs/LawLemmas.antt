@@ -59,7 +59,7 @@ well =
     record {
       reported = λ r old new k. (each_fine r k.0, k.1.0);
       replayed = λ bytes text k. k;
-      simulated = λ bytes text k. (k.0, k.1.0, k.1.1.1, each_fine k.0 k.1.1.0);
+      simulated = λ bytes text k. (k.0, k.1.0.0, k.1.1.1, each_fine k.0 k.1.1.0);
       ran = λ turns tries bytes text k.
           let tells = k.1.0 in
           (k.0, tells, k.1.1.1, (each_fine k.0 k.1.1.0, (tells.run.history, audited_work tells.scales (on_curves tells.settings.curves) tells.settings.start tries turns k.0 tells.run)), all_turns tells.scales (on_curves tells.settings.curves) tells.settings.start tries turns k.0 tells.run k.1.1.0);

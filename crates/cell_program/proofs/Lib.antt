@@ -1,10 +1,10 @@
 mod ReportLemmas
 mod PrefixLemmas
 mod AuditLemmas
+mod PlaceLemmas
+mod TextLemmas
 mod SimLemmas
 mod RunLemmas
 mod LawLemmas
-mod TextLemmas
-mod PlaceLemmas
 mod AskLemmas
 mod ServeLemmas

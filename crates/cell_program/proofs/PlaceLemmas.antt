@@ -56,8 +56,17 @@ same_turn x y h = cc
 same_gripper : (x y : CellScales) → in_order x ≡ in_order y → x.gripper ≡ y.gripper
 same_gripper x y h = cc
 
--- scales in the same places fit the same axes
-fit_alike : (x y : CellScales) → in_order x ≡ in_order y → AreCellScales x → AreCellScales y
+-- scales in the same places are the same, and fit the same axes
+pub same_scales : (x y : CellScales) → in_order x ≡ in_order y → x ≡ y
+same_scales x y h =
+    let arm1 = same_arm1 x y h in
+    let arm2 = same_arm2 x y h in
+    let rotation = same_rotation x y h in
+    let turn = same_turn x y h in
+    let gripper = same_gripper x y h in
+    λ i. record { arm1 = arm1 i; arm2 = arm2 i; rotation = rotation i; turn = turn i; gripper = gripper i }
+
+pub fit_alike : (x y : CellScales) → in_order x ≡ in_order y → AreCellScales x → AreCellScales y
 fit_alike x y h k = record {
   arm1 = subst (IsAxisScale arm_end) (same_arm1 x y h) k.arm1;
   arm2 = subst (IsAxisScale arm_end) (same_arm2 x y h) k.arm2;

@@ -20,7 +20,7 @@ use Rattle.cell_config.specs.declared.fault.ConfigFault.{ConfigFault}
 use Rattle.cell_rules.specs.Audited.{EndsIn, IsAudited}
 use Rattle.cell_program.specs.declared.exit.Exit.TheVariants.{Well, Failed}
 use Rattle.cell_program.specs.Reported.{ReportTold}
-use Rattle.cell_program.specs.Served.{SimFails, TellsRunOf, WasSimulated, fault_line}
+use Rattle.cell_program.specs.Served.{HasOneReport, SimFails, TellsOneRunOf, TellsRunOf, WasSimulated, fault_line}
 use Rattle.cell_program.proofs.AuditLemmas.{report_fails}
 
 -- the history of a run is one that an audit of its journals looks for
@@ -36,13 +36,15 @@ audited_run c gives opening turns r t = subst (λ s. IsAudited s (journal_of r.j
 abbrev given : Config → CellGauges
 given config = on_curves (map pairs_of config.curves)
 
-module _ (old new : Option (List ℕ)) where
+module _ (one : (bytes : List ℕ) (r : RunRecord) → TellsRunOf bytes r → HasOneReport bytes r) (old new : Option (List ℕ)) where
   pub config_refused : (o : Option (List ℕ)) (fault : ConfigFault) → IfSome o (λ bytes. Says bytes (Err fault)) → WrotePrefix old new (fault_line (config_fault_text fault)) → IfSome o (λ bytes. SimFails bytes old new)
   config_refused None fault k w = tt
   config_refused (Some bytes) fault k w = inl (fault, (k, w))
 
-  tells_of : (bytes : List ℕ) (config : Config) (r : RunRecord) (c : CellScales) → settings_of bytes ≡ Ok (shown config) → config.points ≡ in_order c → TellsRun c (given config) config.start config.schedule.items r → TellsRunOf bytes r
-  tells_of bytes config r c k points run = record { settings = shown config; said = k; scales = c; points = points; run = run }
+  tells_of : (bytes : List ℕ) (config : Config) (r : RunRecord) (c : CellScales) → settings_of bytes ≡ Ok (shown config) → config.points ≡ in_order c → TellsRun c (given config) config.start config.schedule.items r → TellsOneRunOf bytes r
+  tells_of bytes config r c k points run =
+      let tells : TellsRunOf bytes r = record { settings = shown config; said = k; scales = c; points = points; run = run } in
+      (tells, one bytes r tells)
 
   pub sim_well : (o : Option (List ℕ)) (config : Config) (r : RunRecord) (c : CellScales) → IfSome o (λ bytes. Says bytes (Ok config)) → config.points ≡ in_order c → TellsRun c (given config) config.start config.schedule.items r
       → ReportTold Well r old new → WasSimulated o old new

@@ -47,12 +47,22 @@ pub record TellsRunOf (bytes : List ℕ) (r : RunRecord) : Type 0 where
   pub points : settings.points ≡ in_order scales
   pub run : TellsRun scales (on_curves settings.curves) settings.start settings.schedule r
 
+-- if no machine was stopped, every run of this configuration in which none is has the same report
+abbrev pub HasOneReport : List ℕ → RunRecord → Type 0
+HasOneReport bytes r =
+    AreFine r.status → (s : RunRecord) (audit : Option AuditFault) → TellsRunOf bytes s → AreFine s.status
+    → report_text s audit ≡ report_text r audit
+
+-- a record is of the run of the configuration, and there is one report of it
+abbrev pub TellsOneRunOf : List ℕ → RunRecord → Type 0
+TellsOneRunOf bytes r = TellsRunOf bytes r × HasOneReport bytes r
+
 -- the cell was simulated, no machine was stopped, and the report was written, with the line that the audit found a
 -- history
 abbrev pub WasSimulated : Option (List ℕ) → Option (List ℕ) → Option (List ℕ) → Type 0
 WasSimulated remaining old new =
     IfSome remaining (λ bytes. (r : RunRecord)
-    × (TellsRunOf bytes r × (AreFine r.status × Appends old new (report_text r None))))
+    × (TellsOneRunOf bytes r × (AreFine r.status × Appends old new (report_text r None))))
 
 -- the audit fails only if memory runs out
 abbrev pub IsAuditOf : Option AuditFault → Type 0
@@ -73,7 +83,7 @@ abbrev pub SimFails : List ℕ → Option (List ℕ) → Option (List ℕ) → T
 SimFails bytes old new =
     ((fault : ConfigFault) × (Says bytes (Err fault) × WrotePrefix old new (fault_line (config_fault_text fault))))
     ⊎ (WrotePrefix old new (fault_line (codes "memory"))
-    ⊎ ((r : RunRecord) × (TellsRunOf bytes r × ReportFails r old new)))
+    ⊎ ((r : RunRecord) × (TellsOneRunOf bytes r × ReportFails r old new)))
 
 -- a record is of six workers with a gate that is always open
 abbrev pub TellsWorkers : CellScales → CellGauges → ModelState → ℕ → ℕ → RunRecord → Type 0

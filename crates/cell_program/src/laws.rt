@@ -3,6 +3,8 @@ ghost use Rattle.cell_program.specs.Asked.{WordsAreServed};
 ghost use Rattle.cell_program.specs.OneText.{ReportsAreOne};
 ghost use Rattle.cell_program.specs.Laws.{FaultLinesAreMet, StatusZeroIsWell, TurnsAreTold};
 
+use cell_calib::laws::one_position;
+
 /// In a run by six workers a machine takes no more turns than it may, and all of them if its status
 /// is `Fine`. Each turn has at most one answer, and no gate keeps a machine out.
 pub fn turns_are_told()
@@ -17,10 +19,13 @@ pub fn status_zero_is_well()
 {}
 
 /// Two simulations of one schedule from one start by the same curves have one report, if no machine
-/// is stopped in them. So of status 0 there is one text.
+/// is stopped in them. What a configuration's bytes say is enough for that. So a simulation with
+/// status 0 writes a text that the bytes alone decide.
 pub fn reports_are_one()
     ensures { ReportsAreOne }
-{}
+{
+    one_position();
+}
 
 /// What is said of `serve` for words that ask for a replay or a simulation holds for the program's
 /// name alone, and for the words `replay` and `sim` after it.

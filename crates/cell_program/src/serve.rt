@@ -46,7 +46,8 @@ where
         (W.contents writer.old) (W.contents writer.new) }
 
     // With `sim` after the name: status 0 says that the run was simulated and audited, no machine
-    // was stopped and the report was written, status 1 what was written.
+    // was stopped and the report was written, status 1 what was written. Where no machine was
+    // stopped, the report is the one of this configuration.
     ensures simulation { AskFor Mode.Sim (texts_of words.now) →
         Simulates result (R.remaining reader.old) (R.remaining reader.new)
         (W.contents writer.old) (W.contents writer.new) }

@@ -15,6 +15,7 @@ ghost use Rattle.cell_program.specs.Gauges.{scales_by_points};
 use crate::exit::Exit;
 use crate::faults::fail;
 use crate::gauges::{CellPoints, cell_with_gauges};
+use crate::laws::reports_are_one;
 use crate::reporting::report;
 use cell_calib::Gauge;
 use cell_config::{Config, read_config};
@@ -34,6 +35,7 @@ pub fn serve_sim<R: Read, W: Write>(alloc: Global, reader: &mut R, writer: &mut 
         SimFails bytes (W.contents writer.old) (W.contents writer.new)) }
     ensures read { TakesAtMost (R.remaining reader.old) (R.remaining reader.new) max_bytes_read }
 {
+    reports_are_one();
     let config = match read_config(alloc, reader) {
         Ok(config) => config,
         Err(fault) => return fail(writer, fault.text()),
