@@ -3,9 +3,9 @@
    The state of the cell is one 64-bit word. bagunjoki_step answers a call on such a word, and gives the word after it.
    bagunjoki_ask makes a call on a word that threads or processes share.
 
-   What is proved (crates/cell_c): what the six functions of the library return. What isn't: the loop of bagunjoki_ask,
-   which your compiler translates. It is right if
-     - nothing but bagunjoki_ask writes the word after it was set to a start's, and
+   What is proved (crates/cell_c): what the seven functions of the library return. What isn't: the loops of
+   bagunjoki_ask and bagunjoki_renew, which your compiler translates. They are right if
+     - nothing but these two writes the word after it was set to a start's, and
      - no two callers call as the same machine.
    This header can't keep you from either. docs/FROM_C.md has the whole list of duties. */
 #ifndef BAGUNJOKI_H
@@ -124,7 +124,7 @@ enum bagunjoki_answer {
 /* No state has this word. */
 #define BAGUNJOKI_NO_WORD UINT64_MAX
 
-/* The last stamp: when a word has it, the interlock is worn. */
+/* The last stamp: when a word has it, the interlock is worn. bagunjoki_renew keeps it from that. */
 #define BAGUNJOKI_LAST_STAMP 1048575
 
 /* What a call gives back. */
@@ -147,10 +147,13 @@ bagunjoki_reply bagunjoki_step(uint64_t word, uint8_t machine, uint8_t verb, uin
    All zones are free and closed. NO_WORD if there is no such start. `digits` mustn't be null. */
 uint64_t bagunjoki_start(const uint8_t *digits, size_t length, uint32_t stamp);
 
+/* The word of the same state with another stamp. NO_WORD if the word is no state's, or if the stamp is past the last. */
+uint64_t bagunjoki_restamp(uint64_t word, uint32_t stamp);
+
 /* Whether the word is a state's. */
 bool bagunjoki_is_state(uint64_t word);
 
-/* The stamp of a state's word: how many calls were DONE, after the first stamp. */
+/* The stamp of a state's word: how many calls were DONE, after the first stamp or that of the last renewal. */
 uint32_t bagunjoki_stamp(uint64_t word);
 
 /* Whether the cell is stopped. False if the word is no state's. */
@@ -198,6 +201,21 @@ static inline bagunjoki_reply bagunjoki_ask(bagunjoki_word *shared, uint8_t mach
         if (BAGUNJOKI_ATOMIC(compare_exchange_strong)(shared, &word, reply.next)) return reply;
         tries--;
     }
+}
+
+/* Keeps a shared word from wearing out: if its stamp is `from` or later, gives it the stamp `to`, and changes nothing
+   else of the state. One load, and at most `tries` exchanges. Any thread may do this at any moment, also while others
+   call: to a call that is under way it is a change by others. Do it in each turn: bagunjoki_renew(&word, 1000000, 0, 8).
+   False if it is still to be done: all exchanges were lost, or the word is no state's, or `to` is past LAST_STAMP. */
+static inline bool bagunjoki_renew(bagunjoki_word *shared, uint32_t from, uint32_t to, unsigned tries) {
+    uint64_t word = BAGUNJOKI_ATOMIC(load)(shared);
+    while (bagunjoki_stamp(word) >= from) {
+        uint64_t next = bagunjoki_restamp(word, to);
+        if (next == BAGUNJOKI_NO_WORD || tries == 0) return false;
+        if (BAGUNJOKI_ATOMIC(compare_exchange_strong)(shared, &word, next)) return true;
+        tries--;
+    }
+    return true;
 }
 
 #undef BAGUNJOKI_ATOMIC

@@ -191,18 +191,23 @@ def library_path():
     return found
 
 
+WORD, BYTE, STAMP = ctypes.c_uint64, ctypes.c_uint8, ctypes.c_uint32
+# The library's functions: what each gives, and its arguments.
+FUNCTIONS = {
+    "step": (RawReply, [WORD, BYTE, BYTE, BYTE]),
+    "start": (WORD, [ctypes.c_char_p, ctypes.c_size_t, STAMP]),
+    "restamp": (WORD, [WORD, STAMP]),
+    "is_state": (ctypes.c_bool, [WORD]),
+    "stamp": (STAMP, [WORD]),
+    "is_stopped": (ctypes.c_bool, [WORD]),
+    "is_full": (ctypes.c_bool, [WORD, BYTE]),
+}
+
+
 def load_library(path=None):
     """The library, with the types of its functions."""
     library = ctypes.CDLL(path or library_path())
-    word, byte = ctypes.c_uint64, ctypes.c_uint8
-    for name, result, arguments in [
-        ("step", RawReply, [word, byte, byte, byte]),
-        ("start", word, [ctypes.c_char_p, ctypes.c_size_t, ctypes.c_uint32]),
-        ("is_state", ctypes.c_bool, [word]),
-        ("stamp", ctypes.c_uint32, [word]),
-        ("is_stopped", ctypes.c_bool, [word]),
-        ("is_full", ctypes.c_bool, [word, byte]),
-    ]:
+    for name, (result, arguments) in FUNCTIONS.items():
         function = getattr(library, f"bagunjoki_{name}")
         function.restype, function.argtypes = result, arguments
     return library
@@ -245,9 +250,10 @@ def reply_of(raw, stamp):
 class Word:
     """An interlock, whose state is one word. Threads of one program may share it: a lock keeps their calls apart."""
 
-    def __init__(self, places="0000000000", stamp=0, library=None):
-        """A start: ten digits, 1 where there is a plate, and the first stamp."""
-        self.library = library or load_library()
+    def __init__(self, places="0000000000", stamp=0, library=None, renews=False):
+        """A start: ten digits, 1 where there is a plate, and the first stamp. If it renews, a call after the last stamp
+        first gives it the stamp 0; if not, such a call is worn."""
+        self.library, self.renews = library or load_library(), renews
         digits = places.encode()
         self.value = self.library.bagunjoki_start(digits, len(digits), stamp) if 0 <= stamp <= LAST_STAMP else NO_WORD
         self.lock = threading.Lock()
@@ -261,15 +267,29 @@ class Word:
             raise ValueError(f"{word_of(verb)} takes {'no' if thing else 'an'} object")
         about = 0 if thing is None else named(Pose if verb == Verb.SET_POSE else Zone, thing)
         with self.lock:
+            if self.renews and self.stamp == LAST_STAMP:
+                self.value = self.restamped(0)
             raw = self.library.bagunjoki_step(self.value, machine, verb, about)
             if raw.answer in (Answer.NO_CALL, Answer.NO_STATE):
                 raise ValueError(f"{word_of(Answer(raw.answer))}: {machine}, {verb}, {about}, {self.value:#x}")
             self.value = raw.next
         return reply_of(raw, self.library.bagunjoki_stamp(raw.next))
 
+    def restamped(self, stamp):
+        """The word of the same state with another stamp."""
+        value = self.library.bagunjoki_restamp(self.value, stamp) if 0 <= stamp <= LAST_STAMP else NO_WORD
+        if value == NO_WORD:
+            raise ValueError(f"no state of {self.value:#x} has the stamp {stamp}")
+        return value
+
+    def restamp(self, stamp=0):
+        """Gives the word another stamp, and changes nothing else of the state."""
+        with self.lock:
+            self.value = self.restamped(stamp)
+
     @property
     def stamp(self):
-        """How many calls were done, after the first stamp."""
+        """How many calls were done, after the first stamp or that of the last renewal."""
         return self.library.bagunjoki_stamp(self.value)
 
     @property

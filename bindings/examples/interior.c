@@ -19,5 +19,8 @@ int main(void) {
     ask("press releases", BAGUNJOKI_PRESS, BAGUNJOKI_RELEASE, BAGUNJOKI_Z3);
     ask("robot claims", BAGUNJOKI_ROBOT, BAGUNJOKI_CLAIM, BAGUNJOKI_Z3);
     ask("watch inquires", BAGUNJOKI_WATCH, BAGUNJOKI_INQUIRE, BAGUNJOKI_Z3);
+    /* (a plant renews from a stamp near the end) */
+    if (!bagunjoki_renew(&cell, 2, 0, 8)) return 1;
+    ask("renewed, press claims", BAGUNJOKI_PRESS, BAGUNJOKI_CLAIM, BAGUNJOKI_Z3);
     return 0;
 }

@@ -16,6 +16,8 @@ class Interlock {
         return bagunjoki_ask(&word, machine, verb, zone, 8);
     }
 
+    bool renew(uint32_t from) { return bagunjoki_renew(&word, from, 0, 8); }
+
   private:
     bagunjoki_word word;
 };
@@ -32,4 +34,6 @@ int main() {
     ask("press releases", BAGUNJOKI_PRESS, BAGUNJOKI_RELEASE);
     ask("robot claims", BAGUNJOKI_ROBOT, BAGUNJOKI_CLAIM);
     ask("watch inquires", BAGUNJOKI_WATCH, BAGUNJOKI_INQUIRE);
+    if (!cell.renew(2)) return 1; // (a plant renews from a stamp near the end)
+    ask("renewed, press claims", BAGUNJOKI_PRESS, BAGUNJOKI_CLAIM);
 }

@@ -3,14 +3,19 @@
 from bagunjoki import Answer, Machine, Verb, Word, Zone
 
 cell = Word()
-for what, machine, verb in [
-    ("press claims", Machine.PRESS, Verb.CLAIM),
-    ("robot claims", Machine.ROBOT, Verb.CLAIM),
-    ("press releases", Machine.PRESS, Verb.RELEASE),
-    ("robot claims", Machine.ROBOT, Verb.CLAIM),
-    ("watch inquires", Machine.WATCH, Verb.INQUIRE),
-]:
+
+
+def ask(what, machine, verb):
     reply = cell.ask(machine, verb, Zone.Z3)
     owner, posture = int(reply.owner or 0), int(reply.posture or 0)
     print(f"{what}: answer {int(reply.answer)}, owner {owner}, posture {posture}, stamp {reply.stamp}")
-assert reply.answer == Answer.SHOWN
+    return reply
+
+
+ask("press claims", Machine.PRESS, Verb.CLAIM)
+ask("robot claims", Machine.ROBOT, Verb.CLAIM)
+ask("press releases", Machine.PRESS, Verb.RELEASE)
+ask("robot claims", Machine.ROBOT, Verb.CLAIM)
+assert ask("watch inquires", Machine.WATCH, Verb.INQUIRE).answer is Answer.SHOWN
+cell.restamp(0)  # (a Word with renews=True does this by itself, after the last stamp)
+ask("renewed, press claims", Machine.PRESS, Verb.CLAIM)

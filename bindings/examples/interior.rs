@@ -2,7 +2,7 @@
 //!
 //!     rustc -O --edition 2021 interior.rs -L PREFIX/lib -l static=bagunjoki
 //!
-//! It needs Rust 1.82. Only `Interlock::ask` writes the word, which is private: safe Rust can't spoil it.
+//! It needs Rust 1.82. Only `ask` and `renew` write the word, which is private: safe Rust can't spoil it.
 use std::sync::atomic::{AtomicU64, Ordering::SeqCst};
 
 const ROBOT: u8 = 3;
@@ -30,6 +30,7 @@ unsafe extern "C" {
     safe fn bagunjoki_step(word: u64, machine: u8, verb: u8, object: u8) -> Reply;
     fn bagunjoki_start(digits: *const u8, length: usize, stamp: u32) -> u64;
     safe fn bagunjoki_stamp(word: u64) -> u32;
+    safe fn bagunjoki_restamp(word: u64, stamp: u32) -> u64;
 }
 
 pub struct Interlock(AtomicU64);
@@ -60,10 +61,30 @@ impl Interlock {
             _ => reply,
         }
     }
+
+    /// What `bagunjoki_renew` of the header does, to the stamp 0.
+    pub fn renew(&self, from: u32, tries: u32) -> bool {
+        let mut word = self.0.load(SeqCst);
+        for _ in 0..tries {
+            let next = bagunjoki_restamp(word, 0);
+            if bagunjoki_stamp(word) < from || next == u64::MAX {
+                break;
+            }
+            match self.0.compare_exchange(word, next, SeqCst, SeqCst) {
+                Ok(_) => return true,
+                Err(found) => word = found,
+            }
+        }
+        bagunjoki_stamp(word) < from
+    }
 }
 
 fn main() {
     let cell = Interlock::new("0000000000").expect("a start");
+    let ask = |what: &str, machine, verb| {
+        let Reply { next, answer, owner, posture, .. } = cell.ask(machine, verb, Z3, 8);
+        println!("{what}: answer {answer}, owner {owner}, posture {posture}, stamp {}", bagunjoki_stamp(next));
+    };
     let rows = [
         ("press claims", PRESS, CLAIM),
         ("robot claims", ROBOT, CLAIM),
@@ -72,7 +93,9 @@ fn main() {
         ("watch inquires", WATCH, INQUIRE),
     ];
     for (what, machine, verb) in rows {
-        let Reply { next, answer, owner, posture, .. } = cell.ask(machine, verb, Z3, 8);
-        println!("{what}: answer {answer}, owner {owner}, posture {posture}, stamp {}", bagunjoki_stamp(next));
+        ask(what, machine, verb);
     }
+    // (a plant renews from a stamp near the end)
+    assert!(cell.renew(2, 8));
+    ask("renewed, press claims", PRESS, CLAIM);
 }

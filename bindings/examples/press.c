@@ -106,6 +106,7 @@ int main(void) {
     enum reading reading;
     bagunjoki_open(&cell, bagunjoki_start((const uint8_t *)"0000100000", 10, 0));
     while ((reading = read_switches(&now)) != END) {
+        bagunjoki_renew(&cell, 1000000, 0, 8);
         enum motor motor = reading == READ ? turn(&press, now) : OFF;
         set_motor(motor, reading == UNREAD ? " unread" : press.has_stopped ? ": stopped" : "");
     }

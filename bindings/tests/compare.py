@@ -1,4 +1,4 @@
-"""Compares the numbers and words of bagunjoki.h and bagunjoki.py with those of the crates."""
+"""Compares the numbers, words and functions of bagunjoki.h and bagunjoki.py with those of the crates."""
 
 import importlib.util
 import re
@@ -8,10 +8,14 @@ REPLIES = "crates/cell_c/specs/Replies.antt"
 REFUSALS = "crates/cell_types/specs/Refusals.antt"
 STAMPS = "crates/cell_rules/specs/ModelState.antt"
 STRUCT = "crates/cell_c/src/reply.rt"
+EXPORTS = "crates/cell_c/src/exports.rt"
 WORDS = [f"crates/cell_types/src/{it}.rt" for it in ("machine", "zone", "place", "posture", "pose", "call", "answer")]
 # What the header alone has: of the loop, whose answer the library can't give.
 OF_THE_LOOP = {"answer": {"BUSY": 66}}
-TYPES = {"uint64_t": "u64", "uint8_t": "u8", "bool": "bool", "c_ulong": "u64", "c_ubyte": "u8", "c_bool": "bool"}
+TYPES = {"uint64_t": "u64", "uint32_t": "u32", "uint8_t": "u8", "size_t": "u64", "bagunjoki_reply": "Reply"}
+TYPES |= {"c_ulong": "u64", "c_uint": "u32", "c_ubyte": "u8", "c_bool": "bool", "RawReply": "Reply", "c_char_p": "*u8"}
+# A slice is handed over as two arguments.
+SLICE = {"&[u8]": ["*u8", "u64"]}
 
 
 def text_of(path):
@@ -81,6 +85,33 @@ def of_module(root):
     return found, limits, [(name, TYPES.get(kind.__name__, kind.__name__)) for name, kind in from_file.RawReply._fields_]
 
 
+def functions_of_crate(root):
+    """The exported functions: what each gives, and its arguments."""
+    found = {}
+    text = text_of(f"{root}/{EXPORTS}")
+    for name, arguments, gives in re.findall(r'^pub extern "C" fn bagunjoki_(\w+)\((.*?)\) -> (\w+)$', text, re.M | re.S):
+        kinds = re.findall(r"\w+: ([^,\s]+)", arguments)
+        found[name] = [gives] + [it for kind in kinds for it in SLICE.get(kind, [kind])]
+    return found
+
+
+def functions_of_header(root):
+    """The same as the header has them."""
+    found = {}
+    text = text_of(f"{root}/bindings/bagunjoki.h")
+    for gives, name, arguments in re.findall(r"^(\w+) bagunjoki_(\w+)\((.*)\);$", text, re.M):
+        kinds = [it.removeprefix("const ").rpartition(" ")[::2] for it in arguments.split(", ")]
+        kinds = [("*" if name.startswith("*") else "") + TYPES.get(kind, kind) for kind, name in kinds]
+        found[name] = [TYPES.get(gives, gives), *kinds]
+    return found
+
+
+def functions_of_module(root):
+    """The same as the module has them."""
+    named = lambda kind: TYPES.get(kind.__name__, kind.__name__)
+    return {name: [named(it) for it in (gives, *takes)] for name, (gives, takes) in module(root).FUNCTIONS.items()}
+
+
 def wrong_words(root):
     """Names whose word isn't the one that cell_types has."""
     from_file, said, count = module(root), [], 0
@@ -110,6 +141,11 @@ def differences(root):
             said.append(f"the limits are {its_limits} in {where}, and {limits} in the crates")
         if its_fields != fields:
             said.append(f"a reply is {its_fields} in {where}, and {fields} in the crates")
+    functions = functions_of_crate(root)
+    for where, its in (("bagunjoki.h", functions_of_header(root)), ("bagunjoki.py", functions_of_module(root))):
+        for name in sorted({*functions, *its}):
+            if functions.get(name) != its.get(name):
+                said.append(f"{name} is of {its.get(name)} in {where}, and of {functions.get(name)} in the crates")
     if OF_THE_LOOP["answer"]["BUSY"] in numbers["answer"].values():
         said.append("the library has the number of BUSY")
     return said

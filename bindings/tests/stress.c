@@ -1,10 +1,11 @@
 /* Seven machines call one shared word, each with its own calls, and note each call and what came of it. It judges
    nothing: bench/stress/check.py does, whose input and output are those of bench/stress/main.txt.
 
-     stress           seven threads
-     stress processes three processes that share memory, of feed and table, robot and press, and the others
+     stress             seven threads
+     stress processes   three processes that share memory, of feed and table, robot and press, and the others
+     stress .. renewals all of them renew the word before their calls; renewals.py judges that
 
-   With PLANTED a call is a load and a plain store, which has to be found. */
+   With PLANTED a call is a load and a plain store, with PLANTED_RENEWAL a renewal is: both have to be found. */
 #define _GNU_SOURCE
 #include "bagunjoki.h"
 #include <pthread.h>
@@ -166,6 +167,22 @@ static uint64_t ask(struct caller *it, struct call call, bool by_steps) {
     return note_of(call, reply, lost, by_steps);
 }
 
+/* Each renewal leads into a range of stamps of its own, below the last one: so notes say how many came before. */
+enum { RANGE = 16384, CHANGES = 2000 };
+static bool renews;
+static void renew(void) {
+    uint64_t word = atomic_load(&shared->word);
+    uint32_t range = bagunjoki_stamp(word) / RANGE * RANGE, from = range + CHANGES;
+    if (!renews || range == 0) return;
+#ifdef PLANTED_RENEWAL
+    if (bagunjoki_stamp(word) < from) return;
+    sched_yield();
+    atomic_store(&shared->word, bagunjoki_restamp(word, range - RANGE));
+#else
+    bagunjoki_renew(&shared->word, from, range - RANGE, (unsigned)plan.tries);
+#endif
+}
+
 /* Waits until all are there; later it lets those that are far behind go on for a while. */
 static void gather(void) {
     atomic_fetch_add(&shared->there, 1);
@@ -185,6 +202,7 @@ static void call_once(struct caller *it) {
     if (plan.letters && below(it, 100) < plan.letters)
         add_note(it, atomic_load(&shared->told[below(it, MACHINES)]) | (uint64_t)CHECK_LETTER << 20);
     struct call call = next_call(it);
+    renew();
     uint64_t note = ask(it, call, below(it, 100) < plan.by_steps);
     add_note(it, note);
     atomic_store(&shared->told[it->machine - 1], note & BAGUNJOKI_LAST_STAMP);
@@ -277,9 +295,11 @@ static void look_last(uint64_t *last) {
 }
 
 int main(int count, char **words) {
+    bool in_processes = count > 1 && strcmp(words[1], "processes") == 0;
+    renews = count > 1 && strcmp(words[count - 1], "renewals") == 0;
     if (!read_plan()) return 2;
     prepare();
-    bool is_good = count > 1 && strcmp(words[1], "processes") == 0 ? run_processes() : run_threads();
+    bool is_good = in_processes ? run_processes() : run_threads();
     uint64_t last[ZONES + 1];
     look_last(last);
     for (unsigned k = 0; k < MACHINES; k++) fwrite(callers[k].notes, sizeof(uint64_t), callers[k].notes[0] + 1, stdout);

@@ -12,15 +12,30 @@ import time
 
 STRICT = ["-O2", "-Wall", "-Wextra", "-Werror", "-pedantic"]
 C, CPP = ["-std=c11", *STRICT], ["-std=c++11", *STRICT]
+STRICT_TSAN = {"TSAN_OPTIONS": "halt_on_error=1 exitcode=66"}
 PYTHONS = range(9, 30)
+PLANTS = [("PLANTED", "a plain store", []), ("PLANTED_RENEWAL", "a plain renewal", ["renewals"])]
 INTERIOR = """press claims: answer 0, owner 0, posture 0, stamp 1
 robot claims: answer 2, owner 4, posture 0, stamp 1
 press releases: answer 0, owner 0, posture 0, stamp 2
 robot claims: answer 4, owner 0, posture 0, stamp 2
 watch inquires: answer 32, owner 0, posture 0, stamp 2
+renewed, press claims: answer 0, owner 0, posture 0, stamp 1
 """
 NO_CALLS = ["'press', 'clam', 'z3'", "'free', 'claim', 'z3'", "'press', 'claim'", "'press', 'advance', 'z3'"]
 NO_CALLS += ["8, 1, 3", "4, 'claim', 7", "0, 'claim', 3", "4, 'claim', Machine.ROBOT"]
+RENEWALS = """from bagunjoki import *
+cell, worn = Word(stamp=LAST_STAMP - 1, renews=True), Word(stamp=LAST_STAMP)
+print(*(cell.ask('press', it, 'z3') for it in ('claim', 'release', 'claim')), cell.stamp)
+print(worn.ask('press', 'claim', 'z3'))
+worn.restamp(7)
+print(worn.ask('press', 'claim', 'z3'), worn.stamp)
+for stamp in (-1, LAST_STAMP + 1):
+    try:
+        worn.restamp(stamp)
+    except ValueError:
+        print(worn.stamp)
+"""
 SHOWN = """zone z1 free 0 closed
 zone z2 free 0 closed
 zone z3 press 0 closed
@@ -155,11 +170,12 @@ def as_in_plain_c(trials, compiler):
 
 
 def python(trials, version):
-    """Example, scripts, the table of a state, the session of docs/FROM_C.md, and what is no call."""
+    """Example, scripts, the table of a state, renewals, the session of docs/FROM_C.md, and what is no call."""
     module = {"PYTHONPATH": f"{trials.prefix}/lib/python", "PYTHONDONTWRITEBYTECODE": "1", "PYTHONWARNINGS": "error"}
     wants(trials.run([version, f"{trials.here}/examples/interior.py"], **module), INTERIOR)
     shows = "from bagunjoki import Word; cell = Word(); cell.ask('press', 'claim', 'z3'); cell.show()"
     wants(trials.run([version, "-c", shows], **module), SHOWN)
+    wants(trials.run([version, "-c", RENEWALS], **module), "done done done 2\nworn\ndone 8\n8\n8\n")
     session = "import doctest, sys; sys.exit(doctest.testfile(sys.argv[1], module_relative=False).failed)"
     trials.run([version, "-c", session, f"{trials.root}/docs/FROM_C.md"], **module)
     for call in NO_CALLS:
@@ -186,20 +202,33 @@ def pythons():
 # Loads
 
 
+def judged(trials, program, calls, most, ways, status=0, **environment):
+    """What check.py says of so many calls, or renewals.py if the word is renewed."""
+    judge = f"{trials.here}/tests/renewals.py" if "renewals" in ways else f"{trials.root}/bench/stress/check.py"
+    words = [sys.executable, "-B", judge, "1", str(calls), str(most), program, *ways]
+    return trials.run(words, status=status, **environment)
+
+
 def load(trials, program, calls, ways, **environment):
     """About so many calls, of which check.py makes one legal history."""
-    checker = [sys.executable, "-B", f"{trials.root}/bench/stress/check.py"]
-    said = trials.run([*checker, "1", str(calls), str(min(420_000, calls)), program, *ways], **environment)
-    return said.strip().split("\n")[-1]
+    said = judged(trials, program, calls, min(420_000, calls), ways, **environment).strip().split("\n")
+    return "; ".join(said[-2:] if "renewals" in ways else said[-1:])
 
 
 def planted(trials, program, ways):
-    """A plain store in place of the exchange has to be found."""
-    checker = [sys.executable, "-B", f"{trials.root}/bench/stress/check.py"]
-    said = trials.run([*checker, "1", "1000000", "70000", program, *ways], status=1)
+    """A plain store instead of the exchange has to be found."""
+    said = judged(trials, program, 1_000_000, 70_000, ways, status=1)
     if not re.search(r"^wrong, in", said, re.M):
         raise Failed(f"check.py says\n{said}")
     return "it was found"
+
+
+def worn_often(trials, program, rounds, least, **environment):
+    """Stamps begin again several times, and no call is worn."""
+    said = trials.run([program, str(rounds)], **environment).strip()
+    if int(re.search(r"(\d+) renewals", said)[1]) < least:
+        raise Failed(f"there are too few renewals: {said}")
+    return said
 
 
 def sanitized(trials, compiler, which, calls):
@@ -207,8 +236,10 @@ def sanitized(trials, compiler, which, calls):
     flags = ["-g", "-fno-omit-frame-pointer", f"-fsanitize={which}", "-fno-sanitize-recover=all"]
     replay = trials.compiled(compiler, "tests/replay.c", *flags)
     stress = trials.compiled(compiler, "tests/stress.c", *flags)
+    wear = trials.compiled(compiler, "tests/wear.c", *flags)
     scripts(trials, [replay])
-    return load(trials, stress, calls, [], TSAN_OPTIONS="halt_on_error=1 exitcode=66")
+    worn_often(trials, wear, 100_000, 1, **STRICT_TSAN)
+    return load(trials, stress, calls, ["renewals"], **STRICT_TSAN)
 
 
 def can_sanitize(compiler, which):
@@ -240,11 +271,17 @@ def in_all_languages(trials, compilers):
 def under_load(trials, compilers, calls):
     """Threads and processes on one word."""
     for compiler, ways in itertools.product(compilers, ([], ["processes"])):
-        share = calls if compiler == compilers[0] else max(calls // 10, 7)
+        share, some = calls if compiler == compilers[0] else max(calls // 10, 7), max(calls // 10, 7)
         name = f"three processes, {compiler}" if ways else f"seven threads, {compiler}"
-        trials.attempt(name, load, trials, trials.compiled(compiler, "tests/stress.c"), share, ways)
-        wrong = trials.compiled(compiler, "tests/stress.c", "-DPLANTED")
-        trials.attempt(f"{name}, with a plain store", planted, trials, wrong, ways)
+        right = trials.compiled(compiler, "tests/stress.c")
+        trials.attempt(name, load, trials, right, share, ways)
+        trials.attempt(f"{name}, with renewals", load, trials, right, some, [*ways, "renewals"])
+        for flag, what, more in PLANTS:
+            wrong = trials.compiled(compiler, "tests/stress.c", f"-D{flag}")
+            trials.attempt(f"{name}, with {what}", planted, trials, wrong, [*ways, *more])
+    for compiler in compilers:
+        wear = trials.compiled(compiler, "tests/wear.c")
+        trials.attempt(f"worn several times, {compiler}", worn_often, trials, wear, 1_000_000, 3)
     for compiler, which in itertools.product(compilers, ("address,undefined", "thread")):
         if can_sanitize(compiler, which):
             some = max(calls // 20, 7)

@@ -1,11 +1,12 @@
 //! The functions that C calls. `bindings/bagunjoki.h` declares them.
-ghost use Rattle.std.specs.Prelude.{◌≡◌, ◌≢◌, ◌↔◌, Some, None, IsTrue, Bool, List};
+ghost use Rattle.std.specs.Prelude.{◌≡◌, ◌≢◌, ◌≤◌, ◌<◌, ◌↔◌, Some, None, IsTrue, Bool, List};
 ghost use Rattle.cell_types.specs.declared.machine.Machine.{Machine};
 ghost use Rattle.cell_types.specs.declared.place.Place.{Place};
 ghost use Rattle.cell_types.specs.declared.call.Call.{Call};
-ghost use Rattle.cell_rules.specs.ModelState.{ModelState, is_full};
+ghost use Rattle.cell_rules.specs.ModelState.{ModelState, is_full, last_stamp};
 ghost use Rattle.cell_rules.specs.Sound.{IsSound};
 ghost use Rattle.cell_rules.specs.Reply as rules;
+ghost use Rattle.cell_rules.specs.Restamping.{restamped};
 ghost use Rattle.cell_rules.specs.Start.{IsStart, start_state, places_of};
 ghost use Rattle.cell_rules.specs.StartDigits.{places_in};
 ghost use Rattle.cell_word.specs.Layout.{packed};
@@ -15,8 +16,8 @@ ghost use Rattle.cell_c.specs.Replies as replies;
 use crate::calls::call_with;
 use crate::numbers::{machine_with, place_with};
 use crate::reply::{NO_CALL, NO_STATE, Reply, bare_reply, reply_of};
-use cell_rules::State;
 use cell_rules::start_digits::read_places;
+use cell_rules::{LAST_STAMP, State};
 use cell_word::{pack, stamp_of, step_word, unpack};
 
 /// The word that no state has.
@@ -66,6 +67,22 @@ pub extern "C" fn bagunjoki_start(digits: &[u8], stamp: u32) -> u64
     match State::start(places, stamp) {
         Ok(state) => pack(&state),
         Err(_) => NO_WORD,
+    }
+}
+
+/// The word of the same state with another stamp, for an exchange before the stamps end. If the word
+/// is no sound state's, or the stamp is past the last one, the word that no state has.
+#[unsafe(no_mangle)]
+pub extern "C" fn bagunjoki_restamp(word: u64, stamp: u32) -> u64
+    ensures restamped { (state : ModelState) → IsSound state → packed state ≡ word
+        → stamp ≤ last_stamp → result ≡ packed (restamped state stamp) }
+    ensures past_last { last_stamp < stamp → result ≡ replies.no_word }
+    ensures no_state { ((state : ModelState) → IsSound state → packed state ≢ word)
+        → result ≡ replies.no_word }
+{
+    match unpack(word) {
+        Some(state) if stamp <= LAST_STAMP => pack(&state.restamped(stamp)),
+        _ => NO_WORD,
     }
 }
 

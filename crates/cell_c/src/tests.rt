@@ -1,6 +1,6 @@
 use crate::exports::{
-    bagunjoki_is_full, bagunjoki_is_state, bagunjoki_is_stopped, bagunjoki_stamp, bagunjoki_start,
-    bagunjoki_step,
+    bagunjoki_is_full, bagunjoki_is_state, bagunjoki_is_stopped, bagunjoki_restamp,
+    bagunjoki_stamp, bagunjoki_start, bagunjoki_step,
 };
 
 // A call's machine, verb and object, and then its answer, owner, zone, posture and stamp.
@@ -65,4 +65,9 @@ fn is_answered_in_numbers(rt: HostRuntime) {
     assert!(rt; !bagunjoki_is_full(word, 3) && !bagunjoki_is_full(word, 11));
     assert!(rt; bagunjoki_step(0xC00, 1, 1, 1).answer == 65 && !bagunjoki_is_state(0xC00));
     assert!(rt; bagunjoki_start(b"0000110000", 0) == u64::MAX);
+    let worn = bagunjoki_restamp(word, 1_048_575);
+    assert!(rt; bagunjoki_stamp(worn) == 1_048_575 && bagunjoki_restamp(worn, 15) == word);
+    assert!(rt; bagunjoki_step(worn, 7, 10, 0).answer == 13);
+    assert!(rt; bagunjoki_restamp(word, 1_048_576) == u64::MAX);
+    assert!(rt; bagunjoki_restamp(0xC00, 0) == u64::MAX);
 }
