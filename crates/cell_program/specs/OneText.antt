@@ -13,8 +13,8 @@ use Rattle.cell_report.specs.declared.audit_faults.AuditFault.{AuditFault}
 use Rattle.cell_program.specs.Reported.{AreFine}
 use Rattle.cell_program.specs.Served.{HasOneReport, TellsRunOf, WasSimulated}
 
--- Two records of runs of one schedule from one opening by the same curves, in which no machine was stopped, are reported
--- by one text. So a simulation that goes well doesn't depend on memory.
+-- Two records of runs of one schedule from one opening by the same curves, in which no machine was stopped, are
+-- reported by one text. So a simulation that goes well doesn't depend on memory.
 abbrev pub OneByCurves : Type 0
 OneByCurves =
     (c : CellScales) (curves : List (List Pair)) (opening : ModelState) (turns : List Turn) (r s : RunRecord)
