@@ -10,3 +10,4 @@ pub mod Six
 pub mod Laws
 pub mod WiredLaws
 pub mod WiredTeams
+pub mod WiredRecords

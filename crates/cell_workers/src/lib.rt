@@ -11,6 +11,7 @@ pub mod six;
 mod start;
 mod take_turns;
 mod threads;
+pub mod wired_laws;
 pub mod wired_worker;
 pub mod worker;
 pub mod worker_result;
