@@ -57,16 +57,34 @@ pub fn play<P: Program, B: Part<Sense = P::Sense, Act = P::Act>>(
     ensures reached { controller.new.stopped ≡ None → IsReached (P.steps controller.new.program) bench.new.opening bench.new.history.items controller.new.progress }
 {
     'moves: for next in moves {
-        match *next {
-            Move::Turns(turns) => goes_on(controller, part, own, bench, turns)?,
-            Move::Asks(guest, call) => {
-                if guest != own {
-                    guest_asks(controller, bench, guest, call);
-                }
-            }
-        }
+        moves_once(controller, part, own, bench, *next)?;
     }
     Ok(())
+}
+
+// The machine's turns, or a call of another one.
+fn moves_once<P: Program, B: Part<Sense = P::Sense, Act = P::Act>>(
+    controller: &mut Controller<P>,
+    part: &mut B,
+    own: Machine,
+    bench: &mut Bench,
+    next: Move,
+) -> Result<(), CtlFault>
+    requires own { own ≡ (P.steps controller.old.program).machine }
+    requires reached { controller.old.stopped ≡ None → IsReached (P.steps controller.old.program) bench.old.opening bench.old.history.items controller.old.progress }
+    ensures program { controller.new.program ≡ controller.old.program }
+    ensures reached { controller.new.stopped ≡ None → IsReached (P.steps controller.new.program) bench.new.opening bench.new.history.items controller.new.progress }
+{
+    match next {
+        Move::Turns(turns) => goes_on(controller, part, own, bench, turns),
+        Move::Asks(guest, call) => {
+            if guest == own {
+                return Ok(());
+            }
+            guest_asks(controller, bench, guest, call);
+            Ok(())
+        }
+    }
 }
 
 /// The last call on the bench, with its answer, if it was settled.

@@ -207,11 +207,20 @@ fn stopped(
     let stops_at = go_on(&mut press, &mut bench, 1000, turns).unwrap_or(0);
     guest_asks(&press, &mut bench, Machine::Watch, Call::Stop);
     let waits_at = go_on(&mut press, &mut bench, stops_at, waits).unwrap_or(0);
-    if resumes {
-        guest_asks(&press, &mut bench, Machine::Watch, Call::Resume);
-    }
+    watch_resumes(&press, &mut bench, resumes);
     let stands = go_on(&mut press, &mut bench, waits_at, more);
     end_of(&bench, stands)
+}
+
+// The watch resumes, if it has to.
+fn watch_resumes(press: &PressCtl, bench: &mut Bench, resumes: bool)
+    requires reached { press.now.stopped ≡ None → IsReached press_steps bench.old.opening bench.old.history.items press.now.progress }
+    ensures reached { press.now.stopped ≡ None → IsReached press_steps bench.new.opening bench.new.history.items press.now.progress }
+{
+    if !resumes {
+        return;
+    }
+    guest_asks(press, bench, Machine::Watch, Call::Resume);
 }
 
 const STOPPED: Answer = Answer::Refused(Refusal::Stopped);

@@ -22,14 +22,25 @@ fn guest_comes<P: Program>(robot: &Controller<P>, bench: &mut Bench, guest: Mach
     ensures reached { robot.now.stopped ≡ None → IsReached (P.steps robot.now.program) bench.new.opening bench.new.history.items robot.now.progress }
 {
     'calls: for call in calls {
-        match guest {
-            Machine::Table => guest_asks(robot, bench, Machine::Table, *call),
-            Machine::Press => guest_asks(robot, bench, Machine::Press, *call),
-            Machine::Deposit => guest_asks(robot, bench, Machine::Deposit, *call),
-            Machine::Watch => guest_asks(robot, bench, Machine::Watch, *call),
-            _ => {}
-        }
+        guest_comes_once(robot, bench, guest, *call);
     }
+}
+
+// One call of a guest, if the guest isn't the robot.
+fn guest_comes_once<P: Program>(
+    robot: &Controller<P>,
+    bench: &mut Bench,
+    guest: Machine,
+    call: Call,
+)
+    requires robot { (P.steps robot.now.program).machine ≡ Robot }
+    requires reached { robot.now.stopped ≡ None → IsReached (P.steps robot.now.program) bench.old.opening bench.old.history.items robot.now.progress }
+    ensures reached { robot.now.stopped ≡ None → IsReached (P.steps robot.now.program) bench.new.opening bench.new.history.items robot.now.progress }
+{
+    if guest == Machine::Robot {
+        return;
+    }
+    guest_asks(robot, bench, guest, call);
 }
 
 // The robot's axes, and which of its magnets are on.
@@ -106,13 +117,24 @@ fn robot_by<F1: Gauge, F2: Gauge, F3: Gauge>(
     requires rotation { F3.keeps gauges.2 points.rotation }
     ensures { result.progress ≡ robot_start start.now }
 {
+    RobotCtl::new(start, program_by(gauges, points))
+}
+
+// The robot's program with these closures.
+fn program_by<F1: Gauge, F2: Gauge, F3: Gauge>(
+    gauges: (F1, F2, F3),
+    points: RobotPoints,
+) -> RobotProgram<F1, F2, F3>
+    requires arm1 { F1.keeps gauges.0 points.arm }
+    requires arm2 { F2.keeps gauges.1 points.arm }
+    requires rotation { F3.keeps gauges.2 points.rotation }
+{
     let (arm1, arm2, rotation) = gauges;
-    let program = RobotProgram::new(
+    RobotProgram::new(
         Calibration::new(arm1, points.arm),
         Calibration::new(arm2, points.arm),
         Calibration::new(rotation, points.rotation),
-    );
-    RobotCtl::new(start, program)
+    )
 }
 
 // Whether the robot meets a row, with these closures.
@@ -180,7 +202,7 @@ fn is_stopped_by<F1: Gauge, F2: Gauge, F3: Gauge>(
 {
     let (sense, fault) = broken;
     let start = State::start([false; 10], 0)?;
-    let mut robot = robot_by(&start, gauges, points);
+    let mut robot = RobotCtl::new(&start, program_by(gauges, points));
     let mut bench = Bench::new(alloc, start);
     bench.seat(Machine::Robot, false);
     let stop = CtlFault::Sensor(fault);
