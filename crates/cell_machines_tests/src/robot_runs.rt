@@ -2,7 +2,6 @@
 ghost use Rattle.std.specs.Prelude.{◌≡◌, None};
 ghost use Rattle.cell_types.specs.declared.machine.Machine.TheVariants.{Robot};
 ghost use Rattle.cell_control.specs.Steps.{IsReached};
-ghost use Rattle.cell_robot.specs.RobotProgram.{robot_start};
 
 use crate::common::{guest_asks, moved};
 use crate::robot::{Axes, BROKEN, GOES_ON, GOOD, Row, STOPPED_CELL, STOPS, TURNS_RETRACTED, WAITS};
@@ -106,20 +105,6 @@ struct RobotPoints {
     rotation: Points,
 }
 
-// The robot's controller with these closures.
-fn robot_by<F1: Gauge, F2: Gauge, F3: Gauge>(
-    start: &State,
-    gauges: (F1, F2, F3),
-    points: RobotPoints,
-) -> RobotCtl<F1, F2, F3>
-    requires arm1 { F1.keeps gauges.0 points.arm }
-    requires arm2 { F2.keeps gauges.1 points.arm }
-    requires rotation { F3.keeps gauges.2 points.rotation }
-    ensures { result.progress ≡ robot_start start.now }
-{
-    RobotCtl::new(start, program_by(gauges, points))
-}
-
 // The robot's program with these closures.
 fn program_by<F1: Gauge, F2: Gauge, F3: Gauge>(
     gauges: (F1, F2, F3),
@@ -149,7 +134,7 @@ fn is_met_by<F1: Gauge, F2: Gauge, F3: Gauge>(
     requires rotation { F3.keeps gauges.2 points.rotation }
 {
     let start = State::start(row.places, row.stamp)?;
-    let mut robot = robot_by(&start, gauges, points);
+    let mut robot = RobotCtl::new(&start, program_by(gauges, points));
     let mut bench = Bench::new(alloc, start);
     let from = Stand {
         axes: row.from,
