@@ -1,5 +1,5 @@
 -- A renewal keeps what each machine knows, so after any number of them none is refused.
-use Rattle.std.proofs.Common.{◌≡◌, ℕ, zero, suc, List, [], ◌∷◌, refl, sym, subst}
+use Rattle.std.proofs.Common.{ℕ, zero, suc, List, [], ◌∷◌, refl, sym, subst}
 use Rattle.cell_types.specs.declared.machine.Machine.{Machine}
 use Rattle.cell_calib.specs.Line.{IsReading}
 use Rattle.cell_rules.specs.ModelState.{ModelState}

@@ -12,12 +12,12 @@ use Rattle.cell_rules.proofs.Lawful.{lawful_in, sound_from}
 use Rattle.cell_rules.proofs.Puts.{each_zone}
 use Rattle.cell_rules.proofs.Histories.{sound-after}
 use Rattle.cell_parts.specs.Axes.{CellScales}
-use Rattle.cell_haul.specs.CraneProgram.{crane_start, crane_steps}
-use Rattle.cell_haul.specs.DepositProgram.{deposit_start, deposit_steps}
-use Rattle.cell_haul.specs.FeedProgram.{feed_start, feed_steps}
-use Rattle.cell_robot.specs.RobotProgram.{robot_start, notes_at, near_lines, robot_steps}
-use Rattle.cell_stations.specs.PressProgram.{press_start, press_steps}
-use Rattle.cell_stations.specs.TableProgram.{table_start, table_steps}
+use Rattle.cell_haul.specs.CraneProgram.{crane_steps}
+use Rattle.cell_haul.specs.DepositProgram.{deposit_steps}
+use Rattle.cell_haul.specs.FeedProgram.{feed_steps}
+use Rattle.cell_robot.specs.RobotProgram.{notes_at, near_lines, robot_steps}
+use Rattle.cell_stations.specs.PressProgram.{press_steps}
+use Rattle.cell_stations.specs.TableProgram.{table_steps}
 use Rattle.cell_haul.proofs.CraneFacts as crane_facts
 use Rattle.cell_haul.proofs.DepositFacts as deposit_facts
 use Rattle.cell_haul.proofs.FeedFacts as feed_facts
