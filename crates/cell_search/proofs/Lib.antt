@@ -1,0 +1,4 @@
+pub mod Searched
+pub mod StepLemmas
+pub mod TurnLemmas
+pub mod VisitLemmas
