@@ -1,0 +1,3 @@
+pub mod NumbersApart
+pub mod ReachedLemmas
+pub mod SituationLaws

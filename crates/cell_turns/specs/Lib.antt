@@ -1,0 +1,5 @@
+pub mod Columns
+pub mod Numbers
+pub mod Reached
+pub mod Sides
+pub mod Situations
