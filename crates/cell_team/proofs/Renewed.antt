@@ -71,8 +71,7 @@ all_stand : (c : CellScales) (renewals : ℕ) (opening : ModelState) (first : Te
 all_stand c zero opening first k = (sound_start opening k.0, subst (λ t. AllKnow t opening) (sym k.1) (all_begin c opening k.0))
 all_stand c (suc renewals) opening first k =
     let was = all_stand c renewals k.before k.first k.stood in
-    let z = after k.before k.history in
-    (
+    let z = after k.before k.history in (
       subst IsSound (sym k.opens) (restamped_sound z k.stamp k.in_range (sound-after k.before k.history was.0)),
       subst (AllKnow first) (sym k.opens) (all_renewed c first z k.stamp (all_know c k.before k.history k.first first was.0 k.legal k.come was.1)),
     )
