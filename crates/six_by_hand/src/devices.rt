@@ -3,6 +3,7 @@
 
 ghost use Rattle.std.specs.Prelude.{◌≡◌};
 ghost use Rattle.six_by_hand.specs.Devices as devices;
+ghost use Rattle.six_by_hand.specs.Driven as driven;
 
 use crate::axis::Axis;
 use cell_calib::{CraneSense, DepositSense, FeedSense, PressSense, RobotSense, TableSense};
@@ -19,7 +20,9 @@ pub struct Belt {
 
 impl Belt {
     /// A belt with a plate at its entry, or one that waits for its plate.
-    pub fn new() -> Belt {
+    pub fn new() -> Belt
+        ensures { result ≡ driven.empty_belt }
+    {
         Belt { plate: 0 }
     }
 
@@ -46,16 +49,15 @@ impl Belt {
 pub struct FeedBelt(pub Belt);
 
 impl Devices for FeedBelt {
-    ghost use Rattle.std.specs.Prelude.{◌≡◌};
-    ghost use Rattle.six_by_hand.specs.Devices.{carried, is_in_barrier};
+    ghost use Rattle.six_by_hand.specs.Driven.{feed_shows, feed_sets};
 
     type Sense = FeedSense;
 
     type Act = FeedAct;
 
-    ghost shows = { λ old sense new. (sense.barrier ≡ is_in_barrier old.0) × (new ≡ old) };
+    ghost shows = { λ old sense new. feed_shows old sense new };
 
-    ghost sets = { λ old told new. new.0 ≡ carried told.act.belt old.0 };
+    ghost sets = { λ old told new. feed_sets old told new };
 
     fn read(&mut self) -> FeedSense {
         FeedSense {
@@ -73,16 +75,15 @@ impl Devices for FeedBelt {
 pub struct DepositBelt(pub Belt);
 
 impl Devices for DepositBelt {
-    ghost use Rattle.std.specs.Prelude.{◌≡◌};
-    ghost use Rattle.six_by_hand.specs.Devices.{carried, is_in_barrier};
+    ghost use Rattle.six_by_hand.specs.Driven.{deposit_shows, deposit_sets};
 
     type Sense = DepositSense;
 
     type Act = DepositAct;
 
-    ghost shows = { λ old sense new. (sense.barrier ≡ is_in_barrier old.0) × (new ≡ old) };
+    ghost shows = { λ old sense new. deposit_shows old sense new };
 
-    ghost sets = { λ old told new. new.0 ≡ carried told.act.belt old.0 };
+    ghost sets = { λ old told new. deposit_sets old told new };
 
     fn read(&mut self) -> DepositSense {
         DepositSense {
@@ -104,7 +105,9 @@ pub struct Table {
 
 impl Table {
     /// The table where its program begins: at the bottom, turned to the feed belt.
-    pub fn standing() -> Table {
+    pub fn standing() -> Table
+        ensures { result ≡ driven.table_standing }
+    {
         Table {
             height: Axis::new(0, 600),
             turn: Axis::new(0, 500),
@@ -113,16 +116,15 @@ impl Table {
 }
 
 impl Devices for Table {
-    ghost use Rattle.std.specs.Prelude.{◌≡◌};
-    ghost use Rattle.six_by_hand.specs.Devices.{table_after, table_sense};
+    ghost use Rattle.six_by_hand.specs.Driven.{table_shows, table_sets};
 
     type Sense = TableSense;
 
     type Act = TableAct;
 
-    ghost shows = { λ old sense new. (sense ≡ table_sense old) × (new ≡ old) };
+    ghost shows = { λ old sense new. table_shows old sense new };
 
-    ghost sets = { λ old told new. new ≡ table_after told.act old };
+    ghost sets = { λ old told new. table_sets old told new };
 
     fn read(&mut self) -> TableSense {
         TableSense {
@@ -148,7 +150,9 @@ pub struct Robot {
 
 impl Robot {
     /// The robot where its program begins: both arms in, turned to the table.
-    pub fn standing() -> Robot {
+    pub fn standing() -> Robot
+        ensures { result ≡ driven.robot_standing }
+    {
         Robot {
             arm1: Axis::new(0, 1000),
             arm2: Axis::new(0, 1000),
@@ -158,16 +162,15 @@ impl Robot {
 }
 
 impl Devices for Robot {
-    ghost use Rattle.std.specs.Prelude.{◌≡◌};
-    ghost use Rattle.six_by_hand.specs.Devices.{robot_after, robot_sense};
+    ghost use Rattle.six_by_hand.specs.Driven.{robot_shows, robot_sets};
 
     type Sense = RobotSense;
 
     type Act = RobotAct;
 
-    ghost shows = { λ old sense new. (sense ≡ robot_sense old) × (new ≡ old) };
+    ghost shows = { λ old sense new. robot_shows old sense new };
 
-    ghost sets = { λ old told new. new ≡ robot_after told.act old };
+    ghost sets = { λ old told new. robot_sets old told new };
 
     fn read(&mut self) -> RobotSense {
         RobotSense {
@@ -192,7 +195,9 @@ pub struct Press {
 
 impl Press {
     /// The press where its program begins: at the top.
-    pub fn standing() -> Press {
+    pub fn standing() -> Press
+        ensures { result ≡ driven.press_standing }
+    {
         Press {
             height: Axis::new(1000, 1000),
         }
@@ -200,16 +205,15 @@ impl Press {
 }
 
 impl Devices for Press {
-    ghost use Rattle.std.specs.Prelude.{◌≡◌};
-    ghost use Rattle.six_by_hand.specs.Devices.{press_after, press_sense};
+    ghost use Rattle.six_by_hand.specs.Driven.{press_shows, press_sets};
 
     type Sense = PressSense;
 
     type Act = PressAct;
 
-    ghost shows = { λ old sense new. (sense ≡ press_sense old) × (new ≡ old) };
+    ghost shows = { λ old sense new. press_shows old sense new };
 
-    ghost sets = { λ old told new. new ≡ press_after told.act old };
+    ghost sets = { λ old told new. press_sets old told new };
 
     fn read(&mut self) -> PressSense {
         PressSense {
@@ -233,7 +237,9 @@ pub struct Crane {
 
 impl Crane {
     /// The crane where its program begins: over the deposit belt, its gripper up.
-    pub fn standing() -> Crane {
+    pub fn standing() -> Crane
+        ensures { result ≡ driven.crane_standing }
+    {
         Crane {
             travel: Axis::new(0, 2000),
             gripper: Axis::new(900, 1000),
@@ -242,16 +248,15 @@ impl Crane {
 }
 
 impl Devices for Crane {
-    ghost use Rattle.std.specs.Prelude.{◌≡◌};
-    ghost use Rattle.six_by_hand.specs.Devices.{crane_after, crane_sense};
+    ghost use Rattle.six_by_hand.specs.Driven.{crane_shows, crane_sets};
 
     type Sense = CraneSense;
 
     type Act = CraneAct;
 
-    ghost shows = { λ old sense new. (sense ≡ crane_sense old) × (new ≡ old) };
+    ghost shows = { λ old sense new. crane_shows old sense new };
 
-    ghost sets = { λ old told new. new ≡ crane_after told.act old };
+    ghost sets = { λ old told new. crane_sets old told new };
 
     fn read(&mut self) -> CraneSense {
         CraneSense {
