@@ -1,2 +1,1 @@
 pub mod Devices
-pub mod Driven

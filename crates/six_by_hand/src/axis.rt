@@ -2,7 +2,6 @@
 
 ghost use Rattle.std.specs.Prelude.{◌≡◌};
 ghost use Rattle.six_by_hand.specs.Devices as devices;
-ghost use Rattle.six_by_hand.specs.Driven as driven;
 
 use cell_devices::Motor;
 
@@ -18,9 +17,7 @@ pub struct Axis {
 
 impl Axis {
     /// An axis that stands here.
-    pub fn new(at: u16, end: u16) -> Axis
-        ensures { result ≡ driven.axis_at at end }
-    {
+    pub fn new(at: u16, end: u16) -> Axis {
         Axis { at, end }
     }
 

@@ -3,7 +3,6 @@
 
 ghost use Rattle.std.specs.Prelude.{◌≡◌};
 ghost use Rattle.six_by_hand.specs.Devices as devices;
-ghost use Rattle.six_by_hand.specs.Driven as driven;
 
 use crate::axis::Axis;
 use cell_calib::{CraneSense, DepositSense, FeedSense, PressSense, RobotSense, TableSense};
@@ -20,9 +19,7 @@ pub struct Belt {
 
 impl Belt {
     /// A belt with a plate at its entry, or one that waits for its plate.
-    pub fn new() -> Belt
-        ensures { result ≡ driven.empty_belt }
-    {
+    pub fn new() -> Belt {
         Belt { plate: 0 }
     }
 
@@ -49,15 +46,16 @@ impl Belt {
 pub struct FeedBelt(pub Belt);
 
 impl Devices for FeedBelt {
-    ghost use Rattle.six_by_hand.specs.Driven.{feed_shows, feed_sets};
+    ghost use Rattle.std.specs.Prelude.{◌≡◌};
+    ghost use Rattle.six_by_hand.specs.Devices.{carried, is_in_barrier};
 
     type Sense = FeedSense;
 
     type Act = FeedAct;
 
-    ghost shows = { λ old sense new. feed_shows old sense new };
+    ghost shows = { λ old sense new. (sense.barrier ≡ is_in_barrier old.0) × (new ≡ old) };
 
-    ghost sets = { λ old told new. feed_sets old told new };
+    ghost sets = { λ old told new. new.0 ≡ carried told.act.belt old.0 };
 
     fn read(&mut self) -> FeedSense {
         FeedSense {
@@ -75,15 +73,16 @@ impl Devices for FeedBelt {
 pub struct DepositBelt(pub Belt);
 
 impl Devices for DepositBelt {
-    ghost use Rattle.six_by_hand.specs.Driven.{deposit_shows, deposit_sets};
+    ghost use Rattle.std.specs.Prelude.{◌≡◌};
+    ghost use Rattle.six_by_hand.specs.Devices.{carried, is_in_barrier};
 
     type Sense = DepositSense;
 
     type Act = DepositAct;
 
-    ghost shows = { λ old sense new. deposit_shows old sense new };
+    ghost shows = { λ old sense new. (sense.barrier ≡ is_in_barrier old.0) × (new ≡ old) };
 
-    ghost sets = { λ old told new. deposit_sets old told new };
+    ghost sets = { λ old told new. new.0 ≡ carried told.act.belt old.0 };
 
     fn read(&mut self) -> DepositSense {
         DepositSense {
@@ -105,9 +104,7 @@ pub struct Table {
 
 impl Table {
     /// The table where its program begins: at the bottom, turned to the feed belt.
-    pub fn standing() -> Table
-        ensures { result ≡ driven.table_standing }
-    {
+    pub fn standing() -> Table {
         Table {
             height: Axis::new(0, 600),
             turn: Axis::new(0, 500),
@@ -116,15 +113,16 @@ impl Table {
 }
 
 impl Devices for Table {
-    ghost use Rattle.six_by_hand.specs.Driven.{table_shows, table_sets};
+    ghost use Rattle.std.specs.Prelude.{◌≡◌};
+    ghost use Rattle.six_by_hand.specs.Devices.{table_after, table_sense};
 
     type Sense = TableSense;
 
     type Act = TableAct;
 
-    ghost shows = { λ old sense new. table_shows old sense new };
+    ghost shows = { λ old sense new. (sense ≡ table_sense old) × (new ≡ old) };
 
-    ghost sets = { λ old told new. table_sets old told new };
+    ghost sets = { λ old told new. new ≡ table_after told.act old };
 
     fn read(&mut self) -> TableSense {
         TableSense {
@@ -150,9 +148,7 @@ pub struct Robot {
 
 impl Robot {
     /// The robot where its program begins: both arms in, turned to the table.
-    pub fn standing() -> Robot
-        ensures { result ≡ driven.robot_standing }
-    {
+    pub fn standing() -> Robot {
         Robot {
             arm1: Axis::new(0, 1000),
             arm2: Axis::new(0, 1000),
@@ -162,15 +158,16 @@ impl Robot {
 }
 
 impl Devices for Robot {
-    ghost use Rattle.six_by_hand.specs.Driven.{robot_shows, robot_sets};
+    ghost use Rattle.std.specs.Prelude.{◌≡◌};
+    ghost use Rattle.six_by_hand.specs.Devices.{robot_after, robot_sense};
 
     type Sense = RobotSense;
 
     type Act = RobotAct;
 
-    ghost shows = { λ old sense new. robot_shows old sense new };
+    ghost shows = { λ old sense new. (sense ≡ robot_sense old) × (new ≡ old) };
 
-    ghost sets = { λ old told new. robot_sets old told new };
+    ghost sets = { λ old told new. new ≡ robot_after told.act old };
 
     fn read(&mut self) -> RobotSense {
         RobotSense {
@@ -195,9 +192,7 @@ pub struct Press {
 
 impl Press {
     /// The press where its program begins: at the top.
-    pub fn standing() -> Press
-        ensures { result ≡ driven.press_standing }
-    {
+    pub fn standing() -> Press {
         Press {
             height: Axis::new(1000, 1000),
         }
@@ -205,15 +200,16 @@ impl Press {
 }
 
 impl Devices for Press {
-    ghost use Rattle.six_by_hand.specs.Driven.{press_shows, press_sets};
+    ghost use Rattle.std.specs.Prelude.{◌≡◌};
+    ghost use Rattle.six_by_hand.specs.Devices.{press_after, press_sense};
 
     type Sense = PressSense;
 
     type Act = PressAct;
 
-    ghost shows = { λ old sense new. press_shows old sense new };
+    ghost shows = { λ old sense new. (sense ≡ press_sense old) × (new ≡ old) };
 
-    ghost sets = { λ old told new. press_sets old told new };
+    ghost sets = { λ old told new. new ≡ press_after told.act old };
 
     fn read(&mut self) -> PressSense {
         PressSense {
@@ -237,9 +233,7 @@ pub struct Crane {
 
 impl Crane {
     /// The crane where its program begins: over the deposit belt, its gripper up.
-    pub fn standing() -> Crane
-        ensures { result ≡ driven.crane_standing }
-    {
+    pub fn standing() -> Crane {
         Crane {
             travel: Axis::new(0, 2000),
             gripper: Axis::new(900, 1000),
@@ -248,15 +242,16 @@ impl Crane {
 }
 
 impl Devices for Crane {
-    ghost use Rattle.six_by_hand.specs.Driven.{crane_shows, crane_sets};
+    ghost use Rattle.std.specs.Prelude.{◌≡◌};
+    ghost use Rattle.six_by_hand.specs.Devices.{crane_after, crane_sense};
 
     type Sense = CraneSense;
 
     type Act = CraneAct;
 
-    ghost shows = { λ old sense new. crane_shows old sense new };
+    ghost shows = { λ old sense new. (sense ≡ crane_sense old) × (new ≡ old) };
 
-    ghost sets = { λ old told new. crane_sets old told new };
+    ghost sets = { λ old told new. new ≡ crane_after told.act old };
 
     fn read(&mut self) -> CraneSense {
         CraneSense {

@@ -1,8 +1,6 @@
 //! Six workers with devices of one's own.
-ghost use Rattle.std.specs.Prelude.{◌≡◌, ◌≢◌, IfOk, Err};
+ghost use Rattle.std.specs.Prelude.{◌≡◌};
 ghost use Rattle.cell_rules.specs.Start.{IsStartState};
-ghost use Rattle.cell_workers.specs.WiredRecords.{NoneIsRefused};
-ghost use Rattle.six_by_hand.specs.Driven.{TellsDriven};
 
 use crate::axis::Axis;
 use crate::devices::{Belt, Crane, DepositBelt, FeedBelt, Press, Robot, Table};
@@ -11,7 +9,6 @@ use cell_haul::{CraneProgram, DepositProgram, FeedProgram};
 use cell_robot::RobotProgram;
 use cell_rules::State;
 use cell_stations::{PressProgram, TableProgram};
-use cell_workers::wired_laws::wired_records_tell;
 use cell_workers::{
     PacedGate, PerMachine, RunFault, SixRecord, WiredOutcome, WiredWorker, run_workers,
 };
@@ -54,9 +51,6 @@ fn worker<P, D>(program: P, opening: State, devices: D) -> WiredWorker<P, D>
 
 /// Drives the six machines, each in a thread of its own and all at one pace. The closures are those
 /// of the arms, the robot's rotation, the table's rotation and the gripper.
-///
-/// The record tells each machine's turns: what its sensors showed, what it was told, and how it
-/// stands. One history gives the journals and leads to the end. No machine ended as refused.
 pub fn drive<R, F1, F2, F3, F4, F5>(
     rt: &R,
     alloc: Global,
@@ -78,17 +72,6 @@ where
     requires rotation { F3.keeps gauges.2 points.rotation }
     requires turn { F4.keeps gauges.3 points.turn }
     requires gripper { F5.keeps gauges.4 points.arm }
-    ensures work { IfOk result (TellsDriven points
-        (record {
-          arm1 = F1.gives gauges.0;
-          arm2 = F2.gives gauges.1;
-          rotation = F3.gives gauges.2;
-          turn = F4.gives gauges.3;
-          gripper = F5.gives gauges.4;
-        })
-        opening turns) }
-    ensures none_refused { IfOk result NoneIsRefused }
-    ensures tries { result ≢ Err RunFault.Tries }
 {
     let (arm1, arm2, rotation, turn, gripper) = gauges;
     let robot = RobotProgram::new(
@@ -107,6 +90,5 @@ where
         crane: worker(crane, opening, Crane::standing()),
     };
     let gate = PacedGate::new(rt);
-    wired_records_tell(&workers, &gate);
     run_workers(rt, alloc, workers, opening, TRIES, turns, &gate)
 }
