@@ -1,12 +1,9 @@
 -- A worker with devices of one's own stands at a step of its program after each turn, so none of six ends as refused.
-use Rattle.std.proofs.Common.{◌≡◌, ◌≢◌, ℕ, false, Option, Some, None, refl, sym, ap, ◌∙◌, subst}
+use Rattle.std.proofs.Common.{◌≡◌, ℕ, false, Option, None, refl, ap, ◌∙◌, subst}
 use Rattle.cell_types.specs.declared.machine.Machine.{Machine}
 use Rattle.cell_types.specs.declared.machine.Machine.TheVariants.{Feed, Table, Robot, Press, Deposit, Crane, Watch}
-use Rattle.cell_types.specs.declared.answer.Event.{Event}
 use Rattle.cell_types.specs.Same.{same_machine}
 use Rattle.cell_rules.specs.ModelState.{ModelState}
-use Rattle.cell_rules.specs.Seen.{Waits}
-use Rattle.cell_interlock.specs.Views.{PassView}
 use Rattle.cell_interlock.specs.Lines.{PassAsks}
 use Rattle.cell_interlock.specs.Seen.{IsSamePass}
 use Rattle.cell_control.specs.declared.fault.CtlFault.{CtlFault}
@@ -15,14 +12,13 @@ use Rattle.cell_control.specs.Turns.{Turned, Turns}
 use Rattle.cell_control.proofs.TurnMaps.{turn_either}
 use Rattle.cell_wired.specs.declared.told.Told.{Told}
 use Rattle.cell_wired.specs.Wiring.{answered}
-use Rattle.cell_notes.specs.declared.status.Status.TheVariants as status
 use Rattle.cell_parts.specs.Axes.{CellScales}
 use Rattle.cell_plant.specs.Machines.{CellGauges, ProgressOf, steps_by}
 use Rattle.cell_plant.proofs.Standing.{none_refused_by}
 use Rattle.cell_team.proofs.Turned.{Stands, stands_on, stands_later}
 use Rattle.cell_workers.specs.Workers.{GateOf, ComesBy}
 use Rattle.cell_workers.specs.WiredWorkers.{WiredMoment, TakesWiredTurn}
-use Rattle.cell_workers.specs.WiredTeams.{Shows, Sets, WiredEnd, WiredTeam, NoneEndsRefused, NoWiredWorkerIsRefused}
+use Rattle.cell_workers.specs.WiredTeams.{Shows, Sets, WiredTeam, NoneEndsRefused, NoWiredWorkerIsRefused}
 use Rattle.cell_workers.proofs.Turning.{all_along}
 use Rattle.cell_workers.proofs.Passes.{asks_same, unchanged_pass}
 use Rattle.cell_workers.proofs.Unrefused.{ended, seen_after}

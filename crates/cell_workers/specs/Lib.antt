@@ -11,3 +11,6 @@ pub mod Laws
 pub mod WiredLaws
 pub mod WiredTeams
 pub mod WiredRecords
+pub mod Going
+pub mod Renewing
+pub mod Wearing

@@ -1,5 +1,5 @@
 -- Six workers with devices of one's own, one for each machine of the cell: a refusal stops none of them.
-use Rattle.std.specs.Prelude.{◌≡◌, ◌≢◌, ℕ, List, None}
+use Rattle.std.specs.Prelude.{◌≢◌, ℕ, List, None}
 use Rattle.cell_types.specs.declared.machine.Machine.{Machine}
 use Rattle.cell_types.specs.declared.machine.Machine.TheVariants.{Feed, Table, Robot, Press, Deposit, Crane}
 use Rattle.cell_types.specs.declared.answer.Event.{Event}
@@ -8,7 +8,6 @@ use Rattle.cell_rules.specs.Start.{IsStartState}
 use Rattle.cell_rules.specs.History.{IsLegal}
 use Rattle.cell_interlock.specs.Views.{PassView, InterlockView}
 use Rattle.cell_interlock.specs.Fresh.{fresh_pass}
-use Rattle.cell_control.specs.Steps.{Steps}
 use Rattle.cell_wired.specs.declared.told.Told.{Told}
 use Rattle.cell_notes.specs.declared.status.Status.{Status}
 use Rattle.cell_notes.specs.declared.status.Status.TheVariants.{Refused}

@@ -2,6 +2,9 @@
 use Rattle.std.specs.Prelude.{◌≡◌, ◌≢◌, ◌+◌, ℕ, true, Option, None}
 use Rattle.cell_interlock.specs.Views.{PassView}
 use Rattle.cell_interlock.specs.Lines.{PassAsks}
+use Rattle.cell_interlock.specs.Seen.{HasSeenMore}
+use Rattle.cell_rules.specs.ModelState.{ModelState}
+use Rattle.cell_rules.specs.History.{after}
 use Rattle.cell_control.specs.declared.fault.CtlFault.{CtlFault}
 use Rattle.cell_control.specs.Steps.{Steps}
 use Rattle.cell_control.specs.Turns.{Turns}
@@ -37,6 +40,15 @@ pub record TakesWiredTurn {S Sense Reading Act D : Type 0} (tries : ℕ) (t : St
   pub motor_demands : told.fault ≡ None → t.motor_demands before.progress told.act now.pass.opening now.pass.seen
   pub set : sets read told now.devices
   pub counted : now.turns ≡ before.turns + 1
+
+-- The same of a worker whose machine may go on later: it has come to this step, with what has stopped it; then its pass has
+-- surveyed the state that the machine has left.
+pub record IsGoingResult {S Sense Reading Act D : Type 0} (tries : ℕ) (t : Steps S Sense Reading Act) (shows : D → Sense → D → Type 0) (sets : D → Told Act → D → Type 0) (gate : GateOf) (limit : ℕ) (first : WiredMoment S D) (kept : PassView) (turns : ℕ) (status : Status) (devices : D) (p : S) (stopped : Option CtlFault) (left : ModelState) : Type 0 where
+  pub last : PassView
+  pub come : ComesBy (TakesWiredTurn tries t shows sets gate) first (wired_moment last p stopped devices turns)
+  pub ended : Ends gate limit stopped turns status
+  pub more : HasSeenMore last kept
+  pub left_is : left ≡ after kept.opening kept.seen
 
 -- What a worker with devices gives back that began at this moment: by its turns, and by nothing else, it has come to
 -- this pass, this number of turns and these devices. It ends with this status.

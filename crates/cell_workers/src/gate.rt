@@ -15,6 +15,10 @@ pub trait Gate {
     fn pass(&self, machine: Machine, turn: u32) -> bool
         ensures { may_answer self.now machine turn result };
 
+    /// Told that six workers begin, before any has begun. It is told so again before each round of
+    /// `run_renewed`.
+    fn begin(&self) {}
+
     /// Told that the machine takes no more turns: its worker has ended, or couldn't be started.
     fn end(&self, _machine: Machine) {}
 }

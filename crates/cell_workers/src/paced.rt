@@ -87,7 +87,7 @@ impl Paces {
 /// turns. Until then it waits. So no machine uses its turns up while another waits for a processor,
 /// and a plate gets round.
 ///
-/// A gate is for one run. It waits for ever for a machine that has no worker.
+/// A gate is for one run, or for the rounds of one, one after another. It waits for ever for a machine that has no worker.
 #[derive(Drop)]
 pub struct PacedGate<'r, R: Wait> {
     rt: &'r R,
@@ -122,6 +122,10 @@ impl<R: Wait> Gate for PacedGate<'_, R> {
         self.moved
             .wait_while(self.rt, paces, |paces| !paces.have_had(turn));
         true
+    }
+
+    fn begin(&self) {
+        *self.paces.lock(self.rt) = Paces::new();
     }
 
     fn end(&self, machine: Machine) {

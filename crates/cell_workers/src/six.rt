@@ -1,6 +1,5 @@
 //! Six workers over one interlock.
 ghost use Rattle.std.specs.Prelude.{◌≡◌, ◌<◌, ◌⊎◌, ◌↔◌, IfOk, IfSome, Err};
-ghost use Rattle.cell_rules.specs.Start.{IsStartState};
 ghost use Rattle.cell_interlock.specs.Fresh.{AreFresh};
 ghost use Rattle.cell_workers.specs.Six.{AreReadyAt, TellsSix, six_fresh};
 ghost use Rattle.cell_workers.specs.Promises.{AreReady, GiveBack};
@@ -32,7 +31,7 @@ pub struct SixRecord<A, B, C, D, E, F> {
 }
 
 /// Runs six workers, whose machines are the six. Each takes up to `turns` turns in a thread of its
-/// own. All six share one interlock, which opens with a start and on which a call may lose `tries`
+/// own. All six share one interlock, which opens with `opening` and on which a call may lose `tries`
 /// exchanges. After joining all six it closes the interlock, whose last state is the record's end.
 ///
 /// The gate is told of each machine that takes no more turns: its worker has ended, or its thread
@@ -70,7 +69,6 @@ where
     W5::Outcome: Send,
     W6::Outcome: Send,
     G: Gate + Sync,
-    requires start { IsStartState opening }
     requires ready { AreReadyAt W1.is_ready W2.is_ready W3.is_ready W4.is_ready W5.is_ready W6.is_ready opening workers }
     ensures tries { (result ≡ Err RunFault.Tries) ↔ ((tries < 1) ⊎ (64 < tries)) }
     ensures work { IfOk result (TellsSix W1.gives_back W2.gives_back W3.gives_back W4.gives_back W5.gives_back W6.gives_back workers opening tries turns (G.may_answer gate.now)) }

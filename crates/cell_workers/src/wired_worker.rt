@@ -4,7 +4,8 @@ ghost use Rattle.cell_interlock.specs.Lines.{PassAsks};
 ghost use Rattle.cell_interlock.specs.Seen.{IsSamePass};
 ghost use Rattle.cell_control.specs.Turns.{Turns};
 ghost use Rattle.cell_wired.specs.Wiring.{answered};
-ghost use Rattle.cell_workers.specs.WiredWorkers.{IsWiredResult, wired_moment};
+ghost use Rattle.cell_workers.specs.Workers.{ComesBy, Ends};
+ghost use Rattle.cell_workers.specs.WiredWorkers.{TakesWiredTurn, wired_moment};
 
 use crate::gate::Gate;
 use crate::worker::Worker;
@@ -67,9 +68,9 @@ pub struct WiredOutcome<D> {
 
 /// How a worker with devices ended.
 #[derive(Clone, Copy, Debug)]
-struct WiredEnding {
-    turns: u32,
-    status: Status,
+pub(crate) struct WiredEnding {
+    pub(crate) turns: u32,
+    pub(crate) status: Status,
 }
 
 impl<P: Program, D: Devices<Sense = P::Sense, Act = P::Act>> Worker for WiredWorker<P, D> {
@@ -116,17 +117,19 @@ impl<P: Program, D: Devices<Sense = P::Sense, Act = P::Act>> Worker for WiredWor
 
 /// Takes turns, each once the gate lets it begin, and none after a turn that has stopped the
 /// machine. The line's pass stays the same.
-fn take_wired_turns<'a, P: Program, D: Devices<Sense = P::Sense, Act = P::Act>, G: Gate>(
+pub(crate) fn take_wired_turns<'a, P: Program, D: Devices<Sense = P::Sense, Act = P::Act>, G: Gate>(
     wired: &mut Wired<P, PassLine<'a>>,
     devices: &mut D,
     gate: &G,
     turns: u32,
 ) -> WiredEnding
     ensures same { IsSamePass wired.old.line.pass wired.new.line.pass }
-    ensures ended { IsWiredResult wired.old.line.tries (P.steps wired.old.program) D.shows D.sets
-        (G.may_answer gate.now wired.old.line.pass.machine) turns
+    ensures come { ComesBy (TakesWiredTurn wired.old.line.tries (P.steps wired.old.program) D.shows D.sets
+        (G.may_answer gate.now wired.old.line.pass.machine))
         (wired_moment wired.old.line.pass wired.old.progress wired.old.stopped devices.old 0)
-        wired.new.line.pass result.turns result.status devices.new }
+        (wired_moment wired.new.line.pass wired.new.progress wired.new.stopped devices.new result.turns) }
+    ensures ends { Ends (G.may_answer gate.now wired.old.line.pass.machine) turns wired.new.stopped result.turns result.status }
+    ensures program { wired.new.program ≡ wired.old.program }
 {
     let machine = wired.line().machine();
     for turn in 0..turns {

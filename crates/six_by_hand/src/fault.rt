@@ -1,7 +1,7 @@
 use cell_calib::PointsFault;
 use cell_report::AuditFault;
 use cell_rules::StartFault;
-use cell_workers::RunFault;
+use cell_workers::{RenewalFault, RunFault};
 use std::io;
 
 /// Why the six machines can't be driven, or their run not told.
@@ -31,15 +31,12 @@ impl From<PointsFault> for SixFault {
     }
 }
 
-impl From<RunFault> for SixFault {
-    fn from(fault: RunFault) -> SixFault {
-        SixFault::Run(fault)
-    }
-}
-
-impl From<AuditFault> for SixFault {
-    fn from(fault: AuditFault) -> SixFault {
-        SixFault::Audit(fault)
+impl From<RenewalFault<AuditFault>> for SixFault {
+    fn from(fault: RenewalFault<AuditFault>) -> SixFault {
+        match fault {
+            RenewalFault::Run(fault) => SixFault::Run(fault),
+            RenewalFault::Sink(fault) => SixFault::Audit(fault),
+        }
     }
 }
 

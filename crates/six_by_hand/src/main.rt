@@ -1,35 +1,40 @@
-//! Six machines with sensors and actuators of one's own, each in a thread, all at one pace. Prints
-//! how each ended, how often the crane gave a plate back to the feed belt, and that an audit finds
-//! the run's history.
+//! Six machines with sensors and actuators of one's own, each in a thread, all at one pace, over one
+//! interlock after another. Prints how each ended, how many rounds an audit accepted, and how often
+//! the crane gave a plate back to the feed belt.
 #![tactic(auto)]
 
 mod axis;
 mod devices;
 mod fault;
+mod rounds;
 mod six;
 
 use cell_calib::{Points, line_at};
-use cell_report::audit;
 use cell_rules::State;
-use cell_types::{Answer, Call, Entry, Zone};
 use fault::SixFault;
-use six::{AxisPoints, drive};
+use rounds::Audits;
+use six::{AxisPoints, Plan, drive};
+use std::env;
 
 // The full places at the start: a plate is at the feed belt's entry.
 const PLACES: [bool; 10] = [
     true, false, false, false, false, false, false, false, false, false,
 ];
 
-// In this number of turns the plate gets round once, and not twice, in whichever order the threads go on.
-const TURNS: u32 = 1200;
+// In these turns the plate gets round once, and not twice, in whichever order the threads go on. The
+// mark is low, so that stamps begin again.
+const PLAN: Plan = Plan {
+    rounds: 12,
+    turns: 100,
+    mark: 10,
+};
 
-// How often the crane gave a plate back to the feed belt.
-fn rounds(journal: &[Entry]) -> usize {
-    journal
-        .iter()
-        .filter(|entry| entry.call == Call::Give(Zone::Z6) && entry.answer == Answer::Done)
-        .count()
-}
+// With a word after the program's name: until some million calls are done.
+const LONG: Plan = Plan {
+    rounds: 400,
+    turns: 100_000,
+    mark: 300_000,
+};
 
 fn main(rt: HostRuntime) -> Result<(), SixFault> {
     let alloc = rt.alloc();
@@ -46,16 +51,22 @@ fn main(rt: HostRuntime) -> Result<(), SixFault> {
         move |raw: u16| line_at(&points.turn, raw),
         move |raw: u16| line_at(&points.arm, raw),
     );
-    let run = drive(&rt, alloc, opening, gauges, points, TURNS)?;
-    let six = &run.outcomes;
-    println!(rt; "feed {} {:?}", six.feed.turns, six.feed.status)?;
-    println!(rt; "table {} {:?}", six.table.turns, six.table.status)?;
-    println!(rt; "robot {} {:?}", six.robot.turns, six.robot.status)?;
-    println!(rt; "press {} {:?}", six.press.turns, six.press.status)?;
-    println!(rt; "deposit {} {:?}", six.deposit.turns, six.deposit.status)?;
-    println!(rt; "crane {} {:?}", six.crane.turns, six.crane.status)?;
-    println!(rt; "rounds {}", rounds(run.journals.crane.as_slice()))?;
-    audit(alloc, &run.journals, &run.start, Some(&run.end))?;
-    println!(rt; "audit ok")?;
+    let is_long = env::args(&rt)?.count() > 1;
+    let plan = if is_long { LONG } else { PLAN };
+    let mut audits = Audits::new(alloc);
+    let left = drive(&rt, alloc, opening, gauges, points, plan, &mut audits)?;
+    let six = &left.outcomes;
+    println!(rt; "feed {:?}", six.feed.status)?;
+    println!(rt; "table {:?}", six.table.status)?;
+    println!(rt; "robot {:?}", six.robot.status)?;
+    println!(rt; "press {:?}", six.press.status)?;
+    println!(rt; "deposit {:?}", six.deposit.status)?;
+    println!(rt; "crane {:?}", six.crane.status)?;
+    println!(rt; "audited {}", audits.rounds)?;
+    println!(rt; "rounds {}", audits.plates)?;
+    if is_long {
+        println!(rt; "done {}", audits.done)?;
+        println!(rt; "renewed {}", audits.renewed)?;
+    }
     Ok(())
 }

@@ -1,16 +1,18 @@
 //! Six workers with devices of one's own.
 ghost use Rattle.std.specs.Prelude.{◌≡◌};
-ghost use Rattle.cell_rules.specs.Start.{IsStartState};
 
 use crate::axis::Axis;
 use crate::devices::{Belt, Crane, DepositBelt, FeedBelt, Press, Robot, Table};
+use crate::rounds::{Audits, RoundsGate};
 use cell_calib::{Calibration, Gauge, Points};
 use cell_haul::{CraneProgram, DepositProgram, FeedProgram};
+use cell_report::AuditFault;
 use cell_robot::RobotProgram;
 use cell_rules::State;
 use cell_stations::{PressProgram, TableProgram};
+use cell_types::Machine;
 use cell_workers::{
-    PacedGate, PerMachine, RunFault, SixRecord, WiredOutcome, WiredWorker, run_workers,
+    GoingOutcome, GoingWorker, Leave, PerMachine, Renewal, RenewalFault, run_renewed,
 };
 use std::alloc::Global;
 use std::sync::Wait;
@@ -28,37 +30,37 @@ pub struct AxisPoints {
     pub turn: Points,
 }
 
-/// What is left of the six machines.
-pub type SixOutcomes = SixRecord<
-    WiredOutcome<FeedBelt>,
-    WiredOutcome<Table>,
-    WiredOutcome<Robot>,
-    WiredOutcome<Press>,
-    WiredOutcome<DepositBelt>,
-    WiredOutcome<Crane>,
->;
-
-// A machine at the start of its program.
-fn worker<P, D>(program: P, opening: State, devices: D) -> WiredWorker<P, D>
-    ensures { result ≡ record { program = program; opening = opening; devices = devices } }
-{
-    WiredWorker {
-        program,
-        opening,
-        devices,
-    }
+/// How many rounds there are, of how many turns of each machine. A stamp that has passed the mark
+/// begins again at 0.
+#[derive(Clone, Copy)]
+pub struct Plan {
+    pub rounds: u32,
+    pub turns: u32,
+    pub mark: u32,
 }
 
-/// Drives the six machines, each in a thread of its own and all at one pace. The closures are those
-/// of the arms, the robot's rotation, the table's rotation and the gripper.
+/// What is left of the six machines.
+pub type SixOutcomes<F1, F2, F3, F4, F5> = Leave<
+    GoingOutcome<FeedProgram, FeedBelt>,
+    GoingOutcome<TableProgram<F4>, Table>,
+    GoingOutcome<RobotProgram<F1, F2, F3>, Robot>,
+    GoingOutcome<PressProgram, Press>,
+    GoingOutcome<DepositProgram, DepositBelt>,
+    GoingOutcome<CraneProgram<F5>, Crane>,
+>;
+
+/// Drives the six machines, each in a thread of its own and all at one pace, over one interlock
+/// after another. The closures are those of the arms, the robot's rotation, the table's rotation
+/// and the gripper.
 pub fn drive<R, F1, F2, F3, F4, F5>(
     rt: &R,
     alloc: Global,
     opening: State,
     gauges: (F1, F2, F3, F4, F5),
     points: AxisPoints,
-    turns: u32,
-) -> Result<SixOutcomes, RunFault>
+    plan: Plan,
+    audits: &mut Audits,
+) -> Result<SixOutcomes<F1, F2, F3, F4, F5>, RenewalFault<AuditFault>>
 where
     R: Threads + Wait + Sync,
     F1: Gauge + Send,
@@ -66,7 +68,6 @@ where
     F3: Gauge + Send,
     F4: Gauge + Send,
     F5: Gauge + Send,
-    requires start { IsStartState opening }
     requires arm1 { F1.keeps gauges.0 points.arm }
     requires arm2 { F2.keeps gauges.1 points.arm }
     requires rotation { F3.keeps gauges.2 points.rotation }
@@ -81,14 +82,26 @@ where
     );
     let table = TableProgram::new(Calibration::new(turn, points.turn));
     let crane = CraneProgram::new(Calibration::new(gripper, points.arm));
+    let belt = FeedBelt(Belt::new());
+    let deposit = DepositBelt(Belt::new());
     let workers = PerMachine {
-        feed: worker(FeedProgram, opening, FeedBelt(Belt::new())),
-        table: worker(table, opening, Table::standing()),
-        robot: worker(robot, opening, Robot::standing()),
-        press: worker(PressProgram, opening, Press::standing()),
-        deposit: worker(DepositProgram, opening, DepositBelt(Belt::new())),
-        crane: worker(crane, opening, Crane::standing()),
+        feed: GoingWorker::at_start(FeedProgram, Machine::Feed, opening, belt),
+        table: GoingWorker::at_start(table, Machine::Table, opening, Table::standing()),
+        robot: GoingWorker::at_start(robot, Machine::Robot, opening, Robot::standing()),
+        press: GoingWorker::at_start(PressProgram, Machine::Press, opening, Press::standing()),
+        deposit: GoingWorker::at_start(DepositProgram, Machine::Deposit, opening, deposit),
+        crane: GoingWorker::at_start(crane, Machine::Crane, opening, Crane::standing()),
     };
-    let gate = PacedGate::new(rt);
-    run_workers(rt, alloc, workers, opening, TRIES, turns, &gate)
+    let Plan {
+        rounds,
+        turns,
+        mark,
+    } = plan;
+    let gate = RoundsGate::new(rt, rounds);
+    let renewal = Renewal {
+        tries: TRIES,
+        turns,
+        mark,
+    };
+    run_renewed(rt, alloc, workers, opening, renewal, &gate, audits)
 }

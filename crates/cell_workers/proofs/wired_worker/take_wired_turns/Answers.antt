@@ -38,17 +38,19 @@ loop-turn-preserved g c =
       program = told.ensures.program ∙ old.program;
     }
 
-pub returns-clause-ended : goal.returns-clause-ended
-returns-clause-ended g c =
+pub returns-clause-come : goal.returns-clause-come
+returns-clause-come g c =
     let start = c.args.wired.now in
     let wired = c.loop-turn.wired in
     let all : c.loop-turn.turn ≡ c.args.turns = omega arith in
     let gate = g.G.Gate.may_answer c.args.gate.now start.line.pass.machine in
-    record {
-      progress = wired.progress;
-      stopped = wired.stopped;
-      come = subst (λ n. ComesBy (TakesWiredTurn start.line.tries (g.P.Program.steps start.program) g.D.Devices.shows g.D.Devices.sets gate)
-          (wired_moment start.line.pass start.progress start.stopped c.args.devices.now 0) (wired_moment wired.line.pass wired.progress wired.stopped c.loop-turn.devices n))
-          all c.loop-turn.invariant.come;
-      ends = ends_after_all gate c.args.turns wired.stopped c.status_of-2.result (c.status_of-2.ensures ∙ ap status_of c.stopped-2.ensures);
-    }
+    subst (λ n. ComesBy (TakesWiredTurn start.line.tries (g.P.Program.steps start.program) g.D.Devices.shows g.D.Devices.sets gate)
+    (wired_moment start.line.pass start.progress start.stopped c.args.devices.now 0) (wired_moment wired.line.pass wired.progress wired.stopped c.loop-turn.devices n))
+    all c.loop-turn.invariant.come
+
+pub returns-clause-ends : goal.returns-clause-ends
+returns-clause-ends g c =
+    let start = c.args.wired.now in
+    let wired = c.loop-turn.wired in
+    let gate = g.G.Gate.may_answer c.args.gate.now start.line.pass.machine in
+    ends_after_all gate c.args.turns wired.stopped c.status_of-2.result (c.status_of-2.ensures ∙ ap status_of c.stopped-2.ensures)
