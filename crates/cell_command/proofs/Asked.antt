@@ -1,8 +1,12 @@
 -- Which mode words ask for.
-use Rattle.std.proofs.Common.{◌≡◌, inl, inr, ℕ, List, [], ◌∷◌, codes, refl, sym, ap, ◌∙◌}
-use Rattle.clap.specs.Words.{Text}
+use Rattle.std.proofs.Common.{◌≡◌, inl, inr, ℕ, List, [], ◌∷◌, codes, refl, sym, ap, subst, ◌∙◌}
+use Rattle.clap.specs.Words.{HasKind, Kinds, Text, kind_of}
+use Rattle.clap.specs.declared.error.Error.{Error}
+use Rattle.clap.specs.declared.error.kind.ErrorKind.TheVariants as ErrorKind
 use Rattle.clap.proofs.OnLiterals.{clap_on_literals}
-use Rattle.cell_command.specs.Words.{AskForReplay, AskForRun, AskForSim, mode_of}
+use Rattle.cell_shell.specs.Versions.{AskForVersion}
+use Rattle.cell_shell.proofs.Versions.{version_words}
+use Rattle.cell_command.specs.Words.{AreTaken, AskForReplay, AskForRun, AskForSim, mode_of}
 use Rattle.cell_command.specs.declared.words.Mode.{Mode}
 use Rattle.cell_command.specs.declared.words.Mode.TheVariants.{Replay, Sim, Run}
 
@@ -42,3 +46,25 @@ run_asked words m turns tries turns' tries' e f k =
 pub either_way : {K : Type 0} → (words : List Text) → AskForReplay words → ((name : List ℕ) → words ≡ name ∷ [] → K) → ((name : List ℕ) → words ≡ name ∷ codes "replay" ∷ [] → K) → K
 either_way words (name, inl e) f g = f name e
 either_way words (name, inr e) f g = g name e
+
+-- ---- words that ask for the version
+
+by_version : {P : Type 0} → (name : Text) → AreTaken (name ∷ codes "--version" ∷ []) → P
+unfolding clap_on_literals
+by_version name k = cc
+
+-- `clap` doesn't take them, with or without the word `run`
+pub version_untaken : {P : Type 0} → (words : List Text) → AskForVersion words → AreTaken words → P
+version_untaken words asked k = let is = version_words words asked in by_version is.0 (subst AreTaken is.1 k)
+
+pub run_version_untaken : {P : Type 0} → AreTaken (codes "cell" ∷ codes "run" ∷ codes "--version" ∷ []) → P
+unfolding clap_on_literals
+run_version_untaken k = cc
+
+-- ---- words that `clap` takes
+
+-- of these the only error is out of memory
+pub no_room : (kinds : Kinds) (e : Error) → HasKind kinds e → kinds ≡ [] → kind_of e ≡ ErrorKind.OutOfMemory
+no_room kinds e (inl h) none = h
+no_room (k ∷ ks) e (inr h) none = cc
+no_room [] e (inr h) none = absurd h

@@ -1,6 +1,5 @@
 -- The program's words, as `clap` reads them.
-use Rattle.std.specs.Prelude.{◌≡◌, ◌≤◌, ℕ, List, [], ◌∷◌, map, codes, ◌⊎◌, Option, Some, None, true, ⊤, if◌then◌else◌}
-use Rattle.std.specs.Borrow.{Bor}
+use Rattle.std.specs.Prelude.{◌≡◌, ◌≤◌, ℕ, List, [], ◌∷◌, codes, ◌⊎◌, Option, Some, None, true, ⊤, if◌then◌else◌}
 use Rattle.std.specs.Option.{option_map_or}
 use Rattle.std.specs.Str.{bytes_eq}
 use Rattle.std.specs.Str.Parse.{digits_value, without_leading_plus}
@@ -8,6 +7,7 @@ use Rattle.clap.specs.Words.{App, IsAmong, IsUnsignedIn, Row, Rule, Text, fault_
 use Rattle.clap.specs.Words.{subcommand_of, with_rule, with_subcommand}
 use Rattle.clap.specs.declared.builder.value_parser.ValueParser.TheVariants.{Unsigned}
 use Rattle.clap.specs.declared.error.kind.ErrorKind.TheVariants.{DisplayHelp}
+pub use Rattle.cell_shell.specs.Words.{texts_of}
 use Rattle.cell_command.specs.declared.words.Mode.{Mode}
 use Rattle.cell_command.specs.declared.words.Mode.TheVariants.{Replay, Sim, Run}
 
@@ -59,10 +59,6 @@ mode_named (Some (word, rows)) =
 
 abbrev pub mode_of : List Text → Mode
 mode_of words = mode_named (subcommand_of program words)
-
--- the texts of words
-abbrev pub texts_of : List (Bor Text) → List Text
-texts_of words = map (λ w. w.now) words
 
 -- `clap` accepts the words; the first is the program's name
 abbrev pub AreTaken : List Text → Type 0

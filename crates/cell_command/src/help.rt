@@ -6,6 +6,7 @@ pub const CELL: &str =
 
 pub const CELL_DETAILS: &str = "\
 Reads standard input, writes standard output. Without a command, replays a script.
+`cell --version` prints the version.
 Exit status: 0 on success and for help; 2 for bad arguments; otherwise 1: a refused
 input, a machine stopped by a fault, a failed audit, read, write or start of a thread,
 or no memory.

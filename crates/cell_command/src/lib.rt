@@ -1,10 +1,11 @@
 //! The words that the program of the production cell was started with, and what they ask for.
 #![tactic(auto)]
 
-pub mod arguments;
 mod help;
 pub mod laws;
+pub mod refusal;
 pub mod words;
 
-pub use arguments::words_of;
+pub use cell_shell::words_of;
+pub use refusal::{refuse, refuse_with_help};
 pub use words::{Mode, read_words};

@@ -8,6 +8,7 @@ use Rattle.cell_replay.specs.Script.{max_bytes_read, script_outcome}
 use Rattle.cell_config.specs.Settings.{settings_of, max_bytes_read as config_bytes_read}
 use Rattle.cell_explain.specs.Explained.{IsTextOfConfig, IsTextOfScript, LeavesUnsaid, SaysOfConfig, SaysOfScript}
 use Rattle.cell_explain.specs.declared.fault.ExplainFault.{ExplainFault}
+use Rattle.cell_explain.specs.declared.verdict.Verdict.{Verdict}
 use Rattle.cell_explain.specs.declared.verdict.Verdict.TheVariants.{Taken, Refused}
 
 -- `clap` takes the words, and they ask for a replay: a script is explained
@@ -22,21 +23,20 @@ AskOfConfig words = AreTaken words × (mode_of words ≢ Replay)
 abbrev pub IsUnsaid : (List ℕ → Type 0) → Option (List ℕ) → Option (List ℕ) → Type 0
 IsUnsaid IsText old new = (fault : ExplainFault) × LeavesUnsaid IsText fault old new
 
--- What `serve` says of a script: the exit status, with what was written; and what was taken of the input. Known bytes
--- of the input are `input` before and `rest` after it; of the output, `old` and `new`.
-pub record ExplainsScript (exit : ℕ) (input rest old new : Option (List ℕ)) : Type 0 where
+-- What `serve` says of an input of one kind: the exit status, with what was written; and the most that was taken of the
+-- input. Known bytes of the input are `input` before and `rest` after it; of the output, `old` and `new`.
+pub record Explains (Says : List ℕ → Verdict → Option (List ℕ) → Option (List ℕ) → Type 0) (IsText : Option (List ℕ) → List ℕ → Type 0) (most exit : ℕ) (input rest old new : Option (List ℕ)) : Type 0 where
   pub status : exit ≤ 3
   pub words : exit ≢ 2
-  pub silent : exit ≡ 0 → IfSome input (λ bytes. SaysOfScript (script_outcome bytes) Taken old new)
-  pub told : exit ≡ 1 → IfSome input (λ bytes. SaysOfScript (script_outcome bytes) Refused old new)
-  pub failed : exit ≡ 3 → IsUnsaid (IsTextOfScript input) old new
-  pub taken : TakesAtMost input rest max_bytes_read
+  pub silent : exit ≡ 0 → IfSome input (λ bytes. Says bytes Taken old new)
+  pub told : exit ≡ 1 → IfSome input (λ bytes. Says bytes Refused old new)
+  pub failed : exit ≡ 3 → IsUnsaid (IsText input) old new
+  pub taken : TakesAtMost input rest most
 
--- what `serve` says of a configuration
-pub record ExplainsConfig (exit : ℕ) (input rest old new : Option (List ℕ)) : Type 0 where
-  pub status : exit ≤ 3
-  pub words : exit ≢ 2
-  pub silent : exit ≡ 0 → IfSome input (λ bytes. SaysOfConfig (settings_of bytes) Taken old new)
-  pub told : exit ≡ 1 → IfSome input (λ bytes. SaysOfConfig (settings_of bytes) Refused old new)
-  pub failed : exit ≡ 3 → IsUnsaid (IsTextOfConfig input) old new
-  pub taken : TakesAtMost input rest config_bytes_read
+-- of a script
+abbrev pub ExplainsScript : ℕ → Option (List ℕ) → Option (List ℕ) → Option (List ℕ) → Option (List ℕ) → Type 0
+ExplainsScript = Explains (λ bytes. SaysOfScript (script_outcome bytes)) IsTextOfScript max_bytes_read
+
+-- of a configuration
+abbrev pub ExplainsConfig : ℕ → Option (List ℕ) → Option (List ℕ) → Option (List ℕ) → Option (List ℕ) → Type 0
+ExplainsConfig = Explains (λ bytes. SaysOfConfig (settings_of bytes)) IsTextOfConfig config_bytes_read

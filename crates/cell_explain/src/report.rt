@@ -3,9 +3,9 @@
 ghost use Rattle.std.specs.Prelude.{◌≡◌, ◌++◌, ℕ, List, IfOk, Some, string_bytes};
 ghost use Rattle.cell_explain.specs.Explained.{config_heading, script_heading};
 
-use crate::config_words::config_words;
-use crate::script_words::script_words;
 use cell_config::ConfigFault;
+use cell_reasons::config_words::config_words;
+use cell_reasons::script_words::script_words;
 use cell_replay::ScriptFault;
 use std::alloc::{AllocError, Global};
 use std::fmt;

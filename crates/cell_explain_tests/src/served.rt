@@ -2,7 +2,9 @@
 
 use super::doubles::{FailingReader, FailingWriter, Given};
 use cell_explain::serve::{serve, start};
+use cell_shell::VERSION;
 use std::alloc::Global;
+use std::test::Fail;
 
 /// A script that is taken. As a configuration it is no TOML.
 const SCRIPT: &str = "start,0000000000\npress,claim,z3\n";
@@ -79,6 +81,14 @@ const OTHERS: &[(&[&str], u8, &str)] = &[
         0,
         "Says what is wrong with an input that `cell` refuses",
     ),
+    (
+        &["explain", "-h"],
+        0,
+        "Says what is wrong with an input that `cell` refuses",
+    ),
+    (&["explain", "--version"], 0, "explain "),
+    (&["explain", "-V"], 2, "error: "),
+    (&["explain", "sim", "--version"], 2, "error: "),
     (&["explain", "simulate"], 2, "error: "),
     (&["explain", "replay", "replay"], 2, "error: "),
     (&["explain", "run", "--turns", "0"], 2, "error: "),
@@ -100,6 +110,21 @@ fn serves_other_words(rt: HostRuntime) {
     }
 }
 
+#[test]
+fn prints_its_version(rt: HostRuntime) -> Result<(), Fail> {
+    let wanted = format!(in rt.alloc(); "explain {VERSION}\n")?;
+    assert!(rt;
+        is_served(
+            rt.alloc(),
+            &["explain", "--version"],
+            BAD_SCRIPT,
+            0,
+            &wanted
+        )
+    );
+    Ok(())
+}
+
 /// The status and the text after a read that fails when these bytes are read.
 fn is_silent(alloc: Global, words: &[&str], bytes: &str) -> bool {
     let mut reader = FailingReader {
@@ -119,6 +144,7 @@ const WRITTEN: &[(&[&str], &str, &str)] = &[
         "",
         "Says what is wrong with an input",
     ),
+    (&["explain", "--version"], "", "explain "),
     (&["explain", "simulate"], "", "error: "),
 ];
 
@@ -157,7 +183,12 @@ const STARTED: &[(&[&[u8]], &str, u8, &str)] = &[
         1,
         SCRIPT_AS_CONFIG,
     ),
-    (&[b"./explain", b"\xff"], BAD_SCRIPT, 2, ""),
+    (
+        &[b"./explain", b"\xff"],
+        BAD_SCRIPT,
+        2,
+        "error: a word isn't UTF-8\n",
+    ),
 ];
 
 /// Whether the program, started with these arguments, answers so.

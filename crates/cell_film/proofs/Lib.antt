@@ -1,4 +1,3 @@
-mod Places
 pub mod Shown
 pub mod PlainLemmas
 pub mod PlainLines

@@ -19,7 +19,9 @@ use Rattle.cell_plant.specs.declared.frame.Frame.{Frame}
 use Rattle.cell_loop.specs.Pictures.{IsPictureOf}
 use Rattle.cell_film.specs.Loops.{AreFramesOf, IsLoopOf, LoopFails, WasLooped}
 use Rattle.cell_film.specs.Pages.{max_turns}
-use Rattle.cell_film.specs.Served.{Loops, Prints}
+use Rattle.cell_film.specs.Served.{Loops}
+use Rattle.cell_shell.specs.Printed.{Prints}
+use Rattle.cell_shell.proofs.Serving.{printed}
 
 -- ---- the frames of a run
 
@@ -70,10 +72,4 @@ module _ (o rest old new : Option (List ℕ)) (taken : TakesAtMost o rest max_by
   part_of (Some bytes) config text says k w = inr (inr (text, (loop_of bytes config text says k, w)))
 
   pub looped : (n : ℕ) (config : Config) (text : List ℕ) → IfSome o (λ bytes. Says bytes (Ok config)) → IsPictureFrom config text → Prints n old new text → Loops n o rest old new
-  looped n config text says k p =
-      record {
-        status = p.status;
-        well = λ e. shown_of o config text says k (p.well e);
-        failed = λ e. part_of o config text says k (p.failed e);
-        taken = taken;
-      }
+  looped n config text says k p = printed WasLooped LoopFails max_bytes_read n text o rest old new p (shown_of o config text says k) (part_of o config text says k) taken

@@ -1,25 +1,16 @@
 -- What `serve` says of a film, by how it ends.
-use Rattle.std.proofs.Common.{◌≡◌, inr, ℕ, List, length, Option, Some, None, Result, Ok, Err, OnOk, OnErr, IfSome, map, sym, subst, arith}
-use Rattle.std.proofs.lemmas.List.{take_all}
+use Rattle.std.proofs.Common.{◌≡◌, inr, ℕ, List, length, Option, Some, None, Ok, IfSome, map}
 use Rattle.std.specs.Io.KnownBytes.{Appends}
 use Rattle.cell_text.specs.Input.{TakesAtMost}
 use Rattle.cell_text.specs.Output.{WrotePrefix}
+use Rattle.cell_shell.specs.Printed.{Prints}
+use Rattle.cell_shell.proofs.Serving.{printed}
 use Rattle.cell_calib.specs.Curve.{pairs_of}
 use Rattle.cell_config.specs.Configured.{Says, shown}
 use Rattle.cell_config.specs.Settings.{max_bytes_read}
 use Rattle.cell_config.specs.declared.configuration.Config.{Config}
 use Rattle.cell_film.specs.Pages.{FilmFails, IsFilmOf, ShowsConfigured, WasFilmed, page_text}
-use Rattle.cell_film.specs.Served.{Films, Prints}
-
--- ---- prefixes of texts
-
--- the whole text is a prefix of it
-whole_prefix : (old new : Option (List ℕ)) (text : List ℕ) → Appends old new text → WrotePrefix old new text
-whole_prefix old new text a = (length text, subst (Appends old new) (sym (take_all (length text) text (omega arith))) a)
-
-pub written_prefix : {A E : Type 0} → (r : Result A E) (old new : Option (List ℕ)) (text : List ℕ) → OnOk r (Appends old new text) → OnErr r (WrotePrefix old new text) → WrotePrefix old new text
-written_prefix (Ok x) old new text a b = whole_prefix old new text a
-written_prefix (Err e) old new text a b = b
+use Rattle.cell_film.specs.Served.{Films}
 
 -- ---- the page of a configuration
 
@@ -38,11 +29,5 @@ module _ (o rest old new : Option (List ℕ)) (taken : TakesAtMost o rest max_by
   part_of None config page says k w = tt
   part_of (Some bytes) config page says k w = inr (inr (page, (film_of bytes config page says k, w)))
 
-  pub printed : (n : ℕ) (config : Config) (page : List ℕ) → IfSome o (λ bytes. Says bytes (Ok config)) → IsPageOf config page → Prints n old new page → Films n o rest old new
-  printed n config page says k p =
-      record {
-        status = p.status;
-        well = λ e. shown_of o config page says k (p.well e);
-        failed = λ e. part_of o config page says k (p.failed e);
-        taken = taken;
-      }
+  pub filmed : (n : ℕ) (config : Config) (page : List ℕ) → IfSome o (λ bytes. Says bytes (Ok config)) → IsPageOf config page → Prints n old new page → Films n o rest old new
+  filmed n config page says k p = printed WasFilmed FilmFails max_bytes_read n page o rest old new p (shown_of o config page says k) (part_of o config page says k) taken

@@ -1,5 +1,5 @@
 -- What a film writer has after the frames of a run.
-use Rattle.std.proofs.Common.{◌≡◌, ℕ, List, [], ◌∷◌, ◌++◌, append-nil, append_assoc, Some, Result, Ok, Err, OnOk, IfOk, IfErr, take, sym, ap, ◌∙◌, subst}
+use Rattle.std.proofs.Common.{◌≡◌, ℕ, List, [], ◌∷◌, ◌++◌, append-nil, append_assoc, Some, Result, Ok, OnOk, take, sym, ap, ◌∙◌, subst}
 use Rattle.cell_notes.specs.declared.schedule.Turn.{Turn}
 use Rattle.cell_notes.specs.declared.run_record.RunRecord.{RunRecord}
 use Rattle.cell_rules.specs.ModelState.{ModelState}
@@ -8,9 +8,7 @@ use Rattle.cell_calib.specs.Scale.{Scale}
 use Rattle.cell_parts.specs.Axes.{CellScales}
 use Rattle.cell_config.specs.Configured.{in_order}
 use Rattle.cell_plant.specs.Machines.{CellGauges, on_curves}
-use Rattle.cell_plant.proofs.Gauged.{GiveAsMuch, sees_as, beginning_as}
-use Rattle.cell_plant.specs.Frames.{IsShown, SeesBeginning, SeesRun, frames_of}
-use Rattle.cell_plant.specs.declared.watcher.SeenFault.{SeenFault}
+use Rattle.cell_plant.specs.Frames.{IsShown, SeesRun, frames_of}
 use Rattle.cell_plant.specs.declared.frame.Frame.{Frame}
 use Rattle.std.specs.declared.alloc.AllocError.{AllocError}
 use Rattle.cell_film.specs.Lines.{FilmSoFar, frame_line, lines_after, no_film, said_after, shown_next}
@@ -41,17 +39,6 @@ shows_configured points curves opening schedule w v r lines new k same =
       shown = subst (ShowsRun k.0 (on_curves curves) opening (take max_turns schedule)) (sym same)
           (shows_run k.0 (on_curves curves) opening (take max_turns schedule) v r (subst (λ x. SeesRun Sees k.0 (on_curves curves) opening (take max_turns schedule) x v r) new k.1.1));
     }
-
--- ---- any watcher
-
-module _ {W E : Type 0} (sees : W → Frame → Result (Unit {0}) E → W → Type 0) (c : CellScales) (gives other : CellGauges) (points : List Scale) (opening : ModelState) (shown turns : List Turn) (w v : W) (fits : points ≡ in_order c) (same : shown ≡ turns) where
-  pub sees_run : (r : Result RunRecord (SeenFault E)) → IfOk r (SeesRun sees c gives opening shown w v) → GiveAsMuch c gives other → IfOk r (λ run. (x : CellScales) × ((points ≡ in_order x) × SeesRun sees x other opening turns w v run))
-  sees_run (Ok run) k much = (c, (fits, subst (λ ts. SeesRun sees c other opening ts w v run) same (sees_as sees c gives other much opening shown w v run k)))
-  sees_run (Err fault) k much = tt
-
-  pub sees_beginning : (r : Result RunRecord (SeenFault E)) → IfErr r (SeesBeginning sees c gives opening shown w v) → GiveAsMuch c gives other → IfErr r (λ fault. (x : CellScales) × ((points ≡ in_order x) × SeesBeginning sees x other opening turns w v fault))
-  sees_beginning (Ok run) k much = tt
-  sees_beginning (Err fault) k much = (c, (fits, subst (λ ts. SeesBeginning sees c other opening ts w v fault) same (beginning_as sees c gives other much opening shown w v fault k)))
 
 -- ---- a page, made part by part
 

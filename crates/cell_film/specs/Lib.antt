@@ -1,4 +1,3 @@
-pub mod Gauges
 pub mod StepWords
 pub mod Fields
 pub mod Lines

@@ -17,7 +17,8 @@ use Rattle.cell_config.specs.Configured.{Says, in_order}
 use Rattle.cell_config.specs.ConfigWords.{config_fault_text}
 use Rattle.cell_config.specs.Settings.{Settings, settings_of}
 use Rattle.cell_config.specs.declared.fault.ConfigFault.{ConfigFault}
-use Rattle.cell_film.specs.Pages.{fault_line, max_turns}
+use Rattle.cell_shell.specs.Faults.{fault_line}
+use Rattle.cell_film.specs.Pages.{max_turns}
 
 -- frames are those of the run of a schedule up to the most turns, by scales with these points: each reading is the one on
 -- its curve

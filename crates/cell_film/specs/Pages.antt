@@ -16,6 +16,7 @@ use Rattle.cell_config.specs.Configured.{Says, in_order}
 use Rattle.cell_config.specs.ConfigWords.{config_fault_text}
 use Rattle.cell_config.specs.Settings.{Settings, settings_of}
 use Rattle.cell_config.specs.declared.fault.ConfigFault.{ConfigFault}
+use Rattle.cell_shell.specs.Faults.{fault_line}
 use Rattle.cell_film.specs.Lines.{film_lines}
 use Rattle.cell_film.specs.declared.page_head.TheConstants.{PAGE_HEAD}
 use Rattle.cell_film.specs.declared.page_tail.TheConstants.{PAGE_TAIL}
@@ -52,10 +53,6 @@ pub record IsFilmOf (bytes text : List ℕ) : Type 0 where
   pub lines : List ℕ
   pub shown : ShowsConfigured settings.points settings.curves settings.start settings.schedule lines
   pub page : text ≡ page_text lines (length settings.schedule)
-
--- the line of a fault
-abbrev pub fault_line : List ℕ → List ℕ
-fault_line text = codes "fault " ++ (text ++ codes "\n")
 
 -- the page was written
 abbrev pub WasFilmed : Option (List ℕ) → Option (List ℕ) → Option (List ℕ) → Type 0

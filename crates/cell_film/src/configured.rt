@@ -11,10 +11,10 @@ ghost use Rattle.cell_config.specs.Configured.{AreAxisScales, AreCurvesOf, in_or
 ghost use Rattle.cell_film.specs.Pages.{ShowsConfigured, cut_line, max_turns, page_text};
 
 use crate::film::FilmWriter;
-use crate::gauges::{CellPoints, show_with_gauges};
 use crate::page_head::PAGE_HEAD;
 use crate::page_tail::PAGE_TAIL;
 use cell_config::Config;
+use cell_configured::simulate_shown;
 use cell_plant::{RunRecord, SeenFault, Turn, Watcher};
 use std::alloc::{AllocError, Global};
 
@@ -70,23 +70,8 @@ pub fn show_configured<W: Watcher>(
         × SeesBeginning W.sees c (on_curves (map pairs_of config.now.curves)) config.now.start
         (take max_turns config.now.schedule.items) watcher.old watcher.new fault)) }
 {
-    let [arm1, arm2, rotation, turn, gripper] = config.curves;
-    let points = CellPoints {
-        arm1: arm1.points(),
-        arm2: arm2.points(),
-        rotation: rotation.points(),
-        turn: turn.points(),
-        gripper: gripper.points(),
-    };
-    let gauges = (
-        move |raw: u16| arm1.at(raw),
-        move |raw: u16| arm2.at(raw),
-        move |raw: u16| rotation.at(raw),
-        move |raw: u16| turn.at(raw),
-        move |raw: u16| gripper.at(raw),
-    );
     let shown = first_turns(config.schedule.as_slice());
-    show_with_gauges(alloc, gauges, points, config.start, shown, watcher)
+    simulate_shown(alloc, config, shown, watcher)
 }
 
 /// The turns that a film shows.

@@ -2,10 +2,8 @@
 #![tactic(auto)]
 
 pub mod configured;
-mod faults;
 mod fields;
 pub mod film;
-mod gauges;
 pub mod laws;
 pub mod looped;
 mod page_head;

@@ -1,24 +1,23 @@
 //! What the program `film` does.
 
-ghost use Rattle.std.specs.Prelude.{◌≡◌, ◌≤◌, ◌<◌, Some, None, IfOk};
+ghost use Rattle.std.specs.Prelude.{◌≡◌, ◌≤◌, Some, None, codes};
 ghost use Rattle.cell_text.specs.Input.{TakesAtMost};
 ghost use Rattle.cell_text.specs.Output.{WrotePrefix};
-ghost use Rattle.cell_command.specs.Words.{texts_of};
+ghost use Rattle.cell_shell.specs.Printed.{Prints};
+ghost use Rattle.cell_shell.specs.Versions.{version_line};
+ghost use Rattle.cell_shell.specs.Words.{texts_of};
 ghost use Rattle.cell_config.specs.Settings.{max_bytes_read};
-ghost use Rattle.cell_film.specs.Served.{Films, Loops, Prints, request_of};
+ghost use Rattle.cell_film.specs.Served.{Films, Loops, request_of};
 
 use crate::configured::film_configured;
-use crate::faults::{fail, write_prefix};
 use crate::looped::loop_configured;
 use crate::request;
 use crate::request::Request;
-use cell_command::words_of;
 use cell_config::read_config;
-use cell_text::write_text;
+use cell_shell::{Exit, fail, print, print_prefix, print_version, texts_of, words_or_exit};
 use std::alloc::Global;
 use std::env::Env;
-use std::io;
-use std::io::{ErrorKind, Read, Write};
+use std::io::{Read, Write};
 
 /// The help.
 const HELP: &str = "\
@@ -27,15 +26,13 @@ Open it in a browser: film < examples/four_plates.toml > film.html
 The page shows the first 100,000 turns.
 --loop writes a picture that loops instead, from one plate that the feed belt takes to the next:
 film --loop < examples/three_plates.toml > cell.svg
+--version prints the version.
 Exit status: 0 on success and for help; 2 for bad arguments; otherwise 1: a refused
 configuration, a failed read or write, or no memory.
 ";
 
 /// What is printed for other words.
-const OTHER_WORDS: &str = "error: the only argument is --help or --loop\n";
-
-/// What is printed for a word that isn't text.
-const NO_TEXT: &str = "error: a word isn't UTF-8\n";
+const OTHER_WORDS: &str = "error: the only argument is --help, --loop or --version\n";
 
 /// Writes the page of a film of the configuration that it reads, or prints a fault. The page is
 /// made whole before any of it is written. Returns the exit status: 0 if it was written, 1
@@ -46,12 +43,12 @@ pub fn serve_film<R: Read, W: Write>(alloc: Global, reader: &mut R, writer: &mut
 {
     let config = match read_config(alloc, reader) {
         Ok(config) => config,
-        Err(fault) => return fail(writer, fault.text()),
+        Err(fault) => return fail(writer, fault.text()).status(),
     };
     let Ok(page) = film_configured(alloc, &config) else {
-        return fail(writer, "memory");
+        return fail(writer, "memory").status();
     };
-    print(writer, &page)
+    print(writer, page.as_bytes()).status()
 }
 
 /// Writes the picture that loops, of the configuration that it reads, or prints a fault. The picture
@@ -63,16 +60,16 @@ pub fn serve_loop<R: Read, W: Write>(alloc: Global, reader: &mut R, writer: &mut
 {
     let config = match read_config(alloc, reader) {
         Ok(config) => config,
-        Err(fault) => return fail(writer, fault.text()),
+        Err(fault) => return fail(writer, fault.text()).status(),
     };
     let Ok(picture) = loop_configured(alloc, &config) else {
-        return fail(writer, "memory");
+        return fail(writer, "memory").status();
     };
-    print(writer, &picture)
+    print(writer, picture.as_bytes()).status()
 }
 
 /// Does what the words ask for, and returns the exit status: 0 if the page or the picture was
-/// written, and for help; 1 for a refused configuration, a failed read or write, and if memory ran
+/// written, for help, and for the version; 1 for a refused configuration, a failed read or write, and if memory ran
 /// out; 2 for other words.
 pub fn serve<R: Read, W: Write>(alloc: Global, words: &[&str], reader: &mut R, writer: &mut W) -> u8
     ensures status { result ≤ 2 }
@@ -87,9 +84,13 @@ pub fn serve<R: Read, W: Write>(alloc: Global, words: &[&str], reader: &mut R, w
         Loops result (R.remaining reader.old) (R.remaining reader.new)
         (W.contents writer.old) (W.contents writer.new) }
 
-    // With `--help` after it: status 0 says that help was printed, status 1 that a prefix was.
+    // With `--help` or `-h` after it: status 0 says that help was printed, status 1 that a prefix
+    // was. With `--version`: the same of the version.
     ensures help { request_of (texts_of words.now) ≡ Some Request.Help →
         Prints result (W.contents writer.old) (W.contents writer.new) HELP.now }
+    ensures version { request_of (texts_of words.now) ≡ Some Request.Version →
+        Prints result (W.contents writer.old) (W.contents writer.new)
+        (version_line (codes "film")) }
 
     // Status 2 comes exactly for other words, of which a line was printed, or a prefix of it.
     ensures refused { result ≡ 2 → request_of (texts_of words.now) ≡ None }
@@ -103,28 +104,19 @@ pub fn serve<R: Read, W: Write>(alloc: Global, words: &[&str], reader: &mut R, w
     match request::request_of(words) {
         Some(Request::Film) => serve_film(alloc, reader, writer),
         Some(Request::Loop) => serve_loop(alloc, reader, writer),
-        Some(Request::Help) => print(writer, HELP),
-        None => refuse(writer, OTHER_WORDS),
+        Some(Request::Help) => print(writer, HELP.as_bytes()).status(),
+        Some(Request::Version) => print_version(writer, "film").status(),
+        None => refuse(writer).status(),
     }
 }
 
-/// Prints a text. Returns the exit status: 0 if it was written, 1 otherwise.
-fn print<W: Write>(writer: &mut W, text: &str) -> u8
-    ensures { Prints result (W.contents writer.old) (W.contents writer.new) text.now }
+/// Prints why words are refused, as far as the writer takes it, and returns `Refused`.
+fn refuse<W: Write>(writer: &mut W) -> Exit
+    ensures status { result ≡ Exit.Refused }
+    ensures line { WrotePrefix (W.contents writer.old) (W.contents writer.new) OTHER_WORDS.now }
 {
-    match write_text(writer, text.as_bytes()) {
-        Ok(()) => 0,
-        Err(_) => 1,
-    }
-}
-
-/// Prints why words are refused, as far as the writer takes it, and returns the exit status 2.
-fn refuse<W: Write>(writer: &mut W, line: &str) -> u8
-    ensures status { result ≡ 2 }
-    ensures line { WrotePrefix (W.contents writer.old) (W.contents writer.new) line.now }
-{
-    write_prefix(writer, line.as_bytes());
-    2
+    print_prefix(writer, OTHER_WORDS.as_bytes());
+    Exit::Refused
 }
 
 /// Runs the program with the words that it was started with, its input and its output, and returns
@@ -138,27 +130,12 @@ pub fn start<E: Env, R: Read, W: Write>(
     ensures status { result ≤ 2 }
     ensures read { TakesAtMost (R.remaining reader.old) (R.remaining reader.new) max_bytes_read }
 {
-    match serve_words(alloc, env, reader, writer) {
-        Ok(status) => status,
-        Err(error) if error.kind() == ErrorKind::OutOfMemory => fail(writer, "memory"),
-        Err(_) => refuse(writer, NO_TEXT),
+    let words = match words_or_exit(alloc, env, writer) {
+        Ok(words) => words,
+        Err(exit) => return exit.status(),
+    };
+    match texts_of(alloc, &words) {
+        Ok(texts) => serve(alloc, texts.as_slice(), reader, writer),
+        Err(_) => fail(writer, "memory").status(),
     }
-}
-
-/// Runs the program with words that are text.
-fn serve_words<E: Env, R: Read, W: Write>(
-    alloc: Global,
-    env: &E,
-    reader: &mut R,
-    writer: &mut W,
-) -> io::Result<u8>
-    ensures status { IfOk result (λ status. status ≤ 2) }
-    ensures read { TakesAtMost (R.remaining reader.old) (R.remaining reader.new) max_bytes_read }
-{
-    let words = words_of(alloc, env)?;
-    let mut texts = Vec::new(alloc);
-    for word in &words {
-        texts.push(word.as_str())?;
-    }
-    Ok(serve(alloc, texts.as_slice(), reader, writer))
 }

@@ -5,6 +5,7 @@ use super::doubles::{FailingReader, FailingWriter, run};
 use super::examples::{PRESS, config_text};
 use super::expected::PRESS_LINES;
 use super::pages::{is_whole, parts_of};
+use cell_shell::VERSION;
 use std::alloc::{AllocError, Global};
 use std::test::Fail;
 
@@ -15,11 +16,12 @@ Open it in a browser: film < examples/four_plates.toml > film.html
 The page shows the first 100,000 turns.
 --loop writes a picture that loops instead, from one plate that the feed belt takes to the next:
 film --loop < examples/three_plates.toml > cell.svg
+--version prints the version.
 Exit status: 0 on success and for help; 2 for bad arguments; otherwise 1: a refused
 configuration, a failed read or write, or no memory.
 ";
 
-const OTHER_WORDS: &str = "error: the only argument is --help or --loop\n";
+const OTHER_WORDS: &str = "error: the only argument is --help, --loop or --version\n";
 
 const NO_TEXT: &str = "error: a word isn't UTF-8\n";
 
@@ -42,7 +44,15 @@ type Row = (
 const ROWS: &[Row] = &[
     (&[b"./film", b"--help"], EMPTY, 0, HELP, 21),
     (&[b"bad\xff", b"--help"], EMPTY, 0, HELP, 21),
-    (&[b"", b"-h"], EMPTY, 2, OTHER_WORDS, 21),
+    (&[b"", b"-h"], EMPTY, 0, HELP, 21),
+    (&[b"./film", b"-V"], EMPTY, 2, OTHER_WORDS, 21),
+    (
+        &[b"./film", b"--version", b"--version"],
+        EMPTY,
+        2,
+        OTHER_WORDS,
+        21,
+    ),
     (
         &[b"./film", b"--help", b"--help"],
         EMPTY,
@@ -88,6 +98,22 @@ fn serves(rt: HostRuntime) {
     for row in ROWS {
         assert!(rt; is_served(rt.alloc(), row), "{row:?}");
     }
+}
+
+#[test]
+fn prints_its_version(rt: HostRuntime) -> Result<(), Fail> {
+    let wanted = format!(in rt.alloc(); "film {VERSION}\n")?;
+    let mut reader = EMPTY.as_bytes();
+    let mut written = Vec::new(rt.alloc());
+    let status = run(
+        rt.alloc(),
+        &[b"./film", b"--version"],
+        &mut reader,
+        &mut written,
+    );
+    assert!(rt; status == 0 && written.as_slice() == wanted.as_bytes());
+    assert!(rt; reader.len() == EMPTY.len());
+    Ok(())
 }
 
 #[test]
@@ -145,7 +171,9 @@ fn is_cut(
 const CUT: &[(&[&[u8]], &str, u8, usize)] = &[
     (&[b"./film", b"--help"], EMPTY, 1, 1),
     (FILM, BAD_LETTER, 1, 1),
-    (&[b"./film", b"-h"], EMPTY, 2, 1),
+    (&[b"./film", b"-h"], EMPTY, 1, 1),
+    (&[b"./film", b"--version"], EMPTY, 1, 1),
+    (&[b"./film", b"-V"], EMPTY, 2, 1),
     (FILM, EMPTY, 1, 97),
 ];
 

@@ -1,18 +1,10 @@
 -- What words ask for.
-use Rattle.std.proofs.Common.{◌≡◌, inl, inr, List, [], ◌∷◌, codes, refl, sym, subst}
-use Rattle.clap.specs.Words.{HasKind, Kinds, Text, kind_of}
-use Rattle.clap.specs.declared.error.Error.{Error}
-use Rattle.clap.specs.declared.error.kind.ErrorKind.TheVariants as ErrorKind
+use Rattle.std.proofs.Common.{inl, inr, List, [], ◌∷◌, codes, refl, sym, subst}
+use Rattle.clap.specs.Words.{Text}
 use Rattle.clap.proofs.OnLiterals.{clap_on_literals}
 use Rattle.cell_command.specs.Words.{AskForReplay}
 use Rattle.cell_command.specs.declared.words.Mode.TheVariants.{Replay, Sim}
 use Rattle.cell_program.specs.Asked.{AskFor, WordsAreServed}
-
--- of words that are accepted the only error is out of memory
-pub no_room : (kinds : Kinds) (e : Error) → HasKind kinds e → kinds ≡ [] → kind_of e ≡ ErrorKind.OutOfMemory
-no_room kinds e (inl h) none = h
-no_room (k ∷ ks) e (inr h) none = cc
-no_room [] e (inr h) none = absurd h
 
 by_name : (name : Text) → AskFor Replay (name ∷ [])
 unfolding clap_on_literals

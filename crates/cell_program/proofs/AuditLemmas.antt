@@ -6,7 +6,7 @@ use Rattle.cell_notes.specs.declared.run_record.RunRecord.{RunRecord}
 use Rattle.cell_rules.specs.Audited.{IsAudited}
 use Rattle.cell_report.specs.declared.audit_faults.AuditFault.{AuditFault}
 use Rattle.cell_report.specs.declared.audit_faults.AuditFault.TheVariants.{Twice, Gap, Differs, End, Memory}
-use Rattle.cell_program.specs.declared.exit.Exit.TheVariants.{Failed}
+use Rattle.cell_shell.specs.declared.exit.Exit.TheVariants.{Failed}
 use Rattle.cell_program.specs.Reported.{AreFine, AuditFinds, IsAmiss, ReportTold}
 use Rattle.cell_program.specs.Served.{IsAuditOf, ReportFails}
 

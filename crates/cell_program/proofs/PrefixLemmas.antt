@@ -1,24 +1,9 @@
--- Prefixes of texts that are written.
-use Rattle.std.proofs.Common.{inr, codes, ℕ, List, [], length, Option, Some, None, Result, Ok, Err, OnOk, OnErr, IfSome, sym, subst, append-nil, arith}
-use Rattle.std.proofs.lemmas.List.{take_all}
-use Rattle.std.specs.Io.KnownBytes.{Appends}
+-- What a failed replay has written.
+use Rattle.std.proofs.Common.{inr, codes, ℕ, List, Option}
 use Rattle.cell_text.specs.Output.{WrotePrefix}
+use Rattle.cell_shell.proofs.Prefixes.{nothing_written}
 use Rattle.cell_program.specs.Served.{ReplayFails, fault_line}
 
--- the whole text is a prefix of it
-pub whole_prefix : (old new : Option (List ℕ)) (text : List ℕ) → Appends old new text → WrotePrefix old new text
-whole_prefix old new text a = (length text, subst (Appends old new) (sym (take_all (length text) text (omega arith))) a)
-
-pub written_prefix : {A E : Type 0} → (r : Result A E) (old new : Option (List ℕ)) (text : List ℕ) → OnOk r (Appends old new text) → OnErr r (WrotePrefix old new text) → WrotePrefix old new text
-written_prefix (Ok x) old new text a b = whole_prefix old new text a
-written_prefix (Err e) old new text a b = b
-
--- nothing was written
-pub nothing_written : (old : Option (List ℕ)) → Appends old old []
-nothing_written None = tt
-nothing_written (Some xs) = sym (append-nil xs)
-
 -- no line of a script was written before the line of a fault
-pub told_before : (o old new : Option (List ℕ)) → WrotePrefix old new (fault_line (codes "memory")) → IfSome o (λ bytes. ReplayFails bytes old new)
-told_before None old new w = tt
-told_before (Some bytes) old new w = inr (inr (old, ((0, nothing_written old), inr w)))
+pub told_before : (old new : Option (List ℕ)) → WrotePrefix old new (fault_line (codes "memory")) → (bytes : List ℕ) → ReplayFails bytes old new
+told_before old new w bytes = inr (inr (old, ((0, nothing_written old), inr w)))

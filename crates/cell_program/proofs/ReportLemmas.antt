@@ -11,7 +11,7 @@ use Rattle.cell_report.specs.Report.{report_text}
 use Rattle.cell_report.specs.declared.audit_faults.AuditFault.{AuditFault}
 use Rattle.cell_report.specs.declared.audit_faults.AuditFault.TheVariants.{Memory}
 use Rattle.cell_notes.specs.declared.run_record.RunRecord.{RunRecord}
-use Rattle.cell_program.specs.declared.exit.Exit.TheVariants.{Well, Failed}
+use Rattle.cell_shell.specs.declared.exit.Exit.TheVariants.{Well, Failed}
 use Rattle.cell_program.specs.Reported.{AreFine, AuditFinds, IsAmiss, ReportTold}
 
 -- what `find_fault` answers of a record

@@ -18,7 +18,7 @@ use Rattle.cell_config.specs.ConfigWords.{config_fault_text}
 use Rattle.cell_config.specs.declared.configuration.Config.{Config}
 use Rattle.cell_config.specs.declared.fault.ConfigFault.{ConfigFault}
 use Rattle.cell_rules.specs.Audited.{EndsIn, IsAudited}
-use Rattle.cell_program.specs.declared.exit.Exit.TheVariants.{Well, Failed}
+use Rattle.cell_shell.specs.declared.exit.Exit.TheVariants.{Well, Failed}
 use Rattle.cell_program.specs.Reported.{ReportTold}
 use Rattle.cell_program.specs.Served.{HasOneReport, SimFails, TellsOneRunOf, TellsRunOf, WasSimulated, fault_line}
 use Rattle.cell_program.proofs.AuditLemmas.{report_fails}

@@ -18,7 +18,7 @@ use Rattle.cell_report.specs.Report.{report_text}
 use Rattle.cell_report.specs.declared.audit_faults.AuditFault.{AuditFault}
 use Rattle.cell_program.specs.OneText.{OneByCurves, ReportsAreOne}
 use Rattle.cell_program.specs.Served.{HasOneReport, TellsRunOf}
-use Rattle.cell_program.proofs.PlaceLemmas.{fit_alike, same_scales}
+use Rattle.cell_configured.proofs.Places.{fit_alike, same_scales}
 
 -- records that say the same have one report
 one_text : (audit : Option AuditFault) (r s : RunRecord) → SayTheSame r s → report_text s audit ≡ report_text r audit

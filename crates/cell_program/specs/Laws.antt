@@ -21,7 +21,7 @@ use Rattle.cell_workers.specs.Faults.{run_fault_text}
 use Rattle.cell_workers.specs.declared.fault.RunFault.TheVariants.{Spawn}
 use Rattle.cell_workers.specs.Laws.{HadTurns}
 use Rattle.cell_workers.specs.Records.{has_worker}
-use Rattle.cell_program.specs.declared.exit.Exit.TheVariants.{Well}
+use Rattle.cell_shell.specs.declared.exit.Exit.TheVariants.{Well}
 use Rattle.cell_program.specs.Reported.{ReportTold}
 use Rattle.cell_program.specs.Served.{TellsRunOf, TellsWorkers, TellsWorkersOf, WasReplayed, WasRun, WasSimulated, fault_line}
 

@@ -7,8 +7,8 @@ use Rattle.cell_text.specs.Output.{WrotePrefix}
 use Rattle.cell_notes.specs.declared.run_record.RunRecord.{RunRecord}
 use Rattle.cell_notes.specs.declared.status.Status.{Status}
 use Rattle.cell_notes.specs.declared.status.Status.TheVariants.{Fine}
-use Rattle.cell_program.specs.declared.exit.Exit.{Exit}
-use Rattle.cell_program.specs.declared.exit.Exit.TheVariants.{Well, Failed, Refused}
+use Rattle.cell_shell.specs.declared.exit.Exit.{Exit}
+use Rattle.cell_shell.specs.declared.exit.Exit.TheVariants.{Well, Failed, Refused}
 use Rattle.cell_rules.specs.Audited.{HasNoHistory, IsAudited}
 use Rattle.cell_report.specs.AuditFaults.{IsFault}
 use Rattle.cell_report.specs.Report.{report_text}

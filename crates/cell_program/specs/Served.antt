@@ -1,8 +1,7 @@
 -- What a run of the program has done.
-use Rattle.std.specs.Prelude.{◌≡◌, ◌<◌, ℕ, true, List, ◌++◌, codes, ◌⊎◌, Option, Some, None, Ok, Err, IfSome}
+use Rattle.std.specs.Prelude.{◌≡◌, ℕ, true, List, codes, ◌⊎◌, Option, Some, None, Ok, Err, IfSome}
 use Rattle.std.specs.Io.KnownBytes.{Appends}
 use Rattle.cell_replay.specs.Faults.{WrotePrefix, WroteLines}
-use Rattle.cell_text.specs.Input.{TakesAtMost}
 use Rattle.cell_replay.specs.Script.{max_bytes_read, script_lines, script_outcome, script_text}
 use Rattle.cell_report.specs.Report.{report_text}
 use Rattle.cell_replay.specs.declared.script.Outcome.TheVariants.{Clean, Refused}
@@ -19,11 +18,9 @@ use Rattle.cell_config.specs.Settings.{Settings, settings_of, max_bytes_read as 
 use Rattle.cell_config.specs.ConfigWords.{config_fault_text}
 use Rattle.cell_config.specs.declared.fault.ConfigFault.{ConfigFault}
 use Rattle.cell_workers.specs.Records.{TellsWork}
+pub use Rattle.cell_shell.specs.Faults.{fault_line}
+use Rattle.cell_shell.specs.Served.{Served}
 use Rattle.cell_program.specs.Reported.{AreFine}
-
--- the line of a fault
-abbrev pub fault_line : List ℕ → List ℕ
-fault_line text = codes "fault " ++ (text ++ codes "\n")
 
 -- the rest of the input is a clean script, and its text was written
 abbrev pub WasReplayed : Option (List ℕ) → Option (List ℕ) → Option (List ℕ) → Type 0
@@ -113,24 +110,14 @@ RunFails turns tries bytes old new =
     ⊎ (WrotePrefix old new (fault_line (codes "spawn"))
     ⊎ ((r : RunRecord) × (TellsWorkersOf turns tries bytes r × ReportFails r old new))))
 
--- What `serve` says of a replay: the exit status, with what was written; and what was taken of the input. Known bytes
--- of the input are `input` before and `rest` after it; of the output, `old` and `new`.
-pub record Replays (exit : ℕ) (input rest old new : Option (List ℕ)) : Type 0 where
-  pub status : exit < 2
-  pub well : exit ≡ 0 → WasReplayed input old new
-  pub failed : exit ≡ 1 → IfSome input (λ bytes. ReplayFails bytes old new)
-  pub taken : TakesAtMost input rest max_bytes_read
+-- what `serve` says of a replay
+abbrev pub Replays : ℕ → Option (List ℕ) → Option (List ℕ) → Option (List ℕ) → Option (List ℕ) → Type 0
+Replays = Served WasReplayed ReplayFails max_bytes_read
 
--- what `serve` says of a simulation
-pub record Simulates (exit : ℕ) (input rest old new : Option (List ℕ)) : Type 0 where
-  pub status : exit < 2
-  pub well : exit ≡ 0 → WasSimulated input old new
-  pub failed : exit ≡ 1 → IfSome input (λ bytes. SimFails bytes old new)
-  pub taken : TakesAtMost input rest config_bytes_read
+-- what it says of a simulation
+abbrev pub Simulates : ℕ → Option (List ℕ) → Option (List ℕ) → Option (List ℕ) → Option (List ℕ) → Type 0
+Simulates = Served WasSimulated SimFails config_bytes_read
 
--- what `serve` says of a run by six workers
-pub record Runs (turns tries exit : ℕ) (input rest old new : Option (List ℕ)) : Type 0 where
-  pub status : exit < 2
-  pub well : exit ≡ 0 → WasRun turns tries input old new
-  pub failed : exit ≡ 1 → IfSome input (λ bytes. RunFails turns tries bytes old new)
-  pub taken : TakesAtMost input rest config_bytes_read
+-- what it says of a run by six workers
+abbrev pub Runs : ℕ → ℕ → ℕ → Option (List ℕ) → Option (List ℕ) → Option (List ℕ) → Option (List ℕ) → Type 0
+Runs turns tries = Served (WasRun turns tries) (RunFails turns tries) config_bytes_read

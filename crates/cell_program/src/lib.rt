@@ -2,9 +2,6 @@
 //! simulates the cell, or runs it by six workers.
 #![tactic(auto)]
 
-pub mod exit;
-pub mod faults;
-pub mod gauges;
 pub mod laws;
 pub mod reporting;
 pub mod serve;

@@ -3,9 +3,9 @@
 ghost use Rattle.std.specs.Prelude.{◌≡◌, ◌≢◌, ◌↔◌, IsTrue, None};
 ghost use Rattle.cell_program.specs.Reported.{AreFine, ReportTold};
 
-use crate::exit::Exit;
 use cell_notes::{RunRecord, Status};
 use cell_report::{AuditFault, find_fault, write_report};
+use cell_shell::Exit;
 use std::alloc::Global;
 use std::io::Write;
 
@@ -30,7 +30,7 @@ fn is_well(run: &RunRecord, audited: Option<AuditFault>) -> bool
 }
 
 /// Whether no machine was stopped.
-fn are_fine(status: &[Status]) -> bool
+pub fn are_fine(status: &[Status]) -> bool
     ensures { IsTrue result ↔ AreFine status.now }
 {
     status.iter().all(|status| matches!(status, Status::Fine))

@@ -5,9 +5,8 @@ ghost use Rattle.cell_text.specs.Input.{TakesAtMost};
 ghost use Rattle.cell_replay.specs.Script.{max_bytes_read};
 ghost use Rattle.cell_program.specs.Served.{ReplayFails, WasReplayed};
 
-use crate::exit::Exit;
-use crate::faults::fail;
 use cell_replay::{Outcome, ReplayFault, replay};
+use cell_shell::{Exit, fail};
 use std::alloc::Global;
 use std::io::{Read, Write};
 

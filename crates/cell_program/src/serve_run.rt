@@ -10,16 +10,15 @@ ghost use Rattle.cell_config.specs.Configured.{AreAxisScales, AreCurvesOf, in_or
 ghost use Rattle.cell_config.specs.Settings.{max_bytes_read};
 ghost use Rattle.cell_program.specs.Served.{RunFails, WasRun};
 ghost use Rattle.cell_workers.specs.Records.{TellsWork};
-ghost use Rattle.cell_program.specs.Gauges.{scales_by_points};
+ghost use Rattle.cell_configured.specs.Gauges.{scales_by_points};
 
-use crate::exit::Exit;
-use crate::faults::fail;
-use crate::gauges::{CellPoints, cell_with_gauges};
 use crate::reporting::report;
 use cell_calib::Gauge;
 use cell_config::{Config, read_config};
+use cell_configured::{CellPoints, cell_with_gauges, gauges_on};
 use cell_notes::RunRecord;
 use cell_rules::State;
+use cell_shell::{Exit, fail};
 use cell_workers::{Gate, OpenGate, RunFault, run_cell};
 use std::alloc::Global;
 use std::io::{Read, Write};
@@ -82,21 +81,7 @@ where
         config.now.start tries turns (G.may_answer gate.now) r) }
     ensures tries { result ≢ Err RunFault.Tries }
 {
-    let [arm1, arm2, rotation, turn, gripper] = config.curves;
-    let points = CellPoints {
-        arm1: arm1.points(),
-        arm2: arm2.points(),
-        rotation: rotation.points(),
-        turn: turn.points(),
-        gripper: gripper.points(),
-    };
-    let gauges = (
-        move |raw: u16| arm1.at(raw),
-        move |raw: u16| arm2.at(raw),
-        move |raw: u16| rotation.at(raw),
-        move |raw: u16| turn.at(raw),
-        move |raw: u16| gripper.at(raw),
-    );
+    let (points, gauges) = gauges_on!(config.curves);
     run_with_gauges(rt, alloc, gauges, points, config.start, turns, tries, gate)
 }
 

@@ -1,16 +1,14 @@
 //! Starts the program: from its arguments to its exit status.
 
-ghost use Rattle.std.specs.Prelude.{◌≤◌, IfOk};
+ghost use Rattle.std.specs.Prelude.{◌≤◌};
 ghost use Rattle.cell_text.specs.Input.{TakesAtMost};
 ghost use Rattle.cell_replay.specs.Script.{max_bytes_read};
 
-use crate::faults::fail;
-use crate::serve::{refuse_bytes, serve};
-use cell_command::words_of;
+use crate::serve::serve;
+use cell_shell::{fail, texts_of, words_or_exit};
 use std::alloc::Global;
 use std::env::Env;
-use std::io;
-use std::io::{ErrorKind, Read, Write};
+use std::io::{Read, Write};
 use std::sync::Wait;
 use std::thread::Threads;
 
@@ -28,30 +26,12 @@ where
     ensures status { result ≤ 2 }
     ensures read { TakesAtMost (R.remaining reader.old) (R.remaining reader.new) max_bytes_read }
 {
-    match serve_words(rt, alloc, env, reader, writer) {
-        Ok(status) => status,
-        Err(error) if error.kind() == ErrorKind::OutOfMemory => fail(writer, "memory").status(),
-        Err(_) => refuse_bytes(writer).status(),
+    let words = match words_or_exit(alloc, env, writer) {
+        Ok(words) => words,
+        Err(exit) => return exit.status(),
+    };
+    match texts_of(alloc, &words) {
+        Ok(texts) => serve(rt, alloc, texts.as_slice(), reader, writer),
+        Err(_) => fail(writer, "memory").status(),
     }
-}
-
-/// Runs the program with words that are text.
-fn serve_words<T, E: Env, R: Read, W: Write>(
-    rt: &T,
-    alloc: Global,
-    env: &E,
-    reader: &mut R,
-    writer: &mut W,
-) -> io::Result<u8>
-where
-    T: Threads + Wait + Sync,
-    ensures status { IfOk result (λ status. status ≤ 2) }
-    ensures read { TakesAtMost (R.remaining reader.old) (R.remaining reader.new) max_bytes_read }
-{
-    let words = words_of(alloc, env)?;
-    let mut texts = Vec::new(alloc);
-    for word in &words {
-        texts.push(word.as_str())?;
-    }
-    Ok(serve(rt, alloc, texts.as_slice(), reader, writer))
 }

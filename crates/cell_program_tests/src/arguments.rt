@@ -3,8 +3,8 @@
 use super::doubles::Given;
 use super::reports::{EMPTY, PRESS, PRESS_REPORT, SIX_WORKERS};
 use super::served::{SCRIPT, TEXT};
-use cell_command::words_of;
 use cell_program::start::start;
+use cell_shell::words_of;
 use std::alloc::Global;
 use std::io::ErrorKind;
 use std::sync::Wait;

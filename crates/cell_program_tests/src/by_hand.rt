@@ -2,16 +2,16 @@
 //! here.
 
 ghost use Rattle.cell_config.specs.Configured.{AreAxisScales};
+ghost use Rattle.cell_configured.specs.Gauges.{scales_by_points};
 ghost use Rattle.cell_parts.specs.Axes.{AreCellScales};
-ghost use Rattle.cell_program.specs.Gauges.{scales_by_points};
 ghost use Rattle.cell_rules.specs.Start.{IsStartState};
 
 use super::reports::{EMPTY, PRESS, PRESS_REPORT, SIX_WORKERS};
 use cell_calib::{Calibration, Gauge, line_at};
 use cell_config::{Config, read_config};
+use cell_configured::CellPoints;
 use cell_notes::RunRecord;
 use cell_plant::{Cell, simulate};
-use cell_program::gauges::CellPoints;
 use cell_report::{audit, write_report};
 use cell_workers::{OpenGate, run_cell};
 use std::alloc::Global;

@@ -2,10 +2,10 @@
 
 use super::doubles::{is_served, run};
 use cell_command::{Mode, read_words};
-use cell_program::exit::Exit;
-use cell_program::serve::refuse_bytes;
+use cell_shell::{Exit, VERSION, refuse_bytes};
 use std::alloc::Global;
 use std::sync::Wait;
+use std::test::Fail;
 use std::thread::Threads;
 
 pub const SCRIPT: &str =
@@ -54,6 +54,12 @@ const OTHERS: &[(&[&str], u8)] = &[
     (&["cell", "--help"], 0),
     (&["cell", "replay", "--help"], 0),
     (&["cell", "sim", "--help"], 0),
+    (&["cell", "-h"], 0),
+    (&["cell", "--version"], 0),
+    (&["cell", "-V"], 2),
+    (&["cell", "version"], 2),
+    (&["cell", "--version", "sim"], 2),
+    (&["cell", "sim", "--version"], 2),
     (&["cell", "go"], 2),
     (&["cell", "sim", "sim"], 2),
     (&["cell", "run", "run"], 2),
@@ -123,6 +129,7 @@ const MODES: &[(&[&str], Option<Mode>)] = &[
     (&["cell", "simulate"], None),
     (&["cell", "run", "3"], None),
     (&["cell", "Replay"], None),
+    (&["cell", "--version"], None),
     (&["cell", ""], None),
 ];
 
@@ -221,6 +228,14 @@ fn helps(rt: HostRuntime) {
     for (words, parts) in HELPS {
         assert!(rt; is_helped(&rt, rt.alloc(), words, parts), "{words:?}");
     }
+}
+
+#[test]
+fn prints_its_version(rt: HostRuntime) -> Result<(), Fail> {
+    let wanted = format!(in rt.alloc(); "cell {VERSION}\n")?;
+    let words = ["cell", "--version"];
+    assert!(rt; is_served(&rt, rt.alloc(), &words, SCRIPT, 0, &wanted));
+    Ok(())
 }
 
 #[test]

@@ -1,11 +1,11 @@
 -- What is said of a run that was told, and of a recording.
-use Rattle.std.proofs.Common.{◌≡◌, ◌≢◌, ◌<◌, ◌≤◌, Bool, true, false, inl, inr, ℕ, IsTrue, ◌↔◌, List, codes, length, Option, Some, None, Ok, Err, IfSome, map, sym, subst, ◌∙◌}
+use Rattle.std.proofs.Common.{◌≡◌, ◌≢◌, ◌≤◌, Bool, true, false, inl, inr, ℕ, IsTrue, ◌↔◌, List, length, Option, Some, None, Ok, Err, IfSome, map, sym, subst, ◌∙◌}
 use Rattle.std.specs.Io.KnownBytes.{Appends}
 use Rattle.cell_types.specs.declared.answer.Event.{Event}
 use Rattle.cell_types.specs.Journals.{journal_of}
 use Rattle.cell_rules.specs.ModelState.{ModelState}
 use Rattle.cell_rules.specs.Start.{IsStartState}
-use Rattle.cell_rules.specs.Audited.{HasNoHistory, IsAudited}
+use Rattle.cell_rules.specs.Audited.{IsAudited}
 use Rattle.cell_text.specs.Output.{WrotePrefix}
 use Rattle.cell_parts.specs.Axes.{CellScales}
 use Rattle.cell_calib.specs.Curve.{pairs_of}
@@ -21,11 +21,12 @@ use Rattle.cell_config.specs.declared.fault.ConfigFault.{ConfigFault}
 use Rattle.cell_workers.specs.Faults.{run_fault_text}
 use Rattle.cell_workers.specs.declared.fault.RunFault.{RunFault}
 use Rattle.cell_workers.specs.declared.fault.RunFault.TheVariants.{Tries, Memory, Spawn}
-use Rattle.cell_program.specs.declared.exit.Exit.{Exit}
-use Rattle.cell_program.specs.declared.exit.Exit.TheVariants.{Well, Failed, Refused}
+use Rattle.cell_shell.specs.declared.exit.Exit.{Exit}
+use Rattle.cell_shell.specs.declared.exit.Exit.TheVariants.{Well, Failed, Refused}
 use Rattle.cell_program.specs.Reported.{AreFine}
-use Rattle.cell_program.specs.Served.{TellsWorkers, TellsWorkersOf, fault_line}
-use Rattle.cell_recorder.specs.Recorded.{IsHistoryOf, IsTold, IsWritten, RecordingFails, TellsPacedRun, WasRecorded, WroteScript}
+use Rattle.cell_program.specs.Served.{TellsWorkers}
+use Rattle.cell_shell.specs.Faults.{fault_line}
+use Rattle.cell_recorder.specs.Recorded.{IsHistoryOf, IsTold, IsWritten, RecordingFails, TellsPacedRun, WasRecorded}
 
 -- a run whose script was written, whole or in part
 pub told_by_writing : (r : RunRecord) (fine : Bool) (history : List Event) (script : List ℕ) (e : Exit) (old new : Option (List ℕ)) → IsHistoryOf r history → length history ≤ max_records → script ≡ script_of r.start history

@@ -12,10 +12,11 @@ use Rattle.cell_history.specs.Scripts.{script_of}
 use Rattle.cell_config.specs.Configured.{Says}
 use Rattle.cell_config.specs.ConfigWords.{config_fault_text}
 use Rattle.cell_config.specs.declared.fault.ConfigFault.{ConfigFault}
-use Rattle.cell_program.specs.declared.exit.Exit.{Exit}
-use Rattle.cell_program.specs.declared.exit.Exit.TheVariants.{Well, Failed, Refused}
+use Rattle.cell_shell.specs.declared.exit.Exit.{Exit}
+use Rattle.cell_shell.specs.declared.exit.Exit.TheVariants.{Well, Failed, Refused}
 use Rattle.cell_program.specs.Reported.{AreFine}
-use Rattle.cell_program.specs.Served.{TellsWorkersOf, fault_line}
+use Rattle.cell_program.specs.Served.{TellsWorkersOf}
+use Rattle.cell_shell.specs.Faults.{fault_line}
 
 -- a history that is legal, gives a run's journals, and leads to the run's end
 abbrev pub IsHistoryOf : RunRecord → List Event → Type 0

@@ -1,7 +1,7 @@
 -- What the program `history` does for its words.
-use Rattle.std.specs.Prelude.{◌≡◌, ◌<◌, ℕ, List, [], ◌∷◌, codes, Option, IfSome}
+use Rattle.std.specs.Prelude.{ℕ, List, [], ◌∷◌, codes, Option}
 use Rattle.clap.specs.Words.{Text}
-use Rattle.cell_text.specs.Input.{TakesAtMost}
+use Rattle.cell_shell.specs.Served.{Served}
 use Rattle.cell_command.specs.Words.{AskForRun}
 use Rattle.cell_config.specs.Settings.{max_bytes_read}
 use Rattle.cell_recorder.specs.Recorded.{RecordingFails, WasRecorded}
@@ -18,9 +18,6 @@ run_words words = codes "cell" ∷ codes "run" ∷ after_name words
 abbrev pub AskForHistory : ℕ → ℕ → List Text → Type 0
 AskForHistory turns tries words = AskForRun turns tries (run_words words)
 
--- the exit status, with what was written; and what was taken of the input
-pub record Records (turns tries exit : ℕ) (input rest old new : Option (List ℕ)) : Type 0 where
-  pub status : exit < 2
-  pub well : exit ≡ 0 → WasRecorded turns tries input old new
-  pub failed : exit ≡ 1 → IfSome input (λ bytes. RecordingFails turns tries bytes old new)
-  pub taken : TakesAtMost input rest max_bytes_read
+-- what `serve` says of a recording
+abbrev pub Records : ℕ → ℕ → ℕ → Option (List ℕ) → Option (List ℕ) → Option (List ℕ) → Option (List ℕ) → Type 0
+Records turns tries = Served (WasRecorded turns tries) (RecordingFails turns tries) max_bytes_read

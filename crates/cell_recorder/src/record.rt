@@ -7,9 +7,8 @@ ghost use Rattle.cell_recorder.specs.Recorded.{RecordingFails, WasRecorded};
 
 use crate::tell::tell;
 use cell_config::read_config;
-use cell_program::exit::Exit;
-use cell_program::faults::fail;
 use cell_program::serve_run::run_configured;
+use cell_shell::{Exit, fail};
 use cell_workers::PacedGate;
 use std::alloc::Global;
 use std::io::{Read, Write};

@@ -2,24 +2,18 @@
 
 ghost use Rattle.std.specs.Prelude.{◌≡◌, ◌≤◌, ◌<◌, ◌⊎◌, ℕ, codes, IfOk};
 ghost use Rattle.std.specs.Io.KnownBytes.{Appends};
-ghost use Rattle.clap.specs.Words.{kind_of};
 ghost use Rattle.cell_text.specs.Input.{TakesAtMost};
-ghost use Rattle.cell_text.specs.Output.{WrotePrefix};
+ghost use Rattle.cell_shell.specs.Printed.{Prints};
+ghost use Rattle.cell_shell.specs.Versions.{AskForVersion, version_line};
 ghost use Rattle.cell_config.specs.Settings.{max_bytes_read};
 ghost use Rattle.cell_command.specs.Words.{AreTaken, AskForHelp, texts_of};
-ghost use Rattle.cell_program.specs.Served.{fault_line};
 ghost use Rattle.cell_recorder.specs.Served.{AskForHistory, Records, run_words as run_words_of};
 
 use crate::record::record;
-use cell_command::{Mode, read_words, words_of};
-use cell_program::exit::Exit;
-use cell_program::faults::fail;
-use cell_program::serve::refuse_bytes;
-use cell_text::write_text;
-use clap::error::ErrorKind;
+use cell_command::{Mode, read_words, refuse_with_help};
+use cell_shell::{Exit, asks_for_version, fail, print_version, texts_of, words_or_exit};
 use std::alloc::{AllocError, Global};
 use std::env::Env;
-use std::io;
 use std::io::{Read, Write};
 use std::sync::Wait;
 use std::thread::Threads;
@@ -30,6 +24,7 @@ Runs the six machines in six threads, all at one pace, and writes what they aske
 of the interlock as a script, which `cell replay` answers as they were answered.
 
 Usage: history [--turns N] [--tries N]
+       history --version
 
 Reads a configuration, as `cell sim` does. Its schedule is checked but not used.
   --turns N  Maximum of turns per machine, 1 to 100000 [default: 1000]
@@ -45,7 +40,7 @@ Example:
 /// Does what the words ask for, and returns the exit status. The first word is the program's name;
 /// the others are those that may follow the word `run` of `cell`. It waits until all threads have
 /// ended. The status is
-/// - 0 if all went well, and for help;
+/// - 0 if all went well, for help, and for the version;
 /// - 1 for a refused input, a stopped machine, a history that is too long for a script, a failed
 ///   read or write, a thread that couldn't be started, and if memory ran out;
 /// - 2 for words that `clap` refuses.
@@ -67,19 +62,29 @@ where
         Records turns tries result (R.remaining reader.old) (R.remaining reader.new)
         (W.contents writer.old) (W.contents writer.new) }
 
-    // Status 0 comes only for words that `clap` takes and for words that ask for help. Status 2
-    // never comes for words that it takes.
+    // With `--version` after the name: status 0 says that the version was printed, status 1 that a
+    // prefix of its line was.
+    ensures version { AskForVersion (texts_of words.now) →
+        Prints result (W.contents writer.old) (W.contents writer.new)
+        (version_line (codes "history")) }
+
+    // Status 0 comes only for words that `clap` takes and for words that ask for help or for the
+    // version. Status 2 never comes for words that it takes.
     ensures taken { result ≡ 0 → AreTaken (run_words_of (texts_of words.now))
-        ⊎ AskForHelp (run_words_of (texts_of words.now)) }
+        ⊎ (AskForHelp (run_words_of (texts_of words.now)) ⊎ AskForVersion (texts_of words.now)) }
     ensures refused { AreTaken (run_words_of (texts_of words.now)) → result < 2 }
 
-    // For words that `clap` doesn't take, status 0 says that the help was written.
-    ensures help { ¬ AreTaken (run_words_of (texts_of words.now)) → result ≡ 0 →
+    // For other words that `clap` doesn't take, status 0 says that the help was written.
+    ensures help { ¬ AreTaken (run_words_of (texts_of words.now)) →
+        ¬ AskForVersion (texts_of words.now) → result ≡ 0 →
         Appends (W.contents writer.old) (W.contents writer.new) HELP.now }
 
     // At most one byte more is read than a configuration may have.
     ensures read { TakesAtMost (R.remaining reader.old) (R.remaining reader.new) max_bytes_read }
 {
+    if asks_for_version(words) {
+        return print_version(writer, "history").status();
+    }
     let Ok(words) = run_words(alloc, words) else {
         return fail(writer, "memory").status();
     };
@@ -88,7 +93,7 @@ where
         // (never: the word `run` stands before the flags)
         Ok(Mode::Replay) => Exit::Failed.status(),
         Ok(Mode::Sim) => Exit::Failed.status(),
-        Err(error) => refuse(error, writer).status(),
+        Err(error) => refuse_with_help(writer, error, HELP).status(),
     }
 }
 
@@ -106,22 +111,6 @@ fn run_words<'a>(alloc: Global, words: &[&'a str]) -> Result<Vec<&'a str>, Alloc
     Ok(all)
 }
 
-/// Prints help, or why the words were refused, as far as the writer takes it.
-fn refuse<W: Write>(error: clap::Error, writer: &mut W) -> Exit
-    ensures help { result ≡ Exit.Well → (kind_of error ≡ ErrorKind.DisplayHelp)
-        × Appends (W.contents writer.old) (W.contents writer.new) HELP.now }
-    ensures memory { kind_of error ≡ ErrorKind.OutOfMemory → result ≡ Exit.Failed }
-    ensures line { kind_of error ≡ ErrorKind.OutOfMemory →
-        WrotePrefix (W.contents writer.old) (W.contents writer.new) (fault_line (codes "memory")) }
-{
-    let (printed, exit) = match error.kind() {
-        ErrorKind::OutOfMemory => return fail(writer, "memory"),
-        ErrorKind::DisplayHelp => (write_text(writer, HELP.as_bytes()).is_ok(), Exit::Well),
-        _ => (write!(writer, "{error}").is_ok(), Exit::Refused),
-    };
-    if printed { exit } else { Exit::Failed }
-}
-
 /// Runs the program with the words that it was started with, its input and its output, and returns
 /// the exit status.
 pub fn start<T, E: Env, R: Read, W: Write>(
@@ -136,32 +125,12 @@ where
     ensures status { result ≤ 2 }
     ensures read { TakesAtMost (R.remaining reader.old) (R.remaining reader.new) max_bytes_read }
 {
-    match serve_words(rt, alloc, env, reader, writer) {
-        Ok(status) => status,
-        Err(error) if error.kind() == io::ErrorKind::OutOfMemory => {
-            fail(writer, "memory").status()
-        }
-        Err(_) => refuse_bytes(writer).status(),
+    let words = match words_or_exit(alloc, env, writer) {
+        Ok(words) => words,
+        Err(exit) => return exit.status(),
+    };
+    match texts_of(alloc, &words) {
+        Ok(texts) => serve(rt, alloc, texts.as_slice(), reader, writer),
+        Err(_) => fail(writer, "memory").status(),
     }
-}
-
-/// Runs the program with words that are text.
-fn serve_words<T, E: Env, R: Read, W: Write>(
-    rt: &T,
-    alloc: Global,
-    env: &E,
-    reader: &mut R,
-    writer: &mut W,
-) -> io::Result<u8>
-where
-    T: Threads + Wait + Sync,
-    ensures status { IfOk result (λ status. status ≤ 2) }
-    ensures read { TakesAtMost (R.remaining reader.old) (R.remaining reader.new) max_bytes_read }
-{
-    let words = words_of(alloc, env)?;
-    let mut texts = Vec::new(alloc);
-    for word in &words {
-        texts.push(word.as_str())?;
-    }
-    Ok(serve(rt, alloc, texts.as_slice(), reader, writer))
 }

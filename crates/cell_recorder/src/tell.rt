@@ -1,15 +1,14 @@
 //! Tells a run as a script.
 
-ghost use Rattle.std.specs.Prelude.{◌≢◌, ◌↔◌, IsTrue, List};
+ghost use Rattle.std.specs.Prelude.{◌≢◌, List};
 ghost use Rattle.cell_types.specs.declared.answer.Event.{Event};
-ghost use Rattle.cell_program.specs.Reported.{AreFine};
 ghost use Rattle.cell_recorder.specs.Recorded.{IsHistoryOf, IsTold, IsWritten};
 
 use cell_history::script_of;
-use cell_notes::{RunRecord, Status};
-use cell_program::exit::Exit;
-use cell_program::faults::fail;
+use cell_notes::RunRecord;
+use cell_program::reporting::are_fine;
 use cell_report::{AuditFault, audit};
+use cell_shell::{Exit, fail};
 use cell_text::write_text;
 use std::alloc::Global;
 use std::io::Write;
@@ -51,11 +50,4 @@ fn write_script<W: Write>(writer: &mut W, script: &[u8], fine: bool) -> Exit
         Ok(()) if fine => Exit::Well,
         Ok(()) | Err(_) => Exit::Failed,
     }
-}
-
-/// Whether no machine was stopped.
-fn are_fine(status: &[Status]) -> bool
-    ensures { IsTrue result ↔ AreFine status.now }
-{
-    status.iter().all(|status| matches!(status, Status::Fine))
 }

@@ -2,11 +2,11 @@
 
 use cell_config::read_config;
 use cell_notes::{RunRecord, Status};
-use cell_program::exit::Exit;
 use cell_program::serve_run::run_configured;
 use cell_recorder::tell::tell;
 use cell_replay::{Outcome, replay};
 use cell_report::audit;
+use cell_shell::Exit;
 use cell_types::{Answer, Call, Entry, Event, Journals, Machine, Zone};
 use cell_workers::PacedGate;
 use std::alloc::Global;

@@ -2,8 +2,10 @@
 
 use super::doubles::Given;
 use cell_recorder::serve::{serve, start};
+use cell_shell::VERSION;
 use std::alloc::Global;
 use std::sync::Wait;
+use std::test::Fail;
 use std::thread::Threads;
 
 /// Words, an input, the status, and what is written, or what it begins with if the status is 2 or
@@ -32,6 +34,10 @@ const ROWS: &[Row] = &[
     ),
     (&["history", "--turns", "1"], EMPTY, 0, "start,0000000000"),
     (&["history", "--help"], EMPTY, 0, "Runs the six machines"),
+    (&["history", "-h"], EMPTY, 0, "Runs the six machines"),
+    (&["history", "--version"], EMPTY, 0, "history "),
+    (&["history", "-V"], EMPTY, 2, "error: "),
+    (&["history", "--version", "--turns=1"], EMPTY, 2, "error: "),
     (&["history", "--turns", "0"], EMPTY, 2, "error: "),
     (&["history", "run"], EMPTY, 2, "error: "),
     (&["history", "--tries", "65"], EMPTY, 2, "error: "),
@@ -52,6 +58,16 @@ fn is_served_as_cell_serves(rt: HostRuntime) {
     for row in ROWS {
         assert!(rt; is_served(&rt, rt.alloc(), row), "{row:?}");
     }
+}
+
+#[test]
+fn prints_its_version(rt: HostRuntime) -> Result<(), Fail> {
+    let wanted = format!(in rt.alloc(); "history {VERSION}\n")?;
+    let mut written = Vec::new(rt.alloc());
+    let words = ["history", "--version"];
+    let status = serve(&rt, rt.alloc(), &words, &mut EMPTY.as_bytes(), &mut written);
+    assert!(rt; status == 0 && written.as_slice() == wanted.as_bytes());
+    Ok(())
 }
 
 /// Arguments, an input, the status, and what is written, or what it begins with if the status is 0.

@@ -1,12 +1,12 @@
 //! The program that says why `cell` refuses an input.
 #![tactic(auto)]
 
-use cell_explain::serve::start;
+use cell_explain::serve::{FAILED, start};
 use std::process::ExitCode;
 
 fn main(rt: HostRuntime) -> ExitCode {
     let status = start(rt.alloc(), &rt, &mut rt.stdin(), &mut rt.stdout());
-    if status == 3 {
+    if status == FAILED {
         let _ = eprintln!(rt; "explain: reading or writing failed, or memory ran out");
     }
     ExitCode::from(status)

@@ -1,0 +1,2 @@
+pub mod Places
+mod Shown

@@ -1,0 +1,8 @@
+//! The cell that a configuration describes: a closure over each of its curves, and its simulation.
+#![tactic(auto)]
+
+pub mod gauges;
+pub mod simulation;
+
+pub use gauges::{CellPoints, cell_with_gauges};
+pub use simulation::{simulate_configured, simulate_shown};

@@ -1,0 +1,88 @@
+//! The simulation of a configured cell.
+
+ghost use Rattle.std.specs.Prelude.{◌≡◌, map, IfErr, IfOk};
+ghost use Rattle.cell_calib.specs.Curve.{pairs_of};
+ghost use Rattle.cell_rules.specs.Start.{IsStartState};
+ghost use Rattle.cell_parts.specs.Axes.{AreCellScales, CellScales};
+ghost use Rattle.cell_plant.specs.Cells.{TellsRun};
+ghost use Rattle.cell_plant.specs.Frames.{SeesBeginning, SeesRun};
+ghost use Rattle.cell_plant.specs.Machines.{on_curves};
+ghost use Rattle.cell_config.specs.Configured.{AreAxisScales, AreCurvesOf, in_order};
+ghost use Rattle.cell_configured.specs.Gauges.{gauges_by, scales_by_points};
+
+use crate::gauges::{CellPoints, cell_with_gauges};
+use crate::gauges_on;
+use cell_calib::Gauge;
+use cell_config::Config;
+use cell_plant::{NoWatcher, RunRecord, SeenFault, SimFault, Turn, Watcher, simulate_seen};
+use cell_rules::State;
+use std::alloc::Global;
+
+/// Simulates a configuration's schedule, with a closure over each of its curves. So each reading is
+/// the one on the curve.
+pub fn simulate_configured(alloc: Global, config: &Config) -> Result<RunRecord, SimFault>
+    requires start { IsStartState config.now.start }
+    requires points { AreAxisScales config.now.points }
+    requires curves { AreCurvesOf config.now.points config.now.curves }
+    ensures run { IfOk result (λ r. (c : CellScales) × (config.now.points ≡ in_order c)
+        × TellsRun c (on_curves (map pairs_of config.now.curves))
+        config.now.start config.now.schedule.items r) }
+{
+    match simulate_shown(alloc, config, config.schedule.as_slice(), &mut NoWatcher) {
+        Ok(record) => Ok(record),
+        Err(SeenFault::Memory) => Err(SimFault::Memory),
+        Err(SeenFault::Watcher(never)) => match never {},
+    }
+}
+
+/// Simulates a schedule on a configuration's cell, with a closure over each of its curves, and shows
+/// it to a watcher. The configuration's own schedule isn't used. The errors are those of
+/// `simulate_seen`.
+pub fn simulate_shown<W: Watcher>(
+    alloc: Global,
+    config: &Config,
+    schedule: &[Turn],
+    watcher: &mut W,
+) -> Result<RunRecord, SeenFault<W::Fault>>
+    requires start { IsStartState config.now.start }
+    requires points { AreAxisScales config.now.points }
+    requires curves { AreCurvesOf config.now.points config.now.curves }
+    ensures run { IfOk result (λ run. (c : CellScales) × ((config.now.points ≡ in_order c)
+        × SeesRun W.sees c (on_curves (map pairs_of config.now.curves)) config.now.start
+        schedule.now watcher.old watcher.new run)) }
+    ensures ended { IfErr result (λ fault. (c : CellScales) × ((config.now.points ≡ in_order c)
+        × SeesBeginning W.sees c (on_curves (map pairs_of config.now.curves)) config.now.start
+        schedule.now watcher.old watcher.new fault)) }
+{
+    let (points, gauges) = gauges_on!(config.curves);
+    show_with_gauges(alloc, gauges, points, config.start, schedule, watcher)
+}
+
+/// Simulates a schedule, with these closures, and shows it to a watcher.
+fn show_with_gauges<F1: Gauge, F2: Gauge, F3: Gauge, F4: Gauge, F5: Gauge, W: Watcher>(
+    alloc: Global,
+    gauges: (F1, F2, F3, F4, F5),
+    points: CellPoints,
+    start: State,
+    schedule: &[Turn],
+    watcher: &mut W,
+) -> Result<RunRecord, SeenFault<W::Fault>>
+    requires start { IsStartState start }
+    requires arm1 { F1.keeps gauges.0 points.arm1 }
+    requires arm2 { F2.keeps gauges.1 points.arm2 }
+    requires rotation { F3.keeps gauges.2 points.rotation }
+    requires turn { F4.keeps gauges.3 points.turn }
+    requires gripper { F5.keeps gauges.4 points.gripper }
+    requires scales { AreCellScales (scales_by_points points) }
+    ensures run { IfOk result (SeesRun W.sees (scales_by_points points)
+        (gauges_by (F1.gives gauges.0) (F2.gives gauges.1) (F3.gives gauges.2)
+        (F4.gives gauges.3) (F5.gives gauges.4))
+        start schedule.now watcher.old watcher.new) }
+    ensures ended { IfErr result (SeesBeginning W.sees (scales_by_points points)
+        (gauges_by (F1.gives gauges.0) (F2.gives gauges.1) (F3.gives gauges.2)
+        (F4.gives gauges.3) (F5.gives gauges.4))
+        start schedule.now watcher.old watcher.new) }
+{
+    let cell = cell_with_gauges(gauges, points, &start);
+    simulate_seen(alloc, cell, start, schedule, watcher)
+}

@@ -1,7 +1,0 @@
--- The five potentiometers' curves.
-use Rattle.cell_parts.specs.Axes.{CellScales}
-use Rattle.cell_program.specs.declared.gauges.CellPoints.{CellPoints}
-
--- the scales of the curves that go through these points
-abbrev pub scales_by_points : CellPoints → CellScales
-scales_by_points points = record { arm1 = points.arm1; arm2 = points.arm2; rotation = points.rotation; turn = points.turn; gripper = points.gripper }

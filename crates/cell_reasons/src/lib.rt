@@ -1,0 +1,14 @@
+//! What is wrong with a script or a configuration that is refused, in words. No contract says anything of these words.
+#![tactic(auto)]
+
+mod call_words;
+pub mod config_words;
+mod fields;
+mod key_places;
+mod nearest;
+mod quoted;
+mod records;
+pub mod script_words;
+mod section_words;
+mod start_words;
+mod unknown_keys;

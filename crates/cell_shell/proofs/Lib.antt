@@ -1,0 +1,5 @@
+pub mod Prefixes
+pub mod Exits
+pub mod Serving
+pub mod Versions
+mod ShellRows

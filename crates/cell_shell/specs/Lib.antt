@@ -1,0 +1,7 @@
+pub mod Exits
+pub mod Faults
+pub mod Printed
+pub mod Words
+pub mod Versions
+pub mod Served
+pub mod ShellExamples

@@ -1,0 +1,15 @@
+//! The shell of the programs: their words, how they end, what they print of faults, and their version.
+#![tactic(auto)]
+
+pub mod exit;
+pub mod faults;
+pub mod laws;
+pub mod printing;
+pub mod version;
+pub mod words;
+
+pub use exit::Exit;
+pub use faults::fail;
+pub use printing::{print, print_prefix};
+pub use version::{VERSION, asks_for_version, print_version};
+pub use words::{refuse_bytes, texts_of, words_of, words_or_exit};
