@@ -1,0 +1,16 @@
+//! The program that explores every schedule from a start.
+#![tactic(auto)]
+
+use cell_explore::serve::start;
+use std::process::ExitCode;
+
+fn main(rt: HostRuntime) -> ExitCode {
+    let status = start(
+        rt.alloc(),
+        &rt,
+        &mut rt.stdin(),
+        &mut rt.stdout(),
+        &mut rt.stderr(),
+    );
+    ExitCode::from(status)
+}
