@@ -89,7 +89,8 @@ impl<P: Program, D: Devices<Sense = P::Sense, Act = P::Act>> Worker for GoingWor
     ghost is_ready = { λ w pass. (pass.machine ≡ (P.steps w.machine.program).machine) × (pass.opening ≡ w.opening) };
 
     ghost gives_back = { λ w pass tries gate limit r.
-        (r.outcome.machine.program ≡ w.machine.program) × IsGoingResult tries (P.steps w.machine.program) D.shows D.sets gate limit
+        (r.outcome.machine.program ≡ w.machine.program) × IsGoingResult tries (P.steps w.machine.program)
+        D.shows D.sets gate limit
         (wired_moment pass w.machine.progress w.machine.stopped w.devices 0)
         r.pass r.outcome.turns r.outcome.status r.outcome.devices
         r.outcome.machine.progress r.outcome.machine.stopped r.outcome.machine.left };

@@ -3,7 +3,8 @@ ghost use Rattle.std.specs.Prelude.{◌≡◌, ◌↔◌, IfOk, IsTrue};
 ghost use Rattle.cell_rules.specs.ModelState.{ModelState};
 ghost use Rattle.cell_notes.specs.declared.status.Status.TheVariants.{Fine};
 ghost use Rattle.cell_workers.specs.Six.{AreReadyAt};
-ghost use Rattle.cell_workers.specs.Renewing.{AreAllFine, EndsRound, GoAllOn, IsTurnedOver, MayAllGoOn, OpensAfter, RunsRenewed};
+ghost use Rattle.cell_workers.specs.Renewing.{AreAllFine, EndsRound, GoAllOn};
+ghost use Rattle.cell_workers.specs.Renewing.{IsTurnedOver, MayAllGoOn, OpensAfter, RunsRenewed};
 
 use crate::fault::RunFault;
 use crate::gate::Gate;
@@ -88,8 +89,10 @@ where
     W6::Outcome: Send,
     G: Gate + Sync,
     S: RoundSink,
-    requires ready { AreReadyAt W1.is_ready W2.is_ready W3.is_ready W4.is_ready W5.is_ready W6.is_ready opening workers }
-    ensures rounds { IfOk result (λ left. RunsRenewed W1.gives_back W2.gives_back W3.gives_back W4.gives_back W5.gives_back W6.gives_back S.takes
+    requires ready { AreReadyAt W1.is_ready W2.is_ready W3.is_ready W4.is_ready W5.is_ready W6.is_ready opening
+        workers }
+    ensures rounds { IfOk result (λ left. RunsRenewed W1.gives_back W2.gives_back W3.gives_back W4.gives_back
+        W5.gives_back W6.gives_back S.takes
         renewal.tries renewal.turns (G.may_answer gate.now) W1.ended W2.ended W3.ended W4.ended W5.ended W6.ended
         W1.goes_on W2.goes_on W3.goes_on W4.goes_on W5.goes_on W6.goes_on renewal.mark
         (record { workers = workers; opening = opening; sink = sink.old }) left sink.new) }
@@ -160,8 +163,10 @@ where
     W6::Outcome: Send,
     G: Gate + Sync,
     S: RoundSink,
-    requires ready { AreReadyAt W1.is_ready W2.is_ready W3.is_ready W4.is_ready W5.is_ready W6.is_ready opening workers }
-    ensures { IfOk result (λ turned. (left : _) × EndsRound W1.gives_back W2.gives_back W3.gives_back W4.gives_back W5.gives_back W6.gives_back S.takes
+    requires ready { AreReadyAt W1.is_ready W2.is_ready W3.is_ready W4.is_ready W5.is_ready W6.is_ready opening
+        workers }
+    ensures { IfOk result (λ turned. (left : _) × EndsRound W1.gives_back W2.gives_back W3.gives_back
+        W4.gives_back W5.gives_back W6.gives_back S.takes
         renewal.tries renewal.turns (G.may_answer gate.now)
         (record { workers = workers; opening = opening; sink = sink.old }) left sink.new
         × IsTurnedOver W1.is_ready W2.is_ready W3.is_ready W4.is_ready W5.is_ready W6.is_ready
@@ -201,12 +206,15 @@ where
     W6::Outcome: Send,
     G: Gate + Sync,
     S: RoundSink,
-    requires ready { AreReadyAt W1.is_ready W2.is_ready W3.is_ready W4.is_ready W5.is_ready W6.is_ready opening workers }
-    ensures ends { IfOk result (λ left. EndsRound W1.gives_back W2.gives_back W3.gives_back W4.gives_back W5.gives_back W6.gives_back S.takes
+    requires ready { AreReadyAt W1.is_ready W2.is_ready W3.is_ready W4.is_ready W5.is_ready W6.is_ready opening
+        workers }
+    ensures ends { IfOk result (λ left. EndsRound W1.gives_back W2.gives_back W3.gives_back W4.gives_back
+        W5.gives_back W6.gives_back S.takes
         renewal.tries renewal.turns (G.may_answer gate.now)
         (record { workers = workers; opening = opening; sink = sink.old }) left sink.new) }
     ensures may_go_on { IfOk result (λ left. (next : ModelState) → OpensAfter renewal.mark left.end next
-        → MayAllGoOn W1.machine W2.machine W3.machine W4.machine W5.machine W6.machine W1.left W2.left W3.left W4.left W5.left W6.left
+        → MayAllGoOn W1.machine W2.machine W3.machine W4.machine W5.machine W6.machine W1.left W2.left W3.left
+        W4.left W5.left W6.left
         left.outcomes next) }
 {
     gate.begin();
@@ -262,7 +270,8 @@ where
     W5: RenewedWorker,
     W6: RenewedWorker,
     requires may_go_on { (next : ModelState) → OpensAfter mark left.end next
-        → MayAllGoOn W1.machine W2.machine W3.machine W4.machine W5.machine W6.machine W1.left W2.left W3.left W4.left W5.left W6.left
+        → MayAllGoOn W1.machine W2.machine W3.machine W4.machine W5.machine W6.machine W1.left W2.left W3.left
+        W4.left W5.left W6.left
         left.outcomes next }
     ensures { IsTurnedOver W1.is_ready W2.is_ready W3.is_ready W4.is_ready W5.is_ready W6.is_ready
         W1.ended W2.ended W3.ended W4.ended W5.ended W6.ended
@@ -331,8 +340,10 @@ where
     W6: RenewedWorker,
     requires may_go_on { MayAllGoOn W1.machine W2.machine W3.machine W4.machine W5.machine W6.machine
         W1.left W2.left W3.left W4.left W5.left W6.left each opening.now }
-    ensures goes_on { GoAllOn W1.goes_on W2.goes_on W3.goes_on W4.goes_on W5.goes_on W6.goes_on each opening.now result }
-    ensures ready { AreReadyAt W1.is_ready W2.is_ready W3.is_ready W4.is_ready W5.is_ready W6.is_ready opening.now result }
+    ensures goes_on { GoAllOn W1.goes_on W2.goes_on W3.goes_on W4.goes_on W5.goes_on W6.goes_on each
+        opening.now result }
+    ensures ready { AreReadyAt W1.is_ready W2.is_ready W3.is_ready W4.is_ready W5.is_ready W6.is_ready
+        opening.now result }
 {
     let feed = W1::go_on(each.feed, opening);
     let table = W2::go_on(each.table, opening);

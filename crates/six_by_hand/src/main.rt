@@ -54,14 +54,13 @@ fn main(rt: HostRuntime) -> Result<(), SixFault> {
     let is_long = env::args(&rt)?.count() > 1;
     let plan = if is_long { LONG } else { PLAN };
     let mut audits = Audits::new(alloc);
-    let left = drive(&rt, alloc, opening, gauges, points, plan, &mut audits)?;
-    let six = &left.outcomes;
-    println!(rt; "feed {:?}", six.feed.status)?;
-    println!(rt; "table {:?}", six.table.status)?;
-    println!(rt; "robot {:?}", six.robot.status)?;
-    println!(rt; "press {:?}", six.press.status)?;
-    println!(rt; "deposit {:?}", six.deposit.status)?;
-    println!(rt; "crane {:?}", six.crane.status)?;
+    let six = drive(&rt, alloc, opening, gauges, points, plan, &mut audits)?;
+    println!(rt; "feed {:?}", six.feed)?;
+    println!(rt; "table {:?}", six.table)?;
+    println!(rt; "robot {:?}", six.robot)?;
+    println!(rt; "press {:?}", six.press)?;
+    println!(rt; "deposit {:?}", six.deposit)?;
+    println!(rt; "crane {:?}", six.crane)?;
     println!(rt; "audited {}", audits.rounds)?;
     println!(rt; "rounds {}", audits.plates)?;
     if is_long {

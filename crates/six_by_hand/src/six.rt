@@ -6,14 +6,13 @@ use crate::devices::{Belt, Crane, DepositBelt, FeedBelt, Press, Robot, Table};
 use crate::rounds::{Audits, RoundsGate};
 use cell_calib::{Calibration, Gauge, Points};
 use cell_haul::{CraneProgram, DepositProgram, FeedProgram};
+use cell_notes::Status;
 use cell_report::AuditFault;
 use cell_robot::RobotProgram;
 use cell_rules::State;
 use cell_stations::{PressProgram, TableProgram};
 use cell_types::Machine;
-use cell_workers::{
-    GoingOutcome, GoingWorker, Leave, PerMachine, Renewal, RenewalFault, run_renewed,
-};
+use cell_workers::{GoingWorker, PerMachine, Renewal, RenewalFault, run_renewed};
 use std::alloc::Global;
 use std::sync::Wait;
 use std::thread::Threads;
@@ -39,15 +38,8 @@ pub struct Plan {
     pub mark: u32,
 }
 
-/// What is left of the six machines.
-pub type SixOutcomes<F1, F2, F3, F4, F5> = Leave<
-    GoingOutcome<FeedProgram, FeedBelt>,
-    GoingOutcome<TableProgram<F4>, Table>,
-    GoingOutcome<RobotProgram<F1, F2, F3>, Robot>,
-    GoingOutcome<PressProgram, Press>,
-    GoingOutcome<DepositProgram, DepositBelt>,
-    GoingOutcome<CraneProgram<F5>, Crane>,
->;
+/// How each machine ended.
+pub type SixStatuses = PerMachine<Status, Status, Status, Status, Status, Status>;
 
 /// Drives the six machines, each in a thread of its own and all at one pace, over one interlock
 /// after another. The closures are those of the arms, the robot's rotation, the table's rotation
@@ -60,7 +52,7 @@ pub fn drive<R, F1, F2, F3, F4, F5>(
     points: AxisPoints,
     plan: Plan,
     audits: &mut Audits,
-) -> Result<SixOutcomes<F1, F2, F3, F4, F5>, RenewalFault<AuditFault>>
+) -> Result<SixStatuses, RenewalFault<AuditFault>>
 where
     R: Threads + Wait + Sync,
     F1: Gauge + Send,
@@ -103,5 +95,17 @@ where
         turns,
         mark,
     };
-    run_renewed(rt, alloc, workers, opening, renewal, &gate, audits)
+    let left = match run_renewed(rt, alloc, workers, opening, renewal, &gate, audits) {
+        Ok(left) => left,
+        Err(fault) => return Err(fault),
+    };
+    let six = &left.outcomes;
+    Ok(PerMachine {
+        feed: six.feed.status,
+        table: six.table.status,
+        robot: six.robot.status,
+        press: six.press.status,
+        deposit: six.deposit.status,
+        crane: six.crane.status,
+    })
 }
