@@ -6,8 +6,7 @@ use super::doubles::{
 use super::reports::{EMPTY, PRESS, PRESS_REPORT, SIX_WORKERS};
 use super::served::{SCRIPT, TEXT};
 use cell_config::{Config, ConfigFault};
-use cell_program::exit::Exit;
-use cell_program::serve::refuse_bytes;
+use cell_shell::{Exit, refuse_bytes};
 use std::alloc::Global;
 use std::sync::Wait;
 use std::thread::Threads;
