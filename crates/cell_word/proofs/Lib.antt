@@ -14,3 +14,4 @@ pub mod Changing
 pub mod Possible
 pub mod GuardsHold
 pub mod StateWordsHold
+pub mod ZonesAtOnce

@@ -54,7 +54,7 @@ zone_of_state w Z4 = refl
 zone_of_state w Z5 = refl
 zone_of_state w Z6 = refl
 
-zone_is : (w : ℕ) (z : Zone) → zone_at (state_told w) z ≡ zone_of_code z (bits_of w (zone_bit z) 5)
+pub zone_is : (w : ℕ) (z : Zone) → zone_at (state_told w) z ≡ zone_of_code z (bits_of w (zone_bit z) 5)
 zone_is w z = zone_of_state w z ∙ told_by_code w z
 
 full_of_state : (w : ℕ) (p : Place) → is_full (state_told w) p ≡ is_bit_set w (place_bit p)
@@ -108,7 +108,7 @@ pattern_seen w z p pattern here tests =
     ∙ ap (λ v. here v && full) (sym (zone_is w z))
 
 -- a plate on its way to a full place
-abbrev is_sent : Posture → ZoneState → Bool
+abbrev pub is_sent : Posture → ZoneState → Bool
 is_sent q v = v.flag && same_posture v.posture q
 
 abbrev onto_test : Zone → Posture → Option Transfer → Bool
@@ -121,7 +121,7 @@ onto_table = refl
 nowhere : (w : ℕ) → stands w nothing ≡ false
 nowhere w = ap (λ n. nat_eq n 0x8000000000000000) (and_zero w)
 
-no_more : (b : Bool) → (b && false) ≡ false
+pub no_more : (b : Bool) → (b && false) ≡ false
 no_more true = refl
 no_more false = refl
 
@@ -130,12 +130,12 @@ onto_by : (w : ℕ) (z : Zone) (q : Posture) (row : Option Transfer) → onto_te
 onto_by w z q None test = nowhere w ∙ sym (no_more (is_sent q (zone_at (state_told w) z)))
 onto_by w z q (Some row) test = pattern_seen w z row.to (onto_full z q (Some row)) (is_sent q) test
 
-onto_seen : (w : ℕ) (z : Zone) (q : Posture)
+pub onto_seen : (w : ℕ) (z : Zone) (q : Posture)
     → stands w (onto_full z q (transfer_of z q)) ≡ (is_sent q (zone_at (state_told w) z) && is_onto_full (state_told w).full (transfer_of z q))
 onto_seen w z q = onto_by w z q (transfer_of z q) (from_postures (λ q. onto_test z q (transfer_of z q)) (from_zones (λ z. all_postures (λ q. onto_test z q (transfer_of z q))) onto_table z) q)
 
 -- two plates in the press, and a forged one while it is open inward
-abbrev is_inward : ZoneState → Bool
+abbrev pub is_inward : ZoneState → Bool
 is_inward v = same_posture v.posture OpenIn
 
 abbrev two_plates : Pattern
@@ -150,14 +150,14 @@ two_by true false = refl
 two_by false true = refl
 two_by false false = refl
 
-plates_seen : (w : ℕ) → stands w two_plates ≡ (is_full (state_told w) PressIn && is_full (state_told w) PressOut)
+pub plates_seen : (w : ℕ) → stands w two_plates ≡ (is_full (state_told w) PressIn && is_full (state_told w) PressOut)
 plates_seen w =
     let a = is_full (state_told w) PressIn in
     let b = is_full (state_told w) PressOut in
     ap (λ n. nat_eq n two_plates.wanted) (and_or w (place_window PressIn) (place_window PressOut) ∙ ap₂ bit_or (shown_place w PressIn) (shown_place w PressOut))
     ∙ one_bool (nat_eq (bit_or (place_word PressIn a) (place_word PressOut b)) two_plates.wanted) (a && b) (two_by a b)
 
-forged_seen : (w : ℕ) → stands w (both (posture_is Z3 OpenIn) (place_is PressOut true)) ≡ (is_inward (zone_at (state_told w) Z3) && is_full (state_told w) PressOut)
+pub forged_seen : (w : ℕ) → stands w (both (posture_is Z3 OpenIn) (place_is PressOut true)) ≡ (is_inward (zone_at (state_told w) Z3) && is_full (state_told w) PressOut)
 forged_seen w = pattern_seen w Z3 PressOut (both (posture_is Z3 OpenIn) (place_is PressOut true)) is_inward refl
 
 -- ---- the codes of a zone
@@ -250,7 +250,7 @@ either_not : (a b : Bool) → not (a && b) ≡ implies a (not b)
 either_not true b = refl
 either_not false b = refl
 
-zone_parts : (w : ℕ) (z : Zone) → is_lawful_zone w z ≡ true
+pub zone_parts : (w : ℕ) (z : Zone) → is_lawful_zone w z ≡ true
     → (is_bit_set (zone_codes z) (bits_of w (zone_bit z) 5) ≡ true) × (stands w (onto_full z OpenIn (transfer_of z OpenIn)) ≡ false) × (stands w (onto_full z OpenOut (transfer_of z OpenOut)) ≡ false)
 zone_parts w z e =
     let code = is_bit_set (zone_codes z) (bits_of w (zone_bit z) 5) in

@@ -92,7 +92,7 @@ scaled : (n v k : ℕ) → nat_eq (n * 2 ^ k) (v * 2 ^ k) ≡ nat_eq n v
 scaled n v k =
     same_test n v (n * 2 ^ k) (v * 2 ^ k) (ap (λ x. x * 2 ^ k)) (λ e. sym (shl-shr n k) ∙ ap (λ x. x / 2 ^ k) e ∙ shl-shr v k) (nat_eq n v) refl
 
-field_test : (w lowest width v : ℕ) → stands w (field_is lowest width v) ≡ nat_eq (bits_of w lowest width) v
+pub field_test : (w lowest width v : ℕ) → stands w (field_is lowest width v) ≡ nat_eq (bits_of w lowest width) v
 field_test w lowest width v = ap (λ n. nat_eq n (v * 2 ^ lowest)) (field_shown w lowest width) ∙ scaled (bits_of w lowest width) v lowest
 
 -- a pattern on a field matches a word shifted down exactly if the pattern shifted up matches the word

@@ -1,11 +1,12 @@
 //! Whether a word is a sound state's, decided by masks.
-ghost use Rattle.std.specs.Prelude.{◌≡◌, ◌↔◌, IsTrue};
+ghost use Rattle.std.specs.Prelude.{◌≡◌, ◌↔◌, IsTrue, false};
 ghost use Rattle.cell_rules.specs.ModelState.{ModelState};
 ghost use Rattle.cell_rules.specs.Sound.{IsSound};
 ghost use Rattle.std.specs.List.{list_all};
 ghost use Rattle.cell_types.specs.Everything.{all_zones};
 ghost use Rattle.cell_types.specs.Tables.{transfer_of};
 ghost use Rattle.cell_word.specs.Layout.{packed};
+ghost use Rattle.cell_word.specs.Patterns.{stands, flag_is};
 ghost use Rattle.cell_word.specs.StateWords as words;
 
 use crate::bits::bits;
@@ -22,6 +23,19 @@ const INWARD_CODES: u64 = 0x27_0000;
 
 /// The codes of a zone that is open outward: 24, 25 and 26, and 30 with a plate.
 const OUTWARD_CODES: u64 = 0x4700_0000;
+
+/// The lowest bit of each zone.
+const ZONES: u64 = 0x210_8421;
+
+/// The lowest bit of each zone that opens outward only: z2 and z5.
+const OUTWARD_ZONES: u64 = 0x10_0020;
+
+/// The lowest bit of each zone that opens in one way only: all but z3.
+const ONE_WAY_ZONES: u64 = 0x210_8021;
+
+/// The bits that a test of all zones at once turns over: of each zone the lowest of its owner and the
+/// highest of its posture, and of z2 and z5 the lowest of their postures.
+const TURNED: u64 = ZONES | ZONES << 4 | OUTWARD_ZONES << 3;
 
 fn zone_codes(zone: Zone) -> u64
     ensures { result ≡ words.zone_codes zone }
@@ -63,6 +77,9 @@ fn is_lawful_press(word: u64) -> bool
     ensures { result ≡ words.is_lawful_press word }
 {
     let forged = Pattern::place(Place::PressOut, true);
+    if !forged.stands_in(word) {
+        return true;
+    }
     !Pattern::place(Place::PressIn, true)
         .and(forged)
         .stands_in(word)
@@ -71,9 +88,36 @@ fn is_lawful_press(word: u64) -> bool
             .stands_in(word)
 }
 
+/// Whether no zone has a plate in it.
+fn are_clear_zones(word: u64) -> bool
+    ensures { IsTrue result ↔ ((zone : Zone) → IsTrue (stands word (flag_is zone false))) }
+{
+    word >> 2 & ZONES == 0
+}
+
+/// Whether each zone has a code that it may have, where no zone has a plate in it. All zones are
+/// tested at once: the bits of each are shifted down to its lowest.
+fn are_lawful_codes(word: u64) -> bool
+    requires clear { (zone : Zone) → IsTrue (stands word (flag_is zone false)) }
+    ensures { result ≡ list_all (words.is_lawful_zone word) all_zones }
+{
+    let turned = word ^ TURNED;
+    let of_guest = word >> 1;
+    // the spare code of an owner
+    let spare = word & of_guest;
+    // a zone that is shut, and its guest's, or that moves, and isn't its host's
+    let barred = turned >> 4 & (of_guest | word >> 3 & turned);
+    // a zone that is open, but not in its one way
+    let wrong_way = word >> 4 & turned >> 3 & ONE_WAY_ZONES;
+    (spare | barred | wrong_way) & ZONES == 0
+}
+
 fn are_lawful_zones(word: u64) -> bool
     ensures { result ≡ list_all (words.is_lawful_zone word) all_zones }
 {
+    if are_clear_zones(word) {
+        return are_lawful_codes(word);
+    }
     Zone::ALL.iter().all(|zone| is_lawful_zone(word, *zone))
 }
 

@@ -1,0 +1,232 @@
+-- The zones of a word without plates in zones, all tested at once.
+use Rattle.std.proofs.Common.{◌≡◌, ◌↔◌, ℕ, ◌+◌, ◌-◌, ◌*◌, ◌/◌, ◌%◌, ◌^◌, min, max, Bool, true, false, ◌&&◌, not, nat_eq, refl, sym, ap, ap₂, ◌∙◌, arith, eqb-true, eq-eqb}
+use Rattle.std.specs.Prelude.{bit_and, bit_or, bit_xor}
+use Rattle.std.specs.Int.{bit_at}
+use Rattle.std.specs.List.{list_all}
+use Rattle.std.proofs.Math.Nat.{add_comm}
+use Rattle.std.proofs.lemmas.Nat.{shr-shr, xor_shr, le_or_l, le_or_r}
+use Rattle.std.proofs.lemmas.Nat.Bits.{bit_at_and, bit_at_or, bit_at_xor}
+use Rattle.cell_types.specs.declared.zone.Zone.{Zone}
+use Rattle.cell_types.specs.declared.zone.Zone.TheVariants.{Z1, Z2, Z3, Z4, Z5, Z6}
+use Rattle.cell_types.specs.declared.place.Place.TheVariants.{PressIn, PressOut}
+use Rattle.cell_types.specs.declared.posture.Posture.{Posture}
+use Rattle.cell_types.specs.declared.posture.Posture.TheVariants.{OpenIn, OpenOut}
+use Rattle.cell_types.specs.Everything.{all_zones as every_zone}
+use Rattle.cell_types.specs.Tables.{transfer_of}
+use Rattle.cell_types.specs.Same.{same_posture}
+use Rattle.cell_rules.specs.ModelState.{zone_at, is_full}
+use Rattle.cell_rules.specs.Sound.{is_onto_full, implies}
+use Rattle.cell_rules.proofs.Tables.{and_both, implied, all_zones, from_zones, all_pass}
+use Rattle.cell_word.specs.Layout.{zone_bit}
+use Rattle.cell_word.specs.Reading.{bits_of, is_bit_set, posture_of_code, state_told}
+use Rattle.cell_word.specs.Patterns.{stands, flag_is, place_is}
+use Rattle.cell_word.specs.StateWords.{zone_codes, onto_full, is_lawful_zone, is_lawful_press}
+use Rattle.cell_word.proofs.SameAnswer.{same_bool, one_bool}
+use Rattle.cell_word.proofs.Windows.{and_or, field_shown, field_test, all_below, from_below, five_fit}
+use Rattle.cell_word.proofs.StateWordsHold.{zone_is, is_sent, onto_seen, zone_parts, plates_seen, forged_seen, no_more, is_inward}
+
+-- ---- the lowest bits of all zones
+abbrev pub lowest_bits : ℕ
+lowest_bits = 34636833
+
+abbrev bit_of : ℕ → Zone → ℕ
+bit_of n z = bits_of n (zone_bit z) 1 * 2 ^ zone_bit z
+
+abbrev mask_of : Zone → ℕ
+mask_of z = (2 ^ 1 - 1) * 2 ^ zone_bit z
+
+abbrev from_z5 : (Zone → ℕ) → ℕ
+from_z5 f = bit_or (f Z5) (f Z6)
+
+abbrev from_z4 : (Zone → ℕ) → ℕ
+from_z4 f = bit_or (f Z4) (from_z5 f)
+
+abbrev from_z3 : (Zone → ℕ) → ℕ
+from_z3 f = bit_or (f Z3) (from_z4 f)
+
+abbrev from_z2 : (Zone → ℕ) → ℕ
+from_z2 f = bit_or (f Z2) (from_z3 f)
+
+abbrev joined : (Zone → ℕ) → ℕ
+joined f = bit_or (f Z1) (from_z2 f)
+
+shown : (n : ℕ) (z : Zone) → bit_and n (mask_of z) ≡ bit_of n z
+shown n z = field_shown n (zone_bit z) 1
+
+one_more : (n : ℕ) (z : Zone) (rest seen : ℕ) → bit_and n rest ≡ seen → bit_and n (bit_or (mask_of z) rest) ≡ bit_or (bit_of n z) seen
+one_more n z rest seen e = and_or n (mask_of z) rest ∙ ap₂ bit_or (shown n z) e
+
+apart : (n : ℕ) → bit_and n lowest_bits ≡ joined (bit_of n)
+apart n =
+    let z5 = one_more n Z5 (mask_of Z6) (bit_of n Z6) (shown n Z6) in
+    let z4 = one_more n Z4 (from_z5 mask_of) (from_z5 (bit_of n)) z5 in
+    let z3 = one_more n Z3 (from_z4 mask_of) (from_z4 (bit_of n)) z4 in
+    let z2 = one_more n Z2 (from_z3 mask_of) (from_z3 (bit_of n)) z3 in
+    one_more n Z1 (from_z2 mask_of) (from_z2 (bit_of n)) z2
+
+left_zero : (a b : ℕ) → bit_or a b ≡ 0 → a ≡ 0
+left_zero a b e = omega (arith, le_or_l a b)
+
+right_zero : (a b : ℕ) → bit_or a b ≡ 0 → b ≡ 0
+right_zero a b e = omega (arith, le_or_r a b)
+
+after_z1 : (f : Zone → ℕ) → joined f ≡ 0 → from_z2 f ≡ 0
+after_z1 f e = right_zero (f Z1) (from_z2 f) e
+
+after_z2 : (f : Zone → ℕ) → joined f ≡ 0 → from_z3 f ≡ 0
+after_z2 f e = right_zero (f Z2) (from_z3 f) (after_z1 f e)
+
+after_z3 : (f : Zone → ℕ) → joined f ≡ 0 → from_z4 f ≡ 0
+after_z3 f e = right_zero (f Z3) (from_z4 f) (after_z2 f e)
+
+after_z4 : (f : Zone → ℕ) → joined f ≡ 0 → from_z5 f ≡ 0
+after_z4 f e = right_zero (f Z4) (from_z5 f) (after_z3 f e)
+
+each_zero : (f : Zone → ℕ) → joined f ≡ 0 → (z : Zone) → f z ≡ 0
+each_zero f e Z1 = left_zero (f Z1) (from_z2 f) e
+each_zero f e Z2 = left_zero (f Z2) (from_z3 f) (after_z1 f e)
+each_zero f e Z3 = left_zero (f Z3) (from_z4 f) (after_z2 f e)
+each_zero f e Z4 = left_zero (f Z4) (from_z5 f) (after_z3 f e)
+each_zero f e Z5 = left_zero (f Z5) (f Z6) (after_z4 f e)
+each_zero f e Z6 = right_zero (f Z5) (f Z6) (after_z4 f e)
+
+unshifted : (n : ℕ) (z : Zone) → bit_of n z ≡ 0 → bits_of n (zone_bit z) 1 ≡ 0
+unshifted n Z1 e = omega arith
+unshifted n Z2 e = omega arith
+unshifted n Z3 e = omega arith
+unshifted n Z4 e = omega arith
+unshifted n Z5 e = omega arith
+unshifted n Z6 e = omega arith
+
+pub none_set : (n : ℕ) → bit_and n lowest_bits ≡ 0 → (z : Zone) → bits_of n (zone_bit z) 1 ≡ 0
+none_set n e z = unshifted n z (each_zero (bit_of n) (sym (apart n) ∙ e) z)
+
+pub set_none : (n : ℕ) → ((z : Zone) → bits_of n (zone_bit z) 1 ≡ 0) → bit_and n lowest_bits ≡ 0
+set_none n h =
+    apart n
+    ∙ (λ i. bit_or (h Z1 i * 2 ^ zone_bit Z1) (bit_or (h Z2 i * 2 ^ zone_bit Z2) (bit_or (h Z3 i * 2 ^ zone_bit Z3) (bit_or (h Z4 i * 2 ^ zone_bit Z4) (bit_or (h Z5 i * 2 ^ zone_bit Z5) (h Z6 i * 2 ^ zone_bit Z6))))))
+
+-- ---- the flags
+down : (w k j : ℕ) → w / 2 ^ j / 2 ^ k ≡ w / 2 ^ k / 2 ^ j
+down w k j = shr-shr w j k ∙ ap (λ i. w / 2 ^ i) (add_comm j k) ∙ sym (shr-shr w k j)
+
+flag_shown : (w : ℕ) (z : Zone) → bits_of (w / 2 ^ 2) (zone_bit z) 1 ≡ bits_of w (zone_bit z + 2) 1
+flag_shown w z = ap (λ n. n % 2) (down w (zone_bit z) 2 ∙ shr-shr w (zone_bit z) 2)
+
+flag_clear : (w : ℕ) (z : Zone) → stands w (flag_is z false) ≡ nat_eq (bits_of (w / 2 ^ 2) (zone_bit z) 1) 0
+flag_clear w z = field_test w (zone_bit z + 2) 1 0 ∙ ap (λ n. nat_eq n 0) (sym (flag_shown w z))
+
+pub clear_at_once : (w : ℕ) → nat_eq (bit_and (w / 4) lowest_bits) 0 ≡ true ↔ ((z : Zone) → stands w (flag_is z false) ≡ true)
+clear_at_once w = (
+  λ e z. flag_clear w z ∙ eq-eqb _ 0 (none_set (w / 2 ^ 2) (eqb-true _ 0 e) z),
+  λ h. eq-eqb _ 0 (set_none (w / 2 ^ 2) (λ z. eqb-true _ 0 (sym (flag_clear w z) ∙ h z))),
+)
+
+-- ---- the codes
+abbrev turned_bits : ℕ
+turned_bits = 597215025
+
+abbrev one_way_bits : ℕ
+one_way_bits = 34635809
+
+abbrev pub spoilt : ℕ → ℕ
+spoilt w =
+    bit_or
+    (bit_or (bit_and w (w / 2)) (bit_and (bit_xor w turned_bits / 16) (bit_or (w / 2) (bit_and (w / 8) (bit_xor w turned_bits)))))
+    (bit_and (bit_and (w / 16) (bit_xor w turned_bits / 8)) one_way_bits)
+
+-- the same bit, by the code of a zone whose lowest bit is the k-th
+abbrev turned_at : ℕ → ℕ → ℕ → ℕ
+turned_at k c j = (bit_at c j + bit_at (turned_bits / 2 ^ k) j) % 2
+
+abbrev spoilt_at : ℕ → ℕ → ℕ
+spoilt_at k c =
+    max
+    (max (min (bit_at c 0) (bit_at c 1)) (min (turned_at k c 4) (max (bit_at c 1) (min (bit_at c 3) (turned_at k c 0)))))
+    (min (min (bit_at c 4) (turned_at k c 3)) (bit_at one_way_bits k))
+
+low : (a : ℕ) → (bit_at a 0 ≡ bit_at (a % 32) 0) × (bit_at a 1 ≡ bit_at (a % 32) 1) × (bit_at a 2 ≡ bit_at (a % 32) 2) × (bit_at a 3 ≡ bit_at (a % 32) 3) × (bit_at a 4 ≡ bit_at (a % 32) 4)
+low a = (omega arith, omega arith, omega arith, omega arith, omega arith)
+
+bit_down : (n k j : ℕ) → bit_at (n / 2 ^ j) k ≡ bit_at (n / 2 ^ k) j
+bit_down n k j = ap (λ m. m % 2) (down n k j)
+
+bit_here : (n k : ℕ) → bit_at n k ≡ bit_at (n / 2 ^ k) 0
+bit_here n k = omega arith
+
+turned_down : (w k j : ℕ) → bit_at (bit_xor w turned_bits / 2 ^ k) j ≡ (bit_at (w / 2 ^ k) j + bit_at (turned_bits / 2 ^ k) j) % 2
+turned_down w k j = ap (λ n. bit_at n j) (xor_shr w turned_bits k) ∙ bit_at_xor (w / 2 ^ k) (turned_bits / 2 ^ k) j
+
+spoilt_seen : (w k : ℕ) → bits_of (spoilt w) k 1 ≡ spoilt_at k (bits_of w k 5)
+spoilt_seen w k =
+    let t = bit_xor w turned_bits in
+    let a = w / 2 ^ k in
+    let bits = low a in
+    let t_at = λ (j : ℕ). turned_down w k j in
+    let owner : bit_at w k ≡ bit_at (a % 32) 0 = bit_here w k ∙ bits.0 in
+    let guest : bit_at (w / 2 ^ 1) k ≡ bit_at (a % 32) 1 = bit_down w k 1 ∙ bits.1 in
+    let moving : bit_at (w / 2 ^ 3) k ≡ bit_at (a % 32) 3 = bit_down w k 3 ∙ bits.3 in
+    let opened : bit_at (w / 2 ^ 4) k ≡ bit_at (a % 32) 4 = bit_down w k 4 ∙ bits.4 in
+    let t0 : bit_at t k ≡ turned_at k (a % 32) 0 = bit_here t k ∙ turned_down w k 0 ∙ ap (λ n. (n + bit_at (turned_bits / 2 ^ k) 0) % 2) bits.0 in
+    let t3 : bit_at (t / 2 ^ 3) k ≡ turned_at k (a % 32) 3 = bit_down t k 3 ∙ turned_down w k 3 ∙ ap (λ n. (n + bit_at (turned_bits / 2 ^ k) 3) % 2) bits.3 in
+    let t4 : bit_at (t / 2 ^ 4) k ≡ turned_at k (a % 32) 4 = bit_down t k 4 ∙ turned_down w k 4 ∙ ap (λ n. (n + bit_at (turned_bits / 2 ^ k) 4) % 2) bits.4 in
+    let moves : bit_at (bit_and (w / 8) t) k ≡ min (bit_at (a % 32) 3) (turned_at k (a % 32) 0) = bit_at_and (w / 8) t k ∙ ap₂ min moving t0 in
+    let blamed : bit_at (bit_or (w / 2) (bit_and (w / 8) t)) k ≡ max (bit_at (a % 32) 1) (min (bit_at (a % 32) 3) (turned_at k (a % 32) 0)) =
+    bit_at_or (w / 2) (bit_and (w / 8) t) k ∙ ap₂ max guest moves in
+    let shut = bit_at_and (t / 16) (bit_or (w / 2) (bit_and (w / 8) t)) k ∙ ap₂ min t4 blamed in
+    let by_both = bit_at_and w (w / 2) k ∙ ap₂ min owner guest in
+    let way = bit_at_and (bit_and (w / 16) (t / 8)) one_way_bits k ∙ ap (λ n. min n (bit_at one_way_bits k)) (bit_at_and (w / 16) (t / 8) k ∙ ap₂ min opened t3) in
+    bit_at_or _ _ k ∙ ap₂ max (bit_at_or _ _ k ∙ ap₂ max by_both shut) way
+
+abbrev free_test : Zone → ℕ → Bool
+free_test z c = implies (nat_eq (bit_at c 2) 0) (same_bool (nat_eq (spoilt_at (zone_bit z) c) 0) (is_bit_set (zone_codes z) c))
+
+free_table : all_zones (λ z. all_below 32 (free_test z)) ≡ true
+free_table = refl
+
+abbrev IsClear : ℕ → Type 0
+IsClear w = (z : Zone) → stands w (flag_is z false) ≡ true
+
+no_flag : (w : ℕ) → IsClear w → (z : Zone) → bit_at (bits_of w (zone_bit z) 5) 2 ≡ 0
+no_flag w clear z = sym (low (w / 2 ^ zone_bit z)).2 ∙ sym (bit_down w (zone_bit z) 2) ∙ eqb-true _ 0 (sym (flag_clear w z) ∙ clear z)
+
+by_code : (w : ℕ) → IsClear w → (z : Zone) → nat_eq (bits_of (spoilt w) (zone_bit z) 1) 0 ≡ is_bit_set (zone_codes z) (bits_of w (zone_bit z) 5)
+by_code w clear z =
+    let c = bits_of w (zone_bit z) 5 in
+    let same = same_bool (nat_eq (spoilt_at (zone_bit z) c) 0) (is_bit_set (zone_codes z) c) in
+    ap (λ n. nat_eq n 0) (spoilt_seen w (zone_bit z))
+    ∙ one_bool (nat_eq (spoilt_at (zone_bit z) c) 0) (is_bit_set (zone_codes z) c)
+    (implied (nat_eq (bit_at c 2) 0) same (from_below 32 (free_test z) (from_zones (λ z. all_below 32 (free_test z)) free_table z) c (five_fit w (zone_bit z))) (eq-eqb _ 0 (no_flag w clear z)))
+
+nothing_sent : (w : ℕ) → IsClear w → (z : Zone) (q : Posture) → stands w (onto_full z q (transfer_of z q)) ≡ false
+nothing_sent w clear z q =
+    let c = bits_of w (zone_bit z) 5 in
+    onto_seen w z q
+    ∙ ap (λ v. is_sent q v && is_onto_full (state_told w).full (transfer_of z q)) (zone_is w z)
+    ∙ ap (λ n. (nat_eq n 1 && same_posture (posture_of_code (c / 8 % 4)) q) && is_onto_full (state_told w).full (transfer_of z q)) (no_flag w clear z)
+
+either_way : (a b : Bool) → (a ≡ true → b ≡ true) → (b ≡ true → a ≡ true) → a ≡ b
+either_way true b there back = sym (there refl)
+either_way false true there back = back refl
+either_way false false there back = refl
+
+pub codes_at_once : (w : ℕ) → IsClear w → nat_eq (bit_and (spoilt w) lowest_bits) 0 ≡ list_all (is_lawful_zone w) every_zone
+codes_at_once w clear =
+    either_way (nat_eq (bit_and (spoilt w) lowest_bits) 0) (list_all (is_lawful_zone w) every_zone)
+    (λ e.
+    all_pass (is_lawful_zone w)
+    (λ z.
+    and_both _ _
+    (and_both _ _ (sym (by_code w clear z) ∙ eq-eqb _ 0 (none_set (spoilt w) (eqb-true _ 0 e) z)) (ap not (nothing_sent w clear z OpenIn)))
+    (ap not (nothing_sent w clear z OpenOut)))
+    every_zone)
+    (λ e. eq-eqb _ 0 (set_none (spoilt w) (λ z. eqb-true _ 0 (by_code w clear z ∙ (zone_parts w z (from_zones (is_lawful_zone w) e z)).0))))
+
+-- ---- the press without a forged plate
+pub press_without_forged : (w : ℕ) → stands w (place_is PressOut true) ≡ false → is_lawful_press w ≡ true
+press_without_forged w e =
+    let empty : is_full (state_told w) PressOut ≡ false = sym (field_test w 35 1 1) ∙ e in
+    let seen = λ (b : Bool). ap (λ full. b && full) empty ∙ no_more b in
+    and_both _ _
+    (ap not (plates_seen w ∙ seen (is_full (state_told w) PressIn)))
+    (ap not (forged_seen w ∙ seen (is_inward (zone_at (state_told w) Z3))))
