@@ -34,7 +34,7 @@ def processor():
 
 
 def run(root, prefix):
-    """Prints the rows of docs/FROM_C.md: what, beside, instructions, time."""
+    """Prints the rows of bench/README.md: what, beside, instructions, time."""
     print(f"{len(os.sched_getaffinity(0))} processors ({processor()}), load {os.getloadavg()[0]:.1f}")
     print("| what | beside | compiler | instructions | time |\n|---|---|---|---|---|")
     with tempfile.TemporaryDirectory() as room:
