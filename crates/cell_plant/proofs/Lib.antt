@@ -13,6 +13,7 @@ pub mod KeptRuns
 pub mod CellKeeps
 pub mod SafeRuns
 pub mod Gauged
+mod LongerRuns
 pub mod RunSoFar
 pub mod Watched
 mod FilmsSafe
@@ -27,7 +28,10 @@ pub mod OneSense
 pub mod OneRun
 pub mod FineRuns
 pub mod OneRecord
+mod ExampleTurns
+mod TurnRows
 mod RunRows
+mod RecordFigures
 mod RecordRows
 mod WatchRows
 mod WatchRight

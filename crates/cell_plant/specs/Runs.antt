@@ -22,6 +22,7 @@ pub record Step : Type 0 where
 -- a turn of a machine, by what its gauges may give, changes its own side, and leaves the others
 pub record TakesTurnBy (c : CellScales) (gives : CellGauges) (m : Machine) (busy : Bool) (w : CellState) (s : Step) : Type 0 where
   pub taken : s.taken ≡ true
+  -- as its program says, by what its part shows and what the interlock answers
   pub takes : Takes (steps_by c gives m) (rig_of c m) busy w.interlock (w.side m) s.asked s.set.interlock (s.set.side m)
   pub others_set : (n : Machine) → same_machine m n ≡ false → s.set.side n ≡ w.side n
   pub moved : s.moved.side m ≡ side_moved (rig_of c m) (s.set.side m)
