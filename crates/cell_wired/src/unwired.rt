@@ -67,6 +67,13 @@ impl<P: Program> Unwired<P> {
         self.controller.stopped()
     }
 
+    /// Its step in its program, with its notes.
+    pub fn progress(&self) -> P::Progress
+        ensures { result ≡ self.now.progress }
+    {
+        self.controller.progress()
+    }
+
     /// Whether it may go on in an interlock that opens with this state: owner, flag and posture of
     /// each zone that the machine owned are the same, the postures of the zones that it hosts, and
     /// its own places.

@@ -78,11 +78,30 @@ impl<P: Program, L: Line> Wired<P, L> {
         told_of(turned, self.controller.rest())
     }
 
+    /// What the actuators are told while nothing is known of the sensors: motors and belts are off,
+    /// and magnets stay as the program has noted them.
+    pub fn at_rest(&self) -> Told<P::Act>
+        ensures act { result.act ≡ (P.steps self.now.program).rest self.now.progress }
+        ensures no_fault { result.fault ≡ None }
+    {
+        Told {
+            act: self.controller.rest(),
+            fault: None,
+        }
+    }
+
     /// What has stopped the machine; `None` while it runs.
     pub fn stopped(&self) -> Option<CtlFault>
         ensures { result ≡ self.now.stopped }
     {
         self.controller.stopped()
+    }
+
+    /// Its step in its program, with its notes.
+    pub fn progress(&self) -> P::Progress
+        ensures { result ≡ self.now.progress }
+    {
+        self.controller.progress()
     }
 
     /// The line, to be read: its machine, and what it has heard.
