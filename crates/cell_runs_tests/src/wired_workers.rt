@@ -1,4 +1,4 @@
-//! Runs of six workers with devices of their own. In some the press's switches clash.
+//! Runs of six workers with devices of their own. In some the press's switches clash, or don't answer.
 ghost use Rattle.std.specs.Prelude.{◌≡◌};
 ghost use Rattle.cell_rules.specs.Start.{IsStartState};
 
@@ -22,14 +22,14 @@ use std::sync::Wait;
 use std::test::Fail;
 use std::thread::Threads;
 
-/// Devices that show one sense for some reads, and another one from then on. They count their calls
-/// and keep the last command.
+/// Devices that show one sense for some reads, and something else or nothing from then on. They count
+/// their calls and keep the last command.
 #[derive(Drop)]
 struct Recorder<S, A> {
     shows: S,
     // How many reads more show it.
     left: u32,
-    then: S,
+    then: Option<S>,
     reads: u32,
     sets: u32,
     last: Option<Told<A>>,
@@ -42,17 +42,17 @@ impl<S: Copy, A: Copy> Devices for Recorder<S, A> {
 
     type Act = A;
 
-    ghost shows = { λ devices sense _. (sense ≡ devices.shows) ⊎ (sense ≡ devices.then) };
+    ghost shows = { λ devices sense _. (sense ≡ Some devices.shows) ⊎ (sense ≡ devices.then) };
 
     ghost sets = { λ _ told now. now.last ≡ Some told };
 
-    fn read(&mut self) -> S {
+    fn read(&mut self) -> Option<S> {
         self.reads = self.reads.saturating_add(1);
         if self.left == 0 {
             return self.then;
         }
         self.left -= 1;
-        self.shows
+        Some(self.shows)
     }
 
     fn set(&mut self, told: &Told<A>) {
@@ -62,7 +62,7 @@ impl<S: Copy, A: Copy> Devices for Recorder<S, A> {
 }
 
 impl<S, A> Recorder<S, A> {
-    fn new(shows: S, left: u32, then: S) -> Recorder<S, A> {
+    fn new(shows: S, left: u32, then: Option<S>) -> Recorder<S, A> {
         Recorder {
             shows,
             left,
@@ -86,7 +86,7 @@ fn still<P: Program>(
     WiredWorker {
         program,
         opening,
-        devices: Recorder::new(sense, 0, sense),
+        devices: Recorder::new(sense, 0, Some(sense)),
     }
 }
 
@@ -185,11 +185,12 @@ const BOTH_ON: PressSense = PressSense {
     top: true,
 };
 
-// A run from a start without plates. The press's switches clash after some turns.
-fn run_until_clash<R: Threads + Wait + Sync>(
+// A run from a start without plates. After some turns the press's switches show this.
+fn run_until<R: Threads + Wait + Sync>(
     rt: &R,
     alloc: Global,
     good: u32,
+    then: Option<PressSense>,
     turns: u32,
 ) -> Result<Result<SixOutcomes, RunFault>, Fail> {
     let opening = State::start([false; 10], 0)?;
@@ -205,40 +206,68 @@ fn run_until_clash<R: Threads + Wait + Sync>(
         move |raw: u16| line_at(&points.turn, raw),
         move |raw: u16| line_at(&points.arm, raw),
     );
-    let press = Recorder::new(AT_TOP, good, BOTH_ON);
+    let press = Recorder::new(AT_TOP, good, then);
     Ok(run_by(rt, alloc, opening, gauges, points, press, turns))
 }
 
-/// How many turns the press has before its switches clash, and the greatest number of turns of each
-/// machine. Then how the press ends: its turns, its status, and its motor's last command, with
-/// the fault.
-type Row = (u32, u32, (u32, Status, Motor, Option<CtlFault>));
+/// How many turns the press has before its switches show what comes next, and the greatest number of
+/// cycles of each machine. Then how the press ends: its turns, its cycles without a reading, its
+/// status, and its motor's last command, with the fault.
+type Row = (
+    u32,
+    Option<PressSense>,
+    u32,
+    (u32, u32, Status, Motor, Option<CtlFault>),
+);
 
 const CLASH: Option<CtlFault> = Some(CtlFault::Sensor(SensorFault::Clash));
 
 // The press claims its interior and tells that it moves; from its third turn on it drives down. Its
 // switches are good throughout; or they clash in its first turn, while its motor is on, or in its
-// last turn.
+// last turn; or they don't answer from the beginning, or while its motor is on.
 const ROWS: &[Row] = &[
-    (9, 3, (3, Status::Fine, Motor::Minus, None)),
-    (0, 6, (1, Status::Sensor, Motor::Off, CLASH)),
-    (3, 6, (4, Status::Sensor, Motor::Off, CLASH)),
-    (5, 6, (6, Status::Sensor, Motor::Off, CLASH)),
+    (
+        9,
+        Some(BOTH_ON),
+        3,
+        (3, 0, Status::Fine, Motor::Minus, None),
+    ),
+    (
+        0,
+        Some(BOTH_ON),
+        6,
+        (1, 0, Status::Sensor, Motor::Off, CLASH),
+    ),
+    (
+        3,
+        Some(BOTH_ON),
+        6,
+        (4, 0, Status::Sensor, Motor::Off, CLASH),
+    ),
+    (
+        5,
+        Some(BOTH_ON),
+        6,
+        (6, 0, Status::Sensor, Motor::Off, CLASH),
+    ),
+    (0, None, 4, (0, 4, Status::Fine, Motor::Off, None)),
+    (3, None, 6, (3, 3, Status::Fine, Motor::Off, None)),
 ];
 
 // Whether a machine has had all its turns, in each of which its devices were read and set once, and
 // is fine.
 fn has_gone_on<S, A>(outcome: &WiredOutcome<Recorder<S, A>>, turns: u32) -> bool {
     let devices = &outcome.devices;
-    (outcome.turns, devices.reads, devices.sets) == (turns, turns, turns)
+    (outcome.turns, outcome.missed, devices.reads, devices.sets) == (turns, 0, turns, turns)
         && outcome.status == Status::Fine
 }
 
-// Whether the press ends so, and its devices were neither read nor set after its last turn. The
+// Whether the press ends so, and its devices were neither read nor set after its last cycle. The
 // others go on.
 fn ends_so<R: Threads + Wait + Sync>(rt: &R, alloc: Global, row: &Row) -> Result<bool, Fail> {
-    let (good, limit, (turns, status, motor, fault)) = *row;
-    let run = run_until_clash(rt, alloc, good, limit)??;
+    let (good, then, limit, (turns, missed, status, motor, fault)) = *row;
+    let run = run_until(rt, alloc, good, then, limit)??;
+    let cycles = turns.saturating_add(missed);
     let six = &run.outcomes;
     let press = &six.press;
     let devices = &press.devices;
@@ -247,7 +276,8 @@ fn ends_so<R: Threads + Wait + Sync>(rt: &R, alloc: Global, row: &Row) -> Result
         .is_some_and(|told| told.act.press == motor && told.fault == fault);
     Ok(
         is_told
-            && (press.turns, devices.reads, devices.sets) == (turns, turns, turns)
+            && (press.turns, press.missed, devices.reads, devices.sets)
+                == (turns, missed, cycles, cycles)
             && press.status == status
             && has_gone_on(&six.feed, limit)
             && has_gone_on(&six.table, limit)
@@ -258,7 +288,7 @@ fn ends_so<R: Threads + Wait + Sync>(rt: &R, alloc: Global, row: &Row) -> Result
 }
 
 #[test]
-fn is_told_to_rest_when_its_sensors_clash(rt: HostRuntime) -> Result<(), Fail> {
+fn is_told_to_rest_without_good_sensors(rt: HostRuntime) -> Result<(), Fail> {
     for row in ROWS {
         assert!(rt; ends_so(&rt, rt.alloc(), row)?, "{row:?}");
     }

@@ -15,7 +15,7 @@ use Rattle.cell_interlock.specs.Fresh.{fresh_pass}
 use Rattle.cell_interlock.specs.Seen.{IsSamePass}
 use Rattle.cell_workers.specs.Workers.{GateOf}
 use Rattle.cell_workers.specs.Promises.{GivesOf}
-use Rattle.cell_workers.specs.Six.{TellsSix}
+use Rattle.cell_workers.specs.Watching.{TellsWatched, WatchesOf}
 use Rattle.cell_workers.specs.Renewing.{OpensAfter, Leaves, MayGoOn, MayAllGoOn}
 use Rattle.cell_workers.specs.declared.per_machine.PerMachine.{PerMachine}
 use Rattle.cell_workers.specs.declared.six.SixRecord.{SixRecord}
@@ -38,11 +38,11 @@ may_go_on m i machine left kept history end stamp k same sound legal w ends =
           (subst (λ s. IsSameFor m (after i.opening kept.seen) (restamped s stamp)) (sym ends) (same_after i.opening m kept.seen history stamp sound legal w)));
     }
 
-module _ {W1 W2 W3 W4 W5 W6 A B C D E F : Type 0} (gives1 : GivesOf W1 A) (gives2 : GivesOf W2 B) (gives3 : GivesOf W3 C) (gives4 : GivesOf W4 D) (gives5 : GivesOf W5 E) (gives6 : GivesOf W6 F)
+module _ {W1 W2 W3 W4 W5 W6 A B C D E F H : Type 0} (gives1 : GivesOf W1 A) (gives2 : GivesOf W2 B) (gives3 : GivesOf W3 C) (gives4 : GivesOf W4 D) (gives5 : GivesOf W5 E) (gives6 : GivesOf W6 F) (watches : WatchesOf H)
     (of1 : A → Machine) (of2 : B → Machine) (of3 : C → Machine) (of4 : D → Machine) (of5 : E → Machine) (of6 : F → Machine)
     (left1 : A → ModelState) (left2 : B → ModelState) (left3 : C → ModelState) (left4 : D → ModelState) (left5 : E → ModelState) (left6 : F → ModelState)
-    (workers : PerMachine W1 W2 W3 W4 W5 W6) (opening : ModelState) (tries limit : ℕ) (gate : Machine → GateOf) (r : SixRecord A B C D E F)
-    (t : TellsSix gives1 gives2 gives3 gives4 gives5 gives6 workers opening tries limit gate r) (sound : IsSound opening) where
+    (workers : PerMachine W1 W2 W3 W4 W5 W6) (watch : H) (opening : ModelState) (tries limit : ℕ) (gate : Machine → GateOf) (r : SixRecord A B C D E F) (watch_after : H)
+    (t : TellsWatched gives1 gives2 gives3 gives4 gives5 gives6 watches workers watch opening tries limit gate r watch_after) (sound : IsSound opening) where
   abbrev i : InterlockView
   i = t.interlock
 

@@ -20,12 +20,7 @@ use Rattle.cell_rules.specs.declared.heard.LineFault.{LineFault}
 use Rattle.cell_rules.specs.ModelState.{ModelState}
 use Rattle.cell_rules.specs.PlaceSet.{empty}
 use Rattle.cell_rules.specs.Start.{start_state}
-use Rattle.cell_rules.specs.Journal.{noted, event_by}
-use Rattle.cell_rules.specs.Audited.{EndsIn}
-use Rattle.cell_rules.specs.Laws.{Lawful}
-use Rattle.cell_rules.proofs.Assembly.{lawful}
-use Rattle.cell_rules.proofs.Histories.{throughout}
-use Rattle.cell_interlock.specs.Views.{InterlockView}
+use Rattle.cell_rules.specs.Journal.{noted}
 use Rattle.cell_interlock.specs.Lines.{PassAsks}
 use Rattle.cell_control.specs.Steps.{Steps, outcome}
 use Rattle.cell_control.specs.Turns.{Performed, PerformsSensed, Turned, Turns, at_rest, turned}
@@ -54,13 +49,14 @@ use Rattle.cell_plant.specs.Machines.{steps_of, rig_of}
 use Rattle.cell_plant.specs.Records.{positions_in}
 use Rattle.cell_plant.proofs.Resting.{moves_rest}
 use Rattle.cell_workers.specs.Lines.{passes}
-use Rattle.cell_workers.specs.Workers.{GateOf, TakesTurn, HasEnded, Ends, AreCountsOf}
+use Rattle.cell_workers.specs.Workers.{GateOf, TakesTurn, HasEnded, AreCountsOf}
 use Rattle.cell_workers.specs.Records.{MomentOf, first_moment, parts_at_ends, TellsAnyWork, has_worker}
 use Rattle.cell_workers.specs.Laws.{Rule, by_rule, TellsNothingDone, HadTurns, HasAtMost, first_call, TellsFirstTurns, RecordsTellTurns, RecordsKeepTries, WorkersEnd, TurnsAreTaken}
 use Rattle.cell_workers.proofs.Passes.{come_same, come_counts}
 use Rattle.cell_workers.proofs.Ending.{ended_at_opening}
 use Rattle.cell_workers.proofs.Answering.{side_answered, line_unchanged, falls}
-use Rattle.cell_workers.proofs.FirstSteps.{within, ends_fine, ends_kept_out, has_status_by, fine_at_once, shut_at_once, ends_begun, answers_along, let_in_along, few_along, still, shut_still, once, stays, own_at_first, noted_at_most, busy_lost, busy_counted}
+use Rattle.cell_workers.proofs.Staying.{told}
+use Rattle.cell_workers.proofs.FirstSteps.{within, ends_fine, ends_kept_out, has_status_by, fine_at_once, shut_at_once, ends_begun, answers_along, let_in_along, few_along, still, shut_still, once, own_at_first, noted_at_most, busy_lost, busy_counted}
 
 -- equal lists of the machines' values have equal values for each machine
 each_same : {A : Type 0} → (f g : Machine → A) → map f all_machines ≡ map g all_machines → (m : Machine) → f m ≡ g m
@@ -115,49 +111,6 @@ module _ (c : CellScales) (opening : ModelState) (tries limit : ℕ) (lets : Rul
             journals = seen_nothing;
             end = ended_at_opening c opening tries limit (by_rule lets) r k seen_nothing;
             axes = k.axes ∙ (λ x. positions_in (parts_at_ends (λ m. lasts m x)));
-          }
-
-    -- a worker may end at once, with this status
-    abbrev statuses_so : Machine → Status
-    statuses_so Watch = Fine
-    statuses_so _ = status
-
-    module _ (ends : (m : Machine) → Ends (by_rule lets m) limit None 0 status) (k : TellsNothingDone opening status r) where
-      abbrev interlock : InterlockView
-      interlock = record { table = record { words = 0; slots = 0; views_name = 0; atom = 0; block = 0; offset = 0; slot_names = [] }; opening = opening; tries = tries }
-
-      abbrev at : (m : Machine) → MomentOf m
-      at m = first_moment interlock m
-
-      works : (m : Machine) → has_worker m ≡ true → HasEnded (passes tries) (steps_of c m) (rig_of c m) (by_rule lets m) limit (at m) (at m) (statuses_so m)
-      works Feed e = stays tries (steps_of c Feed) (rig_of c Feed) (by_rule lets Feed) limit (at Feed) status (ends Feed)
-      works Table e = stays tries (steps_of c Table) (rig_of c Table) (by_rule lets Table) limit (at Table) status (ends Table)
-      works Robot e = stays tries (steps_of c Robot) (rig_of c Robot) (by_rule lets Robot) limit (at Robot) status (ends Robot)
-      works Press e = stays tries (steps_of c Press) (rig_of c Press) (by_rule lets Press) limit (at Press) status (ends Press)
-      works Deposit e = stays tries (steps_of c Deposit) (rig_of c Deposit) (by_rule lets Deposit) limit (at Deposit) status (ends Deposit)
-      works Crane e = stays tries (steps_of c Crane) (rig_of c Crane) (by_rule lets Crane) limit (at Crane) status (ends Crane)
-      works Watch e = cc
-
-      pub told : Works
-      told =
-          record {
-            interlock = interlock;
-            opened = refl;
-            last = at;
-            statuses = statuses_so;
-            works = works;
-            watch_rests = (refl, refl);
-            history = [];
-            lawful = throughout opening (Lawful opening) (lawful opening k.sound) [] tt;
-            seen = λ m. record { begins = ([], refl); own = refl };
-            start = k.start;
-            counts = k.counts;
-            status = k.status;
-            journals = k.journals;
-            counted = λ m. subst (λ j. AreCountsOf j no_counts) (sym (k.journals m)) (record { done = refl; read = refl; refused = refl });
-            audited = record { legal = tt; own = λ m. sym (ap (map (event_by m)) (k.journals m)); noted = λ m. sym (k.journals m); ends = subst (EndsIn opening) (sym k.end) refl };
-            end = k.end;
-            axes = k.axes;
           }
 
   -- ---- the turns of a machine

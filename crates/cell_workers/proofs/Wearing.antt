@@ -38,7 +38,7 @@ use Rattle.cell_wired.specs.Wiring.{answered}
 use Rattle.cell_notes.specs.declared.status.Status.{Status}
 use Rattle.cell_notes.specs.declared.status.Status.TheVariants as status
 use Rattle.cell_workers.specs.Workers.{GateOf, ComesBy, Ends}
-use Rattle.cell_workers.specs.WiredWorkers.{WiredMoment, TakesWiredTurn}
+use Rattle.cell_workers.specs.WiredWorkers.{WiredMoment, TakesWiredTurn, RestsUnread, TakesCycle}
 use Rattle.cell_workers.specs.Wearing.{ChangesAreCalls, WearsLast}
 use Rattle.cell_workers.proofs.Turning.{all_along}
 use Rattle.cell_workers.proofs.Passes.{asks_same, unchanged_pass}
@@ -104,7 +104,7 @@ module _ {S Sense Reading Act : Type 0} (t : Steps S Sense Reading Act) (tries :
       let same : length (own_events w.seen t.machine) ≡ length (own_events v.seen t.machine) = ap (λ x. length (own_events x.seen t.machine)) k in
       omega arith
 
-module _ {S Sense Reading Act D : Type 0} (tries : ℕ) (t : Steps S Sense Reading Act) (shows : D → Sense → D → Type 0) (sets : D → Told Act → D → Type 0) (gate : GateOf) (o : ModelState) where
+module _ {S Sense Reading Act D : Type 0} (tries : ℕ) (t : Steps S Sense Reading Act) (shows : D → Option Sense → D → Type 0) (sets : D → Told Act → D → Type 0) (gate : GateOf) (o : ModelState) where
   record GoesBy (m : WiredMoment S D) : Type 0 where
     machine : m.pass.machine ≡ t.machine
     opening : m.pass.opening ≡ o
@@ -131,9 +131,16 @@ module _ {S Sense Reading Act D : Type 0} (tries : ℕ) (t : Steps S Sense Readi
         late = λ e. subst (λ s. WasWorn t.machine s w.seen) k.opening (late t tries v w k.machine before.progress turn.sense x row e);
       }
 
-  goes_along : (first last : WiredMoment S D) → ComesBy (TakesWiredTurn tries t shows sets gate) first last → first.stopped ≡ None → first.pass.machine ≡ t.machine → first.pass.opening ≡ o → first.pass.seen ≡ [] → first.turns ≡ 0 → GoesBy last
+  rest_goes : (before now : WiredMoment S D) → RestsUnread t shows sets gate before now → GoesBy before → GoesBy now
+  rest_goes before now rest k = subst GoesBy (sym rest.is) (record { machine = k.machine; opening = k.opening; few = k.few; late = k.late })
+
+  cycle_goes : (before now : WiredMoment S D) → TakesCycle tries t shows sets gate before now → GoesBy before → GoesBy now
+  cycle_goes before now (inl turn) k = turn_goes before now turn k
+  cycle_goes before now (inr rest) k = rest_goes before now rest k
+
+  goes_along : (first last : WiredMoment S D) → ComesBy (TakesCycle tries t shows sets gate) first last → first.stopped ≡ None → first.pass.machine ≡ t.machine → first.pass.opening ≡ o → first.pass.seen ≡ [] → first.turns ≡ 0 → GoesBy last
   goes_along first last come runs own opens none zero =
-      all_along (TakesWiredTurn tries t shows sets gate) GoesBy turn_goes first last come
+      all_along (TakesCycle tries t shows sets gate) GoesBy cycle_goes first last come
       (record {
         machine = own;
         opening = opens;
@@ -186,7 +193,7 @@ at_most_one : (b : Bool) → cond b 1 0 ≤ 1
 at_most_one true = omega arith
 at_most_one false = omega arith
 
-changes-are-calls : ChangesAreCalls
+pub changes-are-calls : ChangesAreCalls
 changes-are-calls [] = omega arith
 changes-are-calls (e ∷ h) =
     let rest = changes-are-calls h in
@@ -205,15 +212,15 @@ changes-are-calls (e ∷ h) =
 
 -- ---- the law
 
-pub wears-last : {S Sense Reading Act D : Type 0} (t : Steps S Sense Reading Act) (shows : D → Sense → D → Type 0) (sets : D → Told Act → D → Type 0) (gate : GateOf) → WearsLast t shows sets gate
+pub wears-last : {S Sense Reading Act D : Type 0} (t : Steps S Sense Reading Act) (shows : D → Option Sense → D → Type 0) (sets : D → Told Act → D → Type 0) (gate : GateOf) → WearsLast t shows sets gate
 wears-last t shows sets gate = record {
-  worn = λ tries limit first kept turns s devices p stopped left history r runs own none zero sound legal w is.
+  worn = λ tries limit first kept turns missed s devices p stopped left history r runs own none zero sound legal w is.
       let o = first.pass.opening in
       let last = goes_along tries t shows sets gate o first _ r.come runs own refl none zero in
       let seen = r.last.seen in
       let split : history ≡ seen ++ (r.more.seen.begins.0 ++ w.begins.0) = w.begins.1 ∙ ap (λ h. h ++ w.begins.0) r.more.seen.begins.1 ∙ append_assoc seen r.more.seen.begins.0 w.begins.0 in
-      last_used t.machine o seen (r.more.seen.begins.0 ++ w.begins.0) history sound legal split (last.late (stopped_by gate limit turns stopped s r.ended is));
-  one_call_each = λ tries limit first kept turns s devices p stopped left r runs own none zero.
+      last_used t.machine o seen (r.more.seen.begins.0 ++ w.begins.0) history sound legal split (last.late (stopped_by gate limit (turns + missed) stopped s r.ended is));
+  one_call_each = λ tries limit first kept turns missed s devices p stopped left r runs own none zero.
       let last = goes_along tries t shows sets gate first.pass.opening first _ r.come runs own refl none zero in
       subst (λ h. length h ≤ turns) (sym (subst (λ m. own_events kept.seen m ≡ own_events r.last.seen m) last.machine r.more.seen.own)) last.few;
   changes = changes-are-calls;

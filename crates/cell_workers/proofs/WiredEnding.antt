@@ -1,5 +1,5 @@
 -- How a worker with devices of one's own ends.
-use Rattle.std.proofs.Common.{◌≡◌, ◌≢◌, ◌<◌, ◌⊎◌, inl, inr, ⊎_elim, ℕ, true, false, List, [], ◌∷◌, Option, Some, None, Result, Ok, Err, refl, sym, ap, subst, ◌∙◌, below_more, arith}
+use Rattle.std.proofs.Common.{◌≡◌, ◌≢◌, ◌<◌, ◌+◌, ◌⊎◌, inl, inr, ⊎_elim, ℕ, true, false, List, [], ◌∷◌, Option, Some, None, Result, Ok, Err, refl, sym, ap, subst, ◌∙◌, below_more, arith}
 use Rattle.cell_types.specs.declared.call.Call.{Call}
 use Rattle.cell_types.specs.declared.reply.Reply.{Reply}
 use Rattle.cell_rules.specs.declared.heard.LineFault.{LineFault}
@@ -14,7 +14,7 @@ use Rattle.cell_notes.specs.declared.status.Status.{Status}
 use Rattle.cell_notes.specs.declared.status.Status.TheVariants.{Fine, GateLimit, Sensor, Refused, Worn, Memory}
 use Rattle.cell_unit.specs.Statuses.{status_of}
 use Rattle.cell_workers.specs.Workers.{GateOf, AreTaken, Ends, last_of}
-use Rattle.cell_workers.specs.WiredWorkers.{WiredMoment, TakesWiredTurn, IsWiredResult, wired_moment}
+use Rattle.cell_workers.specs.WiredWorkers.{WiredMoment, TakesWiredTurn, TakesCycle, IsWiredResult, wired_moment}
 use Rattle.cell_workers.specs.WiredLaws.{AreToldToRest, WiredWorkerEnds}
 use Rattle.cell_workers.proofs.Turning.{all_along}
 
@@ -42,7 +42,7 @@ module _ {S Act : Type 0} (p : S) (act : Act) (told : Option CtlFault) (q : S) (
   told_so (Err fault) e none =
       let lie : Ok act ≡ Err fault = sym (ap (answered act) none) ∙ ap (λ (w : Turned S Act). w.result) e in cc
 
-module _ {S Sense Reading Act D : Type 0} (tries : ℕ) (t : Steps S Sense Reading Act) (shows : D → Sense → D → Type 0) (sets : D → Told Act → D → Type 0) (gate : GateOf) where
+module _ {S Sense Reading Act D : Type 0} (tries : ℕ) (t : Steps S Sense Reading Act) (shows : D → Option Sense → D → Type 0) (sets : D → Told Act → D → Type 0) (gate : GateOf) where
   abbrev Turn : WiredMoment S D → WiredMoment S D → Type 0
   Turn = TakesWiredTurn tries t shows sets gate
 
@@ -57,12 +57,29 @@ module _ {S Sense Reading Act D : Type 0} (tries : ℕ) (t : Steps S Sense Readi
       let told_fault : k.told.fault ≢ None = λ none. stops (tells_fault _ _ before.stopped before.progress k.sense k.told.act k.told.fault now.progress now.stopped k.runs k.row none) in
       record { progress = before.progress; before = k.read; told = k.told; set = k.set; is_fault = told_fault; rest = k.rest told_fault }
 
-  -- the gate let each turn in
-  abbrev LetIn : WiredMoment S D → Type 0
-  LetIn m = (turn : ℕ) → turn < m.turns → gate turn true
+  -- what they are told in the last cycle
+  abbrev Cycle : WiredMoment S D → WiredMoment S D → Type 0
+  Cycle = TakesCycle tries t shows sets gate
 
-  one_more : (before now : WiredMoment S D) → Turn before now → LetIn before → LetIn now
-  one_more before now k old = subst (λ n. (turn : ℕ) → turn < n → gate turn true) (sym k.counted) (below_more (λ turn. gate turn true) before.turns old k.let_in)
+  rests_after : (before now : WiredMoment S D) → Cycle before now → now.stopped ≢ None → AreToldToRest t sets now.devices
+  rests_after before now (inl turn) stops = rests_at before now turn stops
+  rests_after before now (inr rest) stops = absurd (stops (ap (λ (m : WiredMoment S D). m.stopped) rest.is ∙ rest.running))
+
+  -- the gate let each cycle in
+  abbrev cycles : WiredMoment S D → ℕ
+  cycles m = m.turns + m.missed
+
+  abbrev LetIn : WiredMoment S D → Type 0
+  LetIn m = (cycle : ℕ) → cycle < cycles m → gate cycle true
+
+  one_more : (before now : WiredMoment S D) → cycles now ≡ cycles before + 1 → gate (cycles before) true → LetIn before → LetIn now
+  one_more before now e let_in old = subst (λ n. (cycle : ℕ) → cycle < n → gate cycle true) (sym e) (below_more (λ cycle. gate cycle true) (cycles before) old let_in)
+
+  cycle_more : (before now : WiredMoment S D) → Cycle before now → LetIn before → LetIn now
+  cycle_more before now (inl turn) old = one_more before now (omega (arith, turn.counted, turn.as_many_missed)) turn.let_in old
+  cycle_more before now (inr rest) old =
+      let more : cycles now ≡ before.turns + (before.missed + 1) = ap cycles rest.is in
+      one_more before now (omega (arith, more)) rest.begun old
 
   ends_so : (limit : ℕ) (stopped : Option CtlFault) (turns : ℕ) (s : Status) (devices : D) → Ends gate limit stopped turns s → ((turn : ℕ) → turn < turns → gate turn true) → (stopped ≢ None → AreToldToRest t sets devices)
       → WiredWorkerEnds t sets gate limit turns s devices
@@ -93,16 +110,16 @@ module _ {S Sense Reading Act D : Type 0} (tries : ℕ) (t : Steps S Sense Readi
         rests = λ f g. rests (λ e. cc);
       }
 
-  pub ended : (limit : ℕ) (pass kept : PassView) (p : S) (first devices : D) (turns : ℕ) (s : Status) → IsWiredResult tries t shows sets gate limit (wired_moment pass p None first 0) kept turns s devices → WiredWorkerEnds t sets gate limit turns s devices
-  ended limit pass kept p first devices turns s k =
-      let begun : WiredMoment S D = wired_moment pass p None first 0 in
-      let now : WiredMoment S D = wired_moment kept k.progress k.stopped devices turns in
+  pub ended : (limit : ℕ) (pass kept : PassView) (p : S) (first devices : D) (turns missed : ℕ) (s : Status) → IsWiredResult tries t shows sets gate limit (wired_moment pass p None first 0 0) kept turns missed s devices → WiredWorkerEnds t sets gate limit (turns + missed) s devices
+  ended limit pass kept p first devices turns missed s k =
+      let begun : WiredMoment S D = wired_moment pass p None first 0 0 in
+      let now : WiredMoment S D = wired_moment kept k.progress k.stopped devices turns missed in
       let last : last_of begun k.come.turns ≡ now = k.come.last in
-      ends_so limit k.stopped turns s devices k.ends
-      (all_along Turn LetIn one_more begun now k.come (λ n low. absurd (omega arith)))
+      ends_so limit k.stopped (turns + missed) s devices k.ends
+      (all_along Cycle LetIn cycle_more begun now k.come (λ n low. absurd (omega arith)))
       (λ stops. ⊎_elim
       (λ (none : last_of begun k.come.turns ≡ begun). absurd (stops (ap (λ (m : WiredMoment S D). m.stopped) (sym last ∙ none))))
-      (λ (turn : (before : WiredMoment S D) × Turn before (last_of begun k.come.turns)).
+      (λ (cycle : (before : WiredMoment S D) × Cycle before (last_of begun k.come.turns)).
       subst (λ (m : WiredMoment S D). AreToldToRest t sets m.devices) last
-      (rests_at turn.0 (last_of begun k.come.turns) turn.1 (λ none. stops (ap (λ (m : WiredMoment S D). m.stopped) (sym last) ∙ none))))
-      (last_turn Turn begun k.come.turns k.come.taken))
+      (rests_after cycle.0 (last_of begun k.come.turns) cycle.1 (λ none. stops (ap (λ (m : WiredMoment S D). m.stopped) (sym last) ∙ none))))
+      (last_turn Cycle begun k.come.turns k.come.taken))

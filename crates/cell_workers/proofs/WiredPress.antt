@@ -1,5 +1,6 @@
--- Turns of a press with devices of one's own.
-use Rattle.std.proofs.Common.{◌≡◌, ◌≢◌, ℕ, Bool, true, false, Option, Some, None, Result, Err, refl, sym, ap, subst, ◌∙◌}
+-- Cycles of a press with devices of one's own.
+use Rattle.std.proofs.Common.{◌≡◌, ◌≢◌, ℕ, ◌+◌, Bool, true, false, inl, inr, Option, Some, None, Result, Err, refl, sym, ap, subst, ◌∙◌}
+use Rattle.std.specs.Prelude.{IsSomeAnd}
 use Rattle.cell_types.specs.declared.machine.Machine.TheVariants.{Press}
 use Rattle.cell_types.specs.declared.call.Call.{Call}
 use Rattle.cell_types.specs.declared.reply.Reply.{Reply}
@@ -20,8 +21,8 @@ use Rattle.cell_stations.specs.PressProgram.{press_steps, checked}
 use Rattle.cell_wired.specs.declared.told.Told.{Told}
 use Rattle.cell_wired.specs.Wiring.{answered}
 use Rattle.cell_workers.specs.Workers.{GateOf}
-use Rattle.cell_workers.specs.WiredWorkers.{WiredMoment, TakesWiredTurn}
-use Rattle.cell_workers.specs.WiredLaws.{WiredPressTurns, told_clash}
+use Rattle.cell_workers.specs.WiredWorkers.{WiredMoment, TakesCycle}
+use Rattle.cell_workers.specs.WiredLaws.{WiredPressTurns, told_clash, told_unread}
 
 clash_by : (middle : Bool) → checked (record { bottom = true; middle = middle; top = true }) ≡ Err Clash
 clash_by true = refl
@@ -47,12 +48,24 @@ drives_so : (told : Told PressAct) (fault : Option CtlFault) (P : Type 0) → (f
 drives_so told None P f rest on = f refl on
 drives_so told (Some fault) P f rest on = absurd (on (ap (λ (a : PressAct). a.press) (rest (λ e. cc))))
 
-module _ {D : Type 0} (shows : D → PressSense → D → Type 0) (sets : D → Told PressAct → D → Type 0) (gate : GateOf) where
-  clash : (tries : ℕ) (before now : WiredMoment PressProgress D) → TakesWiredTurn tries press_steps shows sets gate before now
-      → ((s : PressSense) (d : D) → shows before.devices s d → (s.bottom ≡ true) × (s.top ≡ true))
+module _ {D : Type 0} (shows : D → Option PressSense → D → Type 0) (sets : D → Told PressAct → D → Type 0) (gate : GateOf) where
+  abbrev Cycle : ℕ → WiredMoment PressProgress D → WiredMoment PressProgress D → Type 0
+  Cycle tries = TakesCycle tries press_steps shows sets gate
+
+  stopped : (tries : ℕ) (before now : WiredMoment PressProgress D) (fault : CtlFault) → before.stopped ≡ Some fault → Cycle tries before now → ⊥
+  stopped tries before now fault e (inl k) = let lie : None ≡ Some fault = sym k.runs ∙ e in cc
+  stopped tries before now fault e (inr k) = let lie : None ≡ Some fault = sym k.running ∙ e in cc
+
+  kept_out : (tries : ℕ) (before now : WiredMoment PressProgress D) → (gate (before.turns + before.missed) true → ⊥) → Cycle tries before now → ⊥
+  kept_out tries before now shut (inl k) = shut k.let_in
+  kept_out tries before now shut (inr k) = shut k.begun
+
+  clash : (tries : ℕ) (before now : WiredMoment PressProgress D) → Cycle tries before now
+      → ((s : Option PressSense) (d : D) → shows before.devices s d → IsSomeAnd s (λ p. (p.bottom ≡ true) × (p.top ≡ true)))
       → ((d : D) × sets d told_clash now.devices) × (now.stopped ≡ Some (Sensor Clash)) × (now.pass ≡ before.pass)
-  clash tries before now k only =
-      let on = only k.sense k.read k.shown in
+  clash tries before now (inr k) only = absurd (only None k.read k.shown)
+  clash tries before now (inl k) only =
+      let on = only (Some k.sense) k.read k.shown in
       let w : Turned PressProgress PressAct = record { result = answered k.told.act k.told.fault; progress = now.progress; stopped = now.stopped } in
       let row : Turns press_steps (now.pass ≡ before.pass) (λ c r. PassAsks tries before.pass c r now.pass) None before.progress k.sense w =
       subst (λ o. Turns press_steps (now.pass ≡ before.pass) (λ c r. PassAsks tries before.pass c r now.pass) o before.progress k.sense w) k.runs k.row in
@@ -62,11 +75,23 @@ module _ {D : Type 0} (shows : D → PressSense → D → Type 0) (sets : D → 
       let told : k.told ≡ told_clash = λ i. record { act = act i; fault = fault i } in
       ((k.read, subst (λ t. sets k.read t now.devices) told k.set), ap (λ (x : Turned PressProgress PressAct). x.stopped) stops.1, stops.0)
 
+  unread : (tries : ℕ) (before now : WiredMoment PressProgress D) → Cycle tries before now → ((s : Option PressSense) (d : D) → shows before.devices s d → s ≡ None)
+      → ((d : D) × sets d told_unread now.devices) × (now.stopped ≡ None) × (now.progress ≡ before.progress) × (now.pass ≡ before.pass) × (now.turns ≡ before.turns)
+  unread tries before now (inl k) only = let lie : Some k.sense ≡ None = only (Some k.sense) k.read k.shown in cc
+  unread tries before now (inr k) only = (
+    (k.read, k.set),
+    ap (λ (m : WiredMoment PressProgress D). m.stopped) k.is ∙ k.running,
+    ap (λ (m : WiredMoment PressProgress D). m.progress) k.is,
+    ap (λ (m : WiredMoment PressProgress D). m.pass) k.is,
+    ap (λ (m : WiredMoment PressProgress D). m.turns) k.is,
+  )
+
   pub press_turns : WiredPressTurns shows sets gate
   press_turns =
       record {
-        stopped = λ tries before now fault e k. let lie : None ≡ Some fault = sym k.runs ∙ e in cc;
-        kept_out = λ tries before now shut k. shut k.let_in;
+        stopped = stopped;
+        kept_out = kept_out;
         clash = clash;
+        unread = unread;
         drives = λ tries before now k. drives_so k.told k.told.fault (Holds now.pass.opening now.pass.seen Press Z3 × PressMoves now.pass.opening now.pass.seen) (λ none on. k.motor_demands none on) k.rest;
       }

@@ -1,5 +1,5 @@
 -- What a record tells of six workers with devices of one's own, by what each gave back.
-use Rattle.std.proofs.Common.{◌≡◌, ◌≢◌, ℕ, List, [], ◌∷◌, None, refl, sym, ◌∙◌, subst}
+use Rattle.std.proofs.Common.{◌≡◌, ◌≢◌, ℕ, List, [], ◌∷◌, Option, None, refl, sym, ◌∙◌, subst}
 use Rattle.std.specs.List.{All}
 use Rattle.std.proofs.lemmas.List.{append-nil}
 use Rattle.std.proofs.lemmas.List.Elements.{All-head, All-tail}
@@ -37,12 +37,12 @@ use Rattle.cell_workers.specs.declared.worker_result.WorkerResult.{WorkerResult}
 use Rattle.cell_workers.proofs.WiredUnrefused.{wired-unrefused}
 
 -- what a worker gave back that began with the interlock's opening, and whose calls may lose as many exchanges
-given_as : {P D S Sense Reading Act : Type 0} → (m : Machine) (steps : P → Steps S Sense Reading Act) (shows : D → Sense → D → Type 0) (sets : D → Told Act → D → Type 0) (i : InterlockView) (tries limit : ℕ) (gate : GateOf) (opening : ModelState) (w : WiredWorker P D) (r : WorkerResult (WiredOutcome D))
+given_as : {P D S Sense Reading Act : Type 0} → (m : Machine) (steps : P → Steps S Sense Reading Act) (shows : D → Option Sense → D → Type 0) (sets : D → Told Act → D → Type 0) (i : InterlockView) (tries limit : ℕ) (gate : GateOf) (opening : ModelState) (w : WiredWorker P D) (r : WorkerResult (WiredOutcome D))
     → i.opening ≡ opening → i.tries ≡ tries → w.opening ≡ opening → wired_gives steps shows sets w (fresh_pass i m) i.tries gate limit r
-    → IsWiredResult tries (steps w.program) shows sets gate limit (wired_moment (fresh_pass i m) ((steps w.program).start i.opening) None w.devices 0) r.pass r.outcome.turns r.outcome.status r.outcome.devices
+    → IsWiredResult tries (steps w.program) shows sets gate limit (wired_moment (fresh_pass i m) ((steps w.program).start i.opening) None w.devices 0 0) r.pass r.outcome.turns r.outcome.missed r.outcome.status r.outcome.devices
 given_as m steps shows sets i tries limit gate opening w r opened losing begins k =
-    let begun = subst (λ (s : ModelState). IsWiredResult i.tries (steps w.program) shows sets gate limit (wired_moment (fresh_pass i m) ((steps w.program).start s) None w.devices 0) r.pass r.outcome.turns r.outcome.status r.outcome.devices) (begins ∙ sym opened) k in
-    subst (λ (n : ℕ). IsWiredResult n (steps w.program) shows sets gate limit (wired_moment (fresh_pass i m) ((steps w.program).start i.opening) None w.devices 0) r.pass r.outcome.turns r.outcome.status r.outcome.devices) losing begun
+    let begun = subst (λ (s : ModelState). IsWiredResult i.tries (steps w.program) shows sets gate limit (wired_moment (fresh_pass i m) ((steps w.program).start s) None w.devices 0 0) r.pass r.outcome.turns r.outcome.missed r.outcome.status r.outcome.devices) (begins ∙ sym opened) k in
+    subst (λ (n : ℕ). IsWiredResult n (steps w.program) shows sets gate limit (wired_moment (fresh_pass i m) ((steps w.program).start i.opening) None w.devices 0 0) r.pass r.outcome.turns r.outcome.missed r.outcome.status r.outcome.devices) losing begun
 
 pub wired-tell : {F1 F2 F3 F4 F5 : Type 0} {g1 : Ghosts F1} {g2 : Ghosts F2} {g3 : Ghosts F3} {g4 : Ghosts F4} {g5 : Ghosts F5} {D1 D2 D3 D4 D5 D6 : Type 0}
     (shows1 : Shows D1 Feed) (sets1 : Sets D1 Feed) (shows2 : Shows D2 Table) (sets2 : Sets D2 Table) (shows3 : Shows D3 Robot) (sets3 : Sets D3 Robot) (shows4 : Shows D4 Press) (sets4 : Sets D4 Press) (shows5 : Shows D5 Deposit) (sets5 : Sets D5 Deposit) (shows6 : Shows D6 Crane) (sets6 : Sets D6 Crane)
@@ -79,12 +79,12 @@ module _ {D1 D2 D3 D4 D5 D6 : Type 0} (c : CellScales) (gives : CellGauges)
   team = record {
     interlock = k.interlock;
     starts = subst IsStartState (sym k.opened) start;
-    feed = record { first = devices.feed; kept = k.results.feed.pass; turns = k.results.feed.outcome.turns; status = k.results.feed.outcome.status; devices = k.results.feed.outcome.devices; ended = k.feed };
-    table = record { first = devices.table; kept = k.results.table.pass; turns = k.results.table.outcome.turns; status = k.results.table.outcome.status; devices = k.results.table.outcome.devices; ended = k.table };
-    robot = record { first = devices.robot; kept = k.results.robot.pass; turns = k.results.robot.outcome.turns; status = k.results.robot.outcome.status; devices = k.results.robot.outcome.devices; ended = k.robot };
-    press = record { first = devices.press; kept = k.results.press.pass; turns = k.results.press.outcome.turns; status = k.results.press.outcome.status; devices = k.results.press.outcome.devices; ended = k.press };
-    deposit = record { first = devices.deposit; kept = k.results.deposit.pass; turns = k.results.deposit.outcome.turns; status = k.results.deposit.outcome.status; devices = k.results.deposit.outcome.devices; ended = k.deposit };
-    crane = record { first = devices.crane; kept = k.results.crane.pass; turns = k.results.crane.outcome.turns; status = k.results.crane.outcome.status; devices = k.results.crane.outcome.devices; ended = k.crane };
+    feed = record { first = devices.feed; kept = k.results.feed.pass; turns = k.results.feed.outcome.turns; missed = k.results.feed.outcome.missed; status = k.results.feed.outcome.status; devices = k.results.feed.outcome.devices; ended = k.feed };
+    table = record { first = devices.table; kept = k.results.table.pass; turns = k.results.table.outcome.turns; missed = k.results.table.outcome.missed; status = k.results.table.outcome.status; devices = k.results.table.outcome.devices; ended = k.table };
+    robot = record { first = devices.robot; kept = k.results.robot.pass; turns = k.results.robot.outcome.turns; missed = k.results.robot.outcome.missed; status = k.results.robot.outcome.status; devices = k.results.robot.outcome.devices; ended = k.robot };
+    press = record { first = devices.press; kept = k.results.press.pass; turns = k.results.press.outcome.turns; missed = k.results.press.outcome.missed; status = k.results.press.outcome.status; devices = k.results.press.outcome.devices; ended = k.press };
+    deposit = record { first = devices.deposit; kept = k.results.deposit.pass; turns = k.results.deposit.outcome.turns; missed = k.results.deposit.outcome.missed; status = k.results.deposit.outcome.status; devices = k.results.deposit.outcome.devices; ended = k.deposit };
+    crane = record { first = devices.crane; kept = k.results.crane.pass; turns = k.results.crane.outcome.turns; missed = k.results.crane.outcome.missed; status = k.results.crane.outcome.status; devices = k.results.crane.outcome.devices; ended = k.crane };
     history = k.history;
     legal = subst (λ s. IsLegal s k.history) (sym k.opened) (k.lawful k.history [] (sym (append-nil k.history))).legal;
     feed_seen = k.seen Feed;

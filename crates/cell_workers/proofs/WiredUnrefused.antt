@@ -1,5 +1,5 @@
 -- A worker with devices of one's own stands at a step of its program after each turn, so none of six ends as refused.
-use Rattle.std.proofs.Common.{◌≡◌, ℕ, false, Option, None, refl, ap, ◌∙◌, subst}
+use Rattle.std.proofs.Common.{◌≡◌, ℕ, ◌+◌, false, inl, inr, Option, None, refl, sym, ap, ◌∙◌, subst}
 use Rattle.cell_types.specs.declared.machine.Machine.{Machine}
 use Rattle.cell_types.specs.declared.machine.Machine.TheVariants.{Feed, Table, Robot, Press, Deposit, Crane, Watch}
 use Rattle.cell_types.specs.Same.{same_machine}
@@ -17,13 +17,13 @@ use Rattle.cell_plant.specs.Machines.{CellGauges, ProgressOf, steps_by}
 use Rattle.cell_plant.proofs.Standing.{none_refused_by}
 use Rattle.cell_team.proofs.Turned.{Stands, stands_on, stands_later}
 use Rattle.cell_workers.specs.Workers.{GateOf, ComesBy}
-use Rattle.cell_workers.specs.WiredWorkers.{WiredMoment, TakesWiredTurn}
+use Rattle.cell_workers.specs.WiredWorkers.{WiredMoment, TakesWiredTurn, TakesCycle}
 use Rattle.cell_workers.specs.WiredTeams.{Shows, Sets, WiredTeam, NoneEndsRefused, NoWiredWorkerIsRefused}
 use Rattle.cell_workers.proofs.Turning.{all_along}
 use Rattle.cell_workers.proofs.Passes.{asks_same, unchanged_pass}
 use Rattle.cell_workers.proofs.Unrefused.{ended, seen_after}
 
-module _ {S Sense Reading Act D : Type 0} (tries : ℕ) (t : Steps S Sense Reading Act) (shows : D → Sense → D → Type 0) (sets : D → Told Act → D → Type 0) (gate : GateOf) (o : ModelState) where
+module _ {S Sense Reading Act D : Type 0} (tries : ℕ) (t : Steps S Sense Reading Act) (shows : D → Option Sense → D → Type 0) (sets : D → Told Act → D → Type 0) (gate : GateOf) (o : ModelState) where
   pub record StandsBy (m : WiredMoment S D) : Type 0 where
     pub machine : m.pass.machine ≡ t.machine
     pub opening : m.pass.opening ≡ o
@@ -42,8 +42,12 @@ module _ {S Sense Reading Act D : Type 0} (tries : ℕ) (t : Steps S Sense Readi
         stands = stands_on t o v.seen w.seen (w ≡ v) (λ c r. PassAsks tries v c r w) (λ h. ap (λ x. x.seen) h) (λ c r h. seen_after tries t.machine v w c r k.machine h) before.progress turn.sense turned row k.stands.come;
       }
 
-  pub wired_stands : (first last : WiredMoment S D) → ComesBy (TakesWiredTurn tries t shows sets gate) first last → StandsBy first → StandsBy last
-  wired_stands first last k f = all_along (TakesWiredTurn tries t shows sets gate) StandsBy turn_stands first last k f
+  cycle_stands : (before now : WiredMoment S D) → TakesCycle tries t shows sets gate before now → StandsBy before → StandsBy now
+  cycle_stands before now (inl turn) k = turn_stands before now turn k
+  cycle_stands before now (inr rest) k = subst StandsBy (sym rest.is) (record { machine = k.machine; opening = k.opening; stands = k.stands })
+
+  pub wired_stands : (first last : WiredMoment S D) → ComesBy (TakesCycle tries t shows sets gate) first last → StandsBy first → StandsBy last
+  wired_stands first last k f = all_along (TakesCycle tries t shows sets gate) StandsBy cycle_stands first last k f
 
 module _ {D1 D2 D3 D4 D5 D6 : Type 0} (c : CellScales) (gives : CellGauges)
     (shows1 : Shows D1 Feed) (sets1 : Sets D1 Feed) (shows2 : Shows D2 Table) (sets2 : Sets D2 Table) (shows3 : Shows D3 Robot) (sets3 : Sets D3 Robot) (shows4 : Shows D4 Press) (sets4 : Sets D4 Press) (shows5 : Shows D5 Deposit) (sets5 : Sets D5 Deposit) (shows6 : Shows D6 Crane) (sets6 : Sets D6 Crane)
@@ -98,12 +102,12 @@ module _ {D1 D2 D3 D4 D5 D6 : Type 0} (c : CellScales) (gives : CellGauges)
 
   none_ends : NoneEndsRefused c gives shows1 sets1 shows2 sets2 shows3 sets3 shows4 sets4 shows5 sets5 shows6 sets6 tries limit gate team
   none_ends = record {
-    feed = ended (gate Feed) limit team.feed.turns team.feed.ended.stopped team.feed.status team.feed.ended.ends (none_refused_by c gives o team.history stopped progress team.starts team.legal stands Feed refl) (stands Feed refl).not_again;
-    table = ended (gate Table) limit team.table.turns team.table.ended.stopped team.table.status team.table.ended.ends (none_refused_by c gives o team.history stopped progress team.starts team.legal stands Table refl) (stands Table refl).not_again;
-    robot = ended (gate Robot) limit team.robot.turns team.robot.ended.stopped team.robot.status team.robot.ended.ends (none_refused_by c gives o team.history stopped progress team.starts team.legal stands Robot refl) (stands Robot refl).not_again;
-    press = ended (gate Press) limit team.press.turns team.press.ended.stopped team.press.status team.press.ended.ends (none_refused_by c gives o team.history stopped progress team.starts team.legal stands Press refl) (stands Press refl).not_again;
-    deposit = ended (gate Deposit) limit team.deposit.turns team.deposit.ended.stopped team.deposit.status team.deposit.ended.ends (none_refused_by c gives o team.history stopped progress team.starts team.legal stands Deposit refl) (stands Deposit refl).not_again;
-    crane = ended (gate Crane) limit team.crane.turns team.crane.ended.stopped team.crane.status team.crane.ended.ends (none_refused_by c gives o team.history stopped progress team.starts team.legal stands Crane refl) (stands Crane refl).not_again;
+    feed = ended (gate Feed) limit (team.feed.turns + team.feed.missed) team.feed.ended.stopped team.feed.status team.feed.ended.ends (none_refused_by c gives o team.history stopped progress team.starts team.legal stands Feed refl) (stands Feed refl).not_again;
+    table = ended (gate Table) limit (team.table.turns + team.table.missed) team.table.ended.stopped team.table.status team.table.ended.ends (none_refused_by c gives o team.history stopped progress team.starts team.legal stands Table refl) (stands Table refl).not_again;
+    robot = ended (gate Robot) limit (team.robot.turns + team.robot.missed) team.robot.ended.stopped team.robot.status team.robot.ended.ends (none_refused_by c gives o team.history stopped progress team.starts team.legal stands Robot refl) (stands Robot refl).not_again;
+    press = ended (gate Press) limit (team.press.turns + team.press.missed) team.press.ended.stopped team.press.status team.press.ended.ends (none_refused_by c gives o team.history stopped progress team.starts team.legal stands Press refl) (stands Press refl).not_again;
+    deposit = ended (gate Deposit) limit (team.deposit.turns + team.deposit.missed) team.deposit.ended.stopped team.deposit.status team.deposit.ended.ends (none_refused_by c gives o team.history stopped progress team.starts team.legal stands Deposit refl) (stands Deposit refl).not_again;
+    crane = ended (gate Crane) limit (team.crane.turns + team.crane.missed) team.crane.ended.stopped team.crane.status team.crane.ended.ends (none_refused_by c gives o team.history stopped progress team.starts team.legal stands Crane refl) (stands Crane refl).not_again;
   }
 
 pub wired-unrefused : {D1 D2 D3 D4 D5 D6 : Type 0} (c : CellScales) (gives : CellGauges)

@@ -7,10 +7,12 @@ pub mod Records
 pub mod Results
 pub mod Promises
 pub mod Six
+pub mod Watching
 pub mod Laws
 pub mod WiredLaws
 pub mod WiredTeams
 pub mod WiredRecords
 pub mod Going
 pub mod Renewing
+pub mod RenewedRecords
 pub mod Wearing

@@ -25,14 +25,14 @@ ChangesAreCalls =
 
 -- A worker that began running, with the fresh pass of its machine. If it ends as worn, the history of its interlock has
 -- used up all stamps. It has made at most one call in each turn.
-pub record WearsLast {S Sense Reading Act D : Type 0} (t : Steps S Sense Reading Act) (shows : D → Sense → D → Type 0) (sets : D → Told Act → D → Type 0) (gate : GateOf) : Type 0 where
-  pub worn : (tries limit : ℕ) (first : WiredMoment S D) (kept : PassView) (turns : ℕ) (status : Status) (devices : D) (p : S) (stopped : Option CtlFault) (left : ModelState) (history : List Event)
-      → IsGoingResult tries t shows sets gate limit first kept turns status devices p stopped left
+pub record WearsLast {S Sense Reading Act D : Type 0} (t : Steps S Sense Reading Act) (shows : D → Option Sense → D → Type 0) (sets : D → Told Act → D → Type 0) (gate : GateOf) : Type 0 where
+  pub worn : (tries limit : ℕ) (first : WiredMoment S D) (kept : PassView) (turns missed : ℕ) (status : Status) (devices : D) (p : S) (stopped : Option CtlFault) (left : ModelState) (history : List Event)
+      → IsGoingResult tries t shows sets gate limit first kept turns missed status devices p stopped left
       → first.stopped ≡ None → first.pass.machine ≡ t.machine → first.pass.seen ≡ [] → first.turns ≡ 0
       → IsSound first.pass.opening → IsLegal first.pass.opening history → Waits t.machine kept.seen history
       → status ≡ Worn → last_stamp ≤ first.pass.opening.stamp + done_count history
-  pub one_call_each : (tries limit : ℕ) (first : WiredMoment S D) (kept : PassView) (turns : ℕ) (status : Status) (devices : D) (p : S) (stopped : Option CtlFault) (left : ModelState)
-      → IsGoingResult tries t shows sets gate limit first kept turns status devices p stopped left
+  pub one_call_each : (tries limit : ℕ) (first : WiredMoment S D) (kept : PassView) (turns missed : ℕ) (status : Status) (devices : D) (p : S) (stopped : Option CtlFault) (left : ModelState)
+      → IsGoingResult tries t shows sets gate limit first kept turns missed status devices p stopped left
       → first.stopped ≡ None → first.pass.machine ≡ t.machine → first.pass.seen ≡ [] → first.turns ≡ 0
       → length (own_events kept.seen t.machine) ≤ turns
   pub changes : ChangesAreCalls

@@ -1,5 +1,5 @@
 -- What a record says of six workers with devices of one's own, each by the program of its machine.
-use Rattle.std.specs.Prelude.{◌≡◌, ◌≢◌, ℕ, List, [], ◌∷◌, None, Some}
+use Rattle.std.specs.Prelude.{◌≡◌, ◌≢◌, ℕ, List, [], ◌∷◌, Option, None, Some}
 use Rattle.cell_types.specs.declared.machine.Machine.{Machine}
 use Rattle.cell_types.specs.declared.machine.Machine.TheVariants.{Feed, Table, Robot, Press, Deposit, Crane}
 use Rattle.cell_types.specs.declared.answer.Event.{Event}
@@ -47,20 +47,20 @@ use Rattle.cell_workers.specs.declared.wired_worker.WiredWorker.{WiredWorker}
 
 -- what a `WiredWorker` promises to give back (its `gives_back`), by the steps of its program and by its devices
 abbrev pub wired_gives : {P D S Sense Reading Act : Type 0} → (P → Steps S Sense Reading Act) →
-    (D → Sense → D → Type 0) → (D → Told Act → D → Type 0) → GivesOf (WiredWorker P D) (WiredOutcome D)
+    (D → Option Sense → D → Type 0) → (D → Told Act → D → Type 0) → GivesOf (WiredWorker P D) (WiredOutcome D)
 wired_gives steps shows sets w pass tries gate limit r =
     IsWiredResult tries (steps w.program) shows sets gate limit
-    (wired_moment pass ((steps w.program).start w.opening) None w.devices 0) r.pass r.outcome.turns
-    r.outcome.status r.outcome.devices
+    (wired_moment pass ((steps w.program).start w.opening) None w.devices 0 0) r.pass r.outcome.turns
+    r.outcome.missed r.outcome.status r.outcome.devices
 
--- a machine's devices when its worker began, and what is left of it: by its turns, from the start of its program, it
+-- a machine's devices when its worker began, and what is left of it: by its cycles, from the start of its program, it
 -- has come to this pass, and ended so
 abbrev pub IsWiredEnd : {D : Type 0} → CellScales → CellGauges → (m : Machine) → Shows D m → Sets D m → ℕ → ℕ →
     GateOf → InterlockView → D → PassView → WiredOutcome D → Type 0
 IsWiredEnd c gives m shows sets tries limit gate i first kept left =
     IsWiredResult tries (steps_by c gives m) shows sets gate limit
-    (wired_moment (fresh_pass i m) ((steps_by c gives m).start i.opening) None first 0) kept left.turns
-    left.status left.devices
+    (wired_moment (fresh_pass i m) ((steps_by c gives m).start i.opening) None first 0 0) kept left.turns
+    left.missed left.status left.devices
 
 -- the record of six workers with devices
 abbrev pub WiredRecord : Type 0 → Type 0 → Type 0 → Type 0 → Type 0 → Type 0 → Type 0

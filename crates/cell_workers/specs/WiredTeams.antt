@@ -1,5 +1,5 @@
 -- Six workers with devices of one's own, one for each machine of the cell: a refusal stops none of them.
-use Rattle.std.specs.Prelude.{◌≢◌, ℕ, List, None}
+use Rattle.std.specs.Prelude.{◌≢◌, ℕ, List, Option, None}
 use Rattle.cell_types.specs.declared.machine.Machine.{Machine}
 use Rattle.cell_types.specs.declared.machine.Machine.TheVariants.{Feed, Table, Robot, Press, Deposit, Crane}
 use Rattle.cell_types.specs.declared.answer.Event.{Event}
@@ -18,20 +18,21 @@ use Rattle.cell_workers.specs.WiredWorkers.{IsWiredResult, wired_moment}
 
 -- what devices of these types may show, and how they are set
 abbrev pub Shows : Type 0 → Machine → Type 1
-Shows D m = D → SenseOf m → D → Type 0
+Shows D m = D → Option (SenseOf m) → D → Type 0
 
 abbrev pub Sets : Type 0 → Machine → Type 1
 Sets D m = D → Told (ActOf m) → D → Type 0
 
 -- a machine's worker began with a fresh pass of the interlock, at the start of its program, with these devices; by its
--- turns it has come to the pass that it gave back, and it ended with this status
+-- cycles it has come to the pass that it gave back, and it ended with this status
 pub record WiredEnd {D : Type 0} (c : CellScales) (gives : CellGauges) (m : Machine) (shows : Shows D m) (sets : Sets D m) (tries limit : ℕ) (gate : GateOf) (i : InterlockView) : Type 0 where
   pub first : D
   pub kept : PassView
   pub turns : ℕ
+  pub missed : ℕ
   pub status : Status
   pub devices : D
-  pub ended : IsWiredResult tries (steps_by c gives m) shows sets gate limit (wired_moment (fresh_pass i m) ((steps_by c gives m).start i.opening) None first 0) kept turns status devices
+  pub ended : IsWiredResult tries (steps_by c gives m) shows sets gate limit (wired_moment (fresh_pass i m) ((steps_by c gives m).start i.opening) None first 0 0) kept turns missed status devices
 
 -- Six of them over one interlock, which opened with a start. There is one legal history: each has seen a part of it, with
 -- all events of its machine.

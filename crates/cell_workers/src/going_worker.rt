@@ -40,12 +40,28 @@ impl<P: Program, D> Model for GoingWorker<P, D> {
 pub struct GoingOutcome<P: Program, D> {
     /// How many turns it took.
     pub turns: u32,
+    /// In how many cycles its sensors showed nothing.
+    pub missed: u32,
     /// How its worker ended.
     pub status: Status,
     /// Its sensors and actuators.
     pub devices: D,
     /// The machine, which may go on by another interlock.
     pub machine: Unwired<P>,
+}
+
+impl<P: Program, D> Model for GoingOutcome<P, D> {
+    ghost use Rattle.cell_workers.specs.Going.{GoingLeft};
+
+    ghost Value = { GoingLeft P P.Progress D };
+
+    ghost view = { λ o. record {
+      turns = o.turns;
+      missed = o.missed;
+      status = o.status;
+      devices = o.devices;
+      machine = o.machine;
+    } };
 }
 
 impl<P: Program, D> GoingWorker<P, D> {
@@ -91,8 +107,8 @@ impl<P: Program, D: Devices<Sense = P::Sense, Act = P::Act>> Worker for GoingWor
     ghost gives_back = { λ w pass tries gate limit r.
         (r.outcome.machine.program ≡ w.machine.program) × IsGoingResult tries (P.steps w.machine.program)
         D.shows D.sets gate limit
-        (wired_moment pass w.machine.progress w.machine.stopped w.devices 0)
-        r.pass r.outcome.turns r.outcome.status r.outcome.devices
+        (wired_moment pass w.machine.progress w.machine.stopped w.devices 0 0)
+        r.pass r.outcome.turns r.outcome.missed r.outcome.status r.outcome.devices
         r.outcome.machine.progress r.outcome.machine.stopped r.outcome.machine.left };
 
     fn take_turns<G: Gate>(
@@ -117,6 +133,7 @@ impl<P: Program, D: Devices<Sense = P::Sense, Act = P::Act>> Worker for GoingWor
             journal,
             outcome: GoingOutcome {
                 turns: ending.turns,
+                missed: ending.missed,
                 status: ending.status,
                 devices,
                 machine,
@@ -146,6 +163,7 @@ impl<P: Program, D: Devices<Sense = P::Sense, Act = P::Act>> RenewedWorker for G
     fn go_on(outcome: GoingOutcome<P, D>, opening: &State) -> GoingWorker<P, D> {
         let GoingOutcome {
             turns: _,
+            missed: _,
             status: _,
             devices,
             machine,

@@ -2,12 +2,12 @@
 ghost use Rattle.std.specs.Prelude.{◌≡◌, IfSome};
 ghost use Rattle.cell_types.specs.declared.machine.Machine.{Machine};
 ghost use Rattle.cell_types.specs.Journals.{journal_of};
-ghost use Rattle.cell_workers.specs.Results.{AreAllThere, journal_in, outcomes_in, passes_in};
+ghost use Rattle.cell_workers.specs.Results.{AreAllThere, outcomes_in, passes_in};
+ghost use Rattle.cell_workers.specs.Watching.{journal_with};
 
 use crate::worker_result::WorkerResult;
 use cell_interlock::{Pass, Passes};
-use cell_types::Journals;
-use std::alloc::Global;
+use cell_types::{Entry, Journals};
 
 /// A value for each of the six machines.
 #[derive(Drop)]
@@ -66,14 +66,13 @@ where
     })
 }
 
-/// Each machine's journal and pass, and what else its worker gave; with the watch's pass, and for
-/// the watch a journal that is empty and isn't allocated.
+/// Each machine's journal and pass, with the watch's, and what else its worker gave.
 pub(crate) fn into_parts<A, B, C, D, E, F>(
-    alloc: Global,
     results: SixResults<A, B, C, D, E, F>,
     watch: Pass,
+    journal: Vec<Entry>,
 ) -> (Journals, Passes, PerMachine<A, B, C, D, E, F>)
-    ensures journals { (m : Machine) → journal_of result.0 m ≡ journal_in results m }
+    ensures journals { (m : Machine) → journal_of result.0 m ≡ journal_with results journal.items m }
     ensures passes { result.1 ≡ passes_in results watch }
     ensures outcomes { result.2 ≡ outcomes_in results }
 {
@@ -92,7 +91,7 @@ pub(crate) fn into_parts<A, B, C, D, E, F>(
         press: press.journal,
         deposit: deposit.journal,
         crane: crane.journal,
-        watch: Vec::new(alloc),
+        watch: journal,
     };
     let passes = Passes {
         feed: feed.pass,

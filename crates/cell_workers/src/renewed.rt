@@ -11,7 +11,8 @@ use crate::gate::Gate;
 use crate::per_machine::PerMachine;
 use crate::renewed_worker::RenewedWorker;
 use crate::rounds::{Leave, Round, RoundSink};
-use crate::six::{SixRecord, run_workers};
+use crate::six::{SixRecord, run_watched};
+use crate::watching::Watching;
 use cell_notes::Status;
 use cell_rules::State;
 use cell_rules::laws::states_are_sound;
@@ -51,26 +52,28 @@ impl<E> From<RunFault> for RenewalFault<E> {
 }
 
 /// Runs six workers, whose machines are the six, in rounds. In a round each takes its turns in a
-/// thread of its own, as by `run_workers`, over an interlock of the round. The sink takes what it
-/// noted. Then each machine goes on where it was: the next interlock opens with the state that the
-/// one before it left. A stamp that has passed the mark begins again at 0.
+/// thread of its own, as by `run_watched`, over an interlock of the round; meanwhile the watch
+/// watches. The sink takes what they noted. Then each machine goes on where it was: the next
+/// interlock opens with the state that the one before it left. A stamp that has passed the mark
+/// begins again at 0.
 ///
 /// The run ends after a round in which a worker didn't end fine: its gate refused it a turn, or its
 /// machine has stopped. A gate is asked by the number of the turn in its round.
 ///
 /// Errors:
-/// - `Run` as in `run_workers`, in any round; the sink has taken the rounds before;
+/// - `Run` as in `run_watched`, in any round; the sink has taken the rounds before;
 /// - `Sink` if the sink failed.
-pub fn run_renewed<R, W1, W2, W3, W4, W5, W6, G, S>(
+pub fn run_renewed<R, W1, W2, W3, W4, W5, W6, H, G, S>(
     rt: &R,
     alloc: Global,
     workers: PerMachine<W1, W2, W3, W4, W5, W6>,
+    watch: H,
     opening: State,
     renewal: Renewal,
     gate: &G,
     sink: &mut S,
 ) -> Result<
-    Leave<W1::Outcome, W2::Outcome, W3::Outcome, W4::Outcome, W5::Outcome, W6::Outcome>,
+    Leave<W1::Outcome, W2::Outcome, W3::Outcome, W4::Outcome, W5::Outcome, W6::Outcome, H>,
     RenewalFault<S::Fault>,
 >
 where
@@ -87,23 +90,26 @@ where
     W4::Outcome: Send,
     W5::Outcome: Send,
     W6::Outcome: Send,
+    H: Watching,
     G: Gate + Sync,
     S: RoundSink,
     requires ready { AreReadyAt W1.is_ready W2.is_ready W3.is_ready W4.is_ready W5.is_ready W6.is_ready opening
         workers }
     ensures rounds { IfOk result (λ left. RunsRenewed W1.gives_back W2.gives_back W3.gives_back W4.gives_back
-        W5.gives_back W6.gives_back S.takes
+        W5.gives_back W6.gives_back H.watches S.takes
         renewal.tries renewal.turns (G.may_answer gate.now) W1.ended W2.ended W3.ended W4.ended W5.ended W6.ended
         W1.goes_on W2.goes_on W3.goes_on W4.goes_on W5.goes_on W6.goes_on renewal.mark
-        (record { workers = workers; opening = opening; sink = sink.old }) left sink.new) }
+        (record { workers = workers; watch = watch; opening = opening; sink = sink.old }) left sink.new) }
 {
     let mut workers = workers;
+    let mut watch = watch;
     let mut opening = opening;
     'rounds: for _ in rt.forever() {
-        let turned = take_round(rt, alloc, workers, opening, renewal, gate, sink)?;
+        let turned = take_round(rt, alloc, workers, watch, opening, renewal, gate, sink)?;
         match turned {
-            RoundEnd::GoesOn(next, opened) => {
+            RoundEnd::GoesOn(next, watched, opened) => {
                 workers = next;
+                watch = watched;
                 opening = opened;
             }
             RoundEnd::Ends(left) => return Ok(left),
@@ -114,18 +120,19 @@ where
 
 // What comes after a round.
 #[derive(Drop)]
-enum RoundEnd<W1, W2, W3, W4, W5, W6, A, B, C, D, E, F> {
-    // The workers of the next round, and the state that its interlock opens with.
-    GoesOn(PerMachine<W1, W2, W3, W4, W5, W6>, State),
-    // Nothing: this is what the six left.
-    Ends(Leave<A, B, C, D, E, F>),
+enum RoundEnd<W1, W2, W3, W4, W5, W6, A, B, C, D, E, F, H> {
+    // The workers and the watch of the next round, and the state that its interlock opens with.
+    GoesOn(PerMachine<W1, W2, W3, W4, W5, W6>, H, State),
+    // Nothing: this is what the six and the watch left.
+    Ends(Leave<A, B, C, D, E, F, H>),
 }
 
 // One round, and what comes after it.
-fn take_round<R, W1, W2, W3, W4, W5, W6, G, S>(
+fn take_round<R, W1, W2, W3, W4, W5, W6, H, G, S>(
     rt: &R,
     alloc: Global,
     workers: PerMachine<W1, W2, W3, W4, W5, W6>,
+    watch: H,
     opening: State,
     renewal: Renewal,
     gate: &G,
@@ -144,6 +151,7 @@ fn take_round<R, W1, W2, W3, W4, W5, W6, G, S>(
         W4::Outcome,
         W5::Outcome,
         W6::Outcome,
+        H,
     >,
     RenewalFault<S::Fault>,
 >
@@ -161,33 +169,35 @@ where
     W4::Outcome: Send,
     W5::Outcome: Send,
     W6::Outcome: Send,
+    H: Watching,
     G: Gate + Sync,
     S: RoundSink,
     requires ready { AreReadyAt W1.is_ready W2.is_ready W3.is_ready W4.is_ready W5.is_ready W6.is_ready opening
         workers }
     ensures { IfOk result (λ turned. (left : _) × EndsRound W1.gives_back W2.gives_back W3.gives_back
-        W4.gives_back W5.gives_back W6.gives_back S.takes
+        W4.gives_back W5.gives_back W6.gives_back H.watches S.takes
         renewal.tries renewal.turns (G.may_answer gate.now)
-        (record { workers = workers; opening = opening; sink = sink.old }) left sink.new
+        (record { workers = workers; watch = watch; opening = opening; sink = sink.old }) left sink.new
         × IsTurnedOver W1.is_ready W2.is_ready W3.is_ready W4.is_ready W5.is_ready W6.is_ready
         W1.ended W2.ended W3.ended W4.ended W5.ended W6.ended
         W1.goes_on W2.goes_on W3.goes_on W4.goes_on W5.goes_on W6.goes_on renewal.mark left turned) }
 {
-    let left = run_round(rt, alloc, workers, opening, renewal, gate, sink)?;
+    let left = run_round(rt, alloc, workers, watch, opening, renewal, gate, sink)?;
     Ok(turn_over(left, renewal.mark))
 }
 
 // One round. Each machine that it leaves may go on where the next interlock opens.
-fn run_round<R, W1, W2, W3, W4, W5, W6, G, S>(
+fn run_round<R, W1, W2, W3, W4, W5, W6, H, G, S>(
     rt: &R,
     alloc: Global,
     workers: PerMachine<W1, W2, W3, W4, W5, W6>,
+    watch: H,
     opening: State,
     renewal: Renewal,
     gate: &G,
     sink: &mut S,
 ) -> Result<
-    Leave<W1::Outcome, W2::Outcome, W3::Outcome, W4::Outcome, W5::Outcome, W6::Outcome>,
+    Leave<W1::Outcome, W2::Outcome, W3::Outcome, W4::Outcome, W5::Outcome, W6::Outcome, H>,
     RenewalFault<S::Fault>,
 >
 where
@@ -204,14 +214,15 @@ where
     W4::Outcome: Send,
     W5::Outcome: Send,
     W6::Outcome: Send,
+    H: Watching,
     G: Gate + Sync,
     S: RoundSink,
     requires ready { AreReadyAt W1.is_ready W2.is_ready W3.is_ready W4.is_ready W5.is_ready W6.is_ready opening
         workers }
     ensures ends { IfOk result (λ left. EndsRound W1.gives_back W2.gives_back W3.gives_back W4.gives_back
-        W5.gives_back W6.gives_back S.takes
+        W5.gives_back W6.gives_back H.watches S.takes
         renewal.tries renewal.turns (G.may_answer gate.now)
-        (record { workers = workers; opening = opening; sink = sink.old }) left sink.new) }
+        (record { workers = workers; watch = watch; opening = opening; sink = sink.old }) left sink.new) }
     ensures may_go_on { IfOk result (λ left. (next : ModelState) → OpensAfter renewal.mark left.end next
         → MayAllGoOn W1.machine W2.machine W3.machine W4.machine W5.machine W6.machine W1.left W2.left W3.left
         W4.left W5.left W6.left
@@ -226,7 +237,7 @@ where
     W5::leaves(gate);
     W6::leaves(gate);
     let Renewal { tries, turns, .. } = renewal;
-    let record = run_workers(rt, alloc, workers, opening, tries, turns, gate)?;
+    let (record, watch) = run_watched(rt, alloc, workers, watch, opening, tries, turns, gate)?;
     let SixRecord {
         start,
         journals,
@@ -241,12 +252,16 @@ where
     if let Err(fault) = sink.take(round) {
         return Err(RenewalFault::Sink(fault));
     }
-    Ok(Leave { end, outcomes })
+    Ok(Leave {
+        end,
+        outcomes,
+        watch,
+    })
 }
 
 // What comes after a round that left this.
-fn turn_over<W1, W2, W3, W4, W5, W6>(
-    left: Leave<W1::Outcome, W2::Outcome, W3::Outcome, W4::Outcome, W5::Outcome, W6::Outcome>,
+fn turn_over<W1, W2, W3, W4, W5, W6, H>(
+    left: Leave<W1::Outcome, W2::Outcome, W3::Outcome, W4::Outcome, W5::Outcome, W6::Outcome, H>,
     mark: u32,
 ) -> RoundEnd<
     W1,
@@ -261,6 +276,7 @@ fn turn_over<W1, W2, W3, W4, W5, W6>(
     W4::Outcome,
     W5::Outcome,
     W6::Outcome,
+    H,
 >
 where
     W1: RenewedWorker,
@@ -269,6 +285,7 @@ where
     W4: RenewedWorker,
     W5: RenewedWorker,
     W6: RenewedWorker,
+    H: Drop,
     requires may_go_on { (next : ModelState) → OpensAfter mark left.end next
         → MayAllGoOn W1.machine W2.machine W3.machine W4.machine W5.machine W6.machine W1.left W2.left W3.left
         W4.left W5.left W6.left
@@ -281,10 +298,14 @@ where
     if !all_fine {
         return RoundEnd::Ends(left);
     }
-    let Leave { end, outcomes } = left;
+    let Leave {
+        end,
+        outcomes,
+        watch,
+    } = left;
     let opening = opening_after(&end, mark);
     let workers = all_go_on(outcomes, &opening);
-    RoundEnd::GoesOn(workers, opening)
+    RoundEnd::GoesOn(workers, watch, opening)
 }
 
 // The state that the next interlock opens with.

@@ -1,11 +1,11 @@
-//! A round of six workers: their turns over one interlock.
+//! A round of six workers and their watch: their turns over one interlock.
 ghost use Rattle.std.specs.Prelude.{◌≡◌};
 
 use crate::per_machine::PerMachine;
 use cell_rules::State;
 use cell_types::Journals;
 
-/// What six workers noted over one interlock.
+/// What six workers and their watch noted over one interlock.
 #[derive(Drop)]
 pub struct Round {
     /// The state that the interlock opened with.
@@ -16,13 +16,15 @@ pub struct Round {
     pub end: State,
 }
 
-/// What six workers left.
+/// What six workers and their watch left.
 #[derive(Drop)]
-pub struct Leave<A, B, C, D, E, F> {
+pub struct Leave<A, B, C, D, E, F, H> {
     /// The state that the interlock closed with.
     pub end: State,
     /// What each worker left.
     pub outcomes: PerMachine<A, B, C, D, E, F>,
+    /// The watch.
+    pub watch: H,
 }
 
 /// Takes what each round noted. A sink that keeps nothing needs no memory, however many rounds

@@ -1,16 +1,20 @@
-//! Six workers over one interlock.
+//! Six workers over one interlock, and their watch.
 ghost use Rattle.std.specs.Prelude.{◌≡◌, ◌<◌, ◌⊎◌, ◌↔◌, IfOk, IfSome, Err};
-ghost use Rattle.cell_interlock.specs.Fresh.{AreFresh};
+ghost use Rattle.cell_types.specs.declared.machine.Machine.TheVariants.{Watch};
+ghost use Rattle.cell_interlock.specs.Fresh.{AreFresh, fresh_pass};
 ghost use Rattle.cell_workers.specs.Six.{AreReadyAt, TellsSix, six_fresh};
 ghost use Rattle.cell_workers.specs.Promises.{AreReady, GiveBack};
+ghost use Rattle.cell_workers.specs.Watching.{HasWatched, TellsWatched};
 
 use crate::fault::RunFault;
 use crate::gate::Gate;
 use crate::per_machine::{PerMachine, SixResults, into_parts};
 use crate::start::WorkerContext;
 use crate::threads::run_in_threads;
+use crate::watching::{NoWatch, Watching};
 use crate::worker::Worker;
-use cell_interlock::{Interlock, Pass, Passes};
+use crate::worker_result::WorkerResult;
+use cell_interlock::{Interlock, Passes};
 use cell_rules::State;
 use cell_types::Journals;
 use std::alloc::Global;
@@ -22,7 +26,7 @@ use std::thread::Threads;
 pub struct SixRecord<A, B, C, D, E, F> {
     /// The state that the interlock opened with.
     pub start: State,
-    /// What each machine noted of its settled calls; the watch's journal is empty.
+    /// What each machine noted of its settled calls; by `run_workers` the watch's journal is empty.
     pub journals: Journals,
     /// The state that the interlock closed with.
     pub end: State,
@@ -73,6 +77,56 @@ where
     ensures tries { (result ≡ Err RunFault.Tries) ↔ ((tries < 1) ⊎ (64 < tries)) }
     ensures work { IfOk result (TellsSix W1.gives_back W2.gives_back W3.gives_back W4.gives_back W5.gives_back W6.gives_back workers opening tries turns (G.may_answer gate.now)) }
 {
+    match run_watched(rt, alloc, workers, NoWatch, opening, tries, turns, gate) {
+        Ok((record, _)) => Ok(record),
+        Err(fault) => Err(fault),
+    }
+}
+
+/// Runs six workers as `run_workers` does, and a watch with them. Once all six are started, it
+/// watches in the thread of the caller, and after that they are joined. The record has the watch's
+/// journal too. Gives back the watch as it was after that.
+///
+/// Errors: as in `run_workers`. If a thread couldn't be started, the watch has watched the others.
+pub fn run_watched<R, W1, W2, W3, W4, W5, W6, H, G>(
+    rt: &R,
+    alloc: Global,
+    workers: PerMachine<W1, W2, W3, W4, W5, W6>,
+    watch: H,
+    opening: State,
+    tries: u8,
+    turns: u32,
+    gate: &G,
+) -> Result<
+    (
+        SixRecord<W1::Outcome, W2::Outcome, W3::Outcome, W4::Outcome, W5::Outcome, W6::Outcome>,
+        H,
+    ),
+    RunFault,
+>
+where
+    R: Threads + Wait + Sync,
+    W1: Worker + Send,
+    W2: Worker + Send,
+    W3: Worker + Send,
+    W4: Worker + Send,
+    W5: Worker + Send,
+    W6: Worker + Send,
+    W1::Outcome: Send,
+    W2::Outcome: Send,
+    W3::Outcome: Send,
+    W4::Outcome: Send,
+    W5::Outcome: Send,
+    W6::Outcome: Send,
+    H: Watching,
+    G: Gate + Sync,
+    requires ready { AreReadyAt W1.is_ready W2.is_ready W3.is_ready W4.is_ready W5.is_ready W6.is_ready opening
+        workers }
+    ensures tries { (result ≡ Err RunFault.Tries) ↔ ((tries < 1) ⊎ (64 < tries)) }
+    ensures work { IfOk result (λ back. TellsWatched W1.gives_back W2.gives_back W3.gives_back W4.gives_back
+        W5.gives_back W6.gives_back H.watches workers watch opening tries turns (G.may_answer gate.now)
+        back.0 back.1) }
+{
     let (interlock, passes) = Interlock::new(alloc, opening, tries)?;
     let context = WorkerContext {
         alloc,
@@ -80,31 +134,38 @@ where
         gate,
         turns,
     };
-    let Some((results, watch)) = work(rt, &context, passes, workers) else {
+    let Some((results, watched)) = work(rt, &context, passes, workers, watch) else {
         return Err(RunFault::Spawn);
     };
-    let (journals, passes, outcomes) = into_parts(alloc, results, watch);
+    let WorkerResult {
+        pass,
+        journal,
+        outcome: watch,
+    } = watched;
+    let (journals, passes, outcomes) = into_parts(results, pass, journal);
     let ended = interlock.close(passes);
-    Ok(SixRecord {
+    let record = SixRecord {
         start: opening,
         journals,
         end: ended.state,
         outcomes,
-    })
+    };
+    Ok((record, watch))
 }
 
-// What six workers gave back, and the watch's pass, by which nobody works.
+// What six workers and the watch gave back.
 //
 // Returns `None` if a thread couldn't be started; the workers that had begun have ended.
-fn work<R, W1, W2, W3, W4, W5, W6, G>(
+fn work<R, W1, W2, W3, W4, W5, W6, H, G>(
     rt: &R,
     context: &WorkerContext<'_, G>,
     passes: Passes,
     workers: PerMachine<W1, W2, W3, W4, W5, W6>,
+    watch: H,
 ) -> Option<
     (
         SixResults<W1::Outcome, W2::Outcome, W3::Outcome, W4::Outcome, W5::Outcome, W6::Outcome>,
-        Pass,
+        WorkerResult<H>,
     ),
 >
 where
@@ -121,11 +182,13 @@ where
     W4::Outcome: Send,
     W5::Outcome: Send,
     W6::Outcome: Send,
+    H: Watching,
     G: Gate + Sync,
     requires fresh { AreFresh context.now.interlock.now passes }
     requires ready { AreReady W1.is_ready W2.is_ready W3.is_ready W4.is_ready W5.is_ready W6.is_ready workers (six_fresh context.now.interlock.now) }
     ensures worked { IfSome result (λ back. GiveBack W1.gives_back W2.gives_back W3.gives_back W4.gives_back W5.gives_back W6.gives_back workers (six_fresh context.now.interlock.now) context.now.interlock.now.tries (G.may_answer context.now.gate.now) context.now.turns back.0) }
-    ensures watch { IfSome result (λ back. back.1 ≡ passes.watch) }
+    ensures watched { IfSome result (λ back. HasWatched H.watches context.now.interlock.now.tries watch
+        (fresh_pass context.now.interlock.now Watch) back.1) }
 {
     let Passes {
         feed,
@@ -134,7 +197,7 @@ where
         press,
         deposit,
         crane,
-        watch,
+        watch: pass,
     } = passes;
     let passes = PerMachine {
         feed,
@@ -144,6 +207,5 @@ where
         deposit,
         crane,
     };
-    let results = run_in_threads(rt, context, passes, workers)?;
-    Some((results, watch))
+    run_in_threads(rt, context, passes, workers, pass, watch)
 }

@@ -1,12 +1,17 @@
-//! Six workers in threads.
+//! Six workers in threads, and their watch.
 ghost use Rattle.std.specs.Prelude.{IfSome};
+ghost use Rattle.cell_types.specs.declared.machine.Machine.TheVariants.{Watch};
+ghost use Rattle.cell_interlock.specs.Fresh.{IsFresh};
 ghost use Rattle.cell_workers.specs.Promises.{AreAllFresh, AreKept, ArePromised, AreReady, AreStartedInTurn, GiveBack};
+ghost use Rattle.cell_workers.specs.Watching.{HasWatched};
 
 use crate::gate::Gate;
 use crate::per_machine::{PerMachine, SixPasses, SixResults, all_six};
 use crate::start::{WorkerContext, WorkerPromise, join, start};
+use crate::watching::Watching;
 use crate::worker::Worker;
 use crate::worker_result::WorkerResult;
+use cell_interlock::Pass;
 use std::sync::Wait;
 use std::thread;
 use std::thread::{PromisedHandle, Scope, Threads};
@@ -14,16 +19,21 @@ use std::thread::{PromisedHandle, Scope, Threads};
 // A worker's handle, or `None` if it wasn't started.
 type WorkerHandle<T, W, G> = Option<PromisedHandle<WorkerResult<T>, WorkerPromise<W, G>>>;
 
-/// Starts six workers, each in a thread of its own, and joins them.
+/// Starts six workers, each in a thread of its own, watches, and joins them.
 ///
 /// Returns `None` if one couldn't be started; those before it have ended.
-pub(crate) fn run_in_threads<R, W1, W2, W3, W4, W5, W6, G>(
+pub(crate) fn run_in_threads<R, W1, W2, W3, W4, W5, W6, H, G>(
     rt: &R,
     context: &WorkerContext<'_, G>,
     passes: SixPasses,
     workers: PerMachine<W1, W2, W3, W4, W5, W6>,
+    pass: Pass,
+    watch: H,
 ) -> Option<
-    SixResults<W1::Outcome, W2::Outcome, W3::Outcome, W4::Outcome, W5::Outcome, W6::Outcome>,
+    (
+        SixResults<W1::Outcome, W2::Outcome, W3::Outcome, W4::Outcome, W5::Outcome, W6::Outcome>,
+        WorkerResult<H>,
+    ),
 >
 where
     R: Threads + Wait + Sync,
@@ -39,29 +49,39 @@ where
     W4::Outcome: Send,
     W5::Outcome: Send,
     W6::Outcome: Send,
+    H: Watching,
     G: Gate + Sync,
     requires fresh { AreAllFresh context.now.interlock.now passes }
     requires ready { AreReady W1.is_ready W2.is_ready W3.is_ready W4.is_ready W5.is_ready W6.is_ready workers passes }
-    ensures { IfSome result (GiveBack W1.gives_back W2.gives_back W3.gives_back W4.gives_back W5.gives_back W6.gives_back workers passes context.now.interlock.now.tries (G.may_answer context.now.gate.now) context.now.turns) }
+    requires fresh_watch { IsFresh context.now.interlock.now Watch pass }
+    ensures given { IfSome result (λ back. GiveBack W1.gives_back W2.gives_back W3.gives_back W4.gives_back
+        W5.gives_back W6.gives_back workers passes context.now.interlock.now.tries
+        (G.may_answer context.now.gate.now) context.now.turns back.0) }
+    ensures watched { IfSome result (λ back. HasWatched H.watches context.now.interlock.now.tries watch pass back.1) }
 {
     thread::scope(
         thread::scope_env(),
         rt,
         move |scope| -> Option<
-            SixResults<
-                W1::Outcome,
-                W2::Outcome,
-                W3::Outcome,
-                W4::Outcome,
-                W5::Outcome,
-                W6::Outcome,
-            >,
+            (
+                SixResults<
+                    W1::Outcome,
+                    W2::Outcome,
+                    W3::Outcome,
+                    W4::Outcome,
+                    W5::Outcome,
+                    W6::Outcome,
+                >,
+                WorkerResult<H>,
+            ),
         >
-            requires { AreAllFresh context.now.interlock.now passes × AreReady W1.is_ready W2.is_ready W3.is_ready W4.is_ready W5.is_ready W6.is_ready workers passes }
-            ensures { IfSome result (GiveBack W1.gives_back W2.gives_back W3.gives_back W4.gives_back W5.gives_back W6.gives_back workers passes context.entry.now.interlock.now.tries (G.may_answer context.entry.now.gate.now) context.entry.now.turns) }
+            requires { AreAllFresh context.now.interlock.now passes × AreReady W1.is_ready W2.is_ready W3.is_ready W4.is_ready W5.is_ready W6.is_ready workers passes × IsFresh context.now.interlock.now Watch pass }
+            ensures { IfSome result (λ back. GiveBack W1.gives_back W2.gives_back W3.gives_back W4.gives_back W5.gives_back W6.gives_back workers passes context.entry.now.interlock.now.tries (G.may_answer context.entry.now.gate.now) context.entry.now.turns back.0 × HasWatched H.watches context.entry.now.interlock.now.tries watch pass back.1) }
         {
             let started = start_six(scope, context, passes, workers);
-            join_six(rt, started)
+            let watched = watch.watch(context.alloc, context.interlock, pass);
+            let results = join_six(rt, started)?;
+            Some((results, watched))
         },
     )
 }

@@ -1,11 +1,11 @@
 //! A machine with sensors and actuators of one's own, as a worker.
-ghost use Rattle.std.specs.Prelude.{◌≡◌, ◌≢◌, None};
+ghost use Rattle.std.specs.Prelude.{◌≡◌, ◌≢◌, ◌+◌, ◌<◌, None, true};
 ghost use Rattle.cell_interlock.specs.Lines.{PassAsks};
 ghost use Rattle.cell_interlock.specs.Seen.{IsSamePass};
 ghost use Rattle.cell_control.specs.Turns.{Turns};
 ghost use Rattle.cell_wired.specs.Wiring.{answered};
 ghost use Rattle.cell_workers.specs.Workers.{ComesBy, Ends};
-ghost use Rattle.cell_workers.specs.WiredWorkers.{TakesWiredTurn, wired_moment};
+ghost use Rattle.cell_workers.specs.WiredWorkers.{TakesCycle, wired_moment};
 
 use crate::gate::Gate;
 use crate::worker::Worker;
@@ -20,7 +20,7 @@ use std::alloc::Global;
 
 /// The sensors and actuators of a machine.
 pub trait Devices: Drop {
-    ghost use Rattle.std.specs.Prelude.{⊤};
+    ghost use Rattle.std.specs.Prelude.{⊤, Option};
     ghost use Rattle.cell_wired.specs.declared.told.Told.{Told};
 
     /// What the sensors show.
@@ -29,17 +29,20 @@ pub trait Devices: Drop {
     /// The commands to the actuators.
     type Act;
 
-    // What the sensors may show, and the devices after they are read. The default is anything.
-    ghost shows: { Self → Self.Sense → Self → Type 0 } = { λ _ _ _. ⊤ };
+    // What the sensors may show, if anything, and the devices after they are read. The default is
+    // anything.
+    ghost shows: { Self → Option Self.Sense → Self → Type 0 } = { λ _ _ _. ⊤ };
 
     // The devices after their actuators are set as told. The default is anything.
     ghost sets: { Self → Told Self.Act → Self → Type 0 } = { λ _ _ _. ⊤ };
 
-    /// What the sensors show now.
-    fn read(&mut self) -> Self::Sense
+    /// What the sensors show now; `None` if one of them doesn't answer. Then the actuators are told
+    /// to rest, and the machine has no turn.
+    fn read(&mut self) -> Option<Self::Sense>
         ensures { shows self.old result self.new };
 
-    /// Sets the actuators as they are told, each time. After a fault motors are off.
+    /// Sets the actuators as they are told, each time. After a fault, and without a reading, motors
+    /// are off.
     fn set(&mut self, told: &Told<Self::Act>)
         ensures { sets self.old told.now self.new };
 }
@@ -60,16 +63,41 @@ pub struct WiredWorker<P, D> {
 pub struct WiredOutcome<D> {
     /// How many turns it took.
     pub turns: u32,
+    /// In how many cycles its sensors showed nothing.
+    pub missed: u32,
     /// How its worker ended.
     pub status: Status,
     /// Its sensors and actuators.
     pub devices: D,
 }
 
+// How many turns a worker has had, and how many cycles in which its sensors showed nothing.
+#[derive(Clone, Copy, Debug)]
+struct CycleCounts {
+    turns: u32,
+    missed: u32,
+}
+
+impl CycleCounts {
+    // The ending with this status.
+    fn ended(self, status: Status) -> WiredEnding
+        ensures turns { result.turns ≡ self.turns }
+        ensures missed { result.missed ≡ self.missed }
+        ensures status { result.status ≡ status }
+    {
+        WiredEnding {
+            turns: self.turns,
+            missed: self.missed,
+            status,
+        }
+    }
+}
+
 /// How a worker with devices ended.
 #[derive(Clone, Copy, Debug)]
 pub(crate) struct WiredEnding {
     pub(crate) turns: u32,
+    pub(crate) missed: u32,
     pub(crate) status: Status,
 }
 
@@ -83,8 +111,8 @@ impl<P: Program, D: Devices<Sense = P::Sense, Act = P::Act>> Worker for WiredWor
 
     ghost gives_back = { λ w pass tries gate limit r.
         IsWiredResult tries (P.steps w.program) D.shows D.sets gate limit
-        (wired_moment pass ((P.steps w.program).start w.opening) None w.devices 0)
-        r.pass r.outcome.turns r.outcome.status r.outcome.devices };
+        (wired_moment pass ((P.steps w.program).start w.opening) None w.devices 0 0)
+        r.pass r.outcome.turns r.outcome.missed r.outcome.status r.outcome.devices };
 
     fn take_turns<G: Gate>(
         self,
@@ -108,6 +136,7 @@ impl<P: Program, D: Devices<Sense = P::Sense, Act = P::Act>> Worker for WiredWor
             journal,
             outcome: WiredOutcome {
                 turns: ending.turns,
+                missed: ending.missed,
                 status: ending.status,
                 devices,
             },
@@ -115,42 +144,78 @@ impl<P: Program, D: Devices<Sense = P::Sense, Act = P::Act>> Worker for WiredWor
     }
 }
 
-/// Takes turns, each once the gate lets it begin, and none after a turn that has stopped the
-/// machine. The line's pass stays the same.
+/// Goes through cycles, at most `cycles`, and none after a turn that has stopped the machine. In each,
+/// once the gate lets it begin, the devices are read and set once. It is a turn if the sensors show
+/// something; else the devices are told to rest. The line's pass stays the same.
 pub(crate) fn take_wired_turns<'a, P: Program, D: Devices<Sense = P::Sense, Act = P::Act>, G: Gate>(
     wired: &mut Wired<P, PassLine<'a>>,
     devices: &mut D,
     gate: &G,
-    turns: u32,
+    cycles: u32,
 ) -> WiredEnding
     ensures same { IsSamePass wired.old.line.pass wired.new.line.pass }
-    ensures come { ComesBy (TakesWiredTurn wired.old.line.tries (P.steps wired.old.program) D.shows D.sets
+    ensures come { ComesBy (TakesCycle wired.old.line.tries (P.steps wired.old.program) D.shows D.sets
         (G.may_answer gate.now wired.old.line.pass.machine))
-        (wired_moment wired.old.line.pass wired.old.progress wired.old.stopped devices.old 0)
-        (wired_moment wired.new.line.pass wired.new.progress wired.new.stopped devices.new result.turns) }
-    ensures ends { Ends (G.may_answer gate.now wired.old.line.pass.machine) turns wired.new.stopped result.turns result.status }
+        (wired_moment wired.old.line.pass wired.old.progress wired.old.stopped devices.old 0 0)
+        (wired_moment wired.new.line.pass wired.new.progress wired.new.stopped devices.new result.turns result.missed) }
+    ensures ends { Ends (G.may_answer gate.now wired.old.line.pass.machine) cycles wired.new.stopped
+        (result.turns + result.missed) result.status }
     ensures program { wired.new.program ≡ wired.old.program }
 {
     let machine = wired.line().machine();
-    for turn in 0..turns {
+    let mut done = CycleCounts {
+        turns: 0,
+        missed: 0,
+    };
+    for cycle in 0..cycles {
         if wired.stopped().is_some() {
-            return WiredEnding {
-                turns: turn,
-                status: status_of(wired.stopped()),
-            };
+            return done.ended(status_of(wired.stopped()));
         }
-        if !gate.pass(machine, turn) {
-            return WiredEnding {
-                turns: turn,
-                status: Status::GateLimit,
-            };
+        if !gate.pass(machine, cycle) {
+            return done.ended(Status::GateLimit);
         }
-        let told = turn_by_line(wired, &devices.read());
-        devices.set(&told);
+        done = take_cycle(wired, devices, gate, done);
     }
-    WiredEnding {
-        turns,
-        status: status_of(wired.stopped()),
+    done.ended(status_of(wired.stopped()))
+}
+
+/// One cycle of a machine that runs, once its gate has let it begin: a turn if the sensors show
+/// something, else a rest. Gives the counts after it.
+fn take_cycle<'a, P: Program, D: Devices<Sense = P::Sense, Act = P::Act>, G: Gate>(
+    wired: &mut Wired<P, PassLine<'a>>,
+    devices: &mut D,
+    _gate: &G,
+    done: CycleCounts,
+) -> CycleCounts
+    requires runs { wired.old.stopped ≡ None }
+    requires let_in { G.may_answer _gate.now wired.old.line.pass.machine (done.turns + done.missed) true }
+    requires room { done.turns + done.missed < 4294967295 }
+    ensures same { IsSamePass wired.old.line.pass wired.new.line.pass }
+    ensures cycle { TakesCycle wired.old.line.tries (P.steps wired.old.program) D.shows D.sets
+        (G.may_answer _gate.now wired.old.line.pass.machine)
+        (wired_moment wired.old.line.pass wired.old.progress wired.old.stopped devices.old done.turns done.missed)
+        (wired_moment wired.new.line.pass wired.new.progress wired.new.stopped devices.new result.turns result.missed) }
+    ensures one_more { result.turns + result.missed ≡ done.turns + done.missed + 1 }
+    ensures tries { wired.new.line.tries ≡ wired.old.line.tries }
+    ensures program { wired.new.program ≡ wired.old.program }
+{
+    let CycleCounts { turns, missed } = done;
+    match devices.read() {
+        Some(sense) => {
+            let told = turn_by_line(wired, &sense);
+            devices.set(&told);
+            CycleCounts {
+                turns: turns + 1,
+                missed,
+            }
+        }
+        None => {
+            devices.set(&wired.at_rest());
+            CycleCounts {
+                turns,
+                missed: missed + 1,
+            }
+        }
     }
 }
 

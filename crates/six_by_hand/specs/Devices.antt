@@ -3,6 +3,8 @@ use Rattle.std.specs.Prelude.{ℕ, ◌+◌, ◌-◌, min, Bool, true, false, ◌
 use Rattle.cell_devices.specs.declared.motor.Motor.{Motor}
 use Rattle.cell_devices.specs.declared.motor.Motor.TheVariants.{Off, Plus, Minus}
 use Rattle.cell_calib.specs.declared.sense.CraneSense.{CraneSense}
+use Rattle.cell_calib.specs.declared.sense.DepositSense.{DepositSense}
+use Rattle.cell_calib.specs.declared.sense.FeedSense.{FeedSense}
 use Rattle.cell_calib.specs.declared.sense.PressSense.{PressSense}
 use Rattle.cell_calib.specs.declared.sense.RobotSense.{RobotSense}
 use Rattle.cell_calib.specs.declared.sense.TableSense.{TableSense}
@@ -37,6 +39,12 @@ carried true b = record { plate = min (b.plate + 20) 65535 }
 carried false b = if nat_lt 999 b.plate then record { plate = 0 } else b
 
 -- what the sensors of a machine show
+abbrev pub feed_sense : Belt → FeedSense
+feed_sense b = record { barrier = is_in_barrier b }
+
+abbrev pub deposit_sense : Belt → DepositSense
+deposit_sense b = record { barrier = is_in_barrier b }
+
 abbrev pub table_sense : Table → TableSense
 table_sense d = record { bottom = is_between 0 10 d.height; top = is_between 590 600 d.height; turn = d.turn.at }
 

@@ -46,21 +46,21 @@ impl Belt {
 pub struct FeedBelt(pub Belt);
 
 impl Devices for FeedBelt {
-    ghost use Rattle.std.specs.Prelude.{◌≡◌};
-    ghost use Rattle.six_by_hand.specs.Devices.{carried, is_in_barrier};
+    ghost use Rattle.std.specs.Prelude.{◌≡◌, Some};
+    ghost use Rattle.six_by_hand.specs.Devices.{carried, feed_sense};
 
     type Sense = FeedSense;
 
     type Act = FeedAct;
 
-    ghost shows = { λ old sense new. (sense.barrier ≡ is_in_barrier old.0) × (new ≡ old) };
+    ghost shows = { λ old sense new. (sense ≡ Some (feed_sense old.0)) × (new ≡ old) };
 
     ghost sets = { λ old told new. new.0 ≡ carried told.act.belt old.0 };
 
-    fn read(&mut self) -> FeedSense {
-        FeedSense {
+    fn read(&mut self) -> Option<FeedSense> {
+        Some(FeedSense {
             barrier: self.0.barrier(),
-        }
+        })
     }
 
     fn set(&mut self, told: &Told<FeedAct>) {
@@ -73,21 +73,21 @@ impl Devices for FeedBelt {
 pub struct DepositBelt(pub Belt);
 
 impl Devices for DepositBelt {
-    ghost use Rattle.std.specs.Prelude.{◌≡◌};
-    ghost use Rattle.six_by_hand.specs.Devices.{carried, is_in_barrier};
+    ghost use Rattle.std.specs.Prelude.{◌≡◌, Some};
+    ghost use Rattle.six_by_hand.specs.Devices.{carried, deposit_sense};
 
     type Sense = DepositSense;
 
     type Act = DepositAct;
 
-    ghost shows = { λ old sense new. (sense.barrier ≡ is_in_barrier old.0) × (new ≡ old) };
+    ghost shows = { λ old sense new. (sense ≡ Some (deposit_sense old.0)) × (new ≡ old) };
 
     ghost sets = { λ old told new. new.0 ≡ carried told.act.belt old.0 };
 
-    fn read(&mut self) -> DepositSense {
-        DepositSense {
+    fn read(&mut self) -> Option<DepositSense> {
+        Some(DepositSense {
             barrier: self.0.barrier(),
-        }
+        })
     }
 
     fn set(&mut self, told: &Told<DepositAct>) {
@@ -113,23 +113,23 @@ impl Table {
 }
 
 impl Devices for Table {
-    ghost use Rattle.std.specs.Prelude.{◌≡◌};
+    ghost use Rattle.std.specs.Prelude.{◌≡◌, Some};
     ghost use Rattle.six_by_hand.specs.Devices.{table_after, table_sense};
 
     type Sense = TableSense;
 
     type Act = TableAct;
 
-    ghost shows = { λ old sense new. (sense ≡ table_sense old) × (new ≡ old) };
+    ghost shows = { λ old sense new. (sense ≡ Some (table_sense old)) × (new ≡ old) };
 
     ghost sets = { λ old told new. new ≡ table_after told.act old };
 
-    fn read(&mut self) -> TableSense {
-        TableSense {
+    fn read(&mut self) -> Option<TableSense> {
+        Some(TableSense {
             bottom: self.height.is_between(0, 10),
             top: self.height.is_between(590, 600),
             turn: self.turn.at(),
-        }
+        })
     }
 
     fn set(&mut self, told: &Told<TableAct>) {
@@ -158,23 +158,23 @@ impl Robot {
 }
 
 impl Devices for Robot {
-    ghost use Rattle.std.specs.Prelude.{◌≡◌};
+    ghost use Rattle.std.specs.Prelude.{◌≡◌, Some};
     ghost use Rattle.six_by_hand.specs.Devices.{robot_after, robot_sense};
 
     type Sense = RobotSense;
 
     type Act = RobotAct;
 
-    ghost shows = { λ old sense new. (sense ≡ robot_sense old) × (new ≡ old) };
+    ghost shows = { λ old sense new. (sense ≡ Some (robot_sense old)) × (new ≡ old) };
 
     ghost sets = { λ old told new. new ≡ robot_after told.act old };
 
-    fn read(&mut self) -> RobotSense {
-        RobotSense {
+    fn read(&mut self) -> Option<RobotSense> {
+        Some(RobotSense {
             arm1: self.arm1.at(),
             arm2: self.arm2.at(),
             rotation: self.rotation.at(),
-        }
+        })
     }
 
     fn set(&mut self, told: &Told<RobotAct>) {
@@ -200,23 +200,23 @@ impl Press {
 }
 
 impl Devices for Press {
-    ghost use Rattle.std.specs.Prelude.{◌≡◌};
+    ghost use Rattle.std.specs.Prelude.{◌≡◌, Some};
     ghost use Rattle.six_by_hand.specs.Devices.{press_after, press_sense};
 
     type Sense = PressSense;
 
     type Act = PressAct;
 
-    ghost shows = { λ old sense new. (sense ≡ press_sense old) × (new ≡ old) };
+    ghost shows = { λ old sense new. (sense ≡ Some (press_sense old)) × (new ≡ old) };
 
     ghost sets = { λ old told new. new ≡ press_after told.act old };
 
-    fn read(&mut self) -> PressSense {
-        PressSense {
+    fn read(&mut self) -> Option<PressSense> {
+        Some(PressSense {
             bottom: self.height.is_between(0, 10),
             middle: self.height.is_between(490, 510),
             top: self.height.is_between(990, 1000),
-        }
+        })
     }
 
     fn set(&mut self, told: &Told<PressAct>) {
@@ -242,23 +242,23 @@ impl Crane {
 }
 
 impl Devices for Crane {
-    ghost use Rattle.std.specs.Prelude.{◌≡◌};
+    ghost use Rattle.std.specs.Prelude.{◌≡◌, Some};
     ghost use Rattle.six_by_hand.specs.Devices.{crane_after, crane_sense};
 
     type Sense = CraneSense;
 
     type Act = CraneAct;
 
-    ghost shows = { λ old sense new. (sense ≡ crane_sense old) × (new ≡ old) };
+    ghost shows = { λ old sense new. (sense ≡ Some (crane_sense old)) × (new ≡ old) };
 
     ghost sets = { λ old told new. new ≡ crane_after told.act old };
 
-    fn read(&mut self) -> CraneSense {
-        CraneSense {
+    fn read(&mut self) -> Option<CraneSense> {
+        Some(CraneSense {
             deposit: self.travel.is_between(0, 10),
             feed: self.travel.is_between(1990, 2000),
             gripper: self.gripper.at(),
-        }
+        })
     }
 
     fn set(&mut self, told: &Told<CraneAct>) {

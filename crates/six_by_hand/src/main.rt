@@ -1,11 +1,13 @@
 //! Six machines with sensors and actuators of one's own, each in a thread, all at one pace, over one
-//! interlock after another. Prints how each ended, how many rounds an audit accepted, and how often
-//! the crane gave a plate back to the feed belt.
+//! interlock after another. A watch looks at each, and stops the cell for a round. Prints how each machine
+//! ended, how many rounds an audit accepted, how often the crane gave a plate back to the feed belt,
+//! and how often the watch looked and saw the cell stopped.
 #![tactic(auto)]
 
 mod axis;
 mod devices;
 mod fault;
+mod lookout;
 mod rounds;
 mod six;
 
@@ -29,7 +31,8 @@ const PLAN: Plan = Plan {
     mark: 10,
 };
 
-// With a word after the program's name: until some million calls are done.
+// With a word after the program's name: until some million calls are done. With two numbers: this many
+// rounds, of this many turns each.
 const LONG: Plan = Plan {
     rounds: 400,
     turns: 100_000,
@@ -51,10 +54,13 @@ fn main(rt: HostRuntime) -> Result<(), SixFault> {
         move |raw: u16| line_at(&points.turn, raw),
         move |raw: u16| line_at(&points.arm, raw),
     );
-    let is_long = env::args(&rt)?.count() > 1;
-    let plan = if is_long { LONG } else { PLAN };
+    let mut words = env::args(&rt)?;
+    let _name = words.next();
+    let rounds = words.next();
+    let is_long = rounds.is_some();
+    let plan = plan_of(rounds, words.next());
     let mut audits = Audits::new(alloc);
-    let six = drive(&rt, alloc, opening, gauges, points, plan, &mut audits)?;
+    let (six, watch) = drive(&rt, alloc, opening, gauges, points, plan, &mut audits)?;
     println!(rt; "feed {:?}", six.feed)?;
     println!(rt; "table {:?}", six.table)?;
     println!(rt; "robot {:?}", six.robot)?;
@@ -63,9 +69,29 @@ fn main(rt: HostRuntime) -> Result<(), SixFault> {
     println!(rt; "crane {:?}", six.crane)?;
     println!(rt; "audited {}", audits.rounds)?;
     println!(rt; "rounds {}", audits.plates)?;
+    println!(rt; "looks {}", watch.looks)?;
+    println!(rt; "stops {}", watch.stops)?;
     if is_long {
         println!(rt; "done {}", audits.done)?;
         println!(rt; "renewed {}", audits.renewed)?;
     }
     Ok(())
+}
+
+// The plan that two words ask for, or one, or none.
+fn plan_of(rounds: Option<String>, turns: Option<String>) -> Plan {
+    match (rounds, turns) {
+        (None, _) => PLAN,
+        (Some(rounds), Some(turns)) => plan_by(rounds.as_str(), turns.as_str()).unwrap_or(LONG),
+        (Some(_), None) => LONG,
+    }
+}
+
+// The plan by two numbers.
+fn plan_by(rounds: &str, turns: &str) -> Option<Plan> {
+    Some(Plan {
+        rounds: rounds.parse::<u32>().ok()?,
+        turns: turns.parse::<u32>().ok()?,
+        mark: LONG.mark,
+    })
 }

@@ -3,6 +3,7 @@ ghost use Rattle.std.specs.Prelude.{◌≡◌};
 
 use crate::axis::Axis;
 use crate::devices::{Belt, Crane, DepositBelt, FeedBelt, Press, Robot, Table};
+use crate::lookout::Lookout;
 use crate::rounds::{Audits, RoundsGate};
 use cell_calib::{Calibration, Gauge, Points};
 use cell_haul::{CraneProgram, DepositProgram, FeedProgram};
@@ -19,6 +20,9 @@ use std::thread::Threads;
 
 // The number of exchanges that a call may lose before it is Busy.
 const TRIES: u8 = 8;
+
+// The round in which the watch stops the cell; it resumes it in the next one.
+const STOPS_IN: u32 = 3;
 
 /// The points of the potentiometers: those of both arms and the gripper, of the robot's rotation,
 /// and of the table's.
@@ -42,7 +46,7 @@ pub struct Plan {
 pub type SixStatuses = PerMachine<Status, Status, Status, Status, Status, Status>;
 
 /// Drives the six machines, each in a thread of its own and all at one pace, over one interlock
-/// after another. The closures are those of the arms, the robot's rotation, the table's rotation
+/// after another. A watch looks at each. The closures are those of the arms, the robot's rotation, the table's rotation
 /// and the gripper.
 pub fn drive<R, F1, F2, F3, F4, F5>(
     rt: &R,
@@ -52,7 +56,7 @@ pub fn drive<R, F1, F2, F3, F4, F5>(
     points: AxisPoints,
     plan: Plan,
     audits: &mut Audits,
-) -> Result<SixStatuses, RenewalFault<AuditFault>>
+) -> Result<(SixStatuses, Lookout), RenewalFault<AuditFault>>
 where
     R: Threads + Wait + Sync,
     F1: Gauge + Send,
@@ -95,17 +99,19 @@ where
         turns,
         mark,
     };
-    let left = match run_renewed(rt, alloc, workers, opening, renewal, &gate, audits) {
+    let watch = Lookout::new(STOPS_IN);
+    let left = match run_renewed(rt, alloc, workers, watch, opening, renewal, &gate, audits) {
         Ok(left) => left,
         Err(fault) => return Err(fault),
     };
     let six = &left.outcomes;
-    Ok(PerMachine {
+    let statuses = PerMachine {
         feed: six.feed.status,
         table: six.table.status,
         robot: six.robot.status,
         press: six.press.status,
         deposit: six.deposit.status,
         crane: six.crane.status,
-    })
+    };
+    Ok((statuses, left.watch))
 }

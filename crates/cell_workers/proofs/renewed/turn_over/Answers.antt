@@ -12,5 +12,6 @@ returns g c = record {
   fine = c.if-not-all_fine.ensures.0 refl;
   opens = c.opening_after-opening.ensures;
   goes_on = c.all_go_on-workers.ensures.goes_on;
+  watch_is = refl;
   ready = c.all_go_on-workers.ensures.ready;
 }
