@@ -1,0 +1,30 @@
+-- A program that goes on where it stood meets what its motors demand.
+use Rattle.std.proofs.Common.{◌≡◌, Bool, true, false, if◌then◌else◌, List, None, refl}
+use Rattle.cell_types.specs.declared.answer.Event.{Event}
+use Rattle.cell_rules.specs.ModelState.{ModelState}
+use Rattle.cell_rules.specs.Sound.{IsSound}
+use Rattle.cell_rules.specs.History.{IsLegal}
+use Rattle.cell_control.specs.Steps.{Steps, IsReached}
+use Rattle.cell_control.proofs.StepLemmas.{Knowing, reached_knows}
+use Rattle.cell_resume.specs.Resuming.{resumed_steps, IsResumable}
+
+-- what steps know doesn't depend on where a program begins
+again : {S Sense Reading Act : Type 0} → (t : Steps S Sense Reading Act) (in_step : S → ModelState → Bool) (stood : S) (Knows : S → ModelState → Type 0) → Knowing t Knows → Knowing (resumed_steps t in_step stood) Knows
+again t in_step stood Knows k = record {
+  foreign = k.foreign;
+  after_drive = k.after_drive;
+  after_done = k.after_done;
+  after_inquiry = k.after_inquiry;
+  same_for = k.same_for;
+}
+
+begins_by : {S : Type 0} → (b : Bool) (stood first : S) (z : ModelState) (Knows : S → ModelState → Type 0) → (b ≡ true → Knows stood z) → Knows first z → Knows (if b then stood else first) z
+begins_by true stood first z Knows in_step begins = in_step refl
+begins_by false stood first z Knows in_step begins = begins
+
+pub demands_met : {S Sense Reading Act : Type 0} → (t : Steps S Sense Reading Act) (in_step : S → ModelState → Bool) (Knows : S → ModelState → Type 0) → IsResumable t in_step Knows
+    → (stood p : S) (reading : Reading) (act : Act) (opening : ModelState) (seen : List Event) → t.call p ≡ None → t.drives p reading act → IsSound opening → IsLegal opening seen
+    → IsReached (resumed_steps t in_step stood) opening seen p → t.motor_demands p act opening seen
+demands_met t in_step Knows k stood p reading act opening seen asks drives sound legal r =
+    k.demands p reading act opening seen asks drives sound legal
+    (reached_knows (resumed_steps t in_step stood) Knows (again t in_step stood Knows k.knowing) (λ z. begins_by (in_step stood z) stood (t.start z) z Knows (k.enters stood z) (k.begins z)) opening seen p sound legal r)

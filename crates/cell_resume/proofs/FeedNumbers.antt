@@ -1,0 +1,39 @@
+-- The number of a step of the feed belt leads back to the step, with its notes.
+use Rattle.std.proofs.Common.{◌≡◌, Bool, true, Some, refl, ap, ◌∙◌}
+use Rattle.std.specs.Prelude.{option_map, slice_get}
+use denote.Enum.Declared.{tag_of}
+use Rattle.cell_types.specs.declared.place.Place.TheVariants.{FeedEntry, FeedEnd}
+use Rattle.cell_rules.specs.ModelState.{ModelState, is_full}
+use Rattle.cell_rules.specs.Restamping.{same_flag}
+use Rattle.cell_rules.proofs.Tables.{and_left, and_right}
+use Rattle.cell_haul.specs.contracts.feed.FeedStep.{the_type}
+use Rattle.cell_haul.specs.declared.feed.FeedStep.{FeedStep}
+use Rattle.cell_haul.specs.declared.feed.FeedStep.TheVariants.{ClaimEntry, PoseLanding, ReleaseEntry, TakePlate, StartIn, RunIn, MoveOn, ClaimExit, StartOut, RunOut, Halt, GivePlate}
+use Rattle.cell_haul.specs.declared.feed.FeedProgress.{FeedProgress}
+use Rattle.cell_resume.specs.FeedKeeps.{has_zones, has_plates, in_step, steps, progress_at}
+use Rattle.cell_resume.proofs.Keeping.{one_flag}
+
+-- each step is found by its number
+found : (s : FeedStep) → slice_get steps (tag_of the_type s) ≡ Some s
+found ClaimEntry = refl
+found PoseLanding = refl
+found ReleaseEntry = refl
+found TakePlate = refl
+found StartIn = refl
+found RunIn = refl
+found MoveOn = refl
+found ClaimExit = refl
+found StartOut = refl
+found RunOut = refl
+found Halt = refl
+found GivePlate = refl
+
+abbrev noted : FeedStep → Bool → Bool → FeedProgress
+noted step entry last = record { step = step; entry = entry; last = last }
+
+pub leads_back : (p : FeedProgress) (z : ModelState) → in_step p z ≡ true → progress_at (tag_of the_type p.step) z ≡ Some p
+leads_back p z e =
+    let notes = and_right (has_plates p.step p.entry p.last) _ (and_right (has_zones p.step z) _ e) in
+    ap (option_map (λ s. noted s (is_full z FeedEntry) (is_full z FeedEnd))) (found p.step)
+    ∙ ap (λ b. Some (noted p.step b (is_full z FeedEnd))) (one_flag _ _ (and_left _ _ notes))
+    ∙ ap (λ b. Some (noted p.step p.entry b)) (one_flag _ _ (and_right (same_flag (is_full z FeedEntry) p.entry) _ notes))

@@ -1,0 +1,59 @@
+-- The number of a step of the press leads back to the step, with its notes.
+use Rattle.std.proofs.Common.{◌≡◌, Bool, true, Some, refl, ap, ◌∙◌, ℕ, ◌+◌, ◌*◌, ◌<◌, nat_eq, if◌then◌else◌, arith}
+use Rattle.std.specs.Prelude.{option_map, slice_get}
+use Rattle.std.proofs.lemmas.Nat.{div-mul-add, mod-mul-add}
+use denote.Enum.Declared.{tag_of}
+use Rattle.cell_types.specs.declared.place.Place.TheVariants.{PressIn, PressOut}
+use Rattle.cell_rules.specs.ModelState.{ModelState, is_full}
+use Rattle.cell_rules.specs.Restamping.{same_flag}
+use Rattle.cell_rules.proofs.Tables.{and_left, and_right}
+use Rattle.cell_devices.specs.declared.motor.Direction.{Direction}
+use Rattle.cell_devices.specs.declared.motor.Direction.TheVariants.{Plus as Upward, Minus as Downward}
+use Rattle.cell_stations.specs.contracts.press.PressStep.{the_type}
+use Rattle.cell_stations.specs.declared.press.PressStep.{PressStep}
+use Rattle.cell_stations.specs.declared.press.PressStep.TheVariants.{ClaimFirst, LeaveForMiddle, MoveToMiddle, PoseMiddle, ReleaseInterior, TakePlate, LeaveForTop, MoveToTop, PoseTop, Forge, LeaveForBottom, MoveToBottom, PoseLow, GivePlate, ClaimBack}
+use Rattle.cell_stations.specs.declared.press.PressProgress.{PressProgress}
+use Rattle.cell_resume.specs.PressKeeps.{has_zones, has_plates, in_step, steps, bit_of, direction_of, progress_at}
+use Rattle.cell_resume.proofs.Keeping.{one_flag}
+
+-- each step is found by its number
+found : (s : PressStep) → slice_get steps (tag_of the_type s) ≡ Some s
+found ClaimFirst = refl
+found LeaveForMiddle = refl
+found MoveToMiddle = refl
+found PoseMiddle = refl
+found ReleaseInterior = refl
+found TakePlate = refl
+found LeaveForTop = refl
+found MoveToTop = refl
+found PoseTop = refl
+found Forge = refl
+found LeaveForBottom = refl
+found MoveToBottom = refl
+found PoseLow = refl
+found GivePlate = refl
+found ClaimBack = refl
+
+abbrev noted : PressStep → Bool → Bool → Direction → PressProgress
+noted step loaded forged direction = record { step = step; loaded = loaded; forged = forged; direction = direction }
+
+bit_small : (d : Direction) → bit_of d < 2
+bit_small Upward = omega arith
+bit_small Downward = omega arith
+
+bit_tells : (d : Direction) → (if nat_eq (bit_of d) 1 then Upward else Downward) ≡ d
+bit_tells Upward = refl
+bit_tells Downward = refl
+
+direction_back : (n : ℕ) (d : Direction) → direction_of (n * 2 + bit_of d) ≡ d
+direction_back n d = ap (λ x. if nat_eq x 1 then Upward else Downward) (mod-mul-add n 2 (bit_of d) (bit_small d)) ∙ bit_tells d
+
+pub leads_back : (p : PressProgress) (z : ModelState) → in_step p z ≡ true → progress_at (tag_of the_type p.step * 2 + bit_of p.direction) z ≡ Some p
+leads_back p z e =
+    let notes = and_right (has_plates p.step p.loaded p.forged) _ (and_right (has_zones p.step z) _ e) in
+    let n = tag_of the_type p.step * 2 + bit_of p.direction in
+    ap (λ k. option_map (λ s. noted s (is_full z PressIn) (is_full z PressOut) (direction_of n)) (slice_get steps k)) (div-mul-add (tag_of the_type p.step) 2 (bit_of p.direction) (bit_small p.direction))
+    ∙ ap (option_map (λ s. noted s (is_full z PressIn) (is_full z PressOut) (direction_of n))) (found p.step)
+    ∙ ap (λ b. Some (noted p.step b (is_full z PressOut) (direction_of n))) (one_flag _ _ (and_left _ _ notes))
+    ∙ ap (λ b. Some (noted p.step p.loaded b (direction_of n))) (one_flag _ _ (and_right (same_flag (is_full z PressIn) p.loaded) _ notes))
+    ∙ ap (λ d. Some (noted p.step p.loaded p.forged d)) (direction_back (tag_of the_type p.step) p.direction)

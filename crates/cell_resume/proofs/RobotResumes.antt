@@ -1,0 +1,76 @@
+-- The robot may go on at each step that is in step with a state.
+use Rattle.std.proofs.Common.{◌≡◌, true, List}
+use Rattle.cell_types.specs.declared.machine.Machine.TheVariants.{Robot}
+use Rattle.cell_types.specs.declared.zone.Zone.TheVariants.{Z2, Z3, Z4}
+use Rattle.cell_types.specs.declared.posture.Posture.TheVariants.{OpenIn, OpenOut}
+use Rattle.cell_types.specs.declared.answer.Event.{Event}
+use Rattle.cell_rules.specs.ModelState.{ModelState}
+use Rattle.cell_rules.specs.History.{after, IsLegal}
+use Rattle.cell_rules.proofs.Tables.{and_left, and_right}
+use Rattle.cell_control.specs.Demands.{HoldsIn}
+use Rattle.cell_control.proofs.Facts.{AreSo, found}
+use Rattle.cell_robot.specs.declared.robot.RobotStep.{RobotStep}
+use Rattle.cell_robot.specs.declared.robot.RobotStep.TheVariants.{TurnToTable, AwaitPlate, ReachTable, GripPlate, LeaveTable, TakePlate, ReleaseTable, TurnToLoad, ClaimPress, InspectPress, ReleasePress, ReachToLoad, DropInPress, LeaveLoaded, GiveToPress, TurnToUnload, AwaitForged, ReachToUnload, GripForged, LeaveUnloaded, TakeForged, ReleaseUnloaded, TurnToDeposit, ClaimDeposit, ReachDeposit, DropOnDeposit, LeaveDeposit, GiveToDeposit}
+use Rattle.cell_robot.specs.declared.robot.RobotProgress.{RobotProgress}
+use Rattle.cell_robot.specs.RobotProgram.{RobotScales, RobotGauges, notes_at, arm1_zone, arm2_zone, robot_steps}
+use Rattle.cell_robot.proofs.RobotFacts.{RobotKnows, facts_at, robot-knowing, at_choice}
+use Rattle.cell_resume.specs.Keeping.{is_kept}
+use Rattle.cell_resume.specs.RobotKeeps.{table, interior, deposit, has_zones, in_step}
+use Rattle.cell_resume.specs.Resuming.{IsResumable}
+use Rattle.cell_resume.proofs.Keeping.{Kept, kept_of}
+
+knows_at : (s : RobotStep) (z : ModelState) → Kept (table s) Robot z Z2 → Kept (interior s) Robot z Z3 → Kept (deposit s) Robot z Z4 → AreSo Robot z (facts_at s)
+knows_at TurnToTable z k1 k2 k3 = tt
+knows_at AwaitPlate z k1 k2 k3 = tt
+knows_at ReachTable z k1 k2 k3 = ((k1.0.0, k1.1), tt)
+knows_at GripPlate z k1 k2 k3 = ((k1.0.0, k1.1), tt)
+knows_at LeaveTable z k1 k2 k3 = ((k1.0.0, k1.1), tt)
+knows_at TakePlate z k1 k2 k3 = ((k1.0.0, k1.1), tt)
+knows_at ReleaseTable z k1 k2 k3 = ((k1.0.0, k1.1), tt)
+knows_at TurnToLoad z k1 k2 k3 = tt
+knows_at ClaimPress z k1 k2 k3 = tt
+knows_at InspectPress z k1 k2 k3 = (k2.0, tt)
+knows_at ReleasePress z k1 k2 k3 = (k2.0, tt)
+knows_at ReachToLoad z k1 k2 k3 = ((k2.0, k2.1), tt)
+knows_at DropInPress z k1 k2 k3 = ((k2.0, k2.1), tt)
+knows_at LeaveLoaded z k1 k2 k3 = ((k2.0, k2.1), tt)
+knows_at GiveToPress z k1 k2 k3 = ((k2.0, k2.1), tt)
+knows_at TurnToUnload z k1 k2 k3 = tt
+knows_at AwaitForged z k1 k2 k3 = tt
+knows_at ReachToUnload z k1 k2 k3 = ((k2.0.0, k2.1), tt)
+knows_at GripForged z k1 k2 k3 = ((k2.0.0, k2.1), tt)
+knows_at LeaveUnloaded z k1 k2 k3 = ((k2.0.0, k2.1), tt)
+knows_at TakeForged z k1 k2 k3 = ((k2.0.0, k2.1), tt)
+knows_at ReleaseUnloaded z k1 k2 k3 = ((k2.0.0, k2.1), tt)
+knows_at TurnToDeposit z k1 k2 k3 = tt
+knows_at ClaimDeposit z k1 k2 k3 = tt
+knows_at ReachDeposit z k1 k2 k3 = ((k3.0, k3.1), tt)
+knows_at DropOnDeposit z k1 k2 k3 = ((k3.0, k3.1), tt)
+knows_at LeaveDeposit z k1 k2 k3 = ((k3.0, k3.1), tt)
+knows_at GiveToDeposit z k1 k2 k3 = ((k3.0, k3.1), tt)
+
+zone_facts : (p : RobotProgress) (z : ModelState) → has_zones p.step z ≡ true → AreSo Robot z (facts_at p.step)
+zone_facts p z e = knows_at p.step z (kept_of (table p.step) Robot z Z2 (and_left _ _ e)) (kept_of (interior p.step) Robot z Z3 (and_left _ _ (and_right (is_kept (table p.step) Robot z Z2) _ e))) (kept_of (deposit p.step) Robot z Z4 (and_right (is_kept (interior p.step) Robot z Z3) _ (and_right (is_kept (table p.step) Robot z Z2) _ e)))
+
+-- in each step the robot holds the zones of its arms
+first_holds : (s : RobotStep) (o : ModelState) (h : List Event) → IsLegal o h → AreSo Robot (after o h) (facts_at s) → HoldsIn Robot o h (arm1_zone s)
+first_holds ReachTable o h legal k = found o h Robot Z2 OpenOut legal k.0
+first_holds LeaveTable o h legal k = found o h Robot Z2 OpenOut legal k.0
+first_holds ReachToLoad o h legal k = found o h Robot Z3 OpenIn legal k.0
+first_holds LeaveLoaded o h legal k = found o h Robot Z3 OpenIn legal k.0
+first_holds _ o h legal k = tt
+
+second_holds : (s : RobotStep) (o : ModelState) (h : List Event) → IsLegal o h → AreSo Robot (after o h) (facts_at s) → HoldsIn Robot o h (arm2_zone s)
+second_holds ReachToUnload o h legal k = found o h Robot Z3 OpenOut legal k.0
+second_holds LeaveUnloaded o h legal k = found o h Robot Z3 OpenOut legal k.0
+second_holds ReachDeposit o h legal k = found o h Robot Z4 OpenIn legal k.0
+second_holds LeaveDeposit o h legal k = found o h Robot Z4 OpenIn legal k.0
+second_holds _ o h legal k = tt
+
+pub robot_resumable : (points : RobotScales) (gives : RobotGauges) → IsResumable (robot_steps points gives) in_step RobotKnows
+robot_resumable points gives = record {
+  begins = λ z. at_choice (notes_at z) z;
+  enters = λ p z e. zone_facts p z (and_left _ _ e);
+  knowing = robot-knowing points gives;
+  demands = λ p reading act opening seen asks drives sound legal k. record { arm1 = λ on. first_holds p.step opening seen legal k; arm2 = λ on. second_holds p.step opening seen legal k };
+}

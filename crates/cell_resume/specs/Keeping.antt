@@ -1,0 +1,35 @@
+-- What a machine keeps of a zone while it stands at a step of its program.
+use Rattle.std.specs.Prelude.{Bool, true, ◌&&◌, not, Option, Some, None}
+use Rattle.cell_types.specs.declared.machine.Machine.{Machine}
+use Rattle.cell_types.specs.declared.zone.Zone.{Zone}
+use Rattle.cell_types.specs.declared.posture.Posture.{Posture}
+use Rattle.cell_types.specs.Same.{same_posture}
+use Rattle.cell_rules.specs.ModelState.{ModelState, zone_at}
+use Rattle.cell_rules.specs.Sound.{implies}
+use Rattle.cell_rules.specs.Refusals.{owns, posture_at}
+use Rattle.cell_resume.specs.declared.keep.Share.{Share}
+use Rattle.cell_resume.specs.declared.keep.Share.TheVariants.{Clear, Loaded, Held, Lent, Any}
+use Rattle.cell_resume.specs.declared.keep.Keep.{Keep}
+
+-- the machine has this share of a zone, by whether it owns the zone and whether a plate is there
+abbrev pub has_share : Share → Bool → Bool → Bool
+has_share Clear owned plate = owned && not plate
+has_share Loaded owned plate = owned && plate
+has_share Held owned plate = owned
+has_share Lent owned plate = implies owned plate
+has_share Any owned plate = true
+
+-- the zone has the posture, if one is asked for
+abbrev pub is_posed : Option Posture → Posture → Bool
+is_posed None now = true
+is_posed (Some posture) now = same_posture now posture
+
+abbrev pub is_kept : Keep → Machine → ModelState → Zone → Bool
+is_kept k m z y = has_share k.share (owns z m y) (zone_at z y).flag && is_posed k.posture (posture_at z y)
+
+-- the share with a posture, and in any posture
+abbrev pub posed : Share → Posture → Keep
+posed share posture = record { share = share; posture = Some posture }
+
+abbrev pub unposed : Share → Keep
+unposed share = record { share = share; posture = None }

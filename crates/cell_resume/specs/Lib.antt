@@ -1,0 +1,13 @@
+pub mod Keeping
+pub mod FeedKeeps
+pub mod TableKeeps
+pub mod RobotKeeps
+pub mod PressKeeps
+pub mod DepositKeeps
+pub mod CraneKeeps
+pub mod Resuming
+pub mod Testing
+pub mod Teams
+pub mod Checkpoints
+pub mod TeamTest
+pub mod Laws

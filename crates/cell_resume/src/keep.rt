@@ -1,0 +1,103 @@
+//! What a machine keeps of a zone while it stands at a step of its program.
+
+ghost use Rattle.std.specs.Prelude.{◌≡◌, slice_get};
+ghost use Rattle.cell_rules.specs.Restamping.{same_flag};
+ghost use Rattle.cell_resume.specs.Keeping as keeping;
+
+use cell_rules::State;
+use cell_types::{Machine, Posture, Zone};
+
+/// A machine's share of a zone.
+#[derive(Clone, Copy, Debug, PartialEq, Eq)]
+pub enum Share {
+    /// It holds the zone, and no plate is there.
+    Clear,
+    /// It holds the zone, and a plate is there.
+    Loaded,
+    /// It holds the zone.
+    Held,
+    /// If it holds the zone, a plate is there.
+    Lent,
+    /// It may hold the zone or not.
+    Any,
+}
+
+/// What a machine keeps of a zone.
+#[derive(Clone, Copy, Debug, PartialEq, Eq)]
+pub struct Keep {
+    /// Its share.
+    pub share: Share,
+    /// The zone's posture; `None` if it may be any.
+    pub posture: Option<Posture>,
+}
+
+impl Share {
+    /// The share of a zone in this posture.
+    #[inline(always)]
+    pub(crate) fn posed(self, posture: Posture) -> Keep
+        ensures { result ≡ keeping.posed self posture }
+    {
+        Keep {
+            share: self,
+            posture: Some(posture),
+        }
+    }
+
+    /// The share of a zone in any posture.
+    #[inline(always)]
+    pub(crate) fn unposed(self) -> Keep
+        ensures { result ≡ keeping.unposed self }
+    {
+        Keep {
+            share: self,
+            posture: None,
+        }
+    }
+
+    // Whether the machine has this share, by whether it holds the zone, and whether a plate is
+    // there.
+    fn is_had(self, held: bool, plate: bool) -> bool
+        ensures { result ≡ keeping.has_share self held plate }
+    {
+        match self {
+            Share::Clear => held && !plate,
+            Share::Loaded => held && plate,
+            Share::Held => held,
+            Share::Lent => !held || plate,
+            Share::Any => true,
+        }
+    }
+}
+
+impl Keep {
+    /// Whether the machine keeps this of the zone in a state.
+    pub fn is_kept(self, machine: Machine, state: &State, zone: Zone) -> bool
+        ensures { result ≡ keeping.is_kept self machine state.now zone }
+    {
+        let held = state.owner(zone) == Some(machine);
+        self.share.is_had(held, state.flag(zone)) && self.is_posed(state.posture(zone))
+    }
+
+    fn is_posed(self, now: Posture) -> bool
+        ensures { result ≡ keeping.is_posed self.posture now }
+    {
+        match self.posture {
+            Some(posture) => now == posture,
+            None => true,
+        }
+    }
+}
+
+/// Whether a note agrees with a place.
+pub(crate) fn agree(full: bool, noted: bool) -> bool
+    ensures { result ≡ same_flag full noted }
+{
+    if full { noted } else { !noted }
+}
+
+/// The item with this number.
+pub(crate) fn pick<T: Copy>(items: &[T], number: u8) -> Option<T>
+    ensures { result ≡ slice_get items.now number }
+{
+    items.get(usize::from(number)).copied()
+}

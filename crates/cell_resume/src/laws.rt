@@ -1,0 +1,23 @@
+//! Laws of six machines that go on in step with a state. Each is the contract of a function with an
+//! empty body.
+ghost use Rattle.cell_resume.specs.Laws.{NoResumedMachineIsRefused, ResumedMachinesStayInStep};
+ghost use Rattle.cell_resume.specs.Laws.{MachinesAreInStep};
+
+/// From each state with which six machines are in step, in each legal history in which each has
+/// come by its own events to a step of its program, whatever the order of the calls and whatever
+/// the watch does: the next call of each machine is done, or shows a zone, or is refused only with
+/// what its step waits for, or as worn.
+pub fn no_resumed_machine_is_refused()
+    ensures { NoResumedMachineIsRefused }
+{}
+
+/// In such a history each machine stays in step with the state. So what is handed out after any of
+/// its calls is taken back.
+pub fn resumed_machines_stay_in_step()
+    ensures { ResumedMachinesStayInStep }
+{}
+
+/// So it is in each legal history from a start.
+pub fn machines_are_in_step()
+    ensures { MachinesAreInStep }
+{}

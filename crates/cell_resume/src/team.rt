@@ -1,0 +1,22 @@
+//! Where the six machines stand.
+
+use cell_haul::{CraneProgress, DepositProgress, FeedProgress};
+use cell_robot::RobotProgress;
+use cell_stations::{PressProgress, TableProgress};
+
+/// The step of each machine, with its notes.
+#[derive(Clone, Copy, Debug, PartialEq, Eq)]
+pub struct Team {
+    /// The feed belt's step.
+    pub feed: FeedProgress,
+    /// The table's step.
+    pub table: TableProgress,
+    /// The robot's step.
+    pub robot: RobotProgress,
+    /// The press's step.
+    pub press: PressProgress,
+    /// The deposit belt's step.
+    pub deposit: DepositProgress,
+    /// The crane's step.
+    pub crane: CraneProgress,
+}

@@ -1,0 +1,209 @@
+//! Six machines in one thread, which begin where 14 bytes say.
+
+use crate::plant::Plant;
+use cell_calib::{Calibration, Gauge, Points, line_at};
+use cell_control::Program;
+use cell_haul::{CraneProgram, DepositProgram, FeedProgram};
+use cell_interlock::{Interlock, PassLine};
+use cell_resume::{Checkpoint, Resumed, Team, resume_at};
+use cell_robot::RobotProgram;
+use cell_rules::State;
+use cell_stations::{PressProgram, TableProgram};
+use cell_wired::Wired;
+use std::alloc::Global;
+use std::test::Fail;
+
+/// The points of the potentiometers: those of both arms and the gripper, of the robot's rotation,
+/// and of the table's.
+#[derive(Clone, Copy)]
+struct AxisPoints {
+    arm: Points,
+    rotation: Points,
+    turn: Points,
+}
+
+impl AxisPoints {
+    // A raw value is the position.
+    fn new() -> Result<AxisPoints, Fail> {
+        Ok(AxisPoints {
+            arm: Points::new(0, 1000, 0, 1000, 5)?,
+            rotation: Points::new(0, 2000, 0, 2000, 5)?,
+            turn: Points::new(0, 500, 0, 500, 5)?,
+        })
+    }
+}
+
+/// The six machines, each at the end of its line.
+#[derive(Drop)]
+struct Machines<'a, F1: Gauge, F2: Gauge, F3: Gauge, F4: Gauge, F5: Gauge> {
+    feed: Wired<Resumed<FeedProgram>, PassLine<'a>>,
+    table: Wired<Resumed<TableProgram<F4>>, PassLine<'a>>,
+    robot: Wired<Resumed<RobotProgram<F1, F2, F3>>, PassLine<'a>>,
+    press: Wired<Resumed<PressProgram>, PassLine<'a>>,
+    deposit: Wired<Resumed<DepositProgram>, PassLine<'a>>,
+    crane: Wired<Resumed<CraneProgram<F5>>, PassLine<'a>>,
+}
+
+impl<F1: Gauge, F2: Gauge, F3: Gauge, F4: Gauge, F5: Gauge> Machines<'_, F1, F2, F3, F4, F5> {
+    // One turn of a machine. Whether it goes on.
+    fn turn(&mut self, machine: u32, plant: &mut Plant) -> bool {
+        match machine {
+            0 => {
+                let told = self.feed.turn(&plant.feed_sense());
+                plant.set_feed(told.act);
+                told.fault.is_none()
+            }
+            1 => {
+                let told = self.table.turn(&plant.table_sense());
+                plant.set_table(told.act);
+                told.fault.is_none()
+            }
+            2 => {
+                let told = self.robot.turn(&plant.robot_sense());
+                plant.set_robot(told.act);
+                told.fault.is_none()
+            }
+            3 => {
+                let told = self.press.turn(&plant.press_sense());
+                plant.set_press(told.act);
+                told.fault.is_none()
+            }
+            4 => {
+                let told = self.deposit.turn(&plant.deposit_sense());
+                plant.set_deposit(told.act);
+                told.fault.is_none()
+            }
+            _ => {
+                let told = self.crane.turn(&plant.crane_sense());
+                plant.set_crane(told.act);
+                told.fault.is_none()
+            }
+        }
+    }
+
+    // What is stored after a turn.
+    fn hand_out(self) -> [u8; 14] {
+        let (feed, _) = self.feed.unwire();
+        let team = Team {
+            feed: feed.progress(),
+            table: self.table.progress(),
+            robot: self.robot.progress(),
+            press: self.press.progress(),
+            deposit: self.deposit.progress(),
+            crane: self.crane.progress(),
+        };
+        Checkpoint::of(&feed.left(), &team).to_bytes()
+    }
+}
+
+/// The bytes of a cell at its start.
+pub fn at_start(places: [bool; 10]) -> Result<[u8; 14], Fail> {
+    let opening = State::start(places, 0)?;
+    let points = AxisPoints::new()?;
+    let gauges = (
+        move |raw: u16| line_at(&points.arm, raw),
+        move |raw: u16| line_at(&points.arm, raw),
+        move |raw: u16| line_at(&points.rotation, raw),
+        move |raw: u16| line_at(&points.turn, raw),
+        move |raw: u16| line_at(&points.arm, raw),
+    );
+    Ok(start_by(&opening, gauges, points))
+}
+
+fn start_by<F1: Gauge, F2: Gauge, F3: Gauge, F4: Gauge, F5: Gauge>(
+    opening: &State,
+    gauges: (F1, F2, F3, F4, F5),
+    points: AxisPoints,
+) -> [u8; 14]
+    requires arm1 { F1.keeps gauges.0 points.arm }
+    requires arm2 { F2.keeps gauges.1 points.arm }
+    requires rotation { F3.keeps gauges.2 points.rotation }
+    requires turn { F4.keeps gauges.3 points.turn }
+    requires gripper { F5.keeps gauges.4 points.arm }
+{
+    let (arm1, arm2, rotation, turn, gripper) = gauges;
+    let robot = RobotProgram::new(
+        Calibration::new(arm1, points.arm),
+        Calibration::new(arm2, points.arm),
+        Calibration::new(rotation, points.rotation),
+    );
+    let table = TableProgram::new(Calibration::new(turn, points.turn));
+    let crane = CraneProgram::new(Calibration::new(gripper, points.arm));
+    let team = Team {
+        feed: FeedProgram.start(opening),
+        table: table.start(opening),
+        robot: robot.start(opening),
+        press: PressProgram.start(opening),
+        deposit: DepositProgram.start(opening),
+        crane: crane.start(opening),
+    };
+    Checkpoint::of(opening, &team).to_bytes()
+}
+
+/// Goes on from these bytes for a number of turns, the machines one after another, and gives the
+/// bytes at the end. The first turn has this number.
+pub fn go_on(
+    alloc: Global,
+    bytes: [u8; 14],
+    plant: &mut Plant,
+    first: u32,
+    turns: u32,
+) -> Result<[u8; 14], Fail> {
+    let points = AxisPoints::new()?;
+    let gauges = (
+        move |raw: u16| line_at(&points.arm, raw),
+        move |raw: u16| line_at(&points.arm, raw),
+        move |raw: u16| line_at(&points.rotation, raw),
+        move |raw: u16| line_at(&points.turn, raw),
+        move |raw: u16| line_at(&points.arm, raw),
+    );
+    go_on_by(alloc, bytes, gauges, points, plant, first, turns)
+}
+
+fn go_on_by<F1: Gauge, F2: Gauge, F3: Gauge, F4: Gauge, F5: Gauge>(
+    alloc: Global,
+    bytes: [u8; 14],
+    gauges: (F1, F2, F3, F4, F5),
+    points: AxisPoints,
+    plant: &mut Plant,
+    first: u32,
+    turns: u32,
+) -> Result<[u8; 14], Fail>
+    requires arm1 { F1.keeps gauges.0 points.arm }
+    requires arm2 { F2.keeps gauges.1 points.arm }
+    requires rotation { F3.keeps gauges.2 points.rotation }
+    requires turn { F4.keeps gauges.3 points.turn }
+    requires gripper { F5.keeps gauges.4 points.arm }
+{
+    let cell = resume_at(bytes)?;
+    let opening = cell.state();
+    let (arm1, arm2, rotation, turn, gripper) = gauges;
+    let robot = RobotProgram::new(
+        Calibration::new(arm1, points.arm),
+        Calibration::new(arm2, points.arm),
+        Calibration::new(rotation, points.rotation),
+    );
+    let table = TableProgram::new(Calibration::new(turn, points.turn));
+    let crane = CraneProgram::new(Calibration::new(gripper, points.arm));
+    let (interlock, passes) = Interlock::new(alloc, opening, 8)?;
+    let feed_line = PassLine::new(alloc, &interlock, passes.feed);
+    let table_line = PassLine::new(alloc, &interlock, passes.table);
+    let robot_line = PassLine::new(alloc, &interlock, passes.robot);
+    let press_line = PassLine::new(alloc, &interlock, passes.press);
+    let deposit_line = PassLine::new(alloc, &interlock, passes.deposit);
+    let crane_line = PassLine::new(alloc, &interlock, passes.crane);
+    let mut machines = Machines {
+        feed: Wired::new(cell.feed(), &opening, feed_line),
+        table: Wired::new(cell.table(table), &opening, table_line),
+        robot: Wired::new(cell.robot(robot), &opening, robot_line),
+        press: Wired::new(cell.press(), &opening, press_line),
+        deposit: Wired::new(cell.deposit(), &opening, deposit_line),
+        crane: Wired::new(cell.crane(crane), &opening, crane_line),
+    };
+    for turn in 0..turns {
+        if !machines.turn(first.wrapping_add(turn) % 6, plant) {
+            return Err(Fail::new("a machine has stopped"));
+        }
+    }
+    Ok(machines.hand_out())
+}

@@ -1,0 +1,55 @@
+//! A run that is cut again and again, and goes on each time from its 14 bytes, comes to the same
+//! end as one that isn't cut.
+
+use crate::machines::{at_start, go_on};
+use crate::plant::Plant;
+use cell_resume::resume_at;
+use std::alloc::Global;
+use std::test::Fail;
+
+// A plate is at the feed belt's entry. In these turns it gets round once.
+const PLACES: [bool; 10] = [
+    true, false, false, false, false, false, false, false, false, false,
+];
+
+const TURNS: u32 = 6_000;
+
+// A plate's first round takes this many changes.
+const CHANGES: u32 = 59;
+
+// The bytes and the plant at the end, after so many parts of so many turns each. After each part the
+// power is cut.
+fn run(alloc: Global, parts: u32, turns: u32) -> Result<([u8; 14], Plant), Fail> {
+    let mut plant = Plant::standing();
+    let mut bytes = at_start(PLACES)?;
+    for part in 0..parts {
+        let first = part.wrapping_mul(turns);
+        bytes = go_on(alloc, bytes, &mut plant, first, turns)?;
+    }
+    Ok((bytes, plant))
+}
+
+#[test]
+fn a_plate_gets_round(rt: HostRuntime) -> Result<(), Fail> {
+    let (bytes, _) = run(rt.alloc(), 1, TURNS)?;
+    let cell = resume_at(bytes)?;
+    assert!(rt; cell.state().stamp() >= CHANGES);
+    Ok(())
+}
+
+#[test]
+fn a_run_cut_at_every_turn_ends_alike(rt: HostRuntime) -> Result<(), Fail> {
+    let whole = run(rt.alloc(), 1, TURNS)?;
+    let cut = run(rt.alloc(), TURNS, 1)?;
+    assert!(rt; whole == cut);
+    Ok(())
+}
+
+#[test]
+fn runs_cut_at_other_turns_end_alike(rt: HostRuntime) -> Result<(), Fail> {
+    let whole = run(rt.alloc(), 1, TURNS)?;
+    for (parts, turns) in [(1_200, 5), (1_000, 6), (60, 100), (6, 1_000)] {
+        assert!(rt; run(rt.alloc(), parts, turns)? == whole);
+    }
+    Ok(())
+}
