@@ -1,0 +1,4 @@
+mod Simulated
+mod Found
+mod Workers
+mod WiredWorkers
