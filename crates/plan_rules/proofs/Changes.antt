@@ -1,0 +1,147 @@
+-- What one call, and a history, change of the postures, the stamp and the plates.
+use Rattle.std.proofs.Common.{◌≡◌, ℕ, ◌+◌, ◌<◌, Bool, true, false, cond, List, [], ◌∷◌, length, get_or, set, Some, None, refl, sym, ap, ◌∙◌, subst, arith, if◌then◌else◌}
+use Rattle.std.proofs.lemmas.List.Sums.{sum_by-cons}
+use Rattle.plan_types.specs.declared.table.Transfer.{Transfer}
+use Rattle.plan_types.specs.declared.call.Call.{Call}
+use Rattle.plan_types.specs.declared.call.Call.TheVariants.{Claim, Give, Yield, Take, Release, SetPose, Inquire, Stop, Resume}
+use Rattle.plan_types.specs.declared.answer.Answer.{Answer}
+use Rattle.plan_types.specs.declared.answer.Answer.TheVariants.{Done, Shown, Refused}
+use Rattle.plan_types.specs.declared.answer.Event.{Event}
+use Rattle.plan_types.specs.Table.{PlanTable, zone_count, place_count, transfer_of}
+use Rattle.plan_types.specs.Below.{sum_below}
+use Rattle.plan_types.specs.Plan.{IsPlan}
+use Rattle.plan_rules.specs.declared.state.ZoneState.{ZoneState}
+use Rattle.plan_rules.specs.declared.state.State.{State}
+use Rattle.plan_rules.specs.State.{zone_at, posture_at, is_full, one_if, is_coming, plates_of, free_zone}
+use Rattle.plan_rules.specs.Sound.{IsSound}
+use Rattle.plan_rules.specs.Reply.{reply, next, next_by, changed, other_party, all_posed, emptied, filled}
+use Rattle.plan_rules.specs.History.{after, IsLegal, is_done, is_done_answer, posture_given, posture_since, posture_by_events}
+use Rattle.plan_rules.specs.Laws.{StampCountsChanges, PlatesAreKept, PostureByEvents}
+use Rattle.plan_rules.proofs.Below.{sum_below_same, sum_below_at_least}
+use Rattle.plan_rules.proofs.Puts.{put_cases, nat_eq-self}
+use Rattle.plan_rules.proofs.Zones.{gives_way}
+use Rattle.plan_rules.proofs.Done.{claim_done, give_done, yield_done, take_done, release_done}
+use Rattle.plan_rules.proofs.Plates.{zones_put, places_put, comes}
+use Rattle.plan_rules.proofs.Ways.{way_leads}
+use Rattle.plan_rules.proofs.Soundness.{done_none, never_done, next_keeps, in_ten, in_sixteen, plate_comes, zone_after_pose}
+
+-- ---- postures
+
+-- a zone is set with its own posture
+put_kept : (s : State) (y : ℕ) (v : ZoneState) → y < length s.zones → v.posture ≡ posture_at s y → (z : ℕ) → (get_or (set s.zones y v) z free_zone).posture ≡ posture_at s z
+put_kept s y v l e z = put_cases (λ x u. u.posture ≡ posture_at s x) s.zones v free_zone y l e (λ x ne. refl) z
+
+posture-changed : (t : PlanTable) (s : State) (n : ℕ) (c : Call) (z : ℕ) → IsPlan t → IsSound t s → reply t s n c ≡ Done → z < zone_count t → posture_at (changed t s n c) z ≡ posture_given t c z (posture_at s z)
+posture-changed t s n (Claim y) z p k e m = put_kept s y (record (zone_at s y) { owner = Some n }) (in_ten t s y p k (claim_done t s n y (done_none _ _ e)).caller.there) refl z
+posture-changed t s n (Give y) z p k e m = put_kept s y (record (zone_at s y) { owner = Some (other_party t n y); flag = true }) (in_ten t s y p k (give_done t s n y (done_none _ _ e)).holder.caller.there) refl z
+posture-changed t s n (Yield y) z p k e m = put_kept s y (record (zone_at s y) { owner = Some (other_party t n y) }) (in_ten t s y p k (yield_done t s n y (done_none _ _ e)).holder.caller.there) refl z
+posture-changed t s n (Take y) z p k e m = put_kept s y (record (zone_at s y) { flag = false }) (in_ten t s y p k (take_done t s n y (done_none _ _ e)).holder.caller.there) refl z
+posture-changed t s n (Release y) z p k e m = put_kept s y (record (zone_at s y) { owner = None }) (in_ten t s y p k (release_done t s n y (done_none _ _ e)).holder.caller.there) refl z
+posture-changed t s n (SetPose q) z p k e m = ap (λ (v : ZoneState). v.posture) (zone_after_pose t s q z p m)
+posture-changed t s n (Inquire y) z p k e m = refl
+posture-changed t s n Stop z p k e m = refl
+posture-changed t s n Resume z p k e m = refl
+
+posture_by : (a : Answer) (t : PlanTable) (s : State) (n : ℕ) (c : Call) (z : ℕ) → (a ≡ Done → posture_at (changed t s n c) z ≡ posture_given t c z (posture_at s z))
+    → posture_at (next_by a t s n c) z ≡ (if is_done_answer a then posture_given t c z (posture_at s z) else posture_at s z)
+posture_by Done t s n c z k = k refl
+posture_by (Shown o f p) t s n c z k = refl
+posture_by (Refused r) t s n c z k = refl
+
+pub posture-after : (t : PlanTable) (s : State) (h : List Event) (z : ℕ) → IsPlan t → IsSound t s → IsLegal t s h → z < zone_count t → posture_at (after t s h) z ≡ posture_by_events t s h z
+posture-after t s [] z p k l m = refl
+posture-after t s (e ∷ h) z p k l m =
+    let A : Answer → Type 0 = λ a. posture_at (next t s e.machine e.call) z ≡ (if is_done_answer a then posture_given t e.call z (posture_at s z) else posture_at s z) in
+    let here = subst A (sym l.0) (posture_by (reply t s e.machine e.call) t s e.machine e.call z (λ d. posture-changed t s e.machine e.call z p k d m)) in
+    posture-after t (next t s e.machine e.call) h z p (next_keeps t s e.machine e.call p k) l.1 m ∙ ap (λ q. posture_since t q h z) here
+
+pub posture_by_events_is : (t : PlanTable) (s : State) → IsPlan t → IsSound t s → (h : List Event) → IsLegal t s h → PostureByEvents t s h
+posture_by_events_is t s p k h l z m = sym (posture-after t s h z p k l m)
+
+-- ---- the stamp
+
+stamp_by : (a : Answer) (t : PlanTable) (s : State) (n : ℕ) (c : Call) → (next_by a t s n c).stamp ≡ s.stamp + cond (is_done_answer a) 1 0
+stamp_by Done t s n c = refl
+stamp_by (Shown o f p) t s n c = omega arith
+stamp_by (Refused r) t s n c = omega arith
+
+pub stamp-counted : (t : PlanTable) (s : State) (h : List Event) → IsLegal t s h → StampCountsChanges t s h
+stamp-counted t s [] l = omega arith
+stamp-counted t s (e ∷ h) l =
+    let A : Answer → Type 0 = λ a. (next t s e.machine e.call).stamp ≡ s.stamp + cond (is_done_answer a) 1 0 in
+    let here = subst A (sym l.0) (stamp_by (reply t s e.machine e.call) t s e.machine e.call) in
+    let rest = stamp-counted t (next t s e.machine e.call) h l.1 in
+    let count = sum_by-cons (λ (x : Event). cond (is_done x) 1 0) e h in
+    omega (arith, here, rest, count)
+
+-- ---- plates
+
+-- the set flags, after one zone is set
+flags_put : (t : PlanTable) (s : State) (y : ℕ) (v : ZoneState) → y < zone_count t → y < length s.zones
+    → sum_below (λ z. one_if (get_or (set s.zones y v) z free_zone).flag) (zone_count t) + one_if (zone_at s y).flag ≡ sum_below (λ z. one_if (zone_at s z).flag) (zone_count t) + one_if v.flag
+flags_put t s y v l m = zones_put (λ _ u. one_if u.flag) s.zones v y (zone_count t) l m
+
+full_put : (t : PlanTable) (s : State) (q : ℕ) (b : Bool) → q < place_count t → q < length s.full
+    → sum_below (λ z. one_if (get_or (set s.full q b) z false)) (place_count t) + one_if (is_full s q) ≡ sum_below (λ z. one_if (is_full s z)) (place_count t) + one_if b
+full_put t s q b l m = places_put one_if s.full b q (place_count t) l m
+
+same_flags : (t : PlanTable) (s : State) (y : ℕ) (v : ZoneState) → IsPlan t → IsSound t s → y < zone_count t → v.flag ≡ (zone_at s y).flag
+    → sum_below (λ z. one_if (is_full s z)) (place_count t) + sum_below (λ z. one_if (get_or (set s.zones y v) z free_zone).flag) (zone_count t) ≡ plates_of t s
+same_flags t s y v p k l e =
+    let put = flags_put t s y v l (in_ten t s y p k l) in
+    let same = ap one_if e in
+    omega (arith, put, same)
+
+empty_place : (b : Bool) → one_if b ≡ 0 → b ≡ false
+empty_place true e = absurd (omega arith)
+empty_place false e = refl
+
+-- the place that a plate is on its way to is empty
+pub room_to_take : (t : PlanTable) (s : State) (y : ℕ) (way : Transfer) → IsSound t s → y < zone_count t → (zone_at s y).flag ≡ true → transfer_of t y (posture_at s y) ≡ Some way → is_full s way.to ≡ false
+room_to_take t s y way k l flag is =
+    let here = comes t (zone_at s y) y way.to way flag is ∙ ap one_if (nat_eq-self way.to) in
+    let least = sum_below_at_least (λ z. one_if (is_coming t (zone_at s z) way.to z)) y (zone_count t) l in
+    let most = k.one_plate_a_place way.to in
+    empty_place (is_full s way.to) (omega (arith, here, least, most))
+
+pub plates-changed : (t : PlanTable) (s : State) (n : ℕ) (c : Call) → IsPlan t → IsSound t s → reply t s n c ≡ Done → plates_of t (changed t s n c) ≡ plates_of t s
+plates-changed t s n (Claim y) p k e = same_flags t s y (record (zone_at s y) { owner = Some n }) p k (claim_done t s n y (done_none _ _ e)).caller.there refl
+plates-changed t s n (Yield y) p k e = same_flags t s y (record (zone_at s y) { owner = Some (other_party t n y) }) p k (yield_done t s n y (done_none _ _ e)).holder.caller.there refl
+plates-changed t s n (Release y) p k e = same_flags t s y (record (zone_at s y) { owner = None }) p k (release_done t s n y (done_none _ _ e)).holder.caller.there refl
+plates-changed t s n (Give y) p k e =
+    let d = give_done t s n y (done_none _ _ e) in
+    let l = d.holder.caller.there in
+    let g = gives_way t n y (posture_at s y) d.way (p.host_is_not_guest y l) d.is in
+    let leads = way_leads t p y (posture_at s y) d.way l g.is in
+    let places = ap (λ o. sum_below (λ z. one_if (get_or (emptied s.full o) z false)) (place_count t)) d.is in
+    let out = full_put t s d.way.from false leads.from (in_sixteen t s d.way.from p k leads.from) in
+    let in_zone = flags_put t s y (record (zone_at s y) { owner = Some (other_party t n y); flag = true }) l (in_ten t s y p k l) in
+    omega (arith, places, out, in_zone, ap one_if d.plate, ap one_if d.clear)
+plates-changed t s n (Take y) p k e =
+    let d = take_done t s n y (done_none _ _ e) in
+    let l = d.holder.caller.there in
+    let c = plate_comes t s y k l d.plate in
+    let leads = way_leads t p y (posture_at s y) c.way l c.is in
+    let places = ap (λ o. sum_below (λ z. one_if (get_or (filled s.full o) z false)) (place_count t)) c.is in
+    let to_place = full_put t s c.way.to true leads.to (in_sixteen t s c.way.to p k leads.to) in
+    let from_zone = flags_put t s y (record (zone_at s y) { flag = false }) l (in_ten t s y p k l) in
+    let empty = room_to_take t s y c.way k l d.plate c.is in
+    omega (arith, places, to_place, from_zone, ap one_if d.plate, ap one_if empty)
+plates-changed t s n (SetPose q) p k e =
+    let same = sum_below_same (λ z. one_if (zone_at s z).flag) (λ z. one_if (get_or (all_posed t s q) z free_zone).flag) (zone_count t)
+    (λ z l. ap (λ (v : ZoneState). one_if v.flag) (zone_after_pose t s q z p l)) in
+    ap (λ m. sum_below (λ z. one_if (is_full s z)) (place_count t) + m) same
+plates-changed t s n (Inquire y) p k e = never_done t s n y e
+plates-changed t s n Stop p k e = refl
+plates-changed t s n Resume p k e = refl
+
+plates_by : (a : Answer) (t : PlanTable) (s : State) (n : ℕ) (c : Call) → (a ≡ Done → plates_of t (changed t s n c) ≡ plates_of t s) → plates_of t (next_by a t s n c) ≡ plates_of t s
+plates_by Done t s n c k = k refl
+plates_by (Shown o f p) t s n c k = refl
+plates_by (Refused r) t s n c k = refl
+
+pub plates-kept : (t : PlanTable) (s : State) → IsPlan t → IsSound t s → (h : List Event) → IsLegal t s h → PlatesAreKept t s h
+plates-kept t s p k [] l = refl
+plates-kept t s p k (e ∷ h) l =
+    plates-kept t (next t s e.machine e.call) p (next_keeps t s e.machine e.call p k) h l.1
+    ∙ plates_by (reply t s e.machine e.call) t s e.machine e.call (plates-changed t s e.machine e.call p k)

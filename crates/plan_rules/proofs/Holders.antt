@@ -1,0 +1,172 @@
+-- A machine that holds a zone, by the test of each event, owns it in the state after.
+use Rattle.std.proofs.Common.{◌≡◌, ℕ, ◌<◌, Bool, true, false, ◌&&◌, ◌||◌, not, nat_eq, Option, Some, None, List, [], ◌∷◌, ◌++◌, ◌⊎◌, inl, inr, get_or, set, refl, sym, ap, ◌∙◌, ◌↔◌, IsTrue, subst}
+use Rattle.std.proofs.Math.Bool.{and-true}
+use Rattle.std.proofs.lemmas.Bool.{or_left, or_right, false_from_ne_true}
+use Rattle.std.proofs.lemmas.List.Elements.{All-nil, All-cons, All-head, All-tail}
+use Rattle.plan_types.specs.declared.call.Call.{Call}
+use Rattle.plan_types.specs.declared.call.Call.TheVariants.{Claim, Give, Yield, Take, Release, SetPose, Inquire, Stop, Resume}
+use Rattle.plan_types.specs.declared.answer.Answer.{Answer}
+use Rattle.plan_types.specs.declared.answer.Answer.TheVariants.{Done, Shown, Refused}
+use Rattle.plan_types.specs.declared.answer.Event.{Event}
+use Rattle.plan_types.specs.Table.{PlanTable, is_party}
+use Rattle.plan_types.specs.Plan.{IsPlan}
+use Rattle.plan_rules.specs.declared.state.ZoneState.{ZoneState}
+use Rattle.plan_rules.specs.declared.state.State.{State}
+use Rattle.plan_rules.specs.State.{zone_at, owner_of, free_zone}
+use Rattle.plan_rules.specs.Sound.{IsSound, is_owned_by}
+use Rattle.plan_rules.specs.Refusals.{owns}
+use Rattle.plan_rules.specs.Reply.{reply, next, next_by, changed, other_party, all_posed}
+use Rattle.plan_rules.specs.History.{after, IsLegal, is_done_answer, gains, loses, is_gain, is_loss, IsLoss, LosesNothing, GainsAndKeeps, Holds}
+use Rattle.plan_rules.proofs.Puts.{nat_eq-self, nat_eq-apart, put_cases, zone_at-posed}
+use Rattle.plan_rules.proofs.Done.{claim_done, give_done, yield_done, take_done, release_done}
+use Rattle.plan_rules.proofs.Soundness.{done_none, never_done, next_keeps, in_ten}
+use Rattle.plan_rules.proofs.Stopping.{not_true}
+use Rattle.std.proofs.Common.{length, arith}
+use Rattle.std.proofs.lemmas.Bool.{cases_lt}
+use Rattle.std.proofs.lemmas.List.{get_or_past}
+
+-- ---- who owns a zone after a call
+
+-- what one machine owns another owns if the two are one
+pub owned_as : (o : Option ℕ) (n m : ℕ) → o ≡ Some n → is_owned_by o m ≡ nat_eq n m
+owned_as o n m e = ap (λ x. is_owned_by x m) e
+
+-- the new owner gains, and the old one loses
+handed : (gain own loss : Bool) → own ≡ loss → gain ≡ (gain || (own && not loss))
+handed true own loss e = refl
+handed false true true e = refl
+handed false true false e = cc
+handed false false loss e = refl
+
+owned-put : (s : State) (y m : ℕ) (v : ZoneState) (loss : Bool) → y < length s.zones → owns s m y ≡ loss
+    → (z : ℕ) → is_owned_by (get_or (set s.zones y v) z free_zone).owner m ≡ ((nat_eq y z && is_owned_by v.owner m) || (owns s m z && not (nat_eq y z && loss)))
+owned-put s y m v loss l e =
+    let gain = is_owned_by v.owner m in
+    let Here : Bool → Type 0 = λ here. gain ≡ ((here && gain) || (owns s m y && not (here && loss))) in
+    put_cases (λ x u. is_owned_by u.owner m ≡ ((nat_eq y x && gain) || (owns s m x && not (nat_eq y x && loss)))) s.zones v free_zone y l
+    (subst Here (sym (nat_eq-self y)) (handed gain (owns s m y) loss e))
+    (λ x ne. subst (λ t. owns s m x ≡ ((t && gain) || (owns s m x && not (t && loss)))) (sym (nat_eq-apart y x (λ e. ne (sym e)))) (sym (and-true (owns s m x))))
+
+-- the owner is the same
+owned-same : (s : State) (y m : ℕ) (v : ZoneState) → y < length s.zones → v.owner ≡ owner_of s y
+    → (z : ℕ) → is_owned_by (get_or (set s.zones y v) z free_zone).owner m ≡ (owns s m z && true)
+owned-same s y m v l e =
+    put_cases (λ x u. is_owned_by u.owner m ≡ (owns s m x && true)) s.zones v free_zone y l
+    (ap (λ o. is_owned_by o m) e ∙ sym (and-true (owns s m y)))
+    (λ x ne. sym (and-true (owns s m x)))
+
+and-false : (b : Bool) → (b && false) ≡ false
+and-false true = refl
+and-false false = refl
+
+-- a party hands the zone over to the other party
+from_party : (t : PlanTable) (s : State) (n y m z : ℕ) → is_party t n y ≡ true
+    → ((nat_eq y z && nat_eq (other_party t n y) m) || (owns s m z && not (nat_eq y z && nat_eq n m)))
+    ≡ ((nat_eq y z && (is_party t n y && nat_eq (other_party t n y) m)) || (owns s m z && not (nat_eq y z && nat_eq n m)))
+from_party t s n y m z party = ap (λ b. (nat_eq y z && (b && nat_eq (other_party t n y) m)) || (owns s m z && not (nat_eq y z && nat_eq n m))) (sym party)
+
+-- poses leave the owners
+pub owner-posed : (t : PlanTable) (s : State) (p z : ℕ) → length s.zones ≡ 10 → (get_or (all_posed t s p) z free_zone).owner ≡ owner_of s z
+owner-posed t s p z ten =
+    elim (cases_lt z 10) [
+      | inl l ↦ ap (λ (v : ZoneState). v.owner) (zone_at-posed t s p z l)
+      | inr l ↦ ap (λ (v : ZoneState). v.owner) (get_or_past (all_posed t s p) z free_zone l ∙ sym (get_or_past s.zones z free_zone (omega arith)))
+    ]
+
+owns-changed : (t : PlanTable) (s : State) (n : ℕ) (c : Call) (m z : ℕ) → IsPlan t → IsSound t s → reply t s n c ≡ Done
+    → owns (changed t s n c) m z ≡ (gains t n c m z || (owns s m z && not (loses n c m z)))
+owns-changed t s n (Claim y) m z p k e =
+    let d = claim_done t s n y (done_none _ _ e) in
+    owned-put s y m (record (zone_at s y) { owner = Some n }) false (in_ten t s y p k d.caller.there) (ap (λ o. is_owned_by o m) d.free) z
+    ∙ ap (λ l. (nat_eq y z && nat_eq n m) || (owns s m z && not l)) (and-false (nat_eq y z))
+owns-changed t s n (Give y) m z p k e =
+    let d = (give_done t s n y (done_none _ _ e)).holder in
+    owned-put s y m (record (zone_at s y) { owner = Some (other_party t n y); flag = true }) (nat_eq n m) (in_ten t s y p k d.caller.there) (owned_as (owner_of s y) n m d.owner) z
+    ∙ from_party t s n y m z d.caller.is
+owns-changed t s n (Yield y) m z p k e =
+    let d = (yield_done t s n y (done_none _ _ e)).holder in
+    owned-put s y m (record (zone_at s y) { owner = Some (other_party t n y) }) (nat_eq n m) (in_ten t s y p k d.caller.there) (owned_as (owner_of s y) n m d.owner) z
+    ∙ from_party t s n y m z d.caller.is
+owns-changed t s n (Take y) m z p k e =
+    let d = (take_done t s n y (done_none _ _ e)).holder in
+    owned-same s y m (record (zone_at s y) { flag = false }) (in_ten t s y p k d.caller.there) refl z
+owns-changed t s n (Release y) m z p k e =
+    let d = (release_done t s n y (done_none _ _ e)).holder in
+    let loss = nat_eq n m in
+    owned-put s y m (record (zone_at s y) { owner = None }) loss (in_ten t s y p k d.caller.there) (owned_as (owner_of s y) n m d.owner) z
+    ∙ ap (λ g. g || (owns s m z && not (nat_eq y z && loss))) (and-false (nat_eq y z))
+owns-changed t s n (SetPose q) m z p k e = ap (λ o. is_owned_by o m) (owner-posed t s q z k.has_ten_zones) ∙ sym (and-true (owns s m z))
+owns-changed t s n (Inquire y) m z p k e = never_done t s n y e
+owns-changed t s n Stop m z p k e = sym (and-true (owns s m z))
+owns-changed t s n Resume m z p k e = sym (and-true (owns s m z))
+
+owns-by : (a : Answer) (t : PlanTable) (s : State) (n : ℕ) (c : Call) (m z : ℕ) → (a ≡ Done → owns (changed t s n c) m z ≡ (gains t n c m z || (owns s m z && not (loses n c m z))))
+    → owns (next_by a t s n c) m z ≡ ((is_done_answer a && gains t n c m z) || (owns s m z && not (is_done_answer a && loses n c m z)))
+owns-by Done t s n c m z k = k refl
+owns-by (Shown o f p) t s n c m z k = sym (and-true (owns s m z))
+owns-by (Refused r) t s n c m z k = sym (and-true (owns s m z))
+
+owns-next : (t : PlanTable) (s : State) (e : Event) (m z : ℕ) → IsPlan t → IsSound t s → e.answer ≡ reply t s e.machine e.call
+    → owns (next t s e.machine e.call) m z ≡ (is_gain t e m z || (owns s m z && not (is_loss e m z)))
+owns-next t s e m z p k l =
+    let By : Answer → Type 0 = λ a. owns (next t s e.machine e.call) m z ≡ ((is_done_answer a && gains t e.machine e.call m z) || (owns s m z && not (is_done_answer a && loses e.machine e.call m z))) in
+    subst By (sym l) (owns-by (reply t s e.machine e.call) t s e.machine e.call m z (owns-changed t s e.machine e.call m z p k))
+
+-- ---- event by event
+
+-- whether a machine holds a zone after a history: it held it before, or gained it, and hasn't lost it since
+abbrev pub holds_since : PlanTable → Bool → List Event → ℕ → ℕ → Bool
+holds_since t held [] m z = held
+holds_since t held (e ∷ history) m z = holds_since t (is_gain t e m z || (held && not (is_loss e m z))) history m z
+
+owns-after : (t : PlanTable) (s : State) (h : List Event) (m z : ℕ) → IsPlan t → IsSound t s → IsLegal t s h → owns (after t s h) m z ≡ holds_since t (owns s m z) h m z
+owns-after t s [] m z p k l = refl
+owns-after t s (e ∷ h) m z p k l =
+    owns-after t (next t s e.machine e.call) h m z p (next_keeps t s e.machine e.call p k) l.1 ∙ ap (λ b. holds_since t b h m z) (owns-next t s e m z p k l.0)
+
+holds_since-append : (t : PlanTable) (b : Bool) (x y : List Event) (m z : ℕ) → holds_since t b (x ++ y) m z ≡ holds_since t (holds_since t b x m z) y m z
+holds_since-append t b [] y m z = refl
+holds_since-append t b (e ∷ x) y m z = holds_since-append t (is_gain t e m z || (b && not (is_loss e m z))) x y m z
+
+-- what is held and not lost is held
+holds_since-kept : (t : PlanTable) (h : List Event) (m z : ℕ) → LosesNothing h m z → holds_since t true h m z ≡ true
+holds_since-kept t [] m z k = refl
+holds_since-kept t (e ∷ h) m z k =
+    let here = false_from_ne_true (is_loss e m z) (All-head (λ x. ¬ IsLoss x m z) e h k) in
+    ap (λ b. holds_since t b h m z) (or_right (is_gain t e m z) (true && not (is_loss e m z)) (not_true (is_loss e m z) here)) ∙ holds_since-kept t h m z (All-tail (λ x. ¬ IsLoss x m z) e h k)
+
+holds_since-gained : (t : PlanTable) (b : Bool) (h : List Event) (m z : ℕ) → GainsAndKeeps t h m z → holds_since t b h m z ≡ true
+holds_since-gained t b h m z g =
+    let held = holds_since t b g.before m z in
+    ap (λ x. holds_since t b x m z) g.split ∙ holds_since-append t b g.before (g.gain ∷ g.since) m z
+    ∙ ap (λ x. holds_since t x g.since m z) (or_left (is_gain t g.gain m z) (held && not (is_loss g.gain m z)) g.gained) ∙ holds_since-kept t g.since m z g.kept
+
+gained_or_kept : (g b l : Bool) → (g || (b && not l)) ≡ true → (g ≡ true) ⊎ ((b ≡ true) × (l ≡ false))
+gained_or_kept true b l e = inl refl
+gained_or_kept false true false e = inr (refl, refl)
+gained_or_kept false true true e = cc
+gained_or_kept false false l e = cc
+
+-- a zone held at the end was gained last, or held at the start, and not lost since
+held_by_events : (t : PlanTable) (b : Bool) (h : List Event) (m z : ℕ) → holds_since t b h m z ≡ true → ((b ≡ true) × LosesNothing h m z) ⊎ GainsAndKeeps t h m z
+held_by_events t b [] m z e = inl (e, All-nil (λ x. ¬ IsLoss x m z))
+held_by_events t b (x ∷ h) m z e =
+    elim (held_by_events t (is_gain t x m z || (b && not (is_loss x m z))) h m z e) [
+      | inl k ↦ elim (gained_or_kept (is_gain t x m z) b (is_loss x m z) k.0) [
+        | inl g ↦ inr (record { before = []; gain = x; since = h; split = refl; gained = g; kept = k.1 })
+        | inr o ↦ inl (o.0, All-cons (λ y. ¬ IsLoss y m z) x h (λ lost. cc) k.1)
+      ]
+      | inr g ↦ inr (record { before = x ∷ g.before; gain = g.gain; since = g.since; split = ap (λ r. x ∷ r) g.split; gained = g.gained; kept = g.kept })
+    ]
+
+holds_by_test : (t : PlanTable) (s : State) (h : List Event) (m z : ℕ) → Holds t s h m z ↔ IsTrue (holds_since t (owns s m z) h m z)
+holds_by_test t s h m z = (
+  λ k. elim k [ inl k ↦ ap (λ b. holds_since t b h m z) k.0 ∙ holds_since-kept t h m z k.1 | inr g ↦ holds_since-gained t (owns s m z) h m z g ],
+  held_by_events t (owns s m z) h m z,
+)
+
+pub holds_iff_owns : (t : PlanTable) (s : State) (h : List Event) (m z : ℕ) → IsPlan t → IsSound t s → IsLegal t s h → Holds t s h m z ↔ IsTrue (owns (after t s h) m z)
+holds_iff_owns t s h m z p k l =
+    let same = owns-after t s h m z p k l in
+    let test = holds_by_test t s h m z in
+    (λ k. same ∙ test.0 k, λ o. test.1 (sym same ∙ o))

@@ -1,0 +1,17 @@
+pub mod Below
+pub mod Puts
+pub mod Zones
+pub mod Done
+pub mod Plates
+pub mod Ways
+pub mod Soundness
+pub mod Histories
+pub mod Stopping
+pub mod Holders
+pub mod Changes
+pub mod Lasting
+pub mod HolderLaws
+pub mod Starts
+pub mod Fitting
+pub mod Lawful
+pub mod Literal

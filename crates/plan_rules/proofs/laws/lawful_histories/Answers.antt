@@ -1,0 +1,5 @@
+use Rattle.plan_rules.proofs.Lawful.{every_history}
+use Rattle.plan_rules.proofs.laws.lawful_histories.Goals as goal
+
+pub returns : goal.returns
+returns c = every_history

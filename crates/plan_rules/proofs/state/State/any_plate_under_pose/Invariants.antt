@@ -1,0 +1,7 @@
+use Rattle.std.proofs.Common.{◌≡◌}
+use Rattle.plan_types.specs.Below.{first_below}
+use Rattle.plan_rules.specs.Refusals as refusals
+use Rattle.plan_rules.proofs.state.State.any_plate_under_pose.Given as goal
+
+abbrev pub invariant-loop-zone : goal.invariant-loop-zone
+invariant-loop-zone l = l.first ≡ first_below (refusals.plate_under_pose l.plan l.self l.machine l.pose) l.zone

@@ -1,0 +1,100 @@
+-- Literal histories of two plants: each answer is written out.
+use Rattle.std.specs.Prelude.{ℕ, true, false, List, [], ◌∷◌, replicate, Some, None}
+use Rattle.plan_types.specs.declared.posture.Posture.TheVariants.{Closed, Moving, OpenIn}
+use Rattle.plan_types.specs.declared.call.Call.{Call}
+use Rattle.plan_types.specs.declared.call.Call.TheVariants.{Claim, Give, Yield, Take, Release, SetPose, Inquire, Stop}
+use Rattle.plan_types.specs.declared.call.Call.TheVariants.{Resume}
+use Rattle.plan_types.specs.declared.answer.Refusal.{Refusal}
+use Rattle.plan_types.specs.declared.answer.Refusal.TheVariants.{NotParty, Held, AlreadyMine, Shut, NotOwner}
+use Rattle.plan_types.specs.declared.answer.Refusal.TheVariants.{PlateInZone, NoPlate, PlaceFull, WrongWay, Jump}
+use Rattle.plan_types.specs.declared.answer.Refusal.TheVariants.{NoPose, Worn, Stopped, NotStopped}
+use Rattle.plan_types.specs.declared.answer.Answer.{Answer}
+use Rattle.plan_types.specs.declared.answer.Answer.TheVariants.{Done, Shown, Refused}
+use Rattle.plan_types.specs.declared.answer.Event.{Event}
+use Rattle.plan_types.specs.Table.{watch}
+use Rattle.plan_types.specs.Examples.{press_table, lift_table}
+use Rattle.plan_rules.specs.declared.state.ZoneState.{ZoneState}
+use Rattle.plan_rules.specs.declared.state.State.{State}
+use Rattle.plan_rules.specs.State.{start_state, free_zone}
+use Rattle.plan_rules.specs.History.{after, IsLegal}
+
+abbrev pub event : ℕ → Call → Answer → Event
+event m c a = record { machine = m; call = c; answer = a }
+
+abbrev pub did : ℕ → Call → Event
+did m c = event m c Done
+
+abbrev pub refused : ℕ → Call → Refusal → Event
+refused m c r = event m c (Refused r)
+
+-- the loader has a plate
+abbrev pub press_start : State
+press_start = start_state (true ∷ replicate 15 false) 0
+
+-- the loader, 0, loads the press, 1; each is refused what it may not do
+abbrev pub loading : List Event
+loading =
+    refused 0 (Claim 0) (Shut Closed) ∷ refused watch (Claim 0) NotParty ∷ refused 1 (Claim 1) NotParty
+    ∷ refused 1 (Give 0) (NotOwner None) ∷ did 1 (Claim 0) ∷ refused 0 (Claim 0) (Held 1)
+    ∷ refused 1 (Claim 0) AlreadyMine ∷ refused 0 (SetPose 3) NoPose ∷ refused 1 (SetPose 4) NoPose
+    ∷ refused 1 (SetPose 0) Jump ∷ refused 1 (Yield 0) (Shut Closed) ∷ did 1 (SetPose 3)
+    ∷ refused 1 (Release 0) (Shut Moving) ∷ refused 1 (Yield 0) (Shut Moving) ∷ did 1 (SetPose 0)
+    ∷ refused 1 (Give 0) WrongWay ∷ refused 1 (Take 0) NoPlate ∷ did 1 (Yield 0)
+    ∷ refused 1 (SetPose 3) (NotOwner (Some 0)) ∷ event watch (Inquire 0) (Shown (Some 0) false OpenIn)
+    ∷ refused watch (Inquire 1) NotParty ∷ did 0 (Give 0) ∷ event 0 (Inquire 0) (Shown (Some 1) true OpenIn)
+    ∷ refused 0 (Take 0) (NotOwner (Some 1)) ∷ refused 1 (SetPose 3) (PlateInZone 0)
+    ∷ refused 1 (Release 0) (PlateInZone 0) ∷ refused 1 (Yield 0) (PlateInZone 0)
+    ∷ refused 1 (Give 0) (PlateInZone 0) ∷ did 1 (Take 0) ∷ []
+
+-- the press, which is full, doesn't open to be loaded; and the plate comes back
+abbrev pub unloading : List Event
+unloading =
+    did 1 (SetPose 3) ∷ refused 1 (SetPose 0) PlaceFull ∷ did 1 (SetPose 1) ∷ did 1 (Release 0)
+    ∷ did 0 (Claim 0) ∷ refused 0 (Give 0) WrongWay ∷ did 0 (Release 0) ∷ did 1 (Claim 0) ∷ did 1 (Give 0)
+    ∷ did 0 (Take 0) ∷ did 0 (Release 0) ∷ []
+
+-- the watch, 15, stops the plant while the press moves
+abbrev pub stopping : List Event
+stopping =
+    refused watch Resume NotStopped ∷ refused 1 Stop NotParty ∷ did 1 (Claim 0) ∷ did 1 (SetPose 3) ∷ did watch Stop
+    ∷ refused watch Stop Stopped ∷ refused 1 Resume NotParty ∷ refused 1 (SetPose 3) Stopped ∷ did 1 (SetPose 0)
+    ∷ refused 1 (Give 0) Stopped ∷ refused 0 (Claim 0) Stopped ∷ did 1 (Release 0) ∷ did watch Resume
+    ∷ did 0 (Claim 0) ∷ refused 0 (Give 0) NoPlate ∷ []
+
+-- a zone of the press, open inward and owned by a machine
+abbrev pub open_inward : ℕ → ZoneState
+open_inward m = record { owner = Some m; flag = false; posture = OpenIn }
+
+-- both machines have a plate: a give into the press would find it full, and at the last stamp nothing is done
+abbrev pub full_press : State
+full_press = record {
+  zones = open_inward 0 ∷ replicate 9 free_zone;
+  full = true ∷ true ∷ replicate 14 false;
+  stamp = 1048575;
+  stopped = false;
+}
+
+abbrev pub wearing : List Event
+wearing =
+    refused 0 (Give 0) PlaceFull ∷ refused 0 (Yield 0) Worn ∷ refused 0 (Release 0) Worn ∷ refused watch Stop Worn
+    ∷ event 1 (Inquire 0) (Shown (Some 0) false OpenIn) ∷ []
+
+-- the lower floor, 1, has a plate, which the lift, 0, brings to the upper floor, 2
+abbrev pub lift_start : State
+lift_start = start_state (false ∷ true ∷ replicate 14 false) 0
+
+abbrev pub lifting : List Event
+lifting =
+    did 0 (Claim 1) ∷ refused 0 (SetPose 0) (NotOwner None) ∷ did 0 (Claim 0) ∷ did 0 (SetPose 0) ∷ did 0 (SetPose 1)
+    ∷ refused 1 (Claim 1) NotParty ∷ refused 2 (Claim 1) (Held 0) ∷ did 0 (Yield 0) ∷ did 1 (Give 0)
+    ∷ refused 0 (SetPose 0) (PlateInZone 0) ∷ did 0 (Take 0) ∷ did 0 (SetPose 0) ∷ refused 0 (SetPose 4) PlaceFull
+    ∷ did 0 (SetPose 2) ∷ did 0 (Give 1) ∷ refused 2 (Yield 1) (PlateInZone 1) ∷ did 2 (Take 1)
+    ∷ refused 0 (SetPose 0) (NotOwner (Some 2)) ∷ did 2 (Yield 1) ∷ did 0 (SetPose 0) ∷ []
+
+-- these histories are legal: each answer in them is the reply
+pub record ExamplesAreLegal : Type 0 where
+  pub press_loads : IsLegal press_table press_start loading
+  pub press_unloads : IsLegal press_table (after press_table press_start loading) unloading
+  pub press_stops : IsLegal press_table (start_state (replicate 16 false) 7) stopping
+  pub press_wears : IsLegal press_table full_press wearing
+  pub lift_lifts : IsLegal lift_table lift_start lifting

@@ -1,0 +1,140 @@
+-- Laws of every legal history from a sound opening, for every plan.
+use Rattle.std.specs.Prelude.{◌≡◌, ◌≢◌, ℕ, ◌+◌, ◌<◌, Bool, true, false, ◌||◌, nat_eq, List, [], ◌∷◌, ◌++◌, Some, IsTrue}
+use Rattle.std.specs.Prelude.{◌↔◌}
+use Rattle.plan_types.specs.declared.posture.Posture.{Posture}
+use Rattle.plan_types.specs.declared.posture.Posture.TheVariants.{Moving, OpenIn}
+use Rattle.plan_types.specs.declared.call.Call.{Call}
+use Rattle.plan_types.specs.declared.call.Call.TheVariants.{Claim, Give, Yield, Take, Release, SetPose, Stop}
+use Rattle.plan_types.specs.declared.call.Call.TheVariants.{Resume}
+use Rattle.plan_types.specs.declared.table.Transfer.{Transfer}
+use Rattle.plan_types.specs.declared.answer.Answer.TheVariants.{Done}
+use Rattle.plan_types.specs.declared.answer.Event.{Event}
+use Rattle.plan_types.specs.Table.{PlanTable, zone_count, place_count, host_of, guest_of, keeper_of, is_moving_pose}
+use Rattle.plan_types.specs.Table.{posture_of, watch, pose_count, pose_row, machine_of, transfer_of}
+use Rattle.plan_types.specs.Plan.{IsPlan}
+use Rattle.plan_rules.specs.declared.state.State.{State}
+use Rattle.plan_rules.specs.State.{zone_at, owner_of, posture_at, is_full, plates_for, plates_of}
+use Rattle.plan_rules.specs.Sound.{IsSound, is_open}
+use Rattle.plan_rules.specs.Refusals.{owns}
+use Rattle.plan_rules.specs.History.{after, IsLegal, own_events, done_count, Holds, Moves, posture_by_events, IsStopped}
+
+-- a law holds of each prefix of a history
+abbrev pub Throughout : (List Event → Type 0) → List Event → Type 0
+Throughout Law h = (before more : List Event) → h ≡ before ++ more → Law before
+
+-- a call that was Done
+abbrev pub done : ℕ → Call → Event
+done m c = record { machine = m; call = c; answer = Done }
+
+-- two machines never hold the same zone; only a zone's host or guest can hold it, and exactly the holder owns it in the
+-- state after
+pub record OneHolder (t : PlanTable) (s : State) (h : List Event) : Type 0 where
+  pub alone : (m n z : ℕ) → Holds t s h m z → Holds t s h n z → m ≡ n
+  pub party : (m z : ℕ) → z < zone_count t → Holds t s h m z
+      → IsTrue (nat_eq m (host_of t z) || nat_eq m (guest_of t z))
+  pub owner : (m z : ℕ) → Holds t s h m z ↔ IsTrue (owns (after t s h) m z)
+
+-- a zone that moves is held by its host; only its host changes its posture, while it holds the zone
+pub record MoverIsHost (t : PlanTable) (s : State) (h : List Event) : Type 0 where
+  pub moves : (z : ℕ) → z < zone_count t → Moves t s h z → Holds t s h (host_of t z) z
+  pub changes : (before rest : List Event) (m p : ℕ) → h ≡ before ++ done m (SetPose p) ∷ rest
+      → (z : ℕ) (q : Posture) → z < zone_count t → posture_of t p z ≡ Some q
+      → posture_at (after t s before) z ≢ q → (host_of t z ≡ m) × Holds t s before m z
+
+-- if a zone's guest holds it, the zone is open, by the events
+abbrev pub GuestOnlyWhileOpen : PlanTable → State → List Event → Type 0
+GuestOnlyWhileOpen t s h =
+    (z : ℕ) → z < zone_count t → Holds t s h (guest_of t z) z → IsTrue (is_open (posture_by_events t s h z))
+
+-- the state after has as many plates as the opening
+abbrev pub PlatesAreKept : PlanTable → State → List Event → Type 0
+PlatesAreKept t s h = plates_of t (after t s h) ≡ plates_of t s
+
+-- the stamp counts the Done events
+abbrev pub StampCountsChanges : PlanTable → State → List Event → Type 0
+StampCountsChanges t s h = (after t s h).stamp ≡ s.stamp + done_count h
+
+-- while others make the events, a machine keeps each zone that it holds, with posture and flag, its own places, and the
+-- postures of the zones that it hosts, held or not
+pub record RightLasts (t : PlanTable) (s : State) (before more : List Event) : Type 0 where
+  pub held : (m z : ℕ) → z < zone_count t → own_events more m ≡ [] → Holds t s before m z
+      → Holds t s (before ++ more) m z
+  pub zone : (m z : ℕ) → z < zone_count t → own_events more m ≡ [] → Holds t s before m z
+      → zone_at (after t s (before ++ more)) z ≡ zone_at (after t s before) z
+  pub places : (p : ℕ) → p < place_count t → own_events more (keeper_of t p) ≡ []
+      → is_full (after t s (before ++ more)) p ≡ is_full (after t s before) p
+  pub posture : (z : ℕ) → z < zone_count t → own_events more (host_of t z) ≡ []
+      → posture_by_events t s (before ++ more) z ≡ posture_by_events t s before z
+
+-- the posture by the events is the one in the state after
+abbrev pub PostureByEvents : PlanTable → State → List Event → Type 0
+PostureByEvents t s h =
+    (z : ℕ) → z < zone_count t → posture_by_events t s h z ≡ posture_at (after t s h) z
+
+abbrev pub StaysSound : PlanTable → State → List Event → Type 0
+StaysSound t s h = IsSound t (after t s h)
+
+-- what holds in the state before a pose that is Done
+pub record PosesFit (t : PlanTable) (s : State) (h : List Event) : Type 0 where
+  -- the machine has the pose
+  pub own : (before rest : List Event) (m p : ℕ) → h ≡ before ++ done m (SetPose p) ∷ rest
+      → (p < pose_count t) × (machine_of t p ≡ m)
+  -- a pose that can be taken only after moving is taken only while all zones that the machine hosts move
+  pub no_jump : (before rest : List Event) (m p : ℕ) → h ≡ before ++ done m (SetPose p) ∷ rest
+      → IsTrue (pose_row t p).after_moving → (z : ℕ) → z < zone_count t → host_of t z ≡ m
+      → posture_at (after t s before) z ≡ Moving
+  -- a zone becomes open inward only while the place that a plate would come to has none, and none coming
+  pub opens_onto_empty : (before rest : List Event) (m p : ℕ) → h ≡ before ++ done m (SetPose p) ∷ rest
+      → (z : ℕ) (way : Transfer) → z < zone_count t → posture_of t p z ≡ Some OpenIn
+      → posture_at (after t s before) z ≢ OpenIn → transfer_of t z OpenIn ≡ Some way
+      → plates_for t (after t s before) way.to ≡ 0
+
+-- a machine holds a zone of the plan by its events, and owns it in the state after them
+abbrev pub HasZone : PlanTable → State → List Event → ℕ → ℕ → Type 0
+HasZone t s before m z = (z < zone_count t) × Holds t s before m z × (owner_of (after t s before) z ≡ Some m)
+
+-- a machine has the zone that it hands over, takes a plate from, or leaves
+pub record HandoverByHolder (t : PlanTable) (s : State) (h : List Event) : Type 0 where
+  pub give : (before rest : List Event) (m z : ℕ) → h ≡ before ++ done m (Give z) ∷ rest → HasZone t s before m z
+  pub yield : (before rest : List Event) (m z : ℕ) → h ≡ before ++ done m (Yield z) ∷ rest
+      → HasZone t s before m z
+  pub take : (before rest : List Event) (m z : ℕ) → h ≡ before ++ done m (Take z) ∷ rest → HasZone t s before m z
+  pub release : (before rest : List Event) (m z : ℕ) → h ≡ before ++ done m (Release z) ∷ rest
+      → HasZone t s before m z
+
+-- the calls that are barred while the plant is stopped: claims, handovers of plates and movements
+abbrev pub is_barred : PlanTable → Call → Bool
+is_barred t (Claim _) = true
+is_barred t (Give _) = true
+is_barred t (SetPose p) = is_moving_pose t p
+is_barred t _ = false
+
+-- the state after is stopped exactly if the events say so; while the plant is stopped, no barred call is Done; the
+-- watch alone stops and resumes, in turn
+pub record StoppedUntilResumed (t : PlanTable) (s : State) (h : List Event) : Type 0 where
+  pub mark : IsStopped s h ↔ IsTrue (after t s h).stopped
+  pub barred : (before rest : List Event) (m : ℕ) (c : Call) → h ≡ before ++ done m c ∷ rest
+      → IsStopped s before → is_barred t c ≡ false
+  pub stop : (before rest : List Event) (m : ℕ) → h ≡ before ++ done m Stop ∷ rest
+      → (m ≡ watch) × ¬ IsStopped s before
+  pub resume : (before rest : List Event) (m : ℕ) → h ≡ before ++ done m Resume ∷ rest
+      → (m ≡ watch) × IsStopped s before
+
+-- every law of a legal history
+pub record Lawful (t : PlanTable) (s : State) (h : List Event) : Type 0 where
+  pub one_holder : OneHolder t s h
+  pub mover_is_host : MoverIsHost t s h
+  pub guest_only_while_open : GuestOnlyWhileOpen t s h
+  pub plates_are_kept : PlatesAreKept t s h
+  pub stamp_counts_changes : StampCountsChanges t s h
+  pub right_lasts : (before more : List Event) → h ≡ before ++ more → RightLasts t s before more
+  pub posture_by_events : PostureByEvents t s h
+  pub stays_sound : StaysSound t s h
+  pub poses_fit : PosesFit t s h
+  pub handover_by_holder : HandoverByHolder t s h
+  pub stopped_until_resumed : StoppedUntilResumed t s h
+
+-- for every plan, and from every sound opening, all laws hold of each prefix of every legal history
+abbrev pub EveryLegalHistoryIsLawful : Type 0
+EveryLegalHistoryIsLawful =
+    (t : PlanTable) (s : State) (h : List Event) → IsPlan t → IsSound t s → IsLegal t s h → Throughout (Lawful t s) h

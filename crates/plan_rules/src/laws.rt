@@ -1,0 +1,119 @@
+//! Laws of every legal history from a sound opening, for every plan, each the contract of a function that does nothing.
+//! A history is the list of the events since the opening, oldest first. `plan.machines()` reads the plan, so the prover
+//! knows that it is one.
+ghost use Rattle.std.specs.Prelude.{◌++◌};
+ghost use Rattle.plan_rules.specs.Sound.{IsSound, IsStart};
+ghost use Rattle.plan_rules.specs.History.{IsLegal};
+ghost use Rattle.plan_rules.specs.Laws as law;
+ghost use Rattle.plan_rules.specs.Laws.{Throughout};
+
+use crate::state::State;
+use plan_types::{Event, Plan};
+
+/// Two machines never hold the same zone. Only a zone's host or guest can hold it, and exactly the holder owns it in
+/// the state after the history.
+pub fn one_holder(plan: &Plan, opening: &State, history: &[Event])
+    requires sound { IsSound plan.now opening.now }
+    requires legal { IsLegal plan.now opening.now history.now }
+    ensures { Throughout (law.OneHolder plan.now opening.now) history.now }
+{
+    let _ = plan.machines();
+}
+
+/// A zone that moves is held by its host. Only its host changes its posture, while it holds the zone.
+pub fn mover_is_host(plan: &Plan, opening: &State, history: &[Event])
+    requires sound { IsSound plan.now opening.now }
+    requires legal { IsLegal plan.now opening.now history.now }
+    ensures { Throughout (law.MoverIsHost plan.now opening.now) history.now }
+{
+    let _ = plan.machines();
+}
+
+/// If a zone's guest holds it, the zone is open, by the events.
+pub fn guest_only_while_open(plan: &Plan, opening: &State, history: &[Event])
+    requires sound { IsSound plan.now opening.now }
+    requires legal { IsLegal plan.now opening.now history.now }
+    ensures { Throughout (law.GuestOnlyWhileOpen plan.now opening.now) history.now }
+{
+    let _ = plan.machines();
+}
+
+/// The number of plates, in places and in zones, never changes.
+pub fn plates_are_kept(plan: &Plan, opening: &State, history: &[Event])
+    requires sound { IsSound plan.now opening.now }
+    requires legal { IsLegal plan.now opening.now history.now }
+    ensures { Throughout (law.PlatesAreKept plan.now opening.now) history.now }
+{
+    let _ = plan.machines();
+}
+
+/// The stamp counts the Done events.
+pub fn stamp_counts_changes(plan: &Plan, opening: &State, history: &[Event])
+    requires { IsLegal plan.now opening.now history.now }
+    ensures { Throughout (law.StampCountsChanges plan.now opening.now) history.now }
+{}
+
+/// While other machines make the events, a machine keeps each zone that it holds, with posture and flag, its own
+/// places, and the postures of the zones that it hosts.
+pub fn right_lasts(plan: &Plan, opening: &State, before: &[Event], more: &[Event])
+    requires sound { IsSound plan.now opening.now }
+    requires legal { IsLegal plan.now opening.now (before.now ++ more.now) }
+    ensures { law.RightLasts plan.now opening.now before.now more.now }
+{
+    let _ = plan.machines();
+}
+
+/// The posture by the events is the one in the state after them.
+pub fn posture_by_events(plan: &Plan, opening: &State, history: &[Event])
+    requires sound { IsSound plan.now opening.now }
+    requires legal { IsLegal plan.now opening.now history.now }
+    ensures { Throughout (law.PostureByEvents plan.now opening.now) history.now }
+{
+    let _ = plan.machines();
+}
+
+/// The state after is sound. So a place has at most one plate, or one on its way to it.
+pub fn stays_sound(plan: &Plan, opening: &State, history: &[Event])
+    requires sound { IsSound plan.now opening.now }
+    requires legal { IsLegal plan.now opening.now history.now }
+    ensures { Throughout (law.StaysSound plan.now opening.now) history.now }
+{
+    let _ = plan.machines();
+}
+
+/// After each prefix of a history the plant is stopped, in the state, exactly if it was stopped at first or by a Done
+/// stop, with no Done resume since. While it is stopped, no claim, no handover of a plate and no movement is Done. The
+/// watch alone stops and resumes, in turn.
+pub fn stopped_until_resumed(plan: &Plan, opening: &State, history: &[Event])
+    requires { IsLegal plan.now opening.now history.now }
+    ensures { Throughout (law.StoppedUntilResumed plan.now opening.now) history.now }
+{}
+
+/// A machine takes only its own poses; one that may come only after moving only while all zones that the machine hosts
+/// move; and one that opens a zone inward only while the place that a plate would come to has none, and none coming.
+pub fn poses_fit(plan: &Plan, opening: &State, history: &[Event])
+    requires { IsLegal plan.now opening.now history.now }
+    ensures { law.PosesFit plan.now opening.now history.now }
+{}
+
+/// A machine holds the zone in which it gives, or which it yields, takes from or releases.
+pub fn handover_by_holder(plan: &Plan, opening: &State, history: &[Event])
+    requires sound { IsSound plan.now opening.now }
+    requires legal { IsLegal plan.now opening.now history.now }
+    ensures { law.HandoverByHolder plan.now opening.now history.now }
+{
+    let _ = plan.machines();
+}
+
+/// All these laws hold of each prefix of every legal history from any sound opening, for every plan, stored or not.
+pub fn lawful_histories()
+    ensures { law.EveryLegalHistoryIsLawful }
+{}
+
+/// Every start is sound, for every plan.
+pub fn starts_are_sound(plan: &Plan, opening: &State)
+    requires { IsStart opening.now }
+    ensures { IsSound plan.now opening.now }
+{
+    let _ = plan.machines();
+}

@@ -1,0 +1,34 @@
+//! The programs of the READMEs.
+
+use plan_rules::{State, apply};
+use plan_types::{Answer, Call, Plan, PlanFault, Refusal, examples};
+
+#[test]
+fn a_zone_has_two_parties(rt: HostRuntime) {
+    let press = examples::press(rt.alloc()).expect(&rt, "memory");
+    let plan = Plan::new(press).expect(&rt, "a plan");
+    assert!(rt; plan.machines() == 2 && plan.zone_count() == 1);
+
+    let mut tables = examples::press(rt.alloc()).expect(&rt, "memory");
+    tables.zones[0].guest = 1;
+    assert!(rt; Plan::new(tables).err() == Some(PlanFault::HostIsGuest { zone: 0 }));
+}
+
+#[test]
+fn a_press_is_loaded(rt: HostRuntime) {
+    let tables = examples::press(rt.alloc()).expect(&rt, "memory");
+    let plan = Plan::new(tables).expect(&rt, "a plan");
+    let (loader, press) = (0, 1);
+    let mut full = [false; 16];
+    full[0] = true;
+    let mut state = State::start(full, 0);
+    assert!(rt; apply(&plan, &mut state, press, Call::Claim(0)) == Answer::Done);
+    let held = Answer::Refused(Refusal::Held(press));
+    assert!(rt; apply(&plan, &mut state, loader, Call::Claim(0)) == held);
+    assert!(rt; apply(&plan, &mut state, press, Call::SetPose(3)) == Answer::Done);
+    assert!(rt; apply(&plan, &mut state, press, Call::SetPose(0)) == Answer::Done);
+    assert!(rt; apply(&plan, &mut state, press, Call::Yield(0)) == Answer::Done);
+    assert!(rt; apply(&plan, &mut state, loader, Call::Give(0)) == Answer::Done);
+    assert!(rt; apply(&plan, &mut state, press, Call::Take(0)) == Answer::Done);
+    assert!(rt; !state.is_full(0) && state.is_full(1));
+}

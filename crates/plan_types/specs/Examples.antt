@@ -1,0 +1,79 @@
+-- Two plants, written out: two machines at a press, and a lift between two floors.
+use Rattle.std.specs.Prelude.{◌≡◌, ℕ, Bool, true, false, List, [], ◌∷◌, ◌++◌, replicate, Option, Some, None}
+use Rattle.plan_types.specs.declared.posture.Posture.{Posture}
+use Rattle.plan_types.specs.declared.posture.Posture.TheVariants.{Closed, Moving, OpenIn, OpenOut}
+use Rattle.plan_types.specs.declared.table.Way.{Way}
+use Rattle.plan_types.specs.declared.table.PlanZone.{PlanZone}
+use Rattle.plan_types.specs.declared.table.PlanPose.{PlanPose}
+use Rattle.plan_types.specs.declared.fault.PlanFault.TheVariants.{TooManyMachines, NoSuchKeeper, NoSuchHost}
+use Rattle.plan_types.specs.declared.fault.PlanFault.TheVariants.{NoSuchGuest, HostIsGuest, InwardAstray}
+use Rattle.plan_types.specs.declared.fault.PlanFault.TheVariants.{OutwardAstray, NoSuchMachine, ForeignZone}
+use Rattle.plan_types.specs.Table.{PlanTable, plan_table}
+use Rattle.plan_types.specs.Plan.{IsPlan}
+use Rattle.plan_types.specs.Faults.{plan_fault}
+
+abbrev pub way : ℕ → ℕ → Option Way
+way from to = Some (record { from = from; to = to })
+
+abbrev pub zone : ℕ → ℕ → Option Way → Option Way → PlanZone
+zone host guest inward outward = record { host = host; guest = guest; inward = inward; outward = outward }
+
+-- a pose that gives a posture to the first zone, and to the second
+abbrev pub pose : ℕ → Bool → Option Posture → Option Posture → PlanPose
+pose machine after_moving first second = record {
+  machine = machine;
+  after_moving = after_moving;
+  gives = first ∷ second ∷ replicate 8 None;
+}
+
+-- machine 0 loads and unloads the press, machine 1; places: 0 the loader's, 1 the press's
+-- poses: 0 open for loading, 1 open for unloading, 2 closed, 3 travelling
+abbrev pub press_zone : PlanZone
+press_zone = zone 1 0 (way 0 1) (way 1 0)
+
+abbrev pub press_poses : List PlanPose
+press_poses =
+    pose 1 true (Some OpenIn) None ∷ pose 1 true (Some OpenOut) None ∷ pose 1 true (Some Closed) None
+    ∷ pose 1 false (Some Moving) None ∷ []
+
+abbrev pub press_table : PlanTable
+press_table = plan_table 2 (press_zone ∷ []) press_poses (0 ∷ 1 ∷ [])
+
+-- machine 0 is the lift, 1 the lower floor, 2 the upper one; places: each machine's own
+-- poses: 0 travelling, 1 loading below, 2 unloading above, 3 unloading below, 4 loading above
+abbrev pub lift_zones : List PlanZone
+lift_zones = zone 0 1 (way 1 0) (way 0 1) ∷ zone 0 2 (way 2 0) (way 0 2) ∷ []
+
+abbrev pub lift_poses : List PlanPose
+lift_poses =
+    pose 0 false (Some Moving) (Some Moving) ∷ pose 0 true (Some OpenIn) (Some Closed)
+    ∷ pose 0 true (Some Closed) (Some OpenOut) ∷ pose 0 true (Some OpenOut) (Some Closed)
+    ∷ pose 0 true (Some Closed) (Some OpenIn) ∷ []
+
+abbrev pub lift_table : PlanTable
+lift_table = plan_table 3 lift_zones lift_poses (0 ∷ 1 ∷ 2 ∷ [])
+
+-- both are plans
+pub record ExamplesArePlans : Type 0 where
+  pub press : IsPlan press_table
+  pub lift : IsPlan lift_table
+
+abbrev pub two_at : PlanZone → List PlanPose → PlanTable
+two_at row poses = plan_table 2 (row ∷ []) poses (0 ∷ 1 ∷ [])
+
+-- tables with faults, and the first fault of each
+pub record FirstFaults : Type 0 where
+  pub machines : plan_fault (plan_table 16 (zone 1 1 None None ∷ []) [] []) ≡ Some TooManyMachines
+  pub keeper : plan_fault (plan_table 2 (zone 1 1 None None ∷ []) [] (0 ∷ 2 ∷ [])) ≡ Some (NoSuchKeeper 1)
+  pub host : plan_fault (two_at (zone 2 2 None None) []) ≡ Some (NoSuchHost 0)
+  pub guest : plan_fault (two_at (zone 1 2 None None) []) ≡ Some (NoSuchGuest 0)
+  pub same : plan_fault (two_at (zone 1 1 (way 0 1) None) (pose 2 false None None ∷ [])) ≡ Some (HostIsGuest 0)
+  pub second : plan_fault (plan_table 2 (press_zone ∷ zone 0 0 None None ∷ []) press_poses (0 ∷ 1 ∷ []))
+      ≡ Some (HostIsGuest 1)
+  pub inward : plan_fault (two_at (zone 1 0 (way 1 0) (way 0 1)) []) ≡ Some (InwardAstray 0)
+  pub nowhere : plan_fault (two_at (zone 1 0 (way 0 2) None) []) ≡ Some (InwardAstray 0)
+  pub outward : plan_fault (two_at (zone 1 0 (way 0 1) (way 0 1)) []) ≡ Some (OutwardAstray 0)
+  pub machine : plan_fault (two_at press_zone (pose 2 false (Some Moving) None ∷ [])) ≡ Some (NoSuchMachine 0)
+  pub foreign : plan_fault (two_at press_zone (press_poses ++ pose 0 false (Some Moving) None ∷ []))
+      ≡ Some (ForeignZone 4 0)
+  pub beyond : plan_fault (two_at press_zone (pose 1 false (Some Moving) (Some Moving) ∷ [])) ≡ Some (ForeignZone 0 1)

@@ -1,0 +1,6 @@
+pub mod Below
+pub mod Same
+pub mod Table
+pub mod Faults
+pub mod Plan
+pub mod Examples

@@ -1,0 +1,103 @@
+-- The tables of a plan, and what they say of a zone, a pose or a place by its number.
+use Rattle.std.specs.Prelude.{ℕ, Bool, false, ◌&&◌, ◌||◌, nat_eq, nat_lt, List, length, get_or, replicate}
+use Rattle.std.specs.Prelude.{Option, Some, None, option_map}
+use Rattle.std.specs.Option.{option_eq}
+use Rattle.std.specs.List.{list_any}
+use Rattle.plan_types.specs.declared.posture.Posture.{Posture}
+use Rattle.plan_types.specs.declared.posture.Posture.TheVariants.{Closed, Moving, OpenIn, OpenOut}
+use Rattle.plan_types.specs.declared.table.Way.{Way}
+use Rattle.plan_types.specs.declared.table.PlanZone.{PlanZone}
+use Rattle.plan_types.specs.declared.table.PlanPose.{PlanPose}
+use Rattle.plan_types.specs.declared.table.Transfer.{Transfer}
+use Rattle.plan_types.specs.Same.{same_posture}
+
+-- how many machines there are, the zones, the poses, and the machine that keeps each place
+pub record PlanTable : Type 0 where
+  pub machines : ℕ
+  pub zones : List PlanZone
+  pub poses : List PlanPose
+  pub places : List ℕ
+
+abbrev pub plan_table : ℕ → List PlanZone → List PlanPose → List ℕ → PlanTable
+plan_table machines zones poses places = record {
+  machines = machines;
+  zones = zones;
+  poses = poses;
+  places = places;
+}
+
+-- the watch's number
+abbrev pub watch : ℕ
+watch = 15
+
+abbrev pub zone_count : PlanTable → ℕ
+zone_count t = length t.zones
+
+abbrev pub pose_count : PlanTable → ℕ
+pose_count t = length t.poses
+
+abbrev pub place_count : PlanTable → ℕ
+place_count t = length t.places
+
+-- the rows; past the end of a table stands a row that says nothing
+abbrev pub no_zone : PlanZone
+no_zone = record { host = 0; guest = 0; inward = None; outward = None }
+
+abbrev pub no_pose : PlanPose
+no_pose = record { machine = 0; after_moving = false; gives = replicate 10 None }
+
+abbrev pub zone_row : PlanTable → ℕ → PlanZone
+zone_row t z = get_or t.zones z no_zone
+
+abbrev pub pose_row : PlanTable → ℕ → PlanPose
+pose_row t p = get_or t.poses p no_pose
+
+abbrev pub keeper_of : PlanTable → ℕ → ℕ
+keeper_of t p = get_or t.places p 0
+
+abbrev pub host_of : PlanTable → ℕ → ℕ
+host_of t z = (zone_row t z).host
+
+abbrev pub guest_of : PlanTable → ℕ → ℕ
+guest_of t z = (zone_row t z).guest
+
+-- the machine that has a pose, and the posture that the pose gives a zone
+abbrev pub machine_of : PlanTable → ℕ → ℕ
+machine_of t p = (pose_row t p).machine
+
+abbrev pub posture_of : PlanTable → ℕ → ℕ → Option Posture
+posture_of t p z = get_or (pose_row t p).gives z None
+
+-- a machine hosts a zone of the plan
+abbrev pub is_hosted : PlanTable → ℕ → ℕ → Bool
+is_hosted t z m = nat_lt z (zone_count t) && nat_eq (host_of t z) m
+
+-- a machine is a zone's host or guest
+abbrev pub is_party : PlanTable → ℕ → ℕ → Bool
+is_party t m z = nat_lt z (zone_count t) && (nat_eq m (host_of t z) || nat_eq m (guest_of t z))
+
+-- a machine keeps a place of the plan
+abbrev pub is_place_of : PlanTable → ℕ → ℕ → Bool
+is_place_of t p m = nat_lt p (place_count t) && nat_eq (keeper_of t p) m
+
+-- a machine has a pose of the plan
+abbrev pub has_pose : PlanTable → ℕ → ℕ → Bool
+has_pose t m p = nat_lt p (pose_count t) && nat_eq (machine_of t p) m
+
+-- a pose moves if it gives a zone Moving
+abbrev pub is_moving : Option Posture → Bool
+is_moving q = option_eq same_posture q (Some Moving)
+
+abbrev pub is_moving_pose : PlanTable → ℕ → Bool
+is_moving_pose t p = list_any is_moving (pose_row t p).gives
+
+-- how a plate goes through a zone in a posture: inward from the guest to the host, outward from the host to the guest
+abbrev pub transfer_by : ℕ → ℕ → Option Way → Option Transfer
+transfer_by giver receiver way =
+    option_map (λ w. record { giver = giver; receiver = receiver; from = w.from; to = w.to }) way
+
+abbrev pub transfer_of : PlanTable → ℕ → Posture → Option Transfer
+transfer_of t z Closed = None
+transfer_of t z Moving = None
+transfer_of t z OpenIn = transfer_by (guest_of t z) (host_of t z) (zone_row t z).inward
+transfer_of t z OpenOut = transfer_by (host_of t z) (guest_of t z) (zone_row t z).outward

@@ -1,0 +1,183 @@
+//! The faults of a plan's tables.
+ghost use Rattle.std.specs.Prelude.{◌≡◌, ◌<◌, ◌↔◌, IsNone};
+ghost use Rattle.plan_types.specs.Below.{first_below};
+ghost use Rattle.plan_types.specs.Table as table;
+ghost use Rattle.plan_types.specs.Plan as plan;
+ghost use Rattle.plan_types.specs.Plan.{IsPlan};
+ghost use Rattle.plan_types.specs.Faults as faults;
+
+use crate::fault::PlanFault;
+use crate::table::{
+    MAX_MACHINES, MAX_PLACES, MAX_POSES, MAX_ZONES, PlanPose, PlanZone, Tables, Way,
+};
+
+const NO_ZONE: PlanZone = PlanZone {
+    host: 0,
+    guest: 0,
+    inward: None,
+    outward: None,
+};
+
+const NO_POSE: PlanPose = PlanPose {
+    machine: 0,
+    after_moving: false,
+    gives: [None; MAX_ZONES],
+};
+
+fn unless(holds: bool, fault: PlanFault) -> Option<PlanFault>
+    ensures { result ≡ faults.unless holds fault }
+{
+    (!holds).then_some(fault)
+}
+
+impl Tables {
+    /// The row of a zone, or one that says nothing.
+    pub(crate) fn zone(&self, zone: usize) -> PlanZone
+        ensures { result ≡ table.zone_row self.now zone }
+    {
+        if zone < self.zones.len() {
+            self.zones[zone]
+        } else {
+            NO_ZONE
+        }
+    }
+
+    /// The row of a pose, or one that says nothing.
+    pub(crate) fn pose(&self, pose: usize) -> PlanPose
+        ensures { result ≡ table.pose_row self.now pose }
+    {
+        if pose < self.poses.len() {
+            self.poses[pose]
+        } else {
+            NO_POSE
+        }
+    }
+
+    /// The machine that keeps a place; the first where there is no such place.
+    pub(crate) fn keeper(&self, place: usize) -> u8
+        ensures { result ≡ table.keeper_of self.now place }
+    {
+        if place < self.places.len() {
+            self.places[place]
+        } else {
+            0
+        }
+    }
+
+    /// Whether a machine hosts a zone of these.
+    pub(crate) fn is_hosted(&self, zone: usize, machine: u8) -> bool
+        ensures { result ≡ table.is_hosted self.now zone machine }
+    {
+        zone < self.zones.len() && self.zone(zone).host == machine
+    }
+
+    fn is_place_of(&self, place: u8, machine: u8) -> bool
+        ensures { result ≡ table.is_place_of self.now place machine }
+    {
+        let place = usize::from(place);
+        place < self.places.len() && self.keeper(place) == machine
+    }
+
+    fn leads(&self, giver: u8, receiver: u8, way: Option<Way>) -> bool
+        ensures { result ≡ plan.leads self.now giver receiver way }
+    {
+        match way {
+            Some(way) => self.is_place_of(way.from, giver) && self.is_place_of(way.to, receiver),
+            None => true,
+        }
+    }
+
+    fn count_fault(&self) -> Option<PlanFault>
+        ensures { result ≡ faults.count_fault self.now }
+    {
+        unless(self.machines <= MAX_MACHINES, PlanFault::TooManyMachines)
+            .or(unless(self.zones.len() <= MAX_ZONES, PlanFault::TooManyZones))
+            .or(unless(self.poses.len() <= MAX_POSES, PlanFault::TooManyPoses))
+            .or(unless(self.places.len() <= MAX_PLACES, PlanFault::TooManyPlaces))
+    }
+
+    #[tactic(auto, using(crate::proofs::Below::first_below_more))]
+    fn keepers_fault(&self) -> Option<PlanFault>
+        ensures { result ≡ first_below (faults.keeper_fault self.now) (table.place_count self.now) }
+    {
+        let mut first = None;
+        for place in 0..self.places.len() {
+            let known = self.keeper(place) < self.machines;
+            first = first.or(unless(known, PlanFault::NoSuchKeeper { place }));
+        }
+        first
+    }
+
+    fn zone_fault(&self, zone: usize) -> Option<PlanFault>
+        ensures { result ≡ faults.zone_fault self.now zone }
+    {
+        let row = self.zone(zone);
+        let inward = self.leads(row.guest, row.host, row.inward);
+        let outward = self.leads(row.host, row.guest, row.outward);
+        unless(row.host < self.machines, PlanFault::NoSuchHost { zone })
+            .or(unless(row.guest < self.machines, PlanFault::NoSuchGuest { zone }))
+            .or(unless(row.host != row.guest, PlanFault::HostIsGuest { zone }))
+            .or(unless(inward, PlanFault::InwardAstray { zone }))
+            .or(unless(outward, PlanFault::OutwardAstray { zone }))
+    }
+
+    #[tactic(auto, using(crate::proofs::Below::first_below_more))]
+    fn zones_fault(&self) -> Option<PlanFault>
+        ensures { result ≡ first_below (faults.zone_fault self.now) (table.zone_count self.now) }
+    {
+        let mut first = None;
+        for zone in 0..self.zones.len() {
+            first = first.or(self.zone_fault(zone));
+        }
+        first
+    }
+
+    fn foreign_fault(&self, pose: usize, zone: usize) -> Option<PlanFault>
+        requires { zone < 10 }
+        ensures { result ≡ faults.foreign_fault self.now pose zone }
+    {
+        let row = self.pose(pose);
+        let foreign = row.gives[zone].is_some() && !self.is_hosted(zone, row.machine);
+        foreign.then_some(PlanFault::ForeignZone { pose, zone })
+    }
+
+    #[tactic(auto, using(crate::proofs::Below::first_below_more))]
+    fn foreign_zone_fault(&self, pose: usize) -> Option<PlanFault>
+        ensures { result ≡ first_below (faults.foreign_fault self.now pose) 10 }
+    {
+        let mut first = None;
+        for zone in 0..MAX_ZONES {
+            first = first.or(self.foreign_fault(pose, zone));
+        }
+        first
+    }
+
+    fn pose_fault(&self, pose: usize) -> Option<PlanFault>
+        ensures { result ≡ faults.pose_fault self.now pose }
+    {
+        let known = self.pose(pose).machine < self.machines;
+        unless(known, PlanFault::NoSuchMachine { pose }).or(self.foreign_zone_fault(pose))
+    }
+
+    #[tactic(auto, using(crate::proofs::Below::first_below_more))]
+    fn poses_fault(&self) -> Option<PlanFault>
+        ensures { result ≡ first_below (faults.pose_fault self.now) (table.pose_count self.now) }
+    {
+        let mut first = None;
+        for pose in 0..self.poses.len() {
+            first = first.or(self.pose_fault(pose));
+        }
+        first
+    }
+
+    /// The first fault of the tables, or `None` if they are a plan.
+    pub fn fault(&self) -> Option<PlanFault>
+        ensures first { result ≡ faults.plan_fault self.now }
+        ensures none { IsNone result ↔ IsPlan self.now }
+    {
+        self.count_fault()
+            .or(self.keepers_fault())
+            .or(self.zones_fault())
+            .or(self.poses_fault())
+    }
+}

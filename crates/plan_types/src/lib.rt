@@ -1,0 +1,22 @@
+//! Plans of plants: which machines share which zones, the poses of the machines, and the ways of plates. A plan is
+//! checked once, by `Plan::new`, and is then a value that the interlock of any plant answers by.
+#![tactic(auto)]
+
+pub mod answer;
+pub mod call;
+mod check;
+pub mod examples;
+pub mod fault;
+pub mod plan;
+pub mod posture;
+pub mod table;
+
+pub use answer::{Answer, Event, Refusal};
+pub use call::Call;
+pub use fault::PlanFault;
+pub use plan::Plan;
+pub use posture::Posture;
+pub use table::{
+    MAX_MACHINES, MAX_PLACES, MAX_POSES, MAX_ZONES, PlanPose, PlanZone, Tables, Transfer, WATCH,
+    Way,
+};

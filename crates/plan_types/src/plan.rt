@@ -1,0 +1,141 @@
+//! A plan: tables that were checked.
+ghost use Rattle.std.specs.Prelude.{◌≡◌, ◌≤◌, ◌↔◌, Some, IsOk, IfOk, IfErr};
+ghost use Rattle.plan_types.specs.Table as table;
+ghost use Rattle.plan_types.specs.Plan.{IsPlan};
+ghost use Rattle.plan_types.specs.Faults.{plan_fault};
+
+use crate::fault::PlanFault;
+use crate::posture::Posture;
+use crate::table::{MAX_ZONES, PlanPose, PlanZone, Tables, Transfer, Way};
+use std::marker::Model;
+
+/// A plan of a plant. Each plan is one that [`Plan::new`] has accepted.
+#[derive(Debug, Drop)]
+pub struct Plan {
+    tables: Tables,
+}
+
+impl Model for Plan {
+    ghost use Rattle.plan_types.specs.Table.{PlanTable};
+    ghost use Rattle.plan_types.specs.Plan.{IsPlan};
+
+    ghost Value = { PlanTable };
+
+    ghost view = { λ a. a.tables };
+
+    ghost invariant = { λ a. IsPlan a.tables };
+}
+
+impl Plan {
+    /// The plan of these tables, or their first fault if they are none.
+    pub fn new(tables: Tables) -> Result<Plan, PlanFault>
+        ensures ok { IsOk result ↔ IsPlan tables }
+        ensures plan { IfOk result (λ plan. plan ≡ tables) }
+        ensures fault { IfErr result (λ fault. plan_fault tables ≡ Some fault) }
+    {
+        match tables.fault() {
+            Some(fault) => Err(fault),
+            None => Ok(Plan { tables }),
+        }
+    }
+
+    /// How many machines there are.
+    pub fn machines(&self) -> u8
+        ensures machines { result ≡ self.now.machines }
+        ensures few { result ≤ 15 }
+        ensures plan { IsPlan self.now }
+    {
+        self.tables.machines
+    }
+
+    /// How many zones there are.
+    pub fn zone_count(&self) -> u8
+        ensures count { result ≡ table.zone_count self.now }
+        ensures few { result ≤ 10 }
+    {
+        self.tables.zones.len() as u8
+    }
+
+    /// How many places there are.
+    pub fn place_count(&self) -> u8
+        ensures count { result ≡ table.place_count self.now }
+        ensures few { result ≤ 16 }
+    {
+        self.tables.places.len() as u8
+    }
+
+    /// The row of a zone, or one that says nothing if there is no such zone.
+    pub fn zone(&self, zone: u8) -> PlanZone
+        ensures { result ≡ table.zone_row self.now zone }
+    {
+        self.tables.zone(usize::from(zone))
+    }
+
+    /// The row of a pose, or one that says nothing if there is no such pose.
+    pub fn pose(&self, pose: u8) -> PlanPose
+        ensures { result ≡ table.pose_row self.now pose }
+    {
+        self.tables.pose(usize::from(pose))
+    }
+
+    /// Whether a machine is the host or the guest of a zone of the plan.
+    pub fn is_party(&self, machine: u8, zone: u8) -> bool
+        ensures { result ≡ table.is_party self.now machine zone }
+    {
+        let row = self.zone(zone);
+        zone < self.zone_count() && (machine == row.host || machine == row.guest)
+    }
+
+    /// Whether a machine has a pose of the plan.
+    pub fn has_pose(&self, machine: u8, pose: u8) -> bool
+        ensures { result ≡ table.has_pose self.now machine pose }
+    {
+        usize::from(pose) < self.tables.poses.len() && self.pose(pose).machine == machine
+    }
+
+    /// The posture that a pose gives a zone, if it gives it one.
+    pub fn posture_of(&self, pose: u8, zone: u8) -> Option<Posture>
+        ensures { result ≡ table.posture_of self.now pose zone }
+    {
+        let gives = self.pose(pose).gives;
+        if usize::from(zone) < MAX_ZONES {
+            gives[usize::from(zone)]
+        } else {
+            None
+        }
+    }
+
+    /// Whether a pose moves: it gives some zone the posture `Moving`.
+    pub fn is_moving_pose(&self, pose: u8) -> bool
+        ensures { result ≡ table.is_moving_pose self.now pose }
+    {
+        self.pose(pose)
+            .gives
+            .iter()
+            .any(|posture| *posture == Some(Posture::Moving))
+    }
+
+    /// How a plate goes through a zone in a posture, if one goes.
+    pub fn transfer(&self, zone: u8, posture: Posture) -> Option<Transfer>
+        ensures { result ≡ table.transfer_of self.now zone posture }
+    {
+        let row = self.zone(zone);
+        match posture {
+            Posture::Closed | Posture::Moving => None,
+            Posture::OpenIn => transfer_by(row.guest, row.host, row.inward),
+            Posture::OpenOut => transfer_by(row.host, row.guest, row.outward),
+        }
+    }
+}
+
+fn transfer_by(giver: u8, receiver: u8, way: Option<Way>) -> Option<Transfer>
+    ensures { result ≡ table.transfer_by giver receiver way }
+{
+    let Way { from, to } = way?;
+    Some(Transfer {
+        giver,
+        receiver,
+        from,
+        to,
+    })
+}

@@ -1,0 +1,56 @@
+-- The layout of a plan's word: the zones, the places, the stamp and the stop, from the lowest bit up.
+use Rattle.std.specs.Prelude.{◌≡◌, ◌≢◌, ℕ, ◌+◌, ◌*◌, ◌≤◌, Bool, true, nat_lt, ◌⊎◌, IsTrue}
+use Rattle.plan_types.specs.Table.{PlanTable, zone_count, place_count}
+use Rattle.plan_types.specs.Examples.{press_table, lift_table}
+use Rattle.plan_word.specs.declared.layout.Field.{Field}
+use Rattle.plan_word.specs.declared.layout.Field.TheVariants.{Zone, Place, Stamp, Stop}
+
+-- how many zones and places a plan has
+pub record Counts : Type 0 where
+  pub zones : ℕ
+  pub places : ℕ
+
+abbrev pub counts_of : PlanTable → Counts
+counts_of t = record { zones = zone_count t; places = place_count t }
+
+-- a zone has five bits (owner two, flag one, posture two), a place one, the stamp twenty, the stop one
+abbrev pub bits_of : Field → ℕ
+bits_of (Zone z) = 5
+bits_of (Place p) = 1
+bits_of Stamp = 20
+bits_of Stop = 1
+
+abbrev pub has : Counts → Field → Bool
+has c (Zone z) = nat_lt z c.zones
+has c (Place p) = nat_lt p c.places
+has c Stamp = true
+has c Stop = true
+
+-- the lowest bit of a field
+abbrev pub start_of : Counts → Field → ℕ
+start_of c (Zone z) = 5 * z
+start_of c (Place p) = 5 * c.zones + p
+start_of c Stamp = 5 * c.zones + c.places
+start_of c Stop = 5 * c.zones + c.places + 20
+
+abbrev pub end_of : Counts → Field → ℕ
+end_of c f = start_of c f + bits_of f
+
+abbrev pub width_of : Counts → ℕ
+width_of c = 5 * c.zones + c.places + 21
+
+pub record FieldsAreApart : Type 0 where
+  pub apart : (c : Counts) (f g : Field) → IsTrue (has c f) → IsTrue (has c g) → f ≢ g
+      → (end_of c f ≤ start_of c g) ⊎ (end_of c g ≤ start_of c f)
+  pub within : (c : Counts) (f : Field) → IsTrue (has c f) → end_of c f ≤ width_of c
+
+-- words whose fields were laid out by hand
+pub record ExamplesFit : Type 0 where
+  pub press : width_of (counts_of press_table) ≡ 28
+  pub press_places : start_of (counts_of press_table) (Place 1) ≡ 6
+  pub press_stamp : start_of (counts_of press_table) Stamp ≡ 7
+  pub press_stop : start_of (counts_of press_table) Stop ≡ 27
+  pub lift : width_of (counts_of lift_table) ≡ 34
+  pub lift_zone : start_of (counts_of lift_table) (Zone 1) ≡ 5
+  pub widest : width_of (record { zones = 8; places = 3 }) ≡ 64
+  pub too_wide : width_of (record { zones = 10; places = 0 }) ≡ 64 + 7

@@ -1,0 +1,114 @@
+//! The layout of a plan's word. Each field lies above the one before it: the zones, the places, the stamp, the stop.
+ghost use Rattle.std.specs.Prelude.{◌≡◌, ◌+◌, ◌≤◌, ◌↔◌, Some, IsOk, IfOk, IfErr, IsSome, IfSome, true};
+ghost use Rattle.plan_types.specs.Table as table;
+ghost use Rattle.plan_word.specs.Layout as layouts;
+
+use plan_types::Plan;
+use std::marker::Model;
+
+/// A part of a state, which has a field of the word.
+#[derive(Clone, Copy, Debug, PartialEq, Eq)]
+pub enum Field {
+    /// Owner, flag and posture of a zone.
+    Zone(u8),
+    /// Whether a place is full.
+    Place(u8),
+    /// The stamp.
+    Stamp,
+    /// Whether the plant is stopped.
+    Stop,
+}
+
+/// The word of a plan has more than 64 bits.
+#[derive(Clone, Copy, Debug, PartialEq, Eq)]
+pub struct TooWide {
+    /// How many bits are missing.
+    pub missing: u8,
+}
+
+/// Where each field of a plan's word lies.
+#[derive(Clone, Copy, Debug, PartialEq, Eq)]
+pub struct Layout {
+    zones: u8,
+    places: u8,
+}
+
+impl Model for Layout {
+    ghost use Rattle.std.specs.Prelude.{◌≤◌};
+    ghost use Rattle.plan_word.specs.Layout.{Counts, width_of};
+
+    ghost Value = { Counts };
+
+    ghost view = { λ a. record { zones = a.zones; places = a.places } };
+
+    ghost invariant = { λ a. width_of (record { zones = a.zones; places = a.places }) ≤ 64 };
+
+    ghost inverse = { λ c. record { zones = c.zones; places = c.places } };
+}
+
+impl Layout {
+    /// The layout of a plan's word, or how many bits are missing.
+    pub fn of(plan: &Plan) -> Result<Layout, TooWide>
+        ensures ok { IsOk result ↔ (layouts.width_of (layouts.counts_of plan.now) ≤ 64) }
+        ensures layout { IfOk result (λ layout. layout ≡ layouts.counts_of plan.now) }
+        ensures missing { IfErr result (λ fault.
+            layouts.width_of (layouts.counts_of plan.now) ≡ 64 + fault.missing) }
+    {
+        let zones = plan.zone_count();
+        let places = plan.place_count();
+        let width = 5 * zones + places + 21;
+        if width <= 64 {
+            Ok(Layout { zones, places })
+        } else {
+            Err(TooWide {
+                missing: width - 64,
+            })
+        }
+    }
+
+    /// How many bits the word has: at most 64.
+    pub fn width(&self) -> u8
+        ensures width { result ≡ layouts.width_of self.now }
+        ensures fits { result ≤ 64 }
+    {
+        5 * self.zones + self.places + 21
+    }
+
+    /// Whether the word has a field.
+    pub fn has(&self, field: Field) -> bool
+        ensures { result ≡ layouts.has self.now field }
+    {
+        match field {
+            Field::Zone(zone) => zone < self.zones,
+            Field::Place(place) => place < self.places,
+            Field::Stamp | Field::Stop => true,
+        }
+    }
+
+    /// The lowest bit of a field that the word has, counted from 0.
+    pub fn start(&self, field: Field) -> Option<u8>
+        ensures some { IsSome result ↔ (layouts.has self.now field ≡ true) }
+        ensures start { IfSome result (λ bit. bit ≡ layouts.start_of self.now field) }
+    {
+        if !self.has(field) {
+            return None;
+        }
+        Some(match field {
+            Field::Zone(zone) => 5 * zone,
+            Field::Place(place) => 5 * self.zones + place,
+            Field::Stamp => 5 * self.zones + self.places,
+            Field::Stop => 5 * self.zones + self.places + 20,
+        })
+    }
+
+    /// How many bits a field has.
+    pub fn bits(field: Field) -> u8
+        ensures { result ≡ layouts.bits_of field }
+    {
+        match field {
+            Field::Zone(_) => 5,
+            Field::Stamp => 20,
+            Field::Place(_) | Field::Stop => 1,
+        }
+    }
+}
