@@ -73,7 +73,7 @@ pub const THREE_PLATES: Example = Example {
     others: "",
 };
 
-/// `examples/standstill.toml`
+/// The start of `examples/standstill.toml`, with turns in rotation.
 pub const STANDSTILL: Example = Example {
     start: "1011101010",
     schedule: &[(400, "ftrpdc")],
