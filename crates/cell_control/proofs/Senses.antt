@@ -28,7 +28,7 @@ module _ {S Sense Reading Act : Type 0} (t : Steps S Sense Reading Act) (senses 
 
   sensed_still : (same : Type 0) (asks : Call → Result Reply LineFault → Type 0) (sensed : Result Reading SensorFault) (p : S) (r : Performed S Act) → PerformsSensed t sensed same asks p r → PerformsSensed (with_senses t senses) sensed same asks p r
   sensed_still same asks (Err fault) p r h = h
-  sensed_still same asks (Ok reading) p r h = call_still same asks (t.call p) p reading r h
+  sensed_still same asks (Ok reading) p r h = call_still same asks (t.row p).call p reading r h
 
   pub turns_still : (same : Type 0) (asks : Call → Result Reply LineFault → Type 0) (stopped : Option CtlFault) (p : S) (s : Sense) (w : Turned S Act) → Turns t same asks stopped p s w → Turns (with_senses t senses) same asks stopped p s w
   turns_still same asks (Some fault) p s w h = h

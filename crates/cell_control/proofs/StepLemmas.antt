@@ -32,7 +32,7 @@ reached_first t p o seen none begins = record { renewals = zero; first = p; in_s
 
 -- a turn that asks
 pub asks_on : {S Sense Reading Act : Type 0} → (t : Steps S Sense Reading Act) (p q : S) (c : Call) (r : Result Reply LineFault) (o : ModelState) (before now : List Event)
-    → t.call p ≡ Some c → SeenAfter t.machine c r o before now → outcome t p r ≡ Ok q → GoesOn t before p now q
+    → (t.row p).call ≡ Some c → SeenAfter t.machine c r o before now → outcome t p r ≡ Ok q → GoesOn t before p now q
 asks_on t p q c (Ok (Settled a stamp)) o before now e seen l first come = reached-settles (program_of t) first p q t.machine c a before now seen.0 come e l
 asks_on t p q c (Ok (Busy lost stamp)) o before now e seen l first come =
     let same : p ≡ q = cc in
@@ -57,9 +57,9 @@ reached_carried t p o opened before now sound legal same none k = record {
 -- it is only of what the machine knows
 pub record Knowing {S Sense Reading Act : Type 0} (t : Steps S Sense Reading Act) (Knows : S → ModelState → Type 0) : Type 0 where
   pub foreign : (p : S) (z : ModelState) (n : Machine) (c : Call) → same_machine n t.machine ≡ false → IsSound z → Knows p z → Knows p (next z n c)
-  pub after_drive : (p : S) (reading : _) (act : _) (z : ModelState) → t.call p ≡ None → t.drives p reading act → Knows p z → Knows (t.after_drive p reading act) z
-  pub after_done : (p : S) (z : ModelState) (c : Call) → t.call p ≡ Some c → reply z t.machine c ≡ Done → IsSound z → Knows p z → Knows (t.after_done p) (changed z t.machine c)
-  pub after_inquiry : (p : S) (z : ModelState) (c : Call) (owner : Option Machine) (flag : Bool) (posture : Posture) → t.call p ≡ Some c → reply z t.machine c ≡ Shown owner flag posture → IsSound z → Knows p z → Knows (t.after_inquiry p owner flag posture) z
+  pub after_drive : (p : S) (reading : _) (act : _) (z : ModelState) → (t.row p).call ≡ None → t.drives p reading act → Knows p z → Knows (t.after_drive p reading act) z
+  pub after_done : (p : S) (z : ModelState) (c : Call) → (t.row p).call ≡ Some c → reply z t.machine c ≡ Done → IsSound z → Knows p z → Knows (t.row p).next (changed z t.machine c)
+  pub after_inquiry : (p : S) (z : ModelState) (c : Call) (owner : Option Machine) (flag : Bool) (posture : Posture) → (t.row p).call ≡ Some c → reply z t.machine c ≡ Shown owner flag posture → IsSound z → Knows p z → Knows (t.after_inquiry p owner flag posture) z
   pub same_for : (p : S) (z w : ModelState) → IsSameFor t.machine z w → Knows p z → Knows p w
 
 ok_same : {S : Type 0} → (b : Bool) (p q : S) (f : CtlFault) → (if b then Ok p else Err f) ≡ Ok q → p ≡ q
@@ -67,9 +67,9 @@ ok_same true p q f e = cc
 ok_same false p q f e = cc
 
 own_answer : {S Sense Reading Act : Type 0} → (t : Steps S Sense Reading Act) (Knows : S → ModelState → Type 0) → Knowing t Knows → (a : Answer) (p q : S) (z : ModelState) (c : Call)
-    → t.call p ≡ Some c → after_answer t p a ≡ Ok q → reply z t.machine c ≡ a → IsSound z → Knows p z → Knows q (next_by a z t.machine c)
+    → (t.row p).call ≡ Some c → after_answer t p a ≡ Ok q → reply z t.machine c ≡ a → IsSound z → Knows p z → Knows q (next_by a z t.machine c)
 own_answer t Knows k Done p q z c e l d sound h =
-    let same : t.after_done p ≡ q = cc in
+    let same : (t.row p).next ≡ q = cc in
     subst (λ x. Knows x (changed z t.machine c)) same (k.after_done p z c e d sound h)
 own_answer t Knows k (Refused r) p q z c e l d sound h = subst (λ x. Knows x z) (ok_same (waits_out t p r) p q (fault_of r) l) h
 own_answer t Knows k (Shown o f x) p q z c e l d sound h =

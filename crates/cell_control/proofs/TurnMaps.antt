@@ -15,7 +15,7 @@ module _ {S Sense Reading Act : Type 0} (t : Steps S Sense Reading Act) (same sa
 
   sensed_map : (sensed : Result Reading SensorFault) (p : S) (r : Performed S Act) → PerformsSensed t sensed same asks p r → PerformsSensed t sensed same' asks' p r
   sensed_map (Err fault) p r h = (f h.0, h.1)
-  sensed_map (Ok reading) p r h = call_map (t.call p) p reading r h
+  sensed_map (Ok reading) p r h = call_map (t.row p).call p reading r h
 
   pub turn_map : (stopped : Option CtlFault) (p : S) (s : Sense) (w : Turned S Act) → Turns t same asks stopped p s w → Turns t same' asks' stopped p s w
   turn_map (Some fault) p s w h = (f h.0, h.1)
@@ -29,7 +29,7 @@ module _ {S Sense Reading Act : Type 0} (t : Steps S Sense Reading Act) (same : 
 
   sensed_either : (sensed : Result Reading SensorFault) (p : S) (r : Performed S Act) → PerformsSensed t sensed same asks p r → P
   sensed_either (Err fault) p r h = f h.0
-  sensed_either (Ok reading) p r h = call_either (t.call p) p reading r h
+  sensed_either (Ok reading) p r h = call_either (t.row p).call p reading r h
 
   pub turn_either : (stopped : Option CtlFault) (p : S) (s : Sense) (w : Turned S Act) → Turns t same asks stopped p s w → P
   turn_either (Some fault) p s w h = f h.0

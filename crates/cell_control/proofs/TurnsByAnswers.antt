@@ -20,6 +20,7 @@ use Rattle.cell_control.proofs.StepLemmas.{reached_first, reached_carried}
 use Rattle.cell_control.specs.Steps.{InStepAfter, Steps, is_while_stopped, waits_out, after_answer, outcome, program_of}
 use Rattle.cell_control.specs.Turns.{Performed, PerformsCall, PerformsSensed, Turned, Turns, at_rest, turned, asked_at}
 use Rattle.cell_control.specs.TurnRows.{Says, Answered, stops_with, AnswerRows, SilentRows, HeardRows, AsksAlways, ReachedRows, TurnRows}
+use Rattle.cell_control.specs.Row.{waits_on}
 
 module _ {S Sense Reading Act : Type 0} (t : Steps S Sense Reading Act) (p : S) (s : Sense) where
   -- the outcome of a turn that asks, by what came back
@@ -29,7 +30,7 @@ module _ {S Sense Reading Act : Type 0} (t : Steps S Sense Reading Act) (p : S) 
 
   asked_sensed : (sensed : Result Reading SensorFault) (answered : Result Reply LineFault) (r : Performed S Act) → PerformsSensed t sensed ⊥ (λ call x. x ≡ answered) p r → r ≡ at_rest (t.rest p) (outcome t p answered)
   asked_sensed (Err f) answered r k = absurd k.0
-  asked_sensed (Ok reading) answered r k = asked_call (t.call p) answered reading r k
+  asked_sensed (Ok reading) answered r k = asked_call (t.row p).call answered reading r k
 
   led_by : (answered : Result Reply LineFault) (w : Turned S Act) → Answered t p s answered w → w ≡ turned p (at_rest (t.rest p) (outcome t p answered))
   led_by answered w k = k.2 ∙ ap (turned p) (asked_sensed k.1.sensed answered k.0 k.1.performs)
@@ -42,7 +43,7 @@ module _ {S Sense Reading Act : Type 0} (t : Steps S Sense Reading Act) (p : S) 
     done = λ stamp k. led_by _ w k;
     shown = λ owner flag posture stamp k. led_by _ w k;
     waits = λ r stamp e k. refused_by true r stamp w (ap (λ x. x || is_while_stopped r) e) k;
-    while_stopped = λ stamp k. refused_by true _ stamp w (or-true (t.stays_on p Stopped)) k;
+    while_stopped = λ stamp k. refused_by true _ stamp w (or-true (waits_on (t.row p).waits Stopped)) k;
     busy = λ lost stamp k. led_by _ w k;
     not_party = λ stamp e k. refused_by false _ stamp w (ap (λ x. x || false) e) k;
     held = λ m stamp e k. refused_by false _ stamp w (ap (λ x. x || false) e) k;
@@ -66,26 +67,26 @@ module _ {S Sense Reading Act : Type 0} (t : Steps S Sense Reading Act) (p : S) 
   by_sensors : (same : Type 0) (asks : Call → Result Reply LineFault → Type 0) (sensed said : Result Reading SensorFault) (r : Performed S Act) → sensed ≡ said → PerformsSensed t sensed same asks p r → PerformsSensed t said same asks p r
   by_sensors same asks sensed said r e k = subst (λ x. PerformsSensed t x same asks p r) e k
 
-  by_call : (same : Type 0) (asks : Call → Result Reply LineFault → Type 0) (o : Option Call) (reading : Reading) (r : Performed S Act) → t.call p ≡ o → PerformsCall t (t.call p) same asks p reading r → PerformsCall t o same asks p reading r
+  by_call : (same : Type 0) (asks : Call → Result Reply LineFault → Type 0) (o : Option Call) (reading : Reading) (r : Performed S Act) → (t.row p).call ≡ o → PerformsCall t (t.row p).call same asks p reading r → PerformsCall t o same asks p reading r
   by_call same asks o reading r e k = subst (λ x. PerformsCall t x same asks p reading r) e k
 
   -- a step that asks nothing leaves the line as it is, for anything that its sensors say
-  no_call : (asks : Call → Result Reply LineFault → Type 0) (sensed : Result Reading SensorFault) (r : Performed S Act) → t.call p ≡ None → PerformsSensed t sensed ⊥ asks p r → ⊥
+  no_call : (asks : Call → Result Reply LineFault → Type 0) (sensed : Result Reading SensorFault) (r : Performed S Act) → (t.row p).call ≡ None → PerformsSensed t sensed ⊥ asks p r → ⊥
   no_call asks (Err f) r e k = k.0
   no_call asks (Ok reading) r e k = (by_call ⊥ asks None reading r e k).0
 
-  own_call : (sensed : Result Reading SensorFault) (call other : Call) (r : Performed S Act) → t.call p ≡ Some call → PerformsSensed t sensed ⊥ (λ x y. x ≡ other) p r → other ≡ call
+  own_call : (sensed : Result Reading SensorFault) (call other : Call) (r : Performed S Act) → (t.row p).call ≡ Some call → PerformsSensed t sensed ⊥ (λ x y. x ≡ other) p r → other ≡ call
   own_call (Err f) call other r e k = absurd k.0
   own_call (Ok reading) call other r e k = sym (by_call ⊥ (λ x y. x ≡ other) (Some call) reading r e k).1
 
   -- a turn of a controller that runs, over any line: what it asks, or that the line stays, and the next step
-  pub asked_own : (same : Type 0) (asks : Call → Result Reply LineFault → Type 0) (reading : Reading) (call : Call) (w : Turned S Act) → t.call p ≡ Some call → Says t s (Ok reading) → Turns t same asks None p s w
+  pub asked_own : (same : Type 0) (asks : Call → Result Reply LineFault → Type 0) (reading : Reading) (call : Call) (w : Turned S Act) → (t.row p).call ≡ Some call → Says t s (Ok reading) → Turns t same asks None p s w
       → (r : Result Reply LineFault) × asks call r × (w ≡ turned p (at_rest (t.rest p) (outcome t p r)))
   asked_own same asks reading call w own says k =
       let led = by_call same asks (Some call) reading k.0 own (by_sensors same asks k.1.sensed (Ok reading) k.0 (says k.1.sensed k.1.senses) k.1.performs) in
       (led.0, led.1, k.2 ∙ ap (turned p) led.2)
 
-  pub drive_own : (same : Type 0) (asks : Call → Result Reply LineFault → Type 0) (reading : Reading) (act : Act) (w : Turned S Act) → t.call p ≡ None → Says t s (Ok reading) → ((other : Act) → t.drives p reading other → other ≡ act)
+  pub drive_own : (same : Type 0) (asks : Call → Result Reply LineFault → Type 0) (reading : Reading) (act : Act) (w : Turned S Act) → (t.row p).call ≡ None → Says t s (Ok reading) → ((other : Act) → t.drives p reading other → other ≡ act)
       → Turns t same asks None p s w → same × (w ≡ turned p (Ok (t.after_drive p reading act, act)))
   drive_own same asks reading act w none says only k =
       let led = by_call same asks None reading k.0 none (by_sensors same asks k.1.sensed (Ok reading) k.0 (says k.1.sensed k.1.senses) k.1.performs) in
@@ -108,7 +109,7 @@ module _ {S Sense Reading Act : Type 0} (t : Steps S Sense Reading Act) (p : S) 
     asks_its_call = λ call other own k. own_call k.1.sensed call other k.0 own k.1.performs;
   }
 
-  hears_none : (sensed : Result Reading SensorFault) (before now : Heard) → t.call p ≡ None → Hears (asked_at t sensed p) before now → now ≡ before
+  hears_none : (sensed : Result Reading SensorFault) (before now : Heard) → (t.row p).call ≡ None → Hears (asked_at t sensed p) before now → now ≡ before
   hears_none (Err f) before now e k = k
   hears_none (Ok reading) before now e k = subst (λ o. Hears o before now) e k
 
@@ -124,8 +125,8 @@ module _ {S Sense Reading Act : Type 0} (t : Steps S Sense Reading Act) (p : S) 
   no_moves : AsksAlways t → (n : ℕ) (q r : S) → MovesIn (program_of t) n q r → q ≡ r
   no_moves always zero q r k = k
   no_moves always (suc n) q r k =
-      let asks : t.call q ≡ Some (always q).0 = (always q).1 in
-      let asks_nothing : t.call q ≡ None = k.1.asks_nothing in
+      let asks : (t.row q).call ≡ Some (always q).0 = (always q).1 in
+      let asks_nothing : (t.row q).call ≡ None = k.1.asks_nothing in
       cc
 
   reached : (opening : ModelState) (seen : List Event) → ReachedRows t p opening seen
@@ -138,7 +139,7 @@ module _ {S Sense Reading Act : Type 0} (t : Steps S Sense Reading Act) (p : S) 
         let led = subst (λ h. Reached (program_of t) k.first h p) one k.come in
         let first = no_moves always led.2.0 k.first led.0 led.2.1 in
         let last = no_moves always led.5.0 led.1 p led.5.1 in
-        (k.first, (k.renewals, k.in_step), ap t.call first ∙ led.3, ap (λ x. after_answer t x e.answer) first ∙ led.4 ∙ ap (λ x. Ok x) last);
+        (k.first, (k.renewals, k.in_step), ap (λ x. (t.row x).call) first ∙ led.3, ap (λ x. after_answer t x e.answer) first ∙ led.4 ∙ ap (λ x. Ok x) last);
     carried_over = λ opened sound legal same k. reached_carried t p opening opened seen [] sound legal same refl k;
   }
 

@@ -1,3 +1,4 @@
+pub mod Controllers
 pub mod Demands
 pub mod Faults
 pub mod Rigs
@@ -7,3 +8,4 @@ pub mod Steps
 pub mod TurnRows
 pub mod Turns
 pub mod WaitRows
+pub mod Wiring

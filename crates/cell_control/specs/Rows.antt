@@ -9,6 +9,7 @@ use Rattle.cell_types.specs.declared.answer.Refusal.{Refusal}
 use Rattle.cell_types.specs.declared.answer.Refusal.TheVariants.{Held, NotOwner, PlaceFull, Shut, Stopped}
 use Rattle.cell_calib.specs.declared.sense.SensorFault.{SensorFault}
 use Rattle.cell_control.specs.Steps.{Steps, waits_out}
+use Rattle.cell_control.specs.Row.{waits_on}
 
 -- what a step may wait for: each is a refusal on which it stays
 pub data Wait : Type 0 where
@@ -37,19 +38,19 @@ stays_by ws r = is_among ws r || is_waited_out UntilResumed r
 -- a step asks this call, stays on exactly these refusals and in a stopped cell, and leads to `next` when the call is
 -- done
 pub record AskRow {S Sense Reading Act : Type 0} (t : Steps S Sense Reading Act) (p : S) (call : Call) (waits : List Wait) (next : S) : Type 0 where
-  pub asks : t.call p ≡ Some call
+  pub asks : (t.row p).call ≡ Some call
   pub stays : (r : Refusal) → waits_out t p r ≡ stays_by waits r
-  pub leads : t.after_done p ≡ next
+  pub leads : (t.row p).next ≡ next
 
 -- a step inquires a zone, stays only in a stopped cell, and leads on by the zone's owner, flag and posture
 pub record InquiryRow {S Sense Reading Act : Type 0} (t : Steps S Sense Reading Act) (p : S) (zone : Zone) (next : Option Machine → Bool → Posture → S) : Type 0 where
-  pub asks : t.call p ≡ Some (Inquire zone)
+  pub asks : (t.row p).call ≡ Some (Inquire zone)
   pub stays : (r : Refusal) → waits_out t p r ≡ stays_by [] r
   pub leads : (owner : Option Machine) (flag : Bool) (posture : Posture) → t.after_inquiry p owner flag posture ≡ next owner flag posture
 
 -- a step asks nothing; by this reading it sets the actuators to `act` and nothing else, and leads to `next`
 pub record DriveRow {S Sense Reading Act : Type 0} (t : Steps S Sense Reading Act) (p : S) (reading : Reading) (act : Act) (next : S) : Type 0 where
-  pub asks_nothing : t.call p ≡ None
+  pub asks_nothing : (t.row p).call ≡ None
   pub drives : t.drives p reading act
   pub drives_only : (other : Act) → t.drives p reading other → other ≡ act
   pub leads : t.after_drive p reading act ≡ next
@@ -65,6 +66,6 @@ is_inquiry (Some (Inquire _)) = true
 is_inquiry _ = false
 
 pub record NoOtherAnswers {S Sense Reading Act : Type 0} (t : Steps S Sense Reading Act) : Type 0 where
-  pub not_done : (p : S) → is_inquiry (t.call p) ≡ true → t.after_done p ≡ p
-  pub not_shown : (p : S) (owner : Option Machine) (flag : Bool) (posture : Posture) → is_inquiry (t.call p) ≡ false → t.after_inquiry p owner flag posture ≡ p
-  pub not_refused : (p : S) (r : Refusal) → t.call p ≡ None → t.stays_on p r ≡ false
+  pub not_done : (p : S) → is_inquiry (t.row p).call ≡ true → (t.row p).next ≡ p
+  pub not_shown : (p : S) (owner : Option Machine) (flag : Bool) (posture : Posture) → is_inquiry (t.row p).call ≡ false → t.after_inquiry p owner flag posture ≡ p
+  pub not_refused : (p : S) (r : Refusal) → (t.row p).call ≡ None → waits_on (t.row p).waits r ≡ false

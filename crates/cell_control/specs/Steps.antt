@@ -2,7 +2,6 @@
 use Rattle.std.specs.Prelude.{◌≡◌, ℕ, zero, suc, Bool, true, false, ◌||◌, if◌then◌else◌, List, Option, None, Result, Ok, Err}
 use Rattle.cell_types.specs.declared.machine.Machine.{Machine}
 use Rattle.cell_types.specs.declared.posture.Posture.{Posture}
-use Rattle.cell_types.specs.declared.call.Call.{Call}
 use Rattle.cell_types.specs.declared.answer.Refusal.{Refusal}
 use Rattle.cell_types.specs.declared.answer.Refusal.TheVariants.{Stopped}
 use Rattle.cell_types.specs.declared.answer.Answer.{Answer}
@@ -19,19 +18,19 @@ use Rattle.cell_rules.specs.Restamping.{IsSameFor}
 use Rattle.cell_rules.specs.Programs.{Program, Reached}
 use Rattle.cell_control.specs.declared.fault.CtlFault.{CtlFault}
 use Rattle.cell_control.specs.declared.fault.CtlFault.TheVariants.{Memory}
+use Rattle.cell_control.specs.declared.row.Row.{Row}
 use Rattle.cell_control.specs.Faults.{fault_of}
+use Rattle.cell_control.specs.Row.{waits_on}
 
 -- S: a step with its notes; Sense: what the sensors show; Reading: what they say after the check; Act: the commands
 pub record Steps (S Sense Reading Act : Type 0) : Type 1 where
   -- whose program it is; its first step, by the places that are full
   pub machine : Machine
   pub start : ModelState → S
-  -- what a step asks; a step that asks nothing drives
-  pub call : S → Option Call
-  -- the next step when the call is done; the next step by what an inquiry showed; the refusals on which a step stays
-  pub after_done : S → S
+  -- what a step asks, what it waits for, and the next step; a step that asks nothing drives
+  pub row : S → Row S
+  -- the next step by what an inquiry showed
   pub after_inquiry : S → Option Machine → Bool → Posture → S
-  pub stays_on : S → Refusal → Bool
   -- the check of the sensors: what they say, or why they can't be used
   pub senses : Sense → Result Reading SensorFault → Type 0
   -- the commands of a step that drives, and the next step; the commands of a step that asks
@@ -47,14 +46,14 @@ is_while_stopped Stopped = true
 is_while_stopped _ = false
 
 abbrev pub waits_out : {S Sense Reading Act : Type 0} → Steps S Sense Reading Act → S → Refusal → Bool
-waits_out t p r = t.stays_on p r || is_while_stopped r
+waits_out t p r = waits_on (t.row p).waits r || is_while_stopped r
 
 -- the next step after an answer; on a refusal the step stays, or the controller stops
 abbrev pub after_refusal : {S Sense Reading Act : Type 0} → Steps S Sense Reading Act → S → Refusal → Result S CtlFault
 after_refusal t p r = if waits_out t p r then Ok p else Err (fault_of r)
 
 abbrev pub after_answer : {S Sense Reading Act : Type 0} → Steps S Sense Reading Act → S → Answer → Result S CtlFault
-after_answer t p Done = Ok (t.after_done p)
+after_answer t p Done = Ok (t.row p).next
 after_answer t p (Refused r) = after_refusal t p r
 after_answer t p (Shown owner flag posture) = Ok (t.after_inquiry p owner flag posture)
 
@@ -65,7 +64,7 @@ outcome t p (Err fault) = Err Memory
 
 -- a turn that asks nothing drives, by sensors that can be used
 pub record Drives {S Sense Reading Act : Type 0} (t : Steps S Sense Reading Act) (p q : S) : Type 0 where
-  pub asks_nothing : t.call p ≡ None
+  pub asks_nothing : (t.row p).call ≡ None
   pub sense : Sense
   pub reading : Reading
   pub senses : t.senses sense (Ok reading)
@@ -74,7 +73,7 @@ pub record Drives {S Sense Reading Act : Type 0} (t : Steps S Sense Reading Act)
   pub is : q ≡ t.after_drive p reading act
 
 abbrev pub program_of : {S Sense Reading Act : Type 0} → Steps S Sense Reading Act → Program S
-program_of t = record { machine = t.machine; call = t.call; leads = λ p a q. after_answer t p a ≡ Ok q; moves = Drives t }
+program_of t = record { machine = t.machine; call = λ p. (t.row p).call; leads = λ p a q. after_answer t p a ≡ Ok q; moves = Drives t }
 
 -- by its machine's events in a history, and by turns that drive between them, a program has come from one step to another
 abbrev pub ComesFrom : {S Sense Reading Act : Type 0} → Steps S Sense Reading Act → S → List Event → S → Type 0

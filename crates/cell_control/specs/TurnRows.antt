@@ -26,6 +26,7 @@ use Rattle.cell_control.specs.declared.fault.CtlFault.TheVariants as fault
 use Rattle.cell_control.specs.Demands.{HoldsIn}
 use Rattle.cell_control.specs.Steps.{Steps, outcome, InStepAfter, IsReached}
 use Rattle.cell_control.specs.Turns.{Turned, Turns, HearsTurn}
+use Rattle.cell_control.specs.Row.{waits_on}
 
 -- the sensors say nothing but this
 abbrev pub Says : {S Sense Reading Act : Type 0} → Steps S Sense Reading Act → Sense → Result Reading SensorFault → Type 0
@@ -45,12 +46,12 @@ Answered t p s answered w = Turns t ⊥ (λ call r. r ≡ answered) None p s w
 
 -- a refusal on which the step doesn't stay stops it with this fault
 abbrev pub Stops : {S Sense Reading Act : Type 0} → Steps S Sense Reading Act → S → Sense → Turned S Act → Refusal → CtlFault → Type 0
-Stops t p s w r f = (stamp : ℕ) → t.stays_on p r ≡ false → Answered t p s (Ok (Settled (Refused r) stamp)) w → w ≡ stops_with p f
+Stops t p s w r f = (stamp : ℕ) → waits_on (t.row p).waits r ≡ false → Answered t p s (Ok (Settled (Refused r) stamp)) w → w ≡ stops_with p f
 
 pub record AnswerRows {S Sense Reading Act : Type 0} (t : Steps S Sense Reading Act) (p : S) (s : Sense) (w : Turned S Act) : Type 0 where
-  pub done : (stamp : ℕ) → Answered t p s (Ok (Settled Done stamp)) w → w ≡ leads_to t p (t.after_done p)
+  pub done : (stamp : ℕ) → Answered t p s (Ok (Settled Done stamp)) w → w ≡ leads_to t p (t.row p).next
   pub shown : (owner : Option Machine) (flag : Bool) (posture : Posture) (stamp : ℕ) → Answered t p s (Ok (Settled (Shown owner flag posture) stamp)) w → w ≡ leads_to t p (t.after_inquiry p owner flag posture)
-  pub waits : (r : Refusal) (stamp : ℕ) → t.stays_on p r ≡ true → Answered t p s (Ok (Settled (Refused r) stamp)) w → w ≡ leads_to t p p
+  pub waits : (r : Refusal) (stamp : ℕ) → waits_on (t.row p).waits r ≡ true → Answered t p s (Ok (Settled (Refused r) stamp)) w → w ≡ leads_to t p p
   pub while_stopped : (stamp : ℕ) → Answered t p s (Ok (Settled (Refused Stopped) stamp)) w → w ≡ leads_to t p p
   pub busy : (lost stamp : ℕ) → Answered t p s (Ok (Busy lost stamp)) w → w ≡ leads_to t p p
   pub not_party : Stops t p s w NotParty (fault.Refused NotParty)
@@ -87,23 +88,23 @@ pub record SilentRows {S Sense Reading Act : Type 0} (t : Steps S Sense Reading 
   pub sensor : (f : SensorFault) → Says t s (Err f) → AsksNothing t None p s w → w ≡ stops_with p (fault.Sensor f)
   pub sensor_asks_nothing : (f : SensorFault) (call : Call) → Says t s (Err f) → ¬ Asks t None p s call w
   -- one that drives
-  pub drives : (reading : Reading) (act : Act) → t.call p ≡ None → Says t s (Ok reading) → ((other : Act) → t.drives p reading other → other ≡ act)
+  pub drives : (reading : Reading) (act : Act) → (t.row p).call ≡ None → Says t s (Ok reading) → ((other : Act) → t.drives p reading other → other ≡ act)
       → AsksNothing t None p s w → w ≡ record { result = Ok act; progress = t.after_drive p reading act; stopped = None }
-  pub drive_asks_nothing : (call : Call) → t.call p ≡ None → ¬ Asks t None p s call w
+  pub drive_asks_nothing : (call : Call) → (t.row p).call ≡ None → ¬ Asks t None p s call w
   -- one that asks: it asks its own call
-  pub asks : (reading : Reading) (call : Call) → t.call p ≡ Some call → Says t s (Ok reading) → ¬ AsksNothing t None p s w
-  pub asks_its_call : (call other : Call) → t.call p ≡ Some call → Asks t None p s other w → other ≡ call
+  pub asks : (reading : Reading) (call : Call) → (t.row p).call ≡ Some call → Says t s (Ok reading) → ¬ AsksNothing t None p s w
+  pub asks_its_call : (call other : Call) → (t.row p).call ≡ Some call → Asks t None p s other w → other ≡ call
 
 -- what the line hears of a turn
 pub record HeardRows {S Sense Reading Act : Type 0} (t : Steps S Sense Reading Act) (p : S) (s : Sense) (before now : Heard) : Type 0 where
   pub stopped : (f : CtlFault) → HearsTurn t (Some f) p s before now → now ≡ before
   pub sensor : (f : SensorFault) → Says t s (Err f) → HearsTurn t None p s before now → now ≡ before
-  pub drives : t.call p ≡ None → HearsTurn t None p s before now → now ≡ before
-  pub asks_once : (reading : Reading) (call : Call) → t.call p ≡ Some call → Says t s (Ok reading) → HearsTurn t None p s before now → (r : Result Reply LineFault) × (now ≡ heard_after before call r)
+  pub drives : (t.row p).call ≡ None → HearsTurn t None p s before now → now ≡ before
+  pub asks_once : (reading : Reading) (call : Call) → (t.row p).call ≡ Some call → Says t s (Ok reading) → HearsTurn t None p s before now → (r : Result Reply LineFault) × (now ≡ heard_after before call r)
 
 -- a machine's progress by its events: one step for each event, in a program of which every step asks
 abbrev pub AsksAlways : {S Sense Reading Act : Type 0} → Steps S Sense Reading Act → Type 0
-AsksAlways {S = S} t = (q : S) → (call : Call) × (t.call q ≡ Some call)
+AsksAlways {S = S} t = (q : S) → (call : Call) × ((t.row q).call ≡ Some call)
 
 -- the step that it begins with is the first, or was carried over from an interlock before this one
 abbrev pub IsInStep : {S Sense Reading Act : Type 0} → Steps S Sense Reading Act → S → ModelState → Type 0
@@ -113,7 +114,7 @@ pub record ReachedRows {S Sense Reading Act : Type 0} (t : Steps S Sense Reading
   pub at_first : IsReached t opening [] (t.start opening)
   pub by_none : AsksAlways t → own_events seen t.machine ≡ [] → IsReached t opening seen p → IsInStep t p opening
   pub by_one : (e : Event) → AsksAlways t → own_events seen t.machine ≡ e ∷ [] → IsReached t opening seen p
-      → (first : S) × IsInStep t first opening × (t.call first ≡ Some e.call) × (outcome t first (Ok (Settled e.answer 0)) ≡ Ok p)
+      → (first : S) × IsInStep t first opening × ((t.row first).call ≡ Some e.call) × (outcome t first (Ok (Settled e.answer 0)) ≡ Ok p)
   pub carried_over : (opened : ModelState) → IsSound opening → IsLegal opening seen → IsSameFor t.machine (after opening seen) opened → IsReached t opening seen p → IsReached t opened [] p
 
 -- all rows

@@ -25,13 +25,18 @@ PerformsCall t (Some c) same asks p reading r = (answered : Result Reply LineFau
 
 abbrev pub PerformsSensed : {S Sense Reading Act : Type 0} → Steps S Sense Reading Act → Result Reading SensorFault → Type 0 → (Call → Result Reply LineFault → Type 0) → S → Performed S Act → Type 0
 PerformsSensed t (Err fault) same asks p r = same × (r ≡ Err (Sensor fault))
-PerformsSensed t (Ok reading) same asks p r = PerformsCall t (t.call p) same asks p reading r
+PerformsSensed t (Ok reading) same asks p r = PerformsCall t (t.row p).call same asks p reading r
 
 -- first the sensors are checked; `same` says that the line stays as it is, `asks` what it was asked and what came back
 pub record Performs {S Sense Reading Act : Type 0} (t : Steps S Sense Reading Act) (same : Type 0) (asks : Call → Result Reply LineFault → Type 0) (p : S) (s : Sense) (r : Performed S Act) : Type 0 where
   pub sensed : Result Reading SensorFault
   pub senses : t.senses s sensed
   pub performs : PerformsSensed t sensed same asks p r
+
+-- the result of a turn, by what the actuators are told and the fault
+abbrev pub answered : {Act : Type 0} → Act → Option CtlFault → Result Act CtlFault
+answered act None = Ok act
+answered act (Some fault) = Err fault
 
 -- the result of a turn, the progress, and what has stopped the controller
 pub record Turned (S Act : Type 0) : Type 0 where
@@ -51,7 +56,7 @@ Turns {S = S} {Act = Act} t same asks None p s w = (r : Performed S Act) × Perf
 -- what a step asks after the check of its sensors
 abbrev pub asked_at : {S Sense Reading Act : Type 0} → Steps S Sense Reading Act → Result Reading SensorFault → S → Option Call
 asked_at t (Err fault) p = None
-asked_at t (Ok reading) p = t.call p
+asked_at t (Ok reading) p = (t.row p).call
 
 -- what the line hears of a turn
 pub record HearsOnce {S Sense Reading Act : Type 0} (t : Steps S Sense Reading Act) (p : S) (s : Sense) (before now : Heard) : Type 0 where

@@ -1,11 +1,17 @@
-ghost use Rattle.std.specs.Prelude.{◌≡◌, Some, None, [], IfOk};
+//! The controller that performs any machine's program, a step a turn.
+ghost use Rattle.std.specs.Prelude.{◌≡◌, ◌≢◌, Some, None, [], IfOk};
 ghost use Rattle.cell_rules.specs.Seen.{heard_after};
-ghost use Rattle.cell_control.specs.Steps.{GoesOn, IsReached, outcome, after_refusal as refused_at};
-ghost use Rattle.cell_control.specs.Turns.{Performs, Reads, Turns, HearsTurn, HearsOnce};
+ghost use Rattle.cell_control.specs.Controllers.{MeetsDemands, GoesOnBy, HasReached, HearsBy};
+ghost use Rattle.cell_control.specs.Controllers.{OwnsLine, TurnsBy, program_in, rest_in, step_in};
+ghost use Rattle.cell_control.specs.Controllers.{stopped_in};
+ghost use Rattle.cell_control.specs.Steps.{GoesOn, IsReached, outcome};
+ghost use Rattle.cell_control.specs.Turns.{Performs, Reads, HearsOnce, answered};
 
 use crate::fault::CtlFault;
 use crate::part::{Sensors, Values};
 use crate::program::Program;
+use crate::row::Row;
+use crate::told::Told;
 use cell_rules::{Answered, Line, State};
 use cell_types::{Answer, Call, Refusal, Reply};
 
@@ -20,10 +26,10 @@ pub struct Controller<P: Program> {
 impl<P: Program> Controller<P> {
     /// The controller at the start of its program, by the machine's full places.
     pub fn new(state: &State, program: P) -> Controller<P>
-        ensures program { result.program ≡ program }
-        ensures progress { result.progress ≡ (P.steps program).start state.now }
-        ensures running { result.stopped ≡ None }
-        ensures reached { IsReached (P.steps program) state.now [] result.progress }
+        ensures program { program_in result ≡ program }
+        ensures progress { step_in result ≡ (P.steps program).start state.now }
+        ensures running { stopped_in result ≡ None }
+        ensures reached { IsReached (P.steps program) state.now [] (step_in result) }
     {
         let progress = program.start(state);
         Controller {
@@ -35,21 +41,21 @@ impl<P: Program> Controller<P> {
 
     /// What has stopped it; `None` while it runs.
     pub fn stopped(&self) -> Option<CtlFault>
-        ensures { result ≡ self.now.stopped }
+        ensures { result ≡ stopped_in self.now }
     {
         self.stopped
     }
 
     /// Its step in its program, with its notes.
     pub fn progress(&self) -> P::Progress
-        ensures { result ≡ self.now.progress }
+        ensures { result ≡ step_in self.now }
     {
         self.progress
     }
 
     /// The actuators' commands in a step that asks or can't go on: all motors are off.
     pub fn rest(&self) -> P::Act
-        ensures { result ≡ (P.steps self.now.program).rest self.now.progress }
+        ensures { result ≡ rest_in P.steps self.now }
     {
         self.program.rest(self.progress)
     }
@@ -59,66 +65,66 @@ impl<P: Program> Controller<P> {
     /// After any error the controller has stopped, and keeps the cause. The caller then turns the
     /// motors off. Each later turn asks nothing and answers `Stopped`.
     pub fn turn<L: Line>(&mut self, line: &mut L, sense: &P::Sense) -> Result<P::Act, CtlFault>
-        requires own { self.old.stopped ≡ None → L.machine line.old ≡ (P.steps self.old.program).machine }
-        requires reached { self.old.stopped ≡ None → IsReached (P.steps self.old.program) (L.opening line.old) (L.seen line.old) self.old.progress }
-        ensures row { Turns (P.steps self.old.program) (line.new ≡ line.old) (λ c r. L.asks line.old c r line.new × (L.heard line.new ≡ heard_after (L.heard line.old) c r)) self.old.stopped self.old.progress sense.now
-            (record { result = result; progress = self.new.progress; stopped = self.new.stopped }) }
-        ensures heard { HearsTurn (P.steps self.old.program) self.old.stopped self.old.progress sense.now (L.heard line.old) (L.heard line.new) }
+        requires own { OwnsLine P.steps self.old (L.machine line.old) }
+        requires reached { HasReached P.steps self.old (L.opening line.old) (L.seen line.old) }
+        ensures row { TurnsBy P.steps (line.new ≡ line.old)
+            (λ c r. L.asks line.old c r line.new × (L.heard line.new ≡ heard_after (L.heard line.old) c r))
+            self.old sense.now result self.new }
+        ensures heard { HearsBy P.steps self.old sense.now (L.heard line.old) (L.heard line.new) }
         ensures own { L.machine line.new ≡ L.machine line.old }
         ensures opening { L.opening line.new ≡ L.opening line.old }
-        ensures program { self.new.program ≡ self.old.program }
-        ensures reached { self.new.stopped ≡ None → IsReached (P.steps self.new.program) (L.opening line.new) (L.seen line.new) self.new.progress }
-        ensures goes_on { self.new.stopped ≡ None → GoesOn (P.steps self.old.program) (L.seen line.old) self.old.progress (L.seen line.new) self.new.progress }
-        ensures motor_demands { IfOk result (λ act. (P.steps self.old.program).motor_demands self.old.progress act (L.opening line.new) (L.seen line.new)) }
+        ensures program { program_in self.new ≡ program_in self.old }
+        ensures reached { HasReached P.steps self.new (L.opening line.new) (L.seen line.new) }
+        ensures goes_on { GoesOnBy P.steps self.old (L.seen line.old) self.new (L.seen line.new) }
+        ensures motor_demands { IfOk result (λ act.
+            MeetsDemands P.steps self.old act (L.opening line.new) (L.seen line.new)) }
     {
-        self.take_turn(line, &Values { sense: *sense }).act
+        let taken = self.take_turn(line, &Values { sense: *sense });
+        taken.told.result()
     }
 
-    /// The same turn by any sensors, with what it asked.
+    /// The same turn by any sensors, with what it asked, and what the actuators are told, also after
+    /// a fault: then to rest.
     ///
-    /// Errors and what they leave are those of [`Controller::turn`]. A call that was made is told
-    /// after an error too; a controller that had stopped asks nothing.
+    /// A fault stops the controller as [`Controller::turn`]'s errors do. A call that was made is told
+    /// after a fault too; a controller that had stopped asks nothing.
     pub fn take_turn<L: Line, S: Sensors<Sense = P::Sense>>(
         &mut self,
         line: &mut L,
         sensors: &S,
     ) -> TakenTurn<P::Act>
-        requires own { self.old.stopped ≡ None
-            → L.machine line.old ≡ (P.steps self.old.program).machine }
-        requires reached { self.old.stopped ≡ None → IsReached (P.steps self.old.program)
-            (L.opening line.old) (L.seen line.old) self.old.progress }
-        ensures row { Reads (S.shows sensors.now) (λ sense. Turns (P.steps self.old.program)
+        requires own { OwnsLine P.steps self.old (L.machine line.old) }
+        requires reached { HasReached P.steps self.old (L.opening line.old) (L.seen line.old) }
+        ensures row { Reads (S.shows sensors.now) (λ sense. TurnsBy P.steps
             ((line.new ≡ line.old) × (result.asked ≡ None))
             (λ c r. (L.asks line.old c r line.new × (L.heard line.new ≡ heard_after (L.heard line.old) c r))
             × (result.asked ≡ Some (c, r)))
-            self.old.stopped self.old.progress sense
-            (record { result = result.act; progress = self.new.progress; stopped = self.new.stopped })) }
-        ensures heard { Reads (S.shows sensors.now) (λ sense. HearsTurn (P.steps self.old.program)
-            self.old.stopped self.old.progress sense (L.heard line.old) (L.heard line.new)) }
+            self.old sense (answered result.told.act result.told.fault) self.new) }
+        ensures heard { Reads (S.shows sensors.now) (λ sense.
+            HearsBy P.steps self.old sense (L.heard line.old) (L.heard line.new)) }
         ensures own { L.machine line.new ≡ L.machine line.old }
         ensures opening { L.opening line.new ≡ L.opening line.old }
-        ensures program { self.new.program ≡ self.old.program }
-        ensures reached { self.new.stopped ≡ None → IsReached (P.steps self.new.program)
-            (L.opening line.new) (L.seen line.new) self.new.progress }
-        ensures goes_on { self.new.stopped ≡ None → GoesOn (P.steps self.old.program)
-            (L.seen line.old) self.old.progress (L.seen line.new) self.new.progress }
-        ensures motor_demands { IfOk result.act (λ act. (P.steps self.old.program).motor_demands
-            self.old.progress act (L.opening line.new) (L.seen line.new)) }
+        ensures program { program_in self.new ≡ program_in self.old }
+        ensures reached { HasReached P.steps self.new (L.opening line.new) (L.seen line.new) }
+        ensures goes_on { GoesOnBy P.steps self.old (L.seen line.old) self.new (L.seen line.new) }
+        ensures rest { result.told.fault ≢ None → result.told.act ≡ rest_in P.steps self.old }
+        ensures motor_demands { result.told.fault ≡ None
+            → MeetsDemands P.steps self.old result.told.act (L.opening line.new) (L.seen line.new) }
     {
         if self.stopped.is_some() {
             // each turn reads its sensors
             let _ = sensors.read();
-            return TakenTurn::new(None, Err(CtlFault::Stopped));
+            return TakenTurn::new(None, Told::after(CtlFault::Stopped, self.rest()));
         }
         let (asked, performed) = perform(&self.program, self.progress, line, sensors);
         match performed {
             Ok((progress, act)) => {
                 self.progress = progress;
-                TakenTurn::new(asked, Ok(act))
+                TakenTurn::new(asked, Told::well(act))
             }
             Err(fault) => {
                 self.stopped = Some(fault);
-                TakenTurn::new(asked, Err(fault))
+                TakenTurn::new(asked, Told::after(fault, self.rest()))
             }
         }
     }
@@ -129,15 +135,15 @@ impl<P: Program> Controller<P> {
 pub struct TakenTurn<A: Copy> {
     /// The call that was asked, and what came back. `None` if nothing was asked.
     pub asked: Option<(Call, Answered)>,
-    /// The actuators' commands, or why there are none: then all motors are to be off.
-    pub act: Result<A, CtlFault>,
+    /// What the actuators are told, and the fault, if there is one.
+    pub told: Told<A>,
 }
 
 impl<A: Copy> TakenTurn<A> {
-    fn new(asked: Option<(Call, Answered)>, act: Result<A, CtlFault>) -> TakenTurn<A>
-        ensures { result ≡ record { asked = asked; act = act } }
+    fn new(asked: Option<(Call, Answered)>, told: Told<A>) -> TakenTurn<A>
+        ensures { result ≡ record { asked = asked; told = told } }
     {
-        TakenTurn { asked, act }
+        TakenTurn { asked, told }
     }
 }
 
@@ -170,12 +176,13 @@ fn perform<P: Program, L: Line, S: Sensors<Sense = P::Sense>>(
     ensures motor_demands { IfOk result.1 (λ led. (P.steps program.now).motor_demands
         progress led.1 (L.opening line.new) (L.seen line.new)) }
 {
-    match program.call(progress) {
+    let row = program.row(progress);
+    match row.call {
         Some(call) => match program.check(&sensors.read()) {
             Ok(_) => {
                 let answered = line.ask(call);
                 let asked = Some((call, answered));
-                match after_call(program, progress, answered) {
+                match after_call(program, progress, row, answered) {
                     Ok(led) => (asked, Ok((led, program.rest(progress)))),
                     Err(fault) => (asked, Err(fault)),
                 }
@@ -196,12 +203,14 @@ fn perform<P: Program, L: Line, S: Sensors<Sense = P::Sense>>(
 fn after_call<P: Program>(
     program: &P,
     progress: P::Progress,
+    row: Row<P::Progress>,
     answered: Answered,
 ) -> Result<P::Progress, CtlFault>
+    requires row { row ≡ (P.steps program.now).row progress }
     ensures { result ≡ outcome (P.steps program.now) progress answered }
 {
     match answered {
-        Ok(Reply::Settled(Answer::Done, _)) => Ok(program.after_done(progress)),
+        Ok(Reply::Settled(Answer::Done, _)) => Ok(row.next),
         Ok(
             Reply::Settled(
                 Answer::Shown {
@@ -213,23 +222,13 @@ fn after_call<P: Program>(
             ),
         ) => Ok(program.after_inquiry(progress, owner, flag, posture)),
         Ok(Reply::Settled(Answer::Refused(refusal), _)) => {
-            after_refusal(program, progress, refusal)
+            if row.waits.stays_on(refusal) || matches!(refusal, Refusal::Stopped) {
+                Ok(progress)
+            } else {
+                Err(CtlFault::from(refusal))
+            }
         }
         Ok(Reply::Busy { .. }) => Ok(progress),
         Err(_) => Err(CtlFault::Memory),
-    }
-}
-
-fn after_refusal<P: Program>(
-    program: &P,
-    progress: P::Progress,
-    refusal: Refusal,
-) -> Result<P::Progress, CtlFault>
-    ensures { result ≡ refused_at (P.steps program.now) progress refusal }
-{
-    if program.stays_on(progress, refusal) || matches!(refusal, Refusal::Stopped) {
-        Ok(progress)
-    } else {
-        Err(CtlFault::from(refusal))
     }
 }

@@ -1,5 +1,5 @@
-//! The two traits of a machine, its program and its part, and the controller that performs any
-//! machine's program, step by step.
+//! The two traits of a machine, its program and its part; the controller that performs any machine's
+//! program, step by step; and the controller at the end of its line.
 #![tactic(auto)]
 
 pub mod controller;
@@ -8,9 +8,15 @@ pub mod laws;
 pub mod part;
 pub mod program;
 pub mod row;
+pub mod told;
+pub mod unwired;
+pub mod wired;
 
 pub use controller::{Controller, TakenTurn};
 pub use fault::CtlFault;
 pub use part::{Part, PartSensors, Sensors, Values};
 pub use program::Program;
 pub use row::{Row, Waits};
+pub use told::Told;
+pub use unwired::Unwired;
+pub use wired::Wired;

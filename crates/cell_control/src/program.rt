@@ -1,14 +1,18 @@
+//! The trait of a machine's program.
+
+use crate::row::Row;
 use cell_calib::SensorFault;
 use cell_rules::State;
-use cell_types::{Call, Machine, Posture, Refusal};
+use cell_types::{Machine, Posture};
 
 /// A machine's program, with the calibrations of its sensors.
 ///
-/// The program is the table `steps`, and each method is a column of it. A turn performs one step:
+/// The program is the table `steps`. Each step has a `row`: what it asks, what it waits for, and the
+/// next step. A turn performs one step:
 ///
-/// - A step with a call asks it once and sets the actuators to `rest`. When the call is done, the
-///   step leads to `after_done`; an inquiry leads to `after_inquiry`, by what it showed. On a
-///   refusal the step stays if `stays_on` says so, and always while the cell is stopped. Otherwise
+/// - A step with a call asks it once and sets the actuators to `rest`. When the call is done, it
+///   leads to the row's next step; an inquiry leads to `after_inquiry`, by what it showed. On a
+///   refusal the step stays if it waits for that, and always while the cell is stopped. Otherwise
 ///   the controller stops.
 /// - A step without a call drives: it sets the actuators to `drive` and leads to `after_drive`.
 ///   That is the step itself until its motors are off. A step that only switches a magnet drives
@@ -43,13 +47,10 @@ pub trait Program: Drop {
     fn start(&self, state: &State) -> Self::Progress
         ensures { result ≡ (steps self.now).start state.now };
 
-    /// What a step asks, or `None` if it drives.
-    fn call(&self, progress: Self::Progress) -> Option<Call>
-        ensures { result ≡ (steps self.now).call progress };
-
-    /// The next step after a call that is done.
-    fn after_done(&self, progress: Self::Progress) -> Self::Progress
-        ensures { result ≡ (steps self.now).after_done progress };
+    /// The row of a step: what it asks, or `None` if it drives; what it waits for; and the next step
+    /// once the call or the drive is done. Each step waits while the cell is stopped, so no row says so.
+    fn row(&self, progress: Self::Progress) -> Row<Self::Progress>
+        ensures { result ≡ (steps self.now).row progress };
 
     /// The next step after an inquiry, by what it showed of a zone.
     fn after_inquiry(
@@ -61,11 +62,6 @@ pub trait Program: Drop {
     ) -> Self::Progress
         ensures { result ≡ (steps self.now).after_inquiry progress owner flag posture };
 
-    /// Whether a step waits for a refusal to pass. Each step waits while the cell is stopped, so it
-    /// needn't say so.
-    fn stays_on(&self, progress: Self::Progress, refusal: Refusal) -> bool
-        ensures { result ≡ (steps self.now).stays_on progress refusal };
-
     /// Checks the sensors: what they say, or why they can't be used.
     fn check(&self, sense: &Self::Sense) -> Result<Self::Reading, SensorFault>
         ensures { (steps self.now).senses sense.now result };
@@ -74,7 +70,10 @@ pub trait Program: Drop {
     /// meets what its motors demand.
     fn drive(&self, progress: Self::Progress, reading: Self::Reading) -> Self::Act
         ensures drives { (steps self.now).drives progress reading result }
-        ensures motor_demands { (steps self.now).call progress ≡ None → (opening : ModelState) (seen : List Event) → IsSound opening → IsLegal opening seen → IsReached (steps self.now) opening seen progress → (steps self.now).motor_demands progress result opening seen };
+        ensures motor_demands { ((steps self.now).row progress).call ≡ None
+            → (opening : ModelState) (seen : List Event) → IsSound opening → IsLegal opening seen
+            → IsReached (steps self.now) opening seen progress
+            → (steps self.now).motor_demands progress result opening seen };
 
     /// The next step after a drive, by its reading and its commands.
     fn after_drive(
@@ -88,5 +87,6 @@ pub trait Program: Drop {
     /// The actuators' commands in a step that asks, and after a fault. They demand nothing.
     fn rest(&self, progress: Self::Progress) -> Self::Act
         ensures rest { result ≡ (steps self.now).rest progress }
-        ensures motor_demands { (opening : ModelState) (seen : List Event) → (steps self.now).motor_demands progress result opening seen };
+        ensures motor_demands { (opening : ModelState) (seen : List Event)
+            → (steps self.now).motor_demands progress result opening seen };
 }

@@ -50,10 +50,10 @@ use Rattle.cell_plant.specs.declared.frame.Frame.{Frame}
 use Rattle.cell_plant.specs.declared.frame.MachineSteps.{MachineSteps}
 use Rattle.cell_film.specs.StepWords.{feed_word, table_word, robot_word, press_word, deposit_word, crane_word, letter_word, stopped_text}
 use Rattle.cell_film.specs.Fields as fields
-use Rattle.cell_film.specs.Lines.{Fields, changes_text, fields_before, fields_of, frame_line, if_new, is_same, line_by, lines_after, machine_text, nothing_said, said_after, said_by, start_line, turn_line}
+use Rattle.cell_film.specs.Lines.{Fields, LastCalls, changes_text, fields_before, fields_of, frame_line, if_new, is_same, line_by, lines_after, machine_text, nothing_said, said_after, start_line, turn_line}
 use Rattle.cell_film.specs.Pages.{cut_line, max_turns}
 use Rattle.cell_film.specs.Plain.{LinesNeedNoEscape, are_plain}
-use Rattle.cell_film.specs.declared.said.LastCalls.{LastCalls}
+use Rattle.cell_notes.specs.ByMachine.{at_machine}
 use Rattle.cell_film.proofs.PlainLemmas.{both, decimal-plain, hex-plain}
 
 -- ---- words
@@ -369,7 +369,7 @@ start-plain f =
 line-plain : (t : Option Turn) (before : Option Frame) (said : LastCalls) (f : Frame) → are_plain (line_by t before said f) ≡ true
 line-plain None before said f = start-plain f
 line-plain (Some t) before said f =
-    turn-plain (letter_word t.busy t.machine) t.machine f.asked (fields_before t.machine (said_by said t.machine) before) f (letter-plain t.busy t.machine)
+    turn-plain (letter_word t.busy t.machine) t.machine f.asked (fields_before t.machine (at_machine said t.machine) before) f (letter-plain t.busy t.machine)
 
 after-plain : (before : Option Frame) (said : LastCalls) (frames : List Frame) → are_plain (lines_after before said frames) ≡ true
 after-plain before said [] = refl

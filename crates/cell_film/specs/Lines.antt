@@ -4,33 +4,19 @@ use Rattle.std.specs.Str.{bytes_eq}
 use Rattle.cell_types.specs.declared.machine.Machine.{Machine}
 use Rattle.cell_types.specs.declared.machine.Machine.TheVariants.{Feed, Table, Robot, Press, Deposit, Crane, Watch}
 use Rattle.cell_notes.specs.Asks.{TurnCall}
+use Rattle.cell_notes.specs.ByMachine.{at_machine, each_machine, with_machine}
+use Rattle.cell_notes.specs.declared.by_machine.ByMachine.{ByMachine}
 use Rattle.cell_notes.specs.declared.schedule.Turn.{Turn}
 use Rattle.cell_plant.specs.declared.frame.Frame.{Frame}
 use Rattle.cell_film.specs.StepWords.{letter_word}
 use Rattle.cell_film.specs.Fields.{answered_text, asked_text, by_commas, by_semicolons, part_text, step_text, word_text}
-use Rattle.cell_film.specs.declared.said.LastCalls.{LastCalls}
 
 -- what each machine asked in its last turn so far
-abbrev pub said_by : LastCalls → Machine → TurnCall
-said_by s Feed = s.feed
-said_by s Table = s.table
-said_by s Robot = s.robot
-said_by s Press = s.press
-said_by s Deposit = s.deposit
-said_by s Crane = s.crane
-said_by s Watch = s.watch
-
-abbrev pub with_said : LastCalls → Machine → TurnCall → LastCalls
-with_said s Feed asked = record s { feed = asked }
-with_said s Table asked = record s { table = asked }
-with_said s Robot asked = record s { robot = asked }
-with_said s Press asked = record s { press = asked }
-with_said s Deposit asked = record s { deposit = asked }
-with_said s Crane asked = record s { crane = asked }
-with_said s Watch asked = record s { watch = asked }
+abbrev pub LastCalls : Type 0
+LastCalls = ByMachine TurnCall
 
 abbrev pub nothing_said : LastCalls
-nothing_said = record { feed = None; table = None; robot = None; press = None; deposit = None; crane = None; watch = None }
+nothing_said = each_machine None
 
 -- ---- the line of the start
 
@@ -88,7 +74,7 @@ turn_line letter old new = letter ++ (if is_same old new then [] else codes ";" 
 abbrev pub line_by : Option Turn → Option Frame → LastCalls → Frame → List ℕ
 line_by None before said f = start_line f
 line_by (Some t) before said f =
-    turn_line (letter_word t.busy t.machine) (fields_before t.machine (said_by said t.machine) before) (fields_of t.machine f.asked f)
+    turn_line (letter_word t.busy t.machine) (fields_before t.machine (at_machine said t.machine) before) (fields_of t.machine f.asked f)
 
 abbrev pub frame_line : Option Frame → LastCalls → Frame → List ℕ
 frame_line before said f = line_by f.turn before said f ++ codes "\n"
@@ -96,7 +82,7 @@ frame_line before said f = line_by f.turn before said f ++ codes "\n"
 -- what each machine asked last, after a frame
 abbrev pub said_by_turn : Option Turn → LastCalls → TurnCall → LastCalls
 said_by_turn None said asked = said
-said_by_turn (Some t) said asked = with_said said t.machine asked
+said_by_turn (Some t) said asked = with_machine said t.machine asked
 
 abbrev pub said_after : LastCalls → Frame → LastCalls
 said_after said f = said_by_turn f.turn said f.asked

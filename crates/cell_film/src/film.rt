@@ -6,13 +6,16 @@ ghost use Rattle.cell_film.specs.StepWords as words;
 
 use crate::fields::{Fields, step_text, word_text};
 use crate::parts::part_text;
-use crate::said::LastCalls;
 use crate::words::letter_word;
-use cell_notes::{Turn, TurnCall};
+use cell_notes::{ByMachine, Turn, TurnCall};
 use cell_plant::{Frame, Watcher};
 use cell_types::Machine;
 use std::alloc::{AllocError, Global};
 use std::marker::Model;
+
+/// What each machine asked in its last turn so far, and what came back; `None` if it asked nothing, or
+/// had no turn yet.
+type LastCalls = ByMachine<TurnCall>;
 
 /// A watcher that adds a line for each frame.
 #[derive(Drop)]
@@ -41,7 +44,7 @@ impl FilmWriter {
             alloc,
             lines: String::new(alloc),
             before: None,
-            said: LastCalls::none(),
+            said: ByMachine::each(None),
         }
     }
 
@@ -63,7 +66,7 @@ impl FilmWriter {
             Some(turn) => push_turn_line(
                 self.alloc,
                 turn,
-                &self.said.by(turn.machine),
+                self.said.at(turn.machine),
                 self.before.as_ref(),
                 frame,
                 &mut self.lines,
@@ -92,7 +95,9 @@ impl Watcher for FilmWriter {
     fn see(&mut self, frame: &Frame) -> Result<(), AllocError> {
         self.push_frame(frame)?;
         self.before = Some(*frame);
-        self.said = self.said.after(frame.turn, frame.asked);
+        if let Some(turn) = frame.turn {
+            self.said.put(turn.machine, frame.asked);
+        }
         Ok(())
     }
 }

@@ -10,12 +10,10 @@ mod page_head;
 mod page_tail;
 mod parts;
 pub mod request;
-pub mod said;
 pub mod serve;
 mod words;
 
 pub use configured::{film_configured, lines_configured, show_configured};
 pub use film::FilmWriter;
 pub use looped::loop_configured;
-pub use said::LastCalls;
 pub use serve::{serve_film, serve_loop};

@@ -26,7 +26,7 @@ use Rattle.cell_devices.specs.Limits.{travel_from}
 use Rattle.cell_rules.specs.ModelState.{ModelState, is_full}
 use Rattle.cell_control.specs.declared.row.Row.{Row}
 use Rattle.cell_control.specs.declared.row.Waits.TheVariants.{UntilFreeAndOpen}
-use Rattle.cell_control.specs.Row.{waits_on, row_that_asks, row_that_drives, with_waits}
+use Rattle.cell_control.specs.Row.{row_that_asks, row_that_drives, with_waits}
 use Rattle.cell_control.specs.Steps.{Steps}
 use Rattle.cell_control.specs.Demands.{HoldsIn}
 use Rattle.cell_haul.specs.declared.crane.CraneStep.{CraneStep}
@@ -155,10 +155,8 @@ crane_steps points gives =
     record {
       machine = Crane;
       start = crane_start;
-      call = λ p. (row_of p).call;
-      after_done = after_done;
+      row = row_of;
       after_inquiry = λ p owner flag posture. record p { step = step_after_inquiry p.step owner flag };
-      stays_on = λ p r. waits_on (row_of p).waits r;
       senses = Senses points gives;
       drives = λ p r act. Acts points p r act;
       after_drive = λ p r act. after_act p r act;

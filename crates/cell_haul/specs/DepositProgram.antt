@@ -14,7 +14,7 @@ use Rattle.cell_rules.specs.ModelState.{ModelState, is_full}
 use Rattle.cell_rules.specs.History.{Holds, Moves}
 use Rattle.cell_control.specs.declared.row.Row.{Row}
 use Rattle.cell_control.specs.declared.row.Waits.TheVariants.{UntilFree, UntilOwner, UntilRoom}
-use Rattle.cell_control.specs.Row.{waits_on, row_that_asks, row_that_drives, with_waits}
+use Rattle.cell_control.specs.Row.{row_that_asks, row_that_drives, with_waits}
 use Rattle.cell_control.specs.Steps.{Steps}
 use Rattle.cell_haul.specs.declared.deposit.DepositStep.{DepositStep}
 use Rattle.cell_haul.specs.declared.deposit.DepositStep.TheVariants.{ClaimEntry, ClaimExit, PoseLanding, ReleaseEntry, TakePlate, StartRun, RunIn, RunOut, MoveOn, PoseOffering, GivePlate, ClaimBack}
@@ -95,10 +95,8 @@ deposit_steps =
     record {
       machine = Deposit;
       start = deposit_start;
-      call = λ p. (row_of p).call;
-      after_done = after_done;
+      row = row_of;
       after_inquiry = λ p owner flag posture. p;
-      stays_on = λ p r. waits_on (row_of p).waits r;
       senses = λ s r. r ≡ Ok s;
       drives = λ p s act. act ≡ act_for p s;
       after_drive = λ p s act. after_act p act;

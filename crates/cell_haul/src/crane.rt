@@ -11,7 +11,7 @@ use cell_devices::{
     CraneAct, Motor, Stop, crane_to_deposit, crane_to_feed, drive_to, is_travel_high,
 };
 use cell_rules::State;
-use cell_types::{Call, Machine, Place, Posture, Refusal, Zone};
+use cell_types::{Call, Machine, Place, Posture, Zone};
 
 /// A step of the crane's program.
 #[derive(Clone, Copy, Debug, PartialEq, Eq)]
@@ -205,13 +205,8 @@ impl<F: Gauge> Program for CraneProgram<F> {
     }
 
     #[inline(always)]
-    fn call(&self, progress: CraneProgress) -> Option<Call> {
-        progress.row().call
-    }
-
-    #[inline(always)]
-    fn after_done(&self, progress: CraneProgress) -> CraneProgress {
-        progress.row().next
+    fn row(&self, progress: CraneProgress) -> Row<CraneProgress> {
+        progress.row()
     }
 
     fn after_inquiry(
@@ -225,11 +220,6 @@ impl<F: Gauge> Program for CraneProgram<F> {
             step: progress.step.after_inquiry(owner, flag),
             ..progress
         }
-    }
-
-    #[inline(always)]
-    fn stays_on(&self, progress: CraneProgress, refusal: Refusal) -> bool {
-        progress.row().waits.stays_on(refusal)
     }
 
     // inline, so that a turn that asks computes no reading
@@ -265,7 +255,7 @@ impl<F: Gauge> Program for CraneProgram<F> {
     ) -> CraneProgress {
         let waits = progress.step.travels() && !reading.high;
         match (act.travel, act.height) {
-            (Motor::Off, Motor::Off) if !waits => self.after_done(progress),
+            (Motor::Off, Motor::Off) if !waits => progress.row().next,
             _ => progress,
         }
     }

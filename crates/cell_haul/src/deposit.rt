@@ -6,7 +6,7 @@ use cell_calib::{DepositSense, SensorFault};
 use cell_control::{Controller, Program, Row, Waits};
 use cell_devices::DepositAct;
 use cell_rules::State;
-use cell_types::{Call, Machine, Place, Pose, Posture, Refusal, Zone};
+use cell_types::{Call, Machine, Place, Pose, Posture, Zone};
 
 /// A step of the deposit belt's program.
 #[derive(Clone, Copy, Debug, PartialEq, Eq)]
@@ -178,13 +178,8 @@ impl Program for DepositProgram {
     }
 
     #[inline(always)]
-    fn call(&self, progress: DepositProgress) -> Option<Call> {
-        progress.row().call
-    }
-
-    #[inline(always)]
-    fn after_done(&self, progress: DepositProgress) -> DepositProgress {
-        progress.row().next
+    fn row(&self, progress: DepositProgress) -> Row<DepositProgress> {
+        progress.row()
     }
 
     fn after_inquiry(
@@ -195,11 +190,6 @@ impl Program for DepositProgram {
         _posture: Posture,
     ) -> DepositProgress {
         progress
-    }
-
-    #[inline(always)]
-    fn stays_on(&self, progress: DepositProgress, refusal: Refusal) -> bool {
-        progress.row().waits.stays_on(refusal)
     }
 
     fn check(&self, sense: &DepositSense) -> Result<DepositSense, SensorFault> {
@@ -221,7 +211,7 @@ impl Program for DepositProgram {
         if act.belt {
             progress
         } else {
-            self.after_done(progress)
+            progress.row().next
         }
     }
 

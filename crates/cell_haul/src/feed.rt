@@ -6,7 +6,7 @@ use cell_calib::{FeedSense, SensorFault};
 use cell_control::{Controller, Program, Row, Waits};
 use cell_devices::FeedAct;
 use cell_rules::State;
-use cell_types::{Call, Machine, Place, Pose, Posture, Refusal, Zone};
+use cell_types::{Call, Machine, Place, Pose, Posture, Zone};
 
 /// A step of the feed belt's program.
 #[derive(Clone, Copy, Debug, PartialEq, Eq)]
@@ -177,13 +177,8 @@ impl Program for FeedProgram {
     }
 
     #[inline(always)]
-    fn call(&self, progress: FeedProgress) -> Option<Call> {
-        progress.row().call
-    }
-
-    #[inline(always)]
-    fn after_done(&self, progress: FeedProgress) -> FeedProgress {
-        progress.row().next
+    fn row(&self, progress: FeedProgress) -> Row<FeedProgress> {
+        progress.row()
     }
 
     fn after_inquiry(
@@ -194,11 +189,6 @@ impl Program for FeedProgram {
         _posture: Posture,
     ) -> FeedProgress {
         progress
-    }
-
-    #[inline(always)]
-    fn stays_on(&self, progress: FeedProgress, refusal: Refusal) -> bool {
-        progress.row().waits.stays_on(refusal)
     }
 
     fn check(&self, sense: &FeedSense) -> Result<FeedSense, SensorFault> {
@@ -220,7 +210,7 @@ impl Program for FeedProgram {
         if act.belt {
             progress
         } else {
-            self.after_done(progress)
+            progress.row().next
         }
     }
 

@@ -3,7 +3,7 @@
 use super::common::EMPTY;
 use super::full_line::FullLine;
 use cell_calib::SensorFault;
-use cell_control::{Controller, CtlFault, Part, Program};
+use cell_control::{Controller, CtlFault, Part, Program, Row};
 use cell_notes::{Counts, Notebook, Status, TurnCall};
 use cell_rules::{Bench, Line, LineFault, State};
 use cell_types::{Call, Event, Machine, Posture, Refusal, Zone};
@@ -19,7 +19,8 @@ const LAST: u32 = 1_048_575;
 struct ClaimThenLight;
 
 impl Program for ClaimThenLight {
-    ghost use Rattle.std.specs.Prelude.{◌≡◌, ⊤, true, false, if◌then◌else◌, Some, None, Ok};
+    ghost use Rattle.std.specs.Prelude.{◌≡◌, ⊤, true, false, if◌then◌else◌, Ok};
+    ghost use Rattle.cell_control.specs.Row.{row_that_asks, row_that_drives};
     ghost use Rattle.cell_types.specs.declared.machine.Machine.TheVariants.{Press};
     ghost use Rattle.cell_types.specs.declared.zone.Zone.TheVariants.{Z3};
     ghost use Rattle.cell_types.specs.declared.call.Call.TheVariants.{Claim};
@@ -35,10 +36,8 @@ impl Program for ClaimThenLight {
     ghost steps = { λ _. record {
       machine = Press;
       start = λ state. false;
-      call = λ claimed. if claimed then None else Some (Claim Z3);
-      after_done = λ claimed. true;
+      row = λ claimed. if claimed then row_that_drives true else row_that_asks (Claim Z3) true;
       after_inquiry = λ claimed owner flag posture. claimed;
-      stays_on = λ claimed refusal. false;
       senses = λ sense reading. reading ≡ Ok sense;
       drives = λ claimed reading act. act ≡ true;
       after_drive = λ claimed reading act. claimed;
@@ -50,16 +49,12 @@ impl Program for ClaimThenLight {
         false
     }
 
-    fn call(&self, claimed: bool) -> Option<Call> {
+    fn row(&self, claimed: bool) -> Row<bool> {
         if claimed {
-            None
+            Row::drives(true)
         } else {
-            Some(Call::Claim(Zone::Z3))
+            Row::asks(Call::Claim(Zone::Z3), true)
         }
-    }
-
-    fn after_done(&self, _claimed: bool) -> bool {
-        true
     }
 
     fn after_inquiry(
@@ -70,10 +65,6 @@ impl Program for ClaimThenLight {
         _posture: Posture,
     ) -> bool {
         claimed
-    }
-
-    fn stays_on(&self, _claimed: bool, _refusal: Refusal) -> bool {
-        false
     }
 
     fn check(&self, sense: &bool) -> Result<bool, SensorFault> {

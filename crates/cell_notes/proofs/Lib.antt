@@ -1,2 +1,3 @@
+pub mod MachineValues
 pub mod CountLemmas
 pub mod LiteralNotes

@@ -1,4 +1,5 @@
 pub mod Asks
+pub mod ByMachine
 pub mod NoteRows
 pub mod Notes
 pub mod Statuses

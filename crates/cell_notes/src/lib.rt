@@ -2,6 +2,7 @@
 //! and each machine's status at the end.
 #![tactic(auto)]
 
+pub mod by_machine;
 pub mod counts;
 pub mod laws;
 pub mod notebook;
@@ -10,6 +11,7 @@ pub mod schedule;
 pub mod status;
 pub mod turn_call;
 
+pub use by_machine::ByMachine;
 pub use counts::Counts;
 pub use notebook::Notebook;
 pub use run_record::RunRecord;

@@ -37,7 +37,7 @@ use Rattle.cell_plant.proofs.Deciding.{so, both, same_truth, at_most, is_true, t
 
 -- a machine asks once, and is answered
 pub takes_call : {S Sense Reading Act State : Type 0} → (t : Steps S Sense Reading Act) (rig : Rig State Sense Act) (busy : Bool) (z y : ModelState) (p : S) (part : State) (c : Call) (r : Result Reply LineFault) (set : Side S State) (sense : Sense) (reading : Reading)
-    → rig.shows part sense → t.senses sense (Ok reading) → t.call p ≡ Some c → Answers z t.machine busy c r y → set ≡ side_set t rig (side_of p None part) (Some (c, r)) (turned p (at_rest (t.rest p) (outcome t p r))) → Takes t rig busy z (side_of p None part) (Some (c, r)) y set
+    → rig.shows part sense → t.senses sense (Ok reading) → (t.row p).call ≡ Some c → Answers z t.machine busy c r y → set ≡ side_set t rig (side_of p None part) (Some (c, r)) (turned p (at_rest (t.rest p) (outcome t p r))) → Takes t rig busy z (side_of p None part) (Some (c, r)) y set
 takes_call {S = S} {Act = Act} t rig busy z y p part c r set sense reading shows senses call answers is =
     let done : Performed S Act = at_rest (t.rest p) (outcome t p r) in
     let asked : TurnCall = Some (c, r) in

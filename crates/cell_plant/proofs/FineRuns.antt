@@ -42,7 +42,7 @@ module _ {S Sense Reading Act : Type 0} (t : Steps S Sense Reading Act) (same : 
 
   sensed_stops : (sensed : Result Reading SensorFault) (p : S) (r : Performed S Act) → PerformsSensed t sensed Quiet Asks p r → r ≡ Err Memory
   sensed_stops (Err f) p r k = none_some asked (call, Err fault) k.0.1 is
-  sensed_stops (Ok reading) p r k = call_stops (t.call p) p reading r k
+  sensed_stops (Ok reading) p r k = call_stops (t.row p).call p reading r k
 
   pub turn_stops : (stopped : Option CtlFault) (p : S) (s : Sense) (w : Turned S Act) → Turns t Quiet Asks stopped p s w → w.stopped ≡ Some Memory
   turn_stops (Some f) p s w k = none_some asked (call, Err fault) k.0.1 is

@@ -84,7 +84,7 @@ module _ {S Sense Reading Act State : Type 0} (t : Steps S Sense Reading Act) (r
     one_sensed : (sensed : Result Reading SensorFault) (p : S) (r r' : Performed S Act)
         → PerformsSensed t sensed (SameFor y asked) (AsksFor y asked) p r → PerformsSensed t sensed (SameFor y' asked') (AsksFor y' asked') p r' → SameAsk asked asked' y y' × (r' ≡ r)
     one_sensed (Err fault) p r r' k k' = (same_quiet asked asked' y y' k.0 k'.0, k'.1 ∙ sym k.1)
-    one_sensed (Ok reading) p r r' k k' = one_call (t.call p) p reading r r' k k'
+    one_sensed (Ok reading) p r r' k k' = one_call (t.row p).call p reading r r' k k'
 
     one_turn : (stopped : Option CtlFault) (p : S) (s : Sense) (w w' : Turned S Act)
         → Turns t (SameFor y asked) (AsksFor y asked) stopped p s w → Turns t (SameFor y' asked') (AsksFor y' asked') stopped p s w' → SameAsk asked asked' y y' × (w' ≡ w)

@@ -34,7 +34,8 @@ use Rattle.cell_plant.specs.CellStates.{CellState, plant_of, cell_at_start}
 use Rattle.cell_plant.specs.Runs.{Step, TakesTurnBy, LeadsIfBy, LeadsBy, goes_on, IsRunBy, end_of}
 use Rattle.cell_plant.specs.Records.{is_turn_of, is_told, counts_in, events_in, positions_in}
 use Rattle.cell_plant.specs.Cells.{TellsRun}
-use Rattle.cell_plant.specs.Moments.{RunMoment, StepsOn, Keeps, first_moment, state_at, notes_in}
+use Rattle.cell_notes.specs.ByMachine.{at_machine}
+use Rattle.cell_plant.specs.Moments.{RunMoment, StepsOn, Keeps, first_moment, state_at}
 use Rattle.cell_plant.proofs.Gauged.{run_near}
 use Rattle.cell_plant.proofs.KeptRuns.{own_program_by}
 use Rattle.cell_plant.proofs.LongerRuns.{run-push, end-push, run-length, events-push, counts-push}
@@ -113,10 +114,10 @@ pub record RunSoFar {G : Type 0} (gives : G → CellGauges) (turns : List Turn) 
   pub is_end : state_at m ≡ end_of (cell_at_start m.opening) steps
   pub history : m.history ≡ events_in steps
   pub reached : m.interlock ≡ after m.opening m.history
-  pub counts : (n : Machine) → (notes_in m.notes n).counts ≡ counts_in steps n
-  pub journals : (n : Machine) → (notes_in m.notes n).journal ≡ noted m.opening m.history n
+  pub counts : (n : Machine) → (at_machine m.notes n).counts ≡ counts_in steps n
+  pub journals : (n : Machine) → (at_machine m.notes n).journal ≡ noted m.opening m.history n
 
-no_notes_yet : {G : Type 0} → (c : CellScales) (five : G) (opening : ModelState) (n : Machine) → notes_in (first_moment c five opening).notes n ≡ no_notes
+no_notes_yet : {G : Type 0} → (c : CellScales) (five : G) (opening : ModelState) (n : Machine) → at_machine (first_moment c five opening).notes n ≡ no_notes
 no_notes_yet c five opening Feed = refl
 no_notes_yet c five opening Table = refl
 no_notes_yet c five opening Robot = refl
@@ -154,19 +155,19 @@ module _ {G : Type 0} (gives : G → CellGauges) (turns : List Turn) (t : Turn) 
   answered : IsAnswered before.interlock t.machine s.asked s.moved.interlock
   answered = answered_if (goes_on (state_at before) t.machine) before.scales given t.machine t.busy (state_at before) s o.leads
 
-  count_next : (n : Machine) → (notes_in now.notes n).counts ≡ counts_in (g.steps ++ s ∷ []) n
+  count_next : (n : Machine) → (at_machine now.notes n).counts ≡ counts_in (g.steps ++ s ∷ []) n
   count_next n =
       ap (λ (x : Notes). x.counts) (o.notes n)
-      ∙ counts_more (s.taken && same_machine t.machine n) (notes_in before.notes n) s.asked
+      ∙ counts_more (s.taken && same_machine t.machine n) (at_machine before.notes n) s.asked
       ∙ ap (λ (x : Counts). if s.taken && same_machine t.machine n then counts_with x s.asked else x) (g.counts n)
       ∙ ap (λ (x : Machine). if s.taken && same_machine x n then counts_with (counts_in g.steps n) s.asked else counts_in g.steps n) (sym o.machine)
       ∙ sym (counts-push g.steps s n)
 
-  journal_next : (n : Machine) → (notes_in now.notes n).journal ≡ noted before.opening (before.history ++ settled_in t.machine s.asked) n
+  journal_next : (n : Machine) → (at_machine now.notes n).journal ≡ noted before.opening (before.history ++ settled_in t.machine s.asked) n
   journal_next n =
       ap (λ (x : Notes). x.journal) (o.notes n)
-      ∙ journal_more (s.taken && same_machine t.machine n) (notes_in before.notes n) s.asked
-      ∙ ap (λ es. (notes_in before.notes n).journal ++ es) (entries_if s.taken (same_machine t.machine n) (entries_in s.asked) (none_asked (goes_on (state_at before) t.machine) before.scales given t.machine t.busy (state_at before) s o.leads) ∙ sym (answered.entries n))
+      ∙ journal_more (s.taken && same_machine t.machine n) (at_machine before.notes n) s.asked
+      ∙ ap (λ es. (at_machine before.notes n).journal ++ es) (entries_if s.taken (same_machine t.machine n) (entries_in s.asked) (none_asked (goes_on (state_at before) t.machine) before.scales given t.machine t.busy (state_at before) s o.leads) ∙ sym (answered.entries n))
       ∙ ap (λ es. es ++ noted before.interlock (settled_in t.machine s.asked) n) (g.journals n)
       ∙ ap (λ z. noted before.opening before.history n ++ noted z (settled_in t.machine s.asked) n) g.reached
       ∙ sym (noted-append before.opening before.history (settled_in t.machine s.asked) n)
@@ -197,7 +198,7 @@ module _ {G : Type 0} (gives : G → CellGauges) (turns : List Turn) (t : Turn) 
 below : (a b i : ℕ) → a ≤ b → b ≡ i → i < 18446744073709551615 → a < 18446744073709551615
 below a b i h e l = omega arith
 
-pub room_left : {G : Type 0} → (gives : G → CellGauges) (turns : List Turn) (m : RunMoment G) (i : ℕ) → RunSoFar gives turns m → length turns ≡ i → i < 18446744073709551615 → (n : Machine) → HasRoom (notes_in m.notes n).counts
+pub room_left : {G : Type 0} → (gives : G → CellGauges) (turns : List Turn) (m : RunMoment G) (i : ℕ) → RunSoFar gives turns m → length turns ≡ i → i < 18446744073709551615 → (n : Machine) → HasRoom (at_machine m.notes n).counts
 room_left gives turns m i g e l n =
     let long = run-length m.scales (gives m.gauges) (cell_at_start m.opening) turns g.steps g.run ∙ e in
     let some = λ (p : Step → Bool). below (count_by p g.steps) (length g.steps) i (count_by-le-length p g.steps) long l in
@@ -219,7 +220,7 @@ tells gives turns m r scales start g k =
       run = g.run;
       told = record {
         start = k.start;
-        counts = k.counts ∙ by_machine (λ n. (notes_in m.notes n).counts) (counts_in g.steps) g.counts;
+        counts = k.counts ∙ by_machine (λ n. (at_machine m.notes n).counts) (counts_in g.steps) g.counts;
         status = k.status ∙ ap (λ (w : CellState). map (λ n. status_of (w.side n).stopped) all_machines) g.is_end;
         journals = λ n. k.journals n ∙ g.journals n ∙ ap (λ x. noted m.opening x n) g.history;
         end = k.end ∙ ap (λ (w : CellState). Some w.interlock) g.is_end;

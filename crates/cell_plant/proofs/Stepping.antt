@@ -28,7 +28,8 @@ use Rattle.cell_plant.specs.Watch.{watch_steps, watch_rig}
 use Rattle.cell_plant.specs.Machines.{CellGauges, robot_gauges, robot_points, robot_axes, steps_by, rig_of}
 use Rattle.cell_plant.specs.CellStates.{SideOf, CellState, Sides, side_in, sides_at_start}
 use Rattle.cell_plant.specs.Runs.{Step, LeadsIfBy}
-use Rattle.cell_plant.specs.Moments.{RunMoment, AllNotes, StepsOn, state_at, notes_in, first_notes, first_moment}
+use Rattle.cell_notes.specs.ByMachine.{at_machine}
+use Rattle.cell_plant.specs.Moments.{RunMoment, AllNotes, StepsOn, state_at, first_notes, first_moment}
 
 -- two states are the same if they have the same interlock and the same side of each machine
 pub same_state : (w v : CellState) → w.interlock ≡ v.interlock → ((n : Machine) → w.side n ≡ v.side n) → w ≡ v
@@ -68,8 +69,8 @@ put_other m n x f e = refl
 module _ {G : Type 0} (gives : G → CellGauges) (m : Machine) (busy : Bool) (before now : RunMoment G) (asked : TurnCall)
     (leads : LeadsAlone (is_none (side_in before.sides m).stopped) (steps_by before.scales (gives before.gauges) m) (rig_of before.scales m) busy before.interlock (side_in before.sides m) asked now.interlock (side_in now.sides m))
     (history : now.history ≡ before.history ++ settled_in m asked)
-    (noted : notes_in now.notes m ≡ (if is_none (side_in before.sides m).stopped then notes_with (notes_in before.notes m) asked else notes_in before.notes m))
-    (others : (n : Machine) → same_machine m n ≡ false → (side_in now.sides n ≡ side_in before.sides n) × (notes_in now.notes n ≡ notes_in before.notes n))
+    (noted : at_machine now.notes m ≡ (if is_none (side_in before.sides m).stopped then notes_with (at_machine before.notes m) asked else at_machine before.notes m))
+    (others : (n : Machine) → same_machine m n ≡ false → (side_in now.sides n ≡ side_in before.sides n) × (at_machine now.notes n ≡ at_machine before.notes n))
     (scales : now.scales ≡ before.scales) (gauges : now.gauges ≡ before.gauges) (opening : now.opening ≡ before.opening) where
   abbrev Goal : Type 0
   Goal = StepsOn gives (record { machine = m; busy = busy }) before now asked
@@ -79,11 +80,11 @@ module _ {G : Type 0} (gives : G → CellGauges) (m : Machine) (busy : Bool) (be
   same_side false n e k = (others n e).0
 
   abbrev NotedAs : Bool → Machine → Type 0
-  NotedAs b n = notes_in now.notes n ≡ (if b then notes_with (notes_in before.notes n) asked else notes_in before.notes n)
+  NotedAs b n = at_machine now.notes n ≡ (if b then notes_with (at_machine before.notes n) asked else at_machine before.notes n)
 
   noted_by : (taken b : Bool) (n : Machine) → same_machine m n ≡ b → is_none (side_in before.sides m).stopped ≡ taken → NotedAs (taken && b) n
-  noted_by true true n e k = subst (λ x. NotedAs true x) (one_machine m n e) (noted ∙ ap (λ x. if x then notes_with (notes_in before.notes m) asked else notes_in before.notes m) k)
-  noted_by false true n e k = subst (λ x. NotedAs false x) (one_machine m n e) (noted ∙ ap (λ x. if x then notes_with (notes_in before.notes m) asked else notes_in before.notes m) k)
+  noted_by true true n e k = subst (λ x. NotedAs true x) (one_machine m n e) (noted ∙ ap (λ x. if x then notes_with (at_machine before.notes m) asked else at_machine before.notes m) k)
+  noted_by false true n e k = subst (λ x. NotedAs false x) (one_machine m n e) (noted ∙ ap (λ x. if x then notes_with (at_machine before.notes m) asked else at_machine before.notes m) k)
   noted_by true false n e k = (others n e).1
   noted_by false false n e k = (others n e).1
 
@@ -137,7 +138,7 @@ by_turn gives t u before now asked e k = subst (λ x. StepsOn gives x before now
 
 -- a turn leaves the sides and the notes of the other machines
 abbrev Others : Machine → Sides → Sides → AllNotes → AllNotes → Type 0
-Others m s t v w = (n : Machine) → same_machine m n ≡ false → (side_in t n ≡ side_in s n) × (notes_in w n ≡ notes_in v n)
+Others m s t v w = (n : Machine) → same_machine m n ≡ false → (side_in t n ≡ side_in s n) × (at_machine w n ≡ at_machine v n)
 
 feed_others : (s : Sides) (x : SideOf Feed) (v : AllNotes) (y : Notes) → Others Feed s (record s { feed = x }) v (record v { feed = y })
 feed_others s x v y Feed apart = cc
@@ -172,10 +173,10 @@ module _ {G : Type 0} (gives : G → CellGauges) (before now : RunMoment G) (bus
   alone_on : (m : Machine)
       → LeadsAlone (is_none (side_in before.sides m).stopped) (steps_by before.scales (gives before.gauges) m) (rig_of before.scales m) busy before.interlock (side_in before.sides m) asked now.interlock (side_in now.sides m)
       → now.history ≡ before.history ++ settled_in m asked
-      → notes_in now.notes m ≡ (if is_none (side_in before.sides m).stopped then notes_with (notes_in before.notes m) asked else notes_in before.notes m)
+      → at_machine now.notes m ≡ (if is_none (side_in before.sides m).stopped then notes_with (at_machine before.notes m) asked else at_machine before.notes m)
       → (s : Sides) (v : AllNotes) → now.sides ≡ s → now.notes ≡ v → Others m before.sides s before.notes v → StepsOn gives (record { machine = m; busy = busy }) before now asked
   alone_on m leads history noted s v e f others =
-      steps_on gives m busy before now asked leads history noted (λ n apart. (ap (λ x. side_in x n) e ∙ (others n apart).0, ap (λ x. notes_in x n) f ∙ (others n apart).1)) scales gauges opening
+      steps_on gives m busy before now asked leads history noted (λ n apart. (ap (λ x. side_in x n) e ∙ (others n apart).0, ap (λ x. at_machine x n) f ∙ (others n apart).1)) scales gauges opening
 
   pub feed_on : LeadsAlone (is_none before.sides.feed.stopped) feed_steps feed_rig busy before.interlock before.sides.feed asked now.interlock now.sides.feed
       → now.history ≡ before.history ++ settled_in Feed asked

@@ -74,12 +74,12 @@ module _ (c : CellScales) where
   stamps_apart a b apart e = apart (ap (λ (s : ModelState). s.stamp) e)
 
   -- the watch asks what its step asks
-  watch_asks : (w : CellState) (s : Step) (call : Call) (r : Result Reply LineFault) → s.asked ≡ Some (call, r) → TakesTurn c Watch false w s → watch_steps.call (w.side Watch).progress ≡ Some call
+  watch_asks : (w : CellState) (s : Step) (call : Call) (r : Result Reply LineFault) → s.asked ≡ Some (call, r) → TakesTurn c Watch false w s → (watch_steps.row (w.side Watch)).call.progress ≡ Some call
   watch_asks w s call r e k =
       let z = w.interlock in
       let y = s.set.interlock in
       let p = (w.side Watch).progress in
-      turn_own watch_steps ((y ≡ z) × (s.asked ≡ None)) (λ q x. Answers z Watch false q x y × (s.asked ≡ Some (q, x))) p (watch_steps.call p ≡ Some call)
+      turn_own watch_steps ((y ≡ z) × (s.asked ≡ None)) (λ q x. Answers z Watch false q x y × (s.asked ≡ Some (q, x))) p ((watch_steps.row p).call ≡ Some call)
       (λ h. none_some _ _ (sym h.1 ∙ e))
       (λ q x own h. own ∙ ap Some (one_call s.asked q call x r h.1 e))
       (w.side Watch).stopped k.takes.sense k.takes.turned k.takes.row

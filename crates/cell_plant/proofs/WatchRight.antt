@@ -100,14 +100,14 @@ pub one_answer : (asked : TurnCall) (q call : Call) (x y : Result Reply LineFaul
 one_answer asked q call x y e f = ap (λ (a : Answered). a.1) (same_of asked (q, x) (call, y) e f)
 
 -- what a turn asks is what its step asks
-module _ {S Sense Reading Act : Type 0} (t : Steps S Sense Reading Act) (same : Type 0) (asks : Call → Result Reply LineFault → Type 0) (p : S) (P : Type 0) (f : same → P) (g : (c : Call) (r : Result Reply LineFault) → t.call p ≡ Some c → asks c r → P) where
-  call_own : (o : Option Call) (reading : Reading) (r : Performed S Act) → t.call p ≡ o → PerformsCall t o same asks p reading r → P
+module _ {S Sense Reading Act : Type 0} (t : Steps S Sense Reading Act) (same : Type 0) (asks : Call → Result Reply LineFault → Type 0) (p : S) (P : Type 0) (f : same → P) (g : (c : Call) (r : Result Reply LineFault) → (t.row p).call ≡ Some c → asks c r → P) where
+  call_own : (o : Option Call) (reading : Reading) (r : Performed S Act) → (t.row p).call ≡ o → PerformsCall t o same asks p reading r → P
   call_own None reading r e h = f h.0
   call_own (Some c) reading r e h = g c h.0 e h.1
 
   sensed_own : (sensed : Result Reading SensorFault) (r : Performed S Act) → PerformsSensed t sensed same asks p r → P
   sensed_own (Err fault) r h = f h.0
-  sensed_own (Ok reading) r h = call_own (t.call p) reading r refl h
+  sensed_own (Ok reading) r h = call_own (t.row p).call reading r refl h
 
   pub turn_own : (stopped : Option CtlFault) (s : Sense) (w : Turned S Act) → Turns t same asks stopped p s w → P
   turn_own (Some fault) s w h = f h.0

@@ -1,7 +1,6 @@
 -- For the contracts of private functions: a simulation at a moment, and one turn of it.
 use Rattle.std.specs.Prelude.{◌≡◌, ◌&&◌, List, [], ◌++◌, map, Some, if◌then◌else◌}
 use Rattle.cell_types.specs.declared.machine.Machine.{Machine}
-use Rattle.cell_types.specs.declared.machine.Machine.TheVariants.{Feed, Table, Robot, Press, Deposit, Crane, Watch}
 use Rattle.cell_types.specs.declared.answer.Event.{Event}
 use Rattle.cell_types.specs.Everything.{all_machines}
 use Rattle.cell_types.specs.Journals.{journal_of}
@@ -9,6 +8,8 @@ use Rattle.cell_types.specs.Same.{same_machine}
 use Rattle.cell_rules.specs.ModelState.{ModelState}
 use Rattle.cell_notes.specs.declared.run_record.RunRecord.{RunRecord}
 use Rattle.cell_notes.specs.Asks.{TurnCall, settled_in}
+use Rattle.cell_notes.specs.ByMachine.{at_machine, each_machine}
+use Rattle.cell_notes.specs.declared.by_machine.ByMachine.{ByMachine}
 use Rattle.cell_notes.specs.Notes.{Notes, no_notes, notes_with}
 use Rattle.cell_unit.specs.Statuses.{status_of}
 use Rattle.cell_parts.specs.Axes.{CellScales}
@@ -19,23 +20,8 @@ use Rattle.cell_plant.specs.Machines.{CellGauges}
 use Rattle.cell_plant.specs.Runs.{Step, LeadsBy}
 
 -- what the machines have noted
-pub record AllNotes : Type 0 where
-  pub feed : Notes
-  pub table : Notes
-  pub robot : Notes
-  pub press : Notes
-  pub deposit : Notes
-  pub crane : Notes
-  pub watch : Notes
-
-abbrev pub notes_in : AllNotes → Machine → Notes
-notes_in n Feed = n.feed
-notes_in n Table = n.table
-notes_in n Robot = n.robot
-notes_in n Press = n.press
-notes_in n Deposit = n.deposit
-notes_in n Crane = n.crane
-notes_in n Watch = n.watch
+abbrev pub AllNotes : Type 0
+AllNotes = ByMachine Notes
 
 -- the scales, the gauges and the opening, which stay; the state of the interlock, the machines' sides, the history,
 -- and each machine's notes
@@ -53,7 +39,7 @@ state_at m = record { interlock = m.interlock; side = side_in m.sides }
 
 -- before the first turn
 abbrev pub first_notes : AllNotes
-first_notes = record { feed = no_notes; table = no_notes; robot = no_notes; press = no_notes; deposit = no_notes; crane = no_notes; watch = no_notes }
+first_notes = each_machine no_notes
 
 abbrev pub first_moment : {G : Type 0} → CellScales → G → ModelState → RunMoment G
 first_moment c gauges s =
@@ -75,7 +61,7 @@ pub record StepsOn {G : Type 0} (gives : G → CellGauges) (t : Turn) (before no
   pub leads : LeadsBy before.scales (gives before.gauges) t.machine t.busy (state_at before) step
   pub state : state_at now ≡ step.moved
   pub history : now.history ≡ before.history ++ settled_in t.machine step.asked
-  pub notes : (n : Machine) → notes_in now.notes n ≡ (if step.taken && same_machine t.machine n then notes_with (notes_in before.notes n) step.asked else notes_in before.notes n)
+  pub notes : (n : Machine) → at_machine now.notes n ≡ (if step.taken && same_machine t.machine n then notes_with (at_machine before.notes n) step.asked else at_machine before.notes n)
   pub scales : now.scales ≡ before.scales
   pub gauges : now.gauges ≡ before.gauges
   pub opening : now.opening ≡ before.opening
@@ -83,8 +69,8 @@ pub record StepsOn {G : Type 0} (gives : G → CellGauges) (t : Turn) (before no
 -- the record of the run so far
 pub record Keeps {G : Type 0} (m : RunMoment G) (opening : ModelState) (r : RunRecord) : Type 0 where
   pub start : r.start ≡ opening
-  pub counts : r.counts ≡ map (λ n. (notes_in m.notes n).counts) all_machines
+  pub counts : r.counts ≡ map (λ n. (at_machine m.notes n).counts) all_machines
   pub status : r.status ≡ map (λ n. status_of (side_in m.sides n).stopped) all_machines
-  pub journals : (n : Machine) → journal_of r.journals n ≡ (notes_in m.notes n).journal
+  pub journals : (n : Machine) → journal_of r.journals n ≡ (at_machine m.notes n).journal
   pub end : r.end ≡ Some m.interlock
   pub axes : r.axes ≡ positions_in (plant_of (state_at m))

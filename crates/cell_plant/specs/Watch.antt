@@ -4,7 +4,7 @@ use Rattle.cell_types.specs.declared.machine.Machine.TheVariants.{Watch}
 use Rattle.cell_types.specs.declared.call.Call.TheVariants.{Stop, Resume}
 use Rattle.cell_control.specs.declared.row.Row.{Row}
 use Rattle.cell_control.specs.Rigs.{Rig}
-use Rattle.cell_control.specs.Row.{waits_on, row_that_asks}
+use Rattle.cell_control.specs.Row.{row_that_asks}
 use Rattle.cell_control.specs.Steps.{Steps}
 use Rattle.cell_unit.specs.Sides.{Side, side_of}
 use Rattle.cell_plant.specs.declared.watch.WatchProgress.{WatchProgress}
@@ -22,10 +22,8 @@ watch_steps =
     record {
       machine = Watch;
       start = λ s. watch_noting false;
-      call = λ p. (row_of p).call;
-      after_done = λ p. (row_of p).next;
+      row = row_of;
       after_inquiry = λ p owner flag posture. p;
-      stays_on = λ p r. waits_on (row_of p).waits r;
       senses = λ s r. r ≡ Ok tt;
       drives = λ p r act. ⊤;
       after_drive = λ p r act. p;

@@ -10,13 +10,14 @@ ghost use Rattle.cell_parts.specs.Axes.{AreCellScales};
 ghost use Rattle.cell_plant.specs.Cells.{IsMadeFor, TellsRun, cell_gauges, cell_scales, five_gauges};
 ghost use Rattle.cell_plant.specs.CellStates.{side_in, plant_of};
 ghost use Rattle.cell_plant.specs.Frames.{SeesRun, SeesBeginning, frame_of, steps_in};
-ghost use Rattle.cell_plant.specs.Moments.{StepsOn, Keeps, first_moment, notes_in, state_at};
+ghost use Rattle.cell_plant.specs.Moments.{StepsOn, Keeps, first_moment, state_at};
+ghost use Rattle.cell_notes.specs.ByMachine.{at_machine};
 ghost use Rattle.cell_plant.specs.Records.{NoneRefused, positions_in};
 ghost use Rattle.cell_plant.specs.Simulations.{given_by};
 
 use crate::cell::Cell;
 use crate::frame::{Frame, MachineSteps};
-use crate::notebooks::Notebooks;
+use crate::notebooks::{Notebooks, counts_in, empty_notebooks, journals_of};
 use crate::watch::{WatchUnit, watch_at_start};
 use crate::watcher::{NoWatcher, SeenFault, Watcher};
 use cell_calib::Gauge;
@@ -127,14 +128,14 @@ impl<F1: Gauge, F2: Gauge, F3: Gauge, F4: Gauge, F5: Gauge> Simulation<F1, F2, F
             cell,
             watch: watch_at_start(&opening),
             bench: Bench::new(alloc, opening),
-            notebooks: Notebooks::new(alloc),
+            notebooks: empty_notebooks(alloc),
         }
     }
 
     // One turn of the schedule: what was asked. It is called in one loop, and inlined there.
     #[inline(always)]
     fn turn(&mut self, turn: Turn) -> Result<TurnCall, SimFault>
-        requires room { (m : Machine) → HasRoom (notes_in self.old.notes m).counts }
+        requires room { (m : Machine) → HasRoom (at_machine self.old.notes m).counts }
         ensures { IfOk result (StepsOn (given_by (record { arm1 = F1.gives; arm2 = F2.gives; rotation = F3.gives; turn = F4.gives; gripper = F5.gives }))
             turn self.old self.new) }
     {
@@ -237,14 +238,14 @@ impl<F1: Gauge, F2: Gauge, F3: Gauge, F4: Gauge, F5: Gauge> Simulation<F1, F2, F
     {
         let status = self.status();
         let axes = self.axes();
-        let counts = self.notebooks.counts();
+        let counts = counts_in(&self.notebooks);
         RunRecord {
             start,
             counts,
             status,
             end: Some(self.bench.state()),
             axes,
-            journals: self.notebooks.into_journals(),
+            journals: journals_of(self.notebooks),
         }
     }
 

@@ -6,7 +6,7 @@ ghost use Rattle.cell_plant.specs.Watch as watch;
 use cell_calib::SensorFault;
 use cell_control::{Controller, Part, Program, Row};
 use cell_rules::State;
-use cell_types::{Call, Event, Machine, Posture, Refusal};
+use cell_types::{Call, Event, Machine, Posture};
 use cell_unit::MachineUnit;
 
 /// The watch's note.
@@ -54,13 +54,8 @@ impl Program for WatchProgram {
     }
 
     #[inline(always)]
-    fn call(&self, progress: WatchProgress) -> Option<Call> {
-        progress.row().call
-    }
-
-    #[inline(always)]
-    fn after_done(&self, progress: WatchProgress) -> WatchProgress {
-        progress.row().next
+    fn row(&self, progress: WatchProgress) -> Row<WatchProgress> {
+        progress.row()
     }
 
     fn after_inquiry(
@@ -71,11 +66,6 @@ impl Program for WatchProgram {
         _posture: Posture,
     ) -> WatchProgress {
         progress
-    }
-
-    #[inline(always)]
-    fn stays_on(&self, progress: WatchProgress, refusal: Refusal) -> bool {
-        progress.row().waits.stays_on(refusal)
     }
 
     fn check(&self, _sense: &()) -> Result<(), SensorFault> {

@@ -23,7 +23,7 @@ begins_by true stood first z Knows in_step begins = in_step refl
 begins_by false stood first z Knows in_step begins = begins
 
 pub demands_met : {S Sense Reading Act : Type 0} → (t : Steps S Sense Reading Act) (in_step : S → ModelState → Bool) (Knows : S → ModelState → Type 0) → IsResumable t in_step Knows
-    → (stood p : S) (reading : Reading) (act : Act) (opening : ModelState) (seen : List Event) → t.call p ≡ None → t.drives p reading act → IsSound opening → IsLegal opening seen
+    → (stood p : S) (reading : Reading) (act : Act) (opening : ModelState) (seen : List Event) → (t.row p).call ≡ None → t.drives p reading act → IsSound opening → IsLegal opening seen
     → IsReached (resumed_steps t in_step stood) opening seen p → t.motor_demands p act opening seen
 demands_met t in_step Knows k stood p reading act opening seen asks drives sound legal r =
     k.demands p reading act opening seen asks drives sound legal

@@ -20,5 +20,5 @@ pub record IsResumable {S Sense Reading Act : Type 0}
   pub enters : (p : S) (s : ModelState) → in_step p s ≡ true → Knows p s
   pub knowing : Knowing t Knows
   pub demands : (p : S) (reading : Reading) (act : Act) (opening : ModelState) (seen : List Event)
-      → t.call p ≡ None → t.drives p reading act → IsSound opening → IsLegal opening seen
+      → (t.row p).call ≡ None → t.drives p reading act → IsSound opening → IsLegal opening seen
       → Knows p (after opening seen) → t.motor_demands p act opening seen

@@ -1,9 +1,9 @@
 //! A program that goes on at a step where it stood.
 
 use cell_calib::SensorFault;
-use cell_control::Program;
+use cell_control::{Program, Row};
 use cell_rules::State;
-use cell_types::{Call, Machine, Posture, Refusal};
+use cell_types::{Machine, Posture};
 
 /// A program that may go on at any of its steps, in a state that is in step with it.
 pub trait Resumable: Program {
@@ -59,12 +59,8 @@ impl<P: Resumable> Program for Resumed<P> {
         }
     }
 
-    fn call(&self, progress: P::Progress) -> Option<Call> {
-        self.program.call(progress)
-    }
-
-    fn after_done(&self, progress: P::Progress) -> P::Progress {
-        self.program.after_done(progress)
+    fn row(&self, progress: P::Progress) -> Row<P::Progress> {
+        self.program.row(progress)
     }
 
     fn after_inquiry(
@@ -75,10 +71,6 @@ impl<P: Resumable> Program for Resumed<P> {
         posture: Posture,
     ) -> P::Progress {
         self.program.after_inquiry(progress, owner, flag, posture)
-    }
-
-    fn stays_on(&self, progress: P::Progress, refusal: Refusal) -> bool {
-        self.program.stays_on(progress, refusal)
     }
 
     fn check(&self, sense: &P::Sense) -> Result<P::Reading, SensorFault> {

@@ -2,14 +2,13 @@
 
 use crate::plant::Plant;
 use cell_calib::{Calibration, Gauge, Points, line_at};
-use cell_control::Program;
+use cell_control::{Program, Wired};
 use cell_haul::{CraneProgram, DepositProgram, FeedProgram};
 use cell_interlock::{Interlock, PassLine};
 use cell_resume::{Checkpoint, Resumed, Team, resume_at};
 use cell_robot::RobotProgram;
 use cell_rules::State;
 use cell_stations::{PressProgram, TableProgram};
-use cell_wired::Wired;
 use std::alloc::Global;
 use std::test::Fail;
 

@@ -25,7 +25,7 @@ use Rattle.cell_devices.specs.Limits.{retracted_to}
 use Rattle.cell_rules.specs.ModelState.{ModelState, is_full}
 use Rattle.cell_control.specs.declared.row.Row.{Row}
 use Rattle.cell_control.specs.declared.row.Waits.TheVariants.{UntilFreeAndOpen}
-use Rattle.cell_control.specs.Row.{waits_on, row_that_asks, row_that_drives, with_waits}
+use Rattle.cell_control.specs.Row.{row_that_asks, row_that_drives, with_waits}
 use Rattle.cell_control.specs.Steps.{Steps}
 use Rattle.cell_control.specs.Demands.{HoldsIn}
 use Rattle.cell_robot.specs.declared.robot.RobotStep.{RobotStep}
@@ -266,10 +266,8 @@ robot_steps points gives =
     record {
       machine = Robot;
       start = robot_start;
-      call = λ p. (row_of p).call;
-      after_done = after_done;
+      row = row_of;
       after_inquiry = λ p owner flag posture. record p { step = step_after_inquiry p.step owner flag posture };
-      stays_on = λ p r. waits_on (row_of p).waits r;
       senses = Senses points gives;
       drives = λ p r act. Acts points p r act;
       after_drive = λ p r act. after_act p r act;

@@ -12,7 +12,7 @@ use cell_devices::stops::{
 };
 use cell_devices::{Motor, RobotAct, Stop, drive_to, is_retracted};
 use cell_rules::State;
-use cell_types::{Call, Machine, Place, Posture, Refusal, Zone};
+use cell_types::{Call, Machine, Place, Posture, Zone};
 
 /// A step of the robot's program.
 #[derive(Clone, Copy, Debug, PartialEq, Eq)]
@@ -410,13 +410,8 @@ impl<F1: Gauge, F2: Gauge, F3: Gauge> Program for RobotProgram<F1, F2, F3> {
     }
 
     #[inline(always)]
-    fn call(&self, progress: RobotProgress) -> Option<Call> {
-        progress.row().call
-    }
-
-    #[inline(always)]
-    fn after_done(&self, progress: RobotProgress) -> RobotProgress {
-        progress.row().next
+    fn row(&self, progress: RobotProgress) -> Row<RobotProgress> {
+        progress.row()
     }
 
     fn after_inquiry(
@@ -430,11 +425,6 @@ impl<F1: Gauge, F2: Gauge, F3: Gauge> Program for RobotProgram<F1, F2, F3> {
             step: progress.step.after_inquiry(owner, flag, posture),
             ..progress
         }
-    }
-
-    #[inline(always)]
-    fn stays_on(&self, progress: RobotProgress, refusal: Refusal) -> bool {
-        progress.row().waits.stays_on(refusal)
     }
 
     // inline, so that a turn that asks computes no reading
@@ -471,7 +461,7 @@ impl<F1: Gauge, F2: Gauge, F3: Gauge> Program for RobotProgram<F1, F2, F3> {
     ) -> RobotProgress {
         let waits = progress.step.turns() && !reading.retracted;
         match (act.arm1, act.arm2, act.rotation) {
-            (Motor::Off, Motor::Off, Motor::Off) if !waits => self.after_done(progress),
+            (Motor::Off, Motor::Off, Motor::Off) if !waits => progress.row().next,
             _ => progress,
         }
     }

@@ -6,14 +6,13 @@ use cell_calib::{
     Calibration, CraneSense, DepositSense, FeedSense, Gauge, Points, PressSense, RobotSense,
     SensorFault, TableSense, line_at,
 };
-use cell_control::{CtlFault, Program};
+use cell_control::{CtlFault, Program, Told};
 use cell_devices::{CraneAct, DepositAct, FeedAct, Motor, PressAct, RobotAct, TableAct};
 use cell_haul::{CraneProgram, DepositProgram, FeedProgram};
 use cell_notes::Status;
 use cell_robot::RobotProgram;
 use cell_rules::State;
 use cell_stations::{PressProgram, TableProgram};
-use cell_wired::Told;
 use cell_workers::{
     Devices, OpenGate, PerMachine, RunFault, SixRecord, WiredOutcome, WiredWorker, run_workers,
 };

@@ -21,7 +21,7 @@ use Rattle.cell_rules.specs.ModelState.{ModelState, is_full}
 use Rattle.cell_rules.specs.History.{Holds, PressMoves}
 use Rattle.cell_control.specs.declared.row.Row.{Row}
 use Rattle.cell_control.specs.declared.row.Waits.TheVariants.{UntilFree, UntilOwner, UntilRoom}
-use Rattle.cell_control.specs.Row.{waits_on, row_that_asks, row_that_drives, with_waits}
+use Rattle.cell_control.specs.Row.{row_that_asks, row_that_drives, with_waits}
 use Rattle.cell_control.specs.Steps.{Steps}
 use Rattle.cell_stations.specs.declared.press.PressStep.{PressStep}
 use Rattle.cell_stations.specs.declared.press.PressStep.TheVariants.{ClaimFirst, LeaveForMiddle, MoveToMiddle, PoseMiddle, ReleaseInterior, TakePlate, LeaveForTop, MoveToTop, PoseTop, Forge, LeaveForBottom, MoveToBottom, PoseLow, GivePlate, ClaimBack}
@@ -114,10 +114,8 @@ press_steps =
     record {
       machine = Press;
       start = press_start;
-      call = λ p. (row_of p).call;
-      after_done = after_done;
+      row = row_of;
       after_inquiry = λ p owner flag posture. p;
-      stays_on = λ p r. waits_on (row_of p).waits r;
       senses = λ s r. r ≡ checked s;
       drives = λ p s act. act ≡ act_for p s;
       after_drive = λ p r act. after_motor p act.press;

@@ -24,7 +24,7 @@ use Rattle.cell_rules.specs.ModelState.{ModelState, is_full}
 use Rattle.cell_rules.specs.History.{Holds, Moves}
 use Rattle.cell_control.specs.declared.row.Row.{Row}
 use Rattle.cell_control.specs.declared.row.Waits.TheVariants.{UntilFree, UntilOwner, UntilRoom}
-use Rattle.cell_control.specs.Row.{waits_on, row_that_asks, row_that_drives, with_waits}
+use Rattle.cell_control.specs.Row.{row_that_asks, row_that_drives, with_waits}
 use Rattle.cell_control.specs.Steps.{Steps}
 use Rattle.cell_stations.specs.declared.table.TableStep.{TableStep}
 use Rattle.cell_stations.specs.declared.table.TableStep.TheVariants.{ClaimEntry, ClaimExit, LeaveForLoading, MoveToLoading, PoseLoading, ReleaseEntry, TakePlate, LeaveForUnloading, MoveToUnloading, PoseUnloading, GivePlate, ClaimBack}
@@ -127,10 +127,8 @@ table_steps points gives =
     record {
       machine = TableMachine;
       start = table_start;
-      call = λ p. (row_of p).call;
-      after_done = after_done;
+      row = row_of;
       after_inquiry = λ p owner flag posture. p;
-      stays_on = λ p r. waits_on (row_of p).waits r;
       senses = Senses points gives;
       drives = λ p r act. Acts points p.step r act;
       after_drive = λ p r act. after_act p act;

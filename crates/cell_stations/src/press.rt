@@ -6,7 +6,7 @@ use cell_calib::{PressSense, SensorFault};
 use cell_control::{Controller, Program, Row, Waits};
 use cell_devices::{Direction, Motor, PressAct, press_to_bottom, press_to_middle, press_to_top};
 use cell_rules::State;
-use cell_types::{Call, Machine, Place, Pose, Posture, Refusal, Zone};
+use cell_types::{Call, Machine, Place, Pose, Posture, Zone};
 
 /// A step of the press's program.
 #[derive(Clone, Copy, Debug, PartialEq, Eq)]
@@ -169,13 +169,8 @@ impl Program for PressProgram {
     }
 
     #[inline(always)]
-    fn call(&self, progress: PressProgress) -> Option<Call> {
-        progress.row().call
-    }
-
-    #[inline(always)]
-    fn after_done(&self, progress: PressProgress) -> PressProgress {
-        progress.row().next
+    fn row(&self, progress: PressProgress) -> Row<PressProgress> {
+        progress.row()
     }
 
     fn after_inquiry(
@@ -186,11 +181,6 @@ impl Program for PressProgram {
         _posture: Posture,
     ) -> PressProgress {
         progress
-    }
-
-    #[inline(always)]
-    fn stays_on(&self, progress: PressProgress, refusal: Refusal) -> bool {
-        progress.row().waits.stays_on(refusal)
     }
 
     fn check(&self, sense: &PressSense) -> Result<PressSense, SensorFault> {
@@ -213,7 +203,7 @@ impl Program for PressProgram {
         act: PressAct,
     ) -> PressProgress {
         match act.press {
-            Motor::Off => self.after_done(progress),
+            Motor::Off => progress.row().next,
             motor => PressProgress {
                 direction: progress.direction.after(motor),
                 ..progress

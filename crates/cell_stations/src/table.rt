@@ -8,7 +8,7 @@ use cell_control::{Controller, Program, Row, Waits};
 use cell_devices::stops::{TURN_LOADING, TURN_UNLOADING};
 use cell_devices::{Motor, Stop, TableAct, drive_to, table_to_bottom, table_to_top};
 use cell_rules::State;
-use cell_types::{Call, Machine, Place, Pose, Posture, Refusal, Zone};
+use cell_types::{Call, Machine, Place, Pose, Posture, Zone};
 
 /// A step of the table's program.
 #[derive(Clone, Copy, Debug, PartialEq, Eq)]
@@ -193,13 +193,8 @@ impl<F: Gauge> Program for TableProgram<F> {
     }
 
     #[inline(always)]
-    fn call(&self, progress: TableProgress) -> Option<Call> {
-        progress.row().call
-    }
-
-    #[inline(always)]
-    fn after_done(&self, progress: TableProgress) -> TableProgress {
-        progress.row().next
+    fn row(&self, progress: TableProgress) -> Row<TableProgress> {
+        progress.row()
     }
 
     fn after_inquiry(
@@ -210,11 +205,6 @@ impl<F: Gauge> Program for TableProgram<F> {
         _posture: Posture,
     ) -> TableProgress {
         progress
-    }
-
-    #[inline(always)]
-    fn stays_on(&self, progress: TableProgress, refusal: Refusal) -> bool {
-        progress.row().waits.stays_on(refusal)
     }
 
     // inline, so that a turn that asks computes no reading
@@ -246,7 +236,7 @@ impl<F: Gauge> Program for TableProgram<F> {
         act: TableAct,
     ) -> TableProgress {
         match (act.height, act.rotation) {
-            (Motor::Off, Motor::Off) => self.after_done(progress),
+            (Motor::Off, Motor::Off) => progress.row().next,
             _ => progress,
         }
     }

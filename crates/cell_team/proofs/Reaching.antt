@@ -92,9 +92,9 @@ yieldless z (e ∷ h) own =
 
 pub record KnowingMore {S Sense Reading Act : Type 0} (t : Steps S Sense Reading Act) (Knows More : S → ModelState → Type 0) : Type 0 where
   pub foreign : (p : S) (z : ModelState) (n : Machine) (c : Call) → same_machine n t.machine ≡ false → IsSound z → IsYieldless z n c → More p z → More p (next z n c)
-  pub after_drive : (p : S) (reading : _) (act : _) (z : ModelState) → t.call p ≡ None → t.drives p reading act → More p z → More (t.after_drive p reading act) z
-  pub after_done : (p : S) (z : ModelState) (c : Call) → t.call p ≡ Some c → reply z t.machine c ≡ Done → IsSound z → Knows p z → More p z → More (t.after_done p) (changed z t.machine c)
-  pub after_inquiry : (p : S) (z : ModelState) (c : Call) (owner : Option Machine) (flag : Bool) (posture : Posture) → t.call p ≡ Some c → reply z t.machine c ≡ Shown owner flag posture → IsSound z → Knows p z → More p z → More (t.after_inquiry p owner flag posture) z
+  pub after_drive : (p : S) (reading : _) (act : _) (z : ModelState) → (t.row p).call ≡ None → t.drives p reading act → More p z → More (t.after_drive p reading act) z
+  pub after_done : (p : S) (z : ModelState) (c : Call) → (t.row p).call ≡ Some c → reply z t.machine c ≡ Done → IsSound z → Knows p z → More p z → More (t.row p).next (changed z t.machine c)
+  pub after_inquiry : (p : S) (z : ModelState) (c : Call) (owner : Option Machine) (flag : Bool) (posture : Posture) → (t.row p).call ≡ Some c → reply z t.machine c ≡ Shown owner flag posture → IsSound z → Knows p z → More p z → More (t.after_inquiry p owner flag posture) z
 
 ok_same : {S : Type 0} → (b : Bool) (p q : S) (f : CtlFault) → (if b then Ok p else Err f) ≡ Ok q → p ≡ q
 ok_same true p q f e = cc
@@ -111,9 +111,9 @@ module _ {S Sense Reading Act : Type 0} (t : Steps S Sense Reading Act) (Knows M
       moves_both n r.0 q z r.2
       (subst (λ x. Both x z) (sym d.is) (knowing.after_drive p d.reading d.act z d.asks_nothing d.drives k.0, more.after_drive p d.reading d.act z d.asks_nothing d.drives k.1))
 
-  answer_both : (a : Answer) (p q : S) (z : ModelState) (c : Call) → t.call p ≡ Some c → after_answer t p a ≡ Ok q → reply z t.machine c ≡ a → IsSound z → Both p z → Both q (next_by a z t.machine c)
+  answer_both : (a : Answer) (p q : S) (z : ModelState) (c : Call) → (t.row p).call ≡ Some c → after_answer t p a ≡ Ok q → reply z t.machine c ≡ a → IsSound z → Both p z → Both q (next_by a z t.machine c)
   answer_both Done p q z c e l d sound k =
-      let same : t.after_done p ≡ q = cc in
+      let same : (t.row p).next ≡ q = cc in
       subst (λ x. Both x (changed z t.machine c)) same (knowing.after_done p z c e d sound k.0, more.after_done p z c e d sound k.0 k.1)
   answer_both (Refused r) p q z c e l d sound k = subst (λ x. Both x z) (ok_same (waits_out t p r) p q (fault_of r) l) k
   answer_both (Shown o f x) p q z c e l d sound k =
@@ -126,7 +126,7 @@ module _ {S Sense Reading Act : Type 0} (t : Steps S Sense Reading Act) (Knows M
   same_both (Refused r) p q z c e same k = subst (λ x. Both x z) (sym same) k
   same_both (Shown o f x) p q z c e same k = subst (λ y. Both y z) (sym same) k
 
-  led_both : (a : Answer) (p q : S) (z : ModelState) (c : Call) → t.call p ≡ Some c → LeadsOrStays t p a q → reply z t.machine c ≡ a → IsSound z → Both p z → Both q (next_by a z t.machine c)
+  led_both : (a : Answer) (p q : S) (z : ModelState) (c : Call) → (t.row p).call ≡ Some c → LeadsOrStays t p a q → reply z t.machine c ≡ a → IsSound z → Both p z → Both q (next_by a z t.machine c)
   led_both a p q z c e (inl l) d sound k = answer_both a p q z c e l d sound k
   led_both a p q z c e (inr stays) d sound k = same_both a p q z c stays.0 stays.1 k
 

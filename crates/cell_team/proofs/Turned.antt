@@ -67,7 +67,7 @@ module _ {S Sense Reading Act : Type 0} (t : Steps S Sense Reading Act) (o : Mod
       subst (λ h. Reached (program_with_stops t) (t.start o) h p) same k
 
   -- a refused call leaves the machine at its step, or stops it there
-  refused_by : (b : Bool) (p : S) (c : Call) (r : Refusal) (before now : List Event) → waits_out t p r ≡ b → t.call p ≡ Some c → Settles t.machine c (Refused r) before now → HasCome t o before p
+  refused_by : (b : Bool) (p : S) (c : Call) (r : Refusal) (before now : List Event) → waits_out t p r ≡ b → (t.row p).call ≡ Some c → Settles t.machine c (Refused r) before now → HasCome t o before p
       → StandsAs now (turned p (at_rest (t.rest p) (if b then Ok p else Err (fault_of r))))
   refused_by true p c r before now w e s k =
       fine now None p (reached-settles (program_with_stops t) (t.start o) p p t.machine c (Refused r) before now s k e (inr (refl, refl))) (λ x f. cc) (λ f. cc)
@@ -86,8 +86,8 @@ module _ {S Sense Reading Act : Type 0} (t : Steps S Sense Reading Act) (o : Mod
     not_again = λ f. not_again (fault_of r) r refl (the_fault (fault_of r) fault.Stopped f);
   }
 
-  answered : (p : S) (c : Call) (r : Result Reply LineFault) (before now : List Event) → t.call p ≡ Some c → Sees t.machine c r before now → HasCome t o before p → StandsAs now (turned p (at_rest (t.rest p) (outcome t p r)))
-  answered p c (Ok (Settled Done stamp)) before now e seen k = fine now None (t.after_done p) (reached-settles (program_with_stops t) (t.start o) p (t.after_done p) t.machine c Done before now seen k e (inl refl)) (λ x f. cc) (λ f. cc)
+  answered : (p : S) (c : Call) (r : Result Reply LineFault) (before now : List Event) → (t.row p).call ≡ Some c → Sees t.machine c r before now → HasCome t o before p → StandsAs now (turned p (at_rest (t.rest p) (outcome t p r)))
+  answered p c (Ok (Settled Done stamp)) before now e seen k = fine now None (t.row p).next (reached-settles (program_with_stops t) (t.start o) p (t.row p).next t.machine c Done before now seen k e (inl refl)) (λ x f. cc) (λ f. cc)
   answered p c (Ok (Settled (Shown m b q) stamp)) before now e seen k =
       fine now None (t.after_inquiry p m b q) (reached-settles (program_with_stops t) (t.start o) p (t.after_inquiry p m b q) t.machine c (Shown m b q) before now seen k e (inl refl)) (λ x f. cc) (λ f. cc)
   answered p c (Ok (Settled (Refused r) stamp)) before now e seen k = refused_by (waits_out t p r) p c r before now refl e seen k
@@ -99,7 +99,7 @@ module _ {S Sense Reading Act : Type 0} (t : Steps S Sense Reading Act) (o : Mod
     still : (p : S) → same → HasCome t o before p → HasCome t o now p
     still p s k = subst (λ h. HasCome t o h p) (sym (stays s)) k
 
-    by_call : (call : Option Call) (p : S) (reading : Reading) (r : Performed S Act) → t.call p ≡ call → PerformsCall t call same asks p reading r → HasCome t o before p → StandsAs now (turned p r)
+    by_call : (call : Option Call) (p : S) (reading : Reading) (r : Performed S Act) → (t.row p).call ≡ call → PerformsCall t call same asks p reading r → HasCome t o before p → StandsAs now (turned p r)
     by_call None p reading r e h k =
         let drives : DrivesOn t p (t.after_drive p reading h.1.0) = record { asks_nothing = e; reading = reading; act = h.1.0; drives = h.1.1; is = refl } in
         subst (λ x. StandsAs now (turned p x)) (sym h.1.2)
@@ -108,7 +108,7 @@ module _ {S Sense Reading Act : Type 0} (t : Steps S Sense Reading Act) (o : Mod
 
     by_sensed : (sensed : Result Reading SensorFault) (p : S) (r : Performed S Act) → PerformsSensed t sensed same asks p r → HasCome t o before p → StandsAs now (turned p r)
     by_sensed (Err f) p r h k = subst (λ x. StandsAs now (turned p x)) (sym h.1) (fine now (Some (fault.Sensor f)) p (still p h.0 k) (λ x f. cc) (λ f. cc))
-    by_sensed (Ok reading) p r h k = by_call (t.call p) p reading r refl h k
+    by_sensed (Ok reading) p r h k = by_call (t.row p).call p reading r refl h k
 
     pub stands_on : (p : S) (sense : Sense) (w : Turned S Act) → Turns t same asks None p sense w → HasCome t o before p → StandsAs now w
     stands_on p sense w h k = subst (λ x. StandsAs now x) (sym h.2) (by_sensed h.1.sensed p h.0 h.1.performs k)

@@ -23,7 +23,7 @@ is_worn _ = false
 -- if what the step asks is refused in this state, the step waits for that, or the stamps are worn
 abbrev pub IsHeeded : {S Sense Reading Act : Type 0} → Steps S Sense Reading Act → ModelState → S → Type 0
 IsHeeded t z p =
-    (call : Call) (r : Refusal) → t.call p ≡ Some call → reply z t.machine call ≡ Refused r
+    (call : Call) (r : Refusal) → (t.row p).call ≡ Some call → reply z t.machine call ≡ Refused r
     → IsTrue (waits_out t p r || is_worn r)
 
 pub record AreHeeded (t : Programs) (z : ModelState) (team : Team) : Type 0 where
@@ -53,7 +53,7 @@ pub record IsStoppedBy {S Sense Reading Act : Type 0} (t : Steps S Sense Reading
   pub refusal : Refusal
   pub split : history ≡ before ++ event t.machine call (Refused refusal) ∷ rest
   pub come : HasCome t opening before p
-  pub asks : t.call p ≡ Some call
+  pub asks : (t.row p).call ≡ Some call
   pub stops : after_refusal t p refusal ≡ Err fault
 
 -- no refusal but a worn one has stopped it, at any step

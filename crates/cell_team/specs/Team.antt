@@ -74,14 +74,14 @@ LeadsOrStays t p a q = (after_answer t p a ≡ Ok q) ⊎ ((is_done_answer a ≡ 
 
 -- a step that asks nothing leads on by some reading, whatever sensors give it
 pub record DrivesOn {S Sense Reading Act : Type 0} (t : Steps S Sense Reading Act) (p q : S) : Type 0 where
-  pub asks_nothing : t.call p ≡ None
+  pub asks_nothing : (t.row p).call ≡ None
   pub reading : Reading
   pub act : Act
   pub drives : t.drives p reading act
   pub is : q ≡ t.after_drive p reading act
 
 abbrev pub program_with_stops : {S Sense Reading Act : Type 0} → Steps S Sense Reading Act → Program S
-program_with_stops t = record { machine = t.machine; call = t.call; leads = LeadsOrStays t; moves = DrivesOn t }
+program_with_stops t = record { machine = t.machine; call = λ p. (t.row p).call; leads = LeadsOrStays t; moves = DrivesOn t }
 
 -- a machine has come from one step to another by its own events in a history, and may have stopped there
 abbrev pub HasComeFrom : {S Sense Reading Act : Type 0} → Steps S Sense Reading Act → S → List Event → S → Type 0

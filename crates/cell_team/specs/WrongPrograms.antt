@@ -3,7 +3,7 @@ use Rattle.std.specs.Prelude.{pos}
 use Rattle.cell_calib.specs.Scale.{Scale, scale_by}
 use Rattle.cell_control.specs.declared.row.Row.{Row}
 use Rattle.cell_control.specs.declared.row.Waits.TheVariants.{Never, UntilFree}
-use Rattle.cell_control.specs.Row.{waits_on, with_waits}
+use Rattle.cell_control.specs.Row.{with_waits}
 use Rattle.cell_control.specs.Steps.{Steps}
 use Rattle.cell_haul.specs.declared.crane.CraneProgress.{CraneProgress}
 use Rattle.cell_haul.specs.declared.crane.CraneStep.{CraneStep}
@@ -42,7 +42,7 @@ scales = record { arm1 = scale; arm2 = scale; rotation = scale; turn = scale; gr
 
 -- a program that asks by these rows
 abbrev pub with_rows : {S Sense Reading Act : Type 0} → Steps S Sense Reading Act → (S → Row S) → Steps S Sense Reading Act
-with_rows t row = record t { call = λ p. (row p).call; after_done = λ p. (row p).next; stays_on = λ p r. waits_on (row p).waits r }
+with_rows t rows = record t { row = rows }
 
 -- the cell's programs, but one machine asks by these rows
 abbrev pub by_feed : (FeedStep → FeedProgress → Row FeedProgress) → Programs

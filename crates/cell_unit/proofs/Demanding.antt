@@ -19,7 +19,7 @@ pub record Demanding {S Sense Reading Act State : Type 0} (t : Steps S Sense Rea
   -- actuators at rest demand nothing, at any next step
   pub rests : (z : ModelState) (p q : S) (b : State) → Demands z q (rig.set b (t.rest p))
   -- a drive meets the demands of its commands
-  pub after_drive : (z : ModelState) (p : S) (b : State) (s : Sense) (reading : Reading) (act : Act) → t.call p ≡ None → rig.shows b s → t.senses s (Ok reading) → t.drives p reading act → Inv z p b
+  pub after_drive : (z : ModelState) (p : S) (b : State) (s : Sense) (reading : Reading) (act : Act) → (t.row p).call ≡ None → rig.shows b s → t.senses s (Ok reading) → t.drives p reading act → Inv z p b
       → Demands z (t.after_drive p reading act) (rig.set b act)
   -- its part may move
   pub moves : (z : ModelState) (p : S) (b : State) → Told z p b → Demands z p b → Demands z p (rig.moves b)
@@ -34,7 +34,7 @@ demands_kept t rig Inv Told Demands k d =
     record {
       foreign = λ z p b n c apart sound i. (k.foreign z p b n c apart sound i.0, d.foreign z p b n c apart sound i.0 i.1);
       rests = λ z p b i. (k.rests z p b i.0, d.rests z p p b);
-      after_done = λ z p b c e done sound i. (k.after_done z p b c e done sound i.0, d.rests _ p (t.after_done p) _);
+      after_done = λ z p b c e done sound i. (k.after_done z p b c e done sound i.0, d.rests _ p (t.row p).next _);
       after_inquiry = λ z p b c owner flag posture e shown sound i. (k.after_inquiry z p b c owner flag posture e shown sound i.0, d.rests z p (t.after_inquiry p owner flag posture) b);
       after_drive = λ z p b s reading act e shows senses drives i. (k.after_drive z p b s reading act e shows senses drives i.0, d.after_drive z p b s reading act e shows senses drives i.0);
       told = λ z p b i. (k.told z p b i.0, i.1);
@@ -48,7 +48,7 @@ WhileOn m on facts z p b = on b → AreSo m z (facts p)
 -- no other machine changes them; it is enough that rest turns the motor off, a drive has them, a tick turns none on
 pub demanding_while_on : {S Sense Reading Act State : Type 0} → (t : Steps S Sense Reading Act) (rig : Rig State Sense Act) (Inv Told : ModelState → S → State → Type 0) (on : State → Type 0) (facts : S → List Fact)
     → ((p : S) (b : State) → on (rig.set b (t.rest p)) → ⊥)
-    → ((z : ModelState) (p : S) (b : State) (s : Sense) (reading : Reading) (act : Act) → t.call p ≡ None → rig.shows b s → t.senses s (Ok reading) → t.drives p reading act → Inv z p b
+    → ((z : ModelState) (p : S) (b : State) (s : Sense) (reading : Reading) (act : Act) → (t.row p).call ≡ None → rig.shows b s → t.senses s (Ok reading) → t.drives p reading act → Inv z p b
     → on (rig.set b act) → AreSo t.machine z (facts (t.after_drive p reading act)))
     → ((b : State) → on (rig.moves b) → on b)
     → Demanding t rig Inv Told (WhileOn t.machine on facts)

@@ -37,10 +37,10 @@ pub record Keeping {S Sense Reading Act State : Type 0} (t : Steps S Sense Readi
   pub foreign : (z : ModelState) (p : S) (b : State) (n : Machine) (c : Call) → same_machine n t.machine ≡ false → IsSound z → Inv z p b → Inv (next z n c) p b
   -- actuators at rest; a call that is done; what an inquiry showed; a drive
   pub rests : (z : ModelState) (p : S) (b : State) → Inv z p b → Told z p (rig.set b (t.rest p))
-  pub after_done : (z : ModelState) (p : S) (b : State) (c : Call) → t.call p ≡ Some c → reply z t.machine c ≡ Done → IsSound z → Inv z p b → Told (changed z t.machine c) (t.after_done p) (rig.set (rig.notes b (event t.machine c Done)) (t.rest p))
-  pub after_inquiry : (z : ModelState) (p : S) (b : State) (c : Call) (owner : Option Machine) (flag : Bool) (posture : Posture) → t.call p ≡ Some c → reply z t.machine c ≡ Shown owner flag posture → IsSound z → Inv z p b
+  pub after_done : (z : ModelState) (p : S) (b : State) (c : Call) → (t.row p).call ≡ Some c → reply z t.machine c ≡ Done → IsSound z → Inv z p b → Told (changed z t.machine c) (t.row p).next (rig.set (rig.notes b (event t.machine c Done)) (t.rest p))
+  pub after_inquiry : (z : ModelState) (p : S) (b : State) (c : Call) (owner : Option Machine) (flag : Bool) (posture : Posture) → (t.row p).call ≡ Some c → reply z t.machine c ≡ Shown owner flag posture → IsSound z → Inv z p b
       → Told z (t.after_inquiry p owner flag posture) (rig.set b (t.rest p))
-  pub after_drive : (z : ModelState) (p : S) (b : State) (s : Sense) (reading : Reading) (act : Act) → t.call p ≡ None → rig.shows b s → t.senses s (Ok reading) → t.drives p reading act → Inv z p b
+  pub after_drive : (z : ModelState) (p : S) (b : State) (s : Sense) (reading : Reading) (act : Act) → (t.row p).call ≡ None → rig.shows b s → t.senses s (Ok reading) → t.drives p reading act → Inv z p b
       → Told z (t.after_drive p reading act) (rig.set b act)
   -- before its part has moved, and after
   pub told : (z : ModelState) (p : S) (b : State) → Told z p b → Inv z p b
@@ -59,12 +59,12 @@ module _ {S Sense Reading Act State : Type 0} (t : Steps S Sense Reading Act) (r
   stays true f same nothing = quiet p (t.rest p) same nothing (keeps.rests z p b i)
   stays false f same nothing = quiet p (t.rest p) same nothing (keeps.rests z p b i)
 
-  asked_for : (c : Call) (r : Result Reply LineFault) → t.call p ≡ Some c → IsSound z → Answers z t.machine busy c r y → asked ≡ Some (c, r) → After (turned p (at_rest (t.rest p) (outcome t p r)))
+  asked_for : (c : Call) (r : Result Reply LineFault) → (t.row p).call ≡ Some c → IsSound z → Answers z t.machine busy c r y → asked ≡ Some (c, r) → After (turned p (at_rest (t.rest p) (outcome t p r)))
   asked_for c (Ok (Settled Done stamp)) e sound k a =
       let done : reply z t.machine c ≡ Done = sym k.1 in
       let is : y ≡ changed z t.machine c = k.3 ∙ ap (λ x. next_by x z t.machine c) done in
-      subst (λ x. Told y (t.after_done p) (part_set t rig b x (t.rest p))) (sym a)
-      (subst (λ x. Told x (t.after_done p) (rig.set (rig.notes b (event t.machine c Done)) (t.rest p))) (sym is) (keeps.after_done z p b c e done sound i))
+      subst (λ x. Told y (t.row p).next (part_set t rig b x (t.rest p))) (sym a)
+      (subst (λ x. Told x (t.row p).next (rig.set (rig.notes b (event t.machine c Done)) (t.rest p))) (sym is) (keeps.after_done z p b c e done sound i))
   asked_for c (Ok (Settled (Refused r) stamp)) e sound k a = stays (waits_out t p r) (fault_of r) (k.3 ∙ ap (λ x. next_by x z t.machine c) (sym k.1)) (ap (done_in t.machine) a)
   asked_for c (Ok (Settled (Shown o f q) stamp)) e sound k a =
       quiet (t.after_inquiry p o f q) (t.rest p) (k.3 ∙ ap (λ x. next_by x z t.machine c) (sym k.1)) (ap (done_in t.machine) a) (keeps.after_inquiry z p b c o f q e (sym k.1) sound i)
@@ -72,14 +72,14 @@ module _ {S Sense Reading Act State : Type 0} (t : Steps S Sense Reading Act) (r
   asked_for c (Err fault) e sound k a = quiet p (t.rest p) k.1 (ap (done_in t.machine) a) (keeps.rests z p b i)
 
   module _ (s : Sense) (shows : rig.shows b s) (sound : IsSound z) where
-    by_step : (o : Option Call) (reading : Reading) (r : Performed S Act) → t.call p ≡ o → t.senses s (Ok reading) → PerformsCall t o (AsksNothing z asked y) (AsksOnce z t.machine busy asked y) p reading r → After (turned p r)
+    by_step : (o : Option Call) (reading : Reading) (r : Performed S Act) → (t.row p).call ≡ o → t.senses s (Ok reading) → PerformsCall t o (AsksNothing z asked y) (AsksOnce z t.machine busy asked y) p reading r → After (turned p r)
     by_step None reading r e senses k =
         subst (λ x. After (turned p x)) (sym k.1.2) (quiet (t.after_drive p reading k.1.0) k.1.0 k.0.0 (ap (done_in t.machine) k.0.1) (keeps.after_drive z p b s reading k.1.0 e shows senses k.1.1 i))
     by_step (Some c) reading r e senses k = subst (λ x. After (turned p x)) (sym k.2) (asked_for c k.0 e sound k.1.0 k.1.1)
 
     by_sensors : (sensed : Result Reading SensorFault) (r : Performed S Act) → t.senses s sensed → PerformsSensed t sensed (AsksNothing z asked y) (AsksOnce z t.machine busy asked y) p r → After (turned p r)
     by_sensors (Err fault) r senses k = subst (λ x. After (turned p x)) (sym k.1) (quiet p (t.rest p) k.0.0 (ap (done_in t.machine) k.0.1) (keeps.rests z p b i))
-    by_sensors (Ok reading) r senses k = by_step (t.call p) reading r refl senses k
+    by_sensors (Ok reading) r senses k = by_step (t.row p).call reading r refl senses k
 
     by_row : (stopped : Option CtlFault) (w : Turned S Act) → stopped ≡ None → Turns t (AsksNothing z asked y) (AsksOnce z t.machine busy asked y) stopped p s w → After w
     by_row None w e k = subst After (sym k.2) (by_sensors k.1.sensed k.0 k.1.senses k.1.performs)
@@ -116,18 +116,18 @@ others_keep t rig Inv Told keeps z y m p b apart by sound i = by_call (λ x. Inv
 
 -- the actuators' commands in a turn are those of a step that asks or of a step that drives
 module _ {S Sense Reading Act : Type 0} (t : Steps S Sense Reading Act) (same : Type 0) (asks : Call → Result Reply LineFault → Type 0) (p : S) (s : Sense) (Q : Act → Type 0) (rests : Q (t.rest p))
-    (drives : (reading : Reading) (act : Act) → t.call p ≡ None → t.senses s (Ok reading) → t.drives p reading act → Q act) where
+    (drives : (reading : Reading) (act : Act) → (t.row p).call ≡ None → t.senses s (Ok reading) → t.drives p reading act → Q act) where
   at_rest_is : (r : Result S CtlFault) → Q (act_or_rest (t.rest p) (turned p (at_rest (t.rest p) r)).result)
   at_rest_is (Ok q) = rests
   at_rest_is (Err f) = rests
 
-  told_by_step : (o : Option Call) (reading : Reading) (r : Performed S Act) → t.call p ≡ o → t.senses s (Ok reading) → PerformsCall t o same asks p reading r → Q (act_or_rest (t.rest p) (turned p r).result)
+  told_by_step : (o : Option Call) (reading : Reading) (r : Performed S Act) → (t.row p).call ≡ o → t.senses s (Ok reading) → PerformsCall t o same asks p reading r → Q (act_or_rest (t.rest p) (turned p r).result)
   told_by_step None reading r e senses k = subst (λ x. Q (act_or_rest (t.rest p) (turned p x).result)) (sym k.1.2) (drives reading k.1.0 e senses k.1.1)
   told_by_step (Some c) reading r e senses k = subst (λ x. Q (act_or_rest (t.rest p) (turned p x).result)) (sym k.2) (at_rest_is (outcome t p k.0))
 
   told_by_sensors : (sensed : Result Reading SensorFault) (r : Performed S Act) → t.senses s sensed → PerformsSensed t sensed same asks p r → Q (act_or_rest (t.rest p) (turned p r).result)
   told_by_sensors (Err fault) r senses k = subst (λ x. Q (act_or_rest (t.rest p) (turned p x).result)) (sym k.1) rests
-  told_by_sensors (Ok reading) r senses k = told_by_step (t.call p) reading r refl senses k
+  told_by_sensors (Ok reading) r senses k = told_by_step (t.row p).call reading r refl senses k
 
   -- also if the controller had stopped before
   pub turn_tells : (stopped : Option CtlFault) (w : Turned S Act) → Turns t same asks stopped p s w → Q (act_or_rest (t.rest p) w.result)

@@ -20,6 +20,7 @@ use Rattle.cell_control.specs.declared.fault.CtlFault.{CtlFault}
 use Rattle.cell_control.specs.declared.fault.CtlFault.TheVariants as fault
 use Rattle.cell_control.specs.Faults.{fault_of}
 use Rattle.cell_control.specs.Rigs.{Rig}
+use Rattle.cell_control.specs.Row.{waits_on}
 use Rattle.cell_control.specs.Steps.{Steps, is_while_stopped, waits_out, outcome}
 use Rattle.cell_control.specs.Turns.{Turned, Turns, at_rest, turned}
 use Rattle.cell_control.specs.TurnRows.{stops_with}
@@ -100,7 +101,7 @@ module _ {S Sense Reading Act State : Type 0} (t : Steps S Sense Reading Act) (r
     done = λ reading call stamp i k. answered_end _ reading call i k;
     shown = λ reading call owner flag posture stamp i k. answered_end _ reading call i k;
     waits = λ reading call r stamp e i k. refused_end true r stamp reading call (ap (λ x. x || is_while_stopped r) e) i k;
-    while_stopped = λ reading call stamp i k. refused_end true _ stamp reading call (or-true (t.stays_on before.progress Stopped)) i k;
+    while_stopped = λ reading call stamp i k. refused_end true _ stamp reading call (or-true (waits_on (t.row before.progress).waits Stopped)) i k;
     refused = λ reading call stamp e i k. refused_end false _ stamp reading call (ap (λ x. x || false) e) i k;
     worn = λ reading call stamp e i k. refused_end false _ stamp reading call (ap (λ x. x || false) e) i k;
     busy = λ reading call lost stamp i k. answered_end _ reading call i k;

@@ -1,5 +1,5 @@
 -- One turn of any machine over a bench.
-use Rattle.std.proofs.Common.{◌≡◌, Bool, true, false, ◌++◌, append-nil, Option, Some, None, List, IfOk, Result, Ok, Err, refl, sym, ap, ◌∙◌, subst, if◌then◌else◌}
+use Rattle.std.proofs.Common.{◌≡◌, ◌≢◌, Bool, true, false, ◌++◌, append-nil, Option, Some, None, List, IfOk, Result, Ok, Err, refl, sym, ap, ◌∙◌, subst, if◌then◌else◌}
 use Rattle.std.specs.Option.{is_none}
 use Rattle.cell_types.specs.declared.machine.Machine.{Machine}
 use Rattle.cell_types.specs.declared.call.Call.{Call}
@@ -12,7 +12,7 @@ use Rattle.cell_rules.specs.ModelState.{ModelState}
 use Rattle.cell_rules.specs.Benches.{Desk, BenchAsks}
 use Rattle.cell_control.specs.Rigs.{Rig}
 use Rattle.cell_control.specs.Steps.{Steps, with_senses}
-use Rattle.cell_control.specs.Turns.{Performed, Turned, Turns, turned}
+use Rattle.cell_control.specs.Turns.{Performed, Turned, Turns, answered, turned}
 use Rattle.cell_control.specs.declared.fault.CtlFault.{CtlFault}
 use Rattle.cell_control.proofs.TurnMaps.{turn_map, turn_either}
 use Rattle.cell_control.proofs.Senses.{turns_still}
@@ -20,6 +20,15 @@ use Rattle.cell_notes.specs.Asks.{TurnCall, done_in, settled_by, settled_in}
 use Rattle.cell_notes.specs.Notes.{Notes, notes_with}
 use Rattle.cell_unit.specs.Sides.{Side, Acts, ActsAndMoves, DemandsHold, TellsByDemands, act_or_rest, noting, part_set}
 use Rattle.cell_unit.specs.UnitTurns.{Answers, Leads, UnitTurn}
+
+-- what the actuators are told, by what came of the turn
+pub told_act : {Act : Type 0} (rest act : Act) (fault : Option CtlFault) → (fault ≢ None → act ≡ rest) → act_or_rest rest (answered act fault) ≡ act
+told_act rest act None k = refl
+told_act rest act (Some fault) k = sym (k (λ e. cc))
+
+pub if_told : {Act : Type 0} (D : Act → Type 0) (act : Act) (fault : Option CtlFault) → (fault ≡ None → D act) → IfOk (answered act fault) D
+if_told D act None k = k refl
+if_told D act (Some fault) k = tt
 
 -- a turn, by another relation to its line
 pub acts_map : {S Sense Reading Act State : Type 0} → (t : Steps S Sense Reading Act) (rig : Rig State Sense Act) (same same' : Type 0) (asks asks' : Call → Result Reply LineFault → Type 0) → (same → same')

@@ -17,6 +17,7 @@ use Rattle.cell_rules.specs.Benches.{Desk}
 use Rattle.cell_control.specs.declared.fault.CtlFault.{CtlFault}
 use Rattle.cell_control.specs.declared.fault.CtlFault.TheVariants as fault
 use Rattle.cell_control.specs.Rigs.{Rig}
+use Rattle.cell_control.specs.Row.{waits_on}
 use Rattle.cell_control.specs.Steps.{Steps}
 use Rattle.cell_control.specs.TurnRows.{Says}
 use Rattle.cell_notes.specs.declared.status.Status.TheVariants.{Fine, Worn, Sensor, Refused, Memory}
@@ -50,12 +51,12 @@ PartSays {Sense = Sense} t rig part said = (s : Sense) → rig.shows part s → 
 pub record IsAsking {S Sense Reading Act State : Type 0} (t : Steps S Sense Reading Act) (rig : Rig State Sense Act) (before : Side S State) (reading : Reading) (call : Call) : Type 0 where
   pub runs : before.stopped ≡ None
   pub says : PartSays t rig before.part (Ok reading)
-  pub asks : t.call before.progress ≡ Some call
+  pub asks : (t.row before.progress).call ≡ Some call
 
 pub record IsDriving {S Sense Reading Act State : Type 0} (t : Steps S Sense Reading Act) (rig : Rig State Sense Act) (before : Side S State) (reading : Reading) (act : Act) : Type 0 where
   pub runs : before.stopped ≡ None
   pub says : PartSays t rig before.part (Ok reading)
-  pub asks_nothing : t.call before.progress ≡ None
+  pub asks_nothing : (t.row before.progress).call ≡ None
   pub drives_only : (other : Act) → t.drives before.progress reading other → other ≡ act
 
 -- a turn over a line that answers so; and one over a line that is asked nothing
@@ -68,19 +69,19 @@ Alone t rig before asked now = ActsAndMoves t rig ⊤ (λ call r. ⊥) before as
 pub record SideRows {S Sense Reading Act State : Type 0} (t : Steps S Sense Reading Act) (rig : Rig State Sense Act) (before : Side S State) (asked : TurnCall) (now : Side S State) : Type 0 where
   -- the part notes a call that is done
   pub done : (reading : Reading) (call : Call) (stamp : ℕ) → IsAsking t rig before reading call → Answered t rig before (Ok (Settled answer.Done stamp)) asked now
-      → (asked ≡ Some (call, Ok (Settled answer.Done stamp))) × (now ≡ comes_to rig (t.after_done before.progress) None (rig.notes before.part (event t.machine call answer.Done)) (t.rest before.progress))
+      → (asked ≡ Some (call, Ok (Settled answer.Done stamp))) × (now ≡ comes_to rig (t.row before.progress).next None (rig.notes before.part (event t.machine call answer.Done)) (t.rest before.progress))
   -- it notes nothing else
   pub shown : (reading : Reading) (call : Call) (owner : Option Machine) (flag : Bool) (posture : Posture) (stamp : ℕ) → IsAsking t rig before reading call → Answered t rig before (Ok (Settled (answer.Shown owner flag posture) stamp)) asked now
       → (asked ≡ Some (call, Ok (Settled (answer.Shown owner flag posture) stamp))) × (now ≡ comes_to rig (t.after_inquiry before.progress owner flag posture) None before.part (t.rest before.progress))
-  pub waits : (reading : Reading) (call : Call) (r : Refusal) (stamp : ℕ) → t.stays_on before.progress r ≡ true → IsAsking t rig before reading call → Answered t rig before (Ok (Settled (answer.Refused r) stamp)) asked now
+  pub waits : (reading : Reading) (call : Call) (r : Refusal) (stamp : ℕ) → waits_on (t.row before.progress).waits r ≡ true → IsAsking t rig before reading call → Answered t rig before (Ok (Settled (answer.Refused r) stamp)) asked now
       → (asked ≡ Some (call, Ok (Settled (answer.Refused r) stamp))) × (now ≡ comes_to rig before.progress None before.part (t.rest before.progress))
   pub while_stopped : (reading : Reading) (call : Call) (stamp : ℕ) → IsAsking t rig before reading call
       → Answered t rig before (Ok (Settled (answer.Refused Stopped) stamp)) asked now
       → (asked ≡ Some (call, Ok (Settled (answer.Refused Stopped) stamp)))
       × (now ≡ comes_to rig before.progress None before.part (t.rest before.progress))
-  pub refused : (reading : Reading) (call : Call) (stamp : ℕ) → t.stays_on before.progress Jump ≡ false → IsAsking t rig before reading call → Answered t rig before (Ok (Settled (answer.Refused Jump) stamp)) asked now
+  pub refused : (reading : Reading) (call : Call) (stamp : ℕ) → waits_on (t.row before.progress).waits Jump ≡ false → IsAsking t rig before reading call → Answered t rig before (Ok (Settled (answer.Refused Jump) stamp)) asked now
       → (asked ≡ Some (call, Ok (Settled (answer.Refused Jump) stamp))) × (now ≡ comes_to rig before.progress (Some (fault.Refused Jump)) before.part (t.rest before.progress))
-  pub worn : (reading : Reading) (call : Call) (stamp : ℕ) → t.stays_on before.progress NoStamp ≡ false → IsAsking t rig before reading call → Answered t rig before (Ok (Settled (answer.Refused NoStamp) stamp)) asked now
+  pub worn : (reading : Reading) (call : Call) (stamp : ℕ) → waits_on (t.row before.progress).waits NoStamp ≡ false → IsAsking t rig before reading call → Answered t rig before (Ok (Settled (answer.Refused NoStamp) stamp)) asked now
       → (asked ≡ Some (call, Ok (Settled (answer.Refused NoStamp) stamp))) × (now ≡ comes_to rig before.progress (Some fault.Worn) before.part (t.rest before.progress))
   pub busy : (reading : Reading) (call : Call) (lost stamp : ℕ) → IsAsking t rig before reading call → Answered t rig before (Ok (Busy lost stamp)) asked now
       → (asked ≡ Some (call, Ok (Busy lost stamp))) × (now ≡ comes_to rig before.progress None before.part (t.rest before.progress))

@@ -1,8 +1,9 @@
 //! One machine in a run, over any line: its controller, its part, and a turn of both.
 ghost use Rattle.std.specs.Prelude.{◌≡◌, None};
-ghost use Rattle.cell_unit.specs.Sides.{ActsAndMoves, DemandsHold, UnitIsReady, act_or_rest, noting, unit_program, unit_rig, unit_side, unit_table};
+ghost use Rattle.cell_unit.specs.Sides.{ActsAndMoves, DemandsHold, UnitIsReady, noting};
+ghost use Rattle.cell_unit.specs.Sides.{unit_program, unit_rig, unit_side, unit_table};
 
-use cell_control::{Controller, CtlFault, Part, PartSensors, Program};
+use cell_control::{Controller, Part, PartSensors, Program};
 use cell_notes::{TurnCall, done_event};
 use cell_rules::Line;
 use cell_types::Event;
@@ -34,22 +35,11 @@ impl<P: Program, B: Part<Sense = P::Sense, Act = P::Act>> MachineUnit<P, B> {
         ensures ready { UnitIsReady P.steps self.new (L.opening line.new) (L.seen line.new) }
     {
         let machine = line.machine();
-        let rest = self.controller.rest();
         let sensors = PartSensors { part: &self.part };
         let taken = self.controller.take_turn(line, &sensors);
-        let act = act_of(taken.act, rest);
-        note_and_tick(&mut self.part, done_event(machine, taken.asked), &act);
+        let event = done_event(machine, taken.asked);
+        note_and_tick(&mut self.part, event, &taken.told.act);
         taken.asked
-    }
-}
-
-// The actuators' commands after a turn.
-fn act_of<A: Copy>(turned: Result<A, CtlFault>, rest: A) -> A
-    ensures { result ≡ act_or_rest rest turned }
-{
-    match turned {
-        Ok(act) => act,
-        Err(_) => rest,
     }
 }
 

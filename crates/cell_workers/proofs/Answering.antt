@@ -58,7 +58,7 @@ module _ {S Sense Reading Act : Type 0} (t : Steps S Sense Reading Act) (same : 
 
   answered_sensed : (sensed : Result Reading SensorFault) (p : S) (x : Performed S Act) → PerformsSensed t sensed Same Asks p x → x ≡ led p
   answered_sensed (Err fault) p x h = absurd (nothing_is_asked _ (sym h.0.1 ∙ is))
-  answered_sensed (Ok reading) p x h = answered_call (t.call p) p reading x h
+  answered_sensed (Ok reading) p x h = answered_call (t.row p).call p reading x h
 
   answered_turn : (stopped : Option CtlFault) (p : S) (s : Sense) (w : Turned S Act) → Turns t Same Asks stopped p s w → w ≡ turned p (led p)
   answered_turn (Some fault) p s w h = absurd (nothing_is_asked _ (sym h.0.1 ∙ is))

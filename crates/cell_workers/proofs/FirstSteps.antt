@@ -103,11 +103,11 @@ module _ {S Sense Reading Act : Type 0} (t : Steps S Sense Reading Act) (same : 
   by_call None e p reading r h = f h.0
   by_call (Some c) e p reading r h = g c h.0 (sym e) h.1
 
-  by_sensed : (sensed : Result Reading SensorFault) (p : S) → t.call p ≡ o → (r : Performed S Act) → PerformsSensed t sensed same asks p r → P
+  by_sensed : (sensed : Result Reading SensorFault) (p : S) → (t.row p).call ≡ o → (r : Performed S Act) → PerformsSensed t sensed same asks p r → P
   by_sensed (Err fault) p e r h = f h.0
-  by_sensed (Ok reading) p e r h = by_call (t.call p) e p reading r h
+  by_sensed (Ok reading) p e r h = by_call (t.row p).call e p reading r h
 
-  pub by_step : (stopped : Option CtlFault) (p : S) → t.call p ≡ o → (s : Sense) (w : Turned S Act) → Turns t same asks stopped p s w → P
+  pub by_step : (stopped : Option CtlFault) (p : S) → (t.row p).call ≡ o → (s : Sense) (w : Turned S Act) → Turns t same asks stopped p s w → P
   by_step (Some fault) p e s w h = f h.0
   by_step None p e s w h = by_sensed h.1.sensed p e h.0 h.1.performs
 
@@ -247,13 +247,13 @@ module _ {S Sense Reading Act State : Type 0} (tries : ℕ) (t : Steps S Sense R
   stays limit first s e = record { come = record { turns = []; taken = tt; last = refl }; ends = e }
 
   -- in one turn from a step with this call
-  pub own_in_turn : (o : Option Call) (before now : WorkerMoment PassView S State) → before.line.seen ≡ [] → t.call before.side.progress ≡ o → Turn before now → OwnAtMost o (own_events now.line.seen before.line.machine)
+  pub own_in_turn : (o : Option Call) (before now : WorkerMoment PassView S State) → before.line.seen ≡ [] → (t.row before.side.progress).call ≡ o → Turn before now → OwnAtMost o (own_events now.line.seen before.line.machine)
   own_in_turn o before now e is k =
       by_step t ((now.line ≡ before.line) × (k.asked ≡ None)) (λ c r. PassAsks tries before.line c r now.line × (k.asked ≡ Some (c, r))) _ o
       (λ h. subst (λ x. OwnAtMost o (own_events x before.line.machine)) (sym (ap (λ (v : PassView). v.seen) h.0 ∙ e)) tt)
       (λ c r asked h. own_after tries before.line now.line o c r e asked h.0) before.side.stopped before.side.progress is k.row.acts.sense k.row.acts.turned k.row.acts.row
 
-  pub own_at_first : (o : Option Call) (first last : WorkerMoment PassView S State) (s : Status) → first.line.seen ≡ [] → first.counts.turns ≡ 0 → t.call first.side.progress ≡ o → HasEnded (passes tries) t rig gate 1 first last s
+  pub own_at_first : (o : Option Call) (first last : WorkerMoment PassView S State) (s : Status) → first.line.seen ≡ [] → first.counts.turns ≡ 0 → (t.row first.side.progress).call ≡ o → HasEnded (passes tries) t rig gate 1 first last s
       → OwnAtMost o (own_events last.line.seen first.line.machine)
   own_at_first o first last s e none is k =
       let few = within gate 1 last.side.stopped last.counts.turns s k.ends in

@@ -25,7 +25,7 @@ use Rattle.cell_control.specs.declared.fault.CtlFault.TheVariants as fault
 use Rattle.cell_control.specs.Faults.{fault_of}
 use Rattle.cell_control.specs.Steps.{Steps, waits_out, outcome}
 use Rattle.cell_control.specs.Turns.{Performed, PerformsCall, PerformsSensed, Turned, Turns, at_rest}
-use Rattle.cell_wired.specs.declared.told.Told.{Told}
+use Rattle.cell_control.specs.declared.told.Told.{Told}
 use Rattle.cell_team.specs.Team.{DrivesOn, LeadsOrStays, HasComeFrom, program_with_stops}
 use Rattle.cell_team.specs.Heeded.{is_worn, IsHeeded, IsStoppedBy}
 use Rattle.cell_team.proofs.Turned.{Stands, stands_later}
@@ -81,7 +81,7 @@ module _ {S Sense Reading Act : Type 0} (t : Steps S Sense Reading Act) (first :
 
     sensed_from : (sensed : Result Reading SensorFault) (p : S) (r : Performed S Act) → PerformsSensed t sensed same asks p r → PerformsSensed u sensed same asks p r
     sensed_from (Err f) p r k = k
-    sensed_from (Ok reading) p r k = call_from (t.call p) p reading r k
+    sensed_from (Ok reading) p r k = call_from (t.row p).call p reading r k
 
     turns_from : (stopped : Option CtlFault) (p : S) (sense : Sense) (w : Turned S Act) → Turns t same asks stopped p sense w → Turns u same asks stopped p sense w
     turns_from (Some f) p sense w k = k

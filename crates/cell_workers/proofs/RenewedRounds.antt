@@ -12,7 +12,7 @@ use Rattle.cell_interlock.specs.Fresh.{fresh_pass}
 use Rattle.cell_control.specs.declared.fault.CtlFault.{CtlFault}
 use Rattle.cell_control.specs.declared.fault.CtlFault.TheVariants as fault
 use Rattle.cell_control.specs.Steps.{Steps}
-use Rattle.cell_wired.specs.declared.told.Told.{Told}
+use Rattle.cell_control.specs.declared.told.Told.{Told}
 use Rattle.cell_notes.specs.declared.status.Status.{Status}
 use Rattle.cell_notes.specs.declared.status.Status.TheVariants.{Fine, GateLimit, Refused, Sensor, Worn, Memory}
 use Rattle.cell_team.proofs.Turned.{Stands}

@@ -180,7 +180,7 @@ module _ (c : CellScales) (tries : ℕ) (lets : Rule) (r : RunRecord) (k : Tells
   abbrev begins : (m : Machine) → MomentOf m
   begins m = first_moment k.interlock m
 
-  called : (m : Machine) → has_worker m ≡ true → (steps_of c m).call (begins m).side.progress ≡ first_call m → HasAtMost (first_call m) (journal_of r.journals m)
+  called : (m : Machine) → has_worker m ≡ true → ((steps_of c m).row (begins m)).call.side.progress ≡ first_call m → HasAtMost (first_call m) (journal_of r.journals m)
   called m e is =
       subst (HasAtMost (first_call m)) (sym (k.journals m))
       (noted_at_most (first_call m) (start_state empty 0) (k.last m).line.seen m
@@ -189,10 +189,10 @@ module _ (c : CellScales) (tries : ℕ) (lets : Rule) (r : RunRecord) (k : Tells
   calls : (m : Machine) → HasAtMost (first_call m) (journal_of r.journals m)
   calls Feed = called Feed refl refl
   calls Table = called Table refl refl
-  calls Robot = called Robot refl (ap (λ s. (steps_of c Robot).call (robot_start s)) k.opened)
+  calls Robot = called Robot refl (ap (λ s. ((steps_of c Robot).row (robot_start s)).call) k.opened)
   calls Press = called Press refl refl
   calls Deposit = called Deposit refl refl
-  calls Crane = called Crane refl (ap (λ s. (steps_of c Crane).call (crane_start s)) k.opened)
+  calls Crane = called Crane refl (ap (λ s. ((steps_of c Crane).row (crane_start s)).call) k.opened)
   calls Watch = subst (HasAtMost None) (sym (k.journals Watch ∙ ap (λ (x : MomentOf Watch). noted (start_state empty 0) x.line.seen Watch) k.watch_rests.0)) tt
 
   abbrev crane : Steps CraneProgress CraneSense CraneReading CraneAct

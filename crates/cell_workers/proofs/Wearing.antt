@@ -33,8 +33,8 @@ use Rattle.cell_control.specs.Faults.{fault_of}
 use Rattle.cell_control.specs.Steps.{Steps, waits_out, outcome}
 use Rattle.cell_control.proofs.TurnMaps.{turn_either}
 use Rattle.cell_control.specs.Turns.{Performed, PerformsCall, PerformsSensed, Turned, Turns, at_rest, turned}
-use Rattle.cell_wired.specs.declared.told.Told.{Told}
-use Rattle.cell_wired.specs.Wiring.{answered}
+use Rattle.cell_control.specs.declared.told.Told.{Told}
+use Rattle.cell_control.specs.Turns.{answered}
 use Rattle.cell_notes.specs.declared.status.Status.{Status}
 use Rattle.cell_notes.specs.declared.status.Status.TheVariants as status
 use Rattle.cell_workers.specs.Workers.{GateOf, ComesBy, Ends}
@@ -86,7 +86,7 @@ module _ {S Sense Reading Act : Type 0} (t : Steps S Sense Reading Act) (tries :
 
   by_sensed : (sensed : Result Reading SensorFault) (p : S) (r : Performed S Act) → PerformsSensed t sensed (w ≡ v) (λ c x. PassAsks tries v c x w) p r → Late (turned p r)
   by_sensed (Err f) p r h = subst (λ x. Late (turned p x)) (sym h.1) (λ e. cc)
-  by_sensed (Ok reading) p r h = by_call (t.call p) p reading r h
+  by_sensed (Ok reading) p r h = by_call (t.row p).call p reading r h
 
   late : (p : S) (sense : Sense) (x : Turned S Act) → Turns t (w ≡ v) (λ c r. PassAsks tries v c r w) None p sense x → Late x
   late p sense x h = subst Late (sym h.2) (by_sensed h.1.sensed p h.0 h.1.performs)

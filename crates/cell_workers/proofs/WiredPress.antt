@@ -18,8 +18,8 @@ use Rattle.cell_devices.specs.declared.act.PressAct.{PressAct}
 use Rattle.cell_devices.specs.declared.motor.Motor.TheVariants.{Off}
 use Rattle.cell_stations.specs.declared.press.PressProgress.{PressProgress}
 use Rattle.cell_stations.specs.PressProgram.{press_steps, checked}
-use Rattle.cell_wired.specs.declared.told.Told.{Told}
-use Rattle.cell_wired.specs.Wiring.{answered}
+use Rattle.cell_control.specs.declared.told.Told.{Told}
+use Rattle.cell_control.specs.Turns.{answered}
 use Rattle.cell_workers.specs.Workers.{GateOf}
 use Rattle.cell_workers.specs.WiredWorkers.{WiredMoment, TakesCycle}
 use Rattle.cell_workers.specs.WiredLaws.{WiredPressTurns, told_clash, told_unread}

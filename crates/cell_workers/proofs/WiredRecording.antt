@@ -21,7 +21,7 @@ use Rattle.cell_robot.specs.declared.robot.RobotProgram.{RobotProgram}
 use Rattle.cell_stations.specs.PressProgram.{press_steps}
 use Rattle.cell_stations.specs.TableProgram.{table_steps}
 use Rattle.cell_stations.specs.declared.table.TableProgram.{TableProgram}
-use Rattle.cell_wired.specs.declared.told.Told.{Told}
+use Rattle.cell_control.specs.declared.told.Told.{Told}
 use Rattle.cell_notes.specs.declared.status.Status.{Status}
 use Rattle.cell_notes.specs.declared.status.Status.TheVariants.{Fine, Refused}
 use Rattle.cell_parts.specs.Axes.{CellScales}

@@ -4,7 +4,7 @@ use Rattle.cell_control.specs.declared.fault.CtlFault.{CtlFault}
 use Rattle.cell_control.specs.Steps.{Steps}
 use Rattle.cell_notes.specs.declared.status.Status.{Status}
 use Rattle.cell_unit.specs.Statuses.{status_of}
-use Rattle.cell_wired.specs.declared.told.Told.{Told}
+use Rattle.cell_control.specs.declared.told.Told.{Told}
 use Rattle.cell_workers.specs.Workers.{GateOf, ComesBy, Ends}
 use Rattle.cell_workers.specs.WiredWorkers.{WiredMoment, TakesCycle}
 use Rattle.cell_workers.proofs.Turning.{comes_on}

@@ -10,8 +10,8 @@ use Rattle.cell_control.specs.declared.fault.CtlFault.{CtlFault}
 use Rattle.cell_control.specs.Steps.{Steps}
 use Rattle.cell_control.specs.Turns.{Turned, Turns}
 use Rattle.cell_control.proofs.TurnMaps.{turn_either}
-use Rattle.cell_wired.specs.declared.told.Told.{Told}
-use Rattle.cell_wired.specs.Wiring.{answered}
+use Rattle.cell_control.specs.declared.told.Told.{Told}
+use Rattle.cell_control.specs.Turns.{answered}
 use Rattle.cell_parts.specs.Axes.{CellScales}
 use Rattle.cell_plant.specs.Machines.{CellGauges, ProgressOf, steps_by}
 use Rattle.cell_plant.proofs.Standing.{none_refused_by}

@@ -1,7 +1,7 @@
 -- A machine that goes on in the middle of its program, with devices.
 use Rattle.std.specs.Prelude.{◌≡◌, ℕ}
 use Rattle.cell_rules.specs.ModelState.{ModelState}
-use Rattle.cell_wired.specs.Wiring.{Unwiring}
+use Rattle.cell_control.specs.Wiring.{Unwiring}
 use Rattle.cell_notes.specs.declared.status.Status.{Status}
 
 pub record GoingOn (P S D : Type 0) : Type 0 where

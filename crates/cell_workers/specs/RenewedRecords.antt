@@ -15,7 +15,7 @@ use Rattle.cell_rules.specs.Start.{IsStartState}
 use Rattle.cell_rules.specs.History.{own_events}
 use Rattle.cell_interlock.specs.Views.{PassView}
 use Rattle.cell_control.specs.Steps.{Steps}
-use Rattle.cell_wired.specs.declared.told.Told.{Told}
+use Rattle.cell_control.specs.declared.told.Told.{Told}
 use Rattle.cell_notes.specs.declared.status.Status.{Status}
 use Rattle.cell_notes.specs.declared.status.Status.TheVariants.{Refused, Worn}
 use Rattle.cell_haul.specs.CraneProgram.{crane_steps}

@@ -9,7 +9,7 @@ use Rattle.cell_rules.specs.Seen.{Waits}
 use Rattle.cell_interlock.specs.Views.{PassView}
 use Rattle.cell_control.specs.declared.fault.CtlFault.{CtlFault}
 use Rattle.cell_control.specs.Steps.{Steps}
-use Rattle.cell_wired.specs.declared.told.Told.{Told}
+use Rattle.cell_control.specs.declared.told.Told.{Told}
 use Rattle.cell_notes.specs.declared.status.Status.{Status}
 use Rattle.cell_notes.specs.declared.status.Status.TheVariants.{Worn}
 use Rattle.cell_workers.specs.Workers.{GateOf}

@@ -8,7 +8,7 @@ use Rattle.cell_rules.specs.Start.{IsStartState}
 use Rattle.cell_rules.specs.History.{IsLegal}
 use Rattle.cell_interlock.specs.Views.{PassView, InterlockView}
 use Rattle.cell_interlock.specs.Fresh.{fresh_pass}
-use Rattle.cell_wired.specs.declared.told.Told.{Told}
+use Rattle.cell_control.specs.declared.told.Told.{Told}
 use Rattle.cell_notes.specs.declared.status.Status.{Status}
 use Rattle.cell_notes.specs.declared.status.Status.TheVariants.{Refused}
 use Rattle.cell_parts.specs.Axes.{CellScales}

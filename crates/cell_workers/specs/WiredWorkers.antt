@@ -8,8 +8,8 @@ use Rattle.cell_rules.specs.History.{after}
 use Rattle.cell_control.specs.declared.fault.CtlFault.{CtlFault}
 use Rattle.cell_control.specs.Steps.{Steps}
 use Rattle.cell_control.specs.Turns.{Turns}
-use Rattle.cell_wired.specs.declared.told.Told.{Told}
-use Rattle.cell_wired.specs.Wiring.{answered}
+use Rattle.cell_control.specs.declared.told.Told.{Told}
+use Rattle.cell_control.specs.Turns.{answered}
 use Rattle.cell_notes.specs.declared.status.Status.{Status}
 use Rattle.cell_workers.specs.Workers.{GateOf, ComesBy, Ends}
 

@@ -7,12 +7,11 @@ use crate::renewed_worker::RenewedWorker;
 use crate::wired_worker::{Devices, take_wired_turns};
 use crate::worker::Worker;
 use crate::worker_result::WorkerResult;
-use cell_control::Program;
+use cell_control::{Program, Unwired};
 use cell_interlock::{Interlock, Pass, PassLine};
 use cell_notes::Status;
 use cell_rules::State;
 use cell_types::Machine;
-use cell_wired::Unwired;
 use std::alloc::Global;
 use std::marker::Model;
 

@@ -3,25 +3,24 @@ ghost use Rattle.std.specs.Prelude.{◌≡◌, ◌≢◌, ◌+◌, ◌<◌, None
 ghost use Rattle.cell_interlock.specs.Lines.{PassAsks};
 ghost use Rattle.cell_interlock.specs.Seen.{IsSamePass};
 ghost use Rattle.cell_control.specs.Turns.{Turns};
-ghost use Rattle.cell_wired.specs.Wiring.{answered};
+ghost use Rattle.cell_control.specs.Turns.{answered};
 ghost use Rattle.cell_workers.specs.Workers.{ComesBy, Ends};
 ghost use Rattle.cell_workers.specs.WiredWorkers.{TakesCycle, wired_moment};
 
 use crate::gate::Gate;
 use crate::worker::Worker;
 use crate::worker_result::WorkerResult;
-use cell_control::Program;
+use cell_control::{Program, Told, Wired};
 use cell_interlock::{Interlock, Pass, PassLine};
 use cell_notes::Status;
 use cell_rules::{Line, State};
 use cell_unit::status_of;
-use cell_wired::{Told, Wired};
 use std::alloc::Global;
 
 /// The sensors and actuators of a machine.
 pub trait Devices: Drop {
     ghost use Rattle.std.specs.Prelude.{⊤, Option};
-    ghost use Rattle.cell_wired.specs.declared.told.Told.{Told};
+    ghost use Rattle.cell_control.specs.declared.told.Told.{Told};
 
     /// What the sensors show.
     type Sense;

@@ -8,7 +8,7 @@ mod texts;
 use cell_interlock::{Interlock, PassLine};
 use cell_rules::State;
 use cell_stations::PressProgram;
-use cell_wired::Wired;
+use cell_control::Wired;
 use fault::PressFault;
 use texts::{motor_word, read_switches};
 

@@ -8,32 +8,33 @@ use Rattle.cell_robot.specs.RobotProgram.{gauges_of, robot_steps}
 use Rattle.cell_stations.specs.PressProgram.{press_steps}
 use Rattle.cell_stations.specs.TableProgram.{table_steps}
 use Rattle.cell_plant.specs.Cells.{cell_scales, five_gauges, points_of}
-use Rattle.cell_plant.specs.Moments.{RunMoment, notes_in}
+use Rattle.cell_notes.specs.ByMachine.{at_machine}
+use Rattle.cell_plant.specs.Moments.{RunMoment}
 use Rattle.cell_plant.specs.Simulations.{given_by}
 use Rattle.cell_plant.specs.Watch.{watch_steps}
 use Rattle.cell_plant.proofs.Stepping.{feed_on, table_on, robot_on, press_on, deposit_on, crane_on, watch_on, on_ok, grows, stays_ready, with_turn, with_robot, with_gripper, turn_is, by_turn}
 use Rattle.cell_plant.proofs.simulation.Simulation.turn.Goals as goal
 
 pub take_bench_turn-requires-clause-room : goal.take_bench_turn-requires-clause-room
-take_bench_turn-requires-clause-room g c = subst (λ (m : RunMoment _). HasRoom (notes_in m.notes Feed).counts) (sym c.self.view_is) (c.requires.room Feed)
+take_bench_turn-requires-clause-room g c = subst (λ (m : RunMoment _). HasRoom (at_machine m.notes Feed).counts) (sym c.self.view_is) (c.requires.room Feed)
 
 pub take_bench_turn-requires-in-Table-clause-room : goal.take_bench_turn-requires-in-Table-clause-room
-take_bench_turn-requires-in-Table-clause-room g c = subst (λ (m : RunMoment _). HasRoom (notes_in m.notes Table).counts) (sym c.self.view_is) (c.requires.room Table)
+take_bench_turn-requires-in-Table-clause-room g c = subst (λ (m : RunMoment _). HasRoom (at_machine m.notes Table).counts) (sym c.self.view_is) (c.requires.room Table)
 
 pub take_bench_turn-requires-in-Robot-clause-room : goal.take_bench_turn-requires-in-Robot-clause-room
-take_bench_turn-requires-in-Robot-clause-room g c = subst (λ (m : RunMoment _). HasRoom (notes_in m.notes Robot).counts) (sym c.self.view_is) (c.requires.room Robot)
+take_bench_turn-requires-in-Robot-clause-room g c = subst (λ (m : RunMoment _). HasRoom (at_machine m.notes Robot).counts) (sym c.self.view_is) (c.requires.room Robot)
 
 pub take_bench_turn-requires-in-Press-clause-room : goal.take_bench_turn-requires-in-Press-clause-room
-take_bench_turn-requires-in-Press-clause-room g c = subst (λ (m : RunMoment _). HasRoom (notes_in m.notes Press).counts) (sym c.self.view_is) (c.requires.room Press)
+take_bench_turn-requires-in-Press-clause-room g c = subst (λ (m : RunMoment _). HasRoom (at_machine m.notes Press).counts) (sym c.self.view_is) (c.requires.room Press)
 
 pub take_bench_turn-requires-in-Deposit-clause-room : goal.take_bench_turn-requires-in-Deposit-clause-room
-take_bench_turn-requires-in-Deposit-clause-room g c = subst (λ (m : RunMoment _). HasRoom (notes_in m.notes Deposit).counts) (sym c.self.view_is) (c.requires.room Deposit)
+take_bench_turn-requires-in-Deposit-clause-room g c = subst (λ (m : RunMoment _). HasRoom (at_machine m.notes Deposit).counts) (sym c.self.view_is) (c.requires.room Deposit)
 
 pub take_bench_turn-requires-in-Crane-clause-room : goal.take_bench_turn-requires-in-Crane-clause-room
-take_bench_turn-requires-in-Crane-clause-room g c = subst (λ (m : RunMoment _). HasRoom (notes_in m.notes Crane).counts) (sym c.self.view_is) (c.requires.room Crane)
+take_bench_turn-requires-in-Crane-clause-room g c = subst (λ (m : RunMoment _). HasRoom (at_machine m.notes Crane).counts) (sym c.self.view_is) (c.requires.room Crane)
 
 pub take_bench_turn-requires-in-Watch-clause-room : goal.take_bench_turn-requires-in-Watch-clause-room
-take_bench_turn-requires-in-Watch-clause-room g c = subst (λ (m : RunMoment _). HasRoom (notes_in m.notes Watch).counts) (sym c.self.view_is) (c.requires.room Watch)
+take_bench_turn-requires-in-Watch-clause-room g c = subst (λ (m : RunMoment _). HasRoom (at_machine m.notes Watch).counts) (sym c.self.view_is) (c.requires.room Watch)
 
 pub invariant_of-self : goal.invariant_of-self
 invariant_of-self g c =

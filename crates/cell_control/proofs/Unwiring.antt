@@ -12,7 +12,7 @@ use Rattle.cell_control.specs.declared.fault.CtlFault.{CtlFault}
 use Rattle.cell_control.specs.Steps.{Steps, IsReached}
 use Rattle.cell_control.proofs.StepLemmas.{reached_carried}
 use Rattle.cell_control.proofs.BenchLemmas.{reached_others}
-use Rattle.cell_wired.specs.Wiring.{IsWired, IsUnwired}
+use Rattle.cell_control.specs.Wiring.{IsWired, IsUnwired}
 
 same_itself : (m : Machine) (s : ModelState) → IsSameFor m s s
 same_itself m s = record { owned = λ z o. refl; hosted = λ z e. refl; places = λ p e. refl }

@@ -11,8 +11,8 @@ use Rattle.cell_rules.specs.Sound.{IsSound}
 use Rattle.cell_rules.specs.Seen.{heard_after}
 use Rattle.cell_control.specs.declared.fault.CtlFault.{CtlFault}
 use Rattle.cell_control.specs.Steps.{Steps, IsReached}
-use Rattle.cell_control.specs.Turns.{Turns}
-use Rattle.cell_wired.specs.declared.told.Told.{Told}
+use Rattle.cell_control.specs.Turns.{Turns, answered}
+use Rattle.cell_control.specs.declared.told.Told.{Told}
 
 -- a program, the progress in it, what has stopped it, and the line on which it asks
 pub record Wiring (P S L : Type 0) : Type 0 where
@@ -41,11 +41,6 @@ pub record IsUnwired {S Sense Reading Act : Type 0} (t : Steps S Sense Reading A
   pub own : machine ≡ t.machine
   pub sound : IsSound left
   pub reached : stopped ≡ None → IsReached t left [] p
-
--- what a controller's turn has answered, by what the actuators are told
-abbrev pub answered : {Act : Type 0} → Act → Option CtlFault → Result Act CtlFault
-answered act None = Ok act
-answered act (Some fault) = Err fault
 
 -- a turn is the controller's turn on its line
 abbrev pub TurnsWired : {P S Sense Reading Act L : Type 0} → Steps S Sense Reading Act → (L → Call → Result Reply LineFault → L → Type 0) → (L → Heard) → Wiring P S L → Sense → Told Act → Wiring P S L → Type 0

@@ -1,7 +1,7 @@
 use Rattle.std.proofs.Common.{◌∙◌, ap, subst}
 use Rattle.cell_rules.specs.History.{after, IsLegal}
-use Rattle.cell_wired.proofs.Unwiring.{unwired}
-use Rattle.cell_wired.proofs.wired.Wired.unwire.Goals as goal
+use Rattle.cell_control.proofs.Unwiring.{unwired}
+use Rattle.cell_control.proofs.wired.Wired.unwire.Goals as goal
 
 pub invariant_of-result : goal.invariant_of-result
 invariant_of-result g c =

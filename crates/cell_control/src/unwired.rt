@@ -1,9 +1,12 @@
+//! A machine off its line, between two interlocks.
 ghost use Rattle.std.specs.Prelude.{◌≡◌, ◌↔◌, None, [], true};
 ghost use Rattle.cell_rules.specs.History.{own_events};
 ghost use Rattle.cell_rules.specs.Restamping.{IsSameFor};
 
+use crate::controller::Controller;
+use crate::fault::CtlFault;
+use crate::program::Program;
 use crate::wired::Wired;
-use cell_control::{Controller, CtlFault, Program};
 use cell_rules::laws::states_are_sound;
 use cell_rules::{Line, State};
 use cell_types::Machine;
@@ -21,7 +24,7 @@ pub struct Unwired<P: Program> {
 }
 
 impl<P: Program> Model for Unwired<P> {
-    ghost use Rattle.cell_wired.specs.Wiring.{Unwiring, IsUnwired};
+    ghost use Rattle.cell_control.specs.Wiring.{Unwiring, IsUnwired};
 
     ghost Value = { Unwiring P P.Progress };
 

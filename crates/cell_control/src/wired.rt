@@ -1,12 +1,16 @@
+//! A controller at the end of its line.
 ghost use Rattle.std.specs.Prelude.{◌≡◌, ◌≢◌, [], None};
 ghost use Rattle.cell_rules.specs.History.{after, own_events};
 ghost use Rattle.cell_rules.specs.Seen.{Waits};
 ghost use Rattle.cell_control.specs.Steps.{IsReached};
-ghost use Rattle.cell_wired.specs.Wiring.{TurnsWired, answered};
+ghost use Rattle.cell_control.specs.Wiring.{TurnsWired};
 
+use crate::controller::Controller;
+use crate::fault::CtlFault;
+use crate::part::Values;
+use crate::program::Program;
 use crate::told::Told;
 use crate::unwired::Unwired;
-use cell_control::{Controller, CtlFault, Program};
 use cell_rules::{Line, State, Survey};
 use std::marker::Model;
 
@@ -21,7 +25,7 @@ pub struct Wired<P: Program, L: Line> {
 }
 
 impl<P: Program, L: Line> Model for Wired<P, L> {
-    ghost use Rattle.cell_wired.specs.Wiring.{Wiring, IsWired, wiring_of};
+    ghost use Rattle.cell_control.specs.Wiring.{Wiring, IsWired, wiring_of};
 
     ghost Value = { Wiring P P.Progress L };
 
@@ -67,15 +71,18 @@ impl<P: Program, L: Line> Wired<P, L> {
     ///
     /// After any fault the machine has stopped: its motors are off, and in each later turn too.
     pub fn turn(&mut self, sense: &P::Sense) -> Told<P::Act>
-        ensures row { TurnsWired (P.steps self.old.program) L.asks L.heard self.old sense.now result self.new }
-        ensures rest { result.fault ≢ None → result.act ≡ (P.steps self.old.program).rest self.old.progress }
+        ensures row { TurnsWired (P.steps self.old.program) L.asks L.heard
+            self.old sense.now result self.new }
+        ensures rest { result.fault ≢ None
+            → result.act ≡ (P.steps self.old.program).rest self.old.progress }
         ensures motor_demands { result.fault ≡ None → (P.steps self.old.program).motor_demands
             self.old.progress result.act (L.opening self.new.line) (L.seen self.new.line) }
         ensures program { self.new.program ≡ self.old.program }
         ensures opening { L.opening self.new.line ≡ L.opening self.old.line }
     {
-        let turned = self.controller.turn(&mut self.line, sense);
-        told_of(turned, self.controller.rest())
+        let sensors = Values { sense: *sense };
+        let taken = self.controller.take_turn(&mut self.line, &sensors);
+        taken.told
     }
 
     /// What the actuators are told while nothing is known of the sensors: motors and belts are off,
@@ -84,10 +91,7 @@ impl<P: Program, L: Line> Wired<P, L> {
         ensures act { result.act ≡ (P.steps self.now.program).rest self.now.progress }
         ensures no_fault { result.fault ≡ None }
     {
-        Told {
-            act: self.controller.rest(),
-            fault: None,
-        }
+        Told::well(self.controller.rest())
     }
 
     /// What has stopped the machine; `None` while it runs.
@@ -150,19 +154,5 @@ impl<P: Program, L: Line> Wired<P, L> {
             line,
         } = self;
         line
-    }
-}
-
-// What the actuators are told after the controller's turn: at rest after a fault.
-fn told_of<A: Copy>(turned: Result<A, CtlFault>, rest: A) -> Told<A>
-    ensures answered { answered result.act result.fault ≡ turned }
-    ensures rest { result.fault ≢ None → result.act ≡ rest }
-{
-    match turned {
-        Ok(act) => Told { act, fault: None },
-        Err(fault) => Told {
-            act: rest,
-            fault: Some(fault),
-        },
     }
 }

@@ -1,0 +1,39 @@
+-- Values by machine.
+use Rattle.std.proofs.Common.{◌≡◌, false, refl}
+use Rattle.cell_types.specs.declared.machine.Machine.{Machine}
+use Rattle.cell_types.specs.declared.machine.Machine.TheVariants.{Feed, Table, Robot, Press, Deposit, Crane, Watch}
+use Rattle.cell_types.specs.Same.{same_machine}
+use Rattle.cell_notes.specs.declared.by_machine.ByMachine.{ByMachine}
+use Rattle.cell_notes.specs.ByMachine.{PutIsFound, at_machine, map_machines, with_machine}
+
+module _ {T : Type 0} (b : ByMachine T) where
+  pub put_found : (m : Machine) (v : T) → at_machine (with_machine b m v) m ≡ v
+  put_found Feed v = refl
+  put_found Table v = refl
+  put_found Robot v = refl
+  put_found Press v = refl
+  put_found Deposit v = refl
+  put_found Crane v = refl
+  put_found Watch v = refl
+
+  pub put_others : (m n : Machine) (v : T) → same_machine m n ≡ false → at_machine (with_machine b m v) n ≡ at_machine b n
+  put_others Feed Feed v e = cc
+  put_others Table Table v e = cc
+  put_others Robot Robot v e = cc
+  put_others Press Press v e = cc
+  put_others Deposit Deposit v e = cc
+  put_others Crane Crane v e = cc
+  put_others Watch Watch v e = cc
+  put_others m n v e = refl
+
+  pub put-is-found : PutIsFound b
+  put-is-found = record { found = put_found; others_stay = put_others }
+
+  pub mapped_at : {U : Type 0} (f : T → U) (m : Machine) → at_machine (map_machines f b) m ≡ f (at_machine b m)
+  mapped_at f Feed = refl
+  mapped_at f Table = refl
+  mapped_at f Robot = refl
+  mapped_at f Press = refl
+  mapped_at f Deposit = refl
+  mapped_at f Crane = refl
+  mapped_at f Watch = refl

@@ -1,0 +1,78 @@
+//! A value for each machine.
+ghost use Rattle.std.specs.Prelude.{◌≡◌};
+ghost use Rattle.cell_notes.specs.ByMachine.{PutIsFound, at_machine, each_machine, with_machine};
+
+use cell_types::Machine;
+
+/// A value for each machine.
+#[derive(Debug, Drop)]
+pub struct ByMachine<T> {
+    /// The feed belt's.
+    pub feed: T,
+    /// The table's.
+    pub table: T,
+    /// The robot's.
+    pub robot: T,
+    /// The press's.
+    pub press: T,
+    /// The deposit belt's.
+    pub deposit: T,
+    /// The crane's.
+    pub crane: T,
+    /// The watch's.
+    pub watch: T,
+}
+
+impl<T: Drop> ByMachine<T> {
+    /// A machine's value.
+    pub fn at(&self, machine: Machine) -> &T
+        ensures { result.now ≡ at_machine self.now machine }
+    {
+        match machine {
+            Machine::Feed => &self.feed,
+            Machine::Table => &self.table,
+            Machine::Robot => &self.robot,
+            Machine::Press => &self.press,
+            Machine::Deposit => &self.deposit,
+            Machine::Crane => &self.crane,
+            Machine::Watch => &self.watch,
+        }
+    }
+
+    /// Puts a value in place of a machine's.
+    pub fn put(&mut self, machine: Machine, value: T)
+        ensures { self.new ≡ with_machine self.old machine value }
+    {
+        match machine {
+            Machine::Feed => self.feed = value,
+            Machine::Table => self.table = value,
+            Machine::Robot => self.robot = value,
+            Machine::Press => self.press = value,
+            Machine::Deposit => self.deposit = value,
+            Machine::Crane => self.crane = value,
+            Machine::Watch => self.watch = value,
+        }
+    }
+}
+
+impl<T: Copy> ByMachine<T> {
+    /// The same value for each machine.
+    pub fn each(value: T) -> ByMachine<T>
+        ensures { result ≡ each_machine value }
+    {
+        ByMachine {
+            feed: value,
+            table: value,
+            robot: value,
+            press: value,
+            deposit: value,
+            crane: value,
+            watch: value,
+        }
+    }
+}
+
+/// Does nothing. Its contract has the laws: what was put is found; the other machines' values stay.
+pub fn put_is_found<T>(_values: &ByMachine<T>)
+    ensures { PutIsFound _values.now }
+{}
