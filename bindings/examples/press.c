@@ -38,7 +38,7 @@ struct step {
     enum target target;
 };
 
-enum { LEAVE_FOR_MIDDLE = 1, LEAVE_FOR_TOP = 6, LAST = 14 };
+enum { LEAVE_FOR_MIDDLE = 1, LEAVE_FOR_TOP = 6, LEAVE_FOR_BOTTOM = 10, LAST = 14 };
 
 static const struct step program[] = {
     {BAGUNJOKI_CLAIM, BAGUNJOKI_Z3, 0, NOWHERE},
@@ -76,9 +76,15 @@ struct press {
     bool has_stopped;
 };
 
+/* The step after the first claim, by the plates in the press. */
+static unsigned first_step(bagunjoki_word cell) {
+    if (bagunjoki_is_full(cell, BAGUNJOKI_AT_PRESS_OUT)) return LEAVE_FOR_BOTTOM;
+    return bagunjoki_is_full(cell, BAGUNJOKI_AT_PRESS_IN) ? LEAVE_FOR_TOP : LEAVE_FOR_MIDDLE;
+}
+
 static void go_on(struct press *press) {
-    bool has_plate = bagunjoki_is_full(*press->cell, BAGUNJOKI_AT_PRESS_IN);
-    press->at = press->at == 0 && has_plate ? LEAVE_FOR_TOP : press->at == LAST ? LEAVE_FOR_MIDDLE : press->at + 1;
+    if (press->at == 0) press->at = first_step(*press->cell);
+    else press->at = press->at == LAST ? LEAVE_FOR_MIDDLE : press->at + 1;
 }
 
 /* A turn: one call at most, with the motor off, or a drive. */

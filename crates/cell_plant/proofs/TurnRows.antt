@@ -74,7 +74,7 @@ module _ (c : CellScales) where
   stamps_apart a b apart e = apart (ap (λ (s : ModelState). s.stamp) e)
 
   -- the watch asks what its step asks
-  watch_asks : (w : CellState) (s : Step) (call : Call) (r : Result Reply LineFault) → s.asked ≡ Some (call, r) → TakesTurn c Watch false w s → (watch_steps.row (w.side Watch)).call.progress ≡ Some call
+  watch_asks : (w : CellState) (s : Step) (call : Call) (r : Result Reply LineFault) → s.asked ≡ Some (call, r) → TakesTurn c Watch false w s → (watch_steps.row (w.side Watch).progress).call ≡ Some call
   watch_asks w s call r e k =
       let z = w.interlock in
       let y = s.set.interlock in

@@ -180,7 +180,7 @@ module _ (c : CellScales) (tries : ℕ) (lets : Rule) (r : RunRecord) (k : Tells
   abbrev begins : (m : Machine) → MomentOf m
   begins m = first_moment k.interlock m
 
-  called : (m : Machine) → has_worker m ≡ true → ((steps_of c m).row (begins m)).call.side.progress ≡ first_call m → HasAtMost (first_call m) (journal_of r.journals m)
+  called : (m : Machine) → has_worker m ≡ true → ((steps_of c m).row (begins m).side.progress).call ≡ first_call m → HasAtMost (first_call m) (journal_of r.journals m)
   called m e is =
       subst (HasAtMost (first_call m)) (sym (k.journals m))
       (noted_at_most (first_call m) (start_state empty 0) (k.last m).line.seen m
