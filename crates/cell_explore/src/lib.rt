@@ -2,9 +2,12 @@
 //! schedule.
 #![tactic(auto)]
 
+pub mod ending;
 pub mod every_start;
 pub mod request;
 pub mod ring;
 pub mod schedule;
 pub mod screen;
 pub mod serve;
+pub mod tally;
+pub mod timing;

@@ -1,45 +1,52 @@
-//! The ring of a standstill: who waits for whom, and for what.
+//! Who waits for whom at a standstill, and for what; who is refused, and what, at a refusal.
 
+use crate::ending::Ending;
 use cell_explorer::Walk;
 use cell_rules::answer;
 use cell_types::tables::{guest, host};
 use cell_types::{Answer, Call, Machine, Refusal, Zone};
 use std::alloc::{AllocError, Global};
 
-/// Adds a line for each machine that waits at the end of a walk.
-pub fn push_ring(alloc: Global, text: &mut String, walk: &Walk) -> Result<(), AllocError> {
-    let [feed, table, robot, press, deposit, crane] = walk.calls;
-    for (machine, call) in [
-        (Machine::Feed, feed),
-        (Machine::Table, table),
-        (Machine::Robot, robot),
-        (Machine::Press, press),
-        (Machine::Deposit, deposit),
-        (Machine::Crane, crane),
-    ] {
-        if let Some(call) = call {
-            let given = answer(&walk.end.state, machine, call);
-            push_line(alloc, text, machine, call, given)?;
+/// Adds a line for each machine that a walk's ending is about: all that wait, or those that are
+/// stopped.
+pub fn push_ring(
+    alloc: Global,
+    text: &mut String,
+    ending: Ending,
+    walk: &Walk,
+) -> Result<(), AllocError> {
+    let machines = Machine::ALL;
+    for ((machine, call), prospect) in machines.iter().zip(&walk.calls).zip(&walk.prospects) {
+        if let Some(call) = call
+            && *prospect == ending.prospect()
+        {
+            let given = answer(&walk.end.state, *machine, *call);
+            let line = line_of(alloc, ending, *machine, *call, given)?;
+            text.push_str(line.as_str())?;
         }
     }
     Ok(())
 }
 
-// Adds the line of a machine.
-fn push_line(
+// The line of a machine.
+fn line_of(
     alloc: Global,
-    text: &mut String,
+    ending: Ending,
     machine: Machine,
     call: Call,
     given: Answer,
-) -> Result<(), AllocError> {
+) -> Result<String, AllocError> {
     let name = machine.word();
-    let awaited = match awaited(machine, call, given) {
-        Some(other) => other.word(),
-        None => "nobody",
-    };
-    let line = format!(in alloc; "# {name} waits for {awaited}: {call}: {given}\n")?;
-    text.push_str(line.as_str())
+    match ending {
+        Ending::Standstill => {
+            let awaited = match awaited(machine, call, given) {
+                Some(other) => other.word(),
+                None => "nobody",
+            };
+            format!(in alloc; "# {name} waits for {awaited}: {call}: {given}\n")
+        }
+        Ending::Refusal => format!(in alloc; "# {name} is refused: {call}: {given}\n"),
+    }
 }
 
 // For whom a machine waits: the owner that refuses it, or else the other party of the zone.

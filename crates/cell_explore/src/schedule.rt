@@ -1,15 +1,16 @@
-//! The schedule that leads a simulated cell into a standstill: the turns that were found, with those in which drives
-//! end.
+//! The schedule that leads a simulated cell into a standstill, or to a refusal: the turns that were found, with those
+//! in which drives end.
 
 ghost use Rattle.cell_rules.specs.Start.{IsStartState};
 ghost use Rattle.cell_config.specs.Configured.{AreAxisScales, AreCurvesOf};
 
+use crate::ending::Ending;
 use cell_config::Config;
 use cell_configured::simulate_shown;
 use cell_explorer::Walk;
 use cell_plant::{Frame, MachineSteps, SeenFault, Turn, Watcher};
-use cell_rules::State;
-use cell_types::Machine;
+use cell_rules::{State, answer};
+use cell_types::{Call, Machine, Reply};
 use std::alloc::{AllocError, Global};
 
 /// The most turns that one drive takes here.
@@ -20,7 +21,7 @@ const MOST: usize = 8_192;
 pub enum ScheduleFault {
     /// Out of memory.
     Memory,
-    /// The simulated cell didn't come to the standstill.
+    /// The simulated cell didn't come to the standstill, or to the refusal.
     Apart,
 }
 
@@ -71,10 +72,14 @@ impl Watcher for AskSeeker {
 }
 
 /// The turns that lead a simulated cell to the end of a walk. Each machine has turns until it asks,
-/// once for each turn of the way that asks, and then once at the end.
+/// once for each turn of the way that asks. At the end each that the ending is about asks once more.
+///
+/// `Apart` if interlock and steps aren't those of the walk's end then, if a machine asked or was
+/// answered something else there, and if the ending is about no machine; `Memory` if memory ran out.
 pub fn schedule_into(
     alloc: Global,
     config: &Config,
+    ending: Ending,
     way: &[Machine],
     walk: &Walk,
 ) -> Result<Vec<Turn>, ScheduleFault>
@@ -85,19 +90,19 @@ pub fn schedule_into(
     let mut schedule = Vec::new(alloc);
     for (machine, asks) in way.iter().zip(&walk.asks) {
         if *asks {
-            let _ = push_until_asked(alloc, config, &mut schedule, *machine)?;
+            push_until_asked(alloc, config, &mut schedule, *machine)?;
         }
     }
     let mut end = None;
-    for machine in [
-        Machine::Feed,
-        Machine::Table,
-        Machine::Robot,
-        Machine::Press,
-        Machine::Deposit,
-        Machine::Crane,
-    ] {
-        end = push_until_asked(alloc, config, &mut schedule, machine)?;
+    let machines = Machine::ALL;
+    for ((machine, call), prospect) in machines.iter().zip(&walk.calls).zip(&walk.prospects) {
+        if *prospect == ending.prospect() {
+            let frame = push_until_asked(alloc, config, &mut schedule, *machine)?;
+            if !is_answered(&frame, *machine, *call, walk) {
+                return Err(ScheduleFault::Apart);
+            }
+            end = Some(frame);
+        }
     }
     match end {
         Some(frame) if is_at(&frame, walk) => Ok(schedule),
@@ -111,7 +116,7 @@ fn push_until_asked(
     config: &Config,
     schedule: &mut Vec<Turn>,
     machine: Machine,
-) -> Result<Option<Frame>, ScheduleFault>
+) -> Result<Frame, ScheduleFault>
     requires start { IsStartState config.now.start }
     requires points { AreAxisScales config.now.points }
     requires curves { AreCurvesOf config.now.points config.now.curves }
@@ -133,7 +138,7 @@ fn push_until_asked(
         Err(SeenFault::Watcher(Asked)) => (),
     }
     push_turns(schedule, turn, seeker.turns)?;
-    Ok(seeker.last)
+    seeker.last.ok_or(ScheduleFault::Apart)
 }
 
 // A schedule with as many further turns as one drive may take.
@@ -152,6 +157,16 @@ fn push_turns(schedule: &mut Vec<Turn>, turn: Turn, count: usize) -> Result<(), 
         schedule.push(turn)?;
     }
     Ok(())
+}
+
+// Whether a simulated machine has asked this, and was answered as at the end of a walk.
+fn is_answered(frame: &Frame, machine: Machine, call: Option<Call>, walk: &Walk) -> bool {
+    match (frame.asked, call) {
+        (Some((asked, Ok(Reply::Settled(given, _)))), Some(call)) => {
+            asked == call && given == answer(&walk.end.state, machine, call)
+        }
+        _ => false,
+    }
 }
 
 // Whether a simulated cell is at the end of a walk: its interlock and its machines' steps are so there.

@@ -3,66 +3,78 @@
 ghost use Rattle.cell_rules.specs.Start.{IsStartState};
 ghost use Rattle.cell_config.specs.Configured.{AreAxisScales, AreCurvesOf};
 
+use crate::ending::Ending;
 use crate::ring::push_ring;
 use crate::schedule::{ScheduleFault, schedule_into};
 use cell_config::Config;
-use cell_explorer::{Explored, explore_start, take_turns};
+use cell_explorer::{Explored, Walk, explore_start, take_turns};
 use cell_plant::Turn;
 use cell_rules::State;
 use cell_types::{Machine, Place};
 use std::alloc::{AllocError, Global};
 
 /// The screen of a configuration's start.
+///
+/// `Memory` if memory ran out, `Apart` if no schedule was found that leads a simulated cell to what
+/// was found.
 pub fn screen_of(alloc: Global, config: &Config) -> Result<String, ScheduleFault>
     requires start { IsStartState config.now.start }
     requires points { AreAxisScales config.now.points }
     requires curves { AreCurvesOf config.now.points config.now.curves }
 {
-    let plates = config.start.plates();
-    let mut text = format!(in alloc; "# plates {plates}\n")?;
-    match explore_start(alloc, &config.start)? {
-        Explored::Free(states) => {
-            let line = format!(in alloc; "# no standstill in any schedule: {states} states\n")?;
-            text.push_str(line.as_str())?;
-            push_start(&mut text, &config.start)?;
-        }
-        Explored::Standstill(way) => {
-            push_end(alloc, &mut text, config, "a standstill", &way)?;
-        }
-        Explored::Refusal(way) => {
-            push_end(
-                alloc,
-                &mut text,
-                config,
-                "a refusal that stops a machine",
-                &way,
-            )?;
-        }
-    }
-    Ok(text)
+    let found = explore_start(alloc, &config.start)?;
+    screen_by(alloc, config, &found)
 }
 
-// Adds what the shortest turns lead to, who waits for whom there, and a schedule that leads there.
-fn push_end(
-    alloc: Global,
-    text: &mut String,
-    config: &Config,
-    what: &str,
-    way: &Vec<Machine>,
-) -> Result<(), ScheduleFault>
+/// The screen of what was found from a configuration's start. The errors are those of `screen_of`.
+pub fn screen_by(alloc: Global, config: &Config, found: &Explored) -> Result<String, ScheduleFault>
     requires start { IsStartState config.now.start }
     requires points { AreAxisScales config.now.points }
     requires curves { AreCurvesOf config.now.points config.now.curves }
 {
+    let (ending, way) = match found {
+        Explored::Free(states) => return Ok(free_screen(alloc, config, *states)?),
+        Explored::Standstill(way) => (Ending::Standstill, way.as_slice()),
+        Explored::Refusal(way) => (Ending::Refusal, way.as_slice()),
+    };
+    let walk = take_turns(alloc, &config.start, way)?;
+    walk_screen(alloc, config, ending, way, &walk)
+}
+
+// The screen of a start from which no turns lead to a standstill.
+fn free_screen(alloc: Global, config: &Config, states: usize) -> Result<String, AllocError> {
+    let plates = config.start.plates();
+    let mut text = format!(in alloc;
+        "# plates {plates}\n# no standstill in any schedule: {states} states\n"
+    )?;
+    push_start(&mut text, &config.start)?;
+    Ok(text)
+}
+
+/// The screen of turns that end so: what they lead to, who waits for whom there or is refused, and a
+/// schedule that leads there. The errors are those of `screen_of`.
+pub fn walk_screen(
+    alloc: Global,
+    config: &Config,
+    ending: Ending,
+    way: &[Machine],
+    walk: &Walk,
+) -> Result<String, ScheduleFault>
+    requires start { IsStartState config.now.start }
+    requires points { AreAxisScales config.now.points }
+    requires curves { AreCurvesOf config.now.points config.now.curves }
+{
+    let plates = config.start.plates();
+    let what = ending.words();
     let turns = way.len();
-    let line = format!(in alloc; "# {what} after {turns} turns, and no fewer\n")?;
-    text.push_str(line.as_str())?;
-    let walked = take_turns(alloc, &config.start, way.as_slice())?;
-    push_ring(alloc, text, &walked)?;
-    push_start(text, &config.start)?;
-    let schedule = schedule_into(alloc, config, way.as_slice(), &walked)?;
-    push_schedule(text, schedule.as_slice())?;
-    Ok(())
+    let mut text = format!(in alloc;
+        "# plates {plates}\n# {what} after {turns} turns, and no fewer\n"
+    )?;
+    push_ring(alloc, &mut text, ending, walk)?;
+    push_start(&mut text, &config.start)?;
+    let schedule = schedule_into(alloc, config, ending, way, walk)?;
+    push_schedule(&mut text, schedule.as_slice())?;
+    Ok(text)
 }
 
 // Adds the key of a start.

@@ -1,18 +1,27 @@
 //! What the program `explore` does.
 
-ghost use Rattle.std.specs.Prelude.{◌≡◌, ◌≤◌};
+ghost use Rattle.std.specs.Prelude.{◌≡◌, ◌≢◌, ◌≤◌, Some, None, codes};
 ghost use Rattle.cell_text.specs.Input.{TakesAtMost};
+ghost use Rattle.cell_text.specs.Output.{WrotePrefix};
+ghost use Rattle.cell_shell.specs.Printed.{Prints};
+ghost use Rattle.cell_shell.specs.Versions.{version_line};
+ghost use Rattle.cell_shell.specs.Words.{texts_of};
 ghost use Rattle.cell_config.specs.Settings.{max_bytes_read};
+ghost use Rattle.cell_explore.specs.Requests.{request_of};
 
-use crate::every_start::every_start;
-use crate::request::{Request, request_of};
+use crate::every_start::{MOST_PLATES, every_start};
+use crate::request;
+use crate::request::Request;
 use crate::schedule::ScheduleFault;
 use crate::screen::screen_of;
+use crate::timing::tell_time;
 use cell_config::read_config;
 use cell_shell::{Exit, fail, print, print_prefix, print_version, texts_of, words_or_exit};
 use std::alloc::{AllocError, Global};
 use std::env::Env;
 use std::io::{Read, Write};
+use std::thread::Threads;
+use std::time::{Clock, Instant};
 
 /// The help.
 const HELP: &str = "\
@@ -20,8 +29,9 @@ Reads a configuration, as `cell sim` does, and explores every schedule from its 
 the six machines can come to a standstill, in which no machine can go on. Its schedule isn't used.
 It prints a configuration whose comments say what was found: the number of states, or the ring of
 those who wait, and a schedule that leads there: explore < examples/standstill.toml | cell sim
---all explores all 685 starts, by their plates.
+--all explores all 685 starts in two threads, by their plates.
 --version prints the version.
+Standard error says how long it took.
 Exit status: 0 on success and for help; 2 for bad arguments; otherwise 1: a refused
 configuration, a failed read or write, or no memory.
 ";
@@ -29,9 +39,27 @@ configuration, a failed read or write, or no memory.
 /// What is printed for other words.
 const OTHER_WORDS: &str = "error: the only argument is --all, --help or --version\n";
 
-/// Explores the start of the configuration that it reads, and prints the screen, or a fault. Returns
-/// the exit status: 0 if the screen was written, 1 otherwise.
-pub fn serve_start<R: Read, W: Write>(alloc: Global, reader: &mut R, writer: &mut W) -> u8
+/// Explores the start of the configuration that it reads, and prints the screen, or a fault. Then it
+/// tells `progress` how long it took, by the clock. Returns the exit status: 0 if the screen was
+/// written, 1 otherwise.
+pub fn serve_start<C: Clock, R: Read, W: Write, P: Write>(
+    clock: &C,
+    alloc: Global,
+    reader: &mut R,
+    writer: &mut W,
+    progress: &mut P,
+) -> u8
+    ensures status { result ≤ 1 }
+    ensures read { TakesAtMost (R.remaining reader.old) (R.remaining reader.new) max_bytes_read }
+{
+    let begun = Instant::now(clock);
+    let status = print_screen(alloc, reader, writer);
+    tell_time(clock, begun, progress);
+    status
+}
+
+// Prints the screen of the configuration that it reads, or a fault, and returns the exit status.
+fn print_screen<R: Read, W: Write>(alloc: Global, reader: &mut R, writer: &mut W) -> u8
     ensures status { result ≤ 1 }
     ensures read { TakesAtMost (R.remaining reader.old) (R.remaining reader.new) max_bytes_read }
 {
@@ -46,20 +74,34 @@ pub fn serve_start<R: Read, W: Write>(alloc: Global, reader: &mut R, writer: &mu
     }
 }
 
-/// Explores all starts and prints a line for each number of plates, to `progress` too once it is
-/// known. Returns the exit status: 0 if the lines were written, 1 otherwise.
-pub fn serve_all<W: Write, P: Write>(alloc: Global, writer: &mut W, progress: &mut P) -> u8
+/// Explores all starts with at most so many plates in two threads, and prints a line for each number
+/// of plates, to `progress` too once it is known. Then it tells `progress` how long it took, by the
+/// clock. Returns the exit status: 0 if the lines were written, 1 otherwise.
+pub fn serve_all<T: Threads + Sync, C: Clock, W: Write, P: Write>(
+    rt: &T,
+    clock: &C,
+    alloc: Global,
+    most_plates: u32,
+    writer: &mut W,
+    progress: &mut P,
+) -> u8
     ensures status { result ≤ 1 }
 {
-    match every_start(alloc, progress) {
+    let begun = Instant::now(clock);
+    let status = match every_start(rt, alloc, most_plates, progress) {
         Ok(text) => print(writer, text.as_bytes()).status(),
         Err(AllocError) => fail(writer, "memory").status(),
-    }
+    };
+    tell_time(clock, begun, progress);
+    status
 }
 
 /// Does what the words ask for, and returns the exit status: 0 on success, and for help; 1 for a
-/// refused configuration, a failed read or write, and if memory ran out; 2 for other words.
-pub fn serve<R: Read, W: Write, P: Write>(
+/// refused configuration, a failed read or write, and if memory ran out; 2 for other words. Of an
+/// exploration it tells `progress` how long it took, by the clock.
+pub fn serve<T: Threads + Sync, C: Clock, R: Read, W: Write, P: Write>(
+    rt: &T,
+    clock: &C,
     alloc: Global,
     words: &[&str],
     reader: &mut R,
@@ -67,11 +109,28 @@ pub fn serve<R: Read, W: Write, P: Write>(
     progress: &mut P,
 ) -> u8
     ensures status { result ≤ 2 }
+
+    // With `--help` or `-h` after the name: status 0 says that help was printed, status 1 that a
+    // prefix was. With `--version`: the same of the version.
+    ensures help { request_of (texts_of words.now) ≡ Some Request.Help →
+        Prints result (W.contents writer.old) (W.contents writer.new) HELP.now }
+    ensures version { request_of (texts_of words.now) ≡ Some Request.Version →
+        Prints result (W.contents writer.old) (W.contents writer.new)
+        (version_line (codes "explore")) }
+
+    // Status 2 comes exactly for other words, of which a line was printed, or a prefix of it.
+    ensures refused { result ≡ 2 → request_of (texts_of words.now) ≡ None }
+    ensures other { request_of (texts_of words.now) ≡ None → result ≡ 2 }
+    ensures line { request_of (texts_of words.now) ≡ None →
+        WrotePrefix (W.contents writer.old) (W.contents writer.new) OTHER_WORDS.now }
+
+    // At most one byte more is read than a configuration may have, and nothing but for a start.
     ensures read { TakesAtMost (R.remaining reader.old) (R.remaining reader.new) max_bytes_read }
+    ensures unread { request_of (texts_of words.now) ≢ Some Request.Start → reader.new ≡ reader.old }
 {
-    match request_of(words) {
-        Some(Request::Start) => serve_start(alloc, reader, writer),
-        Some(Request::All) => serve_all(alloc, writer, progress),
+    match request::request_of(words) {
+        Some(Request::Start) => serve_start(clock, alloc, reader, writer, progress),
+        Some(Request::All) => serve_all(rt, clock, alloc, MOST_PLATES, writer, progress),
         Some(Request::Help) => print(writer, HELP.as_bytes()).status(),
         Some(Request::Version) => print_version(writer, "explore").status(),
         None => refuse(writer).status(),
@@ -80,20 +139,26 @@ pub fn serve<R: Read, W: Write, P: Write>(
 
 /// Prints why words are refused, as far as the writer takes it, and returns `Refused`.
 fn refuse<W: Write>(writer: &mut W) -> Exit
-    ensures { result ≡ Exit.Refused }
+    ensures status { result ≡ Exit.Refused }
+    ensures line { WrotePrefix (W.contents writer.old) (W.contents writer.new) OTHER_WORDS.now }
 {
     print_prefix(writer, OTHER_WORDS.as_bytes());
     Exit::Refused
 }
 
-/// Runs the program with the words that it was started with, its input and its outputs, and returns the exit status.
-pub fn start<E: Env, R: Read, W: Write, P: Write>(
+/// Runs the program with the words that it was started with, a clock, its input and its outputs, and
+/// returns the exit status.
+pub fn start<T, C: Clock, E: Env, R: Read, W: Write, P: Write>(
+    rt: &T,
+    clock: &C,
     alloc: Global,
     env: &E,
     reader: &mut R,
     writer: &mut W,
     progress: &mut P,
 ) -> u8
+where
+    T: Threads + Sync,
     ensures status { result ≤ 2 }
     ensures read { TakesAtMost (R.remaining reader.old) (R.remaining reader.new) max_bytes_read }
 {
@@ -102,7 +167,7 @@ pub fn start<E: Env, R: Read, W: Write, P: Write>(
         Err(exit) => return exit.status(),
     };
     match texts_of(alloc, &words) {
-        Ok(texts) => serve(alloc, texts.as_slice(), reader, writer, progress),
+        Ok(texts) => serve(rt, clock, alloc, texts.as_slice(), reader, writer, progress),
         Err(_) => fail(writer, "memory").status(),
     }
 }

@@ -6,6 +6,8 @@ use std::process::ExitCode;
 
 fn main(rt: HostRuntime) -> ExitCode {
     let status = start(
+        &rt,
+        &rt,
         rt.alloc(),
         &rt,
         &mut rt.stdin(),

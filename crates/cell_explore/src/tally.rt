@@ -1,0 +1,95 @@
+//! What was found from the starts with one number of plates.
+
+use cell_explorer::Explored;
+use std::alloc::{AllocError, Global};
+
+/// What was found from the starts with one number of plates.
+#[derive(Clone, Copy, PartialEq, Eq, Debug)]
+pub struct Tally {
+    // How many starts were explored.
+    starts: u32,
+    // From how many of them no turns lead to a standstill or to a refusal.
+    free: u32,
+    // From how many of them turns lead to a refusal.
+    refused: u32,
+    most_states: usize,
+    fewest_turns: usize,
+    most_turns: usize,
+}
+
+impl Tally {
+    /// What was found from no start.
+    pub const NONE: Tally = Tally {
+        starts: 0,
+        free: 0,
+        refused: 0,
+        most_states: 0,
+        fewest_turns: usize::MAX,
+        most_turns: 0,
+    };
+
+    /// With what was found from one more start.
+    pub fn with(self, found: &Explored) -> Tally {
+        let one = match found {
+            Explored::Free(states) => Tally {
+                free: 1,
+                most_states: *states,
+                ..Tally::NONE
+            },
+            Explored::Standstill(way) => Tally::of_way(way.len()),
+            Explored::Refusal(way) => Tally {
+                refused: 1,
+                ..Tally::of_way(way.len())
+            },
+        };
+        self.and(Tally { starts: 1, ..one })
+    }
+
+    // What was found from a start from which so many turns lead to an end.
+    fn of_way(turns: usize) -> Tally {
+        Tally {
+            fewest_turns: turns,
+            most_turns: turns,
+            ..Tally::NONE
+        }
+    }
+
+    /// With what was found from other starts.
+    pub fn and(self, other: Tally) -> Tally {
+        Tally {
+            starts: self.starts.saturating_add(other.starts),
+            free: self.free.saturating_add(other.free),
+            refused: self.refused.saturating_add(other.refused),
+            most_states: self.most_states.max(other.most_states),
+            fewest_turns: self.fewest_turns.min(other.fewest_turns),
+            most_turns: self.most_turns.max(other.most_turns),
+        }
+    }
+
+    /// Its line, which names the number of plates.
+    pub fn line(&self, alloc: Global, plates: u32) -> Result<String, AllocError> {
+        let Tally {
+            starts,
+            free,
+            refused,
+            most_states,
+            fewest_turns,
+            most_turns,
+        } = *self;
+        let stuck = starts.saturating_sub(free).saturating_sub(refused);
+        if free == starts {
+            format!(in alloc;
+                "plates {plates} starts {starts}: no standstill; at most {most_states} states\n"
+            )
+        } else if refused == 0 {
+            format!(in alloc;
+                "plates {plates} starts {starts}: {stuck} stand still after {fewest_turns} to {most_turns} turns\n"
+            )
+        } else {
+            format!(in alloc;
+                "plates {plates} starts {starts}: {stuck} stand still, and in {refused} a machine is stopped by a \
+                refusal, after {fewest_turns} to {most_turns} turns\n"
+            )
+        }
+    }
+}
