@@ -1,0 +1,110 @@
+//! What is told of a refusal that stops a machine. No turns of the six programs lead to one: so a walk tells of
+//! machines that they would be stopped, though they only wait.
+
+use cell_config::read_config;
+use cell_explore::ending::Ending;
+use cell_explore::schedule::ScheduleFault;
+use cell_explore::screen::{screen_by, walk_screen};
+use cell_explorer::{Explored, take_turns};
+use cell_turns::Prospect;
+use cell_turns::Prospect::{Acts, Stops, Waits};
+use cell_types::Machine;
+use std::alloc::{AllocError, Global};
+use std::test::Fail;
+
+/// The fewest turns from an empty cell into a standstill, as plain Rust finds them.
+const WAY: &str = "fffttttttrpppppddddcc";
+
+/// Turns, what the next turn of each machine would do after them, and the screen.
+const ROWS: &[(&str, [Prospect; 6], &str)] = &[
+    (
+        "ppppp",
+        [Acts, Waits, Acts, Stops, Acts, Waits],
+        "\
+# plates 0
+# a refusal that stops a machine after 5 turns, and no fewer
+# press is refused: take z3: notowner free
+start = \"0000000000\"
+schedule = \"ppppppppppppppppppppppppppppppp\"
+",
+    ),
+    (
+        WAY,
+        [Stops, Waits, Stops, Waits, Waits, Stops],
+        "\
+# plates 0
+# a refusal that stops a machine after 21 turns, and no fewer
+# feed is refused: take z6: notowner free
+# robot is refused: inquire z2: zone table 0 closed
+# crane is refused: inquire z5: zone deposit 0 closed
+start = \"0000000000\"
+schedule = \"fffttttttppppppppppppppppppppppppppppppddddfrrccc\"
+",
+    ),
+];
+
+/// The machines that have these turns.
+fn machines(alloc: Global, letters: &str) -> Result<Vec<Machine>, AllocError> {
+    let mut way = Vec::new(alloc);
+    for letter in letters.chars() {
+        way.push(match letter {
+            'f' => Machine::Feed,
+            't' => Machine::Table,
+            'r' => Machine::Robot,
+            'p' => Machine::Press,
+            'd' => Machine::Deposit,
+            'c' => Machine::Crane,
+            _ => Machine::Watch,
+        })?;
+    }
+    Ok(way)
+}
+
+#[test]
+fn tells_a_refusal(rt: HostRuntime) -> Result<(), Fail> {
+    let config = read_config(rt.alloc(), &mut b"start = \"0000000000\"\n".as_slice())?;
+    for (letters, prospects, wanted) in ROWS {
+        let way = machines(rt.alloc(), letters)?;
+        let mut walk = take_turns(rt.alloc(), &config.start, way.as_slice())?;
+        walk.prospects = *prospects;
+        let found = walk_screen(rt.alloc(), &config, Ending::Refusal, way.as_slice(), &walk)?;
+        assert!(rt; found.as_str() == *wanted, "{found}");
+    }
+    Ok(())
+}
+
+// Where turns don't lead a simulated cell to what is told, there is no screen.
+#[test]
+fn tells_nothing_that_is_apart(rt: HostRuntime) -> Result<(), Fail> {
+    let config = read_config(rt.alloc(), &mut b"start = \"0000000000\"\n".as_slice())?;
+    // at the end of these turns nobody is refused
+    let waiting = screen_by(
+        rt.alloc(),
+        &config,
+        &Explored::Refusal(machines(rt.alloc(), WAY)?),
+    );
+    assert!(rt; waiting == Err(ScheduleFault::Apart));
+    // at the end of those nobody waits
+    let acting = screen_by(
+        rt.alloc(),
+        &config,
+        &Explored::Standstill(machines(rt.alloc(), "")?),
+    );
+    assert!(rt; acting == Err(ScheduleFault::Apart));
+    // the machine isn't refused; it has one turn more than the schedule; another drives on meanwhile
+    for (letters, left_out, machine) in [
+        ("fff", 0, 3),
+        ("fff", 1, 0),
+        ("tt", 1, 1),
+        ("rppppp", 0, 3),
+    ] {
+        let walked = machines(rt.alloc(), letters)?;
+        let mut walk = take_turns(rt.alloc(), &config.start, walked.as_slice())?;
+        walk.prospects = [Acts; 6];
+        walk.prospects[machine] = Stops;
+        let way = &walked.as_slice()[left_out..];
+        let found = walk_screen(rt.alloc(), &config, Ending::Refusal, way, &walk);
+        assert!(rt; found == Err(ScheduleFault::Apart), "{letters}: {found:?}");
+    }
+    Ok(())
+}

@@ -1,0 +1,35 @@
+//! What the words of the program ask for.
+
+use cell_explore::request::{Request, request_of};
+
+/// Words, the first of which is the program's name, and what they ask for.
+const ROWS: &[(&[&str], Option<Request>)] = &[
+    (&["explore"], Some(Request::Start)),
+    (&["--all"], Some(Request::Start)),
+    (&["explore", "--all"], Some(Request::All)),
+    (&["explore", "--help"], Some(Request::Help)),
+    (&["explore", "-h"], Some(Request::Help)),
+    (&["explore", "--version"], Some(Request::Version)),
+    (&[], None),
+    (&["explore", ""], None),
+    (&["explore", "all"], None),
+    (&["explore", "--al"], None),
+    (&["explore", "--all "], None),
+    (&["explore", "--ALL"], None),
+    (&["explore", "-a"], None),
+    (&["explore", "-V"], None),
+    (&["explore", "-H"], None),
+    (&["explore", "--all", "--all"], None),
+    (&["explore", "--all", "--help"], None),
+    (&["explore", "--help", "--help"], None),
+    (&["explore", "--version", "--all"], None),
+    (&["explore", "explore"], None),
+];
+
+#[test]
+fn reads_words(rt: HostRuntime) {
+    for (words, wanted) in ROWS {
+        let found = request_of(words);
+        assert!(rt; found == *wanted, "{words:?}: {found:?}");
+    }
+}

@@ -1,0 +1,174 @@
+//! The lines of who waits for whom, and of who is refused. They are worked out by hand.
+
+use cell_explore::ending::Ending;
+use cell_explore::ring::push_ring;
+use cell_explorer::{Walk, take_turns};
+use cell_rules::State;
+use cell_turns::Prospect;
+use cell_types::{Call, Machine, Pose, Zone};
+use std::alloc::Global;
+use std::test::Fail;
+
+/// Turns from an empty cell after which the table owns z1 and z2, the press z3, the deposit belt z4
+/// and the feed belt z6. All zones are closed.
+const WAY: &[Machine] = &[
+    Machine::Feed,
+    Machine::Table,
+    Machine::Table,
+    Machine::Press,
+    Machine::Deposit,
+];
+
+/// The machines by their numbers in a walk.
+const FEED: usize = 0;
+
+const TABLE: usize = 1;
+
+const ROBOT: usize = 2;
+
+const PRESS: usize = 3;
+
+const DEPOSIT: usize = 4;
+
+const CRANE: usize = 5;
+
+/// A machine, what it asks after these turns, whom it waits for, and what it is answered.
+const ROWS: &[(usize, Call, &str, &str)] = &[
+    // it waits for the owner that refuses it
+    (
+        ROBOT,
+        Call::Claim(Zone::Z2),
+        "robot waits for table",
+        "claim z2: held table",
+    ),
+    (
+        ROBOT,
+        Call::Take(Zone::Z3),
+        "robot waits for press",
+        "take z3: notowner press",
+    ),
+    (
+        CRANE,
+        Call::Claim(Zone::Z6),
+        "crane waits for feed",
+        "claim z6: held feed",
+    ),
+    // or else for the other party of the zone, the host or the guest
+    (
+        FEED,
+        Call::Inquire(Zone::Z1),
+        "feed waits for table",
+        "inquire z1: zone table 0 closed",
+    ),
+    (
+        TABLE,
+        Call::Take(Zone::Z1),
+        "table waits for feed",
+        "take z1: noplate",
+    ),
+    (
+        TABLE,
+        Call::Give(Zone::Z2),
+        "table waits for robot",
+        "give z2: wrongway",
+    ),
+    (
+        DEPOSIT,
+        Call::Release(Zone::Z5),
+        "deposit waits for crane",
+        "release z5: notowner free",
+    ),
+    (
+        CRANE,
+        Call::Claim(Zone::Z5),
+        "crane waits for deposit",
+        "claim z5: shut closed",
+    ),
+    (
+        CRANE,
+        Call::Yield(Zone::Z5),
+        "crane waits for deposit",
+        "yield z5: notowner free",
+    ),
+    // a call about no zone
+    (
+        PRESS,
+        Call::Advance,
+        "press waits for nobody",
+        "advance: noplate",
+    ),
+    (
+        ROBOT,
+        Call::SetPose(Pose::Middle),
+        "robot waits for nobody",
+        "pose middle: nopose",
+    ),
+];
+
+/// The lines of a walk's ending. After the turns these machines ask this, and their next turn would
+/// do that; all others would act.
+fn lines_of(
+    alloc: Global,
+    ending: Ending,
+    machines: &[(usize, Option<Call>, Prospect)],
+) -> Result<String, Fail> {
+    let mut walk: Walk = take_turns(alloc, &State::start([false; 10], 0)?, WAY)?;
+    walk.prospects = [Prospect::Acts; 6];
+    for (machine, call, prospect) in machines {
+        if *machine < 6 {
+            walk.calls[*machine] = *call;
+            walk.prospects[*machine] = *prospect;
+        }
+    }
+    let mut text = String::from_str(alloc, "...\n")?;
+    push_ring(alloc, &mut text, ending, &walk)?;
+    Ok(text)
+}
+
+#[test]
+fn tells_who_waits(rt: HostRuntime) -> Result<(), Fail> {
+    for (machine, call, waits, answer) in ROWS {
+        let machines = [(*machine, Some(*call), Prospect::Waits)];
+        let found = lines_of(rt.alloc(), Ending::Standstill, &machines)?;
+        let wanted = format!(in rt.alloc(); "...\n# {waits}: {answer}\n")?;
+        assert!(rt; found == wanted, "{found}");
+        let refused = lines_of(rt.alloc(), Ending::Refusal, &machines)?;
+        assert!(rt; refused.as_str() == "...\n", "{refused}");
+    }
+    Ok(())
+}
+
+#[test]
+fn tells_who_is_refused(rt: HostRuntime) -> Result<(), Fail> {
+    for (machine, call, waits, answer) in ROWS {
+        let machines = [(*machine, Some(*call), Prospect::Stops)];
+        let found = lines_of(rt.alloc(), Ending::Refusal, &machines)?;
+        let name = waits.split(' ').next().unwrap_or("");
+        let wanted = format!(in rt.alloc(); "...\n# {name} is refused: {answer}\n")?;
+        assert!(rt; found == wanted, "{found}");
+        let waiting = lines_of(rt.alloc(), Ending::Standstill, &machines)?;
+        assert!(rt; waiting.as_str() == "...\n", "{waiting}");
+    }
+    Ok(())
+}
+
+#[test]
+fn tells_them_in_the_order_of_reports(rt: HostRuntime) -> Result<(), Fail> {
+    let machines = [
+        (CRANE, Some(Call::Claim(Zone::Z6)), Prospect::Waits),
+        (DEPOSIT, None, Prospect::Waits),
+        (PRESS, Some(Call::Advance), Prospect::Stops),
+        (ROBOT, Some(Call::Take(Zone::Z3)), Prospect::Waits),
+        (FEED, Some(Call::Inquire(Zone::Z1)), Prospect::Acts),
+    ];
+    let waiting = lines_of(rt.alloc(), Ending::Standstill, &machines)?;
+    let wanted = "...\n# robot waits for press: take z3: notowner press\n\
+        # crane waits for feed: claim z6: held feed\n";
+    assert!(rt; waiting.as_str() == wanted, "{waiting}");
+    let refused = lines_of(rt.alloc(), Ending::Refusal, &machines)?;
+    assert!(rt;
+        refused.as_str() == "...\n# press is refused: advance: noplate\n",
+        "{refused}"
+    );
+    Ok(())
+}

@@ -1,0 +1,104 @@
+//! The line of what was found from the starts with one number of plates.
+
+use cell_explore::tally::Tally;
+use cell_explorer::Explored;
+use cell_types::Machine;
+use std::alloc::{AllocError, Global};
+
+/// What was found from one start: the number of states, or how many turns lead to an end.
+#[derive(Clone, Copy, Debug)]
+enum Found {
+    Free(usize),
+    Standstill(usize),
+    Refusal(usize),
+}
+
+use Found::{Free, Refusal, Standstill};
+
+/// What was found from some starts, and from others; their number of plates, and the line.
+const ROWS: &[(&[Found], &[Found], u32, &str)] = &[
+    (
+        &[],
+        &[],
+        7,
+        "plates 7 starts 0: no standstill; at most 0 states\n",
+    ),
+    (
+        &[Free(5), Free(9)],
+        &[Free(7)],
+        1,
+        "plates 1 starts 3: no standstill; at most 9 states\n",
+    ),
+    (
+        &[Free(5)],
+        &[Free(6), Free(12)],
+        2,
+        "plates 2 starts 3: no standstill; at most 12 states\n",
+    ),
+    (
+        &[Standstill(21)],
+        &[],
+        0,
+        "plates 0 starts 1: 1 stand still after 21 to 21 turns\n",
+    ),
+    (
+        &[Standstill(4), Free(100)],
+        &[Standstill(3), Standstill(6)],
+        5,
+        "plates 5 starts 4: 3 stand still after 3 to 6 turns\n",
+    ),
+    (
+        &[Free(100)],
+        &[Free(8), Standstill(0)],
+        6,
+        "plates 6 starts 3: 1 stand still after 0 to 0 turns\n",
+    ),
+    (
+        &[Refusal(2)],
+        &[],
+        3,
+        "plates 3 starts 1: 0 stand still, and in 1 a machine is stopped by a refusal, after 2 to 2 turns\n",
+    ),
+    (
+        &[Standstill(7), Refusal(9), Free(1)],
+        &[Refusal(5), Standstill(6), Standstill(8)],
+        4,
+        "plates 4 starts 6: 3 stand still, and in 2 a machine is stopped by a refusal, after 5 to 9 turns\n",
+    ),
+];
+
+/// What an exploration tells of it.
+fn told(alloc: Global, found: Found) -> Result<Explored, AllocError> {
+    let way = |turns: usize| -> Result<Vec<Machine>, AllocError> {
+        let mut way = Vec::new(alloc);
+        for _ in 0..turns {
+            way.push(Machine::Feed)?;
+        }
+        Ok(way)
+    };
+    Ok(match found {
+        Free(states) => Explored::Free(states),
+        Standstill(turns) => Explored::Standstill(way(turns)?),
+        Refusal(turns) => Explored::Refusal(way(turns)?),
+    })
+}
+
+fn tally_of(alloc: Global, all: &[Found]) -> Result<Tally, AllocError> {
+    let mut tally = Tally::NONE;
+    for found in all {
+        tally = tally.with(&told(alloc, *found)?);
+    }
+    Ok(tally)
+}
+
+#[test]
+fn tells_what_was_found(rt: HostRuntime) -> Result<(), AllocError> {
+    for (some, others, plates, wanted) in ROWS {
+        let one = tally_of(rt.alloc(), some)?;
+        let other = tally_of(rt.alloc(), others)?;
+        assert!(rt; one.and(other) == other.and(one), "{wanted}");
+        let line = one.and(other).line(rt.alloc(), *plates)?;
+        assert!(rt; line.as_str() == *wanted, "{line}");
+    }
+    Ok(())
+}
