@@ -2,6 +2,7 @@
 
 use plan_rules::{State, apply};
 use plan_types::{Answer, Call, Plan, PlanFault, Refusal, examples};
+use plan_word::{Layout, pack, stamp_of, step_word, unpack};
 
 #[test]
 fn a_zone_has_two_parties(rt: HostRuntime) {
@@ -31,4 +32,19 @@ fn a_press_is_loaded(rt: HostRuntime) {
     assert!(rt; apply(&plan, &mut state, loader, Call::Give(0)) == Answer::Done);
     assert!(rt; apply(&plan, &mut state, press, Call::Take(0)) == Answer::Done);
     assert!(rt; !state.is_full(0) && state.is_full(1));
+}
+
+#[test]
+fn a_press_claims_on_a_word(rt: HostRuntime) {
+    let tables = examples::press(rt.alloc()).expect(&rt, "memory");
+    let plan = Plan::new(tables).expect(&rt, "a plan");
+    let layout = Layout::of(&plan).expect(&rt, "a word of 64 bits");
+    let mut full = [false; 16];
+    full[0] = true;
+    let word = pack(&plan, &layout, &State::start(full, 0));
+    assert!(rt; word == 0x20);
+    let claimed = step_word(&plan, &layout, word, 1, Call::Claim(0));
+    assert!(rt; claimed == Some((Answer::Done, 0xA1)));
+    assert!(rt; stamp_of(&layout, 0xA1) == 1 && unpack(&plan, &layout, 0xA1).is_some());
+    assert!(rt; unpack(&plan, &layout, 0xA3).is_none());
 }

@@ -1,1 +1,6 @@
 pub mod Layout
+pub mod OfPlan
+pub mod Packed
+pub mod Reading
+pub mod Laws
+pub mod Examples

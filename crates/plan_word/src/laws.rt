@@ -1,5 +1,17 @@
-//! Laws, each the contract of a function that does nothing.
+//! Laws, each the contract of a function that does nothing. `plan.machines()` reads the plan, so the prover knows that
+//! it is one.
+ghost use Rattle.std.specs.Prelude.{◌≡◌, ℕ, ◌≤◌, false};
+ghost use Rattle.plan_types.specs.Table.{place_count};
+ghost use Rattle.plan_rules.specs.State.{is_full};
+ghost use Rattle.plan_rules.specs.Sound.{IsStart};
+ghost use Rattle.plan_rules.specs.Reply.{next};
 ghost use Rattle.plan_word.specs.Layout.{FieldsAreApart, ExamplesFit};
+ghost use Rattle.plan_word.specs.OfPlan.{IsOfPlan};
+ghost use Rattle.plan_word.specs.Laws.{EveryWordIsLaidOut, WordsAreDistinct};
+ghost use Rattle.plan_word.specs.Examples.{WordsAreRight};
+
+use plan_rules::State;
+use plan_types::{Call, Plan};
 
 /// No two fields of a word overlap, and each ends within its width.
 pub fn fields_are_apart()
@@ -10,3 +22,35 @@ pub fn fields_are_apart()
 pub fn examples_fit()
     ensures { ExamplesFit }
 {}
+
+/// Each number of a state of a plan fits its field and reads back from the word, which has no bit above its width.
+pub fn words_are_laid_out()
+    ensures { EveryWordIsLaidOut }
+{}
+
+/// No two states of a plan have the same word: a state that is packed and unpacked is the same state.
+pub fn words_are_distinct()
+    ensures { WordsAreDistinct }
+{}
+
+/// States of the press and of the lift have these literal words.
+pub fn words_are_right()
+    ensures { WordsAreRight }
+{}
+
+/// A start is a state of the plan if only places of the plan are full.
+pub fn starts_are_of_plan(plan: &Plan, opening: &State)
+    requires start { IsStart opening.now }
+    requires places { (p : ℕ) → place_count plan.now ≤ p → is_full opening.now p ≡ false }
+    ensures { IsOfPlan plan.now opening.now }
+{
+    let _ = plan.machines();
+}
+
+/// After a call on a state of a plan comes a state of the plan.
+pub fn stays_of_plan(plan: &Plan, state: &State, machine: u8, call: Call)
+    requires { IsOfPlan plan.now state.now }
+    ensures { IsOfPlan plan.now (next plan.now state.now machine call) }
+{
+    let _ = plan.machines();
+}

@@ -1,8 +1,11 @@
 //! The layout of a plan's word. Each field lies above the one before it: the zones, the places, the stamp, the stop.
-ghost use Rattle.std.specs.Prelude.{◌≡◌, ◌+◌, ◌≤◌, ◌↔◌, Some, IsOk, IfOk, IfErr, IsSome, IfSome, true};
+ghost use Rattle.std.specs.Prelude.{◌≡◌, ◌+◌, ◌*◌, ◌<◌, ◌≤◌, ◌^◌, ◌↔◌, Some, true};
+ghost use Rattle.std.specs.Prelude.{IsOk, IfOk, IfErr, IsSome, IfSome};
 ghost use Rattle.plan_types.specs.Table as table;
 ghost use Rattle.plan_word.specs.Layout as layouts;
+ghost use Rattle.plan_word.specs.Reading as reading;
 
+use crate::bits::{bits, with_bits};
 use plan_types::Plan;
 use std::marker::Model;
 
@@ -90,15 +93,46 @@ impl Layout {
         ensures some { IsSome result ↔ (layouts.has self.now field ≡ true) }
         ensures start { IfSome result (λ bit. bit ≡ layouts.start_of self.now field) }
     {
-        if !self.has(field) {
-            return None;
+        if self.has(field) {
+            Some(self.lowest(field))
+        } else {
+            None
         }
-        Some(match field {
+    }
+
+    fn lowest(&self, field: Field) -> u8
+        requires { layouts.has self.now field ≡ true }
+        ensures lowest { result ≡ layouts.start_of self.now field }
+        ensures within { result + layouts.bits_of field ≤ 64 }
+    {
+        match field {
             Field::Zone(zone) => 5 * zone,
             Field::Place(place) => 5 * self.zones + place,
             Field::Stamp => 5 * self.zones + self.places,
             Field::Stop => 5 * self.zones + self.places + 20,
-        })
+        }
+    }
+
+    /// The number in a field of a word.
+    pub(crate) fn told(&self, word: u64, field: Field) -> u64
+        requires { layouts.has self.now field ≡ true }
+        ensures value { result ≡ reading.told self.now word field }
+        ensures fits { result < 2 ^ layouts.bits_of field }
+    {
+        let lowest = u32::from(self.lowest(field));
+        bits(word, lowest, u32::from(Layout::bits(field)))
+    }
+
+    /// The word with a number in a field above all bits that are set.
+    pub(crate) fn with(&self, word: u64, field: Field, value: u64) -> u64
+        requires has { layouts.has self.now field ≡ true }
+        requires below { word < 2 ^ layouts.start_of self.now field }
+        requires fits { value < 2 ^ layouts.bits_of field }
+        ensures word { result ≡ word + value * 2 ^ layouts.start_of self.now field }
+        ensures below { result < 2 ^ layouts.end_of self.now field }
+    {
+        let lowest = u32::from(self.lowest(field));
+        with_bits(word, lowest, u32::from(Layout::bits(field)), value)
     }
 
     /// How many bits a field has.

@@ -1,7 +1,14 @@
-//! The word of a plan: which bits of 64 tell which part of a state.
+//! The word of a plan: which bits of 64 tell which part of a state, and calls on such words.
 #![tactic(auto)]
 
+mod bits;
+mod codes;
 pub mod laws;
 pub mod layout;
+mod sound;
+mod step;
+mod word;
 
 pub use layout::{Field, Layout, TooWide};
+pub use step::step_word;
+pub use word::{pack, stamp_of, unpack};

@@ -1,0 +1,121 @@
+//! Words of the press and of the lift, one bit flipped, and the words of the largest plan.
+
+use plan_rules::State;
+use plan_types::{Answer, Call, Plan, PlanZone, Posture, Tables, WATCH, examples};
+use plan_word::{Layout, TooWide, pack, stamp_of, step_word, unpack};
+use std::alloc::{AllocError, Global};
+
+// The loader has given its plate to the press, which owns the zone.
+const GIVEN: u64 = 0x295;
+
+// The zone may become clear (bit 2), the loader get a plate (5), the stamp another (7 to 26), and the plant stop (27).
+// There is no code 3, no plate without a receiver, and none onto a full place.
+const PRESS_BITS: [u8; 23] = [
+    2, 5, 7, 8, 9, 10, 11, 12, 13, 14, 15, 16, 17, 18, 19, 20, 21, 22, 23, 24, 25, 26, 27,
+];
+
+// The lift has given its plate to the upper floor, which owns the upper zone. The lift owns the lower one.
+const LIFTED: u64 = 0x143C1;
+
+// The lower zone may be free (bit 0), move (3), or be open inward (4); the upper one become clear (7), and the lift and
+// the lower floor get a plate (10, 11); then the stamp (13 to 32) and the stop (33).
+const LIFT_BITS: [u8; 27] = [
+    0, 3, 4, 7, 10, 11, 13, 14, 15, 16, 17, 18, 19, 20, 21, 22, 23, 24, 25, 26, 27, 28, 29, 30, 31,
+    32, 33,
+];
+
+/// How many words of states come from a word by flipping one bit, if each flips a bit of the list.
+fn flips(plan: &Plan, word: u64, bits: &[u8]) -> Option<usize> {
+    let layout = Layout::of(plan).ok()?;
+    let mut states = 0_usize;
+    for bit in 0_u8..64 {
+        if unpack(plan, &layout, word ^ 1 << bit).is_some() {
+            if !bits.contains(&bit) {
+                return None;
+            }
+            states = states.saturating_add(1);
+        }
+    }
+    Some(states)
+}
+
+#[test]
+fn a_flipped_bit_tells_a_state_or_none(rt: HostRuntime) {
+    let press = examples::press(rt.alloc()).expect(&rt, "memory");
+    let press = Plan::new(press).expect(&rt, "a plan");
+    assert!(rt; flips(&press, GIVEN, &PRESS_BITS) == Some(23));
+    let lift = examples::lift(rt.alloc()).expect(&rt, "memory");
+    let lift = Plan::new(lift).expect(&rt, "a plan");
+    assert!(rt; flips(&lift, LIFTED, &LIFT_BITS) == Some(27));
+}
+
+/// Tables of two machines with some zones and some places.
+fn tables_of(alloc: Global, zones: u8, places: u8) -> Result<Tables, AllocError> {
+    let zone = PlanZone {
+        host: 0,
+        guest: 1,
+        inward: None,
+        outward: None,
+    };
+    let mut tables = Tables {
+        machines: 2,
+        zones: Vec::new(alloc),
+        poses: Vec::new(alloc),
+        places: Vec::new(alloc),
+    };
+    for _ in 0..zones {
+        tables.zones.push(zone)?;
+    }
+    for _ in 0..places {
+        tables.places.push(0)?;
+    }
+    Ok(tables)
+}
+
+/// The width of the word of such a plan, or how many bits are missing.
+fn width_of(alloc: Global, zones: u8, places: u8) -> Option<Result<u8, u8>> {
+    let plan = Plan::new(tables_of(alloc, zones, places).ok()?).ok()?;
+    Some(match Layout::of(&plan) {
+        Ok(layout) => Ok(layout.width()),
+        Err(TooWide { missing }) => Err(missing),
+    })
+}
+
+// Zones and places, and the width or the number of missing bits.
+const WIDTHS: [(u8, u8, Result<u8, u8>); 6] = [
+    (0, 0, Ok(21)),
+    (8, 3, Ok(64)),
+    (8, 4, Err(1)),
+    (6, 13, Ok(64)),
+    (6, 14, Err(1)),
+    (10, 16, Err(23)),
+];
+
+#[test]
+fn plans_fit_or_not(rt: HostRuntime) {
+    for (zones, places, wanted) in WIDTHS {
+        assert!(rt; width_of(rt.alloc(), zones, places) == Some(wanted));
+    }
+}
+
+#[test]
+fn the_largest_plan_fills_its_word(rt: HostRuntime) {
+    let tables = tables_of(rt.alloc(), 8, 3).expect(&rt, "memory");
+    let plan = Plan::new(tables).expect(&rt, "a plan");
+    let layout = Layout::of(&plan).expect(&rt, "a layout");
+    let mut full = [false; 16];
+    full[2] = true;
+    let start = State::start(full, 1_048_574);
+    let word = pack(&plan, &layout, &start);
+    assert!(rt; word == 0x7FFF_F400_0000_0000 && stamp_of(&layout, word) == 1_048_574);
+    let stopped = 0xFFFF_FC00_0000_0000;
+    assert!(rt;
+        step_word(&plan, &layout, word, WATCH, Call::Stop) == Some((Answer::Done, stopped))
+    );
+    let mut after = start;
+    after.stamp = 1_048_575;
+    after.stopped = true;
+    assert!(rt; unpack(&plan, &layout, stopped) == Some(after));
+    assert!(rt; unpack(&plan, &layout, u64::MAX).is_none());
+    assert!(rt; start.zone(9).posture == Posture::Closed);
+}

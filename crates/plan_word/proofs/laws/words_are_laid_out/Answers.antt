@@ -1,0 +1,5 @@
+use Rattle.plan_word.proofs.LaidOut.{laid_out}
+use Rattle.plan_word.proofs.laws.words_are_laid_out.Goals as goal
+
+pub returns : goal.returns
+returns c = laid_out

@@ -1,0 +1,52 @@
+-- The state that the fields of a word tell, sound or not.
+use Rattle.std.specs.Prelude.{ℕ, ◌/◌, ◌%◌, ◌^◌, Bool, ◌&&◌, nat_eq, nat_lt, List, map, Option, Some, None}
+use Rattle.std.specs.Prelude.{if◌then◌else◌}
+use Rattle.std.specs.List.{range_with_len}
+use Rattle.plan_types.specs.declared.posture.Posture.{Posture}
+use Rattle.plan_types.specs.declared.posture.Posture.TheVariants.{Closed, Moving, OpenIn, OpenOut}
+use Rattle.plan_types.specs.Table.{PlanTable, zone_count, place_count, host_of, guest_of}
+use Rattle.plan_rules.specs.declared.state.ZoneState.{ZoneState}
+use Rattle.plan_rules.specs.declared.state.State.{State}
+use Rattle.plan_rules.specs.State.{free_zone}
+use Rattle.plan_word.specs.declared.layout.Field.{Field}
+use Rattle.plan_word.specs.declared.layout.Field.TheVariants.{Zone, Place, Stamp, Stop}
+use Rattle.plan_word.specs.Layout.{Counts, counts_of, start_of, bits_of}
+
+-- the number in a field of a word
+abbrev pub told : Counts → ℕ → Field → ℕ
+told c w f = w / 2 ^ start_of c f % 2 ^ bits_of f
+
+-- the spare code 3 tells the guest, as 2 does
+abbrev pub owner_of_code : PlanTable → ℕ → ℕ → Option ℕ
+owner_of_code t z n = if nat_eq n 0 then None else if nat_eq n 1 then Some (host_of t z) else Some (guest_of t z)
+
+abbrev pub posture_of_code : ℕ → Posture
+posture_of_code n = if nat_eq n 0 then Closed else if nat_eq n 1 then Moving else if nat_eq n 2 then OpenIn else OpenOut
+
+abbrev pub zone_of_code : PlanTable → ℕ → ℕ → ZoneState
+zone_of_code t z n = record {
+  owner = owner_of_code t z (n % 4);
+  flag = nat_eq (n / 4 % 2) 1;
+  posture = posture_of_code (n / 8);
+}
+
+-- no field tells of a zone or a place past the end of the plan's tables
+abbrev pub zone_told : PlanTable → ℕ → ℕ → ZoneState
+zone_told t w z = if nat_lt z (zone_count t) then zone_of_code t z (told (counts_of t) w (Zone z)) else free_zone
+
+abbrev pub place_told : PlanTable → ℕ → ℕ → Bool
+place_told t w p = nat_lt p (place_count t) && nat_eq (told (counts_of t) w (Place p)) 1
+
+abbrev pub zones_told : PlanTable → ℕ → List ZoneState
+zones_told t w = map (zone_told t w) (range_with_len 0 10)
+
+abbrev pub places_told : PlanTable → ℕ → List Bool
+places_told t w = map (place_told t w) (range_with_len 0 16)
+
+abbrev pub state_told : PlanTable → ℕ → State
+state_told t w = record {
+  zones = zones_told t w;
+  full = places_told t w;
+  stamp = told (counts_of t) w Stamp;
+  stopped = nat_eq (told (counts_of t) w Stop) 1;
+}

@@ -1,0 +1,123 @@
+//! The word of a state, and the state of a word.
+ghost use Rattle.std.specs.Prelude.{◌≡◌, ◌≢◌, ◌≤◌, ◌↔◌, Some, IsNone};
+ghost use Rattle.plan_types.specs.Table.{PlanTable};
+ghost use Rattle.plan_rules.specs.declared.state.State.{State as PlanState};
+ghost use Rattle.plan_rules.specs.State.{last_stamp};
+ghost use Rattle.plan_word.specs.declared.layout.Field.TheVariants.{Stamp};
+ghost use Rattle.plan_word.specs.Layout.{counts_of};
+ghost use Rattle.plan_word.specs.OfPlan.{IsOfPlan};
+ghost use Rattle.plan_word.specs.Packed.{packed};
+ghost use Rattle.plan_word.specs.Reading as reading;
+
+use crate::codes::{zone_code, zone_of_code};
+use crate::layout::{Field, Layout};
+use crate::sound::is_sound;
+use plan_rules::{State, ZoneState};
+use plan_types::{MAX_PLACES, MAX_ZONES, Plan, Posture};
+
+const FREE_ZONE: ZoneState = ZoneState {
+    owner: None,
+    flag: false,
+    posture: Posture::Closed,
+};
+
+/// The word of a state: each field of the layout holds its part of the state, and the bits above are zero. A zone's
+/// five bits are, from the lowest, two for its owner (0 free, 1 the host, 2 the guest), one for its flag and two for
+/// its posture (Closed 0, Moving 1, OpenIn 2, OpenOut 3). The word tells nothing of zones and places past the plan's
+/// tables.
+pub fn pack(plan: &Plan, layout: &Layout, state: &State) -> u64
+    requires layout { layout.now ≡ counts_of plan.now }
+    requires stamp { state.now.stamp ≤ last_stamp }
+    ensures { result ≡ packed plan.now state.now }
+{
+    let mut word = 0;
+    for zone in 0..plan.zone_count() {
+        let code = zone_code(plan, zone, state.zone(zone));
+        word = layout.with(word, Field::Zone(zone), code);
+    }
+    for place in 0..plan.place_count() {
+        let full = u64::from(state.is_full(place));
+        word = layout.with(word, Field::Place(place), full);
+    }
+    let word = layout.with(word, Field::Stamp, u64::from(state.stamp));
+    layout.with(word, Field::Stop, u64::from(state.stopped))
+}
+
+fn zone_told(plan: &Plan, layout: &Layout, word: u64, zone: u8) -> ZoneState
+    requires { layout.now ≡ counts_of plan.now }
+    ensures { result ≡ reading.zone_told plan.now word zone }
+{
+    if zone < plan.zone_count() {
+        zone_of_code(plan, zone, layout.told(word, Field::Zone(zone)))
+    } else {
+        FREE_ZONE
+    }
+}
+
+fn place_told(plan: &Plan, layout: &Layout, word: u64, place: u8) -> bool
+    requires { layout.now ≡ counts_of plan.now }
+    ensures { result ≡ reading.place_told plan.now word place }
+{
+    place < plan.place_count() && layout.told(word, Field::Place(place)) == 1
+}
+
+fn zones_told(plan: &Plan, layout: &Layout, word: u64) -> [ZoneState; MAX_ZONES]
+    requires { layout.now ≡ counts_of plan.now }
+    ensures { result ≡ reading.zones_told plan.now word }
+{
+    let mut zones = [FREE_ZONE; MAX_ZONES];
+    for zone in 0..MAX_ZONES {
+        zones[zone] = zone_told(plan, layout, word, zone as u8);
+    }
+    zones
+}
+
+fn places_told(plan: &Plan, layout: &Layout, word: u64) -> [bool; MAX_PLACES]
+    requires { layout.now ≡ counts_of plan.now }
+    ensures { result ≡ reading.places_told plan.now word }
+{
+    let mut places = [false; MAX_PLACES];
+    for place in 0..MAX_PLACES {
+        places[place] = place_told(plan, layout, word, place as u8);
+    }
+    places
+}
+
+/// The stamp of a word, read without unpacking it. If the word is no state's, it is the number in the stamp's field.
+pub fn stamp_of(layout: &Layout, word: u64) -> u32
+    ensures told { result ≡ reading.told layout.now word Stamp }
+    ensures stamp { (plan : PlanTable) (state : PlanState) → layout.now ≡ counts_of plan
+        → IsOfPlan plan state → packed plan state ≡ word → result ≡ state.stamp }
+{
+    layout.told(word, Field::Stamp) as u32
+}
+
+/// The state that the fields of a word tell, sound or not.
+fn state_told(plan: &Plan, layout: &Layout, word: u64) -> State
+    requires { layout.now ≡ counts_of plan.now }
+    ensures { result ≡ reading.state_told plan.now word }
+{
+    State {
+        zones: zones_told(plan, layout, word),
+        full: places_told(plan, layout, word),
+        stamp: stamp_of(layout, word),
+        stopped: layout.told(word, Field::Stop) == 1,
+    }
+}
+
+/// The state of the plan that packs to a word, or `None` if there is none: a bit above the layout's width is set, an
+/// owner has the spare code 3, or the state that the fields tell isn't sound.
+pub fn unpack(plan: &Plan, layout: &Layout, word: u64) -> Option<State>
+    requires layout { layout.now ≡ counts_of plan.now }
+    ensures some { (state : PlanState)
+        → (result ≡ Some state) ↔ (IsOfPlan plan.now state × (packed plan.now state ≡ word)) }
+    ensures none { IsNone result
+        ↔ ((state : PlanState) → IsOfPlan plan.now state → packed plan.now state ≢ word) }
+{
+    let state = state_told(plan, layout, word);
+    if is_sound(plan, state) && pack(plan, layout, &state) == word {
+        Some(state)
+    } else {
+        None
+    }
+}
