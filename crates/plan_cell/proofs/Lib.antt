@@ -1,0 +1,5 @@
+pub mod Names
+pub mod Alike
+pub mod Plates
+pub mod Posing
+pub mod Refusing

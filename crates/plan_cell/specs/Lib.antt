@@ -1,0 +1,4 @@
+pub mod Numbers
+pub mod CellPlan
+pub mod Mapping
+pub mod Laws
