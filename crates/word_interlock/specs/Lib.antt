@@ -1,0 +1,12 @@
+pub mod RuleBook
+pub mod History
+pub mod Only
+pub mod Views
+pub mod Rule
+pub mod Steps
+pub mod Seen
+pub mod Calls
+pub mod Going
+pub mod Tries
+pub mod Order
+pub mod Bunches
