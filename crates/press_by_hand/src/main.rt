@@ -5,10 +5,10 @@
 mod fault;
 mod texts;
 
+use cell_control::Wired;
 use cell_interlock::{Interlock, PassLine};
 use cell_rules::State;
 use cell_stations::PressProgram;
-use cell_control::Wired;
 use fault::PressFault;
 use texts::{motor_word, read_switches};
 

@@ -6,8 +6,8 @@ ghost use Rattle.six_by_hand.specs.Devices as devices;
 
 use crate::axis::Axis;
 use cell_calib::{CraneSense, DepositSense, FeedSense, PressSense, RobotSense, TableSense};
-use cell_devices::{CraneAct, DepositAct, FeedAct, PressAct, RobotAct, TableAct};
 use cell_control::Told;
+use cell_devices::{CraneAct, DepositAct, FeedAct, PressAct, RobotAct, TableAct};
 use cell_workers::Devices;
 
 /// A belt that carries one plate at a time past a light barrier.
