@@ -3,3 +3,4 @@ pub mod Alike
 pub mod Plates
 pub mod Posing
 pub mod Refusing
+pub mod Soundness

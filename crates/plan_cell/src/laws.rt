@@ -1,5 +1,5 @@
 //! Laws of the cell and its plan, each the contract of a function that does nothing.
-ghost use Rattle.plan_cell.specs.Laws.{CellRefusesMore, InquiriesAreAlike};
+ghost use Rattle.plan_cell.specs.Laws.{CellRefusesMore, InquiriesAreAlike, SoundByPlan};
 
 /// Whatever the cell answers Done its plan answers Done too, and both leave the same state: the cell only refuses more.
 /// `Advance` is a call that plans don't have.
@@ -10,4 +10,9 @@ pub fn cell_refuses_more()
 /// An inquiry shows the same zone in the cell and by its plan.
 pub fn inquiries_are_alike()
     ensures { InquiriesAreAlike }
+{}
+
+/// A sound state of the cell is sound by its plan.
+pub fn sound_by_plan()
+    ensures { SoundByPlan }
 {}
