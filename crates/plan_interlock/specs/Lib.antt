@@ -1,0 +1,3 @@
+pub mod Book
+pub mod BookKept
+pub mod Laws

@@ -1,0 +1,34 @@
+//! Laws of every interlock by a plan, each the contract of a function that does nothing.
+ghost use Rattle.std.specs.Prelude.{◌≡◌, ℕ, ◌≤◌, false};
+ghost use Rattle.plan_types.specs.Table.{place_count};
+ghost use Rattle.plan_rules.specs.State.{is_full};
+ghost use Rattle.plan_rules.specs.Sound.{IsStart};
+ghost use Rattle.plan_interlock.specs.Book.{plan_book};
+ghost use Rattle.plan_interlock.specs.Laws.{EveryPassSeesLaws, RightsLast};
+
+use crate::rules::PlanRules;
+use plan_rules::State;
+
+/// A start can open an interlock if only places of the plan are full.
+pub fn starts_can_open(rules: &PlanRules, opening: &State)
+    requires start { IsStart opening.now }
+    requires places { (p : ℕ) → place_count rules.now.plan ≤ p → is_full opening.now p ≡ false }
+    ensures { (plan_book rules.now.plan).is_sound opening.now }
+{
+    let _ = rules.plan().machines();
+}
+
+/// All that a pass sees keeps the laws of plans: no zone has two holders, plates are neither lost nor made, and so on.
+pub fn passes_see_laws(rules: &PlanRules)
+    ensures { EveryPassSeesLaws rules.now.plan }
+{
+    let _ = rules;
+}
+
+/// At the point of its call a machine still has what it had: what it holds, its own places, and the postures of the
+/// zones that it hosts.
+pub fn rights_last(rules: &PlanRules)
+    ensures { RightsLast rules.now.plan }
+{
+    let _ = rules;
+}

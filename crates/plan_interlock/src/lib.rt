@@ -1,0 +1,16 @@
+//! The interlock of any plant, by its plan, on one atomic word.
+#![tactic(auto)]
+
+pub mod examples;
+pub mod laws;
+pub mod rules;
+#[cfg(test)]
+mod tests;
+
+pub use rules::PlanRules;
+
+/// The interlock of a plant, which threads share.
+pub type PlanInterlock = word_interlock::Interlock<PlanRules>;
+
+/// The right to make the calls of one machine of a plant.
+pub type PlanPass = word_interlock::Pass<PlanRules>;
