@@ -132,17 +132,18 @@ pub fn two_threads<N: News + Send + Sync, R: Threads + Wait + Sync>(
     let (teller, call) = first;
     let (hearer, next) = second;
     let (to, from) = unbounded::<Letter<N>, Global>(alloc)?;
-    let both = join(
+    // where no thread can be made, the teller goes first
+    let (heard, told) = join(
         rt,
-        move || -> Reply
-            requires { (teller.table ≡ interlock.now.table) × (interlock.now.table ≡ N.table)
-                × (N.event ≡ event teller.machine call Done) }
-        { call_and_tell(rt, interlock, teller, call, to) },
         move || -> Option<(Reply, Pass)>
             requires { (hearer.table ≡ interlock.now.table) × (interlock.now.table ≡ N.table) }
             ensures { IfSome result (λ heard. IfSettled heard.0 (λ answer.
                 ComesLater N.event (event hearer.machine next answer) heard.1.seen)) }
         { hear_and_call(rt, interlock, hearer, next, from) },
+        move || -> Reply
+            requires { (teller.table ≡ interlock.now.table) × (interlock.now.table ≡ N.table)
+                × (N.event ≡ event teller.machine call Done) }
+        { call_and_tell(rt, interlock, teller, call, to) },
     );
-    Ok(both)
+    Ok((told, heard))
 }
