@@ -92,16 +92,15 @@ fn tells_nothing_that_is_apart(rt: HostRuntime) -> Result<(), Fail> {
     );
     assert!(rt; acting == Err(ScheduleFault::Apart));
     // the machine isn't refused; it has one turn more than the schedule; another drives on meanwhile
-    for (letters, left_out, machine) in [
-        ("fff", 0, 3),
-        ("fff", 1, 0),
-        ("tt", 1, 1),
-        ("rppppp", 0, 3),
+    for (letters, left_out, prospects) in [
+        ("fff", 0, [Acts, Acts, Acts, Stops, Acts, Acts]),
+        ("fff", 1, [Stops, Acts, Acts, Acts, Acts, Acts]),
+        ("tt", 1, [Acts, Stops, Acts, Acts, Acts, Acts]),
+        ("rppppp", 0, [Acts, Acts, Acts, Stops, Acts, Acts]),
     ] {
         let walked = machines(rt.alloc(), letters)?;
         let mut walk = take_turns(rt.alloc(), &config.start, walked.as_slice())?;
-        walk.prospects = [Acts; 6];
-        walk.prospects[machine] = Stops;
+        walk.prospects = prospects;
         let way = &walked.as_slice()[left_out..];
         let found = walk_screen(rt.alloc(), &config, Ending::Refusal, way, &walk);
         assert!(rt; found == Err(ScheduleFault::Apart), "{letters}: {found:?}");
