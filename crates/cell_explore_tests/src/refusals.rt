@@ -92,17 +92,17 @@ fn tells_nothing_that_is_apart(rt: HostRuntime) -> Result<(), Fail> {
     );
     assert!(rt; acting == Err(ScheduleFault::Apart));
     // the machine isn't refused; it has one turn more than the schedule; another drives on meanwhile
-    for (letters, left_out, prospects) in [
-        ("fff", 0, [Acts, Acts, Acts, Stops, Acts, Acts]),
-        ("fff", 1, [Stops, Acts, Acts, Acts, Acts, Acts]),
-        ("tt", 1, [Acts, Stops, Acts, Acts, Acts, Acts]),
-        ("rppppp", 0, [Acts, Acts, Acts, Stops, Acts, Acts]),
+    for (letters, scheduled, prospects) in [
+        ("fff", "fff", [Acts, Acts, Acts, Stops, Acts, Acts]),
+        ("fff", "ff", [Stops, Acts, Acts, Acts, Acts, Acts]),
+        ("tt", "t", [Acts, Stops, Acts, Acts, Acts, Acts]),
+        ("rppppp", "rppppp", [Acts, Acts, Acts, Stops, Acts, Acts]),
     ] {
         let walked = machines(rt.alloc(), letters)?;
         let mut walk = take_turns(rt.alloc(), &config.start, walked.as_slice())?;
         walk.prospects = prospects;
-        let way = &walked.as_slice()[left_out..];
-        let found = walk_screen(rt.alloc(), &config, Ending::Refusal, way, &walk);
+        let way = machines(rt.alloc(), scheduled)?;
+        let found = walk_screen(rt.alloc(), &config, Ending::Refusal, way.as_slice(), &walk);
         assert!(rt; found == Err(ScheduleFault::Apart), "{letters}: {found:?}");
     }
     Ok(())
