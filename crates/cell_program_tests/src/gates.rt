@@ -78,7 +78,7 @@ impl Doorkeeper {
 
     // Whether they all are within some time.
     fn do_all_meet(&self, turn: u32) -> bool {
-        for _ in 0..100_000_000u32 {
+        for _ in 0..1_000_000_000u32 {
             if self.are_all_at(turn) {
                 return true;
             }
