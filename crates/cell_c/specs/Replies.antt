@@ -1,9 +1,6 @@
 -- What C gets back from a call: numbers for the answer and for what it names, and the word after it.
 use Rattle.std.specs.Prelude.{ℕ, Bool, false}
-use Rattle.cell_types.specs.declared.answer.Refusal.TheVariants.{Held, Shut, NotOwner, PlateInZone}
-use Rattle.cell_types.specs.declared.answer.Answer.{Answer}
-use Rattle.cell_types.specs.declared.answer.Answer.TheVariants.{Done, Shown, Refused}
-use Rattle.cell_types.specs.Refusals.{number_of}
+use Rattle.cell_rules.specs.Types.{Held, Shut, NotOwner, PlateInZone, Answer, Done, Shown, Refused, number_of}
 use Rattle.cell_c.specs.Numbers.{owner_number, machine_number, zone_number, posture_number}
 use Rattle.cell_c.specs.declared.reply.Reply.{Reply}
 

@@ -1,10 +1,10 @@
 -- Pairs have one first fault.
 use Rattle.std.proofs.Common.{◌≡◌, List, refl}
-use Rattle.cell_calib.specs.Scale.{Scale}
-use Rattle.cell_calib.specs.Curve.{Pair}
-use Rattle.cell_calib.specs.CurveFaults.{IsFirstFault}
+use Rattle.cell_calib.specs.Names.{Scale, Pair}
 use Rattle.cell_calib.specs.declared.curve.CurveFault.{CurveFault}
-use Rattle.cell_calib.specs.declared.curve.CurveFault.TheVariants.{Count, Ends, Order, OffLine}
+use Rattle.cell_calib.specs.declared.curve.CurveFault.TheVariants.{Count}
+use Rattle.cell_calib.specs.CurveFaults.{IsFirstFault}
+use Rattle.cell_calib.specs.declared.curve.CurveFault.TheVariants.{Ends, Order, OffLine}
 
 pub one_fault : (s : Scale) (pairs : List Pair) (f g : CurveFault) → IsFirstFault s pairs f → IsFirstFault s pairs g → g ≡ f
 one_fault s pairs Count Count one other = refl

@@ -4,9 +4,8 @@ use Rattle.std.proofs.lemmas.Int.{ints}
 use Rattle.std.proofs.Math.Nat.{lt-div-mul-add}
 use Rattle.std.specs.Int.RustNames.{unsigned_abs}
 use lib.IntN.{pos-*ℤ-pos, *ℤ_comm}
-use Rattle.cell_calib.specs.Scale.{Scale, IsScale}
-use Rattle.cell_calib.specs.Line.{raw_width, height_of, line_height, IsLineNear, IsReading, IsLineRoundedDown}
-use Rattle.cell_calib.specs.Curve.{Pair, raw_at, IsRising, IsNearPair, line_through}
+use Rattle.cell_calib.specs.Names.{Scale, IsScale, raw_width, height_of, line_height, IsLineNear, IsReading}
+use Rattle.cell_calib.specs.Names.{IsLineRoundedDown, Pair, raw_at, IsRising, IsNearPair, line_through}
 use Rattle.cell_calib.proofs.LineLemmas.{add-mul_ℤ, raw_gap}
 
 -- ---- the mean of two heights, as numbers: e and d are their weights

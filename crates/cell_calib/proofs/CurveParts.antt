@@ -2,9 +2,8 @@
 use Rattle.std.proofs.Common.{◌≡◌, ℕ, ◌+◌, ◌<◌, ◌≤◌, ℤ, pos, ◌+ℤ◌, ◌-ℤ◌, ◌*ℤ◌, ◌≤ℤ◌, ◌<ℤ◌, List, sym, ap, ◌∙◌, subst, arith}
 use Rattle.std.proofs.lemmas.Int.{ints, by_lt_z}
 use lib.IntN.{*ℤ_comm, zero-*ℤ}
-use Rattle.cell_calib.specs.Scale.{Scale}
-use Rattle.cell_calib.specs.Line.{raw_width, height_of, line_height, IsLineRoundedDown}
-use Rattle.cell_calib.specs.Curve.{Pair, pair_at, raw_at, IsRising, AreNeighbours, line_through}
+use Rattle.cell_calib.specs.Names.{Scale, raw_width, height_of, line_height, IsLineRoundedDown, Pair, pair_at, raw_at}
+use Rattle.cell_calib.specs.Names.{IsRising, AreNeighbours, line_through}
 use Rattle.cell_calib.proofs.LineLemmas.{mul_mono, height_of-next, squeezed}
 
 width_some : (s : Scale) → s.raw_lo < s.raw_hi → pos 0 ≤ℤ raw_width s

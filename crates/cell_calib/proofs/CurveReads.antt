@@ -2,8 +2,7 @@
 use Rattle.std.proofs.Common.{ℕ, ◌+◌, ◌-◌, ◌<◌, ◌≤◌, ℤ, pos, ◌+ℤ◌, List, length}
 use Rattle.std.specs.Int.Signed.{le_z, lt_z, le_z_yes, lt_z_yes}
 use Rattle.std.specs.Prelude.{T}
-use Rattle.cell_calib.specs.Line.{height_of, line_height}
-use Rattle.cell_calib.specs.Curve.{Pair, pair_at, raw_at, IsRising, IsOnCurve, line_through}
+use Rattle.cell_calib.specs.Names.{height_of, line_height, Pair, pair_at, raw_at, IsRising, IsOnCurve, line_through}
 use Rattle.cell_calib.specs.CurveExamples.{Reads}
 use Rattle.cell_calib.proofs.CurveReadings.{one_on_curve}
 

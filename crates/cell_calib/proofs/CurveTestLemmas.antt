@@ -3,9 +3,9 @@ use Rattle.std.proofs.Common.{◌≡◌, ℕ, zero, suc, ◌+◌, ◌-◌, ◌<�
 use Rattle.std.specs.Prelude.{int_le, T}
 use Rattle.std.specs.List.{list_all}
 use Rattle.std.specs.Int.Signed.{le_z, le_z_yes}
-use Rattle.cell_calib.specs.Scale.{Scale}
-use Rattle.cell_calib.specs.Curve.{Pair, pair_at, raw_at, HasCount, IsRising, IsNearPair, IsCurve}
-use Rattle.cell_calib.specs.CurveTests.{is_curve, is_near_pair, is_rising, has_count, has_ends}
+use Rattle.cell_calib.specs.Names.{Scale, Pair, pair_at, raw_at, HasCount, IsRising, IsNearPair, IsCurve, is_curve}
+use Rattle.cell_calib.specs.Names.{is_rising}
+use Rattle.cell_calib.specs.CurveTests.{is_near_pair, has_count, has_ends}
 
 left : (a b : Bool) → (a && b) ≡ true → a ≡ true
 left true b h = refl

@@ -1,8 +1,7 @@
 -- Why pairs make no curve, in figures.
 use Rattle.std.proofs.Common.{◌≡◌, pos, true, List, [], ◌∷◌, refl, arith}
 use Rattle.std.specs.Prelude.{neg_ℤ}
-use Rattle.cell_calib.specs.Curve.{Pair, IsRising}
-use Rattle.cell_calib.specs.CurveTests.{is_rising}
+use Rattle.cell_calib.specs.Names.{Pair, IsRising, is_rising}
 use Rattle.cell_calib.specs.CurveExamples.{FaultExamples}
 use Rattle.cell_calib.proofs.CurveTestLemmas.{count_of_pass, rises_at}
 

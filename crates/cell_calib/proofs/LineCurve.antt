@@ -2,9 +2,9 @@
 use Rattle.std.proofs.Common.{◌≡◌, ℕ, zero, suc, ◌+◌, ◌-◌, ◌*◌, ℤ, pos, ◌-ℤ◌, ◌≤ℤ◌, refl, arith, zero-mul}
 use Rattle.std.proofs.lemmas.Int.{ints}
 use Rattle.std.specs.Int.RustNames.{unsigned_abs}
-use Rattle.cell_calib.specs.Scale.{Scale, IsScale}
-use Rattle.cell_calib.specs.Line.{IsLineRoundedDown}
-use Rattle.cell_calib.specs.Curve.{pair_at, IsRising, IsNearPair, AreNearLine, IsCurve, IsOnCurve, AreNeighbours, line_through, ends_of}
+use Rattle.cell_calib.specs.Names.{Scale, IsScale, IsLineRoundedDown, pair_at, IsRising, IsNearPair, IsCurve}
+use Rattle.cell_calib.specs.Names.{IsOnCurve, AreNeighbours, line_through, ends_of}
+use Rattle.cell_calib.specs.Curve.{AreNearLine}
 use Rattle.cell_calib.proofs.CurveLemmas.{IsClose, near_of_close}
 
 ends_rise : (s : Scale) → IsScale s → IsRising (ends_of s)

@@ -4,8 +4,9 @@ use Rattle.std.proofs.Math.IntN.{negsuc}
 use Rattle.std.proofs.lemmas.Int.{ints, by_lt_z}
 use Rattle.std.proofs.Math.Nat.{div-mul-le_self, lt-div-mul-add}
 use borrow.Author.Differences.{up, down, sum_is_lem}
-use Rattle.cell_calib.specs.Scale.{Scale, IsScale}
-use Rattle.cell_calib.specs.Line.{raw_width, height_of, line_height, IsLineNear, IsLineBelow, IsLineAbove, IsLineAtMost, IsLineAtLeast, IsWithinTolerance, IsReading, IsLineRoundedDown, IsRawAt, IsNear}
+use Rattle.cell_calib.specs.Names.{Scale, IsScale, raw_width, height_of, line_height, IsLineNear, IsLineBelow}
+use Rattle.cell_calib.specs.Names.{IsLineAbove, IsLineAtMost, IsLineAtLeast, IsWithinTolerance, IsReading}
+use Rattle.cell_calib.specs.Names.{IsLineRoundedDown, IsRawAt, IsNear}
 
 pub add-mul_ℤ : (a b w : ℤ) → (a +ℤ b) *ℤ w ≡ a *ℤ w +ℤ b *ℤ w
 add-mul_ℤ a b w = omega (arith, ints, ap (λ n. n * up w) (sum_is_lem a b), ap (λ n. n * down w) (sum_is_lem a b))

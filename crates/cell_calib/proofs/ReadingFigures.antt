@@ -1,7 +1,7 @@
 -- What curves read, in figures.
 use Rattle.std.proofs.Common.{pos, [], ◌∷◌, refl, arith}
 use Rattle.std.specs.Prelude.{neg_ℤ}
-use Rattle.cell_calib.specs.Curve.{IsCurve}
+use Rattle.cell_calib.specs.Names.{IsCurve}
 use Rattle.cell_calib.specs.CurveExamples.{quarters, bulging, sunk, falling, even, steps, ReadingExamples}
 use Rattle.cell_calib.proofs.CurveReads.{reads}
 use Rattle.cell_calib.proofs.CurveTestLemmas.{curve_of_pass}

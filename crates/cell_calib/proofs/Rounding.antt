@@ -2,8 +2,7 @@
 use Rattle.std.proofs.Common.{◌+◌, ◌+ℤ◌, pos, ℕ, ℤ, arith}
 use Rattle.std.specs.Int.Signed.{le_z, lt_z, le_z_yes, lt_z_yes}
 use Rattle.std.specs.Prelude.{T}
-use Rattle.cell_calib.specs.Scale.{Scale, IsScale}
-use Rattle.cell_calib.specs.Line.{height_of, line_height, IsLineRoundedDown, IsRawAt}
+use Rattle.cell_calib.specs.Names.{Scale, IsScale, height_of, line_height, IsLineRoundedDown, IsRawAt}
 use Rattle.cell_calib.specs.Examples.{GivesRaw, LiesAt, three_for_two, below_zero, RoundingExamples}
 use Rattle.cell_calib.proofs.LineLemmas.{one_raw_at, one_line_at}
 

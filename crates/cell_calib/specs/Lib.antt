@@ -7,3 +7,4 @@ pub mod Faults
 pub mod Line
 pub mod Scale
 pub mod Sensors
+pub mod Names

@@ -10,9 +10,7 @@ use Rattle.std.specs.Str.{is_utf8}
 use Rattle.toml.specs.Data.{Data, Members, as_integer, as_table, get_member}
 use Rattle.toml.specs.Parse.{parse_document}
 use Rattle.cell_rules.specs.ModelState.{ModelState}
-use Rattle.cell_calib.specs.Scale.{Scale}
-use Rattle.cell_calib.specs.Curve.{IsCurve, Pair, ends_of}
-use Rattle.cell_calib.specs.CurveTests.{is_curve}
+use Rattle.cell_calib.specs.Names.{Scale, IsCurve, Pair, ends_of, is_curve}
 use Rattle.cell_calib.proofs.CurveTestLemmas.{curve_of_pass}
 use Rattle.cell_notes.specs.declared.schedule.Turn.{Turn}
 use Rattle.cell_parts.specs.Axes.{IsAxisScale, arm_end, rotation_end, turn_end, gripper_end}

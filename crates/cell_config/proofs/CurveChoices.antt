@@ -5,9 +5,7 @@ use Rattle.std.proofs.lemmas.List.{length-map}
 use Rattle.toml.specs.Data.{Data, Items, string, integer, float, boolean, datetime, array, table, as_array}
 use Rattle.toml.specs.View.{view, items_of, items_view}
 use Rattle.toml.specs.declared.value.Value.{Value}
-use Rattle.cell_calib.specs.Scale.{Scale}
-use Rattle.cell_calib.specs.Curve.{Pair, HasCount, IsCurve}
-use Rattle.cell_calib.specs.CurveTests.{is_curve}
+use Rattle.cell_calib.specs.Names.{Scale, Pair, HasCount, IsCurve, is_curve}
 use Rattle.cell_calib.proofs.CurveTestLemmas.{passes_as_curve, curve_of_pass}
 use Rattle.cell_config.specs.Settings.{curve_of, curve_within, is_measured, is_pair, measured_of, pairs_in, values_in}
 use Rattle.cell_config.specs.declared.fault.ConfigFault.TheVariants.{Range}

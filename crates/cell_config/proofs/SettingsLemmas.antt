@@ -9,8 +9,7 @@ use Rattle.toml.specs.Data.{Members}
 use Rattle.toml.specs.Parse.{parse_document}
 use Rattle.cell_config.specs.Steps.{◌>>=◌, demand}
 use Rattle.cell_rules.specs.ModelState.{ModelState}
-use Rattle.cell_calib.specs.Scale.{Scale}
-use Rattle.cell_calib.specs.Curve.{Curved, Pair, pairs_of}
+use Rattle.cell_calib.specs.Names.{Scale, Curved, Pair, pairs_of}
 use Rattle.cell_notes.specs.declared.schedule.Turn.{Turn}
 use Rattle.cell_config.specs.Keys.{is_known}
 use Rattle.cell_config.specs.Settings.{Section, Settings, byte_limit, schedule_at, sections_at, settings_in, settings_of, start_at}

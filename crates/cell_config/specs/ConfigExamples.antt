@@ -1,11 +1,8 @@
 -- Configurations and what they say, or why they are refused: the first of several faults.
 use Rattle.std.specs.Prelude.{◌≡◌, ℕ, pos, Bool, true, false, List, [], ◌∷◌, ◌++◌, map, codes, Ok, Err}
-use Rattle.cell_types.specs.declared.machine.Machine.{Machine}
-use Rattle.cell_types.specs.declared.machine.Machine.TheVariants.{Feed, Table, Robot, Press, Deposit, Crane, Watch}
-use Rattle.cell_rules.specs.PlaceSet.{empty, place_set}
-use Rattle.cell_rules.specs.Start.{start_state}
-use Rattle.cell_calib.specs.Scale.{Scale}
-use Rattle.cell_calib.specs.Curve.{Pair, ends_of}
+use Rattle.cell_rules.specs.Types.{Machine, Feed, Table, Robot, Press, Deposit, Crane, Watch}
+use Rattle.cell_rules.specs.Names.{empty, place_set, start_state}
+use Rattle.cell_calib.specs.Names.{Scale, Pair, ends_of}
 use Rattle.cell_notes.specs.declared.schedule.Turn.{Turn}
 use Rattle.cell_config.specs.Settings.{Settings, settings_of}
 use Rattle.cell_config.specs.declared.fault.ConfigFault.{ConfigFault}

@@ -7,14 +7,10 @@ use Rattle.std.specs.Str.{is_utf8}
 use Rattle.toml.specs.Data.{Data, Items, Members, array, integer, item, no_items, as_integer, as_str, as_table}
 use Rattle.toml.specs.Data.{get_member}
 use Rattle.toml.specs.Parse.{parse_document}
-use Rattle.cell_rules.specs.ModelState.{ModelState, last_stamp}
-use Rattle.cell_rules.specs.Start.{places_of, start_state}
-use Rattle.cell_calib.specs.Scale.{Scale}
-use Rattle.cell_calib.specs.Curve.{Pair, ends_of}
-use Rattle.cell_calib.specs.CurveTests.{is_curve}
+use Rattle.cell_rules.specs.Names.{ModelState, last_stamp, places_of, start_state, is_start, places_in}
+use Rattle.cell_calib.specs.Names.{Scale, Pair, ends_of, is_curve}
 use Rattle.cell_parts.specs.Axes.{arm_end, rotation_end, turn_end, gripper_end}
 use Rattle.cell_notes.specs.declared.schedule.Turn.{Turn}
-use Rattle.cell_rules.specs.StartDigits.{is_start, places_in}
 use Rattle.cell_config.specs.Steps.{◌>>=◌, at_key, demand, of_kind, required}
 use Rattle.cell_config.specs.Keys.{is_known}
 use Rattle.cell_config.specs.Letters.{turns_of}

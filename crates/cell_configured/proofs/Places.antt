@@ -1,8 +1,7 @@
 -- A configuration's curves, each in its axis's place.
 use Rattle.std.proofs.Common.{◌≡◌, ℕ, ℤ, List, [], ◌∷◌, map, sym, ◌∙◌, subst}
 use lib.ListN.{get_or}
-use Rattle.cell_calib.specs.Scale.{Scale}
-use Rattle.cell_calib.specs.Curve.{Curved, IsOnCurve, pairs_of}
+use Rattle.cell_calib.specs.Names.{Scale, Curved, IsOnCurve, pairs_of}
 use Rattle.cell_parts.specs.Axes.{AreCellScales, CellScales, IsAxisScale, arm_end, rotation_end, turn_end, gripper_end}
 use Rattle.cell_plant.specs.Machines.{CellGauges, on_curves}
 use Rattle.cell_plant.proofs.Gauged.{GiveAsMuch}

@@ -1,18 +1,8 @@
 -- Another machine's call on a bench is no event of this machine, so its progress stays.
 use Rattle.std.proofs.Common.{◌≡◌, false, cond, List, [], ◌∷◌, ◌++◌, Result, Ok, Err, sym, ap, ◌∙◌, subst, append-nil}
-use Rattle.cell_types.specs.declared.machine.Machine.{Machine}
-use Rattle.cell_types.specs.declared.call.Call.{Call}
-use Rattle.cell_types.specs.declared.answer.Answer.{Answer}
-use Rattle.cell_types.specs.declared.answer.Event.{Event}
-use Rattle.cell_types.specs.declared.reply.Reply.{Reply}
-use Rattle.cell_types.specs.declared.reply.Reply.TheVariants.{Settled, Busy}
-use Rattle.cell_types.specs.Same.{same_machine}
+use Rattle.cell_rules.specs.Types.{Machine, Call, Answer, Event, Reply, Settled, Busy, same_machine}
+use Rattle.cell_rules.specs.Names.{ModelState, own_events, Reached, event, Desk, BenchAsks}
 use Rattle.cell_rules.specs.declared.heard.LineFault.{LineFault}
-use Rattle.cell_rules.specs.ModelState.{ModelState}
-use Rattle.cell_rules.specs.History.{own_events}
-use Rattle.cell_rules.specs.Programs.{Reached}
-use Rattle.cell_rules.specs.Seen.{event}
-use Rattle.cell_rules.specs.Benches.{Desk, BenchAsks}
 use Rattle.cell_rules.proofs.SeenLemmas.{own-append}
 use Rattle.cell_control.specs.Steps.{Steps, program_of, IsReached}
 use Rattle.cell_control.proofs.StepLemmas.{reached_by}

@@ -1,15 +1,11 @@
 -- With less known of the sensors, a turn is still a turn, and a reached step is still reached.
 use Rattle.std.proofs.Common.{◌≡◌, Option, Some, None, Result, Ok, Err, refl, ◌∙◌, ap}
-use Rattle.cell_types.specs.declared.call.Call.{Call}
-use Rattle.cell_types.specs.declared.answer.Answer.{Answer}
-use Rattle.cell_types.specs.declared.answer.Answer.TheVariants.{Done, Shown, Refused}
-use Rattle.cell_types.specs.declared.reply.Reply.{Reply}
-use Rattle.cell_types.specs.declared.reply.Reply.TheVariants.{Settled, Busy}
+use Rattle.cell_rules.specs.Types.{Call, Answer, Done, Shown, Refused, Reply, Settled, Busy}
 use Rattle.cell_calib.specs.declared.sense.SensorFault.{SensorFault}
 use Rattle.cell_rules.specs.declared.heard.LineFault.{LineFault}
+use Rattle.cell_control.specs.Names.{Steps, after_answer, outcome, with_senses, Performed, PerformsCall}
+use Rattle.cell_control.specs.Names.{PerformsSensed, Turned, Turns, at_rest}
 use Rattle.cell_control.specs.declared.fault.CtlFault.{CtlFault}
-use Rattle.cell_control.specs.Steps.{Steps, after_answer, outcome, with_senses}
-use Rattle.cell_control.specs.Turns.{Performed, PerformsCall, PerformsSensed, Turned, Turns, at_rest}
 
 module _ {S Sense Reading Act : Type 0} (t : Steps S Sense Reading Act) (senses : Sense → Result Reading SensorFault → Type 0) (f : (s : Sense) (r : Result Reading SensorFault) → t.senses s r → senses s r) where
   answer_same : (p : S) (a : Answer) → after_answer t p a ≡ after_answer (with_senses t senses) p a

@@ -1,26 +1,15 @@
 -- What a turn of any program keeps: that its step is reached, and what its steps know of the state.
 use Rattle.std.proofs.Common.{◌≡◌, ℕ, zero, suc, Bool, true, false, if◌then◌else◌, List, [], Option, Some, None, Result, Ok, Err, refl, sym, subst}
-use Rattle.cell_types.specs.declared.machine.Machine.{Machine}
-use Rattle.cell_types.specs.declared.posture.Posture.{Posture}
-use Rattle.cell_types.specs.declared.call.Call.{Call}
-use Rattle.cell_types.specs.declared.answer.Answer.{Answer}
-use Rattle.cell_types.specs.declared.answer.Answer.TheVariants.{Done, Shown, Refused}
-use Rattle.cell_types.specs.declared.answer.Event.{Event}
-use Rattle.cell_types.specs.declared.reply.Reply.{Reply}
-use Rattle.cell_types.specs.declared.reply.Reply.TheVariants.{Settled, Busy}
-use Rattle.cell_types.specs.Same.{same_machine}
+use Rattle.cell_rules.specs.Types.{Machine, Posture, Call, Answer, Done, Shown, Refused, Event, Reply, Settled, Busy}
+use Rattle.cell_rules.specs.Types.{same_machine}
+use Rattle.cell_rules.specs.Names.{ModelState, IsSound, reply, next, next_by, changed, after, IsLegal, own_events}
+use Rattle.cell_rules.specs.Names.{SeenAfter, Reached, IsSameFor}
 use Rattle.cell_rules.specs.declared.heard.LineFault.{LineFault}
-use Rattle.cell_rules.specs.ModelState.{ModelState}
-use Rattle.cell_rules.specs.Sound.{IsSound}
-use Rattle.cell_rules.specs.Reply.{reply, next, next_by, changed}
-use Rattle.cell_rules.specs.History.{after, IsLegal, own_events}
-use Rattle.cell_rules.specs.Seen.{SeenAfter}
-use Rattle.cell_rules.specs.Programs.{Reached}
-use Rattle.cell_rules.specs.Restamping.{IsSameFor}
 use Rattle.cell_rules.proofs.ProgramLemmas.{Keeps, reached-settles, reached-waits, reached-moves, reached-knows}
+use Rattle.cell_control.specs.Names.{fault_of, Steps, waits_out, after_answer, outcome, program_of, InStepAfter}
+use Rattle.cell_control.specs.Names.{IsReached}
 use Rattle.cell_control.specs.declared.fault.CtlFault.{CtlFault}
-use Rattle.cell_control.specs.Faults.{fault_of}
-use Rattle.cell_control.specs.Steps.{Steps, Drives, waits_out, after_answer, outcome, program_of, ComesFrom, GoesOn, InStepAfter, IsReached}
+use Rattle.cell_control.specs.Steps.{Drives, ComesFrom, GoesOn}
 
 -- a program that goes on stays reached
 pub reached_by : {S Sense Reading Act : Type 0} → (t : Steps S Sense Reading Act) (p q : S) (o : ModelState) (before now : List Event) → GoesOn t before p now q → IsReached t o before p → IsReached t o now q

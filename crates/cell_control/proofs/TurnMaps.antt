@@ -1,12 +1,11 @@
 -- A controller's turn, by another relation to its line.
 use Rattle.std.proofs.Common.{◌≡◌, subst, Option, Some, None, Result, Ok, Err}
-use Rattle.cell_types.specs.declared.call.Call.{Call}
-use Rattle.cell_types.specs.declared.reply.Reply.{Reply}
+use Rattle.cell_rules.specs.Types.{Call, Reply}
 use Rattle.cell_calib.specs.declared.sense.SensorFault.{SensorFault}
 use Rattle.cell_rules.specs.declared.heard.LineFault.{LineFault}
+use Rattle.cell_control.specs.Names.{Steps, Performed, PerformsCall, PerformsSensed, Turned, Turns, turned}
 use Rattle.cell_control.specs.declared.fault.CtlFault.{CtlFault}
-use Rattle.cell_control.specs.Steps.{Steps}
-use Rattle.cell_control.specs.Turns.{Performed, Performs, PerformsCall, PerformsSensed, Turned, Turns, turned}
+use Rattle.cell_control.specs.Turns.{Performs}
 
 module _ {S Sense Reading Act : Type 0} (t : Steps S Sense Reading Act) (same same' : Type 0) (asks asks' : Call → Result Reply LineFault → Type 0) (f : same → same') (g : (c : Call) (r : Result Reply LineFault) → asks c r → asks' c r) where
   call_map : (o : Option Call) (p : S) (reading : Reading) (r : Performed S Act) → PerformsCall t o same asks p reading r → PerformsCall t o same' asks' p reading r

@@ -2,25 +2,18 @@
 use Rattle.std.proofs.Common.{◌≡◌, ◌∙◌, ap, sym, subst, refl, zero, suc, List, [], Bool, true, false, if◌then◌else◌, ℕ, Option, Some, None, Result, Ok, Err}
 use Rattle.std.specs.Prelude.{⊤, ◌||◌}
 use Rattle.std.proofs.Math.Bool.{or-true}
-use Rattle.cell_types.specs.declared.call.Call.{Call}
-use Rattle.cell_types.specs.declared.answer.Refusal.{Refusal}
-use Rattle.cell_types.specs.declared.answer.Refusal.TheVariants.{Stopped}
-use Rattle.cell_types.specs.declared.answer.Answer.TheVariants.{Refused}
-use Rattle.cell_types.specs.declared.answer.Event.{Event}
-use Rattle.cell_types.specs.declared.reply.Reply.{Reply}
-use Rattle.cell_types.specs.declared.reply.Reply.TheVariants.{Settled}
+use Rattle.cell_rules.specs.Types.{Call, Refusal, Stopped, Refused, Event, Reply, Settled}
 use Rattle.cell_calib.specs.declared.sense.SensorFault.{SensorFault}
+use Rattle.cell_rules.specs.Names.{Hears, MovesIn, Reached, ModelState}
 use Rattle.cell_rules.specs.declared.heard.LineFault.{LineFault}
 use Rattle.cell_rules.specs.declared.heard.Heard.{Heard}
-use Rattle.cell_rules.specs.Programs.{Hears, MovesIn, Reached}
-use Rattle.cell_rules.specs.ModelState.{ModelState}
 use Rattle.cell_control.specs.declared.fault.CtlFault.TheVariants as fault
-use Rattle.cell_control.specs.Faults.{fault_of}
+use Rattle.cell_control.specs.Names.{fault_of, InStepAfter, Steps, is_while_stopped, waits_out, after_answer, outcome}
+use Rattle.cell_control.specs.Names.{program_of, Performed, PerformsCall, PerformsSensed, Turned, Turns, at_rest}
+use Rattle.cell_control.specs.Names.{turned, Says, stops_with, waits_on}
 use Rattle.cell_control.proofs.StepLemmas.{reached_first, reached_carried}
-use Rattle.cell_control.specs.Steps.{InStepAfter, Steps, is_while_stopped, waits_out, after_answer, outcome, program_of}
-use Rattle.cell_control.specs.Turns.{Performed, PerformsCall, PerformsSensed, Turned, Turns, at_rest, turned, asked_at}
-use Rattle.cell_control.specs.TurnRows.{Says, Answered, stops_with, AnswerRows, SilentRows, HeardRows, AsksAlways, ReachedRows, TurnRows}
-use Rattle.cell_control.specs.Row.{waits_on}
+use Rattle.cell_control.specs.Turns.{asked_at}
+use Rattle.cell_control.specs.TurnRows.{Answered, AnswerRows, SilentRows, HeardRows, AsksAlways, ReachedRows, TurnRows}
 
 module _ {S Sense Reading Act : Type 0} (t : Steps S Sense Reading Act) (p : S) (s : Sense) where
   -- the outcome of a turn that asks, by what came back

@@ -1,15 +1,10 @@
 -- A machine comes off its line, and goes on by another.
 use Rattle.std.proofs.Common.{◌≡◌, List, [], Option, None, refl, sym, ◌∙◌, subst}
-use Rattle.cell_types.specs.declared.machine.Machine.{Machine}
-use Rattle.cell_types.specs.declared.answer.Event.{Event}
-use Rattle.cell_rules.specs.ModelState.{ModelState}
-use Rattle.cell_rules.specs.Sound.{IsSound}
-use Rattle.cell_rules.specs.History.{after, IsLegal, own_events}
-use Rattle.cell_rules.specs.Seen.{Waits}
-use Rattle.cell_rules.specs.Restamping.{IsSameFor}
+use Rattle.cell_rules.specs.Types.{Machine, Event}
+use Rattle.cell_rules.specs.Names.{ModelState, IsSound, after, IsLegal, own_events, Waits, IsSameFor}
 use Rattle.cell_rules.proofs.Histories.{sound-after}
+use Rattle.cell_control.specs.Names.{Steps, IsReached}
 use Rattle.cell_control.specs.declared.fault.CtlFault.{CtlFault}
-use Rattle.cell_control.specs.Steps.{Steps, IsReached}
 use Rattle.cell_control.proofs.StepLemmas.{reached_carried}
 use Rattle.cell_control.proofs.BenchLemmas.{reached_others}
 use Rattle.cell_control.specs.Wiring.{IsWired, IsUnwired}

@@ -1,12 +1,10 @@
 -- The refusals on which a step stays.
 use Rattle.std.proofs.Common.{◌≡◌, ◌||◌, ◌∙◌, ap, List, [], ◌∷◌, refl}
-use Rattle.cell_types.specs.declared.answer.Refusal.{Refusal}
-use Rattle.cell_types.specs.declared.answer.Refusal.TheVariants.{Held, NotOwner, PlaceFull, Shut, Stopped}
+use Rattle.cell_rules.specs.Types.{Refusal, Held, NotOwner, PlaceFull, Shut, Stopped}
+use Rattle.cell_control.specs.Names.{waits_on, is_while_stopped, UntilFree, UntilOpen}
 use Rattle.cell_control.specs.declared.row.Waits.{Waits}
 use Rattle.cell_control.specs.declared.row.Waits.TheVariants as waits
-use Rattle.cell_control.specs.Row.{waits_on}
-use Rattle.cell_control.specs.Steps.{is_while_stopped}
-use Rattle.cell_control.specs.Rows.{Wait, is_among, is_waited_out, stays_by, UntilFree, UntilOwner, UntilRoom, UntilOpen, UntilResumed}
+use Rattle.cell_control.specs.Rows.{Wait, is_among, is_waited_out, stays_by, UntilOwner, UntilRoom, UntilResumed}
 use Rattle.cell_control.specs.WaitRows.{StaysOn, WaitRows}
 
 until_free : StaysOn waits.UntilFree (UntilFree ∷ [])

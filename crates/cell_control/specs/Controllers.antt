@@ -1,12 +1,9 @@
 -- A controller, and what a turn leaves of it.
 use Rattle.std.specs.Prelude.{◌≡◌, List, Option, None, Result}
-use Rattle.cell_types.specs.declared.machine.Machine.{Machine}
-use Rattle.cell_types.specs.declared.call.Call.{Call}
-use Rattle.cell_types.specs.declared.answer.Event.{Event}
-use Rattle.cell_types.specs.declared.reply.Reply.{Reply}
+use Rattle.cell_rules.specs.Types.{Machine, Call, Event, Reply}
+use Rattle.cell_rules.specs.Names.{ModelState}
 use Rattle.cell_rules.specs.declared.heard.LineFault.{LineFault}
 use Rattle.cell_rules.specs.declared.heard.Heard.{Heard}
-use Rattle.cell_rules.specs.ModelState.{ModelState}
 use Rattle.cell_control.specs.declared.controller.Controller.{Controller}
 use Rattle.cell_control.specs.declared.fault.CtlFault.{CtlFault}
 use Rattle.cell_control.specs.Steps.{Steps, GoesOn, IsReached}
@@ -42,7 +39,8 @@ module _ {P S Sense Reading Act : Type 0} where
       Turns (steps c.program) same asks c.stopped c.progress sense
       (record { result = result; progress = now.progress; stopped = now.stopped })
 
-  abbrev pub HearsBy : (P → Steps S Sense Reading Act) → Controller P S Sense Reading Act → Sense → Heard → Heard → Type 0
+  abbrev pub HearsBy : (P → Steps S Sense Reading Act) → Controller P S Sense Reading Act → Sense → Heard → Heard
+      → Type 0
   HearsBy steps c sense before after = HearsTurn (steps c.program) c.stopped c.progress sense before after
 
   -- wherever it had come from to its step, it has come from there to the next one

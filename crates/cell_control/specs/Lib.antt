@@ -9,3 +9,4 @@ pub mod TurnRows
 pub mod Turns
 pub mod WaitRows
 pub mod Wiring
+pub mod Names

@@ -1,8 +1,6 @@
 -- A row of a program: what a step asks, what it waits for, and the next step with its notes.
 use Rattle.std.specs.Prelude.{Bool, true, false, Some, None}
-use Rattle.cell_types.specs.declared.call.Call.{Call}
-use Rattle.cell_types.specs.declared.answer.Refusal.{Refusal}
-use Rattle.cell_types.specs.declared.answer.Refusal.TheVariants.{Held, NotOwner, PlaceFull, Shut}
+use Rattle.cell_rules.specs.Types.{Call, Refusal, Held, NotOwner, PlaceFull, Shut}
 use Rattle.cell_control.specs.declared.row.Row.{Row}
 use Rattle.cell_control.specs.declared.row.Waits.{Waits}
 use Rattle.cell_control.specs.declared.row.Waits.TheVariants.{Never, UntilFree, UntilOwner, UntilRoom, UntilFreeAndOpen}

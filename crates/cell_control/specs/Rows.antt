@@ -1,12 +1,7 @@
 -- The forms of a program's rows, for literal steps, calls, refusals, readings and notes.
 use Rattle.std.specs.Prelude.{◌≡◌, Bool, true, false, ◌||◌, List, [], ◌∷◌, Option, Some, None, Result}
-use Rattle.cell_types.specs.declared.machine.Machine.{Machine}
-use Rattle.cell_types.specs.declared.zone.Zone.{Zone}
-use Rattle.cell_types.specs.declared.posture.Posture.{Posture}
-use Rattle.cell_types.specs.declared.call.Call.{Call}
-use Rattle.cell_types.specs.declared.call.Call.TheVariants.{Inquire}
-use Rattle.cell_types.specs.declared.answer.Refusal.{Refusal}
-use Rattle.cell_types.specs.declared.answer.Refusal.TheVariants.{Held, NotOwner, PlaceFull, Shut, Stopped}
+use Rattle.cell_rules.specs.Types.{Machine, Zone, Posture, Call, Inquire, Refusal, Held, NotOwner, PlaceFull, Shut}
+use Rattle.cell_rules.specs.Types.{Stopped}
 use Rattle.cell_calib.specs.declared.sense.SensorFault.{SensorFault}
 use Rattle.cell_control.specs.Steps.{Steps, waits_out}
 use Rattle.cell_control.specs.Row.{waits_on}
@@ -37,26 +32,31 @@ stays_by ws r = is_among ws r || is_waited_out UntilResumed r
 
 -- a step asks this call, stays on exactly these refusals and in a stopped cell, and leads to `next` when the call is
 -- done
-pub record AskRow {S Sense Reading Act : Type 0} (t : Steps S Sense Reading Act) (p : S) (call : Call) (waits : List Wait) (next : S) : Type 0 where
+pub record AskRow {S Sense Reading Act : Type 0} (t : Steps S Sense Reading Act) (p : S) (call : Call)
+    (waits : List Wait) (next : S) : Type 0 where
   pub asks : (t.row p).call ≡ Some call
   pub stays : (r : Refusal) → waits_out t p r ≡ stays_by waits r
   pub leads : (t.row p).next ≡ next
 
 -- a step inquires a zone, stays only in a stopped cell, and leads on by the zone's owner, flag and posture
-pub record InquiryRow {S Sense Reading Act : Type 0} (t : Steps S Sense Reading Act) (p : S) (zone : Zone) (next : Option Machine → Bool → Posture → S) : Type 0 where
+pub record InquiryRow {S Sense Reading Act : Type 0} (t : Steps S Sense Reading Act) (p : S) (zone : Zone)
+    (next : Option Machine → Bool → Posture → S) : Type 0 where
   pub asks : (t.row p).call ≡ Some (Inquire zone)
   pub stays : (r : Refusal) → waits_out t p r ≡ stays_by [] r
-  pub leads : (owner : Option Machine) (flag : Bool) (posture : Posture) → t.after_inquiry p owner flag posture ≡ next owner flag posture
+  pub leads : (owner : Option Machine) (flag : Bool) (posture : Posture)
+      → t.after_inquiry p owner flag posture ≡ next owner flag posture
 
 -- a step asks nothing; by this reading it sets the actuators to `act` and nothing else, and leads to `next`
-pub record DriveRow {S Sense Reading Act : Type 0} (t : Steps S Sense Reading Act) (p : S) (reading : Reading) (act : Act) (next : S) : Type 0 where
+pub record DriveRow {S Sense Reading Act : Type 0} (t : Steps S Sense Reading Act) (p : S) (reading : Reading)
+    (act : Act) (next : S) : Type 0 where
   pub asks_nothing : (t.row p).call ≡ None
   pub drives : t.drives p reading act
   pub drives_only : (other : Act) → t.drives p reading other → other ≡ act
   pub leads : t.after_drive p reading act ≡ next
 
 -- the sensors say this and nothing else
-pub record CheckRow {S Sense Reading Act : Type 0} (t : Steps S Sense Reading Act) (s : Sense) (said : Result Reading SensorFault) : Type 0 where
+pub record CheckRow {S Sense Reading Act : Type 0} (t : Steps S Sense Reading Act) (s : Sense)
+    (said : Result Reading SensorFault) : Type 0 where
   pub says : t.senses s said
   pub says_only : (other : Result Reading SensorFault) → t.senses s other → other ≡ said
 
@@ -67,5 +67,6 @@ is_inquiry _ = false
 
 pub record NoOtherAnswers {S Sense Reading Act : Type 0} (t : Steps S Sense Reading Act) : Type 0 where
   pub not_done : (p : S) → is_inquiry (t.row p).call ≡ true → (t.row p).next ≡ p
-  pub not_shown : (p : S) (owner : Option Machine) (flag : Bool) (posture : Posture) → is_inquiry (t.row p).call ≡ false → t.after_inquiry p owner flag posture ≡ p
+  pub not_shown : (p : S) (owner : Option Machine) (flag : Bool) (posture : Posture)
+      → is_inquiry (t.row p).call ≡ false → t.after_inquiry p owner flag posture ≡ p
   pub not_refused : (p : S) (r : Refusal) → (t.row p).call ≡ None → waits_on (t.row p).waits r ≡ false

@@ -1,21 +1,11 @@
 -- A machine's program, as a table of its steps.
-use Rattle.std.specs.Prelude.{◌≡◌, ℕ, zero, suc, Bool, true, false, ◌||◌, if◌then◌else◌, List, Option, None, Result, Ok, Err}
-use Rattle.cell_types.specs.declared.machine.Machine.{Machine}
-use Rattle.cell_types.specs.declared.posture.Posture.{Posture}
-use Rattle.cell_types.specs.declared.answer.Refusal.{Refusal}
-use Rattle.cell_types.specs.declared.answer.Refusal.TheVariants.{Stopped}
-use Rattle.cell_types.specs.declared.answer.Answer.{Answer}
-use Rattle.cell_types.specs.declared.answer.Answer.TheVariants.{Done, Shown, Refused}
-use Rattle.cell_types.specs.declared.answer.Event.{Event}
-use Rattle.cell_types.specs.declared.reply.Reply.{Reply}
-use Rattle.cell_types.specs.declared.reply.Reply.TheVariants.{Settled, Busy}
+use Rattle.std.specs.Prelude.{◌≡◌, ℕ, zero, suc, Bool, true, false, ◌||◌, if◌then◌else◌, List, Option, None, Result}
+use Rattle.std.specs.Prelude.{Ok, Err}
+use Rattle.cell_rules.specs.Types.{Machine, Posture, Refusal, Stopped, Answer, Done, Shown, Refused, Event, Reply}
+use Rattle.cell_rules.specs.Types.{Settled, Busy}
 use Rattle.cell_calib.specs.declared.sense.SensorFault.{SensorFault}
+use Rattle.cell_rules.specs.Names.{ModelState, IsSound, after, IsLegal, own_events, IsSameFor, Program, Reached}
 use Rattle.cell_rules.specs.declared.heard.LineFault.{LineFault}
-use Rattle.cell_rules.specs.ModelState.{ModelState}
-use Rattle.cell_rules.specs.Sound.{IsSound}
-use Rattle.cell_rules.specs.History.{after, IsLegal, own_events}
-use Rattle.cell_rules.specs.Restamping.{IsSameFor}
-use Rattle.cell_rules.specs.Programs.{Program, Reached}
 use Rattle.cell_control.specs.declared.fault.CtlFault.{CtlFault}
 use Rattle.cell_control.specs.declared.fault.CtlFault.TheVariants.{Memory}
 use Rattle.cell_control.specs.declared.row.Row.{Row}
@@ -57,7 +47,8 @@ after_answer t p Done = Ok (t.row p).next
 after_answer t p (Refused r) = after_refusal t p r
 after_answer t p (Shown owner flag posture) = Ok (t.after_inquiry p owner flag posture)
 
-abbrev pub outcome : {S Sense Reading Act : Type 0} → Steps S Sense Reading Act → S → Result Reply LineFault → Result S CtlFault
+abbrev pub outcome : {S Sense Reading Act : Type 0} → Steps S Sense Reading Act → S → Result Reply LineFault
+    → Result S CtlFault
 outcome t p (Ok (Settled a stamp)) = after_answer t p a
 outcome t p (Ok (Busy lost stamp)) = Ok p
 outcome t p (Err fault) = Err Memory
@@ -73,19 +64,27 @@ pub record Drives {S Sense Reading Act : Type 0} (t : Steps S Sense Reading Act)
   pub is : q ≡ t.after_drive p reading act
 
 abbrev pub program_of : {S Sense Reading Act : Type 0} → Steps S Sense Reading Act → Program S
-program_of t = record { machine = t.machine; call = λ p. (t.row p).call; leads = λ p a q. after_answer t p a ≡ Ok q; moves = Drives t }
+program_of t = record {
+  machine = t.machine;
+  call = λ p. (t.row p).call;
+  leads = λ p a q. after_answer t p a ≡ Ok q;
+  moves = Drives t;
+}
 
--- by its machine's events in a history, and by turns that drive between them, a program has come from one step to another
+-- by its machine's events in a history, and by turns that drive between them, a program has come from one step to
+-- another
 abbrev pub ComesFrom : {S Sense Reading Act : Type 0} → Steps S Sense Reading Act → S → List Event → S → Type 0
 ComesFrom t first seen p = Reached (program_of t) first (own_events seen t.machine) p
 
 -- from each step from which the program had come before, it has come now
-abbrev pub GoesOn : {S Sense Reading Act : Type 0} → Steps S Sense Reading Act → List Event → S → List Event → S → Type 0
+abbrev pub GoesOn : {S Sense Reading Act : Type 0} → Steps S Sense Reading Act → List Event → S → List Event → S
+    → Type 0
 GoesOn {S = S} t before p now q = (first : S) → ComesFrom t first before p → ComesFrom t first now q
 
 -- Carried over from an interlock before: there the program was in step with the opening, and by what its machine saw it
 -- has come to this step. What the machine knows of the state that it saw last is so in this one.
-pub record IsCarriedOver {S Sense Reading Act : Type 0} (t : Steps S Sense Reading Act) (InStep : S → ModelState → Type 0) (p : S) (s : ModelState) : Type 0 where
+pub record IsCarriedOver {S Sense Reading Act : Type 0} (t : Steps S Sense Reading Act)
+    (InStep : S → ModelState → Type 0) (p : S) (s : ModelState) : Type 0 where
   pub opening : ModelState
   pub sound : IsSound opening
   pub seen : List Event
@@ -95,19 +94,21 @@ pub record IsCarriedOver {S Sense Reading Act : Type 0} (t : Steps S Sense Readi
   pub come : ComesFrom t first seen p
   pub same : IsSameFor t.machine (after opening seen) s
 
--- A step is in step with a state if it is the first of the program there, with its notes; or, after this many renewals of
--- the interlock, if it was carried over.
+-- A step is in step with a state if it is the first of the program there, with its notes; or, after this many renewals
+-- of the interlock, if it was carried over.
 abbrev pub InStepAfter : {S Sense Reading Act : Type 0} → Steps S Sense Reading Act → ℕ → S → ModelState → Type 0
 InStepAfter t zero p s = p ≡ t.start s
 InStepAfter t (suc renewals) p s = IsCarriedOver t (InStepAfter t renewals) p s
 
 -- the machine reaches the step by its events in a history, from a step that was in step with the opening
-pub record IsReached {S Sense Reading Act : Type 0} (t : Steps S Sense Reading Act) (opening : ModelState) (seen : List Event) (p : S) : Type 0 where
+pub record IsReached {S Sense Reading Act : Type 0} (t : Steps S Sense Reading Act) (opening : ModelState)
+    (seen : List Event) (p : S) : Type 0 where
   pub renewals : ℕ
   pub first : S
   pub in_step : InStepAfter t renewals first opening
   pub come : ComesFrom t first seen p
 
 -- the same program with another check of the sensors
-abbrev pub with_senses : {S Sense Reading Act : Type 0} → Steps S Sense Reading Act → (Sense → Result Reading SensorFault → Type 0) → Steps S Sense Reading Act
+abbrev pub with_senses : {S Sense Reading Act : Type 0} → Steps S Sense Reading Act
+    → (Sense → Result Reading SensorFault → Type 0) → Steps S Sense Reading Act
 with_senses t senses = record t { senses = senses }

@@ -1,14 +1,9 @@
 -- A controller at the end of its line, and its turns.
 use Rattle.std.specs.Prelude.{◌≡◌, List, [], Option, Some, None, Result, Ok, Err}
-use Rattle.cell_types.specs.declared.machine.Machine.{Machine}
-use Rattle.cell_types.specs.declared.call.Call.{Call}
-use Rattle.cell_types.specs.declared.answer.Event.{Event}
-use Rattle.cell_types.specs.declared.reply.Reply.{Reply}
+use Rattle.cell_rules.specs.Types.{Machine, Call, Event, Reply}
+use Rattle.cell_rules.specs.Names.{ModelState, IsSound, heard_after}
 use Rattle.cell_rules.specs.declared.heard.LineFault.{LineFault}
 use Rattle.cell_rules.specs.declared.heard.Heard.{Heard}
-use Rattle.cell_rules.specs.ModelState.{ModelState}
-use Rattle.cell_rules.specs.Sound.{IsSound}
-use Rattle.cell_rules.specs.Seen.{heard_after}
 use Rattle.cell_control.specs.declared.fault.CtlFault.{CtlFault}
 use Rattle.cell_control.specs.Steps.{Steps, IsReached}
 use Rattle.cell_control.specs.Turns.{Turns, answered}
@@ -22,10 +17,16 @@ pub record Wiring (P S L : Type 0) : Type 0 where
   pub line : L
 
 abbrev pub wiring_of : {P S L : Type 0} → P → S → Option CtlFault → L → Wiring P S L
-wiring_of program progress stopped line = record { program = program; progress = progress; stopped = stopped; line = line }
+wiring_of program progress stopped line = record {
+  program = program;
+  progress = progress;
+  stopped = stopped;
+  line = line;
+}
 
 -- the line is the program's machine's, and a controller that runs has reached its step by what the line has seen
-pub record IsWired {S Sense Reading Act : Type 0} (t : Steps S Sense Reading Act) (machine : Machine) (opening : ModelState) (seen : List Event) (stopped : Option CtlFault) (p : S) : Type 0 where
+pub record IsWired {S Sense Reading Act : Type 0} (t : Steps S Sense Reading Act) (machine : Machine)
+    (opening : ModelState) (seen : List Event) (stopped : Option CtlFault) (p : S) : Type 0 where
   pub own : machine ≡ t.machine
   pub reached : stopped ≡ None → IsReached t opening seen p
 
@@ -36,14 +37,22 @@ pub record Unwiring (P S : Type 0) : Type 0 where
   pub stopped : Option CtlFault
   pub left : ModelState
 
--- the program is this machine's, and a controller that runs may go on where an interlock opens with the state that it has left
-pub record IsUnwired {S Sense Reading Act : Type 0} (t : Steps S Sense Reading Act) (machine : Machine) (left : ModelState) (stopped : Option CtlFault) (p : S) : Type 0 where
+-- the program is this machine's, and a controller that runs may go on where an interlock opens with the state that it
+-- has left
+pub record IsUnwired {S Sense Reading Act : Type 0} (t : Steps S Sense Reading Act) (machine : Machine)
+    (left : ModelState) (stopped : Option CtlFault) (p : S) : Type 0 where
   pub own : machine ≡ t.machine
   pub sound : IsSound left
   pub reached : stopped ≡ None → IsReached t left [] p
 
 -- a turn is the controller's turn on its line
-abbrev pub TurnsWired : {P S Sense Reading Act L : Type 0} → Steps S Sense Reading Act → (L → Call → Result Reply LineFault → L → Type 0) → (L → Heard) → Wiring P S L → Sense → Told Act → Wiring P S L → Type 0
+abbrev pub TurnsWired : {P S Sense Reading Act L : Type 0} → Steps S Sense Reading Act
+    → (L → Call → Result Reply LineFault → L → Type 0) → (L → Heard) → Wiring P S L → Sense → Told Act → Wiring P S L
+    → Type 0
 TurnsWired t asks heard w s told w' =
     Turns t (w'.line ≡ w.line) (λ c r. asks w.line c r w'.line × (heard w'.line ≡ heard_after (heard w.line) c r))
-    w.stopped w.progress s (record { result = answered told.act told.fault; progress = w'.progress; stopped = w'.stopped })
+    w.stopped w.progress s (record {
+      result = answered told.act told.fault;
+      progress = w'.progress;
+      stopped = w'.stopped;
+    })

@@ -36,7 +36,8 @@ pub trait Part: Drop {
 
     /// Sets its actuators, and moves for a tick.
     fn tick(&mut self, act: &Self::Act)
-        ensures state { state self.new ≡ (rig (make self.old)).moves ((rig (make self.old)).set (state self.old) act.now) }
+        ensures state { state self.new ≡ (rig (make self.old)).moves
+            ((rig (make self.old)).set (state self.old) act.now) }
         ensures make { make self.new ≡ make self.old };
 }
 

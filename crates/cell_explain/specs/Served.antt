@@ -25,7 +25,8 @@ IsUnsaid IsText old new = (fault : ExplainFault) × LeavesUnsaid IsText fault ol
 
 -- What `serve` says of an input of one kind: the exit status, with what was written; and the most that was taken of the
 -- input. Known bytes of the input are `input` before and `rest` after it; of the output, `old` and `new`.
-pub record Explains (Says : List ℕ → Verdict → Option (List ℕ) → Option (List ℕ) → Type 0) (IsText : Option (List ℕ) → List ℕ → Type 0) (most exit : ℕ) (input rest old new : Option (List ℕ)) : Type 0 where
+pub record Explains (Says : List ℕ → Verdict → Option (List ℕ) → Option (List ℕ) → Type 0)
+    (IsText : Option (List ℕ) → List ℕ → Type 0) (most exit : ℕ) (input rest old new : Option (List ℕ)) : Type 0 where
   pub status : exit ≤ 3
   pub words : exit ≢ 2
   pub silent : exit ≡ 0 → IfSome input (λ bytes. Says bytes Taken old new)

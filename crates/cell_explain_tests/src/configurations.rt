@@ -74,31 +74,38 @@ const ROWS: &[(&str, &str)] = &[
 const LETTERS: &[(&str, &str)] = &[
     (
         "start = \"0100000000\"\nschedule = \"t f\"\n",
-        "config letter: line 2: character 2 of the schedule, \" \", is no letter: known are f t r p d c w and their capitals\n",
+        "config letter: line 2: character 2 of the schedule, \" \", is no letter: known are f t r p d c w \
+        and their capitals\n",
     ),
     (
         "start = \"0100000000\"\nschedule = \"tfü\"\n",
-        "config letter: line 2: character 3 of the schedule, \"\\u{fc}\", is no letter: known are f t r p d c w and their capitals\n",
+        "config letter: line 2: character 3 of the schedule, \"\\u{fc}\", is no letter: known are f t r p d \
+        c w and their capitals\n",
     ),
     (
         "start = \"0100000000\"\nschedule = 'tf\\t'\n",
-        "config letter: line 2: character 3 of the schedule, \"\\\\\", is no letter: known are f t r p d c w and their capitals\n",
+        "config letter: line 2: character 3 of the schedule, \"\\\\\", is no letter: known are f t r p d c w \
+        and their capitals\n",
     ),
     (
         "start = \"0100000000\"\nschedule = \"\"\"\ntf\ntf\"\"\"\n",
-        "config letter: line 3: character 3 of the schedule, \"\\n\", is no letter: known are f t r p d c w and their capitals\n",
+        "config letter: line 3: character 3 of the schedule, \"\\n\", is no letter: known are f t r p d c w \
+        and their capitals\n",
     ),
     (
         "start = \"0100000000\"\nschedule = \"\"\"\n  tf\"\"\"\n",
-        "config letter: line 3: character 1 of the schedule, \" \", is no letter: known are f t r p d c w and their capitals\n",
+        "config letter: line 3: character 1 of the schedule, \" \", is no letter: known are f t r p d c w \
+        and their capitals\n",
     ),
     (
         "start = \"0100000000\"\nschedule = \"\"\"\\\n  tf\\\n\n  tx\"\"\"\n",
-        "config letter: line 5: character 4 of the schedule, \"x\", is no letter: known are f t r p d c w and their capitals\n",
+        "config letter: line 5: character 4 of the schedule, \"x\", is no letter: known are f t r p d c w \
+        and their capitals\n",
     ),
     (
         "start = \"0100000000\"\r\nschedule = '''\r\ntfv'''\r\n",
-        "config letter: line 3: character 3 of the schedule, \"v\", is no letter: known are f t r p d c w and their capitals\n",
+        "config letter: line 3: character 3 of the schedule, \"v\", is no letter: known are f t r p d c w \
+        and their capitals\n",
     ),
 ];
 
@@ -122,11 +129,13 @@ const NO_TOML: &[(&[u8], &str)] = &[
     ),
     (
         b"start = 0100000000\n",
-        "config text: line 1: it is no TOML: invalid value, expected a string, number, boolean, date-time, array or inline table; start takes a text of ten digits; put quotes round them\n",
+        "config text: line 1: it is no TOML: invalid value, expected a string, number, boolean, date-time, \
+        array or inline table; start takes a text of ten digits; put quotes round them\n",
     ),
     (
         b"start = \"0100000000\"\nstamp = 007\n",
-        "config text: line 2: it is no TOML: invalid value, expected a string, number, boolean, date-time, array or inline table; stamp takes a whole number, without quotes\n",
+        "config text: line 2: it is no TOML: invalid value, expected a string, number, boolean, date-time, \
+        array or inline table; stamp takes a whole number, without quotes\n",
     ),
     (
         b"start = \"0100000000\"\nschedule = \"tf\nstamp = 3\n",
@@ -138,11 +147,13 @@ const NO_TOML: &[(&[u8], &str)] = &[
     ),
     (
         b"start = \"0100000000\"\n[turn]\nraw = [0, 4000\ntol = 3\n",
-        "config text: line 4: it is no TOML: missing comma between array elements, expected `,` or `]`; the value of \"raw\" begins on line 3\n",
+        "config text: line 4: it is no TOML: missing comma between array elements, expected `,` or `]`; the \
+        value of \"raw\" begins on line 3\n",
     ),
     (
         b"start = \"0100000000\"\nturn = {\n  tol = 3\n  raw = [0, 4000]\n}\n",
-        "config text: line 4: it is no TOML: missing comma between key-value pairs, expected `,` or `}`; the value of \"tol\" begins on line 3\n",
+        "config text: line 4: it is no TOML: missing comma between key-value pairs, expected `,` or `}`; the \
+        value of \"tol\" begins on line 3\n",
     ),
 ];
 

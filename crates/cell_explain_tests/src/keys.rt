@@ -7,11 +7,13 @@ const ROWS: &[(&str, &str)] = &[
     // The line is that of the key, not of a word or a text in which it stands.
     (
         "start = \"0100000000\"\nt = 3\n",
-        "config unknown: line 2: \"t\" is no key here; known are: start stamp schedule arm1 arm2 rotation turn gripper\n",
+        "config unknown: line 2: \"t\" is no key here; known are: start stamp schedule arm1 arm2 rotation \
+        turn gripper\n",
     ),
     (
         "start = \"0100000000\"\nschedule = '''\nt = 3\n'''\nt = 3\n",
-        "config unknown: line 5: \"t\" is no key here; known are: start stamp schedule arm1 arm2 rotation turn gripper\n",
+        "config unknown: line 5: \"t\" is no key here; known are: start stamp schedule arm1 arm2 rotation \
+        turn gripper\n",
     ),
     (
         "# l = 5\nstart = \"0100000000\" # l = 5\n[turn]\nl = 5\n",
@@ -44,7 +46,8 @@ const ROWS: &[(&str, &str)] = &[
     ),
     (
         "start = \"0100000000\"\n[[turn]]\nspeed = 1\n[colour]\n",
-        "config unknown: line 4: \"colour\" is no key here; known are: start stamp schedule arm1 arm2 rotation turn gripper\n",
+        "config unknown: line 4: \"colour\" is no key here; known are: start stamp schedule arm1 arm2 \
+        rotation turn gripper\n",
     ),
     // Keys at another level.
     (

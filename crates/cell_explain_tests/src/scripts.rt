@@ -38,7 +38,8 @@ const ROWS: &[(&str, &str)] = &[
     ),
     (
         "start,0\n",
-        "record 0, line 1, field 2: \"0\" has 1 of ten digits; a spreadsheet drops zeros at the front, so make the field a text\n",
+        "record 0, line 1, field 2: \"0\" has 1 of ten digits; a spreadsheet drops zeros at the front, so \
+        make the field a text\n",
     ),
     (
         "",
@@ -67,7 +68,8 @@ const LINES: &[(&[u8], &str)] = &[
     ),
     (
         b"\r\n\nstart,0\n",
-        "record 0, line 3, field 2: \"0\" has 1 of ten digits; a spreadsheet drops zeros at the front, so make the field a text\n",
+        "record 0, line 3, field 2: \"0\" has 1 of ten digits; a spreadsheet drops zeros at the front, so \
+        make the field a text\n",
     ),
     (
         b"\xef\xbb\xbfstart,0000000000\npress,clam,z3\n",
@@ -75,11 +77,13 @@ const LINES: &[(&[u8], &str)] = &[
     ),
     (
         b"\xef\xbb\xbf\n\nstart,0\n",
-        "record 0, line 3, field 2: \"0\" has 1 of ten digits; a spreadsheet drops zeros at the front, so make the field a text\n",
+        "record 0, line 3, field 2: \"0\" has 1 of ten digits; a spreadsheet drops zeros at the front, so \
+        make the field a text\n",
     ),
     (
         b"start,0000000000\npress,\"cla\nim\",z3\n",
-        "record 1, line 2, field 2: \"cla\\nim\" is no verb: it goes past the end of a line; is a quote left open?; did you mean \"claim\"?\n",
+        "record 1, line 2, field 2: \"cla\\nim\" is no verb: it goes past the end of a line; is a quote left \
+        open?; did you mean \"claim\"?\n",
     ),
     (
         b"start,0000000000\npress,claim,\"z3\r\n\",more\n",
@@ -87,7 +91,9 @@ const LINES: &[(&[u8], &str)] = &[
     ),
     (
         b"start,0000000000\npress,\"claim,z3\nrobot,claim,z3\n",
-        "record 1, line 2, field 2: \"claim,z3\\nrobot,claim,z3\\n\" is no verb: it goes past the end of a line; is a quote left open?; known are: claim give yield take release inquire pose advance stop resume\n",
+        "record 1, line 2, field 2: \"claim,z3\\nrobot,claim,z3\\n\" is no verb: it goes past the end of a \
+        line; is a quote left open?; known are: claim give yield take release inquire pose advance stop \
+        resume\n",
     ),
 ];
 
@@ -117,7 +123,8 @@ const STARTS: &[(&[u8], &str)] = &[
     ),
     (
         b"start,0100000000,\n",
-        "record 0, line 1, field 3: \"\": it is empty; a comma too many makes an empty field; a stamp has one to seven digits and is from 0 to 1048575\n",
+        "record 0, line 1, field 3: \"\": it is empty; a comma too many makes an empty field; a stamp has \
+        one to seven digits and is from 0 to 1048575\n",
     ),
     (
         b"start,2111111000,9\n",
@@ -125,7 +132,8 @@ const STARTS: &[(&[u8], &str)] = &[
     ),
     (
         b"press,claim,z3\n",
-        "record 0, line 1, field 1: \"press\" begins a call, but a script begins with a start, such as start,0000000000\n",
+        "record 0, line 1, field 1: \"press\" begins a call, but a script begins with a start, such as start,\
+        0000000000\n",
     ),
     (
         b"# a comment\nstart,0000000000\n",
@@ -133,7 +141,8 @@ const STARTS: &[(&[u8], &str)] = &[
     ),
     (
         b"Start,0000000000\n",
-        "record 0, line 1, field 1: \"Start\" is no word that begins a script: words are lower case; did you mean \"start\"?; a script begins with a start, such as start,0000000000\n",
+        "record 0, line 1, field 1: \"Start\" is no word that begins a script: words are lower case; did you \
+        mean \"start\"?; a script begins with a start, such as start,0000000000\n",
     ),
     (
         b"start,0000000000,5,6\n",
@@ -145,11 +154,13 @@ const STARTS: &[(&[u8], &str)] = &[
     ),
     (
         b"start,\n",
-        "record 0, line 1, field 2: \"\": it is empty; a comma too many makes an empty field; the places are ten digits 0 or 1, one for each of p1 to p10\n",
+        "record 0, line 1, field 2: \"\": it is empty; a comma too many makes an empty field; the places are \
+        ten digits 0 or 1, one for each of p1 to p10\n",
     ),
     (
         b"start,010000000\n",
-        "record 0, line 1, field 2: \"010000000\" has 9 of ten digits; a spreadsheet drops zeros at the front, so make the field a text\n",
+        "record 0, line 1, field 2: \"010000000\" has 9 of ten digits; a spreadsheet drops zeros at the \
+        front, so make the field a text\n",
     ),
     (
         b"start,01000000000\n",
@@ -181,7 +192,8 @@ const CALLS: &[(&[u8], &str)] = &[
     ),
     (
         b"start,0000000000\npress,grab,z3\n",
-        "record 1, line 2, field 2: \"grab\" is no verb; known are: claim give yield take release inquire pose advance stop resume\n",
+        "record 1, line 2, field 2: \"grab\" is no verb; known are: claim give yield take release inquire \
+        pose advance stop resume\n",
     ),
     (
         b"start,0000000000\nwatch,resume\n",
@@ -193,7 +205,8 @@ const CALLS: &[(&[u8], &str)] = &[
     ),
     (
         b"start,0000000000\nrobot,advance,\n",
-        "record 1, line 2, field 3: \"\": it is empty; a comma too many makes an empty field; no field follows this verb\n",
+        "record 1, line 2, field 3: \"\": it is empty; a comma too many makes an empty field; no field \
+        follows this verb\n",
     ),
     (
         b"start,0000000000\nrobot,pose\n",
@@ -205,7 +218,8 @@ const CALLS: &[(&[u8], &str)] = &[
     ),
     (
         b"start,0000000000\nrobot,pose,up\n",
-        "record 1, line 2, field 3: \"up\" is no pose; known are: turning loading unloading travelling middle low top running landing halted offering standing\n",
+        "record 1, line 2, field 3: \"up\" is no pose; known are: turning loading unloading travelling \
+        middle low top running landing halted offering standing\n",
     ),
     (
         b"start,0000000000\npress,claim,z3,z4\n",
@@ -218,15 +232,18 @@ const CALLS: &[(&[u8], &str)] = &[
 const LOOKS: &[(&[u8], &str)] = &[
     (
         b"start,0000000000\npress;claim;z3\n",
-        "record 1, line 2, field 1: \"press;claim;z3\" is no machine: a comma separates fields, not a semicolon; known are: feed table robot press deposit crane watch\n",
+        "record 1, line 2, field 1: \"press;claim;z3\" is no machine: a comma separates fields, not a \
+        semicolon; known are: feed table robot press deposit crane watch\n",
     ),
     (
         b"start,0000000000\npress\tclaim\tz3\n",
-        "record 1, line 2, field 1: \"press\\tclaim\\tz3\" is no machine: a comma separates fields, not a tab; known are: feed table robot press deposit crane watch\n",
+        "record 1, line 2, field 1: \"press\\tclaim\\tz3\" is no machine: a comma separates fields, not a \
+        tab; known are: feed table robot press deposit crane watch\n",
     ),
     (
         b"start,0000000000\npress claim z3\n",
-        "record 1, line 2, field 1: \"press claim z3\" is no machine: a comma separates fields, not a blank; known are: feed table robot press deposit crane watch\n",
+        "record 1, line 2, field 1: \"press claim z3\" is no machine: a comma separates fields, not a blank; \
+        known are: feed table robot press deposit crane watch\n",
     ),
     (
         b"start,0000000000\npress,claim,z3 \n",
@@ -234,23 +251,28 @@ const LOOKS: &[(&[u8], &str)] = &[
     ),
     (
         b"start,0000000000\npress,\"cla\rim\",z3\n",
-        "record 1, line 2, field 2: \"cla\\rim\" is no verb: it goes past the end of a line; is a quote left open?; did you mean \"claim\"?\n",
+        "record 1, line 2, field 2: \"cla\\rim\" is no verb: it goes past the end of a line; is a quote left \
+        open?; did you mean \"claim\"?\n",
     ),
     (
         b"start,0000000000\naaaaaaaaaaaaaaaaaaaaaaaaaaaaaaaaaaaaaaaa,claim,z3\n",
-        "record 1, line 2, field 1: \"aaaaaaaaaaaaaaaaaaaaaaaaaaaaaaaaaaaaaaaa\" is no machine; known are: feed table robot press deposit crane watch\n",
+        "record 1, line 2, field 1: \"aaaaaaaaaaaaaaaaaaaaaaaaaaaaaaaaaaaaaaaa\" is no machine; known are: \
+        feed table robot press deposit crane watch\n",
     ),
     (
         b"start,0000000000\naaaaaaaaaaaaaaaaaaaaaaaaaaaaaaaaaaaaaaaaa,claim,z3\n",
-        "record 1, line 2, field 1: \"aaaaaaaaaaaaaaaaaaaaaaaaaaaaaaaaaaaaaaaa..\" is no machine; known are: feed table robot press deposit crane watch\n",
+        "record 1, line 2, field 1: \"aaaaaaaaaaaaaaaaaaaaaaaaaaaaaaaaaaaaaaaa..\" is no machine; known are: \
+        feed table robot press deposit crane watch\n",
     ),
     (
         b"start,0000000000\n\xffaaaaaaaaaaaaaaaaaaaaaaaaaaaaaaaaaaaaaaa,claim,z3\n",
-        "record 1, line 2, field 1: \"\\xffaaaaaaaaaaaaaaaaaaaaaaaaaaaaaaaaaaaaaaa\" is no machine; known are: feed table robot press deposit crane watch\n",
+        "record 1, line 2, field 1: \"\\xffaaaaaaaaaaaaaaaaaaaaaaaaaaaaaaaaaaaaaaa\" is no machine; known \
+        are: feed table robot press deposit crane watch\n",
     ),
     (
         b"start,0000000000\n\xffaaaaaaaaaaaaaaaaaaaaaaaaaaaaaaaaaaaaaaaa,claim,z3\n",
-        "record 1, line 2, field 1: \"\\xffaaaaaaaaaaaaaaaaaaaaaaaaaaaaaaaaaaaaaaa..\" is no machine; known are: feed table robot press deposit crane watch\n",
+        "record 1, line 2, field 1: \"\\xffaaaaaaaaaaaaaaaaaaaaaaaaaaaaaaaaaaaaaaa..\" is no machine; known \
+        are: feed table robot press deposit crane watch\n",
     ),
 ];
 
@@ -266,7 +288,8 @@ const BYTES: &[(&[u8], &str)] = &[
     ),
     (
         b"start,0000000000\n\xef\xbb\xbfpress,claim,z3\n",
-        "record 1, line 2, field 1: \"\\u{feff}press\" is no machine: it begins with a byte order mark; did you mean \"press\"?\n",
+        "record 1, line 2, field 1: \"\\u{feff}press\" is no machine: it begins with a byte order mark; did \
+        you mean \"press\"?\n",
     ),
     (
         b"#\0 \0a\0\n",
@@ -274,7 +297,9 @@ const BYTES: &[(&[u8], &str)] = &[
     ),
     (
         b"S\0t\0a\0r\0t\0,\0",
-        "record 0, line 1, field 1: \"S\\u{0}t\\u{0}a\\u{0}r\\u{0}t\\u{0}\" is no word that begins a script: it has bytes 0; is the file UTF-16? Save it as UTF-8; known are: start start2; a script begins with a start, such as start,0000000000\n",
+        "record 0, line 1, field 1: \"S\\u{0}t\\u{0}a\\u{0}r\\u{0}t\\u{0}\" is no word that begins a script: \
+        it has bytes 0; is the file UTF-16? Save it as UTF-8; known are: start start2; a script begins with \
+        a start, such as start,0000000000\n",
     ),
     (
         b"\xff\xfes\0t\0",

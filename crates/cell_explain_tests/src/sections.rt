@@ -8,7 +8,8 @@ const ROWS: &[(&str, &str)] = &[
     // The first section that is refused, in the order arm1, arm2, rotation, turn, gripper.
     (
         "[arm1]\nraw = [0, 4000]\n[turn]\nraw = [0, 499]\n",
-        "config range: line 5: raw of turn is out of range: it takes two numbers from 0 to 65535, the second greater by 500 or more\n",
+        "config range: line 5: raw of turn is out of range: it takes two numbers from 0 to 65535, the second \
+        greater by 500 or more\n",
     ),
     (
         "[arm1]\npoints = [[0, 0], [4000, 1000]]\n[turn]\ntol = 11\n",
@@ -16,11 +17,13 @@ const ROWS: &[(&str, &str)] = &[
     ),
     (
         "[turn]\nraw = [0, 499]\n[arm1]\nraw = [0, 999]\n",
-        "config range: line 5: raw of arm1 is out of range: it takes two numbers from 0 to 65535, the second greater by 1000 or more\n",
+        "config range: line 5: raw of arm1 is out of range: it takes two numbers from 0 to 65535, the second \
+        greater by 1000 or more\n",
     ),
     (
         "[gripper]\ntol = 0\n[rotation]\nraw = [0, 1999]\n",
-        "config range: line 5: raw of rotation is out of range: it takes two numbers from 0 to 65535, the second greater by 2000 or more\n",
+        "config range: line 5: raw of rotation is out of range: it takes two numbers from 0 to 65535, the \
+        second greater by 2000 or more\n",
     ),
     (
         "rotation.tol = 0\narm2.tol = 0\n",
@@ -33,7 +36,8 @@ const ROWS: &[(&str, &str)] = &[
     // In a section the first key, in the order raw, tol, points.
     (
         "[turn]\npoints = []\ntol = 0\nraw = [0, 65536]\n",
-        "config range: line 5: raw of turn is out of range: it takes two numbers from 0 to 65535, the second greater by 500 or more\n",
+        "config range: line 5: raw of turn is out of range: it takes two numbers from 0 to 65535, the second \
+        greater by 500 or more\n",
     ),
     (
         "[turn]\npoints = []\ntol = 0\nraw = [0, 500]\n",
@@ -57,7 +61,8 @@ const ROWS: &[(&str, &str)] = &[
     ),
     (
         "[arm2]\npoints = [[-1, 0], [4000, 1000]]\n",
-        "config range: line 3: points of arm2 has a number out of range: raw values are from 0 to 65535, positions from 0 to 1000\n",
+        "config range: line 3: points of arm2 has a number out of range: raw values are from 0 to 65535, \
+        positions from 0 to 1000\n",
     ),
     (
         "[arm2]\nraw = [100, 3900]\npoints = [[0, 0], [3900, 1000]]\n",
@@ -69,11 +74,13 @@ const ROWS: &[(&str, &str)] = &[
     ),
     (
         "[arm2]\ntol = 3\npoints = [[0, 0], [1000, 253], [4000, 1000]]\n",
-        "config range: line 4: points of arm2 is off the line: positions are from 0 to 1000, and at most 2 off the straight line\n",
+        "config range: line 4: points of arm2 is off the line: positions are from 0 to 1000, and at most 2 \
+        off the straight line\n",
     ),
     (
         "turn.points = [[0, 0], [4000, 501]]\n",
-        "config range: line 2: points of turn is off the line: positions are from 0 to 500, and at most 4 off the straight line\n",
+        "config range: line 2: points of turn is off the line: positions are from 0 to 500, and at most 4 \
+        off the straight line\n",
     ),
     // Values of another kind, on the line of their key in their own section.
     (
@@ -103,19 +110,23 @@ const ROWS: &[(&str, &str)] = &[
     // Other forms of a section, and words that are no keys.
     (
         "turn.raw = [0, 500]\narm1.raw = [0, 999]\n",
-        "config range: line 3: raw of arm1 is out of range: it takes two numbers from 0 to 65535, the second greater by 1000 or more\n",
+        "config range: line 3: raw of arm1 is out of range: it takes two numbers from 0 to 65535, the second \
+        greater by 1000 or more\n",
     ),
     (
         "turn = { raw = [0, 500] }\narm1 = { raw = [0, 999] }\n",
-        "config range: line 3: raw of arm1 is out of range: it takes two numbers from 0 to 65535, the second greater by 1000 or more\n",
+        "config range: line 3: raw of arm1 is out of range: it takes two numbers from 0 to 65535, the second \
+        greater by 1000 or more\n",
     ),
     (
         "arm1 = { # raw\n  tol = 5,\n  raw = [\n    0, 999] }\n",
-        "config range: line 4: raw of arm1 is out of range: it takes two numbers from 0 to 65535, the second greater by 1000 or more\n",
+        "config range: line 4: raw of arm1 is out of range: it takes two numbers from 0 to 65535, the second \
+        greater by 1000 or more\n",
     ),
     (
         "[ \"turn\" ]\r\n# raw = [0, 1]\r\ntol = 5 # raw\r\n'raw' = [0, 499]\r\n",
-        "config range: line 5: raw of turn is out of range: it takes two numbers from 0 to 65535, the second greater by 500 or more\n",
+        "config range: line 5: raw of turn is out of range: it takes two numbers from 0 to 65535, the second \
+        greater by 500 or more\n",
     ),
     (
         "schedule = \"\"\"\\\n\n\"\"\"\n\"turn\" . 'tol' = 0\n",

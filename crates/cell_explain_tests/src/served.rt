@@ -19,7 +19,8 @@ const OF_BAD_SCRIPT: &str =
 const CONFIG: &str = "start = \"0100000000\"\n";
 
 const CONFIG_AS_SCRIPT: &str =
-    "record 0, line 1, field 1: \"start = \\\"0100000000\\\"\" is no word that begins a script: it has a quote; known are: start start2; a script begins with a start, such as start,0000000000\n";
+    "record 0, line 1, field 1: \"start = \\\"0100000000\\\"\" is no word that begins a script: \
+    it has a quote; known are: start start2; a script begins with a start, such as start,0000000000\n";
 
 const SCRIPT_AS_CONFIG: &str =
     "config text: line 1: it is no TOML: key with no value, expected `=`\n";

@@ -7,14 +7,12 @@ use Rattle.cell_text.specs.Output.{WrotePrefix}
 use Rattle.cell_notes.specs.declared.schedule.Turn.{Turn}
 use Rattle.cell_notes.specs.declared.run_record.RunRecord.{RunRecord}
 use Rattle.cell_rules.specs.ModelState.{ModelState}
-use Rattle.cell_calib.specs.Curve.{Pair, pairs_of}
-use Rattle.cell_calib.specs.Scale.{Scale}
+use Rattle.cell_calib.specs.Names.{Pair, pairs_of, Scale}
 use Rattle.cell_parts.specs.Axes.{CellScales}
 use Rattle.cell_config.specs.Configured.{Says, in_order, shown}
 use Rattle.cell_config.specs.Settings.{max_bytes_read}
 use Rattle.cell_config.specs.declared.configuration.Config.{Config}
-use Rattle.cell_plant.specs.Machines.{on_curves}
-use Rattle.cell_plant.specs.Frames.{IsShown, SeesRun, frames_of}
+use Rattle.cell_plant.specs.Names.{on_curves, IsShown, SeesRun, frames_of}
 use Rattle.cell_plant.specs.declared.frame.Frame.{Frame}
 use Rattle.cell_loop.specs.Pictures.{IsPictureOf}
 use Rattle.cell_film.specs.Loops.{AreFramesOf, IsLoopOf, LoopFails, WasLooped}

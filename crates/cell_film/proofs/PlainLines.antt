@@ -2,44 +2,35 @@
 use Rattle.std.proofs.Common.{◌≡◌, ℕ, ℤ, pos, negsuc, Bool, true, false, List, [], ◌∷◌, ◌++◌, codes, cond, suc, Option, Some, None, Result, Ok, Err, nat_lt, refl}
 use Rattle.std.specs.Fmt.{decimal, signed_decimal}
 use Rattle.std.specs.Str.{bytes_eq}
-use Rattle.cell_types.specs.Answers.{answer_text, flag_word, owner_word, refusal_word}
-use Rattle.cell_types.specs.CallWords.{call_text}
-use Rattle.cell_types.specs.Words.{machine_word, pose_word, posture_word, zone_word}
-use Rattle.cell_types.specs.declared.answer.Answer.{Answer}
+use Rattle.cell_rules.specs.Types.{answer_text, flag_word, owner_word, refusal_word, call_text, machine_word}
+use Rattle.cell_rules.specs.Types.{pose_word, posture_word, zone_word, Answer, Refusal, Call, Machine, Pose, Posture}
+use Rattle.cell_rules.specs.Types.{Reply, Settled, Busy, Zone}
 use Rattle.cell_types.specs.declared.answer.Answer.TheVariants as answer
-use Rattle.cell_types.specs.declared.answer.Refusal.{Refusal}
 use Rattle.cell_types.specs.declared.answer.Refusal.TheVariants as refusal
-use Rattle.cell_types.specs.declared.call.Call.{Call}
 use Rattle.cell_types.specs.declared.call.Call.TheVariants as call
-use Rattle.cell_types.specs.declared.machine.Machine.{Machine}
 use Rattle.cell_types.specs.declared.machine.Machine.TheVariants as machine
-use Rattle.cell_types.specs.declared.pose.Pose.{Pose}
 use Rattle.cell_types.specs.declared.pose.Pose.TheVariants as pose
-use Rattle.cell_types.specs.declared.posture.Posture.{Posture}
 use Rattle.cell_types.specs.declared.posture.Posture.TheVariants as posture
-use Rattle.cell_types.specs.declared.reply.Reply.{Reply}
-use Rattle.cell_types.specs.declared.reply.Reply.TheVariants.{Settled, Busy}
-use Rattle.cell_types.specs.declared.zone.Zone.{Zone}
 use Rattle.cell_types.specs.declared.zone.Zone.TheVariants as zone
 use Rattle.cell_devices.specs.declared.motor.Motor.{Motor}
 use Rattle.cell_devices.specs.declared.motor.Motor.TheVariants as motor
 use Rattle.cell_haul.specs.declared.feed.FeedStep.{FeedStep}
-use Rattle.cell_haul.specs.declared.feed.FeedStep.TheVariants as feed
 use Rattle.cell_haul.specs.declared.deposit.DepositStep.{DepositStep}
-use Rattle.cell_haul.specs.declared.deposit.DepositStep.TheVariants as deposit
 use Rattle.cell_haul.specs.declared.crane.CraneStep.{CraneStep}
+use Rattle.cell_haul.specs.declared.feed.FeedStep.TheVariants as feed
+use Rattle.cell_haul.specs.declared.deposit.DepositStep.TheVariants as deposit
 use Rattle.cell_haul.specs.declared.crane.CraneStep.TheVariants as crane
 use Rattle.cell_robot.specs.declared.robot.RobotStep.{RobotStep}
 use Rattle.cell_robot.specs.declared.robot.RobotStep.TheVariants as robot
 use Rattle.cell_stations.specs.declared.press.PressStep.{PressStep}
-use Rattle.cell_stations.specs.declared.press.PressStep.TheVariants as press
 use Rattle.cell_stations.specs.declared.table.TableStep.{TableStep}
+use Rattle.cell_stations.specs.declared.press.PressStep.TheVariants as press
 use Rattle.cell_stations.specs.declared.table.TableStep.TheVariants as table
-use Rattle.cell_rules.specs.ModelState.{ModelState}
+use Rattle.cell_rules.specs.Names.{ModelState}
 use Rattle.cell_rules.specs.declared.heard.LineFault.{LineFault}
 use Rattle.cell_rules.specs.declared.heard.LineFault.TheVariants.{Memory}
 use Rattle.cell_word.specs.Layout.{packed}
-use Rattle.cell_notes.specs.Asks.{TurnCall}
+use Rattle.cell_notes.specs.Names.{TurnCall, at_machine}
 use Rattle.cell_notes.specs.declared.schedule.Turn.{Turn}
 use Rattle.cell_notes.specs.declared.status.Status.{Status}
 use Rattle.cell_notes.specs.declared.status.Status.TheVariants as status
@@ -53,7 +44,6 @@ use Rattle.cell_film.specs.Fields as fields
 use Rattle.cell_film.specs.Lines.{Fields, LastCalls, changes_text, fields_before, fields_of, frame_line, if_new, is_same, line_by, lines_after, machine_text, nothing_said, said_after, start_line, turn_line}
 use Rattle.cell_film.specs.Pages.{cut_line, max_turns}
 use Rattle.cell_film.specs.Plain.{LinesNeedNoEscape, are_plain}
-use Rattle.cell_notes.specs.ByMachine.{at_machine}
 use Rattle.cell_film.proofs.PlainLemmas.{both, decimal-plain, hex-plain}
 
 -- ---- words

@@ -3,12 +3,10 @@ use Rattle.std.proofs.Common.{◌≡◌, ℕ, List, [], ◌∷◌, ◌++◌, app
 use Rattle.cell_notes.specs.declared.schedule.Turn.{Turn}
 use Rattle.cell_notes.specs.declared.run_record.RunRecord.{RunRecord}
 use Rattle.cell_rules.specs.ModelState.{ModelState}
-use Rattle.cell_calib.specs.Curve.{Pair}
-use Rattle.cell_calib.specs.Scale.{Scale}
+use Rattle.cell_calib.specs.Names.{Pair, Scale}
 use Rattle.cell_parts.specs.Axes.{CellScales}
 use Rattle.cell_config.specs.Configured.{in_order}
-use Rattle.cell_plant.specs.Machines.{CellGauges, on_curves}
-use Rattle.cell_plant.specs.Frames.{IsShown, SeesRun, frames_of}
+use Rattle.cell_plant.specs.Names.{CellGauges, on_curves, IsShown, SeesRun, frames_of}
 use Rattle.cell_plant.specs.declared.frame.Frame.{Frame}
 use Rattle.std.specs.declared.alloc.AllocError.{AllocError}
 use Rattle.cell_film.specs.Lines.{FilmSoFar, frame_line, lines_after, no_film, said_after, shown_next}

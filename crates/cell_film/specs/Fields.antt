@@ -1,20 +1,17 @@
 -- What lines tell of a frame, as texts.
-use Rattle.std.specs.Prelude.{ℕ, ℤ, false, List, [], ◌∷◌, ◌++◌, codes, slice_index_or, Option, Some, None, Result, Ok, Err}
+use Rattle.std.specs.Prelude.{ℕ, ℤ, false, List, [], ◌∷◌, ◌++◌, codes, slice_index_or, Option, Some, None, Result, Ok}
+use Rattle.std.specs.Prelude.{Err}
 use Rattle.std.specs.Fmt.{digits, signed_decimal}
 use Rattle.std.specs.List.{join_with_byte}
-use Rattle.cell_types.specs.Answers.{answer_text, flag_word}
-use Rattle.cell_types.specs.CallWords.{call_text}
-use Rattle.cell_types.specs.declared.machine.Machine.{Machine}
-use Rattle.cell_types.specs.declared.machine.Machine.TheVariants.{Feed, Table, Robot, Press, Deposit, Crane, Watch}
-use Rattle.cell_types.specs.declared.reply.Reply.{Reply}
-use Rattle.cell_types.specs.declared.reply.Reply.TheVariants.{Settled, Busy}
+use Rattle.cell_rules.specs.Types.{answer_text, flag_word, call_text, Machine, Feed, Table, Robot, Press, Deposit}
+use Rattle.cell_rules.specs.Types.{Crane, Watch, Reply, Settled, Busy}
 use Rattle.cell_devices.specs.declared.motor.Motor.{Motor}
 use Rattle.cell_devices.specs.declared.motor.Motor.TheVariants.{Off, Plus, Minus}
-use Rattle.cell_rules.specs.ModelState.{ModelState}
+use Rattle.cell_rules.specs.Names.{ModelState}
 use Rattle.cell_rules.specs.declared.heard.LineFault.{LineFault}
 use Rattle.cell_rules.specs.declared.heard.LineFault.TheVariants.{Memory}
 use Rattle.cell_word.specs.Layout.{packed}
-use Rattle.cell_notes.specs.Asks.{TurnCall}
+use Rattle.cell_notes.specs.Names.{TurnCall}
 use Rattle.cell_notes.specs.declared.status.Status.{Status}
 use Rattle.cell_notes.specs.declared.status.Status.TheVariants.{Fine}
 use Rattle.cell_parts.specs.declared.axis.Axis.{Axis}
@@ -25,7 +22,8 @@ use Rattle.cell_parts.specs.declared.plant.RobotPlant.{RobotPlant}
 use Rattle.cell_parts.specs.declared.plant.TablePlant.{TablePlant}
 use Rattle.cell_plant.specs.declared.frame.Frame.{Frame}
 use Rattle.cell_plant.specs.declared.frame.MachineSteps.{MachineSteps}
-use Rattle.cell_film.specs.StepWords.{feed_word, table_word, robot_word, press_word, deposit_word, crane_word, stopped_text}
+use Rattle.cell_film.specs.StepWords.{feed_word, table_word, robot_word, press_word, deposit_word, crane_word}
+use Rattle.cell_film.specs.StepWords.{stopped_text}
 
 -- texts with a comma, or a semicolon, between any two
 abbrev pub by_commas : List (List ℕ) → List ℕ
@@ -58,7 +56,8 @@ table_text t = by_commas (axis_text t.lift ∷ axis_text t.turn ∷ [])
 
 abbrev pub robot_text : RobotPlant → List ℕ
 robot_text r =
-    by_commas (axis_text r.arm1 ∷ axis_text r.arm2 ∷ axis_text r.rotation ∷ flag_word r.magnet1 ∷ flag_word r.magnet2 ∷ [])
+    by_commas (axis_text r.arm1 ∷ axis_text r.arm2 ∷ axis_text r.rotation ∷ flag_word r.magnet1 ∷ flag_word r.magnet2
+    ∷ [])
 
 abbrev pub crane_text : CranePlant → List ℕ
 crane_text c = by_commas (axis_text c.travel ∷ axis_text c.gripper ∷ flag_word c.magnet ∷ [])

@@ -1,10 +1,8 @@
 -- The lines of a film: one for its start, and one for each turn.
 use Rattle.std.specs.Prelude.{ℕ, Bool, ◌&&◌, List, [], ◌∷◌, ◌++◌, codes, Option, Some, None, if◌then◌else◌}
 use Rattle.std.specs.Str.{bytes_eq}
-use Rattle.cell_types.specs.declared.machine.Machine.{Machine}
-use Rattle.cell_types.specs.declared.machine.Machine.TheVariants.{Feed, Table, Robot, Press, Deposit, Crane, Watch}
-use Rattle.cell_notes.specs.Asks.{TurnCall}
-use Rattle.cell_notes.specs.ByMachine.{at_machine, each_machine, with_machine}
+use Rattle.cell_rules.specs.Types.{Machine, Feed, Table, Robot, Press, Deposit, Crane, Watch}
+use Rattle.cell_notes.specs.Names.{TurnCall, at_machine, each_machine, with_machine}
 use Rattle.cell_notes.specs.declared.by_machine.ByMachine.{ByMachine}
 use Rattle.cell_notes.specs.declared.schedule.Turn.{Turn}
 use Rattle.cell_plant.specs.declared.frame.Frame.{Frame}
@@ -42,11 +40,23 @@ pub record Fields : Type 0 where
 -- of a frame, and what was asked
 abbrev pub fields_of : Machine → TurnCall → Frame → Fields
 fields_of m asked f =
-    record { step = step_text m f; call = asked_text asked; answer = answered_text asked; word = word_text f.state; part = part_text m f.plant }
+    record {
+      step = step_text m f;
+      call = asked_text asked;
+      answer = answered_text asked;
+      word = word_text f.state;
+      part = part_text m f.plant;
+    }
 
 -- before the first frame there was nothing
 abbrev pub fields_before : Machine → TurnCall → Option Frame → Fields
-fields_before m asked None = record { step = []; call = asked_text asked; answer = answered_text asked; word = []; part = [] }
+fields_before m asked None = record {
+  step = [];
+  call = asked_text asked;
+  answer = answered_text asked;
+  word = [];
+  part = [];
+}
 fields_before m asked (Some f) = fields_of m asked f
 
 -- all is as it was
@@ -62,7 +72,8 @@ if_new old new = if bytes_eq old new then [] else new
 -- what changed, with what was asked
 abbrev pub changes_text : Fields → Fields → List ℕ
 changes_text old new =
-    by_semicolons (if_new old.step new.step ∷ new.call ∷ new.answer ∷ if_new old.word new.word ∷ if_new old.part new.part ∷ [])
+    by_semicolons (if_new old.step new.step ∷ new.call ∷ new.answer ∷ if_new old.word new.word
+    ∷ if_new old.part new.part ∷ [])
 
 -- the turn's letter, and what changed, if anything did
 abbrev pub turn_line : List ℕ → Fields → Fields → List ℕ
@@ -74,7 +85,8 @@ turn_line letter old new = letter ++ (if is_same old new then [] else codes ";" 
 abbrev pub line_by : Option Turn → Option Frame → LastCalls → Frame → List ℕ
 line_by None before said f = start_line f
 line_by (Some t) before said f =
-    turn_line (letter_word t.busy t.machine) (fields_before t.machine (at_machine said t.machine) before) (fields_of t.machine f.asked f)
+    turn_line (letter_word t.busy t.machine) (fields_before t.machine (at_machine said t.machine) before)
+    (fields_of t.machine f.asked f)
 
 abbrev pub frame_line : Option Frame → LastCalls → Frame → List ℕ
 frame_line before said f = line_by f.turn before said f ++ codes "\n"

@@ -4,13 +4,9 @@ use Rattle.std.specs.Io.KnownBytes.{Appends}
 use Rattle.cell_text.specs.Output.{WrotePrefix}
 use Rattle.cell_notes.specs.declared.schedule.Turn.{Turn}
 use Rattle.cell_rules.specs.ModelState.{ModelState}
-use Rattle.cell_calib.specs.Curve.{Pair}
-use Rattle.cell_calib.specs.Scale.{Scale}
+use Rattle.cell_calib.specs.Names.{Pair, Scale}
 use Rattle.cell_parts.specs.Axes.{CellScales}
-use Rattle.cell_plant.specs.CellStates.{cell_at_start}
-use Rattle.cell_plant.specs.Frames.{frames_of}
-use Rattle.cell_plant.specs.Machines.{on_curves}
-use Rattle.cell_plant.specs.Runs.{Step, IsRunBy}
+use Rattle.cell_plant.specs.Names.{cell_at_start, frames_of, on_curves, Step, IsRunBy}
 use Rattle.cell_plant.specs.declared.frame.Frame.{Frame}
 use Rattle.cell_loop.specs.Pictures.{IsPictureOf}
 use Rattle.cell_config.specs.Configured.{Says, in_order}
@@ -20,9 +16,10 @@ use Rattle.cell_config.specs.declared.fault.ConfigFault.{ConfigFault}
 use Rattle.cell_shell.specs.Faults.{fault_line}
 use Rattle.cell_film.specs.Pages.{max_turns}
 
--- frames are those of the run of a schedule up to the most turns, by scales with these points: each reading is the one on
--- its curve
-pub record AreFramesOf (points : List Scale) (curves : List (List Pair)) (opening : ModelState) (schedule : List Turn) (frames : List Frame) : Type 0 where
+-- frames are those of the run of a schedule up to the most turns, by scales with these points: each reading is the one
+-- on its curve
+pub record AreFramesOf (points : List Scale) (curves : List (List Pair)) (opening : ModelState) (schedule : List Turn)
+    (frames : List Frame) : Type 0 where
   pub scales : CellScales
   pub fits : points ≡ in_order scales
   pub steps : List Step

@@ -1,17 +1,14 @@
 -- The page of a film.
-use Rattle.std.specs.Prelude.{◌≡◌, ℕ, List, [], ◌++◌, length, take, codes, nat_lt, Option, Ok, Err, IfSome, ◌⊎◌, if◌then◌else◌}
+use Rattle.std.specs.Prelude.{◌≡◌, ℕ, List, [], ◌++◌, length, take, codes, nat_lt, Option, Ok, Err, IfSome, ◌⊎◌}
+use Rattle.std.specs.Prelude.{if◌then◌else◌}
 use Rattle.std.specs.Fmt.{decimal}
 use Rattle.std.specs.Io.KnownBytes.{Appends}
 use Rattle.cell_text.specs.Output.{WrotePrefix}
 use Rattle.cell_notes.specs.declared.schedule.Turn.{Turn}
 use Rattle.cell_rules.specs.ModelState.{ModelState}
-use Rattle.cell_calib.specs.Curve.{Pair}
-use Rattle.cell_calib.specs.Scale.{Scale}
+use Rattle.cell_calib.specs.Names.{Pair, Scale}
 use Rattle.cell_parts.specs.Axes.{CellScales}
-use Rattle.cell_plant.specs.CellStates.{cell_at_start}
-use Rattle.cell_plant.specs.Frames.{frames_of}
-use Rattle.cell_plant.specs.Machines.{CellGauges, on_curves}
-use Rattle.cell_plant.specs.Runs.{Step, IsRunBy}
+use Rattle.cell_plant.specs.Names.{cell_at_start, frames_of, CellGauges, on_curves, Step, IsRunBy}
 use Rattle.cell_config.specs.Configured.{Says, in_order}
 use Rattle.cell_config.specs.ConfigWords.{config_fault_text}
 use Rattle.cell_config.specs.Settings.{Settings, settings_of}
@@ -34,14 +31,16 @@ unfoldable pub page_text : List ℕ → ℕ → List ℕ
 page_text lines turns = PAGE_HEAD.now ++ (lines ++ (cut_line turns ++ PAGE_TAIL.now))
 
 -- lines are those of the frames of a run, by what the gauges may give
-pub record ShowsRun (c : CellScales) (gives : CellGauges) (opening : ModelState) (turns : List Turn) (lines : List ℕ) : Type 0 where
+pub record ShowsRun (c : CellScales) (gives : CellGauges) (opening : ModelState) (turns : List Turn) (lines : List ℕ)
+    : Type 0 where
   pub steps : List Step
   pub run : IsRunBy c gives (cell_at_start opening) turns steps
   pub shown : lines ≡ film_lines (frames_of opening turns steps)
 
--- lines are those of the run of a schedule up to the most turns, by scales with these points: each reading is the one on
--- its curve
-pub record ShowsConfigured (points : List Scale) (curves : List (List Pair)) (opening : ModelState) (schedule : List Turn) (lines : List ℕ) : Type 0 where
+-- lines are those of the run of a schedule up to the most turns, by scales with these points: each reading is the one
+-- on its curve
+pub record ShowsConfigured (points : List Scale) (curves : List (List Pair)) (opening : ModelState)
+    (schedule : List Turn) (lines : List ℕ) : Type 0 where
   pub scales : CellScales
   pub fits : points ≡ in_order scales
   pub shown : ShowsRun scales (on_curves curves) opening (take max_turns schedule) lines

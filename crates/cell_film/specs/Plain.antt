@@ -8,7 +8,8 @@ use Rattle.cell_film.specs.Pages.{cut_line}
 
 -- a letter, a digit, or one of these
 abbrev pub is_plain : ℕ → Bool
-is_plain b = is_in_range 97 122 b || (is_in_range 65 90 b || (is_in_range 48 57 b || list_any (λ c. c == b) (codes " \n!+,-;")))
+is_plain b = is_in_range 97 122 b
+    || (is_in_range 65 90 b || (is_in_range 48 57 b || list_any (λ c. c == b) (codes " \n!+,-;")))
 
 abbrev pub are_plain : List ℕ → Bool
 are_plain bytes = list_all is_plain bytes

@@ -1,18 +1,17 @@
 -- The words of steps, of statuses and of turns.
 use Rattle.std.specs.Prelude.{ℕ, Bool, true, false, List, [], codes}
-use Rattle.cell_types.specs.declared.machine.Machine.{Machine}
-use Rattle.cell_types.specs.declared.machine.Machine.TheVariants.{Feed, Table, Robot, Press, Deposit, Crane, Watch}
+use Rattle.cell_rules.specs.Types.{Machine, Feed, Table, Robot, Press, Deposit, Crane, Watch}
 use Rattle.cell_haul.specs.declared.feed.FeedStep.{FeedStep}
-use Rattle.cell_haul.specs.declared.feed.FeedStep.TheVariants as feed
 use Rattle.cell_haul.specs.declared.deposit.DepositStep.{DepositStep}
-use Rattle.cell_haul.specs.declared.deposit.DepositStep.TheVariants as deposit
 use Rattle.cell_haul.specs.declared.crane.CraneStep.{CraneStep}
+use Rattle.cell_haul.specs.declared.feed.FeedStep.TheVariants as feed
+use Rattle.cell_haul.specs.declared.deposit.DepositStep.TheVariants as deposit
 use Rattle.cell_haul.specs.declared.crane.CraneStep.TheVariants as crane
 use Rattle.cell_robot.specs.declared.robot.RobotStep.{RobotStep}
 use Rattle.cell_robot.specs.declared.robot.RobotStep.TheVariants as robot
 use Rattle.cell_stations.specs.declared.press.PressStep.{PressStep}
-use Rattle.cell_stations.specs.declared.press.PressStep.TheVariants as press
 use Rattle.cell_stations.specs.declared.table.TableStep.{TableStep}
+use Rattle.cell_stations.specs.declared.press.PressStep.TheVariants as press
 use Rattle.cell_stations.specs.declared.table.TableStep.TheVariants as table
 use Rattle.cell_notes.specs.declared.status.Status.{Status}
 use Rattle.cell_notes.specs.declared.status.Status.TheVariants.{Fine, Worn, Sensor, Refused, Memory, GateLimit}

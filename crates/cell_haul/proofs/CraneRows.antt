@@ -1,23 +1,22 @@
 -- The crane's program meets the rows of the examples.
 use Rattle.std.proofs.Common.{◌≡◌, ◌∙◌, sym, ap, rules, ℕ, Some, None, pos, Bool, true, false, Option, refl}
 use Rattle.std.specs.Int.Signed.{le_z_yes, lt_z_yes}
-use Rattle.cell_types.specs.declared.machine.Machine.{Machine}
-use Rattle.cell_types.specs.declared.machine.Machine.TheVariants.{Crane}
-use Rattle.cell_types.specs.declared.posture.Posture.{Posture}
-use Rattle.cell_types.specs.declared.answer.Refusal.{Refusal}
+use Rattle.cell_rules.specs.Types.{Machine, Crane, Posture, Refusal}
 use Rattle.cell_calib.specs.Scale.{Scale}
 use Rattle.cell_devices.specs.declared.stops.Stop.{Stop}
 use Rattle.cell_devices.specs.declared.act.CraneAct.{CraneAct}
 use Rattle.cell_devices.proofs.DriveLemmas.{drives_one, stops_there, goes_plus, goes_minus}
 use Rattle.cell_rules.specs.ModelState.{ModelState}
-use Rattle.cell_control.specs.Row.{waits_on}
-use Rattle.cell_control.specs.Rows.{DriveRow, is_inquiry}
+use Rattle.cell_control.specs.Names.{waits_on, DriveRow, is_inquiry}
 use Rattle.cell_control.proofs.WaitLemmas.{stays_never, stays_until_free_and_open}
+use Rattle.cell_haul.specs.Names.{row_at, row_of, gripper_stop, Acts, after_done, step_after_inquiry}
 use Rattle.cell_haul.specs.declared.crane.CraneStep.{CraneStep}
-use Rattle.cell_haul.specs.declared.crane.CraneStep.TheVariants.{RaiseToFetch, TravelToDeposit, AwaitPlate, LowerToPlate, GripPlate, RaiseWithPlate, TravelToFeed, LowerToFeed, DropPlate, RaiseFromFeed}
+use Rattle.cell_haul.specs.declared.crane.CraneStep.TheVariants.{RaiseToFetch, TravelToDeposit, AwaitPlate}
+use Rattle.cell_haul.specs.declared.crane.CraneStep.TheVariants.{LowerToPlate, GripPlate, RaiseWithPlate}
+use Rattle.cell_haul.specs.declared.crane.CraneStep.TheVariants.{TravelToFeed, LowerToFeed, DropPlate, RaiseFromFeed}
 use Rattle.cell_haul.specs.declared.crane.CraneReading.{CraneReading}
 use Rattle.cell_haul.specs.declared.crane.CraneProgress.{CraneProgress}
-use Rattle.cell_haul.specs.CraneProgram.{row_at, row_of, gripper_stop, Acts, after_act, after_done, step_after_inquiry}
+use Rattle.cell_haul.specs.CraneProgram.{after_act}
 use Rattle.cell_haul.specs.CraneExamples.{begins_with, rows_by, scale, at, told, awaits, CraneAsks, GripperDrives, TravelDrives, MagnetSteps, CraneChecks, CraneRowsAreMet}
 
 begins : (points : Scale) (s : ModelState) (loaded : Bool) → (rows_by points).start (record s { full = record s.full { crane = loaded } }) ≡ begins_with loaded

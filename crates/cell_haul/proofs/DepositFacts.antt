@@ -1,26 +1,20 @@
 -- What the deposit belt knows of the state at each step of its program.
 use Rattle.std.proofs.Common.{◌≡◌, Bool, true, false, if◌then◌else◌, List, [], ◌∷◌, Some, None, refl}
-use Rattle.cell_types.specs.declared.machine.Machine.TheVariants.{Deposit}
-use Rattle.cell_types.specs.declared.zone.Zone.TheVariants.{Z4, Z5}
-use Rattle.cell_types.specs.declared.posture.Posture.TheVariants.{Closed, Moving, OpenIn, OpenOut}
-use Rattle.cell_types.specs.declared.pose.Pose.TheVariants.{Landing, Running, Offering}
-use Rattle.cell_types.specs.declared.call.Call.{Call}
-use Rattle.cell_types.specs.declared.call.Call.TheVariants.{Claim, Give, Take, Release, SetPose, Advance}
-use Rattle.cell_types.specs.declared.answer.Answer.TheVariants.{Done}
-use Rattle.cell_types.specs.declared.answer.Event.{Event}
-use Rattle.cell_rules.specs.ModelState.{ModelState}
-use Rattle.cell_rules.specs.Sound.{IsSound}
-use Rattle.cell_rules.specs.Refusals.{owns, posture_at}
-use Rattle.cell_rules.specs.Reply.{reply, changed}
-use Rattle.cell_rules.specs.History.{after, IsLegal}
+use Rattle.cell_rules.specs.Types.{Deposit, Z4, Z5, Closed, Moving, OpenIn, OpenOut, Landing, Running, Offering, Call}
+use Rattle.cell_rules.specs.Types.{Claim, Give, Take, Release, SetPose, Advance, Done, Event}
+use Rattle.cell_rules.specs.Names.{ModelState, IsSound, owns, posture_at, reply, changed, after, IsLegal}
 use Rattle.cell_rules.proofs.Holders.{take_owned}
 use Rattle.cell_control.specs.Steps.{IsReached}
 use Rattle.cell_control.proofs.StepLemmas.{Knowing, reached_knows}
 use Rattle.cell_control.proofs.Facts.{Fact, Owns, Hosts, AreSo, are_foreign, are_same, seen_held, seen_in}
+use Rattle.cell_haul.specs.Names.{with_plates, by_plates, deposit_steps}
 use Rattle.cell_haul.specs.declared.deposit.DepositStep.{DepositStep}
-use Rattle.cell_haul.specs.declared.deposit.DepositStep.TheVariants.{ClaimEntry, ClaimExit, PoseLanding, ReleaseEntry, TakePlate, StartRun, RunIn, RunOut, MoveOn, PoseOffering, GivePlate, ClaimBack}
+use Rattle.cell_haul.specs.declared.deposit.DepositStep.TheVariants.{ClaimEntry, PoseLanding, ReleaseEntry, TakePlate}
+use Rattle.cell_haul.specs.declared.deposit.DepositStep.TheVariants.{StartRun, RunIn, RunOut, MoveOn, PoseOffering}
+use Rattle.cell_haul.specs.declared.deposit.DepositStep.TheVariants.{GivePlate, ClaimBack}
 use Rattle.cell_haul.specs.declared.deposit.DepositProgress.{DepositProgress}
-use Rattle.cell_haul.specs.DepositProgram.{with_plates, by_plates, row_at, row_of, after_done, HoldsForRun, deposit_steps}
+use Rattle.cell_haul.specs.declared.deposit.DepositStep.TheVariants.{ClaimExit}
+use Rattle.cell_haul.specs.DepositProgram.{row_at, row_of, after_done, HoldsForRun}
 
 abbrev pub facts_at : DepositStep → List Fact
 facts_at ClaimEntry = []

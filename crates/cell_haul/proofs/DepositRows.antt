@@ -2,13 +2,13 @@
 use Rattle.std.proofs.Common.{◌≡◌, Bool, true, false, refl, None}
 use Rattle.cell_types.specs.declared.answer.Refusal.{Refusal}
 use Rattle.cell_rules.specs.ModelState.{ModelState}
-use Rattle.cell_control.specs.Row.{waits_on}
-use Rattle.cell_control.specs.Rows.{is_inquiry}
+use Rattle.cell_control.specs.Names.{waits_on, is_inquiry}
 use Rattle.cell_control.proofs.WaitLemmas.{stays_never, stays_until_free, stays_until_owner, stays_until_room}
+use Rattle.cell_haul.specs.Names.{deposit_steps}
 use Rattle.cell_haul.specs.declared.deposit.DepositStep.{DepositStep}
 use Rattle.cell_haul.specs.declared.deposit.DepositStep.TheVariants.{ClaimEntry, RunIn, RunOut}
 use Rattle.cell_haul.specs.declared.deposit.DepositProgress.{DepositProgress}
-use Rattle.cell_haul.specs.DepositProgram.{row_at, deposit_steps}
+use Rattle.cell_haul.specs.DepositProgram.{row_at}
 use Rattle.cell_haul.specs.DepositExamples.{begins_with, DepositAsks, DepositDrives, DepositRowsAreMet}
 
 begins : (s : ModelState) (entry last : Bool) → deposit_steps.start (record s { full = record s.full { dep_entry = entry; dep_end = last } }) ≡ begins_with entry last

@@ -1,22 +1,10 @@
 -- What the feed belt knows of the state at each step of its program.
 use Rattle.std.proofs.Common.{◌≡◌, pos, Bool, true, false, ◌&&◌, not, if◌then◌else◌, List, [], ◌∷◌, Some, None, refl, sym, ap, ◌∙◌}
-use Rattle.cell_types.specs.declared.machine.Machine.TheVariants.{Feed}
-use Rattle.cell_types.specs.declared.zone.Zone.TheVariants.{Z1, Z6}
-use Rattle.cell_types.specs.declared.place.Place.TheVariants.{FeedEntry, FeedEnd}
-use Rattle.cell_types.specs.declared.posture.Posture.{Posture}
-use Rattle.cell_types.specs.declared.posture.Posture.TheVariants.{Closed, Moving, OpenIn, OpenOut}
-use Rattle.cell_types.specs.declared.pose.Pose.TheVariants.{Landing, Running, Halted}
-use Rattle.cell_types.specs.declared.call.Call.{Call}
-use Rattle.cell_types.specs.declared.call.Call.TheVariants.{Claim, Give, Take, Release, SetPose, Advance}
-use Rattle.cell_types.specs.declared.answer.Answer.TheVariants.{Done}
-use Rattle.cell_types.specs.declared.answer.Event.{Event}
-use Rattle.cell_types.specs.Tables.{transfer_of}
-use Rattle.cell_rules.specs.PlaceSet.{has}
-use Rattle.cell_rules.specs.ModelState.{ModelState, is_full, one_if}
-use Rattle.cell_rules.specs.Sound.{IsSound, is_open, is_of_some_pose}
-use Rattle.cell_rules.specs.Refusals.{owns, posture_at, given_by}
-use Rattle.cell_rules.specs.Reply.{reply, changed, filled, emptied}
-use Rattle.cell_rules.specs.History.{after, IsLegal, plates_at}
+use Rattle.cell_rules.specs.Types.{Feed, Z1, Z6, FeedEntry, FeedEnd, Posture, Closed, Moving, OpenIn, OpenOut}
+use Rattle.cell_rules.specs.Types.{Landing, Running, Halted, Call, Claim, Give, Take, Release, SetPose, Advance, Done}
+use Rattle.cell_rules.specs.Types.{Event, transfer_of}
+use Rattle.cell_rules.specs.Names.{has, ModelState, is_full, one_if, IsSound, is_open, is_of_some_pose, owns}
+use Rattle.cell_rules.specs.Names.{posture_at, given_by, reply, changed, filled, emptied, after, IsLegal, plates_at}
 use Rattle.cell_rules.proofs.Holders.{take_owned}
 use Rattle.cell_rules.proofs.Tables.{and_right}
 use Rattle.cell_rules.proofs.Conserved.{plates-kept}
@@ -24,10 +12,12 @@ use Rattle.cell_rules.proofs.OwnSide.{full-foreign}
 use Rattle.cell_control.specs.Steps.{IsReached}
 use Rattle.cell_control.proofs.StepLemmas.{Knowing, reached_knows}
 use Rattle.cell_control.proofs.Facts.{Fact, Owns, Hosts, Finds, AreSo, are_foreign, are_same, seen_held, seen_in, entered, posed}
+use Rattle.cell_haul.specs.Names.{feed_steps}
 use Rattle.cell_haul.specs.declared.feed.FeedStep.{FeedStep}
-use Rattle.cell_haul.specs.declared.feed.FeedStep.TheVariants.{ClaimEntry, PoseLanding, ReleaseEntry, TakePlate, StartIn, RunIn, MoveOn, ClaimExit, StartOut, RunOut, Halt, GivePlate}
+use Rattle.cell_haul.specs.declared.feed.FeedStep.TheVariants.{StartIn, ClaimExit, StartOut, Halt}
 use Rattle.cell_haul.specs.declared.feed.FeedProgress.{FeedProgress}
-use Rattle.cell_haul.specs.FeedProgram.{with_plates, by_plates, row_at, row_of, after_done, HoldsForRun, feed_steps}
+use Rattle.cell_haul.specs.declared.feed.FeedStep.TheVariants.{ClaimEntry, PoseLanding, ReleaseEntry, TakePlate, RunIn, MoveOn, RunOut, GivePlate}
+use Rattle.cell_haul.specs.FeedProgram.{with_plates, by_plates, row_at, row_of, after_done, HoldsForRun}
 
 abbrev pub facts_at : FeedStep → List Fact
 facts_at ClaimEntry = []

@@ -2,13 +2,13 @@
 use Rattle.std.proofs.Common.{◌≡◌, Bool, true, false, refl, None}
 use Rattle.cell_types.specs.declared.answer.Refusal.{Refusal}
 use Rattle.cell_rules.specs.ModelState.{ModelState}
-use Rattle.cell_control.specs.Row.{waits_on}
-use Rattle.cell_control.specs.Rows.{is_inquiry}
+use Rattle.cell_control.specs.Names.{waits_on, is_inquiry}
 use Rattle.cell_control.proofs.WaitLemmas.{stays_never, stays_until_free_and_open, stays_until_owner}
+use Rattle.cell_haul.specs.Names.{feed_steps}
 use Rattle.cell_haul.specs.declared.feed.FeedStep.{FeedStep}
-use Rattle.cell_haul.specs.declared.feed.FeedStep.TheVariants.{ClaimEntry, RunIn, RunOut}
 use Rattle.cell_haul.specs.declared.feed.FeedProgress.{FeedProgress}
-use Rattle.cell_haul.specs.FeedProgram.{row_at, feed_steps}
+use Rattle.cell_haul.specs.declared.feed.FeedStep.TheVariants.{ClaimEntry, RunIn, RunOut}
+use Rattle.cell_haul.specs.FeedProgram.{row_at}
 use Rattle.cell_haul.specs.FeedExamples.{begins_with, FeedAsks, FeedDrives, FeedRowsAreMet}
 
 begins : (s : ModelState) (entry last : Bool) → feed_steps.start (record s { full = record s.full { feed_entry = entry; feed_end = last } }) ≡ begins_with entry last

@@ -1,26 +1,20 @@
 -- Examples of each row of the crane's program, with each state of its note.
 use Rattle.std.specs.Prelude.{◌≡◌, ◌≢◌, ℕ, ℤ, pos, Bool, true, false, List, [], ◌∷◌, Option, Some, Ok, Err}
-use Rattle.cell_types.specs.declared.machine.Machine.{Machine}
-use Rattle.cell_types.specs.declared.machine.Machine.TheVariants.{Crane}
-use Rattle.cell_types.specs.declared.zone.Zone.{Zone}
-use Rattle.cell_types.specs.declared.zone.Zone.TheVariants.{Z5, Z6}
-use Rattle.cell_types.specs.declared.posture.Posture.{Posture}
-use Rattle.cell_types.specs.declared.posture.Posture.TheVariants.{OpenIn, OpenOut}
-use Rattle.cell_types.specs.declared.call.Call.TheVariants.{Claim, Give, Take, Release}
-use Rattle.cell_types.specs.declared.answer.Event.{Event}
-use Rattle.cell_calib.specs.Scale.{Scale}
-use Rattle.cell_calib.specs.Line.{IsReading}
+use Rattle.cell_rules.specs.Types.{Machine, Crane, Zone, Z5, Z6, Posture, OpenIn, OpenOut, Claim, Give, Take, Release}
+use Rattle.cell_rules.specs.Types.{Event}
+use Rattle.cell_calib.specs.Names.{Scale, IsReading}
 use Rattle.cell_calib.specs.declared.sense.CraneSense.{CraneSense}
 use Rattle.cell_calib.specs.declared.sense.SensorFault.TheVariants.{Low, High, Clash}
 use Rattle.cell_devices.specs.declared.motor.Motor.{Motor}
 use Rattle.cell_devices.specs.declared.motor.Motor.TheVariants.{Off, Plus, Minus}
 use Rattle.cell_devices.specs.declared.act.CraneAct.{CraneAct}
-use Rattle.cell_rules.specs.ModelState.{ModelState}
-use Rattle.cell_rules.specs.History.{Holds, posture_by_events}
-use Rattle.cell_control.specs.Steps.{Steps}
-use Rattle.cell_control.specs.Rows.{AskRow, InquiryRow, DriveRow, UntilFree, UntilOpen, NoOtherAnswers}
+use Rattle.cell_rules.specs.Names.{ModelState, Holds, posture_by_events}
+use Rattle.cell_control.specs.Names.{Steps, AskRow, InquiryRow, DriveRow, UntilFree, UntilOpen, NoOtherAnswers}
 use Rattle.cell_haul.specs.declared.crane.CraneStep.{CraneStep}
-use Rattle.cell_haul.specs.declared.crane.CraneStep.TheVariants.{RaiseToFetch, TravelToDeposit, AwaitPlate, LowerToPlate, GripPlate, RaiseWithPlate, TakePlate, ReleaseDeposit, TravelToFeed, ClaimFeed, LowerToFeed, DropPlate, RaiseFromFeed, GivePlate}
+use Rattle.cell_haul.specs.declared.crane.CraneStep.TheVariants.{RaiseToFetch, TravelToDeposit, AwaitPlate}
+use Rattle.cell_haul.specs.declared.crane.CraneStep.TheVariants.{LowerToPlate, GripPlate, RaiseWithPlate, TakePlate}
+use Rattle.cell_haul.specs.declared.crane.CraneStep.TheVariants.{ReleaseDeposit, TravelToFeed, ClaimFeed, LowerToFeed}
+use Rattle.cell_haul.specs.declared.crane.CraneStep.TheVariants.{DropPlate, RaiseFromFeed, GivePlate}
 use Rattle.cell_haul.specs.declared.crane.CraneProgress.{CraneProgress}
 use Rattle.cell_haul.specs.declared.crane.CraneReading.{CraneReading}
 use Rattle.cell_haul.specs.CraneProgram.{crane_steps}
@@ -69,7 +63,8 @@ pub record CraneAsks (points : Scale) (magnet : Bool) : Type 0 where
   pub awaits_plate : InquiryRow (rows_by points) (at AwaitPlate magnet) Z5 (awaits magnet)
   pub takes : AskRow (rows_by points) (at TakePlate magnet) (Take Z5) [] (at ReleaseDeposit magnet)
   pub releases_deposit : AskRow (rows_by points) (at ReleaseDeposit magnet) (Release Z5) [] (at TravelToFeed magnet)
-  pub claims_feed : AskRow (rows_by points) (at ClaimFeed magnet) (Claim Z6) (UntilFree ∷ UntilOpen ∷ []) (at LowerToFeed magnet)
+  pub claims_feed : AskRow (rows_by points) (at ClaimFeed magnet) (Claim Z6) (UntilFree ∷ UntilOpen ∷ [])
+      (at LowerToFeed magnet)
   pub gives : AskRow (rows_by points) (at GivePlate magnet) (Give Z6) [] (at RaiseToFetch magnet)
 
 -- raw values from 100 to 4100 and a tolerance of 5, so the height's motor is off within 45 of its target, and the
@@ -106,12 +101,15 @@ pub record GripperDrives (magnet : Bool) : Type 0 where
 -- the crane travels only while the gripper is high; otherwise it stays, even at the switch that it travels to
 pub record TravelDrives (magnet : Bool) (gripper : ℕ) : Type 0 where
   pub to_deposit : Drives TravelToDeposit magnet (high_at gripper) (told Minus Off magnet) TravelToDeposit
-  pub to_deposit_at_feed : Drives TravelToDeposit magnet (reads false true gripper true) (told Minus Off magnet) TravelToDeposit
+  pub to_deposit_at_feed : Drives TravelToDeposit magnet (reads false true gripper true)
+      (told Minus Off magnet) TravelToDeposit
   pub to_deposit_there : Drives TravelToDeposit magnet (reads true false gripper true) (told Off Off magnet) AwaitPlate
   pub to_deposit_low : Drives TravelToDeposit magnet (low_at gripper) (told Off Off magnet) TravelToDeposit
-  pub to_deposit_there_low : Drives TravelToDeposit magnet (reads true false gripper false) (told Off Off magnet) TravelToDeposit
+  pub to_deposit_there_low : Drives TravelToDeposit magnet (reads true false gripper false)
+      (told Off Off magnet) TravelToDeposit
   pub to_feed : Drives TravelToFeed magnet (high_at gripper) (told Plus Off magnet) TravelToFeed
-  pub to_feed_at_deposit : Drives TravelToFeed magnet (reads true false gripper true) (told Plus Off magnet) TravelToFeed
+  pub to_feed_at_deposit : Drives TravelToFeed magnet (reads true false gripper true)
+      (told Plus Off magnet) TravelToFeed
   pub to_feed_there : Drives TravelToFeed magnet (reads false true gripper true) (told Off Off magnet) ClaimFeed
   pub to_feed_low : Drives TravelToFeed magnet (low_at gripper) (told Off Off magnet) TravelToFeed
   pub to_feed_there_low : Drives TravelToFeed magnet (reads false true gripper false) (told Off Off magnet) TravelToFeed
@@ -144,21 +142,30 @@ pub record CraneChecks : Type 0 where
   pub switches_as_shown : (s : CraneSense) (r : CraneReading) → (rows_by scale).senses s (Ok r) → r.sense ≡ s
   pub by_gauge : (crane_steps scale (gives_only 3)).senses (shown true false 100) (Ok (read_as true 100 3 false))
   pub not_by_line : ¬ (crane_steps scale (gives_only 3)).senses (shown true false 100) (Ok (read_as true 100 0 false))
-  pub high_first : (crane_steps scale (gives_only 805)).senses (shown false false 3320) (Ok (read_as false 3320 805 true))
-  pub high_first_is_high : ¬ (crane_steps scale (gives_only 805)).senses (shown false false 3320) (Ok (read_as false 3320 805 false))
-  pub low_last : (crane_steps scale (gives_only 804)).senses (shown false false 3316) (Ok (read_as false 3316 804 false))
-  pub low_last_is_low : ¬ (crane_steps scale (gives_only 804)).senses (shown false false 3316) (Ok (read_as false 3316 804 true))
+  pub high_first : (crane_steps scale (gives_only 805)).senses (shown false false 3320)
+      (Ok (read_as false 3320 805 true))
+  pub high_first_is_high : ¬ (crane_steps scale (gives_only 805)).senses (shown false false 3320)
+      (Ok (read_as false 3320 805 false))
+  pub low_last : (crane_steps scale (gives_only 804)).senses (shown false false 3316)
+      (Ok (read_as false 3316 804 false))
+  pub low_last_is_low : ¬ (crane_steps scale (gives_only 804)).senses (shown false false 3316)
+      (Ok (read_as false 3316 804 true))
 
 -- the crane holds a zone, which is open
 abbrev pub HoldsOpen : ModelState → List Event → Zone → Posture → Type 0
 HoldsOpen opening seen z q = Holds opening seen Crane z × (posture_by_events opening seen z ≡ q)
 
 -- while the gripper is driven at a belt, the crane holds the belt's zone; raising it before travel demands no zone
-pub record GripperDemands (points : Scale) (magnet on : Bool) (travel height : Motor) (opening : ModelState) (seen : List Event) : Type 0 where
-  pub lower_to_plate : (rows_by points).motor_demands (at LowerToPlate magnet) (told travel height on) opening seen → HoldsOpen opening seen Z5 OpenOut
-  pub raise_with_plate : (rows_by points).motor_demands (at RaiseWithPlate magnet) (told travel height on) opening seen → HoldsOpen opening seen Z5 OpenOut
-  pub lower_to_feed : (rows_by points).motor_demands (at LowerToFeed magnet) (told travel height on) opening seen → HoldsOpen opening seen Z6 OpenIn
-  pub raise_from_feed : (rows_by points).motor_demands (at RaiseFromFeed magnet) (told travel height on) opening seen → HoldsOpen opening seen Z6 OpenIn
+pub record GripperDemands (points : Scale) (magnet on : Bool) (travel height : Motor) (opening : ModelState)
+    (seen : List Event) : Type 0 where
+  pub lower_to_plate : (rows_by points).motor_demands (at LowerToPlate magnet) (told travel height on) opening seen
+      → HoldsOpen opening seen Z5 OpenOut
+  pub raise_with_plate : (rows_by points).motor_demands (at RaiseWithPlate magnet)
+      (told travel height on) opening seen → HoldsOpen opening seen Z5 OpenOut
+  pub lower_to_feed : (rows_by points).motor_demands (at LowerToFeed magnet) (told travel height on) opening seen
+      → HoldsOpen opening seen Z6 OpenIn
+  pub raise_from_feed : (rows_by points).motor_demands (at RaiseFromFeed magnet) (told travel height on) opening seen
+      → HoldsOpen opening seen Z6 OpenIn
 
 -- all rows; in a step that asks, both motors are off, and the magnet is as it was
 pub record CraneRowsAreMet : Type 0 where
@@ -169,5 +176,7 @@ pub record CraneRowsAreMet : Type 0 where
   pub magnet : (magnet : Bool) (reading : CraneReading) → MagnetSteps magnet reading
   pub checks : CraneChecks
   pub no_other_answers : (points : Scale) → NoOtherAnswers (rows_by points)
-  pub rests : (points : Scale) (step : CraneStep) (magnet : Bool) → (rows_by points).rest (at step magnet) ≡ told Off Off magnet
-  pub demands : (points : Scale) (magnet on : Bool) (travel height : Motor) (opening : ModelState) (seen : List Event) → height ≢ Off → GripperDemands points magnet on travel height opening seen
+  pub rests : (points : Scale) (step : CraneStep) (magnet : Bool)
+      → (rows_by points).rest (at step magnet) ≡ told Off Off magnet
+  pub demands : (points : Scale) (magnet on : Bool) (travel height : Motor) (opening : ModelState) (seen : List Event)
+      → height ≢ Off → GripperDemands points magnet on travel height opening seen

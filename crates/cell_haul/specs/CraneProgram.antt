@@ -1,36 +1,29 @@
 -- The crane's program, row by row.
-use Rattle.std.specs.Prelude.{◌≡◌, ◌≢◌, ◌<◌, ◌≤◌, ℕ, ℤ, ◌+ℤ◌, ◌≤ℤ◌, Bool, true, false, ◌&&◌, ◌||◌, not, ◌↔◌, IsTrue, if◌then◌else◌, List, Option, Some, None, Result, Ok, Err}
-use Rattle.cell_types.specs.declared.machine.Machine.{Machine}
-use Rattle.cell_types.specs.declared.machine.Machine.TheVariants.{Crane}
-use Rattle.cell_types.specs.declared.zone.Zone.{Zone}
-use Rattle.cell_types.specs.declared.zone.Zone.TheVariants.{Z5, Z6}
+use Rattle.std.specs.Prelude.{◌≡◌, ◌≢◌, ◌<◌, ◌≤◌, ℕ, ℤ, ◌+ℤ◌, ◌≤ℤ◌, Bool, true, false, ◌&&◌, ◌||◌, not, ◌↔◌, IsTrue}
+use Rattle.std.specs.Prelude.{if◌then◌else◌, List, Option, Some, None, Result, Ok, Err}
+use Rattle.cell_rules.specs.Types.{Machine, Crane, Zone, Z5, Z6, Posture, OpenIn, OpenOut, Call, Claim, Give, Take}
+use Rattle.cell_rules.specs.Types.{Release, Inquire, Event}
 use Rattle.cell_types.specs.declared.place.Place.TheVariants.{Crane as OnCrane}
-use Rattle.cell_types.specs.declared.posture.Posture.{Posture}
-use Rattle.cell_types.specs.declared.posture.Posture.TheVariants.{OpenIn, OpenOut}
-use Rattle.cell_types.specs.declared.call.Call.{Call}
-use Rattle.cell_types.specs.declared.call.Call.TheVariants.{Claim, Give, Take, Release, Inquire}
-use Rattle.cell_types.specs.declared.answer.Event.{Event}
-use Rattle.cell_calib.specs.Scale.{Scale}
-use Rattle.cell_calib.specs.Line.{IsReading}
-use Rattle.cell_calib.specs.Sensors.{CraneClashes}
+use Rattle.cell_calib.specs.Names.{Scale, IsReading}
 use Rattle.cell_calib.specs.declared.sense.CraneSense.{CraneSense}
 use Rattle.cell_calib.specs.declared.sense.SensorFault.{SensorFault}
 use Rattle.cell_calib.specs.declared.sense.SensorFault.TheVariants.{Low, High, Clash}
+use Rattle.cell_calib.specs.Sensors.{CraneClashes}
+use Rattle.cell_devices.specs.Names.{DrivesTo, travel_from}
 use Rattle.cell_devices.specs.declared.motor.Motor.{Motor}
 use Rattle.cell_devices.specs.declared.motor.Motor.TheVariants.{Off, Plus, Minus}
 use Rattle.cell_devices.specs.declared.stops.Stop.{Stop}
 use Rattle.cell_devices.specs.declared.stops.TheConstants.{GRIPPER_DEPOSIT, GRIPPER_FEED, GRIPPER_TRAVEL}
 use Rattle.cell_devices.specs.declared.act.CraneAct.{CraneAct}
-use Rattle.cell_devices.specs.Drives.{DrivesTo}
-use Rattle.cell_devices.specs.Limits.{travel_from}
 use Rattle.cell_rules.specs.ModelState.{ModelState, is_full}
+use Rattle.cell_control.specs.Names.{row_that_asks, row_that_drives, with_waits, Steps, HoldsIn}
 use Rattle.cell_control.specs.declared.row.Row.{Row}
 use Rattle.cell_control.specs.declared.row.Waits.TheVariants.{UntilFreeAndOpen}
-use Rattle.cell_control.specs.Row.{row_that_asks, row_that_drives, with_waits}
-use Rattle.cell_control.specs.Steps.{Steps}
-use Rattle.cell_control.specs.Demands.{HoldsIn}
 use Rattle.cell_haul.specs.declared.crane.CraneStep.{CraneStep}
-use Rattle.cell_haul.specs.declared.crane.CraneStep.TheVariants.{RaiseToFetch, TravelToDeposit, AwaitPlate, LowerToPlate, GripPlate, RaiseWithPlate, TakePlate, ReleaseDeposit, TravelToFeed, ClaimFeed, LowerToFeed, DropPlate, RaiseFromFeed, GivePlate}
+use Rattle.cell_haul.specs.declared.crane.CraneStep.TheVariants.{RaiseToFetch, TravelToDeposit, AwaitPlate}
+use Rattle.cell_haul.specs.declared.crane.CraneStep.TheVariants.{LowerToPlate, GripPlate, RaiseWithPlate, TakePlate}
+use Rattle.cell_haul.specs.declared.crane.CraneStep.TheVariants.{ReleaseDeposit, TravelToFeed, ClaimFeed, LowerToFeed}
+use Rattle.cell_haul.specs.declared.crane.CraneStep.TheVariants.{DropPlate, RaiseFromFeed, GivePlate}
 use Rattle.cell_haul.specs.declared.crane.CraneProgress.{CraneProgress}
 use Rattle.cell_haul.specs.declared.crane.CraneReading.{CraneReading}
 

@@ -1,18 +1,15 @@
 -- Examples of each row of the deposit belt's program, with each state of its notes.
 use Rattle.std.specs.Prelude.{◌≡◌, Bool, true, false, List, [], ◌∷◌, Ok}
-use Rattle.cell_types.specs.declared.machine.Machine.TheVariants.{Deposit}
-use Rattle.cell_types.specs.declared.zone.Zone.TheVariants.{Z4, Z5}
-use Rattle.cell_types.specs.declared.pose.Pose.TheVariants.{Landing, Running, Offering}
-use Rattle.cell_types.specs.declared.posture.Posture.TheVariants.{Moving}
-use Rattle.cell_types.specs.declared.call.Call.TheVariants.{Claim, Give, Take, Release, SetPose, Advance}
-use Rattle.cell_types.specs.declared.answer.Event.{Event}
+use Rattle.cell_rules.specs.Types.{Deposit, Z4, Z5, Landing, Running, Offering, Moving, Claim, Give, Take, Release}
+use Rattle.cell_rules.specs.Types.{SetPose, Advance, Event}
 use Rattle.cell_calib.specs.declared.sense.DepositSense.{DepositSense}
 use Rattle.cell_devices.specs.declared.act.DepositAct.{DepositAct}
-use Rattle.cell_rules.specs.ModelState.{ModelState}
-use Rattle.cell_rules.specs.History.{Holds, posture_by_events}
+use Rattle.cell_rules.specs.Names.{ModelState, Holds, posture_by_events}
 use Rattle.cell_control.specs.Rows.{AskRow, DriveRow, CheckRow, UntilFree, UntilOwner, UntilRoom, NoOtherAnswers}
 use Rattle.cell_haul.specs.declared.deposit.DepositStep.{DepositStep}
-use Rattle.cell_haul.specs.declared.deposit.DepositStep.TheVariants.{ClaimEntry, ClaimExit, PoseLanding, ReleaseEntry, TakePlate, StartRun, RunIn, RunOut, MoveOn, PoseOffering, GivePlate, ClaimBack}
+use Rattle.cell_haul.specs.declared.deposit.DepositStep.TheVariants.{ClaimEntry, ClaimExit, PoseLanding, ReleaseEntry}
+use Rattle.cell_haul.specs.declared.deposit.DepositStep.TheVariants.{TakePlate, StartRun, RunIn, RunOut, MoveOn}
+use Rattle.cell_haul.specs.declared.deposit.DepositStep.TheVariants.{PoseOffering, GivePlate, ClaimBack}
 use Rattle.cell_haul.specs.declared.deposit.DepositProgress.{DepositProgress}
 use Rattle.cell_haul.specs.DepositProgram.{deposit_steps}
 
@@ -48,7 +45,8 @@ pub record DepositAsks (entry last : Bool) : Type 0 where
   pub claims_entry : AskRow deposit_steps (at ClaimEntry entry last) (Claim Z4) [] (at ClaimExit entry last)
   pub claims_exit : AskRow deposit_steps (at ClaimExit false false) (Claim Z5) [] (at PoseLanding false false)
   pub claims_exit_with_plate : AskRow deposit_steps (at ClaimExit true false) (Claim Z5) [] (at StartRun true false)
-  pub claims_exit_with_plate_at_end : AskRow deposit_steps (at ClaimExit entry true) (Claim Z5) [] (at PoseOffering entry true)
+  pub claims_exit_with_plate_at_end
+      : AskRow deposit_steps (at ClaimExit entry true) (Claim Z5) [] (at PoseOffering entry true)
   pub poses_landing : AskRow deposit_steps (at PoseLanding entry last) (SetPose Landing) [] (at ReleaseEntry entry last)
   pub releases_entry : AskRow deposit_steps (at ReleaseEntry entry last) (Release Z4) [] (at TakePlate entry last)
   pub takes : AskRow deposit_steps (at TakePlate entry last) (Take Z4) (UntilOwner ∷ []) (at StartRun true last)
@@ -56,9 +54,12 @@ pub record DepositAsks (entry last : Bool) : Type 0 where
   pub moves_on : AskRow deposit_steps (at MoveOn entry last) Advance [] (at PoseOffering false true)
   pub poses_offering : AskRow deposit_steps (at PoseOffering entry last) (SetPose Offering) [] (at GivePlate entry last)
   pub gives : AskRow deposit_steps (at GivePlate entry last) (Give Z5) (UntilRoom ∷ []) (at ClaimBack entry false)
-  pub claims_back : AskRow deposit_steps (at ClaimBack false false) (Claim Z5) (UntilFree ∷ []) (at PoseLanding false false)
-  pub claims_back_with_plate : AskRow deposit_steps (at ClaimBack true false) (Claim Z5) (UntilFree ∷ []) (at StartRun true false)
-  pub claims_back_with_plate_at_end : AskRow deposit_steps (at ClaimBack entry true) (Claim Z5) (UntilFree ∷ []) (at PoseOffering entry true)
+  pub claims_back : AskRow deposit_steps (at ClaimBack false false) (Claim Z5) (UntilFree ∷ [])
+      (at PoseLanding false false)
+  pub claims_back_with_plate : AskRow deposit_steps (at ClaimBack true false) (Claim Z5) (UntilFree ∷ [])
+      (at StartRun true false)
+  pub claims_back_with_plate_at_end
+      : AskRow deposit_steps (at ClaimBack entry true) (Claim Z5) (UntilFree ∷ []) (at PoseOffering entry true)
 
 pub record DepositDrives (entry last : Bool) : Type 0 where
   pub in_before_barrier : DriveRow deposit_steps (at RunIn entry last) barrier_off runs (at RunIn entry last)
@@ -82,4 +83,5 @@ pub record DepositRowsAreMet : Type 0 where
   pub checks : (s : DepositSense) → CheckRow deposit_steps s (Ok s)
   pub no_other_answers : NoOtherAnswers deposit_steps
   pub rests : (p : DepositProgress) → deposit_steps.rest p ≡ stands
-  pub demands : (p : DepositProgress) (opening : ModelState) (seen : List Event) → deposit_steps.motor_demands p runs opening seen → DemandsBoth opening seen
+  pub demands : (p : DepositProgress) (opening : ModelState) (seen : List Event)
+      → deposit_steps.motor_demands p runs opening seen → DemandsBoth opening seen

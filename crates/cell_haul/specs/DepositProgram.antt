@@ -1,23 +1,18 @@
 -- The deposit belt's program, row by row.
 use Rattle.std.specs.Prelude.{◌≡◌, Bool, true, false, not, if◌then◌else◌, List, Ok}
-use Rattle.cell_types.specs.declared.machine.Machine.TheVariants.{Deposit}
-use Rattle.cell_types.specs.declared.zone.Zone.TheVariants.{Z4, Z5}
-use Rattle.cell_types.specs.declared.place.Place.TheVariants.{DepEntry, DepEnd}
-use Rattle.cell_types.specs.declared.pose.Pose.{Pose}
-use Rattle.cell_types.specs.declared.pose.Pose.TheVariants.{Landing, Running, Offering}
-use Rattle.cell_types.specs.declared.call.Call.{Call}
-use Rattle.cell_types.specs.declared.call.Call.TheVariants.{Claim, Give, Take, Release, SetPose, Advance}
-use Rattle.cell_types.specs.declared.answer.Event.{Event}
+use Rattle.cell_rules.specs.Types.{Deposit, Z4, Z5, DepEntry, DepEnd, Pose, Landing, Running, Offering, Call, Claim}
+use Rattle.cell_rules.specs.Types.{Give, Take, Release, SetPose, Advance, Event}
 use Rattle.cell_calib.specs.declared.sense.DepositSense.{DepositSense}
 use Rattle.cell_devices.specs.declared.act.DepositAct.{DepositAct}
-use Rattle.cell_rules.specs.ModelState.{ModelState, is_full}
-use Rattle.cell_rules.specs.History.{Holds, Moves}
+use Rattle.cell_rules.specs.Names.{ModelState, is_full, Holds, Moves}
+use Rattle.cell_control.specs.Names.{row_that_asks, row_that_drives, with_waits, Steps}
 use Rattle.cell_control.specs.declared.row.Row.{Row}
-use Rattle.cell_control.specs.declared.row.Waits.TheVariants.{UntilFree, UntilOwner, UntilRoom}
-use Rattle.cell_control.specs.Row.{row_that_asks, row_that_drives, with_waits}
-use Rattle.cell_control.specs.Steps.{Steps}
+use Rattle.cell_control.specs.declared.row.Waits.TheVariants.{UntilOwner, UntilRoom}
+use Rattle.cell_control.specs.declared.row.Waits.TheVariants.{UntilFree}
 use Rattle.cell_haul.specs.declared.deposit.DepositStep.{DepositStep}
-use Rattle.cell_haul.specs.declared.deposit.DepositStep.TheVariants.{ClaimEntry, ClaimExit, PoseLanding, ReleaseEntry, TakePlate, StartRun, RunIn, RunOut, MoveOn, PoseOffering, GivePlate, ClaimBack}
+use Rattle.cell_haul.specs.declared.deposit.DepositStep.TheVariants.{ClaimEntry, ClaimExit, PoseLanding, ReleaseEntry}
+use Rattle.cell_haul.specs.declared.deposit.DepositStep.TheVariants.{TakePlate, StartRun, RunIn, RunOut, MoveOn}
+use Rattle.cell_haul.specs.declared.deposit.DepositStep.TheVariants.{PoseOffering, GivePlate, ClaimBack}
 use Rattle.cell_haul.specs.declared.deposit.DepositProgress.{DepositProgress}
 
 -- the row of a step that asks, of one that sets a pose, and of one that drives, by the next step

@@ -1,19 +1,15 @@
 -- Examples of each row of the feed belt's program, with each state of its notes.
 use Rattle.std.specs.Prelude.{◌≡◌, pos, Bool, true, false, List, [], ◌∷◌, Ok}
-use Rattle.cell_types.specs.declared.machine.Machine.TheVariants.{Feed}
-use Rattle.cell_types.specs.declared.zone.Zone.TheVariants.{Z1, Z6}
-use Rattle.cell_types.specs.declared.place.Place.TheVariants.{FeedEnd}
-use Rattle.cell_types.specs.declared.pose.Pose.TheVariants.{Landing, Running, Halted}
-use Rattle.cell_types.specs.declared.posture.Posture.TheVariants.{Moving}
-use Rattle.cell_types.specs.declared.call.Call.TheVariants.{Claim, Give, Take, Release, SetPose, Advance}
-use Rattle.cell_types.specs.declared.answer.Event.{Event}
+use Rattle.cell_rules.specs.Types.{Feed, Z1, Z6, FeedEnd, Landing, Running, Halted, Moving, Claim, Give, Take}
+use Rattle.cell_rules.specs.Types.{Release, SetPose, Advance, Event}
 use Rattle.cell_calib.specs.declared.sense.FeedSense.{FeedSense}
 use Rattle.cell_devices.specs.declared.act.FeedAct.{FeedAct}
-use Rattle.cell_rules.specs.ModelState.{ModelState}
-use Rattle.cell_rules.specs.History.{Holds, posture_by_events, plates_at}
+use Rattle.cell_rules.specs.Names.{ModelState, Holds, posture_by_events, plates_at}
 use Rattle.cell_control.specs.Rows.{AskRow, DriveRow, CheckRow, UntilFree, UntilOwner, UntilOpen, NoOtherAnswers}
 use Rattle.cell_haul.specs.declared.feed.FeedStep.{FeedStep}
-use Rattle.cell_haul.specs.declared.feed.FeedStep.TheVariants.{ClaimEntry, PoseLanding, ReleaseEntry, TakePlate, StartIn, RunIn, MoveOn, ClaimExit, StartOut, RunOut, Halt, GivePlate}
+use Rattle.cell_haul.specs.declared.feed.FeedStep.TheVariants.{ClaimEntry, PoseLanding, ReleaseEntry, TakePlate}
+use Rattle.cell_haul.specs.declared.feed.FeedStep.TheVariants.{StartIn, RunIn, MoveOn, ClaimExit, StartOut, RunOut}
+use Rattle.cell_haul.specs.declared.feed.FeedStep.TheVariants.{Halt, GivePlate}
 use Rattle.cell_haul.specs.declared.feed.FeedProgress.{FeedProgress}
 use Rattle.cell_haul.specs.FeedProgram.{feed_steps}
 
@@ -48,13 +44,15 @@ pub record FeedStarts : Type 0 where
 pub record FeedAsks (entry last : Bool) : Type 0 where
   pub claims_entry : AskRow feed_steps (at ClaimEntry false false) (Claim Z6) [] (at PoseLanding false false)
   pub claims_entry_with_plate : AskRow feed_steps (at ClaimEntry true false) (Claim Z6) [] (at StartIn true false)
-  pub claims_entry_with_plate_at_end : AskRow feed_steps (at ClaimEntry entry true) (Claim Z6) [] (at ClaimExit entry true)
+  pub claims_entry_with_plate_at_end
+      : AskRow feed_steps (at ClaimEntry entry true) (Claim Z6) [] (at ClaimExit entry true)
   pub poses_landing : AskRow feed_steps (at PoseLanding entry last) (SetPose Landing) [] (at ReleaseEntry entry last)
   pub releases_entry : AskRow feed_steps (at ReleaseEntry entry last) (Release Z6) [] (at TakePlate entry last)
   pub takes : AskRow feed_steps (at TakePlate entry last) (Take Z6) (UntilOwner ∷ []) (at StartIn true last)
   pub starts_in : AskRow feed_steps (at StartIn entry last) (SetPose Running) [] (at RunIn entry last)
   pub moves_on : AskRow feed_steps (at MoveOn entry last) Advance [] (at ClaimExit false true)
-  pub claims_exit : AskRow feed_steps (at ClaimExit entry last) (Claim Z1) (UntilFree ∷ UntilOpen ∷ []) (at StartOut entry last)
+  pub claims_exit : AskRow feed_steps (at ClaimExit entry last) (Claim Z1) (UntilFree ∷ UntilOpen ∷ [])
+      (at StartOut entry last)
   pub starts_out : AskRow feed_steps (at StartOut entry last) (SetPose Running) [] (at RunOut entry last)
   pub halts : AskRow feed_steps (at Halt entry last) (SetPose Halted) [] (at GivePlate entry last)
   pub gives : AskRow feed_steps (at GivePlate false last) (Give Z1) [] (at PoseLanding false false)
@@ -81,4 +79,5 @@ pub record FeedRowsAreMet : Type 0 where
   pub checks : (s : FeedSense) → CheckRow feed_steps s (Ok s)
   pub no_other_answers : NoOtherAnswers feed_steps
   pub rests : (p : FeedProgress) → feed_steps.rest p ≡ stands
-  pub demands : (p : FeedProgress) (opening : ModelState) (seen : List Event) → feed_steps.motor_demands p runs opening seen → DemandsToRun opening seen
+  pub demands : (p : FeedProgress) (opening : ModelState) (seen : List Event)
+      → feed_steps.motor_demands p runs opening seen → DemandsToRun opening seen

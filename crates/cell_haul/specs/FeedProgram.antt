@@ -1,23 +1,17 @@
 -- The feed belt's program, row by row.
 use Rattle.std.specs.Prelude.{◌≡◌, pos, Bool, true, false, not, if◌then◌else◌, List, Ok}
-use Rattle.cell_types.specs.declared.machine.Machine.TheVariants.{Feed}
-use Rattle.cell_types.specs.declared.zone.Zone.TheVariants.{Z1, Z6}
-use Rattle.cell_types.specs.declared.place.Place.TheVariants.{FeedEntry, FeedEnd}
-use Rattle.cell_types.specs.declared.pose.Pose.{Pose}
-use Rattle.cell_types.specs.declared.pose.Pose.TheVariants.{Landing, Running, Halted}
-use Rattle.cell_types.specs.declared.call.Call.{Call}
-use Rattle.cell_types.specs.declared.call.Call.TheVariants.{Claim, Give, Take, Release, SetPose, Advance}
-use Rattle.cell_types.specs.declared.answer.Event.{Event}
+use Rattle.cell_rules.specs.Types.{Feed, Z1, Z6, FeedEntry, FeedEnd, Pose, Landing, Running, Halted, Call, Claim}
+use Rattle.cell_rules.specs.Types.{Give, Take, Release, SetPose, Advance, Event}
 use Rattle.cell_calib.specs.declared.sense.FeedSense.{FeedSense}
 use Rattle.cell_devices.specs.declared.act.FeedAct.{FeedAct}
-use Rattle.cell_rules.specs.ModelState.{ModelState, is_full}
-use Rattle.cell_rules.specs.History.{Holds, Moves, plates_at}
+use Rattle.cell_rules.specs.Names.{ModelState, is_full, Holds, Moves, plates_at}
+use Rattle.cell_control.specs.Names.{row_that_asks, row_that_drives, with_waits, Steps}
 use Rattle.cell_control.specs.declared.row.Row.{Row}
 use Rattle.cell_control.specs.declared.row.Waits.TheVariants.{UntilOwner, UntilFreeAndOpen}
-use Rattle.cell_control.specs.Row.{row_that_asks, row_that_drives, with_waits}
-use Rattle.cell_control.specs.Steps.{Steps}
 use Rattle.cell_haul.specs.declared.feed.FeedStep.{FeedStep}
-use Rattle.cell_haul.specs.declared.feed.FeedStep.TheVariants.{ClaimEntry, PoseLanding, ReleaseEntry, TakePlate, StartIn, RunIn, MoveOn, ClaimExit, StartOut, RunOut, Halt, GivePlate}
+use Rattle.cell_haul.specs.declared.feed.FeedStep.TheVariants.{ClaimEntry, PoseLanding, ReleaseEntry, TakePlate}
+use Rattle.cell_haul.specs.declared.feed.FeedStep.TheVariants.{StartIn, RunIn, MoveOn, ClaimExit, StartOut, RunOut}
+use Rattle.cell_haul.specs.declared.feed.FeedStep.TheVariants.{Halt, GivePlate}
 use Rattle.cell_haul.specs.declared.feed.FeedProgress.{FeedProgress}
 
 -- the row of a step that asks, of one that sets a pose, and of one that drives, by the next step

@@ -2,9 +2,7 @@
 use Rattle.std.specs.Prelude.{◌≡◌, ◌≤◌, ◌∷◌, List, length, Ok}
 use Rattle.std.specs.List.{concat}
 use Rattle.cell_types.specs.declared.answer.Event.{Event}
-use Rattle.cell_rules.specs.ModelState.{ModelState}
-use Rattle.cell_rules.specs.History.{IsLegal}
-use Rattle.cell_rules.specs.Start.{IsStartState}
+use Rattle.cell_rules.specs.Names.{ModelState, IsLegal, IsStartState}
 use Rattle.cell_replay.specs.Script.{event_lines, max_records, start_line}
 use Rattle.cell_replay.specs.Script.{script_events, script_outcome, script_start, script_text}
 use Rattle.cell_replay.specs.declared.script_start.Start.{Start}

@@ -1,19 +1,8 @@
 -- Histories with their scripts.
 use Rattle.std.specs.Prelude.{◌≡◌, true, false, [], ◌∷◌, codes, None}
-use Rattle.cell_types.specs.declared.machine.Machine.{Machine}
-use Rattle.cell_types.specs.declared.machine.Machine.TheVariants.{Robot, Press, Watch}
-use Rattle.cell_types.specs.declared.zone.Zone.TheVariants.{Z3}
-use Rattle.cell_types.specs.declared.pose.Pose.TheVariants.{Travelling}
-use Rattle.cell_types.specs.declared.posture.Posture.TheVariants.{Closed}
-use Rattle.cell_types.specs.declared.call.Call.{Call}
-use Rattle.cell_types.specs.declared.call.Call.TheVariants.{Claim, Inquire, SetPose, Stop}
-use Rattle.cell_types.specs.declared.answer.Refusal.TheVariants.{Held}
-use Rattle.cell_types.specs.declared.answer.Answer.{Answer}
-use Rattle.cell_types.specs.declared.answer.Answer.TheVariants.{Done, Refused, Shown}
-use Rattle.cell_types.specs.declared.answer.Event.{Event}
-use Rattle.cell_rules.specs.ModelState.{ModelState}
-use Rattle.cell_rules.specs.PlaceSet.{empty, place_set}
-use Rattle.cell_rules.specs.Start.{start_state}
+use Rattle.cell_rules.specs.Types.{Machine, Robot, Press, Watch, Z3, Travelling, Closed, Call, Claim, Inquire}
+use Rattle.cell_rules.specs.Types.{SetPose, Stop, Held, Answer, Done, Refused, Shown, Event}
+use Rattle.cell_rules.specs.Names.{ModelState, empty, place_set, start_state}
 use Rattle.cell_history.specs.Scripts.{script_of}
 
 abbrev pub event : Machine → Call → Answer → Event

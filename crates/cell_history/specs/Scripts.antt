@@ -3,10 +3,8 @@
 use Rattle.std.specs.Prelude.{ℕ, Bool, List, [], ◌∷◌, ◌++◌, map, if◌then◌else◌}
 use Rattle.std.specs.Fmt.{decimal}
 use Rattle.std.specs.List.{concat, list_all}
-use Rattle.cell_types.specs.declared.answer.Event.{Event}
-use Rattle.cell_types.specs.Everything.{all_places}
-use Rattle.cell_rules.specs.ModelState.{ModelState}
-use Rattle.cell_rules.specs.PlaceSet.{PlaceSet, has}
+use Rattle.cell_rules.specs.Types.{Event, all_places}
+use Rattle.cell_rules.specs.Names.{ModelState, PlaceSet, has}
 use Rattle.cell_replay.specs.Requests.{Row, request, request_fields}
 use Rattle.cell_replay.specs.Versions.{has_call, version_word}
 use Rattle.cell_replay.specs.declared.version.Version.{Version}

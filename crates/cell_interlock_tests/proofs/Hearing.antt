@@ -1,14 +1,7 @@
 -- A call after a letter comes after what it tells.
 use Rattle.std.proofs.Common.{◌≡◌, ℕ, List, [], ◌∷◌, ◌++◌, Ok, sym, ap, ◌∙◌, subst, append_assoc, append-nil}
-use Rattle.cell_types.specs.declared.machine.Machine.{Machine}
-use Rattle.cell_types.specs.declared.call.Call.{Call}
-use Rattle.cell_types.specs.declared.answer.Event.{Event}
-use Rattle.cell_types.specs.declared.reply.Reply.{Reply}
-use Rattle.cell_types.specs.declared.reply.Reply.TheVariants.{Settled, Busy}
-use Rattle.cell_rules.specs.ModelState.{ModelState}
-use Rattle.cell_rules.specs.Seen.{event, BeginsWith, SeenAfter}
-use Rattle.cell_rules.specs.History.{after}
-use Rattle.cell_rules.specs.Laws.{LawfulThroughout}
+use Rattle.cell_rules.specs.Types.{Machine, Call, Event, Reply, Settled, Busy}
+use Rattle.cell_rules.specs.Names.{ModelState, event, BeginsWith, SeenAfter, after, LawfulThroughout}
 use Rattle.cell_interlock.specs.Views.{PassView, ReceiptView}
 use Rattle.cell_interlock.specs.Calls.{IfSettled, IsStampedAfter, stamp_in}
 use Rattle.cell_interlock.specs.Seen.{HasSeenMore}

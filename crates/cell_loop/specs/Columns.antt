@@ -1,12 +1,15 @@
 -- The columns of a picture, and the pieces that they stand in.
-use Rattle.std.specs.Prelude.{ℕ, zero, suc, ◌-◌, ◌*◌, ◌/◌, ◌^◌, min, nat_lt, List, [], ◌∷◌, ◌++◌, codes, length, slice_get, Option, Some, None, if◌then◌else◌}
+use Rattle.std.specs.Prelude.{ℕ, zero, suc, ◌-◌, ◌*◌, ◌/◌, ◌^◌, min, nat_lt, List, [], ◌∷◌, ◌++◌, codes, length}
+use Rattle.std.specs.Prelude.{slice_get, Option, Some, None, if◌then◌else◌}
 use Rattle.cell_types.specs.declared.zone.Zone.TheVariants.{Z1, Z2, Z3, Z4, Z5, Z6}
 use Rattle.cell_plant.specs.declared.frame.Frame.{Frame}
 use Rattle.cell_loop.specs.declared.pieces.Piece.{Piece}
 use Rattle.cell_loop.specs.declared.pieces.Piece.TheVariants.{Text, Attribute, Transform}
 use Rattle.cell_loop.specs.declared.values.Value.{Value}
-use Rattle.cell_loop.specs.declared.values.Value.TheVariants.{FeedEdge, DepositEdge, OwnerColour, TableTurn, TableHeight, PressHeight, RobotTurn}
-use Rattle.cell_loop.specs.declared.values.Value.TheVariants.{Arm1, Arm2, CraneWay, GripperHeight, PlateShift, PlateAngle, PlateReach, PlateForged}
+use Rattle.cell_loop.specs.declared.values.Value.TheVariants.{FeedEdge, DepositEdge, OwnerColour, TableTurn}
+use Rattle.cell_loop.specs.declared.values.Value.TheVariants.{TableHeight, PressHeight, RobotTurn}
+use Rattle.cell_loop.specs.declared.values.Value.TheVariants.{Arm1, Arm2, CraneWay, GripperHeight, PlateShift}
+use Rattle.cell_loop.specs.declared.values.Value.TheVariants.{PlateAngle, PlateReach, PlateForged}
 use Rattle.cell_loop.specs.Values.{value_text}
 
 -- the values that pieces have columns of, in order
@@ -19,7 +22,8 @@ values_in (Transform kind v ∷ rest) = v ∷ values_in rest
 -- the columns of the machines and zones, and of a plate
 abbrev pub machine_values : List Value
 machine_values =
-    FeedEdge ∷ DepositEdge ∷ OwnerColour Z1 ∷ OwnerColour Z2 ∷ OwnerColour Z3 ∷ OwnerColour Z4 ∷ OwnerColour Z5 ∷ OwnerColour Z6
+    FeedEdge ∷ DepositEdge ∷ OwnerColour Z1 ∷ OwnerColour Z2 ∷ OwnerColour Z3 ∷ OwnerColour Z4 ∷ OwnerColour Z5
+    ∷ OwnerColour Z6
     ∷ TableTurn ∷ TableHeight ∷ PressHeight ∷ RobotTurn ∷ Arm2 ∷ Arm1 ∷ CraneWay ∷ GripperHeight ∷ []
 
 abbrev pub plate_values : List Value
@@ -46,11 +50,13 @@ column_end part n v = column_text v n part 101 ++ codes "\"/>"
 -- how an attribute changes, and how an element is moved or turned
 abbrev pub attribute_text : List Frame → ℕ → List ℕ → Value → List ℕ
 attribute_text part n name v =
-    (codes "<animate attributeName=\"" ++ (name ++ codes "\" dur=\"24s\" repeatCount=\"indefinite\" values=\"")) ++ column_end part n v
+    (codes "<animate attributeName=\"" ++ (name ++ codes "\" dur=\"24s\" repeatCount=\"indefinite\" values=\"")) ++
+    column_end part n v
 
 abbrev pub transform_text : List Frame → ℕ → List ℕ → Value → List ℕ
 transform_text part n kind v =
-    (codes "<animateTransform attributeName=\"transform\" type=\"" ++ (kind ++ codes "\" dur=\"24s\" repeatCount=\"indefinite\" values=\""))
+    (codes "<animateTransform attributeName=\"transform\" type=\"" ++
+    (kind ++ codes "\" dur=\"24s\" repeatCount=\"indefinite\" values=\""))
     ++ column_end part n v
 
 unfoldable pub piece_text : List Frame → ℕ → Piece → List ℕ

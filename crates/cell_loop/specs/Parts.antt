@@ -1,12 +1,8 @@
 -- Which frames of a run a picture shows.
-use Rattle.std.specs.Prelude.{ℕ, ◌+◌, Bool, true, false, ◌&&◌, List, [], ◌∷◌, take, drop, Option, Some, None, Ok, if◌then◌else◌}
-use Rattle.cell_types.specs.declared.answer.Answer.TheVariants.{Done}
-use Rattle.cell_types.specs.declared.call.Call.TheVariants.{Take}
-use Rattle.cell_types.specs.declared.machine.Machine.TheVariants.{Feed}
-use Rattle.cell_types.specs.declared.zone.Zone.TheVariants.{Z6}
-use Rattle.cell_types.specs.declared.call.Call.{Call}
-use Rattle.cell_types.specs.Same.{same_machine}
-use Rattle.cell_notes.specs.Asks.{TurnCall, is_done_reply}
+use Rattle.std.specs.Prelude.{ℕ, ◌+◌, Bool, true, false, ◌&&◌, List, [], ◌∷◌, take, drop, Option, Some, None, Ok}
+use Rattle.std.specs.Prelude.{if◌then◌else◌}
+use Rattle.cell_rules.specs.Types.{Done, Take, Feed, Z6, Call, same_machine}
+use Rattle.cell_notes.specs.Names.{TurnCall, is_done_reply}
 use Rattle.cell_notes.specs.declared.schedule.Turn.{Turn}
 use Rattle.cell_plant.specs.declared.frame.Frame.{Frame}
 

@@ -1,30 +1,22 @@
 -- What a picture shows of frames, in literal numbers and text.
 use Rattle.std.specs.Prelude.{◌≡◌, ℕ, pos, neg_ℤ, ℤ, Bool, true, false, List, [], ◌∷◌, ◌++◌, codes, Some, None, Ok}
-use Rattle.cell_types.specs.declared.answer.Answer.TheVariants.{Done, Refused}
-use Rattle.cell_types.specs.declared.answer.Refusal.TheVariants.{NoPlate}
-use Rattle.cell_types.specs.declared.call.Call.TheVariants.{Claim, Take}
-use Rattle.cell_types.specs.declared.machine.Machine.TheVariants.{Feed, Table, Robot, Press, Deposit, Crane, Watch}
-use Rattle.cell_types.specs.declared.place.Place.{Place}
+use Rattle.cell_rules.specs.Types.{Done, Refused, NoPlate, Claim, Take, Feed, Table, Robot, Press, Deposit, Crane}
+use Rattle.cell_rules.specs.Types.{Watch, Place, Posture, Closed, OpenIn, OpenOut, Settled, Busy, Zone, Z1, Z2, Z3}
+use Rattle.cell_rules.specs.Types.{Z4, Z5, Z6}
 use Rattle.cell_types.specs.declared.place.Place.TheVariants as place
-use Rattle.cell_types.specs.declared.posture.Posture.{Posture}
-use Rattle.cell_types.specs.declared.posture.Posture.TheVariants.{Closed, OpenIn, OpenOut}
-use Rattle.cell_types.specs.declared.reply.Reply.TheVariants.{Settled, Busy}
-use Rattle.cell_types.specs.declared.zone.Zone.{Zone}
-use Rattle.cell_types.specs.declared.zone.Zone.TheVariants.{Z1, Z2, Z3, Z4, Z5, Z6}
 use Rattle.cell_devices.specs.declared.motor.Motor.TheVariants.{Off}
-use Rattle.cell_rules.specs.ModelState.{ModelState}
-use Rattle.cell_rules.specs.PlaceSet.{insert_place}
-use Rattle.cell_rules.specs.ZoneMap.{put_zone}
-use Rattle.cell_parts.specs.Examples.{all_free, with_zone}
+use Rattle.cell_rules.specs.Names.{ModelState, insert_place, put_zone}
+use Rattle.cell_parts.specs.Names.{all_free, with_zone}
 use Rattle.cell_parts.specs.declared.axis.Axis.{Axis}
 use Rattle.cell_parts.specs.declared.plant.PlantState.{PlantState}
+use Rattle.cell_plant.specs.Names.{starts, has_claimed, turn_of}
 use Rattle.cell_plant.specs.declared.frame.Frame.{Frame}
-use Rattle.cell_plant.specs.FrameExamples.{starts, has_claimed}
-use Rattle.cell_plant.specs.RunExamples.{turn_of}
 use Rattle.cell_loop.specs.declared.plates.Spot.{Spot}
 use Rattle.cell_loop.specs.declared.values.Value.{Value}
-use Rattle.cell_loop.specs.declared.values.Value.TheVariants.{FeedEdge, DepositEdge, OwnerColour, TableTurn, TableHeight, PressHeight, RobotTurn}
-use Rattle.cell_loop.specs.declared.values.Value.TheVariants.{Arm1, Arm2, CraneWay, GripperHeight, PlateShift, PlateAngle, PlateReach, PlateForged}
+use Rattle.cell_loop.specs.declared.values.Value.TheVariants.{FeedEdge, DepositEdge, OwnerColour, TableTurn}
+use Rattle.cell_loop.specs.declared.values.Value.TheVariants.{TableHeight, PressHeight, RobotTurn}
+use Rattle.cell_loop.specs.declared.values.Value.TheVariants.{Arm1, Arm2, CraneWay, GripperHeight, PlateShift}
+use Rattle.cell_loop.specs.declared.values.Value.TheVariants.{PlateAngle, PlateReach, PlateForged}
 use Rattle.cell_loop.specs.Columns.{attribute_text, column_end, frame_at, transform_text}
 use Rattle.cell_loop.specs.Parts.{shown_part, takes_plate}
 use Rattle.cell_loop.specs.Pictures.{plates_in}
@@ -62,7 +54,8 @@ pub record PartExamples : Type 0 where
   pub no_take : shown_part three ≡ three
   pub one_take : shown_part takes_once ≡ takes_once
   pub two_takes : shown_part (claims 1 ∷ takes 2 ∷ claims 3 ∷ takes 4 ∷ claims 5 ∷ []) ≡ takes 2 ∷ claims 3 ∷ []
-  pub three_takes : shown_part (takes 1 ∷ claims 2 ∷ takes 3 ∷ claims 4 ∷ claims 5 ∷ takes 6 ∷ []) ≡ takes 3 ∷ claims 4 ∷ claims 5 ∷ []
+  pub three_takes : shown_part (takes 1 ∷ claims 2 ∷ takes 3 ∷ claims 4 ∷ claims 5 ∷ takes 6 ∷ []) ≡ takes 3
+      ∷ claims 4 ∷ claims 5 ∷ []
 
 -- ---- columns
 
@@ -106,9 +99,13 @@ pub record ColumnExamples : Type 0 where
   pub half : frame_at three 50 ≡ Some (claims 2)
   pub before_last : frame_at three 99 ≡ Some (claims 2)
   pub last : frame_at three 100 ≡ Some (claims 3)
-  pub column : column_end (starts ∷ frame_with all_free apart ∷ []) 0 FeedEdge ≡ fifty_ones ++ (fifty_ones ++ codes "5\"/>")
-  pub attribute : attribute_text [] 0 (codes "fill") FeedEdge ≡ codes "<animate attributeName=\"fill\" dur=\"24s\" repeatCount=\"indefinite\" values=\"\"/>"
-  pub transform : transform_text [] 0 (codes "rotate") FeedEdge ≡ codes "<animateTransform attributeName=\"transform\" type=\"rotate\" dur=\"24s\" repeatCount=\"indefinite\" values=\"\"/>"
+  pub column : column_end (starts ∷ frame_with all_free apart ∷ []) 0 FeedEdge
+      ≡ fifty_ones ++ (fifty_ones ++ codes "5\"/>")
+  pub attribute : attribute_text [] 0 (codes "fill") FeedEdge
+      ≡ codes "<animate attributeName=\"fill\" dur=\"24s\" repeatCount=\"indefinite\" values=\"\"/>"
+  pub transform : transform_text [] 0 (codes "rotate") FeedEdge
+      ≡ codes "<animateTransform attributeName=\"transform\" type=\"rotate\" dur=\"24s\" "
+      ++ codes "repeatCount=\"indefinite\" values=\"\"/>"
 
 -- ---- values
 
@@ -125,7 +122,8 @@ pub record RampExamples : Type 0 where
 
 -- each zone but the sixth has another owner
 abbrev pub owned : ModelState
-owned = with_zone (with_zone (with_zone (with_zone (with_zone all_free Feed Z1 Closed) Table Z2 Closed) Press Z3 Closed) Deposit Z4 Closed) Crane Z5 Closed
+owned = with_zone (with_zone (with_zone (with_zone (with_zone all_free Feed Z1 Closed) Table Z2 Closed) Press Z3
+    Closed) Deposit Z4 Closed) Crane Z5 Closed
 
 abbrev pub told : Value → List ℕ
 told v = value_text v 0 (frame_with owned apart)
@@ -161,7 +159,13 @@ abbrev pub flagged : Zone → Posture → ModelState
 flagged z q = record all_free { zones = put_zone all_free.zones z (record { owner = None; flag = true; posture = q }) }
 
 abbrev pub spot : ℤ → ℤ → ℤ → ℤ → Bool → Spot
-spot angle reach right down forged = record { angle = angle; reach = reach; right = right; down = down; is_forged = forged }
+spot angle reach right down forged = record {
+  angle = angle;
+  reach = reach;
+  right = right;
+  down = down;
+  is_forged = forged;
+}
 
 -- at the table, in the press, and at the deposit belt's entry, or this far from there
 abbrev pub table_spot : ℤ → Spot

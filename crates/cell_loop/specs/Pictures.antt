@@ -24,7 +24,8 @@ pub record ShowsPart (part : List Frame) (count : ℕ) (text : List ℕ) : Type 
   pub plate : List Piece
   pub columns : values_in machines ≡ machine_values
   pub plate_columns : values_in plate ≡ plate_values
-  pub whole : text ≡ PICTURE_HEAD.now ++ (pieces_text part 0 machines ++ (plates_text part plate count ++ PICTURE_TAIL.now))
+  pub whole : text ≡ PICTURE_HEAD.now ++ (pieces_text part 0 machines ++
+      (plates_text part plate count ++ PICTURE_TAIL.now))
 
 -- a text is the picture of a run's frames: it shows a part of them, and all plates
 abbrev pub IsPictureOf : List Frame → List ℕ → Type 0

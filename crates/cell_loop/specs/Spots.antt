@@ -1,12 +1,11 @@
 -- Where plates are in the picture.
-use Rattle.std.specs.Prelude.{ℕ, ◌-◌, ℤ, pos, neg_ℤ, Bool, true, false, not, ◌&&◌, nat_eq, List, [], ◌∷◌, Option, Some, None, int_lt, if◌then◌else◌}
+use Rattle.std.specs.Prelude.{ℕ, ◌-◌, ℤ, pos, neg_ℤ, Bool, true, false, not, ◌&&◌, nat_eq, List, [], ◌∷◌, Option}
+use Rattle.std.specs.Prelude.{Some, None, int_lt, if◌then◌else◌}
 use Rattle.std.specs.Int.{int_min}
-use Rattle.cell_types.specs.declared.place.Place.TheVariants.{FeedEntry, FeedEnd, Table, Arm1, PressIn, PressOut, Arm2, DepEntry, DepEnd, Crane}
-use Rattle.cell_types.specs.declared.posture.Posture.{Posture}
-use Rattle.cell_types.specs.declared.posture.Posture.TheVariants.{OpenOut}
-use Rattle.cell_types.specs.declared.zone.Zone.TheVariants.{Z1, Z2, Z3, Z4, Z5, Z6}
-use Rattle.cell_rules.specs.ModelState.{ModelState, is_full, zone_at}
-use Rattle.cell_rules.specs.Refusals.{posture_at}
+use Rattle.cell_rules.specs.Types.{FeedEntry, FeedEnd, Arm1, PressIn, PressOut, Arm2, DepEntry, DepEnd, Posture}
+use Rattle.cell_rules.specs.Types.{OpenOut, Z1, Z2, Z3, Z4, Z5, Z6}
+use Rattle.cell_types.specs.declared.place.Place.TheVariants.{Table, Crane}
+use Rattle.cell_rules.specs.Names.{ModelState, is_full, zone_at, posture_at}
 use Rattle.cell_parts.specs.declared.plant.RobotPlant.{RobotPlant}
 use Rattle.cell_plant.specs.declared.frame.Frame.{Frame}
 use Rattle.cell_loop.specs.declared.plates.Spot.{Spot}
@@ -22,7 +21,13 @@ abbrev pub at_table : ℤ → Spot
 at_table right = record { angle = neg_ℤ (pos 60); reach = pos 136; right = right; down = pos 0; is_forged = false }
 
 abbrev pub at_deposit : ℤ → ℤ → Spot
-at_deposit right down = record { angle = neg_ℤ (pos 300); reach = pos 136; right = right; down = down; is_forged = true }
+at_deposit right down = record {
+  angle = neg_ℤ (pos 300);
+  reach = pos 136;
+  right = right;
+  down = down;
+  is_forged = true;
+}
 
 abbrev pub in_press : Bool → Spot
 in_press forged = record { angle = neg_ℤ (pos 180); reach = pos 158; right = pos 0; down = pos 0; is_forged = forged }
@@ -48,12 +53,24 @@ on_deposit plate = at_deposit (ramp_at (ramp (pos 0) (pos 175)) (int_min (or_ent
 -- on an arm or at the gripper while its magnet is on, else where it was put
 unfoldable pub on_arm1 : RobotPlant → Spot → Spot
 on_arm1 r put =
-    if r.magnet1 then record { angle = arm1_angle r; reach = ramp_at (ramp (pos 70) (pos 55)) r.arm1.position; right = pos 0; down = pos 0; is_forged = false }
+    if r.magnet1 then record {
+      angle = arm1_angle r;
+      reach = ramp_at (ramp (pos 70) (pos 55)) r.arm1.position;
+      right = pos 0;
+      down = pos 0;
+      is_forged = false;
+    }
     else put
 
 unfoldable pub on_arm2 : RobotPlant → Spot → Spot
 on_arm2 r put =
-    if r.magnet2 then record { angle = less (arm1_angle r) (pos 90); reach = ramp_at (ramp (pos 70) (pos 55)) r.arm2.position; right = pos 0; down = pos 0; is_forged = true }
+    if r.magnet2 then record {
+      angle = less (arm1_angle r) (pos 90);
+      reach = ramp_at (ramp (pos 70) (pos 55)) r.arm2.position;
+      right = pos 0;
+      down = pos 0;
+      is_forged = true;
+    }
     else put
 
 unfoldable pub at_gripper : Frame → Spot → Spot
@@ -87,7 +104,8 @@ stages f =
 -- the plate with this number, in the order of the stages
 abbrev pub nth_there : List (Bool × Spot) → ℕ → Option Spot
 nth_there [] n = None
-nth_there (stage ∷ rest) n = if stage.0 then (if nat_eq n 0 then Some stage.1 else nth_there rest (n - 1)) else nth_there rest n
+nth_there (stage ∷ rest) n = if stage.0 then (if nat_eq n 0 then Some stage.1 else nth_there rest (n - 1))
+    else nth_there rest n
 
 unfoldable pub plate_spot : Frame → ℕ → Option Spot
 plate_spot f n = nth_there (stages f) n

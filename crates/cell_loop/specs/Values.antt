@@ -1,14 +1,15 @@
 -- What an animated attribute has of a frame.
 use Rattle.std.specs.Prelude.{ℕ, ℤ, pos, neg_ℤ, Bool, true, false, List, [], ◌++◌, codes, Option, Some, None}
 use Rattle.std.specs.Fmt.{signed_decimal}
-use Rattle.cell_types.specs.declared.machine.Machine.{Machine}
-use Rattle.cell_types.specs.declared.machine.Machine.TheVariants.{Feed, Table, Robot, Press, Deposit, Crane, Watch}
+use Rattle.cell_rules.specs.Types.{Machine, Feed, Table, Robot, Press, Deposit, Crane, Watch}
 use Rattle.cell_rules.specs.Refusals.{owner_of}
 use Rattle.cell_plant.specs.declared.frame.Frame.{Frame}
 use Rattle.cell_loop.specs.declared.plates.Spot.{Spot}
 use Rattle.cell_loop.specs.declared.values.Value.{Value}
-use Rattle.cell_loop.specs.declared.values.Value.TheVariants.{FeedEdge, DepositEdge, OwnerColour, TableTurn, TableHeight, PressHeight, RobotTurn}
-use Rattle.cell_loop.specs.declared.values.Value.TheVariants.{Arm1, Arm2, CraneWay, GripperHeight, PlateShift, PlateAngle, PlateReach, PlateForged}
+use Rattle.cell_loop.specs.declared.values.Value.TheVariants.{FeedEdge, DepositEdge, OwnerColour, TableTurn}
+use Rattle.cell_loop.specs.declared.values.Value.TheVariants.{TableHeight, PressHeight, RobotTurn}
+use Rattle.cell_loop.specs.declared.values.Value.TheVariants.{Arm1, Arm2, CraneWay, GripperHeight, PlateShift}
+use Rattle.cell_loop.specs.declared.values.Value.TheVariants.{PlateAngle, PlateReach, PlateForged}
 use Rattle.cell_loop.specs.declared.values.Shown.{Shown}
 use Rattle.cell_loop.specs.declared.values.Shown.TheVariants.{Nothing, Word, Number, Shift}
 use Rattle.cell_loop.specs.Ramps.{ramp, ramp_at}

@@ -34,8 +34,10 @@ pub fn guest_asks<P: Program>(
     call: Call,
 )
     requires apart { same_machine guest (P.steps controller.now.program).machine ≡ false }
-    requires reached { controller.now.stopped ≡ None → IsReached (P.steps controller.now.program) bench.old.opening bench.old.history.items controller.now.progress }
-    ensures reached { controller.now.stopped ≡ None → IsReached (P.steps controller.now.program) bench.new.opening bench.new.history.items controller.now.progress }
+    requires reached { controller.now.stopped ≡ None
+        → IsReached (P.steps controller.now.program) bench.old.opening bench.old.history.items controller.now.progress }
+    ensures reached { controller.now.stopped ≡ None
+        → IsReached (P.steps controller.now.program) bench.new.opening bench.new.history.items controller.now.progress }
 {
     let _ = controller;
     bench.seat(guest, false);

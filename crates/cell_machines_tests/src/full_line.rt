@@ -85,7 +85,8 @@ fn stops<P: Program>(
     call: Call,
 ) -> bool
     requires own { line.old.machine ≡ (P.steps controller.old.program).machine }
-    requires reached { controller.old.stopped ≡ None → IsReached (P.steps controller.old.program) line.old.opening [] controller.old.progress }
+    requires reached { controller.old.stopped ≡ None
+        → IsReached (P.steps controller.old.program) line.old.opening [] controller.old.progress }
 {
     'drives: for _ in 0..drives {
         if controller.turn(line, sense).is_err() {

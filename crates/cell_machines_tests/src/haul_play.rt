@@ -25,9 +25,11 @@ fn goes_on<P: Program, B: Part<Sense = P::Sense, Act = P::Act>>(
     turns: u32,
 ) -> Result<(), CtlFault>
     requires own { own ≡ (P.steps controller.old.program).machine }
-    requires reached { controller.old.stopped ≡ None → IsReached (P.steps controller.old.program) bench.old.opening bench.old.history.items controller.old.progress }
+    requires reached { controller.old.stopped ≡ None
+        → IsReached (P.steps controller.old.program) bench.old.opening bench.old.history.items controller.old.progress }
     ensures program { controller.new.program ≡ controller.old.program }
-    ensures reached { controller.new.stopped ≡ None → IsReached (P.steps controller.new.program) bench.new.opening bench.new.history.items controller.new.progress }
+    ensures reached { controller.new.stopped ≡ None
+        → IsReached (P.steps controller.new.program) bench.new.opening bench.new.history.items controller.new.progress }
 {
     bench.seat(own, false);
     'turns: for _ in 0..turns {
@@ -52,9 +54,11 @@ pub fn play<P: Program, B: Part<Sense = P::Sense, Act = P::Act>>(
     moves: &[Move],
 ) -> Result<(), CtlFault>
     requires own { own ≡ (P.steps controller.old.program).machine }
-    requires reached { controller.old.stopped ≡ None → IsReached (P.steps controller.old.program) bench.old.opening bench.old.history.items controller.old.progress }
+    requires reached { controller.old.stopped ≡ None
+        → IsReached (P.steps controller.old.program) bench.old.opening bench.old.history.items controller.old.progress }
     ensures program { controller.new.program ≡ controller.old.program }
-    ensures reached { controller.new.stopped ≡ None → IsReached (P.steps controller.new.program) bench.new.opening bench.new.history.items controller.new.progress }
+    ensures reached { controller.new.stopped ≡ None
+        → IsReached (P.steps controller.new.program) bench.new.opening bench.new.history.items controller.new.progress }
 {
     'moves: for next in moves {
         moves_once(controller, part, own, bench, *next)?;
@@ -71,9 +75,11 @@ fn moves_once<P: Program, B: Part<Sense = P::Sense, Act = P::Act>>(
     next: Move,
 ) -> Result<(), CtlFault>
     requires own { own ≡ (P.steps controller.old.program).machine }
-    requires reached { controller.old.stopped ≡ None → IsReached (P.steps controller.old.program) bench.old.opening bench.old.history.items controller.old.progress }
+    requires reached { controller.old.stopped ≡ None
+        → IsReached (P.steps controller.old.program) bench.old.opening bench.old.history.items controller.old.progress }
     ensures program { controller.new.program ≡ controller.old.program }
-    ensures reached { controller.new.stopped ≡ None → IsReached (P.steps controller.new.program) bench.new.opening bench.new.history.items controller.new.progress }
+    ensures reached { controller.new.stopped ≡ None
+        → IsReached (P.steps controller.new.program) bench.new.opening bench.new.history.items controller.new.progress }
 {
     match next {
         Move::Turns(turns) => goes_on(controller, part, own, bench, turns),
@@ -107,7 +113,8 @@ pub fn stops<P: Program, B: Part<Sense = P::Sense, Act = P::Act>>(
     asks: u64,
 ) -> bool
     requires own { own ≡ (P.steps controller.old.program).machine }
-    requires reached { controller.old.stopped ≡ None → IsReached (P.steps controller.old.program) bench.old.opening bench.old.history.items controller.old.progress }
+    requires reached { controller.old.stopped ≡ None
+        → IsReached (P.steps controller.old.program) bench.old.opening bench.old.history.items controller.old.progress }
 {
     bench.seat(own, false);
     let before = bench.heard().asks;

@@ -48,9 +48,11 @@ fn press_at(position: u16) -> PressSense {
 
 /// The press's position after this number of turns.
 fn go_on(press: &mut PressCtl, bench: &mut Bench, from: u16, turns: u32) -> Result<u16, CtlFault>
-    requires reached { press.old.stopped ≡ None → IsReached press_steps bench.old.opening bench.old.history.items press.old.progress }
+    requires reached { press.old.stopped ≡ None
+        → IsReached press_steps bench.old.opening bench.old.history.items press.old.progress }
     ensures own { bench.new.machine ≡ Press }
-    ensures reached { press.new.stopped ≡ None → IsReached press_steps bench.new.opening bench.new.history.items press.new.progress }
+    ensures reached { press.new.stopped ≡ None
+        → IsReached press_steps bench.new.opening bench.new.history.items press.new.progress }
 {
     let mut position = from;
     bench.seat(Machine::Press, false);
@@ -214,8 +216,10 @@ fn stopped(
 
 // The watch resumes, if it has to.
 fn watch_resumes(press: &PressCtl, bench: &mut Bench, resumes: bool)
-    requires reached { press.now.stopped ≡ None → IsReached press_steps bench.old.opening bench.old.history.items press.now.progress }
-    ensures reached { press.now.stopped ≡ None → IsReached press_steps bench.new.opening bench.new.history.items press.now.progress }
+    requires reached { press.now.stopped ≡ None
+        → IsReached press_steps bench.old.opening bench.old.history.items press.now.progress }
+    ensures reached { press.now.stopped ≡ None
+        → IsReached press_steps bench.new.opening bench.new.history.items press.now.progress }
 {
     if !resumes {
         return;

@@ -17,8 +17,10 @@ use std::test::Fail;
 // The calls of a guest, in order, if the guest isn't the robot.
 fn guest_comes<P: Program>(robot: &Controller<P>, bench: &mut Bench, guest: Machine, calls: &[Call])
     requires robot { (P.steps robot.now.program).machine ≡ Robot }
-    requires reached { robot.now.stopped ≡ None → IsReached (P.steps robot.now.program) bench.old.opening bench.old.history.items robot.now.progress }
-    ensures reached { robot.now.stopped ≡ None → IsReached (P.steps robot.now.program) bench.new.opening bench.new.history.items robot.now.progress }
+    requires reached { robot.now.stopped ≡ None
+        → IsReached (P.steps robot.now.program) bench.old.opening bench.old.history.items robot.now.progress }
+    ensures reached { robot.now.stopped ≡ None
+        → IsReached (P.steps robot.now.program) bench.new.opening bench.new.history.items robot.now.progress }
 {
     'calls: for call in calls {
         guest_comes_once(robot, bench, guest, *call);
@@ -33,8 +35,10 @@ fn guest_comes_once<P: Program>(
     call: Call,
 )
     requires robot { (P.steps robot.now.program).machine ≡ Robot }
-    requires reached { robot.now.stopped ≡ None → IsReached (P.steps robot.now.program) bench.old.opening bench.old.history.items robot.now.progress }
-    ensures reached { robot.now.stopped ≡ None → IsReached (P.steps robot.now.program) bench.new.opening bench.new.history.items robot.now.progress }
+    requires reached { robot.now.stopped ≡ None
+        → IsReached (P.steps robot.now.program) bench.old.opening bench.old.history.items robot.now.progress }
+    ensures reached { robot.now.stopped ≡ None
+        → IsReached (P.steps robot.now.program) bench.new.opening bench.new.history.items robot.now.progress }
 {
     if guest == Machine::Robot {
         return;
@@ -79,9 +83,11 @@ fn goes_on<P: Program<Sense = RobotSense, Act = RobotAct>>(
     turns: u32,
 ) -> Stand
     requires robot { (P.steps robot.old.program).machine ≡ Robot }
-    requires reached { robot.old.stopped ≡ None → IsReached (P.steps robot.old.program) bench.old.opening bench.old.history.items robot.old.progress }
+    requires reached { robot.old.stopped ≡ None
+        → IsReached (P.steps robot.old.program) bench.old.opening bench.old.history.items robot.old.progress }
     ensures robot { (P.steps robot.new.program).machine ≡ Robot }
-    ensures reached { robot.new.stopped ≡ None → IsReached (P.steps robot.new.program) bench.new.opening bench.new.history.items robot.new.progress }
+    ensures reached { robot.new.stopped ≡ None
+        → IsReached (P.steps robot.new.program) bench.new.opening bench.new.history.items robot.new.progress }
 {
     let mut at = from;
     bench.seat(Machine::Robot, false);

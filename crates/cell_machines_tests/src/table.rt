@@ -57,9 +57,11 @@ fn go_on<F: Gauge>(
     from: At,
     turns: u32,
 ) -> Result<(At, u32), CtlFault>
-    requires reached { table.old.stopped ≡ None → IsReached (table_steps table.old.program.turn.points (F.gives table.old.program.turn.gauge)) bench.old.opening bench.old.history.items table.old.progress }
+    requires reached { table.old.stopped ≡ None → IsReached (table_steps table.old.program.turn.points
+        (F.gives table.old.program.turn.gauge)) bench.old.opening bench.old.history.items table.old.progress }
     ensures own { bench.new.machine ≡ TableMachine }
-    ensures reached { table.new.stopped ≡ None → IsReached (table_steps table.new.program.turn.points (F.gives table.new.program.turn.gauge)) bench.new.opening bench.new.history.items table.new.progress }
+    ensures reached { table.new.stopped ≡ None → IsReached (table_steps table.new.program.turn.points
+        (F.gives table.new.program.turn.gauge)) bench.new.opening bench.new.history.items table.new.progress }
 {
     let (mut lift, mut turn) = from;
     let mut driven = 0u32;

@@ -1,10 +1,9 @@
 -- Values by machine.
 use Rattle.std.proofs.Common.{◌≡◌, false, refl}
-use Rattle.cell_types.specs.declared.machine.Machine.{Machine}
-use Rattle.cell_types.specs.declared.machine.Machine.TheVariants.{Feed, Table, Robot, Press, Deposit, Crane, Watch}
-use Rattle.cell_types.specs.Same.{same_machine}
+use Rattle.cell_rules.specs.Types.{Machine, Feed, Table, Robot, Press, Deposit, Crane, Watch, same_machine}
+use Rattle.cell_notes.specs.Names.{at_machine, map_machines, with_machine}
 use Rattle.cell_notes.specs.declared.by_machine.ByMachine.{ByMachine}
-use Rattle.cell_notes.specs.ByMachine.{PutIsFound, at_machine, map_machines, with_machine}
+use Rattle.cell_notes.specs.ByMachine.{PutIsFound}
 
 module _ {T : Type 0} (b : ByMachine T) where
   pub put_found : (m : Machine) (v : T) → at_machine (with_machine b m v) m ≡ v

@@ -1,8 +1,6 @@
 -- A value for each machine.
 use Rattle.std.specs.Prelude.{◌≡◌, IsFalse}
-use Rattle.cell_types.specs.declared.machine.Machine.{Machine}
-use Rattle.cell_types.specs.declared.machine.Machine.TheVariants.{Feed, Table, Robot, Press, Deposit, Crane, Watch}
-use Rattle.cell_types.specs.Same.{same_machine}
+use Rattle.cell_rules.specs.Types.{Machine, Feed, Table, Robot, Press, Deposit, Crane, Watch, same_machine}
 use Rattle.cell_notes.specs.declared.by_machine.ByMachine.{ByMachine}
 
 -- a machine's value
@@ -45,4 +43,5 @@ map_machines f b =
 -- what was put is found, and the other machines' values stay
 pub record PutIsFound {T : Type 0} (b : ByMachine T) : Type 0 where
   pub found : (m : Machine) (v : T) → at_machine (with_machine b m v) m ≡ v
-  pub others_stay : (m n : Machine) (v : T) → IsFalse (same_machine m n) → at_machine (with_machine b m v) n ≡ at_machine b n
+  pub others_stay : (m n : Machine) (v : T) → IsFalse (same_machine m n)
+      → at_machine (with_machine b m v) n ≡ at_machine b n

@@ -3,3 +3,4 @@ pub mod ByMachine
 pub mod NoteRows
 pub mod Notes
 pub mod Statuses
+pub mod Names

@@ -1,15 +1,7 @@
 -- What is kept of a turn, by what came back: rows with literal counts and entries.
 use Rattle.std.specs.Prelude.{◌≡◌, ℕ, Bool, List, [], ◌∷◌, Option, Some, None, Ok, Err, codes}
-use Rattle.cell_types.specs.declared.machine.Machine.{Machine}
-use Rattle.cell_types.specs.declared.zone.Zone.TheVariants.{Z1}
-use Rattle.cell_types.specs.declared.posture.Posture.{Posture}
-use Rattle.cell_types.specs.declared.call.Call.{Call}
-use Rattle.cell_types.specs.declared.call.Call.TheVariants.{Claim}
-use Rattle.cell_types.specs.declared.answer.Refusal.{Refusal}
-use Rattle.cell_types.specs.declared.answer.Answer.{Answer}
-use Rattle.cell_types.specs.declared.answer.Answer.TheVariants.{Done, Shown, Refused}
-use Rattle.cell_types.specs.declared.journal.Entry.{Entry}
-use Rattle.cell_types.specs.declared.reply.Reply.TheVariants.{Settled, Busy}
+use Rattle.cell_rules.specs.Types.{Machine, Z1, Posture, Call, Claim, Refusal, Answer, Done, Shown, Refused, Entry}
+use Rattle.cell_rules.specs.Types.{Settled, Busy}
 use Rattle.cell_rules.specs.declared.heard.LineFault.TheVariants as line
 use Rattle.cell_rules.specs.Seen.{event}
 use Rattle.cell_notes.specs.declared.status.Status.TheVariants as status

@@ -2,12 +2,10 @@
 use Rattle.std.proofs.Common.{◌≡◌, true, false, inl, inr, refl, arith}
 use Rattle.std.specs.Int.Signed.{le_z_yes}
 use Rattle.cell_types.specs.declared.posture.Posture.TheVariants.{Closed, Moving, OpenIn, OpenOut}
-use Rattle.cell_rules.specs.ModelState.{zone_at}
-use Rattle.cell_rules.specs.Sound.{IsSound}
+use Rattle.cell_rules.specs.Names.{zone_at, IsSound}
 use Rattle.cell_rules.proofs.Puts.{each_zone}
 use Rattle.cell_rules.proofs.Lawful.{lawful_in, sound_from}
-use Rattle.cell_parts.specs.MotorDemands.{ForTravel, AtDeposit}
-use Rattle.cell_parts.specs.Laws.{AllDemandsMet}
+use Rattle.cell_parts.specs.Names.{ForTravel, AtDeposit, AllDemandsMet}
 use Rattle.cell_parts.specs.AtWork.{all_moving, all_driven, guests_inside, guests_driven, DemandsCanBeMet}
 
 false_true : ¬ (false ≡ true)

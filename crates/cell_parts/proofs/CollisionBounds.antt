@@ -3,8 +3,7 @@ use Rattle.std.proofs.Common.{◌≡◌, ◌↔◌, ℕ, ℤ, pos, Bool, true, f
 use Rattle.std.specs.Int.Signed.{le_z_yes, lt_z_yes}
 use Rattle.cell_devices.specs.declared.motor.Motor.{Motor}
 use Rattle.cell_devices.specs.declared.motor.Motor.TheVariants.{Off, Plus, Minus}
-use Rattle.cell_parts.specs.Collisions.{DrivesPast, LetsGo}
-use Rattle.cell_parts.specs.Examples.{driven_at}
+use Rattle.cell_parts.specs.Names.{DrivesPast, LetsGo, driven_at}
 use Rattle.cell_parts.specs.CollisionExamples.{CollisionBounds, MagnetBounds, EndBounds, EachCollision}
 use Rattle.cell_parts.proofs.Contrasts.{neither, plus_on, off_plus, off_minus, false_true}
 use Rattle.cell_parts.proofs.Figures.{same, both, all_three, either, denied, only_first, only_second, order, past, below, equal, beyond, inside, driven, some}

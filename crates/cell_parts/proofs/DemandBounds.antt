@@ -2,23 +2,15 @@
 use Rattle.std.proofs.Common.{◌≡◌, ◌≢◌, ◌↔◌, ◌∙◌, sym, ap, cond, ℕ, ◌<◌, ◌≤◌, false, Some, ◌⊎◌, inl, inr, refl, arith}
 use Rattle.std.proofs.lemmas.Bool.{false_from_ne_true}
 use Rattle.std.specs.Int.Signed.{lt_z_yes}
-use Rattle.cell_types.specs.declared.machine.Machine.{Machine}
-use Rattle.cell_types.specs.declared.machine.Machine.TheVariants.{Feed, Table, Robot, Press, Deposit, Crane, Watch}
-use Rattle.cell_types.specs.declared.zone.Zone.{Zone}
-use Rattle.cell_types.specs.declared.zone.Zone.TheVariants.{Z1, Z2, Z3, Z4, Z5, Z6}
-use Rattle.cell_types.specs.declared.posture.Posture.{Posture}
-use Rattle.cell_types.specs.declared.posture.Posture.TheVariants.{Closed, OpenIn, OpenOut}
+use Rattle.cell_rules.specs.Types.{Machine, Feed, Table, Robot, Press, Deposit, Crane, Watch, Zone, Z1, Z2, Z3, Z4}
+use Rattle.cell_rules.specs.Types.{Z5, Z6, Posture, Closed, OpenIn, OpenOut, same_zone, one_zone}
 use Rattle.cell_types.specs.declared.place.Place.TheVariants as place
-use Rattle.cell_types.specs.Same.{same_zone, one_zone}
+use Rattle.cell_rules.specs.Names.{ModelState, zone_at, is_owned_by, owns, owner_of}
 use Rattle.cell_rules.specs.declared.zones.ZoneState.{ZoneState}
-use Rattle.cell_rules.specs.ModelState.{ModelState, zone_at}
-use Rattle.cell_rules.specs.Sound.{is_owned_by}
-use Rattle.cell_rules.specs.Refusals.{owns, owner_of}
 use Rattle.cell_rules.proofs.Puts.{each_zone, zone_in-put}
 use Rattle.cell_rules.proofs.Holders.{owner_is}
-use Rattle.cell_parts.specs.PositionDemands.{HoldsIn}
-use Rattle.cell_parts.specs.MotorDemands.{Rests}
-use Rattle.cell_parts.specs.Examples.{FromTo, empty_cell, with_feed, with_deposit, all_free, zone_of, with_zone}
+use Rattle.cell_parts.specs.Names.{HoldsIn, Rests, FromTo, empty_cell, all_free, with_zone}
+use Rattle.cell_parts.specs.Examples.{with_feed, with_deposit, zone_of}
 use Rattle.cell_parts.specs.DemandExamples.{AsksFor, WorksAt, Arm1WorksAt, Arm2WorksAt, GripperWorksAt, EndPlateStands, PositionDemandBounds, feed_end_full, MotorDemandBounds, DrivingBounds, RestingBounds, EachDemand}
 use Rattle.cell_parts.proofs.Contrasts.{neither, plus_on, false_true}
 use Rattle.cell_parts.proofs.Figures.{same, always, never, both, either, due, given, order, past, below, not_past, clash, inside, driven, some}

@@ -3,28 +3,25 @@ use Rattle.std.proofs.Common.{◌≡◌, ◌≢◌, ℤ, ◌≤ℤ◌, ◌<ℤ�
 use Rattle.std.proofs.lemmas.Int.{ints}
 use Rattle.std.proofs.lemmas.Bool.{false_from_ne_true}
 use Rattle.std.specs.Int.Signed.{lt_z_yes}
-use Rattle.cell_types.specs.declared.machine.Machine.{Machine}
-use Rattle.cell_types.specs.declared.machine.Machine.TheVariants.{Feed, Table, Robot, Press, Deposit, Crane}
-use Rattle.cell_types.specs.declared.zone.Zone.{Zone}
-use Rattle.cell_types.specs.declared.zone.Zone.TheVariants.{Z1, Z2, Z3, Z4, Z5, Z6}
-use Rattle.cell_types.specs.declared.posture.Posture.{Posture}
-use Rattle.cell_types.specs.declared.posture.Posture.TheVariants.{Closed, Moving, OpenIn, OpenOut}
-use Rattle.cell_types.specs.Tables.{host_of}
+use Rattle.cell_rules.specs.Types.{Machine, Feed, Table, Robot, Press, Deposit, Crane, Zone, Z1, Z2, Z3, Z4, Z5, Z6}
+use Rattle.cell_rules.specs.Types.{Posture, Closed, Moving, OpenIn, OpenOut, host_of}
 use Rattle.cell_devices.specs.declared.motor.Motor.{Motor}
 use Rattle.cell_devices.specs.declared.motor.Motor.TheVariants.{Off, Plus, Minus}
-use Rattle.cell_rules.specs.ModelState.{ModelState}
-use Rattle.cell_rules.specs.Sound.{IsSound, is_open, is_of_some_pose}
-use Rattle.cell_rules.specs.Refusals.{owns, owner_of, posture_at}
-use Rattle.cell_rules.specs.Laws.{RunsClear}
+use Rattle.cell_rules.specs.Names.{ModelState, IsSound, is_open, is_of_some_pose, owns, owner_of, posture_at}
+use Rattle.cell_rules.specs.Names.{RunsClear}
 use Rattle.cell_rules.proofs.Tables.{implied}
 use Rattle.cell_rules.proofs.Holders.{owner_is}
-use Rattle.cell_parts.specs.Axes.{Span, IsIn}
+use Rattle.cell_parts.specs.Names.{Span, IsIn, arm1_at_table, arm2_in_press, arm1_in_press, arm2_at_deposit}
+use Rattle.cell_parts.specs.Names.{over_deposit_to, over_feed_from, loads_to, IsOn, TableMoves, IsOut, IsArm1AtTable}
+use Rattle.cell_parts.specs.Names.{IsArm1InPress, IsArm2InPress, IsArm2AtDeposit, IsGripperDown, IsOverDeposit}
+use Rattle.cell_parts.specs.Names.{IsOverFeed, RestsAtLoading, PositionDemands, GripperErrand, AtDeposit, AtFeed}
+use Rattle.cell_parts.specs.Names.{ErrandDemands, MotorDemands, RotatesRetracted, Rests}
 use Rattle.cell_parts.specs.declared.plant.RobotPlant.{RobotPlant}
 use Rattle.cell_parts.specs.declared.plant.PlantState.{PlantState}
 use Rattle.cell_parts.specs.Shows.{IsTableBottom}
-use Rattle.cell_parts.specs.Collisions.{arm1_at_table, arm2_in_press, arm1_in_press, arm2_at_deposit, over_deposit_to, over_feed_from, loads_to, IsOn, TableMoves, IsOut, IsArm1AtTable, IsArm1InPress, IsArm2InPress, IsArm2AtDeposit, IsGripperDown, IsOverDeposit, IsOverFeed, ArmHitsPress, TableHitsArm, DepositBeltPulls, FeedBeltPulls, PlateMissesTable}
-use Rattle.cell_parts.specs.PositionDemands.{RestsAtLoading, EndPlatesStand, PositionDemands}
-use Rattle.cell_parts.specs.MotorDemands.{GripperErrand, AtDeposit, AtFeed, ErrandDemands, MotorDemands, RotatesRetracted, CraneDrivesIn, DrivesIn, Rests}
+use Rattle.cell_parts.specs.Collisions.{ArmHitsPress, TableHitsArm, DepositBeltPulls, FeedBeltPulls, PlateMissesTable}
+use Rattle.cell_parts.specs.PositionDemands.{EndPlatesStand}
+use Rattle.cell_parts.specs.MotorDemands.{CraneDrivesIn, DrivesIn}
 use Rattle.cell_parts.specs.Laws.{DemandsPreventCollisions, MotorDemandsKeepApart}
 
 -- no position is at most one bound and at least a later one, nor in two spans if one ends before the other begins

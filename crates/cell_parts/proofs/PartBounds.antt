@@ -3,10 +3,7 @@ use Rattle.std.proofs.Common.{◌≡◌, ◌≢◌, ◌↔◌, ℕ, Bool, true, 
 use Rattle.std.proofs.lemmas.Bool.{false_from_ne_true}
 use Rattle.std.specs.Int.Signed.{le_z_yes}
 use Rattle.cell_calib.specs.Scale.{Scale}
-use Rattle.cell_types.specs.declared.machine.Machine.TheVariants.{Feed, Deposit}
-use Rattle.cell_types.specs.declared.zone.Zone.{Zone}
-use Rattle.cell_types.specs.declared.zone.Zone.TheVariants.{Z1, Z2, Z3, Z4, Z5, Z6}
-use Rattle.cell_types.specs.declared.call.Call.TheVariants.{Give, Take}
+use Rattle.cell_rules.specs.Types.{Feed, Deposit, Zone, Z1, Z2, Z3, Z4, Z5, Z6, Give, Take}
 use Rattle.cell_parts.specs.declared.belt.Belt.{Belt}
 use Rattle.cell_parts.specs.Axes.{RobotScales}
 use Rattle.cell_parts.specs.PartExamples.{SettingExamples, MovingBounds, SensorBounds, press_sense, table_sense, robot_sense, crane_sense, feed_sense, deposit_sense, ShowingExamples, feed_hears, deposit_hears, NoteBounds, StartValues}

@@ -1,12 +1,9 @@
 -- Two states in which all demands are met while much is driven at once.
 use Rattle.std.specs.Prelude.{true, false, Some, None}
-use Rattle.cell_types.specs.declared.machine.Machine.TheVariants.{Feed, Table, Robot, Deposit, Crane, Press}
-use Rattle.cell_types.specs.declared.posture.Posture.TheVariants.{Closed, Moving, OpenIn, OpenOut}
+use Rattle.cell_rules.specs.Types.{Feed, Table, Robot, Deposit, Crane, Press, Closed, Moving, OpenIn, OpenOut}
 use Rattle.cell_types.specs.declared.place.Place.TheVariants as place
 use Rattle.cell_devices.specs.declared.motor.Motor.TheVariants.{Plus, Minus}
-use Rattle.cell_rules.specs.PlaceSet.{empty, insert_place}
-use Rattle.cell_rules.specs.ZoneMap.{zone_map}
-use Rattle.cell_rules.specs.ModelState.{ModelState, model_state}
+use Rattle.cell_rules.specs.Names.{empty, insert_place, zone_map, ModelState, model_state}
 use Rattle.cell_parts.specs.declared.plant.PlantState.{PlantState}
 use Rattle.cell_parts.specs.MotorDemands.{ForTravel, AtDeposit}
 use Rattle.cell_parts.specs.Laws.{AllDemandsMet}
@@ -42,7 +39,8 @@ all_driven = record {
 -- z1 is open for feed's plate, z3 for the second arm and z5 for the crane, and each of these guests holds its zone
 abbrev pub guests_inside : ModelState
 guests_inside =
-    model_state (zone_map (zone_of Feed OpenIn) (zone_of Table Closed) (zone_of Robot OpenOut) (zone_of Deposit Closed) (zone_of Crane OpenOut) (zone_of Feed Moving))
+    model_state (zone_map (zone_of Feed OpenIn) (zone_of Table Closed) (zone_of Robot OpenOut)
+    (zone_of Deposit Closed) (zone_of Crane OpenOut) (zone_of Feed Moving))
     (insert_place (insert_place empty place.FeedEnd) place.DepEnd) 0 false
 
 -- the feed belt runs with a plate at its end, the second arm goes into the press, and the gripper goes down to the

@@ -2,8 +2,10 @@
 use Rattle.cell_calib.specs.Scale.{Scale}
 use Rattle.cell_parts.specs.Axes.{RobotScales}
 use Rattle.cell_parts.specs.CollisionExamples.{CollisionBounds, MagnetBounds, EndBounds, EachCollision}
-use Rattle.cell_parts.specs.DemandExamples.{PositionDemandBounds, MotorDemandBounds, DrivingBounds, RestingBounds, EachDemand}
-use Rattle.cell_parts.specs.PartExamples.{SettingExamples, MovingBounds, SensorBounds, RawBounds, ShowingExamples, NoteBounds, StartValues}
+use Rattle.cell_parts.specs.DemandExamples.{PositionDemandBounds, MotorDemandBounds, DrivingBounds, RestingBounds}
+use Rattle.cell_parts.specs.DemandExamples.{EachDemand}
+use Rattle.cell_parts.specs.PartExamples.{SettingExamples, MovingBounds, SensorBounds, RawBounds, ShowingExamples}
+use Rattle.cell_parts.specs.PartExamples.{NoteBounds, StartValues}
 
 pub record BoundsAreMet : Type 0 where
   pub collisions : CollisionBounds

@@ -1,35 +1,48 @@
 -- Collisions in numbers. A rule is stated for all positions and motors of its parts: at both ends of each interval, one
 -- step inside it, one step outside, and for a motor that drives either way.
 use Rattle.std.specs.Prelude.{◌≡◌, ◌↔◌, ℕ, ◌≤◌, Bool, true, false, ◌⊎◌, IsTrue, IsSome, Option, Some, None}
-use Rattle.cell_types.specs.declared.machine.Machine.{Machine}
-use Rattle.cell_types.specs.declared.machine.Machine.TheVariants.{Table, Robot, Press, Crane}
+use Rattle.cell_rules.specs.Types.{Machine, Table, Robot, Press, Crane}
 use Rattle.cell_devices.specs.declared.motor.Motor.{Motor}
 use Rattle.cell_devices.specs.declared.motor.Motor.TheVariants.{Off, Plus, Minus}
 use Rattle.cell_parts.specs.declared.axis.Axis.{Axis}
 use Rattle.cell_parts.specs.declared.plant.PlantState.{PlantState}
-use Rattle.cell_parts.specs.Collisions.{ArmHitsPress, TableHitsArm, DepositBeltPulls, FeedBeltPulls, CraneTravelsLow, RobotTurnsWithArmOut, PlateMissesTable, PlateFalls, DrivesPastEnd, NothingCollides, NothingCollidesWhenSet}
-use Rattle.cell_parts.specs.Examples.{FromTo, IsDriven, empty_cell, driven_at, at, robot_with, robot_at, table_at, crane_with, crane_at, belt_of, with_press, with_robot, with_arm1, with_arm2, with_rotation, with_lift, with_turn, with_crane, with_travel, with_gripper}
+use Rattle.cell_parts.specs.Collisions.{ArmHitsPress, TableHitsArm, DepositBeltPulls, FeedBeltPulls, CraneTravelsLow}
+use Rattle.cell_parts.specs.Collisions.{RobotTurnsWithArmOut, PlateMissesTable, PlateFalls, DrivesPastEnd}
+use Rattle.cell_parts.specs.Collisions.{NothingCollides, NothingCollidesWhenSet}
+use Rattle.cell_parts.specs.Examples.{FromTo, IsDriven, empty_cell, driven_at, at, robot_with, robot_at, table_at}
+use Rattle.cell_parts.specs.Examples.{crane_with, crane_at, belt_of, with_press, with_robot, with_arm1, with_arm2}
+use Rattle.cell_parts.specs.Examples.{with_rotation, with_lift, with_turn, with_crane, with_travel, with_gripper}
 
 -- ---- seven collisions
 
 -- both arms at a rotation of the robot; with them the press, or the table by its height and its rotation
 abbrev pub arms_and_press : ℕ → ℕ → ℕ → Axis → PlantState
-arms_and_press arm1 arm2 rotation press = record empty_cell { robot = robot_at (at arm1) (at arm2) (at rotation); press = press }
+arms_and_press arm1 arm2 rotation press = record empty_cell {
+  robot = robot_at (at arm1) (at arm2) (at rotation);
+  press = press;
+}
 
 abbrev pub arms_and_table : ℕ → ℕ → ℕ → Axis → Axis → PlantState
-arms_and_table arm1 arm2 rotation lift turn = record empty_cell { robot = robot_at (at arm1) (at arm2) (at rotation); table = table_at lift turn }
+arms_and_table arm1 arm2 rotation lift turn =
+    record empty_cell { robot = robot_at (at arm1) (at arm2) (at rotation); table = table_at lift turn }
 
 -- the deposit belt by the plates at its entry and its end; with it both arms, or the gripper at a travel of the crane
 abbrev pub deposit_and_arms : Option ℕ → Option ℕ → Bool → ℕ → ℕ → ℕ → ℕ → ℕ → PlantState
 deposit_and_arms entry last runs arm1 arm2 rotation travel gripper =
-    record empty_cell { deposit = belt_of entry last runs; robot = robot_at (at arm1) (at arm2) (at rotation); crane = crane_at (at travel) (at gripper) }
+    record empty_cell {
+      deposit = belt_of entry last runs;
+      robot = robot_at (at arm1) (at arm2) (at rotation);
+      crane = crane_at (at travel) (at gripper);
+    }
 
 -- the feed belt; with it the gripper at a travel of the crane, or the table
 abbrev pub feed_and_crane : Option ℕ → Option ℕ → Bool → ℕ → ℕ → PlantState
-feed_and_crane entry last runs travel gripper = record empty_cell { feed = belt_of entry last runs; crane = crane_at (at travel) (at gripper) }
+feed_and_crane entry last runs travel gripper =
+    record empty_cell { feed = belt_of entry last runs; crane = crane_at (at travel) (at gripper) }
 
 abbrev pub feed_and_table : Option ℕ → Option ℕ → Bool → Axis → Axis → PlantState
-feed_and_table entry last runs lift turn = record empty_cell { feed = belt_of entry last runs; table = table_at lift turn }
+feed_and_table entry last runs lift turn =
+    record empty_cell { feed = belt_of entry last runs; table = table_at lift turn }
 
 pub record CollisionBounds : Type 0 where
   pub arm_hits_press : (arm1 arm2 rotation press : ℕ) (motor : Motor)
@@ -71,7 +84,8 @@ with_crane_magnet travel gripper on = record empty_cell { crane = crane_with (at
 -- switched on doesn't
 abbrev pub FallsBut : (ℕ → ℕ → Bool → PlantState) → (ℕ → ℕ → Type 0) → Type 0
 FallsBut magnet Laid =
-    (a b : ℕ) (before now : Bool) → PlateFalls (magnet a b before) (magnet a b now) ↔ ((before ≡ true) × (now ≡ false) × (¬ Laid a b))
+    (a b : ℕ) (before now : Bool) → PlateFalls (magnet a b before) (magnet a b now)
+    ↔ ((before ≡ true) × (now ≡ false) × (¬ Laid a b))
 
 pub record MagnetBounds : Type 0 where
   pub arm1 : FallsBut with_magnet1 (λ rotation arm. FromTo 1460 1540 rotation × FromTo 760 840 arm)
@@ -107,6 +121,7 @@ pub record EachCollision : Type 0 where
   pub crane : ¬ NothingCollides (with_crane (driven_at 1000 Plus) (at 799))
   pub robot : ¬ NothingCollides (with_robot (at 51) (at 0) (driven_at 1000 Plus))
   pub plate_and_table : ¬ NothingCollides (feed_and_table None (Some 980) true (at 11) (at 20))
-  pub when_set : ¬ NothingCollidesWhenSet Crane (with_crane (driven_at 1000 Plus) (at 799)) (with_crane (driven_at 1000 Plus) (at 799))
+  pub when_set : ¬ NothingCollidesWhenSet Crane (with_crane (driven_at 1000 Plus) (at 799))
+      (with_crane (driven_at 1000 Plus) (at 799))
   pub magnet : ¬ NothingCollidesWhenSet Robot (with_magnet1 1459 800 true) (with_magnet1 1459 800 false)
   pub end : ¬ NothingCollidesWhenSet Press (with_press (at 1000)) (with_press (driven_at 1000 Plus))

@@ -1,13 +1,14 @@
 -- Collisions: nine cases that mention only positions, plates, motors, magnets and switches.
 use Rattle.std.specs.Prelude.{◌≡◌, ◌≢◌, ℤ, pos, ◌+ℤ◌, ◌-ℤ◌, ◌≤ℤ◌, ◌<ℤ◌, Bool, true, false, ◌⊎◌, IsTrue, IsSome}
-use Rattle.cell_types.specs.declared.machine.Machine.{Machine}
-use Rattle.cell_types.specs.declared.machine.Machine.TheVariants.{Feed, Table, Robot, Press, Deposit, Crane, Watch}
+use Rattle.cell_rules.specs.Types.{Machine, Feed, Table, Robot, Press, Deposit, Crane, Watch}
+use Rattle.cell_devices.specs.Names.{retracted_to, travel_from}
 use Rattle.cell_devices.specs.declared.motor.Motor.TheVariants.{Off, Plus, Minus}
 use Rattle.cell_devices.specs.declared.stops.Stop.{Stop}
-use Rattle.cell_devices.specs.declared.stops.TheConstants.{ROTATION_ARM1_PRESS, ROTATION_ARM2_DEPOSIT, ARM1_PRESS, ARM2_DEPOSIT, GRIPPER_FEED}
-use Rattle.cell_devices.specs.Limits.{retracted_to, travel_from}
+use Rattle.cell_devices.specs.declared.stops.TheConstants.{ROTATION_ARM1_PRESS, ROTATION_ARM2_DEPOSIT, ARM1_PRESS}
+use Rattle.cell_devices.specs.declared.stops.TheConstants.{ARM2_DEPOSIT, GRIPPER_FEED}
 use Rattle.cell_parts.specs.declared.axis.Axis.{Axis}
-use Rattle.cell_parts.specs.Axes.{press_end, arm_end, rotation_end, lift_end, turn_end, crane_end, gripper_end, Span, IsIn}
+use Rattle.cell_parts.specs.Axes.{press_end, arm_end, rotation_end, lift_end, turn_end, crane_end, gripper_end, Span}
+use Rattle.cell_parts.specs.Axes.{IsIn}
 use Rattle.cell_parts.specs.declared.plant.TablePlant.{TablePlant}
 use Rattle.cell_parts.specs.declared.plant.RobotPlant.{RobotPlant}
 use Rattle.cell_parts.specs.declared.plant.CranePlant.{CranePlant}
@@ -78,7 +79,8 @@ loads_to = pos 20
 -- An arm is out in the press, and the press doesn't rest at that arm's position.
 abbrev pub ArmHitsPress : PlantState → Type 0
 ArmHitsPress p =
-    (IsOut p.robot.arm1 × IsArm1InPress p.robot × (¬ RestsAtMiddle p.press)) ⊎ (IsOut p.robot.arm2 × IsArm2InPress p.robot × (¬ RestsAtBottom p.press))
+    (IsOut p.robot.arm1 × IsArm1InPress p.robot × (¬ RestsAtMiddle p.press))
+    ⊎ (IsOut p.robot.arm2 × IsArm2InPress p.robot × (¬ RestsAtBottom p.press))
 
 -- The table moves while the first arm is out over it.
 abbrev pub TableHitsArm : PlantState → Type 0
@@ -87,7 +89,8 @@ TableHitsArm p = TableMoves p.table × IsOut p.robot.arm1 × IsArm1AtTable p.rob
 -- The deposit belt runs under the second arm or under the lowered gripper, or with a plate at its end.
 abbrev pub DepositBeltPulls : PlantState → Type 0
 DepositBeltPulls p =
-    IsTrue p.deposit.runs × ((IsOut p.robot.arm2 × IsArm2AtDeposit p.robot) ⊎ ((IsGripperDown p.crane × IsOverDeposit p.crane) ⊎ IsSome p.deposit.last))
+    IsTrue p.deposit.runs × ((IsOut p.robot.arm2 × IsArm2AtDeposit p.robot)
+    ⊎ ((IsGripperDown p.crane × IsOverDeposit p.crane) ⊎ IsSome p.deposit.last))
 
 -- The feed belt runs under the lowered gripper.
 abbrev pub FeedBeltPulls : PlantState → Type 0
@@ -104,7 +107,8 @@ RobotTurnsWithArmOut p = IsOn p.robot.rotation × (IsOut p.robot.arm1 ⊎ IsOut 
 -- The feed belt runs with a plate at its end while the table isn't ready to load.
 abbrev pub PlateMissesTable : PlantState → Type 0
 PlateMissesTable p =
-    IsTrue p.feed.runs × IsSome p.feed.last × (TableMoves p.table ⊎ ((¬ IsTableBottom p.table.lift.position) ⊎ (loads_to <ℤ p.table.turn.position)))
+    IsTrue p.feed.runs × IsSome p.feed.last
+    × (TableMoves p.table ⊎ ((¬ IsTableBottom p.table.lift.position) ⊎ (loads_to <ℤ p.table.turn.position)))
 
 -- A magnet drops its plate at a wrong place. The first arm may drop it in the press, the second over the deposit belt,
 -- the crane close above the feed belt. The first state is before a turn, the second after its motors are set.
@@ -127,7 +131,8 @@ CraneMayLetGo c = IsCraneAtFeed c.travel.position × IsAt GRIPPER_FEED c.gripper
 abbrev pub PlateFalls : PlantState → PlantState → Type 0
 PlateFalls before p =
     (LetsGo before.robot.magnet1 p.robot.magnet1 × (¬ Arm1MayLetGo p.robot))
-    ⊎ ((LetsGo before.robot.magnet2 p.robot.magnet2 × (¬ Arm2MayLetGo p.robot)) ⊎ (LetsGo before.crane.magnet p.crane.magnet × (¬ CraneMayLetGo p.crane)))
+    ⊎ ((LetsGo before.robot.magnet2 p.robot.magnet2 × (¬ Arm2MayLetGo p.robot))
+    ⊎ (LetsGo before.crane.magnet p.crane.magnet × (¬ CraneMayLetGo p.crane)))
 
 -- A machine drives one of its axes past an end in its turn: the axis is at that end, and its motor drives it outwards.
 abbrev pub DrivesPast : ℤ → Axis → Type 0
@@ -135,7 +140,8 @@ DrivesPast end a = ((a.position ≡ pos 0) × (a.motor ≡ Minus)) ⊎ ((a.posit
 
 abbrev pub DrivesPastEnd : Machine → PlantState → Type 0
 DrivesPastEnd Table p = DrivesPast lift_end p.table.lift ⊎ DrivesPast turn_end p.table.turn
-DrivesPastEnd Robot p = DrivesPast arm_end p.robot.arm1 ⊎ (DrivesPast arm_end p.robot.arm2 ⊎ DrivesPast rotation_end p.robot.rotation)
+DrivesPastEnd Robot p = DrivesPast arm_end p.robot.arm1 ⊎ (DrivesPast arm_end p.robot.arm2
+    ⊎ DrivesPast rotation_end p.robot.rotation)
 DrivesPastEnd Press p = DrivesPast press_end p.press
 DrivesPastEnd Crane p = DrivesPast crane_end p.crane.travel ⊎ DrivesPast gripper_end p.crane.gripper
 DrivesPastEnd Feed p = ⊥

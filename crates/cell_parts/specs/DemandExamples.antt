@@ -2,31 +2,30 @@
 -- motors of its parts: at both ends of each interval, one step inside it, one step outside, and for a motor that drives
 -- either way.
 use Rattle.std.specs.Prelude.{◌≡◌, ◌≢◌, ◌↔◌, ℕ, ◌≤◌, Bool, true, false, ◌⊎◌, IsTrue, IsSome, Option, Some, None}
-use Rattle.cell_types.specs.declared.machine.Machine.{Machine}
-use Rattle.cell_types.specs.declared.machine.Machine.TheVariants.{Feed, Table, Robot, Press, Deposit, Crane}
-use Rattle.cell_types.specs.declared.zone.Zone.{Zone}
-use Rattle.cell_types.specs.declared.zone.Zone.TheVariants.{Z1, Z2, Z3, Z4, Z5, Z6}
-use Rattle.cell_types.specs.declared.posture.Posture.{Posture}
-use Rattle.cell_types.specs.declared.posture.Posture.TheVariants.{Moving, OpenIn, OpenOut}
-use Rattle.cell_types.specs.declared.place.Place.{Place}
+use Rattle.cell_rules.specs.Types.{Machine, Feed, Table, Robot, Press, Deposit, Crane, Zone, Z1, Z2, Z3, Z4, Z5, Z6}
+use Rattle.cell_rules.specs.Types.{Posture, Moving, OpenIn, OpenOut, Place}
 use Rattle.cell_types.specs.declared.place.Place.TheVariants as place
 use Rattle.cell_devices.specs.declared.motor.Motor.{Motor}
 use Rattle.cell_devices.specs.declared.motor.Motor.TheVariants.{Off, Plus}
-use Rattle.cell_rules.specs.PlaceSet.{empty, insert_place}
-use Rattle.cell_rules.specs.ModelState.{ModelState}
-use Rattle.cell_rules.specs.Start.{start_state}
-use Rattle.cell_rules.specs.Refusals.{posture_at}
+use Rattle.cell_rules.specs.Names.{empty, insert_place, ModelState, start_state, posture_at}
 use Rattle.cell_parts.specs.declared.belt.Belt.{Belt}
 use Rattle.cell_parts.specs.declared.plant.PlantState.{PlantState}
-use Rattle.cell_parts.specs.PositionDemands.{RestsAtLoading, Arm1OutDemands, Arm2OutDemands, PressStands, TableStands, GripperDownDemands, EndPlatesStand, PositionDemands}
-use Rattle.cell_parts.specs.MotorDemands.{PressMotorDemands, TableMotorDemands, FeedMotorDemands, DepositMotorDemands, Arm1MotorDemands, Arm2MotorDemands, GripperErrand, ForTravel, AtDeposit, AtFeed, GripperMotorDemands, MotorDemands, TravelsHigh, RotatesRetracted, DrivesIn, Rests}
-use Rattle.cell_parts.specs.Examples.{FromTo, IsDriven, empty_cell, cell_with_plate_at, driven_at, at, robot_at, table_at, crane_at, belt_of, with_feed, with_deposit, with_table, with_robot, with_crane, with_press, with_lift, all_free, with_zone, held_by}
+use Rattle.cell_parts.specs.PositionDemands.{RestsAtLoading, Arm1OutDemands, Arm2OutDemands, PressStands, TableStands}
+use Rattle.cell_parts.specs.PositionDemands.{GripperDownDemands, EndPlatesStand, PositionDemands}
+use Rattle.cell_parts.specs.MotorDemands.{PressMotorDemands, TableMotorDemands, FeedMotorDemands, DepositMotorDemands}
+use Rattle.cell_parts.specs.MotorDemands.{Arm1MotorDemands, Arm2MotorDemands, GripperErrand, ForTravel, AtDeposit}
+use Rattle.cell_parts.specs.MotorDemands.{AtFeed, GripperMotorDemands, MotorDemands, TravelsHigh, RotatesRetracted}
+use Rattle.cell_parts.specs.MotorDemands.{DrivesIn, Rests}
+use Rattle.cell_parts.specs.Examples.{FromTo, IsDriven, empty_cell, cell_with_plate_at, driven_at, at, robot_at}
+use Rattle.cell_parts.specs.Examples.{table_at, crane_at, belt_of, with_feed, with_deposit, with_table, with_robot}
+use Rattle.cell_parts.specs.Examples.{with_crane, with_press, with_lift, all_free, with_zone, held_by}
 
 -- ---- whose zone is demanded, which one, and in which posture
 
 -- Exactly this is demanded, whatever the others hold: a machine holds a zone in a posture. Nothing less meets the
 -- demand, nor does another machine, another zone or another posture.
-pub record AsksFor (others : ModelState) (m : Machine) (z : Zone) (q : Posture) (Demands : ModelState → Type 0) : Type 0 where
+pub record AsksFor (others : ModelState) (m : Machine) (z : Zone) (q : Posture) (Demands : ModelState → Type 0)
+    : Type 0 where
   pub met : Demands (with_zone others m z q)
   pub of_nobody : ¬ Demands others
   pub of_no_other : (n : Machine) → n ≢ m → ¬ Demands (with_zone others n z q)
@@ -35,7 +34,8 @@ pub record AsksFor (others : ModelState) (m : Machine) (z : Zone) (q : Posture) 
 
 -- What works at two places demands at each position of a place that place's zone, open for it; elsewhere no state meets
 -- the demand.
-pub record WorksAt (m : Machine) (First : ℕ → Type 0) (y : Zone) (q : Posture) (Second : ℕ → Type 0) (z : Zone) (r : Posture)
+pub record WorksAt (m : Machine) (First : ℕ → Type 0) (y : Zone) (q : Posture) (Second : ℕ → Type 0) (z : Zone)
+    (r : Posture)
     (Demands : ℕ → ModelState → Type 0) : Type 0 where
   pub first : (p : ℕ) → First p → AsksFor all_free m y q (Demands p)
   pub second : (p : ℕ) → Second p → AsksFor all_free m z r (Demands p)
@@ -65,10 +65,14 @@ pub record EndPlateStands (end : Place) (with_belt : Belt → PlantState) : Type
   pub absent : (entry : Option ℕ) (runs : Bool) → EndPlatesStand all_free (with_belt (belt_of entry None runs))
 
 pub record PositionDemandBounds : Type 0 where
-  pub arm1_in : (s : ModelState) (arm rotation : ℕ) → arm ≤ 50 → Arm1OutDemands s (with_robot (at arm) (at 0) (at rotation))
-  pub arm1_out : (arm : ℕ) → 51 ≤ arm → Arm1WorksAt (λ rotation s. Arm1OutDemands s (with_robot (at arm) (at 0) (at rotation)))
-  pub arm2_in : (s : ModelState) (arm rotation : ℕ) → arm ≤ 50 → Arm2OutDemands s (with_robot (at 0) (at arm) (at rotation))
-  pub arm2_out : (arm : ℕ) → 51 ≤ arm → Arm2WorksAt (λ rotation s. Arm2OutDemands s (with_robot (at 0) (at arm) (at rotation)))
+  pub arm1_in : (s : ModelState) (arm rotation : ℕ) → arm ≤ 50
+      → Arm1OutDemands s (with_robot (at arm) (at 0) (at rotation))
+  pub arm1_out : (arm : ℕ) → 51 ≤ arm → Arm1WorksAt (λ rotation s. Arm1OutDemands s
+      (with_robot (at arm) (at 0) (at rotation)))
+  pub arm2_in : (s : ModelState) (arm rotation : ℕ) → arm ≤ 50
+      → Arm2OutDemands s (with_robot (at 0) (at arm) (at rotation))
+  pub arm2_out : (arm : ℕ) → 51 ≤ arm → Arm2WorksAt (λ rotation s. Arm2OutDemands s
+      (with_robot (at 0) (at arm) (at rotation)))
   pub gripper_up : (s : ModelState) (travel gripper : ℕ)
       → 800 ≤ gripper → GripperDownDemands s (with_crane (at travel) (at gripper))
   pub gripper_down : (gripper : ℕ)
@@ -80,8 +84,10 @@ pub record PositionDemandBounds : Type 0 where
   pub press_for_nobody : (s : ModelState) (p : PlantState)
       → posture_at s Z3 ≢ OpenIn → posture_at s Z3 ≢ OpenOut → PressStands s p
   pub rests_at_loading : (lift turn : ℕ) (height turning : Motor)
-      → RestsAtLoading (table_at (driven_at lift height) (driven_at turn turning)) ↔ ((height ≡ Off) × (turning ≡ Off) × (lift ≤ 10) × (turn ≤ 20))
-  pub table_for_feed : (s : ModelState) (p : PlantState) → posture_at s Z1 ≡ OpenIn → TableStands s p ↔ RestsAtLoading p.table
+      → RestsAtLoading (table_at (driven_at lift height) (driven_at turn turning))
+      ↔ ((height ≡ Off) × (turning ≡ Off) × (lift ≤ 10) × (turn ≤ 20))
+  pub table_for_feed : (s : ModelState) (p : PlantState) → posture_at s Z1 ≡ OpenIn → TableStands s p
+      ↔ RestsAtLoading p.table
   pub table_for_nobody : (s : ModelState) (p : PlantState) → posture_at s Z1 ≢ OpenIn → TableStands s p
   pub feed_plate : EndPlateStands place.FeedEnd with_feed
   pub deposit_plate : EndPlateStands place.DepEnd with_deposit
@@ -104,12 +110,16 @@ pub record MotorDemandBounds : Type 0 where
   pub nothing_driven : (errand : GripperErrand) (s : ModelState) (p : PlantState)
       → ((m : Machine) → Rests p m) → MotorDemands errand s p
   pub press : (press : ℕ) (motor : Motor)
-      → IsDriven motor → AsksFor all_free Press Z3 Moving (λ s. PressMotorDemands s (with_press (driven_at press motor)))
+      → IsDriven motor → AsksFor all_free Press Z3 Moving (λ s. PressMotorDemands s
+      (with_press (driven_at press motor)))
   pub table_at_z1 : (lift turn : ℕ) (height turning : Motor) → IsDriven height ⊎ IsDriven turning
-      → AsksFor (held_by Table Z2 Moving) Table Z1 Moving (λ s. TableMotorDemands s (with_table (driven_at lift height) (driven_at turn turning)))
+      → AsksFor (held_by Table Z2 Moving) Table Z1 Moving (λ s. TableMotorDemands s
+      (with_table (driven_at lift height) (driven_at turn turning)))
   pub table_at_z2 : (lift turn : ℕ) (height turning : Motor) → IsDriven height ⊎ IsDriven turning
-      → AsksFor (held_by Table Z1 Moving) Table Z2 Moving (λ s. TableMotorDemands s (with_table (driven_at lift height) (driven_at turn turning)))
-  pub feed_at_z6 : (entry last : Option ℕ) → AsksFor all_free Feed Z6 Moving (λ s. FeedMotorDemands s (feed_runs entry last))
+      → AsksFor (held_by Table Z1 Moving) Table Z2 Moving (λ s. TableMotorDemands s
+      (with_table (driven_at lift height) (driven_at turn turning)))
+  pub feed_at_z6 : (entry last : Option ℕ)
+      → AsksFor all_free Feed Z6 Moving (λ s. FeedMotorDemands s (feed_runs entry last))
   pub feed_at_z1 : (entry last : Option ℕ) (q : Posture)
       → FeedMotorDemands (with_zone feed_end_full Feed Z1 q) (feed_runs entry last)
   pub z1_of_another : (entry last : Option ℕ) (q : Posture) (m : Machine)
@@ -125,13 +135,16 @@ pub record MotorDemandBounds : Type 0 where
       → Arm2WorksAt (λ rotation s. Arm2MotorDemands s (with_robot (at 0) (driven_at arm motor) (at rotation)))
   pub gripper_for_travel : (s : ModelState) (p : PlantState) → GripperMotorDemands ForTravel s p
   pub gripper_at_deposit : (travel gripper : ℕ) (motor : Motor) → IsDriven motor
-      → AsksFor all_free Crane Z5 OpenOut (λ s. GripperMotorDemands AtDeposit s (with_crane (at travel) (driven_at gripper motor)))
+      → AsksFor all_free Crane Z5 OpenOut (λ s. GripperMotorDemands AtDeposit s
+      (with_crane (at travel) (driven_at gripper motor)))
   pub gripper_at_feed : (travel gripper : ℕ) (motor : Motor) → IsDriven motor
-      → AsksFor all_free Crane Z6 OpenIn (λ s. GripperMotorDemands AtFeed s (with_crane (at travel) (driven_at gripper motor)))
+      → AsksFor all_free Crane Z6 OpenIn (λ s. GripperMotorDemands AtFeed s
+      (with_crane (at travel) (driven_at gripper motor)))
   pub travels_high : (travel gripper : ℕ) (motor : Motor)
       → TravelsHigh (crane_at (driven_at travel motor) (at gripper)) ↔ (IsDriven motor → 800 ≤ gripper)
   pub rotates_retracted : (arm1 arm2 rotation : ℕ) (motor : Motor)
-      → RotatesRetracted (robot_at (at arm1) (at arm2) (driven_at rotation motor)) ↔ (IsDriven motor → (arm1 ≤ 50) × (arm2 ≤ 50))
+      → RotatesRetracted (robot_at (at arm1) (at arm2) (driven_at rotation motor))
+      ↔ (IsDriven motor → (arm1 ≤ 50) × (arm2 ≤ 50))
 
 -- ---- who drives in a zone, and who rests
 
@@ -143,9 +156,11 @@ pub record DrivingBounds : Type 0 where
   pub press : (errand : GripperErrand) (press : ℕ) (motor : Motor)
       → DrivesIn errand (with_press (driven_at press motor)) Press Z3 ↔ IsDriven motor
   pub table_in_z1 : (errand : GripperErrand) (lift turn : ℕ) (height turning : Motor)
-      → DrivesIn errand (with_table (driven_at lift height) (driven_at turn turning)) Table Z1 ↔ (IsDriven height ⊎ IsDriven turning)
+      → DrivesIn errand (with_table (driven_at lift height) (driven_at turn turning)) Table Z1
+      ↔ (IsDriven height ⊎ IsDriven turning)
   pub table_in_z2 : (errand : GripperErrand) (lift turn : ℕ) (height turning : Motor)
-      → DrivesIn errand (with_table (driven_at lift height) (driven_at turn turning)) Table Z2 ↔ (IsDriven height ⊎ IsDriven turning)
+      → DrivesIn errand (with_table (driven_at lift height) (driven_at turn turning)) Table Z2
+      ↔ (IsDriven height ⊎ IsDriven turning)
   pub feed_in_z6 : (errand : GripperErrand) (entry last : Option ℕ) (runs : Bool)
       → DrivesIn errand (with_feed (belt_of entry last runs)) Feed Z6 ↔ IsTrue runs
   pub feed_in_z1 : (errand : GripperErrand) (entry last : Option ℕ) (runs : Bool)
@@ -157,7 +172,8 @@ pub record DrivingBounds : Type 0 where
   pub robot_in_z2 : (errand : GripperErrand) (arm1 arm2 : Motor) (rotation : ℕ)
       → DrivesIn errand (arms_driven arm1 arm2 rotation) Robot Z2 ↔ (IsDriven arm1 × FromTo 200 400 rotation)
   pub robot_in_z3 : (errand : GripperErrand) (arm1 arm2 : Motor) (rotation : ℕ)
-      → DrivesIn errand (arms_driven arm1 arm2 rotation) Robot Z3 ↔ ((IsDriven arm1 × FromTo 1400 1600 rotation) ⊎ (IsDriven arm2 × FromTo 500 700 rotation))
+      → DrivesIn errand (arms_driven arm1 arm2 rotation) Robot Z3
+      ↔ ((IsDriven arm1 × FromTo 1400 1600 rotation) ⊎ (IsDriven arm2 × FromTo 500 700 rotation))
   pub robot_in_z4 : (errand : GripperErrand) (arm1 arm2 : Motor) (rotation : ℕ)
       → DrivesIn errand (arms_driven arm1 arm2 rotation) Robot Z4 ↔ (IsDriven arm2 × FromTo 1700 1900 rotation)
   pub gripper_in_z5 : (travel gripper : ℕ) (motor : Motor)
@@ -171,9 +187,11 @@ pub record RestingBounds : Type 0 where
   pub table : (lift turn : ℕ) (height turning : Motor)
       → Rests (with_table (driven_at lift height) (driven_at turn turning)) Table ↔ ((height ≡ Off) × (turning ≡ Off))
   pub robot : (arm1 arm2 rotation : Motor)
-      → Rests (with_robot (driven_at 300 arm1) (driven_at 300 arm2) (driven_at 1000 rotation)) Robot ↔ ((arm1 ≡ Off) × (arm2 ≡ Off) × (rotation ≡ Off))
+      → Rests (with_robot (driven_at 300 arm1) (driven_at 300 arm2) (driven_at 1000 rotation)) Robot
+      ↔ ((arm1 ≡ Off) × (arm2 ≡ Off) × (rotation ≡ Off))
   pub press : (press : ℕ) (motor : Motor) → Rests (with_press (driven_at press motor)) Press ↔ (motor ≡ Off)
-  pub deposit : (entry last : Option ℕ) (runs : Bool) → Rests (with_deposit (belt_of entry last runs)) Deposit ↔ (runs ≡ false)
+  pub deposit : (entry last : Option ℕ) (runs : Bool) → Rests (with_deposit (belt_of entry last runs)) Deposit
+      ↔ (runs ≡ false)
   pub crane : (travel gripper : ℕ) (motor height : Motor)
       → Rests (with_crane (driven_at travel motor) (driven_at gripper height)) Crane ↔ ((motor ≡ Off) × (height ≡ Off))
 

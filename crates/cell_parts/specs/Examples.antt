@@ -1,16 +1,10 @@
 -- What the examples of the plant are made of. What isn't named is as at the start in a cell without plates.
 use Rattle.std.specs.Prelude.{◌≡◌, ℕ, ◌≤◌, pos, Bool, false, ◌⊎◌, Option, Some, None, option_map}
-use Rattle.cell_types.specs.declared.machine.Machine.{Machine}
-use Rattle.cell_types.specs.declared.zone.Zone.{Zone}
-use Rattle.cell_types.specs.declared.posture.Posture.{Posture}
-use Rattle.cell_types.specs.declared.place.Place.{Place}
+use Rattle.cell_rules.specs.Types.{Machine, Zone, Posture, Place}
 use Rattle.cell_devices.specs.declared.motor.Motor.{Motor}
 use Rattle.cell_devices.specs.declared.motor.Motor.TheVariants.{Off, Plus, Minus}
+use Rattle.cell_rules.specs.Names.{empty, insert_place, put_zone, ModelState, start_state}
 use Rattle.cell_rules.specs.declared.zones.ZoneState.{ZoneState}
-use Rattle.cell_rules.specs.PlaceSet.{empty, insert_place}
-use Rattle.cell_rules.specs.ZoneMap.{put_zone}
-use Rattle.cell_rules.specs.ModelState.{ModelState}
-use Rattle.cell_rules.specs.Start.{start_state}
 use Rattle.cell_parts.specs.declared.axis.Axis.{Axis}
 use Rattle.cell_parts.specs.declared.belt.Belt.{Belt}
 use Rattle.cell_parts.specs.declared.plant.TablePlant.{TablePlant}
@@ -44,7 +38,13 @@ at position = driven_at position Off
 -- parts of the plant: the robot by both arms and its rotation, with given magnets or both off; the crane by its travel
 -- and its gripper
 abbrev pub robot_with : Axis → Axis → Axis → Bool → Bool → RobotPlant
-robot_with arm1 arm2 rotation magnet1 magnet2 = record { arm1 = arm1; arm2 = arm2; rotation = rotation; magnet1 = magnet1; magnet2 = magnet2 }
+robot_with arm1 arm2 rotation magnet1 magnet2 = record {
+  arm1 = arm1;
+  arm2 = arm2;
+  rotation = rotation;
+  magnet1 = magnet1;
+  magnet2 = magnet2;
+}
 
 abbrev pub robot_at : Axis → Axis → Axis → RobotPlant
 robot_at arm1 arm2 rotation = robot_with arm1 arm2 rotation false false
@@ -61,7 +61,11 @@ crane_at travel gripper = crane_with travel gripper false
 -- a belt by the plates at its entry and its end, each absent or at a position; by its end's alone, by its entry's
 -- alone, and by both
 abbrev pub belt_of : Option ℕ → Option ℕ → Bool → Belt
-belt_of entry last runs = record { entry = option_map (λ p. pos p) entry; last = option_map (λ p. pos p) last; runs = runs }
+belt_of entry last runs = record {
+  entry = option_map (λ p. pos p) entry;
+  last = option_map (λ p. pos p) last;
+  runs = runs;
+}
 
 abbrev pub belt_with : Option ℕ → Bool → Belt
 belt_with last runs = belt_of None last runs

@@ -1,12 +1,7 @@
 -- Laws of a single state of interlock and plant, however it arose.
 use Rattle.std.specs.Prelude.{◌≡◌, IsTrue}
-use Rattle.cell_types.specs.declared.machine.Machine.{Machine}
-use Rattle.cell_types.specs.declared.zone.Zone.{Zone}
-use Rattle.cell_types.specs.Tables.{host_of}
-use Rattle.cell_rules.specs.ModelState.{ModelState}
-use Rattle.cell_rules.specs.Sound.{IsSound, is_open}
-use Rattle.cell_rules.specs.Refusals.{owns, posture_at}
-use Rattle.cell_rules.specs.Laws.{RunsClear}
+use Rattle.cell_rules.specs.Types.{Machine, Zone, host_of}
+use Rattle.cell_rules.specs.Names.{ModelState, IsSound, is_open, owns, posture_at, RunsClear}
 use Rattle.cell_parts.specs.declared.plant.PlantState.{PlantState}
 use Rattle.cell_parts.specs.Collisions.{NothingCollides}
 use Rattle.cell_parts.specs.PositionDemands.{EndPlatesStand, PositionDemands}
@@ -24,7 +19,8 @@ pub record AllDemandsMet (errand : GripperErrand) (s : ModelState) (p : PlantSta
 
 -- nothing collides if all demands are met
 abbrev pub DemandsPreventCollisions : Type 0
-DemandsPreventCollisions = (errand : GripperErrand) (s : ModelState) (p : PlantState) → AllDemandsMet errand s p → NothingCollides p
+DemandsPreventCollisions = (errand : GripperErrand) (s : ModelState) (p : PlantState) → AllDemandsMet errand s p
+    → NothingCollides p
 
 -- a machine rests while a zone that it hosts is open; a machine that drives in a zone holds it; two machines never
 -- drive in one zone
@@ -36,4 +32,5 @@ pub record KeepApart (errand : GripperErrand) (s : ModelState) (p : PlantState) 
 -- machines keep apart if motors have what they demand, and plates are at the belts' ends if and only if those places
 -- are full
 abbrev pub MotorDemandsKeepApart : Type 0
-MotorDemandsKeepApart = (errand : GripperErrand) (s : ModelState) (p : PlantState) → EndPlatesStand s p → MotorDemands errand s p → KeepApart errand s p
+MotorDemandsKeepApart = (errand : GripperErrand) (s : ModelState) (p : PlantState) → EndPlatesStand s p
+    → MotorDemands errand s p → KeepApart errand s p

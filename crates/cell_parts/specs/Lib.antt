@@ -12,3 +12,4 @@ pub mod Plant
 pub mod PositionDemands
 pub mod Rigs
 pub mod Shows
+pub mod Names

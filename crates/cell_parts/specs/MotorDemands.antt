@@ -1,20 +1,17 @@
 -- What a motor that is on, or a running belt, demands of the interlock and of its own machine. The demand holds in
 -- every state of a run, also of motors that stay on during other machines' turns.
 use Rattle.std.specs.Prelude.{◌≡◌, false, ◌⊎◌, IsTrue, IsSome, ⊤}
-use Rattle.cell_types.specs.declared.machine.Machine.{Machine}
-use Rattle.cell_types.specs.declared.machine.Machine.TheVariants.{Feed, Table, Robot, Press, Deposit, Crane, Watch}
-use Rattle.cell_types.specs.declared.zone.Zone.{Zone}
-use Rattle.cell_types.specs.declared.zone.Zone.TheVariants.{Z1, Z2, Z3, Z4, Z5, Z6}
-use Rattle.cell_types.specs.declared.posture.Posture.TheVariants.{Moving}
-use Rattle.cell_types.specs.declared.place.Place.TheVariants.{FeedEnd}
+use Rattle.cell_rules.specs.Types.{Machine, Feed, Table, Robot, Press, Deposit, Crane, Watch, Zone, Z1, Z2, Z3, Z4}
+use Rattle.cell_rules.specs.Types.{Z5, Z6, Moving, FeedEnd}
 use Rattle.cell_devices.specs.declared.motor.Motor.TheVariants.{Off}
-use Rattle.cell_rules.specs.ModelState.{ModelState, is_full}
-use Rattle.cell_rules.specs.Refusals.{owns}
+use Rattle.cell_rules.specs.Names.{ModelState, is_full, owns}
 use Rattle.cell_parts.specs.declared.plant.RobotPlant.{RobotPlant}
 use Rattle.cell_parts.specs.declared.plant.CranePlant.{CranePlant}
 use Rattle.cell_parts.specs.declared.plant.PlantState.{PlantState}
-use Rattle.cell_parts.specs.Collisions.{IsOn, IsOut, IsArm1AtTable, IsArm2InPress, IsArm1InPress, IsArm2AtDeposit, IsGripperDown, TableMoves}
-use Rattle.cell_parts.specs.PositionDemands.{HoldsIn, Arm1HasTable, Arm1HasPress, Arm2HasPress, Arm2HasDeposit, CraneHasDeposit, CraneHasFeed}
+use Rattle.cell_parts.specs.Collisions.{IsOn, IsOut, IsArm1AtTable, IsArm2InPress, IsArm1InPress, IsArm2AtDeposit}
+use Rattle.cell_parts.specs.Collisions.{IsGripperDown, TableMoves}
+use Rattle.cell_parts.specs.PositionDemands.{HoldsIn, Arm1HasTable, Arm1HasPress, Arm2HasPress, Arm2HasDeposit}
+use Rattle.cell_parts.specs.PositionDemands.{CraneHasDeposit, CraneHasFeed}
 
 -- the press moves only while it holds its interior, which moves
 abbrev pub PressMotorDemands : ModelState → PlantState → Type 0
@@ -26,7 +23,8 @@ TableMotorDemands s p = TableMoves p.table → HoldsIn Moving s Table Z1 × Hold
 
 -- the feed belt runs only while feed holds z6, which moves, and holds z1 if a plate is at its end
 abbrev pub FeedMotorDemands : ModelState → PlantState → Type 0
-FeedMotorDemands s p = IsTrue p.feed.runs → HoldsIn Moving s Feed Z6 × (IsTrue (is_full s FeedEnd) → IsTrue (owns s Feed Z1))
+FeedMotorDemands s p = IsTrue p.feed.runs
+    → HoldsIn Moving s Feed Z6 × (IsTrue (is_full s FeedEnd) → IsTrue (owns s Feed Z1))
 
 -- the deposit belt runs only while deposit holds both its zones, which move
 abbrev pub DepositMotorDemands : ModelState → PlantState → Type 0

@@ -1,25 +1,18 @@
 -- Examples of the parts: how they obey commands, how they move, what their sensors show, what they note, and where they
 -- start.
 use Rattle.std.specs.Prelude.{◌≡◌, ◌≢◌, ◌↔◌, ℕ, ◌≤◌, pos, Bool, true, false, Some, None}
-use Rattle.cell_types.specs.declared.machine.Machine.{Machine}
-use Rattle.cell_types.specs.declared.machine.Machine.TheVariants.{Feed, Table, Robot, Press, Deposit, Crane}
-use Rattle.cell_types.specs.declared.zone.Zone.{Zone}
-use Rattle.cell_types.specs.declared.zone.Zone.TheVariants.{Z1, Z4, Z5, Z6}
-use Rattle.cell_types.specs.declared.pose.Pose.{Pose}
-use Rattle.cell_types.specs.declared.call.Call.{Call}
-use Rattle.cell_types.specs.declared.call.Call.TheVariants.{Claim, Give, Yield, Take, Release, SetPose, Advance, Inquire}
-use Rattle.cell_types.specs.declared.answer.Answer.TheVariants.{Done, Refused}
-use Rattle.cell_types.specs.declared.answer.Event.{Event}
-use Rattle.cell_types.specs.declared.answer.Refusal.TheVariants.{NoPlate}
+use Rattle.cell_rules.specs.Types.{Machine, Feed, Table, Robot, Press, Deposit, Crane, Zone, Z1, Z4, Z5, Z6, Pose}
+use Rattle.cell_rules.specs.Types.{Call, Claim, Give, Yield, Take, Release, SetPose, Advance, Inquire, Done, Refused}
+use Rattle.cell_rules.specs.Types.{Event, NoPlate}
 use Rattle.cell_types.specs.declared.place.Place.TheVariants as place
-use Rattle.cell_calib.specs.Scale.{Scale}
-use Rattle.cell_calib.specs.Examples.{scale_of}
+use Rattle.cell_calib.specs.Names.{Scale}
 use Rattle.cell_calib.specs.declared.sense.FeedSense.{FeedSense}
 use Rattle.cell_calib.specs.declared.sense.TableSense.{TableSense}
 use Rattle.cell_calib.specs.declared.sense.RobotSense.{RobotSense}
 use Rattle.cell_calib.specs.declared.sense.PressSense.{PressSense}
 use Rattle.cell_calib.specs.declared.sense.DepositSense.{DepositSense}
 use Rattle.cell_calib.specs.declared.sense.CraneSense.{CraneSense}
+use Rattle.cell_calib.specs.Examples.{scale_of}
 use Rattle.cell_devices.specs.declared.motor.Motor.{Motor}
 use Rattle.cell_devices.specs.declared.motor.Motor.TheVariants.{Off, Plus, Minus}
 use Rattle.cell_devices.specs.declared.act.FeedAct.{FeedAct}
@@ -35,10 +28,12 @@ use Rattle.cell_parts.specs.Axes.{RobotScales}
 use Rattle.cell_parts.specs.declared.plant.TablePlant.{TablePlant}
 use Rattle.cell_parts.specs.declared.plant.RobotPlant.{RobotPlant}
 use Rattle.cell_parts.specs.declared.plant.CranePlant.{CranePlant}
-use Rattle.cell_parts.specs.Shows.{IsPressBottom, IsPressMiddle, IsPressTop, IsTableBottom, IsTableTop, IsCraneAtDeposit, IsCraneAtFeed, IsInBarrier, ShowsRaw}
+use Rattle.cell_parts.specs.Shows.{IsPressBottom, IsPressMiddle, IsPressTop, IsTableBottom, IsTableTop}
+use Rattle.cell_parts.specs.Shows.{IsCraneAtDeposit, IsCraneAtFeed, IsInBarrier, ShowsRaw}
 use Rattle.cell_parts.specs.Collisions.{NothingCollides}
 use Rattle.cell_parts.specs.Rigs.{feed_rig, table_rig, robot_rig, press_rig, deposit_rig, crane_rig}
-use Rattle.cell_parts.specs.Examples.{FromTo, empty_cell, cell_with_plate_at, driven_at, at, robot_with, robot_at, table_at, crane_with, crane_at, belt_with, belt_entered_at, belt_at}
+use Rattle.cell_parts.specs.Examples.{FromTo, empty_cell, cell_with_plate_at, driven_at, at, robot_with, robot_at}
+use Rattle.cell_parts.specs.Examples.{table_at, crane_with, crane_at, belt_with, belt_entered_at, belt_at}
 
 -- ---- commands: one changes exactly its axis or belt
 
@@ -52,7 +47,13 @@ abbrev pub table_act : Motor → Motor → TableAct
 table_act height rotation = record { height = height; rotation = rotation }
 
 abbrev pub robot_act : Motor → Motor → Motor → Bool → Bool → RobotAct
-robot_act arm1 arm2 rotation magnet1 magnet2 = record { arm1 = arm1; arm2 = arm2; rotation = rotation; magnet1 = magnet1; magnet2 = magnet2 }
+robot_act arm1 arm2 rotation magnet1 magnet2 = record {
+  arm1 = arm1;
+  arm2 = arm2;
+  rotation = rotation;
+  magnet1 = magnet1;
+  magnet2 = magnet2;
+}
 
 abbrev pub press_act : Motor → PressAct
 press_act press = record { press = press }
@@ -70,16 +71,22 @@ crane_at_work = crane_with (driven_at 1000 Minus) (driven_at 500 Plus) false
 pub record SettingExamples (scale : Scale) (scales : RobotScales) : Type 0 where
   pub feed_starts : feed_rig.set (belt_at 0 900 false) (feed_act true) ≡ belt_at 0 900 true
   pub feed_stops : feed_rig.set (belt_at 0 900 true) (feed_act false) ≡ belt_at 0 900 false
-  pub table_starts : (table_rig scale).set (table_at (at 300) (at 250)) (table_act Plus Minus) ≡ table_at (driven_at 300 Plus) (driven_at 250 Minus)
-  pub table_stops : (table_rig scale).set (table_at (driven_at 300 Plus) (driven_at 250 Minus)) (table_act Off Off) ≡ table_at (at 300) (at 250)
-  pub robot_drives_arms : (robot_rig scales).set robot_at_work (robot_act Plus Minus Off true false) ≡ robot_with (driven_at 100 Plus) (driven_at 200 Minus) (at 300) true false
-  pub robot_rotates : (robot_rig scales).set robot_at_work (robot_act Off Plus Minus false true) ≡ robot_with (at 100) (driven_at 200 Plus) (driven_at 300 Minus) false true
+  pub table_starts : (table_rig scale).set (table_at (at 300) (at 250)) (table_act Plus Minus)
+      ≡ table_at (driven_at 300 Plus) (driven_at 250 Minus)
+  pub table_stops : (table_rig scale).set (table_at (driven_at 300 Plus) (driven_at 250 Minus)) (table_act Off Off)
+      ≡ table_at (at 300) (at 250)
+  pub robot_drives_arms : (robot_rig scales).set robot_at_work (robot_act Plus Minus Off true false)
+      ≡ robot_with (driven_at 100 Plus) (driven_at 200 Minus) (at 300) true false
+  pub robot_rotates : (robot_rig scales).set robot_at_work (robot_act Off Plus Minus false true)
+      ≡ robot_with (at 100) (driven_at 200 Plus) (driven_at 300 Minus) false true
   pub press_starts : press_rig.set (at 500) (press_act Minus) ≡ driven_at 500 Minus
   pub press_stops : press_rig.set (driven_at 500 Plus) (press_act Off) ≡ at 500
   pub deposit_starts : deposit_rig.set (belt_at 0 900 false) (deposit_act true) ≡ belt_at 0 900 true
   pub deposit_stops : deposit_rig.set (belt_at 0 900 true) (deposit_act false) ≡ belt_at 0 900 false
-  pub crane_travels : (crane_rig scale).set crane_at_work (crane_act Plus Off true) ≡ crane_with (driven_at 1000 Plus) (at 500) true
-  pub crane_lowers : (crane_rig scale).set crane_at_work (crane_act Off Minus false) ≡ crane_with (at 1000) (driven_at 500 Minus) false
+  pub crane_travels : (crane_rig scale).set crane_at_work (crane_act Plus Off true)
+      ≡ crane_with (driven_at 1000 Plus) (at 500) true
+  pub crane_lowers : (crane_rig scale).set crane_at_work (crane_act Off Minus false)
+      ≡ crane_with (at 1000) (driven_at 500 Minus) false
 
 -- ---- moves: 20 a tick, at most to the end
 
@@ -88,10 +95,12 @@ abbrev pub goes : ℕ → Motor → ℕ → (Axis → Axis) → Type 0
 goes start motor end move = move (driven_at start motor) ≡ driven_at end motor
 
 abbrev pub robot_moves : ℕ → ℕ → ℕ → RobotPlant
-robot_moves arm1 arm2 rotation = robot_with (driven_at arm1 Plus) (driven_at arm2 Minus) (driven_at rotation Plus) true false
+robot_moves arm1 arm2 rotation =
+    robot_with (driven_at arm1 Plus) (driven_at arm2 Minus) (driven_at rotation Plus) true false
 
 abbrev pub robot_moves_back : ℕ → ℕ → ℕ → RobotPlant
-robot_moves_back arm1 arm2 rotation = robot_with (driven_at arm1 Minus) (driven_at arm2 Plus) (driven_at rotation Minus) false true
+robot_moves_back arm1 arm2 rotation =
+    robot_with (driven_at arm1 Minus) (driven_at arm2 Plus) (driven_at rotation Minus) false true
 
 abbrev pub crane_moves : ℕ → ℕ → CranePlant
 crane_moves travel gripper = crane_with (driven_at travel Plus) (driven_at gripper Minus) true
@@ -237,7 +246,8 @@ pub record ShowingExamples : Type 0 where
   pub table_at_bottom : ShowsJust ((table_rig odd_turn).shows (table_at (at 10) (at 251))) (table_sense true false 502)
   pub table_at_top : ShowsJust ((table_rig odd_turn).shows (table_at (at 590) (at 499))) (table_sense false true 998)
   pub robot : ShowsJust ((robot_rig odd_robot).shows (robot_at (at 1) (at 999) (at 1001))) (robot_sense 1 2001 2052)
-  pub crane_at_deposit : ShowsJust ((crane_rig odd_gripper).shows (crane_at (at 10) (at 999))) (crane_sense true false 1506)
+  pub crane_at_deposit : ShowsJust ((crane_rig odd_gripper).shows (crane_at (at 10) (at 999)))
+      (crane_sense true false 1506)
   pub crane_at_feed : ShowsJust ((crane_rig odd_gripper).shows (crane_at (at 1990) (at 1))) (crane_sense false true 6)
   pub feed_sees_end : ShowsJust (feed_rig.shows (belt_at 0 900 true)) (feed_sense true)
   pub feed_sees_entry : ShowsJust (feed_rig.shows (belt_at 999 1100 true)) (feed_sense true)
@@ -254,7 +264,8 @@ feed_hears m call b = feed_rig.notes b (event m call Done)
 abbrev pub deposit_hears : Machine → Call → Belt → Belt
 deposit_hears m call b = deposit_rig.notes b (event m call Done)
 
--- a belt is changed by its machine's take at one zone, give at another and advance; the machine's other calls leave it as it is
+-- a belt is changed by its machine's take at one zone, give at another and advance; the machine's other calls leave it
+-- as it is
 pub record StaysByOtherCalls (hears : Call → Belt → Belt) (taken given : Zone) : Type 0 where
   pub claims : (b : Belt) (z : Zone) → hears (Claim z) b ≡ b
   pub gives : (b : Belt) (z : Zone) → z ≢ given → hears (Give z) b ≡ b
@@ -271,7 +282,8 @@ pub record NoteBounds (scale : Scale) (scales : RobotScales) : Type 0 where
   pub feed_takes_another : feed_hears Feed (Take Z6) (belt_with (Some 920) true) ≡ belt_at 0 920 true
   pub feed_advances_while_it_runs : feed_hears Feed Advance (belt_entered_at 920 true) ≡ belt_with (Some 920) true
   pub feed_gives_before : feed_hears Feed (Give Z1) (belt_at 500 1000 true) ≡ belt_entered_at 500 true
-  pub feed_refused : feed_rig.notes (belt_with None false) (event Feed (Take Z6) (Refused NoPlate)) ≡ belt_with None false
+  pub feed_refused : feed_rig.notes (belt_with None false) (event Feed (Take Z6) (Refused NoPlate))
+      ≡ belt_with None false
   pub feed_hears_crane : feed_hears Crane (Give Z6) (belt_with (Some 1000) false) ≡ belt_with (Some 1000) false
   pub feed_hears_table : feed_hears Table (Take Z1) (belt_with (Some 1000) false) ≡ belt_with (Some 1000) false
   pub feed_hears_press : feed_hears Press Advance (belt_entered_at 920 false) ≡ belt_entered_at 920 false
@@ -280,9 +292,11 @@ pub record NoteBounds (scale : Scale) (scales : RobotScales) : Type 0 where
   pub deposit_advances : deposit_hears Deposit Advance (belt_entered_at 1000 false) ≡ belt_with (Some 1000) false
   pub deposit_gives : deposit_hears Deposit (Give Z5) (belt_with (Some 1000) false) ≡ belt_with None false
   pub deposit_takes_another : deposit_hears Deposit (Take Z4) (belt_with (Some 920) true) ≡ belt_at 0 920 true
-  pub deposit_advances_while_it_runs : deposit_hears Deposit Advance (belt_entered_at 1000 true) ≡ belt_with (Some 1000) true
+  pub deposit_advances_while_it_runs : deposit_hears Deposit Advance (belt_entered_at 1000 true)
+      ≡ belt_with (Some 1000) true
   pub deposit_gives_before : deposit_hears Deposit (Give Z5) (belt_at 500 1000 true) ≡ belt_entered_at 500 true
-  pub deposit_refused : deposit_rig.notes (belt_with None false) (event Deposit (Take Z4) (Refused NoPlate)) ≡ belt_with None false
+  pub deposit_refused : deposit_rig.notes (belt_with None false) (event Deposit (Take Z4) (Refused NoPlate))
+      ≡ belt_with None false
   pub deposit_hears_robot : deposit_hears Robot (Give Z4) (belt_with None false) ≡ belt_with None false
   pub deposit_hears_crane : deposit_hears Crane (Take Z5) (belt_with (Some 1000) false) ≡ belt_with (Some 1000) false
   pub deposit_hears_feed : deposit_hears Feed Advance (belt_entered_at 1000 false) ≡ belt_entered_at 1000 false

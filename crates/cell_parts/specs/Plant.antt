@@ -1,13 +1,9 @@
 -- The plant: the positions of its axes and plates, and the last commands to its motors, belts and magnets.
 use Rattle.std.specs.Prelude.{ℤ, pos, ◌+ℤ◌, ◌-ℤ◌, Bool, false, ◌&&◌, if◌then◌else◌, Option, Some, None, option_map}
 use Rattle.std.specs.Int.{int_min, int_max}
-use Rattle.cell_types.specs.declared.machine.Machine.TheVariants.{Feed, Deposit}
-use Rattle.cell_types.specs.declared.zone.Zone.TheVariants.{Z1, Z4, Z5, Z6}
-use Rattle.cell_types.specs.declared.place.Place.TheVariants.{FeedEntry, FeedEnd, Arm1, Arm2, DepEntry, DepEnd, Crane}
-use Rattle.cell_types.specs.declared.call.Call.{Call}
-use Rattle.cell_types.specs.declared.call.Call.TheVariants.{Give, Take, Advance}
-use Rattle.cell_types.specs.declared.answer.Event.{Event}
-use Rattle.cell_types.specs.Same.{same_machine}
+use Rattle.cell_rules.specs.Types.{Feed, Deposit, Z1, Z4, Z5, Z6, FeedEntry, FeedEnd, Arm1, Arm2, DepEntry, DepEnd}
+use Rattle.cell_rules.specs.Types.{Call, Give, Take, Advance, Event, same_machine}
+use Rattle.cell_types.specs.declared.place.Place.TheVariants.{Crane}
 use Rattle.cell_devices.specs.declared.motor.Motor.{Motor}
 use Rattle.cell_devices.specs.declared.motor.Motor.TheVariants.{Off, Plus, Minus}
 use Rattle.cell_devices.specs.declared.act.FeedAct.{FeedAct}
@@ -16,15 +12,16 @@ use Rattle.cell_devices.specs.declared.act.RobotAct.{RobotAct}
 use Rattle.cell_devices.specs.declared.act.PressAct.{PressAct}
 use Rattle.cell_devices.specs.declared.act.DepositAct.{DepositAct}
 use Rattle.cell_devices.specs.declared.act.CraneAct.{CraneAct}
-use Rattle.cell_rules.specs.ModelState.{ModelState, is_full}
-use Rattle.cell_rules.specs.History.{is_done}
+use Rattle.cell_rules.specs.Names.{ModelState, is_full, is_done}
 use Rattle.cell_parts.specs.declared.axis.Axis.{Axis}
 use Rattle.cell_parts.specs.declared.belt.Belt.{Belt}
 use Rattle.cell_parts.specs.declared.plant.TablePlant.{TablePlant}
 use Rattle.cell_parts.specs.declared.plant.RobotPlant.{RobotPlant}
 use Rattle.cell_parts.specs.declared.plant.CranePlant.{CranePlant}
 use Rattle.cell_parts.specs.declared.plant.PlantState.{PlantState}
-use Rattle.cell_parts.specs.Axes.{press_end, arm_end, rotation_end, lift_end, turn_end, crane_end, gripper_end, speed, rotation_start, gripper_start, belt_end, feed_plate_start, deposit_plate_start, IsWithin}
+use Rattle.cell_parts.specs.Axes.{press_end, arm_end, rotation_end, lift_end, turn_end, crane_end, gripper_end, speed}
+use Rattle.cell_parts.specs.Axes.{rotation_start, gripper_start, belt_end, feed_plate_start, deposit_plate_start}
+use Rattle.cell_parts.specs.Axes.{IsWithin}
 
 -- a machine's part of the plant, with the scales of its potentiometers
 pub record Scaled (Plant Scales : Type 0) : Type 0 where
@@ -40,17 +37,31 @@ abbrev pub plate_if : Bool → ℤ → Option ℤ
 plate_if full p = if full then Some p else None
 
 abbrev pub feed_at_start : ModelState → Belt
-feed_at_start s = record { entry = plate_if (is_full s FeedEntry) (pos 0); last = plate_if (is_full s FeedEnd) feed_plate_start; runs = false }
+feed_at_start s = record {
+  entry = plate_if (is_full s FeedEntry) (pos 0);
+  last = plate_if (is_full s FeedEnd) feed_plate_start;
+  runs = false;
+}
 
 abbrev pub deposit_at_start : ModelState → Belt
-deposit_at_start s = record { entry = plate_if (is_full s DepEntry) (pos 0); last = plate_if (is_full s DepEnd) deposit_plate_start; runs = false }
+deposit_at_start s = record {
+  entry = plate_if (is_full s DepEntry) (pos 0);
+  last = plate_if (is_full s DepEnd) deposit_plate_start;
+  runs = false;
+}
 
 abbrev pub table_at_start : TablePlant
 table_at_start = record { lift = standing (pos 0); turn = standing (pos 0) }
 
 abbrev pub robot_at_start : ModelState → RobotPlant
 robot_at_start s =
-    record { arm1 = standing (pos 0); arm2 = standing (pos 0); rotation = standing rotation_start; magnet1 = is_full s Arm1; magnet2 = is_full s Arm2 }
+    record {
+      arm1 = standing (pos 0);
+      arm2 = standing (pos 0);
+      rotation = standing rotation_start;
+      magnet1 = is_full s Arm1;
+      magnet2 = is_full s Arm2;
+    }
 
 abbrev pub press_at_start : Axis
 press_at_start = standing press_end
@@ -99,7 +110,11 @@ abbrev pub set_press : Axis → PressAct → Axis
 set_press a act = set_axis a act.press
 
 abbrev pub set_crane : CranePlant → CraneAct → CranePlant
-set_crane c act = record { travel = set_axis c.travel act.travel; gripper = set_axis c.gripper act.height; magnet = act.magnet }
+set_crane c act = record {
+  travel = set_axis c.travel act.travel;
+  gripper = set_axis c.gripper act.height;
+  magnet = act.magnet;
+}
 
 -- A part moves for a tick. An axis whose motor is on moves by its speed, at most to its end; a running belt carries its
 -- plates, at most to its end.
@@ -121,7 +136,11 @@ abbrev pub moved_table : TablePlant → TablePlant
 moved_table t = record { lift = moved_axis lift_end t.lift; turn = moved_axis turn_end t.turn }
 
 abbrev pub moved_robot : RobotPlant → RobotPlant
-moved_robot r = record r { arm1 = moved_axis arm_end r.arm1; arm2 = moved_axis arm_end r.arm2; rotation = moved_axis rotation_end r.rotation }
+moved_robot r = record r {
+  arm1 = moved_axis arm_end r.arm1;
+  arm2 = moved_axis arm_end r.arm2;
+  rotation = moved_axis rotation_end r.rotation;
+}
 
 abbrev pub moved_press : Axis → Axis
 moved_press a = moved_axis press_end a

@@ -1,19 +1,15 @@
 -- What the positions of the plant demand of the interlock, in every state of a run.
 use Rattle.std.specs.Prelude.{◌≡◌, ◌≤ℤ◌, true, ◌⊎◌, ◌↔◌, IsSome, IsTrue}
-use Rattle.cell_types.specs.declared.machine.Machine.{Machine}
-use Rattle.cell_types.specs.declared.machine.Machine.TheVariants.{Robot, Crane}
-use Rattle.cell_types.specs.declared.zone.Zone.{Zone}
-use Rattle.cell_types.specs.declared.zone.Zone.TheVariants.{Z1, Z2, Z3, Z4, Z5, Z6}
-use Rattle.cell_types.specs.declared.posture.Posture.{Posture}
-use Rattle.cell_types.specs.declared.posture.Posture.TheVariants.{OpenIn, OpenOut}
-use Rattle.cell_types.specs.declared.place.Place.TheVariants.{FeedEnd, DepEnd}
+use Rattle.cell_rules.specs.Types.{Machine, Robot, Crane, Zone, Z1, Z2, Z3, Z4, Z5, Z6, Posture, OpenIn, OpenOut}
+use Rattle.cell_rules.specs.Types.{FeedEnd, DepEnd}
 use Rattle.cell_devices.specs.declared.motor.Motor.TheVariants.{Off}
-use Rattle.cell_rules.specs.ModelState.{ModelState, is_full}
-use Rattle.cell_rules.specs.Refusals.{owns, posture_at}
+use Rattle.cell_rules.specs.Names.{ModelState, is_full, owns, posture_at}
 use Rattle.cell_parts.specs.declared.plant.TablePlant.{TablePlant}
 use Rattle.cell_parts.specs.declared.plant.PlantState.{PlantState}
 use Rattle.cell_parts.specs.Shows.{IsTableBottom}
-use Rattle.cell_parts.specs.Collisions.{IsOut, IsArm1AtTable, IsArm2InPress, IsArm1InPress, IsArm2AtDeposit, IsGripperDown, IsOverDeposit, IsOverFeed, RestsAtMiddle, RestsAtBottom, loads_to}
+use Rattle.cell_parts.specs.Collisions.{IsOut, IsArm1AtTable, IsArm2InPress, IsArm1InPress, IsArm2AtDeposit}
+use Rattle.cell_parts.specs.Collisions.{IsGripperDown, IsOverDeposit, IsOverFeed, RestsAtMiddle, RestsAtBottom}
+use Rattle.cell_parts.specs.Collisions.{loads_to}
 
 -- a machine holds a zone, in this posture
 abbrev pub HoldsIn : Posture → ModelState → Machine → Zone → Type 0
@@ -56,7 +52,8 @@ Arm2OutDemands s p = IsOut p.robot.arm2 → Arm2HasPress s p ⊎ Arm2HasDeposit 
 
 -- an open press rests at the switch of its posture
 abbrev pub PressStands : ModelState → PlantState → Type 0
-PressStands s p = (posture_at s Z3 ≡ OpenIn → RestsAtMiddle p.press) × (posture_at s Z3 ≡ OpenOut → RestsAtBottom p.press)
+PressStands s p = (posture_at s Z3 ≡ OpenIn → RestsAtMiddle p.press)
+    × (posture_at s Z3 ≡ OpenOut → RestsAtBottom p.press)
 
 -- a table that is open to the feed belt is ready to load
 abbrev pub TableStands : ModelState → PlantState → Type 0
@@ -64,11 +61,13 @@ TableStands s p = posture_at s Z1 ≡ OpenIn → RestsAtLoading p.table
 
 -- a gripper that is down is over one of the belts, and the crane holds that belt's zone
 abbrev pub GripperDownDemands : ModelState → PlantState → Type 0
-GripperDownDemands s p = IsGripperDown p.crane → (IsOverDeposit p.crane × CraneHasDeposit s) ⊎ (IsOverFeed p.crane × CraneHasFeed s)
+GripperDownDemands s p = IsGripperDown p.crane
+    → (IsOverDeposit p.crane × CraneHasDeposit s) ⊎ (IsOverFeed p.crane × CraneHasFeed s)
 
 -- a plate is at a belt's end if and only if that place is full
 abbrev pub EndPlatesStand : ModelState → PlantState → Type 0
-EndPlatesStand s p = (IsSome p.feed.last ↔ IsTrue (is_full s FeedEnd)) × (IsSome p.deposit.last ↔ IsTrue (is_full s DepEnd))
+EndPlatesStand s p = (IsSome p.feed.last ↔ IsTrue (is_full s FeedEnd))
+    × (IsSome p.deposit.last ↔ IsTrue (is_full s DepEnd))
 
 pub record PositionDemands (s : ModelState) (p : PlantState) : Type 0 where
   pub arm1 : Arm1OutDemands s p

@@ -1,5 +1,5 @@
 -- How the parts of the machines behave. Only the belts note events.
-use Rattle.cell_calib.specs.Scale.{Scale}
+use Rattle.cell_calib.specs.Names.{Scale}
 use Rattle.cell_calib.specs.declared.sense.FeedSense.{FeedSense}
 use Rattle.cell_calib.specs.declared.sense.TableSense.{TableSense}
 use Rattle.cell_calib.specs.declared.sense.RobotSense.{RobotSense}
@@ -19,7 +19,9 @@ use Rattle.cell_parts.specs.Axes.{RobotScales}
 use Rattle.cell_parts.specs.declared.plant.TablePlant.{TablePlant}
 use Rattle.cell_parts.specs.declared.plant.RobotPlant.{RobotPlant}
 use Rattle.cell_parts.specs.declared.plant.CranePlant.{CranePlant}
-use Rattle.cell_parts.specs.Plant.{set_feed, set_table, set_robot, set_press, set_deposit, set_crane, moved_belt, moved_table, moved_robot, moved_press, moved_crane, noted_by_feed, noted_by_deposit}
+use Rattle.cell_parts.specs.Plant.{set_feed, set_table, set_robot, set_press, set_deposit, set_crane, moved_belt}
+use Rattle.cell_parts.specs.Plant.{moved_table, moved_robot, moved_press, moved_crane, noted_by_feed}
+use Rattle.cell_parts.specs.Plant.{noted_by_deposit}
 use Rattle.cell_parts.specs.Shows.{FeedShows, TableShows, RobotShows, PressShows, DepositShows, CraneShows}
 
 abbrev pub feed_rig : Rig Belt FeedSense FeedAct

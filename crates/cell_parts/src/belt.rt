@@ -1,7 +1,8 @@
 //! A belt that carries plates past a light barrier, for the parts of both belts.
 ghost use Rattle.std.specs.Prelude.{◌≡◌, ◌↔◌, IsTrue, pos, false};
 ghost use Rattle.cell_rules.specs.ModelState.{is_full};
-ghost use Rattle.cell_parts.specs.Plant.{feed_at_start, deposit_at_start, plate_if, set_belt, moved_plate, moved_belt, loaded_belt, advanced, unloaded_belt};
+ghost use Rattle.cell_parts.specs.Plant.{feed_at_start, deposit_at_start, plate_if, set_belt, moved_plate};
+ghost use Rattle.cell_parts.specs.Plant.{moved_belt, loaded_belt, advanced, unloaded_belt};
 ghost use Rattle.cell_parts.specs.Shows.{IsInBarrier, SeesPlate};
 
 use crate::axis::SPEED;
@@ -51,7 +52,11 @@ impl Belt {
 
     // A belt that doesn't run, with a plate at each of these places that is full.
     fn at_rest(state: &State, entry: Place, last: Place, end: i32) -> Belt
-        ensures { result ≡ record { entry = plate_if (is_full state.now entry) (pos 0); last = plate_if (is_full state.now last) end; runs = false } }
+        ensures { result ≡ record {
+          entry = plate_if (is_full state.now entry) (pos 0);
+          last = plate_if (is_full state.now last) end;
+          runs = false;
+        } }
     {
         Belt {
             entry: state.is_full(entry).then_some(0),

@@ -73,7 +73,8 @@ pub(crate) fn raw_at(points: &Points, position: i32) -> u16
 // The distance of a position from the first point. Beyond the points it is that of the nearer
 // point.
 fn along(points: &Points, position: i32) -> u32
-    ensures is { points.now.at_lo ≤ℤ position → position ≤ℤ points.now.at_hi → position -ℤ points.now.at_lo ≡ pos result }
+    ensures is { points.now.at_lo ≤ℤ position → position ≤ℤ points.now.at_hi
+        → position -ℤ points.now.at_lo ≡ pos result }
     ensures within { pos result ≤ℤ (points.now.at_hi -ℤ points.now.at_lo) }
     ensures below { position <ℤ points.now.at_lo → result ≡ 0 }
     ensures above { points.now.at_hi <ℤ position → pos result ≡ (points.now.at_hi -ℤ points.now.at_lo) }

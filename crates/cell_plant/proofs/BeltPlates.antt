@@ -1,18 +1,11 @@
 -- A plate is on a belt if and only if its place is full: the entry's and the end's.
 use Rattle.std.proofs.Common.{◌≡◌, ℤ, Bool, true, false, not, IsSome, IsTrue, ◌↔◌, Option, Some, None, is_some, refl, sym, subst, if◌then◌else◌}
-use Rattle.cell_types.specs.declared.machine.Machine.{Machine}
-use Rattle.cell_types.specs.declared.zone.Zone.{Zone}
-use Rattle.cell_types.specs.declared.place.Place.{Place}
-use Rattle.cell_types.specs.declared.call.Call.{Call}
-use Rattle.cell_types.specs.declared.call.Call.TheVariants.{Give, Take, Advance}
-use Rattle.cell_types.specs.declared.answer.Answer.TheVariants.{Done}
-use Rattle.cell_types.specs.Tables.{transfer_of}
-use Rattle.cell_types.specs.Same.{same_machine}
-use Rattle.cell_types.specs.Ways.{keeper_of, own_move_of}
-use Rattle.cell_rules.specs.ModelState.{ModelState, zone_at, is_full}
-use Rattle.cell_rules.specs.Sound.{IsSound, is_party, is_received_by}
-use Rattle.cell_rules.specs.Refusals.{owns, owner_of, posture_at, transfer_given, given_by, advance_refusal, give_refusal, take_refusal, has_no_work, press_unowned, not_at_work, nothing_to_work, no_room_for_work, worn, ◌or◌}
-use Rattle.cell_rules.specs.Reply.{reply, next}
+use Rattle.cell_rules.specs.Types.{Machine, Zone, Place, Call, Give, Take, Advance, Done, transfer_of, same_machine}
+use Rattle.cell_rules.specs.Types.{keeper_of, own_move_of}
+use Rattle.cell_rules.specs.Names.{ModelState, zone_at, is_full, IsSound, is_party, is_received_by, owns, owner_of}
+use Rattle.cell_rules.specs.Names.{posture_at, transfer_given, given_by, advance_refusal, give_refusal, take_refusal}
+use Rattle.cell_rules.specs.Names.{reply, next}
+use Rattle.cell_rules.specs.Refusals.{has_no_work, press_unowned, not_at_work, nothing_to_work, no_room_for_work, worn, ◌or◌}
 use Rattle.cell_rules.proofs.Tables.{and_left, and_right}
 use Rattle.cell_rules.proofs.Done.{none_or, none_then_not, take_done, give_done}
 use Rattle.cell_rules.proofs.Soundness.{done_none}
@@ -20,8 +13,9 @@ use Rattle.cell_rules.proofs.Plates.{fourth}
 use Rattle.cell_rules.proofs.Holders.{owner_is}
 use Rattle.cell_rules.proofs.OwnSide.{full-foreign}
 use Rattle.cell_control.proofs.Facts.{handed}
+use Rattle.cell_parts.specs.Names.{set_belt}
 use Rattle.cell_parts.specs.declared.belt.Belt.{Belt}
-use Rattle.cell_parts.specs.Plant.{plate_if, moved_plate, moved_belt, set_belt}
+use Rattle.cell_parts.specs.Plant.{plate_if, moved_plate, moved_belt}
 
 abbrev pub StandsIf : Option ℤ → Bool → Type 0
 StandsIf plate full = IsSome plate ↔ IsTrue full

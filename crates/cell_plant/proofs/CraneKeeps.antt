@@ -2,41 +2,42 @@
 use Rattle.std.proofs.Common.{◌≡◌, ℤ, pos, ◌+ℤ◌, ◌-ℤ◌, ◌<ℤ◌, ◌≤ℤ◌, Bool, true, false, not, ◌&&◌, ◌||◌, ◌⊎◌, inl, inr, Option, Some, None, Result, Ok, refl, sym, ap, ◌∙◌, if◌then◌else◌, arith}
 use Rattle.std.specs.Prelude.{⊤}
 use Rattle.std.proofs.lemmas.Int.{ints, clamps}
-use Rattle.cell_types.specs.declared.machine.Machine.{Machine}
-use Rattle.cell_types.specs.declared.machine.Machine.TheVariants.{Crane}
-use Rattle.cell_types.specs.declared.call.Call.{Call}
+use Rattle.cell_rules.specs.Types.{Machine, Crane, Call, Reply}
 use Rattle.cell_types.specs.declared.place.Place.TheVariants.{Crane as OnCrane}
-use Rattle.cell_types.specs.declared.reply.Reply.{Reply}
-use Rattle.cell_calib.specs.Scale.{Scale}
-use Rattle.cell_calib.specs.Line.{IsNear, IsReading}
+use Rattle.cell_calib.specs.Names.{Scale, IsNear, IsReading}
 use Rattle.cell_calib.specs.declared.sense.CraneSense.{CraneSense}
+use Rattle.cell_devices.specs.Names.{DrivesTo, travel_from}
 use Rattle.cell_devices.specs.declared.motor.Motor.{Motor}
 use Rattle.cell_devices.specs.declared.motor.Motor.TheVariants.{Off, Plus, Minus}
 use Rattle.cell_devices.specs.declared.act.CraneAct.{CraneAct}
-use Rattle.cell_devices.specs.Drives.{DrivesTo}
-use Rattle.cell_devices.specs.Limits.{travel_from}
+use Rattle.cell_rules.specs.Names.{ModelState, is_full, changed}
 use Rattle.cell_rules.specs.declared.heard.LineFault.{LineFault}
-use Rattle.cell_rules.specs.ModelState.{ModelState, is_full}
-use Rattle.cell_rules.specs.Reply.{changed}
+use Rattle.cell_control.specs.Names.{Turned, Turns}
 use Rattle.cell_control.specs.declared.fault.CtlFault.{CtlFault}
-use Rattle.cell_control.specs.Turns.{Turned, Turns}
 use Rattle.cell_control.proofs.Facts.{AreSo}
+use Rattle.cell_haul.specs.Names.{row_at, row_of, step_after_inquiry, after_done, first_step, crane_start, is_done}
+use Rattle.cell_haul.specs.Names.{gripper_stop, Senses, Acts, crane_steps}
 use Rattle.cell_haul.specs.declared.crane.CraneStep.{CraneStep}
-use Rattle.cell_haul.specs.declared.crane.CraneStep.TheVariants.{RaiseToFetch, TravelToDeposit, AwaitPlate, LowerToPlate, GripPlate, RaiseWithPlate, TakePlate, ReleaseDeposit, TravelToFeed, ClaimFeed, LowerToFeed, DropPlate, RaiseFromFeed, GivePlate}
+use Rattle.cell_haul.specs.declared.crane.CraneStep.TheVariants.{RaiseToFetch, TravelToDeposit, AwaitPlate}
+use Rattle.cell_haul.specs.declared.crane.CraneStep.TheVariants.{LowerToPlate, GripPlate, RaiseWithPlate}
+use Rattle.cell_haul.specs.declared.crane.CraneStep.TheVariants.{ReleaseDeposit, TravelToFeed, ClaimFeed, LowerToFeed}
+use Rattle.cell_haul.specs.declared.crane.CraneStep.TheVariants.{DropPlate, RaiseFromFeed}
 use Rattle.cell_haul.specs.declared.crane.CraneProgress.{CraneProgress}
 use Rattle.cell_haul.specs.declared.crane.CraneReading.{CraneReading}
-use Rattle.cell_haul.specs.CraneProgram.{row_at, row_of, step_after_inquiry, after_done, first_step, crane_start, is_off, is_done, travels, travel_for, gripper_stop, Senses, Acts, crane_steps}
+use Rattle.cell_haul.specs.declared.crane.CraneStep.TheVariants.{TakePlate, GivePlate}
+use Rattle.cell_haul.specs.CraneProgram.{is_off, travels, travel_for}
 use Rattle.cell_haul.proofs.CraneFacts.{facts_at, CraneKnows, crane_begins, crane-knowing}
 use Rattle.cell_unit.specs.Sides.{act_or_rest}
 use Rattle.cell_unit.proofs.Keeping.{Keeping, turn_tells}
+use Rattle.cell_parts.specs.Names.{IsAxisScale, IsWithin, crane_end, gripper_end, crane_at_start, moved_to}
+use Rattle.cell_parts.specs.Names.{moved_axis, set_axis, set_crane, crane_rig, IsOn, IsGripperDown, IsOverDeposit}
+use Rattle.cell_parts.specs.Names.{IsOverFeed, over_deposit_to, over_feed_from, LetsGo, CraneMayLetGo, DrivesPast}
+use Rattle.cell_parts.specs.Names.{ErrandDemands}
 use Rattle.cell_parts.specs.declared.axis.Axis.{Axis}
-use Rattle.cell_parts.specs.Axes.{IsAxisScale, IsWithin, crane_end, gripper_end, gripper_start}
 use Rattle.cell_parts.specs.declared.plant.CranePlant.{CranePlant}
-use Rattle.cell_parts.specs.Plant.{crane_at_start, moved_to, moved_axis, set_axis, set_crane}
-use Rattle.cell_parts.specs.Rigs.{crane_rig}
+use Rattle.cell_parts.specs.Axes.{gripper_start}
 use Rattle.cell_parts.specs.Shows.{CraneShows}
-use Rattle.cell_parts.specs.Collisions.{IsOn, IsGripperDown, IsOverDeposit, IsOverFeed, over_deposit_to, over_feed_from, LetsGo, CraneMayLetGo, DrivesPast}
-use Rattle.cell_parts.specs.MotorDemands.{ErrandDemands, TravelsHigh}
+use Rattle.cell_parts.specs.MotorDemands.{TravelsHigh}
 use Rattle.cell_parts.specs.PositionDemands.{CraneHasDeposit, CraneHasFeed}
 use Rattle.cell_plant.specs.Errands.{errand_of}
 use Rattle.cell_plant.proofs.Magnets.{still_on}

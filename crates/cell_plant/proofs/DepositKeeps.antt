@@ -1,31 +1,25 @@
 -- The invariant of the deposit belt's side: it holds in every state of a run.
 use Rattle.std.proofs.Common.{◌≡◌, true, false, IsTrue, is_some, [], ◌∷◌, Some, refl, sym, ◌∙◌}
-use Rattle.cell_types.specs.declared.machine.Machine.TheVariants.{Deposit}
-use Rattle.cell_types.specs.declared.zone.Zone.TheVariants.{Z4, Z5}
-use Rattle.cell_types.specs.declared.place.Place.TheVariants.{DepEntry, DepEnd}
-use Rattle.cell_types.specs.declared.posture.Posture.{Posture}
-use Rattle.cell_types.specs.declared.posture.Posture.TheVariants.{Closed, Moving, OpenIn, OpenOut}
-use Rattle.cell_types.specs.declared.pose.Pose.TheVariants.{Landing, Running, Offering}
-use Rattle.cell_types.specs.declared.call.Call.{Call}
-use Rattle.cell_types.specs.declared.call.Call.TheVariants.{Claim, Give, Take, Release, SetPose, Advance}
-use Rattle.cell_types.specs.declared.answer.Answer.TheVariants.{Done}
-use Rattle.cell_types.specs.Tables.{transfer_of}
-use Rattle.cell_rules.specs.PlaceSet.{PlaceSet, has}
-use Rattle.cell_rules.specs.ModelState.{ModelState, is_full}
-use Rattle.cell_rules.specs.Sound.{IsSound, is_received_by}
-use Rattle.cell_rules.specs.Refusals.{posture_at, given_by}
-use Rattle.cell_rules.specs.Reply.{reply, changed, emptied, filled}
+use Rattle.cell_rules.specs.Types.{Deposit, Z4, Z5, DepEntry, DepEnd, Posture, Closed, Moving, OpenIn, OpenOut}
+use Rattle.cell_rules.specs.Types.{Landing, Running, Offering, Call, Claim, Give, Take, Release, SetPose, Advance}
+use Rattle.cell_rules.specs.Types.{Done, transfer_of}
+use Rattle.cell_rules.specs.Names.{PlaceSet, has, ModelState, is_full, IsSound, is_received_by, posture_at, given_by}
+use Rattle.cell_rules.specs.Names.{reply, changed, emptied, filled}
 use Rattle.cell_control.proofs.Facts.{Finds}
+use Rattle.cell_haul.specs.Names.{deposit_start, deposit_steps}
 use Rattle.cell_haul.specs.declared.deposit.DepositStep.{DepositStep}
-use Rattle.cell_haul.specs.declared.deposit.DepositStep.TheVariants.{ClaimEntry, ClaimExit, PoseLanding, ReleaseEntry, TakePlate, StartRun, MoveOn, PoseOffering, GivePlate, ClaimBack}
+use Rattle.cell_haul.specs.declared.deposit.DepositStep.TheVariants.{ClaimEntry, PoseLanding, ReleaseEntry, TakePlate}
+use Rattle.cell_haul.specs.declared.deposit.DepositStep.TheVariants.{StartRun, MoveOn, PoseOffering, GivePlate}
+use Rattle.cell_haul.specs.declared.deposit.DepositStep.TheVariants.{ClaimBack}
 use Rattle.cell_haul.specs.declared.deposit.DepositProgress.{DepositProgress}
-use Rattle.cell_haul.specs.DepositProgram.{row_at, deposit_start, deposit_steps}
+use Rattle.cell_haul.specs.declared.deposit.DepositStep.TheVariants.{ClaimExit}
+use Rattle.cell_haul.specs.DepositProgram.{row_at}
 use Rattle.cell_haul.proofs.DepositFacts.{DepositKnows, deposit-knowing, drives_at}
 use Rattle.cell_unit.proofs.Keeping.{Keeping}
 use Rattle.cell_unit.proofs.Demanding.{Demanding, WhileOn, demanding_while_on}
+use Rattle.cell_parts.specs.Names.{deposit_at_start, set_belt, deposit_rig}
 use Rattle.cell_parts.specs.declared.belt.Belt.{Belt}
-use Rattle.cell_parts.specs.Plant.{deposit_at_start, set_belt, deposit_called}
-use Rattle.cell_parts.specs.Rigs.{deposit_rig}
+use Rattle.cell_parts.specs.Plant.{deposit_called}
 use Rattle.cell_plant.proofs.BeltPlates.{PlatesStand, plate_stands, as_full, plates_foreign, plates_set, plates_moved, still_runs, plate_taken, plate_given, plate_worked}
 
 -- what its step knows of the interlock; a plate is on it if and only if its place is full

@@ -1,38 +1,27 @@
 -- The turns of the examples, each by its machine's program, and two literal runs of them.
 use Rattle.std.proofs.Common.{◌≡◌, List, [], ◌∷◌, Bool, true, false, inr, Some, None, Result, Ok, refl, sym, subst}
-use Rattle.cell_types.specs.declared.machine.Machine.{Machine}
-use Rattle.cell_types.specs.declared.machine.Machine.TheVariants.{Feed, Table, Robot, Press, Deposit, Crane, Watch}
-use Rattle.cell_types.specs.declared.call.Call.{Call}
-use Rattle.cell_types.specs.declared.call.Call.TheVariants.{Stop}
-use Rattle.cell_types.specs.declared.answer.Answer.TheVariants.{Done}
-use Rattle.cell_types.specs.declared.reply.Reply.{Reply}
-use Rattle.cell_types.specs.declared.reply.Reply.TheVariants.{Settled}
-use Rattle.cell_types.specs.Same.{same_machine}
+use Rattle.cell_rules.specs.Types.{Machine, Feed, Table, Robot, Press, Deposit, Crane, Watch, Call, Stop, Done, Reply}
+use Rattle.cell_rules.specs.Types.{Settled, same_machine}
 use Rattle.cell_calib.specs.declared.sense.FeedSense.{FeedSense}
 use Rattle.cell_calib.specs.declared.sense.PressSense.{PressSense}
 use Rattle.cell_devices.specs.declared.motor.Motor.TheVariants.{Minus}
+use Rattle.cell_rules.specs.Names.{ModelState}
 use Rattle.cell_rules.specs.declared.heard.LineFault.{LineFault}
-use Rattle.cell_rules.specs.ModelState.{ModelState}
-use Rattle.cell_control.specs.Rigs.{Rig}
-use Rattle.cell_control.specs.Steps.{Steps, outcome}
-use Rattle.cell_control.specs.Turns.{Performed, PerformsCall, at_rest, turned}
+use Rattle.cell_control.specs.Names.{Rig, Steps, outcome, Performed, PerformsCall, at_rest, turned}
 use Rattle.cell_haul.specs.declared.feed.FeedProgress.{FeedProgress}
 use Rattle.cell_stations.specs.declared.press.PressProgress.{PressProgress}
 use Rattle.cell_notes.specs.Asks.{TurnCall}
-use Rattle.cell_unit.specs.Sides.{Side, side_of, side_set, side_moved}
-use Rattle.cell_unit.specs.UnitTurns.{Answers, Takes}
+use Rattle.cell_unit.specs.Names.{Side, side_of, side_set, side_moved, Answers, Takes}
+use Rattle.cell_parts.specs.Names.{CellScales, at, driven_at, feed_at_start, PressShows}
 use Rattle.cell_parts.specs.declared.axis.Axis.{Axis}
 use Rattle.cell_parts.specs.declared.belt.Belt.{Belt}
-use Rattle.cell_parts.specs.Axes.{CellScales}
-use Rattle.cell_parts.specs.Examples.{at, driven_at}
-use Rattle.cell_parts.specs.Plant.{feed_at_start}
-use Rattle.cell_parts.specs.Shows.{FeedShows, PressShows}
-use Rattle.cell_plant.specs.Machines.{steps_of, rig_of}
-use Rattle.cell_plant.specs.CellStates.{CellState, Sides, side_in, sides_at_start}
-use Rattle.cell_plant.specs.Runs.{Step, TakesTurn, IsPassedOver, IsRun}
-use Rattle.cell_plant.specs.RunExamples.{asks, cell_of, turn_of, schedule, steps, opening, at_first, at_entered, at_press_stopped, at_last, claims_entry, finds_busy, is_refused, finds_no_room, stops_cell, resumes_cell, watch_finds_busy, passes, press_falls, falls, falls_to, belt_waits, waits}
+use Rattle.cell_parts.specs.Shows.{FeedShows}
+use Rattle.cell_plant.specs.Names.{steps_of, rig_of, CellState, Sides, side_in, sides_at_start, Step, TakesTurn}
+use Rattle.cell_plant.specs.Names.{IsRun, asks, turn_of, schedule, steps, opening, at_first, at_entered}
+use Rattle.cell_plant.specs.Names.{at_press_stopped, at_last, watch_noting}
 use Rattle.cell_plant.specs.declared.watch.WatchProgress.{WatchProgress}
-use Rattle.cell_plant.specs.Watch.{watch_noting}
+use Rattle.cell_plant.specs.Runs.{IsPassedOver}
+use Rattle.cell_plant.specs.RunExamples.{cell_of, claims_entry, finds_busy, is_refused, finds_no_room, stops_cell, resumes_cell, watch_finds_busy, passes, press_falls, falls, falls_to, belt_waits, waits}
 use Rattle.cell_plant.proofs.Deciding.{so, both, same_truth, at_most, is_true, true_false}
 
 -- a machine asks once, and is answered

@@ -1,31 +1,23 @@
 -- The invariant of the feed belt's side: it holds in every state of a run.
 use Rattle.std.proofs.Common.{◌≡◌, true, false, IsTrue, is_some, [], ◌∷◌, Some, refl, sym, ◌∙◌}
-use Rattle.cell_types.specs.declared.machine.Machine.TheVariants.{Feed}
-use Rattle.cell_types.specs.declared.zone.Zone.TheVariants.{Z1, Z6}
-use Rattle.cell_types.specs.declared.place.Place.TheVariants.{FeedEntry, FeedEnd}
-use Rattle.cell_types.specs.declared.posture.Posture.{Posture}
-use Rattle.cell_types.specs.declared.posture.Posture.TheVariants.{Closed, Moving, OpenIn, OpenOut}
-use Rattle.cell_types.specs.declared.pose.Pose.TheVariants.{Landing, Running, Halted}
-use Rattle.cell_types.specs.declared.call.Call.{Call}
-use Rattle.cell_types.specs.declared.call.Call.TheVariants.{Claim, Give, Take, Release, SetPose, Advance}
-use Rattle.cell_types.specs.declared.answer.Answer.TheVariants.{Done}
-use Rattle.cell_types.specs.Tables.{transfer_of}
-use Rattle.cell_rules.specs.PlaceSet.{PlaceSet, has}
-use Rattle.cell_rules.specs.ModelState.{ModelState, is_full}
-use Rattle.cell_rules.specs.Sound.{IsSound, is_received_by}
-use Rattle.cell_rules.specs.Refusals.{posture_at, given_by}
-use Rattle.cell_rules.specs.Reply.{reply, changed, emptied, filled}
+use Rattle.cell_rules.specs.Types.{Feed, Z1, Z6, FeedEntry, FeedEnd, Posture, Closed, Moving, OpenIn, OpenOut}
+use Rattle.cell_rules.specs.Types.{Landing, Running, Halted, Call, Claim, Give, Take, Release, SetPose, Advance, Done}
+use Rattle.cell_rules.specs.Types.{transfer_of}
+use Rattle.cell_rules.specs.Names.{PlaceSet, has, ModelState, is_full, IsSound, is_received_by, posture_at, given_by}
+use Rattle.cell_rules.specs.Names.{reply, changed, emptied, filled}
 use Rattle.cell_control.proofs.Facts.{Finds}
+use Rattle.cell_haul.specs.Names.{feed_start, feed_steps}
 use Rattle.cell_haul.specs.declared.feed.FeedStep.{FeedStep}
-use Rattle.cell_haul.specs.declared.feed.FeedStep.TheVariants.{ClaimEntry, PoseLanding, ReleaseEntry, TakePlate, StartIn, MoveOn, ClaimExit, StartOut, Halt, GivePlate}
+use Rattle.cell_haul.specs.declared.feed.FeedStep.TheVariants.{StartIn, ClaimExit, StartOut, Halt}
 use Rattle.cell_haul.specs.declared.feed.FeedProgress.{FeedProgress}
-use Rattle.cell_haul.specs.FeedProgram.{row_at, feed_start, feed_steps}
+use Rattle.cell_haul.specs.declared.feed.FeedStep.TheVariants.{ClaimEntry, PoseLanding, ReleaseEntry, TakePlate, MoveOn, GivePlate}
+use Rattle.cell_haul.specs.FeedProgram.{row_at}
 use Rattle.cell_haul.proofs.FeedFacts.{FeedKnows, feed_begins, feed-knowing, drives_at}
 use Rattle.cell_unit.proofs.Keeping.{Keeping}
 use Rattle.cell_unit.proofs.Demanding.{Demanding, WhileOn, demanding_while_on}
+use Rattle.cell_parts.specs.Names.{feed_at_start, set_belt, feed_rig}
 use Rattle.cell_parts.specs.declared.belt.Belt.{Belt}
-use Rattle.cell_parts.specs.Plant.{feed_at_start, set_belt, feed_called}
-use Rattle.cell_parts.specs.Rigs.{feed_rig}
+use Rattle.cell_parts.specs.Plant.{feed_called}
 use Rattle.cell_plant.proofs.BeltPlates.{PlatesStand, plate_stands, as_full, plates_foreign, plates_set, plates_moved, still_runs, plate_taken, plate_given, plate_worked}
 
 -- what its step knows of the interlock; a plate is on it if and only if its place is full

@@ -2,13 +2,12 @@
 use Rattle.std.proofs.Common.{List, [], ◌∷◌}
 use Rattle.std.proofs.lemmas.List.Elements.{All-nil, All-cons}
 use Rattle.std.specs.Prelude.{All, Some, None, Option}
+use Rattle.cell_notes.specs.Names.{TurnCall}
 use Rattle.cell_notes.specs.declared.schedule.Turn.{Turn}
-use Rattle.cell_notes.specs.Asks.{TurnCall}
 use Rattle.cell_parts.specs.Axes.{CellScales}
-use Rattle.cell_plant.specs.CellStates.{CellState, cell_at_start}
-use Rattle.cell_plant.specs.Frames.{IsSafeFrame, FilmsAreSafe, frame_of, frames_after}
-use Rattle.cell_plant.specs.Runs.{Step, IsRun}
-use Rattle.cell_plant.specs.Safety.{IsSafeState, IsSafeRun}
+use Rattle.cell_plant.specs.Names.{CellState, cell_at_start, frame_of, frames_after, Step, IsRun, IsSafeState}
+use Rattle.cell_plant.specs.Names.{IsSafeRun}
+use Rattle.cell_plant.specs.Frames.{IsSafeFrame, FilmsAreSafe}
 use Rattle.cell_plant.proofs.SafeRuns.{every_run}
 
 safe_frame : (turn : Option Turn) (asked : TurnCall) (w : CellState) → IsSafeState w → IsSafeFrame (frame_of turn asked w)

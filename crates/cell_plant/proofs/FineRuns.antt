@@ -1,22 +1,17 @@
 -- In a run at whose end no machine is stopped, no call was out of memory.
 use Rattle.std.proofs.Common.{◌≡◌, Bool, true, false, List, [], ◌∷◌, Option, Some, None, is_none, Result, Ok, Err, refl, sym, ap, ◌∙◌, subst}
-use Rattle.cell_types.specs.declared.machine.Machine.{Machine}
-use Rattle.cell_types.specs.declared.call.Call.{Call}
-use Rattle.cell_types.specs.declared.reply.Reply.{Reply}
-use Rattle.cell_types.specs.Same.{same_machine, one_machine}
+use Rattle.cell_rules.specs.Types.{Machine, Call, Reply, same_machine, one_machine}
 use Rattle.cell_calib.specs.declared.sense.SensorFault.{SensorFault}
 use Rattle.cell_rules.specs.declared.heard.LineFault.{LineFault}
+use Rattle.cell_control.specs.Names.{Steps, outcome, Performed, PerformsCall, PerformsSensed, Turned, Turns, at_rest}
+use Rattle.cell_control.specs.Names.{turned}
 use Rattle.cell_control.specs.declared.fault.CtlFault.{CtlFault}
 use Rattle.cell_control.specs.declared.fault.CtlFault.TheVariants.{Memory}
-use Rattle.cell_control.specs.Steps.{Steps, outcome}
-use Rattle.cell_control.specs.Turns.{Performed, PerformsCall, PerformsSensed, Turned, Turns, at_rest, turned}
-use Rattle.cell_notes.specs.Asks.{TurnCall}
+use Rattle.cell_notes.specs.Names.{TurnCall}
 use Rattle.cell_notes.specs.declared.schedule.Turn.{Turn}
 use Rattle.cell_parts.specs.Axes.{CellScales}
-use Rattle.cell_plant.specs.CellStates.{CellState}
-use Rattle.cell_plant.specs.Machines.{CellGauges, steps_by, rig_of}
-use Rattle.cell_plant.specs.GaugeLaws.{HadMemory}
-use Rattle.cell_plant.specs.Runs.{Step, TakesTurnBy, LeadsIfBy, goes_on, IsRunBy, end_of}
+use Rattle.cell_plant.specs.Names.{CellState, CellGauges, steps_by, rig_of, HadMemory, Step, TakesTurnBy, LeadsIfBy}
+use Rattle.cell_plant.specs.Names.{goes_on, IsRunBy, end_of}
 
 none_some : {A B : Type 0} → (o : Option A) (x : A) → o ≡ None → o ≡ Some x → B
 none_some o x e f = let lie : None ≡ Some x = sym e ∙ f in cc

@@ -2,12 +2,12 @@
 use Rattle.std.proofs.Common.{◌≡◌, ◌≢◌, ℕ, ℤ, pos, Bool, true, false, List, [], ◌∷◌, ◌++◌, append-nil, append_assoc, length, Option, Some, None, is_some, Result, Ok, Err, refl, sym, ap, ◌∙◌, subst}
 use Rattle.cell_haul.specs.declared.feed.FeedStep.{FeedStep}
 use Rattle.cell_haul.specs.declared.feed.FeedStep.TheVariants.{ClaimExit}
+use Rattle.cell_notes.specs.Names.{came_back, is_busy_reply}
 use Rattle.cell_notes.specs.declared.schedule.Turn.{Turn}
-use Rattle.cell_notes.specs.Asks.{came_back, is_busy_reply}
 use Rattle.cell_parts.specs.declared.plant.PlantState.{PlantState}
+use Rattle.cell_plant.specs.Names.{starts, IsShown}
 use Rattle.cell_plant.specs.declared.frame.Frame.{Frame}
-use Rattle.cell_plant.specs.FrameExamples.{FrameExamples, WrongFilms, ShownExamples, Keeps, Fails, starts}
-use Rattle.cell_plant.specs.Frames.{IsShown}
+use Rattle.cell_plant.specs.FrameExamples.{FrameExamples, WrongFilms, ShownExamples, Keeps, Fails}
 use Rattle.cell_plant.proofs.Deciding.{not_so, same_number, equals, true_false, false_true}
 
 -- the first, second and third frame of a film

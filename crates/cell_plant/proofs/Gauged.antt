@@ -1,37 +1,35 @@
 -- A run by what gauges may give is one by what others may give that give as much. So it is a run by readings near the
 -- lines.
 use Rattle.std.proofs.Common.{ℕ, ℤ, Bool, true, false, List, [], ◌∷◌, Result, Ok, Err}
-use Rattle.cell_types.specs.declared.machine.Machine.{Machine}
-use Rattle.cell_types.specs.declared.machine.Machine.TheVariants.{Feed, Table, Robot, Press, Deposit, Crane, Watch}
-use Rattle.cell_calib.specs.Scale.{Scale}
-use Rattle.cell_calib.specs.Line.{IsReading}
+use Rattle.cell_rules.specs.Types.{Machine, Feed, Table, Robot, Press, Deposit, Crane, Watch}
+use Rattle.cell_calib.specs.Names.{Scale, IsReading}
 use Rattle.cell_calib.specs.declared.sense.CraneSense.{CraneSense}
 use Rattle.cell_calib.specs.declared.sense.RobotSense.{RobotSense}
 use Rattle.cell_calib.specs.declared.sense.SensorFault.{SensorFault}
 use Rattle.cell_calib.specs.declared.sense.SensorFault.TheVariants.{Low, High, Clash}
 use Rattle.cell_calib.specs.declared.sense.TableSense.{TableSense}
+use Rattle.cell_haul.specs.Names.{crane_steps}
 use Rattle.cell_haul.specs.declared.crane.CraneReading.{CraneReading}
-use Rattle.cell_haul.specs.CraneProgram.{Senses as CraneSenses, crane_steps}
+use Rattle.cell_haul.specs.CraneProgram.{Senses as CraneSenses}
+use Rattle.cell_robot.specs.Names.{RobotGauges, RobotScales, robot_steps}
 use Rattle.cell_robot.specs.declared.robot.RobotReading.{RobotReading}
-use Rattle.cell_robot.specs.RobotProgram.{RobotGauges, RobotScales, Senses as RobotSenses, robot_steps}
+use Rattle.cell_robot.specs.RobotProgram.{Senses as RobotSenses}
+use Rattle.cell_stations.specs.Names.{table_steps}
 use Rattle.cell_stations.specs.declared.table.TableReading.{TableReading}
-use Rattle.cell_stations.specs.TableProgram.{Senses as TableSenses, table_steps}
+use Rattle.cell_stations.specs.TableProgram.{Senses as TableSenses}
 use Rattle.cell_rules.specs.ModelState.{ModelState}
-use Rattle.cell_notes.specs.Asks.{TurnCall}
+use Rattle.cell_notes.specs.Names.{TurnCall}
 use Rattle.cell_notes.specs.declared.run_record.RunRecord.{RunRecord}
 use Rattle.cell_notes.specs.declared.schedule.Turn.{Turn}
 use Rattle.cell_unit.specs.UnitTurns.{Takes}
 use Rattle.cell_unit.proofs.Turning.{acts_still}
-use Rattle.cell_parts.specs.Axes.{CellScales}
-use Rattle.cell_parts.specs.Rigs.{table_rig, robot_rig, crane_rig}
+use Rattle.cell_parts.specs.Names.{CellScales, table_rig, robot_rig, crane_rig}
+use Rattle.cell_plant.specs.Names.{TellsRun, CellGauges, any_near, robot_axes, robot_gauges, robot_points, steps_by}
+use Rattle.cell_plant.specs.Names.{rig_of, SideOf, CellState, cell_at_start, SeesRun, SeesBeginning, Step}
+use Rattle.cell_plant.specs.Names.{TakesTurnBy, LeadsIfBy, goes_on, IsRun, IsRunBy}
 use Rattle.cell_plant.specs.declared.frame.Frame.{Frame}
 use Rattle.cell_plant.specs.declared.watcher.SeenFault.{SeenFault}
-use Rattle.cell_plant.specs.Cells.{TellsRun}
-use Rattle.cell_plant.specs.Machines.{CellGauges, any_near, robot_axes, robot_gauges, robot_points, steps_by, rig_of}
-use Rattle.cell_plant.specs.CellStates.{SideOf, CellState, cell_at_start}
-use Rattle.cell_plant.specs.Frames.{SeesRun, SeesBeginning}
 use Rattle.cell_plant.specs.GaugeLaws.{RunsAreByGauges}
-use Rattle.cell_plant.specs.Runs.{Step, TakesTurnBy, LeadsIfBy, goes_on, IsRun, IsRunBy}
 
 -- near a line, what one gauge gives another gives
 abbrev pub Gives : Scale → (ℕ → ℤ → Type 0) → (ℕ → ℤ → Type 0) → Type 0

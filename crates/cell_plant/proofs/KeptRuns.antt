@@ -1,19 +1,15 @@
 -- Each machine's invariant holds of its side in every state of a run.
 use Rattle.std.proofs.Common.{◌≡◌, Bool, true, false, None, refl, sym, ap, ◌∙◌, subst}
-use Rattle.cell_types.specs.declared.machine.Machine.{Machine}
-use Rattle.cell_types.specs.declared.machine.Machine.TheVariants.{Feed, Table, Robot, Press, Deposit, Crane, Watch}
-use Rattle.cell_types.specs.Same.{same_machine, one_machine}
-use Rattle.cell_rules.specs.ModelState.{ModelState}
-use Rattle.cell_rules.specs.Sound.{IsSound}
-use Rattle.cell_rules.specs.Laws.{RunsClear}
+use Rattle.cell_rules.specs.Types.{Machine, Feed, Table, Robot, Press, Deposit, Crane, Watch, same_machine}
+use Rattle.cell_rules.specs.Types.{one_machine}
+use Rattle.cell_rules.specs.Names.{ModelState, IsSound, RunsClear}
 use Rattle.cell_rules.proofs.Clear.{clear_next}
 use Rattle.cell_rules.proofs.Soundness.{next_keeps}
 use Rattle.cell_unit.proofs.Running.{none_runs}
 use Rattle.cell_unit.proofs.Keeping.{Keeping, Changes, takes_keeps, takes_changes, others_keep, by_call}
 use Rattle.cell_parts.specs.Axes.{CellScales}
-use Rattle.cell_plant.specs.Machines.{CellGauges, ProgressOf, PartOf, any_near, steps_by, steps_of, rig_of}
-use Rattle.cell_plant.specs.CellStates.{SideOf, CellState}
-use Rattle.cell_plant.specs.Runs.{Step, TakesTurn, LeadsIf, goes_on}
+use Rattle.cell_plant.specs.Names.{CellGauges, ProgressOf, PartOf, any_near, steps_by, steps_of, rig_of, SideOf}
+use Rattle.cell_plant.specs.Names.{CellState, Step, TakesTurn, LeadsIf, goes_on}
 
 -- each program is its machine's
 pub own_program_by : (c : CellScales) (gives : CellGauges) (m : Machine) → (steps_by c gives m).machine ≡ m

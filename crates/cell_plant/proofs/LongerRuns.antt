@@ -3,15 +3,13 @@ use Rattle.std.proofs.Common.{◌≡◌, suc, ◌+◌, Bool, true, false, ◌&&�
 use Rattle.std.proofs.lemmas.List.Sums.{sum_by-append, sum_by-cons}
 use Rattle.cell_types.specs.declared.machine.Machine.{Machine}
 use Rattle.cell_rules.specs.ModelState.{one_if}
+use Rattle.cell_notes.specs.Names.{TurnCall, is_done_reply, is_read_reply, is_refused_reply, is_busy_reply, came_back}
+use Rattle.cell_notes.specs.Names.{settled_in, counts_with}
 use Rattle.cell_notes.specs.declared.counts.Counts.{Counts}
-use Rattle.cell_notes.specs.Asks.{TurnCall, is_done_reply, is_read_reply, is_refused_reply, is_busy_reply, came_back, settled_in}
-use Rattle.cell_notes.specs.Notes.{counts_with}
-use Rattle.cell_parts.specs.Axes.{CellScales}
 use Rattle.cell_notes.specs.declared.schedule.Turn.{Turn}
-use Rattle.cell_plant.specs.Machines.{CellGauges}
-use Rattle.cell_plant.specs.CellStates.{CellState}
-use Rattle.cell_plant.specs.Runs.{Step, LeadsBy, IsRunBy, end_of}
-use Rattle.cell_plant.specs.Records.{is_turn_of, is_told, counts_in, events_in}
+use Rattle.cell_parts.specs.Axes.{CellScales}
+use Rattle.cell_plant.specs.Names.{CellGauges, CellState, Step, LeadsBy, IsRunBy, end_of, is_turn_of, is_told}
+use Rattle.cell_plant.specs.Names.{counts_in, events_in}
 
 -- a run is extended by a turn
 pub run-push : (c : CellScales) (gives : CellGauges) (w : CellState) (ts : List Turn) (ss : List Step) (t : Turn) (s : Step) → IsRunBy c gives w ts ss → s.machine ≡ t.machine → LeadsBy c gives t.machine t.busy (end_of w ss) s → IsRunBy c gives w (ts ++ t ∷ []) (ss ++ s ∷ [])

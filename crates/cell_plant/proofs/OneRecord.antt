@@ -1,11 +1,8 @@
 -- Records of runs of one schedule from one opening, in which no machine was stopped, say the same.
 use Rattle.std.proofs.Common.{◌≡◌, List, [], ◌∷◌, ◌++◌, map, All, Option, Some, None, refl, sym, ap, ◌∙◌, subst}
 use Rattle.std.proofs.lemmas.List.Elements.{All-head, All-tail}
-use Rattle.cell_types.specs.declared.machine.Machine.{Machine}
-use Rattle.cell_types.specs.declared.machine.Machine.TheVariants.{Feed, Table, Robot, Press, Deposit, Crane, Watch}
-use Rattle.cell_types.specs.Everything.{all_machines}
-use Rattle.cell_rules.specs.Journal.{noted}
-use Rattle.cell_rules.specs.ModelState.{ModelState}
+use Rattle.cell_rules.specs.Types.{Machine, Feed, Table, Robot, Press, Deposit, Crane, Watch, all_machines}
+use Rattle.cell_rules.specs.Names.{noted, ModelState}
 use Rattle.cell_control.specs.declared.fault.CtlFault.{CtlFault}
 use Rattle.cell_control.specs.declared.fault.CtlFault.TheVariants as cause
 use Rattle.cell_notes.specs.declared.run_record.RunRecord.{RunRecord}
@@ -14,12 +11,9 @@ use Rattle.cell_notes.specs.declared.status.Status.{Status}
 use Rattle.cell_notes.specs.declared.status.Status.TheVariants.{Fine}
 use Rattle.cell_unit.specs.Statuses.{status_of}
 use Rattle.cell_parts.specs.Axes.{CellScales}
-use Rattle.cell_plant.specs.Cells.{TellsRun}
-use Rattle.cell_plant.specs.CellStates.{CellState, cell_at_start, plant_of}
-use Rattle.cell_plant.specs.GaugeLaws.{HadMemory, SayTheSame, SaysOneThing}
-use Rattle.cell_plant.specs.Machines.{CellGauges}
-use Rattle.cell_plant.specs.Records.{counts_in, events_in, positions_in}
-use Rattle.cell_plant.specs.Runs.{Step, end_of}
+use Rattle.cell_plant.specs.Names.{TellsRun, CellState, cell_at_start, plant_of, HadMemory, SayTheSame, CellGauges}
+use Rattle.cell_plant.specs.Names.{counts_in, events_in, positions_in, Step, end_of}
+use Rattle.cell_plant.specs.GaugeLaws.{SaysOneThing}
 use Rattle.cell_plant.proofs.FineRuns.{had_memory}
 use Rattle.cell_plant.proofs.OneRun.{has_one_run}
 

@@ -1,14 +1,12 @@
 -- By gauges that give one position, a schedule has one run from a state.
 use Rattle.std.proofs.Common.{◌≡◌, Bool, true, false, List, [], ◌∷◌, refl, sym, ap, ◌∙◌, subst}
-use Rattle.cell_types.specs.declared.machine.Machine.{Machine}
-use Rattle.cell_types.specs.Same.{same_machine, one_machine}
+use Rattle.cell_rules.specs.Types.{Machine, same_machine, one_machine}
 use Rattle.cell_notes.specs.declared.schedule.Turn.{Turn}
 use Rattle.cell_unit.specs.Sides.{side_moved}
 use Rattle.cell_parts.specs.Axes.{CellScales, AreCellScales}
-use Rattle.cell_plant.specs.CellStates.{SideOf, CellState}
-use Rattle.cell_plant.specs.Machines.{CellGauges, steps_by, rig_of}
-use Rattle.cell_plant.specs.GaugeLaws.{GiveOne, HadMemory, HasOneRun}
-use Rattle.cell_plant.specs.Runs.{Step, TakesTurnBy, LeadsIfBy, LeadsBy, goes_on, IsRunBy}
+use Rattle.cell_plant.specs.Names.{SideOf, CellState, CellGauges, steps_by, rig_of, GiveOne, HadMemory, Step}
+use Rattle.cell_plant.specs.Names.{TakesTurnBy, LeadsIfBy, LeadsBy, goes_on, IsRunBy}
+use Rattle.cell_plant.specs.GaugeLaws.{HasOneRun}
 use Rattle.cell_plant.proofs.OneTurn.{GotMemory, SameAsk, one_take}
 use Rattle.cell_plant.proofs.OneSense.{one_way}
 use Rattle.cell_plant.proofs.Stepping.{same_state}

@@ -2,7 +2,7 @@
 -- one command.
 use Rattle.std.proofs.Common.{◌≡◌, ℕ, ◌<◌, ◌≤◌, ℤ, ◌+ℤ◌, ◌≤ℤ◌, ◌<ℤ◌, ◌↔◌, IsTrue, Bool, true, false, inl, inr, Result, Ok, Err, refl, sym, ap, ◌∙◌, subst, arith}
 use Rattle.std.proofs.lemmas.Int.{ints, by_lt_z}
-use Rattle.cell_calib.specs.Scale.{Scale, IsScale}
+use Rattle.cell_calib.specs.Names.{Scale, IsScale}
 use Rattle.cell_calib.specs.declared.sense.SensorFault.{SensorFault}
 use Rattle.cell_calib.specs.declared.sense.SensorFault.TheVariants.{Low, High, Clash}
 use Rattle.cell_calib.specs.declared.sense.CraneSense.{CraneSense}
@@ -11,22 +11,20 @@ use Rattle.cell_calib.specs.declared.sense.TableSense.{TableSense}
 use Rattle.cell_calib.proofs.LineLemmas.{one_raw_at}
 use Rattle.cell_devices.specs.Limits.{travel_from}
 use Rattle.cell_devices.proofs.DriveLemmas.{drives_one}
+use Rattle.cell_haul.specs.Names.{crane_steps, gripper_stop, deposit_steps, feed_steps}
 use Rattle.cell_haul.specs.declared.crane.CraneReading.{CraneReading}
-use Rattle.cell_haul.specs.CraneProgram.{Senses as CraneSenses, crane_steps, gripper_stop}
-use Rattle.cell_haul.specs.DepositProgram.{deposit_steps}
-use Rattle.cell_haul.specs.FeedProgram.{feed_steps}
+use Rattle.cell_haul.specs.CraneProgram.{Senses as CraneSenses}
+use Rattle.cell_robot.specs.Names.{RobotGauges, RobotScales, arm1_stop, arm2_stop, robot_steps, turns_to}
 use Rattle.cell_robot.specs.declared.robot.RobotReading.{RobotReading}
-use Rattle.cell_robot.specs.RobotProgram.{Fails, FirstFails, IsRaw, RobotGauges, RobotScales, Senses as RobotSenses, arm1_stop, arm2_stop, robot_steps, turns_to}
+use Rattle.cell_robot.specs.RobotProgram.{Fails, FirstFails, IsRaw, Senses as RobotSenses}
+use Rattle.cell_stations.specs.Names.{press_steps, rotation_stop, table_steps}
 use Rattle.cell_stations.specs.declared.table.TableReading.{TableReading}
-use Rattle.cell_stations.specs.PressProgram.{press_steps}
-use Rattle.cell_stations.specs.TableProgram.{Senses as TableSenses, rotation_stop, table_steps}
-use Rattle.cell_parts.specs.Axes.{CellScales, AreCellScales}
-use Rattle.cell_parts.specs.Rigs.{feed_rig, table_rig, robot_rig, press_rig, deposit_rig, crane_rig}
-use Rattle.cell_parts.specs.Shows.{ShowsRaw}
+use Rattle.cell_stations.specs.TableProgram.{Senses as TableSenses}
+use Rattle.cell_parts.specs.Names.{CellScales, AreCellScales, feed_rig, table_rig, robot_rig, press_rig, deposit_rig}
+use Rattle.cell_parts.specs.Names.{crane_rig, ShowsRaw}
 use Rattle.cell_types.specs.declared.machine.Machine.TheVariants.{Feed, Table, Robot, Press, Deposit, Crane, Watch}
-use Rattle.cell_plant.specs.Machines.{CellGauges, robot_axes, robot_gauges, robot_points, steps_by, rig_of}
-use Rattle.cell_plant.specs.GaugeLaws.{GiveOne, GivesOne}
-use Rattle.cell_plant.specs.Watch.{watch_rig, watch_steps}
+use Rattle.cell_plant.specs.Names.{CellGauges, robot_axes, robot_gauges, robot_points, steps_by, rig_of, GiveOne}
+use Rattle.cell_plant.specs.Names.{GivesOne, watch_rig, watch_steps}
 use Rattle.cell_plant.proofs.OneTurn.{HasOneWay}
 
 -- two switches that are on for the same reason are the same

@@ -1,21 +1,15 @@
 -- A machine has one turn, if its sensors show one thing, their check says one thing, and a drive has one command.
 use Rattle.std.proofs.Common.{◌≡◌, ◌≢◌, ℕ, Bool, true, false, Option, Some, None, Result, Ok, Err, refl, sym, ap, ◌∙◌, subst}
-use Rattle.cell_types.specs.declared.machine.Machine.{Machine}
-use Rattle.cell_types.specs.declared.call.Call.{Call}
-use Rattle.cell_types.specs.declared.answer.Answer.{Answer}
-use Rattle.cell_types.specs.declared.reply.Reply.{Reply}
-use Rattle.cell_types.specs.declared.reply.Reply.TheVariants.{Settled, Busy}
+use Rattle.cell_rules.specs.Types.{Machine, Call, Answer, Reply, Settled, Busy}
 use Rattle.cell_calib.specs.declared.sense.SensorFault.{SensorFault}
+use Rattle.cell_rules.specs.Names.{ModelState}
 use Rattle.cell_rules.specs.declared.heard.LineFault.{LineFault}
-use Rattle.cell_rules.specs.ModelState.{ModelState}
+use Rattle.cell_control.specs.Names.{Rig, Steps, outcome, Performed, PerformsCall, PerformsSensed, Turned, Turns}
+use Rattle.cell_control.specs.Names.{at_rest, turned}
 use Rattle.cell_control.specs.declared.fault.CtlFault.{CtlFault}
 use Rattle.cell_control.specs.declared.fault.CtlFault.TheVariants.{Sensor}
-use Rattle.cell_control.specs.Rigs.{Rig}
-use Rattle.cell_control.specs.Steps.{Steps, outcome}
-use Rattle.cell_control.specs.Turns.{Performed, PerformsCall, PerformsSensed, Turned, Turns, at_rest, turned}
 use Rattle.cell_notes.specs.Asks.{TurnCall}
-use Rattle.cell_unit.specs.Sides.{Side, Acts, side_set}
-use Rattle.cell_unit.specs.UnitTurns.{Answers, Takes}
+use Rattle.cell_unit.specs.Names.{Side, Acts, side_set, Answers, Takes}
 
 abbrev pub GotMemory : TurnCall → Type 0
 GotMemory asked = (call : Call) (fault : LineFault) → asked ≢ Some (call, Err fault)

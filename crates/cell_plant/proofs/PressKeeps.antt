@@ -2,47 +2,39 @@
 use Rattle.std.proofs.Common.{◌≡◌, pos, ◌≤ℤ◌, Bool, true, false, ◌⊎◌, inl, inr, [], ◌∷◌, Option, Some, None, Result, Ok, Err, refl, sym, ap, ◌∙◌, subst, if◌then◌else◌, arith}
 use Rattle.std.proofs.lemmas.Int.{ints}
 use Rattle.std.proofs.lemmas.Bool.{false_from_ne_true}
-use Rattle.cell_types.specs.declared.machine.Machine.TheVariants.{Press}
-use Rattle.cell_types.specs.declared.zone.Zone.TheVariants.{Z3}
-use Rattle.cell_types.specs.declared.posture.Posture.{Posture}
-use Rattle.cell_types.specs.declared.posture.Posture.TheVariants.{Closed, Moving, OpenIn, OpenOut}
-use Rattle.cell_types.specs.declared.pose.Pose.TheVariants.{Travelling, Middle, Low, Top}
-use Rattle.cell_types.specs.declared.call.Call.{Call}
-use Rattle.cell_types.specs.declared.call.Call.TheVariants.{Claim, Give, Take, Release, SetPose, Advance}
-use Rattle.cell_types.specs.declared.answer.Answer.TheVariants.{Done}
-use Rattle.cell_types.specs.declared.reply.Reply.{Reply}
+use Rattle.cell_rules.specs.Types.{Press, Z3, Posture, Closed, Moving, OpenIn, OpenOut, Travelling, Middle, Low, Top}
+use Rattle.cell_rules.specs.Types.{Call, Claim, Give, Take, Release, SetPose, Advance, Done, Reply}
 use Rattle.cell_calib.specs.declared.sense.PressSense.{PressSense}
 use Rattle.cell_calib.specs.declared.sense.SensorFault.TheVariants.{Clash}
+use Rattle.cell_devices.specs.Names.{motor_of}
 use Rattle.cell_devices.specs.declared.motor.Direction.{Direction}
-use Rattle.cell_devices.specs.declared.motor.Direction.TheVariants.{Plus as Upward, Minus as Downward}
 use Rattle.cell_devices.specs.declared.motor.Motor.{Motor}
 use Rattle.cell_devices.specs.declared.motor.Motor.TheVariants.{Off, Plus, Minus}
 use Rattle.cell_devices.specs.declared.act.PressAct.{PressAct}
-use Rattle.cell_devices.specs.Motors.{motor_of}
+use Rattle.cell_devices.specs.declared.motor.Direction.TheVariants.{Plus as Upward, Minus as Downward}
+use Rattle.cell_rules.specs.Names.{ModelState, IsSound, posture_at, reply, changed, IsStartState}
 use Rattle.cell_rules.specs.declared.heard.LineFault.{LineFault}
-use Rattle.cell_rules.specs.ModelState.{ModelState}
-use Rattle.cell_rules.specs.Sound.{IsSound}
-use Rattle.cell_rules.specs.Refusals.{posture_at}
-use Rattle.cell_rules.specs.Reply.{reply, changed}
-use Rattle.cell_rules.specs.Start.{IsStartState}
 use Rattle.cell_rules.proofs.OwnSide.{posture-foreign}
+use Rattle.cell_control.specs.Names.{Turned, Turns}
 use Rattle.cell_control.specs.declared.fault.CtlFault.{CtlFault}
-use Rattle.cell_control.specs.Turns.{Turned, Turns}
+use Rattle.cell_stations.specs.Names.{with_plates, by_plates, row_at, after_motor, press_start, press_steps}
 use Rattle.cell_stations.specs.declared.press.PressStep.{PressStep}
-use Rattle.cell_stations.specs.declared.press.PressStep.TheVariants.{ClaimFirst, LeaveForMiddle, MoveToMiddle, PoseMiddle, ReleaseInterior, TakePlate, LeaveForTop, MoveToTop, PoseTop, Forge, LeaveForBottom, MoveToBottom, PoseLow, GivePlate, ClaimBack}
+use Rattle.cell_stations.specs.declared.press.PressStep.TheVariants.{ClaimFirst, LeaveForMiddle, MoveToMiddle}
+use Rattle.cell_stations.specs.declared.press.PressStep.TheVariants.{PoseMiddle, ReleaseInterior, TakePlate}
+use Rattle.cell_stations.specs.declared.press.PressStep.TheVariants.{LeaveForTop, MoveToTop, PoseTop, Forge}
+use Rattle.cell_stations.specs.declared.press.PressStep.TheVariants.{LeaveForBottom, MoveToBottom, PoseLow, GivePlate}
+use Rattle.cell_stations.specs.declared.press.PressStep.TheVariants.{ClaimBack}
 use Rattle.cell_stations.specs.declared.press.PressProgress.{PressProgress}
-use Rattle.cell_stations.specs.PressProgram.{with_plates, by_plates, row_at, row_of, after_done, step_motor, act_for, after_motor, clashes, press_start, press_steps}
+use Rattle.cell_stations.specs.PressProgram.{row_of, after_done, step_motor, act_for, clashes}
 use Rattle.cell_control.proofs.Facts.{Finds}
 use Rattle.cell_stations.proofs.PressFacts.{PressKnows, press-knowing, drives_at}
 use Rattle.cell_unit.specs.Sides.{act_or_rest}
 use Rattle.cell_unit.proofs.Keeping.{Keeping, turn_tells}
 use Rattle.cell_unit.proofs.Demanding.{Demanding, WhileOn, demanding_while_on}
+use Rattle.cell_parts.specs.Names.{press_end, IsWithin, set_axis, press_at_start, PressShows, IsOn, RestsAtMiddle}
+use Rattle.cell_parts.specs.Names.{RestsAtBottom, DrivesPast, press_rig}
 use Rattle.cell_parts.specs.declared.axis.Axis.{Axis}
-use Rattle.cell_parts.specs.Axes.{press_end, IsWithin}
-use Rattle.cell_parts.specs.Plant.{set_axis, set_press, moved_press, press_at_start}
-use Rattle.cell_parts.specs.Shows.{PressShows}
-use Rattle.cell_parts.specs.Collisions.{IsOn, RestsAtMiddle, RestsAtBottom, DrivesPast}
-use Rattle.cell_parts.specs.Rigs.{press_rig}
+use Rattle.cell_parts.specs.Plant.{set_press, moved_press}
 use Rattle.cell_plant.proofs.WithinLemmas.{between, moved_within}
 
 -- what its controller knows of the interlock; it is within its ends, rests where an open posture says, and is at a

@@ -1,23 +1,15 @@
 -- The figures of the records of literal runs, and records that are wrong in one thing.
 use Rattle.std.proofs.Common.{◌≡◌, ◌≢◌, ℕ, ℤ, pos, List, [], ◌∷◌, length, get_or, Some, None, refl, sym, ap, ◌∙◌}
-use Rattle.cell_types.specs.declared.machine.Machine.{Machine}
-use Rattle.cell_types.specs.declared.machine.Machine.TheVariants.{Feed, Table, Robot, Watch}
-use Rattle.cell_types.specs.declared.answer.Answer.TheVariants.{Done, Refused}
-use Rattle.cell_types.specs.declared.answer.Refusal.TheVariants.{Shut}
-use Rattle.cell_types.specs.declared.posture.Posture.TheVariants.{Closed}
-use Rattle.cell_types.specs.declared.journal.Entry.{Entry}
-use Rattle.cell_types.specs.declared.journal.Journals.{Journals}
-use Rattle.cell_rules.specs.ModelState.{ModelState}
-use Rattle.cell_rules.specs.Journal.{noted}
+use Rattle.cell_rules.specs.Types.{Machine, Feed, Table, Robot, Watch, Done, Refused, Shut, Closed, Entry, Journals}
+use Rattle.cell_rules.specs.Names.{ModelState, noted}
+use Rattle.cell_notes.specs.Names.{no_counts}
 use Rattle.cell_notes.specs.declared.counts.Counts.{Counts}
 use Rattle.cell_notes.specs.declared.run_record.RunRecord.{RunRecord}
 use Rattle.cell_notes.specs.declared.status.Status.{Status}
 use Rattle.cell_notes.specs.declared.status.Status.TheVariants.{Fine, Memory}
-use Rattle.cell_notes.specs.Notes.{no_counts}
-use Rattle.cell_plant.specs.Records.{IsRecordOf, events_in}
-use Rattle.cell_plant.specs.Runs.{end_of}
-use Rattle.cell_plant.specs.RunExamples.{opening, at_first, steps}
-use Rattle.cell_plant.specs.RecordExamples.{IsOfLiteralRun, IsOfApart, WrongRecords, IsRecord, AreJournals, IsOfOneStop, counts_of, journal_by, done_entry, refused_entry, stop_entry, first_stop, steps_apart, last_apart, journals_apart, with_feed_counts}
+use Rattle.cell_plant.specs.Names.{IsRecordOf, events_in, end_of, opening, at_first, steps, IsOfLiteralRun}
+use Rattle.cell_plant.specs.Names.{IsOfOneStop, counts_of}
+use Rattle.cell_plant.specs.RecordExamples.{IsOfApart, WrongRecords, IsRecord, AreJournals, journal_by, done_entry, refused_entry, stop_entry, first_stop, steps_apart, last_apart, journals_apart, with_feed_counts}
 use Rattle.cell_plant.proofs.Deciding.{not_so, equals, same_number}
 use Rattle.cell_plant.proofs.ExampleTurns.{one_stop}
 

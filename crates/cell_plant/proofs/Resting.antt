@@ -1,20 +1,14 @@
 -- A turn that an error ends sets the actuators to rest.
 use Rattle.std.proofs.Common.{◌≡◌, Option, Some, None, Result, Ok, Err, refl, sym, ap, ◌∙◌, subst}
-use Rattle.cell_types.specs.declared.machine.Machine.{Machine}
-use Rattle.cell_types.specs.declared.machine.Machine.TheVariants.{Feed, Table, Robot, Press, Deposit, Crane, Watch}
-use Rattle.cell_types.specs.declared.call.Call.{Call}
-use Rattle.cell_types.specs.declared.reply.Reply.{Reply}
+use Rattle.cell_rules.specs.Types.{Machine, Feed, Table, Robot, Press, Deposit, Crane, Watch, Call, Reply}
 use Rattle.cell_rules.specs.declared.heard.LineFault.{LineFault}
+use Rattle.cell_control.specs.Names.{Rig, Steps, Performed, Turned, Turns, turned}
 use Rattle.cell_control.specs.declared.fault.CtlFault.{CtlFault}
-use Rattle.cell_control.specs.Rigs.{Rig}
-use Rattle.cell_control.specs.Steps.{Steps}
-use Rattle.cell_control.specs.Turns.{Performed, Turned, Turns, turned}
 use Rattle.cell_notes.specs.Asks.{TurnCall, done_in}
 use Rattle.cell_unit.specs.Sides.{Side, Acts, ActsAndMoves, act_or_rest, noting, part_set}
 use Rattle.cell_parts.specs.Axes.{CellScales}
-use Rattle.cell_plant.specs.CellStates.{SideOf}
-use Rattle.cell_plant.specs.Machines.{ProgressOf, PartOf, steps_of, rig_of}
-use Rattle.cell_plant.specs.Resting.{IsAtRest, StoppedMachinesRest}
+use Rattle.cell_plant.specs.Names.{SideOf, ProgressOf, PartOf, steps_of, rig_of, IsAtRest}
+use Rattle.cell_plant.specs.Resting.{StoppedMachinesRest}
 
 module _ {S Sense Reading Act : Type 0} (t : Steps S Sense Reading Act) (same : Type 0) (asks : Call → Result Reply LineFault → Type 0) where
   fault_rests : (p : S) (r : Performed S Act) (fault : CtlFault) → (turned p r).stopped ≡ Some fault → act_or_rest (t.rest p) (turned p r).result ≡ t.rest p

@@ -2,45 +2,49 @@
 use Rattle.std.proofs.Common.{◌≡◌, ℤ, pos, ◌≤ℤ◌, Bool, true, false, not, ◌&&◌, ◌||◌, ◌⊎◌, inl, inr, Option, Some, None, Result, Ok, refl, sym, ap, ◌∙◌, subst, if◌then◌else◌, arith}
 use Rattle.std.specs.Prelude.{⊤}
 use Rattle.std.proofs.lemmas.Int.{ints}
-use Rattle.cell_types.specs.declared.machine.Machine.{Machine}
-use Rattle.cell_types.specs.declared.machine.Machine.TheVariants.{Robot}
-use Rattle.cell_types.specs.declared.call.Call.{Call}
-use Rattle.cell_types.specs.declared.reply.Reply.{Reply}
-use Rattle.cell_types.specs.declared.posture.Posture.{Posture}
-use Rattle.cell_types.specs.declared.posture.Posture.TheVariants.{OpenIn, OpenOut}
-use Rattle.cell_types.specs.declared.zone.Zone.TheVariants.{Z2, Z3, Z4}
-use Rattle.cell_calib.specs.Line.{IsNear}
+use Rattle.cell_rules.specs.Types.{Machine, Robot, Call, Reply, Posture, OpenIn, OpenOut, Z2, Z3, Z4}
+use Rattle.cell_calib.specs.Names.{IsNear}
 use Rattle.cell_calib.specs.declared.sense.RobotSense.{RobotSense}
+use Rattle.cell_devices.specs.Names.{DrivesTo}
 use Rattle.cell_devices.specs.declared.motor.Motor.{Motor}
 use Rattle.cell_devices.specs.declared.motor.Motor.TheVariants.{Off}
 use Rattle.cell_devices.specs.declared.act.RobotAct.{RobotAct}
 use Rattle.cell_devices.specs.declared.stops.Stop.{Stop}
-use Rattle.cell_devices.specs.declared.stops.TheConstants.{RETRACTED, ARM1_PRESS, ARM2_DEPOSIT, ROTATION_ARM1_TABLE, ROTATION_ARM1_PRESS, ROTATION_ARM2_PRESS, ROTATION_ARM2_DEPOSIT}
-use Rattle.cell_devices.specs.Drives.{DrivesTo}
+use Rattle.cell_devices.specs.declared.stops.TheConstants.{RETRACTED, ARM1_PRESS, ARM2_DEPOSIT, ROTATION_ARM1_TABLE}
+use Rattle.cell_devices.specs.declared.stops.TheConstants.{ROTATION_ARM1_PRESS, ROTATION_ARM2_PRESS}
+use Rattle.cell_devices.specs.declared.stops.TheConstants.{ROTATION_ARM2_DEPOSIT}
+use Rattle.cell_rules.specs.Names.{ModelState, changed}
 use Rattle.cell_rules.specs.declared.heard.LineFault.{LineFault}
-use Rattle.cell_rules.specs.ModelState.{ModelState}
-use Rattle.cell_rules.specs.Reply.{changed}
+use Rattle.cell_control.specs.Names.{Turned, Turns}
 use Rattle.cell_control.specs.declared.fault.CtlFault.{CtlFault}
-use Rattle.cell_control.specs.Turns.{Turned, Turns}
 use Rattle.cell_control.proofs.Facts.{AreSo}
+use Rattle.cell_robot.specs.Names.{choice, row_at, row_of, step_after_inquiry, after_done, notes_at, robot_start}
+use Rattle.cell_robot.specs.Names.{RobotScales, near_lines, Senses, turns_to, arm1_stop, arm2_stop, Acts, is_done}
+use Rattle.cell_robot.specs.Names.{robot_rest, robot_steps}
 use Rattle.cell_robot.specs.declared.robot.RobotStep.{RobotStep}
-use Rattle.cell_robot.specs.declared.robot.RobotStep.TheVariants.{TurnToTable, AwaitPlate, ReachTable, GripPlate, LeaveTable, TakePlate, ReleaseTable, TurnToLoad, ClaimPress, InspectPress, ReleasePress, ReachToLoad, DropInPress, LeaveLoaded, GiveToPress, TurnToUnload, AwaitForged, ReachToUnload, GripForged, LeaveUnloaded, TakeForged, ReleaseUnloaded, TurnToDeposit, ClaimDeposit, ReachDeposit, DropOnDeposit, LeaveDeposit, GiveToDeposit}
+use Rattle.cell_robot.specs.declared.robot.RobotStep.TheVariants.{TurnToTable, AwaitPlate, ReachTable, GripPlate}
+use Rattle.cell_robot.specs.declared.robot.RobotStep.TheVariants.{LeaveTable, TakePlate, ReleaseTable, TurnToLoad}
+use Rattle.cell_robot.specs.declared.robot.RobotStep.TheVariants.{ClaimPress, InspectPress, ReleasePress, ReachToLoad}
+use Rattle.cell_robot.specs.declared.robot.RobotStep.TheVariants.{DropInPress, LeaveLoaded, GiveToPress, TurnToUnload}
+use Rattle.cell_robot.specs.declared.robot.RobotStep.TheVariants.{AwaitForged, ReachToUnload, GripForged}
+use Rattle.cell_robot.specs.declared.robot.RobotStep.TheVariants.{LeaveUnloaded, TakeForged, ReleaseUnloaded}
+use Rattle.cell_robot.specs.declared.robot.RobotStep.TheVariants.{TurnToDeposit, ClaimDeposit, ReachDeposit}
+use Rattle.cell_robot.specs.declared.robot.RobotStep.TheVariants.{DropOnDeposit, LeaveDeposit, GiveToDeposit}
 use Rattle.cell_robot.specs.declared.robot.RobotNotes.{RobotNotes}
 use Rattle.cell_robot.specs.declared.robot.RobotProgress.{RobotProgress}
 use Rattle.cell_robot.specs.declared.robot.RobotReading.{RobotReading}
-use Rattle.cell_robot.specs.RobotProgram.{choice, row_at, row_of, step_after_inquiry, after_done, notes_at, robot_start, RobotScales, near_lines, Senses, rotation_stop, turns_to, arm1_stop, arm2_stop, Acts, is_off, turns, is_done, robot_rest, robot_steps}
+use Rattle.cell_robot.specs.RobotProgram.{rotation_stop, is_off, turns}
 use Rattle.cell_robot.proofs.RobotFacts.{facts_at, RobotKnows, at_choice, robot-knowing}
 use Rattle.cell_unit.specs.Sides.{act_or_rest}
 use Rattle.cell_unit.proofs.Keeping.{Keeping, turn_tells}
+use Rattle.cell_parts.specs.Names.{IsAxisScale, IsWithin, IsIn, arm_end, rotation_end, robot_at_start, moved_axis}
+use Rattle.cell_parts.specs.Names.{set_axis, set_robot, robot_rig, IsOn, IsOut, IsArm1AtTable, IsArm1InPress}
+use Rattle.cell_parts.specs.Names.{IsArm2InPress, IsArm2AtDeposit, LetsGo, Arm1MayLetGo, Arm2MayLetGo, DrivesPast}
+use Rattle.cell_parts.specs.Names.{RotatesRetracted, HoldsIn}
 use Rattle.cell_parts.specs.declared.axis.Axis.{Axis}
-use Rattle.cell_parts.specs.Axes.{RobotScales as PartScales, IsAxisScale, IsWithin, IsIn, arm_end, rotation_end, rotation_start}
 use Rattle.cell_parts.specs.declared.plant.RobotPlant.{RobotPlant}
-use Rattle.cell_parts.specs.Plant.{robot_at_start, moved_axis, set_axis, set_robot}
-use Rattle.cell_parts.specs.Rigs.{robot_rig}
+use Rattle.cell_parts.specs.Axes.{RobotScales as PartScales, rotation_start}
 use Rattle.cell_parts.specs.Shows.{RobotShows}
-use Rattle.cell_parts.specs.Collisions.{IsOn, IsOut, IsArm1AtTable, IsArm1InPress, IsArm2InPress, IsArm2AtDeposit, LetsGo, Arm1MayLetGo, Arm2MayLetGo, DrivesPast}
-use Rattle.cell_parts.specs.MotorDemands.{RotatesRetracted}
-use Rattle.cell_parts.specs.PositionDemands.{HoldsIn}
 use Rattle.cell_plant.proofs.Magnets.{still_on}
 use Rattle.cell_plant.proofs.Stops.{reading_near, span_of, at_stop, StopsWithin, off_within, driven_within}
 use Rattle.cell_plant.proofs.WithinLemmas.{between, moved_within}

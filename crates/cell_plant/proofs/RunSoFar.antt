@@ -2,40 +2,26 @@
 use Rattle.std.proofs.Common.{◌≡◌, ℕ, ◌<◌, ◌≤◌, Bool, true, false, ◌&&◌, cond, List, [], ◌∷◌, ◌++◌, append-nil, length, take, map, count_by, Some, None, Result, Ok, Err, refl, sym, ap, ◌∙◌, subst, if◌then◌else◌, arith}
 use Rattle.std.proofs.lemmas.List.{length-take-le}
 use Rattle.std.proofs.lemmas.List.Sums.{count_by-le-length}
-use Rattle.cell_types.specs.declared.machine.Machine.{Machine}
-use Rattle.cell_types.specs.declared.machine.Machine.TheVariants.{Feed, Table, Robot, Press, Deposit, Crane, Watch}
-use Rattle.cell_types.specs.declared.call.Call.{Call}
-use Rattle.cell_types.specs.declared.answer.Answer.{Answer}
-use Rattle.cell_types.specs.declared.answer.Event.{Event}
-use Rattle.cell_types.specs.declared.journal.Entry.{Entry}
-use Rattle.cell_types.specs.declared.reply.Reply.{Reply}
-use Rattle.cell_types.specs.declared.reply.Reply.TheVariants.{Settled, Busy}
-use Rattle.cell_types.specs.Everything.{all_machines}
-use Rattle.cell_types.specs.Same.{same_machine}
+use Rattle.cell_rules.specs.Types.{Machine, Feed, Table, Robot, Press, Deposit, Crane, Watch, Call, Answer, Event}
+use Rattle.cell_rules.specs.Types.{Entry, Reply, Settled, Busy, all_machines, same_machine}
+use Rattle.cell_rules.specs.Names.{ModelState, noted, entry_of, after, IsLegal, IsStartState}
 use Rattle.cell_rules.specs.declared.heard.LineFault.{LineFault}
-use Rattle.cell_rules.specs.ModelState.{ModelState}
-use Rattle.cell_rules.specs.Journal.{noted, entry_of}
-use Rattle.cell_rules.specs.History.{after, IsLegal}
-use Rattle.cell_rules.specs.Start.{IsStartState}
 use Rattle.cell_rules.proofs.Histories.{after-append}
 use Rattle.cell_rules.proofs.Notes.{noted-append}
 use Rattle.cell_rules.proofs.SeenLemmas.{legal-append}
 use Rattle.cell_control.proofs.TurnMaps.{turn_either}
+use Rattle.cell_notes.specs.Names.{TurnCall, is_done_reply, is_read_reply, is_refused_reply, is_busy_reply}
+use Rattle.cell_notes.specs.Names.{settled_in, Notes, no_notes, HasRoom, counts_with, notes_with, at_machine}
 use Rattle.cell_notes.specs.declared.counts.Counts.{Counts}
 use Rattle.cell_notes.specs.declared.run_record.RunRecord.{RunRecord}
-use Rattle.cell_notes.specs.Asks.{TurnCall, is_done_reply, is_read_reply, is_refused_reply, is_busy_reply, settled_in, entries_in}
-use Rattle.cell_notes.specs.Notes.{Notes, no_notes, HasRoom, counts_with, notes_with}
-use Rattle.cell_unit.specs.Statuses.{status_of}
-use Rattle.cell_unit.specs.UnitTurns.{Answers}
-use Rattle.cell_parts.specs.Axes.{CellScales, AreCellScales}
 use Rattle.cell_notes.specs.declared.schedule.Turn.{Turn}
-use Rattle.cell_plant.specs.Machines.{CellGauges, steps_by}
-use Rattle.cell_plant.specs.CellStates.{CellState, plant_of, cell_at_start}
-use Rattle.cell_plant.specs.Runs.{Step, TakesTurnBy, LeadsIfBy, LeadsBy, goes_on, IsRunBy, end_of}
-use Rattle.cell_plant.specs.Records.{is_turn_of, is_told, counts_in, events_in, positions_in}
-use Rattle.cell_plant.specs.Cells.{TellsRun}
-use Rattle.cell_notes.specs.ByMachine.{at_machine}
-use Rattle.cell_plant.specs.Moments.{RunMoment, StepsOn, Keeps, first_moment, state_at}
+use Rattle.cell_notes.specs.Asks.{entries_in}
+use Rattle.cell_unit.specs.Names.{status_of, Answers}
+use Rattle.cell_parts.specs.Axes.{CellScales, AreCellScales}
+use Rattle.cell_plant.specs.Names.{CellGauges, steps_by, CellState, plant_of, cell_at_start, Step, TakesTurnBy}
+use Rattle.cell_plant.specs.Names.{LeadsIfBy, LeadsBy, goes_on, IsRunBy, end_of, is_turn_of, is_told, counts_in}
+use Rattle.cell_plant.specs.Names.{events_in, positions_in, TellsRun, RunMoment, StepsOn, Keeps, first_moment}
+use Rattle.cell_plant.specs.Names.{state_at}
 use Rattle.cell_plant.proofs.Gauged.{run_near}
 use Rattle.cell_plant.proofs.KeptRuns.{own_program_by}
 use Rattle.cell_plant.proofs.LongerRuns.{run-push, end-push, run-length, events-push, counts-push}

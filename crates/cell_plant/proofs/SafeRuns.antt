@@ -1,45 +1,31 @@
 -- Every state of a run is safe: together the machines' invariants meet all demands, so nothing collides.
 use Rattle.std.proofs.Common.{◌≡◌, Bool, true, false, inl, inr, Option, Some, None, List, [], ◌∷◌, refl, sym, ap, ◌∙◌, subst}
-use Rattle.cell_types.specs.declared.machine.Machine.{Machine}
-use Rattle.cell_types.specs.declared.machine.Machine.TheVariants.{Feed, Table, Robot, Press, Deposit, Crane, Watch}
-use Rattle.cell_rules.specs.PlaceSet.{PlaceSet}
-use Rattle.cell_rules.specs.ModelState.{ModelState}
-use Rattle.cell_rules.specs.Laws.{RunsClear}
-use Rattle.cell_rules.specs.Start.{IsStartState, start_state}
-use Rattle.cell_types.specs.declared.answer.Event.{Event}
-use Rattle.cell_calib.specs.Line.{IsReading}
-use Rattle.cell_control.specs.Rigs.{Rig}
-use Rattle.cell_control.specs.Steps.{Steps}
-use Rattle.cell_control.specs.Turns.{Turned}
+use Rattle.cell_rules.specs.Types.{Machine, Feed, Table, Robot, Press, Deposit, Crane, Watch, Event}
+use Rattle.cell_rules.specs.Names.{PlaceSet, ModelState, RunsClear, IsStartState, start_state}
+use Rattle.cell_calib.specs.Names.{IsReading}
 use Rattle.cell_calib.specs.declared.sense.CraneSense.{CraneSense}
+use Rattle.cell_calib.specs.declared.sense.RobotSense.{RobotSense}
+use Rattle.cell_control.specs.Names.{Rig, Steps, Turned}
 use Rattle.cell_devices.specs.declared.act.CraneAct.{CraneAct}
+use Rattle.cell_devices.specs.declared.act.RobotAct.{RobotAct}
+use Rattle.cell_haul.specs.Names.{crane_steps}
 use Rattle.cell_haul.specs.declared.crane.CraneProgress.{CraneProgress}
 use Rattle.cell_haul.specs.declared.crane.CraneReading.{CraneReading}
-use Rattle.cell_haul.specs.CraneProgram.{crane_steps}
-use Rattle.cell_calib.specs.declared.sense.RobotSense.{RobotSense}
-use Rattle.cell_devices.specs.declared.act.RobotAct.{RobotAct}
+use Rattle.cell_robot.specs.Names.{RobotScales, near_lines, robot_rest, robot_steps}
 use Rattle.cell_robot.specs.declared.robot.RobotProgress.{RobotProgress}
 use Rattle.cell_robot.specs.declared.robot.RobotReading.{RobotReading}
-use Rattle.cell_robot.specs.RobotProgram.{RobotScales, near_lines, robot_rest, robot_steps}
-use Rattle.cell_stations.specs.PressProgram.{press_steps}
-use Rattle.cell_stations.specs.TableProgram.{table_steps}
-use Rattle.cell_notes.specs.Asks.{TurnCall, done_in}
+use Rattle.cell_stations.specs.Names.{press_steps, table_steps}
+use Rattle.cell_notes.specs.Names.{TurnCall, done_in}
+use Rattle.cell_notes.specs.declared.schedule.Turn.{Turn}
 use Rattle.cell_unit.specs.Sides.{Side, noting, act_or_rest, side_set}
-use Rattle.cell_parts.specs.Rigs.{table_rig, robot_rig, press_rig, crane_rig}
-use Rattle.cell_parts.specs.Axes.{CellScales, AreCellScales}
-use Rattle.cell_parts.specs.Collisions.{LetsGo, Arm1MayLetGo, Arm2MayLetGo, CraneMayLetGo, PlateFalls, DrivesPastEnd}
-use Rattle.cell_parts.specs.Plant.{StaysWithin, set_robot, set_crane}
-use Rattle.cell_parts.specs.PositionDemands.{PositionDemands}
-use Rattle.cell_parts.specs.MotorDemands.{GripperErrand, MotorDemands}
-use Rattle.cell_parts.specs.Laws.{AllDemandsMet}
+use Rattle.cell_parts.specs.Names.{table_rig, robot_rig, press_rig, crane_rig, CellScales, AreCellScales, LetsGo}
+use Rattle.cell_parts.specs.Names.{Arm1MayLetGo, Arm2MayLetGo, CraneMayLetGo, PlateFalls, DrivesPastEnd, StaysWithin}
+use Rattle.cell_parts.specs.Names.{set_robot, set_crane, PositionDemands, GripperErrand, MotorDemands, AllDemandsMet}
 use Rattle.cell_parts.proofs.NoCollision.{nothing_collides}
 use Rattle.cell_team.proofs.Together.{sound_start}
-use Rattle.cell_notes.specs.declared.schedule.Turn.{Turn}
-use Rattle.cell_plant.specs.Machines.{robot_points, robot_axes}
-use Rattle.cell_plant.specs.CellStates.{CellState, plant_of, cell_at_start}
-use Rattle.cell_plant.specs.Runs.{Step, TakesTurn, LeadsIf, goes_on, IsRun}
-use Rattle.cell_plant.specs.Errands.{errand_of}
-use Rattle.cell_plant.specs.Safety.{IsSafeState, IsSafelySet, IsSafeRun, EveryRunIsSafe}
+use Rattle.cell_plant.specs.Names.{robot_points, robot_axes, CellState, plant_of, cell_at_start, Step, TakesTurn}
+use Rattle.cell_plant.specs.Names.{LeadsIf, goes_on, IsRun, errand_of, IsSafeState, IsSafelySet, IsSafeRun}
+use Rattle.cell_plant.specs.Safety.{EveryRunIsSafe}
 use Rattle.cell_plant.proofs.KeptRuns.{CellInv, step_keeps}
 use Rattle.cell_plant.proofs.CellKeeps.{InvOf, ToldOf, keeping_of, starts}
 use Rattle.cell_plant.proofs.CraneKeeps.{gripper-down, gripper-driven, travels-high, crane-ends, crane-lets-go}

@@ -1,14 +1,9 @@
 -- Machines that stand at steps of their programs, over one history: no refusal has stopped one.
 use Rattle.std.proofs.Common.{◌≡◌, false, List, Option, Some, refl}
-use Rattle.cell_types.specs.declared.machine.Machine.{Machine}
-use Rattle.cell_types.specs.declared.machine.Machine.TheVariants.{Feed, Table, Robot, Press, Deposit, Crane, Watch}
-use Rattle.cell_types.specs.declared.answer.Refusal.{Refusal}
-use Rattle.cell_types.specs.declared.answer.Event.{Event}
-use Rattle.cell_types.specs.Same.{same_machine}
+use Rattle.cell_rules.specs.Types.{Machine, Feed, Table, Robot, Press, Deposit, Crane, Watch, Refusal, Event}
+use Rattle.cell_rules.specs.Types.{same_machine}
 use Rattle.cell_calib.specs.Line.{IsReading}
-use Rattle.cell_rules.specs.ModelState.{ModelState}
-use Rattle.cell_rules.specs.Start.{IsStartState}
-use Rattle.cell_rules.specs.History.{IsLegal}
+use Rattle.cell_rules.specs.Names.{ModelState, IsStartState, IsLegal}
 use Rattle.cell_control.specs.declared.fault.CtlFault.{CtlFault}
 use Rattle.cell_control.specs.declared.fault.CtlFault.TheVariants as fault
 use Rattle.cell_haul.specs.CraneProgram.{Senses as CraneSenses, crane_steps}
@@ -16,8 +11,8 @@ use Rattle.cell_robot.specs.RobotProgram.{near_lines, Senses as RobotSenses, rob
 use Rattle.cell_stations.specs.TableProgram.{Senses as TableSenses, table_steps}
 use Rattle.cell_parts.specs.Axes.{CellScales}
 use Rattle.cell_plant.specs.Machines.{CellGauges, ProgressOf, robot_gauges, robot_points, steps_by, steps_of}
-use Rattle.cell_team.specs.Team.{Team, programs_of, HaveCome}
-use Rattle.cell_team.specs.Heeded.{IsUnstopped, AreUnstopped}
+use Rattle.cell_team.specs.Names.{Team, programs_of, HaveCome, AreUnstopped}
+use Rattle.cell_team.specs.Heeded.{IsUnstopped}
 use Rattle.cell_team.proofs.Stopping.{none-stopped}
 use Rattle.cell_team.proofs.Sensed.{stands_still}
 use Rattle.cell_team.proofs.Turned.{Stands}

@@ -1,10 +1,9 @@
 -- A machine at the start of its program is ready.
 use Rattle.std.proofs.Common.{◌≡◌, List, [], Option, sym, ap, ◌∙◌}
 use Rattle.cell_types.specs.declared.answer.Event.{Event}
-use Rattle.cell_rules.specs.ModelState.{ModelState}
-use Rattle.cell_rules.specs.History.{own_events}
+use Rattle.cell_rules.specs.Names.{ModelState, own_events}
+use Rattle.cell_control.specs.Names.{Steps}
 use Rattle.cell_control.specs.declared.fault.CtlFault.{CtlFault}
-use Rattle.cell_control.specs.Steps.{Steps}
 use Rattle.cell_control.proofs.StepLemmas.{reached_first}
 use Rattle.cell_unit.specs.Sides.{IsReady}
 

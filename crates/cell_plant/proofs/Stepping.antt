@@ -1,35 +1,25 @@
 -- One turn of a simulation, as a step of a run.
 use Rattle.std.proofs.Common.{◌≡◌, ℕ, ℤ, OnOk, OnErr, IfOk, Bool, true, false, ◌&&◌, is_none, List, [], ◌++◌, append-nil, Option, None, Result, Ok, Err, refl, sym, ap, ◌∙◌, subst, if◌then◌else◌}
-use Rattle.cell_types.specs.declared.machine.Machine.{Machine}
-use Rattle.cell_types.specs.declared.machine.Machine.TheVariants.{Feed, Table, Robot, Press, Deposit, Crane, Watch}
-use Rattle.cell_types.specs.Same.{same_machine, one_machine}
+use Rattle.cell_rules.specs.Types.{Machine, Feed, Table, Robot, Press, Deposit, Crane, Watch, same_machine}
+use Rattle.cell_rules.specs.Types.{one_machine, Event}
 use Rattle.cell_calib.specs.Scale.{Scale}
-use Rattle.cell_types.specs.declared.answer.Event.{Event}
-use Rattle.cell_rules.specs.ModelState.{ModelState}
-use Rattle.cell_rules.specs.Benches.{Desk}
-use Rattle.cell_control.specs.Steps.{Steps}
-use Rattle.cell_control.specs.Rigs.{Rig}
-use Rattle.cell_robot.specs.RobotProgram.{RobotScales, robot_steps}
+use Rattle.cell_rules.specs.Names.{ModelState, Desk}
+use Rattle.cell_control.specs.Names.{Steps, Rig}
 use Rattle.cell_control.specs.declared.fault.CtlFault.{CtlFault}
-use Rattle.cell_haul.specs.CraneProgram.{crane_steps}
-use Rattle.cell_haul.specs.DepositProgram.{deposit_steps}
-use Rattle.cell_haul.specs.FeedProgram.{feed_steps}
-use Rattle.cell_stations.specs.PressProgram.{press_steps}
-use Rattle.cell_stations.specs.TableProgram.{table_steps}
-use Rattle.cell_notes.specs.Asks.{TurnCall, settled_in}
-use Rattle.cell_notes.specs.Notes.{Notes, notes_with}
-use Rattle.cell_parts.specs.Axes.{RobotScales as PartScales, CellScales}
-use Rattle.cell_parts.specs.Rigs.{feed_rig, table_rig, robot_rig, press_rig, deposit_rig, crane_rig}
-use Rattle.cell_unit.specs.Sides.{Side, IsReady}
-use Rattle.cell_unit.proofs.Others.{others_ready}
-use Rattle.cell_unit.specs.UnitTurns.{UnitTurn, Untouched, Leads as LeadsAlone}
+use Rattle.cell_robot.specs.RobotProgram.{RobotScales, robot_steps}
+use Rattle.cell_haul.specs.Names.{crane_steps, deposit_steps, feed_steps}
+use Rattle.cell_stations.specs.Names.{press_steps, table_steps}
+use Rattle.cell_notes.specs.Names.{TurnCall, settled_in, Notes, notes_with, at_machine}
 use Rattle.cell_notes.specs.declared.schedule.Turn.{Turn}
-use Rattle.cell_plant.specs.Watch.{watch_steps, watch_rig}
-use Rattle.cell_plant.specs.Machines.{CellGauges, robot_gauges, robot_points, robot_axes, steps_by, rig_of}
-use Rattle.cell_plant.specs.CellStates.{SideOf, CellState, Sides, side_in, sides_at_start}
-use Rattle.cell_plant.specs.Runs.{Step, LeadsIfBy}
-use Rattle.cell_notes.specs.ByMachine.{at_machine}
-use Rattle.cell_plant.specs.Moments.{RunMoment, AllNotes, StepsOn, state_at, first_notes, first_moment}
+use Rattle.cell_parts.specs.Names.{CellScales, feed_rig, table_rig, robot_rig, press_rig, deposit_rig, crane_rig}
+use Rattle.cell_parts.specs.Axes.{RobotScales as PartScales}
+use Rattle.cell_unit.specs.Names.{Side, IsReady, UnitTurn}
+use Rattle.cell_unit.proofs.Others.{others_ready}
+use Rattle.cell_unit.specs.UnitTurns.{Untouched, Leads as LeadsAlone}
+use Rattle.cell_plant.specs.Names.{watch_steps, watch_rig, CellGauges, robot_gauges, robot_points, robot_axes}
+use Rattle.cell_plant.specs.Names.{steps_by, rig_of, SideOf, CellState, Sides, side_in, sides_at_start, Step}
+use Rattle.cell_plant.specs.Names.{LeadsIfBy, RunMoment, StepsOn, state_at, first_moment}
+use Rattle.cell_plant.specs.Moments.{AllNotes, first_notes}
 
 -- two states are the same if they have the same interlock and the same side of each machine
 pub same_state : (w v : CellState) → w.interlock ≡ v.interlock → ((n : Machine) → w.side n ≡ v.side n) → w ≡ v

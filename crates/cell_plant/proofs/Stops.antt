@@ -3,18 +3,14 @@
 use Rattle.std.proofs.Common.{◌≡◌, ℕ, ℤ, pos, ◌+ℤ◌, ◌-ℤ◌, ◌<ℤ◌, ◌≤ℤ◌, inl, inr, Option, Some, None, arith}
 use Rattle.std.specs.Prelude.{⊤}
 use Rattle.std.proofs.lemmas.Int.{ints}
-use Rattle.cell_calib.specs.Scale.{Scale}
-use Rattle.cell_calib.specs.Line.{raw_width, IsNear, IsReading}
+use Rattle.cell_calib.specs.Names.{Scale, raw_width, IsNear, IsReading}
 use Rattle.cell_calib.proofs.LineLemmas.{near_position_lem}
+use Rattle.cell_devices.specs.Names.{DrivesTo}
 use Rattle.cell_devices.specs.declared.motor.Motor.{Motor}
 use Rattle.cell_devices.specs.declared.motor.Motor.TheVariants.{Off}
 use Rattle.cell_devices.specs.declared.stops.Stop.{Stop}
-use Rattle.cell_devices.specs.Drives.{DrivesTo}
+use Rattle.cell_parts.specs.Names.{IsAxisScale, IsWithin, Span, IsIn, set_axis, ShowsRaw, DrivesPast}
 use Rattle.cell_parts.specs.declared.axis.Axis.{Axis}
-use Rattle.cell_parts.specs.Axes.{IsAxisScale, IsWithin, Span, IsIn}
-use Rattle.cell_parts.specs.Plant.{set_axis}
-use Rattle.cell_parts.specs.Shows.{ShowsRaw}
-use Rattle.cell_parts.specs.Collisions.{DrivesPast}
 
 -- a reading is within the tolerance of the axis's position
 pub reading_near : (end : ℤ) (points : Scale) (position : ℤ) (raw : ℕ) (read : ℤ) → IsAxisScale end points → IsWithin end position → ShowsRaw points position raw → IsReading points raw read → IsNear read position points.tol

@@ -2,48 +2,40 @@
 use Rattle.std.proofs.Common.{◌≡◌, ℤ, pos, ◌-ℤ◌, ◌≤ℤ◌, Bool, true, false, ◌&&◌, ◌⊎◌, inl, inr, [], ◌∷◌, Option, Some, None, Result, Ok, refl, sym, ap, ◌∙◌, subst, if◌then◌else◌, arith}
 use Rattle.std.proofs.lemmas.Int.{ints}
 use Rattle.cell_types.specs.declared.machine.Machine.TheVariants.{Table as TableMachine}
-use Rattle.cell_types.specs.declared.zone.Zone.TheVariants.{Z1, Z2}
-use Rattle.cell_types.specs.declared.posture.Posture.{Posture}
-use Rattle.cell_types.specs.declared.posture.Posture.TheVariants.{Moving, OpenIn}
-use Rattle.cell_types.specs.declared.pose.Pose.TheVariants.{Turning, Loading, Unloading}
-use Rattle.cell_types.specs.declared.call.Call.{Call}
-use Rattle.cell_types.specs.declared.call.Call.TheVariants.{Claim, Give, Take, Release, SetPose}
-use Rattle.cell_types.specs.declared.answer.Answer.TheVariants.{Done}
-use Rattle.cell_types.specs.declared.reply.Reply.{Reply}
-use Rattle.cell_calib.specs.Scale.{Scale}
-use Rattle.cell_calib.specs.Line.{IsNear, IsReading}
+use Rattle.cell_rules.specs.Types.{Z1, Z2, Posture, Moving, OpenIn, Turning, Loading, Unloading, Call, Claim, Give}
+use Rattle.cell_rules.specs.Types.{Take, Release, SetPose, Done, Reply}
+use Rattle.cell_calib.specs.Names.{Scale, IsNear, IsReading}
 use Rattle.cell_calib.specs.declared.sense.TableSense.{TableSense}
 use Rattle.cell_devices.specs.declared.motor.Motor.{Motor}
 use Rattle.cell_devices.specs.declared.motor.Motor.TheVariants.{Off, Plus, Minus}
 use Rattle.cell_devices.specs.declared.act.TableAct.{TableAct}
+use Rattle.cell_rules.specs.Names.{ModelState, IsStartState, IsSound, posture_at, reply, changed, posture_given}
 use Rattle.cell_rules.specs.declared.heard.LineFault.{LineFault}
-use Rattle.cell_rules.specs.ModelState.{ModelState}
-use Rattle.cell_rules.specs.Start.{IsStartState}
-use Rattle.cell_rules.specs.Sound.{IsSound}
-use Rattle.cell_rules.specs.Refusals.{posture_at}
-use Rattle.cell_rules.specs.Reply.{reply, changed}
-use Rattle.cell_rules.specs.History.{posture_given}
 use Rattle.cell_rules.proofs.OwnSide.{posture-foreign}
 use Rattle.cell_rules.proofs.Postures.{posture-changed}
+use Rattle.cell_stations.specs.Names.{with_plate, by_plate, row_of, after_done, is_off, after_act, rotation_stop}
+use Rattle.cell_stations.specs.Names.{Senses, Acts, table_start, table_steps}
 use Rattle.cell_stations.specs.declared.table.TableStep.{TableStep}
-use Rattle.cell_stations.specs.declared.table.TableStep.TheVariants.{ClaimEntry, ClaimExit, LeaveForLoading, MoveToLoading, PoseLoading, ReleaseEntry, TakePlate, LeaveForUnloading, MoveToUnloading, PoseUnloading, GivePlate, ClaimBack}
+use Rattle.cell_stations.specs.declared.table.TableStep.TheVariants.{ClaimEntry, ClaimExit, LeaveForLoading}
+use Rattle.cell_stations.specs.declared.table.TableStep.TheVariants.{MoveToLoading, PoseLoading, ReleaseEntry}
+use Rattle.cell_stations.specs.declared.table.TableStep.TheVariants.{LeaveForUnloading, MoveToUnloading}
+use Rattle.cell_stations.specs.declared.table.TableStep.TheVariants.{PoseUnloading}
 use Rattle.cell_stations.specs.declared.table.TableProgress.{TableProgress}
-use Rattle.cell_parts.specs.Axes.{IsAxisScale, IsWithin, lift_end, turn_end}
-use Rattle.cell_parts.specs.declared.plant.TablePlant.{TablePlant}
-use Rattle.cell_parts.specs.Plant.{table_at_start, set_axis, set_table, moved_table}
-use Rattle.cell_control.specs.declared.fault.CtlFault.{CtlFault}
-use Rattle.cell_control.specs.Turns.{Turned, Turns}
 use Rattle.cell_stations.specs.declared.table.TableReading.{TableReading}
-use Rattle.cell_stations.specs.TableProgram.{with_plate, by_plate, row_at, row_of, after_done, is_off, after_act, height_for, rotation_stop, Senses, Acts, table_start, table_steps}
+use Rattle.cell_stations.specs.declared.table.TableStep.TheVariants.{TakePlate, GivePlate, ClaimBack}
+use Rattle.cell_parts.specs.Names.{IsAxisScale, IsWithin, lift_end, turn_end, table_at_start, set_axis, TableMoves}
+use Rattle.cell_parts.specs.Names.{DrivesPast, RestsAtLoading, table_rig}
+use Rattle.cell_parts.specs.declared.plant.TablePlant.{TablePlant}
+use Rattle.cell_parts.specs.Plant.{set_table, moved_table}
+use Rattle.cell_control.specs.Names.{Turned, Turns}
+use Rattle.cell_control.specs.declared.fault.CtlFault.{CtlFault}
+use Rattle.cell_stations.specs.TableProgram.{row_at, height_for}
 use Rattle.cell_control.proofs.Facts.{Finds}
 use Rattle.cell_stations.proofs.TableFacts.{TableKnows, table-knowing, drives_at}
 use Rattle.cell_unit.specs.Sides.{act_or_rest}
 use Rattle.cell_unit.proofs.Keeping.{Keeping, turn_tells}
 use Rattle.cell_unit.proofs.Demanding.{Demanding, WhileOn, demanding_while_on}
 use Rattle.cell_parts.specs.Shows.{TableShows}
-use Rattle.cell_parts.specs.Collisions.{TableMoves, DrivesPast}
-use Rattle.cell_parts.specs.PositionDemands.{RestsAtLoading}
-use Rattle.cell_parts.specs.Rigs.{table_rig}
 use Rattle.cell_plant.proofs.Stops.{reading_near, StopsWithin, off_within, driven_within}
 use Rattle.cell_plant.proofs.WithinLemmas.{between, moved_within}
 

@@ -1,37 +1,26 @@
 -- The examples of turns, and of what isn't one.
 use Rattle.std.proofs.Common.{◌≡◌, ◌≢◌, ℕ, Bool, true, false, Some, None, Result, Ok, refl, sym, ap, ◌∙◌, subst}
-use Rattle.cell_types.specs.declared.machine.Machine.{Machine}
-use Rattle.cell_types.specs.declared.machine.Machine.TheVariants.{Feed, Table, Press, Watch}
-use Rattle.cell_types.specs.declared.call.Call.{Call}
-use Rattle.cell_types.specs.declared.call.Call.TheVariants.{Stop, Resume}
-use Rattle.cell_types.specs.declared.answer.Answer.TheVariants.{Done, Refused}
-use Rattle.cell_types.specs.declared.answer.Refusal.TheVariants.{Shut}
-use Rattle.cell_types.specs.declared.posture.Posture.TheVariants.{Closed}
-use Rattle.cell_types.specs.declared.reply.Reply.{Reply}
-use Rattle.cell_types.specs.declared.reply.Reply.TheVariants.{Settled}
+use Rattle.cell_rules.specs.Types.{Machine, Feed, Table, Press, Watch, Call, Stop, Resume, Done, Refused, Shut}
+use Rattle.cell_rules.specs.Types.{Closed, Reply, Settled}
+use Rattle.cell_rules.specs.Names.{ModelState}
 use Rattle.cell_rules.specs.declared.heard.LineFault.{LineFault}
-use Rattle.cell_rules.specs.ModelState.{ModelState}
-use Rattle.cell_control.specs.Steps.{outcome}
-use Rattle.cell_control.specs.Turns.{Turned, at_rest, turned}
+use Rattle.cell_control.specs.Names.{outcome, Turned, at_rest, turned}
+use Rattle.cell_control.specs.declared.fault.CtlFault.TheVariants.{Memory}
 use Rattle.cell_control.proofs.TurnMaps.{turn_either}
 use Rattle.cell_control.proofs.TurnsByAnswers.{asked_own}
 use Rattle.cell_haul.specs.declared.feed.FeedProgress.{FeedProgress}
-use Rattle.cell_control.specs.declared.fault.CtlFault.TheVariants.{Memory}
 use Rattle.cell_stations.specs.declared.table.TableProgress.{TableProgress}
 use Rattle.cell_stations.specs.declared.press.PressProgress.{PressProgress}
 use Rattle.cell_notes.specs.Asks.{TurnCall}
-use Rattle.cell_unit.specs.Sides.{Side}
-use Rattle.cell_unit.specs.UnitTurns.{Answers}
+use Rattle.cell_unit.specs.Names.{Side, Answers}
+use Rattle.cell_parts.specs.Names.{CellScales}
 use Rattle.cell_parts.specs.declared.axis.Axis.{Axis}
 use Rattle.cell_parts.specs.declared.belt.Belt.{Belt}
-use Rattle.cell_parts.specs.Axes.{CellScales}
 use Rattle.cell_parts.specs.declared.plant.TablePlant.{TablePlant}
-use Rattle.cell_plant.specs.Machines.{steps_of}
-use Rattle.cell_plant.specs.CellStates.{CellState}
-use Rattle.cell_plant.specs.Runs.{Step, TakesTurn}
-use Rattle.cell_plant.specs.RunExamples.{TurnExamples, PassExamples, at_first, at_entered, at_press_stopped, at_last, stops_again, resumes_at_first, resumes_unnoted, stopped, resumed}
+use Rattle.cell_plant.specs.Names.{steps_of, CellState, Step, TakesTurn, at_first, at_entered, at_press_stopped}
+use Rattle.cell_plant.specs.Names.{at_last, watch_noting, watch_steps}
 use Rattle.cell_plant.specs.declared.watch.WatchProgress.{WatchProgress}
-use Rattle.cell_plant.specs.Watch.{watch_noting, watch_steps}
+use Rattle.cell_plant.specs.RunExamples.{TurnExamples, PassExamples, stops_again, resumes_at_first, resumes_unnoted, stopped, resumed}
 use Rattle.cell_plant.proofs.WatchRight.{none_some, one_call, one_answer, turn_own}
 use Rattle.cell_plant.proofs.Deciding.{not_so, equals, true_false, false_true}
 use Rattle.cell_plant.proofs.ExampleTurns.{turn_done, turn_busy, turn_refused, turn_no_room, turn_meanwhile, turn_down, turn_stops, turn_resumes, turn_watch_busy}

@@ -1,20 +1,12 @@
 -- What the watch keeps: its note is the mark of the interlock.
 use Rattle.std.proofs.Common.{◌≡◌, Bool, true, false, not, if◌then◌else◌, Some, refl, sym, ◌∙◌}
-use Rattle.cell_types.specs.declared.machine.Machine.{Machine}
-use Rattle.cell_types.specs.declared.machine.Machine.TheVariants.{Watch}
-use Rattle.cell_types.specs.declared.call.Call.{Call}
-use Rattle.cell_types.specs.declared.call.Call.TheVariants.{Stop, Resume}
-use Rattle.cell_types.specs.declared.answer.Answer.{Answer}
-use Rattle.cell_types.specs.declared.answer.Answer.TheVariants.{Done, Shown, Refused}
-use Rattle.cell_types.specs.Same.{same_machine}
-use Rattle.cell_rules.specs.ModelState.{ModelState}
-use Rattle.cell_rules.specs.Refusals.{stop_refusal, resume_refusal}
-use Rattle.cell_rules.specs.Reply.{reply, next, next_by, stopped_after}
+use Rattle.cell_rules.specs.Types.{Machine, Watch, Call, Stop, Resume, Answer, Done, Shown, Refused, same_machine}
+use Rattle.cell_rules.specs.Names.{ModelState, stop_refusal, resume_refusal, reply, next, next_by, stopped_after}
 use Rattle.cell_rules.proofs.Done.{stop_done, resume_done}
 use Rattle.cell_rules.proofs.Soundness.{done_none}
 use Rattle.cell_unit.proofs.Keeping.{Keeping}
+use Rattle.cell_plant.specs.Names.{watch_steps, watch_rig}
 use Rattle.cell_plant.specs.declared.watch.WatchProgress.{WatchProgress}
-use Rattle.cell_plant.specs.Watch.{watch_steps, watch_rig}
 
 abbrev pub WatchInv : ModelState → WatchProgress → Unit {0} → Type 0
 WatchInv z p b = p.has_stopped ≡ z.stopped

@@ -2,36 +2,22 @@
 use Rattle.std.proofs.Common.{◌≡◌, ℕ, Bool, true, false, if◌then◌else◌, List, [], ◌∷◌, Option, Some, None, Result, Ok, Err, refl, sym, ap, ◌∙◌, subst}
 use Rattle.std.specs.Prelude.{⊤, not, nat_lt}
 use Rattle.std.specs.Bool.{then_some}
-use Rattle.cell_types.specs.declared.machine.Machine.{Machine}
-use Rattle.cell_types.specs.declared.machine.Machine.TheVariants.{Feed, Table, Robot, Press, Deposit, Crane, Watch}
-use Rattle.cell_types.specs.declared.call.Call.{Call}
-use Rattle.cell_types.specs.declared.call.Call.TheVariants.{Stop, Resume}
-use Rattle.cell_types.specs.declared.answer.Answer.TheVariants.{Refused}
-use Rattle.cell_types.specs.declared.answer.Answer.{Answer}
-use Rattle.cell_types.specs.declared.answer.Refusal.{Refusal}
-use Rattle.cell_types.specs.declared.answer.Refusal.TheVariants.{Worn, Stopped, NotStopped}
-use Rattle.cell_types.specs.declared.reply.Reply.{Reply}
-use Rattle.cell_types.specs.declared.reply.Reply.TheVariants.{Settled}
+use Rattle.cell_rules.specs.Types.{Machine, Feed, Table, Robot, Press, Deposit, Crane, Watch, Call, Stop, Resume}
+use Rattle.cell_rules.specs.Types.{Refused, Answer, Refusal, Worn, Stopped, NotStopped, Reply, Settled}
 use Rattle.cell_calib.specs.declared.sense.SensorFault.{SensorFault}
+use Rattle.cell_rules.specs.Names.{ModelState, last_stamp, reply, done_unless, IsStartState}
 use Rattle.cell_rules.specs.declared.heard.LineFault.{LineFault}
-use Rattle.cell_rules.specs.ModelState.{ModelState, last_stamp}
 use Rattle.cell_rules.specs.Refusals.{◌or◌}
-use Rattle.cell_rules.specs.Reply.{reply, done_unless}
-use Rattle.cell_rules.specs.Start.{IsStartState}
+use Rattle.cell_control.specs.Names.{Rig, Steps, Performed, PerformsCall, PerformsSensed, Turned, Turns}
 use Rattle.cell_control.specs.declared.fault.CtlFault.{CtlFault}
-use Rattle.cell_control.specs.Rigs.{Rig}
-use Rattle.cell_control.specs.Steps.{Steps}
-use Rattle.cell_control.specs.Turns.{Performed, PerformsCall, PerformsSensed, Turned, Turns}
+use Rattle.cell_notes.specs.Names.{TurnCall}
 use Rattle.cell_notes.specs.declared.schedule.Turn.{Turn}
-use Rattle.cell_notes.specs.Asks.{TurnCall}
 use Rattle.cell_unit.specs.UnitTurns.{Answers}
 use Rattle.cell_unit.proofs.Keeping.{Keeping}
 use Rattle.cell_parts.specs.Axes.{CellScales}
-use Rattle.cell_plant.specs.Machines.{ProgressOf, PartOf, steps_of, rig_of}
-use Rattle.cell_plant.specs.CellStates.{CellState, cell_at_start}
-use Rattle.cell_plant.specs.Runs.{Step, LeadsIf, IsRun, goes_on}
-use Rattle.cell_plant.specs.Watch.{watch_steps}
-use Rattle.cell_plant.specs.WatchLaws.{NotesTheMark, NotesThroughout, IsRefusedAsWorn, AreRefusedAsWorn, WatchNotesTheMark}
+use Rattle.cell_plant.specs.Names.{ProgressOf, PartOf, steps_of, rig_of, CellState, cell_at_start, Step, LeadsIf}
+use Rattle.cell_plant.specs.Names.{IsRun, goes_on, watch_steps, IsRefusedAsWorn, AreRefusedAsWorn}
+use Rattle.cell_plant.specs.WatchLaws.{NotesTheMark, NotesThroughout, WatchNotesTheMark}
 use Rattle.cell_plant.proofs.KeptRuns.{CellInv, step_keeps}
 use Rattle.cell_team.proofs.Together.{sound_start}
 use Rattle.cell_plant.proofs.SafeRuns.{clear_start}

@@ -1,19 +1,17 @@
 -- The progress of a simulation that a watcher sees.
 use Rattle.std.proofs.Common.{◌≡◌, ◌≢◌, ◌∙◌, ◌-◌, ◌<◌, ℕ, List, [], ◌∷◌, ◌++◌, drop, length, Option, Some, None, Result, Ok, Err, refl, sym, ap, subst, arith}
 use Rattle.std.proofs.lemmas.List.{length-drop}
-use Rattle.cell_rules.specs.ModelState.{ModelState}
-use Rattle.cell_rules.specs.Start.{IsStartState}
+use Rattle.cell_rules.specs.Names.{ModelState, IsStartState}
+use Rattle.cell_notes.specs.Names.{TurnCall}
 use Rattle.cell_notes.specs.declared.run_record.RunRecord.{RunRecord}
 use Rattle.cell_notes.specs.declared.schedule.Turn.{Turn}
-use Rattle.cell_notes.specs.Asks.{TurnCall}
 use Rattle.cell_parts.specs.Axes.{CellScales, AreCellScales}
+use Rattle.cell_plant.specs.Names.{CellState, cell_at_start, SeesRun, SeesBeginning, IsShown, frame_of, frames_of}
+use Rattle.cell_plant.specs.Names.{frames_after, RunMoment, StepsOn, Keeps, first_moment, state_at, CellGauges, Step}
+use Rattle.cell_plant.specs.Names.{IsRunBy}
 use Rattle.cell_plant.specs.declared.frame.Frame.{Frame}
 use Rattle.cell_plant.specs.declared.watcher.SeenFault.{SeenFault}
-use Rattle.cell_plant.specs.CellStates.{CellState, cell_at_start}
-use Rattle.cell_plant.specs.Frames.{SeesRun, SeesBeginning, IsShown, IsCut, result_of, frame_of, frames_of, frames_after}
-use Rattle.cell_plant.specs.Moments.{RunMoment, StepsOn, Keeps, first_moment, state_at}
-use Rattle.cell_plant.specs.Machines.{CellGauges}
-use Rattle.cell_plant.specs.Runs.{Step, IsRunBy}
+use Rattle.cell_plant.specs.Frames.{IsCut, result_of}
 use Rattle.cell_plant.proofs.RunSoFar.{RunSoFar, at_start, next_by, next_steps, tells, told_steps}
 
 -- some turns are left

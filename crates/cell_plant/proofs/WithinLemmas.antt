@@ -3,9 +3,8 @@ use Rattle.std.proofs.Common.{ℤ, pos, ◌≤ℤ◌, arith}
 use Rattle.std.proofs.lemmas.Int.{ints, clamps}
 use Rattle.cell_devices.specs.declared.motor.Motor.{Motor}
 use Rattle.cell_devices.specs.declared.motor.Motor.TheVariants.{Off, Plus, Minus}
+use Rattle.cell_parts.specs.Names.{IsWithin, moved_to, moved_axis}
 use Rattle.cell_parts.specs.declared.axis.Axis.{Axis}
-use Rattle.cell_parts.specs.Axes.{IsWithin}
-use Rattle.cell_parts.specs.Plant.{moved_to, moved_axis}
 
 pub between : (end p : ℤ) → pos 0 ≤ℤ p → p ≤ℤ end → IsWithin end p
 between end p a b = record { first = a; last = b }

@@ -1,27 +1,24 @@
 -- A state of the whole cell: the interlock's, and of each machine its progress, what has stopped it, and its part.
 use Rattle.std.specs.Prelude.{None}
-use Rattle.cell_types.specs.declared.machine.Machine.{Machine}
-use Rattle.cell_types.specs.declared.machine.Machine.TheVariants.{Feed, Table, Robot, Press, Deposit, Crane, Watch}
+use Rattle.cell_rules.specs.Types.{Machine, Feed, Table, Robot, Press, Deposit, Crane, Watch}
 use Rattle.cell_rules.specs.ModelState.{ModelState}
+use Rattle.cell_haul.specs.Names.{crane_start, deposit_start, feed_start}
 use Rattle.cell_haul.specs.declared.crane.CraneProgress.{CraneProgress}
 use Rattle.cell_haul.specs.declared.deposit.DepositProgress.{DepositProgress}
 use Rattle.cell_haul.specs.declared.feed.FeedProgress.{FeedProgress}
-use Rattle.cell_haul.specs.CraneProgram.{crane_start}
-use Rattle.cell_haul.specs.DepositProgram.{deposit_start}
-use Rattle.cell_haul.specs.FeedProgram.{feed_start}
+use Rattle.cell_robot.specs.Names.{robot_start}
 use Rattle.cell_robot.specs.declared.robot.RobotProgress.{RobotProgress}
-use Rattle.cell_robot.specs.RobotProgram.{robot_start}
+use Rattle.cell_stations.specs.Names.{press_start, table_start}
 use Rattle.cell_stations.specs.declared.press.PressProgress.{PressProgress}
 use Rattle.cell_stations.specs.declared.table.TableProgress.{TableProgress}
-use Rattle.cell_stations.specs.PressProgram.{press_start}
-use Rattle.cell_stations.specs.TableProgram.{table_start}
+use Rattle.cell_parts.specs.Names.{feed_at_start, table_at_start, robot_at_start, press_at_start, deposit_at_start}
+use Rattle.cell_parts.specs.Names.{crane_at_start}
 use Rattle.cell_parts.specs.declared.axis.Axis.{Axis}
 use Rattle.cell_parts.specs.declared.belt.Belt.{Belt}
 use Rattle.cell_parts.specs.declared.plant.TablePlant.{TablePlant}
 use Rattle.cell_parts.specs.declared.plant.RobotPlant.{RobotPlant}
 use Rattle.cell_parts.specs.declared.plant.CranePlant.{CranePlant}
 use Rattle.cell_parts.specs.declared.plant.PlantState.{PlantState}
-use Rattle.cell_parts.specs.Plant.{feed_at_start, table_at_start, robot_at_start, press_at_start, deposit_at_start, crane_at_start}
 use Rattle.cell_unit.specs.Sides.{Side, side_of}
 use Rattle.cell_plant.specs.declared.watch.WatchProgress.{WatchProgress}
 use Rattle.cell_plant.specs.Machines.{ProgressOf, PartOf}

@@ -1,13 +1,7 @@
 -- The frames of a literal run, and films that are wrong in one thing.
 use Rattle.std.specs.Prelude.{◌≡◌, false, List, [], ◌∷◌, ◌++◌, Some, None, Result, Ok, Err}
-use Rattle.cell_types.specs.declared.machine.Machine.TheVariants.{Feed, Press, Watch}
-use Rattle.cell_types.specs.declared.zone.Zone.TheVariants.{Z1, Z3, Z6}
-use Rattle.cell_types.specs.declared.posture.Posture.TheVariants.{Closed}
-use Rattle.cell_types.specs.declared.call.Call.TheVariants.{Claim, Stop}
-use Rattle.cell_types.specs.declared.answer.Answer.TheVariants.{Done, Refused}
-use Rattle.cell_types.specs.declared.answer.Refusal.TheVariants.{Shut}
-use Rattle.cell_types.specs.declared.reply.Reply.TheVariants.{Settled, Busy}
-use Rattle.cell_types.specs.declared.place.Place.TheVariants.{FeedEnd}
+use Rattle.cell_rules.specs.Types.{Feed, Press, Watch, Z1, Z3, Z6, Closed, Claim, Stop, Done, Refused, Shut, Settled}
+use Rattle.cell_rules.specs.Types.{Busy, FeedEnd}
 use Rattle.cell_devices.specs.declared.motor.Motor.TheVariants.{Minus}
 use Rattle.cell_rules.specs.declared.heard.LineFault.TheVariants.{Memory as NoRoom}
 use Rattle.cell_haul.specs.declared.feed.FeedStep.TheVariants as feed
@@ -17,21 +11,30 @@ use Rattle.cell_robot.specs.declared.robot.RobotStep.TheVariants as robot
 use Rattle.cell_stations.specs.declared.press.PressStep.TheVariants as press
 use Rattle.cell_stations.specs.declared.table.TableStep.TheVariants as table
 use Rattle.cell_notes.specs.declared.schedule.Turn.{Turn}
-use Rattle.cell_notes.specs.declared.status.Status.TheVariants.{Fine, Worn, Sensor, Refused as WasRefused, Memory}
+use Rattle.cell_notes.specs.declared.status.Status.TheVariants.{Fine, Worn, Sensor, Memory}
+use Rattle.cell_notes.specs.declared.status.Status.TheVariants.{Refused as WasRefused}
+use Rattle.cell_parts.specs.Names.{cell_with_plate_at, driven_at, belt_with, with_press}
 use Rattle.cell_parts.specs.declared.plant.PlantState.{PlantState}
-use Rattle.cell_parts.specs.Examples.{cell_with_plate_at, driven_at, belt_with, with_press}
 use Rattle.cell_plant.specs.declared.frame.Frame.{Frame}
 use Rattle.cell_plant.specs.declared.frame.MachineSteps.{MachineSteps}
 use Rattle.cell_plant.specs.Frames.{IsShown, frame_of, frames_of}
 use Rattle.cell_plant.specs.Runs.{Step}
 use Rattle.cell_plant.specs.RecordExamples.{axes_apart, last_apart, status_by}
-use Rattle.cell_plant.specs.RunExamples.{opening, entered, stopped, schedule, steps, turn_of, busy_turn_of, claims_entry, press_falls}
+use Rattle.cell_plant.specs.RunExamples.{opening, entered, stopped, schedule, steps, turn_of, busy_turn_of}
+use Rattle.cell_plant.specs.RunExamples.{claims_entry, press_falls}
 
 -- ---- the frames of the literal run
 
 -- each machine is at its first step; the feed belt has entered
 abbrev pub first_steps : MachineSteps
-first_steps = record { feed = feed.ClaimEntry; table = table.ClaimEntry; robot = robot.TurnToTable; press = press.ClaimFirst; deposit = deposit.ClaimEntry; crane = crane.RaiseToFetch }
+first_steps = record {
+  feed = feed.ClaimEntry;
+  table = table.ClaimEntry;
+  robot = robot.TurnToTable;
+  press = press.ClaimFirst;
+  deposit = deposit.ClaimEntry;
+  crane = crane.RaiseToFetch;
+}
 
 abbrev pub steps_entered : MachineSteps
 steps_entered = record first_steps { feed = feed.ClaimExit }
@@ -49,7 +52,12 @@ starts =
     }
 
 abbrev pub has_claimed : Frame
-has_claimed = record starts { turn = Some (turn_of Feed); asked = Some (Claim Z6, Ok (Settled Done 1)); steps = steps_entered; state = entered }
+has_claimed = record starts {
+  turn = Some (turn_of Feed);
+  asked = Some (Claim Z6, Ok (Settled Done 1));
+  steps = steps_entered;
+  state = entered;
+}
 
 -- the press finds the interlock busy; the feed belt is refused its exit; there is no room for the press's claim
 abbrev pub found_busy : Frame
@@ -59,14 +67,22 @@ abbrev pub was_refused : Frame
 was_refused = record has_claimed { asked = Some (Claim Z1, Ok (Settled (Refused (Shut Closed)) 1)) }
 
 abbrev pub found_no_room : Frame
-found_no_room = record has_claimed { turn = Some (turn_of Press); asked = Some (Claim Z3, Err NoRoom); status = status_by Fine Memory }
+found_no_room = record has_claimed {
+  turn = Some (turn_of Press);
+  asked = Some (Claim Z3, Err NoRoom);
+  status = status_by Fine Memory;
+}
 
 -- the press has stopped, so that its turn isn't taken; the watch stops the cell
 abbrev pub passed_over : Frame
 passed_over = record found_no_room { asked = None }
 
 abbrev pub has_stopped : Frame
-has_stopped = record found_no_room { turn = Some (turn_of Watch); asked = Some (Stop, Ok (Settled Done 2)); state = stopped }
+has_stopped = record found_no_room {
+  turn = Some (turn_of Watch);
+  asked = Some (Stop, Ok (Settled Done 2));
+  state = stopped;
+}
 
 abbrev pub film : List Frame
 film = starts ∷ has_claimed ∷ found_busy ∷ was_refused ∷ found_no_room ∷ passed_over ∷ has_stopped ∷ []
@@ -85,16 +101,23 @@ abbrev pub shown_apart : PlantState
 shown_apart = record axes_apart { feed = belt_with (Some 900) false }
 
 abbrev pub axes_swapped : PlantState → PlantState
-axes_swapped p = record p { robot = record (p.robot) { arm1 = p.table.lift }; table = record (p.table) { lift = p.robot.arm1 } }
+axes_swapped p = record p {
+  robot = record (p.robot) { arm1 = p.table.lift };
+  table = record (p.table) { lift = p.robot.arm1 };
+}
 
 pub record WrongFilms : Type 0 where
   pub state_before : ¬ FirstIs (record has_claimed { state = opening })
   pub step_before : ¬ FirstIs (record has_claimed { steps = first_steps })
   pub asks_nothing : ¬ FirstIs (record has_claimed { asked = None })
-  pub told_as_refused : ¬ IsFilm schedule steps (starts ∷ has_claimed ∷ record found_busy { asked = Some (Claim Z3, Ok (Settled (Refused (Shut Closed)) 1)) } ∷ was_refused ∷ found_no_room ∷ passed_over ∷ has_stopped ∷ [])
-  pub told_as_free : ¬ IsFilm schedule steps (starts ∷ has_claimed ∷ record found_busy { turn = Some (turn_of Press) } ∷ was_refused ∷ found_no_room ∷ passed_over ∷ has_stopped ∷ [])
+  pub told_as_refused : ¬ IsFilm schedule steps (starts ∷ has_claimed
+      ∷ record found_busy { asked = Some (Claim Z3, Ok (Settled (Refused (Shut Closed)) 1)) } ∷ was_refused
+      ∷ found_no_room ∷ passed_over ∷ has_stopped ∷ [])
+  pub told_as_free : ¬ IsFilm schedule steps (starts ∷ has_claimed ∷ record found_busy { turn = Some (turn_of Press) }
+      ∷ was_refused ∷ found_no_room ∷ passed_over ∷ has_stopped ∷ [])
   pub start_left_out : ¬ IsFilm [] [] []
-  pub frame_left_out : ¬ IsFilm schedule steps (starts ∷ has_claimed ∷ found_busy ∷ was_refused ∷ found_no_room ∷ has_stopped ∷ [])
+  pub frame_left_out : ¬ IsFilm schedule steps (starts ∷ has_claimed ∷ found_busy ∷ was_refused ∷ found_no_room
+      ∷ has_stopped ∷ [])
   pub frame_twice : ¬ IsFilm (turn_of Feed ∷ []) (claims_entry ∷ []) (starts ∷ has_claimed ∷ has_claimed ∷ [])
   pub frames_swapped : ¬ IsFilm (turn_of Feed ∷ []) (claims_entry ∷ []) (has_claimed ∷ starts ∷ [])
 
@@ -111,7 +134,8 @@ pub record ShownExamples : Type 0 where
   pub keeps_all : (frames now : List Frame) → IsShown Keeps [] frames (Ok tt) now → now ≡ frames
   pub can_keep : (frames : List Frame) → IsShown Keeps [] frames (Ok tt) frames
   pub never_fails : (frames now : List Frame) → ¬ IsShown Keeps [] frames (Err tt) now
-  pub fails_at_once : (frames now : List Frame) → IsShown Fails [] frames (Err tt) now → (f : Frame) × (frames ≡ f ∷ []) × (now ≡ [])
+  pub fails_at_once : (frames now : List Frame) → IsShown Fails [] frames (Err tt) now
+      → (f : Frame) × (frames ≡ f ∷ []) × (now ≡ [])
 
 -- ---- all of these
 
@@ -122,6 +146,7 @@ pub record FrameExamples : Type 0 where
   pub falls : (frame_of None None (press_falls (driven_at 980 Minus))).plant ≡ with_press (driven_at 980 Minus)
   pub apart : (frame_of None None last_apart).plant ≡ shown_apart
   pub axes_are_apart : ¬ ((frame_of None None last_apart).plant ≡ axes_swapped shown_apart)
-  pub status_apart : (frame_of None None last_apart).status ≡ Fine ∷ Worn ∷ Sensor ∷ WasRefused ∷ Fine ∷ Memory ∷ Worn ∷ []
+  pub status_apart : (frame_of None None last_apart).status ≡ Fine ∷ Worn ∷ Sensor ∷ WasRefused ∷ Fine ∷ Memory ∷ Worn
+      ∷ []
   pub wrong : WrongFilms
   pub shown : ShownExamples

@@ -1,18 +1,13 @@
 -- What a watcher is shown of a run: its start, and then the cell after each turn.
 use Rattle.std.specs.Prelude.{◌≡◌, ◌≢◌, ⊤, List, [], ◌∷◌, ◌++◌, map, All, Option, Some, None, Result, Ok, Err}
-use Rattle.cell_types.specs.declared.machine.Machine.TheVariants.{Feed, Table, Robot, Press, Deposit, Crane}
-use Rattle.cell_types.specs.Everything.{all_machines}
-use Rattle.cell_rules.specs.ModelState.{ModelState}
-use Rattle.cell_rules.specs.Start.{IsStartState}
+use Rattle.cell_rules.specs.Types.{Feed, Table, Robot, Press, Deposit, Crane, all_machines}
+use Rattle.cell_rules.specs.Names.{ModelState, IsStartState}
+use Rattle.cell_notes.specs.Names.{TurnCall}
 use Rattle.cell_notes.specs.declared.run_record.RunRecord.{RunRecord}
 use Rattle.cell_notes.specs.declared.schedule.Turn.{Turn}
-use Rattle.cell_notes.specs.Asks.{TurnCall}
 use Rattle.cell_unit.specs.Statuses.{status_of}
-use Rattle.cell_parts.specs.Axes.{CellScales, AreCellScales}
-use Rattle.cell_parts.specs.Collisions.{NothingCollides}
-use Rattle.cell_parts.specs.Plant.{StaysWithin}
-use Rattle.cell_parts.specs.PositionDemands.{PositionDemands}
-use Rattle.cell_parts.specs.MotorDemands.{MotorDemands}
+use Rattle.cell_parts.specs.Names.{CellScales, AreCellScales, NothingCollides, StaysWithin, PositionDemands}
+use Rattle.cell_parts.specs.Names.{MotorDemands}
 use Rattle.cell_plant.specs.declared.frame.Frame.{Frame}
 use Rattle.cell_plant.specs.declared.frame.MachineSteps.{MachineSteps}
 use Rattle.cell_plant.specs.declared.watcher.SeenFault.{SeenFault}
@@ -56,13 +51,15 @@ abbrev pub frames_of : ModelState → List Turn → List Step → List Frame
 frames_of opening turns steps = frame_of None None (cell_at_start opening) ∷ frames_after turns steps
 
 -- a watcher is shown frames, one by one, and then is this one; the result is that of the last frame
-abbrev pub IsShown : {W E : Type 0} → (W → Frame → Result (Unit {0}) E → W → Type 0) → W → List Frame → Result (Unit {0}) E → W → Type 0
+abbrev pub IsShown : {W E : Type 0} → (W → Frame → Result (Unit {0}) E → W → Type 0) → W → List Frame
+    → Result (Unit {0}) E → W → Type 0
 IsShown sees w [] result v = (result ≡ Ok tt) × (v ≡ w)
 IsShown sees w (f ∷ []) result v = sees w f result v
 IsShown {W = W} sees w (f ∷ g ∷ fs) result v = (u : W) × (sees w f (Ok tt) u × IsShown sees u (g ∷ fs) result v)
 
 -- a watcher has seen the whole run that a record tells
-pub record SeesRun {W E : Type 0} (sees : W → Frame → Result (Unit {0}) E → W → Type 0) (c : CellScales) (gives : CellGauges) (opening : ModelState) (turns : List Turn) (w v : W) (r : RunRecord) : Type 0 where
+pub record SeesRun {W E : Type 0} (sees : W → Frame → Result (Unit {0}) E → W → Type 0) (c : CellScales)
+    (gives : CellGauges) (opening : ModelState) (turns : List Turn) (w v : W) (r : RunRecord) : Type 0 where
   pub tells : TellsRun c gives opening turns r
   pub seen : IsShown sees w (frames_of opening turns tells.steps) (Ok tt) v
 
@@ -76,7 +73,8 @@ abbrev pub result_of : {E : Type 0} → SeenFault E → Result (Unit {0}) E
 result_of Memory = Ok tt
 result_of (Watcher e) = Err e
 
-pub record SeesBeginning {W E : Type 0} (sees : W → Frame → Result (Unit {0}) E → W → Type 0) (c : CellScales) (gives : CellGauges) (opening : ModelState) (turns : List Turn) (w v : W) (fault : SeenFault E) : Type 0 where
+pub record SeesBeginning {W E : Type 0} (sees : W → Frame → Result (Unit {0}) E → W → Type 0) (c : CellScales)
+    (gives : CellGauges) (opening : ModelState) (turns : List Turn) (w v : W) (fault : SeenFault E) : Type 0 where
   pub taken : List Turn
   pub rest : List Turn
   pub begins : turns ≡ taken ++ rest
@@ -97,4 +95,5 @@ pub record IsSafeFrame (f : Frame) : Type 0 where
 abbrev pub FilmsAreSafe : Type 0
 FilmsAreSafe =
     (c : CellScales) (opening : ModelState) (turns : List Turn) (steps : List Step)
-    → AreCellScales c → IsStartState opening → IsRun c (cell_at_start opening) turns steps → All IsSafeFrame (frames_of opening turns steps)
+    → AreCellScales c → IsStartState opening → IsRun c (cell_at_start opening) turns steps
+    → All IsSafeFrame (frames_of opening turns steps)

@@ -1,19 +1,16 @@
 -- Runs by gauges. What a run depends on: the schedule, the state at its beginning, what the gauges give, and the calls
 -- that get no memory.
 use Rattle.std.specs.Prelude.{◌≡◌, ◌≢◌, ◌↔◌, ℕ, ℤ, List, [], ◌∷◌, All, Some, None, Ok, Err, ⊤}
-use Rattle.cell_types.specs.declared.machine.Machine.{Machine}
-use Rattle.cell_types.specs.declared.machine.Machine.TheVariants.{Table, Robot, Crane}
-use Rattle.cell_types.specs.declared.call.Call.{Call}
-use Rattle.cell_calib.specs.Curve.{Pair, IsOnCurve}
+use Rattle.cell_rules.specs.Types.{Machine, Table, Robot, Crane, Call, journal_of}
+use Rattle.cell_calib.specs.Names.{Pair, IsOnCurve}
 use Rattle.cell_calib.specs.declared.sense.CraneSense.{CraneSense}
 use Rattle.cell_calib.specs.declared.sense.RobotSense.{RobotSense}
 use Rattle.cell_calib.specs.declared.sense.TableSense.{TableSense}
 use Rattle.cell_haul.specs.declared.crane.CraneReading.{CraneReading}
 use Rattle.cell_robot.specs.declared.robot.RobotReading.{RobotReading}
 use Rattle.cell_stations.specs.declared.table.TableReading.{TableReading}
-use Rattle.cell_types.specs.Journals.{journal_of}
+use Rattle.cell_rules.specs.Names.{ModelState}
 use Rattle.cell_rules.specs.declared.heard.LineFault.{LineFault}
-use Rattle.cell_rules.specs.ModelState.{ModelState}
 use Rattle.cell_notes.specs.declared.run_record.RunRecord.{RunRecord}
 use Rattle.cell_notes.specs.declared.status.Status.TheVariants.{Fine}
 use Rattle.cell_notes.specs.declared.schedule.Turn.{Turn}
@@ -62,7 +59,8 @@ SaysOneThing c gives =
     → AreCellScales c → GiveOne gives → TellsRun c gives opening turns r → TellsRun c gives opening turns s
     → All (λ status. status ≡ Fine) r.status → All (λ status. status ≡ Fine) s.status → SayTheSame r s
 
--- if no machine is stopped at its end, no call was out of memory; so there is one run with no machine stopped at its end
+-- if no machine is stopped at its end, no call was out of memory; so there is one run with no machine stopped at its
+-- end
 pub record RunsAreOne (c : CellScales) (gives : CellGauges) : Type 0 where
   pub one : HasOneRun c gives
   pub fine : (w : CellState) (turns : List Turn) (steps : List Step)
@@ -72,10 +70,12 @@ pub record RunsAreOne (c : CellScales) (gives : CellGauges) : Type 0 where
 -- each machine reads by its own gauges
 pub record ReadsByGauges (c : CellScales) (gives : CellGauges) : Type 0 where
   pub turn : (s : TableSense) (r : TableReading) → (steps_by c gives Table).senses s (Ok r) → gives.turn s.turn r.turn
-  pub gripper : (s : CraneSense) (r : CraneReading) → (steps_by c gives Crane).senses s (Ok r) → gives.gripper s.gripper r.gripper
+  pub gripper : (s : CraneSense) (r : CraneReading) → (steps_by c gives Crane).senses s (Ok r)
+      → gives.gripper s.gripper r.gripper
   pub arm1 : (s : RobotSense) (r : RobotReading) → (steps_by c gives Robot).senses s (Ok r) → gives.arm1 s.arm1 r.arm1
   pub arm2 : (s : RobotSense) (r : RobotReading) → (steps_by c gives Robot).senses s (Ok r) → gives.arm2 s.arm2 r.arm2
-  pub rotation : (s : RobotSense) (r : RobotReading) → (steps_by c gives Robot).senses s (Ok r) → gives.rotation s.rotation r.rotation
+  pub rotation : (s : RobotSense) (r : RobotReading) → (steps_by c gives Robot).senses s (Ok r)
+      → gives.rotation s.rotation r.rotation
 
 -- gauges on five curves, in order
 pub record ReadsByCurves (arm1 arm2 rotation turn gripper : List Pair) (raw : ℕ) (v : ℤ) : Type 0 where
@@ -88,5 +88,7 @@ pub record ReadsByCurves (arm1 arm2 rotation turn gripper : List Pair) (raw : �
 -- a run by gauges is a run by readings near the lines, and machines read by their gauges
 pub record RunsAreByGauges (c : CellScales) (gives : CellGauges) : Type 0 where
   pub reads : ReadsByGauges c gives
-  pub curves : (arm1 arm2 rotation turn gripper : List Pair) (raw : ℕ) (v : ℤ) → ReadsByCurves arm1 arm2 rotation turn gripper raw v
-  pub near : (w : CellState) (turns : List Turn) (steps : List Step) → IsRunBy c gives w turns steps → IsRun c w turns steps
+  pub curves : (arm1 arm2 rotation turn gripper : List Pair) (raw : ℕ) (v : ℤ)
+      → ReadsByCurves arm1 arm2 rotation turn gripper raw v
+  pub near : (w : CellState) (turns : List Turn) (steps : List Step) → IsRunBy c gives w turns steps
+      → IsRun c w turns steps

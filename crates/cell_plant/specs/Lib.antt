@@ -18,3 +18,4 @@ pub mod Notebooks
 pub mod Simulations
 pub mod WatchExamples
 pub mod WatchLaws
+pub mod Names

@@ -1,7 +1,7 @@
 -- The machines of the cell, looked up by name: what each consists of. The watch has nothing to move.
 use Rattle.std.specs.Prelude.{ℕ, ℤ, List, [], slice_index_or}
-use Rattle.cell_types.specs.declared.machine.Machine.{Machine}
-use Rattle.cell_types.specs.declared.machine.Machine.TheVariants.{Feed, Table, Robot, Press, Deposit, Crane, Watch}
+use Rattle.cell_rules.specs.Types.{Machine, Feed, Table, Robot, Press, Deposit, Crane, Watch}
+use Rattle.cell_calib.specs.Names.{IsReading, Pair, IsOnCurve}
 use Rattle.cell_calib.specs.declared.sense.CraneSense.{CraneSense}
 use Rattle.cell_calib.specs.declared.sense.DepositSense.{DepositSense}
 use Rattle.cell_calib.specs.declared.sense.FeedSense.{FeedSense}
@@ -14,32 +14,26 @@ use Rattle.cell_devices.specs.declared.act.FeedAct.{FeedAct}
 use Rattle.cell_devices.specs.declared.act.PressAct.{PressAct}
 use Rattle.cell_devices.specs.declared.act.RobotAct.{RobotAct}
 use Rattle.cell_devices.specs.declared.act.TableAct.{TableAct}
-use Rattle.cell_calib.specs.Line.{IsReading}
-use Rattle.cell_calib.specs.Curve.{Pair, IsOnCurve}
-use Rattle.cell_control.specs.Rigs.{Rig}
-use Rattle.cell_control.specs.Steps.{Steps}
+use Rattle.cell_control.specs.Names.{Rig, Steps}
+use Rattle.cell_haul.specs.Names.{crane_steps, deposit_steps, feed_steps}
 use Rattle.cell_haul.specs.declared.crane.CraneProgress.{CraneProgress}
 use Rattle.cell_haul.specs.declared.crane.CraneReading.{CraneReading}
 use Rattle.cell_haul.specs.declared.deposit.DepositProgress.{DepositProgress}
 use Rattle.cell_haul.specs.declared.feed.FeedProgress.{FeedProgress}
-use Rattle.cell_haul.specs.CraneProgram.{crane_steps}
-use Rattle.cell_haul.specs.DepositProgram.{deposit_steps}
-use Rattle.cell_haul.specs.FeedProgram.{feed_steps}
+use Rattle.cell_robot.specs.Names.{RobotGauges, RobotScales, gauges_of, robot_scales, robot_steps}
 use Rattle.cell_robot.specs.declared.robot.RobotProgress.{RobotProgress}
 use Rattle.cell_robot.specs.declared.robot.RobotReading.{RobotReading}
-use Rattle.cell_robot.specs.RobotProgram.{RobotGauges, RobotScales, gauges_of, robot_scales, robot_steps}
+use Rattle.cell_stations.specs.Names.{press_steps, table_steps}
 use Rattle.cell_stations.specs.declared.press.PressProgress.{PressProgress}
 use Rattle.cell_stations.specs.declared.table.TableProgress.{TableProgress}
 use Rattle.cell_stations.specs.declared.table.TableReading.{TableReading}
-use Rattle.cell_stations.specs.PressProgram.{press_steps}
-use Rattle.cell_stations.specs.TableProgram.{table_steps}
+use Rattle.cell_parts.specs.Names.{CellScales, feed_rig, table_rig, robot_rig, press_rig, deposit_rig, crane_rig}
 use Rattle.cell_parts.specs.declared.axis.Axis.{Axis}
 use Rattle.cell_parts.specs.declared.belt.Belt.{Belt}
-use Rattle.cell_parts.specs.Axes.{RobotScales as PartScales, CellScales}
 use Rattle.cell_parts.specs.declared.plant.TablePlant.{TablePlant}
 use Rattle.cell_parts.specs.declared.plant.RobotPlant.{RobotPlant}
 use Rattle.cell_parts.specs.declared.plant.CranePlant.{CranePlant}
-use Rattle.cell_parts.specs.Rigs.{feed_rig, table_rig, robot_rig, press_rig, deposit_rig, crane_rig}
+use Rattle.cell_parts.specs.Axes.{RobotScales as PartScales}
 use Rattle.cell_plant.specs.declared.watch.WatchProgress.{WatchProgress}
 use Rattle.cell_plant.specs.Watch.{watch_steps, watch_rig}
 

@@ -1,19 +1,13 @@
 -- For the contracts of private functions: a simulation at a moment, and one turn of it.
 use Rattle.std.specs.Prelude.{◌≡◌, ◌&&◌, List, [], ◌++◌, map, Some, if◌then◌else◌}
-use Rattle.cell_types.specs.declared.machine.Machine.{Machine}
-use Rattle.cell_types.specs.declared.answer.Event.{Event}
-use Rattle.cell_types.specs.Everything.{all_machines}
-use Rattle.cell_types.specs.Journals.{journal_of}
-use Rattle.cell_types.specs.Same.{same_machine}
+use Rattle.cell_rules.specs.Types.{Machine, Event, all_machines, journal_of, same_machine}
 use Rattle.cell_rules.specs.ModelState.{ModelState}
+use Rattle.cell_notes.specs.Names.{TurnCall, settled_in, at_machine, each_machine, Notes, no_notes, notes_with}
 use Rattle.cell_notes.specs.declared.run_record.RunRecord.{RunRecord}
-use Rattle.cell_notes.specs.Asks.{TurnCall, settled_in}
-use Rattle.cell_notes.specs.ByMachine.{at_machine, each_machine}
 use Rattle.cell_notes.specs.declared.by_machine.ByMachine.{ByMachine}
-use Rattle.cell_notes.specs.Notes.{Notes, no_notes, notes_with}
+use Rattle.cell_notes.specs.declared.schedule.Turn.{Turn}
 use Rattle.cell_unit.specs.Statuses.{status_of}
 use Rattle.cell_parts.specs.Axes.{CellScales}
-use Rattle.cell_notes.specs.declared.schedule.Turn.{Turn}
 use Rattle.cell_plant.specs.CellStates.{CellState, Sides, side_in, sides_at_start, plant_of}
 use Rattle.cell_plant.specs.Records.{positions_in}
 use Rattle.cell_plant.specs.Machines.{CellGauges}
@@ -54,14 +48,17 @@ first_moment c gauges s =
     }
 
 -- a turn is a step of the run by what the gauges may give, and the machine notes what it asked
-pub record StepsOn {G : Type 0} (gives : G → CellGauges) (t : Turn) (before now : RunMoment G) (asked : TurnCall) : Type 0 where
+pub record StepsOn {G : Type 0} (gives : G → CellGauges) (t : Turn) (before now : RunMoment G) (asked : TurnCall)
+    : Type 0 where
   pub step : Step
   pub is_asked : step.asked ≡ asked
   pub machine : step.machine ≡ t.machine
   pub leads : LeadsBy before.scales (gives before.gauges) t.machine t.busy (state_at before) step
   pub state : state_at now ≡ step.moved
   pub history : now.history ≡ before.history ++ settled_in t.machine step.asked
-  pub notes : (n : Machine) → at_machine now.notes n ≡ (if step.taken && same_machine t.machine n then notes_with (at_machine before.notes n) step.asked else at_machine before.notes n)
+  pub notes : (n : Machine) → at_machine now.notes n ≡ (if step.taken
+      && same_machine t.machine n then notes_with
+      (at_machine before.notes n) step.asked else at_machine before.notes n)
   pub scales : now.scales ≡ before.scales
   pub gauges : now.gauges ≡ before.gauges
   pub opening : now.opening ≡ before.opening

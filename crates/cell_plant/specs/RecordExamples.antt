@@ -1,54 +1,54 @@
 -- The record of a literal run, and records that are of no run.
 use Rattle.std.specs.Prelude.{◌≡◌, ℕ, ◌<◌, ℤ, pos, true, false, List, [], ◌∷◌, Some, None, Ok, Err}
-use Rattle.cell_types.specs.declared.machine.Machine.{Machine}
-use Rattle.cell_types.specs.declared.machine.Machine.TheVariants.{Feed, Table, Robot, Press, Deposit, Crane, Watch}
-use Rattle.cell_types.specs.declared.zone.Zone.TheVariants.{Z1, Z2, Z3, Z4, Z6}
-use Rattle.cell_types.specs.declared.posture.Posture.TheVariants.{Closed, OpenIn}
-use Rattle.cell_types.specs.declared.call.Call.TheVariants.{Claim, Inquire, Stop, Resume}
-use Rattle.cell_types.specs.declared.answer.Answer.TheVariants.{Done, Refused, Shown}
-use Rattle.cell_types.specs.declared.answer.Refusal.TheVariants.{Shut, Jump}
-use Rattle.cell_types.specs.declared.answer.Event.{Event}
-use Rattle.cell_types.specs.declared.journal.Entry.{Entry}
-use Rattle.cell_types.specs.declared.journal.Journals.{Journals}
-use Rattle.cell_types.specs.declared.reply.Reply.TheVariants.{Settled, Busy}
-use Rattle.cell_types.specs.Journals.{journal_of}
+use Rattle.cell_rules.specs.Types.{Machine, Feed, Table, Robot, Press, Deposit, Crane, Watch, Z1, Z2, Z3, Z4, Z6}
+use Rattle.cell_rules.specs.Types.{Closed, OpenIn, Claim, Inquire, Stop, Resume, Done, Refused, Shown, Shut, Jump}
+use Rattle.cell_rules.specs.Types.{Event, Entry, Journals, Settled, Busy, journal_of}
 use Rattle.cell_calib.specs.declared.sense.SensorFault.TheVariants.{Low}
 use Rattle.cell_rules.specs.declared.heard.LineFault.TheVariants.{Memory as NoRoom}
-use Rattle.cell_rules.specs.ModelState.{ModelState}
-use Rattle.cell_rules.specs.History.{IsLegal, after}
-use Rattle.cell_rules.specs.Journal.{noted}
+use Rattle.cell_rules.specs.Names.{ModelState, IsLegal, after, noted}
 use Rattle.cell_control.specs.declared.fault.CtlFault.TheVariants as fault
 use Rattle.cell_haul.specs.CraneProgram.{crane_start}
 use Rattle.cell_robot.specs.RobotProgram.{robot_start}
-use Rattle.cell_stations.specs.PressProgram.{press_start}
-use Rattle.cell_stations.specs.TableProgram.{table_start}
+use Rattle.cell_stations.specs.Names.{press_start, table_start}
+use Rattle.cell_notes.specs.Names.{no_counts}
 use Rattle.cell_notes.specs.declared.counts.Counts.{Counts}
 use Rattle.cell_notes.specs.declared.run_record.RunRecord.{RunRecord}
 use Rattle.cell_notes.specs.declared.schedule.Turn.{Turn}
 use Rattle.cell_notes.specs.declared.status.Status.{Status}
-use Rattle.cell_notes.specs.declared.status.Status.TheVariants.{Fine, Worn, Sensor, Refused as WasRefused, Memory}
-use Rattle.cell_notes.specs.Notes.{no_counts}
+use Rattle.cell_notes.specs.declared.status.Status.TheVariants.{Fine, Worn, Sensor, Memory}
+use Rattle.cell_notes.specs.declared.status.Status.TheVariants.{Refused as WasRefused}
 use Rattle.cell_unit.specs.Sides.{side_of}
-use Rattle.cell_parts.specs.Axes.{CellScales}
+use Rattle.cell_parts.specs.Names.{CellScales, empty_cell, at, robot_at, table_at, crane_at, held_by}
 use Rattle.cell_parts.specs.declared.plant.PlantState.{PlantState}
-use Rattle.cell_parts.specs.Examples.{empty_cell, at, robot_at, table_at, crane_at, held_by}
 use Rattle.cell_plant.specs.CellStates.{CellState, Sides, sides_at_start, cell_at_start}
 use Rattle.cell_plant.specs.Cells.{TellsRun}
 use Rattle.cell_plant.specs.Machines.{any_near}
 use Rattle.cell_plant.specs.Records.{IsRecordOf, positions_in}
 use Rattle.cell_plant.specs.Runs.{Step}
-use Rattle.cell_plant.specs.RunExamples.{opening, entered, stopped, at_first, at_last, cell_of, asks, passes, schedule, steps, turn_of}
+use Rattle.cell_plant.specs.RunExamples.{opening, entered, stopped, at_first, at_last, cell_of, asks, passes}
+use Rattle.cell_plant.specs.RunExamples.{schedule, steps, turn_of}
 use Rattle.cell_plant.specs.Watch.{watch_noting}
 
 -- ---- the record of the literal run
 
 -- a plant whose axes are all at different positions
 abbrev pub axes_apart : PlantState
-axes_apart = record empty_cell { press = at 1; robot = robot_at (at 2) (at 3) (at 4); table = table_at (at 5) (at 6); crane = crane_at (at 7) (at 8) }
+axes_apart = record empty_cell {
+  press = at 1;
+  robot = robot_at (at 2) (at 3) (at 4);
+  table = table_at (at 5) (at 6);
+  crane = crane_at (at 7) (at 8);
+}
 
 -- the counts of a machine; those of all machines, by what feed, press and watch did
 abbrev pub counts_of : ℕ → ℕ → ℕ → ℕ → ℕ → Counts
-counts_of turns done read refused busy = record { turns = turns; done = done; read = read; refused = refused; busy = busy }
+counts_of turns done read refused busy = record {
+  turns = turns;
+  done = done;
+  read = read;
+  refused = refused;
+  busy = busy;
+}
 
 abbrev pub counts_by : Counts → Counts → Counts → List Counts
 counts_by feed press watch = feed ∷ no_counts ∷ no_counts ∷ press ∷ no_counts ∷ no_counts ∷ watch ∷ []
@@ -122,7 +122,8 @@ journals_apart Watch = stop_entry ∷ record { call = Resume; answer = Done; sta
 journals_apart _ = []
 
 pub record IsOfApart (r : RunRecord) : Type 0 where
-  pub counts : r.counts ≡ counts_of 1 1 0 0 0 ∷ counts_of 1 0 1 0 0 ∷ counts_of 1 0 0 1 0 ∷ counts_of 1 0 0 0 1 ∷ counts_of 1 0 0 0 0 ∷ counts_of 2 0 0 0 0 ∷ counts_of 2 2 0 0 0 ∷ []
+  pub counts : r.counts ≡ counts_of 1 1 0 0 0 ∷ counts_of 1 0 1 0 0 ∷ counts_of 1 0 0 1 0 ∷ counts_of 1 0 0 0 1
+      ∷ counts_of 1 0 0 0 0 ∷ counts_of 2 0 0 0 0 ∷ counts_of 2 2 0 0 0 ∷ []
   pub status : r.status ≡ Fine ∷ Worn ∷ Sensor ∷ WasRefused ∷ Fine ∷ Memory ∷ Worn ∷ []
   pub journals : (m : Machine) → journal_of r.journals m ≡ journals_apart m
   pub end : r.end ≡ Some entered
@@ -143,18 +144,25 @@ pub record WrongRecords (r : RunRecord) : Type 0 where
   pub read : ¬ IsRecord (with_feed_counts r (counts_of 2 1 1 1 0))
   pub refused : ¬ IsRecord (with_feed_counts r (counts_of 2 1 0 0 0))
   pub busy : ¬ IsRecord (with_feed_counts r (counts_of 2 1 0 1 1))
-  pub counts_of_others : ¬ IsRecord (record r { counts = counts_by (counts_of 2 0 0 0 1) (counts_of 2 1 0 1 0) (counts_of 1 1 0 0 0) })
-  pub watch_uncounted : ¬ IsRecord (record r { counts = counts_by (counts_of 2 1 0 1 0) (counts_of 2 0 0 0 1) no_counts })
+  pub counts_of_others : ¬ IsRecord
+      (record r { counts = counts_by (counts_of 2 0 0 0 1) (counts_of 2 1 0 1 0) (counts_of 1 1 0 0 0) })
+  pub watch_uncounted : ¬ IsRecord
+      (record r { counts = counts_by (counts_of 2 1 0 1 0) (counts_of 2 0 0 0 1) no_counts })
   pub status : ¬ IsRecord (record r { status = status_by Fine Fine })
   pub status_of_another : ¬ IsRecord (record r { status = status_by Memory Fine })
   pub end : ¬ IsRecord (record r { end = Some opening })
   pub no_end : ¬ IsRecord (record r { end = None })
   pub axis : ¬ IsRecord (record r { axes = axes_by 1000 300 880 })
   pub axes_swapped : ¬ IsRecord (record r { axes = axes_by 300 1000 900 })
-  pub entry_left_out : (journals : Journals) → AreJournals journals (done_entry ∷ []) → ¬ IsRecord (record r { journals = journals })
-  pub entry_twice : (journals : Journals) → AreJournals journals (done_entry ∷ refused_entry ∷ refused_entry ∷ []) → ¬ IsRecord (record r { journals = journals })
-  pub entries_swapped : (journals : Journals) → AreJournals journals (refused_entry ∷ done_entry ∷ []) → ¬ IsRecord (record r { journals = journals })
-  pub another_stamp : (journals : Journals) → AreJournals journals (done_entry ∷ record refused_entry { stamp = 0 } ∷ []) → ¬ IsRecord (record r { journals = journals })
+  pub entry_left_out : (journals : Journals) → AreJournals journals (done_entry ∷ [])
+      → ¬ IsRecord (record r { journals = journals })
+  pub entry_twice : (journals : Journals) → AreJournals journals (done_entry ∷ refused_entry ∷ refused_entry ∷ [])
+      → ¬ IsRecord (record r { journals = journals })
+  pub entries_swapped : (journals : Journals) → AreJournals journals (refused_entry ∷ done_entry ∷ [])
+      → ¬ IsRecord (record r { journals = journals })
+  pub another_stamp : (journals : Journals)
+      → AreJournals journals (done_entry ∷ record refused_entry { stamp = 0 } ∷ [])
+      → ¬ IsRecord (record r { journals = journals })
 
 -- ---- records of runs of a schedule, and records that are of no such run
 

@@ -1,19 +1,14 @@
 -- The record of a run.
 use Rattle.std.specs.Prelude.{◌≡◌, ◌≢◌, ℤ, Bool, ◌&&◌, List, [], ◌∷◌, ◌++◌, map, count_by, Some, Result}
 use Rattle.std.specs.List.{All}
-use Rattle.cell_types.specs.declared.machine.Machine.{Machine}
-use Rattle.cell_types.specs.declared.answer.Event.{Event}
-use Rattle.cell_types.specs.declared.reply.Reply.{Reply}
-use Rattle.cell_types.specs.Everything.{all_machines}
-use Rattle.cell_types.specs.Journals.{journal_of}
-use Rattle.cell_types.specs.Same.{same_machine}
+use Rattle.cell_rules.specs.Types.{Machine, Event, Reply, all_machines, journal_of, same_machine}
+use Rattle.cell_rules.specs.Names.{ModelState, noted}
 use Rattle.cell_rules.specs.declared.heard.LineFault.{LineFault}
-use Rattle.cell_rules.specs.ModelState.{ModelState}
-use Rattle.cell_rules.specs.Journal.{noted}
+use Rattle.cell_notes.specs.Names.{came_back, is_done_reply, is_read_reply, is_refused_reply, is_busy_reply}
+use Rattle.cell_notes.specs.Names.{settled_in}
 use Rattle.cell_notes.specs.declared.counts.Counts.{Counts}
 use Rattle.cell_notes.specs.declared.run_record.RunRecord.{RunRecord}
 use Rattle.cell_notes.specs.declared.status.Status.TheVariants.{Refused}
-use Rattle.cell_notes.specs.Asks.{came_back, is_done_reply, is_read_reply, is_refused_reply, is_busy_reply, settled_in}
 use Rattle.cell_unit.specs.Statuses.{status_of}
 use Rattle.cell_parts.specs.declared.plant.PlantState.{PlantState}
 use Rattle.cell_plant.specs.CellStates.{CellState, plant_of}

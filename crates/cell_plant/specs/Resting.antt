@@ -1,11 +1,10 @@
 -- A turn that an error ends leaves its machine at rest.
 use Rattle.std.specs.Prelude.{◌≡◌, false, Bool, Some, ⊤}
-use Rattle.cell_types.specs.declared.machine.Machine.{Machine}
-use Rattle.cell_types.specs.declared.machine.Machine.TheVariants.{Feed, Table, Robot, Press, Deposit, Crane, Watch}
+use Rattle.cell_rules.specs.Types.{Machine, Feed, Table, Robot, Press, Deposit, Crane, Watch}
 use Rattle.cell_devices.specs.declared.motor.Motor.TheVariants.{Off}
 use Rattle.cell_control.specs.declared.fault.CtlFault.{CtlFault}
 use Rattle.cell_robot.specs.declared.robot.RobotMagnets.{RobotMagnets}
-use Rattle.cell_parts.specs.Axes.{CellScales}
+use Rattle.cell_parts.specs.Names.{CellScales}
 use Rattle.cell_parts.specs.declared.plant.TablePlant.{TablePlant}
 use Rattle.cell_parts.specs.declared.plant.RobotPlant.{RobotPlant}
 use Rattle.cell_parts.specs.declared.plant.CranePlant.{CranePlant}
@@ -42,5 +41,7 @@ IsAtRest Watch p b = ⊤
 
 -- after a turn that stops a machine, once its actuators are set, and once its part has moved
 pub record StoppedMachinesRest (c : CellScales) : Type 0 where
-  pub set : (m : Machine) (busy : Bool) (w : CellState) (s : Step) (fault : CtlFault) → TakesTurn c m busy w s → (s.set.side m).stopped ≡ Some fault → IsAtRest m (w.side m).progress (s.set.side m).part
-  pub moved : (m : Machine) (busy : Bool) (w : CellState) (s : Step) (fault : CtlFault) → TakesTurn c m busy w s → (s.moved.side m).stopped ≡ Some fault → IsAtRest m (w.side m).progress (s.moved.side m).part
+  pub set : (m : Machine) (busy : Bool) (w : CellState) (s : Step) (fault : CtlFault) → TakesTurn c m busy w s
+      → (s.set.side m).stopped ≡ Some fault → IsAtRest m (w.side m).progress (s.set.side m).part
+  pub moved : (m : Machine) (busy : Bool) (w : CellState) (s : Step) (fault : CtlFault) → TakesTurn c m busy w s
+      → (s.moved.side m).stopped ≡ Some fault → IsAtRest m (w.side m).progress (s.moved.side m).part

@@ -1,12 +1,10 @@
 -- Runs of the cell: what each turn of a schedule leads to.
 use Rattle.std.specs.Prelude.{◌≡◌, Bool, true, false, List, [], ◌∷◌, None, is_none, ⊤}
-use Rattle.cell_types.specs.declared.machine.Machine.{Machine}
-use Rattle.cell_types.specs.Same.{same_machine}
-use Rattle.cell_notes.specs.Asks.{TurnCall}
-use Rattle.cell_unit.specs.Sides.{side_moved}
-use Rattle.cell_unit.specs.UnitTurns.{Takes}
-use Rattle.cell_parts.specs.Axes.{CellScales}
+use Rattle.cell_rules.specs.Types.{Machine, same_machine}
+use Rattle.cell_notes.specs.Names.{TurnCall}
 use Rattle.cell_notes.specs.declared.schedule.Turn.{Turn}
+use Rattle.cell_unit.specs.Names.{side_moved, Takes}
+use Rattle.cell_parts.specs.Axes.{CellScales}
 use Rattle.cell_plant.specs.Machines.{CellGauges, any_near, steps_by, rig_of}
 use Rattle.cell_plant.specs.CellStates.{CellState}
 
@@ -20,7 +18,8 @@ pub record Step : Type 0 where
   pub moved : CellState
 
 -- a turn of a machine, by what its gauges may give, changes its own side, and leaves the others
-pub record TakesTurnBy (c : CellScales) (gives : CellGauges) (m : Machine) (busy : Bool) (w : CellState) (s : Step) : Type 0 where
+pub record TakesTurnBy (c : CellScales) (gives : CellGauges) (m : Machine) (busy : Bool) (w : CellState) (s : Step)
+    : Type 0 where
   pub taken : s.taken ≡ true
   -- as its program says, by what its part shows and what the interlock answers
   pub takes : Takes (steps_by c gives m) (rig_of c m) busy w.interlock (w.side m) s.asked s.set.interlock (s.set.side m)
@@ -50,7 +49,8 @@ LeadsBy c gives m busy w s = LeadsIfBy (goes_on w m) c gives m busy w s
 -- a run of a schedule from a state, by what the gauges may give: a step for each of its turns
 abbrev pub IsRunBy : CellScales → CellGauges → CellState → List Turn → List Step → Type 0
 IsRunBy c gives w [] [] = ⊤
-IsRunBy c gives w (t ∷ ts) (s ∷ ss) = (s.machine ≡ t.machine) × (LeadsBy c gives t.machine t.busy w s × IsRunBy c gives s.moved ts ss)
+IsRunBy c gives w (t ∷ ts) (s ∷ ss) = (s.machine ≡ t.machine)
+    × (LeadsBy c gives t.machine t.busy w s × IsRunBy c gives s.moved ts ss)
 IsRunBy c gives w [] (s ∷ ss) = ⊥
 IsRunBy c gives w (t ∷ ts) [] = ⊥
 

@@ -1,13 +1,9 @@
 -- Runs in which nothing collides.
 use Rattle.std.specs.Prelude.{◌≡◌, true, List, [], ◌∷◌}
 use Rattle.cell_types.specs.declared.machine.Machine.TheVariants.{Crane}
-use Rattle.cell_rules.specs.ModelState.{ModelState}
-use Rattle.cell_rules.specs.Start.{IsStartState}
-use Rattle.cell_parts.specs.Axes.{CellScales, AreCellScales}
-use Rattle.cell_parts.specs.Collisions.{NothingCollides, NothingCollidesWhenSet}
-use Rattle.cell_parts.specs.Plant.{StaysWithin}
-use Rattle.cell_parts.specs.PositionDemands.{PositionDemands}
-use Rattle.cell_parts.specs.MotorDemands.{MotorDemands}
+use Rattle.cell_rules.specs.Names.{ModelState, IsStartState}
+use Rattle.cell_parts.specs.Names.{CellScales, AreCellScales, NothingCollides, NothingCollidesWhenSet, StaysWithin}
+use Rattle.cell_parts.specs.Names.{PositionDemands, MotorDemands}
 use Rattle.cell_notes.specs.declared.schedule.Turn.{Turn}
 use Rattle.cell_plant.specs.CellStates.{CellState, plant_of, cell_at_start}
 use Rattle.cell_plant.specs.Runs.{Step, IsRun}
@@ -35,4 +31,5 @@ IsSafeRun w (s ∷ ss) = IsSafeState w × (IsSafelySet w s × IsSafeRun s.moved 
 abbrev pub EveryRunIsSafe : Type 0
 EveryRunIsSafe =
     (c : CellScales) (opening : ModelState) (turns : List Turn) (steps : List Step)
-    → AreCellScales c → IsStartState opening → IsRun c (cell_at_start opening) turns steps → IsSafeRun (cell_at_start opening) steps
+    → AreCellScales c → IsStartState opening → IsRun c (cell_at_start opening) turns steps
+    → IsSafeRun (cell_at_start opening) steps

@@ -1,31 +1,24 @@
 -- Literal states, steps and runs that are safe, and unsafe ones. Most of these are wrong in one thing, and right in all
 -- else.
 use Rattle.std.specs.Prelude.{ℕ, ◌+◌, pos, ◌-ℤ◌, Bool, true, false, [], ◌∷◌, Some, None}
-use Rattle.cell_types.specs.declared.machine.Machine.{Machine}
-use Rattle.cell_types.specs.declared.machine.Machine.TheVariants.{Feed, Table, Robot, Press, Deposit, Crane}
-use Rattle.cell_types.specs.declared.zone.Zone.TheVariants.{Z1, Z2, Z3, Z4, Z5, Z6}
-use Rattle.cell_types.specs.declared.place.Place.{Place}
-use Rattle.cell_types.specs.declared.place.Place.TheVariants.{FeedEnd, DepEnd}
-use Rattle.cell_types.specs.declared.posture.Posture.TheVariants.{Closed, Moving, OpenIn, OpenOut}
+use Rattle.cell_rules.specs.Types.{Machine, Feed, Table, Robot, Press, Deposit, Crane, Z1, Z2, Z3, Z4, Z5, Z6, Place}
+use Rattle.cell_rules.specs.Types.{FeedEnd, DepEnd, Closed, Moving, OpenIn, OpenOut}
 use Rattle.cell_devices.specs.declared.motor.Motor.TheVariants.{Off, Plus, Minus}
-use Rattle.cell_rules.specs.ModelState.{ModelState}
-use Rattle.cell_rules.specs.PlaceSet.{empty, insert_place}
-use Rattle.cell_rules.specs.Start.{start_state}
+use Rattle.cell_rules.specs.Names.{ModelState, empty, insert_place, start_state}
+use Rattle.cell_haul.specs.Names.{deposit_start, feed_start}
 use Rattle.cell_haul.specs.declared.crane.CraneStep.{CraneStep}
-use Rattle.cell_haul.specs.declared.crane.CraneStep.TheVariants.{RaiseToFetch, LowerToPlate, RaiseWithPlate, LowerToFeed, RaiseFromFeed}
-use Rattle.cell_haul.specs.DepositProgram.{deposit_start}
-use Rattle.cell_haul.specs.FeedProgram.{feed_start}
+use Rattle.cell_haul.specs.declared.crane.CraneStep.TheVariants.{RaiseToFetch, LowerToPlate, RaiseWithPlate}
+use Rattle.cell_haul.specs.declared.crane.CraneStep.TheVariants.{LowerToFeed, RaiseFromFeed}
 use Rattle.cell_robot.specs.RobotProgram.{robot_start}
-use Rattle.cell_stations.specs.PressProgram.{press_start}
-use Rattle.cell_stations.specs.TableProgram.{table_start}
+use Rattle.cell_stations.specs.Names.{press_start, table_start}
 use Rattle.cell_unit.specs.Sides.{side_of}
+use Rattle.cell_parts.specs.Names.{NothingCollides, StaysWithin, PositionDemands, MotorDemands, empty_cell}
+use Rattle.cell_parts.specs.Names.{cell_with_plate_at, driven_at, at, robot_at, table_at, crane_at, belt_with}
+use Rattle.cell_parts.specs.Names.{with_press, all_free, with_zone, held_by}
 use Rattle.cell_parts.specs.declared.axis.Axis.{Axis}
-use Rattle.cell_parts.specs.Collisions.{NothingCollides}
 use Rattle.cell_parts.specs.declared.plant.PlantState.{PlantState}
-use Rattle.cell_parts.specs.Plant.{StaysWithin}
-use Rattle.cell_parts.specs.PositionDemands.{PositionDemands}
-use Rattle.cell_parts.specs.MotorDemands.{MotorDemands}
-use Rattle.cell_parts.specs.Examples.{empty_cell, cell_with_plate_at, driven_at, at, robot_with, robot_at, table_at, crane_with, crane_at, belt_with, with_press, with_arm1, with_arm2, with_rotation, with_lift, with_turn, with_travel, with_gripper, all_free, with_zone, held_by}
+use Rattle.cell_parts.specs.Examples.{robot_with, crane_with, with_arm1, with_arm2, with_rotation, with_lift}
+use Rattle.cell_parts.specs.Examples.{with_turn, with_travel, with_gripper}
 use Rattle.cell_plant.specs.CellStates.{CellState, plant_of, side_in}
 use Rattle.cell_plant.specs.Errands.{errand_of}
 use Rattle.cell_plant.specs.Runs.{Step}
@@ -125,19 +118,28 @@ pub record SafeStates : Type 0 where
   pub press_open : IsSafeState (cell_with (held_by Press Z3 OpenIn) (with_press (at 500)))
   pub table_turns : IsSafeState (cell_with table_moves (with_turn (driven_at 250 Plus)))
   pub arm_over_table : IsSafeState (cell_with (held_by Robot Z2 OpenOut) (with_arm1 (driven_at 600 Plus)))
-  pub gripper_lowered : IsSafeState (cell_at LowerToPlate (held_by Crane Z5 OpenOut) (with_gripper (driven_at 500 Minus)))
+  pub gripper_lowered : IsSafeState (cell_at LowerToPlate (held_by Crane Z5 OpenOut)
+      (with_gripper (driven_at 500 Minus)))
   pub gripper_raised : IsSafeState (cell_at RaiseToFetch all_free (with_gripper (driven_at 900 Plus)))
   pub plate_on_belt : IsSafeState (cell_with (plate_at FeedEnd) (cell_with_plate_at FeedEnd))
 
 -- In the last three a demand isn't met either: in a sound state whose belts run clear, met demands rule them out.
 pub record CollidingStates : Type 0 where
-  pub plate_drives_off : OnlyCollides (cell_with (deposit_moves (plate_at DepEnd)) (record empty_cell { deposit = belt_with (Some 1000) true }))
-  pub crane_travels_low : OnlyCollides (cell_with (held_by Crane Z5 OpenOut) (crane_moves (driven_at 100 Plus) (at 799)))
-  pub robot_turns_with_arm_out : OnlyCollides (cell_with (held_by Robot Z2 OpenOut) (robot_moves (at 51) (driven_at 300 Plus)))
-  pub plate_misses_table : OnlyCollides (cell_with (with_zone (with_zone (plate_at FeedEnd) Feed Z6 Moving) Feed Z1 Closed) (record empty_cell { feed = belt_with (Some 980) true; table = table_at (at 300) (at 0) }))
-  pub arm_hits_press : ¬ IsSafeState (cell_with (held_by Robot Z3 OpenIn) (record empty_cell { robot = robot_at (at 800) (at 0) (at 1500) }))
-  pub table_hits_arm : ¬ IsSafeState (cell_with (held_by Robot Z2 OpenOut) (record empty_cell { robot = robot_at (at 600) (at 0) (at 300); table = table_at (driven_at 300 Plus) (at 0) }))
-  pub feed_belt_pulls : ¬ IsSafeState (cell_with (held_by Feed Z6 Moving) (record empty_cell { crane = crane_at (at 2000) (at 300); feed = belt_with None true }))
+  pub plate_drives_off : OnlyCollides (cell_with (deposit_moves (plate_at DepEnd))
+      (record empty_cell { deposit = belt_with (Some 1000) true }))
+  pub crane_travels_low : OnlyCollides (cell_with (held_by Crane Z5 OpenOut)
+      (crane_moves (driven_at 100 Plus) (at 799)))
+  pub robot_turns_with_arm_out : OnlyCollides (cell_with (held_by Robot Z2 OpenOut)
+      (robot_moves (at 51) (driven_at 300 Plus)))
+  pub plate_misses_table : OnlyCollides
+      (cell_with (with_zone (with_zone (plate_at FeedEnd) Feed Z6 Moving) Feed Z1 Closed)
+      (record empty_cell { feed = belt_with (Some 980) true; table = table_at (at 300) (at 0) }))
+  pub arm_hits_press : ¬ IsSafeState (cell_with (held_by Robot Z3 OpenIn)
+      (record empty_cell { robot = robot_at (at 800) (at 0) (at 1500) }))
+  pub table_hits_arm : ¬ IsSafeState (cell_with (held_by Robot Z2 OpenOut)
+      (record empty_cell { robot = robot_at (at 600) (at 0) (at 300); table = table_at (driven_at 300 Plus) (at 0) }))
+  pub feed_belt_pulls : ¬ IsSafeState (cell_with (held_by Feed Z6 Moving)
+      (record empty_cell { crane = crane_at (at 2000) (at 300); feed = belt_with None true }))
 
 -- an axis may be at either end, 0 and another, but not one further
 abbrev pub before_first : Axis
@@ -179,10 +181,14 @@ pub record MotorsUnmet : Type 0 where
   pub deposit_belt_runs : OnlyMotorUnmet (cell_with all_free (record empty_cell { deposit = belt_with None true }))
   pub arm1_is_driven : OnlyMotorUnmet (cell_with all_free (with_arm1 (driven_at 0 Plus)))
   pub arm2_is_driven : OnlyMotorUnmet (cell_with all_free (with_arm2 (driven_at 0 Plus)))
-  pub gripper_to_plate : OnlyMotorUnmet (cell_at LowerToPlate (held_by Crane Z6 OpenIn) (with_gripper (driven_at 900 Minus)))
-  pub gripper_with_plate : OnlyMotorUnmet (cell_at RaiseWithPlate (held_by Crane Z6 OpenIn) (with_gripper (driven_at 900 Plus)))
-  pub gripper_to_feed : OnlyMotorUnmet (cell_at LowerToFeed (held_by Crane Z5 OpenOut) (with_gripper (driven_at 900 Minus)))
-  pub gripper_from_feed : OnlyMotorUnmet (cell_at RaiseFromFeed (held_by Crane Z5 OpenOut) (with_gripper (driven_at 900 Plus)))
+  pub gripper_to_plate : OnlyMotorUnmet (cell_at LowerToPlate (held_by Crane Z6 OpenIn)
+      (with_gripper (driven_at 900 Minus)))
+  pub gripper_with_plate : OnlyMotorUnmet (cell_at RaiseWithPlate (held_by Crane Z6 OpenIn)
+      (with_gripper (driven_at 900 Plus)))
+  pub gripper_to_feed : OnlyMotorUnmet (cell_at LowerToFeed (held_by Crane Z5 OpenOut)
+      (with_gripper (driven_at 900 Minus)))
+  pub gripper_from_feed : OnlyMotorUnmet (cell_at RaiseFromFeed (held_by Crane Z5 OpenOut)
+      (with_gripper (driven_at 900 Plus)))
 
 -- ---- one step
 
@@ -216,28 +222,41 @@ press_works a = cell_with (held_by Press Z3 Moving) (with_press a)
 
 -- the robot's magnets, and the crane's
 abbrev pub robot_holds : Bool → Bool → CellState
-robot_holds first second = cell_with all_free (record empty_cell { robot = robot_with (at 0) (at 0) (at 300) first second })
+robot_holds first second = cell_with all_free
+    (record empty_cell { robot = robot_with (at 0) (at 0) (at 300) first second })
 
 abbrev pub crane_holds : Bool → CellState
 crane_holds on = cell_with all_free (record empty_cell { crane = crane_with (at 0) (at 900) on })
 
 -- an axis at its end is commanded to go on
 abbrev pub Drives : Machine → (Axis → CellState) → ℕ → Type 0
-Drives m with_axis end = OnlyStepIsUnsafe (with_axis (at end)) (step_by m (with_axis (driven_at end Plus)) (with_axis (driven_at end Plus)))
+Drives m with_axis end = OnlyStepIsUnsafe (with_axis (at end))
+    (step_by m (with_axis (driven_at end Plus)) (with_axis (driven_at end Plus)))
 
 pub record StepExamples : Type 0 where
-  pub crane_leaves : IsSafelySet quiet (step_by Crane (cell_with all_free (crane_moves (driven_at 0 Plus) (at 900))) (cell_with all_free (crane_moves (driven_at 20 Plus) (at 900))))
-  pub press_goes_down : IsSafelySet (press_works (at 1000)) (step_by Press (press_works (driven_at 1000 Minus)) (press_works (driven_at 980 Minus)))
+  pub crane_leaves : IsSafelySet quiet (step_by Crane (cell_with all_free (crane_moves (driven_at 0 Plus) (at 900)))
+      (cell_with all_free (crane_moves (driven_at 20 Plus) (at 900))))
+  pub press_goes_down : IsSafelySet (press_works (at 1000)) (step_by Press (press_works (driven_at 1000 Minus))
+      (press_works (driven_at 980 Minus)))
   pub magnet_stays_on : IsSafelySet (crane_holds true) (step_by Crane (crane_holds true) (crane_holds true))
   -- wrong only once the motors are set: a collision, an axis past its end, an unmet demand of a position, and one of a
   -- motor
-  pub crane_leaves_too_low : OnlySetIsUnsafe (crane_works (at 0) (at 790)) (step_by Crane (crane_works (driven_at 0 Plus) (driven_at 790 Plus)) (crane_works (driven_at 20 Plus) (driven_at 810 Plus)))
-  pub press_past_its_end : OnlySetIsUnsafe (press_works (at 1000)) (step_by Press (press_works (driven_at 1010 Minus)) (press_works (driven_at 990 Minus)))
-  pub zone_left_too_low : OnlySetIsUnsafe (crane_works (at 0) (at 790)) (step_by Crane (cell_with all_free (crane_moves (at 0) (driven_at 790 Plus))) (cell_with all_free (crane_moves (at 0) (driven_at 810 Plus))))
-  pub arm_driven_too_early : OnlySetIsUnsafe (robot_works (at 0) (at 190)) (step_by Robot (robot_works (driven_at 0 Plus) (driven_at 190 Plus)) (robot_works (driven_at 20 Plus) (driven_at 210 Plus)))
+  pub crane_leaves_too_low : OnlySetIsUnsafe (crane_works (at 0) (at 790))
+      (step_by Crane (crane_works (driven_at 0 Plus) (driven_at 790 Plus))
+      (crane_works (driven_at 20 Plus) (driven_at 810 Plus)))
+  pub press_past_its_end : OnlySetIsUnsafe (press_works (at 1000))
+      (step_by Press (press_works (driven_at 1010 Minus)) (press_works (driven_at 990 Minus)))
+  pub zone_left_too_low : OnlySetIsUnsafe (crane_works (at 0) (at 790))
+      (step_by Crane (cell_with all_free (crane_moves (at 0) (driven_at 790 Plus)))
+      (cell_with all_free (crane_moves (at 0) (driven_at 810 Plus))))
+  pub arm_driven_too_early : OnlySetIsUnsafe (robot_works (at 0) (at 190))
+      (step_by Robot (robot_works (driven_at 0 Plus) (driven_at 190 Plus))
+      (robot_works (driven_at 20 Plus) (driven_at 210 Plus)))
   -- a magnet drops its plate
-  pub arm1_lets_go : OnlyStepIsUnsafe (robot_holds true true) (step_by Robot (robot_holds false true) (robot_holds false true))
-  pub arm2_lets_go : OnlyStepIsUnsafe (robot_holds true true) (step_by Robot (robot_holds true false) (robot_holds true false))
+  pub arm1_lets_go : OnlyStepIsUnsafe (robot_holds true true)
+      (step_by Robot (robot_holds false true) (robot_holds false true))
+  pub arm2_lets_go : OnlyStepIsUnsafe (robot_holds true true)
+      (step_by Robot (robot_holds true false) (robot_holds true false))
   pub crane_lets_go : OnlyStepIsUnsafe (crane_holds true) (step_by Crane (crane_holds false) (crane_holds false))
   -- an axis is driven on past its end
   pub press_drives_on : Drives Press press_works 1000

@@ -1,11 +1,8 @@
 -- The watch: its program of one step, and its part, which has nothing.
 use Rattle.std.specs.Prelude.{◌≡◌, Bool, false, not, if◌then◌else◌, None, Ok, ⊤}
-use Rattle.cell_types.specs.declared.machine.Machine.TheVariants.{Watch}
-use Rattle.cell_types.specs.declared.call.Call.TheVariants.{Stop, Resume}
+use Rattle.cell_rules.specs.Types.{Watch, Stop, Resume}
+use Rattle.cell_control.specs.Names.{Rig, row_that_asks, Steps}
 use Rattle.cell_control.specs.declared.row.Row.{Row}
-use Rattle.cell_control.specs.Rigs.{Rig}
-use Rattle.cell_control.specs.Row.{row_that_asks}
-use Rattle.cell_control.specs.Steps.{Steps}
 use Rattle.cell_unit.specs.Sides.{Side, side_of}
 use Rattle.cell_plant.specs.declared.watch.WatchProgress.{WatchProgress}
 

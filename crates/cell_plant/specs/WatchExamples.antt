@@ -1,7 +1,6 @@
 -- The rows of the watch's program, by examples.
 use Rattle.std.specs.Prelude.{◌≡◌, true, false, [], Ok}
-use Rattle.cell_types.specs.declared.machine.Machine.TheVariants.{Watch}
-use Rattle.cell_types.specs.declared.call.Call.TheVariants.{Stop, Resume}
+use Rattle.cell_rules.specs.Types.{Watch, Stop, Resume}
 use Rattle.cell_rules.specs.ModelState.{ModelState}
 use Rattle.cell_control.specs.Rows.{AskRow, CheckRow, NoOtherAnswers}
 use Rattle.cell_plant.specs.declared.watch.WatchProgress.{WatchProgress}

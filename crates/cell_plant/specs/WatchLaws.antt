@@ -1,13 +1,7 @@
 -- The watch's note is the mark of the interlock, so the watch is refused only as worn.
 use Rattle.std.specs.Prelude.{◌≡◌, ℕ, List, [], ◌∷◌, Some, Ok, ⊤}
-use Rattle.cell_types.specs.declared.machine.Machine.TheVariants.{Watch}
-use Rattle.cell_types.specs.declared.call.Call.{Call}
-use Rattle.cell_types.specs.declared.answer.Answer.TheVariants.{Refused}
-use Rattle.cell_types.specs.declared.answer.Refusal.{Refusal}
-use Rattle.cell_types.specs.declared.answer.Refusal.TheVariants.{Worn}
-use Rattle.cell_types.specs.declared.reply.Reply.TheVariants.{Settled}
-use Rattle.cell_rules.specs.ModelState.{ModelState}
-use Rattle.cell_rules.specs.Start.{IsStartState}
+use Rattle.cell_rules.specs.Types.{Watch, Call, Refused, Refusal, Worn, Settled}
+use Rattle.cell_rules.specs.Names.{ModelState, IsStartState}
 use Rattle.cell_notes.specs.declared.schedule.Turn.{Turn}
 use Rattle.cell_parts.specs.Axes.{CellScales}
 use Rattle.cell_plant.specs.CellStates.{CellState, cell_at_start}

@@ -62,7 +62,13 @@ impl<F1: Gauge, F2: Gauge, F3: Gauge, F4: Gauge, F5: Gauge> Cell<F1, F2, F3, F4,
         gripper: Calibration<F5>,
     ) -> Cell<F1, F2, F3, F4, F5>
         ensures made { IsMadeFor state.now result }
-        ensures scales { cell_scales result ≡ record { arm1 = arm1.points; arm2 = arm2.points; rotation = rotation.points; turn = turn.points; gripper = gripper.points } }
+        ensures scales { cell_scales result ≡ record {
+          arm1 = arm1.points;
+          arm2 = arm2.points;
+          rotation = rotation.points;
+          turn = turn.points;
+          gripper = gripper.points;
+        } }
         ensures arm1 { result.robot.controller.program.arm1 ≡ arm1 }
         ensures arm2 { result.robot.controller.program.arm2 ≡ arm2 }
         ensures rotation { result.robot.controller.program.rotation ≡ rotation }
@@ -91,7 +97,8 @@ impl<F1: Gauge, F2: Gauge, F3: Gauge, F4: Gauge, F5: Gauge> Cell<F1, F2, F3, F4,
 
 // The table at its start.
 fn table_at_start<F: Gauge>(state: &State, turn: Calibration<F>) -> TableUnit<F>
-    ensures side { side_of result.controller.progress result.controller.stopped result.part.plant ≡ (sides_at_start state.now).table }
+    ensures side { side_of result.controller.progress result.controller.stopped result.part.plant
+        ≡ (sides_at_start state.now).table }
     ensures turn { result.controller.program.turn ≡ turn }
     ensures scale { result.part.scale ≡ turn.points }
 {
@@ -109,7 +116,8 @@ fn robot_at_start<F1: Gauge, F2: Gauge, F3: Gauge>(
     arm2: Calibration<F2>,
     rotation: Calibration<F3>,
 ) -> RobotUnit<F1, F2, F3>
-    ensures side { side_of result.controller.progress result.controller.stopped result.part.plant ≡ (sides_at_start state.now).robot }
+    ensures side { side_of result.controller.progress result.controller.stopped result.part.plant
+        ≡ (sides_at_start state.now).robot }
     ensures arm1 { result.controller.program.arm1 ≡ arm1 }
     ensures arm2 { result.controller.program.arm2 ≡ arm2 }
     ensures rotation { result.controller.program.rotation ≡ rotation }
@@ -128,7 +136,8 @@ fn robot_at_start<F1: Gauge, F2: Gauge, F3: Gauge>(
 
 // The crane at its start.
 fn crane_at_start<F: Gauge>(state: &State, gripper: Calibration<F>) -> CraneUnit<F>
-    ensures side { side_of result.controller.progress result.controller.stopped result.part.plant ≡ (sides_at_start state.now).crane }
+    ensures side { side_of result.controller.progress result.controller.stopped result.part.plant
+        ≡ (sides_at_start state.now).crane }
     ensures gripper { result.controller.program.gripper ≡ gripper }
     ensures scale { result.part.scale ≡ gripper.points }
 {

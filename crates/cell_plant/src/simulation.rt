@@ -76,8 +76,10 @@ pub fn simulate_seen<F1: Gauge, F2: Gauge, F3: Gauge, F4: Gauge, F5: Gauge, W: W
     requires start { IsStartState opening }
     requires made { IsMadeFor opening cell }
     requires scales { AreCellScales (cell_scales cell) }
-    ensures run { IfOk result (SeesRun W.sees (cell_scales cell) (cell_gauges cell) opening turns.now watcher.old watcher.new) }
-    ensures ended { IfErr result (SeesBeginning W.sees (cell_scales cell) (cell_gauges cell) opening turns.now watcher.old watcher.new) }
+    ensures run { IfOk result (SeesRun W.sees (cell_scales cell)
+        (cell_gauges cell) opening turns.now watcher.old watcher.new) }
+    ensures ended { IfErr result (SeesBeginning W.sees (cell_scales cell)
+        (cell_gauges cell) opening turns.now watcher.old watcher.new) }
 {
     let mut simulation = Simulation::new(alloc, cell, opening);
     if let Err(fault) = simulation.show(None, None, watcher) {
@@ -115,7 +117,8 @@ impl<F1: Gauge, F2: Gauge, F3: Gauge, F4: Gauge, F5: Gauge> Model
 
     ghost view = { λ s. moment_of s };
 
-    ghost invariant = { λ s. AreReady (record { arm1 = F1.gives; arm2 = F2.gives; rotation = F3.gives; turn = F4.gives; gripper = F5.gives }) s };
+    ghost invariant = { λ s. AreReady
+        (record { arm1 = F1.gives; arm2 = F2.gives; rotation = F3.gives; turn = F4.gives; gripper = F5.gives }) s };
 }
 
 impl<F1: Gauge, F2: Gauge, F3: Gauge, F4: Gauge, F5: Gauge> Simulation<F1, F2, F3, F4, F5> {
@@ -136,7 +139,14 @@ impl<F1: Gauge, F2: Gauge, F3: Gauge, F4: Gauge, F5: Gauge> Simulation<F1, F2, F
     #[inline(always)]
     fn turn(&mut self, turn: Turn) -> Result<TurnCall, SimFault>
         requires room { (m : Machine) → HasRoom (at_machine self.old.notes m).counts }
-        ensures { IfOk result (StepsOn (given_by (record { arm1 = F1.gives; arm2 = F2.gives; rotation = F3.gives; turn = F4.gives; gripper = F5.gives }))
+        ensures { IfOk result (StepsOn
+            (given_by (record {
+              arm1 = F1.gives;
+              arm2 = F2.gives;
+              rotation = F3.gives;
+              turn = F4.gives;
+              gripper = F5.gives;
+            }))
             turn self.old self.new) }
     {
         let bench = &mut self.bench;

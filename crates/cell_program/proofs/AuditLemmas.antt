@@ -1,7 +1,6 @@
 -- What an audit finds of a run that a history gives.
 use Rattle.std.proofs.Common.{◌≡◌, ◌⊎◌, inl, inr, List, ℕ, Option, Some, None, refl, ap, ⊎_elim}
-use Rattle.cell_types.specs.declared.answer.Event.{Event}
-use Rattle.cell_types.specs.Journals.{journal_of}
+use Rattle.cell_rules.specs.Types.{Event, journal_of}
 use Rattle.cell_notes.specs.declared.run_record.RunRecord.{RunRecord}
 use Rattle.cell_rules.specs.Audited.{IsAudited}
 use Rattle.cell_report.specs.declared.audit_faults.AuditFault.{AuditFault}

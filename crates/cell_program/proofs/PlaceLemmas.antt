@@ -1,7 +1,6 @@
 -- A run of a configuration by six workers.
 use Rattle.std.proofs.Common.{◌≡◌, ℕ, List, map, Result, Ok, Err, IfOk}
-use Rattle.cell_calib.specs.Scale.{Scale}
-use Rattle.cell_calib.specs.Curve.{Curved, pairs_of}
+use Rattle.cell_calib.specs.Names.{Scale, Curved, pairs_of}
 use Rattle.cell_parts.specs.Axes.{CellScales}
 use Rattle.cell_plant.specs.Machines.{CellGauges, on_curves}
 use Rattle.cell_types.specs.declared.machine.Machine.{Machine}

@@ -1,10 +1,8 @@
 -- What the report of a run says.
 use Rattle.std.proofs.Common.{◌≡◌, ◌≢◌, Bool, true, false, inl, inr, ℕ, IsTrue, ◌↔◌, List, Option, Some, None, IfSome, refl, subst}
 use Rattle.std.specs.Io.KnownBytes.{Appends}
-use Rattle.cell_types.specs.declared.answer.Event.{Event}
-use Rattle.cell_types.specs.Journals.{journal_of}
-use Rattle.cell_rules.specs.ModelState.{ModelState}
-use Rattle.cell_rules.specs.Audited.{IsAudited, HasNoHistory}
+use Rattle.cell_rules.specs.Types.{Event, journal_of}
+use Rattle.cell_rules.specs.Names.{ModelState, IsAudited, HasNoHistory}
 use Rattle.cell_report.specs.AuditFaults.{IsFault}
 use Rattle.cell_report.specs.Order.{AreInOrder}
 use Rattle.cell_report.specs.Report.{report_text}

@@ -1,8 +1,7 @@
 -- What is said of a run by six workers.
 use Rattle.std.proofs.Common.{◌≡◌, ◌≢◌, inl, inr, List, ℕ, Option, Some, None, Ok, Err, IfSome, map, sym, subst}
 use Rattle.cell_types.specs.Journals.{journal_of}
-use Rattle.cell_rules.specs.ModelState.{ModelState}
-use Rattle.cell_rules.specs.Audited.{IsAudited}
+use Rattle.cell_rules.specs.Names.{ModelState, IsAudited}
 use Rattle.cell_text.specs.Output.{WrotePrefix}
 use Rattle.cell_parts.specs.Axes.{CellScales}
 use Rattle.cell_calib.specs.Curve.{pairs_of}

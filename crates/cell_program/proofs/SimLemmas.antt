@@ -1,15 +1,12 @@
 -- What is said of a simulation.
 use Rattle.std.proofs.Common.{◌≡◌, inl, inr, List, ℕ, Option, Some, None, Ok, Err, IfSome, map, sym, ap, ◌∙◌, subst}
 use Rattle.cell_types.specs.Journals.{journal_of}
-use Rattle.cell_rules.specs.ModelState.{ModelState}
-use Rattle.cell_rules.specs.Journal.{event_by}
+use Rattle.cell_rules.specs.Names.{ModelState, event_by, EndsIn, IsAudited}
 use Rattle.cell_rules.proofs.Notes.{events_of_noted}
 use Rattle.cell_text.specs.Output.{WrotePrefix}
 use Rattle.cell_parts.specs.Axes.{CellScales}
 use Rattle.cell_calib.specs.Curve.{pairs_of}
-use Rattle.cell_plant.specs.Cells.{TellsRun}
-use Rattle.cell_plant.specs.Machines.{CellGauges, on_curves}
-use Rattle.cell_plant.specs.Records.{events_in}
+use Rattle.cell_plant.specs.Names.{TellsRun, CellGauges, on_curves, events_in}
 use Rattle.cell_notes.specs.declared.run_record.RunRecord.{RunRecord}
 use Rattle.cell_notes.specs.declared.schedule.Turn.{Turn}
 use Rattle.cell_config.specs.Configured.{Says, in_order, shown}
@@ -17,7 +14,6 @@ use Rattle.cell_config.specs.Settings.{settings_of}
 use Rattle.cell_config.specs.ConfigWords.{config_fault_text}
 use Rattle.cell_config.specs.declared.configuration.Config.{Config}
 use Rattle.cell_config.specs.declared.fault.ConfigFault.{ConfigFault}
-use Rattle.cell_rules.specs.Audited.{EndsIn, IsAudited}
 use Rattle.cell_shell.specs.declared.exit.Exit.TheVariants.{Well, Failed}
 use Rattle.cell_program.specs.Reported.{ReportTold}
 use Rattle.cell_program.specs.Served.{HasOneReport, SimFails, TellsOneRunOf, TellsRunOf, WasSimulated, fault_line}

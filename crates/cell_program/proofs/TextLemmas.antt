@@ -1,14 +1,11 @@
 -- By curves, a simulation that goes well has one text.
 use Rattle.std.proofs.Common.{◌≡◌, ℕ, zero, suc, ◌+◌, ℤ, List, [], ◌∷◌, inl, inr, Option, None, refl, sym, ap, ◌∙◌, subst, arith}
-use Rattle.cell_calib.specs.Scale.{Scale, IsScale}
-use Rattle.cell_calib.specs.Line.{IsLineRoundedDown}
-use Rattle.cell_calib.specs.Curve.{Pair, AreNeighbours, IsCurve, IsOnCurve, ends_of, line_through, pair_at}
+use Rattle.cell_calib.specs.Names.{Scale, IsScale, IsLineRoundedDown, Pair, AreNeighbours, IsCurve, IsOnCurve}
+use Rattle.cell_calib.specs.Names.{ends_of, line_through, pair_at}
 use Rattle.cell_calib.proofs.LineLemmas.{one_line_at}
 use Rattle.cell_notes.specs.declared.run_record.RunRecord.{RunRecord}
 use Rattle.cell_parts.specs.Axes.{AreCellScales, CellScales}
-use Rattle.cell_plant.specs.Cells.{TellsRun}
-use Rattle.cell_plant.specs.GaugeLaws.{GiveOne, GivesOne, SayTheSame}
-use Rattle.cell_plant.specs.Machines.{on_curves}
+use Rattle.cell_plant.specs.Names.{TellsRun, GiveOne, GivesOne, SayTheSame, on_curves}
 use Rattle.cell_plant.proofs.OneRecord.{says_one}
 use Rattle.cell_config.specs.ConfigLaws.{AreCalibrated, HaveCurves, IsCurveOf}
 use Rattle.cell_config.specs.Configured.{in_order}

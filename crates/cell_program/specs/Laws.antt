@@ -1,10 +1,7 @@
 -- Laws of runs: the statements.
 use Rattle.std.specs.Prelude.{◌≡◌, ◌≢◌, ℕ, true, List, [], ◌∷◌, ◌++◌, codes, map, Option, Some, None}
-use Rattle.cell_types.specs.declared.machine.Machine.{Machine}
-use Rattle.cell_types.specs.declared.answer.Event.{Event}
-use Rattle.cell_types.specs.Everything.{all_machines}
-use Rattle.cell_types.specs.Journals.{journal_of}
-use Rattle.cell_rules.specs.ModelState.{ModelState}
+use Rattle.cell_rules.specs.Types.{Machine, Event, all_machines, journal_of}
+use Rattle.cell_rules.specs.Names.{ModelState, IsAudited}
 use Rattle.cell_notes.specs.declared.counts.Counts.{Counts}
 use Rattle.cell_notes.specs.declared.run_record.RunRecord.{RunRecord}
 use Rattle.cell_notes.specs.declared.status.Status.{Status}
@@ -15,7 +12,6 @@ use Rattle.cell_config.specs.ConfigWords.{config_fault_text}
 use Rattle.cell_config.specs.declared.fault.ConfigFault.TheVariants.{Missing}
 use Rattle.cell_replay.specs.Script.{script_outcome, script_text}
 use Rattle.cell_replay.specs.declared.script.Outcome.TheVariants.{Clean}
-use Rattle.cell_rules.specs.Audited.{IsAudited}
 use Rattle.cell_report.specs.Report.{report_text}
 use Rattle.cell_workers.specs.Faults.{run_fault_text}
 use Rattle.cell_workers.specs.declared.fault.RunFault.TheVariants.{Spawn}
@@ -23,13 +19,17 @@ use Rattle.cell_workers.specs.Laws.{HadTurns}
 use Rattle.cell_workers.specs.Records.{has_worker}
 use Rattle.cell_shell.specs.declared.exit.Exit.TheVariants.{Well}
 use Rattle.cell_program.specs.Reported.{ReportTold}
-use Rattle.cell_program.specs.Served.{TellsRunOf, TellsWorkers, TellsWorkersOf, WasReplayed, WasRun, WasSimulated, fault_line}
+use Rattle.cell_program.specs.Served.{TellsRunOf, TellsWorkers, TellsWorkersOf, WasReplayed, WasRun, WasSimulated}
+use Rattle.cell_program.specs.Served.{fault_line}
 
 -- in a run by six workers each machine takes its turns, and no gate keeps it out
 pub record TurnsAreTold : Type 0 where
-  pub turns : (c : CellScales) (opening : ModelState) (tries limit : ℕ) (r : RunRecord) (did : Machine → Counts) (statuses : Machine → Status)
-      → TellsWorkers c (any_near c) opening tries limit r → r.counts ≡ map did all_machines → r.status ≡ map statuses all_machines
-      → (m : Machine) → has_worker m ≡ true → HadTurns limit (λ turn. true) (did m) (statuses m) (journal_of r.journals m) × (statuses m ≢ GateLimit)
+  pub turns : (c : CellScales) (opening : ModelState) (tries limit : ℕ) (r : RunRecord) (did : Machine → Counts)
+      (statuses : Machine → Status)
+      → TellsWorkers c (any_near c) opening tries limit r → r.counts ≡ map did all_machines
+      → r.status ≡ map statuses all_machines
+      → (m : Machine) → has_worker m ≡ true
+      → HadTurns limit (λ turn. true) (did m) (statuses m) (journal_of r.journals m) × (statuses m ≢ GateLimit)
 
 -- every machine is fine
 abbrev pub EachIsFine : RunRecord → Type 0

@@ -5,9 +5,7 @@ use Rattle.cell_rules.specs.ModelState.{ModelState}
 use Rattle.cell_notes.specs.declared.run_record.RunRecord.{RunRecord}
 use Rattle.cell_notes.specs.declared.schedule.Turn.{Turn}
 use Rattle.cell_parts.specs.Axes.{CellScales, AreCellScales}
-use Rattle.cell_plant.specs.Cells.{TellsRun}
-use Rattle.cell_plant.specs.GaugeLaws.{GiveOne}
-use Rattle.cell_plant.specs.Machines.{on_curves}
+use Rattle.cell_plant.specs.Names.{TellsRun, GiveOne, on_curves}
 use Rattle.cell_report.specs.Report.{report_text}
 use Rattle.cell_report.specs.declared.audit_faults.AuditFault.{AuditFault}
 use Rattle.cell_program.specs.Reported.{AreFine}

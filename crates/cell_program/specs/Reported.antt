@@ -1,8 +1,7 @@
 -- What is said of a run that was audited and reported.
 use Rattle.std.specs.Prelude.{◌≡◌, ◌≢◌, ℕ, List, All, ◌⊎◌, Option, Some, None}
 use Rattle.std.specs.Io.KnownBytes.{Appends}
-use Rattle.cell_types.specs.declared.answer.Event.{Event}
-use Rattle.cell_types.specs.Journals.{journal_of}
+use Rattle.cell_rules.specs.Types.{Event, journal_of}
 use Rattle.cell_text.specs.Output.{WrotePrefix}
 use Rattle.cell_notes.specs.declared.run_record.RunRecord.{RunRecord}
 use Rattle.cell_notes.specs.declared.status.Status.{Status}

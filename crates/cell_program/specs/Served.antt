@@ -10,8 +10,7 @@ use Rattle.cell_report.specs.declared.audit_faults.AuditFault.{AuditFault}
 use Rattle.cell_report.specs.declared.audit_faults.AuditFault.TheVariants.{Memory as AuditMemory}
 use Rattle.cell_rules.specs.ModelState.{ModelState}
 use Rattle.cell_parts.specs.Axes.{CellScales}
-use Rattle.cell_plant.specs.Cells.{TellsRun}
-use Rattle.cell_plant.specs.Machines.{CellGauges, on_curves}
+use Rattle.cell_plant.specs.Names.{TellsRun, CellGauges, on_curves}
 use Rattle.cell_notes.specs.declared.run_record.RunRecord.{RunRecord}
 use Rattle.cell_config.specs.Configured.{Says, in_order}
 use Rattle.cell_config.specs.Settings.{Settings, settings_of, max_bytes_read as config_bytes_read}
@@ -84,7 +83,8 @@ SimFails bytes old new =
 
 -- a record is of six workers with a gate that is always open
 abbrev pub TellsWorkers : CellScales → CellGauges → ModelState → ℕ → ℕ → RunRecord → Type 0
-TellsWorkers scales gives opening tries turns r = TellsWork scales gives opening tries turns (λ machine turn answer. answer ≡ true) r
+TellsWorkers scales gives opening tries turns r =
+    TellsWork scales gives opening tries turns (λ machine turn answer. answer ≡ true) r
 
 -- a record is of a run by six workers of the configuration that the bytes give: each reading is the one on the
 -- configuration's curve

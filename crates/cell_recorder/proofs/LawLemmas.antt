@@ -2,8 +2,7 @@
 use Rattle.std.proofs.Common.{◌≡◌, ℕ, List, [], ◌∷◌, Some, sym, ap, subst, ◌∙◌}
 use Rattle.std.specs.List.{concat}
 use Rattle.cell_types.specs.Journals.{journal_of}
-use Rattle.cell_rules.specs.Start.{IsStartState}
-use Rattle.cell_rules.specs.Journal.{noted}
+use Rattle.cell_rules.specs.Names.{IsStartState, noted}
 use Rattle.cell_notes.specs.declared.run_record.RunRecord.{RunRecord}
 use Rattle.cell_replay.specs.Script.{event_lines, start_line}
 use Rattle.cell_history.specs.Answered.{start_of}

@@ -1,11 +1,8 @@
 -- What is said of a run that was told, and of a recording.
 use Rattle.std.proofs.Common.{◌≡◌, ◌≢◌, ◌≤◌, Bool, true, false, inl, inr, ℕ, IsTrue, ◌↔◌, List, length, Option, Some, None, Ok, Err, IfSome, map, sym, subst, ◌∙◌}
 use Rattle.std.specs.Io.KnownBytes.{Appends}
-use Rattle.cell_types.specs.declared.answer.Event.{Event}
-use Rattle.cell_types.specs.Journals.{journal_of}
-use Rattle.cell_rules.specs.ModelState.{ModelState}
-use Rattle.cell_rules.specs.Start.{IsStartState}
-use Rattle.cell_rules.specs.Audited.{IsAudited}
+use Rattle.cell_rules.specs.Types.{Event, journal_of}
+use Rattle.cell_rules.specs.Names.{ModelState, IsStartState, IsAudited}
 use Rattle.cell_text.specs.Output.{WrotePrefix}
 use Rattle.cell_parts.specs.Axes.{CellScales}
 use Rattle.cell_calib.specs.Curve.{pairs_of}

@@ -1,8 +1,7 @@
 -- How a replay answers what a recording has written.
 use Rattle.std.specs.Prelude.{◌≡◌, ℕ, List, [], ◌∷◌, Some}
 use Rattle.std.specs.List.{concat}
-use Rattle.cell_types.specs.declared.machine.Machine.{Machine}
-use Rattle.cell_types.specs.Journals.{journal_of}
+use Rattle.cell_rules.specs.Types.{Machine, journal_of}
 use Rattle.cell_rules.specs.Journal.{noted}
 use Rattle.cell_notes.specs.declared.run_record.RunRecord.{RunRecord}
 use Rattle.cell_replay.specs.Script.{event_lines, script_events, script_outcome, script_text, start_line}

@@ -1,10 +1,8 @@
 -- What a recording of a run has written.
 use Rattle.std.specs.Prelude.{◌≡◌, ◌<◌, ◌≤◌, ℕ, Bool, true, false, List, codes, length, ◌⊎◌, Option, Err, IfSome}
 use Rattle.std.specs.Io.KnownBytes.{Appends}
-use Rattle.cell_types.specs.declared.answer.Event.{Event}
-use Rattle.cell_types.specs.Journals.{journal_of}
-use Rattle.cell_rules.specs.Audited.{IsAudited}
-use Rattle.cell_rules.specs.Start.{IsStartState}
+use Rattle.cell_rules.specs.Types.{Event, journal_of}
+use Rattle.cell_rules.specs.Names.{IsAudited, IsStartState}
 use Rattle.cell_text.specs.Output.{WrotePrefix}
 use Rattle.cell_notes.specs.declared.run_record.RunRecord.{RunRecord}
 use Rattle.cell_replay.specs.Script.{max_records}

@@ -5,11 +5,8 @@ use Rattle.std.specs.List.{concat, enumerate_from}
 use Rattle.std.specs.Option.{option_map_or}
 use Rattle.std.specs.Str.{bytes_eq}
 use Rattle.std.specs.Io.KnownBytes.{Appends}
-use Rattle.cell_types.specs.declared.answer.Event.{Event}
-use Rattle.cell_types.specs.Answers.{answer_text}
-use Rattle.cell_rules.specs.ModelState.{ModelState}
-use Rattle.cell_rules.specs.Reply.{next}
-use Rattle.cell_rules.specs.History.{after}
+use Rattle.cell_rules.specs.Types.{Event, answer_text}
+use Rattle.cell_rules.specs.Names.{ModelState, next, after}
 use Rattle.cell_rules.specs.FirstVersion as rules
 use Rattle.cell_rules.specs.FirstVersion.{IsAsInFirstVersion}
 use Rattle.cell_rules.proofs.FirstVersion as stays

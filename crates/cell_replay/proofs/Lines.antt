@@ -3,11 +3,8 @@ use Rattle.std.proofs.Common.{ℕ, suc, ◌≡◌, ◌≤◌, ◌+◌, List, [],
 use Rattle.std.specs.List.{enumerate_from}
 use Rattle.std.specs.Option.{option_map_or}
 use Rattle.std.proofs.Math.Seq.{take-append_seam}
-use Rattle.cell_types.specs.declared.answer.Event.{Event}
-use Rattle.cell_types.specs.Answers.{answer_text}
-use Rattle.cell_rules.specs.ModelState.{ModelState}
-use Rattle.cell_rules.specs.Reply.{next, reply}
-use Rattle.cell_rules.specs.History.{IsLegal, after}
+use Rattle.cell_rules.specs.Types.{Event, answer_text}
+use Rattle.cell_rules.specs.Names.{ModelState, next, reply, IsLegal, after}
 use Rattle.cell_replay.specs.Requests.{Row, request_of}
 use Rattle.cell_replay.specs.Script.{event_line, event_lines, event_of, history_of, line_of, requests_in}
 use Rattle.cell_replay.specs.declared.request.Request.{Request}

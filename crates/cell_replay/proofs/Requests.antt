@@ -8,17 +8,12 @@ use Rattle.std.proofs.lemmas.Bool.{and_parts}
 use Rattle.std.proofs.lemmas.Option.{same_Some}
 use Rattle.std.proofs.lemmas.Slice.Eq.{bytes_eq-Decides, slice_eq-Decides}
 use Rattle.csv.specs.Records.{field_at}
-use Rattle.cell_types.specs.declared.machine.Machine.{Machine}
-use Rattle.cell_types.specs.declared.machine.Machine.TheVariants.{Feed, Table, Robot, Press, Deposit, Crane, Watch}
-use Rattle.cell_types.specs.declared.zone.Zone.{Zone}
-use Rattle.cell_types.specs.declared.zone.Zone.TheVariants.{Z1, Z2, Z3, Z4, Z5, Z6}
-use Rattle.cell_types.specs.declared.pose.Pose.{Pose}
-use Rattle.cell_types.specs.declared.pose.Pose.TheVariants.{Turning, Loading, Unloading, Travelling, Middle, Low, Top, Running, Landing, Halted, Offering, Standing}
-use Rattle.cell_types.specs.declared.call.Call.{Call}
-use Rattle.cell_types.specs.declared.call.Call.TheVariants.{Claim, Give, Yield, Take, Release, SetPose, Advance, Inquire, Stop, Resume}
-use Rattle.cell_types.specs.Words.{machine_word}
-use Rattle.cell_types.specs.CallWords.{call_fields, object_of, verb_of, with_object}
-use Rattle.cell_types.specs.Everything.{all_machines}
+use Rattle.cell_rules.specs.Types.{Machine, Feed, Table, Robot, Press, Deposit, Crane, Watch, Zone, Z1, Z2, Z3, Z4}
+use Rattle.cell_rules.specs.Types.{Z5, Z6, Pose, Turning, Loading, Unloading, Travelling, Middle, Low, Top, Running}
+use Rattle.cell_rules.specs.Types.{Landing, Halted, Offering, Standing, Call, Claim, Give, Yield, Take, Release}
+use Rattle.cell_rules.specs.Types.{SetPose, Advance, Inquire, Stop, Resume, machine_word, call_fields, verb_of}
+use Rattle.cell_rules.specs.Types.{all_machines}
+use Rattle.cell_types.specs.CallWords.{object_of, with_object}
 use Rattle.cell_replay.specs.Versions.{has_call}
 use Rattle.cell_replay.specs.Requests.{Row, calls_of, call_of, machine_of, request, request_by, request_fields, request_of}
 use Rattle.cell_replay.specs.declared.request.Request.{Request}

@@ -5,14 +5,10 @@ use Rattle.std.specs.List.{enumerate_from}
 use Rattle.std.proofs.lemmas.Bool.Decides.{nat_tests}
 use Rattle.std.proofs.lemmas.List.{length-take, length-map}
 use Rattle.std.proofs.lemmas.List.FromFn.{length-enumerate_from}
-use Rattle.cell_types.specs.declared.answer.Event.{Event}
-use Rattle.cell_types.specs.declared.place.Place.TheVariants.{PressIn, PressOut}
-use Rattle.cell_rules.specs.ModelState.{ModelState, last_stamp, size_of}
-use Rattle.cell_rules.specs.PlaceSet.{PlaceSet, has}
-use Rattle.cell_rules.specs.History.{IsLegal}
-use Rattle.cell_rules.specs.Start.{IsStartState, IsStart, places_of, start_state}
+use Rattle.cell_rules.specs.Types.{Event, PressIn, PressOut}
+use Rattle.cell_rules.specs.Names.{ModelState, last_stamp, size_of, PlaceSet, has, IsLegal, IsStartState, IsStart}
+use Rattle.cell_rules.specs.Names.{places_of, start_state, is_start, places_in}
 use Rattle.cell_replay.specs.Requests.{Row}
-use Rattle.cell_rules.specs.StartDigits.{is_start, places_in}
 use Rattle.cell_replay.specs.Versions.{version_of}
 use Rattle.cell_replay.specs.declared.version.Version.{Version}
 use Rattle.cell_replay.specs.declared.script_start.Start.{Start}

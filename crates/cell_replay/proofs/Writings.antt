@@ -9,10 +9,8 @@ use Rattle.std.proofs.lemmas.List.{take-append-le, take_all}
 use Rattle.std.proofs.lemmas.List.Folds.{concat-append}
 use Rattle.std.proofs.Math.Seq.{take-nil}
 use Rattle.std.proofs.lemmas.Bool.Decides.{nat_tests}
-use Rattle.cell_types.specs.Answers.{answer_text}
-use Rattle.cell_types.specs.declared.answer.Answer.{Answer}
-use Rattle.cell_rules.specs.ModelState.{ModelState}
-use Rattle.cell_rules.specs.Reply.{next, reply}
+use Rattle.cell_rules.specs.Types.{answer_text, Answer}
+use Rattle.cell_rules.specs.Names.{ModelState, next, reply}
 use Rattle.cell_replay.specs.Requests.{Row, request_of}
 use Rattle.cell_replay.specs.declared.request.Request.{Request}
 use Rattle.cell_replay.specs.declared.version.Version.{Version}

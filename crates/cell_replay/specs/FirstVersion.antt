@@ -9,14 +9,9 @@ use Rattle.std.specs.Fmt.{decimal}
 use Rattle.std.specs.List.{concat, enumerate_from}
 use Rattle.std.specs.Option.{option_map_or}
 use Rattle.std.specs.Str.{bytes_eq}
-use Rattle.cell_types.specs.declared.call.Call.{Call}
-use Rattle.cell_types.specs.declared.call.Call.TheVariants.{Claim, Give, Yield, Take, Release}
-use Rattle.cell_types.specs.declared.call.Call.TheVariants.{SetPose, Advance, Inquire}
-use Rattle.cell_types.specs.declared.answer.Event.{Event}
-use Rattle.cell_types.specs.Answers.{answer_text}
-use Rattle.cell_types.specs.CallWords.{call_fields}
-use Rattle.cell_types.specs.Everything.{all_zones, all_poses}
-use Rattle.cell_rules.specs.ModelState.{ModelState, plates_of}
+use Rattle.cell_rules.specs.Types.{Call, Claim, Give, Yield, Take, Release, SetPose, Advance, Inquire, Event}
+use Rattle.cell_rules.specs.Types.{answer_text, call_fields, all_zones, all_poses}
+use Rattle.cell_rules.specs.Names.{ModelState, plates_of}
 use Rattle.cell_rules.specs.FirstVersion.{next, reply}
 use Rattle.cell_replay.specs.Requests.{Row, machine_of, request_by}
 use Rattle.cell_replay.specs.Script.{end_of, end_text, is_cut_of, line_of, max_records}

@@ -2,13 +2,8 @@
 use Rattle.std.specs.Prelude.{ℕ, List, [], ◌∷◌, ◌++◌, map, find, Option, Some, None}
 use Rattle.std.specs.Str.{bytes_eq}
 use Rattle.std.specs.Cmp.Lexicographic.{pointwise}
-use Rattle.cell_types.specs.declared.machine.Machine.{Machine}
-use Rattle.cell_types.specs.declared.call.Call.{Call}
-use Rattle.cell_types.specs.declared.call.Call.TheVariants.{Claim, Give, Yield, Take, Release, SetPose, Advance}
-use Rattle.cell_types.specs.declared.call.Call.TheVariants.{Inquire}
-use Rattle.cell_types.specs.Words.{machine_word}
-use Rattle.cell_types.specs.CallWords.{call_fields}
-use Rattle.cell_types.specs.Everything.{all_machines, all_zones, all_poses}
+use Rattle.cell_rules.specs.Types.{Machine, Call, Claim, Give, Yield, Take, Release, SetPose, Advance, Inquire}
+use Rattle.cell_rules.specs.Types.{machine_word, call_fields, all_machines, all_zones, all_poses}
 use Rattle.cell_replay.specs.Versions.{further_calls}
 use Rattle.cell_replay.specs.declared.request.Request.{Request}
 use Rattle.cell_replay.specs.declared.version.Version.{Version}

@@ -6,14 +6,9 @@ use Rattle.std.specs.Fmt.{decimal}
 use Rattle.std.specs.List.{concat, enumerate_from, list_all}
 use Rattle.std.specs.Option.{option_map_or}
 use Rattle.csv.specs.Reading.{default_config, records, strip_bom}
-use Rattle.cell_types.specs.declared.answer.Event.{Event}
-use Rattle.cell_types.specs.Answers.{answer_text}
-use Rattle.cell_rules.specs.ModelState.{ModelState, plates_of}
-use Rattle.cell_rules.specs.PlaceSet.{PlaceSet}
-use Rattle.cell_rules.specs.Start.{places_of, start_state}
-use Rattle.cell_rules.specs.StartDigits.{places_in, is_start}
-use Rattle.cell_rules.specs.Reply.{next, reply}
-use Rattle.cell_rules.specs.History.{after}
+use Rattle.cell_rules.specs.Types.{Event, answer_text}
+use Rattle.cell_rules.specs.Names.{ModelState, plates_of, PlaceSet, places_of, start_state, places_in, is_start, next}
+use Rattle.cell_rules.specs.Names.{reply, after}
 use Rattle.cell_replay.specs.Requests.{Row, request_of}
 use Rattle.cell_replay.specs.Versions.{version_of, version_word}
 use Rattle.cell_replay.specs.declared.request.Request.{Request}

@@ -1,8 +1,7 @@
 -- The versions of scripts, by the word that record 0 begins with.
 use Rattle.std.specs.Prelude.{ℕ, Bool, true, List, [], ◌∷◌, codes, find, Option}
 use Rattle.std.specs.Str.{bytes_eq}
-use Rattle.cell_types.specs.declared.call.Call.{Call}
-use Rattle.cell_types.specs.declared.call.Call.TheVariants.{Stop, Resume}
+use Rattle.cell_rules.specs.Types.{Call, Stop, Resume}
 use Rattle.cell_rules.specs.FirstVersion as first
 use Rattle.cell_replay.specs.declared.version.Version.{Version}
 use Rattle.cell_replay.specs.declared.version.Version.TheVariants.{First, Second}

@@ -3,7 +3,8 @@
 ghost use Rattle.std.specs.Prelude.{◌≡◌, ◌≤◌, ℕ, length, min, IfOk};
 ghost use Rattle.cell_rules.specs.History.{IsLegal};
 ghost use Rattle.cell_rules.specs.Start.{IsStartState};
-ghost use Rattle.cell_replay.specs.Script.{script_events, script_lines, script_outcome, script_rows, script_start, script_text};
+ghost use Rattle.cell_replay.specs.Script.{script_events, script_lines, script_outcome, script_rows, script_start};
+ghost use Rattle.cell_replay.specs.Script.{script_text};
 ghost use Rattle.cell_replay.specs.FirstVersion as first;
 ghost use Rattle.cell_replay.specs.FirstVersion.{IsOfFirstVersion};
 ghost use Rattle.cell_replay.specs.ScriptExamples.{ScriptsAreMet};

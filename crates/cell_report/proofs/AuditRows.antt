@@ -2,14 +2,9 @@
 use Rattle.std.proofs.Common.{◌≡◌, ℕ, ◌<◌, ◌≤◌, nat_le, Bool, true, false, ◌&&◌, inl, inr, List, [], ◌∷◌, Option, Some, None, refl, ap, arith}
 use Rattle.std.specs.List.{list_all}
 use Rattle.std.proofs.lemmas.Bool.{and_parts, leb-true}
-use Rattle.cell_types.specs.declared.machine.Machine.TheVariants.{Feed, Press}
-use Rattle.cell_types.specs.declared.zone.Zone.TheVariants.{Z6}
+use Rattle.cell_rules.specs.Types.{Feed, Press, Z6, Refused, AlreadyMine, NotParty}
 use Rattle.cell_types.specs.declared.place.Place.TheVariants as place
-use Rattle.cell_types.specs.declared.answer.Answer.TheVariants.{Refused}
-use Rattle.cell_types.specs.declared.answer.Refusal.TheVariants.{AlreadyMine, NotParty}
-use Rattle.cell_rules.specs.ModelState.{ModelState, is_full, zone_at}
-use Rattle.cell_rules.specs.PlaceSet.{empty}
-use Rattle.cell_rules.specs.Start.{start_state}
+use Rattle.cell_rules.specs.Names.{ModelState, is_full, zone_at, empty, start_state}
 use Rattle.cell_report.specs.declared.ordered.Noted.{Noted}
 use Rattle.cell_report.specs.Order.{all_noted, done_at, done_stamps, greatest, key_at, stamp_of, InOrder}
 use Rattle.cell_report.specs.AuditFaults.{AllFit, HasNoTwice, HasStamps, IsGap, IsMisfit, IsTooEarly, IsTwice, MissesEnd}

@@ -1,13 +1,8 @@
 -- If there is a history, every entry fits.
 use Rattle.std.proofs.Common.{◌≡◌, ◌+◌, ◌≤◌, inl, inr, true, List, [], ◌∷◌, ◌++◌, map, refl, sym, ap, ◌∙◌, subst, arith, append_assoc, append-nil}
 use Rattle.std.proofs.lemmas.Bool.{cases_lt}
-use Rattle.cell_types.specs.declared.machine.Machine.{Machine}
-use Rattle.cell_types.specs.declared.answer.Event.{Event}
-use Rattle.cell_types.specs.declared.journal.Entry.{Entry}
-use Rattle.cell_rules.specs.ModelState.{ModelState}
-use Rattle.cell_rules.specs.Reply.{reply, next}
-use Rattle.cell_rules.specs.History.{after, IsLegal, is_done_answer}
-use Rattle.cell_rules.specs.Journal.{noted}
+use Rattle.cell_rules.specs.Types.{Machine, Event, Entry}
+use Rattle.cell_rules.specs.Names.{ModelState, reply, next, after, IsLegal, is_done_answer, noted}
 use Rattle.cell_report.specs.declared.ordered.Noted.{Noted}
 use Rattle.cell_report.specs.Order.{noted_from, all_noted, event_of, key_at, is_done_noted, done_stamps}
 use Rattle.cell_report.proofs.Members.{In, in_append_right, in_append_cases, in_filter}

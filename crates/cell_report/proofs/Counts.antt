@@ -2,15 +2,10 @@
 use Rattle.std.proofs.Common.{◌≡◌, ℕ, ◌+◌, ◌<◌, ◌≤◌, nat_eq, Bool, true, false, cond, ◌&&◌, inl, inr, List, [], ◌∷◌, ◌++◌, refl, sym, ap, ◌∙◌, subst, arith}
 use Rattle.std.proofs.lemmas.Bool.{cases_lt}
 use Rattle.std.proofs.lemmas.List.Sums.{sum_by-cons}
-use Rattle.cell_types.specs.declared.machine.Machine.{Machine}
-use Rattle.cell_types.specs.declared.machine.Machine.TheVariants.{Feed, Table, Robot, Press, Deposit, Crane, Watch}
-use Rattle.cell_types.specs.declared.answer.Event.{Event}
-use Rattle.cell_types.specs.Same.{same_machine}
-use Rattle.cell_rules.specs.ModelState.{ModelState}
-use Rattle.cell_rules.specs.History.{after, IsLegal, is_done_answer}
-use Rattle.cell_types.specs.declared.journal.Entry.{Entry}
+use Rattle.cell_rules.specs.Types.{Machine, Feed, Table, Robot, Press, Deposit, Crane, Watch, Event, same_machine}
+use Rattle.cell_rules.specs.Types.{Entry}
+use Rattle.cell_rules.specs.Names.{ModelState, after, IsLegal, is_done_answer, noted, entry_of, state_left}
 use Rattle.cell_report.specs.declared.ordered.Noted.{Noted}
-use Rattle.cell_rules.specs.Journal.{noted, entry_of, state_left}
 use Rattle.cell_report.specs.Order.{noted_after, noted_from, all_noted, is_done_noted, done_at}
 use Rattle.cell_report.proofs.Members.{In, from_filter}
 use Rattle.cell_report.proofs.Own.{is_of, same_itself, own_entries}

@@ -3,9 +3,7 @@ use Rattle.std.specs.Option.{MatchOption}
 use Rattle.std.proofs.lemmas.Bool.{cases_lt}
 use Rattle.std.proofs.Common.{◌+◌, Bool, true, Option, None, Some, append-nil, ◌≡◌, ℕ, zero, suc, ◌<◌, ◌≤◌, inl, inr, List, [], ◌∷◌, ◌++◌, length, replicate, map, get_or, set, refl, sym, ap, ◌∙◌, subst, arith, append_assoc, length-append}
 use Rattle.std.specs.List.Sorted.{IsNonDecreasingBy}
-use Rattle.cell_types.specs.declared.machine.Machine.{Machine}
-use Rattle.cell_types.specs.declared.machine.Machine.TheVariants.{Feed, Table, Robot, Press, Deposit, Crane, Watch}
-use Rattle.cell_types.specs.declared.journal.Entry.{Entry}
+use Rattle.cell_rules.specs.Types.{Machine, Feed, Table, Robot, Press, Deposit, Crane, Watch, Entry}
 use Rattle.cell_report.specs.declared.ordered.Noted.{Noted}
 use Rattle.cell_report.specs.declared.rests.Run.{Run}
 use Rattle.cell_report.specs.declared.rests.Rest.{Rest}

@@ -1,11 +1,10 @@
 -- The lines of a report, in order.
 use Rattle.std.proofs.Common.{ℕ, ℤ, pos, ◌≡◌, ◌<◌, ◌+◌, List, [], ◌∷◌, ◌++◌, length, map, drop, get_or, codes, refl, sym, ap, ap₂, ◌∙◌, append_assoc}
 use Rattle.std.proofs.lemmas.List.{append-nil, drop_more}
-use Rattle.cell_types.specs.Everything.{all_machines, all_zones}
+use Rattle.cell_rules.specs.Types.{all_machines, all_zones, Machine}
 use Rattle.cell_rules.specs.ModelState.{ModelState}
 use Rattle.std.specs.List.{concat, flat_map, zip}
 use Rattle.std.specs.Fmt.{signed_decimal}
-use Rattle.cell_types.specs.declared.machine.Machine.{Machine}
 use Rattle.cell_notes.specs.declared.counts.Counts.{Counts}
 use Rattle.cell_notes.specs.declared.status.Status.{Status}
 use Rattle.cell_report.specs.Report.{axes_line, axis_names, axis_words, end_lines, machine_line, places_line, places_word, spaced, text_of_lines, zone_line}

@@ -1,17 +1,10 @@
 -- The states of a legal history, and at which point each entry was noted.
 use Rattle.std.proofs.Common.{◌≡◌, ◌+◌, ◌*◌, ◌≤◌, Bool, true, false, cond, ◌⊎◌, inl, inr, List, [], ◌∷◌, ◌++◌, refl, sym, ap, ◌∙◌, subst, arith}
-use Rattle.cell_types.specs.declared.machine.Machine.{Machine}
-use Rattle.cell_types.specs.declared.call.Call.{Call}
-use Rattle.cell_types.specs.declared.answer.Answer.{Answer}
-use Rattle.cell_types.specs.declared.answer.Answer.TheVariants.{Done, Shown, Refused}
-use Rattle.cell_types.specs.declared.answer.Event.{Event}
-use Rattle.cell_types.specs.Same.{same_machine, one_machine}
-use Rattle.cell_rules.specs.ModelState.{ModelState}
-use Rattle.cell_rules.specs.Reply.{reply, next, next_by}
-use Rattle.cell_rules.specs.History.{after, IsLegal, is_done_answer}
-use Rattle.cell_types.specs.declared.journal.Entry.{Entry}
+use Rattle.cell_rules.specs.Types.{Machine, Call, Answer, Done, Shown, Refused, Event, same_machine, one_machine}
+use Rattle.cell_rules.specs.Types.{Entry}
+use Rattle.cell_rules.specs.Names.{ModelState, reply, next, next_by, after, IsLegal, is_done_answer, noted, entry_of}
+use Rattle.cell_rules.specs.Names.{state_left}
 use Rattle.cell_report.specs.declared.ordered.Noted.{Noted}
-use Rattle.cell_rules.specs.Journal.{noted, entry_of, state_left}
 use Rattle.cell_report.specs.Order.{noted_from, rank}
 use Rattle.cell_report.proofs.Members.{In}
 use Rattle.cell_report.proofs.Rising.{Rises, done_rank, other_rank}

@@ -1,17 +1,10 @@
 -- Entries that each fit are a legal history, and each machine noted its own.
 use Rattle.std.specs.Option.{MatchOption}
 use Rattle.std.proofs.Common.{◌≡◌, Option, Some, None, option_map, ℕ, Bool, true, false, cond, inl, inr, List, [], ◌∷◌, map, filter, refl, sym, ap, ◌∙◌, subst}
-use Rattle.cell_types.specs.declared.machine.Machine.{Machine}
-use Rattle.cell_types.specs.declared.answer.Event.{Event}
-use Rattle.cell_types.specs.declared.journal.Entry.{Entry}
-use Rattle.cell_types.specs.Same.{same_machine}
-use Rattle.cell_rules.specs.ModelState.{ModelState}
-use Rattle.cell_rules.specs.Reply.{next}
-use Rattle.cell_rules.specs.History.{IsLegal}
-use Rattle.cell_rules.specs.Journal.{noted, entry_of, event_by}
+use Rattle.cell_rules.specs.Types.{Machine, Event, Entry, same_machine}
+use Rattle.cell_rules.specs.Names.{ModelState, next, IsLegal, noted, entry_of, event_by, IsAudited, EndsIn}
 use Rattle.cell_rules.proofs.Notes.{events_of_noted}
 use Rattle.cell_report.specs.declared.ordered.Noted.{Noted}
-use Rattle.cell_rules.specs.Audited.{IsAudited, EndsIn}
 use Rattle.cell_report.specs.declared.traces.Trace.{Trace}
 use Rattle.cell_report.specs.Order.{noted_from, all_noted, event_of, greatest, key_at, InOrder}
 use Rattle.cell_report.specs.AuditFaults.{AllFit, HasStamps, IsMisfit}

@@ -2,13 +2,11 @@
 use Rattle.std.proofs.Common.{◌≡◌, ◌↔◌, ℕ, ◌<◌, Bool, true, false, MatchBool, List, length, All, IsTrue, refl, sym, ◌∙◌, arith}
 use Rattle.std.specs.List.{AllWithin, HoldsAt}
 use Rattle.std.proofs.lemmas.Bool.{false≢true}
-use Rattle.cell_types.specs.declared.zone.Zone.TheVariants.{Z1}
+use Rattle.cell_rules.specs.Types.{Z1, all_zones, all_places}
 use Rattle.cell_types.specs.declared.place.Place.TheVariants.{Table}
-use Rattle.cell_types.specs.Everything.{all_zones, all_places}
+use Rattle.cell_rules.specs.Names.{ZoneMap, zone_map, zone_in, PlaceSet, place_set, has, ModelState, model_state}
+use Rattle.cell_rules.specs.Names.{zone_at, is_full}
 use Rattle.cell_rules.specs.declared.zones.ZoneState.{ZoneState}
-use Rattle.cell_rules.specs.ZoneMap.{ZoneMap, zone_map, zone_in}
-use Rattle.cell_rules.specs.PlaceSet.{PlaceSet, place_set, has}
-use Rattle.cell_rules.specs.ModelState.{ModelState, model_state, zone_at, is_full}
 
 -- what a test of each element answers, if there is an element
 pub tells_all : {X : Type 0} (P : X → Type 0) (xs : List X) (d : X) (r : Bool) → MatchBool r (AllWithin P xs 0 (length xs)) ((k : ℕ) × (k < length xs) × HoldsAt (λ x. ¬ P x) xs k) → IsTrue r ↔ All P xs

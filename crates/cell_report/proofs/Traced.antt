@@ -5,8 +5,7 @@ use Rattle.std.proofs.Common.{Result, Ok, Err, append-nil, ◌≡◌, ℕ, max, 
 use Rattle.std.proofs.lemmas.List.{map-append, replicate_more, replicate-append-replicate}
 use Rattle.cell_report.specs.declared.ordered.Noted.{Noted}
 use Rattle.cell_types.specs.declared.answer.Event.{Event}
-use Rattle.cell_rules.specs.ModelState.{ModelState}
-use Rattle.cell_rules.specs.Reply.{next}
+use Rattle.cell_rules.specs.Names.{ModelState, next}
 use Rattle.cell_report.specs.declared.traces.Trace.{Trace}
 use Rattle.cell_report.specs.AuditFaults.{Fits, IsMisfit}
 use Rattle.cell_report.specs.Retraced.{Retraced}

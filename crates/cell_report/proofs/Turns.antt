@@ -2,8 +2,7 @@
 use Rattle.std.proofs.Common.{◌≡◌, ℕ, ◌≤◌, nat_le, true, inl, inr, List, [], ◌∷◌, ◌++◌, refl, sym, ap, ◌∙◌, arith}
 use Rattle.std.specs.List.{list_all}
 use Rattle.std.proofs.lemmas.Bool.{and_parts, and_from, leb-true, le-leb}
-use Rattle.cell_types.specs.declared.machine.Machine.{Machine}
-use Rattle.cell_types.specs.declared.journal.Entry.{Entry}
+use Rattle.cell_rules.specs.Types.{Machine, Entry}
 use Rattle.cell_report.specs.declared.ordered.Noted.{Noted}
 use Rattle.cell_report.specs.Order.{key_of, key_at, noted_after, noted_from}
 use Rattle.cell_report.proofs.Members.{In, in_append_left, in_append_right, in_append_cases}

@@ -1,15 +1,11 @@
 -- Why an audit refuses journals: the least stamp of each refusal, over all entries.
 use Rattle.std.specs.Prelude.{◌≡◌, ℕ, ◌<◌, ◌≤◌, nat_eq, max, count_by, List, [], ◌∷◌, ◌++◌, map, Option, Some, None}
 use Rattle.std.specs.Prelude.{IsTrue, ◌⊎◌, ⊤}
-use Rattle.cell_types.specs.declared.machine.Machine.{Machine}
-use Rattle.cell_types.specs.declared.journal.Entry.{Entry}
-use Rattle.cell_rules.specs.ModelState.{ModelState}
-use Rattle.cell_rules.specs.Reply.{reply, next}
-use Rattle.cell_rules.specs.History.{after}
+use Rattle.cell_rules.specs.Types.{Machine, Entry}
+use Rattle.cell_rules.specs.Names.{ModelState, reply, next, after, EndsIn}
 use Rattle.cell_report.specs.declared.ordered.Noted.{Noted}
 use Rattle.cell_report.specs.declared.audit_faults.AuditFault.{AuditFault}
 use Rattle.cell_report.specs.declared.audit_faults.AuditFault.TheVariants.{Twice, Gap, Differs, End, Memory}
-use Rattle.cell_rules.specs.Audited.{EndsIn}
 use Rattle.cell_report.specs.Order.{all_noted, InOrder, event_of, stamp_of, is_done_noted, done_at, greatest}
 
 -- how often a stamp occurs in a list of stamps

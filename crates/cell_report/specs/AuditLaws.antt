@@ -1,7 +1,6 @@
 -- Laws of audits: the journals alone decide the order of their entries, and why they are refused.
 use Rattle.std.specs.Prelude.{◌≡◌, ◌≢◌, List, Option}
-use Rattle.cell_types.specs.declared.machine.Machine.{Machine}
-use Rattle.cell_types.specs.declared.journal.Entry.{Entry}
+use Rattle.cell_rules.specs.Types.{Machine, Entry}
 use Rattle.cell_rules.specs.ModelState.{ModelState}
 use Rattle.cell_report.specs.declared.ordered.Noted.{Noted}
 use Rattle.cell_report.specs.declared.audit_faults.AuditFault.{AuditFault}

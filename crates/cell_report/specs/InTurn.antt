@@ -1,7 +1,6 @@
 -- The entries of a journal that is in turn.
 use Rattle.std.specs.Prelude.{ℕ, ◌^◌, ◌-◌, ◌<◌, ◌≤◌, List, [], ◌∷◌, length, map, get_or, true}
-use Rattle.cell_types.specs.declared.machine.Machine.{Machine}
-use Rattle.cell_types.specs.declared.journal.Entry.{Entry}
+use Rattle.cell_rules.specs.Types.{Machine, Entry}
 use Rattle.cell_report.specs.declared.ordered.Noted.{Noted}
 use Rattle.cell_report.specs.Order.{key_of}
 

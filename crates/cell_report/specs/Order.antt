@@ -1,17 +1,13 @@
 -- The entries of all journals, and the order in which an audit looks at them.
-use Rattle.std.specs.Prelude.{◌≡◌, ℕ, ◌+◌, ◌*◌, Bool, ◌&&◌, nat_eq, nat_le, if◌then◌else◌, max, fold, count_by, List, [], ◌∷◌, ◌++◌}
+use Rattle.std.specs.Prelude.{◌≡◌, ℕ, ◌+◌, ◌*◌, Bool, ◌&&◌, nat_eq, nat_le, if◌then◌else◌, max, fold, count_by, List}
+use Rattle.std.specs.Prelude.{[], ◌∷◌, ◌++◌}
 use Rattle.std.specs.Prelude.{map, filter}
 use Rattle.std.specs.List.{list_all}
 use Rattle.std.specs.List.Sorted.{IsNonDecreasingBy, IsStableByKey, IsPermutation}
 use Rattle.std.specs.Ordering.{nat_cmp}
-use Rattle.cell_types.specs.declared.machine.Machine.{Machine}
-use Rattle.cell_types.specs.declared.machine.Machine.TheVariants.{Feed, Table, Robot, Press, Deposit, Crane, Watch}
-use Rattle.cell_types.specs.declared.answer.Answer.{Answer}
-use Rattle.cell_types.specs.declared.answer.Answer.TheVariants.{Done, Shown, Refused}
-use Rattle.cell_types.specs.declared.answer.Event.{Event}
-use Rattle.cell_types.specs.declared.journal.Entry.{Entry}
-use Rattle.cell_rules.specs.History.{is_done_answer}
-use Rattle.cell_rules.specs.Journal.{event_by}
+use Rattle.cell_rules.specs.Types.{Machine, Feed, Table, Robot, Press, Deposit, Crane, Watch, Answer, Done, Shown}
+use Rattle.cell_rules.specs.Types.{Refused, Event, Entry}
+use Rattle.cell_rules.specs.Names.{is_done_answer, event_by}
 use Rattle.cell_report.specs.declared.ordered.Noted.{Noted}
 
 -- the order is by stamp, and at one stamp Done is before the other answers

@@ -2,11 +2,8 @@
 use Rattle.std.specs.Prelude.{ℕ, ℤ, List, [], ◌∷◌, ◌++◌, codes, map, Option, Some, None}
 use Rattle.std.specs.Fmt.{decimal, signed_decimal}
 use Rattle.std.specs.List.{concat, flat_map, join_with_byte, zip}
-use Rattle.cell_types.specs.declared.machine.Machine.{Machine}
-use Rattle.cell_types.specs.declared.zone.Zone.{Zone}
-use Rattle.cell_types.specs.Words.{machine_word, zone_word, posture_word}
-use Rattle.cell_types.specs.Answers.{owner_word, flag_word}
-use Rattle.cell_types.specs.Everything.{all_machines, all_zones, all_places}
+use Rattle.cell_rules.specs.Types.{Machine, Zone, machine_word, zone_word, posture_word, owner_word, flag_word}
+use Rattle.cell_rules.specs.Types.{all_machines, all_zones, all_places}
 use Rattle.cell_rules.specs.ModelState.{ModelState, zone_at, is_full, plates_of}
 use Rattle.cell_notes.specs.declared.counts.Counts.{Counts}
 use Rattle.cell_notes.specs.declared.status.Status.{Status}

@@ -1,18 +1,13 @@
 -- Whole reports of runs, in which no number and no word is the same as its neighbour, and the line of each audit.
 use Rattle.std.specs.Prelude.{◌≡◌, ℕ, pos, negsuc, Bool, true, false, List, [], ◌∷◌, ◌++◌, codes, Option, Some, None}
-use Rattle.cell_types.specs.declared.machine.Machine.{Machine}
-use Rattle.cell_types.specs.declared.machine.Machine.TheVariants.{Feed, Table, Robot, Crane}
-use Rattle.cell_types.specs.declared.posture.Posture.{Posture}
-use Rattle.cell_types.specs.declared.posture.Posture.TheVariants.{Closed, Moving, OpenIn, OpenOut}
-use Rattle.cell_types.specs.declared.journal.Journals.{Journals}
+use Rattle.cell_rules.specs.Types.{Machine, Feed, Table, Robot, Crane, Posture, Closed, Moving, OpenIn, OpenOut}
+use Rattle.cell_rules.specs.Types.{Journals}
+use Rattle.cell_rules.specs.Names.{everywhere, free_zone, zone_map, place_set, ModelState, model_state}
 use Rattle.cell_rules.specs.declared.zones.ZoneState.{ZoneState}
-use Rattle.cell_rules.specs.ZoneMap.{everywhere, free_zone, zone_map}
-use Rattle.cell_rules.specs.PlaceSet.{place_set}
-use Rattle.cell_rules.specs.ModelState.{ModelState, model_state}
 use Rattle.cell_notes.specs.declared.counts.Counts.{Counts}
-use Rattle.cell_notes.specs.declared.status.Status.TheVariants.{Fine, Worn, Sensor, Refused, Memory as NoMemory}
-use Rattle.cell_notes.specs.declared.status.Status.TheVariants.{GateLimit}
+use Rattle.cell_notes.specs.declared.status.Status.TheVariants.{Fine, Worn, Sensor, Refused, GateLimit}
 use Rattle.cell_notes.specs.declared.run_record.RunRecord.{RunRecord}
+use Rattle.cell_notes.specs.declared.status.Status.TheVariants.{Memory as NoMemory}
 use Rattle.cell_report.specs.declared.audit_faults.AuditFault.TheVariants.{Twice, Gap, Differs, End, Memory}
 use Rattle.cell_report.specs.Report.{audit_line, report_text}
 

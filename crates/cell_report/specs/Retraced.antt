@@ -1,11 +1,7 @@
 -- What entries in their order lead to.
 use Rattle.std.specs.Prelude.{◌≡◌, List, Option, map}
-use Rattle.cell_types.specs.declared.machine.Machine.{Machine}
-use Rattle.cell_types.specs.declared.answer.Event.{Event}
-use Rattle.cell_types.specs.declared.journal.Entry.{Entry}
-use Rattle.cell_rules.specs.Audited.{IsAudited}
-use Rattle.cell_rules.specs.ModelState.{ModelState}
-use Rattle.cell_rules.specs.History.{after}
+use Rattle.cell_rules.specs.Types.{Machine, Event, Entry}
+use Rattle.cell_rules.specs.Names.{IsAudited, ModelState, after}
 use Rattle.cell_report.specs.declared.ordered.Noted.{Noted}
 use Rattle.cell_report.specs.Order.{event_of, AreInOrder}
 use Rattle.cell_report.specs.AuditFaults.{AllFit}

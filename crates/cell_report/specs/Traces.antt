@@ -1,8 +1,7 @@
 -- The trace of entries in their order: their stamps, their events, and the state after them.
 use Rattle.std.specs.Prelude.{◌≡◌, ℕ, ◌≤◌, List, None, false, MatchOption}
 use Rattle.cell_types.specs.declared.answer.Event.{Event}
-use Rattle.cell_rules.specs.ModelState.{ModelState}
-use Rattle.cell_rules.specs.Reply.{next}
+use Rattle.cell_rules.specs.Names.{ModelState, next}
 use Rattle.cell_report.specs.declared.ordered.Noted.{Noted}
 use Rattle.cell_report.specs.declared.traces.Trace.{Trace}
 use Rattle.cell_report.specs.Order.{InOrder, is_done_noted, stamp_of, done_stamps, greatest}

@@ -1,19 +1,19 @@
 -- The crane may go on at each step that is in step with a state.
 use Rattle.std.proofs.Common.{◌≡◌, true, List, ℕ, ℤ}
-use Rattle.cell_types.specs.declared.machine.Machine.TheVariants.{Crane}
-use Rattle.cell_types.specs.declared.zone.Zone.TheVariants.{Z5, Z6}
-use Rattle.cell_types.specs.declared.posture.Posture.TheVariants.{OpenIn, OpenOut}
-use Rattle.cell_types.specs.declared.answer.Event.{Event}
+use Rattle.cell_rules.specs.Types.{Crane, Z5, Z6, OpenIn, OpenOut, Event}
 use Rattle.cell_calib.specs.Scale.{Scale}
-use Rattle.cell_rules.specs.ModelState.{ModelState}
-use Rattle.cell_rules.specs.History.{after, IsLegal}
+use Rattle.cell_rules.specs.Names.{ModelState, after, IsLegal}
 use Rattle.cell_rules.proofs.Tables.{and_left, and_right}
 use Rattle.cell_control.specs.Demands.{HoldsIn}
 use Rattle.cell_control.proofs.Facts.{AreSo, found}
+use Rattle.cell_haul.specs.Names.{gripper_zone, crane_steps}
 use Rattle.cell_haul.specs.declared.crane.CraneStep.{CraneStep}
-use Rattle.cell_haul.specs.declared.crane.CraneStep.TheVariants.{RaiseToFetch, TravelToDeposit, AwaitPlate, LowerToPlate, GripPlate, RaiseWithPlate, TakePlate, ReleaseDeposit, TravelToFeed, ClaimFeed, LowerToFeed, DropPlate, RaiseFromFeed, GivePlate}
+use Rattle.cell_haul.specs.declared.crane.CraneStep.TheVariants.{RaiseToFetch, TravelToDeposit, AwaitPlate}
+use Rattle.cell_haul.specs.declared.crane.CraneStep.TheVariants.{LowerToPlate, GripPlate, RaiseWithPlate}
+use Rattle.cell_haul.specs.declared.crane.CraneStep.TheVariants.{ReleaseDeposit, TravelToFeed, ClaimFeed, LowerToFeed}
+use Rattle.cell_haul.specs.declared.crane.CraneStep.TheVariants.{DropPlate, RaiseFromFeed}
 use Rattle.cell_haul.specs.declared.crane.CraneProgress.{CraneProgress}
-use Rattle.cell_haul.specs.CraneProgram.{gripper_zone, crane_steps}
+use Rattle.cell_haul.specs.declared.crane.CraneStep.TheVariants.{TakePlate, GivePlate}
 use Rattle.cell_haul.proofs.CraneFacts.{CraneKnows, facts_at, crane-knowing, crane_begins}
 use Rattle.cell_resume.specs.Keeping.{is_kept}
 use Rattle.cell_resume.specs.CraneKeeps.{deposit, feed, has_zones, in_step}

@@ -1,9 +1,7 @@
 -- A program that goes on where it stood meets what its motors demand.
 use Rattle.std.proofs.Common.{◌≡◌, Bool, true, false, if◌then◌else◌, List, None, refl}
 use Rattle.cell_types.specs.declared.answer.Event.{Event}
-use Rattle.cell_rules.specs.ModelState.{ModelState}
-use Rattle.cell_rules.specs.Sound.{IsSound}
-use Rattle.cell_rules.specs.History.{IsLegal}
+use Rattle.cell_rules.specs.Names.{ModelState, IsSound, IsLegal}
 use Rattle.cell_control.specs.Steps.{Steps, IsReached}
 use Rattle.cell_control.proofs.StepLemmas.{Knowing, reached_knows}
 use Rattle.cell_resume.specs.Resuming.{resumed_steps, IsResumable}

@@ -3,13 +3,15 @@ use Rattle.std.proofs.Common.{◌≡◌, Bool, true, Some, refl, ap, ◌∙◌}
 use Rattle.std.specs.Prelude.{option_map, slice_get}
 use denote.Enum.Declared.{tag_of}
 use Rattle.cell_types.specs.declared.place.Place.TheVariants.{DepEntry, DepEnd}
-use Rattle.cell_rules.specs.ModelState.{ModelState, is_full}
-use Rattle.cell_rules.specs.Restamping.{same_flag}
+use Rattle.cell_rules.specs.Names.{ModelState, is_full, same_flag}
 use Rattle.cell_rules.proofs.Tables.{and_left, and_right}
 use Rattle.cell_haul.specs.contracts.deposit.DepositStep.{the_type}
 use Rattle.cell_haul.specs.declared.deposit.DepositStep.{DepositStep}
-use Rattle.cell_haul.specs.declared.deposit.DepositStep.TheVariants.{ClaimEntry, ClaimExit, PoseLanding, ReleaseEntry, TakePlate, StartRun, RunIn, RunOut, MoveOn, PoseOffering, GivePlate, ClaimBack}
+use Rattle.cell_haul.specs.declared.deposit.DepositStep.TheVariants.{ClaimEntry, PoseLanding, ReleaseEntry, TakePlate}
+use Rattle.cell_haul.specs.declared.deposit.DepositStep.TheVariants.{StartRun, RunIn, RunOut, MoveOn, PoseOffering}
+use Rattle.cell_haul.specs.declared.deposit.DepositStep.TheVariants.{GivePlate, ClaimBack}
 use Rattle.cell_haul.specs.declared.deposit.DepositProgress.{DepositProgress}
+use Rattle.cell_haul.specs.declared.deposit.DepositStep.TheVariants.{ClaimExit}
 use Rattle.cell_resume.specs.DepositKeeps.{has_zones, has_plates, in_step, steps, progress_at}
 use Rattle.cell_resume.proofs.Keeping.{one_flag}
 

@@ -1,16 +1,16 @@
 -- The deposit belt may go on at each step that is in step with a state.
 use Rattle.std.proofs.Common.{◌≡◌, true, refl}
-use Rattle.cell_types.specs.declared.machine.Machine.TheVariants.{Deposit}
-use Rattle.cell_types.specs.declared.zone.Zone.TheVariants.{Z4, Z5}
-use Rattle.cell_types.specs.declared.posture.Posture.TheVariants.{Moving}
-use Rattle.cell_rules.specs.ModelState.{ModelState}
-use Rattle.cell_rules.specs.History.{after}
+use Rattle.cell_rules.specs.Types.{Deposit, Z4, Z5, Moving}
+use Rattle.cell_rules.specs.Names.{ModelState, after}
 use Rattle.cell_rules.proofs.Tables.{and_left, and_right}
 use Rattle.cell_control.proofs.Facts.{AreSo, seen_held, seen_in}
+use Rattle.cell_haul.specs.Names.{deposit_steps}
 use Rattle.cell_haul.specs.declared.deposit.DepositStep.{DepositStep}
-use Rattle.cell_haul.specs.declared.deposit.DepositStep.TheVariants.{ClaimEntry, ClaimExit, PoseLanding, ReleaseEntry, TakePlate, StartRun, RunIn, RunOut, MoveOn, PoseOffering, GivePlate, ClaimBack}
+use Rattle.cell_haul.specs.declared.deposit.DepositStep.TheVariants.{ClaimEntry, PoseLanding, ReleaseEntry, TakePlate}
+use Rattle.cell_haul.specs.declared.deposit.DepositStep.TheVariants.{StartRun, RunIn, RunOut, MoveOn, PoseOffering}
+use Rattle.cell_haul.specs.declared.deposit.DepositStep.TheVariants.{GivePlate, ClaimBack}
 use Rattle.cell_haul.specs.declared.deposit.DepositProgress.{DepositProgress}
-use Rattle.cell_haul.specs.DepositProgram.{deposit_steps}
+use Rattle.cell_haul.specs.declared.deposit.DepositStep.TheVariants.{ClaimExit}
 use Rattle.cell_haul.proofs.DepositFacts.{DepositKnows, facts_at, deposit-knowing, drives_at}
 use Rattle.cell_resume.specs.Keeping.{is_kept}
 use Rattle.cell_resume.specs.DepositKeeps.{entry, exit, has_zones, in_step}

@@ -1,15 +1,15 @@
 -- What the deposit belt knows at its step tells that it is in step, and the other way round.
 use Rattle.std.proofs.Common.{◌≡◌, Bool, true, refl, sym, ◌∙◌}
-use Rattle.cell_types.specs.declared.machine.Machine.TheVariants.{Deposit}
-use Rattle.cell_types.specs.declared.zone.Zone.TheVariants.{Z4, Z5}
-use Rattle.cell_types.specs.declared.place.Place.TheVariants.{DepEntry}
-use Rattle.cell_rules.specs.ModelState.{ModelState, is_full}
-use Rattle.cell_rules.specs.Restamping.{same_flag}
+use Rattle.cell_rules.specs.Types.{Deposit, Z4, Z5, DepEntry}
+use Rattle.cell_rules.specs.Names.{ModelState, is_full, same_flag}
 use Rattle.cell_rules.proofs.Tables.{and_left, and_right, and_both}
 use Rattle.cell_control.proofs.Facts.{AreSo}
 use Rattle.cell_haul.specs.declared.deposit.DepositStep.{DepositStep}
-use Rattle.cell_haul.specs.declared.deposit.DepositStep.TheVariants.{ClaimEntry, ClaimExit, PoseLanding, ReleaseEntry, TakePlate, StartRun, RunIn, RunOut, MoveOn, PoseOffering, GivePlate, ClaimBack}
+use Rattle.cell_haul.specs.declared.deposit.DepositStep.TheVariants.{ClaimEntry, PoseLanding, ReleaseEntry, TakePlate}
+use Rattle.cell_haul.specs.declared.deposit.DepositStep.TheVariants.{StartRun, RunIn, RunOut, MoveOn, PoseOffering}
+use Rattle.cell_haul.specs.declared.deposit.DepositStep.TheVariants.{GivePlate, ClaimBack}
 use Rattle.cell_haul.specs.declared.deposit.DepositProgress.{DepositProgress}
+use Rattle.cell_haul.specs.declared.deposit.DepositStep.TheVariants.{ClaimExit}
 use Rattle.cell_haul.proofs.DepositFacts.{DepositKnows, facts_at}
 use Rattle.cell_team.proofs.Shares as shares
 use Rattle.cell_team.proofs.DepositTeam as team

@@ -3,13 +3,13 @@ use Rattle.std.proofs.Common.{◌≡◌, Bool, true, Some, refl, ap, ◌∙◌}
 use Rattle.std.specs.Prelude.{option_map, slice_get}
 use denote.Enum.Declared.{tag_of}
 use Rattle.cell_types.specs.declared.place.Place.TheVariants.{FeedEntry, FeedEnd}
-use Rattle.cell_rules.specs.ModelState.{ModelState, is_full}
-use Rattle.cell_rules.specs.Restamping.{same_flag}
+use Rattle.cell_rules.specs.Names.{ModelState, is_full, same_flag}
 use Rattle.cell_rules.proofs.Tables.{and_left, and_right}
 use Rattle.cell_haul.specs.contracts.feed.FeedStep.{the_type}
 use Rattle.cell_haul.specs.declared.feed.FeedStep.{FeedStep}
-use Rattle.cell_haul.specs.declared.feed.FeedStep.TheVariants.{ClaimEntry, PoseLanding, ReleaseEntry, TakePlate, StartIn, RunIn, MoveOn, ClaimExit, StartOut, RunOut, Halt, GivePlate}
+use Rattle.cell_haul.specs.declared.feed.FeedStep.TheVariants.{StartIn, ClaimExit, StartOut, Halt}
 use Rattle.cell_haul.specs.declared.feed.FeedProgress.{FeedProgress}
+use Rattle.cell_haul.specs.declared.feed.FeedStep.TheVariants.{ClaimEntry, PoseLanding, ReleaseEntry, TakePlate, RunIn, MoveOn, RunOut, GivePlate}
 use Rattle.cell_resume.specs.FeedKeeps.{has_zones, has_plates, in_step, steps, progress_at}
 use Rattle.cell_resume.proofs.Keeping.{one_flag}
 

@@ -1,19 +1,15 @@
 -- The feed belt may go on at each step that is in step with a state.
 use Rattle.std.proofs.Common.{◌≡◌, Bool, true, refl, pos, false, sym, ◌∙◌}
-use Rattle.cell_types.specs.declared.machine.Machine.TheVariants.{Feed}
-use Rattle.cell_types.specs.declared.zone.Zone.TheVariants.{Z6, Z1}
-use Rattle.cell_types.specs.declared.place.Place.TheVariants.{FeedEntry, FeedEnd}
-use Rattle.cell_types.specs.declared.posture.Posture.TheVariants.{Moving}
-use Rattle.cell_rules.specs.ModelState.{ModelState, is_full, one_if}
-use Rattle.cell_rules.specs.Restamping.{same_flag}
+use Rattle.cell_rules.specs.Types.{Feed, Z6, Z1, FeedEntry, FeedEnd, Moving}
+use Rattle.cell_rules.specs.Names.{ModelState, is_full, one_if, same_flag, after}
 use Rattle.cell_rules.proofs.Conserved.{plates-kept}
-use Rattle.cell_rules.specs.History.{after}
 use Rattle.cell_rules.proofs.Tables.{and_left, and_right}
 use Rattle.cell_control.proofs.Facts.{AreSo, seen_held, seen_in}
+use Rattle.cell_haul.specs.Names.{feed_steps}
 use Rattle.cell_haul.specs.declared.feed.FeedStep.{FeedStep}
-use Rattle.cell_haul.specs.declared.feed.FeedStep.TheVariants.{ClaimEntry, PoseLanding, ReleaseEntry, TakePlate, StartIn, RunIn, MoveOn, ClaimExit, StartOut, RunOut, Halt, GivePlate}
+use Rattle.cell_haul.specs.declared.feed.FeedStep.TheVariants.{StartIn, ClaimExit, StartOut, Halt}
 use Rattle.cell_haul.specs.declared.feed.FeedProgress.{FeedProgress}
-use Rattle.cell_haul.specs.FeedProgram.{feed_steps}
+use Rattle.cell_haul.specs.declared.feed.FeedStep.TheVariants.{ClaimEntry, PoseLanding, ReleaseEntry, TakePlate, RunIn, MoveOn, RunOut, GivePlate}
 use Rattle.cell_haul.proofs.FeedFacts.{FeedKnows, facts_at, feed-knowing, feed_begins, drives_at}
 use Rattle.cell_haul.proofs.FeedFacts as known
 use Rattle.cell_resume.specs.Keeping.{is_kept}

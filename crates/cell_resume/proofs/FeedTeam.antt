@@ -1,13 +1,13 @@
 -- What the feed belt knows at its step tells that it is in step, and the other way round.
 use Rattle.std.proofs.Common.{◌≡◌, Bool, true, refl, ◌∙◌}
-use Rattle.cell_types.specs.declared.machine.Machine.TheVariants.{Feed}
-use Rattle.cell_types.specs.declared.zone.Zone.TheVariants.{Z6, Z1}
+use Rattle.cell_rules.specs.Types.{Feed, Z6, Z1}
 use Rattle.cell_rules.specs.ModelState.{ModelState}
 use Rattle.cell_rules.proofs.Tables.{and_left, and_right, and_both}
 use Rattle.cell_control.proofs.Facts.{AreSo}
 use Rattle.cell_haul.specs.declared.feed.FeedStep.{FeedStep}
-use Rattle.cell_haul.specs.declared.feed.FeedStep.TheVariants.{ClaimEntry, PoseLanding, ReleaseEntry, TakePlate, StartIn, RunIn, MoveOn, ClaimExit, StartOut, RunOut, Halt, GivePlate}
+use Rattle.cell_haul.specs.declared.feed.FeedStep.TheVariants.{StartIn, ClaimExit, StartOut, Halt}
 use Rattle.cell_haul.specs.declared.feed.FeedProgress.{FeedProgress}
+use Rattle.cell_haul.specs.declared.feed.FeedStep.TheVariants.{ClaimEntry, PoseLanding, ReleaseEntry, TakePlate, RunIn, MoveOn, RunOut, GivePlate}
 use Rattle.cell_haul.proofs.FeedFacts.{FeedKnows, facts_at}
 use Rattle.cell_haul.proofs.FeedFacts as known
 use Rattle.cell_team.proofs.Shares as shares

@@ -1,24 +1,17 @@
 -- Machines that are in step stay so, and none of them is refused.
 use Rattle.std.proofs.Common.{List}
-use Rattle.cell_types.specs.declared.machine.Machine.TheVariants.{Feed, Table, Robot, Press, Deposit, Crane, Watch}
-use Rattle.cell_types.specs.declared.answer.Event.{Event}
+use Rattle.cell_rules.specs.Types.{Feed, Table, Robot, Press, Deposit, Crane, Watch, Event}
 use Rattle.cell_calib.specs.Line.{IsReading}
-use Rattle.cell_rules.specs.ModelState.{ModelState}
-use Rattle.cell_rules.specs.Sound.{IsSound}
-use Rattle.cell_rules.specs.History.{after, IsLegal, own_events}
+use Rattle.cell_rules.specs.Names.{ModelState, IsSound, after, IsLegal, own_events}
 use Rattle.cell_rules.proofs.Histories.{sound-after}
 use Rattle.cell_parts.specs.Axes.{CellScales}
-use Rattle.cell_haul.specs.CraneProgram.{crane_steps}
-use Rattle.cell_haul.specs.DepositProgram.{deposit_steps}
-use Rattle.cell_haul.specs.FeedProgram.{feed_steps}
+use Rattle.cell_haul.specs.Names.{crane_steps, deposit_steps, feed_steps}
 use Rattle.cell_robot.specs.RobotProgram.{near_lines, robot_steps}
-use Rattle.cell_stations.specs.PressProgram.{press_steps}
-use Rattle.cell_stations.specs.TableProgram.{table_steps}
+use Rattle.cell_stations.specs.Names.{press_steps, table_steps}
 use Rattle.cell_haul.proofs.CraneFacts.{CraneKnows, crane-knowing}
 use Rattle.cell_robot.proofs.RobotFacts.{RobotKnows, robot-knowing}
 use Rattle.cell_team.specs.Team as programs
-use Rattle.cell_team.specs.Team.{robot_points, programs_of, program_with_stops}
-use Rattle.cell_team.specs.Renewals.{HaveComeFrom, first_team}
+use Rattle.cell_team.specs.Names.{robot_points, programs_of, program_with_stops, HaveComeFrom, first_team}
 use Rattle.cell_team.proofs.Reaching.{OwnYieldless, AreYieldless, own_yieldless, yieldless, reached_both}
 use Rattle.cell_team.proofs.CraneTeam as crane
 use Rattle.cell_team.proofs.DepositTeam as deposit

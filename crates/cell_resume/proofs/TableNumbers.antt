@@ -7,8 +7,12 @@ use Rattle.cell_rules.specs.ModelState.{ModelState, is_full}
 use Rattle.cell_rules.proofs.Tables.{and_right}
 use Rattle.cell_stations.specs.contracts.table.TableStep.{the_type}
 use Rattle.cell_stations.specs.declared.table.TableStep.{TableStep}
-use Rattle.cell_stations.specs.declared.table.TableStep.TheVariants.{ClaimEntry, ClaimExit, LeaveForLoading, MoveToLoading, PoseLoading, ReleaseEntry, TakePlate, LeaveForUnloading, MoveToUnloading, PoseUnloading, GivePlate, ClaimBack}
+use Rattle.cell_stations.specs.declared.table.TableStep.TheVariants.{ClaimEntry, ClaimExit, LeaveForLoading}
+use Rattle.cell_stations.specs.declared.table.TableStep.TheVariants.{MoveToLoading, PoseLoading, ReleaseEntry}
+use Rattle.cell_stations.specs.declared.table.TableStep.TheVariants.{LeaveForUnloading, MoveToUnloading}
+use Rattle.cell_stations.specs.declared.table.TableStep.TheVariants.{PoseUnloading}
 use Rattle.cell_stations.specs.declared.table.TableProgress.{TableProgress}
+use Rattle.cell_stations.specs.declared.table.TableStep.TheVariants.{TakePlate, GivePlate, ClaimBack}
 use Rattle.cell_resume.specs.TableKeeps.{has_zones, has_plates, in_step, steps, progress_at}
 use Rattle.cell_resume.proofs.Keeping.{one_flag}
 

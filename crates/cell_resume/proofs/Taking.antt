@@ -1,7 +1,6 @@
 -- What it means to take a checkpoint back.
 use Rattle.std.proofs.Common.{◌≡◌, ◌≢◌, ◌↔◌, Some, Result, Ok, Err, refl, sym, ap, ◌∙◌, subst}
-use Rattle.cell_rules.specs.ModelState.{ModelState}
-use Rattle.cell_rules.specs.Sound.{IsSound}
+use Rattle.cell_rules.specs.Names.{ModelState, IsSound}
 use Rattle.cell_word.specs.Layout.{packed}
 use Rattle.cell_resume.specs.declared.team.Team.{Team}
 use Rattle.cell_resume.specs.declared.checkpoint.Checkpoint.{Checkpoint}

@@ -3,8 +3,7 @@ use Rattle.std.specs.Prelude.{◌≡◌, ℕ, false, List, take, get_or, Some, N
 use Rattle.std.specs.Int.{w64, from_le_bytes}
 use Rattle.cell_types.specs.declared.machine.Machine.{Machine}
 use Rattle.cell_types.specs.declared.machine.Machine.TheVariants as machine
-use Rattle.cell_rules.specs.ModelState.{ModelState}
-use Rattle.cell_rules.specs.Sound.{IsSound}
+use Rattle.cell_rules.specs.Names.{ModelState, IsSound}
 use Rattle.cell_word.specs.Layout.{packed}
 use Rattle.cell_haul.specs.declared.crane.CraneProgress.{CraneProgress}
 use Rattle.cell_haul.specs.declared.deposit.DepositProgress.{DepositProgress}

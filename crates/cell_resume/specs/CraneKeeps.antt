@@ -1,14 +1,15 @@
 -- What the crane keeps at each step.
 use Rattle.std.specs.Prelude.{ℕ, Bool, true, false, List, Option, ◌&&◌, [], ◌∷◌, option_map, slice_get}
-use Rattle.cell_types.specs.declared.machine.Machine.TheVariants.{Crane}
-use Rattle.cell_types.specs.declared.zone.Zone.TheVariants.{Z5, Z6}
+use Rattle.cell_rules.specs.Types.{Crane, Z5, Z6, OpenIn, OpenOut}
 use Rattle.cell_types.specs.declared.place.Place.TheVariants.{Crane as OnCrane}
-use Rattle.cell_types.specs.declared.posture.Posture.TheVariants.{OpenIn, OpenOut}
-use Rattle.cell_rules.specs.ModelState.{ModelState, is_full}
-use Rattle.cell_rules.specs.Restamping.{same_flag}
+use Rattle.cell_rules.specs.Names.{ModelState, is_full, same_flag}
 use Rattle.cell_haul.specs.declared.crane.CraneStep.{CraneStep}
-use Rattle.cell_haul.specs.declared.crane.CraneStep.TheVariants.{RaiseToFetch, TravelToDeposit, AwaitPlate, LowerToPlate, GripPlate, RaiseWithPlate, TakePlate, ReleaseDeposit, TravelToFeed, ClaimFeed, LowerToFeed, DropPlate, RaiseFromFeed, GivePlate}
+use Rattle.cell_haul.specs.declared.crane.CraneStep.TheVariants.{RaiseToFetch, TravelToDeposit, AwaitPlate}
+use Rattle.cell_haul.specs.declared.crane.CraneStep.TheVariants.{LowerToPlate, GripPlate, RaiseWithPlate}
+use Rattle.cell_haul.specs.declared.crane.CraneStep.TheVariants.{ReleaseDeposit, TravelToFeed, ClaimFeed, LowerToFeed}
+use Rattle.cell_haul.specs.declared.crane.CraneStep.TheVariants.{DropPlate, RaiseFromFeed}
 use Rattle.cell_haul.specs.declared.crane.CraneProgress.{CraneProgress}
+use Rattle.cell_haul.specs.declared.crane.CraneStep.TheVariants.{TakePlate, GivePlate}
 use Rattle.cell_resume.specs.declared.keep.Share.TheVariants.{Clear, Loaded, Held, Lent, Any}
 use Rattle.cell_resume.specs.declared.keep.Keep.{Keep}
 use Rattle.cell_resume.specs.Keeping.{is_kept, posed, unposed}

@@ -1,14 +1,12 @@
 -- What the feed belt keeps at each step.
 use Rattle.std.specs.Prelude.{ℕ, Bool, true, not, List, Option, ◌&&◌, [], ◌∷◌, option_map, slice_get}
-use Rattle.cell_types.specs.declared.machine.Machine.TheVariants.{Feed}
-use Rattle.cell_types.specs.declared.zone.Zone.TheVariants.{Z6, Z1}
-use Rattle.cell_types.specs.declared.place.Place.TheVariants.{FeedEntry, FeedEnd}
-use Rattle.cell_types.specs.declared.posture.Posture.TheVariants.{Closed, Moving, OpenIn}
-use Rattle.cell_rules.specs.ModelState.{ModelState, is_full}
-use Rattle.cell_rules.specs.Restamping.{same_flag}
+use Rattle.cell_rules.specs.Types.{Feed, Z6, Z1, FeedEntry, FeedEnd, Closed, Moving, OpenIn}
+use Rattle.cell_rules.specs.Names.{ModelState, is_full, same_flag}
 use Rattle.cell_haul.specs.declared.feed.FeedStep.{FeedStep}
-use Rattle.cell_haul.specs.declared.feed.FeedStep.TheVariants.{ClaimEntry, PoseLanding, ReleaseEntry, TakePlate, StartIn, RunIn, MoveOn, ClaimExit, StartOut, RunOut, Halt, GivePlate}
+use Rattle.cell_haul.specs.declared.feed.FeedStep.TheVariants.{StartIn, ClaimExit, StartOut, Halt}
 use Rattle.cell_haul.specs.declared.feed.FeedProgress.{FeedProgress}
+use Rattle.cell_haul.specs.declared.feed.FeedStep.TheVariants.{ClaimEntry, PoseLanding, ReleaseEntry, TakePlate}
+use Rattle.cell_haul.specs.declared.feed.FeedStep.TheVariants.{RunIn, MoveOn, RunOut, GivePlate}
 use Rattle.cell_resume.specs.declared.keep.Share.TheVariants.{Clear, Held, Lent}
 use Rattle.cell_resume.specs.declared.keep.Keep.{Keep}
 use Rattle.cell_resume.specs.Keeping.{is_kept, posed, unposed}

@@ -1,12 +1,7 @@
 -- What a machine keeps of a zone while it stands at a step of its program.
 use Rattle.std.specs.Prelude.{Bool, true, ◌&&◌, not, Option, Some, None}
-use Rattle.cell_types.specs.declared.machine.Machine.{Machine}
-use Rattle.cell_types.specs.declared.zone.Zone.{Zone}
-use Rattle.cell_types.specs.declared.posture.Posture.{Posture}
-use Rattle.cell_types.specs.Same.{same_posture}
-use Rattle.cell_rules.specs.ModelState.{ModelState, zone_at}
-use Rattle.cell_rules.specs.Sound.{implies}
-use Rattle.cell_rules.specs.Refusals.{owns, posture_at}
+use Rattle.cell_rules.specs.Types.{Machine, Zone, Posture, same_posture}
+use Rattle.cell_rules.specs.Names.{ModelState, zone_at, implies, owns, posture_at}
 use Rattle.cell_resume.specs.declared.keep.Share.{Share}
 use Rattle.cell_resume.specs.declared.keep.Share.TheVariants.{Clear, Loaded, Held, Lent, Any}
 use Rattle.cell_resume.specs.declared.keep.Keep.{Keep}

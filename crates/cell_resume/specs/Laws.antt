@@ -1,15 +1,10 @@
 -- What holds of six machines that go on in step with a state.
 use Rattle.std.specs.Prelude.{List}
 use Rattle.cell_types.specs.declared.answer.Event.{Event}
-use Rattle.cell_rules.specs.ModelState.{ModelState}
-use Rattle.cell_rules.specs.Sound.{IsSound}
-use Rattle.cell_rules.specs.History.{after, IsLegal}
-use Rattle.cell_rules.specs.Start.{IsStartState}
+use Rattle.cell_rules.specs.Names.{ModelState, IsSound, after, IsLegal, IsStartState}
 use Rattle.cell_parts.specs.Axes.{CellScales}
 use Rattle.cell_team.specs.Team as programs
-use Rattle.cell_team.specs.Team.{programs_of, HaveCome}
-use Rattle.cell_team.specs.Renewals.{HaveComeFrom}
-use Rattle.cell_team.specs.Heeded.{AreHeeded}
+use Rattle.cell_team.specs.Names.{programs_of, HaveCome, HaveComeFrom, AreHeeded}
 use Rattle.cell_resume.specs.declared.team.Team.{Team}
 use Rattle.cell_resume.specs.Teams.{AreInStep}
 

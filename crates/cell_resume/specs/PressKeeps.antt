@@ -1,15 +1,16 @@
 -- What the press keeps at each step.
-use Rattle.std.specs.Prelude.{ℕ, Bool, not, List, Option, ◌&&◌, nat_eq, [], ◌∷◌, option_map, slice_get, ◌/◌, ◌%◌, if◌then◌else◌}
-use Rattle.cell_types.specs.declared.machine.Machine.TheVariants.{Press}
-use Rattle.cell_types.specs.declared.zone.Zone.TheVariants.{Z3}
-use Rattle.cell_types.specs.declared.place.Place.TheVariants.{PressIn, PressOut}
-use Rattle.cell_types.specs.declared.posture.Posture.TheVariants.{Closed, Moving, OpenIn, OpenOut}
-use Rattle.cell_rules.specs.ModelState.{ModelState, is_full}
-use Rattle.cell_rules.specs.Restamping.{same_flag}
+use Rattle.std.specs.Prelude.{ℕ, Bool, not, List, Option, ◌&&◌, nat_eq, [], ◌∷◌, option_map, slice_get, ◌/◌, ◌%◌}
+use Rattle.std.specs.Prelude.{if◌then◌else◌}
+use Rattle.cell_rules.specs.Types.{Press, Z3, PressIn, PressOut, Closed, Moving, OpenIn, OpenOut}
+use Rattle.cell_rules.specs.Names.{ModelState, is_full, same_flag}
 use Rattle.cell_devices.specs.declared.motor.Direction.{Direction}
 use Rattle.cell_devices.specs.declared.motor.Direction.TheVariants.{Plus as Upward, Minus as Downward}
 use Rattle.cell_stations.specs.declared.press.PressStep.{PressStep}
-use Rattle.cell_stations.specs.declared.press.PressStep.TheVariants.{ClaimFirst, LeaveForMiddle, MoveToMiddle, PoseMiddle, ReleaseInterior, TakePlate, LeaveForTop, MoveToTop, PoseTop, Forge, LeaveForBottom, MoveToBottom, PoseLow, GivePlate, ClaimBack}
+use Rattle.cell_stations.specs.declared.press.PressStep.TheVariants.{ClaimFirst, LeaveForMiddle, MoveToMiddle}
+use Rattle.cell_stations.specs.declared.press.PressStep.TheVariants.{PoseMiddle, ReleaseInterior, TakePlate}
+use Rattle.cell_stations.specs.declared.press.PressStep.TheVariants.{LeaveForTop, MoveToTop, PoseTop, Forge}
+use Rattle.cell_stations.specs.declared.press.PressStep.TheVariants.{LeaveForBottom, MoveToBottom, PoseLow, GivePlate}
+use Rattle.cell_stations.specs.declared.press.PressStep.TheVariants.{ClaimBack}
 use Rattle.cell_stations.specs.declared.press.PressProgress.{PressProgress}
 use Rattle.cell_resume.specs.declared.keep.Share.TheVariants.{Clear, Lent}
 use Rattle.cell_resume.specs.declared.keep.Keep.{Keep}

@@ -1,9 +1,7 @@
 -- Programs that may go on at a step where they stood.
 use Rattle.std.specs.Prelude.{◌≡◌, Bool, true, if◌then◌else◌, List, None}
 use Rattle.cell_types.specs.declared.answer.Event.{Event}
-use Rattle.cell_rules.specs.ModelState.{ModelState}
-use Rattle.cell_rules.specs.Sound.{IsSound}
-use Rattle.cell_rules.specs.History.{after, IsLegal}
+use Rattle.cell_rules.specs.Names.{ModelState, IsSound, after, IsLegal}
 use Rattle.cell_control.specs.Steps.{Steps}
 use Rattle.cell_control.proofs.StepLemmas.{Knowing}
 

@@ -1,13 +1,17 @@
 -- What the robot keeps at each step.
-use Rattle.std.specs.Prelude.{ℕ, Bool, true, false, not, List, Option, ◌&&◌, ◌+◌, nat_eq, [], ◌∷◌, option_map, slice_get}
-use Rattle.cell_types.specs.declared.machine.Machine.TheVariants.{Robot}
-use Rattle.cell_types.specs.declared.zone.Zone.TheVariants.{Z2, Z3, Z4}
-use Rattle.cell_types.specs.declared.place.Place.TheVariants.{Arm1, Arm2, PressIn, PressOut}
-use Rattle.cell_types.specs.declared.posture.Posture.TheVariants.{OpenIn, OpenOut}
-use Rattle.cell_rules.specs.ModelState.{ModelState, is_full, zone_at, one_if}
-use Rattle.cell_rules.specs.Restamping.{same_flag}
+use Rattle.std.specs.Prelude.{ℕ, Bool, true, false, not, List, Option, ◌&&◌, ◌+◌, nat_eq, [], ◌∷◌, option_map}
+use Rattle.std.specs.Prelude.{slice_get}
+use Rattle.cell_rules.specs.Types.{Robot, Z2, Z3, Z4, Arm1, Arm2, PressIn, PressOut, OpenIn, OpenOut}
+use Rattle.cell_rules.specs.Names.{ModelState, is_full, zone_at, one_if, same_flag}
 use Rattle.cell_robot.specs.declared.robot.RobotStep.{RobotStep}
-use Rattle.cell_robot.specs.declared.robot.RobotStep.TheVariants.{TurnToTable, AwaitPlate, ReachTable, GripPlate, LeaveTable, TakePlate, ReleaseTable, TurnToLoad, ClaimPress, InspectPress, ReleasePress, ReachToLoad, DropInPress, LeaveLoaded, GiveToPress, TurnToUnload, AwaitForged, ReachToUnload, GripForged, LeaveUnloaded, TakeForged, ReleaseUnloaded, TurnToDeposit, ClaimDeposit, ReachDeposit, DropOnDeposit, LeaveDeposit, GiveToDeposit}
+use Rattle.cell_robot.specs.declared.robot.RobotStep.TheVariants.{TurnToTable, AwaitPlate, ReachTable, GripPlate}
+use Rattle.cell_robot.specs.declared.robot.RobotStep.TheVariants.{LeaveTable, TakePlate, ReleaseTable, TurnToLoad}
+use Rattle.cell_robot.specs.declared.robot.RobotStep.TheVariants.{ClaimPress, InspectPress, ReleasePress, ReachToLoad}
+use Rattle.cell_robot.specs.declared.robot.RobotStep.TheVariants.{DropInPress, LeaveLoaded, GiveToPress, TurnToUnload}
+use Rattle.cell_robot.specs.declared.robot.RobotStep.TheVariants.{AwaitForged, ReachToUnload, GripForged}
+use Rattle.cell_robot.specs.declared.robot.RobotStep.TheVariants.{LeaveUnloaded, TakeForged, ReleaseUnloaded}
+use Rattle.cell_robot.specs.declared.robot.RobotStep.TheVariants.{TurnToDeposit, ClaimDeposit, ReachDeposit}
+use Rattle.cell_robot.specs.declared.robot.RobotStep.TheVariants.{DropOnDeposit, LeaveDeposit, GiveToDeposit}
 use Rattle.cell_robot.specs.declared.robot.RobotProgress.{RobotProgress}
 use Rattle.cell_robot.specs.declared.robot.RobotNotes.{RobotNotes}
 use Rattle.cell_robot.specs.declared.robot.RobotMagnets.{RobotMagnets}

@@ -1,29 +1,33 @@
 -- The robot's program meets the rows of the examples.
 use Rattle.std.proofs.Common.{◌≡◌, ◌∙◌, sym, ap, rules, ℕ, ℤ, pos, Bool, true, false, if◌then◌else◌, Option, Some, None, refl}
 use Rattle.std.specs.Int.Signed.{le_z_yes, lt_z_yes}
-use Rattle.cell_types.specs.declared.machine.Machine.{Machine}
-use Rattle.cell_types.specs.declared.machine.Machine.TheVariants.{Robot}
-use Rattle.cell_types.specs.declared.posture.Posture.{Posture}
-use Rattle.cell_types.specs.declared.posture.Posture.TheVariants.{OpenIn}
-use Rattle.cell_types.specs.declared.call.Call.TheVariants.{Release}
-use Rattle.cell_types.specs.declared.answer.Refusal.{Refusal}
-use Rattle.cell_types.specs.declared.zone.Zone.TheVariants.{Z2, Z3}
+use Rattle.cell_rules.specs.Types.{Machine, Robot, Posture, OpenIn, Release, Refusal, Z2, Z3}
+use Rattle.cell_devices.specs.Names.{DrivesTo}
 use Rattle.cell_devices.specs.declared.motor.Motor.TheVariants.{Off}
-use Rattle.cell_devices.specs.declared.stops.TheConstants.{ROTATION_ARM1_TABLE, ROTATION_ARM2_PRESS, ROTATION_ARM1_PRESS, ROTATION_ARM2_DEPOSIT, ARM1_TABLE, ARM1_PRESS, ARM2_PRESS, ARM2_DEPOSIT, RETRACTED}
+use Rattle.cell_devices.specs.declared.stops.TheConstants.{ROTATION_ARM1_TABLE, ROTATION_ARM2_PRESS}
+use Rattle.cell_devices.specs.declared.stops.TheConstants.{ROTATION_ARM1_PRESS, ROTATION_ARM2_DEPOSIT, ARM1_TABLE}
+use Rattle.cell_devices.specs.declared.stops.TheConstants.{ARM1_PRESS, ARM2_PRESS, ARM2_DEPOSIT, RETRACTED}
 use Rattle.cell_devices.specs.declared.act.RobotAct.{RobotAct}
-use Rattle.cell_devices.specs.Drives.{DrivesTo}
 use Rattle.cell_devices.proofs.DriveLemmas.{drives_one, stops_there, goes_plus, goes_minus}
 use Rattle.cell_rules.specs.ModelState.{ModelState}
-use Rattle.cell_control.specs.Row.{waits_on}
-use Rattle.cell_control.specs.Rows.{DriveRow, is_inquiry}
+use Rattle.cell_control.specs.Names.{waits_on, DriveRow, is_inquiry}
 use Rattle.cell_control.proofs.WaitLemmas.{stays_never, stays_until_free_and_open}
+use Rattle.cell_robot.specs.Names.{RobotScales, row_at, row_of, step_after_inquiry, arm1_stop, arm2_stop, turns_to}
+use Rattle.cell_robot.specs.Names.{Acts, after_done}
 use Rattle.cell_robot.specs.declared.robot.RobotStep.{RobotStep}
-use Rattle.cell_robot.specs.declared.robot.RobotStep.TheVariants.{TurnToTable, AwaitPlate, ReachTable, GripPlate, LeaveTable, TakePlate, ReleaseTable, TurnToLoad, ClaimPress, InspectPress, ReleasePress, ReachToLoad, DropInPress, LeaveLoaded, GiveToPress, TurnToUnload, AwaitForged, ReachToUnload, GripForged, LeaveUnloaded, TakeForged, ReleaseUnloaded, TurnToDeposit, ClaimDeposit, ReachDeposit, DropOnDeposit, LeaveDeposit, GiveToDeposit}
+use Rattle.cell_robot.specs.declared.robot.RobotStep.TheVariants.{TurnToTable, AwaitPlate, ReachTable, GripPlate}
+use Rattle.cell_robot.specs.declared.robot.RobotStep.TheVariants.{LeaveTable, TakePlate, ReleaseTable, TurnToLoad}
+use Rattle.cell_robot.specs.declared.robot.RobotStep.TheVariants.{ClaimPress, InspectPress, ReleasePress, ReachToLoad}
+use Rattle.cell_robot.specs.declared.robot.RobotStep.TheVariants.{DropInPress, LeaveLoaded, GiveToPress, TurnToUnload}
+use Rattle.cell_robot.specs.declared.robot.RobotStep.TheVariants.{AwaitForged, ReachToUnload, GripForged}
+use Rattle.cell_robot.specs.declared.robot.RobotStep.TheVariants.{LeaveUnloaded, TakeForged, ReleaseUnloaded}
+use Rattle.cell_robot.specs.declared.robot.RobotStep.TheVariants.{TurnToDeposit, ClaimDeposit, ReachDeposit}
+use Rattle.cell_robot.specs.declared.robot.RobotStep.TheVariants.{DropOnDeposit, LeaveDeposit, GiveToDeposit}
 use Rattle.cell_robot.specs.declared.robot.RobotNotes.{RobotNotes}
 use Rattle.cell_robot.specs.declared.robot.RobotMagnets.{RobotMagnets}
 use Rattle.cell_robot.specs.declared.robot.RobotProgress.{RobotProgress}
 use Rattle.cell_robot.specs.declared.robot.RobotReading.{RobotReading}
-use Rattle.cell_robot.specs.RobotProgram.{RobotScales, row_at, row_of, step_after_inquiry, arm1_stop, arm2_stop, turns_to, Acts, after_act, after_done}
+use Rattle.cell_robot.specs.RobotProgram.{after_act}
 use Rattle.cell_robot.specs.RobotExamples.{noted, magnets, at, told, rows_by, begins_with, for_plate, for_room, EndRows, RobotAsks, scales, TurnRows, Arm1Rows, Arm2Rows, Arm1BackRows, Arm2BackRows, RobotDrives, RobotChecks, RobotDemandRows, RobotRowsAreMet}
 
 begins : (points : RobotScales) (s : ModelState) (arm1 press_in press_out arm2 : Bool)

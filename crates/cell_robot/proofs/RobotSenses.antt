@@ -1,11 +1,11 @@
 -- A gauge's value is near its line, so a turn is also one of the program that knows only that.
 use Rattle.std.proofs.Common.{ℕ, ℤ, Result, Ok, Err}
-use Rattle.cell_calib.specs.Scale.{Scale}
-use Rattle.cell_calib.specs.Line.{IsReading}
+use Rattle.cell_calib.specs.Names.{Scale, IsReading}
 use Rattle.cell_calib.specs.declared.sense.RobotSense.{RobotSense}
 use Rattle.cell_calib.specs.declared.sense.SensorFault.{SensorFault}
+use Rattle.cell_robot.specs.Names.{RobotScales, RobotGauges, near_lines, Senses}
 use Rattle.cell_robot.specs.declared.robot.RobotReading.{RobotReading}
-use Rattle.cell_robot.specs.RobotProgram.{RobotScales, RobotGauges, near_lines, ReadsAs, Senses}
+use Rattle.cell_robot.specs.RobotProgram.{ReadsAs}
 
 reads_near : (points : Scale) (gives : ℕ → ℤ → Type 0) (raw : ℕ) (read : ℤ) → ReadsAs points gives raw (Ok read) → ReadsAs points (IsReading points) raw (Ok read)
 reads_near points gives raw read k = (k.0, (k.1.0, k.1.0))

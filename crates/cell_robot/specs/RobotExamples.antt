@@ -1,26 +1,24 @@
 -- Examples of each row of the robot's program, with each state of its notes.
 use Rattle.std.specs.Prelude.{◌≡◌, ◌≢◌, ℕ, pos, Bool, true, false, List, [], ◌∷◌, Option, Some, Ok, Err}
-use Rattle.cell_types.specs.declared.machine.Machine.{Machine}
-use Rattle.cell_types.specs.declared.machine.Machine.TheVariants.{Robot}
-use Rattle.cell_types.specs.declared.zone.Zone.{Zone}
-use Rattle.cell_types.specs.declared.zone.Zone.TheVariants.{Z2, Z3, Z4}
-use Rattle.cell_types.specs.declared.posture.Posture.{Posture}
-use Rattle.cell_types.specs.declared.posture.Posture.TheVariants.{OpenIn, OpenOut}
-use Rattle.cell_types.specs.declared.call.Call.{Call}
-use Rattle.cell_types.specs.declared.call.Call.TheVariants.{Claim, Give, Take, Release}
-use Rattle.cell_types.specs.declared.answer.Event.{Event}
-use Rattle.cell_calib.specs.Scale.{Scale}
+use Rattle.cell_rules.specs.Types.{Machine, Robot, Zone, Z2, Z3, Z4, Posture, OpenIn, OpenOut, Call, Claim, Give}
+use Rattle.cell_rules.specs.Types.{Take, Release, Event}
+use Rattle.cell_calib.specs.Names.{Scale}
 use Rattle.cell_calib.specs.declared.sense.RobotSense.{RobotSense}
 use Rattle.cell_calib.specs.declared.sense.SensorFault.TheVariants.{Low, High, Clash}
 use Rattle.cell_devices.specs.declared.motor.Motor.{Motor}
 use Rattle.cell_devices.specs.declared.motor.Motor.TheVariants.{Off, Plus, Minus}
 use Rattle.cell_devices.specs.declared.act.RobotAct.{RobotAct}
-use Rattle.cell_rules.specs.ModelState.{ModelState}
-use Rattle.cell_rules.specs.History.{Holds, posture_by_events}
-use Rattle.cell_control.specs.Steps.{Steps}
-use Rattle.cell_control.specs.Rows.{AskRow, InquiryRow, DriveRow, UntilFree, UntilOpen, NoOtherAnswers}
+use Rattle.cell_rules.specs.Names.{ModelState, Holds, posture_by_events}
+use Rattle.cell_control.specs.Names.{Steps, AskRow, InquiryRow, DriveRow, UntilFree, UntilOpen, NoOtherAnswers}
 use Rattle.cell_robot.specs.declared.robot.RobotStep.{RobotStep}
-use Rattle.cell_robot.specs.declared.robot.RobotStep.TheVariants.{TurnToTable, AwaitPlate, ReachTable, GripPlate, LeaveTable, TakePlate, ReleaseTable, TurnToLoad, ClaimPress, InspectPress, ReleasePress, ReachToLoad, DropInPress, LeaveLoaded, GiveToPress, TurnToUnload, AwaitForged, ReachToUnload, GripForged, LeaveUnloaded, TakeForged, ReleaseUnloaded, TurnToDeposit, ClaimDeposit, ReachDeposit, DropOnDeposit, LeaveDeposit, GiveToDeposit}
+use Rattle.cell_robot.specs.declared.robot.RobotStep.TheVariants.{TurnToTable, AwaitPlate, ReachTable, GripPlate}
+use Rattle.cell_robot.specs.declared.robot.RobotStep.TheVariants.{LeaveTable, TakePlate, ReleaseTable, TurnToLoad}
+use Rattle.cell_robot.specs.declared.robot.RobotStep.TheVariants.{ClaimPress, InspectPress, ReleasePress, ReachToLoad}
+use Rattle.cell_robot.specs.declared.robot.RobotStep.TheVariants.{DropInPress, LeaveLoaded, GiveToPress, TurnToUnload}
+use Rattle.cell_robot.specs.declared.robot.RobotStep.TheVariants.{AwaitForged, ReachToUnload, GripForged}
+use Rattle.cell_robot.specs.declared.robot.RobotStep.TheVariants.{LeaveUnloaded, TakeForged, ReleaseUnloaded}
+use Rattle.cell_robot.specs.declared.robot.RobotStep.TheVariants.{TurnToDeposit, ClaimDeposit, ReachDeposit}
+use Rattle.cell_robot.specs.declared.robot.RobotStep.TheVariants.{DropOnDeposit, LeaveDeposit, GiveToDeposit}
 use Rattle.cell_robot.specs.declared.robot.RobotNotes.{RobotNotes}
 use Rattle.cell_robot.specs.declared.robot.RobotMagnets.{RobotMagnets}
 use Rattle.cell_robot.specs.declared.robot.RobotProgress.{RobotProgress}
@@ -39,14 +37,25 @@ at step notes on = record { step = step; notes = notes; magnets = on }
 
 -- the commands to both arms, the rotation and the magnets
 abbrev pub told : Motor → Motor → Motor → RobotMagnets → RobotAct
-told first second turn on = record { arm1 = first; arm2 = second; rotation = turn; magnet1 = on.arm1; magnet2 = on.arm2 }
+told first second turn on = record {
+  arm1 = first;
+  arm2 = second;
+  rotation = turn;
+  magnet1 = on.arm1;
+  magnet2 = on.arm2;
+}
 
 -- the raw values of the three sensors, and what they say: positions, and whether both arms are surely retracted
 abbrev pub shown : ℕ → ℕ → ℕ → RobotSense
 shown first second turn = record { arm1 = first; arm2 = second; rotation = turn }
 
 abbrev pub reads : ℕ → ℕ → ℕ → Bool → RobotReading
-reads first second turn retracted = record { arm1 = pos first; arm2 = pos second; rotation = pos turn; retracted = retracted }
+reads first second turn retracted = record {
+  arm1 = pos first;
+  arm2 = pos second;
+  rotation = pos turn;
+  retracted = retracted;
+}
 
 -- with gauges that may give any position near their lines
 abbrev pub rows_by : RobotScales → Steps RobotProgress RobotSense RobotReading RobotAct
@@ -76,7 +85,8 @@ begins_with true true true true = at TurnToDeposit (noted true true true) (magne
 -- the start depends on the full places and on nothing else
 pub record RobotStarts (points : RobotScales) : Type 0 where
   pub whose : (rows_by points).machine ≡ Robot
-  pub by_places : (s : ModelState) → (rows_by points).start s ≡ begins_with s.full.arm1 s.full.press_in s.full.press_out s.full.arm2
+  pub by_places : (s : ModelState)
+      → (rows_by points).start s ≡ begins_with s.full.arm1 s.full.press_in s.full.press_out s.full.arm2
 
 -- ---- steps that ask
 
@@ -93,27 +103,47 @@ for_room leave next _ = leave
 -- a call that ends a group of steps: a forged plate on the second arm is next, then a plate in the press, then one on
 -- the first arm
 pub record EndRows (points : RobotScales) (step : RobotStep) (call : Call) (m : RobotMagnets) : Type 0 where
-  pub to_deposit : (arm1 fed : Bool) → AskRow (rows_by points) (at step (noted arm1 true fed) m) call [] (at TurnToDeposit (noted arm1 true fed) m)
-  pub to_unload : (arm1 : Bool) → AskRow (rows_by points) (at step (noted arm1 false true) m) call [] (at TurnToUnload (noted arm1 false true) m)
-  pub to_load : AskRow (rows_by points) (at step (noted true false false) m) call [] (at TurnToLoad (noted true false false) m)
-  pub to_table : AskRow (rows_by points) (at step (noted false false false) m) call [] (at TurnToTable (noted false false false) m)
+  pub to_deposit : (arm1 fed : Bool)
+      → AskRow (rows_by points) (at step (noted arm1 true fed) m) call [] (at TurnToDeposit (noted arm1 true fed) m)
+  pub to_unload : (arm1 : Bool) → AskRow (rows_by points) (at step (noted arm1 false true) m) call []
+      (at TurnToUnload (noted arm1 false true) m)
+  pub to_load : AskRow (rows_by points) (at step (noted true false false) m) call []
+      (at TurnToLoad (noted true false false) m)
+  pub to_table : AskRow (rows_by points) (at step (noted false false false) m) call []
+      (at TurnToTable (noted false false false) m)
 
 pub record RobotAsks (points : RobotScales) (arm1 arm2 fed : Bool) (m : RobotMagnets) : Type 0 where
-  pub awaits_plate : InquiryRow (rows_by points) (at AwaitPlate (noted arm1 arm2 fed) m) Z2 (λ owner flag posture. at (for_plate AwaitPlate ReachTable owner flag) (noted arm1 arm2 fed) m)
-  pub takes : AskRow (rows_by points) (at TakePlate (noted arm1 arm2 fed) m) (Take Z2) [] (at ReleaseTable (noted true arm2 fed) m)
+  pub awaits_plate : InquiryRow (rows_by points) (at AwaitPlate (noted arm1 arm2 fed) m) Z2
+      (λ owner flag posture. at (for_plate AwaitPlate ReachTable owner flag) (noted arm1 arm2 fed) m)
+  pub takes : AskRow (rows_by points) (at TakePlate (noted arm1 arm2 fed) m) (Take Z2) []
+      (at ReleaseTable (noted true arm2 fed) m)
   pub releases_table : EndRows points ReleaseTable (Release Z2) m
-  pub claims_press : AskRow (rows_by points) (at ClaimPress (noted arm1 arm2 fed) m) (Claim Z3) (UntilFree ∷ UntilOpen ∷ []) (at InspectPress (noted arm1 arm2 fed) m)
-  pub inspects : InquiryRow (rows_by points) (at InspectPress (noted arm1 arm2 fed) m) Z3 (λ owner flag posture. at (for_room ReleasePress ReachToLoad posture) (noted arm1 arm2 fed) m)
-  pub releases_press : AskRow (rows_by points) (at ReleasePress (noted arm1 arm2 fed) m) (Release Z3) [] (at ClaimPress (noted arm1 arm2 fed) m)
-  pub gives_to_press : AskRow (rows_by points) (at GiveToPress (noted arm1 false fed) m) (Give Z3) [] (at TurnToUnload (noted false false true) m)
-  pub gives_to_press_beside_forged : AskRow (rows_by points) (at GiveToPress (noted arm1 true fed) m) (Give Z3) [] (at TurnToDeposit (noted false true true) m)
-  pub awaits_forged : InquiryRow (rows_by points) (at AwaitForged (noted arm1 arm2 fed) m) Z3 (λ owner flag posture. at (for_plate AwaitForged ReachToUnload owner flag) (noted arm1 arm2 fed) m)
-  pub takes_forged : AskRow (rows_by points) (at TakeForged (noted arm1 arm2 fed) m) (Take Z3) [] (at ReleaseUnloaded (noted arm1 true false) m)
+  pub claims_press : AskRow (rows_by points) (at ClaimPress (noted arm1 arm2 fed) m) (Claim Z3)
+      (UntilFree ∷ UntilOpen ∷ []) (at InspectPress (noted arm1 arm2 fed) m)
+  pub inspects : InquiryRow (rows_by points) (at InspectPress (noted arm1 arm2 fed) m) Z3
+      (λ owner flag posture. at (for_room ReleasePress ReachToLoad posture) (noted arm1 arm2 fed) m)
+  pub releases_press : AskRow (rows_by points) (at ReleasePress (noted arm1 arm2 fed) m) (Release Z3) []
+      (at ClaimPress (noted arm1 arm2 fed) m)
+  pub gives_to_press : AskRow (rows_by points) (at GiveToPress (noted arm1 false fed) m) (Give Z3) []
+      (at TurnToUnload (noted false false true) m)
+  pub gives_to_press_beside_forged
+      : AskRow (rows_by points) (at GiveToPress (noted arm1 true fed) m) (Give Z3) []
+      (at TurnToDeposit (noted false true true) m)
+  pub awaits_forged : InquiryRow (rows_by points) (at AwaitForged (noted arm1 arm2 fed) m) Z3
+      (λ owner flag posture. at (for_plate AwaitForged ReachToUnload owner flag) (noted arm1 arm2 fed) m)
+  pub takes_forged : AskRow (rows_by points) (at TakeForged (noted arm1 arm2 fed) m) (Take Z3) []
+      (at ReleaseUnloaded (noted arm1 true false) m)
   pub releases_unloaded : EndRows points ReleaseUnloaded (Release Z3) m
-  pub claims_deposit : AskRow (rows_by points) (at ClaimDeposit (noted arm1 arm2 fed) m) (Claim Z4) (UntilFree ∷ UntilOpen ∷ []) (at ReachDeposit (noted arm1 arm2 fed) m)
-  pub gives_to_deposit : AskRow (rows_by points) (at GiveToDeposit (noted false arm2 false) m) (Give Z4) [] (at TurnToTable (noted false false false) m)
-  pub gives_to_deposit_before_load : AskRow (rows_by points) (at GiveToDeposit (noted true arm2 false) m) (Give Z4) [] (at TurnToLoad (noted true false false) m)
-  pub gives_to_deposit_before_unload : AskRow (rows_by points) (at GiveToDeposit (noted arm1 arm2 true) m) (Give Z4) [] (at TurnToUnload (noted arm1 false true) m)
+  pub claims_deposit : AskRow (rows_by points) (at ClaimDeposit (noted arm1 arm2 fed) m) (Claim Z4)
+      (UntilFree ∷ UntilOpen ∷ []) (at ReachDeposit (noted arm1 arm2 fed) m)
+  pub gives_to_deposit : AskRow (rows_by points) (at GiveToDeposit (noted false arm2 false) m) (Give Z4) []
+      (at TurnToTable (noted false false false) m)
+  pub gives_to_deposit_before_load
+      : AskRow (rows_by points) (at GiveToDeposit (noted true arm2 false) m) (Give Z4) []
+      (at TurnToLoad (noted true false false) m)
+  pub gives_to_deposit_before_unload
+      : AskRow (rows_by points) (at GiveToDeposit (noted arm1 arm2 true) m) (Give Z4) []
+      (at TurnToUnload (noted arm1 false true) m)
 
 -- ---- steps that drive
 
@@ -129,7 +159,8 @@ Drives step reading act next n m = DriveRow (rows_by scales) (at step n m) readi
 
 -- a step that turns: the motor is off from one position to another, and the step is then done; while an arm may be
 -- out, the motor is off too, and the step isn't done
-pub record TurnRows (step next : RobotStep) (below first last above : ℕ) (n : RobotNotes) (m : RobotMagnets) : Type 0 where
+pub record TurnRows (step next : RobotStep) (below first last above : ℕ) (n : RobotNotes) (m : RobotMagnets)
+    : Type 0 where
   pub up : Drives step (reads 0 0 below true) (told Off Off Plus m) step n m
   pub from : Drives step (reads 0 0 first true) (told Off Off Off m) next n m
   pub to : Drives step (reads 0 0 last true) (told Off Off Off m) next n m
@@ -139,33 +170,39 @@ pub record TurnRows (step next : RobotStep) (below first last above : ℕ) (n : 
   pub held_above : Drives step (reads 46 45 above false) (told Off Off Off m) step n m
 
 -- steps that put out an arm or draw it back, at any rotation
-pub record Arm1Rows (step next : RobotStep) (below first last above : ℕ) (turn : ℕ) (retracted : Bool) (n : RobotNotes) (m : RobotMagnets) : Type 0 where
+pub record Arm1Rows (step next : RobotStep) (below first last above : ℕ) (turn : ℕ) (retracted : Bool)
+    (n : RobotNotes) (m : RobotMagnets) : Type 0 where
   pub out : Drives step (reads below 0 turn retracted) (told Plus Off Off m) step n m
   pub from : Drives step (reads first 0 turn retracted) (told Off Off Off m) next n m
   pub to : Drives step (reads last 0 turn retracted) (told Off Off Off m) next n m
   pub back : Drives step (reads above 0 turn retracted) (told Minus Off Off m) step n m
 
-pub record Arm2Rows (step next : RobotStep) (below first last above : ℕ) (turn : ℕ) (retracted : Bool) (n : RobotNotes) (m : RobotMagnets) : Type 0 where
+pub record Arm2Rows (step next : RobotStep) (below first last above : ℕ) (turn : ℕ) (retracted : Bool)
+    (n : RobotNotes) (m : RobotMagnets) : Type 0 where
   pub out : Drives step (reads 0 below turn retracted) (told Off Plus Off m) step n m
   pub from : Drives step (reads 0 first turn retracted) (told Off Off Off m) next n m
   pub to : Drives step (reads 0 last turn retracted) (told Off Off Off m) next n m
   pub back : Drives step (reads 0 above turn retracted) (told Off Minus Off m) step n m
 
-pub record Arm1BackRows (step next : RobotStep) (turn : ℕ) (retracted : Bool) (n : RobotNotes) (m : RobotMagnets) : Type 0 where
+pub record Arm1BackRows (step next : RobotStep) (turn : ℕ) (retracted : Bool) (n : RobotNotes) (m : RobotMagnets)
+    : Type 0 where
   pub out : Drives step (reads 36 0 turn retracted) (told Minus Off Off m) step n m
   pub near_end : Drives step (reads 35 0 turn retracted) (told Off Off Off m) next n m
   pub at_end : Drives step (reads 0 0 turn retracted) (told Off Off Off m) next n m
 
-pub record Arm2BackRows (step next : RobotStep) (turn : ℕ) (retracted : Bool) (n : RobotNotes) (m : RobotMagnets) : Type 0 where
+pub record Arm2BackRows (step next : RobotStep) (turn : ℕ) (retracted : Bool) (n : RobotNotes) (m : RobotMagnets)
+    : Type 0 where
   pub out : Drives step (reads 0 35 turn retracted) (told Off Minus Off m) step n m
   pub near_end : Drives step (reads 0 34 turn retracted) (told Off Off Off m) next n m
   pub at_end : Drives step (reads 0 0 turn retracted) (told Off Off Off m) next n m
 
 -- a step that switches a magnet, by any reading
 abbrev pub Switches : RobotStep → RobotMagnets → RobotReading → RobotStep → RobotMagnets → RobotNotes → Type 0
-Switches step before reading next now n = DriveRow (rows_by scales) (at step n before) reading (told Off Off Off now) (at next n now)
+Switches step before reading next now n =
+    DriveRow (rows_by scales) (at step n before) reading (told Off Off Off now) (at next n now)
 
-pub record RobotDrives (turn : ℕ) (retracted : Bool) (r : RobotReading) (n : RobotNotes) (first second : Bool) : Type 0 where
+pub record RobotDrives (turn : ℕ) (retracted : Bool) (r : RobotReading) (n : RobotNotes) (first second : Bool)
+    : Type 0 where
   pub to_table : TurnRows TurnToTable AwaitPlate 266 267 333 334 n (magnets first second)
   pub to_load : TurnRows TurnToLoad ClaimPress 1466 1467 1533 1534 n (magnets first second)
   pub to_unload : TurnRows TurnToUnload AwaitForged 566 567 633 634 n (magnets first second)
@@ -231,10 +268,14 @@ pub record HasZone (opening : ModelState) (seen : List Event) (zone : Zone) (pos
   pub stands : posture_by_events opening seen zone ≡ posture
 
 abbrev pub Arm1Demands : RobotStep → Zone → Posture → Type 0
-Arm1Demands step zone posture = (points : RobotScales) (n : RobotNotes) (m : RobotMagnets) (act : RobotAct) (opening : ModelState) (seen : List Event) → act.arm1 ≢ Off → (rows_by points).motor_demands (at step n m) act opening seen → HasZone opening seen zone posture
+Arm1Demands step zone posture = (points : RobotScales) (n : RobotNotes) (m : RobotMagnets) (act : RobotAct)
+    (opening : ModelState) (seen : List Event) → act.arm1 ≢ Off
+    → (rows_by points).motor_demands (at step n m) act opening seen → HasZone opening seen zone posture
 
 abbrev pub Arm2Demands : RobotStep → Zone → Posture → Type 0
-Arm2Demands step zone posture = (points : RobotScales) (n : RobotNotes) (m : RobotMagnets) (act : RobotAct) (opening : ModelState) (seen : List Event) → act.arm2 ≢ Off → (rows_by points).motor_demands (at step n m) act opening seen → HasZone opening seen zone posture
+Arm2Demands step zone posture = (points : RobotScales) (n : RobotNotes) (m : RobotMagnets) (act : RobotAct)
+    (opening : ModelState) (seen : List Event) → act.arm2 ≢ Off
+    → (rows_by points).motor_demands (at step n m) act opening seen → HasZone opening seen zone posture
 
 pub record RobotDemandRows : Type 0 where
   pub reaches_table : Arm1Demands ReachTable Z2 OpenOut
@@ -250,8 +291,10 @@ pub record RobotDemandRows : Type 0 where
 pub record RobotRowsAreMet : Type 0 where
   pub starts : (points : RobotScales) → RobotStarts points
   pub asks : (points : RobotScales) (arm1 arm2 fed : Bool) (m : RobotMagnets) → RobotAsks points arm1 arm2 fed m
-  pub drives : (turn : ℕ) (retracted : Bool) (r : RobotReading) (n : RobotNotes) (first second : Bool) → RobotDrives turn retracted r n first second
+  pub drives : (turn : ℕ) (retracted : Bool) (r : RobotReading) (n : RobotNotes) (first second : Bool)
+      → RobotDrives turn retracted r n first second
   pub checks : RobotChecks
   pub no_other_answers : (points : RobotScales) → NoOtherAnswers (rows_by points)
-  pub rests : (points : RobotScales) (step : RobotStep) (n : RobotNotes) (m : RobotMagnets) → (rows_by points).rest (at step n m) ≡ told Off Off Off m
+  pub rests : (points : RobotScales) (step : RobotStep) (n : RobotNotes) (m : RobotMagnets)
+      → (rows_by points).rest (at step n m) ≡ told Off Off Off m
   pub demands : RobotDemandRows

@@ -1,35 +1,33 @@
 -- The robot's program, row by row.
-use Rattle.std.specs.Prelude.{◌≡◌, ◌≢◌, ℕ, ◌<◌, ◌≤◌, ◌⊎◌, ℤ, ◌-ℤ◌, ◌≤ℤ◌, Bool, true, false, ◌&&◌, ◌||◌, not, ◌↔◌, IsTrue, if◌then◌else◌, List, Option, Some, None, Result, Ok, Err}
-use Rattle.cell_types.specs.declared.machine.Machine.{Machine}
-use Rattle.cell_types.specs.declared.machine.Machine.TheVariants.{Robot}
-use Rattle.cell_types.specs.declared.zone.Zone.{Zone}
-use Rattle.cell_types.specs.declared.zone.Zone.TheVariants.{Z2, Z3, Z4}
-use Rattle.cell_types.specs.declared.place.Place.TheVariants.{Arm1, PressIn, PressOut, Arm2}
-use Rattle.cell_types.specs.declared.posture.Posture.{Posture}
-use Rattle.cell_types.specs.declared.posture.Posture.TheVariants.{OpenIn, OpenOut}
-use Rattle.cell_types.specs.declared.call.Call.{Call}
-use Rattle.cell_types.specs.declared.call.Call.TheVariants.{Claim, Give, Take, Release, Inquire}
-use Rattle.cell_types.specs.declared.answer.Event.{Event}
-use Rattle.cell_calib.specs.Scale.{Scale}
-use Rattle.cell_calib.specs.Line.{IsReading}
+use Rattle.std.specs.Prelude.{◌≡◌, ◌≢◌, ℕ, ◌<◌, ◌≤◌, ◌⊎◌, ℤ, ◌-ℤ◌, ◌≤ℤ◌, Bool, true, false, ◌&&◌, ◌||◌, not, ◌↔◌}
+use Rattle.std.specs.Prelude.{IsTrue, if◌then◌else◌, List, Option, Some, None, Result, Ok, Err}
+use Rattle.cell_rules.specs.Types.{Machine, Robot, Zone, Z2, Z3, Z4, Arm1, PressIn, PressOut, Arm2, Posture, OpenIn}
+use Rattle.cell_rules.specs.Types.{OpenOut, Call, Claim, Give, Take, Release, Inquire, Event}
+use Rattle.cell_calib.specs.Names.{Scale, IsReading}
 use Rattle.cell_calib.specs.declared.sense.RobotSense.{RobotSense}
 use Rattle.cell_calib.specs.declared.sense.SensorFault.{SensorFault}
 use Rattle.cell_calib.specs.declared.sense.SensorFault.TheVariants.{Low, High, Clash}
+use Rattle.cell_devices.specs.Names.{DrivesTo, retracted_to}
 use Rattle.cell_devices.specs.declared.motor.Motor.{Motor}
 use Rattle.cell_devices.specs.declared.motor.Motor.TheVariants.{Off}
 use Rattle.cell_devices.specs.declared.stops.Stop.{Stop}
-use Rattle.cell_devices.specs.declared.stops.TheConstants.{ROTATION_ARM1_TABLE, ROTATION_ARM2_PRESS, ROTATION_ARM1_PRESS, ROTATION_ARM2_DEPOSIT, ARM1_TABLE, ARM1_PRESS, ARM2_PRESS, ARM2_DEPOSIT, RETRACTED}
+use Rattle.cell_devices.specs.declared.stops.TheConstants.{ROTATION_ARM1_TABLE, ROTATION_ARM2_PRESS}
+use Rattle.cell_devices.specs.declared.stops.TheConstants.{ROTATION_ARM1_PRESS, ROTATION_ARM2_DEPOSIT, ARM1_TABLE}
+use Rattle.cell_devices.specs.declared.stops.TheConstants.{ARM1_PRESS, ARM2_PRESS, ARM2_DEPOSIT, RETRACTED}
 use Rattle.cell_devices.specs.declared.act.RobotAct.{RobotAct}
-use Rattle.cell_devices.specs.Drives.{DrivesTo}
-use Rattle.cell_devices.specs.Limits.{retracted_to}
 use Rattle.cell_rules.specs.ModelState.{ModelState, is_full}
+use Rattle.cell_control.specs.Names.{row_that_asks, row_that_drives, with_waits, Steps, HoldsIn}
 use Rattle.cell_control.specs.declared.row.Row.{Row}
 use Rattle.cell_control.specs.declared.row.Waits.TheVariants.{UntilFreeAndOpen}
-use Rattle.cell_control.specs.Row.{row_that_asks, row_that_drives, with_waits}
-use Rattle.cell_control.specs.Steps.{Steps}
-use Rattle.cell_control.specs.Demands.{HoldsIn}
 use Rattle.cell_robot.specs.declared.robot.RobotStep.{RobotStep}
-use Rattle.cell_robot.specs.declared.robot.RobotStep.TheVariants.{TurnToTable, AwaitPlate, ReachTable, GripPlate, LeaveTable, TakePlate, ReleaseTable, TurnToLoad, ClaimPress, InspectPress, ReleasePress, ReachToLoad, DropInPress, LeaveLoaded, GiveToPress, TurnToUnload, AwaitForged, ReachToUnload, GripForged, LeaveUnloaded, TakeForged, ReleaseUnloaded, TurnToDeposit, ClaimDeposit, ReachDeposit, DropOnDeposit, LeaveDeposit, GiveToDeposit}
+use Rattle.cell_robot.specs.declared.robot.RobotStep.TheVariants.{TurnToTable, AwaitPlate, ReachTable, GripPlate}
+use Rattle.cell_robot.specs.declared.robot.RobotStep.TheVariants.{LeaveTable, TakePlate, ReleaseTable, TurnToLoad}
+use Rattle.cell_robot.specs.declared.robot.RobotStep.TheVariants.{ClaimPress, InspectPress, ReleasePress, ReachToLoad}
+use Rattle.cell_robot.specs.declared.robot.RobotStep.TheVariants.{DropInPress, LeaveLoaded, GiveToPress, TurnToUnload}
+use Rattle.cell_robot.specs.declared.robot.RobotStep.TheVariants.{AwaitForged, ReachToUnload, GripForged}
+use Rattle.cell_robot.specs.declared.robot.RobotStep.TheVariants.{LeaveUnloaded, TakeForged, ReleaseUnloaded}
+use Rattle.cell_robot.specs.declared.robot.RobotStep.TheVariants.{TurnToDeposit, ClaimDeposit, ReachDeposit}
+use Rattle.cell_robot.specs.declared.robot.RobotStep.TheVariants.{DropOnDeposit, LeaveDeposit, GiveToDeposit}
 use Rattle.cell_robot.specs.declared.robot.RobotNotes.{RobotNotes}
 use Rattle.cell_robot.specs.declared.robot.RobotMagnets.{RobotMagnets}
 use Rattle.cell_robot.specs.declared.robot.RobotProgress.{RobotProgress}
@@ -38,7 +36,8 @@ use Rattle.cell_robot.specs.declared.robot.RobotReading.{RobotReading}
 -- the first step of the next group: bring a forged plate on the second arm away, else fetch a plate from the press,
 -- else bring a plate on the first arm to the press
 abbrev pub choice : RobotNotes → RobotStep
-choice notes = if notes.arm2 then TurnToDeposit else (if notes.fed then TurnToUnload else (if notes.arm1 then TurnToLoad else TurnToTable))
+choice notes = if notes.arm2 then TurnToDeposit else (if notes.fed then TurnToUnload
+    else (if notes.arm1 then TurnToLoad else TurnToTable))
 
 -- the row of a step that asks, of one that asks and leads to the next group, of one that claims a zone and waits until
 -- the zone lets it in, and of one that drives or switches a magnet
@@ -127,7 +126,11 @@ abbrev pub notes_at : ModelState → RobotNotes
 notes_at s = record { arm1 = is_full s Arm1; arm2 = is_full s Arm2; fed = is_full s PressIn || is_full s PressOut }
 
 abbrev pub robot_start : ModelState → RobotProgress
-robot_start s = record { step = choice (notes_at s); notes = notes_at s; magnets = record { arm1 = is_full s Arm1; arm2 = is_full s Arm2 } }
+robot_start s = record {
+  step = choice (notes_at s);
+  notes = notes_at s;
+  magnets = record { arm1 = is_full s Arm1; arm2 = is_full s Arm2 };
+}
 
 -- a raw value is in the calibration's range; or why it isn't
 abbrev pub IsRaw : Scale → ℕ → Type 0
@@ -166,7 +169,8 @@ near_lines points = gauges_of (IsReading points.arm1) (IsReading points.arm2) (I
 
 -- both arms are surely retracted, by their readings
 abbrev pub AreRetracted : RobotScales → ℤ → ℤ → Type 0
-AreRetracted points first second = (first ≤ℤ (retracted_to -ℤ points.arm1.tol)) × (second ≤ℤ (retracted_to -ℤ points.arm2.tol))
+AreRetracted points first second = (first ≤ℤ (retracted_to -ℤ points.arm1.tol))
+    × (second ≤ℤ (retracted_to -ℤ points.arm2.tol))
 
 -- a reading of sensors that can all be used
 pub record Reads (points : RobotScales) (gives : RobotGauges) (s : RobotSense) (r : RobotReading) : Type 0 where
@@ -178,7 +182,9 @@ pub record Reads (points : RobotScales) (gives : RobotGauges) (s : RobotSense) (
 -- the sensors are checked one by one, and the first that can't be used gives the fault
 abbrev pub FirstFails : RobotScales → RobotSense → SensorFault → Type 0
 FirstFails points s fault =
-    Fails points.arm1 s.arm1 fault ⊎ (IsRaw points.arm1 s.arm1 × (Fails points.arm2 s.arm2 fault ⊎ (IsRaw points.arm2 s.arm2 × Fails points.rotation s.rotation fault)))
+    Fails points.arm1 s.arm1 fault ⊎
+    (IsRaw points.arm1 s.arm1 ×
+    (Fails points.arm2 s.arm2 fault ⊎ (IsRaw points.arm2 s.arm2 × Fails points.rotation s.rotation fault)))
 
 abbrev pub Senses : RobotScales → RobotGauges → RobotSense → Result RobotReading SensorFault → Type 0
 Senses points gives s (Ok r) = Reads points gives s r
@@ -231,7 +237,8 @@ turns TurnToDeposit = true
 turns _ = false
 
 abbrev pub is_done : RobotStep → Bool → RobotAct → Bool
-is_done step retracted act = (not (turns step) || retracted) && (is_off act.arm1 && (is_off act.arm2 && is_off act.rotation))
+is_done step retracted act = (not (turns step) || retracted)
+    && (is_off act.arm1 && (is_off act.arm2 && is_off act.rotation))
 
 abbrev pub after_act : RobotProgress → RobotReading → RobotAct → RobotProgress
 after_act p r act = if is_done p.step r.retracted act then after_done p else p

@@ -391,7 +391,9 @@ impl<F1: Gauge, F2: Gauge, F3: Gauge> Program for RobotProgram<F1, F2, F3> {
 
     type Act = RobotAct;
 
-    ghost steps = { λ r. program.robot_steps (program.robot_scales r.arm1.points r.arm2.points r.rotation.points) (program.gauges_of (λ raw v. F1.gives r.arm1.gauge raw v) (λ raw v. F2.gives r.arm2.gauge raw v) (λ raw v. F3.gives r.rotation.gauge raw v)) };
+    ghost steps = { λ r. program.robot_steps (program.robot_scales r.arm1.points r.arm2.points r.rotation.points)
+        (program.gauges_of (λ raw v. F1.gives r.arm1.gauge raw v) (λ raw v. F2.gives r.arm2.gauge raw v)
+        (λ raw v. F3.gives r.rotation.gauge raw v)) };
 
     fn start(&self, state: &State) -> RobotProgress {
         let notes = RobotNotes {
@@ -485,7 +487,8 @@ fn are_drawn_back<F1: Gauge, F2: Gauge>(
     arm1: i32,
     arm2: i32,
 ) -> bool
-    ensures { IsTrue result ↔ ((arm1 ≤ℤ (retracted_to -ℤ first.now.points.tol)) × (arm2 ≤ℤ (retracted_to -ℤ second.now.points.tol))) }
+    ensures { IsTrue result ↔ ((arm1 ≤ℤ (retracted_to -ℤ first.now.points.tol))
+        × (arm2 ≤ℤ (retracted_to -ℤ second.now.points.tol))) }
 {
     is_drawn_back(first, arm1) && is_drawn_back(second, arm2)
 }

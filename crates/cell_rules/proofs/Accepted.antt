@@ -1,8 +1,6 @@
 -- More that holds if a yield, a release, a pose or an advance isn't refused.
 use Rattle.std.proofs.Common.{◌≡◌, None}
-use Rattle.cell_types.specs.declared.machine.Machine.{Machine}
-use Rattle.cell_types.specs.declared.zone.Zone.{Zone}
-use Rattle.cell_types.specs.declared.pose.Pose.{Pose}
+use Rattle.cell_rules.specs.Types.{Machine, Zone, Pose}
 use Rattle.cell_rules.specs.ModelState.{ModelState}
 use Rattle.cell_rules.specs.Refusals
 use Rattle.cell_rules.proofs.Done.{none_or}

@@ -1,10 +1,8 @@
 -- All laws of a legal history from a sound opening.
 use Rattle.std.proofs.Common.{List, sym, subst}
 use Rattle.cell_types.specs.declared.answer.Event.{Event}
-use Rattle.cell_rules.specs.ModelState.{ModelState}
-use Rattle.cell_rules.specs.Sound.{IsSound}
-use Rattle.cell_rules.specs.History.{IsLegal}
-use Rattle.cell_rules.specs.Laws.{RunsClear, BeltsRunClear, PostureByEvents, EventsFit, HandoverByHolder, Lawful}
+use Rattle.cell_rules.specs.Names.{ModelState, IsSound, IsLegal, RunsClear, BeltsRunClear, PostureByEvents, EventsFit}
+use Rattle.cell_rules.specs.Names.{HandoverByHolder, Lawful}
 use Rattle.cell_rules.proofs.Histories.{throughout, sound-after}
 use Rattle.cell_rules.proofs.HoldsLemmas.{holds_iff_owns}
 use Rattle.cell_rules.proofs.HolderLaws.{one_holder, mover_is_host, guest_only_while_open}

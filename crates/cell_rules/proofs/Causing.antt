@@ -1,27 +1,16 @@
 -- Each call is refused by the first of its conditions, and these give its causes.
 use Rattle.std.proofs.Common.{◌≡◌, ◌≤◌, ℕ, Bool, true, false, ◌&&◌, not, nat_lt, Option, Some, None, option_map, is_none, List, [], ◌∷◌, refl, ap, ◌∙◌}
 use Rattle.std.specs.Option.{option_eq}
-use Rattle.cell_types.specs.declared.machine.Machine.{Machine}
-use Rattle.cell_types.specs.declared.machine.Machine.TheVariants.{Feed, Watch}
-use Rattle.cell_types.specs.declared.zone.Zone.{Zone}
-use Rattle.cell_types.specs.declared.zone.Zone.TheVariants.{Z1, Z2, Z3, Z4, Z5, Z6}
-use Rattle.cell_types.specs.declared.zone.Transfer.{Transfer}
-use Rattle.cell_types.specs.declared.place.Place.{Place}
-use Rattle.cell_types.specs.declared.place.Place.TheVariants.{FeedEnd}
-use Rattle.cell_types.specs.declared.posture.Posture.{Posture}
-use Rattle.cell_types.specs.declared.posture.Posture.TheVariants.{Moving}
-use Rattle.cell_types.specs.declared.answer.Refusal.{Refusal}
-use Rattle.cell_types.specs.declared.answer.Refusal.TheVariants.{NotParty, Held, AlreadyMine, Shut, NotOwner, PlateInZone, NoPlate, PlaceFull, WrongWay, Worn, Stopped, NotStopped, InUse}
-use Rattle.cell_types.specs.Refusals.{number_of}
-use Rattle.cell_types.specs.Tables.{guest_of, transfer_of}
+use Rattle.cell_rules.specs.Types.{Machine, Feed, Watch, Zone, Z1, Z2, Z3, Z4, Z5, Z6, Transfer, Place, FeedEnd}
+use Rattle.cell_rules.specs.Types.{Posture, Moving, Refusal, NotParty, Held, AlreadyMine, Shut, NotOwner, PlateInZone}
+use Rattle.cell_rules.specs.Types.{NoPlate, PlaceFull, WrongWay, Worn, Stopped, NotStopped, InUse, number_of}
+use Rattle.cell_rules.specs.Types.{guest_of, transfer_of, same_machine, same_zone, same_place, same_posture}
+use Rattle.cell_rules.specs.Types.{one_place}
 use Rattle.cell_types.specs.Ways.{way_of}
-use Rattle.cell_types.specs.Same.{same_machine, same_zone, same_place, same_posture, one_place}
-use Rattle.cell_rules.specs.ModelState.{ModelState, zone_at, is_full}
-use Rattle.cell_rules.specs.PlaceSet.{has}
-use Rattle.cell_rules.specs.Sound.{is_party}
+use Rattle.cell_rules.specs.Names.{ModelState, zone_at, is_full, has, is_party, owner_of, posture_at, owns, given_by}
+use Rattle.cell_rules.specs.Names.{transfer_given, is_shut}
 use Rattle.cell_rules.specs.Refusals
-use Rattle.cell_rules.specs.Refusals.{owner_of, posture_at, owns, given_by, transfer_given}
-use Rattle.cell_rules.specs.Causes.{parties_of, gift_of, is_stranger, is_in_use, is_shut, on_way, claim_cause, give_cause, yield_cause, take_cause, release_cause, stop_cause, resume_cause}
+use Rattle.cell_rules.specs.Causes.{parties_of, gift_of, is_stranger, is_in_use, on_way, claim_cause, give_cause, yield_cause, take_cause, release_cause, stop_cause, resume_cause}
 use Rattle.cell_rules.proofs.Tables.{and_left, and_right, all_machines, from_machines, all_zones, from_zones, all_postures, from_postures}
 use Rattle.cell_rules.proofs.Chains.{chain, numbers, Tells, TellEach, First, is_among, told_by, first_by}
 use Rattle.cell_rules.proofs.Tellings.{plain, names_owner, names_zone, names_holder, names_posture, names_moving, worn_at}

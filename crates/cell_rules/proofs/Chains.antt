@@ -2,10 +2,10 @@
 use Rattle.std.proofs.Common.{◌≡◌, ℕ, Bool, true, false, cond, ◌||◌, nat_eq, Option, Some, None, is_some, List, [], ◌∷◌, refl, sym, ap, ◌∙◌, subst}
 use Rattle.std.specs.List.{list_any}
 use Rattle.std.proofs.lemmas.Bool.{eqb-true, eq-eqb, or_right}
-use Rattle.cell_types.specs.declared.answer.Refusal.{Refusal}
-use Rattle.cell_types.specs.Refusals.{number_of}
+use Rattle.cell_rules.specs.Types.{Refusal, number_of}
 use Rattle.cell_rules.specs.Refusals.{◌or◌}
-use Rattle.cell_rules.specs.RefusalLaws.{from_on, is_no_later}
+use Rattle.cell_rules.specs.Names.{is_no_later}
+use Rattle.cell_rules.specs.RefusalLaws.{from_on}
 
 -- ---- conditions with their numbers, in order
 

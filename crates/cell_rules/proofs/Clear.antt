@@ -1,31 +1,16 @@
 -- The belts run clear: each call keeps this, so by the events it holds after a history.
 use Rattle.std.proofs.Common.{◌≡◌, pos, Bool, true, false, ◌&&◌, ◌||◌, not, is_some, unwrap_or, List, [], ◌∷◌, ◌⊎◌, inl, inr, refl, sym, ap, ◌∙◌, if◌then◌else◌}
 use Rattle.std.proofs.lemmas.Bool.{or_cases}
-use Rattle.cell_types.specs.declared.machine.Machine.{Machine}
-use Rattle.cell_types.specs.declared.machine.Machine.TheVariants.{Feed, Deposit}
-use Rattle.cell_types.specs.declared.zone.Zone.{Zone}
-use Rattle.cell_types.specs.declared.zone.Zone.TheVariants.{Z1, Z2, Z3, Z4, Z5, Z6}
-use Rattle.cell_types.specs.declared.place.Place.{Place}
-use Rattle.cell_types.specs.declared.place.Place.TheVariants.{FeedEnd, DepEnd}
-use Rattle.cell_types.specs.declared.posture.Posture.{Posture}
-use Rattle.cell_types.specs.declared.posture.Posture.TheVariants.{Closed, Moving, OpenIn, OpenOut}
-use Rattle.cell_types.specs.declared.pose.Pose.{Pose}
-use Rattle.cell_types.specs.declared.pose.Pose.TheVariants.{Running}
-use Rattle.cell_types.specs.declared.call.Call.{Call}
-use Rattle.cell_types.specs.declared.call.Call.TheVariants.{Claim, Give, Yield, Take, Release, SetPose, Advance, Inquire, Stop, Resume}
-use Rattle.cell_types.specs.declared.answer.Answer.{Answer}
-use Rattle.cell_types.specs.declared.answer.Answer.TheVariants.{Done, Shown, Refused}
-use Rattle.cell_types.specs.declared.answer.Event.{Event}
-use Rattle.cell_types.specs.declared.answer.Refusal.TheVariants.{PlaceFull, InUse}
-use Rattle.cell_types.specs.Tables.{host_of, transfer_of, posture_of}
-use Rattle.cell_types.specs.Same.{same_machine, same_zone, same_posture, same_pose, one_posture}
-use Rattle.cell_rules.specs.PlaceSet.{PlaceSet, has}
-use Rattle.cell_rules.specs.ModelState.{ModelState, zone_at, is_full, one_if}
-use Rattle.cell_rules.specs.Sound.{implies, is_party}
-use Rattle.cell_rules.specs.Refusals.{owns, owner_of, posture_at, transfer_given, given_by, give_refusal, yield_refusal, release_refusal, pose_refusal}
-use Rattle.cell_rules.specs.Reply.{reply, changed, next, next_by, emptied, filled, is_belt_of}
-use Rattle.cell_rules.specs.History.{after, posture_given, plates_at}
-use Rattle.cell_rules.specs.Laws.{OneHolder, PlatesAreKept, PostureByEvents, RunsClear, BeltsRunClear}
+use Rattle.cell_rules.specs.Types.{Machine, Feed, Deposit, Zone, Z1, Z2, Z3, Z4, Z5, Z6, Place, FeedEnd, DepEnd}
+use Rattle.cell_rules.specs.Types.{Posture, Closed, Moving, OpenIn, OpenOut, Pose, Running, Call, Claim, Give, Yield}
+use Rattle.cell_rules.specs.Types.{Take, Release, SetPose, Advance, Inquire, Stop, Resume, Answer, Done, Shown}
+use Rattle.cell_rules.specs.Types.{Refused, Event, PlaceFull, InUse, host_of, transfer_of, posture_of, same_machine}
+use Rattle.cell_rules.specs.Types.{same_zone, same_posture, same_pose, one_posture}
+use Rattle.cell_rules.specs.Names.{PlaceSet, has, ModelState, zone_at, is_full, one_if, implies, is_party, owns}
+use Rattle.cell_rules.specs.Names.{owner_of, posture_at, transfer_given, given_by, give_refusal, yield_refusal}
+use Rattle.cell_rules.specs.Names.{release_refusal, pose_refusal, reply, changed, next, next_by, emptied, filled}
+use Rattle.cell_rules.specs.Names.{is_belt_of, after, posture_given, plates_at, OneHolder, PlatesAreKept}
+use Rattle.cell_rules.specs.Names.{PostureByEvents, RunsClear, BeltsRunClear}
 use Rattle.cell_rules.proofs.Tables.{implied, all_machines, from_machines, all_poses, from_poses, all_postures, from_postures}
 use Rattle.cell_rules.proofs.Done.{none_then, give_done}
 use Rattle.cell_rules.proofs.Plates.{fourth, emptied_fewer}

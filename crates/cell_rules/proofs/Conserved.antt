@@ -1,23 +1,14 @@
 -- The number of plates never changes, and the events determine where they are.
 use Rattle.std.proofs.Common.{◌≡◌, ℕ, ◌+◌, pos, ◌-ℤ◌, Bool, true, false, List, refl, sym, ap, ◌∙◌, arith}
 use Rattle.std.proofs.lemmas.Int.{ints}
-use Rattle.cell_types.specs.declared.machine.Machine.{Machine}
-use Rattle.cell_types.specs.declared.zone.Zone.{Zone}
-use Rattle.cell_types.specs.declared.zone.Zone.TheVariants.{Z1, Z2, Z3, Z4, Z5, Z6}
-use Rattle.cell_types.specs.declared.place.Place.{Place}
-use Rattle.cell_types.specs.declared.call.Call.{Call}
-use Rattle.cell_types.specs.declared.call.Call.TheVariants.{Claim, Give, Yield, Take, Release, SetPose, Advance, Inquire, Stop, Resume}
-use Rattle.cell_types.specs.declared.answer.Answer.TheVariants.{Done}
-use Rattle.cell_types.specs.declared.answer.Event.{Event}
+use Rattle.cell_rules.specs.Types.{Machine, Zone, Z1, Z2, Z3, Z4, Z5, Z6, Place, Call, Claim, Give, Yield, Take}
+use Rattle.cell_rules.specs.Types.{Release, SetPose, Advance, Inquire, Stop, Resume, Done, Event}
+use Rattle.cell_rules.specs.Names.{ZoneMap, zone_in, put_zone, map_zones, PlaceSet, has, put_place, ModelState}
+use Rattle.cell_rules.specs.Names.{zone_at, size_of, plates_of, one_if, IsSound, give_refusal, take_refusal}
+use Rattle.cell_rules.specs.Names.{advance_refusal, reply, changed, emptied, filled, worked, halted, is_belt_of}
+use Rattle.cell_rules.specs.Names.{IsLegal, PlatesAreKept}
 use Rattle.cell_rules.specs.declared.zones.ZoneState.{ZoneState}
-use Rattle.cell_rules.specs.ZoneMap.{ZoneMap, zone_in, put_zone, map_zones}
-use Rattle.cell_rules.specs.PlaceSet.{PlaceSet, has, put_place}
-use Rattle.cell_rules.specs.ModelState.{ModelState, zone_at, size_of, flags_of, plates_of, one_if}
-use Rattle.cell_rules.specs.Sound.{IsSound}
-use Rattle.cell_rules.specs.Refusals.{give_refusal, take_refusal, advance_refusal}
-use Rattle.cell_rules.specs.Reply.{reply, changed, emptied, filled, worked, halted, is_belt_of}
-use Rattle.cell_rules.specs.History.{IsLegal}
-use Rattle.cell_rules.specs.Laws.{PlatesAreKept}
+use Rattle.cell_rules.specs.ModelState.{flags_of}
 use Rattle.cell_rules.proofs.Puts.{each_zone, each_place}
 use Rattle.cell_rules.proofs.Kept.{claimed, yielded, released}
 use Rattle.cell_rules.proofs.Plates.{given, taken}

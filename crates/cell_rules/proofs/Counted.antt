@@ -4,24 +4,14 @@ use Rattle.std.proofs.Common.{◌≡◌, ℕ, ◌+◌, Bool, true, false, cond, 
 use Rattle.std.specs.Option.{option_eq}
 use Rattle.std.specs.List.{count_by}
 use Rattle.std.proofs.lemmas.List.Sums.{sum_by-cons}
-use Rattle.cell_types.specs.declared.machine.Machine.{Machine}
-use Rattle.cell_types.specs.declared.zone.Zone.{Zone}
-use Rattle.cell_types.specs.declared.place.Place.{Place}
-use Rattle.cell_types.specs.declared.zone.Transfer.{Transfer}
-use Rattle.cell_types.specs.declared.posture.Posture.{Posture}
-use Rattle.cell_types.specs.declared.call.Call.{Call}
-use Rattle.cell_types.specs.declared.call.Call.TheVariants.{Claim, Give, Yield, Take, Release, SetPose, Advance, Inquire, Stop, Resume}
-use Rattle.cell_types.specs.declared.answer.Answer.{Answer}
-use Rattle.cell_types.specs.declared.answer.Answer.TheVariants.{Done, Shown, Refused}
-use Rattle.cell_types.specs.declared.answer.Event.{Event}
-use Rattle.cell_types.specs.Tables.{transfer_of}
-use Rattle.cell_types.specs.Same.{same_machine, same_place, one_place}
-use Rattle.cell_rules.specs.PlaceSet.{PlaceSet, has, put_place}
-use Rattle.cell_rules.specs.ModelState.{ModelState, is_full, one_if}
-use Rattle.cell_rules.specs.Sound.{IsSound, implies}
-use Rattle.cell_rules.specs.Refusals.{give_refusal, take_refusal, advance_refusal, posture_at, given_by}
-use Rattle.cell_rules.specs.Reply.{reply, next, next_by, changed, emptied, filled, worked}
-use Rattle.cell_rules.specs.History.{after, IsLegal, is_done_answer, is_done, given_place, taken_place, is_place, fills, empties, is_filled_by, is_emptied_by}
+use Rattle.cell_rules.specs.Types.{Machine, Zone, Place, Transfer, Posture, Call, Claim, Give, Yield, Take, Release}
+use Rattle.cell_rules.specs.Types.{SetPose, Advance, Inquire, Stop, Resume, Answer, Done, Shown, Refused, Event}
+use Rattle.cell_rules.specs.Types.{transfer_of, same_machine, same_place, one_place}
+use Rattle.cell_rules.specs.Names.{PlaceSet, has, put_place, ModelState, is_full, one_if, IsSound, implies}
+use Rattle.cell_rules.specs.Names.{give_refusal, take_refusal, advance_refusal, posture_at, given_by, reply, next}
+use Rattle.cell_rules.specs.Names.{next_by, changed, emptied, filled, worked, after, IsLegal, is_done_answer, is_done}
+use Rattle.cell_rules.specs.Names.{fills, empties}
+use Rattle.cell_rules.specs.History.{given_place, taken_place, is_place, is_filled_by, is_emptied_by}
 use Rattle.cell_rules.proofs.Tables.{all_machines, from_machines, all_zones, from_zones, all_postures, from_postures, implied}
 use Rattle.cell_rules.proofs.Puts.{has-put}
 use Rattle.cell_rules.proofs.Transfers.{give_finds, take_finds, advance_finds}

@@ -1,22 +1,11 @@
 -- What holds if a call isn't refused.
 use Rattle.std.proofs.Common.{◌≡◌, ◌<◌, Bool, true, false, ◌&&◌, not, nat_lt, Option, Some, None, refl, is_none, is_some, ltb-true}
 use Rattle.std.specs.Bool.{then_some}
-use Rattle.cell_types.specs.declared.machine.Machine.{Machine}
-use Rattle.cell_types.specs.declared.machine.Machine.TheVariants.{Watch}
-use Rattle.cell_types.specs.declared.zone.Zone.{Zone}
-use Rattle.cell_types.specs.declared.zone.Zone.TheVariants.{Z1, Z2, Z3, Z4, Z5, Z6}
-use Rattle.cell_types.specs.declared.place.Place.{Place}
-use Rattle.cell_types.specs.declared.pose.Pose.{Pose}
-use Rattle.cell_types.specs.declared.zone.Transfer.{Transfer}
-use Rattle.cell_types.specs.declared.posture.Posture.TheVariants.{Moving}
-use Rattle.cell_types.specs.declared.answer.Refusal.{Refusal}
-use Rattle.cell_types.specs.declared.answer.Refusal.TheVariants.{Held, NoPose}
-use Rattle.cell_types.specs.Tables.{guest_of, transfer_of}
-use Rattle.cell_types.specs.Same.{same_machine, same_posture}
-use Rattle.cell_types.specs.Ways.{own_move_of}
+use Rattle.cell_rules.specs.Types.{Machine, Watch, Zone, Z1, Z2, Z3, Z4, Z5, Z6, Place, Pose, Transfer, Moving}
+use Rattle.cell_rules.specs.Types.{Refusal, Held, NoPose, guest_of, transfer_of, same_machine, same_posture}
+use Rattle.cell_rules.specs.Types.{own_move_of}
+use Rattle.cell_rules.specs.Names.{ModelState, zone_at, is_open, is_party, is_owned_by}
 use Rattle.cell_rules.specs.declared.zones.ZoneState.{ZoneState}
-use Rattle.cell_rules.specs.ModelState.{ModelState, zone_at}
-use Rattle.cell_rules.specs.Sound.{is_open, is_party, is_owned_by}
 use Rattle.cell_rules.specs.Refusals
 use Rattle.cell_rules.proofs.Tables.{and_both}
 use Rattle.cell_rules.proofs.Puts.{each_zone}

@@ -1,16 +1,11 @@
 -- While the cell isn't stopped, no condition that asks for it applies.
 use Rattle.std.proofs.Common.{◌≡◌, ◌+◌, Bool, true, false, ◌&&◌, Option, Some, None, refl, ap, ◌∙◌}
 use Rattle.std.specs.Bool.{then_some}
-use Rattle.cell_types.specs.declared.machine.Machine.{Machine}
-use Rattle.cell_types.specs.declared.call.Call.{Call}
-use Rattle.cell_types.specs.declared.call.Call.TheVariants.{Claim, Give, Yield, Take, Release, SetPose, Advance, Inquire, Stop, Resume}
-use Rattle.cell_types.specs.declared.answer.Refusal.{Refusal}
-use Rattle.cell_types.specs.declared.answer.Refusal.TheVariants.{Stopped}
-use Rattle.cell_rules.specs.ModelState.{ModelState}
+use Rattle.cell_rules.specs.Types.{Machine, Call, Claim, Give, Yield, Take, Release, SetPose, Advance, Inquire, Stop}
+use Rattle.cell_rules.specs.Types.{Resume, Refusal, Stopped, Answer, Done, Shown, Refused}
+use Rattle.cell_rules.specs.Names.{ModelState, refusal, reply, next_by, done_unless, stopped_after}
 use Rattle.cell_rules.specs.Refusals
-use Rattle.cell_types.specs.declared.answer.Answer.{Answer}
-use Rattle.cell_types.specs.declared.answer.Answer.TheVariants.{Done, Shown, Refused}
-use Rattle.cell_rules.specs.Reply.{refusal, reply, next_by, done_unless, zones_after, places_after, stopped_after}
+use Rattle.cell_rules.specs.Reply.{zones_after, places_after}
 use Rattle.cell_rules.specs.FirstVersion as first
 
 -- what is asked second never applies

@@ -1,21 +1,12 @@
 -- The flag of a zone counts its plates: at first, plus those given into it, minus those taken.
 use Rattle.std.proofs.Common.{◌≡◌, ◌+◌, Bool, true, false, cond, List, refl, sym, ap, ◌∙◌, if◌then◌else◌}
 use Rattle.std.specs.List.{count_by}
-use Rattle.cell_types.specs.declared.machine.Machine.{Machine}
-use Rattle.cell_types.specs.declared.zone.Zone.{Zone}
-use Rattle.cell_types.specs.declared.posture.Posture.TheVariants.{Closed}
-use Rattle.cell_types.specs.declared.call.Call.{Call}
-use Rattle.cell_types.specs.declared.call.Call.TheVariants.{Claim, Give, Yield, Take, Release, SetPose, Advance, Inquire, Stop, Resume}
-use Rattle.cell_types.specs.declared.answer.Answer.TheVariants.{Done}
-use Rattle.cell_types.specs.declared.answer.Event.{Event}
-use Rattle.cell_types.specs.Same.{same_zone}
+use Rattle.cell_rules.specs.Types.{Machine, Zone, Closed, Call, Claim, Give, Yield, Take, Release, SetPose, Advance}
+use Rattle.cell_rules.specs.Types.{Inquire, Stop, Resume, Done, Event, same_zone}
+use Rattle.cell_rules.specs.Names.{zone_in, put_zone, ModelState, zone_at, one_if, IsSound, give_refusal}
+use Rattle.cell_rules.specs.Names.{take_refusal, reply, posed, halted, is_belt_of, after, IsLegal, gives, takes}
 use Rattle.cell_rules.specs.declared.zones.ZoneState.{ZoneState}
-use Rattle.cell_rules.specs.ZoneMap.{zone_in, put_zone}
-use Rattle.cell_rules.specs.ModelState.{ModelState, zone_at, one_if}
-use Rattle.cell_rules.specs.Sound.{IsSound}
-use Rattle.cell_rules.specs.Refusals.{give_refusal, take_refusal}
-use Rattle.cell_rules.specs.Reply.{reply, posed, halted, is_belt_of}
-use Rattle.cell_rules.specs.History.{after, IsLegal, gives, takes, is_given_into, is_taken_from}
+use Rattle.cell_rules.specs.History.{is_given_into, is_taken_from}
 use Rattle.cell_rules.proofs.Puts.{zone_in-map, put_cases}
 use Rattle.cell_rules.proofs.Kept.{claimed, yielded, released}
 use Rattle.cell_rules.proofs.Plates.{given, taken}

@@ -1,22 +1,13 @@
 -- Jumps, handovers, refusals and changes along a history.
 use Rattle.std.proofs.Common.{◌≡◌, ◌≢◌, ℕ, ◌+◌, Bool, true, false, cond, ◌&&◌, not, None, List, [], ◌∷◌, ◌++◌, refl, sym, arith, subst}
 use Rattle.std.proofs.lemmas.List.Sums.{sum_by-cons}
-use Rattle.cell_types.specs.declared.machine.Machine.{Machine}
-use Rattle.cell_types.specs.declared.machine.Machine.TheVariants.{Press, Table}
-use Rattle.cell_types.specs.declared.zone.Zone.{Zone}
-use Rattle.cell_types.specs.declared.zone.Zone.TheVariants.{Z1, Z2, Z3}
-use Rattle.cell_types.specs.declared.posture.Posture.TheVariants.{Moving}
-use Rattle.cell_types.specs.declared.pose.Pose.{Pose}
-use Rattle.cell_types.specs.declared.pose.Pose.TheVariants.{Turning, Loading, Unloading, Travelling, Middle, Low, Top}
-use Rattle.cell_types.specs.declared.call.Call.{Call}
-use Rattle.cell_types.specs.declared.call.Call.TheVariants.{Give, Yield, Take, Release, SetPose}
-use Rattle.cell_types.specs.declared.answer.Event.{Event}
-use Rattle.cell_types.specs.Same.{same_machine}
-use Rattle.cell_rules.specs.ModelState.{ModelState}
-use Rattle.cell_rules.specs.Sound.{IsSound}
-use Rattle.cell_rules.specs.Refusals.{owns, owner_of, posture_at, pose_refusal}
-use Rattle.cell_rules.specs.History.{after, IsLegal, own_events, is_done, done_count, changes_by_others}
-use Rattle.cell_rules.specs.Laws.{Throughout, NoJump, HasZone, HandoverByHolder, ChangesAreCounted, done}
+use Rattle.cell_rules.specs.Types.{Machine, Press, Table, Zone, Z1, Z2, Z3, Moving, Pose, Turning, Loading, Unloading}
+use Rattle.cell_rules.specs.Types.{Travelling, Middle, Low, Top, Call, Give, Yield, Take, Release, SetPose, Event}
+use Rattle.cell_rules.specs.Types.{same_machine}
+use Rattle.cell_rules.specs.Names.{ModelState, IsSound, owns, owner_of, posture_at, pose_refusal, after, IsLegal}
+use Rattle.cell_rules.specs.Names.{own_events, is_done, done_count, changes_by_others, Throughout, HandoverByHolder}
+use Rattle.cell_rules.specs.Names.{done}
+use Rattle.cell_rules.specs.Laws.{NoJump, HasZone, ChangesAreCounted}
 use Rattle.cell_rules.specs.RefusalLaws.{RefusalsTellAlong, refused}
 use Rattle.cell_rules.proofs.Tables.{and_left, and_right}
 use Rattle.cell_rules.proofs.Done.{give_done, yield_done, take_done, release_done}

@@ -1,11 +1,7 @@
 -- Prefixes of histories, and the states after them.
 use Rattle.std.proofs.Common.{◌≡◌, List, [], ◌∷◌, ◌++◌, refl, subst}
 use Rattle.cell_types.specs.declared.answer.Event.{Event}
-use Rattle.cell_rules.specs.ModelState.{ModelState}
-use Rattle.cell_rules.specs.Sound.{IsSound}
-use Rattle.cell_rules.specs.Reply.{next}
-use Rattle.cell_rules.specs.History.{after, IsLegal}
-use Rattle.cell_rules.specs.Laws.{Throughout}
+use Rattle.cell_rules.specs.Names.{ModelState, IsSound, next, after, IsLegal, Throughout}
 use Rattle.cell_rules.proofs.Soundness.{next_keeps}
 
 pub after-append : (s : ModelState) (a b : List Event) → after s (a ++ b) ≡ after (after s a) b

@@ -1,18 +1,8 @@
 -- Laws of the holders of zones, for one legal history from a sound opening.
 use Rattle.std.proofs.Common.{◌≡◌, true, ◌||◌, is_none, List, sym, ap, ◌∙◌, ◌↔◌, IsTrue, subst}
-use Rattle.cell_types.specs.declared.machine.Machine.{Machine}
-use Rattle.cell_types.specs.declared.machine.Machine.TheVariants.{Robot, Press}
-use Rattle.cell_types.specs.declared.zone.Zone.{Zone}
-use Rattle.cell_types.specs.declared.zone.Zone.TheVariants.{Z3}
-use Rattle.cell_types.specs.declared.posture.Posture.TheVariants.{Moving}
-use Rattle.cell_types.specs.declared.answer.Event.{Event}
-use Rattle.cell_types.specs.Tables.{host_of, guest_of}
-use Rattle.cell_types.specs.Same.{same_posture}
-use Rattle.cell_rules.specs.ModelState.{ModelState}
-use Rattle.cell_rules.specs.Sound.{IsSound, is_owned_by, is_open}
-use Rattle.cell_rules.specs.Refusals.{owns, owner_of, posture_at}
-use Rattle.cell_rules.specs.History.{after, IsLegal, Holds, Moves}
-use Rattle.cell_rules.specs.Laws.{OneHolder, MoverIsHost, GuestOnlyWhileOpen}
+use Rattle.cell_rules.specs.Types.{Machine, Robot, Press, Zone, Z3, Moving, Event, host_of, guest_of, same_posture}
+use Rattle.cell_rules.specs.Names.{ModelState, IsSound, is_owned_by, is_open, owns, owner_of, posture_at, after}
+use Rattle.cell_rules.specs.Names.{IsLegal, Holds, Moves, OneHolder, MoverIsHost, GuestOnlyWhileOpen}
 use Rattle.cell_rules.proofs.Tables.{implied}
 use Rattle.cell_rules.proofs.Histories.{sound-after}
 use Rattle.cell_rules.proofs.Holders.{owner_is}

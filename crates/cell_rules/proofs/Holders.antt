@@ -1,22 +1,15 @@
 -- A machine that holds a zone, by the test of each event, owns it in the state after.
 use Rattle.std.proofs.Common.{◌≡◌, Bool, true, false, ◌&&◌, ◌||◌, not, Option, Some, None, is_none, List, [], ◌∷◌, refl, sym, ap, ◌∙◌, subst, if◌then◌else◌}
 use Rattle.std.proofs.Math.Bool.{and-true, and-false}
-use Rattle.cell_types.specs.declared.machine.Machine.{Machine}
-use Rattle.cell_types.specs.declared.zone.Zone.{Zone}
-use Rattle.cell_types.specs.declared.posture.Posture.TheVariants.{Closed}
-use Rattle.cell_types.specs.declared.call.Call.{Call}
-use Rattle.cell_types.specs.declared.call.Call.TheVariants.{Claim, Give, Yield, Take, Release, SetPose, Advance, Inquire, Stop, Resume}
-use Rattle.cell_types.specs.declared.answer.Answer.{Answer}
-use Rattle.cell_types.specs.declared.answer.Answer.TheVariants.{Done, Shown, Refused}
-use Rattle.cell_types.specs.declared.answer.Event.{Event}
-use Rattle.cell_types.specs.Same.{same_machine, same_zone, one_machine}
+use Rattle.cell_rules.specs.Types.{Machine, Zone, Closed, Call, Claim, Give, Yield, Take, Release, SetPose, Advance}
+use Rattle.cell_rules.specs.Types.{Inquire, Stop, Resume, Answer, Done, Shown, Refused, Event, same_machine}
+use Rattle.cell_rules.specs.Types.{same_zone, one_machine}
+use Rattle.cell_rules.specs.Names.{zone_in, put_zone, ModelState, zone_at, is_owned_by, is_party, owns, owner_of}
+use Rattle.cell_rules.specs.Names.{claim_refusal, give_refusal, yield_refusal, take_refusal, release_refusal, reply}
+use Rattle.cell_rules.specs.Names.{next, next_by, changed, other_party, posed, halted, is_belt_of, after, IsLegal}
+use Rattle.cell_rules.specs.Names.{is_done_answer, is_gain, is_loss}
 use Rattle.cell_rules.specs.declared.zones.ZoneState.{ZoneState}
-use Rattle.cell_rules.specs.ZoneMap.{zone_in, put_zone}
-use Rattle.cell_rules.specs.ModelState.{ModelState, zone_at}
-use Rattle.cell_rules.specs.Sound.{is_owned_by, is_party}
-use Rattle.cell_rules.specs.Refusals.{owns, owner_of, claim_refusal, give_refusal, yield_refusal, take_refusal, release_refusal}
-use Rattle.cell_rules.specs.Reply.{reply, next, next_by, changed, other_party, posed, halted, is_belt_of}
-use Rattle.cell_rules.specs.History.{after, IsLegal, is_done_answer, gains, loses, is_gain, is_loss}
+use Rattle.cell_rules.specs.History.{gains, loses}
 use Rattle.cell_rules.proofs.Tables.{and_left, and_right, from_machines}
 use Rattle.cell_rules.proofs.Puts.{each_zone, zone_in-map, zone_in-kept, put_cases}
 use Rattle.cell_rules.proofs.Done.{claim_done, give_done, yield_done, take_done, release_done}

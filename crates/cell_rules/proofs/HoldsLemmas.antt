@@ -3,12 +3,9 @@
 use Rattle.std.proofs.Common.{◌≡◌, Bool, true, false, ◌&&◌, ◌||◌, not, List, [], ◌∷◌, ◌++◌, ◌⊎◌, inl, inr, refl, sym, ap, ◌∙◌, ◌↔◌, IsTrue}
 use Rattle.std.proofs.lemmas.Bool.{or_left, or_right, false_from_ne_true}
 use Rattle.std.proofs.lemmas.List.Elements.{All-nil, All-cons, All-head, All-tail}
-use Rattle.cell_types.specs.declared.machine.Machine.{Machine}
-use Rattle.cell_types.specs.declared.zone.Zone.{Zone}
-use Rattle.cell_types.specs.declared.answer.Event.{Event}
-use Rattle.cell_rules.specs.ModelState.{ModelState}
-use Rattle.cell_rules.specs.Refusals.{owns}
-use Rattle.cell_rules.specs.History.{after, IsLegal, is_gain, is_loss, IsLoss, LosesNothing, GainsAndKeeps, Holds}
+use Rattle.cell_rules.specs.Types.{Machine, Zone, Event}
+use Rattle.cell_rules.specs.Names.{ModelState, owns, after, IsLegal, is_gain, is_loss, Holds}
+use Rattle.cell_rules.specs.History.{IsLoss, LosesNothing, GainsAndKeeps}
 use Rattle.cell_rules.proofs.Done.{not_true}
 use Rattle.cell_rules.proofs.Held.{holds_since, holds}
 use Rattle.cell_rules.proofs.Holders.{owns-after}

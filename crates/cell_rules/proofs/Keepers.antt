@@ -1,20 +1,9 @@
 -- A machine's own places stay while it makes no event.
 use Rattle.std.proofs.Common.{◌≡◌, ◌+◌, Bool, true, false, ◌||◌, ◌&&◌, cond, List, [], ◌∷◌, ◌++◌, refl, ap, ◌∙◌}
-use Rattle.cell_types.specs.declared.machine.Machine.{Machine}
-use Rattle.cell_types.specs.declared.zone.Zone.{Zone}
-use Rattle.cell_types.specs.declared.zone.Zone.TheVariants.{Z1}
-use Rattle.cell_types.specs.declared.place.Place.{Place}
-use Rattle.cell_types.specs.declared.call.Call.{Call}
-use Rattle.cell_types.specs.declared.call.Call.TheVariants.{Give, Take, Advance}
-use Rattle.cell_types.specs.declared.answer.Answer.{Answer}
-use Rattle.cell_types.specs.declared.answer.Answer.TheVariants.{Done, Shown, Refused}
-use Rattle.cell_types.specs.declared.answer.Event.{Event}
-use Rattle.cell_types.specs.Same.{same_machine}
-use Rattle.cell_types.specs.Ways.{keeper_of}
-use Rattle.cell_rules.specs.ModelState.{ModelState, is_full, one_if}
-use Rattle.cell_rules.specs.Sound.{IsSound, implies}
-use Rattle.cell_rules.specs.Reply.{reply, next, next_by, changed}
-use Rattle.cell_rules.specs.History.{after, IsLegal, own_events, fills, empties}
+use Rattle.cell_rules.specs.Types.{Machine, Zone, Z1, Place, Call, Give, Take, Advance, Answer, Done, Shown, Refused}
+use Rattle.cell_rules.specs.Types.{Event, same_machine, keeper_of}
+use Rattle.cell_rules.specs.Names.{ModelState, is_full, one_if, IsSound, implies, reply, next, next_by, changed}
+use Rattle.cell_rules.specs.Names.{after, IsLegal, own_events, fills, empties}
 use Rattle.cell_rules.specs.Laws.{RightLasts}
 use Rattle.cell_rules.proofs.Tables.{all_machines, from_machines, all_zones, from_zones, all_places, from_places, and_left, and_right}
 use Rattle.cell_rules.proofs.Counted.{place-changed}

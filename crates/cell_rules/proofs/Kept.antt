@@ -1,16 +1,9 @@
 -- A call that is Done keeps a sound state sound.
 use Rattle.std.proofs.Common.{◌≡◌, ◌+◌, ◌≤◌, Bool, true, ◌&&◌, Some, None, refl, arith}
-use Rattle.cell_types.specs.declared.machine.Machine.{Machine}
-use Rattle.cell_types.specs.declared.zone.Zone.{Zone}
-use Rattle.cell_types.specs.declared.call.Call.TheVariants.{Claim, Yield, Release}
+use Rattle.cell_rules.specs.Types.{Machine, Zone, Claim, Yield, Release, PressIn, PressOut, transfer_of}
+use Rattle.cell_rules.specs.Names.{PlaceSet, has, ModelState, zone_at, IsSound, implies, is_onto_full, claim_refusal}
+use Rattle.cell_rules.specs.Names.{yield_refusal, release_refusal, changed, other_party}
 use Rattle.cell_rules.specs.declared.zones.ZoneState.{ZoneState}
-use Rattle.cell_types.specs.declared.place.Place.TheVariants.{PressIn, PressOut}
-use Rattle.cell_types.specs.Tables.{transfer_of}
-use Rattle.cell_rules.specs.PlaceSet.{PlaceSet, has}
-use Rattle.cell_rules.specs.ModelState.{ModelState, zone_at}
-use Rattle.cell_rules.specs.Sound.{IsSound, implies, is_onto_full}
-use Rattle.cell_rules.specs.Refusals.{claim_refusal, yield_refusal, release_refusal}
-use Rattle.cell_rules.specs.Reply.{changed, other_party}
 use Rattle.cell_rules.proofs.Tables.{all_bools, from_bools, all_machines, from_machines, all_zones, from_zones, all_states, from_states, implied, and_both}
 use Rattle.cell_rules.proofs.Puts.{zone_in-kept}
 use Rattle.cell_rules.proofs.Lawful.{is_lawful, lawful_in, lawful_from, sound_from}

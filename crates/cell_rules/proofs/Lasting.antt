@@ -1,25 +1,14 @@
 -- What a machine holds lasts while the machine does nothing.
 use Rattle.std.proofs.Common.{◌≡◌, Bool, true, false, ◌&&◌, not, cond, Option, Some, None, List, [], ◌∷◌, ◌++◌, refl, sym, ap, ◌∙◌, if◌then◌else◌, unwrap_or}
 use Rattle.std.proofs.lemmas.Bool.{false_from_ne_true}
-use Rattle.cell_types.specs.declared.machine.Machine.{Machine}
-use Rattle.cell_types.specs.declared.machine.Machine.TheVariants.{Feed, Deposit}
-use Rattle.cell_types.specs.declared.zone.Zone.{Zone}
-use Rattle.cell_types.specs.declared.posture.Posture.{Posture}
-use Rattle.cell_types.specs.declared.posture.Posture.TheVariants.{Closed, Moving, OpenIn, OpenOut}
-use Rattle.cell_types.specs.declared.call.Call.{Call}
-use Rattle.cell_types.specs.declared.call.Call.TheVariants.{Claim, Give, Yield, Take, Release, SetPose, Advance, Inquire, Stop, Resume}
-use Rattle.cell_types.specs.declared.answer.Answer.{Answer}
-use Rattle.cell_types.specs.declared.answer.Answer.TheVariants.{Done, Shown, Refused}
-use Rattle.cell_types.specs.declared.answer.Event.{Event}
-use Rattle.cell_types.specs.Tables.{host_of, posture_of}
-use Rattle.cell_types.specs.Same.{same_machine, same_posture, one_machine}
+use Rattle.cell_rules.specs.Types.{Machine, Feed, Deposit, Zone, Posture, Closed, Moving, OpenIn, OpenOut, Call}
+use Rattle.cell_rules.specs.Types.{Claim, Give, Yield, Take, Release, SetPose, Advance, Inquire, Stop, Resume, Answer}
+use Rattle.cell_rules.specs.Types.{Done, Shown, Refused, Event, host_of, posture_of, same_machine, same_posture}
+use Rattle.cell_rules.specs.Types.{one_machine}
+use Rattle.cell_rules.specs.Names.{zone_in, put_zone, ModelState, zone_at, IsSound, is_owned_by, owns, owner_of}
+use Rattle.cell_rules.specs.Names.{pose_refusal, advance_refusal, reply, next, next_by, changed, posed, halted}
+use Rattle.cell_rules.specs.Names.{is_belt_of, after, IsLegal, Holds, own_events}
 use Rattle.cell_rules.specs.declared.zones.ZoneState.{ZoneState}
-use Rattle.cell_rules.specs.ZoneMap.{zone_in, put_zone}
-use Rattle.cell_rules.specs.ModelState.{ModelState, zone_at}
-use Rattle.cell_rules.specs.Sound.{IsSound, is_owned_by}
-use Rattle.cell_rules.specs.Refusals.{owns, owner_of, pose_refusal, advance_refusal}
-use Rattle.cell_rules.specs.Reply.{reply, next, next_by, changed, posed, halted, is_belt_of}
-use Rattle.cell_rules.specs.History.{after, IsLegal, Holds, own_events}
 use Rattle.cell_rules.proofs.Tables.{implied}
 use Rattle.cell_rules.proofs.Puts.{zone_in-map, put_cases}
 use Rattle.cell_rules.proofs.Done.{advance_done}

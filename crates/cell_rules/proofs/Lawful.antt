@@ -1,17 +1,11 @@
 -- What soundness says of one zone, as one test.
 use Rattle.std.proofs.Common.{◌≡◌, ◌≤◌, Bool, true, false, ◌&&◌, not, is_none, refl, sym, ◌∙◌}
 use Rattle.std.specs.Bool.{beq}
-use Rattle.cell_types.specs.declared.zone.Zone.{Zone}
-use Rattle.cell_types.specs.declared.zone.Zone.TheVariants.{Z3}
-use Rattle.cell_types.specs.declared.place.Place.TheVariants.{PressIn, PressOut}
-use Rattle.cell_types.specs.declared.posture.Posture.{Posture}
-use Rattle.cell_types.specs.declared.posture.Posture.TheVariants.{Closed, Moving, OpenIn, OpenOut}
-use Rattle.cell_types.specs.Tables.{transfer_of}
-use Rattle.cell_types.specs.Same.{same_posture}
+use Rattle.cell_rules.specs.Types.{Zone, Z3, PressIn, PressOut, Posture, Closed, Moving, OpenIn, OpenOut, transfer_of}
+use Rattle.cell_rules.specs.Types.{same_posture}
+use Rattle.cell_rules.specs.Names.{PlaceSet, has, ModelState, zone_at, IsSound, implies, has_lawful_owner}
+use Rattle.cell_rules.specs.Names.{is_onto_full, is_lawful_plate, is_open_to_guest, moves_by_host, is_of_some_pose}
 use Rattle.cell_rules.specs.declared.zones.ZoneState.{ZoneState}
-use Rattle.cell_rules.specs.PlaceSet.{PlaceSet, has}
-use Rattle.cell_rules.specs.ModelState.{ModelState, zone_at}
-use Rattle.cell_rules.specs.Sound.{IsSound, implies, has_lawful_owner, is_onto_full, is_lawful_plate, is_open_to_guest, moves_by_host, is_of_some_pose}
 use Rattle.cell_rules.proofs.Puts.{each_zone}
 use Rattle.cell_rules.proofs.Tables.{and_both, all_zones, from_zones, all_postures, from_postures}
 

@@ -1,28 +1,18 @@
 -- A pose and an advance keep a sound state sound.
 use Rattle.std.proofs.Common.{◌≡◌, ◌+◌, ◌<◌, ◌≤◌, Bool, true, false, ◌&&◌, ◌||◌, not, cond, Option, Some, None, if◌then◌else◌, refl, sym, ap, ◌∙◌, subst, arith, unwrap_or}
 use Rattle.std.specs.Bool.{beq}
-use Rattle.cell_types.specs.declared.machine.Machine.{Machine}
-use Rattle.cell_types.specs.declared.machine.Machine.TheVariants.{Feed, Table, Robot, Press, Deposit, Crane, Watch}
-use Rattle.cell_types.specs.declared.zone.Zone.{Zone}
-use Rattle.cell_types.specs.declared.zone.Zone.TheVariants.{Z1, Z2, Z3, Z4, Z5, Z6}
-use Rattle.cell_types.specs.declared.place.Place.{Place}
-use Rattle.cell_types.specs.declared.place.Place.TheVariants.{FeedEntry, FeedEnd, DepEntry, DepEnd, PressIn, PressOut}
-use Rattle.cell_types.specs.declared.zone.Transfer.{Transfer}
-use Rattle.cell_types.specs.declared.posture.Posture.{Posture}
-use Rattle.cell_types.specs.declared.posture.Posture.TheVariants.{Closed, Moving, OpenIn, OpenOut}
-use Rattle.cell_types.specs.declared.pose.Pose.{Pose}
-use Rattle.cell_types.specs.declared.answer.Refusal.TheVariants.{PlaceFull, NotOwner, PlateInZone}
-use Rattle.cell_types.specs.declared.call.Call.TheVariants.{SetPose, Advance}
-use Rattle.cell_types.specs.Tables.{host_of, transfer_of, posture_of}
-use Rattle.cell_types.specs.Same.{same_place, same_zone, same_machine, same_posture}
+use Rattle.cell_rules.specs.Types.{Machine, Feed, Table, Robot, Press, Deposit, Crane, Watch, Zone, Z1, Z2, Z3, Z4}
+use Rattle.cell_rules.specs.Types.{Z5, Z6, Place, FeedEntry, FeedEnd, DepEntry, DepEnd, PressIn, PressOut, Transfer}
+use Rattle.cell_rules.specs.Types.{Posture, Closed, Moving, OpenIn, OpenOut, Pose, PlaceFull, NotOwner, PlateInZone}
+use Rattle.cell_rules.specs.Types.{SetPose, Advance, host_of, transfer_of, posture_of, same_place, same_zone}
+use Rattle.cell_rules.specs.Types.{same_machine, same_posture}
+use Rattle.cell_rules.specs.Names.{zone_in, map_zones, PlaceSet, has, put_place, ModelState, zone_at, IsSound}
+use Rattle.cell_rules.specs.Names.{implies, is_onto_full, is_owned_by, pose_refusal, advance_refusal, owner_of, owns}
+use Rattle.cell_rules.specs.Names.{posture_at, is_moving_pose, is_blocked, opens_onto_plate, changed, is_belt_of}
+use Rattle.cell_rules.specs.Names.{halted, posed}
 use Rattle.cell_rules.specs.declared.zones.ZoneState.{ZoneState}
-use Rattle.cell_rules.specs.ZoneMap.{zone_in, map_zones}
-use Rattle.cell_rules.specs.PlaceSet.{PlaceSet, has, put_place}
-use Rattle.cell_rules.specs.ModelState.{ModelState, zone_at}
-use Rattle.cell_rules.specs.Sound.{IsSound, implies, is_onto_full, is_owned_by}
-use Rattle.cell_rules.specs.Refusals.{pose_refusal, advance_refusal, owner_of, owns, posture_at, is_concerned, is_moving_pose, is_blocked, unowned_by_pose, plate_under_pose, opens_onto_plate, is_at_work}
+use Rattle.cell_rules.specs.Refusals.{is_concerned, unowned_by_pose, plate_under_pose, is_at_work}
 use Rattle.cell_rules.specs.Refusals as refusals
-use Rattle.cell_rules.specs.Reply.{changed, is_belt_of, halted, posed}
 use Rattle.cell_rules.proofs.Tables.{all_bools, from_bools, all_machines, from_machines, all_zones, from_zones, all_postures, from_postures, all_poses, from_poses, implied, and_both, and_left, and_right}
 use Rattle.cell_rules.proofs.Puts.{each_zone, has-put}
 use Rattle.cell_rules.proofs.Lawful.{can_be_in, is_lawful, lawful_in, lawful_from, sound_from}

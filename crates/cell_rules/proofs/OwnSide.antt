@@ -1,25 +1,10 @@
 -- What another machine's call leaves unchanged: a zone that the machine owns, the postures of the zones that it hosts,
 -- and its places.
 use Rattle.std.proofs.Common.{◌≡◌, Bool, true, false, cond, Option, Some, None, is_some, unwrap_or, [], ◌∷◌, refl, ap, ◌∙◌, if◌then◌else◌}
-use Rattle.cell_types.specs.declared.machine.Machine.{Machine}
-use Rattle.cell_types.specs.declared.zone.Zone.{Zone}
-use Rattle.cell_types.specs.declared.place.Place.{Place}
-use Rattle.cell_types.specs.declared.pose.Pose.{Pose}
-use Rattle.cell_types.specs.declared.posture.Posture.{Posture}
-use Rattle.cell_types.specs.declared.posture.Posture.TheVariants.{Closed}
-use Rattle.cell_types.specs.declared.call.Call.{Call}
-use Rattle.cell_types.specs.declared.call.Call.TheVariants.{SetPose, Advance}
-use Rattle.cell_types.specs.declared.answer.Answer.{Answer}
-use Rattle.cell_types.specs.declared.answer.Answer.TheVariants.{Done, Shown, Refused}
-use Rattle.cell_types.specs.Tables.{host_of, posture_of}
-use Rattle.cell_types.specs.Same.{same_machine}
-use Rattle.cell_types.specs.Ways.{keeper_of}
-use Rattle.cell_rules.specs.ModelState.{ModelState, zone_at, is_full}
-use Rattle.cell_rules.specs.Sound.{IsSound, implies}
-use Rattle.cell_rules.specs.Refusals.{owns, posture_at}
-use Rattle.cell_rules.specs.Reply.{reply, next, next_by, changed, is_belt_of}
-use Rattle.cell_rules.specs.History.{posture_given, own_events}
-use Rattle.cell_rules.specs.Seen.{event}
+use Rattle.cell_rules.specs.Types.{Machine, Zone, Place, Pose, Posture, Closed, Call, SetPose, Advance, Answer, Done}
+use Rattle.cell_rules.specs.Types.{Shown, Refused, host_of, posture_of, same_machine, keeper_of}
+use Rattle.cell_rules.specs.Names.{ModelState, zone_at, is_full, IsSound, implies, owns, posture_at, reply, next}
+use Rattle.cell_rules.specs.Names.{next_by, changed, is_belt_of, posture_given, own_events, event}
 use Rattle.cell_rules.proofs.Tables.{all_machines, from_machines, all_zones, from_zones, all_poses, from_poses}
 use Rattle.cell_rules.proofs.Postures.{posture-changed}
 use Rattle.cell_rules.proofs.Lasting.{zone_at-after}

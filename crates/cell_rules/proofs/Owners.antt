@@ -1,25 +1,12 @@
 -- If a machine holds each zone that its call needs, the call isn't refused for the owner of one.
 use Rattle.std.proofs.Common.{◌≡◌, Bool, true, false, ◌&&◌, not, cond, Option, Some, List, [], ◌∷◌, filter, refl, sym, ap, ◌∙◌, subst}
 use Rattle.std.specs.List.{list_all}
-use Rattle.cell_types.specs.declared.machine.Machine.{Machine}
-use Rattle.cell_types.specs.declared.machine.Machine.TheVariants.{Press}
-use Rattle.cell_types.specs.declared.zone.Zone.{Zone}
-use Rattle.cell_types.specs.declared.zone.Zone.TheVariants.{Z3}
-use Rattle.cell_types.specs.declared.posture.Posture.{Posture}
-use Rattle.cell_types.specs.declared.pose.Pose.{Pose}
-use Rattle.cell_types.specs.declared.call.Call.{Call}
-use Rattle.cell_types.specs.declared.call.Call.TheVariants.{Claim, Give, Yield, Take, Release, SetPose, Advance, Inquire, Stop, Resume}
-use Rattle.cell_types.specs.declared.answer.Refusal.TheVariants.{NotOwner}
-use Rattle.cell_types.specs.declared.answer.Answer.{Answer}
-use Rattle.cell_types.specs.declared.answer.Event.{Event}
-use Rattle.cell_types.specs.Tables.{host_of}
-use Rattle.cell_types.specs.Same.{same_machine, same_zone, one_machine}
-use Rattle.cell_rules.specs.ModelState.{ModelState}
-use Rattle.cell_rules.specs.Sound.{IsSound}
-use Rattle.cell_rules.specs.Refusals.{owns}
-use Rattle.cell_rules.specs.Reply.{reply}
-use Rattle.cell_rules.specs.History.{after, IsLegal}
-use Rattle.cell_rules.specs.Causes.{is_cause, is_anothers, is_owned_as, is_changed, on_zone, lowest, zones_posed}
+use Rattle.cell_rules.specs.Types.{Machine, Press, Zone, Z3, Posture, Pose, Call, Claim, Give, Yield, Take, Release}
+use Rattle.cell_rules.specs.Types.{SetPose, Advance, Inquire, Stop, Resume, NotOwner, Answer, Event, host_of}
+use Rattle.cell_rules.specs.Types.{same_machine, same_zone, one_machine}
+use Rattle.cell_rules.specs.Names.{ModelState, IsSound, owns, reply, after, IsLegal, is_cause, is_owned_as}
+use Rattle.cell_rules.specs.Names.{is_changed, on_zone, lowest, zones_posed}
+use Rattle.cell_rules.specs.Causes.{is_anothers}
 use Rattle.cell_rules.specs.Rights.{KeepsItsOwn, needs, NamesNoOwner, IsNeverDisowned}
 use Rattle.cell_rules.proofs.Tables.{from_machines, from_zones, from_poses, all_machines, all_poses, Passed, passed, and_both}
 use Rattle.cell_rules.proofs.Histories.{sound-after}

@@ -1,21 +1,12 @@
 -- A call that moves a plate keeps a sound state sound.
 use Rattle.std.proofs.Common.{◌≡◌, ◌+◌, ◌≤◌, Bool, true, false, ◌&&◌, ◌||◌, not, cond, Option, Some, None, is_some, if◌then◌else◌, refl, sym, ap, ◌∙◌, subst, arith}
-use Rattle.cell_types.specs.declared.machine.Machine.{Machine}
-use Rattle.cell_types.specs.declared.zone.Zone.{Zone}
-use Rattle.cell_types.specs.declared.place.Place.{Place}
-use Rattle.cell_types.specs.declared.place.Place.TheVariants.{PressIn, PressOut}
-use Rattle.cell_types.specs.declared.zone.Transfer.{Transfer}
-use Rattle.cell_types.specs.declared.posture.Posture.{Posture}
-use Rattle.cell_types.specs.declared.answer.Refusal.TheVariants.{PlaceFull}
-use Rattle.cell_types.specs.declared.call.Call.TheVariants.{Give, Take}
-use Rattle.cell_types.specs.Tables.{transfer_of}
-use Rattle.cell_types.specs.Same.{same_place, same_zone, same_machine}
+use Rattle.cell_rules.specs.Types.{Machine, Zone, Place, PressIn, PressOut, Transfer, Posture, PlaceFull, Give, Take}
+use Rattle.cell_rules.specs.Types.{transfer_of, same_place, same_zone, same_machine}
+use Rattle.cell_rules.specs.Names.{PlaceSet, has, ModelState, zone_at, IsSound, implies, is_onto_full, is_party}
+use Rattle.cell_rules.specs.Names.{is_owned_by, give_refusal, take_refusal, transfer_given, given_by, changed}
+use Rattle.cell_rules.specs.Names.{other_party, emptied, filled}
 use Rattle.cell_rules.specs.declared.zones.ZoneState.{ZoneState}
-use Rattle.cell_rules.specs.PlaceSet.{PlaceSet, has}
-use Rattle.cell_rules.specs.ModelState.{ModelState, zone_at}
-use Rattle.cell_rules.specs.Sound.{IsSound, implies, is_onto_full, is_party, is_owned_by}
-use Rattle.cell_rules.specs.Refusals.{give_refusal, take_refusal, transfer_given, given_by, no_room}
-use Rattle.cell_rules.specs.Reply.{changed, other_party, emptied, filled}
+use Rattle.cell_rules.specs.Refusals.{no_room}
 use Rattle.cell_rules.proofs.Tables.{all_bools, from_bools, all_zones, from_zones, all_states, from_states, all_postures, from_postures, implied, and_both}
 use Rattle.cell_rules.proofs.Puts.{zone_in-kept, put_cases, has-put}
 use Rattle.cell_rules.proofs.Lawful.{is_lawful, lawful_in, lawful_from, sound_from}

@@ -2,24 +2,18 @@
 use Rattle.std.proofs.Common.{◌≡◌, ◌≤◌, ℕ, Bool, true, false, cond, ◌&&◌, ◌||◌, not, nat_lt, Option, Some, None, option_map, List, [], ◌∷◌, filter, is_none, refl, sym, ap, ◌∙◌, subst}
 use Rattle.std.specs.Bool.{then_some}
 use Rattle.std.specs.Option.{option_eq}
-use Rattle.cell_types.specs.declared.machine.Machine.{Machine}
-use Rattle.cell_types.specs.declared.machine.Machine.TheVariants.{Feed, Press, Deposit, Table as TableMachine}
-use Rattle.cell_types.specs.declared.zone.Zone.{Zone}
-use Rattle.cell_types.specs.declared.zone.Zone.TheVariants.{Z1, Z2, Z3, Z4, Z5, Z6}
-use Rattle.cell_types.specs.declared.place.Place.{Place}
-use Rattle.cell_types.specs.declared.place.Place.TheVariants.{FeedEntry, FeedEnd, PressIn, PressOut, DepEntry, DepEnd}
-use Rattle.cell_types.specs.declared.posture.Posture.{Posture}
-use Rattle.cell_types.specs.declared.posture.Posture.TheVariants.{Moving, OpenIn}
-use Rattle.cell_types.specs.declared.pose.Pose.{Pose}
-use Rattle.cell_types.specs.declared.pose.Pose.TheVariants.{Turning, Loading, Unloading, Travelling, Middle, Low, Top, Running, Landing, Halted, Offering, Standing}
-use Rattle.cell_types.specs.declared.answer.Refusal.{Refusal}
-use Rattle.cell_types.specs.declared.answer.Refusal.TheVariants.{NotOwner, PlateInZone, NoPlate, PlaceFull, Jump, NotAtWork, NoPose, Worn, Stopped}
-use Rattle.cell_types.specs.Same.{same_machine, same_zone, same_posture, same_pose}
-use Rattle.cell_types.specs.Ways.{own_move_of}
-use Rattle.cell_rules.specs.ModelState.{ModelState, is_full}
+use Rattle.cell_rules.specs.Types.{Machine, Feed, Press, Deposit, Zone, Z1, Z2, Z3, Z4, Z5, Z6, Place, FeedEntry}
+use Rattle.cell_rules.specs.Types.{FeedEnd, PressIn, PressOut, DepEntry, DepEnd, Posture, Moving, OpenIn, Pose}
+use Rattle.cell_rules.specs.Types.{Turning, Loading, Unloading, Travelling, Middle, Low, Top, Running, Landing}
+use Rattle.cell_rules.specs.Types.{Halted, Offering, Standing, Refusal, NotOwner, PlateInZone, NoPlate, PlaceFull}
+use Rattle.cell_rules.specs.Types.{Jump, NotAtWork, NoPose, Worn, Stopped, same_machine, same_zone, same_posture}
+use Rattle.cell_rules.specs.Types.{same_pose, own_move_of}
+use Rattle.cell_types.specs.declared.machine.Machine.TheVariants.{Table as TableMachine}
+use Rattle.cell_rules.specs.Names.{ModelState, is_full, owner_of, posture_at, owns, zones_posed, is_changed}
+use Rattle.cell_rules.specs.Names.{is_owned_as, on_zone, lowest}
 use Rattle.cell_rules.specs.Refusals
-use Rattle.cell_rules.specs.Refusals.{◌or◌, owner_of, posture_at, owns, first_zone}
-use Rattle.cell_rules.specs.Causes.{zones_posed, is_changed, is_owned_as, has_plate, on_zone, lowest, jumps, is_moving, lacks_room, pose_cause, advance_cause}
+use Rattle.cell_rules.specs.Refusals.{◌or◌, first_zone}
+use Rattle.cell_rules.specs.Causes.{has_plate, jumps, is_moving, lacks_room, pose_cause, advance_cause}
 use Rattle.cell_rules.proofs.Chains.{chain, Tells, head_on}
 use Rattle.cell_rules.proofs.Tellings.{plain, names_owner, names_zone, worn_at}
 use Rattle.cell_rules.proofs.Causing.{TellsRight, AllNamed, by_lines}

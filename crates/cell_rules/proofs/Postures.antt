@@ -1,19 +1,11 @@
 -- The posture by the events is the one in the state after.
 use Rattle.std.proofs.Common.{◌≡◌, Bool, true, false, List, [], ◌∷◌, refl, sym, ap, ◌∙◌, subst, if◌then◌else◌}
-use Rattle.cell_types.specs.declared.machine.Machine.{Machine}
-use Rattle.cell_types.specs.declared.zone.Zone.{Zone}
-use Rattle.cell_types.specs.declared.posture.Posture.TheVariants.{Closed}
-use Rattle.cell_types.specs.declared.call.Call.{Call}
-use Rattle.cell_types.specs.declared.call.Call.TheVariants.{Claim, Give, Yield, Take, Release, SetPose, Advance, Inquire, Stop, Resume}
-use Rattle.cell_types.specs.declared.answer.Answer.{Answer}
-use Rattle.cell_types.specs.declared.answer.Answer.TheVariants.{Done, Shown, Refused}
-use Rattle.cell_types.specs.declared.answer.Event.{Event}
+use Rattle.cell_rules.specs.Types.{Machine, Zone, Closed, Call, Claim, Give, Yield, Take, Release, SetPose, Advance}
+use Rattle.cell_rules.specs.Types.{Inquire, Stop, Resume, Answer, Done, Shown, Refused, Event}
+use Rattle.cell_rules.specs.Names.{zone_in, put_zone, ModelState, zone_at, posture_at, reply, next, next_by, changed}
+use Rattle.cell_rules.specs.Names.{posed, halted, is_belt_of, after, IsLegal, is_done_answer, posture_given}
+use Rattle.cell_rules.specs.Names.{posture_since, posture_by_events}
 use Rattle.cell_rules.specs.declared.zones.ZoneState.{ZoneState}
-use Rattle.cell_rules.specs.ZoneMap.{zone_in, put_zone}
-use Rattle.cell_rules.specs.ModelState.{ModelState, zone_at}
-use Rattle.cell_rules.specs.Refusals.{posture_at}
-use Rattle.cell_rules.specs.Reply.{reply, next, next_by, changed, posed, halted, is_belt_of}
-use Rattle.cell_rules.specs.History.{after, IsLegal, is_done_answer, posture_given, posture_since, posture_by_events}
 use Rattle.cell_rules.proofs.Puts.{zone_in-map, zone_in-kept}
 use Rattle.cell_rules.proofs.Kept.{claimed, yielded, released}
 use Rattle.cell_rules.proofs.Plates.{given, taken}

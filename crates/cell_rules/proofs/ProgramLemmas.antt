@@ -1,16 +1,8 @@
 -- How a turn goes on from a reached step, and what such a step knows.
 use Rattle.std.proofs.Common.{◌≡◌, ℕ, zero, suc, Bool, true, false, cond, List, [], ◌∷◌, ◌++◌, Some, refl, sym, ap, ◌∙◌, subst}
-use Rattle.cell_types.specs.declared.machine.Machine.{Machine}
-use Rattle.cell_types.specs.declared.call.Call.{Call}
-use Rattle.cell_types.specs.declared.answer.Answer.{Answer}
-use Rattle.cell_types.specs.declared.answer.Event.{Event}
-use Rattle.cell_types.specs.Same.{same_machine, one_machine}
-use Rattle.cell_rules.specs.ModelState.{ModelState}
-use Rattle.cell_rules.specs.Sound.{IsSound}
-use Rattle.cell_rules.specs.Reply.{reply, next}
-use Rattle.cell_rules.specs.History.{after, IsLegal, own_events}
-use Rattle.cell_rules.specs.Seen.{event, Settles, Waits}
-use Rattle.cell_rules.specs.Programs.{Program, MovesIn, Reached}
+use Rattle.cell_rules.specs.Types.{Machine, Call, Answer, Event, same_machine, one_machine}
+use Rattle.cell_rules.specs.Names.{ModelState, IsSound, reply, next, after, IsLegal, own_events, event, Settles}
+use Rattle.cell_rules.specs.Names.{Waits, Program, MovesIn, Reached}
 use Rattle.cell_rules.proofs.Soundness.{next_keeps}
 
 moves-more : {S : Type 0} → (p : Program S) (n : ℕ) (s t u : S) → MovesIn p n s t → p.moves t u → MovesIn p (suc n) s u

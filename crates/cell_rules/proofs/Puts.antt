@@ -1,13 +1,10 @@
 -- What a map of the zones and a set of places have after a change.
 use Rattle.std.proofs.Common.{◌≡◌, Bool, false, cond, refl}
-use Rattle.cell_types.specs.declared.zone.Zone.{Zone}
-use Rattle.cell_types.specs.declared.zone.Zone.TheVariants.{Z1, Z2, Z3, Z4, Z5, Z6}
-use Rattle.cell_types.specs.declared.place.Place.{Place}
-use Rattle.cell_types.specs.declared.place.Place.TheVariants.{FeedEntry, FeedEnd, Table, Arm1, PressIn, PressOut, Arm2, DepEntry, DepEnd, Crane}
-use Rattle.cell_types.specs.Same.{same_zone, same_place}
+use Rattle.cell_rules.specs.Types.{Zone, Z1, Z2, Z3, Z4, Z5, Z6, Place, FeedEntry, FeedEnd, Arm1, PressIn, PressOut}
+use Rattle.cell_rules.specs.Types.{Arm2, DepEntry, DepEnd, same_zone, same_place}
+use Rattle.cell_types.specs.declared.place.Place.TheVariants.{Table, Crane}
+use Rattle.cell_rules.specs.Names.{ZoneMap, zone_in, put_zone, map_zones, PlaceSet, has, put_place}
 use Rattle.cell_rules.specs.declared.zones.ZoneState.{ZoneState}
-use Rattle.cell_rules.specs.ZoneMap.{ZoneMap, zone_in, put_zone, map_zones}
-use Rattle.cell_rules.specs.PlaceSet.{PlaceSet, has, put_place}
 
 -- a fact of each zone, or of each place, from one proof for each
 pub each_zone : (P : Zone → Type 0) → P Z1 → P Z2 → P Z3 → P Z4 → P Z5 → P Z6 → (z : Zone) → P z

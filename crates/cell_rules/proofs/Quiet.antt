@@ -2,15 +2,9 @@
 -- change.
 use Rattle.std.proofs.Common.{◌≡◌, ℕ, ◌+◌, Bool, true, false, ◌&&◌, not, cond, List, [], ◌∷◌, ◌++◌, refl, sym, ap, ◌∙◌, subst, arith}
 use Rattle.std.proofs.lemmas.List.Sums.{sum_by-cons, sum_by-append}
-use Rattle.cell_types.specs.declared.machine.Machine.{Machine}
-use Rattle.cell_types.specs.declared.call.Call.{Call}
-use Rattle.cell_types.specs.declared.answer.Answer.{Answer}
-use Rattle.cell_types.specs.declared.answer.Answer.TheVariants.{Done, Shown, Refused}
-use Rattle.cell_types.specs.declared.answer.Event.{Event}
-use Rattle.cell_types.specs.Same.{same_machine}
-use Rattle.cell_rules.specs.ModelState.{ModelState}
-use Rattle.cell_rules.specs.Reply.{reply, next, next_by}
-use Rattle.cell_rules.specs.History.{after, IsLegal, own_events, is_done, is_done_answer, changes_by_others}
+use Rattle.cell_rules.specs.Types.{Machine, Call, Answer, Done, Shown, Refused, Event, same_machine}
+use Rattle.cell_rules.specs.Names.{ModelState, reply, next, next_by, after, IsLegal, own_events, is_done}
+use Rattle.cell_rules.specs.Names.{is_done_answer, changes_by_others}
 use Rattle.cell_rules.proofs.Lasting.{own_head}
 
 same_by : (a : Answer) (s : ModelState) (m : Machine) (c : Call) → is_done_answer a ≡ false → next_by a s m c ≡ s

@@ -1,15 +1,10 @@
 -- Each refusal has its cause, on every sound state.
 use Rattle.std.proofs.Common.{◌≡◌, Option, Some, None, ap}
-use Rattle.cell_types.specs.declared.machine.Machine.{Machine}
-use Rattle.cell_types.specs.declared.call.Call.{Call}
-use Rattle.cell_types.specs.declared.call.Call.TheVariants.{Claim, Give, Yield, Take, Release, SetPose, Advance, Inquire, Stop, Resume}
-use Rattle.cell_types.specs.declared.answer.Refusal.{Refusal}
-use Rattle.cell_types.specs.declared.answer.Answer.TheVariants.{Refused}
-use Rattle.cell_rules.specs.ModelState.{ModelState}
-use Rattle.cell_rules.specs.Sound.{IsSound}
-use Rattle.cell_rules.specs.Refusals.{claim_refusal, give_refusal, yield_refusal, take_refusal, release_refusal, pose_refusal, advance_refusal, stop_refusal, resume_refusal}
-use Rattle.cell_rules.specs.Reply.{reply, refusal, done_unless}
-use Rattle.cell_rules.specs.Causes.{is_cause, order_of}
+use Rattle.cell_rules.specs.Types.{Machine, Call, Claim, Give, Yield, Take, Release, SetPose, Advance, Inquire, Stop}
+use Rattle.cell_rules.specs.Types.{Resume, Refusal, Refused}
+use Rattle.cell_rules.specs.Names.{ModelState, IsSound, claim_refusal, give_refusal, yield_refusal, take_refusal}
+use Rattle.cell_rules.specs.Names.{release_refusal, pose_refusal, advance_refusal, stop_refusal, resume_refusal}
+use Rattle.cell_rules.specs.Names.{reply, refusal, done_unless, is_cause, order_of}
 use Rattle.cell_rules.specs.RefusalLaws.{RefusalsTell}
 use Rattle.cell_rules.proofs.Causing.{TellsRight, claim_tells, give_tells, yield_tells, take_tells, release_tells, stop_tells, resume_tells}
 use Rattle.cell_rules.proofs.Posing.{pose_tells, advance_tells}

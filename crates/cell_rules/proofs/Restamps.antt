@@ -3,31 +3,18 @@ use Rattle.std.proofs.Common.{◌≡◌, ◌≢◌, ◌≤◌, ◌<◌, ℕ, Boo
 use Rattle.std.specs.Prelude.{IsTrue}
 use Rattle.std.specs.Bool.{then_some}
 use Rattle.std.specs.List.{list_all}
-use Rattle.cell_types.specs.declared.machine.Machine.{Machine}
-use Rattle.cell_types.specs.declared.machine.Machine.TheVariants.{Feed, Table, Robot, Press, Deposit, Crane, Watch}
-use Rattle.cell_types.specs.declared.zone.Zone.{Zone}
-use Rattle.cell_types.specs.declared.posture.Posture.{Posture}
-use Rattle.cell_types.specs.declared.posture.Posture.TheVariants.{Closed, Moving, OpenIn, OpenOut}
-use Rattle.cell_types.specs.Everything.{all_zones, all_places}
-use Rattle.cell_types.specs.Tables.{host_of}
-use Rattle.cell_types.specs.Ways.{keeper_of}
-use Rattle.cell_types.specs.Same.{same_machine, same_posture, one_machine, one_posture}
+use Rattle.cell_rules.specs.Types.{Machine, Feed, Table, Robot, Press, Deposit, Crane, Watch, Zone, Posture, Closed}
+use Rattle.cell_rules.specs.Types.{Moving, OpenIn, OpenOut, all_zones, all_places, host_of, keeper_of, same_machine}
+use Rattle.cell_rules.specs.Types.{same_posture, one_machine, one_posture, Call, Claim, Give, Yield, Take, Release}
+use Rattle.cell_rules.specs.Types.{SetPose, Advance, Inquire, Stop, Resume, Refusal, Worn, Answer, Done, Shown}
+use Rattle.cell_rules.specs.Types.{Refused}
+use Rattle.cell_rules.specs.Names.{ModelState, zone_at, is_full, last_stamp, IsSound, is_owned_by, implies, owns}
+use Rattle.cell_rules.specs.Names.{posture_at, after, IsLegal, own_events, reply, next, next_by, changed, done_unless}
+use Rattle.cell_rules.specs.Names.{is_cause, restamped, IsSameFor, same_flag}
 use Rattle.cell_rules.specs.declared.zones.ZoneState.{ZoneState}
-use Rattle.cell_types.specs.declared.call.Call.{Call}
-use Rattle.cell_types.specs.declared.call.Call.TheVariants.{Claim, Give, Yield, Take, Release, SetPose, Advance}
-use Rattle.cell_types.specs.declared.call.Call.TheVariants.{Inquire, Stop, Resume}
-use Rattle.cell_types.specs.declared.answer.Refusal.{Refusal}
-use Rattle.cell_types.specs.declared.answer.Refusal.TheVariants.{Worn}
-use Rattle.cell_types.specs.declared.answer.Answer.{Answer}
-use Rattle.cell_types.specs.declared.answer.Answer.TheVariants.{Done, Shown, Refused}
-use Rattle.cell_rules.specs.ModelState.{ModelState, zone_at, is_full, last_stamp}
-use Rattle.cell_rules.specs.Sound.{IsSound, is_owned_by, implies}
 use Rattle.cell_rules.specs.Refusals
-use Rattle.cell_rules.specs.Refusals.{owns, posture_at}
-use Rattle.cell_rules.specs.History.{after, IsLegal, own_events}
-use Rattle.cell_rules.specs.Reply.{reply, next, next_by, changed, done_unless}
-use Rattle.cell_rules.specs.Causes.{is_cause, is_worn}
-use Rattle.cell_rules.specs.Restamping.{restamped, StampsOnlyWear, IsSameFor, EndsAreSame, same_flag, is_same_zone, is_same_place}
+use Rattle.cell_rules.specs.Causes.{is_worn}
+use Rattle.cell_rules.specs.Restamping.{StampsOnlyWear, EndsAreSame, is_same_zone, is_same_place}
 use Rattle.cell_rules.proofs.Tables.{and_left, and_right, and_both, implied, all_pass, from_zones, from_places}
 use Rattle.cell_rules.proofs.Histories.{legal-left}
 use Rattle.cell_rules.proofs.HoldsLemmas.{holds_iff_owns}

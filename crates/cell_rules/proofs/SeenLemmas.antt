@@ -5,17 +5,10 @@ use Rattle.std.proofs.Props.{props}
 use Rattle.std.proofs.Math.Logic.{∥∥₁_elim}
 use Rattle.std.proofs.lemmas.List.{append_cancel_left, length-append}
 use Rattle.std.proofs.lemmas.List.Elements.{filter-append}
-use Rattle.cell_types.specs.declared.machine.Machine.{Machine}
-use Rattle.cell_types.specs.declared.call.Call.{Call}
-use Rattle.cell_types.specs.declared.answer.Answer.{Answer}
-use Rattle.cell_types.specs.declared.answer.Event.{Event}
-use Rattle.cell_types.specs.Same.{same_machine}
-use Rattle.cell_rules.specs.ModelState.{ModelState}
-use Rattle.cell_rules.specs.Reply.{reply, next}
-use Rattle.cell_rules.specs.History.{after, IsLegal, own_events}
-use Rattle.cell_rules.specs.Seen.{event, Settles, Waits}
+use Rattle.cell_rules.specs.Types.{Machine, Call, Answer, Event, same_machine}
+use Rattle.cell_rules.specs.Names.{ModelState, reply, next, after, IsLegal, own_events, event, Settles, Waits}
+use Rattle.cell_rules.specs.Names.{last_event}
 use Rattle.cell_rules.specs.Stored.{IsHistory}
-use Rattle.cell_rules.specs.BenchView.{last_event}
 use Rattle.cell_rules.proofs.Tables.{from_machines}
 use Rattle.cell_rules.proofs.Histories.{after-append}
 

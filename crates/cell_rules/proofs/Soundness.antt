@@ -1,15 +1,10 @@
 -- Each call keeps a sound state sound.
 use Rattle.std.proofs.Common.{◌≡◌, ◌+◌, ◌≤◌, ◌<◌, Bool, Option, None, refl, arith}
-use Rattle.cell_types.specs.declared.machine.Machine.{Machine}
-use Rattle.cell_types.specs.declared.call.Call.{Call}
-use Rattle.cell_types.specs.declared.call.Call.TheVariants.{Claim, Give, Yield, Take, Release, SetPose, Advance, Inquire, Stop, Resume}
-use Rattle.cell_types.specs.declared.answer.Refusal.{Refusal}
-use Rattle.cell_types.specs.declared.answer.Answer.{Answer}
-use Rattle.cell_types.specs.declared.answer.Answer.TheVariants.{Done, Shown, Refused}
-use Rattle.cell_rules.specs.ModelState.{ModelState}
-use Rattle.cell_rules.specs.Sound.{IsSound}
-use Rattle.cell_rules.specs.Refusals.{claim_refusal, give_refusal, yield_refusal, take_refusal, release_refusal, pose_refusal, advance_refusal, stop_refusal, resume_refusal}
-use Rattle.cell_rules.specs.Reply.{reply, changed, next, next_by, done_unless}
+use Rattle.cell_rules.specs.Types.{Machine, Call, Claim, Give, Yield, Take, Release, SetPose, Advance, Inquire, Stop}
+use Rattle.cell_rules.specs.Types.{Resume, Refusal, Answer, Done, Shown, Refused}
+use Rattle.cell_rules.specs.Names.{ModelState, IsSound, claim_refusal, give_refusal, yield_refusal, take_refusal}
+use Rattle.cell_rules.specs.Names.{release_refusal, pose_refusal, advance_refusal, stop_refusal, resume_refusal}
+use Rattle.cell_rules.specs.Names.{reply, changed, next, next_by, done_unless}
 use Rattle.cell_rules.proofs.Done.{stop_done, resume_done}
 use Rattle.cell_rules.proofs.Kept.{claim_keeps, yield_keeps, release_keeps}
 use Rattle.cell_rules.proofs.Plates.{give_keeps, take_keeps}

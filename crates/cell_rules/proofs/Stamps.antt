@@ -1,14 +1,8 @@
 -- The stamp counts the Done events.
 use Rattle.std.proofs.Common.{◌≡◌, ℕ, ◌+◌, cond, List, [], ◌∷◌, ap, arith}
 use Rattle.std.proofs.lemmas.List.Sums.{sum_by-cons}
-use Rattle.cell_types.specs.declared.machine.Machine.{Machine}
-use Rattle.cell_types.specs.declared.call.Call.{Call}
-use Rattle.cell_types.specs.declared.answer.Answer.{Answer}
-use Rattle.cell_types.specs.declared.answer.Answer.TheVariants.{Done, Shown, Refused}
-use Rattle.cell_types.specs.declared.answer.Event.{Event}
-use Rattle.cell_rules.specs.ModelState.{ModelState}
-use Rattle.cell_rules.specs.Reply.{reply, next, next_by}
-use Rattle.cell_rules.specs.History.{IsLegal, is_done_answer, is_done}
+use Rattle.cell_rules.specs.Types.{Machine, Call, Answer, Done, Shown, Refused, Event}
+use Rattle.cell_rules.specs.Names.{ModelState, reply, next, next_by, IsLegal, is_done_answer, is_done}
 use Rattle.cell_rules.specs.Laws.{StampCountsChanges}
 
 stamp-answer : (a : Answer) (s : ModelState) (m : Machine) (c : Call) → (next_by a s m c).stamp ≡ cond (is_done_answer a) 1 0 + s.stamp

@@ -3,20 +3,12 @@ use Rattle.std.proofs.Common.{◌≡◌, Bool, true, false, ◌&&◌, ◌||◌, 
 use Rattle.std.proofs.Math.Bool.{and-true}
 use Rattle.std.proofs.lemmas.Bool.{or_left, or_right, false_from_ne_true}
 use Rattle.std.proofs.lemmas.List.Elements.{All-nil, All-cons, All-head, All-tail}
-use Rattle.cell_types.specs.declared.machine.Machine.{Machine}
-use Rattle.cell_types.specs.declared.machine.Machine.TheVariants.{Watch}
-use Rattle.cell_types.specs.declared.pose.Pose.TheVariants.{Turning, Travelling, Running}
-use Rattle.cell_types.specs.declared.call.Call.{Call}
-use Rattle.cell_types.specs.declared.call.Call.TheVariants.{Claim, Give, SetPose, Stop, Resume}
-use Rattle.cell_types.specs.declared.answer.Answer.{Answer}
-use Rattle.cell_types.specs.declared.answer.Answer.TheVariants.{Done, Shown, Refused}
-use Rattle.cell_types.specs.declared.answer.Event.{Event}
-use Rattle.cell_types.specs.Same.{one_machine}
-use Rattle.cell_rules.specs.ModelState.{ModelState}
-use Rattle.cell_rules.specs.Refusals.{claim_refusal, give_refusal, pose_refusal, stop_refusal, resume_refusal}
-use Rattle.cell_rules.specs.Reply.{reply, next, next_by, changed}
-use Rattle.cell_rules.specs.History.{after, IsLegal, is_done_answer, stops, resumes, is_stop, is_resume, NeverResumes, StopsAndStays, IsStopped}
-use Rattle.cell_rules.specs.Laws.{StoppedUntilResumed, is_barred, done}
+use Rattle.cell_rules.specs.Types.{Machine, Watch, Turning, Travelling, Running, Call, Claim, Give, SetPose, Stop}
+use Rattle.cell_rules.specs.Types.{Resume, Answer, Done, Shown, Refused, Event, one_machine}
+use Rattle.cell_rules.specs.Names.{ModelState, claim_refusal, give_refusal, pose_refusal, stop_refusal}
+use Rattle.cell_rules.specs.Names.{resume_refusal, reply, next, next_by, changed, after, IsLegal, is_done_answer}
+use Rattle.cell_rules.specs.Names.{StoppedUntilResumed, is_barred, done}
+use Rattle.cell_rules.specs.History.{stops, resumes, is_stop, is_resume, NeverResumes, StopsAndStays, IsStopped}
 use Rattle.cell_rules.proofs.Done.{not_true, claim_done, give_done, pose_done, stop_done, resume_done}
 use Rattle.cell_rules.proofs.Soundness.{done_none}
 use Rattle.cell_rules.proofs.Fitting.{replies_done}

@@ -1,19 +1,15 @@
 -- A test of all values of a type, and what it says of each.
 use Rattle.std.proofs.Common.{◌≡◌, Bool, true, false, ◌&&◌, Option, Some, None, List, [], ◌∷◌, refl}
 use Rattle.std.specs.List.{list_all}
-use Rattle.cell_types.specs.declared.machine.Machine.{Machine}
-use Rattle.cell_types.specs.declared.machine.Machine.TheVariants.{Feed, Table, Robot, Press, Deposit, Crane, Watch}
-use Rattle.cell_types.specs.declared.zone.Zone.{Zone}
-use Rattle.cell_types.specs.declared.zone.Zone.TheVariants.{Z1, Z2, Z3, Z4, Z5, Z6}
-use Rattle.cell_types.specs.declared.posture.Posture.{Posture}
-use Rattle.cell_types.specs.declared.posture.Posture.TheVariants.{Closed, Moving, OpenIn, OpenOut}
-use Rattle.cell_types.specs.declared.pose.Pose.{Pose}
-use Rattle.cell_types.specs.declared.pose.Pose.TheVariants.{Turning, Loading, Unloading, Travelling, Middle, Low, Top, Running, Landing, Halted, Offering, Standing}
-use Rattle.cell_types.specs.declared.place.Place.{Place}
-use Rattle.cell_types.specs.declared.place.Place.TheVariants.{FeedEntry, FeedEnd, Table as TablePlace, Arm1, PressIn, PressOut, Arm2, DepEntry, DepEnd, Crane as CranePlace}
+use Rattle.cell_rules.specs.Types.{Machine, Feed, Table, Robot, Press, Deposit, Crane, Watch, Zone, Z1, Z2, Z3, Z4}
+use Rattle.cell_rules.specs.Types.{Z5, Z6, Posture, Closed, Moving, OpenIn, OpenOut, Pose, Turning, Loading}
+use Rattle.cell_rules.specs.Types.{Unloading, Travelling, Middle, Low, Top, Running, Landing, Halted, Offering}
+use Rattle.cell_rules.specs.Types.{Standing, Place, FeedEntry, FeedEnd, Arm1, PressIn, PressOut, Arm2, DepEntry}
+use Rattle.cell_rules.specs.Types.{DepEnd}
+use Rattle.cell_types.specs.declared.place.Place.TheVariants.{Table as TablePlace, Crane as CranePlace}
 use Rattle.cell_types.specs.Everything as everything
+use Rattle.cell_rules.specs.Names.{implies}
 use Rattle.cell_rules.specs.declared.zones.ZoneState.{ZoneState}
-use Rattle.cell_rules.specs.Sound.{implies}
 
 pub and_left : (a b : Bool) → (a && b) ≡ true → a ≡ true
 and_left true b e = refl

@@ -1,17 +1,10 @@
 -- The poses that move, and the digits of a start.
 use Rattle.std.proofs.Common.{◌≡◌, Bool, true, Some, refl, ap}
 use Rattle.std.specs.Option.{option_eq}
-use Rattle.cell_types.specs.declared.machine.Machine.{Machine}
-use Rattle.cell_types.specs.declared.machine.Machine.TheVariants.{Feed, Press, Table}
-use Rattle.cell_types.specs.declared.zone.Zone.{Zone}
-use Rattle.cell_types.specs.declared.zone.Zone.TheVariants.{Z1, Z3, Z6}
-use Rattle.cell_types.specs.declared.posture.Posture.TheVariants.{Moving}
-use Rattle.cell_types.specs.declared.pose.Pose.{Pose}
-use Rattle.cell_types.specs.declared.pose.Pose.TheVariants.{Turning, Loading, Unloading, Travelling, Middle, Low, Top, Running, Landing, Halted, Offering, Standing}
-use Rattle.cell_types.specs.Tables.{posture_of}
-use Rattle.cell_types.specs.Same.{same_posture}
-use Rattle.cell_rules.specs.Sound.{implies}
-use Rattle.cell_rules.specs.Refusals.{is_moving_pose}
+use Rattle.cell_rules.specs.Types.{Machine, Feed, Press, Table, Zone, Z1, Z3, Z6, Moving, Pose, Turning, Loading}
+use Rattle.cell_rules.specs.Types.{Unloading, Travelling, Middle, Low, Top, Running, Landing, Halted, Offering}
+use Rattle.cell_rules.specs.Types.{Standing, posture_of, same_posture}
+use Rattle.cell_rules.specs.Names.{implies, is_moving_pose}
 use Rattle.cell_rules.specs.TableLaws.{PosesThatMove, DigitsArePlaces, moves}
 use Rattle.cell_rules.proofs.Tables.{implied, all_machines, from_machines, all_zones, from_zones, all_poses, from_poses}
 

@@ -3,17 +3,12 @@ use Rattle.std.proofs.Common.{◌≡◌, ◌≤◌, ℕ, Bool, true, false, ◌&
 use Rattle.std.specs.Bool.{then_some}
 use Rattle.std.specs.Option.{option_eq}
 use Rattle.std.proofs.lemmas.Option.{same_Some}
-use Rattle.cell_types.specs.declared.machine.Machine.{Machine}
-use Rattle.cell_types.specs.declared.zone.Zone.{Zone}
-use Rattle.cell_types.specs.declared.posture.Posture.{Posture}
-use Rattle.cell_types.specs.declared.posture.Posture.TheVariants.{Closed, Moving, OpenIn, OpenOut}
-use Rattle.cell_types.specs.declared.answer.Refusal.{Refusal}
-use Rattle.cell_types.specs.declared.answer.Refusal.TheVariants.{NotParty, Held, AlreadyMine, Shut, NotOwner, PlateInZone, NoPlate, PlaceFull, WrongWay, Jump, NotAtWork, NoPose, Worn, Stopped, NotStopped, InUse}
-use Rattle.cell_types.specs.Refusals.{number_of}
-use Rattle.cell_types.specs.Same.{same_machine, same_zone, same_posture, one_machine, one_posture}
-use Rattle.cell_rules.specs.Sound.{is_open}
+use Rattle.cell_rules.specs.Types.{Machine, Zone, Posture, Closed, Moving, OpenIn, OpenOut, Refusal, NotParty, Held}
+use Rattle.cell_rules.specs.Types.{AlreadyMine, Shut, NotOwner, PlateInZone, NoPlate, PlaceFull, WrongWay, Jump}
+use Rattle.cell_rules.specs.Types.{NotAtWork, NoPose, Worn, Stopped, NotStopped, InUse, number_of, same_machine}
+use Rattle.cell_rules.specs.Types.{same_zone, same_posture, one_machine, one_posture}
+use Rattle.cell_rules.specs.Names.{is_open, is_shut}
 use Rattle.cell_rules.specs.Refusals.{held_by}
-use Rattle.cell_rules.specs.Causes.{is_shut}
 use Rattle.cell_rules.proofs.Tables.{and_left, and_right, and_both}
 use Rattle.cell_rules.proofs.Holders.{same_machine-self, same_zone-self}
 use Rattle.cell_rules.proofs.Chains.{Tells}

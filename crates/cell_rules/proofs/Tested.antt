@@ -1,11 +1,10 @@
 -- The test of soundness decides soundness.
 use Rattle.std.proofs.Common.{◌≡◌, Bool, true, false, ◌&&◌, nat_le, refl, leb-true, le-leb}
-use Rattle.cell_types.specs.declared.zone.Zone.{Zone}
-use Rattle.cell_types.specs.declared.zone.Zone.TheVariants.{Z3}
-use Rattle.cell_types.specs.Everything.{all_zones}
-use Rattle.cell_rules.specs.ModelState.{ModelState, zone_at, last_stamp}
-use Rattle.cell_rules.specs.Sound.{IsSound, has_lawful_owner, has_lawful_plate, is_open_to_guest, moves_by_host, is_of_some_pose, has_one_plate}
-use Rattle.cell_rules.specs.SoundTest.{is_lawful_at, all_lawful, is_sound}
+use Rattle.cell_rules.specs.Types.{Zone, Z3, all_zones}
+use Rattle.cell_rules.specs.Names.{ModelState, zone_at, last_stamp, IsSound, has_lawful_owner, is_open_to_guest}
+use Rattle.cell_rules.specs.Names.{moves_by_host, is_of_some_pose, has_one_plate, is_sound}
+use Rattle.cell_rules.specs.Sound.{has_lawful_plate}
+use Rattle.cell_rules.specs.SoundTest.{is_lawful_at, all_lawful}
 use Rattle.cell_rules.proofs.Tables.{and_left, and_right, and_both, all_pass, from_zones}
 
 five : (a b c d e : Bool) → (a && b && c && d && e) ≡ true → (a ≡ true) × (b ≡ true) × (c ≡ true) × (d ≡ true) × (e ≡ true)

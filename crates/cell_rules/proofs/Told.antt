@@ -1,13 +1,7 @@
 -- The journals of callers who each have seen a prefix of one legal history, with all their own events, tell that history.
 use Rattle.std.proofs.Common.{◌≡◌, List, ◌++◌, map, Some, refl, sym, ap, ◌∙◌, append-nil}
-use Rattle.cell_types.specs.declared.machine.Machine.{Machine}
-use Rattle.cell_types.specs.declared.answer.Event.{Event}
-use Rattle.cell_types.specs.declared.journal.Entry.{Entry}
-use Rattle.cell_rules.specs.ModelState.{ModelState}
-use Rattle.cell_rules.specs.History.{after, IsLegal}
-use Rattle.cell_rules.specs.Journal.{noted, event_by}
-use Rattle.cell_rules.specs.Audited.{IsAudited}
-use Rattle.cell_rules.specs.Seen.{Waits}
+use Rattle.cell_rules.specs.Types.{Machine, Event, Entry}
+use Rattle.cell_rules.specs.Names.{ModelState, after, IsLegal, noted, event_by, IsAudited, Waits}
 use Rattle.cell_rules.proofs.Notes.{noted-append, noted-foreign, events_of_noted}
 use Rattle.cell_rules.proofs.SeenLemmas.{waits-foreign}
 

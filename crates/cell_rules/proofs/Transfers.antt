@@ -1,15 +1,9 @@
 -- What a Done give, take or advance finds: the way of the plate, its start full or its end empty.
 use Rattle.std.proofs.Common.{◌≡◌, Bool, true, false, ◌&&◌, not, Option, Some, None, is_some, refl, subst}
-use Rattle.cell_types.specs.declared.machine.Machine.{Machine}
-use Rattle.cell_types.specs.declared.zone.Zone.{Zone}
-use Rattle.cell_types.specs.declared.zone.Transfer.{Transfer}
-use Rattle.cell_types.specs.declared.place.Place.{Place}
-use Rattle.cell_types.specs.declared.answer.Refusal.TheVariants.{NoPlate, PlaceFull, PlateInZone}
-use Rattle.cell_types.specs.Tables.{transfer_of}
-use Rattle.cell_types.specs.Same.{same_machine}
-use Rattle.cell_types.specs.Ways.{own_move_of}
-use Rattle.cell_rules.specs.ModelState.{ModelState, zone_at, is_full}
-use Rattle.cell_rules.specs.Sound.{IsSound, is_party, is_owned_by, is_received_by, is_onto_full}
+use Rattle.cell_rules.specs.Types.{Machine, Zone, Transfer, Place, NoPlate, PlaceFull, PlateInZone, transfer_of}
+use Rattle.cell_rules.specs.Types.{same_machine, own_move_of}
+use Rattle.cell_rules.specs.Names.{ModelState, zone_at, is_full, IsSound, is_party, is_owned_by, is_received_by}
+use Rattle.cell_rules.specs.Names.{is_onto_full}
 use Rattle.cell_rules.specs.Refusals
 use Rattle.cell_rules.proofs.Tables.{implied, and_left, and_right}
 use Rattle.cell_rules.proofs.Done.{none_or, none_then, none_then_not, some_unless, take_done, advance_done}

@@ -1,17 +1,9 @@
 -- A call that isn't barred doesn't ask whether the cell is stopped.
 use Rattle.std.proofs.Common.{◌≡◌, true, false, refl}
-use Rattle.cell_types.specs.declared.machine.Machine.{Machine}
-use Rattle.cell_types.specs.declared.pose.Pose.{Pose}
-use Rattle.cell_types.specs.declared.pose.Pose.TheVariants.{Turning, Travelling, Running}
-use Rattle.cell_types.specs.declared.call.Call.{Call}
-use Rattle.cell_types.specs.declared.call.Call.TheVariants.{Claim, Give, Yield, Take, Release, SetPose, Advance, Inquire, Stop, Resume}
-use Rattle.cell_types.specs.declared.answer.Refusal.TheVariants.{Stopped}
-use Rattle.cell_rules.specs.ModelState.{ModelState}
-use Rattle.cell_rules.specs.Reply.{reply}
-use Rattle.cell_rules.specs.FirstVersion.{has_call}
-use Rattle.cell_rules.specs.Laws.{is_barred}
+use Rattle.cell_rules.specs.Types.{Machine, Pose, Turning, Travelling, Running, Call, Claim, Give, Yield, Take}
+use Rattle.cell_rules.specs.Types.{Release, SetPose, Advance, Inquire, Stop, Resume, Stopped}
+use Rattle.cell_rules.specs.Names.{ModelState, reply, has_call, is_barred, is_cause}
 use Rattle.cell_rules.specs.StopLaws.{running, WhatMovesMayStop}
-use Rattle.cell_rules.specs.Causes.{is_cause}
 use Rattle.cell_rules.proofs.Refusing.{refusals_tell}
 
 posed_same : (s : ModelState) (m : Machine) (p : Pose) → is_barred (SetPose p) ≡ false → reply s m (SetPose p) ≡ reply (running s) m (SetPose p)

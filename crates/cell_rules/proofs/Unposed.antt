@@ -1,19 +1,10 @@
 -- The posture of a zone by the events stays while its host makes no event.
 use Rattle.std.proofs.Common.{◌≡◌, Bool, true, false, Option, Some, None, List, [], ◌∷◌, ◌++◌, refl, ap, ◌∙◌, if◌then◌else◌, unwrap_or}
 use Rattle.std.proofs.lemmas.Bool.{false_from_ne_true}
-use Rattle.cell_types.specs.declared.machine.Machine.{Machine}
-use Rattle.cell_types.specs.declared.zone.Zone.{Zone}
-use Rattle.cell_types.specs.declared.posture.Posture.{Posture}
-use Rattle.cell_types.specs.declared.posture.Posture.TheVariants.{Closed}
-use Rattle.cell_types.specs.declared.call.Call.{Call}
-use Rattle.cell_types.specs.declared.call.Call.TheVariants.{SetPose, Advance}
-use Rattle.cell_types.specs.declared.answer.Event.{Event}
-use Rattle.cell_types.specs.Tables.{host_of, posture_of}
-use Rattle.cell_types.specs.Same.{same_machine}
-use Rattle.cell_rules.specs.ModelState.{ModelState}
-use Rattle.cell_rules.specs.Refusals.{posture_at}
-use Rattle.cell_rules.specs.Reply.{is_belt_of}
-use Rattle.cell_rules.specs.History.{own_events, is_done, posture_given, posture_since, posture_by_events}
+use Rattle.cell_rules.specs.Types.{Machine, Zone, Posture, Closed, Call, SetPose, Advance, Event, host_of, posture_of}
+use Rattle.cell_rules.specs.Types.{same_machine}
+use Rattle.cell_rules.specs.Names.{ModelState, posture_at, is_belt_of, own_events, is_done, posture_given}
+use Rattle.cell_rules.specs.Names.{posture_since, posture_by_events}
 use Rattle.cell_rules.proofs.Tables.{and_left}
 use Rattle.cell_rules.proofs.Lawful.{can_be_in}
 use Rattle.cell_rules.proofs.Moves.{suits, posture_suits}

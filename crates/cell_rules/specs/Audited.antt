@@ -1,8 +1,6 @@
 -- What a passed audit says: a legal history explains the journals.
 use Rattle.std.specs.Prelude.{◌≡◌, List, map, Option, Some, None, ⊤}
-use Rattle.cell_types.specs.declared.machine.Machine.{Machine}
-use Rattle.cell_types.specs.declared.answer.Event.{Event}
-use Rattle.cell_types.specs.declared.journal.Entry.{Entry}
+use Rattle.cell_rules.specs.Types.{Machine, Event, Entry}
 use Rattle.cell_rules.specs.ModelState.{ModelState}
 use Rattle.cell_rules.specs.History.{after, IsLegal, own_events}
 use Rattle.cell_rules.specs.Journal.{noted, event_by}

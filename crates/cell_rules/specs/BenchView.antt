@@ -1,9 +1,7 @@
 -- What contracts see of a bench.
 use Rattle.std.specs.Prelude.{◌-◌, List, length, slice_get, Option, Some, None, Result, Ok, Err}
 use Rattle.std.specs.Option.{option_map}
-use Rattle.cell_types.specs.declared.call.Call.{Call}
-use Rattle.cell_types.specs.declared.answer.Event.{Event}
-use Rattle.cell_types.specs.declared.reply.Reply.{Reply}
+use Rattle.cell_rules.specs.Types.{Call, Event, Reply}
 use Rattle.cell_types.specs.declared.reply.Reply.TheVariants.{Settled as settled, Busy as busy}
 use Rattle.cell_rules.specs.declared.heard.LineFault.{LineFault}
 use Rattle.cell_rules.specs.declared.heard.LineFault.TheVariants.{Memory}

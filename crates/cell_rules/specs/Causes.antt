@@ -4,27 +4,18 @@ use Rattle.std.specs.Prelude.{ℕ, Bool, true, false, ◌&&◌, ◌||◌, not, n
 use Rattle.std.specs.Prelude.{is_none}
 use Rattle.std.specs.Option.{option_eq}
 use Rattle.std.specs.List.{find}
-use Rattle.cell_types.specs.declared.machine.Machine.{Machine}
-use Rattle.cell_types.specs.declared.machine.Machine.TheVariants.{Feed, Robot, Press, Deposit, Table as TableMachine}
-use Rattle.cell_types.specs.declared.machine.Machine.TheVariants.{Crane as CraneMachine, Watch}
-use Rattle.cell_types.specs.declared.zone.Zone.{Zone}
-use Rattle.cell_types.specs.declared.zone.Zone.TheVariants.{Z1, Z2, Z3, Z4, Z5, Z6}
-use Rattle.cell_types.specs.declared.place.Place.{Place}
-use Rattle.cell_types.specs.declared.place.Place.TheVariants.{FeedEntry, FeedEnd, Table, Arm1, PressIn, PressOut, Arm2}
-use Rattle.cell_types.specs.declared.place.Place.TheVariants.{DepEntry, DepEnd, Crane}
-use Rattle.cell_types.specs.declared.posture.Posture.{Posture}
-use Rattle.cell_types.specs.declared.posture.Posture.TheVariants.{Closed, Moving, OpenIn, OpenOut}
-use Rattle.cell_types.specs.declared.pose.Pose.{Pose}
-use Rattle.cell_types.specs.declared.pose.Pose.TheVariants.{Turning, Loading, Unloading, Travelling, Middle, Low, Top}
-use Rattle.cell_types.specs.declared.pose.Pose.TheVariants.{Running, Landing, Halted, Offering, Standing}
-use Rattle.cell_types.specs.declared.call.Call.{Call}
-use Rattle.cell_types.specs.declared.call.Call.TheVariants.{Claim, Give, Yield, Take, Release, SetPose, Advance}
-use Rattle.cell_types.specs.declared.call.Call.TheVariants.{Inquire, Stop, Resume}
-use Rattle.cell_types.specs.declared.answer.Refusal.{Refusal}
-use Rattle.cell_types.specs.declared.answer.Refusal.TheVariants.{NotParty, Held, AlreadyMine, Shut, NotOwner}
-use Rattle.cell_types.specs.declared.answer.Refusal.TheVariants.{PlateInZone, NoPlate, PlaceFull, WrongWay, Jump}
-use Rattle.cell_types.specs.declared.answer.Refusal.TheVariants.{NotAtWork, NoPose, Worn, Stopped, NotStopped, InUse}
-use Rattle.cell_types.specs.Same.{same_machine, same_zone, same_posture}
+use Rattle.cell_rules.specs.Types.{Machine, Feed, Robot, Press, Deposit, Watch, Zone, Z1, Z2, Z3, Z4, Z5, Z6, Place}
+use Rattle.cell_rules.specs.Types.{FeedEntry, FeedEnd, Arm1, PressIn, PressOut, Arm2, DepEntry, DepEnd, Posture}
+use Rattle.cell_rules.specs.Types.{Closed, Moving, OpenIn, OpenOut, Pose, Turning, Loading, Unloading, Travelling}
+use Rattle.cell_rules.specs.Types.{Middle, Low, Top, Running, Landing, Halted, Offering, Standing, Call, Claim, Give}
+use Rattle.cell_rules.specs.Types.{Yield, Take, Release, SetPose, Advance, Inquire, Stop, Resume, Refusal, NotParty}
+use Rattle.cell_rules.specs.Types.{Held, AlreadyMine, Shut, NotOwner, PlateInZone, NoPlate, PlaceFull, WrongWay, Jump}
+use Rattle.cell_rules.specs.Types.{NotAtWork, NoPose, Worn, Stopped, NotStopped, InUse, same_machine, same_zone}
+use Rattle.cell_rules.specs.Types.{same_posture}
+use Rattle.cell_types.specs.declared.machine.Machine.TheVariants.{Table as TableMachine}
+use Rattle.cell_types.specs.declared.machine.Machine.TheVariants.{Crane as CraneMachine}
+use Rattle.cell_types.specs.declared.place.Place.TheVariants.{Table}
+use Rattle.cell_types.specs.declared.place.Place.TheVariants.{Crane}
 use Rattle.cell_rules.specs.ZoneMap.{zone_in}
 use Rattle.cell_rules.specs.PlaceSet.{has}
 use Rattle.cell_rules.specs.ModelState.{ModelState}

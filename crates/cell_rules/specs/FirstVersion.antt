@@ -3,14 +3,8 @@
 -- new refusal, and that nothing else changes in the state. It doesn't say what a condition means: the conditions and
 -- changes are those of `Refusals` and `Reply`, which `refusals_tell_causes` and the other laws hold.
 use Rattle.std.specs.Prelude.{◌≡◌, ◌+◌, Bool, true, false, Option, None, IsTrue}
-use Rattle.cell_types.specs.declared.machine.Machine.{Machine}
-use Rattle.cell_types.specs.declared.call.Call.{Call}
-use Rattle.cell_types.specs.declared.call.Call.TheVariants.{Claim, Give, Yield, Take, Release, SetPose, Advance}
-use Rattle.cell_types.specs.declared.call.Call.TheVariants.{Inquire, Stop, Resume}
-use Rattle.cell_types.specs.declared.answer.Refusal.{Refusal}
-use Rattle.cell_types.specs.declared.answer.Answer.{Answer}
-use Rattle.cell_types.specs.declared.answer.Answer.TheVariants.{Done, Shown, Refused}
-use Rattle.cell_types.specs.Ways.{own_move_of}
+use Rattle.cell_rules.specs.Types.{Machine, Call, Claim, Give, Yield, Take, Release, SetPose, Advance, Inquire, Stop}
+use Rattle.cell_rules.specs.Types.{Resume, Refusal, Answer, Done, Shown, Refused, own_move_of}
 use Rattle.cell_rules.specs.ModelState.{ModelState, zone_at}
 use Rattle.cell_rules.specs.Refusals.{◌or◌, not_party, already_mine, held, shut_to_guest, worn, not_owner}
 use Rattle.cell_rules.specs.Refusals.{plate_in_zone, transfer_given, wrong_way, nothing_to_give, no_room, shut, in_use}

@@ -3,25 +3,13 @@
 use Rattle.std.specs.Prelude.{◌≡◌, ℕ, ◌+◌, ℤ, pos, ◌-ℤ◌, Bool, true, false, ◌&&◌, not, ◌⊎◌, List, [], ◌∷◌, ◌++◌, filter}
 use Rattle.std.specs.Prelude.{count_by, All, unwrap_or, if◌then◌else◌, Option, Some, None, option_map, IsTrue, ⊤}
 use Rattle.std.specs.Option.{option_or}
-use Rattle.cell_types.specs.declared.place.Place.{Place}
-use Rattle.cell_types.specs.declared.zone.Transfer.{Transfer}
-use Rattle.cell_types.specs.declared.machine.Machine.{Machine}
-use Rattle.cell_types.specs.declared.zone.Zone.{Zone}
-use Rattle.cell_types.specs.declared.zone.Zone.TheVariants.{Z3}
-use Rattle.cell_types.specs.declared.call.Call.{Call}
-use Rattle.cell_types.specs.declared.call.Call.TheVariants.{Claim, Give, Yield, Take, Release, SetPose, Advance}
-use Rattle.cell_types.specs.declared.call.Call.TheVariants.{Stop, Resume}
-use Rattle.cell_types.specs.declared.answer.Answer.{Answer}
-use Rattle.cell_types.specs.declared.answer.Answer.TheVariants.{Done, Shown, Refused}
-use Rattle.cell_types.specs.declared.answer.Event.{Event}
-use Rattle.cell_types.specs.Same.{same_machine, same_zone, same_place}
+use Rattle.cell_rules.specs.Types.{Place, Transfer, Machine, Zone, Z3, Call, Claim, Give, Yield, Take, Release}
+use Rattle.cell_rules.specs.Types.{SetPose, Advance, Stop, Resume, Answer, Done, Shown, Refused, Event, same_machine}
+use Rattle.cell_rules.specs.Types.{same_zone, same_place, Posture, Closed, Moving, OpenIn, OpenOut, posture_of}
+use Rattle.cell_rules.specs.Types.{transfer_of, own_move_of}
 use Rattle.cell_rules.specs.ModelState.{ModelState, zone_at, is_full, one_if}
-use Rattle.cell_types.specs.declared.posture.Posture.{Posture}
-use Rattle.cell_types.specs.declared.posture.Posture.TheVariants.{Closed, Moving, OpenIn, OpenOut}
-use Rattle.cell_types.specs.Tables.{posture_of, transfer_of}
 use Rattle.cell_rules.specs.Sound.{is_party}
 use Rattle.cell_rules.specs.Refusals.{owns, posture_at}
-use Rattle.cell_types.specs.Ways.{own_move_of}
 use Rattle.cell_rules.specs.Reply.{reply, next, other_party, is_belt_of}
 
 -- the state after a history

@@ -1,24 +1,11 @@
 -- Laws of every legal history from a sound opening.
 use Rattle.std.specs.Prelude.{◌≡◌, ◌≢◌, ◌+◌, pos, Bool, true, false, not, List, [], ◌∷◌, ◌++◌, Some, IsTrue, ◌↔◌}
-use Rattle.cell_types.specs.declared.place.Place.{Place}
-use Rattle.cell_types.specs.declared.place.Place.TheVariants.{FeedEnd, PressIn, PressOut, DepEnd}
-use Rattle.cell_types.specs.declared.machine.Machine.{Machine}
-use Rattle.cell_types.specs.declared.machine.Machine.TheVariants.{Feed, Robot, Press, Deposit, Watch}
+use Rattle.cell_rules.specs.Types.{Place, FeedEnd, PressIn, PressOut, DepEnd, Machine, Feed, Robot, Press, Deposit}
+use Rattle.cell_rules.specs.Types.{Watch, Zone, Z1, Z2, Z3, Z4, Z5, Z6, Transfer, Posture, Closed, Moving, OpenIn}
+use Rattle.cell_rules.specs.Types.{Pose, Turning, Travelling, Running, Call, Claim, Give, Yield, Take, Release}
+use Rattle.cell_rules.specs.Types.{SetPose, Advance, Stop, Resume, Done, Event, host_of, guest_of, transfer_of}
+use Rattle.cell_rules.specs.Types.{posture_of, keeper_of}
 use Rattle.cell_types.specs.declared.machine.Machine.TheVariants.{Table as TableMachine}
-use Rattle.cell_types.specs.declared.zone.Zone.{Zone}
-use Rattle.cell_types.specs.declared.zone.Zone.TheVariants.{Z1, Z2, Z3, Z4, Z5, Z6}
-use Rattle.cell_types.specs.declared.zone.Transfer.{Transfer}
-use Rattle.cell_types.specs.declared.posture.Posture.{Posture}
-use Rattle.cell_types.specs.declared.posture.Posture.TheVariants.{Closed, Moving, OpenIn}
-use Rattle.cell_types.specs.declared.pose.Pose.{Pose}
-use Rattle.cell_types.specs.declared.pose.Pose.TheVariants.{Turning, Travelling, Running}
-use Rattle.cell_types.specs.declared.call.Call.{Call}
-use Rattle.cell_types.specs.declared.call.Call.TheVariants.{Claim, Give, Yield, Take, Release, SetPose, Advance}
-use Rattle.cell_types.specs.declared.call.Call.TheVariants.{Stop, Resume}
-use Rattle.cell_types.specs.declared.answer.Answer.TheVariants.{Done}
-use Rattle.cell_types.specs.declared.answer.Event.{Event}
-use Rattle.cell_types.specs.Tables.{host_of, guest_of, transfer_of, posture_of}
-use Rattle.cell_types.specs.Ways.{keeper_of}
 use Rattle.cell_rules.specs.ModelState.{ModelState, zone_at, is_full, plates_of, one_if}
 use Rattle.cell_rules.specs.Sound.{IsSound, is_party, is_open}
 use Rattle.cell_rules.specs.Refusals.{owns, posture_at, is_moving_pose, passes_through_moving}

@@ -24,3 +24,5 @@ pub mod Stored
 pub mod Benches
 pub mod BenchView
 pub mod Programs
+pub mod Names
+pub mod Types

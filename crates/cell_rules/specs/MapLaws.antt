@@ -4,11 +4,9 @@ use Rattle.std.specs.Prelude.{◌≡◌, ◌≢◌, true, false, Some, map as li
 use Rattle.std.specs.declared.cmp.Ordering.{Ordering}
 use Rattle.std.specs.FinMap as map
 use Rattle.std.specs.FinSet as set
-use Rattle.cell_types.specs.declared.zone.Zone.{Zone}
-use Rattle.cell_types.specs.declared.place.Place.{Place}
+use Rattle.cell_rules.specs.Types.{Zone, Place, all_zones, all_places}
 use Rattle.cell_types.specs.contracts.zone.ZoneOrd.TheImpl.{ghosts as zone_ghosts}
 use Rattle.cell_types.specs.contracts.place.PlaceOrd.TheImpl.{ghosts as place_ghosts}
-use Rattle.cell_types.specs.Everything.{all_zones, all_places}
 use Rattle.cell_rules.specs.declared.zones.ZoneState.{ZoneState}
 use Rattle.cell_rules.specs.ZoneMap.{ZoneMap, zone_in, put_zone, map_zones, everywhere}
 use Rattle.cell_rules.specs.PlaceSet.{PlaceSet, has, insert_place, remove_place, empty}

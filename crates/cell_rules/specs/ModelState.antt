@@ -2,11 +2,10 @@
 -- places that are full; the stamp; and whether the cell is stopped.
 use Rattle.std.specs.Prelude.{ℕ, ◌+◌, Bool}
 use mir.Val.{bool_byte}
-use Rattle.cell_types.specs.declared.zone.Zone.{Zone}
-use Rattle.cell_types.specs.declared.zone.Zone.TheVariants.{Z1, Z2, Z3, Z4, Z5, Z6}
-use Rattle.cell_types.specs.declared.place.Place.{Place}
-use Rattle.cell_types.specs.declared.place.Place.TheVariants.{FeedEntry, FeedEnd, Table, Arm1, PressIn, PressOut, Arm2}
-use Rattle.cell_types.specs.declared.place.Place.TheVariants.{DepEntry, DepEnd, Crane}
+use Rattle.cell_rules.specs.Types.{Zone, Z1, Z2, Z3, Z4, Z5, Z6, Place, FeedEntry, FeedEnd, Arm1, PressIn, PressOut}
+use Rattle.cell_rules.specs.Types.{Arm2, DepEntry, DepEnd}
+use Rattle.cell_types.specs.declared.place.Place.TheVariants.{Table}
+use Rattle.cell_types.specs.declared.place.Place.TheVariants.{Crane}
 use Rattle.cell_rules.specs.declared.zones.ZoneState.{ZoneState}
 use Rattle.cell_rules.specs.ZoneMap.{ZoneMap, zone_in}
 use Rattle.cell_rules.specs.PlaceSet.{PlaceSet, has}

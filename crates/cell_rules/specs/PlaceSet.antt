@@ -1,8 +1,8 @@
 -- Sets of the ten places. A set is read by membership, and changed by insertion and removal alone.
 use Rattle.std.specs.Prelude.{Bool, true, false}
-use Rattle.cell_types.specs.declared.place.Place.{Place}
-use Rattle.cell_types.specs.declared.place.Place.TheVariants.{FeedEntry, FeedEnd, Table, Arm1, PressIn, PressOut, Arm2}
-use Rattle.cell_types.specs.declared.place.Place.TheVariants.{DepEntry, DepEnd, Crane}
+use Rattle.cell_rules.specs.Types.{Place, FeedEntry, FeedEnd, Arm1, PressIn, PressOut, Arm2, DepEntry, DepEnd}
+use Rattle.cell_types.specs.declared.place.Place.TheVariants.{Table}
+use Rattle.cell_types.specs.declared.place.Place.TheVariants.{Crane}
 
 pub record PlaceSet : Type 0 where
   pub feed_entry : Bool

@@ -1,10 +1,6 @@
 -- The programs of controllers: what each step asks, and where that leads.
 use Rattle.std.specs.Prelude.{◌≡◌, ℕ, zero, suc, List, [], ◌∷◌, Option, Some, None, Result}
-use Rattle.cell_types.specs.declared.machine.Machine.{Machine}
-use Rattle.cell_types.specs.declared.call.Call.{Call}
-use Rattle.cell_types.specs.declared.answer.Answer.{Answer}
-use Rattle.cell_types.specs.declared.answer.Event.{Event}
-use Rattle.cell_types.specs.declared.reply.Reply.{Reply}
+use Rattle.cell_rules.specs.Types.{Machine, Call, Answer, Event, Reply}
 use Rattle.cell_rules.specs.declared.heard.LineFault.{LineFault}
 use Rattle.cell_rules.specs.declared.heard.Heard.{Heard}
 use Rattle.cell_rules.specs.Seen.{heard_after}

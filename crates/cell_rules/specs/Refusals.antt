@@ -4,25 +4,13 @@ use Rattle.std.specs.Prelude.{if◌then◌else◌}
 use Rattle.std.specs.Option.{option_or}
 use Rattle.std.specs.Bool.{then_some}
 use Rattle.std.specs.List.{list_any, list_all}
-use Rattle.cell_types.specs.declared.machine.Machine.{Machine}
-use Rattle.cell_types.specs.declared.machine.Machine.TheVariants.{Feed, Press, Deposit, Table as TableMachine, Watch}
-use Rattle.cell_types.specs.declared.zone.Zone.{Zone}
-use Rattle.cell_types.specs.declared.zone.Zone.TheVariants.{Z1, Z2, Z3, Z4, Z5, Z6}
-use Rattle.cell_types.specs.declared.place.Place.{Place}
-use Rattle.cell_types.specs.declared.place.Place.TheVariants.{FeedEnd, PressIn, PressOut, DepEnd}
-use Rattle.cell_types.specs.declared.zone.Transfer.{Transfer}
-use Rattle.cell_types.specs.declared.posture.Posture.{Posture}
-use Rattle.cell_types.specs.declared.posture.Posture.TheVariants.{Closed, Moving, OpenIn}
-use Rattle.cell_types.specs.declared.pose.Pose.{Pose}
-use Rattle.cell_types.specs.declared.pose.Pose.TheVariants.{Turning, Travelling, Running}
-use Rattle.cell_types.specs.declared.answer.Refusal.{Refusal}
-use Rattle.cell_types.specs.declared.answer.Refusal.TheVariants.{NotParty, Held, AlreadyMine, Shut, NotOwner}
-use Rattle.cell_types.specs.declared.answer.Refusal.TheVariants.{PlateInZone, NoPlate, PlaceFull, WrongWay, Jump}
-use Rattle.cell_types.specs.declared.answer.Refusal.TheVariants.{NotAtWork, NoPose, Worn, Stopped, NotStopped, InUse}
-use Rattle.cell_types.specs.Everything.{all_zones}
-use Rattle.cell_types.specs.Tables.{host_of, guest_of, transfer_of, posture_of}
-use Rattle.cell_types.specs.Ways.{own_move_of}
-use Rattle.cell_types.specs.Same.{same_machine, same_posture, same_zone, same_pose}
+use Rattle.cell_rules.specs.Types.{Machine, Feed, Press, Deposit, Watch, Zone, Z1, Z2, Z3, Z4, Z5, Z6, Place, FeedEnd}
+use Rattle.cell_rules.specs.Types.{PressIn, PressOut, DepEnd, Transfer, Posture, Closed, Moving, OpenIn, Pose}
+use Rattle.cell_rules.specs.Types.{Turning, Travelling, Running, Refusal, NotParty, Held, AlreadyMine, Shut, NotOwner}
+use Rattle.cell_rules.specs.Types.{PlateInZone, NoPlate, PlaceFull, WrongWay, Jump, NotAtWork, NoPose, Worn, Stopped}
+use Rattle.cell_rules.specs.Types.{NotStopped, InUse, all_zones, host_of, guest_of, transfer_of, posture_of}
+use Rattle.cell_rules.specs.Types.{own_move_of, same_machine, same_posture, same_zone, same_pose}
+use Rattle.cell_types.specs.declared.machine.Machine.TheVariants.{Table as TableMachine}
 use Rattle.cell_rules.specs.ModelState.{ModelState, zone_at, is_full, last_stamp}
 use Rattle.cell_rules.specs.Sound.{is_open, is_owned_by, is_party, is_onto_full}
 

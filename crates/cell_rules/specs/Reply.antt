@@ -1,21 +1,9 @@
 -- The reply to a call, and the state that it leaves.
 use Rattle.std.specs.Prelude.{◌+◌, Bool, true, false, Option, Some, None, unwrap_or, if◌then◌else◌}
-use Rattle.cell_types.specs.declared.machine.Machine.{Machine}
-use Rattle.cell_types.specs.declared.machine.Machine.TheVariants.{Feed, Deposit}
-use Rattle.cell_types.specs.declared.zone.Zone.{Zone}
-use Rattle.cell_types.specs.declared.place.Place.{Place}
-use Rattle.cell_types.specs.declared.zone.Transfer.{Transfer}
-use Rattle.cell_types.specs.declared.posture.Posture.TheVariants.{Closed}
-use Rattle.cell_types.specs.declared.pose.Pose.{Pose}
-use Rattle.cell_types.specs.declared.call.Call.{Call}
-use Rattle.cell_types.specs.declared.call.Call.TheVariants.{Claim, Give, Yield, Take, Release, SetPose, Advance}
-use Rattle.cell_types.specs.declared.call.Call.TheVariants.{Inquire, Stop, Resume}
-use Rattle.cell_types.specs.declared.answer.Refusal.{Refusal}
-use Rattle.cell_types.specs.declared.answer.Answer.{Answer}
-use Rattle.cell_types.specs.declared.answer.Answer.TheVariants.{Done, Shown, Refused}
-use Rattle.cell_types.specs.Tables.{host_of, guest_of, transfer_of, posture_of}
-use Rattle.cell_types.specs.Same.{same_machine}
-use Rattle.cell_types.specs.Ways.{own_move_of}
+use Rattle.cell_rules.specs.Types.{Machine, Feed, Deposit, Zone, Place, Transfer, Closed, Pose, Call, Claim, Give}
+use Rattle.cell_rules.specs.Types.{Yield, Take, Release, SetPose, Advance, Inquire, Stop, Resume, Refusal, Answer}
+use Rattle.cell_rules.specs.Types.{Done, Shown, Refused, host_of, guest_of, transfer_of, posture_of, same_machine}
+use Rattle.cell_rules.specs.Types.{own_move_of}
 use Rattle.cell_rules.specs.declared.zones.ZoneState.{ZoneState}
 use Rattle.cell_rules.specs.ZoneMap.{ZoneMap, put_zone, map_zones}
 use Rattle.cell_rules.specs.PlaceSet.{PlaceSet, insert_place, remove_place}

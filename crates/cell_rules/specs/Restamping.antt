@@ -1,15 +1,7 @@
 -- A state with another stamp, and an interlock that goes on where another has ended.
 use Rattle.std.specs.Prelude.{◌≡◌, ◌≢◌, ◌≤◌, ◌<◌, ℕ, Bool, true, ◌&&◌, not, if◌then◌else◌, List}
-use Rattle.cell_types.specs.declared.machine.Machine.{Machine}
-use Rattle.cell_types.specs.declared.zone.Zone.{Zone}
-use Rattle.cell_types.specs.declared.place.Place.{Place}
-use Rattle.cell_types.specs.declared.call.Call.{Call}
-use Rattle.cell_types.specs.declared.answer.Event.{Event}
-use Rattle.cell_types.specs.declared.answer.Answer.TheVariants.{Refused}
-use Rattle.cell_types.specs.declared.answer.Refusal.TheVariants.{Worn}
-use Rattle.cell_types.specs.Tables.{host_of}
-use Rattle.cell_types.specs.Same.{same_machine, same_posture}
-use Rattle.cell_types.specs.Ways.{keeper_of}
+use Rattle.cell_rules.specs.Types.{Machine, Zone, Place, Call, Event, Refused, Worn, host_of, same_machine}
+use Rattle.cell_rules.specs.Types.{same_posture, keeper_of}
 use Rattle.cell_rules.specs.ModelState.{ModelState, model_state, zone_at, is_full, last_stamp}
 use Rattle.cell_rules.specs.Sound.{IsSound, implies}
 use Rattle.cell_rules.specs.Refusals.{owns, posture_at}
@@ -21,8 +13,8 @@ use Rattle.cell_rules.specs.Seen.{Waits}
 abbrev pub restamped : ModelState → ℕ → ModelState
 restamped s stamp = model_state s.zones s.full stamp s.stopped
 
--- All that a stamp does is to wear. A state with another stamp is as sound. If the stamp isn't the last, a call that was
--- not worn has the same answer, and leaves the same state but for the stamp. No call is worn below the last stamp.
+-- All that a stamp does is to wear. A state with another stamp is as sound. If the stamp isn't the last, a call that
+-- was not worn has the same answer, and leaves the same state but for the stamp. No call is worn below the last stamp.
 pub record StampsOnlyWear (s : ModelState) : Type 0 where
   pub sound : (stamp : ℕ) → stamp ≤ last_stamp → IsSound s → IsSound (restamped s stamp)
   pub answer : (stamp : ℕ) (m : Machine) (c : Call) → stamp < last_stamp → reply s m c ≢ Refused Worn
@@ -31,8 +23,8 @@ pub record StampsOnlyWear (s : ModelState) : Type 0 where
       → next (restamped s stamp) m c ≡ restamped (next s m c) (next (restamped s stamp) m c).stamp
   pub unworn : (m : Machine) (c : Call) → IsSound s → s.stamp < last_stamp → reply s m c ≢ Refused Worn
 
--- what a machine knows of two states is the same: the zones that it owns in the first, with owner, flag and posture; the
--- postures of the zones that it hosts; its own places
+-- what a machine knows of two states is the same: the zones that it owns in the first, with owner, flag and posture;
+-- the postures of the zones that it hosts; its own places
 pub record IsSameFor (m : Machine) (s t : ModelState) : Type 0 where
   pub owned : (z : Zone) → owns s m z ≡ true → zone_at t z ≡ zone_at s z
   pub hosted : (z : Zone) → host_of z ≡ m → posture_at t z ≡ posture_at s z
@@ -42,7 +34,8 @@ pub record IsSameFor (m : Machine) (s t : ModelState) : Type 0 where
 -- machine that has seen all its own events.
 abbrev pub EndsAreSame : Type 0
 EndsAreSame =
-    (opening : ModelState) (m : Machine) (seen history : List Event) (stamp : ℕ) → IsSound opening → IsLegal opening history
+    (opening : ModelState) (m : Machine) (seen history : List Event) (stamp : ℕ) → IsSound opening
+    → IsLegal opening history
     → Waits m seen history → IsSameFor m (after opening seen) (restamped (after opening history) stamp)
 
 -- the test of one zone, and of one place

@@ -1,19 +1,8 @@
 -- What a machine keeps while others make the events, and refusals that its calls then never get.
 use Rattle.std.specs.Prelude.{◌≡◌, ◌≢◌, Bool, false, ◌&&◌, List, Option, IsTrue}
-use Rattle.cell_types.specs.declared.machine.Machine.{Machine}
-use Rattle.cell_types.specs.declared.machine.Machine.TheVariants.{Press}
-use Rattle.cell_types.specs.declared.zone.Zone.{Zone}
-use Rattle.cell_types.specs.declared.zone.Zone.TheVariants.{Z3}
-use Rattle.cell_types.specs.declared.place.Place.{Place}
-use Rattle.cell_types.specs.declared.call.Call.{Call}
-use Rattle.cell_types.specs.declared.call.Call.TheVariants.{Give, Yield, Take, Release, SetPose, Advance}
-use Rattle.cell_types.specs.declared.answer.Answer.{Answer}
-use Rattle.cell_types.specs.declared.answer.Answer.TheVariants.{Refused}
-use Rattle.cell_types.specs.declared.answer.Refusal.TheVariants.{NotOwner}
-use Rattle.cell_types.specs.declared.answer.Event.{Event}
-use Rattle.cell_types.specs.Tables.{host_of}
-use Rattle.cell_types.specs.Same.{same_machine, same_zone}
-use Rattle.cell_types.specs.Ways.{keeper_of}
+use Rattle.cell_rules.specs.Types.{Machine, Press, Zone, Z3, Place, Call, Give, Yield, Take, Release, SetPose}
+use Rattle.cell_rules.specs.Types.{Advance, Answer, Refused, NotOwner, Event, host_of, same_machine, same_zone}
+use Rattle.cell_rules.specs.Types.{keeper_of}
 use Rattle.cell_rules.specs.ModelState.{ModelState, zone_at, is_full}
 use Rattle.cell_rules.specs.History.{after, Holds, posture_by_events}
 

@@ -2,17 +2,9 @@
 use Rattle.std.specs.Prelude.{◌≤◌, Bool, false, true, ◌||◌, ◌&&◌, not, Option, Some, None, is_none, IsTrue}
 use Rattle.std.specs.Option.{option_eq}
 use Rattle.std.specs.List.{list_any}
-use Rattle.cell_types.specs.declared.machine.Machine.{Machine}
-use Rattle.cell_types.specs.declared.zone.Zone.{Zone}
-use Rattle.cell_types.specs.declared.zone.Zone.TheVariants.{Z3}
-use Rattle.cell_types.specs.declared.place.Place.TheVariants.{PressIn, PressOut}
-use Rattle.cell_types.specs.declared.zone.Transfer.{Transfer}
-use Rattle.cell_types.specs.declared.posture.Posture.{Posture}
-use Rattle.cell_types.specs.declared.posture.Posture.TheVariants.{Closed, Moving, OpenIn, OpenOut}
-use Rattle.cell_types.specs.declared.pose.Pose.{Pose}
-use Rattle.cell_types.specs.Everything.{all_poses}
-use Rattle.cell_types.specs.Tables.{host_of, guest_of, transfer_of, posture_of}
-use Rattle.cell_types.specs.Same.{same_machine, same_posture}
+use Rattle.cell_rules.specs.Types.{Machine, Zone, Z3, PressIn, PressOut, Transfer, Posture, Closed, Moving, OpenIn}
+use Rattle.cell_rules.specs.Types.{OpenOut, Pose, all_poses, host_of, guest_of, transfer_of, posture_of, same_machine}
+use Rattle.cell_rules.specs.Types.{same_posture}
 use Rattle.cell_rules.specs.declared.zones.ZoneState.{ZoneState}
 use Rattle.cell_rules.specs.PlaceSet.{PlaceSet, has}
 use Rattle.cell_rules.specs.ModelState.{ModelState, zone_at, last_stamp}

@@ -1,9 +1,7 @@
 -- Soundness as one test, equal to `IsSound`: the program computes it.
 use Rattle.std.specs.Prelude.{Bool, ◌&&◌, nat_le}
 use Rattle.std.specs.List.{list_all}
-use Rattle.cell_types.specs.declared.zone.Zone.{Zone}
-use Rattle.cell_types.specs.declared.zone.Zone.TheVariants.{Z3}
-use Rattle.cell_types.specs.Everything.{all_zones}
+use Rattle.cell_rules.specs.Types.{Zone, Z3, all_zones}
 use Rattle.cell_rules.specs.declared.zones.ZoneState.{ZoneState}
 use Rattle.cell_rules.specs.ZoneMap.{ZoneMap, zone_in}
 use Rattle.cell_rules.specs.PlaceSet.{PlaceSet}

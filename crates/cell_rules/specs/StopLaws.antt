@@ -1,9 +1,6 @@
 -- What may still be done while the cell is stopped.
 use Rattle.std.specs.Prelude.{◌≡◌, false, IsTrue}
-use Rattle.cell_types.specs.declared.machine.Machine.{Machine}
-use Rattle.cell_types.specs.declared.call.Call.{Call}
-use Rattle.cell_types.specs.declared.answer.Refusal.TheVariants.{Stopped}
-use Rattle.cell_types.specs.declared.answer.Answer.TheVariants.{Refused}
+use Rattle.cell_rules.specs.Types.{Machine, Call, Stopped, Refused}
 use Rattle.cell_rules.specs.ModelState.{ModelState}
 use Rattle.cell_rules.specs.Sound.{IsSound}
 use Rattle.cell_rules.specs.Reply.{reply}

@@ -1,9 +1,6 @@
 -- The map from the six zones to the state of each. It is read by look-up and changed by update alone.
 use Rattle.std.specs.Prelude.{false, None, List, [], ◌∷◌}
-use Rattle.cell_types.specs.declared.zone.Zone.{Zone}
-use Rattle.cell_types.specs.declared.zone.Zone.TheVariants.{Z1, Z2, Z3, Z4, Z5, Z6}
-use Rattle.cell_types.specs.declared.posture.Posture.TheVariants.{Closed}
-use Rattle.cell_types.specs.Everything.{all_zones}
+use Rattle.cell_rules.specs.Types.{Zone, Z1, Z2, Z3, Z4, Z5, Z6, Closed, all_zones}
 use Rattle.cell_rules.specs.declared.zones.ZoneState.{ZoneState}
 
 pub record ZoneMap : Type 0 where

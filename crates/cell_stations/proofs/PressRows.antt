@@ -3,13 +3,13 @@ use Rattle.std.proofs.Common.{◌≡◌, Bool, true, false, refl, None}
 use Rattle.cell_types.specs.declared.answer.Refusal.{Refusal}
 use Rattle.cell_devices.specs.declared.motor.Direction.{Direction}
 use Rattle.cell_rules.specs.ModelState.{ModelState}
-use Rattle.cell_control.specs.Row.{waits_on}
-use Rattle.cell_control.specs.Rows.{is_inquiry}
+use Rattle.cell_control.specs.Names.{waits_on, is_inquiry}
 use Rattle.cell_control.proofs.WaitLemmas.{stays_never, stays_until_free, stays_until_owner, stays_until_room}
+use Rattle.cell_stations.specs.Names.{row_at, press_steps}
 use Rattle.cell_stations.specs.declared.press.PressStep.{PressStep}
-use Rattle.cell_stations.specs.declared.press.PressStep.TheVariants.{ClaimFirst, MoveToMiddle, MoveToTop, MoveToBottom}
+use Rattle.cell_stations.specs.declared.press.PressStep.TheVariants.{ClaimFirst, MoveToMiddle, MoveToTop}
+use Rattle.cell_stations.specs.declared.press.PressStep.TheVariants.{MoveToBottom}
 use Rattle.cell_stations.specs.declared.press.PressProgress.{PressProgress}
-use Rattle.cell_stations.specs.PressProgram.{row_at, press_steps}
 use Rattle.cell_stations.specs.PressExamples.{begins_with, PressAsks, PressDrives, PressChecks, PressRowsAreMet}
 
 begins : (s : ModelState) (loaded forged : Bool) → press_steps.start (record s { full = record s.full { press_in = loaded; press_out = forged } }) ≡ begins_with loaded forged

@@ -7,14 +7,14 @@ use Rattle.cell_devices.specs.declared.stops.Stop.{Stop}
 use Rattle.cell_devices.specs.declared.act.TableAct.{TableAct}
 use Rattle.cell_devices.proofs.DriveLemmas.{drives_one, stops_there, goes_plus, goes_minus}
 use Rattle.cell_rules.specs.ModelState.{ModelState}
-use Rattle.cell_control.specs.Row.{waits_on}
-use Rattle.cell_control.specs.Rows.{DriveRow, is_inquiry}
+use Rattle.cell_control.specs.Names.{waits_on, DriveRow, is_inquiry}
 use Rattle.cell_control.proofs.WaitLemmas.{stays_never, stays_until_free, stays_until_owner, stays_until_room}
+use Rattle.cell_stations.specs.Names.{row_of, rotation_stop, Acts, after_act}
 use Rattle.cell_stations.specs.declared.table.TableStep.{TableStep}
 use Rattle.cell_stations.specs.declared.table.TableStep.TheVariants.{MoveToLoading, MoveToUnloading, ClaimEntry}
 use Rattle.cell_stations.specs.declared.table.TableReading.{TableReading}
 use Rattle.cell_stations.specs.declared.table.TableProgress.{TableProgress}
-use Rattle.cell_stations.specs.TableProgram.{row_at, row_of, rotation_stop, Acts, after_act}
+use Rattle.cell_stations.specs.TableProgram.{row_at}
 use Rattle.cell_stations.specs.TableExamples.{begins_with, rows_by, scale, at, told, TableAsks, TableDrives, TableChecks, TableRowsAreMet}
 
 begins : (points : Scale) (s : ModelState) (loaded : Bool) → (rows_by points).start (record s { full = record s.full { table = loaded } }) ≡ begins_with loaded

@@ -1,23 +1,22 @@
 -- Examples of each row of the press's program, with each state of its notes.
 use Rattle.std.specs.Prelude.{◌≡◌, ◌≢◌, Bool, true, false, List, [], ◌∷◌, Ok, Err}
-use Rattle.cell_types.specs.declared.machine.Machine.TheVariants.{Press}
-use Rattle.cell_types.specs.declared.zone.Zone.TheVariants.{Z3}
-use Rattle.cell_types.specs.declared.pose.Pose.TheVariants.{Travelling, Middle, Low, Top}
-use Rattle.cell_types.specs.declared.call.Call.TheVariants.{Claim, Give, Take, Release, SetPose, Advance}
+use Rattle.cell_rules.specs.Types.{Press, Z3, Travelling, Middle, Low, Top, Claim, Give, Take, Release, SetPose}
+use Rattle.cell_rules.specs.Types.{Advance, Event, Moving}
 use Rattle.cell_calib.specs.declared.sense.PressSense.{PressSense}
 use Rattle.cell_calib.specs.declared.sense.SensorFault.TheVariants.{Clash}
 use Rattle.cell_devices.specs.declared.motor.Direction.{Direction}
-use Rattle.cell_devices.specs.declared.motor.Direction.TheVariants.{Plus as Upward, Minus as Downward}
 use Rattle.cell_devices.specs.declared.motor.Motor.{Motor}
 use Rattle.cell_devices.specs.declared.motor.Motor.TheVariants.{Off, Plus, Minus}
 use Rattle.cell_devices.specs.declared.act.PressAct.{PressAct}
-use Rattle.cell_types.specs.declared.answer.Event.{Event}
-use Rattle.cell_types.specs.declared.posture.Posture.TheVariants.{Moving}
-use Rattle.cell_rules.specs.ModelState.{ModelState}
-use Rattle.cell_rules.specs.History.{Holds, posture_by_events}
+use Rattle.cell_devices.specs.declared.motor.Direction.TheVariants.{Plus as Upward, Minus as Downward}
+use Rattle.cell_rules.specs.Names.{ModelState, Holds, posture_by_events}
 use Rattle.cell_control.specs.Rows.{AskRow, DriveRow, CheckRow, UntilFree, UntilOwner, UntilRoom, NoOtherAnswers}
 use Rattle.cell_stations.specs.declared.press.PressStep.{PressStep}
-use Rattle.cell_stations.specs.declared.press.PressStep.TheVariants.{ClaimFirst, LeaveForMiddle, MoveToMiddle, PoseMiddle, ReleaseInterior, TakePlate, LeaveForTop, MoveToTop, PoseTop, Forge, LeaveForBottom, MoveToBottom, PoseLow, GivePlate, ClaimBack}
+use Rattle.cell_stations.specs.declared.press.PressStep.TheVariants.{ClaimFirst, LeaveForMiddle, MoveToMiddle}
+use Rattle.cell_stations.specs.declared.press.PressStep.TheVariants.{PoseMiddle, ReleaseInterior, TakePlate}
+use Rattle.cell_stations.specs.declared.press.PressStep.TheVariants.{LeaveForTop, MoveToTop, PoseTop, Forge}
+use Rattle.cell_stations.specs.declared.press.PressStep.TheVariants.{LeaveForBottom, MoveToBottom, PoseLow, GivePlate}
+use Rattle.cell_stations.specs.declared.press.PressStep.TheVariants.{ClaimBack}
 use Rattle.cell_stations.specs.declared.press.PressProgress.{PressProgress}
 use Rattle.cell_stations.specs.PressProgram.{press_steps}
 
@@ -59,32 +58,50 @@ pub record PressAsks (loaded forged : Bool) (d : Direction) : Type 0 where
   pub claims : AskRow press_steps (at ClaimFirst false false d) (Claim Z3) [] (at LeaveForMiddle false false d)
   pub claims_loaded : AskRow press_steps (at ClaimFirst true false d) (Claim Z3) [] (at LeaveForTop true false d)
   pub claims_forged : AskRow press_steps (at ClaimFirst loaded true d) (Claim Z3) [] (at LeaveForBottom loaded true d)
-  pub leaves_for_middle : AskRow press_steps (at LeaveForMiddle loaded forged d) (SetPose Travelling) [] (at MoveToMiddle loaded forged d)
-  pub poses_middle : AskRow press_steps (at PoseMiddle loaded forged d) (SetPose Middle) [] (at ReleaseInterior loaded forged d)
+  pub leaves_for_middle : AskRow press_steps (at LeaveForMiddle loaded forged d) (SetPose Travelling) []
+      (at MoveToMiddle loaded forged d)
+  pub poses_middle : AskRow press_steps (at PoseMiddle loaded forged d) (SetPose Middle) []
+      (at ReleaseInterior loaded forged d)
   pub releases : AskRow press_steps (at ReleaseInterior loaded forged d) (Release Z3) [] (at TakePlate loaded forged d)
-  pub takes : AskRow press_steps (at TakePlate loaded forged d) (Take Z3) (UntilOwner ∷ []) (at LeaveForTop true forged d)
-  pub leaves_for_top : AskRow press_steps (at LeaveForTop loaded forged d) (SetPose Travelling) [] (at MoveToTop loaded forged d)
+  pub takes : AskRow press_steps (at TakePlate loaded forged d) (Take Z3) (UntilOwner ∷ [])
+      (at LeaveForTop true forged d)
+  pub leaves_for_top : AskRow press_steps (at LeaveForTop loaded forged d) (SetPose Travelling) []
+      (at MoveToTop loaded forged d)
   pub poses_top : AskRow press_steps (at PoseTop loaded forged d) (SetPose Top) [] (at Forge loaded forged d)
   pub forges : AskRow press_steps (at Forge loaded forged d) Advance [] (at LeaveForBottom false true d)
-  pub leaves_for_bottom : AskRow press_steps (at LeaveForBottom loaded forged d) (SetPose Travelling) [] (at MoveToBottom loaded forged d)
+  pub leaves_for_bottom : AskRow press_steps (at LeaveForBottom loaded forged d) (SetPose Travelling) []
+      (at MoveToBottom loaded forged d)
   pub poses_low : AskRow press_steps (at PoseLow loaded forged d) (SetPose Low) [] (at GivePlate loaded forged d)
   pub gives : AskRow press_steps (at GivePlate loaded forged d) (Give Z3) (UntilRoom ∷ []) (at ClaimBack loaded false d)
-  pub claims_back : AskRow press_steps (at ClaimBack loaded forged d) (Claim Z3) (UntilFree ∷ []) (at LeaveForMiddle loaded forged d)
+  pub claims_back : AskRow press_steps (at ClaimBack loaded forged d) (Claim Z3) (UntilFree ∷ [])
+      (at LeaveForMiddle loaded forged d)
 
 pub record PressDrives (loaded forged : Bool) (d : Direction) : Type 0 where
-  pub to_middle_at_bottom : DriveRow press_steps (at MoveToMiddle loaded forged d) at_bottom (told Plus) (at MoveToMiddle loaded forged Upward)
-  pub to_middle_at_top : DriveRow press_steps (at MoveToMiddle loaded forged d) at_top (told Minus) (at MoveToMiddle loaded forged Downward)
-  pub to_middle_on_its_way_up : DriveRow press_steps (at MoveToMiddle loaded forged Upward) between (told Plus) (at MoveToMiddle loaded forged Upward)
-  pub to_middle_on_its_way_down : DriveRow press_steps (at MoveToMiddle loaded forged Downward) between (told Minus) (at MoveToMiddle loaded forged Downward)
-  pub to_middle_there : DriveRow press_steps (at MoveToMiddle loaded forged d) at_middle (told Off) (at PoseMiddle loaded forged d)
-  pub to_top_at_bottom : DriveRow press_steps (at MoveToTop loaded forged d) at_bottom (told Plus) (at MoveToTop loaded forged Upward)
-  pub to_top_at_middle : DriveRow press_steps (at MoveToTop loaded forged d) at_middle (told Plus) (at MoveToTop loaded forged Upward)
-  pub to_top_on_its_way : DriveRow press_steps (at MoveToTop loaded forged d) between (told Plus) (at MoveToTop loaded forged Upward)
+  pub to_middle_at_bottom : DriveRow press_steps (at MoveToMiddle loaded forged d) at_bottom (told Plus)
+      (at MoveToMiddle loaded forged Upward)
+  pub to_middle_at_top : DriveRow press_steps (at MoveToMiddle loaded forged d) at_top (told Minus)
+      (at MoveToMiddle loaded forged Downward)
+  pub to_middle_on_its_way_up : DriveRow press_steps (at MoveToMiddle loaded forged Upward) between (told Plus)
+      (at MoveToMiddle loaded forged Upward)
+  pub to_middle_on_its_way_down : DriveRow press_steps (at MoveToMiddle loaded forged Downward) between (told Minus)
+      (at MoveToMiddle loaded forged Downward)
+  pub to_middle_there : DriveRow press_steps (at MoveToMiddle loaded forged d) at_middle (told Off)
+      (at PoseMiddle loaded forged d)
+  pub to_top_at_bottom : DriveRow press_steps (at MoveToTop loaded forged d) at_bottom (told Plus)
+      (at MoveToTop loaded forged Upward)
+  pub to_top_at_middle : DriveRow press_steps (at MoveToTop loaded forged d) at_middle (told Plus)
+      (at MoveToTop loaded forged Upward)
+  pub to_top_on_its_way : DriveRow press_steps (at MoveToTop loaded forged d) between (told Plus)
+      (at MoveToTop loaded forged Upward)
   pub to_top_there : DriveRow press_steps (at MoveToTop loaded forged d) at_top (told Off) (at PoseTop loaded forged d)
-  pub to_bottom_at_top : DriveRow press_steps (at MoveToBottom loaded forged d) at_top (told Minus) (at MoveToBottom loaded forged Downward)
-  pub to_bottom_at_middle : DriveRow press_steps (at MoveToBottom loaded forged d) at_middle (told Minus) (at MoveToBottom loaded forged Downward)
-  pub to_bottom_on_its_way : DriveRow press_steps (at MoveToBottom loaded forged d) between (told Minus) (at MoveToBottom loaded forged Downward)
-  pub to_bottom_there : DriveRow press_steps (at MoveToBottom loaded forged d) at_bottom (told Off) (at PoseLow loaded forged d)
+  pub to_bottom_at_top : DriveRow press_steps (at MoveToBottom loaded forged d) at_top (told Minus)
+      (at MoveToBottom loaded forged Downward)
+  pub to_bottom_at_middle : DriveRow press_steps (at MoveToBottom loaded forged d) at_middle (told Minus)
+      (at MoveToBottom loaded forged Downward)
+  pub to_bottom_on_its_way : DriveRow press_steps (at MoveToBottom loaded forged d) between (told Minus)
+      (at MoveToBottom loaded forged Downward)
+  pub to_bottom_there : DriveRow press_steps (at MoveToBottom loaded forged d) at_bottom (told Off)
+      (at PoseLow loaded forged d)
 
 pub record PressChecks : Type 0 where
   pub bottom : CheckRow press_steps at_bottom (Ok at_bottom)
@@ -104,4 +121,6 @@ pub record PressRowsAreMet : Type 0 where
   pub checks : PressChecks
   pub no_other_answers : NoOtherAnswers press_steps
   pub rests : (p : PressProgress) → press_steps.rest p ≡ told Off
-  pub demands : (p : PressProgress) (motor : Motor) (opening : ModelState) (seen : List Event) → motor ≢ Off → press_steps.motor_demands p (told motor) opening seen → Holds opening seen Press Z3 × (posture_by_events opening seen Z3 ≡ Moving)
+  pub demands : (p : PressProgress) (motor : Motor) (opening : ModelState) (seen : List Event) → motor ≢ Off
+      → press_steps.motor_demands p (told motor) opening seen
+      → Holds opening seen Press Z3 × (posture_by_events opening seen Z3 ≡ Moving)

@@ -1,30 +1,28 @@
 -- The press's program, row by row.
 use Rattle.std.specs.Prelude.{◌≡◌, ◌≢◌, Bool, true, false, ◌&&◌, ◌||◌, if◌then◌else◌, List, Result, Ok, Err}
-use Rattle.cell_types.specs.declared.machine.Machine.TheVariants.{Press}
-use Rattle.cell_types.specs.declared.zone.Zone.TheVariants.{Z3}
-use Rattle.cell_types.specs.declared.place.Place.TheVariants.{PressIn, PressOut}
-use Rattle.cell_types.specs.declared.pose.Pose.{Pose}
-use Rattle.cell_types.specs.declared.pose.Pose.TheVariants.{Travelling, Middle, Low, Top}
-use Rattle.cell_types.specs.declared.call.Call.{Call}
-use Rattle.cell_types.specs.declared.call.Call.TheVariants.{Claim, Give, Take, Release, SetPose, Advance}
-use Rattle.cell_types.specs.declared.answer.Event.{Event}
+use Rattle.cell_rules.specs.Types.{Press, Z3, PressIn, PressOut, Pose, Travelling, Middle, Low, Top, Call, Claim}
+use Rattle.cell_rules.specs.Types.{Give, Take, Release, SetPose, Advance, Event}
 use Rattle.cell_calib.specs.declared.sense.PressSense.{PressSense}
 use Rattle.cell_calib.specs.declared.sense.SensorFault.{SensorFault}
 use Rattle.cell_calib.specs.declared.sense.SensorFault.TheVariants.{Clash}
+use Rattle.cell_devices.specs.Names.{motor_of}
 use Rattle.cell_devices.specs.declared.motor.Direction.{Direction}
-use Rattle.cell_devices.specs.declared.motor.Direction.TheVariants.{Minus as Downward}
 use Rattle.cell_devices.specs.declared.motor.Motor.{Motor}
 use Rattle.cell_devices.specs.declared.motor.Motor.TheVariants.{Off, Plus, Minus}
 use Rattle.cell_devices.specs.declared.act.PressAct.{PressAct}
-use Rattle.cell_devices.specs.Motors.{motor_of, latest}
-use Rattle.cell_rules.specs.ModelState.{ModelState, is_full}
-use Rattle.cell_rules.specs.History.{Holds, PressMoves}
+use Rattle.cell_devices.specs.declared.motor.Direction.TheVariants.{Minus as Downward}
+use Rattle.cell_devices.specs.Motors.{latest}
+use Rattle.cell_rules.specs.Names.{ModelState, is_full, Holds, PressMoves}
+use Rattle.cell_control.specs.Names.{row_that_asks, row_that_drives, with_waits, Steps}
 use Rattle.cell_control.specs.declared.row.Row.{Row}
-use Rattle.cell_control.specs.declared.row.Waits.TheVariants.{UntilFree, UntilOwner, UntilRoom}
-use Rattle.cell_control.specs.Row.{row_that_asks, row_that_drives, with_waits}
-use Rattle.cell_control.specs.Steps.{Steps}
+use Rattle.cell_control.specs.declared.row.Waits.TheVariants.{UntilOwner, UntilRoom}
+use Rattle.cell_control.specs.declared.row.Waits.TheVariants.{UntilFree}
 use Rattle.cell_stations.specs.declared.press.PressStep.{PressStep}
-use Rattle.cell_stations.specs.declared.press.PressStep.TheVariants.{ClaimFirst, LeaveForMiddle, MoveToMiddle, PoseMiddle, ReleaseInterior, TakePlate, LeaveForTop, MoveToTop, PoseTop, Forge, LeaveForBottom, MoveToBottom, PoseLow, GivePlate, ClaimBack}
+use Rattle.cell_stations.specs.declared.press.PressStep.TheVariants.{ClaimFirst, LeaveForMiddle, MoveToMiddle}
+use Rattle.cell_stations.specs.declared.press.PressStep.TheVariants.{PoseMiddle, ReleaseInterior, TakePlate}
+use Rattle.cell_stations.specs.declared.press.PressStep.TheVariants.{LeaveForTop, MoveToTop, PoseTop, Forge}
+use Rattle.cell_stations.specs.declared.press.PressStep.TheVariants.{LeaveForBottom, MoveToBottom, PoseLow, GivePlate}
+use Rattle.cell_stations.specs.declared.press.PressStep.TheVariants.{ClaimBack}
 use Rattle.cell_stations.specs.declared.press.PressProgress.{PressProgress}
 
 -- the row of a step that asks, of one that sets a pose, and of one that drives, by the next step
@@ -71,7 +69,12 @@ after_done p = (row_of p).next
 
 -- at the start the press notes its places
 abbrev pub press_start : ModelState → PressProgress
-press_start s = record { step = ClaimFirst; loaded = is_full s PressIn; forged = is_full s PressOut; direction = Downward }
+press_start s = record {
+  step = ClaimFirst;
+  loaded = is_full s PressIn;
+  forged = is_full s PressOut;
+  direction = Downward;
+}
 
 -- the drives by switch: off at the switch, else towards it; to the middle from no switch, in the last direction
 abbrev pub to_middle : Direction → PressSense → Motor

@@ -1,33 +1,31 @@
 -- The table's program, row by row.
-use Rattle.std.specs.Prelude.{◌≡◌, ◌≢◌, ◌⊎◌, ◌<◌, ◌≤◌, ℕ, ℤ, Bool, true, false, ◌&&◌, if◌then◌else◌, List, Option, Some, None, Result, Ok, Err}
+use Rattle.std.specs.Prelude.{◌≡◌, ◌≢◌, ◌⊎◌, ◌<◌, ◌≤◌, ℕ, ℤ, Bool, true, false, ◌&&◌, if◌then◌else◌, List, Option}
+use Rattle.std.specs.Prelude.{Some, None, Result, Ok, Err}
 use Rattle.cell_types.specs.declared.machine.Machine.TheVariants.{Table as TableMachine}
-use Rattle.cell_types.specs.declared.zone.Zone.TheVariants.{Z1, Z2}
+use Rattle.cell_rules.specs.Types.{Z1, Z2, Pose, Turning, Loading, Unloading, Call, Claim, Give, Take, Release}
+use Rattle.cell_rules.specs.Types.{SetPose, Event}
 use Rattle.cell_types.specs.declared.place.Place.TheVariants.{Table as OnTable}
-use Rattle.cell_types.specs.declared.pose.Pose.{Pose}
-use Rattle.cell_types.specs.declared.pose.Pose.TheVariants.{Turning, Loading, Unloading}
-use Rattle.cell_types.specs.declared.call.Call.{Call}
-use Rattle.cell_types.specs.declared.call.Call.TheVariants.{Claim, Give, Take, Release, SetPose}
-use Rattle.cell_types.specs.declared.answer.Event.{Event}
-use Rattle.cell_calib.specs.Scale.{Scale}
-use Rattle.cell_calib.specs.Line.{IsReading}
-use Rattle.cell_calib.specs.Sensors.{TableClashes}
+use Rattle.cell_calib.specs.Names.{Scale, IsReading}
 use Rattle.cell_calib.specs.declared.sense.TableSense.{TableSense}
 use Rattle.cell_calib.specs.declared.sense.SensorFault.{SensorFault}
 use Rattle.cell_calib.specs.declared.sense.SensorFault.TheVariants.{Low, High, Clash}
+use Rattle.cell_calib.specs.Sensors.{TableClashes}
+use Rattle.cell_devices.specs.Names.{DrivesTo}
 use Rattle.cell_devices.specs.declared.motor.Motor.{Motor}
 use Rattle.cell_devices.specs.declared.stops.TheConstants.{TURN_LOADING, TURN_UNLOADING}
 use Rattle.cell_devices.specs.declared.motor.Motor.TheVariants.{Off, Plus, Minus}
 use Rattle.cell_devices.specs.declared.stops.Stop.{Stop}
 use Rattle.cell_devices.specs.declared.act.TableAct.{TableAct}
-use Rattle.cell_devices.specs.Drives.{DrivesTo}
-use Rattle.cell_rules.specs.ModelState.{ModelState, is_full}
-use Rattle.cell_rules.specs.History.{Holds, Moves}
+use Rattle.cell_rules.specs.Names.{ModelState, is_full, Holds, Moves}
+use Rattle.cell_control.specs.Names.{row_that_asks, row_that_drives, with_waits, Steps}
 use Rattle.cell_control.specs.declared.row.Row.{Row}
-use Rattle.cell_control.specs.declared.row.Waits.TheVariants.{UntilFree, UntilOwner, UntilRoom}
-use Rattle.cell_control.specs.Row.{row_that_asks, row_that_drives, with_waits}
-use Rattle.cell_control.specs.Steps.{Steps}
+use Rattle.cell_control.specs.declared.row.Waits.TheVariants.{UntilOwner, UntilRoom}
+use Rattle.cell_control.specs.declared.row.Waits.TheVariants.{UntilFree}
 use Rattle.cell_stations.specs.declared.table.TableStep.{TableStep}
-use Rattle.cell_stations.specs.declared.table.TableStep.TheVariants.{ClaimEntry, ClaimExit, LeaveForLoading, MoveToLoading, PoseLoading, ReleaseEntry, TakePlate, LeaveForUnloading, MoveToUnloading, PoseUnloading, GivePlate, ClaimBack}
+use Rattle.cell_stations.specs.declared.table.TableStep.TheVariants.{ClaimEntry, ClaimExit, LeaveForLoading}
+use Rattle.cell_stations.specs.declared.table.TableStep.TheVariants.{MoveToLoading, PoseLoading, ReleaseEntry}
+use Rattle.cell_stations.specs.declared.table.TableStep.TheVariants.{TakePlate, LeaveForUnloading, MoveToUnloading}
+use Rattle.cell_stations.specs.declared.table.TableStep.TheVariants.{PoseUnloading, GivePlate, ClaimBack}
 use Rattle.cell_stations.specs.declared.table.TableProgress.{TableProgress}
 use Rattle.cell_stations.specs.declared.table.TableReading.{TableReading}
 
@@ -119,7 +117,9 @@ after_act p act = if is_off act.height && is_off act.rotation then after_done p 
 -- while a motor of the table is on, the table holds both its zones and is turning
 abbrev pub TableDemands : TableAct → ModelState → List Event → Type 0
 TableDemands act opening seen =
-    (act.height ≢ Off) ⊎ (act.rotation ≢ Off) → (Holds opening seen TableMachine Z1 × Holds opening seen TableMachine Z2) × (Moves opening seen Z1 × Moves opening seen Z2)
+    (act.height ≢ Off) ⊎ (act.rotation ≢ Off)
+    → (Holds opening seen TableMachine Z1 × Holds opening seen TableMachine Z2)
+    × (Moves opening seen Z1 × Moves opening seen Z2)
 
 -- the program, by the points of the rotation's calibration and what its gauge may give at a raw value
 abbrev pub table_steps : Scale → (ℕ → ℤ → Type 0) → Steps TableProgress TableSense TableReading TableAct

@@ -1,32 +1,24 @@
 -- The crane is never refused.
 use Rattle.std.proofs.Common.{◌≡◌, ℕ, ℤ, Bool, true, false, if◌then◌else◌, List, [], ◌∷◌, Option, Some, None, refl, sym, ap, ◌∙◌, subst}
 use Rattle.std.specs.Prelude.{⊤}
-use Rattle.cell_types.specs.declared.machine.Machine.{Machine}
-use Rattle.cell_types.specs.declared.machine.Machine.TheVariants.{Feed, Crane}
-use Rattle.cell_types.specs.declared.zone.Zone.TheVariants.{Z5, Z6}
-use Rattle.cell_types.specs.declared.place.Place.TheVariants.{FeedEntry, Crane as OnCrane}
-use Rattle.cell_types.specs.declared.posture.Posture.{Posture}
-use Rattle.cell_types.specs.declared.posture.Posture.TheVariants.{Closed, Moving, OpenIn}
-use Rattle.cell_types.specs.declared.call.Call.{Call}
-use Rattle.cell_types.specs.declared.call.Call.TheVariants.{Inquire}
-use Rattle.cell_types.specs.declared.answer.Refusal.TheVariants.{PlaceFull}
-use Rattle.cell_types.specs.declared.answer.Answer.TheVariants.{Done, Shown}
-use Rattle.cell_types.specs.Tables.{transfer_of}
-use Rattle.cell_types.specs.Same.{same_posture}
+use Rattle.cell_rules.specs.Types.{Machine, Feed, Crane, Z5, Z6, FeedEntry, Posture, Closed, Moving, OpenIn, Call}
+use Rattle.cell_rules.specs.Types.{Inquire, PlaceFull, Done, Shown, transfer_of, same_posture}
+use Rattle.cell_types.specs.declared.place.Place.TheVariants.{Crane as OnCrane}
 use Rattle.cell_calib.specs.Scale.{Scale}
-use Rattle.cell_rules.specs.PlaceSet.{has}
-use Rattle.cell_rules.specs.ModelState.{ModelState, is_full}
-use Rattle.cell_rules.specs.Sound.{IsSound, implies, is_owned_by, is_received_by}
-use Rattle.cell_rules.specs.Refusals.{owns, owner_of, posture_at, given_by}
-use Rattle.cell_rules.specs.Reply.{reply, changed, filled}
-use Rattle.cell_rules.specs.Start.{IsStartState}
+use Rattle.cell_rules.specs.Names.{has, ModelState, is_full, IsSound, implies, is_owned_by, is_received_by, owns}
+use Rattle.cell_rules.specs.Names.{owner_of, posture_at, given_by, reply, changed, filled, IsStartState}
 use Rattle.cell_rules.proofs.Holders.{owned_as, take_owned}
 use Rattle.cell_rules.proofs.OwnSide.{full-foreign}
 use Rattle.cell_control.specs.declared.row.Waits.TheVariants.{Never}
+use Rattle.cell_haul.specs.Names.{row_at, row_of, step_after_inquiry, first_step, after_done, is_done, crane_start}
+use Rattle.cell_haul.specs.Names.{crane_steps}
 use Rattle.cell_haul.specs.declared.crane.CraneStep.{CraneStep}
-use Rattle.cell_haul.specs.declared.crane.CraneStep.TheVariants.{RaiseToFetch, TravelToDeposit, AwaitPlate, LowerToPlate, GripPlate, RaiseWithPlate, TakePlate, ReleaseDeposit, TravelToFeed, ClaimFeed, LowerToFeed, DropPlate, RaiseFromFeed, GivePlate}
+use Rattle.cell_haul.specs.declared.crane.CraneStep.TheVariants.{RaiseToFetch, TravelToDeposit, AwaitPlate}
+use Rattle.cell_haul.specs.declared.crane.CraneStep.TheVariants.{LowerToPlate, GripPlate, RaiseWithPlate}
+use Rattle.cell_haul.specs.declared.crane.CraneStep.TheVariants.{ReleaseDeposit, TravelToFeed, ClaimFeed, LowerToFeed}
+use Rattle.cell_haul.specs.declared.crane.CraneStep.TheVariants.{DropPlate, RaiseFromFeed}
 use Rattle.cell_haul.specs.declared.crane.CraneProgress.{CraneProgress}
-use Rattle.cell_haul.specs.CraneProgram.{row_at, row_of, step_after_inquiry, first_step, after_done, is_done, crane_start, crane_steps}
+use Rattle.cell_haul.specs.declared.crane.CraneStep.TheVariants.{TakePlate, GivePlate}
 use Rattle.cell_haul.proofs.CraneFacts as known
 use Rattle.cell_control.proofs.Facts as facts
 use Rattle.cell_team.proofs.Waiting.{Heeds, none_only, unless, claim_in, take_own, give_only, release_only}

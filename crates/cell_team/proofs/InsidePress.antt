@@ -1,20 +1,9 @@
 -- The plates that the press has, or that are on their way into it or out of it: only the robot changes their number.
 use Rattle.std.proofs.Common.{◌≡◌, ℕ, ◌+◌, Bool, true, false, ◌&&◌, cond, refl, arith}
-use Rattle.cell_types.specs.declared.machine.Machine.{Machine}
-use Rattle.cell_types.specs.declared.machine.Machine.TheVariants.{Feed, Robot, Press}
-use Rattle.cell_types.specs.declared.zone.Zone.{Zone}
-use Rattle.cell_types.specs.declared.zone.Zone.TheVariants.{Z3}
-use Rattle.cell_types.specs.declared.place.Place.TheVariants.{PressIn, PressOut}
-use Rattle.cell_types.specs.declared.call.Call.{Call}
-use Rattle.cell_types.specs.declared.call.Call.TheVariants.{Give, Take, Advance}
-use Rattle.cell_types.specs.declared.answer.Answer.{Answer}
-use Rattle.cell_types.specs.declared.answer.Answer.TheVariants.{Done, Shown, Refused}
-use Rattle.cell_types.specs.Same.{same_machine}
-use Rattle.cell_rules.specs.ModelState.{ModelState, zone_at, is_full, one_if}
-use Rattle.cell_rules.specs.Sound.{IsSound, is_party}
-use Rattle.cell_rules.specs.Refusals.{give_refusal, take_refusal}
-use Rattle.cell_rules.specs.Reply.{reply, next, next_by, changed}
-use Rattle.cell_rules.specs.History.{gives, takes, fills, empties}
+use Rattle.cell_rules.specs.Types.{Machine, Feed, Robot, Press, Zone, Z3, PressIn, PressOut, Call, Give, Take}
+use Rattle.cell_rules.specs.Types.{Advance, Answer, Done, Shown, Refused, same_machine}
+use Rattle.cell_rules.specs.Names.{ModelState, zone_at, is_full, one_if, IsSound, is_party, give_refusal}
+use Rattle.cell_rules.specs.Names.{take_refusal, reply, next, next_by, changed, gives, takes, fills, empties}
 use Rattle.cell_rules.proofs.Tables.{and_left}
 use Rattle.cell_rules.proofs.Done.{give_done, take_done}
 use Rattle.cell_rules.proofs.Soundness.{done_none}

@@ -1,35 +1,27 @@
 -- The press is never refused.
 use Rattle.std.proofs.Common.{◌≡◌, ◌&&◌, Bool, true, false, not, List, [], ◌∷◌, Option, Some, None, refl, sym, ap, ◌∙◌, subst}
 use Rattle.std.specs.Prelude.{⊤, ◌||◌}
-use Rattle.cell_types.specs.declared.machine.Machine.TheVariants.{Press}
-use Rattle.cell_types.specs.declared.zone.Zone.{Zone}
-use Rattle.cell_types.specs.declared.zone.Zone.TheVariants.{Z3}
-use Rattle.cell_types.specs.declared.place.Place.TheVariants.{PressIn, PressOut}
-use Rattle.cell_types.specs.declared.posture.Posture.TheVariants.{Closed, Moving, OpenIn, OpenOut}
-use Rattle.cell_types.specs.declared.pose.Pose.TheVariants.{Travelling, Middle, Low, Top}
-use Rattle.cell_types.specs.declared.call.Call.{Call}
-use Rattle.cell_types.specs.declared.call.Call.TheVariants.{Claim, Give, Take, SetPose}
-use Rattle.cell_types.specs.declared.answer.Refusal.TheVariants.{NotOwner}
-use Rattle.cell_types.specs.declared.answer.Answer.TheVariants.{Done}
-use Rattle.cell_types.specs.Tables.{transfer_of}
-use Rattle.cell_types.specs.Same.{same_posture}
+use Rattle.cell_rules.specs.Types.{Press, Zone, Z3, PressIn, PressOut, Closed, Moving, OpenIn, OpenOut, Travelling}
+use Rattle.cell_rules.specs.Types.{Middle, Low, Top, Call, Claim, Give, Take, SetPose, NotOwner, Done, transfer_of}
+use Rattle.cell_rules.specs.Types.{same_posture}
 use Rattle.std.specs.Bool.{then_some}
 use Rattle.cell_devices.specs.declared.motor.Motor.{Motor}
 use Rattle.cell_devices.specs.declared.motor.Motor.TheVariants.{Off, Plus, Minus}
-use Rattle.cell_rules.specs.PlaceSet.{has}
-use Rattle.cell_rules.specs.ModelState.{ModelState, is_full}
-use Rattle.cell_rules.specs.Sound.{IsSound}
-use Rattle.cell_rules.specs.Refusals.{owns, owner_of, posture_at, given_by, moves_at}
-use Rattle.cell_rules.specs.Reply.{reply, changed, emptied, filled}
-use Rattle.cell_rules.specs.Start.{IsStartState}
+use Rattle.cell_rules.specs.Names.{has, ModelState, is_full, IsSound, owns, owner_of, posture_at, given_by, moves_at}
+use Rattle.cell_rules.specs.Names.{reply, changed, emptied, filled, IsStartState}
 use Rattle.cell_rules.proofs.Holders.{take_owned}
 use Rattle.cell_rules.proofs.Tables.{and_left, and_right, and_both}
 use Rattle.cell_rules.proofs.OwnSide.{full-foreign}
 use Rattle.cell_control.specs.declared.row.Waits.TheVariants.{Never, UntilRoom}
+use Rattle.cell_stations.specs.Names.{with_plates, by_plates, row_at, after_motor, press_start, press_steps}
 use Rattle.cell_stations.specs.declared.press.PressStep.{PressStep}
-use Rattle.cell_stations.specs.declared.press.PressStep.TheVariants.{ClaimFirst, LeaveForMiddle, MoveToMiddle, PoseMiddle, ReleaseInterior, TakePlate, LeaveForTop, MoveToTop, PoseTop, Forge, LeaveForBottom, MoveToBottom, PoseLow, GivePlate, ClaimBack}
+use Rattle.cell_stations.specs.declared.press.PressStep.TheVariants.{ClaimFirst, LeaveForMiddle, MoveToMiddle}
+use Rattle.cell_stations.specs.declared.press.PressStep.TheVariants.{PoseMiddle, ReleaseInterior, TakePlate}
+use Rattle.cell_stations.specs.declared.press.PressStep.TheVariants.{LeaveForTop, MoveToTop, PoseTop, Forge}
+use Rattle.cell_stations.specs.declared.press.PressStep.TheVariants.{LeaveForBottom, MoveToBottom, PoseLow, GivePlate}
+use Rattle.cell_stations.specs.declared.press.PressStep.TheVariants.{ClaimBack}
 use Rattle.cell_stations.specs.declared.press.PressProgress.{PressProgress}
-use Rattle.cell_stations.specs.PressProgram.{with_plates, by_plates, row_at, row_of, after_motor, press_start, press_steps}
+use Rattle.cell_stations.specs.PressProgram.{row_of}
 use Rattle.cell_stations.proofs.PressFacts as known
 use Rattle.cell_control.proofs.Facts as facts
 use Rattle.cell_team.proofs.Waiting.{Heeds, Clears, HasRoom, may, has_room, no_jump, first_claim, claim_back, take_back, give_only, release_only, pose_only, advance_only}

@@ -1,30 +1,16 @@
 -- What a reached step knows of the state, if nobody hands over an empty zone.
 use Rattle.std.proofs.Common.{◌≡◌, ℕ, zero, suc, Bool, true, false, cond, if◌then◌else◌, inl, inr, List, [], ◌∷◌, Option, Some, None, Ok, Err, refl, sym, ap, ◌∙◌, subst}
 use Rattle.std.specs.Prelude.{⊤}
-use Rattle.cell_types.specs.declared.machine.Machine.{Machine}
-use Rattle.cell_types.specs.declared.machine.Machine.TheVariants.{Watch}
-use Rattle.cell_types.specs.declared.zone.Zone.{Zone}
-use Rattle.cell_types.specs.declared.zone.Zone.TheVariants.{Z1, Z2, Z3, Z4, Z5, Z6}
-use Rattle.cell_types.specs.declared.posture.Posture.{Posture}
-use Rattle.cell_types.specs.declared.call.Call.{Call}
-use Rattle.cell_types.specs.declared.call.Call.TheVariants.{Yield}
-use Rattle.cell_types.specs.declared.answer.Answer.{Answer}
-use Rattle.cell_types.specs.declared.answer.Answer.TheVariants.{Done, Shown, Refused}
-use Rattle.cell_types.specs.declared.answer.Event.{Event}
-use Rattle.cell_types.specs.Same.{same_machine, one_machine}
-use Rattle.cell_rules.specs.ModelState.{ModelState}
-use Rattle.cell_rules.specs.Sound.{IsSound, is_party}
-use Rattle.cell_rules.specs.Refusals.{yield_refusal}
-use Rattle.cell_rules.specs.Reply.{reply, next, next_by, changed}
-use Rattle.cell_rules.specs.History.{after, IsLegal, own_events, is_done_answer}
-use Rattle.cell_rules.specs.Programs.{Program, MovesIn, Reached}
+use Rattle.cell_rules.specs.Types.{Machine, Watch, Zone, Z1, Z2, Z3, Z4, Z5, Z6, Posture, Call, Yield, Answer, Done}
+use Rattle.cell_rules.specs.Types.{Shown, Refused, Event, same_machine, one_machine}
+use Rattle.cell_rules.specs.Names.{ModelState, IsSound, is_party, yield_refusal, reply, next, next_by, changed, after}
+use Rattle.cell_rules.specs.Names.{IsLegal, own_events, is_done_answer, Program, MovesIn, Reached}
 use Rattle.cell_rules.proofs.Done.{yield_done}
 use Rattle.cell_rules.proofs.Tables.{and_left}
 use Rattle.cell_rules.proofs.Holders.{same_machine-self}
 use Rattle.cell_rules.proofs.Soundness.{done_none, next_keeps}
+use Rattle.cell_control.specs.Names.{fault_of, Steps, waits_out, after_answer}
 use Rattle.cell_control.specs.declared.fault.CtlFault.{CtlFault}
-use Rattle.cell_control.specs.Faults.{fault_of}
-use Rattle.cell_control.specs.Steps.{Steps, waits_out, after_answer}
 use Rattle.cell_control.proofs.StepLemmas.{Knowing}
 use Rattle.cell_team.specs.Team.{LeadsOrStays, program_with_stops}
 use Rattle.cell_team.proofs.Shares.{yields, IsYieldless, no_both}

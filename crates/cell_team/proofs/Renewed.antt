@@ -2,10 +2,7 @@
 use Rattle.std.proofs.Common.{ℕ, zero, suc, List, [], ◌∷◌, refl, sym, subst}
 use Rattle.cell_types.specs.declared.machine.Machine.{Machine}
 use Rattle.cell_calib.specs.Line.{IsReading}
-use Rattle.cell_rules.specs.ModelState.{ModelState}
-use Rattle.cell_rules.specs.Sound.{IsSound}
-use Rattle.cell_rules.specs.History.{after}
-use Rattle.cell_rules.specs.Restamping.{restamped, IsSameFor}
+use Rattle.cell_rules.specs.Names.{ModelState, IsSound, after, restamped, IsSameFor}
 use Rattle.cell_rules.proofs.Histories.{sound-after}
 use Rattle.cell_rules.proofs.Restamps.{restamped_sound}
 use Rattle.cell_parts.specs.Axes.{CellScales}
@@ -16,8 +13,8 @@ use Rattle.cell_haul.proofs.FeedFacts as feed_facts
 use Rattle.cell_robot.proofs.RobotFacts as robot_facts
 use Rattle.cell_stations.proofs.PressFacts as press_facts
 use Rattle.cell_stations.proofs.TableFacts as table_facts
-use Rattle.cell_team.specs.Team.{Team, robot_points, programs_of}
-use Rattle.cell_team.specs.Renewals.{StandAfter, NoRenewedMachineIsRefused}
+use Rattle.cell_team.specs.Names.{Team, robot_points, programs_of, StandAfter}
+use Rattle.cell_team.specs.Renewals.{NoRenewedMachineIsRefused}
 use Rattle.cell_team.proofs.Shares.{Share, Clear, Loaded, Lent, Stands, IsSo, AreSo}
 use Rattle.cell_team.proofs.Together.{AllKnow, all_begin, all_know, all_heeded, sound_start}
 

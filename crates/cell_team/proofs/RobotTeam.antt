@@ -1,32 +1,28 @@
 -- The robot is never refused.
 use Rattle.std.proofs.Common.{◌≡◌, ◌+◌, ◌&&◌, Bool, true, false, not, if◌then◌else◌, List, [], ◌∷◌, Option, Some, None, refl, sym, ap, ◌∙◌, subst, arith}
 use Rattle.std.specs.Prelude.{⊤, ◌||◌}
-use Rattle.cell_types.specs.declared.machine.Machine.{Machine}
-use Rattle.cell_types.specs.declared.machine.Machine.TheVariants.{Robot, Deposit}
-use Rattle.cell_types.specs.declared.zone.Zone.TheVariants.{Z2, Z3, Z4}
-use Rattle.cell_types.specs.declared.place.Place.TheVariants.{Arm1, Arm2, PressIn, PressOut, DepEntry}
-use Rattle.cell_types.specs.declared.posture.Posture.{Posture}
-use Rattle.cell_types.specs.declared.posture.Posture.TheVariants.{Closed, Moving, OpenIn, OpenOut}
-use Rattle.cell_types.specs.declared.call.Call.{Call}
-use Rattle.cell_types.specs.declared.call.Call.TheVariants.{Give, Take, Release, Inquire}
-use Rattle.cell_types.specs.declared.answer.Refusal.TheVariants.{PlaceFull}
-use Rattle.cell_types.specs.declared.answer.Answer.TheVariants.{Done, Shown}
-use Rattle.cell_types.specs.Tables.{transfer_of}
-use Rattle.cell_types.specs.Same.{same_posture}
-use Rattle.cell_rules.specs.PlaceSet.{has}
-use Rattle.cell_rules.specs.ModelState.{ModelState, zone_at, is_full, one_if}
-use Rattle.cell_rules.specs.Sound.{IsSound, is_owned_by, is_open, is_received_by}
-use Rattle.cell_rules.specs.Refusals.{owns, owner_of, posture_at, given_by}
-use Rattle.cell_rules.specs.Reply.{reply, changed, emptied, filled}
-use Rattle.cell_rules.specs.Start.{IsStartState}
+use Rattle.cell_rules.specs.Types.{Machine, Robot, Deposit, Z2, Z3, Z4, Arm1, Arm2, PressIn, PressOut, DepEntry}
+use Rattle.cell_rules.specs.Types.{Posture, Closed, Moving, OpenIn, OpenOut, Call, Give, Take, Release, Inquire}
+use Rattle.cell_rules.specs.Types.{PlaceFull, Done, Shown, transfer_of, same_posture}
+use Rattle.cell_rules.specs.Names.{has, ModelState, zone_at, is_full, one_if, IsSound, is_owned_by, is_open}
+use Rattle.cell_rules.specs.Names.{is_received_by, owns, owner_of, posture_at, given_by, reply, changed, emptied}
+use Rattle.cell_rules.specs.Names.{filled, IsStartState}
 use Rattle.cell_rules.proofs.Holders.{owned_as, take_owned}
 use Rattle.cell_rules.proofs.Tables.{and_left, implied}
 use Rattle.cell_rules.proofs.OwnSide.{full-foreign}
 use Rattle.cell_control.specs.declared.row.Waits.TheVariants.{Never}
+use Rattle.cell_robot.specs.Names.{RobotScales, RobotGauges, row_at, row_of, step_after_inquiry, after_done, is_done}
+use Rattle.cell_robot.specs.Names.{robot_start, robot_steps}
 use Rattle.cell_robot.specs.declared.robot.RobotStep.{RobotStep}
-use Rattle.cell_robot.specs.declared.robot.RobotStep.TheVariants.{TurnToTable, AwaitPlate, ReachTable, GripPlate, LeaveTable, TakePlate, ReleaseTable, TurnToLoad, ClaimPress, InspectPress, ReleasePress, ReachToLoad, DropInPress, LeaveLoaded, GiveToPress, TurnToUnload, AwaitForged, ReachToUnload, GripForged, LeaveUnloaded, TakeForged, ReleaseUnloaded, TurnToDeposit, ClaimDeposit, ReachDeposit, DropOnDeposit, LeaveDeposit, GiveToDeposit}
+use Rattle.cell_robot.specs.declared.robot.RobotStep.TheVariants.{TurnToTable, AwaitPlate, ReachTable, GripPlate}
+use Rattle.cell_robot.specs.declared.robot.RobotStep.TheVariants.{LeaveTable, TakePlate, ReleaseTable, TurnToLoad}
+use Rattle.cell_robot.specs.declared.robot.RobotStep.TheVariants.{ClaimPress, InspectPress, ReleasePress, ReachToLoad}
+use Rattle.cell_robot.specs.declared.robot.RobotStep.TheVariants.{DropInPress, LeaveLoaded, GiveToPress, TurnToUnload}
+use Rattle.cell_robot.specs.declared.robot.RobotStep.TheVariants.{AwaitForged, ReachToUnload, GripForged}
+use Rattle.cell_robot.specs.declared.robot.RobotStep.TheVariants.{LeaveUnloaded, TakeForged, ReleaseUnloaded}
+use Rattle.cell_robot.specs.declared.robot.RobotStep.TheVariants.{TurnToDeposit, ClaimDeposit, ReachDeposit}
+use Rattle.cell_robot.specs.declared.robot.RobotStep.TheVariants.{DropOnDeposit, LeaveDeposit, GiveToDeposit}
 use Rattle.cell_robot.specs.declared.robot.RobotProgress.{RobotProgress}
-use Rattle.cell_robot.specs.RobotProgram.{RobotScales, RobotGauges, row_at, row_of, step_after_inquiry, after_done, is_done, robot_start, robot_steps}
 use Rattle.cell_robot.proofs.RobotFacts as known
 use Rattle.cell_control.proofs.Facts as facts
 use Rattle.cell_team.proofs.Waiting.{Heeds, none_only, unless, claim_in, take_own, give_only, release_only}

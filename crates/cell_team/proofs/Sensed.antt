@@ -1,17 +1,12 @@
 -- Another check of the sensors leads a program to the same steps.
 use Rattle.std.proofs.Common.{ℕ, zero, suc, List, [], ◌∷◌, Option, Result}
-use Rattle.cell_types.specs.declared.answer.Answer.{Answer}
-use Rattle.cell_types.specs.declared.answer.Answer.TheVariants.{Done, Shown, Refused}
-use Rattle.cell_types.specs.declared.answer.Event.{Event}
+use Rattle.cell_rules.specs.Types.{Answer, Done, Shown, Refused, Event}
 use Rattle.cell_calib.specs.declared.sense.SensorFault.{SensorFault}
-use Rattle.cell_rules.specs.ModelState.{ModelState}
-use Rattle.cell_rules.specs.History.{own_events}
-use Rattle.cell_rules.specs.Programs.{MovesIn, Reached}
+use Rattle.cell_rules.specs.Names.{ModelState, own_events, MovesIn, Reached}
+use Rattle.cell_control.specs.Names.{Steps, with_senses}
 use Rattle.cell_control.specs.declared.fault.CtlFault.{CtlFault}
 use Rattle.cell_control.specs.declared.fault.CtlFault.TheVariants as fault
-use Rattle.cell_control.specs.Steps.{Steps, with_senses}
-use Rattle.cell_team.specs.Team.{DrivesOn, LeadsOrStays, HasCome, program_with_stops}
-use Rattle.cell_team.specs.Heeded.{IsStoppedBy}
+use Rattle.cell_team.specs.Names.{DrivesOn, LeadsOrStays, HasCome, program_with_stops, IsStoppedBy}
 use Rattle.cell_team.proofs.Turned.{Stands}
 
 module _ {S Sense Reading Act : Type 0} (t : Steps S Sense Reading Act) (senses : Sense → Result Reading SensorFault → Type 0) where

@@ -1,22 +1,13 @@
 -- What a machine may know of the plates in its zones; no other machine changes it, if none yields.
 use Rattle.std.proofs.Common.{◌≡◌, Bool, true, false, ◌||◌, not, is_none, if◌then◌else◌, Option, Some, None, List, [], ◌∷◌, refl, sym, ap, ◌∙◌, subst}
 use Rattle.std.specs.Prelude.{⊤}
-use Rattle.cell_types.specs.declared.machine.Machine.{Machine}
-use Rattle.cell_types.specs.declared.zone.Zone.{Zone}
-use Rattle.cell_types.specs.declared.zone.Transfer.{Transfer}
-use Rattle.cell_types.specs.declared.posture.Posture.{Posture}
-use Rattle.cell_types.specs.declared.posture.Posture.TheVariants.{Closed}
-use Rattle.cell_types.specs.declared.call.Call.{Call}
-use Rattle.cell_types.specs.declared.call.Call.TheVariants.{Claim, Give, Yield, Take, Release, SetPose, Advance, Inquire, Stop, Resume}
-use Rattle.cell_types.specs.declared.answer.Answer.{Answer}
-use Rattle.cell_types.specs.declared.answer.Answer.TheVariants.{Done, Shown, Refused}
-use Rattle.cell_types.specs.Tables.{host_of, guest_of, transfer_of}
-use Rattle.cell_types.specs.Same.{same_machine}
+use Rattle.cell_rules.specs.Types.{Machine, Zone, Transfer, Posture, Closed, Call, Claim, Give, Yield, Take, Release}
+use Rattle.cell_rules.specs.Types.{SetPose, Advance, Inquire, Stop, Resume, Answer, Done, Shown, Refused, host_of}
+use Rattle.cell_rules.specs.Types.{guest_of, transfer_of, same_machine}
+use Rattle.cell_rules.specs.Names.{ModelState, zone_at, IsSound, implies, is_owned_by, is_open, is_received_by}
+use Rattle.cell_rules.specs.Names.{is_onto_full, owns, owner_of, posture_at, reply, next, next_by, changed, posed}
+use Rattle.cell_rules.specs.Names.{halted, is_belt_of}
 use Rattle.cell_rules.specs.declared.zones.ZoneState.{ZoneState}
-use Rattle.cell_rules.specs.ModelState.{ModelState, zone_at}
-use Rattle.cell_rules.specs.Sound.{IsSound, implies, is_owned_by, is_open, is_received_by, is_onto_full}
-use Rattle.cell_rules.specs.Refusals.{owns, owner_of, posture_at}
-use Rattle.cell_rules.specs.Reply.{reply, next, next_by, changed, posed, halted, is_belt_of}
 use Rattle.cell_rules.proofs.Tables.{implied, and_left}
 use Rattle.cell_rules.proofs.Puts.{zone_in-map, put_cases}
 use Rattle.cell_rules.proofs.Holders.{owner_is, owned_as, claim_unowned, take_owned}

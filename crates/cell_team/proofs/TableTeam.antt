@@ -2,30 +2,24 @@
 use Rattle.std.proofs.Common.{◌≡◌, ℕ, ℤ, ◌&&◌, Bool, true, false, not, if◌then◌else◌, List, [], ◌∷◌, Option, Some, None, refl, sym, ap, ◌∙◌, subst}
 use Rattle.std.specs.Prelude.{⊤}
 use Rattle.cell_types.specs.declared.machine.Machine.TheVariants.{Table as TableMachine}
-use Rattle.cell_types.specs.declared.zone.Zone.{Zone}
-use Rattle.cell_types.specs.declared.zone.Zone.TheVariants.{Z1, Z2}
+use Rattle.cell_rules.specs.Types.{Zone, Z1, Z2, Closed, Moving, OpenIn, OpenOut, Turning, Loading, Unloading, Call}
+use Rattle.cell_rules.specs.Types.{Claim, Done, transfer_of, same_posture}
 use Rattle.cell_types.specs.declared.place.Place.TheVariants.{Table as OnTable}
-use Rattle.cell_types.specs.declared.posture.Posture.TheVariants.{Closed, Moving, OpenIn, OpenOut}
-use Rattle.cell_types.specs.declared.pose.Pose.TheVariants.{Turning, Loading, Unloading}
-use Rattle.cell_types.specs.declared.call.Call.{Call}
-use Rattle.cell_types.specs.declared.call.Call.TheVariants.{Claim}
-use Rattle.cell_types.specs.declared.answer.Answer.TheVariants.{Done}
-use Rattle.cell_types.specs.Tables.{transfer_of}
-use Rattle.cell_types.specs.Same.{same_posture}
 use Rattle.cell_calib.specs.Scale.{Scale}
-use Rattle.cell_rules.specs.PlaceSet.{has}
-use Rattle.cell_rules.specs.ModelState.{ModelState, is_full}
-use Rattle.cell_rules.specs.Sound.{IsSound}
-use Rattle.cell_rules.specs.Refusals.{owns, posture_at, given_by, moves_at}
-use Rattle.cell_rules.specs.Reply.{reply, changed, emptied, filled}
-use Rattle.cell_rules.specs.Start.{IsStartState}
+use Rattle.cell_rules.specs.Names.{has, ModelState, is_full, IsSound, owns, posture_at, given_by, moves_at, reply}
+use Rattle.cell_rules.specs.Names.{changed, emptied, filled, IsStartState}
 use Rattle.cell_rules.proofs.Holders.{take_owned}
 use Rattle.cell_rules.proofs.OwnSide.{full-foreign}
 use Rattle.cell_control.specs.declared.row.Waits.TheVariants.{UntilRoom}
+use Rattle.cell_stations.specs.Names.{with_plate, by_plate, row_of, after_done, is_off, table_start, table_steps}
 use Rattle.cell_stations.specs.declared.table.TableStep.{TableStep}
-use Rattle.cell_stations.specs.declared.table.TableStep.TheVariants.{ClaimEntry, ClaimExit, LeaveForLoading, MoveToLoading, PoseLoading, ReleaseEntry, TakePlate, LeaveForUnloading, MoveToUnloading, PoseUnloading, GivePlate, ClaimBack}
+use Rattle.cell_stations.specs.declared.table.TableStep.TheVariants.{ClaimEntry, ClaimExit, LeaveForLoading}
+use Rattle.cell_stations.specs.declared.table.TableStep.TheVariants.{MoveToLoading, PoseLoading, ReleaseEntry}
+use Rattle.cell_stations.specs.declared.table.TableStep.TheVariants.{LeaveForUnloading, MoveToUnloading}
+use Rattle.cell_stations.specs.declared.table.TableStep.TheVariants.{PoseUnloading}
 use Rattle.cell_stations.specs.declared.table.TableProgress.{TableProgress}
-use Rattle.cell_stations.specs.TableProgram.{with_plate, by_plate, row_at, row_of, after_done, is_off, table_start, table_steps}
+use Rattle.cell_stations.specs.declared.table.TableStep.TheVariants.{TakePlate, GivePlate, ClaimBack}
+use Rattle.cell_stations.specs.TableProgram.{row_at}
 use Rattle.cell_stations.proofs.TableFacts as known
 use Rattle.cell_control.proofs.Facts as facts
 use Rattle.cell_team.proofs.Waiting.{Heeds, Clears, HasRoom, may, has_room, no_jump, first_claim, claim_back, take_back, give_only, release_only, pose_only}

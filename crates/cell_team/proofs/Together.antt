@@ -1,32 +1,25 @@
 -- None of the six machines is refused.
 use Rattle.std.proofs.Common.{◌≡◌, Bool, true, false, ◌&&◌, not, List, refl, sym, subst}
-use Rattle.cell_types.specs.declared.machine.Machine.TheVariants.{Feed, Table, Robot, Press, Deposit, Crane, Watch}
-use Rattle.cell_types.specs.declared.answer.Event.{Event}
+use Rattle.cell_rules.specs.Types.{Feed, Table, Robot, Press, Deposit, Crane, Watch, Event}
 use Rattle.cell_calib.specs.Line.{IsReading}
-use Rattle.cell_rules.specs.PlaceSet.{PlaceSet}
-use Rattle.cell_rules.specs.ModelState.{ModelState, zone_at}
-use Rattle.cell_rules.specs.Sound.{IsSound}
-use Rattle.cell_rules.specs.History.{after, IsLegal, own_events}
-use Rattle.cell_rules.specs.Start.{IsStart, IsStartState, start_state}
+use Rattle.cell_rules.specs.Names.{PlaceSet, ModelState, zone_at, IsSound, after, IsLegal, own_events, IsStart}
+use Rattle.cell_rules.specs.Names.{IsStartState, start_state}
 use Rattle.cell_rules.proofs.Lawful.{lawful_in, sound_from}
 use Rattle.cell_rules.proofs.Puts.{each_zone}
 use Rattle.cell_rules.proofs.Histories.{sound-after}
 use Rattle.cell_parts.specs.Axes.{CellScales}
-use Rattle.cell_haul.specs.CraneProgram.{crane_steps}
-use Rattle.cell_haul.specs.DepositProgram.{deposit_steps}
-use Rattle.cell_haul.specs.FeedProgram.{feed_steps}
+use Rattle.cell_haul.specs.Names.{crane_steps, deposit_steps, feed_steps}
 use Rattle.cell_robot.specs.RobotProgram.{notes_at, near_lines, robot_steps}
-use Rattle.cell_stations.specs.PressProgram.{press_steps}
-use Rattle.cell_stations.specs.TableProgram.{table_steps}
+use Rattle.cell_stations.specs.Names.{press_steps, table_steps}
 use Rattle.cell_haul.proofs.CraneFacts as crane_facts
 use Rattle.cell_haul.proofs.DepositFacts as deposit_facts
 use Rattle.cell_haul.proofs.FeedFacts as feed_facts
 use Rattle.cell_robot.proofs.RobotFacts as robot_facts
 use Rattle.cell_stations.proofs.PressFacts as press_facts
 use Rattle.cell_stations.proofs.TableFacts as table_facts
-use Rattle.cell_team.specs.Team.{Team, robot_points, programs_of, program_with_stops}
-use Rattle.cell_team.specs.Renewals.{HaveComeFrom, first_team}
-use Rattle.cell_team.specs.Heeded.{AreHeeded, NoMachineIsRefused}
+use Rattle.cell_team.specs.Names.{Team, robot_points, programs_of, program_with_stops, HaveComeFrom, first_team}
+use Rattle.cell_team.specs.Names.{AreHeeded}
+use Rattle.cell_team.specs.Heeded.{NoMachineIsRefused}
 use Rattle.cell_team.proofs.Waiting.{heeded}
 use Rattle.cell_team.proofs.Reaching.{OwnYieldless, AreYieldless, own_yieldless, yieldless, reached_both}
 use Rattle.cell_team.proofs.CraneTeam as crane

@@ -1,29 +1,17 @@
 -- Each turn over a line keeps that its machine stands at a step of its program.
 use Rattle.std.proofs.Common.{◌≡◌, ◌≢◌, Bool, true, false, if◌then◌else◌, inl, inr, List, [], ◌∷◌, ◌++◌, append_assoc, Option, Some, None, Result, Ok, Err, refl, sym, ap, ◌∙◌, subst}
 use Rattle.std.proofs.lemmas.List.{append_cancel_right}
-use Rattle.cell_types.specs.declared.machine.Machine.{Machine}
-use Rattle.cell_types.specs.declared.call.Call.{Call}
-use Rattle.cell_types.specs.declared.answer.Refusal.{Refusal}
-use Rattle.cell_types.specs.declared.answer.Refusal.TheVariants.{Worn}
-use Rattle.cell_types.specs.declared.answer.Answer.TheVariants.{Done, Shown, Refused}
-use Rattle.cell_types.specs.declared.answer.Event.{Event}
-use Rattle.cell_types.specs.declared.reply.Reply.{Reply}
-use Rattle.cell_types.specs.declared.reply.Reply.TheVariants.{Settled, Busy}
+use Rattle.cell_rules.specs.Types.{Machine, Call, Refusal, Worn, Done, Shown, Refused, Event, Reply, Settled, Busy}
 use Rattle.cell_calib.specs.declared.sense.SensorFault.{SensorFault}
+use Rattle.cell_rules.specs.Names.{ModelState, own_events, Reached, event, Settles, Waits, SeenAfter}
 use Rattle.cell_rules.specs.declared.heard.LineFault.{LineFault}
-use Rattle.cell_rules.specs.ModelState.{ModelState}
-use Rattle.cell_rules.specs.History.{own_events}
-use Rattle.cell_rules.specs.Programs.{Reached}
-use Rattle.cell_rules.specs.Seen.{event, Settles, Waits, SeenAfter}
 use Rattle.cell_rules.proofs.ProgramLemmas.{reached-moves, reached-settles, reached-waits}
 use Rattle.cell_rules.proofs.SeenLemmas.{own-push}
+use Rattle.cell_control.specs.Names.{fault_of, Steps, waits_out, outcome, Performed, PerformsCall, PerformsSensed}
+use Rattle.cell_control.specs.Names.{Turned, Turns, at_rest, turned}
 use Rattle.cell_control.specs.declared.fault.CtlFault.{CtlFault}
 use Rattle.cell_control.specs.declared.fault.CtlFault.TheVariants as fault
-use Rattle.cell_control.specs.Faults.{fault_of}
-use Rattle.cell_control.specs.Steps.{Steps, waits_out, outcome}
-use Rattle.cell_control.specs.Turns.{Performed, PerformsCall, PerformsSensed, Turned, Turns, at_rest, turned}
-use Rattle.cell_team.specs.Team.{HasCome, DrivesOn, program_with_stops}
-use Rattle.cell_team.specs.Heeded.{IsStoppedBy}
+use Rattle.cell_team.specs.Names.{HasCome, DrivesOn, program_with_stops, IsStoppedBy}
 
 -- a machine has come to its step by its events; if a refusal has stopped it, then at this step; and it has no later
 -- turn

@@ -2,49 +2,43 @@
 use Rattle.std.proofs.Common.{◌≡◌, ◌≤◌, pos, ◌≤ℤ◌, ◌-ℤ◌, Bool, true, false, ◌&&◌, inl, List, [], ◌∷◌, Some, None, refl, arith}
 use Rattle.std.specs.Int.Signed.{le_z_yes}
 use Rattle.std.proofs.lemmas.Int.{ints}
-use Rattle.cell_types.specs.declared.machine.Machine.{Machine}
+use Rattle.cell_rules.specs.Types.{Machine, Z1, Z2, Z3, Z4, Z5, Z6, Closed, OpenOut, Turning, Loading, Travelling}
+use Rattle.cell_rules.specs.Types.{Middle, Low, Landing, Running, Offering, Unloading, Call, Claim, Give, Take}
+use Rattle.cell_rules.specs.Types.{Release, SetPose, Inquire, Held, AlreadyMine, Shut, NotOwner, PlateInZone, NoPlate}
+use Rattle.cell_rules.specs.Types.{PlaceFull, Done, Shown, Event}
 use Rattle.cell_types.specs.declared.machine.Machine.TheVariants as machine
-use Rattle.cell_types.specs.declared.zone.Zone.TheVariants.{Z1, Z2, Z3, Z4, Z5, Z6}
 use Rattle.cell_types.specs.declared.place.Place.TheVariants as place
-use Rattle.cell_types.specs.declared.posture.Posture.TheVariants.{Closed, OpenOut}
-use Rattle.cell_types.specs.declared.pose.Pose.TheVariants.{Turning, Loading, Travelling, Middle, Low, Landing, Running, Offering, Unloading}
-use Rattle.cell_types.specs.declared.call.Call.{Call}
-use Rattle.cell_types.specs.declared.call.Call.TheVariants.{Claim, Give, Take, Release, SetPose, Inquire}
-use Rattle.cell_types.specs.declared.answer.Refusal.TheVariants.{Held, AlreadyMine, Shut, NotOwner, PlateInZone, NoPlate, PlaceFull}
-use Rattle.cell_types.specs.declared.answer.Answer.TheVariants.{Done, Shown}
-use Rattle.cell_types.specs.declared.answer.Event.{Event}
-use Rattle.cell_rules.specs.ModelState.{ModelState, size_of}
-use Rattle.cell_rules.specs.PlaceSet.{PlaceSet, empty, insert_place, has}
-use Rattle.cell_rules.specs.Seen.{event}
-use Rattle.cell_rules.specs.Start.{IsStartState, start_state}
+use Rattle.cell_rules.specs.Names.{ModelState, size_of, PlaceSet, empty, insert_place, has, event, IsStartState}
+use Rattle.cell_rules.specs.Names.{start_state}
+use Rattle.cell_devices.specs.Names.{StopsAt}
 use Rattle.cell_devices.specs.declared.motor.Motor.TheVariants.{Off}
-use Rattle.cell_devices.specs.declared.motor.Direction.TheVariants.{Minus as Downward}
 use Rattle.cell_devices.specs.declared.stops.Stop.{Stop}
-use Rattle.cell_devices.specs.declared.stops.TheConstants.{TURN_LOADING, TURN_UNLOADING, ROTATION_ARM1_PRESS, ROTATION_ARM2_DEPOSIT, GRIPPER_TRAVEL, GRIPPER_DEPOSIT}
-use Rattle.cell_devices.specs.Drives.{StopsAt}
+use Rattle.cell_devices.specs.declared.stops.TheConstants.{TURN_LOADING, TURN_UNLOADING, ROTATION_ARM1_PRESS}
+use Rattle.cell_devices.specs.declared.stops.TheConstants.{ROTATION_ARM2_DEPOSIT, GRIPPER_TRAVEL, GRIPPER_DEPOSIT}
+use Rattle.cell_devices.specs.declared.motor.Direction.TheVariants.{Minus as Downward}
 use Rattle.cell_devices.proofs.DriveLemmas.{stops_there}
 use Rattle.cell_haul.specs.declared.crane.CraneProgress.{CraneProgress}
 use Rattle.cell_haul.specs.declared.crane.CraneStep.{CraneStep}
-use Rattle.cell_haul.specs.declared.crane.CraneStep.TheVariants as crane_step
 use Rattle.cell_haul.specs.declared.deposit.DepositProgress.{DepositProgress}
 use Rattle.cell_haul.specs.declared.deposit.DepositStep.{DepositStep}
-use Rattle.cell_haul.specs.declared.deposit.DepositStep.TheVariants as deposit_step
 use Rattle.cell_haul.specs.declared.feed.FeedProgress.{FeedProgress}
 use Rattle.cell_haul.specs.declared.feed.FeedStep.{FeedStep}
+use Rattle.cell_haul.specs.declared.crane.CraneStep.TheVariants as crane_step
+use Rattle.cell_haul.specs.declared.deposit.DepositStep.TheVariants as deposit_step
 use Rattle.cell_haul.specs.declared.feed.FeedStep.TheVariants as feed_step
 use Rattle.cell_robot.specs.declared.robot.RobotProgress.{RobotProgress}
 use Rattle.cell_robot.specs.declared.robot.RobotStep.{RobotStep}
 use Rattle.cell_robot.specs.declared.robot.RobotStep.TheVariants as robot_step
 use Rattle.cell_stations.specs.declared.press.PressProgress.{PressProgress}
 use Rattle.cell_stations.specs.declared.press.PressStep.{PressStep}
-use Rattle.cell_stations.specs.declared.press.PressStep.TheVariants as press_step
 use Rattle.cell_stations.specs.declared.table.TableProgress.{TableProgress}
 use Rattle.cell_stations.specs.declared.table.TableStep.{TableStep}
+use Rattle.cell_stations.specs.declared.press.PressStep.TheVariants as press_step
 use Rattle.cell_stations.specs.declared.table.TableStep.TheVariants as table_step
-use Rattle.cell_team.specs.Team.{Programs, Team}
+use Rattle.cell_team.specs.Names.{Programs, Team, scales}
 use Rattle.cell_team.specs.Heeded.{NoneIsRefused}
 use Rattle.cell_team.specs.WrongPrograms as wrong
-use Rattle.cell_team.specs.WrongPrograms.{scales, by_feed, by_table, by_robot, by_press, by_deposit, by_crane, RightRows, WrongRows, WrongProgramsAreRefused}
+use Rattle.cell_team.specs.WrongPrograms.{by_feed, by_table, by_robot, by_press, by_deposit, by_crane, RightRows, WrongRows, WrongProgramsAreRefused}
 use Rattle.cell_team.proofs.Together.{none-refused}
 
 -- a start with these plates, and the machines there

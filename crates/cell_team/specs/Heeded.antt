@@ -1,18 +1,11 @@
 -- No machine is refused but for what its step waits for, so none is ever stopped by a refusal.
 use Rattle.std.specs.Prelude.{◌≡◌, Bool, true, false, ◌||◌, List, ◌∷◌, ◌++◌, Some, Err, IsTrue}
-use Rattle.cell_types.specs.declared.call.Call.{Call}
-use Rattle.cell_types.specs.declared.answer.Refusal.{Refusal}
-use Rattle.cell_types.specs.declared.answer.Refusal.TheVariants.{Worn}
-use Rattle.cell_types.specs.declared.answer.Answer.TheVariants.{Refused}
-use Rattle.cell_types.specs.declared.answer.Event.{Event}
-use Rattle.cell_rules.specs.ModelState.{ModelState}
-use Rattle.cell_rules.specs.Reply.{reply}
-use Rattle.cell_rules.specs.History.{after, IsLegal}
-use Rattle.cell_rules.specs.Seen.{event}
-use Rattle.cell_rules.specs.Start.{IsStartState}
+use Rattle.cell_rules.specs.Types.{Call, Refusal, Worn, Refused, Event}
+use Rattle.cell_rules.specs.Names.{ModelState, reply, after, IsLegal, event, IsStartState}
+use Rattle.cell_control.specs.Names.{Steps, waits_out}
 use Rattle.cell_control.specs.declared.fault.CtlFault.{CtlFault}
 use Rattle.cell_control.specs.declared.fault.CtlFault.TheVariants as fault
-use Rattle.cell_control.specs.Steps.{Steps, waits_out, after_refusal}
+use Rattle.cell_control.specs.Steps.{after_refusal}
 use Rattle.cell_parts.specs.Axes.{CellScales}
 use Rattle.cell_team.specs.Team.{Programs, Team, programs_of, HasCome, HaveCome}
 
@@ -46,7 +39,8 @@ abbrev pub NoMachineIsRefused : Type 0
 NoMachineIsRefused = (c : CellScales) → NoneIsRefused (programs_of c)
 
 -- a refusal in the history has stopped a machine with this fault, at a step to which it had come
-pub record IsStoppedBy {S Sense Reading Act : Type 0} (t : Steps S Sense Reading Act) (opening : ModelState) (history : List Event) (p : S) (fault : CtlFault) : Type 0 where
+pub record IsStoppedBy {S Sense Reading Act : Type 0} (t : Steps S Sense Reading Act) (opening : ModelState)
+    (history : List Event) (p : S) (fault : CtlFault) : Type 0 where
   pub before : List Event
   pub rest : List Event
   pub call : Call

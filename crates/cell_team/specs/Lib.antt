@@ -2,3 +2,4 @@ pub mod Team
 pub mod Heeded
 pub mod WrongPrograms
 pub mod Renewals
+pub mod Names

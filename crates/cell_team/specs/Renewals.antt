@@ -1,10 +1,7 @@
 -- Six machines that go on over one interlock after another, each of which opens where the one before it ended.
 use Rattle.std.specs.Prelude.{◌≡◌, ◌≤◌, ℕ, zero, suc, List}
 use Rattle.cell_types.specs.declared.answer.Event.{Event}
-use Rattle.cell_rules.specs.ModelState.{ModelState, last_stamp}
-use Rattle.cell_rules.specs.Restamping.{restamped}
-use Rattle.cell_rules.specs.History.{after, IsLegal}
-use Rattle.cell_rules.specs.Start.{IsStartState}
+use Rattle.cell_rules.specs.Names.{ModelState, last_stamp, restamped, after, IsLegal, IsStartState}
 use Rattle.cell_parts.specs.Axes.{CellScales}
 use Rattle.cell_team.specs.Team.{Programs, Team, programs_of, HasComeFrom}
 use Rattle.cell_team.specs.Heeded.{AreHeeded}
@@ -32,7 +29,8 @@ pub record HaveComeFrom (t : Programs) (first : Team) (history : List Event) (te
 
 -- An interlock was renewed: these steps are those to which the machines had come over the one before, which ended with
 -- this state but for the stamp.
-pub record IsRenewed (t : Programs) (Stand : ModelState → Team → Type 0) (opening : ModelState) (team : Team) : Type 0 where
+pub record IsRenewed (t : Programs) (Stand : ModelState → Team → Type 0) (opening : ModelState) (team : Team)
+    : Type 0 where
   pub before : ModelState
   pub first : Team
   pub stood : Stand before first
@@ -53,5 +51,6 @@ StandAfter t (suc renewals) opening team = IsRenewed t (StandAfter t renewals) o
 abbrev pub NoRenewedMachineIsRefused : Type 0
 NoRenewedMachineIsRefused =
     (c : CellScales) (renewals : ℕ) (opening : ModelState) (history : List Event) (first team : Team)
-    → StandAfter (programs_of c) renewals opening first → IsLegal opening history → HaveComeFrom (programs_of c) first history team
+    → StandAfter (programs_of c) renewals opening first → IsLegal opening history
+    → HaveComeFrom (programs_of c) first history team
     → AreHeeded (programs_of c) (after opening history) team

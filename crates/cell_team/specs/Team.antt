@@ -1,8 +1,7 @@
 -- Six machines over one history, each at a step of its program to which its own events led. The watch may do anything.
 use Rattle.std.specs.Prelude.{◌≡◌, false, ◌⊎◌, List, None, Ok}
-use Rattle.cell_types.specs.declared.answer.Answer.{Answer}
-use Rattle.cell_types.specs.declared.answer.Event.{Event}
-use Rattle.cell_calib.specs.Line.{IsReading}
+use Rattle.cell_rules.specs.Types.{Answer, Event}
+use Rattle.cell_calib.specs.Names.{IsReading}
 use Rattle.cell_calib.specs.declared.sense.CraneSense.{CraneSense}
 use Rattle.cell_calib.specs.declared.sense.DepositSense.{DepositSense}
 use Rattle.cell_calib.specs.declared.sense.FeedSense.{FeedSense}
@@ -15,25 +14,20 @@ use Rattle.cell_devices.specs.declared.act.FeedAct.{FeedAct}
 use Rattle.cell_devices.specs.declared.act.PressAct.{PressAct}
 use Rattle.cell_devices.specs.declared.act.RobotAct.{RobotAct}
 use Rattle.cell_devices.specs.declared.act.TableAct.{TableAct}
-use Rattle.cell_rules.specs.ModelState.{ModelState}
-use Rattle.cell_rules.specs.History.{own_events, is_done_answer}
-use Rattle.cell_rules.specs.Programs.{Program, Reached}
+use Rattle.cell_rules.specs.Names.{ModelState, own_events, is_done_answer, Program, Reached}
 use Rattle.cell_control.specs.Steps.{Steps, after_answer}
+use Rattle.cell_haul.specs.Names.{crane_steps, deposit_steps, feed_steps}
 use Rattle.cell_haul.specs.declared.crane.CraneProgress.{CraneProgress}
 use Rattle.cell_haul.specs.declared.crane.CraneReading.{CraneReading}
 use Rattle.cell_haul.specs.declared.deposit.DepositProgress.{DepositProgress}
 use Rattle.cell_haul.specs.declared.feed.FeedProgress.{FeedProgress}
-use Rattle.cell_haul.specs.CraneProgram.{crane_steps}
-use Rattle.cell_haul.specs.DepositProgram.{deposit_steps}
-use Rattle.cell_haul.specs.FeedProgram.{feed_steps}
+use Rattle.cell_robot.specs.Names.{RobotScales, robot_scales, near_lines, robot_steps}
 use Rattle.cell_robot.specs.declared.robot.RobotProgress.{RobotProgress}
 use Rattle.cell_robot.specs.declared.robot.RobotReading.{RobotReading}
-use Rattle.cell_robot.specs.RobotProgram.{RobotScales, robot_scales, near_lines, robot_steps}
+use Rattle.cell_stations.specs.Names.{press_steps, table_steps}
 use Rattle.cell_stations.specs.declared.press.PressProgress.{PressProgress}
 use Rattle.cell_stations.specs.declared.table.TableProgress.{TableProgress}
 use Rattle.cell_stations.specs.declared.table.TableReading.{TableReading}
-use Rattle.cell_stations.specs.PressProgram.{press_steps}
-use Rattle.cell_stations.specs.TableProgram.{table_steps}
 use Rattle.cell_parts.specs.Axes.{CellScales}
 
 -- the step of each machine, with its notes
@@ -81,7 +75,12 @@ pub record DrivesOn {S Sense Reading Act : Type 0} (t : Steps S Sense Reading Ac
   pub is : q ≡ t.after_drive p reading act
 
 abbrev pub program_with_stops : {S Sense Reading Act : Type 0} → Steps S Sense Reading Act → Program S
-program_with_stops t = record { machine = t.machine; call = λ p. (t.row p).call; leads = LeadsOrStays t; moves = DrivesOn t }
+program_with_stops t = record {
+  machine = t.machine;
+  call = λ p. (t.row p).call;
+  leads = LeadsOrStays t;
+  moves = DrivesOn t;
+}
 
 -- a machine has come from one step to another by its own events in a history, and may have stopped there
 abbrev pub HasComeFrom : {S Sense Reading Act : Type 0} → Steps S Sense Reading Act → S → List Event → S → Type 0

@@ -1,18 +1,18 @@
 -- Programs that are wrong in one row: by each of them a machine is refused what its step doesn't wait for.
 use Rattle.std.specs.Prelude.{pos}
 use Rattle.cell_calib.specs.Scale.{Scale, scale_by}
+use Rattle.cell_control.specs.Names.{with_waits, Steps}
 use Rattle.cell_control.specs.declared.row.Row.{Row}
-use Rattle.cell_control.specs.declared.row.Waits.TheVariants.{Never, UntilFree}
-use Rattle.cell_control.specs.Row.{with_waits}
-use Rattle.cell_control.specs.Steps.{Steps}
+use Rattle.cell_control.specs.declared.row.Waits.TheVariants.{Never}
+use Rattle.cell_control.specs.declared.row.Waits.TheVariants.{UntilFree}
 use Rattle.cell_haul.specs.declared.crane.CraneProgress.{CraneProgress}
 use Rattle.cell_haul.specs.declared.crane.CraneStep.{CraneStep}
-use Rattle.cell_haul.specs.declared.crane.CraneStep.TheVariants as crane_step
 use Rattle.cell_haul.specs.declared.deposit.DepositProgress.{DepositProgress}
 use Rattle.cell_haul.specs.declared.deposit.DepositStep.{DepositStep}
-use Rattle.cell_haul.specs.declared.deposit.DepositStep.TheVariants as deposit_step
 use Rattle.cell_haul.specs.declared.feed.FeedProgress.{FeedProgress}
 use Rattle.cell_haul.specs.declared.feed.FeedStep.{FeedStep}
+use Rattle.cell_haul.specs.declared.crane.CraneStep.TheVariants as crane_step
+use Rattle.cell_haul.specs.declared.deposit.DepositStep.TheVariants as deposit_step
 use Rattle.cell_haul.specs.declared.feed.FeedStep.TheVariants as feed_step
 use Rattle.cell_haul.specs.CraneProgram as crane_program
 use Rattle.cell_haul.specs.DepositProgram as deposit_program
@@ -23,9 +23,9 @@ use Rattle.cell_robot.specs.declared.robot.RobotStep.TheVariants as robot_step
 use Rattle.cell_robot.specs.RobotProgram as robot_program
 use Rattle.cell_stations.specs.declared.press.PressProgress.{PressProgress}
 use Rattle.cell_stations.specs.declared.press.PressStep.{PressStep}
-use Rattle.cell_stations.specs.declared.press.PressStep.TheVariants as press_step
 use Rattle.cell_stations.specs.declared.table.TableProgress.{TableProgress}
 use Rattle.cell_stations.specs.declared.table.TableStep.{TableStep}
+use Rattle.cell_stations.specs.declared.press.PressStep.TheVariants as press_step
 use Rattle.cell_stations.specs.declared.table.TableStep.TheVariants as table_step
 use Rattle.cell_stations.specs.PressProgram as press_program
 use Rattle.cell_stations.specs.TableProgram as table_program
@@ -41,7 +41,8 @@ abbrev pub scales : CellScales
 scales = record { arm1 = scale; arm2 = scale; rotation = scale; turn = scale; gripper = scale }
 
 -- a program that asks by these rows
-abbrev pub with_rows : {S Sense Reading Act : Type 0} → Steps S Sense Reading Act → (S → Row S) → Steps S Sense Reading Act
+abbrev pub with_rows : {S Sense Reading Act : Type 0} → Steps S Sense Reading Act → (S → Row S)
+    → Steps S Sense Reading Act
 with_rows t rows = record t { row = rows }
 
 -- the cell's programs, but one machine asks by these rows

@@ -1,14 +1,9 @@
 -- The motors' demands hold in every state of a run, also for motors that an earlier turn has left on.
 use Rattle.std.proofs.Common.{List, ◌≡◌, false, None, Ok}
-use Rattle.cell_types.specs.declared.machine.Machine.{Machine}
-use Rattle.cell_types.specs.declared.call.Call.{Call}
-use Rattle.cell_types.specs.Same.{same_machine}
-use Rattle.cell_rules.specs.ModelState.{ModelState}
-use Rattle.cell_rules.specs.Sound.{IsSound}
-use Rattle.cell_rules.specs.Reply.{next}
+use Rattle.cell_rules.specs.Types.{Machine, Call, same_machine}
+use Rattle.cell_rules.specs.Names.{ModelState, IsSound, next}
 use Rattle.cell_control.proofs.Facts.{Fact, AreSo, are_foreign}
-use Rattle.cell_control.specs.Rigs.{Rig}
-use Rattle.cell_control.specs.Steps.{Steps}
+use Rattle.cell_control.specs.Names.{Rig, Steps}
 use Rattle.cell_unit.proofs.Keeping.{Keeping}
 
 -- What a machine proves of its motors' demands. They are a fact about the interlock, the machine's step and its part.

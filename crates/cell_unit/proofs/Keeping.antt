@@ -1,27 +1,15 @@
 -- What holds of one machine's side in every state of a run, for any machine.
 use Rattle.std.proofs.Common.{◌≡◌, Bool, true, false, if◌then◌else◌, ◌⊎◌, inl, inr, Option, Some, None, Result, Ok, Err, refl, sym, ap, ◌∙◌, subst}
-use Rattle.cell_types.specs.declared.machine.Machine.{Machine}
-use Rattle.cell_types.specs.declared.posture.Posture.{Posture}
-use Rattle.cell_types.specs.declared.call.Call.{Call}
-use Rattle.cell_types.specs.declared.answer.Answer.TheVariants.{Done, Shown, Refused}
-use Rattle.cell_types.specs.declared.reply.Reply.{Reply}
-use Rattle.cell_types.specs.declared.reply.Reply.TheVariants.{Settled, Busy}
-use Rattle.cell_types.specs.Same.{same_machine}
+use Rattle.cell_rules.specs.Types.{Machine, Posture, Call, Done, Shown, Refused, Reply, Settled, Busy, same_machine}
 use Rattle.cell_calib.specs.declared.sense.SensorFault.{SensorFault}
+use Rattle.cell_rules.specs.Names.{ModelState, IsSound, event, reply, next, next_by, changed}
 use Rattle.cell_rules.specs.declared.heard.LineFault.{LineFault}
-use Rattle.cell_rules.specs.ModelState.{ModelState}
-use Rattle.cell_rules.specs.Sound.{IsSound}
-use Rattle.cell_rules.specs.Seen.{event}
-use Rattle.cell_rules.specs.Reply.{reply, next, next_by, changed}
+use Rattle.cell_control.specs.Names.{fault_of, Rig, Steps, waits_out, outcome, Performed, PerformsCall}
+use Rattle.cell_control.specs.Names.{PerformsSensed, Turned, Turns, turned, at_rest}
 use Rattle.cell_control.specs.declared.fault.CtlFault.{CtlFault}
-use Rattle.cell_control.specs.Faults.{fault_of}
-use Rattle.cell_control.specs.Rigs.{Rig}
-use Rattle.cell_control.specs.Steps.{Steps, waits_out, outcome}
-use Rattle.cell_control.specs.Turns.{Performed, PerformsCall, PerformsSensed, Turned, Turns, turned, at_rest}
 use Rattle.cell_control.proofs.TurnMaps.{turn_either}
 use Rattle.cell_notes.specs.Asks.{TurnCall, done_in}
-use Rattle.cell_unit.specs.Sides.{Side, noting, part_set, act_or_rest}
-use Rattle.cell_unit.specs.UnitTurns.{Answers, Takes}
+use Rattle.cell_unit.specs.Names.{Side, noting, part_set, act_or_rest, Answers, Takes}
 
 -- a turn, by the state, asks nothing or one call
 abbrev pub AsksNothing : ModelState → TurnCall → ModelState → Type 0

@@ -3,32 +3,19 @@ use Rattle.std.proofs.Common.{◌≡◌, ◌∙◌, refl, ap, subst, ◌⊎◌, 
 use Rattle.std.specs.Prelude.{⊤, ◌||◌}
 use Rattle.std.proofs.Math.Bool.{or-true}
 use Rattle.std.specs.Option.{is_none}
-use Rattle.cell_types.specs.declared.machine.Machine.{Machine}
-use Rattle.cell_types.specs.declared.call.Call.{Call}
-use Rattle.cell_types.specs.declared.answer.Refusal.{Refusal}
-use Rattle.cell_types.specs.declared.answer.Refusal.TheVariants.{Stopped}
+use Rattle.cell_rules.specs.Types.{Machine, Call, Refusal, Stopped, Reply, Settled, Busy}
 use Rattle.cell_types.specs.declared.answer.Answer.TheVariants as answer
-use Rattle.cell_types.specs.declared.reply.Reply.{Reply}
-use Rattle.cell_types.specs.declared.reply.Reply.TheVariants.{Settled, Busy}
 use Rattle.cell_calib.specs.declared.sense.SensorFault.{SensorFault}
+use Rattle.cell_rules.specs.Names.{ModelState, reply, next, Desk}
 use Rattle.cell_rules.specs.declared.heard.LineFault.{LineFault}
 use Rattle.cell_rules.specs.declared.heard.LineFault.TheVariants as line
-use Rattle.cell_rules.specs.ModelState.{ModelState}
-use Rattle.cell_rules.specs.Reply.{reply, next}
-use Rattle.cell_rules.specs.Benches.{Desk}
+use Rattle.cell_control.specs.Names.{fault_of, Rig, waits_on, Steps, is_while_stopped, waits_out, outcome, Turned}
+use Rattle.cell_control.specs.Names.{Turns, at_rest, turned, stops_with}
 use Rattle.cell_control.specs.declared.fault.CtlFault.{CtlFault}
 use Rattle.cell_control.specs.declared.fault.CtlFault.TheVariants as fault
-use Rattle.cell_control.specs.Faults.{fault_of}
-use Rattle.cell_control.specs.Rigs.{Rig}
-use Rattle.cell_control.specs.Row.{waits_on}
-use Rattle.cell_control.specs.Steps.{Steps, is_while_stopped, waits_out, outcome}
-use Rattle.cell_control.specs.Turns.{Turned, Turns, at_rest, turned}
-use Rattle.cell_control.specs.TurnRows.{stops_with}
 use Rattle.cell_control.proofs.TurnsByAnswers.{asked_own, drive_own, sensor_own}
-use Rattle.cell_notes.specs.Asks.{TurnCall, settled_in}
-use Rattle.cell_notes.specs.Notes.{Notes, notes_with}
-use Rattle.cell_unit.specs.Sides.{Side, ActsAndMoves, part_set, side_set, side_moved}
-use Rattle.cell_unit.specs.UnitTurns.{Answers, Leads, UnitTurn}
+use Rattle.cell_notes.specs.Names.{TurnCall, settled_in, Notes, notes_with}
+use Rattle.cell_unit.specs.Names.{Side, ActsAndMoves, part_set, side_set, side_moved, Answers, Leads, UnitTurn}
 use Rattle.cell_unit.specs.UnitRows.{StatusRows, IsAsking, IsDriving, PartSays, Answered, SideRows, IsAnswered, IsRefusedMemory, UnitRows}
 
 pub status-rows : StatusRows

@@ -1,17 +1,11 @@
 -- A machine's turn leaves the other controllers ready.
 use Rattle.std.proofs.Common.{◌≡◌, false, List, [], ◌∷◌, ◌++◌, append-nil, Option, Some, None, Result, Ok, Err, refl, ap, ◌∙◌, cond}
-use Rattle.cell_types.specs.declared.machine.Machine.{Machine}
-use Rattle.cell_types.specs.declared.call.Call.{Call}
-use Rattle.cell_types.specs.declared.answer.Event.{Event}
-use Rattle.cell_types.specs.declared.reply.Reply.{Reply}
-use Rattle.cell_types.specs.declared.reply.Reply.TheVariants.{Settled, Busy}
-use Rattle.cell_types.specs.Same.{same_machine}
+use Rattle.cell_rules.specs.Types.{Machine, Call, Event, Reply, Settled, Busy, same_machine}
+use Rattle.cell_rules.specs.Names.{ModelState, own_events}
 use Rattle.cell_rules.specs.declared.heard.LineFault.{LineFault}
-use Rattle.cell_rules.specs.ModelState.{ModelState}
-use Rattle.cell_rules.specs.History.{own_events}
 use Rattle.cell_rules.proofs.SeenLemmas.{own-append}
+use Rattle.cell_control.specs.Names.{Steps}
 use Rattle.cell_control.specs.declared.fault.CtlFault.{CtlFault}
-use Rattle.cell_control.specs.Steps.{Steps}
 use Rattle.cell_control.proofs.BenchLemmas.{reached_others}
 use Rattle.cell_notes.specs.Asks.{TurnCall, settled_by, settled_in}
 use Rattle.cell_unit.specs.Sides.{IsReady}

@@ -1,25 +1,18 @@
 -- One turn of any machine over a bench.
 use Rattle.std.proofs.Common.{◌≡◌, ◌≢◌, Bool, true, false, ◌++◌, append-nil, Option, Some, None, List, IfOk, Result, Ok, Err, refl, sym, ap, ◌∙◌, subst, if◌then◌else◌}
 use Rattle.std.specs.Option.{is_none}
-use Rattle.cell_types.specs.declared.machine.Machine.{Machine}
-use Rattle.cell_types.specs.declared.call.Call.{Call}
-use Rattle.cell_types.specs.declared.answer.Event.{Event}
-use Rattle.cell_types.specs.declared.reply.Reply.{Reply}
-use Rattle.cell_types.specs.declared.reply.Reply.TheVariants.{Settled, Busy}
+use Rattle.cell_rules.specs.Types.{Machine, Call, Event, Reply, Settled, Busy}
 use Rattle.cell_calib.specs.declared.sense.SensorFault.{SensorFault}
+use Rattle.cell_rules.specs.Names.{ModelState, Desk, BenchAsks}
 use Rattle.cell_rules.specs.declared.heard.LineFault.{LineFault}
-use Rattle.cell_rules.specs.ModelState.{ModelState}
-use Rattle.cell_rules.specs.Benches.{Desk, BenchAsks}
-use Rattle.cell_control.specs.Rigs.{Rig}
-use Rattle.cell_control.specs.Steps.{Steps, with_senses}
-use Rattle.cell_control.specs.Turns.{Performed, Turned, Turns, answered, turned}
+use Rattle.cell_control.specs.Names.{Rig, Steps, with_senses, Performed, Turned, Turns, answered, turned}
 use Rattle.cell_control.specs.declared.fault.CtlFault.{CtlFault}
 use Rattle.cell_control.proofs.TurnMaps.{turn_map, turn_either}
 use Rattle.cell_control.proofs.Senses.{turns_still}
-use Rattle.cell_notes.specs.Asks.{TurnCall, done_in, settled_by, settled_in}
-use Rattle.cell_notes.specs.Notes.{Notes, notes_with}
-use Rattle.cell_unit.specs.Sides.{Side, Acts, ActsAndMoves, DemandsHold, TellsByDemands, act_or_rest, noting, part_set}
-use Rattle.cell_unit.specs.UnitTurns.{Answers, Leads, UnitTurn}
+use Rattle.cell_notes.specs.Names.{TurnCall, done_in, settled_by, settled_in, Notes, notes_with}
+use Rattle.cell_unit.specs.Names.{Side, Acts, ActsAndMoves, DemandsHold, act_or_rest, noting, part_set, Answers}
+use Rattle.cell_unit.specs.Names.{Leads, UnitTurn}
+use Rattle.cell_unit.specs.Sides.{TellsByDemands}
 
 -- what the actuators are told, by what came of the turn
 pub told_act : {Act : Type 0} (rest act : Act) (fault : Option CtlFault) → (fault ≢ None → act ≡ rest) → act_or_rest rest (answered act fault) ≡ act

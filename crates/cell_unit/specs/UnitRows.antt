@@ -1,28 +1,17 @@
 -- A machine's status and the effect of its turn: rows with literal answers, for any program and any part.
 use Rattle.std.specs.Prelude.{◌≡◌, ⊤, ◌⊎◌, ℕ, Bool, true, false, [], ◌∷◌, ◌++◌, Option, Some, None, Result, Ok, Err}
-use Rattle.cell_types.specs.declared.machine.Machine.{Machine}
-use Rattle.cell_types.specs.declared.posture.Posture.{Posture}
-use Rattle.cell_types.specs.declared.call.Call.{Call}
-use Rattle.cell_types.specs.declared.answer.Refusal.{Refusal}
-use Rattle.cell_types.specs.declared.answer.Refusal.TheVariants.{Jump, Worn as NoStamp, Stopped}
+use Rattle.cell_rules.specs.Types.{Machine, Posture, Call, Refusal, Jump, Stopped, Reply, Settled, Busy}
+use Rattle.cell_types.specs.declared.answer.Refusal.TheVariants.{Worn as NoStamp}
 use Rattle.cell_types.specs.declared.answer.Answer.TheVariants as answer
-use Rattle.cell_types.specs.declared.reply.Reply.{Reply}
-use Rattle.cell_types.specs.declared.reply.Reply.TheVariants.{Settled, Busy}
 use Rattle.cell_calib.specs.declared.sense.SensorFault.{SensorFault}
+use Rattle.cell_rules.specs.Names.{reply, next, event, Desk}
 use Rattle.cell_rules.specs.declared.heard.LineFault.{LineFault}
 use Rattle.cell_rules.specs.declared.heard.LineFault.TheVariants as line
-use Rattle.cell_rules.specs.Reply.{reply, next}
-use Rattle.cell_rules.specs.Seen.{event}
-use Rattle.cell_rules.specs.Benches.{Desk}
+use Rattle.cell_control.specs.Names.{Rig, waits_on, Steps, Says}
 use Rattle.cell_control.specs.declared.fault.CtlFault.{CtlFault}
 use Rattle.cell_control.specs.declared.fault.CtlFault.TheVariants as fault
-use Rattle.cell_control.specs.Rigs.{Rig}
-use Rattle.cell_control.specs.Row.{waits_on}
-use Rattle.cell_control.specs.Steps.{Steps}
-use Rattle.cell_control.specs.TurnRows.{Says}
+use Rattle.cell_notes.specs.Names.{TurnCall, Notes, notes_with}
 use Rattle.cell_notes.specs.declared.status.Status.TheVariants.{Fine, Worn, Sensor, Refused, Memory}
-use Rattle.cell_notes.specs.Asks.{TurnCall}
-use Rattle.cell_notes.specs.Notes.{Notes, notes_with}
 use Rattle.cell_unit.specs.Statuses.{status_of}
 use Rattle.cell_unit.specs.Sides.{Side, ActsAndMoves}
 use Rattle.cell_unit.specs.UnitTurns.{UnitTurn}
@@ -40,58 +29,91 @@ pub record StatusRows : Type 0 where
 -- ---- a machine's side after a turn over any line
 
 -- the machine has this progress and fault; its part was set so and has moved for a tick
-abbrev pub comes_to : {S Sense Act State : Type 0} → Rig State Sense Act → S → Option CtlFault → State → Act → Side S State
-comes_to rig progress stopped part act = record { progress = progress; stopped = stopped; part = rig.moves (rig.set part act) }
+abbrev pub comes_to : {S Sense Act State : Type 0} → Rig State Sense Act → S → Option CtlFault → State → Act
+    → Side S State
+comes_to rig progress stopped part act = record {
+  progress = progress;
+  stopped = stopped;
+  part = rig.moves (rig.set part act);
+}
 
 -- for everything that the part may show, the sensors say this
-abbrev pub PartSays : {S Sense Reading Act State : Type 0} → Steps S Sense Reading Act → Rig State Sense Act → State → Result Reading SensorFault → Type 0
+abbrev pub PartSays : {S Sense Reading Act State : Type 0} → Steps S Sense Reading Act → Rig State Sense Act → State
+    → Result Reading SensorFault → Type 0
 PartSays {Sense = Sense} t rig part said = (s : Sense) → rig.shows part s → Says t s said
 
 -- nothing has stopped it, and its step asks this call; or its step drives, by these commands and no others
-pub record IsAsking {S Sense Reading Act State : Type 0} (t : Steps S Sense Reading Act) (rig : Rig State Sense Act) (before : Side S State) (reading : Reading) (call : Call) : Type 0 where
+pub record IsAsking {S Sense Reading Act State : Type 0} (t : Steps S Sense Reading Act) (rig : Rig State Sense Act)
+    (before : Side S State) (reading : Reading) (call : Call) : Type 0 where
   pub runs : before.stopped ≡ None
   pub says : PartSays t rig before.part (Ok reading)
   pub asks : (t.row before.progress).call ≡ Some call
 
-pub record IsDriving {S Sense Reading Act State : Type 0} (t : Steps S Sense Reading Act) (rig : Rig State Sense Act) (before : Side S State) (reading : Reading) (act : Act) : Type 0 where
+pub record IsDriving {S Sense Reading Act State : Type 0} (t : Steps S Sense Reading Act) (rig : Rig State Sense Act)
+    (before : Side S State) (reading : Reading) (act : Act) : Type 0 where
   pub runs : before.stopped ≡ None
   pub says : PartSays t rig before.part (Ok reading)
   pub asks_nothing : (t.row before.progress).call ≡ None
   pub drives_only : (other : Act) → t.drives before.progress reading other → other ≡ act
 
 -- a turn over a line that answers so; and one over a line that is asked nothing
-abbrev pub Answered : {S Sense Reading Act State : Type 0} → Steps S Sense Reading Act → Rig State Sense Act → Side S State → Result Reply LineFault → TurnCall → Side S State → Type 0
+abbrev pub Answered : {S Sense Reading Act State : Type 0} → Steps S Sense Reading Act → Rig State Sense Act
+    → Side S State → Result Reply LineFault → TurnCall → Side S State → Type 0
 Answered t rig before answered asked now = ActsAndMoves t rig ⊥ (λ call r. r ≡ answered) before asked now
 
-abbrev pub Alone : {S Sense Reading Act State : Type 0} → Steps S Sense Reading Act → Rig State Sense Act → Side S State → TurnCall → Side S State → Type 0
+abbrev pub Alone : {S Sense Reading Act State : Type 0} → Steps S Sense Reading Act → Rig State Sense Act
+    → Side S State → TurnCall → Side S State → Type 0
 Alone t rig before asked now = ActsAndMoves t rig ⊤ (λ call r. ⊥) before asked now
 
-pub record SideRows {S Sense Reading Act State : Type 0} (t : Steps S Sense Reading Act) (rig : Rig State Sense Act) (before : Side S State) (asked : TurnCall) (now : Side S State) : Type 0 where
+pub record SideRows {S Sense Reading Act State : Type 0} (t : Steps S Sense Reading Act) (rig : Rig State Sense Act)
+    (before : Side S State) (asked : TurnCall) (now : Side S State) : Type 0 where
   -- the part notes a call that is done
-  pub done : (reading : Reading) (call : Call) (stamp : ℕ) → IsAsking t rig before reading call → Answered t rig before (Ok (Settled answer.Done stamp)) asked now
-      → (asked ≡ Some (call, Ok (Settled answer.Done stamp))) × (now ≡ comes_to rig (t.row before.progress).next None (rig.notes before.part (event t.machine call answer.Done)) (t.rest before.progress))
+  pub done : (reading : Reading) (call : Call) (stamp : ℕ) → IsAsking t rig before reading call
+      → Answered t rig before (Ok (Settled answer.Done stamp)) asked now
+      → (asked ≡ Some (call, Ok (Settled answer.Done stamp)))
+      × (now ≡ comes_to rig (t.row before.progress).next None
+      (rig.notes before.part (event t.machine call answer.Done)) (t.rest before.progress))
   -- it notes nothing else
-  pub shown : (reading : Reading) (call : Call) (owner : Option Machine) (flag : Bool) (posture : Posture) (stamp : ℕ) → IsAsking t rig before reading call → Answered t rig before (Ok (Settled (answer.Shown owner flag posture) stamp)) asked now
-      → (asked ≡ Some (call, Ok (Settled (answer.Shown owner flag posture) stamp))) × (now ≡ comes_to rig (t.after_inquiry before.progress owner flag posture) None before.part (t.rest before.progress))
-  pub waits : (reading : Reading) (call : Call) (r : Refusal) (stamp : ℕ) → waits_on (t.row before.progress).waits r ≡ true → IsAsking t rig before reading call → Answered t rig before (Ok (Settled (answer.Refused r) stamp)) asked now
-      → (asked ≡ Some (call, Ok (Settled (answer.Refused r) stamp))) × (now ≡ comes_to rig before.progress None before.part (t.rest before.progress))
+  pub shown : (reading : Reading) (call : Call) (owner : Option Machine) (flag : Bool) (posture : Posture) (stamp : ℕ)
+      → IsAsking t rig before reading call
+      → Answered t rig before (Ok (Settled (answer.Shown owner flag posture) stamp)) asked now
+      → (asked ≡ Some (call, Ok (Settled (answer.Shown owner flag posture) stamp)))
+      × (now ≡ comes_to rig (t.after_inquiry before.progress owner flag posture) None before.part
+      (t.rest before.progress))
+  pub waits : (reading : Reading) (call : Call) (r : Refusal) (stamp : ℕ)
+      → waits_on (t.row before.progress).waits r ≡ true → IsAsking t rig before reading call
+      → Answered t rig before (Ok (Settled (answer.Refused r) stamp)) asked now
+      → (asked ≡ Some (call, Ok (Settled (answer.Refused r) stamp)))
+      × (now ≡ comes_to rig before.progress None before.part (t.rest before.progress))
   pub while_stopped : (reading : Reading) (call : Call) (stamp : ℕ) → IsAsking t rig before reading call
       → Answered t rig before (Ok (Settled (answer.Refused Stopped) stamp)) asked now
       → (asked ≡ Some (call, Ok (Settled (answer.Refused Stopped) stamp)))
       × (now ≡ comes_to rig before.progress None before.part (t.rest before.progress))
-  pub refused : (reading : Reading) (call : Call) (stamp : ℕ) → waits_on (t.row before.progress).waits Jump ≡ false → IsAsking t rig before reading call → Answered t rig before (Ok (Settled (answer.Refused Jump) stamp)) asked now
-      → (asked ≡ Some (call, Ok (Settled (answer.Refused Jump) stamp))) × (now ≡ comes_to rig before.progress (Some (fault.Refused Jump)) before.part (t.rest before.progress))
-  pub worn : (reading : Reading) (call : Call) (stamp : ℕ) → waits_on (t.row before.progress).waits NoStamp ≡ false → IsAsking t rig before reading call → Answered t rig before (Ok (Settled (answer.Refused NoStamp) stamp)) asked now
-      → (asked ≡ Some (call, Ok (Settled (answer.Refused NoStamp) stamp))) × (now ≡ comes_to rig before.progress (Some fault.Worn) before.part (t.rest before.progress))
-  pub busy : (reading : Reading) (call : Call) (lost stamp : ℕ) → IsAsking t rig before reading call → Answered t rig before (Ok (Busy lost stamp)) asked now
-      → (asked ≡ Some (call, Ok (Busy lost stamp))) × (now ≡ comes_to rig before.progress None before.part (t.rest before.progress))
-  pub out_of_memory : (reading : Reading) (call : Call) → IsAsking t rig before reading call → Answered t rig before (Err line.Memory) asked now
-      → (asked ≡ Some (call, Err line.Memory)) × (now ≡ comes_to rig before.progress (Some fault.Memory) before.part (t.rest before.progress))
+  pub refused : (reading : Reading) (call : Call) (stamp : ℕ) → waits_on (t.row before.progress).waits Jump ≡ false
+      → IsAsking t rig before reading call
+      → Answered t rig before (Ok (Settled (answer.Refused Jump) stamp)) asked now
+      → (asked ≡ Some (call, Ok (Settled (answer.Refused Jump) stamp)))
+      × (now ≡ comes_to rig before.progress (Some (fault.Refused Jump)) before.part (t.rest before.progress))
+  pub worn : (reading : Reading) (call : Call) (stamp : ℕ) → waits_on (t.row before.progress).waits NoStamp ≡ false
+      → IsAsking t rig before reading call
+      → Answered t rig before (Ok (Settled (answer.Refused NoStamp) stamp)) asked now
+      → (asked ≡ Some (call, Ok (Settled (answer.Refused NoStamp) stamp)))
+      × (now ≡ comes_to rig before.progress (Some fault.Worn) before.part (t.rest before.progress))
+  pub busy : (reading : Reading) (call : Call) (lost stamp : ℕ) → IsAsking t rig before reading call
+      → Answered t rig before (Ok (Busy lost stamp)) asked now
+      → (asked ≡ Some (call, Ok (Busy lost stamp))) × (now ≡ comes_to rig before.progress None before.part
+      (t.rest before.progress))
+  pub out_of_memory : (reading : Reading) (call : Call) → IsAsking t rig before reading call
+      → Answered t rig before (Err line.Memory) asked now
+      → (asked ≡ Some (call, Err line.Memory)) × (now ≡ comes_to rig before.progress (Some fault.Memory) before.part
+      (t.rest before.progress))
   -- a step that drives asks nothing; neither does a machine that can't go on
   pub drives : (reading : Reading) (act : Act) → IsDriving t rig before reading act → Alone t rig before asked now
       → (asked ≡ None) × (now ≡ comes_to rig (t.after_drive before.progress reading act) None before.part act)
-  pub sensor : (f : SensorFault) → before.stopped ≡ None → PartSays t rig before.part (Err f) → Alone t rig before asked now
-      → (asked ≡ None) × (now ≡ comes_to rig before.progress (Some (fault.Sensor f)) before.part (t.rest before.progress))
+  pub sensor : (f : SensorFault) → before.stopped ≡ None → PartSays t rig before.part (Err f)
+      → Alone t rig before asked now
+      → (asked ≡ None) × (now ≡ comes_to rig before.progress (Some (fault.Sensor f)) before.part
+      (t.rest before.progress))
   pub stopped : (f : CtlFault) → before.stopped ≡ Some f → Alone t rig before asked now
       → (asked ≡ None) × (now ≡ comes_to rig before.progress (Some f) before.part (t.rest before.progress))
 
@@ -104,41 +126,59 @@ pub record BenchStays (old new : Desk) : Type 0 where
   pub history : new.history ≡ old.history
 
 -- the call has its answer by the state; or it is out of memory
-pub record IsAnswered (m : Machine) (call : Call) (old new : Desk) (notes notes' : Notes) (asked : TurnCall) : Type 0 where
+pub record IsAnswered (m : Machine) (call : Call) (old new : Desk) (notes notes' : Notes) (asked : TurnCall)
+    : Type 0 where
   pub told : asked ≡ Some (call, Ok (Settled (reply old.state m call) new.state.stamp))
   pub opening : new.opening ≡ old.opening
   pub state : new.state ≡ next old.state m call
   pub history : new.history ≡ old.history ++ event m call (reply old.state m call) ∷ []
   pub noted : notes' ≡ notes_with notes (Some (call, Ok (Settled (reply old.state m call) new.state.stamp)))
 
-pub record IsRefusedMemory {S Sense Reading Act State : Type 0} (t : Steps S Sense Reading Act) (rig : Rig State Sense Act) (call : Call) (old new : Desk) (before now : Side S State) (notes notes' : Notes) (asked : TurnCall) : Type 0 where
+pub record IsRefusedMemory {S Sense Reading Act State : Type 0} (t : Steps S Sense Reading Act)
+    (rig : Rig State Sense Act) (call : Call) (old new : Desk) (before now : Side S State) (notes notes' : Notes)
+    (asked : TurnCall) : Type 0 where
   pub told : asked ≡ Some (call, Err line.Memory)
   pub bench : BenchStays old new
   pub side : now ≡ comes_to rig before.progress (Some fault.Memory) before.part (t.rest before.progress)
   pub noted : notes' ≡ notes_with notes (Some (call, Err line.Memory))
 
-pub record PassedOver {S State : Type 0} (old new : Desk) (before now : Side S State) (notes notes' : Notes) (asked : TurnCall) : Type 0 where
+pub record PassedOver {S State : Type 0} (old new : Desk) (before now : Side S State) (notes notes' : Notes)
+    (asked : TurnCall) : Type 0 where
   pub asks_nothing : asked ≡ None
   pub bench : BenchStays old new
   pub side : now ≡ before
   pub noted : notes' ≡ notes
 
-pub record FindsBusy {S Sense Reading Act State : Type 0} (t : Steps S Sense Reading Act) (rig : Rig State Sense Act) (call : Call) (old new : Desk) (before now : Side S State) (notes notes' : Notes) (asked : TurnCall) : Type 0 where
+pub record FindsBusy {S Sense Reading Act State : Type 0} (t : Steps S Sense Reading Act) (rig : Rig State Sense Act)
+    (call : Call) (old new : Desk) (before now : Side S State) (notes notes' : Notes) (asked : TurnCall)
+    : Type 0 where
   pub told : asked ≡ Some (call, Ok (Busy 1 old.state.stamp))
   pub bench : BenchStays old new
   pub side : now ≡ comes_to rig before.progress None before.part (t.rest before.progress)
   pub noted : notes' ≡ notes_with notes (Some (call, Ok (Busy 1 old.state.stamp)))
 
-pub record Drives {S Sense Reading Act State : Type 0} (t : Steps S Sense Reading Act) (rig : Rig State Sense Act) (reading : Reading) (act : Act) (old new : Desk) (before now : Side S State) (notes notes' : Notes) (asked : TurnCall) : Type 0 where
+pub record Drives {S Sense Reading Act State : Type 0} (t : Steps S Sense Reading Act) (rig : Rig State Sense Act)
+    (reading : Reading) (act : Act) (old new : Desk) (before now : Side S State) (notes notes' : Notes)
+    (asked : TurnCall) : Type 0 where
   pub asks_nothing : asked ≡ None
   pub bench : BenchStays old new
   pub side : now ≡ comes_to rig (t.after_drive before.progress reading act) None before.part act
   pub noted : notes' ≡ notes_with notes None
-  pub demanded : now.stopped ≡ None → (set : Act) × (now.part ≡ rig.moves (rig.set before.part set)) × t.motor_demands before.progress set new.opening new.history
+  pub demanded : now.stopped ≡ None
+      → (set : Act) × (now.part ≡ rig.moves (rig.set before.part set))
+      × t.motor_demands before.progress set new.opening new.history
 
-pub record UnitRows {S Sense Reading Act State : Type 0} (t : Steps S Sense Reading Act) (rig : Rig State Sense Act) (old new : Desk) (before now : Side S State) (notes notes' : Notes) (asked : TurnCall) : Type 0 where
-  pub stopped : (f : CtlFault) (busy : Bool) → before.stopped ≡ Some f → UnitTurn t rig busy old new before now notes notes' asked → PassedOver old new before now notes notes' asked
-  pub busy : (reading : Reading) (call : Call) → IsAsking t rig before reading call → UnitTurn t rig true old new before now notes notes' asked → FindsBusy t rig call old new before now notes notes' asked
-  pub asks : (reading : Reading) (call : Call) → IsAsking t rig before reading call → UnitTurn t rig false old new before now notes notes' asked
-      → IsAnswered t.machine call old new notes notes' asked ⊎ IsRefusedMemory t rig call old new before now notes notes' asked
-  pub drives : (reading : Reading) (act : Act) (busy : Bool) → IsDriving t rig before reading act → UnitTurn t rig busy old new before now notes notes' asked → Drives t rig reading act old new before now notes notes' asked
+pub record UnitRows {S Sense Reading Act State : Type 0} (t : Steps S Sense Reading Act) (rig : Rig State Sense Act)
+    (old new : Desk) (before now : Side S State) (notes notes' : Notes) (asked : TurnCall) : Type 0 where
+  pub stopped : (f : CtlFault) (busy : Bool) → before.stopped ≡ Some f
+      → UnitTurn t rig busy old new before now notes notes' asked → PassedOver old new before now notes notes' asked
+  pub busy : (reading : Reading) (call : Call) → IsAsking t rig before reading call
+      → UnitTurn t rig true old new before now notes notes' asked
+      → FindsBusy t rig call old new before now notes notes' asked
+  pub asks : (reading : Reading) (call : Call) → IsAsking t rig before reading call
+      → UnitTurn t rig false old new before now notes notes' asked
+      → IsAnswered t.machine call old new notes notes' asked
+      ⊎ IsRefusedMemory t rig call old new before now notes notes' asked
+  pub drives : (reading : Reading) (act : Act) (busy : Bool) → IsDriving t rig before reading act
+      → UnitTurn t rig busy old new before now notes notes' asked
+      → Drives t rig reading act old new before now notes notes' asked

@@ -28,9 +28,11 @@ pub fn take_bench_turn<P: Program, B: Part<Sense = P::Sense, Act = P::Act>>(
     requires ready { UnitIsReady P.steps unit.old (desk_of bench.old).opening (desk_of bench.old).history }
     requires room { HasRoom notebook.old.counts }
     ensures turn { IfOk result (UnitTurn (unit_table P.steps unit.old) (unit_rig B.rig B.make unit.old) busy
-        (desk_of bench.old) (desk_of bench.new) (unit_side B.state unit.old) (unit_side B.state unit.new) (notes_of notebook.old) (notes_of notebook.new)) }
+        (desk_of bench.old) (desk_of bench.new) (unit_side B.state unit.old) (unit_side B.state unit.new)
+        (notes_of notebook.old) (notes_of notebook.new)) }
     ensures failed { OnErr result (Untouched
-        (desk_of bench.old) (desk_of bench.new) (unit_side B.state unit.old) (unit_side B.state unit.new) (notes_of notebook.old) (notes_of notebook.new)) }
+        (desk_of bench.old) (desk_of bench.new) (unit_side B.state unit.old) (unit_side B.state unit.new)
+        (notes_of notebook.old) (notes_of notebook.new)) }
     ensures succeeds { HasSpare notebook.old → IsOk result }
     ensures stopped { (unit_side B.state unit.old).stopped ≢ None → IsOk result }
     ensures ready { UnitIsReady P.steps unit.new (desk_of bench.new).opening (desk_of bench.new).history }

@@ -22,9 +22,11 @@ impl<P: Program, B: Part<Sense = P::Sense, Act = P::Act>> MachineUnit<P, B> {
     /// that was done, and moves for a tick. After an error of the controller the motors are off.
     /// Answers what was asked.
     pub fn turn<L: Line>(&mut self, line: &mut L) -> TurnCall
-        requires own { (unit_side B.state self.old).stopped ≡ None → L.machine line.old ≡ (unit_table P.steps self.old).machine }
+        requires own { (unit_side B.state self.old).stopped ≡ None
+            → L.machine line.old ≡ (unit_table P.steps self.old).machine }
         requires ready { UnitIsReady P.steps self.old (L.opening line.old) (L.seen line.old) }
-        ensures row { ActsAndMoves (unit_table P.steps self.old) (unit_rig B.rig B.make self.old) (line.new ≡ line.old) (λ c r. L.asks line.old c r line.new)
+        ensures row { ActsAndMoves (unit_table P.steps self.old) (unit_rig B.rig B.make self.old)
+            (line.new ≡ line.old) (λ c r. L.asks line.old c r line.new)
             (unit_side B.state self.old) result (unit_side B.state self.new) }
         ensures motor_demands { DemandsHold (unit_table P.steps self.old) (unit_rig B.rig B.make self.old)
             (unit_side B.state self.old) result (unit_side B.state self.new) (L.opening line.new) (L.seen line.new) }
@@ -45,7 +47,9 @@ impl<P: Program, B: Part<Sense = P::Sense, Act = P::Act>> MachineUnit<P, B> {
 
 // The part notes a call that was done, and moves for a tick.
 fn note_and_tick<B: Part>(part: &mut B, event: Option<Event>, act: &B::Act)
-    ensures state { B.state part.new ≡ (B.rig (B.make part.old)).moves ((B.rig (B.make part.old)).set (noting (B.rig (B.make part.old)) (B.state part.old) event) act.now) }
+    ensures state { B.state part.new
+        ≡ (B.rig (B.make part.old)).moves ((B.rig (B.make part.old)).set
+        (noting (B.rig (B.make part.old)) (B.state part.old) event) act.now) }
     ensures make { B.make part.new ≡ B.make part.old }
 {
     if let Some(event) = event {

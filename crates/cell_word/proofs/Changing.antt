@@ -2,27 +2,14 @@
 use Rattle.std.proofs.Common.{◌≡◌, ℕ, ◌+◌, ◌*◌, ◌^◌, ◌<◌, Bool, true, false, cond, ◌||◌, ◌&&◌, not, nat_eq, nat_lt, Option, Some, None, is_none, is_some, unwrap_or, refl, sym, ap, ap₂, ◌∙◌, arith, eqb-true, ltb-true, if◌then◌else◌}
 use Rattle.std.specs.Prelude.{bit_and, bit_or}
 use Rattle.std.proofs.lemmas.Nat.{and_mask, or_comm, or_shifted}
-use Rattle.cell_types.specs.declared.machine.Machine.{Machine}
-use Rattle.cell_types.specs.declared.machine.Machine.TheVariants.{Watch}
-use Rattle.cell_types.specs.declared.zone.Zone.{Zone}
-use Rattle.cell_types.specs.declared.zone.Transfer.{Transfer}
-use Rattle.cell_types.specs.declared.place.Place.{Place}
-use Rattle.cell_types.specs.declared.posture.Posture.{Posture}
-use Rattle.cell_types.specs.declared.posture.Posture.TheVariants.{Closed}
-use Rattle.cell_types.specs.declared.pose.Pose.{Pose}
-use Rattle.cell_types.specs.declared.call.Call.{Call}
-use Rattle.cell_types.specs.declared.call.Call.TheVariants.{Claim, Give, Yield, Take, Release, SetPose, Advance, Inquire, Stop, Resume}
-use Rattle.cell_types.specs.declared.answer.Answer.TheVariants.{Done}
-use Rattle.cell_types.specs.Tables.{transfer_of, posture_of}
-use Rattle.cell_types.specs.Ways.{own_move_of}
-use Rattle.cell_types.specs.Same.{same_machine, same_zone, same_place, one_machine}
+use Rattle.cell_rules.specs.Types.{Machine, Watch, Zone, Transfer, Place, Posture, Closed, Pose, Call, Claim, Give}
+use Rattle.cell_rules.specs.Types.{Yield, Take, Release, SetPose, Advance, Inquire, Stop, Resume, Done, transfer_of}
+use Rattle.cell_rules.specs.Types.{posture_of, own_move_of, same_machine, same_zone, same_place, one_machine}
+use Rattle.cell_rules.specs.Names.{zone_in, put_zone, PlaceSet, has, ModelState, model_state, zone_at, is_full}
+use Rattle.cell_rules.specs.Names.{one_if, IsSound, implies, is_party, is_owned_by, reply, changed, next, next_by}
+use Rattle.cell_rules.specs.Names.{other_party, emptied, filled, worked, posed, halted, is_belt_of}
 use Rattle.cell_rules.specs.declared.zones.ZoneState.{ZoneState}
-use Rattle.cell_rules.specs.ZoneMap.{zone_in, put_zone}
-use Rattle.cell_rules.specs.PlaceSet.{PlaceSet, has}
-use Rattle.cell_rules.specs.ModelState.{ModelState, model_state, zone_at, is_full, one_if}
-use Rattle.cell_rules.specs.Sound.{IsSound, implies, is_party, is_owned_by}
 use Rattle.cell_rules.specs.Refusals
-use Rattle.cell_rules.specs.Reply.{reply, changed, next, next_by, other_party, emptied, filled, worked, posed, halted, is_belt_of}
 use Rattle.cell_rules.proofs.Tables.{and_left, and_right, and_both, implied, all_bools, from_bools, all_machines, from_machines, all_zones, from_zones, all_postures, from_postures, all_poses, from_poses, all_places, from_places, all_states, from_states}
 use Rattle.cell_rules.proofs.Puts.{put_cases, zone_in-map, has-put}
 use Rattle.cell_rules.proofs.Done.{none_or, fresh, may_claim, may_give, may_yield, may_take, may_release, claim_done, give_done, yield_done, take_done, release_done, stop_done, resume_done}

@@ -4,12 +4,9 @@ use Rattle.std.specs.List.{flat_map}
 use Rattle.std.proofs.lemmas.List.{take_more, map-append, append-nil, append_assoc}
 use Rattle.std.proofs.lemmas.List.Sums.{sum_by-append, sum_by_push}
 use Rattle.std.proofs.lemmas.Grind.{flat_map-append}
-use Rattle.cell_types.specs.declared.zone.Zone.{Zone}
-use Rattle.cell_types.specs.declared.place.Place.{Place}
-use Rattle.cell_types.specs.Everything.{all_zones, all_places}
+use Rattle.cell_rules.specs.Types.{Zone, Place, all_zones, all_places}
+use Rattle.cell_rules.specs.Names.{ZoneMap, zone_in, put_zone, put_each, ModelState, zone_at, is_full, one_if}
 use Rattle.cell_rules.specs.declared.zones.ZoneState.{ZoneState}
-use Rattle.cell_rules.specs.ZoneMap.{ZoneMap, zone_in, put_zone, put_each}
-use Rattle.cell_rules.specs.ModelState.{ModelState, zone_at, is_full, one_if}
 use Rattle.cell_word.specs.Layout.{Field, term_of, word_of, zone_bit, zone_fields, fields_at, place_bit, place_field}
 
 put_each-push : (f : Zone → ZoneState → ZoneState) (zs : List Zone) (z : Zone) (m : ZoneMap) → put_each f (zs ++ z ∷ []) m ≡ put_zone (put_each f zs m) z (f z (zone_in (put_each f zs m) z))

@@ -1,12 +1,8 @@
 -- On a sound state's word the guards of each machine and call are its refusals, in their order.
 use Rattle.std.proofs.Common.{◌≡◌, Bool, true, refl}
-use Rattle.cell_types.specs.declared.machine.Machine.{Machine}
-use Rattle.cell_types.specs.declared.call.Call.{Call}
-use Rattle.cell_types.specs.declared.call.Call.TheVariants.{Claim, Give, Yield, Take, Release, SetPose, Advance, Inquire, Stop, Resume}
-use Rattle.cell_rules.specs.ModelState.{ModelState}
-use Rattle.cell_rules.specs.Sound.{IsSound}
-use Rattle.cell_rules.specs.Reply.{refusal}
-use Rattle.cell_rules.specs.Causes.{order_of}
+use Rattle.cell_rules.specs.Types.{Machine, Call, Claim, Give, Yield, Take, Release, SetPose, Advance, Inquire, Stop}
+use Rattle.cell_rules.specs.Types.{Resume}
+use Rattle.cell_rules.specs.Names.{ModelState, IsSound, refusal, order_of}
 use Rattle.cell_rules.proofs.Tables.{all_machines, from_machines}
 use Rattle.cell_word.specs.Layout.{packed}
 use Rattle.cell_word.specs.Guards.{first_refusal, guards_of, numbers_of, is_ordered}

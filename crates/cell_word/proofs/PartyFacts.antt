@@ -1,10 +1,6 @@
 -- What holds of the two parties of a zone.
 use Rattle.std.proofs.Common.{◌≡◌, Option, refl, ap, ◌∙◌}
-use Rattle.cell_types.specs.declared.machine.Machine.{Machine}
-use Rattle.cell_types.specs.declared.zone.Zone.{Zone}
-use Rattle.cell_types.specs.declared.zone.Zone.TheVariants.{Z1, Z2, Z3, Z4, Z5, Z6}
-use Rattle.cell_types.specs.Tables.{guest_of, transfer_of}
-use Rattle.cell_types.specs.Same.{same_machine}
+use Rattle.cell_rules.specs.Types.{Machine, Zone, Z1, Z2, Z3, Z4, Z5, Z6, guest_of, transfer_of, same_machine}
 use Rattle.cell_rules.specs.Reply.{other_party}
 use Rattle.cell_word.specs.Parties.{machine_of, opposite, is_guest, giving_posture}
 use Rattle.cell_word.specs.Patterns.{owner_is}

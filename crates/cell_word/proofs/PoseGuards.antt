@@ -5,23 +5,15 @@ use Rattle.std.specs.Option.{option_or, option_eq}
 use Rattle.std.specs.Bool.{then_some}
 use Rattle.std.specs.List.{flat_map}
 use Rattle.std.proofs.lemmas.List.{append-nil}
-use Rattle.cell_types.specs.declared.machine.Machine.{Machine}
-use Rattle.cell_types.specs.declared.machine.Machine.TheVariants.{Feed, Table as TableMachine, Robot, Press, Deposit, Crane as CraneMachine, Watch}
-use Rattle.cell_types.specs.declared.zone.Zone.{Zone}
-use Rattle.cell_types.specs.declared.zone.Zone.TheVariants.{Z1, Z2, Z3, Z4, Z5, Z6}
-use Rattle.cell_types.specs.declared.place.Place.{Place}
-use Rattle.cell_types.specs.declared.place.Place.TheVariants.{FeedEntry, FeedEnd, Table, PressIn, PressOut, DepEntry, DepEnd}
-use Rattle.cell_types.specs.declared.posture.Posture.{Posture}
-use Rattle.cell_types.specs.declared.posture.Posture.TheVariants.{Closed, Moving, OpenIn, OpenOut}
-use Rattle.cell_types.specs.declared.pose.Pose.{Pose}
-use Rattle.cell_types.specs.declared.pose.Pose.TheVariants.{Running}
-use Rattle.cell_types.specs.declared.answer.Refusal.{Refusal}
-use Rattle.cell_types.specs.declared.answer.Refusal.TheVariants.{NotOwner, PlateInZone, NoPlate, PlaceFull, Jump, NotAtWork, NoPose, Stopped}
-use Rattle.cell_types.specs.Tables.{host_of, guest_of, posture_of}
-use Rattle.cell_types.specs.Same.{same_machine, same_posture, same_pose, one_machine}
+use Rattle.cell_rules.specs.Types.{Machine, Feed, Robot, Press, Deposit, Watch, Zone, Z1, Z2, Z3, Z4, Z5, Z6, Place}
+use Rattle.cell_rules.specs.Types.{FeedEntry, FeedEnd, PressIn, PressOut, DepEntry, DepEnd, Posture, Closed, Moving}
+use Rattle.cell_rules.specs.Types.{OpenIn, OpenOut, Pose, Running, Refusal, NotOwner, PlateInZone, NoPlate, PlaceFull}
+use Rattle.cell_rules.specs.Types.{Jump, NotAtWork, NoPose, Stopped, host_of, guest_of, posture_of, same_machine}
+use Rattle.cell_rules.specs.Types.{same_posture, same_pose, one_machine}
+use Rattle.cell_types.specs.declared.machine.Machine.TheVariants.{Table as TableMachine, Crane as CraneMachine}
+use Rattle.cell_types.specs.declared.place.Place.TheVariants.{Table}
+use Rattle.cell_rules.specs.Names.{ModelState, zone_at, is_full, IsSound, implies, is_owned_by}
 use Rattle.cell_rules.specs.declared.zones.ZoneState.{ZoneState}
-use Rattle.cell_rules.specs.ModelState.{ModelState, zone_at, is_full}
-use Rattle.cell_rules.specs.Sound.{IsSound, implies, is_owned_by}
 use Rattle.cell_rules.specs.Refusals
 use Rattle.cell_rules.proofs.Tables.{and_left, and_right, and_both, implied, all_bools, from_bools, all_machines, from_machines, all_zones, from_zones, all_postures, from_postures, all_poses, from_poses, all_states, from_states}
 use Rattle.cell_rules.proofs.Done.{none_then_not}

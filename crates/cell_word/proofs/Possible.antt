@@ -1,29 +1,12 @@
 -- A call that writes something is Done on some state.
 use Rattle.std.proofs.Common.{◌≡◌, ℕ, Bool, true, false, ◌||◌, ◌&&◌, nat_eq, nat_lt, ◌<◌, ◌^◌, Option, Some, None, is_some, refl, eqb-true, ltb-true, if◌then◌else◌}
 use Rattle.std.specs.Prelude.{◌≢◌, IsTrue}
-use Rattle.cell_types.specs.declared.machine.Machine.{Machine}
-use Rattle.cell_types.specs.declared.machine.Machine.TheVariants.{Press}
-use Rattle.cell_types.specs.declared.zone.Zone.{Zone}
-use Rattle.cell_types.specs.declared.place.Place.{Place}
-use Rattle.cell_types.specs.declared.zone.Transfer.{Transfer}
-use Rattle.cell_types.specs.declared.posture.Posture.{Posture}
-use Rattle.cell_types.specs.declared.posture.Posture.TheVariants.{Closed, Moving, OpenIn, OpenOut}
-use Rattle.cell_types.specs.declared.call.Call.{Call}
-use Rattle.cell_types.specs.declared.call.Call.TheVariants.{Claim, Give, Yield, Take, Release, SetPose, Advance, Inquire, Stop, Resume}
-use Rattle.cell_types.specs.declared.answer.Answer.{Answer}
-use Rattle.cell_types.specs.declared.answer.Answer.TheVariants.{Done, Shown, Refused}
-use Rattle.cell_types.specs.Tables.{host_of, transfer_of}
-use Rattle.cell_types.specs.Same.{same_machine}
-use Rattle.cell_types.specs.Ways.{own_move_of}
+use Rattle.cell_rules.specs.Types.{Machine, Press, Zone, Place, Transfer, Posture, Closed, Moving, OpenIn, OpenOut}
+use Rattle.cell_rules.specs.Types.{Call, Claim, Give, Yield, Take, Release, SetPose, Advance, Inquire, Stop, Resume}
+use Rattle.cell_rules.specs.Types.{Answer, Done, Shown, Refused, host_of, transfer_of, same_machine, own_move_of}
+use Rattle.cell_rules.specs.Names.{put_zone, map_zones, everywhere, free_zone, PlaceSet, empty, insert_place}
+use Rattle.cell_rules.specs.Names.{ModelState, model_state, IsSound, implies, is_sound, given_by, reply, has_call}
 use Rattle.cell_rules.specs.declared.zones.ZoneState.{ZoneState}
-use Rattle.cell_rules.specs.ZoneMap.{put_zone, map_zones, everywhere, free_zone}
-use Rattle.cell_rules.specs.PlaceSet.{PlaceSet, empty, insert_place}
-use Rattle.cell_rules.specs.ModelState.{ModelState, model_state}
-use Rattle.cell_rules.specs.Sound.{IsSound, implies}
-use Rattle.cell_rules.specs.SoundTest.{is_sound}
-use Rattle.cell_rules.specs.Refusals.{given_by}
-use Rattle.cell_rules.specs.Reply.{reply}
-use Rattle.cell_rules.specs.FirstVersion.{has_call}
 use Rattle.cell_rules.proofs.Tables.{and_left, and_right, implied, all_machines, from_machines, all_zones, from_zones, all_poses, from_poses}
 use Rattle.cell_rules.proofs.Tested.{sound_by_test}
 use Rattle.cell_word.specs.Layout.{stamp_bit}

@@ -2,19 +2,13 @@
 use Rattle.std.proofs.Common.{◌≡◌, ℕ, ◌+◌, ◌<◌, ◌≤◌, Bool, true, false, ◌||◌, if◌then◌else◌, nat_eq, Option, Some, None, is_none, List, [], ◌∷◌, ◌++◌, map, get_or, refl, sym, ap, ◌∙◌, subst, arith, rules, ◌↔◌}
 use Rattle.std.specs.List.{All, flat_map}
 use Rattle.std.proofs.lemmas.List.Elements.{All-nil, All-cons, All-append, All-map}
-use Rattle.cell_types.specs.declared.machine.Machine.{Machine}
-use Rattle.cell_types.specs.declared.zone.Zone.{Zone}
-use Rattle.cell_types.specs.declared.zone.Zone.TheVariants.{Z1, Z2, Z3, Z4, Z5, Z6}
-use Rattle.cell_types.specs.declared.place.Place.{Place}
-use Rattle.cell_types.specs.declared.place.Place.TheVariants.{FeedEntry, FeedEnd, Table, Arm1, PressIn, PressOut, Arm2, DepEntry, DepEnd, Crane}
-use Rattle.cell_types.specs.declared.posture.Posture.{Posture}
-use Rattle.cell_types.specs.declared.posture.Posture.TheVariants.{Closed, Moving, OpenIn, OpenOut}
-use Rattle.cell_types.specs.Tables.{host_of, guest_of}
-use Rattle.cell_types.specs.Same.{same_machine, one_machine}
-use Rattle.cell_types.specs.Everything.{all_zones, all_places}
+use Rattle.cell_rules.specs.Types.{Machine, Zone, Z1, Z2, Z3, Z4, Z5, Z6, Place, FeedEntry, FeedEnd, Arm1, PressIn}
+use Rattle.cell_rules.specs.Types.{PressOut, Arm2, DepEntry, DepEnd, Posture, Closed, Moving, OpenIn, OpenOut}
+use Rattle.cell_rules.specs.Types.{host_of, guest_of, same_machine, one_machine, all_zones, all_places}
+use Rattle.cell_types.specs.declared.place.Place.TheVariants.{Table, Crane}
+use Rattle.cell_rules.specs.Names.{ModelState, zone_at, is_full, one_if, last_stamp, IsSound, has_lawful_owner}
+use Rattle.cell_rules.specs.Names.{is_owned_by}
 use Rattle.cell_rules.specs.declared.zones.ZoneState.{ZoneState}
-use Rattle.cell_rules.specs.ModelState.{ModelState, zone_at, is_full, one_if, last_stamp}
-use Rattle.cell_rules.specs.Sound.{IsSound, has_lawful_owner, is_owned_by}
 use Rattle.cell_word.specs.Layout.{Field, field, zone_bit, place_bit, stamp_bit, mark_bit, owner_code, posture_code, zone_fields, fields_at, place_field, last_fields, fields_of, packed}
 use Rattle.cell_word.specs.Reading.{bits_of, owner_of_code, posture_of_code, is_bit_set, is_told_full, zone_told, state_told}
 use Rattle.cell_word.specs.Laws.{Fits, SideBySide, ReadsBack, IsLaidOut}

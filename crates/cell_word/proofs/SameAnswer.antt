@@ -1,10 +1,9 @@
 -- Tests whether two refusals, or two rows of transfers, are the same.
 use Rattle.std.proofs.Common.{◌≡◌, Bool, true, false, ◌&&◌, not, Option, Some, None, refl, ap}
-use Rattle.cell_types.specs.declared.machine.Machine.{Machine}
-use Rattle.cell_types.specs.declared.zone.Transfer.{Transfer}
-use Rattle.cell_types.specs.declared.answer.Refusal.{Refusal}
-use Rattle.cell_types.specs.declared.answer.Refusal.TheVariants.{NotParty, Held, AlreadyMine, Shut, NotOwner, PlateInZone, NoPlate, PlaceFull, WrongWay, Jump, NotAtWork, NoPose, Worn, InUse, Stopped, NotStopped}
-use Rattle.cell_types.specs.Same.{same_machine, same_zone, same_place, same_posture, one_machine, one_zone, one_place, one_posture}
+use Rattle.cell_rules.specs.Types.{Machine, Transfer, Refusal, NotParty, Held, AlreadyMine, Shut, NotOwner}
+use Rattle.cell_rules.specs.Types.{PlateInZone, NoPlate, PlaceFull, WrongWay, Jump, NotAtWork, NoPose, Worn, InUse}
+use Rattle.cell_rules.specs.Types.{Stopped, NotStopped, same_machine, same_zone, same_place, same_posture}
+use Rattle.cell_rules.specs.Types.{one_machine, one_zone, one_place, one_posture}
 use Rattle.cell_rules.proofs.Tables.{and_left, and_right}
 
 abbrev pub same_bool : Bool → Bool → Bool

@@ -1,12 +1,11 @@
 -- What the word of a sound state shows through windows on its zones, its places, its stamp and its mark.
 use Rattle.std.proofs.Common.{◌≡◌, ℕ, ◌+◌, ◌*◌, ◌^◌, Bool, true, false, ◌&&◌, refl, ap, ◌∙◌}
 use Rattle.std.specs.Prelude.{bit_and, bit_or}
-use Rattle.cell_types.specs.declared.zone.Zone.{Zone}
-use Rattle.cell_types.specs.declared.place.Place.{Place}
-use Rattle.cell_types.specs.Tables.{transfer_of}
+use Rattle.cell_rules.specs.Types.{Zone, Place, transfer_of}
+use Rattle.cell_rules.specs.Names.{ModelState, zone_at, is_full, one_if, IsSound, implies, has_lawful_owner}
+use Rattle.cell_rules.specs.Names.{is_lawful_plate, is_received_by, is_onto_full, is_open_to_guest, moves_by_host}
+use Rattle.cell_rules.specs.Names.{is_of_some_pose}
 use Rattle.cell_rules.specs.declared.zones.ZoneState.{ZoneState}
-use Rattle.cell_rules.specs.ModelState.{ModelState, zone_at, is_full, one_if}
-use Rattle.cell_rules.specs.Sound.{IsSound, implies, has_lawful_owner, is_lawful_plate, is_received_by, is_onto_full, is_open_to_guest, moves_by_host, is_of_some_pose}
 use Rattle.cell_rules.proofs.Tables.{and_both}
 use Rattle.cell_word.specs.Layout.{zone_bit, place_bit, stamp_bit, mark_bit, owner_code, posture_code, packed}
 use Rattle.cell_word.specs.Reading.{bits_of}

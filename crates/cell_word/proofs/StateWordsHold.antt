@@ -3,21 +3,15 @@ use Rattle.std.proofs.Common.{◌≡◌, ℕ, zero, suc, ◌+◌, ◌*◌, ◌/�
 use Rattle.std.specs.Prelude.{bit_and, bit_or}
 use Rattle.std.specs.List.{list_all}
 use Rattle.std.proofs.lemmas.Nat.{shr-shr, mod_below}
-use Rattle.cell_types.specs.declared.zone.Zone.{Zone}
-use Rattle.cell_types.specs.declared.zone.Zone.TheVariants.{Z1, Z2, Z3, Z4, Z5, Z6}
-use Rattle.cell_types.specs.declared.zone.Transfer.{Transfer}
-use Rattle.cell_types.specs.declared.place.Place.{Place}
-use Rattle.cell_types.specs.declared.place.Place.TheVariants.{FeedEntry, FeedEnd, Table, Arm1, PressIn, PressOut, Arm2, DepEntry, DepEnd, Crane}
-use Rattle.cell_types.specs.declared.posture.Posture.{Posture}
-use Rattle.cell_types.specs.declared.posture.Posture.TheVariants.{Closed, Moving, OpenIn, OpenOut}
+use Rattle.cell_rules.specs.Types.{Zone, Z1, Z2, Z3, Z4, Z5, Z6, Transfer, Place, FeedEntry, FeedEnd, Arm1, PressIn}
+use Rattle.cell_rules.specs.Types.{PressOut, Arm2, DepEntry, DepEnd, Posture, Closed, Moving, OpenIn, OpenOut}
+use Rattle.cell_rules.specs.Types.{transfer_of, same_posture, one_posture, Machine}
+use Rattle.cell_types.specs.declared.place.Place.TheVariants.{Table, Crane}
 use Rattle.cell_types.specs.Everything.{all_zones as every_zone}
-use Rattle.cell_types.specs.Tables.{transfer_of}
-use Rattle.cell_types.specs.Same.{same_posture, one_posture}
+use Rattle.cell_rules.specs.Names.{PlaceSet, ModelState, zone_at, is_full, one_if, IsSound, implies, has_lawful_owner}
+use Rattle.cell_rules.specs.Names.{is_lawful_plate, is_onto_full, is_open_to_guest, moves_by_host, is_of_some_pose}
+use Rattle.cell_rules.specs.Names.{has_one_plate, is_received_by}
 use Rattle.cell_rules.specs.declared.zones.ZoneState.{ZoneState}
-use Rattle.cell_types.specs.declared.machine.Machine.{Machine}
-use Rattle.cell_rules.specs.PlaceSet.{PlaceSet}
-use Rattle.cell_rules.specs.ModelState.{ModelState, zone_at, is_full, one_if}
-use Rattle.cell_rules.specs.Sound.{IsSound, implies, has_lawful_owner, is_lawful_plate, is_onto_full, is_open_to_guest, moves_by_host, is_of_some_pose, has_one_plate, is_received_by}
 use Rattle.cell_rules.proofs.Tables.{and_left, and_right, and_both, implied, all_bools, from_bools, all_zones, from_zones, all_postures, from_postures, all_states, from_states, all_pass}
 use Rattle.cell_word.specs.Layout.{zone_bit, place_bit, mark_bit, packed}
 use Rattle.cell_word.specs.Reading.{bits_of, is_bit_set, owner_of_code, posture_of_code, zone_told, state_told}

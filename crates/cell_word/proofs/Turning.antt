@@ -2,14 +2,8 @@
 use Rattle.std.proofs.Common.{◌≡◌, ℕ, ◌+◌, ◌-◌, ◌*◌, ◌/◌, ◌^◌, Bool, true, false, ◌&&◌, cond, nat_eq, Option, Some, None, is_some, option_map, Result, Ok, Err, List, [], ◌∷◌, map, refl, sym, ap, ap₂, ◌∙◌, arith}
 use Rattle.std.specs.Prelude.{bit_and, bit_or}
 use Rattle.std.proofs.lemmas.Nat.{mod_below}
-use Rattle.cell_types.specs.declared.zone.Zone.{Zone}
-use Rattle.cell_types.specs.declared.zone.Transfer.{Transfer}
-use Rattle.cell_types.specs.declared.place.Place.{Place}
-use Rattle.cell_types.specs.declared.posture.Posture.{Posture}
-use Rattle.cell_types.specs.declared.posture.Posture.TheVariants.{OpenIn}
-use Rattle.cell_types.specs.declared.answer.Refusal.{Refusal}
-use Rattle.cell_types.specs.declared.answer.Refusal.TheVariants.{Jump, WrongWay}
-use Rattle.cell_types.specs.Tables.{guest_of, transfer_of}
+use Rattle.cell_rules.specs.Types.{Zone, Transfer, Place, Posture, OpenIn, Refusal, Jump, WrongWay, guest_of}
+use Rattle.cell_rules.specs.Types.{transfer_of}
 use Rattle.cell_types.specs.Everything.{all_postures as every_posture}
 use Rattle.cell_rules.proofs.Tables.{and_left, and_right, all_zones, from_zones, all_postures, from_postures, all_places, from_places}
 use Rattle.cell_word.specs.Layout.{zone_bit, place_bit}

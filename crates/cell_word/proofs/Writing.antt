@@ -5,13 +5,11 @@ use Rattle.std.specs.List.{All, flat_map}
 use Rattle.std.proofs.Math.Nat.{div-eq_of_lt}
 use Rattle.std.proofs.lemmas.Nat.{pow-add, shr-shr, div-add-mod', and_shr, and_mod, or_shr, or_mod, and-not, and_comm, and_mask, or_comm, or_lt, mod_below}
 use Rattle.std.proofs.lemmas.List.Elements.{All-nil, All-cons, All-head, All-tail, All-append, All-map}
-use Rattle.cell_types.specs.declared.zone.Zone.{Zone}
-use Rattle.cell_types.specs.declared.zone.Zone.TheVariants.{Z1, Z2, Z3, Z4, Z5, Z6}
-use Rattle.cell_types.specs.declared.place.Place.{Place}
-use Rattle.cell_types.specs.declared.place.Place.TheVariants.{FeedEntry, FeedEnd, Table, Arm1, PressIn, PressOut, Arm2, DepEntry, DepEnd, Crane}
-use Rattle.cell_types.specs.Everything.{all_zones, all_places}
+use Rattle.cell_rules.specs.Types.{Zone, Z1, Z2, Z3, Z4, Z5, Z6, Place, FeedEntry, FeedEnd, Arm1, PressIn, PressOut}
+use Rattle.cell_rules.specs.Types.{Arm2, DepEntry, DepEnd, all_zones, all_places}
+use Rattle.cell_types.specs.declared.place.Place.TheVariants.{Table, Crane}
+use Rattle.cell_rules.specs.Names.{ModelState, zone_at, is_full, one_if}
 use Rattle.cell_rules.specs.declared.zones.ZoneState.{ZoneState}
-use Rattle.cell_rules.specs.ModelState.{ModelState, zone_at, is_full, one_if}
 use Rattle.cell_word.specs.Layout.{Field, field, word_of, zone_bit, place_bit, stamp_bit, mark_bit, owner_code, posture_code, zone_fields, fields_at, place_field, last_fields, fields_of, packed}
 use Rattle.cell_word.specs.Reading.{bits_of}
 use Rattle.cell_word.specs.Laws.{SideBySide, ReadsBack, IsOffStamp}

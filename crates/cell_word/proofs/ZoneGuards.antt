@@ -5,24 +5,14 @@ use Rattle.std.specs.Option.{option_or}
 use Rattle.std.specs.Bool.{then_some}
 use Rattle.std.proofs.lemmas.Nat.{and_le_r}
 use Rattle.std.proofs.lemmas.Bool.Decides.{nat_tests}
-use Rattle.cell_types.specs.declared.machine.Machine.{Machine}
-use Rattle.cell_types.specs.declared.machine.Machine.TheVariants.{Feed, Watch}
-use Rattle.cell_types.specs.declared.zone.Zone.{Zone}
-use Rattle.cell_types.specs.declared.zone.Zone.TheVariants.{Z1, Z6}
-use Rattle.cell_types.specs.declared.zone.Transfer.{Transfer}
-use Rattle.cell_types.specs.declared.place.Place.{Place}
-use Rattle.cell_types.specs.declared.place.Place.TheVariants.{FeedEnd}
-use Rattle.cell_types.specs.declared.posture.Posture.{Posture}
-use Rattle.cell_types.specs.declared.posture.Posture.TheVariants.{Closed, Moving, OpenIn, OpenOut}
-use Rattle.cell_types.specs.declared.answer.Refusal.{Refusal}
-use Rattle.cell_types.specs.declared.answer.Refusal.TheVariants.{NotParty, Held, AlreadyMine, Shut, NotOwner, PlateInZone, NoPlate, PlaceFull, WrongWay, InUse, Stopped, NotStopped}
-use Rattle.cell_types.specs.Tables.{guest_of, transfer_of}
-use Rattle.cell_types.specs.Same.{same_machine, same_zone, same_posture}
+use Rattle.cell_rules.specs.Types.{Machine, Feed, Watch, Zone, Z1, Z6, Transfer, Place, FeedEnd, Posture, Closed}
+use Rattle.cell_rules.specs.Types.{Moving, OpenIn, OpenOut, Refusal, NotParty, Held, AlreadyMine, Shut, NotOwner}
+use Rattle.cell_rules.specs.Types.{PlateInZone, NoPlate, PlaceFull, WrongWay, InUse, Stopped, NotStopped, guest_of}
+use Rattle.cell_rules.specs.Types.{transfer_of, same_machine, same_zone, same_posture}
+use Rattle.cell_rules.specs.Names.{ModelState, zone_at, is_full, last_stamp, IsSound, implies, is_open, is_owned_by}
+use Rattle.cell_rules.specs.Names.{is_party, other_party}
 use Rattle.cell_rules.specs.declared.zones.ZoneState.{ZoneState}
-use Rattle.cell_rules.specs.ModelState.{ModelState, zone_at, is_full, last_stamp}
-use Rattle.cell_rules.specs.Sound.{IsSound, implies, is_open, is_owned_by, is_party}
 use Rattle.cell_rules.specs.Refusals
-use Rattle.cell_rules.specs.Reply.{other_party}
 use Rattle.cell_rules.proofs.Tables.{and_left, and_right, implied, all_bools, from_bools, all_machines, from_machines, all_zones, from_zones, all_postures, from_postures, all_places, from_places, all_states, from_states}
 use Rattle.cell_rules.proofs.Done.{none_or, none_then}
 use Rattle.cell_word.specs.Layout.{packed}

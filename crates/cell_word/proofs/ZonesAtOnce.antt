@@ -6,16 +6,10 @@ use Rattle.std.specs.List.{list_all}
 use Rattle.std.proofs.Math.Nat.{add_comm}
 use Rattle.std.proofs.lemmas.Nat.{shr-shr, xor_shr, le_or_l, le_or_r}
 use Rattle.std.proofs.lemmas.Nat.Bits.{bit_at_and, bit_at_or, bit_at_xor}
-use Rattle.cell_types.specs.declared.zone.Zone.{Zone}
-use Rattle.cell_types.specs.declared.zone.Zone.TheVariants.{Z1, Z2, Z3, Z4, Z5, Z6}
-use Rattle.cell_types.specs.declared.place.Place.TheVariants.{PressIn, PressOut}
-use Rattle.cell_types.specs.declared.posture.Posture.{Posture}
-use Rattle.cell_types.specs.declared.posture.Posture.TheVariants.{OpenIn, OpenOut}
+use Rattle.cell_rules.specs.Types.{Zone, Z1, Z2, Z3, Z4, Z5, Z6, PressIn, PressOut, Posture, OpenIn, OpenOut}
+use Rattle.cell_rules.specs.Types.{transfer_of, same_posture}
 use Rattle.cell_types.specs.Everything.{all_zones as every_zone}
-use Rattle.cell_types.specs.Tables.{transfer_of}
-use Rattle.cell_types.specs.Same.{same_posture}
-use Rattle.cell_rules.specs.ModelState.{zone_at, is_full}
-use Rattle.cell_rules.specs.Sound.{is_onto_full, implies}
+use Rattle.cell_rules.specs.Names.{zone_at, is_full, is_onto_full, implies}
 use Rattle.cell_rules.proofs.Tables.{and_both, implied, all_zones, from_zones, all_pass}
 use Rattle.cell_word.specs.Layout.{zone_bit}
 use Rattle.cell_word.specs.Reading.{bits_of, is_bit_set, posture_of_code, state_told}

@@ -1,22 +1,10 @@
 -- The bits that a Done call writes.
 use Rattle.std.specs.Prelude.{Bool, true, false, Option, Some, None, if◌then◌else◌}
 use Rattle.std.specs.Option.{option_or}
-use Rattle.cell_types.specs.declared.machine.Machine.{Machine}
-use Rattle.cell_types.specs.declared.machine.Machine.TheVariants.{Feed, Deposit, Watch}
-use Rattle.cell_types.specs.declared.zone.Zone.{Zone}
-use Rattle.cell_types.specs.declared.zone.Zone.TheVariants.{Z4, Z5, Z6}
-use Rattle.cell_types.specs.declared.place.Place.{Place}
-use Rattle.cell_types.specs.declared.zone.Transfer.{Transfer}
-use Rattle.cell_types.specs.declared.posture.Posture.{Posture}
-use Rattle.cell_types.specs.declared.posture.Posture.TheVariants.{Closed, OpenIn, OpenOut}
-use Rattle.cell_types.specs.declared.call.Call.{Call}
-use Rattle.cell_types.specs.declared.call.Call.TheVariants.{Claim, Give, Yield, Take, Release, SetPose, Advance}
-use Rattle.cell_types.specs.declared.call.Call.TheVariants.{Inquire, Stop, Resume}
-use Rattle.cell_types.specs.Tables.{transfer_of}
-use Rattle.cell_types.specs.Ways.{own_move_of}
-use Rattle.cell_types.specs.Same.{same_machine}
-use Rattle.cell_rules.specs.Sound.{is_party}
-use Rattle.cell_rules.specs.Reply.{other_party}
+use Rattle.cell_rules.specs.Types.{Machine, Feed, Deposit, Watch, Zone, Z4, Z5, Z6, Place, Transfer, Posture, Closed}
+use Rattle.cell_rules.specs.Types.{OpenIn, OpenOut, Call, Claim, Give, Yield, Take, Release, SetPose, Advance}
+use Rattle.cell_rules.specs.Types.{Inquire, Stop, Resume, transfer_of, own_move_of, same_machine}
+use Rattle.cell_rules.specs.Names.{is_party, other_party}
 use Rattle.cell_word.specs.Patterns.{anything, both, owner_is, flag_is, posture_is, place_is, mark_is}
 use Rattle.cell_word.specs.Guards.{row_given, hosted_zones, posed_at}
 use Rattle.cell_word.specs.declared.patterns.Pattern.{Pattern}

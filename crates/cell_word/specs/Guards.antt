@@ -4,33 +4,16 @@ use Rattle.std.specs.Prelude.{ℕ, Bool, true, false, ◌&&◌, not, Option, Som
 use Rattle.std.specs.Prelude.{List, [], ◌∷◌, ◌++◌, map, if◌then◌else◌}
 use Rattle.std.specs.Option.{option_or}
 use Rattle.std.specs.List.{find, flat_map, list_all}
-use Rattle.cell_types.specs.declared.machine.Machine.{Machine}
-use Rattle.cell_types.specs.declared.machine.Machine.TheVariants.{Feed, Press, Deposit, Table as TableMachine, Watch}
-use Rattle.cell_types.specs.declared.zone.Zone.{Zone}
-use Rattle.cell_types.specs.declared.zone.Zone.TheVariants.{Z1, Z2, Z3, Z4, Z5, Z6}
-use Rattle.cell_types.specs.declared.place.Place.{Place}
-use Rattle.cell_types.specs.declared.place.Place.TheVariants.{FeedEntry, FeedEnd, PressIn, PressOut, DepEntry, DepEnd}
-use Rattle.cell_types.specs.declared.zone.Transfer.{Transfer}
-use Rattle.cell_types.specs.declared.posture.Posture.{Posture}
-use Rattle.cell_types.specs.declared.posture.Posture.TheVariants.{Closed, Moving, OpenIn, OpenOut}
-use Rattle.cell_types.specs.declared.pose.Pose.{Pose}
-use Rattle.cell_types.specs.declared.pose.Pose.TheVariants.{Running}
-use Rattle.cell_types.specs.declared.call.Call.{Call}
-use Rattle.cell_types.specs.declared.call.Call.TheVariants.{Claim, Give, Yield, Take, Release, SetPose, Advance}
-use Rattle.cell_types.specs.declared.call.Call.TheVariants.{Inquire, Stop, Resume}
-use Rattle.cell_types.specs.declared.answer.Refusal.{Refusal}
-use Rattle.cell_types.specs.declared.answer.Refusal.TheVariants.{NotParty, Held, AlreadyMine, Shut, NotOwner}
-use Rattle.cell_types.specs.declared.answer.Refusal.TheVariants.{PlateInZone, NoPlate, PlaceFull, WrongWay, Jump}
-use Rattle.cell_types.specs.declared.answer.Refusal.TheVariants.{NotAtWork, NoPose, Worn, InUse, Stopped, NotStopped}
-use Rattle.cell_types.specs.Tables.{host_of, guest_of, transfer_of, posture_of}
-use Rattle.cell_types.specs.Everything.{all_postures}
-use Rattle.cell_types.specs.Same.{same_machine, same_zone, same_pose}
-use Rattle.cell_rules.specs.ModelState.{last_stamp}
-use Rattle.cell_rules.specs.Sound.{is_party}
-use Rattle.cell_rules.specs.Refusals.{given_by, is_moving_pose, passes_through_moving}
-use Rattle.cell_types.specs.Refusals.{number_of}
-use Rattle.cell_rules.specs.Reply.{other_party}
-use Rattle.cell_rules.specs.RefusalLaws.{is_no_later}
+use Rattle.cell_rules.specs.Types.{Machine, Feed, Press, Deposit, Watch, Zone, Z1, Z2, Z3, Z4, Z5, Z6, Place}
+use Rattle.cell_rules.specs.Types.{FeedEntry, FeedEnd, PressIn, PressOut, DepEntry, DepEnd, Transfer, Posture, Closed}
+use Rattle.cell_rules.specs.Types.{Moving, OpenIn, OpenOut, Pose, Running, Call, Claim, Give, Yield, Take, Release}
+use Rattle.cell_rules.specs.Types.{SetPose, Advance, Inquire, Stop, Resume, Refusal, NotParty, Held, AlreadyMine}
+use Rattle.cell_rules.specs.Types.{Shut, NotOwner, PlateInZone, NoPlate, PlaceFull, WrongWay, Jump, NotAtWork, NoPose}
+use Rattle.cell_rules.specs.Types.{Worn, InUse, Stopped, NotStopped, host_of, guest_of, transfer_of, posture_of}
+use Rattle.cell_rules.specs.Types.{all_postures, same_machine, same_zone, same_pose, number_of}
+use Rattle.cell_types.specs.declared.machine.Machine.TheVariants.{Table as TableMachine}
+use Rattle.cell_rules.specs.Names.{last_stamp, is_party, given_by, is_moving_pose, passes_through_moving, other_party}
+use Rattle.cell_rules.specs.Names.{is_no_later}
 use Rattle.cell_word.specs.Patterns.{stands, anything, nothing, when, both, owner_is, flag_is, posture_is, low_differs}
 use Rattle.cell_word.specs.Patterns.{high_differs, place_is, stamp_is, mark_is}
 use Rattle.cell_word.specs.Parties.{machine_of, opposite, is_guest}

@@ -2,19 +2,13 @@
 -- their order; then the stamp has twenty, and the mark of a stopped cell one. The bits above are zero.
 use Rattle.std.specs.Prelude.{ℕ, ◌+◌, ◌*◌, ◌^◌, List, [], ◌∷◌, ◌++◌, map, sum_by, Option, Some, None, if◌then◌else◌}
 use Rattle.std.specs.List.{flat_map}
-use Rattle.cell_types.specs.declared.machine.Machine.{Machine}
-use Rattle.cell_types.specs.declared.zone.Zone.{Zone}
-use Rattle.cell_types.specs.declared.zone.Zone.TheVariants.{Z1, Z2, Z3, Z4, Z5, Z6}
-use Rattle.cell_types.specs.declared.place.Place.{Place}
-use Rattle.cell_types.specs.declared.place.Place.TheVariants.{FeedEntry, FeedEnd, Table, Arm1, PressIn, PressOut, Arm2}
-use Rattle.cell_types.specs.declared.place.Place.TheVariants.{DepEntry, DepEnd, Crane}
-use Rattle.cell_types.specs.declared.posture.Posture.{Posture}
-use Rattle.cell_types.specs.declared.posture.Posture.TheVariants.{Closed, Moving, OpenIn, OpenOut}
-use Rattle.cell_types.specs.Tables.{host_of}
-use Rattle.cell_types.specs.Same.{same_machine}
-use Rattle.cell_types.specs.Everything.{all_zones, all_places}
+use Rattle.cell_rules.specs.Types.{Machine, Zone, Z1, Z2, Z3, Z4, Z5, Z6, Place, FeedEntry, FeedEnd, Arm1, PressIn}
+use Rattle.cell_rules.specs.Types.{PressOut, Arm2, DepEntry, DepEnd, Posture, Closed, Moving, OpenIn, OpenOut}
+use Rattle.cell_rules.specs.Types.{host_of, same_machine, all_zones, all_places}
+use Rattle.cell_types.specs.declared.place.Place.TheVariants.{Table}
+use Rattle.cell_types.specs.declared.place.Place.TheVariants.{Crane}
+use Rattle.cell_rules.specs.Names.{ModelState, zone_at, is_full, one_if}
 use Rattle.cell_rules.specs.declared.zones.ZoneState.{ZoneState}
-use Rattle.cell_rules.specs.ModelState.{ModelState, zone_at, is_full, one_if}
 
 -- a field: its lowest bit, how many bits it has, and the number that they hold
 pub record Field : Type 0 where

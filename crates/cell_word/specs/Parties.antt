@@ -1,11 +1,6 @@
 -- The two parties of a zone: its host and its guest.
 use Rattle.std.specs.Prelude.{Bool, true, false, Option, Some, None, if◌then◌else◌}
-use Rattle.cell_types.specs.declared.machine.Machine.{Machine}
-use Rattle.cell_types.specs.declared.zone.Zone.{Zone}
-use Rattle.cell_types.specs.declared.posture.Posture.{Posture}
-use Rattle.cell_types.specs.declared.posture.Posture.TheVariants.{OpenIn, OpenOut}
-use Rattle.cell_types.specs.Tables.{host_of, guest_of}
-use Rattle.cell_types.specs.Same.{same_machine}
+use Rattle.cell_rules.specs.Types.{Machine, Zone, Posture, OpenIn, OpenOut, host_of, guest_of, same_machine}
 use Rattle.cell_word.specs.declared.parties.Party.{Party}
 use Rattle.cell_word.specs.declared.parties.Party.TheVariants.{Host, Guest}
 

@@ -1,9 +1,6 @@
 -- Some bits of a word and their wanted values.
 use Rattle.std.specs.Prelude.{ℕ, ◌+◌, ◌-◌, ◌*◌, ◌/◌, ◌%◌, ◌^◌, Bool, nat_eq, bit_and, bit_or, Option, if◌then◌else◌}
-use Rattle.cell_types.specs.declared.machine.Machine.{Machine}
-use Rattle.cell_types.specs.declared.zone.Zone.{Zone}
-use Rattle.cell_types.specs.declared.place.Place.{Place}
-use Rattle.cell_types.specs.declared.posture.Posture.{Posture}
+use Rattle.cell_rules.specs.Types.{Machine, Zone, Place, Posture}
 use Rattle.cell_rules.specs.ModelState.{one_if}
 use Rattle.cell_word.specs.Layout.{zone_bit, place_bit, stamp_bit, mark_bit, owner_code, posture_code}
 use Rattle.cell_word.specs.declared.patterns.Pattern.{Pattern}

@@ -1,18 +1,12 @@
 -- The state that the bits of a word encode, sound or not.
 use Rattle.std.specs.Prelude.{ℕ, ◌+◌, ◌/◌, ◌%◌, ◌^◌, Bool, nat_eq, Option, Some, None, if◌then◌else◌}
-use Rattle.cell_types.specs.declared.machine.Machine.{Machine}
-use Rattle.cell_types.specs.declared.zone.Zone.{Zone}
-use Rattle.cell_types.specs.declared.zone.Zone.TheVariants.{Z1, Z2, Z3, Z4, Z5, Z6}
-use Rattle.cell_types.specs.declared.place.Place.{Place}
-use Rattle.cell_types.specs.declared.place.Place.TheVariants.{FeedEntry, FeedEnd, Table, Arm1, PressIn, PressOut, Arm2}
-use Rattle.cell_types.specs.declared.place.Place.TheVariants.{DepEntry, DepEnd, Crane}
-use Rattle.cell_types.specs.declared.posture.Posture.{Posture}
-use Rattle.cell_types.specs.declared.posture.Posture.TheVariants.{Closed, Moving, OpenIn, OpenOut}
-use Rattle.cell_types.specs.Tables.{host_of, guest_of}
+use Rattle.cell_rules.specs.Types.{Machine, Zone, Z1, Z2, Z3, Z4, Z5, Z6, Place, FeedEntry, FeedEnd, Arm1, PressIn}
+use Rattle.cell_rules.specs.Types.{PressOut, Arm2, DepEntry, DepEnd, Posture, Closed, Moving, OpenIn, OpenOut}
+use Rattle.cell_rules.specs.Types.{host_of, guest_of}
+use Rattle.cell_types.specs.declared.place.Place.TheVariants.{Table}
+use Rattle.cell_types.specs.declared.place.Place.TheVariants.{Crane}
+use Rattle.cell_rules.specs.Names.{ZoneMap, zone_map, PlaceSet, place_set, ModelState, model_state}
 use Rattle.cell_rules.specs.declared.zones.ZoneState.{ZoneState}
-use Rattle.cell_rules.specs.ZoneMap.{ZoneMap, zone_map}
-use Rattle.cell_rules.specs.PlaceSet.{PlaceSet, place_set}
-use Rattle.cell_rules.specs.ModelState.{ModelState, model_state}
 use Rattle.cell_word.specs.Layout.{zone_bit, place_bit, stamp_bit, mark_bit}
 
 -- the number in some bits of a word

@@ -1,14 +1,8 @@
 -- The words of sound states, recognised by masks.
 use Rattle.std.specs.Prelude.{ℕ, Bool, true, ◌&&◌, not, Option, Some, None, is_some, bit_or, if◌then◌else◌}
 use Rattle.std.specs.List.{list_all}
-use Rattle.cell_types.specs.declared.zone.Zone.{Zone}
-use Rattle.cell_types.specs.declared.zone.Zone.TheVariants.{Z3}
-use Rattle.cell_types.specs.declared.place.Place.TheVariants.{PressIn, PressOut}
-use Rattle.cell_types.specs.declared.zone.Transfer.{Transfer}
-use Rattle.cell_types.specs.declared.posture.Posture.{Posture}
-use Rattle.cell_types.specs.declared.posture.Posture.TheVariants.{OpenIn, OpenOut}
-use Rattle.cell_types.specs.Everything.{all_zones}
-use Rattle.cell_types.specs.Tables.{transfer_of}
+use Rattle.cell_rules.specs.Types.{Zone, Z3, PressIn, PressOut, Transfer, Posture, OpenIn, OpenOut, all_zones}
+use Rattle.cell_rules.specs.Types.{transfer_of}
 use Rattle.cell_word.specs.Layout.{zone_bit}
 use Rattle.cell_word.specs.Reading.{bits_of, is_bit_set}
 use Rattle.cell_word.specs.Patterns.{stands, nothing, both, flag_is, posture_is, place_is, field_is}

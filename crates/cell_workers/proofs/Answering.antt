@@ -2,30 +2,25 @@
 use Rattle.std.proofs.Common.{◌≡◌, ℕ, pos, ◌≤ℤ◌, ◌+◌, false, ◌&&◌, ◌||◌, if◌then◌else◌, Option, Some, None, Result, Ok, Err, refl, sym, ap, subst, ◌∙◌, arith}
 use Rattle.std.proofs.lemmas.Bool.{false_from_ne_true}
 use Rattle.std.proofs.lemmas.Int.{ints}
-use Rattle.cell_types.specs.declared.machine.Machine.TheVariants.{Press}
-use Rattle.cell_types.specs.declared.call.Call.{Call}
-use Rattle.cell_types.specs.declared.reply.Reply.{Reply}
+use Rattle.cell_rules.specs.Types.{Press, Call, Reply}
 use Rattle.cell_calib.specs.declared.sense.PressSense.{PressSense}
 use Rattle.cell_calib.specs.declared.sense.SensorFault.{SensorFault}
 use Rattle.cell_calib.specs.declared.sense.SensorFault.TheVariants.{Clash}
 use Rattle.cell_rules.specs.declared.heard.LineFault.{LineFault}
 use Rattle.cell_interlock.specs.Views.{PassView}
 use Rattle.cell_interlock.specs.Lines.{PassAsks}
+use Rattle.cell_control.specs.Names.{Rig, Steps, outcome, Performed, PerformsCall, PerformsSensed, Turned, Turns}
+use Rattle.cell_control.specs.Names.{at_rest, turned}
 use Rattle.cell_control.specs.declared.fault.CtlFault.{CtlFault}
-use Rattle.cell_control.specs.Rigs.{Rig}
-use Rattle.cell_control.specs.Steps.{Steps, outcome}
-use Rattle.cell_control.specs.Turns.{Performed, PerformsCall, PerformsSensed, Turned, Turns, at_rest, turned}
 use Rattle.cell_control.proofs.TurnMaps.{turn_either}
 use Rattle.cell_control.proofs.TurnsByAnswers.{drive_own}
 use Rattle.cell_devices.specs.declared.act.PressAct.{PressAct}
 use Rattle.cell_devices.specs.declared.motor.Motor.TheVariants.{Off, Minus}
+use Rattle.cell_stations.specs.Names.{press_steps, checked}
 use Rattle.cell_stations.specs.declared.press.PressStep.TheVariants.{MoveToBottom}
-use Rattle.cell_stations.specs.PressProgram.{press_steps, checked}
-use Rattle.cell_parts.specs.Rigs.{press_rig}
-use Rattle.cell_parts.specs.Shows.{PressShows}
+use Rattle.cell_parts.specs.Names.{press_rig, PressShows}
+use Rattle.cell_notes.specs.Names.{TurnCall, counts_with}
 use Rattle.cell_notes.specs.declared.counts.Counts.{Counts}
-use Rattle.cell_notes.specs.Asks.{TurnCall}
-use Rattle.cell_notes.specs.Notes.{counts_with}
 use Rattle.cell_unit.specs.Sides.{Side, Acts, side_set, side_moved}
 use Rattle.cell_plant.specs.CellStates.{SideOf}
 use Rattle.cell_workers.specs.Lines.{passes}

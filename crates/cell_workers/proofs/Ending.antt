@@ -1,23 +1,9 @@
 -- The end of a record.
 use Rattle.std.proofs.Common.{◌≡◌, ◌≢◌, ℕ, Bool, true, false, inl, inr, ⊎_elim, ◌⊎◌, List, [], ◌∷◌, ◌++◌, cond, get_or, map, Option, Some, None, refl, sym, ap, subst, ◌∙◌}
-use Rattle.cell_types.specs.declared.machine.Machine.{Machine}
-use Rattle.cell_types.specs.declared.machine.Machine.TheVariants.{Feed, Table, Robot, Press, Deposit, Crane, Watch}
-use Rattle.cell_types.specs.declared.zone.Zone.TheVariants.{Z3}
-use Rattle.cell_types.specs.declared.call.Call.TheVariants.{Release}
-use Rattle.cell_types.specs.declared.answer.Answer.TheVariants.{Done, Refused}
-use Rattle.cell_types.specs.declared.answer.Refusal.TheVariants.{NotOwner}
-use Rattle.cell_types.specs.declared.answer.Event.{Event}
-use Rattle.cell_types.specs.declared.journal.Entry.{Entry}
-use Rattle.cell_types.specs.Journals.{journal_of}
-use Rattle.cell_types.specs.Same.{same_machine}
-use Rattle.cell_rules.specs.ModelState.{ModelState}
-use Rattle.cell_rules.specs.PlaceSet.{empty}
-use Rattle.cell_rules.specs.Start.{start_state}
-use Rattle.cell_rules.specs.History.{after, own_events}
-use Rattle.cell_rules.specs.Journal.{event_by}
-use Rattle.cell_rules.specs.Reply.{reply}
-use Rattle.cell_rules.specs.Audited.{IsAudited}
-use Rattle.cell_rules.specs.Seen.{BeginsWith}
+use Rattle.cell_rules.specs.Types.{Machine, Feed, Table, Robot, Press, Deposit, Crane, Watch, Z3, Release, Done}
+use Rattle.cell_rules.specs.Types.{Refused, NotOwner, Event, Entry, journal_of, same_machine}
+use Rattle.cell_rules.specs.Names.{ModelState, empty, start_state, after, own_events, event_by, reply, IsAudited}
+use Rattle.cell_rules.specs.Names.{BeginsWith}
 use Rattle.cell_rules.proofs.Lasting.{own_head}
 use Rattle.cell_notes.specs.declared.run_record.RunRecord.{RunRecord}
 use Rattle.cell_parts.specs.Axes.{CellScales}

@@ -3,33 +3,21 @@
 use Rattle.std.proofs.Common.{◌≡◌, ℕ, ◌+◌, ◌*◌, ◌<◌, ◌≤◌, true, false, ◌⊎◌, inl, inr, List, [], ◌∷◌, ◌++◌, map, Option, Some, None, Result, Ok, Err, refl, sym, ap, subst, ◌∙◌, arith, below_more}
 use Rattle.std.proofs.Math.Nat.{add-mul}
 use Rattle.std.specs.Prelude.{⊤}
-use Rattle.cell_types.specs.declared.machine.Machine.{Machine}
-use Rattle.cell_types.specs.declared.call.Call.{Call}
-use Rattle.cell_types.specs.declared.answer.Answer.TheVariants.{Done, Shown, Refused}
-use Rattle.cell_types.specs.declared.answer.Event.{Event}
-use Rattle.cell_types.specs.declared.journal.Entry.{Entry}
-use Rattle.cell_types.specs.declared.reply.Reply.{Reply}
-use Rattle.cell_types.specs.declared.reply.Reply.TheVariants.{Settled, Busy}
+use Rattle.cell_rules.specs.Types.{Machine, Call, Done, Shown, Refused, Event, Entry, Reply, Settled, Busy}
 use Rattle.cell_calib.specs.declared.sense.SensorFault.{SensorFault}
+use Rattle.cell_rules.specs.Names.{ModelState, one_if, own_events, noted, event_by, event}
 use Rattle.cell_rules.specs.declared.heard.LineFault.{LineFault}
-use Rattle.cell_rules.specs.ModelState.{ModelState, one_if}
-use Rattle.cell_rules.specs.History.{own_events}
-use Rattle.cell_rules.specs.Journal.{noted, event_by}
-use Rattle.cell_rules.specs.Seen.{event}
 use Rattle.cell_rules.proofs.Notes.{events_of_noted}
 use Rattle.cell_interlock.specs.Views.{PassView}
 use Rattle.cell_interlock.specs.Lines.{PassAsks}
+use Rattle.cell_control.specs.Names.{Rig, Steps, Performed, PerformsCall, PerformsSensed, Turned, Turns}
 use Rattle.cell_control.specs.declared.fault.CtlFault.{CtlFault}
 use Rattle.cell_control.specs.declared.fault.CtlFault.TheVariants as fault
-use Rattle.cell_control.specs.Rigs.{Rig}
-use Rattle.cell_control.specs.Steps.{Steps}
-use Rattle.cell_control.specs.Turns.{Performed, PerformsCall, PerformsSensed, Turned, Turns}
 use Rattle.cell_control.proofs.TurnMaps.{turn_either}
+use Rattle.cell_notes.specs.Names.{TurnCall, came_back, is_busy_reply, counts_with}
 use Rattle.cell_notes.specs.declared.counts.Counts.{Counts}
 use Rattle.cell_notes.specs.declared.status.Status.{Status}
 use Rattle.cell_notes.specs.declared.status.Status.TheVariants.{Fine, GateLimit}
-use Rattle.cell_notes.specs.Asks.{TurnCall, came_back, is_busy_reply}
-use Rattle.cell_notes.specs.Notes.{counts_with}
 use Rattle.cell_unit.specs.Statuses.{status_of}
 use Rattle.cell_workers.specs.Lines.{passes}
 use Rattle.cell_workers.specs.Workers.{GateOf, WorkerMoment, TakesTurn, TakesTurns, HasCome, HasEnded, Ends, last_of}

@@ -1,33 +1,22 @@
 -- A machine that goes on from a step of its program stands at a step to which it has come from there.
 use Rattle.std.proofs.Common.{◌≡◌, ℕ, zero, suc, Bool, true, false, ◌||◌, if◌then◌else◌, inl, inr, List, [], ◌∷◌, ◌++◌, Option, Some, None, Result, Ok, Err, refl, sym, ap, ◌∙◌, subst}
 use Rattle.std.proofs.lemmas.List.{append_assoc}
-use Rattle.cell_types.specs.declared.machine.Machine.{Machine}
-use Rattle.cell_types.specs.declared.call.Call.{Call}
-use Rattle.cell_types.specs.declared.answer.Answer.{Answer}
-use Rattle.cell_types.specs.declared.answer.Answer.TheVariants.{Done, Shown, Refused}
-use Rattle.cell_types.specs.declared.answer.Refusal.{Refusal}
-use Rattle.cell_types.specs.declared.answer.Refusal.TheVariants.{Worn}
-use Rattle.cell_types.specs.declared.answer.Event.{Event}
-use Rattle.cell_types.specs.declared.reply.Reply.{Reply}
-use Rattle.cell_types.specs.declared.reply.Reply.TheVariants.{Settled, Busy}
+use Rattle.cell_rules.specs.Types.{Machine, Call, Answer, Done, Shown, Refused, Refusal, Worn, Event, Reply, Settled}
+use Rattle.cell_rules.specs.Types.{Busy}
 use Rattle.cell_calib.specs.declared.sense.SensorFault.{SensorFault}
+use Rattle.cell_rules.specs.Names.{ModelState, after, IsLegal, own_events, Program, MovesIn, Reached, event, Waits}
 use Rattle.cell_rules.specs.declared.heard.LineFault.{LineFault}
-use Rattle.cell_rules.specs.ModelState.{ModelState}
-use Rattle.cell_rules.specs.History.{after, IsLegal, own_events}
-use Rattle.cell_rules.specs.Programs.{Program, MovesIn, Reached}
-use Rattle.cell_rules.specs.Seen.{event, Waits}
 use Rattle.cell_rules.proofs.SeenLemmas.{legal-right, own-append}
 use Rattle.cell_interlock.specs.Views.{PassView, InterlockView}
 use Rattle.cell_interlock.specs.Fresh.{fresh_pass}
 use Rattle.cell_interlock.specs.Seen.{HasSeenMore}
+use Rattle.cell_control.specs.Names.{fault_of, Steps, waits_out, outcome, Performed, PerformsCall, PerformsSensed}
+use Rattle.cell_control.specs.Names.{Turned, Turns, at_rest}
 use Rattle.cell_control.specs.declared.fault.CtlFault.{CtlFault}
-use Rattle.cell_control.specs.declared.fault.CtlFault.TheVariants as fault
-use Rattle.cell_control.specs.Faults.{fault_of}
-use Rattle.cell_control.specs.Steps.{Steps, waits_out, outcome}
-use Rattle.cell_control.specs.Turns.{Performed, PerformsCall, PerformsSensed, Turned, Turns, at_rest}
 use Rattle.cell_control.specs.declared.told.Told.{Told}
-use Rattle.cell_team.specs.Team.{DrivesOn, LeadsOrStays, HasComeFrom, program_with_stops}
-use Rattle.cell_team.specs.Heeded.{is_worn, IsHeeded, IsStoppedBy}
+use Rattle.cell_control.specs.declared.fault.CtlFault.TheVariants as fault
+use Rattle.cell_team.specs.Names.{DrivesOn, LeadsOrStays, HasComeFrom, program_with_stops, is_worn, IsHeeded}
+use Rattle.cell_team.specs.Names.{IsStoppedBy}
 use Rattle.cell_team.proofs.Turned.{Stands, stands_later}
 use Rattle.cell_workers.specs.Workers.{GateOf, AreTaken, ComesBy}
 use Rattle.cell_workers.specs.WiredWorkers.{WiredMoment, TakesCycle, wired_moment}

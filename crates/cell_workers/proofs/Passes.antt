@@ -1,27 +1,19 @@
 -- A worker's turns over a line to an interlock, stated for its pass; and their effect on its journal.
 use Rattle.std.proofs.Common.{◌≡◌, ℕ, ◌+◌, Bool, true, false, cond, List, [], ◌∷◌, ◌++◌, map, count_by, Some, None, Result, Ok, Err, refl, sym, ap, subst, ◌∙◌, arith}
 use Rattle.std.proofs.lemmas.List.Sums.{sum_by-append}
-use Rattle.cell_types.specs.declared.call.Call.{Call}
-use Rattle.cell_types.specs.declared.answer.Answer.{Answer}
-use Rattle.cell_types.specs.declared.answer.Answer.TheVariants.{Done, Shown, Refused}
-use Rattle.cell_types.specs.declared.journal.Entry.{Entry}
-use Rattle.cell_types.specs.declared.reply.Reply.{Reply}
-use Rattle.cell_types.specs.declared.reply.Reply.TheVariants.{Settled, Busy}
+use Rattle.cell_rules.specs.Types.{Call, Answer, Done, Shown, Refused, Entry, Reply, Settled, Busy}
+use Rattle.cell_rules.specs.Names.{one_if, is_done_answer, noted}
 use Rattle.cell_rules.specs.declared.heard.LineFault.{LineFault}
-use Rattle.cell_rules.specs.ModelState.{one_if}
-use Rattle.cell_rules.specs.History.{is_done_answer}
-use Rattle.cell_rules.specs.Journal.{noted}
 use Rattle.cell_interlock.specs.Views.{PassView}
 use Rattle.cell_interlock.specs.Lines.{LineView, LineAsks, PassAsks}
 use Rattle.cell_interlock.specs.Seen.{IsSamePass}
 use Rattle.cell_interlock.proofs.Journals.{journal_by, journal-settled, journal-busy}
-use Rattle.cell_control.specs.Rigs.{Rig}
-use Rattle.cell_control.specs.Steps.{Steps}
+use Rattle.cell_control.specs.Names.{Rig, Steps}
 use Rattle.cell_control.proofs.TurnMaps.{turn_either}
+use Rattle.cell_notes.specs.Names.{TurnCall, came_back, is_done_reply, is_read_reply, is_refused_reply, no_counts}
+use Rattle.cell_notes.specs.Names.{counts_with}
 use Rattle.cell_notes.specs.declared.counts.Counts.{Counts}
 use Rattle.cell_notes.specs.declared.status.Status.{Status}
-use Rattle.cell_notes.specs.Asks.{TurnCall, came_back, is_done_reply, is_read_reply, is_refused_reply}
-use Rattle.cell_notes.specs.Notes.{no_counts, counts_with}
 use Rattle.cell_unit.specs.Sides.{Acts}
 use Rattle.cell_unit.proofs.Turning.{acts_map}
 use Rattle.cell_workers.specs.Lines.{Lines, passes}

@@ -1,38 +1,27 @@
 -- What the six workers of a cell gave back, stated for their machines by name; and the record of it.
 use Rattle.std.proofs.Common.{◌≡◌, ℕ, true, List, [], ◌∷◌, Option, Some, None, IfSome, Result, refl, sym, ap, subst, ◌∙◌}
-use Rattle.cell_types.specs.declared.machine.Machine.{Machine}
-use Rattle.cell_types.specs.declared.machine.Machine.TheVariants.{Feed, Table, Robot, Press, Deposit, Crane, Watch}
-use Rattle.cell_types.specs.declared.answer.Event.{Event}
-use Rattle.cell_types.specs.declared.journal.Entry.{Entry}
-use Rattle.cell_types.specs.Journals.{journal_of}
+use Rattle.cell_rules.specs.Types.{Machine, Feed, Table, Robot, Press, Deposit, Crane, Watch, Event, Entry}
+use Rattle.cell_rules.specs.Types.{journal_of}
 use Rattle.cell_calib.specs.declared.sense.SensorFault.{SensorFault}
-use Rattle.cell_rules.specs.Journal.{noted}
-use Rattle.cell_rules.specs.Seen.{Waits}
-use Rattle.cell_rules.specs.ModelState.{ModelState}
-use Rattle.cell_rules.specs.History.{after}
-use Rattle.cell_rules.specs.Audited.{IsAudited}
-use Rattle.cell_rules.specs.Laws.{LawfulThroughout}
+use Rattle.cell_rules.specs.Names.{noted, Waits, ModelState, after, IsAudited, LawfulThroughout}
 use Rattle.cell_interlock.specs.Views.{PassView, InterlockView}
 use Rattle.cell_interlock.specs.Fresh.{fresh_pass}
+use Rattle.cell_control.specs.Names.{Rig, Steps, IsReached, with_senses}
 use Rattle.cell_control.specs.declared.fault.CtlFault.{CtlFault}
-use Rattle.cell_control.specs.Rigs.{Rig}
-use Rattle.cell_control.specs.Steps.{Steps, IsReached, with_senses}
 use Rattle.cell_control.proofs.StepLemmas.{reached_first}
 use Rattle.cell_haul.specs.CraneProgram.{Senses as CraneSenses, crane_steps}
 use Rattle.cell_robot.specs.RobotProgram.{Senses as RobotSenses, robot_steps}
 use Rattle.cell_stations.specs.TableProgram.{Senses as TableSenses, table_steps}
+use Rattle.cell_notes.specs.Names.{no_counts}
 use Rattle.cell_notes.specs.declared.counts.Counts.{Counts}
 use Rattle.cell_notes.specs.declared.run_record.RunRecord.{RunRecord}
 use Rattle.cell_notes.specs.declared.status.Status.{Status}
 use Rattle.cell_notes.specs.declared.status.Status.TheVariants.{Fine}
-use Rattle.cell_notes.specs.Notes.{no_counts}
 use Rattle.cell_unit.specs.Sides.{IsReady}
 use Rattle.cell_unit.proofs.Turning.{acts_still}
-use Rattle.cell_parts.specs.Axes.{CellScales}
-use Rattle.cell_parts.specs.Rigs.{table_rig, robot_rig, crane_rig}
-use Rattle.cell_plant.specs.Machines.{CellGauges, PartOf, any_near, robot_axes, robot_gauges, robot_points, steps_by, rig_of}
-use Rattle.cell_plant.specs.CellStates.{SideOf, side_in, sides_at_start}
-use Rattle.cell_plant.specs.Records.{positions_in}
+use Rattle.cell_parts.specs.Names.{CellScales, table_rig, robot_rig, crane_rig}
+use Rattle.cell_plant.specs.Names.{CellGauges, PartOf, any_near, robot_axes, robot_gauges, robot_points, steps_by}
+use Rattle.cell_plant.specs.Names.{rig_of, SideOf, side_in, sides_at_start, positions_in}
 use Rattle.cell_plant.proofs.Gauged.{GiveAsMuch, table_as, robot_as, crane_as}
 use Rattle.cell_workers.specs.Lines.{Lines, passes}
 use Rattle.cell_workers.specs.Workers.{WorkerMoment, worker_moment, GateOf, TakesTurn, TakesTurns, HasEnded, IsWorkerResult, AreCountsOf}

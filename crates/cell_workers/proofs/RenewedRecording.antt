@@ -3,23 +3,16 @@ use Rattle.std.proofs.Common.{◌≡◌, ◌≢◌, ◌≤◌, ◌<◌, ◌+◌,
 use Rattle.std.specs.Prelude.{length}
 use Rattle.std.proofs.Math.Nat.{lt_of_not-le}
 use Rattle.std.proofs.lemmas.List.{append-nil}
-use Rattle.cell_types.specs.declared.machine.Machine.{Machine}
-use Rattle.cell_types.specs.declared.machine.Machine.TheVariants.{Feed, Table, Robot, Press, Deposit, Crane, Watch}
-use Rattle.cell_types.specs.declared.answer.Event.{Event}
-use Rattle.cell_types.specs.Same.{same_machine}
+use Rattle.cell_rules.specs.Types.{Machine, Feed, Table, Robot, Press, Deposit, Crane, Watch, Event, same_machine}
 use Rattle.cell_calib.specs.declared.gauge.Gauge.{Ghosts}
-use Rattle.cell_rules.specs.ModelState.{ModelState, last_stamp}
-use Rattle.cell_rules.specs.Sound.{IsSound}
-use Rattle.cell_rules.specs.Start.{IsStartState}
-use Rattle.cell_rules.specs.History.{after, IsLegal, done_count, own_events}
-use Rattle.cell_rules.specs.Restamping.{restamped}
+use Rattle.cell_rules.specs.Names.{ModelState, last_stamp, IsSound, IsStartState, after, IsLegal, done_count}
+use Rattle.cell_rules.specs.Names.{own_events, restamped}
 use Rattle.cell_rules.proofs.Histories.{sound-after}
 use Rattle.cell_rules.proofs.Restamps.{restamped_sound}
 use Rattle.cell_interlock.specs.Views.{InterlockView}
 use Rattle.cell_interlock.specs.Fresh.{fresh_pass}
 use Rattle.cell_control.specs.declared.fault.CtlFault.{CtlFault}
-use Rattle.cell_haul.specs.DepositProgram.{deposit_steps}
-use Rattle.cell_haul.specs.FeedProgram.{feed_steps}
+use Rattle.cell_haul.specs.Names.{deposit_steps, feed_steps}
 use Rattle.cell_haul.specs.declared.crane.CraneProgram.{CraneProgram}
 use Rattle.cell_haul.specs.declared.crane.CraneProgress.{CraneProgress}
 use Rattle.cell_haul.specs.declared.deposit.DepositProgram.{DepositProgram}
@@ -28,7 +21,7 @@ use Rattle.cell_haul.specs.declared.feed.FeedProgram.{FeedProgram}
 use Rattle.cell_haul.specs.declared.feed.FeedProgress.{FeedProgress}
 use Rattle.cell_robot.specs.declared.robot.RobotProgram.{RobotProgram}
 use Rattle.cell_robot.specs.declared.robot.RobotProgress.{RobotProgress}
-use Rattle.cell_stations.specs.PressProgram.{press_steps}
+use Rattle.cell_stations.specs.Names.{press_steps}
 use Rattle.cell_stations.specs.declared.press.PressProgram.{PressProgram}
 use Rattle.cell_stations.specs.declared.press.PressProgress.{PressProgress}
 use Rattle.cell_stations.specs.declared.table.TableProgram.{TableProgram}
@@ -37,8 +30,7 @@ use Rattle.cell_notes.specs.declared.status.Status.{Status}
 use Rattle.cell_notes.specs.declared.status.Status.TheVariants.{Fine, Refused, Worn}
 use Rattle.cell_parts.specs.Axes.{CellScales}
 use Rattle.cell_plant.specs.Machines.{CellGauges, ProgressOf, steps_by, steps_of}
-use Rattle.cell_team.specs.Team.{Team, programs_of}
-use Rattle.cell_team.specs.Renewals.{HaveComeFrom, StandAfter}
+use Rattle.cell_team.specs.Names.{Team, programs_of, HaveComeFrom, StandAfter}
 use Rattle.cell_team.proofs.Together.{sound_start}
 use Rattle.cell_team.proofs.Turned.{Stands}
 use Rattle.cell_workers.specs.Going.{GoesOnFrom, GoingLeft, GoingOn}

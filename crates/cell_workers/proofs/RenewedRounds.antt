@@ -1,18 +1,14 @@
 -- One machine's round: where it stands after it, and that it is worn only when the stamps are used up.
 use Rattle.std.proofs.Common.{◌≡◌, ◌≢◌, ◌≤◌, ◌<◌, ℕ, ◌+◌, List, Option, Some, None, inl, inr, refl, sym, ap, ◌∙◌, subst, arith}
 use Rattle.std.specs.Prelude.{length}
-use Rattle.cell_types.specs.declared.answer.Refusal.{Refusal}
-use Rattle.cell_types.specs.declared.answer.Event.{Event}
-use Rattle.cell_rules.specs.ModelState.{ModelState, last_stamp}
-use Rattle.cell_rules.specs.Sound.{IsSound}
-use Rattle.cell_rules.specs.History.{IsLegal, own_events, done_count}
-use Rattle.cell_rules.specs.Seen.{Waits}
+use Rattle.cell_rules.specs.Types.{Refusal, Event}
+use Rattle.cell_rules.specs.Names.{ModelState, last_stamp, IsSound, IsLegal, own_events, done_count, Waits}
 use Rattle.cell_interlock.specs.Views.{InterlockView}
 use Rattle.cell_interlock.specs.Fresh.{fresh_pass}
+use Rattle.cell_control.specs.Names.{Steps}
 use Rattle.cell_control.specs.declared.fault.CtlFault.{CtlFault}
-use Rattle.cell_control.specs.declared.fault.CtlFault.TheVariants as fault
-use Rattle.cell_control.specs.Steps.{Steps}
 use Rattle.cell_control.specs.declared.told.Told.{Told}
+use Rattle.cell_control.specs.declared.fault.CtlFault.TheVariants as fault
 use Rattle.cell_notes.specs.declared.status.Status.{Status}
 use Rattle.cell_notes.specs.declared.status.Status.TheVariants.{Fine, GateLimit, Refused, Sensor, Worn, Memory}
 use Rattle.cell_team.proofs.Turned.{Stands}

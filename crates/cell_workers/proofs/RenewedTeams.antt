@@ -1,13 +1,9 @@
 -- Six machines that go on from steps to which they had come, over one history: no refusal has stopped one.
 use Rattle.std.proofs.Common.{◌≡◌, ℕ, false, List, ◌∷◌, ◌++◌, Option, Some, refl, subst}
-use Rattle.cell_types.specs.declared.machine.Machine.{Machine}
-use Rattle.cell_types.specs.declared.machine.Machine.TheVariants.{Feed, Table, Robot, Press, Deposit, Crane, Watch}
-use Rattle.cell_types.specs.declared.answer.Refusal.{Refusal}
-use Rattle.cell_types.specs.declared.answer.Event.{Event}
-use Rattle.cell_types.specs.Same.{same_machine}
+use Rattle.cell_rules.specs.Types.{Machine, Feed, Table, Robot, Press, Deposit, Crane, Watch, Refusal, Event}
+use Rattle.cell_rules.specs.Types.{same_machine}
 use Rattle.cell_calib.specs.Line.{IsReading}
-use Rattle.cell_rules.specs.ModelState.{ModelState}
-use Rattle.cell_rules.specs.History.{after, IsLegal}
+use Rattle.cell_rules.specs.Names.{ModelState, after, IsLegal}
 use Rattle.cell_rules.proofs.Histories.{legal-left}
 use Rattle.cell_control.specs.declared.fault.CtlFault.{CtlFault}
 use Rattle.cell_control.specs.declared.fault.CtlFault.TheVariants as fault
@@ -16,9 +12,7 @@ use Rattle.cell_robot.specs.RobotProgram.{near_lines, Senses as RobotSenses, rob
 use Rattle.cell_stations.specs.TableProgram.{Senses as TableSenses, table_steps}
 use Rattle.cell_parts.specs.Axes.{CellScales}
 use Rattle.cell_plant.specs.Machines.{CellGauges, ProgressOf, robot_gauges, robot_points, steps_by, steps_of}
-use Rattle.cell_team.specs.Team.{Team, programs_of, HasComeFrom}
-use Rattle.cell_team.specs.Heeded.{AreHeeded, IsHeeded}
-use Rattle.cell_team.specs.Renewals.{HaveComeFrom, StandAfter}
+use Rattle.cell_team.specs.Names.{Team, programs_of, HasComeFrom, AreHeeded, IsHeeded, HaveComeFrom, StandAfter}
 use Rattle.cell_team.proofs.Renewed.{none_refused_renewed}
 use Rattle.cell_team.proofs.Sensed.{stands_still}
 use Rattle.cell_team.proofs.Turned.{Stands}

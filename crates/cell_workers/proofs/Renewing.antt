@@ -1,14 +1,8 @@
 -- What each machine leaves after a round may go on where the next interlock opens.
 use Rattle.std.proofs.Common.{◌≡◌, ℕ, List, [], inl, inr, sym, ap, ◌∙◌, subst}
 use Rattle.std.proofs.lemmas.List.{append-nil}
-use Rattle.cell_types.specs.declared.machine.Machine.{Machine}
-use Rattle.cell_types.specs.declared.machine.Machine.TheVariants.{Feed, Table, Robot, Press, Deposit, Crane}
-use Rattle.cell_types.specs.declared.answer.Event.{Event}
-use Rattle.cell_rules.specs.ModelState.{ModelState}
-use Rattle.cell_rules.specs.Sound.{IsSound}
-use Rattle.cell_rules.specs.History.{after, IsLegal}
-use Rattle.cell_rules.specs.Restamping.{restamped, IsSameFor}
-use Rattle.cell_rules.specs.Seen.{Waits}
+use Rattle.cell_rules.specs.Types.{Machine, Feed, Table, Robot, Press, Deposit, Crane, Event}
+use Rattle.cell_rules.specs.Names.{ModelState, IsSound, after, IsLegal, restamped, IsSameFor, Waits}
 use Rattle.cell_rules.proofs.Restamps.{same_after}
 use Rattle.cell_interlock.specs.Views.{PassView, InterlockView}
 use Rattle.cell_interlock.specs.Fresh.{fresh_pass}

@@ -1,18 +1,14 @@
 -- The record of workers that end at once.
 use Rattle.std.proofs.Common.{◌≡◌, ℕ, true, [], map, None, refl, sym, ap, subst}
-use Rattle.cell_types.specs.declared.machine.Machine.{Machine}
-use Rattle.cell_types.specs.declared.machine.Machine.TheVariants.{Feed, Table, Robot, Press, Deposit, Crane, Watch}
-use Rattle.cell_rules.specs.ModelState.{ModelState}
-use Rattle.cell_rules.specs.Journal.{event_by}
-use Rattle.cell_rules.specs.Audited.{EndsIn}
-use Rattle.cell_rules.specs.Laws.{Lawful}
+use Rattle.cell_rules.specs.Types.{Machine, Feed, Table, Robot, Press, Deposit, Crane, Watch}
+use Rattle.cell_rules.specs.Names.{ModelState, event_by, EndsIn, Lawful}
 use Rattle.cell_rules.proofs.Assembly.{lawful}
 use Rattle.cell_rules.proofs.Histories.{throughout}
 use Rattle.cell_interlock.specs.Views.{InterlockView}
+use Rattle.cell_notes.specs.Names.{no_counts}
 use Rattle.cell_notes.specs.declared.run_record.RunRecord.{RunRecord}
 use Rattle.cell_notes.specs.declared.status.Status.{Status}
 use Rattle.cell_notes.specs.declared.status.Status.TheVariants.{Fine}
-use Rattle.cell_notes.specs.Notes.{no_counts}
 use Rattle.cell_parts.specs.Axes.{CellScales}
 use Rattle.cell_plant.specs.Machines.{steps_of, rig_of}
 use Rattle.cell_workers.specs.Lines.{passes}

@@ -1,52 +1,33 @@
 -- What a record of six workers says.
 use Rattle.std.proofs.Common.{◌≡◌, ℕ, ℤ, pos, true, false, inl, inr, [], ◌∷◌, map, get_or, Option, Some, None, Result, Ok, Err, refl, sym, ap, subst, ◌∙◌, arith}
 use Rattle.std.specs.Prelude.{slice_get}
-use Rattle.cell_types.specs.declared.machine.Machine.{Machine}
-use Rattle.cell_types.specs.declared.machine.Machine.TheVariants.{Feed, Table, Robot, Press, Deposit, Crane, Watch}
-use Rattle.cell_types.specs.declared.zone.Zone.TheVariants.{Z3}
-use Rattle.cell_types.specs.declared.call.Call.{Call}
-use Rattle.cell_types.specs.declared.call.Call.TheVariants.{Claim}
-use Rattle.cell_types.specs.declared.answer.Answer.TheVariants.{Done}
-use Rattle.cell_types.specs.declared.answer.Event.{Event}
-use Rattle.cell_types.specs.declared.reply.Reply.{Reply}
-use Rattle.cell_types.specs.declared.reply.Reply.TheVariants.{Settled, Busy}
-use Rattle.cell_types.specs.Everything.{all_machines}
-use Rattle.cell_types.specs.Journals.{journal_of}
+use Rattle.cell_rules.specs.Types.{Machine, Feed, Table, Robot, Press, Deposit, Crane, Watch, Z3, Call, Claim, Done}
+use Rattle.cell_rules.specs.Types.{Event, Reply, Settled, Busy, all_machines, journal_of}
+use Rattle.cell_calib.specs.Names.{Scale, IsReading}
 use Rattle.cell_calib.specs.declared.sense.SensorFault.{SensorFault}
 use Rattle.cell_calib.specs.declared.sense.CraneSense.{CraneSense}
-use Rattle.cell_calib.specs.Scale.{Scale}
-use Rattle.cell_calib.specs.Line.{IsReading}
+use Rattle.cell_rules.specs.Names.{ModelState, empty, start_state, noted}
 use Rattle.cell_rules.specs.declared.heard.LineFault.{LineFault}
-use Rattle.cell_rules.specs.ModelState.{ModelState}
-use Rattle.cell_rules.specs.PlaceSet.{empty}
-use Rattle.cell_rules.specs.Start.{start_state}
-use Rattle.cell_rules.specs.Journal.{noted}
 use Rattle.cell_interlock.specs.Lines.{PassAsks}
-use Rattle.cell_control.specs.Steps.{Steps, outcome}
-use Rattle.cell_control.specs.Turns.{Performed, PerformsSensed, Turned, Turns, at_rest, turned}
+use Rattle.cell_control.specs.Names.{Steps, outcome, Performed, PerformsSensed, Turned, Turns, at_rest, turned}
 use Rattle.cell_devices.specs.declared.motor.Motor.{Motor}
 use Rattle.cell_devices.specs.declared.motor.Motor.TheVariants.{Off}
 use Rattle.cell_devices.specs.declared.act.CraneAct.{CraneAct}
+use Rattle.cell_haul.specs.Names.{crane_start, crane_steps}
 use Rattle.cell_haul.specs.declared.crane.CraneProgress.{CraneProgress}
 use Rattle.cell_haul.specs.declared.crane.CraneReading.{CraneReading}
-use Rattle.cell_haul.specs.CraneProgram.{crane_start, crane_steps}
 use Rattle.cell_robot.specs.RobotProgram.{robot_start}
 use Rattle.cell_stations.specs.PressProgram.{press_steps}
+use Rattle.cell_parts.specs.Names.{moved_to, press_rig, crane_rig, CellScales, crane_end}
 use Rattle.cell_parts.specs.declared.axis.Axis.{Axis}
 use Rattle.cell_parts.specs.declared.plant.CranePlant.{CranePlant}
-use Rattle.cell_parts.specs.Plant.{moved_to}
-use Rattle.cell_parts.specs.Rigs.{press_rig, crane_rig}
 use Rattle.cell_unit.specs.Sides.{act_or_rest, noting, side_set, side_moved}
+use Rattle.cell_notes.specs.Names.{done_in, no_counts}
 use Rattle.cell_notes.specs.declared.counts.Counts.{Counts}
 use Rattle.cell_notes.specs.declared.run_record.RunRecord.{RunRecord}
 use Rattle.cell_notes.specs.declared.status.Status.{Status}
 use Rattle.cell_notes.specs.declared.status.Status.TheVariants.{Fine, GateLimit}
-use Rattle.cell_notes.specs.Asks.{done_in}
-use Rattle.cell_notes.specs.Notes.{no_counts}
-use Rattle.cell_parts.specs.Axes.{CellScales, crane_end}
-use Rattle.cell_plant.specs.CellStates.{SideOf}
-use Rattle.cell_plant.specs.Machines.{steps_of, rig_of}
-use Rattle.cell_plant.specs.Records.{positions_in}
+use Rattle.cell_plant.specs.Names.{SideOf, steps_of, rig_of, positions_in}
 use Rattle.cell_plant.proofs.Resting.{moves_rest}
 use Rattle.cell_workers.specs.Lines.{passes}
 use Rattle.cell_workers.specs.Workers.{GateOf, TakesTurn, HasEnded, AreCountsOf}

@@ -1,12 +1,10 @@
 -- A worker's turns, one by one.
 use Rattle.std.proofs.Common.{◌≡◌, ℕ, Bool, true, false, List, [], ◌+◌, ◌∷◌, ◌++◌, Option, Some, None, refl, sym, ap, ◌∙◌, subst}
 use Rattle.std.specs.Option.{is_some}
+use Rattle.cell_control.specs.Names.{Rig, Steps}
 use Rattle.cell_control.specs.declared.fault.CtlFault.{CtlFault}
-use Rattle.cell_control.specs.Rigs.{Rig}
-use Rattle.cell_control.specs.Steps.{Steps}
+use Rattle.cell_notes.specs.Names.{TurnCall, AreBelow, counts_with}
 use Rattle.cell_notes.specs.declared.counts.Counts.{Counts}
-use Rattle.cell_notes.specs.Asks.{TurnCall}
-use Rattle.cell_notes.specs.Notes.{AreBelow, counts_with}
 use Rattle.cell_notes.proofs.CountLemmas.{below_with}
 use Rattle.cell_unit.specs.Sides.{Side}
 use Rattle.cell_workers.specs.Lines.{Lines}

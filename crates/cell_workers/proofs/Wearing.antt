@@ -4,37 +4,24 @@ use Rattle.std.specs.Prelude.{length}
 use Rattle.std.proofs.Math.Nat.{lt_of_not-le}
 use Rattle.std.proofs.lemmas.List.{length-append, append_assoc}
 use Rattle.std.proofs.lemmas.List.Sums.{sum_by-append}
-use Rattle.cell_types.specs.declared.machine.Machine.{Machine}
-use Rattle.cell_types.specs.declared.machine.Machine.TheVariants.{Feed, Table, Robot, Press, Deposit, Crane, Watch}
-use Rattle.cell_types.specs.Same.{same_machine}
-use Rattle.cell_types.specs.declared.call.Call.{Call}
-use Rattle.cell_types.specs.declared.answer.Refusal.{Refusal}
-use Rattle.cell_types.specs.declared.answer.Refusal.TheVariants.{Worn}
-use Rattle.cell_types.specs.declared.answer.Answer.TheVariants.{Done, Shown, Refused}
-use Rattle.cell_types.specs.declared.answer.Event.{Event}
-use Rattle.cell_types.specs.declared.reply.Reply.{Reply}
-use Rattle.cell_types.specs.declared.reply.Reply.TheVariants.{Settled, Busy}
+use Rattle.cell_rules.specs.Types.{Machine, Feed, Table, Robot, Press, Deposit, Crane, Watch, same_machine, Call}
+use Rattle.cell_rules.specs.Types.{Refusal, Worn, Done, Shown, Refused, Event, Reply, Settled, Busy}
 use Rattle.cell_calib.specs.declared.sense.SensorFault.{SensorFault}
+use Rattle.cell_rules.specs.Names.{ModelState, last_stamp, one_if, IsSound, reply, after, IsLegal, own_events}
+use Rattle.cell_rules.specs.Names.{is_done, done_count, event, BeginsWith}
 use Rattle.cell_rules.specs.declared.heard.LineFault.{LineFault}
-use Rattle.cell_rules.specs.ModelState.{ModelState, last_stamp, one_if}
-use Rattle.cell_rules.specs.Sound.{IsSound}
-use Rattle.cell_rules.specs.Reply.{reply}
-use Rattle.cell_rules.specs.History.{after, IsLegal, own_events, is_done, done_count}
-use Rattle.cell_rules.specs.Seen.{event, BeginsWith}
 use Rattle.cell_rules.proofs.Histories.{legal-left, sound-after}
 use Rattle.cell_rules.proofs.Restamps.{stamps_only_wear}
 use Rattle.cell_rules.proofs.Stamps.{stamp-after}
 use Rattle.cell_interlock.specs.Views.{PassView}
 use Rattle.cell_interlock.specs.Lines.{PassAsks}
 use Rattle.cell_interlock.specs.Seen.{IsSamePass}
+use Rattle.cell_control.specs.Names.{fault_of, Steps, waits_out, outcome, Performed, PerformsCall, PerformsSensed}
+use Rattle.cell_control.specs.Names.{Turned, Turns, at_rest, turned, answered}
 use Rattle.cell_control.specs.declared.fault.CtlFault.{CtlFault}
-use Rattle.cell_control.specs.declared.fault.CtlFault.TheVariants as fault
-use Rattle.cell_control.specs.Faults.{fault_of}
-use Rattle.cell_control.specs.Steps.{Steps, waits_out, outcome}
-use Rattle.cell_control.proofs.TurnMaps.{turn_either}
-use Rattle.cell_control.specs.Turns.{Performed, PerformsCall, PerformsSensed, Turned, Turns, at_rest, turned}
 use Rattle.cell_control.specs.declared.told.Told.{Told}
-use Rattle.cell_control.specs.Turns.{answered}
+use Rattle.cell_control.specs.declared.fault.CtlFault.TheVariants as fault
+use Rattle.cell_control.proofs.TurnMaps.{turn_either}
 use Rattle.cell_notes.specs.declared.status.Status.{Status}
 use Rattle.cell_notes.specs.declared.status.Status.TheVariants as status
 use Rattle.cell_workers.specs.Workers.{GateOf, ComesBy, Ends}

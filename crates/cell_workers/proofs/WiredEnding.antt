@@ -1,15 +1,12 @@
 -- How a worker with devices of one's own ends.
 use Rattle.std.proofs.Common.{◌≡◌, ◌≢◌, ◌<◌, ◌+◌, ◌⊎◌, inl, inr, ⊎_elim, ℕ, true, false, List, [], ◌∷◌, Option, Some, None, Result, Ok, Err, refl, sym, ap, subst, ◌∙◌, below_more, arith}
-use Rattle.cell_types.specs.declared.call.Call.{Call}
-use Rattle.cell_types.specs.declared.reply.Reply.{Reply}
+use Rattle.cell_rules.specs.Types.{Call, Reply}
 use Rattle.cell_rules.specs.declared.heard.LineFault.{LineFault}
 use Rattle.cell_interlock.specs.Views.{PassView}
+use Rattle.cell_control.specs.Names.{Steps, Performed, Turned, Turns, turned, answered}
 use Rattle.cell_control.specs.declared.fault.CtlFault.{CtlFault}
-use Rattle.cell_control.specs.declared.fault.CtlFault.TheVariants as cause
-use Rattle.cell_control.specs.Steps.{Steps}
-use Rattle.cell_control.specs.Turns.{Performed, Turned, Turns, turned}
 use Rattle.cell_control.specs.declared.told.Told.{Told}
-use Rattle.cell_control.specs.Turns.{answered}
+use Rattle.cell_control.specs.declared.fault.CtlFault.TheVariants as cause
 use Rattle.cell_notes.specs.declared.status.Status.{Status}
 use Rattle.cell_notes.specs.declared.status.Status.TheVariants.{Fine, GateLimit, Sensor, Refused, Worn, Memory}
 use Rattle.cell_unit.specs.Statuses.{status_of}

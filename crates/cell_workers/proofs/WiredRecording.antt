@@ -3,25 +3,19 @@ use Rattle.std.proofs.Common.{◌≡◌, ◌≢◌, ℕ, List, [], ◌∷◌, Op
 use Rattle.std.specs.List.{All}
 use Rattle.std.proofs.lemmas.List.{append-nil}
 use Rattle.std.proofs.lemmas.List.Elements.{All-head, All-tail}
-use Rattle.cell_types.specs.declared.machine.Machine.{Machine}
-use Rattle.cell_types.specs.declared.machine.Machine.TheVariants.{Feed, Table, Robot, Press, Deposit, Crane}
+use Rattle.cell_rules.specs.Types.{Machine, Feed, Table, Robot, Press, Deposit, Crane}
 use Rattle.cell_calib.specs.declared.gauge.Gauge.{Ghosts}
-use Rattle.cell_rules.specs.History.{IsLegal}
-use Rattle.cell_rules.specs.ModelState.{ModelState}
-use Rattle.cell_rules.specs.Start.{IsStartState}
+use Rattle.cell_rules.specs.Names.{IsLegal, ModelState, IsStartState}
 use Rattle.cell_interlock.specs.Views.{InterlockView}
 use Rattle.cell_interlock.specs.Fresh.{fresh_pass}
-use Rattle.cell_control.specs.Steps.{Steps}
-use Rattle.cell_haul.specs.CraneProgram.{crane_steps}
-use Rattle.cell_haul.specs.DepositProgram.{deposit_steps}
-use Rattle.cell_haul.specs.FeedProgram.{feed_steps}
-use Rattle.cell_haul.specs.declared.crane.CraneProgram.{CraneProgram}
-use Rattle.cell_robot.specs.RobotProgram.{gauges_of, robot_scales, robot_steps}
-use Rattle.cell_robot.specs.declared.robot.RobotProgram.{RobotProgram}
-use Rattle.cell_stations.specs.PressProgram.{press_steps}
-use Rattle.cell_stations.specs.TableProgram.{table_steps}
-use Rattle.cell_stations.specs.declared.table.TableProgram.{TableProgram}
+use Rattle.cell_control.specs.Names.{Steps}
 use Rattle.cell_control.specs.declared.told.Told.{Told}
+use Rattle.cell_haul.specs.Names.{crane_steps, deposit_steps, feed_steps}
+use Rattle.cell_haul.specs.declared.crane.CraneProgram.{CraneProgram}
+use Rattle.cell_robot.specs.Names.{gauges_of, robot_scales, robot_steps}
+use Rattle.cell_robot.specs.declared.robot.RobotProgram.{RobotProgram}
+use Rattle.cell_stations.specs.Names.{press_steps, table_steps}
+use Rattle.cell_stations.specs.declared.table.TableProgram.{TableProgram}
 use Rattle.cell_notes.specs.declared.status.Status.{Status}
 use Rattle.cell_notes.specs.declared.status.Status.TheVariants.{Fine, Refused}
 use Rattle.cell_parts.specs.Axes.{CellScales}

@@ -1,10 +1,10 @@
 -- The cycles of a worker with devices of one's own, one by one.
 use Rattle.std.proofs.Common.{◌≡◌, ℕ, Option, Some, None, refl, subst, inl, arith}
+use Rattle.cell_control.specs.Names.{Steps}
 use Rattle.cell_control.specs.declared.fault.CtlFault.{CtlFault}
-use Rattle.cell_control.specs.Steps.{Steps}
+use Rattle.cell_control.specs.declared.told.Told.{Told}
 use Rattle.cell_notes.specs.declared.status.Status.{Status}
 use Rattle.cell_unit.specs.Statuses.{status_of}
-use Rattle.cell_control.specs.declared.told.Told.{Told}
 use Rattle.cell_workers.specs.Workers.{GateOf, ComesBy, Ends}
 use Rattle.cell_workers.specs.WiredWorkers.{WiredMoment, TakesCycle}
 use Rattle.cell_workers.proofs.Turning.{comes_on}

@@ -1,17 +1,13 @@
 -- A worker with devices of one's own stands at a step of its program after each turn, so none of six ends as refused.
 use Rattle.std.proofs.Common.{◌≡◌, ℕ, ◌+◌, false, inl, inr, Option, None, refl, sym, ap, ◌∙◌, subst}
-use Rattle.cell_types.specs.declared.machine.Machine.{Machine}
-use Rattle.cell_types.specs.declared.machine.Machine.TheVariants.{Feed, Table, Robot, Press, Deposit, Crane, Watch}
-use Rattle.cell_types.specs.Same.{same_machine}
+use Rattle.cell_rules.specs.Types.{Machine, Feed, Table, Robot, Press, Deposit, Crane, Watch, same_machine}
 use Rattle.cell_rules.specs.ModelState.{ModelState}
 use Rattle.cell_interlock.specs.Lines.{PassAsks}
 use Rattle.cell_interlock.specs.Seen.{IsSamePass}
+use Rattle.cell_control.specs.Names.{Steps, Turned, Turns, answered}
 use Rattle.cell_control.specs.declared.fault.CtlFault.{CtlFault}
-use Rattle.cell_control.specs.Steps.{Steps}
-use Rattle.cell_control.specs.Turns.{Turned, Turns}
-use Rattle.cell_control.proofs.TurnMaps.{turn_either}
 use Rattle.cell_control.specs.declared.told.Told.{Told}
-use Rattle.cell_control.specs.Turns.{answered}
+use Rattle.cell_control.proofs.TurnMaps.{turn_either}
 use Rattle.cell_parts.specs.Axes.{CellScales}
 use Rattle.cell_plant.specs.Machines.{CellGauges, ProgressOf, steps_by}
 use Rattle.cell_plant.proofs.Standing.{none_refused_by}

@@ -9,8 +9,8 @@ pub record GoingOn (P S D : Type 0) : Type 0 where
   pub opening : ModelState
   pub devices : D
 
--- what is left of it after its cycles: how many turns it took, how many cycles its sensors showed nothing in, how it ended,
--- its devices, and the machine
+-- what is left of it after its cycles: how many turns it took, how many cycles its sensors showed nothing in, how it
+-- ended, its devices, and the machine
 pub record GoingLeft (P S D : Type 0) : Type 0 where
   pub turns : ℕ
   pub missed : ℕ
@@ -19,7 +19,8 @@ pub record GoingLeft (P S D : Type 0) : Type 0 where
   pub machine : Unwiring P S
 
 -- it goes on with the machine and the devices that were left, where an interlock opens with this state
-pub record GoesOnFrom {P S D : Type 0} (machine : Unwiring P S) (devices : D) (opening : ModelState) (now : GoingOn P S D) : Type 0 where
+pub record GoesOnFrom {P S D : Type 0} (machine : Unwiring P S) (devices : D) (opening : ModelState)
+    (now : GoingOn P S D) : Type 0 where
   pub same_machine : now.machine ≡ machine
   pub same_devices : now.devices ≡ devices
   pub opens : now.opening ≡ opening

@@ -1,7 +1,6 @@
 -- How far machines have come that keep one pace.
 use Rattle.std.specs.Prelude.{ℕ, ◌≤◌, ⊤}
-use Rattle.cell_types.specs.declared.machine.Machine.{Machine}
-use Rattle.cell_types.specs.declared.machine.Machine.TheVariants.{Feed, Table, Robot, Press, Deposit, Crane, Watch}
+use Rattle.cell_rules.specs.Types.{Machine, Feed, Table, Robot, Press, Deposit, Crane, Watch}
 use Rattle.cell_workers.specs.declared.paced.Pace.{Pace}
 use Rattle.cell_workers.specs.declared.paced.Pace.TheVariants.{Had, Ended}
 use Rattle.cell_workers.specs.declared.paced.Paces.{Paces}

@@ -1,27 +1,18 @@
 -- What a record says of six workers over one interlock.
 use Rattle.std.specs.Prelude.{◌≡◌, ℕ, Bool, true, false, List, map, Some}
-use Rattle.cell_types.specs.declared.machine.Machine.{Machine}
-use Rattle.cell_types.specs.declared.machine.Machine.TheVariants.{Feed, Table, Robot, Press, Deposit, Crane, Watch}
-use Rattle.cell_types.specs.declared.answer.Event.{Event}
-use Rattle.cell_types.specs.Everything.{all_machines}
-use Rattle.cell_types.specs.Journals.{journal_of}
-use Rattle.cell_rules.specs.ModelState.{ModelState}
-use Rattle.cell_rules.specs.History.{after}
-use Rattle.cell_rules.specs.Journal.{noted}
-use Rattle.cell_rules.specs.Seen.{Waits}
-use Rattle.cell_rules.specs.Laws.{LawfulThroughout}
-use Rattle.cell_rules.specs.Audited.{IsAudited}
+use Rattle.cell_rules.specs.Types.{Machine, Feed, Table, Robot, Press, Deposit, Crane, Watch, Event, all_machines}
+use Rattle.cell_rules.specs.Types.{journal_of}
+use Rattle.cell_rules.specs.Names.{ModelState, after, noted, Waits, LawfulThroughout, IsAudited}
 use Rattle.cell_interlock.specs.Views.{PassView, InterlockView}
 use Rattle.cell_interlock.specs.Fresh.{fresh_pass}
+use Rattle.cell_notes.specs.Names.{no_counts}
 use Rattle.cell_notes.specs.declared.run_record.RunRecord.{RunRecord}
 use Rattle.cell_notes.specs.declared.status.Status.{Status}
 use Rattle.cell_notes.specs.declared.status.Status.TheVariants.{Fine}
-use Rattle.cell_notes.specs.Notes.{no_counts}
-use Rattle.cell_parts.specs.Axes.{CellScales}
+use Rattle.cell_parts.specs.Names.{CellScales}
 use Rattle.cell_parts.specs.declared.plant.PlantState.{PlantState}
-use Rattle.cell_plant.specs.Machines.{CellGauges, ProgressOf, PartOf, any_near, steps_by, rig_of}
-use Rattle.cell_plant.specs.CellStates.{side_in, sides_at_start}
-use Rattle.cell_plant.specs.Records.{positions_in}
+use Rattle.cell_plant.specs.Names.{CellGauges, ProgressOf, PartOf, any_near, steps_by, rig_of, side_in}
+use Rattle.cell_plant.specs.Names.{sides_at_start, positions_in}
 use Rattle.cell_workers.specs.Lines.{passes}
 use Rattle.cell_workers.specs.Workers.{GateOf, WorkerMoment, HasEnded, AreCountsOf}
 
@@ -50,14 +41,18 @@ parts_at_ends last =
     }
 
 -- A record is of six workers, one for each machine, over one interlock. It gives the turns of each, by what the gauges
--- may give, from its machine's start to its last moment; the watch does nothing. There is one history, lawful throughout: each has seen a prefix of
--- it, with all events of its machine; the journals are those of this history, and the end is the state after it.
-pub record TellsWork (scales : CellScales) (gives : CellGauges) (opening : ModelState) (tries limit : ℕ) (gate : Machine → GateOf) (r : RunRecord) : Type 0 where
+-- may give, from its machine's start to its last moment; the watch does nothing. There is one history, lawful
+-- throughout: each has seen a prefix of it, with all events of its machine; the journals are those of this history, and
+-- the end is the state after it.
+pub record TellsWork (scales : CellScales) (gives : CellGauges) (opening : ModelState) (tries limit : ℕ)
+    (gate : Machine → GateOf) (r : RunRecord) : Type 0 where
   pub interlock : InterlockView
   pub opened : interlock.opening ≡ opening
   pub last : (m : Machine) → MomentOf m
   pub statuses : Machine → Status
-  pub works : (m : Machine) → has_worker m ≡ true → HasEnded (passes tries) (steps_by scales gives m) (rig_of scales m) (gate m) limit (first_moment interlock m) (last m) (statuses m)
+  pub works : (m : Machine) → has_worker m ≡ true
+      → HasEnded (passes tries) (steps_by scales gives m) (rig_of scales m) (gate m) limit
+      (first_moment interlock m) (last m) (statuses m)
   pub watch_rests : (last Watch ≡ first_moment interlock Watch) × (statuses Watch ≡ Fine)
   pub history : List Event
   pub lawful : LawfulThroughout opening history

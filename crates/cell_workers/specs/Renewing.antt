@@ -1,10 +1,7 @@
 -- Six workers over one interlock after another: each opens where the one before it ended, but for the stamp.
 use Rattle.std.specs.Prelude.{◌≡◌, ◌≤◌, ◌<◌, ℕ, Result, Ok, ◌⊎◌}
-use Rattle.cell_types.specs.declared.machine.Machine.{Machine}
-use Rattle.cell_types.specs.declared.machine.Machine.TheVariants.{Feed, Table, Robot, Press, Deposit, Crane}
-use Rattle.cell_rules.specs.ModelState.{ModelState}
-use Rattle.cell_rules.specs.History.{after}
-use Rattle.cell_rules.specs.Restamping.{restamped, IsSameFor}
+use Rattle.cell_rules.specs.Types.{Machine, Feed, Table, Robot, Press, Deposit, Crane}
+use Rattle.cell_rules.specs.Names.{ModelState, after, restamped, IsSameFor}
 use Rattle.cell_interlock.specs.Views.{PassView}
 use Rattle.cell_notes.specs.declared.status.Status.{Status}
 use Rattle.cell_notes.specs.declared.status.Status.TheVariants.{Fine}
@@ -39,8 +36,10 @@ GoesOnBy A W = A → ModelState → W → Type 0
 
 module _ {A B C D E F : Type 0} where
   -- so may each of the six
-  pub record MayAllGoOn (of1 : A → Machine) (of2 : B → Machine) (of3 : C → Machine) (of4 : D → Machine) (of5 : E → Machine) (of6 : F → Machine)
-      (left1 : A → ModelState) (left2 : B → ModelState) (left3 : C → ModelState) (left4 : D → ModelState) (left5 : E → ModelState) (left6 : F → ModelState)
+  pub record MayAllGoOn (of1 : A → Machine) (of2 : B → Machine) (of3 : C → Machine) (of4 : D → Machine)
+      (of5 : E → Machine) (of6 : F → Machine)
+      (left1 : A → ModelState) (left2 : B → ModelState) (left3 : C → ModelState) (left4 : D → ModelState)
+      (left5 : E → ModelState) (left6 : F → ModelState)
       (each : PerMachine A B C D E F) (opening : ModelState) : Type 0 where
     pub feed : MayGoOn Feed (of1 each.feed) (left1 each.feed) opening
     pub table : MayGoOn Table (of2 each.table) (left2 each.table) opening
@@ -50,7 +49,8 @@ module _ {A B C D E F : Type 0} where
     pub crane : MayGoOn Crane (of6 each.crane) (left6 each.crane) opening
 
   -- each worker ended fine
-  pub record AreAllFine (how1 : A → Status) (how2 : B → Status) (how3 : C → Status) (how4 : D → Status) (how5 : E → Status) (how6 : F → Status) (each : PerMachine A B C D E F) : Type 0 where
+  pub record AreAllFine (how1 : A → Status) (how2 : B → Status) (how3 : C → Status) (how4 : D → Status)
+      (how5 : E → Status) (how6 : F → Status) (each : PerMachine A B C D E F) : Type 0 where
     pub feed : how1 each.feed ≡ Fine
     pub table : how2 each.table ≡ Fine
     pub robot : how3 each.robot ≡ Fine
@@ -59,7 +59,8 @@ module _ {A B C D E F : Type 0} where
     pub crane : how6 each.crane ≡ Fine
 
   -- each goes on by a new worker
-  pub record GoAllOn {W1 W2 W3 W4 W5 W6 : Type 0} (goes1 : GoesOnBy A W1) (goes2 : GoesOnBy B W2) (goes3 : GoesOnBy C W3) (goes4 : GoesOnBy D W4) (goes5 : GoesOnBy E W5) (goes6 : GoesOnBy F W6)
+  pub record GoAllOn {W1 W2 W3 W4 W5 W6 : Type 0} (goes1 : GoesOnBy A W1) (goes2 : GoesOnBy B W2)
+      (goes3 : GoesOnBy C W3) (goes4 : GoesOnBy D W4) (goes5 : GoesOnBy E W5) (goes6 : GoesOnBy F W6)
       (each : PerMachine A B C D E F) (opening : ModelState) (workers : PerMachine W1 W2 W3 W4 W5 W6) : Type 0 where
     pub feed : goes1 each.feed opening workers.feed
     pub table : goes2 each.table opening workers.table
@@ -68,12 +69,17 @@ module _ {A B C D E F : Type 0} where
     pub deposit : goes5 each.deposit opening workers.deposit
     pub crane : goes6 each.crane opening workers.crane
 
--- What comes after a round. If all six ended fine, each goes on with what it left, and may begin: the next interlock opens
--- where the one before it ended, but for the stamp. The watch goes on as it is.
-module _ {W1 W2 W3 W4 W5 W6 A B C D E F H : Type 0} (ready1 : W1 → PassView → Type 0) (ready2 : W2 → PassView → Type 0) (ready3 : W3 → PassView → Type 0) (ready4 : W4 → PassView → Type 0) (ready5 : W5 → PassView → Type 0) (ready6 : W6 → PassView → Type 0)
-    (how1 : A → Status) (how2 : B → Status) (how3 : C → Status) (how4 : D → Status) (how5 : E → Status) (how6 : F → Status)
-    (goes1 : GoesOnBy A W1) (goes2 : GoesOnBy B W2) (goes3 : GoesOnBy C W3) (goes4 : GoesOnBy D W4) (goes5 : GoesOnBy E W5) (goes6 : GoesOnBy F W6) (mark : ℕ) where
-  pub record GoOnAfter (left : Leave A B C D E F H) (workers : PerMachine W1 W2 W3 W4 W5 W6) (watch : H) (opening : ModelState) : Type 0 where
+-- What comes after a round. If all six ended fine, each goes on with what it left, and may begin: the next interlock
+-- opens where the one before it ended, but for the stamp. The watch goes on as it is.
+module _ {W1 W2 W3 W4 W5 W6 A B C D E F H : Type 0} (ready1 : W1 → PassView → Type 0)
+    (ready2 : W2 → PassView → Type 0) (ready3 : W3 → PassView → Type 0) (ready4 : W4 → PassView → Type 0)
+    (ready5 : W5 → PassView → Type 0) (ready6 : W6 → PassView → Type 0)
+    (how1 : A → Status) (how2 : B → Status) (how3 : C → Status) (how4 : D → Status) (how5 : E → Status)
+    (how6 : F → Status)
+    (goes1 : GoesOnBy A W1) (goes2 : GoesOnBy B W2) (goes3 : GoesOnBy C W3) (goes4 : GoesOnBy D W4)
+    (goes5 : GoesOnBy E W5) (goes6 : GoesOnBy F W6) (mark : ℕ) where
+  pub record GoOnAfter (left : Leave A B C D E F H) (workers : PerMachine W1 W2 W3 W4 W5 W6) (watch : H)
+      (opening : ModelState) : Type 0 where
     pub fine : AreAllFine how1 how2 how3 how4 how5 how6 left.outcomes
     pub opens : OpensAfter mark left.end opening
     pub goes_on : GoAllOn goes1 goes2 goes3 goes4 goes5 goes6 left.outcomes opening workers
@@ -98,19 +104,26 @@ round_in r = record { start = r.start; journals = r.journals; end = r.end }
 abbrev pub leave_of : {A B C D E F H : Type 0} → SixRecord A B C D E F → H → Leave A B C D E F H
 leave_of r watch = record { end = r.end; outcomes = r.outcomes; watch = watch }
 
-module _ {W1 W2 W3 W4 W5 W6 A B C D E F H S Fault : Type 0} (gives1 : GivesOf W1 A) (gives2 : GivesOf W2 B) (gives3 : GivesOf W3 C) (gives4 : GivesOf W4 D) (gives5 : GivesOf W5 E) (gives6 : GivesOf W6 F)
-    (watches : WatchesOf H) (takes : S → Round → Result (Unit {0}) Fault → S → Type 0) (tries limit : ℕ) (gate : Machine → GateOf) where
-  -- A round is over: its record tells of six workers and the watch over one interlock, and the sink has taken what it noted.
-  pub record EndsRound (before : RoundMoment W1 W2 W3 W4 W5 W6 H S) (left : Leave A B C D E F H) (sink : S) : Type 0 where
+module _ {W1 W2 W3 W4 W5 W6 A B C D E F H S Fault : Type 0} (gives1 : GivesOf W1 A) (gives2 : GivesOf W2 B)
+    (gives3 : GivesOf W3 C) (gives4 : GivesOf W4 D) (gives5 : GivesOf W5 E) (gives6 : GivesOf W6 F)
+    (watches : WatchesOf H) (takes : S → Round → Result (Unit {0}) Fault → S → Type 0) (tries limit : ℕ)
+    (gate : Machine → GateOf) where
+  -- A round is over: its record tells of six workers and the watch over one interlock, and the sink has taken what it
+  -- noted.
+  pub record EndsRound (before : RoundMoment W1 W2 W3 W4 W5 W6 H S) (left : Leave A B C D E F H) (sink : S)
+      : Type 0 where
     pub six : SixRecord A B C D E F
-    pub told : TellsWatched gives1 gives2 gives3 gives4 gives5 gives6 watches before.workers before.watch before.opening tries limit gate six left.watch
+    pub told : TellsWatched gives1 gives2 gives3 gives4 gives5 gives6 watches before.workers before.watch
+        before.opening tries limit gate six left.watch
     pub taken : takes before.sink (round_in six) (Ok tt) sink
     pub is : left ≡ leave_of six left.watch
 
-  module _ (how1 : A → Status) (how2 : B → Status) (how3 : C → Status) (how4 : D → Status) (how5 : E → Status) (how6 : F → Status)
-      (goes1 : GoesOnBy A W1) (goes2 : GoesOnBy B W2) (goes3 : GoesOnBy C W3) (goes4 : GoesOnBy D W4) (goes5 : GoesOnBy E W5) (goes6 : GoesOnBy F W6) (mark : ℕ) where
-    -- From one round to the next: all six ended fine, and each goes on with what it left. The next interlock opens where
-    -- the one before it ended, but for the stamp. The watch goes on as it is.
+  module _ (how1 : A → Status) (how2 : B → Status) (how3 : C → Status) (how4 : D → Status) (how5 : E → Status)
+      (how6 : F → Status)
+      (goes1 : GoesOnBy A W1) (goes2 : GoesOnBy B W2) (goes3 : GoesOnBy C W3) (goes4 : GoesOnBy D W4)
+      (goes5 : GoesOnBy E W5) (goes6 : GoesOnBy F W6) (mark : ℕ) where
+    -- From one round to the next: all six ended fine, and each goes on with what it left. The next interlock opens
+    -- where the one before it ended, but for the stamp. The watch goes on as it is.
     pub record TakesRound (before now : RoundMoment W1 W2 W3 W4 W5 W6 H S) : Type 0 where
       pub left : Leave A B C D E F H
       pub ends : EndsRound before left now.sink
@@ -120,7 +133,8 @@ module _ {W1 W2 W3 W4 W5 W6 A B C D E F H S Fault : Type 0} (gives1 : GivesOf W1
       pub watch_is : now.watch ≡ left.watch
 
     -- Rounds, one after another. In the last one a worker didn't end fine, and this is what the six and the watch left.
-    pub record RunsRenewed (first : RoundMoment W1 W2 W3 W4 W5 W6 H S) (left : Leave A B C D E F H) (sink : S) : Type 0 where
+    pub record RunsRenewed (first : RoundMoment W1 W2 W3 W4 W5 W6 H S) (left : Leave A B C D E F H) (sink : S)
+        : Type 0 where
       pub last : RoundMoment W1 W2 W3 W4 W5 W6 H S
       pub come : ComesBy TakesRound first last
       pub ends : EndsRound last left sink

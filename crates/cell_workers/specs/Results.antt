@@ -1,14 +1,11 @@
 -- What six workers gave back, by machine.
 use Rattle.std.specs.Prelude.{◌≡◌, ℕ, List, [], Option, Some}
-use Rattle.cell_types.specs.declared.machine.Machine.{Machine}
-use Rattle.cell_types.specs.declared.machine.Machine.TheVariants.{Feed, Table, Robot, Press, Deposit, Crane, Watch}
-use Rattle.cell_types.specs.declared.answer.Event.{Event}
-use Rattle.cell_types.specs.declared.journal.Entry.{Entry}
+use Rattle.cell_rules.specs.Types.{Machine, Feed, Table, Robot, Press, Deposit, Crane, Watch, Event, Entry}
 use Rattle.cell_interlock.specs.Views.{PassView, InterlockView}
 use Rattle.cell_interlock.specs.declared.pass.Passes.{Passes}
 use Rattle.cell_notes.specs.declared.counts.Counts.{Counts}
 use Rattle.cell_notes.specs.declared.status.Status.{Status}
-use Rattle.cell_parts.specs.Axes.{CellScales}
+use Rattle.cell_parts.specs.Names.{CellScales}
 use Rattle.cell_parts.specs.declared.plant.PlantState.{PlantState}
 use Rattle.cell_plant.specs.Machines.{CellGauges, PartOf, steps_by, rig_of}
 use Rattle.cell_workers.specs.Workers.{GateOf, IsWorkerResult}
@@ -41,7 +38,8 @@ CellResults =
     (UnitOutcome PressPart) (UnitOutcome DepositPart) (UnitOutcome CranePart)
 
 -- none is missing, and these are the six
-pub record AreAllThere {A B C D E F : Type 0} (each : PerMachine (Option A) (Option B) (Option C) (Option D) (Option E) (Option F)) (six : PerMachine A B C D E F) : Type 0 where
+pub record AreAllThere {A B C D E F : Type 0} (each : PerMachine (Option A) (Option B) (Option C) (Option D)
+    (Option E) (Option F)) (six : PerMachine A B C D E F) : Type 0 where
   pub feed : each.feed ≡ Some six.feed
   pub table : each.table ≡ Some six.table
   pub robot : each.robot ≡ Some six.robot
@@ -108,14 +106,24 @@ parts_in each =
 
 -- what a machine's worker gave back, by the machine's name; it began with a fresh pass of the interlock, at its
 -- machine's start
-abbrev pub IsResultOf : CellScales → CellGauges → InterlockView → ℕ → (Machine → GateOf) → (m : Machine) → PassView → List Entry → Counts → Status → PartOf m → Type 0
-IsResultOf c gives i limit gate m kept journal did status stands = IsWorkerResult i.tries (steps_by c gives m) (rig_of c m) (gate m) limit (first_moment i m) kept journal did status stands
+abbrev pub IsResultOf : CellScales → CellGauges → InterlockView → ℕ → (Machine → GateOf) → (m : Machine) → PassView
+    → List Entry → Counts → Status → PartOf m → Type 0
+IsResultOf c gives i limit gate m kept journal did status stands =
+    IsWorkerResult i.tries (steps_by c gives m) (rig_of c m) (gate m) limit
+    (first_moment i m) kept journal did status stands
 
 -- likewise for each of the six
-pub record AreWorkerResults (c : CellScales) (gives : CellGauges) (i : InterlockView) (limit : ℕ) (gate : Machine → GateOf) (results : CellResults) : Type 0 where
-  pub feed : IsResultOf c gives i limit gate Feed results.feed.pass results.feed.journal.items results.feed.outcome.counts results.feed.outcome.status results.feed.outcome.part.belt
-  pub table : IsResultOf c gives i limit gate Table results.table.pass results.table.journal.items results.table.outcome.counts results.table.outcome.status results.table.outcome.part.plant
-  pub robot : IsResultOf c gives i limit gate Robot results.robot.pass results.robot.journal.items results.robot.outcome.counts results.robot.outcome.status results.robot.outcome.part.plant
-  pub press : IsResultOf c gives i limit gate Press results.press.pass results.press.journal.items results.press.outcome.counts results.press.outcome.status results.press.outcome.part
-  pub deposit : IsResultOf c gives i limit gate Deposit results.deposit.pass results.deposit.journal.items results.deposit.outcome.counts results.deposit.outcome.status results.deposit.outcome.part.belt
-  pub crane : IsResultOf c gives i limit gate Crane results.crane.pass results.crane.journal.items results.crane.outcome.counts results.crane.outcome.status results.crane.outcome.part.plant
+pub record AreWorkerResults (c : CellScales) (gives : CellGauges) (i : InterlockView) (limit : ℕ)
+    (gate : Machine → GateOf) (results : CellResults) : Type 0 where
+  pub feed : IsResultOf c gives i limit gate Feed results.feed.pass results.feed.journal.items
+      results.feed.outcome.counts results.feed.outcome.status results.feed.outcome.part.belt
+  pub table : IsResultOf c gives i limit gate Table results.table.pass results.table.journal.items
+      results.table.outcome.counts results.table.outcome.status results.table.outcome.part.plant
+  pub robot : IsResultOf c gives i limit gate Robot results.robot.pass results.robot.journal.items
+      results.robot.outcome.counts results.robot.outcome.status results.robot.outcome.part.plant
+  pub press : IsResultOf c gives i limit gate Press results.press.pass results.press.journal.items
+      results.press.outcome.counts results.press.outcome.status results.press.outcome.part
+  pub deposit : IsResultOf c gives i limit gate Deposit results.deposit.pass results.deposit.journal.items
+      results.deposit.outcome.counts results.deposit.outcome.status results.deposit.outcome.part.belt
+  pub crane : IsResultOf c gives i limit gate Crane results.crane.pass results.crane.journal.items
+      results.crane.outcome.counts results.crane.outcome.status results.crane.outcome.part.plant

@@ -1,16 +1,8 @@
 -- The watch of six workers, and what a record says of seven: of the six, and of the watch.
 use Rattle.std.specs.Prelude.{◌≡◌, ℕ, List, Some}
-use Rattle.cell_types.specs.declared.machine.Machine.{Machine}
-use Rattle.cell_types.specs.declared.machine.Machine.TheVariants.{Feed, Table, Robot, Press, Deposit, Crane, Watch}
-use Rattle.cell_types.specs.declared.answer.Event.{Event}
-use Rattle.cell_types.specs.declared.journal.Entry.{Entry}
-use Rattle.cell_types.specs.Journals.{journal_of}
-use Rattle.cell_rules.specs.ModelState.{ModelState}
-use Rattle.cell_rules.specs.History.{after}
-use Rattle.cell_rules.specs.Journal.{noted}
-use Rattle.cell_rules.specs.Seen.{Waits}
-use Rattle.cell_rules.specs.Laws.{LawfulThroughout}
-use Rattle.cell_rules.specs.Audited.{IsAudited}
+use Rattle.cell_rules.specs.Types.{Machine, Feed, Table, Robot, Press, Deposit, Crane, Watch, Event, Entry}
+use Rattle.cell_rules.specs.Types.{journal_of}
+use Rattle.cell_rules.specs.Names.{ModelState, after, noted, Waits, LawfulThroughout, IsAudited}
 use Rattle.cell_interlock.specs.Views.{PassView, InterlockView}
 use Rattle.cell_interlock.specs.Fresh.{fresh_pass}
 use Rattle.cell_workers.specs.Workers.{GateOf, IsGivenBack}
@@ -26,7 +18,8 @@ abbrev pub WatchesOf : Type 0 → Type 1
 WatchesOf H = H → PassView → ℕ → PassView → H → Type 0
 
 -- a watch that began by this pass has given it back, with its journal and itself
-pub record HasWatched {H : Type 0} (watches : WatchesOf H) (tries : ℕ) (watch : H) (got : PassView) (back : WorkerResult H) : Type 0 where
+pub record HasWatched {H : Type 0} (watches : WatchesOf H) (tries : ℕ) (watch : H) (got : PassView)
+    (back : WorkerResult H) : Type 0 where
   pub given : IsGivenBack got back.pass back.journal.items
   pub does : watches watch got tries back.pass back.outcome
 
@@ -40,18 +33,21 @@ module _ {A B C D E F : Type 0} where
   seen_with results watch Watch = watch.seen
   seen_with results watch m = seen_in results m
 
--- A record is of six workers and a watch over one interlock. Each began with its machine's fresh pass and gave back what
--- it promises. There is one history, lawful throughout: each has seen a prefix of it, with all events of its machine; the
--- journals are those of this history, and the end is the state after it.
+-- A record is of six workers and a watch over one interlock. Each began with its machine's fresh pass and gave back
+-- what it promises. There is one history, lawful throughout: each has seen a prefix of it, with all events of its
+-- machine; the journals are those of this history, and the end is the state after it.
 pub record TellsWatched {W1 W2 W3 W4 W5 W6 A B C D E F H : Type 0} (gives1 : GivesOf W1 A) (gives2 : GivesOf W2 B)
-    (gives3 : GivesOf W3 C) (gives4 : GivesOf W4 D) (gives5 : GivesOf W5 E) (gives6 : GivesOf W6 F) (watches : WatchesOf H)
-    (workers : PerMachine W1 W2 W3 W4 W5 W6) (watch : H) (opening : ModelState) (tries limit : ℕ) (gate : Machine → GateOf)
+    (gives3 : GivesOf W3 C) (gives4 : GivesOf W4 D) (gives5 : GivesOf W5 E) (gives6 : GivesOf W6 F)
+    (watches : WatchesOf H)
+    (workers : PerMachine W1 W2 W3 W4 W5 W6) (watch : H) (opening : ModelState) (tries limit : ℕ)
+    (gate : Machine → GateOf)
     (r : SixRecord A B C D E F) (watch_after : H) : Type 0 where
   pub interlock : InterlockView
   pub opened : interlock.opening ≡ opening
   pub losing : interlock.tries ≡ tries
   pub results : SixResults A B C D E F
-  pub given : GiveBack gives1 gives2 gives3 gives4 gives5 gives6 workers (six_fresh interlock) interlock.tries gate limit results
+  pub given : GiveBack gives1 gives2 gives3 gives4 gives5 gives6 workers
+      (six_fresh interlock) interlock.tries gate limit results
   pub outcomes : r.outcomes ≡ outcomes_in results
   pub watched : WorkerResult H
   pub watched_so : HasWatched watches interlock.tries watch (fresh_pass interlock Watch) watched

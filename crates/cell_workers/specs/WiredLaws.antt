@@ -1,26 +1,27 @@
 -- What holds of a worker with devices of one's own: the statements.
 use Rattle.std.specs.Prelude.{◌≡◌, ◌≢◌, ◌+◌, ◌<◌, ◌≤◌, ℕ, true, false, Option, Some, None, IsSomeAnd}
-use Rattle.cell_types.specs.declared.machine.Machine.TheVariants.{Press}
-use Rattle.cell_types.specs.declared.zone.Zone.TheVariants.{Z3}
+use Rattle.cell_rules.specs.Types.{Press, Z3}
 use Rattle.cell_calib.specs.declared.sense.PressSense.{PressSense}
 use Rattle.cell_calib.specs.declared.sense.SensorFault.TheVariants.{Clash}
 use Rattle.cell_rules.specs.History.{Holds, PressMoves}
 use Rattle.cell_interlock.specs.Views.{PassView}
+use Rattle.cell_control.specs.Names.{Steps}
 use Rattle.cell_control.specs.declared.fault.CtlFault.{CtlFault}
 use Rattle.cell_control.specs.declared.fault.CtlFault.TheVariants.{Sensor}
-use Rattle.cell_control.specs.Steps.{Steps}
+use Rattle.cell_control.specs.declared.told.Told.{Told}
 use Rattle.cell_devices.specs.declared.act.PressAct.{PressAct}
 use Rattle.cell_devices.specs.declared.motor.Motor.TheVariants.{Off}
+use Rattle.cell_stations.specs.Names.{press_steps}
 use Rattle.cell_stations.specs.declared.press.PressProgress.{PressProgress}
-use Rattle.cell_stations.specs.PressProgram.{press_steps}
-use Rattle.cell_control.specs.declared.told.Told.{Told}
 use Rattle.cell_notes.specs.declared.status.Status.{Status}
 use Rattle.cell_notes.specs.declared.status.Status.TheVariants.{Fine, GateLimit}
 use Rattle.cell_workers.specs.Workers.{GateOf}
-use Rattle.cell_workers.specs.WiredWorkers.{WiredMoment, TakesWiredTurn, TakesCycle, IsWiredResult, at_rest_by, wired_moment}
+use Rattle.cell_workers.specs.WiredWorkers.{WiredMoment, TakesWiredTurn, TakesCycle, IsWiredResult, at_rest_by}
+use Rattle.cell_workers.specs.WiredWorkers.{wired_moment}
 
 -- the last that these devices were told is to rest: all motors off
-pub record AreToldToRest {S Sense Reading Act D : Type 0} (t : Steps S Sense Reading Act) (sets : D → Told Act → D → Type 0) (devices : D) : Type 0 where
+pub record AreToldToRest {S Sense Reading Act D : Type 0} (t : Steps S Sense Reading Act)
+    (sets : D → Told Act → D → Type 0) (devices : D) : Type 0 where
   pub progress : S
   pub before : D
   pub told : Told Act
@@ -28,9 +29,9 @@ pub record AreToldToRest {S Sense Reading Act D : Type 0} (t : Steps S Sense Rea
   pub is_fault : told.fault ≢ None
   pub rest : told.act ≡ t.rest progress
 
--- What a worker gave back that began with no cycles: this number of them, this status, these devices. It went through no
--- cycle that its gate refused; if it is fine, through all. If neither its cycles nor its gate ended it, a fault did; then
--- the last that its devices were told is to rest.
+-- What a worker gave back that began with no cycles: this number of them, this status, these devices. It went through
+-- no cycle that its gate refused; if it is fine, through all. If neither its cycles nor its gate ended it, a fault did;
+-- then the last that its devices were told is to rest.
 pub record WiredWorkerEnds {S Sense Reading Act D : Type 0} (t : Steps S Sense Reading Act)
     (sets : D → Told Act → D → Type 0) (gate : GateOf) (limit cycles : ℕ) (status : Status) (devices : D) : Type 0 where
   pub within : cycles ≤ limit
@@ -56,9 +57,9 @@ abbrev pub told_unread : Told PressAct
 told_unread = at_rest_by (record { press = Off })
 
 -- Cycles of a press with devices of one's own. Stopped, it takes none, nor if its gate refuses. If its devices can show
--- nothing but that it is both at the bottom and at the top, they are set so that its motor is off; it makes no call, and
--- stops. If they can show nothing at all, its motor is off too; it makes no call, and goes on where it was. While it is
--- told to switch its motor on, it holds its interior, which moves.
+-- nothing but that it is both at the bottom and at the top, they are set so that its motor is off; it makes no call,
+-- and stops. If they can show nothing at all, its motor is off too; it makes no call, and goes on where it was. While
+-- it is told to switch its motor on, it holds its interior, which moves.
 pub record WiredPressTurns {D : Type 0} (shows : D → Option PressSense → D → Type 0)
     (sets : D → Told PressAct → D → Type 0) (gate : GateOf) : Type 0 where
   pub stopped : (tries : ℕ) (before now : WiredMoment PressProgress D) (fault : CtlFault) → before.stopped ≡ Some fault
@@ -67,7 +68,8 @@ pub record WiredPressTurns {D : Type 0} (shows : D → Option PressSense → D �
       → ¬ TakesCycle tries press_steps shows sets gate before now
   pub clash : (tries : ℕ) (before now : WiredMoment PressProgress D)
       → TakesCycle tries press_steps shows sets gate before now
-      → ((s : Option PressSense) (d : D) → shows before.devices s d → IsSomeAnd s (λ p. (p.bottom ≡ true) × (p.top ≡ true)))
+      → ((s : Option PressSense) (d : D) → shows before.devices s d
+      → IsSomeAnd s (λ p. (p.bottom ≡ true) × (p.top ≡ true)))
       → ((d : D) × sets d told_clash now.devices) × (now.stopped ≡ Some (Sensor Clash)) × (now.pass ≡ before.pass)
   pub unread : (tries : ℕ) (before now : WiredMoment PressProgress D)
       → TakesCycle tries press_steps shows sets gate before now
@@ -76,4 +78,5 @@ pub record WiredPressTurns {D : Type 0} (shows : D → Option PressSense → D �
       × (now.pass ≡ before.pass) × (now.turns ≡ before.turns)
   pub drives : (tries : ℕ) (before now : WiredMoment PressProgress D)
       (turn : TakesWiredTurn tries press_steps shows sets gate before now)
-      → turn.told.act.press ≢ Off → Holds now.pass.opening now.pass.seen Press Z3 × PressMoves now.pass.opening now.pass.seen
+      → turn.told.act.press ≢ Off → Holds now.pass.opening now.pass.seen Press Z3
+      × PressMoves now.pass.opening now.pass.seen

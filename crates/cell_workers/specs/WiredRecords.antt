@@ -1,39 +1,26 @@
 -- What a record says of six workers with devices of one's own, each by the program of its machine.
 use Rattle.std.specs.Prelude.{◌≡◌, ◌≢◌, ℕ, List, [], ◌∷◌, Option, None, Some}
-use Rattle.cell_types.specs.declared.machine.Machine.{Machine}
-use Rattle.cell_types.specs.declared.machine.Machine.TheVariants.{Feed, Table, Robot, Press, Deposit, Crane}
-use Rattle.cell_types.specs.declared.answer.Event.{Event}
-use Rattle.cell_types.specs.Journals.{journal_of}
+use Rattle.cell_rules.specs.Types.{Machine, Feed, Table, Robot, Press, Deposit, Crane, Event, journal_of}
 use Rattle.cell_calib.specs.declared.gauge.Gauge.{Ghosts}
-use Rattle.cell_rules.specs.ModelState.{ModelState}
-use Rattle.cell_rules.specs.Start.{IsStartState}
-use Rattle.cell_rules.specs.History.{after}
-use Rattle.cell_rules.specs.Journal.{noted}
-use Rattle.cell_rules.specs.Seen.{Waits}
-use Rattle.cell_rules.specs.Laws.{LawfulThroughout}
-use Rattle.cell_rules.specs.Audited.{IsAudited}
+use Rattle.cell_rules.specs.Names.{ModelState, IsStartState, after, noted, Waits, LawfulThroughout, IsAudited}
 use Rattle.cell_interlock.specs.Views.{PassView, InterlockView}
 use Rattle.cell_interlock.specs.Fresh.{fresh_pass}
-use Rattle.cell_control.specs.Steps.{Steps}
+use Rattle.cell_control.specs.Names.{Steps}
 use Rattle.cell_control.specs.declared.told.Told.{Told}
 use Rattle.cell_notes.specs.declared.run_record.RunRecord.{RunRecord}
 use Rattle.cell_notes.specs.declared.status.Status.{Status}
 use Rattle.cell_notes.specs.declared.status.Status.TheVariants.{Fine, Refused}
 use Rattle.cell_parts.specs.Axes.{CellScales}
-use Rattle.cell_haul.specs.CraneProgram.{crane_steps}
-use Rattle.cell_haul.specs.DepositProgram.{deposit_steps}
-use Rattle.cell_haul.specs.FeedProgram.{feed_steps}
+use Rattle.cell_haul.specs.Names.{crane_steps, deposit_steps, feed_steps}
 use Rattle.cell_haul.specs.declared.crane.CraneProgram.{CraneProgram}
 use Rattle.cell_haul.specs.declared.deposit.DepositProgram.{DepositProgram}
 use Rattle.cell_haul.specs.declared.feed.FeedProgram.{FeedProgram}
-use Rattle.cell_robot.specs.RobotProgram.{gauges_of, robot_scales, robot_steps}
+use Rattle.cell_robot.specs.Names.{gauges_of, robot_scales, robot_steps}
 use Rattle.cell_robot.specs.declared.robot.RobotProgram.{RobotProgram}
-use Rattle.cell_stations.specs.PressProgram.{press_steps}
-use Rattle.cell_stations.specs.TableProgram.{table_steps}
+use Rattle.cell_stations.specs.Names.{press_steps, table_steps}
 use Rattle.cell_stations.specs.declared.press.PressProgram.{PressProgram}
 use Rattle.cell_stations.specs.declared.table.TableProgram.{TableProgram}
-use Rattle.cell_plant.specs.Machines.{CellGauges, steps_by}
-use Rattle.cell_plant.specs.Records.{NoneRefused}
+use Rattle.cell_plant.specs.Names.{CellGauges, steps_by, NoneRefused}
 use Rattle.cell_workers.specs.Promises.{GivesOf}
 use Rattle.cell_workers.specs.Results.{SixResults, outcomes_in, seen_in}
 use Rattle.cell_workers.specs.Six.{TellsSix}

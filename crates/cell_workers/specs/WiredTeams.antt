@@ -1,11 +1,7 @@
 -- Six workers with devices of one's own, one for each machine of the cell: a refusal stops none of them.
 use Rattle.std.specs.Prelude.{◌≢◌, ℕ, List, Option, None}
-use Rattle.cell_types.specs.declared.machine.Machine.{Machine}
-use Rattle.cell_types.specs.declared.machine.Machine.TheVariants.{Feed, Table, Robot, Press, Deposit, Crane}
-use Rattle.cell_types.specs.declared.answer.Event.{Event}
-use Rattle.cell_rules.specs.Seen.{Waits}
-use Rattle.cell_rules.specs.Start.{IsStartState}
-use Rattle.cell_rules.specs.History.{IsLegal}
+use Rattle.cell_rules.specs.Types.{Machine, Feed, Table, Robot, Press, Deposit, Crane, Event}
+use Rattle.cell_rules.specs.Names.{Waits, IsStartState, IsLegal}
 use Rattle.cell_interlock.specs.Views.{PassView, InterlockView}
 use Rattle.cell_interlock.specs.Fresh.{fresh_pass}
 use Rattle.cell_control.specs.declared.told.Told.{Told}
@@ -25,19 +21,24 @@ Sets D m = D → Told (ActOf m) → D → Type 0
 
 -- a machine's worker began with a fresh pass of the interlock, at the start of its program, with these devices; by its
 -- cycles it has come to the pass that it gave back, and it ended with this status
-pub record WiredEnd {D : Type 0} (c : CellScales) (gives : CellGauges) (m : Machine) (shows : Shows D m) (sets : Sets D m) (tries limit : ℕ) (gate : GateOf) (i : InterlockView) : Type 0 where
+pub record WiredEnd {D : Type 0} (c : CellScales) (gives : CellGauges) (m : Machine) (shows : Shows D m)
+    (sets : Sets D m) (tries limit : ℕ) (gate : GateOf) (i : InterlockView) : Type 0 where
   pub first : D
   pub kept : PassView
   pub turns : ℕ
   pub missed : ℕ
   pub status : Status
   pub devices : D
-  pub ended : IsWiredResult tries (steps_by c gives m) shows sets gate limit (wired_moment (fresh_pass i m) ((steps_by c gives m).start i.opening) None first 0 0) kept turns missed status devices
+  pub ended : IsWiredResult tries (steps_by c gives m) shows sets gate limit
+      (wired_moment (fresh_pass i m) ((steps_by c gives m).start i.opening) None first 0 0) kept turns missed status
+      devices
 
--- Six of them over one interlock, which opened with a start. There is one legal history: each has seen a part of it, with
--- all events of its machine.
+-- Six of them over one interlock, which opened with a start. There is one legal history: each has seen a part of it,
+-- with all events of its machine.
 module _ {D1 D2 D3 D4 D5 D6 : Type 0} (c : CellScales) (gives : CellGauges)
-    (shows1 : Shows D1 Feed) (sets1 : Sets D1 Feed) (shows2 : Shows D2 Table) (sets2 : Sets D2 Table) (shows3 : Shows D3 Robot) (sets3 : Sets D3 Robot) (shows4 : Shows D4 Press) (sets4 : Sets D4 Press) (shows5 : Shows D5 Deposit) (sets5 : Sets D5 Deposit) (shows6 : Shows D6 Crane) (sets6 : Sets D6 Crane) where
+    (shows1 : Shows D1 Feed) (sets1 : Sets D1 Feed) (shows2 : Shows D2 Table) (sets2 : Sets D2 Table)
+    (shows3 : Shows D3 Robot) (sets3 : Sets D3 Robot) (shows4 : Shows D4 Press) (sets4 : Sets D4 Press)
+    (shows5 : Shows D5 Deposit) (sets5 : Sets D5 Deposit) (shows6 : Shows D6 Crane) (sets6 : Sets D6 Crane) where
   pub record WiredTeam (tries limit : ℕ) (gate : Machine → GateOf) : Type 0 where
     pub interlock : InterlockView
     pub starts : IsStartState interlock.opening
@@ -57,7 +58,8 @@ module _ {D1 D2 D3 D4 D5 D6 : Type 0} (c : CellScales) (gives : CellGauges)
     pub crane_seen : Waits Crane crane.kept.seen history
 
   -- none ends as refused
-  pub record NoneEndsRefused (tries limit : ℕ) (gate : Machine → GateOf) (team : WiredTeam tries limit gate) : Type 0 where
+  pub record NoneEndsRefused (tries limit : ℕ) (gate : Machine → GateOf) (team : WiredTeam tries limit gate)
+      : Type 0 where
     pub feed : team.feed.status ≢ Refused
     pub table : team.table.status ≢ Refused
     pub robot : team.robot.status ≢ Refused
@@ -66,4 +68,5 @@ module _ {D1 D2 D3 D4 D5 D6 : Type 0} (c : CellScales) (gives : CellGauges)
     pub crane : team.crane.status ≢ Refused
 
   abbrev pub NoWiredWorkerIsRefused : (Machine → GateOf) → Type 0
-  NoWiredWorkerIsRefused gate = (tries limit : ℕ) (team : WiredTeam tries limit gate) → NoneEndsRefused tries limit gate team
+  NoWiredWorkerIsRefused gate = (tries limit : ℕ) (team : WiredTeam tries limit gate)
+      → NoneEndsRefused tries limit gate team

@@ -3,18 +3,15 @@ use Rattle.std.specs.Prelude.{◌≡◌, ◌≢◌, ◌+◌, ◌⊎◌, ℕ, tru
 use Rattle.cell_interlock.specs.Views.{PassView}
 use Rattle.cell_interlock.specs.Lines.{PassAsks}
 use Rattle.cell_interlock.specs.Seen.{HasSeenMore}
-use Rattle.cell_rules.specs.ModelState.{ModelState}
-use Rattle.cell_rules.specs.History.{after}
+use Rattle.cell_rules.specs.Names.{ModelState, after}
+use Rattle.cell_control.specs.Names.{Steps, Turns, answered}
 use Rattle.cell_control.specs.declared.fault.CtlFault.{CtlFault}
-use Rattle.cell_control.specs.Steps.{Steps}
-use Rattle.cell_control.specs.Turns.{Turns}
 use Rattle.cell_control.specs.declared.told.Told.{Told}
-use Rattle.cell_control.specs.Turns.{answered}
 use Rattle.cell_notes.specs.declared.status.Status.{Status}
 use Rattle.cell_workers.specs.Workers.{GateOf, ComesBy, Ends}
 
--- between two cycles: the pass, the progress in the program, what has stopped the machine, its devices, how many turns it
--- has had, and how many cycles in which its sensors showed nothing
+-- between two cycles: the pass, the progress in the program, what has stopped the machine, its devices, how many turns
+-- it has had, and how many cycles in which its sensors showed nothing
 pub record WiredMoment (S D : Type 0) : Type 0 where
   pub pass : PassView
   pub progress : S
@@ -39,7 +36,9 @@ pub record TakesWiredTurn {S Sense Reading Act D : Type 0} (tries : ℕ) (t : St
   pub read : D
   pub shown : shows before.devices (Some sense) read
   pub told : Told Act
-  pub row : Turns t (now.pass ≡ before.pass) (λ c r. PassAsks tries before.pass c r now.pass) before.stopped before.progress sense (record { result = answered told.act told.fault; progress = now.progress; stopped = now.stopped })
+  pub row : Turns t (now.pass ≡ before.pass)
+      (λ c r. PassAsks tries before.pass c r now.pass) before.stopped before.progress sense
+      (record { result = answered told.act told.fault; progress = now.progress; stopped = now.stopped })
   pub rest : told.fault ≢ None → told.act ≡ t.rest before.progress
   pub motor_demands : told.fault ≡ None → t.motor_demands before.progress told.act now.pass.opening now.pass.seen
   pub set : sets read told now.devices
@@ -50,8 +49,8 @@ pub record TakesWiredTurn {S Sense Reading Act D : Type 0} (tries : ℕ) (t : St
 abbrev pub at_rest_by : {Act : Type 0} → Act → Told Act
 at_rest_by act = record { act = act; fault = None }
 
--- A cycle of such a machine in which its sensors show nothing: its actuators are told to rest, so motors are off. It is no
--- turn: the machine stays at its step, and its pass as it was.
+-- A cycle of such a machine in which its sensors show nothing: its actuators are told to rest, so motors are off. It is
+-- no turn: the machine stays at its step, and its pass as it was.
 pub record RestsUnread {S Sense Reading Act D : Type 0} (t : Steps S Sense Reading Act)
     (shows : D → Option Sense → D → Type 0) (sets : D → Told Act → D → Type 0) (gate : GateOf)
     (before now : WiredMoment S D) : Type 0 where
@@ -68,18 +67,19 @@ abbrev pub TakesCycle : {S Sense Reading Act D : Type 0} → ℕ → Steps S Sen
 TakesCycle tries t shows sets gate before now =
     TakesWiredTurn tries t shows sets gate before now ⊎ RestsUnread t shows sets gate before now
 
--- What a worker with devices gives back that began at this moment: by its cycles, and by nothing else, it has come to this
--- pass, these numbers of turns and of cycles without a reading, and these devices. It ends with this status.
+-- What a worker with devices gives back that began at this moment: by its cycles, and by nothing else, it has come to
+-- this pass, these numbers of turns and of cycles without a reading, and these devices. It ends with this status.
 pub record IsWiredResult {S Sense Reading Act D : Type 0} (tries : ℕ) (t : Steps S Sense Reading Act)
     (shows : D → Option Sense → D → Type 0) (sets : D → Told Act → D → Type 0) (gate : GateOf) (limit : ℕ)
     (first : WiredMoment S D) (kept : PassView) (turns missed : ℕ) (status : Status) (devices : D) : Type 0 where
   pub progress : S
   pub stopped : Option CtlFault
-  pub come : ComesBy (TakesCycle tries t shows sets gate) first (wired_moment kept progress stopped devices turns missed)
+  pub come : ComesBy (TakesCycle tries t shows sets gate) first
+      (wired_moment kept progress stopped devices turns missed)
   pub ends : Ends gate limit stopped (turns + missed) status
 
--- The same of a worker whose machine may go on later: it has come to this step, with what has stopped it; then its pass has
--- surveyed the state that the machine has left.
+-- The same of a worker whose machine may go on later: it has come to this step, with what has stopped it; then its pass
+-- has surveyed the state that the machine has left.
 pub record IsGoingResult {S Sense Reading Act D : Type 0} (tries : ℕ) (t : Steps S Sense Reading Act)
     (shows : D → Option Sense → D → Type 0) (sets : D → Told Act → D → Type 0) (gate : GateOf) (limit : ℕ)
     (first : WiredMoment S D) (kept : PassView) (turns missed : ℕ) (status : Status) (devices : D)

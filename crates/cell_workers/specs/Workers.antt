@@ -1,22 +1,16 @@
 -- A worker: its machine's turns, one after another, and how they end.
 use Rattle.std.specs.Prelude.{◌≡◌, ◌<◌, ◌≤◌, ℕ, Bool, true, false, ⊤, ◌⊎◌, List, [], ◌∷◌, Option, Some, None, count_by}
-use Rattle.cell_types.specs.declared.answer.Answer.{Answer}
-use Rattle.cell_types.specs.declared.answer.Answer.TheVariants.{Shown, Refused}
-use Rattle.cell_types.specs.declared.journal.Entry.{Entry}
-use Rattle.cell_rules.specs.History.{is_done_answer}
-use Rattle.cell_rules.specs.Journal.{noted}
+use Rattle.cell_rules.specs.Types.{Answer, Shown, Refused, Entry}
+use Rattle.cell_rules.specs.Names.{is_done_answer, noted}
 use Rattle.cell_interlock.specs.Views.{PassView}
 use Rattle.cell_interlock.specs.Seen.{IsSamePass}
+use Rattle.cell_control.specs.Names.{Rig, Steps}
 use Rattle.cell_control.specs.declared.fault.CtlFault.{CtlFault}
-use Rattle.cell_control.specs.Rigs.{Rig}
-use Rattle.cell_control.specs.Steps.{Steps}
+use Rattle.cell_notes.specs.Names.{TurnCall, counts_with}
 use Rattle.cell_notes.specs.declared.counts.Counts.{Counts}
 use Rattle.cell_notes.specs.declared.status.Status.{Status}
 use Rattle.cell_notes.specs.declared.status.Status.TheVariants.{Fine, GateLimit}
-use Rattle.cell_notes.specs.Asks.{TurnCall}
-use Rattle.cell_notes.specs.Notes.{counts_with}
-use Rattle.cell_unit.specs.Statuses.{status_of}
-use Rattle.cell_unit.specs.Sides.{Side, ActsAndMoves, DemandsHold}
+use Rattle.cell_unit.specs.Names.{status_of, Side, ActsAndMoves, DemandsHold}
 use Rattle.cell_workers.specs.Lines.{Lines, passes}
 
 -- a worker between two turns: its line, its machine's side, and its counts
@@ -34,11 +28,13 @@ GateOf = ℕ → Bool → Type 0
 
 -- A turn of a machine that hasn't stopped, once its gate has let it in: a row of its program, with one call over the
 -- line or none. What its motors demand holds of what it has seen.
-pub record TakesTurn {L S Sense Reading Act State : Type 0} (lines : Lines L) (t : Steps S Sense Reading Act) (rig : Rig State Sense Act) (gate : GateOf) (before now : WorkerMoment L S State) : Type 0 where
+pub record TakesTurn {L S Sense Reading Act State : Type 0} (lines : Lines L) (t : Steps S Sense Reading Act)
+    (rig : Rig State Sense Act) (gate : GateOf) (before now : WorkerMoment L S State) : Type 0 where
   pub runs : before.side.stopped ≡ None
   pub let_in : gate before.counts.turns true
   pub asked : TurnCall
-  pub row : ActsAndMoves t rig (now.line ≡ before.line) (λ c r. lines.asks before.line c r now.line) before.side asked now.side
+  pub row : ActsAndMoves t rig (now.line ≡ before.line) (λ c r. lines.asks before.line c r now.line)
+      before.side asked now.side
   pub motor_demands : DemandsHold t rig before.side asked now.side (lines.opening now.line) (lines.seen now.line)
   pub counted : now.counts ≡ counts_with before.counts asked
 
@@ -58,11 +54,13 @@ pub record ComesBy {M : Type 0} (Turn : M → M → Type 0) (first now : M) : Ty
   pub last : last_of first turns ≡ now
 
 -- a worker's turns
-abbrev pub TakesTurns : {L S Sense Reading Act State : Type 0} → Lines L → Steps S Sense Reading Act → Rig State Sense Act → GateOf → WorkerMoment L S State → List (WorkerMoment L S State) → Type 0
+abbrev pub TakesTurns : {L S Sense Reading Act State : Type 0} → Lines L → Steps S Sense Reading Act
+    → Rig State Sense Act → GateOf → WorkerMoment L S State → List (WorkerMoment L S State) → Type 0
 TakesTurns lines t rig gate = AreTaken (TakesTurn lines t rig gate)
 
 -- a worker has gone from one moment to another by turns
-abbrev pub HasCome : {L S Sense Reading Act State : Type 0} → Lines L → Steps S Sense Reading Act → Rig State Sense Act → GateOf → WorkerMoment L S State → WorkerMoment L S State → Type 0
+abbrev pub HasCome : {L S Sense Reading Act State : Type 0} → Lines L → Steps S Sense Reading Act
+    → Rig State Sense Act → GateOf → WorkerMoment L S State → WorkerMoment L S State → Type 0
 HasCome lines t rig gate = ComesBy (TakesTurn lines t rig gate)
 
 -- A machine that hasn't stopped ends fine after all its turns, or earlier if its gate says no. A stopped machine ends
@@ -72,7 +70,9 @@ Ends gate limit None turns s = ((s ≡ Fine) × (turns ≡ limit)) ⊎ ((s ≡ G
 Ends gate limit (Some fault) turns s = (s ≡ status_of (Some fault)) × (turns ≤ limit)
 
 -- a worker has gone from its first moment to its last, and ends with this status
-pub record HasEnded {L S Sense Reading Act State : Type 0} (lines : Lines L) (t : Steps S Sense Reading Act) (rig : Rig State Sense Act) (gate : GateOf) (limit : ℕ) (first last : WorkerMoment L S State) (status : Status) : Type 0 where
+pub record HasEnded {L S Sense Reading Act State : Type 0} (lines : Lines L) (t : Steps S Sense Reading Act)
+    (rig : Rig State Sense Act) (gate : GateOf) (limit : ℕ) (first last : WorkerMoment L S State) (status : Status)
+    : Type 0 where
   pub come : HasCome lines t rig gate first last
   pub ends : Ends gate limit last.side.stopped last.counts.turns status
 
@@ -99,7 +99,9 @@ pub record IsGivenBack (got kept : PassView) (journal : List Entry) : Type 0 whe
 
 -- What a worker gives back after it began at this moment: it has worked up to a last moment, with these counts and this
 -- part. The pass is the one that it got, and the journal has its machine's notes of what this pass has seen.
-pub record IsWorkerResult {S Sense Reading Act State : Type 0} (tries : ℕ) (t : Steps S Sense Reading Act) (rig : Rig State Sense Act) (gate : GateOf) (limit : ℕ) (first : WorkerMoment PassView S State) (kept : PassView) (journal : List Entry) (did : Counts) (status : Status) (stands : State) : Type 0 where
+pub record IsWorkerResult {S Sense Reading Act State : Type 0} (tries : ℕ) (t : Steps S Sense Reading Act)
+    (rig : Rig State Sense Act) (gate : GateOf) (limit : ℕ) (first : WorkerMoment PassView S State) (kept : PassView)
+    (journal : List Entry) (did : Counts) (status : Status) (stands : State) : Type 0 where
   pub last : WorkerMoment PassView S State
   pub worked : HasEnded (passes tries) t rig gate limit first last status
   pub pass : last.line ≡ kept

@@ -36,7 +36,8 @@ impl From<MakeFault> for RunFault {
     ghost use Rattle.cell_interlock.specs.declared.make.MakeFault.{MakeFault};
     ghost use Rattle.cell_workers.specs.declared.fault.RunFault.{RunFault};
 
-    ghost from_gives = { λ fault run. (fault ≡ MakeFault.Tries → run ≡ RunFault.Tries) × (fault ≡ MakeFault.Memory → run ≡ RunFault.Memory) };
+    ghost from_gives = { λ fault run. (fault ≡ MakeFault.Tries → run ≡ RunFault.Tries)
+        × (fault ≡ MakeFault.Memory → run ≡ RunFault.Memory) };
 
     fn from(fault: MakeFault) -> RunFault {
         match fault {

@@ -87,7 +87,8 @@ impl Paces {
 /// turns. Until then it waits. So no machine uses its turns up while another waits for a processor,
 /// and a plate gets round.
 ///
-/// A gate is for one run, or for the rounds of one, one after another. It waits for ever for a machine that has no worker.
+/// A gate is for one run, or for the rounds of one, one after another. It waits for ever for a machine that has no
+/// worker.
 #[derive(Drop)]
 pub struct PacedGate<'r, R: Wait> {
     rt: &'r R,

@@ -79,7 +79,8 @@ where
     requires made { IsMadeFor opening cell }
     requires scales { AreCellScales (cell_scales cell) }
     ensures tries { (result ≡ Err RunFault.Tries) ↔ ((tries < 1) ⊎ (64 < tries)) }
-    ensures work { IfOk result (TellsWork (cell_scales cell) (cell_gauges cell) opening tries turns (G.may_answer gate.now)) }
+    ensures work { IfOk result (TellsWork (cell_scales cell) (cell_gauges cell) opening tries turns
+        (G.may_answer gate.now)) }
     ensures none_refused { IfOk result NoneRefused }
 {
     let workers = PerMachine {
@@ -99,8 +100,10 @@ where
 // The record of a run, by that of its six workers.
 fn run_record_of(six: CellRecord) -> RunRecord
     ensures start { result.start ≡ six.start }
-    ensures counts { result.counts ≡ six.outcomes.feed.counts ∷ six.outcomes.table.counts ∷ six.outcomes.robot.counts ∷ six.outcomes.press.counts ∷ six.outcomes.deposit.counts ∷ six.outcomes.crane.counts ∷ no_counts ∷ [] }
-    ensures status { result.status ≡ six.outcomes.feed.status ∷ six.outcomes.table.status ∷ six.outcomes.robot.status ∷ six.outcomes.press.status ∷ six.outcomes.deposit.status ∷ six.outcomes.crane.status ∷ Status.Fine ∷ [] }
+    ensures counts { result.counts ≡ six.outcomes.feed.counts ∷ six.outcomes.table.counts ∷ six.outcomes.robot.counts
+        ∷ six.outcomes.press.counts ∷ six.outcomes.deposit.counts ∷ six.outcomes.crane.counts ∷ no_counts ∷ [] }
+    ensures status { result.status ≡ six.outcomes.feed.status ∷ six.outcomes.table.status ∷ six.outcomes.robot.status
+        ∷ six.outcomes.press.status ∷ six.outcomes.deposit.status ∷ six.outcomes.crane.status ∷ Status.Fine ∷ [] }
     ensures journals { result.journals ≡ six.journals }
     ensures end { result.end ≡ Some six.end }
     ensures axes { result.axes ≡ positions_in (parts_in six.outcomes) }
@@ -117,7 +120,8 @@ fn run_record_of(six: CellRecord) -> RunRecord
 
 // The counts of each machine, in the order of `Machine::ALL`.
 fn counts_of(each: &CellOutcomes) -> [Counts; 7]
-    ensures { result ≡ each.now.feed.counts ∷ each.now.table.counts ∷ each.now.robot.counts ∷ each.now.press.counts ∷ each.now.deposit.counts ∷ each.now.crane.counts ∷ no_counts ∷ [] }
+    ensures { result ≡ each.now.feed.counts ∷ each.now.table.counts ∷ each.now.robot.counts ∷ each.now.press.counts
+        ∷ each.now.deposit.counts ∷ each.now.crane.counts ∷ no_counts ∷ [] }
 {
     [
         each.feed.counts,
@@ -132,7 +136,8 @@ fn counts_of(each: &CellOutcomes) -> [Counts; 7]
 
 // The status of each machine, in the same order.
 fn status_of(each: &CellOutcomes) -> [Status; 7]
-    ensures { result ≡ each.now.feed.status ∷ each.now.table.status ∷ each.now.robot.status ∷ each.now.press.status ∷ each.now.deposit.status ∷ each.now.crane.status ∷ Status.Fine ∷ [] }
+    ensures { result ≡ each.now.feed.status ∷ each.now.table.status ∷ each.now.robot.status ∷ each.now.press.status
+        ∷ each.now.deposit.status ∷ each.now.crane.status ∷ Status.Fine ∷ [] }
 {
     [
         each.feed.status,

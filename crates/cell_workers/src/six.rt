@@ -73,9 +73,11 @@ where
     W5::Outcome: Send,
     W6::Outcome: Send,
     G: Gate + Sync,
-    requires ready { AreReadyAt W1.is_ready W2.is_ready W3.is_ready W4.is_ready W5.is_ready W6.is_ready opening workers }
+    requires ready { AreReadyAt W1.is_ready W2.is_ready W3.is_ready W4.is_ready W5.is_ready W6.is_ready opening
+        workers }
     ensures tries { (result ≡ Err RunFault.Tries) ↔ ((tries < 1) ⊎ (64 < tries)) }
-    ensures work { IfOk result (TellsSix W1.gives_back W2.gives_back W3.gives_back W4.gives_back W5.gives_back W6.gives_back workers opening tries turns (G.may_answer gate.now)) }
+    ensures work { IfOk result (TellsSix W1.gives_back W2.gives_back W3.gives_back W4.gives_back W5.gives_back
+        W6.gives_back workers opening tries turns (G.may_answer gate.now)) }
 {
     match run_watched(rt, alloc, workers, NoWatch, opening, tries, turns, gate) {
         Ok((record, _)) => Ok(record),
@@ -185,8 +187,11 @@ where
     H: Watching,
     G: Gate + Sync,
     requires fresh { AreFresh context.now.interlock.now passes }
-    requires ready { AreReady W1.is_ready W2.is_ready W3.is_ready W4.is_ready W5.is_ready W6.is_ready workers (six_fresh context.now.interlock.now) }
-    ensures worked { IfSome result (λ back. GiveBack W1.gives_back W2.gives_back W3.gives_back W4.gives_back W5.gives_back W6.gives_back workers (six_fresh context.now.interlock.now) context.now.interlock.now.tries (G.may_answer context.now.gate.now) context.now.turns back.0) }
+    requires ready { AreReady W1.is_ready W2.is_ready W3.is_ready W4.is_ready W5.is_ready W6.is_ready workers
+        (six_fresh context.now.interlock.now) }
+    ensures worked { IfSome result (λ back. GiveBack W1.gives_back W2.gives_back W3.gives_back W4.gives_back
+        W5.gives_back W6.gives_back workers (six_fresh context.now.interlock.now) context.now.interlock.now.tries
+        (G.may_answer context.now.gate.now) context.now.turns back.0) }
     ensures watched { IfSome result (λ back. HasWatched H.watches context.now.interlock.now.tries watch
         (fresh_pass context.now.interlock.now Watch) back.1) }
 {

@@ -36,7 +36,8 @@ pub(crate) struct WorkerPromise<W, G> {
 impl<W: Worker, G: Gate> Promise<WorkerResult<W::Outcome>> for WorkerPromise<W, G> {
     ghost use Rattle.cell_workers.specs.Promises.{GivesBack};
 
-    ghost kept_by = { λ p r. GivesBack W.gives_back p.worker.value p.pass.value p.interlock.value.tries (G.may_answer p.gate.value p.pass.value.machine) p.turns r };
+    ghost kept_by = { λ p r. GivesBack W.gives_back p.worker.value p.pass.value p.interlock.value.tries
+        (G.may_answer p.gate.value p.pass.value.machine) p.turns r };
 }
 
 /// Starts a worker, unless an earlier one couldn't be started. A gate is told of each machine that has
@@ -59,7 +60,8 @@ where
     ensures failed { result ≡ None → all_run.new ≡ false }
     ensures goes_on { IfSome result (λ h. all_run.new ≡ true) }
     ensures none_after { all_run.old ≡ false → result ≡ None }
-    ensures promised { IfSome result (λ h. IsPromised context.now.interlock.now context.now.gate.now context.now.turns pass worker h.promise) }
+    ensures promised { IfSome result (λ h. IsPromised context.now.interlock.now context.now.gate.now context.now.turns
+        pass worker h.promise) }
 {
     let WorkerContext {
         alloc,

@@ -30,8 +30,11 @@ pub(crate) fn take_turns<P: Program, B: Part<Sense = P::Sense, Act = P::Act>, L:
 ) -> Ending
     requires own { L.machine line.old ≡ (unit_table P.steps unit.old).machine }
     requires ready { UnitIsReady P.steps unit.old (L.opening line.old) (L.seen line.old) }
-    ensures ended { HasEnded (record { opening = L.opening; seen = L.seen; asks = L.asks }) (unit_table P.steps unit.old) (unit_rig B.rig B.make unit.old) (G.may_answer gate.now (L.machine line.old)) turns
-        (worker_moment line.old (unit_side B.state unit.old) no_counts) (worker_moment line.new (unit_side B.state unit.new) result.counts) result.status }
+    ensures ended { HasEnded (record { opening = L.opening; seen = L.seen; asks = L.asks })
+        (unit_table P.steps unit.old) (unit_rig B.rig B.make unit.old)
+        (G.may_answer gate.now (L.machine line.old)) turns
+        (worker_moment line.old (unit_side B.state unit.old) no_counts)
+        (worker_moment line.new (unit_side B.state unit.new) result.counts) result.status }
     ensures own { L.machine line.new ≡ L.machine line.old }
 {
     let machine = line.machine();

@@ -75,8 +75,13 @@ where
                 WorkerResult<H>,
             ),
         >
-            requires { AreAllFresh context.now.interlock.now passes × AreReady W1.is_ready W2.is_ready W3.is_ready W4.is_ready W5.is_ready W6.is_ready workers passes × IsFresh context.now.interlock.now Watch pass }
-            ensures { IfSome result (λ back. GiveBack W1.gives_back W2.gives_back W3.gives_back W4.gives_back W5.gives_back W6.gives_back workers passes context.entry.now.interlock.now.tries (G.may_answer context.entry.now.gate.now) context.entry.now.turns back.0 × HasWatched H.watches context.entry.now.interlock.now.tries watch pass back.1) }
+            requires { AreAllFresh context.now.interlock.now passes
+                × AreReady W1.is_ready W2.is_ready W3.is_ready W4.is_ready W5.is_ready W6.is_ready workers passes
+                × IsFresh context.now.interlock.now Watch pass }
+            ensures { IfSome result (λ back. GiveBack W1.gives_back W2.gives_back W3.gives_back W4.gives_back
+                W5.gives_back W6.gives_back workers passes context.entry.now.interlock.now.tries
+                (G.may_answer context.entry.now.gate.now) context.entry.now.turns back.0
+                × HasWatched H.watches context.entry.now.interlock.now.tries watch pass back.1) }
         {
             let started = start_six(scope, context, passes, workers);
             let watched = watch.watch(context.alloc, context.interlock, pass);
@@ -116,7 +121,8 @@ where
     G: Gate + Sync,
     requires fresh { AreAllFresh context.now.interlock.now passes }
     requires ready { AreReady W1.is_ready W2.is_ready W3.is_ready W4.is_ready W5.is_ready W6.is_ready workers passes }
-    ensures promised { ArePromised context.now.interlock.now context.now.gate.now context.now.turns passes workers result }
+    ensures promised { ArePromised context.now.interlock.now context.now.gate.now context.now.turns passes workers
+        result }
     ensures in_turn { AreStartedInTurn result }
 {
     let mut all_run = true;
@@ -161,7 +167,8 @@ where
     W5: Worker,
     W6: Worker,
     G: Gate,
-    ensures { IfSome result (AreKept W1.gives_back W2.gives_back W3.gives_back W4.gives_back W5.gives_back W6.gives_back G.may_answer started) }
+    ensures { IfSome result (AreKept W1.gives_back W2.gives_back W3.gives_back W4.gives_back W5.gives_back
+        W6.gives_back G.may_answer started) }
 {
     all_six(PerMachine {
         feed: join(rt, started.feed),

@@ -227,7 +227,11 @@ fn turn_by_line<'a, P: Program>(
     ensures row { Turns (P.steps wired.old.program) (wired.new.line.pass ≡ wired.old.line.pass)
         (λ c r. PassAsks wired.old.line.tries wired.old.line.pass c r wired.new.line.pass)
         wired.old.stopped wired.old.progress sense.now
-        (record { result = answered result.act result.fault; progress = wired.new.progress; stopped = wired.new.stopped }) }
+        (record {
+          result = answered result.act result.fault;
+          progress = wired.new.progress;
+          stopped = wired.new.stopped;
+        }) }
     ensures rest { result.fault ≢ None
         → result.act ≡ (P.steps wired.old.program).rest wired.old.progress }
     ensures motor_demands { result.fault ≡ None → (P.steps wired.old.program).motor_demands

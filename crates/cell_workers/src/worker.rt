@@ -56,10 +56,13 @@ impl<P: Program, B: Part<Sense = P::Sense, Act = P::Act>> Worker for MachineUnit
 
     type Outcome = UnitOutcome<B>;
 
-    ghost is_ready = { λ unit pass. (pass.machine ≡ (unit_table P.steps unit).machine) × UnitIsReady P.steps unit pass.opening pass.seen };
+    ghost is_ready = { λ unit pass. (pass.machine ≡ (unit_table P.steps unit).machine)
+        × UnitIsReady P.steps unit pass.opening pass.seen };
 
-    ghost gives_back = { λ unit pass tries gate limit r. IsWorkerResult tries (unit_table P.steps unit) (unit_rig B.rig B.make unit) gate limit
-        (worker_moment pass (unit_side B.state unit) no_counts) r.pass r.journal.items r.outcome.counts r.outcome.status (B.state r.outcome.part) };
+    ghost gives_back = { λ unit pass tries gate limit r. IsWorkerResult tries (unit_table P.steps unit)
+        (unit_rig B.rig B.make unit) gate limit
+        (worker_moment pass (unit_side B.state unit) no_counts) r.pass r.journal.items r.outcome.counts
+        r.outcome.status (B.state r.outcome.part) };
 
     fn take_turns<G: Gate>(
         self,

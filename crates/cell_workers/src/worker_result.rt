@@ -48,8 +48,10 @@ pub(crate) fn take_turns_by_pass<P: Program, B: Part<Sense = P::Sense, Act = P::
     requires fresh { pass.seen ≡ [] }
     requires own { pass.machine ≡ (unit_table P.steps unit).machine }
     requires ready { UnitIsReady P.steps unit pass.opening pass.seen }
-    ensures { IsWorkerResult interlock.now.tries (unit_table P.steps unit) (unit_rig B.rig B.make unit) (G.may_answer gate.now pass.machine) turns
-        (worker_moment pass (unit_side B.state unit) no_counts) result.pass result.journal.items result.outcome.counts result.outcome.status (B.state result.outcome.part) }
+    ensures { IsWorkerResult interlock.now.tries (unit_table P.steps unit) (unit_rig B.rig B.make unit)
+        (G.may_answer gate.now pass.machine) turns
+        (worker_moment pass (unit_side B.state unit) no_counts) result.pass result.journal.items result.outcome.counts
+        result.outcome.status (B.state result.outcome.part) }
 {
     let mut unit = unit;
     let mut line = PassLine::new(alloc, interlock, pass);

@@ -1,5 +1,6 @@
 -- The rules of a plan owe what an interlock on a word asks of rules.
-use Rattle.std.proofs.Common.{◌≡◌, ℕ, zero, suc, ◌+◌, ◌<◌, ◌≤◌, min, Bool, true, false, nat_eq, if◌then◌else◌, List, [], ◌∷◌, ◌++◌, refl, ap, arith}
+use Rattle.std.proofs.Common.{◌≡◌, ℕ, zero, suc, ◌+◌, ◌<◌, ◌≤◌, min, Bool, true, false, nat_eq, if◌then◌else◌, List}
+use Rattle.std.proofs.Common.{[], ◌∷◌, ◌++◌, refl, ap, arith}
 use Rattle.std.proofs.lemmas.Bool.Decides.{nat_tests}
 use Rattle.std.specs.List.{range_with_len}
 use Rattle.plan_types.specs.declared.call.Call.{Call}
@@ -13,12 +14,14 @@ use Rattle.plan_word.proofs.Staying.{next_stays}
 use Rattle.word_interlock.specs.RuleBook.{IsRuleBook, times}
 use Rattle.plan_interlock.specs.Book.{plan_book}
 
-quiet_by : (a : Answer) (t : PlanTable) (s : State) (m : ℕ) (c : Call) → is_done_answer a ≡ false → next_by a t s m c ≡ s
+quiet_by : (a : Answer) (t : PlanTable) (s : State) (m : ℕ) (c : Call) → is_done_answer a ≡ false
+    → next_by a t s m c ≡ s
 quiet_by Done t s m c e = cc
 quiet_by (Shown o f p) t s m c e = refl
 quiet_by (Refused r) t s m c e = refl
 
-counts_by : (a : Answer) (t : PlanTable) (s : State) (m : ℕ) (c : Call) → is_done_answer a ≡ true → (next_by a t s m c).stamp ≡ s.stamp + 1
+counts_by : (a : Answer) (t : PlanTable) (s : State) (m : ℕ) (c : Call) → is_done_answer a ≡ true
+    → (next_by a t s m c).stamp ≡ s.stamp + 1
 counts_by Done t s m c e = refl
 counts_by (Shown o f p) t s m c e = cc
 counts_by (Refused r) t s m c e = cc
@@ -41,28 +44,32 @@ below-range : (m a n : ℕ) → m < a → times nat_eq m (range_with_len a n) �
 below-range m a zero less = refl
 below-range m a (suc n) less =
     let rest = below-range m (a + 1) n (omega (arith, less)) in
-    let head = ap (λ (b : Bool). (if b then 1 else 0) + times nat_eq m (range_with_len (a + 1) n)) (other_number m a less).0 in
+    let head = ap (λ (b : Bool). (if b then 1 else 0) + times nat_eq m (range_with_len (a + 1) n))
+    (other_number m a less).0 in
     omega (arith, head, rest)
 
 past-range : (m a n : ℕ) → a + n ≤ m → times nat_eq m (range_with_len a n) ≡ 0
 past-range m a zero past = refl
 past-range m a (suc n) past =
     let rest = past-range m (a + 1) n (omega (arith, past)) in
-    let head = ap (λ (b : Bool). (if b then 1 else 0) + times nat_eq m (range_with_len (a + 1) n)) (other_number a m (omega (arith, past))).1 in
+    let head = ap (λ (b : Bool). (if b then 1 else 0) + times nat_eq m (range_with_len (a + 1) n))
+    (other_number a m (omega (arith, past))).1 in
     omega (arith, head, rest)
 
 once-in-range : (m a n : ℕ) → times nat_eq m (range_with_len a n) ≤ 1
 once-in-range m a zero = omega arith
 once-in-range m a (suc n) = go (nat_eq a m) refl (once-in-range m (a + 1) n)
   where
-    go : (b : Bool) → nat_eq a m ≡ b → times nat_eq m (range_with_len (a + 1) n) ≤ 1 → (if b then 1 else 0) + times nat_eq m (range_with_len (a + 1) n) ≤ 1
+    go : (b : Bool) → nat_eq a m ≡ b → times nat_eq m (range_with_len (a + 1) n) ≤ 1
+        → (if b then 1 else 0) + times nat_eq m (range_with_len (a + 1) n) ≤ 1
     go true e rest = omega (arith, below-range m (a + 1) n (omega (arith, one_number a m e)))
     go false e rest = omega (arith, rest)
 
 once-among : (m n : ℕ) → n ≤ 15 → times nat_eq m (range_with_len 0 n ++ watch ∷ []) ≤ 1
 once-among m n few = go (nat_eq 15 m) refl
   where
-    both : times nat_eq m (range_with_len 0 n ++ watch ∷ []) ≡ times nat_eq m (range_with_len 0 n) + times nat_eq m (watch ∷ [])
+    both : times nat_eq m (range_with_len 0 n ++ watch ∷ [])
+        ≡ times nat_eq m (range_with_len 0 n) + times nat_eq m (watch ∷ [])
     both = times-append m (range_with_len 0 n) (watch ∷ [])
 
     go : (b : Bool) → nat_eq 15 m ≡ b → times nat_eq m (range_with_len 0 n ++ watch ∷ []) ≤ 1

@@ -1,13 +1,7 @@
 -- What ram and loader ask, as texts and as calls, and the words of the replies.
 use Rattle.std.specs.Prelude.{ℕ, List, codes}
-use Rattle.cell_types.specs.declared.call.Call.{Call}
-use Rattle.cell_types.specs.declared.call.Call.TheVariants.{Claim, Release, SetPose}
-use Rattle.cell_types.specs.declared.zone.Zone.TheVariants.{Z3}
-use Rattle.cell_types.specs.declared.pose.Pose.TheVariants.{Travelling, Middle}
-use Rattle.cell_types.specs.declared.reply.Reply.{Reply}
-use Rattle.cell_types.specs.declared.reply.Reply.TheVariants.{Settled, Busy}
-use Rattle.cell_types.specs.declared.answer.Answer.TheVariants.{Done, Refused}
-use Rattle.cell_types.specs.declared.answer.Refusal.TheVariants.{Held, Shut}
+use Rattle.cell_rules.specs.Types.{Call, Claim, Release, SetPose, Z3, Travelling, Middle, Reply, Settled, Busy, Done}
+use Rattle.cell_rules.specs.Types.{Refused, Held, Shut}
 use Rattle.two_by_hand.specs.declared.requests.Party.{Party}
 use Rattle.two_by_hand.specs.declared.requests.Party.TheVariants.{Ram, Loader}
 use Rattle.two_by_hand.specs.declared.requests.Request.{Request}

@@ -51,11 +51,18 @@ impl Model for RobotPart {
     ghost Value = { Scaled RobotPlant RobotScales };
 
     ghost view = { λ r. record {
-      plant = record { arm1 = r.arm1.axis; arm2 = r.arm2.axis; rotation = r.rotation.axis; magnet1 = r.magnet1; magnet2 = r.magnet2 };
+      plant = record {
+        arm1 = r.arm1.axis;
+        arm2 = r.arm2.axis;
+        rotation = r.rotation.axis;
+        magnet1 = r.magnet1;
+        magnet2 = r.magnet2;
+      };
       scale = record { arm1 = r.arm1.points; arm2 = r.arm2.points; rotation = r.rotation.points };
     } };
 
-    ghost invariant = { λ r. IsWithin arm_end r.arm1.axis.position × (IsWithin arm_end r.arm2.axis.position × IsWithin rotation_end r.rotation.axis.position) };
+    ghost invariant = { λ r. IsWithin arm_end r.arm1.axis.position
+        × (IsWithin arm_end r.arm2.axis.position × IsWithin rotation_end r.rotation.axis.position) };
 }
 
 impl RobotPart {

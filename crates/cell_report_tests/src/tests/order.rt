@@ -157,8 +157,10 @@ const YIELD: &[(&str, &str)] = &[
     ),
     // inuse before worn
     (
-        "start,0100000000,1048568\nfeed,claim,z6\ntable,claim,z1\ntable,claim,z2\ntable,pose,turning\ntable,pose,loading\ntable,yield,z1\nfeed,pose,running\nfeed,yield,z1\n",
-        "0 1048568 start 1\n1 1048569 done\n2 1048570 done\n3 1048571 done\n4 1048572 done\n5 1048573 done\n6 1048574 done\n7 1048575 done\n8 1048575 inuse\n",
+        "start,0100000000,1048568\nfeed,claim,z6\ntable,claim,z1\ntable,claim,z2\ntable,pose,turning\ntable,\
+        pose,loading\ntable,yield,z1\nfeed,pose,running\nfeed,yield,z1\n",
+        "0 1048568 start 1\n1 1048569 done\n2 1048570 done\n3 1048571 done\n4 1048572 done\n5 1048573 done\n\
+        6 1048574 done\n7 1048575 done\n8 1048575 inuse\n",
     ),
 ];
 
@@ -240,8 +242,10 @@ const RELEASE: &[(&str, &str)] = &[
     ),
     // inuse before worn
     (
-        "start,0100000000,1048568\nfeed,claim,z6\ntable,claim,z1\ntable,claim,z2\ntable,pose,turning\ntable,pose,loading\ntable,yield,z1\nfeed,pose,running\nfeed,release,z1\n",
-        "0 1048568 start 1\n1 1048569 done\n2 1048570 done\n3 1048571 done\n4 1048572 done\n5 1048573 done\n6 1048574 done\n7 1048575 done\n8 1048575 inuse\n",
+        "start,0100000000,1048568\nfeed,claim,z6\ntable,claim,z1\ntable,claim,z2\ntable,pose,turning\ntable,\
+        pose,loading\ntable,yield,z1\nfeed,pose,running\nfeed,release,z1\n",
+        "0 1048568 start 1\n1 1048569 done\n2 1048570 done\n3 1048571 done\n4 1048572 done\n5 1048573 done\n\
+        6 1048574 done\n7 1048575 done\n8 1048575 inuse\n",
     ),
 ];
 
@@ -309,7 +313,8 @@ const POSE: &[(&str, &str)] = &[
     ),
     // nopose before platein
     (
-        "start,0010000000\ntable,claim,z1\ntable,claim,z2\ntable,pose,turning\ntable,pose,unloading\ntable,give,z2\ntable,pose,running\n",
+        "start,0010000000\ntable,claim,z1\ntable,claim,z2\ntable,pose,turning\ntable,pose,unloading\ntable,\
+        give,z2\ntable,pose,running\n",
         "0 0 start 1\n1 1 done\n2 2 done\n3 3 done\n4 4 done\n5 5 done\n6 5 nopose\n",
     ),
     // nopose before worn
@@ -329,7 +334,8 @@ const POSE: &[(&str, &str)] = &[
     ),
     // notowner before platein
     (
-        "start,0010000000\ntable,claim,z1\ntable,claim,z2\ntable,pose,turning\ntable,pose,unloading\ntable,give,z2\ntable,pose,loading\n",
+        "start,0010000000\ntable,claim,z1\ntable,claim,z2\ntable,pose,turning\ntable,pose,unloading\ntable,\
+        give,z2\ntable,pose,loading\n",
         "0 0 start 1\n1 1 done\n2 2 done\n3 3 done\n4 4 done\n5 5 done\n6 5 notowner robot\n",
     ),
     // notowner before worn
@@ -339,12 +345,14 @@ const POSE: &[(&str, &str)] = &[
     ),
     // notowner feed before notowner free
     (
-        "start,0000000000\ntable,claim,z1\ntable,claim,z2\ntable,pose,turning\ntable,pose,loading\ntable,yield,z1\ntable,release,z2\ntable,pose,turning\n",
+        "start,0000000000\ntable,claim,z1\ntable,claim,z2\ntable,pose,turning\ntable,pose,loading\ntable,\
+        yield,z1\ntable,release,z2\ntable,pose,turning\n",
         "0 0 start 0\n1 1 done\n2 2 done\n3 3 done\n4 4 done\n5 5 done\n6 6 done\n7 6 notowner feed\n",
     ),
     // notowner free before notowner robot
     (
-        "start,0000000000\ntable,claim,z1\ntable,claim,z2\ntable,pose,turning\ntable,pose,unloading\ntable,release,z1\ntable,yield,z2\ntable,pose,loading\n",
+        "start,0000000000\ntable,claim,z1\ntable,claim,z2\ntable,pose,turning\ntable,pose,unloading\ntable,\
+        release,z1\ntable,yield,z2\ntable,pose,loading\n",
         "0 0 start 0\n1 1 done\n2 2 done\n3 3 done\n4 4 done\n5 5 done\n6 6 done\n7 6 notowner free\n",
     ),
     // placefull before worn
@@ -354,13 +362,16 @@ const POSE: &[(&str, &str)] = &[
     ),
     // platein before jump
     (
-        "start,0100000000\ntable,claim,z1\ntable,claim,z2\ntable,pose,turning\ntable,pose,loading\ntable,yield,z1\nfeed,give,z1\ntable,pose,unloading\n",
+        "start,0100000000\ntable,claim,z1\ntable,claim,z2\ntable,pose,turning\ntable,pose,loading\ntable,\
+        yield,z1\nfeed,give,z1\ntable,pose,unloading\n",
         "0 0 start 1\n1 1 done\n2 2 done\n3 3 done\n4 4 done\n5 5 done\n6 6 done\n7 6 platein z1\n",
     ),
     // platein before worn
     (
-        "start,0100000000,1048569\ntable,claim,z1\ntable,claim,z2\ntable,pose,turning\ntable,pose,loading\ntable,yield,z1\nfeed,give,z1\ntable,pose,turning\n",
-        "0 1048569 start 1\n1 1048570 done\n2 1048571 done\n3 1048572 done\n4 1048573 done\n5 1048574 done\n6 1048575 done\n7 1048575 platein z1\n",
+        "start,0100000000,1048569\ntable,claim,z1\ntable,claim,z2\ntable,pose,turning\ntable,pose,loading\n\
+        table,yield,z1\nfeed,give,z1\ntable,pose,turning\n",
+        "0 1048569 start 1\n1 1048570 done\n2 1048571 done\n3 1048572 done\n4 1048573 done\n5 1048574 done\n\
+        6 1048575 done\n7 1048575 platein z1\n",
     ),
     // nopose before worn
     (
@@ -379,7 +390,8 @@ const POSE: &[(&str, &str)] = &[
     ),
     // platein before jump
     (
-        "start,0001000000\npress,claim,z3\npress,pose,travelling\npress,pose,middle\npress,yield,z3\nrobot,give,z3\npress,pose,low\n",
+        "start,0001000000\npress,claim,z3\npress,pose,travelling\npress,pose,middle\npress,yield,z3\nrobot,\
+        give,z3\npress,pose,low\n",
         "0 0 start 1\n1 1 done\n2 2 done\n3 3 done\n4 4 done\n5 5 done\n6 5 platein z3\n",
     ),
     // jump before placefull
@@ -429,8 +441,10 @@ const POSE: &[(&str, &str)] = &[
     ),
     // platein before worn
     (
-        "start,0001000000,1048570\npress,claim,z3\npress,pose,travelling\npress,pose,middle\npress,yield,z3\nrobot,give,z3\npress,pose,low\n",
-        "0 1048570 start 1\n1 1048571 done\n2 1048572 done\n3 1048573 done\n4 1048574 done\n5 1048575 done\n6 1048575 platein z3\n",
+        "start,0001000000,1048570\npress,claim,z3\npress,pose,travelling\npress,pose,middle\npress,yield,z3\n\
+        robot,give,z3\npress,pose,low\n",
+        "0 1048570 start 1\n1 1048571 done\n2 1048572 done\n3 1048573 done\n4 1048574 done\n5 1048575 done\n\
+        6 1048575 platein z3\n",
     ),
     // nopose before notowner
     (
@@ -459,7 +473,8 @@ const POSE: &[(&str, &str)] = &[
     ),
     // platein before worn
     (
-        "start,0000001000,1048571\ndeposit,claim,z4\ndeposit,pose,landing\ndeposit,yield,z4\nrobot,give,z4\ndeposit,pose,halted\n",
+        "start,0000001000,1048571\ndeposit,claim,z4\ndeposit,pose,landing\ndeposit,yield,z4\nrobot,give,z4\n\
+        deposit,pose,halted\n",
         "0 1048571 start 1\n1 1048572 done\n2 1048573 done\n3 1048574 done\n4 1048575 done\n5 1048575 platein z4\n",
     ),
     // placefull before worn
@@ -479,7 +494,8 @@ const POSE: &[(&str, &str)] = &[
     ),
     // notowner robot before notowner crane
     (
-        "start,0000000000\ndeposit,claim,z4\ndeposit,claim,z5\ndeposit,pose,standing\ndeposit,yield,z4\ndeposit,yield,z5\ndeposit,pose,halted\n",
+        "start,0000000000\ndeposit,claim,z4\ndeposit,claim,z5\ndeposit,pose,standing\ndeposit,yield,z4\n\
+        deposit,yield,z5\ndeposit,pose,halted\n",
         "0 0 start 0\n1 1 done\n2 2 done\n3 3 done\n4 4 done\n5 5 done\n6 5 notowner robot\n",
     ),
     // notowner robot before notowner free
@@ -489,12 +505,14 @@ const POSE: &[(&str, &str)] = &[
     ),
     // platein before placefull
     (
-        "start,0000001010\ndeposit,claim,z4\ndeposit,claim,z5\ndeposit,pose,landing\ndeposit,yield,z4\nrobot,give,z4\ndeposit,pose,running\n",
+        "start,0000001010\ndeposit,claim,z4\ndeposit,claim,z5\ndeposit,pose,landing\ndeposit,yield,z4\nrobot,\
+        give,z4\ndeposit,pose,running\n",
         "0 0 start 2\n1 1 done\n2 2 done\n3 3 done\n4 4 done\n5 5 done\n6 5 platein z4\n",
     ),
     // notowner before platein z4, notowner before platein z5
     (
-        "start,0000001010\ndeposit,claim,z4\ndeposit,claim,z5\ndeposit,pose,standing\ndeposit,yield,z4\nrobot,give,z4\ndeposit,give,z5\ndeposit,pose,halted\n",
+        "start,0000001010\ndeposit,claim,z4\ndeposit,claim,z5\ndeposit,pose,standing\ndeposit,yield,z4\n\
+        robot,give,z4\ndeposit,give,z5\ndeposit,pose,halted\n",
         "0 0 start 2\n1 1 done\n2 2 done\n3 3 done\n4 4 done\n5 5 done\n6 6 done\n7 6 notowner crane\n",
     ),
     // nopose before worn
@@ -513,12 +531,15 @@ const POSE: &[(&str, &str)] = &[
 const ADVANCE: &[(&str, &str)] = &[
     // placefull before worn
     (
-        "start,1100000000,1048568\nfeed,claim,z6\ntable,claim,z1\ntable,claim,z2\ntable,pose,turning\ntable,pose,loading\ntable,yield,z1\nfeed,pose,running\nfeed,advance\n",
-        "0 1048568 start 2\n1 1048569 done\n2 1048570 done\n3 1048571 done\n4 1048572 done\n5 1048573 done\n6 1048574 done\n7 1048575 done\n8 1048575 placefull\n",
+        "start,1100000000,1048568\nfeed,claim,z6\ntable,claim,z1\ntable,claim,z2\ntable,pose,turning\ntable,\
+        pose,loading\ntable,yield,z1\nfeed,pose,running\nfeed,advance\n",
+        "0 1048568 start 2\n1 1048569 done\n2 1048570 done\n3 1048571 done\n4 1048572 done\n5 1048573 done\n\
+        6 1048574 done\n7 1048575 done\n8 1048575 placefull\n",
     ),
     // noplate before placefull
     (
-        "start,0100000000\nfeed,claim,z6\ntable,claim,z1\ntable,claim,z2\ntable,pose,turning\ntable,pose,loading\ntable,yield,z1\nfeed,pose,running\nfeed,advance\n",
+        "start,0100000000\nfeed,claim,z6\ntable,claim,z1\ntable,claim,z2\ntable,pose,turning\ntable,pose,\
+        loading\ntable,yield,z1\nfeed,pose,running\nfeed,advance\n",
         "0 0 start 1\n1 1 done\n2 2 done\n3 3 done\n4 4 done\n5 5 done\n6 6 done\n7 7 done\n8 7 noplate\n",
     ),
     // noplate before worn

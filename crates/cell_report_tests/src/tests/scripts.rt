@@ -17,7 +17,8 @@ const ANSWERED: &[(&str, &str)] = &[
     ),
     // A machine that moves needs its zone.
     (
-        "start,0000000000\npress,claim,z3\npress,pose,travelling\npress,pose,middle\npress,release,z3\nrobot,claim,z3\npress,pose,travelling\n",
+        "start,0000000000\npress,claim,z3\npress,pose,travelling\npress,pose,middle\npress,release,z3\nrobot,\
+        claim,z3\npress,pose,travelling\n",
         "0 0 start 0\n1 1 done\n2 2 done\n3 3 done\n4 4 done\n5 5 done\n6 5 notowner robot\n",
     ),
     // The table can't jump.
@@ -47,40 +48,53 @@ const ANSWERED: &[(&str, &str)] = &[
     ),
     // A plate comes to the table.
     (
-        "start,0100000000\ntable,claim,z1\ntable,claim,z2\ntable,pose,turning\ntable,pose,loading\ntable,release,z1\nfeed,claim,z1\nfeed,give,z1\ntable,take,z1\n",
+        "start,0100000000\ntable,claim,z1\ntable,claim,z2\ntable,pose,turning\ntable,pose,loading\ntable,\
+        release,z1\nfeed,claim,z1\nfeed,give,z1\ntable,take,z1\n",
         "0 0 start 1\n1 1 done\n2 2 done\n3 3 done\n4 4 done\n5 5 done\n6 6 done\n7 7 done\n8 8 done\n",
     ),
     // It is taken once.
     (
-        "start,0100000000\ntable,claim,z1\ntable,claim,z2\ntable,pose,turning\ntable,pose,loading\ntable,release,z1\nfeed,claim,z1\nfeed,give,z1\ntable,take,z1\ntable,take,z1\n",
+        "start,0100000000\ntable,claim,z1\ntable,claim,z2\ntable,pose,turning\ntable,pose,loading\ntable,\
+        release,z1\nfeed,claim,z1\nfeed,give,z1\ntable,take,z1\ntable,take,z1\n",
         "0 0 start 1\n1 1 done\n2 2 done\n3 3 done\n4 4 done\n5 5 done\n6 6 done\n7 7 done\n8 8 done\n9 8 noplate\n",
     ),
     // The table waits for it.
     (
-        "start,0100000000\ntable,claim,z1\ntable,claim,z2\ntable,pose,turning\ntable,pose,loading\ntable,release,z1\nfeed,claim,z1\nfeed,give,z1\ntable,pose,turning\n",
+        "start,0100000000\ntable,claim,z1\ntable,claim,z2\ntable,pose,turning\ntable,pose,loading\ntable,\
+        release,z1\nfeed,claim,z1\nfeed,give,z1\ntable,pose,turning\n",
         "0 0 start 1\n1 1 done\n2 2 done\n3 3 done\n4 4 done\n5 5 done\n6 6 done\n7 7 done\n8 7 platein z1\n",
     ),
     // A belt that runs with a plate at its end keeps z1 in use.
     (
-        "start,0100000000\ntable,claim,z1\ntable,claim,z2\ntable,pose,turning\ntable,pose,loading\ntable,release,z1\nfeed,claim,z1\nfeed,claim,z6\nfeed,pose,running\nfeed,release,z1\nfeed,pose,halted\nfeed,yield,z1\nwatch,inquire,z1\n",
-        "0 0 start 1\n1 1 done\n2 2 done\n3 3 done\n4 4 done\n5 5 done\n6 6 done\n7 7 done\n8 8 done\n9 8 inuse\n10 9 done\n11 10 done\n12 10 zone table 0 openin\n",
+        "start,0100000000\ntable,claim,z1\ntable,claim,z2\ntable,pose,turning\ntable,pose,loading\ntable,\
+        release,z1\nfeed,claim,z1\nfeed,claim,z6\nfeed,pose,running\nfeed,release,z1\nfeed,pose,halted\nfeed,\
+        yield,z1\nwatch,inquire,z1\n",
+        "0 0 start 1\n1 1 done\n2 2 done\n3 3 done\n4 4 done\n5 5 done\n6 6 done\n7 7 done\n8 8 done\n9 8 \
+        inuse\n10 9 done\n11 10 done\n12 10 zone table 0 openin\n",
     ),
     // A plate goes round.
     (ROUND, ROUND_TEXT),
     // The watch stops the cell and resumes it.
     (
-        "start2,0000000000\npress,claim,z3\nwatch,stop\npress,pose,travelling\nrobot,claim,z1\npress,release,z3\nwatch,stop\npress,resume\nwatch,resume\nwatch,resume\n",
-        "0 0 start2 0\n1 1 done\n2 2 done\n3 2 stopped\n4 2 notparty\n5 3 done\n6 3 stopped\n7 3 notparty\n8 4 done\n9 4 notstopped\n",
+        "start2,0000000000\npress,claim,z3\nwatch,stop\npress,pose,travelling\nrobot,claim,z1\npress,release,\
+        z3\nwatch,stop\npress,resume\nwatch,resume\nwatch,resume\n",
+        "0 0 start2 0\n1 1 done\n2 2 done\n3 2 stopped\n4 2 notparty\n5 3 done\n6 3 stopped\n7 3 notparty\n8 \
+        4 done\n9 4 notstopped\n",
     ),
     // A stopped press comes to rest. Then it doesn't move again, and no other machine may claim.
     (
-        "start2,0000000000\npress,claim,z3\npress,pose,travelling\nwatch,stop\npress,pose,middle\npress,pose,travelling\npress,release,z3\nrobot,claim,z3\nwatch,resume\nrobot,claim,z3\n",
-        "0 0 start2 0\n1 1 done\n2 2 done\n3 3 done\n4 4 done\n5 4 stopped\n6 5 done\n7 5 stopped\n8 6 done\n9 7 done\n",
+        "start2,0000000000\npress,claim,z3\npress,pose,travelling\nwatch,stop\npress,pose,middle\npress,pose,\
+        travelling\npress,release,z3\nrobot,claim,z3\nwatch,resume\nrobot,claim,z3\n",
+        "0 0 start2 0\n1 1 done\n2 2 done\n3 3 done\n4 4 done\n5 4 stopped\n6 5 done\n7 5 stopped\n8 6 done\n\
+        9 7 done\n",
     ),
     // A plate that was given before the stop is taken; no further one is given.
     (
-        "start2,0100000000\ntable,claim,z1\ntable,claim,z2\ntable,pose,turning\ntable,pose,loading\ntable,release,z1\nfeed,claim,z1\nfeed,give,z1\nwatch,stop\ntable,take,z1\ntable,give,z2\nwatch,inquire,z1\n",
-        "0 0 start2 1\n1 1 done\n2 2 done\n3 3 done\n4 4 done\n5 5 done\n6 6 done\n7 7 done\n8 8 done\n9 9 done\n10 9 stopped\n11 9 zone table 0 openin\n",
+        "start2,0100000000\ntable,claim,z1\ntable,claim,z2\ntable,pose,turning\ntable,pose,loading\ntable,\
+        release,z1\nfeed,claim,z1\nfeed,give,z1\nwatch,stop\ntable,take,z1\ntable,give,z2\nwatch,inquire,\
+        z1\n",
+        "0 0 start2 1\n1 1 done\n2 2 done\n3 3 done\n4 4 done\n5 5 done\n6 6 done\n7 7 done\n8 8 done\n9 9 \
+        done\n10 9 stopped\n11 9 zone table 0 openin\n",
     ),
     // At the last stamp the watch can't stop the cell; nor can it resume a cell that isn't stopped.
     (
@@ -104,8 +118,10 @@ const REFUSED: &[(&str, &str, Outcome)] = &[
     ),
     // Refusals, and a zone that doesn't exist.
     (
-        "start,0000000000\npress,claim,z3\npress,pose,travelling\npress,pose,middle\npress,give,z3\nrobot,pose,middle\nwatch,claim,z1\npress,claim,z3\nfeed,claim,z7\n",
-        "0 0 start 0\n1 1 done\n2 2 done\n3 3 done\n4 3 wrongway\n5 3 nopose\n6 3 notparty\n7 3 already\nfault badrow 8\n",
+        "start,0000000000\npress,claim,z3\npress,pose,travelling\npress,pose,middle\npress,give,z3\nrobot,\
+        pose,middle\nwatch,claim,z1\npress,claim,z3\nfeed,claim,z7\n",
+        "0 0 start 0\n1 1 done\n2 2 done\n3 3 done\n4 3 wrongway\n5 3 nopose\n6 3 notparty\n7 3 already\n\
+        fault badrow 8\n",
         Outcome::Refused(ScriptFault::BadRow(8)),
     ),
     // A script of the first version doesn't stop the cell.

@@ -1,7 +1,5 @@
 use Rattle.std.proofs.Common.{◌≡◌, ℕ, Result, Ok, Err, IfOk, IsOk, MatchResult, IsErrAnd, refl}
-use Rattle.cell_rules.specs.ModelState.{ModelState}
-use Rattle.cell_rules.specs.PlaceSet.{PlaceSet}
-use Rattle.cell_rules.specs.Start.{IsStart, IsStartState, places_of, start_state}
+use Rattle.cell_rules.specs.Names.{ModelState, PlaceSet, IsStart, IsStartState, places_of, start_state}
 use Rattle.cell_config.proofs.starts.start_of.Goals as goal
 
 -- a start that was made is valid

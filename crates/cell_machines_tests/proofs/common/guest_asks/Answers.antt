@@ -1,7 +1,6 @@
 use Rattle.std.proofs.Common.{ap, sym, subst, ◌∙◌}
 use Rattle.cell_types.specs.Same.{same_machine}
-use Rattle.cell_rules.specs.BenchView.{desk_of}
-use Rattle.cell_rules.specs.History.{own_events}
+use Rattle.cell_rules.specs.Names.{desk_of, own_events}
 use Rattle.cell_control.specs.Steps.{IsReached}
 use Rattle.cell_control.proofs.BenchLemmas.{asks_others, reached_others}
 use Rattle.cell_machines_tests.proofs.common.guest_asks.Goals as goal

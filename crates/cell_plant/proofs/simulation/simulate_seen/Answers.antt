@@ -1,10 +1,7 @@
 use Rattle.std.proofs.Common.{◌≡◌, ◌∙◌, ◌<◌, ◌+◌, [], take, drop, Some, None, Ok, Err, sym, ap, subst, refl, arith}
 use Rattle.std.proofs.lemmas.List.{take_all, take_more, take-append-drop}
 use Rattle.cell_plant.specs.declared.watcher.SeenFault.TheVariants.{Memory, Watcher}
-use Rattle.cell_plant.specs.Cells.{cell_scales, five_gauges}
-use Rattle.cell_plant.specs.Simulations.{given_by}
-use Rattle.cell_plant.specs.Frames.{frame_of}
-use Rattle.cell_plant.specs.Moments.{RunMoment, state_at}
+use Rattle.cell_plant.specs.Names.{cell_scales, five_gauges, given_by, frame_of, RunMoment, state_at}
 use Rattle.cell_plant.proofs.RunSoFar.{room_left, taken-length}
 use Rattle.cell_plant.proofs.Watched.{Watched, starts_watched, goes_on_watched, sees_all, sees_some, some_left}
 use Rattle.cell_plant.proofs.simulation.simulate_seen.Goals as goal

@@ -1,8 +1,6 @@
 use Rattle.std.proofs.Common.{◌≡◌, ℕ, ◌+◌, ◌<◌, List, ◌++◌, map, drop, length, get_or, refl, sym, ap, ◌∙◌, add-one, append_assoc, drop-cons}
 use Rattle.std.specs.List.{concat}
-use Rattle.cell_types.specs.declared.place.Place.{Place}
-use Rattle.cell_types.specs.Answers.{flag_word}
-use Rattle.cell_types.specs.Everything.{all_places}
+use Rattle.cell_rules.specs.Types.{Place, flag_word, all_places}
 use Rattle.cell_rules.specs.ModelState.{is_full}
 use Rattle.cell_report.proofs.report.push_places.Goals as goal
 use Rattle.cell_report.proofs.report.push_places.Goals.{then-is_full, else-is_full}

@@ -1,7 +1,6 @@
 use Rattle.std.proofs.Common.{◌≡◌, ◌++◌, map, drop}
 use Rattle.std.specs.List.{concat}
-use Rattle.cell_types.specs.Answers.{flag_word}
-use Rattle.cell_types.specs.Everything.{all_places}
+use Rattle.cell_rules.specs.Types.{flag_word, all_places}
 use Rattle.cell_rules.specs.ModelState.{is_full}
 use Rattle.cell_report.specs.Report.{places_word}
 use Rattle.cell_report.proofs.report.push_places.Given as goal

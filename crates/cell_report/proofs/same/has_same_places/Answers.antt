@@ -1,7 +1,7 @@
 use Rattle.std.proofs.Common.{◌≡◌, rules, tests}
 use Rattle.std.proofs.lemmas.Iterator.{cases_from_all, YieldsList-from_slice}
 use Rattle.cell_types.specs.declared.place.Place.TheVariants.{Table}
-use Rattle.cell_types.specs.Everything.{all_places}
+use Rattle.cell_rules.specs.Types.{all_places}
 use Rattle.cell_rules.specs.ModelState.{is_full}
 use Rattle.cell_report.proofs.States.{tells_all}
 use Rattle.cell_report.proofs.same.has_same_places.Goals as goal

@@ -1,7 +1,6 @@
 use Rattle.std.proofs.Common.{◌≡◌, rules, tests}
 use Rattle.std.proofs.lemmas.Iterator.{cases_from_all, YieldsList-from_slice}
-use Rattle.cell_types.specs.declared.zone.Zone.TheVariants.{Z1}
-use Rattle.cell_types.specs.Everything.{all_zones}
+use Rattle.cell_rules.specs.Types.{Z1, all_zones}
 use Rattle.cell_rules.specs.ModelState.{zone_at}
 use Rattle.cell_report.proofs.States.{tells_all}
 use Rattle.cell_report.proofs.same.has_same_zones.Goals as goal

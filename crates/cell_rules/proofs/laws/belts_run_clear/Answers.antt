@@ -1,6 +1,5 @@
 use Rattle.std.proofs.Common.{subst}
-use Rattle.cell_rules.specs.Sound.{IsSound}
-use Rattle.cell_rules.specs.Laws.{BeltsRunClear}
+use Rattle.cell_rules.specs.Names.{IsSound, BeltsRunClear}
 use Rattle.cell_rules.proofs.Histories.{throughout}
 use Rattle.cell_rules.proofs.Assembly.{belts_run_clear}
 use Rattle.cell_rules.proofs.laws.belts_run_clear.Goals as goal

@@ -1,6 +1,5 @@
 use Rattle.std.proofs.Common.{subst}
-use Rattle.cell_rules.specs.Sound.{IsSound}
-use Rattle.cell_rules.specs.Laws.{GuestOnlyWhileOpen}
+use Rattle.cell_rules.specs.Names.{IsSound, GuestOnlyWhileOpen}
 use Rattle.cell_rules.proofs.Histories.{throughout}
 use Rattle.cell_rules.proofs.HolderLaws.{guest_only_while_open}
 use Rattle.cell_rules.proofs.laws.guest_only_while_open.Goals as goal

@@ -1,6 +1,5 @@
 use Rattle.std.proofs.Common.{subst}
-use Rattle.cell_rules.specs.Sound.{IsSound}
-use Rattle.cell_rules.specs.Laws.{Lawful}
+use Rattle.cell_rules.specs.Names.{IsSound, Lawful}
 use Rattle.cell_rules.proofs.Histories.{throughout}
 use Rattle.cell_rules.proofs.Assembly.{lawful}
 use Rattle.cell_rules.proofs.laws.lawful_throughout.Goals as goal

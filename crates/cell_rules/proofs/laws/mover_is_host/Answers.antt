@@ -1,6 +1,5 @@
 use Rattle.std.proofs.Common.{subst}
-use Rattle.cell_rules.specs.Sound.{IsSound}
-use Rattle.cell_rules.specs.Laws.{MoverIsHost}
+use Rattle.cell_rules.specs.Names.{IsSound, MoverIsHost}
 use Rattle.cell_rules.proofs.Histories.{throughout}
 use Rattle.cell_rules.proofs.HolderLaws.{mover_is_host}
 use Rattle.cell_rules.proofs.laws.mover_is_host.Goals as goal

@@ -1,6 +1,5 @@
 use Rattle.std.proofs.Common.{subst}
-use Rattle.cell_rules.specs.Sound.{IsSound}
-use Rattle.cell_rules.specs.Laws.{OneHolder}
+use Rattle.cell_rules.specs.Names.{IsSound, OneHolder}
 use Rattle.cell_rules.proofs.Histories.{throughout}
 use Rattle.cell_rules.proofs.HolderLaws.{one_holder}
 use Rattle.cell_rules.proofs.laws.one_holder.Goals as goal

@@ -1,6 +1,5 @@
 use Rattle.std.proofs.Common.{subst}
-use Rattle.cell_rules.specs.Sound.{IsSound}
-use Rattle.cell_rules.specs.History.{IsLegal}
+use Rattle.cell_rules.specs.Names.{IsSound, IsLegal}
 use Rattle.cell_rules.proofs.Conserved.{plates-kept}
 use Rattle.cell_rules.proofs.Histories.{legal-left}
 use Rattle.cell_rules.proofs.laws.plates_are_kept.Goals as goal

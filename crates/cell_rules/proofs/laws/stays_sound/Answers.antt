@@ -1,5 +1,5 @@
 use Rattle.std.proofs.Common.{subst}
-use Rattle.cell_rules.specs.Sound.{IsSound}
+use Rattle.cell_rules.specs.Names.{IsSound}
 use Rattle.cell_rules.specs.Laws.{StaysSound}
 use Rattle.cell_rules.proofs.Histories.{throughout, sound-after}
 use Rattle.cell_rules.proofs.laws.stays_sound.Goals as goal

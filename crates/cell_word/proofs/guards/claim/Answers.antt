@@ -1,11 +1,6 @@
 use Rattle.std.proofs.Common.{◌≡◌, Bool, Some, List, [], ◌∷◌, sym, ap, ◌∙◌, Ok}
-use Rattle.cell_types.specs.declared.machine.Machine.{Machine}
-use Rattle.cell_types.specs.declared.zone.Zone.{Zone}
-use Rattle.cell_types.specs.declared.posture.Posture.TheVariants.{Closed, Moving}
-use Rattle.cell_types.specs.declared.answer.Refusal.TheVariants.{AlreadyMine, Held, Shut}
-use Rattle.cell_types.specs.declared.call.Call.TheVariants.{Claim}
-use Rattle.cell_types.specs.Tables.{guest_of}
-use Rattle.cell_types.specs.Same.{same_machine}
+use Rattle.cell_rules.specs.Types.{Machine, Zone, Closed, Moving, AlreadyMine, Held, Shut, Claim, guest_of}
+use Rattle.cell_rules.specs.Types.{same_machine}
 use Rattle.cell_rules.specs.Reply.{other_party}
 use Rattle.cell_word.specs.Changes.{written}
 use Rattle.cell_word.specs.Patterns.{when, owner_is, posture_is}

@@ -1,10 +1,5 @@
 use Rattle.std.proofs.Common.{◌≡◌, Option, Ok, List, [], ◌∷◌, map, sym, ap, ◌∙◌}
-use Rattle.cell_types.specs.declared.machine.Machine.{Machine}
-use Rattle.cell_types.specs.declared.zone.Zone.{Zone}
-use Rattle.cell_types.specs.declared.zone.Transfer.{Transfer}
-use Rattle.cell_types.specs.declared.call.Call.TheVariants.{Give}
-use Rattle.cell_types.specs.declared.answer.Refusal.TheVariants.{NoPlate, PlaceFull}
-use Rattle.cell_types.specs.Everything.{all_postures}
+use Rattle.cell_rules.specs.Types.{Machine, Zone, Transfer, Give, NoPlate, PlaceFull, all_postures}
 use Rattle.cell_rules.specs.Reply.{other_party}
 use Rattle.cell_word.specs.Changes as changes
 use Rattle.cell_word.specs.Guards as guards

@@ -1,8 +1,5 @@
 use Rattle.std.proofs.Common.{◌≡◌, List, [], ◌∷◌, sym, ap, ◌∙◌, Ok, Some}
-use Rattle.cell_types.specs.declared.machine.Machine.{Machine}
-use Rattle.cell_types.specs.declared.zone.Zone.{Zone}
-use Rattle.cell_types.specs.declared.posture.Posture.TheVariants.{Closed, Moving}
-use Rattle.cell_types.specs.declared.call.Call.TheVariants.{Yield}
+use Rattle.cell_rules.specs.Types.{Machine, Zone, Closed, Moving, Yield}
 use Rattle.cell_rules.specs.Reply.{other_party}
 use Rattle.cell_word.specs.Changes.{written}
 use Rattle.cell_word.specs.Guards as guards

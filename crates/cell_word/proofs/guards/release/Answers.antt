@@ -1,8 +1,5 @@
 use Rattle.std.proofs.Common.{◌≡◌, List, [], ◌∷◌, sym, ap, ◌∙◌, Ok, None}
-use Rattle.cell_types.specs.declared.machine.Machine.{Machine}
-use Rattle.cell_types.specs.declared.zone.Zone.{Zone}
-use Rattle.cell_types.specs.declared.posture.Posture.TheVariants.{Moving}
-use Rattle.cell_types.specs.declared.call.Call.TheVariants.{Release}
+use Rattle.cell_rules.specs.Types.{Machine, Zone, Moving, Release}
 use Rattle.cell_rules.specs.Reply.{other_party}
 use Rattle.cell_word.specs.Changes.{written}
 use Rattle.cell_word.specs.Guards as guards

@@ -1,7 +1,5 @@
 use Rattle.std.proofs.Common.{◌≡◌, ℕ, [], ◌∷◌, sym, ap, ◌∙◌}
-use Rattle.cell_types.specs.declared.machine.Machine.{Machine}
-use Rattle.cell_types.specs.declared.zone.Zone.{Zone}
-use Rattle.cell_types.specs.declared.posture.Posture.TheVariants.{Moving}
+use Rattle.cell_rules.specs.Types.{Machine, Zone, Moving}
 use Rattle.cell_word.specs.Guards as guards
 use Rattle.cell_word.specs.Guards.{checked}
 use Rattle.cell_word.proofs.Trying.{refused, go, stop, then, in_parts}

@@ -1,6 +1,5 @@
 use Rattle.std.proofs.Common.{List, [], ◌∷◌, sym, ap, ◌∙◌, Ok}
-use Rattle.cell_types.specs.declared.machine.Machine.{Machine}
-use Rattle.cell_types.specs.declared.call.Call.TheVariants.{Stop}
+use Rattle.cell_rules.specs.Types.{Machine, Stop}
 use Rattle.cell_word.specs.Changes.{written}
 use Rattle.cell_word.specs.Guards as guards
 use Rattle.cell_word.specs.Guards.{checked}

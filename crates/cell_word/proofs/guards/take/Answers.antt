@@ -1,8 +1,5 @@
 use Rattle.std.proofs.Common.{◌≡◌, false, List, [], ◌∷◌, sym, ap, ◌∙◌, Ok}
-use Rattle.cell_types.specs.declared.machine.Machine.{Machine}
-use Rattle.cell_types.specs.declared.zone.Zone.{Zone}
-use Rattle.cell_types.specs.declared.answer.Refusal.TheVariants.{NoPlate}
-use Rattle.cell_types.specs.declared.call.Call.TheVariants.{Take}
+use Rattle.cell_rules.specs.Types.{Machine, Zone, NoPlate, Take}
 use Rattle.cell_rules.specs.Reply.{other_party}
 use Rattle.cell_word.specs.Changes.{written}
 use Rattle.cell_word.specs.Patterns.{flag_is}

@@ -1,10 +1,5 @@
 use Rattle.std.proofs.Common.{Ok, List, [], ◌∷◌, sym, ap, ◌∙◌}
-use Rattle.cell_types.specs.declared.machine.Machine.TheVariants.{Deposit}
-use Rattle.cell_types.specs.declared.zone.Zone.TheVariants.{Z4, Z5}
-use Rattle.cell_types.specs.declared.place.Place.TheVariants.{DepEntry, DepEnd}
-use Rattle.cell_types.specs.declared.posture.Posture.TheVariants.{Moving}
-use Rattle.cell_types.specs.declared.call.Call.TheVariants.{Advance}
-use Rattle.cell_types.specs.declared.answer.Refusal.TheVariants.{NotAtWork}
+use Rattle.cell_rules.specs.Types.{Deposit, Z4, Z5, DepEntry, DepEnd, Moving, Advance, NotAtWork}
 use Rattle.cell_word.specs.Changes.{written}
 use Rattle.cell_word.specs.Guards as guards
 use Rattle.cell_word.specs.declared.patterns.Guard.{Guard}

@@ -1,10 +1,5 @@
 use Rattle.std.proofs.Common.{Ok, List, [], ◌∷◌, sym, ap, ◌∙◌}
-use Rattle.cell_types.specs.declared.machine.Machine.TheVariants.{Feed}
-use Rattle.cell_types.specs.declared.zone.Zone.TheVariants.{Z6}
-use Rattle.cell_types.specs.declared.place.Place.TheVariants.{FeedEntry, FeedEnd}
-use Rattle.cell_types.specs.declared.posture.Posture.TheVariants.{Moving}
-use Rattle.cell_types.specs.declared.call.Call.TheVariants.{Advance}
-use Rattle.cell_types.specs.declared.answer.Refusal.TheVariants.{NotAtWork}
+use Rattle.cell_rules.specs.Types.{Feed, Z6, FeedEntry, FeedEnd, Moving, Advance, NotAtWork}
 use Rattle.cell_word.specs.Changes.{written}
 use Rattle.cell_word.specs.Guards as guards
 use Rattle.cell_word.specs.declared.patterns.Guard.{Guard}

@@ -1,11 +1,5 @@
 use Rattle.std.proofs.Common.{Ok, List, [], ◌∷◌, sym, ap, ◌∙◌}
-use Rattle.cell_types.specs.declared.machine.Machine.TheVariants.{Press}
-use Rattle.cell_types.specs.declared.zone.Zone.TheVariants.{Z3}
-use Rattle.cell_types.specs.declared.place.Place.TheVariants.{PressIn, PressOut}
-use Rattle.cell_types.specs.declared.posture.Posture.TheVariants.{Closed}
-use Rattle.cell_types.specs.declared.call.Call.TheVariants.{Advance}
-use Rattle.cell_types.specs.declared.answer.Refusal.TheVariants.{NotAtWork}
-use Rattle.cell_types.specs.Tables.{guest_of}
+use Rattle.cell_rules.specs.Types.{Press, Z3, PressIn, PressOut, Closed, Advance, NotAtWork, guest_of}
 use Rattle.cell_word.specs.Changes.{written}
 use Rattle.cell_word.specs.Guards as guards
 use Rattle.cell_word.specs.declared.patterns.Guard.{Guard}

@@ -1,8 +1,5 @@
 use Rattle.std.proofs.Common.{◌≡◌, ℕ, Option, List, ◌++◌, sym, ap, ◌∙◌}
-use Rattle.cell_types.specs.declared.machine.Machine.{Machine}
-use Rattle.cell_types.specs.declared.zone.Zone.{Zone}
-use Rattle.cell_types.specs.declared.pose.Pose.{Pose}
-use Rattle.cell_types.specs.declared.posture.Posture.{Posture}
+use Rattle.cell_rules.specs.Types.{Machine, Zone, Pose, Posture}
 use Rattle.cell_word.specs.Guards as guards
 use Rattle.cell_word.specs.Guards.{checked}
 use Rattle.cell_word.specs.declared.patterns.Guard.{Guard}

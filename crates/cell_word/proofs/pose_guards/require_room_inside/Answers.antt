@@ -1,12 +1,6 @@
 use Rattle.std.proofs.Common.{◌≡◌, ℕ, true, false, List, refl, sym, ap, ◌∙◌}
 use Rattle.std.specs.List.{flat_map}
-use Rattle.cell_types.specs.declared.zone.Zone.{Zone}
-use Rattle.cell_types.specs.declared.zone.Zone.TheVariants.{Z3}
-use Rattle.cell_types.specs.declared.place.Place.{Place}
-use Rattle.cell_types.specs.declared.place.Place.TheVariants.{PressIn, PressOut}
-use Rattle.cell_types.specs.declared.posture.Posture.TheVariants.{OpenIn}
-use Rattle.cell_types.specs.Same.{same_zone}
-use Rattle.cell_types.specs.Tables.{transfer_of}
+use Rattle.cell_rules.specs.Types.{Zone, Z3, Place, PressIn, PressOut, OpenIn, same_zone, transfer_of}
 use Rattle.cell_word.specs.Guards as guards
 use Rattle.cell_word.specs.Guards.{checked}
 use Rattle.cell_word.proofs.Trying.{refused, go, stop, then, in_parts}

@@ -1,11 +1,5 @@
 use Rattle.std.proofs.Common.{◌≡◌, ℕ, Result, Ok, Option, is_none, List, [], ◌∷◌, ◌++◌, append_assoc, refl, sym, ap, ap₂, subst, ◌∙◌}
-use Rattle.cell_types.specs.declared.machine.Machine.{Machine}
-use Rattle.cell_types.specs.declared.zone.Zone.{Zone}
-use Rattle.cell_types.specs.declared.pose.Pose.{Pose}
-use Rattle.cell_types.specs.declared.posture.Posture.{Posture}
-use Rattle.cell_types.specs.declared.call.Call.TheVariants.{SetPose}
-use Rattle.cell_types.specs.declared.answer.Refusal.{Refusal}
-use Rattle.cell_types.specs.declared.answer.Refusal.TheVariants.{NoPose}
+use Rattle.cell_rules.specs.Types.{Machine, Zone, Pose, Posture, SetPose, Refusal, NoPose}
 use Rattle.cell_word.specs.Changes as changes
 use Rattle.cell_word.specs.Patterns.{when, anything, both}
 use Rattle.cell_word.specs.Guards as guards

@@ -1,7 +1,7 @@
 use Rattle.std.proofs.Common.{◌≡◌, ◌∙◌, ap, sym}
 use Rattle.cell_types.specs.declared.answer.Answer.TheVariants.{Shown}
+use Rattle.cell_rules.specs.Names.{zone_at}
 use Rattle.cell_rules.specs.declared.zones.ZoneState.{ZoneState}
-use Rattle.cell_rules.specs.ModelState.{zone_at}
 use Rattle.cell_word.specs.Reading.{zone_told}
 use Rattle.cell_word.proofs.RoundTrip.{zone_read}
 use Rattle.cell_word.proofs.step.show_zone.Goals as goal

@@ -1,14 +1,7 @@
 use Rattle.std.proofs.Common.{◌≡◌, ℕ, ◌+◌, ◌^◌, arith, Option, Some, None, ◌∙◌, ap, ap₂, sym, refl}
-use Rattle.cell_types.specs.declared.machine.Machine.{Machine}
-use Rattle.cell_types.specs.declared.zone.Zone.{Zone}
-use Rattle.cell_types.specs.declared.call.Call.{Call}
-use Rattle.cell_types.specs.declared.call.Call.TheVariants.{Claim, Give, Yield, Take, Release, SetPose, Advance, Inquire, Stop, Resume}
-use Rattle.cell_types.specs.declared.answer.Refusal.{Refusal}
-use Rattle.cell_types.specs.declared.answer.Answer.{Answer}
-use Rattle.cell_types.specs.declared.answer.Answer.TheVariants.{Refused, Done}
-use Rattle.cell_rules.specs.ModelState.{ModelState}
-use Rattle.cell_rules.specs.Sound.{IsSound}
-use Rattle.cell_rules.specs.Reply.{reply, refusal, done_unless, next, next_by}
+use Rattle.cell_rules.specs.Types.{Machine, Zone, Call, Claim, Give, Yield, Take, Release, SetPose, Advance, Inquire}
+use Rattle.cell_rules.specs.Types.{Stop, Resume, Refusal, Answer, Refused, Done}
+use Rattle.cell_rules.specs.Names.{ModelState, IsSound, reply, refusal, done_unless, next, next_by}
 use Rattle.cell_word.specs.Layout.{packed}
 use Rattle.cell_word.specs.Patterns.{with_written}
 use Rattle.cell_word.specs.Changes.{written}

@@ -1,27 +1,16 @@
 use Rattle.std.proofs.Common.{◌≡◌, ℕ, [], ◌∷◌, Some, ◌∙◌, refl, sym, ap, subst}
-use Rattle.cell_types.specs.declared.machine.Machine.TheVariants.{Feed, Table, Robot, Press, Deposit, Crane}
-use Rattle.cell_types.specs.declared.journal.Journals.{Journals}
-use Rattle.cell_types.specs.Journals.{journal_of}
-use Rattle.cell_rules.specs.ModelState.{ModelState}
-use Rattle.cell_rules.specs.History.{after}
-use Rattle.cell_rules.specs.Journal.{noted}
-use Rattle.cell_rules.specs.Laws.{LawfulThroughout}
-use Rattle.cell_rules.specs.Audited.{IsAudited}
+use Rattle.cell_rules.specs.Types.{Feed, Table, Robot, Press, Deposit, Crane, Journals, journal_of}
+use Rattle.cell_rules.specs.Names.{ModelState, after, noted, LawfulThroughout, IsAudited}
 use Rattle.cell_interlock.specs.Fresh.{fresh_pass}
-use Rattle.cell_haul.specs.FeedProgram.{feed_steps}
-use Rattle.cell_haul.specs.DepositProgram.{deposit_steps}
-use Rattle.cell_haul.specs.CraneProgram.{crane_steps}
+use Rattle.cell_haul.specs.Names.{feed_steps, deposit_steps, crane_steps}
+use Rattle.cell_notes.specs.Names.{no_counts}
 use Rattle.cell_notes.specs.declared.status.Status.TheVariants.{Fine}
-use Rattle.cell_notes.specs.Notes.{no_counts}
 use Rattle.cell_robot.specs.RobotProgram.{gauges_of, robot_steps}
-use Rattle.cell_stations.specs.PressProgram.{press_steps}
-use Rattle.cell_stations.specs.TableProgram.{table_steps}
+use Rattle.cell_stations.specs.Names.{press_steps, table_steps}
 use Rattle.cell_parts.specs.Rigs.{table_rig, robot_rig, crane_rig}
-use Rattle.cell_plant.specs.Machines.{robot_gauges, robot_points, robot_axes}
-use Rattle.cell_plant.specs.Records.{positions_in}
+use Rattle.cell_plant.specs.Names.{robot_gauges, robot_points, robot_axes, positions_in, cell_gauges, cell_scales}
+use Rattle.cell_plant.specs.Names.{points_of, sides_of, Sides, sides_at_start}
 use Rattle.cell_plant.specs.Watch.{watch_at_start}
-use Rattle.cell_plant.specs.Cells.{cell_gauges, cell_scales, points_of, sides_of}
-use Rattle.cell_plant.specs.CellStates.{Sides, sides_at_start}
 use Rattle.cell_workers.specs.Records.{TellsWork}
 use Rattle.cell_workers.specs.Results.{AreWorkerResults, CellOutcomes, parts_in, seen_in}
 use Rattle.cell_workers.specs.Workers.{worker_moment}

@@ -1,17 +1,10 @@
 use Rattle.std.proofs.Common.{◌∙◌, refl, sym, ap, subst}
 use Rattle.cell_types.specs.declared.machine.Machine.TheVariants.{Feed, Table, Robot, Press, Deposit, Crane, Watch}
-use Rattle.cell_notes.specs.Notes.{HasRoom}
-use Rattle.cell_haul.specs.CraneProgram.{crane_steps}
-use Rattle.cell_haul.specs.DepositProgram.{deposit_steps}
-use Rattle.cell_haul.specs.FeedProgram.{feed_steps}
+use Rattle.cell_notes.specs.Names.{HasRoom, at_machine}
+use Rattle.cell_haul.specs.Names.{crane_steps, deposit_steps, feed_steps}
 use Rattle.cell_robot.specs.RobotProgram.{gauges_of, robot_steps}
-use Rattle.cell_stations.specs.PressProgram.{press_steps}
-use Rattle.cell_stations.specs.TableProgram.{table_steps}
-use Rattle.cell_plant.specs.Cells.{cell_scales, five_gauges, points_of}
-use Rattle.cell_notes.specs.ByMachine.{at_machine}
-use Rattle.cell_plant.specs.Moments.{RunMoment}
-use Rattle.cell_plant.specs.Simulations.{given_by}
-use Rattle.cell_plant.specs.Watch.{watch_steps}
+use Rattle.cell_stations.specs.Names.{press_steps, table_steps}
+use Rattle.cell_plant.specs.Names.{cell_scales, five_gauges, points_of, RunMoment, given_by, watch_steps}
 use Rattle.cell_plant.proofs.Stepping.{feed_on, table_on, robot_on, press_on, deposit_on, crane_on, watch_on, on_ok, grows, stays_ready, with_turn, with_robot, with_gripper, turn_is, by_turn}
 use Rattle.cell_plant.proofs.simulation.Simulation.turn.Goals as goal
 

@@ -1,5 +1,5 @@
 use Rattle.std.proofs.Math.Logic.{∥∥₁_elim}
-use Rattle.cell_rules.specs.Laws.{Lawful}
+use Rattle.cell_rules.specs.Names.{Lawful}
 use Rattle.cell_rules.specs.Stored.{IsSound-prop, IsLegal-prop}
 use Rattle.cell_rules.proofs.Histories.{throughout}
 use Rattle.cell_rules.proofs.Assembly.{lawful}

@@ -1,6 +1,5 @@
 use Rattle.std.proofs.Common.{ap, subst}
-use Rattle.cell_rules.specs.ModelState.{ModelState}
-use Rattle.cell_rules.specs.Sound.{IsSound}
+use Rattle.cell_rules.specs.Names.{ModelState, IsSound}
 use Rattle.cell_rules.specs.Reply as replies
 use Rattle.cell_rules.proofs.Soundness.{changed_keeps}
 use Rattle.cell_rules.proofs.state.State.after_call.Goals as goal
