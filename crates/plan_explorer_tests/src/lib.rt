@@ -1,0 +1,7 @@
+//! Tests of explorations of plans, by public calls only.
+#![tactic(auto)]
+
+#[cfg(test)]
+mod explorations;
+#[cfg(test)]
+mod programs;
