@@ -10,12 +10,11 @@ use cell_control::{CtlFault, Program, Told};
 use cell_devices::{CraneAct, DepositAct, FeedAct, Motor, PressAct, RobotAct, TableAct};
 use cell_haul::{CraneProgram, DepositProgram, FeedProgram};
 use cell_notes::Status;
+use cell_renewal::{Devices, WiredOutcome, WiredWorker};
 use cell_robot::RobotProgram;
 use cell_rules::State;
 use cell_stations::{PressProgram, TableProgram};
-use cell_workers::{
-    Devices, OpenGate, PerMachine, RunFault, SixRecord, WiredOutcome, WiredWorker, run_workers,
-};
+use cell_workers::{OpenGate, PerMachine, RunFault, SixRecord, run_workers};
 use std::alloc::Global;
 use std::sync::Wait;
 use std::test::Fail;

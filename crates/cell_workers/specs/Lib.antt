@@ -2,17 +2,9 @@ pub mod Faults
 pub mod Paces
 pub mod Lines
 pub mod Workers
-pub mod WiredWorkers
 pub mod Records
 pub mod Results
 pub mod Promises
 pub mod Six
 pub mod Watching
 pub mod Laws
-pub mod WiredLaws
-pub mod WiredTeams
-pub mod WiredRecords
-pub mod Going
-pub mod Renewing
-pub mod RenewedRecords
-pub mod Wearing

@@ -16,7 +16,7 @@ pub trait Gate {
         ensures { may_answer self.now machine turn result };
 
     /// Told that six workers begin, before any has begun. It is told so again before each round of
-    /// `run_renewed`.
+    /// `run_renewed` of `cell_renewal`.
     fn begin(&self) {}
 
     /// Told that the machine takes no more turns: its worker has ended, or couldn't be started.

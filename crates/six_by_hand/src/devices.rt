@@ -8,7 +8,7 @@ use crate::axis::Axis;
 use cell_calib::{CraneSense, DepositSense, FeedSense, PressSense, RobotSense, TableSense};
 use cell_control::Told;
 use cell_devices::{CraneAct, DepositAct, FeedAct, PressAct, RobotAct, TableAct};
-use cell_workers::Devices;
+use cell_renewal::Devices;
 
 /// A belt that carries one plate at a time past a light barrier.
 #[derive(Clone, Copy, Debug, Drop)]

@@ -1,8 +1,9 @@
 //! A number of rounds, each over an interlock of its own, at one pace and audited.
 
+use cell_renewal::{Round, RoundSink};
 use cell_report::{AuditFault, audit};
 use cell_types::{Answer, Call, Entry, Machine, Zone};
-use cell_workers::{Gate, PacedGate, Round, RoundSink};
+use cell_workers::{Gate, PacedGate};
 use std::alloc::Global;
 use std::sync::{Mutex, Wait};
 

@@ -1,0 +1,23 @@
+-- The cycles of a worker with devices of one's own, one by one.
+use Rattle.std.proofs.Common.{◌≡◌, ℕ, Option, Some, None, refl, subst, inl, arith}
+use Rattle.cell_control.specs.Names.{Steps}
+use Rattle.cell_control.specs.declared.fault.CtlFault.{CtlFault}
+use Rattle.cell_control.specs.declared.told.Told.{Told}
+use Rattle.cell_notes.specs.declared.status.Status.{Status}
+use Rattle.cell_unit.specs.Statuses.{status_of}
+use Rattle.cell_workers.specs.Workers.{GateOf, ComesBy, Ends}
+use Rattle.cell_workers.proofs.Turning.{comes_on}
+use Rattle.cell_renewal.specs.WiredWorkers.{WiredMoment, TakesCycle}
+
+-- a program keeps its calibrations, and a line its tries
+module _ {P S Sense Reading Act D : Type 0} (steps : P → Steps S Sense Reading Act) (shows : D → Option Sense → D → Type 0) (sets : D → Told Act → D → Type 0) (gate : GateOf) where
+  pub wired_comes_by : (m n : ℕ) (p q : P) → m ≡ n → p ≡ q → (first before now : WiredMoment S D) → ComesBy (TakesCycle n (steps q) shows sets gate) first before
+      → TakesCycle m (steps p) shows sets gate before now → ComesBy (TakesCycle n (steps q) shows sets gate) first now
+  wired_comes_by m n p q e f first before now k turn =
+      comes_on (TakesCycle n (steps q) shows sets gate) first before now k
+      (subst (λ x. TakesCycle n (steps x) shows sets gate before now) f (subst (λ x. TakesCycle x (steps p) shows sets gate before now) e turn))
+
+-- after all its cycles a worker ends by what has stopped its machine
+pub ends_after_all : (gate : GateOf) (limit cycles : ℕ) (stopped : Option CtlFault) (s : Status) → cycles ≡ limit → s ≡ status_of stopped → Ends gate limit stopped cycles s
+ends_after_all gate limit cycles None s all e = inl (e, all)
+ends_after_all gate limit cycles (Some fault) s all e = (e, omega (arith, all))

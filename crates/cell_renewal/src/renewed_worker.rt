@@ -1,0 +1,48 @@
+//! A worker whose machine goes on over the next interlock.
+
+use cell_notes::Status;
+use cell_rules::State;
+use cell_workers::{Gate, Worker};
+
+/// A worker that leaves its machine so that it can go on, by a worker of the same kind, over the
+/// next interlock.
+pub trait RenewedWorker: Worker {
+    ghost use Rattle.std.specs.Prelude.{◌≡◌, ℕ};
+    ghost use Rattle.cell_types.specs.declared.machine.Machine.{Machine};
+    ghost use Rattle.cell_rules.specs.ModelState.{ModelState};
+    ghost use Rattle.cell_rules.specs.Restamping.{IsSameFor};
+    ghost use Rattle.cell_interlock.specs.Views.{PassView};
+    ghost use Rattle.cell_notes.specs.declared.status.Status.{Status};
+    ghost use Rattle.cell_renewal.specs.Renewing.{Leaves};
+    ghost use Rattle.cell_workers.specs.declared.worker_result.WorkerResult.{WorkerResult};
+
+    // Of what it leaves: the machine, the state that this machine has left, and how it ended.
+    ghost machine: { Self.Outcome → Machine };
+
+    ghost left: { Self.Outcome → ModelState };
+
+    ghost ended: { Self.Outcome → Status };
+
+    // The worker that goes on with what was left where an interlock opens with this state.
+    ghost goes_on: { Self.Outcome → ModelState → Self → Type 0 };
+
+    /// What it gives back leaves its pass's machine, with the state after what its pass has seen. It
+    /// does nothing.
+    fn leaves<G: Gate>(gate: &G)
+        ensures { (w : Self) (pass : PassView) (tries limit : ℕ) (r : WorkerResult Self.Outcome)
+            → Self.is_ready w pass
+            → Self.gives_back w pass tries (G.may_answer gate.now pass.machine) limit r
+            → Leaves (machine r.outcome) (left r.outcome) pass r.pass };
+
+    /// How the worker ended that left this.
+    fn status(outcome: &Self::Outcome) -> Status
+        ensures { result ≡ ended outcome.now };
+
+    /// The worker that goes on where an interlock opens with this state. What the machine knows of
+    /// the state that it has left is so in this one.
+    fn go_on(outcome: Self::Outcome, opening: &State) -> Self
+        requires same { IsSameFor (machine outcome) (left outcome) opening.now }
+        ensures goes_on { goes_on outcome opening.now result }
+        ensures ready { (pass : PassView) → pass.machine ≡ machine outcome → pass.opening ≡ opening.now
+            → Self.is_ready result pass };
+}

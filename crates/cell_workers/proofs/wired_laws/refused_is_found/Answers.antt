@@ -1,5 +1,0 @@
-use Rattle.cell_workers.proofs.WiredRecording.{refused-found}
-use Rattle.cell_workers.proofs.wired_laws.refused_is_found.Goals as goal
-
-pub returns : goal.returns
-returns c = refused-found
