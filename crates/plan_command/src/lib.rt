@@ -1,0 +1,8 @@
+//! What the program `plan` does, over any words, reader and writer.
+#![tactic(auto)]
+
+pub mod header;
+pub mod input;
+pub mod report;
+pub mod request;
+pub mod serve;

@@ -1,0 +1,164 @@
+//! What the program `plan` does.
+ghost use Rattle.std.specs.Prelude.{◌≡◌, ◌≢◌, ◌≤◌, Some, None, codes};
+ghost use Rattle.cell_text.specs.Input.{TakesAtMost};
+ghost use Rattle.cell_text.specs.Output.{WrotePrefix};
+ghost use Rattle.cell_shell.specs.Printed.{Prints};
+ghost use Rattle.cell_shell.specs.Versions.{version_line};
+ghost use Rattle.cell_shell.specs.Words.{texts_of};
+ghost use Rattle.plan_command.specs.Input.{max_bytes_read};
+ghost use Rattle.plan_command.specs.Requests.{request_of};
+
+use crate::header::header_of;
+use crate::input::{MAX_BYTES, plan_length};
+use crate::report::report_of;
+use crate::request;
+use crate::request::Request;
+use cell_shell::{Exit, fail, print, print_prefix, print_version, texts_of, words_or_exit};
+use cell_text::{InputFault, read_up_to};
+use plan_replay::{Outcome, ReplayFault, answer_script};
+use plan_text::{NamedPlan, plan_of, read_plan};
+use std::alloc::{AllocError, Global};
+use std::env::Env;
+use std::io::{Read, Write};
+
+/// The help.
+const HELP: &str = "\
+Reads a plan of a plant, in TOML, from standard input.
+  plan check      says what it is, and the layout of its word, or its first fault
+  plan replay     answers the script after it, which begins with the line start,..
+  plan header     prints its names and the layout of its word for C
+  plan --version  prints the version
+Exit status: 0 on success and for help; 2 for bad arguments; otherwise 1: a refused
+plan or script, a failed read or write, or no memory.
+
+Example:
+  cat examples/plans/press.toml examples/plans/press.csv | plan replay
+";
+
+/// What is printed for other words.
+const OTHER_WORDS: &str =
+    "error: the only argument is check, replay, header, --help or --version\n";
+
+/// Reads a plan and prints what the request asks of it, or the plan's fault.
+fn serve_plan<R: Read, W: Write>(
+    alloc: Global,
+    request: Request,
+    reader: &mut R,
+    writer: &mut W,
+) -> u8
+    ensures status { result ≤ 1 }
+    ensures read { TakesAtMost (R.remaining reader.old) (R.remaining reader.new) 65537 }
+{
+    let named = match read_plan(alloc, reader) {
+        Ok(named) => named,
+        Err(fault) => return fail(writer, fault).status(),
+    };
+    match text_of(alloc, request, &named) {
+        Ok(text) => print(writer, text.as_bytes()).status(),
+        Err(AllocError) => fail(writer, "memory").status(),
+    }
+}
+
+fn text_of(alloc: Global, request: Request, named: &NamedPlan) -> Result<String, AllocError> {
+    match request {
+        Request::Header => header_of(alloc, named),
+        _ => report_of(alloc, named),
+    }
+}
+
+/// Reads a plan and a script after it, and prints the answers to the script.
+fn serve_replay<R: Read, W: Write>(alloc: Global, reader: &mut R, writer: &mut W) -> u8
+    ensures status { result ≤ 1 }
+    ensures read { TakesAtMost (R.remaining reader.old) (R.remaining reader.new) max_bytes_read }
+{
+    match read_up_to(alloc, reader, MAX_BYTES + 1) {
+        Ok(bytes) => replay_bytes(alloc, bytes.as_slice(), writer).status(),
+        Err(InputFault::Read) => fail(writer, "read").status(),
+        Err(InputFault::Memory) => fail(writer, "memory").status(),
+    }
+}
+
+fn replay_bytes<W: Write>(alloc: Global, bytes: &[u8], writer: &mut W) -> Exit
+    ensures { result ≢ Exit.Refused }
+{
+    if bytes.len() > MAX_BYTES {
+        return fail(writer, "long");
+    }
+    let length = plan_length(bytes).min(bytes.len());
+    let named = match plan_of(alloc, &bytes[..length]) {
+        Ok(named) => named,
+        Err(fault) => return fail(writer, fault),
+    };
+    match answer_script(alloc, &named, &bytes[length..]) {
+        Ok(answered) => {
+            let printed = print(writer, answered.text().as_bytes());
+            match answered.outcome() {
+                Outcome::Clean => printed,
+                Outcome::Refused(_) => Exit::Failed,
+            }
+        }
+        Err(ReplayFault::Read) => fail(writer, "read"),
+        Err(ReplayFault::Memory) => fail(writer, "memory"),
+    }
+}
+
+/// Does what the words ask for, and returns the exit status: 0 on success, and for help; 1 for a refused plan or
+/// script, a failed read or write, and if memory ran out; 2 for other words.
+pub fn serve<R: Read, W: Write>(alloc: Global, words: &[&str], reader: &mut R, writer: &mut W) -> u8
+    ensures status { result ≤ 2 }
+
+    // With `--help` or `-h` after the name: status 0 says that help was printed, status 1 that a prefix was. With
+    // `--version`: the same of the version.
+    ensures help { request_of (texts_of words.now) ≡ Some Request.Help →
+        Prints result (W.contents writer.old) (W.contents writer.new) HELP.now }
+    ensures version { request_of (texts_of words.now) ≡ Some Request.Version →
+        Prints result (W.contents writer.old) (W.contents writer.new)
+        (version_line (codes "plan")) }
+
+    // Status 2 comes exactly for other words, of which a line was printed, or a prefix of it.
+    ensures refused { result ≡ 2 → request_of (texts_of words.now) ≡ None }
+    ensures other { request_of (texts_of words.now) ≡ None → result ≡ 2 }
+    ensures line { request_of (texts_of words.now) ≡ None →
+        WrotePrefix (W.contents writer.old) (W.contents writer.new) OTHER_WORDS.now }
+
+    // At most one byte more is read than a plan and a script may have.
+    ensures read { TakesAtMost (R.remaining reader.old) (R.remaining reader.new) max_bytes_read }
+{
+    match request::request_of(words) {
+        Some(Request::Check) => serve_plan(alloc, Request::Check, reader, writer),
+        Some(Request::Header) => serve_plan(alloc, Request::Header, reader, writer),
+        Some(Request::Replay) => serve_replay(alloc, reader, writer),
+        Some(Request::Help) => print(writer, HELP.as_bytes()).status(),
+        Some(Request::Version) => print_version(writer, "plan").status(),
+        None => refuse(writer).status(),
+    }
+}
+
+/// Prints why words are refused, as far as the writer takes it, and returns `Refused`.
+fn refuse<W: Write>(writer: &mut W) -> Exit
+    ensures status { result ≡ Exit.Refused }
+    ensures line { WrotePrefix (W.contents writer.old) (W.contents writer.new) OTHER_WORDS.now }
+{
+    print_prefix(writer, OTHER_WORDS.as_bytes());
+    Exit::Refused
+}
+
+/// Runs the program with the words that it was started with, and returns the exit status.
+pub fn start<E: Env, R: Read, W: Write>(
+    alloc: Global,
+    env: &E,
+    reader: &mut R,
+    writer: &mut W,
+) -> u8
+    ensures status { result ≤ 2 }
+    ensures read { TakesAtMost (R.remaining reader.old) (R.remaining reader.new) max_bytes_read }
+{
+    let words = match words_or_exit(alloc, env, writer) {
+        Ok(words) => words,
+        Err(exit) => return exit.status(),
+    };
+    match texts_of(alloc, &words) {
+        Ok(texts) => serve(alloc, texts.as_slice(), reader, writer),
+        Err(_) => fail(writer, "memory").status(),
+    }
+}

@@ -1,0 +1,165 @@
+//! Example plans: what is said of them, and the answers to their scripts.
+
+use super::doubles::is_answered;
+use std::alloc::AllocError;
+
+/// Two machines at a press.
+pub const PRESS: &str = "\
+# Two machines at a press: one loads it and takes the plates out.
+[[machine]]
+name = \"loader\"
+places = [\"hand\"]
+program = [\"give interior\", \"take interior\", \"release interior\"]
+
+[[machine]]
+name = \"press\"
+places = [\"die\"]
+poses = [
+  { name = \"load\", gives = { interior = \"openin\" }, after_moving = true },
+  { name = \"unload\", gives = { interior = \"openout\" }, after_moving = true },
+  { name = \"closed\", gives = { interior = \"closed\" }, after_moving = true },
+  { name = \"travelling\", gives = { interior = \"moving\" } },
+]
+program = [
+  \"claim interior\", \"pose travelling\", \"pose load\", \"yield interior\", \"take interior\",
+  \"pose travelling\", \"pose closed\", \"pose travelling\", \"pose unload\", \"give interior\",
+]
+
+[[zone]]
+name = \"interior\"
+host = \"press\"
+guest = \"loader\"
+inward = [\"hand\", \"die\"]
+outward = [\"die\", \"hand\"]
+";
+
+const SCRIPT: &str = "\
+start,10
+press,claim,interior
+loader,claim,interior
+press,pose,load
+press,pose,travelling
+press,pose,load
+press,yield,interior
+loader,give,interior
+press,take,interior
+watch,inquire,interior
+press,pose,travelling
+press,pose,closed
+watch,stop
+press,pose,travelling
+watch,resume
+press,pose,travelling
+press,pose,unload
+press,give,interior
+loader,take,interior
+loader,release,interior
+watch,inquire,interior
+loader,pose,load
+";
+
+const ANSWERS: &str = "\
+0 0 start 1
+1 1 done
+2 1 held press
+3 1 jump
+4 2 done
+5 3 done
+6 4 done
+7 5 done
+8 6 done
+9 6 zone press 0 openin
+10 7 done
+11 8 done
+12 9 done
+13 9 stopped
+14 10 done
+15 11 done
+16 12 done
+17 13 done
+18 14 done
+19 15 done
+20 15 zone free 0 openout
+21 15 nopose
+";
+
+const REPORT: &str = "\
+2 machines: loader press
+1 zone: interior
+2 places: hand die
+4 poses: load unload closed travelling
+a word of 28 bits
+bit 0, 5 bits: zone interior
+bit 5, 1 bit: place hand
+bit 6, 1 bit: place die
+bit 7, 20 bits: stamp
+bit 27, 1 bit: stop
+";
+
+#[test]
+fn checks_the_press(rt: HostRuntime) {
+    assert!(rt; is_answered(rt.alloc(), b"check", PRESS, 0, REPORT));
+}
+
+/// Scripts of the press, the status and the answers.
+const SCRIPTS: &[(&str, u8, &str)] = &[
+    (SCRIPT, 0, ANSWERS),
+    ("", 1, "fault nostart\n"),
+    ("start,\n", 1, "fault badstart\n"),
+    ("start,101\n", 1, "fault badstart\n"),
+    ("start,1x\n", 1, "fault badstart\n"),
+    ("start,11,1048576\n", 1, "fault badstart\n"),
+    ("start,11,7,\n", 1, "fault badstart\n"),
+    (
+        "start,11,1048575\nwatch,stop\n",
+        0,
+        "0 1048575 start 2\n1 1048575 worn\n",
+    ),
+    (
+        "start,00\npress,claim,door\n",
+        1,
+        "0 0 start 0\nfault badrow 1\n",
+    ),
+    (
+        "start,00\npress,claim\n",
+        1,
+        "0 0 start 0\nfault badrow 1\n",
+    ),
+    (
+        "start,00\npress,pose,open\n",
+        1,
+        "0 0 start 0\nfault badrow 1\n",
+    ),
+    (
+        "start,00\nrobot,claim,interior\n",
+        1,
+        "0 0 start 0\nfault badrow 1\n",
+    ),
+    (
+        "start,00\npress,claim,interior,\n",
+        1,
+        "0 0 start 0\nfault badrow 1\n",
+    ),
+    (
+        "start,00\n\nwatch,claim,interior\nloader,stop\n",
+        0,
+        "0 0 start 0\n1 0 notparty\n2 0 notparty\n",
+    ),
+    (
+        "start,00\nwatch,resume\nloader,pose,load\n",
+        0,
+        "0 0 start 0\n1 0 notstopped\n2 0 nopose\n",
+    ),
+];
+
+#[test]
+fn answers_scripts(rt: HostRuntime) -> Result<(), AllocError> {
+    for (script, status, answers) in SCRIPTS {
+        let input = format!(in rt.alloc(); "{PRESS}{script}")?;
+        assert!(rt;
+            is_answered(rt.alloc(), b"replay", input.as_str(), *status, answers),
+            "{script}"
+        );
+    }
+    Ok(())
+}

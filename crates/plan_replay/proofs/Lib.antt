@@ -1,0 +1,4 @@
+mod RecordLemmas
+mod Digits
+pub mod RowsTaken
+pub mod Answering

@@ -1,0 +1,14 @@
+use Rattle.std.proofs.Common.{List, ◌≡◌, string_bytes}
+use Rattle.plan_replay.specs.Records.{HasRows, IsPlain}
+use Rattle.plan_replay.specs.Requests.{Row}
+use Rattle.plan_replay.specs.Script.{answers_of, with_text}
+use Rattle.plan_replay.proofs.replay.answer_later.Given as goal
+
+abbrev pub invariant-rows : goal.invariant-rows
+invariant-rows g l = record {
+  plain : IsPlain l.reader;
+  left : (rows : List Row) → HasRows g.R.Read.remaining l.fn.reader rows
+      → (rest : List Row) × HasRows g.R.Read.remaining l.reader rest
+      × (with_text (string_bytes l.fn.before) (answers_of l.named 0 l.fn.start rows)
+      ≡ with_text (string_bytes l.text) (answers_of l.named l.done l.state rest));
+}

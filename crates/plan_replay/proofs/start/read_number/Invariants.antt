@@ -1,0 +1,13 @@
+use Rattle.std.proofs.Common.{◌≡◌, ◌<◌, drop}
+use Rattle.std.specs.Char.{is_ascii_digit}
+use Rattle.std.specs.List.{list_all}
+use Rattle.plan_replay.specs.Starts.{read_on}
+use Rattle.plan_replay.proofs.Digits.{power}
+use Rattle.plan_replay.proofs.start.read_number.Given as goal
+
+abbrev pub invariant-digits : goal.invariant-digits
+invariant-digits l = record {
+  digits : list_all is_ascii_digit (drop l.byte-index l.field) ≡ list_all is_ascii_digit l.field;
+  value : read_on l.number (drop l.byte-index l.field) ≡ read_on 0 l.field;
+  small : l.number < power l.byte-index;
+}

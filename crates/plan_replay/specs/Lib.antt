@@ -1,0 +1,4 @@
+pub mod Requests
+pub mod Records
+pub mod Starts
+pub mod Script

@@ -1,0 +1,31 @@
+//! The records of a script.
+ghost use Rattle.std.specs.Prelude.{List, OnOk, IfOk};
+ghost use Rattle.csv.specs.Records.{fields_of};
+ghost use Rattle.plan_replay.specs.Records.{HasRows, IsPlain, TakesRow};
+ghost use Rattle.plan_replay.specs.Requests.{Row};
+
+use crate::script::ReplayFault;
+use csv::{ByteRecord, ErrorKind, Reader};
+use std::io::Read;
+
+/// Reads the next record into `row`. Returns whether there was one. `Read` if the reader failed, `Memory` if memory
+/// ran out.
+pub fn read_row<R: Read>(reader: &mut Reader<R>, row: &mut ByteRecord) -> Result<bool, ReplayFault>
+    requires { IsPlain reader.old }
+    ensures plain { OnOk result (IsPlain reader.new) }
+    ensures found { IfOk result (λ found. (rows : List Row) → HasRows R.remaining reader.old rows →
+        TakesRow R.remaining reader.new found (fields_of row.new) rows) }
+{
+    match reader.read_byte_record(row) {
+        Ok(found) => Ok(found),
+        Err(error) => match error.kind() {
+            ErrorKind::Io(_) => Err(ReplayFault::Read),
+            ErrorKind::OutOfMemory => Err(ReplayFault::Memory),
+            // Records may have any length, they are bytes, and no type is read or written.
+            ErrorKind::UnequalLengths { .. }
+            | ErrorKind::Utf8 { .. }
+            | ErrorKind::Serialize(_)
+            | ErrorKind::Deserialize { .. } => unreachable!(),
+        },
+    }
+}

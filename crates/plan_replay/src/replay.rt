@@ -1,0 +1,139 @@
+//! Answers a script.
+ghost use Rattle.std.specs.Prelude.{◌≡◌, ◌++◌, ◌<◌, List, OnOk, IfOk, string_bytes};
+ghost use Rattle.csv.specs.Records.{fields_of};
+ghost use Rattle.plan_text.specs.Answers.{answer_text};
+ghost use Rattle.plan_replay.specs.Records.{HasRows, IsPlain};
+ghost use Rattle.plan_replay.specs.Requests.{Row};
+ghost use Rattle.plan_replay.specs.Script as spec;
+
+use crate::records::read_row;
+use crate::request::read_request;
+use crate::script::{Answered, Outcome, ReplayFault, ScriptFault};
+use crate::start::{plates, read_start};
+use csv::{ByteRecord, Reader, ReaderBuilder};
+use plan_rules::{State, apply};
+use plan_text::NamedPlan;
+use plan_types::Answer;
+use std::alloc::{AllocError, Global};
+use std::io::Read;
+
+/// The most records after record 0 that are answered.
+pub const MAX_RECORDS: u32 = 65_536;
+
+/// Answers a script: a line for each record, and the line of a fault if the script is refused.
+///
+/// `Read` or `Memory`: there is no answer.
+pub fn answer_script(
+    alloc: Global,
+    named: &NamedPlan,
+    script: &[u8],
+) -> Result<Answered, ReplayFault>
+    ensures { IfOk result (λ answered. answered ≡ spec.script_answers named.now script.now) }
+{
+    let mut reader = ReaderBuilder::new()
+        .has_headers(false)
+        .flexible(true)
+        .from_reader(alloc, script);
+    answer_rows(alloc, named, &mut reader)
+}
+
+/// Answers the records that a reader has left, the first of which is record 0.
+fn answer_rows<R: Read>(
+    alloc: Global,
+    named: &NamedPlan,
+    reader: &mut Reader<R>,
+) -> Result<Answered, ReplayFault>
+    requires { IsPlain reader.old }
+    ensures { IfOk result (λ answered. (rows : List Row) → HasRows R.remaining reader.old rows →
+        answered ≡ spec.rows_answers named.now rows) }
+{
+    let mut row = ByteRecord::new(alloc);
+    let mut text = String::new(alloc);
+    if !read_row(reader, &mut row)? {
+        return end(text, Outcome::Refused(ScriptFault::NoStart));
+    }
+    match read_start(named, &row) {
+        Ok(state) => {
+            push_start(&mut text, &state)?;
+            answer_later(alloc, named, reader, state, text)
+        }
+        Err(fault) => end(text, Outcome::Refused(fault)),
+    }
+}
+
+/// Answers the records after record 0, from a state, after the lines in `text`.
+fn answer_later<R: Read>(
+    alloc: Global,
+    named: &NamedPlan,
+    reader: &mut Reader<R>,
+    start: State,
+    before: String,
+) -> Result<Answered, ReplayFault>
+    requires { IsPlain reader.old }
+    ensures { IfOk result (λ answered. (rows : List Row) → HasRows R.remaining reader.old rows →
+        answered ≡ spec.with_text (string_bytes before) (spec.answers_of named.now 0 start rows)) }
+{
+    let mut state = start;
+    let mut text = before;
+    let mut row = ByteRecord::new(alloc);
+    'rows: for done in 0..MAX_RECORDS {
+        if !read_row(reader, &mut row)? {
+            return end(text, Outcome::Clean);
+        }
+        let Some(request) = read_request(named, &row) else {
+            return end(text, Outcome::Refused(ScriptFault::BadRow(done + 1)));
+        };
+        let answer = apply(named.plan(), &mut state, request.machine, request.call);
+        push_line(&mut text, named, done + 1, state.stamp, answer)?;
+    }
+    if read_row(reader, &mut row)? {
+        return end(text, Outcome::Refused(ScriptFault::Long));
+    }
+    end(text, Outcome::Clean)
+}
+
+/// The answers with the line of a fault, if the script is refused.
+fn end(before: String, outcome: Outcome) -> Result<Answered, ReplayFault>
+    ensures { IfOk result (λ answered. answered
+        ≡ spec.with_text (string_bytes before) (spec.ends outcome)) }
+{
+    let mut text = before;
+    if let Outcome::Refused(fault) = outcome {
+        push_fault(&mut text, fault)?;
+    }
+    Ok(Answered { text, outcome })
+}
+
+/// Adds the line of a fault.
+fn push_fault(text: &mut String, fault: ScriptFault) -> Result<(), AllocError>
+    ensures { OnOk result (string_bytes text.new
+        ≡ string_bytes text.old ++ spec.end_text (Outcome.Refused fault)) }
+{
+    writeln!(text, "fault {fault}")
+}
+
+/// Adds the line of record 0.
+fn push_start(text: &mut String, state: &State) -> Result<(), AllocError>
+    ensures { OnOk result
+        (string_bytes text.new ≡ string_bytes text.old ++ spec.start_line state.now) }
+{
+    let stamp = state.stamp;
+    let plates = plates(state);
+    writeln!(text, "0 {stamp} start {plates}")
+}
+
+/// Adds the line of a later record.
+fn push_line(
+    text: &mut String,
+    named: &NamedPlan,
+    number: u32,
+    stamp: u32,
+    answer: Answer,
+) -> Result<(), AllocError>
+    ensures { OnOk result (string_bytes text.new
+        ≡ string_bytes text.old ++ spec.line_of number stamp (answer_text named.now answer)) }
+{
+    write!(text, "{number} {stamp} ")?;
+    named.push_answer(text, answer)?;
+    text.push_str("\n")
+}

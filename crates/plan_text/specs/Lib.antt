@@ -1,0 +1,4 @@
+pub mod Names
+pub mod Named
+pub mod Calls
+pub mod Answers

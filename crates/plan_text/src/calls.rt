@@ -1,0 +1,144 @@
+//! Calls by names, and back.
+ghost use Rattle.std.specs.Prelude.{◌≡◌, ◌<◌};
+ghost use Rattle.plan_text.specs.Calls as spec;
+
+use crate::named_plan::NamedPlan;
+use plan_types::{Call, WATCH};
+use std::alloc::AllocError;
+
+/// What a call does, by the word that begins it.
+#[derive(Clone, Copy, Debug, PartialEq, Eq)]
+pub enum Verb {
+    /// `claim`
+    Claim,
+    /// `give`
+    Give,
+    /// `yield`
+    Yield,
+    /// `take`
+    Take,
+    /// `release`
+    Release,
+    /// `inquire`
+    Inquire,
+    /// `pose`
+    Pose,
+}
+
+impl Verb {
+    /// The word.
+    pub fn word(self) -> &'static str
+        ensures { result.now ≡ spec.verb_word self }
+    {
+        match self {
+            Verb::Claim => "claim",
+            Verb::Give => "give",
+            Verb::Yield => "yield",
+            Verb::Take => "take",
+            Verb::Release => "release",
+            Verb::Inquire => "inquire",
+            Verb::Pose => "pose",
+        }
+    }
+
+    /// The verb with this word, or `None` if none has it.
+    pub fn read(word: &[u8]) -> Option<Verb>
+        ensures { result ≡ spec.verb_of word.now }
+    {
+        if word == Verb::Claim.word().as_bytes() {
+            return Some(Verb::Claim);
+        }
+        if word == Verb::Give.word().as_bytes() {
+            return Some(Verb::Give);
+        }
+        if word == Verb::Yield.word().as_bytes() {
+            return Some(Verb::Yield);
+        }
+        if word == Verb::Take.word().as_bytes() {
+            return Some(Verb::Take);
+        }
+        if word == Verb::Release.word().as_bytes() {
+            return Some(Verb::Release);
+        }
+        if word == Verb::Inquire.word().as_bytes() {
+            return Some(Verb::Inquire);
+        }
+        if word == Verb::Pose.word().as_bytes() {
+            return Some(Verb::Pose);
+        }
+        None
+    }
+}
+
+impl NamedPlan {
+    /// The machine with this name, or the watch; `None` if none has it.
+    pub fn caller(&self, name: &[u8]) -> Option<u8>
+        ensures { result ≡ spec.caller_of self.now name.now }
+    {
+        if name == "watch".as_bytes() {
+            return Some(WATCH);
+        }
+        self.machines.number_of(name)
+    }
+
+    /// The number of a pose, if the machine has it and its name is this.
+    fn pose_if(&self, machine: u8, name: &[u8], pose: usize) -> Option<u8>
+        requires { pose < 64 }
+        ensures { result ≡ spec.pose_if self.now machine name.now pose }
+    {
+        let pose = pose as u8;
+        let own = self.plan.pose(pose).machine == machine;
+        (own && self.poses.name(pose).as_bytes() == name).then_some(pose)
+    }
+
+    /// The pose of a machine with this name.
+    #[tactic(auto, using(plan_types::proofs::Below::first_below_more))]
+    pub fn own_pose(&self, machine: u8, name: &[u8]) -> Option<u8>
+        ensures { result ≡ spec.own_pose self.now machine name.now }
+    {
+        let mut found = None;
+        for pose in 0..self.poses.len() {
+            found = found.or(self.pose_if(machine, name, pose));
+        }
+        found
+    }
+
+    /// The pose of this name that a machine means: its own, or else the first of another.
+    pub fn pose_named(&self, machine: u8, name: &[u8]) -> Option<u8>
+        ensures { result ≡ spec.pose_named self.now machine name.now }
+    {
+        self.own_pose(machine, name).or(self.poses.number_of(name))
+    }
+
+    /// The call of a machine with this verb and this name of a zone or a pose.
+    pub fn call(&self, machine: u8, verb: Verb, name: &[u8]) -> Option<Call>
+        ensures { result ≡ spec.call_of self.now machine verb name.now }
+    {
+        match verb {
+            Verb::Claim => Some(Call::Claim(self.zones.number_of(name)?)),
+            Verb::Give => Some(Call::Give(self.zones.number_of(name)?)),
+            Verb::Yield => Some(Call::Yield(self.zones.number_of(name)?)),
+            Verb::Take => Some(Call::Take(self.zones.number_of(name)?)),
+            Verb::Release => Some(Call::Release(self.zones.number_of(name)?)),
+            Verb::Inquire => Some(Call::Inquire(self.zones.number_of(name)?)),
+            Verb::Pose => Some(Call::SetPose(self.pose_named(machine, name)?)),
+        }
+    }
+
+    /// Appends the words of a call.
+    pub fn push_call(&self, text: &mut String, call: Call) -> Result<(), AllocError> {
+        let (word, name) = match call {
+            Call::Claim(zone) => ("claim ", self.zones.name(zone)),
+            Call::Give(zone) => ("give ", self.zones.name(zone)),
+            Call::Yield(zone) => ("yield ", self.zones.name(zone)),
+            Call::Take(zone) => ("take ", self.zones.name(zone)),
+            Call::Release(zone) => ("release ", self.zones.name(zone)),
+            Call::Inquire(zone) => ("inquire ", self.zones.name(zone)),
+            Call::SetPose(pose) => ("pose ", self.poses.name(pose)),
+            Call::Stop => ("stop", ""),
+            Call::Resume => ("resume", ""),
+        };
+        text.push_str(word)?;
+        text.push_str(name)
+    }
+}

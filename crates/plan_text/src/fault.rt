@@ -1,0 +1,362 @@
+//! What is wrong with a plan's document, in words.
+ghost use Rattle.std.specs.Prelude.{◌≡◌};
+ghost use Rattle.plan_text.specs.declared.fault.Wrong.TheVariants.{Memory as NoMemory};
+
+use std::alloc::{AllocError, AllocFailed};
+use std::fmt;
+
+/// The most characters of a text that are shown.
+const MOST_SHOWN: usize = 40;
+
+/// What a fault is about: the document, or a row of it. Rows are counted from 0.
+#[derive(Clone, Copy, Debug, PartialEq, Eq)]
+pub enum RowOf {
+    /// The document outside of its rows.
+    Document,
+    /// A machine.
+    Machine(usize),
+    /// A pose of a machine.
+    Pose {
+        /// The machine.
+        machine: usize,
+        /// The pose, among those of the machine.
+        pose: usize,
+    },
+    /// A zone.
+    Zone(usize),
+}
+
+/// The keys of a document.
+#[derive(Clone, Copy, Debug, PartialEq, Eq)]
+pub enum Key {
+    /// `machine`
+    Machine,
+    /// `zone`
+    Zone,
+    /// `name`
+    Name,
+    /// `places`
+    Places,
+    /// `poses`
+    Poses,
+    /// `program`
+    Program,
+    /// `gives`
+    Gives,
+    /// `after_moving`
+    AfterMoving,
+    /// `host`
+    Host,
+    /// `guest`
+    Guest,
+    /// `inward`
+    Inward,
+    /// `outward`
+    Outward,
+}
+
+impl Key {
+    /// The key's word.
+    pub fn word(self) -> &'static str {
+        match self {
+            Key::Machine => "machine",
+            Key::Zone => "zone",
+            Key::Name => "name",
+            Key::Places => "places",
+            Key::Poses => "poses",
+            Key::Program => "program",
+            Key::Gives => "gives",
+            Key::AfterMoving => "after_moving",
+            Key::Host => "host",
+            Key::Guest => "guest",
+            Key::Inward => "inward",
+            Key::Outward => "outward",
+        }
+    }
+}
+
+/// What is wrong with the value of a key.
+#[derive(Debug, Drop)]
+pub enum Wrong {
+    /// The key is missing.
+    Missing,
+    /// A key that isn't known is in the row.
+    Unknown(String),
+    /// The value is no text.
+    NoText,
+    /// The value is no list of texts.
+    NoTexts,
+    /// The value is no table.
+    NoTable,
+    /// The value is no list of tables.
+    NoTables,
+    /// The value is neither `true` nor `false`.
+    NoTruth,
+    /// The value is no list of two places.
+    NoWay,
+    /// A text is no name.
+    NoName(String),
+    /// A machine may not have this name.
+    Reserved(String),
+    /// A name is there twice.
+    Twice(String),
+    /// There are more than so many.
+    TooMany(usize),
+    /// No machine has this name.
+    NoMachine(String),
+    /// No zone has this name.
+    NoZone(String),
+    /// No place has this name.
+    NoPlace(String),
+    /// The machine has no pose with this name.
+    NoPose(String),
+    /// A posture has another word.
+    NoPosture(String),
+    /// A line of a program is no call.
+    NoCall(String),
+    /// The program has no line.
+    Empty,
+    /// A zone's host is its guest.
+    HostIsGuest,
+    /// The way doesn't lead from a place of the giver to a place of the receiver.
+    Astray,
+    /// The machine doesn't host this zone.
+    Foreign(String),
+    /// Memory ran out.
+    Memory,
+}
+
+impl From<AllocError> for Wrong {
+    ghost from_gives = { λ _ wrong. wrong ≡ NoMemory };
+
+    fn from(_error: AllocError) -> Wrong {
+        Wrong::Memory
+    }
+}
+
+impl<T: Drop> From<AllocFailed<T>> for Wrong {
+    ghost from_gives = { λ _ wrong. wrong ≡ NoMemory };
+
+    fn from(_error: AllocFailed<T>) -> Wrong {
+        Wrong::Memory
+    }
+}
+
+/// What is wrong with a document, and where.
+#[derive(Debug, Drop)]
+pub struct DocumentFault {
+    /// The row.
+    pub row: RowOf,
+    /// The key in the row, if the fault is about one.
+    pub key: Option<Key>,
+    /// What is wrong.
+    pub wrong: Wrong,
+}
+
+impl DocumentFault {
+    /// A fault of a key.
+    pub fn at(row: RowOf, key: Key, wrong: Wrong) -> DocumentFault {
+        DocumentFault {
+            row,
+            key: Some(key),
+            wrong,
+        }
+    }
+
+    /// A fault of a row.
+    pub fn of(row: RowOf, wrong: Wrong) -> DocumentFault {
+        DocumentFault {
+            row,
+            key: None,
+            wrong,
+        }
+    }
+}
+
+/// Why a document is refused.
+#[derive(Debug, Drop)]
+pub enum PlanTextFault {
+    /// Reading failed.
+    Read,
+    /// Memory ran out.
+    Memory,
+    /// The document has more than 65,536 bytes.
+    Long,
+    /// It is no TOML: the line on which that is found, and why.
+    NoToml {
+        /// The line, from 1.
+        line: usize,
+        /// Why.
+        message: String,
+    },
+    /// A row has a fault.
+    Row(DocumentFault),
+    /// The word has more than 64 bits.
+    TooWide {
+        /// How many bits are missing.
+        missing: u8,
+    },
+}
+
+impl From<AllocError> for PlanTextFault {
+    fn from(_error: AllocError) -> PlanTextFault {
+        PlanTextFault::Memory
+    }
+}
+
+impl From<DocumentFault> for PlanTextFault {
+    fn from(fault: DocumentFault) -> PlanTextFault {
+        match fault.wrong {
+            Wrong::Memory => PlanTextFault::Memory,
+            wrong => PlanTextFault::Row(DocumentFault {
+                row: fault.row,
+                key: fault.key,
+                wrong,
+            }),
+        }
+    }
+}
+
+/// A text in quotes: at most 40 characters of it, with escapes for what isn't printable ASCII.
+#[derive(Clone, Copy)]
+struct Quoted<'a> {
+    text: &'a str,
+}
+
+impl fmt::Display for Quoted<'_> {
+    fn fmt<W: fmt::Write>(&self, f: &mut fmt::Formatter<W>) -> fmt::Result {
+        f.write_str("\"")?;
+        for letter in self.text.chars().take(MOST_SHOWN) {
+            if letter == ' ' || letter.is_ascii_graphic() {
+                f.write_char(letter)?;
+            } else {
+                f.write_str("?")?;
+            }
+        }
+        if self.text.chars().nth(MOST_SHOWN).is_some() {
+            f.write_str("..")?;
+        }
+        f.write_str("\"")
+    }
+}
+
+impl fmt::Display for RowOf {
+    fn fmt<W: fmt::Write>(&self, f: &mut fmt::Formatter<W>) -> fmt::Result {
+        match self {
+            RowOf::Document => f.write_str("the document"),
+            RowOf::Machine(machine) => {
+                let machine = machine.saturating_add(1);
+                write!(f, "machine {machine}")
+            }
+            RowOf::Pose { machine, pose } => {
+                let machine = machine.saturating_add(1);
+                let pose = pose.saturating_add(1);
+                write!(f, "machine {machine}: pose {pose}")
+            }
+            RowOf::Zone(zone) => {
+                let zone = zone.saturating_add(1);
+                write!(f, "zone {zone}")
+            }
+        }
+    }
+}
+
+impl fmt::Display for DocumentFault {
+    fn fmt<W: fmt::Write>(&self, f: &mut fmt::Formatter<W>) -> fmt::Result {
+        let row = self.row;
+        write!(f, "{row}: ")?;
+        if let Some(key) = self.key {
+            let word = key.word();
+            write!(f, "{word}: ")?;
+        }
+        write_wrong(&self.wrong, f)
+    }
+}
+
+fn write_named<W: fmt::Write>(
+    f: &mut fmt::Formatter<W>,
+    before: &str,
+    text: &String,
+    after: &str,
+) -> fmt::Result {
+    f.write_str(before)?;
+    let quoted = Quoted {
+        text: text.as_str(),
+    };
+    write!(f, "{quoted}")?;
+    f.write_str(after)
+}
+
+fn write_wrong<W: fmt::Write>(wrong: &Wrong, f: &mut fmt::Formatter<W>) -> fmt::Result {
+    match wrong {
+        Wrong::Unknown(key) => write_named(f, "", key, " is no key of it"),
+        Wrong::NoName(text) => write_named(
+            f,
+            "",
+            text,
+            " is no name: a letter, then letters, digits or underscores, lower case, at most 32",
+        ),
+        Wrong::Reserved(text) => write_named(
+            f,
+            "",
+            text,
+            " is a word of scripts, and names no machine",
+        ),
+        Wrong::Twice(text) => write_named(f, "", text, " is there twice"),
+        Wrong::NoMachine(text) => write_named(f, "no machine is named ", text, ""),
+        Wrong::NoZone(text) => write_named(f, "no zone is named ", text, ""),
+        Wrong::NoPlace(text) => write_named(f, "no place is named ", text, ""),
+        Wrong::NoPose(text) => write_named(f, "the machine has no pose ", text, ""),
+        Wrong::NoPosture(text) => write_named(
+            f,
+            "",
+            text,
+            " is no posture: known are closed moving openin openout",
+        ),
+        Wrong::NoCall(text) => write_named(
+            f,
+            "",
+            text,
+            " is no call: claim, give, yield, take or release with a zone, or pose with a pose",
+        ),
+        Wrong::Foreign(text) => write_named(f, "the machine doesn't host ", text, ""),
+        other => write_plain(other, f),
+    }
+}
+
+fn write_plain<W: fmt::Write>(wrong: &Wrong, f: &mut fmt::Formatter<W>) -> fmt::Result {
+    match wrong {
+        Wrong::Missing => f.write_str("it is missing"),
+        Wrong::NoText => f.write_str("it takes a text; put quotes round it"),
+        Wrong::NoTexts => f.write_str("it takes a list of texts, such as [\"hand\", \"die\"]"),
+        Wrong::NoTable => f.write_str("it takes a table, such as { interior = \"closed\" }"),
+        Wrong::NoTables => f.write_str("it takes a list of tables"),
+        Wrong::NoTruth => f.write_str("it takes true or false"),
+        Wrong::NoWay => f.write_str("it takes two places: from which one, and to which"),
+        Wrong::TooMany(most) => write!(f, "there are more than {most}"),
+        Wrong::Empty => f.write_str("it has no line; leave it out"),
+        Wrong::HostIsGuest => f.write_str("the host is its own guest"),
+        Wrong::Astray => f.write_str(
+            "it doesn't lead from a place of the giver to one of the receiver",
+        ),
+        _ => f.write_str("memory ran out"),
+    }
+}
+
+impl fmt::Display for PlanTextFault {
+    fn fmt<W: fmt::Write>(&self, f: &mut fmt::Formatter<W>) -> fmt::Result {
+        match self {
+            PlanTextFault::Read => f.write_str("read"),
+            PlanTextFault::Memory => f.write_str("memory"),
+            PlanTextFault::Long => f.write_str("plan long: it has more than 65536 bytes"),
+            PlanTextFault::NoToml { line, message } => {
+                let message = message.as_str();
+                write!(f, "plan text: line {line}: it is no TOML: {message}")
+            }
+            PlanTextFault::Row(fault) => write!(f, "plan {fault}"),
+            PlanTextFault::TooWide { missing } => {
+                write!(f, "plan wide: its word has {missing} bits more than 64")
+            }
+        }
+    }
+}

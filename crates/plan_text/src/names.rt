@@ -1,0 +1,115 @@
+//! Names of one kind, in the order of their numbers.
+ghost use Rattle.std.specs.Prelude.{◌≡◌, ◌≤◌, ◌<◌, ◌++◌, ◌∷◌, [], length, OnOk, string_bytes};
+ghost use Rattle.plan_text.specs.Names.{name_in, number_if, number_in};
+
+use std::alloc::{AllocError, Global};
+use std::marker::Model;
+
+/// The most names of one kind.
+pub const MAX_NAMES: usize = 64;
+
+/// The most characters of a name.
+const MAX_CHARACTERS: usize = 32;
+
+/// Names of one kind. The number of a name is its place among them, from 0.
+#[derive(Debug, Drop)]
+pub struct Names {
+    names: Vec<String>,
+}
+
+impl Model for Names {
+    ghost use Rattle.std.specs.Prelude.{ℕ, ◌≤◌, List, length, map, string_bytes};
+
+    ghost Value = { List (List ℕ) };
+
+    ghost view = { λ a. map string_bytes a.names.items };
+
+    ghost invariant = { λ a. length a.names.items ≤ 64 };
+}
+
+impl Names {
+    /// No names.
+    pub fn new(alloc: Global) -> Names
+        ensures { result ≡ [] }
+    {
+        Names {
+            names: Vec::new(alloc),
+        }
+    }
+
+    /// How many names there are: at most 64.
+    pub fn len(&self) -> usize
+        ensures count { result ≡ length self.now }
+        ensures few { result ≤ 64 }
+    {
+        self.names.len()
+    }
+
+    /// Adds a name, for which there must be room. An error says that memory ran out, and leaves the names.
+    pub fn push(&mut self, name: String) -> Result<(), AllocError>
+        requires { length self.old < 64 }
+        ensures { OnOk result (self.new ≡ self.old ++ string_bytes name ∷ []) }
+    {
+        self.names.push(name)?;
+        Ok(())
+    }
+
+    /// The name with a number, or an empty text if there is none.
+    pub fn name(&self, number: u8) -> &str
+        ensures { result.now ≡ name_in self.now number }
+    {
+        match self.names.get(usize::from(number)) {
+            Some(name) => name.as_str(),
+            None => "",
+        }
+    }
+
+    /// A number, if its name is this.
+    fn number_if(&self, name: &[u8], number: usize) -> Option<u8>
+        requires { number < 64 }
+        ensures { result ≡ number_if self.now name.now number }
+    {
+        let number = number as u8;
+        (self.name(number).as_bytes() == name).then_some(number)
+    }
+
+    /// The number of a name, or `None` if it isn't among them.
+    #[tactic(auto, using(plan_types::proofs::Below::first_below_more))]
+    pub fn number_of(&self, name: &[u8]) -> Option<u8>
+        ensures { result ≡ number_in self.now name.now }
+    {
+        let mut found = None;
+        for number in 0..self.names.len() {
+            found = found.or(self.number_if(name, number));
+        }
+        found
+    }
+}
+
+/// Whether a text is a name: a letter, then letters, digits or underscores, in lower case, at most 32 characters.
+pub fn is_name(text: &str) -> bool {
+    let bytes = text.as_bytes();
+    match bytes.first() {
+        Some(first) => {
+            first.is_ascii_lowercase()
+                && bytes.len() <= MAX_CHARACTERS
+                && bytes.iter().all(|byte| is_name_byte(*byte))
+        }
+        None => false,
+    }
+}
+
+fn is_name_byte(byte: u8) -> bool {
+    byte.is_ascii_lowercase() || byte.is_ascii_digit() || byte == b'_'
+}
+
+/// The words that mean something in a script or in an answer, and name no machine.
+const RESERVED: [&str; 11] = [
+    "watch", "free", "start", "claim", "give", "yield", "take", "release", "inquire", "pose",
+    "stop",
+];
+
+/// Whether a word means something in a script or in an answer, and so names no machine.
+pub fn is_reserved(text: &str) -> bool {
+    text == "resume" || RESERVED.contains(&text)
+}

@@ -1,0 +1,236 @@
+//! Reads a plan's document.
+ghost use Rattle.cell_text.specs.Input.{TakesAtMost};
+
+use crate::document::{Document, MachineRow, PoseRow, WayRow, ZoneRow};
+use crate::fault::{DocumentFault, Key, PlanTextFault, RowOf, Wrong};
+use crate::named_plan::NamedPlan;
+use crate::resolving::named_plan_of;
+use crate::values::{check_keys, gives_of, required, text_of, texts_of, truth_of, way_of};
+use cell_text::{InputFault, read_up_to};
+use std::alloc::Global;
+use std::io::Read;
+use toml::{Table, Value};
+
+/// The most bytes of a document.
+pub const MAX_BYTES: usize = 65_536;
+
+/// The keys at the top, of a machine, of a pose and of a zone.
+const TOP_KEYS: [&str; 2] = ["machine", "zone"];
+
+const MACHINE_KEYS: [&str; 4] = ["name", "places", "poses", "program"];
+
+const POSE_KEYS: [&str; 3] = ["name", "gives", "after_moving"];
+
+const ZONE_KEYS: [&str; 5] = ["name", "host", "guest", "inward", "outward"];
+
+/// Reads a plan from the bytes that the reader has left. At most 65,537 bytes are taken from it.
+///
+/// The error is the first fault: too many bytes, no TOML, then the rows in their order, the tables, and the word.
+/// `Read` if the reader fails; `Memory` may come from any allocation.
+pub fn read_plan<R: Read>(alloc: Global, reader: &mut R) -> Result<NamedPlan, PlanTextFault>
+    ensures { TakesAtMost (R.remaining reader.old) (R.remaining reader.new) 65537 }
+{
+    match read_up_to(alloc, reader, MAX_BYTES + 1) {
+        Ok(bytes) => plan_of(alloc, bytes.as_slice()),
+        Err(InputFault::Read) => Err(PlanTextFault::Read),
+        Err(InputFault::Memory) => Err(PlanTextFault::Memory),
+    }
+}
+
+/// The plan in a document's bytes, or the first fault.
+pub fn plan_of(alloc: Global, bytes: &[u8]) -> Result<NamedPlan, PlanTextFault> {
+    if bytes.len() > MAX_BYTES {
+        return Err(PlanTextFault::Long);
+    }
+    match toml::table_from_slice(alloc, bytes) {
+        Ok(table) => plan_in(alloc, &table),
+        Err(error) if error.is_memory() => Err(PlanTextFault::Memory),
+        Err(error) => {
+            let before = error.span().map_or(0, |span| span.start);
+            Err(PlanTextFault::NoToml {
+                line: line_at(bytes, before),
+                message: String::from_str(alloc, error.message())?,
+            })
+        }
+    }
+}
+
+fn plan_in(alloc: Global, table: &Table) -> Result<NamedPlan, PlanTextFault> {
+    let document = document_in(alloc, table)?;
+    named_plan_of(alloc, &document)
+}
+
+/// The line of the byte after this number of bytes, from 1.
+fn line_at(bytes: &[u8], before: usize) -> usize {
+    let mut line = 1usize;
+    for byte in bytes.iter().take(before) {
+        if *byte == b'\n' {
+            line = line.saturating_add(1);
+        }
+    }
+    line
+}
+
+/// The rows in a table.
+pub fn document_in(alloc: Global, table: &Table) -> Result<Document, DocumentFault> {
+    check_keys(alloc, table, &TOP_KEYS).map_err(|wrong| DocumentFault::of(RowOf::Document, wrong))?;
+    let machines = machines_at(alloc, table)?;
+    let zones = zones_at(alloc, table)?;
+    Ok(Document { machines, zones })
+}
+
+fn machines_at(alloc: Global, table: &Table) -> Result<Vec<MachineRow>, DocumentFault> {
+    let at = |wrong: Wrong| DocumentFault::at(RowOf::Document, Key::Machine, wrong);
+    let Some(value) = table.get("machine") else {
+        return Err(at(Wrong::Missing));
+    };
+    let Some(items) = value.as_array() else {
+        return Err(at(Wrong::NoTables));
+    };
+    let mut machines = Vec::new(alloc);
+    let values = items.as_slice();
+    'machines: for i in 0..values.len() {
+        let row = machine_of(alloc, &values[i], i)?;
+        machines.push(row).map_err(|_| at(Wrong::Memory))?;
+    }
+    Ok(machines)
+}
+
+fn zones_at(alloc: Global, table: &Table) -> Result<Vec<ZoneRow>, DocumentFault> {
+    let at = |wrong: Wrong| DocumentFault::at(RowOf::Document, Key::Zone, wrong);
+    let mut zones = Vec::new(alloc);
+    let Some(value) = table.get("zone") else {
+        return Ok(zones);
+    };
+    let Some(items) = value.as_array() else {
+        return Err(at(Wrong::NoTables));
+    };
+    let values = items.as_slice();
+    'zones: for i in 0..values.len() {
+        let row = zone_of(alloc, &values[i], i)?;
+        zones.push(row).map_err(|_| at(Wrong::Memory))?;
+    }
+    Ok(zones)
+}
+
+fn machine_of(alloc: Global, value: &Value, machine: usize) -> Result<MachineRow, DocumentFault> {
+    let row = RowOf::Machine(machine);
+    let Some(table) = value.as_table() else {
+        return Err(DocumentFault::at(RowOf::Document, Key::Machine, Wrong::NoTables));
+    };
+    check_keys(alloc, table, &MACHINE_KEYS).map_err(|wrong| DocumentFault::of(row, wrong))?;
+    let name = required_text(alloc, table, row, Key::Name)?;
+    let places = optional_texts(alloc, table, row, Key::Places)?;
+    let poses = poses_at(alloc, table, machine)?;
+    let program = optional_texts(alloc, table, row, Key::Program)?;
+    Ok(MachineRow {
+        name,
+        places,
+        poses,
+        program,
+    })
+}
+
+fn poses_at(alloc: Global, table: &Table, machine: usize) -> Result<Vec<PoseRow>, DocumentFault> {
+    let at = |wrong: Wrong| DocumentFault::at(RowOf::Machine(machine), Key::Poses, wrong);
+    let mut poses = Vec::new(alloc);
+    let Some(value) = table.get("poses") else {
+        return Ok(poses);
+    };
+    let Some(items) = value.as_array() else {
+        return Err(at(Wrong::NoTables));
+    };
+    let values = items.as_slice();
+    'poses: for i in 0..values.len() {
+        let row = pose_of(alloc, &values[i], machine, i)?;
+        poses.push(row).map_err(|_| at(Wrong::Memory))?;
+    }
+    Ok(poses)
+}
+
+fn pose_of(
+    alloc: Global,
+    value: &Value,
+    machine: usize,
+    pose: usize,
+) -> Result<PoseRow, DocumentFault> {
+    let row = RowOf::Pose { machine, pose };
+    let Some(table) = value.as_table() else {
+        return Err(DocumentFault::at(RowOf::Machine(machine), Key::Poses, Wrong::NoTables));
+    };
+    check_keys(alloc, table, &POSE_KEYS).map_err(|wrong| DocumentFault::of(row, wrong))?;
+    let name = required_text(alloc, table, row, Key::Name)?;
+    let gives = required(table, "gives")
+        .and_then(|value| gives_of(alloc, value))
+        .map_err(|wrong| DocumentFault::at(row, Key::Gives, wrong))?;
+    let after_moving = match table.get("after_moving") {
+        Some(value) => {
+            truth_of(value).map_err(|wrong| DocumentFault::at(row, Key::AfterMoving, wrong))?
+        }
+        None => false,
+    };
+    Ok(PoseRow {
+        name,
+        gives,
+        after_moving,
+    })
+}
+
+fn zone_of(alloc: Global, value: &Value, zone: usize) -> Result<ZoneRow, DocumentFault> {
+    let row = RowOf::Zone(zone);
+    let Some(table) = value.as_table() else {
+        return Err(DocumentFault::at(RowOf::Document, Key::Zone, Wrong::NoTables));
+    };
+    check_keys(alloc, table, &ZONE_KEYS).map_err(|wrong| DocumentFault::of(row, wrong))?;
+    let name = required_text(alloc, table, row, Key::Name)?;
+    let host = required_text(alloc, table, row, Key::Host)?;
+    let guest = required_text(alloc, table, row, Key::Guest)?;
+    let inward = optional_way(alloc, table, row, Key::Inward)?;
+    let outward = optional_way(alloc, table, row, Key::Outward)?;
+    Ok(ZoneRow {
+        name,
+        host,
+        guest,
+        inward,
+        outward,
+    })
+}
+
+fn required_text(
+    alloc: Global,
+    table: &Table,
+    row: RowOf,
+    key: Key,
+) -> Result<String, DocumentFault> {
+    let Some(value) = table.get(key.word()) else {
+        return Err(DocumentFault::at(row, key, Wrong::Missing));
+    };
+    text_of(alloc, value).map_err(|wrong| DocumentFault::at(row, key, wrong))
+}
+
+fn optional_texts(
+    alloc: Global,
+    table: &Table,
+    row: RowOf,
+    key: Key,
+) -> Result<Vec<String>, DocumentFault> {
+    match table.get(key.word()) {
+        Some(value) => texts_of(alloc, value).map_err(|wrong| DocumentFault::at(row, key, wrong)),
+        None => Ok(Vec::new(alloc)),
+    }
+}
+
+fn optional_way(
+    alloc: Global,
+    table: &Table,
+    row: RowOf,
+    key: Key,
+) -> Result<Option<WayRow>, DocumentFault> {
+    match table.get(key.word()) {
+        Some(value) => match way_of(alloc, value) {
+            Ok(way) => Ok(Some(way)),
+            Err(wrong) => Err(DocumentFault::at(row, key, wrong)),
+        },
+        None => Ok(None),
+    }
+}

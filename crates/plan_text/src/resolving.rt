@@ -1,0 +1,392 @@
+//! From the names in a document's rows to numbers: the tables of a plan.
+
+use crate::calls::Verb;
+use crate::document::{Document, Given, MachineRow, PoseRow, WayRow, ZoneRow};
+use crate::fault::{DocumentFault, Key, PlanTextFault, RowOf, Wrong};
+use crate::named_plan::NamedPlan;
+use crate::names::{MAX_NAMES, Names, is_name, is_reserved};
+use crate::values::copy;
+use crate::words::posture_in;
+use plan_types::{
+    Call, MAX_MACHINES, MAX_PLACES, MAX_POSES, MAX_ZONES, Plan, PlanFault, PlanPose, PlanZone,
+    Posture, Tables, Way,
+};
+use plan_word::Layout;
+use std::alloc::Global;
+
+/// The plan of a document, with its names, or the first fault.
+pub fn named_plan_of(alloc: Global, document: &Document) -> Result<NamedPlan, PlanTextFault> {
+    let machines = machine_names(alloc, document)?;
+    let Kept { places, keepers } = kept_places(alloc, document)?;
+    let zones = zone_names(alloc, document)?;
+    let zone_rows = plan_zones(alloc, document, &machines, &places)?;
+    let Posed { poses, rows } = plan_poses(alloc, document, &zones)?;
+    let tables = Tables {
+        machines: machines.len() as u8,
+        zones: zone_rows,
+        poses: rows,
+        places: keepers,
+    };
+    let plan = match Plan::new(tables) {
+        Ok(plan) => plan,
+        Err(fault) => return Err(table_fault(alloc, document, fault)?.into()),
+    };
+    let layout = match Layout::of(&plan) {
+        Ok(layout) => layout,
+        Err(fault) => {
+            return Err(PlanTextFault::TooWide {
+                missing: fault.missing,
+            });
+        }
+    };
+    let mut named = NamedPlan {
+        plan,
+        layout,
+        machines,
+        zones,
+        places,
+        poses,
+        programs: Vec::new(alloc),
+    };
+    let programs = programs_of(alloc, document, &named)?;
+    named.programs = programs;
+    Ok(named)
+}
+
+/// Adds a name of a row to names of its kind, of which there may be so many.
+fn add_name(alloc: Global, names: &mut Names, name: &str, most: usize) -> Result<(), Wrong> {
+    if names.len() >= most || names.len() >= MAX_NAMES {
+        return Err(Wrong::TooMany(most));
+    }
+    if !is_name(name) {
+        return Err(Wrong::NoName(copy(alloc, name)?));
+    }
+    if names.number_of(name.as_bytes()).is_some() {
+        return Err(Wrong::Twice(copy(alloc, name)?));
+    }
+    names.push(copy(alloc, name)?)?;
+    Ok(())
+}
+
+fn machine_names(alloc: Global, document: &Document) -> Result<Names, DocumentFault> {
+    let mut names = Names::new(alloc);
+    for i in 0..document.machines.len() {
+        let name = document.machines[i].name.as_str();
+        let at = |wrong: Wrong| DocumentFault::at(RowOf::Machine(i), Key::Name, wrong);
+        add_name(alloc, &mut names, name, usize::from(MAX_MACHINES)).map_err(at)?;
+        if is_reserved(name) {
+            let name = copy(alloc, name).map_err(|_| at(Wrong::Memory))?;
+            return Err(at(Wrong::Reserved(name)));
+        }
+    }
+    Ok(names)
+}
+
+fn zone_names(alloc: Global, document: &Document) -> Result<Names, DocumentFault> {
+    let mut names = Names::new(alloc);
+    for i in 0..document.zones.len() {
+        let name = document.zones[i].name.as_str();
+        add_name(alloc, &mut names, name, MAX_ZONES).map_err(|wrong| DocumentFault::at(
+            RowOf::Zone(i),
+            Key::Name,
+            wrong,
+        ))?;
+    }
+    Ok(names)
+}
+
+/// Places, and the machine that keeps each.
+#[derive(Drop)]
+struct Kept {
+    places: Names,
+    keepers: Vec<u8>,
+}
+
+fn kept_places(alloc: Global, document: &Document) -> Result<Kept, DocumentFault> {
+    let mut kept = Kept {
+        places: Names::new(alloc),
+        keepers: Vec::new(alloc),
+    };
+    for i in 0..document.machines.len() {
+        keep_places(alloc, &document.machines[i], i, &mut kept).map_err(|wrong| DocumentFault::at(
+            RowOf::Machine(i),
+            Key::Places,
+            wrong,
+        ))?;
+    }
+    Ok(kept)
+}
+
+fn keep_places(
+    alloc: Global,
+    row: &MachineRow,
+    machine: usize,
+    kept: &mut Kept,
+) -> Result<(), Wrong> {
+    let Ok(keeper) = u8::try_from(machine) else {
+        return Err(Wrong::TooMany(usize::from(MAX_MACHINES)));
+    };
+    for place in &row.places {
+        add_name(alloc, &mut kept.places, place.as_str(), MAX_PLACES)?;
+        kept.keepers.push(keeper)?;
+    }
+    Ok(())
+}
+
+fn plan_zones(
+    alloc: Global,
+    document: &Document,
+    machines: &Names,
+    places: &Names,
+) -> Result<Vec<PlanZone>, DocumentFault> {
+    let mut rows = Vec::new(alloc);
+    for i in 0..document.zones.len() {
+        let row = plan_zone(alloc, &document.zones[i], RowOf::Zone(i), machines, places)?;
+        rows.push(row)
+            .map_err(|_| DocumentFault::of(RowOf::Zone(i), Wrong::Memory))?;
+    }
+    Ok(rows)
+}
+
+fn plan_zone(
+    alloc: Global,
+    row: &ZoneRow,
+    at: RowOf,
+    machines: &Names,
+    places: &Names,
+) -> Result<PlanZone, DocumentFault> {
+    let host = machine_named(alloc, machines, row.host.as_str()).map_err(|wrong| DocumentFault::at(
+        at,
+        Key::Host,
+        wrong,
+    ))?;
+    let guest = machine_named(alloc, machines, row.guest.as_str()).map_err(
+        |wrong| DocumentFault::at(at, Key::Guest, wrong),
+    )?;
+    let inward = way_named(alloc, places, &row.inward).map_err(|wrong| DocumentFault::at(
+        at,
+        Key::Inward,
+        wrong,
+    ))?;
+    let outward = way_named(alloc, places, &row.outward).map_err(|wrong| DocumentFault::at(
+        at,
+        Key::Outward,
+        wrong,
+    ))?;
+    Ok(PlanZone {
+        host,
+        guest,
+        inward,
+        outward,
+    })
+}
+
+fn machine_named(alloc: Global, machines: &Names, name: &str) -> Result<u8, Wrong> {
+    match machines.number_of(name.as_bytes()) {
+        Some(machine) => Ok(machine),
+        None => Err(Wrong::NoMachine(copy(alloc, name)?)),
+    }
+}
+
+fn place_named(alloc: Global, places: &Names, name: &str) -> Result<u8, Wrong> {
+    match places.number_of(name.as_bytes()) {
+        Some(place) => Ok(place),
+        None => Err(Wrong::NoPlace(copy(alloc, name)?)),
+    }
+}
+
+fn way_named(alloc: Global, places: &Names, way: &Option<WayRow>) -> Result<Option<Way>, Wrong> {
+    match way {
+        Some(way) => {
+            let from = place_named(alloc, places, way.from.as_str())?;
+            let to = place_named(alloc, places, way.to.as_str())?;
+            Ok(Some(Way { from, to }))
+        }
+        None => Ok(None),
+    }
+}
+
+/// Poses, and what each gives.
+#[derive(Drop)]
+struct Posed {
+    poses: Names,
+    rows: Vec<PlanPose>,
+}
+
+fn plan_poses(alloc: Global, document: &Document, zones: &Names) -> Result<Posed, DocumentFault> {
+    let mut posed = Posed {
+        poses: Names::new(alloc),
+        rows: Vec::new(alloc),
+    };
+    for i in 0..document.machines.len() {
+        pose_machine(alloc, &document.machines[i], i, zones, &mut posed)?;
+    }
+    Ok(posed)
+}
+
+fn pose_machine(
+    alloc: Global,
+    row: &MachineRow,
+    machine: usize,
+    zones: &Names,
+    posed: &mut Posed,
+) -> Result<(), DocumentFault> {
+    let mut own = Names::new(alloc);
+    for pose in 0..row.poses.len() {
+        let at = RowOf::Pose { machine, pose };
+        add_pose(alloc, &row.poses[pose], at, machine, &mut own, posed, zones)?;
+    }
+    Ok(())
+}
+
+fn add_pose(
+    alloc: Global,
+    row: &PoseRow,
+    at: RowOf,
+    machine: usize,
+    own: &mut Names,
+    posed: &mut Posed,
+    zones: &Names,
+) -> Result<(), DocumentFault> {
+    let name = row.name.as_str();
+    let of_name = |wrong: Wrong| DocumentFault::at(at, Key::Name, wrong);
+    add_name(alloc, own, name, MAX_POSES).map_err(of_name)?;
+    let gives = gives_of(alloc, zones, &row.gives).map_err(|wrong| DocumentFault::at(
+        at,
+        Key::Gives,
+        wrong,
+    ))?;
+    if posed.poses.len() >= MAX_POSES {
+        return Err(of_name(Wrong::TooMany(MAX_POSES)));
+    }
+    let Ok(machine) = u8::try_from(machine) else {
+        return Err(of_name(Wrong::TooMany(usize::from(MAX_MACHINES))));
+    };
+    let name = copy(alloc, name).map_err(|_| of_name(Wrong::Memory))?;
+    posed.poses.push(name).map_err(|_| of_name(Wrong::Memory))?;
+    let row = PlanPose {
+        machine,
+        after_moving: row.after_moving,
+        gives,
+    };
+    posed.rows.push(row).map_err(|_| of_name(Wrong::Memory))
+}
+
+fn gives_of(
+    alloc: Global,
+    zones: &Names,
+    rows: &[Given],
+) -> Result<[Option<Posture>; MAX_ZONES], Wrong> {
+    let mut gives = [None; MAX_ZONES];
+    for row in rows {
+        let Some(zone) = zones.number_of(row.zone.as_bytes()) else {
+            return Err(Wrong::NoZone(copy(alloc, row.zone.as_str())?));
+        };
+        let Some(posture) = posture_in(row.posture.as_str()) else {
+            return Err(Wrong::NoPosture(copy(alloc, row.posture.as_str())?));
+        };
+        if usize::from(zone) >= MAX_ZONES {
+            return Err(Wrong::TooMany(MAX_ZONES));
+        }
+        gives[usize::from(zone)] = Some(posture);
+    }
+    Ok(gives)
+}
+
+/// The fault of tables in words of the document.
+fn table_fault(
+    alloc: Global,
+    document: &Document,
+    fault: PlanFault,
+) -> Result<DocumentFault, DocumentFault> {
+    let top = |key: Key, most: usize| DocumentFault::at(RowOf::Document, key, Wrong::TooMany(most));
+    let zone_at = |zone: usize, key: Key, wrong: Wrong| DocumentFault::at(
+        RowOf::Zone(zone),
+        key,
+        wrong,
+    );
+    Ok(match fault {
+        PlanFault::TooManyMachines => top(Key::Machine, usize::from(MAX_MACHINES)),
+        PlanFault::TooManyZones => top(Key::Zone, MAX_ZONES),
+        PlanFault::TooManyPoses => top(Key::Poses, MAX_POSES),
+        PlanFault::TooManyPlaces | PlanFault::NoSuchKeeper { .. } => top(Key::Places, MAX_PLACES),
+        PlanFault::NoSuchHost { zone } => zone_at(zone, Key::Host, Wrong::Missing),
+        PlanFault::NoSuchGuest { zone } => zone_at(zone, Key::Guest, Wrong::Missing),
+        PlanFault::HostIsGuest { zone } => zone_at(zone, Key::Guest, Wrong::HostIsGuest),
+        PlanFault::InwardAstray { zone } => zone_at(zone, Key::Inward, Wrong::Astray),
+        PlanFault::OutwardAstray { zone } => zone_at(zone, Key::Outward, Wrong::Astray),
+        PlanFault::NoSuchMachine { pose } => {
+            DocumentFault::of(pose_at(document, pose), Wrong::Missing)
+        }
+        PlanFault::ForeignZone { pose, zone } => {
+            let at = pose_at(document, pose);
+            let name = document.zones.get(zone).map_or("", |row| row.name.as_str());
+            let name = copy(alloc, name).map_err(|_| DocumentFault::of(at, Wrong::Memory))?;
+            DocumentFault::at(at, Key::Gives, Wrong::Foreign(name))
+        }
+    })
+}
+
+/// The row of a pose by its number among those of all machines.
+fn pose_at(document: &Document, number: usize) -> RowOf {
+    let mut left = number;
+    for machine in 0..document.machines.len() {
+        let count = document.machines[machine].poses.len();
+        if left < count {
+            return RowOf::Pose {
+                machine,
+                pose: left,
+            };
+        }
+        left -= count;
+    }
+    RowOf::Document
+}
+
+fn programs_of(
+    alloc: Global,
+    document: &Document,
+    named: &NamedPlan,
+) -> Result<Vec<Vec<Call>>, DocumentFault> {
+    let mut programs = Vec::new(alloc);
+    for i in 0..document.machines.len() {
+        let at = |wrong: Wrong| DocumentFault::at(RowOf::Machine(i), Key::Program, wrong);
+        let program = program_of(alloc, &document.machines[i], i, named).map_err(at)?;
+        programs.push(program).map_err(|_| at(Wrong::Memory))?;
+    }
+    Ok(programs)
+}
+
+fn program_of(
+    alloc: Global,
+    row: &MachineRow,
+    machine: usize,
+    named: &NamedPlan,
+) -> Result<Vec<Call>, Wrong> {
+    let Ok(machine) = u8::try_from(machine) else {
+        return Err(Wrong::TooMany(usize::from(MAX_MACHINES)));
+    };
+    let mut calls = Vec::new(alloc);
+    for line in &row.program {
+        calls.push(call_in(alloc, line.as_str(), machine, named)?)?;
+    }
+    Ok(calls)
+}
+
+/// The call in a line of a program.
+fn call_in(alloc: Global, line: &str, machine: u8, named: &NamedPlan) -> Result<Call, Wrong> {
+    let Some((word, name)) = line.split_once(' ') else {
+        return Err(Wrong::NoCall(copy(alloc, line)?));
+    };
+    match Verb::read(word.as_bytes()) {
+        Some(Verb::Pose) => match named.own_pose(machine, name.as_bytes()) {
+            Some(pose) => Ok(Call::SetPose(pose)),
+            None => Err(Wrong::NoPose(copy(alloc, name)?)),
+        },
+        Some(Verb::Inquire) | None => Err(Wrong::NoCall(copy(alloc, line)?)),
+        Some(verb) => match named.call(machine, verb, name.as_bytes()) {
+            Some(call) => Ok(call),
+            None => Err(Wrong::NoZone(copy(alloc, name)?)),
+        },
+    }
+}
