@@ -1,0 +1,173 @@
+/* The interlock of any plant, by its plan, for C and C++.
+
+   `plan header` prints a plan's bytes, and the numbers of its machines, zones, poses and places, from 0. The state of the
+   plant is one 64-bit word. bagunjoki_plan_step answers a call on such a word, and gives the word after it.
+   bagunjoki_plan_ask makes a call on a word that threads or processes share.
+
+   What is proved (crates/plan_c): what the four functions of the library return. What isn't: the loops of
+   bagunjoki_plan_ask and bagunjoki_plan_renew, which your compiler translates. They are right if
+     - nothing but these two writes the word after it was set to a start's,
+     - no two callers call as the same machine, and
+     - all callers pass the same plan.
+   This header can't keep you from any of it. docs/FROM_C.md has the whole list of duties. */
+#ifndef BAGUNJOKI_PLAN_H
+#define BAGUNJOKI_PLAN_H
+
+#include <stdbool.h>
+#include <stddef.h>
+#include <stdint.h>
+
+#ifdef __cplusplus
+#include <atomic>
+extern "C" {
+#else
+#include <stdatomic.h>
+#endif
+
+/* The watch's number as a machine: it inquires, stops and resumes. */
+#define BAGUNJOKI_PLAN_WATCH 15
+
+/* Where a reply names no machine (as owner: nobody), no zone or no posture. */
+#define BAGUNJOKI_PLAN_NOTHING 255
+
+/* Postures of zones. */
+enum bagunjoki_plan_posture {
+    BAGUNJOKI_PLAN_CLOSED = 0,
+    BAGUNJOKI_PLAN_MOVING = 1,
+    BAGUNJOKI_PLAN_OPEN_IN = 2,
+    BAGUNJOKI_PLAN_OPEN_OUT = 3
+};
+
+/* Verbs. The object of SET_POSE is a pose, that of STOP and RESUME is 0, that of all others a zone. */
+enum bagunjoki_plan_verb {
+    BAGUNJOKI_PLAN_CLAIM = 1,
+    BAGUNJOKI_PLAN_GIVE = 2,
+    BAGUNJOKI_PLAN_YIELD = 3,
+    BAGUNJOKI_PLAN_TAKE = 4,
+    BAGUNJOKI_PLAN_RELEASE = 5,
+    BAGUNJOKI_PLAN_SET_POSE = 6,
+    BAGUNJOKI_PLAN_INQUIRE = 8,
+    BAGUNJOKI_PLAN_STOP = 9,
+    BAGUNJOKI_PLAN_RESUME = 10
+};
+
+/* Answers. Only DONE changes the word. 1 to 15 are refusals. */
+enum bagunjoki_plan_answer {
+    BAGUNJOKI_PLAN_DONE = 0,
+    BAGUNJOKI_PLAN_NOT_PARTY = 1, /* the caller is no party of the zone, or there is no such zone */
+    BAGUNJOKI_PLAN_HELD = 2,      /* by the reply's owner */
+    BAGUNJOKI_PLAN_ALREADY_MINE = 3,
+    BAGUNJOKI_PLAN_SHUT = 4,          /* the zone has the reply's posture */
+    BAGUNJOKI_PLAN_NOT_OWNER = 5,     /* the reply's owner owns a zone that the call needs, or nobody */
+    BAGUNJOKI_PLAN_PLATE_IN_ZONE = 6, /* in the reply's zone */
+    BAGUNJOKI_PLAN_NO_PLATE = 7,
+    BAGUNJOKI_PLAN_PLACE_FULL = 8,
+    BAGUNJOKI_PLAN_WRONG_WAY = 9,
+    BAGUNJOKI_PLAN_JUMP = 10,
+    BAGUNJOKI_PLAN_NO_POSE = 12,
+    BAGUNJOKI_PLAN_WORN = 13, /* the stamp is the last: no call is done any more */
+    BAGUNJOKI_PLAN_STOPPED = 14,
+    BAGUNJOKI_PLAN_NOT_STOPPED = 15,
+    BAGUNJOKI_PLAN_SHOWN = 32,    /* the reply has the zone's owner, plate and posture */
+    BAGUNJOKI_PLAN_NO_CALL = 64,  /* the numbers name no call */
+    BAGUNJOKI_PLAN_NO_STATE = 65, /* the word is no state's: something else has written it */
+    BAGUNJOKI_PLAN_BUSY = 66,     /* bagunjoki_plan_ask alone: others made a change before each of its tries */
+    BAGUNJOKI_PLAN_NO_PLAN = 67,  /* the bytes are no plan's, or its word doesn't fit 64 bits */
+    BAGUNJOKI_PLAN_NO_MEMORY = 68 /* memory ran out: nothing has changed, and the call may be made again */
+};
+
+/* In place of a word, and of a stamp. */
+#define BAGUNJOKI_PLAN_NO_WORD UINT64_MAX
+#define BAGUNJOKI_PLAN_NO_STAMP UINT32_MAX
+
+/* The last stamp: when a word has it, the interlock is worn. bagunjoki_plan_renew keeps it from that. */
+#define BAGUNJOKI_PLAN_LAST_STAMP 1048575
+
+/* What a call gives back. */
+typedef struct bagunjoki_plan_reply {
+    uint64_t next;   /* the word after the call. Unless the answer is DONE, the one before it */
+    uint8_t answer;
+    uint8_t owner;   /* what the answer names, or NOTHING */
+    uint8_t zone;
+    uint8_t posture;
+    bool plate;
+} bagunjoki_plan_reply;
+
+/* The proved functions. They read nothing but their arguments, and keep nothing: each reads the plan anew, takes memory
+   by malloc, and frees it before it returns. Any thread may call them, and no signal handler. `plan` points to `length`
+   bytes, `digits` to `count` of them; neither may be null. */
+
+/* A call on a word. It changes no shared word. */
+bagunjoki_plan_reply bagunjoki_plan_step(const uint8_t *plan, size_t length, uint64_t word, uint8_t machine,
+                                         uint8_t verb, uint8_t object);
+
+/* The word of a start: `count` digits 0 or 1, as text, one for each place of the plan, and the first stamp, mostly 0.
+   All zones are free and closed. NO_WORD if there is no such plan or start, or no memory. */
+uint64_t bagunjoki_plan_start(const uint8_t *plan, size_t length, const uint8_t *digits, size_t count,
+                              uint32_t stamp);
+
+/* The word of the same state with another stamp. NO_WORD if there is no such plan, the word is no state's, the stamp is
+   past the last, or if there is no memory. */
+uint64_t bagunjoki_plan_restamp(const uint8_t *plan, size_t length, uint64_t word, uint32_t stamp);
+
+/* The stamp of a state's word: how many calls were DONE, after the first stamp or that of the last renewal. NO_STAMP if
+   there is no such plan, the word is no state's, or if there is no memory. */
+uint32_t bagunjoki_plan_stamp(const uint8_t *plan, size_t length, uint64_t word);
+
+#ifdef __cplusplus
+}
+typedef std::atomic<uint64_t> bagunjoki_plan_word;
+#define BAGUNJOKI_PLAN_ATOMIC(name) std::atomic_##name
+#else
+typedef _Atomic uint64_t bagunjoki_plan_word;
+#define BAGUNJOKI_PLAN_ATOMIC(name) atomic_##name
+#endif
+
+/* Two processes can share a word only if its operations take no lock. */
+#if ATOMIC_LLONG_LOCK_FREE != 2
+#error "bagunjoki_plan.h: this machine has no lock-free operations on 64 bits"
+#endif
+
+/* Makes a word that threads or processes share the word of a start. Before the first call, and by one thread. */
+static inline void bagunjoki_plan_open(bagunjoki_plan_word *shared, uint64_t start) {
+    BAGUNJOKI_PLAN_ATOMIC(store)(shared, start);
+}
+
+/* A call on a shared word, as bagunjoki_ask of bagunjoki.h: one load, and at most `tries` exchanges, all sequentially
+   consistent. The reply's `next` is the word that the call left, if it is DONE, and otherwise the word in which it was
+   answered. With no try left, a call that would be DONE is BUSY, and has changed nothing. */
+static inline bagunjoki_plan_reply bagunjoki_plan_ask(const uint8_t *plan, size_t length, bagunjoki_plan_word *shared,
+                                                      uint8_t machine, uint8_t verb, uint8_t object,
+                                                      unsigned tries) {
+    uint64_t word = BAGUNJOKI_PLAN_ATOMIC(load)(shared);
+    for (;;) {
+        bagunjoki_plan_reply reply = bagunjoki_plan_step(plan, length, word, machine, verb, object);
+        if (reply.answer != BAGUNJOKI_PLAN_DONE) return reply;
+        if (tries == 0) {
+            reply.answer = BAGUNJOKI_PLAN_BUSY;
+            reply.next = word;
+            return reply;
+        }
+        /* (an exchange that is lost puts the word that it found into `word`) */
+        if (BAGUNJOKI_PLAN_ATOMIC(compare_exchange_strong)(shared, &word, reply.next)) return reply;
+        tries--;
+    }
+}
+
+/* Keeps a shared word from wearing out, as bagunjoki_renew: if its stamp is `from` or later, gives it the stamp `to`,
+   and changes nothing else of the state. Any thread may do this at any moment, in each turn:
+   bagunjoki_plan_renew(PLAN, sizeof PLAN, &word, 1000000, 0, 8). False if it is still to be done. */
+static inline bool bagunjoki_plan_renew(const uint8_t *plan, size_t length, bagunjoki_plan_word *shared, uint32_t from,
+                                        uint32_t to, unsigned tries) {
+    uint64_t word = BAGUNJOKI_PLAN_ATOMIC(load)(shared);
+    while (bagunjoki_plan_stamp(plan, length, word) >= from) {
+        uint64_t next = bagunjoki_plan_restamp(plan, length, word, to);
+        if (next == BAGUNJOKI_PLAN_NO_WORD || tries == 0) return false;
+        if (BAGUNJOKI_PLAN_ATOMIC(compare_exchange_strong)(shared, &word, next)) return true;
+        tries--;
+    }
+    return true;
+}
+
+#undef BAGUNJOKI_PLAN_ATOMIC
+#endif

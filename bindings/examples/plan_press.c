@@ -1,0 +1,99 @@
+/* Two machines at a press, each a thread: the loader puts plates into the press and takes them out, and the press closes
+   in between. The plan is examples/plans/press.toml.   cc -pthread plan_press.c $(pkg-config --cflags --libs bagunjoki_plan) */
+#include <bagunjoki_plan.h>
+#include <pthread.h>
+#include <stdio.h>
+
+/* What `plan header PRESS` prints of this plan: numbers and bytes. */
+enum { PRESS_MACHINE_LOADER, PRESS_MACHINE_PRESS };
+enum { PRESS_ZONE_INTERIOR };
+enum { PRESS_POSE_LOAD, PRESS_POSE_UNLOAD, PRESS_POSE_CLOSED, PRESS_POSE_TRAVELLING };
+static const uint8_t PRESS_PLAN[] = {
+    2, 1, 4, 2,
+    1, 0, 1, 0, 1, 1, 1, 0,
+    1, 1, 3, 0, 0, 0, 0, 0, 0, 0, 0, 0,
+    1, 1, 4, 0, 0, 0, 0, 0, 0, 0, 0, 0,
+    1, 1, 1, 0, 0, 0, 0, 0, 0, 0, 0, 0,
+    1, 0, 2, 0, 0, 0, 0, 0, 0, 0, 0, 0,
+    0, 1,
+};
+
+enum { ROUNDS = 10000 };
+
+struct step {
+    uint8_t verb, object;
+};
+
+/* The press has the interior to itself while it moves and while it is closed. */
+static const struct step press_program[] = {
+    {BAGUNJOKI_PLAN_CLAIM, PRESS_ZONE_INTERIOR},       {BAGUNJOKI_PLAN_SET_POSE, PRESS_POSE_TRAVELLING},
+    {BAGUNJOKI_PLAN_SET_POSE, PRESS_POSE_LOAD},        {BAGUNJOKI_PLAN_YIELD, PRESS_ZONE_INTERIOR},
+    {BAGUNJOKI_PLAN_TAKE, PRESS_ZONE_INTERIOR},        {BAGUNJOKI_PLAN_SET_POSE, PRESS_POSE_TRAVELLING},
+    {BAGUNJOKI_PLAN_SET_POSE, PRESS_POSE_CLOSED},      {BAGUNJOKI_PLAN_SET_POSE, PRESS_POSE_TRAVELLING},
+    {BAGUNJOKI_PLAN_SET_POSE, PRESS_POSE_UNLOAD},      {BAGUNJOKI_PLAN_GIVE, PRESS_ZONE_INTERIOR},
+};
+
+/* The loader waits until the press has handed the interior over. */
+static const struct step loader_program[] = {
+    {BAGUNJOKI_PLAN_GIVE, PRESS_ZONE_INTERIOR},
+    {BAGUNJOKI_PLAN_TAKE, PRESS_ZONE_INTERIOR},
+    {BAGUNJOKI_PLAN_RELEASE, PRESS_ZONE_INTERIOR},
+};
+
+struct machine {
+    const char *name;
+    uint8_t number;
+    const struct step *program;
+    unsigned length;
+    unsigned done;
+    uint8_t stopped_by;
+};
+
+static bagunjoki_plan_word plant;
+
+/* What a machine waits for: the other one has the zone, nobody has it, or others were quicker. */
+static bool waits(bagunjoki_plan_reply reply) {
+    return reply.answer == BAGUNJOKI_PLAN_HELD || reply.answer == BAGUNJOKI_PLAN_NOT_OWNER ||
+           reply.answer == BAGUNJOKI_PLAN_BUSY || reply.answer == BAGUNJOKI_PLAN_NO_MEMORY;
+}
+
+static void *run(void *given) {
+    struct machine *machine = given;
+    unsigned rounds = 0, at = 0;
+    while (rounds < ROUNDS) {
+        const struct step *step = &machine->program[at];
+        bagunjoki_plan_renew(PRESS_PLAN, sizeof PRESS_PLAN, &plant, 50000, 0, 8);
+        bagunjoki_plan_reply reply = bagunjoki_plan_ask(PRESS_PLAN, sizeof PRESS_PLAN, &plant, machine->number,
+                                                        step->verb, step->object, 8);
+        if (reply.answer != BAGUNJOKI_PLAN_DONE) {
+            if (waits(reply)) continue;
+            machine->stopped_by = reply.answer; /* a refusal that the program doesn't know: here its motors stop */
+            return NULL;
+        }
+        machine->done++;
+        at++;
+        if (at == machine->length) {
+            at = 0;
+            rounds++;
+        }
+    }
+    return NULL;
+}
+
+int main(void) {
+    struct machine machines[] = {
+        {"loader", PRESS_MACHINE_LOADER, loader_program, 3, 0, 0},
+        {"press", PRESS_MACHINE_PRESS, press_program, 10, 0, 0},
+    };
+    pthread_t threads[2];
+    /* a plate on the loader's hand, none in the press */
+    uint64_t start = bagunjoki_plan_start(PRESS_PLAN, sizeof PRESS_PLAN, (const uint8_t *)"10", 2, 0);
+    if (start == BAGUNJOKI_PLAN_NO_WORD) return 1;
+    bagunjoki_plan_open(&plant, start);
+    for (int k = 0; k < 2; k++)
+        if (pthread_create(&threads[k], NULL, run, &machines[k])) return 1;
+    for (int k = 0; k < 2; k++) pthread_join(threads[k], NULL);
+    for (int k = 0; k < 2; k++)
+        printf("%s: %u calls done, stopped by %u\n", machines[k].name, machines[k].done, machines[k].stopped_by);
+    return machines[0].stopped_by || machines[1].stopped_by;
+}

@@ -1,0 +1,56 @@
+-- The bytes of a plan's tables: how many machines, zones, poses and places there are, and then a row for each zone, each
+-- pose and each place.
+use Rattle.std.specs.Prelude.{◌≡◌, ℕ, List, [], ◌∷◌, ◌++◌, map, flat_map, All, length, Option, Some, None}
+use mir.Val.{bool_byte}
+use Rattle.plan_types.specs.declared.posture.Posture.{Posture}
+use Rattle.plan_types.specs.declared.posture.Posture.TheVariants.{Closed, Moving, OpenIn, OpenOut}
+use Rattle.plan_types.specs.declared.table.Way.{Way}
+use Rattle.plan_types.specs.declared.table.PlanZone.{PlanZone}
+use Rattle.plan_types.specs.declared.table.PlanPose.{PlanPose}
+use Rattle.plan_types.specs.Table.{PlanTable, zone_count, pose_count, place_count}
+
+-- a way is 1, from, to; no way is 0, 0, 0
+abbrev pub way_byte : Option Way → ℕ
+way_byte None = 0
+way_byte (Some way) = 1
+
+abbrev pub from_byte : Option Way → ℕ
+from_byte None = 0
+from_byte (Some way) = way.from
+
+abbrev pub to_byte : Option Way → ℕ
+to_byte None = 0
+to_byte (Some way) = way.to
+
+-- a zone: its host, its guest, the way inward, the way outward
+abbrev pub zone_bytes : PlanZone → List ℕ
+zone_bytes z =
+    z.host ∷ z.guest
+    ∷ way_byte z.inward ∷ from_byte z.inward ∷ to_byte z.inward
+    ∷ way_byte z.outward ∷ from_byte z.outward ∷ to_byte z.outward ∷ []
+
+-- the posture that a pose gives a zone; 0 if it gives none
+abbrev pub posture_byte : Option Posture → ℕ
+posture_byte None = 0
+posture_byte (Some Closed) = 1
+posture_byte (Some Moving) = 2
+posture_byte (Some OpenIn) = 3
+posture_byte (Some OpenOut) = 4
+
+-- a pose: its machine, 1 if it may be taken only after moving, and what it gives each of ten zones
+abbrev pub pose_bytes : PlanPose → List ℕ
+pose_bytes p = p.machine ∷ bool_byte p.after_moving ∷ map posture_byte p.gives
+
+-- a place is the machine that keeps it
+abbrev pub bytes_of : PlanTable → List ℕ
+bytes_of t =
+    t.machines ∷ zone_count t ∷ pose_count t ∷ place_count t
+    ∷ flat_map zone_bytes t.zones ++ flat_map pose_bytes t.poses ++ t.places
+
+-- a pose's row is for ten zones
+abbrev pub IsForTenZones : PlanPose → Type 0
+IsForTenZones p = length p.gives ≡ 10
+
+-- tables as the program has them: each pose has a row for ten zones
+abbrev pub HasWholeRows : PlanTable → Type 0
+HasWholeRows t = All IsForTenZones t.poses

@@ -1,0 +1,4 @@
+pub mod Given
+pub mod Numbers
+pub mod Replies
+pub mod Starts

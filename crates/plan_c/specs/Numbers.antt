@@ -1,0 +1,44 @@
+-- The numbers by which C names postures and calls. Machines, zones, poses and places have those of the plan.
+use Rattle.std.specs.Prelude.{◌≡◌, ℕ}
+use Rattle.plan_types.specs.declared.posture.Posture.{Posture}
+use Rattle.plan_types.specs.declared.posture.Posture.TheVariants.{Closed, Moving, OpenIn, OpenOut}
+use Rattle.plan_types.specs.declared.call.Call.{Call}
+use Rattle.plan_types.specs.declared.call.Call.TheVariants.{Claim, Give, Yield, Take, Release, SetPose, Inquire, Stop}
+use Rattle.plan_types.specs.declared.call.Call.TheVariants.{Resume}
+
+abbrev pub posture_number : Posture → ℕ
+posture_number Closed = 0
+posture_number Moving = 1
+posture_number OpenIn = 2
+posture_number OpenOut = 3
+
+-- 7 is the cell's Advance, which plans don't have
+abbrev pub verb_number : Call → ℕ
+verb_number (Claim _) = 1
+verb_number (Give _) = 2
+verb_number (Yield _) = 3
+verb_number (Take _) = 4
+verb_number (Release _) = 5
+verb_number (SetPose _) = 6
+verb_number (Inquire _) = 8
+verb_number Stop = 9
+verb_number Resume = 10
+
+-- 0 for a call without object
+abbrev pub object_number : Call → ℕ
+object_number (Claim z) = z
+object_number (Give z) = z
+object_number (Yield z) = z
+object_number (Take z) = z
+object_number (Release z) = z
+object_number (SetPose p) = p
+object_number (Inquire z) = z
+object_number Stop = 0
+object_number Resume = 0
+
+-- the two numbers name this call
+abbrev pub IsCall : ℕ → ℕ → Call → Type 0
+IsCall verb object c = (verb ≡ verb_number c) × (object ≡ object_number c)
+
+abbrev pub NoCall : ℕ → ℕ → Type 0
+NoCall verb object = (c : Call) → ¬ IsCall verb object c

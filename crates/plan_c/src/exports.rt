@@ -1,0 +1,129 @@
+//! The functions that C calls. Each checks whatever it is passed, and frees what it takes before it returns.
+ghost use Rattle.std.specs.Prelude.{◌≡◌, ◌≢◌, ◌≤◌, ◌<◌};
+ghost use Rattle.plan_types.specs.Table.{PlanTable};
+ghost use Rattle.plan_types.specs.declared.call.Call.{Call};
+ghost use Rattle.plan_rules.specs.declared.state.State.{State as PlanState};
+ghost use Rattle.plan_rules.specs.State.{last_stamp, start_state};
+ghost use Rattle.plan_rules.specs.Reply as rules;
+ghost use Rattle.plan_word.specs.Packed.{packed};
+ghost use Rattle.plan_c.specs.Given.{IsPlanOf, NoPlan, IsWordOf, NoState};
+ghost use Rattle.plan_c.specs.Numbers.{IsCall, NoCall};
+ghost use Rattle.plan_c.specs.Starts.{IsStartText, places_in};
+ghost use Rattle.plan_c.specs.Replies as replies;
+
+use crate::calls::call_with;
+use crate::places::{is_start, places_of};
+use crate::reading::read_plan;
+use crate::reply::{NO_CALL, NO_STATE, Reply, bare_reply, reply_of};
+use plan_rules::{LAST_STAMP, State};
+use plan_word::{pack, step_word, unpack};
+use std::alloc::Global;
+
+/// In place of a word.
+const NO_WORD: u64 = u64::MAX;
+
+/// In place of a stamp.
+const NO_STAMP: u32 = u32::MAX;
+
+/// Makes a call on a word, by a plan. If the bytes are a plan whose word fits, the numbers name a
+/// call, and the word is a state's, the reply is the interlock's, with the word of the state after
+/// it. Otherwise, and if memory runs out, it has the word that was given.
+#[unsafe(no_mangle)]
+pub extern "C" fn bagunjoki_plan_step(
+    alloc: Global,
+    plan: &[u8],
+    word: u64,
+    machine: u8,
+    verb: u8,
+    object: u8,
+) -> Reply
+    ensures answered { (t : PlanTable) (state : PlanState) (call : Call)
+        → IsPlanOf plan.now t → IsWordOf t word state → IsCall verb object call
+        → result.answer ≢ replies.no_memory
+        → result ≡ replies.reply_of (rules.reply t state machine call)
+        (packed t (rules.next t state machine call)) }
+    ensures no_call { NoCall verb object → result ≡ replies.bare_reply replies.no_call word }
+    ensures no_plan { (call : Call) → IsCall verb object call → NoPlan plan.now
+        → result.answer ≢ replies.no_memory
+        → result ≡ replies.bare_reply replies.no_plan word }
+    ensures no_state { (t : PlanTable) (call : Call)
+        → IsPlanOf plan.now t → NoState t word → IsCall verb object call
+        → result.answer ≢ replies.no_memory
+        → result ≡ replies.bare_reply replies.no_state word }
+    ensures no_memory { result.answer ≡ replies.no_memory
+        → result ≡ replies.bare_reply replies.no_memory word }
+{
+    let Some(call) = call_with(verb, object) else {
+        return bare_reply(NO_CALL, word);
+    };
+    let (plan, layout) = match read_plan(alloc, plan) {
+        Ok(found) => found,
+        Err(why) => return bare_reply(why.answer(), word),
+    };
+    match step_word(&plan, &layout, word, machine, call) {
+        Some((answer, next)) => reply_of(answer, next),
+        None => bare_reply(NO_STATE, word),
+    }
+}
+
+/// The word of a start: a digit 0 or 1 for each place of the plan, and a stamp. All bits are set
+/// if there is no such plan or no such start, or if memory runs out.
+#[unsafe(no_mangle)]
+pub extern "C" fn bagunjoki_plan_start(alloc: Global, plan: &[u8], digits: &[u8], stamp: u32) -> u64
+    ensures start { (t : PlanTable) → IsPlanOf plan.now t → IsStartText t digits.now stamp
+        → result ≢ replies.no_word
+        → result ≡ packed t (start_state (places_in digits.now) stamp) }
+    ensures no_start { (t : PlanTable) → IsPlanOf plan.now t → ¬ IsStartText t digits.now stamp
+        → result ≡ replies.no_word }
+    ensures no_plan { NoPlan plan.now → result ≡ replies.no_word }
+{
+    let Ok((plan, layout)) = read_plan(alloc, plan) else {
+        return NO_WORD;
+    };
+    if is_start(&plan, digits, stamp) {
+        pack(&plan, &layout, &State::start(places_of(digits), stamp))
+    } else {
+        NO_WORD
+    }
+}
+
+/// The word of the same state with another stamp, for an exchange before the stamps end. All bits
+/// are set if there is no such plan, the word is no state's, the stamp is past the last, or if
+/// memory runs out.
+#[unsafe(no_mangle)]
+pub extern "C" fn bagunjoki_plan_restamp(alloc: Global, plan: &[u8], word: u64, stamp: u32) -> u64
+    ensures restamped { (t : PlanTable) (state : PlanState)
+        → IsPlanOf plan.now t → IsWordOf t word state → stamp ≤ last_stamp
+        → result ≢ replies.no_word → result ≡ packed t (record state { stamp = stamp }) }
+    ensures past_last { last_stamp < stamp → result ≡ replies.no_word }
+    ensures no_state { (t : PlanTable) → IsPlanOf plan.now t → NoState t word
+        → result ≡ replies.no_word }
+    ensures no_plan { NoPlan plan.now → result ≡ replies.no_word }
+{
+    let Ok((plan, layout)) = read_plan(alloc, plan) else {
+        return NO_WORD;
+    };
+    match unpack(&plan, &layout, word) {
+        Some(state) if stamp <= LAST_STAMP => pack(&plan, &layout, &State { stamp, ..state }),
+        _ => NO_WORD,
+    }
+}
+
+/// The stamp of a state's word. All bits are set if there is no such plan, the word is no state's,
+/// or if memory runs out.
+#[unsafe(no_mangle)]
+pub extern "C" fn bagunjoki_plan_stamp(alloc: Global, plan: &[u8], word: u64) -> u32
+    ensures stamp { (t : PlanTable) (state : PlanState) → IsPlanOf plan.now t → IsWordOf t word state
+        → result ≢ replies.no_stamp → result ≡ state.stamp }
+    ensures no_state { (t : PlanTable) → IsPlanOf plan.now t → NoState t word
+        → result ≡ replies.no_stamp }
+    ensures no_plan { NoPlan plan.now → result ≡ replies.no_stamp }
+{
+    let Ok((plan, layout)) = read_plan(alloc, plan) else {
+        return NO_STAMP;
+    };
+    match unpack(&plan, &layout, word) {
+        Some(state) => state.stamp,
+        None => NO_STAMP,
+    }
+}

@@ -1,0 +1,11 @@
+//! The interlock of any plan for programs in C: calls on the word of a state, by the bytes of the plan.
+//! `bindings/bagunjoki_plan.h` declares the functions, and has the loop over a shared word.
+#![tactic(auto)]
+
+mod calls;
+mod exports;
+mod places;
+mod reading;
+mod reply;
+#[cfg(test)]
+mod tests;
