@@ -1,53 +1,40 @@
 -- The robot's program meets the rows of the examples.
-use Rattle.std.proofs.Common.{◌≡◌, ◌∙◌, sym, ap, rules, ℕ, ℤ, pos, Bool, true, false, if◌then◌else◌, Option, Some, None, refl}
-use Rattle.std.specs.Int.Signed.{le_z_yes, lt_z_yes}
+use Rattle.std.specs.Option.{is_some}
+use Rattle.std.proofs.lemmas.Int.{ints}
+use Rattle.std.proofs.Common.{◌≡◌, ◌∙◌, sym, ap, rules, ℕ, ℤ, pos, Bool, true, false, if◌then◌else◌, Option, Some, None, refl, arith, not, subst, ◌&&◌, ◌+ℤ◌, ◌+◌, ◌-ℤ◌, ◌||◌, ◌≤ℤ◌}
+use Rattle.std.specs.Int.Signed.{le_z_yes, lt_z_yes, le_z}
 use Rattle.cell_rules.specs.Types.{Machine, Robot, Posture, OpenIn, Release, Refusal, Z2, Z3}
-use Rattle.cell_devices.specs.Names.{DrivesTo}
-use Rattle.cell_devices.specs.declared.motor.Motor.TheVariants.{Off}
+use Rattle.cell_devices.specs.declared.stops.Stop.{Stop}
+use Rattle.cell_devices.specs.declared.motor.Motor.{Motor}
+use Rattle.cell_devices.specs.Names.{DrivesTo, StopsAt}
+use Rattle.cell_devices.specs.declared.motor.Motor.TheVariants.{Off, Minus, Plus}
 use Rattle.cell_devices.specs.declared.stops.TheConstants.{ROTATION_ARM1_TABLE, ROTATION_ARM2_PRESS}
 use Rattle.cell_devices.specs.declared.stops.TheConstants.{ROTATION_ARM1_PRESS, ROTATION_ARM2_DEPOSIT, ARM1_TABLE}
 use Rattle.cell_devices.specs.declared.stops.TheConstants.{ARM1_PRESS, ARM2_PRESS, ARM2_DEPOSIT, RETRACTED}
 use Rattle.cell_devices.specs.declared.act.RobotAct.{RobotAct}
 use Rattle.cell_devices.proofs.DriveLemmas.{drives_one, stops_there, goes_plus, goes_minus}
 use Rattle.cell_rules.specs.ModelState.{ModelState}
-use Rattle.cell_control.specs.Names.{waits_on, DriveRow, is_inquiry}
+use Rattle.cell_control.specs.declared.row.Row.{Row}
+use Rattle.cell_control.specs.Names.{waits_on, DriveRow, is_inquiry, row_that_drives}
 use Rattle.cell_control.proofs.WaitLemmas.{stays_never, stays_until_free_and_open}
 use Rattle.cell_robot.specs.Names.{RobotScales, row_at, row_of, step_after_inquiry, arm1_stop, arm2_stop, turns_to}
 use Rattle.cell_robot.specs.Names.{Acts, after_done}
 use Rattle.cell_robot.specs.declared.robot.RobotStep.{RobotStep}
-use Rattle.cell_robot.specs.declared.robot.RobotStep.TheVariants.{TurnToTable, AwaitPlate, ReachTable, GripPlate}
-use Rattle.cell_robot.specs.declared.robot.RobotStep.TheVariants.{LeaveTable, TakePlate, ReleaseTable, TurnToLoad}
-use Rattle.cell_robot.specs.declared.robot.RobotStep.TheVariants.{ClaimPress, InspectPress, ReleasePress, ReachToLoad}
-use Rattle.cell_robot.specs.declared.robot.RobotStep.TheVariants.{DropInPress, LeaveLoaded, GiveToPress, TurnToUnload}
-use Rattle.cell_robot.specs.declared.robot.RobotStep.TheVariants.{AwaitForged, ReachToUnload, GripForged}
-use Rattle.cell_robot.specs.declared.robot.RobotStep.TheVariants.{LeaveUnloaded, TakeForged, ReleaseUnloaded}
-use Rattle.cell_robot.specs.declared.robot.RobotStep.TheVariants.{TurnToDeposit, ClaimDeposit, ReachDeposit}
-use Rattle.cell_robot.specs.declared.robot.RobotStep.TheVariants.{DropOnDeposit, LeaveDeposit, GiveToDeposit}
+use Rattle.cell_robot.specs.declared.robot.RobotStep.TheVariants.{AwaitPlate, ReachTable, ReleaseTable, InspectPress}
+use Rattle.cell_robot.specs.declared.robot.RobotStep.TheVariants.{ReleasePress, ReachToLoad, AwaitForged, ReachToUnload}
+use Rattle.cell_robot.specs.declared.robot.RobotStep.TheVariants.{ReleaseUnloaded}
 use Rattle.cell_robot.specs.declared.robot.RobotNotes.{RobotNotes}
 use Rattle.cell_robot.specs.declared.robot.RobotMagnets.{RobotMagnets}
 use Rattle.cell_robot.specs.declared.robot.RobotProgress.{RobotProgress}
 use Rattle.cell_robot.specs.declared.robot.RobotReading.{RobotReading}
-use Rattle.cell_robot.specs.RobotProgram.{after_act}
-use Rattle.cell_robot.specs.RobotExamples.{noted, magnets, at, told, rows_by, begins_with, for_plate, for_room, EndRows, RobotAsks, scales, TurnRows, Arm1Rows, Arm2Rows, Arm1BackRows, Arm2BackRows, RobotDrives, RobotChecks, RobotDemandRows, RobotRowsAreMet}
+use Rattle.cell_robot.specs.RobotProgram.{is_off, rotation_stop, turns}
+use Rattle.cell_robot.specs.RobotExamples.{noted, magnets, at, told, rows_by, begins_with, for_plate, for_room, EndRows}
+use Rattle.cell_robot.specs.RobotExamples.{RobotAsks, scales, TurnRows, Arm1Rows, Arm2Rows, Arm1BackRows, Arm2BackRows}
+use Rattle.cell_robot.specs.RobotExamples.{RobotDrives, RobotChecks, RobotDemandRows, RobotRowsAreMet, reads}
 
 begins : (points : RobotScales) (s : ModelState) (arm1 press_in press_out arm2 : Bool)
     → (rows_by points).start (record s { full = record s.full { arm1 = arm1; press_in = press_in; press_out = press_out; arm2 = arm2 } }) ≡ begins_with arm1 press_in press_out arm2
-begins points s false false false false = refl
-begins points s true false false false = refl
-begins points s false true false false = refl
-begins points s true true false false = refl
-begins points s false false true false = refl
-begins points s true false true false = refl
-begins points s false true true false = refl
-begins points s true true true false = refl
-begins points s false false false true = refl
-begins points s true false false true = refl
-begins points s false true false true = refl
-begins points s true true false true = refl
-begins points s false false true true = refl
-begins points s true false true true = refl
-begins points s false true true true = refl
-begins points s true true true true = refl
+begins points s arm1 press_in press_out arm2 = grind (rules)
 
 -- ---- steps that ask
 
@@ -114,137 +101,140 @@ acts_one points p r a b at_a at_b =
     ∙ ap (λ m. told a.arm1 a.arm2 a.rotation (magnets m b.magnet2)) magnet1
     ∙ ap (λ m. told a.arm1 a.arm2 a.rotation (magnets a.magnet1 m)) magnet2
 
-drive_row : (p q : RobotProgress) (r : RobotReading) (act : RobotAct) → (row_of p).call ≡ None → Acts scales p r act → after_act p r act ≡ q → DriveRow (rows_by scales) p r act q
-drive_row p q r act asks_nothing acts leads = record { asks_nothing = asks_nothing; drives = acts; drives_only = λ other d. acts_one scales p r act other acts d; leads = leads }
+-- what a step does: its row, the stops to which it drives both arms and the rotation, and whether it turns
+record Sheet : Type 0 where
+  row : Row RobotProgress
+  arm1 : Option Stop
+  arm2 : Option Stop
+  rotation : Option Stop
+  turns : Bool
 
-turns_to_table : (n : RobotNotes) (m : RobotMagnets) → TurnRows TurnToTable AwaitPlate 266 267 333 334 n m
-turns_to_table n m = record {
-  up = drive_row _ _ _ _ refl (record { arm1 = refl; arm2 = refl; rotation = goes_plus ROTATION_ARM1_TABLE (pos 7) (pos 266) (le_z_yes tt) (lt_z_yes tt); magnet1 = refl; magnet2 = refl }) refl;
-  from = drive_row _ _ _ _ refl (record { arm1 = refl; arm2 = refl; rotation = stops_there ROTATION_ARM1_TABLE (pos 7) (pos 267) (record { not_below = (le_z_yes tt); not_above = (le_z_yes tt) }); magnet1 = refl; magnet2 = refl }) refl;
-  to = drive_row _ _ _ _ refl (record { arm1 = refl; arm2 = refl; rotation = stops_there ROTATION_ARM1_TABLE (pos 7) (pos 333) (record { not_below = (le_z_yes tt); not_above = (le_z_yes tt) }); magnet1 = refl; magnet2 = refl }) refl;
-  down = drive_row _ _ _ _ refl (record { arm1 = refl; arm2 = refl; rotation = goes_minus ROTATION_ARM1_TABLE (pos 7) (pos 334) (le_z_yes tt) (lt_z_yes tt); magnet1 = refl; magnet2 = refl }) refl;
-  held_below = drive_row _ _ _ _ refl (record { arm1 = refl; arm2 = refl; rotation = refl; magnet1 = refl; magnet2 = refl }) refl;
-  held_there = drive_row _ _ _ _ refl (record { arm1 = refl; arm2 = refl; rotation = refl; magnet1 = refl; magnet2 = refl }) refl;
-  held_above = drive_row _ _ _ _ refl (record { arm1 = refl; arm2 = refl; rotation = refl; magnet1 = refl; magnet2 = refl }) refl;
-}
+abbrev sheet_of : RobotProgress → Sheet
+sheet_of p = record { row = row_of p; arm1 = arm1_stop p.step; arm2 = arm2_stop p.step; rotation = rotation_stop p.step; turns = turns p.step }
 
-turns_to_load : (n : RobotNotes) (m : RobotMagnets) → TurnRows TurnToLoad ClaimPress 1466 1467 1533 1534 n m
-turns_to_load n m = record {
-  up = drive_row _ _ _ _ refl (record { arm1 = refl; arm2 = refl; rotation = goes_plus ROTATION_ARM1_PRESS (pos 7) (pos 1466) (le_z_yes tt) (lt_z_yes tt); magnet1 = refl; magnet2 = refl }) refl;
-  from = drive_row _ _ _ _ refl (record { arm1 = refl; arm2 = refl; rotation = stops_there ROTATION_ARM1_PRESS (pos 7) (pos 1467) (record { not_below = (le_z_yes tt); not_above = (le_z_yes tt) }); magnet1 = refl; magnet2 = refl }) refl;
-  to = drive_row _ _ _ _ refl (record { arm1 = refl; arm2 = refl; rotation = stops_there ROTATION_ARM1_PRESS (pos 7) (pos 1533) (record { not_below = (le_z_yes tt); not_above = (le_z_yes tt) }); magnet1 = refl; magnet2 = refl }) refl;
-  down = drive_row _ _ _ _ refl (record { arm1 = refl; arm2 = refl; rotation = goes_minus ROTATION_ARM1_PRESS (pos 7) (pos 1534) (le_z_yes tt) (lt_z_yes tt); magnet1 = refl; magnet2 = refl }) refl;
-  held_below = drive_row _ _ _ _ refl (record { arm1 = refl; arm2 = refl; rotation = refl; magnet1 = refl; magnet2 = refl }) refl;
-  held_there = drive_row _ _ _ _ refl (record { arm1 = refl; arm2 = refl; rotation = refl; magnet1 = refl; magnet2 = refl }) refl;
-  held_above = drive_row _ _ _ _ refl (record { arm1 = refl; arm2 = refl; rotation = refl; magnet1 = refl; magnet2 = refl }) refl;
-}
+abbrev goes_to : Option Stop → Option Stop → Option Stop → RobotProgress → Sheet
+goes_to arm1 arm2 rotation next = record { row = row_that_drives next; arm1 = arm1; arm2 = arm2; rotation = rotation; turns = is_some rotation }
 
-turns_to_unload : (n : RobotNotes) (m : RobotMagnets) → TurnRows TurnToUnload AwaitForged 566 567 633 634 n m
-turns_to_unload n m = record {
-  up = drive_row _ _ _ _ refl (record { arm1 = refl; arm2 = refl; rotation = goes_plus ROTATION_ARM2_PRESS (pos 7) (pos 566) (le_z_yes tt) (lt_z_yes tt); magnet1 = refl; magnet2 = refl }) refl;
-  from = drive_row _ _ _ _ refl (record { arm1 = refl; arm2 = refl; rotation = stops_there ROTATION_ARM2_PRESS (pos 7) (pos 567) (record { not_below = (le_z_yes tt); not_above = (le_z_yes tt) }); magnet1 = refl; magnet2 = refl }) refl;
-  to = drive_row _ _ _ _ refl (record { arm1 = refl; arm2 = refl; rotation = stops_there ROTATION_ARM2_PRESS (pos 7) (pos 633) (record { not_below = (le_z_yes tt); not_above = (le_z_yes tt) }); magnet1 = refl; magnet2 = refl }) refl;
-  down = drive_row _ _ _ _ refl (record { arm1 = refl; arm2 = refl; rotation = goes_minus ROTATION_ARM2_PRESS (pos 7) (pos 634) (le_z_yes tt) (lt_z_yes tt); magnet1 = refl; magnet2 = refl }) refl;
-  held_below = drive_row _ _ _ _ refl (record { arm1 = refl; arm2 = refl; rotation = refl; magnet1 = refl; magnet2 = refl }) refl;
-  held_there = drive_row _ _ _ _ refl (record { arm1 = refl; arm2 = refl; rotation = refl; magnet1 = refl; magnet2 = refl }) refl;
-  held_above = drive_row _ _ _ _ refl (record { arm1 = refl; arm2 = refl; rotation = refl; magnet1 = refl; magnet2 = refl }) refl;
-}
+-- such a step is done once all its motors are off, and both arms are retracted if it turns
+abbrev leads_on : Bool → Bool → Motor → Motor → Motor → Bool
+leads_on turns retracted first second turn = (not turns || retracted) && (is_off first && (is_off second && is_off turn))
 
-turns_to_deposit : (n : RobotNotes) (m : RobotMagnets) → TurnRows TurnToDeposit ClaimDeposit 1766 1767 1833 1834 n m
-turns_to_deposit n m = record {
-  up = drive_row _ _ _ _ refl (record { arm1 = refl; arm2 = refl; rotation = goes_plus ROTATION_ARM2_DEPOSIT (pos 7) (pos 1766) (le_z_yes tt) (lt_z_yes tt); magnet1 = refl; magnet2 = refl }) refl;
-  from = drive_row _ _ _ _ refl (record { arm1 = refl; arm2 = refl; rotation = stops_there ROTATION_ARM2_DEPOSIT (pos 7) (pos 1767) (record { not_below = (le_z_yes tt); not_above = (le_z_yes tt) }); magnet1 = refl; magnet2 = refl }) refl;
-  to = drive_row _ _ _ _ refl (record { arm1 = refl; arm2 = refl; rotation = stops_there ROTATION_ARM2_DEPOSIT (pos 7) (pos 1833) (record { not_below = (le_z_yes tt); not_above = (le_z_yes tt) }); magnet1 = refl; magnet2 = refl }) refl;
-  down = drive_row _ _ _ _ refl (record { arm1 = refl; arm2 = refl; rotation = goes_minus ROTATION_ARM2_DEPOSIT (pos 7) (pos 1834) (le_z_yes tt) (lt_z_yes tt); magnet1 = refl; magnet2 = refl }) refl;
-  held_below = drive_row _ _ _ _ refl (record { arm1 = refl; arm2 = refl; rotation = refl; magnet1 = refl; magnet2 = refl }) refl;
-  held_there = drive_row _ _ _ _ refl (record { arm1 = refl; arm2 = refl; rotation = refl; magnet1 = refl; magnet2 = refl }) refl;
-  held_above = drive_row _ _ _ _ refl (record { arm1 = refl; arm2 = refl; rotation = refl; magnet1 = refl; magnet2 = refl }) refl;
-}
+drive_row : (p q : RobotProgress) (arm1 arm2 rotation : Option Stop) → sheet_of p ≡ goes_to arm1 arm2 rotation q → (r : RobotReading) (first second turn : Motor)
+    → DrivesTo arm1 (pos 5) r.arm1 first → DrivesTo arm2 (pos 6) r.arm2 second → DrivesTo (if r.retracted then rotation else None) (pos 7) r.rotation turn
+    → DriveRow (rows_by scales) p r (told first second turn q.magnets) (if leads_on (is_some rotation) r.retracted first second turn then q else p)
+drive_row p q arm1 arm2 rotation e r first second turn at_arm1 at_arm2 at_rotation =
+    let acts : Acts scales p r (told first second turn q.magnets) =
+    record {
+      arm1 = subst (λ (s : Sheet). DrivesTo s.arm1 (pos 5) r.arm1 first) (sym e) at_arm1;
+      arm2 = subst (λ (s : Sheet). DrivesTo s.arm2 (pos 6) r.arm2 second) (sym e) at_arm2;
+      rotation = subst (λ (s : Sheet). DrivesTo (if r.retracted then s.rotation else None) (pos 7) r.rotation turn) (sym e) at_rotation;
+      magnet1 = ap (λ (s : Sheet). s.row.next.magnets.arm1) (sym e);
+      magnet2 = ap (λ (s : Sheet). s.row.next.magnets.arm2) (sym e);
+    } in
+    record {
+      asks_nothing = ap (λ (s : Sheet). s.row.call) e;
+      drives = acts;
+      drives_only = λ other d. acts_one scales p r (told first second turn q.magnets) other acts d;
+      leads = ap (λ (s : Sheet). if leads_on s.turns r.retracted first second turn then s.row.next else p) e;
+    }
+
+-- a motor that drives to a stop is off from one position to another
+record Around (stop : Stop) (tol : ℤ) (below first last above : ℕ) : Type 0 where
+  up : StopsAt stop tol (pos below) Plus
+  from : StopsAt stop tol (pos first) Off
+  to : StopsAt stop tol (pos last) Off
+  down : StopsAt stop tol (pos above) Minus
+
+abbrev figures : ℤ → ℤ → ℕ → ℕ → Bool → ℤ × ℤ × ℕ × ℕ × Bool
+figures first last above_below above room = (first, last, above_below, above, room)
+
+abbrev Figures : Stop → ℤ → ℕ → ℕ → ℕ → ℕ → Type 0
+Figures stop tol below first last above =
+    figures (pos first) (pos last) first above (le_z (pos 0) (pos stop.half -ℤ tol)) ≡ figures (stop.target -ℤ (pos stop.half -ℤ tol)) (stop.target +ℤ (pos stop.half -ℤ tol)) (below + 1) (last + 1) true
+
+around : (stop : Stop) (tol : ℤ) (below first last above : ℕ) → Figures stop tol below first last above → Around stop tol below first last above
+around stop tol below first last above e =
+    let from : pos first ≡ (stop.target -ℤ (pos stop.half -ℤ tol)) = ap (λ t. t.0) e in
+    let to : pos last ≡ (stop.target +ℤ (pos stop.half -ℤ tol)) = ap (λ t. t.1) e in
+    let under : first ≡ below + 1 = ap (λ t. t.2) e in
+    let over : above ≡ last + 1 = ap (λ t. t.3) e in
+    let room : pos 0 ≤ℤ (pos stop.half -ℤ tol) = le_z_yes (rw (ap (λ t. t.4) e) tt) in
+    record {
+      up = goes_plus stop tol (pos below) room (omega (arith, ints));
+      from = stops_there stop tol (pos first) (record { not_below = omega (arith, ints); not_above = omega (arith, ints) });
+      to = stops_there stop tol (pos last) (record { not_below = omega (arith, ints); not_above = omega (arith, ints) });
+      down = goes_minus stop tol (pos above) room (omega (arith, ints));
+    }
+
+turns_by : (stop : Stop) (step next : RobotStep) (below first last above : ℕ) (n : RobotNotes) (m : RobotMagnets) → sheet_of (at step n m) ≡ goes_to None None (Some stop) (at next n m) → Figures stop (pos 7) below first last above → TurnRows step next below first last above n m
+turns_by stop step next below first last above n m e f =
+    let k = around stop (pos 7) below first last above f in
+    let row = drive_row (at step n m) (at next n m) None None (Some stop) e in
+    record {
+      up = row _ Off Off Plus refl refl k.up;
+      from = row _ Off Off Off refl refl k.from;
+      to = row _ Off Off Off refl refl k.to;
+      down = row _ Off Off Minus refl refl k.down;
+      held_below = row _ Off Off Off refl refl refl;
+      held_there = row _ Off Off Off refl refl refl;
+      held_above = row _ Off Off Off refl refl refl;
+    }
 
 -- the rotation's motor is off in a step that doesn't turn
 stands_still : (retracted : Bool) (tol read : ℤ) → DrivesTo (if retracted then None else None) tol read Off
 stands_still true tol read = refl
 stands_still false tol read = refl
 
-reaches_table : (turn : ℕ) (retracted : Bool) (n : RobotNotes) (m : RobotMagnets) → Arm1Rows ReachTable GripPlate 564 565 635 636 turn retracted n m
-reaches_table turn retracted n m = record {
-  out = drive_row _ _ _ _ refl (record { arm1 = goes_plus ARM1_TABLE (pos 5) (pos 564) (le_z_yes tt) (lt_z_yes tt); arm2 = refl; rotation = stands_still retracted _ _; magnet1 = refl; magnet2 = refl }) refl;
-  from = drive_row _ _ _ _ refl (record { arm1 = stops_there ARM1_TABLE (pos 5) (pos 565) (record { not_below = (le_z_yes tt); not_above = (le_z_yes tt) }); arm2 = refl; rotation = stands_still retracted _ _; magnet1 = refl; magnet2 = refl }) refl;
-  to = drive_row _ _ _ _ refl (record { arm1 = stops_there ARM1_TABLE (pos 5) (pos 635) (record { not_below = (le_z_yes tt); not_above = (le_z_yes tt) }); arm2 = refl; rotation = stands_still retracted _ _; magnet1 = refl; magnet2 = refl }) refl;
-  back = drive_row _ _ _ _ refl (record { arm1 = goes_minus ARM1_TABLE (pos 5) (pos 636) (le_z_yes tt) (lt_z_yes tt); arm2 = refl; rotation = stands_still retracted _ _; magnet1 = refl; magnet2 = refl }) refl;
-}
+reaches1_by : (stop : Stop) (step next : RobotStep) (below first last above turn : ℕ) (retracted : Bool) (n : RobotNotes) (m : RobotMagnets) → sheet_of (at step n m) ≡ goes_to (Some stop) None None (at next n m) → Figures stop (pos 5) below first last above
+    → Arm1Rows step next below first last above turn retracted n m
+reaches1_by stop step next below first last above turn retracted n m e f =
+    let k = around stop (pos 5) below first last above f in
+    let row = λ (read : ℕ) (motor : Motor) (d : StopsAt stop (pos 5) (pos read) motor). drive_row (at step n m) (at next n m) (Some stop) None None e (reads read 0 turn retracted) motor Off Off d refl (stands_still retracted _ _) in
+    record { out = row _ _ k.up; from = row _ _ k.from; to = row _ _ k.to; back = row _ _ k.down }
 
-leaves_table : (turn : ℕ) (retracted : Bool) (n : RobotNotes) (m : RobotMagnets) → Arm1BackRows LeaveTable TakePlate turn retracted n m
-leaves_table turn retracted n m = record {
-  out = drive_row _ _ _ _ refl (record { arm1 = goes_minus RETRACTED (pos 5) (pos 36) (le_z_yes tt) (lt_z_yes tt); arm2 = refl; rotation = stands_still retracted _ _; magnet1 = refl; magnet2 = refl }) refl;
-  near_end = drive_row _ _ _ _ refl (record { arm1 = stops_there RETRACTED (pos 5) (pos 35) (record { not_below = (le_z_yes tt); not_above = (le_z_yes tt) }); arm2 = refl; rotation = stands_still retracted _ _; magnet1 = refl; magnet2 = refl }) refl;
-  at_end = drive_row _ _ _ _ refl (record { arm1 = stops_there RETRACTED (pos 5) (pos 0) (record { not_below = (le_z_yes tt); not_above = (le_z_yes tt) }); arm2 = refl; rotation = stands_still retracted _ _; magnet1 = refl; magnet2 = refl }) refl;
-}
+reaches2_by : (stop : Stop) (step next : RobotStep) (below first last above turn : ℕ) (retracted : Bool) (n : RobotNotes) (m : RobotMagnets) → sheet_of (at step n m) ≡ goes_to None (Some stop) None (at next n m) → Figures stop (pos 6) below first last above
+    → Arm2Rows step next below first last above turn retracted n m
+reaches2_by stop step next below first last above turn retracted n m e f =
+    let k = around stop (pos 6) below first last above f in
+    let row = λ (read : ℕ) (motor : Motor) (d : StopsAt stop (pos 6) (pos read) motor). drive_row (at step n m) (at next n m) None (Some stop) None e (reads 0 read turn retracted) Off motor Off refl d (stands_still retracted _ _) in
+    record { out = row _ _ k.up; from = row _ _ k.from; to = row _ _ k.to; back = row _ _ k.down }
 
-reaches_to_load : (turn : ℕ) (retracted : Bool) (n : RobotNotes) (m : RobotMagnets) → Arm1Rows ReachToLoad DropInPress 764 765 835 836 turn retracted n m
-reaches_to_load turn retracted n m = record {
-  out = drive_row _ _ _ _ refl (record { arm1 = goes_plus ARM1_PRESS (pos 5) (pos 764) (le_z_yes tt) (lt_z_yes tt); arm2 = refl; rotation = stands_still retracted _ _; magnet1 = refl; magnet2 = refl }) refl;
-  from = drive_row _ _ _ _ refl (record { arm1 = stops_there ARM1_PRESS (pos 5) (pos 765) (record { not_below = (le_z_yes tt); not_above = (le_z_yes tt) }); arm2 = refl; rotation = stands_still retracted _ _; magnet1 = refl; magnet2 = refl }) refl;
-  to = drive_row _ _ _ _ refl (record { arm1 = stops_there ARM1_PRESS (pos 5) (pos 835) (record { not_below = (le_z_yes tt); not_above = (le_z_yes tt) }); arm2 = refl; rotation = stands_still retracted _ _; magnet1 = refl; magnet2 = refl }) refl;
-  back = drive_row _ _ _ _ refl (record { arm1 = goes_minus ARM1_PRESS (pos 5) (pos 836) (le_z_yes tt) (lt_z_yes tt); arm2 = refl; rotation = stands_still retracted _ _; magnet1 = refl; magnet2 = refl }) refl;
-}
+-- an arm that is drawn back
+leaves1_by : (step next : RobotStep) (turn : ℕ) (retracted : Bool) (n : RobotNotes) (m : RobotMagnets) → sheet_of (at step n m) ≡ goes_to (Some RETRACTED) None None (at next n m) → Arm1BackRows step next turn retracted n m
+leaves1_by step next turn retracted n m e =
+    let row = λ (read : ℕ) (motor : Motor) (d : StopsAt RETRACTED (pos 5) (pos read) motor). drive_row (at step n m) (at next n m) (Some RETRACTED) None None e (reads read 0 turn retracted) motor Off Off d refl (stands_still retracted _ _) in
+    record { out = row _ _ (goes_minus RETRACTED (pos 5) (pos 36) (le_z_yes tt) (lt_z_yes tt)); near_end = row _ _ (stops_there RETRACTED (pos 5) (pos 35) (record { not_below = le_z_yes tt; not_above = le_z_yes tt })); at_end = row _ _ (stops_there RETRACTED (pos 5) (pos 0) (record { not_below = le_z_yes tt; not_above = le_z_yes tt })) }
 
-leaves_loaded : (turn : ℕ) (retracted : Bool) (n : RobotNotes) (m : RobotMagnets) → Arm1BackRows LeaveLoaded GiveToPress turn retracted n m
-leaves_loaded turn retracted n m = record {
-  out = drive_row _ _ _ _ refl (record { arm1 = goes_minus RETRACTED (pos 5) (pos 36) (le_z_yes tt) (lt_z_yes tt); arm2 = refl; rotation = stands_still retracted _ _; magnet1 = refl; magnet2 = refl }) refl;
-  near_end = drive_row _ _ _ _ refl (record { arm1 = stops_there RETRACTED (pos 5) (pos 35) (record { not_below = (le_z_yes tt); not_above = (le_z_yes tt) }); arm2 = refl; rotation = stands_still retracted _ _; magnet1 = refl; magnet2 = refl }) refl;
-  at_end = drive_row _ _ _ _ refl (record { arm1 = stops_there RETRACTED (pos 5) (pos 0) (record { not_below = (le_z_yes tt); not_above = (le_z_yes tt) }); arm2 = refl; rotation = stands_still retracted _ _; magnet1 = refl; magnet2 = refl }) refl;
-}
+leaves2_by : (step next : RobotStep) (turn : ℕ) (retracted : Bool) (n : RobotNotes) (m : RobotMagnets) → sheet_of (at step n m) ≡ goes_to None (Some RETRACTED) None (at next n m) → Arm2BackRows step next turn retracted n m
+leaves2_by step next turn retracted n m e =
+    let row = λ (read : ℕ) (motor : Motor) (d : StopsAt RETRACTED (pos 6) (pos read) motor). drive_row (at step n m) (at next n m) None (Some RETRACTED) None e (reads 0 read turn retracted) Off motor Off refl d (stands_still retracted _ _) in
+    record { out = row _ _ (goes_minus RETRACTED (pos 6) (pos 35) (le_z_yes tt) (lt_z_yes tt)); near_end = row _ _ (stops_there RETRACTED (pos 6) (pos 34) (record { not_below = le_z_yes tt; not_above = le_z_yes tt })); at_end = row _ _ (stops_there RETRACTED (pos 6) (pos 0) (record { not_below = le_z_yes tt; not_above = le_z_yes tt })) }
 
-reaches_to_unload : (turn : ℕ) (retracted : Bool) (n : RobotNotes) (m : RobotMagnets) → Arm2Rows ReachToUnload GripForged 765 766 834 835 turn retracted n m
-reaches_to_unload turn retracted n m = record {
-  out = drive_row _ _ _ _ refl (record { arm1 = refl; arm2 = goes_plus ARM2_PRESS (pos 6) (pos 765) (le_z_yes tt) (lt_z_yes tt); rotation = stands_still retracted _ _; magnet1 = refl; magnet2 = refl }) refl;
-  from = drive_row _ _ _ _ refl (record { arm1 = refl; arm2 = stops_there ARM2_PRESS (pos 6) (pos 766) (record { not_below = (le_z_yes tt); not_above = (le_z_yes tt) }); rotation = stands_still retracted _ _; magnet1 = refl; magnet2 = refl }) refl;
-  to = drive_row _ _ _ _ refl (record { arm1 = refl; arm2 = stops_there ARM2_PRESS (pos 6) (pos 834) (record { not_below = (le_z_yes tt); not_above = (le_z_yes tt) }); rotation = stands_still retracted _ _; magnet1 = refl; magnet2 = refl }) refl;
-  back = drive_row _ _ _ _ refl (record { arm1 = refl; arm2 = goes_minus ARM2_PRESS (pos 6) (pos 835) (le_z_yes tt) (lt_z_yes tt); rotation = stands_still retracted _ _; magnet1 = refl; magnet2 = refl }) refl;
-}
-
-leaves_unloaded : (turn : ℕ) (retracted : Bool) (n : RobotNotes) (m : RobotMagnets) → Arm2BackRows LeaveUnloaded TakeForged turn retracted n m
-leaves_unloaded turn retracted n m = record {
-  out = drive_row _ _ _ _ refl (record { arm1 = refl; arm2 = goes_minus RETRACTED (pos 6) (pos 35) (le_z_yes tt) (lt_z_yes tt); rotation = stands_still retracted _ _; magnet1 = refl; magnet2 = refl }) refl;
-  near_end = drive_row _ _ _ _ refl (record { arm1 = refl; arm2 = stops_there RETRACTED (pos 6) (pos 34) (record { not_below = (le_z_yes tt); not_above = (le_z_yes tt) }); rotation = stands_still retracted _ _; magnet1 = refl; magnet2 = refl }) refl;
-  at_end = drive_row _ _ _ _ refl (record { arm1 = refl; arm2 = stops_there RETRACTED (pos 6) (pos 0) (record { not_below = (le_z_yes tt); not_above = (le_z_yes tt) }); rotation = stands_still retracted _ _; magnet1 = refl; magnet2 = refl }) refl;
-}
-
-reaches_deposit : (turn : ℕ) (retracted : Bool) (n : RobotNotes) (m : RobotMagnets) → Arm2Rows ReachDeposit DropOnDeposit 565 566 634 635 turn retracted n m
-reaches_deposit turn retracted n m = record {
-  out = drive_row _ _ _ _ refl (record { arm1 = refl; arm2 = goes_plus ARM2_DEPOSIT (pos 6) (pos 565) (le_z_yes tt) (lt_z_yes tt); rotation = stands_still retracted _ _; magnet1 = refl; magnet2 = refl }) refl;
-  from = drive_row _ _ _ _ refl (record { arm1 = refl; arm2 = stops_there ARM2_DEPOSIT (pos 6) (pos 566) (record { not_below = (le_z_yes tt); not_above = (le_z_yes tt) }); rotation = stands_still retracted _ _; magnet1 = refl; magnet2 = refl }) refl;
-  to = drive_row _ _ _ _ refl (record { arm1 = refl; arm2 = stops_there ARM2_DEPOSIT (pos 6) (pos 634) (record { not_below = (le_z_yes tt); not_above = (le_z_yes tt) }); rotation = stands_still retracted _ _; magnet1 = refl; magnet2 = refl }) refl;
-  back = drive_row _ _ _ _ refl (record { arm1 = refl; arm2 = goes_minus ARM2_DEPOSIT (pos 6) (pos 635) (le_z_yes tt) (lt_z_yes tt); rotation = stands_still retracted _ _; magnet1 = refl; magnet2 = refl }) refl;
-}
-
-leaves_deposit : (turn : ℕ) (retracted : Bool) (n : RobotNotes) (m : RobotMagnets) → Arm2BackRows LeaveDeposit GiveToDeposit turn retracted n m
-leaves_deposit turn retracted n m = record {
-  out = drive_row _ _ _ _ refl (record { arm1 = refl; arm2 = goes_minus RETRACTED (pos 6) (pos 35) (le_z_yes tt) (lt_z_yes tt); rotation = stands_still retracted _ _; magnet1 = refl; magnet2 = refl }) refl;
-  near_end = drive_row _ _ _ _ refl (record { arm1 = refl; arm2 = stops_there RETRACTED (pos 6) (pos 34) (record { not_below = (le_z_yes tt); not_above = (le_z_yes tt) }); rotation = stands_still retracted _ _; magnet1 = refl; magnet2 = refl }) refl;
-  at_end = drive_row _ _ _ _ refl (record { arm1 = refl; arm2 = stops_there RETRACTED (pos 6) (pos 0) (record { not_below = (le_z_yes tt); not_above = (le_z_yes tt) }); rotation = stands_still retracted _ _; magnet1 = refl; magnet2 = refl }) refl;
-}
+-- a step that switches a magnet
+switches : (p q : RobotProgress) → sheet_of p ≡ goes_to None None None q → (r : RobotReading) → DriveRow (rows_by scales) p r (told Off Off Off q.magnets) q
+switches p q e r = drive_row p q None None None e r Off Off Off refl refl (stands_still r.retracted _ _)
 
 drives : (turn : ℕ) (retracted : Bool) (r : RobotReading) (n : RobotNotes) (first second : Bool) → RobotDrives turn retracted r n first second
-drives turn retracted r n first second = record {
-  to_table = turns_to_table n (magnets first second);
-  to_load = turns_to_load n (magnets first second);
-  to_unload = turns_to_unload n (magnets first second);
-  to_deposit = turns_to_deposit n (magnets first second);
-  reaches_table = reaches_table turn retracted n (magnets first second);
-  leaves_table = leaves_table turn retracted n (magnets first second);
-  reaches_to_load = reaches_to_load turn retracted n (magnets first second);
-  leaves_loaded = leaves_loaded turn retracted n (magnets first second);
-  reaches_to_unload = reaches_to_unload turn retracted n (magnets first second);
-  leaves_unloaded = leaves_unloaded turn retracted n (magnets first second);
-  reaches_deposit = reaches_deposit turn retracted n (magnets first second);
-  leaves_deposit = leaves_deposit turn retracted n (magnets first second);
-  grips = drive_row _ _ _ _ refl (record { arm1 = refl; arm2 = refl; rotation = stands_still r.retracted _ _; magnet1 = refl; magnet2 = refl }) refl;
-  drops = drive_row _ _ _ _ refl (record { arm1 = refl; arm2 = refl; rotation = stands_still r.retracted _ _; magnet1 = refl; magnet2 = refl }) refl;
-  grips_forged = drive_row _ _ _ _ refl (record { arm1 = refl; arm2 = refl; rotation = stands_still r.retracted _ _; magnet1 = refl; magnet2 = refl }) refl;
-  drops_forged = drive_row _ _ _ _ refl (record { arm1 = refl; arm2 = refl; rotation = stands_still r.retracted _ _; magnet1 = refl; magnet2 = refl }) refl;
-}
+drives turn retracted r n first second =
+    let m = magnets first second in
+    record {
+      to_table = turns_by ROTATION_ARM1_TABLE _ _ _ _ _ _ n m refl refl;
+      to_load = turns_by ROTATION_ARM1_PRESS _ _ _ _ _ _ n m refl refl;
+      to_unload = turns_by ROTATION_ARM2_PRESS _ _ _ _ _ _ n m refl refl;
+      to_deposit = turns_by ROTATION_ARM2_DEPOSIT _ _ _ _ _ _ n m refl refl;
+      reaches_table = reaches1_by ARM1_TABLE _ _ _ _ _ _ turn retracted n m refl refl;
+      leaves_table = leaves1_by _ _ turn retracted n m refl;
+      reaches_to_load = reaches1_by ARM1_PRESS _ _ _ _ _ _ turn retracted n m refl refl;
+      leaves_loaded = leaves1_by _ _ turn retracted n m refl;
+      reaches_to_unload = reaches2_by ARM2_PRESS _ _ _ _ _ _ turn retracted n m refl refl;
+      leaves_unloaded = leaves2_by _ _ turn retracted n m refl;
+      reaches_deposit = reaches2_by ARM2_DEPOSIT _ _ _ _ _ _ turn retracted n m refl refl;
+      leaves_deposit = leaves2_by _ _ turn retracted n m refl;
+      grips = switches _ _ refl r;
+      drops = switches _ _ refl r;
+      grips_forged = switches _ _ refl r;
+      drops_forged = switches _ _ refl r;
+    }
 
 -- ---- sensors and demands
 
@@ -300,22 +290,7 @@ not_shown AwaitForged p owner flag posture e = cc
 not_shown _ p owner flag posture e = refl
 
 never_refused : (s : RobotStep) (p : RobotProgress) (r : Refusal) → (row_at s p).call ≡ None → waits_on (row_at s p).waits r ≡ false
-never_refused TurnToTable p r e = refl
-never_refused ReachTable p r e = refl
-never_refused GripPlate p r e = refl
-never_refused LeaveTable p r e = refl
-never_refused TurnToLoad p r e = refl
-never_refused ReachToLoad p r e = refl
-never_refused DropInPress p r e = refl
-never_refused LeaveLoaded p r e = refl
-never_refused TurnToUnload p r e = refl
-never_refused ReachToUnload p r e = refl
-never_refused GripForged p r e = refl
-never_refused LeaveUnloaded p r e = refl
-never_refused TurnToDeposit p r e = refl
-never_refused ReachDeposit p r e = refl
-never_refused DropOnDeposit p r e = refl
-never_refused LeaveDeposit p r e = refl
+never_refused AwaitPlate p r e = cc
 never_refused _ p r e = cc
 
 pub robot-rows : RobotRowsAreMet
