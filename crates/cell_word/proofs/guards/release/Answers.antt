@@ -1,4 +1,4 @@
-use Rattle.std.proofs.Common.{◌≡◌, List, [], ◌∷◌, sym, ap, ◌∙◌, Ok, None}
+use Rattle.std.proofs.Common.{List, [], ◌∷◌, sym, ap, ◌∙◌, Ok, None}
 use Rattle.cell_rules.specs.Types.{Machine, Zone, Moving, Release}
 use Rattle.cell_rules.specs.Reply.{other_party}
 use Rattle.cell_word.specs.Changes.{written}
@@ -6,7 +6,7 @@ use Rattle.cell_word.specs.Guards as guards
 use Rattle.cell_word.specs.Guards.{first_refusal, unless, went_on}
 use Rattle.cell_word.specs.declared.patterns.Guard.{Guard}
 use Rattle.cell_word.proofs.PartyFacts.{other_is, owner_by}
-use Rattle.cell_word.proofs.Trying.{refused, go, stop, part_by_part, by_parts}
+use Rattle.cell_word.proofs.Trying.{by_parts, InTurn, ends, in_turn, past, refused_by}
 use Rattle.cell_word.specs.Parties.{machine_of, opposite}
 use Rattle.cell_word.proofs.guards.release.Goals as goal
 use Rattle.cell_word.proofs.guards.release.Goals.{In_ok-party}
@@ -22,45 +22,25 @@ abbrev parts : Machine → Zone → List (List Guard)
 parts m z = (guards.stranger m z ∷ []) ∷ rest m z (other_party m z)
 
 -- the row of a party, part by part
-row_at : (c : In_ok-party) → unless (first_refusal c.args.word (guards.release_guards c.args.machine c.args.zone)) (written c.args.machine (Release c.args.zone))
-    ≡ part_by_part c.args.word (rest c.args.machine c.args.zone (machine_of c.args.zone (opposite c.in_ok-party.party))) (written c.args.machine (Release c.args.zone))
+row_at : (c : In_ok-party) → InTurn c.args.word (rest c.args.machine c.args.zone (machine_of c.args.zone (opposite c.in_ok-party.party))) (Ok (written c.args.machine (Release c.args.zone))) (unless (first_refusal c.args.word (guards.release_guards c.args.machine c.args.zone)) (written c.args.machine (Release c.args.zone)))
 row_at c =
     let w = c.args.word in
     let m = c.args.machine in
     let z = c.args.zone in
-    let s = c.in_ok-party.party in
-    let party = c.in_ok-party.ensures.party in
     let p = written m (Release z) in
-    by_parts w (parts m z) p
-    ∙ go (c.require_party.ensures.stranger w ∙ ap went_on c.in_ok-party.was)
-    ∙ ap (λ o. part_by_part w (rest m z o) p) (other_is m z s party)
+    record {
+      is = (past (by_parts w (parts m z) p) (sym (c.require_party.ensures.stranger w)) (ap went_on c.in_ok-party.was)).is
+          ∙ ap (λ o. in_turn w (rest m z o) (Ok p)) (other_is m z c.in_ok-party.party c.in_ok-party.ensures.party);
+    }
 
 pub returns-in_err-party : goal.returns-in_err-party
-returns-in_err-party c =
-    refused _ c.in_err-party.field-0.0 c.from_residual.ensures.1
-    ∙ sym
-    (by_parts c.args.word (parts c.args.machine c.args.zone) (written c.args.machine (Release c.args.zone))
-    ∙ stop (c.require_party.ensures.stranger c.args.word ∙ ap went_on c.in_err-party.was) _)
+returns-in_err-party c = refused_by (by_parts c.args.word (parts c.args.machine c.args.zone) (written c.args.machine (Release c.args.zone))) (sym (c.require_party.ensures.stranger c.args.word)) (ap went_on c.in_err-party.was) c.from_residual.ensures.1
 
 pub returns-in_err-require_held_and_clear : goal.returns-in_err-require_held_and_clear
-returns-in_err-require_held_and_clear c =
-    refused _ c.in_err-require_held_and_clear.field-0.0 c.from_residual-in_err-require_held_and_clear.ensures.1
-    ∙ sym
-    (row_at (goal.at.returns-in_err-require_held_and_clear c).In_ok-party
-    ∙ stop (sym c.require_held_and_clear.ensures ∙ c.in_err-require_held_and_clear.was) _)
+returns-in_err-require_held_and_clear c = refused_by (row_at (goal.at.returns-in_err-require_held_and_clear c).In_ok-party) c.require_held_and_clear.ensures c.in_err-require_held_and_clear.was c.from_residual-in_err-require_held_and_clear.ensures.1
 
 pub returns-in_err-require_leavable : goal.returns-in_err-require_leavable
-returns-in_err-require_leavable c =
-    refused _ c.in_err-require_leavable.field-0.0 c.from_residual-in_err-require_leavable.ensures.1
-    ∙ sym
-    (row_at (goal.at.returns-in_err-require_leavable c).In_ok-party
-    ∙ go (sym c.require_held_and_clear.ensures ∙ c.in_ok-require_held_and_clear.was)
-    ∙ stop (sym c.require_leavable.ensures ∙ c.in_err-require_leavable.was) _)
+returns-in_err-require_leavable c = refused_by (past (row_at (goal.at.returns-in_err-require_leavable c).In_ok-party) c.require_held_and_clear.ensures c.in_ok-require_held_and_clear.was) c.require_leavable.ensures c.in_err-require_leavable.was c.from_residual-in_err-require_leavable.ensures.1
 
 pub returns : goal.returns
-returns c =
-    ap Ok (c.owner.ensures ∙ sym (owner_by c.args.machine c.args.zone c.in_ok-party.party None c.in_ok-party.ensures.party))
-    ∙ sym
-    (row_at (goal.at.returns c).In_ok-party
-    ∙ go (sym c.require_held_and_clear.ensures ∙ c.in_ok-require_held_and_clear.was)
-    ∙ go (sym c.require_leavable.ensures ∙ c.in_ok-require_leavable.was))
+returns c = ends (past (past (row_at (goal.at.returns c).In_ok-party) c.require_held_and_clear.ensures c.in_ok-require_held_and_clear.was) c.require_leavable.ensures c.in_ok-require_leavable.was) (ap Ok (c.owner.ensures ∙ sym (owner_by c.args.machine c.args.zone c.in_ok-party.party None c.in_ok-party.ensures.party)))

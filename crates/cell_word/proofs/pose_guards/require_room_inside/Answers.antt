@@ -1,15 +1,15 @@
-use Rattle.std.proofs.Common.{◌≡◌, ℕ, true, false, List, refl, sym, ap, ◌∙◌}
+use Rattle.std.proofs.Common.{◌≡◌, ℕ, true, false, List, refl, sym, ap, ◌∙◌, [], ◌∷◌}
 use Rattle.std.specs.List.{flat_map}
 use Rattle.cell_rules.specs.Types.{Zone, Z3, Place, PressIn, PressOut, OpenIn, same_zone, transfer_of}
 use Rattle.cell_word.specs.Guards as guards
 use Rattle.cell_word.specs.Guards.{checked}
-use Rattle.cell_word.proofs.Trying.{refused, go, stop, then, in_parts}
+use Rattle.cell_word.proofs.Trying.{InTurn, by_parts_to, ends, past, refused_by}
 use Rattle.cell_word.proofs.pose_guards.require_room_inside.Goals as goal
 
 -- the press has two places inside z3
 pressed : (w : ℕ) (z : Zone) → same_zone z Z3 ≡ true
-    → checked w (guards.opening_guards z OpenIn) ≡ then (checked w (guards.room_guards z PressIn)) (checked w (guards.room_guards z PressOut))
-pressed w Z3 e = in_parts w (guards.room_guards Z3 PressIn) (guards.room_guards Z3 PressOut) tt
+    → InTurn w (guards.room_guards z PressIn ∷ []) (checked w (guards.room_guards z PressOut)) (checked w (guards.opening_guards z OpenIn))
+pressed w Z3 e = by_parts_to w (guards.room_guards Z3 PressIn ∷ []) (guards.room_guards Z3 PressOut)
 pressed w z e = cc
 
 -- any other zone has at most one, where its plates go
@@ -18,11 +18,10 @@ elsewhere Z3 e = cc
 elsewhere z e = refl
 
 pub returns-in_err-require_room : goal.returns-in_err-require_room
-returns-in_err-require_room c =
-    refused _ c.in_err-require_room.field-0.0 c.from_residual.ensures.1 ∙ sym (pressed c.args.at.word c.args.at.zone (sym c.eq.ensures ∙ c.if-eq.true) ∙ stop (sym c.require_room.ensures ∙ c.in_err-require_room.was) _)
+returns-in_err-require_room c = refused_by (pressed c.args.at.word c.args.at.zone (sym c.eq.ensures ∙ c.if-eq.true)) c.require_room.ensures c.in_err-require_room.was c.from_residual.ensures.1
 
 pub returns-then-eq : goal.returns-then-eq
-returns-then-eq c = c.require_room-then-eq.ensures ∙ sym (pressed c.args.at.word c.args.at.zone (sym c.eq.ensures ∙ c.if-eq.true) ∙ go (sym c.require_room.ensures ∙ c.in_ok-require_room.was))
+returns-then-eq c = ends (past (pressed c.args.at.word c.args.at.zone (sym c.eq.ensures ∙ c.if-eq.true)) c.require_room.ensures c.in_ok-require_room.was) c.require_room-then-eq.ensures
 
 pub returns-in-Some : goal.returns-in-Some
 returns-in-Some c =

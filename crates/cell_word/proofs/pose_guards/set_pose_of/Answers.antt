@@ -3,10 +3,10 @@ use Rattle.cell_rules.specs.Types.{Machine, Zone, Pose, Posture, SetPose, Refusa
 use Rattle.cell_word.specs.Changes as changes
 use Rattle.cell_word.specs.Patterns.{when, anything, both}
 use Rattle.cell_word.specs.Guards as guards
-use Rattle.cell_word.specs.Guards.{guard, first_refusal, unless, checked}
+use Rattle.cell_word.specs.Guards.{guard, first_refusal, unless}
 use Rattle.cell_word.specs.declared.patterns.Pattern.{Pattern}
 use Rattle.cell_word.specs.declared.patterns.Guard.{Guard}
-use Rattle.cell_word.proofs.Trying.{refused, go, stop, part_by_part, by_parts}
+use Rattle.cell_word.proofs.Trying.{by_parts, InTurn, asked, ends, past, refused_by}
 use Rattle.cell_word.proofs.pose_guards.set_pose_of.Goals as goal
 
 abbrev parts : Machine → Pose → Option (Zone × Posture) → Option (Zone × Posture) → List (List Guard)
@@ -23,18 +23,20 @@ regrouped a b c d e f g h i j = simp append_assoc refl
 
 -- the row of a pose, part by part, by the zones that it gives a posture
 row_is : (w : ℕ) (m : Machine) (p : Pose) (one other : Option (Zone × Posture)) (written : Pattern) → one ≡ guards.posed_at m p (guards.hosted_zones m).0 → other ≡ guards.posed_at m p (guards.hosted_zones m).1
-    → unless (first_refusal w (guards.pose_guards m p)) written ≡ part_by_part w (parts m p one other) written
+    → InTurn w (parts m p one other) (Ok written) (unless (first_refusal w (guards.pose_guards m p)) written)
 row_is w m p one other written first second =
-    ap₂ (λ a b. unless (first_refusal w (guards.pose_guards_at m p a b)) written) (sym first) (sym second)
-    ∙ ap (λ (row : List Guard). unless (first_refusal w (guard (when (is_none one) anything) NoPose ∷ guards.moves_while_stopped p ∷ row)) written)
-    (regrouped (guards.on_posed guards.owner_guards one) (guards.on_posed guards.owner_guards other) (guards.on_posed guards.plate_guards one) (guards.on_posed guards.plate_guards other)
-    (guards.on_posed (guards.jump_guards m p) one) (guards.on_posed (guards.jump_guards m p) other) (guards.on_posed guards.opening_guards one) (guards.on_posed guards.opening_guards other)
-    (guards.run_guards m p) (guards.worn ∷ []))
-    ∙ by_parts w (parts m p one other) written
+    record {
+      is = ap₂ (λ a b. unless (first_refusal w (guards.pose_guards_at m p a b)) written) (sym first) (sym second)
+          ∙ ap (λ (row : List Guard). unless (first_refusal w (guard (when (is_none one) anything) NoPose ∷ guards.moves_while_stopped p ∷ row)) written)
+          (regrouped (guards.on_posed guards.owner_guards one) (guards.on_posed guards.owner_guards other) (guards.on_posed guards.plate_guards one) (guards.on_posed guards.plate_guards other)
+          (guards.on_posed (guards.jump_guards m p) one) (guards.on_posed (guards.jump_guards m p) other) (guards.on_posed guards.opening_guards one) (guards.on_posed guards.opening_guards other)
+          (guards.run_guards m p) (guards.worn ∷ []))
+          ∙ (by_parts w (parts m p one other) written).is;
+    }
 
 -- the row if the zones are known
 row_at : (w : ℕ) (m : Machine) (p : Pose) (zones : Option Zone × Option Zone) (one other : Option (Zone × Posture)) → zones ≡ guards.hosted_zones m → one ≡ guards.posed_at m p zones.0 → other ≡ guards.posed_at m p zones.1
-    → unless (first_refusal w (guards.pose_guards m p)) (changes.written m (SetPose p)) ≡ part_by_part w (parts m p one other) (changes.written m (SetPose p))
+    → InTurn w (parts m p one other) (Ok (changes.written m (SetPose p))) (unless (first_refusal w (guards.pose_guards m p)) (changes.written m (SetPose p)))
 row_at w m p zones one other hosts first second =
     row_is w m p one other (changes.written m (SetPose p)) (first ∙ ap (λ h. guards.posed_at m p h.0) hosts) (second ∙ ap (λ h. guards.posed_at m p h.1) hosts)
 
@@ -43,63 +45,23 @@ by_name : (w : ℕ) (p : Pose) {m n : Machine} {r : Result Pattern Refusal} → 
 by_name w p {m} {n} {r} same answers = subst (λ x. r ≡ unless (first_refusal w (guards.pose_guards x p)) (changes.written x (SetPose p))) same answers
 
 pub returns-in_err-require_pose : goal.returns-in_err-require_pose
-returns-in_err-require_pose g c =
-    by_name c.args.word c.args.pose c.MACHINE-machine.ensures (
-    refused _ c.in_err-require_pose.field-0.0 c.from_residual.ensures.1 ∙ sym (row_at _ _ _ _ _ _ c.hosted_zones-one.ensures c.posed_at-one.ensures c.posed_at-other.ensures ∙ stop (sym (c.require_pose.ensures c.args.word) ∙ c.in_err-require_pose.was) _))
+returns-in_err-require_pose g c = by_name c.args.word c.args.pose c.MACHINE-machine.ensures (refused_by (row_at _ _ _ _ _ _ c.hosted_zones-one.ensures c.posed_at-one.ensures c.posed_at-other.ensures) (c.require_pose.ensures c.args.word) c.in_err-require_pose.was c.from_residual.ensures.1)
 
 pub returns-in_err-require_running_to_move : goal.returns-in_err-require_running_to_move
-returns-in_err-require_running_to_move g c =
-    by_name c.args.word c.args.pose c.MACHINE-machine.ensures (
-    refused _ c.in_err-require_running_to_move.field-0.0 c.from_residual-in_err-require_running_to_move.ensures.1
-    ∙ sym
-    (row_at _ _ _ _ _ _ c.hosted_zones-one.ensures c.posed_at-one.ensures c.posed_at-other.ensures
-    ∙ go (sym (c.require_pose.ensures c.args.word) ∙ c.in_ok-require_pose.was)
-    ∙ stop (sym c.require_running_to_move.ensures ∙ c.in_err-require_running_to_move.was) _))
+returns-in_err-require_running_to_move g c = by_name c.args.word c.args.pose c.MACHINE-machine.ensures (refused_by (past (row_at _ _ _ _ _ _ c.hosted_zones-one.ensures c.posed_at-one.ensures c.posed_at-other.ensures) (c.require_pose.ensures c.args.word) c.in_ok-require_pose.was) c.require_running_to_move.ensures c.in_err-require_running_to_move.was c.from_residual-in_err-require_running_to_move.ensures.1)
 
 pub returns-in_err-require_owned_clear_zones : goal.returns-in_err-require_owned_clear_zones
-returns-in_err-require_owned_clear_zones g c =
-    by_name c.args.word c.args.pose c.MACHINE-machine.ensures (
-    refused _ c.in_err-require_owned_clear_zones.field-0.0 c.from_residual-in_err-require_owned_clear_zones.ensures.1
-    ∙ sym
-    (row_at _ _ _ _ _ _ c.hosted_zones-one.ensures c.posed_at-one.ensures c.posed_at-other.ensures
-    ∙ go (sym (c.require_pose.ensures c.args.word) ∙ c.in_ok-require_pose.was)
-    ∙ go (sym c.require_running_to_move.ensures ∙ c.in_ok-require_running_to_move.was)
-    ∙ stop (sym c.require_owned_clear_zones.ensures ∙ c.in_err-require_owned_clear_zones.was) _))
+returns-in_err-require_owned_clear_zones g c = by_name c.args.word c.args.pose c.MACHINE-machine.ensures (refused_by (past (past (row_at _ _ _ _ _ _ c.hosted_zones-one.ensures c.posed_at-one.ensures c.posed_at-other.ensures) (c.require_pose.ensures c.args.word) c.in_ok-require_pose.was) c.require_running_to_move.ensures c.in_ok-require_running_to_move.was) c.require_owned_clear_zones.ensures c.in_err-require_owned_clear_zones.was c.from_residual-in_err-require_owned_clear_zones.ensures.1)
 
 pub returns-in_err-require_allowed_pose : goal.returns-in_err-require_allowed_pose
-returns-in_err-require_allowed_pose g c =
-    by_name c.args.word c.args.pose c.MACHINE-machine.ensures (
-    refused _ c.in_err-require_allowed_pose.field-0.0 c.from_residual-in_err-require_allowed_pose.ensures.1
-    ∙ sym
-    (row_at _ _ _ _ _ _ c.hosted_zones-one.ensures c.posed_at-one.ensures c.posed_at-other.ensures
-    ∙ go (sym (c.require_pose.ensures c.args.word) ∙ c.in_ok-require_pose.was)
-    ∙ go (sym c.require_running_to_move.ensures ∙ c.in_ok-require_running_to_move.was)
-    ∙ go (sym c.require_owned_clear_zones.ensures ∙ c.in_ok-require_owned_clear_zones.was)
-    ∙ stop (sym c.require_allowed_pose.ensures ∙ c.in_err-require_allowed_pose.was) _))
+returns-in_err-require_allowed_pose g c = by_name c.args.word c.args.pose c.MACHINE-machine.ensures (refused_by (past (past (past (row_at _ _ _ _ _ _ c.hosted_zones-one.ensures c.posed_at-one.ensures c.posed_at-other.ensures) (c.require_pose.ensures c.args.word) c.in_ok-require_pose.was) c.require_running_to_move.ensures c.in_ok-require_running_to_move.was) c.require_owned_clear_zones.ensures c.in_ok-require_owned_clear_zones.was) c.require_allowed_pose.ensures c.in_err-require_allowed_pose.was c.from_residual-in_err-require_allowed_pose.ensures.1)
 
 pub returns-in_err-pass : goal.returns-in_err-pass
-returns-in_err-pass g c =
-    by_name c.args.word c.args.pose c.MACHINE-machine.ensures (
-    refused _ c.in_err-pass.field-0.0 c.from_residual-in_err-pass.ensures.1
-    ∙ sym
-    (row_at _ _ _ _ _ _ c.hosted_zones-one.ensures c.posed_at-one.ensures c.posed_at-other.ensures
-    ∙ go (sym (c.require_pose.ensures c.args.word) ∙ c.in_ok-require_pose.was)
-    ∙ go (sym c.require_running_to_move.ensures ∙ c.in_ok-require_running_to_move.was)
-    ∙ go (sym c.require_owned_clear_zones.ensures ∙ c.in_ok-require_owned_clear_zones.was)
-    ∙ go (sym c.require_allowed_pose.ensures ∙ c.in_ok-require_allowed_pose.was)
-    ∙ stop (sym (c.pass.ensures ∙ ap (λ (g : Guard). checked c.args.word (g ∷ [])) c.worn_guard.ensures) ∙ c.in_err-pass.was) _))
+returns-in_err-pass g c = by_name c.args.word c.args.pose c.MACHINE-machine.ensures (refused_by (past (past (past (past (row_at _ _ _ _ _ _ c.hosted_zones-one.ensures c.posed_at-one.ensures c.posed_at-other.ensures) (c.require_pose.ensures c.args.word) c.in_ok-require_pose.was) c.require_running_to_move.ensures c.in_ok-require_running_to_move.was) c.require_owned_clear_zones.ensures c.in_ok-require_owned_clear_zones.was) c.require_allowed_pose.ensures c.in_ok-require_allowed_pose.was) (asked c.args.word c.pass.ensures c.worn_guard.ensures) c.in_err-pass.was c.from_residual-in_err-pass.ensures.1)
 
 pub returns : goal.returns
 returns g c =
-    by_name c.args.word c.args.pose c.MACHINE-machine.ensures (
     let first = c.posed_at-one.ensures ∙ ap (λ h. guards.posed_at c.MACHINE-machine.result c.args.pose h.0) c.hosted_zones-one.ensures in
     let second = c.posed_at-other.ensures ∙ ap (λ h. guards.posed_at c.MACHINE-machine.result c.args.pose h.1) c.hosted_zones-one.ensures in
     let written = c.and.ensures ∙ ap₂ both (c.posture_pattern.ensures ∙ ap changes.posture_pattern first) (c.posture_pattern-2.ensures ∙ ap changes.posture_pattern second) in
-    ap Ok written
-    ∙ sym
-    (row_at _ _ _ _ _ _ c.hosted_zones-one.ensures c.posed_at-one.ensures c.posed_at-other.ensures
-    ∙ go (sym (c.require_pose.ensures c.args.word) ∙ c.in_ok-require_pose.was)
-    ∙ go (sym c.require_running_to_move.ensures ∙ c.in_ok-require_running_to_move.was)
-    ∙ go (sym c.require_owned_clear_zones.ensures ∙ c.in_ok-require_owned_clear_zones.was)
-    ∙ go (sym c.require_allowed_pose.ensures ∙ c.in_ok-require_allowed_pose.was)
-    ∙ go (sym (c.pass.ensures ∙ ap (λ (g : Guard). checked c.args.word (g ∷ [])) c.worn_guard.ensures) ∙ c.in_ok-pass.was)))
+    by_name c.args.word c.args.pose c.MACHINE-machine.ensures (ends (past (past (past (past (past (row_at _ _ _ _ _ _ c.hosted_zones-one.ensures c.posed_at-one.ensures c.posed_at-other.ensures) (c.require_pose.ensures c.args.word) c.in_ok-require_pose.was) c.require_running_to_move.ensures c.in_ok-require_running_to_move.was) c.require_owned_clear_zones.ensures c.in_ok-require_owned_clear_zones.was) c.require_allowed_pose.ensures c.in_ok-require_allowed_pose.was) (asked c.args.word c.pass.ensures c.worn_guard.ensures) c.in_ok-pass.was) (ap Ok written))
