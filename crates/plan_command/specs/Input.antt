@@ -1,5 +1,6 @@
 -- A plan and a script after it.
-use Rattle.std.specs.Prelude.{ℕ, ◌+◌, ◌-◌, ◌==◌, ◌&&◌, ◌||◌, Bool, List, length, take, drop, get_or, codes, unwrap_or, Option}
+use Rattle.std.specs.Prelude.{ℕ, ◌+◌, ◌-◌, ◌==◌, ◌&&◌, ◌||◌, Bool, List, length, take, drop, get_or, codes, min, unwrap_or}
+use Rattle.std.specs.Prelude.{Option}
 use Rattle.std.specs.List.{starts_with}
 use Rattle.std.specs.Bool.{then_some}
 use Rattle.std.specs.Prelude.{nat_eq}
@@ -23,7 +24,7 @@ begin_at bytes at = then_some (is_begin bytes at) at
 
 -- how many bytes the plan has: those before the script, or all
 abbrev pub plan_length : List ℕ → ℕ
-plan_length bytes = unwrap_or (first_below (begin_at bytes) (length bytes)) (length bytes)
+plan_length bytes = min (unwrap_or (first_below (begin_at bytes) (length bytes)) (length bytes)) (length bytes)
 
 abbrev pub plan_in : List ℕ → List ℕ
 plan_in bytes = take (plan_length bytes) bytes

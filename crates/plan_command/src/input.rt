@@ -1,5 +1,5 @@
 //! A plan and a script after it, in one input.
-ghost use Rattle.std.specs.Prelude.{◌≡◌, ◌<◌, length};
+ghost use Rattle.std.specs.Prelude.{◌≡◌, ◌<◌, ◌≤◌, length};
 ghost use Rattle.plan_types.specs.Below.{first_below};
 ghost use Rattle.plan_command.specs.Input as spec;
 
@@ -39,7 +39,8 @@ fn first_begin(bytes: &[u8]) -> Option<usize>
 
 /// How many bytes the plan has: those before the first line that begins with `start,`, or all.
 pub fn plan_length(bytes: &[u8]) -> usize
-    ensures { result ≡ spec.plan_length bytes.now }
+    ensures length { result ≡ spec.plan_length bytes.now }
+    ensures within { result ≤ length bytes.now }
 {
-    first_begin(bytes).unwrap_or(bytes.len())
+    first_begin(bytes).unwrap_or(bytes.len()).min(bytes.len())
 }

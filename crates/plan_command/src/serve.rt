@@ -1,11 +1,13 @@
 //! What the program `plan` does.
 ghost use Rattle.std.specs.Prelude.{◌≡◌, ◌≢◌, ◌≤◌, Some, None, codes};
+ghost use Rattle.std.specs.Io.KnownBytes.{Appends};
 ghost use Rattle.cell_text.specs.Input.{TakesAtMost};
 ghost use Rattle.cell_text.specs.Output.{WrotePrefix};
 ghost use Rattle.cell_shell.specs.Printed.{Prints};
 ghost use Rattle.cell_shell.specs.Versions.{version_line};
 ghost use Rattle.cell_shell.specs.Words.{texts_of};
-ghost use Rattle.plan_command.specs.Input.{max_bytes_read};
+ghost use Rattle.plan_command.specs.Input.{max_bytes_read, script_in};
+ghost use Rattle.plan_command.specs.Served.{AnswersScript};
 ghost use Rattle.plan_command.specs.Requests.{request_of};
 
 use crate::header::header_of;
@@ -15,7 +17,7 @@ use crate::request;
 use crate::request::Request;
 use cell_shell::{Exit, fail, print, print_prefix, print_version, texts_of, words_or_exit};
 use cell_text::{InputFault, read_up_to};
-use plan_replay::{Outcome, ReplayFault, answer_script};
+use plan_replay::{Answered, Outcome, ReplayFault, answer_script};
 use plan_text::{NamedPlan, plan_of, read_plan};
 use std::alloc::{AllocError, Global};
 use std::env::Env;
@@ -79,26 +81,36 @@ fn serve_replay<R: Read, W: Write>(alloc: Global, reader: &mut R, writer: &mut W
 }
 
 fn replay_bytes<W: Write>(alloc: Global, bytes: &[u8], writer: &mut W) -> Exit
-    ensures { result ≢ Exit.Refused }
+    ensures status { result ≢ Exit.Refused }
+    ensures answered { result ≡ Exit.Well →
+        AnswersScript (script_in bytes.now) (W.contents writer.old) (W.contents writer.new) }
 {
     if bytes.len() > MAX_BYTES {
         return fail(writer, "long");
     }
-    let length = plan_length(bytes).min(bytes.len());
+    let length = plan_length(bytes);
     let named = match plan_of(alloc, &bytes[..length]) {
         Ok(named) => named,
         Err(fault) => return fail(writer, fault),
     };
     match answer_script(alloc, &named, &bytes[length..]) {
-        Ok(answered) => {
-            let printed = print(writer, answered.text().as_bytes());
-            match answered.outcome() {
-                Outcome::Clean => printed,
-                Outcome::Refused(_) => Exit::Failed,
-            }
-        }
+        Ok(answered) => print_answers(writer, &answered),
         Err(ReplayFault::Read) => fail(writer, "read"),
         Err(ReplayFault::Memory) => fail(writer, "memory"),
+    }
+}
+
+/// Prints answers. Returns `Well` if they were written and no record was refused.
+fn print_answers<W: Write>(writer: &mut W, answered: &Answered) -> Exit
+    ensures status { result ≢ Exit.Refused }
+    ensures clean { result ≡ Exit.Well → answered.now.outcome ≡ Outcome.Clean }
+    ensures written { result ≡ Exit.Well →
+        Appends (W.contents writer.old) (W.contents writer.new) answered.now.text }
+{
+    let printed = print(writer, answered.text().as_bytes());
+    match answered.outcome() {
+        Outcome::Clean => printed,
+        Outcome::Refused(_) => Exit::Failed,
     }
 }
 
