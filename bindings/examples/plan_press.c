@@ -4,10 +4,14 @@
 #include <pthread.h>
 #include <stdio.h>
 
-/* What `plan header PRESS` prints of this plan: numbers and bytes. */
-enum { PRESS_MACHINE_LOADER, PRESS_MACHINE_PRESS };
-enum { PRESS_ZONE_INTERIOR };
-enum { PRESS_POSE_LOAD, PRESS_POSE_UNLOAD, PRESS_POSE_CLOSED, PRESS_POSE_TRAVELLING };
+/* What `plan header PRESS` prints of this plan, as far as it is used here: numbers and bytes. */
+#define PLAN_MACHINE_LOADER 0
+#define PLAN_MACHINE_PRESS 1
+#define PLAN_ZONE_INTERIOR 0
+#define PLAN_POSE_PRESS_LOAD 0
+#define PLAN_POSE_PRESS_UNLOAD 1
+#define PLAN_POSE_PRESS_CLOSED 2
+#define PLAN_POSE_PRESS_TRAVELLING 3
 static const uint8_t PRESS_PLAN[] = {
     2, 1, 4, 2,
     1, 0, 1, 0, 1, 1, 1, 0,
@@ -26,18 +30,23 @@ struct step {
 
 /* The press has the interior to itself while it moves and while it is closed. */
 static const struct step press_program[] = {
-    {BAGUNJOKI_PLAN_CLAIM, PRESS_ZONE_INTERIOR},       {BAGUNJOKI_PLAN_SET_POSE, PRESS_POSE_TRAVELLING},
-    {BAGUNJOKI_PLAN_SET_POSE, PRESS_POSE_LOAD},        {BAGUNJOKI_PLAN_YIELD, PRESS_ZONE_INTERIOR},
-    {BAGUNJOKI_PLAN_TAKE, PRESS_ZONE_INTERIOR},        {BAGUNJOKI_PLAN_SET_POSE, PRESS_POSE_TRAVELLING},
-    {BAGUNJOKI_PLAN_SET_POSE, PRESS_POSE_CLOSED},      {BAGUNJOKI_PLAN_SET_POSE, PRESS_POSE_TRAVELLING},
-    {BAGUNJOKI_PLAN_SET_POSE, PRESS_POSE_UNLOAD},      {BAGUNJOKI_PLAN_GIVE, PRESS_ZONE_INTERIOR},
+    {BAGUNJOKI_PLAN_CLAIM, PLAN_ZONE_INTERIOR},
+    {BAGUNJOKI_PLAN_SET_POSE, PLAN_POSE_PRESS_TRAVELLING},
+    {BAGUNJOKI_PLAN_SET_POSE, PLAN_POSE_PRESS_LOAD},
+    {BAGUNJOKI_PLAN_YIELD, PLAN_ZONE_INTERIOR},
+    {BAGUNJOKI_PLAN_TAKE, PLAN_ZONE_INTERIOR},
+    {BAGUNJOKI_PLAN_SET_POSE, PLAN_POSE_PRESS_TRAVELLING},
+    {BAGUNJOKI_PLAN_SET_POSE, PLAN_POSE_PRESS_CLOSED},
+    {BAGUNJOKI_PLAN_SET_POSE, PLAN_POSE_PRESS_TRAVELLING},
+    {BAGUNJOKI_PLAN_SET_POSE, PLAN_POSE_PRESS_UNLOAD},
+    {BAGUNJOKI_PLAN_GIVE, PLAN_ZONE_INTERIOR},
 };
 
 /* The loader waits until the press has handed the interior over. */
 static const struct step loader_program[] = {
-    {BAGUNJOKI_PLAN_GIVE, PRESS_ZONE_INTERIOR},
-    {BAGUNJOKI_PLAN_TAKE, PRESS_ZONE_INTERIOR},
-    {BAGUNJOKI_PLAN_RELEASE, PRESS_ZONE_INTERIOR},
+    {BAGUNJOKI_PLAN_GIVE, PLAN_ZONE_INTERIOR},
+    {BAGUNJOKI_PLAN_TAKE, PLAN_ZONE_INTERIOR},
+    {BAGUNJOKI_PLAN_RELEASE, PLAN_ZONE_INTERIOR},
 };
 
 struct machine {
@@ -82,8 +91,8 @@ static void *run(void *given) {
 
 int main(void) {
     struct machine machines[] = {
-        {"loader", PRESS_MACHINE_LOADER, loader_program, 3, 0, 0},
-        {"press", PRESS_MACHINE_PRESS, press_program, 10, 0, 0},
+        {"loader", PLAN_MACHINE_LOADER, loader_program, 3, 0, 0},
+        {"press", PLAN_MACHINE_PRESS, press_program, 10, 0, 0},
     };
     pthread_t threads[2];
     /* a plate on the loader's hand, none in the press */

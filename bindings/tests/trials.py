@@ -10,6 +10,8 @@ import sys
 import tempfile
 import time
 
+import plans
+
 STRICT = ["-O2", "-Wall", "-Wextra", "-Werror", "-pedantic"]
 C, CPP = ["-std=c11", *STRICT], ["-std=c++11", *STRICT]
 STRICT_TSAN = {"TSAN_OPTIONS": "halt_on_error=1 exitcode=66"}
@@ -90,13 +92,17 @@ class Trials:
             raise Failed(f"{' '.join(words)}: status {ran.returncode}\n{ran.stdout}")
         return ran.stdout
 
-    def compiled(self, compiler, source, *flags):
-        """A program of this source."""
+    def compiled(self, compiler, source, *flags, library="bagunjoki"):
+        """A program of this source, over the library."""
         to = f"{self.room}/{next(self.numbers)}_{os.path.basename(source).partition('.')[0]}"
         language = CPP if compiler in ("g++", "clang++") else C
-        its_own = ["-pthread", *flags, f"-I{self.prefix}/include", f"{self.here}/{source}"]
-        self.run([compiler, *language, *its_own, f"{self.prefix}/lib/libbagunjoki.a", "-o", to])
+        its_own = ["-pthread", *flags, f"-I{self.prefix}/include", f"{self.here}/{source}", "-x", "none"]
+        self.run([compiler, *language, *its_own, f"{self.prefix}/lib/lib{library}.a", "-o", to])
         return to
+
+    def fail(self, what):
+        """Ends a trial that shows something wrong."""
+        raise Failed(what)
 
     def there(self, *programs):
         """Those of the programs that are there; the others are noted."""
@@ -290,11 +296,25 @@ def under_load(trials, compilers, calls):
             trials.absent.append(f"{which} sanitizer of {compiler}")
 
 
+def at_other_plants(trials, compilers):
+    """The library for any plan."""
+    for compiler in compilers:
+        trials.attempt(f"plan_press.c by {compiler}", plans.press, trials, compiler)
+        trials.attempt(f"calls at a lift as by the rules, {compiler}", plans.walk, trials, compiler)
+        for which in ("address,undefined", "thread"):
+            if can_sanitize(compiler, which):
+                flags = ["-g", f"-fsanitize={which}", "-fno-sanitize-recover=all"]
+                trials.attempt(f"plan_press.c, {which} sanitizer, {compiler}", plans.press, trials, compiler, *flags)
+    for compiler in trials.there("g++", "clang++"):
+        trials.attempt(f"calls at a lift, {compiler}", plans.walk, trials, compiler, "-x", "c++")
+
+
 def run(root, prefix, calls):
     """All trials; the status is 0 only if none has failed."""
     with tempfile.TemporaryDirectory() as room:
         trials = Trials(root, prefix, room)
         compilers = trials.there("gcc", "clang")
+        at_other_plants(trials, compilers)
         in_all_languages(trials, compilers)
         under_load(trials, compilers, calls)
     if trials.absent:

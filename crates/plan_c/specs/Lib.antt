@@ -2,3 +2,4 @@ pub mod Given
 pub mod Numbers
 pub mod Replies
 pub mod Starts
+pub mod Laws

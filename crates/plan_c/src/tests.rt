@@ -1,8 +1,12 @@
+use crate::calls::call_with;
 use crate::exports::{
     bagunjoki_plan_restamp, bagunjoki_plan_stamp, bagunjoki_plan_start, bagunjoki_plan_step,
 };
+use crate::reply::{NO_CALL, Reply, bare_reply, reply_of};
 use plan_bytes::write_tables;
-use plan_types::examples;
+use plan_rules::{LAST_STAMP, State, apply};
+use plan_types::{Plan, examples};
+use plan_word::{Layout, pack};
 use std::test::Fail;
 
 // A call's machine, verb and object, and then its answer, owner, zone, posture and stamp.
@@ -53,5 +57,55 @@ fn is_answered_in_numbers(rt: HostRuntime) -> Result<(), Fail> {
     assert!(rt; bagunjoki_plan_stamp(rt.alloc(), &plan, u64::MAX) == u32::MAX);
     assert!(rt; bagunjoki_plan_start(rt.alloc(), &plan, b"1", 0) == u64::MAX);
     assert!(rt; bagunjoki_plan_step(rt.alloc(), &[], word, 1, 1, 0).answer == 67);
+    Ok(())
+}
+
+// Of `bindings/tests/plan_walk.c`, which makes the same calls by the library.
+const WALKED: u64 = 0x8ebe0a45669b9ad7;
+
+const CALLERS: [u8; 4] = [0, 1, 2, 15];
+
+fn mixed(sum: u64, value: u64) -> u64 {
+    (sum ^ value).wrapping_mul(1_099_511_628_211)
+}
+
+fn mixed_reply(sum: u64, reply: Reply) -> u64 {
+    let sum = mixed(
+        mixed(mixed(sum, reply.next), u64::from(reply.answer)),
+        u64::from(reply.owner),
+    );
+    let sum = mixed(mixed(sum, u64::from(reply.zone)), u64::from(reply.posture));
+    mixed(sum, u64::from(reply.plate))
+}
+
+// The lift, answered by the rules.
+#[test]
+fn walks_as_c_does(rt: HostRuntime) -> Result<(), Fail> {
+    let plan = Plan::new(examples::lift(rt.alloc())?).expect(&rt, "a plan");
+    let layout = Layout::of(&plan).expect(&rt, "a word");
+    let mut full = [false; 16];
+    full[1] = true;
+    let mut state = State::start(full, 0);
+    let mut seed: u64 = 1;
+    let mut sum: u64 = 14_695_981_039_346_656_037;
+    for _ in 0..100_000 {
+        seed = seed
+            .wrapping_mul(6_364_136_223_846_793_005)
+            .wrapping_add(1_442_695_040_888_963_407);
+        let drawn = seed >> 33;
+        let machine = CALLERS[(drawn % 4) as usize];
+        let call = call_with((drawn / 4 % 11) as u8, (drawn / 64 % 6) as u8);
+        assert!(rt; state.stamp < LAST_STAMP);
+        let reply = match call {
+            Some(call) => {
+                let answer = apply(&plan, &mut state, machine, call);
+                assert!(rt; state.stamp <= LAST_STAMP);
+                reply_of(answer, pack(&plan, &layout, &state))
+            }
+            None => bare_reply(NO_CALL, pack(&plan, &layout, &state)),
+        };
+        sum = mixed_reply(sum, reply);
+    }
+    assert_eq!(rt; sum, WALKED);
     Ok(())
 }

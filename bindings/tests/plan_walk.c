@@ -1,0 +1,51 @@
+/* Random calls at the lift of plan_types::examples, by the library. It prints a sum of all replies; the test
+   walks_as_c_does of the crate plan_c has the same from plan_rules. A number as argument: how many rounds, for time. */
+#include <bagunjoki_plan.h>
+#include <stdio.h>
+#include <stdlib.h>
+#include <time.h>
+
+static const uint8_t LIFT_PLAN[] = {
+    3, 2, 5, 3,
+    0, 1, 1, 1, 0, 1, 0, 1,
+    0, 2, 1, 2, 0, 1, 0, 2,
+    0, 0, 2, 2, 0, 0, 0, 0, 0, 0, 0, 0,
+    0, 1, 3, 1, 0, 0, 0, 0, 0, 0, 0, 0,
+    0, 1, 1, 4, 0, 0, 0, 0, 0, 0, 0, 0,
+    0, 1, 4, 1, 0, 0, 0, 0, 0, 0, 0, 0,
+    0, 1, 1, 3, 0, 0, 0, 0, 0, 0, 0, 0,
+    0, 1, 2,
+};
+
+enum { CALLS = 100000 };
+
+static uint64_t mixed(uint64_t sum, uint64_t value) { return (sum ^ value) * 1099511628211u; }
+
+static uint64_t walk(void) {
+    static const uint8_t callers[] = {0, 1, 2, BAGUNJOKI_PLAN_WATCH};
+    uint64_t word = bagunjoki_plan_start(LIFT_PLAN, sizeof LIFT_PLAN, (const uint8_t *)"010", 3, 0);
+    uint64_t seed = 1, sum = 14695981039346656037u;
+    for (int k = 0; k < CALLS; k++) {
+        seed = seed * 6364136223846793005u + 1442695040888963407u;
+        uint64_t drawn = seed >> 33;
+        uint8_t machine = callers[drawn % 4], verb = drawn / 4 % 11, object = drawn / 64 % 6;
+        bagunjoki_plan_reply reply = bagunjoki_plan_step(LIFT_PLAN, sizeof LIFT_PLAN, word, machine, verb, object);
+        word = reply.next;
+        sum = mixed(mixed(mixed(sum, reply.next), reply.answer), reply.owner);
+        sum = mixed(mixed(mixed(sum, reply.zone), reply.posture), reply.plate);
+    }
+    return sum;
+}
+
+int main(int argc, char **argv) {
+    uint64_t sum = walk();
+    printf("0x%016llx\n", (unsigned long long)sum);
+    if (argc > 1) {
+        clock_t begun = clock();
+        int rounds = atoi(argv[1]);
+        for (int k = 0; k < rounds; k++)
+            if (walk() != sum) return 1;
+        printf("%.2f us a call\n", 1e6 * (double)(clock() - begun) / CLOCKS_PER_SEC / rounds / CALLS);
+    }
+    return 0;
+}

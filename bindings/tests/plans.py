@@ -1,0 +1,111 @@
+"""Compares bagunjoki_plan.h with the crates, and tries the library for any plan."""
+
+import re
+import subprocess
+import tempfile
+
+import compare
+from compare import table, text_of, value
+
+NUMBERS = "crates/plan_c/specs/Numbers.antt"
+REPLIES = "crates/plan_c/specs/Replies.antt"
+EXAMPLES = "crates/plan_bytes/specs/Examples.antt"
+STAMPS = "crates/plan_rules/specs/State.antt"
+WATCH = "crates/plan_types/specs/Table.antt"
+STRUCT = "crates/plan_c/src/reply.rt"
+EXPORTS = "crates/plan_c/src/exports.rt"
+TESTS = "crates/plan_c/src/tests.rt"
+HEADER = "bindings/bagunjoki_plan.h"
+BUSY = 66
+TYPES = compare.TYPES | {"bagunjoki_plan_reply": "Reply"}
+# The plans that programs here carry, by the examples of plan_bytes.
+PLANS = {"press": "bindings/examples/plan_press.c", "lift": "bindings/tests/plan_walk.c"}
+PRESS = "loader: 30000 calls done, stopped by 0\npress: 100000 calls done, stopped by 0\n"
+
+
+def of_crates(root):
+    """Numbers, limits and fields as the crates have them."""
+    numbers, replies = text_of(f"{root}/{NUMBERS}"), text_of(f"{root}/{REPLIES}")
+    answers = table(replies, "refusal_number") | table(replies, "answer_number")
+    answers |= {it.upper(): value(replies, it) for it in ("no_call", "no_state", "no_plan", "no_memory")}
+    found = {it: table(numbers, f"{it}_number") for it in ("posture", "verb")} | {"answer": answers | {"BUSY": BUSY}}
+    limits = {it.upper(): value(replies, it) for it in ("nothing", "no_word", "no_stamp")}
+    limits["LAST_STAMP"] = value(text_of(f"{root}/{STAMPS}"), "last_stamp")
+    limits["WATCH"] = value(text_of(f"{root}/{WATCH}"), "watch")
+    return found, limits, re.findall(r"^    pub (\w+): (\w+),$", text_of(f"{root}/{STRUCT}"), re.M)
+
+
+def of_header(root):
+    """The same as the header has them."""
+    text = text_of(f"{root}/{HEADER}")
+    found = {}
+    for kind, cases in re.findall(r"^enum bagunjoki_plan_(\w+) \{(.*?)\};", text, re.M | re.S):
+        found[kind] = {name: int(number) for name, number in re.findall(r"BAGUNJOKI_PLAN_(\w+) = (\d+)", cases)}
+    most = {"UINT64_MAX": 2**64 - 1, "UINT32_MAX": 2**32 - 1}
+    limits = re.findall(r"#define BAGUNJOKI_PLAN_(\w+) (\d+|UINT\d\d_MAX)$", text, re.M)
+    struct = re.search(r"typedef struct bagunjoki_plan_reply \{(.*?)\}", text, re.S)[1]
+    fields = [(name, TYPES.get(kind, kind)) for kind, name in re.findall(r"^    (\w+) (\w+);", struct, re.M)]
+    return found, {name: most.get(number) or int(number) for name, number in limits}, fields
+
+
+def functions_of_crate(root):
+    """The exported functions: what each gives, and its arguments. An allocator takes no bytes."""
+    found = {}
+    text = text_of(f"{root}/{EXPORTS}")
+    for name, arguments, gives in re.findall(r'^pub extern "C" fn (\w+)\((.*?)\) -> (\w+)$', text, re.M | re.S):
+        kinds = [it for it in re.findall(r"\w+: ([^,\s]+)", arguments) if it != "Global"]
+        found[name] = [gives] + [it for kind in kinds for it in compare.SLICE.get(kind, [kind])]
+    return found
+
+
+def functions_of_header(root):
+    """The same as the header has them."""
+    found = {}
+    text = text_of(f"{root}/{HEADER}")
+    for gives, name, arguments in re.findall(r"^(\w+) (bagunjoki_plan_\w+)\(([^{}]*?)\);$", text, re.M | re.S):
+        kinds = [it.removeprefix("const ").rpartition(" ")[::2] for it in re.split(r",\s+", arguments)]
+        kinds = [("*" if name.startswith("*") else "") + TYPES.get(kind, kind) for kind, name in kinds]
+        found[name] = [TYPES.get(gives, gives), *kinds]
+    return found
+
+
+def bytes_of(text, begin, end):
+    """The numbers that stand between two texts."""
+    return [int(it) for it in re.findall(r"\d+", re.search(rf"{begin}(.*?){end}", text, re.S)[1])]
+
+
+def differences(root):
+    """A line for each difference."""
+    said = []
+    pairs = zip(("numbers", "limits", "fields"), of_crates(root), of_header(root))
+    for what, wanted, found in (*pairs, ("functions", functions_of_crate(root), functions_of_header(root))):
+        if found != wanted:
+            said.append(f"{what} are {found} in {HEADER}, and {wanted} in the crates")
+    for name, path in PLANS.items():
+        wanted = bytes_of(text_of(f"{root}/{EXAMPLES}"), rf"bytes_of {name}_table ≡", r"\[\]")
+        if bytes_of(text_of(f"{root}/{path}"), rf"{name.upper()}_PLAN\[\] = \{{", r"\};") != wanted:
+            said.append(f"the plan in {path} has other bytes than in {EXAMPLES}")
+    return said
+
+
+def press(trials, compiler, *flags):
+    """Two threads at a press."""
+    program = trials.compiled(compiler, "examples/plan_press.c", *flags, library="bagunjoki_plan")
+    said = trials.run([program])
+    return "" if said == PRESS else trials.fail(f"it writes\n{said}and not\n{PRESS}")
+
+
+def walk(trials, compiler, *flags):
+    """Random calls, answered as by plan_rules: the test of plan_c has the same sum."""
+    program = trials.compiled(compiler, "tests/plan_walk.c", *flags, library="bagunjoki_plan")
+    said, wanted = trials.run([program]).strip(), re.search(r"WALKED: u64 = (0x\w+)", text_of(f"{trials.root}/{TESTS}"))
+    wanted = wanted[1].replace("_", "")
+    return "100,000 calls" if said == wanted else trials.fail(f"the sum is {said} and not {wanted}")
+
+
+def speed(root, prefix):
+    """What a call costs at the lift."""
+    with tempfile.TemporaryDirectory() as room:
+        words = ["cc", "-O2", f"-I{prefix}/include", f"{root}/bindings/tests/plan_walk.c"]
+        subprocess.run([*words, f"{prefix}/lib/libbagunjoki_plan.a", "-o", f"{room}/walk"], check=True)
+        return subprocess.run([f"{room}/walk", "20"], check=False).returncode

@@ -1,0 +1,11 @@
+//! A law, the contract of a function that does nothing.
+ghost use Rattle.plan_c.specs.Laws.{NoStateHasNoWord};
+
+use plan_word::laws::words_are_laid_out;
+
+/// No state of a plan has the word that stands in place of a word.
+pub fn no_state_has_no_word()
+    ensures { NoStateHasNoWord }
+{
+    words_are_laid_out();
+}
