@@ -30,7 +30,7 @@ seed=${1:-1}
 calls=${2:-10000000}
 work=$(mktemp -d)
 trap 'rm -rf "$work"' EXIT
-for crate in cell_types cell_rules cell_word cell_interlock; do
+for crate in cell_types cell_rules cell_word word_interlock cell_interlock; do
     mkdir -p "$work/crates/$crate"
     cp -r "$top/crates/$crate"/* "$work/crates/$crate"
     grep "^$crate[: ]" "$top/crates.txt" >> "$work/crates.txt"
@@ -51,7 +51,7 @@ cd "$here"
 
 if [ ${#planted[@]} != 0 ]; then
     for bug in "${planted[@]}"; do
-        python3 - "$top/tools" "$work/crates/cell_interlock" "$top/bench/stress/planted/$bug.txt" <<'END'
+        python3 - "$top/tools" "$work/crates/word_interlock" "$top/bench/stress/planted/$bug.txt" <<'END'
 import sys
 sys.dont_write_bytecode = True
 sys.path.insert(0, sys.argv[1])

@@ -22,7 +22,7 @@ use Rattle.cell_rules.proofs.Told.{noted-waits}
 use Rattle.cell_interlock.specs.Views.{PassView}
 use Rattle.cell_interlock.specs.Seen.{IsSamePass, HasSeenMore}
 use Rattle.cell_interlock.specs.Lines.{IsLine, Replied, PassAsks}
-use Rattle.cell_interlock.proofs.Tells.{point_waits}
+use Rattle.cell_interlock.proofs.Settled.{point_waits}
 
 -- the journal of a pass
 abbrev pub journal_by : PassView → List Entry

@@ -1,9 +1,6 @@
-pub mod Machines
-pub mod Keeps
-pub mod Overtaken
-pub mod Tells
+pub mod Settled
+pub mod Instance
 pub mod Journals
-pub mod Meeting
 pub mod Order
-pub mod Outcomes
 pub mod Closing
+pub mod Outcomes

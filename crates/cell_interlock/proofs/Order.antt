@@ -1,5 +1,5 @@
 -- Receipts put calls in order.
-use Rattle.std.proofs.Common.{◌≡◌, ℕ, ◌+◌, ◌≤◌, cond, List, [], ◌∷◌, ◌++◌, Ok, sym, ap, ◌∙◌, subst, arith, append_assoc, append-nil}
+use Rattle.std.proofs.Common.{◌≡◌, ℕ, List, Ok, refl, sym, ap, ◌∙◌, subst}
 use Rattle.cell_types.specs.declared.machine.Machine.{Machine}
 use Rattle.cell_types.specs.declared.call.Call.{Call}
 use Rattle.cell_types.specs.declared.answer.Answer.{Answer}
@@ -7,49 +7,45 @@ use Rattle.cell_types.specs.declared.answer.Event.{Event}
 use Rattle.cell_types.specs.declared.reply.Reply.{Reply}
 use Rattle.cell_types.specs.declared.reply.Reply.TheVariants.{Settled, Busy}
 use Rattle.cell_rules.specs.ModelState.{ModelState}
-use Rattle.cell_types.specs.declared.answer.Answer.TheVariants.{Done}
-use Rattle.cell_rules.specs.History.{after, IsLegal, is_done, own_events}
-use Rattle.cell_rules.specs.Laws.{LawfulThroughout}
-use Rattle.cell_rules.specs.Seen.{event, BeginsWith, Settles, Waits, SeenAfter}
-use Rattle.cell_rules.proofs.SeenLemmas.{own-push, legal-right}
-use Rattle.cell_rules.proofs.Histories.{after-append, legal-left}
-use Rattle.cell_rules.proofs.Stamps.{stamp-after}
-use Rattle.std.proofs.lemmas.List.Sums.{sum_by-cons}
-use Rattle.std.proofs.lemmas.List.{append_cancel_right}
-use Rattle.cell_interlock.specs.Views.{PassView, ReceiptView, receipt_of}
+use Rattle.cell_rules.specs.History.{after, IsLegal, is_done_answer}
+use Rattle.cell_rules.specs.Seen.{event, BeginsWith, SeenAfter}
+use Rattle.word_interlock.specs.Calls as engine_calls
+use Rattle.word_interlock.specs.Order as engine_order
+use Rattle.word_interlock.specs.declared.reply.Reply.{Reply as EngineReply}
+use Rattle.word_interlock.specs.declared.reply.Reply.TheVariants.{Settled as EngineSettled, Busy as EngineBusy}
+use Rattle.word_interlock.proofs.Ordering as engine
+use Rattle.cell_interlock.specs.Book.{cell_book}
+use Rattle.cell_interlock.specs.BookKept.{cell_is_rule_book}
+use Rattle.cell_interlock.specs.Engine.{reply_from}
 use Rattle.cell_interlock.specs.Calls.{IfSettled, IsStampedAfter, stamp_in}
-use Rattle.cell_interlock.specs.Seen.{IsSamePass, HasSeenMore}
 use Rattle.cell_interlock.specs.Order.{StandsBefore, ReceiptsOrderCalls, ReceiptsRaiseStamps}
-use Rattle.cell_interlock.proofs.Tells.{begins-trans}
+use Rattle.cell_interlock.proofs.Instance.{after_here, legal_there, settles_there}
 
--- the point of the later call begins with what the first saw after its own
-in_order : (m n : Machine) (c d : Call) (a b : Answer) (seen answered heard now : List Event) → Settles m c a seen answered → BeginsWith heard answered → Settles n d b heard now → StandsBefore seen (event m c a) (event n d b) now
-in_order m n c d a b seen answered heard now first told second =
-    let e : Event = event m c a in let f : Event = event n d b in
-    let between : BeginsWith second.point answered = begins-trans answered heard second.point told second.begins in
-    record {
-      point = first.point;
-      between = between.0;
-      is = second.ends ∙ (ap (λ (l : List Event). l ++ f ∷ []) (between.1 ∙ (ap (λ (l : List Event). l ++ between.0) first.ends ∙ append_assoc first.point (e ∷ []) between.0)));
-      begins = first.begins;
-      new = append_cancel_right (own_events first.point m) (own_events seen m) (e ∷ []) (sym (own-push first.point m c a) ∙ (sym (ap (λ (l : List Event). own_events l m) first.ends) ∙ first.own));
-    }
+-- what came back, for the engine
+abbrev pub reply_to : Reply → EngineReply Answer
+reply_to (Settled answer stamp) = EngineSettled answer stamp
+reply_to (Busy lost stamp) = EngineBusy lost stamp
+
+before_here : (seen : List Event) (e last : Event) (h : List Event) → engine_order.StandsBefore cell_book seen e last h → StandsBefore seen e last h
+before_here seen e last h f = record { point = f.point; between = f.between; is = f.is; begins = f.begins; new = f.new }
+
+pub stamped_here : (told : ℕ) (r : EngineReply Answer) → engine_calls.IsStampedAfter cell_book told r → IsStampedAfter told (reply_from r)
+stamped_here told (EngineSettled a stamp) f = (f.0, λ done. f.1 (ap is_done_answer done))
+stamped_here told (EngineBusy lost stamp) f = f
+
+stamped_to : (told : ℕ) (r : Reply) → engine_calls.IsStampedAfter cell_book told (reply_to r) → IsStampedAfter told r
+stamped_to told (Settled a stamp) f = (f.0, λ done. f.1 (ap is_done_answer done))
+stamped_to told (Busy lost stamp) f = f
+
+pub seen_there : (m : Machine) (c : Call) (r : Reply) (s : ModelState) (x y : List Event) → SeenAfter m c (Ok r) s x y → engine_calls.SeenAfter cell_book m c (reply_to r) s x y
+seen_there m c (Settled a stamp) s x y f = (settles_there m c a x y f.0, f.1 ∙ sym (ap (λ (t : ModelState). t.stamp) (after_here s y)))
+seen_there m c (Busy lost stamp) s x y f = (record { begins = f.0.begins; own = f.0.own }, f.1 ∙ sym (ap (λ (t : ModelState). t.stamp) (after_here s y)))
 
 pub receipts_order_calls : ReceiptsOrderCalls
 receipts_order_calls m n c d a b seen answered receipt accepted heard now first took took_in later second =
-    in_order m n c d a b seen answered heard now first
-    (begins-trans answered accepted heard (begins-trans answered receipt accepted took took_in) later) second
-
--- ---- stamps
-
-stamp_grows : (o : ModelState) (h now : List Event) → BeginsWith now h → IsLegal o now → (after o h).stamp ≤ (after o now).stamp
-stamp_grows o h now b l =
-    omega (arith, ap (λ (s : ModelState). s.stamp) (ap (after o) b.1 ∙ after-append o h b.0), stamp-after (after o h) b.0 (legal-right o h b.0 (subst (IsLegal o) b.1 l)))
-
-done_raises : (o : ModelState) (h : List Event) (m : Machine) (c : Call) → IsLegal o (h ++ event m c Done ∷ []) → (after o (h ++ event m c Done ∷ [])).stamp ≡ (after o h).stamp + 1
-done_raises o h m c l =
-    let k : List Event = event m c Done ∷ [] in
-    omega (arith, ap (λ (s : ModelState). s.stamp) (after-append o h k), stamp-after (after o h) k (legal-right o h k l), sum_by-cons (λ (x : Event). cond (is_done x) 1 0) (event m c Done) [])
+    before_here seen (event m c a) (event n d b) now
+    (engine.receipts_order_calls cell_book cell_is_rule_book m n c d a b seen answered receipt accepted heard now
+    (settles_there m c a seen answered first) took took_in later (settles_there n d b heard now second))
 
 pub stamp_seen : (m : Machine) (c : Call) (x : Reply) (o : ModelState) (seen now : List Event) → SeenAfter m c (Ok x) o seen now → stamp_in x ≡ (after o now).stamp
 stamp_seen m c (Settled a s) o seen now it = it.1
@@ -57,61 +53,28 @@ stamp_seen m c (Busy l s) o seen now it = it.1
 
 -- a call of one who has seen a history gets no lower stamp than that history's
 pub stamped_after : (o : ModelState) (n : Machine) (d : Call) (y : Reply) (known heard now : List Event) → BeginsWith heard known → SeenAfter n d (Ok y) o heard now → IsLegal o now → IsStampedAfter (after o known).stamp y
-stamped_after o n d (Settled b t) known heard now f it l =
-    let g : BeginsWith it.0.point known = begins-trans known heard it.0.point f it.0.begins in
-    let legal_at : IsLegal o (it.0.point ++ event n d b ∷ []) = subst (IsLegal o) it.0.ends l in
-    let point_least = stamp_grows o known it.0.point g (legal-left o it.0.point (event n d b ∷ []) legal_at) in
-    let least = stamp_grows o it.0.point now (event n d b ∷ [], it.0.ends) l in (
-      omega (arith, point_least, least, it.1),
-      λ is.
-          let ends : now ≡ it.0.point ++ event n d Done ∷ [] = it.0.ends ∙ ap (λ (a : Answer). it.0.point ++ event n d a ∷ []) is in
-          omega (arith, point_least, it.1, ap (λ (k : List Event). (after o k).stamp) ends, done_raises o it.0.point n d (subst (IsLegal o) ends l)),
-    )
-stamped_after o n d (Busy lost t) known heard now f it l = omega (arith, stamp_grows o known now (begins-trans known heard now f it.0.begins) l, it.1)
+stamped_after o n d y known heard now f it l =
+    subst (λ (s : ModelState). IsStampedAfter s.stamp y) (after_here o known) (stamped_to _ y
+    (engine.stamped_after cell_book cell_is_rule_book o n d (reply_to y) known heard now f (seen_there n d y o heard now it) (legal_there o now l)))
+
+stamp_to : (x : Reply) → engine_calls.stamp_in (reply_to x) ≡ stamp_in x
+stamp_to (Settled a s) = refl
+stamp_to (Busy l s) = refl
 
 pub receipts_raise_stamps : ReceiptsRaiseStamps
 receipts_raise_stamps o m n c d x y seen answered receipt accepted heard now first took took_in later second legal =
-    subst (λ (s : ℕ). IsStampedAfter s y) (sym (stamp_seen m c x o seen answered first)) (stamped_after o n d y answered heard now
-    (begins-trans answered accepted heard (begins-trans answered receipt accepted took took_in) later) second legal)
+    subst (λ (s : ℕ). IsStampedAfter s y) (stamp_to x) (stamped_to _ y
+    (engine.receipts_raise_stamps cell_book cell_is_rule_book o m n c d (reply_to x) (reply_to y) seen answered receipt accepted heard now
+    (seen_there m c x o seen answered first) took took_in later (seen_there n d y o heard now second) (legal_there o now legal)))
 
--- ---- two calls
+-- two calls in order
+pub in_order_here : (m n : Machine) (c d : Call) (x y : EngineReply Answer) (seen now : List Event)
+    → engine_calls.IfSettled x (λ a. engine_calls.IfSettled y (λ b. engine_order.StandsBefore cell_book seen (event m c a) (event n d b) now))
+    → IfSettled (reply_from x) (λ a. IfSettled (reply_from y) (λ b. StandsBefore seen (event m c a) (event n d b) now))
+in_order_here m n c d (EngineSettled a s) (EngineSettled b t) seen now f = before_here seen (event m c a) (event n d b) now f
+in_order_here m n c d (EngineSettled a s) (EngineBusy l t) seen now f = tt
+in_order_here m n c d (EngineBusy l s) y seen now f = tt
 
-by_replies : (m n : Machine) (c d : Call) (x y : Reply) (o p : ModelState) (seen answered heard now : List Event) → SeenAfter m c (Ok x) o seen answered → BeginsWith heard answered → SeenAfter n d (Ok y) p heard now
-    → IfSettled x (λ a. IfSettled y (λ b. StandsBefore seen (event m c a) (event n d b) now))
-by_replies m n c d (Settled a s) (Settled b t) o p seen answered heard now first told second = in_order m n c d a b seen answered heard now first.0 told second.0
-by_replies m n c d (Settled a s) (Busy l t) o p seen answered heard now first told second = tt
-by_replies m n c d (Busy l s) y o p seen answered heard now first told second = tt
-
-after_more : (m : Machine) (c : Call) (x : Reply) (o : ModelState) (before heard now : List Event) → Waits m before heard → SeenAfter m c (Ok x) o heard now → SeenAfter m c (Ok x) o before now
-after_more m c (Settled a s) o before heard now more it = (
-  record {
-    point = it.0.point;
-    begins = begins-trans before heard it.0.point more.begins it.0.begins;
-    ends = it.0.ends;
-    own = it.0.own ∙ ap (λ (l : List Event). l ++ event m c a ∷ []) more.own;
-  },
-  it.1,
-)
-after_more m c (Busy l s) o before heard now more it = (record { begins = begins-trans before heard now more.begins it.0.begins; own = it.0.own ∙ more.own }, it.1)
-
--- a pass that has heard more makes a call
-module _ (w heard : PassView) (d : Call) (y : Reply) (now : List Event) (more : HasSeenMore w heard) (it : SeenAfter heard.machine d (Ok y) heard.opening heard.seen now) where
-  same : SeenAfter w.machine d (Ok y) w.opening heard.seen now
-  same = subst (λ (t : Machine × ModelState). SeenAfter t.0 d (Ok y) t.1 heard.seen now) (λ i. (more.pass.machine i, more.pass.opening i)) it
-
-  pub asked_after : SeenAfter w.machine d (Ok y) w.opening w.seen now
-  asked_after = after_more w.machine d y w.opening w.seen heard.seen now more.seen same
-
-  pub told_in_order : (v answered : PassView) (r : ReceiptView) (c : Call) (x : Reply) → SeenAfter v.machine c (Ok x) v.opening v.seen answered.seen → r ≡ receipt_of answered → BeginsWith heard.seen r.seen
-      → IfSettled x (λ a. IfSettled y (λ b. StandsBefore v.seen (event v.machine c a) (event w.machine d b) now))
-  told_in_order v answered r c x first is told =
-      by_replies v.machine w.machine c d x y v.opening w.opening v.seen answered.seen heard.seen now first (subst (λ (t : ReceiptView). BeginsWith heard.seen t.seen) is told) same
-
-  pub told_stamps : (v answered : PassView) (r : ReceiptView) (c : Call) (x : Reply) → SeenAfter v.machine c (Ok x) v.opening v.seen answered.seen → answered.opening ≡ v.opening → r ≡ receipt_of answered → r.opening ≡ w.opening → BeginsWith heard.seen r.seen → LawfulThroughout heard.opening now → IsStampedAfter (stamp_in x) y
-  told_stamps v answered r c x first kept is opens told lawful =
-      let from : v.opening ≡ heard.opening = sym kept ∙ (sym (ap (λ (t : ReceiptView). t.opening) is) ∙ (opens ∙ sym more.pass.opening)) in
-      subst (λ (s : ℕ). IsStampedAfter s y) (sym (stamp_seen v.machine c x heard.opening v.seen answered.seen (subst (λ (o : ModelState). SeenAfter v.machine c (Ok x) o v.seen answered.seen) from first)))
-      (stamped_after heard.opening heard.machine d y answered.seen heard.seen now (subst (λ (t : ReceiptView). BeginsWith heard.seen t.seen) is told) it (lawful now [] (sym (append-nil now))).legal)
-
-pub same_after : (v w u : PassView) → HasSeenMore v w → IsSamePass w u → IsSamePass v u
-same_after v w u more is = record { table = is.table ∙ more.pass.table; opening = is.opening ∙ more.pass.opening; machine = is.machine ∙ more.pass.machine }
+pub stamps_here : (x y : EngineReply Answer) → engine_calls.IsStampedAfter cell_book (engine_calls.stamp_in x) y → IsStampedAfter (stamp_in (reply_from x)) (reply_from y)
+stamps_here (EngineSettled a s) y f = stamped_here s y f
+stamps_here (EngineBusy l s) y f = stamped_here s y f

@@ -25,7 +25,7 @@ use Rattle.cell_interlock.specs.Seen.{IsSettled, HasSeenMore, HasChanges}
 use Rattle.cell_interlock.specs.Order.{StandsBefore}
 use Rattle.cell_interlock.specs.OutcomeExamples.{opened, claim, claimed, released, by_feed, again_by_feed, by_table, by_robot, by_watch, barred, press_pass, watch_pass, after_claim, AskExamples, LookExamples, AttemptExamples, MoreExamples, ChangeExamples, AnswerExamples, OrderExamples, StampExamples, ReceiptExamples, FreshExamples, LineExamples, OutcomeExamples}
 use Rattle.cell_interlock.specs.declared.pass.Passes.{Passes}
-use Rattle.cell_interlock.proofs.Tells.{lawful_history, settled}
+use Rattle.cell_interlock.proofs.Settled.{lawful_history, settled}
 
 sound : IsSound opened
 sound = record {

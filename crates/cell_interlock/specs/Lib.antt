@@ -1,11 +1,11 @@
+pub mod Book
+pub mod BookKept
 pub mod Views
+pub mod Engine
 pub mod Fresh
-pub mod Rule
-pub mod Steps
 pub mod Seen
 pub mod Calls
 pub mod Order
-pub mod Going
 pub mod Tries
 pub mod Lines
 pub mod Ends

@@ -1,38 +1,26 @@
 //! The calls of a machine.
 ghost use Rattle.std.specs.Prelude.{◌≡◌, ◌+◌, ◌≤◌, Ok};
-ghost use Rattle.cell_rules.specs.ModelState.{ModelState};
-ghost use Rattle.cell_rules.specs.Sound.{IsSound};
-ghost use Rattle.cell_rules.specs.Reply.{reply, next};
-ghost use Rattle.cell_rules.specs.History.{is_done_answer};
 ghost use Rattle.cell_rules.specs.Laws.{LawfulThroughout};
 ghost use Rattle.cell_rules.specs.Seen.{SeenAfter};
-ghost use Rattle.cell_word.specs.Layout.{packed};
 ghost use Rattle.cell_interlock.specs.Seen.{IsSamePass, AnswersAtItsPoint, LastingRight};
 ghost use Rattle.cell_interlock.specs.Seen.{HasChanges, IsOvertaken};
 ghost use Rattle.cell_interlock.specs.Calls.{IfSettled, IfBusy};
 ghost use Rattle.cell_interlock.specs.Tries.{Looked, Attempted, after_look, after_attempt};
+ghost use Rattle.cell_interlock.specs.Engine.{reply_from};
 
 use crate::interlock::Interlock;
 use crate::pass::Pass;
 use crate::tries::{Look, Tried, Try};
-use cell_types::{Answer, Call, Machine, Reply};
-use cell_word::{stamp_of, step_sound};
+use cell_types::{Answer, Call, Reply};
+use word_interlock as engine;
 
-/// The answer in a word's state, and the word of the state after the call.
-fn reply_at(word: u64, machine: Machine, call: Call) -> (Answer, u64)
-    requires { (state : ModelState) × IsSound state × (packed state ≡ word) }
-    ensures { (state : ModelState) → IsSound state → packed state ≡ word
-        → (result.0 ≡ reply state machine call) × (result.1 ≡ packed (next state machine call)) }
+/// What came back from a call, in the cell's terms.
+pub(crate) fn reply_of(reply: engine::Reply<Answer>) -> Reply
+    ensures { result ≡ reply_from reply }
 {
-    step_sound(word, machine, call)
-}
-
-fn is_done(answer: Answer) -> bool
-    ensures { result ≡ is_done_answer answer }
-{
-    match answer {
-        Answer::Done => true,
-        _ => false,
+    match reply {
+        engine::Reply::Settled(answer, stamp) => Reply::Settled(answer, stamp),
+        engine::Reply::Busy { lost, stamp } => Reply::Busy { lost, stamp },
     }
 }
 
@@ -55,6 +43,7 @@ impl Interlock {
     ///   changes that the pass hadn't seen before (`busy`), all after this call's load (`since`);
     /// - it loads the word once (`one_load`), and makes at most `tries` exchanges
     ///   (`few_exchanges`), exactly as many as it lost if it is Busy (`all_lost`).
+    #[inline(always)]
     pub fn ask(&self, pass: &mut Pass, call: Call) -> Reply
         requires same_interlock { pass.old.table ≡ self.now.table }
         ensures pass { IsSamePass pass.old pass.new }
@@ -71,52 +60,24 @@ impl Interlock {
         ensures all_lost { IfBusy result (λ n. pass.new.exchanges ≡ pass.old.exchanges + n) }
         ensures since { IfBusy result (HasChanges pass.old.machine pass.new.since pass.new.seen) }
     {
-        let mut word = self.load(pass, call);
-        let (answer, mut new) = reply_at(word, pass.machine(), call);
-        if !is_done(answer) {
-            return Reply::Settled(answer, stamp_of(word));
-        }
-        for _lost in 0..self.tries {
-            let found = self.exchange(pass, call, word, new);
-            if found == word {
-                return Reply::Settled(Answer::Done, stamp_of(new));
-            }
-            let (answer, next) = reply_at(found, pass.machine(), call);
-            if !is_done(answer) {
-                return Reply::Settled(answer, stamp_of(found));
-            }
-            word = found;
-            new = next;
-        }
-        Reply::Busy {
-            lost: self.tries,
-            stamp: stamp_of(word),
-        }
+        reply_of(self.inner.ask(&mut pass.inner, call))
     }
 
     /// The first step of a call, one load. It answers a call that is refused or inquires; any other
     /// call is then pending.
     ///
     /// The pass was made with this interlock.
-    pub fn look(&self, mut pass: Pass, call: Call) -> Look
+    pub fn look(&self, pass: Pass, call: Call) -> Look
         requires same_interlock { pass.table ≡ self.now.table }
         ensures looked { Looked pass call self.now.tries result }
         ensures one_load { (after_look result).loads ≡ pass.loads + 1 }
         ensures no_exchange { (after_look result).exchanges ≡ pass.exchanges }
     {
-        let found = self.load(&mut pass, call);
-        let (answer, new) = reply_at(found, pass.machine(), call);
-        if is_done(answer) {
-            Look::Pending(Try {
-                pass,
-                call,
-                old: found,
-                new,
-                lost: 0,
-                tries: self.tries,
-            })
-        } else {
-            Look::Settled(answer, stamp_of(found), pass)
+        match self.inner.look(pass.inner, call) {
+            engine::Look::Settled(answer, stamp, inner) => {
+                Look::Settled(answer, stamp, Pass { inner })
+            }
+            engine::Look::Pending(inner) => Look::Pending(Try { inner }),
         }
     }
 
@@ -131,38 +92,17 @@ impl Interlock {
         ensures no_load { (after_attempt result).loads ≡ pending.pass.loads }
         ensures one_exchange { (after_attempt result).exchanges ≡ pending.pass.exchanges + 1 }
     {
-        let Try {
-            mut pass,
-            call,
-            old,
-            new,
-            lost,
-            tries,
-        } = pending;
-        let found = self.exchange(&mut pass, call, old, new);
-        if found == old {
-            return Tried::Settled(Answer::Done, stamp_of(new), pass);
-        }
-        let (answer, new) = reply_at(found, pass.machine(), call);
-        if !is_done(answer) {
-            return Tried::Settled(answer, stamp_of(found), pass);
-        }
-        let lost = lost + 1;
-        if lost == tries {
-            return Tried::Busy {
+        match self.inner.attempt(pending.inner) {
+            engine::Tried::Settled(answer, stamp, inner) => {
+                Tried::Settled(answer, stamp, Pass { inner })
+            }
+            engine::Tried::Lost(inner) => Tried::Lost(Try { inner }),
+            engine::Tried::Busy { lost, stamp, pass } => Tried::Busy {
                 lost,
-                stamp: stamp_of(found),
-                pass,
-            };
+                stamp,
+                pass: Pass { inner: pass },
+            },
         }
-        Tried::Lost(Try {
-            pass,
-            call,
-            old: found,
-            new,
-            lost,
-            tries,
-        })
     }
 }
 
@@ -171,14 +111,8 @@ impl Try {
     pub fn abandon(self) -> Pass
         ensures { result ≡ self.pass }
     {
-        let Try {
-            pass,
-            call: _,
-            old: _,
-            new: _,
-            lost: _,
-            tries: _,
-        } = self;
-        pass
+        Pass {
+            inner: self.inner.abandon(),
+        }
     }
 }

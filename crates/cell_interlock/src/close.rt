@@ -4,7 +4,7 @@ ghost use Rattle.cell_interlock.specs.Ends.{ArePassesOf, IsEnd};
 use crate::interlock::Interlock;
 use crate::pass::Passes;
 use cell_rules::State;
-use cell_word::unpack;
+use word_interlock as engine;
 
 /// What an interlock leaves.
 #[derive(Clone, Copy, Debug, PartialEq, Eq)]
@@ -23,20 +23,16 @@ impl Interlock {
         requires own { ArePassesOf self passes }
         ensures end { IsEnd self.opening passes result.state }
     {
-        let mut seat = passes.feed.into_seat();
-        self.join(&mut seat, passes.table.into_seat());
-        self.join(&mut seat, passes.robot.into_seat());
-        self.join(&mut seat, passes.press.into_seat());
-        self.join(&mut seat, passes.deposit.into_seat());
-        self.join(&mut seat, passes.crane.into_seat());
-        self.join(&mut seat, passes.watch.into_seat());
-        let Interlock { table, .. } = self;
-        let closed = table.close_with(seat);
-        let word = closed.word(0);
-        closed.free();
-        let Some(state) = unpack(word) else {
-            unreachable!()
-        };
-        Ended { state }
+        let Interlock { inner } = self;
+        let mut all = engine::Passes::of(passes.watch.inner);
+        inner.give_back(&mut all, passes.crane.inner);
+        inner.give_back(&mut all, passes.deposit.inner);
+        inner.give_back(&mut all, passes.press.inner);
+        inner.give_back(&mut all, passes.robot.inner);
+        inner.give_back(&mut all, passes.table.inner);
+        inner.give_back(&mut all, passes.feed.inner);
+        Ended {
+            state: inner.close(all),
+        }
     }
 }

@@ -1,25 +1,11 @@
 //! Passes that meet.
-ghost use Rattle.std.specs.Prelude.{◌≡◌, ◌+◌, []};
-ghost use Rattle.cell_interlock.specs.Rule.{together};
+ghost use Rattle.std.specs.Prelude.{◌≡◌, ◌+◌};
 ghost use Rattle.cell_interlock.specs.Seen.{HasSeenMore};
 
 use crate::interlock::Interlock;
-use crate::pass::{Pass, SeatView};
-use crate::rule::{JoinAll, SplitFirst, SyncStep};
-use atomic_table::Seat;
+use crate::pass::Pass;
 
 impl Interlock {
-    /// Joins the other seat's machines and receipts to a seat.
-    pub(crate) fn join(&self, seat: &mut Seat<(), SeatView>, other: Seat<(), SeatView>)
-        requires same_interlock { (seat.old.table_id ≡ self.now.table)
-            × (other.table_id ≡ self.now.table) }
-        requires no_slot { other.me.1 ≡ [] }
-        ensures table { seat.new.table_id ≡ seat.old.table_id }
-        ensures both { seat.new.me ≡ (together seat.old.me.0 other.me.0, seat.old.me.1) }
-    {
-        self.table.shared.join_seat::<JoinAll>(seat, other);
-    }
-
     /// Lets two passes meet: afterwards both have seen the same history, which begins with what
     /// each had seen. No call is made, and no memory is allocated.
     ///
@@ -37,21 +23,7 @@ impl Interlock {
         ensures left_exchanges { result.0.exchanges ≡ left.exchanges }
         ensures right_exchanges { result.1.exchanges ≡ right.exchanges }
     {
-        let Pass {
-            machine: left_machine,
-            seat: mut left_seat,
-        } = left;
-        let Pass {
-            machine: right_machine,
-            seat: right_seat,
-        } = right;
-        self.join(&mut left_seat, right_seat);
-        let shared = &self.table.shared;
-        shared.load::<SyncStep>(&mut left_seat, 0);
-        let right_seat = shared.split_seat::<SplitFirst>(&mut left_seat);
-        (
-            Pass::of(left_machine, left_seat),
-            Pass::of(right_machine, right_seat),
-        )
+        let (left, right) = self.inner.meet(left.inner, right.inner);
+        (Pass { inner: left }, Pass { inner: right })
     }
 }

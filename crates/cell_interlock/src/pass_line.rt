@@ -11,6 +11,7 @@ use cell_rules::{Heard, Line, LineFault, State, Survey};
 use cell_types::{Call, Entry, Machine, Reply};
 use std::alloc::Global;
 use std::marker::Model;
+use word_interlock::laws::passes_see_lawful_histories;
 
 /// A machine's line to a shared interlock: a pass, and the journal of the calls that the pass has
 /// settled.
@@ -51,8 +52,7 @@ impl<'a> PassLine<'a> {
         ensures heard { result.heard ≡ heard_nothing }
         ensures tries { result.tries ≡ interlock.now.tries }
     {
-        // Reading the seat shows that what the pass has seen is legal.
-        let _ = &pass.seat;
+        passes_see_lawful_histories(&pass.inner);
         PassLine {
             interlock,
             pass,

@@ -5,27 +5,24 @@ ghost use Rattle.cell_interlock.specs.Views.{receipt_of};
 ghost use Rattle.cell_interlock.specs.Seen.{HasSeenMore};
 
 use crate::interlock::Interlock;
-use crate::pass::{Pass, SeatView};
-use crate::rule::{SplitReceipts, SyncStep};
-use atomic_table::Seat;
+use crate::pass::Pass;
+use crate::rules::CellRules;
 use std::marker::Model;
 
 /// Tells what a pass had seen. A caller sends it to another one by any channel; it has no bytes. Who
 /// accepts it makes all later calls after everything in it. It is no right to make calls.
 #[derive(Drop)]
 pub struct Receipt {
-    pub(crate) seat: Seat<(), SeatView>,
+    pub(crate) inner: word_interlock::Receipt<CellRules>,
 }
 
 impl Model for Receipt {
-    ghost use Rattle.cell_interlock.specs.Views.{ReceiptView, receipt_with};
-    ghost use Rattle.cell_interlock.specs.Rule.{IsReceipt, first_receipt};
+    ghost use Rattle.cell_interlock.specs.Views.{ReceiptView};
+    ghost use Rattle.cell_interlock.specs.Engine.{receipt_from};
 
     ghost Value = { ReceiptView };
 
-    ghost view = { λ r. receipt_with r.seat.table_id (first_receipt r.seat.me.0.receipts) };
-
-    ghost invariant = { λ r. IsReceipt r.seat.me };
+    ghost view = { λ r. receipt_from r.inner };
 }
 
 impl Interlock {
@@ -39,10 +36,7 @@ impl Interlock {
         ensures receipt { result ≡ receipt_of pass.old }
     {
         Receipt {
-            seat: self
-                .table
-                .shared
-                .split_seat::<SplitReceipts>(&mut pass.seat),
+            inner: self.inner.receipt(&mut pass.inner),
         }
     }
 
@@ -55,10 +49,7 @@ impl Interlock {
         ensures copy { result ≡ receipt.old }
     {
         Receipt {
-            seat: self
-                .table
-                .shared
-                .split_seat::<SplitReceipts>(&mut receipt.seat),
+            inner: self.inner.copy_receipt(&mut receipt.inner),
         }
     }
 
@@ -76,8 +67,6 @@ impl Interlock {
         ensures one_load { pass.new.loads ≡ pass.old.loads + 1 }
         ensures no_exchange { pass.new.exchanges ≡ pass.old.exchanges }
     {
-        let Receipt { seat } = receipt;
-        self.join(&mut pass.seat, seat);
-        self.table.shared.load::<SyncStep>(&mut pass.seat, 0);
+        self.inner.accept(&mut pass.inner, receipt.inner);
     }
 }

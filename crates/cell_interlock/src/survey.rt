@@ -5,9 +5,7 @@ ghost use Rattle.cell_interlock.specs.Seen.{HasSeenMore};
 
 use crate::interlock::Interlock;
 use crate::pass::Pass;
-use crate::rule::SyncStep;
 use cell_rules::State;
-use cell_word::unpack;
 
 impl Interlock {
     /// The whole state at one moment, as the screen of a plant shows it. It is the state after all
@@ -22,10 +20,6 @@ impl Interlock {
         ensures one_load { pass.new.loads ≡ pass.old.loads + 1 }
         ensures no_exchange { pass.new.exchanges ≡ pass.old.exchanges }
     {
-        let word = self.table.shared.load::<SyncStep>(&mut pass.seat, 0);
-        let Some(state) = unpack(word) else {
-            unreachable!()
-        };
-        state
+        self.inner.survey(&mut pass.inner)
     }
 }

@@ -6,6 +6,7 @@ ghost use Rattle.cell_interlock.specs.Calls.{IfSettled, IsStampedAfter, stamp_in
 ghost use Rattle.cell_interlock.specs.Seen.{IsSamePass};
 ghost use Rattle.cell_interlock.specs.Order.{StandsBefore};
 
+use crate::calls::reply_of;
 use crate::interlock::Interlock;
 use crate::pass::Pass;
 use cell_types::{Call, Reply};
@@ -38,10 +39,9 @@ impl Interlock {
             (event second.old.machine next b) second.new.seen)) }
         ensures stamps { IsStampedAfter (stamp_in result.0) result.1 }
     {
-        let answer = self.ask(first, call);
-        let receipt = self.receipt(first);
-        self.accept(second, receipt);
-        let later = self.ask(second, next);
-        (answer, later)
+        let (answer, later) = self
+            .inner
+            .tell(&mut first.inner, call, &mut second.inner, next);
+        (reply_of(answer), reply_of(later))
     }
 }

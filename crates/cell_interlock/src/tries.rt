@@ -1,29 +1,23 @@
 //! A call that isn't made yet, and the results of its steps.
 use crate::pass::Pass;
-use cell_types::{Answer, Call};
+use crate::rules::CellRules;
+use cell_types::Answer;
 use std::marker::Model;
 
 /// A call that would be Done, but isn't made yet. It owns its pass, so its machine can't make
 /// another call meanwhile.
 #[derive(Drop)]
 pub struct Try {
-    pub(crate) pass: Pass,
-    pub(crate) call: Call,
-    pub(crate) old: u64,
-    pub(crate) new: u64,
-    pub(crate) lost: u8,
-    pub(crate) tries: u8,
+    pub(crate) inner: word_interlock::Try<CellRules>,
 }
 
 impl Model for Try {
     ghost use Rattle.cell_interlock.specs.Views.{TryView};
-    ghost use Rattle.cell_interlock.specs.Going.{IsTry};
+    ghost use Rattle.cell_interlock.specs.Engine.{try_from};
 
     ghost Value = { TryView };
 
-    ghost view = { λ t. record { pass = t.pass; call = t.call; lost = t.lost; tries = t.tries } };
-
-    ghost invariant = { λ t. IsTry t.pass t.call t.old t.new t.lost t.tries };
+    ghost view = { λ t. try_from t.inner };
 }
 
 /// The result of a look.

@@ -27,6 +27,18 @@ impl<R: Rules> Model for Passes<R> {
     ghost invariant = { λ p. IsBunch R.book p.seat.me };
 }
 
+impl<R: Rules> Passes<R> {
+    /// One pass alone, to which others can be given back.
+    pub fn of(pass: Pass<R>) -> Passes<R>
+        ensures table { result.table ≡ pass.table }
+        ensures actors { result.actors ≡ view_of pass ∷ [] }
+    {
+        Passes {
+            seat: pass.into_seat(),
+        }
+    }
+}
+
 impl<R: Rules> Interlock<R> {
     ghost use Rattle.word_interlock.specs.Bunches.{IsNext};
 

@@ -1,23 +1,24 @@
-use Rattle.std.proofs.Common.{rules, subst}
-use Rattle.cell_rules.specs.ModelState.{ModelState}
+use Rattle.std.proofs.Common.{Ok, sym, subst}
+use Rattle.cell_types.specs.declared.reply.Reply.{Reply}
 use Rattle.cell_rules.specs.Laws.{LawfulThroughout}
-use Rattle.cell_interlock.proofs.Order.{asked_after, same_after, told_in_order, told_stamps}
+use Rattle.cell_rules.specs.Seen.{SeenAfter}
+use Rattle.cell_interlock.specs.Views.{PassView}
+use Rattle.cell_interlock.proofs.Instance.{lawful_here, seen_here}
 use Rattle.cell_interlock.proofs.interlock.Interlock.tell.Goals as goal
-
-pub returns-clause-passes : goal.returns-clause-passes
-returns-clause-passes c = (search rules, same_after _ _ _ c.accept.ensures.more c.ask-later.ensures.pass)
 
 pub returns-clause-lawful : goal.returns-clause-lawful
 returns-clause-lawful c =
-    subst (λ (o : ModelState). LawfulThroughout o c.ask-later.new.pass.seen) c.accept.ensures.more.pass.opening c.ask-later.ensures.lawful
+    subst (λ (v : PassView). LawfulThroughout v.opening c.tell-answer.new.second.seen) c.second.view_is
+    (lawful_here c.second.inside.inner.opening c.tell-answer.new.second.seen c.tell-answer.ensures.lawful)
+
+pub returns-clause-first : goal.returns-clause-first
+returns-clause-first c =
+    let v = c.first.inside.inner in
+    subst (λ (x : PassView × Reply). SeenAfter x.0.machine c.args.call (Ok x.1) x.0.opening x.0.seen c.tell-answer.new.first.seen) (λ i. (c.first.view_is i, sym c.reply_of.ensures i))
+    (seen_here v.actor c.args.call c.tell-answer.result.0 v.opening v.seen c.tell-answer.new.first.seen c.tell-answer.ensures.first)
 
 pub returns-clause-second : goal.returns-clause-second
-returns-clause-second c = asked_after _ _ _ _ _ c.accept.ensures.more c.ask-later.ensures.seen
-
-pub returns-clause-order : goal.returns-clause-order
-returns-clause-order c =
-    told_in_order _ _ _ _ _ c.accept.ensures.more c.ask-later.ensures.seen c.args.first.now c.ask-answer.new.pass _ c.args.call c.ask-answer.result c.ask-answer.ensures.seen c.receipt-receipt.ensures.receipt c.accept.ensures.told
-
-pub returns-clause-stamps : goal.returns-clause-stamps
-returns-clause-stamps c =
-    told_stamps _ _ _ _ _ c.accept.ensures.more c.ask-later.ensures.seen c.args.first.now c.ask-answer.new.pass _ c.args.call c.ask-answer.result c.ask-answer.ensures.seen c.ask-answer.ensures.pass.opening c.receipt-receipt.ensures.receipt (search rules) c.accept.ensures.told c.ask-later.ensures.lawful
+returns-clause-second c =
+    let v = c.second.inside.inner in
+    subst (λ (x : PassView × Reply). SeenAfter x.0.machine c.args.next (Ok x.1) x.0.opening x.0.seen c.tell-answer.new.second.seen) (λ i. (c.second.view_is i, sym c.reply_of-2.ensures i))
+    (seen_here v.actor c.args.next c.tell-answer.result.1 v.opening v.seen c.tell-answer.new.second.seen c.tell-answer.ensures.second)

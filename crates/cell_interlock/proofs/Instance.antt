@@ -1,0 +1,178 @@
+-- What the engine says by the rules of the cell, in the words of the cell.
+use Rattle.std.proofs.Common.{◌≡◌, ◌≢◌, ℕ, ◌+◌, ◌≤◌, true, false, List, [], ◌∷◌, Ok, refl, sym, ap, ◌∙◌, subst}
+use Rattle.cell_types.specs.declared.machine.Machine.{Machine}
+use Rattle.cell_types.specs.declared.call.Call.{Call}
+use Rattle.cell_types.specs.declared.answer.Answer.{Answer}
+use Rattle.cell_types.specs.declared.answer.Answer.TheVariants.{Done, Shown, Refused}
+use Rattle.cell_types.specs.declared.answer.Event.{Event}
+use Rattle.cell_rules.specs.ModelState.{ModelState}
+use Rattle.cell_rules.specs.Reply.{reply, next}
+use Rattle.cell_rules.specs.History.{after, IsLegal, is_done_answer}
+use Rattle.cell_rules.specs.Laws.{LawfulThroughout}
+use Rattle.cell_rules.specs.Seen.{event, Settles, Waits, SeenAfter}
+use Rattle.cell_rules.proofs.Histories.{legal-left}
+use Rattle.word_interlock.specs.History as engine
+use Rattle.word_interlock.specs.Seen as engine_seen
+use Rattle.word_interlock.specs.Calls as engine_calls
+use Rattle.word_interlock.specs.Tries as engine_tries
+use Rattle.word_interlock.specs.declared.reply.Reply.{Reply as EngineReply}
+use Rattle.word_interlock.specs.declared.reply.Reply.TheVariants.{Settled as EngineSettled, Busy as EngineBusy}
+use Rattle.cell_interlock.specs.Book.{cell_book}
+use Rattle.cell_interlock.specs.Engine.{EnginePass, EngineTry, pass_from, try_from, reply_from}
+use Rattle.cell_interlock.specs.Seen.{IsSamePass, IsSettled, HasSeenMore, IsUnmade, HasChanges, IsOvertaken}
+use Rattle.cell_interlock.specs.Tries.{IsPending, IsLost, IsBusy}
+use Rattle.cell_interlock.specs.Lines.{Replied}
+use Rattle.cell_interlock.proofs.Settled.{lawful_history, settled}
+
+-- ---- histories
+
+pub after_here : (s : ModelState) (h : List Event) → engine.after cell_book s h ≡ after s h
+after_here s [] = refl
+after_here s (e ∷ h) = after_here (next s e.machine e.call) h
+
+pub legal_here : (s : ModelState) (h : List Event) → engine.IsLegal cell_book s h → IsLegal s h
+legal_here s [] l = tt
+legal_here s (e ∷ h) l = (l.0, legal_here (next s e.machine e.call) h l.1)
+
+pub legal_there : (s : ModelState) (h : List Event) → IsLegal s h → engine.IsLegal cell_book s h
+legal_there s [] l = tt
+legal_there s (e ∷ h) l = (l.0, legal_there (next s e.machine e.call) h l.1)
+
+pub lawful_here : (s : ModelState) (h : List Event) → engine.IsLawful cell_book s h → LawfulThroughout s h
+lawful_here s h k = lawful_history s h k.opened (legal_here s h k.legal)
+
+stamp_here : (s : ModelState) (h : List Event) (stamp : ℕ) → stamp ≡ (engine.after cell_book s h).stamp → stamp ≡ (after s h).stamp
+stamp_here s h stamp e = e ∙ ap (λ (x : ModelState). x.stamp) (after_here s h)
+
+pub waits_here : (m : Machine) (x y : List Event) → engine.Waits cell_book m x y → Waits m x y
+waits_here m x y f = record { begins = f.begins; own = f.own }
+
+pub settles_here : (m : Machine) (c : Call) (a : Answer) (x y : List Event) → engine.Settles cell_book m c a x y → Settles m c a x y
+settles_here m c a x y f = record { point = f.point; begins = f.begins; ends = f.ends; own = f.own }
+
+pub settles_there : (m : Machine) (c : Call) (a : Answer) (x y : List Event) → Settles m c a x y → engine.Settles cell_book m c a x y
+settles_there m c a x y f = record { point = f.point; begins = f.begins; ends = f.ends; own = f.own }
+
+pub seen_here : (m : Machine) (c : Call) (r : EngineReply Answer) (s : ModelState) (x y : List Event) → engine_calls.SeenAfter cell_book m c r s x y → SeenAfter m c (Ok (reply_from r)) s x y
+seen_here m c (EngineSettled a stamp) s x y f = (settles_here m c a x y f.0, stamp_here s y stamp f.1)
+seen_here m c (EngineBusy lost stamp) s x y f = (waits_here m x y f.0, stamp_here s y stamp f.1)
+
+-- ---- answers
+
+pub done_answer : (a : Answer) → is_done_answer a ≡ true → a ≡ Done
+done_answer Done e = refl
+done_answer (Shown o f p) e = cc
+done_answer (Refused r) e = cc
+
+pub isnt_done : (a : Answer) → is_done_answer a ≡ false → a ≢ Done
+isnt_done a e is = let f : is_done_answer a ≡ true = ap is_done_answer is in cc
+
+pub reply_here : (s : ModelState) (h : List Event) (m : Machine) (c : Call) → reply (engine.after cell_book s h) m c ≡ reply (after s h) m c
+reply_here s h m c = ap (λ (x : ModelState). reply x m c) (after_here s h)
+
+-- ---- passes
+
+pub same_here : (v w : EnginePass) → engine_seen.IsSamePass v w → IsSamePass (pass_from v) (pass_from w)
+same_here v w f = record { table = f.table; opening = f.opening; machine = f.actor }
+
+pub more_here : (v w : EnginePass) → engine_seen.HasSeenMore cell_book v w → HasSeenMore (pass_from v) (pass_from w)
+more_here v w f = record {
+  pass = same_here v w f.pass;
+  lawful = lawful_here v.opening w.seen f.lawful;
+  seen = waits_here v.actor v.seen w.seen f.seen;
+}
+
+ready_here : (v : EnginePass) (c : Call) (w : EnginePass) → engine_seen.WouldBeDone cell_book v c w → reply (after v.opening w.seen) v.actor c ≡ Done
+ready_here v c w f =
+    done_answer (reply (after v.opening w.seen) v.actor c) (ap is_done_answer (sym (reply_here v.opening w.seen v.actor c)) ∙ f)
+
+pub unmade_here : (v : EnginePass) (c : Call) (w : EnginePass) → engine_seen.IsUnmade cell_book v c w → IsUnmade (pass_from v) c (pass_from w)
+unmade_here v c w f = record { more = more_here v w f.more; ready = ready_here v c w f.ready }
+
+pub changes_here : (m : Machine) (x y : List Event) (n : ℕ) → engine_seen.HasChanges cell_book m x y n → HasChanges m x y n
+changes_here m x y n f = record { more = f.more; is = f.is; many = f.many }
+
+pub overtaken_here : (v : EnginePass) (x : List Event) (c : Call) (tries lost : ℕ) (w : EnginePass) → engine_seen.IsOvertaken cell_book v x c tries lost w → IsOvertaken (pass_from v) x c tries lost (pass_from w)
+overtaken_here v x c tries lost w f = record {
+  all_lost = f.all_lost;
+  ready = ready_here v c w f.ready;
+  changed = changes_here v.actor x w.seen tries f.changed;
+}
+
+pub settled_here : (v : EnginePass) (c : Call) (a : Answer) (stamp : ℕ) (w : EnginePass) → engine_seen.IsSettled cell_book v c a stamp w → IsSettled (pass_from v) c a stamp (pass_from w)
+settled_here v c a stamp w f =
+    let h : List Event = f.seen.point in let last : List Event = event v.actor c a ∷ [] in
+    settled (pass_from v) (pass_from w) c a stamp h f.lawful.opened
+    (legal-left v.opening h last (subst (IsLegal v.opening) f.seen.ends (legal_here v.opening w.seen f.lawful.legal)))
+    (waits_here v.actor v.seen h (f.right h f.seen.ends))
+    (same_here v w f.pass)
+    f.seen.ends
+    (f.answer h f.seen.ends ∙ reply_here v.opening h v.actor c)
+    (stamp_here v.opening w.seen stamp f.stamped)
+
+-- ---- a call in steps
+
+pub pending_here : (v : EnginePass) (c : Call) (most : ℕ) (t : EngineTry) → engine_tries.IsPending cell_book v c most t → IsPending (pass_from v) c most (try_from t)
+pending_here v c most t f =
+    record { unmade = unmade_here v c t.pass f.unmade; call = f.call; tries = f.tries; lost = f.lost; since = f.since }
+
+pub lost_here : (t u : EngineTry) → engine_tries.IsLost cell_book t u → IsLost (try_from t) (try_from u)
+lost_here t u f = record {
+  unmade = unmade_here t.pass t.call u.pass f.unmade;
+  call = f.call;
+  tries = f.tries;
+  since = f.since;
+  lost = f.lost;
+  room = f.room;
+  changed = changes_here t.pass.actor t.pass.seen u.pass.seen 1 f.changed;
+}
+
+pub busy_here : (t : EngineTry) (lost stamp : ℕ) (w : EnginePass) → engine_tries.IsBusy cell_book t lost stamp w → IsBusy (try_from t) lost stamp (pass_from w)
+busy_here t lost stamp w f = record {
+  more = more_here t.pass w f.more;
+  stamped = stamp_here t.pass.opening w.seen stamp f.stamped;
+  last = f.last;
+  overtaken = overtaken_here t.pass t.pass.since t.call t.tries lost w f.overtaken;
+}
+
+-- ---- a whole call
+
+-- the clauses of the engine's `ask`
+pub record EngineReplied (v : EnginePass) (c : Call) (tries : ℕ) (r : EngineReply Answer) (w : EnginePass) : Type 0 where
+  pub pass : engine_seen.IsSamePass v w
+  pub lawful : engine.IsLawful cell_book v.opening w.seen
+  pub seen : engine_calls.SeenAfter cell_book v.actor c r v.opening v.seen w.seen
+  pub answer : engine_calls.IfSettled r (λ a. engine_seen.AnswersAtItsPoint cell_book v c a w)
+  pub right : engine_calls.IfSettled r (λ a. engine_seen.WaitsToItsPoint cell_book v c a w)
+  pub busy : engine_calls.IfBusy r (λ lost. engine_seen.IsOvertaken cell_book v v.seen c tries lost w)
+  pub one_load : w.loads ≡ v.loads + 1
+  pub few_exchanges : w.exchanges ≤ v.exchanges + tries
+  pub all_lost : engine_calls.IfBusy r (λ n. w.exchanges ≡ v.exchanges + n)
+  pub since : engine_calls.IfBusy r (engine_seen.HasChanges cell_book v.actor w.since w.seen)
+
+pub replied_here : (v : EnginePass) (c : Call) (tries : ℕ) (r : EngineReply Answer) (w : EnginePass) → EngineReplied v c tries r w → Replied (pass_from v) c tries (reply_from r) (pass_from w)
+replied_here v c tries (EngineSettled a stamp) w f =
+    let s = settled_here v c a stamp w record { pass = f.pass; lawful = f.lawful; seen = f.seen.0; stamped = f.seen.1; answer = f.answer; right = f.right } in record {
+      pass = s.pass;
+      lawful = s.lawful;
+      seen = (s.seen, s.stamped);
+      answer = s.answer;
+      right = s.right;
+      busy = tt;
+      one_load = f.one_load;
+      few_exchanges = f.few_exchanges;
+      all_lost = tt;
+      since = tt;
+    }
+replied_here v c tries (EngineBusy lost stamp) w f = record {
+  pass = same_here v w f.pass;
+  lawful = lawful_here v.opening w.seen f.lawful;
+  seen = seen_here v.actor c (EngineBusy lost stamp) v.opening v.seen w.seen f.seen;
+  answer = tt;
+  right = tt;
+  busy = overtaken_here v v.seen c tries lost w f.busy;
+  one_load = f.one_load;
+  few_exchanges = f.few_exchanges;
+  all_lost = f.all_lost;
+  since = changes_here v.actor w.since w.seen lost f.since;
+}
