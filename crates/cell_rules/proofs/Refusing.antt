@@ -2,11 +2,10 @@
 use Rattle.std.proofs.Common.{◌≡◌, Option, Some, None, ap}
 use Rattle.cell_rules.specs.Types.{Machine, Call, Claim, Give, Yield, Take, Release, SetPose, Advance, Inquire, Stop}
 use Rattle.cell_rules.specs.Types.{Resume, Refusal, Refused}
-use Rattle.cell_rules.specs.Names.{ModelState, IsSound, claim_refusal, give_refusal, yield_refusal, take_refusal}
-use Rattle.cell_rules.specs.Names.{release_refusal, pose_refusal, advance_refusal, stop_refusal, resume_refusal}
-use Rattle.cell_rules.specs.Names.{reply, refusal, done_unless, is_cause, order_of}
+use Rattle.cell_rules.specs.Names.{ModelState, IsSound, reply, refusal, done_unless, is_cause, order_of}
 use Rattle.cell_rules.specs.RefusalLaws.{RefusalsTell}
-use Rattle.cell_rules.proofs.Causing.{TellsRight, claim_tells, give_tells, yield_tells, take_tells, release_tells, stop_tells, resume_tells}
+use Rattle.cell_rules.proofs.Causing.{TellsRight, claim_tells, give_tells, yield_tells, take_tells, release_tells}
+use Rattle.cell_rules.proofs.Causing.{stop_tells, resume_tells}
 use Rattle.cell_rules.proofs.Posing.{pose_tells, advance_tells}
 
 call_tells : (s : ModelState) (m : Machine) (c : Call) → IsSound s → TellsRight (is_cause s m c) (order_of c) (refusal s m c)
@@ -25,32 +24,13 @@ refused_some : (o : Option Refusal) (r : Refusal) → done_unless o ≡ Refused 
 refused_some None r e = cc
 refused_some (Some q) r e = cc
 
-some_refused : (o : Option Refusal) (r : Refusal) → o ≡ Some r → done_unless o ≡ Refused r
-some_refused o r e = ap done_unless e
-
 refusal_of_reply : (s : ModelState) (m : Machine) (c : Call) (r : Refusal) → reply s m c ≡ Refused r → refusal s m c ≡ Some r
-refusal_of_reply s m (Claim z) r e = refused_some (claim_refusal s m z) r e
-refusal_of_reply s m (Give z) r e = refused_some (give_refusal s m z) r e
-refusal_of_reply s m (Yield z) r e = refused_some (yield_refusal s m z) r e
-refusal_of_reply s m (Take z) r e = refused_some (take_refusal s m z) r e
-refusal_of_reply s m (Release z) r e = refused_some (release_refusal s m z) r e
-refusal_of_reply s m (SetPose p) r e = refused_some (pose_refusal s m p) r e
-refusal_of_reply s m Advance r e = refused_some (advance_refusal s m) r e
 refusal_of_reply s m (Inquire z) r e = cc
-refusal_of_reply s m Stop r e = refused_some (stop_refusal s m) r e
-refusal_of_reply s m Resume r e = refused_some (resume_refusal s m) r e
+refusal_of_reply s m c r e = refused_some (refusal s m c) r e
 
 reply_of_refusal : (s : ModelState) (m : Machine) (c : Call) (r : Refusal) → refusal s m c ≡ Some r → reply s m c ≡ Refused r
-reply_of_refusal s m (Claim z) r e = some_refused (claim_refusal s m z) r e
-reply_of_refusal s m (Give z) r e = some_refused (give_refusal s m z) r e
-reply_of_refusal s m (Yield z) r e = some_refused (yield_refusal s m z) r e
-reply_of_refusal s m (Take z) r e = some_refused (take_refusal s m z) r e
-reply_of_refusal s m (Release z) r e = some_refused (release_refusal s m z) r e
-reply_of_refusal s m (SetPose p) r e = some_refused (pose_refusal s m p) r e
-reply_of_refusal s m Advance r e = some_refused (advance_refusal s m) r e
 reply_of_refusal s m (Inquire z) r e = cc
-reply_of_refusal s m Stop r e = some_refused (stop_refusal s m) r e
-reply_of_refusal s m Resume r e = some_refused (resume_refusal s m) r e
+reply_of_refusal s m c r e = ap done_unless e
 
 pub refusals_tell : RefusalsTell
 refusals_tell = record {

@@ -1,12 +1,7 @@
 -- A test of all values of a type, and what it says of each.
 use Rattle.std.proofs.Common.{◌≡◌, Bool, true, false, ◌&&◌, Option, Some, None, List, [], ◌∷◌, refl}
 use Rattle.std.specs.List.{list_all}
-use Rattle.cell_rules.specs.Types.{Machine, Feed, Table, Robot, Press, Deposit, Crane, Watch, Zone, Z1, Z2, Z3, Z4}
-use Rattle.cell_rules.specs.Types.{Z5, Z6, Posture, Closed, Moving, OpenIn, OpenOut, Pose, Turning, Loading}
-use Rattle.cell_rules.specs.Types.{Unloading, Travelling, Middle, Low, Top, Running, Landing, Halted, Offering}
-use Rattle.cell_rules.specs.Types.{Standing, Place, FeedEntry, FeedEnd, Arm1, PressIn, PressOut, Arm2, DepEntry}
-use Rattle.cell_rules.specs.Types.{DepEnd}
-use Rattle.cell_types.specs.declared.place.Place.TheVariants.{Table as TablePlace, Crane as CranePlace}
+use Rattle.cell_rules.specs.Types.{Machine, Feed, Zone, Z1, Posture, Closed, Pose, Turning, Place, FeedEntry}
 use Rattle.cell_types.specs.Everything as everything
 use Rattle.cell_rules.specs.Names.{implies}
 use Rattle.cell_rules.specs.declared.zones.ZoneState.{ZoneState}
@@ -52,65 +47,36 @@ abbrev pub all_machines : (Machine → Bool) → Bool
 all_machines P = list_all P everything.all_machines
 
 pub from_machines : (P : Machine → Bool) → all_machines P ≡ true → (m : Machine) → P m ≡ true
-from_machines P e Feed = (passed P everything.all_machines e).0
-from_machines P e Table = (passed P everything.all_machines e).1.0
-from_machines P e Robot = (passed P everything.all_machines e).1.1.0
-from_machines P e Press = (passed P everything.all_machines e).1.1.1.0
-from_machines P e Deposit = (passed P everything.all_machines e).1.1.1.1.0
-from_machines P e Crane = (passed P everything.all_machines e).1.1.1.1.1.0
-from_machines P e Watch = (passed P everything.all_machines e).1.1.1.1.1.1.0
+from_machines P e Feed = assumption (passed P everything.all_machines e)
+from_machines P e _ = assumption (passed P everything.all_machines e)
 
 abbrev pub all_zones : (Zone → Bool) → Bool
 all_zones P = list_all P everything.all_zones
 
 pub from_zones : (P : Zone → Bool) → all_zones P ≡ true → (z : Zone) → P z ≡ true
-from_zones P e Z1 = (passed P everything.all_zones e).0
-from_zones P e Z2 = (passed P everything.all_zones e).1.0
-from_zones P e Z3 = (passed P everything.all_zones e).1.1.0
-from_zones P e Z4 = (passed P everything.all_zones e).1.1.1.0
-from_zones P e Z5 = (passed P everything.all_zones e).1.1.1.1.0
-from_zones P e Z6 = (passed P everything.all_zones e).1.1.1.1.1.0
+from_zones P e Z1 = assumption (passed P everything.all_zones e)
+from_zones P e _ = assumption (passed P everything.all_zones e)
 
 abbrev pub all_postures : (Posture → Bool) → Bool
 all_postures P = list_all P everything.all_postures
 
 pub from_postures : (P : Posture → Bool) → all_postures P ≡ true → (p : Posture) → P p ≡ true
-from_postures P e Closed = (passed P everything.all_postures e).0
-from_postures P e Moving = (passed P everything.all_postures e).1.0
-from_postures P e OpenIn = (passed P everything.all_postures e).1.1.0
-from_postures P e OpenOut = (passed P everything.all_postures e).1.1.1.0
+from_postures P e Closed = assumption (passed P everything.all_postures e)
+from_postures P e _ = assumption (passed P everything.all_postures e)
 
 abbrev pub all_poses : (Pose → Bool) → Bool
 all_poses P = list_all P everything.all_poses
 
 pub from_poses : (P : Pose → Bool) → all_poses P ≡ true → (p : Pose) → P p ≡ true
-from_poses P e Turning = (passed P everything.all_poses e).0
-from_poses P e Loading = (passed P everything.all_poses e).1.0
-from_poses P e Unloading = (passed P everything.all_poses e).1.1.0
-from_poses P e Travelling = (passed P everything.all_poses e).1.1.1.0
-from_poses P e Middle = (passed P everything.all_poses e).1.1.1.1.0
-from_poses P e Low = (passed P everything.all_poses e).1.1.1.1.1.0
-from_poses P e Top = (passed P everything.all_poses e).1.1.1.1.1.1.0
-from_poses P e Running = (passed P everything.all_poses e).1.1.1.1.1.1.1.0
-from_poses P e Landing = (passed P everything.all_poses e).1.1.1.1.1.1.1.1.0
-from_poses P e Halted = (passed P everything.all_poses e).1.1.1.1.1.1.1.1.1.0
-from_poses P e Offering = (passed P everything.all_poses e).1.1.1.1.1.1.1.1.1.1.0
-from_poses P e Standing = (passed P everything.all_poses e).1.1.1.1.1.1.1.1.1.1.1.0
+from_poses P e Turning = assumption (passed P everything.all_poses e)
+from_poses P e _ = assumption (passed P everything.all_poses e)
 
 abbrev pub all_places : (Place → Bool) → Bool
 all_places P = list_all P everything.all_places
 
 pub from_places : (P : Place → Bool) → all_places P ≡ true → (p : Place) → P p ≡ true
-from_places P e FeedEntry = (passed P everything.all_places e).0
-from_places P e FeedEnd = (passed P everything.all_places e).1.0
-from_places P e TablePlace = (passed P everything.all_places e).1.1.0
-from_places P e Arm1 = (passed P everything.all_places e).1.1.1.0
-from_places P e PressIn = (passed P everything.all_places e).1.1.1.1.0
-from_places P e PressOut = (passed P everything.all_places e).1.1.1.1.1.0
-from_places P e Arm2 = (passed P everything.all_places e).1.1.1.1.1.1.0
-from_places P e DepEntry = (passed P everything.all_places e).1.1.1.1.1.1.1.0
-from_places P e DepEnd = (passed P everything.all_places e).1.1.1.1.1.1.1.1.0
-from_places P e CranePlace = (passed P everything.all_places e).1.1.1.1.1.1.1.1.1.0
+from_places P e FeedEntry = assumption (passed P everything.all_places e)
+from_places P e _ = assumption (passed P everything.all_places e)
 
 abbrev pub all_owners : (Option Machine → Bool) → Bool
 all_owners P = P None && all_machines (λ m. P (Some m))
