@@ -1,7 +1,7 @@
 /* The interlock of any plant, by its plan, for C and C++.
 
-   `plan header` prints a plan's bytes, and the numbers of its machines, zones, poses and places, from 0. The state of the
-   plant is one 64-bit word. bagunjoki_plan_step answers a call on such a word, and gives the word after it.
+   `plan header` prints a plan's bytes, and the numbers of its machines, zones, poses and places, from 0. The state of
+   the plant is one 64-bit word. bagunjoki_plan_step answers a call on such a word, and gives the word after it.
    bagunjoki_plan_ask makes a call on a word that threads or processes share.
 
    What is proved (crates/plan_c): what the four functions of the library return. What isn't: the loops of
@@ -94,8 +94,8 @@ typedef struct bagunjoki_plan_reply {
 } bagunjoki_plan_reply;
 
 /* The proved functions. They read nothing but their arguments, and keep nothing: each reads the plan anew, takes memory
-   by malloc, and frees it before it returns. Any thread may call them, and no signal handler. `plan` points to `length`
-   bytes, `digits` to `count` of them; neither may be null. */
+   by malloc, and frees it before it returns. Any thread may call them, but no signal handler, and no child that was
+   forked from several threads. `plan` points to `length` bytes, `digits` to `count` of them; neither may be null. */
 
 /* A call on a word. It changes no shared word. */
 bagunjoki_plan_reply bagunjoki_plan_step(const uint8_t *plan, size_t length, uint64_t word, uint8_t machine,

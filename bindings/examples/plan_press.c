@@ -1,7 +1,9 @@
-/* Two machines at a press, each a thread: the loader puts plates into the press and takes them out, and the press closes
-   in between. The plan is examples/plans/press.toml.   cc -pthread plan_press.c $(pkg-config --cflags --libs bagunjoki_plan) */
+/* Two machines at a press, each a thread: the loader puts plates into the press and takes them out, and the press
+   closes in between (docs/FROM_C.md, "Another plant").
+   cc -pthread plan_press.c $(pkg-config --cflags --libs bagunjoki_plan) */
 #include <bagunjoki_plan.h>
 #include <pthread.h>
+#include <sched.h>
 #include <stdio.h>
 
 /* What `plan header PRESS` prints of this plan, as far as it is used here: numbers and bytes. */
@@ -22,7 +24,7 @@ static const uint8_t PRESS_PLAN[] = {
     0, 1,
 };
 
-enum { ROUNDS = 10000 };
+enum { ROUNDS = 1000 };
 
 struct step {
     uint8_t verb, object;
@@ -71,11 +73,14 @@ static void *run(void *given) {
     unsigned rounds = 0, at = 0;
     while (rounds < ROUNDS) {
         const struct step *step = &machine->program[at];
-        bagunjoki_plan_renew(PRESS_PLAN, sizeof PRESS_PLAN, &plant, 50000, 0, 8);
+        bagunjoki_plan_renew(PRESS_PLAN, sizeof PRESS_PLAN, &plant, 5000, 0, 8);
         bagunjoki_plan_reply reply = bagunjoki_plan_ask(PRESS_PLAN, sizeof PRESS_PLAN, &plant, machine->number,
                                                         step->verb, step->object, 8);
         if (reply.answer != BAGUNJOKI_PLAN_DONE) {
-            if (waits(reply)) continue;
+            if (waits(reply)) {
+                sched_yield();
+                continue;
+            }
             machine->stopped_by = reply.answer; /* a refusal that the program doesn't know: here its motors stop */
             return NULL;
         }

@@ -19,8 +19,9 @@ HEADER = "bindings/bagunjoki_plan.h"
 BUSY = 66
 TYPES = compare.TYPES | {"bagunjoki_plan_reply": "Reply"}
 # The plans that programs here carry, by the examples of plan_bytes.
-PLANS = {"press": "bindings/examples/plan_press.c", "lift": "bindings/tests/plan_walk.c"}
-PRESS = "loader: 30000 calls done, stopped by 0\npress: 100000 calls done, stopped by 0\n"
+PLANS = [("press", "bindings/examples/plan_press.c")]
+PLANS += [("lift", f"bindings/tests/plan_{it}.c") for it in ("walk", "memory")]
+PRESS = "loader: 3000 calls done, stopped by 0\npress: 10000 calls done, stopped by 0\n"
 
 
 def of_crates(root):
@@ -81,7 +82,7 @@ def differences(root):
     for what, wanted, found in (*pairs, ("functions", functions_of_crate(root), functions_of_header(root))):
         if found != wanted:
             said.append(f"{what} are {found} in {HEADER}, and {wanted} in the crates")
-    for name, path in PLANS.items():
+    for name, path in PLANS:
         wanted = bytes_of(text_of(f"{root}/{EXAMPLES}"), rf"bytes_of {name}_table ≡", r"\[\]")
         if bytes_of(text_of(f"{root}/{path}"), rf"{name.upper()}_PLAN\[\] = \{{", r"\};") != wanted:
             said.append(f"the plan in {path} has other bytes than in {EXAMPLES}")
@@ -101,6 +102,13 @@ def walk(trials, compiler, *flags):
     said, wanted = trials.run([program]).strip(), re.search(r"WALKED: u64 = (0x\w+)", text_of(f"{trials.root}/{TESTS}"))
     wanted = wanted[1].replace("_", "")
     return "100,000 calls" if said == wanted else trials.fail(f"the sum is {said} and not {wanted}")
+
+
+def memory(trials, compiler, *flags):
+    """Each allocation of a call fails in turn, and nothing is lost."""
+    wrapped = ["-Wl,--wrap=malloc", "-Wl,--wrap=realloc"]
+    program = trials.compiled(compiler, "tests/plan_memory.c", *wrapped, *flags, library="bagunjoki_plan")
+    return trials.run([program]).strip()
 
 
 def speed(root, prefix):

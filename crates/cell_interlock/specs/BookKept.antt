@@ -17,13 +17,16 @@ use Rattle.cell_rules.proofs.Tables.{from_machines}
 use Rattle.word_interlock.specs.RuleBook.{IsRuleBook, times}
 use Rattle.cell_interlock.specs.Book.{cell_book}
 
-counts_by : (a : Answer) (s : ModelState) (m : Machine) (c : Call) → is_done_answer a ≡ true → (next_by a s m c).stamp ≡ s.stamp + 1
+counts_by : (a : Answer) (s : ModelState) (m : Machine) (c : Call) → is_done_answer a ≡ true
+    → (next_by a s m c).stamp ≡ s.stamp + 1
 counts_by Done s m c e = refl
 counts_by (Shown o f p) s m c e = cc
 counts_by (Refused r) s m c e = cc
 
 once : (m : Machine) → times same_machine m all_machines ≤ 1
-once m = let one = from_machines (λ n. nat_eq (times same_machine n all_machines) 1) refl m in grind (arith, nat_tests, one)
+once m =
+    let one = from_machines (λ n. nat_eq (times same_machine n all_machines) 1) refl m in
+    grind (arith, nat_tests, one)
 
 pub cell_is_rule_book : IsRuleBook cell_book
 cell_is_rule_book = record {

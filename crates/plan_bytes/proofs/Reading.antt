@@ -30,7 +30,8 @@ pub rows_go_on : {A : Type 0} (f : A → List ℕ) (P : A → Type 0) (w : ℕ)
     → (zs : List A) × (ys ≡ xs ++ zs) × (flat_map f zs ≡ rest) × All P zs
 rows_go_on f P w width same [] ys rest ax ay e = (ys, refl, e, ay)
 rows_go_on f P w width same (x ∷ xs) [] rest ax ay e =
-    absurd (some_bytes f w x (flat_map f xs ++ rest) (width x (all_head P x xs ax)) (e ∙ append_assoc (f x) (flat_map f xs) rest))
+    let apart = e ∙ append_assoc (f x) (flat_map f xs) rest in
+    absurd (some_bytes f w x (flat_map f xs ++ rest) (width x (all_head P x xs ax)) apart)
 rows_go_on f P w width same (x ∷ xs) (y ∷ ys) rest ax ay e =
     let more = flat_map f ys in
     let after = flat_map f xs ++ rest in
@@ -48,7 +49,8 @@ rows_go_on f P w width same (x ∷ xs) (y ∷ ys) rest ax ay e =
 pub no_more_rows : {A : Type 0} (f : A → List ℕ) (P : A → Type 0) (w : ℕ)
     → ((x : A) → P x → length (f x) ≡ suc w) → (zs : List A) → All P zs → flat_map f zs ≡ [] → zs ≡ []
 no_more_rows f P w width [] az e = refl
-no_more_rows f P w width (z ∷ zs) az e = absurd (some_bytes f w z (flat_map f zs) (width z (all_head P z zs az)) (sym e))
+no_more_rows f P w width (z ∷ zs) az e =
+    absurd (some_bytes f w z (flat_map f zs) (width z (all_head P z zs az)) (sym e))
 
 -- the rows of some bytes are these alone
 pub one_reading : {A : Type 0} (f : A → List ℕ) (P : A → Type 0) (w : ℕ)
@@ -66,7 +68,8 @@ pub begins_with : {A : Type 0} (f : A → List ℕ) (P : A → Type 0) (w : ℕ)
 begins_with f P w width [] rest az e some =
     let none : 0 ≡ length rest = ap length e in absurd (omega (arith, none, some))
 begins_with f P w width (z ∷ zs) rest az e some =
-    (z, all_head P z zs az, sym (take_at (f z) (flat_map f zs) (suc w) (width z (all_head P z zs az))) ∙ ap (λ xs. take (suc w) xs) e)
+    let head = all_head P z zs az in
+    (z, head, sym (take_at (f z) (flat_map f zs) (suc w) (width z head)) ∙ ap (λ xs. take (suc w) xs) e)
 
 pub no_reading : {A : Type 0} (f : A → List ℕ) (P : A → Type 0) (w : ℕ)
     → ((x : A) → P x → length (f x) ≡ suc w) → ((x y : A) → P x → P y → f x ≡ f y → x ≡ y)

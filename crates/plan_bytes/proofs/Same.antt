@@ -1,6 +1,6 @@
 -- Rows with the same bytes are the same.
-use Rattle.std.proofs.Common.{◌≡◌, ℕ, ◌<◌, List, [], ◌∷◌, length, get_or, map, Bool, true, false, Option, Some, None, nat_eq}
-use Rattle.std.proofs.Common.{if◌then◌else◌}
+use Rattle.std.proofs.Common.{◌≡◌, ℕ, ◌<◌, List, [], ◌∷◌, length, get_or, map, Bool, true, false}
+use Rattle.std.proofs.Common.{Option, Some, None, nat_eq, if◌then◌else◌}
 use Rattle.std.proofs.Common.{refl, sym, ◌∙◌, ap, arith}
 use Rattle.std.proofs.lemmas.List.{same_lists, get_or-map, length-map, get_or_default}
 use mir.Val.{bool_byte}

@@ -68,8 +68,9 @@ uncut t machines zones poses places rows whole is =
     omega (arith, pl, ps, is.long, rest_long, length-take (12 * poses) rest) in
     let place_count : length t.places ≡ places =
     omega (arith, ks, is.long, length-drop (8 * zones + 12 * poses) rows) in
+    let place_rows = is.place_rows ∙ sym (drop-drop (12 * poses) (8 * zones) rows) in
     let after : p ++ t.places ≡ rest =
-    ap (λ xs. xs ++ t.places) is.pose_rows ∙ ap (λ xs. take (12 * poses) rest ++ xs) (is.place_rows ∙ sym (drop-drop (12 * poses) (8 * zones) rows))
+    ap (λ xs. xs ++ t.places) is.pose_rows ∙ ap (λ xs. take (12 * poses) rest ++ xs) place_rows
     ∙ take-append-drop (12 * poses) rest in
     let all : z ++ p ++ t.places ≡ rows =
     append_assoc z p t.places ∙ ap (λ xs. z ++ xs) after ∙ ap (λ xs. xs ++ rest) is.zone_rows

@@ -1,5 +1,5 @@
--- The bytes of a plan's tables: how many machines, zones, poses and places there are, and then a row for each zone, each
--- pose and each place.
+-- The bytes of a plan's tables: how many machines, zones, poses and places there are, and then a row for each zone,
+-- each pose and each place.
 use Rattle.std.specs.Prelude.{◌≡◌, ℕ, List, [], ◌∷◌, ◌++◌, map, flat_map, All, length, Option, Some, None}
 use mir.Val.{bool_byte}
 use Rattle.plan_types.specs.declared.posture.Posture.{Posture}

@@ -86,7 +86,7 @@ fn parts_of(bytes: &[u8]) -> Option<Parts>
     })
 }
 
-/// The tables with these bytes, plan or not; `None` if no tables have them.
+/// The tables with these bytes, plan or not; `None` if no tables have them. Fails only if memory runs out.
 pub fn read_tables(alloc: Global, bytes: &[u8]) -> Result<Option<Tables>, AllocError>
     ensures tables { IfOk result (λ found. (tables : PlanTable) → HasWholeRows tables →
         (found ≡ Some tables) ↔ (bytes_of tables ≡ bytes.now)) }

@@ -25,7 +25,7 @@ fn write_poses(out: &mut Vec<u8>, poses: &[PlanPose]) -> Result<(), AllocError>
     Ok(())
 }
 
-/// The bytes of a plan's tables.
+/// The bytes of a plan's tables. Fails only if memory runs out.
 pub fn write_tables(alloc: Global, tables: &Tables) -> Result<Vec<u8>, AllocError>
     requires { IsPlan tables.now }
     ensures { IfOk result (λ bytes. bytes.items ≡ bytes_of tables.now) }

@@ -39,6 +39,14 @@ impl Plan {
         }
     }
 
+    /// The tables.
+    pub fn tables(&self) -> &Tables
+        ensures tables { result.now ≡ self.now }
+        ensures plan { IsPlan self.now }
+    {
+        &self.tables
+    }
+
     /// How many machines there are.
     pub fn machines(&self) -> u8
         ensures machines { result ≡ self.now.machines }

@@ -32,6 +32,7 @@ impl<R: Rules> Interlock<R> {
     ///   changes that the pass hadn't seen before (`busy`), all after this call's load (`since`);
     /// - it loads the word once (`one_load`), and makes at most `tries` exchanges
     ///   (`few_exchanges`), exactly as many as it lost if it is Busy (`all_lost`).
+    #[inline(always)]
     pub fn ask(&self, pass: &mut Pass<R>, call: R::Call) -> Reply<R::Answer>
         requires same_interlock { pass.old.table ≡ self.now.table }
         ensures pass { IsSamePass pass.old pass.new }
