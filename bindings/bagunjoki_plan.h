@@ -156,7 +156,7 @@ static inline bagunjoki_plan_reply bagunjoki_plan_ask(const uint8_t *plan, size_
 
 /* Keeps a shared word from wearing out, as bagunjoki_renew: if its stamp is `from` or later, gives it the stamp `to`,
    and changes nothing else of the state. Any thread may do this at any moment, in each turn:
-   bagunjoki_plan_renew(PLAN, sizeof PLAN, &word, 1000000, 0, 8). False if it is still to be done. */
+   bagunjoki_plan_renew(PLAN_BYTES, sizeof PLAN_BYTES, &word, 1000000, 0, 8). False if it is still to be done. */
 static inline bool bagunjoki_plan_renew(const uint8_t *plan, size_t length, bagunjoki_plan_word *shared, uint32_t from,
                                         uint32_t to, unsigned tries) {
     uint64_t word = BAGUNJOKI_PLAN_ATOMIC(load)(shared);

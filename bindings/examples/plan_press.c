@@ -6,7 +6,7 @@
 #include <sched.h>
 #include <stdio.h>
 
-/* What `plan header PRESS` prints of this plan, as far as it is used here: numbers and bytes. */
+/* What `plan header` prints of this plan, as far as it is used here: numbers and bytes. */
 #define PLAN_MACHINE_LOADER 0
 #define PLAN_MACHINE_PRESS 1
 #define PLAN_ZONE_INTERIOR 0
@@ -14,7 +14,7 @@
 #define PLAN_POSE_PRESS_UNLOAD 1
 #define PLAN_POSE_PRESS_CLOSED 2
 #define PLAN_POSE_PRESS_TRAVELLING 3
-static const uint8_t PRESS_PLAN[] = {
+static const uint8_t PLAN_BYTES[] = {
     2, 1, 4, 2,
     1, 0, 1, 0, 1, 1, 1, 0,
     1, 1, 3, 0, 0, 0, 0, 0, 0, 0, 0, 0,
@@ -73,8 +73,8 @@ static void *run(void *given) {
     unsigned rounds = 0, at = 0;
     while (rounds < ROUNDS) {
         const struct step *step = &machine->program[at];
-        bagunjoki_plan_renew(PRESS_PLAN, sizeof PRESS_PLAN, &plant, 5000, 0, 8);
-        bagunjoki_plan_reply reply = bagunjoki_plan_ask(PRESS_PLAN, sizeof PRESS_PLAN, &plant, machine->number,
+        bagunjoki_plan_renew(PLAN_BYTES, sizeof PLAN_BYTES, &plant, 5000, 0, 8);
+        bagunjoki_plan_reply reply = bagunjoki_plan_ask(PLAN_BYTES, sizeof PLAN_BYTES, &plant, machine->number,
                                                         step->verb, step->object, 8);
         if (reply.answer != BAGUNJOKI_PLAN_DONE) {
             if (waits(reply)) {
@@ -101,7 +101,7 @@ int main(void) {
     };
     pthread_t threads[2];
     /* a plate on the loader's hand, none in the press */
-    uint64_t start = bagunjoki_plan_start(PRESS_PLAN, sizeof PRESS_PLAN, (const uint8_t *)"10", 2, 0);
+    uint64_t start = bagunjoki_plan_start(PLAN_BYTES, sizeof PLAN_BYTES, (const uint8_t *)"10", 2, 0);
     if (start == BAGUNJOKI_PLAN_NO_WORD) return 1;
     bagunjoki_plan_open(&plant, start);
     for (int k = 0; k < 2; k++)

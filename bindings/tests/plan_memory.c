@@ -3,7 +3,7 @@
 #include <bagunjoki_plan.h>
 #include <stdio.h>
 
-static const uint8_t LIFT_PLAN[] = {
+static const uint8_t PLAN_BYTES[] = {
     3, 2, 5, 3,
     0, 1, 1, 1, 0, 1, 0, 1,
     0, 2, 1, 2, 0, 1, 0, 2,
@@ -28,15 +28,15 @@ void *__wrap_malloc(size_t size) { return left-- == 0 ? NULL : __real_malloc(siz
 void *__wrap_realloc(void *old, size_t size) { return left-- == 0 ? NULL : __real_realloc(old, size); }
 
 int main(void) {
-    uint64_t word = bagunjoki_plan_start(LIFT_PLAN, sizeof LIFT_PLAN, (const uint8_t *)"010", 3, 0);
+    uint64_t word = bagunjoki_plan_start(PLAN_BYTES, sizeof PLAN_BYTES, (const uint8_t *)"010", 3, 0);
     for (int enough = 0;; enough++) {
         left = enough;
         bagunjoki_plan_reply reply =
-            bagunjoki_plan_step(LIFT_PLAN, sizeof LIFT_PLAN, word, 0, BAGUNJOKI_PLAN_CLAIM, 0);
+            bagunjoki_plan_step(PLAN_BYTES, sizeof PLAN_BYTES, word, 0, BAGUNJOKI_PLAN_CLAIM, 0);
         left = enough;
-        uint32_t stamp = bagunjoki_plan_stamp(LIFT_PLAN, sizeof LIFT_PLAN, word);
+        uint32_t stamp = bagunjoki_plan_stamp(PLAN_BYTES, sizeof PLAN_BYTES, word);
         left = enough;
-        uint64_t worn = bagunjoki_plan_restamp(LIFT_PLAN, sizeof LIFT_PLAN, word, BAGUNJOKI_PLAN_LAST_STAMP);
+        uint64_t worn = bagunjoki_plan_restamp(PLAN_BYTES, sizeof PLAN_BYTES, word, BAGUNJOKI_PLAN_LAST_STAMP);
         left = 1000;
         if (reply.answer == BAGUNJOKI_PLAN_DONE) {
             printf("%d allocations\n", enough);

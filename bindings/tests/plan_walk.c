@@ -5,7 +5,7 @@
 #include <stdlib.h>
 #include <time.h>
 
-static const uint8_t LIFT_PLAN[] = {
+static const uint8_t PLAN_BYTES[] = {
     3, 2, 5, 3,
     0, 1, 1, 1, 0, 1, 0, 1,
     0, 2, 1, 2, 0, 1, 0, 2,
@@ -23,13 +23,13 @@ static uint64_t mixed(uint64_t sum, uint64_t value) { return (sum ^ value) * 109
 
 static uint64_t walk(void) {
     static const uint8_t callers[] = {0, 1, 2, BAGUNJOKI_PLAN_WATCH};
-    uint64_t word = bagunjoki_plan_start(LIFT_PLAN, sizeof LIFT_PLAN, (const uint8_t *)"010", 3, 0);
+    uint64_t word = bagunjoki_plan_start(PLAN_BYTES, sizeof PLAN_BYTES, (const uint8_t *)"010", 3, 0);
     uint64_t seed = 1, sum = 14695981039346656037u;
     for (int k = 0; k < CALLS; k++) {
         seed = seed * 6364136223846793005u + 1442695040888963407u;
         uint64_t drawn = seed >> 33;
         uint8_t machine = callers[drawn % 4], verb = drawn / 4 % 11, object = drawn / 64 % 6;
-        bagunjoki_plan_reply reply = bagunjoki_plan_step(LIFT_PLAN, sizeof LIFT_PLAN, word, machine, verb, object);
+        bagunjoki_plan_reply reply = bagunjoki_plan_step(PLAN_BYTES, sizeof PLAN_BYTES, word, machine, verb, object);
         word = reply.next;
         sum = mixed(mixed(mixed(sum, reply.next), reply.answer), reply.owner);
         sum = mixed(mixed(mixed(sum, reply.zone), reply.posture), reply.plate);

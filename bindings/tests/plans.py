@@ -84,7 +84,7 @@ def differences(root):
             said.append(f"{what} are {found} in {HEADER}, and {wanted} in the crates")
     for name, path in PLANS:
         wanted = bytes_of(text_of(f"{root}/{EXAMPLES}"), rf"bytes_of {name}_table ≡", r"\[\]")
-        if bytes_of(text_of(f"{root}/{path}"), rf"{name.upper()}_PLAN\[\] = \{{", r"\};") != wanted:
+        if bytes_of(text_of(f"{root}/{path}"), r"PLAN_BYTES\[\] = \{", r"\};") != wanted:
             said.append(f"the plan in {path} has other bytes than in {EXAMPLES}")
     return said
 

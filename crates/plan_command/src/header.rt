@@ -1,5 +1,6 @@
 //! What `plan header` prints: a plan's names and the layout of its word, for C and C++.
 
+use plan_bytes::write_tables;
 use plan_text::{NamedPlan, Names};
 use plan_word::{Field, Layout};
 use std::alloc::{AllocError, Global};
@@ -11,6 +12,8 @@ const BEGIN: &str = "\
    owner, one for its flag (a plate is in it) and two for its posture. */
 #ifndef PLAN_H
 #define PLAN_H
+
+#include <stdint.h>
 
 ";
 
@@ -44,8 +47,22 @@ pub fn header_of(alloc: Global, named: &NamedPlan) -> Result<String, AllocError>
     text.push_str("\n")?;
     text.push_str(CODES)?;
     push_layout(&mut text, named)?;
+    push_bytes(alloc, &mut text, named)?;
     text.push_str("\n#endif\n")?;
     Ok(text)
+}
+
+/// The plan as bytes, for the functions of `bindings/bagunjoki_plan.h`: eight in a line.
+fn push_bytes(alloc: Global, text: &mut String, named: &NamedPlan) -> Result<(), AllocError> {
+    let bytes = write_tables(alloc, named.plan().tables())?;
+    text.push_str(
+        "\n/* The plan, for bagunjoki_plan.h. */\nstatic const uint8_t PLAN_BYTES[] = {",
+    )?;
+    for (at, byte) in bytes.as_slice().iter().enumerate() {
+        text.push_str(if at % 8 == 0 { "\n    " } else { " " })?;
+        write!(text, "{byte},")?;
+    }
+    text.push_str("\n};\n")
 }
 
 fn push_upper(text: &mut String, name: &str) -> Result<(), AllocError> {

@@ -1,6 +1,7 @@
 //! What the program `plan` does, over any words, reader and writer.
 #![tactic(auto)]
 
+pub mod explore;
 pub mod header;
 pub mod input;
 pub mod report;

@@ -10,6 +10,8 @@ pub enum Request {
     Check,
     /// Answers a script by a plan.
     Replay,
+    /// Explores the machines' programs for standstills.
+    Explore,
     /// Prints a header for C.
     Header,
     /// Prints help.
@@ -35,6 +37,7 @@ fn request_by(word: &str) -> Option<Request>
     match word {
         "check" => Some(Request::Check),
         "replay" => Some(Request::Replay),
+        "explore" => Some(Request::Explore),
         "header" => Some(Request::Header),
         "--help" | "-h" => Some(Request::Help),
         "--version" => Some(Request::Version),

@@ -10,6 +10,7 @@ ghost use Rattle.plan_command.specs.Input.{max_bytes_read, script_in};
 ghost use Rattle.plan_command.specs.Served.{AnswersScript};
 ghost use Rattle.plan_command.specs.Requests.{request_of};
 
+use crate::explore::{Screen, screen_of};
 use crate::header::header_of;
 use crate::input::{MAX_BYTES, plan_length};
 use crate::report::report_of;
@@ -17,7 +18,8 @@ use crate::request;
 use crate::request::Request;
 use cell_shell::{Exit, fail, print, print_prefix, print_version, texts_of, words_or_exit};
 use cell_text::{InputFault, read_up_to};
-use plan_replay::{Answered, Outcome, ReplayFault, answer_script};
+use plan_replay::{Answered, Outcome, ReplayFault, answer_script, start_of_script};
+use plan_rules::State;
 use plan_text::{NamedPlan, plan_of, read_plan};
 use std::alloc::{AllocError, Global};
 use std::env::Env;
@@ -28,6 +30,8 @@ const HELP: &str = "\
 Reads a plan of a plant, in TOML, from standard input.
   plan check      says what it is, and the layout of its word, or its first fault
   plan replay     answers the script after it, which begins with the line start,..
+  plan explore    says whether some order of turns of its programs leads from the start
+                  after it, a line start,.., to a standstill
   plan header     prints its names and the layout of its word for C
   plan --version  prints the version
 Exit status: 0 on success and for help; 2 for bad arguments; otherwise 1: a refused
@@ -39,7 +43,7 @@ Example:
 
 /// What is printed for other words.
 const OTHER_WORDS: &str =
-    "error: the only argument is check, replay, header, --help or --version\n";
+    "error: the only argument is check, replay, explore, header, --help or --version\n";
 
 /// Reads a plan and prints what the request asks of it, or the plan's fault.
 fn serve_plan<R: Read, W: Write>(
@@ -68,13 +72,22 @@ fn text_of(alloc: Global, request: Request, named: &NamedPlan) -> Result<String,
     }
 }
 
-/// Reads a plan and a script after it, and prints the answers to the script.
-fn serve_replay<R: Read, W: Write>(alloc: Global, reader: &mut R, writer: &mut W) -> u8
+/// Reads a plan and a script after it, and prints the answers to the script, or what the machines' programs come to from
+/// its start.
+fn serve_script<R: Read, W: Write>(
+    alloc: Global,
+    request: Request,
+    reader: &mut R,
+    writer: &mut W,
+) -> u8
     ensures status { result ≤ 1 }
     ensures read { TakesAtMost (R.remaining reader.old) (R.remaining reader.new) max_bytes_read }
 {
     match read_up_to(alloc, reader, MAX_BYTES + 1) {
-        Ok(bytes) => replay_bytes(alloc, bytes.as_slice(), writer).status(),
+        Ok(bytes) => match request {
+            Request::Explore => explore_bytes(alloc, bytes.as_slice(), writer).status(),
+            _ => replay_bytes(alloc, bytes.as_slice(), writer).status(),
+        },
         Err(InputFault::Read) => fail(writer, "read").status(),
         Err(InputFault::Memory) => fail(writer, "memory").status(),
     }
@@ -97,6 +110,35 @@ fn replay_bytes<W: Write>(alloc: Global, bytes: &[u8], writer: &mut W) -> Exit
         Ok(answered) => print_answers(writer, &answered),
         Err(ReplayFault::Read) => fail(writer, "read"),
         Err(ReplayFault::Memory) => fail(writer, "memory"),
+    }
+}
+
+fn explore_bytes<W: Write>(alloc: Global, bytes: &[u8], writer: &mut W) -> Exit
+    ensures status { result ≢ Exit.Refused }
+{
+    if bytes.len() > MAX_BYTES {
+        return fail(writer, "long");
+    }
+    let length = plan_length(bytes);
+    let named = match plan_of(alloc, &bytes[..length]) {
+        Ok(named) => named,
+        Err(fault) => return fail(writer, fault),
+    };
+    match start_of_script(alloc, &named, &bytes[length..]) {
+        Ok(Ok(opening)) => explore_from(alloc, &named, &opening, writer),
+        Ok(Err(fault)) => fail(writer, fault),
+        Err(ReplayFault::Read) => fail(writer, "read"),
+        Err(ReplayFault::Memory) => fail(writer, "memory"),
+    }
+}
+
+fn explore_from<W: Write>(alloc: Global, named: &NamedPlan, opening: &State, writer: &mut W) -> Exit
+    ensures status { result ≢ Exit.Refused }
+{
+    match screen_of(alloc, named, opening) {
+        Ok(Screen::Found(text)) => print(writer, text.as_bytes()),
+        Ok(Screen::Refused(text)) => fail(writer, text.as_str()),
+        Err(AllocError) => fail(writer, "memory"),
     }
 }
 
@@ -139,7 +181,8 @@ pub fn serve<R: Read, W: Write>(alloc: Global, words: &[&str], reader: &mut R, w
     match request::request_of(words) {
         Some(Request::Check) => serve_plan(alloc, Request::Check, reader, writer),
         Some(Request::Header) => serve_plan(alloc, Request::Header, reader, writer),
-        Some(Request::Replay) => serve_replay(alloc, reader, writer),
+        Some(Request::Replay) => serve_script(alloc, Request::Replay, reader, writer),
+        Some(Request::Explore) => serve_script(alloc, Request::Explore, reader, writer),
         Some(Request::Help) => print(writer, HELP.as_bytes()).status(),
         Some(Request::Version) => print_version(writer, "plan").status(),
         None => refuse(writer).status(),

@@ -1,6 +1,6 @@
 //! Example plans: what is said of them, and the answers to their scripts.
 
-use super::doubles::is_answered;
+use super::doubles::{is_answered, run};
 use std::alloc::AllocError;
 
 /// Two machines at a press.
@@ -162,4 +162,132 @@ fn answers_scripts(rt: HostRuntime) -> Result<(), AllocError> {
         );
     }
     Ok(())
+}
+
+#[test]
+fn explores_the_press(rt: HostRuntime) -> Result<(), AllocError> {
+    let input = format!(in rt.alloc(); "{PRESS}start,10\n")?;
+    let text = "no standstill in any order of turns: 15 situations\n";
+    assert!(rt; is_answered(rt.alloc(), b"explore", input.as_str(), 0, text));
+    Ok(())
+}
+
+/// A press whose loader may claim the interior before the press has claimed it back, and a start.
+const STANDS: &str = "\
+[[machine]]
+name = \"loader\"
+places = [\"hand\"]
+program = [\"claim interior\", \"give interior\", \"take interior\", \"release interior\"]
+
+[[machine]]
+name = \"press\"
+places = [\"die\"]
+poses = [
+  { name = \"load\", gives = { interior = \"openin\" }, after_moving = true },
+  { name = \"unload\", gives = { interior = \"openout\" }, after_moving = true },
+  { name = \"closed\", gives = { interior = \"closed\" }, after_moving = true },
+  { name = \"travelling\", gives = { interior = \"moving\" } },
+]
+program = [
+  \"claim interior\", \"pose travelling\", \"pose load\", \"release interior\", \"take interior\",
+  \"pose travelling\", \"pose closed\", \"pose travelling\", \"pose unload\", \"give interior\",
+]
+
+[[zone]]
+name = \"interior\"
+host = \"press\"
+guest = \"loader\"
+inward = [\"hand\", \"die\"]
+outward = [\"die\", \"hand\"]
+start,10
+";
+
+const STANDSTILL: &str = "\
+a standstill after 15 turns, and no fewer
+loader waits: give interior: wrongway
+press waits: claim interior: held loader
+turns: press press press press loader loader press press press press press press loader loader loader
+";
+
+#[test]
+fn explores_a_standstill(rt: HostRuntime) {
+    assert!(rt; is_answered(rt.alloc(), b"explore", STANDS, 0, STANDSTILL));
+}
+
+/// Inputs that aren't explored, and why.
+const UNEXPLORED: &[(&str, &str)] = &[
+    ("", "fault plan the document: machine: it is missing\n"),
+    (
+        "start,10\n",
+        "fault plan the document: machine: it is missing\n",
+    ),
+];
+
+#[test]
+fn explores_from_a_start_alone(rt: HostRuntime) -> Result<(), AllocError> {
+    for row in UNEXPLORED {
+        let (input, text) = *row;
+        assert!(rt;
+            is_answered(rt.alloc(), b"explore", input, 1, text),
+            "{row:?}"
+        );
+    }
+    let without = "fault nostart\n";
+    assert!(rt; is_answered(rt.alloc(), b"explore", PRESS, 1, without));
+    let input = format!(in rt.alloc(); "{PRESS}start,1\n")?;
+    assert!(rt;
+        is_answered(
+            rt.alloc(),
+            b"explore",
+            input.as_str(),
+            1,
+            "fault badstart\n"
+        )
+    );
+    Ok(())
+}
+
+/// A program of 255 lines is explored, one of 256 isn't.
+#[test]
+fn explores_programs_of_255_lines(rt: HostRuntime) -> Result<(), AllocError> {
+    for (lines, status) in [(255, 0), (256, 1)] {
+        let mut input = String::new(rt.alloc());
+        input.push_str("[[machine]]\nname = \"a\"\nprogram = [")?;
+        for _ in 0..lines {
+            input.push_str("\"claim z\",")?;
+        }
+        input.push_str("]\n[[machine]]\nname = \"b\"\n")?;
+        input.push_str("[[zone]]\nname = \"z\"\nhost = \"a\"\nguest = \"b\"\nstart,\n")?;
+        let mut written = Vec::new(rt.alloc());
+        let arguments: &[&[u8]] = &[b"./plan", b"explore"];
+        let found = run(rt.alloc(), arguments, &mut input.as_bytes(), &mut written);
+        assert!(rt; found == status);
+        let long = "fault plan machine a: program: it has more than 255 lines\n";
+        assert!(rt; (written.as_slice() == long.as_bytes()) == (status == 1));
+    }
+    Ok(())
+}
+
+/// How the header of the press ends.
+const BYTES: &str = "\
+static const uint8_t PLAN_BYTES[] = {
+    2, 1, 4, 2, 1, 0, 1, 0,
+    1, 1, 1, 0, 1, 1, 3, 0,
+    0, 0, 0, 0, 0, 0, 0, 0,
+    1, 1, 4, 0, 0, 0, 0, 0,
+    0, 0, 0, 0, 1, 1, 1, 0,
+    0, 0, 0, 0, 0, 0, 0, 0,
+    1, 0, 2, 0, 0, 0, 0, 0,
+    0, 0, 0, 0, 0, 1,
+};
+
+#endif
+";
+
+#[test]
+fn writes_the_plan_as_bytes(rt: HostRuntime) {
+    let mut written = Vec::new(rt.alloc());
+    let arguments: &[&[u8]] = &[b"./plan", b"header"];
+    let status = run(rt.alloc(), arguments, &mut PRESS.as_bytes(), &mut written);
+    assert!(rt; status == 0 && written.as_slice().ends_with(BYTES.as_bytes()));
 }

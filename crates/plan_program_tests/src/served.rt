@@ -6,7 +6,7 @@ use cell_shell::VERSION;
 use std::alloc::{AllocError, Global};
 
 const OTHER_WORDS: &str =
-    "error: the only argument is check, replay, header, --help or --version\n";
+    "error: the only argument is check, replay, explore, header, --help or --version\n";
 
 const NO_TEXT: &str = "error: a word isn't UTF-8\n";
 

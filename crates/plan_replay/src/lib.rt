@@ -1,11 +1,13 @@
 //! Answers scripts of a plan: the calls of a script in order, on a sequential interlock, by the names of the plan.
 #![tactic(auto)]
 
+pub mod opening;
 mod records;
 pub mod replay;
 pub mod request;
 pub mod script;
 pub mod start;
 
+pub use opening::start_of_script;
 pub use replay::{MAX_RECORDS, answer_script};
 pub use script::{Answered, Outcome, ReplayFault, ScriptFault};
