@@ -9,7 +9,8 @@ NAMES = re.compile(r"refused by: (.*)")
 PLACE = re.compile(r"(?:note: )?(?:\./)?(src|proofs|specs)/(\S+?):(\d+):\d+:")
 CLAUSE = re.compile(r"\(`[^`]*-clause-([\w-]+)`")
 REQUIRES = re.compile(r"\(`([a-z0-9_]+)[^`]*-requires")
-FUNCTION = re.compile(r"^\s*(?:pub(?:\([^)]*\))? )?(?:const )?(?:unsafe )?fn (\w+)")
+USING = re.compile(r"using\(([^)]*)\).*\]\n(?:\s*#\[.*\]\n)*\s*(?:pub(?:\([^)]*\))? )?fn (\w+)")
+FUNCTION = re.compile(r"^\s*(?:pub(?:\([^)]*\))? )?(?:const )?(?:unsafe )?(?:extern \"[^\"]*\" )?fn (\w+)")
 
 
 def edited(crate, edit):
@@ -49,7 +50,7 @@ def refused_by(edit):
 
 
 def standing_on(crate, module):
-    """The functions whose answers cite a module of this crate's proofs, also by way of others."""
+    """The functions whose answers, or whose attribute `using`, cite a module of this crate's proofs, also by way of others."""
     texts = {}
     for path in glob.glob(f"{crate}/proofs/**/*.antt", recursive=True):
         with open(path, encoding="utf-8") as it:
@@ -60,7 +61,11 @@ def standing_on(crate, module):
         found = [name for name, text in texts.items() if name not in reached and cited.search(text)]
         reached |= {*found}
         left += found
-    return {it.split(".")[-2] for it in reached if it.count(".") > 0}
+    answered = {it.split(".")[-2] for it in reached if it.count(".") > 0}
+    for path in glob.glob(f"{crate}/src/**/*.rt", recursive=True):
+        with open(path, encoding="utf-8") as it:
+            answered |= {name for cited, name in USING.findall(it.read()) if any(f"::proofs::{at.replace('.', '::')}::" in cited for at in reached)}
+    return answered
 
 
 def named(crate, said):

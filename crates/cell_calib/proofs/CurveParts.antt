@@ -1,34 +1,10 @@
 -- Two neighbouring parts of a curve agree where they meet.
 use Rattle.std.proofs.Common.{◌≡◌, ℕ, ◌+◌, ◌<◌, ◌≤◌, ℤ, pos, ◌+ℤ◌, ◌-ℤ◌, ◌*ℤ◌, ◌≤ℤ◌, ◌<ℤ◌, List, sym, ap, ◌∙◌, subst, arith}
-use Rattle.std.proofs.lemmas.Int.{ints, by_lt_z}
+use Rattle.std.proofs.lemmas.Int.{ints}
 use lib.IntN.{*ℤ_comm, zero-*ℤ}
 use Rattle.cell_calib.specs.Names.{Scale, raw_width, height_of, line_height, IsLineRoundedDown, Pair, pair_at, raw_at}
 use Rattle.cell_calib.specs.Names.{IsRising, AreNeighbours, line_through}
-use Rattle.cell_calib.proofs.LineLemmas.{mul_mono, height_of-next, squeezed}
-
-width_some : (s : Scale) → s.raw_lo < s.raw_hi → pos 0 ≤ℤ raw_width s
-width_some s h = omega (arith, ints)
-
-steps_up : (v w : ℤ) → v <ℤ w → (v +ℤ pos 1) ≤ℤ w
-steps_up v w h = omega (arith, ints)
-
-lowered : (v w a : ℤ) → v ≤ℤ w → (v -ℤ a) ≤ℤ (w -ℤ a)
-lowered v w a h = omega (arith, ints)
-
--- of two positions on a line that goes from one raw value to a greater, neither is greater
-no_higher : (s : Scale) (raw : ℕ) (v w : ℤ) → s.raw_lo < s.raw_hi → IsLineRoundedDown s raw v → IsLineRoundedDown s raw w → w ≤ℤ v
-no_higher s raw v w wide one other =
-    by_lt_z v w
-    (λ later.
-    let step = mul_mono ((v +ℤ pos 1) -ℤ s.at_lo) (w -ℤ s.at_lo) (raw_width s) (lowered (v +ℤ pos 1) w s.at_lo (steps_up v w later)) (width_some s wide) in
-    absurd (squeezed (height_of s (v +ℤ pos 1)) (height_of s w) (line_height s raw) step other.not_above one.next_above))
-    (λ low. low)
-
-both : (v w : ℤ) → w ≤ℤ v → v ≤ℤ w → w ≡ v
-both v w low high = omega (arith, ints)
-
-pub one_on_line : (s : Scale) (raw : ℕ) (v w : ℤ) → s.raw_lo < s.raw_hi → IsLineRoundedDown s raw v → IsLineRoundedDown s raw w → w ≡ v
-one_on_line s raw v w wide one other = both v w (no_higher s raw v w wide one other) (no_higher s raw w v wide other one)
+use Rattle.cell_calib.proofs.LineLemmas.{height_of-next, one_on_line}
 
 same_below : (h l next width : ℤ) → h ≡ l → next ≡ h +ℤ width → pos 0 <ℤ width → (h ≤ℤ l) × (l <ℤ next)
 same_below h l next width a b c = (omega (arith, ints), omega (arith, ints))

@@ -3,7 +3,8 @@ use Rattle.std.proofs.Common.{◌≡◌, ℕ, ◌+◌, ◌-◌, ◌<◌, ◌≤�
 use Rattle.std.proofs.lemmas.Bool.{cases_lt}
 use Rattle.cell_calib.specs.Curve.{Pair, pair_at, raw_at, IsOnCurve, IsRising, line_through}
 use Rattle.cell_calib.proofs.CurveLemmas.{rises_to}
-use Rattle.cell_calib.proofs.CurveParts.{OnPart, one_on_line, touching}
+use Rattle.cell_calib.proofs.CurveParts.{OnPart, touching}
+use Rattle.cell_calib.proofs.LineLemmas.{one_on_line}
 
 next_part : (i j a raw b more : ℕ) → i < j → raw ≤ a → a + (j - (i + 1)) ≤ b → b ≤ raw → j ≡ i + 1
 next_part i j a raw b more h p q r = omega arith

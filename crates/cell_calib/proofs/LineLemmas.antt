@@ -153,7 +153,7 @@ line_at_least s raw v p k near h = foot_sum (height_of s p) (height_of s (p +ℤ
 pub line_above : (s : Scale) (raw : ℕ) (v p : ℤ) → IsScale s → IsWithinTolerance s raw v → (p +ℤ s.tol) <ℤ v → IsLineAbove s raw p
 line_above s raw v p k near h = foot_strict (height_of s p) (height_of s (p +ℤ s.tol)) (height_of s v) (line_height s raw) (s.tol *ℤ raw_width s) (height_of-add s p s.tol) (height_strict s (p +ℤ s.tol) v k h) near.not_below
 
-pub squeezed : (x y z : ℤ) → x ≤ℤ y → y ≤ℤ z → z <ℤ x → ⊥
+squeezed : (x y z : ℤ) → x ≤ℤ y → y ≤ℤ z → z <ℤ x → ⊥
 squeezed x y z a b c = omega (arith, ints)
 
 -- of two raw values that an ideal sensor gives at a position, neither is greater
@@ -173,14 +173,23 @@ both_ways a b low high = omega arith
 pub one_raw_at : (s : Scale) (position : ℤ) (a b : ℕ) → IsScale s → IsRawAt s position a → IsRawAt s position b → b ≡ a
 one_raw_at s position a b k one other = both_ways a b (not_later s position a b k one other) (not_later s position b a k other one)
 
-lt_of_le_lt : (x y z : ℤ) → x ≤ℤ y → y <ℤ z → x <ℤ z
-lt_of_le_lt x y z a b = omega (arith, ints)
-
-not_higher : (s : Scale) (raw : ℕ) (v w : ℤ) → IsScale s → IsLineRoundedDown s raw v → IsLineRoundedDown s raw w → w ≤ℤ v
-not_higher s raw v w k one other = height_cancel s w v k (lt_of_le_lt (height_of s w) (line_height s raw) (height_of s (v +ℤ pos 1)) other.not_above one.next_above)
-
 both_ways_ℤ : (v w : ℤ) → w ≤ℤ v → v ≤ℤ w → w ≡ v
 both_ways_ℤ v w low high = omega (arith, ints)
 
+lowered : (v w a : ℤ) → v <ℤ w → ((v +ℤ pos 1) -ℤ a) ≤ℤ (w -ℤ a)
+lowered v w a h = omega (arith, ints)
+
+-- of two positions on a line that goes from one raw value to a greater, neither is greater
+no_higher : (s : Scale) (raw : ℕ) (v w : ℤ) → s.raw_lo < s.raw_hi → IsLineRoundedDown s raw v → IsLineRoundedDown s raw w → w ≤ℤ v
+no_higher s raw v w wide one other =
+    by_lt_z v w
+    (λ later.
+    let step = mul_mono ((v +ℤ pos 1) -ℤ s.at_lo) (w -ℤ s.at_lo) (raw_width s) (lowered v w s.at_lo later) (omega (arith, ints)) in
+    absurd (squeezed (height_of s (v +ℤ pos 1)) (height_of s w) (line_height s raw) step other.not_above one.next_above))
+    (λ low. low)
+
+pub one_on_line : (s : Scale) (raw : ℕ) (v w : ℤ) → s.raw_lo < s.raw_hi → IsLineRoundedDown s raw v → IsLineRoundedDown s raw w → w ≡ v
+one_on_line s raw v w wide one other = both_ways_ℤ v w (no_higher s raw v w wide one other) (no_higher s raw w v wide other one)
+
 pub one_line_at : (s : Scale) (raw : ℕ) (v w : ℤ) → IsScale s → IsLineRoundedDown s raw v → IsLineRoundedDown s raw w → w ≡ v
-one_line_at s raw v w k one other = both_ways_ℤ v w (not_higher s raw v w k one other) (not_higher s raw w v k other one)
+one_line_at s raw v w k = one_on_line s raw v w k.raws_rise

@@ -1,5 +1,5 @@
 -- Rounding down, in figures.
-use Rattle.std.proofs.Common.{◌+◌, ◌+ℤ◌, pos, ℕ, ℤ, arith}
+use Rattle.std.proofs.Common.{rules, ◌+◌, ◌+ℤ◌, pos, ℕ, ℤ, arith}
 use Rattle.std.specs.Int.Signed.{le_z, lt_z, le_z_yes, lt_z_yes}
 use Rattle.std.specs.Prelude.{T}
 use Rattle.cell_calib.specs.Names.{Scale, IsScale, height_of, line_height, IsLineRoundedDown, IsRawAt}
@@ -21,21 +21,4 @@ lies : (s : Scale) (raw : ℕ) (position : ℤ) → IsScale s → T (le_z (heigh
 lies s raw position k low high = let is : IsLineRoundedDown s raw position = record { not_above = le_z_yes low; next_above = lt_z_yes high } in (is, λ other also. one_line_at s raw position other k is also)
 
 pub roundings : RoundingExamples
-roundings = record {
-  raw_of_0 = gives _ _ _ plain tt tt;
-  raw_of_1 = gives _ _ _ plain tt tt;
-  raw_of_2 = gives _ _ _ plain tt tt;
-  raw_of_501 = gives _ _ _ plain tt tt;
-  raw_of_999 = gives _ _ _ plain tt tt;
-  raw_of_1000 = gives _ _ _ plain tt tt;
-  raw_of_minus_299 = gives _ _ _ deep tt tt;
-  raw_of_minus_1 = gives _ _ _ deep tt tt;
-  raw_of_199 = gives _ _ _ deep tt tt;
-  line_at_1 = lies _ _ _ plain tt tt;
-  line_at_2 = lies _ _ _ plain tt tt;
-  line_at_3 = lies _ _ _ plain tt tt;
-  line_at_1499 = lies _ _ _ plain tt tt;
-  line_at_8 = lies _ _ _ deep tt tt;
-  line_at_307 = lies _ _ _ deep tt tt;
-  line_at_509 = lies _ _ _ deep tt tt;
-}
+roundings = search (rules, gives, lies, plain, deep)

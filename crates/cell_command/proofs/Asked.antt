@@ -10,24 +10,14 @@ use Rattle.cell_command.specs.Words.{AreTaken, AskForReplay, AskForRun, AskForSi
 use Rattle.cell_command.specs.declared.words.Mode.{Mode}
 use Rattle.cell_command.specs.declared.words.Mode.TheVariants.{Replay, Sim, Run}
 
-plain_mode : (name : Text) → mode_of (name ∷ []) ≡ Replay
-unfolding clap_on_literals
-plain_mode name = refl
-
-replay_mode : (name : Text) → mode_of (name ∷ codes "replay" ∷ []) ≡ Replay
-unfolding clap_on_literals
-replay_mode name = refl
-
-sim_mode : (name : Text) → mode_of (name ∷ codes "sim" ∷ []) ≡ Sim
-unfolding clap_on_literals
-sim_mode name = refl
-
 pub replay_asked : (words : List Text) → AskForReplay words → mode_of words ≡ Replay
-replay_asked words (name, inl e) = ap mode_of e ∙ plain_mode name
-replay_asked words (name, inr e) = ap mode_of e ∙ replay_mode name
+unfolding clap_on_literals
+replay_asked words (name, inl e) = rw e refl
+replay_asked words (name, inr e) = rw e refl
 
 pub sim_asked : (words : List Text) → AskForSim words → mode_of words ≡ Sim
-sim_asked words k = ap mode_of k.1 ∙ sim_mode k.0
+unfolding clap_on_literals
+sim_asked words (name, e) = rw e refl
 
 -- words that ask for one mode don't ask for another
 pub not_for_sim : {P : Type 0} → (words : List Text) (m n : Mode) → (n ≡ Sim → ⊥) → m ≡ n → m ≡ mode_of words → AskForSim words → P

@@ -158,14 +158,12 @@ module _ (s : Shape) (uses : AllByRecursion (UsesWell s.args_override_self) s.ru
 
   plain_rows : (waiting : Waiting) (word : Text) (h : Held) → (plain_word c waiting word h).0.rows ≡ h.rows
   plain_rows (option id) word h = option_rows (arg_by_id c id) id word h
-  plain_rows idle word h = refl
-  plain_rows positional word h = refl
+  plain_rows other word h = refl
 
   flag_rows : (waiting : Waiting) (word : Text) (h : Held) (x : Outcome) → (after_flag c waiting word h x).0.rows ≡ h.rows
   flag_rows waiting word h done = refl
   flag_rows waiting word h (waits id) = refl
-  flag_rows waiting word h plain = plain_rows waiting word h
-  flag_rows waiting word h refused = plain_rows waiting word h
+  flag_rows waiting word h other = plain_rows waiting word h
 
   short_words : (o : Option Text) (waiting : Waiting) (word : Text) (h : Held) → option_map_or (λ t. bundle_fault c again t h) o [] ≡ [] → AreNumbers h.rows → AreNumbers (short_or_plain c waiting word o h).0.rows
   short_words None waiting word h e n = subst AreNumbers (sym (plain_rows waiting word h)) n
@@ -202,10 +200,8 @@ module _ (s : Shape) (uses : AllByRecursion (UsesWell s.args_override_self) s.ru
   positionals (Some a) word w h e n = positional_as _ h e n
 
   steps : (w : Walk) (word : Text) (h : Held) (x : Step) → step_fault s w.position h x ≡ [] → AreNumbers h.rows → AreNumbers (after_step c word w h x).held.rows
-  steps w word h (next waiting) e n = n
-  steps w word h (trailing position) e n = n
-  steps w word h (subcommand name) e n = n
   steps w word h value e n = positionals (arg_by_index c w.position) word w h e n
+  steps w word h other e n = n
 
   turns_from : (names : Names) (o : Option (Text × List Text)) (w : Walk) (word : Text)
       → (let met = word_met c names w.is_trailing w.waiting w.position word w.held in
@@ -239,18 +235,14 @@ defaults_kept (a ∷ rules) rows d e n =
 
 -- ---- which rows are there
 
-either_one : (a b : Bool) → b ≡ true → (a || b) ≡ true
-either_one true b e = refl
-either_one false b e = e
+or_later : (a b c : Bool) → (b ≡ true → c ≡ true) → (a || b) ≡ true → (a || c) ≡ true
+or_later true b c f h = refl
+or_later false b c f h = f h
 
 has_step : (b : Bool) (id : Text) (r r' : Row) (rs later : List Row) → r'.id ≡ r.id → (has_row id rs ≡ true → has_row id later ≡ true) → has_row id (r ∷ rs) ≡ true
     → has_row id (cond b ((r' ∷ []) ++ rs) (r ∷ later)) ≡ true
 has_step true id r r' rs later same f e = rw same e
-has_step false id r r' rs later same f e = go (bytes_eq r.id id) e
-  where
-    go : (b : Bool) → (b || has_row id rs) ≡ true → (b || has_row id later) ≡ true
-    go true h = refl
-    go false h = f h
+has_step false id r r' rs later same f e = or_later (bytes_eq r.id id) _ _ f e
 
 -- a row that is there stays
 has_kept : (id other : Text) (r0 : Row) (change : Row → Row) (rows : List Row) → ((r : Row) → (change r).id ≡ r.id) → has_row id rows ≡ true
@@ -262,7 +254,7 @@ has_kept id other r0 change (r ∷ rs) same e =
 -- the row that is changed or made is there
 has_step_made : (b : Bool) (id : Text) (r r' : Row) (rs later : List Row) → bytes_eq r.id id ≡ b → r'.id ≡ r.id → has_row id later ≡ true → has_row id (cond b ((r' ∷ []) ++ rs) (r ∷ later)) ≡ true
 has_step_made true id r r' rs later is same e = rw (same, is) refl
-has_step_made false id r r' rs later is same e = either_one (bytes_eq r.id id) (has_row id later) e
+has_step_made false id r r' rs later is same e = rw (is, e) refl
 
 has_made : (id : Text) (r0 : Row) (change : Row → Row) (rows : List Row) → bytes_eq r0.id id ≡ true → ((r : Row) → (change r).id ≡ r.id) → has_row id (at_row id (λ r. change r ∷ []) (r0 ∷ []) rows) ≡ true
 has_made id r0 change [] own same = rw own refl
@@ -336,12 +328,15 @@ help_uses : UsesWell false (filled help_rule)
 help_uses [] rows e n = cc
 help_uses (v ∷ vs) rows e n = n
 
-help_defaults : DefaultsWell (filled help_rule)
-help_defaults rows e n = go (has_row (codes "help") rows)
+help_same : (rows : List Row) → with_default rows (filled help_rule) ≡ rows
+help_same rows = go (has_row (codes "help") rows)
   where
-    go : (b : Bool) → AreNumbers (cond b rows rows)
-    go true = n
-    go false = n
+    go : (b : Bool) → cond b rows rows ≡ rows
+    go true = refl
+    go false = refl
+
+help_defaults : DefaultsWell (filled help_rule)
+help_defaults rows e n = rw help_same n
 
 -- ---- the numbers at the end
 
@@ -378,13 +373,6 @@ default_keeps id name default most rows e = go (has_row name rows)
     go true = e
     go false = has_kept id name (by_default name default) (longer default) rows (λ r. refl) e
 
-help_keeps : (id : Text) (rows : List Row) → has_row id rows ≡ true → has_row id (with_default rows (filled help_rule)) ≡ true
-help_keeps id rows e = go (has_row (codes "help") rows)
-  where
-    go : (b : Bool) → has_row id (cond b rows rows) ≡ true
-    go true = e
-    go false = e
-
 abbrev turns_flag : Rule
 turns_flag = filled (number_flag (codes "turns") max_turns (codes "1000"))
 
@@ -395,10 +383,10 @@ abbrev run_rules : List Rule
 run_rules = turns_flag ∷ tries_flag ∷ filled help_rule ∷ []
 
 turns_there : (rows : List Row) → has_row (codes "turns") (fold with_default rows run_rules) ≡ true
-turns_there rows = help_keeps (codes "turns") (with_default (with_default rows turns_flag) tries_flag) (default_keeps (codes "turns") (codes "tries") (codes "8") max_tries (with_default rows turns_flag) (default_made (codes "turns") (codes "1000") max_turns rows refl))
+turns_there rows = rw help_same (default_keeps (codes "turns") (codes "tries") (codes "8") max_tries (with_default rows turns_flag) (default_made (codes "turns") (codes "1000") max_turns rows refl))
 
 tries_there : (rows : List Row) → has_row (codes "tries") (fold with_default rows run_rules) ≡ true
-tries_there rows = help_keeps (codes "tries") (with_default (with_default rows turns_flag) tries_flag) (default_made (codes "tries") (codes "8") max_tries (with_default rows turns_flag) refl)
+tries_there rows = rw help_same (default_made (codes "tries") (codes "8") max_tries (with_default rows turns_flag) refl)
 
 for_turns : IsFor (codes "turns") max_turns
 for_turns text n = (λ e. n, λ e. cc)

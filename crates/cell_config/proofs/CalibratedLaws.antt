@@ -1,6 +1,7 @@
 -- Settings that were read: their scales fit the axes, and their curves are near the lines.
-use Rattle.std.proofs.Common.{◌≡◌, ◌<◌, ◌≤◌, ℕ, nat_le, ℤ, pos, negsuc, ◌-ℤ◌, ◌<ℤ◌, ◌≤ℤ◌, Bool, true, false, ◌&&◌, cond, List, [], ◌∷◌, length, map, codes, Option, Some, None, Result, Ok, Err, inl, inr, refl, subst, arith, leb-true}
+use Rattle.std.proofs.Common.{◌≡◌, ◌<◌, ◌≤◌, ℕ, nat_le, ℤ, pos, negsuc, ◌-ℤ◌, ◌≤ℤ◌, Bool, true, false, cond, List, [], ◌∷◌, length, map, codes, Option, Some, None, Result, Ok, Err, inl, inr, refl, subst, arith}
 use Rattle.std.proofs.lemmas.Int.{ints}
+use Rattle.std.proofs.lemmas.Bool.Decides.{nat_tests}
 use Rattle.std.specs.Prelude.{int_lt}
 use Rattle.std.specs.Int.Signed.{lt_z_no}
 use Rattle.std.proofs.lemmas.Float.{T_from_false}
@@ -46,23 +47,10 @@ unless_chosen : {A : Type 0} → (b : Bool) (x y : A) (fault : ConfigFault) → 
 unless_chosen true x y fault h = absurd (cc)
 unless_chosen false x y fault h = (refl, cc)
 
-left : (a b : Bool) → (a && b) ≡ true → a ≡ true
-left true b h = refl
-left false b h = absurd (cc)
-
-right : (a b : Bool) → (a && b) ≡ true → b ≡ true
-right true b h = h
-right false b h = absurd (cc)
-
 -- ---- scales
 
 number_fits : (least most : ℕ) (z : ℤ) (n : ℕ) → number_within least most z ≡ Ok n → (least ≤ n) × (n ≤ most)
-number_fits least most (pos k) n h =
-    let is = chosen (nat_le least k && nat_le k most) k n Range h in
-    let low : least ≤ k = leb-true least k (left (nat_le least k) (nat_le k most) is.0) in
-    let high : k ≤ most = leb-true k most (right (nat_le least k) (nat_le k most) is.0) in
-    let same : k ≡ n = is.1 in
-    (omega arith, omega arith)
+number_fits least most (pos k) n h = (grind (arith, nat_tests), grind (arith, nat_tests))
 number_fits least most (negsuc k) n h = absurd (cc)
 
 record IsRaw (end : ℤ) (raw : ℕ × ℕ) : Type 0 where
@@ -95,17 +83,11 @@ tol_taken ms tol h = at_key_taken IsTol (get_member (codes "tol") ms) as_integer
 
 axis_made : (end : ℤ) (raw : ℕ × ℕ) (tol : ℕ) → IsAxisEnd end → IsRaw end raw → IsTol tol → IsAxisScale end (axis_scale end raw tol)
 axis_made end raw tol k r t =
-    let above : pos 0 <ℤ end = k.0 in
-    let within : end ≤ℤ pos 4000 = k.1 in
-    let wide : end ≤ℤ (pos raw.1 -ℤ pos raw.0) = r.wide in
-    let fits : raw.1 < 65536 = r.fits in
-    let least : 1 ≤ tol = t.0 in
-    let most : tol ≤ 10 = t.1 in
     record {
       scale = record {
         raws_rise = omega (arith, ints);
-        raws_fit = fits;
-        ats_rise = above;
+        raws_fit = r.fits;
+        ats_rise = k.0;
         lowest = omega (arith, ints);
         highest = omega (arith, ints);
         finest = omega (arith, ints);
@@ -113,7 +95,7 @@ axis_made end raw tol k r t =
       };
       from = refl;
       to = refl;
-      wide = wide;
+      wide = r.wide;
     }
 
 -- ---- sections
@@ -157,68 +139,31 @@ section_taken : (key : List ℕ) (end : ℤ) (ms : Members) (section : Section) 
 section_taken key end ms section k h =
     at_key_taken (IsSection end) (get_member key ms) as_table (default_section end) (section_of end) section (default_taken end k) (λ inner is. section_within end inner section k is) h
 
--- ---- the five sections
+-- ---- settings, by the five sections
 
-arm_is_axis : IsAxisEnd arm_end
-arm_is_axis = (omega (arith, ints), omega (arith, ints))
+abbrev settings_by : ModelState → List Turn → List Section → Settings
+settings_by start turns sections = record { start = start; schedule = turns; points = map (λ (section : Section). section.0) sections; curves = map (λ (section : Section). section.1) sections }
 
-rotation_is_axis : IsAxisEnd rotation_end
-rotation_is_axis = (omega (arith, ints), omega (arith, ints))
-
-turn_is_axis : IsAxisEnd turn_end
-turn_is_axis = (omega (arith, ints), omega (arith, ints))
-
-gripper_is_axis : IsAxisEnd gripper_end
-gripper_is_axis = (omega (arith, ints), omega (arith, ints))
-
-record AreSections (sections : List Section) : Type 0 where
-  pub arm1 : Section
-  pub arm2 : Section
-  pub rotation : Section
-  pub turn : Section
-  pub gripper : Section
-  pub five : sections ≡ arm1 ∷ arm2 ∷ rotation ∷ turn ∷ gripper ∷ []
-  pub first : IsSection arm_end arm1
-  pub second : IsSection arm_end arm2
-  pub third : IsSection rotation_end rotation
-  pub fourth : IsSection turn_end turn
-  pub fifth : IsSection gripper_end gripper
-
-sections_taken : (ms : Members) (sections : List Section) → sections_at ms ≡ Ok sections → AreSections sections
-sections_taken ms sections h =
+sections_taken : (start : ModelState) (turns : List Turn) (ms : Members) (sections : List Section) → sections_at ms ≡ Ok sections → AreCalibrated (settings_by start turns sections)
+sections_taken start turns ms sections h =
     let one = both_taken (section_at (codes "arm1") arm_end ms) (λ arm1. section_at (codes "arm2") arm_end ms >>= (λ arm2. section_at (codes "rotation") rotation_end ms >>= (λ rotation. section_at (codes "turn") turn_end ms >>= (λ turn. section_at (codes "gripper") gripper_end ms >>= (λ gripper. Ok (arm1 ∷ arm2 ∷ rotation ∷ turn ∷ gripper ∷ [])))))) sections h in
     let two = both_taken (section_at (codes "arm2") arm_end ms) (λ arm2. section_at (codes "rotation") rotation_end ms >>= (λ rotation. section_at (codes "turn") turn_end ms >>= (λ turn. section_at (codes "gripper") gripper_end ms >>= (λ gripper. Ok (one.0 ∷ arm2 ∷ rotation ∷ turn ∷ gripper ∷ []))))) sections one.1.1 in
     let three = both_taken (section_at (codes "rotation") rotation_end ms) (λ rotation. section_at (codes "turn") turn_end ms >>= (λ turn. section_at (codes "gripper") gripper_end ms >>= (λ gripper. Ok (one.0 ∷ two.0 ∷ rotation ∷ turn ∷ gripper ∷ [])))) sections two.1.1 in
     let four = both_taken (section_at (codes "turn") turn_end ms) (λ turn. section_at (codes "gripper") gripper_end ms >>= (λ gripper. Ok (one.0 ∷ two.0 ∷ three.0 ∷ turn ∷ gripper ∷ []))) sections three.1.1 in
     let five = both_taken (section_at (codes "gripper") gripper_end ms) (λ gripper. Ok (one.0 ∷ two.0 ∷ three.0 ∷ four.0 ∷ gripper ∷ [])) sections four.1.1 in
-    record {
-      arm1 = one.0;
-      arm2 = two.0;
-      rotation = three.0;
-      turn = four.0;
-      gripper = five.0;
-      five = cc;
-      first = section_taken (codes "arm1") arm_end ms one.0 arm_is_axis one.1.0;
-      second = section_taken (codes "arm2") arm_end ms two.0 arm_is_axis two.1.0;
-      third = section_taken (codes "rotation") rotation_end ms three.0 rotation_is_axis three.1.0;
-      fourth = section_taken (codes "turn") turn_end ms four.0 turn_is_axis four.1.0;
-      fifth = section_taken (codes "gripper") gripper_end ms five.0 gripper_is_axis five.1.0;
-    }
-
--- ---- settings
-
-abbrev settings_by : ModelState → List Turn → List Section → Settings
-settings_by start turns sections = record { start = start; schedule = turns; points = map (λ (section : Section). section.0) sections; curves = map (λ (section : Section). section.1) sections }
-
-by_sections : (start : ModelState) (turns : List Turn) (sections : List Section) → AreSections sections → AreCalibrated (settings_by start turns sections)
-by_sections start turns sections k =
-    rw k.five (record {
+    let first = section_taken (codes "arm1") arm_end ms one.0 (omega (arith, ints), omega (arith, ints)) one.1.0 in
+    let second = section_taken (codes "arm2") arm_end ms two.0 (omega (arith, ints), omega (arith, ints)) two.1.0 in
+    let third = section_taken (codes "rotation") rotation_end ms three.0 (omega (arith, ints), omega (arith, ints)) three.1.0 in
+    let fourth = section_taken (codes "turn") turn_end ms four.0 (omega (arith, ints), omega (arith, ints)) four.1.0 in
+    let fifth = section_taken (codes "gripper") gripper_end ms five.0 (omega (arith, ints), omega (arith, ints)) five.1.0 in
+    let same : one.0 ∷ two.0 ∷ three.0 ∷ four.0 ∷ five.0 ∷ [] ≡ sections = cc in
+    subst (λ them. AreCalibrated (settings_by start turns them)) {x = one.0 ∷ two.0 ∷ three.0 ∷ four.0 ∷ five.0 ∷ []} same (record {
       points = (
-        record { arm1 = k.arm1.0; arm2 = k.arm2.0; rotation = k.rotation.0; turn = k.turn.0; gripper = k.gripper.0 },
+        record { arm1 = one.0.0; arm2 = two.0.0; rotation = three.0.0; turn = four.0.0; gripper = five.0.0 },
         refl,
-        record { arm1 = k.first.axis; arm2 = k.second.axis; rotation = k.third.axis; turn = k.fourth.axis; gripper = k.fifth.axis },
+        record { arm1 = first.axis; arm2 = second.axis; rotation = third.axis; turn = fourth.axis; gripper = fifth.axis },
       );
-      curves = (k.first.curve, (k.second.curve, (k.third.curve, (k.fourth.curve, (k.fifth.curve, tt)))));
+      curves = (first.curve, (second.curve, (third.curve, (fourth.curve, (fifth.curve, tt)))));
     })
 
 table_taken : (ms : Members) (settings : Settings) → settings_in ms ≡ Ok settings → AreCalibrated settings
@@ -228,7 +173,7 @@ table_taken ms settings h =
     let turns = both_taken (schedule_at ms) (λ turns. sections_at ms >>= (λ sections. Ok (settings_by start.0 turns sections))) settings start.1.1 in
     let sections = both_taken (sections_at ms) (λ sections. Ok (settings_by start.0 turns.0 sections)) settings turns.1.1 in
     let same : settings_by start.0 turns.0 sections.0 ≡ settings = cc in
-    subst AreCalibrated {x = settings_by start.0 turns.0 sections.0} same (by_sections start.0 turns.0 sections.0 (sections_taken ms sections.0 sections.1.0))
+    subst AreCalibrated {x = settings_by start.0 turns.0 sections.0} same (sections_taken start.0 turns.0 ms sections.0 sections.1.0)
 
 pub calibrated : (bytes : List ℕ) (settings : Settings) → settings_of bytes ≡ Ok settings → AreCalibrated settings
 unfolding settings_of

@@ -1,12 +1,13 @@
 -- Whether the pairs of some values make a curve.
-use Rattle.std.proofs.Common.{◌≡◌, suc, ◌<◌, ◌∙◌, ◌&&◌, ◌∷◌, [], List, length, map, cond, Bool, true, false, Option, Some, None, is_some, Ok, Err, sym, ap, refl, arith}
+use Rattle.std.proofs.Common.{◌≡◌, suc, ◌<◌, ◌∙◌, ◌∷◌, [], List, length, map, cond, Bool, true, false, Option, Some, None, is_some, Ok, Err, sym, ap, refl, arith}
 use Rattle.std.specs.List.{filter_map, list_all, cons_option}
 use Rattle.std.proofs.lemmas.List.{length-map}
-use Rattle.toml.specs.Data.{Data, Items, string, integer, float, boolean, datetime, array, table, as_array}
+use Rattle.toml.specs.Data.{Data, Items, array, as_array}
 use Rattle.toml.specs.View.{view, items_of, items_view}
 use Rattle.toml.specs.declared.value.Value.{Value}
 use Rattle.cell_calib.specs.Names.{Scale, Pair, HasCount, IsCurve, is_curve}
 use Rattle.cell_calib.proofs.CurveTestLemmas.{passes_as_curve, curve_of_pass}
+use Rattle.cell_config.proofs.Tests.{both_hold, not_true}
 use Rattle.cell_config.specs.Settings.{curve_of, curve_within, is_measured, is_pair, measured_of, pairs_in, values_in}
 use Rattle.cell_config.specs.declared.fault.ConfigFault.TheVariants.{Range}
 
@@ -15,10 +16,6 @@ by_fit s values b e = ap (λ (t : Bool). cond t (curve_of s (filter_map measured
 
 by_test : (s : Scale) (pairs : List Pair) (b : Bool) → is_curve s pairs ≡ b → curve_of s pairs ≡ cond b (Ok pairs) (Err Range)
 by_test s pairs b e = ap (λ (t : Bool). cond t (Ok pairs) (Err Range)) e
-
-not_true : (b : Bool) → (b ≡ true → ⊥) → b ≡ false
-not_true true h = absurd (h refl)
-not_true false h = refl
 
 pub curve_made : (s : Scale) (pairs kept : List Pair) → IsCurve s pairs → kept ≡ pairs → curve_of s pairs ≡ Ok kept
 curve_made s pairs kept curve same = by_test s pairs true (passes_as_curve s pairs curve) ∙ ap (λ (ps : List Pair). Ok ps) (sym same)
@@ -30,17 +27,9 @@ length_put : (o : Option Pair) (pairs : List Pair) → is_some o ≡ true → le
 length_put (Some pair) pairs h = refl
 length_put None pairs h = absurd (cc)
 
-left : (a b : Bool) → (a && b) ≡ true → a ≡ true
-left true b h = refl
-left false b h = absurd (cc)
-
-right : (a b : Bool) → (a && b) ≡ true → b ≡ true
-right true b h = h
-right false b h = absurd (cc)
-
 all_counted : (values : List Data) → list_all is_measured values ≡ true → length (filter_map measured_of values) ≡ length values
 all_counted [] h = refl
-all_counted (value ∷ more) h = length_put (measured_of value) (filter_map measured_of more) (left _ _ h) ∙ ap suc (all_counted more (right _ _ h))
+all_counted (value ∷ more) h = length_put (measured_of value) (filter_map measured_of more) (both_hold _ _ h).0 ∙ ap suc (all_counted more (both_hold _ _ h).1)
 
 -- more values than a curve has pairs, all of which fit, are too many pairs
 pub beyond_count : (vs : List Value) → 32 < length vs → list_all is_measured (map view vs) ≡ true → HasCount (filter_map measured_of (map view vs)) → ⊥
@@ -62,12 +51,7 @@ values_viewed (d ∷ ds) = ap (λ (more : List Data). d ∷ more) (values_viewed
 -- a value with items is an array of them
 pub array_is : (value : Data) (items : Items) → Some items ≡ as_array value → value ≡ array items
 array_is (array items) found e = cc
-array_is (string s) items e = absurd (cc)
-array_is (integer z) items e = absurd (cc)
-array_is (float x) items e = absurd (cc)
-array_is (boolean b) items e = absurd (cc)
-array_is (datetime d) items e = absurd (cc)
-array_is (table ms) items e = absurd (cc)
+array_is other items e = absurd (cc)
 
 pub pairs_found : (value : Data) (vs : List Value) (b : Bool) → value ≡ array (items_view vs) → b ≡ list_all is_pair (map view vs) → pairs_in value ≡ cond b (Some (map view vs)) None
 pairs_found value vs b is test =

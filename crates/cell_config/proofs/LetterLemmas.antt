@@ -1,5 +1,5 @@
 -- A text of letters, and one with a character that is no letter. Every letter is ASCII.
-use Rattle.std.proofs.Common.{arith, zero, suc, subst, take, take_all, Bool, ◌+◌, ℕ, ◌≡◌, ◌<◌, ◌≤◌, ◌∙◌, ◌++◌, ◌∷◌, [], ◌&&◌, List, length, get_or, true, false, Option, Some, None, is_some, Ok, Err, sym, ap, ap₂, refl, lt-ltb, le-ltb}
+use Rattle.std.proofs.Common.{arith, zero, suc, subst, take, take_all, ◌+◌, ℕ, ◌≡◌, ◌<◌, ◌≤◌, ◌∙◌, ◌++◌, ◌∷◌, [], ◌&&◌, List, length, get_or, true, false, Option, Some, None, is_some, Ok, Err, sym, ap, ap₂, refl, lt-ltb, le-ltb}
 use Rattle.std.specs.List.{filter_map, list_all, cons_option, slice_index}
 use Rattle.std.specs.Str.{chars, IsAscii, IsUtf8}
 use Rattle.std.proofs.lemmas.Str.{chars-IsAscii, encodes-IsAscii, encodes-chars}
@@ -7,6 +7,7 @@ use Rattle.std.proofs.lemmas.List.{take_more}
 use Rattle.std.proofs.lemmas.List.Elements.{filter_map-append}
 use Rattle.std.proofs.lemmas.List.Folds.{list_all-append, list_all_at}
 use Rattle.cell_notes.specs.declared.schedule.Turn.{Turn}
+use Rattle.cell_config.proofs.Tests.{both_hold, not_true}
 use Rattle.cell_config.specs.Letters.{is_letter, max_letters, turn_of, turns_of}
 use Rattle.cell_config.specs.declared.fault.ConfigFault.TheVariants.{Range, Letter}
 
@@ -27,32 +28,20 @@ letters-more read letter turn e all = list_all-append is_letter read (letter ∷
 letter_is_ascii : (letter : ℕ) → is_letter letter ≡ true → letter < 128
 letter_is_ascii letter is = grind arith
 
-and_left : (a b : Bool) → (a && b) ≡ true → a ≡ true
-and_left true b e = refl
-and_left false b e = cc
-
-and_right : (a b : Bool) → (a && b) ≡ true → b ≡ true
-and_right true b e = e
-and_right false b e = cc
-
 letters_are_ascii : (read : List ℕ) → list_all is_letter read ≡ true → IsAscii read
 letters_are_ascii [] all i = omega arith
-letters_are_ascii (letter ∷ read) all zero = letter_is_ascii letter (and_left (is_letter letter) (list_all is_letter read) all)
-letters_are_ascii (letter ∷ read) all (suc i) = letters_are_ascii read (and_right (is_letter letter) (list_all is_letter read) all) i
+letters_are_ascii (letter ∷ read) all zero = letter_is_ascii letter (both_hold (is_letter letter) (list_all is_letter read) all).0
+letters_are_ascii (letter ∷ read) all (suc i) = letters_are_ascii read (both_hold (is_letter letter) (list_all is_letter read) all).1 i
 
 -- a text whose characters are letters has a byte for each
 bytes_are_letters : (text : List ℕ) → IsUtf8 text → list_all is_letter (chars text) ≡ true → chars text ≡ text
 bytes_are_letters text utf8 all = sym (encodes-IsAscii (chars text) (letters_are_ascii (chars text) all)) ∙ encodes-chars text utf8
 
-not_letters : (b : Bool) → ¬ (b ≡ true) → b ≡ false
-not_letters true other = absurd (other refl)
-not_letters false other = refl
-
 -- so a text that isn't ASCII has another character
 pub turns_of-not_ascii : (text : List ℕ) → IsUtf8 text → length (chars text) ≤ max_letters → ¬ IsAscii text → turns_of text ≡ Err Letter
 turns_of-not_ascii text utf8 short other =
     let none : list_all is_letter (chars text) ≡ false =
-    not_letters (list_all is_letter (chars text)) (λ all. other (subst IsAscii (bytes_are_letters text utf8 all) (letters_are_ascii (chars text) all)))
+    not_true (list_all is_letter (chars text)) (λ all. other (subst IsAscii (bytes_are_letters text utf8 all) (letters_are_ascii (chars text) all)))
     in
     rw (le-ltb max_letters (length (chars text)) short, none) refl
 

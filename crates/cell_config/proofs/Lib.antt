@@ -1,3 +1,4 @@
+mod Tests
 mod LetterLemmas
 mod SettingsLemmas
 mod MeasuredLemmas

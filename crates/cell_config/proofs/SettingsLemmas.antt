@@ -16,7 +16,7 @@ use Rattle.cell_config.specs.Settings.{Section, Settings, byte_limit, schedule_a
 use Rattle.cell_config.specs.Configured.{Refuses, Says, shown}
 use Rattle.cell_config.specs.declared.configuration.Config.{Config}
 use Rattle.cell_config.specs.declared.fault.ConfigFault.{ConfigFault}
-use Rattle.cell_config.specs.declared.fault.ConfigFault.TheVariants.{Read, Long, Text, Unknown, Missing, Kind, Start, Range, Letter, Memory}
+use Rattle.cell_config.specs.declared.fault.ConfigFault.TheVariants.{Read, Long, Text, Memory}
 
 pub settings_of-long : (bytes : List ℕ) → byte_limit < length bytes → settings_of bytes ≡ Err Long
 unfolding settings_of
@@ -51,14 +51,7 @@ says_from bytes given (Err fault) same h = refusal fault (λ other. sym same ∙
     refusal : (fault : ConfigFault) → (fault ≢ Memory → settings_of bytes ≡ Err fault) → Refuses bytes fault
     refusal Read h = tt
     refusal Memory h = tt
-    refusal Long h = h (λ e. absurd (cc))
-    refusal Text h = h (λ e. absurd (cc))
-    refusal Unknown h = h (λ e. absurd (cc))
-    refusal Missing h = h (λ e. absurd (cc))
-    refusal Kind h = h (λ e. absurd (cc))
-    refusal Start h = h (λ e. absurd (cc))
-    refusal Range h = h (λ e. absurd (cc))
-    refusal Letter h = h (λ e. absurd (cc))
+    refusal other h = h (λ e. absurd (cc))
 
 -- the settings of a table whose parts were read
 map_first : (curves : List Curved) → map (λ (section : Section). section.0) (map (λ (c : Curved). (c.scale, pairs_of c)) curves) ≡ map (λ (c : Curved). c.scale) curves

@@ -72,7 +72,7 @@ impl Watcher for AskSeeker {
 }
 
 /// The turns that lead a simulated cell to the end of a walk. Each machine has turns until it asks,
-/// once for each turn of the way that asks. At the end each that the ending is about asks once more.
+/// once for each turn of the way that asks. At the end each that the ending is about asks again.
 ///
 /// `Apart` if interlock and steps aren't those of the walk's end then, if a machine asked or was
 /// answered something else there, and if the ending is about no machine; `Memory` if memory ran out.

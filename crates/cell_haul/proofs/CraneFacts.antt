@@ -1,6 +1,6 @@
 -- What the crane knows of the state at each step of its program.
 use Rattle.std.proofs.Common.{◌≡◌, ℕ, ℤ, Bool, true, false, if◌then◌else◌, List, [], ◌∷◌, Option, Some, None, refl, ap}
-use Rattle.cell_rules.specs.Types.{Machine, Crane, Z5, Z6, Posture, Closed, Moving, OpenIn, OpenOut, Call, Claim}
+use Rattle.cell_rules.specs.Types.{Machine, Crane, Z5, Z6, Posture, OpenIn, OpenOut, Call, Claim}
 use Rattle.cell_rules.specs.Types.{Give, Take, Release, Inquire, Done, Shown, Event, transfer_of}
 use Rattle.cell_calib.specs.Scale.{Scale}
 use Rattle.cell_rules.specs.Names.{ModelState, is_full, IsSound, is_owned_by, is_open, is_received_by}
@@ -12,28 +12,24 @@ use Rattle.cell_control.proofs.Facts.{Fact, Finds, AreSo, are_foreign, are_same,
 use Rattle.cell_haul.specs.Names.{row_at, row_of, step_after_inquiry, first_step, crane_start, after_done, is_done}
 use Rattle.cell_haul.specs.Names.{gripper_zone, crane_steps}
 use Rattle.cell_haul.specs.declared.crane.CraneStep.{CraneStep}
-use Rattle.cell_haul.specs.declared.crane.CraneStep.TheVariants.{RaiseToFetch, TravelToDeposit, AwaitPlate}
+use Rattle.cell_haul.specs.declared.crane.CraneStep.TheVariants.{RaiseToFetch, AwaitPlate}
 use Rattle.cell_haul.specs.declared.crane.CraneStep.TheVariants.{LowerToPlate, GripPlate, RaiseWithPlate}
-use Rattle.cell_haul.specs.declared.crane.CraneStep.TheVariants.{ReleaseDeposit, TravelToFeed, ClaimFeed, LowerToFeed}
+use Rattle.cell_haul.specs.declared.crane.CraneStep.TheVariants.{ReleaseDeposit, ClaimFeed, LowerToFeed}
 use Rattle.cell_haul.specs.declared.crane.CraneStep.TheVariants.{DropPlate, RaiseFromFeed}
 use Rattle.cell_haul.specs.declared.crane.CraneProgress.{CraneProgress}
 use Rattle.cell_haul.specs.declared.crane.CraneStep.TheVariants.{TakePlate, GivePlate}
 
 abbrev pub facts_at : CraneStep → List Fact
-facts_at RaiseToFetch = []
-facts_at TravelToDeposit = []
-facts_at AwaitPlate = []
 facts_at LowerToPlate = Finds Z5 OpenOut ∷ []
 facts_at GripPlate = Finds Z5 OpenOut ∷ []
 facts_at RaiseWithPlate = Finds Z5 OpenOut ∷ []
 facts_at TakePlate = Finds Z5 OpenOut ∷ []
 facts_at ReleaseDeposit = Finds Z5 OpenOut ∷ []
-facts_at TravelToFeed = []
-facts_at ClaimFeed = []
 facts_at LowerToFeed = Finds Z6 OpenIn ∷ []
 facts_at DropPlate = Finds Z6 OpenIn ∷ []
 facts_at RaiseFromFeed = Finds Z6 OpenIn ∷ []
 facts_at GivePlate = Finds Z6 OpenIn ∷ []
+facts_at _ = []
 
 abbrev pub CraneKnows : CraneProgress → ModelState → Type 0
 CraneKnows p z = AreSo Crane z (facts_at p.step)
@@ -48,15 +44,7 @@ crane_begins z = begins (is_full z OnCrane) z
 -- after a drive, or after switching the magnet
 done_drive : (s : CraneStep) (p : CraneProgress) (z : ModelState) → (row_at s p).call ≡ None → AreSo Crane z (facts_at s) → CraneKnows (row_at s p).next z
 done_drive RaiseToFetch p z e k = k
-done_drive TravelToDeposit p z e k = k
-done_drive LowerToPlate p z e k = k
-done_drive GripPlate p z e k = k
-done_drive RaiseWithPlate p z e k = k
-done_drive TravelToFeed p z e k = k
-done_drive LowerToFeed p z e k = k
-done_drive DropPlate p z e k = k
-done_drive RaiseFromFeed p z e k = k
-done_drive _ p z e k = cc
+done_drive _ p z e k = first_of (assumption, cc)
 
 drive_on : (b : Bool) (p : CraneProgress) (z : ModelState) → (row_of p).call ≡ None → CraneKnows p z → CraneKnows (if b then after_done p else p) z
 drive_on true p z e k = done_drive p.step p z e k
@@ -64,17 +52,13 @@ drive_on false p z e k = k
 
 -- a plate comes to the crane only while the deposit belt's zone is open outward
 gives_out : (q : Posture) → is_received_by (Some Crane) (transfer_of Z5 q) ≡ true → q ≡ OpenOut
-gives_out Closed e = cc
-gives_out Moving e = cc
-gives_out OpenIn e = cc
 gives_out OpenOut e = refl
+gives_out _ e = cc
 
 -- the feed belt opens its zone to the crane only inward
 opens_in : (q : Posture) → is_open q ≡ true → is_of_some_pose Z6 q ≡ true → q ≡ OpenIn
-opens_in Closed e f = cc
-opens_in Moving e f = cc
 opens_in OpenIn e f = refl
-opens_in OpenOut e f = cc
+opens_in _ e f = cc
 
 -- after a call that is done
 done_call : (s : CraneStep) (p : CraneProgress) (c : Call) (z : ModelState) → (row_at s p).call ≡ Some c → reply z Crane c ≡ Done → IsSound z → AreSo Crane z (facts_at s) → CraneKnows (row_at s p).next (changed z Crane c)

@@ -10,5 +10,4 @@ use Rattle.cell_haul.specs.declared.crane.CraneReading.{CraneReading}
 pub senses_near : (points : Scale) (gives : ℕ → ℤ → Type 0) (s : CraneSense) (r : Result CraneReading SensorFault) → Senses points gives s r → Senses points (IsReading points) s r
 senses_near points gives s (Ok r) k = record { no_clash = k.no_clash; at_least = k.at_least; at_most = k.at_most; near = k.near; given = k.near; switches = k.switches; high = k.high }
 senses_near points gives s (Err Clash) k = k
-senses_near points gives s (Err Low) k = k
-senses_near points gives s (Err High) k = k
+senses_near points gives s (Err _) k = k

@@ -1,6 +1,6 @@
 -- What the feed belt knows of the state at each step of its program.
-use Rattle.std.proofs.Common.{◌≡◌, pos, Bool, true, false, ◌&&◌, not, if◌then◌else◌, List, [], ◌∷◌, Some, None, refl, sym, ap, ◌∙◌}
-use Rattle.cell_rules.specs.Types.{Feed, Z1, Z6, FeedEntry, FeedEnd, Posture, Closed, Moving, OpenIn, OpenOut}
+use Rattle.std.proofs.Common.{◌≡◌, pos, Bool, true, false, ◌&&◌, not, if◌then◌else◌, List, [], ◌∷◌, Some, None, refl, sym, ap, ◌∙◌, arith}
+use Rattle.cell_rules.specs.Types.{Feed, Z1, Z6, FeedEntry, FeedEnd, Posture, Closed, Moving, OpenIn}
 use Rattle.cell_rules.specs.Types.{Landing, Running, Halted, Call, Claim, Give, Take, Release, SetPose, Advance, Done}
 use Rattle.cell_rules.specs.Types.{Event, transfer_of}
 use Rattle.cell_rules.specs.Names.{has, ModelState, is_full, one_if, IsSound, is_open, is_of_some_pose, owns}
@@ -63,7 +63,7 @@ feed_begins z = record { facts = tt; plates = refl; entry_noted = refl; last_not
 
 -- after a drive
 done_drive : (s : FeedStep) (p : FeedProgress) (z : ModelState) → (row_at s p).call ≡ None → KnowsAt s p.entry p.last z → FeedKnows (row_at s p).next z
-done_drive RunIn p z e k = record { facts = k.facts; plates = k.plates; entry_noted = k.entry_noted; last_noted = k.last_noted }
+done_drive RunIn p z e k = assumption
 done_drive RunOut p z e k = record { facts = k.facts; plates = k.plates; entry_noted = k.entry_noted; last_noted = k.last_noted }
 done_drive _ p z e k = cc
 
@@ -79,10 +79,8 @@ at_choice false false p z o e l = record { facts = (o, tt); plates = refl; entry
 
 -- the zone shared with the table opens only inward
 opens_in : (q : Posture) → is_open q ≡ true → is_of_some_pose Z1 q ≡ true → q ≡ OpenIn
-opens_in Closed e f = cc
-opens_in Moving e f = cc
 opens_in OpenIn e f = refl
-opens_in OpenOut e f = cc
+opens_in _ e f = cc
 
 -- a plate comes to the entry, and one leaves the end
 taken_from : (z : ModelState) → posture_at z Z6 ≡ OpenIn → (is_full (changed z Feed (Take Z6)) FeedEntry ≡ true) × (is_full (changed z Feed (Take Z6)) FeedEnd ≡ is_full z FeedEnd)
@@ -114,29 +112,21 @@ done_call s p c z e d sound k = cc
 pub feed-knowing : Knowing feed_steps FeedKnows
 feed-knowing = record {
   foreign = λ p z n c apart sound k.
-      record {
-        facts = are_foreign Feed n c z (facts_at p.step) apart sound k.facts;
-        plates = k.plates;
-        entry_noted = full-foreign z n c FeedEntry sound apart ∙ k.entry_noted;
-        last_noted = full-foreign z n c FeedEnd sound apart ∙ k.last_noted;
-      };
+      assumption (
+        are_foreign Feed n c z (facts_at p.step) apart sound k.facts,
+        full-foreign z n c FeedEntry sound apart ∙ k.entry_noted,
+        full-foreign z n c FeedEnd sound apart ∙ k.last_noted,
+      );
   after_drive = λ p s act z e d k. drive_on act.belt p z e k;
   after_done = λ p z c e d sound k. done_call p.step p c z e d sound k;
   after_inquiry = λ p z c owner flag posture e d sound k. k;
   same_for = λ p z w same k.
-      record {
-        facts = are_same Feed z w (facts_at p.step) same k.facts;
-        plates = k.plates;
-        entry_noted = same.places FeedEntry refl ∙ k.entry_noted;
-        last_noted = same.places FeedEnd refl ∙ k.last_noted;
-      };
+      assumption (are_same Feed z w (facts_at p.step) same k.facts, same.places FeedEntry refl ∙ k.entry_noted, same.places FeedEnd refl ∙ k.last_noted);
 }
 
 -- while the belt runs in, no plate is at its end
 none_at_end : (b entry last : Bool) → b ≡ last → (entry && not last) ≡ true → b ≡ false
-none_at_end b true true s f = cc
-none_at_end b false true s f = cc
-none_at_end b entry false s f = s
+none_at_end b entry last s f = grind arith
 
 -- so in a step that drives the belt holds the crane's zone, which moves, and with a plate at its end the table's zone
 pub drives_at : (s : FeedStep) (p : FeedProgress) (z : ModelState) → (row_at s p).call ≡ None → KnowsAt s p.entry p.last z
@@ -147,7 +137,7 @@ drives_at _ p z e k = cc
 
 one_is_full : (b : Bool) → pos (one_if b) ≡ pos 1 → b ≡ true
 one_is_full true e = refl
-one_is_full false e = cc
+one_is_full _ e = cc
 
 pub drives-held : (opening : ModelState) (seen : List Event) (p : FeedProgress) → IsSound opening → IsLegal opening seen → IsReached feed_steps opening seen p → (row_of p).call ≡ None → HoldsForRun opening seen
 drives-held opening seen p sound legal r e =

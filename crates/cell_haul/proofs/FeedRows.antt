@@ -7,40 +7,14 @@ use Rattle.cell_control.proofs.WaitLemmas.{stays_never, stays_until_free_and_ope
 use Rattle.cell_haul.specs.Names.{feed_steps}
 use Rattle.cell_haul.specs.declared.feed.FeedStep.{FeedStep}
 use Rattle.cell_haul.specs.declared.feed.FeedProgress.{FeedProgress}
-use Rattle.cell_haul.specs.declared.feed.FeedStep.TheVariants.{ClaimEntry, RunIn, RunOut}
+use Rattle.cell_haul.specs.declared.feed.FeedStep.TheVariants.{ClaimEntry, RunIn}
 use Rattle.cell_haul.specs.FeedProgram.{row_at}
-use Rattle.cell_haul.specs.FeedExamples.{begins_with, FeedAsks, FeedDrives, FeedRowsAreMet}
+use Rattle.cell_haul.specs.FeedExamples.{begins_with, FeedRowsAreMet}
 
 begins : (s : ModelState) (entry last : Bool) → feed_steps.start (record s { full = record s.full { feed_entry = entry; feed_end = last } }) ≡ begins_with entry last
 begins s false false = refl
 begins s true false = refl
-begins s false true = refl
-begins s true true = refl
-
-asks : (entry last : Bool) → FeedAsks entry last
-asks entry last = record {
-  claims_entry = record { asks = refl; stays = stays_never; leads = refl };
-  claims_entry_with_plate = record { asks = refl; stays = stays_never; leads = refl };
-  claims_entry_with_plate_at_end = record { asks = refl; stays = stays_never; leads = refl };
-  poses_landing = record { asks = refl; stays = stays_never; leads = refl };
-  releases_entry = record { asks = refl; stays = stays_never; leads = refl };
-  takes = record { asks = refl; stays = stays_until_owner; leads = refl };
-  starts_in = record { asks = refl; stays = stays_never; leads = refl };
-  moves_on = record { asks = refl; stays = stays_never; leads = refl };
-  claims_exit = record { asks = refl; stays = stays_until_free_and_open; leads = refl };
-  starts_out = record { asks = refl; stays = stays_never; leads = refl };
-  halts = record { asks = refl; stays = stays_never; leads = refl };
-  gives = record { asks = refl; stays = stays_never; leads = refl };
-  gives_with_plate = record { asks = refl; stays = stays_never; leads = refl };
-}
-
-drives : (entry last : Bool) → FeedDrives entry last
-drives entry last = record {
-  in_before_barrier = record { asks_nothing = refl; drives = refl; drives_only = λ other e. e; leads = refl };
-  in_at_barrier = record { asks_nothing = refl; drives = refl; drives_only = λ other e. e; leads = refl };
-  out_in_barrier = record { asks_nothing = refl; drives = refl; drives_only = λ other e. e; leads = refl };
-  out_of_barrier = record { asks_nothing = refl; drives = refl; drives_only = λ other e. e; leads = refl };
-}
+begins s _ _ = refl
 
 -- answers that can't come
 no_inquiry : (s : FeedStep) (p : FeedProgress) → is_inquiry (row_at s p).call ≡ true → ⊥
@@ -49,14 +23,13 @@ no_inquiry _ p e = cc
 
 never_refused : (s : FeedStep) (p : FeedProgress) (r : Refusal) → (row_at s p).call ≡ None → waits_on (row_at s p).waits r ≡ false
 never_refused RunIn p r e = refl
-never_refused RunOut p r e = refl
-never_refused _ p r e = cc
+never_refused _ p r e = first_of (assumption, cc)
 
-pub feed-rows : FeedRowsAreMet
-feed-rows = record {
+pub feed_rows : FeedRowsAreMet
+feed_rows = record {
   starts = record { whose = refl; by_places = λ s. begins s s.full.feed_entry s.full.feed_end };
-  asks = asks;
-  drives = drives;
+  asks = λ entry last. assumption (stays_never, stays_until_owner, stays_until_free_and_open);
+  drives = λ entry last. assumption;
   checks = λ s. record { says = refl; says_only = λ other k. k };
   no_other_answers = record { not_done = λ p e. absurd (no_inquiry p.step p e); not_shown = λ p owner flag posture e. refl; not_refused = λ p r e. never_refused p.step p r e };
   rests = λ p. refl;

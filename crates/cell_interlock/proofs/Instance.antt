@@ -1,5 +1,5 @@
 -- What the engine says by the rules of the cell, in the words of the cell.
-use Rattle.std.proofs.Common.{◌≡◌, ◌≢◌, ℕ, ◌+◌, ◌≤◌, true, false, List, [], ◌∷◌, Ok, refl, sym, ap, ◌∙◌, subst}
+use Rattle.std.proofs.Common.{rules, ◌≡◌, ◌≢◌, ℕ, ◌+◌, ◌≤◌, true, false, List, [], ◌∷◌, Ok, refl, sym, ap, ◌∙◌, subst}
 use Rattle.cell_types.specs.declared.machine.Machine.{Machine}
 use Rattle.cell_types.specs.declared.call.Call.{Call}
 use Rattle.cell_types.specs.declared.answer.Answer.{Answer}
@@ -22,7 +22,7 @@ use Rattle.cell_interlock.specs.Engine.{EnginePass, EngineTry, pass_from, try_fr
 use Rattle.cell_interlock.specs.Seen.{IsSamePass, IsSettled, HasSeenMore, IsUnmade, HasChanges, IsOvertaken}
 use Rattle.cell_interlock.specs.Tries.{IsPending, IsLost, IsBusy}
 use Rattle.cell_interlock.specs.Lines.{Replied}
-use Rattle.cell_interlock.proofs.Settled.{lawful_history, settled}
+use Rattle.cell_interlock.proofs.Settled.{lawful_history, settled, replied}
 
 -- ---- histories
 
@@ -76,11 +76,7 @@ pub same_here : (v w : EnginePass) → engine_seen.IsSamePass v w → IsSamePass
 same_here v w f = record { table = f.table; opening = f.opening; machine = f.actor }
 
 pub more_here : (v w : EnginePass) → engine_seen.HasSeenMore cell_book v w → HasSeenMore (pass_from v) (pass_from w)
-more_here v w f = record {
-  pass = same_here v w f.pass;
-  lawful = lawful_here v.opening w.seen f.lawful;
-  seen = waits_here v.actor v.seen w.seen f.seen;
-}
+more_here v w f = search (rules, same_here, lawful_here, waits_here)
 
 ready_here : (v : EnginePass) (c : Call) (w : EnginePass) → engine_seen.WouldBeDone cell_book v c w → reply (after v.opening w.seen) v.actor c ≡ Done
 ready_here v c w f =
@@ -93,11 +89,7 @@ pub changes_here : (m : Machine) (x y : List Event) (n : ℕ) → engine_seen.Ha
 changes_here m x y n f = record { more = f.more; is = f.is; many = f.many }
 
 pub overtaken_here : (v : EnginePass) (x : List Event) (c : Call) (tries lost : ℕ) (w : EnginePass) → engine_seen.IsOvertaken cell_book v x c tries lost w → IsOvertaken (pass_from v) x c tries lost (pass_from w)
-overtaken_here v x c tries lost w f = record {
-  all_lost = f.all_lost;
-  ready = ready_here v c w f.ready;
-  changed = changes_here v.actor x w.seen tries f.changed;
-}
+overtaken_here v x c tries lost w f = search (rules, ready_here, changes_here)
 
 pub settled_here : (v : EnginePass) (c : Call) (a : Answer) (stamp : ℕ) (w : EnginePass) → engine_seen.IsSettled cell_book v c a stamp w → IsSettled (pass_from v) c a stamp (pass_from w)
 settled_here v c a stamp w f =
@@ -117,23 +109,10 @@ pending_here v c most t f =
     record { unmade = unmade_here v c t.pass f.unmade; call = f.call; tries = f.tries; lost = f.lost; since = f.since }
 
 pub lost_here : (t u : EngineTry) → engine_tries.IsLost cell_book t u → IsLost (try_from t) (try_from u)
-lost_here t u f = record {
-  unmade = unmade_here t.pass t.call u.pass f.unmade;
-  call = f.call;
-  tries = f.tries;
-  since = f.since;
-  lost = f.lost;
-  room = f.room;
-  changed = changes_here t.pass.actor t.pass.seen u.pass.seen 1 f.changed;
-}
+lost_here t u f = search (rules, unmade_here, changes_here)
 
 pub busy_here : (t : EngineTry) (lost stamp : ℕ) (w : EnginePass) → engine_tries.IsBusy cell_book t lost stamp w → IsBusy (try_from t) lost stamp (pass_from w)
-busy_here t lost stamp w f = record {
-  more = more_here t.pass w f.more;
-  stamped = stamp_here t.pass.opening w.seen stamp f.stamped;
-  last = f.last;
-  overtaken = overtaken_here t.pass t.pass.since t.call t.tries lost w f.overtaken;
-}
+busy_here t lost stamp w f = search (rules, more_here, overtaken_here)
 
 -- ---- a whole call
 
@@ -152,27 +131,6 @@ pub record EngineReplied (v : EnginePass) (c : Call) (tries : ℕ) (r : EngineRe
 
 pub replied_here : (v : EnginePass) (c : Call) (tries : ℕ) (r : EngineReply Answer) (w : EnginePass) → EngineReplied v c tries r w → Replied (pass_from v) c tries (reply_from r) (pass_from w)
 replied_here v c tries (EngineSettled a stamp) w f =
-    let s = settled_here v c a stamp w record { pass = f.pass; lawful = f.lawful; seen = f.seen.0; stamped = f.seen.1; answer = f.answer; right = f.right } in record {
-      pass = s.pass;
-      lawful = s.lawful;
-      seen = (s.seen, s.stamped);
-      answer = s.answer;
-      right = s.right;
-      busy = tt;
-      one_load = f.one_load;
-      few_exchanges = f.few_exchanges;
-      all_lost = tt;
-      since = tt;
-    }
-replied_here v c tries (EngineBusy lost stamp) w f = record {
-  pass = same_here v w f.pass;
-  lawful = lawful_here v.opening w.seen f.lawful;
-  seen = seen_here v.actor c (EngineBusy lost stamp) v.opening v.seen w.seen f.seen;
-  answer = tt;
-  right = tt;
-  busy = overtaken_here v v.seen c tries lost w f.busy;
-  one_load = f.one_load;
-  few_exchanges = f.few_exchanges;
-  all_lost = f.all_lost;
-  since = changes_here v.actor w.since w.seen lost f.since;
-}
+    let s = settled_here v c a stamp w record { pass = f.pass; lawful = f.lawful; seen = f.seen.0; stamped = f.seen.1; answer = f.answer; right = f.right } in
+    replied (pass_from v) (pass_from w) c tries a stamp s f.one_load f.few_exchanges
+replied_here v c tries (EngineBusy lost stamp) w f = search (rules, same_here, lawful_here, waits_here, overtaken_here, changes_here)

@@ -1,5 +1,5 @@
 -- The examples of what a call may and may not leave of its pass.
-use Rattle.std.proofs.Common.{◌≡◌, ℕ, ◌+◌, ◌<◌, ◌≤◌, true, false, List, [], ◌∷◌, ◌++◌, length, None, inr, refl, sym, ap, ◌∙◌, arith}
+use Rattle.std.proofs.Common.{◌≡◌, ℕ, ◌+◌, ◌<◌, ◌≤◌, true, List, [], ◌∷◌, ◌++◌, length, None, inr, refl, sym, ap, ◌∙◌, arith}
 use Rattle.std.proofs.lemmas.List.{same_from_push}
 use Rattle.atomic_table.specs.Seated.{TableId}
 use Rattle.cell_types.specs.declared.machine.Machine.{Machine}
@@ -17,6 +17,8 @@ use Rattle.cell_rules.specs.History.{IsLegal, Holds, changes_by_others}
 use Rattle.cell_rules.specs.Laws.{LawfulThroughout}
 use Rattle.cell_rules.specs.Rights.{needs}
 use Rattle.cell_rules.specs.Seen.{Waits}
+use Rattle.cell_rules.specs.Names.{zone_at}
+use Rattle.cell_rules.proofs.Lawful.{lawful_in, sound_from}
 use Rattle.cell_rules.proofs.Puts.{each_zone}
 use Rattle.cell_rules.proofs.Quiet.{changes-append}
 use Rattle.cell_interlock.specs.Views.{PassView, InterlockView}
@@ -25,18 +27,10 @@ use Rattle.cell_interlock.specs.Seen.{IsSettled, HasSeenMore, HasChanges}
 use Rattle.cell_interlock.specs.Order.{StandsBefore}
 use Rattle.cell_interlock.specs.OutcomeExamples.{opened, claim, claimed, released, by_feed, again_by_feed, by_table, by_robot, by_watch, barred, press_pass, watch_pass, after_claim, AskExamples, LookExamples, AttemptExamples, MoreExamples, ChangeExamples, AnswerExamples, OrderExamples, StampExamples, ReceiptExamples, FreshExamples, LineExamples, OutcomeExamples}
 use Rattle.cell_interlock.specs.declared.pass.Passes.{Passes}
-use Rattle.cell_interlock.proofs.Settled.{lawful_history, settled}
+use Rattle.cell_interlock.proofs.Settled.{lawful_history, settled, replied}
 
 sound : IsSound opened
-sound = record {
-  stamp_in_range = omega arith;
-  owner_is_party = each_zone _ refl refl refl refl refl refl;
-  flag_has_transfer = each_zone _ refl refl refl refl refl refl;
-  guest_only_while_open = each_zone _ refl refl refl refl refl refl;
-  moving_belongs_to_host = each_zone _ refl refl refl refl refl refl;
-  posture_of_some_pose = each_zone _ refl refl refl refl refl refl;
-  press_holds_one_plate = refl;
-}
+sound = sound_from opened (omega arith) (each_zone (λ z. lawful_in opened.full z (zone_at opened z) ≡ true) refl refl refl refl refl refl)
 
 -- ---- what is wrong
 
@@ -82,30 +76,8 @@ both_by_feed = record { more = by_feed ∷ again_by_feed ∷ []; is = refl; many
 
 ask : (t : TableId) → AskExamples t
 ask t = record {
-  done = (let s = claim_done t 3 5 in record {
-    pass = s.pass;
-    lawful = s.lawful;
-    seen = (s.seen, s.stamped);
-    answer = s.answer;
-    right = s.right;
-    busy = tt;
-    one_load = refl;
-    few_exchanges = omega arith;
-    all_lost = tt;
-    since = tt;
-  });
-  stops = (let s = stop_done t in record {
-    pass = s.pass;
-    lawful = s.lawful;
-    seen = (s.seen, s.stamped);
-    answer = s.answer;
-    right = s.right;
-    busy = tt;
-    one_load = refl;
-    few_exchanges = omega arith;
-    all_lost = tt;
-    since = tt;
-  });
+  done = replied _ _ _ _ _ _ (claim_done t 3 5) refl (omega arith);
+  stops = replied _ _ _ _ _ _ (stop_done t) refl (omega arith);
   other_table = λ u apart r. apart r.pass.table;
   other_opening = λ r. let e : 7 ≡ 0 = ap (λ (s : ModelState). s.stamp) r.pass.opening in omega arith;
   other_machine = λ r. let e = r.pass.machine in cc;
@@ -229,10 +201,7 @@ has_claimed : Holds opened (claimed ∷ []) Press Z3
 has_claimed = inr (record { before = []; gain = claimed; since = []; split = refl; gained = refl; kept = λ k d h. absurd (omega (arith, h)) })
 
 holds_what_it_needs : (z : Zone) → needs Press (Release Z3) z ≡ true → Holds opened (claimed ∷ []) Press z
-holds_what_it_needs = each_zone _ (λ e. absurd (false_is_true e)) (λ e. absurd (false_is_true e)) (λ e. has_claimed) (λ e. absurd (false_is_true e)) (λ e. absurd (false_is_true e)) (λ e. absurd (false_is_true e))
-  where
-    false_is_true : false ≡ true → ⊥
-    false_is_true e = cc
+holds_what_it_needs = each_zone _ (λ e. cc) (λ e. cc) (λ e. has_claimed) (λ e. cc) (λ e. cc) (λ e. cc)
 
 answers : (t : TableId) → AnswerExamples t
 answers t = record {

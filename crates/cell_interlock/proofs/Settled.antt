@@ -1,10 +1,11 @@
 -- A call that was answered after a legal history.
-use Rattle.std.proofs.Common.{◌≡◌, ℕ, List, [], ◌∷◌, ◌++◌, sym, ap, ◌∙◌, subst}
+use Rattle.std.proofs.Common.{◌≡◌, ◌≤◌, ◌+◌, ℕ, List, [], ◌∷◌, ◌++◌, sym, ap, ◌∙◌, subst}
 use Rattle.std.proofs.lemmas.List.{append_cancel_right}
 use Rattle.cell_types.specs.declared.machine.Machine.{Machine}
 use Rattle.cell_types.specs.declared.call.Call.{Call}
 use Rattle.cell_types.specs.declared.answer.Answer.{Answer}
 use Rattle.cell_types.specs.declared.answer.Event.{Event}
+use Rattle.cell_types.specs.declared.reply.Reply.TheVariants.{Settled}
 use Rattle.cell_rules.specs.ModelState.{ModelState}
 use Rattle.cell_rules.specs.Sound.{IsSound}
 use Rattle.cell_rules.specs.Reply.{reply}
@@ -19,6 +20,7 @@ use Rattle.cell_rules.proofs.Owners.{never_disowned}
 use Rattle.cell_rules.proofs.SeenLemmas.{legal-append, own-push, waits-foreign}
 use Rattle.cell_interlock.specs.Views.{PassView}
 use Rattle.cell_interlock.specs.Seen.{IsSamePass, IsSettled}
+use Rattle.cell_interlock.specs.Lines.{Replied}
 
 pub lawful_history : (o : ModelState) (h : List Event) → IsSound o → IsLegal o h → LawfulThroughout o h
 lawful_history o h k l = throughout o (Lawful o) (lawful o k) h l
@@ -62,6 +64,11 @@ settled v w c a stamp h k l waits same ends right stamped =
         never_disowned = never_disowned v.opening v.machine c a v.seen h k l keeps right;
       };
     }
+
+-- it is a whole call, if it took one load and few exchanges
+pub replied : (v w : PassView) (c : Call) (tries : ℕ) (a : Answer) (stamp : ℕ) → IsSettled v c a stamp w → w.loads ≡ v.loads + 1 → w.exchanges ≤ v.exchanges + tries → Replied v c tries (Settled a stamp) w
+replied v w c tries a stamp s load few =
+    record { pass = s.pass; lawful = s.lawful; seen = (s.seen, s.stamped); answer = s.answer; right = s.right; busy = tt; one_load = load; few_exchanges = few; all_lost = tt; since = tt }
 
 -- at the point of its call the machine has made only the events that it had made before
 pub point_waits : (m : Machine) (c : Call) (a : Answer) (before now : List Event) (t : Settles m c a before now) → Waits m before t.point

@@ -39,7 +39,7 @@ impl<T: Drop> ByMachine<T> {
         }
     }
 
-    /// Puts a value in place of a machine's.
+    /// Replaces a machine's value.
     pub fn put(&mut self, machine: Machine, value: T)
         ensures { self.new ≡ with_machine self.old machine value }
     {

@@ -1,7 +1,6 @@
 -- What positions and motors demand, in numbers.
-use Rattle.std.proofs.Common.{◌≡◌, ◌≢◌, ◌↔◌, ◌∙◌, sym, ap, cond, ℕ, ◌<◌, ◌≤◌, false, Some, ◌⊎◌, inl, inr, refl, arith}
+use Rattle.std.proofs.Common.{rules, ◌≡◌, ◌≢◌, ◌↔◌, ◌∙◌, sym, ap, cond, ℕ, ◌<◌, ◌≤◌, false, Some, ◌⊎◌, inl, inr, refl, arith}
 use Rattle.std.proofs.lemmas.Bool.{false_from_ne_true}
-use Rattle.std.specs.Int.Signed.{lt_z_yes}
 use Rattle.cell_rules.specs.Types.{Machine, Feed, Table, Robot, Press, Deposit, Crane, Watch, Zone, Z1, Z2, Z3, Z4}
 use Rattle.cell_rules.specs.Types.{Z5, Z6, Posture, Closed, OpenIn, OpenOut, same_zone, one_zone}
 use Rattle.cell_types.specs.declared.place.Place.TheVariants as place
@@ -12,7 +11,7 @@ use Rattle.cell_rules.proofs.Holders.{owner_is}
 use Rattle.cell_parts.specs.Names.{HoldsIn, Rests, FromTo, empty_cell, all_free, with_zone}
 use Rattle.cell_parts.specs.Examples.{with_feed, with_deposit, zone_of}
 use Rattle.cell_parts.specs.DemandExamples.{AsksFor, WorksAt, Arm1WorksAt, Arm2WorksAt, GripperWorksAt, EndPlateStands, PositionDemandBounds, feed_end_full, MotorDemandBounds, DrivingBounds, RestingBounds, EachDemand}
-use Rattle.cell_parts.proofs.Contrasts.{neither, plus_on, false_true}
+use Rattle.cell_parts.proofs.Contrasts.{neither, false_true}
 use Rattle.cell_parts.proofs.Figures.{same, always, never, both, either, due, given, order, past, below, not_past, clash, inside, driven, some}
 
 closed_in : ¬ (Closed ≡ OpenIn)
@@ -83,20 +82,10 @@ gripper_works Demands demands = works_at Crane (λ p. p ≤ 200) Z5 OpenOut (λ 
 -- ---- positions
 
 feed_plate : EndPlateStands place.FeedEnd with_feed
-feed_plate = record {
-  present = λ entry last runs. (always refl refl, never false_true false_true);
-  missing = λ entry runs d. false_true (d.0.1 refl);
-  unknown = λ entry last runs d. false_true (d.0.0 refl);
-  absent = λ entry runs. (never false_true false_true, never false_true false_true);
-}
+feed_plate = search (rules, always, never)
 
 deposit_plate : EndPlateStands place.DepEnd with_deposit
-deposit_plate = record {
-  present = λ entry last runs. (never false_true false_true, always refl refl);
-  missing = λ entry runs d. false_true (d.1.1 refl);
-  unknown = λ entry last runs d. false_true (d.1.0 refl);
-  absent = λ entry runs. (never false_true false_true, never false_true false_true);
-}
+deposit_plate = search (rules, always, never)
 
 pub position_demands : PositionDemandBounds
 position_demands = record {
@@ -114,14 +103,7 @@ position_demands = record {
   table_for_nobody = λ s p closed e. absurd (closed e);
   feed_plate = feed_plate;
   deposit_plate = deposit_plate;
-  at_start = record {
-    arm1 = λ out. absurd out.lt;
-    arm2 = λ out. absurd out.lt;
-    press = (λ e. absurd (closed_in e), λ e. absurd (closed_out e));
-    table = λ e. absurd (closed_in e);
-    gripper = λ down. absurd down.lt;
-    plates = (never false_true false_true, never false_true false_true);
-  };
+  at_start = search rules;
 }
 
 -- ---- motors
@@ -159,54 +141,14 @@ motor_demands = record {
 }
 
 pub driving : DrivingBounds
-driving = record {
-  press = λ errand press motor. driven motor;
-  table_in_z1 = λ errand lift turn height turning. either (driven height) (driven turning);
-  table_in_z2 = λ errand lift turn height turning. either (driven height) (driven turning);
-  feed_in_z6 = λ errand entry last runs. same;
-  feed_in_z1 = λ errand entry last runs. both same (some last);
-  deposit_in_z4 = λ errand entry last runs. same;
-  deposit_in_z5 = λ errand entry last runs. same;
-  robot_in_z2 = λ errand arm1 arm2 rotation. both (driven arm1) (inside 200 400 rotation);
-  robot_in_z3 = λ errand arm1 arm2 rotation. either (both (driven arm1) (inside 1400 1600 rotation)) (both (driven arm2) (inside 500 700 rotation));
-  robot_in_z4 = λ errand arm1 arm2 rotation. both (driven arm2) (inside 1700 1900 rotation);
-  gripper_in_z5 = λ travel gripper motor. driven motor;
-  gripper_in_z6 = λ travel gripper motor. driven motor;
-}
+driving = search (rules, driven, inside, both, either, same, some)
 
 all_rest : (m : Machine) → Rests empty_cell m
-all_rest Feed = refl
-all_rest Table = (refl, refl)
-all_rest Robot = (refl, refl, refl)
-all_rest Press = refl
-all_rest Deposit = refl
-all_rest Crane = (refl, refl)
 all_rest Watch = tt
+all_rest m = search rules
 
 pub resting : RestingBounds
-resting = record {
-  all = all_rest;
-  feed = λ entry last runs. same;
-  table = λ lift turn height turning. same;
-  robot = λ arm1 arm2 rotation. same;
-  press = λ press motor. same;
-  deposit = λ entry last runs. same;
-  crane = λ travel gripper motor height. same;
-}
+resting = search (rules, all_rest, same)
 
 pub each_demand : EachDemand
-each_demand = record {
-  arm1_out = λ k. neither (λ h. false_true h.1.0) (λ h. false_true h.1.0) (k.arm1 (lt_z_yes tt));
-  arm2_out = λ k. neither (λ h. false_true h.1.0) (λ h. false_true h.1.0) (k.arm2 (lt_z_yes tt));
-  press_stands = λ k. (k.press.0 refl).1.0.le;
-  table_stands = λ k. (k.table refl).bottom.le;
-  gripper_down = λ k. neither (λ h. false_true h.1.0) (λ h. false_true h.1.0) (k.gripper (lt_z_yes tt));
-  end_plate = λ k. false_true (k.plates.0.0 refl);
-  press_on = λ k. false_true (k.press plus_on).0;
-  table_on = λ k. false_true (k.table (inl plus_on)).0.0;
-  feed_on = λ k. false_true (k.feed refl).0.0;
-  deposit_on = λ k. false_true (k.deposit refl).0.0;
-  arm1_on = λ k. neither (λ h. false_true h.1.0) (λ h. false_true h.1.0) (k.arm1 plus_on);
-  arm2_on = λ k. neither (λ h. false_true h.1.0) (λ h. false_true h.1.0) (k.arm2 plus_on);
-  gripper_on = λ k. false_true (k.gripper plus_on).0;
-}
+each_demand = search rules

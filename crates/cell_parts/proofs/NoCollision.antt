@@ -1,20 +1,17 @@
 -- In one state of interlock and plant nothing collides, and machines keep apart.
-use Rattle.std.proofs.Common.{◌≡◌, ◌≢◌, ℤ, ◌≤ℤ◌, ◌<ℤ◌, Bool, true, false, ◌⊎◌, inl, inr, IsTrue, refl, arith}
+use Rattle.std.proofs.Common.{◌≡◌, ◌≢◌, ◌<ℤ◌, Bool, true, false, ◌⊎◌, inl, inr, IsTrue, refl, arith}
 use Rattle.std.proofs.lemmas.Int.{ints}
 use Rattle.std.proofs.lemmas.Bool.{false_from_ne_true}
-use Rattle.std.specs.Int.Signed.{lt_z_yes}
 use Rattle.cell_rules.specs.Types.{Machine, Feed, Table, Robot, Press, Deposit, Crane, Zone, Z1, Z2, Z3, Z4, Z5, Z6}
 use Rattle.cell_rules.specs.Types.{Posture, Closed, Moving, OpenIn, OpenOut, host_of}
 use Rattle.cell_devices.specs.declared.motor.Motor.{Motor}
-use Rattle.cell_devices.specs.declared.motor.Motor.TheVariants.{Off, Plus, Minus}
+use Rattle.cell_devices.specs.declared.motor.Motor.TheVariants.{Off}
 use Rattle.cell_rules.specs.Names.{ModelState, IsSound, is_open, is_of_some_pose, owns, owner_of, posture_at}
 use Rattle.cell_rules.specs.Names.{RunsClear}
 use Rattle.cell_rules.proofs.Tables.{implied}
 use Rattle.cell_rules.proofs.Holders.{owner_is}
-use Rattle.cell_parts.specs.Names.{Span, IsIn, arm1_at_table, arm2_in_press, arm1_in_press, arm2_at_deposit}
-use Rattle.cell_parts.specs.Names.{over_deposit_to, over_feed_from, loads_to, IsOn, TableMoves, IsOut, IsArm1AtTable}
-use Rattle.cell_parts.specs.Names.{IsArm1InPress, IsArm2InPress, IsArm2AtDeposit, IsGripperDown, IsOverDeposit}
-use Rattle.cell_parts.specs.Names.{IsOverFeed, RestsAtLoading, PositionDemands, GripperErrand, AtDeposit, AtFeed}
+use Rattle.cell_parts.specs.Names.{loads_to, IsOn, TableMoves, IsOut}
+use Rattle.cell_parts.specs.Names.{RestsAtLoading, PositionDemands, GripperErrand, AtDeposit, AtFeed}
 use Rattle.cell_parts.specs.Names.{ErrandDemands, MotorDemands, RotatesRetracted, Rests}
 use Rattle.cell_parts.specs.declared.plant.RobotPlant.{RobotPlant}
 use Rattle.cell_parts.specs.declared.plant.PlantState.{PlantState}
@@ -24,12 +21,14 @@ use Rattle.cell_parts.specs.PositionDemands.{EndPlatesStand}
 use Rattle.cell_parts.specs.MotorDemands.{CraneDrivesIn, DrivesIn}
 use Rattle.cell_parts.specs.Laws.{DemandsPreventCollisions, MotorDemandsKeepApart}
 
--- no position is at most one bound and at least a later one, nor in two spans if one ends before the other begins
-beyond : (last first x : ℤ) → last <ℤ first → x ≤ℤ last → first ≤ℤ x → ⊥
-beyond last first x apart a b = omega (arith, ints)
+-- of two alternatives one is ruled out by the place
+at_first : {A B C D : Type 0} → (A × B) ⊎ (C × D) → ¬ C → B
+at_first (inl h) apart = h.1
+at_first (inr h) apart = absurd (apart h.0)
 
-in_both : (a b : Span) (x : ℤ) → a.last <ℤ b.first → IsIn a x → IsIn b x → ⊥
-in_both a b x apart one other = beyond a.last b.first x apart one.1 other.0
+at_second : {A B C D : Type 0} → (A × B) ⊎ (C × D) → ¬ A → D
+at_second (inl h) apart = absurd (apart h.0)
+at_second (inr h) apart = h.1
 
 -- a moving zone isn't open
 moving_or_in : (q : Posture) → q ≡ Moving → q ≡ OpenIn → ⊥
@@ -54,49 +53,25 @@ full_and_empty b e f = cc
 -- ---- the place of a part that is out, and what its machine holds there
 
 module _ (s : ModelState) (p : PlantState) (k : PositionDemands s p) where
-  z3_for_arm1 : IsOut p.robot.arm1 → IsArm1InPress p.robot → posture_at s Z3 ≡ OpenIn
-  z3_for_arm1 out at =
-      elim (k.arm1 out) [ inl h ↦ absurd (in_both arm1_at_table arm1_in_press p.robot.rotation.position (lt_z_yes tt) h.0 at) | inr h ↦ h.1.1 ]
-
-  z2_for_arm1 : IsOut p.robot.arm1 → IsArm1AtTable p.robot → posture_at s Z2 ≡ OpenOut
-  z2_for_arm1 out at =
-      elim (k.arm1 out) [ inl h ↦ h.1.1 | inr h ↦ absurd (in_both arm1_at_table arm1_in_press p.robot.rotation.position (lt_z_yes tt) at h.0) ]
-
-  z3_for_arm2 : IsOut p.robot.arm2 → IsArm2InPress p.robot → posture_at s Z3 ≡ OpenOut
-  z3_for_arm2 out at =
-      elim (k.arm2 out) [ inl h ↦ h.1.1 | inr h ↦ absurd (in_both arm2_in_press arm2_at_deposit p.robot.rotation.position (lt_z_yes tt) at h.0) ]
-
-  z4_for_arm2 : IsOut p.robot.arm2 → IsArm2AtDeposit p.robot → posture_at s Z4 ≡ OpenIn
-  z4_for_arm2 out at =
-      elim (k.arm2 out) [ inl h ↦ absurd (in_both arm2_in_press arm2_at_deposit p.robot.rotation.position (lt_z_yes tt) h.0 at) | inr h ↦ h.1.1 ]
-
-  z5_for_gripper : IsGripperDown p.crane → IsOverDeposit p.crane → posture_at s Z5 ≡ OpenOut
-  z5_for_gripper down over =
-      elim (k.gripper down) [ inl h ↦ h.1.1 | inr h ↦ absurd (beyond over_deposit_to over_feed_from p.crane.travel.position (lt_z_yes tt) over h.0) ]
-
-  z6_for_gripper : IsGripperDown p.crane → IsOverFeed p.crane → posture_at s Z6 ≡ OpenIn
-  z6_for_gripper down over =
-      elim (k.gripper down) [ inl h ↦ absurd (beyond over_deposit_to over_feed_from p.crane.travel.position (lt_z_yes tt) h.0 over) | inr h ↦ h.1.1 ]
-
   -- an arm is in the press only while the press rests
   no_arm_hits_press : ¬ ArmHitsPress p
-  no_arm_hits_press (inl h) = h.2 (k.press.0 (z3_for_arm1 h.0 h.1))
-  no_arm_hits_press (inr h) = h.2 (k.press.1 (z3_for_arm2 h.0 h.1))
+  no_arm_hits_press (inl h) = h.2 (k.press.0 (at_second (k.arm1 h.0) (λ there. omega (arith, ints))).1)
+  no_arm_hits_press (inr h) = h.2 (k.press.1 (at_first (k.arm2 h.0) (λ there. omega (arith, ints))).1)
 
   module _ (errand : GripperErrand) (motors : MotorDemands errand s p) where
     -- z2 moves, or is open for the arm
     no_table_hits_arm : ¬ TableHitsArm p
-    no_table_hits_arm h = moving_or_out (posture_at s Z2) (motors.table h.0).1.1 (z2_for_arm1 h.1 h.2)
+    no_table_hits_arm h = moving_or_out (posture_at s Z2) (motors.table h.0).1.1 (at_first (k.arm1 h.1) (λ there. omega (arith, ints))).1
 
     -- z4 moves, or is open for the arm; z5 moves, or is open for the gripper; and while z5 moves the end is empty
     no_deposit_belt_pulls : RunsClear s → ¬ DepositBeltPulls p
-    no_deposit_belt_pulls clear (runs, inl h) = moving_or_in (posture_at s Z4) (motors.deposit runs).0.1 (z4_for_arm2 h.0 h.1)
-    no_deposit_belt_pulls clear (runs, inr (inl h)) = moving_or_out (posture_at s Z5) (motors.deposit runs).1.1 (z5_for_gripper h.0 h.1)
+    no_deposit_belt_pulls clear (runs, inl h) = moving_or_in (posture_at s Z4) (motors.deposit runs).0.1 (at_second (k.arm2 h.0) (λ there. omega (arith, ints))).1
+    no_deposit_belt_pulls clear (runs, inr (inl h)) = moving_or_out (posture_at s Z5) (motors.deposit runs).1.1 (at_first (k.gripper h.0) (λ there. omega (arith, ints))).1
     no_deposit_belt_pulls clear (runs, inr (inr plate)) = full_and_empty _ (k.plates.1.0 plate) (clear.end (motors.deposit runs).1.1)
 
     -- z6 moves, or is open for the gripper
     no_feed_belt_pulls : ¬ FeedBeltPulls p
-    no_feed_belt_pulls h = moving_or_in (posture_at s Z6) (motors.feed h.0).0.1 (z6_for_gripper h.1 h.2)
+    no_feed_belt_pulls h = moving_or_in (posture_at s Z6) (motors.feed h.0).0.1 (at_second (k.gripper h.1) (λ there. omega (arith, ints))).1
 
     -- feed holds z1 as its guest, so z1 is open inward, and the table is ready to load
     table_is_ready : IsSound s → IsTrue (owns s Feed Z1) → RestsAtLoading p.table
@@ -132,8 +107,7 @@ nothing_collides errand s p k = record {
 
 off_unless_on : (m : Motor) → ¬ (m ≢ Off) → m ≡ Off
 off_unless_on Off k = refl
-off_unless_on Plus k = absurd (k (λ e. cc))
-off_unless_on Minus k = absurd (k (λ e. cc))
+off_unless_on m k = absurd (k (λ e. cc))
 
 module _ (errand : GripperErrand) (s : ModelState) (p : PlantState) (belts : EndPlatesStand s p) (k : MotorDemands errand s p) where
   table_rests : (z : Zone) → (TableMoves p.table → posture_at s z ≡ Moving) → is_open (posture_at s z) ≡ true → Rests p Table
@@ -151,27 +125,11 @@ module _ (errand : GripperErrand) (s : ModelState) (p : PlantState) (belts : End
   rests Z6 o = false_from_ne_true p.feed.runs (λ runs. moving_or_open (posture_at s Z6) o (k.feed runs).0.1)
 
   -- a machine that drives in a zone holds it
-  arm1_holds_press : IsOn p.robot.arm1 → IsArm1InPress p.robot → owns s Robot Z3 ≡ true
-  arm1_holds_press on at =
-      elim (k.arm1 on) [ inl h ↦ absurd (in_both arm1_at_table arm1_in_press p.robot.rotation.position (lt_z_yes tt) h.0 at) | inr h ↦ h.1.0 ]
-
-  arm1_holds_table : IsOn p.robot.arm1 → IsArm1AtTable p.robot → owns s Robot Z2 ≡ true
-  arm1_holds_table on at =
-      elim (k.arm1 on) [ inl h ↦ h.1.0 | inr h ↦ absurd (in_both arm1_at_table arm1_in_press p.robot.rotation.position (lt_z_yes tt) at h.0) ]
-
-  arm2_holds_press : IsOn p.robot.arm2 → IsArm2InPress p.robot → owns s Robot Z3 ≡ true
-  arm2_holds_press on at =
-      elim (k.arm2 on) [ inl h ↦ h.1.0 | inr h ↦ absurd (in_both arm2_in_press arm2_at_deposit p.robot.rotation.position (lt_z_yes tt) at h.0) ]
-
-  arm2_holds_deposit : IsOn p.robot.arm2 → IsArm2AtDeposit p.robot → owns s Robot Z4 ≡ true
-  arm2_holds_deposit on at =
-      elim (k.arm2 on) [ inl h ↦ absurd (in_both arm2_in_press arm2_at_deposit p.robot.rotation.position (lt_z_yes tt) h.0 at) | inr h ↦ h.1.0 ]
-
   robot_holds : (z : Zone) → DrivesIn errand p Robot z → owns s Robot z ≡ true
-  robot_holds Z2 d = arm1_holds_table d.0 d.1
-  robot_holds Z3 (inl d) = arm1_holds_press d.0 d.1
-  robot_holds Z3 (inr d) = arm2_holds_press d.0 d.1
-  robot_holds Z4 d = arm2_holds_deposit d.0 d.1
+  robot_holds Z2 d = (at_first (k.arm1 d.0) (λ there. omega (arith, ints))).0
+  robot_holds Z3 (inl d) = (at_second (k.arm1 d.0) (λ there. omega (arith, ints))).0
+  robot_holds Z3 (inr d) = (at_first (k.arm2 d.0) (λ there. omega (arith, ints))).0
+  robot_holds Z4 d = (at_second (k.arm2 d.0) (λ there. omega (arith, ints))).0
   robot_holds z d = absurd d
 
   crane_holds : (e : GripperErrand) → (IsOn p.crane.gripper → ErrandDemands e s) → (z : Zone) → CraneDrivesIn e p.crane z → owns s Crane z ≡ true

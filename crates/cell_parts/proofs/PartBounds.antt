@@ -1,9 +1,9 @@
 -- The examples of the parts.
-use Rattle.std.proofs.Common.{◌≡◌, ◌≢◌, ◌↔◌, ℕ, Bool, true, false, inl, inr, refl}
+use Rattle.std.proofs.Common.{rules, ◌≡◌, ◌≢◌, ◌↔◌, ℕ, Bool, true, false, inl, inr, refl}
 use Rattle.std.proofs.lemmas.Bool.{false_from_ne_true}
 use Rattle.std.specs.Int.Signed.{le_z_yes}
 use Rattle.cell_calib.specs.Scale.{Scale}
-use Rattle.cell_rules.specs.Types.{Feed, Deposit, Zone, Z1, Z2, Z3, Z4, Z5, Z6, Give, Take}
+use Rattle.cell_rules.specs.Types.{Feed, Deposit, Zone, Z1, Z4, Z5, Z6, Give, Take}
 use Rattle.cell_parts.specs.declared.belt.Belt.{Belt}
 use Rattle.cell_parts.specs.Axes.{RobotScales}
 use Rattle.cell_parts.specs.PartExamples.{SettingExamples, MovingBounds, SensorBounds, press_sense, table_sense, robot_sense, crane_sense, feed_sense, deposit_sense, ShowingExamples, feed_hears, deposit_hears, NoteBounds, StartValues}
@@ -12,64 +12,13 @@ use Rattle.cell_parts.proofs.Figures.{always, never, order, inside}
 use Rattle.cell_parts.proofs.Raws.{raws}
 
 pub setting : (scale : Scale) (scales : RobotScales) → SettingExamples scale scales
-setting scale scales = record {
-  feed_starts = refl;
-  feed_stops = refl;
-  table_starts = refl;
-  table_stops = refl;
-  robot_drives_arms = refl;
-  robot_rotates = refl;
-  press_starts = refl;
-  press_stops = refl;
-  deposit_starts = refl;
-  deposit_stops = refl;
-  crane_travels = refl;
-  crane_lowers = refl;
-}
+setting scale scales = search rules
 
 pub moving : (scale : Scale) (scales : RobotScales) → MovingBounds scale scales
-moving scale scales = record {
-  press_rises = refl;
-  press_falls = refl;
-  press_rests = refl;
-  press_to_top = refl;
-  press_to_bottom = refl;
-  table_on = refl;
-  table_to_its_ends = refl;
-  table_back = refl;
-  table_to_its_firsts = refl;
-  robot_on = refl;
-  robot_to_its_ends = refl;
-  robot_back = refl;
-  robot_to_its_other_ends = refl;
-  crane_on = refl;
-  crane_to_its_ends = refl;
-  crane_back = refl;
-  crane_to_its_other_ends = refl;
-  feed_runs = refl;
-  feed_to_its_last = refl;
-  feed_plate_stays_there = refl;
-  feed_rests = refl;
-  feed_without_plates = refl;
-  deposit_runs = refl;
-  deposit_to_its_last = refl;
-  deposit_plate_stays_there = refl;
-  deposit_rests = refl;
-  deposit_without_plates = refl;
-}
+moving scale scales = search rules
 
 pub sensors : SensorBounds
-sensors = record {
-  press_bottom = λ p. order p 10;
-  press_middle = inside 490 510;
-  press_top = order 990;
-  table_bottom = λ p. order p 10;
-  table_top = order 590;
-  crane_at_deposit = λ p. order p 10;
-  crane_at_feed = order 1990;
-  barrier = inside 900 999;
-  no_plate_in_it = λ k. k;
-}
+sensors = search (rules, order, inside)
 
 -- ---- exactly what is shown
 
@@ -144,88 +93,22 @@ showing = record {
 
 feed_gives_elsewhere : (b : Belt) (z : Zone) → z ≢ Z1 → feed_hears Feed (Give z) b ≡ b
 feed_gives_elsewhere b Z1 other = absurd (other refl)
-feed_gives_elsewhere b Z2 other = refl
-feed_gives_elsewhere b Z3 other = refl
-feed_gives_elsewhere b Z4 other = refl
-feed_gives_elsewhere b Z5 other = refl
-feed_gives_elsewhere b Z6 other = refl
+feed_gives_elsewhere b another other = refl
 
 feed_takes_elsewhere : (b : Belt) (z : Zone) → z ≢ Z6 → feed_hears Feed (Take z) b ≡ b
-feed_takes_elsewhere b Z1 other = refl
-feed_takes_elsewhere b Z2 other = refl
-feed_takes_elsewhere b Z3 other = refl
-feed_takes_elsewhere b Z4 other = refl
-feed_takes_elsewhere b Z5 other = refl
 feed_takes_elsewhere b Z6 other = absurd (other refl)
+feed_takes_elsewhere b another other = refl
 
 deposit_gives_elsewhere : (b : Belt) (z : Zone) → z ≢ Z5 → deposit_hears Deposit (Give z) b ≡ b
-deposit_gives_elsewhere b Z1 other = refl
-deposit_gives_elsewhere b Z2 other = refl
-deposit_gives_elsewhere b Z3 other = refl
-deposit_gives_elsewhere b Z4 other = refl
 deposit_gives_elsewhere b Z5 other = absurd (other refl)
-deposit_gives_elsewhere b Z6 other = refl
+deposit_gives_elsewhere b another other = refl
 
 deposit_takes_elsewhere : (b : Belt) (z : Zone) → z ≢ Z4 → deposit_hears Deposit (Take z) b ≡ b
-deposit_takes_elsewhere b Z1 other = refl
-deposit_takes_elsewhere b Z2 other = refl
-deposit_takes_elsewhere b Z3 other = refl
 deposit_takes_elsewhere b Z4 other = absurd (other refl)
-deposit_takes_elsewhere b Z5 other = refl
-deposit_takes_elsewhere b Z6 other = refl
+deposit_takes_elsewhere b another other = refl
 
 pub notes : (scale : Scale) (scales : RobotScales) → NoteBounds scale scales
-notes scale scales = record {
-  feed_takes = refl;
-  feed_advances = refl;
-  feed_gives = refl;
-  feed_takes_another = refl;
-  feed_advances_while_it_runs = refl;
-  feed_gives_before = refl;
-  feed_refused = refl;
-  feed_hears_crane = refl;
-  feed_hears_table = refl;
-  feed_hears_press = refl;
-  feed_stays = record { claims = λ b z. refl; gives = feed_gives_elsewhere; yields = λ b z. refl; takes = feed_takes_elsewhere; releases = λ b z. refl; poses = λ b p. refl; inquires = λ b z. refl };
-  deposit_takes = refl;
-  deposit_advances = refl;
-  deposit_gives = refl;
-  deposit_takes_another = refl;
-  deposit_advances_while_it_runs = refl;
-  deposit_gives_before = refl;
-  deposit_refused = refl;
-  deposit_hears_robot = refl;
-  deposit_hears_crane = refl;
-  deposit_hears_feed = refl;
-  deposit_stays = record { claims = λ b z. refl; gives = deposit_gives_elsewhere; yields = λ b z. refl; takes = deposit_takes_elsewhere; releases = λ b z. refl; poses = λ b p. refl; inquires = λ b z. refl };
-  table_notes_nothing = λ part e. refl;
-  robot_notes_nothing = λ part e. refl;
-  press_notes_nothing = λ part e. refl;
-  crane_notes_nothing = λ part e. refl;
-}
+notes scale scales = search (rules, feed_gives_elsewhere, feed_takes_elsewhere, deposit_gives_elsewhere, deposit_takes_elsewhere)
 
 pub start : StartValues
-start = record {
-  no_plate_on_feed = refl;
-  no_plate_on_deposit = refl;
-  table = refl;
-  robot = refl;
-  press = refl;
-  crane = refl;
-  feed_entry = refl;
-  feed_end = refl;
-  deposit_entry = refl;
-  deposit_end = refl;
-  arm1_loaded = refl;
-  arm2_loaded = refl;
-  crane_loaded = refl;
-  nothing_collides = record {
-    arm_and_press = neither (λ k. k.0.lt) (λ k. k.0.lt);
-    table_and_arm = λ k. k.1.lt;
-    deposit_belt = λ k. false_true k.0;
-    feed_belt = λ k. false_true k.0;
-    crane = λ k. k.1.lt;
-    robot = λ k. k.0 refl;
-    plate_and_table = λ k. false_true k.0;
-  };
-}
+start = search rules

@@ -1,5 +1,5 @@
 -- The examples of what potentiometers show.
-use Rattle.std.proofs.Common.{ℕ, ◌+◌, ◌<◌, ◌≤◌, ℤ, pos, ◌≤ℤ◌, ◌<ℤ◌, refl, arith}
+use Rattle.std.proofs.Common.{rules, ℕ, ◌+◌, ◌<◌, ◌≤◌, ℤ, pos, ◌≤ℤ◌, ◌<ℤ◌, arith}
 use Rattle.std.specs.Prelude.{T}
 use Rattle.std.proofs.lemmas.Int.{ints}
 use Rattle.std.specs.Int.Signed.{le_z, lt_z, le_z_yes, lt_z_yes}
@@ -53,29 +53,4 @@ between s p raw k from to low high =
     )
 
 pub raws : RawBounds
-raws = record {
-  three_for_two_at_0 = between _ _ _ three_scale tt tt tt tt;
-  three_for_two_at_1 = between _ _ _ three_scale tt tt tt tt;
-  three_for_two_at_999 = between _ _ _ three_scale tt tt tt tt;
-  three_for_two_at_1000 = between _ _ _ three_scale tt tt tt tt;
-  arm1_at_1 = between _ _ _ arm1_scale tt tt tt tt;
-  arm1_at_501 = between _ _ _ arm1_scale tt tt tt tt;
-  arm1_at_999 = between _ _ _ arm1_scale tt tt tt tt;
-  arm2_at_1 = between _ _ _ arm2_scale tt tt tt tt;
-  arm2_at_501 = between _ _ _ arm2_scale tt tt tt tt;
-  arm2_at_999 = between _ _ _ arm2_scale tt tt tt tt;
-  rotation_at_1 = between _ _ _ rotation_scale tt tt tt tt;
-  rotation_at_1001 = between _ _ _ rotation_scale tt tt tt tt;
-  rotation_at_1999 = between _ _ _ rotation_scale tt tt tt tt;
-  turn_at_1 = between _ _ _ turn_scale tt tt tt tt;
-  turn_at_251 = between _ _ _ turn_scale tt tt tt tt;
-  turn_at_499 = between _ _ _ turn_scale tt tt tt tt;
-  gripper_at_1 = between _ _ _ gripper_scale tt tt tt tt;
-  gripper_at_501 = between _ _ _ gripper_scale tt tt tt tt;
-  gripper_at_999 = between _ _ _ gripper_scale tt tt tt tt;
-  before_the_first = (record { between = λ from to. absurd from.le; below = λ before. refl; above = λ beyond. absurd beyond.lt }, λ other shown. shown.below (lt_z_yes tt));
-  at_the_first = between _ _ _ short_limits tt tt tt tt;
-  in_the_middle = between _ _ _ short_limits tt tt tt tt;
-  at_the_last = between _ _ _ short_limits tt tt tt tt;
-  beyond_the_last = (record { between = λ from to. absurd to.le; below = λ before. absurd before.lt; above = λ beyond. refl }, λ other shown. shown.above (lt_z_yes tt));
-}
+raws = search (rules, between, three_scale, arm1_scale, arm2_scale, rotation_scale, turn_scale, gripper_scale, short_limits)

@@ -1,21 +1,8 @@
 -- A plate is on a belt if and only if its place is full: the entry's and the end's.
-use Rattle.std.proofs.Common.{◌≡◌, ℤ, Bool, true, false, not, IsSome, IsTrue, ◌↔◌, Option, Some, None, is_some, refl, sym, subst, if◌then◌else◌}
-use Rattle.cell_rules.specs.Types.{Machine, Zone, Place, Call, Give, Take, Advance, Done, transfer_of, same_machine}
-use Rattle.cell_rules.specs.Types.{keeper_of, own_move_of}
-use Rattle.cell_rules.specs.Names.{ModelState, zone_at, is_full, IsSound, is_party, is_received_by, owns, owner_of}
-use Rattle.cell_rules.specs.Names.{posture_at, transfer_given, given_by, advance_refusal, give_refusal, take_refusal}
-use Rattle.cell_rules.specs.Names.{reply, next}
-use Rattle.cell_rules.specs.Refusals.{has_no_work, press_unowned, not_at_work, nothing_to_work, no_room_for_work, worn, ◌or◌}
-use Rattle.cell_rules.proofs.Tables.{and_left, and_right}
-use Rattle.cell_rules.proofs.Done.{none_or, none_then_not, take_done, give_done}
-use Rattle.cell_rules.proofs.Soundness.{done_none}
-use Rattle.cell_rules.proofs.Plates.{fourth}
-use Rattle.cell_rules.proofs.Holders.{owner_is}
-use Rattle.cell_rules.proofs.OwnSide.{full-foreign}
-use Rattle.cell_control.proofs.Facts.{handed}
-use Rattle.cell_parts.specs.Names.{set_belt}
-use Rattle.cell_parts.specs.declared.belt.Belt.{Belt}
-use Rattle.cell_parts.specs.Plant.{plate_if, moved_plate, moved_belt}
+use Rattle.cell_plant.proofs.Names.{◌≡◌, ℤ, Bool, true, false, not, IsSome, IsTrue, ◌↔◌, Option, Some, None, is_some, refl, sym, subst, if◌then◌else◌, Machine, Zone, Place, Call, Give, Take, Advance, Done, transfer_of, same_machine}
+use Rattle.cell_plant.proofs.Names.{keeper_of, own_move_of, ModelState, zone_at, is_full, IsSound, is_party, is_received_by, owns, owner_of, posture_at, transfer_given, given_by, advance_refusal, give_refusal, take_refusal, reply, next}
+use Rattle.cell_plant.proofs.Names.{has_no_work, press_unowned, not_at_work, nothing_to_work, no_room_for_work, worn, ◌or◌, and_left, and_right, none_or, none_then_not, take_done, give_done, done_none, fourth, owner_is, full-foreign}
+use Rattle.cell_plant.proofs.Names.{handed, set_belt, Belt, plate_if, moved_plate, moved_belt}
 
 abbrev pub StandsIf : Option ℤ → Bool → Type 0
 StandsIf plate full = IsSome plate ↔ IsTrue full
@@ -42,7 +29,7 @@ plates_set z first last b runs k = record { entry = k.entry; end = k.end }
 
 carried : (plate : Option ℤ) (full : Bool) → StandsIf plate full → StandsIf (moved_plate plate) full
 carried (Some at) full k = k
-carried None full k = k
+carried _ full k = k
 
 carried_by : (runs : Bool) (z : ModelState) (first last : Place) (b : Belt) → PlatesStand z first last b → PlatesStand z first last (if runs then record { entry = moved_plate b.entry; last = moved_plate b.last; runs = b.runs } else b)
 carried_by true z first last b k = record { entry = carried b.entry _ k.entry; end = carried b.last _ k.end }
@@ -53,7 +40,7 @@ plates_moved z first last b k = carried_by b.runs z first last b k
 
 runs_by : (t : Bool) (b : Belt) → (if t then record { entry = moved_plate b.entry; last = moved_plate b.last; runs = b.runs } else b).runs ≡ b.runs
 runs_by true b = refl
-runs_by false b = refl
+runs_by _ b = refl
 
 pub still_runs : (b : Belt) → (moved_belt b).runs ≡ b.runs
 still_runs b = runs_by b.runs b

@@ -1,15 +1,8 @@
 -- The invariant of each machine's side; it holds in every state of a run of the cell.
-use Rattle.std.proofs.Common.{refl, sym, ap}
-use Rattle.cell_rules.specs.Types.{Machine, Feed, Table, Robot, Press, Deposit, Crane, Watch}
-use Rattle.cell_rules.specs.Names.{ModelState, IsStartState}
+use Rattle.cell_plant.proofs.Names.{refl, sym, ap, Machine, Feed, Table, Robot, Press, Deposit, Crane, Watch, ModelState, IsStartState, deposit_steps, feed_steps, press_steps, table_steps, table_at_start, feed_rig, table_rig, press_rig}
+use Rattle.cell_plant.proofs.Names.{deposit_rig, AreCellScales, Keeping, With, demands_kept, ProgressOf, PartOf, robot_points, steps_of, rig_of, side_in, sides_at_start}
 use Rattle.cell_calib.specs.Line.{IsReading}
-use Rattle.cell_haul.specs.Names.{deposit_steps, feed_steps}
-use Rattle.cell_stations.specs.Names.{press_steps, table_steps}
-use Rattle.cell_parts.specs.Names.{table_at_start, feed_rig, table_rig, press_rig, deposit_rig, CellScales}
-use Rattle.cell_parts.specs.Names.{AreCellScales}
-use Rattle.cell_unit.proofs.Keeping.{Keeping}
-use Rattle.cell_unit.proofs.Demanding.{With, demands_kept}
-use Rattle.cell_plant.specs.Names.{ProgressOf, PartOf, robot_points, steps_of, rig_of, side_in, sides_at_start}
+use Rattle.cell_parts.specs.Names.{CellScales}
 use Rattle.cell_plant.proofs.CraneKeeps.{CraneInv, CraneTold, crane-start, crane-keeping}
 use Rattle.cell_plant.proofs.DepositKeeps.{DepositInv, DepositRuns, deposit-start, deposit-keeping, deposit-demanding}
 use Rattle.cell_plant.proofs.FeedKeeps.{FeedInv, FeedRuns, feed-start, feed-keeping, feed-demanding}

@@ -1,48 +1,15 @@
 -- The invariant of the crane's side: it holds in every state of a run.
-use Rattle.std.proofs.Common.{◌≡◌, ℤ, pos, ◌+ℤ◌, ◌-ℤ◌, ◌<ℤ◌, ◌≤ℤ◌, Bool, true, false, not, ◌&&◌, ◌||◌, ◌⊎◌, inl, inr, Option, Some, None, Result, Ok, refl, sym, ap, ◌∙◌, if◌then◌else◌, arith}
-use Rattle.std.specs.Prelude.{⊤}
-use Rattle.std.proofs.lemmas.Int.{ints, clamps}
-use Rattle.cell_rules.specs.Types.{Machine, Crane, Call, Reply}
+use Rattle.cell_plant.proofs.Names.{◌≡◌, ℤ, pos, ◌<ℤ◌, ◌≤ℤ◌, Bool, true, false, not, ◌&&◌, ◌||◌, ◌⊎◌, inl, inr, Option, Some, None, Result, Ok, refl, sym, ap, ◌∙◌, if◌then◌else◌, arith, ⊤, ints, clamps, Machine, Crane, Call, Reply, Scale}
+use Rattle.cell_plant.proofs.Names.{IsNear, IsReading, CraneSense, DrivesTo, Motor, Off, Plus, Minus, CraneAct, ModelState, is_full, changed, LineFault, Turned, Turns, CtlFault, AreSo, row_at, row_of, step_after_inquiry, after_done}
+use Rattle.cell_plant.proofs.Names.{first_step, crane_start, is_done, gripper_stop, Senses, Acts, crane_steps, CraneStep, RaiseToFetch, TravelToDeposit, AwaitPlate, LowerToPlate, GripPlate, RaiseWithPlate, TravelToFeed, ClaimFeed}
+use Rattle.cell_plant.proofs.Names.{LowerToFeed, DropPlate, RaiseFromFeed, CraneProgress, CraneReading, is_off, travels, travel_for, facts_at, CraneKnows, crane_begins, crane-knowing, act_or_rest, Keeping, turn_tells, IsAxisScale, IsWithin}
+use Rattle.cell_plant.proofs.Names.{crane_end, gripper_end, crane_at_start, moved_to, moved_axis, set_axis, set_crane, crane_rig, IsOn, IsGripperDown, IsOverDeposit, IsOverFeed, LetsGo, CraneMayLetGo, DrivesPast, ErrandDemands, Axis}
+use Rattle.cell_plant.proofs.Names.{CranePlant, gripper_start, CraneShows, TravelsHigh, CraneHasDeposit, CraneHasFeed}
 use Rattle.cell_types.specs.declared.place.Place.TheVariants.{Crane as OnCrane}
-use Rattle.cell_calib.specs.Names.{Scale, IsNear, IsReading}
-use Rattle.cell_calib.specs.declared.sense.CraneSense.{CraneSense}
-use Rattle.cell_devices.specs.Names.{DrivesTo, travel_from}
-use Rattle.cell_devices.specs.declared.motor.Motor.{Motor}
-use Rattle.cell_devices.specs.declared.motor.Motor.TheVariants.{Off, Plus, Minus}
-use Rattle.cell_devices.specs.declared.act.CraneAct.{CraneAct}
-use Rattle.cell_rules.specs.Names.{ModelState, is_full, changed}
-use Rattle.cell_rules.specs.declared.heard.LineFault.{LineFault}
-use Rattle.cell_control.specs.Names.{Turned, Turns}
-use Rattle.cell_control.specs.declared.fault.CtlFault.{CtlFault}
-use Rattle.cell_control.proofs.Facts.{AreSo}
-use Rattle.cell_haul.specs.Names.{row_at, row_of, step_after_inquiry, after_done, first_step, crane_start, is_done}
-use Rattle.cell_haul.specs.Names.{gripper_stop, Senses, Acts, crane_steps}
-use Rattle.cell_haul.specs.declared.crane.CraneStep.{CraneStep}
-use Rattle.cell_haul.specs.declared.crane.CraneStep.TheVariants.{RaiseToFetch, TravelToDeposit, AwaitPlate}
-use Rattle.cell_haul.specs.declared.crane.CraneStep.TheVariants.{LowerToPlate, GripPlate, RaiseWithPlate}
-use Rattle.cell_haul.specs.declared.crane.CraneStep.TheVariants.{ReleaseDeposit, TravelToFeed, ClaimFeed, LowerToFeed}
-use Rattle.cell_haul.specs.declared.crane.CraneStep.TheVariants.{DropPlate, RaiseFromFeed}
-use Rattle.cell_haul.specs.declared.crane.CraneProgress.{CraneProgress}
-use Rattle.cell_haul.specs.declared.crane.CraneReading.{CraneReading}
-use Rattle.cell_haul.specs.declared.crane.CraneStep.TheVariants.{TakePlate, GivePlate}
-use Rattle.cell_haul.specs.CraneProgram.{is_off, travels, travel_for}
-use Rattle.cell_haul.proofs.CraneFacts.{facts_at, CraneKnows, crane_begins, crane-knowing}
-use Rattle.cell_unit.specs.Sides.{act_or_rest}
-use Rattle.cell_unit.proofs.Keeping.{Keeping, turn_tells}
-use Rattle.cell_parts.specs.Names.{IsAxisScale, IsWithin, crane_end, gripper_end, crane_at_start, moved_to}
-use Rattle.cell_parts.specs.Names.{moved_axis, set_axis, set_crane, crane_rig, IsOn, IsGripperDown, IsOverDeposit}
-use Rattle.cell_parts.specs.Names.{IsOverFeed, over_deposit_to, over_feed_from, LetsGo, CraneMayLetGo, DrivesPast}
-use Rattle.cell_parts.specs.Names.{ErrandDemands}
-use Rattle.cell_parts.specs.declared.axis.Axis.{Axis}
-use Rattle.cell_parts.specs.declared.plant.CranePlant.{CranePlant}
-use Rattle.cell_parts.specs.Axes.{gripper_start}
-use Rattle.cell_parts.specs.Shows.{CraneShows}
-use Rattle.cell_parts.specs.MotorDemands.{TravelsHigh}
-use Rattle.cell_parts.specs.PositionDemands.{CraneHasDeposit, CraneHasFeed}
 use Rattle.cell_plant.specs.Errands.{errand_of}
 use Rattle.cell_plant.proofs.Magnets.{still_on}
-use Rattle.cell_plant.proofs.Stops.{reading_near, StopsWithin, off_within, driven_within}
-use Rattle.cell_plant.proofs.WithinLemmas.{between, moved_within}
+use Rattle.cell_plant.proofs.Stops.{reading_near, StopsWithin, not_on, off_within, driven_within}
+use Rattle.cell_plant.proofs.WithinLemmas.{moved_within}
 
 -- how high the gripper is at a step: high enough to travel, close above the feed belt, or anywhere
 pub data Level : Type 0 where
@@ -51,20 +18,13 @@ pub data Level : Type 0 where
   Any : Level
 
 abbrev level_of : CraneStep → Level
-level_of RaiseToFetch = Up
-level_of TravelToDeposit = Up
-level_of AwaitPlate = Up
 level_of LowerToPlate = Any
 level_of GripPlate = Any
 level_of RaiseWithPlate = Any
-level_of TakePlate = Up
-level_of ReleaseDeposit = Up
-level_of TravelToFeed = Up
-level_of ClaimFeed = Up
 level_of LowerToFeed = Any
 level_of DropPlate = Close
 level_of RaiseFromFeed = Any
-level_of GivePlate = Up
+level_of _ = Up
 
 abbrev IsAt : Level → ℤ → Type 0
 IsAt Up h = pos 850 ≤ℤ h
@@ -104,20 +64,15 @@ pub data Stand : Type 0 where
   Anywhere : Stand
 
 abbrev stand_of : CraneStep → Stand
-stand_of RaiseToFetch = Anywhere
-stand_of TravelToDeposit = Anywhere
 stand_of AwaitPlate = OverDeposit
 stand_of LowerToPlate = OverDeposit
 stand_of GripPlate = OverDeposit
 stand_of RaiseWithPlate = OverDeposit
-stand_of TakePlate = Anywhere
-stand_of ReleaseDeposit = Anywhere
-stand_of TravelToFeed = Anywhere
 stand_of ClaimFeed = OverFeed
 stand_of LowerToFeed = OverFeed
 stand_of DropPlate = OverFeed
 stand_of RaiseFromFeed = OverFeed
-stand_of GivePlate = Anywhere
+stand_of _ = Anywhere
 
 abbrev IsOver : Stand → ℤ → Type 0
 IsOver OverDeposit x = x ≤ℤ pos 10
@@ -165,7 +120,7 @@ CraneTold = CraneHas IsToldAt IsToldOver
 -- at the start
 first_level : (loaded : Bool) → IsAt (level_of (first_step loaded)) gripper_start
 first_level true = omega (arith, ints)
-first_level false = omega (arith, ints)
+first_level _ = omega (arith, ints)
 
 first_stand : (loaded : Bool) (x : ℤ) → IsOver (stand_of (first_step loaded)) x
 first_stand true x = tt
@@ -175,138 +130,65 @@ pub crane-start : (s : ModelState) → CraneInv s (crane_start s) (crane_at_star
 crane-start s = record {
   knows = crane_begins s;
   magnet = refl;
-  gripper_within = between gripper_end gripper_start (omega (arith, ints)) (omega (arith, ints));
-  travel_within = between crane_end (pos 0) (omega (arith, ints)) (omega (arith, ints));
+  gripper_within = omega (arith, ints);
+  travel_within = omega (arith, ints);
   level = first_level (is_full s OnCrane);
   stand = first_stand (is_full s OnCrane) (pos 0);
   travelling = λ on. absurd (on refl);
 }
 
--- a step that asks leaves it where it is
-asks_level : (s : CraneStep) (p : CraneProgress) (c : Call) (h : ℤ) → (row_at s p).call ≡ Some c → IsAt (level_of s) h → IsAt (level_of (row_at s p).next.step) h
-asks_level AwaitPlate p c h e k = k
-asks_level TakePlate p c h e k = k
-asks_level ReleaseDeposit p c h e k = k
-asks_level ClaimFeed p c h e k = tt
-asks_level GivePlate p c h e k = k
-asks_level s p c h e k = cc
+-- a step that asks leaves it where it is, and switches no magnet
+asks_there : (s : CraneStep) (p : CraneProgress) (c : Call) (h x : ℤ) → (row_at s p).call ≡ Some c
+    → (IsAt (level_of s) h → IsAt (level_of (row_at s p).next.step) h) × (IsOver (stand_of s) x → IsOver (stand_of (row_at s p).next.step) x) × (p.magnet ≡ (row_at s p).next.magnet)
+asks_there AwaitPlate p c h x e = assumption
+asks_there s p c h x e = first_of (assumption, cc)
 
-asks_stand : (s : CraneStep) (p : CraneProgress) (c : Call) (x : ℤ) → (row_at s p).call ≡ Some c → IsOver (stand_of s) x → IsOver (stand_of (row_at s p).next.step) x
-asks_stand AwaitPlate p c x e k = k
-asks_stand TakePlate p c x e k = tt
-asks_stand ReleaseDeposit p c x e k = tt
-asks_stand ClaimFeed p c x e k = k
-asks_stand GivePlate p c x e k = tt
-asks_stand s p c x e k = cc
-
-asks_magnet : (s : CraneStep) (p : CraneProgress) (c : Call) → (row_at s p).call ≡ Some c → p.magnet ≡ (row_at s p).next.magnet
-asks_magnet AwaitPlate p c e = refl
-asks_magnet TakePlate p c e = refl
-asks_magnet ReleaseDeposit p c e = refl
-asks_magnet ClaimFeed p c e = refl
-asks_magnet GivePlate p c e = refl
-asks_magnet s p c e = cc
-
-awaits_level : (o : Option Machine) (f : Bool) (h : ℤ) → pos 850 ≤ℤ h → IsAt (level_of (step_after_inquiry AwaitPlate o f)) h
-awaits_level (Some Crane) true h k = tt
-awaits_level o f h k = k
-
-awaits_stand : (o : Option Machine) (f : Bool) (x : ℤ) → x ≤ℤ pos 10 → IsOver (stand_of (step_after_inquiry AwaitPlate o f)) x
-awaits_stand (Some Crane) true x k = k
-awaits_stand o f x k = k
-
-shows_level : (s : CraneStep) (o : Option Machine) (f : Bool) (h : ℤ) → IsAt (level_of s) h → IsAt (level_of (step_after_inquiry s o f)) h
-shows_level AwaitPlate o f h k = awaits_level o f h k
-shows_level s o f h k = k
-
-shows_stand : (s : CraneStep) (o : Option Machine) (f : Bool) (x : ℤ) → IsOver (stand_of s) x → IsOver (stand_of (step_after_inquiry s o f)) x
-shows_stand AwaitPlate o f x k = awaits_stand o f x k
-shows_stand s o f x k = k
+shows_there : (s : CraneStep) (o : Option Machine) (f : Bool) (h x : ℤ)
+    → (IsAt (level_of s) h → IsAt (level_of (step_after_inquiry s o f)) h) × (IsOver (stand_of s) x → IsOver (stand_of (step_after_inquiry s o f)) x)
+shows_there AwaitPlate (Some Crane) true h x = assumption
+shows_there s o f h x = assumption
 
 -- the gripper is driven
-raised : (h read tol : ℤ) → IsNear read h tol → IsNear read (pos 900) (pos 50 -ℤ tol) → pos 850 ≤ℤ h
-raised h read tol a b = omega (arith, ints)
-
-lowered : (h read tol : ℤ) → IsNear read h tol → IsNear read (pos 300) (pos 50 -ℤ tol) → (pos 250 ≤ℤ h) × (h ≤ℤ pos 350)
-lowered h read tol a b = (omega (arith, ints), omega (arith, ints))
-
-over : (h read tol : ℤ) → tol ≤ℤ pos 10 → IsNear read h tol → (pos 900 +ℤ (pos 50 -ℤ tol)) <ℤ read → pos 900 <ℤ h
-over h read tol a b c = omega (arith, ints)
-
 done_level : (s : CraneStep) (p : CraneProgress) (h read tol : ℤ) (m : Motor) → (row_at s p).call ≡ None → IsNear read h tol → DrivesTo (gripper_stop s) tol read m → m ≡ Off → IsAt (level_of s) h → IsAt (level_of (row_at s p).next.step) h
-done_level RaiseToFetch p h read tol m e near drives off k = k
-done_level TravelToDeposit p h read tol m e near drives off k = k
-done_level LowerToPlate p h read tol m e near drives off k = tt
-done_level GripPlate p h read tol m e near drives off k = tt
-done_level RaiseWithPlate p h read tol m e near drives off k = raised h read tol near (drives.off.0 off)
-done_level TravelToFeed p h read tol m e near drives off k = k
-done_level LowerToFeed p h read tol m e near drives off k = lowered h read tol near (drives.off.0 off)
-done_level DropPlate p h read tol m e near drives off k = tt
-done_level RaiseFromFeed p h read tol m e near drives off k = raised h read tol near (drives.off.0 off)
-done_level s p h read tol m e near drives off k = cc
+done_level RaiseWithPlate p h read tol m e near drives off k = let there = drives.off.0 off in omega (arith, ints)
+done_level LowerToFeed p h read tol m e near drives off k = let there = drives.off.0 off in omega (arith, ints)
+done_level RaiseFromFeed p h read tol m e near drives off k = let there = drives.off.0 off in omega (arith, ints)
+done_level s p h read tol m e near drives off k = first_of (assumption, cc)
 
 stays_level : (s : CraneStep) (p : CraneProgress) (g : Axis) (read tol : ℤ) (m : Motor) → (row_at s p).call ≡ None → tol ≤ℤ pos 10 → IsNear read g.position tol → DrivesTo (gripper_stop s) tol read m → IsAt (level_of s) g.position → IsToldAt (level_of s) (set_axis g m)
-stays_level RaiseToFetch p g read tol m e small near drives k = (k, λ minus. over g.position read tol small near (drives.minus.0 minus))
+stays_level RaiseToFetch p g read tol m e small near drives k = (k, λ minus. let above = drives.minus.0 minus in omega (arith, ints))
 stays_level TravelToDeposit p g read tol m e small near drives k = level_off Up (set_axis g m) drives k
 stays_level TravelToFeed p g read tol m e small near drives k = level_off Up (set_axis g m) drives k
-stays_level DropPlate p g read tol m e small near drives k = level_off Close (set_axis g m) drives k
-stays_level LowerToPlate p g read tol m e small near drives k = tt
-stays_level GripPlate p g read tol m e small near drives k = tt
-stays_level RaiseWithPlate p g read tol m e small near drives k = tt
-stays_level LowerToFeed p g read tol m e small near drives k = tt
-stays_level RaiseFromFeed p g read tol m e small near drives k = tt
-stays_level s p g read tol m e small near drives k = cc
+stays_level s p g read tol m e small near drives k = first_of (assumption, cc)
 
 -- the travel is driven
 at_switch : (high at : Bool) (on : Motor) → high ≡ true → (if high then (if at then Off else on) else Off) ≡ Off → (on ≡ Off → ⊥) → at ≡ true
-at_switch true true on e f g = refl
-at_switch true false on e f g = absurd (g f)
-at_switch false at on e f g = cc
+at_switch high at on e f g = grind arith
 
 done_stand : (s : CraneStep) (p : CraneProgress) (x : ℤ) (high : Bool) (sense : CraneSense) (m : Motor) → (row_at s p).call ≡ None → m ≡ travel_for s high sense → m ≡ Off → (travels s ≡ true → high ≡ true)
     → (sense.deposit ≡ true → x ≤ℤ pos 10) → (sense.feed ≡ true → pos 1990 ≤ℤ x) → IsOver (stand_of s) x → IsOver (stand_of (row_at s p).next.step) x
-done_stand RaiseToFetch p x high sense m e drives off h d f k = tt
 done_stand TravelToDeposit p x high sense m e drives off h d f k = d (at_switch high sense.deposit Minus (h refl) (sym drives ∙ off) (λ q. cc))
-done_stand LowerToPlate p x high sense m e drives off h d f k = k
-done_stand GripPlate p x high sense m e drives off h d f k = k
-done_stand RaiseWithPlate p x high sense m e drives off h d f k = tt
 done_stand TravelToFeed p x high sense m e drives off h d f k = f (at_switch high sense.feed Plus (h refl) (sym drives ∙ off) (λ q. cc))
-done_stand LowerToFeed p x high sense m e drives off h d f k = k
-done_stand DropPlate p x high sense m e drives off h d f k = k
-done_stand RaiseFromFeed p x high sense m e drives off h d f k = tt
-done_stand s p x high sense m e drives off h d f k = cc
+done_stand s p x high sense m e drives off h d f k = first_of (assumption, cc)
 
 stays_stand : (s : CraneStep) (p : CraneProgress) (a : Axis) (high : Bool) (sense : CraneSense) (m : Motor) → (row_at s p).call ≡ None → m ≡ travel_for s high sense → IsOver (stand_of s) a.position → IsToldOver (stand_of s) (set_axis a m)
 stays_stand RaiseToFetch p a high sense m e drives k = tt
-stays_stand TravelToDeposit p a high sense m e drives k = tt
-stays_stand TravelToFeed p a high sense m e drives k = tt
-stays_stand LowerToPlate p a high sense m e drives k = (k, drives)
-stays_stand GripPlate p a high sense m e drives k = (k, drives)
-stays_stand RaiseWithPlate p a high sense m e drives k = (k, drives)
-stays_stand LowerToFeed p a high sense m e drives k = (k, drives)
-stays_stand DropPlate p a high sense m e drives k = (k, drives)
-stays_stand RaiseFromFeed p a high sense m e drives k = (k, drives)
-stays_stand s p a high sense m e drives k = cc
+stays_stand s p a high sense m e drives k = first_of (assumption, cc)
 
 -- a step that switches a magnet is done in its turn
 both_off : (a b : Motor) → (is_off a && is_off b) ≡ true → (a ≡ Off) × (b ≡ Off)
-both_off Off Off e = (refl, refl)
-both_off a b e = cc
+both_off a b e = grind arith
 
 not_both : (a b : Motor) → a ≡ Off → b ≡ Off → (is_off a && is_off b) ≡ false → ⊥
-not_both Off Off e f g = cc
-not_both a b e f g = cc
+not_both a b e f g = grind arith
 
 stays_magnet : (s : CraneStep) (p : CraneProgress) (high : Bool) (sense : CraneSense) (tol read : ℤ) (act : CraneAct) → (row_at s p).call ≡ None → act.travel ≡ travel_for s high sense → DrivesTo (gripper_stop s) tol read act.height → is_done s high act ≡ false → (row_at s p).next.magnet ≡ p.magnet
 stays_magnet GripPlate p high sense tol read act e travel height stays = absurd (not_both act.travel act.height travel height stays)
-stays_magnet DropPlate p high sense tol read act e travel height stays = absurd (not_both act.travel act.height travel height stays)
-stays_magnet s p high sense tol read act e travel height stays = refl
+stays_magnet s p high sense tol read act e travel height stays = first_of (assumption, search not_both)
 
 -- what a done step says of its motors
 done_when : (t high : Bool) (a b : Motor) → ((not t || high) && (is_off a && is_off b)) ≡ true → ((t ≡ true → high ≡ true) × ((a ≡ Off) × (b ≡ Off)))
-done_when true true a b e = (λ q. refl, both_off a b e)
-done_when true false a b e = cc
-done_when false high a b e = (λ q. cc, both_off a b e)
+done_when t high a b e = grind arith
 
 gripper_near : (points : Scale) (c : CranePlant) (s : CraneSense) (r : CraneReading) → IsAxisScale gripper_end points → IsWithin gripper_end c.gripper.position → CraneShows points c s → Senses points (IsReading points) s (Ok r) → IsNear r.gripper c.gripper.position points.tol
 gripper_near points c s r k within shows senses = reading_near gripper_end points c.gripper.position s.gripper r.gripper k within shows.raw senses.near
@@ -314,21 +196,12 @@ gripper_near points c s r k within shows senses = reading_near gripper_end point
 -- only a step that travels commands the travel
 told_travels : (s : CraneStep) (high : Bool) (sense : CraneSense) (m : Motor) → m ≡ travel_for s high sense → (m ≡ Off → ⊥) → travels s ≡ true
 told_travels TravelToDeposit high sense m e on = refl
-told_travels TravelToFeed high sense m e on = refl
-told_travels s high sense m e on = absurd (on e)
+told_travels s high sense m e on = first_of (assumption, search)
 
 -- with its motors off it stays where it is
 at_rest : (y : ModelState) (p q : CraneProgress) (c : CranePlant) → {z : ModelState} → CraneInv z p c → CraneKnows q y → p.magnet ≡ q.magnet → IsAt (level_of q.step) c.gripper.position → IsOver (stand_of q.step) c.travel.position
     → CraneTold y q (set_crane c (record { travel = Off; height = Off; magnet = p.magnet }))
-at_rest y p q c i knows magnet level stand = record {
-  knows = knows;
-  magnet = magnet;
-  gripper_within = i.gripper_within;
-  travel_within = i.travel_within;
-  level = level_off (level_of q.step) (set_axis c.gripper Off) refl level;
-  stand = stand_off (stand_of q.step) (set_axis c.travel Off) refl stand;
-  travelling = λ on. absurd (on refl);
-}
+at_rest y p q c i knows magnet level stand = search (level_off, stand_off, not_on)
 
 module _ (points : Scale) (axis : IsAxisScale gripper_end points) where
   drive : (b : Bool) (z : ModelState) (p : CraneProgress) (c : CranePlant) (s : CraneSense) (r : CraneReading) (act : CraneAct) → is_done p.step r.high act ≡ b → (row_of p).call ≡ None → CraneShows points c s → Senses points (IsReading points) s (Ok r) → Acts points p r act → CraneInv z p c
@@ -359,60 +232,29 @@ module _ (points : Scale) (axis : IsAxisScale gripper_end points) where
 
   pub crane-keeping : Keeping (crane_steps points (IsReading points)) (crane_rig points) CraneInv CraneTold
   crane-keeping = record {
-    foreign = λ z p b n c apart sound i. record {
-      knows = (crane-knowing points (IsReading points)).foreign p z n c apart sound i.knows;
-      magnet = i.magnet;
-      gripper_within = i.gripper_within;
-      travel_within = i.travel_within;
-      level = i.level;
-      stand = i.stand;
-      travelling = i.travelling;
-    };
+    foreign = λ z p b n c apart sound i. assumption ((crane-knowing points (IsReading points)).foreign p z n c apart sound i.knows);
     rests = λ z p b i. at_rest z p p b i i.knows refl i.level i.stand;
     after_done = λ z p b c e d sound i.
-        at_rest (changed z Crane c) p (after_done p) b i ((crane-knowing points (IsReading points)).after_done p z c e d sound i.knows) (asks_magnet p.step p c e) (asks_level p.step p c b.gripper.position e i.level) (asks_stand p.step p c b.travel.position e i.stand);
+        let there = asks_there p.step p c b.gripper.position b.travel.position e in
+        at_rest (changed z Crane c) p (after_done p) b i ((crane-knowing points (IsReading points)).after_done p z c e d sound i.knows) there.2 (there.0 i.level) (there.1 i.stand);
     after_inquiry = λ z p b c o f q e d sound i.
-        at_rest z p (record p { step = step_after_inquiry p.step o f }) b i ((crane-knowing points (IsReading points)).after_inquiry p z c o f q e d sound i.knows) refl (shows_level p.step o f b.gripper.position i.level) (shows_stand p.step o f b.travel.position i.stand);
+        let there = shows_there p.step o f b.gripper.position b.travel.position in
+        at_rest z p (record p { step = step_after_inquiry p.step o f }) b i ((crane-knowing points (IsReading points)).after_inquiry p z c o f q e d sound i.knows) refl (there.0 i.level) (there.1 i.stand);
     after_drive = λ z p b s r act e shows senses acts i. drive (is_done p.step r.high act) z p b s r act refl e shows senses acts i ((crane-knowing points (IsReading points)).after_drive p r act z e acts i.knows);
-    told = λ z p b i. record {
-      knows = i.knows;
-      magnet = i.magnet;
-      gripper_within = i.gripper_within;
-      travel_within = i.travel_within;
-      level = level_told (level_of p.step) b.gripper i.level;
-      stand = stand_told (stand_of p.step) b.travel i.stand;
-      travelling = i.travelling;
-    };
-    moves = λ z p b i. record {
-      knows = i.knows;
-      magnet = i.magnet;
-      gripper_within = moved_within gripper_end b.gripper (omega (arith, ints)) i.gripper_within;
-      travel_within = moved_within crane_end b.travel (omega (arith, ints)) i.travel_within;
-      level = level_moved (level_of p.step) b.gripper i.level;
-      stand = stand_moved (stand_of p.step) b.travel i.stand;
-      travelling = i.travelling;
-    };
+    told = λ z p b i. assumption (level_told (level_of p.step) b.gripper i.level, stand_told (stand_of p.step) b.travel i.stand);
+    moves = λ z p b i. search (arith, ints, moved_within, level_moved, stand_moved);
   }
 
 -- where its gripper may be down, and why it is driven at each step
-low : (h : ℤ) → h <ℤ travel_from → pos 850 ≤ℤ h → ⊥
-low h a b = absurd (omega (arith, ints))
-
-over_deposit : (x : ℤ) → x ≤ℤ pos 10 → x ≤ℤ over_deposit_to
-over_deposit x a = omega (arith, ints)
-
-over_feed : (x : ℤ) → pos 1990 ≤ℤ x → over_feed_from ≤ℤ x
-over_feed x a = omega (arith, ints)
-
 down_at : (s : CraneStep) (z : ModelState) (c : CranePlant) → AreSo Crane z (facts_at s) → IsAt (level_of s) c.gripper.position → IsOver (stand_of s) c.travel.position → IsGripperDown c
     → (IsOverDeposit c × CraneHasDeposit z) ⊎ (IsOverFeed c × CraneHasFeed z)
-down_at LowerToPlate z c k level stand down = inl (over_deposit c.travel.position stand, k.0)
-down_at GripPlate z c k level stand down = inl (over_deposit c.travel.position stand, k.0)
-down_at RaiseWithPlate z c k level stand down = inl (over_deposit c.travel.position stand, k.0)
-down_at LowerToFeed z c k level stand down = inr (over_feed c.travel.position stand, k.0)
-down_at DropPlate z c k level stand down = inr (over_feed c.travel.position stand, k.0)
-down_at RaiseFromFeed z c k level stand down = inr (over_feed c.travel.position stand, k.0)
-down_at s z c k level stand down = absurd (low c.gripper.position down level)
+down_at LowerToPlate z c k level stand down = inl (omega (arith, ints), k.0)
+down_at GripPlate z c k level stand down = inl (omega (arith, ints), k.0)
+down_at RaiseWithPlate z c k level stand down = inl (omega (arith, ints), k.0)
+down_at LowerToFeed z c k level stand down = inr (omega (arith, ints), k.0)
+down_at DropPlate z c k level stand down = inr (omega (arith, ints), k.0)
+down_at RaiseFromFeed z c k level stand down = inr (omega (arith, ints), k.0)
+down_at s z c k level stand down = absurd (omega (arith, ints))
 
 pub gripper-down : (z : ModelState) (p : CraneProgress) (c : CranePlant) → CraneInv z p c → IsGripperDown c → (IsOverDeposit c × CraneHasDeposit z) ⊎ (IsOverFeed c × CraneHasFeed z)
 gripper-down z p c i down = down_at p.step z c i.knows i.level i.stand down
@@ -434,7 +276,7 @@ high_at TravelToFeed h e k = k
 high_at s h e k = cc
 
 pub travels-high : (z : ModelState) (p : CraneProgress) (c : CranePlant) → CraneInv z p c → TravelsHigh c
-travels-high z p c i on down = low c.gripper.position down (high_at p.step c.gripper.position (i.travelling on) i.level)
+travels-high z p c i on down = let high = high_at p.step c.gripper.position (i.travelling on) i.level in omega (arith, ints)
 
 -- No turn drives it on past an end: its travel by the switches, its gripper by its reading.
 abbrev DrivesOut : CranePlant → Type 0
@@ -444,35 +286,13 @@ off_stays : (c : CranePlant) (m : Bool) → ¬ DrivesOut (set_crane c (record { 
 off_stays c m (inl past) = off_within crane_end (set_axis c.travel Off) refl past
 off_stays c m (inr past) = off_within gripper_end (set_axis c.gripper Off) refl past
 
-not_minus : (high at : Bool) → (if high then (if at then Off else Minus) else Off) ≡ Minus → at ≡ true → ⊥
-not_minus true true e a = cc
-not_minus true false e a = cc
-not_minus false at e a = cc
-
-no_minus : (high at : Bool) → (if high then (if at then Off else Plus) else Off) ≡ Minus → ⊥
-no_minus true true e = cc
-no_minus true false e = cc
-no_minus false at e = cc
-
-not_plus : (high at : Bool) → (if high then (if at then Off else Plus) else Off) ≡ Plus → at ≡ true → ⊥
-not_plus true true e a = cc
-not_plus true false e a = cc
-not_plus false at e a = cc
-
-no_plus : (high at : Bool) → (if high then (if at then Off else Minus) else Off) ≡ Plus → ⊥
-no_plus true true e = cc
-no_plus true false e = cc
-no_plus false at e = cc
-
 stays_first : (s : CraneStep) (high : Bool) (x : CraneSense) → travel_for s high x ≡ Minus → x.deposit ≡ true → ⊥
-stays_first TravelToDeposit high x e at = not_minus high x.deposit e at
-stays_first TravelToFeed high x e at = no_minus high x.feed e
-stays_first s high x e at = cc
+stays_first TravelToDeposit high x e at = grind arith
+stays_first s high x e at = grind arith
 
 stays_last : (s : CraneStep) (high : Bool) (x : CraneSense) → travel_for s high x ≡ Plus → x.feed ≡ true → ⊥
-stays_last TravelToDeposit high x e at = no_plus high x.deposit e
-stays_last TravelToFeed high x e at = not_plus high x.feed e at
-stays_last s high x e at = cc
+stays_last TravelToDeposit high x e at = grind arith
+stays_last s high x e at = grind arith
 
 travel_stays : (points : Scale) (c : CranePlant) (s : CraneStep) (high : Bool) (x : CraneSense) (m : Motor) → CraneShows points c x → m ≡ travel_for s high x → ¬ DrivesPast crane_end (set_axis c.travel m)
 travel_stays points c s high x m shows e (inl past) =
@@ -483,12 +303,8 @@ travel_stays points c s high x m shows e (inr past) =
     stays_last s high x (sym e ∙ past.1) (shows.feed.1 (omega (arith, ints)))
 
 stops_within : (s : CraneStep) → StopsWithin gripper_end (gripper_stop s)
-stops_within RaiseToFetch = (omega (arith, ints), omega (arith, ints), omega (arith, ints))
-stops_within LowerToPlate = (omega (arith, ints), omega (arith, ints), omega (arith, ints))
-stops_within RaiseWithPlate = (omega (arith, ints), omega (arith, ints), omega (arith, ints))
-stops_within LowerToFeed = (omega (arith, ints), omega (arith, ints), omega (arith, ints))
-stops_within RaiseFromFeed = (omega (arith, ints), omega (arith, ints), omega (arith, ints))
-stops_within s = tt
+stops_within RaiseToFetch = omega (arith, ints)
+stops_within s = omega (arith, ints)
 
 -- Its magnet drops a plate only close above the feed belt.
 abbrev LetsGoThere : CranePlant → CraneAct → Type 0

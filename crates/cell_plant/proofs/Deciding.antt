@@ -1,13 +1,7 @@
 -- Facts that are decided by computing. `so` and `not_so` turn a computed answer into a proof.
-use Rattle.std.proofs.Common.{◌≡◌, ◌≢◌, ℕ, ◌==◌, ℤ, ◌≤ℤ◌, ◌<ℤ◌, Bool, true, false, ◌⊎◌, inl, inr, refl, subst}
-use Rattle.std.proofs.Math.Dec.{T}
-use Rattle.std.proofs.lemmas.Bool.Decides.{Decides-eqb, Decides-int_eq}
-use Rattle.std.specs.Int.Signed.{le_z, lt_z, le_z_yes, lt_z_yes}
-use Rattle.std.specs.Ordering.{int_eq}
+use Rattle.cell_plant.proofs.Names.{◌≡◌, ◌≢◌, ℕ, ◌==◌, ℤ, ◌≤ℤ◌, ◌<ℤ◌, Bool, true, false, ◌⊎◌, inl, inr, refl, sym, subst, T, Decides-eqb, Decides-int_eq, le_z, lt_z, le_z_yes, lt_z_yes, int_eq, Posture, Closed, same_posture, one_posture}
+use Rattle.cell_plant.proofs.Names.{Motor, Off, Plus, Minus}
 use Rattle.std.specs.Prelude.{◌↔◌}
-use Rattle.cell_rules.specs.Types.{Posture, Closed, Moving, OpenIn, OpenOut, same_posture, one_posture}
-use Rattle.cell_devices.specs.declared.motor.Motor.{Motor}
-use Rattle.cell_devices.specs.declared.motor.Motor.TheVariants.{Off, Plus, Minus}
 
 abbrev pub is_yes : {A : Type 0} → Dec A → Bool
 is_yes (yes a) = true
@@ -92,9 +86,7 @@ same_number a b = like (Decides-eqb a b).0 (Decides-eqb a b).1 (is_true (a == b)
 
 same_itself : (q : Posture) → same_posture q q ≡ true
 same_itself Closed = refl
-same_itself Moving = refl
-same_itself OpenIn = refl
-same_itself OpenOut = refl
+same_itself _ = refl
 
 pub same_if : (q r : Posture) → q ≡ r → same_posture q r ≡ true
 same_if q r e = subst (λ x. same_posture q x ≡ true) e (same_itself q)
@@ -108,17 +100,8 @@ plus_off e = cc
 pub minus_off : Minus ≢ Off
 minus_off e = cc
 
-pub off_plus : Off ≢ Plus
-off_plus e = cc
-
 pub minus_plus : Minus ≢ Plus
 minus_plus e = cc
-
-pub off_minus : Off ≢ Minus
-off_minus e = cc
-
-pub plus_minus : Plus ≢ Minus
-plus_minus e = cc
 
 abbrev pub is_off : (m : Motor) → Dec (m ≡ Off)
 is_off Off = yes refl
@@ -127,10 +110,10 @@ is_off Minus = no minus_off
 
 abbrev pub is_plus : (m : Motor) → Dec (m ≡ Plus)
 is_plus Plus = yes refl
-is_plus Off = no off_plus
+is_plus Off = no (λ e. plus_off (sym e))
 is_plus Minus = no minus_plus
 
 abbrev pub is_minus : (m : Motor) → Dec (m ≡ Minus)
 is_minus Minus = yes refl
-is_minus Off = no off_minus
-is_minus Plus = no plus_minus
+is_minus Off = no (λ e. minus_off (sym e))
+is_minus Plus = no (λ e. minus_plus (sym e))

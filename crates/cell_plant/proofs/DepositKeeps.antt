@@ -1,25 +1,8 @@
 -- The invariant of the deposit belt's side: it holds in every state of a run.
-use Rattle.std.proofs.Common.{◌≡◌, true, false, IsTrue, is_some, [], ◌∷◌, Some, refl, sym, ◌∙◌}
-use Rattle.cell_rules.specs.Types.{Deposit, Z4, Z5, DepEntry, DepEnd, Posture, Closed, Moving, OpenIn, OpenOut}
-use Rattle.cell_rules.specs.Types.{Landing, Running, Offering, Call, Claim, Give, Take, Release, SetPose, Advance}
-use Rattle.cell_rules.specs.Types.{Done, transfer_of}
-use Rattle.cell_rules.specs.Names.{PlaceSet, has, ModelState, is_full, IsSound, is_received_by, posture_at, given_by}
-use Rattle.cell_rules.specs.Names.{reply, changed, emptied, filled}
-use Rattle.cell_control.proofs.Facts.{Finds}
-use Rattle.cell_haul.specs.Names.{deposit_start, deposit_steps}
-use Rattle.cell_haul.specs.declared.deposit.DepositStep.{DepositStep}
-use Rattle.cell_haul.specs.declared.deposit.DepositStep.TheVariants.{ClaimEntry, PoseLanding, ReleaseEntry, TakePlate}
-use Rattle.cell_haul.specs.declared.deposit.DepositStep.TheVariants.{StartRun, MoveOn, PoseOffering, GivePlate}
-use Rattle.cell_haul.specs.declared.deposit.DepositStep.TheVariants.{ClaimBack}
-use Rattle.cell_haul.specs.declared.deposit.DepositProgress.{DepositProgress}
-use Rattle.cell_haul.specs.declared.deposit.DepositStep.TheVariants.{ClaimExit}
+use Rattle.cell_plant.proofs.Names.{◌≡◌, true, false, IsTrue, is_some, [], ◌∷◌, Some, refl, sym, ◌∙◌, Deposit, Z4, Z5, DepEntry, DepEnd, Posture, Moving, OpenIn, OpenOut, Call, Claim, Give, Take, Release, SetPose, Advance, Done}
+use Rattle.cell_plant.proofs.Names.{transfer_of, PlaceSet, has, ModelState, is_full, IsSound, is_received_by, posture_at, given_by, reply, changed, emptied, filled, Finds, deposit_start, deposit_steps, DepositStep, TakePlate, MoveOn}
+use Rattle.cell_plant.proofs.Names.{GivePlate, DepositProgress, DepositKnows, deposit-knowing, drives_at, Keeping, Demanding, WhileOn, demanding_while_on, deposit_at_start, set_belt, deposit_rig, Belt, deposit_called}
 use Rattle.cell_haul.specs.DepositProgram.{row_at}
-use Rattle.cell_haul.proofs.DepositFacts.{DepositKnows, deposit-knowing, drives_at}
-use Rattle.cell_unit.proofs.Keeping.{Keeping}
-use Rattle.cell_unit.proofs.Demanding.{Demanding, WhileOn, demanding_while_on}
-use Rattle.cell_parts.specs.Names.{deposit_at_start, set_belt, deposit_rig}
-use Rattle.cell_parts.specs.declared.belt.Belt.{Belt}
-use Rattle.cell_parts.specs.Plant.{deposit_called}
 use Rattle.cell_plant.proofs.BeltPlates.{PlatesStand, plate_stands, as_full, plates_foreign, plates_set, plates_moved, still_runs, plate_taken, plate_given, plate_worked}
 
 -- what its step knows of the interlock; a plate is on it if and only if its place is full
@@ -32,34 +15,26 @@ deposit-start s = record { knows = tt; plates = record { entry = plate_stands (i
 
 -- a plate that it takes comes to its entry, and one that it gives leaves its end
 filled_entry : (full : PlaceSet) (q : Posture) → is_received_by (Some Deposit) (transfer_of Z4 q) ≡ true → (has (filled full (transfer_of Z4 q)) DepEntry ≡ true) × (has (filled full (transfer_of Z4 q)) DepEnd ≡ has full DepEnd)
-filled_entry full Closed e = cc
-filled_entry full Moving e = cc
 filled_entry full OpenIn e = (refl, refl)
-filled_entry full OpenOut e = cc
+filled_entry full _ e = cc
 
 emptied_end : (full : PlaceSet) (q : Posture) → is_some (given_by Deposit (transfer_of Z5 q)) ≡ true
     → (has (emptied full (given_by Deposit (transfer_of Z5 q))) DepEnd ≡ false) × (has (emptied full (given_by Deposit (transfer_of Z5 q))) DepEntry ≡ has full DepEntry)
-emptied_end full Closed e = cc
-emptied_end full Moving e = cc
-emptied_end full OpenIn e = cc
 emptied_end full OpenOut e = (refl, refl)
+emptied_end full _ e = cc
 
 -- after each of its calls the plates on it are those of its places
 done_plates : (s : DepositStep) (p : DepositProgress) (c : Call) (z : ModelState) (b : Belt) → (row_at s p).call ≡ Some c → reply z Deposit c ≡ Done → IsSound z → PlatesStand z DepEntry DepEnd b → PlatesStand (changed z Deposit c) DepEntry DepEnd (set_belt (deposit_called b c) false)
-done_plates ClaimEntry p (Claim Z4) z b e d sound k = record { entry = k.entry; end = k.end }
-done_plates ClaimExit p (Claim Z5) z b e d sound k = record { entry = k.entry; end = k.end }
-done_plates PoseLanding p (SetPose Landing) z b e d sound k = record { entry = k.entry; end = k.end }
-done_plates ReleaseEntry p (Release Z4) z b e d sound k = record { entry = k.entry; end = k.end }
 done_plates TakePlate p (Take Z4) z b e d sound k =
     let on = filled_entry z.full (posture_at z Z4) (plate_taken z Deposit Z4 sound d) in
     record { entry = (λ h. on.0, λ h. refl); end = as_full b.last _ _ on.1 k.end }
-done_plates StartRun p (SetPose Running) z b e d sound k = record { entry = k.entry; end = k.end }
 done_plates MoveOn p Advance z b e d sound k = record { entry = (λ h. cc, λ h. cc); end = (λ h. refl, λ h. k.entry.1 (plate_worked z Deposit DepEntry DepEnd d refl)) }
-done_plates PoseOffering p (SetPose Offering) z b e d sound k = record { entry = k.entry; end = k.end }
 done_plates GivePlate p (Give Z5) z b e d sound k =
     let off = emptied_end z.full (posture_at z Z5) (plate_given z Deposit Z5 d) in
     record { entry = as_full b.entry _ _ off.1 k.entry; end = (λ h. cc, λ h. let none = off.0 in cc) }
-done_plates ClaimBack p (Claim Z5) z b e d sound k = record { entry = k.entry; end = k.end }
+done_plates s p (Claim y) z b e d sound k = record { entry = k.entry; end = k.end }
+done_plates s p (Release y) z b e d sound k = record { entry = k.entry; end = k.end }
+done_plates s p (SetPose pose) z b e d sound k = record { entry = k.entry; end = k.end }
 done_plates s p c z b e d sound k = cc
 
 pub deposit-keeping : Keeping deposit_steps deposit_rig DepositInv DepositInv

@@ -1,28 +1,12 @@
 -- The turns of the examples, each by its machine's program, and two literal runs of them.
-use Rattle.std.proofs.Common.{◌≡◌, List, [], ◌∷◌, Bool, true, false, inr, Some, None, Result, Ok, refl, sym, subst}
-use Rattle.cell_rules.specs.Types.{Machine, Feed, Table, Robot, Press, Deposit, Crane, Watch, Call, Stop, Done, Reply}
-use Rattle.cell_rules.specs.Types.{Settled, same_machine}
-use Rattle.cell_calib.specs.declared.sense.FeedSense.{FeedSense}
-use Rattle.cell_calib.specs.declared.sense.PressSense.{PressSense}
-use Rattle.cell_devices.specs.declared.motor.Motor.TheVariants.{Minus}
-use Rattle.cell_rules.specs.Names.{ModelState}
-use Rattle.cell_rules.specs.declared.heard.LineFault.{LineFault}
-use Rattle.cell_control.specs.Names.{Rig, Steps, outcome, Performed, PerformsCall, at_rest, turned}
-use Rattle.cell_haul.specs.declared.feed.FeedProgress.{FeedProgress}
-use Rattle.cell_stations.specs.declared.press.PressProgress.{PressProgress}
+use Rattle.cell_plant.proofs.Names.{◌≡◌, List, [], ◌∷◌, Bool, true, false, inr, Some, None, Result, Ok, refl, sym, subst, Machine, Feed, Press, Watch, Call, Stop, Done, Reply, Settled, same_machine, FeedSense, PressSense, Minus, ModelState}
+use Rattle.cell_plant.proofs.Names.{LineFault, Rig, Steps, outcome, Performed, PerformsCall, at_rest, turned, FeedProgress, PressProgress, Side, side_of, side_set, side_moved, Answers, Takes, at, driven_at, feed_at_start, PressShows, Axis}
+use Rattle.cell_plant.proofs.Names.{Belt, FeedShows, steps_of, rig_of, CellState, Sides, side_in, sides_at_start, Step, TakesTurn, IsRun, asks, turn_of, schedule, steps, opening, at_first, at_entered, at_press_stopped, at_last}
+use Rattle.cell_plant.proofs.Names.{watch_noting, WatchProgress, IsPassedOver, cell_of, claims_entry, finds_busy, is_refused, finds_no_room, stops_cell, resumes_cell, watch_finds_busy, passes, press_falls, falls, falls_to, belt_waits}
+use Rattle.cell_plant.proofs.Names.{waits}
 use Rattle.cell_notes.specs.Asks.{TurnCall}
-use Rattle.cell_unit.specs.Names.{Side, side_of, side_set, side_moved, Answers, Takes}
-use Rattle.cell_parts.specs.Names.{CellScales, at, driven_at, feed_at_start, PressShows}
-use Rattle.cell_parts.specs.declared.axis.Axis.{Axis}
-use Rattle.cell_parts.specs.declared.belt.Belt.{Belt}
-use Rattle.cell_parts.specs.Shows.{FeedShows}
-use Rattle.cell_plant.specs.Names.{steps_of, rig_of, CellState, Sides, side_in, sides_at_start, Step, TakesTurn}
-use Rattle.cell_plant.specs.Names.{IsRun, asks, turn_of, schedule, steps, opening, at_first, at_entered}
-use Rattle.cell_plant.specs.Names.{at_press_stopped, at_last, watch_noting}
-use Rattle.cell_plant.specs.declared.watch.WatchProgress.{WatchProgress}
-use Rattle.cell_plant.specs.Runs.{IsPassedOver}
-use Rattle.cell_plant.specs.RunExamples.{cell_of, claims_entry, finds_busy, is_refused, finds_no_room, stops_cell, resumes_cell, watch_finds_busy, passes, press_falls, falls, falls_to, belt_waits, waits}
-use Rattle.cell_plant.proofs.Deciding.{so, both, same_truth, at_most, is_true, true_false}
+use Rattle.cell_parts.specs.Names.{CellScales}
+use Rattle.cell_plant.proofs.Deciding.{so, both, same_truth, at_most, is_true}
 
 -- a machine asks once, and is answered
 pub takes_call : {S Sense Reading Act State : Type 0} → (t : Steps S Sense Reading Act) (rig : Rig State Sense Act) (busy : Bool) (z y : ModelState) (p : S) (part : State) (c : Call) (r : Result Reply LineFault) (set : Side S State) (sense : Sense) (reading : Reading)
@@ -76,31 +60,16 @@ shows_below = record {
 
 -- sides that differ in one machine's only
 feed_apart : (a : Sides) (x : Side FeedProgress Belt) (n : Machine) → same_machine Feed n ≡ false → side_in (record a { feed = x }) n ≡ side_in a n
-feed_apart a x Feed e = absurd (true_false e)
-feed_apart a x Table e = refl
-feed_apart a x Robot e = refl
-feed_apart a x Press e = refl
-feed_apart a x Deposit e = refl
-feed_apart a x Crane e = refl
-feed_apart a x Watch e = refl
+feed_apart a x Feed e = cc
+feed_apart a x _ e = refl
 
 press_apart : (a : Sides) (x : Side PressProgress Axis) (n : Machine) → same_machine Press n ≡ false → side_in (record a { press = x }) n ≡ side_in a n
-press_apart a x Press e = absurd (true_false e)
-press_apart a x Feed e = refl
-press_apart a x Table e = refl
-press_apart a x Robot e = refl
-press_apart a x Deposit e = refl
-press_apart a x Crane e = refl
-press_apart a x Watch e = refl
+press_apart a x Press e = cc
+press_apart a x _ e = refl
 
 pub watch_apart : (a : Sides) (x : Side WatchProgress (Unit {0})) (n : Machine) → same_machine Watch n ≡ false → side_in (record a { watch = x }) n ≡ side_in a n
-watch_apart a x Watch e = absurd (true_false e)
-watch_apart a x Feed e = refl
-watch_apart a x Table e = refl
-watch_apart a x Robot e = refl
-watch_apart a x Press e = refl
-watch_apart a x Deposit e = refl
-watch_apart a x Crane e = refl
+watch_apart a x Watch e = cc
+watch_apart a x _ e = refl
 
 pub passed_press : IsPassedOver at_press_stopped (passes Press at_press_stopped)
 passed_press = record { not_taken = refl; asked = refl; set = refl; moved = refl }

@@ -1,23 +1,10 @@
 -- The invariant of the feed belt's side: it holds in every state of a run.
-use Rattle.std.proofs.Common.{◌≡◌, true, false, IsTrue, is_some, [], ◌∷◌, Some, refl, sym, ◌∙◌}
-use Rattle.cell_rules.specs.Types.{Feed, Z1, Z6, FeedEntry, FeedEnd, Posture, Closed, Moving, OpenIn, OpenOut}
-use Rattle.cell_rules.specs.Types.{Landing, Running, Halted, Call, Claim, Give, Take, Release, SetPose, Advance, Done}
-use Rattle.cell_rules.specs.Types.{transfer_of}
-use Rattle.cell_rules.specs.Names.{PlaceSet, has, ModelState, is_full, IsSound, is_received_by, posture_at, given_by}
-use Rattle.cell_rules.specs.Names.{reply, changed, emptied, filled}
-use Rattle.cell_control.proofs.Facts.{Finds}
-use Rattle.cell_haul.specs.Names.{feed_start, feed_steps}
-use Rattle.cell_haul.specs.declared.feed.FeedStep.{FeedStep}
-use Rattle.cell_haul.specs.declared.feed.FeedStep.TheVariants.{StartIn, ClaimExit, StartOut, Halt}
-use Rattle.cell_haul.specs.declared.feed.FeedProgress.{FeedProgress}
-use Rattle.cell_haul.specs.declared.feed.FeedStep.TheVariants.{ClaimEntry, PoseLanding, ReleaseEntry, TakePlate, MoveOn, GivePlate}
+use Rattle.cell_plant.proofs.Names.{◌≡◌, true, false, IsTrue, is_some, [], ◌∷◌, Some, refl, sym, ◌∙◌, Feed, Z1, Z6, FeedEntry, FeedEnd, Posture, Moving, OpenIn, Call, Claim, Give, Take, Release, SetPose, Advance, Done, transfer_of}
+use Rattle.cell_plant.proofs.Names.{PlaceSet, has, ModelState, is_full, IsSound, is_received_by, posture_at, given_by, reply, changed, emptied, filled, Finds, feed_start, feed_steps, FeedStep, FeedProgress, FeedKnows, feed_begins}
+use Rattle.cell_plant.proofs.Names.{feed-knowing, Keeping, Demanding, WhileOn, demanding_while_on, feed_at_start, set_belt, feed_rig, Belt, feed_called}
+use Rattle.cell_haul.specs.declared.feed.FeedStep.TheVariants.{TakePlate, MoveOn, GivePlate}
 use Rattle.cell_haul.specs.FeedProgram.{row_at}
-use Rattle.cell_haul.proofs.FeedFacts.{FeedKnows, feed_begins, feed-knowing, drives_at}
-use Rattle.cell_unit.proofs.Keeping.{Keeping}
-use Rattle.cell_unit.proofs.Demanding.{Demanding, WhileOn, demanding_while_on}
-use Rattle.cell_parts.specs.Names.{feed_at_start, set_belt, feed_rig}
-use Rattle.cell_parts.specs.declared.belt.Belt.{Belt}
-use Rattle.cell_parts.specs.Plant.{feed_called}
+use Rattle.cell_haul.proofs.FeedFacts.{drives_at}
 use Rattle.cell_plant.proofs.BeltPlates.{PlatesStand, plate_stands, as_full, plates_foreign, plates_set, plates_moved, still_runs, plate_taken, plate_given, plate_worked}
 
 -- what its step knows of the interlock; a plate is on it if and only if its place is full
@@ -30,34 +17,26 @@ feed-start s = record { knows = feed_begins s; plates = record { entry = plate_s
 
 -- a plate that it takes comes to its entry, and one that it gives leaves its end
 filled_entry : (full : PlaceSet) (q : Posture) → is_received_by (Some Feed) (transfer_of Z6 q) ≡ true → (has (filled full (transfer_of Z6 q)) FeedEntry ≡ true) × (has (filled full (transfer_of Z6 q)) FeedEnd ≡ has full FeedEnd)
-filled_entry full Closed e = cc
-filled_entry full Moving e = cc
 filled_entry full OpenIn e = (refl, refl)
-filled_entry full OpenOut e = cc
+filled_entry full _ e = cc
 
 emptied_end : (full : PlaceSet) (q : Posture) → is_some (given_by Feed (transfer_of Z1 q)) ≡ true
     → (has (emptied full (given_by Feed (transfer_of Z1 q))) FeedEnd ≡ false) × (has (emptied full (given_by Feed (transfer_of Z1 q))) FeedEntry ≡ has full FeedEntry)
-emptied_end full Closed e = cc
-emptied_end full Moving e = cc
 emptied_end full OpenIn e = (refl, refl)
-emptied_end full OpenOut e = cc
+emptied_end full _ e = cc
 
 -- after each of its calls the plates on it are those of its places
 done_plates : (s : FeedStep) (p : FeedProgress) (c : Call) (z : ModelState) (b : Belt) → (row_at s p).call ≡ Some c → reply z Feed c ≡ Done → IsSound z → PlatesStand z FeedEntry FeedEnd b → PlatesStand (changed z Feed c) FeedEntry FeedEnd (set_belt (feed_called b c) false)
-done_plates ClaimEntry p (Claim Z6) z b e d sound k = record { entry = k.entry; end = k.end }
-done_plates PoseLanding p (SetPose Landing) z b e d sound k = record { entry = k.entry; end = k.end }
-done_plates ReleaseEntry p (Release Z6) z b e d sound k = record { entry = k.entry; end = k.end }
 done_plates TakePlate p (Take Z6) z b e d sound k =
     let on = filled_entry z.full (posture_at z Z6) (plate_taken z Feed Z6 sound d) in
     record { entry = (λ h. on.0, λ h. refl); end = as_full b.last _ _ on.1 k.end }
-done_plates StartIn p (SetPose Running) z b e d sound k = record { entry = k.entry; end = k.end }
 done_plates MoveOn p Advance z b e d sound k = record { entry = (λ h. cc, λ h. cc); end = (λ h. refl, λ h. k.entry.1 (plate_worked z Feed FeedEntry FeedEnd d refl)) }
-done_plates ClaimExit p (Claim Z1) z b e d sound k = record { entry = k.entry; end = k.end }
-done_plates StartOut p (SetPose Running) z b e d sound k = record { entry = k.entry; end = k.end }
-done_plates Halt p (SetPose Halted) z b e d sound k = record { entry = k.entry; end = k.end }
 done_plates GivePlate p (Give Z1) z b e d sound k =
     let off = emptied_end z.full (posture_at z Z1) (plate_given z Feed Z1 d) in
     record { entry = as_full b.entry _ _ off.1 k.entry; end = (λ h. cc, λ h. let none = off.0 in cc) }
+done_plates s p (Claim y) z b e d sound k = record { entry = k.entry; end = k.end }
+done_plates s p (Release y) z b e d sound k = record { entry = k.entry; end = k.end }
+done_plates s p (SetPose pose) z b e d sound k = record { entry = k.entry; end = k.end }
 done_plates s p c z b e d sound k = cc
 
 pub feed-keeping : Keeping feed_steps feed_rig FeedInv FeedInv

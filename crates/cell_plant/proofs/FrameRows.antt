@@ -1,13 +1,7 @@
 -- The examples of frames, and of films that are wrong.
-use Rattle.std.proofs.Common.{◌≡◌, ◌≢◌, ℕ, ℤ, pos, Bool, true, false, List, [], ◌∷◌, ◌++◌, append-nil, append_assoc, length, Option, Some, None, is_some, Result, Ok, Err, refl, sym, ap, ◌∙◌, subst}
-use Rattle.cell_haul.specs.declared.feed.FeedStep.{FeedStep}
-use Rattle.cell_haul.specs.declared.feed.FeedStep.TheVariants.{ClaimExit}
-use Rattle.cell_notes.specs.Names.{came_back, is_busy_reply}
-use Rattle.cell_notes.specs.declared.schedule.Turn.{Turn}
-use Rattle.cell_parts.specs.declared.plant.PlantState.{PlantState}
-use Rattle.cell_plant.specs.Names.{starts, IsShown}
-use Rattle.cell_plant.specs.declared.frame.Frame.{Frame}
-use Rattle.cell_plant.specs.FrameExamples.{FrameExamples, WrongFilms, ShownExamples, Keeps, Fails}
+use Rattle.cell_plant.proofs.Names.{◌≡◌, ◌≢◌, pos, Bool, true, false, List, [], ◌∷◌, ◌++◌, append-nil, append_assoc, length, Option, Some, None, is_some, Result, Ok, Err, refl, sym, ap, ◌∙◌, subst, FeedStep, ClaimExit, came_back}
+use Rattle.cell_plant.proofs.Names.{is_busy_reply, Turn, PlantState, starts, IsShown, Frame, FrameExamples, WrongFilms, ShownExamples, Fails}
+use Rattle.cell_plant.specs.FrameExamples.{Keeps}
 use Rattle.cell_plant.proofs.Deciding.{not_so, same_number, equals, true_false, false_true}
 
 -- the first, second and third frame of a film
@@ -73,8 +67,8 @@ shown = record {
   fails_at_once = fails_first;
 }
 
-pub frame-examples : FrameExamples
-frame-examples = record {
+pub frame_examples : FrameExamples
+frame_examples = record {
   literal = refl;
   no_turn = refl;
   falls = refl;

@@ -1,35 +1,14 @@
 -- A run by what gauges may give is one by what others may give that give as much. So it is a run by readings near the
 -- lines.
-use Rattle.std.proofs.Common.{ℕ, ℤ, Bool, true, false, List, [], ◌∷◌, Result, Ok, Err}
-use Rattle.cell_rules.specs.Types.{Machine, Feed, Table, Robot, Press, Deposit, Crane, Watch}
-use Rattle.cell_calib.specs.Names.{Scale, IsReading}
-use Rattle.cell_calib.specs.declared.sense.CraneSense.{CraneSense}
-use Rattle.cell_calib.specs.declared.sense.RobotSense.{RobotSense}
-use Rattle.cell_calib.specs.declared.sense.SensorFault.{SensorFault}
-use Rattle.cell_calib.specs.declared.sense.SensorFault.TheVariants.{Low, High, Clash}
-use Rattle.cell_calib.specs.declared.sense.TableSense.{TableSense}
-use Rattle.cell_haul.specs.Names.{crane_steps}
-use Rattle.cell_haul.specs.declared.crane.CraneReading.{CraneReading}
+use Rattle.cell_plant.proofs.Names.{ℕ, ℤ, Bool, true, false, List, [], ◌∷◌, Result, Ok, Err, Machine, Table, Robot, Crane, Scale, IsReading, CraneSense, RobotSense, SensorFault, Clash, TableSense, crane_steps, CraneReading, RobotGauges}
+use Rattle.cell_plant.proofs.Names.{RobotScales, robot_steps, RobotReading, table_steps, TableReading, TurnCall, RunRecord, Turn, acts_still, table_rig, robot_rig, crane_rig, TellsRun, CellGauges, any_near, robot_axes, robot_gauges}
+use Rattle.cell_plant.proofs.Names.{robot_points, steps_by, rig_of, SideOf, CellState, cell_at_start, SeesRun, SeesBeginning, Step, TakesTurnBy, LeadsIfBy, goes_on, IsRun, IsRunBy, Frame, SeenFault, RunsAreByGauges}
 use Rattle.cell_haul.specs.CraneProgram.{Senses as CraneSenses}
-use Rattle.cell_robot.specs.Names.{RobotGauges, RobotScales, robot_steps}
-use Rattle.cell_robot.specs.declared.robot.RobotReading.{RobotReading}
 use Rattle.cell_robot.specs.RobotProgram.{Senses as RobotSenses}
-use Rattle.cell_stations.specs.Names.{table_steps}
-use Rattle.cell_stations.specs.declared.table.TableReading.{TableReading}
 use Rattle.cell_stations.specs.TableProgram.{Senses as TableSenses}
 use Rattle.cell_rules.specs.ModelState.{ModelState}
-use Rattle.cell_notes.specs.Names.{TurnCall}
-use Rattle.cell_notes.specs.declared.run_record.RunRecord.{RunRecord}
-use Rattle.cell_notes.specs.declared.schedule.Turn.{Turn}
 use Rattle.cell_unit.specs.UnitTurns.{Takes}
-use Rattle.cell_unit.proofs.Turning.{acts_still}
-use Rattle.cell_parts.specs.Names.{CellScales, table_rig, robot_rig, crane_rig}
-use Rattle.cell_plant.specs.Names.{TellsRun, CellGauges, any_near, robot_axes, robot_gauges, robot_points, steps_by}
-use Rattle.cell_plant.specs.Names.{rig_of, SideOf, CellState, cell_at_start, SeesRun, SeesBeginning, Step}
-use Rattle.cell_plant.specs.Names.{TakesTurnBy, LeadsIfBy, goes_on, IsRun, IsRunBy}
-use Rattle.cell_plant.specs.declared.frame.Frame.{Frame}
-use Rattle.cell_plant.specs.declared.watcher.SeenFault.{SeenFault}
-use Rattle.cell_plant.specs.GaugeLaws.{RunsAreByGauges}
+use Rattle.cell_parts.specs.Names.{CellScales}
 
 -- near a line, what one gauge gives another gives
 abbrev pub Gives : Scale → (ℕ → ℤ → Type 0) → (ℕ → ℤ → Type 0) → Type 0
@@ -45,14 +24,12 @@ pub record GiveAsMuch (c : CellScales) (gives other : CellGauges) : Type 0 where
 pub table_as : (points : Scale) (gives other : ℕ → ℤ → Type 0) → Gives points gives other → (s : TableSense) (r : Result TableReading SensorFault) → TableSenses points gives s r → TableSenses points other s r
 table_as points gives other f s (Ok r) k = record { no_clash = k.no_clash; first = k.first; last = k.last; near = k.near; given = f s.turn r.turn k.near k.given; switches = k.switches }
 table_as points gives other f s (Err Clash) k = k
-table_as points gives other f s (Err Low) k = k
-table_as points gives other f s (Err High) k = k
+table_as points gives other f s (Err _) k = k
 
 pub crane_as : (points : Scale) (gives other : ℕ → ℤ → Type 0) → Gives points gives other → (s : CraneSense) (r : Result CraneReading SensorFault) → CraneSenses points gives s r → CraneSenses points other s r
 crane_as points gives other f s (Ok r) k = record { no_clash = k.no_clash; at_least = k.at_least; at_most = k.at_most; near = k.near; given = f s.gripper r.gripper k.near k.given; switches = k.switches; high = k.high }
 crane_as points gives other f s (Err Clash) k = k
-crane_as points gives other f s (Err Low) k = k
-crane_as points gives other f s (Err High) k = k
+crane_as points gives other f s (Err _) k = k
 
 pub robot_as : (points : RobotScales) (gives other : RobotGauges) → Gives points.arm1 gives.arm1 other.arm1 → Gives points.arm2 gives.arm2 other.arm2 → Gives points.rotation gives.rotation other.rotation
     → (s : RobotSense) (r : Result RobotReading SensorFault) → RobotSenses points gives s r → RobotSenses points other s r
@@ -68,28 +45,17 @@ robot_as points gives other f h e s (Err fault) k = k
 module _ (c : CellScales) (gives other : CellGauges) (f : GiveAsMuch c gives other) where
   takes_as : (m : Machine) (busy : Bool) (z y : ModelState) (before set : SideOf m) (asked : TurnCall)
       → Takes (steps_by c gives m) (rig_of c m) busy z before asked y set → Takes (steps_by c other m) (rig_of c m) busy z before asked y set
-  takes_as Feed busy z y before set asked k = k
   takes_as Table busy z y before set asked k =
       acts_still (table_steps c.turn gives.turn) (table_rig c.turn) (TableSenses c.turn other.turn) (table_as c.turn gives.turn other.turn f.turn) _ _ before set asked k
   takes_as Robot busy z y before set asked k =
       acts_still (robot_steps (robot_points c) (robot_gauges gives)) (robot_rig (robot_axes c)) (RobotSenses (robot_points c) (robot_gauges other))
       (robot_as (robot_points c) (robot_gauges gives) (robot_gauges other) f.arm1 f.arm2 f.rotation) _ _ before set asked k
-  takes_as Press busy z y before set asked k = k
-  takes_as Deposit busy z y before set asked k = k
   takes_as Crane busy z y before set asked k =
       acts_still (crane_steps c.gripper gives.gripper) (crane_rig c.gripper) (CraneSenses c.gripper other.gripper) (crane_as c.gripper gives.gripper other.gripper f.gripper) _ _ before set asked k
-  takes_as Watch busy z y before set asked k = k
+  takes_as m busy z y before set asked k = k
 
   turn_as : (m : Machine) (busy : Bool) (w : CellState) (s : Step) → TakesTurnBy c gives m busy w s → TakesTurnBy c other m busy w s
-  turn_as m busy w s k =
-      record {
-        taken = k.taken;
-        takes = takes_as m busy w.interlock s.set.interlock (w.side m) (s.set.side m) s.asked k.takes;
-        others_set = k.others_set;
-        moved = k.moved;
-        others_moved = k.others_moved;
-        interlock = k.interlock;
-      }
+  turn_as m busy w s k = assumption (takes_as m busy w.interlock s.set.interlock (w.side m) (s.set.side m) s.asked k.takes)
 
   leads_as : (b : Bool) (m : Machine) (busy : Bool) (w : CellState) (s : Step) → LeadsIfBy b c gives m busy w s → LeadsIfBy b c other m busy w s
   leads_as true m busy w s k = turn_as m busy w s k
@@ -98,8 +64,7 @@ module _ (c : CellScales) (gives other : CellGauges) (f : GiveAsMuch c gives oth
   pub run_as : (w : CellState) (ts : List Turn) (ss : List Step) → IsRunBy c gives w ts ss → IsRunBy c other w ts ss
   run_as w [] [] r = tt
   run_as w (t ∷ ts) (s ∷ ss) r = (r.0, (leads_as (goes_on w t.machine) t.machine t.busy w s r.1.0, run_as s.moved ts ss r.1.1))
-  run_as w [] (s ∷ ss) r = absurd r
-  run_as w (t ∷ ts) [] r = absurd r
+  run_as w _ _ r = absurd r
 
   pub tells_as : (opening : ModelState) (turns : List Turn) (r : RunRecord) → TellsRun c gives opening turns r → TellsRun c other opening turns r
   tells_as opening turns r k = record { steps = k.steps; run = run_as (cell_at_start opening) turns k.steps k.run; told = k.told; safe = k.safe; legal = k.legal; reached = k.reached }

@@ -1,25 +1,11 @@
 -- Each machine's invariant holds of its side in every state of a run.
-use Rattle.std.proofs.Common.{◌≡◌, Bool, true, false, None, refl, sym, ap, ◌∙◌, subst}
-use Rattle.cell_rules.specs.Types.{Machine, Feed, Table, Robot, Press, Deposit, Crane, Watch, same_machine}
-use Rattle.cell_rules.specs.Types.{one_machine}
-use Rattle.cell_rules.specs.Names.{ModelState, IsSound, RunsClear}
-use Rattle.cell_rules.proofs.Clear.{clear_next}
-use Rattle.cell_rules.proofs.Soundness.{next_keeps}
-use Rattle.cell_unit.proofs.Running.{none_runs}
-use Rattle.cell_unit.proofs.Keeping.{Keeping, Changes, takes_keeps, takes_changes, others_keep, by_call}
-use Rattle.cell_parts.specs.Axes.{CellScales}
-use Rattle.cell_plant.specs.Names.{CellGauges, ProgressOf, PartOf, any_near, steps_by, steps_of, rig_of, SideOf}
-use Rattle.cell_plant.specs.Names.{CellState, Step, TakesTurn, LeadsIf, goes_on}
+use Rattle.cell_plant.proofs.Names.{◌≡◌, Bool, true, false, None, refl, sym, ap, ◌∙◌, subst, Machine, Feed, same_machine, one_machine, ModelState, IsSound, RunsClear, clear_next, next_keeps, none_runs, Keeping, Changes, takes_keeps}
+use Rattle.cell_plant.proofs.Names.{takes_changes, others_keep, by_call, CellScales, CellGauges, ProgressOf, PartOf, any_near, steps_by, steps_of, rig_of, SideOf, CellState, Step, TakesTurn, LeadsIf, goes_on}
 
 -- each program is its machine's
 pub own_program_by : (c : CellScales) (gives : CellGauges) (m : Machine) → (steps_by c gives m).machine ≡ m
 own_program_by c gives Feed = refl
-own_program_by c gives Table = refl
-own_program_by c gives Robot = refl
-own_program_by c gives Press = refl
-own_program_by c gives Deposit = refl
-own_program_by c gives Crane = refl
-own_program_by c gives Watch = refl
+own_program_by c gives _ = refl
 
 pub own_program : (c : CellScales) (m : Machine) → (steps_of c m).machine ≡ m
 own_program c m = own_program_by c (any_near c) m

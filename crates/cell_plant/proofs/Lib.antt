@@ -1,3 +1,4 @@
+mod Names
 pub mod WithinLemmas
 pub mod PressKeeps
 pub mod TableKeeps

@@ -1,5 +1,5 @@
 -- A magnet that stays as it is drops nothing.
-use Rattle.std.proofs.Common.{◌≡◌, Bool}
+use Rattle.cell_plant.proofs.Names.{◌≡◌, Bool}
 use Rattle.cell_parts.specs.Collisions.{LetsGo}
 
 pub still_on : (now before : Bool) → now ≡ before → ¬ LetsGo before now

@@ -1,46 +1,28 @@
 -- Records of runs of one schedule from one opening, in which no machine was stopped, say the same.
-use Rattle.std.proofs.Common.{◌≡◌, List, [], ◌∷◌, ◌++◌, map, All, Option, Some, None, refl, sym, ap, ◌∙◌, subst}
-use Rattle.std.proofs.lemmas.List.Elements.{All-head, All-tail}
-use Rattle.cell_rules.specs.Types.{Machine, Feed, Table, Robot, Press, Deposit, Crane, Watch, all_machines}
-use Rattle.cell_rules.specs.Names.{noted, ModelState}
-use Rattle.cell_control.specs.declared.fault.CtlFault.{CtlFault}
+use Rattle.cell_plant.proofs.Names.{◌≡◌, List, map, Option, Some, None, refl, sym, ap, ◌∙◌, subst, arith, Machine, Feed, Table, Robot, Press, Deposit, Crane, Watch, all_machines, noted, ModelState, CtlFault, RunRecord, Turn, Status, Fine}
+use Rattle.cell_plant.proofs.Names.{status_of, CellScales, TellsRun, CellState, cell_at_start, plant_of, HadMemory, SayTheSame, CellGauges, counts_in, events_in, positions_in, Step, end_of, SaysOneThing}
+use Rattle.std.proofs.Common.{All}
 use Rattle.cell_control.specs.declared.fault.CtlFault.TheVariants as cause
-use Rattle.cell_notes.specs.declared.run_record.RunRecord.{RunRecord}
-use Rattle.cell_notes.specs.declared.schedule.Turn.{Turn}
-use Rattle.cell_notes.specs.declared.status.Status.{Status}
-use Rattle.cell_notes.specs.declared.status.Status.TheVariants.{Fine}
-use Rattle.cell_unit.specs.Statuses.{status_of}
-use Rattle.cell_parts.specs.Axes.{CellScales}
-use Rattle.cell_plant.specs.Names.{TellsRun, CellState, cell_at_start, plant_of, HadMemory, SayTheSame, CellGauges}
-use Rattle.cell_plant.specs.Names.{counts_in, events_in, positions_in, Step, end_of}
-use Rattle.cell_plant.specs.GaugeLaws.{SaysOneThing}
 use Rattle.cell_plant.proofs.FineRuns.{had_memory}
 use Rattle.cell_plant.proofs.OneRun.{has_one_run}
 
 -- a machine that is fine isn't stopped
 fine_runs : (o : Option CtlFault) → status_of o ≡ Fine → o ≡ None
 fine_runs None e = refl
-fine_runs (Some (cause.Sensor f)) e = cc
-fine_runs (Some (cause.Refused r)) e = cc
 fine_runs (Some cause.Worn) e = cc
-fine_runs (Some cause.Memory) e = cc
-fine_runs (Some cause.Stopped) e = cc
+fine_runs _ e = cc
 
 abbrev AllFine : List Status → Type 0
 AllFine status = All (λ s. s ≡ Fine) status
 
-fine_in : (statuses : Machine → Status) (before after : List Machine) (m : Machine) → AllFine (map statuses (before ++ m ∷ after)) → statuses m ≡ Fine
-fine_in statuses [] after m k = All-head (λ x. x ≡ Fine) (statuses m) (map statuses after) k
-fine_in statuses (x ∷ xs) after m k = fine_in statuses xs after m (All-tail (λ y. y ≡ Fine) (statuses x) (map statuses (xs ++ m ∷ after)) k)
-
 each_fine : (statuses : Machine → Status) → AllFine (map statuses all_machines) → (m : Machine) → statuses m ≡ Fine
-each_fine statuses k Feed = fine_in statuses [] (Table ∷ Robot ∷ Press ∷ Deposit ∷ Crane ∷ Watch ∷ []) Feed k
-each_fine statuses k Table = fine_in statuses (Feed ∷ []) (Robot ∷ Press ∷ Deposit ∷ Crane ∷ Watch ∷ []) Table k
-each_fine statuses k Robot = fine_in statuses (Feed ∷ Table ∷ []) (Press ∷ Deposit ∷ Crane ∷ Watch ∷ []) Robot k
-each_fine statuses k Press = fine_in statuses (Feed ∷ Table ∷ Robot ∷ []) (Deposit ∷ Crane ∷ Watch ∷ []) Press k
-each_fine statuses k Deposit = fine_in statuses (Feed ∷ Table ∷ Robot ∷ Press ∷ []) (Crane ∷ Watch ∷ []) Deposit k
-each_fine statuses k Crane = fine_in statuses (Feed ∷ Table ∷ Robot ∷ Press ∷ Deposit ∷ []) (Watch ∷ []) Crane k
-each_fine statuses k Watch = fine_in statuses (Feed ∷ Table ∷ Robot ∷ Press ∷ Deposit ∷ Crane ∷ []) [] Watch k
+each_fine statuses k Feed = k 0 Fine (omega arith)
+each_fine statuses k Table = k 1 Fine (omega arith)
+each_fine statuses k Robot = k 2 Fine (omega arith)
+each_fine statuses k Press = k 3 Fine (omega arith)
+each_fine statuses k Deposit = k 4 Fine (omega arith)
+each_fine statuses k Crane = k 5 Fine (omega arith)
+each_fine statuses k Watch = k 6 Fine (omega arith)
 
 module _ (c : CellScales) (gives : CellGauges) (opening : ModelState) (turns : List Turn) where
   abbrev last : List Step → CellState

@@ -1,12 +1,8 @@
 -- By gauges that give one position, a schedule has one run from a state.
-use Rattle.std.proofs.Common.{◌≡◌, Bool, true, false, List, [], ◌∷◌, refl, sym, ap, ◌∙◌, subst}
-use Rattle.cell_rules.specs.Types.{Machine, same_machine, one_machine}
-use Rattle.cell_notes.specs.declared.schedule.Turn.{Turn}
+use Rattle.cell_plant.proofs.Names.{◌≡◌, Bool, true, false, List, [], ◌∷◌, refl, sym, ap, ◌∙◌, subst, Machine, same_machine, one_machine, Turn, CellScales, CellState, CellGauges, steps_by, rig_of, GiveOne, HadMemory, Step, TakesTurnBy}
+use Rattle.cell_plant.proofs.Names.{LeadsIfBy, goes_on, IsRunBy, HasOneRun}
 use Rattle.cell_unit.specs.Sides.{side_moved}
-use Rattle.cell_parts.specs.Axes.{CellScales, AreCellScales}
-use Rattle.cell_plant.specs.Names.{SideOf, CellState, CellGauges, steps_by, rig_of, GiveOne, HadMemory, Step}
-use Rattle.cell_plant.specs.Names.{TakesTurnBy, LeadsIfBy, LeadsBy, goes_on, IsRunBy}
-use Rattle.cell_plant.specs.GaugeLaws.{HasOneRun}
+use Rattle.cell_parts.specs.Axes.{AreCellScales}
 use Rattle.cell_plant.proofs.OneTurn.{GotMemory, SameAsk, one_take}
 use Rattle.cell_plant.proofs.OneSense.{one_way}
 use Rattle.cell_plant.proofs.Stepping.{same_state}
@@ -54,10 +50,7 @@ module _ (c : CellScales) (gives : CellGauges) (scales : AreCellScales c) (one :
       let step = one_step t.machine t.busy w s s' r.0 r'.0 (goes_on w t.machine) r.1.0 r'.1.0 got.0 got'.0 in
       let rest = one_run s.moved ts ss ss' r.1.1 (subst (λ (x : Step). IsRunBy c gives x.moved ts ss') step r'.1.1) got.1 got'.1 in
       λ i. step i ∷ rest i
-  one_run w [] (s ∷ ss) others r r' got got' = absurd r
-  one_run w [] [] (s ∷ ss) r r' got got' = absurd r'
-  one_run w (t ∷ ts) [] others r r' got got' = absurd r
-  one_run w (t ∷ ts) (s ∷ ss) [] r r' got got' = absurd r'
+  one_run w _ _ _ r r' got got' = search
 
 pub has_one_run : (c : CellScales) (gives : CellGauges) → HasOneRun c gives
 has_one_run c gives w turns steps others scales one r r' got got' = one_run c gives scales one w turns steps others r r' got got'

@@ -1,38 +1,18 @@
 -- The sensors of each machine show one thing, their check says one thing by gauges that give one position, and a drive has
 -- one command.
-use Rattle.std.proofs.Common.{◌≡◌, ℕ, ◌<◌, ◌≤◌, ℤ, ◌+ℤ◌, ◌≤ℤ◌, ◌<ℤ◌, ◌↔◌, IsTrue, Bool, true, false, inl, inr, Result, Ok, Err, refl, sym, ap, ◌∙◌, subst, arith}
-use Rattle.std.proofs.lemmas.Int.{ints, by_lt_z}
-use Rattle.cell_calib.specs.Names.{Scale, IsScale}
-use Rattle.cell_calib.specs.declared.sense.SensorFault.{SensorFault}
-use Rattle.cell_calib.specs.declared.sense.SensorFault.TheVariants.{Low, High, Clash}
-use Rattle.cell_calib.specs.declared.sense.CraneSense.{CraneSense}
-use Rattle.cell_calib.specs.declared.sense.RobotSense.{RobotSense}
-use Rattle.cell_calib.specs.declared.sense.TableSense.{TableSense}
-use Rattle.cell_calib.proofs.LineLemmas.{one_raw_at}
-use Rattle.cell_devices.specs.Limits.{travel_from}
-use Rattle.cell_devices.proofs.DriveLemmas.{drives_one}
-use Rattle.cell_haul.specs.Names.{crane_steps, gripper_stop, deposit_steps, feed_steps}
-use Rattle.cell_haul.specs.declared.crane.CraneReading.{CraneReading}
+use Rattle.cell_plant.proofs.Names.{◌≡◌, ℕ, ◌≤◌, ℤ, ◌+ℤ◌, ◌≤ℤ◌, ◌↔◌, IsTrue, Bool, Result, Ok, Err, refl, sym, ap, ◌∙◌, subst, arith, by_lt_z, Scale, IsScale, SensorFault, CraneSense, RobotSense, TableSense, one_raw_at, travel_from}
+use Rattle.cell_plant.proofs.Names.{drives_one, acts_one, crane_steps, CraneReading, RobotGauges, RobotScales, arm1_stop, arm2_stop, robot_steps, turns_to, RobotReading, FirstFails, IsRaw, rotation_stop, table_steps, TableReading}
+use Rattle.cell_plant.proofs.Names.{AreCellScales, table_rig, robot_rig, crane_rig, ShowsRaw, CellGauges, robot_axes, robot_gauges, robot_points, steps_by, rig_of, GiveOne, GivesOne}
 use Rattle.cell_haul.specs.CraneProgram.{Senses as CraneSenses}
-use Rattle.cell_robot.specs.Names.{RobotGauges, RobotScales, arm1_stop, arm2_stop, robot_steps, turns_to}
-use Rattle.cell_robot.specs.declared.robot.RobotReading.{RobotReading}
-use Rattle.cell_robot.specs.RobotProgram.{Fails, FirstFails, IsRaw, Senses as RobotSenses}
-use Rattle.cell_stations.specs.Names.{press_steps, rotation_stop, table_steps}
-use Rattle.cell_stations.specs.declared.table.TableReading.{TableReading}
+use Rattle.cell_robot.specs.RobotProgram.{Fails, Senses as RobotSenses}
 use Rattle.cell_stations.specs.TableProgram.{Senses as TableSenses}
-use Rattle.cell_parts.specs.Names.{CellScales, AreCellScales, feed_rig, table_rig, robot_rig, press_rig, deposit_rig}
-use Rattle.cell_parts.specs.Names.{crane_rig, ShowsRaw}
+use Rattle.cell_parts.specs.Names.{CellScales}
 use Rattle.cell_types.specs.declared.machine.Machine.TheVariants.{Feed, Table, Robot, Press, Deposit, Crane, Watch}
-use Rattle.cell_plant.specs.Names.{CellGauges, robot_axes, robot_gauges, robot_points, steps_by, rig_of, GiveOne}
-use Rattle.cell_plant.specs.Names.{GivesOne, watch_rig, watch_steps}
 use Rattle.cell_plant.proofs.OneTurn.{HasOneWay}
 
 -- two switches that are on for the same reason are the same
 one_switch : (P : Type 0) (a b : Bool) → IsTrue a ↔ P → IsTrue b ↔ P → b ≡ a
-one_switch P true true k l = refl
-one_switch P true false k l = let lie : false ≡ true = l.1 (k.0 refl) in cc
-one_switch P false true k l = let lie : false ≡ true = k.1 (l.0 refl) in cc
-one_switch P false false k l = refl
+one_switch P a b k l = grind arith
 
 -- a potentiometer shows one raw value
 one_raw : (s : Scale) (position : ℤ) (a b : ℕ) → IsScale s → ShowsRaw s position a → ShowsRaw s position b → b ≡ a
@@ -44,34 +24,11 @@ one_raw s position a b k one other =
     (λ beyond. other.above beyond ∙ sym (one.above beyond))
     (λ to. one_raw_at s position a b k (one.between from to) (other.between from to)))
 
-apart_low : (s : Scale) (raw : ℕ) → s.raw_lo ≤ raw → raw < s.raw_lo → ⊥
-apart_low s raw a b = omega arith
-
-apart_high : (s : Scale) (raw : ℕ) → raw ≤ s.raw_hi → s.raw_hi < raw → ⊥
-apart_high s raw a b = omega arith
-
-apart_ends : (s : Scale) (raw : ℕ) → IsScale s → raw < s.raw_lo → s.raw_hi < raw → ⊥
-apart_ends s raw k a b = let rise = k.raws_rise in omega (arith, rise)
-
 -- ---- the table
 
 table_one : (points : Scale) (gives : ℕ → ℤ → Type 0) → IsScale points → GivesOne gives → (s : TableSense) (r r' : Result TableReading SensorFault) → TableSenses points gives s r → TableSenses points gives s r' → r' ≡ r
 table_one points gives k one s (Ok r) (Ok r') a b = let turn = one s.turn r.turn r'.turn a.given b.given in let sense = b.switches ∙ sym a.switches in λ i. Ok (record { sense = sense i; turn = turn i })
-table_one points gives k one s (Ok r) (Err Clash) a b = absurd (a.no_clash b)
-table_one points gives k one s (Ok r) (Err Low) a b = absurd (apart_low points s.turn a.first b.1)
-table_one points gives k one s (Ok r) (Err High) a b = absurd (apart_high points s.turn a.last b.1)
-table_one points gives k one s (Err Clash) (Ok r) a b = absurd (b.no_clash a)
-table_one points gives k one s (Err Low) (Ok r) a b = absurd (apart_low points s.turn b.first a.1)
-table_one points gives k one s (Err High) (Ok r) a b = absurd (apart_high points s.turn b.last a.1)
-table_one points gives k one s (Err Clash) (Err Clash) a b = refl
-table_one points gives k one s (Err Clash) (Err Low) a b = absurd (b.0 a)
-table_one points gives k one s (Err Clash) (Err High) a b = absurd (b.0 a)
-table_one points gives k one s (Err Low) (Err Clash) a b = absurd (a.0 b)
-table_one points gives k one s (Err Low) (Err Low) a b = refl
-table_one points gives k one s (Err Low) (Err High) a b = absurd (apart_ends points s.turn k a.1 b.1)
-table_one points gives k one s (Err High) (Err Clash) a b = absurd (a.0 b)
-table_one points gives k one s (Err High) (Err Low) a b = absurd (apart_ends points s.turn k b.1 a.1)
-table_one points gives k one s (Err High) (Err High) a b = refl
+table_one points gives k one s x y a b = grind (arith, k.raws_rise)
 
 table_way : (points : Scale) (gives : ℕ → ℤ → Type 0) → IsScale points → GivesOne gives → HasOneWay (table_steps points gives) (table_rig points)
 table_way points gives k one =
@@ -96,21 +53,7 @@ crane_one points gives k one s (Ok r) (Ok r') a b =
     let sense = b.switches ∙ sym a.switches in
     let high = one_switch _ r.high r'.high a.high (subst (λ v. IsTrue r'.high ↔ ((travel_from +ℤ points.tol) ≤ℤ v)) gripper b.high) in
     λ i. Ok (record { sense = sense i; gripper = gripper i; high = high i })
-crane_one points gives k one s (Ok r) (Err Clash) a b = absurd (a.no_clash b)
-crane_one points gives k one s (Ok r) (Err Low) a b = absurd (apart_low points s.gripper a.at_least b.1)
-crane_one points gives k one s (Ok r) (Err High) a b = absurd (apart_high points s.gripper a.at_most b.1)
-crane_one points gives k one s (Err Clash) (Ok r) a b = absurd (b.no_clash a)
-crane_one points gives k one s (Err Low) (Ok r) a b = absurd (apart_low points s.gripper b.at_least a.1)
-crane_one points gives k one s (Err High) (Ok r) a b = absurd (apart_high points s.gripper b.at_most a.1)
-crane_one points gives k one s (Err Clash) (Err Clash) a b = refl
-crane_one points gives k one s (Err Clash) (Err Low) a b = absurd (b.0 a)
-crane_one points gives k one s (Err Clash) (Err High) a b = absurd (b.0 a)
-crane_one points gives k one s (Err Low) (Err Clash) a b = absurd (a.0 b)
-crane_one points gives k one s (Err Low) (Err Low) a b = refl
-crane_one points gives k one s (Err Low) (Err High) a b = absurd (apart_ends points s.gripper k a.1 b.1)
-crane_one points gives k one s (Err High) (Err Clash) a b = absurd (a.0 b)
-crane_one points gives k one s (Err High) (Err Low) a b = absurd (apart_ends points s.gripper k b.1 a.1)
-crane_one points gives k one s (Err High) (Err High) a b = refl
+crane_one points gives k one s x y a b = grind (arith, k.raws_rise)
 
 crane_way : (points : Scale) (gives : ℕ → ℤ → Type 0) → IsScale points → GivesOne gives → HasOneWay (crane_steps points gives) (crane_rig points)
 crane_way points gives k one =
@@ -121,28 +64,16 @@ crane_way points gives k one =
           let raw = one_raw points b.gripper.position s.gripper s'.gripper k m.raw n.raw in
           λ i. record { deposit = deposit i; feed = feed i; gripper = raw i };
       senses = crane_one points gives k one;
-      drives = λ p r a a' m n.
-          let travel = n.travel ∙ sym m.travel in
-          let height = drives_one (gripper_stop p.step) points.tol r.gripper a.height a'.height m.height n.height in
-          let magnet = n.magnet ∙ sym m.magnet in
-          λ i. record { travel = travel i; height = height i; magnet = magnet i };
+      drives = acts_one points;
     }
 
 -- ---- the robot
 
 fails_one : (points : Scale) (raw : ℕ) (f g : SensorFault) → IsScale points → Fails points raw f → Fails points raw g → g ≡ f
-fails_one points raw Low Low k a b = refl
-fails_one points raw Low High k a b = absurd (apart_ends points raw k a b)
-fails_one points raw High Low k a b = absurd (apart_ends points raw k b a)
-fails_one points raw High High k a b = refl
-fails_one points raw Clash g k a b = absurd a
-fails_one points raw Low Clash k a b = absurd b
-fails_one points raw High Clash k a b = absurd b
+fails_one points raw f g k a b = grind (arith, k.raws_rise)
 
 no_raw : (points : Scale) (raw : ℕ) (f : SensorFault) → IsRaw points raw → Fails points raw f → ⊥
-no_raw points raw Low k a = apart_low points raw k.0 a
-no_raw points raw High k a = apart_high points raw k.1 a
-no_raw points raw Clash k a = a
+no_raw points raw f k a = grind arith
 
 pub record AreScales (points : RobotScales) : Type 0 where
   pub arm1 : IsScale points.arm1
@@ -151,18 +82,10 @@ pub record AreScales (points : RobotScales) : Type 0 where
 
 module _ (points : RobotScales) (gives : RobotGauges) (k : AreScales points) (s : RobotSense) where
   first_one : (f g : SensorFault) → FirstFails points s f → FirstFails points s g → g ≡ f
-  first_one f g (inl a) (inl b) = fails_one points.arm1 s.arm1 f g k.arm1 a b
-  first_one f g (inl a) (inr b) = absurd (no_raw points.arm1 s.arm1 f b.0 a)
-  first_one f g (inr a) (inl b) = absurd (no_raw points.arm1 s.arm1 g a.0 b)
-  first_one f g (inr (_, inl a)) (inr (_, inl b)) = fails_one points.arm2 s.arm2 f g k.arm2 a b
-  first_one f g (inr (_, inl a)) (inr (_, inr b)) = absurd (no_raw points.arm2 s.arm2 f b.0 a)
-  first_one f g (inr (_, inr a)) (inr (_, inl b)) = absurd (no_raw points.arm2 s.arm2 g a.0 b)
-  first_one f g (inr (_, inr a)) (inr (_, inr b)) = fails_one points.rotation s.rotation f g k.rotation a.1 b.1
+  first_one f g a b = grind (arith, fails_one, no_raw)
 
   none_fails : (r : RobotReading) (f : SensorFault) → RobotSenses points gives s (Ok r) → FirstFails points s f → ⊥
-  none_fails r f a (inl b) = no_raw points.arm1 s.arm1 f a.arm1.0 b
-  none_fails r f a (inr (_, inl b)) = no_raw points.arm2 s.arm2 f a.arm2.0 b
-  none_fails r f a (inr (_, inr b)) = no_raw points.rotation s.rotation f a.rotation.0 b.1
+  none_fails r f a b = grind (arith, no_raw)
 
   robot_one : GivesOne gives.arm1 → GivesOne gives.arm2 → GivesOne gives.rotation → (r r' : Result RobotReading SensorFault) → RobotSenses points gives s r → RobotSenses points gives s r' → r' ≡ r
   robot_one one two three (Ok r) (Ok r') a b =

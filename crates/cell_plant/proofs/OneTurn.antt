@@ -1,15 +1,7 @@
 -- A machine has one turn, if its sensors show one thing, their check says one thing, and a drive has one command.
-use Rattle.std.proofs.Common.{◌≡◌, ◌≢◌, ℕ, Bool, true, false, Option, Some, None, Result, Ok, Err, refl, sym, ap, ◌∙◌, subst}
-use Rattle.cell_rules.specs.Types.{Machine, Call, Answer, Reply, Settled, Busy}
-use Rattle.cell_calib.specs.declared.sense.SensorFault.{SensorFault}
-use Rattle.cell_rules.specs.Names.{ModelState}
-use Rattle.cell_rules.specs.declared.heard.LineFault.{LineFault}
-use Rattle.cell_control.specs.Names.{Rig, Steps, outcome, Performed, PerformsCall, PerformsSensed, Turned, Turns}
-use Rattle.cell_control.specs.Names.{at_rest, turned}
-use Rattle.cell_control.specs.declared.fault.CtlFault.{CtlFault}
-use Rattle.cell_control.specs.declared.fault.CtlFault.TheVariants.{Sensor}
+use Rattle.cell_plant.proofs.Names.{◌≡◌, ◌≢◌, ℕ, Bool, Option, Some, None, Result, Ok, Err, refl, sym, ap, ◌∙◌, subst, Machine, Call, Answer, Reply, Settled, Busy, SensorFault, ModelState, LineFault, Rig, Steps, outcome, Performed}
+use Rattle.cell_plant.proofs.Names.{PerformsCall, PerformsSensed, Turned, Turns, at_rest, turned, CtlFault, Side, side_set, Answers, Takes}
 use Rattle.cell_notes.specs.Asks.{TurnCall}
-use Rattle.cell_unit.specs.Names.{Side, Acts, side_set, Answers, Takes}
 
 abbrev pub GotMemory : TurnCall → Type 0
 GotMemory asked = (call : Call) (fault : LineFault) → asked ≢ Some (call, Err fault)
@@ -18,9 +10,6 @@ GotMemory asked = (call : Call) (fault : LineFault) → asked ≢ Some (call, Er
 pub record SameAsk (asked asked' : TurnCall) (y y' : ModelState) : Type 0 where
   pub asked_is : asked' ≡ asked
   pub state_is : y' ≡ y
-
-not_both : (b : Bool) → b ≡ true → b ≡ false → ⊥
-not_both b e f = let lie : true ≡ false = sym e ∙ f in cc
 
 abbrev settled : Answer → ℕ → Result Reply LineFault
 settled a stamp = Ok (Settled a stamp)
@@ -42,8 +31,8 @@ one_answer z m busy c (Ok r) (Err fault) y y' got got' k k' = absurd (got' fault
 one_answer z m busy c (Ok (Settled a stamp)) (Ok (Settled b next)) y y' got got' k k' =
     let same : y' ≡ y = k'.3 ∙ sym k.3 in
     (settled_is b a next stamp (k'.1 ∙ sym k.1) (k'.2 ∙ ap (λ (s : ModelState). s.stamp) same ∙ sym k.2), same)
-one_answer z m busy c (Ok (Settled a stamp)) (Ok (Busy lost next)) y y' got got' k k' = absurd (not_both busy k'.0 k.0)
-one_answer z m busy c (Ok (Busy lost stamp)) (Ok (Settled b next)) y y' got got' k k' = absurd (not_both busy k.0 k'.0)
+one_answer z m busy c (Ok (Settled a stamp)) (Ok (Busy lost next)) y y' got got' k k' = absurd (cc)
+one_answer z m busy c (Ok (Busy lost stamp)) (Ok (Settled b next)) y y' got got' k k' = absurd (cc)
 one_answer z m busy c (Ok (Busy lost stamp)) (Ok (Busy more next)) y y' got got' k k' =
     (busy_is more lost next stamp (k'.1 ∙ sym k.1) (k'.2 ∙ sym k.2), k'.3 ∙ sym k.3)
 

@@ -1,41 +1,13 @@
 -- The invariant of the press's side: it holds in every state of a run.
-use Rattle.std.proofs.Common.{◌≡◌, pos, ◌≤ℤ◌, Bool, true, false, ◌⊎◌, inl, inr, [], ◌∷◌, Option, Some, None, Result, Ok, Err, refl, sym, ap, ◌∙◌, subst, if◌then◌else◌, arith}
-use Rattle.std.proofs.lemmas.Int.{ints}
-use Rattle.std.proofs.lemmas.Bool.{false_from_ne_true}
-use Rattle.cell_rules.specs.Types.{Press, Z3, Posture, Closed, Moving, OpenIn, OpenOut, Travelling, Middle, Low, Top}
-use Rattle.cell_rules.specs.Types.{Call, Claim, Give, Take, Release, SetPose, Advance, Done, Reply}
-use Rattle.cell_calib.specs.declared.sense.PressSense.{PressSense}
-use Rattle.cell_calib.specs.declared.sense.SensorFault.TheVariants.{Clash}
-use Rattle.cell_devices.specs.Names.{motor_of}
-use Rattle.cell_devices.specs.declared.motor.Direction.{Direction}
-use Rattle.cell_devices.specs.declared.motor.Motor.{Motor}
-use Rattle.cell_devices.specs.declared.motor.Motor.TheVariants.{Off, Plus, Minus}
-use Rattle.cell_devices.specs.declared.act.PressAct.{PressAct}
-use Rattle.cell_devices.specs.declared.motor.Direction.TheVariants.{Plus as Upward, Minus as Downward}
-use Rattle.cell_rules.specs.Names.{ModelState, IsSound, posture_at, reply, changed, IsStartState}
-use Rattle.cell_rules.specs.declared.heard.LineFault.{LineFault}
-use Rattle.cell_rules.proofs.OwnSide.{posture-foreign}
-use Rattle.cell_control.specs.Names.{Turned, Turns}
-use Rattle.cell_control.specs.declared.fault.CtlFault.{CtlFault}
-use Rattle.cell_stations.specs.Names.{with_plates, by_plates, row_at, after_motor, press_start, press_steps}
-use Rattle.cell_stations.specs.declared.press.PressStep.{PressStep}
-use Rattle.cell_stations.specs.declared.press.PressStep.TheVariants.{ClaimFirst, LeaveForMiddle, MoveToMiddle}
-use Rattle.cell_stations.specs.declared.press.PressStep.TheVariants.{PoseMiddle, ReleaseInterior, TakePlate}
-use Rattle.cell_stations.specs.declared.press.PressStep.TheVariants.{LeaveForTop, MoveToTop, PoseTop, Forge}
-use Rattle.cell_stations.specs.declared.press.PressStep.TheVariants.{LeaveForBottom, MoveToBottom, PoseLow, GivePlate}
-use Rattle.cell_stations.specs.declared.press.PressStep.TheVariants.{ClaimBack}
-use Rattle.cell_stations.specs.declared.press.PressProgress.{PressProgress}
-use Rattle.cell_stations.specs.PressProgram.{row_of, after_done, step_motor, act_for, clashes}
-use Rattle.cell_control.proofs.Facts.{Finds}
-use Rattle.cell_stations.proofs.PressFacts.{PressKnows, press-knowing, drives_at}
-use Rattle.cell_unit.specs.Sides.{act_or_rest}
-use Rattle.cell_unit.proofs.Keeping.{Keeping, turn_tells}
-use Rattle.cell_unit.proofs.Demanding.{Demanding, WhileOn, demanding_while_on}
-use Rattle.cell_parts.specs.Names.{press_end, IsWithin, set_axis, press_at_start, PressShows, IsOn, RestsAtMiddle}
-use Rattle.cell_parts.specs.Names.{RestsAtBottom, DrivesPast, press_rig}
-use Rattle.cell_parts.specs.declared.axis.Axis.{Axis}
-use Rattle.cell_parts.specs.Plant.{set_press, moved_press}
-use Rattle.cell_plant.proofs.WithinLemmas.{between, moved_within}
+use Rattle.cell_plant.proofs.Names.{◌≡◌, pos, ◌≤ℤ◌, Bool, true, false, ◌⊎◌, inl, inr, [], ◌∷◌, Option, Some, None, Result, Ok, Err, refl, sym, ap, ◌∙◌, subst, if◌then◌else◌, arith, ints, false_from_ne_true, Press, Z3, Posture, Closed}
+use Rattle.cell_plant.proofs.Names.{Moving, OpenIn, OpenOut, Call, Done, Reply, PressSense, Clash, motor_of, Direction, Motor, Off, Plus, Minus, PressAct, ModelState, IsSound, posture_at, posture_given, reply, changed, IsStartState}
+use Rattle.cell_plant.proofs.Names.{LineFault, posture-foreign, posture-changed, Turned, Turns, CtlFault, with_plates, by_plates, after_motor, press_start, press_steps, PressStep, ClaimFirst, MoveToMiddle, PoseMiddle, MoveToBottom, PoseLow}
+use Rattle.cell_plant.proofs.Names.{PressProgress, step_motor, act_for, clashes, Finds, PressKnows, press-knowing, act_or_rest, Keeping, turn_tells, Demanding, WhileOn, demanding_while_on, press_end, IsWithin, set_axis, press_at_start}
+use Rattle.cell_plant.proofs.Names.{PressShows, IsOn, RestsAtMiddle, RestsAtBottom, DrivesPast, press_rig, Axis, set_press, moved_press}
+use Rattle.cell_stations.specs.Names.{row_at}
+use Rattle.cell_stations.specs.PressProgram.{row_of, after_done}
+use Rattle.cell_stations.proofs.PressFacts.{drives_at}
+use Rattle.cell_plant.proofs.WithinLemmas.{moved_within}
 
 -- what its controller knows of the interlock; it is within its ends, rests where an open posture says, and is at a
 -- switch once it was driven there
@@ -48,17 +20,14 @@ pub record PressInv (z : ModelState) (p : PressProgress) (a : Axis) : Type 0 whe
   pub at_bottom : p.step ≡ PoseLow → RestsAtBottom a
 
 -- at the start
-not_closed : (q : Posture) → q ≡ Closed → (q ≡ OpenIn → ⊥) × (q ≡ OpenOut → ⊥)
-not_closed q e = (λ o. cc, λ o. cc)
-
 pub press-start : (s : ModelState) → IsStartState s → PressInv s (press_start s) press_at_start
 press-start s k =
     let shut : posture_at s Z3 ≡ Closed = ap (λ x. posture_at x Z3) k.same in
     record {
       knows = tt;
-      within = between press_end (pos 1000) (omega (arith, ints)) (omega (arith, ints));
-      open_in = λ o. absurd ((not_closed _ shut).0 o);
-      open_out = λ o. absurd ((not_closed _ shut).1 o);
+      within = omega (arith, ints);
+      open_in = λ o. absurd (cc);
+      open_out = λ o. absurd (cc);
       at_middle = λ e. cc;
       at_bottom = λ e. cc;
     }
@@ -70,42 +39,23 @@ middle_moved a r = (r.0, rw r.0 r.1)
 bottom_moved : (a : Axis) → RestsAtBottom a → RestsAtBottom (moved_press a)
 bottom_moved a r = (r.0, rw r.0 r.1)
 
--- a Done call that leaves the press open is the pose that opened it, or the press was open before
-opened_in : (s : PressStep) (p : PressProgress) (c : Call) (z : ModelState) → (row_at s p).call ≡ Some c → posture_at (changed z Press c) Z3 ≡ OpenIn → (posture_at z Z3 ≡ OpenIn) ⊎ (s ≡ PoseMiddle)
-opened_in ClaimFirst p (Claim Z3) z e o = inl o
-opened_in LeaveForMiddle p (SetPose Travelling) z e o = cc
-opened_in PoseMiddle p (SetPose Middle) z e o = inr refl
-opened_in ReleaseInterior p (Release Z3) z e o = inl o
-opened_in TakePlate p (Take Z3) z e o = inl o
-opened_in LeaveForTop p (SetPose Travelling) z e o = cc
-opened_in PoseTop p (SetPose Top) z e o = cc
-opened_in Forge p Advance z e o = inl o
-opened_in LeaveForBottom p (SetPose Travelling) z e o = cc
-opened_in PoseLow p (SetPose Low) z e o = cc
-opened_in GivePlate p (Give Z3) z e o = inl o
-opened_in ClaimBack p (Claim Z3) z e o = inl o
-opened_in s p c z e o = cc
+-- the posture of its zone after a step's call, if it has one
+abbrev after_call : Option Call → Posture → Posture
+after_call None q = q
+after_call (Some c) q = posture_given Press c Z3 q
 
-opened_out : (s : PressStep) (p : PressProgress) (c : Call) (z : ModelState) → (row_at s p).call ≡ Some c → posture_at (changed z Press c) Z3 ≡ OpenOut → (posture_at z Z3 ≡ OpenOut) ⊎ (s ≡ PoseLow)
-opened_out ClaimFirst p (Claim Z3) z e o = inl o
-opened_out LeaveForMiddle p (SetPose Travelling) z e o = cc
-opened_out PoseMiddle p (SetPose Middle) z e o = cc
-opened_out ReleaseInterior p (Release Z3) z e o = inl o
-opened_out TakePlate p (Take Z3) z e o = inl o
-opened_out LeaveForTop p (SetPose Travelling) z e o = cc
-opened_out PoseTop p (SetPose Top) z e o = cc
-opened_out Forge p Advance z e o = inl o
-opened_out LeaveForBottom p (SetPose Travelling) z e o = cc
-opened_out PoseLow p (SetPose Low) z e o = inr refl
-opened_out GivePlate p (Give Z3) z e o = inl o
-opened_out ClaimBack p (Claim Z3) z e o = inl o
-opened_out s p c z e o = cc
+-- a Done call that leaves the press open is the pose that opened it, or the press was open before
+opened_in : (s : PressStep) (p : PressProgress) (q : Posture) → after_call (row_at s p).call q ≡ OpenIn → (q ≡ OpenIn) ⊎ (s ≡ PoseMiddle)
+opened_in PoseMiddle p q o = inr refl
+opened_in s p q o = first_of (cc, search inl)
+
+opened_out : (s : PressStep) (p : PressProgress) (q : Posture) → after_call (row_at s p).call q ≡ OpenOut → (q ≡ OpenOut) ⊎ (s ≡ PoseLow)
+opened_out PoseLow p q o = inr refl
+opened_out s p q o = first_of (cc, search inl)
 
 -- the next step isn't one that is reached by a drive
 chosen : (loaded forged : Bool) (p : PressProgress) → (by_plates (with_plates p loaded forged) ≡ PoseMiddle → ⊥) × (by_plates (with_plates p loaded forged) ≡ PoseLow → ⊥)
-chosen loaded true p = (λ q. cc, λ q. cc)
-chosen true false p = (λ q. cc, λ q. cc)
-chosen false false p = (λ q. cc, λ q. cc)
+chosen loaded forged p = grind arith
 
 not_driven : (s : PressStep) (p : PressProgress) (c : Call) → (row_at s p).call ≡ Some c → ((row_at s p).next.step ≡ PoseMiddle → ⊥) × ((row_at s p).next.step ≡ PoseLow → ⊥)
 not_driven ClaimFirst p c e = chosen p.loaded p.forged p
@@ -113,36 +63,22 @@ not_driven s p c e = (λ q. cc, λ q. cc)
 
 -- the next step of a drive, and when it comes
 motor_at_middle : (last : Direction) (b m t : Bool) → (if m then Off else (if b then Plus else (if t then Minus else motor_of last))) ≡ Off → m ≡ true
-motor_at_middle last b true t e = refl
-motor_at_middle last true false t e = cc
-motor_at_middle last false false true e = cc
-motor_at_middle Upward false false false e = cc
-motor_at_middle Downward false false false e = cc
+motor_at_middle last b m t e = grind arith
 
 motor_at_bottom : (b : Bool) → (if b then Off else Minus) ≡ Off → b ≡ true
-motor_at_bottom true e = refl
-motor_at_bottom false e = cc
+motor_at_bottom b e = grind arith
 
 driven_to_middle : (s : PressStep) (p : PressProgress) (last : Direction) (x : PressSense) → (row_at s p).call ≡ None → step_motor s last x ≡ Off → (row_at s p).next.step ≡ PoseMiddle → x.middle ≡ true
 driven_to_middle MoveToMiddle p last x e m q = motor_at_middle last x.bottom x.middle x.top m
-driven_to_middle MoveToTop p last x e m q = cc
-driven_to_middle MoveToBottom p last x e m q = cc
 driven_to_middle s p last x e m q = cc
 
 driven_to_bottom : (s : PressStep) (p : PressProgress) (last : Direction) (x : PressSense) → (row_at s p).call ≡ None → step_motor s last x ≡ Off → (row_at s p).next.step ≡ PoseLow → x.bottom ≡ true
-driven_to_bottom MoveToMiddle p last x e m q = cc
-driven_to_bottom MoveToTop p last x e m q = cc
 driven_to_bottom MoveToBottom p last x e m q = motor_at_bottom x.bottom m
 driven_to_bottom s p last x e m q = cc
 
 asks_at : (s : PressStep) (p : PressProgress) → (row_at s p).call ≡ None → (s ≡ PoseMiddle → ⊥) × (s ≡ PoseLow → ⊥)
 asks_at MoveToMiddle p e = (λ q. cc, λ q. cc)
-asks_at MoveToTop p e = (λ q. cc, λ q. cc)
-asks_at MoveToBottom p e = (λ q. cc, λ q. cc)
-asks_at s p e = cc
-
-not_moving : (q : Posture) → q ≡ Moving → (q ≡ OpenIn → ⊥) × (q ≡ OpenOut → ⊥)
-not_moving q e = (λ o. cc, λ o. cc)
+asks_at s p e = (λ q. cc, λ q. cc)
 
 module _ (z : ModelState) (p : PressProgress) (a : Axis) (i : PressInv z p a) where
   -- with its motor off
@@ -168,11 +104,12 @@ module _ (z : ModelState) (p : PressProgress) (a : Axis) (i : PressInv z p a) wh
   done : (c : Call) → (row_of p).call ≡ Some c → reply z Press c ≡ Done → IsSound z → PressInv (changed z Press c) (after_done p) (set_axis a Off)
   done c e d sound =
       let leads = not_driven p.step p c e in
+      let is_after : after_call (row_of p).call (posture_at z Z3) ≡ posture_at (changed z Press c) Z3 = ap (λ x. after_call x (posture_at z Z3)) e ∙ sym (posture-changed z Press c Z3) in
       record {
         knows = press-knowing.after_done p z c e d sound i.knows;
         within = i.within;
-        open_in = λ o. rests_middle (opened_in p.step p c z e o);
-        open_out = λ o. rests_bottom (opened_out p.step p c z e o);
+        open_in = λ o. rests_middle (opened_in p.step p (posture_at z Z3) (is_after ∙ o));
+        open_out = λ o. rests_bottom (opened_out p.step p (posture_at z Z3) (is_after ∙ o));
         at_middle = λ q. absurd (leads.0 q);
         at_bottom = λ q. absurd (leads.1 q);
       }
@@ -184,28 +121,25 @@ module _ (z : ModelState) (p : PressProgress) (a : Axis) (i : PressInv z p a) wh
 
     driven_middle : (m : Motor) → step_motor p.step p.direction x ≡ m → (after_motor p m).step ≡ PoseMiddle → RestsAtMiddle (set_axis a m)
     driven_middle Off e q = (refl, shows.middle.0 (driven_to_middle p.step p p.direction x drives e q))
-    driven_middle Plus e q = absurd ((asks_at p.step p drives).0 q)
-    driven_middle Minus e q = absurd ((asks_at p.step p drives).0 q)
+    driven_middle _ e q = absurd ((asks_at p.step p drives).0 q)
 
     driven_bottom : (m : Motor) → step_motor p.step p.direction x ≡ m → (after_motor p m).step ≡ PoseLow → RestsAtBottom (set_axis a m)
     driven_bottom Off e q = (refl, shows.bottom.0 (driven_to_bottom p.step p p.direction x drives e q))
-    driven_bottom Plus e q = absurd ((asks_at p.step p drives).1 q)
-    driven_bottom Minus e q = absurd ((asks_at p.step p drives).1 q)
+    driven_bottom _ e q = absurd ((asks_at p.step p drives).1 q)
 
     drive : PressInv z (after_motor p (act_for p x).press) (set_press a (act_for p x))
     drive = record {
       knows = press-knowing.after_drive p x (act_for p x) z drives refl i.knows;
       within = i.within;
-      open_in = λ o. absurd ((not_moving _ is_moving).0 o);
-      open_out = λ o. absurd ((not_moving _ is_moving).1 o);
+      open_in = λ o. absurd (cc is_moving);
+      open_out = λ o. absurd (cc is_moving);
       at_middle = driven_middle (act_for p x).press refl;
       at_bottom = driven_bottom (act_for p x).press refl;
     }
 
 -- what the checked switches say
 checked_by : (b : Bool) (x r : PressSense) → Ok r ≡ (if b then Err Clash else Ok x) → x ≡ r
-checked_by true x r e = cc
-checked_by false x r e = cc
+checked_by b x r e = grind arith
 
 pub press-keeping : Keeping press_steps press_rig PressInv PressInv
 press-keeping = record {
@@ -226,14 +160,7 @@ press-keeping = record {
       let is : x ≡ r = checked_by (clashes x) x r senses in
       subst (λ act. PressInv z (after_motor p act.press) (set_press b act)) (sym drives) (subst (λ y. PressInv z (after_motor p (act_for p y).press) (set_press b (act_for p y))) is (drive z p b i x shows e));
   told = λ z p b i. i;
-  moves = λ z p b i. record {
-    knows = i.knows;
-    within = moved_within press_end b (omega (arith, ints)) i.within;
-    open_in = λ o. middle_moved b (i.open_in o);
-    open_out = λ o. bottom_moved b (i.open_out o);
-    at_middle = λ e. middle_moved b (i.at_middle e);
-    at_bottom = λ e. bottom_moved b (i.at_bottom e);
-  };
+  moves = λ z p b i. search (arith, ints, moved_within, middle_moved, bottom_moved, i.open_in, i.open_out, i.at_middle, i.at_bottom);
 }
 
 -- while its motor is on it holds its interior, which moves
@@ -245,44 +172,13 @@ press-demanding =
     demanding_while_on press_steps press_rig PressInv PressInv IsOn (λ p. Finds Z3 Moving ∷ []) (λ p b on. on refl) (λ z p b x r act e shows senses drives i on. (drives_at p.step p z e i.knows, tt)) (λ b on. on)
 
 -- at an end of the axis its switch is on, and the motor isn't commanded to go on
-down_to_middle : (last : Direction) (b m t : Bool) → b ≡ true → m ≡ false → (if m then Off else (if b then Plus else (if t then Minus else motor_of last))) ≡ Minus → ⊥
-down_to_middle last b true t on off e = cc
-down_to_middle last true false t on off e = cc
-down_to_middle last false false t on off e = cc
-
-up_to_middle : (last : Direction) (b m t : Bool) → b ≡ false → m ≡ false → t ≡ true → (if m then Off else (if b then Plus else (if t then Minus else motor_of last))) ≡ Plus → ⊥
-up_to_middle last b true t low off on e = cc
-up_to_middle last true false t low off on e = cc
-up_to_middle last false false true low off on e = cc
-up_to_middle last false false false low off on e = cc
-
-up_to_top : (t : Bool) → (if t then Off else Plus) ≡ Minus → ⊥
-up_to_top true e = cc
-up_to_top false e = cc
-
-past_top : (t : Bool) → t ≡ true → (if t then Off else Plus) ≡ Plus → ⊥
-past_top true on e = cc
-past_top false on e = cc
-
-past_bottom : (b : Bool) → b ≡ true → (if b then Off else Minus) ≡ Minus → ⊥
-past_bottom true on e = cc
-past_bottom false on e = cc
-
-down_to_bottom : (b : Bool) → (if b then Off else Minus) ≡ Plus → ⊥
-down_to_bottom true e = cc
-down_to_bottom false e = cc
-
 not_down : (s : PressStep) (last : Direction) (x : PressSense) → x.bottom ≡ true → x.middle ≡ false → step_motor s last x ≡ Minus → ⊥
-not_down MoveToMiddle last x b m e = down_to_middle last x.bottom x.middle x.top b m e
-not_down MoveToTop last x b m e = up_to_top x.top e
-not_down MoveToBottom last x b m e = past_bottom x.bottom b e
-not_down s last x b m e = cc
+not_down MoveToMiddle last x b m e = grind arith
+not_down s last x b m e = grind arith
 
 not_up : (s : PressStep) (last : Direction) (x : PressSense) → x.bottom ≡ false → x.middle ≡ false → x.top ≡ true → step_motor s last x ≡ Plus → ⊥
-not_up MoveToMiddle last x b m t e = up_to_middle last x.bottom x.middle x.top b m t e
-not_up MoveToTop last x b m t e = past_top x.top t e
-not_up MoveToBottom last x b m t e = down_to_bottom x.bottom e
-not_up s last x b m t e = cc
+not_up MoveToMiddle last x b m t e = grind arith
+not_up s last x b m t e = grind arith
 
 module _ (a : Axis) (x : PressSense) (shows : PressShows a x) where
   low_end : a.position ≡ pos 0 → (x.bottom ≡ true) × (x.middle ≡ false)

@@ -1,15 +1,8 @@
 -- The figures of the records of literal runs, and records that are wrong in one thing.
-use Rattle.std.proofs.Common.{◌≡◌, ◌≢◌, ℕ, ℤ, pos, List, [], ◌∷◌, length, get_or, Some, None, refl, sym, ap, ◌∙◌}
-use Rattle.cell_rules.specs.Types.{Machine, Feed, Table, Robot, Watch, Done, Refused, Shut, Closed, Entry, Journals}
-use Rattle.cell_rules.specs.Names.{ModelState, noted}
-use Rattle.cell_notes.specs.Names.{no_counts}
-use Rattle.cell_notes.specs.declared.counts.Counts.{Counts}
-use Rattle.cell_notes.specs.declared.run_record.RunRecord.{RunRecord}
-use Rattle.cell_notes.specs.declared.status.Status.{Status}
-use Rattle.cell_notes.specs.declared.status.Status.TheVariants.{Fine, Memory}
-use Rattle.cell_plant.specs.Names.{IsRecordOf, events_in, end_of, opening, at_first, steps, IsOfLiteralRun}
-use Rattle.cell_plant.specs.Names.{IsOfOneStop, counts_of}
-use Rattle.cell_plant.specs.RecordExamples.{IsOfApart, WrongRecords, IsRecord, AreJournals, journal_by, done_entry, refused_entry, stop_entry, first_stop, steps_apart, last_apart, journals_apart, with_feed_counts}
+use Rattle.cell_plant.proofs.Names.{◌≡◌, ◌≢◌, ℕ, ℤ, pos, List, [], ◌∷◌, length, get_or, Some, None, refl, sym, ap, ◌∙◌, Machine, Feed, Watch, Done, Refused, Shut, Closed, Entry, Journals, ModelState, noted, no_counts, Counts, RunRecord}
+use Rattle.cell_plant.proofs.Names.{Status, Fine, IsRecordOf, events_in, end_of, opening, at_first, steps, IsOfLiteralRun, IsOfOneStop, counts_of, IsOfApart, WrongRecords, IsRecord, AreJournals, journal_by, done_entry, refused_entry}
+use Rattle.cell_plant.proofs.Names.{stop_entry, first_stop, steps_apart, last_apart, journals_apart, with_feed_counts}
+use Rattle.cell_notes.specs.declared.status.Status.TheVariants.{Memory}
 use Rattle.cell_plant.proofs.Deciding.{not_so, equals, same_number}
 use Rattle.cell_plant.proofs.ExampleTurns.{one_stop}
 
@@ -64,44 +57,20 @@ module _ (r : RunRecord) where
 
   noted_is : (m : Machine) → noted opening (events_in steps) m ≡ journal_by (done_entry ∷ refused_entry ∷ []) (stop_entry ∷ []) m
   noted_is Feed = refl
-  noted_is Watch = refl
   noted_is _ = refl
 
   pub figures : IsRecord r → IsOfLiteralRun r
-  figures k = record {
-    start = k.start;
-    counts = k.counts;
-    status = k.status;
-    journals = λ m. k.journals m ∙ noted_is m;
-    end = k.end;
-    axes = k.axes;
-  }
+  figures k = assumption (λ (m : Machine). k.journals m ∙ noted_is m)
 
   apart_is : (m : Machine) → noted opening (events_in steps_apart) m ≡ journals_apart m
   apart_is Feed = refl
-  apart_is Table = refl
-  apart_is Robot = refl
-  apart_is Watch = refl
   apart_is _ = refl
 
   pub apart : IsRecordOf opening steps_apart last_apart r → IsOfApart r
-  apart k = record {
-    counts = k.counts;
-    status = k.status;
-    journals = λ m. k.journals m ∙ apart_is m;
-    end = k.end;
-    axes = k.axes;
-  }
+  apart k = assumption (λ (m : Machine). k.journals m ∙ apart_is m)
 
   pub recorded : IsOfLiteralRun r → IsRecord r
-  recorded f = record {
-    start = f.start;
-    counts = f.counts;
-    status = f.status;
-    journals = λ m. f.journals m ∙ sym (noted_is m);
-    end = f.end;
-    axes = f.axes;
-  }
+  recorded f = assumption (λ (m : Machine). f.journals m ∙ sym (noted_is m))
 
   -- ---- the record of the run in which the watch stops the cell
   first_stop_is : (m : Machine) → noted opening (events_in one_stop) m ≡ first_stop m
@@ -109,11 +78,4 @@ module _ (r : RunRecord) where
   first_stop_is _ = refl
 
   pub one_stop_recorded : IsOfOneStop r → IsRecordOf opening one_stop (end_of at_first one_stop) r
-  one_stop_recorded n = record {
-    start = n.start;
-    counts = n.counts;
-    status = n.status;
-    journals = λ m. n.journals m ∙ sym (first_stop_is m);
-    end = n.end;
-    axes = n.axes;
-  }
+  one_stop_recorded n = assumption (λ (m : Machine). n.journals m ∙ sym (first_stop_is m))

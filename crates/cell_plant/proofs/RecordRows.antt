@@ -1,27 +1,9 @@
 -- The examples of records: of runs of a schedule, and of no such run.
-use Rattle.std.proofs.Common.{◌≡◌, ◌≢◌, ◌+◌, Bool, true, false, ◌&&◌, cond, List, [], ◌∷◌, map, Some, Result, Ok, Err, refl, sym, ap, ◌∙◌, arith}
-use Rattle.cell_rules.specs.Types.{Machine, Feed, Table, Robot, Press, Deposit, Crane, Watch, Call, Reply}
-use Rattle.cell_rules.specs.Types.{all_machines, same_machine}
-use Rattle.cell_calib.specs.Names.{IsReading}
-use Rattle.cell_calib.specs.declared.sense.CraneSense.{CraneSense}
-use Rattle.cell_calib.specs.declared.sense.SensorFault.{SensorFault}
-use Rattle.cell_devices.specs.declared.act.CraneAct.{CraneAct}
-use Rattle.cell_rules.specs.Names.{ModelState, IsLegal, after}
-use Rattle.cell_rules.specs.declared.heard.LineFault.{LineFault}
+use Rattle.cell_plant.proofs.Names.{◌≡◌, ◌≢◌, ◌+◌, Bool, true, false, ◌&&◌, cond, List, [], ◌∷◌, map, Some, Result, Ok, Err, refl, sym, ap, ◌∙◌, arith, Machine, Feed, Table, Robot, Press, Deposit, Crane, Watch, Call, Reply, all_machines}
+use Rattle.cell_plant.proofs.Names.{same_machine, IsReading, CraneSense, SensorFault, CraneAct, ModelState, IsLegal, after, LineFault, Performed, PerformsSensed, Turned, turned, Senses, CraneProgress, CraneReading, RunRecord, Fine, Sensor}
+use Rattle.cell_plant.proofs.Names.{Turn, status_of, CellScales, steps_of, SideOf, CellState, cell_at_start, IsRecordOf, is_turn_of, counts_in, events_in, Step, TakesTurn, IsRun, end_of, IsSafeState, IsSafeRun, opening, at_first, schedule}
+use Rattle.cell_plant.proofs.Names.{steps, turn_of, asks, IsOfLiteralRun, IsOfOneStop, counts_of, IsOfLegalHistory, RecordExamples, IsOfNoTurn, IsUnread, Tells, counts_by, open_too_early}
 use Rattle.cell_control.specs.declared.fault.CtlFault.TheVariants.{Sensor as BySensor}
-use Rattle.cell_control.specs.Names.{Performed, PerformsSensed, Turned, turned}
-use Rattle.cell_haul.specs.Names.{Senses}
-use Rattle.cell_haul.specs.declared.crane.CraneProgress.{CraneProgress}
-use Rattle.cell_haul.specs.declared.crane.CraneReading.{CraneReading}
-use Rattle.cell_notes.specs.declared.run_record.RunRecord.{RunRecord}
-use Rattle.cell_notes.specs.declared.status.Status.TheVariants.{Fine, Sensor}
-use Rattle.cell_notes.specs.declared.schedule.Turn.{Turn}
-use Rattle.cell_unit.specs.Statuses.{status_of}
-use Rattle.cell_parts.specs.Axes.{CellScales}
-use Rattle.cell_plant.specs.Names.{steps_of, SideOf, CellState, cell_at_start, IsRecordOf, is_turn_of, counts_in}
-use Rattle.cell_plant.specs.Names.{events_in, Step, TakesTurn, IsRun, end_of, IsSafeState, IsSafeRun, opening}
-use Rattle.cell_plant.specs.Names.{at_first, schedule, steps, turn_of, asks, IsOfLiteralRun, IsOfOneStop, counts_of}
-use Rattle.cell_plant.specs.RecordExamples.{IsOfLegalHistory, RecordExamples, IsOfNoTurn, IsUnread, Tells, counts_by, open_too_early}
 use Rattle.cell_plant.proofs.Deciding.{so, not_so, same_number}
 use Rattle.cell_plant.proofs.ExampleTurns.{one_stop, literal_run, one_stop_run}
 use Rattle.cell_plant.proofs.RecordFigures.{turns_at, figures, apart, recorded, wrong_records, one_stop_recorded}

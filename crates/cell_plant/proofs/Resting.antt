@@ -1,14 +1,8 @@
 -- A turn that an error ends sets the actuators to rest.
-use Rattle.std.proofs.Common.{◌≡◌, Option, Some, None, Result, Ok, Err, refl, sym, ap, ◌∙◌, subst}
-use Rattle.cell_rules.specs.Types.{Machine, Feed, Table, Robot, Press, Deposit, Crane, Watch, Call, Reply}
-use Rattle.cell_rules.specs.declared.heard.LineFault.{LineFault}
-use Rattle.cell_control.specs.Names.{Rig, Steps, Performed, Turned, Turns, turned}
-use Rattle.cell_control.specs.declared.fault.CtlFault.{CtlFault}
-use Rattle.cell_notes.specs.Asks.{TurnCall, done_in}
-use Rattle.cell_unit.specs.Sides.{Side, Acts, ActsAndMoves, act_or_rest, noting, part_set}
-use Rattle.cell_parts.specs.Axes.{CellScales}
-use Rattle.cell_plant.specs.Names.{SideOf, ProgressOf, PartOf, steps_of, rig_of, IsAtRest}
-use Rattle.cell_plant.specs.Resting.{StoppedMachinesRest}
+use Rattle.cell_plant.proofs.Names.{◌≡◌, Option, Some, None, Result, Ok, Err, refl, sym, ap, ◌∙◌, subst, Machine, Feed, Call, Reply, LineFault, Rig, Steps, Performed, Turned, Turns, turned, CtlFault, done_in, ActsAndMoves, act_or_rest}
+use Rattle.cell_plant.proofs.Names.{noting, part_set, CellScales, SideOf, ProgressOf, PartOf, steps_of, rig_of, IsAtRest, StoppedMachinesRest}
+use Rattle.cell_notes.specs.Asks.{TurnCall}
+use Rattle.cell_unit.specs.Sides.{Side, Acts}
 
 module _ {S Sense Reading Act : Type 0} (t : Steps S Sense Reading Act) (same : Type 0) (asks : Call → Result Reply LineFault → Type 0) where
   fault_rests : (p : S) (r : Performed S Act) (fault : CtlFault) → (turned p r).stopped ≡ Some fault → act_or_rest (t.rest p) (turned p r).result ≡ t.rest p
@@ -27,21 +21,11 @@ module _ {S Sense Reading Act State : Type 0} (t : Steps S Sense Reading Act) (r
 module _ (c : CellScales) where
   set_at_rest : (m : Machine) (p : ProgressOf m) (b : PartOf m) → IsAtRest m p ((rig_of c m).set b ((steps_of c m).rest p))
   set_at_rest Feed p b = refl
-  set_at_rest Table p b = record { lift = refl; turn = refl }
-  set_at_rest Robot p b = record { arm1 = refl; arm2 = refl; rotation = refl; magnet1 = refl; magnet2 = refl }
-  set_at_rest Press p b = refl
-  set_at_rest Deposit p b = refl
-  set_at_rest Crane p b = record { travel = refl; gripper = refl; magnet = refl }
-  set_at_rest Watch p b = tt
+  set_at_rest _ p b = assumption
 
   moved_at_rest : (m : Machine) (p : ProgressOf m) (b : PartOf m) → IsAtRest m p ((rig_of c m).moves ((rig_of c m).set b ((steps_of c m).rest p)))
   moved_at_rest Feed p b = refl
-  moved_at_rest Table p b = record { lift = refl; turn = refl }
-  moved_at_rest Robot p b = record { arm1 = refl; arm2 = refl; rotation = refl; magnet1 = refl; magnet2 = refl }
-  moved_at_rest Press p b = refl
-  moved_at_rest Deposit p b = refl
-  moved_at_rest Crane p b = record { travel = refl; gripper = refl; magnet = refl }
-  moved_at_rest Watch p b = tt
+  moved_at_rest _ p b = assumption
 
   module _ (m : Machine) (same : Type 0) (asks : Call → Result Reply LineFault → Type 0) (before : SideOf m) (asked : TurnCall) (fault : CtlFault) where
     abbrev told : PartOf m

@@ -1,53 +1,21 @@
 -- The invariant of the robot's side: it holds in every state of a run.
-use Rattle.std.proofs.Common.{◌≡◌, ℤ, pos, ◌≤ℤ◌, Bool, true, false, not, ◌&&◌, ◌||◌, ◌⊎◌, inl, inr, Option, Some, None, Result, Ok, refl, sym, ap, ◌∙◌, subst, if◌then◌else◌, arith}
-use Rattle.std.specs.Prelude.{⊤}
-use Rattle.std.proofs.lemmas.Int.{ints}
-use Rattle.cell_rules.specs.Types.{Machine, Robot, Call, Reply, Posture, OpenIn, OpenOut, Z2, Z3, Z4}
-use Rattle.cell_calib.specs.Names.{IsNear}
-use Rattle.cell_calib.specs.declared.sense.RobotSense.{RobotSense}
-use Rattle.cell_devices.specs.Names.{DrivesTo}
-use Rattle.cell_devices.specs.declared.motor.Motor.{Motor}
-use Rattle.cell_devices.specs.declared.motor.Motor.TheVariants.{Off}
-use Rattle.cell_devices.specs.declared.act.RobotAct.{RobotAct}
+use Rattle.cell_plant.proofs.Names.{◌≡◌, ℤ, pos, ◌≤ℤ◌, Bool, true, false, not, ◌&&◌, ◌||◌, ◌⊎◌, inl, inr, Option, Some, None, Result, Ok, refl, sym, ap, ◌∙◌, subst, if◌then◌else◌, arith, ⊤, ints, Machine, Robot, Call, Reply, Posture}
+use Rattle.cell_plant.proofs.Names.{OpenIn, OpenOut, Z2, Z3, Z4, IsNear, RobotSense, DrivesTo, Motor, Off, RobotAct, RETRACTED, ARM1_PRESS, ARM2_DEPOSIT, ROTATION_ARM1_TABLE, ROTATION_ARM1_PRESS, ROTATION_ARM2_PRESS, ROTATION_ARM2_DEPOSIT}
+use Rattle.cell_plant.proofs.Names.{ModelState, changed, LineFault, Turned, Turns, CtlFault, AreSo, choice, notes_at, robot_start, RobotScales, near_lines, turns_to, arm1_stop, arm2_stop, robot_rest, robot_steps, RobotStep, TurnToTable}
+use Rattle.cell_plant.proofs.Names.{ReachTable, LeaveTable, TurnToLoad, ClaimPress, InspectPress, ReleasePress, ReachToLoad, DropInPress, LeaveLoaded, TurnToUnload, AwaitForged, ReachToUnload, GripForged, LeaveUnloaded, TurnToDeposit}
+use Rattle.cell_plant.proofs.Names.{ClaimDeposit, ReachDeposit, DropOnDeposit, LeaveDeposit, RobotNotes, RobotProgress, RobotReading, turns, RobotKnows, at_choice, robot-knowing, act_or_rest, Keeping, turn_tells, IsAxisScale, IsWithin}
+use Rattle.cell_plant.proofs.Names.{IsIn, arm_end, rotation_end, robot_at_start, moved_axis, set_axis, set_robot, robot_rig, IsOn, IsOut, IsArm1AtTable, IsArm1InPress, IsArm2InPress, IsArm2AtDeposit, LetsGo, Arm1MayLetGo, Arm2MayLetGo}
+use Rattle.cell_plant.proofs.Names.{DrivesPast, RotatesRetracted, HoldsIn, Axis, RobotPlant, RobotShows}
 use Rattle.cell_devices.specs.declared.stops.Stop.{Stop}
-use Rattle.cell_devices.specs.declared.stops.TheConstants.{RETRACTED, ARM1_PRESS, ARM2_DEPOSIT, ROTATION_ARM1_TABLE}
-use Rattle.cell_devices.specs.declared.stops.TheConstants.{ROTATION_ARM1_PRESS, ROTATION_ARM2_PRESS}
-use Rattle.cell_devices.specs.declared.stops.TheConstants.{ROTATION_ARM2_DEPOSIT}
-use Rattle.cell_rules.specs.Names.{ModelState, changed}
-use Rattle.cell_rules.specs.declared.heard.LineFault.{LineFault}
-use Rattle.cell_control.specs.Names.{Turned, Turns}
-use Rattle.cell_control.specs.declared.fault.CtlFault.{CtlFault}
-use Rattle.cell_control.proofs.Facts.{AreSo}
-use Rattle.cell_robot.specs.Names.{choice, row_at, row_of, step_after_inquiry, after_done, notes_at, robot_start}
-use Rattle.cell_robot.specs.Names.{RobotScales, near_lines, Senses, turns_to, arm1_stop, arm2_stop, Acts, is_done}
-use Rattle.cell_robot.specs.Names.{robot_rest, robot_steps}
-use Rattle.cell_robot.specs.declared.robot.RobotStep.{RobotStep}
-use Rattle.cell_robot.specs.declared.robot.RobotStep.TheVariants.{TurnToTable, AwaitPlate, ReachTable, GripPlate}
-use Rattle.cell_robot.specs.declared.robot.RobotStep.TheVariants.{LeaveTable, TakePlate, ReleaseTable, TurnToLoad}
-use Rattle.cell_robot.specs.declared.robot.RobotStep.TheVariants.{ClaimPress, InspectPress, ReleasePress, ReachToLoad}
-use Rattle.cell_robot.specs.declared.robot.RobotStep.TheVariants.{DropInPress, LeaveLoaded, GiveToPress, TurnToUnload}
-use Rattle.cell_robot.specs.declared.robot.RobotStep.TheVariants.{AwaitForged, ReachToUnload, GripForged}
-use Rattle.cell_robot.specs.declared.robot.RobotStep.TheVariants.{LeaveUnloaded, TakeForged, ReleaseUnloaded}
-use Rattle.cell_robot.specs.declared.robot.RobotStep.TheVariants.{TurnToDeposit, ClaimDeposit, ReachDeposit}
-use Rattle.cell_robot.specs.declared.robot.RobotStep.TheVariants.{DropOnDeposit, LeaveDeposit, GiveToDeposit}
-use Rattle.cell_robot.specs.declared.robot.RobotNotes.{RobotNotes}
-use Rattle.cell_robot.specs.declared.robot.RobotProgress.{RobotProgress}
-use Rattle.cell_robot.specs.declared.robot.RobotReading.{RobotReading}
-use Rattle.cell_robot.specs.RobotProgram.{rotation_stop, is_off, turns}
-use Rattle.cell_robot.proofs.RobotFacts.{facts_at, RobotKnows, at_choice, robot-knowing}
-use Rattle.cell_unit.specs.Sides.{act_or_rest}
-use Rattle.cell_unit.proofs.Keeping.{Keeping, turn_tells}
-use Rattle.cell_parts.specs.Names.{IsAxisScale, IsWithin, IsIn, arm_end, rotation_end, robot_at_start, moved_axis}
-use Rattle.cell_parts.specs.Names.{set_axis, set_robot, robot_rig, IsOn, IsOut, IsArm1AtTable, IsArm1InPress}
-use Rattle.cell_parts.specs.Names.{IsArm2InPress, IsArm2AtDeposit, LetsGo, Arm1MayLetGo, Arm2MayLetGo, DrivesPast}
-use Rattle.cell_parts.specs.Names.{RotatesRetracted, HoldsIn}
-use Rattle.cell_parts.specs.declared.axis.Axis.{Axis}
-use Rattle.cell_parts.specs.declared.plant.RobotPlant.{RobotPlant}
-use Rattle.cell_parts.specs.Axes.{RobotScales as PartScales, rotation_start}
-use Rattle.cell_parts.specs.Shows.{RobotShows}
+use Rattle.cell_robot.specs.Names.{row_at, row_of, step_after_inquiry, after_done}
+use Rattle.cell_robot.specs.Names.{Senses, Acts, is_done}
+use Rattle.cell_robot.specs.declared.robot.RobotStep.TheVariants.{AwaitPlate, GripPlate}
+use Rattle.cell_robot.specs.RobotProgram.{rotation_stop, is_off}
+use Rattle.cell_robot.proofs.RobotFacts.{facts_at}
+use Rattle.cell_parts.specs.Axes.{RobotScales as PartScales}
 use Rattle.cell_plant.proofs.Magnets.{still_on}
-use Rattle.cell_plant.proofs.Stops.{reading_near, span_of, at_stop, StopsWithin, off_within, driven_within}
-use Rattle.cell_plant.proofs.WithinLemmas.{between, moved_within}
+use Rattle.cell_plant.proofs.Stops.{reading_near, span_of, at_stop, StopsWithin, not_on, off_within, driven_within}
+use Rattle.cell_plant.proofs.WithinLemmas.{moved_within}
 
 -- the stop of each arm at a step, and of the rotation; none if the axis may be anywhere
 abbrev arm1_at : RobotStep → Option Stop
@@ -136,18 +104,12 @@ still_there at stop a tol read m (inr e) drives k =
     subst (λ x. StandsAt at (set_axis a x)) (sym off) (stands_off at a k)
 
 arm1_still : (s : RobotStep) → (arm1_at s ≡ None) ⊎ (arm1_stop s ≡ None)
-arm1_still ReachTable = inl refl
-arm1_still LeaveTable = inl refl
-arm1_still ReachToLoad = inl refl
-arm1_still LeaveLoaded = inl refl
-arm1_still s = inr refl
+arm1_still TurnToTable = inr refl
+arm1_still _ = first_of (search inl, search inr)
 
 arm2_still : (s : RobotStep) → (arm2_at s ≡ None) ⊎ (arm2_stop s ≡ None)
-arm2_still ReachToUnload = inl refl
-arm2_still LeaveUnloaded = inl refl
-arm2_still ReachDeposit = inl refl
-arm2_still LeaveDeposit = inl refl
-arm2_still s = inr refl
+arm2_still TurnToTable = inr refl
+arm2_still _ = first_of (search inl, search inr)
 
 no_stop : (b : Bool) (stop : Option Stop) → stop ≡ None → (if b then stop else None) ≡ None
 no_stop true stop e = e
@@ -162,10 +124,9 @@ rotation_still s b = inr (no_stop b (rotation_stop s) refl)
 
 -- the next steps: before a group of steps both arms are in, and the rotation may be any
 choice_by : (arm1 arm2 fed : Bool) → (arm1_at (choice (record { arm1 = arm1; arm2 = arm2; fed = fed })) ≡ Some RETRACTED) × (arm2_at (choice (record { arm1 = arm1; arm2 = arm2; fed = fed })) ≡ Some RETRACTED) × (rotation_at (choice (record { arm1 = arm1; arm2 = arm2; fed = fed })) ≡ None)
-choice_by arm1 true fed = (refl, refl, refl)
-choice_by arm1 false true = (refl, refl, refl)
-choice_by true false false = (refl, refl, refl)
-choice_by false false false = (refl, refl, refl)
+choice_by true false false = assumption
+choice_by false false false = assumption
+choice_by arm1 arm2 fed = assumption
 
 at_group : (n : RobotNotes) → (arm1_at (choice n) ≡ Some RETRACTED) × (arm2_at (choice n) ≡ Some RETRACTED) × (rotation_at (choice n) ≡ None)
 at_group n = choice_by n.arm1 n.arm2 n.fed
@@ -181,55 +142,17 @@ to_group n = let at = at_group n in (inr at.0, inr at.1, inl at.2)
 
 asks_lead : (s : RobotStep) (p : RobotProgress) (c : Call) → (row_at s p).call ≡ Some c → StaysAll s (row_at s p).next.step
 asks_lead AwaitPlate p c e = (there, there, there)
-asks_lead TakePlate p c e = (there, there, there)
-asks_lead ReleaseTable p c e = to_group (row_at ReleaseTable p).next.notes
-asks_lead ClaimPress p c e = (there, there, there)
-asks_lead InspectPress p c e = (there, there, there)
-asks_lead ReleasePress p c e = (there, there, there)
-asks_lead GiveToPress p c e = to_group (row_at GiveToPress p).next.notes
-asks_lead AwaitForged p c e = (there, there, there)
-asks_lead TakeForged p c e = (there, there, there)
-asks_lead ReleaseUnloaded p c e = to_group (row_at ReleaseUnloaded p).next.notes
-asks_lead ClaimDeposit p c e = (there, anywhere, there)
-asks_lead GiveToDeposit p c e = to_group (row_at GiveToDeposit p).next.notes
-asks_lead s p c e = cc
-
-at_table : (o : Option Machine) (f : Bool) (q : Posture) → StaysAll AwaitPlate (step_after_inquiry AwaitPlate o f q)
-at_table (Some Robot) true q = (anywhere, there, there)
-at_table o f q = (there, there, there)
-
-before_press : (o : Option Machine) (f : Bool) (q : Posture) → StaysAll InspectPress (step_after_inquiry InspectPress o f q)
-before_press o f OpenIn = (anywhere, there, there)
-before_press o f q = (there, there, there)
-
-at_press : (o : Option Machine) (f : Bool) (q : Posture) → StaysAll AwaitForged (step_after_inquiry AwaitForged o f q)
-at_press (Some Robot) true q = (there, anywhere, there)
-at_press o f q = (there, there, there)
+asks_lead s p c e = first_of (cc, search (anywhere, there, to_group (row_at s p).next.notes))
 
 inquiries_lead : (s : RobotStep) (o : Option Machine) (f : Bool) (q : Posture) → StaysAll s (step_after_inquiry s o f q)
-inquiries_lead AwaitPlate o f q = at_table o f q
-inquiries_lead InspectPress o f q = before_press o f q
-inquiries_lead AwaitForged o f q = at_press o f q
+inquiries_lead AwaitPlate (Some Robot) true q = (anywhere, there, there)
+inquiries_lead InspectPress o f OpenIn = (anywhere, there, there)
+inquiries_lead AwaitForged (Some Robot) true q = (there, anywhere, there)
 inquiries_lead s o f q = (there, there, there)
 
 drives_lead : (s : RobotStep) (p : RobotProgress) → (row_at s p).call ≡ None → ComesAll s (row_at s p).next.step
 drives_lead TurnToTable p e = (inl there, inl there, inr refl)
-drives_lead ReachTable p e = (inl anywhere, inl there, inl there)
-drives_lead GripPlate p e = (inl anywhere, inl there, inl there)
-drives_lead LeaveTable p e = (inr refl, inl there, inl anywhere)
-drives_lead TurnToLoad p e = (inl there, inl there, inr refl)
-drives_lead ReachToLoad p e = (inr refl, inl there, inl there)
-drives_lead DropInPress p e = (inl anywhere, inl there, inl there)
-drives_lead LeaveLoaded p e = (inr refl, inl there, inl anywhere)
-drives_lead TurnToUnload p e = (inl there, inl there, inr refl)
-drives_lead ReachToUnload p e = (inl there, inl anywhere, inl there)
-drives_lead GripForged p e = (inl there, inl anywhere, inl there)
-drives_lead LeaveUnloaded p e = (inl there, inr refl, inl anywhere)
-drives_lead TurnToDeposit p e = (inl there, inl there, inr refl)
-drives_lead ReachDeposit p e = (inl there, inr refl, inl there)
-drives_lead DropOnDeposit p e = (inl there, inl anywhere, inl there)
-drives_lead LeaveDeposit p e = (inl there, inr refl, inl anywhere)
-drives_lead s p e = cc
+drives_lead s p e = first_of (cc, search (inl, inr))
 
 -- what its step knows of the interlock; its magnets are as last commanded, each axis is where the step needs it, and it
 -- rotates only in steps that rotate
@@ -237,9 +160,7 @@ pub record RobotInv (z : ModelState) (p : RobotProgress) (r : RobotPlant) : Type
   pub knows : RobotKnows p z
   pub magnet1 : r.magnet1 ≡ p.magnets.arm1
   pub magnet2 : r.magnet2 ≡ p.magnets.arm2
-  pub arm1_within : IsWithin arm_end r.arm1.position
-  pub arm2_within : IsWithin arm_end r.arm2.position
-  pub rotation_within : IsWithin rotation_end r.rotation.position
+  pub within : IsWithin arm_end r.arm1.position × IsWithin arm_end r.arm2.position × IsWithin rotation_end r.rotation.position
   pub arm1 : StandsAt (arm1_at p.step) r.arm1
   pub arm2 : StandsAt (arm2_at p.step) r.arm2
   pub rotation : StandsAt (rotation_at p.step) r.rotation
@@ -252,81 +173,47 @@ robot-start s =
       knows = at_choice (notes_at s) s;
       magnet1 = refl;
       magnet2 = refl;
-      arm1_within = between arm_end (pos 0) (omega (arith, ints)) (omega (arith, ints));
-      arm2_within = between arm_end (pos 0) (omega (arith, ints)) (omega (arith, ints));
-      rotation_within = between rotation_end rotation_start (omega (arith, ints)) (omega (arith, ints));
-      arm1 = subst (λ x. StandsAt x (robot_at_start s).arm1) (sym at.0) ((omega (arith, ints), omega (arith, ints)), refl);
-      arm2 = subst (λ x. StandsAt x (robot_at_start s).arm2) (sym at.1) ((omega (arith, ints), omega (arith, ints)), refl);
+      within = omega (arith, ints);
+      arm1 = subst (λ x. StandsAt x (robot_at_start s).arm1) (sym at.0) (omega (arith, ints), refl);
+      arm2 = subst (λ x. StandsAt x (robot_at_start s).arm2) (sym at.1) (omega (arith, ints), refl);
       rotation = subst (λ x. StandsAt x (robot_at_start s).rotation) (sym at.2) tt;
       turning = λ on. absurd (on refl);
     }
 
 -- with its motors off it stays where it is
 at_rest : {z : ModelState} → (y : ModelState) (p q : RobotProgress) (r : RobotPlant) → RobotInv z p r → RobotKnows q y → p.magnets ≡ q.magnets → StaysAll p.step q.step → RobotInv y q (set_robot r (robot_rest p))
-at_rest y p q r i knows magnets leads = record {
-  knows = knows;
-  magnet1 = ap (λ m. m.arm1) magnets;
-  magnet2 = ap (λ m. m.arm2) magnets;
-  arm1_within = i.arm1_within;
-  arm2_within = i.arm2_within;
-  rotation_within = i.rotation_within;
-  arm1 = stays_off (arm1_at p.step) (arm1_at q.step) r.arm1 leads.0 i.arm1;
-  arm2 = stays_off (arm2_at p.step) (arm2_at q.step) r.arm2 leads.1 i.arm2;
-  rotation = stays_off (rotation_at p.step) (rotation_at q.step) r.rotation leads.2 i.rotation;
-  turning = λ on. absurd (on refl);
-}
+at_rest y p q r i knows magnets leads = search (stays_off, ap (λ m. m.arm1) magnets, ap (λ m. m.arm2) magnets, not_on)
 
 -- a step that asks switches no magnet
 asks_magnets : (s : RobotStep) (p : RobotProgress) (c : Call) → (row_at s p).call ≡ Some c → p.magnets ≡ (row_at s p).next.magnets
 asks_magnets AwaitPlate p c e = refl
-asks_magnets TakePlate p c e = refl
-asks_magnets ReleaseTable p c e = refl
-asks_magnets ClaimPress p c e = refl
-asks_magnets InspectPress p c e = refl
-asks_magnets ReleasePress p c e = refl
-asks_magnets GiveToPress p c e = refl
-asks_magnets AwaitForged p c e = refl
-asks_magnets TakeForged p c e = refl
-asks_magnets ReleaseUnloaded p c e = refl
-asks_magnets ClaimDeposit p c e = refl
-asks_magnets GiveToDeposit p c e = refl
-asks_magnets s p c e = cc
+asks_magnets s p c e = first_of (assumption, cc)
 
 -- what a done step says of its motors
 all_off : (a b c : Motor) → (is_off a && (is_off b && is_off c)) ≡ true → (a ≡ Off) × (b ≡ Off) × (c ≡ Off)
-all_off Off Off Off e = (refl, refl, refl)
-all_off a b c e = cc
+all_off a b c e = grind arith
 
 done_when : (t retracted : Bool) (a b c : Motor) → ((not t || retracted) && (is_off a && (is_off b && is_off c))) ≡ true → (t ≡ true → retracted ≡ true) × ((a ≡ Off) × (b ≡ Off) × (c ≡ Off))
-done_when true true a b c e = (λ q. refl, all_off a b c e)
-done_when true false a b c e = cc
-done_when false retracted a b c e = (λ q. cc, all_off a b c e)
+done_when t retracted a b c e = grind arith
 
 -- a step that switches a magnet is done in its turn
 not_off : (a b c : Motor) → a ≡ Off → b ≡ Off → c ≡ Off → (is_off a && (is_off b && is_off c)) ≡ false → ⊥
-not_off Off Off Off e f g h = cc
-not_off a b c e f g h = cc
+not_off a b c e f g h = grind arith
 
 turned_off : (b : Bool) (tol read : ℤ) (m : Motor) → DrivesTo (if b then None else None) tol read m → m ≡ Off
 turned_off true tol read m k = k
-turned_off false tol read m k = k
+turned_off _ tol read m k = k
 
 module _ (points : RobotScales) (p : RobotProgress) (rd : RobotReading) (act : RobotAct) (acts : Acts points p rd act) where
   stays_magnets : (s : RobotStep) → DrivesTo (arm1_stop s) points.arm1.tol rd.arm1 act.arm1 → DrivesTo (arm2_stop s) points.arm2.tol rd.arm2 act.arm2 → DrivesTo (turns_to s rd.retracted) points.rotation.tol rd.rotation act.rotation
       → is_done s rd.retracted act ≡ false → (row_at s p).next.magnets ≡ p.magnets
   stays_magnets GripPlate a b c stays = absurd (not_off act.arm1 act.arm2 act.rotation a b (turned_off rd.retracted _ _ _ c) stays)
-  stays_magnets DropInPress a b c stays = absurd (not_off act.arm1 act.arm2 act.rotation a b (turned_off rd.retracted _ _ _ c) stays)
-  stays_magnets GripForged a b c stays = absurd (not_off act.arm1 act.arm2 act.rotation a b (turned_off rd.retracted _ _ _ c) stays)
-  stays_magnets DropOnDeposit a b c stays = absurd (not_off act.arm1 act.arm2 act.rotation a b (turned_off rd.retracted _ _ _ c) stays)
-  stays_magnets s a b c stays = refl
+  stays_magnets s a b c stays = first_of (assumption, search (not_off, turned_off))
 
   -- only a step that rotates commands the rotation
   told_turns : (s : RobotStep) → DrivesTo (turns_to s rd.retracted) points.rotation.tol rd.rotation act.rotation → (act.rotation ≡ Off → ⊥) → turns s ≡ true
   told_turns TurnToTable c on = refl
-  told_turns TurnToLoad c on = refl
-  told_turns TurnToUnload c on = refl
-  told_turns TurnToDeposit c on = refl
-  told_turns s c on = absurd (on (turned_off rd.retracted _ _ _ c))
+  told_turns s c on = first_of (assumption, search turned_off)
 
 retracted_then : (b : Bool) (stop : Option Stop) → b ≡ true → (if b then stop else None) ≡ stop
 retracted_then true stop e = refl
@@ -334,10 +221,7 @@ retracted_then false stop e = cc
 
 turns_there : (s : RobotStep) (b : Bool) → (turns s ≡ true → b ≡ true) → turns_to s b ≡ rotation_stop s
 turns_there TurnToTable b f = retracted_then b _ (f refl)
-turns_there TurnToLoad b f = retracted_then b _ (f refl)
-turns_there TurnToUnload b f = retracted_then b _ (f refl)
-turns_there TurnToDeposit b f = retracted_then b _ (f refl)
-turns_there s b f = no_stop b None refl
+turns_there s b f = first_of (search retracted_then, search no_stop)
 
 -- the scales of the potentiometers are those of their calibrations
 abbrev pub part_scales : RobotScales → PartScales
@@ -356,9 +240,9 @@ record ReadsNear (points : RobotScales) (r : RobotPlant) (rd : RobotReading) : T
 module _ (points : RobotScales) (axes : AreRobotScales points) where
   reads_near : (z : ModelState) (p : RobotProgress) (r : RobotPlant) (s : RobotSense) (rd : RobotReading) → RobotShows (part_scales points) r s → Senses points (near_lines points) s (Ok rd) → RobotInv z p r → ReadsNear points r rd
   reads_near z p r s rd shows senses i = record {
-    arm1 = reading_near arm_end points.arm1 r.arm1.position s.arm1 rd.arm1 axes.arm1 i.arm1_within shows.arm1 senses.arm1.1.0;
-    arm2 = reading_near arm_end points.arm2 r.arm2.position s.arm2 rd.arm2 axes.arm2 i.arm2_within shows.arm2 senses.arm2.1.0;
-    rotation = reading_near rotation_end points.rotation r.rotation.position s.rotation rd.rotation axes.rotation i.rotation_within shows.rotation senses.rotation.1.0;
+    arm1 = reading_near arm_end points.arm1 r.arm1.position s.arm1 rd.arm1 axes.arm1 i.within.0 shows.arm1 senses.arm1.1.0;
+    arm2 = reading_near arm_end points.arm2 r.arm2.position s.arm2 rd.arm2 axes.arm2 i.within.1 shows.arm2 senses.arm2.1.0;
+    rotation = reading_near rotation_end points.rotation r.rotation.position s.rotation rd.rotation axes.rotation i.within.2 shows.rotation senses.rotation.1.0;
   }
 
   drive : (b : Bool) (z : ModelState) (p : RobotProgress) (r : RobotPlant) (s : RobotSense) (rd : RobotReading) (act : RobotAct) → is_done p.step rd.retracted act ≡ b → (row_of p).call ≡ None → ReadsNear points r rd → Acts points p rd act → RobotInv z p r
@@ -371,9 +255,7 @@ module _ (points : RobotScales) (axes : AreRobotScales points) where
         knows = knows;
         magnet1 = acts.magnet1;
         magnet2 = acts.magnet2;
-        arm1_within = i.arm1_within;
-        arm2_within = i.arm2_within;
-        rotation_within = i.rotation_within;
+        within = i.within;
         arm1 = comes_off (arm1_at p.step) (arm1_stop p.step) (arm1_at next) r.arm1 points.arm1.tol rd.arm1 act.arm1 leads.0 near.arm1 acts.arm1 off.1.0 i.arm1;
         arm2 = comes_off (arm2_at p.step) (arm2_stop p.step) (arm2_at next) r.arm2 points.arm2.tol rd.arm2 act.arm2 leads.1 near.arm2 acts.arm2 off.1.1 i.arm2;
         rotation = comes_off (rotation_at p.step) (rotation_stop p.step) (rotation_at next) r.rotation points.rotation.tol rd.rotation act.rotation leads.2 near.rotation
@@ -386,9 +268,7 @@ module _ (points : RobotScales) (axes : AreRobotScales points) where
         knows = knows;
         magnet1 = acts.magnet1 ∙ ap (λ m. m.arm1) same;
         magnet2 = acts.magnet2 ∙ ap (λ m. m.arm2) same;
-        arm1_within = i.arm1_within;
-        arm2_within = i.arm2_within;
-        rotation_within = i.rotation_within;
+        within = i.within;
         arm1 = still_there (arm1_at p.step) (arm1_stop p.step) r.arm1 points.arm1.tol rd.arm1 act.arm1 (arm1_still p.step) acts.arm1 i.arm1;
         arm2 = still_there (arm2_at p.step) (arm2_stop p.step) r.arm2 points.arm2.tol rd.arm2 act.arm2 (arm2_still p.step) acts.arm2 i.arm2;
         rotation = still_there (rotation_at p.step) (turns_to p.step rd.retracted) r.rotation points.rotation.tol rd.rotation act.rotation (rotation_still p.step rd.retracted) acts.rotation i.rotation;
@@ -397,18 +277,7 @@ module _ (points : RobotScales) (axes : AreRobotScales points) where
 
   pub robot-keeping : Keeping (robot_steps points (near_lines points)) (robot_rig (part_scales points)) RobotInv RobotInv
   robot-keeping = record {
-    foreign = λ z p b n c apart sound i. record {
-      knows = (robot-knowing points (near_lines points)).foreign p z n c apart sound i.knows;
-      magnet1 = i.magnet1;
-      magnet2 = i.magnet2;
-      arm1_within = i.arm1_within;
-      arm2_within = i.arm2_within;
-      rotation_within = i.rotation_within;
-      arm1 = i.arm1;
-      arm2 = i.arm2;
-      rotation = i.rotation;
-      turning = i.turning;
-    };
+    foreign = λ z p b n c apart sound i. assumption ((robot-knowing points (near_lines points)).foreign p z n c apart sound i.knows);
     rests = λ z p b i. at_rest z p p b i i.knows refl (there, there, there);
     after_done = λ z p b c e d sound i.
         at_rest (changed z Robot c) p (after_done p) b i ((robot-knowing points (near_lines points)).after_done p z c e d sound i.knows) (asks_magnets p.step p c e) (asks_lead p.step p c e);
@@ -417,18 +286,7 @@ module _ (points : RobotScales) (axes : AreRobotScales points) where
     after_drive = λ z p b s rd act e shows senses acts i.
         drive (is_done p.step rd.retracted act) z p b s rd act refl e (reads_near z p b s rd shows senses i) acts i ((robot-knowing points (near_lines points)).after_drive p rd act z e acts i.knows);
     told = λ z p b i. i;
-    moves = λ z p b i. record {
-      knows = i.knows;
-      magnet1 = i.magnet1;
-      magnet2 = i.magnet2;
-      arm1_within = moved_within arm_end b.arm1 (omega (arith, ints)) i.arm1_within;
-      arm2_within = moved_within arm_end b.arm2 (omega (arith, ints)) i.arm2_within;
-      rotation_within = moved_within rotation_end b.rotation (omega (arith, ints)) i.rotation_within;
-      arm1 = stands_moved arm_end (arm1_at p.step) b.arm1 i.arm1;
-      arm2 = stands_moved arm_end (arm2_at p.step) b.arm2 i.arm2;
-      rotation = stands_moved rotation_end (rotation_at p.step) b.rotation i.rotation;
-      turning = i.turning;
-    };
+    moves = λ z p b i. search (arith, ints, moved_within, stands_moved);
   }
 
 -- An arm that is out, or driven, is where it may be: the robot holds that zone, open for it.
@@ -439,45 +297,20 @@ stands_in : (a : Axis) → StandsAt (Some RETRACTED) a → IsOut a ⊎ IsOn a �
 stands_in a k (inl out) = not_out a k out
 stands_in a k (inr on) = on k.1
 
-over_table : (r : RobotPlant) → StandsAt (Some ROTATION_ARM1_TABLE) r.rotation → IsArm1AtTable r
-over_table r k = let first : pos 260 ≤ℤ r.rotation.position = k.0.0 in let last : r.rotation.position ≤ℤ pos 340 = k.0.1 in (omega (arith, ints), omega (arith, ints))
-
-before_interior : (r : RobotPlant) → StandsAt (Some ROTATION_ARM1_PRESS) r.rotation → IsArm1InPress r
-before_interior r k = let first : pos 1460 ≤ℤ r.rotation.position = k.0.0 in let last : r.rotation.position ≤ℤ pos 1540 = k.0.1 in (omega (arith, ints), omega (arith, ints))
-
-before_forged : (r : RobotPlant) → StandsAt (Some ROTATION_ARM2_PRESS) r.rotation → IsArm2InPress r
-before_forged r k = let first : pos 560 ≤ℤ r.rotation.position = k.0.0 in let last : r.rotation.position ≤ℤ pos 640 = k.0.1 in (omega (arith, ints), omega (arith, ints))
-
-over_deposit : (r : RobotPlant) → StandsAt (Some ROTATION_ARM2_DEPOSIT) r.rotation → IsArm2AtDeposit r
-over_deposit r k = let first : pos 1760 ≤ℤ r.rotation.position = k.0.0 in let last : r.rotation.position ≤ℤ pos 1840 = k.0.1 in (omega (arith, ints), omega (arith, ints))
-
 arm1_has : (s : RobotStep) (z : ModelState) (r : RobotPlant) → AreSo Robot z (facts_at s) → StandsAt (arm1_at s) r.arm1 → StandsAt (rotation_at s) r.rotation → IsOut r.arm1 ⊎ IsOn r.arm1
     → (IsArm1AtTable r × HoldsIn OpenOut z Robot Z2) ⊎ (IsArm1InPress r × HoldsIn OpenIn z Robot Z3)
-arm1_has ReachTable z r k arm at out = inl (over_table r at, k.0)
-arm1_has GripPlate z r k arm at out = inl (over_table r at, k.0)
-arm1_has LeaveTable z r k arm at out = inl (over_table r at, k.0)
-arm1_has ReachToLoad z r k arm at out = inr (before_interior r at, k.0)
-arm1_has DropInPress z r k arm at out = inr (before_interior r at, k.0)
-arm1_has LeaveLoaded z r k arm at out = inr (before_interior r at, k.0)
-arm1_has s z r k arm at out = absurd (stands_in r.arm1 arm out)
+arm1_has ReachTable z r k arm at out = search (inl, arith, ints)
+arm1_has s z r k arm at out = search (inl, inr, arith, ints, stands_in)
 
 arm2_has : (s : RobotStep) (z : ModelState) (r : RobotPlant) → AreSo Robot z (facts_at s) → StandsAt (arm2_at s) r.arm2 → StandsAt (rotation_at s) r.rotation → IsOut r.arm2 ⊎ IsOn r.arm2
     → (IsArm2InPress r × HoldsIn OpenOut z Robot Z3) ⊎ (IsArm2AtDeposit r × HoldsIn OpenIn z Robot Z4)
-arm2_has ReachToUnload z r k arm at out = inl (before_forged r at, k.0)
-arm2_has GripForged z r k arm at out = inl (before_forged r at, k.0)
-arm2_has LeaveUnloaded z r k arm at out = inl (before_forged r at, k.0)
-arm2_has ReachDeposit z r k arm at out = inr (over_deposit r at, k.0)
-arm2_has DropOnDeposit z r k arm at out = inr (over_deposit r at, k.0)
-arm2_has LeaveDeposit z r k arm at out = inr (over_deposit r at, k.0)
-arm2_has s z r k arm at out = absurd (stands_in r.arm2 arm out)
+arm2_has ReachToUnload z r k arm at out = search (inl, arith, ints)
+arm2_has s z r k arm at out = search (inl, inr, arith, ints, stands_in)
 
 -- it rotates only with both arms in
 turns_in : (s : RobotStep) → turns s ≡ true → (arm1_at s ≡ Some RETRACTED) × (arm2_at s ≡ Some RETRACTED)
 turns_in TurnToTable e = (refl, refl)
-turns_in TurnToLoad e = (refl, refl)
-turns_in TurnToUnload e = (refl, refl)
-turns_in TurnToDeposit e = (refl, refl)
-turns_in s e = cc
+turns_in s e = first_of (assumption, cc)
 
 module _ (z : ModelState) (p : RobotProgress) (r : RobotPlant) (i : RobotInv z p r) where
   pub arm1-has : IsOut r.arm1 ⊎ IsOn r.arm1 → (IsArm1AtTable r × HoldsIn OpenOut z Robot Z2) ⊎ (IsArm1InPress r × HoldsIn OpenIn z Robot Z3)
@@ -502,25 +335,16 @@ rest_stays r p (inr (inl past)) = off_within arm_end (set_axis r.arm2 Off) refl 
 rest_stays r p (inr (inr past)) = off_within rotation_end (set_axis r.rotation Off) refl past
 
 arm1_stops : (s : RobotStep) → StopsWithin arm_end (arm1_stop s)
-arm1_stops ReachTable = (omega (arith, ints), omega (arith, ints), omega (arith, ints))
-arm1_stops LeaveTable = (omega (arith, ints), omega (arith, ints), omega (arith, ints))
-arm1_stops ReachToLoad = (omega (arith, ints), omega (arith, ints), omega (arith, ints))
-arm1_stops LeaveLoaded = (omega (arith, ints), omega (arith, ints), omega (arith, ints))
-arm1_stops s = tt
+arm1_stops ReachTable = omega (arith, ints)
+arm1_stops _ = omega (arith, ints)
 
 arm2_stops : (s : RobotStep) → StopsWithin arm_end (arm2_stop s)
-arm2_stops ReachToUnload = (omega (arith, ints), omega (arith, ints), omega (arith, ints))
-arm2_stops LeaveUnloaded = (omega (arith, ints), omega (arith, ints), omega (arith, ints))
-arm2_stops ReachDeposit = (omega (arith, ints), omega (arith, ints), omega (arith, ints))
-arm2_stops LeaveDeposit = (omega (arith, ints), omega (arith, ints), omega (arith, ints))
-arm2_stops s = tt
+arm2_stops ReachToUnload = omega (arith, ints)
+arm2_stops _ = omega (arith, ints)
 
 rotation_stops : (s : RobotStep) → StopsWithin rotation_end (rotation_stop s)
-rotation_stops TurnToTable = (omega (arith, ints), omega (arith, ints), omega (arith, ints))
-rotation_stops TurnToLoad = (omega (arith, ints), omega (arith, ints), omega (arith, ints))
-rotation_stops TurnToUnload = (omega (arith, ints), omega (arith, ints), omega (arith, ints))
-rotation_stops TurnToDeposit = (omega (arith, ints), omega (arith, ints), omega (arith, ints))
-rotation_stops s = tt
+rotation_stops TurnToTable = omega (arith, ints)
+rotation_stops _ = omega (arith, ints)
 
 turn_stops : (s : RobotStep) (b : Bool) → StopsWithin rotation_end (turns_to s b)
 turn_stops s true = rotation_stops s

@@ -1,8 +1,7 @@
 -- The examples of runs, and of what isn't one.
-use Rattle.std.proofs.Common.{◌≢◌, true, false, refl}
+use Rattle.cell_plant.proofs.Names.{◌≢◌, true, false, refl, CellScales, ScheduleExamples}
 use Rattle.cell_types.specs.declared.machine.Machine.TheVariants.{Feed, Press}
-use Rattle.cell_parts.specs.Axes.{CellScales}
-use Rattle.cell_plant.specs.RunExamples.{ScheduleExamples, at_first, at_entered}
+use Rattle.cell_plant.specs.RunExamples.{at_first, at_entered}
 use Rattle.cell_plant.proofs.Deciding.{true_false, false_true}
 use Rattle.cell_plant.proofs.ExampleTurns.{turn_busy, turn_no_room, turn_down, turn_further, turn_stops, turn_resumes, literal_run}
 use Rattle.cell_plant.proofs.TurnRows.{one_zero, zero_one, answered, stamps_apart}

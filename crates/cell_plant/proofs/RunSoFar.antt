@@ -1,27 +1,11 @@
 -- The progress of a simulation: the run so far, and what was noted of it.
-use Rattle.std.proofs.Common.{◌≡◌, ℕ, ◌<◌, ◌≤◌, Bool, true, false, ◌&&◌, cond, List, [], ◌∷◌, ◌++◌, append-nil, length, take, map, count_by, Some, None, Result, Ok, Err, refl, sym, ap, ◌∙◌, subst, if◌then◌else◌, arith}
-use Rattle.std.proofs.lemmas.List.{length-take-le}
-use Rattle.std.proofs.lemmas.List.Sums.{count_by-le-length}
-use Rattle.cell_rules.specs.Types.{Machine, Feed, Table, Robot, Press, Deposit, Crane, Watch, Call, Answer, Event}
-use Rattle.cell_rules.specs.Types.{Entry, Reply, Settled, Busy, all_machines, same_machine}
-use Rattle.cell_rules.specs.Names.{ModelState, noted, entry_of, after, IsLegal, IsStartState}
-use Rattle.cell_rules.specs.declared.heard.LineFault.{LineFault}
-use Rattle.cell_rules.proofs.Histories.{after-append}
-use Rattle.cell_rules.proofs.Notes.{noted-append}
-use Rattle.cell_rules.proofs.SeenLemmas.{legal-append}
-use Rattle.cell_control.proofs.TurnMaps.{turn_either}
-use Rattle.cell_notes.specs.Names.{TurnCall, is_done_reply, is_read_reply, is_refused_reply, is_busy_reply}
-use Rattle.cell_notes.specs.Names.{settled_in, Notes, no_notes, HasRoom, counts_with, notes_with, at_machine}
-use Rattle.cell_notes.specs.declared.counts.Counts.{Counts}
-use Rattle.cell_notes.specs.declared.run_record.RunRecord.{RunRecord}
-use Rattle.cell_notes.specs.declared.schedule.Turn.{Turn}
-use Rattle.cell_notes.specs.Asks.{entries_in}
-use Rattle.cell_unit.specs.Names.{status_of, Answers}
-use Rattle.cell_parts.specs.Axes.{CellScales, AreCellScales}
-use Rattle.cell_plant.specs.Names.{CellGauges, steps_by, CellState, plant_of, cell_at_start, Step, TakesTurnBy}
-use Rattle.cell_plant.specs.Names.{LeadsIfBy, LeadsBy, goes_on, IsRunBy, end_of, is_turn_of, is_told, counts_in}
-use Rattle.cell_plant.specs.Names.{events_in, positions_in, TellsRun, RunMoment, StepsOn, Keeps, first_moment}
-use Rattle.cell_plant.specs.Names.{state_at}
+use Rattle.cell_plant.proofs.Names.{◌≡◌, ℕ, ◌<◌, ◌≤◌, Bool, true, false, ◌&&◌, cond, List, [], ◌∷◌, ◌++◌, append-nil, length, take, map, count_by, Some, None, Result, Ok, Err, refl, sym, ap, ◌∙◌, subst, if◌then◌else◌, arith, length-take-le}
+use Rattle.cell_plant.proofs.Names.{count_by-le-length, Machine, Feed, Table, Robot, Press, Deposit, Crane, Watch, Call, Answer, Event, Entry, Reply, Settled, Busy, all_machines, same_machine, ModelState, noted, entry_of, after, IsLegal}
+use Rattle.cell_plant.proofs.Names.{IsStartState, LineFault, after-append, noted-append, legal-append, turn_either, TurnCall, is_done_reply, is_read_reply, is_refused_reply, is_busy_reply, settled_in, Notes, no_notes, HasRoom, counts_with}
+use Rattle.cell_plant.proofs.Names.{notes_with, at_machine, Counts, RunRecord, Turn, entries_in, Answers, CellScales, CellGauges, steps_by, CellState, plant_of, cell_at_start, Step, TakesTurnBy, LeadsIfBy, LeadsBy, goes_on, IsRunBy, end_of}
+use Rattle.cell_plant.proofs.Names.{is_turn_of, is_told, counts_in, events_in, positions_in, TellsRun, RunMoment, StepsOn, Keeps, first_moment, state_at}
+use Rattle.cell_unit.specs.Names.{status_of}
+use Rattle.cell_parts.specs.Axes.{AreCellScales}
 use Rattle.cell_plant.proofs.Gauged.{run_near}
 use Rattle.cell_plant.proofs.KeptRuns.{own_program_by}
 use Rattle.cell_plant.proofs.LongerRuns.{run-push, end-push, run-length, events-push, counts-push}
@@ -90,8 +74,7 @@ run-lawful c gives w (t ∷ ts) (s ∷ ss) r =
       legal-append w.interlock own (events_in ss) k.legal (subst (λ z. IsLegal z (events_in ss)) k.reached more.0),
       more.1 ∙ ap (λ z. after z (events_in ss)) k.reached ∙ sym (after-append w.interlock own (events_in ss)),
     )
-run-lawful c gives w [] (s ∷ ss) r = absurd r
-run-lawful c gives w (t ∷ ts) [] r = absurd r
+run-lawful c gives w _ _ r = absurd r
 
 -- the run of the turns so far, and what was noted of it
 pub record RunSoFar {G : Type 0} (gives : G → CellGauges) (turns : List Turn) (m : RunMoment G) : Type 0 where
@@ -105,12 +88,7 @@ pub record RunSoFar {G : Type 0} (gives : G → CellGauges) (turns : List Turn) 
 
 no_notes_yet : {G : Type 0} → (c : CellScales) (five : G) (opening : ModelState) (n : Machine) → at_machine (first_moment c five opening).notes n ≡ no_notes
 no_notes_yet c five opening Feed = refl
-no_notes_yet c five opening Table = refl
-no_notes_yet c five opening Robot = refl
-no_notes_yet c five opening Press = refl
-no_notes_yet c five opening Deposit = refl
-no_notes_yet c five opening Crane = refl
-no_notes_yet c five opening Watch = refl
+no_notes_yet c five opening _ = refl
 
 pub at_start : {G : Type 0} → (gives : G → CellGauges) (c : CellScales) (five : G) (opening : ModelState) → RunSoFar gives [] (first_moment c five opening)
 at_start gives c five opening = record { steps = []; run = tt; is_end = refl; history = refl; reached = refl; counts = λ n. ap (λ (x : Notes). x.counts) (no_notes_yet c five opening n); journals = λ n. ap (λ (x : Notes). x.journal) (no_notes_yet c five opening n) }

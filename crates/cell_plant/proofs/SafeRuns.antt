@@ -1,31 +1,12 @@
 -- Every state of a run is safe: together the machines' invariants meet all demands, so nothing collides.
-use Rattle.std.proofs.Common.{◌≡◌, Bool, true, false, inl, inr, Option, Some, None, List, [], ◌∷◌, refl, sym, ap, ◌∙◌, subst}
-use Rattle.cell_rules.specs.Types.{Machine, Feed, Table, Robot, Press, Deposit, Crane, Watch, Event}
-use Rattle.cell_rules.specs.Names.{PlaceSet, ModelState, RunsClear, IsStartState, start_state}
-use Rattle.cell_calib.specs.Names.{IsReading}
-use Rattle.cell_calib.specs.declared.sense.CraneSense.{CraneSense}
-use Rattle.cell_calib.specs.declared.sense.RobotSense.{RobotSense}
-use Rattle.cell_control.specs.Names.{Rig, Steps, Turned}
-use Rattle.cell_devices.specs.declared.act.CraneAct.{CraneAct}
-use Rattle.cell_devices.specs.declared.act.RobotAct.{RobotAct}
-use Rattle.cell_haul.specs.Names.{crane_steps}
-use Rattle.cell_haul.specs.declared.crane.CraneProgress.{CraneProgress}
-use Rattle.cell_haul.specs.declared.crane.CraneReading.{CraneReading}
-use Rattle.cell_robot.specs.Names.{RobotScales, near_lines, robot_rest, robot_steps}
-use Rattle.cell_robot.specs.declared.robot.RobotProgress.{RobotProgress}
-use Rattle.cell_robot.specs.declared.robot.RobotReading.{RobotReading}
-use Rattle.cell_stations.specs.Names.{press_steps, table_steps}
-use Rattle.cell_notes.specs.Names.{TurnCall, done_in}
-use Rattle.cell_notes.specs.declared.schedule.Turn.{Turn}
-use Rattle.cell_unit.specs.Sides.{Side, noting, act_or_rest, side_set}
-use Rattle.cell_parts.specs.Names.{table_rig, robot_rig, press_rig, crane_rig, CellScales, AreCellScales, LetsGo}
-use Rattle.cell_parts.specs.Names.{Arm1MayLetGo, Arm2MayLetGo, CraneMayLetGo, PlateFalls, DrivesPastEnd, StaysWithin}
-use Rattle.cell_parts.specs.Names.{set_robot, set_crane, PositionDemands, GripperErrand, MotorDemands, AllDemandsMet}
-use Rattle.cell_parts.proofs.NoCollision.{nothing_collides}
-use Rattle.cell_team.proofs.Together.{sound_start}
-use Rattle.cell_plant.specs.Names.{robot_points, robot_axes, CellState, plant_of, cell_at_start, Step, TakesTurn}
-use Rattle.cell_plant.specs.Names.{LeadsIf, goes_on, IsRun, errand_of, IsSafeState, IsSafelySet, IsSafeRun}
-use Rattle.cell_plant.specs.Safety.{EveryRunIsSafe}
+use Rattle.cell_plant.proofs.Names.{◌≡◌, Bool, true, false, inl, inr, Option, Some, None, List, [], ◌∷◌, refl, sym, ap, ◌∙◌, subst, Machine, Feed, Table, Robot, Press, Deposit, Crane, Watch, Event, PlaceSet, ModelState, RunsClear}
+use Rattle.cell_plant.proofs.Names.{IsStartState, start_state, IsReading, CraneSense, RobotSense, Rig, Steps, Turned, CraneAct, RobotAct, crane_steps, CraneProgress, CraneReading, RobotScales, near_lines, robot_rest, robot_steps}
+use Rattle.cell_plant.proofs.Names.{RobotProgress, RobotReading, press_steps, table_steps, TurnCall, Turn, noting, act_or_rest, table_rig, robot_rig, press_rig, crane_rig, AreCellScales, LetsGo, Arm1MayLetGo, Arm2MayLetGo, CraneMayLetGo}
+use Rattle.cell_plant.proofs.Names.{PlateFalls, DrivesPastEnd, StaysWithin, set_robot, set_crane, PositionDemands, GripperErrand, MotorDemands, AllDemandsMet, nothing_collides, sound_start, robot_points, robot_axes, CellState, plant_of}
+use Rattle.cell_plant.proofs.Names.{cell_at_start, Step, TakesTurn, LeadsIf, goes_on, IsRun, errand_of, IsSafeState, IsSafelySet, IsSafeRun, EveryRunIsSafe}
+use Rattle.cell_notes.specs.Names.{done_in}
+use Rattle.cell_unit.specs.Sides.{Side, side_set}
+use Rattle.cell_parts.specs.Names.{CellScales}
 use Rattle.cell_plant.proofs.KeptRuns.{CellInv, step_keeps}
 use Rattle.cell_plant.proofs.CellKeeps.{InvOf, ToldOf, keeping_of, starts}
 use Rattle.cell_plant.proofs.CraneKeeps.{gripper-down, gripper-driven, travels-high, crane-ends, crane-lets-go}
@@ -90,16 +71,7 @@ module _ (c : CellScales) (scales : AreCellScales c) where
     }
 
     within : StaysWithin (plant_of w)
-    within = record {
-      press = (i.each Press).0.within;
-      arm1 = (i.each Robot).arm1_within;
-      arm2 = (i.each Robot).arm2_within;
-      rotation = (i.each Robot).rotation_within;
-      lift = (i.each Table).0.lift_within;
-      turn = (i.each Table).0.turn_within;
-      travel = (i.each Crane).travel_within;
-      gripper = (i.each Crane).gripper_within;
-    }
+    within = assumption ((i.each Press).0, (i.each Robot).within, (i.each Table).0, i.each Crane)
 
     pub is_safe : IsSafeState w
     is_safe = record { clear = nothing_collides errand w.interlock (plant_of w) all_met; within = within; positions = positions; motors = motors }
@@ -185,8 +157,7 @@ module _ (c : CellScales) (scales : AreCellScales c) where
   run_is_safe w (t ∷ ts) (s ∷ ss) i r =
       let kept = step_keeps c InvOf ToldOf (keeping_of c scales) (goes_on w t.machine) t.machine t.busy w s refl r.1.0 i in
       (is_safe w i, (safely_set (goes_on w t.machine) t.machine t.busy w s refl r.0 r.1.0 i kept.0, run_is_safe s.moved ts ss kept.1 r.1.1))
-  run_is_safe w [] (s ∷ ss) i r = absurd r
-  run_is_safe w (t ∷ ts) [] i r = absurd r
+  run_is_safe w _ _ i r = absurd r
 
 pub every_run : EveryRunIsSafe
 every_run c opening turns steps scales start r =

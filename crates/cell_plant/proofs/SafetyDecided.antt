@@ -1,28 +1,13 @@
 -- Decides by computing whether a state, a step and a run are safe.
-use Rattle.std.proofs.Common.{ℕ, ◌+◌, ℤ, pos, ◌+ℤ◌, ◌-ℤ◌, Bool, ◌⊎◌, List, [], ◌∷◌, is_some}
-use Rattle.cell_rules.specs.Types.{Machine, Feed, Table, Robot, Press, Deposit, Crane, Watch, Zone, Z1, Z2, Z3, Z4}
-use Rattle.cell_rules.specs.Types.{Z5, Z6, FeedEnd, DepEnd, Posture, Moving, OpenIn, OpenOut}
-use Rattle.cell_devices.specs.Names.{retracted_to, travel_from}
+use Rattle.cell_plant.proofs.Names.{ℕ, ◌+◌, ℤ, pos, ◌+ℤ◌, ◌-ℤ◌, Bool, ◌⊎◌, List, [], ◌∷◌, is_some, Machine, Feed, Table, Robot, Press, Deposit, Crane, Watch, Zone, Z1, Z2, Z3, Z4, Z5, Z6, FeedEnd, DepEnd, Posture, Moving, OpenIn, OpenOut}
+use Rattle.cell_plant.proofs.Names.{retracted_to, ROTATION_ARM1_PRESS, ROTATION_ARM2_DEPOSIT, ARM1_PRESS, ARM2_DEPOSIT, GRIPPER_FEED, ModelState, is_full, owns, posture_at, press_end, arm_end, rotation_end, lift_end, turn_end, crane_end}
+use Rattle.cell_plant.proofs.Names.{gripper_end, Span, IsIn, IsWithin, IsOn, IsOut, IsGripperDown, IsOverDeposit, IsOverFeed, RestsAtMiddle, RestsAtBottom, TableMoves, LetsGo, PlateFalls, DrivesPast, DrivesPastEnd, NothingCollides}
+use Rattle.cell_plant.proofs.Names.{NothingCollidesWhenSet, arm1_at_table, arm2_in_press, arm1_in_press, arm2_at_deposit, over_deposit_to, over_feed_from, loads_to, GripperErrand, ForTravel, AtDeposit, AtFeed, ErrandDemands, MotorDemands}
+use Rattle.cell_plant.proofs.Names.{StaysWithin, HoldsIn, RestsAtLoading, PositionDemands, at, Axis, TablePlant, CranePlant, PlantState, IsAt, Arm1HasTable, Arm1HasPress, Arm2HasPress, Arm2HasDeposit, press_middle, press_bottom_to}
+use Rattle.cell_plant.proofs.Names.{table_bottom_to, crane_feed_from, CellState, plant_of, errand_of, Step, IsSafeState, IsSafelySet, IsSafeRun, IsClear, IsWithinEnds, HasPositions, HasMotors, OnlyCollides, OnlyPastEnd, OnlyPositionUnmet}
+use Rattle.cell_plant.proofs.Names.{OnlyMotorUnmet, StandsWithin, OnlySetIsUnsafe, OnlyStepIsUnsafe, cell_with, before_first}
+use Rattle.cell_devices.specs.Names.{travel_from}
 use Rattle.cell_devices.specs.declared.stops.Stop.{Stop}
-use Rattle.cell_devices.specs.declared.stops.TheConstants.{ROTATION_ARM1_PRESS, ROTATION_ARM2_DEPOSIT, ARM1_PRESS}
-use Rattle.cell_devices.specs.declared.stops.TheConstants.{ARM2_DEPOSIT, GRIPPER_FEED}
-use Rattle.cell_rules.specs.Names.{ModelState, is_full, owns, posture_at}
-use Rattle.cell_parts.specs.Names.{press_end, arm_end, rotation_end, lift_end, turn_end, crane_end, gripper_end, Span}
-use Rattle.cell_parts.specs.Names.{IsIn, IsWithin, IsOn, IsOut, IsGripperDown, IsOverDeposit, IsOverFeed}
-use Rattle.cell_parts.specs.Names.{RestsAtMiddle, RestsAtBottom, TableMoves, LetsGo, PlateFalls, DrivesPast}
-use Rattle.cell_parts.specs.Names.{DrivesPastEnd, NothingCollides, NothingCollidesWhenSet, arm1_at_table}
-use Rattle.cell_parts.specs.Names.{arm2_in_press, arm1_in_press, arm2_at_deposit, over_deposit_to, over_feed_from}
-use Rattle.cell_parts.specs.Names.{loads_to, GripperErrand, ForTravel, AtDeposit, AtFeed, ErrandDemands, MotorDemands}
-use Rattle.cell_parts.specs.Names.{StaysWithin, HoldsIn, RestsAtLoading, PositionDemands, at}
-use Rattle.cell_parts.specs.declared.axis.Axis.{Axis}
-use Rattle.cell_parts.specs.declared.plant.TablePlant.{TablePlant}
-use Rattle.cell_parts.specs.declared.plant.CranePlant.{CranePlant}
-use Rattle.cell_parts.specs.declared.plant.PlantState.{PlantState}
-use Rattle.cell_parts.specs.Collisions.{IsAt}
-use Rattle.cell_parts.specs.PositionDemands.{Arm1HasTable, Arm1HasPress, Arm2HasPress, Arm2HasDeposit}
-use Rattle.cell_parts.specs.Shows.{press_middle, press_bottom_to, table_bottom_to, crane_feed_from}
-use Rattle.cell_plant.specs.Names.{CellState, plant_of, errand_of, Step, IsSafeState, IsSafelySet, IsSafeRun}
-use Rattle.cell_plant.specs.SafetyExamples.{IsClear, IsWithinEnds, HasPositions, HasMotors, OnlyCollides, OnlyPastEnd, OnlyPositionUnmet, OnlyMotorUnmet, StandsWithin, OnlySetIsUnsafe, OnlyStepIsUnsafe, cell_with, before_first}
 use Rattle.cell_plant.proofs.Deciding.{surely, like, both, all_three, either, denied, given, same_truth, at_most, less, is_true, is_false, equals, in_posture, is_off, is_plus, is_minus}
 
 -- ---- one state

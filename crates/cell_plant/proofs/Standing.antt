@@ -1,21 +1,12 @@
 -- Machines that stand at steps of their programs, over one history: no refusal has stopped one.
-use Rattle.std.proofs.Common.{◌≡◌, false, List, Option, Some, refl}
-use Rattle.cell_rules.specs.Types.{Machine, Feed, Table, Robot, Press, Deposit, Crane, Watch, Refusal, Event}
-use Rattle.cell_rules.specs.Types.{same_machine}
+use Rattle.cell_plant.proofs.Names.{◌≡◌, false, List, Option, Some, refl, Machine, Feed, Table, Robot, Press, Deposit, Crane, Watch, Refusal, Event, same_machine, ModelState, IsStartState, IsLegal, CtlFault, CellScales, Team, programs_of}
+use Rattle.cell_plant.proofs.Names.{HaveCome, AreUnstopped, IsUnstopped, none-stopped, stands_still, Stands}
 use Rattle.cell_calib.specs.Line.{IsReading}
-use Rattle.cell_rules.specs.Names.{ModelState, IsStartState, IsLegal}
-use Rattle.cell_control.specs.declared.fault.CtlFault.{CtlFault}
 use Rattle.cell_control.specs.declared.fault.CtlFault.TheVariants as fault
 use Rattle.cell_haul.specs.CraneProgram.{Senses as CraneSenses, crane_steps}
 use Rattle.cell_robot.specs.RobotProgram.{near_lines, Senses as RobotSenses, robot_steps}
 use Rattle.cell_stations.specs.TableProgram.{Senses as TableSenses, table_steps}
-use Rattle.cell_parts.specs.Axes.{CellScales}
 use Rattle.cell_plant.specs.Machines.{CellGauges, ProgressOf, robot_gauges, robot_points, steps_by, steps_of}
-use Rattle.cell_team.specs.Names.{Team, programs_of, HaveCome, AreUnstopped}
-use Rattle.cell_team.specs.Heeded.{IsUnstopped}
-use Rattle.cell_team.proofs.Stopping.{none-stopped}
-use Rattle.cell_team.proofs.Sensed.{stands_still}
-use Rattle.cell_team.proofs.Turned.{Stands}
 
 module _ (c : CellScales) (o : ModelState) (h : List Event) (stopped : Machine → Option CtlFault) (progress : (m : Machine) → ProgressOf m) (start : IsStartState o) (legal : IsLegal o h)
     (stands : (m : Machine) → same_machine m Watch ≡ false → Stands (steps_of c m) o h (stopped m) (progress m)) where
@@ -29,26 +20,18 @@ module _ (c : CellScales) (o : ModelState) (h : List Event) (stopped : Machine �
   all_unstopped = none-stopped c o h team start legal by
 
   unstopped : (m : Machine) → same_machine m Watch ≡ false → IsUnstopped (steps_of c m) o h
-  unstopped Feed e = all_unstopped.feed
-  unstopped Table e = all_unstopped.table
-  unstopped Robot e = all_unstopped.robot
-  unstopped Press e = all_unstopped.press
-  unstopped Deposit e = all_unstopped.deposit
-  unstopped Crane e = all_unstopped.crane
   unstopped Watch e = cc
+  unstopped _ e = assumption all_unstopped
 
   pub none_refused : (m : Machine) → same_machine m Watch ≡ false → (r : Refusal) → stopped m ≡ Some (fault.Refused r) → ⊥
   none_refused m e r f = unstopped m e (progress m) r ((stands m e).stopped_by r f)
 
 -- by what gauges give, too
 stands_near : (c : CellScales) (gives : CellGauges) (o : ModelState) (h : List Event) (m : Machine) (stopped : Option CtlFault) (p : ProgressOf m) → Stands (steps_by c gives m) o h stopped p → Stands (steps_of c m) o h stopped p
-stands_near c gives o h Feed stopped p k = k
 stands_near c gives o h Table stopped p k = stands_still (table_steps c.turn gives.turn) (TableSenses c.turn (IsReading c.turn)) o h stopped p k
 stands_near c gives o h Robot stopped p k = stands_still (robot_steps (robot_points c) (robot_gauges gives)) (RobotSenses (robot_points c) (near_lines (robot_points c))) o h stopped p k
-stands_near c gives o h Press stopped p k = k
-stands_near c gives o h Deposit stopped p k = k
 stands_near c gives o h Crane stopped p k = stands_still (crane_steps c.gripper gives.gripper) (CraneSenses c.gripper (IsReading c.gripper)) o h stopped p k
-stands_near c gives o h Watch stopped p k = k
+stands_near c gives o h _ stopped p k = k
 
 pub none_refused_by : (c : CellScales) (gives : CellGauges) (o : ModelState) (h : List Event) (stopped : Machine → Option CtlFault) (progress : (m : Machine) → ProgressOf m) → IsStartState o → IsLegal o h
     → ((m : Machine) → same_machine m Watch ≡ false → Stands (steps_by c gives m) o h (stopped m) (progress m)) → (m : Machine) → same_machine m Watch ≡ false → (r : Refusal) → stopped m ≡ Some (fault.Refused r) → ⊥

@@ -1,25 +1,13 @@
 -- One turn of a simulation, as a step of a run.
-use Rattle.std.proofs.Common.{◌≡◌, ℕ, ℤ, OnOk, OnErr, IfOk, Bool, true, false, ◌&&◌, is_none, List, [], ◌++◌, append-nil, Option, None, Result, Ok, Err, refl, sym, ap, ◌∙◌, subst, if◌then◌else◌}
-use Rattle.cell_rules.specs.Types.{Machine, Feed, Table, Robot, Press, Deposit, Crane, Watch, same_machine}
-use Rattle.cell_rules.specs.Types.{one_machine, Event}
+use Rattle.cell_plant.proofs.Names.{◌≡◌, OnErr, IfOk, Bool, true, false, ◌&&◌, is_none, List, [], ◌++◌, append-nil, Option, None, Result, Ok, Err, refl, sym, ap, ◌∙◌, subst, if◌then◌else◌, Machine, Feed, Table, Robot, Press, Deposit, Crane}
+use Rattle.cell_plant.proofs.Names.{Watch, same_machine, one_machine, Event, ModelState, Desk, Steps, Rig, CtlFault, TurnCall, settled_in, Notes, notes_with, at_machine, Turn, Side, UnitTurn, others_ready, Untouched, CellGauges, steps_by}
+use Rattle.cell_plant.proofs.Names.{rig_of, SideOf, CellState, Sides, side_in, sides_at_start, Step, LeadsIfBy, RunMoment, StepsOn, state_at, first_moment, AllNotes, first_notes}
 use Rattle.cell_calib.specs.Scale.{Scale}
-use Rattle.cell_rules.specs.Names.{ModelState, Desk}
-use Rattle.cell_control.specs.Names.{Steps, Rig}
-use Rattle.cell_control.specs.declared.fault.CtlFault.{CtlFault}
-use Rattle.cell_robot.specs.RobotProgram.{RobotScales, robot_steps}
-use Rattle.cell_haul.specs.Names.{crane_steps, deposit_steps, feed_steps}
-use Rattle.cell_stations.specs.Names.{press_steps, table_steps}
-use Rattle.cell_notes.specs.Names.{TurnCall, settled_in, Notes, notes_with, at_machine}
-use Rattle.cell_notes.specs.declared.schedule.Turn.{Turn}
-use Rattle.cell_parts.specs.Names.{CellScales, feed_rig, table_rig, robot_rig, press_rig, deposit_rig, crane_rig}
+use Rattle.cell_parts.specs.Names.{CellScales}
 use Rattle.cell_parts.specs.Axes.{RobotScales as PartScales}
-use Rattle.cell_unit.specs.Names.{Side, IsReady, UnitTurn}
-use Rattle.cell_unit.proofs.Others.{others_ready}
-use Rattle.cell_unit.specs.UnitTurns.{Untouched, Leads as LeadsAlone}
-use Rattle.cell_plant.specs.Names.{watch_steps, watch_rig, CellGauges, robot_gauges, robot_points, robot_axes}
-use Rattle.cell_plant.specs.Names.{steps_by, rig_of, SideOf, CellState, Sides, side_in, sides_at_start, Step}
-use Rattle.cell_plant.specs.Names.{LeadsIfBy, RunMoment, StepsOn, state_at, first_moment}
-use Rattle.cell_plant.specs.Moments.{AllNotes, first_notes}
+use Rattle.cell_unit.specs.Names.{IsReady}
+use Rattle.cell_unit.specs.UnitTurns.{Leads as LeadsAlone}
+use Rattle.cell_plant.proofs.KeptRuns.{own_program_by}
 
 -- two states are the same if they have the same interlock and the same side of each machine
 pub same_state : (w v : CellState) → w.interlock ≡ v.interlock → ((n : Machine) → w.side n ≡ v.side n) → w ≡ v
@@ -38,22 +26,12 @@ put m x f n = f n
 
 put_same : (m : Machine) (x : SideOf m) (f : (n : Machine) → SideOf n) → put m x f m ≡ x
 put_same Feed x f = refl
-put_same Table x f = refl
-put_same Robot x f = refl
-put_same Press x f = refl
-put_same Deposit x f = refl
-put_same Crane x f = refl
-put_same Watch x f = refl
+put_same _ x f = refl
 
 put_other : (m n : Machine) (x : SideOf m) (f : (n : Machine) → SideOf n) → same_machine m n ≡ false → put m x f n ≡ f n
 put_other Feed Feed x f e = cc
-put_other Table Table x f e = cc
-put_other Robot Robot x f e = cc
-put_other Press Press x f e = cc
-put_other Deposit Deposit x f e = cc
-put_other Crane Crane x f e = cc
-put_other Watch Watch x f e = cc
-put_other m n x f e = refl
+put_other m Feed x f e = refl
+put_other m n x f e = first_of (assumption, cc)
 
 -- a turn of a machine leaves everything else as it was
 module _ {G : Type 0} (gives : G → CellGauges) (m : Machine) (busy : Bool) (before now : RunMoment G) (asked : TurnCall)
@@ -120,107 +98,51 @@ module _ {G : Type 0} (gives : G → CellGauges) (m : Machine) (busy : Bool) (be
   pub steps_on : Goal
   steps_on = on (is_none (side_in before.sides m).stopped) refl leads
 
-pub turn_is : (t : Turn) (m : Machine) → t.machine ≡ m → record { machine = m; busy = t.busy } ≡ t
-turn_is t m e = ap (λ (x : Machine). record { machine = x; busy = t.busy }) (sym e)
-
-pub by_turn : {G : Type 0} → (gives : G → CellGauges) (t u : Turn) (before now : RunMoment G) (asked : TurnCall) → t ≡ u → StepsOn gives t before now asked → StepsOn gives u before now asked
-by_turn gives t u before now asked e k = subst (λ x. StepsOn gives x before now asked) e k
-
 -- a turn leaves the sides and the notes of the other machines
 abbrev Others : Machine → Sides → Sides → AllNotes → AllNotes → Type 0
 Others m s t v w = (n : Machine) → same_machine m n ≡ false → (side_in t n ≡ side_in s n) × (at_machine w n ≡ at_machine v n)
 
-feed_others : (s : Sides) (x : SideOf Feed) (v : AllNotes) (y : Notes) → Others Feed s (record s { feed = x }) v (record v { feed = y })
+pub feed_others : (s : Sides) (x : SideOf Feed) (v : AllNotes) (y : Notes) → Others Feed s (record s { feed = x }) v (record v { feed = y })
 feed_others s x v y Feed apart = cc
 feed_others s x v y n apart = (refl, refl)
 
-table_others : (s : Sides) (x : SideOf Table) (v : AllNotes) (y : Notes) → Others Table s (record s { table = x }) v (record v { table = y })
+pub table_others : (s : Sides) (x : SideOf Table) (v : AllNotes) (y : Notes) → Others Table s (record s { table = x }) v (record v { table = y })
 table_others s x v y Table apart = cc
 table_others s x v y n apart = (refl, refl)
 
-robot_others : (s : Sides) (x : SideOf Robot) (v : AllNotes) (y : Notes) → Others Robot s (record s { robot = x }) v (record v { robot = y })
+pub robot_others : (s : Sides) (x : SideOf Robot) (v : AllNotes) (y : Notes) → Others Robot s (record s { robot = x }) v (record v { robot = y })
 robot_others s x v y Robot apart = cc
 robot_others s x v y n apart = (refl, refl)
 
-press_others : (s : Sides) (x : SideOf Press) (v : AllNotes) (y : Notes) → Others Press s (record s { press = x }) v (record v { press = y })
+pub press_others : (s : Sides) (x : SideOf Press) (v : AllNotes) (y : Notes) → Others Press s (record s { press = x }) v (record v { press = y })
 press_others s x v y Press apart = cc
 press_others s x v y n apart = (refl, refl)
 
-deposit_others : (s : Sides) (x : SideOf Deposit) (v : AllNotes) (y : Notes) → Others Deposit s (record s { deposit = x }) v (record v { deposit = y })
+pub deposit_others : (s : Sides) (x : SideOf Deposit) (v : AllNotes) (y : Notes) → Others Deposit s (record s { deposit = x }) v (record v { deposit = y })
 deposit_others s x v y Deposit apart = cc
 deposit_others s x v y n apart = (refl, refl)
 
-crane_others : (s : Sides) (x : SideOf Crane) (v : AllNotes) (y : Notes) → Others Crane s (record s { crane = x }) v (record v { crane = y })
+pub crane_others : (s : Sides) (x : SideOf Crane) (v : AllNotes) (y : Notes) → Others Crane s (record s { crane = x }) v (record v { crane = y })
 crane_others s x v y Crane apart = cc
 crane_others s x v y n apart = (refl, refl)
 
-watch_others : (s : Sides) (x : SideOf Watch) (v : AllNotes) (y : Notes) → Others Watch s (record s { watch = x }) v (record v { watch = y })
+pub watch_others : (s : Sides) (x : SideOf Watch) (v : AllNotes) (y : Notes) → Others Watch s (record s { watch = x }) v (record v { watch = y })
 watch_others s x v y Watch apart = cc
 watch_others s x v y n apart = (refl, refl)
 
-module _ {G : Type 0} (gives : G → CellGauges) (before now : RunMoment G) (busy : Bool) (asked : TurnCall) (scales : now.scales ≡ before.scales) (gauges : now.gauges ≡ before.gauges) (opening : now.opening ≡ before.opening) where
-  -- a machine's turn, which changes its own side and leaves the others
-  alone_on : (m : Machine)
-      → LeadsAlone (is_none (side_in before.sides m).stopped) (steps_by before.scales (gives before.gauges) m) (rig_of before.scales m) busy before.interlock (side_in before.sides m) asked now.interlock (side_in now.sides m)
-      → now.history ≡ before.history ++ settled_in m asked
-      → at_machine now.notes m ≡ (if is_none (side_in before.sides m).stopped then notes_with (at_machine before.notes m) asked else at_machine before.notes m)
-      → (s : Sides) (v : AllNotes) → now.sides ≡ s → now.notes ≡ v → Others m before.sides s before.notes v → StepsOn gives (record { machine = m; busy = busy }) before now asked
-  alone_on m leads history noted s v e f others =
-      steps_on gives m busy before now asked leads history noted (λ n apart. (ap (λ x. side_in x n) e ∙ (others n apart).0, ap (λ x. at_machine x n) f ∙ (others n apart).1)) scales gauges opening
+-- so a turn of a machine's unit over the bench, if it was Ok, is a step of the run
+abbrev desk_in : {G : Type 0} → RunMoment G → Machine → Bool → Desk
+desk_in m last busy = record { opening = m.opening; state = m.interlock; history = m.history; machine = last; busy = busy }
 
-  pub feed_on : LeadsAlone (is_none before.sides.feed.stopped) feed_steps feed_rig busy before.interlock before.sides.feed asked now.interlock now.sides.feed
-      → now.history ≡ before.history ++ settled_in Feed asked
-      → now.notes.feed ≡ (if is_none before.sides.feed.stopped then notes_with before.notes.feed asked else before.notes.feed)
-      → now.sides ≡ record before.sides { feed = now.sides.feed } → now.notes ≡ record before.notes { feed = now.notes.feed } → StepsOn gives (record { machine = Feed; busy = busy }) before now asked
-  feed_on leads history noted e f = alone_on Feed leads history noted _ _ e f (feed_others before.sides now.sides.feed before.notes now.notes.feed)
-
-  pub table_on : (points : Scale) → LeadsAlone (is_none before.sides.table.stopped) (table_steps points (gives before.gauges).turn) (table_rig before.scales.turn) busy before.interlock before.sides.table asked now.interlock now.sides.table
-      → before.scales.turn ≡ points → now.history ≡ before.history ++ settled_in Table asked
-      → now.notes.table ≡ (if is_none before.sides.table.stopped then notes_with before.notes.table asked else before.notes.table)
-      → now.sides ≡ record before.sides { table = now.sides.table } → now.notes ≡ record before.notes { table = now.notes.table } → StepsOn gives (record { machine = Table; busy = busy }) before now asked
-  table_on points leads fits history noted e f =
-      let led = subst (λ (s : Scale). LeadsAlone (is_none before.sides.table.stopped) (table_steps s (gives before.gauges).turn) (table_rig before.scales.turn) busy before.interlock before.sides.table asked now.interlock now.sides.table) (sym fits) leads in
-      alone_on Table led history noted _ _ e f (table_others before.sides now.sides.table before.notes now.notes.table)
-
-  pub robot_on : (points : RobotScales) → LeadsAlone (is_none before.sides.robot.stopped) (robot_steps points (robot_gauges (gives before.gauges))) (robot_rig (robot_axes before.scales)) busy before.interlock before.sides.robot asked now.interlock now.sides.robot
-      → before.scales.arm1 ≡ points.arm1 → before.scales.arm2 ≡ points.arm2 → before.scales.rotation ≡ points.rotation → now.history ≡ before.history ++ settled_in Robot asked
-      → now.notes.robot ≡ (if is_none before.sides.robot.stopped then notes_with before.notes.robot asked else before.notes.robot)
-      → now.sides ≡ record before.sides { robot = now.sides.robot } → now.notes ≡ record before.notes { robot = now.notes.robot } → StepsOn gives (record { machine = Robot; busy = busy }) before now asked
-  robot_on points leads a b d history noted e f =
-      let fits : points ≡ robot_points before.scales = λ i. record { arm1 = sym a i; arm2 = sym b i; rotation = sym d i } in
-      let led = subst (λ (s : RobotScales). LeadsAlone (is_none before.sides.robot.stopped) (robot_steps s (robot_gauges (gives before.gauges))) (robot_rig (robot_axes before.scales)) busy before.interlock before.sides.robot asked now.interlock now.sides.robot) fits leads in
-      alone_on Robot led history noted _ _ e f (robot_others before.sides now.sides.robot before.notes now.notes.robot)
-
-  pub press_on : LeadsAlone (is_none before.sides.press.stopped) press_steps press_rig busy before.interlock before.sides.press asked now.interlock now.sides.press
-      → now.history ≡ before.history ++ settled_in Press asked
-      → now.notes.press ≡ (if is_none before.sides.press.stopped then notes_with before.notes.press asked else before.notes.press)
-      → now.sides ≡ record before.sides { press = now.sides.press } → now.notes ≡ record before.notes { press = now.notes.press } → StepsOn gives (record { machine = Press; busy = busy }) before now asked
-  press_on leads history noted e f = alone_on Press leads history noted _ _ e f (press_others before.sides now.sides.press before.notes now.notes.press)
-
-  pub deposit_on : LeadsAlone (is_none before.sides.deposit.stopped) deposit_steps deposit_rig busy before.interlock before.sides.deposit asked now.interlock now.sides.deposit
-      → now.history ≡ before.history ++ settled_in Deposit asked
-      → now.notes.deposit ≡ (if is_none before.sides.deposit.stopped then notes_with before.notes.deposit asked else before.notes.deposit)
-      → now.sides ≡ record before.sides { deposit = now.sides.deposit } → now.notes ≡ record before.notes { deposit = now.notes.deposit } → StepsOn gives (record { machine = Deposit; busy = busy }) before now asked
-  deposit_on leads history noted e f = alone_on Deposit leads history noted _ _ e f (deposit_others before.sides now.sides.deposit before.notes now.notes.deposit)
-
-  pub crane_on : (points : Scale) → LeadsAlone (is_none before.sides.crane.stopped) (crane_steps points (gives before.gauges).gripper) (crane_rig before.scales.gripper) busy before.interlock before.sides.crane asked now.interlock now.sides.crane
-      → before.scales.gripper ≡ points → now.history ≡ before.history ++ settled_in Crane asked
-      → now.notes.crane ≡ (if is_none before.sides.crane.stopped then notes_with before.notes.crane asked else before.notes.crane)
-      → now.sides ≡ record before.sides { crane = now.sides.crane } → now.notes ≡ record before.notes { crane = now.notes.crane } → StepsOn gives (record { machine = Crane; busy = busy }) before now asked
-  crane_on points leads fits history noted e f =
-      let led = subst (λ (s : Scale). LeadsAlone (is_none before.sides.crane.stopped) (crane_steps s (gives before.gauges).gripper) (crane_rig before.scales.gripper) busy before.interlock before.sides.crane asked now.interlock now.sides.crane) (sym fits) leads in
-      alone_on Crane led history noted _ _ e f (crane_others before.sides now.sides.crane before.notes now.notes.crane)
-
-  pub watch_on : LeadsAlone (is_none before.sides.watch.stopped) watch_steps watch_rig busy before.interlock before.sides.watch asked now.interlock now.sides.watch
-      → now.history ≡ before.history ++ settled_in Watch asked
-      → now.notes.watch ≡ (if is_none before.sides.watch.stopped then notes_with before.notes.watch asked else before.notes.watch)
-      → now.sides ≡ record before.sides { watch = now.sides.watch } → now.notes ≡ record before.notes { watch = now.notes.watch } → StepsOn gives (record { machine = Watch; busy = busy }) before now asked
-  watch_on leads history noted e f = alone_on Watch leads history noted _ _ e f (watch_others before.sides now.sides.watch before.notes now.notes.watch)
-
--- what holds if a turn was Ok
-pub on_ok : {A E : Type 0} → (r : Result A E) (P Q : A → Type 0) → IfOk r P → ((x : A) → P x → Q x) → IfOk r Q
-on_ok (Ok x) P Q p f = f x p
-on_ok (Err e) P Q p f = tt
+pub unit_on : {G E : Type 0} → (gives : G → CellGauges) (m : Machine) (t : Turn) (before now : RunMoment G) (r : Result TurnCall E) (last last' : Machine) (busy busy' : Bool)
+    → t.machine ≡ m → Others m before.sides now.sides before.notes now.notes → now.scales ≡ before.scales → now.gauges ≡ before.gauges
+    → IfOk r (UnitTurn (steps_by before.scales (gives before.gauges) m) (rig_of before.scales m) t.busy (desk_in before last busy) (desk_in now last' busy') (side_in before.sides m) (side_in now.sides m) (at_machine before.notes m) (at_machine now.notes m))
+    → IfOk r (StepsOn gives t before now)
+unit_on gives m t before now (Ok asked) last last' busy busy' is others scales gauges k =
+    let own = own_program_by before.scales (gives before.gauges) m in
+    subst (λ x. StepsOn gives (record t { machine = x }) before now asked) (sym is)
+    (steps_on gives m t.busy before now asked k.leads (subst (λ x. now.history ≡ before.history ++ settled_in x asked) own k.history) k.noted others scales gauges k.opening)
+unit_on gives m t before now (Err e) last last' busy busy' is others scales gauges k = tt
 
 -- after any turn, Ok or not, the bench keeps its opening, and its history grows by what was asked
 pub record Grows (m : Machine) (old new : Desk) : Type 0 where

@@ -1,16 +1,8 @@
 -- An axis that is driven to stops by its potentiometer: the reading is near the position, the axis is at the stop once
 -- its motor is off there, and it isn't driven on past an end.
-use Rattle.std.proofs.Common.{◌≡◌, ℕ, ℤ, pos, ◌+ℤ◌, ◌-ℤ◌, ◌<ℤ◌, ◌≤ℤ◌, inl, inr, Option, Some, None, arith}
-use Rattle.std.specs.Prelude.{⊤}
-use Rattle.std.proofs.lemmas.Int.{ints}
-use Rattle.cell_calib.specs.Names.{Scale, raw_width, IsNear, IsReading}
-use Rattle.cell_calib.proofs.LineLemmas.{near_position_lem}
-use Rattle.cell_devices.specs.Names.{DrivesTo}
-use Rattle.cell_devices.specs.declared.motor.Motor.{Motor}
-use Rattle.cell_devices.specs.declared.motor.Motor.TheVariants.{Off}
+use Rattle.cell_plant.proofs.Names.{◌≡◌, ◌≢◌, ℕ, ℤ, pos, ◌+ℤ◌, ◌-ℤ◌, ◌<ℤ◌, ◌≤ℤ◌, Bool, true, inl, inr, Option, Some, None, refl, arith, ⊤, ints, Scale, raw_width, IsNear, IsReading, near_position_lem, DrivesTo, Motor, Off, IsAxisScale}
+use Rattle.cell_plant.proofs.Names.{IsWithin, Span, IsIn, set_axis, ShowsRaw, DrivesPast, Axis}
 use Rattle.cell_devices.specs.declared.stops.Stop.{Stop}
-use Rattle.cell_parts.specs.Names.{IsAxisScale, IsWithin, Span, IsIn, set_axis, ShowsRaw, DrivesPast}
-use Rattle.cell_parts.specs.declared.axis.Axis.{Axis}
 
 -- a reading is within the tolerance of the axis's position
 pub reading_near : (end : ℤ) (points : Scale) (position : ℤ) (raw : ℕ) (read : ℤ) → IsAxisScale end points → IsWithin end position → ShowsRaw points position raw → IsReading points raw read → IsNear read position points.tol
@@ -41,6 +33,10 @@ below_first position target half tol read a w b near over e = absurd (omega (ari
 
 above_last : (end position target half tol read : ℤ) → target ≤ℤ end → pos 20 ≤ℤ half → tol ≤ℤ pos 10 → IsNear read position tol → read <ℤ (target -ℤ (half -ℤ tol)) → position ≡ end → ⊥
 above_last end position target half tol read a w b near under e = absurd (omega (arith, ints))
+
+-- a motor that is off isn't on
+pub not_on : (b : Bool) → Off ≢ Off → b ≡ true
+not_on b on = absurd (on refl)
 
 pub off_within : (end : ℤ) (a : Axis) → a.motor ≡ Off → ¬ DrivesPast end a
 off_within end a e (inl past) = let minus = past.1 in cc

@@ -1,43 +1,17 @@
 -- The invariant of the table's side: it holds in every state of a run.
-use Rattle.std.proofs.Common.{◌≡◌, ℤ, pos, ◌-ℤ◌, ◌≤ℤ◌, Bool, true, false, ◌&&◌, ◌⊎◌, inl, inr, [], ◌∷◌, Option, Some, None, Result, Ok, refl, sym, ap, ◌∙◌, subst, if◌then◌else◌, arith}
-use Rattle.std.proofs.lemmas.Int.{ints}
+use Rattle.cell_plant.proofs.Names.{◌≡◌, pos, Bool, true, ◌&&◌, ◌⊎◌, inl, inr, [], ◌∷◌, Option, Some, None, Result, Ok, refl, sym, ap, ◌∙◌, subst, if◌then◌else◌, arith, ints, Z1, Z2, Posture, Moving, OpenIn, Call, Done, Reply, Scale}
+use Rattle.cell_plant.proofs.Names.{IsNear, IsReading, TableSense, Motor, Off, Plus, Minus, TableAct, ModelState, IsStartState, IsSound, posture_at, reply, changed, next, posture_given, LineFault, posture-foreign, posture-changed}
+use Rattle.cell_plant.proofs.Names.{with_plate, by_plate, after_act, rotation_stop, table_start, table_steps, TableStep, MoveToLoading, PoseLoading, TableProgress, TableReading, IsAxisScale, IsWithin, lift_end, turn_end, table_at_start}
+use Rattle.cell_plant.proofs.Names.{set_axis, TableMoves, DrivesPast, RestsAtLoading, table_rig, TablePlant, set_table, moved_table, Turned, Turns, CtlFault, height_for, Finds, TableKnows, table-knowing, act_or_rest, Keeping, turn_tells}
+use Rattle.cell_plant.proofs.Names.{Demanding, WhileOn, demanding_while_on, TableShows}
 use Rattle.cell_types.specs.declared.machine.Machine.TheVariants.{Table as TableMachine}
-use Rattle.cell_rules.specs.Types.{Z1, Z2, Posture, Moving, OpenIn, Turning, Loading, Unloading, Call, Claim, Give}
-use Rattle.cell_rules.specs.Types.{Take, Release, SetPose, Done, Reply}
-use Rattle.cell_calib.specs.Names.{Scale, IsNear, IsReading}
-use Rattle.cell_calib.specs.declared.sense.TableSense.{TableSense}
-use Rattle.cell_devices.specs.declared.motor.Motor.{Motor}
-use Rattle.cell_devices.specs.declared.motor.Motor.TheVariants.{Off, Plus, Minus}
-use Rattle.cell_devices.specs.declared.act.TableAct.{TableAct}
-use Rattle.cell_rules.specs.Names.{ModelState, IsStartState, IsSound, posture_at, reply, changed, posture_given}
-use Rattle.cell_rules.specs.declared.heard.LineFault.{LineFault}
-use Rattle.cell_rules.proofs.OwnSide.{posture-foreign}
-use Rattle.cell_rules.proofs.Postures.{posture-changed}
-use Rattle.cell_stations.specs.Names.{with_plate, by_plate, row_of, after_done, is_off, after_act, rotation_stop}
-use Rattle.cell_stations.specs.Names.{Senses, Acts, table_start, table_steps}
-use Rattle.cell_stations.specs.declared.table.TableStep.{TableStep}
-use Rattle.cell_stations.specs.declared.table.TableStep.TheVariants.{ClaimEntry, ClaimExit, LeaveForLoading}
-use Rattle.cell_stations.specs.declared.table.TableStep.TheVariants.{MoveToLoading, PoseLoading, ReleaseEntry}
-use Rattle.cell_stations.specs.declared.table.TableStep.TheVariants.{LeaveForUnloading, MoveToUnloading}
-use Rattle.cell_stations.specs.declared.table.TableStep.TheVariants.{PoseUnloading}
-use Rattle.cell_stations.specs.declared.table.TableProgress.{TableProgress}
-use Rattle.cell_stations.specs.declared.table.TableReading.{TableReading}
-use Rattle.cell_stations.specs.declared.table.TableStep.TheVariants.{TakePlate, GivePlate, ClaimBack}
-use Rattle.cell_parts.specs.Names.{IsAxisScale, IsWithin, lift_end, turn_end, table_at_start, set_axis, TableMoves}
-use Rattle.cell_parts.specs.Names.{DrivesPast, RestsAtLoading, table_rig}
-use Rattle.cell_parts.specs.declared.plant.TablePlant.{TablePlant}
-use Rattle.cell_parts.specs.Plant.{set_table, moved_table}
-use Rattle.cell_control.specs.Names.{Turned, Turns}
-use Rattle.cell_control.specs.declared.fault.CtlFault.{CtlFault}
-use Rattle.cell_stations.specs.TableProgram.{row_at, height_for}
-use Rattle.cell_control.proofs.Facts.{Finds}
-use Rattle.cell_stations.proofs.TableFacts.{TableKnows, table-knowing, drives_at}
-use Rattle.cell_unit.specs.Sides.{act_or_rest}
-use Rattle.cell_unit.proofs.Keeping.{Keeping, turn_tells}
-use Rattle.cell_unit.proofs.Demanding.{Demanding, WhileOn, demanding_while_on}
-use Rattle.cell_parts.specs.Shows.{TableShows}
+use Rattle.cell_stations.specs.Names.{row_of, after_done, is_off}
+use Rattle.cell_stations.specs.Names.{Senses, Acts}
+use Rattle.cell_stations.specs.declared.table.TableStep.TheVariants.{ClaimExit}
+use Rattle.cell_stations.specs.TableProgram.{row_at}
+use Rattle.cell_stations.proofs.TableFacts.{drives_at}
 use Rattle.cell_plant.proofs.Stops.{reading_near, StopsWithin, off_within, driven_within}
-use Rattle.cell_plant.proofs.WithinLemmas.{between, moved_within}
+use Rattle.cell_plant.proofs.WithinLemmas.{moved_within}
 
 abbrev at_rest_act : TableAct
 at_rest_act = record { height = Off; rotation = Off }
@@ -60,44 +34,33 @@ table-start s k =
     let rests : RestsAtLoading table_at_start = record { lift_off = refl; turn_off = refl; bottom = omega (arith, ints); turned = omega (arith, ints) } in
     record {
       knows = tt;
-      lift_within = between lift_end (pos 0) (omega (arith, ints)) (omega (arith, ints));
-      turn_within = between turn_end (pos 0) (omega (arith, ints)) (omega (arith, ints));
+      lift_within = omega (arith, ints);
+      turn_within = omega (arith, ints);
       open_in = λ o. rests;
       settled = λ e. rests;
     }
 
 -- with its motors off it stays where it is
 rests-off : (t : TablePlant) → RestsAtLoading t → RestsAtLoading (set_table t at_rest_act)
-rests-off t r = record { lift_off = refl; turn_off = refl; bottom = r.bottom; turned = r.turned }
+rests-off t r = assumption
 
 -- its part moves: if it rests, it stays
 rests-moved : (t : TablePlant) → RestsAtLoading t → RestsAtLoading (moved_table t)
-rests-moved t r =
-    record {
-      lift_off = r.lift_off;
-      turn_off = r.turn_off;
-      bottom = rw r.lift_off r.bottom;
-      turned = rw r.turn_off r.turned;
-    }
+rests-moved t r = record { lift_off = r.lift_off; turn_off = r.turn_off; bottom = rw r.lift_off r.bottom; turned = rw r.turn_off r.turned }
+
+-- the posture of its zone to the feed belt after a step's call, if it has one
+abbrev after_call : Option Call → Posture → Posture
+after_call None q = q
+after_call (Some c) q = posture_given TableMachine c Z1 q
 
 -- among the calls of its steps only the one at the loading place opens the table to the feed belt
-opened : (s : TableStep) (p : TableProgress) (c : Call) (q : Posture) (R : Type 0) → (row_at s p).call ≡ Some c → (q ≡ OpenIn → R) → (s ≡ PoseLoading → R) → posture_given TableMachine c Z1 q ≡ OpenIn → R
-opened ClaimEntry p (Claim Z1) q R e f g o = f o
-opened ClaimExit p (Claim Z2) q R e f g o = f o
-opened LeaveForLoading p (SetPose Turning) q R e f g o = cc
-opened PoseLoading p (SetPose Loading) q R e f g o = g refl
-opened ReleaseEntry p (Release Z1) q R e f g o = f o
-opened TakePlate p (Take Z1) q R e f g o = f o
-opened LeaveForUnloading p (SetPose Turning) q R e f g o = cc
-opened PoseUnloading p (SetPose Unloading) q R e f g o = cc
-opened GivePlate p (Give Z2) q R e f g o = f o
-opened ClaimBack p (Claim Z2) q R e f g o = f o
-opened s p c q R e f g o = cc
+opened : (s : TableStep) (p : TableProgress) (q : Posture) (R : Type 0) → (q ≡ OpenIn → R) → (s ≡ PoseLoading → R) → after_call (row_at s p).call q ≡ OpenIn → R
+opened PoseLoading p q R f g o = g refl
+opened s p q R f g o = first_of (cc, search)
 
 -- none of these calls leads to that step
 choice_elsewhere : (loaded : Bool) (p : TableProgress) → by_plate (with_plate p loaded) ≡ PoseLoading → ⊥
-choice_elsewhere true p q = cc
-choice_elsewhere false p q = cc
+choice_elsewhere loaded p q = grind arith
 
 led_elsewhere : (s : TableStep) (p : TableProgress) (c : Call) → (row_at s p).call ≡ Some c → (row_at s p).next.step ≡ PoseLoading → ⊥
 led_elsewhere ClaimExit p c e q = choice_elsewhere p.loaded p q
@@ -107,16 +70,11 @@ led_elsewhere s p c e q = cc
 turn_near : (points : Scale) (t : TablePlant) (s : TableSense) (r : TableReading) → IsAxisScale turn_end points → IsWithin turn_end t.turn.position → TableShows points t s → Senses points (IsReading points) s (Ok r) → IsNear r.turn t.turn.position points.tol
 turn_near points t s r k within shows senses = reading_near turn_end points t.turn.position s.turn r.turn k within shows.raw senses.near
 
-near_loading : (position read tol : ℤ) → IsNear read position tol → IsNear read (pos 0) (pos 20 -ℤ tol) → position ≤ℤ pos 20
-near_loading position read tol a b = omega (arith, ints)
-
 off_at_bottom : (b : Bool) → (if b then Off else Minus) ≡ Off → b ≡ true
-off_at_bottom true e = refl
-off_at_bottom false e = cc
+off_at_bottom b e = grind arith
 
 both_off : (a b : Motor) → (is_off a && is_off b) ≡ true → (a ≡ Off) × (b ≡ Off)
-both_off Off Off e = (refl, refl)
-both_off a b e = cc
+both_off a b e = grind arith
 
 -- a table that moves to the feed belt is ready to load once its motors go off there
 rests-loading : (points : Scale) (t : TablePlant) (s : TableSense) (r : TableReading) (act : TableAct) → IsAxisScale turn_end points → IsWithin turn_end t.turn.position → TableShows points t s → Senses points (IsReading points) s (Ok r) → Acts points MoveToLoading r act
@@ -126,24 +84,15 @@ rests-loading points t s r act k within shows senses acts off =
       lift_off = off.0;
       turn_off = off.1;
       bottom = shows.bottom.0 (off_at_bottom s.bottom (ap (λ x. height_for MoveToLoading x) (sym senses.switches) ∙ sym acts.height ∙ off.0));
-      turned = near_loading t.turn.position r.turn points.tol (turn_near points t s r k within shows senses) (acts.rotation.off.0 off.1);
+      turned = let near = turn_near points t s r k within shows senses in let there = acts.rotation.off.0 off.1 in omega (arith, ints);
     }
 
 led_by : (b : Bool) (s : TableStep) (loaded : Bool) → (row_of (record { step = s; loaded = loaded })).call ≡ None → (if b then after_done (record { step = s; loaded = loaded }) else record { step = s; loaded = loaded }).step ≡ PoseLoading → (b ≡ true) × (s ≡ MoveToLoading)
 led_by true MoveToLoading loaded e q = (refl, refl)
 led_by b s loaded e q = cc
 
-moving_open : (q : Posture) → q ≡ Moving → q ≡ OpenIn → ⊥
-moving_open q a b = cc
-
 at_rest : (z : ModelState) (p : TableProgress) (t : TablePlant) → TableInv z p t → TableInv z p (set_table t at_rest_act)
-at_rest z p t i = record {
-  knows = i.knows;
-  lift_within = i.lift_within;
-  turn_within = i.turn_within;
-  open_in = λ o. rests-off t (i.open_in o);
-  settled = λ e. rests-off t (i.settled e);
-}
+at_rest z p t i = search (rests-off, i.open_in, i.settled)
 
 module _ (points : Scale) (axis : IsAxisScale turn_end points) where
   done : (z : ModelState) (p : TableProgress) (t : TablePlant) (c : Call) → (row_of p).call ≡ Some c → reply z TableMachine c ≡ Done → IsSound z → TableInv z p t → TableInv (changed z TableMachine c) (after_done p) (set_table t at_rest_act)
@@ -151,7 +100,7 @@ module _ (points : Scale) (axis : IsAxisScale turn_end points) where
     knows = (table-knowing points (IsReading points)).after_done p z c e d sound i.knows;
     lift_within = i.lift_within;
     turn_within = i.turn_within;
-    open_in = λ o. rests-off t (opened p.step p c (posture_at z Z1) (RestsAtLoading t) e i.open_in i.settled (sym (posture-changed z TableMachine c Z1) ∙ o));
+    open_in = λ o. rests-off t (opened p.step p (posture_at z Z1) (RestsAtLoading t) i.open_in i.settled (ap (λ x. after_call x (posture_at z Z1)) e ∙ sym (posture-changed z TableMachine c Z1) ∙ o));
     settled = λ q. absurd (led_elsewhere p.step p c e q);
   }
 
@@ -161,7 +110,7 @@ module _ (points : Scale) (axis : IsAxisScale turn_end points) where
     knows = (table-knowing points (IsReading points)).after_drive p r act z e acts i.knows;
     lift_within = i.lift_within;
     turn_within = i.turn_within;
-    open_in = λ o. absurd (moving_open (posture_at z Z1) (drives_at p.step p z e i.knows).1.0 o);
+    open_in = λ o. absurd (cc (drives_at p.step p z e i.knows).1.0);
     settled = λ q.
         let led = led_by (is_off act.height && is_off act.rotation) p.step p.loaded e q in
         rests-loading points t s r act axis i.turn_within shows senses (subst (λ x. Acts points x r act) led.1 acts) (both_off act.height act.rotation led.0);
@@ -169,26 +118,13 @@ module _ (points : Scale) (axis : IsAxisScale turn_end points) where
 
   pub table-keeping : Keeping (table_steps points (IsReading points)) (table_rig points) TableInv TableInv
   table-keeping = record {
-    foreign = λ z p b n c apart sound i.
-        record {
-          knows = (table-knowing points (IsReading points)).foreign p z n c apart sound i.knows;
-          lift_within = i.lift_within;
-          turn_within = i.turn_within;
-          open_in = λ o. i.open_in (sym (posture-foreign z n c Z1 apart) ∙ o);
-          settled = i.settled;
-        };
+    foreign = λ z p b n c apart sound i. assumption ((table-knowing points (IsReading points)).foreign p z n c apart sound i.knows, λ (o : posture_at (next z n c) Z1 ≡ OpenIn). i.open_in (sym (posture-foreign z n c Z1 apart) ∙ o));
     rests = λ z p b i. at_rest z p b i;
     after_done = λ z p b c e d sound i. done z p b c e d sound i;
     after_inquiry = λ z p b c owner flag posture e d sound i. at_rest z p b i;
     after_drive = λ z p b s r act e shows senses drives i. drive z p b s r act e shows senses drives i;
     told = λ z p b i. i;
-    moves = λ z p b i. record {
-      knows = i.knows;
-      lift_within = moved_within lift_end b.lift (omega (arith, ints)) i.lift_within;
-      turn_within = moved_within turn_end b.turn (omega (arith, ints)) i.turn_within;
-      open_in = λ o. rests-moved b (i.open_in o);
-      settled = λ e. rests-moved b (i.settled e);
-    };
+    moves = λ z p b i. search (arith, ints, moved_within, rests-moved, i.open_in, i.settled);
   }
 
 -- while it moves it holds both its zones, which move
@@ -209,32 +145,14 @@ table_off_within : (t : TablePlant) → DrivesOut (set_table t at_rest_act) → 
 table_off_within t (inl past) = off_within lift_end (set_table t at_rest_act).lift refl past
 table_off_within t (inr past) = off_within turn_end (set_table t at_rest_act).turn refl past
 
-minus_unless : (b : Bool) → (if b then Off else Minus) ≡ Minus → b ≡ true → ⊥
-minus_unless true e b = cc
-minus_unless false e b = cc
-
-not_minus : (b : Bool) → (if b then Off else Plus) ≡ Minus → ⊥
-not_minus true e = cc
-not_minus false e = cc
-
-plus_unless : (b : Bool) → (if b then Off else Plus) ≡ Plus → b ≡ true → ⊥
-plus_unless true e b = cc
-plus_unless false e b = cc
-
-not_plus : (b : Bool) → (if b then Off else Minus) ≡ Plus → ⊥
-not_plus true e = cc
-not_plus false e = cc
-
 -- the height goes down only if it isn't at the bottom, and up only if it isn't at the top
 lowered : (s : TableStep) (x : TableSense) → height_for s x ≡ Minus → x.bottom ≡ true → ⊥
-lowered MoveToLoading x e b = absurd (minus_unless x.bottom e b)
-lowered MoveToUnloading x e b = absurd (not_minus x.top e)
-lowered s x e b = cc
+lowered MoveToLoading x e b = grind arith
+lowered s x e b = grind arith
 
 raised : (s : TableStep) (x : TableSense) → height_for s x ≡ Plus → x.top ≡ true → ⊥
-raised MoveToLoading x e b = absurd (not_plus x.bottom e)
-raised MoveToUnloading x e b = absurd (plus_unless x.top e b)
-raised s x e b = cc
+raised MoveToLoading x e b = grind arith
+raised s x e b = grind arith
 
 lift_stays : (points : Scale) (t : TablePlant) (s : TableStep) (x : TableSense) (m : Motor) → TableShows points t x → m ≡ height_for s x → DrivesPast lift_end (set_axis t.lift m) → ⊥
 lift_stays points t s x m shows e (inl past) =
@@ -246,9 +164,8 @@ lift_stays points t s x m shows e (inr past) =
 
 -- the rotation is driven to a place between its ends
 stops_within : (s : TableStep) → StopsWithin turn_end (rotation_stop s)
-stops_within MoveToLoading = (omega (arith, ints), omega (arith, ints), omega (arith, ints))
-stops_within MoveToUnloading = (omega (arith, ints), omega (arith, ints), omega (arith, ints))
-stops_within s = tt
+stops_within MoveToLoading = omega (arith, ints)
+stops_within _ = omega (arith, ints)
 
 module _ (points : Scale) (axis : IsAxisScale turn_end points) (t : TablePlant) (within : IsWithin turn_end t.turn.position) (s : TableSense) (shows : TableShows points t s) where
   acts_within : (p : TableProgress) (r : TableReading) (act : TableAct) → Senses points (IsReading points) s (Ok r) → Acts points p.step r act → DrivesOut (set_table t act) → ⊥

@@ -1,26 +1,9 @@
 -- The examples of turns, and of what isn't one.
-use Rattle.std.proofs.Common.{◌≡◌, ◌≢◌, ℕ, Bool, true, false, Some, None, Result, Ok, refl, sym, ap, ◌∙◌, subst}
-use Rattle.cell_rules.specs.Types.{Machine, Feed, Table, Press, Watch, Call, Stop, Resume, Done, Refused, Shut}
-use Rattle.cell_rules.specs.Types.{Closed, Reply, Settled}
-use Rattle.cell_rules.specs.Names.{ModelState}
-use Rattle.cell_rules.specs.declared.heard.LineFault.{LineFault}
-use Rattle.cell_control.specs.Names.{outcome, Turned, at_rest, turned}
-use Rattle.cell_control.specs.declared.fault.CtlFault.TheVariants.{Memory}
-use Rattle.cell_control.proofs.TurnMaps.{turn_either}
-use Rattle.cell_control.proofs.TurnsByAnswers.{asked_own}
-use Rattle.cell_haul.specs.declared.feed.FeedProgress.{FeedProgress}
-use Rattle.cell_stations.specs.declared.table.TableProgress.{TableProgress}
-use Rattle.cell_stations.specs.declared.press.PressProgress.{PressProgress}
+use Rattle.cell_plant.proofs.Names.{◌≡◌, ◌≢◌, ℕ, Bool, true, false, Some, None, Result, Ok, refl, sym, ap, ◌∙◌, subst, Machine, Feed, Table, Press, Watch, Call, Stop, Resume, Done, Refused, Shut, Closed, Reply, Settled, ModelState}
+use Rattle.cell_plant.proofs.Names.{LineFault, outcome, Turned, at_rest, turned, turn_either, asked_own, FeedProgress, TableProgress, PressProgress, Side, Answers, Axis, Belt, TablePlant, steps_of, CellState, Step, TakesTurn, at_first}
+use Rattle.cell_plant.proofs.Names.{at_entered, at_press_stopped, at_last, watch_noting, watch_steps, WatchProgress, TurnExamples, PassExamples, stops_again, resumes_at_first, resumes_unnoted, stopped, resumed}
 use Rattle.cell_notes.specs.Asks.{TurnCall}
-use Rattle.cell_unit.specs.Names.{Side, Answers}
 use Rattle.cell_parts.specs.Names.{CellScales}
-use Rattle.cell_parts.specs.declared.axis.Axis.{Axis}
-use Rattle.cell_parts.specs.declared.belt.Belt.{Belt}
-use Rattle.cell_parts.specs.declared.plant.TablePlant.{TablePlant}
-use Rattle.cell_plant.specs.Names.{steps_of, CellState, Step, TakesTurn, at_first, at_entered, at_press_stopped}
-use Rattle.cell_plant.specs.Names.{at_last, watch_noting, watch_steps}
-use Rattle.cell_plant.specs.declared.watch.WatchProgress.{WatchProgress}
-use Rattle.cell_plant.specs.RunExamples.{TurnExamples, PassExamples, stops_again, resumes_at_first, resumes_unnoted, stopped, resumed}
 use Rattle.cell_plant.proofs.WatchRight.{none_some, one_call, one_answer, turn_own}
 use Rattle.cell_plant.proofs.Deciding.{not_so, equals, true_false, false_true}
 use Rattle.cell_plant.proofs.ExampleTurns.{turn_done, turn_busy, turn_refused, turn_no_room, turn_meanwhile, turn_down, turn_stops, turn_resumes, turn_watch_busy}
@@ -33,18 +16,6 @@ one_zero e = cc
 
 pub zero_one : Apart 0 1
 zero_one e = cc
-
-some_none : {A : Type 0} (a : A) → ¬ (Some a ≡ None)
-some_none a e = cc
-
-press_runs : ¬ (None ≡ Some Memory)
-press_runs e = cc
-
-stop_resume : Some Stop ≢ Some Resume
-stop_resume e = cc
-
-resume_stop : Some Resume ≢ Some Stop
-resume_stop e = cc
 
 module _ (c : CellScales) where
   -- what a turn asked and got back, by the states of the interlock before and after it
@@ -96,7 +67,7 @@ module _ (c : CellScales) where
     stops = turn_stops c;
     resumes = turn_resumes c;
     watch_busy = turn_watch_busy c;
-    not_taken = λ k. false_true k.taken;
+    not_taken = λ k. cc;
     asks_nothing = λ k. stamps_apart _ _ one_zero (answered Feed false at_first _ k);
     answered_otherwise = λ k. let e : Refused (Shut Closed) ≡ Done = (answered Feed false at_first _ k).1 in cc;
     another_stamp = λ k. zero_one (answered Feed false at_first _ k).2;
@@ -111,8 +82,8 @@ module _ (c : CellScales) where
     stays_though_set = λ k. not_so (equals _ _) refl (ap (λ (x : Side PressProgress Axis). x.part.position) k.moved);
     moves_too_far = λ k. not_so (equals _ _) refl (ap (λ (x : Side PressProgress Axis). x.part.position) k.moved);
     interlock_changes = λ k. stamps_apart _ _ zero_one k.interlock;
-    stops_twice = λ k. resume_stop (watch_asks at_last stops_again Stop _ refl k);
-    resumes_first = λ k. stop_resume (watch_asks at_press_stopped resumes_at_first Resume _ refl k);
+    stops_twice = λ k. let e = watch_asks at_last stops_again Stop _ refl k in cc;
+    resumes_first = λ k. let e = watch_asks at_press_stopped resumes_at_first Resume _ refl k in cc;
     watch_notes_nothing = λ k. true_false (resume_noted k);
   }
 
@@ -120,7 +91,7 @@ pub pass_examples : PassExamples
 pass_examples = record {
   passed = record { not_taken = refl; asked = refl; set = refl; moved = refl };
   taken = λ k. true_false k.not_taken;
-  asks = λ k. some_none _ k.asked;
-  is_set = λ k. press_runs (ap (λ (w : CellState). (w.side Press).stopped) k.set);
-  moves = λ k. press_runs (ap (λ (w : CellState). (w.side Press).stopped) k.moved);
+  asks = λ k. cc;
+  is_set = λ k. let e = ap (λ (w : CellState). (w.side Press).stopped) k.set in cc;
+  moves = λ k. let e = ap (λ (w : CellState). (w.side Press).stopped) k.moved in cc;
 }

@@ -1,27 +1,18 @@
 -- What the watch keeps: its note is the mark of the interlock.
-use Rattle.std.proofs.Common.{◌≡◌, Bool, true, false, not, if◌then◌else◌, Some, refl, sym, ◌∙◌}
-use Rattle.cell_rules.specs.Types.{Machine, Watch, Call, Stop, Resume, Answer, Done, Shown, Refused, same_machine}
-use Rattle.cell_rules.specs.Names.{ModelState, stop_refusal, resume_refusal, reply, next, next_by, stopped_after}
-use Rattle.cell_rules.proofs.Done.{stop_done, resume_done}
-use Rattle.cell_rules.proofs.Soundness.{done_none}
-use Rattle.cell_unit.proofs.Keeping.{Keeping}
-use Rattle.cell_plant.specs.Names.{watch_steps, watch_rig}
-use Rattle.cell_plant.specs.declared.watch.WatchProgress.{WatchProgress}
+use Rattle.cell_plant.proofs.Names.{◌≡◌, Bool, true, false, not, if◌then◌else◌, Some, refl, sym, ◌∙◌, Machine, Watch, Call, Stop, Resume, Answer, Done, same_machine, ModelState, stop_refusal, resume_refusal, reply, next, next_by}
+use Rattle.cell_plant.proofs.Names.{stopped_after, stop_done, resume_done, done_none, Keeping, watch_steps, watch_rig, WatchProgress}
 
 abbrev pub WatchInv : ModelState → WatchProgress → Unit {0} → Type 0
 WatchInv z p b = p.has_stopped ≡ z.stopped
 
 no_watch : (b : Bool) (P : Type 0) → b ≡ true → b ≡ false → P
-no_watch true P e apart = cc
-no_watch false P e apart = cc
+no_watch b P e apart = cc
 
 -- no other machine changes the mark
 mark_by : (a : Answer) (z : ModelState) (n : Machine) (c : Call) → reply z n c ≡ a → same_machine n Watch ≡ false → (next_by a z n c).stopped ≡ z.stopped
 mark_by Done z n Stop e apart = no_watch (same_machine n Watch) _ (stop_done z n (done_none (stop_refusal z n) e)).0 apart
 mark_by Done z n Resume e apart = no_watch (same_machine n Watch) _ (resume_done z n (done_none (resume_refusal z n) e)).0 apart
-mark_by Done z n _ e apart = refl
-mark_by (Refused r) z n c e apart = refl
-mark_by (Shown owner flag posture) z n c e apart = refl
+mark_by _ z n c e apart = refl
 
 pub mark_stays : (z : ModelState) (n : Machine) (c : Call) → same_machine n Watch ≡ false → (next z n c).stopped ≡ z.stopped
 mark_stays z n c apart = mark_by (reply z n c) z n c refl apart

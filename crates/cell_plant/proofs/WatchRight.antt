@@ -1,25 +1,11 @@
 -- The watch's note is the mark in every state of a run, so the watch is refused only as worn.
-use Rattle.std.proofs.Common.{◌≡◌, ℕ, Bool, true, false, if◌then◌else◌, List, [], ◌∷◌, Option, Some, None, Result, Ok, Err, refl, sym, ap, ◌∙◌, subst}
-use Rattle.std.specs.Prelude.{⊤, not, nat_lt}
-use Rattle.std.specs.Bool.{then_some}
-use Rattle.cell_rules.specs.Types.{Machine, Feed, Table, Robot, Press, Deposit, Crane, Watch, Call, Stop, Resume}
-use Rattle.cell_rules.specs.Types.{Refused, Answer, Refusal, Worn, Stopped, NotStopped, Reply, Settled}
-use Rattle.cell_calib.specs.declared.sense.SensorFault.{SensorFault}
-use Rattle.cell_rules.specs.Names.{ModelState, last_stamp, reply, done_unless, IsStartState}
-use Rattle.cell_rules.specs.declared.heard.LineFault.{LineFault}
-use Rattle.cell_rules.specs.Refusals.{◌or◌}
-use Rattle.cell_control.specs.Names.{Rig, Steps, Performed, PerformsCall, PerformsSensed, Turned, Turns}
-use Rattle.cell_control.specs.declared.fault.CtlFault.{CtlFault}
-use Rattle.cell_notes.specs.Names.{TurnCall}
-use Rattle.cell_notes.specs.declared.schedule.Turn.{Turn}
+use Rattle.cell_plant.proofs.Names.{◌≡◌, ℕ, Bool, true, false, if◌then◌else◌, List, [], ◌∷◌, Option, Some, None, Result, Ok, Err, refl, sym, ap, ◌∙◌, subst, arith, ⊤, nat_lt, then_some, Machine, Watch, Call, Stop, Resume, Refused, Answer}
+use Rattle.cell_plant.proofs.Names.{Refusal, Worn, Stopped, NotStopped, Reply, Settled, SensorFault, ModelState, last_stamp, reply, done_unless, IsStartState, LineFault, ◌or◌, Rig, Steps, Performed, PerformsCall, PerformsSensed, Turned}
+use Rattle.cell_plant.proofs.Names.{Turns, CtlFault, TurnCall, Turn, Keeping, CellScales, ProgressOf, PartOf, steps_of, rig_of, CellState, cell_at_start, Step, LeadsIf, IsRun, goes_on, watch_steps, IsRefusedAsWorn, AreRefusedAsWorn}
+use Rattle.cell_plant.proofs.Names.{NotesTheMark, NotesThroughout, WatchNotesTheMark, sound_start}
+use Rattle.std.specs.Prelude.{not}
 use Rattle.cell_unit.specs.UnitTurns.{Answers}
-use Rattle.cell_unit.proofs.Keeping.{Keeping}
-use Rattle.cell_parts.specs.Axes.{CellScales}
-use Rattle.cell_plant.specs.Names.{ProgressOf, PartOf, steps_of, rig_of, CellState, cell_at_start, Step, LeadsIf}
-use Rattle.cell_plant.specs.Names.{IsRun, goes_on, watch_steps, IsRefusedAsWorn, AreRefusedAsWorn}
-use Rattle.cell_plant.specs.WatchLaws.{NotesTheMark, NotesThroughout, WatchNotesTheMark}
 use Rattle.cell_plant.proofs.KeptRuns.{CellInv, step_keeps}
-use Rattle.cell_team.proofs.Together.{sound_start}
 use Rattle.cell_plant.proofs.SafeRuns.{clear_start}
 use Rattle.cell_plant.proofs.WatchKeeps.{WatchInv, watch-keeping}
 
@@ -29,42 +15,22 @@ InvOf Watch = WatchInv
 InvOf m = λ z p b. ⊤
 
 keeps_nothing : {S Sense Reading Act State : Type 0} → (t : Steps S Sense Reading Act) (rig : Rig State Sense Act) → Keeping t rig (λ z p b. ⊤) (λ z p b. ⊤)
-keeps_nothing t rig = record {
-  foreign = λ z p b n c apart sound i. tt;
-  rests = λ z p b i. tt;
-  after_done = λ z p b c e d sound i. tt;
-  after_inquiry = λ z p b c owner flag posture e d sound i. tt;
-  after_drive = λ z p b s reading act e shows senses drives i. tt;
-  told = λ z p b i. tt;
-  moves = λ z p b i. tt;
-}
+keeps_nothing t rig = assumption
 
 keeping_of : (c : CellScales) (m : Machine) → Keeping (steps_of c m) (rig_of c m) (InvOf m) (InvOf m)
 keeping_of c Watch = watch-keeping
-keeping_of c Feed = keeps_nothing _ _
-keeping_of c Table = keeps_nothing _ _
-keeping_of c Robot = keeps_nothing _ _
-keeping_of c Press = keeps_nothing _ _
-keeping_of c Deposit = keeps_nothing _ _
-keeping_of c Crane = keeps_nothing _ _
+keeping_of c _ = keeps_nothing _ _
 
 starts : (s : ModelState) → IsStartState s → (m : Machine) → InvOf m s ((cell_at_start s).side m).progress ((cell_at_start s).side m).part
 starts s k Watch = sym (ap (λ (z : ModelState). z.stopped) k.same)
-starts s k Feed = tt
-starts s k Table = tt
-starts s k Robot = tt
-starts s k Press = tt
-starts s k Deposit = tt
-starts s k Crane = tt
+starts s k _ = tt
 
 -- a call that nothing bars is refused only as worn
 abbrev answer_by : Bool → Bool → Refusal → Answer
 answer_by barred fresh why = done_unless (then_some barred why or then_some (not fresh) Worn)
 
 refused_by : (barred fresh : Bool) (why r : Refusal) → barred ≡ false → Refused r ≡ answer_by barred fresh why → r ≡ Worn
-refused_by false false why r e k = cc
-refused_by false true why r e k = cc
-refused_by true fresh why r e k = cc
+refused_by barred fresh why r e k = grind arith
 
 abbrev refused_with : Refusal → ℕ → Result Reply LineFault
 refused_with r stamp = Ok (Settled (Refused r) stamp)
@@ -135,20 +101,18 @@ module _ (c : CellScales) where
   notes_throughout w (t ∷ ts) (s ∷ ss) i r =
       let on = kept w t s i r.0 r.1.0 in
       (i.each Watch, (on.0.each Watch, notes_throughout s.moved ts ss on.1 r.1.1))
-  notes_throughout w [] (s ∷ ss) i r = absurd r
-  notes_throughout w (t ∷ ts) [] i r = absurd r
+  notes_throughout w _ _ i r = absurd r
 
   refused_as_worn : (w : CellState) (turns : List Turn) (steps : List Step) → Kept w → IsRun c w turns steps → AreRefusedAsWorn steps
   refused_as_worn w [] [] i r = tt
   refused_as_worn w (t ∷ ts) (s ∷ ss) i r = (worn_only w t s i r.0 r.1.0, refused_as_worn s.moved ts ss (kept w t s i r.0 r.1.0).1 r.1.1)
-  refused_as_worn w [] (s ∷ ss) i r = absurd r
-  refused_as_worn w (t ∷ ts) [] i r = absurd r
+  refused_as_worn w _ _ i r = absurd r
 
   at_start : (s : ModelState) → IsStartState s → Kept (cell_at_start s)
   at_start s k = record { sound = sound_start s k; clear = clear_start s k; each = starts s k }
 
-pub watch-notes : WatchNotesTheMark
-watch-notes = record {
+pub watch_notes : WatchNotesTheMark
+watch_notes = record {
   noted = λ c opening turns steps start run. notes_throughout c (cell_at_start opening) turns steps (at_start c opening start) run;
   refused = λ c opening turns steps start run. refused_as_worn c (cell_at_start opening) turns steps (at_start c opening start) run;
 }

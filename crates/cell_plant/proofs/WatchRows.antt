@@ -1,16 +1,12 @@
 -- The watch's program meets the rows of the examples.
-use Rattle.std.proofs.Common.{◌≡◌, Bool, true, false, if◌then◌else◌, Some, None, refl}
+use Rattle.cell_plant.proofs.Names.{◌≡◌, Bool, true, if◌then◌else◌, Some, refl, arith, is_inquiry, stays_never, WatchRowsAreMet}
 use Rattle.cell_types.specs.declared.call.Call.TheVariants.{Stop, Resume}
-use Rattle.cell_control.specs.Rows.{is_inquiry}
-use Rattle.cell_control.proofs.WaitLemmas.{stays_never}
-use Rattle.cell_plant.specs.WatchExamples.{WatchRowsAreMet}
 
 no_inquiry : (stopped : Bool) → is_inquiry (Some (if stopped then Resume else Stop)) ≡ true → ⊥
-no_inquiry true e = cc
-no_inquiry false e = cc
+no_inquiry stopped e = grind arith
 
-pub watch-rows : WatchRowsAreMet
-watch-rows = record {
+pub watch_rows : WatchRowsAreMet
+watch_rows = record {
   whose = refl;
   starts = λ s. refl;
   stops = record { asks = refl; stays = stays_never; leads = refl };

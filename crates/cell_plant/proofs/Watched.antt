@@ -1,17 +1,7 @@
 -- The progress of a simulation that a watcher sees.
-use Rattle.std.proofs.Common.{◌≡◌, ◌≢◌, ◌∙◌, ◌-◌, ◌<◌, ℕ, List, [], ◌∷◌, ◌++◌, drop, length, Option, Some, None, Result, Ok, Err, refl, sym, ap, subst, arith}
-use Rattle.std.proofs.lemmas.List.{length-drop}
-use Rattle.cell_rules.specs.Names.{ModelState, IsStartState}
-use Rattle.cell_notes.specs.Names.{TurnCall}
-use Rattle.cell_notes.specs.declared.run_record.RunRecord.{RunRecord}
-use Rattle.cell_notes.specs.declared.schedule.Turn.{Turn}
-use Rattle.cell_parts.specs.Axes.{CellScales, AreCellScales}
-use Rattle.cell_plant.specs.Names.{CellState, cell_at_start, SeesRun, SeesBeginning, IsShown, frame_of, frames_of}
-use Rattle.cell_plant.specs.Names.{frames_after, RunMoment, StepsOn, Keeps, first_moment, state_at, CellGauges, Step}
-use Rattle.cell_plant.specs.Names.{IsRunBy}
-use Rattle.cell_plant.specs.declared.frame.Frame.{Frame}
-use Rattle.cell_plant.specs.declared.watcher.SeenFault.{SeenFault}
-use Rattle.cell_plant.specs.Frames.{IsCut, result_of}
+use Rattle.cell_plant.proofs.Names.{◌≡◌, ◌≢◌, ◌∙◌, ◌-◌, ◌<◌, ℕ, List, [], ◌∷◌, ◌++◌, drop, length, Some, None, Result, Ok, refl, sym, ap, subst, arith, length-drop, ModelState, IsStartState, TurnCall, RunRecord, Turn, CellScales, CellState}
+use Rattle.cell_plant.proofs.Names.{cell_at_start, SeesRun, SeesBeginning, IsShown, frame_of, frames_of, frames_after, RunMoment, StepsOn, Keeps, first_moment, state_at, CellGauges, Step, IsRunBy, Frame, SeenFault, IsCut, result_of}
+use Rattle.cell_parts.specs.Axes.{AreCellScales}
 use Rattle.cell_plant.proofs.RunSoFar.{RunSoFar, at_start, next_by, next_steps, tells, told_steps}
 
 -- some turns are left
@@ -25,8 +15,7 @@ some_left i ts l e = left_none (length ts) i l (sym (length-drop i ts) ∙ ap (�
 frames_push : (c : CellScales) (gives : CellGauges) (w : CellState) (ts : List Turn) (ss : List Step) (t : Turn) (s : Step) → IsRunBy c gives w ts ss → frames_after (ts ++ t ∷ []) (ss ++ s ∷ []) ≡ frames_after ts ss ++ frame_of (Some t) s.asked s.moved ∷ []
 frames_push c gives w [] [] t s r = refl
 frames_push c gives w (u ∷ ts) (x ∷ ss) t s r = ap (λ fs. frame_of (Some u) x.asked x.moved ∷ fs) (frames_push c gives x.moved ts ss t s r.1.1)
-frames_push c gives w [] (x ∷ ss) t s r = absurd r
-frames_push c gives w (u ∷ ts) [] t s r = absurd r
+frames_push c gives w _ _ t s r = absurd r
 
 module _ {W E G : Type 0} (sees : W → Frame → Result (Unit {0}) E → W → Type 0) (gives : G → CellGauges) where
   -- one more frame is shown

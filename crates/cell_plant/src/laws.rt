@@ -21,6 +21,7 @@ use cell_calib::Gauge;
 /// moved. Each axis stays within its ends, and the interlock meets what positions and motors
 /// demand, also for motors that an earlier turn left on. A run may have busy turns and failed
 /// allocations anywhere, and any reading that a calibration may give.
+#[tactic(auto, using(crate::proofs::SafeRuns::every_run))]
 pub fn every_run_is_safe()
     ensures { EveryRunIsSafe }
 {}
@@ -53,6 +54,7 @@ pub fn films_are_safe()
 /// thing: a collision, an axis past an end, one demand of a position or a motor (once a part has
 /// moved, or only once motors are set), a magnet that drops its plate, or an axis that is driven on
 /// at its end.
+#[tactic(auto, using(crate::proofs::SafetyRows::safety_examples))]
 pub fn unsafe_runs_are_refused()
     ensures { SafetyExamples }
 {}
@@ -68,6 +70,7 @@ pub fn wrong_runs_are_refused()
 /// A turn that an error ends leaves the motors and the belt of its machine off, and its magnets as
 /// they were switched last: once its actuators are set, and once its part has moved. Later turns of
 /// that machine change nothing.
+#[tactic(auto, using(crate::proofs::Resting::stopped_machines_rest))]
 pub fn stopped_machines_rest()
     ensures { (c : CellScales) → StoppedMachinesRest c }
 {}
@@ -84,18 +87,21 @@ pub fn wrong_records_are_refused()
 /// step before the turn, it shows nothing of the call, a busy turn is shown as refused or as not
 /// busy, a frame is left out, shown twice or too early, or two machines' axes are swapped. A watcher
 /// that keeps what it is shown has these frames; one that fails is shown no more.
+#[tactic(auto, using(crate::proofs::FrameRows::frame_examples))]
 pub fn wrong_films_are_refused()
     ensures { FrameExamples }
 {}
 
 /// The rows of the watch's program, by examples: it begins with a stop, resumes after it, and stops
 /// again. No refusal makes it wait, except while the cell is stopped.
+#[tactic(auto, using(crate::proofs::WatchRows::watch_rows))]
 pub fn watch_rows_are_met()
     ensures { WatchRowsAreMet }
 {}
 
 /// In each state of a run from a start, once the actuators are set as well, the watch has noted a
 /// stop exactly while the cell is stopped. So no call of the watch is refused except as worn.
+#[tactic(auto, using(crate::proofs::WatchRight::watch_notes))]
 pub fn watch_notes_the_mark()
     ensures { WatchNotesTheMark }
 {}

@@ -1,4 +1,4 @@
-//! What is wrong with a script or a configuration that is refused, in words. No contract says anything of these words.
+//! What is wrong with a script or a configuration that is refused, in words. No contract says anything of the words.
 #![tactic(auto)]
 
 mod call_words;

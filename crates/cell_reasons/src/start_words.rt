@@ -1,4 +1,6 @@
 //! What is wrong with record 0 of a script.
+ghost use Rattle.std.specs.Prelude.{◌≡◌, is_some};
+ghost use Rattle.cell_replay.specs.Versions.{version_of};
 
 use crate::fields::Field;
 use crate::records::{Record, line_ends, record_at};
@@ -61,8 +63,13 @@ fn is_header(alloc: Global, script: &[u8]) -> Result<bool, AllocError> {
 }
 
 /// Whether a field begins a script.
-pub fn is_version(field: &[u8]) -> bool {
-    VERSIONS.iter().any(|word| word.as_bytes() == field)
+pub fn is_version(field: &[u8]) -> bool
+    ensures { result ≡ is_some (version_of field.now) }
+{
+    if field == "start".as_bytes() {
+        return true;
+    }
+    field == "start2".as_bytes()
 }
 
 /// The field with this index.

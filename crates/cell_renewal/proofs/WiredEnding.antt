@@ -1,4 +1,4 @@
--- How a worker with devices of one's own ends.
+-- How a worker with devices of your own ends.
 use Rattle.std.proofs.Common.{◌≡◌, ◌≢◌, ◌<◌, ◌+◌, ◌⊎◌, inl, inr, ⊎_elim, ℕ, true, false, List, [], ◌∷◌, Option, Some, None, Result, Ok, Err, refl, sym, ap, subst, ◌∙◌, below_more, arith}
 use Rattle.cell_rules.specs.Types.{Call, Reply}
 use Rattle.cell_rules.specs.declared.heard.LineFault.{LineFault}

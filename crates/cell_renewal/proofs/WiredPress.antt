@@ -1,4 +1,4 @@
--- Cycles of a press with devices of one's own.
+-- Cycles of a press with devices of your own.
 use Rattle.std.proofs.Common.{◌≡◌, ◌≢◌, ℕ, ◌+◌, Bool, true, false, inl, inr, Option, Some, None, Result, Err, refl, sym, ap, subst, ◌∙◌}
 use Rattle.std.specs.Prelude.{IsSomeAnd}
 use Rattle.cell_rules.specs.Types.{Press, Call, Reply, Z3}

@@ -1,4 +1,4 @@
--- What a record tells of six workers with devices of one's own, by what each gave back.
+-- What a record tells of six workers with devices of your own, by what each gave back.
 use Rattle.std.proofs.Common.{◌≡◌, ◌≢◌, ℕ, List, [], ◌∷◌, Option, None, refl, sym, ◌∙◌, subst}
 use Rattle.std.specs.List.{All}
 use Rattle.std.proofs.lemmas.List.{append-nil}

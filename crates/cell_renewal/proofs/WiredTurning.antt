@@ -1,4 +1,4 @@
--- The cycles of a worker with devices of one's own, one by one.
+-- The cycles of a worker with devices of your own, one by one.
 use Rattle.std.proofs.Common.{◌≡◌, ℕ, Option, Some, None, refl, subst, inl, arith}
 use Rattle.cell_control.specs.Names.{Steps}
 use Rattle.cell_control.specs.declared.fault.CtlFault.{CtlFault}

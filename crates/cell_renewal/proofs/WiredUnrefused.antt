@@ -1,4 +1,4 @@
--- A worker with devices of one's own stands at a step of its program after each turn, so none of six ends as refused.
+-- A worker with devices of your own stands at a step of its program after each turn, so none of six ends as refused.
 use Rattle.std.proofs.Common.{◌≡◌, ℕ, ◌+◌, false, inl, inr, Option, None, refl, sym, ap, ◌∙◌, subst}
 use Rattle.cell_rules.specs.Types.{Machine, Feed, Table, Robot, Press, Deposit, Crane, Watch, same_machine}
 use Rattle.cell_rules.specs.ModelState.{ModelState}

@@ -1,4 +1,4 @@
--- What holds of a worker with devices of one's own: the statements.
+-- What holds of a worker with devices of your own: the statements.
 use Rattle.std.specs.Prelude.{◌≡◌, ◌≢◌, ◌+◌, ◌<◌, ◌≤◌, ℕ, true, false, Option, Some, None, IsSomeAnd}
 use Rattle.cell_rules.specs.Types.{Press, Z3}
 use Rattle.cell_calib.specs.declared.sense.PressSense.{PressSense}
@@ -56,7 +56,7 @@ told_clash = record { act = record { press = Off }; fault = Some (Sensor Clash) 
 abbrev pub told_unread : Told PressAct
 told_unread = at_rest_by (record { press = Off })
 
--- Cycles of a press with devices of one's own. Stopped, it takes none, nor if its gate refuses. If its devices can show
+-- Cycles of a press with devices of your own. Stopped, it takes none, nor if its gate refuses. If its devices can show
 -- nothing but that it is both at the bottom and at the top, they are set so that its motor is off; it makes no call,
 -- and stops. If they can show nothing at all, its motor is off too; it makes no call, and goes on where it was. While
 -- it is told to switch its motor on, it holds its interior, which moves.

@@ -1,4 +1,4 @@
--- What a record says of six workers with devices of one's own, each by the program of its machine.
+-- What a record says of six workers with devices of your own, each by the program of its machine.
 use Rattle.std.specs.Prelude.{◌≡◌, ◌≢◌, ℕ, List, [], ◌∷◌, Option, None, Some}
 use Rattle.cell_rules.specs.Types.{Machine, Feed, Table, Robot, Press, Deposit, Crane, Event, journal_of}
 use Rattle.cell_calib.specs.declared.gauge.Gauge.{Ghosts}

@@ -1,4 +1,4 @@
--- Six workers with devices of one's own, one for each machine of the cell: a refusal stops none of them.
+-- Six workers with devices of your own, one for each machine of the cell: a refusal stops none of them.
 use Rattle.std.specs.Prelude.{◌≢◌, ℕ, List, Option, None}
 use Rattle.cell_rules.specs.Types.{Machine, Feed, Table, Robot, Press, Deposit, Crane, Event}
 use Rattle.cell_rules.specs.Names.{Waits, IsStartState, IsLegal}

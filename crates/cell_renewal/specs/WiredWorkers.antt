@@ -1,4 +1,4 @@
--- A worker with devices of one's own: its machine's turns, and how they end.
+-- A worker with devices of your own: its machine's turns, and how they end.
 use Rattle.std.specs.Prelude.{◌≡◌, ◌≢◌, ◌+◌, ◌⊎◌, ℕ, true, Option, Some, None}
 use Rattle.cell_interlock.specs.Views.{PassView}
 use Rattle.cell_interlock.specs.Lines.{PassAsks}

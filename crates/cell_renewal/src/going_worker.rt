@@ -13,7 +13,7 @@ use cell_workers::{Gate, Worker, WorkerResult};
 use std::alloc::Global;
 use std::marker::Model;
 
-/// A machine that may go on where it was, with devices of one's own.
+/// A machine that may go on where it was, with devices of your own.
 #[derive(Drop)]
 pub struct GoingWorker<P: Program, D> {
     machine: Unwired<P>,

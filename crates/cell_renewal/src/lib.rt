@@ -1,4 +1,4 @@
-//! Machines with devices of one's own as workers, and six workers over one interlock after another.
+//! Machines with devices of your own as workers, and six workers over one interlock after another.
 #![tactic(auto)]
 
 pub mod going_worker;

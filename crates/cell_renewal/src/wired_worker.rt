@@ -1,4 +1,4 @@
-//! A machine with sensors and actuators of one's own, as a worker.
+//! A machine with sensors and actuators of your own, as a worker.
 ghost use Rattle.std.specs.Prelude.{◌≡◌, ◌≢◌, ◌+◌, ◌<◌, None, true};
 ghost use Rattle.cell_interlock.specs.Lines.{PassAsks};
 ghost use Rattle.cell_interlock.specs.Seen.{IsSamePass};
@@ -44,7 +44,7 @@ pub trait Devices: Drop {
         ensures { sets self.old told.now self.new };
 }
 
-/// A machine at the start of its program, with devices of one's own.
+/// A machine at the start of its program, with devices of your own.
 #[derive(Drop)]
 pub struct WiredWorker<P, D> {
     /// The machine's program.

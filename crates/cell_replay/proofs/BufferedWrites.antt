@@ -1,8 +1,7 @@
 -- What a buffered writer does to the bytes of its output.
-use Rattle.std.proofs.Common.{ℕ, ◌≡◌, ◌≤◌, List, [], ◌++◌, length, take, drop, option_map, Option, Some, None, Result, Ok, Err, refl, sym, ◌∙◌, ap, subst, arith, append_assoc, append-nil, length-take}
+use Rattle.std.proofs.Common.{ℕ, ◌≡◌, ◌≤◌, List, [], ◌++◌, length, take, drop, Option, Some, None, Result, Ok, Err, refl, sym, ◌∙◌, ap, subst, arith, append_assoc, append-nil, length-take}
 use Rattle.std.specs.List.{concat}
 use Rattle.std.specs.Io.KnownBytes.{Appends, Keeps, append_known}
-use Rattle.std.proofs.KnownBytes.{Appends-kept}
 use Rattle.std.proofs.Math.Seq.{drop-append_seam}
 use Rattle.std.proofs.lemmas.List.{take-append-drop, take-append-le, take_all}
 use Rattle.std.proofs.lemmas.List.Folds.{concat-append}
@@ -17,29 +16,18 @@ use Rattle.cell_replay.proofs.Writings.{prefix-more, kept-none}
 
 -- The bytes of the output only grow.
 
-pub grown-none : (known now : Option (List ℕ)) → now ≡ known → IsGrown known now
-grown-none known now same xs is = ap (option_map (take (length xs))) (same ∙ is) ∙ ap Some (take_all (length xs) xs (omega arith))
-
 pub grown-more : (known old new : Option (List ℕ)) (part : List ℕ) → IsGrown known old → Appends old new part → IsGrown known new
-grown-more known old new part grown wrote xs is = more xs old new (grown xs is) wrote
-  where
-    more : (xs : List ℕ) (old new : Option (List ℕ)) → option_map (take (length xs)) old ≡ Some xs → Appends old new part → option_map (take (length xs)) new ≡ Some xs
-    more xs None new h wrote = let none : None ≡ Some xs = h in absurd (cc)
-    more xs (Some ys) None h wrote = absurd wrote
-    more xs (Some ys) (Some zs) h wrote =
-        let same : take (length xs) ys ≡ xs = same_Some _ _ h in
-        let size : length xs ≤ length ys = omega (arith, ap length same, length-take (length xs) ys) in
-        ap Some (ap (take (length xs)) wrote ∙ take-append-le (length xs) ys part size ∙ same)
+grown-more known None new part grown wrote xs is = let none : None ≡ Some xs = grown xs is in absurd (cc)
+grown-more known (Some ys) None part grown wrote xs is = absurd wrote
+grown-more known (Some ys) (Some zs) part grown wrote xs is =
+    let same : take (length xs) ys ≡ xs = same_Some _ _ (grown xs is) in
+    let size : length xs ≤ length ys = omega (arith, ap length same, length-take (length xs) ys) in
+    ap Some (ap (take (length xs)) wrote ∙ take-append-le (length xs) ys part size ∙ same)
 
-pub grown-kept : (known old new : Option (List ℕ)) → IsGrown known old → Keeps old new → IsGrown known new
-grown-kept known old new grown keeps = grown-more known old new [] grown (kept-none old new keeps)
+pub still_grown : (known old new : Option (List ℕ)) → IsGrown known old → Keeps old new → IsGrown known new
+still_grown known old new grown keeps = grown-more known old new [] grown (kept-none old new keeps)
 
 -- What waits is empty.
-
-pub nothing-waits : (old real : Option (List ℕ)) (waiting : List ℕ) → waiting ≡ [] → Keeps old (append_known real waiting) → Keeps old real
-nothing-waits None real waiting none keeps = tt
-nothing-waits (Some xs) None waiting none keeps = absurd keeps
-nothing-waits (Some xs) (Some ys) waiting none keeps = sym (append-nil ys) ∙ ap (λ l. ys ++ l) (sym none) ∙ keeps
 
 pub append_known-none : (known : Option (List ℕ)) (waiting : List ℕ) → waiting ≡ [] → append_known known waiting ≡ known
 append_known-none None waiting none = refl
@@ -85,17 +73,6 @@ script-prefix bytes old new (Err Write) h = h
 pub script-cut : (bytes : List ℕ) (known old real : Option (List ℕ)) (waiting : List ℕ) (r : Result Outcome ReplayFault) → IsGrown known real → Keeps old (append_known real waiting) → WritesScript bytes known old r
     → WritesScript bytes known real (Err Write)
 script-cut bytes known old real waiting r grown keeps h = prefix-out known old real waiting (script_text bytes) grown keeps (script-prefix bytes known old r h)
-
-pub script-kept : (bytes : List ℕ) (old mid new : Option (List ℕ)) (r : Result Outcome ReplayFault) → WritesScript bytes old mid r → Keeps mid new → WritesScript bytes old new r
-script-kept bytes old mid new (Ok o) h keeps = (h.0, Appends-kept old mid new (script_text bytes) h.1 keeps)
-script-kept bytes old mid new (Err Read) h keeps = (h.0, Appends-kept old mid new _ h.1 keeps)
-script-kept bytes old mid new (Err Memory) h keeps = (h.0, Appends-kept old mid new _ h.1 keeps)
-script-kept bytes old mid new (Err Write) h keeps = (h.0, Appends-kept old mid new _ h.1 keeps)
-
--- the output has all that was written
-pub script-out : (bytes : List ℕ) (known old real : Option (List ℕ)) (waiting : List ℕ) (r : Result Outcome ReplayFault) → waiting ≡ [] → Keeps old (append_known real waiting) → WritesScript bytes known old r
-    → WritesScript bytes known real r
-script-out bytes known old real waiting r none keeps h = script-kept bytes known old real r h (nothing-waits old real waiting none keeps)
 
 pub script-same : (bytes : List ℕ) (old old2 new new2 : Option (List ℕ)) (r : Result Outcome ReplayFault) → old ≡ old2 → new ≡ new2 → WritesScript bytes old new r → WritesScript bytes old2 new2 r
 script-same bytes old old2 new new2 r before after h = subst (λ b. WritesScript bytes old2 b r) after (subst (λ a. WritesScript bytes a new r) before h)

@@ -8,7 +8,6 @@ use Rattle.std.specs.Io.KnownBytes.{Appends}
 use Rattle.cell_rules.specs.Types.{Event, answer_text}
 use Rattle.cell_rules.specs.Names.{ModelState, next, after}
 use Rattle.cell_rules.specs.FirstVersion as rules
-use Rattle.cell_rules.specs.FirstVersion.{IsAsInFirstVersion}
 use Rattle.cell_rules.proofs.FirstVersion as stays
 use Rattle.cell_replay.specs.Requests.{Row, call_of, request_of}
 use Rattle.cell_replay.specs.Script.{end_of, end_text, event_line, event_lines, events_from, history_of, is_cut_of, line_of, lines_from, max_records, outcome_from, requests_in, rows_lines, rows_outcome, script_lines, script_outcome, script_rows, script_text, start_by, start_fields, start_in, start_of_version}
@@ -54,14 +53,11 @@ requests_in-old (row ∷ rows) = old_first (request_of First row) (requests_in F
 
 -- The history. The cell isn't stopped in any of its states.
 
-step : (s : ModelState) (r : Request) → s.stopped ≡ false → rules.has_call r.call ≡ true → IsAsInFirstVersion s r.machine r.call
-step s r goes has = stays.first_version s r.machine r.call goes has
-
 history_of-same : (s : ModelState) (rs : List Request) → s.stopped ≡ false → AreOld rs → history_of s rs ≡ first_history_of s rs
 unfolding history_of first_history_of
 history_of-same s [] goes old = refl
 history_of-same s (r ∷ rs) goes old =
-    let stays_so = step s r goes old.0 in
+    let stays_so = stays.first_version s r.machine r.call goes old.0 in
     let rest = history_of-same (next s r.machine r.call) rs stays_so.unmarked old.1 ∙ ap (λ t. first_history_of t rs) stays_so.left in
     ap₂ (λ a events. (record { machine = r.machine; call = r.call; answer = a }) ∷ events) stays_so.answer rest
 
@@ -71,7 +67,7 @@ after-same s [] zero goes old = refl
 after-same s [] (suc n) goes old = refl
 after-same s (r ∷ rs) zero goes old = refl
 after-same s (r ∷ rs) (suc n) goes old =
-    let stays_so = step s r goes old.0 in
+    let stays_so = stays.first_version s r.machine r.call goes old.0 in
     after-same (next s r.machine r.call) rs n stays_so.unmarked old.1 ∙ ap (λ t. first_after t (take n (history_of (next s r.machine r.call) rs))) stays_so.left
 
 -- The lines.
@@ -127,12 +123,12 @@ text_of_rows is_cut [] other = refl
 text_of_rows is_cut ([] ∷ rows) other = refl
 text_of_rows is_cut ((word ∷ fields) ∷ rows) other = by_word is_cut (bytes_eq word (codes "start")) (bytes_eq word (codes "start2")) fields rows other
 
-pub first_text-same : (bytes : List ℕ) → IsOfFirstVersion bytes → script_text bytes ≡ first_script_text bytes
+pub first_text_stays : (bytes : List ℕ) → IsOfFirstVersion bytes → script_text bytes ≡ first_script_text bytes
 unfolding script_text script_lines script_outcome first_script_text
-first_text-same bytes other = text_of_rows (is_cut_of bytes) (script_rows bytes) other
+first_text_stays bytes other = text_of_rows (is_cut_of bytes) (script_rows bytes) other
 
 pub written-first : (o : Option (List ℕ)) (old new : Option (List ℕ)) (r : Result Outcome ReplayFault) → ((bytes : List ℕ) → o ≡ Some bytes → WritesScript bytes old new r)
     → OnOk r (IfSome o (λ bytes. IsOfFirstVersion bytes → Appends old new (first_script_text bytes)))
-written-first (Some bytes) old new (Ok x) f = λ other. rw (← first_text-same bytes other) (f bytes refl).1
+written-first (Some bytes) old new (Ok x) f = λ other. rw (← first_text_stays bytes other) (f bytes refl).1
 written-first None old new (Ok x) f = tt
 written-first o old new (Err fault) f = tt

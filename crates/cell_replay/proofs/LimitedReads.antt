@@ -1,7 +1,7 @@
 -- What a read does to a limited reader.
-use Rattle.std.proofs.Common.{ℕ, zero, suc, false, ◌∷◌, ◌≡◌, ◌<◌, ◌≤◌, ◌+◌, ◌-◌, List, [], length, take, drop, nat_lt, option_map, Option, Some, None, refl, sym, ◌∙◌, ap, arith, length-append, length-take, length-drop, append-nil, Bool}
+use Rattle.std.proofs.Common.{ℕ, zero, suc, ◌≡◌, ◌<◌, ◌≤◌, ◌+◌, ◌-◌, List, [], length, take, drop, nat_lt, option_map, Option, Some, None, refl, sym, ◌∙◌, ap, arith, length-append, length-take, length-drop, append-nil, Bool}
 use Rattle.std.proofs.Math.Seq.{drop-append_seam, take-append-add}
-use Rattle.std.proofs.lemmas.List.{drop-drop}
+use Rattle.std.proofs.lemmas.List.{drop-drop, take_all}
 use Rattle.std.proofs.lemmas.Option.{same_Some}
 use Rattle.std.proofs.lemmas.Bool.Decides.{nat_tests}
 use Rattle.std.proofs.lemmas.List.{take-append-drop}
@@ -38,28 +38,12 @@ pub handed-all : (old new : Option (List ℕ)) (k : ℕ) (part : List ℕ) → l
 handed-all None None k part size h end = (tt, tt)
 handed-all None (Some ys) k part size h end = (tt, refl)
 handed-all (Some xs) None k part size h end = absurd h
-handed-all (Some xs) (Some ys) k part size h end = (rw (h, end, append-nil part) (all part k size), refl)
-  where
-    all : (part : List ℕ) (k : ℕ) → length part ≡ 0 → take k part ≡ part
-    all [] zero none = refl
-    all [] (suc k) none = refl
-    all (x ∷ part) k none = absurd (omega (arith, none))
+handed-all (Some xs) (Some ys) k part size h end = (rw (h, end, append-nil part) (take_all k part (omega (arith, size))), refl)
 
 -- nothing is left
 none-at_end : (xs : List ℕ) (new : Option (List ℕ)) → new ≡ Some xs → IsAtEnd new → length xs ≡ 0
 none-at_end xs None is end = absurd (cc)
 none-at_end xs (Some ys) is end = ap length (sym (same_Some ys xs is) ∙ end)
-
--- at the end of the input, within the limit, there aren't more bytes than are used
-pub noted-end : (known left : Option (List ℕ)) (t : ℕ) → t ≤ byte_limit → IsTaken known left t → IsAtEnd left → IsNoted known (Some false)
-noted-end known left t within taken end is_cut e bytes is =
-    let b = taken bytes is in
-    let none = none-at_end (drop t bytes) left b.1 end in
-    let size = length-drop t bytes in
-    sym (same_Some _ _ e) ∙ no_more (length bytes) (omega (arith, none, size, within))
-  where
-    no_more : (n : ℕ) → n ≤ byte_limit → false ≡ nat_lt byte_limit n
-    no_more n few = grind (arith, nat_tests)
 
 -- a byte past the limit shows that there are more bytes than are used
 pub noted-beyond : (known old new : Option (List ℕ)) (t n : ℕ) (part : List ℕ) → t ≡ byte_limit → length part ≡ n → IsTaken known old t → Consumes old new part → (n ≡ 0 → IsAtEnd new)

@@ -1,4 +1,5 @@
 -- The lines of a script in order, and what another record adds.
+use Rattle.std.proofs.lemmas.List.{length_push}
 use Rattle.std.proofs.Common.{ℕ, suc, ◌≡◌, ◌≤◌, ◌+◌, List, [], ◌∷◌, ◌++◌, Option, Some, None, length, map, take, refl, sym, ◌∙◌, ap, ap₂, arith, append_assoc}
 use Rattle.std.specs.List.{enumerate_from}
 use Rattle.std.specs.Option.{option_map_or}
@@ -15,10 +16,6 @@ after-append : (s : ModelState) (a b : List Event) → after s (a ++ b) ≡ afte
 after-append s [] b = refl
 after-append s (e ∷ a) b = after-append (next s e.machine e.call) a b
 
-one_more : (xs : List Event) (x : Event) → length (xs ++ x ∷ []) ≡ length xs + 1
-one_more [] x = refl
-one_more (y ∷ ys) x = omega (arith, one_more ys x)
-
 -- the lines of the events that follow earlier ones
 lines-after : (s now : ModelState) (h before : List Event) (n : ℕ) (rs : List Request) → now ≡ after s before → n ≡ length before → h ≡ before ++ history_of now rs
     → map (event_line s h) (enumerate_from (n + 1) (history_of now rs)) ≡ lines_after n now rs
@@ -27,7 +24,7 @@ lines-after s now h before n [] state count whole = refl
 lines-after s now h before n (r ∷ rs) state count whole =
     let front : List Event = before ++ event_of now r ∷ [] in
     let rest : List Event = history_of (next now r.machine r.call) rs in
-    let more : n + 1 ≡ length front = omega (arith, one_more before (event_of now r)) in
+    let more : n + 1 ≡ length front = omega (arith, length_push before (event_of now r)) in
     let split : h ≡ front ++ rest = whole ∙ sym (append_assoc before (event_of now r ∷ []) rest) in
     let taken : take (n + 1) h ≡ front = ap₂ take more split ∙ take-append_seam front rest in
     let there : next now r.machine r.call ≡ after s front = ap (λ t. next t r.machine r.call) state ∙ sym (after-append s before (event_of now r ∷ [])) in

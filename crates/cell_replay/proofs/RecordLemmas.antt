@@ -1,6 +1,6 @@
 -- What a record takes of a text.
 use Rattle.std.proofs.Common.{ℕ, ◌≡◌, ◌+◌, ◌-◌, ◌≤◌, Bool, true, false, cond, List, [], ◌∷◌, length, Some, None, refl, sym, ◌∙◌, arith, ◌==◌, ◌&&◌, ◌⊎◌, inl, inr}
-use Rattle.std.proofs.lemmas.Bool.{false≢true}
+use Rattle.std.proofs.lemmas.Bool.{cond_both, false≢true}
 use Rattle.std.proofs.lemmas.Option.{same_Some}
 use Rattle.csv.specs.Machine.{Read, after_end, ends_at_end, ends_with, fields_after, field_after, in_field, is_byte, is_end, next_record, start_field, start_record, step}
 use Rattle.csv.specs.declared.parser.Config.{Config}
@@ -16,18 +16,13 @@ abbrev EndsBetween : State × Action → Type 0
 EndsBetween p = is_end p.1 ≡ true → ends_at_end p.0 ≡ false
 
 either : (b : Bool) (x y : State × Action) → EndsBetween x → EndsBetween y → EndsBetween (cond b x y)
-either true x y hx hy = hx
-either false x y hx hy = hy
+either b x y hx hy = cond_both b x y EndsBetween (λ _. hx) (λ _. hy)
 
 no_end : (s : State) (a : Action) → is_end a ≡ false → EndsBetween (s, a)
 no_end s a goes ends = let bad : false ≡ true = sym goes ∙ ends in absurd (false≢true bad)
 
 after_end-between : (t : Terminator) (c : ℕ) → ends_at_end (after_end t c) ≡ false
-after_end-between term.CRLF c = between_either (c == 13)
-  where
-    between_either : (b : Bool) → ends_at_end (cond b st.AfterCr st.StartRecord) ≡ false
-    between_either true = refl
-    between_either false = refl
+after_end-between term.CRLF c = cond_both (c == 13) st.AfterCr st.StartRecord (λ s. ends_at_end s ≡ false) (λ _. refl) (λ _. refl)
 after_end-between (term.Any t) c = refl
 
 in_field-between : (cfg : Config) (c : ℕ) → EndsBetween (in_field cfg c)

@@ -1,10 +1,10 @@
 -- A record has a request of a version exactly if its fields write that request, and the version has its call.
-use Rattle.std.proofs.Common.{ℕ, ◌≡◌, ◌<◌, ◌≤◌, Bool, true, false, cond, List, [], ◌∷◌, length, Option, Some, None, MatchOption, refl, sym, ◌∙◌, ap, ap₂, ◌↔◌, arith, subst}
+use Rattle.std.proofs.Common.{ℕ, ◌≡◌, ◌<◌, ◌≤◌, Bool, true, List, [], ◌∷◌, length, Option, Some, None, MatchOption, refl, inl, inr, sym, ◌∙◌, ap, ap₂, ◌↔◌, arith, subst}
 use Rattle.std.specs.Bool.{then_some}
 use Rattle.std.specs.List.{find, list_all}
 use Rattle.std.specs.Str.{bytes_eq}
 use Rattle.std.specs.Cmp.Lexicographic.{pointwise}
-use Rattle.std.proofs.lemmas.Bool.{and_parts}
+use Rattle.std.proofs.lemmas.Bool.{and_parts, cases_Bool}
 use Rattle.std.proofs.lemmas.Option.{same_Some}
 use Rattle.std.proofs.lemmas.Slice.Eq.{bytes_eq-Decides, slice_eq-Decides}
 use Rattle.csv.specs.Records.{field_at}
@@ -22,23 +22,17 @@ use Rattle.cell_replay.specs.declared.version.Version.TheVariants.{First, Second
 
 -- What is found.
 
-found_step : {A : Type 0} (test : A → Bool) (y x : A) (ys : List A) (b : Bool) → test y ≡ b → cond b (Some y) (find test ys) ≡ Some x → (find test ys ≡ Some x → test x ≡ true) → test x ≡ true
-found_step test y x ys true is e rest = rw (← same_Some y x e) is
-found_step test y x ys false is e rest = rest e
-
 -- it passes the test
 found_passes : {A : Type 0} (test : A → Bool) (xs : List A) (x : A) → find test xs ≡ Some x → test x ≡ true
 found_passes test [] x e = absurd (cc)
-found_passes test (y ∷ ys) x e = found_step test y x ys (test y) refl e (found_passes test ys x)
-
-has_step : {A : Type 0} (test has : A → Bool) (y x : A) (ys : List A) (b : Bool) → cond b (Some y) (find test ys) ≡ Some x → has y ≡ true → (find test ys ≡ Some x → has x ≡ true) → has x ≡ true
-has_step test has y x ys true e first rest = rw (← same_Some y x e) first
-has_step test has y x ys false e first rest = rest e
+found_passes test (y ∷ ys) x e = elim (cases_Bool (test y)) [ inl t ↦ rw (← same_Some y x (rw t at e)) t | inr f ↦ found_passes test ys x (rw f at e) ]
 
 -- it has what each element has
 found_has : {A : Type 0} (test has : A → Bool) (xs : List A) (x : A) → list_all has xs ≡ true → find test xs ≡ Some x → has x ≡ true
 found_has test has [] x all e = absurd (cc)
-found_has test has (y ∷ ys) x all e = (let parts = and_parts (has y) (list_all has ys) all in has_step test has y x ys (test y) e parts.0 (found_has test has ys x parts.1))
+found_has test has (y ∷ ys) x all e =
+    let parts = and_parts (has y) (list_all has ys) all in
+    elim (cases_Bool (test y)) [ inl t ↦ rw (← same_Some y x (rw t at e)) parts.0 | inr f ↦ found_has test has ys x parts.1 (rw f at e) ]
 
 -- Machines.
 
@@ -139,14 +133,13 @@ abbrev pub of_version : Version → Option Request → Option Request
 of_version version None = None
 of_version version (Some r) = then_some (has_call version r.call) r
 
-kept_if : (b : Bool) (x r : Request) → then_some b x ≡ Some r → (b ≡ true) × (x ≡ r)
-kept_if true x r e = (refl, same_Some x r e)
-kept_if false x r e = absurd (cc)
-
 kept : (version : Version) (o : Option Request) (r : Request) → (of_version version o ≡ Some r) ↔ ((o ≡ Some r) × (has_call version r.call ≡ true))
 kept version None r = (λ e. absurd (cc), λ w. let e = w.0 in absurd (cc))
 kept version (Some x) r = (
-  λ e. let is = kept_if (has_call version x.call) x r e in (ap Some is.1, subst (λ (y : Request). has_call version y.call ≡ true) is.1 is.0),
+  λ e. elim (cases_Bool (has_call version x.call)) [
+    | inl has ↦ let same = same_Some x r (rw has at e) in (ap Some same, subst (λ (y : Request). has_call version y.call ≡ true) same has)
+    | inr not ↦ let bad : None ≡ Some r = rw not at e in absurd (cc)
+  ],
   λ w. let same = same_Some x r w.0 in rw (same, w.1) refl,
 )
 
@@ -181,22 +174,18 @@ fields_are (a ∷ b ∷ c ∷ []) word verb object short e f g = rw g (ap₂ (λ
 fields_are (a ∷ b ∷ c ∷ d ∷ fields) word verb object short e f g = absurd (omega arith)
 
 -- a word and a call that were read, or not
-read_as : (fields : Row) (word verb : List ℕ) (object : Option (List ℕ)) (o : Option Machine) (p : Option Call) → fields ≡ word ∷ with_object verb object
-    → ((m : Machine) → (o ≡ Some m) ↔ (word ≡ machine_word m)) → ((c : Call) → (p ≡ Some c) ↔ (with_object verb object ≡ call_fields c))
-    → (r : Request) → (request_by o p ≡ Some r) ↔ (fields ≡ request_fields r)
-read_as fields word verb object o p is machine call r = (
-  λ e. let found = request_by-is o p r e in is ∙ ap₂ (λ w fs. w ∷ fs) ((machine r.machine).0 found.0) ((call r.call).0 found.1),
-  λ e.
-      let both : word ∷ with_object verb object ≡ machine_word r.machine ∷ call_fields r.call = sym is ∙ e in
-      let first : word ≡ machine_word r.machine = cc in
-      let rest : with_object verb object ≡ call_fields r.call = cc in
-      rw ((machine r.machine).1 first, (call r.call).1 rest) refl,
-)
-
 pub read_whole : (fields : Row) (word verb : List ℕ) (object : Option (List ℕ)) (m : Machine) (p : Option Call) → length fields ≤ 3 → field_at fields 0 ≡ Some word → field_at fields 1 ≡ Some verb
     → object ≡ field_at fields 2 → ((n : Machine) → (Some m ≡ Some n) ↔ (word ≡ machine_word n)) → ((c : Call) → (p ≡ Some c) ↔ (with_object verb object ≡ call_fields c))
     → (r : Request) → (request_by (Some m) p ≡ Some r) ↔ (fields ≡ request_fields r)
-read_whole fields word verb object m p short e f g machine call = read_as fields word verb object (Some m) p (fields_are fields word verb object short e f g) machine call
+read_whole fields word verb object m p short e f g machine call r =
+    let is = fields_are fields word verb object short e f g in (
+      λ e. let found = request_by-is (Some m) p r e in is ∙ ap₂ (λ w fs. w ∷ fs) ((machine r.machine).0 found.0) ((call r.call).0 found.1),
+      λ e.
+          let both : word ∷ with_object verb object ≡ machine_word r.machine ∷ call_fields r.call = sym is ∙ e in
+          let first : word ≡ machine_word r.machine = cc in
+          let rest : with_object verb object ≡ call_fields r.call = cc in
+          rw ((machine r.machine).1 first, (call r.call).1 rest) refl,
+    )
 
 refused : (fields : Row) → ((r : Request) → fields ≡ request_fields r → ⊥) → (r : Request) → (None ≡ Some r) ↔ (fields ≡ request_fields r)
 refused fields never r = (λ e. absurd (cc), λ e. absurd (never r e))

@@ -85,35 +85,10 @@ used-one : (row : Row) → used true (row ∷ []) ≡ []
 used-one row = refl
 
 -- the record that was held back is given, and the next one is held back if there is one
-pub left-next : {R : Type 0} (remaining : R → Option (List ℕ)) (is_cut : Bool) (reader : Reader R) (holds : Bool) (row held : Row) (noted : Bool) (rows left : List Row)
-    → GivesRow holds held rows noted is_cut (HasRows remaining reader) → left ≡ used is_cut (row ∷ rows)
-    → GivesRow (holds || not noted) row left noted is_cut (RowsLeft remaining is_cut reader holds held noted)
-left-next remaining is_cut reader true row held noted rows left h is =
-    (used is_cut (held ∷ h.0), is ∙ ap (λ r. used is_cut (row ∷ r)) h.1 ∙ used-more is_cut row held h.0, (h.0, h.2, refl))
-left-next remaining true reader false row held noted rows left h is = rw h.0 (refl, is ∙ ap (λ r. used true (row ∷ r)) h.1 ∙ used-one row)
-left-next remaining false reader false row held noted rows left h is = rw h.0 ([], is ∙ ap (λ r. row ∷ r) h.1, (refl, refl))
-
--- none is held back
-pub left-none : {R : Type 0} (remaining : R → Option (List ℕ)) (is_cut : Bool) (reader : Reader R) (holds : Bool) (row held : Row) (noted : Bool) (left : List Row) → holds ≡ false
-    → RowsLeft remaining is_cut reader holds held noted left → GivesRow false row left noted is_cut (RowsLeft remaining is_cut reader holds held noted)
-left-none remaining is_cut reader true row held noted left none h = absurd (cc)
-left-none remaining is_cut reader false row held noted left none h = h
-
--- one is held back
-pub left-held : {R : Type 0} (remaining : R → Option (List ℕ)) (is_cut : Bool) (reader : Reader R) (holds : Bool) (held : Row) (noted : Bool) (left : List Row) → holds ≡ true
-    → RowsLeft remaining is_cut reader holds held noted left → (rows : List Row) × HasRows remaining reader rows × (left ≡ used is_cut (held ∷ rows))
-left-held remaining is_cut reader true held noted left some h = h
-left-held remaining is_cut reader false held noted left some h = absurd (cc)
-
 pub left-found : {R : Type 0} (remaining : R → Option (List ℕ)) (is_cut : Bool) (reader : Reader R) (holds : Bool) (row held : Row) (noted : Bool) (rows left : List Row) (found : Bool)
     → GivesRow holds held rows noted is_cut (HasRows remaining reader) → left ≡ used is_cut (row ∷ rows) → (holds || not noted) ≡ found
     → GivesRow found row left noted is_cut (RowsLeft remaining is_cut reader holds held noted)
-left-found remaining is_cut reader holds row held noted rows left found h is e = rw (← e) (left-next remaining is_cut reader holds row held noted rows left h is)
-
-pub gives-none : (found : Bool) (row : Row) (left : List Row) (noted is_cut : Bool) (After : List Row → Type 0) → found ≡ false → GivesRow found row left noted is_cut After → (noted ≡ is_cut) × (left ≡ [])
-gives-none true row left noted is_cut After none h = absurd (cc)
-gives-none false row left noted is_cut After none h = h
-
-pub gives-some : (found : Bool) (row : Row) (left : List Row) (noted is_cut : Bool) (After : List Row → Type 0) → found ≡ true → GivesRow found row left noted is_cut After → (rest : List Row) × (left ≡ row ∷ rest) × After rest
-gives-some true row left noted is_cut After some h = h
-gives-some false row left noted is_cut After some h = absurd (cc)
+left-found remaining is_cut reader true row held noted rows left found h is e =
+    rw (← e) (used is_cut (held ∷ h.0), is ∙ ap (λ r. used is_cut (row ∷ r)) h.1 ∙ used-more is_cut row held h.0, (h.0, h.2, refl))
+left-found remaining true reader false row held noted rows left found h is e = rw (← e, h.0) (refl, is ∙ ap (λ r. used true (row ∷ r)) h.1 ∙ used-one row)
+left-found remaining false reader false row held noted rows left found h is e = rw (← e, h.0) ([], is ∙ ap (λ r. row ∷ r) h.1, (refl, refl))

@@ -2,6 +2,7 @@
 use Rattle.std.proofs.Common.{ℕ, ◌≡◌, ◌<◌, ◌≤◌, ◌+◌, Bool, true, false, cond, List, [], ◌∷◌, Result, Ok, Err, IfOk, length, take, drop, min, nat_lt, nat_le, refl, ◌∙◌, arith, Option, Some, None, ◌==◌, ◌&&◌, not, MatchResult, ◌⊎◌, inl, inr}
 use Rattle.std.specs.Prelude.{⊤}
 use Rattle.std.specs.List.{enumerate_from}
+use Rattle.std.proofs.lemmas.Bool.{and_parts, cond_both, eqb-true, leb-true, ltb-false, ltb-true, not-true}
 use Rattle.std.proofs.lemmas.Bool.Decides.{nat_tests}
 use Rattle.std.proofs.lemmas.List.{length-take, length-map}
 use Rattle.std.proofs.lemmas.List.FromFn.{length-enumerate_from}
@@ -30,25 +31,14 @@ legal-script_events bytes = legal-events_from (rows_start (is_cut_of bytes) (scr
 
 -- The start.
 
-and_parts : (a b : Bool) → (a && b) ≡ true → (a ≡ true) × (b ≡ true)
-and_parts true b e = (refl, e)
-and_parts false b e = absurd (cc)
-
-not_true : (b : Bool) → not b ≡ true → b ≡ false
-not_true true e = absurd (cc)
-not_true false e = refl
-
-le_true : (a b : ℕ) → nat_le a b ≡ true → a ≤ b
-le_true a b e = grind (arith, nat_tests)
-
 start_tested : (full : PlaceSet) (stamp : ℕ) → is_start full stamp ≡ true → IsStart full stamp
 start_tested full stamp e =
     let all = and_parts (nat_le (size_of full) 6 && not (has full PressIn && has full PressOut)) (nat_le stamp last_stamp) e in
     let first = and_parts (nat_le (size_of full) 6) (not (has full PressIn && has full PressOut)) all.0 in
     record {
-      six_plates_at_most = le_true (size_of full) 6 first.0;
-      one_in_press_at_most = not_true (has full PressIn && has full PressOut) first.1;
-      stamp_in_range = le_true stamp last_stamp all.1;
+      six_plates_at_most = leb-true (size_of full) 6 first.0;
+      one_in_press_at_most = not-true (has full PressIn && has full PressOut) first.1;
+      stamp_in_range = leb-true stamp last_stamp all.1;
     }
 
 -- a start that was checked is valid, and a fault of record 0 is no bad row; it is too many bytes only if the script is
@@ -65,12 +55,9 @@ IsState0 is_cut state = MatchResult state IsStartState (IsEarly is_cut)
 abbrev pub IsRecord0 : Bool → Result Start ScriptFault → Type 0
 IsRecord0 is_cut start = MatchResult start (λ given. IsStartState given.state) (IsEarly is_cut)
 
-start_tested_at : (is_cut : Bool) (full : PlaceSet) (stamp : ℕ) (b : Bool) → is_start full stamp ≡ b → IsState0 is_cut (cond b (Ok (start_state full stamp)) (Err BadStart))
-start_tested_at is_cut full stamp true e = record { start = start_tested full stamp e; same = refl }
-start_tested_at is_cut full stamp false e = tt
-
 start_of-record0 : (is_cut : Bool) (flags : Option (List Bool)) (stamp : Option ℕ) → IsState0 is_cut (start_of flags stamp)
-start_of-record0 is_cut (Some flags) (Some stamp) = start_tested_at is_cut (places_of flags) stamp (is_start (places_of flags) stamp) refl
+start_of-record0 is_cut (Some flags) (Some stamp) =
+    cond_both (is_start (places_of flags) stamp) (Ok (start_state (places_of flags) stamp)) (Err BadStart) (IsState0 is_cut) (λ e. record { start = start_tested (places_of flags) stamp e; same = refl }) (λ _. tt)
 start_of-record0 is_cut (Some flags) None = tt
 start_of-record0 is_cut None stamp = tt
 
@@ -159,14 +146,11 @@ clean_end : (is_cut few full : Bool) (answered : ℕ) → cond few (Refused (con
 clean_end is_cut true full answered e = absurd (cc)
 clean_end is_cut false full answered e = refl
 
-not_fewer : (a b : ℕ) → nat_lt a b ≡ false → b ≤ a
-not_fewer a b e = grind (arith, nat_tests)
-
 lines_of_clean : (is_cut : Bool) (start : Result Start ScriptFault) (rows : List Row) → outcome_from is_cut start (length (events_from start rows)) (length rows) ≡ Clean
     → length (lines_from start (events_from start rows)) ≡ length rows + 1
 lines_of_clean is_cut (Ok s) rows e =
     let answered = length (events_from (Ok s) rows) in
-    let all : length rows ≤ answered = not_fewer answered (length rows) (clean_end is_cut (nat_lt answered (length rows)) (answered == max_records) answered e) in
+    let all : length rows ≤ answered = ltb-false answered (length rows) (clean_end is_cut (nat_lt answered (length rows)) (answered == max_records) answered e) in
     let few = length-events_from (Ok s) rows in
     omega (arith, all, few.0, length-event_lines s.state (events_from (Ok s) rows))
 lines_of_clean is_cut (Err fault) rows e = absurd (cc)
@@ -187,12 +171,6 @@ long_end is_cut true false answered e = absurd (cc)
 long_end true false full answered e = inr (refl, refl)
 long_end false false full answered e = absurd (cc)
 
-fewer : (a b : ℕ) → nat_lt a b ≡ true → a < b
-fewer a b e = grind (arith, nat_tests)
-
-same_number : (a b : ℕ) → (a == b) ≡ true → a ≡ b
-same_number a b e = grind (arith, nat_tests)
-
 lines_of_long : (is_cut : Bool) (start : Result Start ScriptFault) (rows : List Row) → IsRecord0 false start
     → outcome_from is_cut start (length (events_from start rows)) (length rows) ≡ Refused Long
     → (length (lines_from start (events_from start rows)) ≡ min 65537 (length rows + 1)) × ((is_cut ≡ true) ⊎ (65537 ≤ length rows))
@@ -202,10 +180,10 @@ lines_of_long is_cut (Ok s) rows h e =
     let lines = length-event_lines s.state (events_from (Ok s) rows) in
     elim (long_end is_cut (nat_lt answered (length rows)) (answered == max_records) answered e) [
       | inl more ↦
-          let lt : answered < length rows = fewer answered (length rows) more.0 in
-          let all : answered ≡ max_records = same_number answered max_records more.1 in
+          let lt : answered < length rows = ltb-true answered (length rows) more.0 in
+          let all : answered ≡ max_records = eqb-true answered max_records more.1 in
           (omega (arith, lt, all, lines), inr (omega (arith, lt, all)))
-      | inr cut ↦ let each : length rows ≤ answered = not_fewer answered (length rows) cut.0 in (omega (arith, each, few.0, few.1, lines), inl cut.1)
+      | inr cut ↦ let each : length rows ≤ answered = ltb-false answered (length rows) cut.0 in (omega (arith, each, few.0, few.1, lines), inl cut.1)
     ]
 lines_of_long is_cut (Err NoStart) rows h e = absurd (cc)
 lines_of_long is_cut (Err BadStart) rows h e = absurd (cc)
@@ -236,3 +214,6 @@ not_cut bytes few = grind (arith, nat_tests)
 pub lines-long : (bytes : List ℕ) → script_outcome bytes ≡ Refused Long → length bytes ≤ 4194304 → length (script_lines bytes) ≡ 65537
 unfolding script_outcome script_lines
 lines-long bytes e few = rows_of_long_whole (is_cut_of bytes) (script_rows bytes) (not_cut bytes few) e
+
+-- what the laws say of a script
+pub ruleset script_laws = (given-script_start, legal-script_events, length-script_lines, lines-bad_row, lines-clean, lines-cut, lines-long)

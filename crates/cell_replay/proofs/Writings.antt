@@ -1,14 +1,14 @@
 -- What is written for the records that are left, one at a time.
-use Rattle.std.proofs.Common.{ℕ, zero, suc, ◌≡◌, ◌<◌, ◌≤◌, ◌+◌, ◌-◌, ◌==◌, Bool, true, false, cond, List, [], ◌∷◌, ◌++◌, length, take, min, nat_lt, Option, Some, None, Result, Ok, Err, IfSome, IfOk, IfErr, OnOk, refl, sym, ◌∙◌, ap, ap₂, arith, append_assoc, append-nil, subst}
+use Rattle.std.proofs.Common.{ℕ, suc, ◌≡◌, ◌<◌, ◌≤◌, ◌+◌, ◌-◌, Bool, cond, List, [], ◌∷◌, ◌++◌, length, take, min, Option, Some, None, Result, Ok, Err, IfSome, IfOk, OnOk, refl, sym, ◌∙◌, ap, ap₂, arith, append_assoc, append-nil, subst}
 use Rattle.std.specs.List.{concat}
 use Rattle.std.specs.Result.{IsErrAnd}
 use Rattle.std.specs.Io.KnownBytes.{Appends, Keeps}
 use Rattle.std.proofs.KnownBytes.{Appends-kept, Appends-nil, Appends-trans, Keeps-refl}
 use Rattle.std.proofs.Math.Seq.{take-append-add}
-use Rattle.std.proofs.lemmas.List.{take-append-le, take_all}
+use Rattle.std.proofs.lemmas.List.{take-append-le, take_all, take_min}
 use Rattle.std.proofs.lemmas.List.Folds.{concat-append}
 use Rattle.std.proofs.Math.Seq.{take-nil}
-use Rattle.std.proofs.lemmas.Bool.Decides.{nat_tests}
+use Rattle.std.proofs.lemmas.Bool.{lt-ltb, le-ltb, eq-eqb, ne_eqb}
 use Rattle.cell_rules.specs.Types.{answer_text, Answer}
 use Rattle.cell_rules.specs.Names.{ModelState, next, reply}
 use Rattle.cell_replay.specs.Requests.{Row, request_of}
@@ -49,59 +49,40 @@ lines-more : (v : Version) (n : ℕ) (s : ModelState) (row : Row) (rest : List R
     → lines_left v n s (row ∷ rest) ≡ line_of (n + 1) (next s r.machine r.call).stamp (answer_text (reply s r.machine r.call)) ∷ lines_left v (n + 1) (next s r.machine r.call) rest
 lines-more v n s row rest r few good = ap (lines_after n s) (requests-more v n row rest r few good) ∙ lines_after-more n s r (requests_in v (take (max_records - (n + 1)) rest))
 
+-- no request is left
+pub lines-ended : (v : Version) (n : ℕ) (s : ModelState) (left : List Row) → requests_in v (take (max_records - n) left) ≡ [] → lines_left v n s left ≡ []
+lines-ended v n s left none = ap (lines_after n s) none ∙ lines_after-none n s
+
+outcome-ended : (v : Version) (is_cut : Bool) (n : ℕ) (left : List Row) → requests_in v (take (max_records - n) left) ≡ [] → outcome_left v is_cut n left ≡ end_of is_cut n (n + length left)
+outcome-ended v is_cut n left none = let count = ap length none in ap (λ k. end_of is_cut k (n + length left)) (omega (arith, count))
+
 outcome-more : (v : Version) (is_cut : Bool) (n : ℕ) (row : Row) (rest : List Row) (r : Request) → n < max_records → request_of v row ≡ Some r → outcome_left v is_cut n (row ∷ rest) ≡ outcome_left v is_cut (n + 1) rest
 outcome-more v is_cut n row rest r few good =
     let count = ap length (requests-more v n row rest r few good) in
     ap₂ (end_of is_cut) (omega (arith, count)) (omega arith)
 
-lines-bad : (v : Version) (n : ℕ) (s : ModelState) (row : Row) (rest : List Row) → n < max_records → request_of v row ≡ None → lines_left v n s (row ∷ rest) ≡ []
-lines-bad v n s row rest few bad = ap (lines_after n s) (requests-bad v n row rest few bad) ∙ lines_after-none n s
-
 end-bad : (is_cut : Bool) (n count : ℕ) → n < count → n < max_records → end_of is_cut n count ≡ Refused (BadRow (n + 1))
-end-bad is_cut n count more few =
-    let lt : nat_lt n count ≡ true = grind (arith, nat_tests) in
-    let ne : (n == max_records) ≡ false = grind (arith, nat_tests) in
-    rw (lt, ne) refl
+end-bad is_cut n count more few = rw (lt-ltb n count more, ne_eqb n max_records (λ e. omega (arith, e, few))) refl
 
 outcome-bad : (v : Version) (is_cut : Bool) (n : ℕ) (row : Row) (rest : List Row) → n < max_records → request_of v row ≡ None → outcome_left v is_cut n (row ∷ rest) ≡ Refused (BadRow (n + 1))
-outcome-bad v is_cut n row rest few bad =
-    let count = ap length (requests-bad v n row rest few bad) in
-    let none : n + length (requests_in v (take (max_records - n) (row ∷ rest))) ≡ n = omega (arith, count) in
-    ap (λ k. end_of is_cut k (n + length (row ∷ rest))) none ∙ end-bad is_cut n (n + length (row ∷ rest)) (omega arith) few
+outcome-bad v is_cut n row rest few bad = outcome-ended v is_cut n (row ∷ rest) (requests-bad v n row rest few bad) ∙ end-bad is_cut n (n + length (row ∷ rest)) (omega arith) few
 
 end-all : (is_cut : Bool) (n : ℕ) → end_of is_cut n n ≡ end_of is_cut 0 0
-end-all is_cut n =
-    let lt : nat_lt n n ≡ false = grind (arith, nat_tests) in
-    rw lt refl
+end-all is_cut n = rw (le-ltb n n (omega arith)) refl
 
 outcome-none : (v : Version) (is_cut : Bool) (n : ℕ) → outcome_left v is_cut n [] ≡ end_of is_cut 0 0
-outcome-none v is_cut n =
-    let count = ap length (requests-none v (max_records - n)) in
-    let none : n + length (requests_in v (take (max_records - n) [])) ≡ n = omega (arith, count) in
-    ap₂ (end_of is_cut) none (omega arith) ∙ end-all is_cut n
-
-lines-none : (v : Version) (n : ℕ) (s : ModelState) → lines_left v n s [] ≡ []
-lines-none v n s = ap (lines_after n s) (requests-none v (max_records - n)) ∙ lines_after-none n s
+outcome-none v is_cut n = outcome-ended v is_cut n [] (requests-none v (max_records - n)) ∙ ap (end_of is_cut n) (omega arith) ∙ end-all is_cut n
 
 requests-full : (v : Version) (n : ℕ) (left : List Row) → n ≡ max_records → requests_in v (take (max_records - n) left) ≡ []
 requests-full v n left full =
     let zero_left : max_records - n ≡ 0 = omega (arith, full) in
     ap (λ k. requests_in v (take k left)) zero_left ∙ requests_in-none v
 
-pub lines-full : (v : Version) (n : ℕ) (s : ModelState) (left : List Row) → n ≡ max_records → lines_left v n s left ≡ []
-lines-full v n s left full = ap (lines_after n s) (requests-full v n left full) ∙ lines_after-none n s
-
 end-long : (is_cut : Bool) (n count : ℕ) → n < count → n ≡ max_records → end_of is_cut n count ≡ Refused Long
-end-long is_cut n count more full =
-    let lt : nat_lt n count ≡ true = grind (arith, nat_tests) in
-    let eq : (n == max_records) ≡ true = grind (arith, nat_tests) in
-    rw (lt, eq) refl
+end-long is_cut n count more full = rw (lt-ltb n count more, eq-eqb n max_records full) refl
 
 outcome-full : (v : Version) (is_cut : Bool) (n : ℕ) (row : Row) (rest : List Row) → n ≡ max_records → outcome_left v is_cut n (row ∷ rest) ≡ Refused Long
-outcome-full v is_cut n row rest full =
-    let count = ap length (requests-full v n (row ∷ rest) full) in
-    let none : n + length (requests_in v (take (max_records - n) (row ∷ rest))) ≡ n = omega (arith, count) in
-    ap (λ k. end_of is_cut k (n + length (row ∷ rest))) none ∙ end-long is_cut n (n + length (row ∷ rest)) (omega arith) full
+outcome-full v is_cut n row rest full = outcome-ended v is_cut n (row ∷ rest) (requests-full v n (row ∷ rest) full) ∙ end-long is_cut n (n + length (row ∷ rest)) (omega arith) full
 
 -- What was written.
 
@@ -127,18 +108,15 @@ writes-through written rest all o end old mid new (Err Write) wrote whole same h
     let front : concat written ++ take n (concat rest) ≡ take (length (concat written) + n) (concat all) = sym (take-append-add (concat written) (concat rest) n) ∙ ap (take (length (concat written) + n)) (sym (concat-append written rest) ∙ ap concat whole) in
     (length (concat written) + n, subst (Appends old new) front (Appends-trans old mid new (concat written) (take n (concat rest)) wrote h.1))
 
+-- the same after a flush
+pub writes-after : (written rest all : List (List ℕ)) (o end : Outcome) (old now mid new : Option (List ℕ)) (r : Result Outcome ReplayFault) → Appends old now (concat written) → Keeps now mid → written ++ rest ≡ all → o ≡ end
+    → Writes rest o mid new r → Writes all end old new r
+writes-after written rest all o end old now mid new r wrote keeps whole same h = writes-through written rest all o end old mid new r (Appends-kept old now mid (concat written) wrote keeps) whole same h
+
 -- the input failed before anything was written
 pub writes-input : (fault : InputFault) (lines : List (List ℕ)) (end : Outcome) (old : Option (List ℕ)) → Writes lines end old old (Err (replay_fault_of fault))
 writes-input input.Read lines end old = (0, Appends-nil old)
 writes-input input.Memory lines end old = (0, Appends-nil old)
-
-take-min : (k : ℕ) (a : List ℕ) → take (min k (length a)) a ≡ take k a
-take-min zero [] = refl
-take-min zero (x ∷ a) = let none : min zero (suc (length a)) ≡ zero = omega arith in ap (λ n. take n (x ∷ a)) none
-take-min (suc k) [] = let none : min (suc k) 0 ≡ 0 = omega arith in ap (λ n. take {A = ℕ} n []) none
-take-min (suc k) (x ∷ a) =
-    let both : min (suc k) (suc (length a)) ≡ suc (min k (length a)) = omega arith in
-    ap (λ n. take n (x ∷ a)) both ∙ ap (λ r. x ∷ r) (take-min k a)
 
 -- a prefix of a prefix is a prefix
 pub prefix-more : (line more all : List ℕ) (old new : Option (List ℕ)) → all ≡ line ++ more → WrotePrefix old new line → WrotePrefix old new all
@@ -150,23 +128,19 @@ prefix-more line more all old new whole h =
     short : (k : ℕ) (a b : List ℕ) → take k a ≡ take (min k (length a)) (a ++ b)
     short k a b =
         let within : min k (length a) ≤ length a = omega arith in
-        sym (take-append-le (min k (length a)) a b within ∙ take-min k a)
+        sym (take-append-le (min k (length a)) a b within ∙ take_min k a)
 
 -- One record.
-
-pub one-input : (v : Version) (fault : InputFault) (is_cut : Bool) (n : ℕ) (s s2 : ModelState) (left : List Row) (old : Option (List ℕ)) (After : List Row → Type 0) → WritesNext v is_cut n s s2 left old old After (Err (replay_fault_of fault))
-one-input v input.Read is_cut n s s2 left old After = Keeps-refl old
-one-input v input.Memory is_cut n s s2 left old After = Keeps-refl old
 
 pub one-none : (v : Version) (is_cut : Bool) (n : ℕ) (s s2 : ModelState) (left : List Row) (old : Option (List ℕ)) (After : List Row → Type 0) (noted : Bool) (o : Outcome) → noted ≡ is_cut → left ≡ [] → o ≡ end_of noted 0 0
     → WritesNext v is_cut n s s2 left old old After (Ok (Some o))
 one-none v is_cut n s s2 left old After noted o note none is =
-    (ap (lines_left v n s) none ∙ lines-none v n s, ap (outcome_left v is_cut n) none ∙ outcome-none v is_cut n ∙ sym (is ∙ ap (λ b. end_of b 0 0) note), Keeps-refl old)
+    (ap (lines_left v n s) none ∙ lines-ended v n s [] (requests-none v (max_records - n)), ap (outcome_left v is_cut n) none ∙ outcome-none v is_cut n ∙ sym (is ∙ ap (λ b. end_of b 0 0) note), Keeps-refl old)
 
 pub one-bad : (v : Version) (is_cut : Bool) (n : ℕ) (s s2 : ModelState) (left rest : List Row) (row : Row) (old : Option (List ℕ)) (After : List Row → Type 0) → n < max_records → left ≡ row ∷ rest → request_of v row ≡ None
     → WritesNext v is_cut n s s2 left old old After (Ok (Some (Refused (BadRow (n + 1)))))
 one-bad v is_cut n s s2 left rest row old After few is bad =
-    (ap (lines_left v n s) is ∙ lines-bad v n s row rest few bad, ap (outcome_left v is_cut n) is ∙ outcome-bad v is_cut n row rest few bad, Keeps-refl old)
+    (ap (lines_left v n s) is ∙ lines-ended v n s (row ∷ rest) (requests-bad v n row rest few bad), ap (outcome_left v is_cut n) is ∙ outcome-bad v is_cut n row rest few bad, Keeps-refl old)
 
 -- the line of a request
 abbrev pub line_on : ℕ → ModelState → Request → List ℕ
@@ -192,17 +166,11 @@ pub line_made : (n : ℕ) (s : ModelState) (r : Request) (stamp : ℕ) (s2 : Mod
 line_made n s r stamp s2 answer bytes text empty is made none now_stamp now_s replied =
     is ∙ made ∙ ap (λ b. b ++ line_of (n + 1) stamp (answer_text answer)) none ∙ ap₂ (λ t a. line_of (n + 1) t (answer_text a)) (now_stamp ∙ ap (λ (t : ModelState). t.stamp) now_s) replied
 
--- what a step wrote, by its result
-pub one-goes : (v : Version) (is_cut : Bool) (n : ℕ) (s s2 : ModelState) (left : List Row) (old new : Option (List ℕ)) (After : List Row → Type 0) (r : Result (Option Outcome) ReplayFault) → r ≡ Ok None → WritesNext v is_cut n s s2 left old new After r
-    → WritesNext v is_cut n s s2 left old new After (Ok None)
-one-goes v is_cut n s s2 left old new After r e h = rw e at h
-
 pub one-stops : (v : Version) (is_cut : Bool) (n : ℕ) (s s2 : ModelState) (left : List Row) (old new : Option (List ℕ)) (After : List Row → Type 0) (r : Result (Option Outcome) ReplayFault) (o : Outcome) → r ≡ Ok (Some o) → WritesNext v is_cut n s s2 left old new After r
     → Writes (lines_left v n s left) (outcome_left v is_cut n left) old new (Ok o)
-one-stops v is_cut n s s2 left old new After r o e h = stop (rw e at h)
-  where
-    stop : WritesNext v is_cut n s s2 left old new After (Ok (Some o)) → Writes (lines_left v n s left) (outcome_left v is_cut n left) old new (Ok o)
-    stop h = (sym h.1, rw h.0 (kept-none old new h.2))
+one-stops v is_cut n s s2 left old new After r o e h =
+    let k : WritesNext v is_cut n s s2 left old new After (Ok (Some o)) = rw e at h in
+    (sym k.1, rw k.0 (kept-none old new k.2))
 
 pub one-fails : (v : Version) (is_cut : Bool) (n : ℕ) (s s2 : ModelState) (left : List Row) (old new : Option (List ℕ)) (After : List Row → Type 0) (r : Result (Option Outcome) ReplayFault) (fault : ReplayFault) → r ≡ Err fault → WritesNext v is_cut n s s2 left old new After r
     → Writes (lines_left v n s left) (outcome_left v is_cut n left) old new (Err fault)
@@ -222,23 +190,19 @@ lines-step lines rest more all line whole is = append_assoc lines (line ∷ []) 
 -- the end, if as many records are answered as may be, or none is left
 pub writes-long : (v : Version) (is_cut : Bool) (n : ℕ) (s : ModelState) (row : Row) (left rest : List Row) (old : Option (List ℕ)) → n ≡ max_records → left ≡ row ∷ rest → Writes (lines_left v n s left) (outcome_left v is_cut n left) old old (Ok (Refused Long))
 writes-long v is_cut n s row left rest old full is =
-    (sym (ap (outcome_left v is_cut n) is ∙ outcome-full v is_cut n row rest full), rw (lines-full v n s left full) (Appends-nil old))
+    (sym (ap (outcome_left v is_cut n) is ∙ outcome-full v is_cut n row rest full), rw (lines-ended v n s left (requests-full v n left full)) (Appends-nil old))
 
 pub writes-end : (v : Version) (is_cut : Bool) (n : ℕ) (s : ModelState) (left : List Row) (noted : Bool) (o : Outcome) (old : Option (List ℕ)) → noted ≡ is_cut → left ≡ [] → o ≡ end_of noted 0 0 → Writes (lines_left v n s left) (outcome_left v is_cut n left) old old (Ok o)
 writes-end v is_cut n s left noted o old note none is =
-    (is ∙ ap (λ b. end_of b 0 0) note ∙ sym (ap (outcome_left v is_cut n) none ∙ outcome-none v is_cut n), rw (ap (lines_left v n s) none ∙ lines-none v n s) (Appends-nil old))
+    (is ∙ ap (λ b. end_of b 0 0) note ∙ sym (ap (outcome_left v is_cut n) none ∙ outcome-none v is_cut n), rw (ap (lines_left v n s) none ∙ lines-ended v n s [] (requests-none v (max_records - n))) (Appends-nil old))
 
 -- Record 0.
 
 pub rows-empty : (is_cut noted : Bool) (left : List Row) (fault : ScriptFault) (old : Option (List ℕ)) → noted ≡ is_cut → left ≡ [] → fault ≡ cond noted Long NoStart → Writes (rows_lines is_cut left) (rows_outcome is_cut left) old old (Ok (Refused fault))
 rows-empty is_cut noted left fault old note none is = rw (none, ← note) (ap Refused is, Appends-nil old)
 
-first-refused : (is_cut : Bool) (start : Result Start ScriptFault) (fault : ScriptFault) (rest : List Row) (old : Option (List ℕ)) → start ≡ Err fault
-    → Writes (lines_from start (events_from start rest)) (outcome_from is_cut start (length (events_from start rest)) (length rest)) old old (Ok (Refused fault))
-first-refused is_cut start fault rest old e = rw e (refl, Appends-nil old)
-
 pub rows-refused : (is_cut : Bool) (row : Row) (left rest : List Row) (fault : ScriptFault) (old : Option (List ℕ)) → left ≡ row ∷ rest → start_in row ≡ Err fault → Writes (rows_lines is_cut left) (rows_outcome is_cut left) old old (Ok (Refused fault))
-rows-refused is_cut row left rest fault old is bad = rw is (first-refused is_cut (start_in row) fault rest old bad)
+rows-refused is_cut row left rest fault old is bad = rw (is, bad) (refl, Appends-nil old)
 
 lines-started : (start : Result Start ScriptFault) (s : Start) (rest : List Row) → start ≡ Ok s → lines_from start (events_from start rest) ≡ start_line s ∷ lines_left s.version 0 s.state rest
 lines-started start s rest e = rw e (ap (λ l. start_line s ∷ l) (event_lines-after s.state (requests_in s.version (take max_records rest))))
@@ -287,11 +251,6 @@ script-ends bytes old mid new o (Err Write) h end =
     let front : lines ++ take n (end_text o) ≡ take (length lines + n) (lines ++ end_text (script_outcome bytes)) = sym (take-append-add lines (end_text o) n) ∙ ap (λ e. take (length lines + n) (lines ++ end_text e)) h.0 in
     (length lines + n, subst (Appends old new) front (Appends-trans old mid new lines (take n (end_text o)) h.1 end.1))
 
-pub script-rows : (bytes : List ℕ) (left : List Row) (old new : Option (List ℕ)) (r : Result Outcome ReplayFault) → left ≡ script_rows bytes
-    → Writes (rows_lines (is_cut_of bytes) left) (rows_outcome (is_cut_of bytes) left) old new r → Writes (script_lines bytes) (script_outcome bytes) old new r
-unfolding script_lines script_outcome
-script-rows bytes left old new r is h = rw is at h
-
 pub script-stops : (bytes : List ℕ) (old : Option (List ℕ)) (r : Result Outcome ReplayFault) (fault : InputFault) → IsErrAnd r (λ given. given ≡ replay_fault_of fault) → WritesScript bytes old old r
 script-stops bytes old (Ok o) fault h = absurd h
 script-stops bytes old (Err given) fault h = script-fails bytes old old given (rw h (writes-input fault (script_lines bytes) (script_outcome bytes) old))
@@ -299,7 +258,8 @@ script-stops bytes old (Err given) fault h = script-fails bytes old old given (r
 -- the script's lines, by the result of the function that wrote them
 pub script-written : (bytes : List ℕ) (left : List Row) (old new : Option (List ℕ)) (r r2 : Result Outcome ReplayFault) → left ≡ script_rows bytes → r ≡ r2
     → Writes (rows_lines (is_cut_of bytes) left) (rows_outcome (is_cut_of bytes) left) old new r → Writes (script_lines bytes) (script_outcome bytes) old new r2
-script-written bytes left old new r r2 is e h = subst (Writes (script_lines bytes) (script_outcome bytes) old new) e (script-rows bytes left old new r is h)
+unfolding script_lines script_outcome
+script-written bytes left old new r r2 is e h = subst (Writes (script_lines bytes) (script_outcome bytes) old new) e (rw is at h)
 
 -- What the contract of a replay says, if the bytes are known.
 
@@ -314,7 +274,3 @@ written-text o old new (Err fault) f = tt
 pub written-outcome : (o : Option (List ℕ)) (old new : Option (List ℕ)) (r : Result Outcome ReplayFault) → ((bytes : List ℕ) → o ≡ Some bytes → WritesScript bytes old new r) → IfOk r (λ x. IfSome o (λ bytes. x ≡ script_outcome bytes))
 written-outcome o old new (Ok x) f = known o _ (λ bytes is. (f bytes is).0)
 written-outcome o old new (Err fault) f = tt
-
-pub written-failed : (o : Option (List ℕ)) (old new : Option (List ℕ)) (r : Result Outcome ReplayFault) → ((bytes : List ℕ) → o ≡ Some bytes → WritesScript bytes old new r) → IfErr r (λ fault. IfSome o (λ bytes. Leaves fault bytes old new))
-written-failed o old new (Ok x) f = tt
-written-failed o old new (Err fault) f = known o _ (λ bytes is. f bytes is)

@@ -7,3 +7,4 @@ pub mod ScriptExamples
 pub mod Limited
 pub mod Records
 pub mod Writing
+pub mod ScriptRecords

@@ -2,14 +2,13 @@
 
 ghost use Rattle.std.specs.Prelude.{◌≡◌, ◌<◌, ◌++◌, ℕ, List, Some, OnOk, if◌then◌else◌, string_bytes};
 ghost use Rattle.std.specs.Io.KnownBytes.{Keeps};
-ghost use Rattle.csv.specs.Records.{fields_of};
 ghost use Rattle.cell_types.specs.Answers.{answer_text};
-ghost use Rattle.cell_replay.specs.Limited.{bytes_left};
-ghost use Rattle.cell_replay.specs.Records.{IsPlain, RowsLeft};
+ghost use Rattle.cell_replay.specs.Records.{IsPlain};
 ghost use Rattle.cell_replay.specs.Requests.{Row};
 ghost use Rattle.cell_replay.specs.Script as script;
-ghost use Rattle.cell_replay.specs.Script.{is_cut_of, line_of, max_records, rows_lines, rows_outcome, start_line};
-ghost use Rattle.cell_replay.specs.Writing.{Writes, WritesNext, lines_left, outcome_left};
+ghost use Rattle.cell_replay.specs.Script.{is_cut_of, line_of, max_records, start_line};
+ghost use Rattle.cell_replay.specs.ScriptRecords.{ForLeft, HasLeft, WritesLater, WritesRows};
+ghost use Rattle.cell_replay.specs.Writing.{WritesNext};
 
 use crate::lent::{LentReader, Origin};
 use crate::records::Records;
@@ -34,11 +33,8 @@ pub fn answer_rows<L: LentReader, K: Origin, W: Write>(
     writer: &mut W,
 ) -> Result<Outcome, ReplayFault>
     requires { IsPlain records.old.reader }
-    ensures written { (bytes : List ℕ) → K.bytes ≡ Some bytes → (left : List Row) →
-        RowsLeft (λ r. bytes_left (L.left r.now.input) r.now.is_cut r.now.taken) (is_cut_of bytes)
-        records.old.reader records.old.holds (fields_of records.old.held) records.old.is_cut left →
-        Writes (rows_lines (is_cut_of bytes) left) (rows_outcome (is_cut_of bytes) left)
-        (W.contents writer.old) (W.contents writer.new) result }
+    ensures written { ForLeft K.bytes L.left records.old (λ bytes left.
+        WritesRows bytes left (W.contents writer.old) (W.contents writer.new) result) }
 {
     if !records.next()? {
         return Ok(Outcome::Refused(if records.is_cut() {
@@ -68,12 +64,9 @@ fn answer_later<L: LentReader, K: Origin, W: Write>(
     writer: &mut W,
 ) -> Result<Outcome, ReplayFault>
     requires { IsPlain records.old.reader }
-    ensures written { (bytes : List ℕ) → K.bytes ≡ Some bytes → (left : List Row) →
-        RowsLeft (λ r. bytes_left (L.left r.now.input) r.now.is_cut r.now.taken) (is_cut_of bytes)
-        records.old.reader records.old.holds (fields_of records.old.held) records.old.is_cut left →
-        Writes (lines_left start.version 0 start.state left)
-        (outcome_left start.version (is_cut_of bytes) 0 left)
-        (W.contents writer.old) (W.contents writer.new) result }
+    ensures written { ForLeft K.bytes L.left records.old (λ bytes left.
+        WritesLater start.version start.state bytes left
+        (W.contents writer.old) (W.contents writer.new) result) }
 {
     let Start { version, mut state } = start;
     let mut line = String::new(alloc);
@@ -122,14 +115,10 @@ fn answer_next<L: LentReader, K: Origin, W: Write>(
     requires plain { IsPlain records.old.reader }
     requires few { done < max_records }
     ensures plain { OnOk result (IsPlain records.new.reader) }
-    ensures written { (bytes : List ℕ) → K.bytes ≡ Some bytes → (left : List Row) →
-        RowsLeft (λ r. bytes_left (L.left r.now.input) r.now.is_cut r.now.taken) (is_cut_of bytes)
-        records.old.reader records.old.holds (fields_of records.old.held) records.old.is_cut left →
+    ensures written { ForLeft K.bytes L.left records.old (λ bytes left.
         WritesNext version (is_cut_of bytes) done state.old state.new left
         (W.contents writer.old) (W.contents writer.new)
-        (RowsLeft (λ r. bytes_left (L.left r.now.input) r.now.is_cut r.now.taken) (is_cut_of bytes)
-        records.new.reader records.new.holds (fields_of records.new.held) records.new.is_cut)
-        result }
+        (HasLeft L.left bytes records.new) result) }
 {
     if !records.next()? {
         return Ok(Some(end(records.is_cut())));

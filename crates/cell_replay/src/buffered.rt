@@ -57,6 +57,7 @@ impl<O: LentWriter, K: Origin> BufferedWriter<O, K> {
     }
 
     /// Writes all that waits, and flushes the output. An error leaves what wasn't written.
+    #[tactic(auto, using(crate::proofs::BufferedWrites::still_grown))]
     pub fn flush_out(&mut self) -> Result<(), WriteFault>
         ensures kept { Keeps (append_known (O.contents self.old.output) self.old.waiting)
             (append_known (O.contents self.new.output) self.new.waiting) }

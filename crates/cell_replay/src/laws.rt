@@ -12,6 +12,7 @@ ghost use Rattle.cell_replay.specs.ScriptExamples.{ScriptsAreMet};
 use crate::script::{Outcome, ScriptFault};
 
 /// A script's events are a legal history from the start in record 0, which is a valid start.
+#[tactic(auto, using(crate::proofs::Scripts::script_laws))]
 pub fn events_are_legal(script: &[u8])
     ensures legal { IfOk (script_start script.now)
         (λ start. IsLegal start.state (script_events script.now)) }
@@ -22,6 +23,7 @@ pub fn events_are_legal(script: &[u8])
 /// record N is refused, it is N. If no record is refused, it is the number of records. With too
 /// many records it is 65,537. With too many bytes it is the number of records that are used, or
 /// 65,537 if there are more.
+#[tactic(auto, using(crate::proofs::Scripts::script_laws))]
 pub fn lines_are_counted(script: &[u8])
     ensures most { length (script_lines script.now) ≤ 65537 }
     ensures bad_row { (number : ℕ) →
@@ -36,6 +38,7 @@ pub fn lines_are_counted(script: &[u8])
 {}
 
 /// A script whose record 0 doesn't begin with `start2` has the text of the first version.
+#[tactic(auto, using(crate::proofs::FirstScripts::first_text_stays))]
 pub fn first_version_stays(script: &[u8])
     ensures { IsOfFirstVersion script.now →
         script_text script.now ≡ first.script_text script.now }
@@ -43,6 +46,7 @@ pub fn first_version_stays(script: &[u8])
 
 /// Example scripts with their whole answers: calls, each form of record 0, scripts that stop the
 /// cell, and cut scripts.
+#[tactic(auto, using(crate::proofs::ScriptRows::scripts_are_met))]
 pub fn scripts_are_met()
     ensures { ScriptsAreMet }
 {}

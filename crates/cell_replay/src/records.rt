@@ -1,12 +1,11 @@
 //! The records of a script, one at a time.
 
-ghost use Rattle.std.specs.Prelude.{◌≡◌, ℕ, List, take, None, Some, IfOk, OnOk};
-ghost use Rattle.csv.specs.Reading.{default_config, records, strip_bom};
+ghost use Rattle.std.specs.Prelude.{◌≡◌, ℕ, List, None, Some, IfOk, OnOk};
 ghost use Rattle.csv.specs.Records.{fields_of};
-ghost use Rattle.cell_replay.specs.Limited.{bytes_left};
-ghost use Rattle.cell_replay.specs.Records.{GivesRow, HasRows, IsPlain, RowsLeft, TakesRow};
+ghost use Rattle.cell_replay.specs.Records.{HasRows, IsPlain, TakesRow};
 ghost use Rattle.cell_replay.specs.Requests.{Row};
-ghost use Rattle.cell_replay.specs.Script.{byte_limit, is_cut_of, used};
+ghost use Rattle.cell_replay.specs.ScriptRecords.{ForLeft, GivesNext, HasLeft, HasRecords, HoldsNext, records_used};
+ghost use Rattle.cell_replay.specs.Script.{is_cut_of, used};
 
 use crate::lent::{LentReader, Origin};
 use crate::limited::LimitedReader;
@@ -57,11 +56,8 @@ impl<'f, L: LentReader, K: Origin> Records<'f, L, K> {
         ensures plain { OnOk result (IsPlain self.new.reader) }
         ensures row { self.new.row ≡ self.old.row }
         ensures found { OnOk result ((bytes : List ℕ) → K.bytes ≡ Some bytes → (rows : List Row) →
-            HasRows (λ r. bytes_left (L.left r.now.input) r.now.is_cut r.now.taken)
-            self.old.reader rows →
-            GivesRow self.new.holds (fields_of self.new.held) rows self.new.is_cut (is_cut_of bytes)
-            (HasRows (λ r. bytes_left (L.left r.now.input) r.now.is_cut r.now.taken)
-            self.new.reader)) }
+            HasRecords L.left self.old rows →
+            HoldsNext self.new bytes rows (HasRecords L.left self.new)) }
     {
         self.holds = read_row(&mut self.reader, &mut self.held)?;
         if !self.holds {
@@ -80,8 +76,7 @@ impl<'f, L: LentReader, K: Origin> Records<'f, L, K> {
         requires unnoted { input.old.is_cut ≡ None }
         ensures plain { IsPlain result.reader }
         ensures all { (bytes : List ℕ) → K.bytes ≡ Some bytes →
-            HasRows (λ r. bytes_left (L.left r.now.input) r.now.is_cut r.now.taken)
-            result.reader (records default_config (strip_bom (take byte_limit bytes))) }
+            HasRecords L.left result (records_used bytes) }
     {
         Records {
             reader: ReaderBuilder::new()
@@ -100,12 +95,8 @@ impl<'f, L: LentReader, K: Origin> Records<'f, L, K> {
         requires { IsPlain self.old.reader }
         ensures plain { OnOk result (IsPlain self.new.reader) }
         ensures left { OnOk result ((bytes : List ℕ) → K.bytes ≡ Some bytes → (rows : List Row) →
-            HasRows (λ r. bytes_left (L.left r.now.input) r.now.is_cut r.now.taken)
-            self.old.reader rows →
-            RowsLeft (λ r. bytes_left (L.left r.now.input) r.now.is_cut r.now.taken)
-            (is_cut_of bytes)
-            self.new.reader self.new.holds (fields_of self.new.held) self.new.is_cut
-            (used (is_cut_of bytes) rows)) }
+            HasRecords L.left self.old rows →
+            HasLeft L.left bytes self.new (used (is_cut_of bytes) rows)) }
     {
         self.read_ahead()?;
         Ok(())
@@ -115,15 +106,8 @@ impl<'f, L: LentReader, K: Origin> Records<'f, L, K> {
     pub fn next(&mut self) -> Result<bool, InputFault>
         requires { IsPlain self.old.reader }
         ensures plain { OnOk result (IsPlain self.new.reader) }
-        ensures gives { IfOk result (λ found. (bytes : List ℕ) → K.bytes ≡ Some bytes →
-            (left : List Row) →
-            RowsLeft (λ r. bytes_left (L.left r.now.input) r.now.is_cut r.now.taken)
-            (is_cut_of bytes)
-            self.old.reader self.old.holds (fields_of self.old.held) self.old.is_cut left →
-            GivesRow found (fields_of self.new.row) left self.new.is_cut (is_cut_of bytes)
-            (RowsLeft (λ r. bytes_left (L.left r.now.input) r.now.is_cut r.now.taken)
-            (is_cut_of bytes)
-            self.new.reader self.new.holds (fields_of self.new.held) self.new.is_cut)) }
+        ensures gives { IfOk result (λ found. ForLeft K.bytes L.left self.old (λ bytes left.
+            GivesNext found self.new bytes left (HasLeft L.left bytes self.new))) }
     {
         if !self.holds {
             return Ok(false);

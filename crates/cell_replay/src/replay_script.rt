@@ -1,7 +1,7 @@
 //! Replays a script.
 
 ghost use Rattle.std.specs.Prelude.{◌≡◌, ◌++◌, ℕ, List, None, Some, IfOk, IfErr, IfSome, OnOk, string_bytes};
-ghost use Rattle.std.specs.Io.KnownBytes.{Appends, append_known};
+ghost use Rattle.std.specs.Io.KnownBytes.{Appends};
 ghost use Rattle.cell_replay.specs.Faults.{Leaves};
 ghost use Rattle.cell_text.specs.Input.{TakesAtMost};
 ghost use Rattle.cell_replay.specs.FirstVersion as first;
@@ -99,8 +99,8 @@ fn finish<O: LentWriter, K: Origin>(
     writer: &mut BufferedWriter<O, K>,
 ) -> Result<Outcome, ReplayFault>
     ensures script { (bytes : List ℕ) →
-        WritesScript bytes K.written
-        (append_known (O.contents writer.old.output) writer.old.waiting) answered →
+        WritesScript bytes K.written (⟦<BufferedWriter<O, K> as Write>⟧.contents writer.old)
+        answered →
         WritesScript bytes K.written (O.contents writer.new.output) result }
 {
     if answered == Err(ReplayFault::Write) {

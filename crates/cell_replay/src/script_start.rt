@@ -13,6 +13,7 @@ use csv::ByteRecord;
 const MAX_DIGITS: usize = 7;
 
 /// The number that one to seven digits write; `None` for other bytes.
+#[tactic(auto, using(crate::proofs::Digits::power_small))]
 fn read_number(field: &[u8]) -> Option<u32>
     ensures { result ≡ script.number_in field.now }
 {

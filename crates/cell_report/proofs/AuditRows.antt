@@ -9,7 +9,9 @@ use Rattle.cell_report.specs.declared.ordered.Noted.{Noted}
 use Rattle.cell_report.specs.Order.{all_noted, done_at, done_stamps, greatest, key_at, stamp_of, InOrder}
 use Rattle.cell_report.specs.AuditFaults.{AllFit, HasNoTwice, HasStamps, IsGap, IsMisfit, IsTooEarly, IsTwice, MissesEnd}
 use Rattle.cell_report.specs.AuditExamples.{FaultExamples, OrderExamples, asks_early, backwards, early_pair, feed_claims, feed_errs, journals_of, noted, one_left_out, opening, press_errs, reached, refused_later, two_err, two_pairs, with_plate}
-use Rattle.cell_report.proofs.Members.{In}
+use Rattle.std.proofs.lemmas.List.Elements.{All-contains}
+use Rattle.std.proofs.lemmas.List.Sums.{AllPass-from_list_all}
+use Rattle.cell_report.proofs.Members.{In, contains_from_in}
 use Rattle.cell_report.proofs.Rising.{Rises, from_rises}
 use Rattle.cell_report.proofs.Times.{gap_after, gap_tells, twice_after, twice_tells}
 use Rattle.cell_report.proofs.Checks.{gap_is, gapless, no_twice, rising_stamps, twice_is, within_top}
@@ -24,12 +26,7 @@ stands [] = true
 stands (x ∷ xs) = stands_low x xs && stands xs
 
 low_in : (x : Noted) (xs : List Noted) → stands_low x xs ≡ true → (z : Noted) → In z xs → key_at x ≤ key_at z
-low_in x [] e z h = absurd h
-low_in x (y ∷ ys) e z (inl q) =
-    let here = leb-true (key_at x) (key_at y) (and_parts _ _ e).0 in
-    let same = ap key_at q in
-    omega (arith, here, same)
-low_in x (y ∷ ys) e z (inr h) = low_in x ys (and_parts _ _ e).1 z h
+low_in x xs e z h = leb-true _ _ (All-contains (λ y. nat_le (key_at x) (key_at y) ≡ true) xs z (AllPass-from_list_all (λ y. nat_le (key_at x) (key_at y)) xs e) (contains_from_in xs z h))
 
 rises : (xs : List Noted) → stands xs ≡ true → Rises xs
 rises [] e = tt

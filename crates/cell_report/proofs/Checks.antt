@@ -6,12 +6,12 @@ use Rattle.cell_report.specs.declared.ordered.Noted.{Noted}
 use Rattle.cell_report.specs.Order.{InOrder, key_at, is_done_noted, done_at, done_stamps, greatest}
 use Rattle.cell_report.specs.AuditFaults.{times, IsTwice, HasNoTwice, IsGap, HasNoGap}
 use Rattle.cell_report.proofs.Members.{In, in_at, in_permutation, in_permutation_back}
-use Rattle.cell_report.proofs.Rising.{rises_from, from_ups, done_ups, from_done}
+use Rattle.cell_report.proofs.Rising.{rises_from, from_rises, done_ups, from_done}
 use Rattle.cell_report.proofs.Times.{stands, stands_done, times_is}
 
 -- the Done stamps, in the order
 pub rising_stamps : (all ordered : List Noted) (stamps : List ℕ) → InOrder all ordered → stamps ≡ done_stamps ordered → IsNonDecreasing stamps
-rising_stamps all ordered stamps o e = subst IsNonDecreasing (sym e) (from_ups (done_stamps ordered) (done_ups ordered (rises_from key_at ordered o.rising)))
+rising_stamps all ordered stamps o e = subst IsNonDecreasing (sym e) (from_rises (λ n. n) (done_stamps ordered) (done_ups ordered (rises_from key_at ordered o.rising)))
 
 pub counted : (all ordered : List Noted) → InOrder all ordered → (r : ℕ) → stands r (done_stamps ordered) ≡ done_at all r
 counted all ordered o r = stands_done ordered r ∙ sum_by-IsPermutation (λ (x : Noted). cond (is_done_noted x && nat_eq x.entry.stamp r) 1 0) all ordered o.same

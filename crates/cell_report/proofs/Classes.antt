@@ -2,6 +2,7 @@
 use Rattle.std.proofs.Common.{◌≡◌, ◌≤◌, Bool, true, false, cond, inl, inr, List, [], ◌∷◌, filter, refl, sym, ap, ◌∙◌, subst, arith}
 use Rattle.std.specs.Ordering.{nat_cmp, is_lt}
 use Rattle.std.specs.List.Sorted.{ties}
+use Rattle.std.proofs.lemmas.Bool.{cases_Bool, cond_both}
 use Rattle.std.proofs.lemmas.Bool.Decides.{nat_tests}
 use Rattle.cell_report.specs.declared.ordered.Noted.{Noted}
 use Rattle.cell_report.specs.Order.{key_at}
@@ -17,30 +18,22 @@ ties_with x y = ties is_below x y
 pub ties_same : (x y : Noted) → key_at x ≡ key_at y → ties_with x y ≡ true
 ties_same x y e = grind (arith, nat_tests)
 
-swap_by : {X : Type 0} (a b : Bool) (p q : X → Bool) (x : X) (xs : List X) → p x ≡ a → q x ≡ b → filter p (filter q xs) ≡ filter q (filter p xs) → filter p (cond b (x ∷ filter q xs) (filter q xs)) ≡ filter q (cond a (x ∷ filter p xs) (filter p xs))
-swap_by true true p q x xs e f h = rw (e, f) (ap (λ l. x ∷ l) h)
-swap_by true false p q x xs e f h = rw f h
-swap_by false true p q x xs e f h = rw e h
-swap_by false false p q x xs e f h = h
-
 pub filter_swap : {X : Type 0} (p q : X → Bool) (xs : List X) → filter p (filter q xs) ≡ filter q (filter p xs)
 filter_swap p q [] = refl
-filter_swap p q (x ∷ xs) = swap_by (p x) (q x) p q x xs refl refl (filter_swap p q xs)
-
-pub rises_filter_by : (b : Bool) (x : Noted) (ys : List Noted) → ((z : Noted) → In z ys → key_at x ≤ key_at z) → Rises ys → Rises (cond b (x ∷ ys) ys)
-rises_filter_by true x ys f r = (f, r)
-rises_filter_by false x ys f r = r
+filter_swap p q (x ∷ xs) = elim (cases_Bool (p x)) [
+  | inl e ↦ elim (cases_Bool (q x)) [ inl f ↦ rw (e, f, e) (ap (λ l. x ∷ l) (filter_swap p q xs)) | inr f ↦ rw (e, f) (filter_swap p q xs) ]
+  | inr e ↦ elim (cases_Bool (q x)) [ inl f ↦ rw (f, e) (filter_swap p q xs) | inr f ↦ rw (e, f) (filter_swap p q xs) ]
+]
 
 pub rises_filter : (p : Noted → Bool) (xs : List Noted) → Rises xs → Rises (filter p xs)
 rises_filter p [] r = tt
-rises_filter p (x ∷ xs) r = rises_filter_by (p x) x (filter p xs) (λ z h. r.0 z (from_filter p xs z h).0) (rises_filter p xs r.1)
+rises_filter p (x ∷ xs) r =
+    let rest = rises_filter p xs r.1 in
+    cond_both (p x) (x ∷ filter p xs) (filter p xs) Rises (λ _. (λ z h. r.0 z (from_filter p xs z h).0, rest)) (λ _. rest)
 
 first_of_two : (x : Noted) (xs : List Noted) (z : Noted) → Rises (x ∷ xs) → In z (x ∷ xs) → key_at x ≤ key_at z
 first_of_two x xs z r (inl e) = let p = ap key_at e in omega (arith, p)
 first_of_two x xs z r (inr h) = r.0 z h
-
-head_is : (x y : Noted) (xs ys : List Noted) → x ∷ xs ≡ y ∷ ys → x ≡ y
-head_is x y xs ys e = cc
 
 kept_head : (p : Noted → Bool) (x : Noted) (xs : List Noted) → p x ≡ true → filter p (x ∷ xs) ≡ x ∷ filter p xs
 kept_head p x xs e = rw e refl
@@ -57,7 +50,8 @@ same_classes (x ∷ xs) (y ∷ ys) a b f =
     let x_in = (from_filter (ties_with x) (y ∷ ys) x (subst (In x) (f x) (in_filter (ties_with x) (x ∷ xs) x (inl refl) (ties_same x x refl)))).0 in
     let y_in = (from_filter (ties_with y) (x ∷ xs) y (subst (In y) (sym (f y)) (in_filter (ties_with y) (y ∷ ys) y (inl refl) (ties_same y y refl)))).0 in
     let keys : key_at x ≡ key_at y = omega (arith, first_of_two y ys x b x_in, first_of_two x xs y a y_in) in
-    let same : x ≡ y = head_is x y (filter (ties_with x) xs) (filter (ties_with x) ys) (sym (kept_head (ties_with x) x xs (ties_same x x refl)) ∙ f x ∙ kept_head (ties_with x) y ys (ties_same x y keys)) in
+    let heads : x ∷ filter (ties_with x) xs ≡ y ∷ filter (ties_with x) ys = sym (kept_head (ties_with x) x xs (ties_same x x refl)) ∙ f x ∙ kept_head (ties_with x) y ys (ties_same x y keys) in
+    let same : x ≡ y = cc in
     let g : (z : Noted) → filter (ties_with z) (x ∷ xs) ≡ filter (ties_with z) (x ∷ ys) = λ z. subst (λ w. filter (ties_with z) (x ∷ xs) ≡ filter (ties_with z) (w ∷ ys)) (sym same) (f z) in
     let rest : xs ≡ ys = same_classes xs ys a.1 b.1 (λ z. tails_by (ties_with z x) x (filter (ties_with z) xs) (filter (ties_with z) ys) (g z)) in
     cc

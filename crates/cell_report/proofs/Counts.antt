@@ -1,13 +1,13 @@
 -- The Done entries of a history, by stamp.
-use Rattle.std.proofs.Common.{◌≡◌, ℕ, ◌+◌, ◌<◌, ◌≤◌, nat_eq, Bool, true, false, cond, ◌&&◌, inl, inr, List, [], ◌∷◌, ◌++◌, refl, sym, ap, ◌∙◌, subst, arith}
+use Rattle.std.proofs.Common.{◌≡◌, ℕ, ◌+◌, ◌<◌, ◌≤◌, nat_eq, true, cond, ◌&&◌, inl, inr, List, [], ◌∷◌, ◌++◌, refl, sym, ap, ◌∙◌, subst, arith}
 use Rattle.std.proofs.lemmas.Bool.{cases_lt}
-use Rattle.std.proofs.lemmas.List.Sums.{sum_by-cons}
+use Rattle.std.proofs.lemmas.List.Sums.{sum_by-append, sum_by-cons}
 use Rattle.cell_rules.specs.Types.{Machine, Feed, Table, Robot, Press, Deposit, Crane, Watch, Event, same_machine}
 use Rattle.cell_rules.specs.Types.{Entry}
 use Rattle.cell_rules.specs.Names.{ModelState, after, IsLegal, is_done_answer, noted, entry_of, state_left}
 use Rattle.cell_report.specs.declared.ordered.Noted.{Noted}
 use Rattle.cell_report.specs.Order.{noted_after, noted_from, all_noted, is_done_noted, done_at}
-use Rattle.cell_report.proofs.Members.{In, from_filter}
+use Rattle.cell_report.proofs.Members.{In, in_kept, from_filter}
 use Rattle.cell_report.proofs.Own.{is_of, same_itself, own_entries}
 use Rattle.cell_report.proofs.Times.{tick, eq_cases}
 use Rattle.cell_report.proofs.Runs.{next_cases}
@@ -21,16 +21,8 @@ pub record DoneEntry (s : ModelState) (h : List Event) (r : ℕ) : Type 0 where
   pub done : is_done_answer entry.answer ≡ true
   pub stamp : entry.stamp ≡ r
 
-first_by : (b : Bool) (e : Entry) (es : List Entry) → b ≡ true → In e (cond b (e ∷ es) es)
-first_by true e es q = inl refl
-first_by false e es q = cc
-
-later_by : (b : Bool) (d e : Entry) (es : List Entry) → In e es → In e (cond b (d ∷ es) es)
-later_by true d e es h = inr h
-later_by false d e es h = h
-
 later_done : (s : ModelState) (f : Event) (h : List Event) (r : ℕ) → DoneEntry (state_left s f) h r → DoneEntry s (f ∷ h) r
-later_done s f h r d = record { machine = d.machine; entry = d.entry; noted_by = later_by (same_machine f.machine d.machine) (entry_of s f) d.entry (noted (state_left s f) h d.machine) d.noted_by; done = d.done; stamp = d.stamp }
+later_done s f h r d = record { machine = d.machine; entry = d.entry; noted_by = in_kept (same_machine f.machine d.machine) (entry_of s f) d.entry (noted (state_left s f) h d.machine) d.noted_by; done = d.done; stamp = d.stamp }
 
 pub done_in_run : (s : ModelState) (h : List Event) (r : ℕ) → IsLegal s h → s.stamp < r → r ≤ (after s h).stamp → DoneEntry s h r
 done_in_run s [] r legal low high = absurd (omega arith)
@@ -42,7 +34,7 @@ done_in_run s (f ∷ h) r legal low high =
             | inr k ↦ record {
               machine = f.machine;
               entry = entry_of s f;
-              noted_by = first_by (same_machine f.machine f.machine) (entry_of s f) (noted (state_left s f) h f.machine) (same_itself f.machine);
+              noted_by = rw (same_itself f.machine) (inl refl);
               done = ap is_done_answer legal.0 ∙ c.0;
               stamp = omega (arith, c.1, k);
             }
@@ -81,14 +73,6 @@ total_by r Deposit e j = omega arith
 total_by r Crane e j = omega arith
 total_by r Watch e j = omega arith
 
-tick_done : (b : Bool) (r t : ℕ) → b ≡ true → tick (b && nat_eq t r) ≡ tick (nat_eq t r)
-tick_done true r t e = refl
-tick_done false r t e = cc
-
-tick_other : (b : Bool) (r t : ℕ) → b ≡ false → tick (b && nat_eq t r) ≡ 0
-tick_other true r t e = cc
-tick_other false r t e = refl
-
 pub once_each : (s : ModelState) (h : List Event) (r : ℕ) → IsLegal s h → (total r (noted s h) ≤ 1) × (r ≤ s.stamp → total r (noted s h) ≡ 0)
 once_each s [] r legal = (omega arith, λ l. refl)
 once_each s (f ∷ h) r legal =
@@ -97,22 +81,16 @@ once_each s (f ∷ h) r legal =
     let sum = total_by r f.machine e (noted (state_left s f) h) in
     elim (next_cases s f.machine f.call) [
       | inl c ↦
-          let one = tick_done (is_done_answer e.answer) r e.stamp (ap is_done_answer legal.0 ∙ c.0) in
+          let one = ap (λ b. tick (b && nat_eq e.stamp r)) (ap is_done_answer legal.0 ∙ c.0) in
           elim (eq_cases e.stamp r) [
             | inl q ↦ let none = rest.1 (omega (arith, q.0)) in (omega (arith, sum, one, q.1, none), λ l. absurd (omega (arith, q.0, c.1, l)))
             | inr q ↦ (omega (arith, sum, one, q.1, rest.0), λ l. let none = rest.1 (omega (arith, c.1, l)) in omega (arith, sum, one, q.1, none))
           ]
       | inr c ↦
-          let one = tick_other (is_done_answer e.answer) r e.stamp (ap is_done_answer legal.0 ∙ c.0) in
+          let one = ap (λ b. tick (b && nat_eq e.stamp r)) (ap is_done_answer legal.0 ∙ c.0) in
           let same = ap (λ (t : ModelState). t.stamp) c.1 in
           (omega (arith, sum, one, rest.0), λ l. let none = rest.1 (omega (arith, same, l)) in omega (arith, sum, one, none))
     ]
-
-done_at-append : (r : ℕ) (a b : List Noted) → done_at (a ++ b) r ≡ done_at a r + done_at b r
-done_at-append r [] b = omega arith
-done_at-append r (x ∷ a) b =
-    let f : Noted → ℕ = λ y. cond (is_done_noted y && nat_eq y.entry.stamp r) 1 0 in
-    omega (arith, sum_by-cons f x (a ++ b), sum_by-cons f x a, done_at-append r a b)
 
 done_at-from : (r : ℕ) (m : Machine) (earlier es : List Entry) → done_at (noted_from m earlier es) r ≡ tally r es
 done_at-from r m earlier [] = refl
@@ -120,20 +98,12 @@ done_at-from r m earlier (e ∷ es) =
     let f : Noted → ℕ = λ y. cond (is_done_noted y && nat_eq y.entry.stamp r) 1 0 in
     omega (arith, sum_by-cons f (noted_after m earlier e) (noted_from m (earlier ++ e ∷ []) es), done_at-from r m (earlier ++ e ∷ []) es)
 
-seven : (r : ℕ) (a b c d e f g : List Noted) → done_at (a ++ b ++ c ++ d ++ e ++ f ++ g) r ≡ done_at a r + done_at b r + done_at c r + done_at d r + done_at e r + done_at f r + done_at g r
-seven r a b c d e f g =
-    omega (arith, done_at-append r (a ++ b ++ c ++ d ++ e ++ f) g, done_at-append r (a ++ b ++ c ++ d ++ e) f, done_at-append r (a ++ b ++ c ++ d) e, done_at-append r (a ++ b ++ c) d, done_at-append r (a ++ b) c, done_at-append r a b)
-
 pub done_total : (r : ℕ) (j : Machine → List Entry) → done_at (all_noted j) r ≡ total r j
 done_total r j =
-    let p : Machine → List Noted = λ m. noted_from m [] (j m) in
-    omega (arith, seven r (p Feed) (p Table) (p Robot) (p Press) (p Deposit) (p Crane) (p Watch), done_at-from r Feed [] (j Feed), done_at-from r Table [] (j Table), done_at-from r Robot [] (j Robot), done_at-from r Press [] (j Press), done_at-from r Deposit [] (j Deposit), done_at-from r Crane [] (j Crane), done_at-from r Watch [] (j Watch))
-
-same_total : (s : ModelState) (j : Machine → List Entry) (h : List Event) (r : ℕ) → ((m : Machine) → noted s h m ≡ j m) → total r (noted s h) ≡ total r j
-same_total s j h r own =
-    let t : Machine → ℕ = λ m. tally r (j m) in
-    let e : (m : Machine) → tally r (noted s h m) ≡ tally r (j m) = λ m. ap (tally r) (own m) in
-    omega (arith, e Feed, e Table, e Robot, e Press, e Deposit, e Crane, e Watch)
+    let f : Noted → ℕ = λ y. cond (is_done_noted y && nat_eq y.entry.stamp r) 1 0 in
+    simp (sum_by-append f, done_at-from r) (omega arith)
 
 pub at_most_once : (s : ModelState) (j : Machine → List Entry) (h : List Event) (r : ℕ) → IsLegal s h → ((m : Machine) → noted s h m ≡ j m) → done_at (all_noted j) r ≤ 1
-at_most_once s j h r legal own = omega (arith, done_total r j, same_total s j h r own, (once_each s h r legal).0)
+at_most_once s j h r legal own =
+    let e : (m : Machine) → tally r (noted s h m) ≡ tally r (j m) = λ m. ap (tally r) (own m) in
+    omega (arith, done_total r j, e Feed, e Table, e Robot, e Press, e Deposit, e Crane, e Watch, (once_each s h r legal).0)

@@ -1,6 +1,7 @@
 -- Members of a list, by recursion on it.
-use Rattle.std.proofs.Common.{◌≡◌, ℕ, zero, suc, ◌<◌, length, get_or, Bool, true, false, cond, ◌⊎◌, inl, inr, List, [], ◌∷◌, ◌++◌, filter, Contains, refl, sym, ap, ◌∙◌, arith}
+use Rattle.std.proofs.Common.{◌≡◌, ℕ, zero, suc, ◌<◌, length, get_or, Bool, true, cond, ◌⊎◌, inl, inr, List, [], ◌∷◌, ◌++◌, filter, Contains, sym, ap, ◌∙◌, arith}
 use Rattle.std.specs.List.Sorted.{IsPermutation}
+use Rattle.std.proofs.lemmas.Bool.{cond_both}
 use Rattle.std.proofs.lemmas.List.Elements.{Contains-get_or}
 use Rattle.std.proofs.lemmas.List.Sorted.{Contains-permutation, IsPermutation-sym}
 
@@ -41,24 +42,19 @@ in_append_cases [] ys z h = inr h
 in_append_cases (x ∷ xs) ys z (inl e) = inl (inl e)
 in_append_cases (x ∷ xs) ys z (inr h) = elim (in_append_cases xs ys z h) [ inl k ↦ inl (inr k) | inr k ↦ inr k ]
 
-kept_in : {X : Type 0} (b : Bool) (x z : X) (ys xs : List X) → b ≡ true → (x ≡ z) → In z (cond b (x ∷ ys) ys)
-kept_in true x z ys xs e h = inl h
-kept_in false x z ys xs e h = cc
+pub in_append_all : {X : Type 0} (P : X → Type 0) (xs ys : List X) → ((z : X) → In z xs → P z) → ((z : X) → In z ys → P z) → (z : X) → In z (xs ++ ys) → P z
+in_append_all P xs ys f g z h = elim (in_append_cases xs ys z h) [ inl k ↦ f z k | inr k ↦ g z k ]
 
-kept_after : {X : Type 0} (b : Bool) (x z : X) (ys : List X) → In z ys → In z (cond b (x ∷ ys) ys)
-kept_after true x z ys h = inr h
-kept_after false x z ys h = h
+pub in_kept : {X : Type 0} (b : Bool) (x z : X) (ys : List X) → In z ys → In z (cond b (x ∷ ys) ys)
+in_kept b x z ys h = cond_both b (x ∷ ys) ys (In z) (λ _. inr h) (λ _. h)
 
 pub in_filter : {X : Type 0} (p : X → Bool) (xs : List X) (z : X) → In z xs → p z ≡ true → In z (filter p xs)
 in_filter p [] z h e = absurd h
-in_filter p (x ∷ xs) z (inl s) e = kept_in (p x) x z (filter p xs) xs (ap p s ∙ e) s
-in_filter p (x ∷ xs) z (inr h) e = kept_after (p x) x z (filter p xs) (in_filter p xs z h e)
-
-was_in : {X : Type 0} (p : X → Bool) (b : Bool) (x z : X) (ys xs : List X) → p x ≡ b → (In z ys → In z xs × (p z ≡ true)) → In z (cond b (x ∷ ys) ys) → In z (x ∷ xs) × (p z ≡ true)
-was_in p true x z ys xs e f (inl h) = (inl h, ap p (sym h) ∙ e)
-was_in p true x z ys xs e f (inr h) = (inr (f h).0, (f h).1)
-was_in p false x z ys xs e f h = (inr (f h).0, (f h).1)
+in_filter p (x ∷ xs) z (inl s) e = rw (ap p s ∙ e) (inl s)
+in_filter p (x ∷ xs) z (inr h) e = in_kept (p x) x z (filter p xs) (in_filter p xs z h e)
 
 pub from_filter : {X : Type 0} (p : X → Bool) (xs : List X) (z : X) → In z (filter p xs) → In z xs × (p z ≡ true)
 from_filter p [] z h = absurd h
-from_filter p (x ∷ xs) z h = was_in p (p x) x z (filter p xs) xs refl (from_filter p xs z) h
+from_filter p (x ∷ xs) z h =
+    let later : In z (filter p xs) → In z (x ∷ xs) × (p z ≡ true) = λ k. let r = from_filter p xs z k in (inr r.0, r.1) in
+    cond_both (p x) (x ∷ filter p xs) (filter p xs) (λ l. In z l → In z (x ∷ xs) × (p z ≡ true)) (λ e i. elim i [ inl q ↦ (inl q, ap p (sym q) ∙ e) | inr k ↦ later k ]) (λ _. later) h

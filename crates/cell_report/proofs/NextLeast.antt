@@ -1,7 +1,7 @@
 -- The next run of several journals.
 use Rattle.std.specs.Option.{MatchOption}
 use Rattle.std.proofs.lemmas.Bool.{cases_lt}
-use Rattle.std.proofs.Common.{◌+◌, Bool, true, Option, None, Some, append-nil, ◌≡◌, ℕ, zero, suc, ◌<◌, ◌≤◌, inl, inr, List, [], ◌∷◌, ◌++◌, length, replicate, map, get_or, set, refl, sym, ap, ◌∙◌, subst, arith, append_assoc, length-append}
+use Rattle.std.proofs.Common.{◌+◌, ◌-◌, Bool, true, Option, None, Some, append-nil, ◌≡◌, ℕ, zero, suc, ◌<◌, ◌≤◌, inl, inr, List, [], ◌∷◌, ◌++◌, length, replicate, map, get_or, set, refl, sym, ap, ◌∙◌, subst, arith, append_assoc, length-append}
 use Rattle.std.specs.List.Sorted.{IsNonDecreasingBy}
 use Rattle.cell_rules.specs.Types.{Machine, Feed, Table, Robot, Press, Deposit, Crane, Watch, Entry}
 use Rattle.cell_report.specs.declared.ordered.Noted.{Noted}
@@ -10,30 +10,28 @@ use Rattle.cell_report.specs.declared.rests.Rest.{Rest}
 use Rattle.cell_report.specs.Order.{key_of, key_at, in_order, noted_after, noted_from, all_noted}
 use Rattle.cell_report.specs.InTurn.{noted_in_turn, all_in_turn, first_key, last_key, IsFirstLeast}
 use Rattle.cell_report.specs.Merged.{left_of, left_of_all, AllRise, IsRun, IsMerged}
-use Rattle.cell_report.proofs.Members.{In, in_append_right, in_append_cases}
-use Rattle.cell_report.proofs.Rising.{RisesBy, Rises, rises_from, from_rises}
+use Rattle.std.proofs.lemmas.List.{get_or-map, length-map, nil_from_length}
+use Rattle.std.proofs.lemmas.List.Sorted.{IsNonDecreasingBy-short}
+use Rattle.cell_report.proofs.Members.{In, in_append_right, in_append_cases, in_append_all}
+use Rattle.cell_report.proofs.Rising.{RisesBy, Rises, rises_from, from_rises, in_map}
+use Rattle.cell_report.proofs.Runs.{in_from}
 use Rattle.cell_report.proofs.Turns.{in_turn_from_rises}
 use Rattle.cell_report.proofs.Puts.{first_in_order}
 
-entry_in : (m : Machine) (es : List Entry) (z : Noted) → In z (all_in_turn m es) → In z.entry es
-entry_in m [] z i = absurd i
-entry_in m (e ∷ es) z (inl q) = inl (ap (λ (w : Noted). w.entry) q)
-entry_in m (e ∷ es) z (inr i) = inr (entry_in m es z i)
+first_low : (es : List Entry) (z : Entry) → RisesBy key_of es → In z es → first_key es ≤ key_of z
+first_low [] z up i = absurd i
+first_low (e ∷ es) z up (inl q) = let k = ap key_of q in omega (arith, k)
+first_low (e ∷ es) z up (inr i) = up.0 z i
 
 low : (m : Machine) (es : List Entry) (z : Noted) → IsNonDecreasingBy key_of es → In z (all_in_turn m es) → first_key es ≤ key_at z
-low m [] z up i = absurd i
-low m (e ∷ es) z up (inl q) = let k = ap key_at q in omega (arith, k)
-low m (e ∷ es) z up (inr i) = (rises_from key_of (e ∷ es) up).0 z.entry (entry_in m es z i)
-
-key_low : (r : Rest) (z : Noted) → IsNonDecreasingBy key_of r.entries.now → In z (left_of r) → r.key ≤ key_at z
-key_low r z up i = subst (λ k. k ≤ key_at z) (sym r.first) (low r.machine r.entries.now z up i)
+low m es z up i =
+    let e = in_map (noted_in_turn m) es z i in
+    let k = ap key_at e.2 in
+    omega (arith, k, first_low es e.0 (rises_from key_of es up) e.1)
 
 first_is : (m : Machine) (es : List Entry) (x : Noted) (more : List Noted) → all_in_turn m es ≡ x ∷ more → first_key es ≡ key_at x
 first_is m [] x more e = cc
 first_is m (d ∷ es) x more e = let same : noted_in_turn m d ≡ x = cc in ap key_at same
-
-key_is : (r : Rest) (x : Noted) (more : List Noted) → left_of r ≡ x ∷ more → r.key ≡ key_at x
-key_is r x more e = r.first ∙ first_is r.machine r.entries.now x more e
 
 rise_at : (rs : List Rest) (i : ℕ) (d : Rest) → AllRise rs → i < length rs → IsNonDecreasingBy key_of (get_or rs i d).entries.now
 rise_at [] i d up h = absurd (omega (arith, h))
@@ -62,7 +60,7 @@ record Goes (n : ℕ) (x : Noted) (old new : List Noted) : Type 0 where
 others : (rs : List Rest) (n : ℕ) (z : Noted) → AllRise rs → ((j : ℕ) → j < length rs → (d : Rest) → n ≤ (get_or rs j d).key) → In z (left_of_all rs) → n ≤ key_at z
 others [] n z up f i = absurd i
 others (r ∷ rs) n z up f i = elim (in_append_cases (left_of r) (left_of_all rs) z i) [
-  | inl k ↦ let p : n ≤ r.key = f 0 (omega arith) r in omega (arith, p, key_low r z up.0 k)
+  | inl k ↦ omega (arith, f 0 (omega arith) r, low r.machine r.entries.now z up.0 k, r.first)
   | inr k ↦ others rs n z up.1 (λ j h d. f (suc j) (omega (arith, h)) d) k
 ]
 
@@ -77,10 +75,7 @@ goes (r ∷ rs) zero d new n x up h is all below own = record {
   old_is = ap (λ l. l ++ left_of_all rs) is ∙ append_assoc (replicate n x) (left_of new) (left_of_all rs);
   new_is = refl;
   below = λ z i. absurd i;
-  above = λ z i. elim (in_append_cases (left_of new) (left_of_all rs) z i) [
-    | inl k ↦ own z k
-    | inr k ↦ others rs (key_at x) z up.1 (λ j l e. all (suc j) (omega (arith, l)) e) k
-  ];
+  above = in_append_all (λ z. key_at x ≤ key_at z) (left_of new) (left_of_all rs) own (λ z k. others rs (key_at x) z up.1 (λ j l e. all (suc j) (omega (arith, l)) e) k);
 }
 goes (r ∷ rs) (suc i) d new n x up h is all below own =
     let g : Goes n x (left_of_all rs) (left_of_all (set rs i new)) =
@@ -90,10 +85,7 @@ goes (r ∷ rs) (suc i) d new n x up h is all below own =
       after = g.after;
       old_is = ap (λ l. left_of r ++ l) g.old_is ∙ sym (append_assoc (left_of r) g.before (replicate n x ++ g.after));
       new_is = ap (λ l. left_of r ++ l) g.new_is ∙ sym (append_assoc (left_of r) g.before g.after);
-      below = λ z k. elim (in_append_cases (left_of r) g.before z k) [
-        | inl l ↦ let p : key_at x < r.key = below 0 (omega arith) r in omega (arith, p, key_low r z up.0 l)
-        | inr l ↦ g.below z l
-      ];
+      below = in_append_all (λ z. key_at x < key_at z) (left_of r) g.before (λ z l. omega (arith, below 0 (omega arith) r, low r.machine r.entries.now z up.0 l, r.first)) g.below;
       above = g.above;
     }
 
@@ -104,13 +96,7 @@ abbrev pub keys_of : List Rest → List ℕ
 keys_of rs = map (λ (r : Rest). r.key) rs
 
 key_at_place : (rs : List Rest) (i : ℕ) (d : Rest) → i < length rs → get_or (keys_of rs) i 0 ≡ (get_or rs i d).key
-key_at_place [] i d h = absurd (omega (arith, h))
-key_at_place (r ∷ rs) zero d h = refl
-key_at_place (r ∷ rs) (suc i) d h = key_at_place rs i d (omega (arith, h))
-
-keys_length : (rs : List Rest) → length (keys_of rs) ≡ length rs
-keys_length [] = refl
-keys_length (r ∷ rs) = ap suc (keys_length rs)
+key_at_place rs i d h = get_or-map (λ (r : Rest). r.key) rs i d 0 h
 
 in_replicate : {X : Type 0} (n : ℕ) (x z : X) → In z (replicate n x) → x ≡ z
 in_replicate zero x z i = absurd i
@@ -122,10 +108,7 @@ run_first : (n : ℕ) (x : Noted) (before after : List Noted) → ((z : Noted) �
 run_first zero x before after f g = refl
 run_first (suc n) x before after f g =
     first_in_order before (replicate n x ++ after) x f
-    (λ z i. elim (in_append_cases (replicate n x) after z i) [
-      | inl k ↦ let e = ap key_at (in_replicate n x z k) in omega (arith, e)
-      | inr k ↦ g z k
-    ])
+    (in_append_all (λ z. key_at x ≤ key_at z) (replicate n x) after (λ z k. let e = ap key_at (in_replicate n x z k) in omega (arith, e)) g)
     ∙ ap (λ l. x ∷ l) (run_first n x before after f g)
 
 -- the run at the beginning of the rest with the least key is the next in the order
@@ -133,35 +116,27 @@ next_is : (rs : List Rest) (i : ℕ) (d new : Rest) (n : ℕ) (x : Noted) → Al
     → in_order (left_of_all rs) ≡ replicate (suc n) x ++ in_order (left_of_all (set rs i new))
 next_is rs i d new n x up h least is =
     let r : Rest = get_or rs i d in
-    let k : r.key ≡ key_at x = key_is r x (replicate n x ++ left_of new) is in
+    let k : r.key ≡ key_at x = r.first ∙ first_is r.machine r.entries.now x (replicate n x ++ left_of new) is in
     let same : (j : ℕ) → j < length rs → (e : Rest) → get_or (keys_of rs) j 0 ≡ (get_or rs j e).key = λ j l e. key_at_place rs j e l in
     let g : Goes (suc n) x (left_of_all rs) (left_of_all (set rs i new)) =
     goes rs i d new (suc n) x up h is
-    (λ j l e. omega (arith, least.least j (omega (arith, l, keys_length rs)), same j l e, same i h d, k))
+    (λ j l e. omega (arith, least.least j (omega (arith, l, length-map rs (λ (r : Rest). r.key))), same j l e, same i h d, k))
     (λ j l e. omega (arith, least.first j l, same j (omega (arith, l, h)) e, same i h d, k))
     (λ z m. tail_low r.machine r.entries.now x (replicate n x ++ left_of new) z (rise_at rs i d up h) is (in_append_right (replicate n x) (left_of new) z m)) in
     ap in_order g.old_is ∙ (run_first (suc n) x g.before g.after g.below g.above ∙ ap (λ l. replicate (suc n) x ++ in_order l) (sym g.new_is))
 
-nothing : (m : Machine) (es : List Entry) → length es ≡ 0 → all_in_turn m es ≡ []
-nothing m [] e = refl
-nothing m (d ∷ es) e = absurd (omega (arith, e))
-
-gone : (m : Machine) (es : List Entry) → all_in_turn m es ≡ [] → first_key es ≡ last_key
-gone m [] e = refl
-gone m (d ∷ es) e = cc
-
 all_gone : (rs : List Rest) → ((j : ℕ) → j < length rs → (e : Rest) → last_key ≤ (get_or rs j e).key) → left_of_all rs ≡ []
 all_gone [] f = refl
 all_gone (r ∷ rs) f =
-    ap (λ l. l ++ left_of_all rs) (nothing r.machine r.entries.now (r.none (f 0 (omega arith) r)))
+    ap (λ es. all_in_turn r.machine es ++ left_of_all rs) (nil_from_length r.entries.now (r.none (f 0 (omega arith) r)))
     ∙ all_gone rs (λ j h e. f (suc j) (omega (arith, h)) e)
 
 -- if the rest with the least key is at its end, all are
 pub none_left : (rs : List Rest) (i : ℕ) (d : Rest) → i < length rs → IsFirstLeast (keys_of rs) i → left_of (get_or rs i d) ≡ [] → left_of_all rs ≡ []
 none_left rs i d h least is =
     let r : Rest = get_or rs i d in
-    let k : r.key ≡ last_key = r.first ∙ gone r.machine r.entries.now is in
-    all_gone rs (λ j l e. omega (arith, least.least j (omega (arith, l, keys_length rs)), key_at_place rs j e l, key_at_place rs i d h, k))
+    let k : r.key ≡ last_key = r.first ∙ ap first_key (nil_from_length r.entries.now (sym (length-map r.entries.now (noted_in_turn r.machine)) ∙ ap length is)) in
+    all_gone rs (λ j l e. omega (arith, least.least j (omega (arith, l, length-map rs (λ (r : Rest). r.key))), key_at_place rs j e l, key_at_place rs i d h, k))
 
 fewer : (rs : List Rest) (i : ℕ) (d new : Rest) (x : Noted) (more : List Noted) → i < length rs → left_of (get_or rs i d) ≡ x ∷ more ++ left_of new → length (left_of_all (set rs i new)) < length (left_of_all rs)
 fewer [] i d new x more h is = absurd (omega (arith, h))
@@ -179,18 +154,10 @@ run_falls : (n : ℕ) (e : Entry) (es : List Entry) → RisesBy key_of (replicat
 run_falls zero e es up = up
 run_falls (suc n) e es up = run_falls n e es up.1
 
-first_low : (es : List Entry) (z : Entry) → RisesBy key_of es → In z es → first_key es ≤ key_of z
-first_low [] z up i = absurd i
-first_low (e ∷ es) z up (inl q) = let k = ap key_of q in omega (arith, k)
-first_low (e ∷ es) z up (inr i) = up.0 z i
-
 run_rises : (n : ℕ) (e : Entry) (es : List Entry) → key_of e ≤ first_key es → RisesBy key_of es → RisesBy key_of (replicate n e ++ es)
 run_rises zero e es h up = up
 run_rises (suc n) e es h up = (
-  λ z i. elim (in_append_cases (replicate n e) es z i) [
-    | inl k ↦ let q = ap key_of (in_replicate n e z k) in omega (arith, q)
-    | inr k ↦ omega (arith, h, first_low es z up k)
-  ],
+  in_append_all (λ z. key_of e ≤ key_of z) (replicate n e) es (λ z k. let q = ap key_of (in_replicate n e z k) in omega (arith, q)) (λ z k. omega (arith, h, first_low es z up k)),
   run_rises n e es h up,
 )
 
@@ -213,31 +180,23 @@ merged_at rs i d new run n count h least is =
       shorter = fewer rs i d new x (replicate n x) h left;
     }
 
-merged_by : (rs : List Rest) (i : ℕ) (d new : Rest) (run : Run) (n : ℕ) → run.count ≡ n → i < length rs → IsFirstLeast (keys_of rs) i → IsRun (get_or rs i d) new run → IsMerged rs (set rs i new) run
-merged_by rs i d new run zero count h least is = absurd (omega (arith, count, is.some))
-merged_by rs i d new run (suc n) count h least is = merged_at rs i d new run n count h least is
-
 next_told : (rs : List Rest) (i : ℕ) (d new : Rest) (o : Option Run) → i < length rs → IsFirstLeast (keys_of rs) i → MatchOption o ((get_or rs i d).entries.now ≡ []) (λ run. IsRun (get_or rs i d) new run)
     → MatchOption o (left_of_all rs ≡ []) (λ run. IsMerged rs (set rs i new) run)
 next_told rs i d new None h least is = none_left rs i d h least (ap (all_in_turn (get_or rs i d).machine) is)
-next_told rs i d new (Some run) h least is = merged_by rs i d new run run.count refl h least is
+next_told rs i d new (Some run) h least is = merged_at rs i d new run (run.count - 1) (omega (arith, is.some)) h least is
 
 -- the next run, where the rest was copied
 pub next_of_copy : (rs : List Rest) (i : ℕ) (old new : Rest) (o : Option Run) → IsFirstLeast (keys_of rs) i → old ≡ get_or rs i old → MatchOption o (old.entries.now ≡ []) (λ run. IsRun old new run)
     → MatchOption o (left_of_all rs ≡ []) (λ run. IsMerged rs (set rs i new) run)
 next_of_copy rs i old new o least is told =
-    next_told rs i old new o (omega (arith, least.within, keys_length rs)) least (subst (λ r. MatchOption o (r.entries.now ≡ []) (λ run. IsRun r new run)) is told)
-
-none_by : (m : Machine) (es : List Entry) (l : List Noted) → all_in_turn m es ++ l ≡ [] → (es ≡ []) × (l ≡ [])
-none_by m [] l e = (refl, e)
-none_by m (d ∷ es) l e = cc
+    next_told rs i old new o (omega (arith, least.within, length-map rs (λ (r : Rest). r.key))) least (subst (λ r. MatchOption o (r.entries.now ≡ []) (λ run. IsRun r new run)) is told)
 
 -- if nothing is left, it is in turn
 pub none_rise : (rs : List Rest) → left_of_all rs ≡ [] → AllRise rs
 none_rise [] e = tt
 none_rise (r ∷ rs) e =
-    let p = none_by r.machine r.entries.now (left_of_all rs) e in
-    (subst (IsNonDecreasingBy key_of) (sym p.0) (from_rises key_of [] tt), none_rise rs p.1)
+    let none : length r.entries.now + length (left_of_all rs) ≡ 0 = simp (length-append, length-map) at (ap length e) in
+    (IsNonDecreasingBy-short key_of r.entries.now (omega (arith, none)), none_rise rs (nil_from_length (left_of_all rs) (omega (arith, none))))
 
 -- a key that stays leaves all keys as they were
 keys_stay : (rs : List Rest) (i : ℕ) (d new : Rest) → new.key ≡ (get_or rs i d).key → keys_of (set rs i new) ≡ keys_of rs
@@ -256,60 +215,34 @@ pub record IsLeastUpTo (ns : List ℕ) (n place : ℕ) : Type 0 where
   pub first : (i : ℕ) → i < place → get_or ns place 0 < get_or ns i 0
   pub before : place < n
 
-pub least_first : (rs : List Rest) → 0 < length rs → IsLeastUpTo (keys_of rs) 1 0
-least_first rs h = record {
-  within = omega (arith, h, keys_length rs);
-  least = λ i l. let z : i ≡ 0 = omega (arith, l) in subst (λ k. get_or (keys_of rs) 0 0 ≤ get_or (keys_of rs) k 0) (sym z) (omega arith);
-  first = λ i l. absurd (omega (arith, l));
-  before = omega arith;
-}
-
 same_or_before : (ns : List ℕ) (n i m : ℕ) → ((j : ℕ) → j < n → m ≤ get_or ns j 0) → m ≤ get_or ns n 0 → i < n + 1 → m ≤ get_or ns i 0
-same_or_before ns n i m f last h = elim (cases_lt i n) [
-  | inl l ↦ f i l
-  | inr l ↦ let e : i ≡ n = omega (arith, h, l) in subst (λ k. m ≤ get_or ns k 0) (sym e) last
-]
+same_or_before ns n i m f last h = elim (cases_lt i n) [ inl l ↦ f i l | inr l ↦ let e : n ≡ i = omega (arith, h, l) in subst (λ k. m ≤ get_or ns k 0) e last ]
 
 pub least_moves : (rs : List Rest) (n place : ℕ) (d e : Rest) → IsLeastUpTo (keys_of rs) n place → n < length rs → (get_or rs n d).key < (get_or rs place e).key → IsLeastUpTo (keys_of rs) (n + 1) n
 least_moves rs n place d e old h below =
-    let ns : List ℕ = keys_of rs in
-    let a : get_or ns n 0 ≡ (get_or rs n d).key = key_at_place rs n d h in
-    let b : get_or ns place 0 ≡ (get_or rs place e).key = key_at_place rs place e (omega (arith, old.within, keys_length rs)) in
+    let a = key_at_place rs n d h in
+    let b = key_at_place rs place e (omega (arith, old.within, length-map rs (λ (r : Rest). r.key))) in
     record {
-      within = omega (arith, h, keys_length rs);
-      least = λ i l. same_or_before ns n i (get_or ns n 0) (λ j k. omega (arith, old.least j k, a, b, below)) (omega arith) l;
+      within = omega (arith, h, length-map rs (λ (r : Rest). r.key));
+      least = λ i l. same_or_before (keys_of rs) n i (get_or (keys_of rs) n 0) (λ j k. omega (arith, old.least j k, a, b, below)) (omega arith) l;
       first = λ i l. omega (arith, old.least i l, a, b, below);
       before = omega arith;
     }
 
 pub least_stays : (rs : List Rest) (n place : ℕ) (d e : Rest) → IsLeastUpTo (keys_of rs) n place → n < length rs → (get_or rs place e).key ≤ (get_or rs n d).key → IsLeastUpTo (keys_of rs) (n + 1) place
 least_stays rs n place d e old h low =
-    let ns : List ℕ = keys_of rs in
-    let a : get_or ns n 0 ≡ (get_or rs n d).key = key_at_place rs n d h in
-    let b : get_or ns place 0 ≡ (get_or rs place e).key = key_at_place rs place e (omega (arith, old.within, keys_length rs)) in
+    let a = key_at_place rs n d h in
+    let b = key_at_place rs place e (omega (arith, old.within, length-map rs (λ (r : Rest). r.key))) in
     record {
       within = old.within;
-      least = λ i l. same_or_before ns n i (get_or ns place 0) old.least (omega (arith, a, b, low)) l;
+      least = λ i l. same_or_before (keys_of rs) n i (get_or (keys_of rs) place 0) old.least (omega (arith, a, b, low)) l;
       first = old.first;
       before = omega (arith, old.before);
     }
 
-pub least_of_all : (rs : List Rest) (n place : ℕ) → IsLeastUpTo (keys_of rs) n place → length rs ≤ n → IsFirstLeast (keys_of rs) place
-least_of_all rs n place old h = record {
-  within = old.within;
-  least = λ i l. old.least i (omega (arith, l, h, keys_length rs));
-  first = old.first;
-}
-
--- all entries of journals that are in turn
-in_from : (m : Machine) (earlier es : List Entry) (z : Noted) → In z (noted_from m earlier es) → In z.entry es
-in_from m earlier [] z i = absurd i
-in_from m earlier (e ∷ es) z (inl q) = inl (ap (λ (w : Noted). w.entry) q)
-in_from m earlier (e ∷ es) z (inr i) = inr (in_from m (earlier ++ e ∷ []) es z i)
-
 noted_rise : (m : Machine) (earlier es : List Entry) → RisesBy key_of es → Rises (noted_from m earlier es)
 noted_rise m earlier [] r = tt
-noted_rise m earlier (e ∷ es) r = (λ z i. r.0 z.entry (in_from m (earlier ++ e ∷ []) es z i), noted_rise m (earlier ++ e ∷ []) es r.1)
+noted_rise m earlier (e ∷ es) r = (λ z i. r.0 z.entry (in_from m (earlier ++ e ∷ []) es z i).1, noted_rise m (earlier ++ e ∷ []) es r.1)
 
 plain : (m : Machine) (earlier es : List Entry) → ((z : Noted) → In z (noted_from m earlier es) → z.in_turn ≡ true) → all_in_turn m es ≡ noted_from m earlier es
 plain m earlier [] f = refl

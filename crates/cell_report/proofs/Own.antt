@@ -1,6 +1,7 @@
 -- The entries of one machine among all.
-use Rattle.std.proofs.Common.{◌≡◌, suc, ◌+◌, length, Bool, true, false, cond, List, [], ◌∷◌, ◌++◌, map, filter, refl, sym, ap, subst, append-nil}
-use Rattle.std.proofs.lemmas.List.{length-append}
+use Rattle.std.proofs.Common.{◌≡◌, ◌+◌, length, Bool, true, false, cond, List, [], ◌∷◌, ◌++◌, map, filter, refl, sym, ap, ◌∙◌, subst, append-nil}
+use Rattle.std.proofs.lemmas.Bool.{cond_both}
+use Rattle.std.proofs.lemmas.List.{length-append, length-map}
 use Rattle.std.proofs.lemmas.List.Elements.{filter-append}
 use Rattle.cell_rules.specs.Types.{Machine, Feed, Table, Robot, Press, Deposit, Crane, Watch, Entry, same_machine}
 use Rattle.cell_rules.specs.Types.{one_machine}
@@ -34,12 +35,10 @@ other_dropped : (m n : Machine) (earlier es : List Entry) → same_machine n m �
 other_dropped m n earlier [] e = refl
 other_dropped m n earlier (f ∷ es) e = rw e (other_dropped m n (earlier ++ f ∷ []) es e)
 
-part_by : (m n : Machine) (es : List Entry) (b : Bool) → same_machine n m ≡ b → filter (is_of m) (noted_from n [] es) ≡ cond b (noted_from n [] es) []
-part_by m n es true e = subst (λ k. filter (is_of m) (noted_from k [] es) ≡ noted_from k [] es) (sym (one_machine n m e)) (own_kept m [] es)
-part_by m n es false e = other_dropped m n [] es e
-
 part : (m n : Machine) (es : List Entry) → filter (is_of m) (noted_from n [] es) ≡ cond (same_machine n m) (noted_from n [] es) []
-part m n es = part_by m n es (same_machine n m) refl
+part m n es =
+    cond_both (same_machine n m) (noted_from n [] es) [] (λ l. filter (is_of m) (noted_from n [] es) ≡ l)
+    (λ e. subst (λ k. filter (is_of m) (noted_from k [] es) ≡ noted_from k [] es) (sym (one_machine n m e)) (own_kept m [] es)) (other_dropped m n [] es)
 
 abbrev kept_of : (Machine → List Entry) → Machine → Machine → List Noted
 kept_of j m n = cond (same_machine n m) (noted_from n [] (j n)) []
@@ -57,8 +56,7 @@ pub own_entries : (j : Machine → List Entry) (m : Machine) → filter (is_of m
 own_entries j m = simp (filter-append, part) (collapse j m)
 
 noted_length : (m : Machine) (earlier es : List Entry) → length (noted_from m earlier es) ≡ length es
-noted_length m earlier [] = refl
-noted_length m earlier (e ∷ es) = ap suc (noted_length m (earlier ++ e ∷ []) es)
+noted_length m earlier es = sym (length-map (noted_from m earlier es) entry_in) ∙ ap length (entries_of m earlier es)
 
 -- as many as in the seven journals
 pub all_length : (j : Machine → List Entry) → length (all_noted j) ≡ length (j Feed) + length (j Table) + length (j Robot) + length (j Press) + length (j Deposit) + length (j Crane) + length (j Watch)

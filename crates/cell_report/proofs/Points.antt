@@ -1,16 +1,15 @@
 -- If the stamps pass their tests, an entry that fits has the stamp of its point.
-use Rattle.std.proofs.Common.{◌≡◌, ℕ, ◌+◌, ◌*◌, ◌<◌, ◌≤◌, true, false, ◌⊎◌, inl, inr, List, [], ◌∷◌, ◌++◌, map, filter, refl, sym, ap, ◌∙◌, subst, arith, append_assoc}
+use Rattle.std.proofs.Common.{◌≡◌, ℕ, ◌+◌, ◌*◌, ◌<◌, ◌≤◌, true, false, cond, nat_eq, ◌&&◌, ◌⊎◌, inl, inr, List, [], ◌∷◌, ◌++◌, refl, sym, ap, ◌∙◌, subst, arith, append_assoc}
 use Rattle.std.specs.Prelude.{⊤}
 use Rattle.std.proofs.lemmas.Bool.{cases_lt}
-use Rattle.std.proofs.lemmas.List.{map-append}
-use Rattle.std.proofs.lemmas.List.Elements.{filter-append}
+use Rattle.std.proofs.lemmas.List.Sums.{sum_by-append}
 use Rattle.cell_rules.specs.Names.{ModelState, reply, next, is_done_answer}
 use Rattle.cell_report.specs.declared.ordered.Noted.{Noted}
-use Rattle.cell_report.specs.Order.{key_at, is_done_noted, stamp_of, done_stamps, greatest}
+use Rattle.cell_report.specs.Order.{key_at, is_done_noted, done_stamps, greatest}
 use Rattle.cell_report.specs.AuditFaults.{HasStamps, Fits, AllFit}
-use Rattle.cell_report.proofs.Members.{In, in_append_left, in_append_right, in_append_cases, in_permutation_back}
+use Rattle.cell_report.proofs.Members.{In, in_append_left, in_append_right, in_append_cases, in_append_all, in_permutation_back}
 use Rattle.cell_report.proofs.Rising.{Rises, rises_from, done_rank, other_rank, from_done, to_done}
-use Rattle.cell_report.proofs.Times.{stands, stands_in, in_stands}
+use Rattle.cell_report.proofs.Times.{stands, stands_done, stands_in, in_stands}
 use Rattle.cell_report.proofs.Checks.{counted, greatest_in}
 use Rattle.cell_report.proofs.Runs.{next_cases, stamp_rises}
 
@@ -50,10 +49,8 @@ reached_first s = record { low = omega arith; high = λ y i. absurd i; from = in
 pub reached_more : (s : ModelState) (before : List Noted) (r : ModelState) (x : Noted) → Reached s before r → FitsAt r x → Reached s (before ++ x ∷ []) (next r x.machine x.entry.call)
 reached_more s before r x k f = record {
   low = omega (arith, k.low, stamp_rises r x.machine x.entry.call);
-  high = λ y i. elim (in_append_cases before (x ∷ []) y i) [
-    | inl b ↦ omega (arith, k.high y b, stamp_rises r x.machine x.entry.call)
-    | inr b ↦ elim b [ inl q ↦ let same = ap (λ (w : Noted). w.entry.stamp) q in omega (arith, same, f.stamp) | inr z ↦ absurd z ]
-  ];
+  high = in_append_all (λ y. y.entry.stamp ≤ (next r x.machine x.entry.call).stamp) before (x ∷ []) (λ y b. omega (arith, k.high y b, stamp_rises r x.machine x.entry.call))
+      (λ y b. elim b [ inl q ↦ let same = ap (λ (w : Noted). w.entry.stamp) q in omega (arith, same, f.stamp) | inr z ↦ absurd z ]);
   from = elim (next_cases r x.machine x.entry.call) [
     | inl c ↦ inr (subst (λ n. In n (done_stamps (before ++ x ∷ []))) f.stamp (to_done (before ++ x ∷ []) x (in_append_right before (x ∷ []) x (inl refl)) (ap is_done_answer f.answer ∙ c.0)))
     | inr c ↦
@@ -76,15 +73,9 @@ pub rises_rest : (a b : List Noted) → Rises (a ++ b) → Rises b
 rises_rest [] b r = r
 rises_rest (z ∷ a) b r = rises_rest a b r.1
 
-stands_append : (r : ℕ) (a b : List ℕ) → stands r (a ++ b) ≡ stands r a + stands r b
-stands_append r [] b = omega arith
-stands_append r (x ∷ a) b = omega (arith, stands_append r a b)
-
 twice_in : (r : ℕ) (a b : List Noted) → In r (done_stamps a) → In r (done_stamps b) → 2 ≤ stands r (done_stamps (a ++ b))
 twice_in r a b h k =
-    let e : done_stamps (a ++ b) ≡ done_stamps a ++ done_stamps b = ap (map stamp_of) (filter-append is_done_noted a b) ∙ map-append stamp_of (filter is_done_noted a) (filter is_done_noted b) in
-    let t = ap (stands r) e ∙ stands_append r (done_stamps a) (done_stamps b) in
-    omega (arith, t, stands_in r (done_stamps a) h, stands_in r (done_stamps b) k)
+    omega (arith, stands_done (a ++ b) r, sum_by-append (λ (x : Noted). cond (is_done_noted x && nat_eq x.entry.stamp r) 1 0) a b, stands_done a r, stands_done b r, stands_in r (done_stamps a) h, stands_in r (done_stamps b) k)
 
 -- the last Done stamp isn't that of a later Done entry
 pub not_again : (start : ℕ) (ordered before rest : List Noted) (x : Noted) → Stamped start ordered → ordered ≡ before ++ x ∷ rest → is_done_noted x ≡ true → In x.entry.stamp (done_stamps before) → ⊥

@@ -1,7 +1,7 @@
 -- Entries that are put in the order one by one.
-use Rattle.std.proofs.Common.{◌≡◌, ◌<◌, ◌≤◌, nat_le, Bool, true, false, cond, inl, inr, List, [], ◌∷◌, ◌++◌, filter, refl, sym, ap, ◌∙◌, arith}
+use Rattle.std.proofs.Common.{◌≡◌, ◌<◌, ◌≤◌, nat_le, true, cond, inl, inr, List, [], ◌∷◌, ◌++◌, filter, refl, sym, ap, ◌∙◌, arith}
 use Rattle.std.specs.List.Sorted.{IsPermutation}
-use Rattle.std.proofs.lemmas.Bool.{leb-true, leb-false, le-leb, lt-leb, cond-true, cond-false}
+use Rattle.std.proofs.lemmas.Bool.{leb-true, leb-false, le-leb, lt-leb, cond-true, cond-false, cond_both, cases_Bool}
 use Rattle.std.proofs.lemmas.Bool.Decides.{nat_tests}
 use Rattle.std.proofs.lemmas.List.Sorted.{IsPermutation-refl, IsPermutation-cons, IsPermutation-middle, IsPermutation-trans}
 use Rattle.cell_report.specs.declared.ordered.Noted.{Noted}
@@ -10,17 +10,11 @@ use Rattle.cell_report.proofs.Members.{In, in_permutation_back}
 use Rattle.cell_report.proofs.Rising.{Rises, from_rises}
 use Rattle.cell_report.proofs.Classes.{ties_with}
 
-swapped : (x y : Noted) (ys zs : List Noted) → IsPermutation (x ∷ ys) zs → IsPermutation (x ∷ y ∷ ys) (y ∷ zs)
-swapped x y ys zs p =
-    IsPermutation-trans (x ∷ y ∷ ys) (y ∷ x ∷ ys) (y ∷ zs) (IsPermutation-middle (x ∷ []) y ys) (IsPermutation-cons y (x ∷ ys) zs p)
-
-same_by : (b : Bool) (x y : Noted) (ys zs : List Noted) → IsPermutation (x ∷ ys) zs → IsPermutation (x ∷ y ∷ ys) (cond b (x ∷ y ∷ ys) (y ∷ zs))
-same_by true x y ys zs p = IsPermutation-refl (x ∷ y ∷ ys)
-same_by false x y ys zs p = swapped x y ys zs p
-
 put_same : (x : Noted) (ys : List Noted) → IsPermutation (x ∷ ys) (put x ys)
 put_same x [] = IsPermutation-refl (x ∷ [])
-put_same x (y ∷ ys) = same_by (nat_le (key_at x) (key_at y)) x y ys (put x ys) (put_same x ys)
+put_same x (y ∷ ys) =
+    cond_both (nat_le (key_at x) (key_at y)) (x ∷ y ∷ ys) (y ∷ put x ys) (IsPermutation (x ∷ y ∷ ys)) (λ _. IsPermutation-refl (x ∷ y ∷ ys))
+    (λ _. IsPermutation-trans _ (y ∷ x ∷ ys) _ (IsPermutation-middle (x ∷ []) y ys) (IsPermutation-cons y _ _ (put_same x ys)))
 
 same : (xs : List Noted) → IsPermutation xs (in_order xs)
 same [] = IsPermutation-refl []
@@ -30,22 +24,12 @@ above : (x y z : Noted) (ys : List Noted) → key_at y ≤ key_at x → ((w : No
 above x y z ys h f (inl e) = let p = ap key_at e in omega (arith, h, p)
 above x y z ys h f (inr i) = f z i
 
-rises_by : (b : Bool) (x y : Noted) (ys : List Noted) → nat_le (key_at x) (key_at y) ≡ b → Rises (y ∷ ys) → Rises (put x ys) → Rises (cond b (x ∷ y ∷ ys) (y ∷ put x ys))
-rises_by true x y ys e r p = (
-  λ z i. elim i [
-    | inl q ↦ let k = ap key_at q in omega (arith, leb-true (key_at x) (key_at y) e, k)
-    | inr q ↦ omega (arith, leb-true (key_at x) (key_at y) e, r.0 z q)
-  ],
-  r,
-)
-rises_by false x y ys e r p = (
-  λ z i. above x y z ys (omega (arith, leb-false (key_at x) (key_at y) e)) r.0 (in_permutation_back (x ∷ ys) (put x ys) z (put_same x ys) i),
-  p,
-)
-
 put_rises : (x : Noted) (ys : List Noted) → Rises ys → Rises (put x ys)
 put_rises x [] r = (λ z i. absurd i, tt)
-put_rises x (y ∷ ys) r = rises_by (nat_le (key_at x) (key_at y)) x y ys refl r (put_rises x ys r.1)
+put_rises x (y ∷ ys) r =
+    cond_both (nat_le (key_at x) (key_at y)) (x ∷ y ∷ ys) (y ∷ put x ys) Rises
+    (λ e. (λ z i. above y x z ys (leb-true (key_at x) (key_at y) e) (λ w k. omega (arith, leb-true (key_at x) (key_at y) e, r.0 w k)) i, r))
+    (λ e. (λ z i. above x y z ys (omega (arith, leb-false (key_at x) (key_at y) e)) r.0 (in_permutation_back (x ∷ ys) (put x ys) z (put_same x ys) i), put_rises x ys r.1))
 
 rises : (xs : List Noted) → Rises (in_order xs)
 rises [] = tt
@@ -54,19 +38,19 @@ rises (x ∷ xs) = put_rises x (in_order xs) (rises xs)
 ties_keys : (z x : Noted) → ties_with z x ≡ true → key_at z ≡ key_at x
 ties_keys z x e = grind (arith, nat_tests)
 
-stable_by : (b c d : Bool) (p : Noted → Bool) (x y : Noted) (ys zs : List Noted) → nat_le (key_at x) (key_at y) ≡ b → p x ≡ c → p y ≡ d → (p x ≡ true → p y ≡ true → key_at x ≡ key_at y) → filter p zs ≡ cond (p x) (x ∷ filter p ys) (filter p ys)
-    → filter p (cond b (x ∷ y ∷ ys) (y ∷ zs)) ≡ filter p (x ∷ y ∷ ys)
-stable_by true c d p x y ys zs b_is c_is d_is keys f = refl
-stable_by false true true p x y ys zs b_is c_is d_is keys f = absurd (omega (arith, leb-false (key_at x) (key_at y) b_is, keys c_is d_is))
-stable_by false true false p x y ys zs b_is c_is d_is keys f = rw d_is f
-stable_by false false true p x y ys zs b_is c_is d_is keys f = rw (c_is, d_is) (ap (λ l. y ∷ l) (f ∙ cond-false _ _ _ c_is))
-stable_by false false false p x y ys zs b_is c_is d_is keys f = rw (c_is, d_is) (f ∙ cond-false _ _ _ c_is)
-
 put_stable : (z x : Noted) (ys : List Noted) → filter (ties_with z) (put x ys) ≡ filter (ties_with z) (x ∷ ys)
 put_stable z x [] = refl
 put_stable z x (y ∷ ys) =
-    stable_by (nat_le (key_at x) (key_at y)) (ties_with z x) (ties_with z y) (ties_with z) x y ys (put x ys) refl refl refl
-    (λ c d. sym (ties_keys z x c) ∙ ties_keys z y d) (put_stable z x ys)
+    let p = ties_with z in
+    let rest = put_stable z x ys in
+    cond_both (nat_le (key_at x) (key_at y)) (x ∷ y ∷ ys) (y ∷ put x ys) (λ l. filter p l ≡ filter p (x ∷ y ∷ ys)) (λ _. refl)
+    (λ b. elim (cases_Bool (p x)) [
+      | inr c ↦ rw (rest, c) refl
+      | inl c ↦ elim (cases_Bool (p y)) [
+        | inr d ↦ rw (rest, d) refl
+        | inl d ↦ absurd (omega (arith, leb-false (key_at x) (key_at y) b, sym (ties_keys z x c) ∙ ties_keys z y d))
+      ]
+    ])
 
 stable : (z : Noted) (xs : List Noted) → filter (ties_with z) (in_order xs) ≡ filter (ties_with z) xs
 stable z [] = refl

@@ -1,7 +1,10 @@
 -- Entries in their order, by recursion.
-use Rattle.std.proofs.Common.{◌≡◌, ℕ, zero, suc, ◌<◌, ◌≤◌, length, Bool, true, false, cond, inl, inr, List, [], ◌∷◌, get_or, map, filter, refl, ap, subst, arith}
+use Rattle.std.proofs.Common.{◌≡◌, ◌++◌, ℕ, zero, suc, ◌≤◌, true, false, inl, inr, List, [], ◌∷◌, get_or, map, filter, refl, ap, subst, arith}
 use Rattle.std.specs.Prelude.{⊤}
-use Rattle.std.specs.List.Sorted.{IsNonDecreasingBy, IsNonDecreasing}
+use Rattle.std.specs.List.Sorted.{IsNonDecreasingBy}
+use Rattle.std.proofs.lemmas.Bool.{cond_both}
+use Rattle.std.proofs.lemmas.List.{map-append}
+use Rattle.std.proofs.lemmas.List.Elements.{filter-append}
 use Rattle.cell_rules.specs.Types.{Answer, Done, Shown, Refused}
 use Rattle.cell_rules.specs.History.{is_done_answer}
 use Rattle.cell_report.specs.declared.ordered.Noted.{Noted}
@@ -29,21 +32,12 @@ rises_from key (x ∷ xs) up = (
   rises_from key xs (λ i j d h k. up (suc i) (suc j) d (omega (arith, h)) (omega (arith, k))),
 )
 
-at_or_in : {X : Type 0} (key : X → ℕ) (x : X) (xs : List X) (j : ℕ) (d : X) → ((z : X) → In z xs → key x ≤ key z) → j < length (x ∷ xs) → key x ≤ key (get_or (x ∷ xs) j d)
-at_or_in key x xs zero d f h = omega arith
-at_or_in key x xs (suc j) d f h = f (get_or xs j d) (in_at xs j d (omega (arith, h)))
-
-from_rises_at : {X : Type 0} (key : X → ℕ) (x : X) (xs : List X) → RisesBy key (x ∷ xs) → IsNonDecreasingBy key xs → (i j : ℕ) (d : X) → i ≤ j → j < length (x ∷ xs) → key (get_or (x ∷ xs) i d) ≤ key (get_or (x ∷ xs) j d)
-from_rises_at key x xs u up zero j d h k = at_or_in key x xs j d u.0 k
-from_rises_at key x xs u up (suc i) zero d h k = absurd (omega (arith, h))
-from_rises_at key x xs u up (suc i) (suc j) d h k = up i j d (omega (arith, h)) (omega (arith, k))
-
 pub from_rises : {X : Type 0} (key : X → ℕ) (xs : List X) → RisesBy key xs → IsNonDecreasingBy key xs
-from_rises key [] u = λ i j d h k. absurd (omega (arith, k))
-from_rises key (x ∷ xs) u = λ i j d h k. from_rises_at key x xs u (from_rises key xs u.1) i j d h k
-
-pub from_ups : (xs : List ℕ) → Ups xs → IsNonDecreasing xs
-from_ups xs u = from_rises (λ n. n) xs u
+from_rises key [] u i j d h k = absurd (omega (arith, k))
+from_rises key (x ∷ xs) u zero zero d h k = omega arith
+from_rises key (x ∷ xs) u zero (suc j) d h k = u.0 (get_or xs j d) (in_at xs j d (omega (arith, k)))
+from_rises key (x ∷ xs) u (suc i) zero d h k = absurd (omega (arith, h))
+from_rises key (x ∷ xs) u (suc i) (suc j) d h k = from_rises key xs u.1 i j d (omega (arith, h)) (omega (arith, k))
 
 pub done_rank : (a : Answer) → is_done_answer a ≡ true → rank a ≡ 0
 done_rank Done e = refl
@@ -55,7 +49,7 @@ other_rank Done e = cc
 other_rank (Shown _ _ _) e = refl
 other_rank (Refused _) e = refl
 
-pub in_map : {X : Type 0} (f : X → ℕ) (xs : List X) (z : ℕ) → In z (map f xs) → (y : X) × In y xs × (f y ≡ z)
+pub in_map : {X Y : Type 0} (f : X → Y) (xs : List X) (z : Y) → In z (map f xs) → (y : X) × In y xs × (f y ≡ z)
 in_map f [] z h = absurd h
 in_map f (x ∷ xs) z (inl e) = (x, inl refl, e)
 in_map f (x ∷ xs) z (inr h) = let y = in_map f xs z h in (y.0, inr y.1, y.2)
@@ -74,15 +68,13 @@ from_done xs z h =
 pub to_done : (xs : List Noted) (y : Noted) → In y xs → is_done_noted y ≡ true → In y.entry.stamp (done_stamps xs)
 to_done xs y h e = map_in stamp_of (filter is_done_noted xs) y (in_filter is_done_noted xs y h e)
 
-ups_more : (b : Bool) (x : Noted) (ys : List Noted) → (b ≡ true → (z : ℕ) → In z (map stamp_of ys) → x.entry.stamp ≤ z) → Ups (map stamp_of ys) → Ups (map stamp_of (cond b (x ∷ ys) ys))
-ups_more true x ys f u = (f refl, u)
-ups_more false x ys f u = u
+pub done_stamps-append : (a b : List Noted) → done_stamps (a ++ b) ≡ done_stamps a ++ done_stamps b
+done_stamps-append a b = simp (filter-append, map-append)
 
 pub done_ups : (xs : List Noted) → Rises xs → Ups (done_stamps xs)
 done_ups [] r = tt
 done_ups (x ∷ xs) r =
-    ups_more (is_done_noted x) x (filter is_done_noted xs)
-    (λ e z h.
-    let y = from_done xs z h in
-    omega (arith, r.0 y.0 y.1, done_rank x.entry.answer e, done_rank y.0.entry.answer y.2, y.3))
-    (done_ups xs r.1)
+    let ys = filter is_done_noted xs in
+    let up = done_ups xs r.1 in
+    cond_both (is_done_noted x) (x ∷ ys) ys (λ l. Ups (map stamp_of l))
+    (λ e. (λ z h. let y = from_done xs z h in omega (arith, r.0 y.0 y.1, done_rank x.entry.answer e, done_rank y.0.entry.answer y.2, y.3), up)) (λ _. up)

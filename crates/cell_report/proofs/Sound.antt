@@ -1,15 +1,12 @@
 -- Entries that each fit are a legal history, and each machine noted its own.
-use Rattle.std.specs.Option.{MatchOption}
-use Rattle.std.proofs.Common.{◌≡◌, Option, Some, None, option_map, ℕ, Bool, true, false, cond, inl, inr, List, [], ◌∷◌, map, filter, refl, sym, ap, ◌∙◌, subst}
+use Rattle.std.proofs.Common.{◌≡◌, Option, ℕ, Bool, true, false, cond, inl, inr, List, [], ◌∷◌, map, filter, refl, sym, ap, ◌∙◌, subst}
 use Rattle.cell_rules.specs.Types.{Machine, Event, Entry, same_machine}
 use Rattle.cell_rules.specs.Names.{ModelState, next, IsLegal, noted, entry_of, event_by, IsAudited, EndsIn}
 use Rattle.cell_rules.proofs.Notes.{events_of_noted}
 use Rattle.cell_report.specs.declared.ordered.Noted.{Noted}
-use Rattle.cell_report.specs.declared.traces.Trace.{Trace}
 use Rattle.cell_report.specs.Order.{noted_from, all_noted, event_of, greatest, key_at, InOrder}
-use Rattle.cell_report.specs.AuditFaults.{AllFit, HasStamps, IsMisfit}
+use Rattle.cell_report.specs.AuditFaults.{AllFit, HasStamps}
 use Rattle.cell_report.specs.Retraced.{Retraced, Retraces}
-use Rattle.cell_report.specs.Traces.{IsTrace}
 use Rattle.cell_report.proofs.Members.{In, in_permutation, from_filter}
 use Rattle.cell_report.proofs.Own.{is_of, entry_in, entries_of, own_entries}
 use Rattle.cell_report.proofs.Rising.{Rises, rises_from}
@@ -67,15 +64,3 @@ retraces holds s j end t ordered reached k r ends = record {
   order = (ordered, k.order, refl);
   kept = r.kept;
 }
-
-pub ends_some : {X : Type 0} (f : X → ModelState) (o : Option X) (x : X) (reached : ModelState) → o ≡ Some x → reached ≡ f x → EndsIn reached (option_map f o)
-ends_some f o x reached e h = subst (λ p. EndsIn reached (option_map f p)) (sym e) h
-
-pub ends_none : {X : Type 0} (f : X → ModelState) (o : Option X) (reached : ModelState) → o ≡ None → EndsIn reached (option_map f o)
-ends_none f o reached e = subst (λ p. EndsIn reached (option_map f p)) (sym e) tt
-
-pub from_ends : {X : Type 0} (f : X → ModelState) (o : Option X) (x : X) (reached : ModelState) → o ≡ Some x → EndsIn reached (option_map f o) → reached ≡ f x
-from_ends f o x reached e h = subst (λ p. EndsIn reached (option_map f p)) e h
-
-pub retraced : (holds : List Event → Type 0) (s : ModelState) (least : ℕ) (ordered : List Noted) (t : Trace) → t.misfit ≡ None → IsTrace holds s least ordered t → Retraced holds s ordered t.state
-retraced holds s least ordered t e is = subst (λ o. MatchOption o (Retraced holds s ordered t.state) (IsMisfit s ordered)) e is.fit

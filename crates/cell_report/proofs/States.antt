@@ -22,13 +22,8 @@ map_itself m = refl
 
 same_map : (a b : ZoneMap) → All (λ z. zone_in a z ≡ zone_in b z) all_zones → a ≡ b
 same_map a b h =
-    let h1 : a.at_z1 ≡ b.at_z1 = h 0 Z1 (omega arith) in
-    let h2 : a.at_z2 ≡ b.at_z2 = h 1 Z1 (omega arith) in
-    let h3 : a.at_z3 ≡ b.at_z3 = h 2 Z1 (omega arith) in
-    let h4 : a.at_z4 ≡ b.at_z4 = h 3 Z1 (omega arith) in
-    let h5 : a.at_z5 ≡ b.at_z5 = h 4 Z1 (omega arith) in
-    let h6 : a.at_z6 ≡ b.at_z6 = h 5 Z1 (omega arith) in
-    let same : map_of a.at_z1 a.at_z2 a.at_z3 a.at_z4 a.at_z5 a.at_z6 ≡ map_of b.at_z1 b.at_z2 b.at_z3 b.at_z4 b.at_z5 b.at_z6 = cc in
+    let same : map_of a.at_z1 a.at_z2 a.at_z3 a.at_z4 a.at_z5 a.at_z6 ≡ map_of b.at_z1 b.at_z2 b.at_z3 b.at_z4 b.at_z5 b.at_z6 =
+    cc (h 0 Z1 (omega arith), h 1 Z1 (omega arith), h 2 Z1 (omega arith), h 3 Z1 (omega arith), h 4 Z1 (omega arith), h 5 Z1 (omega arith)) in
     sym (map_itself a) ∙ same ∙ map_itself b
 
 set_of : Bool → Bool → Bool → Bool → Bool → Bool → Bool → Bool → Bool → Bool → PlaceSet
@@ -40,17 +35,8 @@ set_itself s = refl
 
 same_set : (a b : PlaceSet) → All (λ p. has a p ≡ has b p) all_places → a ≡ b
 same_set a b h =
-    let h0 : a.feed_entry ≡ b.feed_entry = h 0 Table (omega arith) in
-    let h1 : a.feed_end ≡ b.feed_end = h 1 Table (omega arith) in
-    let h2 : a.table ≡ b.table = h 2 Table (omega arith) in
-    let h3 : a.arm1 ≡ b.arm1 = h 3 Table (omega arith) in
-    let h4 : a.press_in ≡ b.press_in = h 4 Table (omega arith) in
-    let h5 : a.press_out ≡ b.press_out = h 5 Table (omega arith) in
-    let h6 : a.arm2 ≡ b.arm2 = h 6 Table (omega arith) in
-    let h7 : a.dep_entry ≡ b.dep_entry = h 7 Table (omega arith) in
-    let h8 : a.dep_end ≡ b.dep_end = h 8 Table (omega arith) in
-    let h9 : a.crane ≡ b.crane = h 9 Table (omega arith) in
-    let same : set_of a.feed_entry a.feed_end a.table a.arm1 a.press_in a.press_out a.arm2 a.dep_entry a.dep_end a.crane ≡ set_of b.feed_entry b.feed_end b.table b.arm1 b.press_in b.press_out b.arm2 b.dep_entry b.dep_end b.crane = cc in
+    let same : set_of a.feed_entry a.feed_end a.table a.arm1 a.press_in a.press_out a.arm2 a.dep_entry a.dep_end a.crane ≡ set_of b.feed_entry b.feed_end b.table b.arm1 b.press_in b.press_out b.arm2 b.dep_entry b.dep_end b.crane =
+    cc (h 0 Table (omega arith), h 1 Table (omega arith), h 2 Table (omega arith), h 3 Table (omega arith), h 4 Table (omega arith), h 5 Table (omega arith), h 6 Table (omega arith), h 7 Table (omega arith), h 8 Table (omega arith), h 9 Table (omega arith)) in
     sym (set_itself a) ∙ same ∙ set_itself b
 
 state_of : ZoneMap → PlaceSet → ℕ → Bool → ModelState

@@ -1,24 +1,20 @@
 -- Which entries of a journal are in turn.
-use Rattle.std.proofs.Common.{◌≡◌, ℕ, ◌≤◌, nat_le, true, inl, inr, List, [], ◌∷◌, ◌++◌, refl, sym, ap, ◌∙◌, arith}
+use Rattle.std.proofs.Common.{◌≡◌, ℕ, ◌≤◌, get_or, nat_le, true, inl, inr, List, [], ◌∷◌, ◌++◌, refl, sym, ap, ◌∙◌, arith}
 use Rattle.std.specs.List.{list_all}
-use Rattle.std.proofs.lemmas.Bool.{and_parts, and_from, leb-true, le-leb}
+use Rattle.std.proofs.lemmas.Bool.{leb-true, le-leb}
 use Rattle.cell_rules.specs.Types.{Machine, Entry}
 use Rattle.cell_report.specs.declared.ordered.Noted.{Noted}
 use Rattle.cell_report.specs.Order.{key_of, key_at, noted_after, noted_from}
-use Rattle.cell_report.proofs.Members.{In, in_append_left, in_append_right, in_append_cases}
+use Rattle.std.proofs.lemmas.List.Elements.{All-contains}
+use Rattle.std.proofs.lemmas.List.Sums.{AllPass-from_list_all, list_all-from_AllPass}
+use Rattle.cell_report.proofs.Members.{In, in_at, contains_from_in, in_append_left, in_append_right, in_append_all}
 use Rattle.cell_report.proofs.Rising.{Rises}
 
 low_of : (d : Entry) (earlier : List Entry) (k : ℕ) → In d earlier → list_all (λ e. nat_le (key_of e) k) earlier ≡ true → key_of d ≤ k
-low_of d [] k h t = absurd h
-low_of d (e ∷ es) k (inl q) t =
-    let a = and_parts (nat_le (key_of e) k) (list_all (λ f. nat_le (key_of f) k) es) t in
-    let p = ap key_of q in
-    omega (arith, leb-true (key_of e) k a.0, p)
-low_of d (e ∷ es) k (inr h) t = low_of d es k h (and_parts (nat_le (key_of e) k) (list_all (λ f. nat_le (key_of f) k) es) t).1
+low_of d earlier k h t = leb-true _ _ (All-contains (λ e. nat_le (key_of e) k ≡ true) earlier d (AllPass-from_list_all (λ e. nat_le (key_of e) k) earlier t) (contains_from_in earlier d h))
 
 all_low : (earlier : List Entry) (k : ℕ) → ((d : Entry) → In d earlier → key_of d ≤ k) → list_all (λ e. nat_le (key_of e) k) earlier ≡ true
-all_low [] k f = refl
-all_low (e ∷ es) k f = and_from (nat_le (key_of e) k) (list_all (λ d. nat_le (key_of d) k) es) (le-leb (key_of e) k (f e (inl refl))) (all_low es k (λ d h. f d (inr h)))
+all_low earlier k f = list_all-from_AllPass (λ e. nat_le (key_of e) k) earlier (λ i d h. le-leb _ _ (f (get_or earlier i d) (in_at earlier i d h)))
 
 later_than : (m : Machine) (earlier es : List Entry) (z : Noted) (d : Entry) → In z (noted_from m earlier es) → In d earlier → z.in_turn ≡ true → key_of d ≤ key_at z
 later_than m earlier [] z d h i t = absurd h
@@ -41,10 +37,8 @@ in_turn_after m earlier (e ∷ es) f r z (inl q) =
     ap (λ (w : Noted). w.in_turn) (sym q) ∙ all_low earlier (key_of e) (λ d i. f d i (noted_after m earlier e) (inl refl))
 in_turn_after m earlier (e ∷ es) f r z (inr h) =
     in_turn_after m (earlier ++ e ∷ []) es
-    (λ d i w k. elim (in_append_cases earlier (e ∷ []) d i) [
-      | inl b ↦ f d b w (inr k)
-      | inr b ↦ elim b [ inl q ↦ let p = ap key_of q in omega (arith, r.0 w k, p) | inr n ↦ absurd n ]
-    ])
+    (in_append_all (λ d. (w : Noted) → In w (noted_from m (earlier ++ e ∷ []) es) → key_of d ≤ key_at w) earlier (e ∷ []) (λ d b w k. f d b w (inr k))
+    (λ d b w k. elim b [ inl q ↦ let p = ap key_of q in omega (arith, r.0 w k, p) | inr n ↦ absurd n ]))
     r.1 z h
 
 -- and the converse

@@ -6,6 +6,7 @@ ghost use Rattle.cell_report.specs.ReportExamples.{ReportsAreMet};
 
 /// The journals alone decide an audit: their entries have only one order, and they have at most one
 /// fault, `Memory` apart.
+#[tactic(auto, using(crate::proofs::OneFault::fault_is_one))]
 pub fn audits_are_one()
     ensures order { OrderIsOne }
     ensures fault { FaultIsOne }
@@ -13,6 +14,7 @@ pub fn audits_are_one()
 
 /// Examples: journals of a few entries, their order, and why an audit refuses them: the least of
 /// several stamps, and the first of several causes.
+#[tactic(auto, using(crate::proofs::AuditRows::orders, crate::proofs::AuditRows::faults))]
 pub fn audits_are_met()
     ensures order { OrderExamples }
     ensures fault { FaultExamples }
@@ -20,6 +22,7 @@ pub fn audits_are_met()
 
 /// Examples: runs with their whole reports, two with an end, of which one is stopped, and one
 /// without, and the line of each audit.
+#[tactic(auto, using(crate::proofs::ReportRows::reports_are_met))]
 pub fn reports_are_met()
     ensures { ReportsAreMet }
 {}

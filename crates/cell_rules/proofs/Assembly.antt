@@ -1,9 +1,7 @@
 -- All laws of a legal history from a sound opening.
-use Rattle.std.proofs.Common.{List, sym, subst}
+use Rattle.cell_rules.proofs.Names.{◌≡◌, List, ◌++◌, sym, subst, ModelState, IsSound, IsLegal, RunsClear, BeltsRunClear, PostureByEvents, EventsFit, HandoverByHolder, Lawful}
 use Rattle.cell_types.specs.declared.answer.Event.{Event}
-use Rattle.cell_rules.specs.Names.{ModelState, IsSound, IsLegal, RunsClear, BeltsRunClear, PostureByEvents, EventsFit}
-use Rattle.cell_rules.specs.Names.{HandoverByHolder, Lawful}
-use Rattle.cell_rules.proofs.Histories.{throughout, sound-after}
+use Rattle.cell_rules.proofs.Histories.{throughout, legal-left, sound-after}
 use Rattle.cell_rules.proofs.HoldsLemmas.{holds_iff_owns}
 use Rattle.cell_rules.proofs.HolderLaws.{one_holder, mover_is_host, guest_only_while_open}
 use Rattle.cell_rules.proofs.Postures.{posture-after}
@@ -46,3 +44,7 @@ lawful s k h l = record {
   changes_are_counted = changes_counted h;
   refusals_tell = refusals_along s h k l;
 }
+
+-- and of each prefix of one
+pub lawful_at : (s : ModelState) (h before more : List Event) → IsSound s → IsLegal s h → h ≡ before ++ more → Lawful s before
+lawful_at s h before more k l e = lawful s k before (legal-left s before more (subst (IsLegal s) e l))

@@ -1,43 +1,41 @@
 -- The first of a call's conditions that applies, and the causes that the conditions give.
-use Rattle.std.proofs.Common.{◌≡◌, ℕ, Bool, true, false, cond, ◌||◌, nat_eq, Option, Some, None, is_some, List, [], ◌∷◌, refl, sym, ap, ◌∙◌, subst}
-use Rattle.std.specs.List.{list_any}
-use Rattle.std.proofs.lemmas.Bool.{eqb-true, eq-eqb, or_right}
-use Rattle.cell_rules.specs.Types.{Refusal, number_of}
-use Rattle.cell_rules.specs.Refusals.{◌or◌}
-use Rattle.cell_rules.specs.Names.{is_no_later}
-use Rattle.cell_rules.specs.RefusalLaws.{from_on}
+use Rattle.cell_rules.proofs.Names.{◌≡◌, ℕ, Bool, true, false, cond, ◌||◌, nat_eq, Option, Some, None, is_some, List, [], ◌∷◌, refl, sym, ap, ◌∙◌, subst, list_any, false_from_ne_true, eqb-true, eq-eqb, or_right, Refusal, number_of, ◌or◌}
+use Rattle.cell_rules.proofs.Names.{is_no_later, from_on}
 
 -- ---- conditions with their numbers, in order
-
-abbrev pub chain : Option Refusal → List (ℕ × Option Refusal) → Option Refusal
-chain found [] = found
-chain found (l ∷ ls) = chain (found or l.1) ls
-
-abbrev pub numbers : List (ℕ × Option Refusal) → List ℕ
-numbers [] = []
-numbers (l ∷ ls) = l.0 ∷ numbers ls
 
 -- a condition refuses for its cause, and does so whenever the cause holds
 pub record Tells (cause : Refusal → Bool) (l : ℕ × Option Refusal) : Type 0 where
   pub told : (r : Refusal) → l.1 ≡ Some r → (number_of r ≡ l.0) × (cause r ≡ true)
   pub found : (r : Refusal) → number_of r ≡ l.0 → cause r ≡ true → is_some l.1 ≡ true
 
-abbrev pub TellEach : (Refusal → Bool) → List (ℕ × Option Refusal) → Type 0
-TellEach cause [] = Unit {0}
-TellEach cause (l ∷ ls) = Tells cause l × TellEach cause ls
+pub record Line (cause : Refusal → Bool) : Type 0 where
+  pub condition : ℕ × Option Refusal
+  pub tells : Tells cause condition
 
-stays : (q : Refusal) (ls : List (ℕ × Option Refusal)) → chain (Some q) ls ≡ Some q
+abbrev pub line : {cause : Refusal → Bool} {l : ℕ × Option Refusal} → Tells cause l → Line cause
+line {l = l} t = record { condition = l; tells = t }
+
+abbrev pub chain : {cause : Refusal → Bool} → Option Refusal → List (Line cause) → Option Refusal
+chain found [] = found
+chain found (l ∷ ls) = chain (found or l.condition.1) ls
+
+abbrev pub numbers : {cause : Refusal → Bool} → List (Line cause) → List ℕ
+numbers [] = []
+numbers (l ∷ ls) = l.condition.0 ∷ numbers ls
+
+stays : {cause : Refusal → Bool} → (q : Refusal) (ls : List (Line cause)) → chain (Some q) ls ≡ Some q
 stays q [] = refl
 stays q (l ∷ ls) = stays q ls
 
-told_at : (cause : Refusal → Bool) (l : ℕ × Option Refusal) (ls : List (ℕ × Option Refusal)) (o : Option Refusal) → l.1 ≡ o → Tells cause l
+told_at : (cause : Refusal → Bool) (l : Line cause) (ls : List (Line cause)) (o : Option Refusal) → l.condition.1 ≡ o
     → ((r : Refusal) → chain None ls ≡ Some r → cause r ≡ true) → (r : Refusal) → chain o ls ≡ Some r → cause r ≡ true
-told_at cause l ls None is t rest r e = rest r e
-told_at cause l ls (Some q) is t rest r e = (t.told r (is ∙ sym (stays q ls) ∙ e)).1
+told_at cause l ls None is rest r e = rest r e
+told_at cause l ls (Some q) is rest r e = (l.tells.told r (is ∙ sym (stays q ls) ∙ e)).1
 
-pub told_by : (cause : Refusal → Bool) (ls : List (ℕ × Option Refusal)) → TellEach cause ls → (r : Refusal) → chain None ls ≡ Some r → cause r ≡ true
-told_by cause [] t r e = cc
-told_by cause (l ∷ ls) t r e = told_at cause l ls l.1 refl t.0 (told_by cause ls t.1) r e
+pub told_by : (cause : Refusal → Bool) (ls : List (Line cause)) (r : Refusal) → chain None ls ≡ Some r → cause r ≡ true
+told_by cause [] r e = cc
+told_by cause (l ∷ ls) r e = told_at cause l ls l.condition.1 refl (told_by cause ls) r e
 
 -- an answer that is in the order no later than a refusal
 pub record First (order : List ℕ) (o : Option Refusal) (r : Refusal) : Type 0 where
@@ -65,25 +63,20 @@ right_holds true c e f = cc
 right_holds false c e f = e
 
 unheard : (n k : ℕ) → ((n ≡ k) → false ≡ true) → nat_eq n k ≡ false
-unheard n k apart =
-    let At : Bool → Type 0 = λ b. nat_eq n k ≡ b → b ≡ false in
-    let by : (b : Bool) → At b = λ b. elim b as At [
-      | true ↦ λ e. sym (apart (eqb-true n k e))
-      | false ↦ λ e. refl
-    ] in
-    by (nat_eq n k) refl
+unheard n k apart = false_from_ne_true (nat_eq n k) (λ e. let bad = apart (eqb-true n k e) in cc)
 
-first_at : (cause : Refusal → Bool) (l : ℕ × Option Refusal) (ls : List (ℕ × Option Refusal)) (o : Option Refusal) → l.1 ≡ o → Tells cause l
-    → (r : Refusal) → cause r ≡ true → is_among (number_of r) (numbers (l ∷ ls)) ≡ true → (is_among (number_of r) (numbers ls) ≡ true → First (numbers ls) (chain None ls) r) → First (numbers (l ∷ ls)) (chain o ls) r
-first_at cause l ls None is t r holds among rest =
-    let not_here : nat_eq l.0 (number_of r) ≡ false = unheard l.0 (number_of r) (λ same. ap is_some (sym is) ∙ t.found r (sym same) holds) in
-    let later = right_holds (nat_eq l.0 (number_of r)) (is_among (number_of r) (numbers ls)) among not_here in
+first_at : (cause : Refusal → Bool) (l : Line cause) (ls : List (Line cause)) (o : Option Refusal) → l.condition.1 ≡ o → (r : Refusal) → cause r ≡ true
+    → is_among (number_of r) (numbers (l ∷ ls)) ≡ true → (is_among (number_of r) (numbers ls) ≡ true → First (numbers ls) (chain None ls) r) → First (numbers (l ∷ ls)) (chain o ls) r
+first_at cause l ls None is r holds among rest =
+    let n = l.condition.0 in
+    let not_here : nat_eq n (number_of r) ≡ false = unheard n (number_of r) (λ same. ap is_some (sym is) ∙ l.tells.found r (sym same) holds) in
+    let later = right_holds (nat_eq n (number_of r)) (is_among (number_of r) (numbers ls)) among not_here in
     let f = rest later in
-    record { answered = f.answered; is = f.is; stands = tail_on l.0 (number_of f.answered) (number_of r) (numbers ls) later f.stands }
-first_at cause l ls (Some q) is t r holds among rest =
-    let same : number_of q ≡ l.0 = (t.told q is).0 in
-    record { answered = q; is = stays q ls; stands = subst (λ x. is_no_later (numbers (l ∷ ls)) x (number_of r) ≡ true) (sym same) (head_on l.0 (number_of r) (numbers ls) among) }
+    record { answered = f.answered; is = f.is; stands = tail_on n (number_of f.answered) (number_of r) (numbers ls) later f.stands }
+first_at cause l ls (Some q) is r holds among rest =
+    let same : number_of q ≡ l.condition.0 = (l.tells.told q is).0 in
+    record { answered = q; is = stays q ls; stands = subst (λ x. is_no_later (numbers (l ∷ ls)) x (number_of r) ≡ true) (sym same) (head_on l.condition.0 (number_of r) (numbers ls) among) }
 
-pub first_by : (cause : Refusal → Bool) (ls : List (ℕ × Option Refusal)) → TellEach cause ls → (r : Refusal) → cause r ≡ true → is_among (number_of r) (numbers ls) ≡ true → First (numbers ls) (chain None ls) r
-first_by cause [] t r holds among = cc
-first_by cause (l ∷ ls) t r holds among = first_at cause l ls l.1 refl t.0 r holds among (first_by cause ls t.1 r holds)
+pub first_by : (cause : Refusal → Bool) (ls : List (Line cause)) (r : Refusal) → cause r ≡ true → is_among (number_of r) (numbers ls) ≡ true → First (numbers ls) (chain None ls) r
+first_by cause [] r holds among = cc
+first_by cause (l ∷ ls) r holds among = first_at cause l ls l.condition.1 refl r holds among (first_by cause ls r holds)

@@ -1,20 +1,12 @@
 -- The belts run clear: each call keeps this, so by the events it holds after a history.
-use Rattle.std.proofs.Common.{◌≡◌, pos, Bool, true, false, ◌&&◌, ◌||◌, not, is_some, unwrap_or, List, [], ◌∷◌, ◌⊎◌, inl, inr, refl, sym, ap, ◌∙◌, if◌then◌else◌}
-use Rattle.std.proofs.lemmas.Bool.{or_cases}
-use Rattle.cell_rules.specs.Types.{Machine, Feed, Deposit, Zone, Z1, Z2, Z3, Z4, Z5, Z6, Place, FeedEnd, DepEnd}
-use Rattle.cell_rules.specs.Types.{Posture, Closed, Moving, OpenIn, OpenOut, Pose, Running, Call, Claim, Give, Yield}
-use Rattle.cell_rules.specs.Types.{Take, Release, SetPose, Advance, Inquire, Stop, Resume, Answer, Done, Shown}
-use Rattle.cell_rules.specs.Types.{Refused, Event, PlaceFull, InUse, host_of, transfer_of, posture_of, same_machine}
-use Rattle.cell_rules.specs.Types.{same_zone, same_posture, same_pose, one_posture}
-use Rattle.cell_rules.specs.Names.{PlaceSet, has, ModelState, zone_at, is_full, one_if, implies, is_party, owns}
-use Rattle.cell_rules.specs.Names.{owner_of, posture_at, transfer_given, given_by, give_refusal, yield_refusal}
-use Rattle.cell_rules.specs.Names.{release_refusal, pose_refusal, reply, changed, next, next_by, emptied, filled}
-use Rattle.cell_rules.specs.Names.{is_belt_of, after, posture_given, plates_at, OneHolder, PlatesAreKept}
-use Rattle.cell_rules.specs.Names.{PostureByEvents, RunsClear, BeltsRunClear}
-use Rattle.cell_rules.proofs.Tables.{implied, all_machines, from_machines, all_poses, from_poses, all_postures, from_postures}
+use Rattle.cell_rules.proofs.Names.{◌≡◌, pos, Bool, true, false, ◌&&◌, ◌||◌, not, is_some, unwrap_or, List, [], ◌∷◌, ◌⊎◌, inl, inr, refl, sym, ap, ◌∙◌, if◌then◌else◌, or_cases, Machine, Feed, Deposit, Zone, Z1, Z4, Z5, Z6, Place, FeedEnd}
+use Rattle.cell_rules.proofs.Names.{DepEnd, Posture, Closed, Moving, OpenIn, Pose, Running, Call, Claim, Give, Yield, Take, Release, SetPose, Advance, Done, Event, PlaceFull, InUse, host_of, transfer_of, posture_of, same_machine, same_zone}
+use Rattle.cell_rules.proofs.Names.{same_posture, same_pose, one_posture, PlaceSet, has, ModelState, zone_at, is_full, one_if, implies, is_party, owns, owner_of, posture_at, transfer_given, given_by, give_refusal, yield_refusal}
+use Rattle.cell_rules.proofs.Names.{release_refusal, pose_refusal, reply, changed, next, emptied, filled, is_belt_of, after, posture_given, plates_at, OneHolder, PlatesAreKept, PostureByEvents, RunsClear, BeltsRunClear}
+use Rattle.cell_rules.proofs.Tables.{implied, all_machines, all_poses, all_postures, machines, poses, postures, holds3}
 use Rattle.cell_rules.proofs.Done.{none_then, give_done}
 use Rattle.cell_rules.proofs.Plates.{fourth, emptied_fewer}
-use Rattle.cell_rules.proofs.Soundness.{done_none}
+use Rattle.cell_rules.proofs.Soundness.{done_none, next_cases}
 use Rattle.cell_rules.proofs.Holders.{owned_as, claim_unowned, yield_owned, release_owned}
 use Rattle.cell_rules.proofs.Postures.{posture-changed}
 use Rattle.cell_rules.proofs.Accepted.{yield_out_of_use, release_out_of_use, pose_fits}
@@ -31,12 +23,7 @@ unless_in_use _ _ _ any none is_feed moving full = cc
 -- no plate is taken to the end of a belt
 unfilled : (full : PlaceSet) (z : Zone) (q : Posture) → (has (filled full (transfer_of z q)) FeedEnd ≡ has full FeedEnd) × (has (filled full (transfer_of z q)) DepEnd ≡ has full DepEnd)
 unfilled full Z1 OpenIn = (refl, refl)
-unfilled full Z2 OpenOut = (refl, refl)
-unfilled full Z3 OpenIn = (refl, refl)
-unfilled full Z3 OpenOut = (refl, refl)
-unfilled full Z4 OpenIn = (refl, refl)
-unfilled full Z5 OpenOut = (refl, refl)
-unfilled full Z6 OpenIn = (refl, refl)
+unfilled full _ OpenIn = (refl, refl)
 unfilled full _ _ = (refl, refl)
 
 -- what is given through z1 comes from the feed belt's end
@@ -56,7 +43,7 @@ starts_table n z = all_machines (λ m. all_poses (λ p. all_postures (starts n z
 moved_or_runs : (n : Machine) (z : Zone) → starts_table n z ≡ true → (m : Machine) (p : Pose) (now : Posture) → unwrap_or (posture_of m p z) now ≡ Moving → (now ≡ Moving) ⊎ ((same_pose p Running && same_machine m n) ≡ true)
 moved_or_runs n z table m p now moving =
     let moves : same_posture (unwrap_or (posture_of m p z) now) Moving ≡ true = ap (λ q. same_posture q Moving) moving in
-    let test = from_postures (starts n z m p) (from_poses (λ p. all_postures (starts n z m p)) (from_machines (λ m. all_poses (λ p. all_postures (starts n z m p))) table m) p) now in
+    let test = holds3 machines poses postures (starts n z) table m p now in
     let runs = same_pose p Running && same_machine m n in
     elim (or_cases (same_posture now Moving) runs (implied (same_posture (unwrap_or (posture_of m p z) now) Moving) (same_posture now Moving || runs) test moves))
     [ inl moved ↦ inl (one_posture now Moving moved) | inr started ↦ inr started ]
@@ -77,7 +64,6 @@ was_full s m z p e = implied (is_full (changed s m (Give z)) p) (is_full s p) (e
 
 feed_clear : (s : ModelState) (m : Machine) (c : Call) → RunsClear s → reply s m c ≡ Done → posture_given m c Z6 (posture_at s Z6) ≡ Moving → is_full (changed s m c) FeedEnd ≡ true → owns (changed s m c) Feed Z1 ≡ true
 feed_clear s m (Claim Z1) r e moving full = let own = r.feed moving full in let free = claim_unowned s m Z1 e Feed in cc
-feed_clear s m (Claim _) r e moving full = r.feed moving full
 feed_clear s m (Give Z1) r e moving full =
     let may = (give_done s m Z1 (done_none (give_refusal s m Z1) e)).0 in
     let empty = gone s.full (posture_at s Z1) m (fourth (is_party m Z1) (owns s m Z1) (not (zone_at s Z1).flag) (is_some (transfer_given s m Z1)) may) in
@@ -86,11 +72,9 @@ feed_clear s m (Give z) r e moving full = r.feed moving (was_full s m z FeedEnd 
 feed_clear s m (Yield Z1) r e moving full =
     let is_feed = sym (owned_as (owner_of s Z1) m Feed (yield_owned s m Z1 e)) ∙ r.feed moving full in
     unless_in_use (same_machine m Feed) (posture_at s Z6) (is_full s FeedEnd) _ (none_then _ InUse (yield_out_of_use s m Z1 (done_none (yield_refusal s m Z1) e))) is_feed moving full
-feed_clear s m (Yield _) r e moving full = r.feed moving full
 feed_clear s m (Release Z1) r e moving full =
     let is_feed = sym (owned_as (owner_of s Z1) m Feed (release_owned s m Z1 e)) ∙ r.feed moving full in
     unless_in_use (same_machine m Feed) (posture_at s Z6) (is_full s FeedEnd) _ (none_then _ InUse (release_out_of_use s m Z1 (done_none (release_refusal s m Z1) e))) is_feed moving full
-feed_clear s m (Release _) r e moving full = r.feed moving full
 feed_clear s m (Take Z1) r e moving full = r.feed moving (sym (unfilled s.full Z1 (posture_at s Z1)).0 ∙ full)
 feed_clear s m (Take z) r e moving full = r.feed moving (sym (unfilled s.full z (posture_at s z)).0 ∙ full)
 feed_clear s m (SetPose p) r e moving full =
@@ -99,10 +83,7 @@ feed_clear s m (SetPose p) r e moving full =
       | inr runs ↦ feed_starts (same_pose p Running) (same_machine m Deposit && is_full s DepEnd) (same_machine m Feed) (is_full s FeedEnd) (owns s Feed Z1) (none_then _ PlaceFull (pose_fits s m p (done_none (pose_refusal s m p) e)).2) runs full
     ]
 feed_clear s Feed Advance r e moving full = cc
-feed_clear s m Advance r e moving full = r.feed moving full
-feed_clear s m (Inquire z) r e moving full = r.feed moving full
-feed_clear s m Stop r e moving full = r.feed moving full
-feed_clear s m Resume r e moving full = r.feed moving full
+feed_clear s m _ r e moving full = r.feed moving full
 
 -- while a zone of the deposit belt moves, the belt's end is empty
 abbrev EndIsEmpty : ModelState → Zone → Type 0
@@ -122,10 +103,7 @@ moved_on true now e moving = cc
 moved_on false now e moving = moving
 
 deposit_clear : (z : Zone) → host_of z ≡ Deposit → starts_table Deposit z ≡ true → (s : ModelState) (m : Machine) (c : Call) → EndIsEmpty s z → reply s m c ≡ Done → posture_given m c z (posture_at s z) ≡ Moving → is_full (changed s m c) DepEnd ≡ false
-deposit_clear z host table s m (Claim y) r e moving = r moving
 deposit_clear z host table s m (Give y) r e moving = no_longer _ _ (was_full s m y DepEnd) (r moving)
-deposit_clear z host table s m (Yield y) r e moving = r moving
-deposit_clear z host table s m (Release y) r e moving = r moving
 deposit_clear z host table s m (Take y) r e moving = (unfilled s.full y (posture_at s y)).1 ∙ r moving
 deposit_clear z host table s m (SetPose p) r e moving =
     elim (moved_or_runs Deposit z table m p (posture_at s z) moving) [
@@ -134,10 +112,7 @@ deposit_clear z host table s m (SetPose p) r e moving =
     ]
 deposit_clear z host table s Deposit Advance r e moving = stopped (is_belt_of Deposit z) (posture_at s z) _ (ap (λ n. same_machine n Deposit) host) moving
 deposit_clear z host table s Feed Advance r e moving = r (moved_on (is_belt_of Feed z) (posture_at s z) (ap (λ n. same_machine n Feed) host) moving)
-deposit_clear z host table s m Advance r e moving = r moving
-deposit_clear z host table s m (Inquire y) r e moving = r moving
-deposit_clear z host table s m Stop r e moving = r moving
-deposit_clear z host table s m Resume r e moving = r moving
+deposit_clear z host table s m _ r e moving = r moving
 
 clear_changed : (s : ModelState) (m : Machine) (c : Call) → RunsClear s → reply s m c ≡ Done → RunsClear (changed s m c)
 clear_changed s m c r e = record {
@@ -146,13 +121,8 @@ clear_changed s m c r e = record {
   end = λ moving. deposit_clear Z5 refl refl s m c r.end e (sym (posture-changed s m c Z5) ∙ moving);
 }
 
-clear_by : (a : Answer) (s : ModelState) (m : Machine) (c : Call) → RunsClear s → (a ≡ Done → RunsClear (changed s m c)) → RunsClear (next_by a s m c)
-clear_by Done s m c r k = k refl
-clear_by (Refused _) s m c r k = r
-clear_by (Shown _ _ _) s m c r k = r
-
 pub clear_next : (s : ModelState) (m : Machine) (c : Call) → RunsClear s → RunsClear (next s m c)
-clear_next s m c r = clear_by (reply s m c) s m c r (clear_changed s m c r)
+clear_next s m c r = next_cases (λ b t. RunsClear t) s m c (reply s m c) (clear_changed s m c r) r
 
 pub clear-after : (s : ModelState) (h : List Event) → RunsClear s → RunsClear (after s h)
 clear-after s [] r = r

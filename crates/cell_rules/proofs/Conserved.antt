@@ -1,15 +1,7 @@
 -- The number of plates never changes, and the events determine where they are.
-use Rattle.std.proofs.Common.{◌≡◌, ℕ, ◌+◌, pos, ◌-ℤ◌, Bool, true, false, List, refl, sym, ap, ◌∙◌, arith}
-use Rattle.std.proofs.lemmas.Int.{ints}
-use Rattle.cell_rules.specs.Types.{Machine, Zone, Z1, Z2, Z3, Z4, Z5, Z6, Place, Call, Claim, Give, Yield, Take}
-use Rattle.cell_rules.specs.Types.{Release, SetPose, Advance, Inquire, Stop, Resume, Done, Event}
-use Rattle.cell_rules.specs.Names.{ZoneMap, zone_in, put_zone, map_zones, PlaceSet, has, put_place, ModelState}
-use Rattle.cell_rules.specs.Names.{zone_at, size_of, plates_of, one_if, IsSound, give_refusal, take_refusal}
-use Rattle.cell_rules.specs.Names.{advance_refusal, reply, changed, emptied, filled, worked, halted, is_belt_of}
-use Rattle.cell_rules.specs.Names.{IsLegal, PlatesAreKept}
-use Rattle.cell_rules.specs.declared.zones.ZoneState.{ZoneState}
-use Rattle.cell_rules.specs.ModelState.{flags_of}
-use Rattle.cell_rules.proofs.Puts.{each_zone, each_place}
+use Rattle.cell_rules.proofs.Names.{◌≡◌, ℕ, ◌+◌, pos, ◌-ℤ◌, Bool, true, false, List, refl, sym, ap, ◌∙◌, arith, ints, Machine, Zone, Z1, Z2, Z3, Z4, Z5, Z6, Place, FeedEntry, Call, Claim, Give, Yield, Take, Release, Advance, Inquire, Done}
+use Rattle.cell_rules.proofs.Names.{Event, ZoneMap, zone_in, put_zone, map_zones, PlaceSet, has, put_place, ModelState, zone_at, size_of, plates_of, one_if, IsSound, give_refusal, take_refusal, advance_refusal, reply, changed, emptied}
+use Rattle.cell_rules.proofs.Names.{filled, worked, halted, is_belt_of, IsLegal, PlatesAreKept, ZoneState, flags_of}
 use Rattle.cell_rules.proofs.Kept.{claimed, yielded, released}
 use Rattle.cell_rules.proofs.Plates.{given, taken}
 use Rattle.cell_rules.proofs.Transfers.{give_finds, take_finds, advance_finds}
@@ -18,14 +10,12 @@ use Rattle.cell_rules.proofs.Flags.{halted-flag, flags-counted}
 use Rattle.cell_rules.proofs.Soundness.{done_none}
 
 size-put : (full : PlaceSet) (b : Bool) (p : Place) → size_of (put_place full p b) + one_if (has full p) ≡ size_of full + one_if b
-size-put full b =
-    each_place (λ p. size_of (put_place full p b) + one_if (has full p) ≡ size_of full + one_if b)
-    (omega arith) (omega arith) (omega arith) (omega arith) (omega arith) (omega arith) (omega arith) (omega arith) (omega arith) (omega arith)
+size-put full b FeedEntry = omega arith
+size-put full b _ = omega arith
 
 flags-put : (m : ZoneMap) (v : ZoneState) (z : Zone) → flags_of (put_zone m z v) + one_if (zone_in m z).flag ≡ flags_of m + one_if v.flag
-flags-put m v =
-    each_zone (λ z. flags_of (put_zone m z v) + one_if (zone_in m z).flag ≡ flags_of m + one_if v.flag)
-    (omega arith) (omega arith) (omega arith) (omega arith) (omega arith) (omega arith)
+flags-put m v Z1 = omega arith
+flags-put m v _ = omega arith
 
 flags-halted : (s : ModelState) (n : Machine) → flags_of (map_zones (halted n) s.zones) ≡ flags_of s.zones
 flags-halted s n =
@@ -55,14 +45,12 @@ plates-changed s n (Take y) h e =
     let way = ap (λ t. size_of (filled s.full t)) found.way in
     omega (arith, way, size-filled s.full found.row.to found.room, flags-put s.zones (taken (zone_at s y) n y) y, ap one_if found.set)
 plates-changed s n (Release y) h e = omega (arith, flags-put s.zones (released (zone_at s y) n y) y)
-plates-changed s n (SetPose p) h e = refl
 plates-changed s n Advance h e =
     let found = advance_finds s n (done_none (advance_refusal s n) e) in
     let way = ap (λ w. size_of (worked s.full w)) found.work in
     omega (arith, way, flags-halted s n, size-worked s.full found.way found.there found.room)
 plates-changed s n (Inquire y) h e = cc
-plates-changed s n Stop h e = refl
-plates-changed s n Resume h e = refl
+plates-changed s n _ h e = refl
 
 abbrev never : Machine → Call → Bool
 never n c = false

@@ -1,11 +1,6 @@
 -- What holds if a call isn't refused.
-use Rattle.std.proofs.Common.{◌≡◌, ◌<◌, Bool, true, false, ◌&&◌, not, nat_lt, Option, Some, None, refl, is_none, is_some, ltb-true}
-use Rattle.std.specs.Bool.{then_some}
-use Rattle.cell_rules.specs.Types.{Machine, Watch, Zone, Z1, Z2, Z3, Z4, Z5, Z6, Place, Pose, Transfer, Moving}
-use Rattle.cell_rules.specs.Types.{Refusal, Held, NoPose, guest_of, transfer_of, same_machine, same_posture}
-use Rattle.cell_rules.specs.Types.{own_move_of}
-use Rattle.cell_rules.specs.Names.{ModelState, zone_at, is_open, is_party, is_owned_by}
-use Rattle.cell_rules.specs.declared.zones.ZoneState.{ZoneState}
+use Rattle.cell_rules.proofs.Names.{◌≡◌, ◌<◌, ℕ, zero, suc, Bool, true, false, ◌&&◌, not, nat_lt, Option, Some, None, List, [], ◌∷◌, refl, is_none, is_some, ltb-true, then_some, Machine, Watch, Zone, Z1, Z2, Z3, Z4, Z5, Z6, Place, Pose}
+use Rattle.cell_rules.proofs.Names.{Transfer, Moving, Refusal, Held, NoPose, guest_of, transfer_of, same_machine, same_posture, own_move_of, ModelState, zone_at, is_open, is_party, is_owned_by, ZoneState}
 use Rattle.cell_rules.specs.Refusals
 use Rattle.cell_rules.proofs.Tables.{and_both}
 use Rattle.cell_rules.proofs.Puts.{each_zone}
@@ -50,145 +45,107 @@ may_give v m z = is_party m z && (is_owned_by v.owner m && (not v.flag && is_som
 abbrev pub may_take : ZoneState → Machine → Zone → Bool
 may_take v m z = is_party m z && (is_owned_by v.owner m && v.flag)
 
+-- none of a call's conditions applies, by their places in the order
+abbrev pub first_of_all : Option Refusal → List (Option Refusal) → Option Refusal
+first_of_all found [] = found
+first_of_all found (o ∷ os) = first_of_all (Refusals.◌or◌ found o) os
+
+abbrev pub at : List (Option Refusal) → ℕ → Option Refusal
+at [] i = None
+at (o ∷ os) zero = o
+at (o ∷ os) (suc i) = at os i
+
+none_before : (found : Option Refusal) (os : List (Option Refusal)) → first_of_all found os ≡ None → found ≡ None
+none_before found [] e = e
+none_before found (o ∷ os) e = (none_or found o (none_before (Refusals.◌or◌ found o) os e)).0
+
+none_after : (found : Option Refusal) (os : List (Option Refusal)) → first_of_all found os ≡ None → (i : ℕ) → at os i ≡ None
+none_after found [] e i = refl
+none_after found (o ∷ os) e zero = (none_or found o (none_before (Refusals.◌or◌ found o) os e)).1
+none_after found (o ∷ os) e (suc i) = none_after (Refusals.◌or◌ found o) os e i
+
+pub none_at : (os : List (Option Refusal)) → first_of_all None os ≡ None → (i : ℕ) → at os i ≡ None
+none_at os e = none_after None os e
+
 pub claim_done : (s : ModelState) (m : Machine) (z : Zone) → Refusals.claim_refusal s m z ≡ None → (may_claim (zone_at s z) m z ≡ true) × (s.stamp < 1048575) × (s.stopped ≡ false)
 claim_done s m z e =
-    let claim_by_stranger = Refusals.not_party m z in
-    let r1 = Refusals.◌or◌ claim_by_stranger (Refusals.while_stopped s) in
-    let r2 = Refusals.◌or◌ r1 (Refusals.already_mine s m z) in
-    let r3 = Refusals.◌or◌ r2 (Refusals.held s m z) in
-    let r4 = Refusals.◌or◌ r3 (Refusals.shut_to_guest s m z) in
-    let h4 = none_or r4 (Refusals.worn s) e in
-    let h3 = none_or r3 (Refusals.shut_to_guest s m z) h4.0 in
-    let h2 = none_or r2 (Refusals.held s m z) h3.0 in
-    let h1 = none_or r1 (Refusals.already_mine s m z) h2.0 in
-    let h0 = none_or claim_by_stranger (Refusals.while_stopped s) h1.0 in
-    (and_both _ _ (none_then_not _ _ h0.0) (and_both _ _ (free _ m (none_then _ _ h1.1) h2.1) (not_true _ (none_then _ _ h3.1))), fresh s h4.1, none_then _ _ h0.1)
+    let none = none_at (Refusals.not_party m z ∷ Refusals.while_stopped s ∷ Refusals.already_mine s m z ∷ Refusals.held s m z
+    ∷ Refusals.shut_to_guest s m z ∷ Refusals.worn s ∷ []) e in
+    (and_both _ _ (none_then_not _ _ (none 0)) (and_both _ _ (free _ m (none_then _ _ (none 2)) (none 3)) (not_true _ (none_then _ _ (none 4)))), fresh s (none 5), none_then _ _ (none 1))
+
+abbrev pub yield_conditions : ModelState → Machine → Zone → List (Option Refusal)
+yield_conditions s m z = Refusals.not_party m z ∷ Refusals.not_owner s m z ∷ Refusals.plate_in_zone s z ∷ Refusals.shut s z ∷ Refusals.in_use s m z ∷ Refusals.worn s ∷ []
 
 pub yield_done : (s : ModelState) (m : Machine) (z : Zone) → Refusals.yield_refusal s m z ≡ None → (may_yield (zone_at s z) m z ≡ true) × (s.stamp < 1048575)
 yield_done s m z e =
-    let r1 = Refusals.not_party m z in
-    let r2 = Refusals.◌or◌ r1 (Refusals.not_owner s m z) in
-    let r3 = Refusals.◌or◌ r2 (Refusals.plate_in_zone s z) in
-    let r4 = Refusals.◌or◌ r3 (Refusals.shut s z) in
-    let r5 = Refusals.◌or◌ r4 (Refusals.in_use s m z) in
-    let h5 = none_or r5 (Refusals.worn s) e in
-    let h4 = none_or r4 (Refusals.in_use s m z) h5.0 in
-    let h3 = none_or r3 (Refusals.shut s z) h4.0 in
-    let h2 = none_or r2 (Refusals.plate_in_zone s z) h3.0 in
-    let h1 = none_or r1 (Refusals.not_owner s m z) h2.0 in
-    (and_both _ _ (none_then_not _ _ h1.0) (and_both _ _ (none_then_not _ _ h1.1) (and_both _ _ (not_true _ (none_then _ _ h2.1)) (none_then_not _ _ h3.1))), fresh s h5.1)
+    let none = none_at (yield_conditions s m z) e in
+    (and_both _ _ (none_then_not _ _ (none 0)) (and_both _ _ (none_then_not _ _ (none 1)) (and_both _ _ (not_true _ (none_then _ _ (none 2))) (none_then_not _ _ (none 3)))), fresh s (none 5))
+
+abbrev pub release_conditions : ModelState → Machine → Zone → List (Option Refusal)
+release_conditions s m z = Refusals.not_party m z ∷ Refusals.not_owner s m z ∷ Refusals.plate_in_zone s z ∷ Refusals.shut_while_moving s z ∷ Refusals.in_use s m z ∷ Refusals.worn s ∷ []
 
 pub release_done : (s : ModelState) (m : Machine) (z : Zone) → Refusals.release_refusal s m z ≡ None → (may_release (zone_at s z) m z ≡ true) × (s.stamp < 1048575)
 release_done s m z e =
-    let r1 = Refusals.not_party m z in
-    let r2 = Refusals.◌or◌ r1 (Refusals.not_owner s m z) in
-    let r3 = Refusals.◌or◌ r2 (Refusals.plate_in_zone s z) in
-    let r4 = Refusals.◌or◌ r3 (Refusals.shut_while_moving s z) in
-    let r5 = Refusals.◌or◌ r4 (Refusals.in_use s m z) in
-    let h5 = none_or r5 (Refusals.worn s) e in
-    let h4 = none_or r4 (Refusals.in_use s m z) h5.0 in
-    let h3 = none_or r3 (Refusals.shut_while_moving s z) h4.0 in
-    let h2 = none_or r2 (Refusals.plate_in_zone s z) h3.0 in
-    let h1 = none_or r1 (Refusals.not_owner s m z) h2.0 in
-    (and_both _ _ (none_then_not _ _ h1.0) (and_both _ _ (none_then_not _ _ h1.1) (and_both _ _ (not_true _ (none_then _ _ h2.1)) (not_true _ (none_then _ _ h3.1)))), fresh s h5.1)
+    let none = none_at (release_conditions s m z) e in
+    (and_both _ _ (none_then_not _ _ (none 0)) (and_both _ _ (none_then_not _ _ (none 1)) (and_both _ _ (not_true _ (none_then _ _ (none 2))) (not_true _ (none_then _ _ (none 3))))), fresh s (none 5))
 
 pub take_done : (s : ModelState) (m : Machine) (z : Zone) → Refusals.take_refusal s m z ≡ None → (may_take (zone_at s z) m z ≡ true) × (s.stamp < 1048575)
 take_done s m z e =
-    let r1 = Refusals.not_party m z in
-    let r2 = Refusals.◌or◌ r1 (Refusals.not_owner s m z) in
-    let r3 = Refusals.◌or◌ r2 (Refusals.no_plate_in_zone s z) in
-    let h3 = none_or r3 (Refusals.worn s) e in
-    let h2 = none_or r2 (Refusals.no_plate_in_zone s z) h3.0 in
-    let h1 = none_or r1 (Refusals.not_owner s m z) h2.0 in
-    (and_both _ _ (none_then_not _ _ h1.0) (and_both _ _ (none_then_not _ _ h1.1) (none_then_not _ _ h2.1)), fresh s h3.1)
+    let none = none_at (Refusals.not_party m z ∷ Refusals.not_owner s m z ∷ Refusals.no_plate_in_zone s z ∷ Refusals.worn s ∷ []) e in
+    (and_both _ _ (none_then_not _ _ (none 0)) (and_both _ _ (none_then_not _ _ (none 1)) (none_then_not _ _ (none 2))), fresh s (none 3))
 
 pub some_unless : (o : Option Transfer) → Refusals.wrong_way o ≡ None → is_some o ≡ true
 some_unless None e = cc
 some_unless (Some row) e = refl
 
+abbrev pub give_conditions : ModelState → Machine → Zone → List (Option Refusal)
+give_conditions s m z =
+    let row = Refusals.transfer_given s m z in
+    Refusals.not_party m z ∷ Refusals.while_stopped s ∷ Refusals.not_owner s m z ∷ Refusals.plate_in_zone s z
+    ∷ Refusals.wrong_way row ∷ Refusals.nothing_to_give s row ∷ Refusals.no_room s row ∷ Refusals.worn s ∷ []
+
 pub give_done : (s : ModelState) (m : Machine) (z : Zone) → Refusals.give_refusal s m z ≡ None → (may_give (zone_at s z) m z ≡ true) × (Refusals.no_room s (Refusals.transfer_given s m z) ≡ None) × (s.stamp < 1048575) × (s.stopped ≡ false)
 give_done s m z e =
-    let row = Refusals.transfer_given s m z in
-    let give_by_stranger = Refusals.not_party m z in
-    let r1 = Refusals.◌or◌ give_by_stranger (Refusals.while_stopped s) in
-    let r2 = Refusals.◌or◌ r1 (Refusals.not_owner s m z) in
-    let r3 = Refusals.◌or◌ r2 (Refusals.plate_in_zone s z) in
-    let r4 = Refusals.◌or◌ r3 (Refusals.wrong_way row) in
-    let r5 = Refusals.◌or◌ r4 (Refusals.nothing_to_give s row) in
-    let r6 = Refusals.◌or◌ r5 (Refusals.no_room s row) in
-    let h6 = none_or r6 (Refusals.worn s) e in
-    let h5 = none_or r5 (Refusals.no_room s row) h6.0 in
-    let h4 = none_or r4 (Refusals.nothing_to_give s row) h5.0 in
-    let h3 = none_or r3 (Refusals.wrong_way row) h4.0 in
-    let h2 = none_or r2 (Refusals.plate_in_zone s z) h3.0 in
-    let h1 = none_or r1 (Refusals.not_owner s m z) h2.0 in
-    let h0 = none_or give_by_stranger (Refusals.while_stopped s) h1.0 in
-    (and_both _ _ (none_then_not _ _ h0.0) (and_both _ _ (none_then_not _ _ h1.1) (and_both _ _ (not_true _ (none_then _ _ h2.1)) (some_unless row h3.1))), h5.1, fresh s h6.1, none_then _ _ h0.1)
+    let none = none_at (give_conditions s m z) e in
+    let here = and_both _ _ (none_then_not _ _ (none 2)) (and_both _ _ (not_true _ (none_then _ _ (none 3))) (some_unless (Refusals.transfer_given s m z) (none 4))) in
+    (and_both _ _ (none_then_not _ _ (none 0)) here, none 6, fresh s (none 7), none_then _ _ (none 1))
+
+abbrev pub pose_conditions : ModelState → Machine → Pose → List (Option Refusal)
+pose_conditions s m p =
+    Refusals.lacks_pose m p ∷ Refusals.moves_while_stopped s p ∷ Refusals.first_zone (Refusals.unowned_by_pose s m p)
+    ∷ Refusals.first_zone (Refusals.plate_under_pose s m p) ∷ Refusals.jump s m p
+    ∷ Refusals.first_zone (Refusals.opens_onto_plate s m p) ∷ Refusals.runs_onto_plate s m p ∷ Refusals.worn s ∷ []
 
 pub pose_done : (s : ModelState) (m : Machine) (p : Pose) → Refusals.pose_refusal s m p ≡ None
     → (Refusals.first_zone (Refusals.unowned_by_pose s m p) ≡ None) × (Refusals.first_zone (Refusals.plate_under_pose s m p) ≡ None)
     × (Refusals.first_zone (Refusals.opens_onto_plate s m p) ≡ None) × (s.stamp < 1048575) × ((Refusals.is_moving_pose p && s.stopped) ≡ false)
-pose_done s m p e =
-    let r0 = Refusals.lacks_pose m p in
-    let r1 = Refusals.◌or◌ r0 (Refusals.moves_while_stopped s p) in
-    let r2 = Refusals.◌or◌ r1 (Refusals.first_zone (Refusals.unowned_by_pose s m p)) in
-    let r3 = Refusals.◌or◌ r2 (Refusals.first_zone (Refusals.plate_under_pose s m p)) in
-    let r4 = Refusals.◌or◌ r3 (Refusals.jump s m p) in
-    let r5 = Refusals.◌or◌ r4 (Refusals.first_zone (Refusals.opens_onto_plate s m p)) in
-    let r6 = Refusals.◌or◌ r5 (Refusals.runs_onto_plate s m p) in
-    let h6 = none_or r6 (Refusals.worn s) e in
-    let h5 = none_or r5 (Refusals.runs_onto_plate s m p) h6.0 in
-    let h4 = none_or r4 (Refusals.first_zone (Refusals.opens_onto_plate s m p)) h5.0 in
-    let h3 = none_or r3 (Refusals.jump s m p) h4.0 in
-    let h2 = none_or r2 (Refusals.first_zone (Refusals.plate_under_pose s m p)) h3.0 in
-    let h1 = none_or r1 (Refusals.first_zone (Refusals.unowned_by_pose s m p)) h2.0 in
-    let h0 = none_or r0 (Refusals.moves_while_stopped s p) h1.0 in
-    (h1.1, h2.1, h4.1, fresh s h6.1, none_then _ _ h0.1)
+pose_done s m p e = let none = none_at (pose_conditions s m p) e in (none 2, none 3, none 5, fresh s (none 7), none_then _ _ (none 1))
 
 -- if the zones have no first refusal, no zone refuses
 pub no_zone : (f : Zone → Option Refusal) → Refusals.first_zone f ≡ None → (z : Zone) → f z ≡ None
 no_zone f e =
-    let r2 = Refusals.◌or◌ (f Z1) (f Z2) in
-    let r3 = Refusals.◌or◌ r2 (f Z3) in
-    let r4 = Refusals.◌or◌ r3 (f Z4) in
-    let r5 = Refusals.◌or◌ r4 (f Z5) in
-    let h5 = none_or r5 (f Z6) e in
-    let h4 = none_or r4 (f Z5) h5.0 in
-    let h3 = none_or r3 (f Z4) h4.0 in
-    let h2 = none_or r2 (f Z3) h3.0 in
-    let h1 = none_or (f Z1) (f Z2) h2.0 in
-    each_zone (λ z. f z ≡ None) h1.0 h1.1 h2.1 h3.1 h4.1 h5.1
+    let none = none_at (f Z1 ∷ f Z2 ∷ f Z3 ∷ f Z4 ∷ f Z5 ∷ f Z6 ∷ []) e in
+    each_zone (λ z. f z ≡ None) (none 0) (none 1) (none 2) (none 3) (none 4) (none 5)
 
 some_way : (o : Option (Place × Place)) → then_some (is_none o) NoPose ≡ None → is_some o ≡ true
 some_way None e = cc
 some_way (Some way) e = refl
 
+abbrev pub advance_conditions : ModelState → Machine → List (Option Refusal)
+advance_conditions s m =
+    let way = own_move_of m in
+    Refusals.has_no_work m ∷ Refusals.press_unowned s m ∷ Refusals.not_at_work s m ∷ Refusals.nothing_to_work s way ∷ Refusals.no_room_for_work s way ∷ Refusals.worn s ∷ []
+
 pub advance_done : (s : ModelState) (m : Machine) → Refusals.advance_refusal s m ≡ None
     → (is_some (own_move_of m) ≡ true) × (Refusals.press_unowned s m ≡ None) × (Refusals.is_at_work s m ≡ true) × (s.stamp < 1048575)
-advance_done s m e =
-    let way = own_move_of m in
-    let r1 = Refusals.has_no_work m in
-    let r2 = Refusals.◌or◌ r1 (Refusals.press_unowned s m) in
-    let r3 = Refusals.◌or◌ r2 (Refusals.not_at_work s m) in
-    let r4 = Refusals.◌or◌ r3 (Refusals.nothing_to_work s way) in
-    let r5 = Refusals.◌or◌ r4 (Refusals.no_room_for_work s way) in
-    let h5 = none_or r5 (Refusals.worn s) e in
-    let h4 = none_or r4 (Refusals.no_room_for_work s way) h5.0 in
-    let h3 = none_or r3 (Refusals.nothing_to_work s way) h4.0 in
-    let h2 = none_or r2 (Refusals.not_at_work s m) h3.0 in
-    let h1 = none_or r1 (Refusals.press_unowned s m) h2.0 in
-    (some_way way h1.0, h1.1, none_then_not _ _ h2.1, fresh s h5.1)
+advance_done s m e = let none = none_at (advance_conditions s m) e in (some_way (own_move_of m) (none 0), none 1, none_then_not _ _ (none 2), fresh s (none 5))
 
 pub stop_done : (s : ModelState) (m : Machine) → Refusals.stop_refusal s m ≡ None → (same_machine m Watch ≡ true) × (s.stopped ≡ false) × (s.stamp < 1048575)
 stop_done s m e =
-    let r1 = Refusals.not_watch m in
-    let h2 = none_or (Refusals.◌or◌ r1 (Refusals.while_stopped s)) (Refusals.worn s) e in
-    let h1 = none_or r1 (Refusals.while_stopped s) h2.0 in
-    (none_then_not _ _ h1.0, none_then _ _ h1.1, fresh s h2.1)
+    let none = none_at (Refusals.not_watch m ∷ Refusals.while_stopped s ∷ Refusals.worn s ∷ []) e in
+    (none_then_not _ _ (none 0), none_then _ _ (none 1), fresh s (none 2))
 
 pub resume_done : (s : ModelState) (m : Machine) → Refusals.resume_refusal s m ≡ None → (same_machine m Watch ≡ true) × (s.stopped ≡ true) × (s.stamp < 1048575)
 resume_done s m e =
-    let r1 = Refusals.not_watch m in
-    let h2 = none_or (Refusals.◌or◌ r1 (Refusals.not_stopped s)) (Refusals.worn s) e in
-    let h1 = none_or r1 (Refusals.not_stopped s) h2.0 in
-    (none_then_not _ _ h1.0, none_then_not _ _ h1.1, fresh s h2.1)
+    let none = none_at (Refusals.not_watch m ∷ Refusals.not_stopped s ∷ Refusals.worn s ∷ []) e in
+    (none_then_not _ _ (none 0), none_then_not _ _ (none 1), fresh s (none 2))

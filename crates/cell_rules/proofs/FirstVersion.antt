@@ -1,18 +1,13 @@
 -- While the cell isn't stopped, no condition that asks for it applies.
-use Rattle.std.proofs.Common.{◌≡◌, ◌+◌, Bool, true, false, ◌&&◌, Option, Some, None, refl, ap, ◌∙◌}
-use Rattle.std.specs.Bool.{then_some}
-use Rattle.cell_rules.specs.Types.{Machine, Call, Claim, Give, Yield, Take, Release, SetPose, Advance, Inquire, Stop}
-use Rattle.cell_rules.specs.Types.{Resume, Refusal, Stopped, Answer, Done, Shown, Refused}
-use Rattle.cell_rules.specs.Names.{ModelState, refusal, reply, next_by, done_unless, stopped_after}
+use Rattle.cell_rules.proofs.Names.{◌≡◌, ◌+◌, Bool, true, false, ◌&&◌, Option, None, refl, ap, ◌∙◌, then_some, Machine, Call, Claim, Give, SetPose, Inquire, Stop, Resume, Refusal, Stopped, Answer, Done, ModelState, refusal, reply, next_by}
+use Rattle.cell_rules.proofs.Names.{done_unless, stopped_after, zones_after, places_after}
 use Rattle.cell_rules.specs.Refusals
-use Rattle.cell_rules.specs.Reply.{zones_after, places_after}
 use Rattle.cell_rules.specs.FirstVersion as first
 
 -- what is asked second never applies
 passed : (a : Option Refusal) (b : Bool) → b ≡ false → Refusals.◌or◌ a (then_some b Stopped) ≡ a
 passed None true e = cc
-passed None false e = refl
-passed (Some r) b e = refl
+passed _ _ e = refl
 
 no_move : (a b : Bool) → b ≡ false → (a && b) ≡ false
 no_move true b e = e
@@ -27,25 +22,11 @@ same_refusal s m (Give z) e k =
 same_refusal s m (SetPose p) e k =
     ap (λ o. Refusals.◌or◌ (Refusals.◌or◌ (Refusals.◌or◌ (Refusals.◌or◌ (Refusals.◌or◌ (Refusals.◌or◌ o (Refusals.first_zone (Refusals.unowned_by_pose s m p))) (Refusals.first_zone (Refusals.plate_under_pose s m p))) (Refusals.jump s m p)) (Refusals.first_zone (Refusals.opens_onto_plate s m p))) (Refusals.runs_onto_plate s m p)) (Refusals.worn s))
     (passed (Refusals.lacks_pose m p) (Refusals.is_moving_pose p && s.stopped) (no_move (Refusals.is_moving_pose p) s.stopped e))
-same_refusal s m (Yield z) e k = refl
-same_refusal s m (Take z) e k = refl
-same_refusal s m (Release z) e k = refl
-same_refusal s m Advance e k = refl
-same_refusal s m (Inquire z) e k = refl
-same_refusal s m Stop e k = cc
-same_refusal s m Resume e k = cc
+same_refusal s m _ e k = cc
 
 same_reply : (s : ModelState) (m : Machine) (c : Call) → s.stopped ≡ false → first.has_call c ≡ true → reply s m c ≡ first.reply s m c
 same_reply s m (Inquire z) e k = refl
-same_reply s m (Claim z) e k = ap done_unless (same_refusal s m (Claim z) e k)
-same_reply s m (Give z) e k = ap done_unless (same_refusal s m (Give z) e k)
-same_reply s m (SetPose p) e k = ap done_unless (same_refusal s m (SetPose p) e k)
-same_reply s m (Yield z) e k = refl
-same_reply s m (Take z) e k = refl
-same_reply s m (Release z) e k = refl
-same_reply s m Advance e k = refl
-same_reply s m Stop e k = cc
-same_reply s m Resume e k = cc
+same_reply s m c e k = ap done_unless (same_refusal s m c e k)
 
 -- none of these calls touches the mark
 mark_kept : (s : ModelState) (c : Call) → first.has_call c ≡ true → stopped_after s c ≡ s.stopped
@@ -55,13 +36,11 @@ mark_kept s _ k = refl
 
 left_by : (a : Answer) (s : ModelState) (m : Machine) (c : Call) → first.has_call c ≡ true → next_by a s m c ≡ first.next_by a s m c
 left_by Done s m c k = λ i. record { zones = zones_after s m c; full = places_after s m c; stamp = s.stamp + 1; stopped = mark_kept s c k i }
-left_by (Shown o f q) s m c k = refl
-left_by (Refused r) s m c k = refl
+left_by _ s m c k = refl
 
 mark_left : (a : Answer) (s : ModelState) (m : Machine) (c : Call) → s.stopped ≡ false → first.has_call c ≡ true → (next_by a s m c).stopped ≡ false
 mark_left Done s m c e k = mark_kept s c k ∙ e
-mark_left (Shown o f q) s m c e k = e
-mark_left (Refused r) s m c e k = e
+mark_left _ s m c e k = e
 
 pub first_version : first.FirstVersionStays
 first_version s m c e k =

@@ -1,12 +1,6 @@
 -- The flag of a zone counts its plates: at first, plus those given into it, minus those taken.
-use Rattle.std.proofs.Common.{◌≡◌, ◌+◌, Bool, true, false, cond, List, refl, sym, ap, ◌∙◌, if◌then◌else◌}
-use Rattle.std.specs.List.{count_by}
-use Rattle.cell_rules.specs.Types.{Machine, Zone, Closed, Call, Claim, Give, Yield, Take, Release, SetPose, Advance}
-use Rattle.cell_rules.specs.Types.{Inquire, Stop, Resume, Done, Event, same_zone}
-use Rattle.cell_rules.specs.Names.{zone_in, put_zone, ModelState, zone_at, one_if, IsSound, give_refusal}
-use Rattle.cell_rules.specs.Names.{take_refusal, reply, posed, halted, is_belt_of, after, IsLegal, gives, takes}
-use Rattle.cell_rules.specs.declared.zones.ZoneState.{ZoneState}
-use Rattle.cell_rules.specs.History.{is_given_into, is_taken_from}
+use Rattle.cell_rules.proofs.Names.{◌≡◌, ◌+◌, Bool, true, false, cond, List, refl, sym, ap, ◌∙◌, if◌then◌else◌, count_by, Machine, Zone, Closed, Call, Claim, Give, Yield, Take, Release, SetPose, Advance, Inquire, Done, Event, same_zone}
+use Rattle.cell_rules.proofs.Names.{zone_in, put_zone, ModelState, zone_at, one_if, IsSound, give_refusal, take_refusal, reply, posed, halted, is_belt_of, after, IsLegal, gives, takes, ZoneState, is_given_into, is_taken_from}
 use Rattle.cell_rules.proofs.Puts.{zone_in-map, put_cases}
 use Rattle.cell_rules.proofs.Kept.{claimed, yielded, released}
 use Rattle.cell_rules.proofs.Plates.{given, taken}
@@ -41,8 +35,7 @@ flag-changed z s n (Release y) h e = kept _ _ (put-keeps s y z (released (zone_a
 flag-changed z s n (SetPose p) h e = kept _ _ (ap (λ (v : ZoneState). v.flag) (zone_in-map (posed n p) s.zones z))
 flag-changed z s n Advance h e = kept _ _ (ap (λ (v : ZoneState). v.flag) (zone_in-map (halted n) s.zones z) ∙ halted-flag (is_belt_of n z) (zone_at s z))
 flag-changed z s n (Inquire y) h e = cc
-flag-changed z s n Stop h e = refl
-flag-changed z s n Resume h e = refl
+flag-changed z s n _ h e = refl
 
 pub flags-counted : (s : ModelState) (h : List Event) (z : Zone) → IsSound s → IsLegal s h → one_if (zone_at s z).flag + count_by (is_given_into z) h ≡ one_if (zone_at (after s h) z).flag + count_by (is_taken_from z) h
 flags-counted s h z k l = counted (λ x. one_if (zone_at x z).flag) (λ m d. gives d z) (λ m d. takes d z) (flag-changed z) s h k l

@@ -1,19 +1,10 @@
 -- Jumps, handovers, refusals and changes along a history.
-use Rattle.std.proofs.Common.{◌≡◌, ◌≢◌, ℕ, ◌+◌, Bool, true, false, cond, ◌&&◌, not, None, List, [], ◌∷◌, ◌++◌, refl, sym, arith, subst}
-use Rattle.std.proofs.lemmas.List.Sums.{sum_by-cons}
-use Rattle.cell_rules.specs.Types.{Machine, Press, Table, Zone, Z1, Z2, Z3, Moving, Pose, Turning, Loading, Unloading}
-use Rattle.cell_rules.specs.Types.{Travelling, Middle, Low, Top, Call, Give, Yield, Take, Release, SetPose, Event}
-use Rattle.cell_rules.specs.Types.{same_machine}
-use Rattle.cell_rules.specs.Names.{ModelState, IsSound, owns, owner_of, posture_at, pose_refusal, after, IsLegal}
-use Rattle.cell_rules.specs.Names.{own_events, is_done, done_count, changes_by_others, Throughout, HandoverByHolder}
-use Rattle.cell_rules.specs.Names.{done}
-use Rattle.cell_rules.specs.Laws.{NoJump, HasZone, ChangesAreCounted}
-use Rattle.cell_rules.specs.RefusalLaws.{RefusalsTellAlong, refused}
-use Rattle.cell_rules.proofs.Tables.{and_left, and_right}
-use Rattle.cell_rules.proofs.Done.{give_done, yield_done, take_done, release_done}
+use Rattle.cell_rules.proofs.Names.{◌≡◌, ◌≢◌, ℕ, ◌+◌, Bool, true, false, cond, ◌&&◌, not, None, List, [], ◌∷◌, ◌++◌, refl, sym, ap, arith, subst, and-true, and-false, sum_by-cons, Machine, Press, Table, Zone, Z1, Z2, Z3, Moving, Pose}
+use Rattle.cell_rules.proofs.Names.{Turning, Loading, Unloading, Travelling, Middle, Low, Top, Call, Give, Yield, Take, Release, SetPose, Event, same_machine, Done, ModelState, IsSound, reply, owns, owner_of, posture_at, pose_refusal}
+use Rattle.cell_rules.proofs.Names.{after, IsLegal, own_events, is_done, done_count, changes_by_others, Throughout, HandoverByHolder, done, NoJump, HasZone, ChangesAreCounted, RefusalsTellAlong, refused}
 use Rattle.cell_rules.proofs.Soundness.{done_none}
 use Rattle.cell_rules.proofs.Histories.{sound-after}
-use Rattle.cell_rules.proofs.Holders.{owner_is}
+use Rattle.cell_rules.proofs.Holders.{owner_is, give_owned, yield_owned, take_owned, release_owned}
 use Rattle.cell_rules.proofs.Fitting.{OwnersHold, legal_at, replies_done, no_jump}
 use Rattle.cell_rules.proofs.Refusing.{refusals_tell}
 
@@ -40,23 +31,19 @@ no_jump_along s h l = record {
 
 -- ---- handovers
 
-has_zone : (s : ModelState) (h before : List Event) (m : Machine) (c : Call) (rest : List Event) (z : Zone) → Throughout (OwnersHold s) h → h ≡ before ++ done m c ∷ rest → owns (after s before) m z ≡ true → HasZone s before m z
-has_zone s h before m c rest z holders split owned = (holders before (done m c ∷ rest) split m z owned, owner_is (owner_of (after s before) z) m owned)
-
--- a party that may act owns the zone
-owner_of_party : (party owned rest : Bool) → (party && (owned && rest)) ≡ true → owned ≡ true
-owner_of_party party owned rest e = and_left owned rest (and_right party (owned && rest) e)
+-- a call that only the owner of its zone makes is by the zone's holder
+by_holder : (s : ModelState) (h : List Event) → Throughout (OwnersHold s) h → IsLegal s h → (call : Zone → Call) → ((s : ModelState) (m : Machine) (z : Zone) → reply s m (call z) ≡ Done → owns s m z ≡ true)
+    → (before rest : List Event) (m : Machine) (z : Zone) → h ≡ before ++ done m (call z) ∷ rest → HasZone s before m z
+by_holder s h holders l call owned before rest m z split =
+    let mine = owned (after s before) m z (replies_done s h before m (call z) rest l split) in
+    (holders before (done m (call z) ∷ rest) split m z mine, owner_is (owner_of (after s before) z) m mine)
 
 pub handover_along : (s : ModelState) (h : List Event) → Throughout (OwnersHold s) h → IsLegal s h → HandoverByHolder s h
 handover_along s h holders l = record {
-  give = λ before rest m z split. has_zone s h before m (Give z) rest z holders split
-      (owner_of_party _ _ _ (give_done (after s before) m z (done_none _ (replies_done s h before m (Give z) rest l split))).0);
-  yield = λ before rest m z split. has_zone s h before m (Yield z) rest z holders split
-      (owner_of_party _ _ _ (yield_done (after s before) m z (done_none _ (replies_done s h before m (Yield z) rest l split))).0);
-  take = λ before rest m z split. has_zone s h before m (Take z) rest z holders split
-      (owner_of_party _ _ _ (take_done (after s before) m z (done_none _ (replies_done s h before m (Take z) rest l split))).0);
-  release = λ before rest m z split. has_zone s h before m (Release z) rest z holders split
-      (owner_of_party _ _ _ (release_done (after s before) m z (done_none _ (replies_done s h before m (Release z) rest l split))).0);
+  give = by_holder s h holders l Give give_owned;
+  yield = by_holder s h holders l Yield yield_owned;
+  take = by_holder s h holders l Take take_owned;
+  release = by_holder s h holders l Release release_owned;
 }
 
 -- ---- refusals
@@ -70,14 +57,6 @@ refusals_along s h k l before rest m c r split =
 abbrev once : Bool → ℕ
 once b = cond b 1 0
 
-own_change : (d : Bool) → once (d && false) ≡ 0
-own_change true = refl
-own_change false = refl
-
-other_change : (d : Bool) → once (d && true) ≡ once d
-other_change true = refl
-other_change false = refl
-
 pub changes_counted : (h : List Event) → ChangesAreCounted h
 changes_counted [] m = refl
 changes_counted (e ∷ h) m =
@@ -87,8 +66,8 @@ changes_counted (e ∷ h) m =
     let mine = sum_by-cons (λ (x : Event). cond (is_done x) 1 0) e own in
     let others = sum_by-cons (λ (x : Event). cond (is_done x && not (same_machine x.machine m)) 1 0) e h in
     let At : Bool → Type 0 = λ b. done_count (cond b (e ∷ own) own) + (once (is_done e && not b) + changes_by_others h m) ≡ once (is_done e) + done_count h in
-    let none = own_change (is_done e) in
-    let one = other_change (is_done e) in
+    let none = ap once (and-false (is_done e)) in
+    let one = ap once (and-true (is_done e)) in
     let by : (b : Bool) → At b = λ b. elim b as At [
       | true ↦ omega (arith, rest, mine, none)
       | false ↦ omega (arith, rest, one)

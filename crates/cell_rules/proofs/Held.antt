@@ -1,7 +1,5 @@
 -- Who holds a zone by the events, computed event by event.
-use Rattle.std.proofs.Common.{Bool, ◌&&◌, ◌||◌, not, List, [], ◌∷◌}
-use Rattle.cell_rules.specs.Types.{Machine, Zone, Event}
-use Rattle.cell_rules.specs.Names.{ModelState, owns, is_gain, is_loss}
+use Rattle.cell_rules.proofs.Names.{Bool, ◌&&◌, ◌||◌, not, List, [], ◌∷◌, Machine, Zone, Event, ModelState, owns, is_gain, is_loss}
 
 -- whether a machine holds a zone after a history: it held it before, or gained it, and hasn't lost it since
 abbrev pub holds_since : Bool → List Event → Machine → Zone → Bool

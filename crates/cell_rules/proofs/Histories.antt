@@ -1,7 +1,6 @@
 -- Prefixes of histories, and the states after them.
-use Rattle.std.proofs.Common.{◌≡◌, List, [], ◌∷◌, ◌++◌, refl, subst}
+use Rattle.cell_rules.proofs.Names.{◌≡◌, List, [], ◌∷◌, ◌++◌, refl, subst, ModelState, IsSound, next, after, IsLegal, Throughout}
 use Rattle.cell_types.specs.declared.answer.Event.{Event}
-use Rattle.cell_rules.specs.Names.{ModelState, IsSound, next, after, IsLegal, Throughout}
 use Rattle.cell_rules.proofs.Soundness.{next_keeps}
 
 pub after-append : (s : ModelState) (a b : List Event) → after s (a ++ b) ≡ after (after s a) b

@@ -1,21 +1,13 @@
 -- A machine that holds a zone, by the test of each event, owns it in the state after.
-use Rattle.std.proofs.Common.{◌≡◌, Bool, true, false, ◌&&◌, ◌||◌, not, Option, Some, None, is_none, List, [], ◌∷◌, refl, sym, ap, ◌∙◌, subst, if◌then◌else◌}
-use Rattle.std.proofs.Math.Bool.{and-true, and-false}
-use Rattle.cell_rules.specs.Types.{Machine, Zone, Closed, Call, Claim, Give, Yield, Take, Release, SetPose, Advance}
-use Rattle.cell_rules.specs.Types.{Inquire, Stop, Resume, Answer, Done, Shown, Refused, Event, same_machine}
-use Rattle.cell_rules.specs.Types.{same_zone, one_machine}
-use Rattle.cell_rules.specs.Names.{zone_in, put_zone, ModelState, zone_at, is_owned_by, is_party, owns, owner_of}
-use Rattle.cell_rules.specs.Names.{claim_refusal, give_refusal, yield_refusal, take_refusal, release_refusal, reply}
-use Rattle.cell_rules.specs.Names.{next, next_by, changed, other_party, posed, halted, is_belt_of, after, IsLegal}
-use Rattle.cell_rules.specs.Names.{is_done_answer, is_gain, is_loss}
-use Rattle.cell_rules.specs.declared.zones.ZoneState.{ZoneState}
-use Rattle.cell_rules.specs.History.{gains, loses}
+use Rattle.cell_rules.proofs.Names.{◌≡◌, Bool, true, false, ◌&&◌, ◌||◌, not, Option, Some, None, is_none, List, [], ◌∷◌, refl, sym, ap, ◌∙◌, subst, if◌then◌else◌, and-true, and-false, Machine, Zone, Closed, Call, Claim, Give, Yield, Take}
+use Rattle.cell_rules.proofs.Names.{Release, SetPose, Advance, Inquire, Done, Event, same_machine, same_zone, one_machine, zone_in, put_zone, ModelState, zone_at, is_owned_by, is_party, owns, owner_of, claim_refusal, give_refusal}
+use Rattle.cell_rules.proofs.Names.{yield_refusal, take_refusal, release_refusal, reply, next, changed, other_party, posed, halted, is_belt_of, after, IsLegal, is_gain, is_loss, ZoneState, gains, loses}
 use Rattle.cell_rules.proofs.Tables.{and_left, and_right, from_machines}
 use Rattle.cell_rules.proofs.Puts.{each_zone, zone_in-map, zone_in-kept, put_cases}
 use Rattle.cell_rules.proofs.Done.{claim_done, give_done, yield_done, take_done, release_done}
 use Rattle.cell_rules.proofs.Kept.{claimed, yielded, released}
 use Rattle.cell_rules.proofs.Plates.{given, taken}
-use Rattle.cell_rules.proofs.Soundness.{done_none}
+use Rattle.cell_rules.proofs.Soundness.{done_none, event_cases}
 use Rattle.cell_rules.proofs.Held.{holds_since, holds}
 
 -- ---- the owner of a zone
@@ -63,10 +55,8 @@ release_owned s n y e = second _ _ _ (release_done s n y (done_none (release_ref
 
 -- the new owner gains, and the old one loses
 handed : (gain own loss : Bool) → own ≡ loss → gain ≡ (gain || (own && not loss))
-handed true own loss e = refl
-handed false true true e = refl
 handed false true false e = cc
-handed false false loss e = refl
+handed _ _ _ e = refl
 
 elsewhere : (here gain loss own : Bool) → here ≡ false → own ≡ ((here && gain) || (own && not (here && loss)))
 elsewhere true gain loss own e = cc
@@ -115,20 +105,12 @@ owns-changed s n (SetPose p) m z e = ap (λ (v : ZoneState). is_owned_by v.owner
 owns-changed s n Advance m z e =
     ap (λ (v : ZoneState). is_owned_by v.owner m) (zone_in-map (halted n) s.zones z) ∙ ap (λ o. is_owned_by o m) (owner-halted (is_belt_of n z) (zone_at s z)) ∙ sym (and-true (owns s m z))
 owns-changed s n (Inquire y) m z e = cc
-owns-changed s n Stop m z e = sym (and-true (owns s m z))
-owns-changed s n Resume m z e = sym (and-true (owns s m z))
-
-owns-by : (a : Answer) (s : ModelState) (n : Machine) (c : Call) (m : Machine) (z : Zone) → (a ≡ Done → owns (changed s n c) m z ≡ (gains n c m z || (owns s m z && not (loses n c m z))))
-    → owns (next_by a s n c) m z ≡ ((is_done_answer a && gains n c m z) || (owns s m z && not (is_done_answer a && loses n c m z)))
-owns-by Done s n c m z k = k refl
-owns-by (Shown o f p) s n c m z k = sym (and-true (owns s m z))
-owns-by (Refused r) s n c m z k = sym (and-true (owns s m z))
+owns-changed s n _ m z e = sym (and-true (owns s m z))
 
 owns-next : (s : ModelState) (e : Event) (m : Machine) (z : Zone) → e.answer ≡ reply s e.machine e.call
     → owns (next s e.machine e.call) m z ≡ (is_gain e m z || (owns s m z && not (is_loss e m z)))
 owns-next s e m z l =
-    let By : Answer → Type 0 = λ a. owns (next s e.machine e.call) m z ≡ ((is_done_answer a && gains e.machine e.call m z) || (owns s m z && not (is_done_answer a && loses e.machine e.call m z))) in
-    subst By (sym l) (owns-by (reply s e.machine e.call) s e.machine e.call m z (owns-changed s e.machine e.call m z))
+    event_cases (λ b t. owns t m z ≡ ((b && gains e.machine e.call m z) || (owns s m z && not (b && loses e.machine e.call m z)))) s e l (owns-changed s e.machine e.call m z) (sym (and-true (owns s m z)))
 
 pub owns-after : (s : ModelState) (h : List Event) (m : Machine) (z : Zone) → IsLegal s h → owns (after s h) m z ≡ holds s h m z
 owns-after s [] m z l = refl

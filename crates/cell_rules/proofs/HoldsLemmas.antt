@@ -1,11 +1,7 @@
 -- A machine holds a zone by the events exactly if the test of each event says so, and exactly if it owns it in the
 -- state after.
-use Rattle.std.proofs.Common.{◌≡◌, Bool, true, false, ◌&&◌, ◌||◌, not, List, [], ◌∷◌, ◌++◌, ◌⊎◌, inl, inr, refl, sym, ap, ◌∙◌, ◌↔◌, IsTrue}
-use Rattle.std.proofs.lemmas.Bool.{or_left, or_right, false_from_ne_true}
-use Rattle.std.proofs.lemmas.List.Elements.{All-nil, All-cons, All-head, All-tail}
-use Rattle.cell_rules.specs.Types.{Machine, Zone, Event}
-use Rattle.cell_rules.specs.Names.{ModelState, owns, after, IsLegal, is_gain, is_loss, Holds}
-use Rattle.cell_rules.specs.History.{IsLoss, LosesNothing, GainsAndKeeps}
+use Rattle.cell_rules.proofs.Names.{◌≡◌, Bool, true, false, ◌&&◌, ◌||◌, not, List, [], ◌∷◌, ◌++◌, ◌⊎◌, inl, inr, refl, sym, ap, ◌∙◌, ◌↔◌, IsTrue, or_left, or_right, false_from_ne_true, All-nil, All-cons, All-head, All-tail, Machine, Zone}
+use Rattle.cell_rules.proofs.Names.{Event, ModelState, owns, after, IsLegal, is_gain, is_loss, Holds, IsLoss, LosesNothing, GainsAndKeeps}
 use Rattle.cell_rules.proofs.Done.{not_true}
 use Rattle.cell_rules.proofs.Held.{holds_since, holds}
 use Rattle.cell_rules.proofs.Holders.{owns-after}
@@ -27,11 +23,10 @@ holds_since-gained b h m z g =
     ap (λ x. holds_since b x m z) g.split ∙ holds_since-append b g.before (g.gain ∷ g.since) m z
     ∙ ap (λ t. holds_since t g.since m z) (or_left (is_gain g.gain m z) (held && not (is_loss g.gain m z)) g.gained) ∙ holds_since-kept g.since m z g.kept
 
-gained_or_kept : (g b l : Bool) → (g || (b && not l)) ≡ true → (g ≡ true) ⊎ ((b ≡ true) × (l ≡ false))
+pub gained_or_kept : (g b l : Bool) → (g || (b && not l)) ≡ true → (g ≡ true) ⊎ ((b ≡ true) × (l ≡ false))
 gained_or_kept true b l e = inl refl
 gained_or_kept false true false e = inr (refl, refl)
-gained_or_kept false true true e = cc
-gained_or_kept false false l e = cc
+gained_or_kept _ _ _ e = cc
 
 -- a zone held at the end was gained last, or held at the start, and not lost since
 held_by_events : (b : Bool) (h : List Event) (m : Machine) (z : Zone) → holds_since b h m z ≡ true → ((b ≡ true) × LosesNothing h m z) ⊎ GainsAndKeeps h m z

@@ -1,14 +1,10 @@
 -- A machine's own places stay while it makes no event.
-use Rattle.std.proofs.Common.{◌≡◌, ◌+◌, Bool, true, false, ◌||◌, ◌&&◌, cond, List, [], ◌∷◌, ◌++◌, refl, ap, ◌∙◌}
-use Rattle.cell_rules.specs.Types.{Machine, Zone, Z1, Place, Call, Give, Take, Advance, Answer, Done, Shown, Refused}
-use Rattle.cell_rules.specs.Types.{Event, same_machine, keeper_of}
-use Rattle.cell_rules.specs.Names.{ModelState, is_full, one_if, IsSound, implies, reply, next, next_by, changed}
-use Rattle.cell_rules.specs.Names.{after, IsLegal, own_events, fills, empties}
-use Rattle.cell_rules.specs.Laws.{RightLasts}
-use Rattle.cell_rules.proofs.Tables.{all_machines, from_machines, all_zones, from_zones, all_places, from_places, and_left, and_right}
+use Rattle.cell_rules.proofs.Names.{◌≡◌, ◌+◌, Bool, true, false, ◌||◌, ◌&&◌, cond, List, [], ◌∷◌, ◌++◌, refl, ap, ◌∙◌, Machine, Zone, Z1, Place, Call, Give, Take, Advance, Event, same_machine, keeper_of, ModelState, is_full, one_if}
+use Rattle.cell_rules.proofs.Names.{IsSound, implies, reply, next, changed, after, IsLegal, own_events, fills, empties, RightLasts}
+use Rattle.cell_rules.proofs.Tables.{machines, zones, places, holds3, and_left, and_right}
 use Rattle.cell_rules.proofs.Counted.{place-changed}
 use Rattle.cell_rules.proofs.Histories.{after-append, sound-after}
-use Rattle.cell_rules.proofs.Soundness.{next_keeps}
+use Rattle.cell_rules.proofs.Soundness.{next_keeps, next_cases}
 use Rattle.cell_rules.proofs.Lasting.{right_lasts_held, right_lasts_zone, own_head}
 use Rattle.cell_rules.proofs.Unposed.{right_lasts_posture}
 
@@ -22,11 +18,8 @@ keeper_test n c p = implies (changes n c p) (same_machine n (keeper_of p))
 abbrev all_calls_test : Machine → Zone → Place → Bool
 all_calls_test n z p = keeper_test n (Give z) p && (keeper_test n (Take z) p && keeper_test n Advance p)
 
-keeper_table : all_machines (λ n. all_zones (λ z. all_places (all_calls_test n z))) ≡ true
-keeper_table = refl
-
 all_calls : (n : Machine) (z : Zone) (p : Place) → all_calls_test n z p ≡ true
-all_calls n z p = from_places (all_calls_test n z) (from_zones (λ z. all_places (all_calls_test n z)) (from_machines (λ n. all_zones (λ z. all_places (all_calls_test n z))) keeper_table n) z) p
+all_calls = holds3 machines zones places all_calls_test refl
 
 by_keeper : (n : Machine) (c : Call) (p : Place) → keeper_test n c p ≡ true
 by_keeper n (Give y) p = and_left _ _ (all_calls n y p)
@@ -36,22 +29,14 @@ by_keeper n _ p = refl
 
 -- if nothing is added or dropped, the bit is the same
 same_bit : (f d k a b : Bool) → implies (f || d) k ≡ true → k ≡ false → one_if a + cond f 1 0 ≡ one_if b + cond d 1 0 → b ≡ a
-same_bit true d k a b i o e = cc
-same_bit false true k a b i o e = cc
 same_bit false false k true true i o e = refl
 same_bit false false k false false i o e = refl
-same_bit false false k true false i o e = cc
-same_bit false false k false true i o e = cc
-
-full-answer : (a : Answer) (s : ModelState) (n : Machine) (c : Call) (p : Place) → (a ≡ Done → is_full (changed s n c) p ≡ is_full s p) → is_full (next_by a s n c) p ≡ is_full s p
-full-answer Done s n c p k = k refl
-full-answer (Shown o f q) s n c p k = refl
-full-answer (Refused r) s n c p k = refl
+same_bit _ _ k a b i o e = cc
 
 full-next : (s : ModelState) (n : Machine) (c : Call) (p : Place) → IsSound s → same_machine n (keeper_of p) ≡ false → is_full (next s n c) p ≡ is_full s p
 full-next s n c p k apart =
-    full-answer (reply s n c) s n c p
-    (λ e. same_bit (fills n c p) (empties n c p) (same_machine n (keeper_of p)) (is_full s p) (is_full (changed s n c) p) (by_keeper n c p) apart (place-changed p s n c k e))
+    next_cases (λ b t. is_full t p ≡ is_full s p) s n c (reply s n c)
+    (λ e. same_bit (fills n c p) (empties n c p) (same_machine n (keeper_of p)) (is_full s p) (is_full (changed s n c) p) (by_keeper n c p) apart (place-changed p s n c k e)) refl
 
 full-after : (s : ModelState) (h : List Event) (p : Place) → IsSound s → own_events h (keeper_of p) ≡ [] → is_full (after s h) p ≡ is_full s p
 full-after s [] p k none = refl

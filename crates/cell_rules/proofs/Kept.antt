@@ -1,10 +1,7 @@
 -- A call that is Done keeps a sound state sound.
-use Rattle.std.proofs.Common.{◌≡◌, ◌+◌, ◌≤◌, Bool, true, ◌&&◌, Some, None, refl, arith}
-use Rattle.cell_rules.specs.Types.{Machine, Zone, Claim, Yield, Release, PressIn, PressOut, transfer_of}
-use Rattle.cell_rules.specs.Names.{PlaceSet, has, ModelState, zone_at, IsSound, implies, is_onto_full, claim_refusal}
-use Rattle.cell_rules.specs.Names.{yield_refusal, release_refusal, changed, other_party}
-use Rattle.cell_rules.specs.declared.zones.ZoneState.{ZoneState}
-use Rattle.cell_rules.proofs.Tables.{all_bools, from_bools, all_machines, from_machines, all_zones, from_zones, all_states, from_states, implied, and_both}
+use Rattle.cell_rules.proofs.Names.{◌≡◌, ◌+◌, ◌≤◌, Bool, true, ◌&&◌, Some, None, refl, arith, Machine, Zone, Claim, Yield, Release, PressIn, PressOut, transfer_of, PlaceSet, has, ModelState, zone_at, IsSound, implies, is_onto_full}
+use Rattle.cell_rules.proofs.Names.{claim_refusal, yield_refusal, release_refusal, changed, other_party, ZoneState}
+use Rattle.cell_rules.proofs.Tables.{all_bools, all_machines, all_zones, all_states, bools, machines, zones, states, holds3, implied, and_both}
 use Rattle.cell_rules.proofs.Puts.{zone_in-kept}
 use Rattle.cell_rules.proofs.Lawful.{is_lawful, lawful_in, lawful_from, sound_from}
 use Rattle.cell_rules.proofs.Done.{may_claim, may_yield, may_release, claim_done, yield_done, release_done}
@@ -15,12 +12,7 @@ All P = all_zones (λ z. all_states (λ v. all_machines (λ m. all_bools (λ b. 
 
 pub from_all : (P : Bool → Bool → Bool → Machine → Zone → ZoneState → Bool) → All P ≡ true → (b i o : Bool) (m : Machine) (z : Zone) (v : ZoneState) → P b i o m z v ≡ true
 from_all P e b i o m z v =
-    from_bools (λ o. P b i o m z v)
-    (from_bools (λ i. all_bools (λ o. P b i o m z v))
-    (from_bools (λ b. all_bools (λ i. all_bools (λ o. P b i o m z v)))
-    (from_machines (λ m. all_bools (λ b. all_bools (λ i. all_bools (λ o. P b i o m z v))))
-    (from_states (λ v. all_machines (λ m. all_bools (λ b. all_bools (λ i. all_bools (λ o. P b i o m z v)))))
-    (from_zones (λ z. all_states (λ v. all_machines (λ m. all_bools (λ b. all_bools (λ i. all_bools (λ o. P b i o m z v)))))) e z) v) m) b) i) o
+    holds3 bools bools bools (λ b i o. P b i o m z v) (holds3 zones states machines (λ z v m. all_bools (λ b. all_bools (λ i. all_bools (λ o. P b i o m z v)))) e z v m) b i o
 
 -- a change of one zone that keeps its posture
 abbrev pub keeps : (ZoneState → Machine → Zone → Bool) → (ZoneState → Machine → Zone → ZoneState) → Bool → Bool → Bool → Machine → Zone → ZoneState → Bool
@@ -34,15 +26,6 @@ yielded v m z = record v { owner = Some (other_party m z) }
 
 abbrev pub released : ZoneState → Machine → Zone → ZoneState
 released v m z = record v { owner = None }
-
-claim_table : All (keeps may_claim claimed) ≡ true
-claim_table = refl
-
-yield_table : All (keeps may_yield yielded) ≡ true
-yield_table = refl
-
-release_table : All (keeps may_release released) ≡ true
-release_table = refl
 
 -- the zone of the call is lawful after its change
 pub here : (may : ZoneState → Machine → Zone → Bool) (change : ZoneState → Machine → Zone → ZoneState) → All (keeps may change) ≡ true
@@ -59,18 +42,18 @@ claim_keeps s m z h e =
     let may = claim_done s m z e in
     let small : s.stamp + 1 ≤ 1048575 = omega arith in
     sound_from (changed s m (Claim z)) small (zone_in-kept (λ y v. lawful_in s.full y v ≡ true) s.zones (claimed (zone_at s z) m z) (lawful_from s h) z
-    (here may_claim claimed claim_table s.full m z (zone_at s z) (lawful_from s h z) may.0))
+    (here may_claim claimed refl s.full m z (zone_at s z) (lawful_from s h z) may.0))
 
 pub yield_keeps : (s : ModelState) (m : Machine) (z : Zone) → IsSound s → yield_refusal s m z ≡ None → IsSound (changed s m (Yield z))
 yield_keeps s m z h e =
     let may = yield_done s m z e in
     let small : s.stamp + 1 ≤ 1048575 = omega arith in
     sound_from (changed s m (Yield z)) small (zone_in-kept (λ y v. lawful_in s.full y v ≡ true) s.zones (yielded (zone_at s z) m z) (lawful_from s h) z
-    (here may_yield yielded yield_table s.full m z (zone_at s z) (lawful_from s h z) may.0))
+    (here may_yield yielded refl s.full m z (zone_at s z) (lawful_from s h z) may.0))
 
 pub release_keeps : (s : ModelState) (m : Machine) (z : Zone) → IsSound s → release_refusal s m z ≡ None → IsSound (changed s m (Release z))
 release_keeps s m z h e =
     let may = release_done s m z e in
     let small : s.stamp + 1 ≤ 1048575 = omega arith in
     sound_from (changed s m (Release z)) small (zone_in-kept (λ y v. lawful_in s.full y v ≡ true) s.zones (released (zone_at s z) m z) (lawful_from s h) z
-    (here may_release released release_table s.full m z (zone_at s z) (lawful_from s h z) may.0))
+    (here may_release released refl s.full m z (zone_at s z) (lawful_from s h z) may.0))

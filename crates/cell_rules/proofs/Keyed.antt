@@ -1,11 +1,8 @@
 -- std's finite map and set of a function's values at each key, if a list has every key.
-use Rattle.std.proofs.Common.{◌≡◌, ◌≢◌, Bool, true, false, cond, ◌&&◌, ◌||◌, not, Some, None, List, [], ◌∷◌, refl, sym, ap, subst, ◌∙◌, map as list_map}
-use Rattle.std.specs.List.{list_any, filter}
-use Rattle.std.proofs.lemmas.Map.Views.{any-filter_same}
-use Rattle.std.specs.Cmp.{IsTotalOrder, tied_itself, Equal-is}
-use Rattle.std.specs.Ordering.{eq_by_cmp, is_eq}
-use Rattle.std.specs.declared.cmp.Ordering.{Ordering}
-use Rattle.std.specs.FinMap.{IsAntisymmetric}
+use Rattle.cell_rules.proofs.Names.{◌≡◌, ◌≢◌, Bool, true, false, cond, ◌&&◌, ◌||◌, not, Some, None, List, [], ◌∷◌, refl, sym, ap, subst, ◌∙◌, list_any, any-filter_same, IsTotalOrder, tied_itself, Equal-is, eq_by_cmp, is_eq, Ordering}
+use Rattle.cell_rules.proofs.Names.{IsAntisymmetric}
+use Rattle.std.proofs.Common.{map as list_map}
+use Rattle.std.specs.List.{filter}
 use Rattle.std.specs.FinMap as map
 use Rattle.std.specs.FinSet as set
 

@@ -1,21 +1,14 @@
 -- What a machine holds lasts while the machine does nothing.
-use Rattle.std.proofs.Common.{◌≡◌, Bool, true, false, ◌&&◌, not, cond, Option, Some, None, List, [], ◌∷◌, ◌++◌, refl, sym, ap, ◌∙◌, if◌then◌else◌, unwrap_or}
-use Rattle.std.proofs.lemmas.Bool.{false_from_ne_true}
-use Rattle.cell_rules.specs.Types.{Machine, Feed, Deposit, Zone, Posture, Closed, Moving, OpenIn, OpenOut, Call}
-use Rattle.cell_rules.specs.Types.{Claim, Give, Yield, Take, Release, SetPose, Advance, Inquire, Stop, Resume, Answer}
-use Rattle.cell_rules.specs.Types.{Done, Shown, Refused, Event, host_of, posture_of, same_machine, same_posture}
-use Rattle.cell_rules.specs.Types.{one_machine}
-use Rattle.cell_rules.specs.Names.{zone_in, put_zone, ModelState, zone_at, IsSound, is_owned_by, owns, owner_of}
-use Rattle.cell_rules.specs.Names.{pose_refusal, advance_refusal, reply, next, next_by, changed, posed, halted}
-use Rattle.cell_rules.specs.Names.{is_belt_of, after, IsLegal, Holds, own_events}
-use Rattle.cell_rules.specs.declared.zones.ZoneState.{ZoneState}
+use Rattle.cell_rules.proofs.Names.{◌≡◌, Bool, true, false, ◌&&◌, not, cond, Option, Some, None, List, [], ◌∷◌, ◌++◌, refl, sym, ap, ◌∙◌, if◌then◌else◌, unwrap_or, false_from_ne_true, not-false, or_parts, Machine, Feed, Deposit, Zone}
+use Rattle.cell_rules.proofs.Names.{Posture, Closed, Moving, Call, Claim, Give, Yield, Take, Release, SetPose, Advance, Inquire, Done, Event, host_of, posture_of, same_machine, same_posture, one_machine, one_posture, zone_in, put_zone}
+use Rattle.cell_rules.proofs.Names.{ModelState, zone_at, IsSound, is_owned_by, owns, owner_of, pose_refusal, advance_refusal, reply, next, changed, posed, halted, is_belt_of, after, IsLegal, Holds, own_events, ZoneState}
 use Rattle.cell_rules.proofs.Tables.{implied}
 use Rattle.cell_rules.proofs.Puts.{zone_in-map, put_cases}
 use Rattle.cell_rules.proofs.Done.{advance_done}
 use Rattle.cell_rules.proofs.Kept.{claimed, yielded, released}
 use Rattle.cell_rules.proofs.Plates.{given, taken}
 use Rattle.cell_rules.proofs.Moves.{belts_move, concerns_posture, pose_owned}
-use Rattle.cell_rules.proofs.Soundness.{next_keeps, done_none}
+use Rattle.cell_rules.proofs.Soundness.{next_keeps, next_cases, done_none}
 use Rattle.cell_rules.proofs.Histories.{after-append, legal-left, sound-after}
 use Rattle.cell_rules.proofs.Holders.{owned_as, claim_unowned, give_owned, yield_owned, take_owned, release_owned}
 use Rattle.cell_rules.proofs.HoldsLemmas.{holds_iff_owns}
@@ -37,10 +30,7 @@ unless_owned false false e f = refl
 
 stays : (q : Option Posture) (now : Posture) → concerns_posture q now ≡ false → unwrap_or q now ≡ now
 stays None now e = refl
-stays (Some Closed) Closed e = refl
-stays (Some OpenIn) OpenIn e = refl
-stays (Some OpenOut) OpenOut e = refl
-stays (Some _) _ e = cc
+stays (Some q) now e = one_posture q now (not-false _ (or_parts _ _ e).1)
 
 pub belt_host : (n : Machine) (z : Zone) → is_belt_of n z ≡ true → host_of z ≡ n
 belt_host Feed z e = one_machine (host_of z) Feed e
@@ -71,16 +61,10 @@ zone_at-changed s n Advance m z k d o e =
     let same : owns s m z ≡ same_machine n m = owned_as v.owner n m own in cc) in
     zone_in-map (halted n) s.zones z ∙ halted_not (is_belt_of n z) v no_belt
 zone_at-changed s n (Inquire y) m z k d o e = cc
-zone_at-changed s n Stop m z k d o e = refl
-zone_at-changed s n Resume m z k d o e = refl
-
-zone_at-by : (a : Answer) (s : ModelState) (n : Machine) (c : Call) (z : Zone) → (a ≡ Done → zone_at (changed s n c) z ≡ zone_at s z) → zone_at (next_by a s n c) z ≡ zone_at s z
-zone_at-by Done s n c z k = k refl
-zone_at-by (Shown o f p) s n c z k = refl
-zone_at-by (Refused r) s n c z k = refl
+zone_at-changed s n _ m z k d o e = refl
 
 zone_at-next : (s : ModelState) (n : Machine) (c : Call) (m : Machine) (z : Zone) → IsSound s → same_machine n m ≡ false → owns s m z ≡ true → zone_at (next s n c) z ≡ zone_at s z
-zone_at-next s n c m z k d o = zone_at-by (reply s n c) s n c z (zone_at-changed s n c m z k d o)
+zone_at-next s n c m z k d o = next_cases (λ b t. zone_at t z ≡ zone_at s z) s n c (reply s n c) (zone_at-changed s n c m z k d o) refl
 
 -- ---- and so does a history without events of m
 

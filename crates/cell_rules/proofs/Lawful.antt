@@ -1,13 +1,8 @@
 -- What soundness says of one zone, as one test.
-use Rattle.std.proofs.Common.{◌≡◌, ◌≤◌, Bool, true, false, ◌&&◌, not, is_none, refl, sym, ◌∙◌}
-use Rattle.std.specs.Bool.{beq}
-use Rattle.cell_rules.specs.Types.{Zone, Z3, PressIn, PressOut, Posture, Closed, Moving, OpenIn, OpenOut, transfer_of}
-use Rattle.cell_rules.specs.Types.{same_posture}
-use Rattle.cell_rules.specs.Names.{PlaceSet, has, ModelState, zone_at, IsSound, implies, has_lawful_owner}
-use Rattle.cell_rules.specs.Names.{is_onto_full, is_lawful_plate, is_open_to_guest, moves_by_host, is_of_some_pose}
-use Rattle.cell_rules.specs.declared.zones.ZoneState.{ZoneState}
+use Rattle.cell_rules.proofs.Names.{◌≡◌, ◌≤◌, Bool, true, false, ◌&&◌, not, is_none, refl, sym, ◌∙◌, beq, Zone, Z3, PressIn, PressOut, Posture, Closed, Moving, OpenIn, OpenOut, transfer_of, same_posture, PlaceSet, has, ModelState, zone_at}
+use Rattle.cell_rules.proofs.Names.{IsSound, implies, has_lawful_owner, is_onto_full, is_lawful_plate, is_open_to_guest, moves_by_host, is_of_some_pose, ZoneState}
 use Rattle.cell_rules.proofs.Puts.{each_zone}
-use Rattle.cell_rules.proofs.Tables.{and_both, all_zones, from_zones, all_postures, from_postures}
+use Rattle.cell_rules.proofs.Tables.{and_both, zones, postures, holds2}
 
 -- each host opens a zone only inward or only outward, but the press does both: the postures that poses give, without
 -- the poses
@@ -19,17 +14,11 @@ can_be_in z OpenOut = not (is_none (transfer_of z OpenOut))
 
 pub beq_same : (a b : Bool) → beq a b ≡ true → a ≡ b
 beq_same true true e = refl
-beq_same true false e = cc
-beq_same false true e = cc
 beq_same false false e = refl
-
-can_table : all_zones (λ z. all_postures (λ q. beq (is_of_some_pose z q) (can_be_in z q))) ≡ true
-can_table = refl
+beq_same _ _ e = cc
 
 pub of_some_pose : (z : Zone) (q : Posture) → is_of_some_pose z q ≡ can_be_in z q
-of_some_pose z q =
-    beq_same (is_of_some_pose z q) (can_be_in z q)
-    (from_postures (λ q. beq (is_of_some_pose z q) (can_be_in z q)) (from_zones (λ z. all_postures (λ q. beq (is_of_some_pose z q) (can_be_in z q))) can_table z) q)
+of_some_pose z q = beq_same _ _ (holds2 zones postures (λ z q. beq (is_of_some_pose z q) (can_be_in z q)) refl z q)
 
 abbrev pub press_is_lawful : Bool → Bool → Zone → ZoneState → Bool
 press_is_lawful in_full out_full Z3 v = not (in_full && out_full) && implies (same_posture v.posture OpenIn) (not out_full)
@@ -48,12 +37,7 @@ and_six a b c d e f ha hb hc hd he hf = and_both a _ ha (and_both b _ hb (and_bo
 
 six : (a b c d e f : Bool) → (a && (b && (c && (d && (e && f))))) ≡ true → (a ≡ true) × (b ≡ true) × (c ≡ true) × (d ≡ true) × (e ≡ true) × (f ≡ true)
 six true true true true true true h = (refl, refl, refl, refl, refl, refl)
-six false b c d e f h = cc
-six true false c d e f h = cc
-six true true false d e f h = cc
-six true true true false e f h = cc
-six true true true true false f h = cc
-six true true true true true false h = cc
+six _ _ _ _ _ _ h = cc
 
 pub lawful_from : (s : ModelState) → IsSound s → (z : Zone) → lawful_in s.full z (zone_at s z) ≡ true
 lawful_from s h =

@@ -1,3 +1,4 @@
+mod Names
 pub mod Tables
 pub mod Puts
 pub mod Keyed

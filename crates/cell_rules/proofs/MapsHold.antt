@@ -1,21 +1,12 @@
 -- The map of the zones and the set of the places keep the laws of maps and of sets.
-use Rattle.std.proofs.Common.{◌≡◌, ◌≢◌, Bool, true, false, cond, refl, sym, ap, ◌∙◌}
-use Rattle.std.specs.List.{list_any}
-use Rattle.std.specs.Ordering.{eq_by_cmp, is_eq}
-use Rattle.std.specs.FinMap.{IsAntisymmetric}
-use denote.Enum.Bare.{true_same, false_same}
-use Rattle.cell_rules.specs.Types.{Zone, Z1, Z2, Z3, Z4, Z5, Z6, Place, FeedEntry, FeedEnd, Arm1, PressIn, PressOut}
-use Rattle.cell_rules.specs.Types.{Arm2, DepEntry, DepEnd, all_zones, all_places, one_zone, one_place}
-use Rattle.cell_types.specs.declared.place.Place.TheVariants.{Table, Crane}
+use Rattle.cell_rules.proofs.Names.{◌≡◌, ◌≢◌, Bool, true, false, cond, refl, sym, ap, ◌∙◌, list_any, eq_by_cmp, is_eq, IsAntisymmetric, true_same, false_same, Zone, Z1, Z2, Z3, Z4, Z5, Z6, Place, FeedEntry, FeedEnd, Arm1, PressIn, PressOut}
+use Rattle.cell_rules.proofs.Names.{Arm2, DepEntry, DepEnd, all_zones, all_places, one_zone, one_place, Crane, ZoneMap, zone_in, put_zone, everywhere, PlaceSet, has, put_place, insert_place, empty, ZoneState, remove_place, ZonesAreAMap}
+use Rattle.cell_rules.proofs.Names.{PlacesAreASet, zone_cmp, place_cmp, ZonesAreStdMap, PlacesAreStdSet}
+use Rattle.cell_types.specs.declared.place.Place.TheVariants.{Table}
 use Rattle.cell_types.specs.contracts.zone.Zone.{the_type as zone_type}
 use Rattle.cell_types.specs.contracts.place.Place.{the_type as place_type}
 use Rattle.cell_types.specs.contracts.zone.ZoneOrd.TheImpl.Laws.{total-law as zones_total, matches_eq-law as zones_match}
 use Rattle.cell_types.specs.contracts.place.PlaceOrd.TheImpl.Laws.{total-law as places_total, matches_eq-law as places_match}
-use Rattle.cell_rules.specs.Names.{ZoneMap, zone_in, put_zone, everywhere, PlaceSet, has, put_place, insert_place}
-use Rattle.cell_rules.specs.Names.{empty}
-use Rattle.cell_rules.specs.declared.zones.ZoneState.{ZoneState}
-use Rattle.cell_rules.specs.PlaceSet.{remove_place}
-use Rattle.cell_rules.specs.MapLaws.{ZonesAreAMap, PlacesAreASet, zone_cmp, place_cmp, ZonesAreStdMap, PlacesAreStdSet}
 use Rattle.cell_rules.proofs.Puts.{each_zone, each_place, zone_in-put, zone_in-map, has-put}
 use Rattle.cell_rules.proofs.Keyed.{get-table, table-put, contains-members, members-insert, members-remove}
 

@@ -1,19 +1,10 @@
 -- A pose and an advance keep a sound state sound.
-use Rattle.std.proofs.Common.{◌≡◌, ◌+◌, ◌<◌, ◌≤◌, Bool, true, false, ◌&&◌, ◌||◌, not, cond, Option, Some, None, if◌then◌else◌, refl, sym, ap, ◌∙◌, subst, arith, unwrap_or}
-use Rattle.std.specs.Bool.{beq}
-use Rattle.cell_rules.specs.Types.{Machine, Feed, Table, Robot, Press, Deposit, Crane, Watch, Zone, Z1, Z2, Z3, Z4}
-use Rattle.cell_rules.specs.Types.{Z5, Z6, Place, FeedEntry, FeedEnd, DepEntry, DepEnd, PressIn, PressOut, Transfer}
-use Rattle.cell_rules.specs.Types.{Posture, Closed, Moving, OpenIn, OpenOut, Pose, PlaceFull, NotOwner, PlateInZone}
-use Rattle.cell_rules.specs.Types.{SetPose, Advance, host_of, transfer_of, posture_of, same_place, same_zone}
-use Rattle.cell_rules.specs.Types.{same_machine, same_posture}
-use Rattle.cell_rules.specs.Names.{zone_in, map_zones, PlaceSet, has, put_place, ModelState, zone_at, IsSound}
-use Rattle.cell_rules.specs.Names.{implies, is_onto_full, is_owned_by, pose_refusal, advance_refusal, owner_of, owns}
-use Rattle.cell_rules.specs.Names.{posture_at, is_moving_pose, is_blocked, opens_onto_plate, changed, is_belt_of}
-use Rattle.cell_rules.specs.Names.{halted, posed}
-use Rattle.cell_rules.specs.declared.zones.ZoneState.{ZoneState}
-use Rattle.cell_rules.specs.Refusals.{is_concerned, unowned_by_pose, plate_under_pose, is_at_work}
+use Rattle.cell_rules.proofs.Names.{◌≡◌, ◌+◌, ◌<◌, ◌≤◌, Bool, true, false, ◌&&◌, ◌||◌, not, cond, Option, Some, None, if◌then◌else◌, refl, sym, ap, ◌∙◌, subst, arith, unwrap_or, beq, not-true, Machine, Feed, Press, Deposit, Zone, Z1, Z2}
+use Rattle.cell_rules.proofs.Names.{Z3, Z4, Z5, Z6, Place, FeedEntry, FeedEnd, DepEntry, DepEnd, PressIn, PressOut, Transfer, Posture, Closed, Moving, OpenIn, OpenOut, Pose, PlaceFull, NotOwner, PlateInZone, SetPose, Advance, host_of}
+use Rattle.cell_rules.proofs.Names.{transfer_of, posture_of, same_place, same_zone, same_machine, same_posture, zone_in, map_zones, PlaceSet, has, put_place, ModelState, zone_at, IsSound, implies, is_onto_full, is_owned_by, pose_refusal}
+use Rattle.cell_rules.proofs.Names.{advance_refusal, owner_of, owns, posture_at, is_moving_pose, is_blocked, opens_onto_plate, changed, is_belt_of, halted, posed, ZoneState, is_concerned, unowned_by_pose, plate_under_pose, is_at_work}
 use Rattle.cell_rules.specs.Refusals as refusals
-use Rattle.cell_rules.proofs.Tables.{all_bools, from_bools, all_machines, from_machines, all_zones, from_zones, all_postures, from_postures, all_poses, from_poses, implied, and_both, and_left, and_right}
+use Rattle.cell_rules.proofs.Tables.{Finite, from_bools, all_zones, all_postures, from_postures, bools, machines, zones, postures, poses, holds2, holds3, holds4, implied, and_both, and_left, and_right}
 use Rattle.cell_rules.proofs.Puts.{each_zone, has-put}
 use Rattle.cell_rules.proofs.Lawful.{can_be_in, is_lawful, lawful_in, lawful_from, sound_from}
 use Rattle.cell_rules.proofs.Done.{pose_done, advance_done, no_zone, none_then, not_true}
@@ -27,12 +18,8 @@ abbrev pub suits : Machine → Zone → Option Posture → Bool
 suits m z None = true
 suits m z (Some r) = same_machine m (host_of z) && can_be_in z r
 
-suits_table : all_machines (λ m. all_poses (λ p. all_zones (λ z. suits m z (posture_of m p z)))) ≡ true
-suits_table = refl
-
 pub posture_suits : (m : Machine) (p : Pose) (z : Zone) → suits m z (posture_of m p z) ≡ true
-posture_suits m p z =
-    from_zones (λ z. suits m z (posture_of m p z)) (from_poses (λ p. all_zones (λ z. suits m z (posture_of m p z))) (from_machines (λ m. all_poses (λ p. all_zones (λ z. suits m z (posture_of m p z)))) suits_table m) p) z
+posture_suits = holds3 machines poses zones (λ m p z. suits m z (posture_of m p z)) refl
 
 -- a pose concerns a zone if it gives it another posture, or makes it move
 abbrev pub concerns_posture : Option Posture → Posture → Bool
@@ -42,13 +29,8 @@ concerns_posture (Some q) now = same_posture q Moving || not (same_posture q now
 abbrev concern_test : Machine → Pose → Zone → Posture → Bool
 concern_test m p z now = implies (concerns_posture (posture_of m p z) now) (same_machine (host_of z) m && (is_moving_pose p || not (same_posture (unwrap_or (posture_of m p z) now) now)))
 
-concern_table : all_machines (λ m. all_poses (λ p. all_zones (λ z. all_postures (concern_test m p z)))) ≡ true
-concern_table = refl
-
 concerned : (s : ModelState) (m : Machine) (p : Pose) (z : Zone) → implies (concerns_posture (posture_of m p z) (posture_at s z)) (is_concerned s m p z) ≡ true
-concerned s m p z =
-    from_postures (concern_test m p z) (from_zones (λ z. all_postures (concern_test m p z)) (from_poses (λ p. all_zones (λ z. all_postures (concern_test m p z)))
-    (from_machines (λ m. all_poses (λ p. all_zones (λ z. all_postures (concern_test m p z)))) concern_table m) p) z) (posture_at s z)
+concerned s m p z = holds4 machines poses zones postures concern_test refl m p z (posture_at s z)
 
 -- what holds of no concerned zone holds of no zone that gets another posture
 unconcerned : (a b c : Bool) → implies a b ≡ true → (b && c) ≡ false → (a && c) ≡ false
@@ -70,16 +52,13 @@ opens (Some q) now = same_posture q OpenIn && not (same_posture now OpenIn)
 opens_same : (q : Option Posture) (now : Posture) → opens q now ≡ (same_posture (unwrap_or q now) OpenIn && not (same_posture now OpenIn))
 opens_same (Some q) now = refl
 opens_same None Closed = refl
-opens_same None Moving = refl
-opens_same None OpenIn = refl
-opens_same None OpenOut = refl
+opens_same None _ = refl
 
-abbrev all_options : (Option Posture → Bool) → Bool
-all_options P = P None && all_postures (λ p. P (Some p))
-
-from_options : (P : Option Posture → Bool) → all_options P ≡ true → (q : Option Posture) → P q ≡ true
-from_options P e None = and_left (P None) (all_postures (λ p. P (Some p))) e
-from_options P e (Some p) = from_postures (λ p. P (Some p)) (and_right (P None) (all_postures (λ p. P (Some p))) e) p
+abbrev options : Finite (Option Posture)
+options = record {
+  all = λ P. P None && all_postures (λ p. P (Some p));
+  holds = λ P e q. elim q as (λ q. P q ≡ true) [ None ↦ and_left _ _ e | Some p ↦ from_postures (λ p. P (Some p)) (and_right _ _ e) p ];
+}
 
 abbrev posed_by : Option Posture → ZoneState → ZoneState
 posed_by q v = record v { posture = unwrap_or q v.posture }
@@ -97,9 +76,6 @@ may_pose q c b i o m z v =
 abbrev pose_test : Option Posture → Bool → Bool → Bool → Bool → Machine → Zone → ZoneState → Bool
 pose_test q c b i o m z v = implies (is_lawful b i o z v && may_pose q c b i o m z v) (is_lawful c i o z (posed_by q v))
 
-pose_table : all_options (λ q. all_bools (λ c. All (pose_test q c))) ≡ true
-pose_table = refl
-
 same_self : (b : Bool) → beq b b ≡ true
 same_self true = refl
 same_self false = refl
@@ -116,22 +92,18 @@ not_and_false : (b : Bool) → not (b && false) ≡ true
 not_and_false true = refl
 not_and_false false = refl
 
+room_inside : (s : ModelState) (a : Bool) (z : Zone) → (a && is_blocked s z) ≡ false → not (a && press_blocked (has s.full PressIn) (has s.full PressOut) z) ≡ true
+room_inside s a Z3 e = not_true _ e
+room_inside s a _ e = not_and_false a
+
 pub pose_keeps : (s : ModelState) (m : Machine) (p : Pose) → IsSound s → pose_refusal s m p ≡ None → IsSound (changed s m (SetPose p))
 pose_keeps s m p h e =
     let may = pose_done s m p e in
     let small : s.stamp + 1 ≤ 1048575 = omega arith in
     let i = has s.full PressIn in
     let o = has s.full PressOut in
-    let Here : Zone → Type 0 = λ z. not (opens (posture_of m p z) (posture_at s z) && press_blocked i o z) ≡ true in
     let opened : (z : Zone) → (opens (posture_of m p z) (posture_at s z) && is_blocked s z) ≡ false = λ z.
     ap (λ (b : Bool). b && is_blocked s z) (opens_same (posture_of m p z) (posture_at s z)) ∙ none_then (refusals.opens s m p z && is_blocked s z) PlaceFull (no_zone (opens_onto_plate s m p) may.2 z) in
-    let room : (z : Zone) → Here z = each_zone Here
-    (not_and_false (opens (posture_of m p Z1) (posture_at s Z1)))
-    (not_and_false (opens (posture_of m p Z2) (posture_at s Z2)))
-    (not_true (opens (posture_of m p Z3) (posture_at s Z3) && is_blocked s Z3) (opened Z3))
-    (not_and_false (opens (posture_of m p Z4) (posture_at s Z4)))
-    (not_and_false (opens (posture_of m p Z5) (posture_at s Z5)))
-    (not_and_false (opens (posture_of m p Z6) (posture_at s Z6))) in
     let at : (z : Zone) → lawful_in s.full z (posed_by (posture_of m p z) (zone_at s z)) ≡ true = λ z.
     let v = zone_at s z in
     let q = posture_of m p z in
@@ -140,13 +112,9 @@ pose_keeps s m p h e =
     let k1 : not (concerns_posture q v.posture && not (is_owned_by v.owner m)) ≡ true = not_true (concerns_posture q v.posture && not (is_owned_by v.owner m)) (pose_owned s m p z e) in
     let k2 : not (concerns_posture q v.posture && v.flag) ≡ true = not_true (concerns_posture q v.posture && v.flag) (unconcerned (concerns_posture q v.posture) (is_concerned s m p z) v.flag (concerned s m p z) (none_then (is_concerned s m p z && v.flag) (PlateInZone z) (no_zone (plate_under_pose s m p) may.1 z))) in
     let k5 : (concerns_posture q v.posture || beq b c) ≡ true = same_after (λ x. is_onto_full s.full (transfer_of z x)) q v.posture in
-    let ks : may_pose q c b i o m z v ≡ true =
-    and_both (not (concerns_posture q v.posture && not (is_owned_by v.owner m))) (not (concerns_posture q v.posture && v.flag) && (suits m z q && (not (opens q v.posture && press_blocked i o z) && (concerns_posture q v.posture || beq b c)))) k1
-    (and_both (not (concerns_posture q v.posture && v.flag)) (suits m z q && (not (opens q v.posture && press_blocked i o z) && (concerns_posture q v.posture || beq b c))) k2
-    (and_both (suits m z q) (not (opens q v.posture && press_blocked i o z) && (concerns_posture q v.posture || beq b c)) (posture_suits m p z)
-    (and_both (not (opens q v.posture && press_blocked i o z)) (concerns_posture q v.posture || beq b c) (room z) k5))) in
+    let ks : may_pose q c b i o m z v ≡ true = and_both _ _ k1 (and_both _ _ k2 (and_both _ _ (posture_suits m p z) (and_both _ _ (room_inside s (opens q v.posture) z (opened z)) k5))) in
     implied (is_lawful b i o z v && may_pose q c b i o m z v) (is_lawful c i o z (posed_by q v))
-    (from_all (pose_test q c) (from_bools (λ c. All (pose_test q c)) (from_options (λ q. all_bools (λ c. All (pose_test q c))) pose_table q) c) b i o m z v)
+    (from_all (pose_test q c) (holds2 options bools (λ q c. All (pose_test q c)) refl q c) b i o m z v)
     (and_both (is_lawful b i o z v) (may_pose q c b i o m z v) (lawful_from s h z) ks) in
     let At : Zone → Type 0 = λ z. lawful_in s.full z (zone_in (map_zones (posed m p) s.zones) z) ≡ true in
     sound_from (changed s m (SetPose p)) small (each_zone At (at Z1) (at Z2) (at Z3) (at Z4) (at Z5) (at Z6))
@@ -159,9 +127,8 @@ comes_from p (Some t) = same_place p t.to
 
 fewer_worked : (a b c : Bool) → a ≡ false → fewer (cond a true (cond b false c)) c ≡ true
 fewer_worked true b c e = cc
-fewer_worked false true c e = refl
 fewer_worked false false true e = refl
-fewer_worked false false false e = refl
+fewer_worked false _ _ e = refl
 
 -- no zone leads to the place that work fills
 onto_worked : (full : PlaceSet) (from to : Place) (t : Option Transfer) → comes_from to t ≡ false → fewer (is_onto_full (put_place (put_place full from false) to true) t) (is_onto_full full t) ≡ true
@@ -180,9 +147,6 @@ may_advance c b m z v =
 
 abbrev advance_test : Bool → Bool → Bool → Bool → Machine → Zone → ZoneState → Bool
 advance_test c b i o m z v = implies (is_lawful b i o z v && may_advance c b m z v) (is_lawful c (press_if m false i) (press_if m true o) z (halted m z v))
-
-advance_table : all_bools (λ c. All (advance_test c)) ≡ true
-advance_table = refl
 
 pub belts_move : (s : ModelState) (m : Machine) → is_at_work s m ≡ true → (z : Zone) → implies (is_belt_of m z) (same_posture (posture_at s z) Moving) ≡ true
 belts_move s Feed e = each_zone (λ z. implies (is_belt_of Feed z) (same_posture (posture_at s z) Moving) ≡ true) refl refl refl refl refl e
@@ -218,11 +182,9 @@ advance_by s m from to h work apart small_stamp press_in press_out =
     let k1 = belts_move s m work z in
     let k2 : (is_belt_of m z || fewer c b) ≡ true = belt_or (is_belt_of m z) F v b (onto_worked s.full from to (transfer_of z v.posture) (apart z v.posture)) in
     let k3 = press_is_shut s m work z in
-    let ks : may_advance c b m z v ≡ true =
-    and_both (implies (is_belt_of m z) (same_posture v.posture Moving)) ((is_belt_of m z || fewer c b) && implies (same_machine m Press && same_zone z Z3) (same_posture v.posture Closed)) k1
-    (and_both (is_belt_of m z || fewer c b) (implies (same_machine m Press && same_zone z Z3) (same_posture v.posture Closed)) k2 k3) in
+    let ks : may_advance c b m z v ≡ true = and_both _ _ k1 (and_both _ _ k2 k3) in
     let there = implied (is_lawful b i o z v && may_advance c b m z v) (is_lawful c (press_if m false i) (press_if m true o) z (halted m z v))
-    (from_all (advance_test c) (from_bools (λ c. All (advance_test c)) advance_table c) b i o m z v)
+    (from_all (advance_test c) (from_bools (λ c. All (advance_test c)) refl c) b i o m z v)
     (and_both (is_lawful b i o z v) (may_advance c b m z v) (lawful_from s h z) ks) in
     let G : Bool → Type 0 = λ x. is_lawful c x (has full PressOut) z (halted m z v) ≡ true in
     let H : Bool → Type 0 = λ x. is_lawful c (press_if m false i) x z (halted m z v) ≡ true in
@@ -233,19 +195,11 @@ advance_by s m from to h work apart small_stamp press_in press_out =
 abbrev end_test : Place → Bool
 end_test to = all_zones (λ z. all_postures (λ q. not (comes_from to (transfer_of z q))))
 
-never_from : (b : Bool) → not b ≡ true → b ≡ false
-never_from true e = cc
-never_from false e = refl
-
 apart_from : (to : Place) → end_test to ≡ true → (z : Zone) (q : Posture) → comes_from to (transfer_of z q) ≡ false
-apart_from to e z q =
-    never_from (comes_from to (transfer_of z q)) (from_postures (λ q. not (comes_from to (transfer_of z q))) (from_zones (λ z. all_postures (λ q. not (comes_from to (transfer_of z q)))) e z) q)
+apart_from to e z q = not-true (comes_from to (transfer_of z q)) (holds2 zones postures (λ z q. not (comes_from to (transfer_of z q))) e z q)
 
 pub advance_keeps : (s : ModelState) (m : Machine) → IsSound s → advance_refusal s m ≡ None → IsSound (changed s m Advance)
 advance_keeps s Feed h e = let may = advance_done s Feed e in advance_by s Feed FeedEntry FeedEnd h may.2 (apart_from FeedEnd refl) may.3 refl refl
 advance_keeps s Deposit h e = let may = advance_done s Deposit e in advance_by s Deposit DepEntry DepEnd h may.2 (apart_from DepEnd refl) may.3 refl refl
 advance_keeps s Press h e = let may = advance_done s Press e in advance_by s Press PressIn PressOut h may.2 (apart_from PressOut refl) may.3 refl refl
-advance_keeps s Table h e = let may = advance_done s Table e in cc
-advance_keeps s Robot h e = let may = advance_done s Robot e in cc
-advance_keeps s Crane h e = let may = advance_done s Crane e in cc
-advance_keeps s Watch h e = let may = advance_done s Watch e in cc
+advance_keeps s m h e = let may = advance_done s m e in cc

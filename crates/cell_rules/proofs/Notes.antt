@@ -1,7 +1,5 @@
 -- What a machine notes of a history are its own events, in order.
-use Rattle.std.proofs.Common.{◌≡◌, Bool, true, false, cond, List, [], ◌∷◌, ◌++◌, map, refl, sym, ap, ◌∙◌}
-use Rattle.cell_rules.specs.Types.{Machine, Event, Entry, same_machine, one_machine}
-use Rattle.cell_rules.specs.Names.{ModelState, after, own_events, state_left, entry_of, noted, event_by}
+use Rattle.cell_rules.proofs.Names.{◌≡◌, Bool, true, false, cond, List, [], ◌∷◌, ◌++◌, map, refl, sym, ap, ◌∙◌, Machine, Event, Entry, same_machine, one_machine, ModelState, after, own_events, state_left, entry_of, noted, event_by}
 use Rattle.cell_rules.proofs.Lasting.{own_head}
 
 own_by : (b : Bool) (s : ModelState) (f : Event) (m : Machine) (es : List Entry) (h : List Event) → same_machine f.machine m ≡ b → map (event_by m) es ≡ h → map (event_by m) (cond b (entry_of s f ∷ es) es) ≡ cond b (f ∷ h) h

@@ -1,23 +1,15 @@
 -- If a machine holds each zone that its call needs, the call isn't refused for the owner of one.
-use Rattle.std.proofs.Common.{◌≡◌, Bool, true, false, ◌&&◌, not, cond, Option, Some, List, [], ◌∷◌, filter, refl, sym, ap, ◌∙◌, subst}
-use Rattle.std.specs.List.{list_all}
-use Rattle.cell_rules.specs.Types.{Machine, Press, Zone, Z3, Posture, Pose, Call, Claim, Give, Yield, Take, Release}
-use Rattle.cell_rules.specs.Types.{SetPose, Advance, Inquire, Stop, Resume, NotOwner, Answer, Event, host_of}
-use Rattle.cell_rules.specs.Types.{same_machine, same_zone, one_machine}
-use Rattle.cell_rules.specs.Names.{ModelState, IsSound, owns, reply, after, IsLegal, is_cause, is_owned_as}
-use Rattle.cell_rules.specs.Names.{is_changed, on_zone, lowest, zones_posed}
-use Rattle.cell_rules.specs.Causes.{is_anothers}
-use Rattle.cell_rules.specs.Rights.{KeepsItsOwn, needs, NamesNoOwner, IsNeverDisowned}
-use Rattle.cell_rules.proofs.Tables.{from_machines, from_zones, from_poses, all_machines, all_poses, Passed, passed, and_both}
+use Rattle.cell_rules.proofs.Names.{◌≡◌, Bool, true, false, ◌&&◌, not, cond, Option, Some, List, [], ◌∷◌, filter, refl, sym, ap, ◌∙◌, subst, list_all, Machine, Press, Zone, Z3, Posture, Pose, Call, Give, Yield, Take, Release, SetPose}
+use Rattle.cell_rules.proofs.Names.{Advance, NotOwner, Answer, Event, host_of, same_machine, one_machine, ModelState, IsSound, owns, reply, after, IsLegal, is_cause, is_owned_as, is_changed, on_zone, lowest, zones_posed, is_anothers}
+use Rattle.cell_rules.proofs.Names.{KeepsItsOwn, needs, NamesNoOwner, IsNeverDisowned}
+use Rattle.cell_rules.proofs.Tables.{machines, poses, holds2, Passed, passed, and_both}
 use Rattle.cell_rules.proofs.Histories.{sound-after}
+use Rattle.cell_rules.proofs.Holders.{same_zone-self}
 use Rattle.cell_rules.proofs.HoldsLemmas.{holds_iff_owns}
 use Rattle.cell_rules.proofs.Refusing.{refusals_tell}
 
 abbrev OwnsWhatItNeeds : ModelState → Machine → Call → Type 0
 OwnsWhatItNeeds s m c = (z : Zone) → needs m c z ≡ true → owns s m z ≡ true
-
-itself : (z : Zone) → same_zone z z ≡ true
-itself = from_zones (λ z. same_zone z z) refl
 
 -- a zone that the machine owns isn't another's
 not_anothers : (own other : Bool) → own ≡ true → (not own && other) ≡ false
@@ -28,11 +20,8 @@ not_anothers false other e = cc
 abbrev hosts : Machine → Zone × Posture → Bool
 hosts m row = same_machine (host_of row.0) m
 
-hosts_table : all_machines (λ m. all_poses (λ p. list_all (hosts m) (zones_posed m p))) ≡ true
-hosts_table = refl
-
 all_hosted : (m : Machine) (p : Pose) → Passed (hosts m) (zones_posed m p)
-all_hosted m p = passed (hosts m) (zones_posed m p) (from_poses (λ p. list_all (hosts m) (zones_posed m p)) (from_machines (λ m. all_poses (λ p. list_all (hosts m) (zones_posed m p))) hosts_table m) p)
+all_hosted m p = passed (hosts m) (zones_posed m p) (holds2 machines poses (λ m p. list_all (hosts m) (zones_posed m p)) refl m p)
 
 -- so none of them fails if the machine owns all of them
 none_fails : (s : ModelState) (m : Machine) (o : Option Machine) (rows : List (Zone × Posture)) → ((z : Zone) → same_machine (host_of z) m ≡ true → owns s m z ≡ true) → Passed (hosts m) rows
@@ -51,15 +40,11 @@ none_fails s m o (row ∷ rows) own hosted =
 
 -- then no owner is the cause of a refusal
 no_cause : (s : ModelState) (m : Machine) (c : Call) (o : Option Machine) → OwnsWhatItNeeds s m c → is_cause s m c (NotOwner o) ≡ false
-no_cause s m (Claim z) o own = refl
-no_cause s m (Give z) o own = not_anothers (owns s m z) (is_owned_as s z o) (own z (itself z))
-no_cause s m (Yield z) o own = not_anothers (owns s m z) (is_owned_as s z o) (own z (itself z))
-no_cause s m (Take z) o own = not_anothers (owns s m z) (is_owned_as s z o) (own z (itself z))
-no_cause s m (Release z) o own = not_anothers (owns s m z) (is_owned_as s z o) (own z (itself z))
+no_cause s m (Give z) o own = not_anothers (owns s m z) (is_owned_as s z o) (own z (same_zone-self z))
+no_cause s m (Yield z) o own = not_anothers (owns s m z) (is_owned_as s z o) (own z (same_zone-self z))
+no_cause s m (Take z) o own = not_anothers (owns s m z) (is_owned_as s z o) (own z (same_zone-self z))
+no_cause s m (Release z) o own = not_anothers (owns s m z) (is_owned_as s z o) (own z (same_zone-self z))
 no_cause s m (SetPose p) o own = none_fails s m o (zones_posed m p) own (all_hosted m p)
-no_cause s m (Inquire z) o own = refl
-no_cause s m Stop o own = refl
-no_cause s m Resume o own = refl
 no_cause s m Advance o own =
     let By : Bool → Type 0 = λ b. b ≡ same_machine m Press → (b && is_anothers s Press Z3 o) ≡ false in
     let by : (b : Bool) → By b = λ b. elim b as By [
@@ -68,6 +53,7 @@ no_cause s m Advance o own =
       | false ↦ λ e. refl
     ] in
     by (same_machine m Press) refl
+no_cause s m _ o own = refl
 
 not_disowned : (s : ModelState) (m : Machine) (c : Call) → IsSound s → OwnsWhatItNeeds s m c → NamesNoOwner (reply s m c)
 not_disowned s m c k own o e = let cause = refusals_tell.cause s m c (NotOwner o) k e in let none = no_cause s m c o own in cc

@@ -1,13 +1,8 @@
 -- A call that moves a plate keeps a sound state sound.
-use Rattle.std.proofs.Common.{◌≡◌, ◌+◌, ◌≤◌, Bool, true, false, ◌&&◌, ◌||◌, not, cond, Option, Some, None, is_some, if◌then◌else◌, refl, sym, ap, ◌∙◌, subst, arith}
-use Rattle.cell_rules.specs.Types.{Machine, Zone, Place, PressIn, PressOut, Transfer, Posture, PlaceFull, Give, Take}
-use Rattle.cell_rules.specs.Types.{transfer_of, same_place, same_zone, same_machine}
-use Rattle.cell_rules.specs.Names.{PlaceSet, has, ModelState, zone_at, IsSound, implies, is_onto_full, is_party}
-use Rattle.cell_rules.specs.Names.{is_owned_by, give_refusal, take_refusal, transfer_given, given_by, changed}
-use Rattle.cell_rules.specs.Names.{other_party, emptied, filled}
-use Rattle.cell_rules.specs.declared.zones.ZoneState.{ZoneState}
-use Rattle.cell_rules.specs.Refusals.{no_room}
-use Rattle.cell_rules.proofs.Tables.{all_bools, from_bools, all_zones, from_zones, all_states, from_states, all_postures, from_postures, implied, and_both}
+use Rattle.cell_rules.proofs.Names.{◌≡◌, ◌+◌, ◌≤◌, Bool, true, false, ◌&&◌, ◌||◌, not, cond, Option, Some, None, is_some, if◌then◌else◌, refl, sym, ap, ◌∙◌, subst, arith, Machine, Zone, Place, PressIn, PressOut, Transfer, Posture}
+use Rattle.cell_rules.proofs.Names.{PlaceFull, Give, Take, transfer_of, same_place, same_zone, same_machine, PlaceSet, has, ModelState, zone_at, IsSound, implies, is_onto_full, is_party, is_owned_by, give_refusal, take_refusal}
+use Rattle.cell_rules.proofs.Names.{transfer_given, given_by, changed, other_party, emptied, filled, ZoneState, no_room}
+use Rattle.cell_rules.proofs.Tables.{all_bools, from_bools, all_zones, all_states, bools, zones, states, postures, holds3, holds4, implied, and_both}
 use Rattle.cell_rules.proofs.Puts.{zone_in-kept, put_cases, has-put}
 use Rattle.cell_rules.proofs.Lawful.{is_lawful, lawful_in, lawful_from, sound_from}
 use Rattle.cell_rules.proofs.Done.{may_give, may_take, give_done, take_done, none_then, not_true}
@@ -22,21 +17,12 @@ fewer b c = implies b c
 abbrev less_test : Bool → Bool → Bool → Bool → Bool → Bool → Zone → ZoneState → Bool
 less_test b c i j o p z v = implies (fewer b c && (fewer i j && (fewer o p && is_lawful c j p z v))) (is_lawful b i o z v)
 
-less_table : all_zones (λ z. all_states (λ v. all_bools (λ b. all_bools (λ c. all_bools (λ i. all_bools (λ j. all_bools (λ o. all_bools (λ p. less_test b c i j o p z v)))))))) ≡ true
-less_table = refl
-
 pub lawful_less : (b c i j o p : Bool) (z : Zone) (v : ZoneState) → fewer b c ≡ true → fewer i j ≡ true → fewer o p ≡ true → is_lawful c j p z v ≡ true → is_lawful b i o z v ≡ true
 lawful_less b c i j o p z v hb hi ho h =
     implied (fewer b c && (fewer i j && (fewer o p && is_lawful c j p z v))) (is_lawful b i o z v)
-    (from_bools (λ p. less_test b c i j o p z v)
-    (from_bools (λ o. all_bools (λ p. less_test b c i j o p z v))
-    (from_bools (λ j. all_bools (λ o. all_bools (λ p. less_test b c i j o p z v)))
-    (from_bools (λ i. all_bools (λ j. all_bools (λ o. all_bools (λ p. less_test b c i j o p z v))))
-    (from_bools (λ c. all_bools (λ i. all_bools (λ j. all_bools (λ o. all_bools (λ p. less_test b c i j o p z v)))))
-    (from_bools (λ b. all_bools (λ c. all_bools (λ i. all_bools (λ j. all_bools (λ o. all_bools (λ p. less_test b c i j o p z v))))))
-    (from_states (λ v. all_bools (λ b. all_bools (λ c. all_bools (λ i. all_bools (λ j. all_bools (λ o. all_bools (λ p. less_test b c i j o p z v)))))))
-    (from_zones (λ z. all_states (λ v. all_bools (λ b. all_bools (λ c. all_bools (λ i. all_bools (λ j. all_bools (λ o. all_bools (λ p. less_test b c i j o p z v)))))))) less_table z) v) b) c) i) j) o) p)
-    (and_both (fewer b c) (fewer i j && (fewer o p && is_lawful c j p z v)) hb (and_both (fewer i j) (fewer o p && is_lawful c j p z v) hi (and_both (fewer o p) (is_lawful c j p z v) ho h)))
+    (holds4 zones states bools bools (λ z v b c. less_test b c i j o p z v)
+    (holds4 bools bools bools bools (λ i j o p. all_zones (λ z. all_states (λ v. all_bools (λ b. all_bools (λ c. less_test b c i j o p z v))))) refl i j o p) z v b c)
+    (and_both (fewer b c) _ hb (and_both (fewer i j) _ hi (and_both (fewer o p) _ ho h)))
 
 fewer_same : (b c : Bool) → b ≡ c → fewer b c ≡ true
 fewer_same true c e = sym e
@@ -45,9 +31,8 @@ fewer_same false c e = refl
 -- ---- emptied
 
 fewer_cond : (t b : Bool) → fewer (cond t false b) b ≡ true
-fewer_cond true b = refl
 fewer_cond false true = refl
-fewer_cond false false = refl
+fewer_cond _ _ = refl
 
 pub emptied_fewer : (full : PlaceSet) (row : Option Transfer) (p : Place) → fewer (has (emptied full row) p) (has full p) ≡ true
 emptied_fewer full None p = fewer_same (has full p) (has full p) refl
@@ -67,10 +52,7 @@ given v m z = record v { owner = Some (other_party m z); flag = true }
 abbrev give_test : Bool → Bool → Bool → Machine → Zone → ZoneState → Bool
 give_test b i o m z v = implies (is_lawful b i o z v && (may_give v m z && not b)) (is_lawful b i o z (given v m z))
 
-give_table : All give_test ≡ true
-give_table = refl
-
-false_by : (t b : Bool) → b ≡ false → cond t false b ≡ false
+pub false_by : (t b : Bool) → b ≡ false → cond t false b ≡ false
 false_by true b e = refl
 false_by false b e = e
 
@@ -85,15 +67,12 @@ room_of s m None k e = cc
 room_of s m (Some t) k e = room_if s t (same_machine t.giver m) k e
 
 not_from : (a b : Bool) → a ≡ false → (a || not b) ≡ true → b ≡ false
-not_from true b e f = cc
-not_from false true e f = cc
 not_from false false e f = refl
+not_from _ _ e f = cc
 
 pub fourth : (a b c d : Bool) → (a && (b && (c && d))) ≡ true → d ≡ true
 fourth true true true d e = e
-fourth false b c d e = cc
-fourth true false c d e = cc
-fourth true true false d e = cc
+fourth _ _ _ d e = cc
 
 pub give_keeps : (s : ModelState) (m : Machine) (z : Zone) → IsSound s → give_refusal s m z ≡ None → IsSound (changed s m (Give z))
 give_keeps s m z h e =
@@ -111,7 +90,7 @@ give_keeps s m z h e =
     let some : is_some row ≡ true = fourth (is_party m z) (is_owned_by v.owner m) (not v.flag) (is_some row) may.0 in
     let room : not b ≡ true = not_true b (room_of s m (transfer_of z v.posture) some may.1) in
     sound_from (changed s m (Give z)) small (zone_in-kept (λ y v. lawful_in full y v ≡ true) s.zones (given v m z) after z
-    (implied (is_lawful b i o z v && (may_give v m z && not b)) (is_lawful b i o z (given v m z)) (from_all give_test give_table b i o m z v) (and_both (is_lawful b i o z v) (may_give v m z && not b) (after z) (and_both (may_give v m z) (not b) may.0 room))))
+    (implied (is_lawful b i o z v && (may_give v m z && not b)) (is_lawful b i o z (given v m z)) (from_all give_test refl b i o m z v) (and_both (is_lawful b i o z v) (may_give v m z && not b) (after z) (and_both (may_give v m z) (not b) may.0 room))))
 
 -- ---- take
 
@@ -137,15 +116,8 @@ onto-filled full (Some row) (Some t) e = has-put full true row.to t.to ∙ ap (�
 abbrev apart_test : Zone → Posture → Zone → Posture → Bool
 apart_test z p y q = same_zone z y || not (same_to (transfer_of z p) (transfer_of y q))
 
-apart_table : all_zones (λ z. all_postures (λ p. all_zones (λ y. all_postures (λ q. apart_test z p y q)))) ≡ true
-apart_table = refl
-
 apart : (z : Zone) (p : Posture) (y : Zone) (q : Posture) → same_zone z y ≡ false → same_to (transfer_of z p) (transfer_of y q) ≡ false
-apart z p y q e =
-    not_from (same_zone z y) (same_to (transfer_of z p) (transfer_of y q)) e
-    (from_postures (λ q. apart_test z p y q) (from_zones (λ y. all_postures (λ q. apart_test z p y q))
-    (from_postures (λ p. all_zones (λ y. all_postures (λ q. apart_test z p y q)))
-    (from_zones (λ z. all_postures (λ p. all_zones (λ y. all_postures (λ q. apart_test z p y q)))) apart_table z) p) y) q)
+apart z p y q e = not_from (same_zone z y) (same_to (transfer_of z p) (transfer_of y q)) e (holds4 zones postures zones postures apart_test refl z p y q)
 
 -- a take at its own zone
 abbrev pub taken : ZoneState → Machine → Zone → ZoneState
@@ -155,34 +127,22 @@ abbrev take_test : Bool → Bool → Bool → Bool → Machine → Zone → Zone
 take_test c b i o m z v =
     implies (is_lawful b i o z v && may_take v m z) (is_lawful c (cond (leads_to (transfer_of z v.posture) PressIn) true i) (cond (leads_to (transfer_of z v.posture) PressOut) true o) z (taken v m z))
 
-take_table : all_bools (λ c. All (take_test c)) ≡ true
-take_table = refl
-
 take_here : (c b i o : Bool) (m : Machine) (z : Zone) (v : ZoneState) → is_lawful b i o z v ≡ true → may_take v m z ≡ true
     → is_lawful c (cond (leads_to (transfer_of z v.posture) PressIn) true i) (cond (leads_to (transfer_of z v.posture) PressOut) true o) z (taken v m z) ≡ true
 take_here c b i o m z v h k =
     implied (is_lawful b i o z v && may_take v m z) (is_lawful c (cond (leads_to (transfer_of z v.posture) PressIn) true i) (cond (leads_to (transfer_of z v.posture) PressOut) true o) z (taken v m z))
-    (from_all (take_test c) (from_bools (λ c. All (take_test c)) take_table c) b i o m z v) (and_both (is_lawful b i o z v) (may_take v m z) h k)
+    (from_all (take_test c) (from_bools (λ c. All (take_test c)) refl c) b i o m z v) (and_both (is_lawful b i o z v) (may_take v m z) h k)
 
 -- at another zone: the press is filled through z3 alone
 abbrev else_test : Zone → Posture → Zone → ZoneState → Bool → Bool → Bool → Bool
 else_test z p y u b i o =
     implies (is_lawful b i o y u && not (same_zone z y)) (is_lawful b (cond (leads_to (transfer_of z p) PressIn) true i) (cond (leads_to (transfer_of z p) PressOut) true o) y u)
 
-else_table : all_zones (λ z. all_postures (λ p. all_zones (λ y. all_states (λ u. all_bools (λ b. all_bools (λ i. all_bools (λ o. else_test z p y u b i o))))))) ≡ true
-else_table = refl
-
 take_else : (z : Zone) (p : Posture) (y : Zone) (u : ZoneState) (b i o : Bool) → same_zone z y ≡ false → is_lawful b i o y u ≡ true
     → is_lawful b (cond (leads_to (transfer_of z p) PressIn) true i) (cond (leads_to (transfer_of z p) PressOut) true o) y u ≡ true
 take_else z p y u b i o e h =
     implied (is_lawful b i o y u && not (same_zone z y)) (is_lawful b (cond (leads_to (transfer_of z p) PressIn) true i) (cond (leads_to (transfer_of z p) PressOut) true o) y u)
-    (from_bools (λ o. else_test z p y u b i o)
-    (from_bools (λ i. all_bools (λ o. else_test z p y u b i o))
-    (from_bools (λ b. all_bools (λ i. all_bools (λ o. else_test z p y u b i o)))
-    (from_states (λ u. all_bools (λ b. all_bools (λ i. all_bools (λ o. else_test z p y u b i o))))
-    (from_zones (λ y. all_states (λ u. all_bools (λ b. all_bools (λ i. all_bools (λ o. else_test z p y u b i o)))))
-    (from_postures (λ p. all_zones (λ y. all_states (λ u. all_bools (λ b. all_bools (λ i. all_bools (λ o. else_test z p y u b i o))))))
-    (from_zones (λ z. all_postures (λ p. all_zones (λ y. all_states (λ u. all_bools (λ b. all_bools (λ i. all_bools (λ o. else_test z p y u b i o))))))) else_table z) p) y) u) b) i) o)
+    (holds3 bools bools bools (else_test z p y u) (holds4 zones postures zones states (λ z p y u. all_bools (λ b. all_bools (λ i. all_bools (else_test z p y u b i)))) refl z p y u) b i o)
     (and_both (is_lawful b i o y u) (not (same_zone z y)) h (not_true (same_zone z y) e))
 
 pub take_keeps : (s : ModelState) (m : Machine) (z : Zone) → IsSound s → take_refusal s m z ≡ None → IsSound (changed s m (Take z))

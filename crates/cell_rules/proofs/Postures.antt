@@ -1,14 +1,10 @@
 -- The posture by the events is the one in the state after.
-use Rattle.std.proofs.Common.{◌≡◌, Bool, true, false, List, [], ◌∷◌, refl, sym, ap, ◌∙◌, subst, if◌then◌else◌}
-use Rattle.cell_rules.specs.Types.{Machine, Zone, Closed, Call, Claim, Give, Yield, Take, Release, SetPose, Advance}
-use Rattle.cell_rules.specs.Types.{Inquire, Stop, Resume, Answer, Done, Shown, Refused, Event}
-use Rattle.cell_rules.specs.Names.{zone_in, put_zone, ModelState, zone_at, posture_at, reply, next, next_by, changed}
-use Rattle.cell_rules.specs.Names.{posed, halted, is_belt_of, after, IsLegal, is_done_answer, posture_given}
-use Rattle.cell_rules.specs.Names.{posture_since, posture_by_events}
-use Rattle.cell_rules.specs.declared.zones.ZoneState.{ZoneState}
+use Rattle.cell_rules.proofs.Names.{◌≡◌, Bool, true, false, List, [], ◌∷◌, refl, ap, ◌∙◌, if◌then◌else◌, Machine, Zone, Closed, Call, Claim, Give, Yield, Take, Release, SetPose, Advance, Event, zone_in, put_zone, ModelState, zone_at}
+use Rattle.cell_rules.proofs.Names.{posture_at, next, changed, posed, halted, is_belt_of, after, IsLegal, posture_given, posture_since, posture_by_events, ZoneState}
 use Rattle.cell_rules.proofs.Puts.{zone_in-map, zone_in-kept}
 use Rattle.cell_rules.proofs.Kept.{claimed, yielded, released}
 use Rattle.cell_rules.proofs.Plates.{given, taken}
+use Rattle.cell_rules.proofs.Soundness.{event_cases}
 
 -- a zone is put with its own posture
 put_kept : (s : ModelState) (y : Zone) (v : ZoneState) → v.posture ≡ posture_at s y → (z : Zone) → (zone_in (put_zone s.zones y v) z).posture ≡ posture_at s z
@@ -26,18 +22,11 @@ posture-changed s n (Take y) z = put_kept s y (taken (zone_at s y) n y) refl z
 posture-changed s n (Release y) z = put_kept s y (released (zone_at s y) n y) refl z
 posture-changed s n (SetPose p) z = ap (λ (v : ZoneState). v.posture) (zone_in-map (posed n p) s.zones z)
 posture-changed s n Advance z = ap (λ (v : ZoneState). v.posture) (zone_in-map (halted n) s.zones z) ∙ posture-halted (is_belt_of n z) (zone_at s z)
-posture-changed s n (Inquire y) z = refl
-posture-changed s n Stop z = refl
-posture-changed s n Resume z = refl
-
-posture_by : (a : Answer) (s : ModelState) (n : Machine) (c : Call) (z : Zone) → posture_at (next_by a s n c) z ≡ (if is_done_answer a then posture_given n c z (posture_at s z) else posture_at s z)
-posture_by Done s n c z = posture-changed s n c z
-posture_by (Shown o f p) s n c z = refl
-posture_by (Refused r) s n c z = refl
+posture-changed s n _ z = refl
 
 pub posture-after : (s : ModelState) (h : List Event) (z : Zone) → IsLegal s h → posture_at (after s h) z ≡ posture_by_events s h z
 posture-after s [] z l = refl
 posture-after s (e ∷ h) z l =
-    let A : Answer → Type 0 = λ a. posture_at (next s e.machine e.call) z ≡ (if is_done_answer a then posture_given e.machine e.call z (posture_at s z) else posture_at s z) in
-    let here = subst A (sym l.0) (posture_by (reply s e.machine e.call) s e.machine e.call z) in
+    let Given : Bool → ModelState → Type 0 = λ b t. posture_at t z ≡ (if b then posture_given e.machine e.call z (posture_at s z) else posture_at s z) in
+    let here = event_cases Given s e l.0 (λ _. posture-changed s e.machine e.call z) refl in
     posture-after (next s e.machine e.call) h z l.1 ∙ ap (λ p. posture_since p h z) here

@@ -1,16 +1,12 @@
 -- What is the same if nothing changes: the state after a call that isn't Done, and after events of others without a
 -- change.
-use Rattle.std.proofs.Common.{◌≡◌, ℕ, ◌+◌, Bool, true, false, ◌&&◌, not, cond, List, [], ◌∷◌, ◌++◌, refl, sym, ap, ◌∙◌, subst, arith}
-use Rattle.std.proofs.lemmas.List.Sums.{sum_by-cons, sum_by-append}
-use Rattle.cell_rules.specs.Types.{Machine, Call, Answer, Done, Shown, Refused, Event, same_machine}
-use Rattle.cell_rules.specs.Names.{ModelState, reply, next, next_by, after, IsLegal, own_events, is_done}
-use Rattle.cell_rules.specs.Names.{is_done_answer, changes_by_others}
+use Rattle.cell_rules.proofs.Names.{◌≡◌, ℕ, ◌+◌, Bool, true, false, ◌&&◌, not, cond, List, [], ◌∷◌, ◌++◌, refl, sym, ap, ◌∙◌, subst, arith, sum_by-cons, sum_by-append, Machine, Call, Answer, Done, Event, same_machine, ModelState, reply}
+use Rattle.cell_rules.proofs.Names.{next, next_by, after, IsLegal, own_events, is_done, is_done_answer, changes_by_others}
 use Rattle.cell_rules.proofs.Lasting.{own_head}
 
 same_by : (a : Answer) (s : ModelState) (m : Machine) (c : Call) → is_done_answer a ≡ false → next_by a s m c ≡ s
 same_by Done s m c e = cc
-same_by (Shown o f p) s m c e = refl
-same_by (Refused r) s m c e = refl
+same_by _ s m c e = refl
 
 pub next-same : (s : ModelState) (m : Machine) (c : Call) → is_done_answer (reply s m c) ≡ false → next s m c ≡ s
 next-same s m c e = same_by (reply s m c) s m c e

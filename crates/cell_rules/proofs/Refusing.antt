@@ -1,9 +1,7 @@
 -- Each refusal has its cause, on every sound state.
-use Rattle.std.proofs.Common.{◌≡◌, Option, Some, None, ap}
-use Rattle.cell_rules.specs.Types.{Machine, Call, Claim, Give, Yield, Take, Release, SetPose, Advance, Inquire, Stop}
-use Rattle.cell_rules.specs.Types.{Resume, Refusal, Refused}
-use Rattle.cell_rules.specs.Names.{ModelState, IsSound, reply, refusal, done_unless, is_cause, order_of}
-use Rattle.cell_rules.specs.RefusalLaws.{RefusalsTell}
+use Rattle.cell_rules.proofs.Names.{◌≡◌, Option, Some, None, ap, Machine, Call, Claim, Give, Yield, Take, Release, SetPose, Advance, Inquire, Stop, Resume, Refusal, Refused, ModelState, IsSound, reply, refusal, done_unless, is_cause}
+use Rattle.cell_rules.proofs.Names.{RefusalsTell}
+use Rattle.cell_rules.specs.Names.{order_of}
 use Rattle.cell_rules.proofs.Causing.{TellsRight, claim_tells, give_tells, yield_tells, take_tells, release_tells}
 use Rattle.cell_rules.proofs.Causing.{stop_tells, resume_tells}
 use Rattle.cell_rules.proofs.Posing.{pose_tells, advance_tells}

@@ -1,98 +1,57 @@
 -- What a state with another stamp answers.
-use Rattle.std.proofs.Common.{◌≡◌, ◌≢◌, ◌≤◌, ◌<◌, ℕ, Bool, true, false, not, ◌&&◌, nat_lt, nat_eq, List, [], ◌∷◌, ◌++◌, Option, Some, None, refl, sym, subst, ap, ◌∙◌, lt-ltb, arith}
+use Rattle.cell_rules.proofs.Names.{◌≡◌, ◌≢◌, ◌≤◌, ◌<◌, ℕ, Bool, true, false, not, ◌&&◌, nat_lt, nat_eq, List, [], ◌∷◌, ◌++◌, Option, None, refl, sym, subst, ap, ◌∙◌, lt-ltb, arith, then_some, list_all, Machine, Zone, Posture, all_zones}
+use Rattle.cell_rules.proofs.Names.{all_places, host_of, keeper_of, same_machine, same_posture, one_machine, one_posture, Call, Claim, Inquire, Refusal, Worn, Answer, Done, Refused, ModelState, zone_at, is_full, last_stamp, IsSound}
+use Rattle.cell_rules.proofs.Names.{is_owned_by, implies, owns, posture_at, after, IsLegal, own_events, reply, next, next_by, changed, done_unless, is_cause, restamped, IsSameFor, same_flag, ZoneState, is_worn, StampsOnlyWear, EndsAreSame}
+use Rattle.cell_rules.proofs.Names.{is_same_zone, is_same_place}
 use Rattle.std.specs.Prelude.{IsTrue}
-use Rattle.std.specs.Bool.{then_some}
-use Rattle.std.specs.List.{list_all}
-use Rattle.cell_rules.specs.Types.{Machine, Feed, Table, Robot, Press, Deposit, Crane, Watch, Zone, Posture, Closed}
-use Rattle.cell_rules.specs.Types.{Moving, OpenIn, OpenOut, all_zones, all_places, host_of, keeper_of, same_machine}
-use Rattle.cell_rules.specs.Types.{same_posture, one_machine, one_posture, Call, Claim, Give, Yield, Take, Release}
-use Rattle.cell_rules.specs.Types.{SetPose, Advance, Inquire, Stop, Resume, Refusal, Worn, Answer, Done, Shown}
-use Rattle.cell_rules.specs.Types.{Refused}
-use Rattle.cell_rules.specs.Names.{ModelState, zone_at, is_full, last_stamp, IsSound, is_owned_by, implies, owns}
-use Rattle.cell_rules.specs.Names.{posture_at, after, IsLegal, own_events, reply, next, next_by, changed, done_unless}
-use Rattle.cell_rules.specs.Names.{is_cause, restamped, IsSameFor, same_flag}
-use Rattle.cell_rules.specs.declared.zones.ZoneState.{ZoneState}
 use Rattle.cell_rules.specs.Refusals
-use Rattle.cell_rules.specs.Causes.{is_worn}
-use Rattle.cell_rules.specs.Restamping.{StampsOnlyWear, EndsAreSame, is_same_zone, is_same_place}
 use Rattle.cell_rules.proofs.Tables.{and_left, and_right, and_both, implied, all_pass, from_zones, from_places}
 use Rattle.cell_rules.proofs.Histories.{legal-left}
 use Rattle.cell_rules.proofs.HoldsLemmas.{holds_iff_owns}
 use Rattle.cell_rules.proofs.Postures.{posture-after}
 use Rattle.cell_rules.proofs.Keepers.{right_lasts}
+use Rattle.cell_rules.proofs.Soundness.{stamped}
+use Rattle.cell_rules.proofs.Holders.{owner_is, same_machine-self}
+use Rattle.cell_rules.proofs.Tellings.{same_posture-self}
 use Rattle.cell_rules.proofs.SeenLemmas.{own-append}
 use Rattle.cell_rules.proofs.Refusing.{refusals_tell}
 
 -- being worn is looked at last
 last_alike : (rest : Option Refusal) (b c : Bool) → done_unless (Refusals.◌or◌ rest (then_some b Worn)) ≢ Refused Worn → c ≡ false
     → done_unless (Refusals.◌or◌ rest (then_some c Worn)) ≡ done_unless (Refusals.◌or◌ rest (then_some b Worn))
-last_alike (Some r) b c n e = refl
 last_alike None b true n e = cc
 last_alike None true false n e = absurd (n refl)
-last_alike None false false n e = refl
+last_alike _ _ _ n e = refl
 
 not_worn : (stamp : ℕ) → stamp < last_stamp → not (nat_lt stamp last_stamp) ≡ false
 not_worn stamp l = ap not (lt-ltb stamp last_stamp l)
 
 answers_alike : (s : ModelState) (stamp : ℕ) (m : Machine) (c : Call) → stamp < last_stamp → reply s m c ≢ Refused Worn → reply (restamped s stamp) m c ≡ reply s m c
-answers_alike s stamp m (Claim z) l n = last_alike _ _ _ n (not_worn stamp l)
-answers_alike s stamp m (Give z) l n = last_alike _ _ _ n (not_worn stamp l)
-answers_alike s stamp m (Yield z) l n = last_alike _ _ _ n (not_worn stamp l)
-answers_alike s stamp m (Take z) l n = last_alike _ _ _ n (not_worn stamp l)
-answers_alike s stamp m (Release z) l n = last_alike _ _ _ n (not_worn stamp l)
-answers_alike s stamp m (SetPose p) l n = last_alike _ _ _ n (not_worn stamp l)
-answers_alike s stamp m Advance l n = last_alike _ _ _ n (not_worn stamp l)
 answers_alike s stamp m (Inquire z) l n = refl
-answers_alike s stamp m Stop l n = last_alike _ _ _ n (not_worn stamp l)
-answers_alike s stamp m Resume l n = last_alike _ _ _ n (not_worn stamp l)
+answers_alike s stamp m _ l n = last_alike _ _ _ n (not_worn stamp l)
 
 -- the next state is the same but for the stamp
 changed_alike : (s : ModelState) (stamp : ℕ) (m : Machine) (c : Call) → changed (restamped s stamp) m c ≡ restamped (changed s m c) (changed (restamped s stamp) m c).stamp
 changed_alike s stamp m (Claim z) = refl
-changed_alike s stamp m (Give z) = refl
-changed_alike s stamp m (Yield z) = refl
-changed_alike s stamp m (Take z) = refl
-changed_alike s stamp m (Release z) = refl
-changed_alike s stamp m (SetPose p) = refl
-changed_alike s stamp m Advance = refl
-changed_alike s stamp m (Inquire z) = refl
-changed_alike s stamp m Stop = refl
-changed_alike s stamp m Resume = refl
+changed_alike s stamp m _ = refl
 
 next_by_alike : (a : Answer) (s : ModelState) (stamp : ℕ) (m : Machine) (c : Call) → next_by a (restamped s stamp) m c ≡ restamped (next_by a s m c) (next_by a (restamped s stamp) m c).stamp
 next_by_alike Done s stamp m c = changed_alike s stamp m c
-next_by_alike (Refused r) s stamp m c = refl
-next_by_alike (Shown o f p) s stamp m c = refl
+next_by_alike _ s stamp m c = refl
 
 next_alike : (s : ModelState) (stamp : ℕ) (m : Machine) (c : Call) → reply (restamped s stamp) m c ≡ reply s m c → next (restamped s stamp) m c ≡ restamped (next s m c) (next (restamped s stamp) m c).stamp
 next_alike s stamp m c e = subst (λ a. next_by a (restamped s stamp) m c ≡ restamped (next s m c) (next_by a (restamped s stamp) m c).stamp) (sym e) (next_by_alike (reply s m c) s stamp m c)
 
 -- what refuses a call as worn is the last stamp
 worn_by : (s : ModelState) (m : Machine) (c : Call) → IsTrue (is_cause s m c Worn) → IsTrue (is_worn s)
-worn_by s m (Claim z) k = k
-worn_by s m (Give z) k = k
-worn_by s m (Yield z) k = k
-worn_by s m (Take z) k = k
-worn_by s m (Release z) k = k
-worn_by s m (SetPose p) k = k
-worn_by s m Advance k = k
 worn_by s m (Inquire z) k = cc
-worn_by s m Stop k = k
-worn_by s m Resume k = k
+worn_by s m _ k = k
 
 below_last : (stamp : ℕ) → stamp < last_stamp → ¬ IsTrue (nat_eq stamp 1048575)
 below_last stamp l k = grind arith
 
 pub restamped_sound : (s : ModelState) (stamp : ℕ) → stamp ≤ last_stamp → IsSound s → IsSound (restamped s stamp)
-restamped_sound s stamp l h = record {
-  stamp_in_range = l;
-  owner_is_party = h.owner_is_party;
-  flag_has_transfer = h.flag_has_transfer;
-  guest_only_while_open = h.guest_only_while_open;
-  moving_belongs_to_host = h.moving_belongs_to_host;
-  posture_of_some_pose = h.posture_of_some_pose;
-  press_holds_one_plate = h.press_holds_one_plate;
-}
+restamped_sound s stamp l h = stamped s stamp s.stopped h l
 
 pub stamps_only_wear : (s : ModelState) → StampsOnlyWear s
 stamps_only_wear s = record {
@@ -127,53 +86,26 @@ same_after opening m seen history stamp sound legal w =
 
 one_flag : (a b : Bool) → same_flag a b ≡ true → a ≡ b
 one_flag true true e = refl
-one_flag true false e = cc
-one_flag false true e = cc
 one_flag false false e = refl
+one_flag _ _ e = cc
 
 own_flag : (a b : Bool) → a ≡ b → same_flag a b ≡ true
 own_flag true true e = refl
-own_flag true false e = cc
-own_flag false true e = cc
 own_flag false false e = refl
+own_flag _ _ e = cc
 
 implied_by : (a b : Bool) → (a ≡ true → b ≡ true) → implies a b ≡ true
 implied_by true b f = f refl
 implied_by false b f = refl
 
-one_owner : (o : Option Machine) (m : Machine) → is_owned_by o m ≡ true → o ≡ Some m
-one_owner None m e = cc
-one_owner (Some n) m e = ap Some (one_machine n m e)
-
-abbrev zone_of : Option Machine → Bool → Posture → ZoneState
-zone_of owner flag posture = record { owner = owner; flag = flag; posture = posture }
-
-zone_parts : (o p : Option Machine) (f g : Bool) (q r : Posture) → o ≡ p → f ≡ g → q ≡ r → zone_of o f q ≡ zone_of p g r
-zone_parts o p f g q r a b c = cc
-
 zone_alike : (v w : ZoneState) (m : Machine) → is_owned_by v.owner m ≡ true → is_owned_by w.owner m ≡ true → w.flag ≡ v.flag → w.posture ≡ v.posture → w ≡ v
-zone_alike v w m a b f q = zone_parts w.owner v.owner w.flag v.flag w.posture v.posture (one_owner w.owner m b ∙ sym (one_owner v.owner m a)) f q
-
-same_self : (m : Machine) → same_machine m m ≡ true
-same_self Feed = refl
-same_self Table = refl
-same_self Robot = refl
-same_self Press = refl
-same_self Deposit = refl
-same_self Crane = refl
-same_self Watch = refl
+zone_alike v w m a b f q = let o : w.owner ≡ v.owner = owner_is w.owner m b ∙ sym (owner_is v.owner m a) in λ i. record { owner = o i; flag = f i; posture = q i }
 
 same_of : (a b : Machine) → a ≡ b → same_machine a b ≡ true
-same_of a b e = ap (same_machine a) (sym e) ∙ same_self a
-
-posture_self : (q : Posture) → same_posture q q ≡ true
-posture_self Closed = refl
-posture_self Moving = refl
-posture_self OpenIn = refl
-posture_self OpenOut = refl
+same_of a b e = ap (same_machine a) (sym e) ∙ same_machine-self a
 
 posture_of_same : (a b : Posture) → a ≡ b → same_posture a b ≡ true
-posture_of_same a b e = ap (same_posture a) (sym e) ∙ posture_self a
+posture_of_same a b e = ap (same_posture a) (sym e) ∙ same_posture-self a
 
 pub same_by_test : (m : Machine) (s t : ModelState) → list_all (is_same_zone m s t) all_zones ≡ true → list_all (is_same_place m s t) all_places ≡ true → IsSameFor m s t
 same_by_test m s t zs ps =

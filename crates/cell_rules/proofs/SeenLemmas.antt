@@ -1,14 +1,6 @@
 -- What a call adds to a history, and to what its caller has seen.
-use Rattle.std.proofs.Common.{arith, ◌≡◌, cond, true, ◌-◌, List, [], ◌∷◌, ◌++◌, length, Some, refl, sym, ap, ◌∙◌, append-nil}
-use Rattle.std.specs.Prelude.{slice_get}
-use Rattle.std.proofs.Props.{props}
-use Rattle.std.proofs.Math.Logic.{∥∥₁_elim}
-use Rattle.std.proofs.lemmas.List.{append_cancel_left, length-append}
-use Rattle.std.proofs.lemmas.List.Elements.{filter-append}
-use Rattle.cell_rules.specs.Types.{Machine, Call, Answer, Event, same_machine}
-use Rattle.cell_rules.specs.Names.{ModelState, reply, next, after, IsLegal, own_events, event, Settles, Waits}
-use Rattle.cell_rules.specs.Names.{last_event}
-use Rattle.cell_rules.specs.Stored.{IsHistory}
+use Rattle.cell_rules.proofs.Names.{arith, ◌≡◌, cond, true, ◌-◌, List, [], ◌∷◌, ◌++◌, length, Some, refl, sym, ap, ◌∙◌, append-nil, slice_get, props, ∥∥₁_elim, append_cancel_left, length-append, filter-append, Machine, Call, Answer, Event}
+use Rattle.cell_rules.proofs.Names.{same_machine, ModelState, reply, next, after, IsLegal, own_events, event, Settles, Waits, last_event, IsHistory}
 use Rattle.cell_rules.proofs.Tables.{from_machines}
 use Rattle.cell_rules.proofs.Histories.{after-append}
 

@@ -1,10 +1,7 @@
 -- Each call keeps a sound state sound.
-use Rattle.std.proofs.Common.{◌≡◌, ◌+◌, ◌≤◌, ◌<◌, Bool, Option, None, refl, arith}
-use Rattle.cell_rules.specs.Types.{Machine, Call, Claim, Give, Yield, Take, Release, SetPose, Advance, Inquire, Stop}
-use Rattle.cell_rules.specs.Types.{Resume, Refusal, Answer, Done, Shown, Refused}
-use Rattle.cell_rules.specs.Names.{ModelState, IsSound, claim_refusal, give_refusal, yield_refusal, take_refusal}
-use Rattle.cell_rules.specs.Names.{release_refusal, pose_refusal, advance_refusal, stop_refusal, resume_refusal}
-use Rattle.cell_rules.specs.Names.{reply, changed, next, next_by, done_unless}
+use Rattle.cell_rules.proofs.Names.{◌≡◌, ℕ, ◌≤◌, Bool, true, false, Option, None, refl, sym, subst, arith, Machine, Call, Claim, Give, Yield, Take, Release, SetPose, Advance, Inquire, Stop, Resume, Refusal, Answer, Done, Event, ModelState}
+use Rattle.cell_rules.proofs.Names.{IsSound, claim_refusal, give_refusal, yield_refusal, take_refusal, release_refusal, pose_refusal, advance_refusal, stop_refusal, resume_refusal, reply, changed, next, next_by, done_unless, is_done_answer}
+use Rattle.cell_rules.proofs.Names.{is_done}
 use Rattle.cell_rules.proofs.Done.{stop_done, resume_done}
 use Rattle.cell_rules.proofs.Kept.{claim_keeps, yield_keeps, release_keeps}
 use Rattle.cell_rules.proofs.Plates.{give_keeps, take_keeps}
@@ -15,19 +12,9 @@ pub done_none : (r : Option Refusal) → done_unless r ≡ Done → r ≡ None
 done_none None e = refl
 done_none r e = cc
 
--- where the stamp alone grows, and the cell is stopped or goes on
-stamped : (s : ModelState) (b : Bool) → IsSound s → s.stamp < 1048575 → IsSound (record s { stamp = s.stamp + 1; stopped = b })
-stamped s b h less =
-    let small : s.stamp + 1 ≤ 1048575 = omega arith in
-    record {
-      stamp_in_range = small;
-      owner_is_party = h.owner_is_party;
-      flag_has_transfer = h.flag_has_transfer;
-      guest_only_while_open = h.guest_only_while_open;
-      moving_belongs_to_host = h.moving_belongs_to_host;
-      posture_of_some_pose = h.posture_of_some_pose;
-      press_holds_one_plate = h.press_holds_one_plate;
-    }
+-- with another stamp in range, stopped or not
+pub stamped : (s : ModelState) (stamp : ℕ) (b : Bool) → IsSound s → stamp ≤ 1048575 → IsSound (record s { stamp = stamp; stopped = b })
+stamped s stamp b h small = assumption
 
 pub changed_keeps : (s : ModelState) (m : Machine) (c : Call) → IsSound s → reply s m c ≡ Done → IsSound (changed s m c)
 changed_keeps s m (Claim z) h e = claim_keeps s m z h (done_none (claim_refusal s m z) e)
@@ -38,13 +25,18 @@ changed_keeps s m (Release z) h e = release_keeps s m z h (done_none (release_re
 changed_keeps s m (SetPose p) h e = pose_keeps s m p h (done_none (pose_refusal s m p) e)
 changed_keeps s m Advance h e = advance_keeps s m h (done_none (advance_refusal s m) e)
 changed_keeps s m (Inquire z) h e = cc
-changed_keeps s m Stop h e = stamped s _ h (stop_done s m (done_none (stop_refusal s m) e)).2
-changed_keeps s m Resume h e = stamped s _ h (resume_done s m (done_none (resume_refusal s m) e)).2
+changed_keeps s m Stop h e = let less = (stop_done s m (done_none (stop_refusal s m) e)).2 in stamped s _ _ h (omega arith)
+changed_keeps s m Resume h e = let less = (resume_done s m (done_none (resume_refusal s m) e)).2 in stamped s _ _ h (omega arith)
 
-next_by_keeps : (a : Answer) (s : ModelState) (m : Machine) (c : Call) → IsSound s → (a ≡ Done → IsSound (changed s m c)) → IsSound (next_by a s m c)
-next_by_keeps Done s m c h k = k refl
-next_by_keeps (Refused r) s m c h k = h
-next_by_keeps (Shown o f p) s m c h k = h
+-- what holds after a call, by whether it is Done
+pub next_cases : (P : Bool → ModelState → Type 0) (s : ModelState) (m : Machine) (c : Call) (a : Answer) → (a ≡ Done → P true (changed s m c)) → P false s → P (is_done_answer a) (next_by a s m c)
+next_cases P s m c Done done same = done refl
+next_cases P s m c _ done same = same
 
 pub next_keeps : (s : ModelState) (m : Machine) (c : Call) → IsSound s → IsSound (next s m c)
-next_keeps s m c h = next_by_keeps (reply s m c) s m c h (changed_keeps s m c h)
+next_keeps s m c h = next_cases (λ b t. IsSound t) s m c (reply s m c) (changed_keeps s m c h) h
+
+-- what holds after an event, by whether it is Done
+pub event_cases : (P : Bool → ModelState → Type 0) (s : ModelState) (e : Event) → e.answer ≡ reply s e.machine e.call → (reply s e.machine e.call ≡ Done → P true (changed s e.machine e.call)) → P false s
+    → P (is_done e) (next s e.machine e.call)
+event_cases P s e l done same = subst (λ a. P (is_done_answer a) (next s e.machine e.call)) (sym l) (next_cases P s e.machine e.call (reply s e.machine e.call) done same)

@@ -1,18 +1,12 @@
 -- The cell is stopped by the events exactly where the state after has the mark.
-use Rattle.std.proofs.Common.{◌≡◌, Bool, true, false, ◌&&◌, ◌||◌, not, List, [], ◌∷◌, ◌++◌, ◌⊎◌, inl, inr, refl, sym, ap, ◌∙◌, ◌↔◌, IsTrue, subst}
-use Rattle.std.proofs.Math.Bool.{and-true}
-use Rattle.std.proofs.lemmas.Bool.{or_left, or_right, false_from_ne_true}
-use Rattle.std.proofs.lemmas.List.Elements.{All-nil, All-cons, All-head, All-tail}
-use Rattle.cell_rules.specs.Types.{Machine, Watch, Turning, Travelling, Running, Call, Claim, Give, SetPose, Stop}
-use Rattle.cell_rules.specs.Types.{Resume, Answer, Done, Shown, Refused, Event, one_machine}
-use Rattle.cell_rules.specs.Names.{ModelState, claim_refusal, give_refusal, pose_refusal, stop_refusal}
-use Rattle.cell_rules.specs.Names.{resume_refusal, reply, next, next_by, changed, after, IsLegal, is_done_answer}
-use Rattle.cell_rules.specs.Names.{StoppedUntilResumed, is_barred, done}
-use Rattle.cell_rules.specs.History.{stops, resumes, is_stop, is_resume, NeverResumes, StopsAndStays, IsStopped}
+use Rattle.cell_rules.proofs.Names.{◌≡◌, Bool, true, false, ◌&&◌, ◌||◌, not, List, [], ◌∷◌, ◌++◌, ◌⊎◌, inl, inr, refl, sym, ap, ◌∙◌, ◌↔◌, IsTrue, subst, and-true, and-false, or_left, or_right, false_from_ne_true, All-nil, All-cons}
+use Rattle.cell_rules.proofs.Names.{All-head, All-tail, Machine, Watch, Turning, Travelling, Running, Call, Claim, Give, SetPose, Stop, Resume, Done, Event, one_machine, ModelState, claim_refusal, give_refusal, pose_refusal, stop_refusal}
+use Rattle.cell_rules.proofs.Names.{resume_refusal, reply, next, changed, after, IsLegal, StoppedUntilResumed, is_barred, done, stops, resumes, is_stop, is_resume, NeverResumes, StopsAndStays, IsStopped}
 use Rattle.cell_rules.proofs.Done.{not_true, claim_done, give_done, pose_done, stop_done, resume_done}
-use Rattle.cell_rules.proofs.Soundness.{done_none}
+use Rattle.cell_rules.proofs.Soundness.{done_none, event_cases}
 use Rattle.cell_rules.proofs.Fitting.{replies_done}
 use Rattle.cell_rules.proofs.Histories.{legal-left}
+use Rattle.cell_rules.proofs.HoldsLemmas.{gained_or_kept}
 
 -- event by event
 abbrev stopped_since : Bool → List Event → Bool
@@ -35,17 +29,11 @@ stopped_since-stopped b h g =
     ap (λ x. stopped_since b x) g.split ∙ stopped_since-append b g.before (g.stop ∷ g.since)
     ∙ ap (λ t. stopped_since t g.since) (or_left (is_stop g.stop) (before && not (is_resume g.stop)) g.stopped) ∙ stopped_since-kept g.since g.kept
 
-stops_or_stays : (g b l : Bool) → (g || (b && not l)) ≡ true → (g ≡ true) ⊎ ((b ≡ true) × (l ≡ false))
-stops_or_stays true b l e = inl refl
-stops_or_stays false true false e = inr (refl, refl)
-stops_or_stays false true true e = cc
-stops_or_stays false false l e = cc
-
 by_events : (b : Bool) (h : List Event) → stopped_since b h ≡ true → ((b ≡ true) × NeverResumes h) ⊎ StopsAndStays h
 by_events b [] e = inl (e, All-nil (λ x. ¬ IsTrue (is_resume x)))
 by_events b (x ∷ h) e =
     elim (by_events (is_stop x || (b && not (is_resume x))) h e) [
-      | inl k ↦ elim (stops_or_stays (is_stop x) b (is_resume x) k.0) [
+      | inl k ↦ elim (gained_or_kept (is_stop x) b (is_resume x) k.0) [
         | inl g ↦ inr (record { before = []; stop = x; since = h; split = refl; stopped = g; kept = k.1 })
         | inr o ↦ inl (o.0, All-cons (λ y. ¬ IsTrue (is_resume y)) x h (λ on. cc) k.1)
       ]
@@ -60,24 +48,15 @@ by_test s h = (
 
 -- what one call leaves of the mark
 marked : (s : ModelState) (m : Machine) (c : Call) → (changed s m c).stopped ≡ (stops c || (s.stopped && not (resumes c)))
+marked s m Resume = sym (and-false s.stopped)
 marked s m Stop = refl
-marked s m Resume = sym (none_here s.stopped)
-  where
-    none_here : (b : Bool) → (b && false) ≡ false
-    none_here true = refl
-    none_here false = refl
 marked s m _ = sym (and-true s.stopped)
-
-marked_by : (a : Answer) (s : ModelState) (m : Machine) (c : Call) → (next_by a s m c).stopped ≡ ((is_done_answer a && stops c) || (s.stopped && not (is_done_answer a && resumes c)))
-marked_by Done s m c = marked s m c
-marked_by (Shown o f p) s m c = sym (and-true s.stopped)
-marked_by (Refused r) s m c = sym (and-true s.stopped)
 
 mark-after : (s : ModelState) (h : List Event) → IsLegal s h → (after s h).stopped ≡ stopped_since s.stopped h
 mark-after s [] l = refl
 mark-after s (e ∷ h) l =
-    let By : Answer → Type 0 = λ a. (next s e.machine e.call).stopped ≡ ((is_done_answer a && stops e.call) || (s.stopped && not (is_done_answer a && resumes e.call))) in
-    let here = subst By (sym l.0) (marked_by (reply s e.machine e.call) s e.machine e.call) in
+    let Mark : Bool → ModelState → Type 0 = λ b t. t.stopped ≡ ((b && stops e.call) || (s.stopped && not (b && resumes e.call))) in
+    let here = event_cases Mark s e l.0 (λ _. marked s e.machine e.call) (sym (and-true s.stopped)) in
     mark-after (next s e.machine e.call) h l.1 ∙ ap (λ b. stopped_since b h) here
 
 pub mark : (s : ModelState) (h : List Event) → IsLegal s h → IsStopped s h ↔ IsTrue (after s h).stopped

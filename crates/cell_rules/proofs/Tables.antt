@@ -1,10 +1,6 @@
 -- A test of all values of a type, and what it says of each.
-use Rattle.std.proofs.Common.{◌≡◌, Bool, true, false, ◌&&◌, Option, Some, None, List, [], ◌∷◌, refl}
-use Rattle.std.specs.List.{list_all}
-use Rattle.cell_rules.specs.Types.{Machine, Feed, Zone, Z1, Posture, Closed, Pose, Turning, Place, FeedEntry}
+use Rattle.cell_rules.proofs.Names.{◌≡◌, Bool, true, false, ◌&&◌, Option, Some, None, List, [], ◌∷◌, refl, list_all, Machine, Feed, Zone, Z1, Posture, Closed, Pose, Turning, Place, FeedEntry, implies, ZoneState}
 use Rattle.cell_types.specs.Everything as everything
-use Rattle.cell_rules.specs.Names.{implies}
-use Rattle.cell_rules.specs.declared.zones.ZoneState.{ZoneState}
 
 pub and_left : (a b : Bool) → (a && b) ≡ true → a ≡ true
 and_left true b e = refl
@@ -96,3 +92,43 @@ from_states P e v =
     from_postures (λ p. P (zone_state v.owner v.flag p))
     (from_bools (λ f. all_postures (λ p. P (zone_state v.owner f p)))
     (from_owners (λ o. all_bools (λ f. all_postures (λ p. P (zone_state o f p)))) e v.owner) v.flag) v.posture
+
+-- ---- tests of the values of several types
+
+pub record Finite (X : Type 0) : Type 0 where
+  pub all : (X → Bool) → Bool
+  pub holds : (P : X → Bool) → all P ≡ true → (x : X) → P x ≡ true
+
+pub holds2 : {X Y : Type 0} (a : Finite X) (b : Finite Y) (P : X → Y → Bool) → a.all (λ x. b.all (P x)) ≡ true → (x : X) (y : Y) → P x y ≡ true
+holds2 a b P e x = b.holds (P x) (a.holds (λ x. b.all (P x)) e x)
+
+pub holds3 : {X Y Z : Type 0} (a : Finite X) (b : Finite Y) (c : Finite Z) (P : X → Y → Z → Bool) → a.all (λ x. b.all (λ y. c.all (P x y))) ≡ true → (x : X) (y : Y) (z : Z) → P x y z ≡ true
+holds3 a b c P e x y = c.holds (P x y) (holds2 a b (λ x y. c.all (P x y)) e x y)
+
+pub holds4 : {X Y Z V : Type 0} (a : Finite X) (b : Finite Y) (c : Finite Z) (d : Finite V) (P : X → Y → Z → V → Bool) → a.all (λ x. b.all (λ y. c.all (λ z. d.all (P x y z)))) ≡ true
+    → (x : X) (y : Y) (z : Z) (v : V) → P x y z v ≡ true
+holds4 a b c d P e x y z = d.holds (P x y z) (holds3 a b c (λ x y z. d.all (P x y z)) e x y z)
+
+abbrev pub pairs : {X Y : Type 0} → Finite X → Finite Y → Finite (X × Y)
+pairs a b = record { all = λ P. a.all (λ x. b.all (λ y. P (x, y))); holds = λ P e k. holds2 a b (λ x y. P (x, y)) e k.0 k.1 }
+
+abbrev pub bools : Finite Bool
+bools = record { all = all_bools; holds = from_bools }
+
+abbrev pub machines : Finite Machine
+machines = record { all = all_machines; holds = from_machines }
+
+abbrev pub zones : Finite Zone
+zones = record { all = all_zones; holds = from_zones }
+
+abbrev pub postures : Finite Posture
+postures = record { all = all_postures; holds = from_postures }
+
+abbrev pub poses : Finite Pose
+poses = record { all = all_poses; holds = from_poses }
+
+abbrev pub places : Finite Place
+places = record { all = all_places; holds = from_places }
+
+abbrev pub states : Finite ZoneState
+states = record { all = all_states; holds = from_states }

@@ -1,14 +1,6 @@
 -- The cause of each condition of a call.
-use Rattle.std.proofs.Common.{◌≡◌, ◌≤◌, ℕ, Bool, true, false, ◌&&◌, not, nat_eq, nat_lt, Option, Some, None, is_some, refl, sym, ap, ◌∙◌, arith}
-use Rattle.std.specs.Bool.{then_some}
-use Rattle.std.specs.Option.{option_eq}
-use Rattle.std.proofs.lemmas.Option.{same_Some}
-use Rattle.cell_rules.specs.Types.{Machine, Zone, Posture, Closed, Moving, OpenIn, OpenOut, Refusal, NotParty, Held}
-use Rattle.cell_rules.specs.Types.{AlreadyMine, Shut, NotOwner, PlateInZone, NoPlate, PlaceFull, WrongWay, Jump}
-use Rattle.cell_rules.specs.Types.{NotAtWork, NoPose, Worn, Stopped, NotStopped, InUse, number_of, same_machine}
-use Rattle.cell_rules.specs.Types.{same_zone, same_posture, one_machine, one_posture}
-use Rattle.cell_rules.specs.Names.{is_open, is_shut}
-use Rattle.cell_rules.specs.Refusals.{held_by}
+use Rattle.cell_rules.proofs.Names.{◌≡◌, ◌≤◌, ℕ, Bool, true, false, ◌&&◌, not, nat_eq, nat_lt, Option, Some, None, is_some, refl, sym, ap, ◌∙◌, arith, then_some, option_eq, same_Some, Machine, Zone, Posture, Closed, Moving, OpenIn, OpenOut}
+use Rattle.cell_rules.proofs.Names.{Refusal, NotParty, Held, Shut, NotOwner, PlateInZone, number_of, same_machine, same_zone, same_posture, one_machine, one_posture, is_open, is_shut, held_by}
 use Rattle.cell_rules.proofs.Tables.{and_left, and_right, and_both}
 use Rattle.cell_rules.proofs.Holders.{same_machine-self, same_zone-self}
 use Rattle.cell_rules.proofs.Chains.{Tells}
@@ -32,17 +24,7 @@ is_plain _ = true
 
 alone : (a b : Refusal) → is_plain a ≡ true → number_of b ≡ number_of a → a ≡ b
 alone NotParty NotParty p e = refl
-alone AlreadyMine AlreadyMine p e = refl
-alone NoPlate NoPlate p e = refl
-alone PlaceFull PlaceFull p e = refl
-alone WrongWay WrongWay p e = refl
-alone Jump Jump p e = refl
-alone NotAtWork NotAtWork p e = refl
-alone NoPose NoPose p e = refl
-alone Worn Worn p e = refl
-alone Stopped Stopped p e = refl
-alone NotStopped NotStopped p e = refl
-alone InUse InUse p e = refl
+alone _ NotParty p e = cc
 alone _ _ p e = cc
 
 pub plain : (cause : Refusal → Bool) (a : Refusal) (b : Bool) → is_plain a ≡ true → cause a ≡ b → Tells cause (number_of a, then_some b a)
@@ -99,17 +81,13 @@ found_held cause own m same _ n k = cc
 pub names_holder : (cause : Refusal → Bool) (own : Option Machine) (m : Machine) → ((o : Machine) → cause (Held o) ≡ (is_mine own o && not (same_machine o m))) → Tells cause (2, held_by own m)
 names_holder cause own m same = record { told = told_held cause own m same; found = found_held cause own m same }
 
-same_posture-self : (q : Posture) → same_posture q q ≡ true
+pub same_posture-self : (q : Posture) → same_posture q q ≡ true
 same_posture-self Closed = refl
-same_posture-self Moving = refl
-same_posture-self OpenIn = refl
-same_posture-self OpenOut = refl
+same_posture-self _ = refl
 
 shut_is : (q : Posture) → is_shut q ≡ not (is_open q)
 shut_is Closed = refl
-shut_is Moving = refl
-shut_is OpenIn = refl
-shut_is OpenOut = refl
+shut_is _ = refl
 
 found_shut : (cause : Refusal → Bool) (q : Posture) (b : Bool) → ((p : Posture) → cause (Shut p) ≡ (b && same_posture q p && is_shut p)) → (r : Refusal) → number_of r ≡ 4 → cause r ≡ true → (b && not (is_open q)) ≡ true
 found_shut cause q b same (Shut p) n k =
@@ -132,9 +110,6 @@ names_posture cause q b same = record {
 -- only a zone that moves
 found_moving : (cause : Refusal → Bool) (b : Bool) → cause (Shut Moving) ≡ b → (cause (Shut Closed) ≡ false) × (cause (Shut OpenIn) ≡ false) × (cause (Shut OpenOut) ≡ false) → (r : Refusal) → number_of r ≡ 4 → cause r ≡ true → b ≡ true
 found_moving cause b same never (Shut Moving) n k = sym same ∙ k
-found_moving cause b same never (Shut Closed) n k = cc
-found_moving cause b same never (Shut OpenIn) n k = cc
-found_moving cause b same never (Shut OpenOut) n k = cc
 found_moving cause b same never _ n k = cc
 
 pub names_moving : (cause : Refusal → Bool) (b : Bool) → cause (Shut Moving) ≡ b → (cause (Shut Closed) ≡ false) × (cause (Shut OpenIn) ≡ false) × (cause (Shut OpenOut) ≡ false) → Tells cause (4, then_some b (Shut Moving))

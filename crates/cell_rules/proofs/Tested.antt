@@ -1,19 +1,11 @@
 -- The test of soundness decides soundness.
-use Rattle.std.proofs.Common.{◌≡◌, Bool, true, false, ◌&&◌, nat_le, refl, leb-true, le-leb}
-use Rattle.cell_rules.specs.Types.{Zone, Z3, all_zones}
-use Rattle.cell_rules.specs.Names.{ModelState, zone_at, last_stamp, IsSound, has_lawful_owner, is_open_to_guest}
-use Rattle.cell_rules.specs.Names.{moves_by_host, is_of_some_pose, has_one_plate, is_sound}
-use Rattle.cell_rules.specs.Sound.{has_lawful_plate}
-use Rattle.cell_rules.specs.SoundTest.{is_lawful_at, all_lawful}
+use Rattle.cell_rules.proofs.Names.{◌≡◌, Bool, true, ◌&&◌, nat_le, refl, leb-true, le-leb, Zone, Z3, all_zones, ModelState, zone_at, last_stamp, IsSound, has_lawful_owner, is_open_to_guest, moves_by_host, is_of_some_pose, has_one_plate}
+use Rattle.cell_rules.proofs.Names.{is_sound, has_lawful_plate, is_lawful_at, all_lawful}
 use Rattle.cell_rules.proofs.Tables.{and_left, and_right, and_both, all_pass, from_zones}
 
-five : (a b c d e : Bool) → (a && b && c && d && e) ≡ true → (a ≡ true) × (b ≡ true) × (c ≡ true) × (d ≡ true) × (e ≡ true)
+pub five : (a b c d e : Bool) → (a && b && c && d && e) ≡ true → (a ≡ true) × (b ≡ true) × (c ≡ true) × (d ≡ true) × (e ≡ true)
 five true true true true true k = (refl, refl, refl, refl, refl)
-five false b c d e k = cc
-five true false c d e k = cc
-five true true false d e k = cc
-five true true true false e k = cc
-five true true true true false k = cc
+five _ _ _ _ _ k = cc
 
 all_five : (a b c d e : Bool) → a ≡ true → b ≡ true → c ≡ true → d ≡ true → e ≡ true → (a && b && c && d && e) ≡ true
 all_five a b c d e ka kb kc kd ke = simp (ka, kb, kc, kd, ke)

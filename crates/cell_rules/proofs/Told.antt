@@ -1,7 +1,5 @@
 -- The journals of callers who each have seen a prefix of one legal history, with all their own events, tell that history.
-use Rattle.std.proofs.Common.{◌≡◌, List, ◌++◌, map, Some, refl, sym, ap, ◌∙◌, append-nil}
-use Rattle.cell_rules.specs.Types.{Machine, Event, Entry}
-use Rattle.cell_rules.specs.Names.{ModelState, after, IsLegal, noted, event_by, IsAudited, Waits}
+use Rattle.cell_rules.proofs.Names.{◌≡◌, List, ◌++◌, map, Some, refl, sym, ap, ◌∙◌, append-nil, Machine, Event, Entry, ModelState, after, IsLegal, noted, event_by, IsAudited, Waits}
 use Rattle.cell_rules.proofs.Notes.{noted-append, noted-foreign, events_of_noted}
 use Rattle.cell_rules.proofs.SeenLemmas.{waits-foreign}
 

@@ -1,12 +1,9 @@
 -- What a Done give, take or advance finds: the way of the plate, its start full or its end empty.
-use Rattle.std.proofs.Common.{◌≡◌, Bool, true, false, ◌&&◌, not, Option, Some, None, is_some, refl, subst}
-use Rattle.cell_rules.specs.Types.{Machine, Zone, Transfer, Place, NoPlate, PlaceFull, PlateInZone, transfer_of}
-use Rattle.cell_rules.specs.Types.{same_machine, own_move_of}
-use Rattle.cell_rules.specs.Names.{ModelState, zone_at, is_full, IsSound, is_party, is_owned_by, is_received_by}
-use Rattle.cell_rules.specs.Names.{is_onto_full}
+use Rattle.cell_rules.proofs.Names.{◌≡◌, Bool, true, false, ◌&&◌, not, Option, Some, None, is_some, refl, subst, Machine, Zone, Transfer, Place, NoPlate, PlaceFull, PlateInZone, transfer_of, same_machine, own_move_of, ModelState, zone_at}
+use Rattle.cell_rules.proofs.Names.{is_full, IsSound, is_party, is_owned_by, is_received_by, is_onto_full}
 use Rattle.cell_rules.specs.Refusals
 use Rattle.cell_rules.proofs.Tables.{implied, and_left, and_right}
-use Rattle.cell_rules.proofs.Done.{none_or, none_then, none_then_not, some_unless, take_done, advance_done}
+use Rattle.cell_rules.proofs.Done.{none_then, none_then_not, some_unless, none_at, give_conditions, take_done, advance_conditions, advance_done}
 use Rattle.cell_rules.proofs.Holders.{owner_is}
 
 -- ---- a give: the zone is clear and the plate at its start
@@ -23,16 +20,8 @@ gives_by s m z (Some row) way some there clear = record { row = row; way = way; 
 pub give_finds : (s : ModelState) (m : Machine) (z : Zone) → Refusals.give_refusal s m z ≡ None → Gives s m z
 give_finds s m z e =
     let row = Refusals.transfer_given s m z in
-    let r2 = Refusals.◌or◌ (Refusals.◌or◌ (Refusals.not_party m z) (Refusals.while_stopped s)) (Refusals.not_owner s m z) in
-    let r3 = Refusals.◌or◌ r2 (Refusals.plate_in_zone s z) in
-    let r4 = Refusals.◌or◌ r3 (Refusals.wrong_way row) in
-    let r5 = Refusals.◌or◌ r4 (Refusals.nothing_to_give s row) in
-    let r6 = Refusals.◌or◌ r5 (Refusals.no_room s row) in
-    let h5 = none_or r5 (Refusals.no_room s row) (none_or r6 (Refusals.worn s) e).0 in
-    let h4 = none_or r4 (Refusals.nothing_to_give s row) h5.0 in
-    let h3 = none_or r3 (Refusals.wrong_way row) h4.0 in
-    let h2 = none_or r2 (Refusals.plate_in_zone s z) h3.0 in
-    gives_by s m z row refl (some_unless row h3.1) h4.1 (none_then (zone_at s z).flag (PlateInZone z) h2.1)
+    let none = none_at (give_conditions s m z) e in
+    gives_by s m z row refl (some_unless row (none 4)) (none 5) (none_then (zone_at s z).flag (PlateInZone z) (none 3))
 
 -- ---- a take: the plate is in the zone, the caller receives it and its end is empty
 pub record Takes (s : ModelState) (m : Machine) (z : Zone) : Type 0 where
@@ -75,10 +64,4 @@ works_by s m None work some there room = cc
 works_by s m (Some way) work some there room = record { way = way; work = work; there = none_then_not (is_full s way.0) NoPlate there; room = none_then (is_full s way.1) PlaceFull room }
 
 pub advance_finds : (s : ModelState) (m : Machine) → Refusals.advance_refusal s m ≡ None → Works s m
-advance_finds s m e =
-    let way = own_move_of m in
-    let r3 = Refusals.◌or◌ (Refusals.◌or◌ (Refusals.has_no_work m) (Refusals.press_unowned s m)) (Refusals.not_at_work s m) in
-    let r4 = Refusals.◌or◌ r3 (Refusals.nothing_to_work s way) in
-    let h5 = none_or (Refusals.◌or◌ r4 (Refusals.no_room_for_work s way)) (Refusals.worn s) e in
-    let h4 = none_or r4 (Refusals.no_room_for_work s way) h5.0 in
-    works_by s m way refl (advance_done s m e).0 (none_or r3 (Refusals.nothing_to_work s way) h4.0).1 h4.1
+advance_finds s m e = let none = none_at (advance_conditions s m) e in works_by s m (own_move_of m) refl (advance_done s m e).0 (none 3) (none 4)

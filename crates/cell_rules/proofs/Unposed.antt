@@ -1,10 +1,6 @@
 -- The posture of a zone by the events stays while its host makes no event.
-use Rattle.std.proofs.Common.{◌≡◌, Bool, true, false, Option, Some, None, List, [], ◌∷◌, ◌++◌, refl, ap, ◌∙◌, if◌then◌else◌, unwrap_or}
-use Rattle.std.proofs.lemmas.Bool.{false_from_ne_true}
-use Rattle.cell_rules.specs.Types.{Machine, Zone, Posture, Closed, Call, SetPose, Advance, Event, host_of, posture_of}
-use Rattle.cell_rules.specs.Types.{same_machine}
-use Rattle.cell_rules.specs.Names.{ModelState, posture_at, is_belt_of, own_events, is_done, posture_given}
-use Rattle.cell_rules.specs.Names.{posture_since, posture_by_events}
+use Rattle.cell_rules.proofs.Names.{◌≡◌, Bool, true, false, Option, Some, None, List, [], ◌∷◌, ◌++◌, refl, ap, ◌∙◌, if◌then◌else◌, unwrap_or, false_from_ne_true, Machine, Zone, Posture, Closed, Call, SetPose, Advance, Event, host_of}
+use Rattle.cell_rules.proofs.Names.{posture_of, same_machine, ModelState, posture_at, is_belt_of, own_events, is_done, posture_given, posture_since, posture_by_events}
 use Rattle.cell_rules.proofs.Tables.{and_left}
 use Rattle.cell_rules.proofs.Lawful.{can_be_in}
 use Rattle.cell_rules.proofs.Moves.{suits, posture_suits}
@@ -20,7 +16,7 @@ unposed n z (Some r) now suit apart = let host = and_left (same_machine n (host_
 no_belt : (n : Machine) (z : Zone) → same_machine n (host_of z) ≡ false → is_belt_of n z ≡ false
 no_belt n z apart = false_from_ne_true (is_belt_of n z) (λ belt. let same = ap (same_machine n) (belt_host n z belt) ∙ same_machine-self n in cc)
 
-given_by_other : (n : Machine) (c : Call) (z : Zone) (now : Posture) → same_machine n (host_of z) ≡ false → posture_given n c z now ≡ now
+pub given_by_other : (n : Machine) (c : Call) (z : Zone) (now : Posture) → same_machine n (host_of z) ≡ false → posture_given n c z now ≡ now
 given_by_other n (SetPose p) z now apart = unposed n z (posture_of n p z) now (posture_suits n p z) apart
 given_by_other n Advance z now apart = ap (λ (b : Bool). if b then Closed else now) (no_belt n z apart)
 given_by_other n _ z now apart = refl

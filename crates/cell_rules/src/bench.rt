@@ -75,6 +75,7 @@ impl Bench {
     }
 
     /// The state that the history leads to.
+    #[tactic(auto, using(crate::proofs::SeenLemmas::state_reached))]
     pub fn state(&self) -> State
         ensures state { result ≡ self.now.state }
         ensures reached { result ≡ after self.now.opening self.now.history.items }

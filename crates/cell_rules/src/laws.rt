@@ -82,6 +82,7 @@ pub fn starts_run_clear(opening: &State)
 
 /// While other machines make the events, a machine keeps each zone that it holds, with posture and
 /// flag, its own places, and the postures of the zones that it hosts.
+#[tactic(auto, using(crate::proofs::Keepers::right_lasts))]
 pub fn right_lasts(opening: &State, before: &[Event], more: &[Event])
     requires { IsLegal opening.now (before.now ++ more.now) }
     ensures { law.RightLasts opening.now before.now more.now }
@@ -106,6 +107,7 @@ pub fn stays_sound(opening: &State, history: &[Event])
 /// Table and press don't jump to a pose, a zone opens inward only onto an empty place, a pose
 /// changes only what its machine holds, a plate comes to a belt's end only while the belt runs, and
 /// the press forges only while it holds its interior and is Closed.
+#[tactic(auto, using(crate::proofs::Assembly::events_fit))]
 pub fn events_fit(opening: &State, history: &[Event])
     requires { IsLegal opening.now history.now }
     ensures { law.EventsFit opening.now history.now }
@@ -113,12 +115,14 @@ pub fn events_fit(opening: &State, history: &[Event])
 
 /// The table takes any pose but turning only while z1 and z2 move, and the press any but travelling
 /// only while z3 moves.
+#[tactic(auto, using(crate::proofs::Handing::no_jump_along))]
 pub fn no_jump(opening: &State, history: &[Event])
     requires { IsLegal opening.now history.now }
     ensures { law.NoJump opening.now history.now }
 {}
 
 /// A machine holds the zone in which it gives, or which it yields, takes from or releases.
+#[tactic(auto, using(crate::proofs::Assembly::handover_by_holder))]
 pub fn handover_by_holder(opening: &State, history: &[Event])
     requires { IsLegal opening.now history.now }
     ensures { law.HandoverByHolder opening.now history.now }
@@ -134,22 +138,26 @@ pub fn stopped_until_resumed(opening: &State, history: &[Event])
 
 /// While the cell isn't stopped, every call but stop and resume has the reply of the interlock that
 /// couldn't be stopped, and leaves its state.
+#[tactic(auto, using(crate::proofs::FirstVersion::first_version))]
 pub fn first_version_stays()
     ensures { FirstVersionStays }
 {}
 
 /// A call that isn't barred is answered as if the cell weren't stopped. So what moves may stop: a
 /// standing pose, a take, a release, a yield and an advance are never refused as stopped.
+#[tactic(auto, using(crate::proofs::Unbarred::what_moves_may_stop))]
 pub fn what_moves_may_stop()
     ensures { WhatMovesMayStop }
 {}
 
 /// The Done events of a history are a machine's own and those of the others, each counted once.
+#[tactic(auto, using(crate::proofs::Handing::changes_counted))]
 pub fn changes_are_counted(history: &[Event])
     ensures { law.ChangesAreCounted history.now }
 {}
 
 /// Each refusal in a history has its cause in the state at that point.
+#[tactic(auto, using(crate::proofs::Handing::refusals_along))]
 pub fn refusals_tell_along(opening: &State, history: &[Event])
     requires { IsLegal opening.now history.now }
     ensures { RefusalsTellAlong opening.now history.now }
@@ -160,17 +168,20 @@ pub fn refusals_tell_along(opening: &State, history: &[Event])
 /// On every sound state each refusal has its cause: its meaning in the table of refusals holds of
 /// the state, with whatever the refusal names. And if a cause holds, the call isn't Done: it is
 /// refused for this cause, or for one that comes before it in the call's order.
+#[tactic(auto, using(crate::proofs::Refusing::refusals_tell))]
 pub fn refusals_tell_causes()
     ensures { RefusalsTell }
 {}
 
 /// The poses that move are turning, travelling and running: exactly those that give some zone
 /// Moving.
+#[tactic(auto, using(crate::proofs::TablesHold::poses_that_move))]
 pub fn poses_that_move()
     ensures { PosesThatMove }
 {}
 
 /// The digits of a start are the places in their order.
+#[tactic(auto, using(crate::proofs::TablesHold::digits_are_places))]
 pub fn digits_are_places()
     ensures { DigitsArePlaces }
 {}
@@ -190,12 +201,14 @@ pub fn lawful_throughout(opening: &State, history: &[Event])
 
 /// All that a stamp does is to wear: with another stamp a state is as sound, and answers each call
 /// that isn't worn alike.
+#[tactic(auto, using(crate::proofs::Restamps::stamps_only_wear))]
 pub fn stamps_only_wear()
     ensures { (s : ModelState) → StampsOnlyWear s }
 {}
 
 /// The state at the end of an interlock is the same for a machine that has seen all its own events,
 /// also with another stamp.
+#[tactic(auto, using(crate::proofs::Restamps::same_after))]
 pub fn ends_are_same()
     ensures { EndsAreSame }
 {}

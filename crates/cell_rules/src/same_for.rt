@@ -11,6 +11,7 @@ use cell_types::{Machine, Place, Zone, host, keeper};
 impl State {
     /// Whether what a machine knows of this state is so in another one: of each zone that it owns
     /// here, owner, flag and posture; the postures of the zones that it hosts; its own places.
+    #[tactic(auto, using(crate::proofs::Restamps::same_by_test, crate::proofs::Restamps::test_of_same))]
     pub fn is_same_for(&self, machine: Machine, other: &State) -> bool
         ensures { (result ≡ true) ↔ IsSameFor machine self.now other.now }
     {

@@ -1,27 +1,15 @@
 -- What a Done call writes is what it changes.
-use Rattle.std.proofs.Common.{◌≡◌, ℕ, ◌+◌, ◌*◌, ◌^◌, ◌<◌, Bool, true, false, cond, ◌||◌, ◌&&◌, not, nat_eq, nat_lt, Option, Some, None, is_none, is_some, unwrap_or, refl, sym, ap, ap₂, ◌∙◌, arith, eqb-true, ltb-true, if◌then◌else◌}
-use Rattle.std.specs.Prelude.{bit_and, bit_or}
-use Rattle.std.proofs.lemmas.Nat.{and_mask, or_comm, or_shifted}
-use Rattle.cell_rules.specs.Types.{Machine, Watch, Zone, Transfer, Place, Posture, Closed, Pose, Call, Claim, Give}
-use Rattle.cell_rules.specs.Types.{Yield, Take, Release, SetPose, Advance, Inquire, Stop, Resume, Done, transfer_of}
-use Rattle.cell_rules.specs.Types.{posture_of, own_move_of, same_machine, same_zone, same_place, one_machine}
-use Rattle.cell_rules.specs.Names.{zone_in, put_zone, PlaceSet, has, ModelState, model_state, zone_at, is_full}
-use Rattle.cell_rules.specs.Names.{one_if, IsSound, implies, is_party, is_owned_by, reply, changed, next, next_by}
-use Rattle.cell_rules.specs.Names.{other_party, emptied, filled, worked, posed, halted, is_belt_of}
-use Rattle.cell_rules.specs.declared.zones.ZoneState.{ZoneState}
+use Rattle.cell_word.proofs.Names.{◌≡◌, ℕ, ◌+◌, ◌*◌, ◌^◌, ◌<◌, Bool, true, false, cond, ◌||◌, ◌&&◌, not, nat_eq, nat_lt, Option, Some, None, is_none, is_some, unwrap_or, refl, sym, ap, ap₂, ◌∙◌, arith, eqb-true, ltb-true, if◌then◌else◌}
+use Rattle.cell_word.proofs.Names.{bit_and, bit_or, and_parts, and_mask, or_comm, or_shifted, Machine, Watch, Zone, Transfer, Place, Posture, Closed, Pose, Call, Claim, Give, Yield, Take, Release, SetPose, Advance, Inquire, Stop, Resume}
+use Rattle.cell_word.proofs.Names.{Done, transfer_of, posture_of, own_move_of, same_machine, same_zone, same_place, one_machine, zone_in, put_zone, PlaceSet, has, ModelState, model_state, zone_at, is_full, one_if, IsSound, implies}
+use Rattle.cell_word.proofs.Names.{is_party, is_owned_by, reply, changed, next, next_by, emptied, filled, worked, posed, halted, is_belt_of, ZoneState, and_left, and_right, and_both, implied, all_bools, all_machines, from_machines}
+use Rattle.cell_word.proofs.Names.{all_zones, from_zones, from_places, all_states, from_states, bools, machines, zones, postures, poses, places, holds2, holds3, holds4, put_cases, zone_in-map, has-put, none_or, fresh, may_claim, may_give}
+use Rattle.cell_word.proofs.Names.{may_yield, may_take, may_release, claim_done, give_done, yield_done, take_done, release_done, stop_done, resume_done, done_none, take_finds, zone_bit, place_bit, mark_bit, owner_code, posture_code, packed}
+use Rattle.cell_word.proofs.Names.{bits_of, with_written, anything, mark_is, IsOffStamp, written, received_by, row_received, mark_becomes, Pattern}
+use Rattle.cell_rules.specs.Names.{other_party}
 use Rattle.cell_rules.specs.Refusals
-use Rattle.cell_rules.proofs.Tables.{and_left, and_right, and_both, implied, all_bools, from_bools, all_machines, from_machines, all_zones, from_zones, all_postures, from_postures, all_poses, from_poses, all_places, from_places, all_states, from_states}
-use Rattle.cell_rules.proofs.Puts.{put_cases, zone_in-map, has-put}
-use Rattle.cell_rules.proofs.Done.{none_or, fresh, may_claim, may_give, may_yield, may_take, may_release, claim_done, give_done, yield_done, take_done, release_done, stop_done, resume_done}
-use Rattle.cell_rules.proofs.Soundness.{done_none}
-use Rattle.cell_rules.proofs.Transfers.{take_finds}
-use Rattle.cell_word.specs.Layout.{zone_bit, place_bit, mark_bit, owner_code, posture_code, packed}
-use Rattle.cell_word.specs.Reading.{bits_of}
-use Rattle.cell_word.specs.Patterns.{with_written, anything, mark_is}
-use Rattle.cell_word.specs.Laws.{IsOffStamp}
+use Rattle.cell_rules.proofs.Tables.{all_places}
 use Rattle.cell_word.specs.Guards as guards
-use Rattle.cell_word.specs.Changes.{written, received_by, row_received, mark_becomes}
-use Rattle.cell_word.specs.declared.patterns.Pattern.{Pattern}
 use Rattle.cell_word.proofs.RoundTrip.{laid_out, place_field_read, stamp_read, mark_read, owner_fits, flag_fits, posture_fits}
 use Rattle.cell_word.proofs.SameAnswer.{same_row, one_row}
 use Rattle.cell_word.proofs.Seen.{zone_code, zone_five, is_lawful, lawful_at}
@@ -55,10 +43,7 @@ abbrev is_low : Pattern → Bool
 is_low p = nat_lt p.mask 0x10000000000 && nat_lt p.wanted 0x10000000000
 
 by_bits : (p : Pattern) (lowest width keep set v : ℕ) → writes_at p lowest width keep set ≡ true → rewritten v (kept_at p lowest width) (bits_of p.wanted lowest width) ≡ rewritten v keep set
-by_bits p lowest width keep set v e =
-    let k = nat_eq (kept_at p lowest width) keep in
-    let t = nat_eq (bits_of p.wanted lowest width) set in
-    ap₂ (rewritten v) (eqb-true (kept_at p lowest width) keep (and_left k t e)) (eqb-true (bits_of p.wanted lowest width) set (and_right k t e))
+by_bits p lowest width keep set v e = let both = and_parts _ _ e in ap₂ (rewritten v) (eqb-true (kept_at p lowest width) keep both.0) (eqb-true (bits_of p.wanted lowest width) set both.1)
 
 code_fits : (z : Zone) (v : ZoneState) → zone_code z v < 2 ^ 5
 code_fits z v =
@@ -117,10 +102,9 @@ by_parts : (s after : ModelState) (p : Pattern) → IsSound s → is_low p ≡ t
     → ((at : Place) → in_place p at (one_if (is_full s at)) ≡ one_if (is_full after at))
     → packed after ≡ with_written (packed s) p.mask p.wanted + 2 ^ 40
 by_parts s after p sound low small next stays zone place =
-    let m = nat_lt p.mask 0x10000000000 in
-    let t = nat_lt p.wanted 0x10000000000 in
-    let mask_low : p.mask < 2 ^ 40 = ltb-true p.mask 0x10000000000 (and_left m t low) in
-    let set_low : p.wanted < 2 ^ 40 = ltb-true p.wanted 0x10000000000 (and_right m t low) in
+    let both = and_parts (nat_lt p.mask 0x10000000000) (nat_lt p.wanted 0x10000000000) low in
+    let mask_low : p.mask < 2 ^ 40 = ltb-true p.mask 0x10000000000 both.0 in
+    let set_low : p.wanted < 2 ^ 40 = ltb-true p.wanted 0x10000000000 both.1 in
     by_fields s after p sound (low_off p.mask mask_low, low_off p.wanted set_low) small next zone place
     (ap₂ (rewritten (one_if s.stopped)) (low_kept p.mask mask_low) (low_clear p.wanted set_low) ∙ unchanged (one_if s.stopped) 1 (flag_fits s.stopped) ∙ ap one_if (sym stays))
 
@@ -131,38 +115,32 @@ here_test may after m z p v = implies (may v m z && is_lawful z v) (nat_eq (in_z
 abbrev others_test : Zone → Pattern → Zone → Bool
 others_test z p y = same_zone z y || leaves_zone p y
 
-abbrev zone_change : (ZoneState → Machine → Zone → Bool) → (Machine → Zone → ZoneState → ZoneState) → Machine → Zone → Pattern → Bool
-zone_change may after m z p = all_zones (others_test z p) && all_states (here_test may after m z p)
+-- only the zone of the call and places are written
+abbrev zone_change : (ZoneState → Machine → Zone → Bool) → (Machine → Zone → ZoneState → ZoneState) → (Zone → Call) → Machine → Zone → Bool
+zone_change may after call m z =
+    let p = written m (call z) in
+    is_low p && (all_zones (others_test z p) && all_states (here_test may after m z p))
 
 abbrev zone_changes : (ZoneState → Machine → Zone → Bool) → (Machine → Zone → ZoneState → ZoneState) → (Zone → Call) → Bool
-zone_changes may after call = all_machines (λ m. all_zones (λ z. zone_change may after m z (written m (call z))))
+zone_changes may after call = all_machines (λ m. all_zones (zone_change may after call m))
 
-zones_by : (may : ZoneState → Machine → Zone → Bool) (after : Machine → Zone → ZoneState → ZoneState) (call : Zone → Call) → zone_changes may after call ≡ true
-    → (s : ModelState) → IsSound s → (m : Machine) (z : Zone) → may (zone_at s z) m z ≡ true
-    → (y : Zone) → in_zone (written m (call z)) y (zone_code y (zone_at s y)) ≡ zone_code y (zone_in (put_zone s.zones z (after m z (zone_at s z))) y)
-zones_by may after call table s sound m z done y =
+by_zone : (may : ZoneState → Machine → Zone → Bool) (after : Machine → Zone → ZoneState → ZoneState) (call : Zone → Call) → zone_changes may after call ≡ true
+    → (s : ModelState) → IsSound s → (m : Machine) (z : Zone) (full : PlaceSet) → may (zone_at s z) m z ≡ true → s.stamp < 1048575
+    → ((at : Place) → in_place (written m (call z)) at (one_if (is_full s at)) ≡ one_if (has full at))
+    → packed (model_state (put_zone s.zones z (after m z (zone_at s z))) full (s.stamp + 1) s.stopped) ≡ with_written (packed s) (written m (call z)).mask (written m (call z)).wanted + 2 ^ 40
+by_zone may after call table s sound m z full done small places =
     let p = written m (call z) in
     let v = zone_at s z in
-    let tests = from_zones (λ z. zone_change may after m z (written m (call z))) (from_machines (λ m. all_zones (λ z. zone_change may after m z (written m (call z)))) table m) z in
-    let others : (x : Zone) → others_test z p x ≡ true = from_zones (others_test z p) (and_left (all_zones (others_test z p)) (all_states (here_test may after m z p)) tests) in
-    let here : here_test may after m z p v ≡ true = from_states (here_test may after m z p) (and_right (all_zones (others_test z p)) (all_states (here_test may after m z p)) tests) v in
-    let same : nat_eq (in_zone p z (zone_code z v)) (zone_code z (after m z v)) ≡ true =
-    implied (may v m z && is_lawful z v) (nat_eq (in_zone p z (zone_code z v)) (zone_code z (after m z v))) here (and_both (may v m z) (is_lawful z v) done (lawful_at s sound z)) in
-    let Is : Zone → ZoneState → Type 0 = λ x u. in_zone p x (zone_code x (zone_at s x)) ≡ zone_code x u in
-    put_cases Is s.zones (after m z v) z (eqb-true (in_zone p z (zone_code z v)) (zone_code z (after m z v)) same)
-    (λ x apart. zone_left p x (zone_at s x) (either_way (same_zone z x) (leaves_zone p x) (others x) apart)) y
+    let tests = and_parts (is_low p) _ (holds2 machines zones (zone_change may after call) table m z) in
+    let zone_tests = and_parts (all_zones (others_test z p)) (all_states (here_test may after m z p)) tests.1 in
+    let same = implied (may v m z && is_lawful z v) (nat_eq (in_zone p z (zone_code z v)) (zone_code z (after m z v))) (from_states (here_test may after m z p) zone_tests.1 v) (and_both _ _ done (lawful_at s sound z)) in
+    by_parts s (model_state (put_zone s.zones z (after m z v)) full (s.stamp + 1) s.stopped) p sound tests.0 small refl refl
+    (put_cases (λ x u. in_zone p x (zone_code x (zone_at s x)) ≡ zone_code x u) s.zones (after m z v) z (eqb-true _ _ same)
+    (λ x apart. zone_left p x (zone_at s x) (either_way (same_zone z x) (leaves_zone p x) (from_zones (others_test z p) zone_tests.0 x) apart))) places
 
-abbrev low_for_zones : (Zone → Call) → Bool
-low_for_zones call = all_machines (λ m. all_zones (λ z. is_low (written m (call z))))
-
-low_for : (call : Zone → Call) → low_for_zones call ≡ true → (m : Machine) (z : Zone) → is_low (written m (call z)) ≡ true
-low_for call table m = from_zones (λ z. is_low (written m (call z))) (from_machines (λ m. all_zones (λ z. is_low (written m (call z)))) table m)
-
-abbrev leaves_for_zones : (Zone → Call) → Bool
-leaves_for_zones call = all_machines (λ m. all_zones (λ z. all_places (leaves_place (written m (call z)))))
-
-leaves_for : (call : Zone → Call) → leaves_for_zones call ≡ true → (m : Machine) (z : Zone) (at : Place) → leaves_place (written m (call z)) at ≡ true
-leaves_for call table m z = from_places (leaves_place (written m (call z))) (from_zones (λ z. all_places (leaves_place (written m (call z)))) (from_machines (λ m. all_zones (λ z. all_places (leaves_place (written m (call z))))) table m) z)
+untouched : (call : Zone → Call) → all_machines (λ m. all_zones (λ z. all_places (leaves_place (written m (call z))))) ≡ true → (s : ModelState) (m : Machine) (z : Zone) (at : Place)
+    → in_place (written m (call z)) at (one_if (is_full s at)) ≡ one_if (is_full s at)
+untouched call table s m z at = place_left (written m (call z)) at (is_full s at) (holds3 machines zones places (λ m z. leaves_place (written m (call z))) table m z at)
 
 -- Claim, Yield and Release change the owner
 abbrev claimed : Machine → Zone → ZoneState → ZoneState
@@ -174,42 +152,18 @@ yielded m z v = record v { owner = Some (other_party m z) }
 abbrev released : Machine → Zone → ZoneState → ZoneState
 released m z v = record v { owner = None }
 
-claim_table : zone_changes may_claim claimed Claim ≡ true
-claim_table = refl
-
-yield_table : zone_changes may_yield yielded Yield ≡ true
-yield_table = refl
-
-release_table : zone_changes may_release released Release ≡ true
-release_table = refl
-
 claim_written : (s : ModelState) → IsSound s → (m : Machine) (z : Zone) → Refusals.claim_refusal s m z ≡ None → packed (changed s m (Claim z)) ≡ with_written (packed s) (written m (Claim z)).mask (written m (Claim z)).wanted + 2 ^ 40
-claim_written s sound m z e =
-    let done = claim_done s m z e in
-    by_parts s (changed s m (Claim z)) (written m (Claim z)) sound (low_for Claim refl m z) done.1 refl refl
-    (zones_by may_claim claimed Claim claim_table s sound m z done.0)
-    (λ at. place_left (written m (Claim z)) at (is_full s at) (leaves_for Claim refl m z at))
+claim_written s sound m z e = let done = claim_done s m z e in by_zone may_claim claimed Claim refl s sound m z s.full done.0 done.1 (untouched Claim refl s m z)
 
 yield_written : (s : ModelState) → IsSound s → (m : Machine) (z : Zone) → Refusals.yield_refusal s m z ≡ None → packed (changed s m (Yield z)) ≡ with_written (packed s) (written m (Yield z)).mask (written m (Yield z)).wanted + 2 ^ 40
-yield_written s sound m z e =
-    let done = yield_done s m z e in
-    by_parts s (changed s m (Yield z)) (written m (Yield z)) sound (low_for Yield refl m z) done.1 refl refl
-    (zones_by may_yield yielded Yield yield_table s sound m z done.0)
-    (λ at. place_left (written m (Yield z)) at (is_full s at) (leaves_for Yield refl m z at))
+yield_written s sound m z e = let done = yield_done s m z e in by_zone may_yield yielded Yield refl s sound m z s.full done.0 done.1 (untouched Yield refl s m z)
 
 release_written : (s : ModelState) → IsSound s → (m : Machine) (z : Zone) → Refusals.release_refusal s m z ≡ None → packed (changed s m (Release z)) ≡ with_written (packed s) (written m (Release z)).mask (written m (Release z)).wanted + 2 ^ 40
-release_written s sound m z e =
-    let done = release_done s m z e in
-    by_parts s (changed s m (Release z)) (written m (Release z)) sound (low_for Release refl m z) done.1 refl refl
-    (zones_by may_release released Release release_table s sound m z done.0)
-    (λ at. place_left (written m (Release z)) at (is_full s at) (leaves_for Release refl m z at))
+release_written s sound m z e = let done = release_done s m z e in by_zone may_release released Release refl s sound m z s.full done.0 done.1 (untouched Release refl s m z)
 
 -- Give empties the place where its row begins
 abbrev given : Machine → Zone → ZoneState → ZoneState
 given m z v = record v { owner = Some (other_party m z); flag = true }
-
-give_table : zone_changes may_give given Give ≡ true
-give_table = refl
 
 abbrev emptied_at : Option Transfer → Place → Bool → Bool
 emptied_at None at b = b
@@ -219,14 +173,8 @@ emptied_has : (full : PlaceSet) (row : Option Transfer) (at : Place) → has (em
 emptied_has full None at = refl
 emptied_has full (Some row) at = has-put full false row.from at
 
-abbrev give_place : Machine → Zone → Pattern → Place → Bool → Bool
-give_place m z p at b = is_none (guards.row_given m z) || nat_eq (in_place p at (one_if b)) (one_if (emptied_at (guards.row_given m z) at b))
-
-abbrev give_places : Machine → Zone → Pattern → Bool
-give_places m z p = all_places (λ at. all_bools (give_place m z p at))
-
-give_place_table : all_machines (λ m. all_zones (λ z. give_places m z (written m (Give z)))) ≡ true
-give_place_table = refl
+abbrev give_place : Machine → Zone → Place → Bool → Bool
+give_place m z at b = is_none (guards.row_given m z) || nat_eq (in_place (written m (Give z)) at (one_if b)) (one_if (emptied_at (guards.row_given m z) at b))
 
 was_some : {X : Type 0} (o : Option X) → is_some o ≡ true → is_none o ≡ false
 was_some None e = cc
@@ -235,38 +183,23 @@ was_some (Some x) e = refl
 give_written : (s : ModelState) → IsSound s → (m : Machine) (z : Zone) → Refusals.give_refusal s m z ≡ None → packed (changed s m (Give z)) ≡ with_written (packed s) (written m (Give z)).mask (written m (Give z)).wanted + 2 ^ 40
 give_written s sound m z e =
     let done = give_done s m z e in
-    let v = zone_at s z in
-    let p = written m (Give z) in
     let gift = Refusals.transfer_given s m z in
-    let way : is_some gift ≡ true = and_right (not v.flag) (is_some gift) (and_right (is_owned_by v.owner m) (not v.flag && is_some gift) (and_right (is_party m z) (is_owned_by v.owner m && (not v.flag && is_some gift)) done.0)) in
-    let some : is_none gift ≡ false = was_some gift way in
-    let same : gift ≡ guards.row_given m z = given_once m z v.posture some in
-    let table = λ (at : Place). from_places (λ at. all_bools (give_place m z p at)) (from_zones (λ z. give_places m z (written m (Give z))) (from_machines (λ m. all_zones (λ z. give_places m z (written m (Give z)))) give_place_table m) z) at in
-    let at_place : (at : Place) → in_place p at (one_if (is_full s at)) ≡ one_if (emptied_at (guards.row_given m z) at (is_full s at)) =
-    λ at. eqb-true (in_place p at (one_if (is_full s at))) (one_if (emptied_at (guards.row_given m z) at (is_full s at)))
-    (either_way (is_none (guards.row_given m z)) (nat_eq (in_place p at (one_if (is_full s at))) (one_if (emptied_at (guards.row_given m z) at (is_full s at)))) (from_bools (give_place m z p at) (table at) (is_full s at)) (ap is_none (sym same) ∙ some)) in
-    by_parts s (changed s m (Give z)) p sound (low_for Give refl m z) done.2 refl refl
-    (zones_by may_give given Give give_table s sound m z done.0)
-    (λ at. at_place at ∙ ap (λ row. one_if (emptied_at row at (is_full s at))) (sym same) ∙ ap one_if (sym (emptied_has s.full gift at)))
+    let some = was_some gift (and_right (not (zone_at s z).flag) (is_some gift) (and_right _ _ (and_right (is_party m z) _ done.0))) in
+    let same : gift ≡ guards.row_given m z = given_once m z (zone_at s z).posture some in
+    by_zone may_give given Give refl s sound m z (emptied s.full gift) done.0 done.2
+    (λ at.
+    eqb-true _ (one_if (emptied_at (guards.row_given m z) at (is_full s at))) (either_way _ _ (holds4 machines zones places bools give_place refl m z at (is_full s at)) (ap is_none (sym same) ∙ some))
+    ∙ ap (λ row. one_if (emptied_at row at (is_full s at))) (sym same) ∙ ap one_if (sym (emptied_has s.full gift at)))
 
 -- Take fills the place where its row ends
 abbrev taken : Machine → Zone → ZoneState → ZoneState
 taken m z v = record v { flag = false }
 
-take_table : zone_changes may_take taken Take ≡ true
-take_table = refl
-
 abbrev received_test : Machine → Zone → Posture → Bool
 received_test m z q = is_none (received_by m (transfer_of z q)) || same_row (received_by m (transfer_of z q)) (row_received m z)
 
-received_table : all_machines (λ m. all_zones (λ z. all_postures (received_test m z))) ≡ true
-received_table = refl
-
 received_once : (m : Machine) (z : Zone) (q : Posture) → is_none (received_by m (transfer_of z q)) ≡ false → received_by m (transfer_of z q) ≡ row_received m z
-received_once m z q some =
-    one_row (received_by m (transfer_of z q)) (row_received m z)
-    (either_way (is_none (received_by m (transfer_of z q))) (same_row (received_by m (transfer_of z q)) (row_received m z))
-    (from_postures (received_test m z) (from_zones (λ z. all_postures (received_test m z)) (from_machines (λ m. all_zones (λ z. all_postures (received_test m z))) received_table m) z) q) some)
+received_once m z q some = one_row _ _ (either_way _ _ (holds3 machines zones postures received_test refl m z q) some)
 
 abbrev filled_at : Option Transfer → Place → Bool → Bool
 filled_at None at b = b
@@ -276,44 +209,31 @@ filled_has : (full : PlaceSet) (row : Option Transfer) (at : Place) → has (fil
 filled_has full None at = refl
 filled_has full (Some row) at = has-put full true row.to at
 
-abbrev take_place : Machine → Zone → Pattern → Place → Bool → Bool
-take_place m z p at b = is_none (row_received m z) || nat_eq (in_place p at (one_if b)) (one_if (filled_at (row_received m z) at b))
-
-abbrev take_places : Machine → Zone → Pattern → Bool
-take_places m z p = all_places (λ at. all_bools (take_place m z p at))
-
-take_place_table : all_machines (λ m. all_zones (λ z. take_places m z (written m (Take z)))) ≡ true
-take_place_table = refl
+abbrev take_place : Machine → Zone → Place → Bool → Bool
+take_place m z at b = is_none (row_received m z) || nat_eq (in_place (written m (Take z)) at (one_if b)) (one_if (filled_at (row_received m z) at b))
 
 take_written : (s : ModelState) → IsSound s → (m : Machine) (z : Zone) → Refusals.take_refusal s m z ≡ None → packed (changed s m (Take z)) ≡ with_written (packed s) (written m (Take z)).mask (written m (Take z)).wanted + 2 ^ 40
 take_written s sound m z e =
     let done = take_done s m z e in
     let found = take_finds s m z sound e in
-    let p = written m (Take z) in
     let row = transfer_of z (zone_at s z).posture in
     let here : m ≡ found.row.receiver = one_machine m found.row.receiver found.receiver in
     let turned : same_machine found.row.receiver m ≡ true = ap₂ same_machine (sym here) here ∙ found.receiver in
     let mine : received_by m row ≡ row = ap (received_by m) found.way ∙ ap (λ b. if b then Some found.row else None) turned ∙ sym found.way in
     let some : is_none (received_by m row) ≡ false = ap is_none (mine ∙ found.way) in
     let same : row ≡ row_received m z = sym mine ∙ received_once m z (zone_at s z).posture some in
-    let table = λ (at : Place). from_places (λ at. all_bools (take_place m z p at)) (from_zones (λ z. take_places m z (written m (Take z))) (from_machines (λ m. all_zones (λ z. take_places m z (written m (Take z)))) take_place_table m) z) at in
-    let at_place : (at : Place) → in_place p at (one_if (is_full s at)) ≡ one_if (filled_at (row_received m z) at (is_full s at)) =
-    λ at. eqb-true (in_place p at (one_if (is_full s at))) (one_if (filled_at (row_received m z) at (is_full s at)))
-    (either_way (is_none (row_received m z)) (nat_eq (in_place p at (one_if (is_full s at))) (one_if (filled_at (row_received m z) at (is_full s at)))) (from_bools (take_place m z p at) (table at) (is_full s at)) (ap is_none (sym same ∙ found.way))) in
-    by_parts s (changed s m (Take z)) p sound (low_for Take refl m z) done.1 refl refl
-    (zones_by may_take taken Take take_table s sound m z done.0)
-    (λ at. at_place at ∙ ap (λ row. one_if (filled_at row at (is_full s at))) (sym same) ∙ ap one_if (sym (filled_has s.full row at)))
+    by_zone may_take taken Take refl s sound m z (filled s.full row) done.0 done.1
+    (λ at.
+    eqb-true _ (one_if (filled_at (row_received m z) at (is_full s at))) (either_way _ _ (holds4 machines zones places bools take_place refl m z at (is_full s at)) (ap is_none (sym same ∙ found.way)))
+    ∙ ap (λ row. one_if (filled_at row at (is_full s at))) (sym same) ∙ ap one_if (sym (filled_has s.full row at)))
 
 -- ---- poses
 abbrev posed_test : Pattern → Zone → Option Posture → Bool
 posed_test p z None = leaves_zone p z
 posed_test p z (Some q) = poses_zone p z q
 
-abbrev pose_change : Machine → Pose → Pattern → Bool
-pose_change m p pattern = is_low pattern && (all_zones (λ z. posed_test pattern z (posture_of m p z)) && all_places (leaves_place pattern))
-
-pose_table : all_machines (λ m. all_poses (λ p. pose_change m p (written m (SetPose p)))) ≡ true
-pose_table = refl
+abbrev pose_change : Machine → Pose → Bool
+pose_change m p = let pattern = written m (SetPose p) in is_low pattern && (all_zones (λ z. posed_test pattern z (posture_of m p z)) && all_places (leaves_place pattern))
 
 pose_zone : (p : Pattern) (z : Zone) (v : ZoneState) (o : Option Posture) → posed_test p z o ≡ true → in_zone p z (zone_code z v) ≡ zone_code z (record v { posture = unwrap_or o v.posture })
 pose_zone p z v None e = zone_left p z v e
@@ -322,15 +242,12 @@ pose_zone p z v (Some q) e = zone_posed p z v q e
 pose_written : (s : ModelState) → IsSound s → (m : Machine) (p : Pose) → Refusals.pose_refusal s m p ≡ None → packed (changed s m (SetPose p)) ≡ with_written (packed s) (written m (SetPose p)).mask (written m (SetPose p)).wanted + 2 ^ 40
 pose_written s sound m p e =
     let pattern = written m (SetPose p) in
-    let tests = from_poses (λ p. pose_change m p (written m (SetPose p))) (from_machines (λ m. all_poses (λ p. pose_change m p (written m (SetPose p)))) pose_table m) p in
-    let low = is_low pattern in
-    let zones = all_zones (λ z. posed_test pattern z (posture_of m p z)) in
-    let places = all_places (leaves_place pattern) in
-    let rest = and_right low (zones && places) tests in
-    let small = fresh s (none_or _ (Refusals.worn s) e).1 in
-    by_parts s (changed s m (SetPose p)) pattern sound (and_left low (zones && places) tests) small refl refl
-    (λ z. pose_zone pattern z (zone_at s z) (posture_of m p z) (from_zones (λ z. posed_test pattern z (posture_of m p z)) (and_left zones places rest) z) ∙ ap (zone_code z) (sym (zone_in-map (posed m p) s.zones z)))
-    (λ at. place_left pattern at (is_full s at) (from_places (leaves_place pattern) (and_right zones places rest) at))
+    let posed_all = λ (z : Zone). posed_test pattern z (posture_of m p z) in
+    let tests = and_parts (is_low pattern) _ (holds2 machines poses pose_change refl m p) in
+    let rest = and_parts (all_zones posed_all) (all_places (leaves_place pattern)) tests.1 in
+    by_parts s (changed s m (SetPose p)) pattern sound tests.0 (fresh s (none_or _ (Refusals.worn s) e).1) refl refl
+    (λ z. pose_zone pattern z (zone_at s z) (posture_of m p z) (from_zones posed_all rest.0 z) ∙ ap (zone_code z) (sym (zone_in-map (posed m p) s.zones z)))
+    (λ at. place_left pattern at (is_full s at) (from_places (leaves_place pattern) rest.1 at))
 
 -- ---- work
 abbrev halted_test : Pattern → Zone → Bool → Bool
@@ -348,11 +265,8 @@ worked_has full (Some way) at = has-put _ true way.1 at ∙ ap (cond (same_place
 abbrev work_place : Machine → Pattern → Place → Bool → Bool
 work_place m p at b = nat_eq (in_place p at (one_if b)) (one_if (worked_at (own_move_of m) at b))
 
-abbrev work_change : Machine → Pattern → Bool
-work_change m p = is_low p && (all_zones (λ z. halted_test p z (is_belt_of m z)) && all_places (λ at. all_bools (work_place m p at)))
-
-work_table : all_machines (λ m. work_change m (written m Advance)) ≡ true
-work_table = refl
+abbrev work_change : Machine → Bool
+work_change m = let p = written m Advance in is_low p && (all_zones (λ z. halted_test p z (is_belt_of m z)) && all_places (λ at. all_bools (work_place m p at)))
 
 halted_zone : (p : Pattern) (z : Zone) (v : ZoneState) (b : Bool) → halted_test p z b ≡ true → in_zone p z (zone_code z v) ≡ zone_code z (if b then record v { posture = Closed } else v)
 halted_zone p z v true e = zone_posed p z v Closed e
@@ -361,17 +275,12 @@ halted_zone p z v false e = zone_left p z v e
 advance_written : (s : ModelState) → IsSound s → (m : Machine) → Refusals.advance_refusal s m ≡ None → packed (changed s m Advance) ≡ with_written (packed s) (written m Advance).mask (written m Advance).wanted + 2 ^ 40
 advance_written s sound m e =
     let p = written m Advance in
-    let tests = from_machines (λ m. work_change m (written m Advance)) work_table m in
-    let low = is_low p in
-    let zones = all_zones (λ z. halted_test p z (is_belt_of m z)) in
-    let places = all_places (λ at. all_bools (work_place m p at)) in
-    let rest = and_right low (zones && places) tests in
-    let small = fresh s (none_or _ (Refusals.worn s) e).1 in
-    let at_place : (at : Place) → in_place p at (one_if (is_full s at)) ≡ one_if (worked_at (own_move_of m) at (is_full s at)) =
-    λ at. eqb-true (in_place p at (one_if (is_full s at))) (one_if (worked_at (own_move_of m) at (is_full s at))) (from_bools (work_place m p at) (from_places (λ at. all_bools (work_place m p at)) (and_right zones places rest) at) (is_full s at)) in
-    by_parts s (changed s m Advance) p sound (and_left low (zones && places) tests) small refl refl
-    (λ z. halted_zone p z (zone_at s z) (is_belt_of m z) (from_zones (λ z. halted_test p z (is_belt_of m z)) (and_left zones places rest) z) ∙ ap (zone_code z) (sym (zone_in-map (halted m) s.zones z)))
-    (λ at. at_place at ∙ ap one_if (sym (worked_has s.full (own_move_of m) at)))
+    let halted_all = λ (z : Zone). halted_test p z (is_belt_of m z) in
+    let tests = and_parts (is_low p) _ (from_machines work_change refl m) in
+    let rest = and_parts (all_zones halted_all) (all_places (λ at. all_bools (work_place m p at))) tests.1 in
+    by_parts s (changed s m Advance) p sound tests.0 (fresh s (none_or _ (Refusals.worn s) e).1) refl refl
+    (λ z. halted_zone p z (zone_at s z) (is_belt_of m z) (from_zones halted_all rest.0 z) ∙ ap (zone_code z) (sym (zone_in-map (halted m) s.zones z)))
+    (λ at. eqb-true _ (one_if (worked_at (own_move_of m) at (is_full s at))) (holds2 places bools (work_place m p) rest.1 at (is_full s at)) ∙ ap one_if (sym (worked_has s.full (own_move_of m) at)))
 
 -- ---- stops and resumptions
 abbrev leaves_fields : Pattern → Bool
@@ -387,19 +296,17 @@ mark_off false = ((omega arith, refl), (omega arith, refl))
 
 mark_set : (b before : Bool) → in_mark (mark_is b) before ≡ one_if b
 mark_set true true = refl
-mark_set true false = refl
-mark_set false true = refl
-mark_set false false = refl
+mark_set _ true = refl
+mark_set _ _ = refl
 
 -- the state in which only the mark and the stamp are others
 mark_written : (s : ModelState) (b : Bool) → IsSound s → s.stamp < 1048575 → packed (model_state s.zones s.full (s.stamp + 1) b) ≡ with_written (packed s) (mark_is b).mask (mark_is b).wanted + 2 ^ 40
 mark_written s b sound small =
     let p = mark_is b in
-    let zones = all_zones (leaves_zone p) in
-    let places = all_places (leaves_place p) in
+    let leaves = and_parts (all_zones (leaves_zone p)) (all_places (leaves_place p)) (mark_leaves b) in
     by_fields s (model_state s.zones s.full (s.stamp + 1) b) p sound (mark_off b) small refl
-    (λ z. zone_left p z (zone_at s z) (from_zones (leaves_zone p) (and_left zones places (mark_leaves b)) z))
-    (λ at. place_left p at (is_full s at) (from_places (leaves_place p) (and_right zones places (mark_leaves b)) at))
+    (λ z. zone_left p z (zone_at s z) (from_zones (leaves_zone p) leaves.0 z))
+    (λ at. place_left p at (is_full s at) (from_places (leaves_place p) leaves.1 at))
     (mark_set b s.stopped)
 
 by_watch : (m : Machine) (b : Bool) → same_machine m Watch ≡ true → mark_becomes m b ≡ mark_is b

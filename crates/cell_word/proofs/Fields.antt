@@ -1,13 +1,6 @@
 -- Fields side by side read back from their word.
-use Rattle.std.proofs.Common.{◌≡◌, ℕ, ◌+◌, ◌*◌, ◌/◌, ◌<◌, ◌^◌, List, [], ◌∷◌, sym, ap, ◌∙◌, subst, arith}
-use Rattle.std.specs.List.{All}
-use Rattle.std.proofs.Math.Nat.{add-mul, add_assoc, mul_assoc, mul_comm}
-use Rattle.std.proofs.lemmas.Nat.{pow-add, mul-add-lt, shr_high, mod_low}
-use Rattle.std.proofs.lemmas.List.Sums.{sum_by-cons}
-use Rattle.std.proofs.lemmas.List.Elements.{All-nil, All-cons, All-head, All-tail}
-use Rattle.cell_word.specs.Layout.{Field, term_of, word_of}
-use Rattle.cell_word.specs.Reading.{bits_of}
-use Rattle.cell_word.specs.Laws.{Fits, SideBySide, ReadsBack}
+use Rattle.cell_word.proofs.Names.{◌≡◌, ℕ, ◌+◌, ◌*◌, ◌/◌, ◌<◌, ◌^◌, List, [], ◌∷◌, sym, ap, ◌∙◌, subst, arith, All, add-mul, add_assoc, mul_assoc, mul_comm, pow-add, mul-add-lt, shr_high, mod_low, sum_by-cons, All-nil, All-cons, All-head}
+use Rattle.cell_word.proofs.Names.{All-tail, Field, term_of, word_of, bits_of, Fits, SideBySide, ReadsBack}
 
 -- the fields as one number, from their lowest bit on
 abbrev pub stacked : List Field → ℕ

@@ -1,13 +1,8 @@
 -- Another field in a word: the zones and the places, one by one.
-use Rattle.std.proofs.Common.{◌≡◌, ℕ, zero, suc, ◌+◌, ◌*◌, ◌<◌, ◌^◌, Bool, List, [], ◌∷◌, ◌++◌, length, map, take, get_or, refl, sym, ap, ◌∙◌, subst, arith}
-use Rattle.std.specs.List.{flat_map}
-use Rattle.std.proofs.lemmas.List.{take_more, map-append, append-nil, append_assoc}
-use Rattle.std.proofs.lemmas.List.Sums.{sum_by-append, sum_by_push}
-use Rattle.std.proofs.lemmas.Grind.{flat_map-append}
-use Rattle.cell_rules.specs.Types.{Zone, Place, all_zones, all_places}
-use Rattle.cell_rules.specs.Names.{ZoneMap, zone_in, put_zone, put_each, ModelState, zone_at, is_full, one_if}
-use Rattle.cell_rules.specs.declared.zones.ZoneState.{ZoneState}
-use Rattle.cell_word.specs.Layout.{Field, term_of, word_of, zone_bit, zone_fields, fields_at, place_bit, place_field}
+use Rattle.cell_word.proofs.Names.{◌≡◌, ℕ, zero, suc, ◌+◌, ◌*◌, ◌<◌, ◌^◌, Bool, List, [], ◌∷◌, ◌++◌, length, map, take, get_or, refl, sym, ap, ◌∙◌, subst, arith, flat_map, take_more, map-append, append-nil, append_assoc, sum_by-append}
+use Rattle.cell_word.proofs.Names.{sum_by_push, flat_map-append, Zone, Place, all_places, ZoneMap, zone_in, put_zone, put_each, ModelState, zone_at, is_full, one_if, ZoneState, Field, term_of, word_of, zone_bit, zone_fields, fields_at}
+use Rattle.cell_word.proofs.Names.{place_bit, place_field}
+use Rattle.cell_rules.specs.Types.{all_zones}
 
 put_each-push : (f : Zone → ZoneState → ZoneState) (zs : List Zone) (z : Zone) (m : ZoneMap) → put_each f (zs ++ z ∷ []) m ≡ put_zone (put_each f zs m) z (f z (zone_in (put_each f zs m) z))
 put_each-push f [] z m = refl
@@ -41,26 +36,12 @@ field_more f before xs i d inside =
     ∙ sum_by_push term_of (before ++ map f (take i xs)) (f (get_or xs i d))
 
 pub bit_of_zone : (i : ℕ) (d : Zone) → i < 6 → zone_bit (get_or all_zones i d) ≡ 5 * i
-bit_of_zone zero d h = refl
-bit_of_zone (suc zero) d h = refl
-bit_of_zone (suc (suc zero)) d h = refl
-bit_of_zone (suc (suc (suc zero))) d h = refl
-bit_of_zone (suc (suc (suc (suc zero)))) d h = refl
-bit_of_zone (suc (suc (suc (suc (suc zero))))) d h = refl
 bit_of_zone (suc (suc (suc (suc (suc (suc i)))))) d h = absurd (omega arith)
+bit_of_zone _ d h = refl
 
 pub bit_of_place : (i : ℕ) (d : Place) → i < 10 → place_bit (get_or all_places i d) ≡ 30 + i
-bit_of_place zero d h = refl
-bit_of_place (suc zero) d h = refl
-bit_of_place (suc (suc zero)) d h = refl
-bit_of_place (suc (suc (suc zero))) d h = refl
-bit_of_place (suc (suc (suc (suc zero)))) d h = refl
-bit_of_place (suc (suc (suc (suc (suc zero))))) d h = refl
-bit_of_place (suc (suc (suc (suc (suc (suc zero)))))) d h = refl
-bit_of_place (suc (suc (suc (suc (suc (suc (suc zero))))))) d h = refl
-bit_of_place (suc (suc (suc (suc (suc (suc (suc (suc zero)))))))) d h = refl
-bit_of_place (suc (suc (suc (suc (suc (suc (suc (suc (suc zero))))))))) d h = refl
 bit_of_place (suc (suc (suc (suc (suc (suc (suc (suc (suc (suc i)))))))))) d h = absurd (omega arith)
+bit_of_place _ d h = refl
 
 -- a step of the loop over the zones of a state
 pub zone_step : (s : ModelState) (i : ℕ) (d : Zone) (v : ZoneState) (w new : ℕ) → i < 6 → w ≡ word_of (flat_map (fields_at s) (take i all_zones)) → v ≡ zone_at s (get_or all_zones i d)
@@ -71,9 +52,8 @@ zone_step s i d v w new inside e value grown =
 
 pub zone_step_below : (i : ℕ) (d : Zone) (new : ℕ) → i < 6 → new < 2 ^ (zone_bit (get_or all_zones i d) + 5) → new < 2 ^ (5 * (i + 1))
 zone_step_below i d new inside below =
-    let bit : zone_bit (get_or all_zones i d) ≡ 5 * i = bit_of_zone i d inside in
-    let next : zone_bit (get_or all_zones i d) + 5 ≡ 5 * (i + 1) = omega arith in
-    subst (λ n. new < 2 ^ n) next below
+    let bit = bit_of_zone i d inside in
+    subst (λ n. new < 2 ^ n) (omega arith) below
 
 -- and of the loop over its places
 pub place_step : (s : ModelState) (before : List Field) (i : ℕ) (d : Place) (b : Bool) (w new : ℕ) → i < 10 → w ≡ word_of (before ++ map (place_field s) (take i all_places))
@@ -84,6 +64,5 @@ place_step s before i d b w new inside e value grown =
 
 pub place_step_below : (i : ℕ) (d : Place) (new : ℕ) → i < 10 → new < 2 ^ (place_bit (get_or all_places i d) + 1) → new < 2 ^ (30 + (i + 1))
 place_step_below i d new inside below =
-    let bit : place_bit (get_or all_places i d) ≡ 30 + i = bit_of_place i d inside in
-    let next : place_bit (get_or all_places i d) + 1 ≡ 30 + (i + 1) = omega arith in
-    subst (λ n. new < 2 ^ n) next below
+    let bit = bit_of_place i d inside in
+    subst (λ n. new < 2 ^ n) (omega arith) below

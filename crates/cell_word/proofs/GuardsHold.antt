@@ -1,12 +1,7 @@
 -- On a sound state's word the guards of each machine and call are its refusals, in their order.
-use Rattle.std.proofs.Common.{◌≡◌, Bool, true, refl}
-use Rattle.cell_rules.specs.Types.{Machine, Call, Claim, Give, Yield, Take, Release, SetPose, Advance, Inquire, Stop}
-use Rattle.cell_rules.specs.Types.{Resume}
-use Rattle.cell_rules.specs.Names.{ModelState, IsSound, refusal, order_of}
-use Rattle.cell_rules.proofs.Tables.{all_machines, from_machines}
-use Rattle.cell_word.specs.Layout.{packed}
-use Rattle.cell_word.specs.Guards.{first_refusal, guards_of, numbers_of, is_ordered}
-use Rattle.cell_word.proofs.Possible.{all_calls, from_calls}
+use Rattle.cell_word.proofs.Names.{◌≡◌, Bool, true, refl, Machine, Call, Claim, Give, Yield, Take, Release, SetPose, Advance, Inquire, Stop, Resume, ModelState, IsSound, refusal, order_of, machines, holds2, packed, first_refusal, guards_of}
+use Rattle.cell_word.proofs.Names.{numbers_of, is_ordered}
+use Rattle.cell_word.proofs.Possible.{calls}
 use Rattle.cell_word.proofs.ZoneGuards.{claim_holds, give_holds, yield_holds, take_holds, release_holds, stop_holds, resume_holds}
 use Rattle.cell_word.proofs.PoseGuards.{pose_holds, advance_holds}
 
@@ -26,8 +21,5 @@ guards_hold s sound m Resume = resume_holds s sound m
 abbrev ordered_test : Machine → Call → Bool
 ordered_test m c = is_ordered (order_of c) (numbers_of (guards_of m c))
 
-ordered_table : all_machines (λ m. all_calls (ordered_test m)) ≡ true
-ordered_table = refl
-
 pub guards_ordered : (m : Machine) (c : Call) → ordered_test m c ≡ true
-guards_ordered m c = from_calls (ordered_test m) (from_machines (λ m. all_calls (ordered_test m)) ordered_table m) c
+guards_ordered = holds2 machines calls ordered_test refl

@@ -1,3 +1,4 @@
+mod Names
 pub mod Fields
 pub mod Growing
 pub mod RoundTrip

@@ -1,55 +1,21 @@
 -- What holds of the two parties of a zone.
-use Rattle.std.proofs.Common.{◌≡◌, Option, refl, ap, ◌∙◌}
-use Rattle.cell_rules.specs.Types.{Machine, Zone, Z1, Z2, Z3, Z4, Z5, Z6, guest_of, transfer_of, same_machine}
-use Rattle.cell_rules.specs.Reply.{other_party}
-use Rattle.cell_word.specs.Parties.{machine_of, opposite, is_guest, giving_posture}
-use Rattle.cell_word.specs.Patterns.{owner_is}
-use Rattle.cell_word.specs.Guards.{row_given}
-use Rattle.cell_word.specs.Changes.{row_received, owner_becomes}
-use Rattle.cell_word.specs.declared.parties.Party.{Party}
-use Rattle.cell_word.specs.declared.parties.Party.TheVariants.{Host, Guest}
+use Rattle.cell_word.proofs.Names.{◌≡◌, Option, refl, ap, ◌∙◌, Machine, Zone, Z1, Z2, Z3, Z4, Z5, Z6, guest_of, transfer_of, same_machine, other_party, machine_of, opposite, is_guest, giving_posture, owner_is, row_given, row_received}
+use Rattle.cell_word.proofs.Names.{owner_becomes, Party, Host, Guest}
 
 pub given_by_party : (z : Zone) (s : Party) → transfer_of z (giving_posture s) ≡ row_given (machine_of z s) z
 given_by_party Z1 Host = refl
-given_by_party Z1 Guest = refl
-given_by_party Z2 Host = refl
-given_by_party Z2 Guest = refl
-given_by_party Z3 Host = refl
-given_by_party Z3 Guest = refl
-given_by_party Z4 Host = refl
-given_by_party Z4 Guest = refl
-given_by_party Z5 Host = refl
-given_by_party Z5 Guest = refl
-given_by_party Z6 Host = refl
-given_by_party Z6 Guest = refl
+given_by_party _ Host = refl
+given_by_party _ _ = refl
 
 pub received_by_party : (z : Zone) (s : Party) → transfer_of z (giving_posture (opposite s)) ≡ row_received (machine_of z s) z
 received_by_party Z1 Host = refl
-received_by_party Z1 Guest = refl
-received_by_party Z2 Host = refl
-received_by_party Z2 Guest = refl
-received_by_party Z3 Host = refl
-received_by_party Z3 Guest = refl
-received_by_party Z4 Host = refl
-received_by_party Z4 Guest = refl
-received_by_party Z5 Host = refl
-received_by_party Z5 Guest = refl
-received_by_party Z6 Host = refl
-received_by_party Z6 Guest = refl
+received_by_party _ Host = refl
+received_by_party _ _ = refl
 
 pub other_of_party : (z : Zone) (s : Party) → other_party (machine_of z s) z ≡ machine_of z (opposite s)
 other_of_party Z1 Host = refl
-other_of_party Z1 Guest = refl
-other_of_party Z2 Host = refl
-other_of_party Z2 Guest = refl
-other_of_party Z3 Host = refl
-other_of_party Z3 Guest = refl
-other_of_party Z4 Host = refl
-other_of_party Z4 Guest = refl
-other_of_party Z5 Host = refl
-other_of_party Z5 Guest = refl
-other_of_party Z6 Host = refl
-other_of_party Z6 Guest = refl
+other_of_party _ Host = refl
+other_of_party _ _ = refl
 
 -- the other party of a zone, of its host and of its guest
 pub other_is : (m : Machine) (z : Zone) (s : Party) → m ≡ machine_of z s → other_party m z ≡ machine_of z (opposite s)
@@ -57,34 +23,16 @@ other_is m z s e = ap (λ m. other_party m z) e ∙ other_of_party z s
 
 pub guest_by_party : (z : Zone) (s : Party) → same_machine (machine_of z s) (guest_of z) ≡ is_guest s
 guest_by_party Z1 Host = refl
-guest_by_party Z1 Guest = refl
-guest_by_party Z2 Host = refl
-guest_by_party Z2 Guest = refl
-guest_by_party Z3 Host = refl
-guest_by_party Z3 Guest = refl
-guest_by_party Z4 Host = refl
-guest_by_party Z4 Guest = refl
-guest_by_party Z5 Host = refl
-guest_by_party Z5 Guest = refl
-guest_by_party Z6 Host = refl
-guest_by_party Z6 Guest = refl
+guest_by_party _ Host = refl
+guest_by_party _ _ = refl
 
 pub guest_is : (m : Machine) (z : Zone) (s : Party) → m ≡ machine_of z s → same_machine m (guest_of z) ≡ is_guest s
 guest_is m z s e = ap (λ m. same_machine m (guest_of z)) e ∙ guest_by_party z s
 
 by_party : (z : Zone) (s : Party) (o : Option Machine) → owner_becomes (machine_of z s) z o ≡ owner_is z o
 by_party Z1 Host o = refl
-by_party Z1 Guest o = refl
-by_party Z2 Host o = refl
-by_party Z2 Guest o = refl
-by_party Z3 Host o = refl
-by_party Z3 Guest o = refl
-by_party Z4 Host o = refl
-by_party Z4 Guest o = refl
-by_party Z5 Host o = refl
-by_party Z5 Guest o = refl
-by_party Z6 Host o = refl
-by_party Z6 Guest o = refl
+by_party _ Host o = refl
+by_party _ _ o = refl
 
 -- what a party writes for the owner
 pub owner_by : (m : Machine) (z : Zone) (s : Party) (o : Option Machine) → m ≡ machine_of z s → owner_becomes m z o ≡ owner_is z o

@@ -1,52 +1,24 @@
 -- The guards of poses and of work are the refusals of these calls.
-use Rattle.std.proofs.Common.{◌≡◌, ℕ, Bool, true, false, ◌||◌, ◌&&◌, not, Option, Some, None, is_none, is_some, option_map, unwrap_or, List, [], ◌∷◌, ◌++◌, refl, sym, ap, ap₂, ◌∙◌, subst, if◌then◌else◌}
-use Rattle.std.specs.Prelude.{bit_or}
-use Rattle.std.specs.Option.{option_or, option_eq}
-use Rattle.std.specs.Bool.{then_some}
-use Rattle.std.specs.List.{flat_map}
-use Rattle.std.proofs.lemmas.List.{append-nil}
-use Rattle.cell_rules.specs.Types.{Machine, Feed, Robot, Press, Deposit, Watch, Zone, Z1, Z2, Z3, Z4, Z5, Z6, Place}
-use Rattle.cell_rules.specs.Types.{FeedEntry, FeedEnd, PressIn, PressOut, DepEntry, DepEnd, Posture, Closed, Moving}
-use Rattle.cell_rules.specs.Types.{OpenIn, OpenOut, Pose, Running, Refusal, NotOwner, PlateInZone, NoPlate, PlaceFull}
-use Rattle.cell_rules.specs.Types.{Jump, NotAtWork, NoPose, Stopped, host_of, guest_of, posture_of, same_machine}
-use Rattle.cell_rules.specs.Types.{same_posture, same_pose, one_machine}
+use Rattle.cell_word.proofs.Names.{◌≡◌, ℕ, Bool, true, false, ◌||◌, ◌&&◌, not, Option, Some, None, is_none, is_some, option_map, unwrap_or, List, [], ◌∷◌, ◌++◌, refl, sym, ap, ap₂, ◌∙◌, subst, if◌then◌else◌, bit_or, option_or, option_eq}
+use Rattle.cell_word.proofs.Names.{then_some, flat_map, append-nil, Machine, Feed, Robot, Press, Deposit, Watch, Zone, Z1, Z2, Z3, Z4, Z5, Z6, Place, FeedEntry, FeedEnd, PressIn, PressOut, DepEntry, DepEnd, Posture, Closed, Moving, OpenIn}
+use Rattle.cell_word.proofs.Names.{OpenOut, Pose, Running, Refusal, NotOwner, PlateInZone, NoPlate, PlaceFull, Jump, NotAtWork, NoPose, Stopped, host_of, guest_of, posture_of, same_machine, same_posture, same_pose, one_machine, Table}
+use Rattle.cell_word.proofs.Names.{ModelState, zone_at, is_full, IsSound, implies, is_owned_by, ZoneState, and_left, and_right, and_both, implied, all_bools, from_bools, all_zones, all_postures, bools, machines, zones, postures, poses}
+use Rattle.cell_word.proofs.Names.{states, pairs, holds2, holds3, none_then_not, packed, anything, nothing, when, both, owner_is, place_is, mark_is, guard, first_refusal, Guard}
 use Rattle.cell_types.specs.declared.machine.Machine.TheVariants.{Table as TableMachine, Crane as CraneMachine}
-use Rattle.cell_types.specs.declared.place.Place.TheVariants.{Table}
-use Rattle.cell_rules.specs.Names.{ModelState, zone_at, is_full, IsSound, implies, is_owned_by}
-use Rattle.cell_rules.specs.declared.zones.ZoneState.{ZoneState}
 use Rattle.cell_rules.specs.Refusals
-use Rattle.cell_rules.proofs.Tables.{and_left, and_right, and_both, implied, all_bools, from_bools, all_machines, from_machines, all_zones, from_zones, all_postures, from_postures, all_poses, from_poses, all_states, from_states}
-use Rattle.cell_rules.proofs.Done.{none_then_not}
-use Rattle.cell_word.specs.Layout.{packed}
-use Rattle.cell_word.specs.Patterns.{anything, nothing, when, both, owner_is, place_is, mark_is}
 use Rattle.cell_word.specs.Guards as guards
-use Rattle.cell_word.specs.Guards.{guard, first_refusal}
-use Rattle.cell_word.specs.declared.patterns.Guard.{Guard}
-use Rattle.cell_word.proofs.SameAnswer.{same_bool, one_bool, same_answer, one_answer}
+use Rattle.cell_word.proofs.SameAnswer.{same_bool, one_bool}
 use Rattle.cell_word.proofs.Windows.{and_or, first-append, all_within, first-window}
 use Rattle.cell_word.proofs.Seen.{zone_window, zone_word, place_window, place_word, zone_shown, place_shown, zone_and_place_shown, is_lawful, lawful_at}
-use Rattle.cell_word.proofs.ZoneGuards.{or_none, or_assoc, or_next, blind, always_seen, mark_seen, way_seen, worn_seen, zone_seen, zone_tests}
+use Rattle.cell_word.proofs.ZoneGuards.{or_none, or_assoc, or_next, blind, always_seen, mark_seen, way_seen, worn_seen, Row, row_test, row_seen, on_zone, zone_seen, on_zone_and_place, zone_and_place_seen}
 
 -- ---- guards on the five bits of a zone, for each zone and posture
-abbrev posed_test : (Zone → Posture → List Guard) → (Zone → Posture → ZoneState → Option Refusal) → Zone → Posture → ZoneState → Bool
-posed_test row here z q v = implies (is_lawful z v) (same_answer (first_refusal (zone_word z v) (row z q)) (here z q v))
-
-abbrev posed_tests : (Zone → Posture → List Guard) → (Zone → Posture → ZoneState → Option Refusal) → Zone → Posture → Bool
-posed_tests row here z q = all_within (zone_window z) (row z q) && all_states (posed_test row here z q)
-
 abbrev posed_table : (Zone → Posture → List Guard) → (Zone → Posture → ZoneState → Option Refusal) → Bool
-posed_table row here = all_zones (λ z. all_postures (posed_tests row here z))
+posed_table row here = all_zones (λ z. all_postures (λ q. row_test states (on_zone z (row z q) (here z q))))
 
 posed_seen : (row : Zone → Posture → List Guard) (here : Zone → Posture → ZoneState → Option Refusal) → posed_table row here ≡ true → (s : ModelState) → IsSound s → (z : Zone) (q : Posture)
     → first_refusal (packed s) (row z q) ≡ here z q (zone_at s z)
-posed_seen row here table s sound z q =
-    let v = zone_at s z in
-    let tests = from_postures (posed_tests row here z) (from_zones (λ z. all_postures (posed_tests row here z)) table z) q in
-    let inside = and_left (all_within (zone_window z) (row z q)) (all_states (posed_test row here z q)) tests in
-    let same = implied (is_lawful z v) (same_answer (first_refusal (zone_word z v) (row z q)) (here z q v)) (from_states (posed_test row here z q) (and_right (all_within (zone_window z) (row z q)) (all_states (posed_test row here z q)) tests) v) (lawful_at s sound z) in
-    first-window (packed s) (zone_window z) (row z q) inside
-    ∙ ap (λ w. first_refusal w (row z q)) (zone_shown s sound z)
-    ∙ one_answer (first_refusal (zone_word z v) (row z q)) (here z q v) same
+posed_seen row here table s sound z q = zone_seen z (row z q) (here z q) (holds2 zones postures (λ z q. row_test states (on_zone z (row z q) (here z q))) table z q) s sound
 
 -- whether a zone is to move, or gets another posture: a zone that moves already is its host's, and free of plates
 abbrev turned : Bool → Posture → ZoneState → Bool
@@ -55,23 +27,14 @@ turned moving q v = (moving && same_posture q Moving) || not (same_posture q v.p
 abbrev owner_here : Bool → Zone → Posture → ZoneState → Option Refusal
 owner_here moving z q v = then_some (turned moving q v && not (is_owned_by v.owner (host_of z))) (NotOwner v.owner)
 
-owner_table : all_bools (λ moving. posed_table guards.owner_guards (owner_here moving)) ≡ true
-owner_table = refl
-
 abbrev plate_here : Bool → Zone → Posture → ZoneState → Option Refusal
 plate_here moving z q v = then_some (turned moving q v && v.flag) (PlateInZone z)
-
-plate_table : all_bools (λ moving. posed_table guards.plate_guards (plate_here moving)) ≡ true
-plate_table = refl
 
 abbrev differing : Refusal → Zone → Posture → List Guard
 differing r z q = guards.low_refuses z q r ∷ guards.high_refuses z q r ∷ []
 
 abbrev differs_here : Refusal → Zone → Posture → ZoneState → Option Refusal
 differs_here r z q v = then_some (not (same_posture v.posture q)) r
-
-jump_table : posed_table (differing Jump) (differs_here Jump) ≡ true
-jump_table = refl
 
 work_table : posed_table (differing NotAtWork) (differs_here NotAtWork) ≡ true
 work_table = refl
@@ -83,20 +46,14 @@ pose_test m p z =
     && (implies (not (same_machine (host_of z) m)) (is_none (posture_of m p z))
     && implies (is_some (posture_of m p z) && Refusals.is_moving_pose p) (option_eq same_posture (posture_of m p z) (Some Moving)))
 
-pose_table : all_machines (λ m. all_poses (λ p. all_zones (pose_test m p))) ≡ true
-pose_table = refl
-
 pose_facts : (m : Machine) (p : Pose) (z : Zone) → pose_test m p z ≡ true
-pose_facts m p z = from_zones (pose_test m p) (from_poses (λ p. all_zones (pose_test m p)) (from_machines (λ m. all_poses (λ p. all_zones (pose_test m p))) pose_table m) p) z
+pose_facts = holds3 machines poses zones pose_test refl
 
 abbrev first_test : Machine → Pose → Bool
 first_test m p = same_bool (is_none (guards.posed_at m p (guards.hosted_zones m).0)) (not (Refusals.has_pose m p))
 
-first_table : all_machines (λ m. all_poses (first_test m)) ≡ true
-first_table = refl
-
 lacks : (m : Machine) (p : Pose) → is_none (guards.posed_at m p (guards.hosted_zones m).0) ≡ not (Refusals.has_pose m p)
-lacks m p = one_bool (is_none (guards.posed_at m p (guards.hosted_zones m).0)) (not (Refusals.has_pose m p)) (from_poses (first_test m) (from_machines (λ m. all_poses (first_test m)) first_table m) p)
+lacks m p = one_bool _ _ (holds2 machines poses first_test refl m p)
 
 was_none : {X : Type 0} (o : Option X) → is_none o ≡ true → o ≡ None
 was_none None e = refl
@@ -131,7 +88,7 @@ owner_seen s sound m p z q hosts e =
     let v = zone_at s z in
     let moving = Refusals.is_moving_pose p in
     let At : Bool → Option Posture → Machine → Option Refusal = λ b o n. then_some (concerned_by s p z b o && not (is_owned_by v.owner n)) (NotOwner v.owner) in
-    posed_seen guards.owner_guards (owner_here moving) (from_bools (λ moving. posed_table guards.owner_guards (owner_here moving)) owner_table moving) s sound z q
+    posed_seen guards.owner_guards (owner_here moving) (from_bools (λ moving. posed_table guards.owner_guards (owner_here moving)) refl moving) s sound z q
     ∙ ap (λ b. then_some (b && not (is_owned_by v.owner (host_of z))) (NotOwner v.owner)) (turns moving q (not (same_posture q v.posture)) (moves_to m p z q e))
     ∙ ap (At true (Some q)) (one_machine (host_of z) m hosts)
     ∙ ap (λ o. At true o m) (sym e)
@@ -143,7 +100,7 @@ plate_seen s sound m p z q hosts e =
     let v = zone_at s z in
     let moving = Refusals.is_moving_pose p in
     let At : Bool → Option Posture → Option Refusal = λ b o. then_some (concerned_by s p z b o && v.flag) (PlateInZone z) in
-    posed_seen guards.plate_guards (plate_here moving) (from_bools (λ moving. posed_table guards.plate_guards (plate_here moving)) plate_table moving) s sound z q
+    posed_seen guards.plate_guards (plate_here moving) (from_bools (λ moving. posed_table guards.plate_guards (plate_here moving)) refl moving) s sound z q
     ∙ ap (λ b. then_some (b && v.flag) (PlateInZone z)) (turns moving q (not (same_posture q v.posture)) (moves_to m p z q e))
     ∙ ap (At true) (sym e)
     ∙ ap (λ b. At b (posture_of m p z)) (sym hosts)
@@ -152,7 +109,7 @@ abbrev jump_at : ModelState → Machine → Pose → Zone → Option Refusal
 jump_at s m p z = then_some ((Refusals.passes_through_moving m && not (Refusals.is_moving_pose p)) && not (Refusals.moves_at s m z)) Jump
 
 jump_by : (s : ModelState) → IsSound s → (z : Zone) (passes : Bool) → first_refusal (packed s) (if passes then differing Jump z Moving else []) ≡ then_some (passes && not (same_posture (Refusals.posture_at s z) Moving)) Jump
-jump_by s sound z true = posed_seen (differing Jump) (differs_here Jump) jump_table s sound z Moving
+jump_by s sound z true = posed_seen (differing Jump) (differs_here Jump) refl s sound z Moving
 jump_by s sound z false = refl
 
 jump_seen : (s : ModelState) → IsSound s → (m : Machine) (p : Pose) (z : Zone) (q : Posture) → same_machine (host_of z) m ≡ true → posture_of m p z ≡ Some q
@@ -166,28 +123,14 @@ jump_seen s sound m p z q hosts e =
 abbrev room_here : Zone → ZoneState → Bool → Option Refusal
 room_here z v full = then_some (not (same_posture v.posture OpenIn) && full) PlaceFull
 
-abbrev room_test : Zone → Place → ZoneState → Bool → Bool
-room_test z p v full = same_answer (first_refusal (bit_or (zone_word z v) (place_word p full)) (guards.room_guards z p)) (room_here z v full)
-
-abbrev room_tests : Zone → Place → Bool
-room_tests z p = all_within (bit_or (zone_window z) (place_window p)) (guards.room_guards z p) && all_states (λ v. all_bools (room_test z p v))
-
-room_seen : (s : ModelState) → IsSound s → (z : Zone) (p : Place) → room_tests z p ≡ true → first_refusal (packed s) (guards.room_guards z p) ≡ room_here z (zone_at s z) (is_full s p)
-room_seen s sound z p tests =
-    let v = zone_at s z in
-    let full = is_full s p in
-    let row = guards.room_guards z p in
-    let window = bit_or (zone_window z) (place_window p) in
-    first-window (packed s) window row (and_left (all_within window row) (all_states (λ v. all_bools (room_test z p v))) tests)
-    ∙ ap (λ w. first_refusal w row) (zone_and_place_shown s sound z p)
-    ∙ one_answer (first_refusal (bit_or (zone_word z v) (place_word p full)) row) (room_here z v full)
-    (from_bools (room_test z p v) (from_states (λ v. all_bools (room_test z p v)) (and_right (all_within window row) (all_states (λ v. all_bools (room_test z p v))) tests) v) full)
+room_seen : (s : ModelState) → IsSound s → (z : Zone) (p : Place) → row_test (pairs states bools) (on_zone_and_place z p (guards.room_guards z p) (room_here z)) ≡ true → first_refusal (packed s) (guards.room_guards z p) ≡ room_here z (zone_at s z) (is_full s p)
+room_seen s sound z p tests = zone_and_place_seen z p (guards.room_guards z p) (room_here z) tests s sound
 
 -- what the places inside a zone refuse
 abbrev blocked_at : ModelState → Zone → Option Refusal
 blocked_at s z = then_some (not (same_posture (Refusals.posture_at s z) OpenIn) && Refusals.is_blocked s z) PlaceFull
 
-one_room : (s : ModelState) → IsSound s → (z : Zone) (p : Place) → room_tests z p ≡ true → first_refusal (packed s) (guards.room_guards z p ++ []) ≡ room_here z (zone_at s z) (is_full s p)
+one_room : (s : ModelState) → IsSound s → (z : Zone) (p : Place) → row_test (pairs states bools) (on_zone_and_place z p (guards.room_guards z p) (room_here z)) ≡ true → first_refusal (packed s) (guards.room_guards z p ++ []) ≡ room_here z (zone_at s z) (is_full s p)
 one_room s sound z p tests = ap (first_refusal (packed s)) (append-nil (guards.room_guards z p)) ∙ room_seen s sound z p tests
 
 no_room : (n : Bool) → ◌≡◌ {A = Option Refusal} None (then_some (n && false) PlaceFull)
@@ -195,9 +138,8 @@ no_room true = refl
 no_room false = refl
 
 two_rooms : (n a b : Bool) → option_or (then_some (n && a) PlaceFull) (then_some (n && b) PlaceFull) ≡ then_some (n && (a || b)) PlaceFull
-two_rooms false a b = refl
-two_rooms true true b = refl
 two_rooms true false b = refl
+two_rooms _ _ b = refl
 
 rooms_seen : (s : ModelState) → IsSound s → (z : Zone) → first_refusal (packed s) (flat_map (guards.room_guards z) (guards.inner_places z)) ≡ blocked_at s z
 rooms_seen s sound Z1 = one_room s sound Z1 Table refl
@@ -217,9 +159,7 @@ opens_by s z o =
 
 opening_by : (s : ModelState) → IsSound s → (z : Zone) (q : Posture) → first_refusal (packed s) (guards.opening_guards z q) ≡ opens_by s z (Some q)
 opening_by s sound z OpenIn = rooms_seen s sound z
-opening_by s sound z Closed = refl
-opening_by s sound z Moving = refl
-opening_by s sound z OpenOut = refl
+opening_by s sound z _ = refl
 
 opening_seen : (s : ModelState) → IsSound s → (m : Machine) (p : Pose) (z : Zone) (q : Posture) → same_machine (host_of z) m ≡ true → posture_of m p z ≡ Some q
     → first_refusal (packed s) (guards.opening_guards z q) ≡ Refusals.opens_onto_plate s m p z
@@ -251,19 +191,17 @@ never_opens false b = refl
 opening_apart : (s : ModelState) (m : Machine) (p : Pose) (z : Zone) → same_machine (host_of z) m ≡ false → Refusals.opens_onto_plate s m p z ≡ None
 opening_apart s m p z apart = ap (opens_by s z) (not_posed m p z apart) ∙ never_opens (same_posture (Refusals.posture_at s z) OpenIn) (Refusals.is_blocked s z)
 
-abbrev on_zone : (Zone → Option Refusal) → Option Zone → Option Refusal
-on_zone u None = None
-on_zone u (Some z) = u z
+abbrev at_host : (Zone → Option Refusal) → Option Zone → Option Refusal
+at_host u None = None
+at_host u (Some z) = u z
 
 hosted_only : (u : Zone → Option Refusal) (m : Machine) → ((z : Zone) → same_machine (host_of z) m ≡ false → u z ≡ None)
-    → Refusals.first_zone u ≡ option_or (on_zone u (guards.hosted_zones m).0) (on_zone u (guards.hosted_zones m).1)
+    → Refusals.first_zone u ≡ option_or (at_host u (guards.hosted_zones m).0) (at_host u (guards.hosted_zones m).1)
 hosted_only u Feed none = simp (none Z1 refl, none Z2 refl, none Z3 refl, none Z4 refl, none Z5 refl, or_none)
 hosted_only u TableMachine none = simp (none Z3 refl, none Z4 refl, none Z5 refl, none Z6 refl, or_none)
-hosted_only u Robot none = simp (none Z1 refl, none Z2 refl, none Z3 refl, none Z4 refl, none Z5 refl, none Z6 refl)
 hosted_only u Press none = simp (none Z1 refl, none Z2 refl, none Z4 refl, none Z5 refl, none Z6 refl, or_none)
 hosted_only u Deposit none = simp (none Z1 refl, none Z2 refl, none Z3 refl, none Z6 refl, or_none)
-hosted_only u CraneMachine none = simp (none Z1 refl, none Z2 refl, none Z3 refl, none Z4 refl, none Z5 refl, none Z6 refl)
-hosted_only u Watch none = simp (none Z1 refl, none Z2 refl, none Z3 refl, none Z4 refl, none Z5 refl, none Z6 refl)
+hosted_only u _ none = simp (none Z1 refl, none Z2 refl, none Z3 refl, none Z4 refl, none Z5 refl, none Z6 refl)
 
 abbrev Hosts : Machine → Option Zone → Type 0
 Hosts m None = Unit {0}
@@ -272,11 +210,9 @@ Hosts m (Some z) = same_machine (host_of z) m ≡ true
 hosts_both : (m : Machine) → Hosts m (guards.hosted_zones m).0 × Hosts m (guards.hosted_zones m).1
 hosts_both Feed = (refl, tt)
 hosts_both TableMachine = (refl, refl)
-hosts_both Robot = (tt, tt)
 hosts_both Press = (refl, tt)
 hosts_both Deposit = (refl, refl)
-hosts_both CraneMachine = (tt, tt)
-hosts_both Watch = (tt, tt)
+hosts_both _ = (tt, tt)
 
 module _ (s : ModelState) (m : Machine) (p : Pose) (has : Refusals.has_pose m p ≡ true) (g : Zone → Posture → List Guard) (u : Zone → Option Refusal)
     (here : (z : Zone) (q : Posture) → same_machine (host_of z) m ≡ true → posture_of m p z ≡ Some q → first_refusal (packed s) (g z q) ≡ u z) where
@@ -284,7 +220,7 @@ module _ (s : ModelState) (m : Machine) (p : Pose) (has : Refusals.has_pose m p 
   by_posture z None hosts e some = cc
   by_posture z (Some q) hosts e some = here z q hosts e
 
-  at_zone : (o : Option Zone) → Hosts m o → first_refusal (packed s) (guards.on_posed g (guards.posed_at m p o)) ≡ on_zone u o
+  at_zone : (o : Option Zone) → Hosts m o → first_refusal (packed s) (guards.on_posed g (guards.posed_at m p o)) ≡ at_host u o
   at_zone None h = refl
   at_zone (Some z) h = by_posture z (posture_of m p z) h refl (is_posed m p z has h)
 
@@ -295,14 +231,8 @@ module _ (s : ModelState) (m : Machine) (p : Pose) (has : Refusals.has_pose m p 
 jumps_all : (k a b c d e f : Bool)
     → option_or (option_or (option_or (option_or (option_or (then_some (k && not a) Jump) (then_some (k && not b) Jump)) (then_some (k && not c) Jump)) (then_some (k && not d) Jump)) (then_some (k && not e) Jump)) (then_some (k && not f) Jump)
     ≡ then_some (k && not (a && (b && (c && (d && (e && (f && true))))))) Jump
-jumps_all false a b c d e f = refl
-jumps_all true false b c d e f = refl
-jumps_all true true false c d e f = refl
-jumps_all true true true false d e f = refl
-jumps_all true true true true false e f = refl
-jumps_all true true true true true false f = refl
-jumps_all true true true true true true false = refl
 jumps_all true true true true true true true = refl
+jumps_all _ _ _ _ _ _ _ = refl
 
 -- ---- a belt that would run onto a plate
 abbrev run_row : Bool → Bool → Bool → List Guard
@@ -315,38 +245,21 @@ run_row r d f =
 abbrev run_here : Bool → Bool → Bool → ZoneState → Bool → Bool → Option Refusal
 run_here r d f v feed deposit = then_some (r && ((d && deposit) || (f && feed && not (is_owned_by v.owner Feed)))) PlaceFull
 
-abbrev run_window : ℕ
-run_window = bit_or (bit_or (zone_window Z1) (place_window FeedEnd)) (place_window DepEnd)
-
-abbrev run_word : ZoneState → Bool → Bool → ℕ
-run_word v feed deposit = bit_or (bit_or (zone_word Z1 v) (place_word FeedEnd feed)) (place_word DepEnd deposit)
-
-abbrev run_test : Bool → Bool → Bool → ZoneState → Bool → Bool → Bool
-run_test r d f v feed deposit = implies (is_lawful Z1 v) (same_answer (first_refusal (run_word v feed deposit) (run_row r d f)) (run_here r d f v feed deposit))
-
-abbrev run_tests : Bool → Bool → Bool → Bool
-run_tests r d f = all_within run_window (run_row r d f) && all_states (λ v. all_bools (λ feed. all_bools (run_test r d f v feed)))
-
-run_table : all_bools (λ r. all_bools (λ d. all_bools (run_tests r d))) ≡ true
-run_table = refl
-
-run_seen : (s : ModelState) → IsSound s → (r d f : Bool) → first_refusal (packed s) (run_row r d f) ≡ run_here r d f (zone_at s Z1) (is_full s FeedEnd) (is_full s DepEnd)
-run_seen s sound r d f =
-    let v = zone_at s Z1 in
-    let feed = is_full s FeedEnd in
-    let deposit = is_full s DepEnd in
-    let row = run_row r d f in
-    let tests = from_bools (run_tests r d) (from_bools (λ d. all_bools (run_tests r d)) (from_bools (λ r. all_bools (λ d. all_bools (run_tests r d))) run_table r) d) f in
-    let each = from_bools (run_test r d f v feed) (from_bools (λ feed. all_bools (run_test r d f v feed)) (from_states (λ v. all_bools (λ feed. all_bools (run_test r d f v feed)))
-    (and_right (all_within run_window row) (all_states (λ v. all_bools (λ feed. all_bools (run_test r d f v feed)))) tests) v) feed) deposit in
-    first-window (packed s) run_window row (and_left (all_within run_window row) (all_states (λ v. all_bools (λ feed. all_bools (run_test r d f v feed)))) tests)
-    ∙ ap (λ w. first_refusal w row)
-    (and_or (packed s) (bit_or (zone_window Z1) (place_window FeedEnd)) (place_window DepEnd) ∙ ap₂ bit_or (zone_and_place_shown s sound Z1 FeedEnd) (place_shown s sound DepEnd))
-    ∙ one_answer (first_refusal (run_word v feed deposit) row) (run_here r d f v feed deposit)
-    (implied (is_lawful Z1 v) (same_answer (first_refusal (run_word v feed deposit) row) (run_here r d f v feed deposit)) each (lawful_at s sound Z1))
+abbrev run_of : Bool → Bool → Bool → Row (ZoneState × (Bool × Bool))
+run_of r d f = record {
+  row = run_row r d f;
+  window = bit_or (bit_or (zone_window Z1) (place_window FeedEnd)) (place_window DepEnd);
+  word = λ x. bit_or (bit_or (zone_word Z1 x.0) (place_word FeedEnd x.1.0)) (place_word DepEnd x.1.1);
+  may = λ x. is_lawful Z1 x.0;
+  here = λ x. run_here r d f x.0 x.1.0 x.1.1;
+}
 
 runs_seen : (s : ModelState) → IsSound s → (m : Machine) (p : Pose) → first_refusal (packed s) (guards.run_guards m p) ≡ Refusals.runs_onto_plate s m p
-runs_seen s sound m p = run_seen s sound (same_pose p Running) (same_machine m Deposit) (same_machine m Feed)
+runs_seen s sound m p =
+    let values = pairs states (pairs bools bools) in
+    let test = holds3 bools bools bools (λ r d f. row_test values (run_of r d f)) refl (same_pose p Running) (same_machine m Deposit) (same_machine m Feed) in
+    row_seen values (run_of (same_pose p Running) (same_machine m Deposit) (same_machine m Feed)) test (packed s) (zone_at s Z1, (is_full s FeedEnd, is_full s DepEnd)) (lawful_at s sound Z1)
+    (and_or (packed s) (bit_or (zone_window Z1) (place_window FeedEnd)) (place_window DepEnd) ∙ ap₂ bit_or (zone_and_place_shown s sound Z1 FeedEnd) (place_shown s sound DepEnd))
 
 -- ---- a pose that moves while the cell is stopped
 moving_by : (s : ModelState) → IsSound s → (moving : Bool) → first_refusal (packed s) (guard (when moving (mark_is true)) Stopped ∷ []) ≡ then_some (moving && s.stopped) Stopped
@@ -371,52 +284,34 @@ later_guards m p one other =
     ++ guards.worn
     ∷ []
 
-paired : (o a b x : Option Refusal) → option_or a b ≡ x → option_or (option_or o a) b ≡ option_or o x
-paired o a b x e = sym (or_assoc o a b) ∙ ap (option_or o) e
-
 appended : (w : ℕ) (a : List Guard) (x : Option Refusal) (b : List Guard) (y : Option Refusal) → first_refusal w a ≡ x → first_refusal w b ≡ y → first_refusal w (a ++ b) ≡ option_or x y
 appended w a x b y e f = first-append w a b ∙ ap₂ option_or e f
+
+-- ten rows in a row, of which the first eight go in pairs
+in_pairs : (w : ℕ) (a b c d e g h i j k : List Guard) (u p n o r t : Option Refusal) → option_or (first_refusal w a) (first_refusal w b) ≡ u → option_or (first_refusal w c) (first_refusal w d) ≡ p
+    → option_or (first_refusal w e) (first_refusal w g) ≡ n → option_or (first_refusal w h) (first_refusal w i) ≡ o → first_refusal w j ≡ r → first_refusal w k ≡ t
+    → first_refusal w (a ++ b ++ c ++ d ++ e ++ g ++ h ++ i ++ j ++ k) ≡ option_or (option_or (option_or (option_or (option_or u p) n) o) r) t
+in_pairs w a b c d e g h i j k u p n o r t ku kp kn ko kr kt = simp (first-append, ← ku, ← kp, ← kn, ← ko, ← kr, ← kt, or_assoc)
 
 later_seen : (s : ModelState) → IsSound s → (m : Machine) (p : Pose) → Refusals.has_pose m p ≡ true
     → first_refusal (packed s) (later_guards m p (guards.posed_at m p (guards.hosted_zones m).0) (guards.posed_at m p (guards.hosted_zones m).1))
     ≡ option_or (option_or (option_or (option_or (option_or (Refusals.first_zone (Refusals.unowned_by_pose s m p)) (Refusals.first_zone (Refusals.plate_under_pose s m p))) (Refusals.jump s m p))
     (Refusals.first_zone (Refusals.opens_onto_plate s m p))) (Refusals.runs_onto_plate s m p)) (Refusals.worn s)
 later_seen s sound m p has =
-    let w = packed s in
-    let one = guards.posed_at m p (guards.hosted_zones m).0 in
-    let other = guards.posed_at m p (guards.hosted_zones m).1 in
-    let f = first_refusal w in
-    let o1 = guards.on_posed guards.owner_guards one in
-    let o2 = guards.on_posed guards.owner_guards other in
-    let p1 = guards.on_posed guards.plate_guards one in
-    let p2 = guards.on_posed guards.plate_guards other in
-    let j1 = guards.on_posed (guards.jump_guards m p) one in
-    let j2 = guards.on_posed (guards.jump_guards m p) other in
-    let n1 = guards.on_posed guards.opening_guards one in
-    let n2 = guards.on_posed guards.opening_guards other in
-    let passes = Refusals.passes_through_moving m && not (Refusals.is_moving_pose p) in
     let moves = Refusals.moves_at s m in
-    let owners : option_or (f o1) (f o2) ≡ Refusals.first_zone (Refusals.unowned_by_pose s m p) = of_zones s m p has guards.owner_guards (Refusals.unowned_by_pose s m p) (owner_seen s sound m p) (owner_apart s m p) in
-    let plates : option_or (f p1) (f p2) ≡ Refusals.first_zone (Refusals.plate_under_pose s m p) = of_zones s m p has guards.plate_guards (Refusals.plate_under_pose s m p) (plate_seen s sound m p) (plate_apart s m p) in
-    let jumps : option_or (f j1) (f j2) ≡ Refusals.jump s m p =
-    of_zones s m p has (guards.jump_guards m p) (jump_at s m p) (jump_seen s sound m p) (jump_apart s m p) ∙ jumps_all passes (moves Z1) (moves Z2) (moves Z3) (moves Z4) (moves Z5) (moves Z6) in
-    let rooms : option_or (f n1) (f n2) ≡ Refusals.first_zone (Refusals.opens_onto_plate s m p) = of_zones s m p has guards.opening_guards (Refusals.opens_onto_plate s m p) (opening_seen s sound m p) (opening_apart s m p) in
-    let e1 : f (o1 ++ o2) ≡ Refusals.first_zone (Refusals.unowned_by_pose s m p) = first-append w o1 o2 ∙ owners in
-    let e2 = appended w (o1 ++ o2) _ p1 (f p1) e1 refl in
-    let e3 = appended w (o1 ++ o2 ++ p1) _ p2 (f p2) e2 refl ∙ paired _ (f p1) (f p2) _ plates in
-    let e4 = appended w (o1 ++ o2 ++ p1 ++ p2) _ j1 (f j1) e3 refl in
-    let e5 = appended w (o1 ++ o2 ++ p1 ++ p2 ++ j1) _ j2 (f j2) e4 refl ∙ paired _ (f j1) (f j2) _ jumps in
-    let e6 = appended w (o1 ++ o2 ++ p1 ++ p2 ++ j1 ++ j2) _ n1 (f n1) e5 refl in
-    let e7 = appended w (o1 ++ o2 ++ p1 ++ p2 ++ j1 ++ j2 ++ n1) _ n2 (f n2) e6 refl ∙ paired _ (f n1) (f n2) _ rooms in
-    let e8 = appended w (o1 ++ o2 ++ p1 ++ p2 ++ j1 ++ j2 ++ n1 ++ n2) _ (guards.run_guards m p) _ e7 (runs_seen s sound m p) in
-    appended w (o1 ++ o2 ++ p1 ++ p2 ++ j1 ++ j2 ++ n1 ++ n2 ++ guards.run_guards m p) _ (guards.worn ∷ []) _ e8 (worn_seen s sound)
+    in_pairs (packed s) _ _ _ _ _ _ _ _ (guards.run_guards m p) (guards.worn ∷ []) _ _ _ _ _ _
+    (of_zones s m p has guards.owner_guards (Refusals.unowned_by_pose s m p) (owner_seen s sound m p) (owner_apart s m p))
+    (of_zones s m p has guards.plate_guards (Refusals.plate_under_pose s m p) (plate_seen s sound m p) (plate_apart s m p))
+    (of_zones s m p has (guards.jump_guards m p) (jump_at s m p) (jump_seen s sound m p) (jump_apart s m p)
+    ∙ jumps_all (Refusals.passes_through_moving m && not (Refusals.is_moving_pose p)) (moves Z1) (moves Z2) (moves Z3) (moves Z4) (moves Z5) (moves Z6))
+    (of_zones s m p has guards.opening_guards (Refusals.opens_onto_plate s m p) (opening_seen s sound m p) (opening_apart s m p))
+    (runs_seen s sound m p) (worn_seen s sound)
 
 spread : (l k u p j o r w : Option Refusal)
     → option_or l (option_or k (option_or (option_or (option_or (option_or (option_or u p) j) o) r) w))
     ≡ option_or (option_or (option_or (option_or (option_or (option_or (option_or l k) u) p) j) o) r) w
 spread None None u p j o r w = refl
-spread None (Some x) u p j o r w = refl
-spread (Some x) k u p j o r w = refl
+spread _ _ u p j o r w = refl
 
 pub pose_holds : (s : ModelState) → IsSound s → (m : Machine) (p : Pose) → first_refusal (packed s) (guards.pose_guards m p) ≡ Refusals.pose_refusal s m p
 pose_holds s sound m p =
@@ -459,9 +354,6 @@ press_row m z = guards.unowned z ∷ guards.anothers z (guest_of z) ∷ []
 abbrev press_here : Machine → Zone → ZoneState → Option Refusal
 press_here m z v = then_some (not (is_owned_by v.owner (host_of z))) (NotOwner v.owner)
 
-press_tests : zone_tests press_row press_here Press Z3 ≡ true
-press_tests = refl
-
 pub advance_holds : (s : ModelState) → IsSound s → (m : Machine) → first_refusal (packed s) (guards.advance_guards m) ≡ Refusals.advance_refusal s m
 advance_holds s sound Feed =
     ended s sound (differing NotAtWork Z6 Moving) (differs_here NotAtWork Z6 Moving (zone_at s Z6)) FeedEntry FeedEnd
@@ -476,8 +368,5 @@ advance_holds s sound Deposit =
 advance_holds s sound Press =
     ended s sound (press_row Press Z3 ++ differing NotAtWork Z3 Closed) (option_or (press_here Press Z3 (zone_at s Z3)) (Refusals.not_at_work s Press)) PressIn PressOut
     (first-append (packed s) (press_row Press Z3) (differing NotAtWork Z3 Closed)
-    ∙ ap₂ option_or (zone_seen press_row press_here s sound Press Z3 press_tests) (posed_seen (differing NotAtWork) (differs_here NotAtWork) work_table s sound Z3 Closed))
-advance_holds s sound TableMachine = always_seen (packed s) true NoPose
-advance_holds s sound Robot = always_seen (packed s) true NoPose
-advance_holds s sound CraneMachine = always_seen (packed s) true NoPose
-advance_holds s sound Watch = always_seen (packed s) true NoPose
+    ∙ ap₂ option_or (zone_seen Z3 (press_row Press Z3) (press_here Press Z3) refl s sound) (posed_seen (differing NotAtWork) (differs_here NotAtWork) work_table s sound Z3 Closed))
+advance_holds s sound m = always_seen (packed s) true NoPose

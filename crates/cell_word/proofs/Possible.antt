@@ -1,69 +1,39 @@
 -- A call that writes something is Done on some state.
-use Rattle.std.proofs.Common.{◌≡◌, ℕ, Bool, true, false, ◌||◌, ◌&&◌, nat_eq, nat_lt, ◌<◌, ◌^◌, Option, Some, None, is_some, refl, eqb-true, ltb-true, if◌then◌else◌}
-use Rattle.std.specs.Prelude.{◌≢◌, IsTrue}
-use Rattle.cell_rules.specs.Types.{Machine, Press, Zone, Place, Transfer, Posture, Closed, Moving, OpenIn, OpenOut}
-use Rattle.cell_rules.specs.Types.{Call, Claim, Give, Yield, Take, Release, SetPose, Advance, Inquire, Stop, Resume}
-use Rattle.cell_rules.specs.Types.{Answer, Done, Shown, Refused, host_of, transfer_of, same_machine, own_move_of}
-use Rattle.cell_rules.specs.Names.{put_zone, map_zones, everywhere, free_zone, PlaceSet, empty, insert_place}
-use Rattle.cell_rules.specs.Names.{ModelState, model_state, IsSound, implies, is_sound, given_by, reply, has_call}
-use Rattle.cell_rules.specs.declared.zones.ZoneState.{ZoneState}
-use Rattle.cell_rules.proofs.Tables.{and_left, and_right, implied, all_machines, from_machines, all_zones, from_zones, all_poses, from_poses}
-use Rattle.cell_rules.proofs.Tested.{sound_by_test}
-use Rattle.cell_word.specs.Layout.{stamp_bit}
-use Rattle.cell_word.specs.Reading.{bits_of}
-use Rattle.cell_word.specs.Laws.{IsOffStamp}
-use Rattle.cell_word.specs.Guards.{row_given}
-use Rattle.cell_word.specs.Changes.{written, received_by}
-use Rattle.cell_word.specs.declared.patterns.Pattern.{Pattern}
+use Rattle.cell_word.proofs.Names.{◌≡◌, ℕ, Bool, true, false, ◌||◌, ◌&&◌, nat_eq, nat_lt, ◌<◌, ◌^◌, Option, Some, None, is_some, refl, eqb-true, ltb-true, if◌then◌else◌, ◌≢◌, IsTrue, list_all, and_parts, Machine, Press, Zone, Place}
+use Rattle.cell_word.proofs.Names.{Transfer, Posture, Closed, Moving, OpenIn, OpenOut, Call, Claim, Give, Yield, Take, Release, SetPose, Advance, Inquire, Stop, Resume, Answer, Done, Shown, Refused, host_of, transfer_of, same_machine}
+use Rattle.cell_word.proofs.Names.{own_move_of, put_zone, map_zones, PlaceSet, empty, insert_place, ModelState, model_state, IsSound, implies, is_sound, given_by, reply, has_call, ZoneState, and_left, and_right, implied, Finite, Passed}
+use Rattle.cell_word.proofs.Names.{passed, all_zones, from_zones, all_poses, from_poses, machines, holds2, sound_by_test, stamp_bit, bits_of, IsOffStamp, row_given, written, received_by, Pattern}
+use Rattle.std.specs.Prelude.{List, [], ◌∷◌}
+use Rattle.cell_rules.specs.Names.{everywhere, free_zone}
 
 -- ---- a test of all calls
 abbrev each : (Call → Bool) → (Zone → Call) → Bool
 each P call = all_zones (λ z. P (call z))
 
-abbrev marks_on : (Call → Bool) → Bool
-marks_on P = P Stop && P Resume
+abbrev about_zones : List (Zone → Call)
+about_zones = Claim ∷ Give ∷ Yield ∷ Take ∷ Release ∷ Inquire ∷ []
 
-abbrev inquires_on : (Call → Bool) → Bool
-inquires_on P = each P Inquire && marks_on P
-
-abbrev poses_on : (Call → Bool) → Bool
-poses_on P = all_poses (λ p. P (SetPose p)) && (P Advance && inquires_on P)
-
-abbrev takes_on : (Call → Bool) → Bool
-takes_on P = each P Take && (each P Release && poses_on P)
-
-abbrev gives_on : (Call → Bool) → Bool
-gives_on P = each P Give && (each P Yield && takes_on P)
+abbrev all_others : (Call → Bool) → Bool
+all_others P = all_poses (λ p. P (SetPose p)) && list_all P (Advance ∷ Stop ∷ Resume ∷ [])
 
 abbrev pub all_calls : (Call → Bool) → Bool
-all_calls P = each P Claim && gives_on P
+all_calls P = list_all (each P) about_zones && all_others P
 
-by_call : (P : Call → Bool) → each P Claim ≡ true → each P Give ≡ true → each P Yield ≡ true → each P Take ≡ true → each P Release ≡ true → all_poses (λ p. P (SetPose p)) ≡ true → P Advance ≡ true
-    → each P Inquire ≡ true → P Stop ≡ true → P Resume ≡ true → (c : Call) → P c ≡ true
-by_call P claims gives yields takes releases poses work inquiries stop resume (Claim z) = from_zones (λ z. P (Claim z)) claims z
-by_call P claims gives yields takes releases poses work inquiries stop resume (Give z) = from_zones (λ z. P (Give z)) gives z
-by_call P claims gives yields takes releases poses work inquiries stop resume (Yield z) = from_zones (λ z. P (Yield z)) yields z
-by_call P claims gives yields takes releases poses work inquiries stop resume (Take z) = from_zones (λ z. P (Take z)) takes z
-by_call P claims gives yields takes releases poses work inquiries stop resume (Release z) = from_zones (λ z. P (Release z)) releases z
-by_call P claims gives yields takes releases poses work inquiries stop resume (SetPose p) = from_poses (λ p. P (SetPose p)) poses p
-by_call P claims gives yields takes releases poses work inquiries stop resume Advance = work
-by_call P claims gives yields takes releases poses work inquiries stop resume (Inquire z) = from_zones (λ z. P (Inquire z)) inquiries z
-by_call P claims gives yields takes releases poses work inquiries stop resume Stop = stop
-by_call P claims gives yields takes releases poses work inquiries stop resume Resume = resume
+about_each : (P : Call → Bool) → all_calls P ≡ true → Passed (each P) about_zones
+about_each P e = passed (each P) about_zones (and_left (list_all (each P) about_zones) (all_others P) e)
 
 pub from_calls : (P : Call → Bool) → all_calls P ≡ true → (c : Call) → P c ≡ true
-from_calls P e =
-    let gives = and_right (each P Claim) (gives_on P) e in
-    let yields = and_right (each P Give) (each P Yield && takes_on P) gives in
-    let takes = and_right (each P Yield) (takes_on P) yields in
-    let releases = and_right (each P Take) (each P Release && poses_on P) takes in
-    let poses = and_right (each P Release) (poses_on P) releases in
-    let works = and_right (all_poses (λ p. P (SetPose p))) (P Advance && inquires_on P) poses in
-    let inquiries = and_right (P Advance) (inquires_on P) works in
-    let marks = and_right (each P Inquire) (marks_on P) inquiries in
-    by_call P (and_left (each P Claim) (gives_on P) e) (and_left (each P Give) (each P Yield && takes_on P) gives) (and_left (each P Yield) (takes_on P) yields)
-    (and_left (each P Take) (each P Release && poses_on P) takes) (and_left (each P Release) (poses_on P) releases) (and_left (all_poses (λ p. P (SetPose p))) (P Advance && inquires_on P) poses)
-    (and_left (P Advance) (inquires_on P) works) (and_left (each P Inquire) (marks_on P) inquiries) (and_left (P Stop) (P Resume) marks) (and_right (P Stop) (P Resume) marks)
+from_calls P e (Claim z) = from_zones (λ z. P (Claim z)) (about_each P e).0 z
+from_calls P e (Give z) = from_zones (λ z. P (Give z)) (about_each P e).1.0 z
+from_calls P e (Yield z) = from_zones (λ z. P (Yield z)) (about_each P e).1.1.0 z
+from_calls P e (Take z) = from_zones (λ z. P (Take z)) (about_each P e).1.1.1.0 z
+from_calls P e (Release z) = from_zones (λ z. P (Release z)) (about_each P e).1.1.1.1.0 z
+from_calls P e (Inquire z) = from_zones (λ z. P (Inquire z)) (about_each P e).1.1.1.1.1.0 z
+from_calls P e (SetPose p) = from_poses (λ p. P (SetPose p)) (and_left _ _ (and_right (list_all (each P) about_zones) (all_others P) e)) p
+from_calls P e _ = assumption (passed P (Advance ∷ Stop ∷ Resume ∷ []) (and_right (all_poses (λ p. P (SetPose p))) _ (and_right (list_all (each P) about_zones) (all_others P) e)))
+
+abbrev pub calls : Finite Call
+calls = record { all = all_calls; holds = from_calls }
 
 -- ---- states in which a call finds what it needs
 abbrev at : Option Machine → Bool → Posture → ZoneState
@@ -106,8 +76,7 @@ is_done (Refused _) = false
 
 done : (a : Answer) → is_done a ≡ true → a ≡ Done
 done Done e = refl
-done (Shown o f q) e = cc
-done (Refused r) e = cc
+done _ e = cc
 
 abbrev writes_nothing : Pattern → Bool
 writes_nothing p = nat_eq p.mask 0 && nat_eq p.wanted 0
@@ -118,21 +87,17 @@ may_be_done s m c = is_sound s && is_done (reply s m c)
 abbrev possible_test : Machine → Call → Bool
 possible_test m c = writes_nothing (written m c) || may_be_done (example m c) m c
 
-possible_table : all_machines (λ m. all_calls (possible_test m)) ≡ true
-possible_table = refl
-
 untouched : (p : Pattern) (b d : Bool) → writes_nothing p ≡ b → (b || d) ≡ true → (d ≡ true → ⊥) → ◌≡◌ {A = ℕ × ℕ} (p.mask, p.wanted) (0, 0)
 untouched p true d e test never =
-    let mask = eqb-true p.mask 0 (and_left (nat_eq p.mask 0) (nat_eq p.wanted 0) e) in
-    let wanted = eqb-true p.wanted 0 (and_right (nat_eq p.mask 0) (nat_eq p.wanted 0) e) in
-    λ i. (mask i, wanted i)
+    let none = and_parts (nat_eq p.mask 0) (nat_eq p.wanted 0) e in
+    λ i. (eqb-true p.mask 0 none.0 i, eqb-true p.wanted 0 none.1 i)
 untouched p false d e test never = absurd (never test)
 
 pub never_written : (m : Machine) (c : Call) → ((s : ModelState) → IsSound s → reply s m c ≢ Done) → ◌≡◌ {A = ℕ × ℕ} ((written m c).mask, (written m c).wanted) (0, 0)
 never_written m c never =
     let s = example m c in
-    untouched (written m c) (writes_nothing (written m c)) (may_be_done s m c) refl (from_calls (possible_test m) (from_machines (λ m. all_calls (possible_test m)) possible_table m) c)
-    (λ e. never s (sound_by_test s (and_left (is_sound s) (is_done (reply s m c)) e)) (done (reply s m c) (and_right (is_sound s) (is_done (reply s m c)) e)))
+    untouched (written m c) (writes_nothing (written m c)) (may_be_done s m c) refl (holds2 machines calls possible_test refl m c)
+    (λ e. let both = and_parts (is_sound s) (is_done (reply s m c)) e in never s (sound_by_test s both.0) (done (reply s m c) both.1))
 
 -- no call writes into the stamp, or above the mark
 abbrev is_off_stamp : ℕ → Bool
@@ -140,33 +105,22 @@ is_off_stamp n = nat_lt n 0x2000000000000000 && nat_eq (bits_of n stamp_bit 20) 
 
 off_stamp : (n : ℕ) → is_off_stamp n ≡ true → IsOffStamp n
 off_stamp n e =
-    let below = nat_lt n 0x2000000000000000 in
-    let clear = nat_eq (bits_of n stamp_bit 20) 0 in
-    (ltb-true n 0x2000000000000000 (and_left below clear e), eqb-true (bits_of n stamp_bit 20) 0 (and_right below clear e))
+    let both = and_parts (nat_lt n 0x2000000000000000) (nat_eq (bits_of n stamp_bit 20) 0) e in
+    (ltb-true n 0x2000000000000000 both.0, eqb-true (bits_of n stamp_bit 20) 0 both.1)
 
 abbrev off_test : Machine → Call → Bool
 off_test m c = is_off_stamp (written m c).mask && is_off_stamp (written m c).wanted
 
-off_table : all_machines (λ m. all_calls (off_test m)) ≡ true
-off_table = refl
-
 pub written_off : (m : Machine) (c : Call) → IsOffStamp (written m c).mask × IsOffStamp (written m c).wanted
 written_off m c =
-    let mask = is_off_stamp (written m c).mask in
-    let wanted = is_off_stamp (written m c).wanted in
-    let off = from_calls (off_test m) (from_machines (λ m. all_calls (off_test m)) off_table m) c in
-    (off_stamp (written m c).mask (and_left mask wanted off), off_stamp (written m c).wanted (and_right mask wanted off))
+    let off = and_parts (is_off_stamp (written m c).mask) (is_off_stamp (written m c).wanted) (holds2 machines calls off_test refl m c) in
+    (off_stamp (written m c).mask off.0, off_stamp (written m c).wanted off.1)
 
 -- a call of the first version writes below the stamp
 abbrev low_test : Machine → Call → Bool
 low_test m c = implies (has_call c) (nat_lt (written m c).mask 0x10000000000 && nat_lt (written m c).wanted 0x10000000000)
 
-low_table : all_machines (λ m. all_calls (low_test m)) ≡ true
-low_table = refl
-
 pub written_low : (m : Machine) (c : Call) → IsTrue (has_call c) → ((written m c).mask < 2 ^ 40) × ((written m c).wanted < 2 ^ 40)
 written_low m c old =
-    let mask = nat_lt (written m c).mask 0x10000000000 in
-    let wanted = nat_lt (written m c).wanted 0x10000000000 in
-    let low = implied (has_call c) (mask && wanted) (from_calls (low_test m) (from_machines (λ m. all_calls (low_test m)) low_table m) c) old in
-    (ltb-true (written m c).mask 0x10000000000 (and_left mask wanted low), ltb-true (written m c).wanted 0x10000000000 (and_right mask wanted low))
+    let low = and_parts (nat_lt (written m c).mask 0x10000000000) (nat_lt (written m c).wanted 0x10000000000) (implied (has_call c) _ (holds2 machines calls low_test refl m c) old) in
+    (ltb-true (written m c).mask 0x10000000000 low.0, ltb-true (written m c).wanted 0x10000000000 low.1)

@@ -1,17 +1,10 @@
 -- The word of a sound state encodes that state.
-use Rattle.std.proofs.Common.{◌≡◌, ℕ, ◌+◌, ◌<◌, ◌≤◌, Bool, true, false, ◌||◌, if◌then◌else◌, nat_eq, Option, Some, None, is_none, List, [], ◌∷◌, ◌++◌, map, get_or, refl, sym, ap, ◌∙◌, subst, arith, rules, ◌↔◌}
-use Rattle.std.specs.List.{All, flat_map}
-use Rattle.std.proofs.lemmas.List.Elements.{All-nil, All-cons, All-append, All-map}
-use Rattle.cell_rules.specs.Types.{Machine, Zone, Z1, Z2, Z3, Z4, Z5, Z6, Place, FeedEntry, FeedEnd, Arm1, PressIn}
-use Rattle.cell_rules.specs.Types.{PressOut, Arm2, DepEntry, DepEnd, Posture, Closed, Moving, OpenIn, OpenOut}
-use Rattle.cell_rules.specs.Types.{host_of, guest_of, same_machine, one_machine, all_zones, all_places}
-use Rattle.cell_types.specs.declared.place.Place.TheVariants.{Table, Crane}
-use Rattle.cell_rules.specs.Names.{ModelState, zone_at, is_full, one_if, last_stamp, IsSound, has_lawful_owner}
-use Rattle.cell_rules.specs.Names.{is_owned_by}
-use Rattle.cell_rules.specs.declared.zones.ZoneState.{ZoneState}
-use Rattle.cell_word.specs.Layout.{Field, field, zone_bit, place_bit, stamp_bit, mark_bit, owner_code, posture_code, zone_fields, fields_at, place_field, last_fields, fields_of, packed}
-use Rattle.cell_word.specs.Reading.{bits_of, owner_of_code, posture_of_code, is_bit_set, is_told_full, zone_told, state_told}
-use Rattle.cell_word.specs.Laws.{Fits, SideBySide, ReadsBack, IsLaidOut}
+use Rattle.cell_word.proofs.Names.{◌≡◌, ℕ, ◌+◌, ◌-◌, ◌*◌, ◌/◌, ◌<◌, ◌≤◌, Bool, true, false, ◌||◌, if◌then◌else◌, nat_eq, Option, Some, None, is_none, List, [], ◌∷◌, ◌++◌, map, get_or, refl, sym, ap, ◌∙◌, subst, arith, rules, ◌↔◌, All}
+use Rattle.cell_word.proofs.Names.{flat_map, All-nil, All-cons, All-append, All-map, Machine, Zone, Z1, Z2, Z3, Z4, Z5, Z6, Place, FeedEntry, FeedEnd, Arm1, PressIn, PressOut, Arm2, DepEntry, DepEnd, Posture, Closed, Moving, OpenIn}
+use Rattle.cell_word.proofs.Names.{OpenOut, host_of, guest_of, same_machine, one_machine, all_places, Table, Crane, ModelState, zone_at, is_full, one_if, last_stamp, IsSound, has_lawful_owner, is_owned_by, ZoneState, Field, field, zone_bit}
+use Rattle.cell_word.proofs.Names.{place_bit, stamp_bit, mark_bit, owner_code, posture_code, zone_fields, fields_at, place_field, last_fields, fields_of, packed, bits_of, owner_of_code, posture_of_code, is_bit_set, is_told_full, zone_told}
+use Rattle.cell_word.proofs.Names.{state_told, Fits, SideBySide, ReadsBack, IsLaidOut}
+use Rattle.cell_rules.specs.Types.{all_zones}
 use Rattle.cell_word.proofs.Fields.{whole_word_below, whole_word_back}
 
 -- ---- each field fits
@@ -25,9 +18,7 @@ flag_fits false = omega arith
 
 pub posture_fits : (p : Posture) → posture_code p < 4
 posture_fits Closed = omega arith
-posture_fits Moving = omega arith
-posture_fits OpenIn = omega arith
-posture_fits OpenOut = omega arith
+posture_fits _ = omega arith
 
 pub All-flat_map : {X A : Type 0} (P : A → Type 0) (f : X → List A) (xs : List X) → ((x : X) → All P (f x)) → All P (flat_map f xs)
 All-flat_map P f [] h = All-nil P
@@ -36,19 +27,19 @@ All-flat_map P f (x ∷ xs) h = All-append P (f x) (flat_map f xs) (h x) (All-fl
 pub all_three : (P : Field → Type 0) (a b c : Field) → P a → P b → P c → All P (a ∷ b ∷ c ∷ [])
 all_three P a b c ha hb hc = All-cons P a (b ∷ c ∷ []) ha (All-cons P b (c ∷ []) hb (All-cons P c [] hc (All-nil P)))
 
+pub all_fields : (P : Field → Type 0) (s : ModelState) → ((z : Zone) → All P (fields_at s z)) → ((p : Place) → P (place_field s p)) → P (field stamp_bit 20 s.stamp) → P (field mark_bit 1 (one_if s.stopped)) → All P (fields_of s)
+all_fields P s zone place stamp mark =
+    All-append P (flat_map (fields_at s) all_zones ++ map (place_field s) all_places) (last_fields s)
+    (All-append P (flat_map (fields_at s) all_zones) (map (place_field s) all_places) (All-flat_map P (fields_at s) all_zones zone) (All-map P (place_field s) all_places (λ k d inside. place (get_or all_places k d))))
+    (All-cons P (field stamp_bit 20 s.stamp) (field mark_bit 1 (one_if s.stopped) ∷ []) stamp (All-cons P (field mark_bit 1 (one_if s.stopped)) [] mark (All-nil P)))
+
 zone_fits : (z : Zone) (v : ZoneState) → All Fits (zone_fields z v)
 zone_fits z v =
     all_three Fits (field (zone_bit z) 2 (owner_code z v.owner)) (field (zone_bit z + 2) 1 (one_if v.flag)) (field (zone_bit z + 3) 2 (posture_code v.posture))
     (owner_fits z v.owner) (flag_fits v.flag) (posture_fits v.posture)
 
 fields_fit : (s : ModelState) → s.stamp ≤ last_stamp → All Fits (fields_of s)
-fields_fit s small =
-    let zones : All Fits (flat_map (fields_at s) all_zones) = All-flat_map Fits (fields_at s) all_zones (λ z. zone_fits z (zone_at s z)) in
-    let places : All Fits (map (place_field s) all_places) = All-map Fits (place_field s) all_places (λ k d inside. flag_fits (is_full s (get_or all_places k d))) in
-    let mark : All Fits (field mark_bit 1 (one_if s.stopped) ∷ []) = All-cons Fits (field mark_bit 1 (one_if s.stopped)) [] (flag_fits s.stopped) (All-nil Fits) in
-    let last : All Fits (last_fields s) = All-cons Fits (field stamp_bit 20 s.stamp) (field mark_bit 1 (one_if s.stopped) ∷ []) (omega arith) mark in
-    All-append Fits (flat_map (fields_at s) all_zones ++ map (place_field s) all_places) (last_fields s)
-    (All-append Fits (flat_map (fields_at s) all_zones) (map (place_field s) all_places) zones places) last
+fields_fit s small = all_fields Fits s (λ z. zone_fits z (zone_at s z)) (λ p. flag_fits (is_full s p)) (omega arith) (flag_fits s.stopped)
 
 pub side_by_side : (s : ModelState) → SideBySide 0 61 (fields_of s)
 side_by_side s = search rules
@@ -69,7 +60,7 @@ some_owner : (z : Zone) (m : Machine) (b c : Bool) → same_machine m (host_of z
     → owner_of_code z (if b then 1 else 2) ≡ Some m
 some_owner z m true c e f h = ap Some (sym (one_machine m (host_of z) e))
 some_owner z m false true e f h = ap Some (sym (one_machine m (guest_of z) f))
-some_owner z m false false e f h = cc
+some_owner z m _ _ e f h = cc
 
 owner_back : (z : Zone) (o : Option Machine) → (is_none o || is_owned_by o (host_of z) || is_owned_by o (guest_of z)) ≡ true → owner_of_code z (owner_code z o) ≡ o
 owner_back z None h = refl
@@ -81,9 +72,7 @@ flag_back false = refl
 
 posture_back : (p : Posture) → posture_of_code (posture_code p) ≡ p
 posture_back Closed = refl
-posture_back Moving = refl
-posture_back OpenIn = refl
-posture_back OpenOut = refl
+posture_back _ = refl
 
 -- ---- a zone, and a state
 zone_back : (w : ℕ) (z : Zone) (v : ZoneState) → has_lawful_owner z v ≡ true → bits_of w (zone_bit z) 2 ≡ owner_code z v.owner → bits_of w (zone_bit z + 2) 1 ≡ one_if v.flag
@@ -108,26 +97,16 @@ pub record ZoneRead (w : ℕ) (z : Zone) (v : ZoneState) : Type 0 where
 
 pub zone_fields_read : (s : ModelState) → IsSound s → (z : Zone) → ZoneRead (packed s) z (zone_at s z)
 zone_fields_read s sound Z1 = record { owner = read s sound 0 (omega arith); flag = read s sound 1 (omega arith); posture = read s sound 2 (omega arith) }
-zone_fields_read s sound Z2 = record { owner = read s sound 3 (omega arith); flag = read s sound 4 (omega arith); posture = read s sound 5 (omega arith) }
-zone_fields_read s sound Z3 = record { owner = read s sound 6 (omega arith); flag = read s sound 7 (omega arith); posture = read s sound 8 (omega arith) }
-zone_fields_read s sound Z4 = record { owner = read s sound 9 (omega arith); flag = read s sound 10 (omega arith); posture = read s sound 11 (omega arith) }
-zone_fields_read s sound Z5 = record { owner = read s sound 12 (omega arith); flag = read s sound 13 (omega arith); posture = read s sound 14 (omega arith) }
-zone_fields_read s sound Z6 = record { owner = read s sound 15 (omega arith); flag = read s sound 16 (omega arith); posture = read s sound 17 (omega arith) }
+zone_fields_read s sound z =
+    let k = zone_bit z / 5 * 3 in
+    record { owner = read s sound k (omega arith); flag = read s sound (k + 1) (omega arith); posture = read s sound (k + 2) (omega arith) }
 
 pub zone_read : (s : ModelState) → IsSound s → (z : Zone) → zone_told (packed s) z ≡ zone_at s z
 zone_read s sound z = let r = zone_fields_read s sound z in zone_back (packed s) z (zone_at s z) (sound.owner_is_party z) r.owner r.flag r.posture
 
 pub place_field_read : (s : ModelState) → IsSound s → (p : Place) → bits_of (packed s) (place_bit p) 1 ≡ one_if (is_full s p)
 place_field_read s sound FeedEntry = read s sound 18 (omega arith)
-place_field_read s sound FeedEnd = read s sound 19 (omega arith)
-place_field_read s sound Table = read s sound 20 (omega arith)
-place_field_read s sound Arm1 = read s sound 21 (omega arith)
-place_field_read s sound PressIn = read s sound 22 (omega arith)
-place_field_read s sound PressOut = read s sound 23 (omega arith)
-place_field_read s sound Arm2 = read s sound 24 (omega arith)
-place_field_read s sound DepEntry = read s sound 25 (omega arith)
-place_field_read s sound DepEnd = read s sound 26 (omega arith)
-place_field_read s sound Crane = read s sound 27 (omega arith)
+place_field_read s sound p = read s sound (place_bit p - 12) (omega arith)
 
 place_read : (s : ModelState) → IsSound s → (p : Place) → is_told_full (packed s) p ≡ is_full s p
 place_read s sound p = bit_back (packed s) (place_bit p) (is_full s p) (place_field_read s sound p)

@@ -1,10 +1,6 @@
 -- Tests whether two refusals, or two rows of transfers, are the same.
-use Rattle.std.proofs.Common.{◌≡◌, Bool, true, false, ◌&&◌, not, Option, Some, None, refl, ap}
-use Rattle.cell_rules.specs.Types.{Machine, Transfer, Refusal, NotParty, Held, AlreadyMine, Shut, NotOwner}
-use Rattle.cell_rules.specs.Types.{PlateInZone, NoPlate, PlaceFull, WrongWay, Jump, NotAtWork, NoPose, Worn, InUse}
-use Rattle.cell_rules.specs.Types.{Stopped, NotStopped, same_machine, same_zone, same_place, same_posture}
-use Rattle.cell_rules.specs.Types.{one_machine, one_zone, one_place, one_posture}
-use Rattle.cell_rules.proofs.Tables.{and_left, and_right}
+use Rattle.cell_word.proofs.Names.{◌≡◌, Bool, true, false, ◌&&◌, not, Option, Some, None, refl, ap, Machine, Transfer, Refusal, NotParty, Held, AlreadyMine, Shut, NotOwner, PlateInZone, NoPlate, PlaceFull, WrongWay, Jump, NotAtWork, NoPose}
+use Rattle.cell_word.proofs.Names.{Worn, InUse, Stopped, NotStopped, same_machine, same_zone, same_place, same_posture, one_machine, one_zone, one_place, one_posture, and_left, and_right}
 
 abbrev pub same_bool : Bool → Bool → Bool
 same_bool b true = b
@@ -13,8 +9,7 @@ same_bool b false = not b
 pub one_bool : (a b : Bool) → same_bool a b ≡ true → a ≡ b
 one_bool true true e = refl
 one_bool false false e = refl
-one_bool true false e = cc
-one_bool false true e = cc
+one_bool _ _ e = cc
 
 abbrev pub same_refusal : Refusal → Refusal → Bool
 same_refusal NotParty NotParty = true
@@ -37,23 +32,12 @@ same_refusal (PlateInZone y) (PlateInZone z) = same_zone y z
 same_refusal _ _ = false
 
 one_refusal : (a b : Refusal) → same_refusal a b ≡ true → a ≡ b
-one_refusal NotParty NotParty e = refl
-one_refusal AlreadyMine AlreadyMine e = refl
-one_refusal NoPlate NoPlate e = refl
-one_refusal PlaceFull PlaceFull e = refl
-one_refusal WrongWay WrongWay e = refl
-one_refusal Jump Jump e = refl
-one_refusal NotAtWork NotAtWork e = refl
-one_refusal NoPose NoPose e = refl
-one_refusal Worn Worn e = refl
-one_refusal InUse InUse e = refl
-one_refusal Stopped Stopped e = refl
-one_refusal NotStopped NotStopped e = refl
 one_refusal (Held m) (Held n) e = ap Held (one_machine m n e)
 one_refusal (Shut p) (Shut q) e = ap Shut (one_posture p q e)
 one_refusal (NotOwner None) (NotOwner None) e = refl
 one_refusal (NotOwner (Some m)) (NotOwner (Some n)) e = ap (λ (x : Machine). NotOwner (Some x)) (one_machine m n e)
 one_refusal (PlateInZone y) (PlateInZone z) e = ap PlateInZone (one_zone y z e)
+one_refusal _ NotParty e = cc
 one_refusal _ _ e = cc
 
 abbrev pub same_answer : Option Refusal → Option Refusal → Bool

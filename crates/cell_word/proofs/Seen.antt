@@ -1,14 +1,6 @@
 -- What the word of a sound state shows through windows on its zones, its places, its stamp and its mark.
-use Rattle.std.proofs.Common.{◌≡◌, ℕ, ◌+◌, ◌*◌, ◌^◌, Bool, true, false, ◌&&◌, refl, ap, ◌∙◌}
-use Rattle.std.specs.Prelude.{bit_and, bit_or}
-use Rattle.cell_rules.specs.Types.{Zone, Place, transfer_of}
-use Rattle.cell_rules.specs.Names.{ModelState, zone_at, is_full, one_if, IsSound, implies, has_lawful_owner}
-use Rattle.cell_rules.specs.Names.{is_lawful_plate, is_received_by, is_onto_full, is_open_to_guest, moves_by_host}
-use Rattle.cell_rules.specs.Names.{is_of_some_pose}
-use Rattle.cell_rules.specs.declared.zones.ZoneState.{ZoneState}
-use Rattle.cell_rules.proofs.Tables.{and_both}
-use Rattle.cell_word.specs.Layout.{zone_bit, place_bit, stamp_bit, mark_bit, owner_code, posture_code, packed}
-use Rattle.cell_word.specs.Reading.{bits_of}
+use Rattle.cell_word.proofs.Names.{◌≡◌, ℕ, ◌+◌, ◌*◌, ◌^◌, Bool, true, false, ◌&&◌, refl, ap, ◌∙◌, bit_and, bit_or, Zone, Place, transfer_of, ModelState, zone_at, is_full, one_if, IsSound, implies, has_lawful_owner, is_lawful_plate}
+use Rattle.cell_word.proofs.Names.{is_received_by, is_onto_full, is_open_to_guest, moves_by_host, is_of_some_pose, ZoneState, and_both, zone_bit, place_bit, stamp_bit, mark_bit, owner_code, posture_code, packed, bits_of}
 use Rattle.cell_word.proofs.RoundTrip.{zone_fields_read, place_field_read, stamp_read, mark_read}
 use Rattle.cell_word.proofs.Windows.{and_or, field_shown, five_bits}
 
@@ -72,7 +64,7 @@ is_lawful z v = has_lawful_owner z v && is_lawful_plate false z v && is_open_to_
 flagless : (f r : Bool) → implies f (r && false) ≡ true → implies f (r && true) ≡ true
 flagless false r e = refl
 flagless true true e = cc
-flagless true false e = cc
+flagless true _ e = cc
 
 emptier : (b : Bool) (z : Zone) (v : ZoneState) → is_lawful_plate b z v ≡ true → is_lawful_plate false z v ≡ true
 emptier false z v e = e

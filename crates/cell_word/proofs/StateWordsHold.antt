@@ -1,23 +1,11 @@
 -- A word is a sound state's exactly if the masks say so.
-use Rattle.std.proofs.Common.{◌≡◌, ℕ, zero, suc, ◌+◌, ◌*◌, ◌/◌, ◌%◌, ◌^◌, ◌<◌, ◌≤◌, Bool, true, false, ◌&&◌, not, nat_eq, Option, Some, None, refl, sym, ap, ap₂, ◌∙◌, arith, eqb-true, eq-eqb}
-use Rattle.std.specs.Prelude.{bit_and, bit_or}
-use Rattle.std.specs.List.{list_all}
-use Rattle.std.proofs.lemmas.Nat.{shr-shr, mod_below}
-use Rattle.cell_rules.specs.Types.{Zone, Z1, Z2, Z3, Z4, Z5, Z6, Transfer, Place, FeedEntry, FeedEnd, Arm1, PressIn}
-use Rattle.cell_rules.specs.Types.{PressOut, Arm2, DepEntry, DepEnd, Posture, Closed, Moving, OpenIn, OpenOut}
-use Rattle.cell_rules.specs.Types.{transfer_of, same_posture, one_posture, Machine}
-use Rattle.cell_types.specs.declared.place.Place.TheVariants.{Table, Crane}
+use Rattle.cell_word.proofs.Names.{◌≡◌, ℕ, zero, suc, ◌+◌, ◌*◌, ◌/◌, ◌%◌, ◌^◌, ◌<◌, ◌≤◌, Bool, true, false, ◌&&◌, not, nat_eq, Option, Some, None, refl, sym, ap, ap₂, ◌∙◌, arith, eqb-true, eq-eqb, bit_and, bit_or, list_all, and-false}
+use Rattle.cell_word.proofs.Names.{and_parts, not-true, shr-shr, mod_below, five, Zone, Z1, Z2, Z3, Z4, Z5, Z6, Transfer, Place, FeedEntry, FeedEnd, Arm1, PressIn, PressOut, Arm2, DepEntry, DepEnd, Posture, Closed, Moving, OpenIn, OpenOut}
+use Rattle.cell_word.proofs.Names.{transfer_of, same_posture, one_posture, Machine, Table, Crane, PlaceSet, ModelState, zone_at, is_full, one_if, IsSound, implies, has_lawful_owner, is_lawful_plate, is_onto_full, is_open_to_guest}
+use Rattle.cell_word.proofs.Names.{moves_by_host, is_of_some_pose, has_one_plate, is_received_by, ZoneState, and_left, and_right, and_both, implied, all_bools, from_bools, from_zones, all_pass, zones, postures, states, holds2, zone_bit}
+use Rattle.cell_word.proofs.Names.{place_bit, mark_bit, packed, bits_of, is_bit_set, owner_of_code, posture_of_code, zone_told, state_told, stands, both, nothing, posture_is, place_is, field_is, zone_codes, onto_full, is_lawful_zone}
+use Rattle.cell_word.proofs.Names.{is_lawful_press, is_state_word, Pattern}
 use Rattle.cell_types.specs.Everything.{all_zones as every_zone}
-use Rattle.cell_rules.specs.Names.{PlaceSet, ModelState, zone_at, is_full, one_if, IsSound, implies, has_lawful_owner}
-use Rattle.cell_rules.specs.Names.{is_lawful_plate, is_onto_full, is_open_to_guest, moves_by_host, is_of_some_pose}
-use Rattle.cell_rules.specs.Names.{has_one_plate, is_received_by}
-use Rattle.cell_rules.specs.declared.zones.ZoneState.{ZoneState}
-use Rattle.cell_rules.proofs.Tables.{and_left, and_right, and_both, implied, all_bools, from_bools, all_zones, from_zones, all_postures, from_postures, all_states, from_states, all_pass}
-use Rattle.cell_word.specs.Layout.{zone_bit, place_bit, mark_bit, packed}
-use Rattle.cell_word.specs.Reading.{bits_of, is_bit_set, owner_of_code, posture_of_code, zone_told, state_told}
-use Rattle.cell_word.specs.Patterns.{stands, both, nothing, posture_is, place_is, field_is}
-use Rattle.cell_word.specs.StateWords.{zone_codes, onto_full, is_lawful_zone, is_lawful_press, is_state_word}
-use Rattle.cell_word.specs.declared.patterns.Pattern.{Pattern}
 use Rattle.cell_word.proofs.RoundTrip.{told_back, laid_out}
 use Rattle.cell_word.proofs.SameAnswer.{same_bool, one_bool}
 use Rattle.cell_word.proofs.Windows.{and_or, stands-window, field_shown, all_below, from_below, five_fit}
@@ -42,26 +30,14 @@ told_by_code w z =
 
 zone_of_state : (w : ℕ) (z : Zone) → zone_at (state_told w) z ≡ zone_told w z
 zone_of_state w Z1 = refl
-zone_of_state w Z2 = refl
-zone_of_state w Z3 = refl
-zone_of_state w Z4 = refl
-zone_of_state w Z5 = refl
-zone_of_state w Z6 = refl
+zone_of_state w _ = refl
 
 pub zone_is : (w : ℕ) (z : Zone) → zone_at (state_told w) z ≡ zone_of_code z (bits_of w (zone_bit z) 5)
 zone_is w z = zone_of_state w z ∙ told_by_code w z
 
 full_of_state : (w : ℕ) (p : Place) → is_full (state_told w) p ≡ is_bit_set w (place_bit p)
 full_of_state w FeedEntry = refl
-full_of_state w FeedEnd = refl
-full_of_state w Table = refl
-full_of_state w Arm1 = refl
-full_of_state w PressIn = refl
-full_of_state w PressOut = refl
-full_of_state w Arm2 = refl
-full_of_state w DepEntry = refl
-full_of_state w DepEnd = refl
-full_of_state w Crane = refl
+full_of_state w _ = refl
 
 one_bit : (n : ℕ) → n < 2 → n ≡ one_if (nat_eq n 1)
 one_bit zero h = refl
@@ -93,12 +69,11 @@ pattern_seen w z p pattern here tests =
     let c = bits_of w (zone_bit z) 5 in
     let full = is_full (state_told w) p in
     let window = bit_or (zone_window z) (place_window p) in
-    let inside = nat_eq (bit_and window pattern.mask) pattern.mask in
-    let each = all_below 32 (λ c. all_bools (pattern_test z p pattern here c)) in
-    stands-window w window pattern (and_left inside each tests)
+    let both_hold = and_parts (nat_eq (bit_and window pattern.mask) pattern.mask) (all_below 32 (λ c. all_bools (pattern_test z p pattern here c))) tests in
+    stands-window w window pattern both_hold.0
     ∙ ap (λ n. stands n pattern) (seen_both w z p)
     ∙ one_bool (stands (bit_or (c * 2 ^ zone_bit z) (place_word p full)) pattern) (here (zone_of_code z c) && full)
-    (from_bools (pattern_test z p pattern here c) (from_below 32 (λ c. all_bools (pattern_test z p pattern here c)) (and_right inside each tests) c (five_fit w (zone_bit z))) full)
+    (from_bools (pattern_test z p pattern here c) (from_below 32 (λ c. all_bools (pattern_test z p pattern here c)) both_hold.1 c (five_fit w (zone_bit z))) full)
     ∙ ap (λ v. here v && full) (sym (zone_is w z))
 
 -- a plate on its way to a full place
@@ -109,24 +84,17 @@ abbrev onto_test : Zone → Posture → Option Transfer → Bool
 onto_test z q None = true
 onto_test z q (Some row) = pattern_tests z row.to (onto_full z q (Some row)) (is_sent q)
 
-onto_table : all_zones (λ z. all_postures (λ q. onto_test z q (transfer_of z q))) ≡ true
-onto_table = refl
-
 nowhere : (w : ℕ) → stands w nothing ≡ false
 nowhere w = ap (λ n. nat_eq n 0x8000000000000000) (and_zero w)
 
-pub no_more : (b : Bool) → (b && false) ≡ false
-no_more true = refl
-no_more false = refl
-
 onto_by : (w : ℕ) (z : Zone) (q : Posture) (row : Option Transfer) → onto_test z q row ≡ true
     → stands w (onto_full z q row) ≡ (is_sent q (zone_at (state_told w) z) && is_onto_full (state_told w).full row)
-onto_by w z q None test = nowhere w ∙ sym (no_more (is_sent q (zone_at (state_told w) z)))
+onto_by w z q None test = nowhere w ∙ sym (and-false (is_sent q (zone_at (state_told w) z)))
 onto_by w z q (Some row) test = pattern_seen w z row.to (onto_full z q (Some row)) (is_sent q) test
 
 pub onto_seen : (w : ℕ) (z : Zone) (q : Posture)
     → stands w (onto_full z q (transfer_of z q)) ≡ (is_sent q (zone_at (state_told w) z) && is_onto_full (state_told w).full (transfer_of z q))
-onto_seen w z q = onto_by w z q (transfer_of z q) (from_postures (λ q. onto_test z q (transfer_of z q)) (from_zones (λ z. all_postures (λ q. onto_test z q (transfer_of z q))) onto_table z) q)
+onto_seen w z q = onto_by w z q (transfer_of z q) (holds2 zones postures (λ z q. onto_test z q (transfer_of z q)) refl z q)
 
 -- two plates in the press, and a forged one while it is open inward
 abbrev pub is_inward : ZoneState → Bool
@@ -140,9 +108,8 @@ shown_place w p = field_shown w (place_bit p) 1 ∙ ap (λ n. n * 2 ^ place_bit 
 
 two_by : (a b : Bool) → same_bool (nat_eq (bit_or (place_word PressIn a) (place_word PressOut b)) two_plates.wanted) (a && b) ≡ true
 two_by true true = refl
-two_by true false = refl
-two_by false true = refl
-two_by false false = refl
+two_by _ true = refl
+two_by _ _ = refl
 
 pub plates_seen : (w : ℕ) → stands w two_plates ≡ (is_full (state_told w) PressIn && is_full (state_told w) PressOut)
 plates_seen w =
@@ -158,51 +125,31 @@ forged_seen w = pattern_seen w Z3 PressOut (both (posture_is Z3 OpenIn) (place_i
 abbrev code_test : Zone → ℕ → Bool
 code_test z c = implies (is_bit_set (zone_codes z) c) (nat_eq (zone_code z (zone_of_code z c)) c && is_lawful z (zone_of_code z c))
 
-code_table : all_zones (λ z. all_below 32 (code_test z)) ≡ true
-code_table = refl
-
 abbrev lawful_test : Zone → ZoneState → Bool
 lawful_test z v = implies (is_lawful z v) (is_bit_set (zone_codes z) (zone_code z v))
-
-lawful_table : all_zones (λ z. all_states (lawful_test z)) ≡ true
-lawful_table = refl
 
 by_code : (w : ℕ) (z : Zone) → is_bit_set (zone_codes z) (bits_of w (zone_bit z) 5) ≡ true
     → (bits_of w (zone_bit z) 5 ≡ zone_code z (zone_at (state_told w) z)) × (is_lawful z (zone_at (state_told w) z) ≡ true)
 by_code w z e =
     let c = bits_of w (zone_bit z) 5 in
     let v = zone_of_code z c in
-    let same = nat_eq (zone_code z v) c in
-    let both_hold = implied (is_bit_set (zone_codes z) c) (same && is_lawful z v) (from_below 32 (code_test z) (from_zones (λ z. all_below 32 (code_test z)) code_table z) c (five_fit w (zone_bit z))) e in
-    (sym (ap (zone_code z) (zone_is w z) ∙ eqb-true (zone_code z v) c (and_left same (is_lawful z v) both_hold)), ap (is_lawful z) (zone_is w z) ∙ and_right same (is_lawful z v) both_hold)
+    let both_hold = and_parts (nat_eq (zone_code z v) c) (is_lawful z v) (implied (is_bit_set (zone_codes z) c) _ (from_below 32 (code_test z) (from_zones (λ z. all_below 32 (code_test z)) refl z) c (five_fit w (zone_bit z))) e) in
+    (sym (ap (zone_code z) (zone_is w z) ∙ eqb-true (zone_code z v) c both_hold.0), ap (is_lawful z) (zone_is w z) ∙ both_hold.1)
 
 -- ---- the plates, by posture
-not_true : (b : Bool) → not b ≡ true → b ≡ false
-not_true true e = cc
-not_true false e = refl
-
 plate_by : (f r o : Bool) → implies f (r && true) ≡ true → (f && o) ≡ false → implies f (r && not o) ≡ true
 plate_by false r o e h = refl
 plate_by true true false e h = refl
-plate_by true true true e h = cc
-plate_by true false o e h = cc
+plate_by _ _ _ e h = cc
 
 -- a shut zone has no row
 no_row_closed : (z : Zone) → transfer_of z Closed ≡ None
 no_row_closed Z1 = refl
-no_row_closed Z2 = refl
-no_row_closed Z3 = refl
-no_row_closed Z4 = refl
-no_row_closed Z5 = refl
-no_row_closed Z6 = refl
+no_row_closed _ = refl
 
 no_row_moving : (z : Zone) → transfer_of z Moving ≡ None
 no_row_moving Z1 = refl
-no_row_moving Z2 = refl
-no_row_moving Z3 = refl
-no_row_moving Z4 = refl
-no_row_moving Z5 = refl
-no_row_moving Z6 = refl
+no_row_moving _ = refl
 
 unreceived : (o : Option Machine) (row : Option Transfer) → row ≡ None → (is_received_by o row && true) ≡ false
 unreceived o row e = ap (λ r. is_received_by o r && true) e
@@ -224,7 +171,7 @@ not_sent : (full : PlaceSet) (z : Zone) (o : Option Machine) (f : Bool) (q r : P
     → (f && same_posture q r && is_onto_full full (transfer_of z r)) ≡ false
 not_sent full z o false q r e = refl
 not_sent full z o true q r e =
-    not_sent_by full z q r (same_posture q r) refl (not_true (is_onto_full full (transfer_of z q)) (and_right (is_received_by o (transfer_of z q)) (not (is_onto_full full (transfer_of z q))) e))
+    not_sent_by full z q r (same_posture q r) refl (not-true (is_onto_full full (transfer_of z q)) (and_right (is_received_by o (transfer_of z q)) (not (is_onto_full full (transfer_of z q))) e))
 
 -- ---- both ways
 in_range : (w : ℕ) → w / 2 ^ 40 % 2 ^ 20 ≤ 1048575
@@ -251,7 +198,7 @@ zone_parts w z e =
     let inward = not (stands w (onto_full z OpenIn (transfer_of z OpenIn))) in
     let outward = not (stands w (onto_full z OpenOut (transfer_of z OpenOut))) in
     let front = and_left (code && inward) outward e in
-    (and_left code inward front, not_true _ (and_right code inward front), not_true _ (and_right (code && inward) outward e))
+    (and_left code inward front, not-true _ (and_right code inward front), not-true _ (and_right (code && inward) outward e))
 
 pub sound_by_masks : (w : ℕ) → w < 2 ^ 64 → is_state_word w ≡ true → IsSound (state_told w) × (packed (state_told w) ≡ w)
 sound_by_masks w fits e =
@@ -265,14 +212,7 @@ sound_by_masks w fits e =
     let code = λ (z : Zone). by_code w z (parts z).0 in
     let same : w ≡ packed t = is_word_of w t small (λ z. (code z).0) (place_is_told w) refl (mark_is_told w) in
     let v = λ (z : Zone). zone_at t z in
-    let owner = λ (z : Zone). has_lawful_owner z (v z) in
-    let plate = λ (z : Zone). is_lawful_plate false z (v z) in
-    let guest = λ (z : Zone). is_open_to_guest z (v z) in
-    let moving = λ (z : Zone). moves_by_host z (v z) in
-    let posed = λ (z : Zone). is_of_some_pose z (v z).posture in
-    let four : (z : Zone) → (owner z && plate z && guest z && moving z) ≡ true = λ z. and_left (owner z && plate z && guest z && moving z) (posed z) (code z).1 in
-    let three : (z : Zone) → (owner z && plate z && guest z) ≡ true = λ z. and_left (owner z && plate z && guest z) (moving z) (four z) in
-    let two : (z : Zone) → (owner z && plate z) ≡ true = λ z. and_left (owner z && plate z) (guest z) (three z) in
+    let of = λ (z : Zone). five (has_lawful_owner z (v z)) (is_lawful_plate false z (v z)) (is_open_to_guest z (v z)) (moves_by_host z (v z)) (is_of_some_pose z (v z).posture) (code z).1 in
     let plates = not (stands w two_plates) in
     let forged = not (stands w (both (posture_is Z3 OpenIn) (place_is PressOut true))) in
     let last = and_right (top && zones) press e in
@@ -282,11 +222,11 @@ sound_by_masks w fits e =
     (sym (either_not (is_inward (zone_at t Z3)) (is_full t PressOut)) ∙ ap not (sym (forged_seen w)) ∙ and_right plates forged last) in (
       record {
         stamp_in_range = in_range w;
-        owner_is_party = λ z. and_left (owner z) (plate z) (two z);
-        flag_has_transfer = λ z. plate_at t.full z (v z).owner (v z).flag (v z).posture (and_right (owner z) (plate z) (two z)) (sym (onto_seen w z OpenIn) ∙ (parts z).1) (sym (onto_seen w z OpenOut) ∙ (parts z).2);
-        guest_only_while_open = λ z. and_right (owner z && plate z) (guest z) (three z);
-        moving_belongs_to_host = λ z. and_right (owner z && plate z && guest z) (moving z) (four z);
-        posture_of_some_pose = λ z. and_right (owner z && plate z && guest z && moving z) (posed z) (code z).1;
+        owner_is_party = λ z. (of z).0;
+        flag_has_transfer = λ z. plate_at t.full z (v z).owner (v z).flag (v z).posture (of z).1 (sym (onto_seen w z OpenIn) ∙ (parts z).1) (sym (onto_seen w z OpenOut) ∙ (parts z).2);
+        guest_only_while_open = λ z. (of z).2;
+        moving_belongs_to_host = λ z. (of z).3;
+        posture_of_some_pose = λ z. (of z).4;
         press_holds_one_plate = one_plate;
       },
       sym same,
@@ -304,7 +244,7 @@ masks_of_sound s h =
     let code : (z : Zone) → is_bit_set (zone_codes z) (bits_of w (zone_bit z) 5) ≡ true =
     λ z.
     ap (is_bit_set (zone_codes z)) (zone_five s h z)
-    ∙ implied (is_lawful z (zone_at s z)) (is_bit_set (zone_codes z) (zone_code z (zone_at s z))) (from_states (lawful_test z) (from_zones (λ z. all_states (lawful_test z)) lawful_table z) (zone_at s z)) (lawful_at s h z) in
+    ∙ implied (is_lawful z (zone_at s z)) (is_bit_set (zone_codes z) (zone_code z (zone_at s z))) (holds2 zones states lawful_test refl z (zone_at s z)) (lawful_at s h z) in
     let zone : (z : Zone) → is_lawful_zone w z ≡ true = λ z. and_both _ _ (and_both _ _ (code z) (ap not (onto z OpenIn))) (ap not (onto z OpenOut)) in
     let plates = not (is_full s PressIn && is_full s PressOut) in
     let forged = implies (is_inward (zone_at s Z3)) (not (is_full s PressOut)) in

@@ -1,10 +1,6 @@
 -- A row of guards is tested part by part.
-use Rattle.std.proofs.Common.{◌≡◌, ℕ, Option, Some, None, Result, Ok, Err, List, [], ◌∷◌, ◌++◌, refl, ap, ◌∙◌, sym}
-use Rattle.std.specs.Option.{option_or}
-use Rattle.std.specs.Result.{IsErrAnd}
+use Rattle.cell_word.proofs.Names.{◌≡◌, ℕ, Option, Some, None, Result, Ok, Err, List, [], ◌∷◌, ◌++◌, refl, ap, ◌∙◌, sym, option_or, IsErrAnd, first_refusal, unless, checked, Guard}
 use Rattle.cell_types.specs.declared.answer.Refusal.{Refusal}
-use Rattle.cell_word.specs.Guards.{first_refusal, unless, checked}
-use Rattle.cell_word.specs.declared.patterns.Guard.{Guard}
 use Rattle.cell_word.proofs.Windows.{first-append}
 
 -- the result of two parts
@@ -61,6 +57,10 @@ past k e passes = record { is = k.is ∙ go (sym e ∙ passes) }
 
 pub refused_by : {A : Type 0} {w : ℕ} {part : List Guard} {parts : List (List Guard)} {last row x : Result A Refusal} {q : Result (Unit {0}) Refusal} {r : Refusal} → InTurn w (part ∷ parts) last row → q ≡ checked w part → q ≡ Err r → IsErrAnd x (λ y. y ≡ r) → x ≡ row
 refused_by {x = x} {r = r} k e stops is = refused x r is ∙ sym (k.is ∙ stop (sym e ∙ stops) _)
+
+-- a row by other names of its parts
+pub renamed : {A : Type 0} {w : ℕ} {parts others : List (List Guard)} {last row : Result A Refusal} → InTurn w parts last row → parts ≡ others → InTurn w others last row
+renamed {w = w} {last = last} k e = record { is = k.is ∙ ap (λ (ps : List (List Guard)). in_turn w ps last) e }
 
 pub ends : {A : Type 0} {w : ℕ} {last row x : Result A Refusal} → InTurn w [] last row → x ≡ last → x ≡ row
 ends k e = e ∙ sym k.is

@@ -1,21 +1,9 @@
 -- A zone has another posture if a bit of its posture differs.
-use Rattle.std.proofs.Common.{◌≡◌, ℕ, ◌+◌, ◌-◌, ◌*◌, ◌/◌, ◌^◌, Bool, true, false, ◌&&◌, cond, nat_eq, Option, Some, None, is_some, option_map, Result, Ok, Err, List, [], ◌∷◌, map, refl, sym, ap, ap₂, ◌∙◌, arith}
-use Rattle.std.specs.Prelude.{bit_and, bit_or}
-use Rattle.std.proofs.lemmas.Nat.{mod_below}
-use Rattle.cell_rules.specs.Types.{Zone, Transfer, Place, Posture, OpenIn, Refusal, Jump, WrongWay, guest_of}
-use Rattle.cell_rules.specs.Types.{transfer_of}
+use Rattle.cell_word.proofs.Names.{◌≡◌, ℕ, ◌+◌, ◌-◌, ◌*◌, ◌/◌, ◌^◌, Bool, true, false, ◌&&◌, cond, nat_eq, Option, Some, None, is_some, option_map, Result, Ok, Err, List, [], ◌∷◌, map, refl, sym, ap, ap₂, ◌∙◌, arith, bit_and, bit_or}
+use Rattle.cell_word.proofs.Names.{and_parts, mod_below, Zone, Transfer, Place, Posture, OpenIn, Refusal, Jump, WrongWay, guest_of, transfer_of, and_left, and_right, all_zones, from_zones, all_postures, zones, postures, places, holds2}
+use Rattle.cell_word.proofs.Names.{zone_bit, place_bit, bits_of, stands, when, posture_is, low_differs, high_differs, anything, guard, first_refusal, unless, checked, machine_of, giving_posture, Party, Host, Guest, Pattern, Guard}
 use Rattle.cell_types.specs.Everything.{all_postures as every_posture}
-use Rattle.cell_rules.proofs.Tables.{and_left, and_right, all_zones, from_zones, all_postures, from_postures, all_places, from_places}
-use Rattle.cell_word.specs.Layout.{zone_bit, place_bit}
-use Rattle.cell_word.specs.Reading.{bits_of}
-use Rattle.cell_word.specs.Patterns.{stands, when, posture_is, low_differs, high_differs, anything}
 use Rattle.cell_word.specs.Guards as guards
-use Rattle.cell_word.specs.Guards.{guard, first_refusal, unless, checked}
-use Rattle.cell_word.specs.Parties.{machine_of, giving_posture}
-use Rattle.cell_word.specs.declared.parties.Party.{Party}
-use Rattle.cell_word.specs.declared.parties.Party.TheVariants.{Host, Guest}
-use Rattle.cell_word.specs.declared.patterns.Pattern.{Pattern}
-use Rattle.cell_word.specs.declared.patterns.Guard.{Guard}
 use Rattle.cell_word.proofs.SameAnswer.{same_answer, one_answer}
 use Rattle.cell_word.proofs.Windows.{and_or, first-window, stands-window, all_within, field_shown, all_below, from_below, five_fit}
 use Rattle.cell_word.proofs.Seen.{zone_window}
@@ -66,30 +54,23 @@ turned_table row short = all_zones (λ z. all_postures (turned_tests row short z
 turned : (row short : Zone → Posture → List Guard) → turned_table row short ≡ true → (w : ℕ) (z : Zone) (q : Posture) → first_refusal w (row z q) ≡ but (posture_is z q) (short z q) w
 turned row short table w z q =
     let n = bits_of w (zone_bit z) 5 in
-    let inside = is_inside (zone_window z) (posture_is z q) (row z q) (short z q) in
-    let tests = from_postures (turned_tests row short z) (from_zones (λ z. all_postures (turned_tests row short z)) table z) q in
-    through w (zone_window z) (n * 2 ^ zone_bit z) (posture_is z q) (row z q) (short z q) (field_shown w (zone_bit z) 5) (and_left inside (all_below 32 (turned_test row short z q)) tests)
-    (from_below 32 (turned_test row short z q) (and_right inside (all_below 32 (turned_test row short z q)) tests) n (five_fit w (zone_bit z)))
+    let tests = and_parts (is_inside (zone_window z) (posture_is z q) (row z q) (short z q)) (all_below 32 (turned_test row short z q)) (holds2 zones postures (turned_tests row short) table z q) in
+    through w (zone_window z) (n * 2 ^ zone_bit z) (posture_is z q) (row z q) (short z q) (field_shown w (zone_bit z) 5) tests.0
+    (from_below 32 (turned_test row short z q) tests.1 n (five_fit w (zone_bit z)))
 
 -- a zone that gets another posture has to be its host's
 abbrev host_guards : Zone → Posture → List Guard
 host_guards z q = guards.unowned z ∷ guards.anothers z (guest_of z) ∷ []
 
-owner_table : turned_table guards.owner_guards host_guards ≡ true
-owner_table = refl
-
 pub require_held_unless_in : (w : ℕ) (z : Zone) (q : Posture) → checked w (guards.owner_guards z q) ≡ cond (stands w (posture_is z q)) (Ok tt) (checked w (guards.unowned z ∷ guards.anothers z (guest_of z) ∷ []))
-require_held_unless_in w z q = but_checked w (posture_is z q) (guards.owner_guards z q) (host_guards z q) (turned guards.owner_guards host_guards owner_table w z q)
+require_held_unless_in w z q = but_checked w (posture_is z q) (guards.owner_guards z q) (host_guards z q) (turned guards.owner_guards host_guards refl w z q)
 
 -- and free of plates
 abbrev clear_guards : Zone → Posture → List Guard
 clear_guards z q = guards.plate_in z ∷ []
 
-plate_table : turned_table guards.plate_guards clear_guards ≡ true
-plate_table = refl
-
 pub require_clear_unless_in : (w : ℕ) (z : Zone) (q : Posture) → checked w (guards.plate_guards z q) ≡ cond (stands w (posture_is z q)) (Ok tt) (checked w (guards.plate_in z ∷ []))
-require_clear_unless_in w z q = but_checked w (posture_is z q) (guards.plate_guards z q) (clear_guards z q) (turned guards.plate_guards clear_guards plate_table w z q)
+require_clear_unless_in w z q = but_checked w (posture_is z q) (guards.plate_guards z q) (clear_guards z q) (turned guards.plate_guards clear_guards refl w z q)
 
 -- if a zone has to have a posture, any other refuses
 abbrev differing : Refusal → Zone → Posture → List Guard
@@ -98,24 +79,18 @@ differing r z q = guards.low_refuses z q r ∷ guards.high_refuses z q r ∷ []
 abbrev always : Zone → Posture → List Guard
 always z q = guard anything Jump ∷ []
 
-jump_table : turned_table (differing Jump) always ≡ true
-jump_table = refl
-
 abbrev by_bits : Bool → Bool → Refusal → Option Refusal
 by_bits low high r = cond low (Some r) (cond high (Some r) None)
 
 told_by_bits : (low high : Bool) (p q : Pattern) (r : Refusal) → option_map (λ (g : Guard). g.refusal) (cond low (Some (guard p r)) (cond high (Some (guard q r)) None)) ≡ by_bits low high r
-told_by_bits true high p q r = refl
 told_by_bits false true p q r = refl
-told_by_bits false false p q r = refl
+told_by_bits _ _ p q r = refl
 
 any_refusal : (low high b : Bool) (r : Refusal) → by_bits low high Jump ≡ cond b None (Some Jump) → ◌≡◌ {A = Result (Unit {0}) Refusal} (unless (by_bits low high r) tt) (cond b (Ok tt) (Err r))
 any_refusal true high true r e = cc
-any_refusal true high false r e = refl
 any_refusal false true true r e = cc
-any_refusal false true false r e = refl
-any_refusal false false true r e = refl
 any_refusal false false false r e = cc
+any_refusal _ _ _ r e = refl
 
 always_stands : (w : ℕ) → first_refusal w (guard anything Jump ∷ []) ≡ Some Jump
 always_stands w = blind w (guard anything Jump ∷ []) refl
@@ -126,7 +101,7 @@ require_in w z q r =
     let high = stands w (high_differs z q) in
     let b = stands w (posture_is z q) in
     let told = told_by_bits low high (low_differs z q) (high_differs z q) in
-    let jump : by_bits low high Jump ≡ cond b None (Some Jump) = sym (told Jump) ∙ turned (differing Jump) always jump_table w z q ∙ ap (cond b None) (always_stands w) in
+    let jump : by_bits low high Jump ≡ cond b None (Some Jump) = sym (told Jump) ∙ turned (differing Jump) always refl w z q ∙ ap (cond b None) (always_stands w) in
     ap (λ o. unless o tt) (told r) ∙ any_refusal low high b r jump
 
 -- ---- a zone that becomes open inward, and a place in it
@@ -142,22 +117,17 @@ room_test z p n m = same_answer (first_refusal (room_word z p n m) (guards.room_
 abbrev room_tests : Zone → Place → Bool
 room_tests z p = is_inside (room_window z p) (posture_is z OpenIn) (guards.room_guards z p) (guards.no_room_at p ∷ []) && all_below 4 (λ n. all_below 2 (room_test z p n))
 
-room_table : all_zones (λ z. all_places (room_tests z)) ≡ true
-room_table = refl
-
 pub require_room : (w : ℕ) (z : Zone) (p : Place) → checked w (guards.room_guards z p) ≡ cond (stands w (posture_is z OpenIn)) (Ok tt) (checked w (guards.no_room_at p ∷ []))
 require_room w z p =
     let n = bits_of w (zone_bit z + 3) 2 in
     let m = bits_of w (place_bit p) 1 in
     let short = guards.no_room_at p ∷ [] in
-    let inside = is_inside (room_window z p) (posture_is z OpenIn) (guards.room_guards z p) short in
-    let each = all_below 4 (λ n. all_below 2 (room_test z p n)) in
-    let tests = from_places (room_tests z) (from_zones (λ z. all_places (room_tests z)) room_table z) p in
+    let tests = and_parts (is_inside (room_window z p) (posture_is z OpenIn) (guards.room_guards z p) short) (all_below 4 (λ n. all_below 2 (room_test z p n))) (holds2 zones places room_tests refl z p) in
     let shown : bit_and w (room_window z p) ≡ room_word z p n m =
     and_or w ((2 ^ 2 - 1) * 2 ^ (zone_bit z + 3)) ((2 ^ 1 - 1) * 2 ^ place_bit p) ∙ ap₂ bit_or (field_shown w (zone_bit z + 3) 2) (field_shown w (place_bit p) 1) in
-    let same = from_below 2 (room_test z p n) (from_below 4 (λ n. all_below 2 (room_test z p n)) (and_right inside each tests) n (mod_below (w / 2 ^ (zone_bit z + 3)) 4 (omega arith))) m (mod_below (w / 2 ^ place_bit p) 2 (omega arith)) in
+    let same = from_below 2 (room_test z p n) (from_below 4 (λ n. all_below 2 (room_test z p n)) tests.1 n (mod_below (w / 2 ^ (zone_bit z + 3)) 4 (omega arith))) m (mod_below (w / 2 ^ place_bit p) 2 (omega arith)) in
     but_checked w (posture_is z OpenIn) (guards.room_guards z p) short
-    (through w (room_window z p) (room_word z p n m) (posture_is z OpenIn) (guards.room_guards z p) short shown (and_left inside each tests) same)
+    (through w (room_window z p) (room_word z p n m) (posture_is z OpenIn) (guards.room_guards z p) short shown tests.0 same)
 
 -- ---- a zone from which a party gives
 abbrev way_pattern : Zone → Party → Pattern
@@ -175,23 +145,17 @@ way_test z s n = same_answer (first_refusal (n * 2 ^ zone_bit z) (wrong_ways z s
 abbrev way_tests : Party → Zone → Bool
 way_tests s z = is_inside (zone_window z) (way_pattern z s) (wrong_ways z s) wrong_way && all_below 32 (way_test z s)
 
-host_ways : all_zones (way_tests Host) ≡ true
-host_ways = refl
-
-guest_ways : all_zones (way_tests Guest) ≡ true
-guest_ways = refl
-
 ways : (z : Zone) (s : Party) → way_tests s z ≡ true
-ways z Host = from_zones (way_tests Host) host_ways z
-ways z Guest = from_zones (way_tests Guest) guest_ways z
+ways z Host = from_zones (way_tests Host) refl z
+ways z Guest = from_zones (way_tests Guest) refl z
 
 way : (w : ℕ) (z : Zone) (s : Party) → checked w (wrong_ways z s) ≡ cond (stands w (way_pattern z s)) (Ok tt) (Err WrongWay)
 way w z s =
     let n = bits_of w (zone_bit z) 5 in
-    let inside = is_inside (zone_window z) (way_pattern z s) (wrong_ways z s) wrong_way in
+    let tests = and_parts (is_inside (zone_window z) (way_pattern z s) (wrong_ways z s) wrong_way) (all_below 32 (way_test z s)) (ways z s) in
     but_checked w (way_pattern z s) (wrong_ways z s) wrong_way
-    (through w (zone_window z) (n * 2 ^ zone_bit z) (way_pattern z s) (wrong_ways z s) wrong_way (field_shown w (zone_bit z) 5) (and_left inside (all_below 32 (way_test z s)) (ways z s))
-    (from_below 32 (way_test z s) (and_right inside (all_below 32 (way_test z s)) (ways z s)) n (five_fit w (zone_bit z))))
+    (through w (zone_window z) (n * 2 ^ zone_bit z) (way_pattern z s) (wrong_ways z s) wrong_way (field_shown w (zone_bit z) 5) tests.0
+    (from_below 32 (way_test z s) tests.1 n (five_fit w (zone_bit z))))
     ∙ ap (λ o. cond (stands w (way_pattern z s)) (Ok tt) (unless o tt)) (blind w wrong_way refl)
 
 pub no_way : (w : ℕ) (z : Zone) (s : Party) → transfer_of z (giving_posture s) ≡ None → checked w (wrong_ways z s) ≡ Err WrongWay

@@ -1,20 +1,8 @@
 -- A row of guards sees only the bits of a word under its masks.
-use Rattle.std.proofs.Common.{◌≡◌, inl, inr, ℕ, zero, suc, ◌+◌, ◌-◌, ◌*◌, ◌/◌, ◌%◌, ◌^◌, ◌<◌, min, max, Bool, true, false, ◌&&◌, cond, nat_eq, Option, Some, option_map, List, [], ◌∷◌, ◌++◌, refl, sym, ap, ◌∙◌, subst, arith, eqb-true, eq-eqb, ne_eqb}
-use Rattle.std.specs.Prelude.{bit_and, bit_or}
-use Rattle.std.proofs.lemmas.Bool.{cases_lt, eqb-false}
-use Rattle.std.specs.Int.{bit_at}
-use Rattle.std.specs.Option.{option_or}
-use Rattle.std.specs.List.{find, list_all}
-use Rattle.std.proofs.Math.Nat.{mul_comm, mul-sub}
-use Rattle.std.proofs.lemmas.Nat.{and_assoc, and_mask, mod_below, pow-add, shr-shr, shl-shr}
-use Rattle.std.proofs.lemmas.Nat.Bits.{and_high, bit_at_and, bit_at_or, same_from_bits}
+use Rattle.cell_word.proofs.Names.{◌≡◌, inl, inr, ℕ, zero, suc, ◌+◌, ◌-◌, ◌*◌, ◌/◌, ◌%◌, ◌^◌, ◌<◌, min, max, Bool, true, false, ◌&&◌, cond, nat_eq, Option, Some, option_map, List, [], ◌∷◌, ◌++◌, refl, sym, ap, ◌∙◌, subst, arith, eqb-true}
+use Rattle.cell_word.proofs.Names.{eq-eqb, ne_eqb, bit_and, bit_or, cases_lt, eqb-false, bit_at, option_or, find, list_all, mul_comm, mul-sub, and_assoc, and_mask, mod_below, pow-add, shr-shr, shl-shr, and_high, bit_at_and, bit_at_or}
+use Rattle.cell_word.proofs.Names.{same_from_bits, and_left, and_right, bits_of, stands, field_is, first_refusal, Pattern, Guard}
 use Rattle.cell_types.specs.declared.answer.Refusal.{Refusal}
-use Rattle.cell_rules.proofs.Tables.{and_left, and_right}
-use Rattle.cell_word.specs.Reading.{bits_of}
-use Rattle.cell_word.specs.Patterns.{stands, field_is}
-use Rattle.cell_word.specs.Guards.{first_refusal}
-use Rattle.cell_word.specs.declared.patterns.Pattern.{Pattern}
-use Rattle.cell_word.specs.declared.patterns.Guard.{Guard}
 
 -- ---- rows in parts
 step : (t : Bool) (g : Guard) (x y : Option Guard) (o : Option Refusal) → option_map (λ (g : Guard). g.refusal) x ≡ option_or (option_map (λ (g : Guard). g.refusal) y) o
@@ -42,8 +30,7 @@ next : (t u : Bool) (g : Guard) (x y : Option Guard) → t ≡ u → option_map 
     → option_map (λ (g : Guard). g.refusal) (cond t (Some g) x) ≡ option_map (λ (g : Guard). g.refusal) (cond u (Some g) y)
 next true true g x y e r = refl
 next false false g x y e r = r
-next true false g x y e r = cc
-next false true g x y e r = cc
+next _ _ g x y e r = cc
 
 pub first-window : (w window : ℕ) (row : List Guard) → all_within window row ≡ true → first_refusal w row ≡ first_refusal (bit_and w window) row
 first-window w window [] inside = refl

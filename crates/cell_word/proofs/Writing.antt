@@ -1,21 +1,11 @@
 -- A word into which a pattern is written: its fields, and the state that it encodes.
-use Rattle.std.proofs.Common.{◌≡◌, ℕ, ◌+◌, ◌-◌, ◌*◌, ◌/◌, ◌%◌, ◌^◌, ◌<◌, List, [], ◌∷◌, ◌++◌, map, get_or, sym, ap, ap₂, ◌∙◌, subst, arith, mod-eq_of_lt}
-use Rattle.std.specs.Prelude.{bit_and, bit_or}
-use Rattle.std.specs.List.{All, flat_map}
-use Rattle.std.proofs.Math.Nat.{div-eq_of_lt}
-use Rattle.std.proofs.lemmas.Nat.{pow-add, shr-shr, div-add-mod', and_shr, and_mod, or_shr, or_mod, and-not, and_comm, and_mask, or_comm, or_lt, mod_below}
-use Rattle.std.proofs.lemmas.List.Elements.{All-nil, All-cons, All-head, All-tail, All-append, All-map}
-use Rattle.cell_rules.specs.Types.{Zone, Z1, Z2, Z3, Z4, Z5, Z6, Place, FeedEntry, FeedEnd, Arm1, PressIn, PressOut}
-use Rattle.cell_rules.specs.Types.{Arm2, DepEntry, DepEnd, all_zones, all_places}
-use Rattle.cell_types.specs.declared.place.Place.TheVariants.{Table, Crane}
-use Rattle.cell_rules.specs.Names.{ModelState, zone_at, is_full, one_if}
-use Rattle.cell_rules.specs.declared.zones.ZoneState.{ZoneState}
-use Rattle.cell_word.specs.Layout.{Field, field, word_of, zone_bit, place_bit, stamp_bit, mark_bit, owner_code, posture_code, zone_fields, fields_at, place_field, last_fields, fields_of, packed}
-use Rattle.cell_word.specs.Reading.{bits_of}
-use Rattle.cell_word.specs.Laws.{SideBySide, ReadsBack, IsOffStamp}
-use Rattle.cell_word.specs.Patterns.{with_written}
+use Rattle.cell_word.proofs.Names.{◌≡◌, ℕ, ◌+◌, ◌-◌, ◌*◌, ◌/◌, ◌%◌, ◌^◌, ◌<◌, List, [], ◌∷◌, ◌++◌, map, get_or, sym, ap, ap₂, ◌∙◌, subst, arith, mod-eq_of_lt, bit_and, bit_or, All, flat_map, div-eq_of_lt, pow-add, shr-shr, div-add-mod'}
+use Rattle.cell_word.proofs.Names.{and_shr, and_mod, or_shr, or_mod, and-not, and_comm, and_mask, or_comm, or_lt, mod_below, All-nil, All-cons, All-head, All-tail, All-append, All-map, Zone, Z1, Z2, Z3, Z4, Z5, Z6, Place, FeedEntry}
+use Rattle.cell_word.proofs.Names.{FeedEnd, Arm1, PressIn, PressOut, Arm2, DepEntry, DepEnd, all_places, Table, Crane, ModelState, zone_at, is_full, one_if, ZoneState, Field, field, word_of, zone_bit, place_bit, stamp_bit, mark_bit}
+use Rattle.cell_word.proofs.Names.{owner_code, posture_code, zone_fields, fields_at, place_field, last_fields, fields_of, packed, bits_of, SideBySide, ReadsBack, IsOffStamp, with_written}
+use Rattle.cell_rules.specs.Types.{all_zones}
 use Rattle.cell_word.proofs.Fields.{word-cons, arranged}
-use Rattle.cell_word.proofs.RoundTrip.{ZoneRead, owner_fits, flag_fits, posture_fits, All-flat_map, all_three, side_by_side}
+use Rattle.cell_word.proofs.RoundTrip.{ZoneRead, owner_fits, flag_fits, posture_fits, all_fields, all_three, side_by_side}
 use Rattle.cell_word.proofs.Seen.{zone_code}
 
 -- ---- a number is the word of the fields that read back from it
@@ -58,13 +48,7 @@ pub is_word_of : (x : ℕ) (s : ModelState) → x < 2 ^ 61 → ((z : Zone) → b
     → bits_of x stamp_bit 20 ≡ s.stamp → bits_of x mark_bit 1 ≡ one_if s.stopped → x ≡ packed s
 unfolding packed
 is_word_of x s below zone place stamp mark =
-    let zones : All (ReadsBack x) (flat_map (fields_at s) all_zones) = All-flat_map (ReadsBack x) (fields_at s) all_zones (λ z. zone_reads x z (zone_at s z) (zone_told_by x z (zone_at s z) (zone z))) in
-    let places : All (ReadsBack x) (map (place_field s) all_places) = All-map (ReadsBack x) (place_field s) all_places (λ k d inside. place (get_or all_places k d)) in
-    let highest : All (ReadsBack x) (field mark_bit 1 (one_if s.stopped) ∷ []) = All-cons (ReadsBack x) (field mark_bit 1 (one_if s.stopped)) [] mark (All-nil (ReadsBack x)) in
-    let last : All (ReadsBack x) (last_fields s) = All-cons (ReadsBack x) (field stamp_bit 20 s.stamp) (field mark_bit 1 (one_if s.stopped) ∷ []) stamp highest in
-    let reads : All (ReadsBack x) (fields_of s) =
-    All-append (ReadsBack x) (flat_map (fields_at s) all_zones ++ map (place_field s) all_places) (last_fields s)
-    (All-append (ReadsBack x) (flat_map (fields_at s) all_zones) (map (place_field s) all_places) zones places) last in
+    let reads : All (ReadsBack x) (fields_of s) = all_fields (ReadsBack x) s (λ z. zone_reads x z (zone_at s z) (zone_told_by x z (zone_at s z) (zone z))) place stamp mark in
     let whole : x / 2 ^ 0 * 2 ^ 0 ≡ word_of (fields_of s) = upper_part 0 61 x (fields_of s) (side_by_side s) reads below in
     let same : x ≡ x / 2 ^ 0 * 2 ^ 0 = omega arith in
     same ∙ whole
@@ -103,23 +87,11 @@ field_written w mask set k n small within =
 -- one added at bit 40 leaves the bits below
 zone_below : (y : ℕ) (z : Zone) → bits_of (y + 2 ^ 40) (zone_bit z) 5 ≡ bits_of y (zone_bit z) 5
 zone_below y Z1 = omega arith
-zone_below y Z2 = omega arith
-zone_below y Z3 = omega arith
-zone_below y Z4 = omega arith
-zone_below y Z5 = omega arith
-zone_below y Z6 = omega arith
+zone_below y _ = omega arith
 
 place_below : (y : ℕ) (p : Place) → bits_of (y + 2 ^ 40) (place_bit p) 1 ≡ bits_of y (place_bit p) 1
 place_below y FeedEntry = omega arith
-place_below y FeedEnd = omega arith
-place_below y Table = omega arith
-place_below y Arm1 = omega arith
-place_below y PressIn = omega arith
-place_below y PressOut = omega arith
-place_below y Arm2 = omega arith
-place_below y DepEntry = omega arith
-place_below y DepEnd = omega arith
-place_below y Crane = omega arith
+place_below y _ = omega arith
 
 -- it adds one to the stamp, and the mark stays, since the stamp isn't the last one
 stamp_up : (y n : ℕ) → y < 2 ^ 61 → bits_of y 40 20 ≡ n → n < 1048575 → (bits_of (y + 2 ^ 40) 40 20 ≡ n + 1) × (y + 2 ^ 40 < 2 ^ 61) × (bits_of (y + 2 ^ 40) 60 1 ≡ bits_of y 60 1)

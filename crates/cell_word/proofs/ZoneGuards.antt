@@ -1,28 +1,15 @@
 -- The guards of the calls about a zone are the refusals of these calls.
-use Rattle.std.proofs.Common.{◌≡◌, ℕ, ◌*◌, ◌^◌, ◌≤◌, Bool, true, false, cond, ◌||◌, ◌&&◌, not, nat_eq, nat_lt, Option, Some, None, is_none, option_map, List, [], ◌∷◌, ◌++◌, refl, sym, ap, ap₂, ◌∙◌, arith}
-use Rattle.std.specs.Prelude.{bit_and, bit_or}
-use Rattle.std.specs.Option.{option_or}
-use Rattle.std.specs.Bool.{then_some}
-use Rattle.std.proofs.lemmas.Nat.{and_le_r}
-use Rattle.std.proofs.lemmas.Bool.Decides.{nat_tests}
-use Rattle.cell_rules.specs.Types.{Machine, Feed, Watch, Zone, Z1, Z6, Transfer, Place, FeedEnd, Posture, Closed}
-use Rattle.cell_rules.specs.Types.{Moving, OpenIn, OpenOut, Refusal, NotParty, Held, AlreadyMine, Shut, NotOwner}
-use Rattle.cell_rules.specs.Types.{PlateInZone, NoPlate, PlaceFull, WrongWay, InUse, Stopped, NotStopped, guest_of}
-use Rattle.cell_rules.specs.Types.{transfer_of, same_machine, same_zone, same_posture}
-use Rattle.cell_rules.specs.Names.{ModelState, zone_at, is_full, last_stamp, IsSound, implies, is_open, is_owned_by}
-use Rattle.cell_rules.specs.Names.{is_party, other_party}
-use Rattle.cell_rules.specs.declared.zones.ZoneState.{ZoneState}
+use Rattle.cell_word.proofs.Names.{◌≡◌, ℕ, ◌*◌, ◌^◌, ◌≤◌, Bool, true, false, cond, ◌||◌, ◌&&◌, not, nat_eq, nat_lt, Option, Some, None, is_none, option_map, List, [], ◌∷◌, ◌++◌, refl, sym, ap, ap₂, ◌∙◌, arith, bit_and, bit_or, option_or}
+use Rattle.cell_word.proofs.Names.{then_some, and_le_r, nat_tests, Machine, Feed, Watch, Zone, Z1, Z6, Transfer, Place, FeedEnd, Posture, Closed, Moving, OpenIn, OpenOut, Refusal, NotParty, Held, AlreadyMine, Shut, NotOwner, PlateInZone}
+use Rattle.cell_word.proofs.Names.{NoPlate, PlaceFull, WrongWay, InUse, Stopped, NotStopped, guest_of, transfer_of, same_machine, same_zone, same_posture, ModelState, zone_at, is_full, last_stamp, IsSound, implies, is_open, is_owned_by}
+use Rattle.cell_word.proofs.Names.{is_party, ZoneState, and_left, and_right, implied, Finite, from_bools, all_machines, all_zones, bools, machines, zones, postures, places, states, pairs, holds2, holds3, none_or, none_then, packed, stands}
+use Rattle.cell_word.proofs.Names.{anything, nothing, when, both, owner_is, flag_is, posture_is, place_is, mark_is, guard, first_refusal, Guard}
+use Rattle.cell_rules.specs.Names.{other_party}
 use Rattle.cell_rules.specs.Refusals
-use Rattle.cell_rules.proofs.Tables.{and_left, and_right, implied, all_bools, from_bools, all_machines, from_machines, all_zones, from_zones, all_postures, from_postures, all_places, from_places, all_states, from_states}
-use Rattle.cell_rules.proofs.Done.{none_or, none_then}
-use Rattle.cell_word.specs.Layout.{packed}
-use Rattle.cell_word.specs.Patterns.{stands, anything, nothing, when, both, owner_is, flag_is, posture_is, place_is, mark_is}
 use Rattle.cell_word.specs.Guards as guards
-use Rattle.cell_word.specs.Guards.{guard, first_refusal}
-use Rattle.cell_word.specs.declared.patterns.Guard.{Guard}
 use Rattle.cell_word.proofs.SameAnswer.{same_bool, one_bool, same_answer, one_answer, same_row, one_row}
-use Rattle.cell_word.proofs.Windows.{first-append, all_within, first-window}
-use Rattle.cell_word.proofs.Seen.{zone_window, zone_word, place_window, place_word, mark_word, zone_shown, place_shown, stamp_shown, mark_shown, zone_and_place_shown, is_lawful, lawful_at}
+use Rattle.cell_word.proofs.Windows.{and_or, first-append, all_within, first-window}
+use Rattle.cell_word.proofs.Seen.{zone_window, zone_word, place_window, place_word, mark_window, mark_word, zone_shown, place_shown, stamp_shown, mark_shown, zone_and_place_shown, is_lawful, lawful_at}
 
 -- ---- one refusal or another
 pub or_none : (a : Option Refusal) → option_or a None ≡ a
@@ -44,9 +31,8 @@ one_guard true g = refl
 one_guard false g = refl
 
 pub two_guards : (t u : Bool) (g h : Guard) → option_map (λ (g : Guard). g.refusal) (cond t (Some g) (cond u (Some h) None)) ≡ option_or (then_some t g.refusal) (then_some u h.refusal)
-two_guards true u g h = refl
 two_guards false true g h = refl
-two_guards false false g h = refl
+two_guards _ _ g h = refl
 
 pub and_zero : (w : ℕ) → bit_and w 0 ≡ 0
 and_zero w = omega (arith, and_le_r w 0)
@@ -71,29 +57,20 @@ worn_seen s sound =
 abbrev mark_test : Bool → Bool → Bool
 mark_test stopped b = same_bool (nat_eq (mark_word stopped) (mark_word b)) (same_bool stopped b)
 
-mark_table : all_bools (λ stopped. all_bools (mark_test stopped)) ≡ true
-mark_table = refl
-
 pub mark_seen : (s : ModelState) → IsSound s → (b : Bool) (r : Refusal) → first_refusal (packed s) (guard (mark_is b) r ∷ []) ≡ then_some (same_bool s.stopped b) r
 mark_seen s sound b r =
-    let stopped = s.stopped in
-    let here : stands (packed s) (mark_is b) ≡ same_bool stopped b =
-    ap (λ n. nat_eq n (mark_word b)) (mark_shown s sound)
-    ∙ one_bool (nat_eq (mark_word stopped) (mark_word b)) (same_bool stopped b) (from_bools (mark_test stopped) (from_bools (λ stopped. all_bools (mark_test stopped)) mark_table stopped) b) in
-    ap (λ t. option_map (λ (g : Guard). g.refusal) (cond t (Some (guard (mark_is b) r)) None)) here ∙ one_guard (same_bool stopped b) (guard (mark_is b) r)
+    let here : stands (packed s) (mark_is b) ≡ same_bool s.stopped b =
+    ap (λ n. nat_eq n (mark_word b)) (mark_shown s sound) ∙ one_bool (nat_eq (mark_word s.stopped) (mark_word b)) (same_bool s.stopped b) (holds2 bools bools mark_test refl s.stopped b) in
+    ap (λ t. option_map (λ (g : Guard). g.refusal) (cond t (Some (guard (mark_is b) r)) None)) here ∙ one_guard (same_bool s.stopped b) (guard (mark_is b) r)
 
 abbrev place_test : Place → Bool → Bool → Bool
 place_test p full b = same_bool (nat_eq (place_word p full) (place_word p b)) (same_bool full b)
-
-place_table : all_places (λ p. all_bools (λ full. all_bools (place_test p full))) ≡ true
-place_table = refl
 
 pub place_seen : (s : ModelState) → IsSound s → (p : Place) (b : Bool) → stands (packed s) (place_is p b) ≡ same_bool (is_full s p) b
 place_seen s sound p b =
     let full = is_full s p in
     ap (λ n. nat_eq n (place_word p b)) (place_shown s sound p)
-    ∙ one_bool (nat_eq (place_word p full) (place_word p b)) (same_bool full b)
-    (from_bools (place_test p full) (from_bools (λ full. all_bools (place_test p full)) (from_places (λ p. all_bools (λ full. all_bools (place_test p full))) place_table p) full) b)
+    ∙ one_bool (nat_eq (place_word p full) (place_word p b)) (same_bool full b) (holds3 places bools bools place_test refl p full b)
 
 -- a row begins at an empty place, or ends at a full one
 pub way_seen : (s : ModelState) → IsSound s → (start end : Place)
@@ -104,81 +81,93 @@ way_seen s sound start end =
     ap₂ (λ t u. option_map (λ (g : Guard). g.refusal) (cond t (Some g) (cond u (Some h) None))) (place_seen s sound start false) (place_seen s sound end true)
     ∙ two_guards (not (is_full s start)) (is_full s end) g h
 
--- ---- guards on the five bits of the zone
-abbrev pub zone_test : (Machine → Zone → List Guard) → (Machine → Zone → ZoneState → Option Refusal) → Machine → Zone → ZoneState → Bool
-zone_test row here m z v = implies (is_lawful z v) (same_answer (first_refusal (zone_word z v) (row m z)) (here m z v))
+-- ---- a row, by the values that its window shows
+pub record Row (X : Type 0) : Type 0 where
+  pub row : List Guard
+  pub window : ℕ
+  pub word : X → ℕ
+  pub may : X → Bool
+  pub here : X → Option Refusal
 
-abbrev pub zone_tests : (Machine → Zone → List Guard) → (Machine → Zone → ZoneState → Option Refusal) → Machine → Zone → Bool
-zone_tests row here m z = all_within (zone_window z) (row m z) && all_states (zone_test row here m z)
+abbrev seen_at : {X : Type 0} → Row X → X → Bool
+seen_at r x = implies (r.may x) (same_answer (first_refusal (r.word x) r.row) (r.here x))
 
-abbrev pub zone_table : (Machine → Zone → List Guard) → (Machine → Zone → ZoneState → Option Refusal) → Bool
-zone_table row here = all_machines (λ m. all_zones (zone_tests row here m))
+abbrev pub row_test : {X : Type 0} → Finite X → Row X → Bool
+row_test xs r = all_within r.window r.row && xs.all (seen_at r)
 
-pub zone_seen : (row : Machine → Zone → List Guard) (here : Machine → Zone → ZoneState → Option Refusal) (s : ModelState) → IsSound s → (m : Machine) (z : Zone) → zone_tests row here m z ≡ true
-    → first_refusal (packed s) (row m z) ≡ here m z (zone_at s z)
-zone_seen row here s sound m z tests =
-    let v = zone_at s z in
-    let same = implied (is_lawful z v) (same_answer (first_refusal (zone_word z v) (row m z)) (here m z v)) (from_states (zone_test row here m z) (and_right (all_within (zone_window z) (row m z)) (all_states (zone_test row here m z)) tests) v) (lawful_at s sound z) in
-    first-window (packed s) (zone_window z) (row m z) (and_left (all_within (zone_window z) (row m z)) (all_states (zone_test row here m z)) tests)
-    ∙ ap (λ w. first_refusal w (row m z)) (zone_shown s sound z)
-    ∙ one_answer (first_refusal (zone_word z v) (row m z)) (here m z v) same
+pub row_seen : {X : Type 0} (xs : Finite X) (r : Row X) → row_test xs r ≡ true → (w : ℕ) (x : X) → r.may x ≡ true → bit_and w r.window ≡ r.word x → first_refusal w r.row ≡ r.here x
+row_seen xs r test w x may shown =
+    first-window w r.window r.row (and_left _ _ test)
+    ∙ ap (λ n. first_refusal n r.row) shown
+    ∙ one_answer (first_refusal (r.word x) r.row) (r.here x) (implied (r.may x) _ (xs.holds (seen_at r) (and_right _ _ test) x) may)
+
+-- on the five bits of a zone
+abbrev pub on_zone : Zone → List Guard → (ZoneState → Option Refusal) → Row ZoneState
+on_zone z row here = record { row = row; window = zone_window z; word = zone_word z; may = is_lawful z; here = here }
+
+pub zone_seen : (z : Zone) (row : List Guard) (here : ZoneState → Option Refusal) → row_test states (on_zone z row here) ≡ true → (s : ModelState) → IsSound s → first_refusal (packed s) row ≡ here (zone_at s z)
+zone_seen z row here test s sound = row_seen states (on_zone z row here) test (packed s) (zone_at s z) (lawful_at s sound z) (zone_shown s sound z)
+
+-- and on a place too
+abbrev pub on_zone_and_place : Zone → Place → List Guard → (ZoneState → Bool → Option Refusal) → Row (ZoneState × Bool)
+on_zone_and_place z p row here = record {
+  row = row;
+  window = bit_or (zone_window z) (place_window p);
+  word = λ x. bit_or (zone_word z x.0) (place_word p x.1);
+  may = λ x. true;
+  here = λ x. here x.0 x.1;
+}
+
+pub zone_and_place_seen : (z : Zone) (p : Place) (row : List Guard) (here : ZoneState → Bool → Option Refusal) → row_test (pairs states bools) (on_zone_and_place z p row here) ≡ true → (s : ModelState) → IsSound s
+    → first_refusal (packed s) row ≡ here (zone_at s z) (is_full s p)
+zone_and_place_seen z p row here test s sound =
+    row_seen (pairs states bools) (on_zone_and_place z p row here) test (packed s) (zone_at s z, is_full s p) refl (zone_and_place_shown s sound z p)
+
+abbrev zone_table : (Machine → Zone → List Guard) → (Machine → Zone → ZoneState → Option Refusal) → Bool
+zone_table row here = all_machines (λ m. all_zones (λ z. row_test states (on_zone z (row m z) (here m z))))
 
 zone_row : (row : Machine → Zone → List Guard) (here : Machine → Zone → ZoneState → Option Refusal) → zone_table row here ≡ true → (s : ModelState) → IsSound s → (m : Machine) (z : Zone)
     → first_refusal (packed s) (row m z) ≡ here m z (zone_at s z)
-zone_row row here table s sound m z = zone_seen row here s sound m z (from_zones (zone_tests row here m) (from_machines (λ m. all_zones (zone_tests row here m)) table m) z)
+zone_row row here table s sound m z = zone_seen z (row m z) (here m z) (holds2 machines zones (λ m z. row_test states (on_zone z (row m z) (here m z))) table m z) s sound
 
--- ---- the mark's guard comes after the stranger's, and the zone's guards after both
-inserted : (x k y a b : Option Refusal) → x ≡ a → option_or x y ≡ option_or a b → option_or x (option_or k y) ≡ option_or (option_or a k) b
-inserted None k y None b e f = ap (option_or k) f
-inserted (Some q) k y (Some r) b e f = e
-inserted None k y (Some r) b e f = cc
-inserted (Some q) k y None b e f = cc
+-- the same, on the five bits of a zone and the mark
+abbrev on_zone_and_mark : Zone → List Guard → (ZoneState → Bool → Option Refusal) → Row (ZoneState × Bool)
+on_zone_and_mark z row here = record {
+  row = row;
+  window = bit_or (zone_window z) mark_window;
+  word = λ x. bit_or (zone_word z x.0) (mark_word x.1);
+  may = λ x. is_lawful z x.0;
+  here = λ x. here x.0 x.1;
+}
 
-marked : (s : ModelState) → IsSound s → (m : Machine) (z : Zone) (rest : List Guard) (here : Option Refusal)
-    → first_refusal (packed s) (guards.stranger m z ∷ rest) ≡ option_or (Refusals.not_party m z) here
-    → first_refusal (packed s) (guards.stranger m z ∷ guards.stopped ∷ rest) ≡ option_or (option_or (Refusals.not_party m z) (Refusals.while_stopped s)) here
-marked s sound m z rest here e =
-    let w = packed s in
-    let first = guards.stranger m z ∷ [] in
-    let mark = guards.stopped ∷ [] in
-    first-append w first (mark ++ rest)
-    ∙ ap (option_or (first_refusal w first)) (first-append w mark rest ∙ ap (λ o. option_or o (first_refusal w rest)) (mark_seen s sound true Stopped))
-    ∙ inserted (first_refusal w first) (Refusals.while_stopped s) (first_refusal w rest) (Refusals.not_party m z) here (always_seen w (not (is_party m z)) NotParty) (sym (first-append w first rest) ∙ e)
+abbrev marked_test : (Machine → Zone → List Guard) → (Machine → Zone → ZoneState → Bool → Option Refusal) → Machine → Zone → Bool
+marked_test row here m z = row_test (pairs states bools) (on_zone_and_mark z (row m z) (here m z))
+
+marked_row : (row : Machine → Zone → List Guard) (here : Machine → Zone → ZoneState → Bool → Option Refusal) → all_machines (λ m. all_zones (marked_test row here m)) ≡ true → (s : ModelState) → IsSound s → (m : Machine) (z : Zone)
+    → first_refusal (packed s) (row m z) ≡ here m z (zone_at s z) s.stopped
+marked_row row here table s sound m z =
+    row_seen (pairs states bools) (on_zone_and_mark z (row m z) (here m z)) (holds2 machines zones (marked_test row here) table m z) (packed s) (zone_at s z, s.stopped) (lawful_at s sound z)
+    (and_or (packed s) (zone_window z) mark_window ∙ ap₂ bit_or (zone_shown s sound z) (mark_shown s sound))
 
 -- ---- Claim
-abbrev claim_rest : Machine → Zone → List Guard
-claim_rest m z =
-    guard (owner_is z (Some m)) AlreadyMine
+abbrev claim_part : Machine → Zone → List Guard
+claim_part m z =
+    guards.stranger m z
+    ∷ guards.stopped
+    ∷ guard (owner_is z (Some m)) AlreadyMine
     ∷ guard (owner_is z (Some (other_party m z))) (Held (other_party m z))
     ∷ guard (when (same_machine m (guest_of z)) (posture_is z Closed)) (Shut Closed)
     ∷ guard (when (same_machine m (guest_of z)) (posture_is z Moving)) (Shut Moving)
     ∷ []
 
-abbrev claim_part : Machine → Zone → List Guard
-claim_part m z = guards.stranger m z ∷ claim_rest m z
-
-abbrev claim_here : Machine → Zone → ZoneState → Option Refusal
-claim_here m z v =
-    option_or (option_or (option_or (Refusals.not_party m z) (then_some (is_owned_by v.owner m) AlreadyMine)) (Refusals.held_by v.owner m))
+abbrev claim_here : Machine → Zone → ZoneState → Bool → Option Refusal
+claim_here m z v stopped =
+    option_or (option_or (option_or (option_or (Refusals.not_party m z) (then_some stopped Stopped)) (then_some (is_owned_by v.owner m) AlreadyMine)) (Refusals.held_by v.owner m))
     (then_some (same_machine m (guest_of z) && not (is_open v.posture)) (Shut v.posture))
-
-claim_table : zone_table claim_part claim_here ≡ true
-claim_table = refl
-
-four_in_order : (x a b c d : Option Refusal) → option_or x (option_or (option_or (option_or a b) c) d) ≡ option_or (option_or (option_or (option_or x a) b) c) d
-four_in_order None a b c d = refl
-four_in_order (Some r) a b c d = refl
 
 pub claim_holds : (s : ModelState) → IsSound s → (m : Machine) (z : Zone) → first_refusal (packed s) (guards.claim_guards m z) ≡ Refusals.claim_refusal s m z
 claim_holds s sound m z =
-    let stranger = Refusals.not_party m z in
-    let mine = Refusals.already_mine s m z in
-    let held = Refusals.held s m z in
-    let shut = Refusals.shut_to_guest s m z in
-    let worn = Refusals.worn s in
-    marked s sound m z (claim_rest m z ++ (guards.worn ∷ [])) (option_or (option_or (option_or mine held) shut) worn)
-    (first-append (packed s) (claim_part m z) (guards.worn ∷ []) ∙ ap₂ option_or (zone_row claim_part claim_here claim_table s sound m z) (worn_seen s sound) ∙ sym (four_in_order stranger mine held shut worn))
-    ∙ four_in_order (option_or stranger (Refusals.while_stopped s)) mine held shut worn
+    first-append (packed s) (claim_part m z) (guards.worn ∷ []) ∙ ap₂ option_or (marked_row claim_part claim_here refl s sound m z) (worn_seen s sound)
 
 -- ---- Take
 abbrev not_mine : Machine → Zone → ZoneState → Option Refusal
@@ -190,50 +179,28 @@ take_part m z = guards.stranger m z ∷ guards.unowned z ∷ guards.anothers z (
 abbrev take_here : Machine → Zone → ZoneState → Option Refusal
 take_here m z v = option_or (not_mine m z v) (then_some (not v.flag) NoPlate)
 
-take_table : zone_table take_part take_here ≡ true
-take_table = refl
-
 pub take_holds : (s : ModelState) → IsSound s → (m : Machine) (z : Zone) → first_refusal (packed s) (guards.take_guards m z) ≡ Refusals.take_refusal s m z
 take_holds s sound m z =
-    first-append (packed s) (take_part m z) (guards.worn ∷ []) ∙ ap₂ option_or (zone_row take_part take_here take_table s sound m z) (worn_seen s sound)
+    first-append (packed s) (take_part m z) (guards.worn ∷ []) ∙ ap₂ option_or (zone_row take_part take_here refl s sound m z) (worn_seen s sound)
 
 -- ---- Yield and Release, which feed may not make while z1 is in use
 abbrev use_row : Bool → List Guard
 use_row b = guard (when b (both (posture_is Z6 Moving) (place_is FeedEnd true))) InUse ∷ []
 
-abbrev use_window : ℕ
-use_window = bit_or (zone_window Z6) (place_window FeedEnd)
-
 abbrev use_here : Bool → ZoneState → Bool → Option Refusal
 use_here b v full = then_some (b && same_posture v.posture Moving && full) InUse
 
-abbrev use_test : Bool → ZoneState → Bool → Bool
-use_test b v full = same_answer (first_refusal (bit_or (zone_word Z6 v) (place_word FeedEnd full)) (use_row b)) (use_here b v full)
-
-use_table : all_bools (λ b. all_within use_window (use_row b) && all_states (λ v. all_bools (use_test b v))) ≡ true
-use_table = refl
-
-use_seen : (s : ModelState) → IsSound s → (b : Bool) → first_refusal (packed s) (use_row b) ≡ use_here b (zone_at s Z6) (is_full s FeedEnd)
-use_seen s sound b =
-    let tests = from_bools (λ b. all_within use_window (use_row b) && all_states (λ v. all_bools (use_test b v))) use_table b in
-    let v = zone_at s Z6 in
-    let full = is_full s FeedEnd in
-    first-window (packed s) use_window (use_row b) (and_left (all_within use_window (use_row b)) (all_states (λ v. all_bools (use_test b v))) tests)
-    ∙ ap (λ w. first_refusal w (use_row b)) (zone_and_place_shown s sound Z6 FeedEnd)
-    ∙ one_answer (first_refusal (bit_or (zone_word Z6 v) (place_word FeedEnd full)) (use_row b)) (use_here b v full)
-    (from_bools (use_test b v) (from_states (λ v. all_bools (use_test b v)) (and_right (all_within use_window (use_row b)) (all_states (λ v. all_bools (use_test b v))) tests) v) full)
-
 in_use_seen : (s : ModelState) → IsSound s → (m : Machine) (z : Zone) → first_refusal (packed s) (guards.in_use m z ∷ []) ≡ Refusals.in_use s m z
-in_use_seen s sound m z = use_seen s sound (same_machine m Feed && same_zone z Z1)
+in_use_seen s sound m z =
+    let b = same_machine m Feed && same_zone z Z1 in
+    let test = from_bools (λ b. row_test (pairs states bools) (on_zone_and_place Z6 FeedEnd (use_row b) (use_here b))) refl b in
+    zone_and_place_seen Z6 FeedEnd (use_row b) (use_here b) test s sound
 
 abbrev yield_part : Machine → Zone → List Guard
 yield_part m z = guards.stranger m z ∷ guards.unowned z ∷ guards.anothers z (other_party m z) ∷ guards.plate_in z ∷ guards.shut z Closed ∷ guards.shut z Moving ∷ []
 
 abbrev yield_here : Machine → Zone → ZoneState → Option Refusal
 yield_here m z v = option_or (option_or (not_mine m z v) (then_some v.flag (PlateInZone z))) (then_some (not (is_open v.posture)) (Shut v.posture))
-
-yield_table : zone_table yield_part yield_here ≡ true
-yield_table = refl
 
 left_by : (s : ModelState) → IsSound s → (m : Machine) (z : Zone) (part : List Guard) (here : Option Refusal) → first_refusal (packed s) part ≡ here
     → first_refusal (packed s) (part ++ (guards.in_use m z ∷ guards.worn ∷ [])) ≡ option_or (option_or here (Refusals.in_use s m z)) (Refusals.worn s)
@@ -243,7 +210,7 @@ left_by s sound m z part here e =
     ∙ or_assoc here (Refusals.in_use s m z) (Refusals.worn s)
 
 pub yield_holds : (s : ModelState) → IsSound s → (m : Machine) (z : Zone) → first_refusal (packed s) (guards.yield_guards m z) ≡ Refusals.yield_refusal s m z
-yield_holds s sound m z = left_by s sound m z (yield_part m z) (yield_here m z (zone_at s z)) (zone_row yield_part yield_here yield_table s sound m z)
+yield_holds s sound m z = left_by s sound m z (yield_part m z) (yield_here m z (zone_at s z)) (zone_row yield_part yield_here refl s sound m z)
 
 abbrev release_part : Machine → Zone → List Guard
 release_part m z = guards.stranger m z ∷ guards.unowned z ∷ guards.anothers z (other_party m z) ∷ guards.plate_in z ∷ guards.shut z Moving ∷ []
@@ -251,16 +218,15 @@ release_part m z = guards.stranger m z ∷ guards.unowned z ∷ guards.anothers 
 abbrev release_here : Machine → Zone → ZoneState → Option Refusal
 release_here m z v = option_or (option_or (not_mine m z v) (then_some v.flag (PlateInZone z))) (then_some (same_posture v.posture Moving) (Shut Moving))
 
-release_table : zone_table release_part release_here ≡ true
-release_table = refl
-
 pub release_holds : (s : ModelState) → IsSound s → (m : Machine) (z : Zone) → first_refusal (packed s) (guards.release_guards m z) ≡ Refusals.release_refusal s m z
-release_holds s sound m z = left_by s sound m z (release_part m z) (release_here m z (zone_at s z)) (zone_row release_part release_here release_table s sound m z)
+release_holds s sound m z = left_by s sound m z (release_part m z) (release_here m z (zone_at s z)) (zone_row release_part release_here refl s sound m z)
 
 -- ---- Give
-abbrev give_rest : Machine → Zone → List Guard
-give_rest m z =
-    guards.unowned z
+abbrev give_part : Machine → Zone → List Guard
+give_part m z =
+    guards.stranger m z
+    ∷ guards.stopped
+    ∷ guards.unowned z
     ∷ guards.anothers z (other_party m z)
     ∷ guards.plate_in z
     ∷ guards.wrong_way m z Closed
@@ -269,31 +235,23 @@ give_rest m z =
     ∷ guards.wrong_way m z OpenOut
     ∷ []
 
-abbrev give_part : Machine → Zone → List Guard
-give_part m z = guards.stranger m z ∷ give_rest m z
+abbrev give_before : Machine → Zone → ZoneState → Bool → Option Refusal
+give_before m z v stopped =
+    option_or (option_or (option_or (Refusals.not_party m z) (then_some stopped Stopped)) (then_some (not (is_owned_by v.owner m)) (NotOwner v.owner))) (then_some v.flag (PlateInZone z))
 
-abbrev give_here : Machine → Zone → ZoneState → Option Refusal
-give_here m z v = option_or (option_or (not_mine m z v) (then_some v.flag (PlateInZone z))) (Refusals.wrong_way (Refusals.given_by m (transfer_of z v.posture)))
-
-give_table : zone_table give_part give_here ≡ true
-give_table = refl
+abbrev give_here : Machine → Zone → ZoneState → Bool → Option Refusal
+give_here m z v stopped = option_or (give_before m z v stopped) (Refusals.wrong_way (Refusals.given_by m (transfer_of z v.posture)))
 
 -- if a machine may give in a posture, the row is the only one in which it gives
 abbrev given_test : Machine → Zone → Posture → Bool
 given_test m z q = is_none (Refusals.given_by m (transfer_of z q)) || same_row (Refusals.given_by m (transfer_of z q)) (guards.row_given m z)
-
-given_table : all_machines (λ m. all_zones (λ z. all_postures (given_test m z))) ≡ true
-given_table = refl
 
 pub either_way : (a b : Bool) → (a || b) ≡ true → a ≡ false → b ≡ true
 either_way true b e f = cc
 either_way false b e f = e
 
 pub given_once : (m : Machine) (z : Zone) (q : Posture) → is_none (Refusals.given_by m (transfer_of z q)) ≡ false → Refusals.given_by m (transfer_of z q) ≡ guards.row_given m z
-given_once m z q some =
-    let test = from_postures (given_test m z) (from_zones (λ z. all_postures (given_test m z)) (from_machines (λ m. all_zones (λ z. all_postures (given_test m z))) given_table m) z) q in
-    one_row (Refusals.given_by m (transfer_of z q)) (guards.row_given m z)
-    (either_way (is_none (Refusals.given_by m (transfer_of z q))) (same_row (Refusals.given_by m (transfer_of z q)) (guards.row_given m z)) test some)
+given_once m z q some = one_row _ _ (either_way _ _ (holds3 machines zones postures given_test refl m z q) some)
 
 abbrev ends_of : Option Transfer → List Guard
 ends_of row = guard (guards.starts_empty row) NoPlate ∷ guard (guards.ends_full row) PlaceFull ∷ []
@@ -306,43 +264,20 @@ regrouped : (a b c d : Option Refusal) → option_or a (option_or (option_or b c
 regrouped None b c d = refl
 regrouped (Some r) b c d = refl
 
--- in a cell that isn't stopped
-give_unmarked : (s : ModelState) → IsSound s → (m : Machine) (z : Zone)
-    → first_refusal (packed s) (give_part m z ++ (ends_of (guards.row_given m z) ++ (guards.worn ∷ [])))
-    ≡ option_or (option_or (option_or (give_here m z (zone_at s z)) (Refusals.nothing_to_give s (Refusals.transfer_given s m z))) (Refusals.no_room s (Refusals.transfer_given s m z))) (Refusals.worn s)
-give_unmarked s sound m z =
+pub give_holds : (s : ModelState) → IsSound s → (m : Machine) (z : Zone) → first_refusal (packed s) (guards.give_guards m z) ≡ Refusals.give_refusal s m z
+give_holds s sound m z =
     let w = packed s in
     let gift = Refusals.transfer_given s m z in
     let row = guards.row_given m z in
-    let here = give_here m z (zone_at s z) in
-    let before = option_or (not_mine m z (zone_at s z)) (then_some (zone_at s z).flag (PlateInZone z)) in
+    let here = give_here m z (zone_at s z) s.stopped in
     let way_and_stamp : first_refusal w (ends_of row ++ (guards.worn ∷ [])) ≡ option_or (option_or (Refusals.nothing_to_give s row) (Refusals.no_room s row)) (Refusals.worn s) =
     first-append w (ends_of row) (guards.worn ∷ []) ∙ ap₂ option_or (ends_seen s sound row) (worn_seen s sound) in
-    let same : here ≡ None → gift ≡ row = λ e. given_once m z (zone_at s z).posture (none_then (is_none gift) WrongWay (none_or before (Refusals.wrong_way gift) e).1) in
+    let same : here ≡ None → gift ≡ row = λ e. given_once m z (zone_at s z).posture (none_then (is_none gift) WrongWay (none_or (give_before m z (zone_at s z) s.stopped) (Refusals.wrong_way gift) e).1) in
     first-append w (give_part m z) (ends_of row ++ (guards.worn ∷ []))
     ∙ or_next (first_refusal w (give_part m z)) here (first_refusal w (ends_of row ++ (guards.worn ∷ []))) (option_or (option_or (Refusals.nothing_to_give s gift) (Refusals.no_room s gift)) (Refusals.worn s))
-    (zone_row give_part give_here give_table s sound m z)
+    (marked_row give_part give_here refl s sound m z)
     (λ e. way_and_stamp ∙ ap (λ r. option_or (option_or (Refusals.nothing_to_give s r) (Refusals.no_room s r)) (Refusals.worn s)) (sym (same e)))
     ∙ regrouped here (Refusals.nothing_to_give s gift) (Refusals.no_room s gift) (Refusals.worn s)
-
-six_in_order : (x a b c d e f : Option Refusal)
-    → option_or x (option_or (option_or (option_or (option_or (option_or a b) c) d) e) f) ≡ option_or (option_or (option_or (option_or (option_or (option_or x a) b) c) d) e) f
-six_in_order None a b c d e f = refl
-six_in_order (Some r) a b c d e f = refl
-
-pub give_holds : (s : ModelState) → IsSound s → (m : Machine) (z : Zone) → first_refusal (packed s) (guards.give_guards m z) ≡ Refusals.give_refusal s m z
-give_holds s sound m z =
-    let gift = Refusals.transfer_given s m z in
-    let stranger = Refusals.not_party m z in
-    let owner = Refusals.not_owner s m z in
-    let plate = Refusals.plate_in_zone s z in
-    let way = Refusals.wrong_way gift in
-    let empty = Refusals.nothing_to_give s gift in
-    let full = Refusals.no_room s gift in
-    let worn = Refusals.worn s in
-    marked s sound m z (give_rest m z ++ (ends_of (guards.row_given m z) ++ (guards.worn ∷ []))) (option_or (option_or (option_or (option_or (option_or owner plate) way) empty) full) worn)
-    (give_unmarked s sound m z ∙ sym (six_in_order stranger owner plate way empty full worn))
-    ∙ six_in_order (option_or stranger (Refusals.while_stopped s)) owner plate way empty full worn
 
 -- ---- Stop and Resume
 by_watch : (s : ModelState) → IsSound s → (m : Machine) (b : Bool) (r : Refusal)

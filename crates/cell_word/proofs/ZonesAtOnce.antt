@@ -1,23 +1,12 @@
 -- The zones of a word without plates in zones, all tested at once.
-use Rattle.std.proofs.Common.{◌≡◌, ◌↔◌, ℕ, ◌+◌, ◌-◌, ◌*◌, ◌/◌, ◌%◌, ◌^◌, min, max, Bool, true, false, ◌&&◌, not, nat_eq, refl, sym, ap, ap₂, ◌∙◌, arith, eqb-true, eq-eqb}
-use Rattle.std.specs.Prelude.{bit_and, bit_or, bit_xor}
-use Rattle.std.specs.Int.{bit_at}
-use Rattle.std.specs.List.{list_all}
-use Rattle.std.proofs.Math.Nat.{add_comm}
-use Rattle.std.proofs.lemmas.Nat.{shr-shr, xor_shr, le_or_l, le_or_r}
-use Rattle.std.proofs.lemmas.Nat.Bits.{bit_at_and, bit_at_or, bit_at_xor}
-use Rattle.cell_rules.specs.Types.{Zone, Z1, Z2, Z3, Z4, Z5, Z6, PressIn, PressOut, Posture, OpenIn, OpenOut}
-use Rattle.cell_rules.specs.Types.{transfer_of, same_posture}
+use Rattle.cell_word.proofs.Names.{◌≡◌, ◌↔◌, ℕ, ◌+◌, ◌-◌, ◌*◌, ◌/◌, ◌%◌, ◌^◌, min, max, Bool, true, false, ◌&&◌, not, nat_eq, refl, sym, ap, ap₂, ◌∙◌, arith, eqb-true, eq-eqb, bit_and, bit_or, bit_xor, bit_at, list_all, and-false, add_comm}
+use Rattle.cell_word.proofs.Names.{shr-shr, xor_shr, le_or_l, le_or_r, bit_at_and, bit_at_or, bit_at_xor, Zone, Z1, Z2, Z3, Z4, Z5, Z6, PressIn, PressOut, Posture, OpenIn, OpenOut, transfer_of, same_posture, zone_at, is_full, is_onto_full}
+use Rattle.cell_word.proofs.Names.{implies, and_both, implied, all_zones, from_zones, all_pass, each_zone, zone_bit, bits_of, is_bit_set, posture_of_code, state_told, stands, flag_is, place_is, zone_codes, onto_full, is_lawful_zone}
+use Rattle.cell_word.proofs.Names.{is_lawful_press}
 use Rattle.cell_types.specs.Everything.{all_zones as every_zone}
-use Rattle.cell_rules.specs.Names.{zone_at, is_full, is_onto_full, implies}
-use Rattle.cell_rules.proofs.Tables.{and_both, implied, all_zones, from_zones, all_pass}
-use Rattle.cell_word.specs.Layout.{zone_bit}
-use Rattle.cell_word.specs.Reading.{bits_of, is_bit_set, posture_of_code, state_told}
-use Rattle.cell_word.specs.Patterns.{stands, flag_is, place_is}
-use Rattle.cell_word.specs.StateWords.{zone_codes, onto_full, is_lawful_zone, is_lawful_press}
 use Rattle.cell_word.proofs.SameAnswer.{same_bool, one_bool}
 use Rattle.cell_word.proofs.Windows.{and_or, field_shown, field_test, all_below, from_below, five_fit}
-use Rattle.cell_word.proofs.StateWordsHold.{zone_is, is_sent, onto_seen, zone_parts, plates_seen, forged_seen, no_more, is_inward}
+use Rattle.cell_word.proofs.StateWordsHold.{zone_is, is_sent, onto_seen, zone_parts, plates_seen, forged_seen, is_inward}
 
 -- ---- the lowest bits of all zones
 abbrev pub lowest_bits : ℕ
@@ -29,20 +18,8 @@ bit_of n z = bits_of n (zone_bit z) 1 * 2 ^ zone_bit z
 abbrev mask_of : Zone → ℕ
 mask_of z = (2 ^ 1 - 1) * 2 ^ zone_bit z
 
-abbrev from_z5 : (Zone → ℕ) → ℕ
-from_z5 f = bit_or (f Z5) (f Z6)
-
-abbrev from_z4 : (Zone → ℕ) → ℕ
-from_z4 f = bit_or (f Z4) (from_z5 f)
-
-abbrev from_z3 : (Zone → ℕ) → ℕ
-from_z3 f = bit_or (f Z3) (from_z4 f)
-
-abbrev from_z2 : (Zone → ℕ) → ℕ
-from_z2 f = bit_or (f Z2) (from_z3 f)
-
 abbrev joined : (Zone → ℕ) → ℕ
-joined f = bit_or (f Z1) (from_z2 f)
+joined f = bit_or (f Z1) (bit_or (f Z2) (bit_or (f Z3) (bit_or (f Z4) (bit_or (f Z5) (f Z6)))))
 
 shown : (n : ℕ) (z : Zone) → bit_and n (mask_of z) ≡ bit_of n z
 shown n z = field_shown n (zone_bit z) 1
@@ -51,46 +28,23 @@ one_more : (n : ℕ) (z : Zone) (rest seen : ℕ) → bit_and n rest ≡ seen �
 one_more n z rest seen e = and_or n (mask_of z) rest ∙ ap₂ bit_or (shown n z) e
 
 apart : (n : ℕ) → bit_and n lowest_bits ≡ joined (bit_of n)
-apart n =
-    let z5 = one_more n Z5 (mask_of Z6) (bit_of n Z6) (shown n Z6) in
-    let z4 = one_more n Z4 (from_z5 mask_of) (from_z5 (bit_of n)) z5 in
-    let z3 = one_more n Z3 (from_z4 mask_of) (from_z4 (bit_of n)) z4 in
-    let z2 = one_more n Z2 (from_z3 mask_of) (from_z3 (bit_of n)) z3 in
-    one_more n Z1 (from_z2 mask_of) (from_z2 (bit_of n)) z2
+apart n = one_more n Z1 _ _ (one_more n Z2 _ _ (one_more n Z3 _ _ (one_more n Z4 _ _ (one_more n Z5 _ _ (shown n Z6)))))
 
-left_zero : (a b : ℕ) → bit_or a b ≡ 0 → a ≡ 0
-left_zero a b e = omega (arith, le_or_l a b)
-
-right_zero : (a b : ℕ) → bit_or a b ≡ 0 → b ≡ 0
-right_zero a b e = omega (arith, le_or_r a b)
-
-after_z1 : (f : Zone → ℕ) → joined f ≡ 0 → from_z2 f ≡ 0
-after_z1 f e = right_zero (f Z1) (from_z2 f) e
-
-after_z2 : (f : Zone → ℕ) → joined f ≡ 0 → from_z3 f ≡ 0
-after_z2 f e = right_zero (f Z2) (from_z3 f) (after_z1 f e)
-
-after_z3 : (f : Zone → ℕ) → joined f ≡ 0 → from_z4 f ≡ 0
-after_z3 f e = right_zero (f Z3) (from_z4 f) (after_z2 f e)
-
-after_z4 : (f : Zone → ℕ) → joined f ≡ 0 → from_z5 f ≡ 0
-after_z4 f e = right_zero (f Z4) (from_z5 f) (after_z3 f e)
+both_zero : (a b : ℕ) → bit_or a b ≡ 0 → (a ≡ 0) × (b ≡ 0)
+both_zero a b e = (omega (arith, le_or_l a b), omega (arith, le_or_r a b))
 
 each_zero : (f : Zone → ℕ) → joined f ≡ 0 → (z : Zone) → f z ≡ 0
-each_zero f e Z1 = left_zero (f Z1) (from_z2 f) e
-each_zero f e Z2 = left_zero (f Z2) (from_z3 f) (after_z1 f e)
-each_zero f e Z3 = left_zero (f Z3) (from_z4 f) (after_z2 f e)
-each_zero f e Z4 = left_zero (f Z4) (from_z5 f) (after_z3 f e)
-each_zero f e Z5 = left_zero (f Z5) (f Z6) (after_z4 f e)
-each_zero f e Z6 = right_zero (f Z5) (f Z6) (after_z4 f e)
+each_zero f e =
+    let z1 = both_zero (f Z1) (bit_or (f Z2) (bit_or (f Z3) (bit_or (f Z4) (bit_or (f Z5) (f Z6))))) e in
+    let z2 = both_zero (f Z2) (bit_or (f Z3) (bit_or (f Z4) (bit_or (f Z5) (f Z6)))) z1.1 in
+    let z3 = both_zero (f Z3) (bit_or (f Z4) (bit_or (f Z5) (f Z6))) z2.1 in
+    let z4 = both_zero (f Z4) (bit_or (f Z5) (f Z6)) z3.1 in
+    let z5 = both_zero (f Z5) (f Z6) z4.1 in
+    each_zone (λ z. f z ≡ 0) z1.0 z2.0 z3.0 z4.0 z5.0 z5.1
 
 unshifted : (n : ℕ) (z : Zone) → bit_of n z ≡ 0 → bits_of n (zone_bit z) 1 ≡ 0
 unshifted n Z1 e = omega arith
-unshifted n Z2 e = omega arith
-unshifted n Z3 e = omega arith
-unshifted n Z4 e = omega arith
-unshifted n Z5 e = omega arith
-unshifted n Z6 e = omega arith
+unshifted n _ e = omega arith
 
 pub none_set : (n : ℕ) → bit_and n lowest_bits ≡ 0 → (z : Zone) → bits_of n (zone_bit z) 1 ≡ 0
 none_set n e z = unshifted n z (each_zero (bit_of n) (sym (apart n) ∙ e) z)
@@ -175,9 +129,6 @@ spoilt_seen w k =
 abbrev free_test : Zone → ℕ → Bool
 free_test z c = implies (nat_eq (bit_at c 2) 0) (same_bool (nat_eq (spoilt_at (zone_bit z) c) 0) (is_bit_set (zone_codes z) c))
 
-free_table : all_zones (λ z. all_below 32 (free_test z)) ≡ true
-free_table = refl
-
 abbrev IsClear : ℕ → Type 0
 IsClear w = (z : Zone) → stands w (flag_is z false) ≡ true
 
@@ -190,7 +141,7 @@ by_code w clear z =
     let same = same_bool (nat_eq (spoilt_at (zone_bit z) c) 0) (is_bit_set (zone_codes z) c) in
     ap (λ n. nat_eq n 0) (spoilt_seen w (zone_bit z))
     ∙ one_bool (nat_eq (spoilt_at (zone_bit z) c) 0) (is_bit_set (zone_codes z) c)
-    (implied (nat_eq (bit_at c 2) 0) same (from_below 32 (free_test z) (from_zones (λ z. all_below 32 (free_test z)) free_table z) c (five_fit w (zone_bit z))) (eq-eqb _ 0 (no_flag w clear z)))
+    (implied (nat_eq (bit_at c 2) 0) same (from_below 32 (free_test z) (from_zones (λ z. all_below 32 (free_test z)) refl z) c (five_fit w (zone_bit z))) (eq-eqb _ 0 (no_flag w clear z)))
 
 nothing_sent : (w : ℕ) → IsClear w → (z : Zone) (q : Posture) → stands w (onto_full z q (transfer_of z q)) ≡ false
 nothing_sent w clear z q =
@@ -220,7 +171,7 @@ codes_at_once w clear =
 pub press_without_forged : (w : ℕ) → stands w (place_is PressOut true) ≡ false → is_lawful_press w ≡ true
 press_without_forged w e =
     let empty : is_full (state_told w) PressOut ≡ false = sym (field_test w 35 1 1) ∙ e in
-    let seen = λ (b : Bool). ap (λ full. b && full) empty ∙ no_more b in
+    let seen = λ (b : Bool). ap (λ full. b && full) empty ∙ and-false b in
     and_both _ _
     (ap not (plates_seen w ∙ seen (is_full (state_told w) PressIn)))
     (ap not (forged_seen w ∙ seen (is_inward (zone_at (state_told w) Z3))))

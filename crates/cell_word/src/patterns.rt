@@ -105,6 +105,7 @@ impl Pattern {
 
     /// The word with the bits under the mask as they are wanted.
     #[inline(always)]
+    #[tactic(auto, using(crate::proofs::Writing::cleared))]
     pub fn written_into(self, word: u64) -> u64
         ensures { result ≡ patterns.with_written word self.mask self.wanted }
     {

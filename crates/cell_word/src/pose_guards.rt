@@ -38,6 +38,7 @@ pub(crate) fn posed_at(machine: Machine, pose: Pose, zone: Option<Zone>) -> Opti
 
 /// A zone that gets another posture has to be its host's.
 #[inline(always)]
+#[tactic(auto, using(crate::proofs::Turning::require_held_unless_in))]
 fn require_held_unless_in(at: ZoneBits, posture: Posture) -> Result<(), Refusal>
     ensures { result ≡ guards.checked at.word (guards.owner_guards at.zone posture) }
 {
@@ -59,6 +60,7 @@ fn require_owned_zone(word: u64, posed: Option<(Zone, Posture)>) -> Result<(), R
 
 /// A zone that gets another posture has to be free of plates.
 #[inline(always)]
+#[tactic(auto, using(crate::proofs::Turning::require_clear_unless_in))]
 fn require_clear_unless_in(at: ZoneBits, posture: Posture) -> Result<(), Refusal>
     ensures { result ≡ guards.checked at.word (guards.plate_guards at.zone posture) }
 {
@@ -80,6 +82,7 @@ fn require_clear_zone(word: u64, posed: Option<(Zone, Posture)>) -> Result<(), R
 
 /// The zone has to have this posture.
 #[inline(always)]
+#[tactic(auto, using(crate::proofs::Turning::require_in))]
 pub(crate) fn require_in(at: ZoneBits, posture: Posture, refusal: Refusal) -> Result<(), Refusal>
     ensures { result ≡ guards.checked at.word (guards.posture_guards at.zone posture refusal) }
 {
@@ -115,6 +118,7 @@ fn require_no_jump(
 
 /// The place has to be empty if its zone becomes open inward.
 #[inline(always)]
+#[tactic(auto, using(crate::proofs::Turning::require_room))]
 fn require_room(at: ZoneBits, place: Place) -> Result<(), Refusal>
     ensures { result ≡ guards.checked at.word (guards.room_guards at.zone place) }
 {

@@ -73,6 +73,7 @@ fn is_lawful_zone(word: u64, zone: Zone) -> bool
 }
 
 /// The press has at most one plate, and no forged one while it is open inward.
+#[tactic(auto, using(crate::proofs::ZonesAtOnce::press_without_forged))]
 fn is_lawful_press(word: u64) -> bool
     ensures { result ≡ words.is_lawful_press word }
 {
@@ -89,6 +90,7 @@ fn is_lawful_press(word: u64) -> bool
 }
 
 /// Whether no zone has a plate in it.
+#[tactic(auto, using(crate::proofs::ZonesAtOnce::clear_at_once))]
 fn are_clear_zones(word: u64) -> bool
     ensures { IsTrue result ↔ ((zone : Zone) → IsTrue (stands word (flag_is zone false))) }
 {
@@ -97,6 +99,7 @@ fn are_clear_zones(word: u64) -> bool
 
 /// Whether each zone has a code that it may have, where no zone has a plate in it. All zones are
 /// tested at once: the bits of each are shifted down to its lowest.
+#[tactic(auto, using(crate::proofs::ZonesAtOnce::codes_at_once))]
 fn are_lawful_codes(word: u64) -> bool
     requires clear { (zone : Zone) → IsTrue (stands word (flag_is zone false)) }
     ensures { result ≡ list_all (words.is_lawful_zone word) all_zones }

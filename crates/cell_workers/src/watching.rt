@@ -7,7 +7,7 @@ use std::alloc::Global;
 /// The watch of six workers. While they take their turns it may look at their interlock, stop the
 /// cell and resume it.
 ///
-/// For a watch of one's own make a `PassLine` of the pass, and ask by it, or survey. The line gives
+/// For a watch of your own make a `PassLine` of the pass, and ask by it, or survey. The line gives
 /// back the pass and the journal, and its contract says what is asked here of both.
 pub trait Watching: Drop {
     ghost use Rattle.std.specs.Prelude.{◌≡◌, ℕ, [], ⊤};

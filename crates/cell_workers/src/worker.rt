@@ -9,7 +9,7 @@ use std::alloc::Global;
 
 /// A machine that takes its turns in a thread of its own, by a pass over an interlock.
 ///
-/// The machines of a `Cell` are workers. For parts of one's own, implement it: make a `PassLine` of
+/// The machines of a `Cell` are workers. For parts of your own, implement it: make a `PassLine` of
 /// the pass, and take turns by it. The line gives back the pass and the journal, and its contract
 /// says what is asked here of both.
 ///

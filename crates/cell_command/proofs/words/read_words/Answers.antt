@@ -18,27 +18,12 @@ program_is_simple : is_simple program ≡ true
 unfolding clap_on_literals
 program_is_simple = refl
 
-plain_is_taken : (name : Text) → takes program (name ∷ []) ≡ true
-unfolding clap_on_literals
-plain_is_taken name = refl
-
-replay_is_taken : (name : Text) → takes program (name ∷ codes "replay" ∷ []) ≡ true
-unfolding clap_on_literals
-replay_is_taken name = refl
-
-sim_is_taken : (name : Text) → takes program (name ∷ codes "sim" ∷ []) ≡ true
-unfolding clap_on_literals
-sim_is_taken name = refl
-
-run_is_taken : (name : Text) → takes program (name ∷ codes "run" ∷ []) ≡ true
-unfolding clap_on_literals
-run_is_taken name = refl
-
 bare_are_taken : (words : List Text) → AreBare words → takes program words ≡ true
-bare_are_taken words (inl (name, inl e)) = ap (takes program) e ∙ plain_is_taken name
-bare_are_taken words (inl (name, inr e)) = ap (takes program) e ∙ replay_is_taken name
-bare_are_taken words (inr (inl (name, e))) = ap (takes program) e ∙ sim_is_taken name
-bare_are_taken words (inr (inr (name, e))) = ap (takes program) e ∙ run_is_taken name
+unfolding clap_on_literals
+bare_are_taken words (inl (name, inl e)) = rw e refl
+bare_are_taken words (inl (name, inr e)) = rw e refl
+bare_are_taken words (inr (inl (name, e))) = rw e refl
+bare_are_taken words (inr (inr (name, e))) = rw e refl
 
 run_by_default : (name : Text) → mode_of (name ∷ codes "run" ∷ []) ≡ Run 1000 8
 unfolding clap_on_literals
@@ -69,9 +54,6 @@ returns-in-Err-clause-bare c = λ k. c.in-Err.ensures.passes (ap₂ takes c.in_o
 pub returns-in-Ok-clause-mode : goal.returns-in-Ok-clause-mode
 returns-in-Ok-clause-mode c = c.mode_of.ensures.mode ∙ ap mode_named (met_alike _ _ _ c.in_ok-command.ensures c.in-Ok.ensures.matches)
 
-pub returns-in-Ok-clause-within : goal.returns-in-Ok-clause-within
-returns-in-Ok-clause-within c = c.mode_of.ensures.within
-
 pub returns-in-Err-clause-refused : goal.returns-in-Err-clause-refused
 returns-in-Err-clause-refused c = subst (λ a. HasKind (fault_of a (texts_of c.args.words.now)) c.in-Err.error) c.in_ok-command.ensures (c.in-Err.ensures.kinds (ap is_simple_and_free c.in_ok-command.ensures ∙ program_is_free))
 
@@ -85,6 +67,3 @@ has_kind (Err e) kinds h = inl h
 
 pub returns-in_err-command-clause-refused : goal.returns-in_err-command-clause-refused
 returns-in_err-command-clause-refused c = has_kind c.from_residual.result (fault_of program (texts_of c.args.words.now)) (no_room c)
-
-pub returns-in_err-command-clause-bare : goal.returns-in_err-command-clause-bare
-returns-in_err-command-clause-bare c = λ k. no_room c

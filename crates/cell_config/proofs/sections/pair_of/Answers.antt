@@ -1,5 +1,5 @@
 use Rattle.std.proofs.Common.{List, [], ◌∷◌, ◌≡◌, ◌<◌, ◌≤◌, ◌∙◌, Option, None, ℤ, length, refl, sym, ap, arith}
-use Rattle.toml.specs.Data.{Data, Items, string, integer, float, boolean, datetime, array, table, item, no_items}
+use Rattle.toml.specs.Data.{Data, Items, string, integer, array, item, no_items}
 use Rattle.toml.specs.View.{items_view, view}
 use Rattle.toml.specs.declared.value.Value.{Value}
 use Rattle.cell_config.specs.Settings.{pair_of}
@@ -9,30 +9,15 @@ use Rattle.cell_config.proofs.sections.pair_of.Goals as goal
 -- one item is no pair, nor are three or more
 one_is_none : (x : Data) → ◌≡◌ {A = Option (ℤ × ℤ)} None (pair_of (array (item x no_items)))
 one_is_none (string s) = refl
-one_is_none (integer z) = refl
-one_is_none (float x) = refl
-one_is_none (boolean b) = refl
-one_is_none (datetime d) = refl
-one_is_none (array items) = refl
-one_is_none (table ms) = refl
+one_is_none other = refl
 
 after_number : (z : ℤ) (y third : Data) (more : Items) → ◌≡◌ {A = Option (ℤ × ℤ)} None (pair_of (array (item (integer z) (item y (item third more)))))
-after_number z (string s) third more = refl
 after_number z (integer n) third more = refl
-after_number z (float x) third more = refl
-after_number z (boolean b) third more = refl
-after_number z (datetime d) third more = refl
-after_number z (array items) third more = refl
-after_number z (table ms) third more = refl
+after_number z other third more = refl
 
 three_are_none : (x y third : Data) (more : Items) → ◌≡◌ {A = Option (ℤ × ℤ)} None (pair_of (array (item x (item y (item third more)))))
 three_are_none (integer z) y third more = after_number z y third more
-three_are_none (string s) y third more = refl
-three_are_none (float x) y third more = refl
-three_are_none (boolean b) y third more = refl
-three_are_none (datetime d) y third more = refl
-three_are_none (array items) y third more = refl
-three_are_none (table ms) y third more = refl
+three_are_none other y third more = refl
 
 few : (vs : List Value) → length vs < 2 → ◌≡◌ {A = Option (ℤ × ℤ)} None (pair_of (array (items_view vs)))
 few [] h = refl
@@ -40,10 +25,8 @@ few (x ∷ []) h = one_is_none (view x)
 few (x ∷ y ∷ more) h = absurd (omega arith)
 
 many : (vs : List Value) → 3 ≤ length vs → ◌≡◌ {A = Option (ℤ × ℤ)} None (pair_of (array (items_view vs)))
-many [] h = absurd (omega arith)
-many (x ∷ []) h = absurd (omega arith)
-many (x ∷ y ∷ []) h = absurd (omega arith)
 many (x ∷ y ∷ z ∷ more) h = three_are_none (view x) (view y) (view z) (items_view more)
+many other h = absurd (omega arith)
 
 pub returns-in_default : goal.returns-in_default
 returns-in_default c =

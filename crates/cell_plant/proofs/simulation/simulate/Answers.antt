@@ -1,4 +1,5 @@
-use Rattle.cell_plant.specs.Cells.{cell_gauges, cell_scales}
+use Rattle.cell_plant.proofs.Names.{cell_gauges}
+use Rattle.cell_plant.specs.Cells.{cell_scales}
 use Rattle.cell_plant.proofs.Unrefused.{run-unrefused}
 use Rattle.cell_plant.proofs.simulation.simulate.Goals as goal
 

@@ -1,7 +1,6 @@
-use Rattle.std.proofs.Common.{◌≡◌, ◌∙◌, ◌<◌, ◌+◌, [], take, drop, Some, None, Ok, Err, sym, ap, subst, refl, arith}
-use Rattle.std.proofs.lemmas.List.{take_all, take_more, take-append-drop}
-use Rattle.cell_plant.specs.declared.watcher.SeenFault.TheVariants.{Memory, Watcher}
-use Rattle.cell_plant.specs.Names.{cell_scales, five_gauges, given_by, frame_of, RunMoment, state_at}
+use Rattle.cell_plant.proofs.Names.{◌∙◌, ◌<◌, ◌+◌, [], take, drop, None, Ok, Err, sym, ap, subst, refl, arith, take_all, take_more, take-append-drop, Watcher, cell_scales, five_gauges, frame_of, RunMoment, state_at}
+use Rattle.cell_plant.specs.declared.watcher.SeenFault.TheVariants.{Memory}
+use Rattle.cell_plant.specs.Names.{given_by}
 use Rattle.cell_plant.proofs.RunSoFar.{room_left, taken-length}
 use Rattle.cell_plant.proofs.Watched.{Watched, starts_watched, goes_on_watched, sees_all, sees_some, some_left}
 use Rattle.cell_plant.proofs.simulation.simulate_seen.Goals as goal

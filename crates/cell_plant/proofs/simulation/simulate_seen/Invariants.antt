@@ -1,5 +1,5 @@
-use Rattle.std.proofs.Common.{◌≡◌, take, Ok}
-use Rattle.cell_plant.specs.Names.{cell_scales, five_gauges, given_by}
+use Rattle.cell_plant.proofs.Names.{◌≡◌, take, Ok, cell_scales, five_gauges}
+use Rattle.cell_plant.specs.Names.{given_by}
 use Rattle.cell_plant.proofs.Watched.{Watched}
 use Rattle.cell_plant.proofs.simulation.simulate_seen.Given as goal
 

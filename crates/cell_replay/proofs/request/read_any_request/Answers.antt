@@ -1,25 +1,7 @@
 use Rattle.std.proofs.Common.{◌≡◌, List, ℕ, Option, None, Some, sym, arith, rules, option_map, Bor}
 use Rattle.csv.specs.Records.{fields_of}
-use Rattle.cell_replay.proofs.Requests.{read_alone, read_empty, read_long, read_other, read_whole}
+use Rattle.cell_replay.proofs.Requests.{read_whole}
 use Rattle.cell_replay.proofs.request.read_any_request.Goals as goal
-
-pub returns-then-len-gt3 : goal.returns-then-len-gt3
-returns-then-len-gt3 c = read_long (fields_of c.args.row.now) (omega arith)
-
-pub returns-in_err-get : goal.returns-in_err-get
-returns-in_err-get c =
-    let none : c.from_residual.result ≡ None = search rules in
-    rw none (read_empty (fields_of c.args.row.now) (sym c.in_err-get.ensures.value))
-
-pub returns-in_err-machine : goal.returns-in_err-machine
-returns-in_err-machine c =
-    let none : c.from_residual-in_err-machine.result ≡ None = search rules in
-    rw none (read_other (fields_of c.args.row.now) c.in_ok-get.field-0.now (sym c.in_ok-get.ensures.value) c.in_err-machine.ensures)
-
-pub returns-in_err-get-2 : goal.returns-in_err-get-2
-returns-in_err-get-2 c =
-    let none : c.from_residual-in_err-get-2.result ≡ None = search rules in
-    rw none (read_alone (fields_of c.args.row.now) (sym c.in_err-get-2.ensures.value))
 
 pub returns-in_err-call : goal.returns-in_err-call
 returns-in_err-call c =

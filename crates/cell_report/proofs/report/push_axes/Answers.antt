@@ -1,13 +1,10 @@
-use Rattle.std.proofs.Common.{◌≡◌, ◌+◌, [], ◌++◌, ◌∙◌, length, get_or, pos, rules, arith, codes, sym, ap, subst, append_assoc, append-nil}
+use Rattle.std.proofs.Common.{◌≡◌, ◌+◌, [], ◌++◌, ◌∙◌, length, get_or, pos, rules, arith, codes, sym, ap, subst, append-nil}
 use Rattle.std.proofs.lemmas.List.{get_or-map}
 use Rattle.std.proofs.lemmas.Result.{on_ok_weaker}
 use Rattle.cell_report.specs.Report.{axis_names}
 use Rattle.cell_report.proofs.Reports.{axes_from, axes_from-more, axes_told, axis_text, told_more}
 use Rattle.cell_report.proofs.report.push_axes.Goals as goal
 use Rattle.cell_report.proofs.report.push_axes.Goals.{In_ok-push_axis}
-
-pub axes-init : goal.axes-init
-axes-init c = ap (λ page. page ++ axes_from 0 c.args.axes.now) c.in_ok-write.ensures ∙ append_assoc c.args.page.now (codes "axes") (axes_from 0 c.args.axes.now)
 
 wrote : (c : In_ok-push_axis) → c.push_axis.new.page ≡ c.axes.page ++ axis_text (get_or axis_names c.axes.index []) (get_or c.args.axes.now c.axes.index (pos 0))
 wrote c = search (rules, get_or-map)

@@ -1,13 +1,10 @@
-use Rattle.std.proofs.Common.{◌≡◌, ℕ, ◌+◌, ◌<◌, List, ◌++◌, map, drop, length, get_or, refl, sym, ap, ◌∙◌, add-one, append_assoc, drop-cons}
+use Rattle.std.proofs.Common.{◌≡◌, ◌+◌, ◌++◌, map, drop, refl, sym, ap, ◌∙◌, append_assoc}
 use Rattle.std.specs.List.{concat}
+use Rattle.std.proofs.lemmas.List.{drop_more}
 use Rattle.cell_rules.specs.Types.{Place, flag_word, all_places}
 use Rattle.cell_rules.specs.ModelState.{is_full}
 use Rattle.cell_report.proofs.report.push_places.Goals as goal
 use Rattle.cell_report.proofs.report.push_places.Goals.{then-is_full, else-is_full}
-
--- what is left from an index on
-from_place : (word : Place → List ℕ) (places : List Place) (i : ℕ) (d : Place) → i < length places → concat (map word (drop i places)) ≡ word (get_or places i d) ++ concat (map word (drop (i + 1) places))
-from_place word places i d h = rw (add-one, drop-cons places i d) refl
 
 pub places-preserved : goal.places-preserved
 places-preserved c =
@@ -20,6 +17,6 @@ places-preserved c =
       refl,
       ap (λ page. page ++ left) (c.in_ok-write.ensures ∙ ap (λ w. c.places.page ++ w) (flag ∙ ap flag_word c.is_full.ensures))
           ∙ append_assoc c.places.page _ left
-          ∙ sym (ap (λ rest. c.places.page ++ rest) (from_place word all_places c.places.place-index _ c.places-test.true))
+          ∙ sym (ap (λ rest. c.places.page ++ rest) (ap (λ places. concat (map word places)) (drop_more all_places c.places.place-index _ c.places-test.true)))
           ∙ c.places.invariant.1,
     )

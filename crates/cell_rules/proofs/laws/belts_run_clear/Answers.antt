@@ -1,5 +1,4 @@
-use Rattle.std.proofs.Common.{subst}
-use Rattle.cell_rules.specs.Names.{IsSound, BeltsRunClear}
+use Rattle.cell_rules.proofs.Names.{subst, IsSound, BeltsRunClear}
 use Rattle.cell_rules.proofs.Histories.{throughout}
 use Rattle.cell_rules.proofs.Assembly.{belts_run_clear}
 use Rattle.cell_rules.proofs.laws.belts_run_clear.Goals as goal

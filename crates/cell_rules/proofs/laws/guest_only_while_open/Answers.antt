@@ -1,10 +1,7 @@
-use Rattle.std.proofs.Common.{subst}
-use Rattle.cell_rules.specs.Names.{IsSound, GuestOnlyWhileOpen}
-use Rattle.cell_rules.proofs.Histories.{throughout}
-use Rattle.cell_rules.proofs.HolderLaws.{guest_only_while_open}
+use Rattle.cell_rules.proofs.Names.{subst}
+use Rattle.cell_rules.specs.Sound.{IsSound}
+use Rattle.cell_rules.proofs.Assembly.{lawful_at}
 use Rattle.cell_rules.proofs.laws.guest_only_while_open.Goals as goal
 
 pub returns : goal.returns
-returns c =
-    let s = c.args.opening.now in
-    throughout s (GuestOnlyWhileOpen s) (guest_only_while_open s (subst IsSound c.opening.view_is c.opening.invariant)) c.args.history.now c.requires
+returns c before more split = (lawful_at _ _ before more (subst IsSound c.opening.view_is c.opening.invariant) c.requires split).guest_only_while_open

@@ -1,7 +1,5 @@
-use Rattle.cell_rules.specs.Laws.{Lawful}
-use Rattle.cell_rules.proofs.Histories.{throughout}
-use Rattle.cell_rules.proofs.Assembly.{lawful}
+use Rattle.cell_rules.proofs.Assembly.{lawful_at}
 use Rattle.cell_rules.proofs.laws.lawful_histories.Goals as goal
 
 pub returns : goal.returns
-returns c = λ s h sound legal. throughout s (Lawful s) (lawful s sound) h legal
+returns c = λ s h sound legal before more split. lawful_at s h before more sound legal split

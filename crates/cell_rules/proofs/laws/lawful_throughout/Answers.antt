@@ -1,10 +1,7 @@
-use Rattle.std.proofs.Common.{subst}
-use Rattle.cell_rules.specs.Names.{IsSound, Lawful}
-use Rattle.cell_rules.proofs.Histories.{throughout}
-use Rattle.cell_rules.proofs.Assembly.{lawful}
+use Rattle.cell_rules.proofs.Names.{subst}
+use Rattle.cell_rules.specs.Sound.{IsSound}
+use Rattle.cell_rules.proofs.Assembly.{lawful_at}
 use Rattle.cell_rules.proofs.laws.lawful_throughout.Goals as goal
 
 pub returns : goal.returns
-returns c =
-    let s = c.args.opening.now in
-    throughout s (Lawful s) (lawful s (subst IsSound c.opening.view_is c.opening.invariant)) c.args.history.now c.requires
+returns c before more split = lawful_at _ _ before more (subst IsSound c.opening.view_is c.opening.invariant) c.requires split

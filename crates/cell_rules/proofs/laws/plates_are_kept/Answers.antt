@@ -1,9 +1,7 @@
-use Rattle.std.proofs.Common.{subst}
-use Rattle.cell_rules.specs.Names.{IsSound, IsLegal}
-use Rattle.cell_rules.proofs.Conserved.{plates-kept}
-use Rattle.cell_rules.proofs.Histories.{legal-left}
+use Rattle.cell_rules.proofs.Names.{subst}
+use Rattle.cell_rules.specs.Sound.{IsSound}
+use Rattle.cell_rules.proofs.Assembly.{lawful_at}
 use Rattle.cell_rules.proofs.laws.plates_are_kept.Goals as goal
 
 pub returns : goal.returns
-returns c before more split =
-    plates-kept c.args.opening.now before (subst IsSound c.opening.view_is c.opening.invariant) (legal-left c.args.opening.now before more (subst (IsLegal c.args.opening.now) split c.requires))
+returns c before more split = (lawful_at _ _ before more (subst IsSound c.opening.view_is c.opening.invariant) c.requires split).plates_are_kept

@@ -1,4 +1,4 @@
-use Rattle.std.proofs.Common.{sym}
+use Rattle.cell_rules.proofs.Names.{sym}
 use Rattle.cell_rules.specs.Laws.{PostureByEvents}
 use Rattle.cell_rules.proofs.Histories.{throughout}
 use Rattle.cell_rules.proofs.Postures.{posture-after}

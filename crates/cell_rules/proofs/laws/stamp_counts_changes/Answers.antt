@@ -1,4 +1,4 @@
-use Rattle.std.proofs.Common.{subst}
+use Rattle.cell_rules.proofs.Names.{subst}
 use Rattle.cell_rules.specs.History.{IsLegal}
 use Rattle.cell_rules.proofs.Stamps.{stamp-after}
 use Rattle.cell_rules.proofs.Histories.{legal-left}

@@ -1,6 +1,4 @@
-use Rattle.std.proofs.Common.{◌≡◌, ◌==◌, drop, length, map, take}
-use Rattle.std.specs.List.{list_all}
-use Rattle.cell_rules.specs.StartDigits.{is_flag}
+use Rattle.cell_rules.proofs.Names.{◌≡◌, ◌==◌, drop, length, map, take, list_all, is_flag}
 use Rattle.cell_rules.proofs.start_digits.read_places.Given as goal
 
 abbrev pub invariant-digits : goal.invariant-digits

@@ -1,6 +1,4 @@
-use Rattle.std.proofs.Common.{◌^◌, ◌∙◌, arith}
-use Rattle.std.proofs.lemmas.Nat.{shl_whole, pow-add, mul-add-lt}
-use Rattle.std.specs.Int.Bits.{or_shifted_r}
+use Rattle.cell_word.proofs.Names.{◌^◌, ◌∙◌, arith, shl_whole, pow-add, mul-add-lt, or_shifted_r}
 use Rattle.cell_word.proofs.bits.with_bits.Goals as goal
 
 pub returns-clause-value : goal.returns-clause-value

@@ -1,15 +1,8 @@
-use Rattle.std.proofs.Common.{Bool, Some, List, [], ◌∷◌, sym, ap, ◌∙◌, Ok}
-use Rattle.cell_rules.specs.Types.{Machine, Zone, Closed, Moving, AlreadyMine, Held, Shut, Claim, guest_of}
-use Rattle.cell_rules.specs.Types.{same_machine}
-use Rattle.cell_rules.specs.Reply.{other_party}
-use Rattle.cell_word.specs.Changes.{written}
-use Rattle.cell_word.specs.Patterns.{when, owner_is, posture_is}
+use Rattle.cell_word.proofs.Names.{Bool, Some, List, [], ◌∷◌, sym, ap, ◌∙◌, Ok, Machine, Zone, Closed, Moving, AlreadyMine, Held, Shut, Claim, guest_of, same_machine, other_party, written, when, owner_is, posture_is, guard, first_refusal}
+use Rattle.cell_word.proofs.Names.{unless, went_on, Guard, machine_of, opposite, is_guest}
 use Rattle.cell_word.specs.Guards as guards
-use Rattle.cell_word.specs.Guards.{guard, first_refusal, unless, went_on}
-use Rattle.cell_word.specs.declared.patterns.Guard.{Guard}
 use Rattle.cell_word.proofs.PartyFacts.{other_is, guest_is, owner_by}
-use Rattle.cell_word.proofs.Trying.{by_parts, InTurn, ends, in_turn, past, refused_by}
-use Rattle.cell_word.specs.Parties.{machine_of, opposite, is_guest}
+use Rattle.cell_word.proofs.Trying.{by_parts, InTurn, ends, in_turn, past, refused_by, renamed}
 use Rattle.cell_word.proofs.guards.claim.Goals as goal
 use Rattle.cell_word.proofs.guards.claim.Goals.{In_ok-party}
 
@@ -28,18 +21,8 @@ parts m z = (guards.stranger m z ∷ []) ∷ rest z m (other_party m z) (same_ma
 -- the row of a party, part by part
 row_at : (c : In_ok-party) → InTurn c.args.word (rest c.args.zone (machine_of c.args.zone c.in_ok-party.party) (machine_of c.args.zone (opposite c.in_ok-party.party)) (is_guest c.in_ok-party.party)) (Ok (written c.args.machine (Claim c.args.zone))) (unless (first_refusal c.args.word (guards.claim_guards c.args.machine c.args.zone)) (written c.args.machine (Claim c.args.zone)))
 row_at c =
-    let w = c.args.word in
-    let m = c.args.machine in
-    let z = c.args.zone in
-    let s = c.in_ok-party.party in
-    let party = c.in_ok-party.ensures.party in
-    let p = written m (Claim z) in
-    record {
-      is = (past (by_parts w (parts m z) p) (sym (c.require_party.ensures.stranger w)) (ap went_on c.in_ok-party.was)).is
-          ∙ ap (λ n. in_turn w (rest z n (other_party m z) (same_machine m (guest_of z))) (Ok p)) party
-          ∙ ap (λ o. in_turn w (rest z (machine_of z s) o (same_machine m (guest_of z))) (Ok p)) (other_is m z s party)
-          ∙ ap (λ g. in_turn w (rest z (machine_of z s) (machine_of z (opposite s)) g) (Ok p)) (guest_is m z s party);
-    }
+    renamed (past (by_parts c.args.word (parts c.args.machine c.args.zone) (written c.args.machine (Claim c.args.zone))) (sym (c.require_party.ensures.stranger c.args.word)) (ap went_on c.in_ok-party.was))
+    (λ i. rest c.args.zone (c.in_ok-party.ensures.party i) (other_is c.args.machine c.args.zone c.in_ok-party.party c.in_ok-party.ensures.party i) (guest_is c.args.machine c.args.zone c.in_ok-party.party c.in_ok-party.ensures.party i))
 
 pub returns-in_err-party : goal.returns-in_err-party
 returns-in_err-party c = refused_by (by_parts c.args.word (parts c.args.machine c.args.zone) (written c.args.machine (Claim c.args.zone))) (sym (c.require_party.ensures.stranger c.args.word)) (ap went_on c.in_err-party.was) c.from_residual.ensures.1

@@ -1,13 +1,10 @@
-use Rattle.std.proofs.Common.{◌≡◌, Option, Ok, List, [], ◌∷◌, map, sym, ap, ◌∙◌, Result, Some, ℕ}
-use Rattle.cell_rules.specs.Types.{Machine, Zone, Transfer, Give, NoPlate, PlaceFull, all_postures, Refusal}
-use Rattle.cell_rules.specs.Reply.{other_party}
+use Rattle.cell_word.proofs.Names.{◌≡◌, Option, Ok, List, [], ◌∷◌, map, sym, ap, ◌∙◌, Result, Some, ℕ, Machine, Zone, Transfer, Give, NoPlate, PlaceFull, Refusal, other_party, guard, first_refusal, unless, checked, went_on, machine_of}
+use Rattle.cell_word.proofs.Names.{opposite, Guard}
+use Rattle.cell_rules.specs.Types.{all_postures}
 use Rattle.cell_word.specs.Changes as changes
 use Rattle.cell_word.specs.Guards as guards
-use Rattle.cell_word.specs.Guards.{guard, first_refusal, unless, checked, went_on}
-use Rattle.cell_word.specs.Parties.{machine_of, opposite}
-use Rattle.cell_word.specs.declared.patterns.Guard.{Guard}
 use Rattle.cell_word.proofs.PartyFacts.{other_is}
-use Rattle.cell_word.proofs.Trying.{by_parts, InTurn, ends, in_turn, past, refused_by}
+use Rattle.cell_word.proofs.Trying.{by_parts, InTurn, ends, in_turn, past, refused_by, renamed}
 use Rattle.cell_word.proofs.guards.give.Goals as goal
 use Rattle.cell_word.proofs.guards.give.Goals.{In_ok-party}
 
@@ -33,14 +30,8 @@ parts m z = (guards.stranger m z ∷ []) ∷ rest m z (other_party m z) (guards.
 -- the row of a party, part by part
 row_at : (c : In_ok-party) → InTurn c.args.word (rest c.args.machine c.args.zone (machine_of c.args.zone (opposite c.in_ok-party.party)) (guards.row_given c.args.machine c.args.zone)) (Ok (changes.written c.args.machine (Give c.args.zone))) (unless (first_refusal c.args.word (guards.give_guards c.args.machine c.args.zone)) (changes.written c.args.machine (Give c.args.zone)))
 row_at c =
-    let w = c.args.word in
-    let m = c.args.machine in
-    let z = c.args.zone in
-    let p = changes.written m (Give z) in
-    record {
-      is = (past (by_parts w (parts m z) p) (sym (c.require_party.ensures.stranger w)) (ap went_on c.in_ok-party.was)).is
-          ∙ ap (λ o. in_turn w (rest m z o (guards.row_given m z)) (Ok p)) (other_is m z c.in_ok-party.party c.in_ok-party.ensures.party);
-    }
+    renamed (past (by_parts c.args.word (parts c.args.machine c.args.zone) (changes.written c.args.machine (Give c.args.zone))) (sym (c.require_party.ensures.stranger c.args.word)) (ap went_on c.in_ok-party.was))
+    (ap (λ o. rest c.args.machine c.args.zone o (guards.row_given c.args.machine c.args.zone)) (other_is c.args.machine c.args.zone c.in_ok-party.party c.in_ok-party.ensures.party))
 
 pub returns-in_err-party : goal.returns-in_err-party
 returns-in_err-party c = refused_by (by_parts c.args.word (parts c.args.machine c.args.zone) (changes.written c.args.machine (Give c.args.zone))) (sym (c.require_party.ensures.stranger c.args.word)) (ap went_on c.in_err-party.was) c.from_residual.ensures.1

@@ -1,13 +1,7 @@
-use Rattle.std.proofs.Common.{List, [], ◌∷◌, sym, ap, ◌∙◌, Ok, None}
-use Rattle.cell_rules.specs.Types.{Machine, Zone, Moving, Release}
-use Rattle.cell_rules.specs.Reply.{other_party}
-use Rattle.cell_word.specs.Changes.{written}
+use Rattle.cell_word.proofs.Names.{List, [], ◌∷◌, sym, ap, ◌∙◌, Ok, None, Machine, Zone, Moving, Release, other_party, written, first_refusal, unless, went_on, Guard, machine_of, opposite}
 use Rattle.cell_word.specs.Guards as guards
-use Rattle.cell_word.specs.Guards.{first_refusal, unless, went_on}
-use Rattle.cell_word.specs.declared.patterns.Guard.{Guard}
 use Rattle.cell_word.proofs.PartyFacts.{other_is, owner_by}
-use Rattle.cell_word.proofs.Trying.{by_parts, InTurn, ends, in_turn, past, refused_by}
-use Rattle.cell_word.specs.Parties.{machine_of, opposite}
+use Rattle.cell_word.proofs.Trying.{by_parts, InTurn, ends, in_turn, past, refused_by, renamed}
 use Rattle.cell_word.proofs.guards.release.Goals as goal
 use Rattle.cell_word.proofs.guards.release.Goals.{In_ok-party}
 
@@ -24,14 +18,8 @@ parts m z = (guards.stranger m z ∷ []) ∷ rest m z (other_party m z)
 -- the row of a party, part by part
 row_at : (c : In_ok-party) → InTurn c.args.word (rest c.args.machine c.args.zone (machine_of c.args.zone (opposite c.in_ok-party.party))) (Ok (written c.args.machine (Release c.args.zone))) (unless (first_refusal c.args.word (guards.release_guards c.args.machine c.args.zone)) (written c.args.machine (Release c.args.zone)))
 row_at c =
-    let w = c.args.word in
-    let m = c.args.machine in
-    let z = c.args.zone in
-    let p = written m (Release z) in
-    record {
-      is = (past (by_parts w (parts m z) p) (sym (c.require_party.ensures.stranger w)) (ap went_on c.in_ok-party.was)).is
-          ∙ ap (λ o. in_turn w (rest m z o) (Ok p)) (other_is m z c.in_ok-party.party c.in_ok-party.ensures.party);
-    }
+    renamed (past (by_parts c.args.word (parts c.args.machine c.args.zone) (written c.args.machine (Release c.args.zone))) (sym (c.require_party.ensures.stranger c.args.word)) (ap went_on c.in_ok-party.was))
+    (ap (rest c.args.machine c.args.zone) (other_is c.args.machine c.args.zone c.in_ok-party.party c.in_ok-party.ensures.party))
 
 pub returns-in_err-party : goal.returns-in_err-party
 returns-in_err-party c = refused_by (by_parts c.args.word (parts c.args.machine c.args.zone) (written c.args.machine (Release c.args.zone))) (sym (c.require_party.ensures.stranger c.args.word)) (ap went_on c.in_err-party.was) c.from_residual.ensures.1

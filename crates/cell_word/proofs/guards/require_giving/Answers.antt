@@ -1,5 +1,4 @@
-use Rattle.std.proofs.Common.{◌∙◌, sym, ap}
-use Rattle.cell_word.specs.Patterns.{stands, posture_is}
+use Rattle.cell_word.proofs.Names.{◌∙◌, sym, ap, stands, posture_is}
 use Rattle.cell_word.proofs.Turning.{no_way, one_way, holds, fails}
 use Rattle.cell_word.proofs.guards.require_giving.Goals as goal
 

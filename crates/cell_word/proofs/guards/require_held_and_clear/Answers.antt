@@ -1,4 +1,4 @@
-use Rattle.std.proofs.Common.{[], ◌∷◌}
+use Rattle.cell_word.proofs.Names.{[], ◌∷◌}
 use Rattle.cell_word.specs.Guards as guards
 use Rattle.cell_word.proofs.Trying.{by_parts_to, ends, past, refused_by}
 use Rattle.cell_word.proofs.guards.require_held_and_clear.Goals as goal

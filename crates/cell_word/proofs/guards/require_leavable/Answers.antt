@@ -1,5 +1,4 @@
-use Rattle.std.proofs.Common.{[], ◌∷◌}
-use Rattle.cell_rules.specs.Types.{Moving}
+use Rattle.cell_word.proofs.Names.{[], ◌∷◌, Moving}
 use Rattle.cell_word.specs.Guards as guards
 use Rattle.cell_word.proofs.Trying.{asked, by_parts_to, ends, past, refused_by}
 use Rattle.cell_word.proofs.guards.require_leavable.Goals as goal

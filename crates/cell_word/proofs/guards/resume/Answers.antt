@@ -1,8 +1,5 @@
-use Rattle.std.proofs.Common.{List, [], ◌∷◌, sym, ap, ◌∙◌, Ok}
-use Rattle.cell_rules.specs.Types.{Machine, Resume}
-use Rattle.cell_word.specs.Changes.{written}
+use Rattle.cell_word.proofs.Names.{List, [], ◌∷◌, sym, ap, ◌∙◌, Ok, Machine, Resume, written, Guard}
 use Rattle.cell_word.specs.Guards as guards
-use Rattle.cell_word.specs.declared.patterns.Guard.{Guard}
 use Rattle.cell_word.proofs.Trying.{by_parts, asked, ends, past, refused_by}
 use Rattle.cell_word.proofs.guards.resume.Goals as goal
 

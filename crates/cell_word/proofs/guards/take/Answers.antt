@@ -1,14 +1,7 @@
-use Rattle.std.proofs.Common.{false, List, [], ◌∷◌, sym, ap, ◌∙◌, Ok}
-use Rattle.cell_rules.specs.Types.{Machine, Zone, NoPlate, Take}
-use Rattle.cell_rules.specs.Reply.{other_party}
-use Rattle.cell_word.specs.Changes.{written}
-use Rattle.cell_word.specs.Patterns.{flag_is}
+use Rattle.cell_word.proofs.Names.{false, List, [], ◌∷◌, sym, ap, ◌∙◌, Ok, Machine, Zone, NoPlate, Take, other_party, written, flag_is, guard, first_refusal, unless, went_on, Guard, machine_of, opposite}
 use Rattle.cell_word.specs.Guards as guards
-use Rattle.cell_word.specs.Guards.{guard, first_refusal, unless, went_on}
-use Rattle.cell_word.specs.declared.patterns.Guard.{Guard}
 use Rattle.cell_word.proofs.PartyFacts.{other_is}
-use Rattle.cell_word.proofs.Trying.{by_parts, InTurn, asked, ends, in_turn, past, refused_by}
-use Rattle.cell_word.specs.Parties.{machine_of, opposite}
+use Rattle.cell_word.proofs.Trying.{by_parts, InTurn, asked, ends, in_turn, past, refused_by, renamed}
 use Rattle.cell_word.proofs.guards.take.Goals as goal
 use Rattle.cell_word.proofs.guards.take.Goals.{In_ok-party}
 
@@ -26,14 +19,8 @@ parts m z = (guards.stranger m z ∷ []) ∷ rest z (other_party m z)
 -- the row of a party, part by part
 row_at : (c : In_ok-party) → InTurn c.args.word (rest c.args.zone (machine_of c.args.zone (opposite c.in_ok-party.party))) (Ok (written c.args.machine (Take c.args.zone))) (unless (first_refusal c.args.word (guards.take_guards c.args.machine c.args.zone)) (written c.args.machine (Take c.args.zone)))
 row_at c =
-    let w = c.args.word in
-    let m = c.args.machine in
-    let z = c.args.zone in
-    let p = written m (Take z) in
-    record {
-      is = (past (by_parts w (parts m z) p) (sym (c.require_party.ensures.stranger w)) (ap went_on c.in_ok-party.was)).is
-          ∙ ap (λ o. in_turn w (rest z o) (Ok p)) (other_is m z c.in_ok-party.party c.in_ok-party.ensures.party);
-    }
+    renamed (past (by_parts c.args.word (parts c.args.machine c.args.zone) (written c.args.machine (Take c.args.zone))) (sym (c.require_party.ensures.stranger c.args.word)) (ap went_on c.in_ok-party.was))
+    (ap (rest c.args.zone) (other_is c.args.machine c.args.zone c.in_ok-party.party c.in_ok-party.ensures.party))
 
 pub returns-in_err-party : goal.returns-in_err-party
 returns-in_err-party c = refused_by (by_parts c.args.word (parts c.args.machine c.args.zone) (written c.args.machine (Take c.args.zone))) (sym (c.require_party.ensures.stranger c.args.word)) (ap went_on c.in_err-party.was) c.from_residual.ensures.1

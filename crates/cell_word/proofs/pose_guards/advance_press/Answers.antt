@@ -1,8 +1,5 @@
-use Rattle.std.proofs.Common.{Ok, List, [], ◌∷◌, ap}
-use Rattle.cell_rules.specs.Types.{Press, Z3, PressIn, PressOut, Closed, Advance, NotAtWork, guest_of}
-use Rattle.cell_word.specs.Changes.{written}
+use Rattle.cell_word.proofs.Names.{Ok, List, [], ◌∷◌, ap, Press, Z3, PressIn, PressOut, Closed, Advance, NotAtWork, guest_of, written, Guard}
 use Rattle.cell_word.specs.Guards as guards
-use Rattle.cell_word.specs.declared.patterns.Guard.{Guard}
 use Rattle.cell_word.proofs.Trying.{by_parts, ends, past, refused_by}
 use Rattle.cell_word.proofs.pose_guards.advance_press.Goals as goal
 

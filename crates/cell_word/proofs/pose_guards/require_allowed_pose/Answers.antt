@@ -1,7 +1,5 @@
-use Rattle.std.proofs.Common.{Option, List, [], ◌∷◌}
-use Rattle.cell_rules.specs.Types.{Machine, Zone, Pose, Posture}
+use Rattle.cell_word.proofs.Names.{Option, List, [], ◌∷◌, Machine, Zone, Pose, Posture, Guard}
 use Rattle.cell_word.specs.Guards as guards
-use Rattle.cell_word.specs.declared.patterns.Guard.{Guard}
 use Rattle.cell_word.proofs.Trying.{by_parts_to, ends, past, refused_by}
 use Rattle.cell_word.proofs.pose_guards.require_allowed_pose.Goals as goal
 

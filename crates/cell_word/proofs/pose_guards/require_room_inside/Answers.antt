@@ -1,8 +1,5 @@
-use Rattle.std.proofs.Common.{◌≡◌, ℕ, true, false, List, refl, sym, ap, ◌∙◌, [], ◌∷◌}
-use Rattle.std.specs.List.{flat_map}
-use Rattle.cell_rules.specs.Types.{Zone, Z3, Place, PressIn, PressOut, OpenIn, same_zone, transfer_of}
+use Rattle.cell_word.proofs.Names.{◌≡◌, ℕ, true, false, List, refl, sym, ap, ◌∙◌, [], ◌∷◌, flat_map, Zone, Z3, Place, PressIn, PressOut, OpenIn, same_zone, transfer_of, checked}
 use Rattle.cell_word.specs.Guards as guards
-use Rattle.cell_word.specs.Guards.{checked}
 use Rattle.cell_word.proofs.Trying.{InTurn, by_parts_to, ends, past, refused_by}
 use Rattle.cell_word.proofs.pose_guards.require_room_inside.Goals as goal
 

@@ -1,11 +1,8 @@
-use Rattle.std.proofs.Common.{◌≡◌, ℕ, Result, Ok, Option, is_none, List, [], ◌∷◌, ◌++◌, append_assoc, refl, sym, ap, ap₂, subst, ◌∙◌}
-use Rattle.cell_rules.specs.Types.{Machine, Zone, Pose, Posture, SetPose, Refusal, NoPose}
+use Rattle.cell_word.proofs.Names.{◌≡◌, ℕ, Result, Ok, Option, is_none, List, [], ◌∷◌, ◌++◌, refl, sym, ap, ap₂, subst, ◌∙◌, Machine, Zone, Pose, Posture, SetPose, Refusal, NoPose, when, anything, both, guard, first_refusal, unless}
+use Rattle.cell_word.proofs.Names.{Pattern, Guard}
+use Rattle.std.proofs.Common.{append_assoc}
 use Rattle.cell_word.specs.Changes as changes
-use Rattle.cell_word.specs.Patterns.{when, anything, both}
 use Rattle.cell_word.specs.Guards as guards
-use Rattle.cell_word.specs.Guards.{guard, first_refusal, unless}
-use Rattle.cell_word.specs.declared.patterns.Pattern.{Pattern}
-use Rattle.cell_word.specs.declared.patterns.Guard.{Guard}
 use Rattle.cell_word.proofs.Trying.{by_parts, InTurn, asked, ends, past, refused_by}
 use Rattle.cell_word.proofs.pose_guards.set_pose_of.Goals as goal
 

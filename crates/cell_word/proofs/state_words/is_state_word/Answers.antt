@@ -1,6 +1,4 @@
-use Rattle.std.proofs.Common.{◌<◌, ◌^◌, ◌∙◌, ap, sym, arith}
-use Rattle.cell_word.specs.Reading.{state_told}
-use Rattle.cell_word.specs.StateWords.{is_state_word}
+use Rattle.cell_word.proofs.Names.{◌<◌, ◌^◌, ◌∙◌, ap, sym, arith, state_told, is_state_word}
 use Rattle.cell_word.proofs.StateWordsHold.{sound_by_masks, masks_of_sound}
 use Rattle.cell_word.proofs.state_words.is_state_word.Goals as goal
 

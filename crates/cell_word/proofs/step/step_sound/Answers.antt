@@ -1,13 +1,5 @@
-use Rattle.std.proofs.Common.{◌≡◌, ℕ, ◌+◌, ◌^◌, arith, Option, Some, None, ◌∙◌, ap, ap₂, sym, refl}
-use Rattle.cell_rules.specs.Types.{Machine, Zone, Call, Claim, Give, Yield, Take, Release, SetPose, Advance, Inquire}
-use Rattle.cell_rules.specs.Types.{Stop, Resume, Refusal, Answer, Refused, Done}
-use Rattle.cell_rules.specs.Names.{ModelState, IsSound, reply, refusal, done_unless, next, next_by}
-use Rattle.cell_word.specs.Layout.{packed}
-use Rattle.cell_word.specs.Patterns.{with_written}
-use Rattle.cell_word.specs.Changes.{written}
-use Rattle.cell_word.specs.Guards.{first_refusal, guards_of}
-use Rattle.cell_word.specs.declared.patterns.Pattern.{Pattern}
-use Rattle.cell_rules.proofs.Soundness.{next_keeps}
+use Rattle.cell_word.proofs.Names.{◌≡◌, ℕ, ◌+◌, ◌^◌, arith, Option, Some, None, ◌∙◌, ap, ap₂, sym, refl, Machine, Zone, Call, Claim, Give, Yield, Take, Release, SetPose, Advance, Inquire, Stop, Resume, Refusal, Answer, Refused, Done}
+use Rattle.cell_word.proofs.Names.{ModelState, IsSound, reply, refusal, done_unless, next, next_by, packed, with_written, written, first_refusal, guards_of, Pattern, next_keeps}
 use Rattle.cell_word.proofs.RoundTrip.{laid_out}
 use Rattle.cell_word.proofs.Changing.{done_written}
 use Rattle.cell_word.proofs.Trying.{was_refused, was_passed}
@@ -16,16 +8,8 @@ use Rattle.cell_word.proofs.step.step_sound.Goals as goal
 
 -- the answer to a call that is no inquiry
 reply_by : (s : ModelState) (m : Machine) (c : Call) → ((z : Zone) → c ≡ Inquire z → ⊥) → reply s m c ≡ done_unless (refusal s m c)
-reply_by s m (Claim z) other = refl
-reply_by s m (Give z) other = refl
-reply_by s m (Yield z) other = refl
-reply_by s m (Take z) other = refl
-reply_by s m (Release z) other = refl
-reply_by s m (SetPose p) other = refl
-reply_by s m Advance other = refl
-reply_by s m Stop other = refl
-reply_by s m Resume other = refl
 reply_by s m (Inquire z) other = absurd (other z refl)
+reply_by s m _ other = refl
 
 reply_found : (s : ModelState) → IsSound s → (m : Machine) (c : Call) → ((z : Zone) → c ≡ Inquire z → ⊥) → (w : ℕ) → packed s ≡ w → (found : Option Refusal) → first_refusal w (guards_of m c) ≡ found
     → reply s m c ≡ done_unless found

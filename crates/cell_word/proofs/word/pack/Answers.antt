@@ -1,8 +1,6 @@
-use Rattle.std.proofs.Common.{◌≡◌, ◌+◌, ◌*◌, ◌<◌, ◌^◌, ◌++◌, map, take, ap, ap₂, ◌∙◌, subst, arith}
-use Rattle.std.specs.List.{flat_map}
+use Rattle.cell_word.proofs.Names.{◌≡◌, ◌+◌, ◌*◌, ◌<◌, ◌^◌, ◌++◌, map, take, ap, ap₂, ◌∙◌, subst, arith, flat_map, word_of, fields_at, place_field, packed}
 use Rattle.cell_types.specs.Everything.{all_zones, all_places}
 use Rattle.cell_rules.specs.ModelState.{one_if}
-use Rattle.cell_word.specs.Layout.{word_of, fields_at, place_field, packed}
 use Rattle.cell_word.proofs.Growing.{bit_of_zone, zone_step, zone_step_below, place_step, place_step_below}
 use Rattle.cell_word.proofs.word.pack.Goals as goal
 

@@ -1,7 +1,5 @@
-use Rattle.std.proofs.Common.{◌≡◌, ◌+◌, ◌*◌, ◌<◌, ◌^◌, take, map, ◌++◌}
-use Rattle.std.specs.List.{flat_map}
+use Rattle.cell_word.proofs.Names.{◌≡◌, ◌+◌, ◌*◌, ◌<◌, ◌^◌, take, map, ◌++◌, flat_map, word_of, fields_at, place_field}
 use Rattle.cell_types.specs.Everything.{all_zones, all_places}
-use Rattle.cell_word.specs.Layout.{word_of, fields_at, place_field}
 use Rattle.cell_word.proofs.word.pack.Given as goal
 
 -- the zones before this one are in the word

@@ -1,6 +1,5 @@
-use Rattle.std.proofs.Common.{ℕ, sym, ap, ◌∙◌}
+use Rattle.cell_word.proofs.Names.{ℕ, sym, ap, ◌∙◌, state_told}
 use Rattle.cell_rules.specs.ModelState.{ModelState}
-use Rattle.cell_word.specs.Reading.{state_told}
 use Rattle.cell_word.proofs.RoundTrip.{told_back}
 use Rattle.cell_word.proofs.word.stamp_of.Goals as goal
 

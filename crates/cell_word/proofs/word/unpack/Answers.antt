@@ -1,5 +1,4 @@
-use Rattle.std.proofs.Common.{◌≡◌, sym, ◌∙◌, ap, refl}
-use Rattle.cell_word.specs.Layout.{packed}
+use Rattle.cell_word.proofs.Names.{◌≡◌, sym, ◌∙◌, ap, refl, packed}
 use Rattle.cell_word.proofs.RoundTrip.{told_some, told_none}
 use Rattle.cell_word.proofs.word.unpack.Goals as goal
 use Rattle.cell_word.proofs.word.unpack.Goals.{in_default-via-in-Some+else-pack-word, in_default-via-in_default}

@@ -1,4 +1,4 @@
-use Rattle.cell_rules.specs.ZoneMap.{everywhere, free_zone}
+use Rattle.cell_word.proofs.Names.{everywhere, free_zone}
 use Rattle.cell_word.specs.Reading as reading
 use Rattle.cell_word.proofs.Growing.{put_step}
 use Rattle.cell_word.proofs.word.zones_told.Goals as goal

@@ -1,6 +1,6 @@
-use Rattle.std.proofs.Common.{◌≡◌, take}
+use Rattle.cell_word.proofs.Names.{◌≡◌, take, everywhere, free_zone}
 use Rattle.cell_types.specs.Everything.{all_zones}
-use Rattle.cell_rules.specs.ZoneMap.{put_each, everywhere, free_zone}
+use Rattle.cell_rules.specs.ZoneMap.{put_each}
 use Rattle.cell_word.specs.Reading as reading
 use Rattle.cell_word.proofs.word.zones_told.Given as goal
 

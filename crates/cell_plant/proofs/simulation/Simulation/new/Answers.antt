@@ -1,10 +1,7 @@
-use Rattle.std.proofs.Common.{ap, ◌∙◌}
-use Rattle.cell_plant.specs.Names.{cell_scales, five_gauges, sides_of, points_of, Sides, watch_steps}
+use Rattle.cell_plant.proofs.Names.{ap, ◌∙◌, cell_scales, five_gauges, sides_of, points_of, Sides, watch_steps, feed_steps, deposit_steps, crane_steps, press_steps, table_steps, gauges_of}
 use Rattle.cell_plant.proofs.Stepping.{first_is}
 use Rattle.cell_rules.specs.Benches.{Desk}
-use Rattle.cell_haul.specs.Names.{feed_steps, deposit_steps, crane_steps}
-use Rattle.cell_stations.specs.Names.{press_steps, table_steps}
-use Rattle.cell_robot.specs.RobotProgram.{gauges_of, robot_steps}
+use Rattle.cell_robot.specs.RobotProgram.{robot_steps}
 use Rattle.cell_plant.proofs.Starting.{ready_first}
 use Rattle.cell_plant.proofs.simulation.Simulation.new.Goals as goal
 

@@ -15,9 +15,6 @@ loop-run-preserved g c =
       λ least is. c.in_ok-take_run.ensures least old.0 (old.3 least is),
     )
 
-pub loop-run-smaller : goal.loop-run-smaller
-loop-run-smaller g c = let m : IsMerged c.loop-run.left.rests c.next_run.new.self.rests c.in-Some.run' = c.in-Some.ensures in m.shorter
-
 pub returns : goal.returns
 returns g c = λ least is.
     let old = c.loop-run.invariant in

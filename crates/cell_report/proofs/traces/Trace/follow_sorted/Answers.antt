@@ -10,7 +10,4 @@ loop-noted-preserved g c = λ least is.
     (c.in_ok-take.ensures.trace least _ (c.loop-noted.invariant least is))
 
 pub returns : goal.returns
-returns g c = λ least is.
-    subst (λ l. IsTrace (g.K.Keeper.holds c.loop-noted.keeper) c.args.start.now least l c.loop-noted.trace)
-    (take_all c.loop-noted.noted-index c.args.sorted.now c.loop-noted-test.false)
-    (c.loop-noted.invariant least is)
+returns g c = λ least is. rw (take_all c.loop-noted.noted-index c.args.sorted.now c.loop-noted-test.false) at (c.loop-noted.invariant least is)

@@ -1,6 +1,4 @@
-use Rattle.std.proofs.Math.Logic.{∥∥₁_elim}
-use Rattle.cell_rules.specs.Names.{Lawful}
-use Rattle.cell_rules.specs.Stored.{IsSound-prop, IsLegal-prop}
+use Rattle.cell_rules.proofs.Names.{∥∥₁_elim, Lawful, IsSound-prop, IsLegal-prop}
 use Rattle.cell_rules.proofs.Histories.{throughout}
 use Rattle.cell_rules.proofs.Assembly.{lawful}
 use Rattle.cell_rules.proofs.bench.Bench.history.Goals as goal

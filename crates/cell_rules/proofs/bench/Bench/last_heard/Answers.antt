@@ -1,6 +1,6 @@
-use Rattle.std.proofs.Common.{ap, ◌∙◌}
+use Rattle.cell_rules.proofs.Names.{ap, ◌∙◌, settled_at}
 use Rattle.std.specs.Option.{option_map}
-use Rattle.cell_rules.specs.BenchView.{last_event, settled_at}
+use Rattle.cell_rules.specs.BenchView.{last_event}
 use Rattle.cell_rules.proofs.bench.Bench.last_heard.Goals as goal
 
 pub returns-in-Some : goal.returns-in-Some

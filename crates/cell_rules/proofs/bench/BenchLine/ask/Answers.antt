@@ -1,5 +1,4 @@
-use Rattle.std.proofs.Common.{ap, refl, ◌∙◌}
-use Rattle.std.proofs.Math.Logic.{∥∥₁_map}
+use Rattle.cell_rules.proofs.Names.{ap, refl, ◌∙◌, ∥∥₁_map}
 use Rattle.cell_rules.proofs.SeenLemmas.{history-push, settles-push, state_reached, last-push}
 use Rattle.cell_rules.proofs.bench.BenchLine.ask.Goals as goal
 

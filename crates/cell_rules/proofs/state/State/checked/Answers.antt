@@ -1,5 +1,4 @@
-use Rattle.std.proofs.Common.{sym, ◌∙◌, refl}
-use Rattle.cell_rules.specs.ModelState.{model_state}
+use Rattle.cell_rules.proofs.Names.{sym, ◌∙◌, refl, model_state}
 use Rattle.cell_rules.proofs.Tested.{sound_by_test, test_of_sound}
 use Rattle.cell_rules.proofs.state.State.checked.Goals as goal
 

@@ -1,4 +1,5 @@
-use Rattle.std.proofs.Common.{◌∙◌, nat_eq, bit_and, ap}
+use Rattle.cell_word.proofs.Names.{◌∙◌, nat_eq, ap}
+use Rattle.std.proofs.Common.{bit_and}
 use Rattle.cell_word.specs.Layout as layout
 use Rattle.cell_word.proofs.Windows.{moved_down}
 use Rattle.cell_word.proofs.parties.ZoneBits.has_plate.Goals as goal

@@ -1,5 +1,5 @@
-use Rattle.std.proofs.Common.{◌+◌, ◌/◌, ◌^◌, ◌∙◌, nat_eq, bit_and, ap, ap₂}
-use Rattle.std.proofs.lemmas.Nat.{shr-shr}
+use Rattle.cell_word.proofs.Names.{◌+◌, ◌/◌, ◌^◌, ◌∙◌, nat_eq, ap, ap₂, shr-shr}
+use Rattle.std.proofs.Common.{bit_and}
 use Rattle.cell_word.specs.Layout as layout
 use Rattle.cell_word.proofs.Windows.{lowest_field}
 use Rattle.cell_word.proofs.parties.ZoneBits.is.Goals as goal

@@ -1,4 +1,5 @@
-use Rattle.std.proofs.Common.{◌∙◌, nat_eq, bit_and, ap₂, Some}
+use Rattle.cell_word.proofs.Names.{◌∙◌, nat_eq, ap₂, Some}
+use Rattle.std.proofs.Common.{bit_and}
 use Rattle.cell_word.specs.Layout as layout
 use Rattle.cell_word.specs.Parties as parties
 use Rattle.cell_word.proofs.Windows.{lowest_field}

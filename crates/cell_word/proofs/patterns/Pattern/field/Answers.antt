@@ -1,6 +1,4 @@
-use Rattle.std.proofs.Common.{◌≡◌, ◌-◌, ◌*◌, ◌%◌, ◌<◌, ◌^◌, ap, ◌∙◌, arith}
-use Rattle.std.proofs.lemmas.Nat.{one_shl, shl_whole, pow_pos}
-use Rattle.cell_word.specs.Patterns.{pattern}
+use Rattle.cell_word.proofs.Names.{◌≡◌, ◌-◌, ◌*◌, ◌%◌, ◌<◌, ◌^◌, ap, ◌∙◌, arith, one_shl, shl_whole, pow_pos, pattern}
 use Rattle.cell_word.proofs.patterns.Pattern.field.Goals as goal
 
 pub returns : goal.returns
