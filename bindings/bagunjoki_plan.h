@@ -72,7 +72,7 @@ enum bagunjoki_plan_answer {
     BAGUNJOKI_PLAN_NO_CALL = 64,  /* the numbers name no call */
     BAGUNJOKI_PLAN_NO_STATE = 65, /* the word is no state's: something else has written it */
     BAGUNJOKI_PLAN_BUSY = 66,     /* bagunjoki_plan_ask alone: others made a change before each of its tries */
-    BAGUNJOKI_PLAN_NO_PLAN = 67,  /* the bytes are no plan's, or its word doesn't fit 64 bits */
+    BAGUNJOKI_PLAN_NO_PLAN = 67,  /* the bytes are no plan's */
     BAGUNJOKI_PLAN_NO_MEMORY = 68 /* memory ran out: nothing has changed, and the call may be made again */
 };
 

@@ -1,19 +1,17 @@
 -- What C gives: the bytes of a plan.
-use Rattle.std.specs.Prelude.{◌≡◌, ℕ, ◌≤◌, List}
+use Rattle.std.specs.Prelude.{◌≡◌, ℕ, List}
 use Rattle.plan_types.specs.Table.{PlanTable}
 use Rattle.plan_types.specs.Plan.{IsPlan}
 use Rattle.plan_rules.specs.declared.state.State.{State}
-use Rattle.plan_word.specs.Layout.{width_of, counts_of}
 use Rattle.plan_word.specs.OfPlan.{IsOfPlan}
 use Rattle.plan_word.specs.Packed.{packed}
 use Rattle.plan_bytes.specs.Bytes.{bytes_of, HasWholeRows}
 
--- the bytes are those of a plan whose word fits 64 bits
+-- the bytes are those of a plan
 pub record IsPlanOf (bytes : List ℕ) (t : PlanTable) : Type 0 where
   pub bytes_are : bytes_of t ≡ bytes
   pub rows : HasWholeRows t
   pub plan : IsPlan t
-  pub fits : width_of (counts_of t) ≤ 64
 
 abbrev pub NoPlan : List ℕ → Type 0
 NoPlan bytes = (t : PlanTable) → ¬ IsPlanOf bytes t

@@ -1,4 +1,4 @@
--- What C gets in place of a word is no word.
+-- The word that tells C that there is none is no state's.
 use Rattle.std.specs.Prelude.{◌≢◌}
 use Rattle.plan_types.specs.Table.{PlanTable}
 use Rattle.plan_types.specs.Plan.{IsPlan}

@@ -103,7 +103,7 @@ abbrev pub unread_answer : Unread → ℕ
 unread_answer NoPlan = no_plan
 unread_answer NoMemory = no_memory
 
--- in place of a word, and of a stamp: all bits are set
+-- no word and no stamp: all bits are set
 abbrev pub no_word : ℕ
 no_word = 18446744073709551615
 

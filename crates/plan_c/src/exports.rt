@@ -19,15 +19,15 @@ use plan_rules::{LAST_STAMP, State};
 use plan_word::{pack, step_word, unpack};
 use std::alloc::Global;
 
-/// In place of a word.
+/// No word.
 const NO_WORD: u64 = u64::MAX;
 
-/// In place of a stamp.
+/// No stamp.
 const NO_STAMP: u32 = u32::MAX;
 
-/// Makes a call on a word, by a plan. If the bytes are a plan whose word fits, the numbers name a
-/// call, and the word is a state's, the reply is the interlock's, with the word of the state after
-/// it. Otherwise, and if memory runs out, it has the word that was given.
+/// Makes a call on a word, by a plan. If the bytes are a plan, the numbers name a call, and the word is
+/// a state's, the reply is the interlock's, with the word of the state after it. Otherwise, and if
+/// memory runs out, it has the word that was given.
 #[unsafe(no_mangle)]
 pub extern "C" fn bagunjoki_plan_step(
     alloc: Global,

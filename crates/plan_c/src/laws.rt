@@ -3,7 +3,7 @@ ghost use Rattle.plan_c.specs.Laws.{NoStateHasNoWord};
 
 use plan_word::laws::words_are_laid_out;
 
-/// No state of a plan has the word that stands in place of a word.
+/// No state of a plan has the word that says that there is none.
 pub fn no_state_has_no_word()
     ensures { NoStateHasNoWord }
 {

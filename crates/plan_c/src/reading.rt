@@ -14,7 +14,7 @@ use std::alloc::Global;
 /// Why no plan was read.
 #[derive(Clone, Copy, Debug, PartialEq, Eq)]
 pub(crate) enum Unread {
-    /// The bytes are no plan's, or its word doesn't fit 64 bits.
+    /// The bytes are no plan's.
     NoPlan,
     /// Memory ran out.
     NoMemory,
@@ -47,8 +47,6 @@ pub(crate) fn read_plan(alloc: Global, bytes: &[u8]) -> Result<(Plan, Layout), U
     let Ok(plan) = Plan::new(tables) else {
         return Err(Unread::NoPlan);
     };
-    match Layout::of(&plan) {
-        Ok(layout) => Ok((plan, layout)),
-        Err(_) => Err(Unread::NoPlan),
-    }
+    let layout = Layout::of(&plan);
+    Ok((plan, layout))
 }

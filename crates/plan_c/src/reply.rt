@@ -18,7 +18,7 @@ pub(crate) const NO_CALL: u8 = 64;
 /// The answer where a word is no state's.
 pub(crate) const NO_STATE: u8 = 65;
 
-/// The answer where bytes are no plan, or its word doesn't fit.
+/// The answer where bytes are no plan.
 pub(crate) const NO_PLAN: u8 = 67;
 
 /// The answer where memory ran out.

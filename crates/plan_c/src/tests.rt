@@ -82,7 +82,7 @@ fn mixed_reply(sum: u64, reply: Reply) -> u64 {
 #[test]
 fn walks_as_c_does(rt: HostRuntime) -> Result<(), Fail> {
     let plan = Plan::new(examples::lift(rt.alloc())?).expect(&rt, "a plan");
-    let layout = Layout::of(&plan).expect(&rt, "a word");
+    let layout = Layout::of(&plan);
     let mut full = [false; 16];
     full[1] = true;
     let mut state = State::start(full, 0);

@@ -1,6 +1,6 @@
 -- A plan and a script after it.
-use Rattle.std.specs.Prelude.{ℕ, ◌+◌, ◌-◌, ◌==◌, ◌&&◌, ◌||◌, Bool, List, length, take, drop, get_or, codes, min, unwrap_or}
-use Rattle.std.specs.Prelude.{Option}
+use Rattle.std.specs.Prelude.{ℕ, ◌+◌, ◌-◌, ◌==◌, ◌&&◌, ◌||◌, Bool, List, length, take, drop, get_or, codes, min}
+use Rattle.std.specs.Prelude.{Option, unwrap_or}
 use Rattle.std.specs.List.{starts_with}
 use Rattle.std.specs.Bool.{then_some}
 use Rattle.std.specs.Prelude.{nat_eq}

@@ -1,13 +1,13 @@
 //! What the program `plan` does.
-ghost use Rattle.std.specs.Prelude.{◌≡◌, ◌≢◌, ◌≤◌, Some, None, codes};
+ghost use Rattle.std.specs.Prelude.{◌≡◌, ◌≢◌, ◌≤◌, Some, None, IfOk, IfSome, codes, length};
 ghost use Rattle.std.specs.Io.KnownBytes.{Appends};
 ghost use Rattle.cell_text.specs.Input.{TakesAtMost};
 ghost use Rattle.cell_text.specs.Output.{WrotePrefix};
 ghost use Rattle.cell_shell.specs.Printed.{Prints};
 ghost use Rattle.cell_shell.specs.Versions.{version_line};
 ghost use Rattle.cell_shell.specs.Words.{texts_of};
-ghost use Rattle.plan_command.specs.Input.{max_bytes_read, script_in};
-ghost use Rattle.plan_command.specs.Served.{AnswersScript};
+ghost use Rattle.plan_command.specs.Input.{byte_limit, max_bytes_read, script_in};
+ghost use Rattle.plan_command.specs.Served.{AnswersInput, AnswersScript};
 ghost use Rattle.plan_command.specs.Requests.{request_of};
 
 use crate::explore::{Screen, screen_of};
@@ -18,9 +18,10 @@ use crate::request;
 use crate::request::Request;
 use cell_shell::{Exit, fail, print, print_prefix, print_version, texts_of, words_or_exit};
 use cell_text::{InputFault, read_up_to};
+use plan_document::{plan_of, read_plan};
 use plan_replay::{Answered, Outcome, ReplayFault, answer_script, start_of_script};
 use plan_rules::State;
-use plan_text::{NamedPlan, plan_of, read_plan};
+use plan_text::NamedPlan;
 use std::alloc::{AllocError, Global};
 use std::env::Env;
 use std::io::{Read, Write};
@@ -72,29 +73,52 @@ fn text_of(alloc: Global, request: Request, named: &NamedPlan) -> Result<String,
     }
 }
 
-/// Reads a plan and a script after it, and prints the answers to the script, or what the machines' programs come to from
-/// its start.
-fn serve_script<R: Read, W: Write>(
-    alloc: Global,
-    request: Request,
-    reader: &mut R,
-    writer: &mut W,
-) -> u8
-    ensures status { result ≤ 1 }
+/// Reads a plan and a script after it: all bytes, unless there are too many.
+fn read_input<R: Read>(alloc: Global, reader: &mut R) -> Result<Vec<u8>, InputFault>
+    ensures whole { IfOk result (λ input. length input.items ≤ byte_limit →
+        IfSome (R.remaining reader.old) (λ bytes. input.items ≡ bytes)) }
     ensures read { TakesAtMost (R.remaining reader.old) (R.remaining reader.new) max_bytes_read }
 {
-    match read_up_to(alloc, reader, MAX_BYTES + 1) {
-        Ok(bytes) => match request {
-            Request::Explore => explore_bytes(alloc, bytes.as_slice(), writer).status(),
-            _ => replay_bytes(alloc, bytes.as_slice(), writer).status(),
-        },
-        Err(InputFault::Read) => fail(writer, "read").status(),
-        Err(InputFault::Memory) => fail(writer, "memory").status(),
+    read_up_to(alloc, reader, MAX_BYTES + 1)
+}
+
+/// Prints that the input wasn't read.
+fn fail_to_read<W: Write>(writer: &mut W, fault: InputFault) -> Exit
+    ensures { result ≡ Exit.Failed }
+{
+    match fault {
+        InputFault::Read => fail(writer, "read"),
+        InputFault::Memory => fail(writer, "memory"),
+    }
+}
+
+/// Prints the answers to the script after a plan.
+fn serve_replay<R: Read, W: Write>(alloc: Global, reader: &mut R, writer: &mut W) -> Exit
+    ensures status { result ≢ Exit.Refused }
+    ensures answered { result ≡ Exit.Well → AnswersInput (R.remaining reader.old)
+        (W.contents writer.old) (W.contents writer.new) }
+    ensures read { TakesAtMost (R.remaining reader.old) (R.remaining reader.new) max_bytes_read }
+{
+    match read_input(alloc, reader) {
+        Ok(bytes) => replay_bytes(alloc, bytes.as_slice(), writer),
+        Err(fault) => fail_to_read(writer, fault),
+    }
+}
+
+/// Prints what the machines' programs come to from the start after a plan.
+fn serve_explore<R: Read, W: Write>(alloc: Global, reader: &mut R, writer: &mut W) -> Exit
+    ensures status { result ≢ Exit.Refused }
+    ensures read { TakesAtMost (R.remaining reader.old) (R.remaining reader.new) max_bytes_read }
+{
+    match read_input(alloc, reader) {
+        Ok(bytes) => explore_bytes(alloc, bytes.as_slice(), writer),
+        Err(fault) => fail_to_read(writer, fault),
     }
 }
 
 fn replay_bytes<W: Write>(alloc: Global, bytes: &[u8], writer: &mut W) -> Exit
     ensures status { result ≢ Exit.Refused }
+    ensures short { result ≡ Exit.Well → length bytes.now ≤ byte_limit }
     ensures answered { result ≡ Exit.Well →
         AnswersScript (script_in bytes.now) (W.contents writer.old) (W.contents writer.new) }
 {
@@ -169,6 +193,10 @@ pub fn serve<R: Read, W: Write>(alloc: Global, words: &[&str], reader: &mut R, w
         Prints result (W.contents writer.old) (W.contents writer.new)
         (version_line (codes "plan")) }
 
+    // With `replay`: status 0 says that each record of the script was answered, and that the answers were written.
+    ensures replay { request_of (texts_of words.now) ≡ Some Request.Replay → result ≡ 0 →
+        AnswersInput (R.remaining reader.old) (W.contents writer.old) (W.contents writer.new) }
+
     // Status 2 comes exactly for other words, of which a line was printed, or a prefix of it.
     ensures refused { result ≡ 2 → request_of (texts_of words.now) ≡ None }
     ensures other { request_of (texts_of words.now) ≡ None → result ≡ 2 }
@@ -181,8 +209,8 @@ pub fn serve<R: Read, W: Write>(alloc: Global, words: &[&str], reader: &mut R, w
     match request::request_of(words) {
         Some(Request::Check) => serve_plan(alloc, Request::Check, reader, writer),
         Some(Request::Header) => serve_plan(alloc, Request::Header, reader, writer),
-        Some(Request::Replay) => serve_script(alloc, Request::Replay, reader, writer),
-        Some(Request::Explore) => serve_script(alloc, Request::Explore, reader, writer),
+        Some(Request::Replay) => serve_replay(alloc, reader, writer).status(),
+        Some(Request::Explore) => serve_explore(alloc, reader, writer).status(),
         Some(Request::Help) => print(writer, HELP.as_bytes()).status(),
         Some(Request::Version) => print_version(writer, "plan").status(),
         None => refuse(writer).status(),

@@ -1,10 +1,10 @@
 //! The rules of a plant.
-ghost use Rattle.std.specs.Prelude.{◌≡◌, ◌≤◌, ◌↔◌, IsOk, IfOk, IfErr, ◌+◌};
-ghost use Rattle.plan_word.specs.Layout.{counts_of, width_of};
+ghost use Rattle.std.specs.Prelude.{◌≡◌};
+ghost use Rattle.plan_word.specs.Layout.{counts_of};
 
 use plan_rules::State;
 use plan_types::{Answer, Call, Event, Plan};
-use plan_word::{Layout, TooWide, pack, stamp_of, step_word, unpack};
+use plan_word::{Layout, pack, stamp_of, step_word, unpack};
 use word_interlock::Rules;
 
 /// The rules of a plant: its plan, and the layout of the plan's word.
@@ -16,17 +16,12 @@ pub struct PlanRules {
 }
 
 impl PlanRules {
-    /// The rules by a plan, or how many bits are missing if its word doesn't fit 64.
-    pub fn new(plan: Plan) -> Result<PlanRules, TooWide>
-        ensures ok { IsOk result ↔ (width_of (counts_of plan) ≤ 64) }
-        ensures plan { IfOk result (λ rules. rules.plan ≡ plan) }
-        ensures missing { IfErr result (λ fault.
-            width_of (counts_of plan) ≡ 64 + fault.missing) }
+    /// The rules by a plan.
+    pub fn new(plan: Plan) -> PlanRules
+        ensures { result.plan ≡ plan }
     {
-        match Layout::of(&plan) {
-            Ok(layout) => Ok(PlanRules { plan, layout }),
-            Err(fault) => Err(fault),
-        }
+        let layout = Layout::of(&plan);
+        PlanRules { plan, layout }
     }
 
     /// The plan.

@@ -14,73 +14,74 @@ places = [\"q\"]
 
 const ZONE: &str = "[[zone]]\nname = \"z\"\nhost = \"a\"\nguest = \"b\"\n";
 
-/// A document, and the line of its fault after `fault plan `.
+/// A document, and its fault after `fault plan `.
 const ROWS: &[(&str, &str)] = &[
     ("", "the document: machine: it is missing"),
     (
         "machines = 1\n",
-        "the document: \"machines\" is no key of it",
+        "line 1: the document: \"machines\" is no key of it",
     ),
     (
         "machine = 1\n",
-        "the document: machine: it takes a list of tables",
+        "line 1: the document: machine: it takes a list of tables",
     ),
     (
         "machine = [1]\n",
-        "the document: machine: it takes a list of tables",
+        "line 1: the document: machine: it takes a list of tables",
     ),
-    ("[[machine]]\n", "machine 1: name: it is missing"),
+    ("[[machine]]\n", "line 1: machine 1: name: it is missing"),
     (
         "[[machine]]\nname = 1\n",
-        "machine 1: name: it takes a text; put quotes round it",
+        "line 2: machine 1: name: it takes a text; put quotes round it",
     ),
     (
         "[[machine]]\nnames = \"a\"\n",
-        "machine 1: \"names\" is no key of it",
+        "line 2: machine 1: \"names\" is no key of it",
     ),
     (
         "[[machine]]\nname = \"A\"\n",
-        "machine 1: name: \"A\" is no name: a letter, then letters, digits or underscores, lower case, at most 32",
+        "line 2: machine 1: name: \"A\" is no name: \
+         a letter, then letters, digits or underscores, lower case, at most 32",
     ),
     (
         "[[machine]]\nname = \"watch\"\n",
-        "machine 1: name: \"watch\" is a word of scripts, and names no machine",
+        "line 2: machine 1: name: \"watch\" is a word of scripts, and names no machine",
     ),
     (
         "[[machine]]\nname = \"resume\"\n",
-        "machine 1: name: \"resume\" is a word of scripts, and names no machine",
+        "line 2: machine 1: name: \"resume\" is a word of scripts, and names no machine",
     ),
     (
         "[[machine]]\nname = \"a\"\n[[machine]]\nname = \"a\"\n",
-        "machine 2: name: \"a\" is there twice",
+        "line 4: machine 2: name: \"a\" is there twice",
     ),
     (
         "[[machine]]\nname = \"a\"\nplaces = \"p\"\n",
-        "machine 1: places: it takes a list of texts, such as [\"hand\", \"die\"]",
+        "line 3: machine 1: places: it takes a list of texts, such as [\"hand\", \"die\"]",
     ),
     (
         "[[machine]]\nname = \"a\"\nplaces = [\"p\", \"p\"]\n",
-        "machine 1: places: \"p\" is there twice",
+        "line 3: machine 1: places: \"p\" is there twice",
     ),
     (
         "[[machine]]\nname = \"a\"\nposes = 1\n",
-        "machine 1: poses: it takes a list of tables",
+        "line 3: machine 1: poses: it takes a list of tables",
     ),
     (
         "[[machine]]\nname = \"a\"\nposes = [{ name = \"x\" }]\n",
-        "machine 1: pose 1: gives: it is missing",
+        "line 3: machine 1: pose 1: gives: it is missing",
     ),
     (
         "[[machine]]\nname = \"a\"\nposes = [{ name = \"x\", gives = 1 }]\n",
-        "machine 1: pose 1: gives: it takes a table, such as { interior = \"closed\" }",
+        "line 3: machine 1: pose 1: gives: it takes a table, such as { interior = \"closed\" }",
     ),
     (
         "[[machine]]\nname = \"a\"\nposes = [{ name = \"x\", gives = {}, after_moving = 1 }]\n",
-        "machine 1: pose 1: after_moving: it takes true or false",
+        "line 3: machine 1: pose 1: after_moving: it takes true or false",
     ),
     (
         "[[machine]]\nname = \"a\"\nposes = [{ name = \"x\", gives = { z = \"shut\" } }]\n",
-        "machine 1: pose 1: gives: no zone is named \"z\"",
+        "line 3: machine 1: pose 1: gives: no zone is named \"z\"",
     ),
 ];
 
@@ -96,21 +97,170 @@ fn tells_faults(rt: HostRuntime) -> Result<(), AllocError> {
     Ok(())
 }
 
-/// What comes after two machines, and the line of the fault after `fault plan `.
+/// Documents of several lines, and their faults after `fault plan `.
+const PLACED: &[(&str, &str)] = &[
+    // Comments and blank lines come before.
+    (
+        "\
+# [[machine]]
+
+[[machine]] # name = \"a\"
+name = \"a\"
+
+# The second one.
+[[machine]]
+
+name = \"a\"
+",
+        "line 9: machine 2: name: \"a\" is there twice",
+    ),
+    // Lines end by CRLF, and a byte order mark comes first.
+    (
+        "\u{feff}# CRLF\r\n\r\n[[machine]]\r\nplaces = []\r\nname = true\r\n",
+        "line 5: machine 1: name: it takes a text; put quotes round it",
+    ),
+    // A text of several lines hides a head; a key is in quotes.
+    (
+        "\
+[[machine]]
+name = \"\"\"
+a\"\"\"
+program = ['''
+[[machine]]''', \"]\", # \"
+]
+[[machine]]
+\"name\" = \"a\"
+",
+        "line 8: machine 2: name: \"a\" is there twice",
+    ),
+    // A key is missing, and the next row has it: the line is the head's.
+    (
+        "[[machine]]\nname = \"a\"\n\n[[machine]]\nplaces = []\n\n[[machine]]\nname = \"b\"\n",
+        "line 4: machine 2: name: it is missing",
+    ),
+    // A key is unknown, and stands below known ones.
+    (
+        "[[machine]]\nname = \"a\"\nplaces = []\n\nprograms = [\n]\n",
+        "line 5: machine 1: \"programs\" is no key of it",
+    ),
+    (
+        "[[machine]]\nname = \"a\"\n\n[plant]\nname = \"a\"\n",
+        "line 4: the document: \"plant\" is no key of it",
+    ),
+    // A list has several lines: the line is the text's.
+    (
+        "[[machine]]\nname = \"a\"\nplaces = [\n  \"p\", # \"p\"\n  \"q\",\n  \"p\",\n]\n",
+        "line 6: machine 1: places: \"p\" is there twice",
+    ),
+    (
+        "[[machine]]\nname = \"a\"\nplaces = [\n  \"p\",\n  1,\n]\n",
+        "line 3: machine 1: places: it takes a list of texts, such as [\"hand\", \"die\"]",
+    ),
+    // Poses stand in a list.
+    (
+        "\
+[[machine]]
+name = \"a\"
+poses = [
+  { name = \"x\", gives = {} },
+
+  # The second one.
+  { name = \"y\", gives = {} },
+  { name = \"x\", gives = {} },
+]
+",
+        "line 8: machine 1: pose 3: name: \"x\" is there twice",
+    ),
+    (
+        "\
+[[machine]]
+name = \"a\"
+poses = [{ name = \"x\", gives = {} }, {
+    name = \"y\",
+    gives = {},
+    after_moving = \"]\",
+  },
+]
+",
+        "line 6: machine 1: pose 2: after_moving: it takes true or false",
+    ),
+    (
+        "[[machine]]\nname = \"a\"\nposes = [\n  { name = \"x\", gives = {} },\n  { name = \"y\" },\n]\n",
+        "line 5: machine 1: pose 2: gives: it is missing",
+    ),
+    (
+        "[[machine]]\nname = \"a\"\nposes = [\n  {\n    name = \"x\",\n    give = {},\n  },\n]\n",
+        "line 6: machine 1: pose 1: \"give\" is no key of it",
+    ),
+    // Poses have heads, or keys with dots.
+    (
+        "\
+[[machine]]
+name = \"a\"
+[[machine.poses]]
+name = \"x\"
+gives = {}
+
+[[machine]]
+name = \"b\"
+[[machine.poses]]
+name = \"x\"
+gives = {}
+[[machine.poses]]
+name = \"y\"
+[machine.poses.gives]
+y = \"closed\"
+",
+        "line 15: machine 2: pose 2: gives: no zone is named \"y\"",
+    ),
+    // All machines stand in a list.
+    (
+        "machine = [\n  { name = \"a\" },\n  { name = \"b\", program = [\"\"] },\n]\n",
+        "line 3: machine 2: program: \"\" is no call: \
+         claim, give, yield, take or release with a zone, or pose with a pose",
+    ),
+    // What is no TOML.
+    (
+        "[[machine]]\r\n\r\nname = \r\n",
+        "line 3: it is no TOML: invalid value, \
+         expected a string, number, boolean, date-time, array or inline table",
+    ),
+    (
+        "[[machine]]\nname = \"a\"\nname = \"b\"\n",
+        "line 3: it is no TOML: duplicate key",
+    ),
+];
+
+#[test]
+fn tells_lines(rt: HostRuntime) -> Result<(), AllocError> {
+    for (document, words) in PLACED {
+        let text = format!(in rt.alloc(); "fault plan {words}\n")?;
+        assert!(rt;
+            is_answered(rt.alloc(), b"check", document, 1, text.as_str()),
+            "{words}"
+        );
+    }
+    Ok(())
+}
+
+/// What comes after two machines, and the fault after `fault plan `.
 const LATER: &[(&str, &str)] = &[
-    ("zone = 1\n", "machine 2: \"zone\" is no key of it"),
-    ("[[zone]]\nname = \"z\"\n", "zone 1: host: it is missing"),
+    ("zone = 1\n", "line 7: machine 2: \"zone\" is no key of it"),
+    (
+        "[[zone]]\nname = \"z\"\n",
+        "line 7: zone 1: host: it is missing",
+    ),
     (
         "[[zone]]\nname = \"z\"\nhost = \"pres\"\nguest = \"b\"\n",
-        "zone 1: host: no machine is named \"pres\"",
+        "line 9: zone 1: host: no machine is named \"pres\"",
     ),
     (
         "[[zone]]\nname = \"z\"\nhost = \"a\"\nguest = \"c\"\n",
-        "zone 1: guest: no machine is named \"c\"",
+        "line 10: zone 1: guest: no machine is named \"c\"",
     ),
     (
         "[[zone]]\nname = \"z\"\nhost = \"a\"\nguest = \"a\"\n",
-        "zone 1: guest: the host is its own guest",
+        "line 10: zone 1: guest: the host is its own guest",
     ),
 ];
 
@@ -127,51 +277,77 @@ fn tells_faults_of_zones(rt: HostRuntime) -> Result<(), AllocError> {
     Ok(())
 }
 
-/// What comes after two machines and a zone of the first, and the line of the fault after `fault plan `.
+/// What comes after two machines and a zone of the first, and the fault after `fault plan `.
 const LAST: &[(&str, &str)] = &[
     (
         "inward = [\"q\"]\n",
-        "zone 1: inward: it takes two places: from which one, and to which",
+        "line 11: zone 1: inward: it takes two places: from which one, and to which",
     ),
     (
         "inward = [\"q\", \"r\"]\n",
-        "zone 1: inward: no place is named \"r\"",
+        "line 11: zone 1: inward: no place is named \"r\"",
     ),
     (
         "inward = [\"p\", \"q\"]\n",
-        "zone 1: inward: it doesn't lead from a place of the giver to one of the receiver",
+        "line 11: zone 1: inward: it doesn't lead from a place of the giver to one of the receiver",
     ),
     (
         "outward = [\"q\", \"p\"]\n",
-        "zone 1: outward: it doesn't lead from a place of the giver to one of the receiver",
+        "line 11: zone 1: outward: it doesn't lead from a place of the giver to one of the receiver",
     ),
     (
         "[[zone]]\nname = \"z\"\nhost = \"a\"\nguest = \"b\"\n",
-        "zone 2: name: \"z\" is there twice",
+        "line 12: zone 2: name: \"z\" is there twice",
     ),
     (
         "[[machine]]\nname = \"c\"\nposes = [{ name = \"x\", gives = { z = \"closed\" } }]\n",
-        "machine 3: pose 1: gives: the machine doesn't host \"z\"",
+        "line 13: machine 3: pose 1: gives: the machine doesn't host \"z\"",
     ),
     (
         "[[machine]]\nname = \"c\"\nposes = [{ name = \"x\", gives = { z = \"shut\" } }]\n",
-        "machine 3: pose 1: gives: \"shut\" is no posture: known are closed moving openin openout",
+        "line 13: machine 3: pose 1: gives: \"shut\" is no posture: known are closed moving openin openout",
     ),
     (
         "[[machine]]\nname = \"c\"\nprogram = [\"claim\"]\n",
-        "machine 3: program: \"claim\" is no call: claim, give, yield, take or release with a zone, or pose with a pose",
+        "line 13: machine 3: program: \"claim\" is no call: \
+         claim, give, yield, take or release with a zone, or pose with a pose",
     ),
     (
         "[[machine]]\nname = \"c\"\nprogram = [\"inquire z\"]\n",
-        "machine 3: program: \"inquire z\" is no call: claim, give, yield, take or release with a zone, or pose with a pose",
+        "line 13: machine 3: program: \"inquire z\" is no call: \
+         claim, give, yield, take or release with a zone, or pose with a pose",
     ),
     (
         "[[machine]]\nname = \"c\"\nprogram = [\"claim y\"]\n",
-        "machine 3: program: no zone is named \"y\"",
+        "line 13: machine 3: program: no zone is named \"y\"",
     ),
     (
         "[[machine]]\nname = \"c\"\nprogram = [\"pose y\"]\n",
-        "machine 3: program: the machine has no pose \"y\"",
+        "line 13: machine 3: program: the machine has no pose \"y\"",
+    ),
+    (
+        "[[machine]]\nname = \"c\"\nprogram = [\n  \"claim z\", \"give z\",\n  \"claim y\", \"claim x\",\n]\n",
+        "line 15: machine 3: program: no zone is named \"y\"",
+    ),
+    (
+        "outward = [\n  \"p\",\n  \"r\",\n]\n",
+        "line 13: zone 1: outward: no place is named \"r\"",
+    ),
+    (
+        "outward = [\n  \"q\",\n  \"p\",\n]\n",
+        "line 11: zone 1: outward: it doesn't lead from a place of the giver to one of the receiver",
+    ),
+    (
+        "\n[[zone]]\nname = \"y\"\nhost = \"b\"\nguest = \"a\"\ninward = [\"q\", \"p\"]\n",
+        "line 16: zone 2: inward: it doesn't lead from a place of the giver to one of the receiver",
+    ),
+    (
+        "[[machine]]\nname = \"c\"\n[[machine.poses]]\nname = \"x\"\ngives.z = \"shut\"\n",
+        "line 15: machine 3: pose 1: gives: \"shut\" is no posture: known are closed moving openin openout",
+    ),
+    (
+        "[[machine]]\nname = \"c\"\nposes = [{ name = \"x\", gives = {\n  z = \"moving\"\n} }]\n",
+        "line 14: machine 3: pose 1: gives: the machine doesn't host \"z\"",
     ),
 ];
 
@@ -201,7 +377,7 @@ fn tells_a_wide_word(rt: HostRuntime) -> Result<(), AllocError> {
     let wide = "fault plan wide: its word has 9 bits more than 64\n";
     assert!(rt; is_answered(rt.alloc(), b"check", document.as_str(), 1, wide));
     document.push_str("[[zone]]\nname = \"z\"\nhost = \"a\"\nguest = \"b\"\n")?;
-    let many = "fault plan zone 11: name: there are more than 10\n";
+    let many = "fault plan line 48: zone 11: name: there are more than 10\n";
     assert!(rt; is_answered(rt.alloc(), b"check", document.as_str(), 1, many));
     Ok(())
 }

@@ -78,3 +78,11 @@ rows_answers n (row ∷ rows) = answers_from n (start_in (place_count n.plan) ro
 -- the answers to a script
 abbrev pub script_answers : Named → List ℕ → Answers
 script_answers n script = rows_answers n (records default_config (strip_bom script))
+
+-- the start in record 0, or why there is none
+abbrev pub rows_start : Named → List Row → Result State ScriptFault
+rows_start n [] = Err NoStart
+rows_start n (row ∷ rows) = start_in (place_count n.plan) row
+
+abbrev pub script_start : Named → List ℕ → Result State ScriptFault
+script_start n script = rows_start n (records default_config (strip_bom script))

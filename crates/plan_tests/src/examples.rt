@@ -38,7 +38,7 @@ fn a_press_is_loaded(rt: HostRuntime) {
 fn a_press_claims_on_a_word(rt: HostRuntime) {
     let tables = examples::press(rt.alloc()).expect(&rt, "memory");
     let plan = Plan::new(tables).expect(&rt, "a plan");
-    let layout = Layout::of(&plan).expect(&rt, "a word of 64 bits");
+    let layout = Layout::of(&plan);
     let mut full = [false; 16];
     full[0] = true;
     let word = pack(&plan, &layout, &State::start(full, 0));

@@ -37,7 +37,7 @@ fn machine_of(number: u64) -> u8 {
 
 /// How many calls of a walk were done, if all were answered on the words as on the states.
 fn walk(plan: &Plan, full: [bool; 16], mut seed: u64) -> Option<u32> {
-    let layout = Layout::of(plan).ok()?;
+    let layout = Layout::of(plan);
     let mut state = State::start(full, 0);
     let mut word = pack(plan, &layout, &state);
     for _ in 0..STEPS {

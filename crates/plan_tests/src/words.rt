@@ -1,8 +1,8 @@
 //! Words of the press and of the lift, one bit flipped, and the words of the largest plan.
 
 use plan_rules::State;
-use plan_types::{Answer, Call, Plan, PlanZone, Posture, Tables, WATCH, examples};
-use plan_word::{Layout, TooWide, pack, stamp_of, step_word, unpack};
+use plan_types::{Answer, Call, Plan, PlanFault, PlanZone, Posture, Tables, WATCH, examples};
+use plan_word::{Layout, pack, stamp_of, step_word, unpack};
 use std::alloc::{AllocError, Global};
 
 // The loader has given its plate to the press, which owns the zone.
@@ -26,7 +26,7 @@ const LIFT_BITS: [u8; 27] = [
 
 /// How many words of states come from a word by flipping one bit, if each flips a bit of the list.
 fn flips(plan: &Plan, word: u64, bits: &[u8]) -> Option<usize> {
-    let layout = Layout::of(plan).ok()?;
+    let layout = Layout::of(plan);
     let mut states = 0_usize;
     for bit in 0_u8..64 {
         if unpack(plan, &layout, word ^ 1 << bit).is_some() {
@@ -74,11 +74,11 @@ fn tables_of(alloc: Global, zones: u8, places: u8) -> Result<Tables, AllocError>
 
 /// The width of the word of such a plan, or how many bits are missing.
 fn width_of(alloc: Global, zones: u8, places: u8) -> Option<Result<u8, u8>> {
-    let plan = Plan::new(tables_of(alloc, zones, places).ok()?).ok()?;
-    Some(match Layout::of(&plan) {
-        Ok(layout) => Ok(layout.width()),
-        Err(TooWide { missing }) => Err(missing),
-    })
+    match Plan::new(tables_of(alloc, zones, places).ok()?) {
+        Ok(plan) => Some(Ok(Layout::of(&plan).width())),
+        Err(PlanFault::TooWide { missing }) => Some(Err(missing)),
+        Err(_) => None,
+    }
 }
 
 // Zones and places, and the width or the number of missing bits.
@@ -102,7 +102,7 @@ fn plans_fit_or_not(rt: HostRuntime) {
 fn the_largest_plan_fills_its_word(rt: HostRuntime) {
     let tables = tables_of(rt.alloc(), 8, 3).expect(&rt, "memory");
     let plan = Plan::new(tables).expect(&rt, "a plan");
-    let layout = Layout::of(&plan).expect(&rt, "a layout");
+    let layout = Layout::of(&plan);
     let mut full = [false; 16];
     full[2] = true;
     let start = State::start(full, 1_048_574);

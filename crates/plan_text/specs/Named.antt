@@ -12,3 +12,16 @@ pub record Named : Type 0 where
   pub places : List Text
   pub poses : List Text
   pub programs : List (List Call)
+
+abbrev pub named : PlanTable → List Text → List Text → List Text → List Text → List (List Call) → Named
+named plan machines zones places poses programs = record {
+  plan = plan;
+  machines = machines;
+  zones = zones;
+  places = places;
+  poses = poses;
+  programs = programs;
+}
+
+abbrev pub with_programs : Named → List (List Call) → Named
+with_programs n programs = record n { programs = programs }

@@ -1,13 +1,15 @@
 //! A plan with the names of its machines, zones, places and poses, and with the machines' programs.
-ghost use Rattle.std.specs.Prelude.{◌≡◌, ◌≤◌};
+ghost use Rattle.std.specs.Prelude.{◌≡◌, [], map};
 ghost use Rattle.plan_word.specs.Layout.{counts_of};
+ghost use Rattle.plan_text.specs.Named.{named, with_programs};
 
 use crate::names::Names;
 use plan_types::{Call, Plan};
 use plan_word::Layout;
+use std::alloc::Global;
 use std::marker::Model;
 
-/// A plan with names, whose word fits 64 bits.
+/// A plan with names.
 #[derive(Debug, Drop)]
 pub struct NamedPlan {
     pub(crate) plan: Plan,
@@ -39,6 +41,36 @@ impl Model for NamedPlan {
 }
 
 impl NamedPlan {
+    /// A plan with the names of its machines, zones, places and poses by their numbers, and without programs.
+    pub fn new(
+        alloc: Global,
+        plan: Plan,
+        machines: Names,
+        zones: Names,
+        places: Names,
+        poses: Names,
+    ) -> NamedPlan
+        ensures { result ≡ named plan machines zones places poses [] }
+    {
+        let layout = Layout::of(&plan);
+        NamedPlan {
+            plan,
+            layout,
+            machines,
+            zones,
+            places,
+            poses,
+            programs: Vec::new(alloc),
+        }
+    }
+
+    /// Replaces the machines' programs.
+    pub fn set_programs(&mut self, programs: Vec<Vec<Call>>)
+        ensures { self.new ≡ with_programs self.old (map (λ calls. calls.items) programs.items) }
+    {
+        self.programs = programs;
+    }
+
     /// The plan.
     pub fn plan(&self) -> &Plan
         ensures { result.now ≡ self.now.plan }

@@ -1,14 +1,14 @@
 -- Tables have no fault exactly if they are a plan.
-use Rattle.std.proofs.Common.{◌≡◌, ◌≢◌, ℕ, ◌<◌, ◌≤◌, Bool, true, false, ◌&&◌, not, nat_eq, nat_lt, nat_le, Option, Some, None, refl, ap, is_some, ltb-true, eq-eqb, IsTrue}
+use Rattle.std.proofs.Common.{◌≡◌, ◌≢◌, ℕ, ◌-◌, ◌<◌, ◌≤◌, Bool, true, false, ◌&&◌, not, nat_eq, nat_lt, nat_le, Option, Some, None, refl, ap, is_some, ltb-true, eq-eqb, IsTrue}
 use Rattle.std.specs.Bool.{then_some}
 use Rattle.std.proofs.lemmas.Bool.{eqb-true, leb-true, lt-ltb, le-leb, false_from_ne_true}
 use Rattle.plan_types.specs.declared.posture.Posture.{Posture}
 use Rattle.plan_types.specs.declared.fault.PlanFault.{PlanFault}
-use Rattle.plan_types.specs.declared.fault.PlanFault.TheVariants.{TooManyMachines, TooManyZones, TooManyPoses, TooManyPlaces, NoSuchKeeper, NoSuchHost, NoSuchGuest, HostIsGuest, InwardAstray, OutwardAstray, NoSuchMachine, ForeignZone}
-use Rattle.plan_types.specs.Table.{PlanTable, zone_count, pose_count, place_count, host_of, guest_of, machine_of, posture_of, is_hosted, zone_row}
+use Rattle.plan_types.specs.declared.fault.PlanFault.TheVariants.{TooManyMachines, TooManyZones, TooManyPoses, TooManyPlaces, TooWide, NoSuchKeeper, NoSuchHost, NoSuchGuest, HostIsGuest, InwardAstray, OutwardAstray, NoSuchMachine, ForeignZone}
+use Rattle.plan_types.specs.Table.{PlanTable, zone_count, pose_count, place_count, word_width, host_of, guest_of, machine_of, posture_of, is_hosted, zone_row}
 use Rattle.plan_types.specs.Below.{first_below}
 use Rattle.plan_types.specs.Plan.{IsPlan, leads}
-use Rattle.plan_types.specs.Faults.{◌or◌, unless, count_fault, keeper_fault, zone_fault, pose_fault, foreign_fault, plan_fault}
+use Rattle.plan_types.specs.Faults.{◌or◌, unless, count_fault, width_fault, keeper_fault, zone_fault, pose_fault, foreign_fault, plan_fault}
 use Rattle.plan_types.proofs.Below.{first_below_none, first_below_all}
 
 both : (a b : Option PlanFault) → (a or b) ≡ None → (a ≡ None) × (b ≡ None)
@@ -37,13 +37,13 @@ test_apart a b ne = ap not (false_from_ne_true (nat_eq a b) (λ t. ne (eqb-true 
 
 -- ---- from no fault to the rules
 
-record Counts (t : PlanTable) : Type 0 where
+pub record Counts (t : PlanTable) : Type 0 where
   machines : t.machines ≤ 15
   zones : zone_count t ≤ 10
   poses : pose_count t ≤ 64
   places : place_count t ≤ 16
 
-counts : (t : PlanTable) → count_fault t ≡ None → Counts t
+pub counts : (t : PlanTable) → count_fault t ≡ None → Counts t
 counts t e =
     let a = unless (nat_le t.machines 15) TooManyMachines in
     let b = unless (nat_le (zone_count t) 10) TooManyZones in
@@ -106,13 +106,15 @@ no_foreign (Some q) h f k = rw (k q refl) refl
 pub is_plan : (t : PlanTable) → plan_fault t ≡ None → IsPlan t
 is_plan t e =
     let a = count_fault t in
+    let w = width_fault t in
     let b = first_below (keeper_fault t) (place_count t) in
     let c = first_below (zone_fault t) (zone_count t) in
     let d = first_below (pose_fault t) (pose_count t) in
-    let h3 = both (a or b or c) d e in
-    let h2 = both (a or b) c h3.0 in
-    let h1 = both a b h2.0 in
-    let few = counts t h1.0 in
+    let h3 = both (a or w or b or c) d e in
+    let h2 = both (a or w or b) c h3.0 in
+    let h1 = both (a or w) b h2.0 in
+    let h0 = both a w h1.0 in
+    let few = counts t h0.0 in
     let zone : (z : ℕ) → z < zone_count t → Zoned t z = λ z l. zoned t z (first_below_none (zone_fault t) (zone_count t) h2.1 z l) in
     let pose : (p : ℕ) → p < pose_count t → (unless (nat_lt (machine_of t p) t.machines) (NoSuchMachine p) ≡ None) × (first_below (foreign_fault t p) 10 ≡ None)
     = λ p l. both (unless (nat_lt (machine_of t p) t.machines) (NoSuchMachine p)) (first_below (foreign_fault t p) 10) (first_below_none (pose_fault t) (pose_count t) h3.1 p l) in
@@ -121,6 +123,7 @@ is_plan t e =
       zones_at_most = few.zones;
       poses_at_most = few.poses;
       places_at_most = few.places;
+      fits_a_word = leb-true _ _ (holds _ (TooWide (word_width t - 64)) h0.1);
       keeper_is_machine = λ p l. ltb-true _ _ (holds _ (NoSuchKeeper p) (first_below_none (keeper_fault t) (place_count t) h1.1 p l));
       host_is_machine = λ z l. (zone z l).host;
       guest_is_machine = λ z l. (zone z l).guest;
@@ -144,6 +147,7 @@ no_fault_of_plan t k =
     (no_fault _ TooManyZones (le-leb _ _ k.zones_at_most)))
     (no_fault _ TooManyPoses (le-leb _ _ k.poses_at_most)))
     (no_fault _ TooManyPlaces (le-leb _ _ k.places_at_most)) in
+    let wide = no_fault _ (TooWide (word_width t - 64)) (le-leb _ _ k.fits_a_word) in
     let keepers = first_below_all (keeper_fault t) (place_count t) (λ p l. no_fault _ (NoSuchKeeper p) (lt-ltb _ _ (k.keeper_is_machine p l))) in
     let zones = first_below_all (zone_fault t) (zone_count t) (λ z l. no_zone_fault t z (record {
       host = k.host_is_machine z l;
@@ -157,4 +161,4 @@ no_fault_of_plan t k =
     let own = k.pose_of_host p z q l m s in and_true _ _ (lt-ltb _ _ own.0) (eq-eqb _ _ own.1)) in
     let poses = first_below_all (pose_fault t) (pose_count t) (λ p l. both_none _ _ (no_fault _ (NoSuchMachine p) (lt-ltb _ _ (k.pose_of_machine p l)))
     (first_below_all (foreign_fault t p) 10 (foreign p l))) in
-    both_none _ _ (both_none _ _ (both_none _ _ few keepers) zones) poses
+    both_none _ _ (both_none _ _ (both_none _ _ (both_none _ _ few wide) keepers) zones) poses

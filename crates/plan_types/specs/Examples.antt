@@ -5,7 +5,7 @@ use Rattle.plan_types.specs.declared.posture.Posture.TheVariants.{Closed, Moving
 use Rattle.plan_types.specs.declared.table.Way.{Way}
 use Rattle.plan_types.specs.declared.table.PlanZone.{PlanZone}
 use Rattle.plan_types.specs.declared.table.PlanPose.{PlanPose}
-use Rattle.plan_types.specs.declared.fault.PlanFault.TheVariants.{TooManyMachines, NoSuchKeeper, NoSuchHost}
+use Rattle.plan_types.specs.declared.fault.PlanFault.TheVariants.{TooManyMachines, TooWide, NoSuchKeeper, NoSuchHost}
 use Rattle.plan_types.specs.declared.fault.PlanFault.TheVariants.{NoSuchGuest, HostIsGuest, InwardAstray}
 use Rattle.plan_types.specs.declared.fault.PlanFault.TheVariants.{OutwardAstray, NoSuchMachine, ForeignZone}
 use Rattle.plan_types.specs.Table.{PlanTable, plan_table}
@@ -64,6 +64,9 @@ two_at row poses = plan_table 2 (row ∷ []) poses (0 ∷ 1 ∷ [])
 -- tables with faults, and the first fault of each
 pub record FirstFaults : Type 0 where
   pub machines : plan_fault (plan_table 16 (zone 1 1 None None ∷ []) [] []) ≡ Some TooManyMachines
+  -- eight zones and four places take 65 bits, ten zones and sixteen places 87
+  pub wide : plan_fault (plan_table 2 (replicate 8 (zone 1 1 None None)) [] (replicate 4 2)) ≡ Some (TooWide 1)
+  pub widest : plan_fault (plan_table 2 (replicate 10 press_zone) [] (replicate 16 0)) ≡ Some (TooWide 23)
   pub keeper : plan_fault (plan_table 2 (zone 1 1 None None ∷ []) [] (0 ∷ 2 ∷ [])) ≡ Some (NoSuchKeeper 1)
   pub host : plan_fault (two_at (zone 2 2 None None) []) ≡ Some (NoSuchHost 0)
   pub guest : plan_fault (two_at (zone 1 2 None None) []) ≡ Some (NoSuchGuest 0)

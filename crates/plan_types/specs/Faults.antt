@@ -1,15 +1,15 @@
 -- The faults of tables that are no plan, in their order.
-use Rattle.std.specs.Prelude.{ℕ, Bool, ◌&&◌, not, nat_eq, nat_lt, nat_le, Option, is_some}
+use Rattle.std.specs.Prelude.{ℕ, ◌-◌, Bool, ◌&&◌, not, nat_eq, nat_lt, nat_le, Option, is_some}
 use Rattle.std.specs.Option.{option_or}
 use Rattle.std.specs.Bool.{then_some}
 use Rattle.plan_types.specs.declared.fault.PlanFault.{PlanFault}
 use Rattle.plan_types.specs.declared.fault.PlanFault.TheVariants.{TooManyMachines, TooManyZones, TooManyPoses}
-use Rattle.plan_types.specs.declared.fault.PlanFault.TheVariants.{TooManyPlaces, NoSuchKeeper, NoSuchHost, NoSuchGuest}
-use Rattle.plan_types.specs.declared.fault.PlanFault.TheVariants.{HostIsGuest, InwardAstray, OutwardAstray}
-use Rattle.plan_types.specs.declared.fault.PlanFault.TheVariants.{NoSuchMachine, ForeignZone}
+use Rattle.plan_types.specs.declared.fault.PlanFault.TheVariants.{TooManyPlaces, TooWide, NoSuchKeeper, NoSuchHost}
+use Rattle.plan_types.specs.declared.fault.PlanFault.TheVariants.{NoSuchGuest, HostIsGuest, InwardAstray}
+use Rattle.plan_types.specs.declared.fault.PlanFault.TheVariants.{OutwardAstray, NoSuchMachine, ForeignZone}
 use Rattle.plan_types.specs.Below.{first_below}
-use Rattle.plan_types.specs.Table.{PlanTable, zone_count, pose_count, place_count, zone_row, keeper_of, host_of}
-use Rattle.plan_types.specs.Table.{guest_of, machine_of, posture_of, is_hosted}
+use Rattle.plan_types.specs.Table.{PlanTable, zone_count, pose_count, place_count, word_width, zone_row, keeper_of}
+use Rattle.plan_types.specs.Table.{host_of, guest_of, machine_of, posture_of, is_hosted}
 use Rattle.plan_types.specs.Plan.{leads}
 
 infixl 5 ◌or◌
@@ -25,6 +25,10 @@ count_fault t =
     or unless (nat_le (zone_count t) 10) TooManyZones
     or unless (nat_le (pose_count t) 64) TooManyPoses
     or unless (nat_le (place_count t) 16) TooManyPlaces
+
+-- the word has so many bits more than 64
+abbrev pub width_fault : PlanTable → Option PlanFault
+width_fault t = then_some (not (nat_le (word_width t) 64)) (TooWide (word_width t - 64))
 
 abbrev pub keeper_fault : PlanTable → ℕ → Option PlanFault
 keeper_fault t p = unless (nat_lt (keeper_of t p) t.machines) (NoSuchKeeper p)
@@ -52,6 +56,7 @@ pose_fault t p =
 abbrev pub plan_fault : PlanTable → Option PlanFault
 plan_fault t =
     count_fault t
+    or width_fault t
     or first_below (keeper_fault t) (place_count t)
     or first_below (zone_fault t) (zone_count t)
     or first_below (pose_fault t) (pose_count t)

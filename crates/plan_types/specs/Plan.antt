@@ -2,8 +2,8 @@
 use Rattle.std.specs.Prelude.{◌≡◌, ◌≢◌, ℕ, ◌<◌, ◌≤◌, Bool, true, ◌&&◌, Option, Some, None, IsTrue}
 use Rattle.plan_types.specs.declared.posture.Posture.{Posture}
 use Rattle.plan_types.specs.declared.table.Way.{Way}
-use Rattle.plan_types.specs.Table.{PlanTable, zone_count, pose_count, place_count, zone_row, keeper_of, host_of}
-use Rattle.plan_types.specs.Table.{guest_of, machine_of, posture_of, is_place_of}
+use Rattle.plan_types.specs.Table.{PlanTable, zone_count, pose_count, place_count, word_width, zone_row, keeper_of}
+use Rattle.plan_types.specs.Table.{host_of, guest_of, machine_of, posture_of, is_place_of}
 
 -- a way, if there is one, leads from a place of the giver to a place of the receiver
 abbrev pub leads : PlanTable → ℕ → ℕ → Option Way → Bool
@@ -15,6 +15,7 @@ pub record IsPlan (t : PlanTable) : Type 0 where
   pub zones_at_most : zone_count t ≤ 10
   pub poses_at_most : pose_count t ≤ 64
   pub places_at_most : place_count t ≤ 16
+  pub fits_a_word : word_width t ≤ 64
   pub keeper_is_machine : (p : ℕ) → p < place_count t → keeper_of t p < t.machines
   pub host_is_machine : (z : ℕ) → z < zone_count t → host_of t z < t.machines
   pub guest_is_machine : (z : ℕ) → z < zone_count t → guest_of t z < t.machines

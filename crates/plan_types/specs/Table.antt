@@ -1,5 +1,5 @@
 -- The tables of a plan, and what they say of a zone, a pose or a place by its number.
-use Rattle.std.specs.Prelude.{ℕ, Bool, false, ◌&&◌, ◌||◌, nat_eq, nat_lt, List, length, get_or, replicate}
+use Rattle.std.specs.Prelude.{ℕ, ◌+◌, ◌*◌, Bool, false, ◌&&◌, ◌||◌, nat_eq, nat_lt, List, length, get_or, replicate}
 use Rattle.std.specs.Prelude.{Option, Some, None, option_map}
 use Rattle.std.specs.Option.{option_eq}
 use Rattle.std.specs.List.{list_any}
@@ -38,6 +38,11 @@ pose_count t = length t.poses
 
 abbrev pub place_count : PlanTable → ℕ
 place_count t = length t.places
+
+-- the bits of the plan's word: five for a zone (owner two, flag one, posture two), one for a place, twenty for the
+-- stamp, one for the stop
+abbrev pub word_width : PlanTable → ℕ
+word_width t = 5 * zone_count t + place_count t + 21
 
 -- the rows; past the end of a table stands a row that says nothing
 abbrev pub no_zone : PlanZone

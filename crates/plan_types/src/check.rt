@@ -1,5 +1,5 @@
 //! The faults of a plan's tables.
-ghost use Rattle.std.specs.Prelude.{◌≡◌, ◌<◌, ◌↔◌, IsNone};
+ghost use Rattle.std.specs.Prelude.{◌≡◌, ◌<◌, ◌≤◌, ◌↔◌, IsNone};
 ghost use Rattle.plan_types.specs.Below.{first_below};
 ghost use Rattle.plan_types.specs.Table as table;
 ghost use Rattle.plan_types.specs.Plan as plan;
@@ -88,12 +88,29 @@ impl Tables {
     }
 
     fn count_fault(&self) -> Option<PlanFault>
-        ensures { result ≡ faults.count_fault self.now }
+        ensures fault { result ≡ faults.count_fault self.now }
+        ensures zones { IsNone result → table.zone_count self.now ≤ 10 }
+        ensures places { IsNone result → table.place_count self.now ≤ 16 }
     {
         unless(self.machines <= MAX_MACHINES, PlanFault::TooManyMachines)
             .or(unless(self.zones.len() <= MAX_ZONES, PlanFault::TooManyZones))
             .or(unless(self.poses.len() <= MAX_POSES, PlanFault::TooManyPoses))
             .or(unless(self.places.len() <= MAX_PLACES, PlanFault::TooManyPlaces))
+    }
+
+    fn width_fault(&self) -> Option<PlanFault>
+        requires zones { table.zone_count self.now ≤ 10 }
+        requires places { table.place_count self.now ≤ 16 }
+        ensures { result ≡ faults.width_fault self.now }
+    {
+        let width = 5 * self.zones.len() as u8 + self.places.len() as u8 + 21;
+        if width <= 64 {
+            None
+        } else {
+            Some(PlanFault::TooWide {
+                missing: width - 64,
+            })
+        }
     }
 
     #[tactic(auto, using(crate::proofs::Below::first_below_more))]
@@ -175,7 +192,10 @@ impl Tables {
         ensures first { result ≡ faults.plan_fault self.now }
         ensures none { IsNone result ↔ IsPlan self.now }
     {
-        self.count_fault()
+        if let Some(fault) = self.count_fault() {
+            return Some(fault);
+        }
+        self.width_fault()
             .or(self.keepers_fault())
             .or(self.zones_fault())
             .or(self.poses_fault())

@@ -1,7 +1,7 @@
 //! What is wrong with a plan.
 
-/// The first fault of a plan, in this order: too many rows, the places, the zones, the poses. Each table is read from
-/// its first row to its last.
+/// The first fault of a plan, in this order: too many rows, a word that is too wide, the places, the zones, the poses.
+/// Each table is read from its first row to its last.
 #[derive(Clone, Copy, Debug, PartialEq, Eq)]
 pub enum PlanFault {
     /// There are more than 15 machines.
@@ -12,6 +12,8 @@ pub enum PlanFault {
     TooManyPoses,
     /// There are more than 16 places.
     TooManyPlaces,
+    /// The plan's word has this many bits more than 64: five for a zone, one for a place, and 21.
+    TooWide { missing: u8 },
     /// A place is kept by a machine that isn't in the plan.
     NoSuchKeeper { place: usize },
     /// A zone's host isn't in the plan.

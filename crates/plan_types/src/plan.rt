@@ -68,6 +68,7 @@ impl Plan {
     pub fn place_count(&self) -> u8
         ensures count { result ≡ table.place_count self.now }
         ensures few { result ≤ 16 }
+        ensures fits { table.word_width self.now ≤ 64 }
     {
         self.tables.places.len() as u8
     }

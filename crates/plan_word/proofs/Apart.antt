@@ -39,4 +39,4 @@ within c Stamp a = omega arith
 within c Stop a = omega arith
 
 pub fields_are_apart : FieldsAreApart
-fields_are_apart = record { apart = apart; within = within }
+fields_are_apart = record { width = λ t. refl; apart = apart; within = within }

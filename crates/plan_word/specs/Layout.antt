@@ -1,6 +1,6 @@
 -- The layout of a plan's word: the zones, the places, the stamp and the stop, from the lowest bit up.
 use Rattle.std.specs.Prelude.{◌≡◌, ◌≢◌, ℕ, ◌+◌, ◌*◌, ◌≤◌, Bool, true, nat_lt, ◌⊎◌, IsTrue}
-use Rattle.plan_types.specs.Table.{PlanTable, zone_count, place_count}
+use Rattle.plan_types.specs.Table.{PlanTable, zone_count, place_count, word_width}
 use Rattle.plan_types.specs.Examples.{press_table, lift_table}
 use Rattle.plan_word.specs.declared.layout.Field.{Field}
 use Rattle.plan_word.specs.declared.layout.Field.TheVariants.{Zone, Place, Stamp, Stop}
@@ -40,6 +40,8 @@ abbrev pub width_of : Counts → ℕ
 width_of c = 5 * c.zones + c.places + 21
 
 pub record FieldsAreApart : Type 0 where
+  -- the width that a plan's test looks at
+  pub width : (t : PlanTable) → width_of (counts_of t) ≡ word_width t
   pub apart : (c : Counts) (f g : Field) → IsTrue (has c f) → IsTrue (has c g) → f ≢ g
       → (end_of c f ≤ start_of c g) ⊎ (end_of c g ≤ start_of c f)
   pub within : (c : Counts) (f : Field) → IsTrue (has c f) → end_of c f ≤ width_of c
@@ -53,4 +55,3 @@ pub record ExamplesFit : Type 0 where
   pub lift : width_of (counts_of lift_table) ≡ 34
   pub lift_zone : start_of (counts_of lift_table) (Zone 1) ≡ 5
   pub widest : width_of (record { zones = 8; places = 3 }) ≡ 64
-  pub too_wide : width_of (record { zones = 10; places = 0 }) ≡ 64 + 7

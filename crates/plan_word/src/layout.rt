@@ -1,7 +1,6 @@
 //! The layout of a plan's word. Each field lies above the one before it: the zones, the places, the stamp, the stop.
 ghost use Rattle.std.specs.Prelude.{◌≡◌, ◌+◌, ◌*◌, ◌<◌, ◌≤◌, ◌^◌, ◌↔◌, Some, true};
-ghost use Rattle.std.specs.Prelude.{IsOk, IfOk, IfErr, IsSome, IfSome};
-ghost use Rattle.plan_types.specs.Table as table;
+ghost use Rattle.std.specs.Prelude.{IsSome, IfSome};
 ghost use Rattle.plan_word.specs.Layout as layouts;
 ghost use Rattle.plan_word.specs.Reading as reading;
 
@@ -20,13 +19,6 @@ pub enum Field {
     Stamp,
     /// Whether the plant is stopped.
     Stop,
-}
-
-/// The word of a plan has more than 64 bits.
-#[derive(Clone, Copy, Debug, PartialEq, Eq)]
-pub struct TooWide {
-    /// How many bits are missing.
-    pub missing: u8,
 }
 
 /// Where each field of a plan's word lies.
@@ -50,22 +42,13 @@ impl Model for Layout {
 }
 
 impl Layout {
-    /// The layout of a plan's word, or how many bits are missing.
-    pub fn of(plan: &Plan) -> Result<Layout, TooWide>
-        ensures ok { IsOk result ↔ (layouts.width_of (layouts.counts_of plan.now) ≤ 64) }
-        ensures layout { IfOk result (λ layout. layout ≡ layouts.counts_of plan.now) }
-        ensures missing { IfErr result (λ fault.
-            layouts.width_of (layouts.counts_of plan.now) ≡ 64 + fault.missing) }
+    /// The layout of a plan's word.
+    pub fn of(plan: &Plan) -> Layout
+        ensures { result ≡ layouts.counts_of plan.now }
     {
-        let zones = plan.zone_count();
-        let places = plan.place_count();
-        let width = 5 * zones + places + 21;
-        if width <= 64 {
-            Ok(Layout { zones, places })
-        } else {
-            Err(TooWide {
-                missing: width - 64,
-            })
+        Layout {
+            zones: plan.zone_count(),
+            places: plan.place_count(),
         }
     }
 

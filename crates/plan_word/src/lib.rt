@@ -9,6 +9,6 @@ mod sound;
 mod step;
 mod word;
 
-pub use layout::{Field, Layout, TooWide};
+pub use layout::{Field, Layout};
 pub use step::step_word;
 pub use word::{pack, stamp_of, unpack};

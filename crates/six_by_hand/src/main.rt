@@ -1,4 +1,4 @@
-//! Six machines with sensors and actuators of one's own, each in a thread, all at one pace, over one
+//! Six machines with sensors and actuators of your own, each in a thread, all at one pace, over one
 //! interlock after another. A watch looks at each, and stops the cell for a round. Prints how each machine
 //! ended, how many rounds an audit accepted, how often the crane gave a plate back to the feed belt,
 //! and how often the watch looked and saw the cell stopped.

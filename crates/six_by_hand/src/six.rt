@@ -1,4 +1,4 @@
-//! Six workers with devices of one's own.
+//! Six workers with devices of your own.
 ghost use Rattle.std.specs.Prelude.{◌≡◌};
 
 use crate::axis::Axis;

@@ -1,18 +1,17 @@
 //! From the names in a document's rows to numbers: the tables of a plan.
 
-use crate::calls::Verb;
 use crate::document::{Document, Given, MachineRow, PoseRow, WayRow, ZoneRow};
 use crate::fault::{DocumentFault, Key, PlanTextFault, RowOf, Wrong};
-use crate::named_plan::NamedPlan;
-use crate::names::{MAX_NAMES, Names, is_name, is_reserved};
 use crate::values::copy;
-use crate::words::posture_in;
+use plan_text::calls::Verb;
+use plan_text::names::{is_name, is_reserved};
+use plan_text::words::posture_in;
+use plan_text::{MAX_NAMES, NamedPlan, Names};
 use plan_types::{
     Call, MAX_MACHINES, MAX_PLACES, MAX_POSES, MAX_ZONES, Plan, PlanFault, PlanPose, PlanZone,
     Posture, Tables, Way,
 };
-use plan_word::Layout;
-use std::alloc::Global;
+use std::alloc::{AllocError, Global};
 
 /// The plan of a document, with its names, or the first fault.
 pub fn named_plan_of(alloc: Global, document: &Document) -> Result<NamedPlan, PlanTextFault> {
@@ -29,27 +28,11 @@ pub fn named_plan_of(alloc: Global, document: &Document) -> Result<NamedPlan, Pl
     };
     let plan = match Plan::new(tables) {
         Ok(plan) => plan,
-        Err(fault) => return Err(table_fault(alloc, document, fault)?.into()),
+        Err(fault) => return Err(table_fault(alloc, document, fault)),
     };
-    let layout = match Layout::of(&plan) {
-        Ok(layout) => layout,
-        Err(fault) => {
-            return Err(PlanTextFault::TooWide {
-                missing: fault.missing,
-            });
-        }
-    };
-    let mut named = NamedPlan {
-        plan,
-        layout,
-        machines,
-        zones,
-        places,
-        poses,
-        programs: Vec::new(alloc),
-    };
+    let mut named = NamedPlan::new(alloc, plan, machines, zones, places, poses);
     let programs = programs_of(alloc, document, &named)?;
-    named.programs = programs;
+    named.set_programs(programs);
     Ok(named)
 }
 
@@ -108,11 +91,7 @@ fn kept_places(alloc: Global, document: &Document) -> Result<Kept, DocumentFault
         keepers: Vec::new(alloc),
     };
     for i in 0..document.machines.len() {
-        keep_places(alloc, &document.machines[i], i, &mut kept).map_err(|wrong| DocumentFault::at(
-            RowOf::Machine(i),
-            Key::Places,
-            wrong,
-        ))?;
+        keep_places(alloc, &document.machines[i], i, &mut kept)?;
     }
     Ok(kept)
 }
@@ -122,13 +101,18 @@ fn keep_places(
     row: &MachineRow,
     machine: usize,
     kept: &mut Kept,
-) -> Result<(), Wrong> {
+) -> Result<(), DocumentFault> {
+    let at = RowOf::Machine(machine);
     let Ok(keeper) = u8::try_from(machine) else {
-        return Err(Wrong::TooMany(usize::from(MAX_MACHINES)));
+        let wrong = Wrong::TooMany(usize::from(MAX_MACHINES));
+        return Err(DocumentFault::at(at, Key::Places, wrong));
     };
-    for place in &row.places {
-        add_name(alloc, &mut kept.places, place.as_str(), MAX_PLACES)?;
-        kept.keepers.push(keeper)?;
+    for (item, place) in row.places.iter().enumerate() {
+        let in_list = |wrong: Wrong| DocumentFault::in_list(at, Key::Places, item, wrong);
+        add_name(alloc, &mut kept.places, place.as_str(), MAX_PLACES).map_err(in_list)?;
+        kept.keepers
+            .push(keeper)
+            .map_err(|_| in_list(Wrong::Memory))?;
     }
     Ok(())
 }
@@ -163,16 +147,8 @@ fn plan_zone(
     let guest = machine_named(alloc, machines, row.guest.as_str()).map_err(
         |wrong| DocumentFault::at(at, Key::Guest, wrong),
     )?;
-    let inward = way_named(alloc, places, &row.inward).map_err(|wrong| DocumentFault::at(
-        at,
-        Key::Inward,
-        wrong,
-    ))?;
-    let outward = way_named(alloc, places, &row.outward).map_err(|wrong| DocumentFault::at(
-        at,
-        Key::Outward,
-        wrong,
-    ))?;
+    let inward = way_named(alloc, places, &row.inward, at, Key::Inward)?;
+    let outward = way_named(alloc, places, &row.outward, at, Key::Outward)?;
     Ok(PlanZone {
         host,
         guest,
@@ -195,15 +171,23 @@ fn place_named(alloc: Global, places: &Names, name: &str) -> Result<u8, Wrong> {
     }
 }
 
-fn way_named(alloc: Global, places: &Names, way: &Option<WayRow>) -> Result<Option<Way>, Wrong> {
-    match way {
-        Some(way) => {
-            let from = place_named(alloc, places, way.from.as_str())?;
-            let to = place_named(alloc, places, way.to.as_str())?;
-            Ok(Some(Way { from, to }))
-        }
-        None => Ok(None),
-    }
+fn way_named(
+    alloc: Global,
+    places: &Names,
+    way: &Option<WayRow>,
+    at: RowOf,
+    key: Key,
+) -> Result<Option<Way>, DocumentFault> {
+    let Some(way) = way else {
+        return Ok(None);
+    };
+    let from = place_named(alloc, places, way.from.as_str()).map_err(|wrong| DocumentFault::in_list(
+        at, key, 0, wrong,
+    ))?;
+    let to = place_named(alloc, places, way.to.as_str()).map_err(|wrong| DocumentFault::in_list(
+        at, key, 1, wrong,
+    ))?;
+    Ok(Some(Way { from, to }))
 }
 
 /// Poses, and what each gives.
@@ -283,7 +267,10 @@ fn gives_of(
             return Err(Wrong::NoZone(copy(alloc, row.zone.as_str())?));
         };
         let Some(posture) = posture_in(row.posture.as_str()) else {
-            return Err(Wrong::NoPosture(copy(alloc, row.posture.as_str())?));
+            return Err(Wrong::NoPosture {
+                zone: copy(alloc, row.zone.as_str())?,
+                word: copy(alloc, row.posture.as_str())?,
+            });
         };
         if usize::from(zone) >= MAX_ZONES {
             return Err(Wrong::TooMany(MAX_ZONES));
@@ -294,18 +281,15 @@ fn gives_of(
 }
 
 /// The fault of tables in words of the document.
-fn table_fault(
-    alloc: Global,
-    document: &Document,
-    fault: PlanFault,
-) -> Result<DocumentFault, DocumentFault> {
+fn table_fault(alloc: Global, document: &Document, fault: PlanFault) -> PlanTextFault {
     let top = |key: Key, most: usize| DocumentFault::at(RowOf::Document, key, Wrong::TooMany(most));
     let zone_at = |zone: usize, key: Key, wrong: Wrong| DocumentFault::at(
         RowOf::Zone(zone),
         key,
         wrong,
     );
-    Ok(match fault {
+    let fault = match fault {
+        PlanFault::TooWide { missing } => return PlanTextFault::TooWide { missing },
         PlanFault::TooManyMachines => top(Key::Machine, usize::from(MAX_MACHINES)),
         PlanFault::TooManyZones => top(Key::Zone, MAX_ZONES),
         PlanFault::TooManyPoses => top(Key::Poses, MAX_POSES),
@@ -318,13 +302,19 @@ fn table_fault(
         PlanFault::NoSuchMachine { pose } => {
             DocumentFault::of(pose_at(document, pose), Wrong::Missing)
         }
-        PlanFault::ForeignZone { pose, zone } => {
-            let at = pose_at(document, pose);
-            let name = document.zones.get(zone).map_or("", |row| row.name.as_str());
-            let name = copy(alloc, name).map_err(|_| DocumentFault::of(at, Wrong::Memory))?;
-            DocumentFault::at(at, Key::Gives, Wrong::Foreign(name))
-        }
-    })
+        PlanFault::ForeignZone { pose, zone } => foreign_zone(alloc, document, pose, zone),
+    };
+    fault.into()
+}
+
+/// The fault of a pose that gives a zone which its machine doesn't host.
+fn foreign_zone(alloc: Global, document: &Document, pose: usize, zone: usize) -> DocumentFault {
+    let at = pose_at(document, pose);
+    let name = document.zones.get(zone).map_or("", |row| row.name.as_str());
+    match copy(alloc, name) {
+        Ok(name) => DocumentFault::at(at, Key::Gives, Wrong::Foreign(name)),
+        Err(AllocError) => DocumentFault::of(at, Wrong::Memory),
+    }
 }
 
 /// The row of a pose by its number among those of all machines.
@@ -350,9 +340,12 @@ fn programs_of(
 ) -> Result<Vec<Vec<Call>>, DocumentFault> {
     let mut programs = Vec::new(alloc);
     for i in 0..document.machines.len() {
-        let at = |wrong: Wrong| DocumentFault::at(RowOf::Machine(i), Key::Program, wrong);
-        let program = program_of(alloc, &document.machines[i], i, named).map_err(at)?;
-        programs.push(program).map_err(|_| at(Wrong::Memory))?;
+        let program = program_of(alloc, &document.machines[i], i, named)?;
+        programs.push(program).map_err(|_| DocumentFault::at(
+            RowOf::Machine(i),
+            Key::Program,
+            Wrong::Memory,
+        ))?;
     }
     Ok(programs)
 }
@@ -362,13 +355,17 @@ fn program_of(
     row: &MachineRow,
     machine: usize,
     named: &NamedPlan,
-) -> Result<Vec<Call>, Wrong> {
+) -> Result<Vec<Call>, DocumentFault> {
+    let at = RowOf::Machine(machine);
     let Ok(machine) = u8::try_from(machine) else {
-        return Err(Wrong::TooMany(usize::from(MAX_MACHINES)));
+        let wrong = Wrong::TooMany(usize::from(MAX_MACHINES));
+        return Err(DocumentFault::at(at, Key::Program, wrong));
     };
     let mut calls = Vec::new(alloc);
-    for line in &row.program {
-        calls.push(call_in(alloc, line.as_str(), machine, named)?)?;
+    for (item, line) in row.program.iter().enumerate() {
+        let in_list = |wrong: Wrong| DocumentFault::in_list(at, Key::Program, item, wrong);
+        let call = call_in(alloc, line.as_str(), machine, named).map_err(in_list)?;
+        calls.push(call).map_err(|_| in_list(Wrong::Memory))?;
     }
     Ok(calls)
 }

@@ -3,11 +3,12 @@ ghost use Rattle.cell_text.specs.Input.{TakesAtMost};
 
 use crate::document::{Document, MachineRow, PoseRow, WayRow, ZoneRow};
 use crate::fault::{DocumentFault, Key, PlanTextFault, RowOf, Wrong};
-use crate::named_plan::NamedPlan;
+use crate::locating::{line_at, line_of};
 use crate::resolving::named_plan_of;
 use crate::values::{check_keys, gives_of, required, text_of, texts_of, truth_of, way_of};
 use cell_text::{InputFault, read_up_to};
-use std::alloc::Global;
+use plan_text::NamedPlan;
+use std::alloc::{AllocError, Global};
 use std::io::Read;
 use toml::{Table, Value};
 
@@ -25,7 +26,7 @@ const ZONE_KEYS: [&str; 5] = ["name", "host", "guest", "inward", "outward"];
 
 /// Reads a plan from the bytes that the reader has left. At most 65,537 bytes are taken from it.
 ///
-/// The error is the first fault: too many bytes, no TOML, then the rows in their order, the tables, and the word.
+/// The error is the first fault: too many bytes, no TOML, then the rows in their order, the tables, and the programs.
 /// `Read` if the reader fails; `Memory` may come from any allocation.
 pub fn read_plan<R: Read>(alloc: Global, reader: &mut R) -> Result<NamedPlan, PlanTextFault>
     ensures { TakesAtMost (R.remaining reader.old) (R.remaining reader.new) 65537 }
@@ -43,7 +44,7 @@ pub fn plan_of(alloc: Global, bytes: &[u8]) -> Result<NamedPlan, PlanTextFault> 
         return Err(PlanTextFault::Long);
     }
     match toml::table_from_slice(alloc, bytes) {
-        Ok(table) => plan_in(alloc, &table),
+        Ok(table) => plan_in(alloc, &table).map_err(|fault| with_line(alloc, bytes, fault)),
         Err(error) if error.is_memory() => Err(PlanTextFault::Memory),
         Err(error) => {
             let before = error.span().map_or(0, |span| span.start);
@@ -60,15 +61,15 @@ fn plan_in(alloc: Global, table: &Table) -> Result<NamedPlan, PlanTextFault> {
     named_plan_of(alloc, &document)
 }
 
-/// The line of the byte after this number of bytes, from 1.
-fn line_at(bytes: &[u8], before: usize) -> usize {
-    let mut line = 1usize;
-    for byte in bytes.iter().take(before) {
-        if *byte == b'\n' {
-            line = line.saturating_add(1);
-        }
+/// A fault with its line, if it is one of a row.
+fn with_line(alloc: Global, bytes: &[u8], fault: PlanTextFault) -> PlanTextFault {
+    match fault {
+        PlanTextFault::Row { fault, .. } => match line_of(alloc, bytes, &fault) {
+            Ok(line) => PlanTextFault::Row { line, fault },
+            Err(AllocError) => PlanTextFault::Memory,
+        },
+        other => other,
     }
-    line
 }
 
 /// The rows in a table.

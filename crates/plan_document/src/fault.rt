@@ -1,6 +1,6 @@
 //! What is wrong with a plan's document, in words.
 ghost use Rattle.std.specs.Prelude.{◌≡◌};
-ghost use Rattle.plan_text.specs.declared.fault.Wrong.TheVariants.{Memory as NoMemory};
+ghost use Rattle.plan_document.specs.declared.fault.Wrong.TheVariants.{Memory as NoMemory};
 
 use std::alloc::{AllocError, AllocFailed};
 use std::fmt;
@@ -110,8 +110,13 @@ pub enum Wrong {
     NoPlace(String),
     /// The machine has no pose with this name.
     NoPose(String),
-    /// A posture has another word.
-    NoPosture(String),
+    /// What a zone is given is no posture.
+    NoPosture {
+        /// The zone's name.
+        zone: String,
+        /// What it is given.
+        word: String,
+    },
     /// A line of a program is no call.
     NoCall(String),
     /// The program has no line.
@@ -149,6 +154,8 @@ pub struct DocumentFault {
     pub row: RowOf,
     /// The key in the row, if the fault is about one.
     pub key: Option<Key>,
+    /// The text in the key's list, if the fault is about one. Texts are counted from 0.
+    pub item: Option<usize>,
     /// What is wrong.
     pub wrong: Wrong,
 }
@@ -159,6 +166,17 @@ impl DocumentFault {
         DocumentFault {
             row,
             key: Some(key),
+            item: None,
+            wrong,
+        }
+    }
+
+    /// A fault of a text in the list of a key.
+    pub fn in_list(row: RowOf, key: Key, item: usize, wrong: Wrong) -> DocumentFault {
+        DocumentFault {
+            row,
+            key: Some(key),
+            item: Some(item),
             wrong,
         }
     }
@@ -168,6 +186,7 @@ impl DocumentFault {
         DocumentFault {
             row,
             key: None,
+            item: None,
             wrong,
         }
     }
@@ -190,7 +209,12 @@ pub enum PlanTextFault {
         message: String,
     },
     /// A row has a fault.
-    Row(DocumentFault),
+    Row {
+        /// The line of what the fault is about, from 1; `None` if that isn't in the document.
+        line: Option<usize>,
+        /// The fault.
+        fault: DocumentFault,
+    },
     /// The word has more than 64 bits.
     TooWide {
         /// How many bits are missing.
@@ -208,11 +232,15 @@ impl From<DocumentFault> for PlanTextFault {
     fn from(fault: DocumentFault) -> PlanTextFault {
         match fault.wrong {
             Wrong::Memory => PlanTextFault::Memory,
-            wrong => PlanTextFault::Row(DocumentFault {
-                row: fault.row,
-                key: fault.key,
-                wrong,
-            }),
+            wrong => PlanTextFault::Row {
+                line: None,
+                fault: DocumentFault {
+                    row: fault.row,
+                    key: fault.key,
+                    item: fault.item,
+                    wrong,
+                },
+            },
         }
     }
 }
@@ -307,10 +335,10 @@ fn write_wrong<W: fmt::Write>(wrong: &Wrong, f: &mut fmt::Formatter<W>) -> fmt::
         Wrong::NoZone(text) => write_named(f, "no zone is named ", text, ""),
         Wrong::NoPlace(text) => write_named(f, "no place is named ", text, ""),
         Wrong::NoPose(text) => write_named(f, "the machine has no pose ", text, ""),
-        Wrong::NoPosture(text) => write_named(
+        Wrong::NoPosture { word, .. } => write_named(
             f,
             "",
-            text,
+            word,
             " is no posture: known are closed moving openin openout",
         ),
         Wrong::NoCall(text) => write_named(
@@ -351,9 +379,13 @@ impl fmt::Display for PlanTextFault {
             PlanTextFault::Long => f.write_str("plan long: it has more than 65536 bytes"),
             PlanTextFault::NoToml { line, message } => {
                 let message = message.as_str();
-                write!(f, "plan text: line {line}: it is no TOML: {message}")
+                write!(f, "plan line {line}: it is no TOML: {message}")
             }
-            PlanTextFault::Row(fault) => write!(f, "plan {fault}"),
+            PlanTextFault::Row {
+                line: Some(line),
+                fault,
+            } => write!(f, "plan line {line}: {fault}"),
+            PlanTextFault::Row { line: None, fault } => write!(f, "plan {fault}"),
             PlanTextFault::TooWide { missing } => {
                 write!(f, "plan wide: its word has {missing} bits more than 64")
             }

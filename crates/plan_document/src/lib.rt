@@ -1,0 +1,14 @@
+//! Plans in TOML documents: from a document to a plan with names, or to the first fault with its line.
+#![tactic(auto)]
+
+pub mod document;
+pub mod fault;
+mod locating;
+mod reading;
+mod resolving;
+mod skipping;
+mod values;
+
+pub use document::{Document, Given, MachineRow, PoseRow, WayRow, ZoneRow};
+pub use fault::{DocumentFault, Key, PlanTextFault, RowOf, Wrong};
+pub use reading::{MAX_BYTES, plan_of, read_plan};
