@@ -9,7 +9,7 @@
 # runs and checks it. A bug is planted by the edits of bench/stress/planted (docs/ATTACKS.md has their form). The prover
 # refuses such bugs, so the program is then run unproved. The bugs:
 #
-# - plain_store: a load and a plain store in place of the compare-exchange;
+# - plain_store: a load and a plain store instead of the compare-exchange;
 # - receipt_tells_nothing, accept_forgets: of a lazy interlock, where a receipt carries no word, or accept keeps none;
 # - lazy: nothing is wrong with it for its callers, so nothing is found, and the status is 1. A call that the word which
 #   its pass found last would answer without a change is answered so, with no load. A receipt carries that word, and
