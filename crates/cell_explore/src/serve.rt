@@ -74,8 +74,8 @@ fn print_screen<R: Read, W: Write>(alloc: Global, reader: &mut R, writer: &mut W
     }
 }
 
-/// Explores all starts with at most so many plates in two threads, and prints a line for each number
-/// of plates, to `progress` too once it is known. Then it tells `progress` how long it took, by the
+/// Explores all starts with at most `most_plates` plates in two threads, and prints a line for each
+/// number of plates, to `progress` too once it is known. Then it tells `progress` how long it took, by the
 /// clock. Returns the exit status: 0 if the lines were written, 1 otherwise.
 pub fn serve_all<T: Threads + Sync, C: Clock, W: Write, P: Write>(
     rt: &T,

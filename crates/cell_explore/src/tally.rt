@@ -45,7 +45,7 @@ impl Tally {
         self.and(Tally { starts: 1, ..one })
     }
 
-    // What was found from a start from which so many turns lead to an end.
+    // What was found from a start from which `turns` turns lead to an end.
     fn of_way(turns: usize) -> Tally {
         Tally {
             fewest_turns: turns,

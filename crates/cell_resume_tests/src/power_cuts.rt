@@ -17,8 +17,8 @@ const TURNS: u32 = 6_000;
 // A plate's first round takes this many changes.
 const CHANGES: u32 = 59;
 
-// The bytes and the plant at the end, after so many parts of so many turns each. After each part the
-// power is cut.
+// The bytes and the plant at the end, after `parts` parts of `turns` turns each. After each part the power
+// is cut.
 fn run(alloc: Global, parts: u32, turns: u32) -> Result<([u8; 14], Plant), Fail> {
     let mut plant = Plant::standing();
     let mut bytes = at_start(PLACES)?;
