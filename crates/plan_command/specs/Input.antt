@@ -14,7 +14,7 @@ byte_limit = 4259840
 abbrev pub max_bytes_read : ℕ
 max_bytes_read = 4259841
 
--- a line that begins with `start,` begins after so many bytes
+-- a line that begins with `start,` begins after the first `at` bytes
 abbrev pub is_begin : List ℕ → ℕ → Bool
 is_begin bytes at =
     (at == 0 || get_or bytes (at - 1) 0 == 10) && starts_with nat_eq (drop at bytes) (codes "start,")

@@ -30,7 +30,7 @@ enum plan_posture {
 
 ";
 
-/// The header of a plan.
+/// What `plan header` prints of a plan.
 pub fn header_of(alloc: Global, named: &NamedPlan) -> Result<String, AllocError> {
     let mut text = String::new(alloc);
     text.push_str(BEGIN)?;

@@ -9,7 +9,7 @@ pub const MAX_BYTES: usize = 4_259_840;
 /// What a script begins with.
 const BEGIN: &[u8] = b"start,";
 
-/// Whether a line that begins with `start,` begins after so many bytes.
+/// Whether a line that begins with `start,` begins after the first `at` bytes.
 fn is_begin(bytes: &[u8], at: usize) -> bool
     requires { at < length bytes.now }
     ensures { result ≡ spec.is_begin bytes.now at }
@@ -17,7 +17,7 @@ fn is_begin(bytes: &[u8], at: usize) -> bool
     (at == 0 || bytes[at - 1] == b'\n') && bytes[at..].starts_with(BEGIN)
 }
 
-/// The number of bytes, if a line that begins with `start,` begins after so many.
+/// The number `at`, if a line that begins with `start,` begins after the first `at` bytes.
 fn begin_at(bytes: &[u8], at: usize) -> Option<usize>
     requires { at < length bytes.now }
     ensures { result ≡ spec.begin_at bytes.now at }

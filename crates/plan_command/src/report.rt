@@ -4,7 +4,8 @@ use plan_text::{NamedPlan, Names};
 use plan_word::Field;
 use std::alloc::{AllocError, Global};
 
-/// What a plan is, and the layout of its word: a text of a line for each kind of names and for each field.
+/// What `plan check` prints of a plan: a line for each kind of names, one for the width of its word, and one for each
+/// field of the word.
 pub fn report_of(alloc: Global, named: &NamedPlan) -> Result<String, AllocError> {
     let mut text = String::new(alloc);
     push_names(&mut text, "machine", named.machines())?;

@@ -20,7 +20,7 @@ pub enum Request {
     Version,
 }
 
-/// What the words ask for. The first is the program's name; one comes after it. `None` for other words.
+/// What the words ask for: two words, of which the first is the program's name. `None` for other words.
 pub fn request_of(words: &[&str]) -> Option<Request>
     ensures { result ≡ requests.request_of (texts_of words.now) }
 {

@@ -10,7 +10,7 @@ ghost use Rattle.plan_command.specs.Input.{byte_limit, max_bytes_read, script_in
 ghost use Rattle.plan_command.specs.Served.{AnswersInput, AnswersScript};
 ghost use Rattle.plan_command.specs.Requests.{request_of};
 
-use crate::explore::{Screen, screen_of};
+use crate::explore::screen_of;
 use crate::header::header_of;
 use crate::input::{MAX_BYTES, plan_length};
 use crate::report::report_of;
@@ -18,7 +18,7 @@ use crate::request;
 use crate::request::Request;
 use cell_shell::{Exit, fail, print, print_prefix, print_version, texts_of, words_or_exit};
 use cell_text::{InputFault, read_up_to};
-use plan_document::{plan_of, read_plan};
+use plan_document::{ProgrammedPlan, plan_of, read_plan};
 use plan_replay::{Answered, Outcome, ReplayFault, answer_script, start_of_script};
 use plan_rules::State;
 use plan_text::NamedPlan;
@@ -56,11 +56,11 @@ fn serve_plan<R: Read, W: Write>(
     ensures status { result ≤ 1 }
     ensures read { TakesAtMost (R.remaining reader.old) (R.remaining reader.new) 65537 }
 {
-    let named = match read_plan(alloc, reader) {
-        Ok(named) => named,
+    let plan = match read_plan(alloc, reader) {
+        Ok(plan) => plan,
         Err(fault) => return fail(writer, fault).status(),
     };
-    match text_of(alloc, request, &named) {
+    match text_of(alloc, request, &plan.named) {
         Ok(text) => print(writer, text.as_bytes()).status(),
         Err(AllocError) => fail(writer, "memory").status(),
     }
@@ -126,11 +126,11 @@ fn replay_bytes<W: Write>(alloc: Global, bytes: &[u8], writer: &mut W) -> Exit
         return fail(writer, "long");
     }
     let length = plan_length(bytes);
-    let named = match plan_of(alloc, &bytes[..length]) {
-        Ok(named) => named,
+    let plan = match plan_of(alloc, &bytes[..length]) {
+        Ok(plan) => plan,
         Err(fault) => return fail(writer, fault),
     };
-    match answer_script(alloc, &named, &bytes[length..]) {
+    match answer_script(alloc, &plan.named, &bytes[length..]) {
         Ok(answered) => print_answers(writer, &answered),
         Err(ReplayFault::Read) => fail(writer, "read"),
         Err(ReplayFault::Memory) => fail(writer, "memory"),
@@ -144,24 +144,28 @@ fn explore_bytes<W: Write>(alloc: Global, bytes: &[u8], writer: &mut W) -> Exit
         return fail(writer, "long");
     }
     let length = plan_length(bytes);
-    let named = match plan_of(alloc, &bytes[..length]) {
-        Ok(named) => named,
+    let plan = match plan_of(alloc, &bytes[..length]) {
+        Ok(plan) => plan,
         Err(fault) => return fail(writer, fault),
     };
-    match start_of_script(alloc, &named, &bytes[length..]) {
-        Ok(Ok(opening)) => explore_from(alloc, &named, &opening, writer),
+    match start_of_script(alloc, &plan.named, &bytes[length..]) {
+        Ok(Ok(opening)) => explore_from(alloc, &plan, &opening, writer),
         Ok(Err(fault)) => fail(writer, fault),
         Err(ReplayFault::Read) => fail(writer, "read"),
         Err(ReplayFault::Memory) => fail(writer, "memory"),
     }
 }
 
-fn explore_from<W: Write>(alloc: Global, named: &NamedPlan, opening: &State, writer: &mut W) -> Exit
+fn explore_from<W: Write>(
+    alloc: Global,
+    plan: &ProgrammedPlan,
+    opening: &State,
+    writer: &mut W,
+) -> Exit
     ensures status { result ≢ Exit.Refused }
 {
-    match screen_of(alloc, named, opening) {
-        Ok(Screen::Found(text)) => print(writer, text.as_bytes()),
-        Ok(Screen::Refused(text)) => fail(writer, text.as_str()),
+    match screen_of(alloc, plan, opening) {
+        Ok(text) => print(writer, text.as_bytes()),
         Err(AllocError) => fail(writer, "memory"),
     }
 }

@@ -29,7 +29,7 @@ pub struct MachineRow {
     pub places: Vec<String>,
     /// Its poses.
     pub poses: Vec<PoseRow>,
-    /// What it asks in order, again and again: a call's words each.
+    /// What it asks in order, again and again: in each text the words of a call.
     pub program: Vec<String>,
 }
 

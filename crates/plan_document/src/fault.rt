@@ -80,7 +80,7 @@ impl Key {
 pub enum Wrong {
     /// The key is missing.
     Missing,
-    /// A key that isn't known is in the row.
+    /// The row has this key, which isn't known.
     Unknown(String),
     /// The value is no text.
     NoText,
@@ -100,8 +100,10 @@ pub enum Wrong {
     Reserved(String),
     /// A name is there twice.
     Twice(String),
-    /// There are more than so many.
+    /// A plan has at most this number of them.
     TooMany(usize),
+    /// A program has at most this number of lines.
+    TooManyLines(usize),
     /// No machine has this name.
     NoMachine(String),
     /// No zone has this name.
@@ -119,8 +121,6 @@ pub enum Wrong {
     },
     /// A line of a program is no call.
     NoCall(String),
-    /// The program has no line.
-    Empty,
     /// A zone's host is its guest.
     HostIsGuest,
     /// The way doesn't lead from a place of the giver to a place of the receiver.
@@ -154,7 +154,7 @@ pub struct DocumentFault {
     pub row: RowOf,
     /// The key in the row, if the fault is about one.
     pub key: Option<Key>,
-    /// The text in the key's list, if the fault is about one. Texts are counted from 0.
+    /// The number of the text in the key's list, from 0, if the fault is about one.
     pub item: Option<usize>,
     /// What is wrong.
     pub wrong: Wrong,
@@ -217,7 +217,7 @@ pub enum PlanTextFault {
     },
     /// The word has more than 64 bits.
     TooWide {
-        /// How many bits are missing.
+        /// How many bits it has above 64.
         missing: u8,
     },
 }
@@ -245,7 +245,7 @@ impl From<DocumentFault> for PlanTextFault {
     }
 }
 
-/// A text in quotes: at most 40 characters of it, with escapes for what isn't printable ASCII.
+/// A text in quotes: its first 40 characters, and `?` for one that isn't printable ASCII.
 #[derive(Clone, Copy)]
 struct Quoted<'a> {
     text: &'a str,
@@ -362,7 +362,7 @@ fn write_plain<W: fmt::Write>(wrong: &Wrong, f: &mut fmt::Formatter<W>) -> fmt::
         Wrong::NoTruth => f.write_str("it takes true or false"),
         Wrong::NoWay => f.write_str("it takes two places: from which one, and to which"),
         Wrong::TooMany(most) => write!(f, "there are more than {most}"),
-        Wrong::Empty => f.write_str("it has no line; leave it out"),
+        Wrong::TooManyLines(most) => write!(f, "it has more than {most} lines"),
         Wrong::HostIsGuest => f.write_str("the host is its own guest"),
         Wrong::Astray => f.write_str(
             "it doesn't lead from a place of the giver to one of the receiver",

@@ -1,4 +1,4 @@
-//! Plans in TOML documents: from a document to a plan with names, or to the first fault with its line.
+//! Plans in TOML documents: from a document to a plan with names and programs, or to the first fault with its line.
 #![tactic(auto)]
 
 pub mod document;
@@ -12,3 +12,4 @@ mod values;
 pub use document::{Document, Given, MachineRow, PoseRow, WayRow, ZoneRow};
 pub use fault::{DocumentFault, Key, PlanTextFault, RowOf, Wrong};
 pub use reading::{MAX_BYTES, plan_of, read_plan};
+pub use resolving::ProgrammedPlan;

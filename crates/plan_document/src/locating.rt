@@ -37,7 +37,7 @@ struct Inner<'a> {
     value: &'a str,
 }
 
-/// The line of the byte after this number of bytes, from 1.
+/// The line, from 1, of the byte after the first `before` bytes.
 pub fn line_at(bytes: &[u8], before: usize) -> usize
     ensures { result ≡ 1 + count_by (λ byte. byte == LINE_END) (take before bytes.now) }
 {
@@ -194,7 +194,7 @@ impl<'a> Search<'a> {
         Ok(())
     }
 
-    /// Keeps a place to which so many first steps lead, if no more lead to an earlier one.
+    /// Keeps a place to which the first `taken` steps lead, if no more steps lead to an earlier place.
     fn keep(&mut self, taken: usize, place: &str) {
         if taken > self.taken {
             self.taken = taken;

@@ -4,10 +4,9 @@ ghost use Rattle.cell_text.specs.Input.{TakesAtMost};
 use crate::document::{Document, MachineRow, PoseRow, WayRow, ZoneRow};
 use crate::fault::{DocumentFault, Key, PlanTextFault, RowOf, Wrong};
 use crate::locating::{line_at, line_of};
-use crate::resolving::named_plan_of;
+use crate::resolving::{ProgrammedPlan, programmed_plan_of};
 use crate::values::{check_keys, gives_of, required, text_of, texts_of, truth_of, way_of};
 use cell_text::{InputFault, read_up_to};
-use plan_text::NamedPlan;
 use std::alloc::{AllocError, Global};
 use std::io::Read;
 use toml::{Table, Value};
@@ -26,9 +25,10 @@ const ZONE_KEYS: [&str; 5] = ["name", "host", "guest", "inward", "outward"];
 
 /// Reads a plan from the bytes that the reader has left. At most 65,537 bytes are taken from it.
 ///
-/// The error is the first fault: too many bytes, no TOML, then the rows in their order, the tables, and the programs.
-/// `Read` if the reader fails; `Memory` may come from any allocation.
-pub fn read_plan<R: Read>(alloc: Global, reader: &mut R) -> Result<NamedPlan, PlanTextFault>
+/// The error is the first fault. Faults come in this order: too many bytes, no TOML, keys and values of the rows, names,
+/// tables, the lines of programs, and last whole programs. The error is `Read` if the reader fails; `Memory` may come
+/// from any allocation.
+pub fn read_plan<R: Read>(alloc: Global, reader: &mut R) -> Result<ProgrammedPlan, PlanTextFault>
     ensures { TakesAtMost (R.remaining reader.old) (R.remaining reader.new) 65537 }
 {
     match read_up_to(alloc, reader, MAX_BYTES + 1) {
@@ -39,7 +39,7 @@ pub fn read_plan<R: Read>(alloc: Global, reader: &mut R) -> Result<NamedPlan, Pl
 }
 
 /// The plan in a document's bytes, or the first fault.
-pub fn plan_of(alloc: Global, bytes: &[u8]) -> Result<NamedPlan, PlanTextFault> {
+pub fn plan_of(alloc: Global, bytes: &[u8]) -> Result<ProgrammedPlan, PlanTextFault> {
     if bytes.len() > MAX_BYTES {
         return Err(PlanTextFault::Long);
     }
@@ -56,9 +56,9 @@ pub fn plan_of(alloc: Global, bytes: &[u8]) -> Result<NamedPlan, PlanTextFault> 
     }
 }
 
-fn plan_in(alloc: Global, table: &Table) -> Result<NamedPlan, PlanTextFault> {
+fn plan_in(alloc: Global, table: &Table) -> Result<ProgrammedPlan, PlanTextFault> {
     let document = document_in(alloc, table)?;
-    named_plan_of(alloc, &document)
+    programmed_plan_of(alloc, &document)
 }
 
 /// A fault with its line, if it is one of a row.

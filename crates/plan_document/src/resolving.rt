@@ -1,8 +1,9 @@
-//! From the names in a document's rows to numbers: the tables of a plan.
+//! From the names in a document's rows to numbers: the tables of a plan, and the machines' programs.
 
 use crate::document::{Document, Given, MachineRow, PoseRow, WayRow, ZoneRow};
 use crate::fault::{DocumentFault, Key, PlanTextFault, RowOf, Wrong};
 use crate::values::copy;
+use plan_explorer::{MAX_STEPS, ProgramFault, Programs};
 use plan_text::calls::Verb;
 use plan_text::names::{is_name, is_reserved};
 use plan_text::words::posture_in;
@@ -13,8 +14,29 @@ use plan_types::{
 };
 use std::alloc::{AllocError, Global};
 
-/// The plan of a document, with its names, or the first fault.
-pub fn named_plan_of(alloc: Global, document: &Document) -> Result<NamedPlan, PlanTextFault> {
+/// What a document says.
+#[derive(Debug, Drop)]
+pub struct ProgrammedPlan {
+    /// The plan, with names.
+    pub named: NamedPlan,
+    /// What each machine asks.
+    pub programs: Programs,
+}
+
+/// The plan of a document, with its names and programs, or the first fault.
+pub fn programmed_plan_of(
+    alloc: Global,
+    document: &Document,
+) -> Result<ProgrammedPlan, PlanTextFault> {
+    let named = named_plan_of(alloc, document)?;
+    match Programs::new(calls_of(alloc, document, &named)?) {
+        Ok(programs) => Ok(ProgrammedPlan { named, programs }),
+        Err(fault) => Err(program_fault(alloc, document, fault).into()),
+    }
+}
+
+/// The plan of a document, with its names, or the first fault of them.
+fn named_plan_of(alloc: Global, document: &Document) -> Result<NamedPlan, PlanTextFault> {
     let machines = machine_names(alloc, document)?;
     let Kept { places, keepers } = kept_places(alloc, document)?;
     let zones = zone_names(alloc, document)?;
@@ -26,17 +48,13 @@ pub fn named_plan_of(alloc: Global, document: &Document) -> Result<NamedPlan, Pl
         poses: rows,
         places: keepers,
     };
-    let plan = match Plan::new(tables) {
-        Ok(plan) => plan,
-        Err(fault) => return Err(table_fault(alloc, document, fault)),
-    };
-    let mut named = NamedPlan::new(alloc, plan, machines, zones, places, poses);
-    let programs = programs_of(alloc, document, &named)?;
-    named.set_programs(programs);
-    Ok(named)
+    match Plan::new(tables) {
+        Ok(plan) => Ok(NamedPlan::new(plan, machines, zones, places, poses)),
+        Err(fault) => Err(table_fault(alloc, document, fault)),
+    }
 }
 
-/// Adds a name of a row to names of its kind, of which there may be so many.
+/// Adds a name of a row to names of its kind, of which a plan has at most `most`.
 fn add_name(alloc: Global, names: &mut Names, name: &str, most: usize) -> Result<(), Wrong> {
     if names.len() >= most || names.len() >= MAX_NAMES {
         return Err(Wrong::TooMany(most));
@@ -333,24 +351,25 @@ fn pose_at(document: &Document, number: usize) -> RowOf {
     RowOf::Document
 }
 
-fn programs_of(
+/// The calls in the lines of each machine's program.
+fn calls_of(
     alloc: Global,
     document: &Document,
     named: &NamedPlan,
 ) -> Result<Vec<Vec<Call>>, DocumentFault> {
-    let mut programs = Vec::new(alloc);
+    let mut lists = Vec::new(alloc);
     for i in 0..document.machines.len() {
-        let program = program_of(alloc, &document.machines[i], i, named)?;
-        programs.push(program).map_err(|_| DocumentFault::at(
+        let calls = calls_in(alloc, &document.machines[i], i, named)?;
+        lists.push(calls).map_err(|_| DocumentFault::at(
             RowOf::Machine(i),
             Key::Program,
             Wrong::Memory,
         ))?;
     }
-    Ok(programs)
+    Ok(lists)
 }
 
-fn program_of(
+fn calls_in(
     alloc: Global,
     row: &MachineRow,
     machine: usize,
@@ -380,10 +399,46 @@ fn call_in(alloc: Global, line: &str, machine: u8, named: &NamedPlan) -> Result<
             Some(pose) => Ok(Call::SetPose(pose)),
             None => Err(Wrong::NoPose(copy(alloc, name)?)),
         },
-        Some(Verb::Inquire) | None => Err(Wrong::NoCall(copy(alloc, line)?)),
         Some(verb) => match named.call(machine, verb, name.as_bytes()) {
             Some(call) => Ok(call),
             None => Err(Wrong::NoZone(copy(alloc, name)?)),
         },
+        None => Err(Wrong::NoCall(copy(alloc, line)?)),
+    }
+}
+
+/// The fault of programs in words of the document.
+fn program_fault(alloc: Global, document: &Document, fault: ProgramFault) -> DocumentFault {
+    match fault {
+        ProgramFault::TooManyPrograms => DocumentFault::at(
+            RowOf::Document,
+            Key::Machine,
+            Wrong::TooMany(usize::from(MAX_MACHINES)),
+        ),
+        ProgramFault::TooLong { machine } => DocumentFault::in_list(
+            RowOf::Machine(machine),
+            Key::Program,
+            MAX_STEPS,
+            Wrong::TooManyLines(MAX_STEPS),
+        ),
+        ProgramFault::ForeignCall { machine, step } => DocumentFault::in_list(
+            RowOf::Machine(machine),
+            Key::Program,
+            step,
+            foreign_call(alloc, document, machine, step),
+        ),
+    }
+}
+
+/// What is wrong with a line of a program whose call no program makes.
+fn foreign_call(alloc: Global, document: &Document, machine: usize, step: usize) -> Wrong {
+    let line = document
+        .machines
+        .get(machine)
+        .and_then(|row| row.program.get(step))
+        .map_or("", |line| line.as_str());
+    match copy(alloc, line) {
+        Ok(line) => Wrong::NoCall(line),
+        Err(AllocError) => Wrong::Memory,
     }
 }

@@ -4,7 +4,7 @@ use plan_explorer::{MAX_STEPS, ProgramFault, Programs};
 use plan_types::Call;
 use std::alloc::{AllocError, Global};
 
-/// As many claims of one zone.
+/// A list of `count` claims of one zone.
 fn claims(alloc: Global, count: usize) -> Result<Vec<Call>, AllocError> {
     let mut calls = Vec::new(alloc);
     for _ in 0..count {
@@ -13,7 +13,7 @@ fn claims(alloc: Global, count: usize) -> Result<Vec<Call>, AllocError> {
     Ok(calls)
 }
 
-/// As many empty programs.
+/// A list of `count` empty programs.
 fn nothing(alloc: Global, count: usize) -> Result<Vec<Vec<Call>>, AllocError> {
     let mut lists = Vec::new(alloc);
     for _ in 0..count {

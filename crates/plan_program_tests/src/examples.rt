@@ -247,27 +247,6 @@ fn explores_from_a_start_alone(rt: HostRuntime) -> Result<(), AllocError> {
     Ok(())
 }
 
-/// A program of 255 lines is explored, one of 256 isn't.
-#[test]
-fn explores_programs_of_255_lines(rt: HostRuntime) -> Result<(), AllocError> {
-    for (lines, status) in [(255, 0), (256, 1)] {
-        let mut input = String::new(rt.alloc());
-        input.push_str("[[machine]]\nname = \"a\"\nprogram = [")?;
-        for _ in 0..lines {
-            input.push_str("\"claim z\",")?;
-        }
-        input.push_str("]\n[[machine]]\nname = \"b\"\n")?;
-        input.push_str("[[zone]]\nname = \"z\"\nhost = \"a\"\nguest = \"b\"\nstart,\n")?;
-        let mut written = Vec::new(rt.alloc());
-        let arguments: &[&[u8]] = &[b"./plan", b"explore"];
-        let found = run(rt.alloc(), arguments, &mut input.as_bytes(), &mut written);
-        assert!(rt; found == status);
-        let long = "fault plan machine a: program: it has more than 255 lines\n";
-        assert!(rt; (written.as_slice() == long.as_bytes()) == (status == 1));
-    }
-    Ok(())
-}
-
 /// How the header of the press ends.
 const BYTES: &str = "\
 static const uint8_t PLAN_BYTES[] = {

@@ -364,7 +364,40 @@ fn tells_later_faults(rt: HostRuntime) -> Result<(), AllocError> {
     Ok(())
 }
 
-/// A document with so many zones between two machines.
+/// The fault of a program whose line 256 is line 269 of the document.
+const LONG: &str = "fault plan line 269: machine 3: program: it has more than 255 lines\n";
+
+/// How many lines the program of a third machine has, a word, the status and the text.
+const PROGRAMS: &[(usize, &[u8], u8, &str)] = &[
+    (
+        255,
+        b"explore",
+        0,
+        "a standstill after 0 turns, and no fewer\nc waits: claim z: notparty\nturns:\n",
+    ),
+    (256, b"explore", 1, LONG),
+    (257, b"replay", 1, LONG),
+];
+
+#[test]
+fn tells_a_long_program(rt: HostRuntime) -> Result<(), AllocError> {
+    for row in PROGRAMS {
+        let (lines, word, status, text) = *row;
+        let mut input = format!(in rt.alloc(); "{MACHINES}{ZONE}")?;
+        input.push_str("[[machine]]\nname = \"c\"\nprogram = [\n")?;
+        for _ in 0..lines {
+            input.push_str("  \"claim z\",\n")?;
+        }
+        input.push_str("]\nstart,00\n")?;
+        assert!(rt;
+            is_answered(rt.alloc(), word, input.as_str(), status, text),
+            "{row:?}"
+        );
+    }
+    Ok(())
+}
+
+/// Ten zones between two machines take more than a word, and no plan has eleven.
 #[test]
 fn tells_a_wide_word(rt: HostRuntime) -> Result<(), AllocError> {
     let mut document = format!(in rt.alloc(); "{MACHINES}")?;

@@ -67,16 +67,25 @@ fn tells_a_failed_read(rt: HostRuntime) {
     }
 }
 
+/// Words, and an input for each. The plan is small: it is read again for each byte that is written of it.
+const WRITTEN: &[(&[u8], &str)] = &[
+    (b"check", "[[machine]]\nname = \"a\"\n"),
+    (b"check", "[[machine]]\n"),
+    (b"header", "[[machine]]\nname = \"a\"\n"),
+    (b"replay", "[[machine]]\nname = \"a\"\nstart,\n"),
+    (b"explore", "[[machine]]\nname = \"a\"\nstart,\n"),
+    (b"--help", ""),
+];
+
 // A writer that fails after the last byte fails at its flush.
 #[test]
 fn writes_a_prefix(rt: HostRuntime) {
-    let words: [&[u8]; 4] = [b"check", b"header", b"--help", b"replay"];
-    for word in words {
+    for (word, input) in WRITTEN {
         let mut whole = Vec::new(rt.alloc());
         run(
             rt.alloc(),
             &[b"./plan", word],
-            &mut PRESS.as_bytes(),
+            &mut input.as_bytes(),
             &mut whole,
         );
         for left in 0..=whole.len() {
@@ -87,7 +96,7 @@ fn writes_a_prefix(rt: HostRuntime) {
             let status = run(
                 rt.alloc(),
                 &[b"./plan", word],
-                &mut PRESS.as_bytes(),
+                &mut input.as_bytes(),
                 &mut writer,
             );
             let taken = writer.taken.as_slice();

@@ -6,7 +6,7 @@ use crate::named_plan::NamedPlan;
 use plan_types::{Call, WATCH};
 use std::alloc::AllocError;
 
-/// What a call does, by the word that begins it.
+/// What a call does: the word with which it begins.
 #[derive(Clone, Copy, Debug, PartialEq, Eq)]
 pub enum Verb {
     /// `claim`
@@ -71,7 +71,7 @@ impl Verb {
 }
 
 impl NamedPlan {
-    /// The machine with this name, or the watch; `None` if none has it.
+    /// The caller with this name: the watch for `watch`, else a machine. `None` if none has it.
     pub fn caller(&self, name: &[u8]) -> Option<u8>
         ensures { result ≡ spec.caller_of self.now name.now }
     {
@@ -91,7 +91,7 @@ impl NamedPlan {
         (own && self.poses.name(pose).as_bytes() == name).then_some(pose)
     }
 
-    /// The pose of a machine with this name.
+    /// The pose that has this name among those of a machine, or `None` if none has it.
     #[tactic(auto, using(plan_types::proofs::Below::first_below_more))]
     pub fn own_pose(&self, machine: u8, name: &[u8]) -> Option<u8>
         ensures { result ≡ spec.own_pose self.now machine name.now }
@@ -103,14 +103,15 @@ impl NamedPlan {
         found
     }
 
-    /// The pose of this name that a machine means: its own, or else the first of another.
+    /// The pose that a machine means by this name: one of its own, or else the first of all that have the name. `None`
+    /// if none has it.
     pub fn pose_named(&self, machine: u8, name: &[u8]) -> Option<u8>
         ensures { result ≡ spec.pose_named self.now machine name.now }
     {
         self.own_pose(machine, name).or(self.poses.number_of(name))
     }
 
-    /// The call of a machine with this verb and this name of a zone or a pose.
+    /// What a machine asks with this verb about the zone or the pose that has this name. `None` if none has it.
     pub fn call(&self, machine: u8, verb: Verb, name: &[u8]) -> Option<Call>
         ensures { result ≡ spec.call_of self.now machine verb name.now }
     {

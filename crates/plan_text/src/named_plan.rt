@@ -1,12 +1,11 @@
-//! A plan with the names of its machines, zones, places and poses, and with the machines' programs.
-ghost use Rattle.std.specs.Prelude.{◌≡◌, [], map};
+//! A plan with the names of its machines, zones, places and poses.
+ghost use Rattle.std.specs.Prelude.{◌≡◌};
 ghost use Rattle.plan_word.specs.Layout.{counts_of};
-ghost use Rattle.plan_text.specs.Named.{named, with_programs};
+ghost use Rattle.plan_text.specs.Named.{named};
 
 use crate::names::Names;
-use plan_types::{Call, Plan};
+use plan_types::Plan;
 use plan_word::Layout;
-use std::alloc::Global;
 use std::marker::Model;
 
 /// A plan with names.
@@ -18,11 +17,10 @@ pub struct NamedPlan {
     pub(crate) zones: Names,
     pub(crate) places: Names,
     pub(crate) poses: Names,
-    pub(crate) programs: Vec<Vec<Call>>,
 }
 
 impl Model for NamedPlan {
-    ghost use Rattle.std.specs.Prelude.{◌≡◌, map};
+    ghost use Rattle.std.specs.Prelude.{◌≡◌};
     ghost use Rattle.plan_word.specs.Layout.{counts_of};
     ghost use Rattle.plan_text.specs.Named.{Named};
 
@@ -34,23 +32,15 @@ impl Model for NamedPlan {
       zones = a.zones;
       places = a.places;
       poses = a.poses;
-      programs = map (λ calls. calls.items) a.programs.items;
     } };
 
     ghost invariant = { λ a. a.layout ≡ counts_of a.plan };
 }
 
 impl NamedPlan {
-    /// A plan with the names of its machines, zones, places and poses by their numbers, and without programs.
-    pub fn new(
-        alloc: Global,
-        plan: Plan,
-        machines: Names,
-        zones: Names,
-        places: Names,
-        poses: Names,
-    ) -> NamedPlan
-        ensures { result ≡ named plan machines zones places poses [] }
+    /// A plan with the names of its machines, zones, places and poses, each in the order of the numbers.
+    pub fn new(plan: Plan, machines: Names, zones: Names, places: Names, poses: Names) -> NamedPlan
+        ensures { result ≡ named plan machines zones places poses }
     {
         let layout = Layout::of(&plan);
         NamedPlan {
@@ -60,15 +50,7 @@ impl NamedPlan {
             zones,
             places,
             poses,
-            programs: Vec::new(alloc),
         }
-    }
-
-    /// Replaces the machines' programs.
-    pub fn set_programs(&mut self, programs: Vec<Vec<Call>>)
-        ensures { self.new ≡ with_programs self.old (map (λ calls. calls.items) programs.items) }
-    {
-        self.programs = programs;
     }
 
     /// The plan.
@@ -78,7 +60,7 @@ impl NamedPlan {
         &self.plan
     }
 
-    /// The layout of its word.
+    /// The layout of the plan's word.
     pub fn layout(&self) -> Layout
         ensures { result ≡ counts_of self.now.plan }
     {
@@ -106,15 +88,10 @@ impl NamedPlan {
         &self.places
     }
 
-    /// The names of the poses, those of all machines. Two machines may have poses of one name.
+    /// The names of the poses of all machines. Poses of two machines may have the same name.
     pub fn poses(&self) -> &Names
         ensures { result.now ≡ self.now.poses }
     {
         &self.poses
-    }
-
-    /// The machines' programs, by their numbers: what each asks, again and again. One with no call says nothing.
-    pub fn programs(&self) -> &[Vec<Call>] {
-        &self.programs
     }
 }

@@ -45,7 +45,7 @@ impl Names {
         self.names.len()
     }
 
-    /// Adds a name, for which there must be room. An error says that memory ran out, and leaves the names.
+    /// Adds a name at the end, where there must be room. An error says that memory ran out; the names are as before.
     pub fn push(&mut self, name: String) -> Result<(), AllocError>
         requires { length self.old < 64 }
         ensures { OnOk result (self.new ≡ self.old ++ string_bytes name ∷ []) }
@@ -86,7 +86,7 @@ impl Names {
     }
 }
 
-/// Whether a text is a name: a letter, then letters, digits or underscores, in lower case, at most 32 characters.
+/// Whether a text is a name: a letter, then letters, digits and underscores, all in lower case; at most 32 characters.
 pub fn is_name(text: &str) -> bool {
     let bytes = text.as_bytes();
     match bytes.first() {
@@ -109,7 +109,7 @@ const RESERVED: [&str; 11] = [
     "stop",
 ];
 
-/// Whether a word means something in a script or in an answer, and so names no machine.
+/// Whether a word means something in a script or in an answer. Such a word names no machine.
 pub fn is_reserved(text: &str) -> bool {
     text == "resume" || RESERVED.contains(&text)
 }

@@ -26,7 +26,7 @@ count_fault t =
     or unless (nat_le (pose_count t) 64) TooManyPoses
     or unless (nat_le (place_count t) 16) TooManyPlaces
 
--- the word has so many bits more than 64
+-- how many bits more than 64 the word has, if it has more
 abbrev pub width_fault : PlanTable → Option PlanFault
 width_fault t = then_some (not (nat_le (word_width t) 64)) (TooWide (word_width t - 64))
 
