@@ -5,8 +5,6 @@
 #[cfg(test)]
 mod configurations;
 #[cfg(test)]
-mod doubles;
-#[cfg(test)]
 mod keys;
 #[cfg(test)]
 mod long;

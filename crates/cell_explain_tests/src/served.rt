@@ -1,10 +1,10 @@
 //! Words of the program `explain`: which input they explain, and the exit status.
 
-use super::doubles::{FailingReader, FailingWriter, Given};
 use cell_explain::serve::{serve, start};
 use cell_shell::VERSION;
 use std::alloc::Global;
 use std::test::Fail;
+use test_doubles::{FailingReader, FailingWriter, Given};
 
 /// A script that is taken. As a configuration it is no TOML.
 const SCRIPT: &str = "start,0000000000\npress,claim,z3\n";
@@ -128,9 +128,7 @@ fn prints_its_version(rt: HostRuntime) -> Result<(), Fail> {
 
 /// The status and the text after a read that fails when these bytes are read.
 fn is_silent(alloc: Global, words: &[&str], bytes: &str) -> bool {
-    let mut reader = FailingReader {
-        bytes: bytes.as_bytes(),
-    };
+    let mut reader = FailingReader::new(bytes.as_bytes(), bytes.len());
     let mut written = Vec::new(alloc);
     let answered = serve(alloc, words, &mut reader, &mut written);
     answered == 3 && written.is_empty()
@@ -152,10 +150,7 @@ const WRITTEN: &[(&[&str], &str, &str)] = &[
 /// Whether the status is 3 for a writer that takes this number of bytes, and it got the first of this
 /// text.
 fn is_cut(alloc: Global, words: &[&str], input: &str, text: &str, left: usize) -> bool {
-    let mut writer = FailingWriter {
-        taken: Vec::new(alloc),
-        left,
-    };
+    let mut writer = FailingWriter::new(alloc, left);
     let answered = serve(alloc, words, &mut input.as_bytes(), &mut writer);
     answered == 3
         && writer.taken.len() == left

@@ -1,10 +1,11 @@
 //! What the program answers to its words and its input: exit statuses, help, fault lines; and where reading or writing
 //! fails.
 
-use super::doubles::{FailingReader, FailingWriter, run};
+use super::doubles::run;
 use cell_shell::VERSION;
 use std::alloc::{AllocError, Global};
 use std::thread::Threads;
+use test_doubles::{FailingReader, FailingWriter};
 
 /// The help.
 const HELP: &str = "\
@@ -138,10 +139,7 @@ fn prints_its_version(rt: HostRuntime) -> Result<(), AllocError> {
 
 /// Whether a reader that fails after `left` bytes leads to status 1 and the line of a failed read.
 fn is_failed_read<T: Threads + Sync>(rt: &T, alloc: Global, left: usize) -> bool {
-    let mut reader = FailingReader {
-        bytes: EMPTY.as_bytes(),
-        left,
-    };
+    let mut reader = FailingReader::new(EMPTY.as_bytes(), left);
     let mut written = Vec::new(alloc);
     let mut progress = Vec::new(alloc);
     let status = run(rt, alloc, EXPLORE, &mut reader, &mut written, &mut progress);
@@ -166,10 +164,7 @@ fn is_cut<T: Threads + Sync>(
     text: &[u8],
     left: usize,
 ) -> bool {
-    let mut writer = FailingWriter {
-        taken: Vec::new(alloc),
-        left,
-    };
+    let mut writer = FailingWriter::new(alloc, left);
     let mut progress = Vec::new(alloc);
     let found = run(
         rt,

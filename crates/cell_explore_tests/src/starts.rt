@@ -1,10 +1,11 @@
 //! Starts by their plates, explored in two threads. The numbers are those that plain Rust finds, written apart from the
 //! proved program.
 
-use super::doubles::{FailingWriter, GivenClock};
+use super::doubles::GivenClock;
 use cell_explore::every_start::{every_start, starts_with};
 use cell_explore::serve::serve_all;
 use std::alloc::AllocError;
+use test_doubles::FailingWriter;
 
 /// The lines of the starts with no plate and with one.
 const LINES: &str = "\
@@ -61,14 +62,8 @@ const FAILING: &[(usize, usize, u8)] = &[
 #[test]
 fn serves_writers_that_fail(rt: HostRuntime) {
     for (left, progress_left, wanted) in FAILING {
-        let mut writer = FailingWriter {
-            taken: Vec::new(rt.alloc()),
-            left: *left,
-        };
-        let mut progress = FailingWriter {
-            taken: Vec::new(rt.alloc()),
-            left: *progress_left,
-        };
+        let mut writer = FailingWriter::new(rt.alloc(), *left);
+        let mut progress = FailingWriter::new(rt.alloc(), *progress_left);
         let status = serve_all(
             &rt,
             &GivenClock::new([None, None]),

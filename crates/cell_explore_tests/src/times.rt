@@ -1,9 +1,10 @@
 //! How long the program says that it took.
 
-use super::doubles::{FailingWriter, GivenClock, run_by};
+use super::doubles::{GivenClock, run_by};
 use cell_explore::timing::tell_time;
 use std::alloc::AllocError;
 use std::time::Instant;
+use test_doubles::FailingWriter;
 
 /// What the clock shows at the beginning and at the end, in thousandths of a second, and what is
 /// told.
@@ -74,10 +75,7 @@ fn needs_no_progress(rt: HostRuntime) {
     for left in 0..12 {
         let clock = GivenClock::new([Some(100), Some(2_600)]);
         let mut written = Vec::new(rt.alloc());
-        let mut told = FailingWriter {
-            taken: Vec::new(rt.alloc()),
-            left,
-        };
+        let mut told = FailingWriter::new(rt.alloc(), left);
         let status = run_by(
             &rt,
             &clock,

@@ -1,13 +1,14 @@
 //! What the program answers to its words and its input: exit statuses, help, fault lines; and where
 //! reading or writing fails.
 
-use super::doubles::{FailingReader, FailingWriter, run};
+use super::doubles::run;
 use super::examples::{PRESS, config_text};
 use super::expected::PRESS_LINES;
 use super::pages::{is_whole, parts_of};
 use cell_shell::VERSION;
 use std::alloc::{AllocError, Global};
 use std::test::Fail;
+use test_doubles::{FailingReader, FailingWriter};
 
 /// The help.
 const HELP: &str = "\
@@ -129,10 +130,7 @@ fn writes_a_page(rt: HostRuntime) -> Result<(), Fail> {
 
 /// Whether a reader that fails after `left` bytes leads to status 1 and the line of a failed read.
 fn is_failed_read(alloc: Global, input: &str, left: usize) -> bool {
-    let mut reader = FailingReader {
-        bytes: input.as_bytes(),
-        left,
-    };
+    let mut reader = FailingReader::new(input.as_bytes(), left);
     let mut written = Vec::new(alloc);
     let status = run(alloc, FILM, &mut reader, &mut written);
     status == 1 && written.as_slice() == b"fault read\n".as_slice()
@@ -157,10 +155,7 @@ fn is_cut(
     text: &[u8],
     left: usize,
 ) -> bool {
-    let mut writer = FailingWriter {
-        taken: Vec::new(alloc),
-        left,
-    };
+    let mut writer = FailingWriter::new(alloc, left);
     let found = run(alloc, arguments, &mut input.as_bytes(), &mut writer);
     let taken = writer.taken.as_slice();
     found == status && taken.len() == left && text.starts_with(taken)

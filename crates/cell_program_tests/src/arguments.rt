@@ -1,6 +1,5 @@
 //! Which words the program was started with.
 
-use super::doubles::Given;
 use super::reports::{EMPTY, PRESS, PRESS_REPORT, SIX_WORKERS};
 use super::served::{SCRIPT, TEXT};
 use cell_program::start::start;
@@ -9,6 +8,7 @@ use std::alloc::Global;
 use std::io::ErrorKind;
 use std::sync::Wait;
 use std::thread::Threads;
+use test_doubles::Given;
 
 /// Arguments, and the words that they are. The first argument is the program's own name; whichever
 /// it is, the word is `cell`.

@@ -1,6 +1,6 @@
 //! Configurations: what they give, and why they are refused.
 
-use super::doubles::{FailingReader, read};
+use super::doubles::read;
 use cell_calib::{Curve, Points};
 use cell_config::{Config, ConfigFault};
 use cell_plant::Turn;
@@ -9,6 +9,7 @@ use cell_types::Machine;
 use std::alloc::{AllocError, Global};
 use std::process::Abort;
 use std::test::Fail;
+use test_doubles::FailingReader;
 
 /// The points of an axis from 0 to `end`.
 fn axis(raw_lo: u16, raw_hi: u16, end: i32, tol: i32) -> Result<Points, Fail> {
@@ -413,10 +414,7 @@ fn reads_no_more_than_it_may(rt: HostRuntime) {
     let text = spaced(&rt, rt.alloc(), 2_097_131, "");
     assert!(rt; text.len() == 2_097_152);
     assert!(rt; judged(rt.alloc(), text.as_bytes()) == "well");
-    let mut bytewise = FailingReader {
-        bytes: text.as_bytes(),
-        left: usize::MAX,
-    };
+    let mut bytewise = FailingReader::new(text.as_bytes(), usize::MAX);
     assert!(rt; read(rt.alloc(), &mut bytewise).is_ok());
     let text = spaced(&rt, rt.alloc(), 2_097_132, "");
     assert!(rt; judged(rt.alloc(), text.as_bytes()) == "config long");

@@ -1,8 +1,6 @@
 //! Input and output that fail, are interrupted, or come in small parts.
 
-use super::doubles::{
-    FailingReader, FailingWriter, InterruptedReader, InterruptedWriter, UnflushedWriter, read, run,
-};
+use super::doubles::{UnflushedWriter, read, run};
 use super::reports::{EMPTY, PRESS, PRESS_REPORT, SIX_WORKERS};
 use super::served::{SCRIPT, TEXT};
 use cell_config::{Config, ConfigFault};
@@ -10,6 +8,7 @@ use cell_shell::{Exit, refuse_bytes};
 use std::alloc::Global;
 use std::sync::Wait;
 use std::thread::Threads;
+use test_doubles::{FailingReader, Failure, InterruptedReader, InterruptedWriter};
 
 const REPLAY: &[&str] = &["cell", "replay"];
 
@@ -29,10 +28,7 @@ fn is_failed_read<T: Threads + Wait + Sync>(
     input: &str,
     left: usize,
 ) -> bool {
-    let mut reader = FailingReader {
-        bytes: input.as_bytes(),
-        left,
-    };
+    let mut reader = FailingReader::new(input.as_bytes(), left);
     let mut written = Vec::new(alloc);
     let status = run(rt, alloc, words, &mut reader, &mut written);
     status == 1 && written.as_slice() == b"fault read\n".as_slice()
@@ -50,21 +46,18 @@ fn tells_a_failed_read(rt: HostRuntime) {
     }
 }
 
-/// Whether a writer that fails after `left` bytes leads to status 1, and has taken a prefix of the
-/// text that it would have taken.
+/// Whether a writer that fails so after `left` bytes, of which it takes at most three at a time, leads
+/// to status 1, and has taken a prefix of the text that it would have taken.
 fn is_cut<T: Threads + Wait + Sync>(
     rt: &T,
     alloc: Global,
     words: &[&str],
     input: &str,
     left: usize,
-    is_full: bool,
+    failure: Failure,
 ) -> bool {
-    let mut writer = FailingWriter {
-        taken: Vec::new(alloc),
-        left,
-        is_full,
-    };
+    let mut writer = InterruptedWriter::new(alloc, left, 3, failure);
+    writer.times = 0;
     let mut whole = Vec::new(alloc);
     run(rt, alloc, words, &mut input.as_bytes(), &mut whole);
     let status = run(rt, alloc, words, &mut input.as_bytes(), &mut writer);
@@ -72,34 +65,33 @@ fn is_cut<T: Threads + Wait + Sync>(
     status == 1 && is_prefix && writer.taken.len() == left
 }
 
-// Words, an input, the number of bytes after which the writer fails, and whether it then takes
-// none.
-const CUT: &[(&[&str], &str, usize, bool)] = &[
-    (REPLAY, SCRIPT, 5, false),
-    (HELP, SCRIPT, 5, false),
-    (&["cell", "--help"], SCRIPT, 5, false),
-    (OTHER, SCRIPT, 5, false),
-    (SIM, PRESS, 0, false),
-    (SIM, PRESS, 1, false),
-    (SIM, PRESS, 18, false),
-    (SIM, PRESS, 19, false),
-    (SIM, PRESS, 300, true),
-    (SIM, PRESS, 560, false),
-    (RUN, EMPTY, 20, false),
+// Words, an input, the number of bytes after which the writer fails, and how.
+const CUT: &[(&[&str], &str, usize, Failure)] = &[
+    (REPLAY, SCRIPT, 5, Failure::Write),
+    (HELP, SCRIPT, 5, Failure::Write),
+    (&["cell", "--help"], SCRIPT, 5, Failure::Write),
+    (OTHER, SCRIPT, 5, Failure::Write),
+    (SIM, PRESS, 0, Failure::Write),
+    (SIM, PRESS, 1, Failure::Write),
+    (SIM, PRESS, 18, Failure::Write),
+    (SIM, PRESS, 19, Failure::Write),
+    (SIM, PRESS, 300, Failure::Full),
+    (SIM, PRESS, 560, Failure::Write),
+    (RUN, EMPTY, 20, Failure::Write),
 ];
 
 #[test]
 fn writes_a_prefix(rt: HostRuntime) {
-    for (words, input, left, is_full) in CUT {
+    for (words, input, left, failure) in CUT {
         assert!(rt;
-            is_cut(&rt, rt.alloc(), words, input, *left, *is_full),
+            is_cut(&rt, rt.alloc(), words, input, *left, *failure),
             "after {left}"
         );
     }
 }
 
-/// Whether it makes no difference if input and output are interrupted a thousand times before each
-/// part.
+/// Whether it makes no difference if input and output come in parts of at most seven bytes, and are
+/// interrupted a thousand times before each part.
 fn is_served_in_parts<T: Threads + Wait + Sync>(
     rt: &T,
     alloc: Global,
@@ -108,14 +100,10 @@ fn is_served_in_parts<T: Threads + Wait + Sync>(
     status: u8,
     text: &[u8],
 ) -> bool {
-    let mut reader = InterruptedReader {
-        bytes: input.as_bytes(),
-        interrupted: 0,
-    };
-    let mut writer = InterruptedWriter {
-        taken: Vec::new(alloc),
-        interrupted: 0,
-    };
+    let mut reader = InterruptedReader::new(input.as_bytes(), usize::MAX, 7);
+    let mut writer = InterruptedWriter::new(alloc, usize::MAX, 7, Failure::Write);
+    reader.times = 1_000;
+    writer.times = 1_000;
     let answered = run(rt, alloc, words, &mut reader, &mut writer);
     answered == status && writer.taken.as_slice() == text
 }
@@ -201,12 +189,11 @@ fn tells_a_failed_flush(rt: HostRuntime) {
     assert!(rt; writer.flushed == 26);
 }
 
-/// What is read of a text in parts; the reader is interrupted a thousand times before each.
+/// What is read of a text in parts of at most seven bytes; the reader is interrupted a thousand times
+/// before each.
 fn read_in_parts(alloc: Global, text: &str) -> Result<Config, ConfigFault> {
-    let mut reader = InterruptedReader {
-        bytes: text.as_bytes(),
-        interrupted: 0,
-    };
+    let mut reader = InterruptedReader::new(text.as_bytes(), usize::MAX, 7);
+    reader.times = 1_000;
     read(alloc, &mut reader)
 }
 
@@ -224,10 +211,7 @@ fn reads_configurations_in_parts(rt: HostRuntime) {
 fn tells_failing_readers(rt: HostRuntime) {
     let text = "start = \"0000000000\"\nschedule = \"p\"\n";
     for left in 0..text.len() {
-        let mut reader = FailingReader {
-            bytes: text.as_bytes(),
-            left,
-        };
+        let mut reader = FailingReader::new(text.as_bytes(), left);
         let fault = read(rt.alloc(), &mut reader).err();
         assert!(rt; fault == Some(ConfigFault::Read), "after {left}");
     }

@@ -2,8 +2,6 @@
 #![tactic(auto)]
 
 #[cfg(test)]
-mod doubles;
-#[cfg(test)]
 mod recordings;
 #[cfg(test)]
 mod served;

@@ -1,12 +1,12 @@
 //! The program's words, exit statuses and fault lines.
 
-use super::doubles::Given;
 use cell_recorder::serve::{serve, start};
 use cell_shell::VERSION;
 use std::alloc::Global;
 use std::sync::Wait;
 use std::test::Fail;
 use std::thread::Threads;
+use test_doubles::Given;
 
 /// Words, an input, the status, and what is written, or what it begins with if the status is 2 or
 /// help is asked for.

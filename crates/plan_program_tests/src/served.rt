@@ -1,9 +1,10 @@
 //! What the program answers to its words: exit statuses and texts; and where reading or writing fails.
 
-use super::doubles::{FailingReader, FailingWriter, run};
+use super::doubles::run;
 use super::examples::PRESS;
 use cell_shell::VERSION;
 use std::alloc::{AllocError, Global};
+use test_doubles::{FailingReader, FailingWriter};
 
 const OTHER_WORDS: &str =
     "error: the only argument is check, replay, explore, header, --help or --version\n";
@@ -50,10 +51,7 @@ fn prints_its_version(rt: HostRuntime) -> Result<(), AllocError> {
 }
 
 fn is_failed_read(alloc: Global, word: &[u8], left: usize) -> bool {
-    let mut reader = FailingReader {
-        bytes: PRESS.as_bytes(),
-        left,
-    };
+    let mut reader = FailingReader::new(PRESS.as_bytes(), left);
     let mut written = Vec::new(alloc);
     let status = run(alloc, &[b"./plan", word], &mut reader, &mut written);
     status == 1 && written.as_slice() == b"fault read\n".as_slice()
@@ -89,10 +87,7 @@ fn writes_a_prefix(rt: HostRuntime) {
             &mut whole,
         );
         for left in 0..=whole.len() {
-            let mut writer = FailingWriter {
-                taken: Vec::new(rt.alloc()),
-                left,
-            };
+            let mut writer = FailingWriter::new(rt.alloc(), left);
             let status = run(
                 rt.alloc(),
                 &[b"./plan", word],

@@ -1,9 +1,10 @@
 //! Readers and writers that are interrupted or fail, and refused memory.
 
-use crate::doubles::{EndlessReader, Failure, InterruptedReader, InterruptedWriter};
+use crate::doubles::EndlessReader;
 use cell_replay::{Outcome, ReplayFault, ScriptFault, replay};
 use std::alloc::Global;
 use std::io::Read;
+use test_doubles::{Failure, InterruptedReader, InterruptedWriter};
 
 const SCRIPT: &str =
     "start,0000000000\npress,claim,z3\nrobot,claim,z3\npress,release,z3\nrobot,claim,z3\nwatch,inquire,z3\n";

@@ -1,10 +1,10 @@
 //! Scripts that are too long.
 
 use super::is_answered;
-use crate::doubles::{Failure, InterruptedReader, InterruptedWriter};
 use cell_replay::{Outcome, ReplayFault, ScriptFault, replay};
 use std::alloc::Global;
 use std::process::Abort;
+use test_doubles::{Failure, InterruptedReader, InterruptedWriter};
 
 /// A script's records, the length to which blank lines fill it, and a record after those.
 type Filled = (&'static str, usize, &'static str);

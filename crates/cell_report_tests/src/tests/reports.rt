@@ -1,13 +1,13 @@
 //! Reports of runs whose records were made by hand.
 
 use super::{EMPTY, start_at};
-use crate::doubles::{Failure, InterruptedWriter};
 use cell_notes::{Counts, RunRecord, Status};
 use cell_report::{AuditFault, WriteFault, write_report};
 use cell_rules::{State, apply};
 use cell_types::{Call, Journals, Machine, Pose, Zone};
 use std::alloc::Global;
 use std::process::Abort;
+use test_doubles::{Failure, InterruptedWriter};
 
 const NONE: Counts = Counts {
     turns: 0,

@@ -2,9 +2,11 @@
 
 use std::env::{Env, FillError};
 
-/// An environment with these arguments; the first is the program's own name.
+/// An environment with these arguments, and no variables. The first argument is the program's own
+/// name.
 #[derive(Clone, Copy)]
 pub struct Given<'a> {
+    /// The arguments.
     pub arguments: &'a [&'a [u8]],
 }
 

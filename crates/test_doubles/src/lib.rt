@@ -1,0 +1,11 @@
+//! Doubles for tests: environments with given arguments, and readers and writers that fail or are
+//! interrupted.
+#![tactic(auto)]
+
+pub mod failing;
+pub mod given;
+pub mod interrupted;
+
+pub use failing::{FailingReader, FailingWriter};
+pub use given::Given;
+pub use interrupted::{Failure, InterruptedReader, InterruptedWriter};
