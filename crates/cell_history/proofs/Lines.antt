@@ -6,7 +6,7 @@ use Rattle.std.proofs.lemmas.List.{append-nil, map-append}
 use Rattle.std.proofs.lemmas.List.Folds.{concat-append}
 use Rattle.cell_types.specs.declared.answer.Event.{Event}
 use Rattle.cell_rules.specs.ModelState.{ModelState}
-use Rattle.cell_replay.specs.Requests.{Row}
+use Rattle.csv_rows.specs.Rows.{Row}
 use Rattle.cell_history.specs.Scripts.{event_row, line_of_row, opening_row, script_of}
 
 -- record 0 and the records of events
@@ -34,3 +34,6 @@ text_of_more first xs i d h =
 pub text_of_all : (opening : ModelState) (events : List Event) → script_of opening events ≡ text_of (opening_row opening events) events
 unfolding text_of script_of
 text_of_all opening events = refl
+
+-- the text of a script, line by line
+pub ruleset texts = (text_of_all, text_of_none, text_of_more)

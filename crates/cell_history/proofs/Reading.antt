@@ -13,7 +13,7 @@ use Rattle.cell_rules.specs.Types.{Z5, Z6, Pose, Turning, Loading, Unloading, Tr
 use Rattle.cell_rules.specs.Types.{Landing, Halted, Offering, Standing, Call, Claim, Give, Yield, Take, Release}
 use Rattle.cell_rules.specs.Types.{SetPose, Advance, Inquire, Stop, Resume, Event, machine_word, pose_word, zone_word}
 use Rattle.cell_rules.specs.Types.{call_fields, verb_of}
-use Rattle.cell_replay.specs.Requests.{Row}
+use Rattle.csv_rows.specs.Rows.{Row}
 use Rattle.cell_history.specs.Scripts.{after_comma, event_row, line_of_row}
 
 -- A word without a mark of the format.

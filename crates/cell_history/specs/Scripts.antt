@@ -5,7 +5,8 @@ use Rattle.std.specs.Fmt.{decimal}
 use Rattle.std.specs.List.{concat, list_all}
 use Rattle.cell_rules.specs.Types.{Event, all_places}
 use Rattle.cell_rules.specs.Names.{ModelState, PlaceSet, has}
-use Rattle.cell_replay.specs.Requests.{Row, request, request_fields}
+use Rattle.csv_rows.specs.Rows.{Row}
+use Rattle.cell_replay.specs.Requests.{request, request_fields}
 use Rattle.cell_replay.specs.Versions.{has_call, version_word}
 use Rattle.cell_replay.specs.declared.version.Version.{Version}
 use Rattle.cell_replay.specs.declared.version.Version.TheVariants.{First, Second}

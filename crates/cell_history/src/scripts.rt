@@ -13,7 +13,7 @@ use std::alloc::{AllocError, Global};
 
 /// The script of a history that begins in this state. If the state is a start, and the history is
 /// legal and has at most 65,536 events, a replay of the script gives the history's answers.
-#[tactic(auto, using(crate::proofs::Lines::text_of_all, crate::proofs::Lines::text_of_none, crate::proofs::Lines::text_of_more))]
+#[tactic(auto, using(crate::proofs::Lines::texts))]
 pub fn script_of(alloc: Global, opening: &State, events: &[Event]) -> Result<String, AllocError>
     ensures { IfOk result
         (λ text. string_bytes text ≡ scripts.script_of opening.now events.now) }

@@ -9,7 +9,8 @@ use Rattle.cell_rules.specs.Types.{Event, answer_text}
 use Rattle.cell_rules.specs.Names.{ModelState, next, after}
 use Rattle.cell_rules.specs.FirstVersion as rules
 use Rattle.cell_rules.proofs.FirstVersion as stays
-use Rattle.cell_replay.specs.Requests.{Row, call_of, request_of}
+use Rattle.csv_rows.specs.Rows.{Row}
+use Rattle.cell_replay.specs.Requests.{call_of, request_of}
 use Rattle.cell_replay.specs.Script.{end_of, end_text, event_line, event_lines, events_from, history_of, is_cut_of, line_of, lines_from, max_records, outcome_from, requests_in, rows_lines, rows_outcome, script_lines, script_outcome, script_rows, script_text, start_by, start_fields, start_in, start_of_version}
 use Rattle.cell_replay.specs.FirstVersion as first
 use Rattle.cell_replay.specs.FirstVersion.{IsOfFirstVersion, begins_with_start2}

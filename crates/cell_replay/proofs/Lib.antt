@@ -1,12 +1,11 @@
 pub mod Digits
 pub mod LimitedReads
 pub mod Lines
-pub mod RecordLemmas
 pub mod Requests
 pub mod Starts
 pub mod Scripts
 pub mod FirstScripts
 pub mod ScriptRows
-pub mod RowsTaken
+pub mod RowsLeft
 pub mod Writings
 pub mod BufferedWrites

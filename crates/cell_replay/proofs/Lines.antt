@@ -6,7 +6,8 @@ use Rattle.std.specs.Option.{option_map_or}
 use Rattle.std.proofs.Math.Seq.{take-append_seam}
 use Rattle.cell_rules.specs.Types.{Event, answer_text}
 use Rattle.cell_rules.specs.Names.{ModelState, next, reply, IsLegal, after}
-use Rattle.cell_replay.specs.Requests.{Row, request_of}
+use Rattle.csv_rows.specs.Rows.{Row}
+use Rattle.cell_replay.specs.Requests.{request_of}
 use Rattle.cell_replay.specs.Script.{event_line, event_lines, event_of, history_of, line_of, requests_in}
 use Rattle.cell_replay.specs.declared.request.Request.{Request}
 use Rattle.cell_replay.specs.declared.version.Version.{Version}

@@ -15,7 +15,8 @@ use Rattle.cell_rules.specs.Types.{SetPose, Advance, Inquire, Stop, Resume, mach
 use Rattle.cell_rules.specs.Types.{all_machines}
 use Rattle.cell_types.specs.CallWords.{object_of, with_object}
 use Rattle.cell_replay.specs.Versions.{has_call}
-use Rattle.cell_replay.specs.Requests.{Row, calls_of, call_of, machine_of, request, request_by, request_fields, request_of}
+use Rattle.csv_rows.specs.Rows.{Row}
+use Rattle.cell_replay.specs.Requests.{calls_of, call_of, machine_of, request, request_by, request_fields, request_of}
 use Rattle.cell_replay.specs.declared.request.Request.{Request}
 use Rattle.cell_replay.specs.declared.version.Version.{Version}
 use Rattle.cell_replay.specs.declared.version.Version.TheVariants.{First, Second}
@@ -215,3 +216,6 @@ read_other fields word there machine = refused fields (λ r e.
     let same : Some (machine_word r.machine) ≡ Some word = rw e at there in
     let bad : None ≡ Some r.machine = (machine r.machine).1 (sym (same_Some _ _ same)) in
     absurd (cc))
+
+-- which requests a record has that isn't read as one
+pub ruleset unread_rows = (read_long, read_empty, read_other, read_alone)

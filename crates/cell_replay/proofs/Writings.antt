@@ -11,7 +11,8 @@ use Rattle.std.proofs.Math.Seq.{take-nil}
 use Rattle.std.proofs.lemmas.Bool.{lt-ltb, le-ltb, eq-eqb, ne_eqb}
 use Rattle.cell_rules.specs.Types.{answer_text, Answer}
 use Rattle.cell_rules.specs.Names.{ModelState, next, reply}
-use Rattle.cell_replay.specs.Requests.{Row, request_of}
+use Rattle.csv_rows.specs.Rows.{Row}
+use Rattle.cell_replay.specs.Requests.{request_of}
 use Rattle.cell_replay.specs.declared.request.Request.{Request}
 use Rattle.cell_replay.specs.declared.version.Version.{Version}
 use Rattle.cell_replay.specs.declared.script_start.Start.{Start}

@@ -13,7 +13,8 @@ use Rattle.cell_rules.specs.Types.{Call, Claim, Give, Yield, Take, Release, SetP
 use Rattle.cell_rules.specs.Types.{answer_text, call_fields, all_zones, all_poses}
 use Rattle.cell_rules.specs.Names.{ModelState, plates_of}
 use Rattle.cell_rules.specs.FirstVersion.{next, reply}
-use Rattle.cell_replay.specs.Requests.{Row, machine_of, request_by}
+use Rattle.csv_rows.specs.Rows.{Row}
+use Rattle.cell_replay.specs.Requests.{machine_of, request_by}
 use Rattle.cell_replay.specs.Script.{end_of, end_text, is_cut_of, line_of, max_records}
 use Rattle.cell_replay.specs.Script.{script_rows, start_fields}
 use Rattle.cell_replay.specs.declared.request.Request.{Request}

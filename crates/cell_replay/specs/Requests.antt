@@ -4,13 +4,10 @@ use Rattle.std.specs.Str.{bytes_eq}
 use Rattle.std.specs.Cmp.Lexicographic.{pointwise}
 use Rattle.cell_rules.specs.Types.{Machine, Call, Claim, Give, Yield, Take, Release, SetPose, Advance, Inquire}
 use Rattle.cell_rules.specs.Types.{machine_word, call_fields, all_machines, all_zones, all_poses}
+use Rattle.csv_rows.specs.Rows.{Row}
 use Rattle.cell_replay.specs.Versions.{further_calls}
 use Rattle.cell_replay.specs.declared.request.Request.{Request}
 use Rattle.cell_replay.specs.declared.version.Version.{Version}
-
--- a record is its fields
-abbrev pub Row : Type 0
-Row = List (List ℕ)
 
 -- the fields that write a request: the machine's word, and those of the call
 abbrev pub request_fields : Request → Row

@@ -9,7 +9,8 @@ use Rattle.csv.specs.Reading.{default_config, records, strip_bom}
 use Rattle.cell_rules.specs.Types.{Event, answer_text}
 use Rattle.cell_rules.specs.Names.{ModelState, plates_of, PlaceSet, places_of, start_state, places_in, is_start, next}
 use Rattle.cell_rules.specs.Names.{reply, after}
-use Rattle.cell_replay.specs.Requests.{Row, request_of}
+use Rattle.csv_rows.specs.Rows.{Row}
+use Rattle.cell_replay.specs.Requests.{request_of}
 use Rattle.cell_replay.specs.Versions.{version_of, version_word}
 use Rattle.cell_replay.specs.declared.request.Request.{Request}
 use Rattle.cell_replay.specs.declared.version.Version.{Version}

@@ -1,7 +1,7 @@
 -- Scripts with the whole text that answers each, and how it ends.
 use Rattle.std.specs.Prelude.{◌≡◌, ℕ, Bool, true, false, List, [], ◌∷◌, ◌++◌, codes}
 use Rattle.std.specs.List.{concat}
-use Rattle.cell_replay.specs.Requests.{Row}
+use Rattle.csv_rows.specs.Rows.{Row}
 use Rattle.cell_replay.specs.Script.{rows_lines, rows_outcome, script_outcome, script_text, used}
 use Rattle.cell_replay.specs.declared.script.ScriptFault.TheVariants.{NoStart, BadStart, BadRow, Long}
 use Rattle.cell_replay.specs.declared.script.Outcome.{Outcome}

@@ -3,9 +3,9 @@ use Rattle.std.specs.Prelude.{ℕ, ◌≡◌, Bool, List, take, Option, Some, Re
 use Rattle.csv.specs.Reading.{default_config, records, strip_bom}
 use Rattle.csv.specs.Records.{fields_of}
 use Rattle.cell_rules.specs.Names.{ModelState}
+use Rattle.csv_rows.specs.Rows.{HasRows, Row}
 use Rattle.cell_replay.specs.Limited.{bytes_left}
-use Rattle.cell_replay.specs.Records.{GivesRow, HasRows, RowsLeft}
-use Rattle.cell_replay.specs.Requests.{Row}
+use Rattle.cell_replay.specs.Records.{GivesRow, RowsLeft}
 use Rattle.cell_replay.specs.Script.{byte_limit, is_cut_of, rows_lines, rows_outcome}
 use Rattle.cell_replay.specs.Writing.{Writes, lines_left, outcome_left}
 use Rattle.cell_replay.specs.declared.lent.LentReader.{Ghosts as Lent}

@@ -6,7 +6,7 @@ use Rattle.std.specs.Option.{ForSome}
 use Rattle.std.specs.Io.KnownBytes.{Appends, Keeps}
 use Rattle.cell_types.specs.Answers.{answer_text}
 use Rattle.cell_rules.specs.Names.{ModelState, next, reply}
-use Rattle.cell_replay.specs.Requests.{Row}
+use Rattle.csv_rows.specs.Rows.{Row}
 use Rattle.cell_replay.specs.declared.request.Request.{Request}
 use Rattle.cell_replay.specs.declared.version.Version.{Version}
 use Rattle.cell_replay.specs.Script.{end_of, end_text, script_outcome, script_text, line_of, max_records, requests_in}

@@ -3,8 +3,7 @@
 ghost use Rattle.std.specs.Prelude.{◌≡◌, ◌<◌, ◌++◌, ℕ, List, Some, OnOk, if◌then◌else◌, string_bytes};
 ghost use Rattle.std.specs.Io.KnownBytes.{Keeps};
 ghost use Rattle.cell_types.specs.Answers.{answer_text};
-ghost use Rattle.cell_replay.specs.Records.{IsPlain};
-ghost use Rattle.cell_replay.specs.Requests.{Row};
+ghost use Rattle.csv_rows.specs.Rows.{IsPlain};
 ghost use Rattle.cell_replay.specs.Script as script;
 ghost use Rattle.cell_replay.specs.Script.{is_cut_of, line_of, max_records, start_line};
 ghost use Rattle.cell_replay.specs.ScriptRecords.{ForLeft, HasLeft, WritesLater, WritesRows};

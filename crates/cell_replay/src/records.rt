@@ -1,41 +1,17 @@
 //! The records of a script, one at a time.
 
 ghost use Rattle.std.specs.Prelude.{◌≡◌, ℕ, List, None, Some, IfOk, OnOk};
-ghost use Rattle.csv.specs.Records.{fields_of};
-ghost use Rattle.cell_replay.specs.Records.{HasRows, IsPlain, TakesRow};
-ghost use Rattle.cell_replay.specs.Requests.{Row};
+ghost use Rattle.csv_rows.specs.Rows.{IsPlain, Row};
 ghost use Rattle.cell_replay.specs.ScriptRecords.{ForLeft, GivesNext, HasLeft, HasRecords, HoldsNext, records_used};
 ghost use Rattle.cell_replay.specs.Script.{is_cut_of, used};
 
 use crate::lent::{LentReader, Origin};
 use crate::limited::LimitedReader;
 use cell_text::InputFault;
-use csv::{ByteRecord, ErrorKind, Reader, ReaderBuilder};
+use csv::{ByteRecord, Reader, ReaderBuilder};
+use csv_rows::read_row;
 use std::alloc::Global;
-use std::io::Read;
 use std::mem;
-
-/// Reads the next record into `row`. Returns whether there was one. `Read` if the reader failed,
-/// `Memory` if memory ran out.
-fn read_row<R: Read>(reader: &mut Reader<R>, row: &mut ByteRecord) -> Result<bool, InputFault>
-    requires { IsPlain reader.old }
-    ensures plain { OnOk result (IsPlain reader.new) }
-    ensures found { IfOk result (λ found. (rows : List Row) → HasRows R.remaining reader.old rows →
-        TakesRow R.remaining reader.new found (fields_of row.new) rows) }
-{
-    match reader.read_byte_record(row) {
-        Ok(found) => Ok(found),
-        Err(error) => match error.kind() {
-            ErrorKind::Io(_) => Err(InputFault::Read),
-            ErrorKind::OutOfMemory => Err(InputFault::Memory),
-            // Records may have any length, they are bytes, and no type is read or written.
-            ErrorKind::UnequalLengths { .. }
-            | ErrorKind::Utf8 { .. }
-            | ErrorKind::Serialize(_)
-            | ErrorKind::Deserialize { .. } => unreachable!(),
-        },
-    }
-}
 
 /// The records of a script in order, without the last one of a script that is cut. One record is
 /// held back until it is known whether it is the last one.

@@ -17,7 +17,7 @@ pub struct Request {
 }
 
 /// The request in a record, or `None` if the record has none. It may be of any version.
-#[tactic(auto, using(crate::proofs::Requests::read_long, crate::proofs::Requests::read_empty, crate::proofs::Requests::read_other, crate::proofs::Requests::read_alone))]
+#[tactic(auto, using(crate::proofs::Requests::unread_rows))]
 fn read_any_request(row: &ByteRecord) -> Option<Request>
     ensures { (request : Request)
         → (result ≡ Some request) ↔ (fields_of row.now ≡ request_fields request) }

@@ -25,8 +25,8 @@ const ZONE_KEYS: [&str; 5] = ["name", "host", "guest", "inward", "outward"];
 
 /// Reads a plan from the bytes that the reader has left. At most 65,537 bytes are taken from it.
 ///
-/// The error is the first fault. Faults come in this order: too many bytes, no TOML, keys and values of the rows, names,
-/// tables, the lines of programs, and last whole programs. The error is `Read` if the reader fails; `Memory` may come
+/// The error is the first fault. Faults come in this order: too many bytes, no TOML, keys and values of rows, names,
+/// tables, the lines of programs, and last whole programs. The error is `Read` if the reader fails. `Memory` may come
 /// from any allocation.
 pub fn read_plan<R: Read>(alloc: Global, reader: &mut R) -> Result<ProgrammedPlan, PlanTextFault>
     ensures { TakesAtMost (R.remaining reader.old) (R.remaining reader.new) 65537 }

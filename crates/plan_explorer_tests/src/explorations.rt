@@ -73,8 +73,8 @@ const LIFTING: &[&[Call]] = &[
     &[Call::Take(1), Call::Release(1), Call::Give(1)],
 ];
 
-/// The plan, the programs, and the opening with plates in these places. Two programs are those of the press, three those
-/// of the lift. `None` if memory runs out.
+/// The plan, the programs, and the opening with plates in these places. Two programs are those of a press, three those
+/// of a lift. `None` if memory runs out.
 fn plant_of(
     alloc: Global,
     lists: &[&[Call]],

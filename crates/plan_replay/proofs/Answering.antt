@@ -8,7 +8,8 @@ use Rattle.plan_rules.specs.declared.state.State.{State}
 use Rattle.plan_rules.specs.Reply.{next, reply}
 use Rattle.plan_text.specs.Named.{Named}
 use Rattle.plan_text.specs.Answers.{answer_text}
-use Rattle.plan_replay.specs.Requests.{Row, request_of}
+use Rattle.csv_rows.specs.Rows.{Row}
+use Rattle.plan_replay.specs.Requests.{request_of}
 use Rattle.plan_replay.specs.Script.{Answers, answers_of, answer_by, ends, line_of, max_records, with_text}
 use Rattle.plan_replay.specs.declared.request.Request.{Request}
 use Rattle.plan_replay.specs.declared.script.ScriptFault.TheVariants.{BadRow, Long}

@@ -1,4 +1,2 @@
-mod RecordLemmas
 mod Digits
-pub mod RowsTaken
 pub mod Answering

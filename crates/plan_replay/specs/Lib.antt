@@ -1,4 +1,3 @@
 pub mod Requests
-pub mod Records
 pub mod Starts
 pub mod Script

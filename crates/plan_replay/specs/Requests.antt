@@ -3,16 +3,13 @@ use Rattle.std.specs.Prelude.{ℕ, List, length, nat_lt, codes, Option, Some, No
 use Rattle.std.specs.Option.{option_and_then}
 use Rattle.std.specs.Str.{bytes_eq}
 use Rattle.csv.specs.Records.{field_at}
+use Rattle.csv_rows.specs.Rows.{Row}
 use Rattle.plan_types.specs.declared.call.Call.{Call}
 use Rattle.plan_types.specs.declared.call.Call.TheVariants.{Stop, Resume}
 use Rattle.plan_text.specs.Names.{Text}
 use Rattle.plan_text.specs.Named.{Named}
 use Rattle.plan_text.specs.Calls.{call_of, caller_of, verb_of}
 use Rattle.plan_replay.specs.declared.request.Request.{Request}
-
--- a record is its fields
-abbrev pub Row : Type 0
-Row = List (List ℕ)
 
 abbrev pub stop_by : List ℕ → Option Call
 stop_by word =

@@ -3,18 +3,23 @@ use Rattle.std.specs.Prelude.{ℕ, ◌+◌, Bool, List, [], ◌∷◌, ◌++◌,
 use Rattle.std.specs.Prelude.{Result, Ok, Err, if◌then◌else◌}
 use Rattle.std.specs.Fmt.{decimal}
 use Rattle.csv.specs.Reading.{default_config, records, strip_bom}
+use Rattle.cell_text.specs.declared.input.InputFault.{InputFault}
+use Rattle.cell_text.specs.declared.input.InputFault.TheVariants as input
+use Rattle.csv_rows.specs.Rows.{Row}
 use Rattle.plan_types.specs.Table.{place_count}
 use Rattle.plan_rules.specs.declared.state.State.{State}
 use Rattle.plan_rules.specs.Reply.{next, reply}
 use Rattle.plan_text.specs.Named.{Named}
 use Rattle.plan_text.specs.Answers.{answer_text}
-use Rattle.plan_replay.specs.Requests.{Row, request_of}
+use Rattle.plan_replay.specs.Requests.{request_of}
 use Rattle.plan_replay.specs.Starts.{start_in}
 use Rattle.plan_replay.specs.declared.request.Request.{Request}
 use Rattle.plan_replay.specs.declared.script.ScriptFault.{ScriptFault}
 use Rattle.plan_replay.specs.declared.script.ScriptFault.TheVariants.{NoStart, BadStart, BadRow, Long}
 use Rattle.plan_replay.specs.declared.script.Outcome.{Outcome}
 use Rattle.plan_replay.specs.declared.script.Outcome.TheVariants.{Clean, Refused}
+use Rattle.plan_replay.specs.declared.script.ReplayFault.{ReplayFault}
+use Rattle.plan_replay.specs.declared.script.ReplayFault.TheVariants.{Read, Memory}
 
 -- the most records after record 0 that are answered
 abbrev pub max_records : ℕ
@@ -86,3 +91,8 @@ rows_start n (row ∷ rows) = start_in (place_count n.plan) row
 
 abbrev pub script_start : Named → List ℕ → Result State ScriptFault
 script_start n script = rows_start n (records default_config (strip_bom script))
+
+-- the fault of a replay that couldn't read its records
+abbrev pub replay_fault_of : InputFault → ReplayFault
+replay_fault_of input.Read = Read
+replay_fault_of input.Memory = Memory

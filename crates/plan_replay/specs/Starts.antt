@@ -6,9 +6,9 @@ use Rattle.std.specs.List.{list_all, range_with_len}
 use Rattle.std.specs.Option.{ok_or, option_and_then}
 use Rattle.std.specs.Str.{bytes_eq}
 use Rattle.csv.specs.Records.{field_at}
+use Rattle.csv_rows.specs.Rows.{Row}
 use Rattle.plan_rules.specs.declared.state.State.{State}
 use Rattle.plan_rules.specs.State.{start_state, last_stamp}
-use Rattle.plan_replay.specs.Requests.{Row}
 use Rattle.plan_replay.specs.declared.script.ScriptFault.{ScriptFault}
 use Rattle.plan_replay.specs.declared.script.ScriptFault.TheVariants.{NoStart, BadStart}
 

@@ -2,7 +2,6 @@
 #![tactic(auto)]
 
 pub mod opening;
-mod records;
 pub mod replay;
 pub mod request;
 pub mod script;

@@ -1,13 +1,12 @@
 //! The start of a script alone.
 ghost use Rattle.std.specs.Prelude.{◌≡◌, List, IfOk};
-ghost use Rattle.plan_replay.specs.Records.{HasRows, IsPlain};
-ghost use Rattle.plan_replay.specs.Requests.{Row};
+ghost use Rattle.csv_rows.specs.Rows.{HasRows, IsPlain, Row};
 ghost use Rattle.plan_replay.specs.Script as spec;
 
-use crate::records::read_row;
 use crate::script::{ReplayFault, ScriptFault};
 use crate::start::read_start;
 use csv::{ByteRecord, Reader, ReaderBuilder};
+use csv_rows::read_row;
 use plan_rules::State;
 use plan_text::NamedPlan;
 use std::alloc::Global;

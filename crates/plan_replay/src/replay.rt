@@ -1,16 +1,14 @@
 //! Answers a script.
 ghost use Rattle.std.specs.Prelude.{◌≡◌, ◌++◌, ◌<◌, List, OnOk, IfOk, string_bytes};
-ghost use Rattle.csv.specs.Records.{fields_of};
+ghost use Rattle.csv_rows.specs.Rows.{HasRows, IsPlain, Row};
 ghost use Rattle.plan_text.specs.Answers.{answer_text};
-ghost use Rattle.plan_replay.specs.Records.{HasRows, IsPlain};
-ghost use Rattle.plan_replay.specs.Requests.{Row};
 ghost use Rattle.plan_replay.specs.Script as spec;
 
-use crate::records::read_row;
 use crate::request::read_request;
 use crate::script::{Answered, Outcome, ReplayFault, ScriptFault};
 use crate::start::{plates, read_start};
 use csv::{ByteRecord, Reader, ReaderBuilder};
+use csv_rows::read_row;
 use plan_rules::{State, apply};
 use plan_text::NamedPlan;
 use plan_types::Answer;

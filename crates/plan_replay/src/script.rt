@@ -1,8 +1,9 @@
 //! How a script ends, and why a replay fails.
 ghost use Rattle.std.specs.Prelude.{◌≡◌, Some};
-ghost use Rattle.plan_replay.specs.Script.{fault_text};
+ghost use Rattle.plan_replay.specs.Script.{fault_text, replay_fault_of};
 ghost use Rattle.plan_replay.specs.declared.script.ReplayFault.TheVariants.{Memory};
 
+use cell_text::InputFault;
 use std::alloc::AllocError;
 use std::fmt;
 use std::marker::Model;
@@ -88,5 +89,16 @@ impl From<AllocError> for ReplayFault {
 
     fn from(_error: AllocError) -> ReplayFault {
         ReplayFault::Memory
+    }
+}
+
+impl From<InputFault> for ReplayFault {
+    ghost from_gives = { λ fault given. given ≡ replay_fault_of fault };
+
+    fn from(fault: InputFault) -> ReplayFault {
+        match fault {
+            InputFault::Read => ReplayFault::Read,
+            InputFault::Memory => ReplayFault::Memory,
+        }
     }
 }

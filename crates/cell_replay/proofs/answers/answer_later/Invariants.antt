@@ -2,9 +2,9 @@ use Rattle.std.proofs.Common.{ℕ, List, ◌≡◌, ◌++◌, Some}
 use Rattle.std.specs.List.{concat}
 use Rattle.std.specs.Io.KnownBytes.{Appends}
 use Rattle.csv.specs.Records.{fields_of}
+use Rattle.csv_rows.specs.Rows.{IsPlain, Row}
 use Rattle.cell_replay.specs.Limited.{bytes_left}
-use Rattle.cell_replay.specs.Records.{RowsLeft, IsPlain}
-use Rattle.cell_replay.specs.Requests.{Row}
+use Rattle.cell_replay.specs.Records.{RowsLeft}
 use Rattle.cell_replay.specs.Script.{is_cut_of}
 use Rattle.cell_replay.specs.Writing.{lines_left, outcome_left}
 use Rattle.cell_replay.proofs.answers.answer_later.Given as goal

@@ -5,7 +5,7 @@ use Rattle.plan_replay.specs.Script.{answers_of, max_records}
 use Rattle.plan_replay.specs.declared.script.ScriptFault.TheVariants.{BadRow, Long}
 use Rattle.plan_replay.specs.declared.script.Outcome.TheVariants.{Clean, Refused}
 use Rattle.plan_replay.proofs.Answering.{answers_of-bad, answers_of-long, answers_of-none, ended, ok_more, one_answered}
-use Rattle.plan_replay.proofs.RowsTaken.{takes-none, takes-some}
+use Rattle.csv_rows.proofs.RowsTaken.{takes-none, takes-some}
 use Rattle.plan_replay.proofs.replay.answer_later.Goals as goal
 
 pub rows-init : goal.rows-init

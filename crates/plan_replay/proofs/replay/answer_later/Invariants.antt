@@ -1,6 +1,5 @@
 use Rattle.std.proofs.Common.{List, ◌≡◌, string_bytes}
-use Rattle.plan_replay.specs.Records.{HasRows, IsPlain}
-use Rattle.plan_replay.specs.Requests.{Row}
+use Rattle.csv_rows.specs.Rows.{HasRows, IsPlain, Row}
 use Rattle.plan_replay.specs.Script.{answers_of, with_text}
 use Rattle.plan_replay.proofs.replay.answer_later.Given as goal
 

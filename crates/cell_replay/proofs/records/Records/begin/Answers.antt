@@ -1,7 +1,7 @@
 use Rattle.csv.specs.Records.{fields_of}
 use Rattle.cell_replay.specs.Limited.{bytes_left}
 use Rattle.cell_replay.specs.Script.{is_cut_of}
-use Rattle.cell_replay.proofs.RowsTaken.{left-first}
+use Rattle.cell_replay.proofs.RowsLeft.{left-first}
 use Rattle.cell_replay.proofs.records.Records.begin.Goals as goal
 
 pub returns-clause-left : goal.returns-clause-left

@@ -2,7 +2,7 @@ use Rattle.std.proofs.Common.{◌≡◌, ◌∷◌, ◌∙◌, ◌||◌, not, tr
 use Rattle.csv.specs.Records.{fields_of}
 use Rattle.cell_replay.specs.Limited.{bytes_left}
 use Rattle.cell_replay.specs.Script.{is_cut_of, used}
-use Rattle.cell_replay.proofs.RowsTaken.{left-found}
+use Rattle.cell_replay.proofs.RowsLeft.{left-found}
 use Rattle.cell_replay.proofs.records.Records.next.Goals as goal
 
 pub returns-then-self-clause-gives : goal.returns-then-self-clause-gives

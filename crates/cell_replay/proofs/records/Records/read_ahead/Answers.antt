@@ -2,7 +2,7 @@ use Rattle.std.proofs.Common.{◌≡◌, true, rules}
 use Rattle.csv.specs.Records.{fields_of}
 use Rattle.cell_replay.specs.Limited.{bytes_left}
 use Rattle.cell_replay.specs.Script.{is_cut_of}
-use Rattle.cell_replay.proofs.RowsTaken.{gives-row}
+use Rattle.cell_replay.proofs.RowsLeft.{gives-row}
 use Rattle.cell_replay.proofs.records.Records.read_ahead.Goals as goal
 
 pub returns-in-Some-clause-found : goal.returns-in-Some-clause-found

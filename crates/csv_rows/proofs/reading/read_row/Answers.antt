@@ -1,6 +1,6 @@
 use Rattle.csv.specs.Records.{fields_of}
-use Rattle.plan_replay.proofs.RowsTaken.{takes-row}
-use Rattle.plan_replay.proofs.records.read_row.Goals as goal
+use Rattle.csv_rows.proofs.RowsTaken.{takes-row}
+use Rattle.csv_rows.proofs.reading.read_row.Goals as goal
 
 pub returns-in-Ok-clause-found : goal.returns-in-Ok-clause-found
 returns-in-Ok-clause-found g c rows has =

@@ -6,7 +6,10 @@ use Rattle.csv.specs.Reading.{records_from, source_of}
 use Rattle.csv.specs.declared.parser.State.{State}
 use Rattle.csv.specs.declared.reader.Reader.{Reader}
 use Rattle.csv.specs.declared.reader.Trim.TheVariants as trim
-use Rattle.plan_replay.specs.Requests.{Row}
+
+-- a record is its fields
+abbrev pub Row : Type 0
+Row = List (List ℕ)
 
 -- it gives records of any length as they are, the first one too
 abbrev pub IsPlain : {R : Type 0} → Reader R → Type 0

@@ -1,14 +1,13 @@
 -- What a read of a record does to the records that a reader has left.
-use Rattle.std.proofs.Common.{ℕ, zero, suc, ◌≡◌, ◌<◌, ◌+◌, ◌-◌, ◌||◌, not, take, Bool, true, false, List, [], ◌∷◌, length, Option, Some, None, refl, sym, ◌∙◌, ap, ap₂, arith}
+use Rattle.std.proofs.Common.{ℕ, zero, suc, ◌≡◌, ◌<◌, ◌+◌, Bool, true, false, List, [], ◌∷◌, length, Option, Some, None, refl, sym, ◌∙◌, ap, ap₂, arith}
 use Rattle.csv.specs.Machine.{Read, ends_at_end, next_record}
 use Rattle.csv.specs.Reading.{ReadRecord, Reached, default_config, records_from, records_next, reader_config, reader_state}
 use Rattle.csv.specs.declared.parser.Config.{Config}
 use Rattle.csv.specs.declared.parser.State.{State}
 use Rattle.csv.specs.declared.reader.Reader.{Reader}
 use Rattle.csv.proofs.ReadFacts.{rows-end, rows-more}
-use Rattle.plan_replay.specs.Records.{HasRows, TakesRow, rows_from}
-use Rattle.plan_replay.specs.Requests.{Row}
-use Rattle.plan_replay.proofs.RecordLemmas.{next_record-shorter, next_record-takes}
+use Rattle.csv_rows.specs.Rows.{HasRows, Row, TakesRow, rows_from}
+use Rattle.csv_rows.proofs.RecordLemmas.{next_record-shorter, next_record-takes}
 
 -- the records are the same for any number of steps that is large enough
 records_from-enough : (cfg : Config) (n m : ℕ) (s : State) (xs : List ℕ) → ends_at_end s ≡ false → length xs < n → length xs < m → records_from cfg n s xs ≡ records_from cfg m s xs

@@ -1,0 +1,2 @@
+mod RecordLemmas
+pub mod RowsTaken
