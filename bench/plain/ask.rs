@@ -4,8 +4,8 @@
 //! line for each: its name, the nanoseconds that it took, and the digest, or 0.
 //!
 //! `d` is a digest of the replies to random calls. 1,000,000 times: `w` asks on the word, `m` under
-//! the Mutex, `b` without rules; `s` makes a step of a word. By `W` and `M` six threads ask 150,000
-//! times each.
+//! the Mutex, `b` without rules; `s` makes a step of a word, `t` one that first tests the word. By `W`
+//! and `M` six threads ask 150,000 times each.
 
 use std::hint::black_box;
 use std::io::Read;
@@ -228,6 +228,23 @@ fn step(w: u64, m: Machine, call: Call) -> (Answer, u64) {
     match next { Ok(next) => (Answer::Done, next), Err(refusal) => (Answer::Refused(refusal), w) }
 }
 
+// The codes that the five bits of each zone may have, each as a set bit.
+const CODES: [u32; 6] = [0x27_0203, 0x4700_0203, 0x4727_0203, 0x27_0203, 0x4700_0203, 0x27_0203];
+
+// Whether a word is a state's: its zones have codes that they may have, no plate is on its way to a
+// full place, and the press has one plate at most.
+fn is_state(w: u64) -> bool {
+    let is_lawful = |z| {
+        let onto = row(z, posture(w, z)).filter(|_| flag(w, z)).map_or(0, |row| 1 << row.3);
+        CODES[z] >> (w >> (5 * z) & 31) & 1 == 1 && w & onto == 0
+    };
+    w >> 61 == 0 && (0..6).all(is_lawful) && (!full(w, 35) || !full(w, 34) && posture(w, 2) != IN)
+}
+
+fn tested_step(w: u64, m: Machine, call: Call) -> Option<(Answer, u64)> {
+    is_state(w).then(|| step(w, m, call))
+}
+
 fn stamp(w: u64) -> u32 { (w >> 40 & 0xF_FFFF) as u32 }
 
 trait Shared: Sync {
@@ -314,6 +331,14 @@ fn steps() {
     let mut word = 0;
     for n in 0..1_000_000 {
         word = black_box(step(word, black_box(Press), black_box(ROUND[n % 8]))).1;
+    }
+}
+
+fn tested_steps() {
+    let mut word = 0;
+    for n in 0..1_000_000 {
+        let Some((_, next)) = black_box(tested_step(word, black_box(Press), black_box(ROUND[n % 8]))) else { return };
+        word = next;
     }
 }
 
@@ -404,6 +429,7 @@ fn main() -> std::io::Result<()> {
                 "digest"
             }
             's' => { steps(); "step" }
+            't' => { tested_steps(); "tested" }
             'w' => { alone(Word(AtomicU64::new(0))); "word" }
             'm' => { alone(Locked(Mutex::new(0))); "mutex" }
             'b' => { alone(Bare(AtomicU64::new(0))); "bare" }
