@@ -147,47 +147,94 @@ impl<T: Drop> From<AllocFailed<T>> for Wrong {
     }
 }
 
-/// What is wrong with a document, and where.
-#[derive(Debug, Drop)]
-pub struct DocumentFault {
+/// Where in a document something is wrong.
+#[derive(Clone, Copy, Debug, PartialEq, Eq)]
+pub struct Location {
     /// The row.
     pub row: RowOf,
     /// The key in the row, if the fault is about one.
     pub key: Option<Key>,
     /// The number of the text in the key's list, from 0, if the fault is about one.
     pub item: Option<usize>,
+}
+
+impl RowOf {
+    /// The row as a whole.
+    pub fn whole(self) -> Location {
+        Location {
+            row: self,
+            key: None,
+            item: None,
+        }
+    }
+
+    /// A key of the row.
+    pub fn key(self, key: Key) -> Location {
+        Location {
+            row: self,
+            key: Some(key),
+            item: None,
+        }
+    }
+
+    /// A text in the list of a key of the row.
+    pub fn item(self, key: Key, item: usize) -> Location {
+        Location {
+            row: self,
+            key: Some(key),
+            item: Some(item),
+        }
+    }
+}
+
+impl Location {
+    /// The fault that this is wrong here.
+    pub fn fault(self, wrong: Wrong) -> DocumentFault {
+        DocumentFault {
+            location: self,
+            wrong,
+        }
+    }
+}
+
+/// What is wrong with a document, and where.
+#[derive(Debug, Drop)]
+pub struct DocumentFault {
+    /// Where.
+    pub location: Location,
     /// What is wrong.
     pub wrong: Wrong,
 }
 
-impl DocumentFault {
-    /// A fault of a key.
-    pub fn at(row: RowOf, key: Key, wrong: Wrong) -> DocumentFault {
-        DocumentFault {
-            row,
-            key: Some(key),
-            item: None,
-            wrong,
+/// A result whose error doesn't say yet where in a document it is.
+pub trait At<T> {
+    /// The same result. Its error is at this location.
+    fn at(self, location: Location) -> Result<T, DocumentFault>;
+}
+
+impl<T: Drop> At<T> for Result<T, Wrong> {
+    fn at(self, location: Location) -> Result<T, DocumentFault> {
+        match self {
+            Ok(value) => Ok(value),
+            Err(wrong) => Err(location.fault(wrong)),
         }
     }
+}
 
-    /// A fault of a text in the list of a key.
-    pub fn in_list(row: RowOf, key: Key, item: usize, wrong: Wrong) -> DocumentFault {
-        DocumentFault {
-            row,
-            key: Some(key),
-            item: Some(item),
-            wrong,
+impl<T: Drop> At<T> for Result<T, AllocError> {
+    fn at(self, location: Location) -> Result<T, DocumentFault> {
+        match self {
+            Ok(value) => Ok(value),
+            Err(AllocError) => Err(location.fault(Wrong::Memory)),
         }
     }
+}
 
-    /// A fault of a row.
-    pub fn of(row: RowOf, wrong: Wrong) -> DocumentFault {
-        DocumentFault {
-            row,
-            key: None,
-            item: None,
-            wrong,
+impl<T: Drop> At<()> for Result<(), AllocFailed<T>> {
+    fn at(self, location: Location) -> Result<(), DocumentFault> {
+        match self {
+            Ok(()) => Ok(()),
+            Err(_) => Err(location.fault(Wrong::Memory)),
         }
     }
 }
@@ -234,12 +281,7 @@ impl From<DocumentFault> for PlanTextFault {
             Wrong::Memory => PlanTextFault::Memory,
             wrong => PlanTextFault::Row {
                 line: None,
-                fault: DocumentFault {
-                    row: fault.row,
-                    key: fault.key,
-                    item: fault.item,
-                    wrong,
-                },
+                fault: fault.location.fault(wrong),
             },
         }
     }
@@ -291,9 +333,9 @@ impl fmt::Display for RowOf {
 
 impl fmt::Display for DocumentFault {
     fn fmt<W: fmt::Write>(&self, f: &mut fmt::Formatter<W>) -> fmt::Result {
-        let row = self.row;
+        let Location { row, key, .. } = self.location;
         write!(f, "{row}: ")?;
-        if let Some(key) = self.key {
+        if let Some(key) = key {
             let word = key.word();
             write!(f, "{word}: ")?;
         }

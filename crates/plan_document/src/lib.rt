@@ -10,6 +10,6 @@ mod skipping;
 mod values;
 
 pub use document::{Document, Given, MachineRow, PoseRow, WayRow, ZoneRow};
-pub use fault::{DocumentFault, Key, PlanTextFault, RowOf, Wrong};
+pub use fault::{DocumentFault, Key, Location, PlanTextFault, RowOf, Wrong};
 pub use reading::{MAX_BYTES, plan_of, read_plan};
 pub use resolving::ProgrammedPlan;

@@ -2,7 +2,7 @@
 //! `toml_parser`. The document has been read as TOML before.
 ghost use Rattle.std.specs.Prelude.{◌≡◌, ◌+◌, ◌==◌, take, count_by};
 
-use crate::fault::{DocumentFault, Key, RowOf, Wrong};
+use crate::fault::{DocumentFault, Key, Location, RowOf, Wrong};
 use crate::skipping::{
     after_comma, after_line, after_opening, after_value, item_in, key_and_value,
 };
@@ -68,14 +68,15 @@ pub fn line_of(
 /// The steps to what a fault is about.
 fn steps_of(alloc: Global, fault: &DocumentFault) -> Result<Vec<Step<'_>>, AllocError> {
     let mut steps = Vec::new(alloc);
-    push_row(&mut steps, fault.row)?;
-    if let Some(key) = fault.key {
+    let Location { row, key, item } = fault.location;
+    push_row(&mut steps, row)?;
+    if let Some(key) = key {
         steps.push(Step::Key(key.word()))?;
     }
-    if let Some(item) = fault.item {
+    if let Some(item) = item {
         steps.push(Step::Item(item))?;
     }
-    match (fault.key, &fault.wrong) {
+    match (key, &fault.wrong) {
         (None, Wrong::Unknown(name))
         | (Some(Key::Gives), Wrong::NoZone(name) | Wrong::Foreign(name))
         | (Some(Key::Gives), Wrong::NoPosture { zone: name, .. }) => {

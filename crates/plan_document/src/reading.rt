@@ -2,10 +2,10 @@
 ghost use Rattle.cell_text.specs.Input.{TakesAtMost};
 
 use crate::document::{Document, MachineRow, PoseRow, WayRow, ZoneRow};
-use crate::fault::{DocumentFault, Key, PlanTextFault, RowOf, Wrong};
+use crate::fault::{At, DocumentFault, Key, PlanTextFault, RowOf, Wrong};
 use crate::locating::{line_at, line_of};
 use crate::resolving::{ProgrammedPlan, programmed_plan_of};
-use crate::values::{check_keys, gives_of, required, text_of, texts_of, truth_of, way_of};
+use crate::values::{check_keys, gives_in, text_of, texts_of, truth_of, way_of};
 use cell_text::{InputFault, read_up_to};
 use std::alloc::{AllocError, Global};
 use std::io::Read;
@@ -44,7 +44,10 @@ pub fn plan_of(alloc: Global, bytes: &[u8]) -> Result<ProgrammedPlan, PlanTextFa
         return Err(PlanTextFault::Long);
     }
     match toml::table_from_slice(alloc, bytes) {
-        Ok(table) => plan_in(alloc, &table).map_err(|fault| with_line(alloc, bytes, fault)),
+        Ok(table) => match plan_in(alloc, &table) {
+            Ok(plan) => Ok(plan),
+            Err(fault) => Err(with_line(alloc, bytes, fault)),
+        },
         Err(error) if error.is_memory() => Err(PlanTextFault::Memory),
         Err(error) => {
             let before = error.span().map_or(0, |span| span.start);
@@ -74,42 +77,42 @@ fn with_line(alloc: Global, bytes: &[u8], fault: PlanTextFault) -> PlanTextFault
 
 /// The rows in a table.
 pub fn document_in(alloc: Global, table: &Table) -> Result<Document, DocumentFault> {
-    check_keys(alloc, table, &TOP_KEYS).map_err(|wrong| DocumentFault::of(RowOf::Document, wrong))?;
+    check_keys(alloc, table, &TOP_KEYS).at(RowOf::Document.whole())?;
     let machines = machines_at(alloc, table)?;
     let zones = zones_at(alloc, table)?;
     Ok(Document { machines, zones })
 }
 
 fn machines_at(alloc: Global, table: &Table) -> Result<Vec<MachineRow>, DocumentFault> {
-    let at = |wrong: Wrong| DocumentFault::at(RowOf::Document, Key::Machine, wrong);
+    let location = RowOf::Document.key(Key::Machine);
     let Some(value) = table.get("machine") else {
-        return Err(at(Wrong::Missing));
+        return Err(location.fault(Wrong::Missing));
     };
     let Some(items) = value.as_array() else {
-        return Err(at(Wrong::NoTables));
+        return Err(location.fault(Wrong::NoTables));
     };
     let mut machines = Vec::new(alloc);
     let values = items.as_slice();
     'machines: for i in 0..values.len() {
         let row = machine_of(alloc, &values[i], i)?;
-        machines.push(row).map_err(|_| at(Wrong::Memory))?;
+        machines.push(row).at(location)?;
     }
     Ok(machines)
 }
 
 fn zones_at(alloc: Global, table: &Table) -> Result<Vec<ZoneRow>, DocumentFault> {
-    let at = |wrong: Wrong| DocumentFault::at(RowOf::Document, Key::Zone, wrong);
+    let location = RowOf::Document.key(Key::Zone);
     let mut zones = Vec::new(alloc);
     let Some(value) = table.get("zone") else {
         return Ok(zones);
     };
     let Some(items) = value.as_array() else {
-        return Err(at(Wrong::NoTables));
+        return Err(location.fault(Wrong::NoTables));
     };
     let values = items.as_slice();
     'zones: for i in 0..values.len() {
         let row = zone_of(alloc, &values[i], i)?;
-        zones.push(row).map_err(|_| at(Wrong::Memory))?;
+        zones.push(row).at(location)?;
     }
     Ok(zones)
 }
@@ -117,9 +120,9 @@ fn zones_at(alloc: Global, table: &Table) -> Result<Vec<ZoneRow>, DocumentFault>
 fn machine_of(alloc: Global, value: &Value, machine: usize) -> Result<MachineRow, DocumentFault> {
     let row = RowOf::Machine(machine);
     let Some(table) = value.as_table() else {
-        return Err(DocumentFault::at(RowOf::Document, Key::Machine, Wrong::NoTables));
+        return Err(RowOf::Document.key(Key::Machine).fault(Wrong::NoTables));
     };
-    check_keys(alloc, table, &MACHINE_KEYS).map_err(|wrong| DocumentFault::of(row, wrong))?;
+    check_keys(alloc, table, &MACHINE_KEYS).at(row.whole())?;
     let name = required_text(alloc, table, row, Key::Name)?;
     let places = optional_texts(alloc, table, row, Key::Places)?;
     let poses = poses_at(alloc, table, machine)?;
@@ -133,18 +136,18 @@ fn machine_of(alloc: Global, value: &Value, machine: usize) -> Result<MachineRow
 }
 
 fn poses_at(alloc: Global, table: &Table, machine: usize) -> Result<Vec<PoseRow>, DocumentFault> {
-    let at = |wrong: Wrong| DocumentFault::at(RowOf::Machine(machine), Key::Poses, wrong);
+    let location = RowOf::Machine(machine).key(Key::Poses);
     let mut poses = Vec::new(alloc);
     let Some(value) = table.get("poses") else {
         return Ok(poses);
     };
     let Some(items) = value.as_array() else {
-        return Err(at(Wrong::NoTables));
+        return Err(location.fault(Wrong::NoTables));
     };
     let values = items.as_slice();
     'poses: for i in 0..values.len() {
         let row = pose_of(alloc, &values[i], machine, i)?;
-        poses.push(row).map_err(|_| at(Wrong::Memory))?;
+        poses.push(row).at(location)?;
     }
     Ok(poses)
 }
@@ -157,17 +160,17 @@ fn pose_of(
 ) -> Result<PoseRow, DocumentFault> {
     let row = RowOf::Pose { machine, pose };
     let Some(table) = value.as_table() else {
-        return Err(DocumentFault::at(RowOf::Machine(machine), Key::Poses, Wrong::NoTables));
+        return Err(
+            RowOf::Machine(machine)
+                .key(Key::Poses)
+                .fault(Wrong::NoTables),
+        );
     };
-    check_keys(alloc, table, &POSE_KEYS).map_err(|wrong| DocumentFault::of(row, wrong))?;
+    check_keys(alloc, table, &POSE_KEYS).at(row.whole())?;
     let name = required_text(alloc, table, row, Key::Name)?;
-    let gives = required(table, "gives")
-        .and_then(|value| gives_of(alloc, value))
-        .map_err(|wrong| DocumentFault::at(row, Key::Gives, wrong))?;
+    let gives = gives_in(alloc, table).at(row.key(Key::Gives))?;
     let after_moving = match table.get("after_moving") {
-        Some(value) => {
-            truth_of(value).map_err(|wrong| DocumentFault::at(row, Key::AfterMoving, wrong))?
-        }
+        Some(value) => truth_of(value).at(row.key(Key::AfterMoving))?,
         None => false,
     };
     Ok(PoseRow {
@@ -180,9 +183,9 @@ fn pose_of(
 fn zone_of(alloc: Global, value: &Value, zone: usize) -> Result<ZoneRow, DocumentFault> {
     let row = RowOf::Zone(zone);
     let Some(table) = value.as_table() else {
-        return Err(DocumentFault::at(RowOf::Document, Key::Zone, Wrong::NoTables));
+        return Err(RowOf::Document.key(Key::Zone).fault(Wrong::NoTables));
     };
-    check_keys(alloc, table, &ZONE_KEYS).map_err(|wrong| DocumentFault::of(row, wrong))?;
+    check_keys(alloc, table, &ZONE_KEYS).at(row.whole())?;
     let name = required_text(alloc, table, row, Key::Name)?;
     let host = required_text(alloc, table, row, Key::Host)?;
     let guest = required_text(alloc, table, row, Key::Guest)?;
@@ -204,9 +207,9 @@ fn required_text(
     key: Key,
 ) -> Result<String, DocumentFault> {
     let Some(value) = table.get(key.word()) else {
-        return Err(DocumentFault::at(row, key, Wrong::Missing));
+        return Err(row.key(key).fault(Wrong::Missing));
     };
-    text_of(alloc, value).map_err(|wrong| DocumentFault::at(row, key, wrong))
+    text_of(alloc, value).at(row.key(key))
 }
 
 fn optional_texts(
@@ -216,7 +219,7 @@ fn optional_texts(
     key: Key,
 ) -> Result<Vec<String>, DocumentFault> {
     match table.get(key.word()) {
-        Some(value) => texts_of(alloc, value).map_err(|wrong| DocumentFault::at(row, key, wrong)),
+        Some(value) => texts_of(alloc, value).at(row.key(key)),
         None => Ok(Vec::new(alloc)),
     }
 }
@@ -228,10 +231,7 @@ fn optional_way(
     key: Key,
 ) -> Result<Option<WayRow>, DocumentFault> {
     match table.get(key.word()) {
-        Some(value) => match way_of(alloc, value) {
-            Ok(way) => Ok(Some(way)),
-            Err(wrong) => Err(DocumentFault::at(row, key, wrong)),
-        },
+        Some(value) => Ok(Some(way_of(alloc, value).at(row.key(key))?)),
         None => Ok(None),
     }
 }

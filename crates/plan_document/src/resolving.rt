@@ -1,7 +1,7 @@
 //! From the names in a document's rows to numbers: the tables of a plan, and the machines' programs.
 
 use crate::document::{Document, Given, MachineRow, PoseRow, WayRow, ZoneRow};
-use crate::fault::{DocumentFault, Key, PlanTextFault, RowOf, Wrong};
+use crate::fault::{At, DocumentFault, Key, PlanTextFault, RowOf, Wrong};
 use crate::values::copy;
 use plan_explorer::{MAX_STEPS, ProgramFault, Programs};
 use plan_text::calls::Verb;
@@ -73,11 +73,11 @@ fn machine_names(alloc: Global, document: &Document) -> Result<Names, DocumentFa
     let mut names = Names::new(alloc);
     for i in 0..document.machines.len() {
         let name = document.machines[i].name.as_str();
-        let at = |wrong: Wrong| DocumentFault::at(RowOf::Machine(i), Key::Name, wrong);
-        add_name(alloc, &mut names, name, usize::from(MAX_MACHINES)).map_err(at)?;
+        let location = RowOf::Machine(i).key(Key::Name);
+        add_name(alloc, &mut names, name, usize::from(MAX_MACHINES)).at(location)?;
         if is_reserved(name) {
-            let name = copy(alloc, name).map_err(|_| at(Wrong::Memory))?;
-            return Err(at(Wrong::Reserved(name)));
+            let name = copy(alloc, name).at(location)?;
+            return Err(location.fault(Wrong::Reserved(name)));
         }
     }
     Ok(names)
@@ -87,11 +87,7 @@ fn zone_names(alloc: Global, document: &Document) -> Result<Names, DocumentFault
     let mut names = Names::new(alloc);
     for i in 0..document.zones.len() {
         let name = document.zones[i].name.as_str();
-        add_name(alloc, &mut names, name, MAX_ZONES).map_err(|wrong| DocumentFault::at(
-            RowOf::Zone(i),
-            Key::Name,
-            wrong,
-        ))?;
+        add_name(alloc, &mut names, name, MAX_ZONES).at(RowOf::Zone(i).key(Key::Name))?;
     }
     Ok(names)
 }
@@ -123,14 +119,12 @@ fn keep_places(
     let at = RowOf::Machine(machine);
     let Ok(keeper) = u8::try_from(machine) else {
         let wrong = Wrong::TooMany(usize::from(MAX_MACHINES));
-        return Err(DocumentFault::at(at, Key::Places, wrong));
+        return Err(at.key(Key::Places).fault(wrong));
     };
     for (item, place) in row.places.iter().enumerate() {
-        let in_list = |wrong: Wrong| DocumentFault::in_list(at, Key::Places, item, wrong);
-        add_name(alloc, &mut kept.places, place.as_str(), MAX_PLACES).map_err(in_list)?;
-        kept.keepers
-            .push(keeper)
-            .map_err(|_| in_list(Wrong::Memory))?;
+        let location = at.item(Key::Places, item);
+        add_name(alloc, &mut kept.places, place.as_str(), MAX_PLACES).at(location)?;
+        kept.keepers.push(keeper).at(location)?;
     }
     Ok(())
 }
@@ -144,8 +138,7 @@ fn plan_zones(
     let mut rows = Vec::new(alloc);
     for i in 0..document.zones.len() {
         let row = plan_zone(alloc, &document.zones[i], RowOf::Zone(i), machines, places)?;
-        rows.push(row)
-            .map_err(|_| DocumentFault::of(RowOf::Zone(i), Wrong::Memory))?;
+        rows.push(row).at(RowOf::Zone(i).whole())?;
     }
     Ok(rows)
 }
@@ -157,14 +150,8 @@ fn plan_zone(
     machines: &Names,
     places: &Names,
 ) -> Result<PlanZone, DocumentFault> {
-    let host = machine_named(alloc, machines, row.host.as_str()).map_err(|wrong| DocumentFault::at(
-        at,
-        Key::Host,
-        wrong,
-    ))?;
-    let guest = machine_named(alloc, machines, row.guest.as_str()).map_err(
-        |wrong| DocumentFault::at(at, Key::Guest, wrong),
-    )?;
+    let host = machine_named(alloc, machines, row.host.as_str()).at(at.key(Key::Host))?;
+    let guest = machine_named(alloc, machines, row.guest.as_str()).at(at.key(Key::Guest))?;
     let inward = way_named(alloc, places, &row.inward, at, Key::Inward)?;
     let outward = way_named(alloc, places, &row.outward, at, Key::Outward)?;
     Ok(PlanZone {
@@ -199,12 +186,8 @@ fn way_named(
     let Some(way) = way else {
         return Ok(None);
     };
-    let from = place_named(alloc, places, way.from.as_str()).map_err(|wrong| DocumentFault::in_list(
-        at, key, 0, wrong,
-    ))?;
-    let to = place_named(alloc, places, way.to.as_str()).map_err(|wrong| DocumentFault::in_list(
-        at, key, 1, wrong,
-    ))?;
+    let from = place_named(alloc, places, way.from.as_str()).at(at.item(key, 0))?;
+    let to = place_named(alloc, places, way.to.as_str()).at(at.item(key, 1))?;
     Ok(Some(Way { from, to }))
 }
 
@@ -251,27 +234,23 @@ fn add_pose(
     zones: &Names,
 ) -> Result<(), DocumentFault> {
     let name = row.name.as_str();
-    let of_name = |wrong: Wrong| DocumentFault::at(at, Key::Name, wrong);
-    add_name(alloc, own, name, MAX_POSES).map_err(of_name)?;
-    let gives = gives_of(alloc, zones, &row.gives).map_err(|wrong| DocumentFault::at(
-        at,
-        Key::Gives,
-        wrong,
-    ))?;
+    let location = at.key(Key::Name);
+    add_name(alloc, own, name, MAX_POSES).at(location)?;
+    let gives = gives_of(alloc, zones, &row.gives).at(at.key(Key::Gives))?;
     if posed.poses.len() >= MAX_POSES {
-        return Err(of_name(Wrong::TooMany(MAX_POSES)));
+        return Err(location.fault(Wrong::TooMany(MAX_POSES)));
     }
     let Ok(machine) = u8::try_from(machine) else {
-        return Err(of_name(Wrong::TooMany(usize::from(MAX_MACHINES))));
+        return Err(location.fault(Wrong::TooMany(usize::from(MAX_MACHINES))));
     };
-    let name = copy(alloc, name).map_err(|_| of_name(Wrong::Memory))?;
-    posed.poses.push(name).map_err(|_| of_name(Wrong::Memory))?;
+    let name = copy(alloc, name).at(location)?;
+    posed.poses.push(name).at(location)?;
     let row = PlanPose {
         machine,
         after_moving: row.after_moving,
         gives,
     };
-    posed.rows.push(row).map_err(|_| of_name(Wrong::Memory))
+    posed.rows.push(row).at(location)
 }
 
 fn gives_of(
@@ -300,29 +279,35 @@ fn gives_of(
 
 /// The fault of tables in words of the document.
 fn table_fault(alloc: Global, document: &Document, fault: PlanFault) -> PlanTextFault {
-    let top = |key: Key, most: usize| DocumentFault::at(RowOf::Document, key, Wrong::TooMany(most));
-    let zone_at = |zone: usize, key: Key, wrong: Wrong| DocumentFault::at(
-        RowOf::Zone(zone),
-        key,
-        wrong,
-    );
     let fault = match fault {
         PlanFault::TooWide { missing } => return PlanTextFault::TooWide { missing },
-        PlanFault::TooManyMachines => top(Key::Machine, usize::from(MAX_MACHINES)),
-        PlanFault::TooManyZones => top(Key::Zone, MAX_ZONES),
-        PlanFault::TooManyPoses => top(Key::Poses, MAX_POSES),
-        PlanFault::TooManyPlaces | PlanFault::NoSuchKeeper { .. } => top(Key::Places, MAX_PLACES),
-        PlanFault::NoSuchHost { zone } => zone_at(zone, Key::Host, Wrong::Missing),
-        PlanFault::NoSuchGuest { zone } => zone_at(zone, Key::Guest, Wrong::Missing),
-        PlanFault::HostIsGuest { zone } => zone_at(zone, Key::Guest, Wrong::HostIsGuest),
-        PlanFault::InwardAstray { zone } => zone_at(zone, Key::Inward, Wrong::Astray),
-        PlanFault::OutwardAstray { zone } => zone_at(zone, Key::Outward, Wrong::Astray),
+        PlanFault::TooManyMachines => too_many(Key::Machine, usize::from(MAX_MACHINES)),
+        PlanFault::TooManyZones => too_many(Key::Zone, MAX_ZONES),
+        PlanFault::TooManyPoses => too_many(Key::Poses, MAX_POSES),
+        PlanFault::TooManyPlaces | PlanFault::NoSuchKeeper { .. } => too_many(
+            Key::Places,
+            MAX_PLACES,
+        ),
+        PlanFault::NoSuchHost { zone } => RowOf::Zone(zone).key(Key::Host).fault(Wrong::Missing),
+        PlanFault::NoSuchGuest { zone } => RowOf::Zone(zone).key(Key::Guest).fault(Wrong::Missing),
+        PlanFault::HostIsGuest { zone } => RowOf::Zone(zone)
+            .key(Key::Guest)
+            .fault(Wrong::HostIsGuest),
+        PlanFault::InwardAstray { zone } => RowOf::Zone(zone).key(Key::Inward).fault(Wrong::Astray),
+        PlanFault::OutwardAstray { zone } => RowOf::Zone(zone)
+            .key(Key::Outward)
+            .fault(Wrong::Astray),
         PlanFault::NoSuchMachine { pose } => {
-            DocumentFault::of(pose_at(document, pose), Wrong::Missing)
+            pose_at(document, pose).whole().fault(Wrong::Missing)
         }
         PlanFault::ForeignZone { pose, zone } => foreign_zone(alloc, document, pose, zone),
     };
     fault.into()
+}
+
+/// The fault that a document has more than `most` of what a key lists.
+fn too_many(key: Key, most: usize) -> DocumentFault {
+    RowOf::Document.key(key).fault(Wrong::TooMany(most))
 }
 
 /// The fault of a pose that gives a zone which its machine doesn't host.
@@ -330,8 +315,8 @@ fn foreign_zone(alloc: Global, document: &Document, pose: usize, zone: usize) ->
     let at = pose_at(document, pose);
     let name = document.zones.get(zone).map_or("", |row| row.name.as_str());
     match copy(alloc, name) {
-        Ok(name) => DocumentFault::at(at, Key::Gives, Wrong::Foreign(name)),
-        Err(AllocError) => DocumentFault::of(at, Wrong::Memory),
+        Ok(name) => at.key(Key::Gives).fault(Wrong::Foreign(name)),
+        Err(AllocError) => at.whole().fault(Wrong::Memory),
     }
 }
 
@@ -360,11 +345,7 @@ fn calls_of(
     let mut lists = Vec::new(alloc);
     for i in 0..document.machines.len() {
         let calls = calls_in(alloc, &document.machines[i], i, named)?;
-        lists.push(calls).map_err(|_| DocumentFault::at(
-            RowOf::Machine(i),
-            Key::Program,
-            Wrong::Memory,
-        ))?;
+        lists.push(calls).at(RowOf::Machine(i).key(Key::Program))?;
     }
     Ok(lists)
 }
@@ -378,13 +359,13 @@ fn calls_in(
     let at = RowOf::Machine(machine);
     let Ok(machine) = u8::try_from(machine) else {
         let wrong = Wrong::TooMany(usize::from(MAX_MACHINES));
-        return Err(DocumentFault::at(at, Key::Program, wrong));
+        return Err(at.key(Key::Program).fault(wrong));
     };
     let mut calls = Vec::new(alloc);
     for (item, line) in row.program.iter().enumerate() {
-        let in_list = |wrong: Wrong| DocumentFault::in_list(at, Key::Program, item, wrong);
-        let call = call_in(alloc, line.as_str(), machine, named).map_err(in_list)?;
-        calls.push(call).map_err(|_| in_list(Wrong::Memory))?;
+        let location = at.item(Key::Program, item);
+        let call = call_in(alloc, line.as_str(), machine, named).at(location)?;
+        calls.push(call).at(location)?;
     }
     Ok(calls)
 }
@@ -410,23 +391,13 @@ fn call_in(alloc: Global, line: &str, machine: u8, named: &NamedPlan) -> Result<
 /// The fault of programs in words of the document.
 fn program_fault(alloc: Global, document: &Document, fault: ProgramFault) -> DocumentFault {
     match fault {
-        ProgramFault::TooManyPrograms => DocumentFault::at(
-            RowOf::Document,
-            Key::Machine,
-            Wrong::TooMany(usize::from(MAX_MACHINES)),
-        ),
-        ProgramFault::TooLong { machine } => DocumentFault::in_list(
-            RowOf::Machine(machine),
-            Key::Program,
-            MAX_STEPS,
-            Wrong::TooManyLines(MAX_STEPS),
-        ),
-        ProgramFault::ForeignCall { machine, step } => DocumentFault::in_list(
-            RowOf::Machine(machine),
-            Key::Program,
-            step,
-            foreign_call(alloc, document, machine, step),
-        ),
+        ProgramFault::TooManyPrograms => too_many(Key::Machine, usize::from(MAX_MACHINES)),
+        ProgramFault::TooLong { machine } => RowOf::Machine(machine)
+            .item(Key::Program, MAX_STEPS)
+            .fault(Wrong::TooManyLines(MAX_STEPS)),
+        ProgramFault::ForeignCall { machine, step } => RowOf::Machine(machine)
+            .item(Key::Program, step)
+            .fault(foreign_call(alloc, document, machine, step)),
     }
 }
 

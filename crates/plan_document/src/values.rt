@@ -70,9 +70,9 @@ fn way_between(alloc: Global, from: &Value, to: &Value) -> Result<WayRow, Wrong>
     }
 }
 
-/// What a pose gives: a table from zones to postures.
-pub fn gives_of(alloc: Global, value: &Value) -> Result<Vec<Given>, Wrong> {
-    let Some(table) = value.as_table() else {
+/// What a pose gives: a table from zones to postures, which has to be there.
+pub fn gives_in(alloc: Global, pose: &Table) -> Result<Vec<Given>, Wrong> {
+    let Some(table) = required(pose, "gives")?.as_table() else {
         return Err(Wrong::NoTable);
     };
     let mut gives = Vec::new(alloc);
