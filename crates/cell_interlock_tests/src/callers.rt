@@ -2,7 +2,15 @@
 ghost use Rattle.std.specs.Prelude.{◌≡◌, IfSome};
 ghost use Rattle.cell_interlock.specs.Ends.{ArePassesOf, IsPassOf};
 ghost use Rattle.cell_interlock.specs.Fresh.{AreFresh};
-ghost use Rattle.cell_interlock_tests.specs.Held.{IsHeldAt, AreHeldAt};
+ghost use Rattle.cell_interlock_tests.specs.Held.{
+  IsHeldAt,
+  AreHeldAt,
+  AreTwoPassesOf,
+  AreThreeHeldAt,
+  AreThreePassesOf,
+  AreFourHeldAt,
+  AreFourPassesOf,
+};
 
 use cell_interlock::{Interlock, Look, Pass, Passes, Tried, Try};
 use cell_types::{Answer, Call, Machine, Reply};
@@ -115,6 +123,55 @@ fn pass_in(interlock: &Interlock, held: Held, machine: Machine) -> Option<Pass>
     }
 }
 
+/// The passes of two machines' callers. Pending calls are abandoned.
+fn two_passes_in(
+    interlock: &Interlock,
+    first: (Held, Machine),
+    second: (Held, Machine),
+) -> Option<(Pass, Pass)>
+    requires first { IsHeldAt interlock.now first.0 }
+    requires second { IsHeldAt interlock.now second.0 }
+    ensures { IfSome result (AreTwoPassesOf interlock.now first.1 second.1) }
+{
+    let first = pass_in(interlock, first.0, first.1)?;
+    let second = pass_in(interlock, second.0, second.1)?;
+    Some((first, second))
+}
+
+/// The passes of feed, table, robot and press. Pending calls are abandoned.
+fn four_passes_in(
+    interlock: &Interlock,
+    held: (Held, Held, Held, Held),
+) -> Option<(Pass, Pass, Pass, Pass)>
+    requires held { AreFourHeldAt interlock.now held }
+    ensures passes { IfSome result (AreFourPassesOf interlock.now) }
+{
+    let two = two_passes_in(interlock, (held.0, Machine::Feed), (held.1, Machine::Table));
+    let others = two_passes_in(
+        interlock,
+        (held.2, Machine::Robot),
+        (held.3, Machine::Press),
+    );
+    let (feed, table) = two?;
+    let (robot, press) = others?;
+    Some((feed, table, robot, press))
+}
+
+/// The passes of deposit, crane and watch. Pending calls are abandoned.
+fn three_passes_in(interlock: &Interlock, held: (Held, Held, Held)) -> Option<(Pass, Pass, Pass)>
+    requires held { AreThreeHeldAt interlock.now held }
+    ensures passes { IfSome result (AreThreePassesOf interlock.now) }
+{
+    let two = two_passes_in(
+        interlock,
+        (held.0, Machine::Deposit),
+        (held.1, Machine::Crane),
+    );
+    let watch = pass_in(interlock, held.2, Machine::Watch);
+    let (deposit, crane) = two?;
+    Some((deposit, crane, watch?))
+}
+
 /// What the callers hold, each in the field of its machine.
 #[derive(Drop)]
 pub struct Callers {
@@ -165,14 +222,19 @@ impl Callers {
         requires { AreHeldAt interlock.now self }
         ensures { IfSome result (ArePassesOf interlock.now) }
     {
+        let stations = (self.feed, self.table, self.robot, self.press);
+        let stations = four_passes_in(interlock, stations);
+        let others = three_passes_in(interlock, (self.deposit, self.crane, self.watch));
+        let (feed, table, robot, press) = stations?;
+        let (deposit, crane, watch) = others?;
         Some(Passes {
-            feed: pass_in(interlock, self.feed, Machine::Feed)?,
-            table: pass_in(interlock, self.table, Machine::Table)?,
-            robot: pass_in(interlock, self.robot, Machine::Robot)?,
-            press: pass_in(interlock, self.press, Machine::Press)?,
-            deposit: pass_in(interlock, self.deposit, Machine::Deposit)?,
-            crane: pass_in(interlock, self.crane, Machine::Crane)?,
-            watch: pass_in(interlock, self.watch, Machine::Watch)?,
+            feed,
+            table,
+            robot,
+            press,
+            deposit,
+            crane,
+            watch,
         })
     }
 }
