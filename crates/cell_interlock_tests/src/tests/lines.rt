@@ -74,24 +74,30 @@ fn is_journal(journal: &[Entry], machine: Machine) -> bool {
     rest.is_empty()
 }
 
+/// Whether the lines of press and robot settle the calls of the table as it says.
+fn are_settled<L: Line>(press: &mut L, robot: &mut L) -> bool {
+    for (machine, call, answer, stamp) in NOTED {
+        let settled = match machine {
+            Machine::Press => is_settled(press, *call, *answer, *stamp),
+            _ => is_settled(robot, *call, *answer, *stamp),
+        };
+        if !settled {
+            return false;
+        }
+    }
+    true
+}
+
 fn are_noted(alloc: Global, opening: State) -> bool {
     let Ok((interlock, passes)) = Interlock::new(alloc, opening, 1) else {
         return false;
     };
     let mut press = PassLine::new(alloc, &interlock, passes.press);
     let mut robot = PassLine::new(alloc, &interlock, passes.robot);
-    for (machine, call, answer, stamp) in NOTED {
-        let settled = match machine {
-            Machine::Press => is_settled(&mut press, *call, *answer, *stamp),
-            _ => is_settled(&mut robot, *call, *answer, *stamp),
-        };
-        if !settled {
-            return false;
-        }
-    }
+    let are_settled = are_settled(&mut press, &mut robot);
     let (_, by_press) = press.into_parts();
     let (_, by_robot) = robot.into_parts();
-    is_journal(&by_press, Machine::Press) && is_journal(&by_robot, Machine::Robot)
+    are_settled && is_journal(&by_press, Machine::Press) && is_journal(&by_robot, Machine::Robot)
 }
 
 #[test]

@@ -1,6 +1,5 @@
 //! Plays steps on a new interlock. Each outcome has to be the wanted one. It also has to be one
 //! that the calls before it give cause for, by what the test itself has noted of them.
-ghost use Rattle.std.specs.Prelude.{IfSome};
 ghost use Rattle.cell_interlock_tests.specs.Held.{AreHeldAt};
 
 use crate::callers::{Callers, Outcome, Step};
@@ -67,31 +66,30 @@ fn is_stamped(before: &[Taken], first: u32, outcome: Outcome) -> bool {
     }
 }
 
-/// The callers after these steps, if they have these outcomes.
-fn after_steps(
+/// Whether callers take these steps with these outcomes.
+fn take_steps(
     interlock: &Interlock,
-    callers: Callers,
+    callers: &mut Callers,
     limits: (u32, u8),
     steps: &[Taken],
-    mut before: Vec<Taken>,
-) -> Option<Callers>
-    requires { AreHeldAt interlock.now callers }
-    ensures { IfSome result (AreHeldAt interlock.now) }
+    before: &mut Vec<Taken>,
+) -> bool
+    requires { AreHeldAt interlock.now callers.old }
+    ensures { AreHeldAt interlock.now callers.new }
 {
     let (first, tries) = limits;
-    let mut callers = callers;
     for (machine, step, wanted) in steps {
         let outcome = callers.step(interlock, *machine, *step);
         let taken = (*machine, *step, outcome);
         if outcome != *wanted
-            || !has_cause(&before, tries, taken)
-            || !is_stamped(&before, first, outcome)
+            || !has_cause(before, tries, taken)
+            || !is_stamped(before, first, outcome)
             || before.push(taken).is_err()
         {
-            return None;
+            return false;
         }
     }
-    Some(callers)
+    true
 }
 
 /// The state that an interlock leaves if these steps are taken in this order, and then it is
@@ -100,10 +98,13 @@ fn after_steps(
 pub fn state_left(alloc: Global, first: u32, tries: u8, steps: &[Taken]) -> Option<State> {
     let opening = State::start([false; 10], first).ok()?;
     let (interlock, passes) = Interlock::new(alloc, opening, tries).ok()?;
-    let callers = Callers::new(&interlock, passes);
-    let callers = after_steps(&interlock, callers, (first, tries), steps, Vec::new(alloc))?;
+    let mut callers = Callers::new(&interlock, passes);
+    let mut before = Vec::new(alloc);
+    let are_taken = take_steps(&interlock, &mut callers, (first, tries), steps, &mut before);
+    drop(before);
     let passes = callers.into_passes(&interlock)?;
-    Some(interlock.close(passes).state)
+    let left = interlock.close(passes).state;
+    if are_taken { Some(left) } else { None }
 }
 
 /// Whether these steps have these outcomes, if they are taken in this order on a new interlock with
