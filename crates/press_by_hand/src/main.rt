@@ -5,11 +5,15 @@
 mod fault;
 mod texts;
 
+ghost use Rattle.std.specs.Prelude.{◌≡◌, []};
+ghost use Rattle.cell_types.specs.declared.machine.Machine.TheVariants.{Press};
+
 use cell_control::Wired;
-use cell_interlock::{Interlock, PassLine};
-use cell_rules::State;
+use cell_interlock::{Interlock, Pass, PassLine};
+use cell_rules::{Line, State};
 use cell_stations::PressProgram;
 use fault::PressFault;
+use std::alloc::Global;
 use texts::{motor_word, read_switches};
 
 // The full places at the start: a plate that isn't forged is in the press.
@@ -20,12 +24,12 @@ const PLACES: [bool; 10] = [
 // The number of exchanges that a call may lose before it is Busy.
 const TRIES: u8 = 8;
 
-fn main(rt: HostRuntime) -> Result<(), PressFault> {
-    let alloc = rt.alloc();
-    let opening = State::start(PLACES, 0)?;
-    let (interlock, passes) = Interlock::new(alloc, opening, TRIES)?;
-    let line = PassLine::new(alloc, &interlock, passes.press);
-    let mut press = Wired::new(PressProgram, &opening, line);
+// Drives the press by each line, until the input ends.
+fn drive<L: Line>(
+    rt: &HostRuntime,
+    alloc: Global,
+    press: &mut Wired<PressProgram, L>,
+) -> Result<(), PressFault> {
     for text in rt.lines(alloc) {
         let Some(switches) = read_switches(text?.as_bytes()) else {
             println!(rt; "off unread")?;
@@ -38,7 +42,33 @@ fn main(rt: HostRuntime) -> Result<(), PressFault> {
             Some(fault) => println!(rt; "{motor}: {fault}")?,
         }
     }
+    Ok(())
+}
+
+// Drives the press over the interlock with its pass, and then says how many calls its journal has.
+fn serve(
+    rt: &HostRuntime,
+    alloc: Global,
+    opening: &State,
+    interlock: &Interlock,
+    pass: Pass,
+) -> Result<(), PressFault>
+    requires own { pass.table ≡ interlock.now.table }
+    requires machine { pass.machine ≡ Press }
+    requires opening { pass.opening ≡ opening.now }
+    requires fresh { pass.seen ≡ [] }
+{
+    let line = PassLine::new(alloc, interlock, pass);
+    let mut press = Wired::new(PressProgram, opening, line);
+    drive(rt, alloc, &mut press)?;
     let (_, journal) = press.into_line().into_parts();
     println!(rt; "{} calls", journal.len())?;
     Ok(())
+}
+
+fn main(rt: HostRuntime) -> Result<(), PressFault> {
+    let alloc = rt.alloc();
+    let opening = State::start(PLACES, 0)?;
+    let (interlock, passes) = Interlock::new(alloc, opening, TRIES)?;
+    serve(&rt, alloc, &opening, &interlock, passes.press)
 }
