@@ -14,8 +14,9 @@ mod six;
 use cell_calib::{Points, line_at};
 use cell_rules::State;
 use fault::SixFault;
+use lookout::Lookout;
 use rounds::Audits;
-use six::{AxisPoints, Plan, drive};
+use six::{AxisPoints, Plan, SixStatuses, drive};
 use std::env;
 
 // The full places at the start: a plate is at the feed belt's entry.
@@ -61,6 +62,17 @@ fn main(rt: HostRuntime) -> Result<(), SixFault> {
     let plan = plan_of(rounds, words.next());
     let mut audits = Audits::new(alloc);
     let (six, watch) = drive(&rt, alloc, opening, gauges, points, plan, &mut audits)?;
+    tell(&rt, &six, &watch, &audits, is_long)
+}
+
+// Prints how the machines ended, and what the audits and the watch counted.
+fn tell(
+    rt: &HostRuntime,
+    six: &SixStatuses,
+    watch: &Lookout,
+    audits: &Audits,
+    is_long: bool,
+) -> Result<(), SixFault> {
     println!(rt; "feed {:?}", six.feed)?;
     println!(rt; "table {:?}", six.table)?;
     println!(rt; "robot {:?}", six.robot)?;
