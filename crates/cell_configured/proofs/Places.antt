@@ -1,11 +1,18 @@
 -- A configuration's curves, each in its axis's place.
-use Rattle.std.proofs.Common.{◌≡◌, ℕ, ℤ, List, [], ◌∷◌, map, sym, ◌∙◌, subst}
+use Rattle.std.proofs.Common.{◌≡◌, ◌≤◌, ℕ, ℤ, List, [], ◌∷◌, map, sym, ◌∙◌, subst}
 use lib.ListN.{get_or}
 use Rattle.cell_calib.specs.Names.{Scale, Curved, IsOnCurve, pairs_of}
+use Rattle.cell_calib.specs.Line.{KeepsCalibration, IsReading}
 use Rattle.cell_parts.specs.Axes.{AreCellScales, CellScales, IsAxisScale, arm_end, rotation_end, turn_end, gripper_end}
 use Rattle.cell_plant.specs.Machines.{CellGauges, on_curves}
 use Rattle.cell_plant.proofs.Gauged.{GiveAsMuch}
 use Rattle.cell_config.specs.Configured.{AreAxisScales, AreCurvesOf, in_order}
+
+-- what reads a curve keeps the curve's calibration, by whatever name it has
+pub keeps_curve : {pre : ℕ → Type 0} {post : ℕ → ℤ → Type 0} {s t : Scale} → s ≡ t → ((raw : ℕ) → t.raw_lo ≤ raw → raw ≤ t.raw_hi → pre raw) → ((raw : ℕ) (v : ℤ) → post raw v → IsReading t raw v) → KeepsCalibration pre post s
+keeps_curve {pre = pre} {post = post} e callable near =
+    subst (λ (x : Scale). KeepsCalibration pre post x) (sym e)
+    (record { callable = callable; near = λ raw low high v k. near raw v k })
 
 -- the scales of the curves at the five places; what a place gives beyond the last curve doesn't matter
 pub record AreScalesAt (curves : List Curved) (a b c d e : Curved) (cell : CellScales) : Type 0 where
