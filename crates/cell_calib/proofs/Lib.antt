@@ -1,6 +1,7 @@
 pub mod LineLemmas
 mod Rounding
 mod CurveLemmas
+mod CurveNeighbours
 mod CurveParts
 mod CurveReadings
 mod CurveReads
