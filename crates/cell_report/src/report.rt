@@ -176,9 +176,16 @@ fn push_stamp(page: &mut Page, end: Option<State>) -> fmt::Result
     ensures { OnOk result
         (page.new ≡ page.old ++ text_of_lines (where_known end (λ s. stamp_line s ∷ []))) }
 {
-    let Some(end) = end else {
-        return Ok(());
-    };
+    match end {
+        Some(end) => push_stamp_of(page, &end),
+        None => Ok(()),
+    }
+}
+
+/// Adds the line of the stamp, the plates and whether the cell is stopped.
+fn push_stamp_of(page: &mut Page, end: &State) -> fmt::Result
+    ensures { OnOk result (page.new ≡ page.old ++ (stamp_line end.now ++ codes "\n")) }
+{
     let stamp = end.stamp();
     let plates = end.plates();
     let stopped = if end.stopped() { "1" } else { "0" };
