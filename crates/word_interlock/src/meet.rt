@@ -11,6 +11,7 @@ use atomic_table::Seat;
 
 impl<R: Rules> Interlock<R> {
     /// Joins the other seat's actors and receipts to a seat.
+    #[tactic(auto, using(crate::proofs::Keeps::joins))]
     pub(crate) fn join(&self, seat: &mut Seat<(), View<R>>, other: Seat<(), View<R>>)
         requires same_interlock { (seat.old.table_id ≡ self.now.table)
             × (other.table_id ≡ self.now.table) }
@@ -28,6 +29,7 @@ impl<R: Rules> Interlock<R> {
     /// actor's, and have seen no new event of their own actor (`left`, `right`). Each counts the one
     /// load of the meeting (`left_load`, `right_load`), and no exchange (`left_exchanges`,
     /// `right_exchanges`).
+    #[tactic(auto, using(crate::proofs::Keeps::splits))]
     pub fn meet(&self, left: Pass<R>, right: Pass<R>) -> (Pass<R>, Pass<R>)
         requires same_interlock { (left.table ≡ self.now.table)
             × (right.table ≡ self.now.table) }

@@ -45,6 +45,7 @@ impl<R: Rules> Interlock<R> {
     /// Takes the pass of the first actor out of several. The others stay.
     ///
     /// The passes were made with this interlock, and the first is this actor's.
+    #[tactic(auto, using(crate::proofs::Keeps::splits))]
     pub fn take_pass(&self, passes: &mut Passes<R>, actor: R::Actor) -> Pass<R>
         requires same_interlock { passes.old.table ≡ self.now.table }
         requires next { IsNext actor passes.old.actors }

@@ -39,6 +39,7 @@ impl<R: Rules> Interlock<R> {
     /// no call is made.
     ///
     /// The pass was made with this interlock.
+    #[tactic(auto, using(crate::proofs::Keeps::receipts))]
     pub fn receipt(&self, pass: &mut Pass<R>) -> Receipt<R>
         requires same_interlock { pass.old.table ≡ self.now.table }
         ensures pass { pass.new ≡ pass.old }

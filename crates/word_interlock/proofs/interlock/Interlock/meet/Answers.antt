@@ -1,14 +1,8 @@
 use Rattle.std.proofs.Common.{rules, ◌≡◌, ap, sym, ◌∙◌}
 use Rattle.word_interlock.specs.Views.{pass_of, view_of}
 use Rattle.word_interlock.specs.Rule.{after_load}
-use Rattle.word_interlock.proofs.Keeps.{splits}
 use Rattle.word_interlock.proofs.Meeting.{left_seat, right_seat, left_at, right_at, seat_at, more_at}
 use Rattle.word_interlock.proofs.interlock.Interlock.meet.Goals as goal
-
-pub split_seat-right_seat-requires : goal.split_seat-right_seat-requires
-split_seat-right_seat-requires g c =
-    let r = c.self.inside.table.shared.key.rules in
-    (search rules, search rules, splits (g.R.Rules.book r) (g.met.R.Rules.lawful r) r _ _ _)
 
 pub of-requires : goal.of-requires
 of-requires g c =

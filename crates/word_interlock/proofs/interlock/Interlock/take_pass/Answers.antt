@@ -1,14 +1,8 @@
-use Rattle.std.proofs.Common.{rules, ◌∷◌, ap, sym, ◌∙◌, subst}
+use Rattle.std.proofs.Common.{◌∷◌, ap, sym, ◌∙◌, subst}
 use Rattle.word_interlock.specs.Views.{view_of}
 use Rattle.word_interlock.specs.Bunches.{IsNext}
-use Rattle.word_interlock.proofs.Keeps.{splits}
 use Rattle.word_interlock.proofs.Closing.{take_first, rest_bunch}
 use Rattle.word_interlock.proofs.interlock.Interlock.take_pass.Goals as goal
-
-pub split_seat-requires : goal.split_seat-requires
-split_seat-requires g c =
-    let r = c.self.inside.table.shared.key.rules in
-    (search rules, search rules, splits (g.R.Rules.book r) (g.met.R.Rules.lawful r) r _ _ _)
 
 pub of-requires : goal.of-requires
 of-requires g c =
