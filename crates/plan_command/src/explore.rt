@@ -4,6 +4,7 @@ use plan_document::ProgrammedPlan;
 use plan_explorer::{Explored, Walk, explore, take_turns};
 use plan_rules::State;
 use plan_text::NamedPlan;
+use plan_types::Event;
 use std::alloc::{AllocError, Global};
 
 /// What `plan explore` prints of a plan and its programs, which begin at an opening. An error says that memory ran out.
@@ -35,19 +36,30 @@ fn walk_screen(
 ) -> Result<String, AllocError> {
     let count = turns.len();
     let mut text = format!(in alloc; "a standstill after {count} turns, and no fewer\n")?;
-    for event in &walk.outlook {
-        text.push_str(named.machines().name(event.machine))?;
-        text.push_str(" waits: ")?;
-        named.push_call(&mut text, event.call)?;
+    push_outlook(&mut text, named, &walk.outlook)?;
+    push_turns(&mut text, named, turns)?;
+    Ok(text)
+}
+
+/// Adds a line for each machine that waits.
+fn push_outlook(text: &mut String, named: &NamedPlan, outlook: &[Event]) -> Result<(), AllocError> {
+    for event in outlook {
+        let name = named.machines().name(event.machine);
+        write!(text, "{name} waits: ")?;
+        named.push_call(text, event.call)?;
         text.push_str(": ")?;
-        named.push_answer(&mut text, event.answer)?;
+        named.push_answer(text, event.answer)?;
         text.push_str("\n")?;
     }
+    Ok(())
+}
+
+/// Adds a line with the machines whose turns they are.
+fn push_turns(text: &mut String, named: &NamedPlan, turns: &[u8]) -> Result<(), AllocError> {
     text.push_str("turns:")?;
     for machine in turns {
-        text.push_str(" ")?;
-        text.push_str(named.machines().name(*machine))?;
+        let name = named.machines().name(*machine);
+        write!(text, " {name}")?;
     }
-    text.push_str("\n")?;
-    Ok(text)
+    text.push_str("\n")
 }

@@ -15,10 +15,18 @@ const BEGIN: &str = "\
 
 #include <stdint.h>
 
+/* Machines. The watch is none of them. */
+";
+
+/// What stands before the numbers of zones.
+const ZONES: &str = "\
+#define PLAN_WATCH 15
+
+/* Zones. */
 ";
 
 /// What each plan has.
-const CODES: &str = "\
+const CODES: &str = "
 /* Of a zone's field: who owns it, and its posture. */
 enum plan_owner { PLAN_OWNER_FREE = 0, PLAN_OWNER_HOST = 1, PLAN_OWNER_GUEST = 2 };
 enum plan_posture {
@@ -28,28 +36,33 @@ enum plan_posture {
     PLAN_POSTURE_OPENOUT = 3
 };
 
+/* The lowest bit of each field, and how many bits a field has. */
+";
+
+/// How many bits the fields of each plan have.
+const BITS: &str = "\
+#define PLAN_BITS_ZONE 5
+#define PLAN_BITS_PLACE 1
+#define PLAN_BITS_STAMP 20
+#define PLAN_BITS_STOP 1
 ";
 
 /// What `plan header` prints of a plan.
 pub fn header_of(alloc: Global, named: &NamedPlan) -> Result<String, AllocError> {
     let mut text = String::new(alloc);
-    text.push_str(BEGIN)?;
-    text.push_str("/* Machines. The watch is none of them. */\n")?;
-    push_numbers(&mut text, "MACHINE", named.machines())?;
-    text.push_str("#define PLAN_WATCH 15\n\n/* Zones. */\n")?;
-    push_numbers(&mut text, "ZONE", named.zones())?;
-    text.push_str("\n/* Places. */\n")?;
-    push_numbers(&mut text, "PLACE", named.places())?;
-    text.push_str("\n/* Poses, by machine and name. */\n")?;
-    push_poses(&mut text, named)?;
-    text.push_str("\n/* Who hosts a zone, who is its guest, and who keeps a place. */\n")?;
-    push_parties(&mut text, named)?;
-    text.push_str("\n")?;
-    text.push_str(CODES)?;
-    push_layout(&mut text, named)?;
-    push_bytes(alloc, &mut text, named)?;
-    text.push_str("\n#endif\n")?;
+    push_header(alloc, &mut text, named)?;
     Ok(text)
+}
+
+fn push_header(alloc: Global, text: &mut String, named: &NamedPlan) -> Result<(), AllocError> {
+    push_numbers(text, BEGIN, "machine", named.machines())?;
+    push_numbers(text, ZONES, "zone", named.zones())?;
+    push_numbers(text, "\n/* Places. */\n", "place", named.places())?;
+    push_poses(text, named)?;
+    push_parties(text, named)?;
+    text.push_str(CODES)?;
+    push_layout(text, named)?;
+    push_bytes(alloc, text, named)
 }
 
 /// The plan as bytes, for the functions of `bindings/bagunjoki_plan.h`: eight in a line.
@@ -59,53 +72,59 @@ fn push_bytes(alloc: Global, text: &mut String, named: &NamedPlan) -> Result<(),
         "\n/* The plan, for bagunjoki_plan.h. */\nstatic const uint8_t PLAN_BYTES[] = {",
     )?;
     for (at, byte) in bytes.as_slice().iter().enumerate() {
-        text.push_str(if at % 8 == 0 { "\n    " } else { " " })?;
-        write!(text, "{byte},")?;
+        let gap = if at % 8 == 0 { "\n    " } else { " " };
+        write!(text, "{gap}{byte},")?;
     }
-    text.push_str("\n};\n")
+    text.push_str("\n};\n\n#endif\n")
 }
 
-fn push_upper(text: &mut String, name: &str) -> Result<(), AllocError> {
-    for letter in name.chars() {
-        text.push(letter.to_ascii_uppercase())?;
+/// Adds the beginning of a definition: these words in capitals.
+fn push_defined(text: &mut String, words: &[&str]) -> Result<(), AllocError> {
+    text.push_str("#define PLAN_")?;
+    for word in words {
+        for letter in word.chars() {
+            text.push(letter.to_ascii_uppercase())?;
+        }
     }
     Ok(())
 }
 
-fn push_numbers(text: &mut String, kind: &str, names: &Names) -> Result<(), AllocError> {
-    for number in 0..names.len() as u8 {
-        write!(text, "#define PLAN_{kind}_")?;
-        push_upper(text, names.name(number))?;
-        writeln!(text, " {number}")?;
-    }
+fn push_number(text: &mut String, words: &[&str], number: usize) -> Result<(), AllocError> {
+    push_defined(text, words)?;
+    writeln!(text, " {number}")
+}
+
+fn push_numbers(
+    text: &mut String,
+    about: &str,
+    kind: &str,
+    names: &Names,
+) -> Result<(), AllocError> {
+    text.push_str(about)?;
     let count = names.len();
-    writeln!(text, "#define PLAN_{kind}S {count}")
+    for number in 0..count as u8 {
+        push_number(text, &[kind, "_", names.name(number)], usize::from(number))?;
+    }
+    push_number(text, &[kind, "s"], count)
 }
 
 fn push_poses(text: &mut String, named: &NamedPlan) -> Result<(), AllocError> {
-    let poses = named.poses();
-    for pose in 0..poses.len() as u8 {
-        text.push_str("#define PLAN_POSE_")?;
-        push_upper(text, named.machines().name(named.plan().pose(pose).machine))?;
-        text.push_str("_")?;
-        push_upper(text, poses.name(pose))?;
-        writeln!(text, " {pose}")?;
+    text.push_str("\n/* Poses, by machine and name. */\n")?;
+    let count = named.poses().len();
+    for pose in 0..count as u8 {
+        let machine = named.machines().name(named.plan().pose(pose).machine);
+        let words = ["pose_", machine, "_", named.poses().name(pose)];
+        push_number(text, &words, usize::from(pose))?;
     }
-    let count = poses.len();
-    writeln!(text, "#define PLAN_POSES {count}")
+    push_number(text, &["poses"], count)
 }
 
 fn push_parties(text: &mut String, named: &NamedPlan) -> Result<(), AllocError> {
+    text.push_str("\n/* Who hosts a zone, who is its guest, and who keeps a place. */\n")?;
     for zone in 0..named.zones().len() as u8 {
         let row = named.plan().zone(zone);
-        push_party(text, named, "HOST_OF_", named.zones().name(zone), row.host)?;
-        push_party(
-            text,
-            named,
-            "GUEST_OF_",
-            named.zones().name(zone),
-            row.guest,
-        )?;
+        push_party(text, named, "host_of_", zone, row.host)?;
+        push_party(text, named, "guest_of_", zone, row.guest)?;
     }
     Ok(())
 }
@@ -114,56 +133,41 @@ fn push_party(
     text: &mut String,
     named: &NamedPlan,
     role: &str,
-    name: &str,
+    zone: u8,
     machine: u8,
 ) -> Result<(), AllocError> {
-    write!(text, "#define PLAN_{role}")?;
-    push_upper(text, name)?;
-    text.push_str(" PLAN_MACHINE_")?;
-    push_upper(text, named.machines().name(machine))?;
+    let machine = named.machines().name(machine);
+    push_defined(
+        text,
+        &[role, named.zones().name(zone), " plan_machine_", machine],
+    )?;
     text.push_str("\n")
 }
 
 fn push_layout(text: &mut String, named: &NamedPlan) -> Result<(), AllocError> {
     let layout = named.layout();
-    let width = layout.width();
-    text.push_str("/* The lowest bit of each field, and how many bits a field has. */\n")?;
     for zone in 0..named.zones().len() as u8 {
-        push_bit(
-            text,
-            layout,
-            Field::Zone(zone),
-            "ZONE_",
-            named.zones().name(zone),
-        )?;
+        let name = named.zones().name(zone);
+        push_bit(text, layout, Field::Zone(zone), &["bit_zone_", name])?;
     }
     for place in 0..named.places().len() as u8 {
-        push_bit(
-            text,
-            layout,
-            Field::Place(place),
-            "PLACE_",
-            named.places().name(place),
-        )?;
+        let name = named.places().name(place);
+        push_bit(text, layout, Field::Place(place), &["bit_place_", name])?;
     }
-    push_bit(text, layout, Field::Stamp, "STAMP", "")?;
-    push_bit(text, layout, Field::Stop, "STOP", "")?;
-    text.push_str("#define PLAN_BITS_ZONE 5\n#define PLAN_BITS_PLACE 1\n")?;
-    text.push_str("#define PLAN_BITS_STAMP 20\n#define PLAN_BITS_STOP 1\n")?;
-    writeln!(text, "#define PLAN_BITS {width}")
+    push_bit(text, layout, Field::Stamp, &["bit_stamp"])?;
+    push_bit(text, layout, Field::Stop, &["bit_stop"])?;
+    text.push_str(BITS)?;
+    push_number(text, &["bits"], usize::from(layout.width()))
 }
 
 fn push_bit(
     text: &mut String,
     layout: Layout,
     field: Field,
-    kind: &str,
-    name: &str,
+    words: &[&str],
 ) -> Result<(), AllocError> {
-    let Some(first) = layout.start(field) else {
-        return Ok(());
-    };
-    write!(text, "#define PLAN_BIT_{kind}")?;
-    push_upper(text, name)?;
-    writeln!(text, " {first}")
+    match layout.start(field) {
+        Some(first) => push_number(text, words, usize::from(first)),
+        None => Ok(()),
+    }
 }

@@ -8,14 +8,18 @@ use std::alloc::{AllocError, Global};
 /// field of the word.
 pub fn report_of(alloc: Global, named: &NamedPlan) -> Result<String, AllocError> {
     let mut text = String::new(alloc);
-    push_names(&mut text, "machine", named.machines())?;
-    push_names(&mut text, "zone", named.zones())?;
-    push_names(&mut text, "place", named.places())?;
-    push_names(&mut text, "pose", named.poses())?;
+    push_report(&mut text, named)?;
+    Ok(text)
+}
+
+fn push_report(text: &mut String, named: &NamedPlan) -> Result<(), AllocError> {
+    push_names(text, "machine", named.machines())?;
+    push_names(text, "zone", named.zones())?;
+    push_names(text, "place", named.places())?;
+    push_names(text, "pose", named.poses())?;
     let width = named.layout().width();
     writeln!(text, "a word of {width} bits")?;
-    push_fields(&mut text, named)?;
-    Ok(text)
+    push_fields(text, named)
 }
 
 fn push_names(text: &mut String, kind: &str, names: &Names) -> Result<(), AllocError> {
@@ -23,8 +27,9 @@ fn push_names(text: &mut String, kind: &str, names: &Names) -> Result<(), AllocE
     let ending = if count == 1 { "" } else { "s" };
     write!(text, "{count} {kind}{ending}")?;
     for number in 0..count as u8 {
-        text.push_str(if number == 0 { ": " } else { " " })?;
-        text.push_str(names.name(number))?;
+        let gap = if number == 0 { ": " } else { " " };
+        let name = names.name(number);
+        write!(text, "{gap}{name}")?;
     }
     text.push_str("\n")
 }

@@ -56,13 +56,19 @@ fn serve_plan<R: Read, W: Write>(
     ensures status { result ≤ 1 }
     ensures read { TakesAtMost (R.remaining reader.old) (R.remaining reader.new) 65537 }
 {
-    let plan = match read_plan(alloc, reader) {
-        Ok(plan) => plan,
-        Err(fault) => return fail(writer, fault).status(),
-    };
-    match text_of(alloc, request, &plan.named) {
-        Ok(text) => print(writer, text.as_bytes()).status(),
-        Err(AllocError) => fail(writer, "memory").status(),
+    match read_plan(alloc, reader) {
+        Ok(plan) => serve_request(alloc, request, plan, &[], writer).status(),
+        Err(fault) => fail(writer, fault).status(),
+    }
+}
+
+/// Prints what the request asks of a plan.
+fn print_plan<W: Write>(alloc: Global, request: Request, named: &NamedPlan, writer: &mut W) -> Exit
+    ensures status { result ≢ Exit.Refused }
+{
+    match text_of(alloc, request, named) {
+        Ok(text) => print(writer, text.as_bytes()),
+        Err(AllocError) => fail(writer, "memory"),
     }
 }
 
@@ -92,67 +98,107 @@ fn fail_to_read<W: Write>(writer: &mut W, fault: InputFault) -> Exit
     }
 }
 
-/// Prints the answers to the script after a plan.
-fn serve_replay<R: Read, W: Write>(alloc: Global, reader: &mut R, writer: &mut W) -> Exit
+/// Reads a plan and a script after it, and prints what the request asks of them: the answers to the script, or what the
+/// machines' programs come to from the start.
+fn serve_script<R: Read, W: Write>(
+    alloc: Global,
+    request: Request,
+    reader: &mut R,
+    writer: &mut W,
+) -> Exit
     ensures status { result ≢ Exit.Refused }
-    ensures answered { result ≡ Exit.Well → AnswersInput (R.remaining reader.old)
-        (W.contents writer.old) (W.contents writer.new) }
+    ensures answered { request ≡ Request.Replay → result ≡ Exit.Well →
+        AnswersInput (R.remaining reader.old) (W.contents writer.old) (W.contents writer.new) }
     ensures read { TakesAtMost (R.remaining reader.old) (R.remaining reader.new) max_bytes_read }
 {
     match read_input(alloc, reader) {
-        Ok(bytes) => replay_bytes(alloc, bytes.as_slice(), writer),
+        Ok(bytes) => serve_bytes(alloc, request, bytes.as_slice(), writer),
         Err(fault) => fail_to_read(writer, fault),
     }
 }
 
-/// Prints what the machines' programs come to from the start after a plan.
-fn serve_explore<R: Read, W: Write>(alloc: Global, reader: &mut R, writer: &mut W) -> Exit
-    ensures status { result ≢ Exit.Refused }
-    ensures read { TakesAtMost (R.remaining reader.old) (R.remaining reader.new) max_bytes_read }
-{
-    match read_input(alloc, reader) {
-        Ok(bytes) => explore_bytes(alloc, bytes.as_slice(), writer),
-        Err(fault) => fail_to_read(writer, fault),
-    }
-}
-
-fn replay_bytes<W: Write>(alloc: Global, bytes: &[u8], writer: &mut W) -> Exit
+fn serve_bytes<W: Write>(alloc: Global, request: Request, bytes: &[u8], writer: &mut W) -> Exit
     ensures status { result ≢ Exit.Refused }
     ensures short { result ≡ Exit.Well → length bytes.now ≤ byte_limit }
-    ensures answered { result ≡ Exit.Well →
+    ensures answered { request ≡ Request.Replay → result ≡ Exit.Well →
         AnswersScript (script_in bytes.now) (W.contents writer.old) (W.contents writer.new) }
 {
     if bytes.len() > MAX_BYTES {
         return fail(writer, "long");
     }
-    let length = plan_length(bytes);
-    let plan = match plan_of(alloc, &bytes[..length]) {
-        Ok(plan) => plan,
-        Err(fault) => return fail(writer, fault),
-    };
-    match answer_script(alloc, &plan.named, &bytes[length..]) {
-        Ok(answered) => print_answers(writer, &answered),
-        Err(ReplayFault::Read) => fail(writer, "read"),
-        Err(ReplayFault::Memory) => fail(writer, "memory"),
+    let (document, script) = bytes.split_at(plan_length(bytes));
+    match plan_of(alloc, document) {
+        Ok(plan) => serve_request(alloc, request, plan, script, writer),
+        Err(fault) => fail(writer, fault),
     }
 }
 
-fn explore_bytes<W: Write>(alloc: Global, bytes: &[u8], writer: &mut W) -> Exit
+/// Prints what the request asks of a plan, and of the script after it for `Replay` and `Explore`.
+fn serve_request<W: Write>(
+    alloc: Global,
+    request: Request,
+    plan: ProgrammedPlan,
+    script: &[u8],
+    writer: &mut W,
+) -> Exit
+    ensures status { result ≢ Exit.Refused }
+    ensures answered { request ≡ Request.Replay → result ≡ Exit.Well →
+        AnswersScript script.now (W.contents writer.old) (W.contents writer.new) }
+{
+    print_request(alloc, request, &plan, script, writer)
+}
+
+fn print_request<W: Write>(
+    alloc: Global,
+    request: Request,
+    plan: &ProgrammedPlan,
+    script: &[u8],
+    writer: &mut W,
+) -> Exit
+    ensures status { result ≢ Exit.Refused }
+    ensures answered { request ≡ Request.Replay → result ≡ Exit.Well →
+        AnswersScript script.now (W.contents writer.old) (W.contents writer.new) }
+{
+    match request {
+        Request::Replay => replay_script(alloc, &plan.named, script, writer),
+        Request::Explore => explore_script(alloc, plan, script, writer),
+        _ => print_plan(alloc, request, &plan.named, writer),
+    }
+}
+
+fn replay_script<W: Write>(alloc: Global, named: &NamedPlan, script: &[u8], writer: &mut W) -> Exit
+    ensures status { result ≢ Exit.Refused }
+    ensures answered { result ≡ Exit.Well →
+        AnswersScript script.now (W.contents writer.old) (W.contents writer.new) }
+{
+    match answer_script(alloc, named, script) {
+        Ok(answered) => print_answers(writer, &answered),
+        Err(fault) => fail_to_replay(writer, fault),
+    }
+}
+
+/// Prints that a script wasn't read.
+fn fail_to_replay<W: Write>(writer: &mut W, fault: ReplayFault) -> Exit
+    ensures { result ≡ Exit.Failed }
+{
+    match fault {
+        ReplayFault::Read => fail(writer, "read"),
+        ReplayFault::Memory => fail(writer, "memory"),
+    }
+}
+
+fn explore_script<W: Write>(
+    alloc: Global,
+    plan: &ProgrammedPlan,
+    script: &[u8],
+    writer: &mut W,
+) -> Exit
     ensures status { result ≢ Exit.Refused }
 {
-    if bytes.len() > MAX_BYTES {
-        return fail(writer, "long");
-    }
-    let length = plan_length(bytes);
-    let plan = match plan_of(alloc, &bytes[..length]) {
-        Ok(plan) => plan,
-        Err(fault) => return fail(writer, fault),
-    };
-    match start_of_script(alloc, &plan.named, &bytes[length..]) {
-        Ok(Ok(opening)) => explore_from(alloc, &plan, &opening, writer),
+    match start_of_script(alloc, &plan.named, script) {
+        Ok(Ok(opening)) => explore_from(alloc, plan, &opening, writer),
         Ok(Err(fault)) => fail(writer, fault),
-        Err(ReplayFault::Read) => fail(writer, "read"),
-        Err(ReplayFault::Memory) => fail(writer, "memory"),
+        Err(fault) => fail_to_replay(writer, fault),
     }
 }
 
@@ -213,8 +259,8 @@ pub fn serve<R: Read, W: Write>(alloc: Global, words: &[&str], reader: &mut R, w
     match request::request_of(words) {
         Some(Request::Check) => serve_plan(alloc, Request::Check, reader, writer),
         Some(Request::Header) => serve_plan(alloc, Request::Header, reader, writer),
-        Some(Request::Replay) => serve_replay(alloc, reader, writer).status(),
-        Some(Request::Explore) => serve_explore(alloc, reader, writer).status(),
+        Some(Request::Replay) => serve_script(alloc, Request::Replay, reader, writer).status(),
+        Some(Request::Explore) => serve_script(alloc, Request::Explore, reader, writer).status(),
         Some(Request::Help) => print(writer, HELP.as_bytes()).status(),
         Some(Request::Version) => print_version(writer, "plan").status(),
         None => refuse(writer).status(),
