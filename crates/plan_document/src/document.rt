@@ -1,7 +1,7 @@
 //! A plan's document: its rows, in which machines, zones and places are texts.
 
 /// What a pose gives a zone.
-#[derive(Debug, Drop)]
+#[derive(Drop)]
 pub struct Given {
     /// The zone's name.
     pub zone: String,
@@ -10,7 +10,7 @@ pub struct Given {
 }
 
 /// A pose of a machine.
-#[derive(Debug, Drop)]
+#[derive(Drop)]
 pub struct PoseRow {
     /// Its name.
     pub name: String,
@@ -21,7 +21,7 @@ pub struct PoseRow {
 }
 
 /// A machine, `[[machine]]` in the document.
-#[derive(Debug, Drop)]
+#[derive(Drop)]
 pub struct MachineRow {
     /// Its name.
     pub name: String,
@@ -34,7 +34,7 @@ pub struct MachineRow {
 }
 
 /// The way of a plate, by the names of two places.
-#[derive(Debug, Drop)]
+#[derive(Drop)]
 pub struct WayRow {
     /// The place that it leaves.
     pub from: String,
@@ -43,7 +43,7 @@ pub struct WayRow {
 }
 
 /// A zone, `[[zone]]` in the document.
-#[derive(Debug, Drop)]
+#[derive(Drop)]
 pub struct ZoneRow {
     /// Its name.
     pub name: String,
@@ -58,7 +58,7 @@ pub struct ZoneRow {
 }
 
 /// A document: its machines and its zones, in order.
-#[derive(Debug, Drop)]
+#[derive(Drop)]
 pub struct Document {
     /// The machines.
     pub machines: Vec<MachineRow>,

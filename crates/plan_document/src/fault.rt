@@ -8,8 +8,19 @@ use std::fmt;
 /// The most characters of a text that are shown.
 const MOST_SHOWN: usize = 40;
 
+/// What is said of a text that is no name.
+const NO_NAME: &str =
+    " is no name: a letter, then letters, digits or underscores, lower case, at most 32";
+
+/// What is said of a text that is no posture.
+const NO_POSTURE: &str = " is no posture: known are closed moving openin openout";
+
+/// What is said of a text that is no call.
+const NO_CALL: &str =
+    " is no call: claim, give, yield, take or release with a zone, or pose with a pose";
+
 /// What a fault is about: the document, or a row of it. Rows are counted from 0.
-#[derive(Clone, Copy, Debug, PartialEq, Eq)]
+#[derive(Clone, Copy)]
 pub enum RowOf {
     /// The document outside of its rows.
     Document,
@@ -27,7 +38,7 @@ pub enum RowOf {
 }
 
 /// The keys of a document.
-#[derive(Clone, Copy, Debug, PartialEq, Eq)]
+#[derive(Clone, Copy)]
 pub enum Key {
     /// `machine`
     Machine,
@@ -76,7 +87,7 @@ impl Key {
 }
 
 /// What is wrong with the value of a key.
-#[derive(Debug, Drop)]
+#[derive(Drop)]
 pub enum Wrong {
     /// The key is missing.
     Missing,
@@ -148,7 +159,7 @@ impl<T: Drop> From<AllocFailed<T>> for Wrong {
 }
 
 /// Where in a document something is wrong.
-#[derive(Clone, Copy, Debug, PartialEq, Eq)]
+#[derive(Clone, Copy)]
 pub struct Location {
     /// The row.
     pub row: RowOf,
@@ -198,7 +209,7 @@ impl Location {
 }
 
 /// What is wrong with a document, and where.
-#[derive(Debug, Drop)]
+#[derive(Drop)]
 pub struct DocumentFault {
     /// Where.
     pub location: Location,
@@ -240,7 +251,7 @@ impl<T: Drop> At<()> for Result<(), AllocFailed<T>> {
 }
 
 /// Why a document is refused.
-#[derive(Debug, Drop)]
+#[derive(Drop)]
 pub enum PlanTextFault {
     /// Reading failed.
     Read,
@@ -314,21 +325,21 @@ impl fmt::Display for RowOf {
     fn fmt<W: fmt::Write>(&self, f: &mut fmt::Formatter<W>) -> fmt::Result {
         match self {
             RowOf::Document => f.write_str("the document"),
-            RowOf::Machine(machine) => {
-                let machine = machine.saturating_add(1);
-                write!(f, "machine {machine}")
-            }
+            RowOf::Machine(machine) => write_row(f, "machine ", *machine),
             RowOf::Pose { machine, pose } => {
-                let machine = machine.saturating_add(1);
-                let pose = pose.saturating_add(1);
-                write!(f, "machine {machine}: pose {pose}")
+                write_row(f, "machine ", *machine)?;
+                write_row(f, ": pose ", *pose)
             }
-            RowOf::Zone(zone) => {
-                let zone = zone.saturating_add(1);
-                write!(f, "zone {zone}")
-            }
+            RowOf::Zone(zone) => write_row(f, "zone ", *zone),
         }
     }
+}
+
+/// Writes the number of a row, from 1.
+fn write_row<W: fmt::Write>(f: &mut fmt::Formatter<W>, kind: &str, index: usize) -> fmt::Result {
+    f.write_str(kind)?;
+    let number = index.saturating_add(1);
+    write!(f, "{number}")
 }
 
 impl fmt::Display for DocumentFault {
@@ -343,12 +354,21 @@ impl fmt::Display for DocumentFault {
     }
 }
 
-fn write_named<W: fmt::Write>(
-    f: &mut fmt::Formatter<W>,
-    before: &str,
-    text: &String,
-    after: &str,
-) -> fmt::Result {
+fn write_wrong<W: fmt::Write>(wrong: &Wrong, f: &mut fmt::Formatter<W>) -> fmt::Result {
+    let (before, text, after) = match wrong {
+        Wrong::Unknown(key) => ("", key, " is no key of it"),
+        Wrong::NoName(text) => ("", text, NO_NAME),
+        Wrong::Reserved(text) => ("", text, " is a word of scripts, and names no machine"),
+        Wrong::Twice(text) => ("", text, " is there twice"),
+        Wrong::NoMachine(text) => ("no machine is named ", text, ""),
+        Wrong::NoZone(text) => ("no zone is named ", text, ""),
+        Wrong::NoPlace(text) => ("no place is named ", text, ""),
+        Wrong::NoPose(text) => ("the machine has no pose ", text, ""),
+        Wrong::NoPosture { word, .. } => ("", word, NO_POSTURE),
+        Wrong::NoCall(text) => ("", text, NO_CALL),
+        Wrong::Foreign(text) => ("the machine doesn't host ", text, ""),
+        other => return write_plain(other, f),
+    };
     f.write_str(before)?;
     let quoted = Quoted {
         text: text.as_str(),
@@ -357,60 +377,22 @@ fn write_named<W: fmt::Write>(
     f.write_str(after)
 }
 
-fn write_wrong<W: fmt::Write>(wrong: &Wrong, f: &mut fmt::Formatter<W>) -> fmt::Result {
-    match wrong {
-        Wrong::Unknown(key) => write_named(f, "", key, " is no key of it"),
-        Wrong::NoName(text) => write_named(
-            f,
-            "",
-            text,
-            " is no name: a letter, then letters, digits or underscores, lower case, at most 32",
-        ),
-        Wrong::Reserved(text) => write_named(
-            f,
-            "",
-            text,
-            " is a word of scripts, and names no machine",
-        ),
-        Wrong::Twice(text) => write_named(f, "", text, " is there twice"),
-        Wrong::NoMachine(text) => write_named(f, "no machine is named ", text, ""),
-        Wrong::NoZone(text) => write_named(f, "no zone is named ", text, ""),
-        Wrong::NoPlace(text) => write_named(f, "no place is named ", text, ""),
-        Wrong::NoPose(text) => write_named(f, "the machine has no pose ", text, ""),
-        Wrong::NoPosture { word, .. } => write_named(
-            f,
-            "",
-            word,
-            " is no posture: known are closed moving openin openout",
-        ),
-        Wrong::NoCall(text) => write_named(
-            f,
-            "",
-            text,
-            " is no call: claim, give, yield, take or release with a zone, or pose with a pose",
-        ),
-        Wrong::Foreign(text) => write_named(f, "the machine doesn't host ", text, ""),
-        other => write_plain(other, f),
-    }
-}
-
 fn write_plain<W: fmt::Write>(wrong: &Wrong, f: &mut fmt::Formatter<W>) -> fmt::Result {
-    match wrong {
-        Wrong::Missing => f.write_str("it is missing"),
-        Wrong::NoText => f.write_str("it takes a text; put quotes round it"),
-        Wrong::NoTexts => f.write_str("it takes a list of texts, such as [\"hand\", \"die\"]"),
-        Wrong::NoTable => f.write_str("it takes a table, such as { interior = \"closed\" }"),
-        Wrong::NoTables => f.write_str("it takes a list of tables"),
-        Wrong::NoTruth => f.write_str("it takes true or false"),
-        Wrong::NoWay => f.write_str("it takes two places: from which one, and to which"),
-        Wrong::TooMany(most) => write!(f, "there are more than {most}"),
-        Wrong::TooManyLines(most) => write!(f, "it has more than {most} lines"),
-        Wrong::HostIsGuest => f.write_str("the host is its own guest"),
-        Wrong::Astray => f.write_str(
-            "it doesn't lead from a place of the giver to one of the receiver",
-        ),
-        _ => f.write_str("memory ran out"),
-    }
+    let text = match wrong {
+        Wrong::Missing => "it is missing",
+        Wrong::NoText => "it takes a text; put quotes round it",
+        Wrong::NoTexts => "it takes a list of texts, such as [\"hand\", \"die\"]",
+        Wrong::NoTable => "it takes a table, such as { interior = \"closed\" }",
+        Wrong::NoTables => "it takes a list of tables",
+        Wrong::NoTruth => "it takes true or false",
+        Wrong::NoWay => "it takes two places: from which one, and to which",
+        Wrong::TooMany(most) => return write!(f, "there are more than {most}"),
+        Wrong::TooManyLines(most) => return write!(f, "it has more than {most} lines"),
+        Wrong::HostIsGuest => "the host is its own guest",
+        Wrong::Astray => "it doesn't lead from a place of the giver to one of the receiver",
+        _ => "memory ran out",
+    };
+    f.write_str(text)
 }
 
 impl fmt::Display for PlanTextFault {

@@ -18,7 +18,7 @@ const MOST_STEPS: usize = 6;
 const LINE_END: u8 = b'\n';
 
 /// A step from a value to one in it.
-#[derive(Clone, Copy, Debug)]
+#[derive(Clone, Copy)]
 enum Step<'a> {
     /// To the value of a key.
     Key(&'a str),
@@ -68,44 +68,52 @@ pub fn line_of(
 /// The steps to what a fault is about.
 fn steps_of(alloc: Global, fault: &DocumentFault) -> Result<Vec<Step<'_>>, AllocError> {
     let mut steps = Vec::new(alloc);
+    push_steps(&mut steps, fault)?;
+    Ok(steps)
+}
+
+fn push_steps<'a>(steps: &mut Vec<Step<'a>>, fault: &'a DocumentFault) -> Result<(), AllocError> {
     let Location { row, key, item } = fault.location;
-    push_row(&mut steps, row)?;
+    push_row(steps, row)?;
     if let Some(key) = key {
         steps.push(Step::Key(key.word()))?;
     }
     if let Some(item) = item {
         steps.push(Step::Item(item))?;
     }
-    match (key, &fault.wrong) {
+    if let Some(name) = named_by(fault) {
+        steps.push(Step::Key(name))?;
+    }
+    Ok(())
+}
+
+/// The key that a fault is about, if it isn't one of `Key`.
+fn named_by(fault: &DocumentFault) -> Option<&str> {
+    match (fault.location.key, &fault.wrong) {
         (None, Wrong::Unknown(name))
         | (Some(Key::Gives), Wrong::NoZone(name) | Wrong::Foreign(name))
-        | (Some(Key::Gives), Wrong::NoPosture { zone: name, .. }) => {
-            steps.push(Step::Key(name.as_str()))?;
-        }
-        _ => {}
+        | (Some(Key::Gives), Wrong::NoPosture { zone: name, .. }) => Some(name.as_str()),
+        _ => None,
     }
-    Ok(steps)
 }
 
 /// Adds the steps to a row.
 fn push_row(steps: &mut Vec<Step<'_>>, row: RowOf) -> Result<(), AllocError> {
     match row {
-        RowOf::Document => {}
-        RowOf::Machine(machine) => {
-            steps.push(Step::Key(Key::Machine.word()))?;
-            steps.push(Step::Item(machine))?;
-        }
+        RowOf::Document => Ok(()),
+        RowOf::Machine(machine) => push_item(steps, Key::Machine, machine),
         RowOf::Pose { machine, pose } => {
-            steps.push(Step::Key(Key::Machine.word()))?;
-            steps.push(Step::Item(machine))?;
-            steps.push(Step::Key(Key::Poses.word()))?;
-            steps.push(Step::Item(pose))?;
+            push_item(steps, Key::Machine, machine)?;
+            push_item(steps, Key::Poses, pose)
         }
-        RowOf::Zone(zone) => {
-            steps.push(Step::Key(Key::Zone.word()))?;
-            steps.push(Step::Item(zone))?;
-        }
+        RowOf::Zone(zone) => push_item(steps, Key::Zone, zone),
     }
+}
+
+/// Adds the steps to an item in the list of a key.
+fn push_item(steps: &mut Vec<Step<'_>>, key: Key, item: usize) -> Result<(), AllocError> {
+    steps.push(Step::Key(key.word()))?;
+    steps.push(Step::Item(item))?;
     Ok(())
 }
 

@@ -5,7 +5,7 @@ use crate::document::{Document, MachineRow, PoseRow, WayRow, ZoneRow};
 use crate::fault::{At, DocumentFault, Key, PlanTextFault, RowOf, Wrong};
 use crate::locating::{line_at, line_of};
 use crate::resolving::{ProgrammedPlan, programmed_plan_of};
-use crate::values::{check_keys, gives_in, text_of, texts_of, truth_of, way_of};
+use crate::values::{add_gives, add_text, add_texts, check_keys, truth_of, way_of};
 use cell_text::{InputFault, read_up_to};
 use std::alloc::{AllocError, Global};
 use std::io::Read;
@@ -77,153 +77,171 @@ fn with_line(alloc: Global, bytes: &[u8], fault: PlanTextFault) -> PlanTextFault
 
 /// The rows in a table.
 pub fn document_in(alloc: Global, table: &Table) -> Result<Document, DocumentFault> {
+    let mut document = Document {
+        machines: Vec::new(alloc),
+        zones: Vec::new(alloc),
+    };
+    add_rows(alloc, table, &mut document)?;
+    Ok(document)
+}
+
+fn add_rows(alloc: Global, table: &Table, document: &mut Document) -> Result<(), DocumentFault> {
     check_keys(alloc, table, &TOP_KEYS).at(RowOf::Document.whole())?;
-    let machines = machines_at(alloc, table)?;
-    let zones = zones_at(alloc, table)?;
-    Ok(Document { machines, zones })
-}
-
-fn machines_at(alloc: Global, table: &Table) -> Result<Vec<MachineRow>, DocumentFault> {
-    let location = RowOf::Document.key(Key::Machine);
-    let Some(value) = table.get("machine") else {
-        return Err(location.fault(Wrong::Missing));
-    };
-    let Some(items) = value.as_array() else {
-        return Err(location.fault(Wrong::NoTables));
-    };
-    let mut machines = Vec::new(alloc);
-    let values = items.as_slice();
-    'machines: for i in 0..values.len() {
-        let row = machine_of(alloc, &values[i], i)?;
-        machines.push(row).at(location)?;
+    if table.get("machine").is_none() {
+        return Err(RowOf::Document.key(Key::Machine).fault(Wrong::Missing));
     }
-    Ok(machines)
-}
-
-fn zones_at(alloc: Global, table: &Table) -> Result<Vec<ZoneRow>, DocumentFault> {
-    let location = RowOf::Document.key(Key::Zone);
-    let mut zones = Vec::new(alloc);
-    let Some(value) = table.get("zone") else {
-        return Ok(zones);
-    };
-    let Some(items) = value.as_array() else {
-        return Err(location.fault(Wrong::NoTables));
-    };
-    let values = items.as_slice();
-    'zones: for i in 0..values.len() {
-        let row = zone_of(alloc, &values[i], i)?;
-        zones.push(row).at(location)?;
+    let machines = tables_at(table, RowOf::Document, Key::Machine)?;
+    'machines: for i in 0..machines.len() {
+        add_machine(alloc, &machines[i], i, &mut document.machines)?;
     }
-    Ok(zones)
-}
-
-fn machine_of(alloc: Global, value: &Value, machine: usize) -> Result<MachineRow, DocumentFault> {
-    let row = RowOf::Machine(machine);
-    let Some(table) = value.as_table() else {
-        return Err(RowOf::Document.key(Key::Machine).fault(Wrong::NoTables));
-    };
-    check_keys(alloc, table, &MACHINE_KEYS).at(row.whole())?;
-    let name = required_text(alloc, table, row, Key::Name)?;
-    let places = optional_texts(alloc, table, row, Key::Places)?;
-    let poses = poses_at(alloc, table, machine)?;
-    let program = optional_texts(alloc, table, row, Key::Program)?;
-    Ok(MachineRow {
-        name,
-        places,
-        poses,
-        program,
-    })
-}
-
-fn poses_at(alloc: Global, table: &Table, machine: usize) -> Result<Vec<PoseRow>, DocumentFault> {
-    let location = RowOf::Machine(machine).key(Key::Poses);
-    let mut poses = Vec::new(alloc);
-    let Some(value) = table.get("poses") else {
-        return Ok(poses);
-    };
-    let Some(items) = value.as_array() else {
-        return Err(location.fault(Wrong::NoTables));
-    };
-    let values = items.as_slice();
-    'poses: for i in 0..values.len() {
-        let row = pose_of(alloc, &values[i], machine, i)?;
-        poses.push(row).at(location)?;
+    let zones = tables_at(table, RowOf::Document, Key::Zone)?;
+    'zones: for i in 0..zones.len() {
+        add_zone(alloc, &zones[i], i, &mut document.zones)?;
     }
-    Ok(poses)
+    Ok(())
 }
 
-fn pose_of(
+/// The tables in the list of a key, if it is there.
+fn tables_at(table: &Table, row: RowOf, key: Key) -> Result<&[Value], DocumentFault> {
+    let Some(value) = table.get(key.word()) else {
+        return Ok(&[]);
+    };
+    match value.as_array() {
+        Some(items) => Ok(items.as_slice()),
+        None => Err(row.key(key).fault(Wrong::NoTables)),
+    }
+}
+
+/// The table that an item in the list of a key is.
+fn table_in(value: &Value, row: RowOf, key: Key) -> Result<&Table, DocumentFault> {
+    match value.as_table() {
+        Some(table) => Ok(table),
+        None => Err(row.key(key).fault(Wrong::NoTables)),
+    }
+}
+
+fn add_machine(
+    alloc: Global,
+    value: &Value,
+    machine: usize,
+    machines: &mut Vec<MachineRow>,
+) -> Result<(), DocumentFault> {
+    let mut row = MachineRow {
+        name: String::new(alloc),
+        places: Vec::new(alloc),
+        poses: Vec::new(alloc),
+        program: Vec::new(alloc),
+    };
+    read_machine(alloc, value, machine, &mut row)?;
+    machines.push(row).at(RowOf::Document.key(Key::Machine))
+}
+
+fn read_machine(
+    alloc: Global,
+    value: &Value,
+    machine: usize,
+    row: &mut MachineRow,
+) -> Result<(), DocumentFault> {
+    let at = RowOf::Machine(machine);
+    let table = table_in(value, RowOf::Document, Key::Machine)?;
+    check_keys(alloc, table, &MACHINE_KEYS).at(at.whole())?;
+    read_text(table, at, Key::Name, &mut row.name)?;
+    read_texts(alloc, table, at, Key::Places, &mut row.places)?;
+    let poses = tables_at(table, at, Key::Poses)?;
+    'poses: for i in 0..poses.len() {
+        add_pose(alloc, &poses[i], machine, i, &mut row.poses)?;
+    }
+    read_texts(alloc, table, at, Key::Program, &mut row.program)
+}
+
+fn add_pose(
     alloc: Global,
     value: &Value,
     machine: usize,
     pose: usize,
-) -> Result<PoseRow, DocumentFault> {
-    let row = RowOf::Pose { machine, pose };
-    let Some(table) = value.as_table() else {
-        return Err(
-            RowOf::Machine(machine)
-                .key(Key::Poses)
-                .fault(Wrong::NoTables),
-        );
+    poses: &mut Vec<PoseRow>,
+) -> Result<(), DocumentFault> {
+    let table = table_in(value, RowOf::Machine(machine), Key::Poses)?;
+    let mut row = PoseRow {
+        name: String::new(alloc),
+        gives: Vec::new(alloc),
+        after_moving: false,
     };
-    check_keys(alloc, table, &POSE_KEYS).at(row.whole())?;
-    let name = required_text(alloc, table, row, Key::Name)?;
-    let gives = gives_in(alloc, table).at(row.key(Key::Gives))?;
-    let after_moving = match table.get("after_moving") {
-        Some(value) => truth_of(value).at(row.key(Key::AfterMoving))?,
-        None => false,
-    };
-    Ok(PoseRow {
-        name,
-        gives,
-        after_moving,
-    })
+    read_pose(alloc, table, RowOf::Pose { machine, pose }, &mut row)?;
+    poses.push(row).at(RowOf::Machine(machine).key(Key::Poses))
 }
 
-fn zone_of(alloc: Global, value: &Value, zone: usize) -> Result<ZoneRow, DocumentFault> {
-    let row = RowOf::Zone(zone);
-    let Some(table) = value.as_table() else {
-        return Err(RowOf::Document.key(Key::Zone).fault(Wrong::NoTables));
-    };
-    check_keys(alloc, table, &ZONE_KEYS).at(row.whole())?;
-    let name = required_text(alloc, table, row, Key::Name)?;
-    let host = required_text(alloc, table, row, Key::Host)?;
-    let guest = required_text(alloc, table, row, Key::Guest)?;
-    let inward = optional_way(alloc, table, row, Key::Inward)?;
-    let outward = optional_way(alloc, table, row, Key::Outward)?;
-    Ok(ZoneRow {
-        name,
-        host,
-        guest,
-        inward,
-        outward,
-    })
-}
-
-fn required_text(
+fn read_pose(
     alloc: Global,
     table: &Table,
-    row: RowOf,
-    key: Key,
-) -> Result<String, DocumentFault> {
-    let Some(value) = table.get(key.word()) else {
-        return Err(row.key(key).fault(Wrong::Missing));
-    };
-    text_of(alloc, value).at(row.key(key))
+    at: RowOf,
+    row: &mut PoseRow,
+) -> Result<(), DocumentFault> {
+    check_keys(alloc, table, &POSE_KEYS).at(at.whole())?;
+    read_text(table, at, Key::Name, &mut row.name)?;
+    add_gives(alloc, table, &mut row.gives).at(at.key(Key::Gives))?;
+    if let Some(value) = table.get("after_moving") {
+        row.after_moving = truth_of(value).at(at.key(Key::AfterMoving))?;
+    }
+    Ok(())
 }
 
-fn optional_texts(
+fn add_zone(
+    alloc: Global,
+    value: &Value,
+    zone: usize,
+    zones: &mut Vec<ZoneRow>,
+) -> Result<(), DocumentFault> {
+    let table = table_in(value, RowOf::Document, Key::Zone)?;
+    let mut row = ZoneRow {
+        name: String::new(alloc),
+        host: String::new(alloc),
+        guest: String::new(alloc),
+        inward: None,
+        outward: None,
+    };
+    read_zone(alloc, table, RowOf::Zone(zone), &mut row)?;
+    zones.push(row).at(RowOf::Document.key(Key::Zone))
+}
+
+fn read_zone(
     alloc: Global,
     table: &Table,
-    row: RowOf,
-    key: Key,
-) -> Result<Vec<String>, DocumentFault> {
+    at: RowOf,
+    row: &mut ZoneRow,
+) -> Result<(), DocumentFault> {
+    check_keys(alloc, table, &ZONE_KEYS).at(at.whole())?;
+    read_text(table, at, Key::Name, &mut row.name)?;
+    read_text(table, at, Key::Host, &mut row.host)?;
+    read_text(table, at, Key::Guest, &mut row.guest)?;
+    row.inward = optional_way(alloc, table, at, Key::Inward)?;
+    row.outward = optional_way(alloc, table, at, Key::Outward)?;
+    Ok(())
+}
+
+/// Adds the text of a key, which has to be there.
+fn read_text(table: &Table, row: RowOf, key: Key, text: &mut String) -> Result<(), DocumentFault> {
     match table.get(key.word()) {
-        Some(value) => texts_of(alloc, value).at(row.key(key)),
-        None => Ok(Vec::new(alloc)),
+        Some(value) => add_text(value, text).at(row.key(key)),
+        None => Err(row.key(key).fault(Wrong::Missing)),
     }
 }
 
+/// Adds the texts in the list of a key, if it is there.
+fn read_texts(
+    alloc: Global,
+    table: &Table,
+    row: RowOf,
+    key: Key,
+    texts: &mut Vec<String>,
+) -> Result<(), DocumentFault> {
+    match table.get(key.word()) {
+        Some(value) => add_texts(alloc, value, texts).at(row.key(key)),
+        None => Ok(()),
+    }
+}
+
+/// The way of a key, if it is there.
 fn optional_way(
     alloc: Global,
     table: &Table,

@@ -15,7 +15,7 @@ use plan_types::{
 use std::alloc::{AllocError, Global};
 
 /// What a document says.
-#[derive(Debug, Drop)]
+#[derive(Drop)]
 pub struct ProgrammedPlan {
     /// The plan, with names.
     pub named: NamedPlan,
@@ -29,29 +29,87 @@ pub fn programmed_plan_of(
     document: &Document,
 ) -> Result<ProgrammedPlan, PlanTextFault> {
     let named = named_plan_of(alloc, document)?;
-    match Programs::new(calls_of(alloc, document, &named)?) {
+    match programs_of(alloc, document, &named) {
         Ok(programs) => Ok(ProgrammedPlan { named, programs }),
-        Err(fault) => Err(program_fault(alloc, document, fault).into()),
+        Err(fault) => Err(refused(named, fault)),
     }
+}
+
+/// The fault of a plan that isn't used further.
+fn refused(_named: NamedPlan, fault: DocumentFault) -> PlanTextFault {
+    fault.into()
+}
+
+fn programs_of(
+    alloc: Global,
+    document: &Document,
+    named: &NamedPlan,
+) -> Result<Programs, DocumentFault> {
+    match Programs::new(calls_of(alloc, document, named)?) {
+        Ok(programs) => Ok(programs),
+        Err(fault) => Err(program_fault(alloc, document, fault)),
+    }
+}
+
+/// The names in a document, and the rows of a plan's tables by numbers.
+#[derive(Drop)]
+struct Rows {
+    machines: Names,
+    places: Names,
+    /// The machine that keeps each place.
+    keepers: Vec<u8>,
+    zones: Names,
+    zone_rows: Vec<PlanZone>,
+    poses: Names,
+    pose_rows: Vec<PlanPose>,
 }
 
 /// The plan of a document, with its names, or the first fault of them.
 fn named_plan_of(alloc: Global, document: &Document) -> Result<NamedPlan, PlanTextFault> {
-    let machines = machine_names(alloc, document)?;
-    let Kept { places, keepers } = kept_places(alloc, document)?;
-    let zones = zone_names(alloc, document)?;
-    let zone_rows = plan_zones(alloc, document, &machines, &places)?;
-    let Posed { poses, rows } = plan_poses(alloc, document, &zones)?;
+    let rows = rows_of(alloc, document)?;
     let tables = Tables {
-        machines: machines.len() as u8,
-        zones: zone_rows,
-        poses: rows,
-        places: keepers,
+        machines: rows.machines.len() as u8,
+        zones: rows.zone_rows,
+        poses: rows.pose_rows,
+        places: rows.keepers,
     };
     match Plan::new(tables) {
-        Ok(plan) => Ok(NamedPlan::new(plan, machines, zones, places, poses)),
+        Ok(plan) => Ok(NamedPlan::new(plan, rows.machines, rows.zones, rows.places, rows.poses)),
         Err(fault) => Err(table_fault(alloc, document, fault)),
     }
+}
+
+fn rows_of(alloc: Global, document: &Document) -> Result<Rows, DocumentFault> {
+    let mut rows = Rows {
+        machines: Names::new(alloc),
+        places: Names::new(alloc),
+        keepers: Vec::new(alloc),
+        zones: Names::new(alloc),
+        zone_rows: Vec::new(alloc),
+        poses: Names::new(alloc),
+        pose_rows: Vec::new(alloc),
+    };
+    add_rows(alloc, document, &mut rows)?;
+    Ok(rows)
+}
+
+fn add_rows(alloc: Global, document: &Document, rows: &mut Rows) -> Result<(), DocumentFault> {
+    add_machine_names(alloc, document, &mut rows.machines)?;
+    for i in 0..document.machines.len() {
+        add_places(alloc, &document.machines[i], i, rows)?;
+    }
+    for i in 0..document.zones.len() {
+        let name = document.zones[i].name.as_str();
+        add_name(alloc, &mut rows.zones, name, MAX_ZONES).at(RowOf::Zone(i).key(Key::Name))?;
+    }
+    for i in 0..document.zones.len() {
+        let row = plan_zone(alloc, &document.zones[i], RowOf::Zone(i), rows)?;
+        rows.zone_rows.push(row).at(RowOf::Zone(i).whole())?;
+    }
+    for i in 0..document.machines.len() {
+        add_poses(alloc, &document.machines[i], i, rows)?;
+    }
+    Ok(())
 }
 
 /// Adds a name of a row to names of its kind, of which a plan has at most `most`.
@@ -69,91 +127,62 @@ fn add_name(alloc: Global, names: &mut Names, name: &str, most: usize) -> Result
     Ok(())
 }
 
-fn machine_names(alloc: Global, document: &Document) -> Result<Names, DocumentFault> {
-    let mut names = Names::new(alloc);
+fn add_machine_names(
+    alloc: Global,
+    document: &Document,
+    names: &mut Names,
+) -> Result<(), DocumentFault> {
     for i in 0..document.machines.len() {
         let name = document.machines[i].name.as_str();
         let location = RowOf::Machine(i).key(Key::Name);
-        add_name(alloc, &mut names, name, usize::from(MAX_MACHINES)).at(location)?;
-        if is_reserved(name) {
-            let name = copy(alloc, name).at(location)?;
-            return Err(location.fault(Wrong::Reserved(name)));
-        }
-    }
-    Ok(names)
-}
-
-fn zone_names(alloc: Global, document: &Document) -> Result<Names, DocumentFault> {
-    let mut names = Names::new(alloc);
-    for i in 0..document.zones.len() {
-        let name = document.zones[i].name.as_str();
-        add_name(alloc, &mut names, name, MAX_ZONES).at(RowOf::Zone(i).key(Key::Name))?;
-    }
-    Ok(names)
-}
-
-/// Places, and the machine that keeps each.
-#[derive(Drop)]
-struct Kept {
-    places: Names,
-    keepers: Vec<u8>,
-}
-
-fn kept_places(alloc: Global, document: &Document) -> Result<Kept, DocumentFault> {
-    let mut kept = Kept {
-        places: Names::new(alloc),
-        keepers: Vec::new(alloc),
-    };
-    for i in 0..document.machines.len() {
-        keep_places(alloc, &document.machines[i], i, &mut kept)?;
-    }
-    Ok(kept)
-}
-
-fn keep_places(
-    alloc: Global,
-    row: &MachineRow,
-    machine: usize,
-    kept: &mut Kept,
-) -> Result<(), DocumentFault> {
-    let at = RowOf::Machine(machine);
-    let Ok(keeper) = u8::try_from(machine) else {
-        let wrong = Wrong::TooMany(usize::from(MAX_MACHINES));
-        return Err(at.key(Key::Places).fault(wrong));
-    };
-    for (item, place) in row.places.iter().enumerate() {
-        let location = at.item(Key::Places, item);
-        add_name(alloc, &mut kept.places, place.as_str(), MAX_PLACES).at(location)?;
-        kept.keepers.push(keeper).at(location)?;
+        add_name(alloc, names, name, usize::from(MAX_MACHINES)).at(location)?;
+        check_free(alloc, name).at(location)?;
     }
     Ok(())
 }
 
-fn plan_zones(
-    alloc: Global,
-    document: &Document,
-    machines: &Names,
-    places: &Names,
-) -> Result<Vec<PlanZone>, DocumentFault> {
-    let mut rows = Vec::new(alloc);
-    for i in 0..document.zones.len() {
-        let row = plan_zone(alloc, &document.zones[i], RowOf::Zone(i), machines, places)?;
-        rows.push(row).at(RowOf::Zone(i).whole())?;
+/// Refuses a word of scripts as a machine's name.
+fn check_free(alloc: Global, name: &str) -> Result<(), Wrong> {
+    if is_reserved(name) {
+        return Err(Wrong::Reserved(copy(alloc, name)?));
     }
-    Ok(rows)
+    Ok(())
+}
+
+fn add_places(
+    alloc: Global,
+    row: &MachineRow,
+    machine: usize,
+    rows: &mut Rows,
+) -> Result<(), DocumentFault> {
+    let at = RowOf::Machine(machine);
+    let keeper = number_of(machine).at(at.key(Key::Places))?;
+    for (item, place) in row.places.iter().enumerate() {
+        let location = at.item(Key::Places, item);
+        add_name(alloc, &mut rows.places, place.as_str(), MAX_PLACES).at(location)?;
+        rows.keepers.push(keeper).at(location)?;
+    }
+    Ok(())
+}
+
+/// The number of a machine, of which a plan has at most `MAX_MACHINES`.
+fn number_of(machine: usize) -> Result<u8, Wrong> {
+    match u8::try_from(machine) {
+        Ok(number) => Ok(number),
+        Err(_) => Err(Wrong::TooMany(usize::from(MAX_MACHINES))),
+    }
 }
 
 fn plan_zone(
     alloc: Global,
     row: &ZoneRow,
     at: RowOf,
-    machines: &Names,
-    places: &Names,
+    rows: &Rows,
 ) -> Result<PlanZone, DocumentFault> {
-    let host = machine_named(alloc, machines, row.host.as_str()).at(at.key(Key::Host))?;
-    let guest = machine_named(alloc, machines, row.guest.as_str()).at(at.key(Key::Guest))?;
-    let inward = way_named(alloc, places, &row.inward, at, Key::Inward)?;
-    let outward = way_named(alloc, places, &row.outward, at, Key::Outward)?;
+    let host = machine_named(alloc, &rows.machines, row.host.as_str()).at(at.key(Key::Host))?;
+    let guest = machine_named(alloc, &rows.machines, row.guest.as_str()).at(at.key(Key::Guest))?;
+    let inward = way_named(alloc, &rows.places, &row.inward, at, Key::Inward)?;
+    let outward = way_named(alloc, &rows.places, &row.outward, at, Key::Outward)?;
     Ok(PlanZone {
         host,
         guest,
@@ -191,35 +220,29 @@ fn way_named(
     Ok(Some(Way { from, to }))
 }
 
-/// Poses, and what each gives.
-#[derive(Drop)]
-struct Posed {
-    poses: Names,
-    rows: Vec<PlanPose>,
-}
-
-fn plan_poses(alloc: Global, document: &Document, zones: &Names) -> Result<Posed, DocumentFault> {
-    let mut posed = Posed {
-        poses: Names::new(alloc),
-        rows: Vec::new(alloc),
-    };
-    for i in 0..document.machines.len() {
-        pose_machine(alloc, &document.machines[i], i, zones, &mut posed)?;
-    }
-    Ok(posed)
-}
-
-fn pose_machine(
+fn add_poses(
     alloc: Global,
     row: &MachineRow,
     machine: usize,
-    zones: &Names,
-    posed: &mut Posed,
+    rows: &mut Rows,
 ) -> Result<(), DocumentFault> {
     let mut own = Names::new(alloc);
+    add_poses_of(alloc, row, machine, &mut own, rows)
+}
+
+/// Adds the poses of a machine. Its names of poses are `own`.
+fn add_poses_of(
+    alloc: Global,
+    row: &MachineRow,
+    machine: usize,
+    own: &mut Names,
+    rows: &mut Rows,
+) -> Result<(), DocumentFault> {
     for pose in 0..row.poses.len() {
         let at = RowOf::Pose { machine, pose };
-        add_pose(alloc, &row.poses[pose], at, machine, &mut own, posed, zones)?;
+        let name = row.poses[pose].name.as_str();
+        add_name(alloc, own, name, MAX_POSES).at(at.key(Key::Name))?;
+        add_pose(alloc, &row.poses[pose], at, machine, rows)?;
     }
     Ok(())
 }
@@ -229,28 +252,22 @@ fn add_pose(
     row: &PoseRow,
     at: RowOf,
     machine: usize,
-    own: &mut Names,
-    posed: &mut Posed,
-    zones: &Names,
+    rows: &mut Rows,
 ) -> Result<(), DocumentFault> {
-    let name = row.name.as_str();
     let location = at.key(Key::Name);
-    add_name(alloc, own, name, MAX_POSES).at(location)?;
-    let gives = gives_of(alloc, zones, &row.gives).at(at.key(Key::Gives))?;
-    if posed.poses.len() >= MAX_POSES {
+    let gives = gives_of(alloc, &rows.zones, &row.gives).at(at.key(Key::Gives))?;
+    if rows.poses.len() >= MAX_POSES {
         return Err(location.fault(Wrong::TooMany(MAX_POSES)));
     }
-    let Ok(machine) = u8::try_from(machine) else {
-        return Err(location.fault(Wrong::TooMany(usize::from(MAX_MACHINES))));
-    };
-    let name = copy(alloc, name).at(location)?;
-    posed.poses.push(name).at(location)?;
+    let machine = number_of(machine).at(location)?;
+    let name = copy(alloc, row.name.as_str()).at(location)?;
+    rows.poses.push(name).at(location)?;
     let row = PlanPose {
         machine,
         after_moving: row.after_moving,
         gives,
     };
-    posed.rows.push(row).at(location)
+    rows.pose_rows.push(row).at(location)
 }
 
 fn gives_of(
@@ -357,10 +374,7 @@ fn calls_in(
     named: &NamedPlan,
 ) -> Result<Vec<Call>, DocumentFault> {
     let at = RowOf::Machine(machine);
-    let Ok(machine) = u8::try_from(machine) else {
-        let wrong = Wrong::TooMany(usize::from(MAX_MACHINES));
-        return Err(at.key(Key::Program).fault(wrong));
-    };
+    let machine = number_of(machine).at(at.key(Key::Program))?;
     let mut calls = Vec::new(alloc);
     for (item, line) in row.program.iter().enumerate() {
         let location = at.item(Key::Program, item);

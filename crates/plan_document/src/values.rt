@@ -18,27 +18,26 @@ pub fn copy(alloc: Global, text: &str) -> Result<String, AllocError> {
     String::from_str(alloc, text)
 }
 
-/// The text that a value is.
-pub fn text_of(alloc: Global, value: &Value) -> Result<String, Wrong> {
+/// Adds the text that a value is.
+pub fn add_text(value: &Value, text: &mut String) -> Result<(), Wrong> {
     match value.as_str() {
-        Some(text) => Ok(copy(alloc, text)?),
+        Some(words) => Ok(text.push_str(words)?),
         None => Err(Wrong::NoText),
     }
 }
 
-/// The texts of a list.
-pub fn texts_of(alloc: Global, value: &Value) -> Result<Vec<String>, Wrong> {
+/// Adds the texts of a list.
+pub fn add_texts(alloc: Global, value: &Value, texts: &mut Vec<String>) -> Result<(), Wrong> {
     let Some(items) = value.as_array() else {
         return Err(Wrong::NoTexts);
     };
-    let mut texts = Vec::new(alloc);
     'items: for item in items.as_slice() {
         match item.as_str() {
             Some(text) => texts.push(copy(alloc, text)?)?,
             None => return Err(Wrong::NoTexts),
         }
     }
-    Ok(texts)
+    Ok(())
 }
 
 /// `true` or `false`.
@@ -70,22 +69,30 @@ fn way_between(alloc: Global, from: &Value, to: &Value) -> Result<WayRow, Wrong>
     }
 }
 
-/// What a pose gives: a table from zones to postures, which has to be there.
-pub fn gives_in(alloc: Global, pose: &Table) -> Result<Vec<Given>, Wrong> {
+/// Adds what a pose gives: a table from zones to postures, which has to be there.
+pub fn add_gives(alloc: Global, pose: &Table, gives: &mut Vec<Given>) -> Result<(), Wrong> {
     let Some(table) = required(pose, "gives")?.as_table() else {
         return Err(Wrong::NoTable);
     };
-    let mut gives = Vec::new(alloc);
     'entries: for (zone, posture) in table.iter() {
         match posture.as_str() {
-            Some(posture) => gives.push(Given {
-                zone: copy(alloc, zone.as_str())?,
-                posture: copy(alloc, posture)?,
-            })?,
+            Some(posture) => add_given(alloc, zone.as_str(), posture, gives)?,
             None => return Err(Wrong::NoTable),
         }
     }
-    Ok(gives)
+    Ok(())
+}
+
+fn add_given(
+    alloc: Global,
+    zone: &str,
+    posture: &str,
+    gives: &mut Vec<Given>,
+) -> Result<(), AllocError> {
+    let zone = copy(alloc, zone)?;
+    let posture = copy(alloc, posture)?;
+    gives.push(Given { zone, posture })?;
+    Ok(())
 }
 
 /// The first key of a table that isn't among these, if there is one.
