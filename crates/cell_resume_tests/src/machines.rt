@@ -1,11 +1,13 @@
 //! Six machines in one thread, which begin where 14 bytes say.
+ghost use Rattle.std.specs.Prelude.{◌≡◌};
+ghost use Rattle.cell_interlock.specs.Fresh.{AreFresh};
 
 use crate::plant::Plant;
 use cell_calib::{Calibration, Gauge, Points, line_at};
 use cell_control::{Program, Wired};
 use cell_haul::{CraneProgram, DepositProgram, FeedProgram};
-use cell_interlock::{Interlock, PassLine};
-use cell_resume::{Checkpoint, Resumed, Team, resume_at};
+use cell_interlock::{Interlock, PassLine, Passes};
+use cell_resume::{Checkpoint, Resumed, ResumedCell, Team, resume_at};
 use cell_robot::RobotProgram;
 use cell_rules::State;
 use cell_stations::{PressProgram, TableProgram};
@@ -80,19 +82,50 @@ impl<F1: Gauge, F2: Gauge, F3: Gauge, F4: Gauge, F5: Gauge> Machines<'_, F1, F2,
         }
     }
 
-    // What is stored after a turn.
-    fn hand_out(self) -> [u8; 14] {
-        let (feed, _) = self.feed.unwire();
-        let team = Team {
-            feed: feed.progress(),
+    // Turns of the machines, one after another. Whether they all go on.
+    fn turns(&mut self, plant: &mut Plant, first: u32, turns: u32) -> bool {
+        for turn in 0..turns {
+            if !self.turn(first.wrapping_add(turn) % 6, plant) {
+                return false;
+            }
+        }
+        true
+    }
+
+    // What is stored after these turns, if no machine stops.
+    fn hand_out_after(mut self, plant: &mut Plant, first: u32, turns: u32) -> Option<[u8; 14]> {
+        let goes_on = self.turns(plant, first, turns);
+        let bytes = self.hand_out();
+        if goes_on { Some(bytes) } else { None }
+    }
+
+    // The step of each machine.
+    fn team(&self) -> Team {
+        Team {
+            feed: self.feed.progress(),
             table: self.table.progress(),
             robot: self.robot.progress(),
             press: self.press.progress(),
             deposit: self.deposit.progress(),
             crane: self.crane.progress(),
-        };
-        Checkpoint::of(&feed.left(), &team).to_bytes()
+        }
     }
+
+    // The state that the feed belt's line leaves.
+    fn left(self) -> State {
+        left_by(self.feed)
+    }
+
+    // What is stored after a turn.
+    fn hand_out(self) -> [u8; 14] {
+        let team = self.team();
+        Checkpoint::of(&self.left(), &team).to_bytes()
+    }
+}
+
+fn left_by(feed: Wired<Resumed<FeedProgram>, PassLine<'_>>) -> State {
+    let (feed, _) = feed.unwire();
+    feed.left()
 }
 
 /// The bytes of a cell at its start.
@@ -109,6 +142,36 @@ pub fn at_start(places: [bool; 10]) -> Result<[u8; 14], Fail> {
     Ok(start_by(&opening, gauges, points))
 }
 
+/// The programs that read potentiometers.
+#[derive(Drop)]
+struct Programs<F1: Gauge, F2: Gauge, F3: Gauge, F4: Gauge, F5: Gauge> {
+    robot: RobotProgram<F1, F2, F3>,
+    table: TableProgram<F4>,
+    crane: CraneProgram<F5>,
+}
+
+fn programs_by<F1: Gauge, F2: Gauge, F3: Gauge, F4: Gauge, F5: Gauge>(
+    gauges: (F1, F2, F3, F4, F5),
+    points: AxisPoints,
+) -> Programs<F1, F2, F3, F4, F5>
+    requires arm1 { F1.keeps gauges.0 points.arm }
+    requires arm2 { F2.keeps gauges.1 points.arm }
+    requires rotation { F3.keeps gauges.2 points.rotation }
+    requires turn { F4.keeps gauges.3 points.turn }
+    requires gripper { F5.keeps gauges.4 points.arm }
+{
+    let (arm1, arm2, rotation, turn, gripper) = gauges;
+    Programs {
+        robot: RobotProgram::new(
+            Calibration::new(arm1, points.arm),
+            Calibration::new(arm2, points.arm),
+            Calibration::new(rotation, points.rotation),
+        ),
+        table: TableProgram::new(Calibration::new(turn, points.turn)),
+        crane: CraneProgram::new(Calibration::new(gripper, points.arm)),
+    }
+}
+
 fn start_by<F1: Gauge, F2: Gauge, F3: Gauge, F4: Gauge, F5: Gauge>(
     opening: &State,
     gauges: (F1, F2, F3, F4, F5),
@@ -120,21 +183,14 @@ fn start_by<F1: Gauge, F2: Gauge, F3: Gauge, F4: Gauge, F5: Gauge>(
     requires turn { F4.keeps gauges.3 points.turn }
     requires gripper { F5.keeps gauges.4 points.arm }
 {
-    let (arm1, arm2, rotation, turn, gripper) = gauges;
-    let robot = RobotProgram::new(
-        Calibration::new(arm1, points.arm),
-        Calibration::new(arm2, points.arm),
-        Calibration::new(rotation, points.rotation),
-    );
-    let table = TableProgram::new(Calibration::new(turn, points.turn));
-    let crane = CraneProgram::new(Calibration::new(gripper, points.arm));
+    let programs = programs_by(gauges, points);
     let team = Team {
         feed: FeedProgram.start(opening),
-        table: table.start(opening),
-        robot: robot.start(opening),
+        table: programs.table.start(opening),
+        robot: programs.robot.start(opening),
         press: PressProgram.start(opening),
         deposit: DepositProgram.start(opening),
-        crane: crane.start(opening),
+        crane: programs.crane.start(opening),
     };
     Checkpoint::of(opening, &team).to_bytes()
 }
@@ -149,6 +205,7 @@ pub fn go_on(
     turns: u32,
 ) -> Result<[u8; 14], Fail> {
     let points = AxisPoints::new()?;
+    let cell = resume_at(bytes)?;
     let gauges = (
         move |raw: u16| line_at(&points.arm, raw),
         move |raw: u16| line_at(&points.arm, raw),
@@ -156,12 +213,40 @@ pub fn go_on(
         move |raw: u16| line_at(&points.turn, raw),
         move |raw: u16| line_at(&points.arm, raw),
     );
-    go_on_by(alloc, bytes, gauges, points, plant, first, turns)
+    go_on_by(alloc, &cell, gauges, points, plant, first, turns)
+}
+
+// Machines that go on where a cell does, each on a line of its own.
+fn wired<'a, F1: Gauge, F2: Gauge, F3: Gauge, F4: Gauge, F5: Gauge>(
+    alloc: Global,
+    cell: &ResumedCell,
+    programs: Programs<F1, F2, F3, F4, F5>,
+    interlock: &'a Interlock,
+    passes: Passes,
+) -> Machines<'a, F1, F2, F3, F4, F5>
+    requires opening { interlock.now.opening ≡ cell.now.state }
+    requires fresh { AreFresh interlock.now passes }
+{
+    let opening = cell.state();
+    let feed_line = PassLine::new(alloc, interlock, passes.feed);
+    let table_line = PassLine::new(alloc, interlock, passes.table);
+    let robot_line = PassLine::new(alloc, interlock, passes.robot);
+    let press_line = PassLine::new(alloc, interlock, passes.press);
+    let deposit_line = PassLine::new(alloc, interlock, passes.deposit);
+    let crane_line = PassLine::new(alloc, interlock, passes.crane);
+    Machines {
+        feed: Wired::new(cell.feed(), &opening, feed_line),
+        table: Wired::new(cell.table(programs.table), &opening, table_line),
+        robot: Wired::new(cell.robot(programs.robot), &opening, robot_line),
+        press: Wired::new(cell.press(), &opening, press_line),
+        deposit: Wired::new(cell.deposit(), &opening, deposit_line),
+        crane: Wired::new(cell.crane(programs.crane), &opening, crane_line),
+    }
 }
 
 fn go_on_by<F1: Gauge, F2: Gauge, F3: Gauge, F4: Gauge, F5: Gauge>(
     alloc: Global,
-    bytes: [u8; 14],
+    cell: &ResumedCell,
     gauges: (F1, F2, F3, F4, F5),
     points: AxisPoints,
     plant: &mut Plant,
@@ -174,35 +259,11 @@ fn go_on_by<F1: Gauge, F2: Gauge, F3: Gauge, F4: Gauge, F5: Gauge>(
     requires turn { F4.keeps gauges.3 points.turn }
     requires gripper { F5.keeps gauges.4 points.arm }
 {
-    let cell = resume_at(bytes)?;
-    let opening = cell.state();
-    let (arm1, arm2, rotation, turn, gripper) = gauges;
-    let robot = RobotProgram::new(
-        Calibration::new(arm1, points.arm),
-        Calibration::new(arm2, points.arm),
-        Calibration::new(rotation, points.rotation),
-    );
-    let table = TableProgram::new(Calibration::new(turn, points.turn));
-    let crane = CraneProgram::new(Calibration::new(gripper, points.arm));
-    let (interlock, passes) = Interlock::new(alloc, opening, 8)?;
-    let feed_line = PassLine::new(alloc, &interlock, passes.feed);
-    let table_line = PassLine::new(alloc, &interlock, passes.table);
-    let robot_line = PassLine::new(alloc, &interlock, passes.robot);
-    let press_line = PassLine::new(alloc, &interlock, passes.press);
-    let deposit_line = PassLine::new(alloc, &interlock, passes.deposit);
-    let crane_line = PassLine::new(alloc, &interlock, passes.crane);
-    let mut machines = Machines {
-        feed: Wired::new(cell.feed(), &opening, feed_line),
-        table: Wired::new(cell.table(table), &opening, table_line),
-        robot: Wired::new(cell.robot(robot), &opening, robot_line),
-        press: Wired::new(cell.press(), &opening, press_line),
-        deposit: Wired::new(cell.deposit(), &opening, deposit_line),
-        crane: Wired::new(cell.crane(crane), &opening, crane_line),
-    };
-    for turn in 0..turns {
-        if !machines.turn(first.wrapping_add(turn) % 6, plant) {
-            return Err(Fail::new("a machine has stopped"));
-        }
+    let (interlock, passes) = Interlock::new(alloc, cell.state(), 8)?;
+    let programs = programs_by(gauges, points);
+    let machines = wired(alloc, cell, programs, &interlock, passes);
+    match machines.hand_out_after(plant, first, turns) {
+        Some(bytes) => Ok(bytes),
+        None => Err(Fail::new("a machine has stopped")),
     }
-    Ok(machines.hand_out())
 }
